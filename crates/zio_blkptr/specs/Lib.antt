@@ -1,0 +1,2 @@
+pub mod Pointers
+pub use Rattle.zio_types.specs.Places

@@ -1,0 +1,93 @@
+-- The leaves' images, and what one operation on a leaf answers and leaves.
+use Rattle.std.specs.Prelude.{ℕ, ◌+◌, List, [], ◌++◌, length, take, drop, slice_index_or, slice_set, Bool, true, false, Option, Some, None, Result, Ok, Err}
+use Rattle.zio_types.specs.declared.error.Errno.{Errno}
+use Rattle.zio_types.specs.declared.error.Errno.TheVariants.{Io, Nxio}
+use Rattle.zio_types.specs.declared.place.Top.{Top}
+use Rattle.zio_faults.specs.declared.table.Row.{Row}
+use Rattle.zio_faults.specs.declared.table.Hit.{Hit}
+use Rattle.zio_faults.specs.declared.table.FaultKind.{FaultKind}
+use Rattle.zio_faults.specs.declared.table.FaultKind.TheVariants.{Eio, Gone, Flip}
+use Rattle.zio_faults.specs.Hits.{first_hit, flipped}
+
+-- each leaf's bytes, by its number
+abbrev pub Images : Type 0
+Images = List (List ℕ)
+
+-- what an operation depends on beside the images: the tops, the fault table and the resume point
+pub record Setting : Type 0 where
+  pub tops : List Top
+  pub rows : List Row
+  pub point : ℕ
+
+-- where an operation goes: a leaf and a byte of it
+pub record Spot : Type 0 where
+  pub leaf : ℕ
+  pub at : ℕ
+
+abbrev pub image_of : Images → ℕ → List ℕ
+image_of images leaf = slice_index_or images leaf []
+
+-- the bytes there
+abbrev pub bytes_at : Images → Spot → ℕ → List ℕ
+bytes_at images spot len = take len (drop spot.at (image_of images spot.leaf))
+
+-- the bytes, with others in the place of as many
+abbrev pub overwritten : List ℕ → ℕ → List ℕ → List ℕ
+overwritten image at bytes = take at image ++ bytes ++ drop (at + length bytes) image
+
+-- the images with these bytes there
+abbrev pub with_bytes : Images → Spot → List ℕ → Images
+with_bytes images spot bytes =
+    slice_set images spot.leaf (overwritten (image_of images spot.leaf) spot.at bytes)
+
+-- the row that an operation meets
+abbrev pub met : Setting → Bool → Bool → Spot → ℕ → Option Hit
+met s retry write spot len = first_hit s.rows (record {
+  leaf = spot.leaf;
+  write = write;
+  at = spot.at;
+  len = len;
+  point = s.point;
+  retry = retry;
+})
+
+-- ---- a read
+
+abbrev pub faulty_read : FaultKind → Hit → ℕ → List ℕ → Result (List ℕ) Errno
+faulty_read Eio hit at bytes = Err Io
+faulty_read Gone hit at bytes = Err Nxio
+faulty_read Flip hit at bytes = Ok (flipped at hit bytes)
+
+abbrev pub read_met : Option Hit → ℕ → List ℕ → Result (List ℕ) Errno
+read_met None at bytes = Ok bytes
+read_met (Some hit) at bytes = faulty_read hit.kind hit at bytes
+
+-- the answer of a leaf: the image's bytes, or as the row that it meets says
+abbrev pub read_leaf : Setting → Bool → Images → ℕ → Spot → Result (List ℕ) Errno
+read_leaf s retry images len spot = read_met (met s retry false spot len) spot.at (bytes_at images spot len)
+
+-- ---- a write
+
+-- an error or none, and the images after
+pub record Written : Type 0 where
+  pub error : Option Errno
+  pub images : Images
+
+abbrev pub failed : Errno → Images → Written
+failed e images = record { error = Some e; images = images }
+
+abbrev pub stored : Images → Spot → List ℕ → Written
+stored images spot bytes = record { error = None; images = with_bytes images spot bytes }
+
+abbrev pub faulty_write : FaultKind → Hit → Images → Spot → List ℕ → Written
+faulty_write Eio hit images spot bytes = failed Io images
+faulty_write Gone hit images spot bytes = failed Nxio images
+faulty_write Flip hit images spot bytes = stored images spot (flipped spot.at hit bytes)
+
+abbrev pub write_met : Option Hit → Images → Spot → List ℕ → Written
+write_met None images spot bytes = stored images spot bytes
+write_met (Some hit) images spot bytes = faulty_write hit.kind hit images spot bytes
+
+-- a leaf stores the bytes, or does as the row that it meets says
+abbrev pub write_leaf : Setting → Bool → List ℕ → Images → Spot → Written
+write_leaf s retry bytes images spot = write_met (met s retry true spot (length bytes)) images spot bytes

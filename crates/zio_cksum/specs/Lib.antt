@@ -1,0 +1,6 @@
+pub mod Blocks
+pub mod Headers
+pub mod Images
+pub mod Sums
+pub use Rattle.zio_blkptr.specs.Pointers
+pub use Rattle.zio_faults.specs.Hits

@@ -1,0 +1,5 @@
+//! What a block's copies give and keep: checksums, operations on leaves, good copies, reads with repairs and writes.
+//!
+//! It stands on `zio_types`, `zio_blkptr` and `zio_faults`. Its definitions stand in `specs/`: read
+//! `specs/Images` first, then `specs/Blocks`; `specs/Headers` has the gang header.
+#![tactic(auto)]

@@ -1,0 +1,366 @@
+-- One attempt of a tree of requests, and how often a tree is attempted in a round.
+--
+-- A tree is the list of its requests in the order of their attempts: each child's tree by rising number, then the
+-- request itself. So the root is last, and what is attempted again is a part of the list in the same order.
+use Rattle.std.specs.Prelude.{ℕ, zero, suc, ◌+◌, List, [], ◌∷◌, ◌++◌, map, filter, Bool, true, false, ◌&&◌, ◌||◌, not, Option, Some, None, Result, Ok, Err, nat_lt}
+use Rattle.zio_types.specs.declared.error.Errno.{Errno}
+use Rattle.zio_types.specs.declared.error.Errno.TheVariants.{Nxio, Nospc, Noent}
+use Rattle.zio_types.specs.declared.place.Place.{Place}
+use Rattle.zio_types.specs.declared.request.Bits.{Bits}
+use Rattle.zio_types.specs.declared.request.Kind.{Kind}
+use Rattle.zio_types.specs.declared.request.Kind.TheVariants.{Null as NullKind, Read as ReadKind, Write as WriteKind, Free as FreeKind, Claim as ClaimKind}
+use Rattle.zio_types.specs.Choices.{Ask, Choice}
+use Rattle.zio_types.specs.Errors.{worst_error, worst_of}
+use Rattle.zio_blkptr.specs.declared.pointer.Bp.{Bp}
+use Rattle.zio_blkptr.specs.declared.pointer.SumKind.{SumKind}
+use Rattle.zio_script.specs.declared.script.Body.{Body}
+use Rattle.zio_script.specs.declared.script.Failmode.{Failmode}
+use Rattle.zio_script.specs.declared.script.Failmode.TheVariants.{Wait, Continue, Panic}
+use Rattle.zio_script.specs.declared.script.Request.{Request}
+use Rattle.zio_script.specs.declared.script.Work.{Work}
+use Rattle.zio_script.specs.declared.script.Work.TheVariants.{Null, Read, Write, Free, Claim}
+use Rattle.zio_script.specs.Bodies.{body_of}
+use Rattle.zio_script.specs.Requests.{kind_of, is_under_number}
+use Rattle.zio_cksum.specs.Blocks.{Read as BlockRead}
+use Rattle.zio_cksum.specs.Images.{Images, Setting, Written}
+use Rattle.zio_gang.specs.declared.tree.Tree.{Tree}
+use Rattle.zio_gang.specs.Trees.{Claimed, read_tree, free_tree, claim_tree}
+use Rattle.zio_gang.specs.Writes.{Writing, Placed, content_of, place_block}
+
+-- what the attempts of a round depend on beside the images
+pub record Terms : Type 0 where
+  pub setting : Setting
+  pub failmode : Failmode
+  pub journal : List Choice
+  pub round : ℕ
+  -- the places of all blocks that were bound when the round began
+  pub used : List Place
+
+-- what a finished child leaves with its parent: its number, its error, and its pointer if it is a write with a place
+pub record Child : Type 0 where
+  pub number : ℕ
+  pub error : Option Errno
+  pub pointer : Option Bp
+
+-- a request that hasn't finished
+pub record Pending : Type 0 where
+  pub request : Request
+  -- the number of its batch
+  pub birth : ℕ
+  -- the block that a read or a free names
+  pub block : Option Tree
+  -- its children that finished in earlier attempts, by number
+  pub kept : List Child
+
+-- a request that finished, with its bytes if it is a read, and its block if it made one
+pub record Ended : Type 0 where
+  pub request : Request
+  pub error : Option Errno
+  pub bytes : List ℕ
+  pub tree : Option Tree
+
+-- what a request hands to its parent in an attempt; with bits it goes again
+pub record Return : Type 0 where
+  pub under : Option ℕ
+  pub bits : Bits
+  pub child : Child
+
+-- ---- bits
+
+abbrev pub no_bits : Bits
+no_bits = record { now = false; suspend = false }
+
+abbrev pub joined_bits : Bits → Bits → Bits
+joined_bits a b = record { now = a.now || b.now; suspend = a.suspend || b.suspend }
+
+abbrev pub has_bits : Bits → Bool
+has_bits b = b.now || b.suspend
+
+abbrev pub now_alone : Bits → Bool
+now_alone b = b.now && not b.suspend
+
+abbrev pub bits_of : List Return → Bits
+bits_of [] = no_bits
+bits_of (r ∷ rs) = joined_bits r.bits (bits_of rs)
+
+-- ---- the failure decision
+
+-- a write that may not fail waits where there is no space, and else is tried at once
+abbrev pub write_bits : Errno → Bits
+write_bits Nospc = record { now = false; suspend = true }
+write_bits _ = record { now = true; suspend = false }
+
+-- a read or a free waits for a device that is gone, unless the run goes on without it
+abbrev pub gone_bits : Errno → Failmode → Bits
+gone_bits Nxio Wait = record { now = false; suspend = true }
+gone_bits Nxio Continue = no_bits
+gone_bits Nxio Panic = record { now = false; suspend = true }
+gone_bits _ mode = no_bits
+
+abbrev pub write_bits_unless : Bool → Errno → Bits
+write_bits_unless true e = no_bits
+write_bits_unless false e = write_bits e
+
+-- the bits that the error of the own work gives by the kind of work
+abbrev pub kind_bits : Kind → Errno → Bool → Failmode → Bits
+kind_bits NullKind e canfail mode = no_bits
+kind_bits ReadKind e canfail mode = gone_bits e mode
+kind_bits WriteKind e canfail mode = write_bits_unless canfail e
+kind_bits FreeKind e canfail mode = gone_bits e mode
+kind_bits ClaimKind e canfail mode = no_bits
+
+-- what may not fail and has no bit, of its own or of a child, waits
+abbrev pub suspend_unless : Bool → Bits → Bits
+suspend_unless true bits = bits
+suspend_unless false bits = record { now = bits.now; suspend = true }
+
+abbrev pub decided : Bool → Bits → Bits
+decided canfail bits = suspend_unless (canfail || has_bits bits) bits
+
+-- all bits of a request: its children's, and those for the error of its own work
+abbrev pub all_bits : Kind → Option Errno → Bool → Failmode → Bits → Bits
+all_bits kind None canfail mode children = children
+all_bits kind (Some e) canfail mode children = decided canfail (joined_bits (kind_bits kind e canfail mode) children)
+
+-- ---- children
+
+abbrev pub insert_if : Bool → Child → Child → List Child → List Child → List Child
+insert_if true c d cs inserted = c ∷ d ∷ cs
+insert_if false c d cs inserted = d ∷ inserted
+
+-- a child at its place by number
+abbrev pub insert_child : Child → List Child → List Child
+insert_child c [] = c ∷ []
+insert_child c (d ∷ ds) = insert_if (nat_lt c.number d.number) c d ds (insert_child c ds)
+
+abbrev pub insert_children : List Child → List Child → List Child
+insert_children [] cs = cs
+insert_children (c ∷ cs) ds = insert_child c (insert_children cs ds)
+
+-- what the children of a request handed to it in this attempt
+abbrev pub returned_to : Pending → List Return → List Return
+returned_to p returns = filter (λ (r : Return). is_under_number r.under p.request.number) returns
+
+abbrev pub children_of : List Return → List Child
+children_of returns = map (λ (r : Return). r.child) returns
+
+abbrev pub finished_of : List Return → List Return
+finished_of returns = filter (λ (r : Return). not (has_bits r.bits)) returns
+
+-- ---- the own work
+
+-- what the own work of a request gives: an error or none, a read's bytes, the block that it makes, its pointer if it is
+-- a write with a place, what it asked for, and the images after
+pub record Own : Type 0 where
+  pub error : Option Errno
+  pub bytes : List ℕ
+  pub tree : Option Tree
+  pub pointer : Option Bp
+  pub asks : List Ask
+  pub images : Images
+
+abbrev pub only_error : Option Errno → Images → Own
+only_error error images = record { error = error; bytes = []; tree = None; pointer = None; asks = []; images = images }
+
+abbrev pub own_found : Result (List ℕ) Errno → Images → Own
+own_found (Err e) images = only_error (Some e) images
+own_found (Ok bytes) images = record { error = None; bytes = bytes; tree = None; pointer = None; asks = []; images = images }
+
+abbrev pub own_read : BlockRead → Own
+own_read read = own_found read.found read.images
+
+abbrev pub own_free : Written → Own
+own_free written = only_error written.error written.images
+
+abbrev pub placed_tree : Option Bp → Placed → Option Tree
+placed_tree None placed = None
+placed_tree (Some bp) placed = Some (record { bp = bp; heads = placed.heads })
+
+abbrev pub own_write : Placed → Own
+own_write placed = record {
+  error = placed.error;
+  bytes = [];
+  tree = placed_tree placed.pointer placed;
+  pointer = placed.pointer;
+  asks = placed.asks;
+  images = placed.images;
+}
+
+abbrev pub own_claimed : Result Tree Errno → Images → Own
+own_claimed (Err e) images = only_error (Some e) images
+own_claimed (Ok tree) images = record { error = None; bytes = []; tree = Some tree; pointer = None; asks = []; images = images }
+
+abbrev pub own_claim : Claimed → Own
+own_claim claimed = own_claimed claimed.tree claimed.images
+
+-- what the write of a request shares with its parts
+abbrev pub writing_of : Terms → ℕ → Pending → SumKind → ℕ → Writing
+writing_of t attempt p sum copies = record {
+  setting = t.setting;
+  journal = t.journal;
+  request = p.request.number;
+  round = t.round;
+  attempt = attempt;
+  sum = sum;
+  copies = copies;
+  birth = p.birth;
+}
+
+-- a read or a free needs its block, which admission sees to
+abbrev pub read_of : Terms → Option Tree → Images → Own
+read_of t None images = only_error (Some Noent) images
+read_of t (Some tree) images = own_read (read_tree t.setting tree images)
+
+abbrev pub free_of : Terms → Option Tree → Images → Own
+free_of t None images = only_error (Some Noent) images
+free_of t (Some tree) images = own_free (free_tree t.setting tree images)
+
+-- nothing for a null, the block's tree for a read or a free, the content for a write, the pointer for a claim
+abbrev pub own_work : Terms → ℕ → Pending → Work → List (Option Bp) → Images → Own
+own_work t attempt p Null pointers images = only_error None images
+own_work t attempt p (Read name prio) pointers images = read_of t p.block images
+own_work t attempt p (Write name sum copies prio body) pointers images =
+    own_write (place_block (writing_of t attempt p sum copies) (content_of pointers (body_of body)) images)
+own_work t attempt p (Free name) pointers images = free_of t p.block images
+own_work t attempt p (Claim name pointer) pointers images = own_claim (claim_tree t.setting t.used pointer images)
+
+-- ---- one request in an attempt
+
+-- what becomes of one request: it finishes or goes again
+pub record Attempted : Type 0 where
+  pub return : Return
+  pub ended : List Ended
+  pub again : List Pending
+  pub asks : List Ask
+  pub images : Images
+
+abbrev pub tree_unless : Option Errno → Option Tree → Option Tree
+tree_unless None tree = tree
+tree_unless (Some e) tree = None
+
+abbrev pub ended_with : Pending → Own → Option Errno → Attempted
+ended_with p own error = record {
+  return = record {
+    under = p.request.under;
+    bits = no_bits;
+    child = record { number = p.request.number; error = error; pointer = own.pointer };
+  };
+  ended = record { request = p.request; error = error; bytes = own.bytes; tree = tree_unless error own.tree } ∷ [];
+  again = [];
+  asks = own.asks;
+  images = own.images;
+}
+
+abbrev pub goes_again : Pending → Own → Bits → List Child → Attempted
+goes_again p own bits kept = record {
+  return = record {
+    under = p.request.under;
+    bits = bits;
+    child = record { number = p.request.number; error = None; pointer = own.pointer };
+  };
+  ended = [];
+  again = record p { kept = kept } ∷ [];
+  asks = own.asks;
+  images = own.images;
+}
+
+-- with bits it goes again and keeps the children that finished; else it finishes with the worst of its own error and theirs
+abbrev pub closed_if : Bool → Pending → Own → Bits → List Child → Attempted
+closed_if true p own bits kept = goes_again p own bits kept
+closed_if false p own bits kept = ended_with p own (worst_error own.error (worst_of (map (λ (c : Child). c.error) kept)))
+
+abbrev pub closed : Pending → Own → Bits → List Child → Attempted
+closed p own bits kept = closed_if (has_bits bits) p own bits kept
+
+abbrev pub judged_own : Terms → Pending → List Return → Own → Attempted
+judged_own t p returns own =
+    closed p own (all_bits (kind_of p.request.work) own.error p.request.canfail t.failmode (bits_of returns))
+    (insert_children (children_of (finished_of returns)) p.kept)
+
+-- all children, those that go again too, give their pointers to the content
+abbrev pub attempt_with : Terms → ℕ → Pending → List Return → Images → Attempted
+attempt_with t attempt p returns images =
+    judged_own t p returns (own_work t attempt p p.request.work
+    (map (λ (c : Child). c.pointer) (insert_children (children_of returns) p.kept)) images)
+
+-- a request whose children were attempted before it
+abbrev pub attempt_one : Terms → ℕ → Pending → List Return → Images → Attempted
+attempt_one t attempt p returns images = attempt_with t attempt p (returned_to p returns) images
+
+-- ---- an attempt of a tree
+
+-- what was handed on, the last first; what finished and what goes again, in the order of the attempt; what was asked
+-- for; and the images after
+pub record Attempt : Type 0 where
+  pub returns : List Return
+  pub ended : List Ended
+  pub again : List Pending
+  pub asks : List Ask
+  pub images : Images
+
+abbrev pub add_attempted : Attempted → Attempt → Attempt
+add_attempted one others = record {
+  returns = others.returns;
+  ended = one.ended ++ others.ended;
+  again = one.again ++ others.again;
+  asks = one.asks ++ others.asks;
+  images = others.images;
+}
+
+abbrev pub then_attempt : List Return → Attempted → (List Return → Images → Attempt) → Attempt
+then_attempt returns one others = add_attempted one (others (one.return ∷ returns) one.images)
+
+-- each request in turn
+unfoldable pub attempt_each : Terms → ℕ → List Pending → List Return → Images → Attempt
+attempt_each t attempt [] returns images = record { returns = returns; ended = []; again = []; asks = []; images = images }
+attempt_each t attempt (p ∷ ps) returns images =
+    then_attempt returns (attempt_one t attempt p returns images) (attempt_each t attempt ps)
+
+abbrev pub attempt_tree : Terms → ℕ → List Pending → Images → Attempt
+attempt_tree t attempt tree images = attempt_each t attempt tree [] images
+
+-- the root is attempted last
+abbrev pub root_bits : List Return → Bits
+root_bits [] = no_bits
+root_bits (r ∷ rs) = r.bits
+
+-- ---- settling a tree
+
+-- what a round leaves of a tree, what finished in it, what was asked for, and the images after
+pub record Settled : Type 0 where
+  pub left : List Pending
+  pub ended : List Ended
+  pub asks : List Ask
+  pub images : Images
+
+abbrev pub settled_as : Attempt → Settled
+settled_as a = record { left = a.again; ended = a.ended; asks = a.asks; images = a.images }
+
+abbrev pub add_earlier : Attempt → Settled → Settled
+add_earlier a later = record {
+  left = later.left;
+  ended = a.ended ++ later.ended;
+  asks = a.asks ++ later.asks;
+  images = later.images;
+}
+
+abbrev pub settled_if : Bool → Attempt → (List Pending → Images → Settled) → Settled
+settled_if true a again = add_earlier a (again a.again a.images)
+settled_if false a again = settled_as a
+
+abbrev pub settled_by : Attempt → (List Pending → Images → Settled) → Settled
+settled_by a again = settled_if (now_alone (root_bits a.returns)) a again
+
+-- the remaining tree is attempted again while its root is to go again at once, so many times at most
+unfoldable pub settle_from : ℕ → Terms → ℕ → List Pending → Images → Settled
+settle_from zero t attempt tree images = settled_as (attempt_tree t attempt tree images)
+settle_from (suc more) t attempt tree images =
+    settled_by (attempt_tree t attempt tree images) (settle_from more t (attempt + 1))
+
+-- how often a tree goes again at once in a round
+abbrev pub reexecutions_max : ℕ
+reexecutions_max = 3
+
+-- a tree in one round: nothing is left of it where it finished, else it is suspended
+abbrev pub settle : Terms → List Pending → Images → Settled
+settle t tree images = settle_from reexecutions_max t 0 tree images

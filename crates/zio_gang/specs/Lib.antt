@@ -1,0 +1,6 @@
+pub mod Attempts
+pub mod Journals
+pub mod Rounds
+pub mod Runs
+pub mod Trees
+pub mod Writes

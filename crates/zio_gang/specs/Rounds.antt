@@ -1,0 +1,198 @@
+-- One round: the names that are bound, the trees of a batch, which of them are answered by admission, and what running
+-- the others leaves.
+use Rattle.std.specs.Prelude.{ℕ, ◌+◌, List, [], ◌∷◌, ◌++◌, map, filter, find, Bool, true, false, ◌&&◌, ◌||◌, not, Option, Some, None, option_map, is_some, is_none, ◌==◌, bytes_eq}
+use Rattle.std.specs.List.{flat_map, list_any}
+use Rattle.zio_types.specs.declared.error.Errno.{Errno}
+use Rattle.zio_types.specs.declared.error.Errno.TheVariants.{Io, Noent, Exist}
+use Rattle.zio_types.specs.declared.place.Place.{Place}
+use Rattle.zio_types.specs.Choices.{Ask}
+use Rattle.zio_script.specs.declared.script.Request.{Request}
+use Rattle.zio_script.specs.declared.script.Work.{Work}
+use Rattle.zio_script.specs.declared.script.Work.TheVariants.{Null, Read, Write, Free, Claim}
+use Rattle.zio_script.specs.Requests.{name_of, needs_block, makes_block, changes_pool}
+use Rattle.zio_cksum.specs.Images.{Images}
+use Rattle.zio_gang.specs.declared.tree.Tree.{Tree}
+use Rattle.zio_gang.specs.Attempts.{Terms, Pending, Ended, Settled, settle}
+use Rattle.zio_gang.specs.Trees.{tree_places}
+
+-- ---- bound names
+
+-- a block that has a name
+pub record Binding : Type 0 where
+  pub name : List ℕ
+  pub tree : Tree
+
+-- The bound names. No name stands twice.
+abbrev pub Bound : Type 0
+Bound = List Binding
+
+abbrev pub is_of : List ℕ → Binding → Bool
+is_of name b = bytes_eq b.name name
+
+-- the block of a name
+abbrev pub block_of : Bound → List ℕ → Option Tree
+block_of bound name = option_map (λ (b : Binding). b.tree) (find (is_of name) bound)
+
+abbrev pub is_bound : Bound → List ℕ → Bool
+is_bound bound name = is_some (block_of bound name)
+
+abbrev pub unbind : List ℕ → Bound → Bound
+unbind name bound = filter (λ b. not (is_of name b)) bound
+
+abbrev pub bind : List ℕ → Tree → Bound → Bound
+bind name tree bound = record { name = name; tree = tree } ∷ unbind name bound
+
+-- the places of all bound blocks
+abbrev pub used_places : Bound → List Place
+used_places bound = flat_map (λ (b : Binding). tree_places b.tree) bound
+
+abbrev pub bind_made : List ℕ → Option Tree → Bound → Bound
+bind_made name None bound = bound
+bind_made name (Some tree) bound = bind name tree bound
+
+abbrev pub bound_by : Work → Option Tree → Bound → Bound
+bound_by Null tree bound = bound
+bound_by (Read name prio) tree bound = bound
+bound_by (Write name sum copies prio body) tree bound = bind_made name tree bound
+bound_by (Free name) tree bound = unbind name bound
+bound_by (Claim name pointer) tree bound = bind_made name tree bound
+
+abbrev pub bound_unless : Option Errno → Ended → Bound → Bound
+bound_unless None e bound = bound_by e.request.work e.tree bound
+bound_unless (Some error) e bound = bound
+
+-- a write or a claim without error binds its name, a free without error unbinds it
+abbrev pub bound_after : List Ended → Bound → Bound
+bound_after [] bound = bound
+bound_after (e ∷ es) bound = bound_after es (bound_unless e.error e bound)
+
+-- ---- the trees of a batch
+
+abbrev pub put_if : Bool → Request → Request → List Request → List Request → List Request
+put_if true r q qs placed = r ∷ q ∷ qs
+put_if false r q qs placed = q ∷ placed
+
+-- a request right before its parent, whose last child it is so far
+abbrev pub put_before : ℕ → Request → List Request → List Request
+put_before parent r [] = []
+put_before parent r (q ∷ qs) = put_if (q.number == parent) r q qs (put_before parent r qs)
+
+abbrev pub planted : Option ℕ → Request → List (List Request) → List (List Request)
+planted None r trees = trees ++ (r ∷ []) ∷ []
+planted (Some parent) r trees = map (put_before parent r) trees
+
+-- the trees, and the requests that are to be put into them
+abbrev pub grown : List Request → List (List Request) → List (List Request)
+grown [] trees = trees
+grown (r ∷ rs) trees = grown rs (planted r.under r trees)
+
+-- the trees of a batch by the numbers of their roots, each in the order of attempts
+abbrev pub trees_of : List Request → List (List Request)
+trees_of batch = grown batch []
+
+-- ---- admission
+
+-- the request names the block
+abbrev pub names_it : Option (List ℕ) → Option (List ℕ) → Bool
+names_it None named = false
+names_it (Some name) None = false
+names_it (Some name) (Some other) = bytes_eq name other
+
+-- an unfinished request of a suspended tree names the block that the request names
+abbrev pub is_awaited : List (List Pending) → Request → Bool
+is_awaited suspended r =
+    list_any (λ tree. list_any (λ (p : Pending). names_it (name_of r.work) (name_of p.request.work)) tree) suspended
+
+abbrev pub is_named_bound : Bound → Option (List ℕ) → Bool
+is_named_bound bound None = false
+is_named_bound bound (Some name) = is_bound bound name
+
+abbrev pub has_bound : Bound → Request → Bool
+has_bound bound r = is_named_bound bound (name_of r.work)
+
+-- beside suspended trees only reads of other blocks go on
+abbrev pub is_blocked : List (List Pending) → List Request → Bool
+is_blocked [] tree = false
+is_blocked (s ∷ ss) tree = list_any (λ (r : Request). changes_pool r.work || is_awaited (s ∷ ss) r) tree
+
+-- a read or a free names a block that isn't bound
+abbrev pub lacks_block : Bound → List Request → Bool
+lacks_block bound tree = list_any (λ (r : Request). needs_block r.work && not (has_bound bound r)) tree
+
+-- a write or a claim names a block that is bound
+abbrev pub takes_bound : Bound → List Request → Bool
+takes_bound bound tree = list_any (λ (r : Request). makes_block r.work && has_bound bound r) tree
+
+abbrev pub first_rule : Bool → Bool → Bool → Option Errno
+first_rule true lacks takes = Some Io
+first_rule false true takes = Some Noent
+first_rule false false true = Some Exist
+first_rule false false false = None
+
+-- the error with which a whole tree is answered before it runs, by the first rule that applies, or none
+abbrev pub admission : List (List Pending) → Bound → List Request → Option Errno
+admission suspended bound tree = first_rule (is_blocked suspended tree) (lacks_block bound tree) (takes_bound bound tree)
+
+abbrev pub answered_with : Errno → Request → Ended
+answered_with e r = record { request = r; error = Some e; bytes = []; tree = None }
+
+-- a batch after admission: the requests of the trees that were answered, and the trees that run
+pub record Admitted : Type 0 where
+  pub answered : List Ended
+  pub trees : List (List Request)
+
+abbrev pub admit_with : Option Errno → List Request → Admitted → Admitted
+admit_with (Some e) tree others = record { answered = map (answered_with e) tree ++ others.answered; trees = others.trees }
+admit_with None tree others = record { answered = others.answered; trees = tree ∷ others.trees }
+
+abbrev pub admitted : List (List Pending) → Bound → List (List Request) → Admitted
+admitted suspended bound [] = record { answered = []; trees = [] }
+admitted suspended bound (tree ∷ trees) =
+    admit_with (admission suspended bound tree) tree (admitted suspended bound trees)
+
+-- ---- what runs
+
+abbrev pub block_if : Bool → Option (List ℕ) → Bound → Option Tree
+block_if true (Some name) bound = block_of bound name
+block_if true None bound = None
+block_if false name bound = None
+
+-- a request as it enters its first round
+abbrev pub pending : Bound → ℕ → Request → Pending
+pending bound birth r = record {
+  request = r;
+  birth = birth;
+  block = block_if (needs_block r.work) (name_of r.work) bound;
+  kept = [];
+}
+
+abbrev pub pending_trees : Bound → ℕ → List (List Request) → List (List Pending)
+pending_trees bound birth trees = map (map (pending bound birth)) trees
+
+-- what running some trees leaves: the suspended ones, what finished, what was asked for, and the images
+pub record Ran : Type 0 where
+  pub left : List (List Pending)
+  pub ended : List Ended
+  pub asks : List Ask
+  pub images : Images
+
+abbrev pub add_left : List Pending → List (List Pending) → List (List Pending)
+add_left [] trees = trees
+add_left (p ∷ ps) trees = (p ∷ ps) ∷ trees
+
+abbrev pub add_settled : Settled → Ran → Ran
+add_settled s others = record {
+  left = add_left s.left others.left;
+  ended = s.ended ++ others.ended;
+  asks = s.asks ++ others.asks;
+  images = others.images;
+}
+
+abbrev pub then_trees : Settled → (Images → Ran) → Ran
+then_trees s others = add_settled s (others s.images)
+
+-- Each tree is settled over the images that the one before it left. In a batch each block is named once and no two
+-- places meet, so their order changes nothing.
+unfoldable pub settle_each : Terms → List (List Pending) → Images → Ran
+settle_each t [] images = record { left = []; ended = []; asks = []; images = images }
+settle_each t (tree ∷ trees) images = then_trees (settle t tree images) (settle_each t trees)

@@ -1,0 +1,218 @@
+-- A block's tree: its pointer and the gang headers under it, how it is read, and what a claim of one answers.
+use Rattle.std.specs.Prelude.{ℕ, zero, suc, ◌+◌, List, [], ◌∷◌, ◌++◌, length, map, find, Bool, true, false, ◌&&◌, Option, Some, None, option_map, Result, Ok, Err, bytes_eq, is_none}
+use Rattle.std.specs.List.{flat_map, list_all}
+use Rattle.zio_types.specs.declared.error.Errno.{Errno}
+use Rattle.zio_types.specs.declared.error.Errno.TheVariants.{Cksum, Inval, Exist}
+use Rattle.zio_types.specs.declared.place.Place.{Place}
+use Rattle.zio_types.specs.declared.place.Top.{Top}
+use Rattle.zio_types.specs.Errors.{worst_of}
+use Rattle.zio_types.specs.Paths.{path_steps_max}
+use Rattle.zio_types.specs.Places.{sector_size, is_inside, is_free}
+use Rattle.zio_blkptr.specs.declared.pointer.Bp.{Bp}
+use Rattle.zio_blkptr.specs.Pointers.{places_of, pointer_of}
+use Rattle.zio_cksum.specs.Blocks.{Read, read_block, good_body, good_kept, good_claimed, blame}
+use Rattle.zio_cksum.specs.Headers.{members_of}
+use Rattle.zio_cksum.specs.Images.{Images, Setting, Written}
+use Rattle.zio_gang.specs.declared.tree.Head.{Head}
+use Rattle.zio_gang.specs.declared.tree.Tree.{Tree}
+
+-- ---- what a tree holds
+
+-- the bytes of the header at this path
+abbrev pub kept_at : List Head → List ℕ → Option (List ℕ)
+kept_at heads path = option_map (λ (h : Head). h.bytes) (find (λ (h : Head). bytes_eq h.path path) heads)
+
+-- the block's pointer, and those of all members in its headers
+abbrev pub tree_pointers : Tree → List Bp
+tree_pointers tree = tree.bp ∷ flat_map (λ (h : Head). members_of h.bytes) tree.heads
+
+-- the places of all these pointers
+abbrev pub tree_places : Tree → List Place
+tree_places tree = flat_map places_of (tree_pointers tree)
+
+-- ---- a walk over the headers
+
+-- the errors of a walk, the pointers to bodies that it came to, the headers that it read and the images after it
+pub record Walk : Type 0 where
+  pub errors : List (Option Errno)
+  pub bodies : List Bp
+  pub heads : List Head
+  pub images : Images
+
+-- what a walk does: an error of a pointer, or none, and the read of the header of a gang at a path
+pub record Visit : Type 0 where
+  pub judge : Bp → Option Errno
+  pub read_head : List ℕ → Bp → Images → Read
+
+abbrev pub ended_walk : Images → Walk
+ended_walk images = record { errors = []; bodies = []; heads = []; images = images }
+
+abbrev pub stopped_walk : Errno → Images → Walk
+stopped_walk e images = record { errors = Some e ∷ []; bodies = []; heads = []; images = images }
+
+abbrev pub body_walk : Bp → Images → Walk
+body_walk bp images = record { errors = []; bodies = bp ∷ []; heads = []; images = images }
+
+abbrev pub joined_walk : Walk → Walk → Walk
+joined_walk w others = record {
+  errors = w.errors ++ others.errors;
+  bodies = w.bodies ++ others.bodies;
+  heads = w.heads ++ others.heads;
+  images = others.images;
+}
+
+abbrev pub then_walk : Walk → (Images → Walk) → Walk
+then_walk w others = joined_walk w (others w.images)
+
+abbrev pub below_head : List ℕ → List ℕ → Walk → Walk
+below_head path bytes w = record {
+  errors = w.errors;
+  bodies = w.bodies;
+  heads = record { path = path; bytes = bytes } ∷ w.heads;
+  images = w.images;
+}
+
+-- the members in order, numbered from n
+abbrev pub walk_members : (List ℕ → Bp → Images → Walk) → List ℕ → ℕ → List Bp → Images → Walk
+walk_members walk path n [] images = ended_walk images
+walk_members walk path n (m ∷ ms) images = then_walk (walk (path ++ n ∷ []) m images) (walk_members walk path (n + 1) ms)
+
+-- below a header that failed nothing is read
+abbrev pub walk_found : (List ℕ → Bp → Images → Walk) → List ℕ → Images → Result (List ℕ) Errno → Walk
+walk_found walk path images (Err e) = stopped_walk e images
+walk_found walk path images (Ok bytes) = below_head path bytes (walk_members walk path 0 (members_of bytes) images)
+
+abbrev pub walk_read : (List ℕ → Bp → Images → Walk) → List ℕ → Read → Walk
+walk_read walk path read = walk_found walk path read.images read.found
+
+-- a pointer with an error ends the walk there, one to a body is noted, and a gang's is followed
+abbrev pub walk_pointer : Option Errno → Bool → Bp → (Images → Walk) → Images → Walk
+walk_pointer (Some e) gang bp follow images = stopped_walk e images
+walk_pointer None false bp follow images = body_walk bp images
+walk_pointer None true bp follow images = follow images
+
+-- From a pointer at a path down. As many levels of headers may follow as the first argument says; a header below them
+-- is a checksum error and isn't read.
+unfoldable pub walk : ℕ → Visit → List ℕ → Bp → Images → Walk
+walk zero v path bp images = walk_pointer (v.judge bp) bp.gang bp (stopped_walk Cksum) images
+walk (suc levels) v path bp images =
+    walk_pointer (v.judge bp) bp.gang bp (λ now. walk_read (walk levels v) path (v.read_head path bp now)) images
+
+-- the walk of a whole tree, whose headers stand at depths 0 to 7
+abbrev pub walk_tree : Visit → Bp → Images → Walk
+walk_tree v bp images = walk path_steps_max v [] bp images
+
+-- ---- reading a tree
+
+-- any pointer will do, and a header is good where it equals the kept one
+abbrev pub kept_visit : Setting → List Head → Visit
+kept_visit s heads = record {
+  judge = λ bp. None;
+  read_head = λ path bp images. read_block s true (good_kept (kept_at heads path)) images sector_size (places_of bp);
+}
+
+abbrev pub walk_kept : Setting → Tree → Images → Walk
+walk_kept s tree images = walk_tree (kept_visit s tree.heads) tree.bp images
+
+-- the bodies of some pointers: their errors, what was read, and the images after
+pub record Bodies : Type 0 where
+  pub errors : List (Option Errno)
+  pub bytes : List ℕ
+  pub images : Images
+
+abbrev pub add_body : Result (List ℕ) Errno → Bodies → Bodies
+add_body (Ok bytes) others = record { errors = others.errors; bytes = bytes ++ others.bytes; images = others.images }
+add_body (Err e) others = record { errors = Some e ∷ others.errors; bytes = others.bytes; images = others.images }
+
+abbrev pub then_bodies : Read → (Images → Bodies) → Bodies
+then_bodies read others = add_body read.found (others read.images)
+
+-- each body in order, good where it has its sum
+abbrev pub read_bodies : Setting → List Bp → Images → Bodies
+read_bodies s [] images = record { errors = []; bytes = []; images = images }
+read_bodies s (bp ∷ bps) images =
+    then_bodies (read_block s true (good_body bp) images bp.size (places_of bp)) (read_bodies s bps)
+
+abbrev pub unless_errors : {X : Type 0} → List (Option Errno) → X → Result X Errno
+unless_errors [] x = Ok x
+unless_errors (e ∷ errors) x = Err (blame (e ∷ errors))
+
+abbrev pub bodies_read : Bodies → Read
+bodies_read b = record { found = unless_errors b.errors b.bytes; images = b.images }
+
+abbrev pub bodies_unless : List (Option Errno) → Setting → Walk → Read
+bodies_unless [] s w = bodies_read (read_bodies s w.bodies w.images)
+bodies_unless (e ∷ errors) s w = record { found = Err (blame (e ∷ errors)); images = w.images }
+
+abbrev pub after_walk : Setting → Walk → Read
+after_walk s w = bodies_unless w.errors s w
+
+-- The headers are read first. Where one failed no body is read, and the error is the worst of those that failed;
+-- else the bodies are read in order and joined.
+unfoldable pub read_tree : Setting → Tree → Images → Read
+read_tree s tree images = after_walk s (walk_kept s tree images)
+
+-- ---- freeing a tree
+
+abbrev pub walk_error : Walk → Written
+walk_error w = record { error = worst_of w.errors; images = w.images }
+
+-- a free reads the headers, with repairs, and has their error or none
+unfoldable pub free_tree : Setting → Tree → Images → Written
+free_tree s tree images = walk_error (walk_kept s tree images)
+
+-- ---- claiming a tree
+
+-- the sectors of each top
+abbrev pub sizes_of : List Top → List ℕ
+sizes_of tops = map (λ (t : Top). t.sectors) tops
+
+abbrev pub inval_unless : Bool → Option Errno
+inval_unless true = None
+inval_unless false = Some Inval
+
+-- every place has to be inside its top, and a header is good where it is one of some members; nothing is repaired
+abbrev pub claim_visit : Setting → Visit
+claim_visit s = record {
+  judge = λ bp. inval_unless (list_all (is_inside (sizes_of s.tops)) (places_of bp));
+  read_head = λ path bp images. read_block s false (good_claimed bp) images sector_size (places_of bp);
+}
+
+-- no two of the places meet
+abbrev pub are_apart : List Place → Bool
+are_apart [] = true
+are_apart (p ∷ ps) = is_free ps p && are_apart ps
+
+abbrev pub can_be_claimed : List Place → List Place → Bool
+can_be_claimed used places = are_apart places && list_all (is_free used) places
+
+-- the tree that is claimed, or an error
+pub record Claimed : Type 0 where
+  pub tree : Result Tree Errno
+  pub images : Images
+
+abbrev pub claimed_if : Bool → Tree → Result Tree Errno
+claimed_if true tree = Ok tree
+claimed_if false tree = Err Exist
+
+abbrev pub claimed_free : List Place → Tree → Result Tree Errno
+claimed_free used tree = claimed_if (can_be_claimed used (tree_places tree)) tree
+
+abbrev pub claimed_found : List Place → List (Option Errno) → Tree → Result Tree Errno
+claimed_found used [] tree = claimed_free used tree
+claimed_found used (e ∷ errors) tree = Err (blame (e ∷ errors))
+
+abbrev pub claimed_walk : List Place → Bp → Walk → Claimed
+claimed_walk used bp w = record {
+  tree = claimed_found used w.errors (record { bp = bp; heads = w.heads });
+  images = w.images;
+}
+
+abbrev pub claim_pointer : Setting → List Place → Option Bp → Images → Claimed
+claim_pointer s used None images = record { tree = Err Inval; images = images }
+claim_pointer s used (Some bp) images = claimed_walk used bp (walk_tree (claim_visit s) bp images)
+
+-- A claim's bytes have to spell a pointer. Then the errors of the tree join to the worst, and where there is none two
+-- places that meet, or one that isn't free, make it EEXIST.
+unfoldable pub claim_tree : Setting → List Place → List ℕ → Images → Claimed
+claim_tree s used bytes images = claim_pointer s used (pointer_of bytes) images

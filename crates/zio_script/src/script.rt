@@ -1,0 +1,99 @@
+use crate::Name;
+use zio_blkptr::SumKind;
+use zio_faults::Row;
+use zio_types::{Bytes, List, Prio, ReqNo};
+
+/// What a run does where a tree can't go on.
+#[derive(Clone, Copy, Debug, PartialEq, Eq)]
+pub enum Failmode {
+    /// Later batches wait for the next `clear`.
+    Wait,
+    /// Later batches run, and devices that are gone are errors.
+    Continue,
+    /// The run ends.
+    Panic,
+}
+
+/// The bytes of a write, before they are padded.
+#[derive(Debug, Drop)]
+pub enum Body {
+    /// These bytes.
+    Hex(Bytes),
+    /// One byte, so many times.
+    Fill { byte: u8, len: u32 },
+    /// The first bytes that the generator gives from the seed.
+    Seq { seed: u64, len: u32 },
+}
+
+/// What a request is to do.
+#[derive(Debug, Drop)]
+pub enum Work {
+    Null,
+    Read {
+        name: Name,
+        prio: Prio,
+    },
+    Write {
+        name: Name,
+        sum: SumKind,
+        /// One to three.
+        copies: u32,
+        prio: Prio,
+        body: Body,
+    },
+    Free {
+        name: Name,
+    },
+    Claim {
+        name: Name,
+        /// The bytes of the pointer that the block is to have.
+        pointer: [u8; 128],
+    },
+}
+
+/// A request of a script.
+#[derive(Debug, Drop)]
+pub struct Request {
+    pub number: ReqNo,
+    pub work: Work,
+    /// The request under which it stands, in the same batch.
+    pub under: Option<ReqNo>,
+    pub canfail: bool,
+}
+
+/// A line of a script that does something.
+#[derive(Debug, Drop)]
+pub enum Item {
+    Request(Request),
+    /// The requests before it are a batch.
+    Go,
+    /// The resume point rises.
+    Clear,
+}
+
+/// What a run is to do.
+#[derive(Debug, Drop)]
+pub struct Script {
+    pub failmode: Failmode,
+    /// The leaves of each top.
+    pub tops: List<List<u32>>,
+    pub faults: List<Row>,
+    pub items: List<Item>,
+}
+
+/// The first faulty line of a script, and the least reason why it is one.
+#[derive(Clone, Copy, Debug, PartialEq, Eq)]
+pub struct ScriptFault {
+    /// From 1; 0 where the script is too long.
+    pub line: u32,
+    /// 1 to 10, as docs/FORMATS.md has them under "Script".
+    pub why: u32,
+}
+
+/// Why no script was read.
+#[derive(Debug, Drop)]
+pub enum ScriptError {
+    Fault(ScriptFault),
+    /// Want of memory.
+    Memory,
+}

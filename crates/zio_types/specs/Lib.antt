@@ -1,0 +1,5 @@
+pub mod Choices
+pub mod Errors
+pub mod Filled
+pub mod Paths
+pub mod Places

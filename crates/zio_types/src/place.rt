@@ -1,0 +1,20 @@
+use crate::List;
+
+/// A run of sectors of one top.
+#[derive(Clone, Copy, Debug, PartialEq, Eq)]
+pub struct Place {
+    pub top: u32,
+    /// The first sector.
+    pub sector: u64,
+    /// How many sectors it has.
+    pub sectors: u32,
+}
+
+/// A mirror: leaves that hold the same.
+#[derive(Debug, Drop)]
+pub struct Top {
+    /// The leaves' numbers, one to four.
+    pub leaves: List<u32>,
+    /// The sectors of its smallest leaf.
+    pub sectors: u64,
+}

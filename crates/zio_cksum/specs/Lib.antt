@@ -1,4 +1,5 @@
 pub mod Blocks
+pub mod Frames
 pub mod Headers
 pub mod Images
 pub mod Sums

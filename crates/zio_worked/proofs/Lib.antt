@@ -1,0 +1,2 @@
+pub mod BlockCases
+pub mod Evaluation

@@ -1,13 +1,6 @@
-// A library with one function.
+//! Worked cases: small scripts, evaluated by the checker.
 #![tactic(auto)]
 
-ghost use Rattle.std.specs.Prelude.{◌≡◌};
-ghost use Rattle.zio_worked.specs.Echo.{echo_of};
+mod blocks;
 
-// The `ensures` clause is the contract: what `echo` returns is `echo_of` of its argument, a definition
-// in `specs/Echo.antt`, which a caller's clause can cite too.
-pub fn echo(x: usize) -> usize
-    ensures { result ≡ echo_of x }
-{
-    x
-}
+pub use blocks::blocks_are_written_and_read;

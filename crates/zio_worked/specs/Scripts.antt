@@ -1,0 +1,124 @@
+-- Short words for scripts over small images, and what a run of one shows and leaves.
+use Prim.Native.String.{String}
+use Rattle.std.specs.Prelude.{ℕ, List, [], ◌∷◌, ◌++◌, length, filter, replicate, Bool, true, false, Option, Some, None, codes}
+use Rattle.zio_types.specs.declared.journal.Completion.{Completion}
+use Rattle.zio_types.specs.declared.journal.Role.{Role}
+use Rattle.zio_types.specs.declared.place.Place.{Place}
+use Rattle.zio_types.specs.declared.request.Prio.{Prio}
+use Rattle.zio_types.specs.declared.request.Prio.TheVariants.{SyncRead, SyncWrite}
+use Rattle.zio_types.specs.Choices.{Choice}
+use Rattle.zio_blkptr.specs.declared.pointer.SumKind.{SumKind}
+use Rattle.zio_faults.specs.declared.table.FaultKind.{FaultKind}
+use Rattle.zio_faults.specs.declared.table.On.{On}
+use Rattle.zio_faults.specs.declared.table.Row.{Row}
+use Rattle.zio_script.specs.declared.script.Body.TheVariants.{Fill}
+use Rattle.zio_script.specs.declared.script.Failmode.{Failmode}
+use Rattle.zio_script.specs.declared.script.Item.{Item}
+use Rattle.zio_script.specs.declared.script.Item.TheVariants.{Request as RequestLine, Go, Clear}
+use Rattle.zio_script.specs.declared.script.Request.{Request}
+use Rattle.zio_script.specs.declared.script.Script.{Script}
+use Rattle.zio_script.specs.declared.script.Work.TheVariants.{Null, Read, Write, Free, Claim}
+use Rattle.zio_cksum.specs.Images.{Images}
+use Rattle.zio_gang.specs.Runs.{Course, run_script, ending}
+use Rattle.zio_report.specs.declared.report.Show.TheVariants.{Report}
+use Rattle.zio_report.specs.Reports.{run_text}
+
+-- ---- requests
+
+-- a write of one byte, so many times
+abbrev pub write : ℕ → List ℕ → SumKind → ℕ → ℕ → ℕ → Item
+write number name sum copies byte len = RequestLine (record {
+  number = number;
+  work = Write name sum copies SyncWrite (Fill byte len);
+  under = None;
+  canfail = false;
+})
+
+abbrev pub read : ℕ → List ℕ → Item
+read number name = RequestLine (record { number = number; work = Read name SyncRead; under = None; canfail = true })
+
+abbrev pub free : ℕ → List ℕ → Item
+free number name = RequestLine (record { number = number; work = Free name; under = None; canfail = false })
+
+abbrev pub claim : ℕ → List ℕ → List ℕ → Item
+claim number name pointer = RequestLine (record { number = number; work = Claim name pointer; under = None; canfail = true })
+
+abbrev pub null : ℕ → Item
+null number = RequestLine (record { number = number; work = Null; under = None; canfail = false })
+
+abbrev pub under_it : Option ℕ → Bool → Item → Item
+under_it parent canfail (RequestLine r) = RequestLine (record r { under = parent; canfail = canfail })
+under_it parent canfail Go = Go
+under_it parent canfail Clear = Clear
+
+-- the request stands under another, or may fail
+abbrev pub under : ℕ → Item → Item
+under parent item = under_it (Some parent) false item
+
+abbrev pub can_fail : Item → Item
+can_fail item = under_it None true item
+
+abbrev pub must : Item → Item
+must item = under_it None false item
+
+-- ---- images, rows and choices
+
+-- an image of so many sectors of zeros
+abbrev pub zeros : ℕ → List ℕ
+zeros len = replicate len 0
+
+-- a row over the first 64 KiB of a leaf
+abbrev pub row : ℕ → On → ℕ → ℕ → FaultKind → Row
+row leaf on from until kind = record {
+  leaf = leaf;
+  on = on;
+  at = 0;
+  len = 65536;
+  from = from;
+  until = until;
+  kind = kind;
+  first = false;
+}
+
+abbrev pub place : ℕ → ℕ → ℕ → Place
+place top sector sectors = record { top = top; sector = sector; sectors = sectors }
+
+-- what was found for a request in a round and an attempt, at a path and a role
+abbrev pub choice : ℕ → ℕ → ℕ → List ℕ → Role → ℕ → ℕ → List Place → Choice
+choice request round attempt path role size copies places = record {
+  asked = record {
+    key = record { request = request; round = round; attempt = attempt; path = path; role = role };
+    size = size;
+    copies = copies;
+  };
+  places = places;
+}
+
+abbrev pub script : Failmode → List (List ℕ) → List Row → List Item → Script
+script failmode tops rows items = record { failmode = failmode; tops = tops; faults = rows; items = items }
+
+-- ---- what a run shows and leaves
+
+abbrev pub is_request : Item → Bool
+is_request (RequestLine r) = true
+is_request Go = false
+is_request Clear = false
+
+abbrev pub shown : Script → Images → List Choice → List Completion → Bool → Bool → Course → List ℕ
+shown s images choices completions journal bytes course =
+    run_text (Report journal bytes)
+    (record { tops = length s.tops; images = length images; requests = length (filter is_request s.items) })
+    (record { choices = choices; completions = completions }) course.events (ending course.state)
+
+-- the plain report of a script over these images, under these choices
+abbrev pub report : Script → Images → List Choice → List ℕ
+report s images choices = shown s images choices [] false false (run_script s images choices)
+
+-- the images after the run
+abbrev pub images_after : Script → Images → List Choice → Images
+images_after s images choices = (run_script s images choices).state.images
+
+-- the lines of a text
+abbrev pub lines : List String → List ℕ
+lines [] = []
+lines (text ∷ texts) = codes text ++ 10 ∷ lines texts

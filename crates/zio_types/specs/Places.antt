@@ -18,9 +18,9 @@ meets p q = (p.top == q.top) && nat_lt (max p.sector q.sector) (min (end_of p) (
 
 abbrev pub is_below : Place → Option ℕ → Bool
 is_below p None = false
-is_below p (Some sectors) = nat_le (end_of p) sectors
+is_below p (Some sectors) = nat_lt 0 p.sectors && nat_le (end_of p) sectors
 
--- the top exists, and the place's sectors lie below the number that it has
+-- the top exists, and the place has sectors, which lie below the number that the top has
 abbrev pub is_inside : List ℕ → Place → Bool
 is_inside sizes p = is_below p (slice_get sizes p.top)
 

@@ -4,6 +4,8 @@
 //! 128 bytes spell one; docs/FORMATS.md, "Block pointer", has the table of its words.
 #![tactic(auto)]
 
+mod laws;
 mod pointer;
 
+pub use laws::each_pointer_has_one_spelling;
 pub use pointer::{BLOCK_SIZE_MAX, Bp, BpFault, SumKind, is_valid};

@@ -1,0 +1,51 @@
+-- Bytes that are words of eight, and the words that they give back.
+use Rattle.std.proofs.Common.{◌≡◌, ℕ, zero, suc, ◌+◌, ◌*◌, ◌^◌, ◌<◌, List, [], ◌∷◌, length, take, drop, get_or, refl, ap, sym, ◌∙◌, arith, drop-drop, get_or-take, get_or-drop}
+use Rattle.std.proofs.lemmas.Nat.{from_le_bytes-to_le_bytes_8}
+use Rattle.std.specs.Int.{w64, from_le_bytes}
+use Rattle.std.specs.List.{flat_map, AllByRecursion}
+use Rattle.zio_blkptr.specs.Pointers.{word, word_of}
+
+-- Each of the words fits in 64 bits.
+abbrev pub AllFit : List ℕ → Type 0
+AllFit ws = AllByRecursion (λ w. w < 2 ^ 64) ws
+
+-- eight bytes from word i on are the bytes of word i
+take-words : (ws : List ℕ) (i : ℕ) → i < length ws → take 8 (drop (8 * i) (flat_map word ws)) ≡ word (get_or ws i 0)
+take-words [] i h = absurd (omega arith)
+take-words (w ∷ ws) zero h = refl
+take-words (w ∷ ws) (suc i) h =
+    let next : 8 * suc i ≡ 8 + 8 * i = omega arith in
+    let skipped : drop (8 + 8 * i) (flat_map word (w ∷ ws)) ≡ drop (8 * i) (flat_map word ws) = sym (drop-drop (8 * i) 8 (flat_map word (w ∷ ws))) in
+    ap (λ n. take 8 (drop n (flat_map word (w ∷ ws)))) next ∙ ap (take 8) skipped ∙ take-words ws i (omega arith)
+
+-- word i of the bytes of words is the i-th, where it fits
+word_of-words : (ws : List ℕ) (i : ℕ) → i < length ws → get_or ws i 0 < 2 ^ 64 → word_of (flat_map word ws) i ≡ get_or ws i 0
+word_of-words ws i h fits = ap (from_le_bytes w64) (take-words ws i h) ∙ from_le_bytes-to_le_bytes_8 (get_or ws i 0) fits
+
+-- the word at each place fits, since past the last it is 0
+get_or-fits : (ws : List ℕ) (i : ℕ) → AllFit ws → get_or ws i 0 < 2 ^ 64
+get_or-fits [] i h = omega arith
+get_or-fits (w ∷ ws) zero h = h.0
+get_or-fits (w ∷ ws) (suc i) h = get_or-fits ws i h.1
+
+-- the bytes of words that fit give each of them back
+pub words_read : (ws : List ℕ) → AllFit ws → (i : ℕ) → i < length ws → word_of (flat_map word ws) i ≡ get_or ws i 0
+words_read ws fits i h = word_of-words ws i h (get_or-fits ws i fits)
+
+-- eight bytes make a number of 64 bits
+sum-fits : (a b c d e f g h : ℕ) → a < 256 → b < 256 → c < 256 → d < 256 → e < 256 → f < 256 → g < 256 → h < 256
+    → a + b * 256 + c * 65536 + d * 16777216 + e * 4294967296 + f * 1099511627776 + g * 281474976710656 + h * 72057594037927936 < 2 ^ 64
+sum-fits a b c d e f g h at_a at_b at_c at_d at_e at_f at_g at_h = omega arith
+
+-- each of the eight bytes from n on is a byte
+part-small : (bytes : List ℕ) (n : ℕ) → ((k : ℕ) → get_or bytes k 0 < 2 ^ 8) → (k : ℕ) → k < 8 → get_or (take 8 (drop n bytes)) k 0 < 256
+part-small bytes n small k h =
+    let here : get_or (take 8 (drop n bytes)) k 0 ≡ get_or bytes (n + k) 0 = get_or-take 8 (drop n bytes) k 0 h ∙ get_or-drop n bytes k 0 in
+    omega (arith, here, small (n + k))
+
+-- each word of bytes fits
+pub word_of-fits : (bytes : List ℕ) (i : ℕ) → ((k : ℕ) → get_or bytes k 0 < 2 ^ 8) → word_of bytes i < 2 ^ 64
+word_of-fits bytes i small =
+    let part = take 8 (drop (8 * i) bytes) in
+    let at : (k : ℕ) → k < 8 → get_or part k 0 < 256 = part-small bytes (8 * i) small in
+    sum-fits _ _ _ _ _ _ _ _ (at 0 (omega arith)) (at 1 (omega arith)) (at 2 (omega arith)) (at 3 (omega arith)) (at 4 (omega arith)) (at 5 (omega arith)) (at 6 (omega arith)) (at 7 (omega arith))

@@ -3,22 +3,10 @@ use Rattle.std.proofs.Common.{◌≡◌, ℕ, zero, suc, ◌+◌, ◌-◌, ◌*�
 use Rattle.std.specs.List.{AllByRecursion, All}
 use Rattle.std.proofs.lemmas.List.Elements.{All-from_recursion}
 use Rattle.std.proofs.lemmas.List.Sums.{sum_by-cons}
+use Rattle.zio_cksum.proofs.AllLemmas.{all_filter, all_weaker}
 use Rattle.zio_cksum.specs.Headers.{first_size, second_size, third_size, split_sizes}
 
 -- ---- what a filter keeps
-
-all_cond : {X : Type 0} (P : X → Type 0) (t : Bool) (x : X) (xs : List X) → (t ≡ true → P x) → AllByRecursion P xs → AllByRecursion P (cond t (x ∷ xs) xs)
-all_cond P true x xs p h = (p refl, h)
-all_cond P false x xs p h = h
-
--- of a filtered list all holds that holds of each item that passes
-all_filter : {X : Type 0} (P : X → Type 0) (test : X → Bool) (xs : List X) → AllByRecursion (λ x. test x ≡ true → P x) xs → AllByRecursion P (filter test xs)
-all_filter P test [] h = tt
-all_filter P test (x ∷ xs) h = all_cond P (test x) x (filter test xs) h.0 (all_filter P test xs h.1)
-
-all_weaker : {X : Type 0} (P Q : X → Type 0) (xs : List X) → ((x : X) → P x → Q x) → AllByRecursion P xs → AllByRecursion Q xs
-all_weaker P Q [] f h = tt
-all_weaker P Q (x ∷ xs) f h = (f x h.0, all_weaker P Q xs f h.1)
 
 -- each number is at least as large as those behind it
 abbrev Falls : List ℕ → Type 0

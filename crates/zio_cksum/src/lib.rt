@@ -6,4 +6,4 @@
 
 mod laws;
 
-pub use laws::{members_add_up};
+pub use laws::{members_add_up, reads_keep_the_rest, writes_keep_the_rest};

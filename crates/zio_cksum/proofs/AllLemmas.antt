@@ -1,6 +1,6 @@
 -- What holds of each item of a list, by recursion: after a filter, a map, a cut and a join.
-use Rattle.std.proofs.Common.{◌≡◌, ℕ, zero, suc, ◌+◌, ◌<◌, ◌≤◌, List, [], ◌∷◌, ◌++◌, length, get_or, take, drop, map, filter, flat_map, Bool, true, false, cond, refl, sym, ap, ◌∙◌, Contains}
-use Rattle.std.specs.List.{AllByRecursion, All}
+use Rattle.std.proofs.Common.{◌≡◌, ℕ, zero, suc, List, [], ◌∷◌, ◌++◌, take, drop, map, filter, flat_map, Bool, true, false, cond, refl, Contains}
+use Rattle.std.specs.List.{AllByRecursion}
 use Rattle.std.proofs.lemmas.List.Elements.{All-from_recursion, recursion_from_All, All-contains, All-contains_itself, Contains-append_left, Contains-append_right}
 
 all_cond : {X : Type 0} (P : X → Type 0) (t : Bool) (x : X) (xs : List X) → (t ≡ true → P x) → AllByRecursion P xs → AllByRecursion P (cond t (x ∷ xs) xs)
@@ -54,8 +54,9 @@ all_contained xs = recursion_from_All (Contains xs) xs (All-contains_itself xs)
 -- lists joined end to end contain each item of each part
 pub all_parts : {X Y : Type 0} (f : X → List Y) (xs : List X) → AllByRecursion (λ x. AllByRecursion (Contains (flat_map f xs)) (f x)) xs
 all_parts f [] = tt
-all_parts f (x ∷ xs) =
-    (all_weaker (Contains (f x)) (Contains (flat_map f (x ∷ xs))) (f x) (λ y c. Contains-append_left (f x) (flat_map f xs) y c) (all_contained (f x)),
-     all_weaker (λ z. AllByRecursion (Contains (flat_map f xs)) (f z)) (λ z. AllByRecursion (Contains (flat_map f (x ∷ xs))) (f z)) xs
-     (λ z h. all_weaker (Contains (flat_map f xs)) (Contains (flat_map f (x ∷ xs))) (f z) (λ y c. Contains-append_right (f x) (flat_map f xs) y c) h)
-     (all_parts f xs))
+all_parts f (x ∷ xs) = (
+  all_weaker (Contains (f x)) (Contains (flat_map f (x ∷ xs))) (f x) (λ y c. Contains-append_left (f x) (flat_map f xs) y c) (all_contained (f x)),
+  all_weaker (λ z. AllByRecursion (Contains (flat_map f xs)) (f z)) (λ z. AllByRecursion (Contains (flat_map f (x ∷ xs))) (f z)) xs
+      (λ z h. all_weaker (Contains (flat_map f xs)) (Contains (flat_map f (x ∷ xs))) (f z) (λ y c. Contains-append_right (f x) (flat_map f xs) y c) h)
+      (all_parts f xs),
+)

@@ -1,5 +1,5 @@
 -- Bytes that are written over others: how many there are after, and which stay.
-use Rattle.std.proofs.Common.{◌≡◌, ◌≢◌, ℕ, zero, suc, ◌+◌, ◌-◌, ◌<◌, ◌≤◌, min, List, [], ◌∷◌, ◌++◌, length, get_or, set, take, drop, map, slice_get, ◌⊎◌, inl, inr, ⊎_elim, refl, sym, ap, ◌∙◌, subst, arith, length-append, length-take, length-drop, length-set, get_or-set_other, get_or-set_same}
+use Rattle.std.proofs.Common.{◌≡◌, ◌≢◌, ℕ, zero, suc, ◌+◌, ◌-◌, ◌<◌, ◌≤◌, List, [], ◌∷◌, ◌++◌, length, set, take, drop, map, slice_get, ◌⊎◌, inl, inr, ⊎_elim, refl, ap, ◌∙◌, arith, length-append, length-take, length-drop, get_or-set_other, get_or-set_same}
 use Rattle.std.proofs.lemmas.Bool.{cases_lt}
 use Rattle.std.proofs.lemmas.List.{length-map, set_past}
 use Rattle.zio_faults.specs.declared.table.Hit.{Hit}
@@ -67,10 +67,16 @@ overwritten_outside image at bytes i h out =
 pub length-flipped : (at : ℕ) (hit : Hit) (bytes : List ℕ) → length (flipped at hit bytes) ≡ length bytes
 length-flipped at hit bytes =
     let a : ℕ = hit.at - at in
-    omega (arith, length-append (take a bytes ++ map inverted (take hit.len (drop a bytes))) (drop (a + hit.len) bytes),
+    omega (
+      arith,
+      length-append (take a bytes ++ map inverted (take hit.len (drop a bytes))) (drop (a + hit.len) bytes),
       length-append (take a bytes) (map inverted (take hit.len (drop a bytes))),
       length-map (take hit.len (drop a bytes)) inverted,
-      length-take a bytes, length-take hit.len (drop a bytes), length-drop a bytes, length-drop (a + hit.len) bytes)
+      length-take a bytes,
+      length-take hit.len (drop a bytes),
+      length-drop a bytes,
+      length-drop (a + hit.len) bytes,
+    )
 
 -- ---- one leaf's image among all
 

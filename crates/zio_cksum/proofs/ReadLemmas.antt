@@ -1,7 +1,6 @@
 -- A read leaves the images as they were outside what it repairs, and what it finds is good and as long as was asked.
-use Rattle.std.proofs.Common.{◌≡◌, ℕ, ◌+◌, ◌-◌, ◌/◌, ◌%◌, ◌≤◌, List, [], ◌∷◌, length, map, take, drop, min, Bool, true, false, Option, Some, None, Result, Ok, Err, IfOk, IfSome, IsTrue, Contains, subst, sym, refl, ap, ◌∙◌, arith, length-take, length-drop}
+use Rattle.std.proofs.Common.{◌≡◌, ℕ, ◌+◌, ◌/◌, ◌%◌, ◌≤◌, List, [], ◌∷◌, length, map, take, drop, Bool, true, false, Option, Some, None, Result, Ok, Err, IfOk, IfSome, IsTrue, Contains, subst, sym, refl, arith, length-take, length-drop}
 use Rattle.std.specs.List.{AllByRecursion}
-use Rattle.std.proofs.lemmas.Result.{IfOk-weaker}
 use Rattle.zio_types.specs.declared.error.Errno.{Errno}
 use Rattle.zio_types.specs.declared.place.Place.{Place}
 use Rattle.zio_faults.specs.declared.table.Hit.{Hit}
@@ -9,14 +8,15 @@ use Rattle.zio_faults.specs.declared.table.FaultKind.{FaultKind}
 use Rattle.zio_faults.specs.declared.table.FaultKind.TheVariants.{Eio, Gone, Flip}
 use Rattle.zio_cksum.specs.Headers.{offset_of}
 use Rattle.zio_cksum.specs.Images.{Images, Setting, Spot, image_of, bytes_at, met, faulty_read, read_met, read_leaf, write_leaf}
-use Rattle.zio_cksum.specs.Blocks.{Tried, Pass, Read, spot_in, leaves_of, read_order, rotated, judged, judged_by, first_good, then_others, read_place, passed_with, read_pass, repaired, repaired_if, last_pass_with, first_pass_with, read_block, turn_size}
+use Rattle.zio_cksum.specs.Blocks.{Tried, Pass, spot_in, leaves_of, read_order, judged, judged_by, first_good, then_others, read_place, passed_with, read_pass, repaired, repaired_if, last_pass_with, first_pass_with, read_block, turn_size}
 use Rattle.zio_cksum.specs.Frames.{FitSpots, SameOutside, spots_of}
-use Rattle.zio_cksum.proofs.AllLemmas.{all_contains, all_weaker, all_append, all_take, all_drop, all_map, all_unmap, all_contained, all_true}
+use Rattle.zio_cksum.proofs.AllLemmas.{all_weaker, all_append, all_take, all_drop, all_map, all_unmap, all_contained, all_true}
 use Rattle.zio_cksum.proofs.ByteLemmas.{length-flipped}
-use Rattle.zio_cksum.proofs.FrameLemmas.{AreAmong, places_among, same_itself, same_then, fit_same, write_same}
+use Rattle.zio_cksum.proofs.FrameLemmas.{AreAmong, places_among, same_itself, same_then, fit_same, spot_fits, write_same}
 
 -- ---- one leaf
 
+-- where they lie on the image, as many bytes are there as were asked
 length-bytes_at : (images : Images) (spot : Spot) (len : ℕ) → spot.at + len ≤ length (image_of images spot.leaf) → length (bytes_at images spot len) ≡ len
 length-bytes_at images spot len fit =
     omega (arith, length-take len (drop spot.at (image_of images spot.leaf)), length-drop spot.at (image_of images spot.leaf))
@@ -46,6 +46,7 @@ judged_by_keeps : (Q : List ℕ → Type 0) (t : Bool) (bytes : List ℕ) → Q 
 judged_by_keeps Q true bytes h = h
 judged_by_keeps Q false bytes h = tt
 
+-- a verdict changes no bytes
 judged_keeps : (Q : List ℕ → Type 0) (good : List ℕ → Bool) (r : Result (List ℕ) Errno) → IfOk r Q → IfOk (judged good r) Q
 judged_keeps Q good (Ok bytes) h = judged_by_keeps Q (good bytes) bytes h
 judged_keeps Q good (Err e) h = tt
@@ -90,34 +91,37 @@ order_has P offset leaves h =
 leaves_among : (spots : List Spot) (s : Setting) (p : Place) → AreAmong spots s p → AllByRecursion (λ leaf. Contains spots (spot_in p leaf)) (leaves_of s p)
 leaves_among spots s p h = all_unmap (Contains spots) (spot_in p) (leaves_of s p) h
 
+-- where its copies lie on their leaves, a place gives as many bytes as were asked
 place_length : (spots : List Spot) (s : Setting) (retry : Bool) (good : List ℕ → Bool) (images : Images) (len : ℕ) (p : Place) → FitSpots spots len images → AreAmong spots s p → IfSome ((read_place s retry good images len p).found) (λ b. length b ≡ len)
 place_length spots s retry good images len p fit among =
     found_has (λ b. length b ≡ len) (λ leaf. judged good (read_leaf s retry images len (spot_in p leaf))) (read_order (offset_of p) (leaves_of s p))
     (order_has (λ leaf. IfOk (judged good (read_leaf s retry images len (spot_in p leaf))) (λ b. length b ≡ len)) (offset_of p) (leaves_of s p)
-        (all_weaker (λ leaf. Contains spots (spot_in p leaf)) (λ leaf. IfOk (judged good (read_leaf s retry images len (spot_in p leaf))) (λ b. length b ≡ len)) (leaves_of s p)
-            (λ leaf c. judged_keeps (λ b. length b ≡ len) good (read_leaf s retry images len (spot_in p leaf))
-                (leaf_length s retry images len (spot_in p leaf)
-                    (all_contains (λ (t : Spot). t.at + len ≤ length (image_of images t.leaf)) spots (spot_in p leaf) fit c)))
-            (leaves_among spots s p among)))
+    (all_weaker (λ leaf. Contains spots (spot_in p leaf)) (λ leaf. IfOk (judged good (read_leaf s retry images len (spot_in p leaf))) (λ b. length b ≡ len)) (leaves_of s p)
+    (λ leaf c. judged_keeps (λ b. length b ≡ len) good (read_leaf s retry images len (spot_in p leaf))
+    (leaf_length s retry images len (spot_in p leaf)
+    (spot_fits spots len images (spot_in p leaf) fit c)))
+    (leaves_among spots s p among)))
 
+-- what a place gives is good
 place_good : (s : Setting) (retry : Bool) (good : List ℕ → Bool) (images : Images) (len : ℕ) (p : Place) → IfSome ((read_place s retry good images len p).found) (λ b. IsTrue (good b))
 place_good s retry good images len p =
     found_has (λ b. IsTrue (good b)) (λ leaf. judged good (read_leaf s retry images len (spot_in p leaf))) (read_order (offset_of p) (leaves_of s p))
     (all_true (λ leaf. IfOk (judged good (read_leaf s retry images len (spot_in p leaf))) (λ b. IsTrue (good b))) (read_order (offset_of p) (leaves_of s p))
-        (λ leaf. judged_good good (read_leaf s retry images len (spot_in p leaf))))
+    (λ leaf. judged_good good (read_leaf s retry images len (spot_in p leaf))))
 
+-- a place gives at most as many bytes as were asked
 place_at_most : (s : Setting) (retry : Bool) (good : List ℕ → Bool) (images : Images) (len : ℕ) (p : Place) → IfSome ((read_place s retry good images len p).found) (λ b. length b ≤ len)
 place_at_most s retry good images len p =
     found_has (λ b. length b ≤ len) (λ leaf. judged good (read_leaf s retry images len (spot_in p leaf))) (read_order (offset_of p) (leaves_of s p))
     (all_true (λ leaf. IfOk (judged good (read_leaf s retry images len (spot_in p leaf))) (λ b. length b ≤ len)) (read_order (offset_of p) (leaves_of s p))
-        (λ leaf. judged_keeps (λ b. length b ≤ len) good (read_leaf s retry images len (spot_in p leaf)) (leaf_at_most s retry images len (spot_in p leaf))))
+    (λ leaf. judged_keeps (λ b. length b ≤ len) good (read_leaf s retry images len (spot_in p leaf)) (leaf_at_most s retry images len (spot_in p leaf))))
 
 -- leaves that failed lie at the place's spots
 place_failed : (spots : List Spot) (s : Setting) (retry : Bool) (good : List ℕ → Bool) (images : Images) (len : ℕ) (p : Place) → AreAmong spots s p → AllByRecursion (Contains spots) (map (spot_in p) ((read_place s retry good images len p).failed))
 place_failed spots s retry good images len p among =
     all_map (Contains spots) (spot_in p) ((read_place s retry good images len p).failed)
     (failed_has (λ leaf. Contains spots (spot_in p leaf)) (λ leaf. judged good (read_leaf s retry images len (spot_in p leaf))) (read_order (offset_of p) (leaves_of s p))
-        (order_has (λ leaf. Contains spots (spot_in p leaf)) (offset_of p) (leaves_of s p) (leaves_among spots s p among)))
+    (order_has (λ leaf. Contains spots (spot_in p leaf)) (offset_of p) (leaves_of s p) (leaves_among spots s p among)))
 
 -- ---- one pass
 
@@ -176,6 +180,7 @@ block_found Q s repair good images len places h =
     first_found Q (read_pass s false good images len places).found s repair images (read_pass s false good images len places) (λ retry. read_pass s retry good images len places)
     (pass_found Q s false good images len places (h false)) (pass_found Q s true good images len places (h true))
 
+-- a read changes nothing outside the spots, where each pass repairs these alone and finds as many bytes as fit them
 last_same : (found : Option (List ℕ)) (all : List Spot) (len : ℕ) (s : Setting) (repair : Bool) (images : Images) (pass : Pass) → IfSome found (λ b. length b ≡ len) → AllByRecursion (Contains all) pass.repairs → FitSpots all len images → SameOutside all len images ((last_pass_with found s repair images pass).images)
 last_same (Some bytes) all len s repair images pass e h fit = repaired_if_same repair all len s true bytes pass.repairs images e h fit
 last_same None all len s repair images pass e h fit = same_itself all len images
@@ -184,6 +189,7 @@ first_same : (found : Option (List ℕ)) (all : List Spot) (len : ℕ) (s : Sett
 first_same (Some bytes) all len s repair images pass pass_in e h e2 h2 fit = repaired_if_same repair all len s false bytes pass.repairs images e h fit
 first_same None all len s repair images pass pass_in e h e2 h2 fit = last_same (pass_in true).found all len s repair images (pass_in true) e2 h2 fit
 
+-- without repair a read changes nothing
 last_without : (found : Option (List ℕ)) (s : Setting) (images : Images) (pass : Pass) → (last_pass_with found s false images pass).images ≡ images
 last_without (Some bytes) s images pass = refl
 last_without None s images pass = refl

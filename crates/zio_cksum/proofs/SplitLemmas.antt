@@ -1,6 +1,6 @@
 -- The members of a gang add up to its block, in whole sectors, and don't grow.
-use Rattle.std.proofs.Common.{◌≡◌, ℕ, zero, suc, ◌+◌, ◌-◌, ◌*◌, ◌/◌, ◌%◌, ◌<◌, ◌≤◌, List, [], ◌∷◌, length, get_or, sum, sum_by, filter, AllPairs, Bool, true, false, cond, nat_lt, refl, sym, ap, ◌∙◌, subst, arith, ltb-true, ltb-false}
-use Rattle.std.specs.List.{AllByRecursion, All}
+use Rattle.std.proofs.Common.{◌≡◌, ℕ, zero, suc, ◌+◌, ◌-◌, ◌*◌, ◌/◌, ◌%◌, ◌<◌, ◌≤◌, List, [], ◌∷◌, length, sum, filter, AllPairs, Bool, true, false, cond, nat_lt, refl, sym, ap, ◌∙◌, subst, arith, ltb-true, ltb-false}
+use Rattle.std.specs.List.{AllByRecursion}
 use Rattle.std.proofs.lemmas.List.Elements.{All-from_recursion}
 use Rattle.std.proofs.lemmas.List.Sums.{sum_by-cons}
 use Rattle.zio_cksum.proofs.AllLemmas.{all_filter, all_weaker}
@@ -13,6 +13,7 @@ abbrev Falls : List ℕ → Type 0
 Falls [] = Unit {0}
 Falls (x ∷ xs) = AllByRecursion (λ y. y ≤ x) xs × Falls xs
 
+-- a filter keeps the order
 falls_cond : (t : Bool) (x : ℕ) (xs : List ℕ) → AllByRecursion (λ y. y ≤ x) xs → Falls xs → Falls (cond t (x ∷ xs) xs)
 falls_cond true x xs a h = (a, h)
 falls_cond false x xs a h = h
@@ -24,6 +25,7 @@ falls_filter test (x ∷ xs) h =
     (all_filter (λ y. y ≤ x) test xs (all_weaker (λ y. y ≤ x) (λ y. test y ≡ true → y ≤ x) xs (λ y p e. p) h.0))
     (falls_filter test xs h.1)
 
+-- so of any two items the later is at most the earlier
 pairs_fall : (xs : List ℕ) → Falls xs → AllPairs (λ a b. b ≤ a) xs
 pairs_fall [] h i j d lt in' = absurd (omega arith)
 pairs_fall (x ∷ xs) h zero zero d lt in' = absurd (omega arith)
@@ -40,11 +42,12 @@ sum_filter : (xs : List ℕ) → sum (filter (λ n. nat_lt 0 n) xs) ≡ sum xs
 sum_filter [] = refl
 sum_filter (x ∷ xs) =
     let e : sum (cond (nat_lt 0 x) (x ∷ filter (λ n. nat_lt 0 n) xs) (filter (λ n. nat_lt 0 n) xs)) ≡ x + sum (filter (λ n. nat_lt 0 n) xs) =
-        sum_cond (nat_lt 0 x) x (filter (λ n. nat_lt 0 n) xs) (λ z. let l : x ≤ 0 = ltb-false 0 x z in omega arith) in
+    sum_cond (nat_lt 0 x) x (filter (λ n. nat_lt 0 n) xs) (λ z. let l : x ≤ 0 = ltb-false 0 x z in omega arith) in
     let r : sum (filter (λ n. nat_lt 0 n) xs) ≡ sum xs = sum_filter xs in
     let s : sum (x ∷ xs) ≡ x + sum xs = sum_by-cons (λ y. y) x xs in
     omega arith
 
+-- a filter keeps no more than there is
 length_cond : {X : Type 0} (t : Bool) (x : X) (xs : List X) → length (cond t (x ∷ xs) xs) ≤ suc (length xs)
 length_cond true x xs = omega arith
 length_cond false x xs = omega arith
@@ -63,6 +66,7 @@ first_is k = omega arith
 half_is : (r : ℕ) → (512 * r / 2 + 511) / 512 * 512 ≡ 512 * ((r + 1) / 2)
 half_is r = omega arith
 
+-- whole sectors stay as they are
 whole_is : (r : ℕ) → (512 * r + 511) / 512 * 512 ≡ 512 * r
 whole_is r = omega arith
 
@@ -75,18 +79,13 @@ record Shares (size a b c : ℕ) : Type 0 where
   first_second : b ≤ a
   second_third : c ≤ b
 
-first_below : (k : ℕ) → (k + 2) / 3 ≤ k
-first_below k = omega arith
-
-second_below : (k : ℕ) → (k - (k + 2) / 3 + 1) / 2 ≤ (k + 2) / 3
-second_below k = omega arith
-
+-- a number of whole sectors is shared so: a third, half of the rest, and the rest, the first two rounded up
 shares_of : (k a b c : ℕ) → a ≡ (k + 2) / 3 → b ≡ (k - a + 1) / 2 → c ≡ k - a - b → Shares (512 * k) a b c
 shares_of k a b c ea eb ec =
     let f : first_size (512 * k) ≡ 512 * a = first_is k ∙ ap (λ n. 512 * n) (sym ea) in
     let left : 512 * k - first_size (512 * k) ≡ 512 * (k - a) = omega arith in
     let s : second_size (512 * k) ≡ 512 * b =
-        ap (λ n. (n / 2 + 511) / 512 * 512) left ∙ half_is (k - a) ∙ ap (λ n. 512 * n) (sym eb) in
+    ap (λ n. (n / 2 + 511) / 512 * 512) left ∙ half_is (k - a) ∙ ap (λ n. 512 * n) (sym eb) in
     let last : 512 * k - first_size (512 * k) - second_size (512 * k) ≡ 512 * c = omega arith in
     let t : third_size (512 * k) ≡ 512 * c = ap (λ n. (n + 511) / 512 * 512) last ∙ whole_is c in
     record {
@@ -98,12 +97,14 @@ shares_of k a b c ea eb ec =
       second_third = omega arith;
     }
 
+-- some numbers of sectors for the three
 record Sizes (size : ℕ) : Type 0 where
   a : ℕ
   b : ℕ
   c : ℕ
   shares : Shares size a b c
 
+-- each number of whole sectors has them
 sizes_of : (size : ℕ) → size % 512 ≡ 0 → Sizes size
 sizes_of size h =
     let k : ℕ = size / 512 in
@@ -131,10 +132,13 @@ total_law size h = sum_filter (all_sizes size) ∙ sum_sizes size (sizes_of size
 pub whole_law : (size : ℕ) → size % 512 ≡ 0 → AllByRecursion (λ n. (0 < n) × (n % 512 ≡ 0)) (split_sizes size)
 whole_law size h =
     let w = sizes_of size h in
-    all_filter (λ n. (0 < n) × (n % 512 ≡ 0)) (λ n. nat_lt 0 n) (all_sizes size)
-    ((λ t. (ltb-true 0 (first_size size) t, omega (arith, w.shares.first))),
-     ((λ t. (ltb-true 0 (second_size size) t, omega (arith, w.shares.second))),
-      ((λ t. (ltb-true 0 (third_size size) t, omega (arith, w.shares.third))), tt)))
+    all_filter (λ n. (0 < n) × (n % 512 ≡ 0)) (λ n. nat_lt 0 n) (all_sizes size) (
+      (λ t. (ltb-true 0 (first_size size) t, omega (arith, w.shares.first))),
+      (
+        (λ t. (ltb-true 0 (second_size size) t, omega (arith, w.shares.second))),
+        ((λ t. (ltb-true 0 (third_size size) t, omega (arith, w.shares.third))), tt),
+      ),
+    )
 
 pub falling_law : (size : ℕ) → size % 512 ≡ 0 → AllPairs (λ a b. b ≤ a) (split_sizes size)
 falling_law size h =

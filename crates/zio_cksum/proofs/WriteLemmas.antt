@@ -17,16 +17,19 @@ turn_same P spots len write (x ∷ xs) images one h fit =
     same_then spots len images now _ first
     (turn_same P spots len write xs now one h.1 (fit_same spots spots len len images now first fit))
 
+-- the writes of one place
 place_same : (spots : List Spot) (len : ℕ) (s : Setting) (retry : Bool) (bytes : List ℕ) (p : Place) (images : Images) → length bytes ≡ len → AreAmong spots s p → FitSpots spots len images → SameOutside spots len images ((write_place s retry bytes images p).images)
 place_same spots len s retry bytes p images e among fit =
     turn_same (Contains spots) spots len (write_leaf s retry bytes) (map (spot_in p) (leaves_of s p)) images
     (λ spot now c f. write_same spots len s retry bytes now spot e f c) among fit
 
+-- the writes of all places
 pass_same : (spots : List Spot) (len : ℕ) (s : Setting) (retry : Bool) (bytes : List ℕ) (places : List Place) (images : Images) → length bytes ≡ len → AllByRecursion (AreAmong spots s) places → FitSpots spots len images → SameOutside spots len images ((write_pass s retry bytes places images).images)
 pass_same spots len s retry bytes places images e among fit =
     turn_same (AreAmong spots s) spots len (write_place s retry bytes) places images
     (λ p now a f. place_same spots len s retry bytes p now e a f) among fit
 
+-- what is written again after an error
 again_same : (error : Option Errno) (spots : List Spot) (len : ℕ) (images : Images) (w : Written) (again : Images → Written) → SameOutside spots len images w.images → ((now : Images) → SameOutside spots len images now → SameOutside spots len now ((again now).images)) → SameOutside spots len images ((again_with error w again).images)
 again_same None spots len images w again h more = h
 again_same (Some e) spots len images w again h more = same_then spots len images w.images _ h (more w.images h)

@@ -3,3 +3,7 @@
 //! It stands on `zio_types`, `zio_blkptr` and `zio_faults`. Its definitions stand in `specs/`: read
 //! `specs/Images` first, then `specs/Blocks`; `specs/Headers` has the gang header.
 #![tactic(auto)]
+
+mod laws;
+
+pub use laws::{members_add_up, reads_keep_the_rest, writes_keep_the_rest};

@@ -13,7 +13,6 @@ use Rattle.zio_types.specs.Choices.{Ask, Choice}
 use Rattle.zio_types.specs.Errors.{worst_error, worst_of}
 use Rattle.zio_blkptr.specs.declared.pointer.Bp.{Bp}
 use Rattle.zio_blkptr.specs.declared.pointer.SumKind.{SumKind}
-use Rattle.zio_script.specs.declared.script.Body.{Body}
 use Rattle.zio_script.specs.declared.script.Failmode.{Failmode}
 use Rattle.zio_script.specs.declared.script.Failmode.TheVariants.{Wait, Continue, Panic}
 use Rattle.zio_script.specs.declared.script.Request.{Request}

@@ -2,7 +2,6 @@
 -- the requests that finished in it, each after its children.
 use Rattle.std.specs.Prelude.{◌≡◌, ℕ, List, [], ◌∷◌, ◌++◌, map, filter, Bool, true, false, ◌&&◌, IsTrue, Contains, ◌==◌}
 use Rattle.std.specs.List.{AllByRecursion, list_any}
-use Rattle.zio_types.specs.declared.error.Errno.{Errno}
 use Rattle.zio_types.specs.declared.journal.Completion.{Completion}
 use Rattle.zio_types.specs.declared.place.Place.{Place}
 use Rattle.zio_types.specs.Choices.{Ask, Choice, is_refused, same_key}

@@ -1,6 +1,6 @@
 -- One round: the names that are bound, the trees of a batch, which of them are answered by admission, and what running
 -- the others leaves.
-use Rattle.std.specs.Prelude.{ℕ, ◌+◌, List, [], ◌∷◌, ◌++◌, map, filter, find, Bool, true, false, ◌&&◌, ◌||◌, not, Option, Some, None, option_map, is_some, is_none, ◌==◌, bytes_eq}
+use Rattle.std.specs.Prelude.{ℕ, List, [], ◌∷◌, ◌++◌, map, filter, find, Bool, true, false, ◌&&◌, ◌||◌, not, Option, Some, None, option_map, is_some, ◌==◌, bytes_eq}
 use Rattle.std.specs.List.{flat_map, list_any}
 use Rattle.zio_types.specs.declared.error.Errno.{Errno}
 use Rattle.zio_types.specs.declared.error.Errno.TheVariants.{Io, Noent, Exist}

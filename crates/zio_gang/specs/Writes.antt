@@ -1,10 +1,9 @@
 -- What a write stores, and where: its content, the asks for places, and the gang that takes the place of a block for
 -- which no run is free.
-use Rattle.std.specs.Prelude.{ℕ, zero, suc, ◌+◌, ◌-◌, ◌%◌, min, List, [], ◌∷◌, ◌++◌, length, map, take, drop, replicate, find, slice_index_or, Bool, true, false, Option, Some, None, nat_le}
+use Rattle.std.specs.Prelude.{ℕ, zero, suc, ◌+◌, ◌-◌, ◌%◌, min, List, [], ◌∷◌, ◌++◌, length, take, drop, replicate, find, slice_index_or, Bool, true, false, Option, Some, None, nat_le}
 use Rattle.std.specs.List.{flat_map}
 use Rattle.zio_types.specs.declared.error.Errno.{Errno}
 use Rattle.zio_types.specs.declared.error.Errno.TheVariants.{Nospc}
-use Rattle.zio_types.specs.declared.journal.Key.{Key}
 use Rattle.zio_types.specs.declared.journal.Role.{Role}
 use Rattle.zio_types.specs.declared.journal.Role.TheVariants.{Body, Head as HeadRole}
 use Rattle.zio_types.specs.declared.place.Place.{Place}

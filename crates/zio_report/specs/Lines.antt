@@ -1,5 +1,5 @@
 -- The text of one round. docs/FORMATS.md, "Report".
-use Rattle.std.specs.Prelude.{ℕ, List, [], ◌∷◌, ◌++◌, length, map, slice_index, Bool, true, false, Option, Some, None, decimal, codes}
+use Rattle.std.specs.Prelude.{ℕ, List, [], ◌∷◌, ◌++◌, length, slice_index, Bool, true, false, Option, Some, None, decimal, codes}
 use Rattle.std.specs.Fmt.{radix_digits}
 use Rattle.std.specs.List.{flat_map}
 use Rattle.hex.specs.Hex.{encode_lower}

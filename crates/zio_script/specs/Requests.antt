@@ -1,5 +1,5 @@
 -- What is asked of requests all over: their kinds, the blocks that they name, and whether they change one.
-use Rattle.std.specs.Prelude.{ℕ, List, [], ◌∷◌, Bool, true, false, Option, Some, None, ◌==◌}
+use Rattle.std.specs.Prelude.{ℕ, List, Bool, true, false, Option, Some, None, ◌==◌}
 use Rattle.zio_types.specs.declared.request.Kind.{Kind}
 use Rattle.zio_types.specs.declared.request.Kind.TheVariants.{Null as NullKind, Read as ReadKind, Write as WriteKind, Free as FreeKind, Claim as ClaimKind}
 use Rattle.zio_script.specs.declared.script.Request.{Request}

@@ -315,6 +315,19 @@ attempt_each t attempt [] returns images = record { returns = returns; ended = [
 attempt_each t attempt (p ∷ ps) returns images =
     then_attempt returns (attempt_one t attempt p returns images) (attempt_each t attempt ps)
 
+abbrev pub added_attempt : Attempt → Attempt → Attempt
+added_attempt front rest = record {
+  returns = rest.returns;
+  ended = front.ended ++ rest.ended;
+  again = front.again ++ rest.again;
+  asks = front.asks ++ rest.asks;
+  images = rest.images;
+}
+
+-- an attempt that goes on with what it handed on
+abbrev pub joined_attempt : Attempt → (List Return → Images → Attempt) → Attempt
+joined_attempt front rest = added_attempt front (rest front.returns front.images)
+
 abbrev pub attempt_tree : Terms → ℕ → List Pending → Images → Attempt
 attempt_tree t attempt tree images = attempt_each t attempt tree [] images
 

@@ -7,7 +7,9 @@
 #![tactic(auto)]
 
 mod ending;
+mod laws;
 mod tree;
 
 pub use ending::Ending;
+pub use laws::{bound_names_are_a_map, trees_are_attempted_in_turn};
 pub use tree::{Head, Header, Split, Tree};

@@ -1,0 +1,24 @@
+ghost use Rattle.std.specs.Prelude.{◌≡◌, ◌≢◌, ◌++◌, ℕ, List, None, Some};
+ghost use Rattle.zio_cksum.specs.Images.{Images};
+ghost use Rattle.zio_gang.specs.declared.tree.Tree.{Tree};
+ghost use Rattle.zio_gang.specs.Attempts.{Pending, Return, Terms, attempt_each, joined_attempt};
+ghost use Rattle.zio_gang.specs.Rounds.{Bound, bind, block_of, unbind};
+
+/// The bound names are a map: a name that is bound has its block, one that is unbound has none, and no other name
+/// is touched.
+pub fn bound_names_are_a_map()
+    ensures bound { (name : List ℕ) (tree : Tree) (bound : Bound) → block_of (bind name tree bound) name ≡ Some tree }
+    ensures unbound { (name : List ℕ) (bound : Bound) → block_of (unbind name bound) name ≡ None }
+    ensures others_bound { (name other : List ℕ) (tree : Tree) (bound : Bound) → other ≢ name →
+        block_of (bind name tree bound) other ≡ block_of bound other }
+    ensures others_unbound { (name other : List ℕ) (bound : Bound) → other ≢ name →
+        block_of (unbind name bound) other ≡ block_of bound other }
+{}
+
+/// A list of trees is attempted as its front is, and then as its rest is with what the front handed on: so a request
+/// is attempted as its children's trees are, one after another, and then it itself.
+pub fn trees_are_attempted_in_turn()
+    ensures { (t : Terms) (attempt : ℕ) (front rest : List Pending) (returns : List Return) (images : Images) →
+        attempt_each t attempt (front ++ rest) returns images
+        ≡ joined_attempt (attempt_each t attempt front returns images) (attempt_each t attempt rest) }
+{}

@@ -2,5 +2,7 @@
 #![tactic(auto)]
 
 mod blocks;
+mod families;
 
 pub use blocks::blocks_are_written_and_read;
+pub use families::families_finish_together;

@@ -1,3 +1,4 @@
 pub mod Blocks
 pub mod Families
 pub mod Scripts
+pub mod Suspension

@@ -99,13 +99,13 @@ choice request round attempt path role size copies places = record {
   places = places;
 }
 
+abbrev pub script : Failmode → List (List ℕ) → List Row → List Item → Script
+script failmode tops rows items = record { failmode = failmode; tops = tops; faults = rows; items = items }
+
 -- a row over so many sectors of a leaf, from this one on
 abbrev pub row_over : ℕ → On → ℕ → ℕ → ℕ → ℕ → FaultKind → Row
 row_over leaf on sector sectors from until kind =
     record (row leaf on from until kind) { at = sector * sector_size; len = sectors * sector_size }
-
-abbrev pub script : Failmode → List (List ℕ) → List Row → List Item → Script
-script failmode tops rows items = record { failmode = failmode; tops = tops; faults = rows; items = items }
 
 -- ---- what a run shows and leaves
 
@@ -128,6 +128,11 @@ report s images choices = shown s images choices [] false false (run_script s im
 abbrev pub images_after : Script → Images → List Choice → Images
 images_after s images choices = (run_script s images choices).state.images
 
+-- the lines of a text
+abbrev pub lines : List String → List ℕ
+lines [] = []
+lines (text ∷ texts) = codes text ++ 10 ∷ lines texts
+
 -- the requests of a script's lines
 abbrev pub requests_of : List Item → List Request
 requests_of [] = []
@@ -148,8 +153,3 @@ abbrev pub bytes_read : Script → Images → List Choice → ℕ → List ℕ
 bytes_read s images choices number =
     flat_map (λ (e : Ended). e.bytes)
     (filter (λ (e : Ended). e.request.number == number) (all_ended ((run_script s images choices).events)))
-
--- the lines of a text
-abbrev pub lines : List String → List ℕ
-lines [] = []
-lines (text ∷ texts) = codes text ++ 10 ∷ lines texts

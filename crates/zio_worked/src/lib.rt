@@ -3,6 +3,8 @@
 
 mod blocks;
 mod families;
+mod suspension;
 
 pub use blocks::blocks_are_written_and_read;
 pub use families::families_finish_together;
+pub use suspension::suspended_trees_wait_for_a_clear;

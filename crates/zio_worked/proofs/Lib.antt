@@ -1,3 +1,4 @@
+pub mod AdmissionCases
 pub mod BlockCases
 pub mod Evaluation
 pub mod FamilyCases

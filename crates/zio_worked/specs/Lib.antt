@@ -1,3 +1,4 @@
+pub mod Admission
 pub mod Blocks
 pub mod Families
 pub mod Scripts

@@ -1,10 +1,12 @@
 //! Worked cases: small scripts, evaluated by the checker.
 #![tactic(auto)]
 
+mod admission;
 mod blocks;
 mod families;
 mod suspension;
 
+pub use admission::admission_answers_whole_trees;
 pub use blocks::blocks_are_written_and_read;
 pub use families::families_finish_together;
 pub use suspension::suspended_trees_wait_for_a_clear;

@@ -1,6 +1,7 @@
 ghost use Rattle.zio_worked.specs.Suspension.{FourthAttemptSuspends, FourAttemptsAsk, WaitingComesFirst, WaitingAsksOnce, NextBatchIsHeld, NextBatchGoesOn, PanicEndsTheRun, ClearResumes, ClearRaisesThePoint, SecondBatchStaysHeld, SecondClearRunsTheRest, NoSpaceSuspends, NoSpaceAsksOnce, NoSpaceFails, FreedSpaceServesLater};
 
-/// A tree that can't go on is suspended after four attempts, or at once where it waits for a device or for space, until a clear.
+/// A tree that can't go on is suspended until a clear: after four attempts, or at once where it waits for a device or
+/// for space.
 pub fn suspended_trees_wait_for_a_clear()
     ensures fourth_attempt_suspends { FourthAttemptSuspends }
     ensures four_attempts_ask { FourAttemptsAsk }

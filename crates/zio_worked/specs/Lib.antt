@@ -1,5 +1,6 @@
 pub mod Admission
 pub mod Blocks
+pub mod ErrorRanks
 pub mod Families
 pub mod Scripts
 pub mod Suspension

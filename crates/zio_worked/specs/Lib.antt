@@ -2,5 +2,6 @@ pub mod Admission
 pub mod Blocks
 pub mod ErrorRanks
 pub mod Families
+pub mod LawfulJournals
 pub mod Scripts
 pub mod Suspension

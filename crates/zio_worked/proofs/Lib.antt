@@ -1,6 +1,7 @@
 pub mod Absent
 pub mod AdmissionCases
 pub mod BlockCases
+pub mod CompletionCases
 pub mod ErrorCases
 pub mod Evaluation
 pub mod FamilyCases

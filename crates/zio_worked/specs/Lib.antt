@@ -1,5 +1,6 @@
 pub mod Admission
 pub mod Blocks
+pub mod Completions
 pub mod ErrorRanks
 pub mod Families
 pub mod LawfulJournals

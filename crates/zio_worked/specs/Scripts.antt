@@ -2,6 +2,7 @@
 use Prim.Native.String.{String}
 use Rattle.std.specs.Prelude.{ℕ, ◌*◌, List, [], ◌∷◌, ◌++◌, length, filter, replicate, Bool, true, false, Option, Some, None, codes, ◌==◌}
 use Rattle.std.specs.List.{flat_map}
+use Rattle.zio_types.specs.declared.error.Errno.{Errno}
 use Rattle.zio_types.specs.declared.journal.Completion.{Completion}
 use Rattle.zio_types.specs.declared.journal.Role.{Role}
 use Rattle.zio_types.specs.declared.place.Place.{Place}
@@ -106,6 +107,10 @@ script failmode tops rows items = record { failmode = failmode; tops = tops; fau
 abbrev pub row_over : ℕ → On → ℕ → ℕ → ℕ → ℕ → FaultKind → Row
 row_over leaf on sector sectors from until kind =
     record (row leaf on from until kind) { at = sector * sector_size; len = sectors * sector_size }
+
+-- the end of a request in a round
+abbrev pub completion : ℕ → ℕ → Option Errno → Completion
+completion request round error = record { request = request; round = round; error = error }
 
 -- ---- what a run shows and leaves
 

@@ -1,6 +1,5 @@
-use Rattle.std.proofs.Common.{◌&&◌, [], ◌∷◌, Some, None, is_none, true≢false, refl, sym, map, flat_map, lit<, ◌==◌}
+use Rattle.std.proofs.Common.{◌&&◌, [], ◌∷◌, is_none, true≢false, refl, lit<, ◌==◌}
 use Rattle.zio_types.specs.declared.journal.Completion.{Completion}
-use Rattle.zio_gang.specs.Journals.{completion_of}
 use Rattle.zio_worked.proofs.Absent.{not_contained}
 use Rattle.zio_worked.proofs.Evaluation.{evaluation}
 use Rattle.zio_worked.specs.Completions.{for_write, for_null, for_read, good_read, early_read, gone_read, AllComplete, NumberTwice, ChildAfterParent, OneIsMissing, OtherError, OtherRound, SuspendedAreLeft, SuspendedCompletes, EachInItsRound, AnsweredComplete}

@@ -1,6 +1,6 @@
 use Rattle.std.proofs.Common.{refl}
 use Rattle.zio_worked.proofs.Evaluation.{evaluation}
-use Rattle.zio_worked.specs.Families.{WriteOverTwoWrites, PointersStandInFront, ChildGoesAgain, FinishedChildIsKept, NullOverBadRead, NullOverGoneRead, NullOverGoneReadGoesOn, ChildErrorBindsNothing, ZerosForNoPlace, ChildrenComeFirst, FamiliesAreApart}
+use Rattle.zio_worked.specs.Families.{WriteOverTwoWrites, PointersStandInFront, WritesNest, ChildGoesAgain, FinishedChildIsKept, NullOverBadRead, NullOverGoneRead, NullOverGoneReadGoesOn, ChildErrorBindsNothing, ZerosForNoPlace, UnwrittenChildFails, UnwrittenChildHasPointer, ChildrenComeFirst, FamiliesAreApart}
 
 pub write_over_two_writes : WriteOverTwoWrites
 unfolding evaluation
@@ -9,6 +9,10 @@ write_over_two_writes = refl
 pub pointers_stand_in_front : PointersStandInFront
 unfolding evaluation
 pointers_stand_in_front = refl
+
+pub writes_nest : WritesNest
+unfolding evaluation
+writes_nest = refl
 
 pub child_goes_again : ChildGoesAgain
 unfolding evaluation
@@ -37,6 +41,14 @@ child_error_binds_nothing = refl
 pub zeros_for_no_place : ZerosForNoPlace
 unfolding evaluation
 zeros_for_no_place = refl
+
+pub unwritten_child_fails : UnwrittenChildFails
+unfolding evaluation
+unwritten_child_fails = refl
+
+pub unwritten_child_has_pointer : UnwrittenChildHasPointer
+unfolding evaluation
+unwritten_child_has_pointer = refl
 
 pub children_come_first : ChildrenComeFirst
 unfolding evaluation

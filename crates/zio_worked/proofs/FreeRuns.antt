@@ -1,5 +1,5 @@
 -- Whether a top has a free run of so many sectors, by a test of each start.
-use Rattle.std.proofs.Common.{◌≡◌, ℕ, zero, suc, ◌+◌, ◌<◌, ◌≤◌, List, length, slice_get, Bool, true, false, ◌&&◌, ◌||◌, not, Option, Some, None, IsTrue, Decides, ⊎_elim, subst, refl, arith, leb-true, below_more}
+use Rattle.std.proofs.Common.{◌≡◌, ℕ, zero, suc, ◌+◌, ◌<◌, ◌≤◌, List, length, slice_get, Bool, true, false, ◌&&◌, ◌||◌, not, Option, Some, None, Decides, ⊎_elim, subst, refl, arith, leb-true, below_more}
 use Rattle.std.proofs.lemmas.Bool.{both_ways, and_parts, and_from, or_cases, or_parts, not_from_false, true_from_ne_false, cases_lt}
 use Rattle.std.proofs.lemmas.Option.{slice_get_past}
 use Rattle.zio_types.specs.declared.place.Place.{Place}

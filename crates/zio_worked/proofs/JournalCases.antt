@@ -1,13 +1,12 @@
-use Rattle.std.proofs.Common.{◌&&◌, [], ◌∷◌, ◌++◌, false, true≢false, refl, sym, arith, lit<, ◌==◌}
+use Rattle.std.proofs.Common.{◌&&◌, [], ◌∷◌, true≢false, refl, sym, take, drop, arith, lit<, ◌==◌}
 use Rattle.zio_types.specs.declared.journal.Role.TheVariants.{Body, Head}
 use Rattle.zio_types.specs.Choices.{Ask, same_key}
-use Rattle.zio_gang.specs.Journals.{asks_of}
 use Rattle.zio_worked.proofs.Absent.{not_contained}
 use Rattle.zio_worked.proofs.Evaluation.{evaluation}
 use Rattle.zio_worked.proofs.LawfulChoices.{are_lawful-sound}
-use Rattle.zio_worked.specs.LawfulJournals.{IsLawful, IsLawfulPair, pair_script, for_x, for_y, second_attempt, half_of_y, PairIsLawful, OtherOrderIsLawful, KeyNotAskedFor, KeyTwice, AskWithoutChoice, OtherSize, RoundThatWasNotRun, PlaceOfAnother, PlaceOutside, PlaceTooShort, TooManyPlaces, RefusedWithRoom, PlaceOfBoundBlock, PlaceOfEarlierAttempt, GivenBackIsLawful, two_copies, CopyOnUsedTop, SecondCopyIsLawful, RefusedIsLawful, RefusedBeforeTheLast}
+use Rattle.zio_worked.specs.LawfulJournals.{pair_script, for_x, for_y, second_attempt, half_of_y, PairIsLawful, OtherOrderIsLawful, KeyNotAskedFor, KeyTwice, AskWithoutChoice, OtherSize, RoundThatWasNotRun, PlaceOfAnother, PlaceOutside, PlaceTooShort, TooManyPlaces, RefusedWithRoom, PlaceOfBoundBlock, PlaceOfEarlierAttempt, GivenBackIsLawful, CopyOnUsedTop, SecondCopyIsLawful, RefusedIsLawful, GangIsLawful, RefusedBeforeTheLast}
 use Rattle.zio_worked.specs.Scripts.{choice, place, zeros, asks_in}
-use Rattle.zio_worked.specs.Suspension.{four_attempts}
+use Rattle.zio_worked.specs.Suspension.{four_attempts, gang_choices}
 
 pub pair_is_lawful : PairIsLawful
 unfolding evaluation
@@ -176,6 +175,31 @@ refused_is_lawful = record {
           tt,
         ),
       ),
+    ),
+  );
+}
+
+pub gang_is_lawful : GangIsLawful
+unfolding evaluation
+gang_is_lawful = record {
+  of_rounds = (refl, (refl, (refl, (refl, (refl, (refl, (refl, (refl, tt))))))));
+  each = (
+    record {
+      distinct = ((refl, (refl, (refl, tt))), ((refl, (refl, tt)), ((refl, tt), (tt, tt))));
+      asked = ((0, lit< tt, refl), ((1, lit< tt, refl), ((2, lit< tt, refl), ((3, lit< tt, refl), tt))));
+      answered = ((0, lit< tt, refl), ((1, lit< tt, refl), ((2, lit< tt, refl), ((3, lit< tt, refl), tt))));
+      lawful = are_lawful-sound (8 ∷ []) [] (take 4 gang_choices) refl;
+    },
+    (
+      record {
+        distinct = ((refl, (refl, (refl, tt))), ((refl, (refl, tt)), ((refl, tt), (tt, tt))));
+        asked = ((0, lit< tt, refl), ((1, lit< tt, refl), ((2, lit< tt, refl), ((3, lit< tt, refl), tt))));
+        answered = ((0, lit< tt, refl), ((1, lit< tt, refl), ((2, lit< tt, refl), ((3, lit< tt, refl), tt))));
+        lawful = are_lawful-sound (8 ∷ [])
+            (place 0 7 1 ∷ place 0 5 1 ∷ place 0 3 1 ∷ place 0 1 1 ∷ [])
+            (drop 4 gang_choices) refl;
+      },
+      tt,
     ),
   );
 }

@@ -1,6 +1,6 @@
 use Rattle.std.proofs.Common.{refl}
 use Rattle.zio_worked.proofs.Evaluation.{evaluation}
-use Rattle.zio_worked.specs.Suspension.{FourthAttemptSuspends, FourAttemptsAsk, WaitingComesFirst, WaitingAsksOnce, NextBatchIsHeld, NextBatchGoesOn, PanicEndsTheRun, ClearResumes, ClearRaisesThePoint, SecondBatchStaysHeld, SecondClearRunsTheRest, NoSpaceSuspends, NoSpaceAsksOnce, NoSpaceFails, FreedSpaceServesLater}
+use Rattle.zio_worked.specs.Suspension.{FourthAttemptSuspends, FourAttemptsAsk, WaitingComesFirst, WaitingAsksOnce, NextBatchIsHeld, NextBatchGoesOn, PanicEndsTheRun, ClearResumes, ClearRaisesThePoint, SuspendedTreesShareARound, SecondBatchStaysHeld, SecondClearRunsTheRest, NoSpaceSuspends, NoSpaceAsksOnce, NoSpaceFails, FreedSpaceServesLater, FreeWaits, FreeFails}
 
 pub fourth_attempt_suspends : FourthAttemptSuspends
 unfolding evaluation
@@ -38,6 +38,10 @@ pub clear_raises_the_point : ClearRaisesThePoint
 unfolding evaluation
 clear_raises_the_point = refl
 
+pub suspended_trees_share_a_round : SuspendedTreesShareARound
+unfolding evaluation
+suspended_trees_share_a_round = refl
+
 pub second_batch_stays_held : SecondBatchStaysHeld
 unfolding evaluation
 second_batch_stays_held = refl
@@ -61,3 +65,11 @@ no_space_fails = refl
 pub freed_space_serves_later : FreedSpaceServesLater
 unfolding evaluation
 freed_space_serves_later = refl
+
+pub free_waits : FreeWaits
+unfolding evaluation
+free_waits = refl
+
+pub free_fails : FreeFails
+unfolding evaluation
+free_fails = refl

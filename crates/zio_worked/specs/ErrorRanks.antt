@@ -1,6 +1,5 @@
 -- The errors in the order of their ranks, and the worst of some.
-use Rattle.std.specs.Prelude.{◌≡◌, ℕ, List, [], ◌∷◌, map, Option, Some, None}
-use Rattle.zio_types.specs.declared.error.Errno.{Errno}
+use Rattle.std.specs.Prelude.{◌≡◌, [], ◌∷◌, map, Some, None}
 use Rattle.zio_types.specs.declared.error.Errno.TheVariants.{Nxio, Cksum, Io, Nospc, Inval, Exist, Noent}
 use Rattle.zio_types.specs.Errors.{rank, worst_error, worst_of}
 

@@ -7,7 +7,7 @@ use Rattle.zio_blkptr.specs.declared.pointer.SumKind.TheVariants.{Off, Fletcher4
 use Rattle.zio_blkptr.specs.Pointers.{spelling}
 use Rattle.zio_faults.specs.declared.table.FaultKind.{FaultKind}
 use Rattle.zio_faults.specs.declared.table.FaultKind.TheVariants.{Eio, Gone}
-use Rattle.zio_faults.specs.declared.table.On.TheVariants.{Read as OnRead, Any}
+use Rattle.zio_faults.specs.declared.table.On.TheVariants.{Read as OnRead, Write as OnWrite, Any}
 use Rattle.zio_script.specs.declared.script.Failmode.{Failmode}
 use Rattle.zio_script.specs.declared.script.Failmode.TheVariants.{Wait, Continue}
 use Rattle.zio_script.specs.declared.script.Item.{Item}
@@ -17,7 +17,7 @@ use Rattle.zio_script.specs.declared.script.Script.{Script}
 use Rattle.zio_cksum.specs.Images.{Images}
 use Rattle.zio_gang.specs.Journals.{asks_of}
 use Rattle.zio_gang.specs.Rounds.{trees_of}
-use Rattle.zio_worked.specs.Scripts.{script, write, read, null, under, can_fail, can_fail_under, row, choice, place, report, zeros, lines, requests_of, asks_in, bytes_read, images_after}
+use Rattle.zio_worked.specs.Scripts.{script, write, read, null, under, can_fail, can_fail_under, row, row_over, choice, place, report, zeros, lines, requests_of, asks_in, bytes_read, images_after}
 
 -- ---- a write over two writes
 
@@ -50,6 +50,18 @@ WriteOverTwoWrites =
     ∷ "4 read p ok 1024 3b8d8d9664:1f31a67fe38f:90edb880539f9:1e9294e0d0d824c"
     ∷ "end 0" ∷ [])
 
+-- the pointer to one sector without a sum, which the first batch wrote
+abbrev pub pointer_to : ℕ → Bp
+pointer_to sector = record {
+  count = 1;
+  places = place 0 sector 1 ∷ no_place ∷ no_place ∷ [];
+  gang = false;
+  size = 512;
+  sum = Off;
+  birth = 1;
+  words = 0 ∷ 0 ∷ 0 ∷ 0 ∷ [];
+}
+
 abbrev pub pointer_to_a : Bp
 pointer_to_a = record {
   count = 1;
@@ -61,22 +73,34 @@ pointer_to_a = record {
   words = 0x20a0a0a080 ∷ 0x83878787040 ∷ 0x16439b9b85580 ∷ 0x2d92628254f020 ∷ [];
 }
 
-abbrev pub pointer_to_b : Bp
-pointer_to_b = record {
-  count = 1;
-  places = place 0 5 1 ∷ no_place ∷ no_place ∷ [];
-  gang = false;
-  size = 512;
-  sum = Off;
-  birth = 1;
-  words = 0 ∷ 0 ∷ 0 ∷ 0 ∷ [];
-}
-
 -- the content begins with the children's pointers in the order of their numbers
 abbrev pub PointersStandInFront : Type 0
 PointersStandInFront =
     take 256 (bytes_read family_script (zeros 4096 ∷ []) family_choices 4)
-    ≡ spelling pointer_to_a ++ spelling pointer_to_b
+    ≡ spelling pointer_to_a ++ spelling (pointer_to 5)
+
+abbrev pub nested_script : Script
+nested_script = script Wait ((0 ∷ []) ∷ []) [] (
+    write 1 (codes "p") Off 1 112 384
+    ∷ under 1 (write 2 (codes "q") Off 1 113 100)
+    ∷ under 2 (write 3 (codes "r") Off 1 114 512)
+    ∷ Go ∷ [])
+
+abbrev pub nested_choices : List Choice
+nested_choices =
+    choice 3 1 0 [] Body 512 1 (place 0 6 1 ∷ [])
+    ∷ choice 2 1 0 [] Body 512 1 (place 0 5 1 ∷ [])
+    ∷ choice 1 1 0 [] Body 512 1 (place 0 4 1 ∷ []) ∷ []
+
+-- each write has the pointer of the one under it, then its own data, then zeros
+abbrev pub WritesNest : Type 0
+WritesNest =
+    images_after nested_script (zeros 4096 ∷ []) nested_choices
+    ≡ (zeros 2048
+    ++ (spelling (pointer_to 5) ++ replicate 384 112)
+    ++ (spelling (pointer_to 6) ++ replicate 100 113 ++ zeros 284)
+    ++ replicate 512 114
+    ++ zeros 512) ∷ []
 
 -- ---- a child that goes again
 
@@ -224,6 +248,32 @@ abbrev pub ZerosForNoPlace : Type 0
 ZerosForNoPlace =
     images_after (script Wait ((0 ∷ []) ∷ []) [] refused_items) (zeros 4096 ∷ []) refused_choices
     ≡ (zeros 3584 ++ replicate 128 0 ++ replicate 384 65) ∷ []
+
+-- the child's place can't be written, the parent's can
+abbrev pub unwritten_script : Script
+unwritten_script = script Wait ((0 ∷ []) ∷ []) (row_over 0 OnWrite 5 1 0 65535 Eio ∷ []) (
+    can_fail (write 1 (codes "p") Off 1 112 384) ∷ can_fail_under 1 (write 2 (codes "c") Off 1 66 512) ∷ Go ∷ [])
+
+abbrev pub unwritten_choices : List Choice
+unwritten_choices =
+    choice 2 1 0 [] Body 512 1 (place 0 5 1 ∷ [])
+    ∷ choice 1 1 0 [] Body 512 1 (place 0 6 1 ∷ []) ∷ []
+
+abbrev pub UnwrittenChildFails : Type 0
+UnwrittenChildFails =
+    report unwritten_script (zeros 4096 ∷ []) unwritten_choices
+    ≡ lines (
+    "pool 1 1"
+    ∷ "round 1 batch 1 point 0"
+    ∷ "1 write p EIO"
+    ∷ "2 write c EIO"
+    ∷ "end 0" ∷ [])
+
+-- a child that has a place has its pointer in the parent's content, though its write failed
+abbrev pub UnwrittenChildHasPointer : Type 0
+UnwrittenChildHasPointer =
+    images_after unwritten_script (zeros 4096 ∷ []) unwritten_choices
+    ≡ (zeros 3072 ++ (spelling (pointer_to 5) ++ replicate 384 112) ++ zeros 512) ∷ []
 
 -- ---- the order of a family
 

@@ -12,7 +12,7 @@ use Rattle.zio_gang.specs.Runs.{plan_of}
 use Rattle.zio_gang.specs.Trees.{sizes_of}
 use Rattle.zio_worked.specs.Families.{refused_script, refused_choices}
 use Rattle.zio_worked.specs.Scripts.{script, write, choice, place, zeros, rounds_in}
-use Rattle.zio_worked.specs.Suspension.{broken_script, four_attempts}
+use Rattle.zio_worked.specs.Suspension.{broken_script, four_attempts, gang_script, gang_choices}
 
 -- the choices are lawful for the run that they give
 abbrev pub IsLawful : Script → Images → List Choice → Type 0
@@ -136,6 +136,10 @@ SecondCopyIsLawful =
 -- no run of two sectors is free, and not two sectors for the headers; what was found for these the parent has
 abbrev pub RefusedIsLawful : Type 0
 RefusedIsLawful = IsLawful refused_script (zeros 4096 ∷ []) refused_choices
+
+-- every other sector is full: the block finds no run, and becomes a gang with two headers and two members
+abbrev pub GangIsLawful : Type 0
+GangIsLawful = IsLawful (gang_script Wait []) (zeros 4096 ∷ []) gang_choices
 
 -- a refused choice has the places that are found for its first copies
 abbrev pub RefusedBeforeTheLast : Type 0

@@ -1,6 +1,6 @@
 -- Trees that can't go on: how often they are tried, what waits with them, and how a clear resumes them.
 use Rattle.std.specs.Prelude.{◌≡◌, List, [], ◌∷◌, ◌++◌, codes}
-use Rattle.zio_types.specs.declared.journal.Role.TheVariants.{Body}
+use Rattle.zio_types.specs.declared.journal.Role.TheVariants.{Body, Head}
 use Rattle.zio_types.specs.Choices.{Choice}
 use Rattle.zio_blkptr.specs.declared.pointer.SumKind.TheVariants.{Off}
 use Rattle.zio_faults.specs.declared.table.FaultKind.TheVariants.{Eio, Gone}
@@ -11,7 +11,7 @@ use Rattle.zio_script.specs.declared.script.Item.{Item}
 use Rattle.zio_script.specs.declared.script.Item.TheVariants.{Go, Clear}
 use Rattle.zio_script.specs.declared.script.Script.{Script}
 use Rattle.zio_gang.specs.Journals.{asks_of}
-use Rattle.zio_worked.specs.Scripts.{script, write, read, free, null, under, can_fail, row, row_over, choice, place, report, zeros, lines, asks_in}
+use Rattle.zio_worked.specs.Scripts.{script, write, read, free, null, under, can_fail, must, row, row_over, choice, place, report, zeros, lines, asks_in}
 
 -- ---- four attempts
 
@@ -153,6 +153,40 @@ ClearRaisesThePoint =
     ∷ "2 read x ok 512 20a0a0a080:83878787040:16439b9b85580:2d92628254f020"
     ∷ "end 0" ∷ [])
 
+-- Two reads that may not fail: the device of a is gone until the first clear, that of b fails until the second.
+abbrev pub two_reads : Script
+two_reads = script Continue ((0 ∷ []) ∷ []) (row_over 0 OnRead 0 1 0 1 Gone ∷ row_over 0 OnRead 1 1 0 2 Eio ∷ []) (
+    write 1 (codes "a") Off 1 65 512
+    ∷ write 2 (codes "b") Off 1 66 512
+    ∷ Go
+    ∷ must (read 3 (codes "a"))
+    ∷ Go
+    ∷ must (read 4 (codes "b"))
+    ∷ Go
+    ∷ Clear
+    ∷ Clear ∷ [])
+
+-- all that is suspended, of whichever round, is one round of a clear; what fails again stays
+abbrev pub SuspendedTreesShareARound : Type 0
+SuspendedTreesShareARound =
+    report two_reads (zeros 4096 ∷ [])
+    (choice 1 1 0 [] Body 512 1 (place 0 0 1 ∷ []) ∷ choice 2 1 0 [] Body 512 1 (place 0 1 1 ∷ []) ∷ [])
+    ≡ lines (
+    "pool 1 1"
+    ∷ "round 1 batch 1 point 0"
+    ∷ "1 write a ok 512"
+    ∷ "2 write b ok 512"
+    ∷ "round 2 batch 2 point 0"
+    ∷ "3 read a suspended"
+    ∷ "round 3 batch 3 point 0"
+    ∷ "4 read b suspended"
+    ∷ "round 4 clear point 1"
+    ∷ "3 read a ok 512 20a0a0a080:83878787040:16439b9b85580:2d92628254f020"
+    ∷ "4 read b suspended"
+    ∷ "round 5 clear point 2"
+    ∷ "4 read b ok 512 2121212100:858d8d8d080:169b4b4b34b00:2e45de1defd840"
+    ∷ "end 0" ∷ [])
+
 -- Until the first clear x can't be written, and until the second y can't.
 abbrev pub held_script : List Item → Script
 held_script items =
@@ -265,4 +299,71 @@ FreedSpaceServesLater =
     ∷ "3 free full ok"
     ∷ "round 3 clear point 1"
     ∷ "2 write y ok 512"
+    ∷ "end 0" ∷ [])
+
+-- ---- frees
+
+-- Every other sector is full, so x is a gang. Until the first clear none of its two headers can be read.
+abbrev pub gang_script : Failmode → List Item → Script
+gang_script failmode items = script failmode ((0 ∷ []) ∷ []) (row_over 0 OnRead 0 3 0 1 Gone ∷ []) (
+    write 1 (codes "a") Off 1 97 512
+    ∷ write 2 (codes "b") Off 1 98 512
+    ∷ write 3 (codes "c") Off 1 99 512
+    ∷ write 4 (codes "d") Off 1 100 512
+    ∷ Go
+    ∷ write 5 (codes "x") Off 1 65 1024
+    ∷ Go ∷ items)
+
+abbrev pub gang_choices : List Choice
+gang_choices =
+    choice 1 1 0 [] Body 512 1 (place 0 1 1 ∷ [])
+    ∷ choice 2 1 0 [] Body 512 1 (place 0 3 1 ∷ [])
+    ∷ choice 3 1 0 [] Body 512 1 (place 0 5 1 ∷ [])
+    ∷ choice 4 1 0 [] Body 512 1 (place 0 7 1 ∷ [])
+    ∷ choice 5 2 0 [] Body 1024 1 []
+    ∷ choice 5 2 0 [] Head 512 2 (place 0 0 1 ∷ place 0 2 1 ∷ [])
+    ∷ choice 5 2 0 (0 ∷ []) Body 512 1 (place 0 4 1 ∷ [])
+    ∷ choice 5 2 0 (1 ∷ []) Body 512 1 (place 0 6 1 ∷ []) ∷ []
+
+-- a free of a gang waits for the device of its headers
+abbrev pub FreeWaits : Type 0
+FreeWaits =
+    report (gang_script Wait (free 6 (codes "x") ∷ Go ∷ Clear ∷ read 7 (codes "x") ∷ Go ∷ [])) (zeros 4096 ∷ []) gang_choices
+    ≡ lines (
+    "pool 1 1"
+    ∷ "round 1 batch 1 point 0"
+    ∷ "1 write a ok 512"
+    ∷ "2 write b ok 512"
+    ∷ "3 write c ok 512"
+    ∷ "4 write d ok 512"
+    ∷ "round 2 batch 2 point 0"
+    ∷ "5 write x ok 1024"
+    ∷ "round 3 batch 3 point 0"
+    ∷ "6 free x suspended"
+    ∷ "round 4 clear point 1"
+    ∷ "6 free x ok"
+    ∷ "round 5 batch 4 point 1"
+    ∷ "7 read x ENOENT"
+    ∷ "end 0" ∷ [])
+
+-- where the run goes on it fails, if it may, and frees nothing
+abbrev pub FreeFails : Type 0
+FreeFails =
+    report
+    (gang_script Continue (can_fail (free 6 (codes "x")) ∷ Go ∷ Clear ∷ read 7 (codes "x") ∷ Go ∷ []))
+    (zeros 4096 ∷ [])
+    gang_choices
+    ≡ lines (
+    "pool 1 1"
+    ∷ "round 1 batch 1 point 0"
+    ∷ "1 write a ok 512"
+    ∷ "2 write b ok 512"
+    ∷ "3 write c ok 512"
+    ∷ "4 write d ok 512"
+    ∷ "round 2 batch 2 point 0"
+    ∷ "5 write x ok 1024"
+    ∷ "round 3 batch 3 point 0"
+    ∷ "6 free x ENXIO"
+    ∷ "round 4 batch 4 point 1"
+    ∷ "7 read x ok 1024 4141414100:20c141412080:b00ebebe0eb00:2c87babe9237040"
     ∷ "end 0" ∷ [])

@@ -1,4 +1,4 @@
-ghost use Rattle.zio_worked.specs.LawfulJournals.{PairIsLawful, OtherOrderIsLawful, KeyNotAskedFor, KeyTwice, AskWithoutChoice, OtherSize, RoundThatWasNotRun, PlaceOfAnother, PlaceOutside, PlaceTooShort, TooManyPlaces, RefusedWithRoom, PlaceOfBoundBlock, PlaceOfEarlierAttempt, GivenBackIsLawful, CopyOnUsedTop, SecondCopyIsLawful, RefusedIsLawful, RefusedBeforeTheLast};
+ghost use Rattle.zio_worked.specs.LawfulJournals.{PairIsLawful, OtherOrderIsLawful, KeyNotAskedFor, KeyTwice, AskWithoutChoice, OtherSize, RoundThatWasNotRun, PlaceOfAnother, PlaceOutside, PlaceTooShort, TooManyPlaces, RefusedWithRoom, PlaceOfBoundBlock, PlaceOfEarlierAttempt, GivenBackIsLawful, CopyOnUsedTop, SecondCopyIsLawful, RefusedIsLawful, GangIsLawful, RefusedBeforeTheLast};
 
 /// A journal answers all that its run asks for and nothing else, with places that were free.
 pub fn lawful_journals_answer_what_is_asked()
@@ -20,5 +20,6 @@ pub fn lawful_journals_answer_what_is_asked()
     ensures copy_on_used_top { CopyOnUsedTop }
     ensures second_copy_is_lawful { SecondCopyIsLawful }
     ensures refused_is_lawful { RefusedIsLawful }
+    ensures gang_is_lawful { GangIsLawful }
     ensures refused_before_the_last { RefusedBeforeTheLast }
 {}

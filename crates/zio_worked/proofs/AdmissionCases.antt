@@ -1,6 +1,6 @@
 use Rattle.std.proofs.Common.{refl}
 use Rattle.zio_worked.proofs.Evaluation.{evaluation}
-use Rattle.zio_worked.specs.Admission.{OtherReadsGoOn, ChangesAreRefused, FinishedNamesAreRead, NamesComeAndGo, IoComesFirst, NoentComesNext, ExistComesLast, OtherTreesRun}
+use Rattle.zio_worked.specs.Admission.{OtherReadsGoOn, ChangesAreRefused, FinishedNamesAreRead, HeldBatchIsAdmittedLate, NamesComeAndGo, IoComesFirst, NoentComesNext, ExistComesLast, OtherTreesRun}
 
 pub other_reads_go_on : OtherReadsGoOn
 unfolding evaluation
@@ -13,6 +13,10 @@ changes_are_refused = refl
 pub finished_names_are_read : FinishedNamesAreRead
 unfolding evaluation
 finished_names_are_read = refl
+
+pub held_batch_is_admitted_late : HeldBatchIsAdmittedLate
+unfolding evaluation
+held_batch_is_admitted_late = refl
 
 pub names_come_and_go : NamesComeAndGo
 unfolding evaluation

@@ -1,6 +1,6 @@
 use Rattle.std.proofs.Common.{refl}
 use Rattle.zio_worked.proofs.Evaluation.{evaluation}
-use Rattle.zio_worked.specs.Families.{WriteOverTwoWrites, PointersStandInFront, WritesNest, ChildGoesAgain, FinishedChildIsKept, NullOverBadRead, NullOverGoneRead, NullOverGoneReadGoesOn, ChildErrorBindsNothing, ZerosForNoPlace, UnwrittenChildFails, UnwrittenChildHasPointer, ChildrenComeFirst, FamiliesAreApart}
+use Rattle.zio_worked.specs.Families.{WriteOverTwoWrites, PointersStandInFront, WritesNest, ChildGoesAgain, FinishedChildIsKept, NullOverBadRead, NullOverGoneRead, NullOverGoneReadGoesOn, ChildErrorBindsNothing, ZerosForNoPlace, UnwrittenChildFails, UnwrittenChildHasPointer, MustChildHoldsParent, ChildrenComeFirst, FamiliesAreApart}
 
 pub write_over_two_writes : WriteOverTwoWrites
 unfolding evaluation
@@ -49,6 +49,10 @@ unwritten_child_fails = refl
 pub unwritten_child_has_pointer : UnwrittenChildHasPointer
 unfolding evaluation
 unwritten_child_has_pointer = refl
+
+pub must_child_holds_parent : MustChildHoldsParent
+unfolding evaluation
+must_child_holds_parent = refl
 
 pub children_come_first : ChildrenComeFirst
 unfolding evaluation

@@ -7,9 +7,10 @@ use Rattle.zio_faults.specs.declared.table.FaultKind.TheVariants.{Eio, Gone}
 use Rattle.zio_faults.specs.declared.table.On.TheVariants.{Read as OnRead, Write as OnWrite}
 use Rattle.zio_script.specs.declared.script.Failmode.TheVariants.{Wait, Continue}
 use Rattle.zio_script.specs.declared.script.Item.{Item}
-use Rattle.zio_script.specs.declared.script.Item.TheVariants.{Go}
+use Rattle.zio_script.specs.declared.script.Item.TheVariants.{Go, Clear}
 use Rattle.zio_script.specs.declared.script.Script.{Script}
 use Rattle.zio_worked.specs.Scripts.{script, write, read, free, claim, null, under, can_fail, must, can_fail_under, row_over, choice, place, report, zeros, lines}
+use Rattle.zio_worked.specs.Suspension.{broken_script, four_attempts}
 
 -- ---- beside a suspended tree
 
@@ -108,6 +109,24 @@ FinishedNamesAreRead =
     ∷ "5 read b EIO"
     ∷ "6 read p EIO"
     ∷ "end 9" ∷ [])
+
+-- ---- after a hold
+
+-- a held batch is admitted when it runs: by then the block is bound
+abbrev pub HeldBatchIsAdmittedLate : Type 0
+HeldBatchIsAdmittedLate =
+    report (broken_script Wait (read 2 (codes "x") ∷ Go ∷ Clear ∷ [])) (zeros 4096 ∷ [])
+    (four_attempts ++ choice 1 2 0 [] Body 512 1 (place 0 4 1 ∷ []) ∷ [])
+    ≡ lines (
+    "pool 1 1"
+    ∷ "round 1 batch 1 point 0"
+    ∷ "1 write x suspended"
+    ∷ "held 2"
+    ∷ "round 2 clear point 1"
+    ∷ "1 write x ok 512"
+    ∷ "round 3 batch 2 point 1"
+    ∷ "2 read x ok 512 20a0a0a080:83878787040:16439b9b85580:2d92628254f020"
+    ∷ "end 0" ∷ [])
 
 -- ---- names
 

@@ -275,6 +275,28 @@ UnwrittenChildHasPointer =
     images_after unwritten_script (zeros 4096 ∷ []) unwritten_choices
     ≡ (zeros 3072 ++ (spelling (pointer_to 5) ++ replicate 384 112) ++ zeros 512) ∷ []
 
+-- a null that may fail waits with the child that may not
+abbrev pub MustChildHoldsParent : Type 0
+MustChildHoldsParent =
+    report
+    (script Wait ((0 ∷ []) ∷ []) (row 0 OnWrite 0 1 Eio ∷ []) (
+    can_fail (null 1) ∷ under 1 (write 2 (codes "c") Off 1 66 512) ∷ Go ∷ Clear ∷ []))
+    (zeros 4096 ∷ [])
+    (choice 2 1 0 [] Body 512 1 (place 0 0 1 ∷ [])
+    ∷ choice 2 1 1 [] Body 512 1 (place 0 1 1 ∷ [])
+    ∷ choice 2 1 2 [] Body 512 1 (place 0 2 1 ∷ [])
+    ∷ choice 2 1 3 [] Body 512 1 (place 0 3 1 ∷ [])
+    ∷ choice 2 2 0 [] Body 512 1 (place 0 0 1 ∷ []) ∷ [])
+    ≡ lines (
+    "pool 1 1"
+    ∷ "round 1 batch 1 point 0"
+    ∷ "1 null suspended"
+    ∷ "2 write c suspended"
+    ∷ "round 2 clear point 1"
+    ∷ "1 null ok"
+    ∷ "2 write c ok 512"
+    ∷ "end 0" ∷ [])
+
 -- ---- the order of a family
 
 abbrev pub numbers_of : List Request → List ℕ

@@ -1,4 +1,4 @@
-ghost use Rattle.zio_worked.specs.Families.{WriteOverTwoWrites, PointersStandInFront, WritesNest, ChildGoesAgain, FinishedChildIsKept, NullOverBadRead, NullOverGoneRead, NullOverGoneReadGoesOn, ChildErrorBindsNothing, ZerosForNoPlace, UnwrittenChildFails, UnwrittenChildHasPointer, ChildrenComeFirst, FamiliesAreApart};
+ghost use Rattle.zio_worked.specs.Families.{WriteOverTwoWrites, PointersStandInFront, WritesNest, ChildGoesAgain, FinishedChildIsKept, NullOverBadRead, NullOverGoneRead, NullOverGoneReadGoesOn, ChildErrorBindsNothing, ZerosForNoPlace, UnwrittenChildFails, UnwrittenChildHasPointer, MustChildHoldsParent, ChildrenComeFirst, FamiliesAreApart};
 
 /// A request finishes after those under it, with their pointers and errors, and goes again with them.
 pub fn families_finish_together()
@@ -14,6 +14,7 @@ pub fn families_finish_together()
     ensures zeros_for_no_place { ZerosForNoPlace }
     ensures unwritten_child_fails { UnwrittenChildFails }
     ensures unwritten_child_has_pointer { UnwrittenChildHasPointer }
+    ensures must_child_holds_parent { MustChildHoldsParent }
     ensures children_come_first { ChildrenComeFirst }
     ensures families_are_apart { FamiliesAreApart }
 {}

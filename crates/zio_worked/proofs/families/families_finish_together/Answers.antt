@@ -1,4 +1,4 @@
-use Rattle.zio_worked.proofs.FamilyCases.{write_over_two_writes, pointers_stand_in_front, writes_nest, child_goes_again, finished_child_is_kept, null_over_bad_read, null_over_gone_read, null_over_gone_read_goes_on, child_error_binds_nothing, zeros_for_no_place, unwritten_child_fails, unwritten_child_has_pointer, children_come_first, families_are_apart}
+use Rattle.zio_worked.proofs.FamilyCases.{write_over_two_writes, pointers_stand_in_front, writes_nest, child_goes_again, finished_child_is_kept, null_over_bad_read, null_over_gone_read, null_over_gone_read_goes_on, child_error_binds_nothing, zeros_for_no_place, unwritten_child_fails, unwritten_child_has_pointer, must_child_holds_parent, children_come_first, families_are_apart}
 use Rattle.zio_worked.proofs.families.families_finish_together.Goals as goal
 
 pub returns : goal.returns
@@ -15,6 +15,7 @@ returns c = record {
   zeros_for_no_place = zeros_for_no_place;
   unwritten_child_fails = unwritten_child_fails;
   unwritten_child_has_pointer = unwritten_child_has_pointer;
+  must_child_holds_parent = must_child_holds_parent;
   children_come_first = children_come_first;
   families_are_apart = families_are_apart;
 }

@@ -1,2 +1,11 @@
+pub mod Absent
+pub mod AdmissionCases
 pub mod BlockCases
+pub mod CompletionCases
+pub mod ErrorCases
 pub mod Evaluation
+pub mod FamilyCases
+pub mod FreeRuns
+pub mod JournalCases
+pub mod LawfulChoices
+pub mod SuspensionCases

@@ -1,12 +1,14 @@
 -- Short words for scripts over small images, and what a run of one shows and leaves.
 use Prim.Native.String.{String}
-use Rattle.std.specs.Prelude.{ℕ, List, [], ◌∷◌, ◌++◌, length, filter, replicate, Bool, true, false, Option, Some, None, codes}
+use Rattle.std.specs.Prelude.{ℕ, ◌*◌, List, [], ◌∷◌, ◌++◌, length, filter, replicate, Bool, true, false, Option, Some, None, codes, ◌==◌}
+use Rattle.std.specs.List.{flat_map}
+use Rattle.zio_types.specs.declared.error.Errno.{Errno}
 use Rattle.zio_types.specs.declared.journal.Completion.{Completion}
 use Rattle.zio_types.specs.declared.journal.Role.{Role}
 use Rattle.zio_types.specs.declared.place.Place.{Place}
-use Rattle.zio_types.specs.declared.request.Prio.{Prio}
 use Rattle.zio_types.specs.declared.request.Prio.TheVariants.{SyncRead, SyncWrite}
-use Rattle.zio_types.specs.Choices.{Choice}
+use Rattle.zio_types.specs.Choices.{Ask, Choice}
+use Rattle.zio_types.specs.Places.{sector_size}
 use Rattle.zio_blkptr.specs.declared.pointer.SumKind.{SumKind}
 use Rattle.zio_faults.specs.declared.table.FaultKind.{FaultKind}
 use Rattle.zio_faults.specs.declared.table.On.{On}
@@ -19,9 +21,10 @@ use Rattle.zio_script.specs.declared.script.Request.{Request}
 use Rattle.zio_script.specs.declared.script.Script.{Script}
 use Rattle.zio_script.specs.declared.script.Work.TheVariants.{Null, Read, Write, Free, Claim}
 use Rattle.zio_cksum.specs.Images.{Images}
-use Rattle.zio_gang.specs.Runs.{Course, run_script, ending}
+use Rattle.zio_gang.specs.Attempts.{Ended}
+use Rattle.zio_gang.specs.Runs.{Course, Round, run_script, ending, rounds_of}
 use Rattle.zio_report.specs.declared.report.Show.TheVariants.{Report}
-use Rattle.zio_report.specs.Reports.{run_text}
+use Rattle.zio_report.specs.Reports.{run_text, all_ended}
 
 -- ---- requests
 
@@ -61,6 +64,9 @@ can_fail item = under_it None true item
 abbrev pub must : Item → Item
 must item = under_it None false item
 
+abbrev pub can_fail_under : ℕ → Item → Item
+can_fail_under parent item = under_it (Some parent) true item
+
 -- ---- images, rows and choices
 
 -- an image of so many sectors of zeros
@@ -97,6 +103,15 @@ choice request round attempt path role size copies places = record {
 abbrev pub script : Failmode → List (List ℕ) → List Row → List Item → Script
 script failmode tops rows items = record { failmode = failmode; tops = tops; faults = rows; items = items }
 
+-- a row over so many sectors of a leaf, from this one on
+abbrev pub row_over : ℕ → On → ℕ → ℕ → ℕ → ℕ → FaultKind → Row
+row_over leaf on sector sectors from until kind =
+    record (row leaf on from until kind) { at = sector * sector_size; len = sectors * sector_size }
+
+-- the end of a request in a round
+abbrev pub completion : ℕ → ℕ → Option Errno → Completion
+completion request round error = record { request = request; round = round; error = error }
+
 -- ---- what a run shows and leaves
 
 abbrev pub is_request : Item → Bool
@@ -122,3 +137,24 @@ images_after s images choices = (run_script s images choices).state.images
 abbrev pub lines : List String → List ℕ
 lines [] = []
 lines (text ∷ texts) = codes text ++ 10 ∷ lines texts
+
+-- the requests of a script's lines
+abbrev pub requests_of : List Item → List Request
+requests_of [] = []
+requests_of (RequestLine r ∷ items) = r ∷ requests_of items
+requests_of (Go ∷ items) = requests_of items
+requests_of (Clear ∷ items) = requests_of items
+
+-- the rounds of the run
+abbrev pub rounds_in : Script → Images → List Choice → List Round
+rounds_in s images choices = rounds_of ((run_script s images choices).events)
+
+-- what the run asked for, in the order of its rounds
+abbrev pub asks_in : Script → Images → List Choice → List Ask
+asks_in s images choices = flat_map (λ (round : Round). round.asks) (rounds_in s images choices)
+
+-- the bytes that the read of this number gave in the run
+abbrev pub bytes_read : Script → Images → List Choice → ℕ → List ℕ
+bytes_read s images choices number =
+    flat_map (λ (e : Ended). e.bytes)
+    (filter (λ (e : Ended). e.request.number == number) (all_ended ((run_script s images choices).events)))

@@ -1,0 +1,2 @@
+pub mod Outside
+pub use Rattle.zio_types.specs.Bytes

@@ -1,0 +1,13 @@
+//! What a run reads, writes and stores its blocks on: sources, sinks, disks, and shelves of disks.
+//!
+//! It stands on `zio_types`. Read `Disk` first: its contract names the disk's image by a relation that holds where the
+//! disk tells it. `specs/Outside` has the words of these contracts.
+#![tactic(auto)]
+
+mod disk;
+mod shelf;
+mod stream;
+
+pub use disk::Disk;
+pub use shelf::{FetchFault, Shelf};
+pub use stream::{Failed, Sink, Source};

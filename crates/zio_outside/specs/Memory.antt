@@ -1,5 +1,6 @@
--- What a clause sees of the objects in memory. They tell all of it.
-use Rattle.std.specs.Prelude.{◌≡◌, ℕ, List, drop, Option}
+-- What a clause sees of the sources, sinks and disks in memory. They tell all of it.
+use Rattle.std.specs.Prelude.{◌≡◌, ℕ, ◌-◌, min, List, drop, Option, Some}
+use Rattle.zio_outside.specs.Outside.{count_max}
 use Rattle.zio_outside.specs.declared.mem_stream.MemSource.{MemSource}
 use Rattle.zio_outside.specs.declared.mem_stream.MemSink.{MemSink}
 use Rattle.zio_outside.specs.declared.mem_disk.MemDisk.{MemDisk}
@@ -72,3 +73,14 @@ disk_reads d = d.reads
 
 abbrev pub disk_writes : MemDisk → ℕ
 disk_writes d = d.writes
+
+-- a disk was handed out under a name, and is otherwise as it was
+pub record HandedOut (was out : MemDisk) (name : List ℕ) : Type 0 where
+  pub home : disk_home out ≡ Some name
+  pub faults : disk_faults out ≡ min (disk_faults was) (count_max - 1)
+  pub at_fetch : disk_faults_at_fetch out ≡ disk_faults out
+  pub image : disk_image out ≡ disk_image was
+  pub fails : disk_fails out ≡ disk_fails was
+  pub calls : disk_calls out ≡ disk_calls was
+  pub reads : disk_reads out ≡ disk_reads was
+  pub writes : disk_writes out ≡ disk_writes was

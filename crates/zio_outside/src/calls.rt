@@ -1,4 +1,4 @@
-ghost use Rattle.std.specs.Prelude.{◌≡◌, ◌≤◌, ◌↔◌, IsErr, IsTrue, OnErr, OnOk};
+ghost use Rattle.std.specs.Prelude.{◌≡◌, ◌≤◌, ◌-◌, min, ◌↔◌, IsErr, IsTrue, OnErr, OnOk};
 ghost use Rattle.std.specs.List.{Contains};
 ghost use Rattle.zio_outside.specs.Outside.{count_max, counted};
 
@@ -60,5 +60,20 @@ impl Calls {
     {
         self.faults = self.faults.saturating_add(1);
         Err(Failed)
+    }
+
+    pub(crate) fn faults(&self) -> u64
+        ensures { result ≡ self.now.faults }
+    {
+        self.faults
+    }
+
+    /// Takes a count of faults at its last value back by one, so that one more shows.
+    pub(crate) fn keep_room(&mut self)
+        ensures faults { self.new.faults ≡ min self.old.faults (count_max - 1) }
+        ensures fails { self.new.fails ≡ self.old.fails }
+        ensures made { self.new.made ≡ self.old.made }
+    {
+        self.faults = self.faults.min(u64::MAX - 1);
     }
 }

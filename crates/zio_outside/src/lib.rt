@@ -7,12 +7,14 @@
 mod calls;
 mod disk;
 mod mem_disk;
+mod mem_shelf;
 mod mem_stream;
 mod shelf;
 mod stream;
 
 pub use disk::Disk;
 pub use mem_disk::MemDisk;
+pub use mem_shelf::{DiskBack, MemShelf};
 pub use mem_stream::{MemSink, MemSource};
 pub use shelf::{FetchFault, Shelf};
 pub use stream::{Failed, Sink, Source};

@@ -1,5 +1,6 @@
-ghost use Rattle.std.specs.Prelude.{◌≡◌, ◌<◌, ◌≤◌, ◌+◌, ◌↔◌, ℕ, List, [], length, Option, None, Some, IsErr, IsOk, OnErr, OnOk, vec_len};
+ghost use Rattle.std.specs.Prelude.{◌≡◌, ◌<◌, ◌≤◌, ◌+◌, ◌↔◌, ℕ, List, [], length, Option, None, Some, IsErr, IsOk, IsTrue, OnErr, OnOk, vec_len};
 ghost use Rattle.std.specs.List.{Contains};
+ghost use Rattle.std.specs.Option.{option_copied};
 ghost use Rattle.zio_outside.specs.Outside.{CountsFault, Keeps, ReadsAt, TearsAt, WritesAt, count_max, counted};
 
 use crate::calls::Calls;
@@ -18,7 +19,7 @@ pub struct MemDisk {
 }
 
 impl MemDisk {
-    ghost use Rattle.zio_outside.specs.Memory.{disk_image, disk_faults, disk_faults_at_fetch, disk_home, disk_fails, disk_calls, disk_reads, disk_writes};
+    ghost use Rattle.zio_outside.specs.Memory.{disk_image, disk_faults, disk_faults_at_fetch, disk_home, disk_fails, disk_calls, disk_reads, disk_writes, HandedOut};
 
     /// A disk with this image, of its size, without a fault and without a home. Its reads and writes with the numbers in
     /// `fails`, counted together from 0, fail.
@@ -40,6 +41,33 @@ impl MemDisk {
             faults_at_fetch: 0,
             home: None,
         }
+    }
+
+    /// Goes out under this name. A count of faults at its last value goes out as the one before it, so that the next
+    /// fault shows.
+    pub(crate) fn go_out(&mut self, name: Text)
+        ensures { HandedOut self.old self.new name }
+    {
+        self.calls.keep_room();
+        self.faults_at_fetch = self.calls.faults();
+        self.home = Some(name);
+    }
+
+    /// The name under which it was handed out, if it was.
+    pub(crate) fn home(&self) -> Option<&str>
+        ensures { option_copied result ≡ disk_home self.now }
+    {
+        match &self.home {
+            Some(name) => Some(name.as_str()),
+            None => None,
+        }
+    }
+
+    /// It has failed since it was handed out.
+    pub(crate) fn has_failed(&self) -> bool
+        ensures { IsTrue result ↔ (disk_faults_at_fetch self.now < disk_faults self.now) }
+    {
+        self.faults_at_fetch < self.calls.faults()
     }
 
     pub fn image(&self) -> &[u8]

@@ -1,4 +1,5 @@
 ghost use Rattle.std.specs.Prelude.{◌≡◌, ◌<◌, ◌≤◌, ◌+◌, ◌↔◌, ℕ, List, [], length, Option, None, Some, IsErr, IsOk, IsTrue, OnErr, OnOk, vec_len};
+ghost use Rattle.std.proofs.Common.{ap};
 ghost use Rattle.std.specs.List.{Contains};
 ghost use Rattle.std.specs.Option.{option_copied};
 ghost use Rattle.zio_outside.specs.Outside.{CountsFault, Keeps, ReadsAt, TearsAt, WritesAt, count_max, counted};
@@ -70,6 +71,7 @@ impl MemDisk {
         self.faults_at_fetch < self.calls.faults()
     }
 
+    /// The bytes that it holds.
     pub fn image(&self) -> &[u8]
         ensures { result.now ≡ disk_image self.now }
     {
@@ -118,6 +120,8 @@ impl Disk for MemDisk {
         ensures home { disk_home self.new ≡ disk_home self.old }
         ensures bytes { length (disk_image self.new) ≡ length (disk_image self.old) }
         ensures at_fetch { disk_faults_at_fetch self.new ≡ disk_faults_at_fetch self.old }
+
+        // Beside what each disk ensures: which calls fail, what they leave, and how often it was called.
         ensures listed { IsErr result ↔ Contains (disk_fails self.old) (disk_calls self.old) }
         ensures steady { disk_fails self.old ≡ [] → IsOk result }
         ensures raised { OnErr result (disk_faults self.new ≡ counted (disk_faults self.old)) }
@@ -144,6 +148,8 @@ impl Disk for MemDisk {
         ensures home { disk_home self.new ≡ disk_home self.old }
         ensures bytes { length (disk_image self.new) ≡ length (disk_image self.old) }
         ensures at_fetch { disk_faults_at_fetch self.new ≡ disk_faults_at_fetch self.old }
+
+        // Beside what each disk ensures: which calls fail, what they leave, and how often it was called.
         ensures listed { IsErr result ↔ Contains (disk_fails self.old) (disk_calls self.old) }
         ensures steady { disk_fails self.old ≡ [] → IsOk result }
         ensures raised { OnErr result (disk_faults self.new ≡ counted (disk_faults self.old)) }
@@ -160,7 +166,7 @@ impl Disk for MemDisk {
         Ok(())
     }
 
-    ghost has_size = { λ d content told. Prim.search told };
+    ghost has_size = { λ d content told. ap length told };
 
     ghost counts = { λ d. d.calls.in_range };
 }

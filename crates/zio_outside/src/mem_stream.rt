@@ -48,6 +48,8 @@ impl Source for MemSource {
         ensures within { IfOk result (λ n. n ≤ length buffer.old) }
         ensures moved { IfOk result (λ n. (bytes : List ℕ) → told (source_left self.old) bytes →
             Moves bytes buffer.old buffer.new n × told (source_left self.new) (drop n bytes)) }
+
+        // Beside what each source ensures: how many bytes are moved, which calls fail, and what they leave.
         ensures most { IfOk result (λ n. n ≡ min (length buffer.old) (length (source_left self.old))) }
         ensures listed { IsErr result ↔ Contains (source_fails self.old) (source_calls self.old) }
         ensures steady { source_fails self.old ≡ [] → IsOk result }
@@ -116,6 +118,8 @@ impl Sink for MemSink {
         ensures count { CountsFault result (sink_faults self.old) (sink_faults self.new) }
         ensures ok { OnOk result (Appends (told (sink_held self.old)) (told (sink_held self.new)) piece.now) }
         ensures failed { OnErr result (AppendsFront (told (sink_held self.old)) (told (sink_held self.new)) piece.now) }
+
+        // Beside what each sink ensures: which calls fail, and what they leave.
         ensures cause { IsErr result ↔ (Contains (sink_fails self.old) (sink_calls self.old)
             ⊎ (sink_room self.old < length (sink_held self.old) + length piece.now)) }
         ensures steady { sink_fails self.old ≡ [] →

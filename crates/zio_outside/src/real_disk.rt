@@ -7,8 +7,9 @@ use std::io;
 use std::io::{Read, Seek, SeekFrom, Write};
 use std::rt::Files;
 
-/// A disk that is a file, which tells nothing of its image. Each error raises its count of faults by one, as does a
-/// file that gives or takes nothing of a rest.
+/// A disk that is a file, which a `FileShelf` opened, and tells nothing of its image.
+///
+/// Each error raises its count of faults by one, as does a file that gives or takes nothing of a rest.
 #[derive(Drop)]
 pub struct FileDisk<F> {
     file: F,
@@ -75,8 +76,7 @@ impl<F: Read + Write + Seek + Send> Disk for FileDisk<F> {
     ghost counts = { λ d. d.in_range };
 }
 
-/// A shelf of files, each an image of its own, which tells nothing of them. A disk has the size that its file has when
-/// it is fetched, and a file that can't be opened for reading and writing raises the count of faults by one.
+/// A shelf of files, each an image of its own, which tells nothing of them.
 #[derive(Drop)]
 pub struct FileShelf<'a, R> {
     rt: &'a R,
@@ -134,7 +134,8 @@ where
 
     ghost out = { λ _ _. ⊥ };
 
-    /// Opens the file of this path.
+    /// Opens the file of this path for reading and writing. The disk has the size that the file has now. Each error
+    /// raises the count of faults by one and is answered `Failed`, never `Memory`.
     fn fetch(&mut self, name: &str) -> Result<FileDisk<R::File>, FetchFault> {
         match self.open(name) {
             Ok(disk) => {
@@ -148,7 +149,7 @@ where
         }
     }
 
-    /// Closes the file.
+    /// Closes the file. The count of its disks' faults rises by one where the disk has failed.
     fn give_back(&mut self, disk: FileDisk<R::File>) {
         if disk.faults > 0 {
             self.disk_faults = self.disk_faults.saturating_add(1);

@@ -5,7 +5,9 @@ use crate::{Failed, Sink, Source};
 use std::io;
 use std::io::{Printer, Read, Write};
 
-/// Standard input, which tells nothing of what is left. Each error raises its count of faults by one.
+/// Standard input, which tells nothing of what is left.
+///
+/// Each error raises its count of faults by one.
 #[derive(Drop)]
 pub struct StdSource<R: Input> {
     reader: R::Reader,
@@ -41,8 +43,9 @@ impl<R: Input> Source for StdSource<R> {
     }
 }
 
-/// Standard output, which tells nothing of what it holds and is flushed after each piece. Each error raises its count
-/// of faults by one, as does an output that takes nothing of a rest.
+/// Standard output, which tells nothing of what it holds and is flushed after each piece.
+///
+/// Each error raises its count of faults by one, as does an output that takes nothing of a rest.
 #[derive(Drop)]
 pub struct StdSink<'a, R: Print> {
     writer: Printer<'a, R>,

@@ -1,7 +1,7 @@
-ghost use Rattle.std.specs.Prelude.{◌≡◌, ◌≢◌, ◌<◌, ◌≤◌, ◌⊎◌, ◌↔◌, ℕ, List, [], length, position, Option, None, Some, IfErr, IfNone, IfOk, IfSome, IsErrOf, IsSome, OnErr, OnOk};
+ghost use Rattle.std.specs.Prelude.{◌≡◌, ◌≢◌, ◌<◌, ◌≤◌, ◌⊎◌, ℕ, List, [], position, Option, None, Some, IfErr, IfNone, IfOk, IfSome, IsErrOf, IsSome, OnErr, OnOk};
 ghost use Rattle.std.specs.List.{Contains};
 ghost use Rattle.std.specs.Option.{option_and_then, option_copied};
-ghost use Rattle.zio_outside.specs.Outside.{ComesHome, GoesOut, Raised, Rose, StaysHome, count_max, counted};
+ghost use Rattle.zio_outside.specs.Outside.{ComesHome, GoesOut, Raised, StaysHome, count_max, counted};
 ghost use Rattle.zio_outside.specs.declared.mem_disk.MemDisk.{MemDisk};
 
 use crate::calls::Calls;

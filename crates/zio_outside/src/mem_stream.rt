@@ -1,6 +1,6 @@
-ghost use Rattle.std.specs.Prelude.{◌≡◌, ◌<◌, ◌≤◌, ◌+◌, ◌-◌, ◌++◌, ◌⊎◌, ◌↔◌, ℕ, List, [], length, drop, min, vec_len, vec_capacity, IfOk, IsErr, IsOk, OnErr, OnOk};
+ghost use Rattle.std.specs.Prelude.{◌≡◌, ◌<◌, ◌≤◌, ◌+◌, ◌-◌, ◌⊎◌, ◌↔◌, ℕ, List, [], length, drop, min, vec_len, vec_capacity, IfOk, IsErr, IsOk, OnErr, OnOk};
 ghost use Rattle.std.specs.List.{Contains};
-ghost use Rattle.zio_outside.specs.Outside.{Appends, AppendsFront, CountsFault, Keeps, Moves, counted};
+ghost use Rattle.zio_outside.specs.Outside.{Appends, AppendsFront, CountsFault, Moves, counted};
 
 use crate::calls::Calls;
 use crate::{Failed, Sink, Source};

@@ -32,6 +32,8 @@ pub struct MemShelf {
     calls: Calls,
     disk_faults: u64,
     fetches: u64,
+    ghost disk_faults_in_range: { disk_faults ≤ count_max },
+    ghost fetches_in_range: { fetches ≤ count_max },
 }
 
 impl Slot {
@@ -116,7 +118,9 @@ impl MemShelf {
             shelf_disk_faults self.new ≡ counted (shelf_disk_faults self.old) }
         ensures kept { ¬ (disk_faults_at_fetch disk.now < disk_faults disk.now) →
             shelf_disk_faults self.new ≡ shelf_disk_faults self.old }
-        ensures same { self.new ≡ record self.old { disk_faults = self.new.disk_faults } }
+        ensures slots { self.new.slots ≡ self.old.slots }
+        ensures calls { self.new.calls ≡ self.old.calls }
+        ensures fetches { self.new.fetches ≡ self.old.fetches }
         ensures in_range { shelf_disk_faults self.old ≤ count_max }
     {
         let before = self.disk_faults;
@@ -257,4 +261,6 @@ impl Shelf for MemShelf {
         self.count_faults_of(&disk);
         self.put_home(disk);
     }
+
+    ghost counts = { λ s. (s.calls.in_range, s.disk_faults_in_range, s.fetches_in_range) };
 }

@@ -83,6 +83,9 @@ pub struct FileShelf<'a, R> {
     faults: u64,
     disk_faults: u64,
     fetches: u64,
+    ghost faults_in_range: { faults ≤ count_max },
+    ghost disk_faults_in_range: { disk_faults ≤ count_max },
+    ghost fetches_in_range: { fetches ≤ count_max },
 }
 
 impl<'a, R: Files> FileShelf<'a, R> {
@@ -155,4 +158,6 @@ where
             self.disk_faults = self.disk_faults.saturating_add(1);
         }
     }
+
+    ghost counts = { λ s. (s.faults_in_range, s.disk_faults_in_range, s.fetches_in_range) };
 }

@@ -1,4 +1,4 @@
-ghost use Rattle.std.specs.Prelude.{◌≡◌, ◌<◌, ◌⊎◌, ◌↔◌, ℕ, List, Err, IfOk, IfErr, OnOk, OnErr, IsErrOf};
+ghost use Rattle.std.specs.Prelude.{◌≡◌, ◌<◌, ◌≤◌, ◌⊎◌, ◌↔◌, ℕ, List, Err, IfOk, IfErr, OnOk, OnErr, IsErrOf};
 ghost use Rattle.zio_outside.specs.Outside.{ComesHome, GoesOut, Raised, Rose, StaysHome, count_max, counted};
 
 use crate::Disk;
@@ -64,4 +64,8 @@ pub trait Shelf {
         ensures tells { tells self.old ↔ tells self.new }
         ensures home { tells self.old → (name bytes : List ℕ) → Self.Disk.home disk name → Self.Disk.image disk bytes →
             ComesHome name bytes (image self.old) (image self.new) (out self.old) (out self.new) };
+
+    /// No count passes its last value.
+    ghost counts: { (shelf : Self) →
+        (faults shelf ≤ count_max) × (disk_faults shelf ≤ count_max) × (fetches shelf ≤ count_max) };
 }

@@ -1,21 +1,20 @@
 -- Short words for scripts over small images, and what a run of one shows and leaves.
 use Prim.Native.String.{String}
-use Rattle.std.specs.Prelude.{ℕ, List, [], ◌∷◌, ◌++◌, length, filter, replicate, Bool, true, false, Option, Some, None, codes}
+use Rattle.std.specs.Prelude.{ℕ, ◌*◌, List, [], ◌∷◌, ◌++◌, length, filter, replicate, Bool, true, false, Option, Some, None, codes}
 use Rattle.zio_types.specs.declared.journal.Completion.{Completion}
 use Rattle.zio_types.specs.declared.journal.Role.{Role}
 use Rattle.zio_types.specs.declared.place.Place.{Place}
-use Rattle.zio_types.specs.declared.request.Prio.{Prio}
 use Rattle.zio_types.specs.declared.request.Prio.TheVariants.{SyncRead, SyncWrite}
 use Rattle.zio_types.specs.Choices.{Choice}
 use Rattle.zio_blkptr.specs.declared.pointer.SumKind.{SumKind}
 use Rattle.zio_faults.specs.declared.table.FaultKind.{FaultKind}
 use Rattle.zio_faults.specs.declared.table.On.{On}
 use Rattle.zio_faults.specs.declared.table.Row.{Row}
+use Rattle.zio_script.specs.declared.script.Body.{Body}
 use Rattle.zio_script.specs.declared.script.Body.TheVariants.{Fill}
 use Rattle.zio_script.specs.declared.script.Failmode.{Failmode}
 use Rattle.zio_script.specs.declared.script.Item.{Item}
 use Rattle.zio_script.specs.declared.script.Item.TheVariants.{Request as RequestLine, Go, Clear}
-use Rattle.zio_script.specs.declared.script.Request.{Request}
 use Rattle.zio_script.specs.declared.script.Script.{Script}
 use Rattle.zio_script.specs.declared.script.Work.TheVariants.{Null, Read, Write, Free, Claim}
 use Rattle.zio_cksum.specs.Images.{Images}
@@ -25,14 +24,17 @@ use Rattle.zio_report.specs.Reports.{run_text}
 
 -- ---- requests
 
--- a write of one byte, so many times
-abbrev pub write : ℕ → List ℕ → SumKind → ℕ → ℕ → ℕ → Item
-write number name sum copies byte len = RequestLine (record {
+abbrev pub write_body : ℕ → List ℕ → SumKind → ℕ → Body → Item
+write_body number name sum copies body = RequestLine (record {
   number = number;
-  work = Write name sum copies SyncWrite (Fill byte len);
+  work = Write name sum copies SyncWrite body;
   under = None;
   canfail = false;
 })
+
+-- a write of one byte, so many times
+abbrev pub write : ℕ → List ℕ → SumKind → ℕ → ℕ → ℕ → Item
+write number name sum copies byte len = write_body number name sum copies (Fill byte len)
 
 abbrev pub read : ℕ → List ℕ → Item
 read number name = RequestLine (record { number = number; work = Read name SyncRead; under = None; canfail = true })
@@ -66,6 +68,20 @@ must item = under_it None false item
 -- an image of so many sectors of zeros
 abbrev pub zeros : ℕ → List ℕ
 zeros len = replicate len 0
+
+-- so many sectors of one byte
+abbrev pub sectors_of : ℕ → ℕ → List ℕ
+sectors_of sectors byte = replicate (512 * sectors) byte
+
+-- the leaves of the tops: one top of leaf 0, one of leaves 0 and 1, and two of one leaf each
+abbrev pub one_leaf : List (List ℕ)
+one_leaf = (0 ∷ []) ∷ []
+
+abbrev pub mirror : List (List ℕ)
+mirror = (0 ∷ 1 ∷ []) ∷ []
+
+abbrev pub two_tops : List (List ℕ)
+two_tops = (0 ∷ []) ∷ (1 ∷ []) ∷ []
 
 -- a row over the first 64 KiB of a leaf
 abbrev pub row : ℕ → On → ℕ → ℕ → FaultKind → Row

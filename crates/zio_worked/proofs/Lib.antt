@@ -1,2 +1,3 @@
 pub mod BlockCases
 pub mod Evaluation
+pub mod MirrorCases

@@ -1,11 +1,13 @@
 -- Short words for scripts over small images, and what a run of one shows and leaves.
 use Prim.Native.String.{String}
 use Rattle.std.specs.Prelude.{ℕ, ◌*◌, List, [], ◌∷◌, ◌++◌, length, filter, replicate, Bool, true, false, Option, Some, None, codes}
+use Rattle.std.specs.List.{flat_map}
+use Rattle.zio_types.specs.declared.error.Errno.{Errno}
 use Rattle.zio_types.specs.declared.journal.Completion.{Completion}
 use Rattle.zio_types.specs.declared.journal.Role.{Role}
 use Rattle.zio_types.specs.declared.place.Place.{Place}
 use Rattle.zio_types.specs.declared.request.Prio.TheVariants.{SyncRead, SyncWrite}
-use Rattle.zio_types.specs.Choices.{Choice}
+use Rattle.zio_types.specs.Choices.{Ask, Choice}
 use Rattle.zio_blkptr.specs.declared.pointer.SumKind.{SumKind}
 use Rattle.zio_faults.specs.declared.table.FaultKind.{FaultKind}
 use Rattle.zio_faults.specs.declared.table.On.{On}
@@ -18,7 +20,7 @@ use Rattle.zio_script.specs.declared.script.Item.TheVariants.{Request as Request
 use Rattle.zio_script.specs.declared.script.Script.{Script}
 use Rattle.zio_script.specs.declared.script.Work.TheVariants.{Null, Read, Write, Free, Claim}
 use Rattle.zio_cksum.specs.Images.{Images}
-use Rattle.zio_gang.specs.Runs.{Course, run_script, ending}
+use Rattle.zio_gang.specs.Runs.{Course, Round, rounds_of, run_script, ending}
 use Rattle.zio_report.specs.declared.report.Show.TheVariants.{Report}
 use Rattle.zio_report.specs.Reports.{run_text}
 
@@ -83,21 +85,32 @@ mirror = (0 ∷ 1 ∷ []) ∷ []
 abbrev pub two_tops : List (List ℕ)
 two_tops = (0 ∷ []) ∷ (1 ∷ []) ∷ []
 
--- a row over the first 64 KiB of a leaf
-abbrev pub row : ℕ → On → ℕ → ℕ → FaultKind → Row
-row leaf on from until kind = record {
+-- a row over so many bytes of a leaf from there on
+abbrev pub row_over : ℕ → On → ℕ → ℕ → ℕ → ℕ → FaultKind → Row
+row_over leaf on at len from until kind = record {
   leaf = leaf;
   on = on;
-  at = 0;
-  len = 65536;
+  at = at;
+  len = len;
   from = from;
   until = until;
   kind = kind;
   first = false;
 }
 
+-- a row over the first 64 KiB of a leaf
+abbrev pub row : ℕ → On → ℕ → ℕ → FaultKind → Row
+row leaf on from until kind = row_over leaf on 0 65536 from until kind
+
+-- a row that holds in first passes alone
+abbrev pub in_first_pass : Row → Row
+in_first_pass r = record r { first = true }
+
 abbrev pub place : ℕ → ℕ → ℕ → Place
 place top sector sectors = record { top = top; sector = sector; sectors = sectors }
+
+abbrev pub completion : ℕ → ℕ → Option Errno → Completion
+completion request round error = record { request = request; round = round; error = error }
 
 -- what was found for a request in a round and an attempt, at a path and a role
 abbrev pub choice : ℕ → ℕ → ℕ → List ℕ → Role → ℕ → ℕ → List Place → Choice
@@ -133,6 +146,30 @@ report s images choices = shown s images choices [] false false (run_script s im
 -- the images after the run
 abbrev pub images_after : Script → Images → List Choice → Images
 images_after s images choices = (run_script s images choices).state.images
+
+-- the report and the images after the run
+pub record Outcome : Type 0 where
+  pub text : List ℕ
+  pub images : Images
+
+abbrev pub outcome_of : Script → Images → List Choice → Course → Outcome
+outcome_of s images choices course = record {
+  text = shown s images choices [] false false course;
+  images = course.state.images;
+}
+
+abbrev pub outcome : Script → Images → List Choice → Outcome
+outcome s images choices = outcome_of s images choices (run_script s images choices)
+
+-- the report with the journal's choices and completions
+abbrev pub report_with_journal : Script → Images → List Choice → List Completion → List ℕ
+report_with_journal s images choices completions =
+    shown s images choices completions true false (run_script s images choices)
+
+-- what all rounds asked for, in the order of the asks
+abbrev pub asks_made : Script → Images → List Choice → List Ask
+asks_made s images choices =
+    flat_map (λ (round : Round). round.asks) (rounds_of (run_script s images choices).events)
 
 -- the lines of a text
 abbrev pub lines : List String → List ℕ

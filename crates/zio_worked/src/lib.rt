@@ -2,5 +2,7 @@
 #![tactic(auto)]
 
 mod blocks;
+mod mirrors;
 
 pub use blocks::blocks_are_written_and_read;
+pub use mirrors::mirrors_give_and_mend;

@@ -1,3 +1,4 @@
 pub mod BlockCases
 pub mod Evaluation
+pub mod GangCases
 pub mod MirrorCases

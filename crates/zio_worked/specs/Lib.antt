@@ -1,3 +1,4 @@
 pub mod Blocks
+pub mod Gangs
 pub mod Mirrors
 pub mod Scripts

@@ -16,7 +16,7 @@ use Rattle.zio_script.specs.declared.script.Item.TheVariants.{Go, Clear}
 use Rattle.zio_cksum.specs.Blocks.{read_order}
 use Rattle.zio_cksum.specs.Images.{Images}
 use Rattle.zio_gang.specs.Journals.{asks_of}
-use Rattle.zio_worked.specs.Scripts.{script, write, read, must, can_fail, row, row_over, in_first_pass, choice, completion, place, one_leaf, mirror, two_tops, sectors_of, report, report_with_journal, asks_made, images_after, outcome, lines}
+use Rattle.zio_worked.specs.Scripts.{script, write, read, must, can_fail, row, row_of_bytes, in_first_pass, choice, completion, place, one_leaf, mirror, two_tops, sectors_of, report, report_with_journal, asks_in, images_after, outcome, lines}
 
 -- ---- words of this file
 
@@ -179,7 +179,7 @@ FlippedReadIsHandedOut =
 abbrev pub FlipTurnsTheCommonPart : Type 0
 FlipTurnsTheCommonPart =
     images_after
-    (script Wait mirror (row_over 0 Write 1600 100 0 1 Flip ∷ row_over 1 Write 1000 600 0 1 Flip ∷ []) (write_x Off 1 ∷ Go ∷ []))
+    (script Wait mirror (row_of_bytes 0 Write 1600 100 0 1 Flip ∷ row_of_bytes 1 Write 1000 600 0 1 Flip ∷ []) (write_x Off 1 ∷ Go ∷ []))
     two_leaves one_place
     ≡ (sectors_of 3 7 ++ replicate 64 65 ++ replicate 100 0xbe ++ replicate 348 65 ++ sectors_of 4 7)
     ∷ (sectors_of 3 7 ++ replicate 64 0xbe ++ replicate 448 65 ++ sectors_of 4 7) ∷ []
@@ -189,7 +189,7 @@ abbrev pub FirstRowCounts : Type 0
 FirstRowCounts =
     images_after
     (script Wait mirror (
-    row_over 0 Write 1600 100 0 1 Flip ∷ row 0 Write 0 1 Eio ∷ row 1 Write 0 1 Eio ∷ row_over 1 Write 1600 100 0 1 Flip ∷ [])
+    row_of_bytes 0 Write 1600 100 0 1 Flip ∷ row 0 Write 0 1 Eio ∷ row 1 Write 0 1 Eio ∷ row_of_bytes 1 Write 1600 100 0 1 Flip ∷ [])
     (write_x Off 1 ∷ Go ∷ []))
     two_leaves one_place
     ≡ (sectors_of 3 7 ++ replicate 64 65 ++ replicate 100 0xbe ++ replicate 348 65 ++ sectors_of 4 7) ∷ untouched ∷ []
@@ -205,16 +205,16 @@ hit at len = Some (record { kind = Eio; at = at; len = len })
 abbrev pub RowIsMetInItsRange : Type 0
 RowIsMetInItsRange =
     map (λ (r : Row). first_hit (r ∷ []) write_of_sector_3) (
-    row_over 0 Write 0 65536 0 2 Eio
-    ∷ row_over 0 Any 2047 1 1 2 Eio
-    ∷ row_over 0 Any 1500 37 0 65535 Eio
-    ∷ row_over 0 Write 0 1536 0 2 Eio
-    ∷ row_over 0 Write 2048 512 0 2 Eio
-    ∷ row_over 1 Write 0 65536 0 2 Eio
-    ∷ row_over 0 Read 0 65536 0 2 Eio
-    ∷ row_over 0 Write 0 65536 0 1 Eio
-    ∷ row_over 0 Write 0 65536 2 3 Eio
-    ∷ in_first_pass (row_over 0 Write 1700 10 0 2 Eio) ∷ [])
+    row_of_bytes 0 Write 0 65536 0 2 Eio
+    ∷ row_of_bytes 0 Any 2047 1 1 2 Eio
+    ∷ row_of_bytes 0 Any 1500 37 0 65535 Eio
+    ∷ row_of_bytes 0 Write 0 1536 0 2 Eio
+    ∷ row_of_bytes 0 Write 2048 512 0 2 Eio
+    ∷ row_of_bytes 1 Write 0 65536 0 2 Eio
+    ∷ row_of_bytes 0 Read 0 65536 0 2 Eio
+    ∷ row_of_bytes 0 Write 0 65536 0 1 Eio
+    ∷ row_of_bytes 0 Write 0 65536 2 3 Eio
+    ∷ in_first_pass (row_of_bytes 0 Write 1700 10 0 2 Eio) ∷ [])
     ≡ hit 1536 512 ∷ hit 2047 1 ∷ hit 1536 1 ∷ None ∷ None ∷ None ∷ None ∷ None ∷ None ∷ hit 1700 10 ∷ []
 
 -- a row holds from its first point on, and no longer at its last
@@ -377,7 +377,7 @@ MissingTopSuspendsTheWrite =
 -- each attempt asks anew
 abbrev pub EachAttemptAsks : Type 0
 EachAttemptAsks =
-    asks_made (script Wait two_tops gone_until_clear write_and_clear) two_leaves five_attempts ≡ asks_of five_attempts
+    asks_in (script Wait two_tops gone_until_clear write_and_clear) two_leaves five_attempts ≡ asks_of five_attempts
 
 abbrev pub AttemptsStandInTheJournal : Type 0
 AttemptsStandInTheJournal =

@@ -9,6 +9,7 @@ use Rattle.zio_types.specs.declared.place.Place.{Place}
 use Rattle.zio_types.specs.declared.request.Prio.TheVariants.{SyncRead, SyncWrite}
 use Rattle.zio_types.specs.Choices.{Ask, Choice}
 use Rattle.zio_blkptr.specs.declared.pointer.SumKind.{SumKind}
+use Rattle.zio_blkptr.specs.Pointers.{word}
 use Rattle.zio_faults.specs.declared.table.FaultKind.{FaultKind}
 use Rattle.zio_faults.specs.declared.table.On.{On}
 use Rattle.zio_faults.specs.declared.table.Row.{Row}
@@ -86,8 +87,8 @@ abbrev pub two_tops : List (List ℕ)
 two_tops = (0 ∷ []) ∷ (1 ∷ []) ∷ []
 
 -- a row over so many bytes of a leaf from there on
-abbrev pub row_over : ℕ → On → ℕ → ℕ → ℕ → ℕ → FaultKind → Row
-row_over leaf on at len from until kind = record {
+abbrev pub row_of_bytes : ℕ → On → ℕ → ℕ → ℕ → ℕ → FaultKind → Row
+row_of_bytes leaf on at len from until kind = record {
   leaf = leaf;
   on = on;
   at = at;
@@ -100,7 +101,7 @@ row_over leaf on at len from until kind = record {
 
 -- a row over the first 64 KiB of a leaf
 abbrev pub row : ℕ → On → ℕ → ℕ → FaultKind → Row
-row leaf on from until kind = row_over leaf on 0 65536 from until kind
+row leaf on from until kind = row_of_bytes leaf on 0 65536 from until kind
 
 -- a row that holds in first passes alone
 abbrev pub in_first_pass : Row → Row
@@ -125,6 +126,24 @@ choice request round attempt path role size copies places = record {
 
 abbrev pub script : Failmode → List (List ℕ) → List Row → List Item → Script
 script failmode tops rows items = record { failmode = failmode; tops = tops; faults = rows; items = items }
+
+-- ---- pointers and headers, by their words
+
+-- each word as eight bytes
+abbrev pub word_bytes : List ℕ → List ℕ
+word_bytes words = flat_map word words
+
+-- the checksum of a pointer that has none
+abbrev pub no_sum : List ℕ
+no_sum = 0 ∷ 0 ∷ 0 ∷ 0 ∷ []
+
+-- the pointer that has these six words for its places, then its properties, its birth and its checksum
+abbrev pub pointer_with : List ℕ → ℕ → ℕ → List ℕ → List ℕ
+pointer_with places properties birth sum = word_bytes (places ++ properties ∷ 0 ∷ 0 ∷ 0 ∷ birth ∷ 1 ∷ sum)
+
+-- the gang header that has the bytes of three pointers, and its checksum
+abbrev pub header_with : List ℕ → List ℕ → List ℕ
+header_with pointers sum = pointers ++ zeros 88 ++ word_bytes (0x0210da7ab10c7a11 ∷ sum)
 
 -- ---- what a run shows and leaves
 
@@ -166,12 +185,15 @@ abbrev pub report_with_journal : Script → Images → List Choice → List Comp
 report_with_journal s images choices completions =
     shown s images choices completions true false (run_script s images choices)
 
--- what all rounds asked for, in the order of the asks
-abbrev pub asks_made : Script → Images → List Choice → List Ask
-asks_made s images choices =
-    flat_map (λ (round : Round). round.asks) (rounds_of (run_script s images choices).events)
-
 -- the lines of a text
 abbrev pub lines : List String → List ℕ
 lines [] = []
 lines (text ∷ texts) = codes text ++ 10 ∷ lines texts
+
+-- the rounds of the run
+abbrev pub rounds_in : Script → Images → List Choice → List Round
+rounds_in s images choices = rounds_of ((run_script s images choices).events)
+
+-- what the run asked for, in the order of its rounds
+abbrev pub asks_in : Script → Images → List Choice → List Ask
+asks_in s images choices = flat_map (λ (round : Round). round.asks) (rounds_in s images choices)

@@ -2,7 +2,9 @@
 #![tactic(auto)]
 
 mod blocks;
+mod gangs;
 mod mirrors;
 
 pub use blocks::blocks_are_written_and_read;
+pub use gangs::gangs_take_scattered_space;
 pub use mirrors::mirrors_give_and_mend;

@@ -1,4 +1,5 @@
 pub mod BlockCases
+pub mod ClaimCases
 pub mod Evaluation
 pub mod GangCases
 pub mod MirrorCases

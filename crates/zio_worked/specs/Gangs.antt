@@ -19,23 +19,13 @@ use Rattle.zio_gang.specs.declared.tree.Tree.{Tree}
 use Rattle.zio_gang.specs.Journals.{asks_of}
 use Rattle.zio_gang.specs.Rounds.{used_places, block_of}
 use Rattle.zio_gang.specs.Runs.{run_script}
-use Rattle.zio_worked.specs.Scripts.{script, write, write_body, read, free, claim, can_fail, row, row_of_bytes, choice, completion, place, one_leaf, mirror, zeros, sectors_of, no_sum, pointer_with, header_with, report, report_with_journal, asks_in, images_after, outcome, lines}
+use Rattle.zio_worked.specs.Scripts.{script, write, write_body, read, free, claim, can_fail, row, row_of_bytes, choice, completion, place, one_leaf, mirror, zeros, sectors_of, no_sum, pointer_with, one_copy_at, two_copies_at, three_copies_at, header_with, report, report_with_journal, asks_in, images_after, outcome, lines}
 
 -- ---- words of this file
 
--- pointers without a checksum to one copy, two and three, each of one sector
-abbrev pub at_one : ℕ → List ℕ
-at_one a = pointer_with (1 ∷ a ∷ 0 ∷ 0 ∷ 0 ∷ 0 ∷ []) 0x8000020200000000 1 no_sum
-
-abbrev pub at_two : ℕ → ℕ → List ℕ
-at_two a b = pointer_with (1 ∷ a ∷ 1 ∷ b ∷ 0 ∷ 0 ∷ []) 0x8000020200000000 1 no_sum
-
-abbrev pub at_three : ℕ → ℕ → ℕ → List ℕ
-at_three a b c = pointer_with (1 ∷ a ∷ 1 ∷ b ∷ 1 ∷ c ∷ []) 0x8000020200000000 1 no_sum
-
 -- Of eight sectors f has 0, 2 and 4, and g has 6. The free ones are 1, 3, 5 and 7, and no two of them are neighbours.
 abbrev pub scattered : List Item
-scattered = claim 1 (codes "f") (at_three 0 2 4) ∷ Go ∷ claim 2 (codes "g") (at_one 6) ∷ Go ∷ []
+scattered = claim 1 (codes "f") (three_copies_at 0 2 4) ∷ Go ∷ claim 2 (codes "g") (one_copy_at 6) ∷ Go ∷ []
 
 -- then x is written, of two sectors
 abbrev pub write_x : Item
@@ -141,9 +131,9 @@ GangPointerHasTheWholeSum =
 -- Of sixteen sectors the even ones are claimed.
 abbrev pub every_other : List Item
 every_other =
-    claim 1 (codes "a") (at_three 0 2 4) ∷ Go
-    ∷ claim 2 (codes "b") (at_three 6 8 10) ∷ Go
-    ∷ claim 3 (codes "c") (at_two 12 14) ∷ Go ∷ []
+    claim 1 (codes "a") (three_copies_at 0 2 4) ∷ Go
+    ∷ claim 2 (codes "b") (three_copies_at 6 8 10) ∷ Go
+    ∷ claim 3 (codes "c") (two_copies_at 12 14) ∷ Go ∷ []
 
 -- four sectors, each different
 abbrev pub nested : Script
@@ -220,7 +210,7 @@ NestedGangIsStored =
 abbrev pub one_sector_left : List Item
 one_sector_left =
     claim 1 (codes "f") (pointer_with (2 ∷ 0 ∷ 2 ∷ 2 ∷ 2 ∷ 4 ∷ []) 0x8000020200010001 1 no_sum) ∷ Go
-    ∷ claim 2 (codes "g") (at_one 6) ∷ Go ∷ []
+    ∷ claim 2 (codes "g") (one_copy_at 6) ∷ Go ∷ []
 
 abbrev pub refused_header : List Choice
 refused_header = choice 3 3 0 [] Body 1024 1 [] ∷ choice 3 3 0 [] Head 512 2 (place 0 7 1 ∷ []) ∷ []
@@ -324,7 +314,7 @@ HeaderHasOneCopyMore =
 
 -- f has the sectors 0, 2 and 4, and g has 6 and 7
 abbrev pub three_sectors_left : List Item
-three_sectors_left = claim 1 (codes "f") (at_three 0 2 4) ∷ Go ∷ claim 2 (codes "g") (at_two 6 7) ∷ Go ∷ []
+three_sectors_left = claim 1 (codes "f") (three_copies_at 0 2 4) ∷ Go ∷ claim 2 (codes "g") (two_copies_at 6 7) ∷ Go ∷ []
 
 abbrev pub missing_member : List Choice
 missing_member =

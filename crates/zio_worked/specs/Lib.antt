@@ -1,4 +1,5 @@
 pub mod Blocks
+pub mod Claims
 pub mod Gangs
 pub mod Mirrors
 pub mod Scripts

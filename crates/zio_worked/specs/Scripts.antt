@@ -141,6 +141,16 @@ no_sum = 0 ∷ 0 ∷ 0 ∷ 0 ∷ []
 abbrev pub pointer_with : List ℕ → ℕ → ℕ → List ℕ → List ℕ
 pointer_with places properties birth sum = word_bytes (places ++ properties ∷ 0 ∷ 0 ∷ 0 ∷ birth ∷ 1 ∷ sum)
 
+-- a pointer without a checksum, of birth 1, to copies of one sector each on top 0
+abbrev pub one_copy_at : ℕ → List ℕ
+one_copy_at a = pointer_with (1 ∷ a ∷ 0 ∷ 0 ∷ 0 ∷ 0 ∷ []) 0x8000020200000000 1 no_sum
+
+abbrev pub two_copies_at : ℕ → ℕ → List ℕ
+two_copies_at a b = pointer_with (1 ∷ a ∷ 1 ∷ b ∷ 0 ∷ 0 ∷ []) 0x8000020200000000 1 no_sum
+
+abbrev pub three_copies_at : ℕ → ℕ → ℕ → List ℕ
+three_copies_at a b c = pointer_with (1 ∷ a ∷ 1 ∷ b ∷ 1 ∷ c ∷ []) 0x8000020200000000 1 no_sum
+
 -- the gang header that has the bytes of three pointers, and its checksum
 abbrev pub header_with : List ℕ → List ℕ → List ℕ
 header_with pointers sum = pointers ++ zeros 88 ++ word_bytes (0x0210da7ab10c7a11 ∷ sum)

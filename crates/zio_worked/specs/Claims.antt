@@ -1,0 +1,382 @@
+-- Claims of blocks that an image holds already: what binds a name, and what is refused.
+use Rattle.std.specs.Prelude.{◌≡◌, ℕ, List, [], ◌∷◌, ◌++◌, map, codes, replicate}
+use Prim.Native.String.{String}
+use Rattle.zio_types.specs.declared.place.Place.{Place}
+use Rattle.zio_faults.specs.declared.table.FaultKind.TheVariants.{Eio, Gone}
+use Rattle.zio_faults.specs.declared.table.On.TheVariants.{Read}
+use Rattle.zio_script.specs.declared.script.Failmode.TheVariants.{Wait}
+use Rattle.zio_script.specs.declared.script.Item.TheVariants.{Go}
+use Rattle.zio_script.specs.declared.script.Script.{Script}
+use Rattle.zio_cksum.specs.Images.{Images}
+use Rattle.zio_gang.specs.Rounds.{used_places}
+use Rattle.zio_gang.specs.Runs.{run_script}
+use Rattle.zio_worked.specs.Scripts.{script, read, claim, row, one_leaf, zeros, sectors_of, word_bytes, no_sum, pointer_with, one_copy_at, two_copies_at, header_with, report, outcome, lines}
+
+-- ---- words of this file
+
+-- eight sectors, with 0x41 in sector 5 and 0x42 in sector 6
+abbrev pub image : Images
+image = (sectors_of 5 7 ++ sectors_of 1 65 ++ sectors_of 1 66 ++ sectors_of 1 7) ∷ []
+
+-- the same with these bytes in sector 3
+abbrev pub image_with : List ℕ → Images
+image_with header = (sectors_of 3 7 ++ header ++ sectors_of 1 7 ++ sectors_of 1 65 ++ sectors_of 1 66 ++ sectors_of 1 7) ∷ []
+
+-- x is claimed by this pointer
+abbrev pub claim_x : List ℕ → Script
+claim_x pointer = script Wait one_leaf [] (claim 1 (codes "x") pointer ∷ Go ∷ [])
+
+-- x is claimed and read
+abbrev pub claim_and_read_x : List ℕ → Script
+claim_and_read_x pointer = script Wait one_leaf [] (claim 1 (codes "x") pointer ∷ Go ∷ read 2 (codes "x") ∷ Go ∷ [])
+
+-- the report of a claim with this line
+abbrev pub one_round : String → List ℕ
+one_round line = lines ("pool 1 1" ∷ "round 1 batch 1 point 0" ∷ line ∷ "end 0" ∷ [])
+
+-- ---- plain pointers
+
+-- what a claim binds is read from where it lies
+abbrev pub ClaimedBlockIsRead : Type 0
+ClaimedBlockIsRead =
+    outcome (claim_and_read_x (one_copy_at 5)) image []
+    ≡ record {
+      text = lines (
+          "pool 1 1"
+          ∷ "round 1 batch 1 point 0"
+          ∷ "1 claim x ok"
+          ∷ "round 2 batch 2 point 0"
+          ∷ "2 read x ok 512 20a0a0a080:83878787040:16439b9b85580:2d92628254f020"
+          ∷ "end 0" ∷ []);
+      images = image;
+    }
+
+-- a pointer to one sector by its fletcher4 sum
+abbrev pub summed : ℕ → List ℕ → List ℕ
+summed sector sum = pointer_with (1 ∷ sector ∷ 0 ∷ 0 ∷ 0 ∷ 0 ∷ []) 0x8000070200000000 1 sum
+
+-- a claim doesn't look at the bytes, so a wrong checksum is found by the read
+abbrev pub WrongSumIsFoundByTheRead : Type 0
+WrongSumIsFoundByTheRead =
+    report
+    (script Wait one_leaf [] (
+    claim 1 (codes "a") (summed 5 (0x20a0a0a080 ∷ 0x83878787040 ∷ 0x16439b9b85580 ∷ 0x2d92628254f020 ∷ [])) ∷ Go
+    ∷ claim 2 (codes "b") (summed 6 (0x20a0a0a080 ∷ 0x83878787040 ∷ 0x16439b9b85580 ∷ 0x2d92628254f020 ∷ [])) ∷ Go
+    ∷ read 3 (codes "a") ∷ read 4 (codes "b") ∷ Go ∷ []))
+    image []
+    ≡ lines (
+    "pool 1 1"
+    ∷ "round 1 batch 1 point 0"
+    ∷ "1 claim a ok"
+    ∷ "round 2 batch 2 point 0"
+    ∷ "2 claim b ok"
+    ∷ "round 3 batch 3 point 0"
+    ∷ "3 read a ok 512 20a0a0a080:83878787040:16439b9b85580:2d92628254f020"
+    ∷ "4 read b ECKSUM"
+    ∷ "end 0" ∷ [])
+
+-- two copies in one place, and two copies of two sectors that have one in common; side by side they are apart
+abbrev pub PlacesThatMeetAreRefused : Type 0
+PlacesThatMeetAreRefused =
+    report
+    (script Wait one_leaf [] (
+    claim 1 (codes "a") (two_copies_at 5 5) ∷ Go
+    ∷ claim 2 (codes "b") (pointer_with (2 ∷ 4 ∷ 2 ∷ 5 ∷ 0 ∷ 0 ∷ []) 0x8000020200010001 1 no_sum) ∷ Go
+    ∷ claim 3 (codes "c") (pointer_with (2 ∷ 4 ∷ 2 ∷ 6 ∷ 0 ∷ 0 ∷ []) 0x8000020200010001 1 no_sum) ∷ Go ∷ []))
+    image []
+    ≡ lines (
+    "pool 1 1"
+    ∷ "round 1 batch 1 point 0"
+    ∷ "1 claim a EEXIST"
+    ∷ "round 2 batch 2 point 0"
+    ∷ "2 claim b EEXIST"
+    ∷ "round 3 batch 3 point 0"
+    ∷ "3 claim c ok"
+    ∷ "end 0" ∷ [])
+
+-- a place that a bound block has isn't free; a claim that is refused takes nothing, so sector 4 is free for d
+abbrev pub UsedPlaceIsRefused : Type 0
+UsedPlaceIsRefused =
+    report
+    (script Wait one_leaf [] (
+    claim 1 (codes "a") (one_copy_at 5) ∷ Go
+    ∷ claim 2 (codes "b") (one_copy_at 5) ∷ Go
+    ∷ claim 3 (codes "c") (two_copies_at 4 5) ∷ Go
+    ∷ claim 4 (codes "d") (one_copy_at 4) ∷ Go ∷ []))
+    image []
+    ≡ lines (
+    "pool 1 1"
+    ∷ "round 1 batch 1 point 0"
+    ∷ "1 claim a ok"
+    ∷ "round 2 batch 2 point 0"
+    ∷ "2 claim b EEXIST"
+    ∷ "round 3 batch 3 point 0"
+    ∷ "3 claim c EEXIST"
+    ∷ "round 4 batch 4 point 0"
+    ∷ "4 claim d ok"
+    ∷ "end 0" ∷ [])
+
+-- the last sector can be claimed; not the one after it, nor a run that ends there, nor a place on a top that isn't there
+abbrev pub PlaceOutsideItsTopIsInvalid : Type 0
+PlaceOutsideItsTopIsInvalid =
+    report
+    (script Wait one_leaf [] (
+    claim 1 (codes "a") (one_copy_at 7) ∷ Go
+    ∷ claim 2 (codes "b") (one_copy_at 8) ∷ Go
+    ∷ claim 3 (codes "c") (pointer_with (2 ∷ 7 ∷ 0 ∷ 0 ∷ 0 ∷ 0 ∷ []) 0x8000020200010001 1 no_sum) ∷ Go
+    ∷ claim 4 (codes "d") (pointer_with (0x100000001 ∷ 0 ∷ 0 ∷ 0 ∷ 0 ∷ 0 ∷ []) 0x8000020200000000 1 no_sum) ∷ Go ∷ []))
+    image []
+    ≡ lines (
+    "pool 1 1"
+    ∷ "round 1 batch 1 point 0"
+    ∷ "1 claim a ok"
+    ∷ "round 2 batch 2 point 0"
+    ∷ "2 claim b EINVAL"
+    ∷ "round 3 batch 3 point 0"
+    ∷ "3 claim c EINVAL"
+    ∷ "round 4 batch 4 point 0"
+    ∷ "4 claim d EINVAL"
+    ∷ "end 0" ∷ [])
+
+abbrev pub ZerosAreNoPointer : Type 0
+ZerosAreNoPointer = report (claim_x (zeros 128)) image [] ≡ one_round "1 claim x EINVAL"
+
+-- a name that is bound is refused before its pointer is read
+abbrev pub BoundNameIsNotClaimedAgain : Type 0
+BoundNameIsNotClaimedAgain =
+    report
+    (script Wait one_leaf [] (
+    claim 1 (codes "x") (one_copy_at 5) ∷ Go
+    ∷ claim 2 (codes "x") (one_copy_at 6) ∷ Go
+    ∷ claim 3 (codes "x") (zeros 128) ∷ Go ∷ []))
+    image []
+    ≡ lines (
+    "pool 1 1"
+    ∷ "round 1 batch 1 point 0"
+    ∷ "1 claim x ok"
+    ∷ "round 2 batch 2 point 0"
+    ∷ "2 claim x EEXIST"
+    ∷ "round 3 batch 3 point 0"
+    ∷ "3 claim x EEXIST"
+    ∷ "end 0" ∷ [])
+
+-- a plain block isn't read by its claim, so a device's error doesn't matter
+abbrev pub PlainClaimReadsNothing : Type 0
+PlainClaimReadsNothing =
+    report
+    (script Wait one_leaf (row 0 Read 0 1 Gone ∷ []) (claim 1 (codes "x") (one_copy_at 5) ∷ Go ∷ []))
+    image []
+    ≡ one_round "1 claim x ok"
+
+-- ---- gangs
+
+-- a gang of two sectors, and one of a single sector, with the header at sector 3
+abbrev pub gang_of_two : List ℕ
+gang_of_two = pointer_with (1 ∷ 0x8000000000000003 ∷ 0 ∷ 0 ∷ 0 ∷ 0 ∷ []) 0x8000020200010001 1 no_sum
+
+abbrev pub gang_of_one : List ℕ
+gang_of_one = pointer_with (1 ∷ 0x8000000000000003 ∷ 0 ∷ 0 ∷ 0 ∷ 0 ∷ []) 0x8000020200000000 1 no_sum
+
+-- the header for sector 3 and birth 1 of members at sectors 5 and 6
+abbrev pub good_header : List ℕ
+good_header =
+    header_with (one_copy_at 5 ++ one_copy_at 6 ++ zeros 128)
+    (0x2bb5287c223b6020 ∷ 0x38cdf0a697b9fe77 ∷ 0x87bde43c40d050cc ∷ 0xfc7ff97caf80adb0 ∷ [])
+
+abbrev pub ClaimedGangIsRead : Type 0
+ClaimedGangIsRead =
+    outcome (claim_and_read_x gang_of_two) (image_with good_header) []
+    ≡ record {
+      text = lines (
+          "pool 1 1"
+          ∷ "round 1 batch 1 point 0"
+          ∷ "1 claim x ok"
+          ∷ "round 2 batch 2 point 0"
+          ∷ "2 read x ok 1024 41c1c1c180:20e1a1a180c0:b0666e6dbe080:2c92f2784be5860"
+          ∷ "end 0" ∷ []);
+      images = image_with good_header;
+    }
+
+-- a header is good only where it was made for: a copy of it at sector 2 isn't
+abbrev pub HeaderMadeForAnotherPlaceIsRefused : Type 0
+HeaderMadeForAnotherPlaceIsRefused =
+    report
+    (script Wait one_leaf [] (
+    claim 1 (codes "a") (pointer_with (1 ∷ 0x8000000000000002 ∷ 0 ∷ 0 ∷ 0 ∷ 0 ∷ []) 0x8000020200010001 1 no_sum) ∷ Go
+    ∷ claim 2 (codes "b") gang_of_two ∷ Go ∷ []))
+    ((sectors_of 2 7 ++ good_header ++ good_header ++ sectors_of 1 7 ++ sectors_of 1 65 ++ sectors_of 1 66 ++ sectors_of 1 7) ∷ [])
+    []
+    ≡ lines (
+    "pool 1 1"
+    ∷ "round 1 batch 1 point 0"
+    ∷ "1 claim a ECKSUM"
+    ∷ "round 2 batch 2 point 0"
+    ∷ "2 claim b ok"
+    ∷ "end 0" ∷ [])
+
+-- the one member of this header is the gang that it heads, so the headers never end
+abbrev pub endless_header : List ℕ
+endless_header =
+    header_with (gang_of_one ++ zeros 128 ++ zeros 128)
+    (0x45f23bc690891790 ∷ 0xe78ea90be9799f3 ∷ 0xfb1ccc6d896c0f4f ∷ 0x1ec729828dca3311 ∷ [])
+
+abbrev pub EndlessGangIsRefused : Type 0
+EndlessGangIsRefused = report (claim_x gang_of_one) (image_with endless_header) [] ≡ one_round "1 claim x ECKSUM"
+
+-- ---- headers that are none
+
+-- a byte of the filler is set, and the checksum is that of these bytes
+abbrev pub header_with_filler : List ℕ
+header_with_filler =
+    one_copy_at 5 ++ one_copy_at 6 ++ zeros 128 ++ zeros 16 ++ 1 ∷ zeros 71
+    ++ word_bytes (0x0210da7ab10c7a11 ∷ 0x3b74f3e3f618ae48 ∷ 0x758963a25b77724 ∷ 0xc84daf14977c216b ∷ 0x289fb8a05c63e1f8 ∷ [])
+
+-- the magic has another lowest byte
+abbrev pub header_of_other_magic : List ℕ
+header_of_other_magic =
+    one_copy_at 5 ++ one_copy_at 6 ++ zeros 128 ++ zeros 88
+    ++ word_bytes (0x0210da7ab10c7a12 ∷ 0x58e46b7407187d57 ∷ 0xdd052115c3197ad9 ∷ 0xdc0acd0c45cd42a0 ∷ 0x5d5a88effc2fa3d5 ∷ [])
+
+-- the checksum is off by one
+abbrev pub header_of_other_sum : List ℕ
+header_of_other_sum =
+    header_with (one_copy_at 5 ++ one_copy_at 6 ++ zeros 128)
+    (0x2bb5287c223b6020 ∷ 0x38cdf0a697b9fe77 ∷ 0x87bde43c40d050cc ∷ 0xfc7ff97caf80adb1 ∷ [])
+
+-- made for birth 2
+abbrev pub header_of_other_birth : List ℕ
+header_of_other_birth =
+    header_with (one_copy_at 5 ++ one_copy_at 6 ++ zeros 128)
+    (0x7bfb722779a5719d ∷ 0x5c64d690743bca4e ∷ 0x81b35def64fb0036 ∷ 0x9b8f0f3836094694 ∷ [])
+
+-- the members aren't those of two sectors: one too few, and one too many
+abbrev pub header_of_one : List ℕ
+header_of_one =
+    header_with (one_copy_at 5 ++ zeros 128 ++ zeros 128)
+    (0x5f32471c8596bb79 ∷ 0xfd837a9923aee3b1 ∷ 0x6714002b15d8a315 ∷ 0x934e3690382ba6b1 ∷ [])
+
+abbrev pub header_of_three : List ℕ
+header_of_three =
+    header_with (one_copy_at 4 ++ one_copy_at 5 ++ one_copy_at 6)
+    (0x60c59a415fcd51fe ∷ 0x255c5569fa9d9cb1 ∷ 0xfa95f8be834620bb ∷ 0x80a65aa44a8dbf73 ∷ [])
+
+-- a member stands behind one that is absent
+abbrev pub header_with_a_gap : List ℕ
+header_with_a_gap =
+    header_with (zeros 128 ++ one_copy_at 5 ++ one_copy_at 6)
+    (0x1f6b6e10eec5852d ∷ 0x3dc3e409136e4d22 ∷ 0x77249dd6ede2ab22 ∷ 0x3c4d6ae99e1a484c ∷ [])
+
+-- the second pointer has a place of no sectors
+abbrev pub header_of_no_pointer : List ℕ
+header_of_no_pointer =
+    header_with (
+    one_copy_at 5 ++ pointer_with (0 ∷ 5 ∷ 0 ∷ 0 ∷ 0 ∷ 0 ∷ []) 0x8000020200000000 1 no_sum ++ zeros 128)
+    (0xe8c284aa0928fe16 ∷ 0xde4c0f97d3123795 ∷ 0x6827aa702ba25db ∷ 0xc73022eaa606757f ∷ [])
+
+-- each of them has the right checksum but where it says otherwise, and is no header
+abbrev pub BadHeadersAreRefused : Type 0
+BadHeadersAreRefused =
+    map (λ header. report (claim_x gang_of_two) (image_with header) []) (
+    header_with_filler ∷ header_of_other_magic ∷ header_of_other_sum ∷ header_of_other_birth
+    ∷ header_of_one ∷ header_of_three ∷ header_with_a_gap ∷ header_of_no_pointer ∷ [])
+    ≡ replicate 8 (one_round "1 claim x ECKSUM")
+
+-- ---- places of a claimed gang
+
+-- the second member lies where the first does, outside the top, and where the header lies
+abbrev pub header_of_5_and_5 : List ℕ
+header_of_5_and_5 =
+    header_with (one_copy_at 5 ++ one_copy_at 5 ++ zeros 128)
+    (0x5366ea935fcb62d2 ∷ 0xd0ae9d0dd4238338 ∷ 0xb7045cd9d83c26c0 ∷ 0x5ab1e4b5cf69ff36 ∷ [])
+
+abbrev pub header_of_5_and_8 : List ℕ
+header_of_5_and_8 =
+    header_with (one_copy_at 5 ++ one_copy_at 8 ++ zeros 128)
+    (0xb65b5d0be1f0c93c ∷ 0x9bca6b153a6fdada ∷ 0x8239d1cc048fb56 ∷ 0x2ba6e67c08a1cb7b ∷ [])
+
+abbrev pub header_of_5_and_3 : List ℕ
+header_of_5_and_3 =
+    header_with (one_copy_at 5 ++ one_copy_at 3 ++ zeros 128)
+    (0xaac7b0606eeed3cc ∷ 0xb8cecd0678b9bacf ∷ 0x7c34291af40891fc ∷ 0xf4c10c2066d09a69 ∷ [])
+
+abbrev pub PlacesOfAClaimedGangStandApart : Type 0
+PlacesOfAClaimedGangStandApart =
+    map (λ header. report (claim_x gang_of_two) (image_with header) [])
+    (header_of_5_and_5 ∷ header_of_5_and_8 ∷ header_of_5_and_3 ∷ [])
+    ≡ one_round "1 claim x EEXIST" ∷ one_round "1 claim x EINVAL" ∷ one_round "1 claim x EEXIST" ∷ []
+
+abbrev pub used_after : Script → Images → List Place
+used_after s images = used_places ((run_script s images []).state.bound)
+
+-- after them nothing is used
+abbrev pub RefusedClaimTakesNothing : Type 0
+RefusedClaimTakesNothing =
+    map (λ header. used_after (claim_x gang_of_two) (image_with header))
+    (header_of_5_and_5 ∷ header_of_5_and_8 ∷ header_of_5_and_3 ∷ [])
+    ≡ replicate 3 []
+
+-- the headers of a gang whose first member is a gang at sector 2, where no header is; the second is at 6, and outside
+abbrev pub header_of_a_bad_gang : List ℕ
+header_of_a_bad_gang =
+    header_with (
+    pointer_with (1 ∷ 0x8000000000000002 ∷ 0 ∷ 0 ∷ 0 ∷ 0 ∷ []) 0x8000020200000000 1 no_sum ++ one_copy_at 6 ++ zeros 128)
+    (0x9e76e233c79ecf12 ∷ 0xeee7b75f3c54700c ∷ 0xac09c03af1d34ad9 ∷ 0x5a1eba654617ce6f ∷ [])
+
+abbrev pub header_of_a_bad_gang_and_9 : List ℕ
+header_of_a_bad_gang_and_9 =
+    header_with (
+    pointer_with (1 ∷ 0x8000000000000002 ∷ 0 ∷ 0 ∷ 0 ∷ 0 ∷ []) 0x8000020200000000 1 no_sum ++ one_copy_at 9 ++ zeros 128)
+    (0xf1007bb6cfb63db1 ∷ 0xf2a77e7a6222ca60 ∷ 0x3e5b4f79995b9e21 ∷ 0xb3a1959b49ea8af0 ∷ [])
+
+-- the first member is a gang outside the top
+abbrev pub header_of_a_gang_outside : List ℕ
+header_of_a_gang_outside =
+    header_with (
+    pointer_with (1 ∷ 0x8000000000000009 ∷ 0 ∷ 0 ∷ 0 ∷ 0 ∷ []) 0x8000020200000000 1 no_sum ++ one_copy_at 6 ++ zeros 128)
+    (0x524d57ff2654d0d1 ∷ 0xe1825815af332b3f ∷ 0x61f1e34bc6277a5d ∷ 0x738212fcbd4cc0e6 ∷ [])
+
+-- of the errors of a tree the worst counts
+abbrev pub ErrorsOfAClaimedTreeJoin : Type 0
+ErrorsOfAClaimedTreeJoin =
+    map (λ header. report (claim_x gang_of_two) (image_with header) [])
+    (header_of_a_bad_gang ∷ header_of_a_bad_gang_and_9 ∷ header_of_a_gang_outside ∷ [])
+    ≡ one_round "1 claim x ECKSUM" ∷ one_round "1 claim x EINVAL" ∷ one_round "1 claim x EINVAL" ∷ []
+
+-- ---- devices
+
+-- a claim may always fail, so it doesn't wait for a device that is gone
+abbrev pub ClaimHasTheDevicesError : Type 0
+ClaimHasTheDevicesError =
+    map (λ kind. report
+    (script Wait one_leaf (row 0 Read 0 1 kind ∷ []) (claim 1 (codes "x") gang_of_two ∷ Go ∷ [])) (image_with good_header) [])
+    (Eio ∷ Gone ∷ [])
+    ≡ one_round "1 claim x EIO" ∷ one_round "1 claim x ENXIO" ∷ []
+
+-- two copies of the header, at sectors 2 and 3, which is made for the first
+abbrev pub gang_of_two_copies : List ℕ
+gang_of_two_copies =
+    pointer_with (1 ∷ 0x8000000000000002 ∷ 1 ∷ 0x8000000000000003 ∷ 0 ∷ 0 ∷ []) 0x8000020200010001 1 no_sum
+
+abbrev pub header_for_2 : List ℕ
+header_for_2 = header_with (one_copy_at 5 ++ one_copy_at 6 ++ zeros 128) (0xf5986f096a81364 ∷ 0x87f96906c1ee8bf6 ∷ 0xf6ddd96a24dbc9cf ∷ 0x93e9947dd0b03d94 ∷ [])
+
+-- the first copy is no header: the claim takes the second and mends nothing
+abbrev pub ClaimMendsNothing : Type 0
+ClaimMendsNothing =
+    outcome (claim_x gang_of_two_copies) (image_with header_for_2) []
+    ≡ record { text = one_round "1 claim x ok"; images = image_with header_for_2 }
+
+-- a read of what was claimed mends it
+abbrev pub ReadOfAClaimedGangMendsIt : Type 0
+ReadOfAClaimedGangMendsIt =
+    outcome (claim_and_read_x gang_of_two_copies) (image_with header_for_2) []
+    ≡ record {
+      text = lines (
+          "pool 1 1"
+          ∷ "round 1 batch 1 point 0"
+          ∷ "1 claim x ok"
+          ∷ "round 2 batch 2 point 0"
+          ∷ "2 read x ok 1024 41c1c1c180:20e1a1a180c0:b0666e6dbe080:2c92f2784be5860"
+          ∷ "end 0" ∷ []);
+      images = (sectors_of 2 7 ++ header_for_2 ++ header_for_2 ++ sectors_of 1 7 ++ sectors_of 1 65 ++ sectors_of 1 66 ++ sectors_of 1 7) ∷ [];
+    }

@@ -1,0 +1,23 @@
+ghost use Rattle.zio_worked.specs.Claims.{ClaimedBlockIsRead, WrongSumIsFoundByTheRead, PlacesThatMeetAreRefused, UsedPlaceIsRefused, PlaceOutsideItsTopIsInvalid, ZerosAreNoPointer, BoundNameIsNotClaimedAgain, PlainClaimReadsNothing, ClaimedGangIsRead, HeaderMadeForAnotherPlaceIsRefused, EndlessGangIsRefused, BadHeadersAreRefused, PlacesOfAClaimedGangStandApart, RefusedClaimTakesNothing, ErrorsOfAClaimedTreeJoin, ClaimHasTheDevicesError, ClaimMendsNothing, ReadOfAClaimedGangMendsIt};
+
+/// A claim binds a name to a block that the images hold already.
+pub fn claims_bind_what_is_there()
+    ensures claimed_block_is_read { ClaimedBlockIsRead }
+    ensures wrong_sum_is_found_by_the_read { WrongSumIsFoundByTheRead }
+    ensures places_that_meet_are_refused { PlacesThatMeetAreRefused }
+    ensures used_place_is_refused { UsedPlaceIsRefused }
+    ensures place_outside_its_top_is_invalid { PlaceOutsideItsTopIsInvalid }
+    ensures zeros_are_no_pointer { ZerosAreNoPointer }
+    ensures bound_name_is_not_claimed_again { BoundNameIsNotClaimedAgain }
+    ensures plain_claim_reads_nothing { PlainClaimReadsNothing }
+    ensures claimed_gang_is_read { ClaimedGangIsRead }
+    ensures header_made_for_another_place_is_refused { HeaderMadeForAnotherPlaceIsRefused }
+    ensures endless_gang_is_refused { EndlessGangIsRefused }
+    ensures bad_headers_are_refused { BadHeadersAreRefused }
+    ensures places_of_a_claimed_gang_stand_apart { PlacesOfAClaimedGangStandApart }
+    ensures refused_claim_takes_nothing { RefusedClaimTakesNothing }
+    ensures errors_of_a_claimed_tree_join { ErrorsOfAClaimedTreeJoin }
+    ensures claim_has_the_devices_error { ClaimHasTheDevicesError }
+    ensures claim_mends_nothing { ClaimMendsNothing }
+    ensures read_of_a_claimed_gang_mends_it { ReadOfAClaimedGangMendsIt }
+{}

@@ -1,6 +1,6 @@
 use Rattle.std.proofs.Common.{refl}
 use Rattle.zio_worked.proofs.Evaluation.{evaluation}
-use Rattle.zio_worked.specs.Blocks.{WriteThenRead, WriteThenReadWithSha256, OneSectorChanges, SequenceBeginsWithTheFirstValue, SequenceOfTenBytes, ContentIsPadded, WholeSectorsArentPadded, ShortBodyIsOneSector, UnboundNameIsNotFound, BoundNameIsNotWrittenAgain, FreedNameIsNotFound, FreedNameIsWrittenAgain}
+use Rattle.zio_worked.specs.Blocks.{WriteThenRead, WriteThenReadWithSha256, OneSectorChanges, SequenceBeginsWithTheFirstValue, SequenceOfTenBytes, ContentIsPadded, WholeSectorsArentPadded, ShortBodyIsOneSector, ZerosAreRead, BytesAreShown, UnboundNameIsNotFound, BoundNameIsNotWrittenAgain, FreedNameIsNotFound, FreedNameIsWrittenAgain, LateBatchRunsAfterTheClear, BirthIsTheBatch}
 
 pub write_then_read : WriteThenRead
 unfolding evaluation
@@ -34,6 +34,14 @@ pub short_body_is_one_sector : ShortBodyIsOneSector
 unfolding evaluation
 short_body_is_one_sector = refl
 
+pub zeros_are_read : ZerosAreRead
+unfolding evaluation
+zeros_are_read = refl
+
+pub bytes_are_shown : BytesAreShown
+unfolding evaluation
+bytes_are_shown = refl
+
 pub unbound_name_is_not_found : UnboundNameIsNotFound
 unfolding evaluation
 unbound_name_is_not_found = refl
@@ -49,3 +57,11 @@ freed_name_is_not_found = refl
 pub freed_name_is_written_again : FreedNameIsWrittenAgain
 unfolding evaluation
 freed_name_is_written_again = refl
+
+pub late_batch_runs_after_the_clear : LateBatchRunsAfterTheClear
+unfolding evaluation
+late_batch_runs_after_the_clear = refl
+
+pub birth_is_the_batch : BirthIsTheBatch
+unfolding evaluation
+birth_is_the_batch = refl

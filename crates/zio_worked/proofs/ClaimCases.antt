@@ -1,6 +1,6 @@
 use Rattle.std.proofs.Common.{refl}
 use Rattle.zio_worked.proofs.Evaluation.{evaluation}
-use Rattle.zio_worked.specs.Claims.{ClaimedBlockIsRead, WrongSumIsFoundByTheRead, PlacesThatMeetAreRefused, UsedPlaceIsRefused, PlaceOutsideItsTopIsInvalid, ZerosAreNoPointer, BoundNameIsNotClaimedAgain, PlainClaimReadsNothing, ClaimedGangIsRead, HeaderMadeForAnotherPlaceIsRefused, EndlessGangIsRefused, BadHeadersAreRefused, PlacesOfAClaimedGangStandApart, RefusedClaimTakesNothing, ErrorsOfAClaimedTreeJoin, ClaimHasTheDevicesError, ClaimMendsNothing, ReadOfAClaimedGangMendsIt}
+use Rattle.zio_worked.specs.Claims.{ClaimedBlockIsRead, WrongSumIsFoundByTheRead, PlacesThatMeetAreRefused, UsedPlaceIsRefused, PlaceOutsideItsTopIsInvalid, ZerosAreNoPointer, BoundNameIsNotClaimedAgain, PlainClaimReadsNothing, ClaimedGangIsRead, HeaderMadeForAnotherPlaceIsRefused, EndlessGangIsRefused, DeepestGangIsClaimed, GangBelowTheDeepestIsRefused, WrittenGangIsClaimed, BadHeadersAreRefused, PlacesOfAClaimedGangStandApart, RefusedClaimTakesNothing, ErrorsOfAClaimedTreeJoin, FreedClaimUsesNoPlace, TopHasTheSectorsOfItsSmallestLeaf, ClaimHasTheDevicesError, ClaimReadsInTheRetry, ClaimMendsNothing, ReadOfAClaimedGangMendsIt}
 
 pub claimed_block_is_read : ClaimedBlockIsRead
 unfolding evaluation
@@ -46,6 +46,18 @@ pub endless_gang_is_refused : EndlessGangIsRefused
 unfolding evaluation
 endless_gang_is_refused = refl
 
+pub deepest_gang_is_claimed : DeepestGangIsClaimed
+unfolding evaluation
+deepest_gang_is_claimed = refl
+
+pub gang_below_the_deepest_is_refused : GangBelowTheDeepestIsRefused
+unfolding evaluation
+gang_below_the_deepest_is_refused = refl
+
+pub written_gang_is_claimed : WrittenGangIsClaimed
+unfolding evaluation
+written_gang_is_claimed = refl
+
 pub bad_headers_are_refused : BadHeadersAreRefused
 unfolding evaluation
 bad_headers_are_refused = refl
@@ -62,9 +74,21 @@ pub errors_of_a_claimed_tree_join : ErrorsOfAClaimedTreeJoin
 unfolding evaluation
 errors_of_a_claimed_tree_join = refl
 
+pub freed_claim_uses_no_place : FreedClaimUsesNoPlace
+unfolding evaluation
+freed_claim_uses_no_place = refl
+
+pub top_has_the_sectors_of_its_smallest_leaf : TopHasTheSectorsOfItsSmallestLeaf
+unfolding evaluation
+top_has_the_sectors_of_its_smallest_leaf = refl
+
 pub claim_has_the_devices_error : ClaimHasTheDevicesError
 unfolding evaluation
 claim_has_the_devices_error = refl
+
+pub claim_reads_in_the_retry : ClaimReadsInTheRetry
+unfolding evaluation
+claim_reads_in_the_retry = refl
 
 pub claim_mends_nothing : ClaimMendsNothing
 unfolding evaluation

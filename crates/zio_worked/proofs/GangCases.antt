@@ -1,6 +1,6 @@
 use Rattle.std.proofs.Common.{refl}
 use Rattle.zio_worked.proofs.Evaluation.{evaluation}
-use Rattle.zio_worked.specs.Gangs.{ScatteredSpaceMakesAGang, GangAsksForItsParts, GangStandsInTheJournal, GangPointerHasTheWholeSum, GangInsideAGang, NestedGangAsksForItsParts, NestedGangIsStored, RefusedHeaderSuspendsTheWrite, RefusedHeaderIsAskedForOnce, RefusedHeaderFailsTheWrite, OneSectorWithoutSpaceFails, OneSectorAsksForNoHeader, OneSectorWithoutSpaceWaits, HeaderHasOneCopyMore, MemberWithoutAPlaceIsZeros, MemberThatIsntWrittenHasItsPointer, DamagedHeaderIsMended, HeaderMendedThroughAFlipStaysWrong, FreeMendsAHeader, DamagedHeadersFailTheRead, FreeWaitsForItsHeader, MembersBelowABadHeaderArentRead, DamagedMemberIsMended, DamagedMemberFailsTheRead, GangUsesAllItsPlaces, FreedGangUsesNoPlace, NothingIsUsedAfterAllFrees}
+use Rattle.zio_worked.specs.Gangs.{ScatteredSpaceMakesAGang, GangAsksForItsParts, GangStandsInTheJournal, GangPointerHasTheWholeSum, GangInsideAGang, NestedGangAsksForItsParts, NestedGangIsStored, RefusedHeaderSuspendsTheWrite, RefusedHeaderIsAskedForOnce, RefusedHeaderFailsTheWrite, OneSectorWithoutSpaceFails, OneSectorAsksForNoHeader, OneSectorWithoutSpaceWaits, HeaderHasOneCopyMore, MemberWithoutAPlaceIsZeros, MemberThatIsntWrittenHasItsPointer, HeaderCopyThatIsntWrittenFailsTheGang, PlacesComeBackAfterTheRound, SecondAttemptOfAGangAsksAnew, DamagedHeaderIsMended, HeaderMendedThroughAFlipStaysWrong, FreeMendsAHeader, DamagedHeadersFailTheRead, FreeWaitsForItsHeader, MembersBelowABadHeaderArentRead, DamagedMemberIsMended, DamagedMemberFailsTheRead, FreeWaitsForAMissingDevice, MissingDeviceFailsAFreeUnderContinue, PlainFreeReadsNothing, GangUsesAllItsPlaces, FreedGangUsesNoPlace, NothingIsUsedAfterAllFrees}
 
 pub scattered_space_makes_a_gang : ScatteredSpaceMakesAGang
 unfolding evaluation
@@ -66,6 +66,18 @@ pub member_that_isnt_written_has_its_pointer : MemberThatIsntWrittenHasItsPointe
 unfolding evaluation
 member_that_isnt_written_has_its_pointer = refl
 
+pub header_copy_that_isnt_written_fails_the_gang : HeaderCopyThatIsntWrittenFailsTheGang
+unfolding evaluation
+header_copy_that_isnt_written_fails_the_gang = refl
+
+pub places_come_back_after_the_round : PlacesComeBackAfterTheRound
+unfolding evaluation
+places_come_back_after_the_round = refl
+
+pub second_attempt_of_a_gang_asks_anew : SecondAttemptOfAGangAsksAnew
+unfolding evaluation
+second_attempt_of_a_gang_asks_anew = refl
+
 pub damaged_header_is_mended : DamagedHeaderIsMended
 unfolding evaluation
 damaged_header_is_mended = refl
@@ -97,6 +109,18 @@ damaged_member_is_mended = refl
 pub damaged_member_fails_the_read : DamagedMemberFailsTheRead
 unfolding evaluation
 damaged_member_fails_the_read = refl
+
+pub free_waits_for_a_missing_device : FreeWaitsForAMissingDevice
+unfolding evaluation
+free_waits_for_a_missing_device = refl
+
+pub missing_device_fails_a_free_under_continue : MissingDeviceFailsAFreeUnderContinue
+unfolding evaluation
+missing_device_fails_a_free_under_continue = refl
+
+pub plain_free_reads_nothing : PlainFreeReadsNothing
+unfolding evaluation
+plain_free_reads_nothing = refl
 
 pub gang_uses_all_its_places : GangUsesAllItsPlaces
 unfolding evaluation

@@ -1,16 +1,19 @@
 -- Writes and reads of single blocks.
-use Rattle.std.specs.Prelude.{◌≡◌, List, [], ◌∷◌, ◌++◌, codes, replicate}
+use Rattle.std.specs.Prelude.{◌≡◌, List, [], ◌∷◌, ◌++◌, map, codes, replicate, Some, option_map}
 use Rattle.zio_types.specs.declared.journal.Role.TheVariants.{Body}
 use Rattle.zio_types.specs.Choices.{Choice}
+use Rattle.zio_blkptr.specs.declared.pointer.Bp.{Bp}
 use Rattle.zio_blkptr.specs.declared.pointer.SumKind.{SumKind}
-use Rattle.zio_blkptr.specs.declared.pointer.SumKind.TheVariants.{Fletcher4, Sha256}
-use Rattle.zio_script.specs.declared.script.Body.TheVariants.{Seq}
+use Rattle.zio_blkptr.specs.declared.pointer.SumKind.TheVariants.{Off, Fletcher4, Sha256}
+use Rattle.zio_faults.specs.declared.table.FaultKind.TheVariants.{Eio}
+use Rattle.zio_faults.specs.declared.table.On.TheVariants.{Write as OnWrite}
+use Rattle.zio_script.specs.declared.script.Body.TheVariants.{Hex, Seq}
 use Rattle.zio_script.specs.declared.script.Failmode.TheVariants.{Wait}
-use Rattle.zio_script.specs.declared.script.Item.TheVariants.{Go}
+use Rattle.zio_script.specs.declared.script.Item.TheVariants.{Go, Clear}
 use Rattle.zio_script.specs.declared.script.Script.{Script}
 use Rattle.zio_script.specs.Bodies.{body_of}
 use Rattle.zio_gang.specs.Writes.{content_of}
-use Rattle.zio_worked.specs.Scripts.{script, write, read, free, choice, place, one_leaf, zeros, sectors_of, report, images_after, lines}
+use Rattle.zio_worked.specs.Scripts.{script, write, write_body, read, free, choice, place, one_leaf, zeros, sectors_of, row, report, report_with_data, images_after, pointer_after, lines}
 
 -- ---- a write and a read
 
@@ -88,6 +91,30 @@ ShortBodyIsOneSector =
     ∷ "2 read x ok 512 65f5f5f59:2e337373454:a991cdcd243c:1a4000967c5696"
     ∷ "end 0" ∷ [])
 
+-- the sums of zeros are shown by one digit each
+abbrev pub ZerosAreRead : Type 0
+ZerosAreRead =
+    report
+    (script Wait one_leaf [] (write 1 (codes "x") Fletcher4 1 0 512 ∷ Go ∷ read 2 (codes "x") ∷ Go ∷ []))
+    (sectors_of 8 7 ∷ []) at_sector_3
+    ≡ lines (
+    "pool 1 1"
+    ∷ "round 1 batch 1 point 0"
+    ∷ "1 write x ok 512"
+    ∷ "round 2 batch 2 point 0"
+    ∷ "2 read x ok 512 0:0:0:0"
+    ∷ "end 0" ∷ [])
+
+-- the bytes of a read are shown where they are asked for: here two, and 510 zeros of padding
+abbrev pub BytesAreShown : Type 0
+BytesAreShown =
+    report_with_data
+    (script Wait one_leaf [] (write_body 1 (codes "x") Off 1 (Hex (0xde ∷ 0xad ∷ [])) ∷ Go ∷ read 2 (codes "x") ∷ Go ∷ []))
+    (sectors_of 8 7 ∷ []) at_sector_3
+    ≡ lines ("pool 1 1" ∷ "round 1 batch 1 point 0" ∷ "1 write x ok 512" ∷ "round 2 batch 2 point 0" ∷ [])
+    ++ codes "2 read x ok 512 adde:56ef00:15e73780:3b5236500 data dead" ++ replicate 1020 48
+    ++ 10 ∷ lines ("end 0" ∷ [])
+
 -- ---- names
 
 -- a name that was never bound isn't found
@@ -152,3 +179,41 @@ FreedNameIsWrittenAgain =
     ∷ "round 4 batch 4 point 0"
     ∷ "4 read x ok 512 20a0a0a080:83878787040:16439b9b85580:2d92628254f020"
     ∷ "end 0" ∷ [])
+
+-- ---- births
+
+-- The first write fails until the clear, and the second batch is held until it is done, so that it runs in round 3.
+abbrev pub late_batch : Script
+late_batch =
+    script Wait one_leaf (row 0 OnWrite 0 1 Eio ∷ []) (
+    write 1 (codes "x") Off 1 65 512 ∷ Go ∷ write 2 (codes "y") Off 1 66 512 ∷ Go ∷ Clear ∷ [])
+
+abbrev pub late_choices : List Choice
+late_choices =
+    choice 1 1 0 [] Body 512 1 (place 0 0 1 ∷ [])
+    ∷ choice 1 1 1 [] Body 512 1 (place 0 1 1 ∷ [])
+    ∷ choice 1 1 2 [] Body 512 1 (place 0 2 1 ∷ [])
+    ∷ choice 1 1 3 [] Body 512 1 (place 0 3 1 ∷ [])
+    ∷ choice 1 2 0 [] Body 512 1 (place 0 0 1 ∷ [])
+    ∷ choice 2 3 0 [] Body 512 1 (place 0 1 1 ∷ []) ∷ []
+
+abbrev pub LateBatchRunsAfterTheClear : Type 0
+LateBatchRunsAfterTheClear =
+    report late_batch (zeros 4096 ∷ []) late_choices
+    ≡ lines (
+    "pool 1 1"
+    ∷ "round 1 batch 1 point 0"
+    ∷ "1 write x suspended"
+    ∷ "held 2"
+    ∷ "round 2 clear point 1"
+    ∷ "1 write x ok 512"
+    ∷ "round 3 batch 2 point 1"
+    ∷ "2 write y ok 512"
+    ∷ "end 0" ∷ [])
+
+-- a block's birth is the number of its batch, in whichever round it was written
+abbrev pub BirthIsTheBatch : Type 0
+BirthIsTheBatch =
+    map (λ name. option_map (λ (bp : Bp). bp.birth) (pointer_after late_batch (zeros 4096 ∷ []) late_choices name))
+    (codes "x" ∷ codes "y" ∷ [])
+    ≡ Some 1 ∷ Some 2 ∷ []

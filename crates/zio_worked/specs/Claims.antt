@@ -1,16 +1,14 @@
 -- Claims of blocks that an image holds already: what binds a name, and what is refused.
-use Rattle.std.specs.Prelude.{◌≡◌, ℕ, List, [], ◌∷◌, ◌++◌, map, codes, replicate}
+use Rattle.std.specs.Prelude.{◌≡◌, ℕ, ◌+◌, ◌^◌, List, [], ◌∷◌, ◌++◌, map, codes, replicate}
 use Prim.Native.String.{String}
-use Rattle.zio_types.specs.declared.place.Place.{Place}
 use Rattle.zio_faults.specs.declared.table.FaultKind.TheVariants.{Eio, Gone}
 use Rattle.zio_faults.specs.declared.table.On.TheVariants.{Read}
 use Rattle.zio_script.specs.declared.script.Failmode.TheVariants.{Wait}
 use Rattle.zio_script.specs.declared.script.Item.TheVariants.{Go}
 use Rattle.zio_script.specs.declared.script.Script.{Script}
 use Rattle.zio_cksum.specs.Images.{Images}
-use Rattle.zio_gang.specs.Rounds.{used_places}
-use Rattle.zio_gang.specs.Runs.{run_script}
-use Rattle.zio_worked.specs.Scripts.{script, read, claim, row, one_leaf, zeros, sectors_of, word_bytes, no_sum, pointer_with, one_copy_at, two_copies_at, header_with, report, outcome, lines}
+use Rattle.zio_worked.specs.Gangs.{nested_image}
+use Rattle.zio_worked.specs.Scripts.{script, read, claim, row, one_leaf, zeros, sectors_of, word_bytes, no_sum, pointer_with, one_copy_at, two_copies_at, header_with, report, outcome, lines, free, in_first_pass, mirror, used_after}
 
 -- ---- words of this file
 
@@ -170,12 +168,12 @@ PlainClaimReadsNothing =
 
 -- ---- gangs
 
--- a gang of two sectors, and one of a single sector, with the header at sector 3
+-- a gang of two sectors, with its header at sector 3, and one of a single sector
 abbrev pub gang_of_two : List ℕ
 gang_of_two = pointer_with (1 ∷ 0x8000000000000003 ∷ 0 ∷ 0 ∷ 0 ∷ 0 ∷ []) 0x8000020200010001 1 no_sum
 
-abbrev pub gang_of_one : List ℕ
-gang_of_one = pointer_with (1 ∷ 0x8000000000000003 ∷ 0 ∷ 0 ∷ 0 ∷ 0 ∷ []) 0x8000020200000000 1 no_sum
+abbrev pub gang_of_one_at : ℕ → List ℕ
+gang_of_one_at sector = pointer_with (1 ∷ (2 ^ 63 + sector) ∷ 0 ∷ 0 ∷ 0 ∷ 0 ∷ []) 0x8000020200000000 1 no_sum
 
 -- the header for sector 3 and birth 1 of members at sectors 5 and 6
 abbrev pub good_header : List ℕ
@@ -217,11 +215,71 @@ HeaderMadeForAnotherPlaceIsRefused =
 -- the one member of this header is the gang that it heads, so the headers never end
 abbrev pub endless_header : List ℕ
 endless_header =
-    header_with (gang_of_one ++ zeros 128 ++ zeros 128)
+    header_with (gang_of_one_at 3 ++ zeros 128 ++ zeros 128)
     (0x45f23bc690891790 ∷ 0xe78ea90be9799f3 ∷ 0xfb1ccc6d896c0f4f ∷ 0x1ec729828dca3311 ∷ [])
 
 abbrev pub EndlessGangIsRefused : Type 0
-EndlessGangIsRefused = report (claim_x gang_of_one) (image_with endless_header) [] ≡ one_round "1 claim x ECKSUM"
+EndlessGangIsRefused = report (claim_x (gang_of_one_at 3)) (image_with endless_header) [] ≡ one_round "1 claim x ECKSUM"
+
+-- a header of one member
+abbrev pub header_to : List ℕ → List ℕ → List ℕ
+header_to member sum = header_with (member ++ zeros 128 ++ zeros 128) sum
+
+-- the headers of seven gangs at the sectors 0 to 6, each with the next one as its member
+abbrev pub seven_headers : List ℕ
+seven_headers =
+    header_to (gang_of_one_at 1) (0x30f1552c91947a60 ∷ 0x539fe79b5570f928 ∷ 0x36773407b9dee9f1 ∷ 0x5fdfbf9165d39e31 ∷ [])
+    ++ header_to (gang_of_one_at 2) (0x6a00102bd6cd3af0 ∷ 0x94944a016530ca0e ∷ 0x265c5d247834088d ∷ 0x5f5ad8f9c2e5f958 ∷ [])
+    ++ header_to (gang_of_one_at 3) (0x7a601d5074d950fa ∷ 0x6f241258015ccc73 ∷ 0x783f0985bd6bf536 ∷ 0x9eb2b2c15fdbecf ∷ [])
+    ++ header_to (gang_of_one_at 4) (0x9e57dc7e3e4858e8 ∷ 0x3537e4ef5d4eedb0 ∷ 0x6822d9cbad5e94a3 ∷ 0x3ece5e08e88d30af ∷ [])
+    ++ header_to (gang_of_one_at 5) (0x30756b70c4b5d323 ∷ 0x89eaac26c7c298b6 ∷ 0xebe17da3d1c18923 ∷ 0x4b6023fb0720a3a1 ∷ [])
+    ++ header_to (gang_of_one_at 6) (0x6b49955f613c549 ∷ 0xc0dbeb164b02c87e ∷ 0x51119d9b90a4e13a ∷ 0x90cbb317e687957 ∷ [])
+    ++ header_to (gang_of_one_at 7) (0x3d4b4094b509c382 ∷ 0x984f82aff5ce81ce ∷ 0xd3e02c42dff87027 ∷ 0x2829e44e20fd4f6b ∷ [])
+
+-- an eighth header, at depth 7, may have a body under it
+abbrev pub DeepestGangIsClaimed : Type 0
+DeepestGangIsClaimed =
+    report (claim_and_read_x (gang_of_one_at 0))
+    ((
+    seven_headers
+    ++ header_to (one_copy_at 8) (0xccbf76ce6893fead ∷ 0xa7a4de00c2afd668 ∷ 0xe553e8a12ca6ac5c ∷ 0xfb27c62a52d78fdf ∷ [])
+    ++ sectors_of 1 65) ∷ [])
+    []
+    ≡ lines (
+    "pool 1 1"
+    ∷ "round 1 batch 1 point 0"
+    ∷ "1 claim x ok"
+    ∷ "round 2 batch 2 point 0"
+    ∷ "2 read x ok 512 20a0a0a080:83878787040:16439b9b85580:2d92628254f020"
+    ∷ "end 0" ∷ [])
+
+-- a ninth header, at depth 8, is too deep
+abbrev pub GangBelowTheDeepestIsRefused : Type 0
+GangBelowTheDeepestIsRefused =
+    report (claim_x (gang_of_one_at 0))
+    ((
+    seven_headers
+    ++ header_to (gang_of_one_at 8) (0x15027a3c6d97a618 ∷ 0xf5fde307c59643fb ∷ 0x89534cb1bd6be734 ∷ 0xa408166018f3431b ∷ [])
+    ++ header_to (one_copy_at 9) (0x8dc29ff4e037f539 ∷ 0x6eda3900b2ab2ddc ∷ 0x6aa033e90188f6f9 ∷ 0xc8f7a6ab50b7be7 ∷ [])
+    ++ sectors_of 1 65) ∷ [])
+    []
+    ≡ one_round "1 claim x ECKSUM"
+
+-- the gang in a gang that a run wrote in its fourth batch, by its pointer
+abbrev pub WrittenGangIsClaimed : Type 0
+WrittenGangIsClaimed =
+    report
+    (claim_and_read_x (pointer_with
+    (1 ∷ 0x8000000000000001 ∷ 1 ∷ 0x8000000000000003 ∷ 0 ∷ 0 ∷ []) 0x8000070200030003 4
+    (0xff31f81fe6 ∷ 0xfa8f51889d06 ∷ 0xa4fa4ad30cc2d6 ∷ 0x52248ca277410d96 ∷ [])))
+    (nested_image ∷ []) []
+    ≡ lines (
+    "pool 1 1"
+    ∷ "round 1 batch 1 point 0"
+    ∷ "1 claim x ok"
+    ∷ "round 2 batch 2 point 0"
+    ∷ "2 read x ok 2048 ff31f81fe6:fa8f51889d06:a4fa4ad30cc2d6:52248ca277410d96"
+    ∷ "end 0" ∷ [])
 
 -- ---- headers that are none
 
@@ -305,13 +363,10 @@ PlacesOfAClaimedGangStandApart =
     (header_of_5_and_5 ∷ header_of_5_and_8 ∷ header_of_5_and_3 ∷ [])
     ≡ one_round "1 claim x EEXIST" ∷ one_round "1 claim x EINVAL" ∷ one_round "1 claim x EEXIST" ∷ []
 
-abbrev pub used_after : Script → Images → List Place
-used_after s images = used_places ((run_script s images []).state.bound)
-
 -- after them nothing is used
 abbrev pub RefusedClaimTakesNothing : Type 0
 RefusedClaimTakesNothing =
-    map (λ header. used_after (claim_x gang_of_two) (image_with header))
+    map (λ header. used_after (claim_x gang_of_two) (image_with header) [])
     (header_of_5_and_5 ∷ header_of_5_and_8 ∷ header_of_5_and_3 ∷ [])
     ≡ replicate 3 []
 
@@ -319,20 +374,20 @@ RefusedClaimTakesNothing =
 abbrev pub header_of_a_bad_gang : List ℕ
 header_of_a_bad_gang =
     header_with (
-    pointer_with (1 ∷ 0x8000000000000002 ∷ 0 ∷ 0 ∷ 0 ∷ 0 ∷ []) 0x8000020200000000 1 no_sum ++ one_copy_at 6 ++ zeros 128)
+    gang_of_one_at 2 ++ one_copy_at 6 ++ zeros 128)
     (0x9e76e233c79ecf12 ∷ 0xeee7b75f3c54700c ∷ 0xac09c03af1d34ad9 ∷ 0x5a1eba654617ce6f ∷ [])
 
 abbrev pub header_of_a_bad_gang_and_9 : List ℕ
 header_of_a_bad_gang_and_9 =
     header_with (
-    pointer_with (1 ∷ 0x8000000000000002 ∷ 0 ∷ 0 ∷ 0 ∷ 0 ∷ []) 0x8000020200000000 1 no_sum ++ one_copy_at 9 ++ zeros 128)
+    gang_of_one_at 2 ++ one_copy_at 9 ++ zeros 128)
     (0xf1007bb6cfb63db1 ∷ 0xf2a77e7a6222ca60 ∷ 0x3e5b4f79995b9e21 ∷ 0xb3a1959b49ea8af0 ∷ [])
 
 -- the first member is a gang outside the top
 abbrev pub header_of_a_gang_outside : List ℕ
 header_of_a_gang_outside =
     header_with (
-    pointer_with (1 ∷ 0x8000000000000009 ∷ 0 ∷ 0 ∷ 0 ∷ 0 ∷ []) 0x8000020200000000 1 no_sum ++ one_copy_at 6 ++ zeros 128)
+    gang_of_one_at 9 ++ one_copy_at 6 ++ zeros 128)
     (0x524d57ff2654d0d1 ∷ 0xe1825815af332b3f ∷ 0x61f1e34bc6277a5d ∷ 0x738212fcbd4cc0e6 ∷ [])
 
 -- of the errors of a tree the worst counts
@@ -342,7 +397,30 @@ ErrorsOfAClaimedTreeJoin =
     (header_of_a_bad_gang ∷ header_of_a_bad_gang_and_9 ∷ header_of_a_gang_outside ∷ [])
     ≡ one_round "1 claim x ECKSUM" ∷ one_round "1 claim x EINVAL" ∷ one_round "1 claim x EINVAL" ∷ []
 
+-- a free gives back all that the claim took
+abbrev pub FreedClaimUsesNoPlace : Type 0
+FreedClaimUsesNoPlace =
+    used_after
+    (script Wait one_leaf [] (claim 1 (codes "x") gang_of_two ∷ Go ∷ free 2 (codes "x") ∷ Go ∷ []))
+    (image_with good_header) []
+    ≡ []
+
 -- ---- devices
+
+-- leaf 1 has five whole sectors, and so has the mirror
+abbrev pub TopHasTheSectorsOfItsSmallestLeaf : Type 0
+TopHasTheSectorsOfItsSmallestLeaf =
+    report
+    (script Wait mirror [] (
+    claim 1 (codes "a") (one_copy_at 4) ∷ Go ∷ claim 2 (codes "b") (one_copy_at 5) ∷ Go ∷ []))
+    (zeros 4096 ∷ zeros 3000 ∷ []) []
+    ≡ lines (
+    "pool 1 2"
+    ∷ "round 1 batch 1 point 0"
+    ∷ "1 claim a ok"
+    ∷ "round 2 batch 2 point 0"
+    ∷ "2 claim b EINVAL"
+    ∷ "end 0" ∷ [])
 
 -- a claim may always fail, so it doesn't wait for a device that is gone
 abbrev pub ClaimHasTheDevicesError : Type 0
@@ -351,6 +429,14 @@ ClaimHasTheDevicesError =
     (script Wait one_leaf (row 0 Read 0 1 kind ∷ []) (claim 1 (codes "x") gang_of_two ∷ Go ∷ [])) (image_with good_header) [])
     (Eio ∷ Gone ∷ [])
     ≡ one_round "1 claim x EIO" ∷ one_round "1 claim x ENXIO" ∷ []
+
+-- its headers are read in two passes, as any block is
+abbrev pub ClaimReadsInTheRetry : Type 0
+ClaimReadsInTheRetry =
+    report
+    (script Wait one_leaf (in_first_pass (row 0 Read 0 1 Eio) ∷ []) (claim 1 (codes "x") gang_of_two ∷ Go ∷ []))
+    (image_with good_header) []
+    ≡ one_round "1 claim x ok"
 
 -- two copies of the header, at sectors 2 and 3, which is made for the first
 abbrev pub gang_of_two_copies : List ℕ

@@ -1,25 +1,22 @@
 -- Blocks for which no run of sectors is long enough: headers and members, how they are read, mended and freed.
-use Rattle.std.specs.Prelude.{◌≡◌, ℕ, ◌-◌, List, [], ◌∷◌, ◌++◌, map, filter, take, drop, codes, true, Some, None, option_map}
+use Rattle.std.specs.Prelude.{◌≡◌, ℕ, ◌-◌, List, [], ◌∷◌, ◌++◌, map, filter, take, drop, codes, true, Some, None}
 use Rattle.zio_types.specs.declared.journal.Role.TheVariants.{Body, Head}
 use Rattle.zio_types.specs.declared.place.Place.{Place}
 use Rattle.zio_types.specs.Choices.{Choice}
 use Rattle.zio_types.specs.Places.{is_free, run_at}
 use Rattle.zio_blkptr.specs.declared.pointer.SumKind.TheVariants.{Off, Fletcher4}
-use Rattle.zio_faults.specs.declared.table.FaultKind.TheVariants.{Eio, Flip}
-use Rattle.zio_faults.specs.declared.table.On.TheVariants.{Write}
+use Rattle.zio_faults.specs.declared.table.FaultKind.TheVariants.{Eio, Gone, Flip}
+use Rattle.zio_faults.specs.declared.table.On.TheVariants.{Read, Write}
 use Rattle.zio_faults.specs.declared.table.Row.{Row}
 use Rattle.zio_script.specs.declared.script.Body.TheVariants.{Seq}
-use Rattle.zio_script.specs.declared.script.Failmode.TheVariants.{Wait}
+use Rattle.zio_script.specs.declared.script.Failmode.TheVariants.{Wait, Continue}
 use Rattle.zio_script.specs.declared.script.Item.{Item}
 use Rattle.zio_script.specs.declared.script.Item.TheVariants.{Go, Clear}
 use Rattle.zio_script.specs.declared.script.Script.{Script}
 use Rattle.zio_script.specs.Bodies.{sequence}
 use Rattle.zio_cksum.specs.Images.{Images}
-use Rattle.zio_gang.specs.declared.tree.Tree.{Tree}
 use Rattle.zio_gang.specs.Journals.{asks_of}
-use Rattle.zio_gang.specs.Rounds.{used_places, block_of}
-use Rattle.zio_gang.specs.Runs.{run_script}
-use Rattle.zio_worked.specs.Scripts.{script, write, write_body, read, free, claim, can_fail, row, row_of_bytes, choice, completion, place, one_leaf, mirror, zeros, sectors_of, no_sum, pointer_with, one_copy_at, two_copies_at, three_copies_at, header_with, report, report_with_journal, asks_in, images_after, outcome, lines}
+use Rattle.zio_worked.specs.Scripts.{script, write, write_body, read, free, claim, can_fail, row, row_of_bytes, choice, completion, place, one_leaf, mirror, zeros, sectors_of, no_sum, pointer_with, one_copy_at, two_copies_at, three_copies_at, header_with, report, report_with_journal, asks_in, images_after, outcome, pointer_after, used_after, lines}
 
 -- ---- words of this file
 
@@ -114,8 +111,7 @@ GangStandsInTheJournal =
 -- the gang's own pointer: its places are the header's copies, its size and checksum are the whole content's
 abbrev pub GangPointerHasTheWholeSum : Type 0
 GangPointerHasTheWholeSum =
-    option_map (λ (tree : Tree). tree.bp)
-    (block_of ((run_script (script Wait one_leaf [] written) image gang_choices).state.bound) (codes "x"))
+    pointer_after (script Wait one_leaf [] written) image gang_choices (codes "x")
     ≡ Some (record {
       count = 2;
       places = place 0 1 1 ∷ place 0 3 1 ∷ place 0 0 0 ∷ [];
@@ -195,14 +191,16 @@ outer_header =
     ++ part_pointer 15 (0x40be270a9d ∷ 0x109a330fd313 ∷ 0x2d576eacc6e2c ∷ 0x5dcbcea84705e0 ∷ []))
     (0xeeaf5a3db783f283 ∷ 0xe4ac7a7f2d302335 ∷ 0x296ff91cac5b982e ∷ 0x9913a8e770c2ab96 ∷ [])
 
--- the headers stand in two copies each, and the parts of the body in the order of the asks
-abbrev pub NestedGangIsStored : Type 0
-NestedGangIsStored =
-    images_after nested (sectors_of 16 7 ∷ []) nested_choices
-    ≡ (sectors_of 1 7 ++ outer_header ++ sectors_of 1 7 ++ outer_header
+-- the headers in two copies each, and the parts of the body in the order of the asks
+abbrev pub nested_image : List ℕ
+nested_image =
+    sectors_of 1 7 ++ outer_header ++ sectors_of 1 7 ++ outer_header
     ++ sectors_of 1 7 ++ inner_header ++ sectors_of 1 7 ++ inner_header
     ++ sectors_of 1 7 ++ take 512 (sequence 0 2048) ++ sectors_of 1 7 ++ take 512 (drop 512 (sequence 0 2048))
-    ++ sectors_of 1 7 ++ take 512 (drop 1024 (sequence 0 2048)) ++ sectors_of 1 7 ++ drop 1536 (sequence 0 2048)) ∷ []
+    ++ sectors_of 1 7 ++ take 512 (drop 1024 (sequence 0 2048)) ++ sectors_of 1 7 ++ drop 1536 (sequence 0 2048)
+
+abbrev pub NestedGangIsStored : Type 0
+NestedGangIsStored = images_after nested (sectors_of 16 7 ∷ []) nested_choices ≡ nested_image ∷ []
 
 -- ---- asks that are refused
 
@@ -368,6 +366,75 @@ MemberThatIsntWrittenHasItsPointer =
       images = image_with header header (sectors_of 1 65) (sectors_of 1 7) ∷ [];
     }
 
+-- every copy of the header has to be written
+abbrev pub HeaderCopyThatIsntWrittenFailsTheGang : Type 0
+HeaderCopyThatIsntWrittenFailsTheGang =
+    outcome
+    (script Wait one_leaf (row_of_bytes 0 Write 512 512 0 1 Eio ∷ []) (scattered ++ can_fail write_x ∷ Go ∷ []))
+    image gang_choices
+    ≡ record {
+      text = lines (
+          "pool 1 1"
+          ∷ "round 1 batch 1 point 0"
+          ∷ "1 claim f ok"
+          ∷ "round 2 batch 2 point 0"
+          ∷ "2 claim g ok"
+          ∷ "round 3 batch 3 point 0"
+          ∷ "3 write x EIO"
+          ∷ "end 0" ∷ []);
+      images = image_with (sectors_of 1 7) header (sectors_of 1 65) (sectors_of 1 65) ∷ [];
+    }
+
+-- ---- a gang that is attempted again
+
+-- the second member can't be written until the clear
+abbrev pub write_again : Script
+write_again = script Wait one_leaf (row_of_bytes 0 Write 3584 512 0 1 Eio ∷ []) (written ++ Clear ∷ [])
+
+abbrev pub again_choices : List Choice
+again_choices =
+    gang_choices
+    ++ choice 3 3 1 [] Body 1024 1 []
+    ∷ choice 3 3 1 [] Head 512 2 []
+    ∷ choice 3 4 0 [] Body 1024 1 []
+    ∷ choice 3 4 0 [] Head 512 2 (place 0 7 1 ∷ place 0 5 1 ∷ [])
+    ∷ choice 3 4 0 (0 ∷ []) Body 512 1 (place 0 3 1 ∷ [])
+    ∷ choice 3 4 0 (1 ∷ []) Body 512 1 (place 0 1 1 ∷ []) ∷ []
+
+-- What the first attempt took isn't free for the second, which finds no space and so suspends the write. After the
+-- round it is free again.
+abbrev pub PlacesComeBackAfterTheRound : Type 0
+PlacesComeBackAfterTheRound =
+    report_with_journal write_again image again_choices
+    (completion 1 1 None ∷ completion 2 2 None ∷ completion 3 4 None ∷ [])
+    ≡ lines (
+    "pool 1 1"
+    ∷ "round 1 batch 1 point 0"
+    ∷ "1 claim f ok"
+    ∷ "order 1"
+    ∷ "round 2 batch 2 point 0"
+    ∷ "2 claim g ok"
+    ∷ "order 2"
+    ∷ "round 3 batch 3 point 0"
+    ∷ "3 write x suspended"
+    ∷ "take 3 0 - body 1024 1 refused"
+    ∷ "take 3 0 - head 512 2 0:1 0:3"
+    ∷ "take 3 0 0 body 512 1 0:5"
+    ∷ "take 3 0 1 body 512 1 0:7"
+    ∷ "take 3 1 - body 1024 1 refused"
+    ∷ "take 3 1 - head 512 2 refused"
+    ∷ "round 4 clear point 1"
+    ∷ "3 write x ok 1024"
+    ∷ "take 3 0 - body 1024 1 refused"
+    ∷ "take 3 0 - head 512 2 0:7 0:5"
+    ∷ "take 3 0 0 body 512 1 0:3"
+    ∷ "take 3 0 1 body 512 1 0:1"
+    ∷ "order 3"
+    ∷ "end 0" ∷ [])
+
+abbrev pub SecondAttemptOfAGangAsksAnew : Type 0
+SecondAttemptOfAGangAsksAnew = asks_in write_again image again_choices ≡ asks_of again_choices
+
 -- ---- copies of a header
 
 -- the copy at sector 1 is stored flipped until the clear
@@ -492,25 +559,83 @@ DamagedMemberFailsTheRead =
     ∷ "4 read x ECKSUM"
     ∷ "end 0" ∷ [])
 
--- ---- places of a gang
+-- ---- frees
 
-abbrev pub used_after : Script → List Place
-used_after s = used_places ((run_script s image gang_choices).state.bound)
+-- the header can't be read until the clear; a free waits for a device that is gone, even where it may fail
+abbrev pub FreeWaitsForAMissingDevice : Type 0
+FreeWaitsForAMissingDevice =
+    report
+    (script Wait one_leaf (row 0 Read 0 1 Gone ∷ []) (
+    written ++ can_fail (free 4 (codes "x")) ∷ Go ∷ Clear ∷ read 5 (codes "x") ∷ Go ∷ []))
+    image gang_choices
+    ≡ lines (
+    "pool 1 1"
+    ∷ "round 1 batch 1 point 0"
+    ∷ "1 claim f ok"
+    ∷ "round 2 batch 2 point 0"
+    ∷ "2 claim g ok"
+    ∷ "round 3 batch 3 point 0"
+    ∷ "3 write x ok 1024"
+    ∷ "round 4 batch 4 point 0"
+    ∷ "4 free x suspended"
+    ∷ "round 5 clear point 1"
+    ∷ "4 free x ok"
+    ∷ "round 6 batch 5 point 1"
+    ∷ "5 read x ENOENT"
+    ∷ "end 0" ∷ [])
+
+-- under continue it has the error
+abbrev pub MissingDeviceFailsAFreeUnderContinue : Type 0
+MissingDeviceFailsAFreeUnderContinue =
+    report
+    (script Continue one_leaf (row 0 Read 0 1 Gone ∷ []) (written ++ can_fail (free 4 (codes "x")) ∷ Go ∷ []))
+    image gang_choices
+    ≡ lines (
+    "pool 1 1"
+    ∷ "round 1 batch 1 point 0"
+    ∷ "1 claim f ok"
+    ∷ "round 2 batch 2 point 0"
+    ∷ "2 claim g ok"
+    ∷ "round 3 batch 3 point 0"
+    ∷ "3 write x ok 1024"
+    ∷ "round 4 batch 4 point 0"
+    ∷ "4 free x ENXIO"
+    ∷ "end 0" ∷ [])
+
+-- a free of a plain block reads nothing, so it doesn't wait
+abbrev pub PlainFreeReadsNothing : Type 0
+PlainFreeReadsNothing =
+    report
+    (script Wait one_leaf (row 0 Read 0 1 Gone ∷ []) (scattered ++ free 3 (codes "f") ∷ Go ∷ []))
+    image []
+    ≡ lines (
+    "pool 1 1"
+    ∷ "round 1 batch 1 point 0"
+    ∷ "1 claim f ok"
+    ∷ "round 2 batch 2 point 0"
+    ∷ "2 claim g ok"
+    ∷ "round 3 batch 3 point 0"
+    ∷ "3 free f ok"
+    ∷ "end 0" ∷ [])
+
+-- ---- places of a gang
 
 abbrev pub not_used : List Place → List ℕ
 not_used used = filter (λ sector. is_free used (run_at 0 1 sector)) (0 ∷ 1 ∷ 2 ∷ 3 ∷ 4 ∷ 5 ∷ 6 ∷ 7 ∷ [])
 
 -- a bound gang has its header's places and its members'
 abbrev pub GangUsesAllItsPlaces : Type 0
-GangUsesAllItsPlaces = not_used (used_after (script Wait one_leaf [] written)) ≡ []
+GangUsesAllItsPlaces = not_used (used_after (script Wait one_leaf [] written) image gang_choices) ≡ []
 
 -- a free gives all of them back
 abbrev pub FreedGangUsesNoPlace : Type 0
 FreedGangUsesNoPlace =
-    not_used (used_after (script Wait one_leaf [] (written ++ free 4 (codes "x") ∷ Go ∷ []))) ≡ 1 ∷ 3 ∷ 5 ∷ 7 ∷ []
+    not_used (used_after (script Wait one_leaf [] (written ++ free 4 (codes "x") ∷ Go ∷ [])) image gang_choices) ≡ 1 ∷ 3 ∷ 5 ∷ 7 ∷ []
 
 -- once every block is freed no place is used
 abbrev pub NothingIsUsedAfterAllFrees : Type 0
 NothingIsUsedAfterAllFrees =
-    used_after (script Wait one_leaf [] (written ++ free 4 (codes "f") ∷ free 5 (codes "g") ∷ free 6 (codes "x") ∷ Go ∷ []))
+    used_after
+    (script Wait one_leaf [] (written ++ free 4 (codes "f") ∷ free 5 (codes "g") ∷ free 6 (codes "x") ∷ Go ∷ []))
+    image gang_choices
     ≡ []

@@ -275,6 +275,25 @@ RepairIsMadeInThePassOfTheGoodRead =
       images = at_3 65 ∷ at_3 65 ∷ [];
     }
 
+-- In the first pass leaf 0 fails and leaf 1 has missed the write. In the retry leaf 0 is good at once, and what failed in
+-- the first pass isn't mended.
+abbrev pub RetryMendsItsOwnFailuresAlone : Type 0
+RetryMendsItsOwnFailuresAlone =
+    outcome
+    (script Wait mirror (row 1 Write 0 1 Eio ∷ in_first_pass (row 0 Read 0 65535 Eio) ∷ [])
+    (write_x Sha256 1 ∷ Go ∷ Clear ∷ read_x ∷ Go ∷ []))
+    two_leaves one_place
+    ≡ record {
+      text = lines (
+          "pool 1 2"
+          ∷ "round 1 batch 1 point 0"
+          ∷ "1 write x ok 512"
+          ∷ "round 2 batch 2 point 1"
+          ∷ "2 read x ok 512 20a0a0a080:83878787040:16439b9b85580:2d92628254f020"
+          ∷ "end 0" ∷ []);
+      images = at_3 65 ∷ untouched ∷ [];
+    }
+
 -- where the place is good by one leaf, there is no retry and the other stays as it is
 abbrev pub OneGoodLeafNeedsNoRetry : Type 0
 OneGoodLeafNeedsNoRetry =

@@ -1,6 +1,6 @@
 -- Short words for scripts over small images, and what a run of one shows and leaves.
 use Prim.Native.String.{String}
-use Rattle.std.specs.Prelude.{ℕ, ◌*◌, List, [], ◌∷◌, ◌++◌, length, filter, replicate, Bool, true, false, Option, Some, None, codes}
+use Rattle.std.specs.Prelude.{ℕ, ◌*◌, List, [], ◌∷◌, ◌++◌, length, filter, replicate, Bool, true, false, Option, Some, None, option_map, codes}
 use Rattle.std.specs.List.{flat_map}
 use Rattle.zio_types.specs.declared.error.Errno.{Errno}
 use Rattle.zio_types.specs.declared.journal.Completion.{Completion}
@@ -8,6 +8,7 @@ use Rattle.zio_types.specs.declared.journal.Role.{Role}
 use Rattle.zio_types.specs.declared.place.Place.{Place}
 use Rattle.zio_types.specs.declared.request.Prio.TheVariants.{SyncRead, SyncWrite}
 use Rattle.zio_types.specs.Choices.{Ask, Choice}
+use Rattle.zio_blkptr.specs.declared.pointer.Bp.{Bp}
 use Rattle.zio_blkptr.specs.declared.pointer.SumKind.{SumKind}
 use Rattle.zio_blkptr.specs.Pointers.{word}
 use Rattle.zio_faults.specs.declared.table.FaultKind.{FaultKind}
@@ -21,6 +22,8 @@ use Rattle.zio_script.specs.declared.script.Item.TheVariants.{Request as Request
 use Rattle.zio_script.specs.declared.script.Script.{Script}
 use Rattle.zio_script.specs.declared.script.Work.TheVariants.{Null, Read, Write, Free, Claim}
 use Rattle.zio_cksum.specs.Images.{Images}
+use Rattle.zio_gang.specs.declared.tree.Tree.{Tree}
+use Rattle.zio_gang.specs.Rounds.{Bound, block_of, used_places}
 use Rattle.zio_gang.specs.Runs.{Course, Round, rounds_of, run_script, ending}
 use Rattle.zio_report.specs.declared.report.Show.TheVariants.{Report}
 use Rattle.zio_report.specs.Reports.{run_text}
@@ -194,6 +197,22 @@ outcome s images choices = outcome_of s images choices (run_script s images choi
 abbrev pub report_with_journal : Script → Images → List Choice → List Completion → List ℕ
 report_with_journal s images choices completions =
     shown s images choices completions true false (run_script s images choices)
+
+-- the report with the bytes of reads
+abbrev pub report_with_data : Script → Images → List Choice → List ℕ
+report_with_data s images choices = shown s images choices [] false true (run_script s images choices)
+
+-- the names that are bound after the run
+abbrev pub bound_after_run : Script → Images → List Choice → Bound
+bound_after_run s images choices = (run_script s images choices).state.bound
+
+-- the pointer of a block, and the places of all blocks, after the run
+abbrev pub pointer_after : Script → Images → List Choice → List ℕ → Option Bp
+pointer_after s images choices name =
+    option_map (λ (tree : Tree). tree.bp) (block_of (bound_after_run s images choices) name)
+
+abbrev pub used_after : Script → Images → List Choice → List Place
+used_after s images choices = used_places (bound_after_run s images choices)
 
 -- the lines of a text
 abbrev pub lines : List String → List ℕ

@@ -1,4 +1,4 @@
-ghost use Rattle.zio_worked.specs.Claims.{ClaimedBlockIsRead, WrongSumIsFoundByTheRead, PlacesThatMeetAreRefused, UsedPlaceIsRefused, PlaceOutsideItsTopIsInvalid, ZerosAreNoPointer, BoundNameIsNotClaimedAgain, PlainClaimReadsNothing, ClaimedGangIsRead, HeaderMadeForAnotherPlaceIsRefused, EndlessGangIsRefused, BadHeadersAreRefused, PlacesOfAClaimedGangStandApart, RefusedClaimTakesNothing, ErrorsOfAClaimedTreeJoin, ClaimHasTheDevicesError, ClaimMendsNothing, ReadOfAClaimedGangMendsIt};
+ghost use Rattle.zio_worked.specs.Claims.{ClaimedBlockIsRead, WrongSumIsFoundByTheRead, PlacesThatMeetAreRefused, UsedPlaceIsRefused, PlaceOutsideItsTopIsInvalid, ZerosAreNoPointer, BoundNameIsNotClaimedAgain, PlainClaimReadsNothing, ClaimedGangIsRead, HeaderMadeForAnotherPlaceIsRefused, EndlessGangIsRefused, DeepestGangIsClaimed, GangBelowTheDeepestIsRefused, WrittenGangIsClaimed, BadHeadersAreRefused, PlacesOfAClaimedGangStandApart, RefusedClaimTakesNothing, ErrorsOfAClaimedTreeJoin, FreedClaimUsesNoPlace, TopHasTheSectorsOfItsSmallestLeaf, ClaimHasTheDevicesError, ClaimReadsInTheRetry, ClaimMendsNothing, ReadOfAClaimedGangMendsIt};
 
 /// A claim binds a name to a block that the images hold already.
 pub fn claims_bind_what_is_there()
@@ -13,11 +13,17 @@ pub fn claims_bind_what_is_there()
     ensures claimed_gang_is_read { ClaimedGangIsRead }
     ensures header_made_for_another_place_is_refused { HeaderMadeForAnotherPlaceIsRefused }
     ensures endless_gang_is_refused { EndlessGangIsRefused }
+    ensures deepest_gang_is_claimed { DeepestGangIsClaimed }
+    ensures gang_below_the_deepest_is_refused { GangBelowTheDeepestIsRefused }
+    ensures written_gang_is_claimed { WrittenGangIsClaimed }
     ensures bad_headers_are_refused { BadHeadersAreRefused }
     ensures places_of_a_claimed_gang_stand_apart { PlacesOfAClaimedGangStandApart }
     ensures refused_claim_takes_nothing { RefusedClaimTakesNothing }
     ensures errors_of_a_claimed_tree_join { ErrorsOfAClaimedTreeJoin }
+    ensures freed_claim_uses_no_place { FreedClaimUsesNoPlace }
+    ensures top_has_the_sectors_of_its_smallest_leaf { TopHasTheSectorsOfItsSmallestLeaf }
     ensures claim_has_the_devices_error { ClaimHasTheDevicesError }
+    ensures claim_reads_in_the_retry { ClaimReadsInTheRetry }
     ensures claim_mends_nothing { ClaimMendsNothing }
     ensures read_of_a_claimed_gang_mends_it { ReadOfAClaimedGangMendsIt }
 {}

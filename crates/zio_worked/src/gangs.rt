@@ -1,4 +1,4 @@
-ghost use Rattle.zio_worked.specs.Gangs.{ScatteredSpaceMakesAGang, GangAsksForItsParts, GangStandsInTheJournal, GangPointerHasTheWholeSum, GangInsideAGang, NestedGangAsksForItsParts, NestedGangIsStored, RefusedHeaderSuspendsTheWrite, RefusedHeaderIsAskedForOnce, RefusedHeaderFailsTheWrite, OneSectorWithoutSpaceFails, OneSectorAsksForNoHeader, OneSectorWithoutSpaceWaits, HeaderHasOneCopyMore, MemberWithoutAPlaceIsZeros, MemberThatIsntWrittenHasItsPointer, DamagedHeaderIsMended, HeaderMendedThroughAFlipStaysWrong, FreeMendsAHeader, DamagedHeadersFailTheRead, FreeWaitsForItsHeader, MembersBelowABadHeaderArentRead, DamagedMemberIsMended, DamagedMemberFailsTheRead, GangUsesAllItsPlaces, FreedGangUsesNoPlace, NothingIsUsedAfterAllFrees};
+ghost use Rattle.zio_worked.specs.Gangs.{ScatteredSpaceMakesAGang, GangAsksForItsParts, GangStandsInTheJournal, GangPointerHasTheWholeSum, GangInsideAGang, NestedGangAsksForItsParts, NestedGangIsStored, RefusedHeaderSuspendsTheWrite, RefusedHeaderIsAskedForOnce, RefusedHeaderFailsTheWrite, OneSectorWithoutSpaceFails, OneSectorAsksForNoHeader, OneSectorWithoutSpaceWaits, HeaderHasOneCopyMore, MemberWithoutAPlaceIsZeros, MemberThatIsntWrittenHasItsPointer, HeaderCopyThatIsntWrittenFailsTheGang, PlacesComeBackAfterTheRound, SecondAttemptOfAGangAsksAnew, DamagedHeaderIsMended, HeaderMendedThroughAFlipStaysWrong, FreeMendsAHeader, DamagedHeadersFailTheRead, FreeWaitsForItsHeader, MembersBelowABadHeaderArentRead, DamagedMemberIsMended, DamagedMemberFailsTheRead, FreeWaitsForAMissingDevice, MissingDeviceFailsAFreeUnderContinue, PlainFreeReadsNothing, GangUsesAllItsPlaces, FreedGangUsesNoPlace, NothingIsUsedAfterAllFrees};
 
 /// Where no run of sectors is long enough, a block becomes a header and members.
 pub fn gangs_take_scattered_space()
@@ -18,6 +18,9 @@ pub fn gangs_take_scattered_space()
     ensures header_has_one_copy_more { HeaderHasOneCopyMore }
     ensures member_without_a_place_is_zeros { MemberWithoutAPlaceIsZeros }
     ensures member_that_isnt_written_has_its_pointer { MemberThatIsntWrittenHasItsPointer }
+    ensures header_copy_that_isnt_written_fails_the_gang { HeaderCopyThatIsntWrittenFailsTheGang }
+    ensures places_come_back_after_the_round { PlacesComeBackAfterTheRound }
+    ensures second_attempt_of_a_gang_asks_anew { SecondAttemptOfAGangAsksAnew }
     ensures damaged_header_is_mended { DamagedHeaderIsMended }
     ensures header_mended_through_a_flip_stays_wrong { HeaderMendedThroughAFlipStaysWrong }
     ensures free_mends_a_header { FreeMendsAHeader }
@@ -26,6 +29,9 @@ pub fn gangs_take_scattered_space()
     ensures members_below_a_bad_header_arent_read { MembersBelowABadHeaderArentRead }
     ensures damaged_member_is_mended { DamagedMemberIsMended }
     ensures damaged_member_fails_the_read { DamagedMemberFailsTheRead }
+    ensures free_waits_for_a_missing_device { FreeWaitsForAMissingDevice }
+    ensures missing_device_fails_a_free_under_continue { MissingDeviceFailsAFreeUnderContinue }
+    ensures plain_free_reads_nothing { PlainFreeReadsNothing }
     ensures gang_uses_all_its_places { GangUsesAllItsPlaces }
     ensures freed_gang_uses_no_place { FreedGangUsesNoPlace }
     ensures nothing_is_used_after_all_frees { NothingIsUsedAfterAllFrees }

@@ -1,4 +1,4 @@
-ghost use Rattle.zio_worked.specs.Mirrors.{MissedWriteIsGoodByTheOther, MissedWriteIsRepaired, RepairThatFailsIsIgnored, LeafBehindAGoodOneIsLeft, FlippedWriteIsStored, FlippedWriteIsRepaired, RepairThroughAFlipStaysWrong, FlippedReadIsHandedOut, FlipTurnsTheCommonPart, FirstRowCounts, RowIsMetInItsRange, RowHoldsBetweenItsPoints, ReadPassesInTheRetry, RepairIsMadeInThePassOfTheGoodRead, OneGoodLeafNeedsNoRetry, RetryWritesAllCopies, SecondCopyIsReadAndMendsTheFirst, CopyBehindAGoodOneIsLeft, AllLeavesOfABadCopyAreMended, MissingTopSuspendsTheWrite, EachAttemptAsks, AttemptsStandInTheJournal, MissingCopyLeavesTheWrite, ReadsBeginAtAnotherLeaf, ReadsGoRoundFourLeaves, DamagedBlockIsAChecksumError, DamagedBlockWithoutAChecksumIsHandedOut, DeviceErrorIsWorseThanAWrongSum, WrongSumIsWorseThanAMissingDevice, FailedWriteHasTheWorstError, ReadWaitsForAMissingDevice, MissingDeviceUnderContinueIsAnError, ReadThatMayNotFailWaitsUnderContinue};
+ghost use Rattle.zio_worked.specs.Mirrors.{MissedWriteIsGoodByTheOther, MissedWriteIsRepaired, RepairThatFailsIsIgnored, LeafBehindAGoodOneIsLeft, FlippedWriteIsStored, FlippedWriteIsRepaired, RepairThroughAFlipStaysWrong, FlippedReadIsHandedOut, FlipTurnsTheCommonPart, FirstRowCounts, RowIsMetInItsRange, RowHoldsBetweenItsPoints, ReadPassesInTheRetry, RepairIsMadeInThePassOfTheGoodRead, RetryMendsItsOwnFailuresAlone, OneGoodLeafNeedsNoRetry, RetryWritesAllCopies, SecondCopyIsReadAndMendsTheFirst, CopyBehindAGoodOneIsLeft, AllLeavesOfABadCopyAreMended, MissingTopSuspendsTheWrite, EachAttemptAsks, AttemptsStandInTheJournal, MissingCopyLeavesTheWrite, ReadsBeginAtAnotherLeaf, ReadsGoRoundFourLeaves, DamagedBlockIsAChecksumError, DamagedBlockWithoutAChecksumIsHandedOut, DeviceErrorIsWorseThanAWrongSum, WrongSumIsWorseThanAMissingDevice, FailedWriteHasTheWorstError, ReadWaitsForAMissingDevice, MissingDeviceUnderContinueIsAnError, ReadThatMayNotFailWaitsUnderContinue};
 
 /// A block is read from its first good leaf, which mends those that were tried before it.
 pub fn mirrors_give_and_mend()
@@ -16,6 +16,7 @@ pub fn mirrors_give_and_mend()
     ensures row_holds_between_its_points { RowHoldsBetweenItsPoints }
     ensures read_passes_in_the_retry { ReadPassesInTheRetry }
     ensures repair_is_made_in_the_pass_of_the_good_read { RepairIsMadeInThePassOfTheGoodRead }
+    ensures retry_mends_its_own_failures_alone { RetryMendsItsOwnFailuresAlone }
     ensures one_good_leaf_needs_no_retry { OneGoodLeafNeedsNoRetry }
     ensures retry_writes_all_copies { RetryWritesAllCopies }
     ensures second_copy_is_read_and_mends_the_first { SecondCopyIsReadAndMendsTheFirst }

@@ -1,6 +1,6 @@
 use Rattle.std.proofs.Common.{refl}
 use Rattle.zio_worked.proofs.Evaluation.{evaluation}
-use Rattle.zio_worked.specs.Claims.{ClaimedBlockIsRead, WrongSumIsFoundByTheRead, PlacesThatMeetAreRefused, UsedPlaceIsRefused, PlaceOutsideItsTopIsInvalid, ZerosAreNoPointer, BoundNameIsNotClaimedAgain, PlainClaimReadsNothing, ClaimedGangIsRead, HeaderMadeForAnotherPlaceIsRefused, EndlessGangIsRefused, DeepestGangIsClaimed, GangBelowTheDeepestIsRefused, WrittenGangIsClaimed, BadHeadersAreRefused, PlacesOfAClaimedGangStandApart, RefusedClaimTakesNothing, ErrorsOfAClaimedTreeJoin, FreedClaimUsesNoPlace, TopHasTheSectorsOfItsSmallestLeaf, ClaimHasTheDevicesError, ClaimReadsInTheRetry, ClaimMendsNothing, ReadOfAClaimedGangMendsIt}
+use Rattle.zio_worked.specs.Claims.{ClaimedBlockIsRead, WrongSumIsFoundByTheRead, PlacesThatMeetAreRefused, UsedPlaceIsRefused, PlaceOutsideItsTopIsInvalid, ZerosAreNoPointer, BoundNameIsNotClaimedAgain, PlainClaimReadsNothing, ClaimedGangIsRead, HeaderMadeForAnotherPlaceIsRefused, EndlessGangIsRefused, DeepestGangIsClaimed, GangBelowTheDeepestIsRefused, WrittenGangIsClaimed, BadHeadersAreRefused, ErrorsOfAClaimedTreeJoin, RefusedHeadersHaveTheirSums, PlacesOfAClaimedGangStandApart, RefusedClaimTakesNothing, FreedClaimUsesNoPlace, TopHasTheSectorsOfItsSmallestLeaf, ClaimHasTheDevicesError, ClaimReadsInTheRetry, ClaimMendsNothing, ReadOfAClaimedGangMendsIt}
 
 pub claimed_block_is_read : ClaimedBlockIsRead
 unfolding evaluation
@@ -62,6 +62,14 @@ pub bad_headers_are_refused : BadHeadersAreRefused
 unfolding evaluation
 bad_headers_are_refused = refl
 
+pub errors_of_a_claimed_tree_join : ErrorsOfAClaimedTreeJoin
+unfolding evaluation
+errors_of_a_claimed_tree_join = refl
+
+pub refused_headers_have_their_sums : RefusedHeadersHaveTheirSums
+unfolding evaluation
+refused_headers_have_their_sums = refl
+
 pub places_of_a_claimed_gang_stand_apart : PlacesOfAClaimedGangStandApart
 unfolding evaluation
 places_of_a_claimed_gang_stand_apart = refl
@@ -69,10 +77,6 @@ places_of_a_claimed_gang_stand_apart = refl
 pub refused_claim_takes_nothing : RefusedClaimTakesNothing
 unfolding evaluation
 refused_claim_takes_nothing = refl
-
-pub errors_of_a_claimed_tree_join : ErrorsOfAClaimedTreeJoin
-unfolding evaluation
-errors_of_a_claimed_tree_join = refl
 
 pub freed_claim_uses_no_place : FreedClaimUsesNoPlace
 unfolding evaluation

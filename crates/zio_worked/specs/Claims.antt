@@ -1,14 +1,15 @@
 -- Claims of blocks that an image holds already: what binds a name, and what is refused.
-use Rattle.std.specs.Prelude.{◌≡◌, ℕ, ◌+◌, ◌^◌, List, [], ◌∷◌, ◌++◌, map, codes, replicate}
+use Rattle.std.specs.Prelude.{◌≡◌, ℕ, ◌+◌, ◌^◌, List, [], ◌∷◌, ◌++◌, map, drop, codes, replicate, bytes_eq, Bool, true, false}
 use Prim.Native.String.{String}
 use Rattle.zio_faults.specs.declared.table.FaultKind.TheVariants.{Eio, Gone}
 use Rattle.zio_faults.specs.declared.table.On.TheVariants.{Read}
 use Rattle.zio_script.specs.declared.script.Failmode.TheVariants.{Wait}
 use Rattle.zio_script.specs.declared.script.Item.TheVariants.{Go}
 use Rattle.zio_script.specs.declared.script.Script.{Script}
+use Rattle.zio_cksum.specs.Headers.{gang_sum_of}
 use Rattle.zio_cksum.specs.Images.{Images}
 use Rattle.zio_worked.specs.Gangs.{nested_image}
-use Rattle.zio_worked.specs.Scripts.{script, read, claim, row, one_leaf, zeros, sectors_of, word_bytes, no_sum, pointer_with, one_copy_at, two_copies_at, header_with, report, outcome, lines, free, in_first_pass, mirror, used_after}
+use Rattle.zio_worked.specs.Scripts.{place, script, read, claim, row, one_leaf, zeros, sectors_of, word_bytes, no_sum, pointer_with, one_copy_at, two_copies_at, header_with, report, outcome, lines, free, in_first_pass, mirror, used_after}
 
 -- ---- words of this file
 
@@ -16,9 +17,14 @@ use Rattle.zio_worked.specs.Scripts.{script, read, claim, row, one_leaf, zeros, 
 abbrev pub image : Images
 image = (sectors_of 5 7 ++ sectors_of 1 65 ++ sectors_of 1 66 ++ sectors_of 1 7) ∷ []
 
+-- the same with these bytes in the sectors 2 and 3
+abbrev pub image_of_two : List ℕ → List ℕ → Images
+image_of_two a b =
+    (sectors_of 2 7 ++ a ++ b ++ sectors_of 1 7 ++ sectors_of 1 65 ++ sectors_of 1 66 ++ sectors_of 1 7) ∷ []
+
 -- the same with these bytes in sector 3
 abbrev pub image_with : List ℕ → Images
-image_with header = (sectors_of 3 7 ++ header ++ sectors_of 1 7 ++ sectors_of 1 65 ++ sectors_of 1 66 ++ sectors_of 1 7) ∷ []
+image_with header = image_of_two (sectors_of 1 7) header
 
 -- x is claimed by this pointer
 abbrev pub claim_x : List ℕ → Script
@@ -202,8 +208,7 @@ HeaderMadeForAnotherPlaceIsRefused =
     (script Wait one_leaf [] (
     claim 1 (codes "a") (pointer_with (1 ∷ 0x8000000000000002 ∷ 0 ∷ 0 ∷ 0 ∷ 0 ∷ []) 0x8000020200010001 1 no_sum) ∷ Go
     ∷ claim 2 (codes "b") gang_of_two ∷ Go ∷ []))
-    ((sectors_of 2 7 ++ good_header ++ good_header ++ sectors_of 1 7 ++ sectors_of 1 65 ++ sectors_of 1 66 ++ sectors_of 1 7) ∷ [])
-    []
+    (image_of_two good_header good_header) []
     ≡ lines (
     "pool 1 1"
     ∷ "round 1 batch 1 point 0"
@@ -253,16 +258,18 @@ DeepestGangIsClaimed =
     ∷ "2 read x ok 512 20a0a0a080:83878787040:16439b9b85580:2d92628254f020"
     ∷ "end 0" ∷ [])
 
+abbrev pub eighth_header : List ℕ
+eighth_header =
+    header_to (gang_of_one_at 8) (0x15027a3c6d97a618 ∷ 0xf5fde307c59643fb ∷ 0x89534cb1bd6be734 ∷ 0xa408166018f3431b ∷ [])
+
+abbrev pub ninth_header : List ℕ
+ninth_header =
+    header_to (one_copy_at 9) (0x8dc29ff4e037f539 ∷ 0x6eda3900b2ab2ddc ∷ 0x6aa033e90188f6f9 ∷ 0xc8f7a6ab50b7be7 ∷ [])
+
 -- a ninth header, at depth 8, is too deep
 abbrev pub GangBelowTheDeepestIsRefused : Type 0
 GangBelowTheDeepestIsRefused =
-    report (claim_x (gang_of_one_at 0))
-    ((
-    seven_headers
-    ++ header_to (gang_of_one_at 8) (0x15027a3c6d97a618 ∷ 0xf5fde307c59643fb ∷ 0x89534cb1bd6be734 ∷ 0xa408166018f3431b ∷ [])
-    ++ header_to (one_copy_at 9) (0x8dc29ff4e037f539 ∷ 0x6eda3900b2ab2ddc ∷ 0x6aa033e90188f6f9 ∷ 0xc8f7a6ab50b7be7 ∷ [])
-    ++ sectors_of 1 65) ∷ [])
-    []
+    report (claim_x (gang_of_one_at 0)) ((seven_headers ++ eighth_header ++ ninth_header ++ sectors_of 1 65) ∷ []) []
     ≡ one_round "1 claim x ECKSUM"
 
 -- the gang in a gang that a run wrote in its fourth batch, by its pointer
@@ -281,19 +288,21 @@ WrittenGangIsClaimed =
     ∷ "2 read x ok 2048 ff31f81fe6:fa8f51889d06:a4fa4ad30cc2d6:52248ca277410d96"
     ∷ "end 0" ∷ [])
 
--- ---- headers that are none
+-- ---- headers that are refused
 
 -- a byte of the filler is set, and the checksum is that of these bytes
 abbrev pub header_with_filler : List ℕ
 header_with_filler =
     one_copy_at 5 ++ one_copy_at 6 ++ zeros 128 ++ zeros 16 ++ 1 ∷ zeros 71
-    ++ word_bytes (0x0210da7ab10c7a11 ∷ 0x3b74f3e3f618ae48 ∷ 0x758963a25b77724 ∷ 0xc84daf14977c216b ∷ 0x289fb8a05c63e1f8 ∷ [])
+    ++ word_bytes (0x0210da7ab10c7a11
+    ∷ 0x3b74f3e3f618ae48 ∷ 0x758963a25b77724 ∷ 0xc84daf14977c216b ∷ 0x289fb8a05c63e1f8 ∷ [])
 
 -- the magic has another lowest byte
 abbrev pub header_of_other_magic : List ℕ
 header_of_other_magic =
     one_copy_at 5 ++ one_copy_at 6 ++ zeros 128 ++ zeros 88
-    ++ word_bytes (0x0210da7ab10c7a12 ∷ 0x58e46b7407187d57 ∷ 0xdd052115c3197ad9 ∷ 0xdc0acd0c45cd42a0 ∷ 0x5d5a88effc2fa3d5 ∷ [])
+    ++ word_bytes (0x0210da7ab10c7a12
+    ∷ 0x58e46b7407187d57 ∷ 0xdd052115c3197ad9 ∷ 0xdc0acd0c45cd42a0 ∷ 0x5d5a88effc2fa3d5 ∷ [])
 
 -- the checksum is off by one
 abbrev pub header_of_other_sum : List ℕ
@@ -331,13 +340,52 @@ header_of_no_pointer =
     one_copy_at 5 ++ pointer_with (0 ∷ 5 ∷ 0 ∷ 0 ∷ 0 ∷ 0 ∷ []) 0x8000020200000000 1 no_sum ++ zeros 128)
     (0xe8c284aa0928fe16 ∷ 0xde4c0f97d3123795 ∷ 0x6827aa702ba25db ∷ 0xc73022eaa606757f ∷ [])
 
--- each of them has the right checksum but where it says otherwise, and is no header
+-- none of them is the header of two members for sector 3 and birth 1
 abbrev pub BadHeadersAreRefused : Type 0
 BadHeadersAreRefused =
     map (λ header. report (claim_x gang_of_two) (image_with header) []) (
     header_with_filler ∷ header_of_other_magic ∷ header_of_other_sum ∷ header_of_other_birth
     ∷ header_of_one ∷ header_of_three ∷ header_with_a_gap ∷ header_of_no_pointer ∷ [])
     ≡ replicate 8 (one_round "1 claim x ECKSUM")
+
+-- the first member is a gang at sector 2, where no header is; the second is at sector 6, or outside the top
+abbrev pub header_of_a_bad_gang : List ℕ
+header_of_a_bad_gang =
+    header_with (gang_of_one_at 2 ++ one_copy_at 6 ++ zeros 128)
+    (0x9e76e233c79ecf12 ∷ 0xeee7b75f3c54700c ∷ 0xac09c03af1d34ad9 ∷ 0x5a1eba654617ce6f ∷ [])
+
+abbrev pub header_of_a_bad_gang_and_9 : List ℕ
+header_of_a_bad_gang_and_9 =
+    header_with (gang_of_one_at 2 ++ one_copy_at 9 ++ zeros 128)
+    (0xf1007bb6cfb63db1 ∷ 0xf2a77e7a6222ca60 ∷ 0x3e5b4f79995b9e21 ∷ 0xb3a1959b49ea8af0 ∷ [])
+
+-- the first member is a gang outside the top
+abbrev pub header_of_a_gang_outside : List ℕ
+header_of_a_gang_outside =
+    header_with (gang_of_one_at 9 ++ one_copy_at 6 ++ zeros 128)
+    (0x524d57ff2654d0d1 ∷ 0xe1825815af332b3f ∷ 0x61f1e34bc6277a5d ∷ 0x738212fcbd4cc0e6 ∷ [])
+
+-- of the errors of a tree the worst counts
+abbrev pub ErrorsOfAClaimedTreeJoin : Type 0
+ErrorsOfAClaimedTreeJoin =
+    map (λ header. report (claim_x gang_of_two) (image_with header) [])
+    (header_of_a_bad_gang ∷ header_of_a_bad_gang_and_9 ∷ header_of_a_gang_outside ∷ [])
+    ≡ one_round "1 claim x ECKSUM" ∷ one_round "1 claim x EINVAL" ∷ one_round "1 claim x EINVAL" ∷ []
+
+-- the header has the checksum of one that is made for this sector and birth
+abbrev pub has_sum_for : ℕ → ℕ → List ℕ → Bool
+has_sum_for sector birth header =
+    bytes_eq (word_bytes (gang_sum_of header (place 0 sector 1) birth)) (drop 480 header)
+
+-- but for the one whose sum is off by one they have the right checksum, so they are refused for other reasons
+abbrev pub RefusedHeadersHaveTheirSums : Type 0
+RefusedHeadersHaveTheirSums =
+    (map (has_sum_for 3 1) (
+    endless_header ∷ header_with_filler ∷ header_of_other_magic ∷ header_of_one ∷ header_of_three
+    ∷ header_with_a_gap ∷ header_of_no_pointer ∷ header_of_a_bad_gang ∷ [])
+    ++ has_sum_for 3 2 header_of_other_birth ∷ has_sum_for 7 1 eighth_header ∷ has_sum_for 8 1 ninth_header
+    ∷ has_sum_for 3 1 header_of_other_sum ∷ [])
+    ≡ replicate 11 true ++ false ∷ []
 
 -- ---- places of a claimed gang
 
@@ -370,33 +418,6 @@ RefusedClaimTakesNothing =
     (header_of_5_and_5 ∷ header_of_5_and_8 ∷ header_of_5_and_3 ∷ [])
     ≡ replicate 3 []
 
--- the headers of a gang whose first member is a gang at sector 2, where no header is; the second is at 6, and outside
-abbrev pub header_of_a_bad_gang : List ℕ
-header_of_a_bad_gang =
-    header_with (
-    gang_of_one_at 2 ++ one_copy_at 6 ++ zeros 128)
-    (0x9e76e233c79ecf12 ∷ 0xeee7b75f3c54700c ∷ 0xac09c03af1d34ad9 ∷ 0x5a1eba654617ce6f ∷ [])
-
-abbrev pub header_of_a_bad_gang_and_9 : List ℕ
-header_of_a_bad_gang_and_9 =
-    header_with (
-    gang_of_one_at 2 ++ one_copy_at 9 ++ zeros 128)
-    (0xf1007bb6cfb63db1 ∷ 0xf2a77e7a6222ca60 ∷ 0x3e5b4f79995b9e21 ∷ 0xb3a1959b49ea8af0 ∷ [])
-
--- the first member is a gang outside the top
-abbrev pub header_of_a_gang_outside : List ℕ
-header_of_a_gang_outside =
-    header_with (
-    gang_of_one_at 9 ++ one_copy_at 6 ++ zeros 128)
-    (0x524d57ff2654d0d1 ∷ 0xe1825815af332b3f ∷ 0x61f1e34bc6277a5d ∷ 0x738212fcbd4cc0e6 ∷ [])
-
--- of the errors of a tree the worst counts
-abbrev pub ErrorsOfAClaimedTreeJoin : Type 0
-ErrorsOfAClaimedTreeJoin =
-    map (λ header. report (claim_x gang_of_two) (image_with header) [])
-    (header_of_a_bad_gang ∷ header_of_a_bad_gang_and_9 ∷ header_of_a_gang_outside ∷ [])
-    ≡ one_round "1 claim x ECKSUM" ∷ one_round "1 claim x EINVAL" ∷ one_round "1 claim x EINVAL" ∷ []
-
 -- a free gives back all that the claim took
 abbrev pub FreedClaimUsesNoPlace : Type 0
 FreedClaimUsesNoPlace =
@@ -426,7 +447,8 @@ TopHasTheSectorsOfItsSmallestLeaf =
 abbrev pub ClaimHasTheDevicesError : Type 0
 ClaimHasTheDevicesError =
     map (λ kind. report
-    (script Wait one_leaf (row 0 Read 0 1 kind ∷ []) (claim 1 (codes "x") gang_of_two ∷ Go ∷ [])) (image_with good_header) [])
+    (script Wait one_leaf (row 0 Read 0 1 kind ∷ []) (claim 1 (codes "x") gang_of_two ∷ Go ∷ []))
+    (image_with good_header) [])
     (Eio ∷ Gone ∷ [])
     ≡ one_round "1 claim x EIO" ∷ one_round "1 claim x ENXIO" ∷ []
 
@@ -444,7 +466,9 @@ gang_of_two_copies =
     pointer_with (1 ∷ 0x8000000000000002 ∷ 1 ∷ 0x8000000000000003 ∷ 0 ∷ 0 ∷ []) 0x8000020200010001 1 no_sum
 
 abbrev pub header_for_2 : List ℕ
-header_for_2 = header_with (one_copy_at 5 ++ one_copy_at 6 ++ zeros 128) (0xf5986f096a81364 ∷ 0x87f96906c1ee8bf6 ∷ 0xf6ddd96a24dbc9cf ∷ 0x93e9947dd0b03d94 ∷ [])
+header_for_2 =
+    header_with (one_copy_at 5 ++ one_copy_at 6 ++ zeros 128)
+    (0xf5986f096a81364 ∷ 0x87f96906c1ee8bf6 ∷ 0xf6ddd96a24dbc9cf ∷ 0x93e9947dd0b03d94 ∷ [])
 
 -- the first copy is no header: the claim takes the second and mends nothing
 abbrev pub ClaimMendsNothing : Type 0
@@ -464,5 +488,5 @@ ReadOfAClaimedGangMendsIt =
           ∷ "round 2 batch 2 point 0"
           ∷ "2 read x ok 1024 41c1c1c180:20e1a1a180c0:b0666e6dbe080:2c92f2784be5860"
           ∷ "end 0" ∷ []);
-      images = (sectors_of 2 7 ++ header_for_2 ++ header_for_2 ++ sectors_of 1 7 ++ sectors_of 1 65 ++ sectors_of 1 66 ++ sectors_of 1 7) ∷ [];
+      images = image_of_two header_for_2 header_for_2;
     }

@@ -143,7 +143,8 @@ PlacesHaveToFit =
     changed 0 0 ∷ changed 0 0x1000001 ∷ changed 0 0x100000000000001 ∷ changed 1 0x1000000000000
     ∷ changed 4 1 ∷ changed 2 0x100000000 ∷ changed 3 5 ∷ changed 3 0x8000000000000000 ∷ changed 5 0x8000000000000000
     ∷ slice_set (changed 2 1) 3 0x8000000000000007
-    ∷ slice_set (changed 2 1) 3 7 ∷ changed 0 0xffffff00000001 ∷ changed 1 0xffffffffffff ∷ changed 1 0x8000000000001000 ∷ [])
+    ∷ slice_set (changed 2 1) 3 7
+    ∷ changed 0 0xffffff00000001 ∷ changed 1 0xffffffffffff ∷ changed 1 0x8000000000001000 ∷ [])
     ≡ replicate 10 false ++ replicate 4 true
 
 -- without a checksum the words may be any
@@ -198,7 +199,7 @@ abbrev pub Sha256OfNothing : Type 0
 Sha256OfNothing =
     sum_of Sha256 [] ≡ 0xe3b0c44298fc1c14 ∷ 0x9afbf4c8996fb924 ∷ 0x27ae41e4649b934c ∷ 0xa495991b7852b855 ∷ []
 
--- without a checksum the words are zeros, and any bytes fit any words
+-- the words of no checksum are zeros
 abbrev pub OffChecksNothing : Type 0
 OffChecksNothing = sum_of Off (codes "abcd") ≡ no_sum
 
@@ -233,7 +234,8 @@ HeaderSumHasPlaceAndBirth =
 -- the same by the sum itself
 abbrev pub HeaderSumIsSha256 : Type 0
 HeaderSumIsSha256 =
-    gang_sum_of (replicate 480 65) (place 2 3 1) 7 ≡ sum_of Sha256 (replicate 480 65 ++ word_bytes (2 ∷ 1536 ∷ 7 ∷ 0 ∷ []))
+    gang_sum_of (replicate 480 65) (place 2 3 1) 7
+    ≡ sum_of Sha256 (replicate 480 65 ++ word_bytes (2 ∷ 1536 ∷ 7 ∷ 0 ∷ []))
 
 -- a header without members: 472 zeros, the magic, and 32 bytes of checksum
 abbrev pub HeaderHasItsMagic : Type 0

@@ -472,7 +472,8 @@ HeaderMendedThroughAFlipStaysWrong =
 -- a free reads the headers as a read does, and mends them
 abbrev pub FreeMendsAHeader : Type 0
 FreeMendsAHeader =
-    images_after (script Wait one_leaf first_copy_flips (written ++ Clear ∷ free 4 (codes "x") ∷ Go ∷ [])) image gang_choices
+    images_after (script Wait one_leaf first_copy_flips (written ++ Clear ∷ free 4 (codes "x") ∷ Go ∷ []))
+    image gang_choices
     ≡ gang_image ∷ []
 
 -- both copies are stored flipped
@@ -630,7 +631,8 @@ GangUsesAllItsPlaces = not_used (used_after (script Wait one_leaf [] written) im
 -- a free gives all of them back
 abbrev pub FreedGangUsesNoPlace : Type 0
 FreedGangUsesNoPlace =
-    not_used (used_after (script Wait one_leaf [] (written ++ free 4 (codes "x") ∷ Go ∷ [])) image gang_choices) ≡ 1 ∷ 3 ∷ 5 ∷ 7 ∷ []
+    not_used (used_after (script Wait one_leaf [] (written ++ free 4 (codes "x") ∷ Go ∷ [])) image gang_choices)
+    ≡ 1 ∷ 3 ∷ 5 ∷ 7 ∷ []
 
 -- once every block is freed no place is used
 abbrev pub NothingIsUsedAfterAllFrees : Type 0

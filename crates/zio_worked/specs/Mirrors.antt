@@ -179,7 +179,8 @@ FlippedReadIsHandedOut =
 abbrev pub FlipTurnsTheCommonPart : Type 0
 FlipTurnsTheCommonPart =
     images_after
-    (script Wait mirror (row_of_bytes 0 Write 1600 100 0 1 Flip ∷ row_of_bytes 1 Write 1000 600 0 1 Flip ∷ []) (write_x Off 1 ∷ Go ∷ []))
+    (script Wait mirror (row_of_bytes 0 Write 1600 100 0 1 Flip ∷ row_of_bytes 1 Write 1000 600 0 1 Flip ∷ [])
+    (write_x Off 1 ∷ Go ∷ []))
     two_leaves one_place
     ≡ (sectors_of 3 7 ++ replicate 64 65 ++ replicate 100 0xbe ++ replicate 348 65 ++ sectors_of 4 7)
     ∷ (sectors_of 3 7 ++ replicate 64 0xbe ++ replicate 448 65 ++ sectors_of 4 7) ∷ []
@@ -189,7 +190,8 @@ abbrev pub FirstRowCounts : Type 0
 FirstRowCounts =
     images_after
     (script Wait mirror (
-    row_of_bytes 0 Write 1600 100 0 1 Flip ∷ row 0 Write 0 1 Eio ∷ row 1 Write 0 1 Eio ∷ row_of_bytes 1 Write 1600 100 0 1 Flip ∷ [])
+    row_of_bytes 0 Write 1600 100 0 1 Flip ∷ row 0 Write 0 1 Eio
+    ∷ row 1 Write 0 1 Eio ∷ row_of_bytes 1 Write 1600 100 0 1 Flip ∷ [])
     (write_x Off 1 ∷ Go ∷ []))
     two_leaves one_place
     ≡ (sectors_of 3 7 ++ replicate 64 65 ++ replicate 100 0xbe ++ replicate 348 65 ++ sectors_of 4 7) ∷ untouched ∷ []
@@ -222,7 +224,8 @@ abbrev pub RowHoldsBetweenItsPoints : Type 0
 RowHoldsBetweenItsPoints =
     report
     (script Wait one_leaf (row 0 Read 1 2 Eio ∷ []) (
-    write_x Sha256 1 ∷ Go ∷ read 2 (codes "x") ∷ Go ∷ Clear ∷ read 3 (codes "x") ∷ Go ∷ Clear ∷ read 4 (codes "x") ∷ Go ∷ []))
+    write_x Sha256 1 ∷ Go ∷ read 2 (codes "x") ∷ Go
+    ∷ Clear ∷ read 3 (codes "x") ∷ Go ∷ Clear ∷ read 4 (codes "x") ∷ Go ∷ []))
     (untouched ∷ []) one_place
     ≡ lines (
     "pool 1 1"

@@ -1,4 +1,4 @@
-ghost use Rattle.zio_worked.specs.Claims.{ClaimedBlockIsRead, WrongSumIsFoundByTheRead, PlacesThatMeetAreRefused, UsedPlaceIsRefused, PlaceOutsideItsTopIsInvalid, ZerosAreNoPointer, BoundNameIsNotClaimedAgain, PlainClaimReadsNothing, ClaimedGangIsRead, HeaderMadeForAnotherPlaceIsRefused, EndlessGangIsRefused, DeepestGangIsClaimed, GangBelowTheDeepestIsRefused, WrittenGangIsClaimed, BadHeadersAreRefused, PlacesOfAClaimedGangStandApart, RefusedClaimTakesNothing, ErrorsOfAClaimedTreeJoin, FreedClaimUsesNoPlace, TopHasTheSectorsOfItsSmallestLeaf, ClaimHasTheDevicesError, ClaimReadsInTheRetry, ClaimMendsNothing, ReadOfAClaimedGangMendsIt};
+ghost use Rattle.zio_worked.specs.Claims.{ClaimedBlockIsRead, WrongSumIsFoundByTheRead, PlacesThatMeetAreRefused, UsedPlaceIsRefused, PlaceOutsideItsTopIsInvalid, ZerosAreNoPointer, BoundNameIsNotClaimedAgain, PlainClaimReadsNothing, ClaimedGangIsRead, HeaderMadeForAnotherPlaceIsRefused, EndlessGangIsRefused, DeepestGangIsClaimed, GangBelowTheDeepestIsRefused, WrittenGangIsClaimed, BadHeadersAreRefused, ErrorsOfAClaimedTreeJoin, RefusedHeadersHaveTheirSums, PlacesOfAClaimedGangStandApart, RefusedClaimTakesNothing, FreedClaimUsesNoPlace, TopHasTheSectorsOfItsSmallestLeaf, ClaimHasTheDevicesError, ClaimReadsInTheRetry, ClaimMendsNothing, ReadOfAClaimedGangMendsIt};
 
 /// A claim binds a name to a block that the images hold already.
 pub fn claims_bind_what_is_there()
@@ -17,9 +17,10 @@ pub fn claims_bind_what_is_there()
     ensures gang_below_the_deepest_is_refused { GangBelowTheDeepestIsRefused }
     ensures written_gang_is_claimed { WrittenGangIsClaimed }
     ensures bad_headers_are_refused { BadHeadersAreRefused }
+    ensures errors_of_a_claimed_tree_join { ErrorsOfAClaimedTreeJoin }
+    ensures refused_headers_have_their_sums { RefusedHeadersHaveTheirSums }
     ensures places_of_a_claimed_gang_stand_apart { PlacesOfAClaimedGangStandApart }
     ensures refused_claim_takes_nothing { RefusedClaimTakesNothing }
-    ensures errors_of_a_claimed_tree_join { ErrorsOfAClaimedTreeJoin }
     ensures freed_claim_uses_no_place { FreedClaimUsesNoPlace }
     ensures top_has_the_sectors_of_its_smallest_leaf { TopHasTheSectorsOfItsSmallestLeaf }
     ensures claim_has_the_devices_error { ClaimHasTheDevicesError }

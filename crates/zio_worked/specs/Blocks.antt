@@ -13,7 +13,7 @@ use Rattle.zio_script.specs.declared.script.Item.TheVariants.{Go, Clear}
 use Rattle.zio_script.specs.declared.script.Script.{Script}
 use Rattle.zio_script.specs.Bodies.{body_of}
 use Rattle.zio_gang.specs.Writes.{content_of}
-use Rattle.zio_worked.specs.Scripts.{script, write, write_body, read, free, choice, place, one_leaf, zeros, sectors_of, row, report, report_with_data, images_after, pointer_after, lines}
+use Rattle.zio_worked.specs.Scripts.{script, write, write_body, read, free, choice, place, one_leaf, zeros, sectors_of, fault, report, report_with_data, images_after, pointer_after, lines}
 
 -- ---- a write and a read
 
@@ -185,7 +185,7 @@ FreedNameIsWrittenAgain =
 -- The first write fails until the clear, and the second batch is held until it is done, so that it runs in round 3.
 abbrev pub late_batch : Script
 late_batch =
-    script Wait one_leaf (row 0 OnWrite 0 1 Eio ∷ []) (
+    script Wait one_leaf (fault 0 OnWrite 0 1 Eio ∷ []) (
     write 1 (codes "x") Off 1 65 512 ∷ Go ∷ write 2 (codes "y") Off 1 66 512 ∷ Go ∷ Clear ∷ [])
 
 abbrev pub late_choices : List Choice

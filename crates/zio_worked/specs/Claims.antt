@@ -9,7 +9,7 @@ use Rattle.zio_script.specs.declared.script.Script.{Script}
 use Rattle.zio_cksum.specs.Headers.{gang_sum_of}
 use Rattle.zio_cksum.specs.Images.{Images}
 use Rattle.zio_worked.specs.Gangs.{nested_image}
-use Rattle.zio_worked.specs.Scripts.{place, script, read, claim, row, one_leaf, zeros, sectors_of, word_bytes, no_sum, pointer_with, one_copy_at, two_copies_at, header_with, report, outcome, lines, free, in_first_pass, mirror, used_after}
+use Rattle.zio_worked.specs.Scripts.{place, script, read, claim, fault, one_leaf, zeros, sectors_of, word_bytes, no_sum, pointer_with, one_copy_at, two_copies_at, header_with, report, outcome, lines, free, in_first_pass, mirror, used_after}
 
 -- ---- words of this file
 
@@ -168,7 +168,7 @@ BoundNameIsNotClaimedAgain =
 abbrev pub PlainClaimReadsNothing : Type 0
 PlainClaimReadsNothing =
     report
-    (script Wait one_leaf (row 0 Read 0 1 Gone ∷ []) (claim 1 (codes "x") (one_copy_at 5) ∷ Go ∷ []))
+    (script Wait one_leaf (fault 0 Read 0 1 Gone ∷ []) (claim 1 (codes "x") (one_copy_at 5) ∷ Go ∷ []))
     image []
     ≡ one_round "1 claim x ok"
 
@@ -447,7 +447,7 @@ TopHasTheSectorsOfItsSmallestLeaf =
 abbrev pub ClaimHasTheDevicesError : Type 0
 ClaimHasTheDevicesError =
     map (λ kind. report
-    (script Wait one_leaf (row 0 Read 0 1 kind ∷ []) (claim 1 (codes "x") gang_of_two ∷ Go ∷ []))
+    (script Wait one_leaf (fault 0 Read 0 1 kind ∷ []) (claim 1 (codes "x") gang_of_two ∷ Go ∷ []))
     (image_with good_header) [])
     (Eio ∷ Gone ∷ [])
     ≡ one_round "1 claim x EIO" ∷ one_round "1 claim x ENXIO" ∷ []
@@ -456,7 +456,7 @@ ClaimHasTheDevicesError =
 abbrev pub ClaimReadsInTheRetry : Type 0
 ClaimReadsInTheRetry =
     report
-    (script Wait one_leaf (in_first_pass (row 0 Read 0 1 Eio) ∷ []) (claim 1 (codes "x") gang_of_two ∷ Go ∷ []))
+    (script Wait one_leaf (in_first_pass (fault 0 Read 0 1 Eio) ∷ []) (claim 1 (codes "x") gang_of_two ∷ Go ∷ []))
     (image_with good_header) []
     ≡ one_round "1 claim x ok"
 

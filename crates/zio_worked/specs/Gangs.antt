@@ -16,7 +16,7 @@ use Rattle.zio_script.specs.declared.script.Script.{Script}
 use Rattle.zio_script.specs.Bodies.{sequence}
 use Rattle.zio_cksum.specs.Images.{Images}
 use Rattle.zio_gang.specs.Journals.{asks_of}
-use Rattle.zio_worked.specs.Scripts.{script, write, write_body, read, free, claim, can_fail, row, row_of_bytes, choice, completion, place, one_leaf, mirror, zeros, sectors_of, no_sum, pointer_with, one_copy_at, two_copies_at, three_copies_at, header_with, report, report_with_journal, asks_in, images_after, outcome, pointer_after, used_after, lines}
+use Rattle.zio_worked.specs.Scripts.{script, write, write_body, read, free, claim, can_fail, fault, fault_at, choice, completion, place, one_leaf, mirror, zeros, sectors_of, no_sum, pointer_with, one_copy_at, two_copies_at, three_copies_at, header_with, report, report_with_journal, asks_in, images_after, outcome, pointer_after, used_after, lines}
 
 -- ---- words of this file
 
@@ -351,7 +351,7 @@ MemberWithoutAPlaceIsZeros =
 abbrev pub MemberThatIsntWrittenHasItsPointer : Type 0
 MemberThatIsntWrittenHasItsPointer =
     outcome
-    (script Wait one_leaf (row_of_bytes 0 Write 3584 512 0 1 Eio ∷ []) (scattered ++ can_fail write_x ∷ Go ∷ []))
+    (script Wait one_leaf (fault_at 0 Write 3584 512 0 1 Eio ∷ []) (scattered ++ can_fail write_x ∷ Go ∷ []))
     image gang_choices
     ≡ record {
       text = lines (
@@ -370,7 +370,7 @@ MemberThatIsntWrittenHasItsPointer =
 abbrev pub HeaderCopyThatIsntWrittenFailsTheGang : Type 0
 HeaderCopyThatIsntWrittenFailsTheGang =
     outcome
-    (script Wait one_leaf (row_of_bytes 0 Write 512 512 0 1 Eio ∷ []) (scattered ++ can_fail write_x ∷ Go ∷ []))
+    (script Wait one_leaf (fault_at 0 Write 512 512 0 1 Eio ∷ []) (scattered ++ can_fail write_x ∷ Go ∷ []))
     image gang_choices
     ≡ record {
       text = lines (
@@ -389,7 +389,7 @@ HeaderCopyThatIsntWrittenFailsTheGang =
 
 -- the second member can't be written until the clear
 abbrev pub write_again : Script
-write_again = script Wait one_leaf (row_of_bytes 0 Write 3584 512 0 1 Eio ∷ []) (written ++ Clear ∷ [])
+write_again = script Wait one_leaf (fault_at 0 Write 3584 512 0 1 Eio ∷ []) (written ++ Clear ∷ [])
 
 abbrev pub again_choices : List Choice
 again_choices =
@@ -439,7 +439,7 @@ SecondAttemptOfAGangAsksAnew = asks_in write_again image again_choices ≡ asks_
 
 -- the copy at sector 1 is stored flipped until the clear
 abbrev pub first_copy_flips : List Row
-first_copy_flips = row_of_bytes 0 Write 512 512 0 1 Flip ∷ []
+first_copy_flips = fault_at 0 Write 512 512 0 1 Flip ∷ []
 
 abbrev pub flipped_header : List ℕ
 flipped_header = map (λ byte. 255 - byte) header
@@ -478,7 +478,7 @@ FreeMendsAHeader =
 
 -- both copies are stored flipped
 abbrev pub both_copies_flip : List Row
-both_copies_flip = row_of_bytes 0 Write 512 512 0 1 Flip ∷ row_of_bytes 0 Write 1536 512 0 1 Flip ∷ []
+both_copies_flip = fault_at 0 Write 512 512 0 1 Flip ∷ fault_at 0 Write 1536 512 0 1 Flip ∷ []
 
 -- without a good header there is no way to the members; a free that may fail frees nothing
 abbrev pub DamagedHeadersFailTheRead : Type 0
@@ -528,7 +528,7 @@ FreeWaitsForItsHeader =
 abbrev pub MembersBelowABadHeaderArentRead : Type 0
 MembersBelowABadHeaderArentRead =
     images_after
-    (script Wait mirror (row 0 Write 0 1 Flip ∷ row_of_bytes 1 Write 0 2048 0 1 Flip ∷ []) (
+    (script Wait mirror (fault 0 Write 0 1 Flip ∷ fault_at 1 Write 0 2048 0 1 Flip ∷ []) (
     written ++ Clear ∷ read 4 (codes "x") ∷ Go ∷ []))
     (sectors_of 8 7 ∷ sectors_of 8 7 ∷ []) gang_choices
     ≡ image_with flipped_header flipped_header (sectors_of 1 0xbe) (sectors_of 1 0xbe)
@@ -538,7 +538,7 @@ MembersBelowABadHeaderArentRead =
 abbrev pub DamagedMemberIsMended : Type 0
 DamagedMemberIsMended =
     images_after
-    (script Wait mirror (row_of_bytes 0 Write 2048 2048 0 1 Flip ∷ []) (written ++ Clear ∷ read 4 (codes "x") ∷ Go ∷ []))
+    (script Wait mirror (fault_at 0 Write 2048 2048 0 1 Flip ∷ []) (written ++ Clear ∷ read 4 (codes "x") ∷ Go ∷ []))
     (sectors_of 8 7 ∷ sectors_of 8 7 ∷ []) gang_choices
     ≡ gang_image ∷ gang_image ∷ []
 
@@ -546,7 +546,7 @@ DamagedMemberIsMended =
 abbrev pub DamagedMemberFailsTheRead : Type 0
 DamagedMemberFailsTheRead =
     report
-    (script Wait one_leaf (row_of_bytes 0 Write 3584 512 0 1 Flip ∷ []) (written ++ Clear ∷ read 4 (codes "x") ∷ Go ∷ []))
+    (script Wait one_leaf (fault_at 0 Write 3584 512 0 1 Flip ∷ []) (written ++ Clear ∷ read 4 (codes "x") ∷ Go ∷ []))
     image gang_choices
     ≡ lines (
     "pool 1 1"
@@ -566,7 +566,7 @@ DamagedMemberFailsTheRead =
 abbrev pub FreeWaitsForAMissingDevice : Type 0
 FreeWaitsForAMissingDevice =
     report
-    (script Wait one_leaf (row 0 Read 0 1 Gone ∷ []) (
+    (script Wait one_leaf (fault 0 Read 0 1 Gone ∷ []) (
     written ++ can_fail (free 4 (codes "x")) ∷ Go ∷ Clear ∷ read 5 (codes "x") ∷ Go ∷ []))
     image gang_choices
     ≡ lines (
@@ -589,7 +589,7 @@ FreeWaitsForAMissingDevice =
 abbrev pub MissingDeviceFailsAFreeUnderContinue : Type 0
 MissingDeviceFailsAFreeUnderContinue =
     report
-    (script Continue one_leaf (row 0 Read 0 1 Gone ∷ []) (written ++ can_fail (free 4 (codes "x")) ∷ Go ∷ []))
+    (script Continue one_leaf (fault 0 Read 0 1 Gone ∷ []) (written ++ can_fail (free 4 (codes "x")) ∷ Go ∷ []))
     image gang_choices
     ≡ lines (
     "pool 1 1"
@@ -607,7 +607,7 @@ MissingDeviceFailsAFreeUnderContinue =
 abbrev pub PlainFreeReadsNothing : Type 0
 PlainFreeReadsNothing =
     report
-    (script Wait one_leaf (row 0 Read 0 1 Gone ∷ []) (scattered ++ free 3 (codes "f") ∷ Go ∷ []))
+    (script Wait one_leaf (fault 0 Read 0 1 Gone ∷ []) (scattered ++ free 3 (codes "f") ∷ Go ∷ []))
     image []
     ≡ lines (
     "pool 1 1"

@@ -16,7 +16,7 @@ use Rattle.zio_script.specs.declared.script.Item.TheVariants.{Go, Clear}
 use Rattle.zio_cksum.specs.Blocks.{read_order}
 use Rattle.zio_cksum.specs.Images.{Images}
 use Rattle.zio_gang.specs.Journals.{asks_of}
-use Rattle.zio_worked.specs.Scripts.{script, write, read, must, can_fail, row, row_of_bytes, in_first_pass, choice, completion, place, one_leaf, mirror, two_tops, sectors_of, report, report_with_journal, asks_in, images_after, outcome, lines}
+use Rattle.zio_worked.specs.Scripts.{script, write, read, must, can_fail, fault, fault_at, in_first_pass, choice, completion, place, one_leaf, mirror, two_tops, sectors_of, report, report_with_journal, asks_in, images_after, outcome, lines}
 
 -- ---- words of this file
 
@@ -55,7 +55,7 @@ two_leaves = untouched ∷ untouched ∷ []
 -- a mirror's write is good by one of its leaves
 abbrev pub MissedWriteIsGoodByTheOther : Type 0
 MissedWriteIsGoodByTheOther =
-    outcome (script Wait mirror (row 0 Write 0 1 Eio ∷ []) (write_x Sha256 1 ∷ Go ∷ [])) two_leaves one_place
+    outcome (script Wait mirror (fault 0 Write 0 1 Eio ∷ []) (write_x Sha256 1 ∷ Go ∷ [])) two_leaves one_place
     ≡ record {
       text = lines ("pool 1 2" ∷ "round 1 batch 1 point 0" ∷ "1 write x ok 512" ∷ "end 0" ∷ []);
       images = untouched ∷ at_3 65 ∷ [];
@@ -65,7 +65,7 @@ MissedWriteIsGoodByTheOther =
 abbrev pub MissedWriteIsRepaired : Type 0
 MissedWriteIsRepaired =
     outcome
-    (script Wait mirror (row 0 Write 0 1 Eio ∷ []) (write_x Sha256 1 ∷ Go ∷ Clear ∷ read_x ∷ Go ∷ []))
+    (script Wait mirror (fault 0 Write 0 1 Eio ∷ []) (write_x Sha256 1 ∷ Go ∷ Clear ∷ read_x ∷ Go ∷ []))
     two_leaves one_place
     ≡ record {
       text = lines (
@@ -82,7 +82,7 @@ MissedWriteIsRepaired =
 abbrev pub RepairThatFailsIsIgnored : Type 0
 RepairThatFailsIsIgnored =
     outcome
-    (script Wait mirror (row 0 Write 0 1 Eio ∷ []) (write_x Sha256 1 ∷ Go ∷ read_x ∷ Go ∷ []))
+    (script Wait mirror (fault 0 Write 0 1 Eio ∷ []) (write_x Sha256 1 ∷ Go ∷ read_x ∷ Go ∷ []))
     two_leaves one_place
     ≡ record {
       text = lines (
@@ -99,7 +99,7 @@ RepairThatFailsIsIgnored =
 abbrev pub LeafBehindAGoodOneIsLeft : Type 0
 LeafBehindAGoodOneIsLeft =
     outcome
-    (script Wait mirror (row 1 Write 0 1 Eio ∷ []) (write_x Sha256 1 ∷ Go ∷ Clear ∷ read_x ∷ Go ∷ []))
+    (script Wait mirror (fault 1 Write 0 1 Eio ∷ []) (write_x Sha256 1 ∷ Go ∷ Clear ∷ read_x ∷ Go ∷ []))
     two_leaves one_place
     ≡ record {
       text = lines (
@@ -117,7 +117,7 @@ LeafBehindAGoodOneIsLeft =
 -- a flip on write stores every bit turned, without an error
 abbrev pub FlippedWriteIsStored : Type 0
 FlippedWriteIsStored =
-    outcome (script Wait mirror (row 0 Write 0 1 Flip ∷ []) (write_x Sha256 1 ∷ Go ∷ [])) two_leaves one_place
+    outcome (script Wait mirror (fault 0 Write 0 1 Flip ∷ []) (write_x Sha256 1 ∷ Go ∷ [])) two_leaves one_place
     ≡ record {
       text = lines ("pool 1 2" ∷ "round 1 batch 1 point 0" ∷ "1 write x ok 512" ∷ "end 0" ∷ []);
       images = at_3 0xbe ∷ at_3 65 ∷ [];
@@ -126,7 +126,7 @@ FlippedWriteIsStored =
 abbrev pub FlippedWriteIsRepaired : Type 0
 FlippedWriteIsRepaired =
     outcome
-    (script Wait mirror (row 0 Write 0 1 Flip ∷ []) (write_x Sha256 1 ∷ Go ∷ Clear ∷ read_x ∷ Go ∷ []))
+    (script Wait mirror (fault 0 Write 0 1 Flip ∷ []) (write_x Sha256 1 ∷ Go ∷ Clear ∷ read_x ∷ Go ∷ []))
     two_leaves one_place
     ≡ record {
       text = lines (
@@ -143,7 +143,7 @@ FlippedWriteIsRepaired =
 abbrev pub RepairThroughAFlipStaysWrong : Type 0
 RepairThroughAFlipStaysWrong =
     outcome
-    (script Wait mirror (row 0 Write 0 1 Flip ∷ []) (write_x Sha256 1 ∷ Go ∷ read_x ∷ Go ∷ []))
+    (script Wait mirror (fault 0 Write 0 1 Flip ∷ []) (write_x Sha256 1 ∷ Go ∷ read_x ∷ Go ∷ []))
     two_leaves one_place
     ≡ record {
       text = lines (
@@ -160,7 +160,7 @@ RepairThroughAFlipStaysWrong =
 abbrev pub FlippedReadIsHandedOut : Type 0
 FlippedReadIsHandedOut =
     outcome
-    (script Wait one_leaf (row 0 Read 0 1 Flip ∷ []) (write_x Off 1 ∷ Go ∷ read_x ∷ Go ∷ []))
+    (script Wait one_leaf (fault 0 Read 0 1 Flip ∷ []) (write_x Off 1 ∷ Go ∷ read_x ∷ Go ∷ []))
     (untouched ∷ []) one_place
     ≡ record {
       text = lines (
@@ -179,7 +179,7 @@ FlippedReadIsHandedOut =
 abbrev pub FlipTurnsTheCommonPart : Type 0
 FlipTurnsTheCommonPart =
     images_after
-    (script Wait mirror (row_of_bytes 0 Write 1600 100 0 1 Flip ∷ row_of_bytes 1 Write 1000 600 0 1 Flip ∷ [])
+    (script Wait mirror (fault_at 0 Write 1600 100 0 1 Flip ∷ fault_at 1 Write 1000 600 0 1 Flip ∷ [])
     (write_x Off 1 ∷ Go ∷ []))
     two_leaves one_place
     ≡ (sectors_of 3 7 ++ replicate 64 65 ++ replicate 100 0xbe ++ replicate 348 65 ++ sectors_of 4 7)
@@ -190,8 +190,8 @@ abbrev pub FirstRowCounts : Type 0
 FirstRowCounts =
     images_after
     (script Wait mirror (
-    row_of_bytes 0 Write 1600 100 0 1 Flip ∷ row 0 Write 0 1 Eio
-    ∷ row 1 Write 0 1 Eio ∷ row_of_bytes 1 Write 1600 100 0 1 Flip ∷ [])
+    fault_at 0 Write 1600 100 0 1 Flip ∷ fault 0 Write 0 1 Eio
+    ∷ fault 1 Write 0 1 Eio ∷ fault_at 1 Write 1600 100 0 1 Flip ∷ [])
     (write_x Off 1 ∷ Go ∷ []))
     two_leaves one_place
     ≡ (sectors_of 3 7 ++ replicate 64 65 ++ replicate 100 0xbe ++ replicate 348 65 ++ sectors_of 4 7) ∷ untouched ∷ []
@@ -207,23 +207,23 @@ hit at len = Some (record { kind = Eio; at = at; len = len })
 abbrev pub RowIsMetInItsRange : Type 0
 RowIsMetInItsRange =
     map (λ (r : Row). first_hit (r ∷ []) write_of_sector_3) (
-    row_of_bytes 0 Write 0 65536 0 2 Eio
-    ∷ row_of_bytes 0 Any 2047 1 1 2 Eio
-    ∷ row_of_bytes 0 Any 1500 37 0 65535 Eio
-    ∷ row_of_bytes 0 Write 0 1536 0 2 Eio
-    ∷ row_of_bytes 0 Write 2048 512 0 2 Eio
-    ∷ row_of_bytes 1 Write 0 65536 0 2 Eio
-    ∷ row_of_bytes 0 Read 0 65536 0 2 Eio
-    ∷ row_of_bytes 0 Write 0 65536 0 1 Eio
-    ∷ row_of_bytes 0 Write 0 65536 2 3 Eio
-    ∷ in_first_pass (row_of_bytes 0 Write 1700 10 0 2 Eio) ∷ [])
+    fault_at 0 Write 0 65536 0 2 Eio
+    ∷ fault_at 0 Any 2047 1 1 2 Eio
+    ∷ fault_at 0 Any 1500 37 0 65535 Eio
+    ∷ fault_at 0 Write 0 1536 0 2 Eio
+    ∷ fault_at 0 Write 2048 512 0 2 Eio
+    ∷ fault_at 1 Write 0 65536 0 2 Eio
+    ∷ fault_at 0 Read 0 65536 0 2 Eio
+    ∷ fault_at 0 Write 0 65536 0 1 Eio
+    ∷ fault_at 0 Write 0 65536 2 3 Eio
+    ∷ in_first_pass (fault_at 0 Write 1700 10 0 2 Eio) ∷ [])
     ≡ hit 1536 512 ∷ hit 2047 1 ∷ hit 1536 1 ∷ None ∷ None ∷ None ∷ None ∷ None ∷ None ∷ hit 1700 10 ∷ []
 
 -- a row holds from its first point on, and no longer at its last
 abbrev pub RowHoldsBetweenItsPoints : Type 0
 RowHoldsBetweenItsPoints =
     report
-    (script Wait one_leaf (row 0 Read 1 2 Eio ∷ []) (
+    (script Wait one_leaf (fault 0 Read 1 2 Eio ∷ []) (
     write_x Sha256 1 ∷ Go ∷ read 2 (codes "x") ∷ Go
     ∷ Clear ∷ read 3 (codes "x") ∷ Go ∷ Clear ∷ read 4 (codes "x") ∷ Go ∷ []))
     (untouched ∷ []) one_place
@@ -245,7 +245,7 @@ RowHoldsBetweenItsPoints =
 abbrev pub ReadPassesInTheRetry : Type 0
 ReadPassesInTheRetry =
     outcome
-    (script Wait mirror (in_first_pass (row 0 Read 0 65535 Eio) ∷ in_first_pass (row 1 Read 0 65535 Eio) ∷ [])
+    (script Wait mirror (in_first_pass (fault 0 Read 0 65535 Eio) ∷ in_first_pass (fault 1 Read 0 65535 Eio) ∷ [])
     (write_x Sha256 1 ∷ Go ∷ read_x ∷ Go ∷ []))
     two_leaves one_place
     ≡ record {
@@ -264,7 +264,7 @@ abbrev pub RepairIsMadeInThePassOfTheGoodRead : Type 0
 RepairIsMadeInThePassOfTheGoodRead =
     outcome
     (script Wait mirror (
-    in_first_pass (row 0 Write 0 65535 Flip) ∷ row 0 Read 0 65535 Eio ∷ in_first_pass (row 1 Read 0 65535 Eio) ∷ [])
+    in_first_pass (fault 0 Write 0 65535 Flip) ∷ fault 0 Read 0 65535 Eio ∷ in_first_pass (fault 1 Read 0 65535 Eio) ∷ [])
     (write_x Sha256 1 ∷ Go ∷ read_x ∷ Go ∷ []))
     two_leaves one_place
     ≡ record {
@@ -283,7 +283,7 @@ RepairIsMadeInThePassOfTheGoodRead =
 abbrev pub RetryMendsItsOwnFailuresAlone : Type 0
 RetryMendsItsOwnFailuresAlone =
     outcome
-    (script Wait mirror (row 1 Write 0 1 Eio ∷ in_first_pass (row 0 Read 0 65535 Eio) ∷ [])
+    (script Wait mirror (fault 1 Write 0 1 Eio ∷ in_first_pass (fault 0 Read 0 65535 Eio) ∷ [])
     (write_x Sha256 1 ∷ Go ∷ Clear ∷ read_x ∷ Go ∷ []))
     two_leaves one_place
     ≡ record {
@@ -301,7 +301,7 @@ RetryMendsItsOwnFailuresAlone =
 abbrev pub OneGoodLeafNeedsNoRetry : Type 0
 OneGoodLeafNeedsNoRetry =
     images_after
-    (script Wait mirror (in_first_pass (row 0 Write 0 65535 Eio) ∷ []) (write_x Sha256 1 ∷ Go ∷ []))
+    (script Wait mirror (in_first_pass (fault 0 Write 0 65535 Eio) ∷ []) (write_x Sha256 1 ∷ Go ∷ []))
     two_leaves one_place
     ≡ untouched ∷ at_3 65 ∷ []
 
@@ -309,7 +309,7 @@ OneGoodLeafNeedsNoRetry =
 abbrev pub RetryWritesAllCopies : Type 0
 RetryWritesAllCopies =
     outcome
-    (script Wait two_tops (in_first_pass (row 0 Write 0 65535 Eio) ∷ in_first_pass (row 1 Write 0 65535 Flip) ∷ [])
+    (script Wait two_tops (in_first_pass (fault 0 Write 0 65535 Eio) ∷ in_first_pass (fault 1 Write 0 65535 Flip) ∷ [])
     (write_x Sha256 2 ∷ Go ∷ []))
     two_leaves two_places
     ≡ record {
@@ -323,7 +323,7 @@ RetryWritesAllCopies =
 abbrev pub SecondCopyIsReadAndMendsTheFirst : Type 0
 SecondCopyIsReadAndMendsTheFirst =
     outcome
-    (script Wait two_tops (row 0 Write 0 1 Flip ∷ []) (write_x Sha256 2 ∷ Go ∷ Clear ∷ read_x ∷ Go ∷ []))
+    (script Wait two_tops (fault 0 Write 0 1 Flip ∷ []) (write_x Sha256 2 ∷ Go ∷ Clear ∷ read_x ∷ Go ∷ []))
     two_leaves two_places
     ≡ record {
       text = lines (
@@ -340,7 +340,7 @@ SecondCopyIsReadAndMendsTheFirst =
 abbrev pub CopyBehindAGoodOneIsLeft : Type 0
 CopyBehindAGoodOneIsLeft =
     images_after
-    (script Wait two_tops (row 1 Write 0 1 Flip ∷ []) (write_x Sha256 2 ∷ Go ∷ Clear ∷ read_x ∷ Go ∷ []))
+    (script Wait two_tops (fault 1 Write 0 1 Flip ∷ []) (write_x Sha256 2 ∷ Go ∷ Clear ∷ read_x ∷ Go ∷ []))
     two_leaves two_places
     ≡ at_3 65 ∷ at_5 0xbe ∷ []
 
@@ -349,7 +349,7 @@ CopyBehindAGoodOneIsLeft =
 abbrev pub AllLeavesOfABadCopyAreMended : Type 0
 AllLeavesOfABadCopyAreMended =
     outcome
-    (script Wait ((0 ∷ 1 ∷ []) ∷ (2 ∷ 3 ∷ []) ∷ []) (row 0 Write 0 1 Flip ∷ row 1 Write 0 1 Eio ∷ row 3 Write 0 1 Eio ∷ [])
+    (script Wait ((0 ∷ 1 ∷ []) ∷ (2 ∷ 3 ∷ []) ∷ []) (fault 0 Write 0 1 Flip ∷ fault 1 Write 0 1 Eio ∷ fault 3 Write 0 1 Eio ∷ [])
     (write_x Sha256 2 ∷ Go ∷ Clear ∷ read_x ∷ Go ∷ []))
     (untouched ∷ untouched ∷ untouched ∷ untouched ∷ []) two_places
     ≡ record {
@@ -379,7 +379,7 @@ five_attempts =
     ∷ choice 1 2 0 [] Body 512 2 (place 0 4 1 ∷ place 1 4 1 ∷ []) ∷ []
 
 abbrev pub gone_until_clear : List Row
-gone_until_clear = row 1 Write 0 1 Gone ∷ []
+gone_until_clear = fault 1 Write 0 1 Gone ∷ []
 
 -- The first copy isn't enough. The fourth attempt suspends the write, and it completes after the clear.
 abbrev pub MissingTopSuspendsTheWrite : Type 0
@@ -444,7 +444,7 @@ ReadsGoRoundFourLeaves =
 abbrev pub DamagedBlockIsAChecksumError : Type 0
 DamagedBlockIsAChecksumError =
     outcome
-    (script Wait one_leaf (row 0 Write 0 1 Flip ∷ []) (write_x Sha256 1 ∷ Go ∷ Clear ∷ read_x ∷ Go ∷ []))
+    (script Wait one_leaf (fault 0 Write 0 1 Flip ∷ []) (write_x Sha256 1 ∷ Go ∷ Clear ∷ read_x ∷ Go ∷ []))
     (untouched ∷ []) one_place
     ≡ record {
       text = lines (
@@ -461,7 +461,7 @@ DamagedBlockIsAChecksumError =
 abbrev pub DamagedBlockWithoutAChecksumIsHandedOut : Type 0
 DamagedBlockWithoutAChecksumIsHandedOut =
     report
-    (script Wait one_leaf (row 0 Write 0 1 Flip ∷ []) (write_x Off 1 ∷ Go ∷ Clear ∷ read_x ∷ Go ∷ []))
+    (script Wait one_leaf (fault 0 Write 0 1 Flip ∷ []) (write_x Off 1 ∷ Go ∷ Clear ∷ read_x ∷ Go ∷ []))
     (untouched ∷ []) one_place
     ≡ lines (
     "pool 1 1"
@@ -475,7 +475,7 @@ DamagedBlockWithoutAChecksumIsHandedOut =
 abbrev pub DeviceErrorIsWorseThanAWrongSum : Type 0
 DeviceErrorIsWorseThanAWrongSum =
     report
-    (script Wait mirror (row 0 Write 0 1 Flip ∷ row 1 Read 0 1 Eio ∷ []) (write_x Sha256 1 ∷ Go ∷ read_x ∷ Go ∷ []))
+    (script Wait mirror (fault 0 Write 0 1 Flip ∷ fault 1 Read 0 1 Eio ∷ []) (write_x Sha256 1 ∷ Go ∷ read_x ∷ Go ∷ []))
     two_leaves one_place
     ≡ lines (
     "pool 1 2"
@@ -489,7 +489,7 @@ DeviceErrorIsWorseThanAWrongSum =
 abbrev pub WrongSumIsWorseThanAMissingDevice : Type 0
 WrongSumIsWorseThanAMissingDevice =
     report
-    (script Wait mirror (row 0 Write 0 1 Flip ∷ row 1 Read 0 1 Gone ∷ []) (write_x Sha256 1 ∷ Go ∷ read_x ∷ Go ∷ []))
+    (script Wait mirror (fault 0 Write 0 1 Flip ∷ fault 1 Read 0 1 Gone ∷ []) (write_x Sha256 1 ∷ Go ∷ read_x ∷ Go ∷ []))
     two_leaves one_place
     ≡ lines (
     "pool 1 2"
@@ -503,7 +503,7 @@ WrongSumIsWorseThanAMissingDevice =
 abbrev pub FailedWriteHasTheWorstError : Type 0
 FailedWriteHasTheWorstError =
     report
-    (script Wait two_tops (row 0 Write 0 1 Eio ∷ row 1 Write 0 1 Gone ∷ []) (
+    (script Wait two_tops (fault 0 Write 0 1 Eio ∷ fault 1 Write 0 1 Gone ∷ []) (
     can_fail (write_x Sha256 2) ∷ Go ∷ read_x ∷ Go ∷ []))
     two_leaves two_places
     ≡ lines (
@@ -518,7 +518,7 @@ FailedWriteHasTheWorstError =
 abbrev pub ReadWaitsForAMissingDevice : Type 0
 ReadWaitsForAMissingDevice =
     report
-    (script Wait one_leaf (row 0 Read 0 1 Gone ∷ []) (write_x Off 1 ∷ Go ∷ read_x ∷ Go ∷ Clear ∷ []))
+    (script Wait one_leaf (fault 0 Read 0 1 Gone ∷ []) (write_x Off 1 ∷ Go ∷ read_x ∷ Go ∷ Clear ∷ []))
     (untouched ∷ []) one_place
     ≡ lines (
     "pool 1 1"
@@ -534,7 +534,7 @@ ReadWaitsForAMissingDevice =
 abbrev pub MissingDeviceUnderContinueIsAnError : Type 0
 MissingDeviceUnderContinueIsAnError =
     report
-    (script Continue one_leaf (row 0 Read 0 65535 Gone ∷ []) (write_x Off 1 ∷ Go ∷ read_x ∷ Go ∷ []))
+    (script Continue one_leaf (fault 0 Read 0 65535 Gone ∷ []) (write_x Off 1 ∷ Go ∷ read_x ∷ Go ∷ []))
     (untouched ∷ []) one_place
     ≡ lines (
     "pool 1 1"
@@ -548,7 +548,7 @@ MissingDeviceUnderContinueIsAnError =
 abbrev pub ReadThatMayNotFailWaitsUnderContinue : Type 0
 ReadThatMayNotFailWaitsUnderContinue =
     report
-    (script Continue one_leaf (row 0 Read 0 65535 Gone ∷ []) (write_x Off 1 ∷ Go ∷ must read_x ∷ Go ∷ []))
+    (script Continue one_leaf (fault 0 Read 0 65535 Gone ∷ []) (write_x Off 1 ∷ Go ∷ must read_x ∷ Go ∷ []))
     (untouched ∷ []) one_place
     ≡ lines (
     "pool 1 1"

@@ -89,9 +89,9 @@ mirror = (0 ∷ 1 ∷ []) ∷ []
 abbrev pub two_tops : List (List ℕ)
 two_tops = (0 ∷ []) ∷ (1 ∷ []) ∷ []
 
--- a row over so many bytes of a leaf from there on
-abbrev pub row_of_bytes : ℕ → On → ℕ → ℕ → ℕ → ℕ → FaultKind → Row
-row_of_bytes leaf on at len from until kind = record {
+-- a fault over so many bytes of a leaf, from there on
+abbrev pub fault_at : ℕ → On → ℕ → ℕ → ℕ → ℕ → FaultKind → Row
+fault_at leaf on at len from until kind = record {
   leaf = leaf;
   on = on;
   at = at;
@@ -102,11 +102,11 @@ row_of_bytes leaf on at len from until kind = record {
   first = false;
 }
 
--- a row over the first 64 KiB of a leaf
-abbrev pub row : ℕ → On → ℕ → ℕ → FaultKind → Row
-row leaf on from until kind = row_of_bytes leaf on 0 65536 from until kind
+-- a fault over the first 64 KiB of a leaf
+abbrev pub fault : ℕ → On → ℕ → ℕ → FaultKind → Row
+fault leaf on from until kind = fault_at leaf on 0 65536 from until kind
 
--- a row that holds in first passes alone
+-- the same in first passes alone
 abbrev pub in_first_pass : Row → Row
 in_first_pass r = record r { first = true }
 

@@ -1,6 +1,6 @@
 use Rattle.std.proofs.Common.{refl}
 use Rattle.zio_worked.proofs.Evaluation.{evaluation}
-use Rattle.zio_worked.specs.Claims.{ClaimedBlockIsRead, WrongSumIsFoundByTheRead, PlacesThatMeetAreRefused, UsedPlaceIsRefused, PlaceOutsideItsTopIsInvalid, ZerosAreNoPointer, BoundNameIsNotClaimedAgain, PlainClaimReadsNothing, ClaimedGangIsRead, HeaderMadeForAnotherPlaceIsRefused, EndlessGangIsRefused, DeepestGangIsClaimed, GangBelowTheDeepestIsRefused, WrittenGangIsClaimed, BadHeadersAreRefused, ErrorsOfAClaimedTreeJoin, RefusedHeadersHaveTheirSums, PlacesOfAClaimedGangStandApart, RefusedClaimTakesNothing, FreedClaimUsesNoPlace, TopHasTheSectorsOfItsSmallestLeaf, ClaimHasTheDevicesError, ClaimReadsInTheRetry, ClaimMendsNothing, ReadOfAClaimedGangMendsIt}
+use Rattle.zio_worked.specs.Claims.{ClaimedBlockIsRead, WrongSumIsFoundByTheRead, PlacesThatMeetAreRefused, UsedPlaceIsRefused, PlaceOutsideItsTopIsInvalid, ZerosAreNoPointer, BoundNameIsNotClaimedAgain, PlainClaimReadsNothing, ClaimedGangIsRead, HeaderMadeForAnotherPlaceIsRefused, OtherHeaderIsClaimed, KeptHeaderIsGood, OnlyTheKeptHeaderIsGood, EndlessGangIsRefused, DeepestGangIsClaimed, GangBelowTheDeepestIsRefused, WrittenGangIsClaimed, BadHeadersAreRefused, ErrorsOfAClaimedTreeJoin, RefusedHeadersHaveTheirSums, PlacesOfAClaimedGangStandApart, RefusedClaimTakesNothing, FreedClaimUsesNoPlace, TopHasTheSectorsOfItsSmallestLeaf, ClaimHasTheDevicesError, ClaimReadsInTheRetry, ClaimMendsNothing, ReadOfAClaimedGangMendsIt}
 
 pub claimed_block_is_read : ClaimedBlockIsRead
 unfolding evaluation
@@ -41,6 +41,18 @@ claimed_gang_is_read = refl
 pub header_made_for_another_place_is_refused : HeaderMadeForAnotherPlaceIsRefused
 unfolding evaluation
 header_made_for_another_place_is_refused = refl
+
+pub other_header_is_claimed : OtherHeaderIsClaimed
+unfolding evaluation
+other_header_is_claimed = refl
+
+pub kept_header_is_good : KeptHeaderIsGood
+unfolding evaluation
+kept_header_is_good = refl
+
+pub only_the_kept_header_is_good : OnlyTheKeptHeaderIsGood
+unfolding evaluation
+only_the_kept_header_is_good = refl
 
 pub endless_gang_is_refused : EndlessGangIsRefused
 unfolding evaluation

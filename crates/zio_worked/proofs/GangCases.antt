@@ -1,6 +1,6 @@
 use Rattle.std.proofs.Common.{refl}
 use Rattle.zio_worked.proofs.Evaluation.{evaluation}
-use Rattle.zio_worked.specs.Gangs.{ScatteredSpaceMakesAGang, GangAsksForItsParts, GangStandsInTheJournal, GangPointerHasTheWholeSum, GangInsideAGang, NestedGangAsksForItsParts, NestedGangIsStored, RefusedHeaderSuspendsTheWrite, RefusedHeaderIsAskedForOnce, RefusedHeaderFailsTheWrite, OneSectorWithoutSpaceFails, OneSectorAsksForNoHeader, OneSectorWithoutSpaceWaits, HeaderHasOneCopyMore, MemberWithoutAPlaceIsZeros, MemberThatIsntWrittenHasItsPointer, HeaderCopyThatIsntWrittenFailsTheGang, PlacesComeBackAfterTheRound, SecondAttemptOfAGangAsksAnew, DamagedHeaderIsMended, HeaderMendedThroughAFlipStaysWrong, FreeMendsAHeader, DamagedHeadersFailTheRead, FreeWaitsForItsHeader, MembersBelowABadHeaderArentRead, DamagedMemberIsMended, DamagedMemberFailsTheRead, FreeWaitsForAMissingDevice, MissingDeviceFailsAFreeUnderContinue, PlainFreeReadsNothing, GangUsesAllItsPlaces, FreedGangUsesNoPlace, NothingIsUsedAfterAllFrees}
+use Rattle.zio_worked.specs.Gangs.{ScatteredSpaceMakesAGang, GangAsksForItsParts, GangStandsInTheJournal, GangPointerHasTheWholeSum, GangInsideAGang, NestedGangAsksForItsParts, NestedGangIsStored, NestedHeaderIsMended, NestedHeadersFailTheRead, NestedGangIsFreed, RefusedHeaderSuspendsTheWrite, RefusedHeaderIsAskedForOnce, RefusedHeaderFailsTheWrite, OneSectorWithoutSpaceFails, OneSectorAsksForNoHeader, OneSectorWithoutSpaceWaits, HeaderHasOneCopyMore, MemberWithoutAPlaceIsZeros, MemberThatIsntWrittenHasItsPointer, HeaderCopyThatIsntWrittenFailsTheGang, PlacesComeBackAfterTheRound, SecondAttemptOfAGangAsksAnew, DamagedHeaderIsMended, HeaderMendedThroughAFlipStaysWrong, FreeMendsAHeader, DamagedHeadersFailTheRead, FreeWaitsForItsHeader, MembersBelowABadHeaderArentRead, DamagedMemberIsMended, DamagedMemberFailsTheRead, FreeWaitsForAMissingDevice, MissingDeviceFailsAFreeUnderContinue, PlainFreeReadsNothing, GangUsesAllItsPlaces, FreedGangUsesNoPlace, NothingIsUsedAfterAllFrees}
 
 pub scattered_space_makes_a_gang : ScatteredSpaceMakesAGang
 unfolding evaluation
@@ -29,6 +29,18 @@ nested_gang_asks_for_its_parts = refl
 pub nested_gang_is_stored : NestedGangIsStored
 unfolding evaluation
 nested_gang_is_stored = refl
+
+pub nested_header_is_mended : NestedHeaderIsMended
+unfolding evaluation
+nested_header_is_mended = refl
+
+pub nested_headers_fail_the_read : NestedHeadersFailTheRead
+unfolding evaluation
+nested_headers_fail_the_read = refl
+
+pub nested_gang_is_freed : NestedGangIsFreed
+unfolding evaluation
+nested_gang_is_freed = refl
 
 pub refused_header_suspends_the_write : RefusedHeaderSuspendsTheWrite
 unfolding evaluation

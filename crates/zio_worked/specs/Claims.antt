@@ -1,13 +1,17 @@
 -- Claims of blocks that an image holds already: what binds a name, and what is refused.
-use Rattle.std.specs.Prelude.{◌≡◌, ℕ, ◌+◌, ◌^◌, List, [], ◌∷◌, ◌++◌, map, drop, codes, replicate, bytes_eq, Bool, true, false}
+use Rattle.std.specs.Prelude.{◌≡◌, ℕ, ◌+◌, ◌^◌, List, [], ◌∷◌, ◌++◌, map, drop, codes, replicate, bytes_eq, Bool, true, false, Ok, Err}
 use Prim.Native.String.{String}
+use Rattle.zio_types.specs.declared.error.Errno.TheVariants.{Cksum}
+use Rattle.zio_blkptr.specs.declared.pointer.SumKind.TheVariants.{Off}
 use Rattle.zio_faults.specs.declared.table.FaultKind.TheVariants.{Eio, Gone}
 use Rattle.zio_faults.specs.declared.table.On.TheVariants.{Read}
 use Rattle.zio_script.specs.declared.script.Failmode.TheVariants.{Wait}
 use Rattle.zio_script.specs.declared.script.Item.TheVariants.{Go}
 use Rattle.zio_script.specs.declared.script.Script.{Script}
 use Rattle.zio_cksum.specs.Headers.{gang_sum_of}
-use Rattle.zio_cksum.specs.Images.{Images}
+use Rattle.zio_cksum.specs.Images.{Images, Setting}
+use Rattle.zio_gang.specs.declared.tree.Tree.{Tree}
+use Rattle.zio_gang.specs.Trees.{read_tree}
 use Rattle.zio_worked.specs.Gangs.{nested_image}
 use Rattle.zio_worked.specs.Scripts.{place, script, read, claim, fault, one_leaf, zeros, sectors_of, word_bytes, no_sum, pointer_with, one_copy_at, two_copies_at, header_with, report, outcome, lines, free, in_first_pass, mirror, used_after}
 
@@ -216,6 +220,44 @@ HeaderMadeForAnotherPlaceIsRefused =
     ∷ "round 2 batch 2 point 0"
     ∷ "2 claim b ok"
     ∷ "end 0" ∷ [])
+
+-- another header for sector 3 and birth 1, of members at sectors 4 and 6, which a claim takes as well
+abbrev pub other_header : List ℕ
+other_header =
+    header_with (one_copy_at 4 ++ one_copy_at 6 ++ zeros 128)
+    (0xf2f7a655d242c07c ∷ 0x2c07447a2cccf343 ∷ 0x51dcf76b65811d23 ∷ 0x7f30baecc5592942 ∷ [])
+
+abbrev pub OtherHeaderIsClaimed : Type 0
+OtherHeaderIsClaimed = report (claim_x gang_of_two) (image_with other_header) [] ≡ one_round "1 claim x ok"
+
+-- what a claim of the first header binds
+abbrev pub claimed_tree : Tree
+claimed_tree = record {
+  bp = record {
+    count = 1;
+    places = place 0 3 1 ∷ place 0 0 0 ∷ place 0 0 0 ∷ [];
+    gang = true;
+    size = 1024;
+    sum = Off;
+    birth = 1;
+    words = no_sum;
+  };
+  heads = record { path = []; bytes = good_header } ∷ [];
+}
+
+abbrev pub setting : Setting
+setting = record { tops = record { leaves = 0 ∷ []; sectors = 8 } ∷ []; rows = []; point = 0 }
+
+abbrev pub KeptHeaderIsGood : Type 0
+KeptHeaderIsGood =
+    read_tree setting claimed_tree (image_with good_header)
+    ≡ record { found = Ok (sectors_of 1 65 ++ sectors_of 1 66); images = image_with good_header }
+
+-- once the block is bound no other header is good, were it one that could be claimed
+abbrev pub OnlyTheKeptHeaderIsGood : Type 0
+OnlyTheKeptHeaderIsGood =
+    read_tree setting claimed_tree (image_with other_header)
+    ≡ record { found = Err Cksum; images = image_with other_header }
 
 -- the one member of this header is the gang that it heads, so the headers never end
 abbrev pub endless_header : List ℕ

@@ -202,6 +202,46 @@ nested_image =
 abbrev pub NestedGangIsStored : Type 0
 NestedGangIsStored = images_after nested (sectors_of 16 7 ∷ []) nested_choices ≡ nested_image ∷ []
 
+-- the inner gang's first copy is stored flipped until the clear, or both of its copies
+abbrev pub nested_with : List Row → List Item → Script
+nested_with rows items =
+    script Wait one_leaf rows (every_other ++ write_body 4 (codes "x") Fletcher4 1 (Seq 0 2048) ∷ Go ∷ Clear ∷ items)
+
+abbrev pub NestedHeaderIsMended : Type 0
+NestedHeaderIsMended =
+    images_after (nested_with (fault_at 0 Write 2560 512 0 1 Flip ∷ []) (read 5 (codes "x") ∷ Go ∷ []))
+    (sectors_of 16 7 ∷ []) nested_choices
+    ≡ nested_image ∷ []
+
+abbrev pub NestedHeadersFailTheRead : Type 0
+NestedHeadersFailTheRead =
+    report
+    (nested_with (fault_at 0 Write 2560 512 0 1 Flip ∷ fault_at 0 Write 3584 512 0 1 Flip ∷ [])
+    (read 5 (codes "x") ∷ Go ∷ []))
+    (sectors_of 16 7 ∷ []) nested_choices
+    ≡ lines (
+    "pool 1 1"
+    ∷ "round 1 batch 1 point 0"
+    ∷ "1 claim a ok"
+    ∷ "round 2 batch 2 point 0"
+    ∷ "2 claim b ok"
+    ∷ "round 3 batch 3 point 0"
+    ∷ "3 claim c ok"
+    ∷ "round 4 batch 4 point 0"
+    ∷ "4 write x ok 2048"
+    ∷ "round 5 batch 5 point 1"
+    ∷ "5 read x ECKSUM"
+    ∷ "end 0" ∷ [])
+
+-- frees of the claims and of the gang in a gang leave no place used
+abbrev pub NestedGangIsFreed : Type 0
+NestedGangIsFreed =
+    used_after
+    (nested_with [] (
+    free 5 (codes "a") ∷ free 6 (codes "b") ∷ free 7 (codes "c") ∷ free 8 (codes "x") ∷ Go ∷ []))
+    (sectors_of 16 7 ∷ []) nested_choices
+    ≡ []
+
 -- ---- asks that are refused
 
 -- f has the sectors 0 to 5 in three copies and g has 6, so 7 alone is free

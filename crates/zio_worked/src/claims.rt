@@ -1,4 +1,4 @@
-ghost use Rattle.zio_worked.specs.Claims.{ClaimedBlockIsRead, WrongSumIsFoundByTheRead, PlacesThatMeetAreRefused, UsedPlaceIsRefused, PlaceOutsideItsTopIsInvalid, ZerosAreNoPointer, BoundNameIsNotClaimedAgain, PlainClaimReadsNothing, ClaimedGangIsRead, HeaderMadeForAnotherPlaceIsRefused, EndlessGangIsRefused, DeepestGangIsClaimed, GangBelowTheDeepestIsRefused, WrittenGangIsClaimed, BadHeadersAreRefused, ErrorsOfAClaimedTreeJoin, RefusedHeadersHaveTheirSums, PlacesOfAClaimedGangStandApart, RefusedClaimTakesNothing, FreedClaimUsesNoPlace, TopHasTheSectorsOfItsSmallestLeaf, ClaimHasTheDevicesError, ClaimReadsInTheRetry, ClaimMendsNothing, ReadOfAClaimedGangMendsIt};
+ghost use Rattle.zio_worked.specs.Claims.{ClaimedBlockIsRead, WrongSumIsFoundByTheRead, PlacesThatMeetAreRefused, UsedPlaceIsRefused, PlaceOutsideItsTopIsInvalid, ZerosAreNoPointer, BoundNameIsNotClaimedAgain, PlainClaimReadsNothing, ClaimedGangIsRead, HeaderMadeForAnotherPlaceIsRefused, OtherHeaderIsClaimed, KeptHeaderIsGood, OnlyTheKeptHeaderIsGood, EndlessGangIsRefused, DeepestGangIsClaimed, GangBelowTheDeepestIsRefused, WrittenGangIsClaimed, BadHeadersAreRefused, ErrorsOfAClaimedTreeJoin, RefusedHeadersHaveTheirSums, PlacesOfAClaimedGangStandApart, RefusedClaimTakesNothing, FreedClaimUsesNoPlace, TopHasTheSectorsOfItsSmallestLeaf, ClaimHasTheDevicesError, ClaimReadsInTheRetry, ClaimMendsNothing, ReadOfAClaimedGangMendsIt};
 
 /// A claim binds a name to a block that the images hold already.
 pub fn claims_bind_what_is_there()
@@ -12,6 +12,9 @@ pub fn claims_bind_what_is_there()
     ensures plain_claim_reads_nothing { PlainClaimReadsNothing }
     ensures claimed_gang_is_read { ClaimedGangIsRead }
     ensures header_made_for_another_place_is_refused { HeaderMadeForAnotherPlaceIsRefused }
+    ensures other_header_is_claimed { OtherHeaderIsClaimed }
+    ensures kept_header_is_good { KeptHeaderIsGood }
+    ensures only_the_kept_header_is_good { OnlyTheKeptHeaderIsGood }
     ensures endless_gang_is_refused { EndlessGangIsRefused }
     ensures deepest_gang_is_claimed { DeepestGangIsClaimed }
     ensures gang_below_the_deepest_is_refused { GangBelowTheDeepestIsRefused }

@@ -1,4 +1,4 @@
-ghost use Rattle.zio_worked.specs.Gangs.{ScatteredSpaceMakesAGang, GangAsksForItsParts, GangStandsInTheJournal, GangPointerHasTheWholeSum, GangInsideAGang, NestedGangAsksForItsParts, NestedGangIsStored, RefusedHeaderSuspendsTheWrite, RefusedHeaderIsAskedForOnce, RefusedHeaderFailsTheWrite, OneSectorWithoutSpaceFails, OneSectorAsksForNoHeader, OneSectorWithoutSpaceWaits, HeaderHasOneCopyMore, MemberWithoutAPlaceIsZeros, MemberThatIsntWrittenHasItsPointer, HeaderCopyThatIsntWrittenFailsTheGang, PlacesComeBackAfterTheRound, SecondAttemptOfAGangAsksAnew, DamagedHeaderIsMended, HeaderMendedThroughAFlipStaysWrong, FreeMendsAHeader, DamagedHeadersFailTheRead, FreeWaitsForItsHeader, MembersBelowABadHeaderArentRead, DamagedMemberIsMended, DamagedMemberFailsTheRead, FreeWaitsForAMissingDevice, MissingDeviceFailsAFreeUnderContinue, PlainFreeReadsNothing, GangUsesAllItsPlaces, FreedGangUsesNoPlace, NothingIsUsedAfterAllFrees};
+ghost use Rattle.zio_worked.specs.Gangs.{ScatteredSpaceMakesAGang, GangAsksForItsParts, GangStandsInTheJournal, GangPointerHasTheWholeSum, GangInsideAGang, NestedGangAsksForItsParts, NestedGangIsStored, NestedHeaderIsMended, NestedHeadersFailTheRead, NestedGangIsFreed, RefusedHeaderSuspendsTheWrite, RefusedHeaderIsAskedForOnce, RefusedHeaderFailsTheWrite, OneSectorWithoutSpaceFails, OneSectorAsksForNoHeader, OneSectorWithoutSpaceWaits, HeaderHasOneCopyMore, MemberWithoutAPlaceIsZeros, MemberThatIsntWrittenHasItsPointer, HeaderCopyThatIsntWrittenFailsTheGang, PlacesComeBackAfterTheRound, SecondAttemptOfAGangAsksAnew, DamagedHeaderIsMended, HeaderMendedThroughAFlipStaysWrong, FreeMendsAHeader, DamagedHeadersFailTheRead, FreeWaitsForItsHeader, MembersBelowABadHeaderArentRead, DamagedMemberIsMended, DamagedMemberFailsTheRead, FreeWaitsForAMissingDevice, MissingDeviceFailsAFreeUnderContinue, PlainFreeReadsNothing, GangUsesAllItsPlaces, FreedGangUsesNoPlace, NothingIsUsedAfterAllFrees};
 
 /// Where no run of sectors is long enough, a block becomes a header and members.
 pub fn gangs_take_scattered_space()
@@ -9,6 +9,9 @@ pub fn gangs_take_scattered_space()
     ensures gang_inside_a_gang { GangInsideAGang }
     ensures nested_gang_asks_for_its_parts { NestedGangAsksForItsParts }
     ensures nested_gang_is_stored { NestedGangIsStored }
+    ensures nested_header_is_mended { NestedHeaderIsMended }
+    ensures nested_headers_fail_the_read { NestedHeadersFailTheRead }
+    ensures nested_gang_is_freed { NestedGangIsFreed }
     ensures refused_header_suspends_the_write { RefusedHeaderSuspendsTheWrite }
     ensures refused_header_is_asked_for_once { RefusedHeaderIsAskedForOnce }
     ensures refused_header_fails_the_write { RefusedHeaderFailsTheWrite }

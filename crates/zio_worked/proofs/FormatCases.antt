@@ -1,6 +1,6 @@
 use Rattle.std.proofs.Common.{refl}
 use Rattle.zio_worked.proofs.Evaluation.{evaluation}
-use Rattle.zio_worked.specs.Formats.{PointerOfOnePlace, PointerInHexadecimal, LargestPointerIsSpelled, LargestPointerIsRead, PointerOfFletcher4IsRead, PointerOfThreeRunsIsRead, FixedFieldsAreFixed, SizesHaveToFit, PlacesHaveToFit, WordsWithoutAChecksumMayBeAny, PointerHas128Bytes, Fletcher4OfOnes, Fletcher4OfShortBytes, Fletcher4IsTakenAt64Bits, Sha256OfAbc, Sha256OfTwoBlocks, Sha256OfNothing, OffChecksNothing, BytesFitTheirSum, OtherWordsDontFit, SplitInAtMostThree, HeaderSumHasPlaceAndBirth, HeaderSumIsSha256, HeaderHasItsMagic}
+use Rattle.zio_worked.specs.Formats.{PointerOfOnePlace, PointerInHexadecimal, LargestPointerIsSpelled, LargestPointerIsRead, PointerOfFletcher4IsRead, PointerOfThreeRunsIsRead, FixedFieldsAreFixed, SizesHaveToFit, PlacesHaveToFit, WordsWithoutAChecksumMayBeAny, LengthHasToFit, Fletcher4OfOnes, Fletcher4OfShortBytes, Fletcher4Wraps, Sha256OfAbc, Sha256OfTwoBlocks, Sha256OfNothing, OffChecksNothing, BytesFitTheirSum, OtherWordsDontFit, SplitInAtMostThree, HeaderSumHasPlaceAndBirth, HeaderSumIsSha256, HeaderHasItsMagic}
 
 pub pointer_of_one_place : PointerOfOnePlace
 unfolding evaluation
@@ -42,9 +42,9 @@ pub words_without_a_checksum_may_be_any : WordsWithoutAChecksumMayBeAny
 unfolding evaluation
 words_without_a_checksum_may_be_any = refl
 
-pub pointer_has128_bytes : PointerHas128Bytes
+pub length_has_to_fit : LengthHasToFit
 unfolding evaluation
-pointer_has128_bytes = refl
+length_has_to_fit = refl
 
 pub fletcher4_of_ones : Fletcher4OfOnes
 unfolding evaluation
@@ -54,9 +54,9 @@ pub fletcher4_of_short_bytes : Fletcher4OfShortBytes
 unfolding evaluation
 fletcher4_of_short_bytes = refl
 
-pub fletcher4_is_taken_at64_bits : Fletcher4IsTakenAt64Bits
+pub fletcher4_wraps : Fletcher4Wraps
 unfolding evaluation
-fletcher4_is_taken_at64_bits = refl
+fletcher4_wraps = refl
 
 pub sha256_of_abc : Sha256OfAbc
 unfolding evaluation

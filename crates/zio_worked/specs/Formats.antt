@@ -154,8 +154,8 @@ WordsWithoutAChecksumMayBeAny =
     ≡ true ∷ true ∷ []
 
 -- a pointer has 128 bytes
-abbrev pub PointerHas128Bytes : Type 0
-PointerHas128Bytes =
+abbrev pub LengthHasToFit : Type 0
+LengthHasToFit =
     map (λ bytes. is_some (pointer_of bytes)) (
     word_bytes good_words ∷ take 127 (word_bytes good_words) ∷ (word_bytes good_words ++ 0 ∷ []) ∷ [] ∷ [])
     ≡ true ∷ false ∷ false ∷ false ∷ []
@@ -179,8 +179,8 @@ Fletcher4OfShortBytes =
     ∷ (0x1fffffffe ∷ 0x2fffffffd ∷ 0x3fffffffc ∷ 0x4fffffffb ∷ []) ∷ []
 
 -- over 600 of the largest words the fourth sum passes 2 ^ 64
-abbrev pub Fletcher4IsTakenAt64Bits : Type 0
-Fletcher4IsTakenAt64Bits =
+abbrev pub Fletcher4Wraps : Type 0
+Fletcher4Wraps =
     sum_of Fletcher4 (replicate 2400 0xff)
     ≡ 0x257fffffda8 ∷ 0x2c04bfffd3fb4 ∷ 0x22810e7fdd7ef18 ∷ 0x4517f49cbae80b62 ∷ []
 

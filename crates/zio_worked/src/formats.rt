@@ -1,4 +1,4 @@
-ghost use Rattle.zio_worked.specs.Formats.{PointerOfOnePlace, PointerInHexadecimal, LargestPointerIsSpelled, LargestPointerIsRead, PointerOfFletcher4IsRead, PointerOfThreeRunsIsRead, FixedFieldsAreFixed, SizesHaveToFit, PlacesHaveToFit, WordsWithoutAChecksumMayBeAny, PointerHas128Bytes, Fletcher4OfOnes, Fletcher4OfShortBytes, Fletcher4IsTakenAt64Bits, Sha256OfAbc, Sha256OfTwoBlocks, Sha256OfNothing, OffChecksNothing, BytesFitTheirSum, OtherWordsDontFit, SplitInAtMostThree, HeaderSumHasPlaceAndBirth, HeaderSumIsSha256, HeaderHasItsMagic};
+ghost use Rattle.zio_worked.specs.Formats.{PointerOfOnePlace, PointerInHexadecimal, LargestPointerIsSpelled, LargestPointerIsRead, PointerOfFletcher4IsRead, PointerOfThreeRunsIsRead, FixedFieldsAreFixed, SizesHaveToFit, PlacesHaveToFit, WordsWithoutAChecksumMayBeAny, LengthHasToFit, Fletcher4OfOnes, Fletcher4OfShortBytes, Fletcher4Wraps, Sha256OfAbc, Sha256OfTwoBlocks, Sha256OfNothing, OffChecksNothing, BytesFitTheirSum, OtherWordsDontFit, SplitInAtMostThree, HeaderSumHasPlaceAndBirth, HeaderSumIsSha256, HeaderHasItsMagic};
 
 /// Pointers, headers, checksums and splits are spelled as docs/FORMATS.md says.
 pub fn formats_are_spelled()
@@ -12,10 +12,10 @@ pub fn formats_are_spelled()
     ensures sizes_have_to_fit { SizesHaveToFit }
     ensures places_have_to_fit { PlacesHaveToFit }
     ensures words_without_a_checksum_may_be_any { WordsWithoutAChecksumMayBeAny }
-    ensures pointer_has128_bytes { PointerHas128Bytes }
+    ensures length_has_to_fit { LengthHasToFit }
     ensures fletcher4_of_ones { Fletcher4OfOnes }
     ensures fletcher4_of_short_bytes { Fletcher4OfShortBytes }
-    ensures fletcher4_is_taken_at64_bits { Fletcher4IsTakenAt64Bits }
+    ensures fletcher4_wraps { Fletcher4Wraps }
     ensures sha256_of_abc { Sha256OfAbc }
     ensures sha256_of_two_blocks { Sha256OfTwoBlocks }
     ensures sha256_of_nothing { Sha256OfNothing }

@@ -1,6 +1,7 @@
 pub mod AllLemmas
 pub mod ByteLemmas
 pub mod FrameLemmas
+pub mod HeaderLemmas
 pub mod ReadLemmas
 pub mod SplitLemmas
 pub mod WriteLemmas

@@ -1,5 +1,6 @@
 pub mod AllLemmas
 pub mod ByteLemmas
+pub mod FletcherLemmas
 pub mod FrameLemmas
 pub mod HeaderLemmas
 pub mod ReadLemmas

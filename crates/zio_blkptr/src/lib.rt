@@ -4,8 +4,13 @@
 //! 128 bytes spell one; docs/FORMATS.md, "Block pointer", has the table of its words.
 #![tactic(auto)]
 
+mod faults;
 mod laws;
+mod packing;
 mod pointer;
+mod spelling;
 
-pub use laws::each_pointer_has_one_spelling;
+pub use faults::decode;
+pub use laws::{a_pointer_has_no_fault, each_pointer_has_one_spelling};
 pub use pointer::{BLOCK_SIZE_MAX, Bp, BpFault, SumKind, is_valid};
+pub use spelling::{bp_text, encode};

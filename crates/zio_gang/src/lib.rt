@@ -7,9 +7,13 @@
 #![tactic(auto)]
 
 mod ending;
+mod header;
 mod laws;
+mod sizes;
 mod tree;
 
 pub use ending::Ending;
+pub use header::{Header, Split};
 pub use laws::{bound_names_are_a_map, trees_are_attempted_in_turn};
-pub use tree::{Head, Header, Split, Tree};
+pub use sizes::{SPLIT_SIZE_MAX, split};
+pub use tree::{Head, Tree};

@@ -17,3 +17,18 @@ pub struct Header {
     /// The first once more from `n` on.
     pub members: [Bp; 3],
 }
+
+/// Why bytes aren't a gang's header, from the fault that is looked for first.
+#[derive(Clone, Copy, Debug, PartialEq, Eq)]
+pub enum HeaderFault {
+    /// The magic is another.
+    Magic,
+    /// The sum isn't the one for the place and the birth.
+    Sum,
+    /// A byte of the filler isn't zero.
+    Filler,
+    /// The first pointer is absent, or one stands behind an absent one, or isn't spelled as one.
+    Member,
+    /// The members aren't as many and as large as those of the block.
+    Sizes,
+}

@@ -1,2 +1,3 @@
 pub mod AttemptLemmas
 pub mod BoundLemmas
+pub mod HeaderLemmas

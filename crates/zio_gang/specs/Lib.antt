@@ -1,4 +1,5 @@
 pub mod Attempts
+pub mod HeaderFaults
 pub mod Journals
 pub mod Rounds
 pub mod Runs

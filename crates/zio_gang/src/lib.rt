@@ -7,9 +7,13 @@
 #![tactic(auto)]
 
 mod ending;
+mod header;
 mod laws;
+mod sizes;
 mod tree;
 
 pub use ending::Ending;
-pub use laws::{bound_names_are_a_map, trees_are_attempted_in_turn};
-pub use tree::{Head, Header, Split, Tree};
+pub use header::{Header, HeaderFault, Split};
+pub use laws::{bound_names_are_a_map, headers_have_no_fault, trees_are_attempted_in_turn};
+pub use sizes::{SPLIT_SIZE_MAX, split};
+pub use tree::{Head, Tree};

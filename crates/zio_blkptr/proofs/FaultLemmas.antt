@@ -1,23 +1,20 @@
 -- Bytes that spell a pointer have no fault, so bytes have a fault exactly where they spell none.
-use Rattle.std.proofs.Common.{◌≡◌, ℕ, zero, suc, ◌+◌, ◌-◌, ◌*◌, ◌/◌, ◌%◌, ◌^◌, ◌<◌, ◌≤◌, List, [], ◌∷◌, length, drop, get_or, take_while, Bool, true, false, not, ◌&&◌, ◌||◌, ◌==◌, cond, nat_lt, nat_le, IsTrue, Option, Some, None, IsSome, is_some, ◌↔◌, ◌⊎◌, inl, inr, ⊎_elim, bytes_eq, refl, ap, sym, ◌∙◌, subst, arith, eqb-true, eq-eqb, ltb-true, lt-ltb, leb-true}
-use Rattle.std.proofs.lemmas.Bool.{and_parts, and_from, le-leb, eqb-false}
+use Rattle.std.proofs.Common.{◌≡◌, ℕ, zero, suc, ◌+◌, ◌-◌, ◌*◌, ◌/◌, ◌^◌, ◌<◌, ◌≤◌, List, [], ◌∷◌, length, drop, get_or, Bool, true, false, not, ◌&&◌, ◌||◌, ◌==◌, cond, nat_lt, nat_le, IsTrue, Option, Some, None, IsSome, is_some, ◌↔◌, ◌⊎◌, inl, inr, ⊎_elim, refl, ap, sym, ◌∙◌, subst, arith, eqb-true, eq-eqb, lt-ltb, leb-true}
+use Rattle.std.proofs.lemmas.Bool.{and_parts, and_from, le-leb}
 use Rattle.std.proofs.lemmas.Option.{none-some}
-use Rattle.std.proofs.lemmas.Slice.Eq.{bytes_eq-Decides}
-use Rattle.std.specs.Bool.{then_some}
 use Rattle.std.specs.List.{flat_map, list_all}
 use Rattle.zio_types.specs.declared.place.Place.{Place}
 use Rattle.zio_blkptr.specs.declared.pointer.Bp.{Bp}
 use Rattle.zio_blkptr.specs.declared.pointer.SumKind.{SumKind}
 use Rattle.zio_blkptr.specs.declared.pointer.SumKind.TheVariants.{Off, Fletcher4, Sha256}
 use Rattle.zio_blkptr.specs.declared.pointer.BpFault.{BpFault}
-use Rattle.zio_blkptr.specs.declared.pointer.BpFault.TheVariants.{Order, Field, Size, Dva}
-use Rattle.zio_blkptr.specs.Pointers.{bit, valid, places_of, is_absent, is_present, is_block_size, sectors_each, has_sectors, word, word_of, fields, spelling, spells, pointer_of, properties, sum_number, sum_of_number}
-use Rattle.zio_blkptr.specs.Faults.{logical_size, physical_size, checksum, byte_order, place_sectors, gang_bit, is_place_of, is_no_place, has_fixed_properties, are_fixed_words, has_fitting_size, has_order_fault, has_field_fault, has_size_fault, has_dva_fault, has_places_in_front, are_good_places, is_good_place, is_sum_number, first_fault}
-use Rattle.zio_blkptr.proofs.Words.{AllFit, words_read, word_of-fits, bytes_are_words}
-use Rattle.zio_blkptr.proofs.Fields.{PlaceWords, IsSize, properties_of, few_sectors, sum_small, sum_number_read, size_again, bit_is_one}
-use Rattle.zio_blkptr.proofs.FaultParts.{bits_low, PropertyParts, parts_read, parts_make, FixedParts, fixed_parts, fixed_pass, sum_again, IsThere, there_from, sectors_read, gang_read_back, there_pass}
-use Rattle.zio_blkptr.proofs.PointerLemmas.{ValidParts, valid_parts, IsInRange, IsInRange-from, IsZero, IsZero-from, made, sixteen, sixteen-fit, first_of, second_of, words_of_place, words_of_none, length-sectors, one_passes, two_pass, three_pass, spelling-one, spelling-two, spelling-three, spelling-pointer, fields-pointer, FitsTypes-pointer}
-use Rattle.zio_blkptr.proofs.FaultTests.{wanted, there, good, in_front, all_good, Passes, Fixed, passes_from, first_of_four}
+use Rattle.zio_blkptr.specs.Pointers.{valid, places_of, is_absent, is_present, is_block_size, sectors_each, word, word_of, fields, spelling, pointer_of, sum_number}
+use Rattle.zio_blkptr.specs.Faults.{logical_size, physical_size, byte_order, place_sectors, gang_bit, is_place_of, is_no_place, has_fixed_properties, are_fixed_words, has_fitting_size, is_sum_number, first_fault}
+use Rattle.zio_blkptr.proofs.Words.{AllFit, words_read}
+use Rattle.zio_blkptr.proofs.Fields.{PlaceWords, IsSize, properties_of, few_sectors, sum_small, size_again, bit_is_one}
+use Rattle.zio_blkptr.proofs.FaultParts.{PropertyParts, parts_read, fixed_pass, sectors_read, gang_read_back, there_pass}
+use Rattle.zio_blkptr.proofs.PointerLemmas.{ValidParts, valid_parts, IsInRange, IsInRange-from, IsZero-from, made, sixteen, sixteen-fit, first_of, second_of, words_of_place, words_of_none, spelling-one, spelling-two, spelling-three, spelling-pointer, fields-pointer, FitsTypes-pointer}
+use Rattle.zio_blkptr.proofs.FaultTests.{wanted, there, good, in_front, all_good, Passes, first_of_four}
 use Rattle.zio_blkptr.proofs.Faultless.{place_at, pointer_of-no_fault}
 
 -- ---- bytes that spell a pointer have no fault

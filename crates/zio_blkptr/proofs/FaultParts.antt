@@ -1,9 +1,9 @@
 -- The parts of a pointer's words, as the faults read them: of the word of properties, and of the two words of a place.
-use Rattle.std.proofs.Common.{◌≡◌, ℕ, zero, suc, ◌+◌, ◌-◌, ◌*◌, ◌/◌, ◌%◌, ◌^◌, ◌<◌, ◌≤◌, Bool, true, false, ◌&&◌, ◌||◌, ◌==◌, cond, nat_lt, IsTrue, ◌⊎◌, inl, inr, ⊎_elim, refl, ap, sym, ◌∙◌, arith, eqb-true, eq-eqb, ltb-true, lt-ltb}
+use Rattle.std.proofs.Common.{◌≡◌, ℕ, ◌+◌, ◌*◌, ◌/◌, ◌%◌, ◌^◌, ◌<◌, Bool, true, false, ◌&&◌, ◌||◌, ◌==◌, nat_lt, IsTrue, ◌⊎◌, inl, inr, ⊎_elim, refl, ap, sym, ◌∙◌, arith, eqb-true, eq-eqb, ltb-true, lt-ltb}
 use Rattle.std.proofs.lemmas.Bool.{and_parts, and_from}
 use Rattle.zio_types.specs.declared.place.Place.{Place}
 use Rattle.zio_blkptr.specs.Pointers.{bit, sum_number, sum_of_number}
-use Rattle.zio_blkptr.specs.Faults.{bits, logical_size, physical_size, compression, embedded, checksum, content_type, level, encrypted, dedup, byte_order, place_sectors, grid, above_top, place_sector, gang_bit, is_sum_number, has_fixed_properties, is_place_of, is_no_place}
+use Rattle.zio_blkptr.specs.Faults.{bits, logical_size, physical_size, compression, embedded, checksum, content_type, level, encrypted, dedup, byte_order, place_sectors, grid, above_top, place_sector, gang_bit, is_sum_number, has_fixed_properties, is_place_of}
 use Rattle.zio_blkptr.proofs.Fields.{bit_small}
 use Rattle.zio_blkptr.proofs.PointerLemmas.{IsInRange, first_of, second_of}
 

@@ -1,6 +1,6 @@
 -- A valid pointer is spelled by sixteen words: those of its three places, where those of an absent one are 0, and
 -- then those of its other fields.
-use Rattle.std.proofs.Common.{◌≡◌, ℕ, zero, suc, ◌+◌, ◌*◌, ◌^◌, ◌<◌, List, [], ◌∷◌, length, take, drop, get_or, Bool, true, false, ◌&&◌, ◌==◌, cond, nat_lt, IsTrue, refl, ap, sym, ◌∙◌, arith, ltb-true}
+use Rattle.std.proofs.Common.{◌≡◌, ℕ, zero, suc, ◌+◌, ◌*◌, ◌^◌, ◌<◌, List, [], ◌∷◌, length, take, drop, get_or, Bool, true, ◌&&◌, ◌==◌, cond, nat_lt, IsTrue, refl, ap, sym, ◌∙◌, arith, ltb-true}
 use Rattle.std.proofs.lemmas.Bool.{and_parts, ne_eqb}
 use Rattle.std.specs.List.{flat_map, list_all}
 use Rattle.zio_types.specs.declared.place.Place.{Place}

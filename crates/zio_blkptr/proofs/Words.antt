@@ -1,5 +1,5 @@
 -- Bytes that are words of eight, and the words that they give back.
-use Rattle.std.proofs.Common.{◌≡◌, ℕ, zero, suc, ◌+◌, ◌*◌, ◌^◌, ◌<◌, ◌≤◌, List, [], ◌∷◌, ◌++◌, length, take, drop, get_or, refl, ap, sym, ◌∙◌, subst, arith, drop-drop, get_or-take, get_or-drop, length-take, length-drop}
+use Rattle.std.proofs.Common.{◌≡◌, ℕ, zero, suc, ◌+◌, ◌*◌, ◌^◌, ◌<◌, List, [], ◌∷◌, ◌++◌, length, take, drop, get_or, refl, ap, sym, ◌∙◌, subst, arith, drop-drop, get_or-drop, length-take, length-drop}
 use Rattle.std.proofs.lemmas.Nat.{from_le_bytes-to_le_bytes_8, le_bytes_8}
 use Rattle.std.proofs.lemmas.List.{drop_all, take-append-drop}
 use Rattle.std.specs.Int.{w64, from_le_bytes}
@@ -39,18 +39,22 @@ sum-fits : (a b c d e f g h : ℕ) → a < 256 → b < 256 → c < 256 → d < 2
     → a + b * 256 + c * 65536 + d * 16777216 + e * 4294967296 + f * 1099511627776 + g * 281474976710656 + h * 72057594037927936 < 2 ^ 64
 sum-fits a b c d e f g h at_a at_b at_c at_d at_e at_f at_g at_h = omega arith
 
--- each of the eight bytes from n on is a byte
-part-small : (bytes : List ℕ) (n : ℕ) → ((k : ℕ) → get_or bytes k 0 < 2 ^ 8) → (k : ℕ) → k < 8 → get_or (take 8 (drop n bytes)) k 0 < 256
-part-small bytes n small k h =
-    let here : get_or (take 8 (drop n bytes)) k 0 ≡ get_or bytes (n + k) 0 = get_or-take 8 (drop n bytes) k 0 h ∙ get_or-drop n bytes k 0 in
-    omega (arith, here, small (n + k))
+-- of fewer bytes each is a byte too
+pub take_small : (n : ℕ) (xs : List ℕ) → ((i : ℕ) → get_or xs i 0 < 2 ^ 8) → (i : ℕ) → get_or (take n xs) i 0 < 2 ^ 8
+take_small zero xs small i = omega arith
+take_small (suc n) [] small i = omega arith
+take_small (suc n) (x ∷ xs) small zero = small 0
+take_small (suc n) (x ∷ xs) small (suc i) = take_small n xs (λ k. small (suc k)) i
+
+-- and so in any part
+pub slice_small : (n m : ℕ) (xs : List ℕ) → ((i : ℕ) → get_or xs i 0 < 2 ^ 8) → (i : ℕ) → get_or (take n (drop m xs)) i 0 < 2 ^ 8
+slice_small n m xs small = take_small n (drop m xs) (λ i. subst (λ x. x < 2 ^ 8) (sym (get_or-drop m xs i 0)) (small (m + i)))
 
 -- each word of bytes fits
 pub word_of-fits : (bytes : List ℕ) (i : ℕ) → ((k : ℕ) → get_or bytes k 0 < 2 ^ 8) → word_of bytes i < 2 ^ 64
 word_of-fits bytes i small =
-    let part = take 8 (drop (8 * i) bytes) in
-    let at : (k : ℕ) → k < 8 → get_or part k 0 < 256 = part-small bytes (8 * i) small in
-    sum-fits _ _ _ _ _ _ _ _ (at 0 (omega arith)) (at 1 (omega arith)) (at 2 (omega arith)) (at 3 (omega arith)) (at 4 (omega arith)) (at 5 (omega arith)) (at 6 (omega arith)) (at 7 (omega arith))
+    let at = slice_small 8 (8 * i) bytes small in
+    sum-fits _ _ _ _ _ _ _ _ (at 0) (at 1) (at 2) (at 3) (at 4) (at 5) (at 6) (at 7)
 
 -- ---- bytes in pieces of equal length
 
@@ -65,17 +69,6 @@ get_or-first_chunks n (suc k) xs (suc i) h =
 -- bytes of a word are those of the number that they are
 word-again : (xs : List ℕ) → length xs ≡ 8 → ((i : ℕ) → get_or xs i 0 < 256) → word (from_le_bytes w64 xs) ≡ xs
 word-again xs long small = le_bytes_8 xs (from_le_bytes w64 xs) long small refl
-
--- of fewer bytes each is a byte too
-pub take_small : (n : ℕ) (xs : List ℕ) → ((i : ℕ) → get_or xs i 0 < 2 ^ 8) → (i : ℕ) → get_or (take n xs) i 0 < 2 ^ 8
-take_small zero xs small i = omega arith
-take_small (suc n) [] small i = omega arith
-take_small (suc n) (x ∷ xs) small zero = small 0
-take_small (suc n) (x ∷ xs) small (suc i) = take_small n xs (λ k. small (suc k)) i
-
--- and so in any part
-pub slice_small : (n m : ℕ) (xs : List ℕ) → ((i : ℕ) → get_or xs i 0 < 2 ^ 8) → (i : ℕ) → get_or (take n (drop m xs)) i 0 < 2 ^ 8
-slice_small n m xs small = take_small n (drop m xs) (λ i. subst (λ x. x < 2 ^ 8) (sym (get_or-drop m xs i 0)) (small (m + i)))
 
 -- so many words of bytes, from word i on
 abbrev pub words_from : List ℕ → ℕ → ℕ → List ℕ

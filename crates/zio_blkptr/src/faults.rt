@@ -207,3 +207,59 @@ fn sum_of_number(number: u64) -> SumKind
         _ => SumKind::Off,
     }
 }
+
+#[cfg(test)]
+mod tests {
+    use super::*;
+
+    // A pointer with fletcher4 and one sector at sector 4096 of top 0, born with batch 1. Its checksum is zeros.
+    fn sample() -> [u8; 128] {
+        let mut bytes = [0; 128];
+        bytes[0] = 1;
+        bytes[9] = 0x10;
+        bytes[52] = 2;
+        bytes[53] = 7;
+        bytes[55] = 0x80;
+        bytes[80] = 1;
+        bytes[88] = 1;
+        bytes
+    }
+
+    #[test]
+    fn fletcher4_is_number_seven(rt: HostRuntime) {
+        let place = Place {
+            top: 0,
+            sector: 4096,
+            sectors: 1,
+        };
+        let none = Place {
+            top: 0,
+            sector: 0,
+            sectors: 0,
+        };
+        let bp = Bp {
+            count: 1,
+            places: [place, none, none],
+            gang: false,
+            size: 512,
+            sum: SumKind::Fletcher4,
+            birth: 1,
+            words: [0; 4],
+        };
+        assert_eq!(rt; decode(&sample()), Ok(bp));
+    }
+
+    // Each step changes one byte more, whose fault is looked for before those of the steps above.
+    #[test]
+    fn earlier_fault_hides_later_ones(rt: HostRuntime) {
+        let mut bytes = sample();
+        bytes[3] = 1;
+        assert_eq!(rt; decode(&bytes), Err(BpFault::Dva), "grid");
+        bytes[50] = 1;
+        assert_eq!(rt; decode(&bytes), Err(BpFault::Size), "other physical size");
+        bytes[80] = 0;
+        assert_eq!(rt; decode(&bytes), Err(BpFault::Field), "no birth");
+        bytes[55] = 0;
+        assert_eq!(rt; decode(&bytes), Err(BpFault::Order), "high byte first");
+    }
+}

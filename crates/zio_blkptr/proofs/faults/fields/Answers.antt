@@ -1,5 +1,5 @@
-use Rattle.std.proofs.Common.{◌≡◌, ◌+◌, ◌*◌, ◌/◌, ◌%◌, ◌^◌, ◌∷◌, [], length, take_while, ◌==◌, ap, ◌∙◌, arith}
-use Rattle.zio_blkptr.specs.Pointers.{word_of, has_sectors, sum_of_number}
+use Rattle.std.proofs.Common.{◌+◌, ◌*◌, ◌/◌, ◌%◌, ◌^◌, ◌∷◌, [], length, take_while, ◌==◌, ap, ◌∙◌}
+use Rattle.zio_blkptr.specs.Pointers.{has_sectors, sum_of_number}
 use Rattle.zio_blkptr.specs.Faults.{bits}
 use Rattle.zio_blkptr.proofs.FaultParts.{bits_low}
 use Rattle.zio_blkptr.proofs.faults.fields.Goals as goal

@@ -1,4 +1,4 @@
-use Rattle.std.proofs.Common.{◌≡◌, ◌<◌, ◌∷◌, [], length, get_or, refl, ap, ◌∙◌, arith, rules}
+use Rattle.std.proofs.Common.{◌≡◌, ◌∷◌, [], length, get_or, ◌∙◌, rules}
 use Rattle.std.specs.List.{flat_map}
 use Rattle.zio_blkptr.specs.Pointers.{word}
 use Rattle.zio_blkptr.proofs.SpellingLemmas.{sector_small, spelling-words}

@@ -1,5 +1,5 @@
 -- A header names its members: what its three slots hold, and which pointers they spell.
-use Rattle.std.proofs.Common.{◌≡◌, ℕ, zero, suc, ◌+◌, ◌^◌, ◌<◌, ◌≤◌, List, [], ◌∷◌, ◌++◌, length, map, take, drop, replicate, get_or, Bool, ◌&&◌, IsTrue, Option, Some, None, bytes_eq, refl, ap, sym, ◌∙◌, subst, arith, append_assoc, length-append, get_or-drop}
+use Rattle.std.proofs.Common.{◌≡◌, ℕ, ◌^◌, ◌<◌, ◌≤◌, List, [], ◌∷◌, ◌++◌, length, map, take, drop, replicate, get_or, Bool, ◌&&◌, IsTrue, Option, Some, None, bytes_eq, refl, ap, sym, ◌∙◌, subst, arith, append_assoc, length-append}
 use Rattle.std.proofs.Math.Seq.{take-append_seam, drop-append_seam}
 use Rattle.std.proofs.lemmas.Bool.{and_parts, and_from}
 use Rattle.std.proofs.lemmas.List.{length-map}
@@ -9,6 +9,7 @@ use Rattle.zio_types.specs.declared.place.Place.{Place}
 use Rattle.zio_types.specs.Filled.{filled_to}
 use Rattle.zio_blkptr.specs.declared.pointer.Bp.{Bp}
 use Rattle.zio_blkptr.specs.Pointers.{word, pointer_of, valid, FitsTypes}
+use Rattle.zio_blkptr.proofs.Words.{slice_small}
 use Rattle.zio_blkptr.proofs.PointerLemmas.{pointer_of-spelling, spelling-pointer, FitsTypes-pointer, length-spelling}
 use Rattle.zio_cksum.specs.Headers.{Heads, header_magic, header_front, header_of, gang_sum_of, members_max, member_bytes, members_of, is_header, slots, split_sizes}
 use Rattle.zio_cksum.proofs.SplitLemmas.{few_law}
@@ -112,16 +113,6 @@ accepted_law bytes place birth size members h =
     ((bytes_eq-Decides header bytes).1 (sym h.spelled)) ((bytes_eq-Decides sizes (split_sizes size)).1 h.sizes) in
     ap (both_tests place birth size bytes) (named_law bytes place birth size members h) ∙ passed
 
-take_small : (n : ℕ) (xs : List ℕ) → ((i : ℕ) → get_or xs i 0 < 2 ^ 8) → (i : ℕ) → get_or (take n xs) i 0 < 2 ^ 8
-take_small zero xs small i = omega arith
-take_small (suc n) [] small i = omega arith
-take_small (suc n) (x ∷ xs) small zero = small 0
-take_small (suc n) (x ∷ xs) small (suc i) = take_small n xs (λ k. small (suc k)) i
-
--- each slot of bytes has bytes
-slot_small : (bytes : List ℕ) (n : ℕ) → ((i : ℕ) → get_or bytes i 0 < 2 ^ 8) → (i : ℕ) → get_or (take 128 (drop n bytes)) i 0 < 2 ^ 8
-slot_small bytes n small = take_small 128 (drop n bytes) (λ i. subst (λ x. x < 2 ^ 8) (sym (get_or-drop n bytes i 0)) (small (n + i)))
-
 -- what holds of each pointer that an option has holds of those that are kept
 all_cons : (P : Bp → Type 0) (o : Option Bp) (ms : List Bp) → ((m : Bp) → o ≡ Some m → P m) → AllByRecursion P ms → AllByRecursion P (cons_option o ms)
 all_cons P None ms f h = h
@@ -145,7 +136,7 @@ some_members_law bytes place birth size small h =
     let parts = and_parts (bytes_eq header bytes) (bytes_eq sizes (split_sizes size)) h in
     record {
       spelled = sym ((bytes_eq-Decides header bytes).0 parts.0);
-      types = all_named FitsTypes bytes (λ n m e. FitsTypes-pointer (take 128 (drop n bytes)) m (slot_small bytes n small) e);
+      types = all_named FitsTypes bytes (λ n m e. FitsTypes-pointer (take 128 (drop n bytes)) m (slice_small 128 n bytes small) e);
       valid = all_named (λ m. IsTrue (valid m)) bytes (λ n m e. (spelling-pointer (take 128 (drop n bytes)) m e).0);
       sizes = (bytes_eq-Decides sizes (split_sizes size)).0 parts.1;
     }

@@ -1,10 +1,11 @@
 -- Bytes have no fault exactly where they are the header of some members.
-use Rattle.std.proofs.Common.{◌≡◌, ℕ, zero, suc, ◌+◌, ◌-◌, ◌*◌, ◌<◌, ◌≤◌, List, [], ◌∷◌, ◌++◌, length, map, filter, take, drop, replicate, Bool, true, false, not, cond, ◌&&◌, ◌||◌, IsTrue, Option, Some, None, is_none, bytes_eq, nat_lt, refl, ap, sym, ◌∙◌, subst, ◌↔◌, arith, append_assoc, length-append, length-take, length-drop, ltb-false}
+use Rattle.std.proofs.Common.{◌≡◌, ℕ, zero, suc, ◌+◌, ◌<◌, ◌≤◌, List, [], ◌∷◌, ◌++◌, length, map, filter, take, drop, replicate, Bool, true, false, not, cond, ◌&&◌, ◌||◌, IsTrue, Option, Some, None, is_none, bytes_eq, nat_lt, refl, ap, sym, ◌∙◌, subst, arith, append_assoc, length-append, length-take, length-drop, ltb-false}
 use Rattle.std.proofs.Math.Seq.{take-append_seam, drop-append_seam, take-add}
 use Rattle.std.proofs.lemmas.Bool.{false≢true, and_parts, and_from, or_parts, not-false, not_from_true}
+use Rattle.std.proofs.Math.Bool.{or-false}
 use Rattle.std.proofs.lemmas.List.{append-nil, length-map, take-append-drop}
 use Rattle.std.proofs.lemmas.Slice.Eq.{bytes_eq-Decides}
-use Rattle.std.specs.List.{flat_map, filter_map, cons_option, AllByRecursion}
+use Rattle.std.specs.List.{flat_map, cons_option, AllByRecursion}
 use Rattle.zio_types.specs.declared.place.Place.{Place}
 use Rattle.zio_types.specs.Filled.{filled_to}
 use Rattle.zio_blkptr.specs.declared.pointer.Bp.{Bp}
@@ -14,17 +15,18 @@ use Rattle.zio_cksum.specs.Headers.{Heads, header_magic, header_front, header_of
 use Rattle.zio_cksum.specs.Sums.{sha256_words}
 use Rattle.zio_cksum.proofs.HeaderLemmas.{named_law}
 use Rattle.zio_cksum.proofs.SplitLemmas.{few_law}
+use Rattle.zio_gang.specs.declared.header.Header.{Header}
 use Rattle.zio_gang.specs.declared.header.HeaderFault.{HeaderFault}
 use Rattle.zio_gang.specs.declared.header.HeaderFault.TheVariants.{Magic, Sum, Filler, Member, Sizes}
-use Rattle.zio_gang.specs.HeaderFaults.{slot_at, is_vacant, is_garbled, are_no_members, has_magic_fault, has_sum_fault, has_filler_fault, has_member_fault, has_sizes_fault, first_header_fault}
+use Rattle.zio_gang.specs.HeaderFaults.{Holds, Names, are_scattered, present, slot_at, is_vacant, is_garbled, are_no_members, has_magic_fault, has_sum_fault, has_filler_fault, has_member_fault, has_sizes_fault, first_header_fault}
 
 -- ---- the parts of bytes
 
 -- the first n bytes are the part in front that has as many
-take-front : (n : ℕ) (xs ys : List ℕ) → length xs ≡ n → take n (xs ++ ys) ≡ xs
+pub take-front : (n : ℕ) (xs ys : List ℕ) → length xs ≡ n → take n (xs ++ ys) ≡ xs
 take-front n xs ys e = subst (λ k. take k (xs ++ ys) ≡ xs) e (take-append_seam xs ys)
 
-drop-front : (n : ℕ) (xs ys : List ℕ) → length xs ≡ n → drop n (xs ++ ys) ≡ ys
+pub drop-front : (n : ℕ) (xs ys : List ℕ) → length xs ≡ n → drop n (xs ++ ys) ≡ ys
 drop-front n xs ys e = subst (λ k. drop k (xs ++ ys) ≡ ys) e (drop-append_seam xs ys)
 
 -- a part behind a front of n bytes
@@ -69,17 +71,17 @@ none_from_fails a b c d e h = λ j. first_of_five (h.magic j) (h.sum j) (h.fille
 -- ---- what a slot holds
 
 -- The slot holds this pointer, or nothing.
-record Holds (slot : List ℕ) (o : Option Bp) : Type 0 where
+record IsHeld (slot : List ℕ) (o : Option Bp) : Type 0 where
   pub spelled : member_bytes o ≡ slot
   pub read : pointer_of slot ≡ o
 
 -- a vacant slot holds nothing
-vacant_holds : (slot : List ℕ) → is_vacant slot ≡ true → Holds slot None
+vacant_holds : (slot : List ℕ) → is_vacant slot ≡ true → IsHeld slot None
 vacant_holds slot e =
     let zeros : slot ≡ replicate 128 0 = (bytes_eq-Decides slot (replicate 128 0)).0 e in
     record { spelled = sym zeros; read = ap pointer_of zeros }
 
-read_holds : (slot : List ℕ) (o : Option Bp) → pointer_of slot ≡ o → is_none o ≡ false → (m : Bp) × Holds slot (Some m)
+read_holds : (slot : List ℕ) (o : Option Bp) → pointer_of slot ≡ o → is_none o ≡ false → (m : Bp) × IsHeld slot (Some m)
 read_holds slot None e h = absurd (false≢true (sym h))
 read_holds slot (Some m) e h = (m, record { spelled = (spelling-pointer slot m e).1; read = e })
 
@@ -88,15 +90,15 @@ is_read true n e h = absurd (false≢true (sym e))
 is_read false n e h = h
 
 -- any other that isn't garbled holds a pointer
-present_holds : (slot : List ℕ) → is_vacant slot ≡ false → is_garbled slot ≡ false → (m : Bp) × Holds slot (Some m)
+present_holds : (slot : List ℕ) → is_vacant slot ≡ false → is_garbled slot ≡ false → (m : Bp) × IsHeld slot (Some m)
 present_holds slot e h =
     read_holds slot (pointer_of slot) refl (is_read (is_vacant slot) (is_none (pointer_of slot)) e h)
 
 -- The three slots hold members from the front.
 data HoldMembers (first second third : List ℕ) : Type 0 where
-  one : (a : Bp) → Holds first (Some a) → Holds second None → Holds third None → HoldMembers first second third
-  two : (a b : Bp) → Holds first (Some a) → Holds second (Some b) → Holds third None → HoldMembers first second third
-  three : (a b c : Bp) → Holds first (Some a) → Holds second (Some b) → Holds third (Some c) → HoldMembers first second third
+  one : (a : Bp) → IsHeld first (Some a) → IsHeld second None → IsHeld third None → HoldMembers first second third
+  two : (a b : Bp) → IsHeld first (Some a) → IsHeld second (Some b) → IsHeld third None → HoldMembers first second third
+  three : (a b c : Bp) → IsHeld first (Some a) → IsHeld second (Some b) → IsHeld third (Some c) → HoldMembers first second third
 
 hold_members : (p q r : List ℕ) (v w : Bool) → is_vacant q ≡ v → is_vacant r ≡ w → is_vacant p ≡ false → (v && not w) ≡ false
     → is_garbled p ≡ false → is_garbled q ≡ false → is_garbled r ≡ false → HoldMembers p q r
@@ -141,15 +143,15 @@ front_parts a b c d e xs =
     ∙ sym (take-add (a + b + c + d) e xs)
 
 -- the sum reads no more than the front
-gang_sum_of-front : (place : Place) (birth : ℕ) (xs ys : List ℕ) → take 480 xs ≡ take 480 ys → gang_sum_of xs place birth ≡ gang_sum_of ys place birth
+pub gang_sum_of-front : (place : Place) (birth : ℕ) (xs ys : List ℕ) → take 480 xs ≡ take 480 ys → gang_sum_of xs place birth ≡ gang_sum_of ys place birth
 gang_sum_of-front place birth xs ys e =
     ap (λ h. sha256_words (h ++ word place.top ++ word (offset_of place) ++ word birth ++ word 0)) e
 
 -- What the slots hold, the filler, the magic and the sum make the bytes a header.
 record IsSpelled (place : Place) (birth : ℕ) (bytes : List ℕ) (x y z : Option Bp) : Type 0 where
-  pub first : Holds (slot_at bytes 0) x
-  pub second : Holds (slot_at bytes 1) y
-  pub third : Holds (slot_at bytes 2) z
+  pub first : IsHeld (slot_at bytes 0) x
+  pub second : IsHeld (slot_at bytes 1) y
+  pub third : IsHeld (slot_at bytes 2) z
   pub filler : take 88 (drop 384 bytes) ≡ replicate 88 0
   pub magic : take 8 (drop 472 bytes) ≡ word header_magic
   pub sum : drop 480 bytes ≡ flat_map word (gang_sum_of bytes place birth)
@@ -191,11 +193,12 @@ both_pass place birth size bytes ms read spelled sizes =
 abbrev kept : Option Bp → Option Bp → Option Bp → List Bp
 kept x y z = cons_option x (cons_option y (cons_option z []))
 
-members_are_held : (bytes : List ℕ) (x y z : Option Bp) → Holds (slot_at bytes 0) x → Holds (slot_at bytes 1) y → Holds (slot_at bytes 2) z → members_of bytes ≡ kept x y z
+members_are_held : (bytes : List ℕ) (x y z : Option Bp) → IsHeld (slot_at bytes 0) x → IsHeld (slot_at bytes 1) y → IsHeld (slot_at bytes 2) z → members_of bytes ≡ kept x y z
 members_are_held bytes x y z at_x at_y at_z = λ j. kept (at_x.read j) (at_y.read j) (at_z.read j)
 
 pub header_from_no_fault : (place : Place) (birth size : ℕ) (bytes : List ℕ) → 480 ≤ length bytes
     → first_header_fault place birth size bytes ≡ None → IsTrue (is_header place birth size bytes)
+unfolding has_magic_fault has_sum_fault has_filler_fault has_member_fault has_sizes_fault
 header_from_no_fault place birth size bytes long h =
     let f = all_fail (has_magic_fault bytes) (has_sum_fault place birth bytes) (has_filler_fault bytes) (has_member_fault bytes) (has_sizes_fault size bytes) h in
     let magic : take 8 (drop 472 bytes) ≡ word header_magic = same_from_not _ _ f.magic in
@@ -274,11 +277,11 @@ some_named m long back = record {
 }
 
 -- the test of three slots, by whether each holds nothing
-abbrev are_scattered : Bool → Bool → Bool → Bool
-are_scattered x y z = x || (y && not z) || false || false || false
+abbrev scattered_test : Bool → Bool → Bool → Bool
+scattered_test x y z = x || (y && not z) || false || false || false
 
 slots_pass : (p q r : List ℕ) (x y z : Option Bp) → p ≡ member_bytes x → q ≡ member_bytes y → r ≡ member_bytes z
-    → IsNamed x → IsNamed y → IsNamed z → are_scattered (is_none x) (is_none y) (is_none z) ≡ false → are_no_members p q r ≡ false
+    → IsNamed x → IsNamed y → IsNamed z → scattered_test (is_none x) (is_none y) (is_none z) ≡ false → are_no_members p q r ≡ false
 slots_pass p q r x y z at_p at_q at_r at_x at_y at_z h =
     (λ j. are_no_members (at_p j) (at_q j) (at_r j))
     ∙ (λ j. at_x.vacant j || (at_y.vacant j && not (at_z.vacant j)) || at_x.sound j || at_y.sound j || at_z.sound j)
@@ -286,10 +289,11 @@ slots_pass p q r x y z at_p at_q at_r at_x at_y at_z h =
 
 -- the header of members from the front has no fault
 header_passes : (place : Place) (birth size : ℕ) (bytes : List ℕ) (x y z : Option Bp) → IsNamed x → IsNamed y → IsNamed z
-    → are_scattered (is_none x) (is_none y) (is_none z) ≡ false
+    → scattered_test (is_none x) (is_none y) (is_none z) ≡ false
     → header_of (x ∷ y ∷ z ∷ []) place birth ≡ bytes
     → map (λ m. m.size) (members_of bytes) ≡ split_sizes size
     → first_header_fault place birth size bytes ≡ None
+unfolding has_magic_fault has_sum_fault has_filler_fault has_member_fault has_sizes_fault
 header_passes place birth size bytes x y z at_x at_y at_z front spelled sizes =
     let first = member_bytes x in
     let second = member_bytes y in
@@ -399,3 +403,93 @@ no_fault_from_members bytes place birth size members some h =
           (ap (map (λ (m : Bp). m.size)) named ∙ h.sizes),
       named,
     )
+
+-- ---- reading a header
+
+-- the test of the members, by what the slots hold
+scattered_is : (bytes : List ℕ) (x y z : Option Bp) → Holds (slot_at bytes 0) x → Holds (slot_at bytes 1) y → Holds (slot_at bytes 2) z
+    → has_member_fault bytes ≡ are_scattered x y z
+unfolding has_member_fault
+scattered_is bytes x y z at_x at_y at_z =
+    (λ j. at_x.vacant j || (at_y.vacant j && not (at_z.vacant j)) || at_x.sound j || at_y.sound j || at_z.sound j)
+    ∙ or-false (are_scattered x y z || false || false) ∙ or-false (are_scattered x y z || false) ∙ or-false (are_scattered x y z)
+
+members_are_present : (bytes : List ℕ) (x y z : Option Bp) → Holds (slot_at bytes 0) x → Holds (slot_at bytes 1) y → Holds (slot_at bytes 2) z
+    → members_of bytes ≡ present x y z
+members_are_present bytes x y z at_x at_y at_z = λ j. present (at_x.read j) (at_y.read j) (at_z.read j)
+
+pub present_are_members : (bytes : List ℕ) (x y z : Option Bp) (header : Header)
+    → Holds (slot_at bytes 0) x → Holds (slot_at bytes 1) y → Holds (slot_at bytes 2) z
+    → (are_scattered x y z ≡ false) × Names header (present x y z)
+    → (has_member_fault bytes ≡ false) × Names header (members_of bytes)
+present_are_members bytes x y z header at_x at_y at_z h = (
+  scattered_is bytes x y z at_x at_y at_z ∙ h.0,
+  subst (Names header) (sym (members_are_present bytes x y z at_x at_y at_z)) h.1,
+)
+
+pub scattered_fault : (bytes : List ℕ) (x y z : Option Bp) → Holds (slot_at bytes 0) x → Holds (slot_at bytes 1) y → Holds (slot_at bytes 2) z
+    → IsTrue (are_scattered x y z) → has_member_fault bytes ≡ true
+scattered_fault bytes x y z at_x at_y at_z h = scattered_is bytes x y z at_x at_y at_z ∙ h
+
+or_true : (x : Bool) → (x || true) ≡ true
+or_true true = refl
+or_true false = refl
+
+-- one garbled slot is enough
+pub garbled_fault : (bytes : List ℕ) (i : ℕ) → i < 3 → is_garbled (slot_at bytes i) ≡ true → has_member_fault bytes ≡ true
+unfolding has_member_fault
+garbled_fault bytes zero h e =
+    let a = is_vacant (slot_at bytes 0) || (is_vacant (slot_at bytes 1) && not (is_vacant (slot_at bytes 2))) in
+    (λ j. a || e j || is_garbled (slot_at bytes 1) || is_garbled (slot_at bytes 2))
+    ∙ (λ j. or_true a j || is_garbled (slot_at bytes 1) || is_garbled (slot_at bytes 2))
+garbled_fault bytes (suc zero) h e =
+    let a = is_vacant (slot_at bytes 0) || (is_vacant (slot_at bytes 1) && not (is_vacant (slot_at bytes 2))) || is_garbled (slot_at bytes 0) in
+    (λ j. a || e j || is_garbled (slot_at bytes 2)) ∙ (λ j. or_true a j || is_garbled (slot_at bytes 2))
+garbled_fault bytes (suc (suc zero)) h e =
+    let a = is_vacant (slot_at bytes 0) || (is_vacant (slot_at bytes 1) && not (is_vacant (slot_at bytes 2))) || is_garbled (slot_at bytes 0) || is_garbled (slot_at bytes 1) in
+    (λ j. a || e j) ∙ or_true a
+garbled_fault bytes (suc (suc (suc i))) h e = absurd (omega arith)
+
+-- what a slot holds
+pub vacant_slot : (slot : List ℕ) → is_vacant slot ≡ true → Holds slot None
+vacant_slot slot e = record {
+  vacant = e;
+  sound = ap (λ v. not v && is_none (pointer_of slot)) e;
+  read = (vacant_holds slot e).read;
+}
+
+pub present_slot : (slot : List ℕ) (m : Bp) → is_vacant slot ≡ false → pointer_of slot ≡ Some m → Holds slot (Some m)
+present_slot slot m e read = record {
+  vacant = e;
+  sound = (λ j. not (e j) && is_none (read j));
+  read = read;
+}
+
+pub garbled_slot : (slot : List ℕ) → is_vacant slot ≡ false → pointer_of slot ≡ None → is_garbled slot ≡ true
+garbled_slot slot e read = λ j. not (e j) && is_none (read j)
+
+-- the sizes that a header names
+pub sizes_fault_is : (size : ℕ) (bytes : List ℕ) (header : Header) → Names header (members_of bytes)
+    → has_sizes_fault size bytes ≡ not (bytes_eq (map (λ m. m.size) (take header.n header.members)) (split_sizes size))
+unfolding has_sizes_fault
+sizes_fault_is size bytes header h = ap (λ ms. not (bytes_eq (map (λ (m : Bp). m.size) ms) (split_sizes size))) (sym h.front)
+
+-- where nothing else is wrong the sizes decide
+pub sizes_decide : (place : Place) (birth size : ℕ) (bytes : List ℕ) (t : Bool) → has_magic_fault bytes ≡ false
+    → has_sum_fault place birth bytes ≡ false → has_filler_fault bytes ≡ false → has_member_fault bytes ≡ false
+    → has_sizes_fault size bytes ≡ t → first_header_fault place birth size bytes ≡ cond t (Some Sizes) None
+sizes_decide place birth size bytes t a b c d e = λ j. first_of_five (a j) (b j) (c j) (d j) (e j)
+
+-- bytes that have a fault are no header
+pub refused : (place : Place) (birth size : ℕ) (bytes : List ℕ) (fault : HeaderFault) → 0 < size → length bytes ≡ 512
+    → first_header_fault place birth size bytes ≡ Some fault
+    → (false ≡ true → IsTrue (is_header place birth size bytes)) × (IsTrue (is_header place birth size bytes) → false ≡ true)
+refused place birth size bytes fault some long e = (
+  λ no. absurd (false≢true no),
+  λ h. let none : first_header_fault place birth size bytes ≡ None = no_fault_from_header place birth size bytes some (omega arith) h in cc,
+)
+
+-- the sum's bytes are the last 32
+pub last_bytes : (bytes : List ℕ) → length bytes ≡ 512 → take 32 (drop 480 bytes) ≡ drop 480 bytes
+last_bytes bytes h =
+    ap (take 32) (sym (append-nil (drop 480 bytes))) ∙ take-front 32 (drop 480 bytes) [] (omega (arith, length-drop 480 bytes))

@@ -1,0 +1,4 @@
+pub mod Flags
+pub mod Runs
+pub mod RunsFall
+pub mod Words

@@ -88,10 +88,10 @@ best_run-append (false ∷ xs) ys =
     let ih : best_run (xs ++ ys) ≡ max (max (best_run xs) (best_run ys)) (back_run xs + front_run ys) = best_run-append xs ys in
     let one : back_run (false ∷ xs) ≡ extended (back_run xs == length xs) (back_run xs) 0 = back_one false xs in
     let same : back_run (false ∷ xs) ≡ back_run xs =
-        elim (cases_eq (back_run xs) (length xs)) [
-          | inl e ↦ omega (arith, one, extended_on (back_run xs) (length xs) 0 e)
-          | inr n ↦ omega (arith, one, extended_off (back_run xs) (length xs) 0 n)
-        ] in
+    elim (cases_eq (back_run xs) (length xs)) [
+      | inl e ↦ omega (arith, one, extended_on (back_run xs) (length xs) 0 e)
+      | inr n ↦ omega (arith, one, extended_off (back_run xs) (length xs) 0 n)
+    ] in
     omega (arith, ih, same)
 best_run-append (true ∷ xs) ys =
     let ih : best_run (xs ++ ys) ≡ max (max (best_run xs) (best_run ys)) (back_run xs + front_run ys) = best_run-append xs ys in
@@ -161,12 +161,12 @@ run_ends xs i count h e n =
     record {
       fits = omega arith;
       each = λ k a l.
-        elim (cases_eq k i) [
-          | inl same ↦ ap (flag_at xs) same ∙ e
-          | inr other ↦
-              let before : k < i = omega arith in
-              sym (get_or-take i xs k false before) ∙ back_run-free (take i xs) k (omega arith) (omega arith)
-        ];
+          elim (cases_eq k i) [
+            | inl same ↦ ap (flag_at xs) same ∙ e
+            | inr other ↦
+                let before : k < i = omega arith in
+                sym (get_or-take i xs k false before) ∙ back_run-free (take i xs) k (omega arith) (omega arith)
+          ];
     }
 
 pub front_run-is : (xs : List Bool) (at end : ℕ) → at ≤ end → end ≤ length xs →
@@ -182,3 +182,7 @@ front_run-is xs at end a l free stop =
           absurd (false≢true (sym (stop inside) ∙ free_there))
       | inr most ↦ omega arith
     ]
+
+pub best_run-le : (xs : List Bool) → best_run xs ≤ length xs
+best_run-le [] = omega arith
+best_run-le (x ∷ xs) = omega (arith, front_run-le (x ∷ xs), best_run-le xs)

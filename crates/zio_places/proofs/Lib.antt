@@ -1,2 +1,3 @@
 pub mod FlagLemmas
 pub mod WordLemmas
+pub mod ForkLemmas

@@ -27,8 +27,8 @@ pub flags_of-ones : (len : ℕ) → flags_of (2 ^ len - 1) len ≡ replicate len
 flags_of-ones len =
     ext_get_or false (flags_of (2 ^ len - 1) len) (replicate len true) (length-flags_of (2 ^ len - 1) len ∙ sym (length-replicate len true))
     (λ k h.
-      let within : k < len = omega (arith, h, length-flags_of (2 ^ len - 1) len) in
-      flag_at-flags_of (2 ^ len - 1) len k within ∙ ap (λ b. b == 1) (bit_at_ones len k within) ∙ sym (get_or-replicate len k true false within))
+    let within : k < len = omega (arith, h, length-flags_of (2 ^ len - 1) len) in
+    flag_at-flags_of (2 ^ len - 1) len k within ∙ ap (λ b. b == 1) (bit_at_ones len k within) ∙ sym (get_or-replicate len k true false within))
 
 -- what a word of flags says of the number and length behind it
 pub word_length : (bits len : ℕ) (flags : List Bool) → flags_of bits len ≡ flags → length flags ≡ len
@@ -38,8 +38,8 @@ pub word_flag : (bits len : ℕ) (flags : List Bool) (k : ℕ) → flags_of bits
 word_flag bits len flags k e h = ap (λ fs. flag_at fs k) (sym e) ∙ flag_at-flags_of bits len k h
 
 module _ (bits new len at count : ℕ) (flags : List Bool) (is : flags_of bits len ≡ flags) (flag : Bool)
-  (inside : (k : ℕ) → at ≤ k → k < at + count → k < len → (bit_at new k == 1) ≡ flag)
-  (outside : (k : ℕ) → k < len → (k < at) ⊎ (at + count ≤ k) → bit_at new k ≡ bit_at bits k) where
+    (inside : (k : ℕ) → at ≤ k → k < at + count → k < len → (bit_at new k == 1) ≡ flag)
+    (outside : (k : ℕ) → k < len → (k < at) ⊎ (at + count ≤ k) → bit_at new k ≡ bit_at bits k) where
   same : (k : ℕ) → (k < at) ⊎ (at + count ≤ k) → flag_at (flags_of new len) k ≡ flag_at flags k
   same k h =
       elim (cases_lt k len) [
@@ -63,12 +63,12 @@ pub word_set : (bits len at count : ℕ) (flags : List Bool) → flags_of bits l
 word_set bits len at count flags is fits =
     word_gets bits (bit_or bits (2 ^ (at + count) - 2 ^ at)) len at count flags is true
     (λ k a l there.
-      let one : bit_at (bit_or bits (2 ^ (at + count) - 2 ^ at)) k ≡ 1 =
-          bit_at_or bits (2 ^ (at + count) - 2 ^ at) k ∙ ap (λ b. max (bit_at bits k) b) (bit_at_mask_inside at (at + count) k a l) ∙ omega (arith, bit_at-lt bits k) in
-      ap (λ b. b == 1) one)
+    let one : bit_at (bit_or bits (2 ^ (at + count) - 2 ^ at)) k ≡ 1 =
+    bit_at_or bits (2 ^ (at + count) - 2 ^ at) k ∙ ap (λ b. max (bit_at bits k) b) (bit_at_mask_inside at (at + count) k a l) ∙ omega (arith, bit_at-lt bits k) in
+    ap (λ b. b == 1) one)
     (λ k there h.
-      let zero_there : bit_at (2 ^ (at + count) - 2 ^ at) k ≡ 0 = elim h [ inl b ↦ bit_at_mask_below at (at + count) k b | inr b ↦ bit_at_mask_above at (at + count) k b ] in
-      bit_at_or bits (2 ^ (at + count) - 2 ^ at) k ∙ ap (λ b. max (bit_at bits k) b) zero_there ∙ omega arith)
+    let zero_there : bit_at (2 ^ (at + count) - 2 ^ at) k ≡ 0 = elim h [ inl b ↦ bit_at_mask_below at (at + count) k b | inr b ↦ bit_at_mask_above at (at + count) k b ] in
+    bit_at_or bits (2 ^ (at + count) - 2 ^ at) k ∙ ap (λ b. max (bit_at bits k) b) zero_there ∙ omega arith)
     fits
 
 pub word_clear : (bits len at count : ℕ) (flags : List Bool) → flags_of bits len ≡ flags → at + count ≤ length flags → len ≤ 64 →
@@ -80,10 +80,10 @@ word_clear bits len at count flags is fits short =
     let flip : (k : ℕ) → k < 64 → bit_at (18446744073709551615 - (2 ^ (at + count) - 2 ^ at)) k ≡ 1 - bit_at (2 ^ (at + count) - 2 ^ at) k = λ k h. bit_at_not w64 (2 ^ (at + count) - 2 ^ at) k mask_fits h in
     word_gets bits (bit_and bits (18446744073709551615 - (2 ^ (at + count) - 2 ^ at))) len at count flags is false
     (λ k a l there.
-      let none : bit_at (bit_and bits (18446744073709551615 - (2 ^ (at + count) - 2 ^ at))) k ≡ 0 =
-          bit_at_and bits (18446744073709551615 - (2 ^ (at + count) - 2 ^ at)) k ∙ omega (arith, flip k (omega arith), bit_at_mask_inside at (at + count) k a l) in
-      ap (λ b. b == 1) none)
+    let none : bit_at (bit_and bits (18446744073709551615 - (2 ^ (at + count) - 2 ^ at))) k ≡ 0 =
+    bit_at_and bits (18446744073709551615 - (2 ^ (at + count) - 2 ^ at)) k ∙ omega (arith, flip k (omega arith), bit_at_mask_inside at (at + count) k a l) in
+    ap (λ b. b == 1) none)
     (λ k there h.
-      let zero_there : bit_at (2 ^ (at + count) - 2 ^ at) k ≡ 0 = elim h [ inl b ↦ bit_at_mask_below at (at + count) k b | inr b ↦ bit_at_mask_above at (at + count) k b ] in
-      bit_at_and bits (18446744073709551615 - (2 ^ (at + count) - 2 ^ at)) k ∙ omega (arith, flip k (omega arith), zero_there, bit_at-lt bits k))
+    let zero_there : bit_at (2 ^ (at + count) - 2 ^ at) k ≡ 0 = elim h [ inl b ↦ bit_at_mask_below at (at + count) k b | inr b ↦ bit_at_mask_above at (at + count) k b ] in
+    bit_at_and bits (18446744073709551615 - (2 ^ (at + count) - 2 ^ at)) k ∙ omega (arith, flip k (omega arith), zero_there, bit_at-lt bits k))
     fits

@@ -8,4 +8,4 @@ use Rattle.zio_places.specs.Runs.{flags_in, IsSummed}
 
 pub depth_le-length-flags : (n : Node) → IsSummed n → max (deep-Node n) 0 ≤ length (flags_in n)
 depth_le-length-flags (Leaf word summary) h = omega arith
-depth_le-length-flags (Fork left right summary) h = omega (arith, length-append left.value right.value, h)
+depth_le-length-flags (Fork left right summary) h = omega (arith, length-append left.value right.value, h.left_filled, h.right_filled)

@@ -117,46 +117,26 @@ impl Runs {
         }
     }
 
-    pub fn set_free(&mut self, at: u64, count: u64)
+    /// Gives so many sectors from here on this flag.
+    pub fn set_flag(&mut self, at: u64, count: u64, is_free: bool)
         requires { at + count ≤ length self.old }
-        ensures { GetFlag self.old self.new at count true }
+        ensures { GetFlag self.old self.new at count is_free }
     {
         match &mut self.node {
             Node::Leaf(word, summary) => {
-                word.set_free(at as u32, count as u32);
+                word.set_flag(at as u32, count as u32, is_free);
                 *summary = word.summary();
             }
             Node::Fork(left, right, summary) => {
                 let middle = left.summary().sectors;
-                if at < middle {
-                    left.set_free(at, count.min(middle - at));
-                }
-                if middle < at + count {
-                    let from = at.max(middle);
-                    right.set_free(from - middle, at + count - from);
-                }
-                *summary = left.summary().join(right.summary());
-            }
-        }
-    }
-
-    pub fn set_used(&mut self, at: u64, count: u64)
-        requires { at + count ≤ length self.old }
-        ensures { GetFlag self.old self.new at count false }
-    {
-        match &mut self.node {
-            Node::Leaf(word, summary) => {
-                word.set_used(at as u32, count as u32);
-                *summary = word.summary();
-            }
-            Node::Fork(left, right, summary) => {
-                let middle = left.summary().sectors;
-                if at < middle {
-                    left.set_used(at, count.min(middle - at));
-                }
-                if middle < at + count {
-                    let from = at.max(middle);
-                    right.set_used(from - middle, at + count - from);
+                let end = at + count;
+                if end <= middle {
+                    left.set_flag(at, count, is_free);
+                } else if middle <= at {
+                    right.set_flag(at - middle, count, is_free);
+                } else {
+                    left.set_flag(at, middle - at, is_free);
+                    right.set_flag(0, end - middle, is_free);
                 }
                 *summary = left.summary().join(right.summary());
             }

@@ -31,7 +31,11 @@ fn low_ones(count: u32) -> u64
     requires { count ≤ 64 }
     ensures { result ≡ 2 ^ count - 1 }
 {
-    if count == 0 { 0 } else { u64::MAX >> (64 - count) }
+    if count == 0 {
+        0
+    } else {
+        u64::MAX >> (64 - count)
+    }
 }
 
 /// A number whose bits in this range are set.
@@ -111,7 +115,19 @@ impl Word {
         end - at
     }
 
-    pub fn set_free(&mut self, at: u32, count: u32)
+    /// Gives so many sectors from here on this flag.
+    pub fn set_flag(&mut self, at: u32, count: u32, is_free: bool)
+        requires { at + count ≤ length self.old }
+        ensures { GetFlag self.old self.new at count is_free }
+    {
+        if is_free {
+            self.set_free(at, count);
+        } else {
+            self.set_used(at, count);
+        }
+    }
+
+    fn set_free(&mut self, at: u32, count: u32)
         requires { at + count ≤ length self.old }
         ensures { GetFlag self.old self.new at count true }
     {
@@ -119,7 +135,7 @@ impl Word {
         self.bits = bits | ones(at, at + count);
     }
 
-    pub fn set_used(&mut self, at: u32, count: u32)
+    fn set_used(&mut self, at: u32, count: u32)
         requires { at + count ≤ length self.old }
         ensures { GetFlag self.old self.new at count false }
     {

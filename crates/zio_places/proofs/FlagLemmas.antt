@@ -186,3 +186,15 @@ front_run-is xs at end a l free stop =
 pub best_run-le : (xs : List Bool) → best_run xs ≤ length xs
 best_run-le [] = omega arith
 best_run-le (x ∷ xs) = omega (arith, front_run-le (x ∷ xs), best_run-le xs)
+
+-- so many are free from a sector on exactly where the run there is as long
+pub AreAll-from_front_run : (xs : List Bool) (at n : ℕ) → at + n ≤ length xs → n ≤ front_run (drop at xs) → AreAll xs at n true
+AreAll-from_front_run xs at n fits h = record {
+  fits = fits;
+  each = λ k a b.
+    let split : at + (k - at) ≡ k = omega arith in
+    ap (flag_at xs) (sym split) ∙ sym (get_or-drop at xs (k - at) false) ∙ front_run-free (drop at xs) (k - at) (omega arith);
+}
+
+pub front_run-from_AreAll : (xs : List Bool) (at n : ℕ) → AreAll xs at n true → n ≤ front_run (drop at xs)
+front_run-from_AreAll xs at n h = front_run-most (drop at xs) n (λ k l. get_or-drop at xs k false ∙ h.each (at + k) (omega arith) (omega arith))

@@ -1,4 +1,5 @@
 pub mod Flags
 pub mod Runs
 pub mod RunsFall
+pub mod Tables
 pub mod Words

@@ -3,4 +3,5 @@
 
 mod runs;
 mod summary;
+mod table;
 mod word;

@@ -3,3 +3,5 @@ pub mod WordLemmas
 pub mod ForkLemmas
 pub mod PlaceLemmas
 pub mod TableLemmas
+pub mod ChangeLemmas
+pub mod HoldLemmas

@@ -1,2 +1,2 @@
-use Rattle.zio_places.proofs.PlaceLemmas.{contains-same}
+use Rattle.zio_places.proofs.HoldLemmas.{live_of-unchanged}
 use Rattle.zio_places.proofs.table.Table.sectors.Goals as goal

@@ -186,7 +186,7 @@ total_here f p h = go p.sectors refl h where
   go zero e h = absurd (omega arith)
   go (suc n) e h = add-zero (f (record { top = p.top; sector = p.sector; sectors = suc n })) ∙ ap (λ m. f (record { top = p.top; sector = p.sector; sectors = m })) e
 
-inside-length : (tops : List TopState) (top sector : ℕ) → sector < length (top_at tops top).lens → top < length tops
+pub inside-length : (tops : List TopState) (top sector : ℕ) → sector < length (top_at tops top).lens → top < length tops
 inside-length tops top sector h =
     elim (cases_lt top (length tops)) [
       | inl here ↦ here

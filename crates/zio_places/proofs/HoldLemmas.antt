@@ -3,7 +3,7 @@ use Rattle.std.proofs.Common.{◌≡◌, ℕ, zero, suc, ◌+◌, ◌-◌, ◌<�
 use Rattle.std.specs.Prelude.{Bool, true, false, not, ◌⊎◌, Contains}
 use Rattle.std.proofs.Common.{inl, inr}
 use Rattle.std.proofs.lemmas.Bool.{cases_lt, cases_eq, false≢true}
-use Rattle.std.proofs.lemmas.List.{ext_get_or, length-map, get_or_past}
+use Rattle.std.proofs.lemmas.List.{ext_get_or, length-map, get_or_default}
 use Rattle.zio_types.specs.declared.place.Place.{Place}
 use Rattle.zio_types.specs.Places.{end_of}
 use Rattle.zio_places.specs.Flags.{flag_at, AreAll}
@@ -138,3 +138,10 @@ live_of-unchanged a b h =
         | inr some ↦ length_at-same a b forth top sector (omega (arith, some))
       ]))
     h.sizes
+
+pub HasFlags-free : (a b : List TopState) (p : Place) (flag : Bool) → (top_at b p.top).free ≡ (top_at a p.top).free → HasFlags a p flag → HasFlags b p flag
+HasFlags-free a b p flag e h = record { filled = h.filled; flags = subst (λ fs. AreAll fs p.sector p.sectors flag) (sym e) h.flags }
+
+-- what is read at an index is the top there
+pub top_read : (tops : List TopState) (top : ℕ) (t : TopState) → top < length tops → get_or tops top t ≡ top_at tops top
+top_read tops top t here = get_or_default tops top t no_top here

@@ -1,5 +1,6 @@
 pub mod Flags
 pub mod Runs
 pub mod RunsFall
+pub mod Spaces
 pub mod Tables
 pub mod Words

@@ -104,12 +104,27 @@ pub record Hold (old new : List TopState) (places : List Place) : Type 0 where
   pub live : (f : Place → ℕ) → total f (live_of new) ≡ total f places + total f (live_of old)
   pub taken : (top sector : ℕ) → taken_at new top sector ≡ cover_count places top sector + taken_at old top sector
 
--- a place for a copy of so many sectors, on a top that no earlier copy uses, where such a top has room
+-- a free place of so many sectors
+pub record IsRoom (tops : List TopState) (sectors : ℕ) (p : Place) : Type 0 where
+  pub length : p.sectors ≡ sectors
+  pub room : HasFlags tops p true
+
+-- no top has a free run of so many sectors
+abbrev pub NoneHasRoom : List TopState → ℕ → Type 0
+NoneHasRoom tops sectors = (top : ℕ) → best_run (top_at tops top).free < sectors
+
+-- no top has one that none of the earlier places uses
+abbrev pub NoFreshHasRoom : List TopState → List Place → ℕ → Type 0
+NoFreshHasRoom tops earlier sectors = (top : ℕ) → uses_top earlier top ≡ false → best_run (top_at tops top).free < sectors
+
+-- a free place on a top that none of the earlier places uses
+pub record IsFresh (tops : List TopState) (earlier : List Place) (sectors : ℕ) (p : Place) : Type 0 where
+  pub length : p.sectors ≡ sectors
+  pub room : HasFlags tops p true
+  pub fresh : uses_top earlier p.top ≡ false
+
+-- a free place, on a top that none of the earlier places uses where such a top has room
 pub record IsFound (tops : List TopState) (earlier : List Place) (sectors : ℕ) (p : Place) : Type 0 where
   pub length : p.sectors ≡ sectors
   pub room : HasFlags tops p true
-  pub spread : uses_top earlier p.top ≡ true →
-      (top : ℕ) → uses_top earlier top ≡ false → best_run (top_at tops top).free < sectors
-
-abbrev pub NoneHasRoom : List TopState → ℕ → Type 0
-NoneHasRoom tops sectors = (top : ℕ) → best_run (top_at tops top).free < sectors
+  pub spread : uses_top earlier p.top ≡ true → NoFreshHasRoom tops earlier sectors

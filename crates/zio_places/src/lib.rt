@@ -4,4 +4,5 @@
 mod runs;
 mod summary;
 mod table;
+mod tops;
 mod word;

@@ -62,6 +62,15 @@ Hold-then a b c xs ys h k = record {
   taken = λ top sector. omega (arith, h.taken top sector, k.taken top sector, total-append (λ p. one_if (covers p top sector)) xs ys);
 }
 
+pub Hold-before : (a b c : List TopState) (xs ys : List Place) → Hold a b xs → Hold b c ys → Hold a c (ys ++ xs)
+Hold-before a b c xs ys h k = record {
+  sizes = k.sizes ∙ h.sizes;
+  even = λ e. k.even (h.even e);
+  even_back = λ e. h.even_back (k.even_back e);
+  live = λ f. omega (arith, h.live f, k.live f, total-append f ys xs);
+  taken = λ top sector. omega (arith, h.taken top sector, k.taken top sector, total-append (λ p. one_if (covers p top sector)) ys xs);
+}
+
 -- what was held from one state to two is the same there
 pub Hold-same : (a b c : List TopState) (xs : List Place) → Hold a b xs → Hold c b xs → Hold a c []
 Hold-same a b c xs h k = record {

@@ -5,3 +5,4 @@ pub mod PlaceLemmas
 pub mod TableLemmas
 pub mod ChangeLemmas
 pub mod HoldLemmas
+pub mod CountLemmas

@@ -172,3 +172,7 @@ contains-place_count p (x ∷ xs) h =
 -- lists of the same sums have the same places
 pub contains-same : (xs ys : List Place) → ((f : Place → ℕ) → total f xs ≡ total f ys) → (p : Place) → Contains xs p → Contains ys p
 contains-same xs ys h p there = contains-place_count p ys (omega (arith, h (λ q. one_if (same_place p q)), place_count-contains p xs there))
+
+-- places that sum to no more are among the others
+pub contains-included : (xs ys : List Place) → ((f : Place → ℕ) → total f xs ≤ total f ys) → (p : Place) → Contains xs p → Contains ys p
+contains-included xs ys h p there = contains-place_count p ys (omega (arith, h (λ q. one_if (same_place p q)), place_count-contains p xs there))

@@ -7,7 +7,7 @@ use Rattle.std.proofs.lemmas.List.{ext_get_or, length-map, get_or_default}
 use Rattle.zio_types.specs.declared.place.Place.{Place}
 use Rattle.zio_types.specs.Places.{end_of}
 use Rattle.zio_places.specs.Flags.{flag_at, AreAll}
-use Rattle.zio_places.specs.Tables.{TopState, no_top, top_at, sizes_of, places_from, live_from, live_of, covers, one_if, total, cover_count, taken_in, taken_at, length_at, Count, AreEven, AreKept, HasFlags, GetUsed, GetLive, Hold}
+use Rattle.zio_places.specs.Tables.{TopState, no_top, top_at, sizes_of, places_from, live_from, live_of, covers, one_if, total, cover_count, taken_in, taken_at, length_at, Count, AreEven, AreKept, HasFlags, GetUsed, AllGetUsed, GetLive, Hold}
 use Rattle.zio_places.proofs.PlaceLemmas.{total-append, one_if-le, covers-from, total-contains, contains-same, place_count, place_count-contains, contains-place_count}
 use Rattle.zio_places.proofs.TableLemmas.{live-length, length-live}
 use Rattle.zio_places.proofs.ChangeLemmas.{taken_in-free, taken_in-one}
@@ -154,3 +154,33 @@ HasFlags-free a b p flag e h = record { filled = h.filled; flags = subst (λ fs.
 -- what is read at an index is the top there
 pub top_read : (tops : List TopState) (top : ℕ) (t : TopState) → top < length tops → get_or tops top t ≡ top_at tops top
 top_read tops top t here = get_or_default tops top t no_top here
+
+-- ---- sectors that get free one place after another
+pub AllGetUsed-nothing : (tops : List TopState) → AllGetUsed tops tops []
+AllGetUsed-nothing tops = record {
+  sizes = refl;
+  even = λ h. h;
+  even_back = λ h. h;
+  lens = λ top. refl;
+  taken = λ top sector. sym (zero-add (taken_at tops top sector));
+}
+
+pub AllGetUsed-before : (a b c : List TopState) (p : Place) (xs : List Place) → GetUsed a b p → AllGetUsed b c xs → AllGetUsed a c (xs ++ p ∷ [])
+AllGetUsed-before a b c p xs h k = record {
+  sizes = k.sizes ∙ h.sizes;
+  even = λ e. k.even (h.even e);
+  even_back = λ e. h.even_back (k.even_back e);
+  lens = λ top. k.lens top ∙ h.lens top;
+  taken = λ top sector. omega (arith, h.taken top sector, k.taken top sector, total-append (λ q. one_if (covers q top sector)) xs (p ∷ []));
+}
+
+-- a place whose sectors all count has them used
+pub taken-flags : (tops : List TopState) (p : Place) → 0 < p.sectors → ((sector : ℕ) → covers p p.top sector ≡ true → 0 < taken_at tops p.top sector) → HasFlags tops p false
+taken-flags tops p filled taken =
+    let used : (k : ℕ) → p.sector ≤ k → k < end_of p → (k < length (top_at tops p.top).free) × (flag_at (top_at tops p.top).free k ≡ false) =
+          λ k a b. taken_in-one (top_at tops p.top).free k (taken k (covers-from p p.top k refl a b)) in
+    let last = used (p.sector + p.sectors - 1) (omega arith) (omega arith) in
+    record {
+      filled = filled;
+      flags = record { fits = omega (arith, last.0); each = λ k a b. (used k a b).1 };
+    }

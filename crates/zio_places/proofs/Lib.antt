@@ -6,3 +6,4 @@ pub mod TableLemmas
 pub mod ChangeLemmas
 pub mod HoldLemmas
 pub mod CountLemmas
+pub mod LawLemmas

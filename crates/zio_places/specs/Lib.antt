@@ -1,3 +1,4 @@
+pub mod Counted
 pub mod Flags
 pub mod Runs
 pub mod RunsFall

@@ -41,3 +41,8 @@ are_apart (p ∷ places) = is_free places p && are_apart places
 -- each is free beside the used ones, and no two of them meet
 abbrev pub are_open : List Place → List Place → Bool
 are_open used places = list_all (is_free used) places && are_apart places
+
+-- the live and the pending places lie inside their tops, and no two of them meet
+pub record IsSound (st : SpaceState) : Type 0 where
+  pub inside : are_inside st.sizes (used st) ≡ true
+  pub apart : are_apart (used st) ≡ true

@@ -89,6 +89,14 @@ pub record GetUsed (old new : List TopState) (p : Place) : Type 0 where
   pub lens : (top : ℕ) → (top_at new top).lens ≡ (top_at old top).lens
   pub taken : (top sector : ℕ) → taken_at new top sector ≡ one_if (covers p top sector) + taken_at old top sector
 
+-- the same for places one after another
+pub record AllGetUsed (old new : List TopState) (places : List Place) : Type 0 where
+  pub sizes : sizes_of new ≡ sizes_of old
+  pub even : AreEven old → AreEven new
+  pub even_back : AreEven new → AreEven old
+  pub lens : (top : ℕ) → (top_at new top).lens ≡ (top_at old top).lens
+  pub taken : (top sector : ℕ) → taken_at new top sector ≡ cover_count places top sector + taken_at old top sector
+
 -- the same flags, and one place more is live
 pub record GetLive (old new : List TopState) (p : Place) : Type 0 where
   pub sizes : sizes_of new ≡ sizes_of old

@@ -2,7 +2,11 @@
 #![tactic(auto)]
 
 mod runs;
+mod space;
 mod summary;
 mod table;
+mod take;
 mod tops;
 mod word;
+
+pub use space::{ClaimFault, Space};

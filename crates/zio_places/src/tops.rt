@@ -1,11 +1,10 @@
 //! The tables of all tops: places are held, released and found here.
 
-ghost use Rattle.std.specs.Prelude.{◌≡◌, ◌+◌, ◌^◌, ◌<◌, ◌≤◌, ◌∷◌, [], ℕ, List, length, true, false, Contains, IsTrue, ◌↔◌, MatchOption};
+ghost use Rattle.std.specs.Prelude.{◌≡◌, ◌+◌, ◌^◌, ◌<◌, ◌≤◌, ◌∷◌, [], ℕ, List, length, true, false, Contains, IsTrue, All, ◌↔◌, MatchOption};
 ghost use Rattle.zio_types.specs.Places.{is_inside, uses_top};
 ghost use Rattle.zio_places.specs.Flags.{AreAll};
-ghost use Rattle.std.specs.List.{list_all};
-ghost use Rattle.zio_places.specs.Spaces.{are_open};
-ghost use Rattle.zio_places.specs.Tables.{top_at, sizes_of, live_of, length_at, total, Count, AreEven, AreKept, HasFlags, GetUsed, GetLive, Hold, IsRoom, IsFresh, IsFound, NoneHasRoom, NoFreshHasRoom};
+ghost use Rattle.zio_places.specs.Spaces.{are_inside, are_open};
+ghost use Rattle.zio_places.specs.Tables.{top_at, sizes_of, live_of, length_at, total, cover_count, taken_at, Count, AreEven, AreKept, HasFlags, GetUsed, AllGetUsed, GetLive, Hold, IsRoom, IsFresh, IsFound, NoneHasRoom, NoFreshHasRoom};
 
 use crate::table::Table;
 use zio_types::Place;
@@ -106,7 +105,7 @@ pub fn is_open(tops: &[Table], place: &Place) -> bool
 /// Holds the places, or none of them where one isn't free beside those before it.
 pub fn hold_all(tops: &mut [Table], places: &[Place]) -> bool
     requires kept { AreKept tops.old }
-    requires inside { list_all (is_inside (sizes_of tops.old)) places.now ≡ true }
+    requires inside { are_inside (sizes_of tops.old) places.now ≡ true }
     ensures held { IsTrue result → Hold tops.old tops.new places.now }
     ensures unchanged { result ≡ false → Hold tops.old tops.new [] }
     ensures open { (used : List Place) → Count used tops.old → result ≡ are_open used places.now }
@@ -164,7 +163,7 @@ fn find_any(tops: &[Table], sectors: u32) -> Option<Place>
 }
 
 /// A place for the next copy, on a top that none of the earlier ones uses where such a top has room.
-fn find(tops: &[Table], earlier: &[Place], sectors: u32) -> Option<Place>
+pub fn find(tops: &[Table], earlier: &[Place], sectors: u32) -> Option<Place>
     requires few { length tops.now < 2 ^ 32 }
     requires some { 0 < sectors }
     ensures { MatchOption result (NoneHasRoom tops.now sectors) (IsFound tops.now earlier.now sectors) }
@@ -174,4 +173,34 @@ fn find(tops: &[Table], earlier: &[Place], sectors: u32) -> Option<Place>
         return fresh;
     }
     find_any(tops, sectors)
+}
+
+/// The place is one of the live ones.
+pub fn is_live(tops: &[Table], place: &Place) -> bool
+    ensures { IsTrue result ↔ Contains (live_of tops.now) place.now }
+{
+    let top = place.top as usize;
+    if top >= tops.len() {
+        return false;
+    }
+    let sectors = place.sectors;
+    0 < sectors && tops[top].length_at(place.sector) == sectors
+}
+
+/// Each place lies inside its top.
+pub fn all_inside(tops: &[Table], places: &[Place]) -> bool
+    ensures { result ≡ are_inside (sizes_of tops.now) places.now }
+{
+    places.iter().all(|place| is_inside(tops, place))
+}
+
+/// The sectors of places that are no longer live get free.
+pub fn clear_all(tops: &mut [Table], places: &[Place])
+    requires filled { All (λ p. 0 < p.sectors) places.now }
+    requires taken { (top sector : ℕ) → cover_count places.now top sector ≤ taken_at tops.old top sector }
+    ensures { AllGetUsed tops.new tops.old places.now }
+{
+    for place in places {
+        clear(tops, *place);
+    }
 }

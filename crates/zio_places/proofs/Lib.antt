@@ -7,3 +7,4 @@ pub mod ChangeLemmas
 pub mod HoldLemmas
 pub mod CountLemmas
 pub mod LawLemmas
+pub mod SpaceLemmas

@@ -183,12 +183,16 @@ impl Space {
             return Err(ClaimFault::Taken);
         }
         let room = self.live + COPIES_MAX * self.spare as usize + places.len();
-        if self.pending.reserve(room).is_err() {
-            release_all(&mut self.tops, places);
-            return Err(ClaimFault::Memory);
+        match self.pending.reserve(room) {
+            Ok(()) => {
+                self.live += places.len();
+                Ok(())
+            }
+            Err(_) => {
+                release_all(&mut self.tops, places);
+                Err(ClaimFault::Memory)
+            }
         }
-        self.live += places.len();
-        Ok(())
     }
 
     /// The journal so far.

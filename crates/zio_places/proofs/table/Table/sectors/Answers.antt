@@ -1,2 +1,2 @@
-use Rattle.zio_places.proofs.CountLemmas.{are_open-front, are_open-push, Count-hold, flags-from_is_free}
+use Rattle.zio_places.proofs.SpaceLemmas.{counted-new, counted-closed, given_back-live, counted-given_back, counted-held}
 use Rattle.zio_places.proofs.table.Table.sectors.Goals as goal

@@ -1,15 +1,15 @@
 -- What a change of one top's table changes of all, and how such changes follow on one another.
-use Rattle.std.proofs.Common.{◌≡◌, ℕ, zero, suc, ◌+◌, ◌-◌, ◌<◌, ◌≤◌, ◌≢◌, List, [], ◌∷◌, ◌++◌, length, map, get_or, set, refl, sym, ap, subst, ◌∙◌, arith, zero-add, add-zero}
-use Rattle.std.specs.Prelude.{Bool, true, false, not, ◌⊎◌, Contains, ◌&&◌, ◌==◌, nat_le, nat_lt}
+use Rattle.std.proofs.Common.{◌≡◌, ℕ, zero, suc, ◌+◌, ◌<◌, ◌≤◌, ◌≢◌, List, [], ◌∷◌, length, set, refl, sym, ap, subst, ◌∙◌, arith, add-zero}
+use Rattle.std.specs.Prelude.{Bool, true, false, not}
 use Rattle.std.proofs.Common.{inl, inr}
-use Rattle.std.proofs.lemmas.Bool.{cases_Bool, cases_lt, cases_eq, false≢true, true≢false, false_from_ne_true, not_from_false, not_from_true}
-use Rattle.std.proofs.lemmas.List.{get_or-set_same, get_or-set_other, get_or_past, get_or_default, length-set, length-map, ext_get_or}
+use Rattle.std.proofs.lemmas.Bool.{cases_Bool, cases_lt, cases_eq, false_from_ne_true}
+use Rattle.std.proofs.lemmas.List.{get_or-set_same, get_or-set_other, get_or_past, get_or_default, length-set}
 use Rattle.zio_types.specs.declared.place.Place.{Place}
 use Rattle.zio_types.specs.Places.{end_of}
 use Rattle.zio_places.specs.Flags.{flag_at, AreAll, GetFlag}
-use Rattle.zio_places.specs.Tables.{TopState, no_top, top_at, sizes_of, places_here, places_from, live_from, live_of, covers, one_if, total, cover_count, taken_in, taken_at, length_at, Count, AreEven, AreKept, HasFlags, GetUsed, GetLive, Hold}
-use Rattle.zio_places.proofs.PlaceLemmas.{total-append, one_if-true, one_if-le, covers-from, Covered, covers-parts, total-contains}
-use Rattle.zio_places.proofs.TableLemmas.{total_set, live-length, length-live}
+use Rattle.zio_places.specs.Tables.{TopState, no_top, top_at, sizes_of, places_here, covers, one_if, total, taken_in, taken_at, length_at, AreEven, HasFlags, GetUsed, GetLive}
+use Rattle.zio_places.proofs.PlaceLemmas.{covers-from, covers-parts}
+use Rattle.zio_places.proofs.TableLemmas.{total_set}
 
 -- ---- flags and what is taken
 taken_in-flag : (xs : List Bool) (k : ℕ) → k < length xs → taken_in xs k ≡ one_if (not (flag_at xs k))
@@ -155,11 +155,11 @@ GetUsed-marked tops p x room change lens =
       even_back = was_even tops p x there lens change.length;
       lens = same_lens tops p x there lens change.length;
       taken = λ top sector.
-        elim (cases_eq top p.top) [
-          | inl e ↦ subst (λ t. taken_at (set tops p.top x) t sector ≡ one_if (covers p t sector) + taken_at tops t sector) (sym e)
-              (this_top tops p x there lens change.length sector ∙ taken-marked (top_at tops p.top).free x.free p sector change room.flags)
-          | inr n ↦ let o = other_top tops p x there lens change.length top sector n in omega (arith, o.1, ap one_if o.0)
-        ];
+          elim (cases_eq top p.top) [
+            | inl e ↦ subst (λ t. taken_at (set tops p.top x) t sector ≡ one_if (covers p t sector) + taken_at tops t sector) (sym e)
+                (this_top tops p x there lens change.length sector ∙ taken-marked (top_at tops p.top).free x.free p sector change room.flags)
+            | inr n ↦ let o = other_top tops p x there lens change.length top sector n in omega (arith, o.1, ap one_if o.0)
+          ];
     }
 
 pub GetUsed-cleared : (tops : List TopState) (p : Place) (x : TopState) → HasFlags tops p false → GetFlag (top_at tops p.top).free x.free p.sector p.sectors true → x.lens ≡ (top_at tops p.top).lens →
@@ -172,11 +172,11 @@ GetUsed-cleared tops p x used change lens =
       even_back = still_even tops p x there lens change.length;
       lens = λ top. sym (same_lens tops p x there lens change.length top);
       taken = λ top sector.
-        elim (cases_eq top p.top) [
-          | inl e ↦ subst (λ t. taken_at tops t sector ≡ one_if (covers p t sector) + taken_at (set tops p.top x) t sector) (sym e)
-              (taken-cleared (top_at tops p.top).free x.free p sector change used.flags ∙ ap (λ n. one_if (covers p p.top sector) + n) (sym (this_top tops p x there lens change.length sector)))
-          | inr n ↦ let o = other_top tops p x there lens change.length top sector n in omega (arith, o.1, ap one_if o.0)
-        ];
+          elim (cases_eq top p.top) [
+            | inl e ↦ subst (λ t. taken_at tops t sector ≡ one_if (covers p t sector) + taken_at (set tops p.top x) t sector) (sym e)
+                (taken-cleared (top_at tops p.top).free x.free p sector change used.flags ∙ ap (λ n. one_if (covers p p.top sector) + n) (sym (this_top tops p x there lens change.length sector)))
+            | inr n ↦ let o = other_top tops p x there lens change.length top sector n in omega (arith, o.1, ap one_if o.0)
+          ];
     }
 
 -- ---- a length is written
@@ -212,9 +212,9 @@ GetLive-entered tops p x filled inside none lens free =
       free = each_top (λ t u. u.free ≡ t.free) (λ t. refl) tops p.top x there free;
       lens = each_top (λ t u. length u.lens ≡ length t.lens) (λ t. refl) tops p.top x there long;
       live = λ f.
-        let change = total_set f tops p.top p.sector p.sectors x there inside lens in
-        let before : total f (places_here p.top p.sector (length_at tops p.top p.sector)) ≡ 0 = ap (λ n. total f (places_here p.top p.sector n)) none in
-        omega (arith, change, before, total_here f p filled);
+          let change = total_set f tops p.top p.sector p.sectors x there inside lens in
+          let before : total f (places_here p.top p.sector (length_at tops p.top p.sector)) ≡ 0 = ap (λ n. total f (places_here p.top p.sector n)) none in
+          omega (arith, change, before, total_here f p filled);
     }
 
 pub GetLive-removed : (tops : List TopState) (p : Place) (x : TopState) → 0 < p.sectors → length_at tops p.top p.sector ≡ p.sectors →
@@ -228,7 +228,7 @@ GetLive-removed tops p x filled size lens free =
       free = λ top. sym (each_top (λ t u. u.free ≡ t.free) (λ t. refl) tops p.top x there free top);
       lens = λ top. sym (each_top (λ t u. length u.lens ≡ length t.lens) (λ t. refl) tops p.top x there long top);
       live = λ f.
-        let change = total_set f tops p.top p.sector 0 x there inside lens in
-        let before : total f (places_here p.top p.sector (length_at tops p.top p.sector)) ≡ f p = ap (λ n. total f (places_here p.top p.sector n)) size ∙ total_here f p filled in
-        omega (arith, change, before);
+          let change = total_set f tops p.top p.sector 0 x there inside lens in
+          let before : total f (places_here p.top p.sector (length_at tops p.top p.sector)) ≡ f p = ap (λ n. total f (places_here p.top p.sector n)) size ∙ total_here f p filled in
+          omega (arith, change, before);
     }

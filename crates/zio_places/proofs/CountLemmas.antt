@@ -1,16 +1,14 @@
 -- Tables that count the used places answer for them: whether a place is inside, whether it is free.
-use Rattle.std.proofs.Common.{◌≡◌, ℕ, zero, suc, ◌+◌, ◌-◌, ◌<◌, ◌≤◌, ◌≢◌, List, [], ◌∷◌, ◌++◌, length, map, get_or, take, drop, refl, sym, ap, subst, ◌∙◌, arith, zero-add}
-use Rattle.std.specs.Prelude.{Bool, true, false, not, ◌&&◌, ◌⊎◌, Option, Some, None, slice_get, nat_lt, nat_le, Contains, IsTrue}
-use Rattle.std.proofs.Common.{inl, inr}
+use Rattle.std.proofs.Common.{◌≡◌, ℕ, zero, suc, ◌+◌, ◌<◌, ◌≤◌, List, [], ◌∷◌, ◌++◌, length, get_or, take, drop, refl, sym, ap, ◌∙◌, arith}
+use Rattle.std.specs.Prelude.{Bool, true, not, ◌&&◌, slice_get, nat_lt, nat_le}
 use Rattle.std.specs.List.{list_all}
-use Rattle.std.proofs.lemmas.Bool.{cases_Bool, cases_lt, cases_eq, false≢true, true≢false, false_from_ne_true, and_parts, and_from, and_left, and_right, lt-ltb, ltb-true, le-leb, leb-true}
+use Rattle.std.proofs.lemmas.Bool.{false≢true, and_parts, and_from, lt-ltb, ltb-true, le-leb, leb-true}
 use Rattle.std.proofs.lemmas.List.{take-append-drop, drop_more}
 use Rattle.std.proofs.lemmas.List.Folds.{list_all-append}
 use Rattle.zio_types.specs.declared.place.Place.{Place}
 use Rattle.zio_types.specs.Places.{end_of, meets, is_below, is_inside, is_free}
-use Rattle.zio_places.specs.Flags.{flag_at, AreAll}
-use Rattle.zio_places.specs.Spaces.{are_inside, are_apart, are_open}
-use Rattle.zio_places.specs.Tables.{TopState, no_top, top_at, sizes_of, live_of, covers, one_if, total, cover_count, taken_in, taken_at, Count, AreEven, AreKept, HasFlags, Hold}
+use Rattle.zio_places.specs.Spaces.{are_apart, are_open}
+use Rattle.zio_places.specs.Tables.{TopState, top_at, sizes_of, covers, one_if, Count, AreEven, HasFlags, Hold}
 use Rattle.zio_places.proofs.PlaceLemmas.{total-append, covers-from, covers-parts, is_free-from_counts, counts-from_is_free, meets-symmetric}
 use Rattle.zio_places.proofs.ChangeLemmas.{taken_in-free, taken_in-zero}
 
@@ -37,8 +35,8 @@ inside-from tops p filled h = below-from p tops p.top filled h
 pub is_free-from_flags : (used : List Place) (tops : List TopState) (p : Place) → Count used tops → HasFlags tops p true → is_free used p ≡ true
 is_free-from_flags used tops p count h =
     is_free-from_counts used p (λ sector mine.
-      let c = covers-parts p p.top sector mine in
-      count p.top sector ∙ taken_in-free (top_at tops p.top).free sector (h.flags.each sector c.from c.to))
+    let c = covers-parts p p.top sector mine in
+    count p.top sector ∙ taken_in-free (top_at tops p.top).free sector (h.flags.each sector c.from c.to))
 
 pub flags-from_is_free : (used : List Place) (tops : List TopState) (p : Place) → Count used tops → AreEven tops → is_inside (sizes_of tops) p ≡ true → is_free used p ≡ true → HasFlags tops p true
 flags-from_is_free used tops p count even inside free =
@@ -49,8 +47,8 @@ flags-from_is_free used tops p count even inside free =
       flags = record {
         fits = fits;
         each = λ k a b.
-          taken_in-zero (top_at tops p.top).free k (omega (arith, fits, b))
-          (sym (count p.top k) ∙ counts-from_is_free used p k free (covers-from p p.top k refl a b));
+            taken_in-zero (top_at tops p.top).free k (omega (arith, fits, b))
+            (sym (count p.top k) ∙ counts-from_is_free used p k free (covers-from p p.top k refl a b));
       };
     }
 

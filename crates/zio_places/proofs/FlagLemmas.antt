@@ -1,11 +1,10 @@
 -- Runs of free flags in lists that are joined.
-use Rattle.std.proofs.Common.{◌≡◌, ℕ, ◌+◌, ◌-◌, ◌<◌, ◌≤◌, ◌≢◌, suc, zero, max, List, [], ◌∷◌, ◌++◌, length, reverse, get_or, take, drop, replicate, refl, sym, ap, subst, ◌∙◌, arith, length-append, add-one, zero-add}
-use Rattle.std.specs.Prelude.{Bool, true, false, ◌==◌, ◌⊎◌}
+use Rattle.std.proofs.Common.{◌≡◌, ℕ, ◌+◌, ◌-◌, ◌<◌, ◌≤◌, ◌≢◌, suc, zero, max, List, [], ◌∷◌, ◌++◌, length, reverse, take, drop, refl, sym, ap, subst, ◌∙◌, arith, length-append, zero-add}
+use Rattle.std.specs.Prelude.{Bool, true, false, ◌==◌}
 use Rattle.std.proofs.Common.{inl, inr}
-use Rattle.std.proofs.lemmas.Bool.{eq-eqb, ne_eqb, cases_eq, false≢true, true≢false, cases_lt}
-use Rattle.std.proofs.lemmas.List.{length-reverse, reverse-append, get_or-reverse, get_or_append_left, get_or-append_right, get_or_past, append-nil, take_more, length-take-le, get_or-take, get_or-drop, length-drop}
-use Rattle.zio_places.specs.declared.summary.Summary.{Summary}
-use Rattle.zio_places.specs.Flags.{flag_at, front_run, back_run, best_run, summary_of, extended, joined, AreAll, GetFlag}
+use Rattle.std.proofs.lemmas.Bool.{eq-eqb, ne_eqb, cases_eq, false≢true, cases_lt}
+use Rattle.std.proofs.lemmas.List.{length-reverse, reverse-append, get_or-reverse, get_or_past, append-nil, take_more, length-take-le, get_or-take, get_or-drop, length-drop}
+use Rattle.zio_places.specs.Flags.{flag_at, front_run, back_run, best_run, summary_of, extended, joined, AreAll}
 
 pub extended_on : (a b m : ℕ) → a ≡ b → extended (a == b) a m ≡ a + m
 extended_on a b m e = rw (eq-eqb a b e) refl
@@ -192,8 +191,8 @@ pub AreAll-from_front_run : (xs : List Bool) (at n : ℕ) → at + n ≤ length 
 AreAll-from_front_run xs at n fits h = record {
   fits = fits;
   each = λ k a b.
-    let split : at + (k - at) ≡ k = omega arith in
-    ap (flag_at xs) (sym split) ∙ sym (get_or-drop at xs (k - at) false) ∙ front_run-free (drop at xs) (k - at) (omega arith);
+      let split : at + (k - at) ≡ k = omega arith in
+      ap (flag_at xs) (sym split) ∙ sym (get_or-drop at xs (k - at) false) ∙ front_run-free (drop at xs) (k - at) (omega arith);
 }
 
 pub front_run-from_AreAll : (xs : List Bool) (at n : ℕ) → AreAll xs at n true → n ≤ front_run (drop at xs)

@@ -1,15 +1,15 @@
 -- Flags of a fork: runs in one side or over both, and what a change of a side changes.
-use Rattle.std.proofs.Common.{◌≡◌, ℕ, ◌+◌, ◌-◌, ◌^◌, ◌<◌, ◌≤◌, ◌≢◌, max, List, [], ◌∷◌, ◌++◌, length, take, drop, refl, sym, ap, subst, ◌∙◌, arith, length-append, Box}
-use Rattle.std.specs.Prelude.{Bool, true, false, ◌⊎◌}
+use Rattle.std.proofs.Common.{◌≡◌, ℕ, ◌+◌, ◌-◌, ◌^◌, ◌<◌, ◌≤◌, ◌≢◌, List, ◌++◌, length, drop, refl, sym, ap, subst, ◌∙◌, arith, length-append, Box}
+use Rattle.std.specs.Prelude.{Bool, true, false}
 use Rattle.std.proofs.Common.{inl, inr}
 use Rattle.std.specs.declared.alloc.Global.{Global}
-use Rattle.std.proofs.lemmas.Bool.{cases_lt, false≢true}
-use Rattle.std.proofs.lemmas.List.{get_or_append_left, get_or-append_right, get_or-append-add, get_or_past, get_or-drop, length-drop, drop-append-le, drop-drop, drop_at}
+use Rattle.std.proofs.lemmas.Bool.{cases_lt}
+use Rattle.std.proofs.lemmas.List.{get_or_append_left, get_or-append_right, length-drop, drop-append-le, drop-drop, drop_at}
 use Rattle.zio_places.specs.declared.summary.Summary.{Summary}
 use Rattle.zio_places.specs.declared.runs.Runs.{Runs}
 use Rattle.zio_places.specs.declared.runs.Node.{Node}
 use Rattle.zio_places.specs.declared.runs.Node.TheVariants.{Leaf, Fork}
-use Rattle.zio_places.specs.Flags.{flag_at, front_run, back_run, best_run, summary_of, extended, joined, AreAll, GetFlag}
+use Rattle.zio_places.specs.Flags.{flag_at, front_run, back_run, best_run, summary_of, joined, AreAll, GetFlag}
 use Rattle.zio_places.specs.Runs.{flags_in, IsSummed, IsFork, IsLeaf}
 use Rattle.zio_places.proofs.FlagLemmas.{front_run-append, front_run-le, front_run-free, back_run-le, back_run-free, best_run-append, extended_on, extended_off, summary_of-append}
 

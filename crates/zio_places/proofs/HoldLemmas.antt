@@ -1,32 +1,32 @@
 -- Places held and released one after another, and what stays true of the tables.
-use Rattle.std.proofs.Common.{◌≡◌, ℕ, zero, suc, ◌+◌, ◌-◌, ◌<◌, ◌≤◌, ◌≢◌, List, [], ◌∷◌, ◌++◌, length, map, get_or, set, refl, sym, ap, subst, ◌∙◌, arith, zero-add, add-zero}
-use Rattle.std.specs.Prelude.{Bool, true, false, not, ◌⊎◌, Contains}
+use Rattle.std.proofs.Common.{◌≡◌, ℕ, zero, suc, ◌+◌, ◌-◌, ◌<◌, ◌≤◌, List, [], ◌∷◌, ◌++◌, length, get_or, refl, sym, ap, subst, ◌∙◌, arith, zero-add}
+use Rattle.std.specs.Prelude.{Bool, true, false, Contains}
 use Rattle.std.proofs.Common.{inl, inr}
-use Rattle.std.proofs.lemmas.Bool.{cases_lt, cases_eq, false≢true}
+use Rattle.std.proofs.lemmas.Bool.{cases_eq, false≢true}
 use Rattle.std.proofs.lemmas.List.{ext_get_or, length-map, get_or_default}
 use Rattle.zio_types.specs.declared.place.Place.{Place}
 use Rattle.zio_types.specs.Places.{end_of}
 use Rattle.zio_places.specs.Flags.{flag_at, AreAll}
-use Rattle.zio_places.specs.Tables.{TopState, no_top, top_at, sizes_of, places_from, live_from, live_of, covers, one_if, total, cover_count, taken_in, taken_at, length_at, Count, AreEven, AreKept, HasFlags, GetUsed, AllGetUsed, GetLive, Hold}
-use Rattle.zio_places.proofs.PlaceLemmas.{total-append, one_if-le, covers-from, total-contains, contains-same, place_count, place_count-contains, contains-place_count}
+use Rattle.zio_places.specs.Tables.{TopState, no_top, top_at, sizes_of, places_from, live_from, live_of, covers, one_if, total, taken_in, taken_at, length_at, AreKept, HasFlags, GetUsed, AllGetUsed, GetLive, Hold}
+use Rattle.zio_places.proofs.PlaceLemmas.{total-append, covers-from, total-contains, contains-same}
 use Rattle.zio_places.proofs.TableLemmas.{live-length, length-live}
-use Rattle.zio_places.proofs.ChangeLemmas.{taken_in-free, taken_in-one}
+use Rattle.zio_places.proofs.ChangeLemmas.{taken_in-one}
 
 -- ---- the tables stay kept
 pub AreKept-hold : (old new : List TopState) (places : List Place) → Hold old new places → AreKept old → AreKept new
 AreKept-hold old new places h kept = record {
   even = h.even kept.even;
   covered = λ top sector.
-    let live = h.live (λ p. one_if (covers p top sector)) in
-    omega (arith, live, h.taken top sector, kept.covered top sector);
+      let live = h.live (λ p. one_if (covers p top sector)) in
+      omega (arith, live, h.taken top sector, kept.covered top sector);
 }
 
 pub AreKept-release : (old new : List TopState) (places : List Place) → Hold old new places → AreKept new → AreKept old
 AreKept-release old new places h kept = record {
   even = h.even_back kept.even;
   covered = λ top sector.
-    let live = h.live (λ p. one_if (covers p top sector)) in
-    omega (arith, live, h.taken top sector, kept.covered top sector);
+      let live = h.live (λ p. one_if (covers p top sector)) in
+      omega (arith, live, h.taken top sector, kept.covered top sector);
 }
 
 -- ---- one change after another
@@ -87,11 +87,11 @@ Hold-one a b c p used live = record {
   even = λ e top. ap length (live.free top) ∙ used.even e top ∙ sym (live.lens top);
   even_back = λ e. used.even_back (λ top. sym (ap length (live.free top)) ∙ e top ∙ live.lens top);
   live = λ f.
-    let same : total f (live_of b) ≡ total f (live_of a) = ap (total f) (live_of-same a b used.lens used.sizes) in
-    omega (arith, live.live f, same);
+      let same : total f (live_of b) ≡ total f (live_of a) = ap (total f) (live_of-same a b used.lens used.sizes) in
+      omega (arith, live.live f, same);
   taken = λ top sector.
-    let same : taken_at c top sector ≡ taken_at b top sector = ap (λ fs. taken_in fs sector) (live.free top) in
-    omega (arith, same, used.taken top sector);
+      let same : taken_at c top sector ≡ taken_at b top sector = ap (λ fs. taken_in fs sector) (live.free top) in
+      omega (arith, same, used.taken top sector);
 }
 
 -- ---- what is known of a live place, and of free sectors
@@ -99,8 +99,8 @@ pub live-flags : (tops : List TopState) (p : Place) → AreKept tops → Contain
 live-flags tops p kept h =
     let filled = (live-length tops p h).0 in
     let taken : (sector : ℕ) → p.sector ≤ sector → sector < end_of p → 0 < taken_at tops p.top sector = λ sector a b.
-          let one : one_if (covers p p.top sector) ≡ 1 = ap one_if (covers-from p p.top sector refl a b) in
-          omega (arith, one, total-contains (λ q. one_if (covers q p.top sector)) (live_of tops) p h, kept.covered p.top sector) in
+    let one : one_if (covers p p.top sector) ≡ 1 = ap one_if (covers-from p p.top sector refl a b) in
+    omega (arith, one, total-contains (λ q. one_if (covers q p.top sector)) (live_of tops) p h, kept.covered p.top sector) in
     let last = taken_in-one (top_at tops p.top).free (p.sector + p.sectors - 1) (taken (p.sector + p.sectors - 1) (omega arith) (omega arith)) in
     record {
       filled = filled;
@@ -138,14 +138,14 @@ live_of-unchanged a b h =
     let long : (top : ℕ) → length (top_at b top).lens ≡ length (top_at a top).lens = λ top. size_at b top ∙ ap (λ ns. get_or ns top 0) h.sizes ∙ sym (size_at a top) in
     live_of-same a b
     (λ top. ext_get_or 0 (top_at b top).lens (top_at a top).lens (long top) (λ sector inside.
-      elim (cases_eq (length_at a top sector) 0) [
-        | inl none ↦
-            elim (cases_eq (length_at b top sector) 0) [
-              | inl also ↦ also ∙ sym none
-              | inr some ↦ absurd (omega (arith, none, some, length_at-same b a back top sector (omega (arith, some))))
-            ]
-        | inr some ↦ length_at-same a b forth top sector (omega (arith, some))
-      ]))
+    elim (cases_eq (length_at a top sector) 0) [
+      | inl none ↦
+          elim (cases_eq (length_at b top sector) 0) [
+            | inl also ↦ also ∙ sym none
+            | inr some ↦ absurd (omega (arith, none, some, length_at-same b a back top sector (omega (arith, some))))
+          ]
+      | inr some ↦ length_at-same a b forth top sector (omega (arith, some))
+    ]))
     h.sizes
 
 pub HasFlags-free : (a b : List TopState) (p : Place) (flag : Bool) → (top_at b p.top).free ≡ (top_at a p.top).free → HasFlags a p flag → HasFlags b p flag
@@ -178,7 +178,7 @@ AllGetUsed-before a b c p xs h k = record {
 pub taken-flags : (tops : List TopState) (p : Place) → 0 < p.sectors → ((sector : ℕ) → covers p p.top sector ≡ true → 0 < taken_at tops p.top sector) → HasFlags tops p false
 taken-flags tops p filled taken =
     let used : (k : ℕ) → p.sector ≤ k → k < end_of p → (k < length (top_at tops p.top).free) × (flag_at (top_at tops p.top).free k ≡ false) =
-          λ k a b. taken_in-one (top_at tops p.top).free k (taken k (covers-from p p.top k refl a b)) in
+    λ k a b. taken_in-one (top_at tops p.top).free k (taken k (covers-from p p.top k refl a b)) in
     let last = used (p.sector + p.sectors - 1) (omega arith) (omega arith) in
     record {
       filled = filled;

@@ -1,13 +1,13 @@
 -- A place that the tables give is one that the law of a choice allows.
-use Rattle.std.proofs.Common.{◌≡◌, ℕ, zero, suc, ◌+◌, ◌-◌, ◌/◌, ◌<◌, ◌≤◌, ◌≢◌, List, [], ◌∷◌, ◌++◌, length, get_or, set, take, drop, replicate, refl, sym, ap, subst, ◌∙◌, arith, zero-add}
-use Rattle.std.specs.Prelude.{Bool, true, false, not, ◌⊎◌, IsTrue}
-use Rattle.std.proofs.lemmas.List.{append_assoc, append-nil, take_at, set_at, length_push, take_more_set, length-replicate}
+use Rattle.std.proofs.Common.{◌≡◌, ℕ, suc, ◌+◌, ◌-◌, ◌<◌, ◌≤◌, List, [], ◌∷◌, ◌++◌, length, set, take, replicate, refl, sym, ap, subst, ◌∙◌, arith}
+use Rattle.std.specs.Prelude.{true}
+use Rattle.std.proofs.lemmas.List.{append_assoc, append-nil, take_at, set_at, length_push}
 use Rattle.zio_types.specs.declared.place.Place.{Place}
-use Rattle.zio_types.specs.Places.{end_of, is_inside, is_free, run_at, HasRun, uses_top, IsNextCopy, AreCopies}
+use Rattle.zio_types.specs.Places.{is_inside, run_at, HasRun, IsNextCopy, AreCopies}
 use Rattle.zio_types.specs.Choices.{no_place}
-use Rattle.zio_types.specs.Filled.{IsFilled, filled_to, length-take-filled}
-use Rattle.zio_places.specs.Flags.{best_run, AreAll}
-use Rattle.zio_places.specs.Tables.{TopState, top_at, sizes_of, Count, AreEven, HasFlags, IsFound, NoneHasRoom, NoFreshHasRoom}
+use Rattle.zio_types.specs.Filled.{IsFilled, length-take-filled}
+use Rattle.zio_places.specs.Flags.{best_run}
+use Rattle.zio_places.specs.Tables.{TopState, top_at, sizes_of, Count, AreEven, IsFound, NoneHasRoom}
 use Rattle.zio_places.proofs.FlagLemmas.{best_run-most}
 use Rattle.zio_places.proofs.CountLemmas.{is_free-from_flags, flags-from_is_free, inside-from_flags}
 
@@ -50,15 +50,14 @@ filled-push len used items p room h =
     let left : len - length xs ≡ suc (len - (used + 1)) = omega (arith, long) in
     let split : items ≡ xs ++ replicate (suc (len - (used + 1))) no_place = h.rest ∙ ap (λ m. xs ++ replicate m no_place) left in
     let written : set items used p ≡ (xs ++ p ∷ []) ++ replicate (len - (used + 1)) no_place =
-        ap (λ ys. set ys used p) split ∙ ap (λ k. set (xs ++ replicate (suc (len - (used + 1))) no_place) k p) (sym long) ∙ set-replicate xs (len - (used + 1)) p in
+    ap (λ ys. set ys used p) split ∙ ap (λ k. set (xs ++ replicate (suc (len - (used + 1))) no_place) k p) (sym long) ∙ set-replicate xs (len - (used + 1)) p in
     let longer : length (xs ++ p ∷ []) ≡ used + 1 = length_push xs p ∙ ap (λ n. n + 1) long in
-    let taken : take (used + 1) (set items used p) ≡ xs ++ p ∷ [] = ap (take (used + 1)) written ∙ take_at (xs ++ p ∷ []) (replicate (len - (used + 1)) no_place) (used + 1) longer in
-    (
+    let taken : take (used + 1) (set items used p) ≡ xs ++ p ∷ [] = ap (take (used + 1)) written ∙ take_at (xs ++ p ∷ []) (replicate (len - (used + 1)) no_place) (used + 1) longer in (
       record {
         fits = omega arith;
         rest =
-          written ∙ ap (λ m. (xs ++ p ∷ []) ++ replicate (len - m) no_place) (sym longer)
-          ∙ ap (λ ys. ys ++ replicate (len - length ys) no_place) (sym taken);
+            written ∙ ap (λ m. (xs ++ p ∷ []) ++ replicate (len - m) no_place) (sym longer)
+            ∙ ap (λ ys. ys ++ replicate (len - length ys) no_place) (sym taken);
       },
-      taken
+      taken,
     )

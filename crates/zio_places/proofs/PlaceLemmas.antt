@@ -1,10 +1,9 @@
 -- Lists of places by what they sum to, and whether a place is free beside them.
-use Rattle.std.proofs.Common.{◌≡◌, ℕ, zero, suc, ◌+◌, ◌-◌, ◌<◌, ◌≤◌, ◌≢◌, min, max, List, [], ◌∷◌, ◌++◌, length, get_or, refl, sym, ap, subst, ◌∙◌, arith, zero-add, add_assoc, add_comm}
-use Rattle.std.specs.Prelude.{Bool, true, false, ◌&&◌, not, ◌==◌, ◌⊎◌, ◌↔◌, nat_lt, nat_le, IsTrue, Contains}
+use Rattle.std.proofs.Common.{◌≡◌, ℕ, zero, suc, ◌+◌, ◌<◌, ◌≤◌, min, max, List, [], ◌∷◌, ◌++◌, refl, sym, ap, subst, ◌∙◌, arith, zero-add}
+use Rattle.std.specs.Prelude.{Bool, true, false, ◌&&◌, not, ◌==◌, ◌⊎◌, nat_lt, nat_le, Contains}
 use Rattle.std.proofs.Common.{inl, inr}
-use Rattle.std.specs.List.{list_all, list_any}
-use Rattle.std.proofs.lemmas.Bool.{eq-eqb, eqb-true, ltb-true, lt-ltb, le-leb, leb-true, and_parts, and_from, cases_Bool, cases_lt, false≢true, true≢false, both_ways, not-true, not_from_false, not_from_true, true_from_ne_false, false_from_ne_true, and_left, and_right}
-use Rattle.std.proofs.lemmas.List.Elements.{Contains-append_cases, Contains-append_left, Contains-append_right}
+use Rattle.std.proofs.lemmas.Bool.{eq-eqb, eqb-true, ltb-true, lt-ltb, le-leb, leb-true, and_parts, and_from, cases_Bool, false≢true, not-true, not_from_false, false_from_ne_true}
+use Rattle.std.proofs.lemmas.List.Elements.{Contains-append_cases, Contains-append_right}
 use Rattle.zio_types.specs.declared.place.Place.{Place}
 use Rattle.zio_types.specs.Places.{end_of, meets, is_free}
 use Rattle.zio_places.specs.Tables.{covers, one_if, total, cover_count}
@@ -73,9 +72,9 @@ meets-symmetric p q =
           on ∙ sym swapped
       | inr off ↦
           off ∙ sym (false_from_ne_true (meets q p) (λ on.
-            let c = meets-common q p on in
-            let back : meets p q ≡ true = meets-from p q c.sector (subst (λ t. covers p t c.sector ≡ true) (sym c.same_top) c.of_second) (subst (λ t. covers q t c.sector ≡ true) (sym c.same_top) c.of_first) in
-            false≢true (sym off ∙ back)))
+          let c = meets-common q p on in
+          let back : meets p q ≡ true = meets-from p q c.sector (subst (λ t. covers p t c.sector ≡ true) (sym c.same_top) c.of_second) (subst (λ t. covers q t c.sector ≡ true) (sym c.same_top) c.of_first) in
+          false≢true (sym off ∙ back)))
     ]
 
 -- a place is free where none of its sectors is counted
@@ -83,11 +82,11 @@ pub is_free-from_counts : (used : List Place) (p : Place) → ((sector : ℕ) �
 is_free-from_counts [] p h = refl
 is_free-from_counts (q ∷ used) p h =
     let apart : meets p q ≡ false = false_from_ne_true (meets p q) (λ on.
-      let c = meets-common p q on in
-      let mine : covers p p.top c.sector ≡ true = subst (λ t. covers p t c.sector ≡ true) (sym c.same_top) c.of_first in
-      let its : covers q p.top c.sector ≡ true = subst (λ t. covers q t c.sector ≡ true) (sym c.same_top) c.of_second in
-      let one : one_if (covers q p.top c.sector) ≡ 1 = ap one_if its in
-      absurd (omega (arith, h c.sector mine, one))) in
+    let c = meets-common p q on in
+    let mine : covers p p.top c.sector ≡ true = subst (λ t. covers p t c.sector ≡ true) (sym c.same_top) c.of_first in
+    let its : covers q p.top c.sector ≡ true = subst (λ t. covers q t c.sector ≡ true) (sym c.same_top) c.of_second in
+    let one : one_if (covers q p.top c.sector) ≡ 1 = ap one_if its in
+    absurd (omega (arith, h c.sector mine, one))) in
     and_from (not (meets p q)) (is_free used p) (not_from_false (meets p q) apart)
     (is_free-from_counts used p (λ sector mine. omega (arith, h sector mine)))
 
@@ -97,10 +96,10 @@ counts-from_is_free (q ∷ used) p sector h mine =
     let parts = and_parts (not (meets p q)) (is_free used p) h in
     let apart : meets p q ≡ false = not-true (meets p q) parts.0 in
     let none : covers q p.top sector ≡ false = false_from_ne_true (covers q p.top sector) (λ its.
-      let c = covers-parts q p.top sector its in
-      let back : covers p q.top sector ≡ true = subst (λ t. covers p t sector ≡ true) (sym c.top) mine in
-      let own : covers q q.top sector ≡ true = subst (λ t. covers q t sector ≡ true) (sym c.top) its in
-      false≢true (sym apart ∙ meets-from p q sector back own)) in
+    let c = covers-parts q p.top sector its in
+    let back : covers p q.top sector ≡ true = subst (λ t. covers p t sector ≡ true) (sym c.top) mine in
+    let own : covers q q.top sector ≡ true = subst (λ t. covers q t sector ≡ true) (sym c.top) its in
+    false≢true (sym apart ∙ meets-from p q sector back own)) in
     let zero_here : one_if (covers q p.top sector) ≡ 0 = ap one_if none in
     omega (arith, zero_here, counts-from_is_free used p sector parts.1 mine)
 

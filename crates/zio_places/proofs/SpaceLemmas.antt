@@ -1,21 +1,19 @@
 -- What is counted stays so over the calls of a space, and what callers learn from it.
-use Rattle.std.proofs.Common.{◌≡◌, ℕ, zero, suc, ◌+◌, ◌-◌, ◌*◌, ◌^◌, ◌<◌, ◌≤◌, ◌≢◌, List, [], ◌∷◌, ◌++◌, length, map, get_or, set, replicate, refl, sym, ap, subst, ◌∙◌, arith, zero-add, add-zero}
-use Rattle.std.specs.Prelude.{Bool, true, false, not, ◌⊎◌, ◌↔◌, All, Contains, IsTrue}
+use Rattle.std.proofs.Common.{◌≡◌, ℕ, zero, suc, ◌+◌, ◌-◌, ◌*◌, ◌^◌, ◌<◌, ◌≤◌, ◌≢◌, List, [], ◌∷◌, ◌++◌, length, map, get_or, replicate, refl, sym, ap, subst, ◌∙◌, arith}
+use Rattle.std.specs.Prelude.{Bool, true, false, not, ◌↔◌, All, Contains}
 use Rattle.std.proofs.Common.{inl, inr}
 use Rattle.std.specs.List.{list_all}
-use Rattle.std.proofs.lemmas.Bool.{and_from, false≢true, cases_Bool, false_from_ne_true}
-use Rattle.std.proofs.lemmas.List.{length-map, length-append, length_push, length-replicate, get_or-replicate, append-nil}
+use Rattle.std.proofs.lemmas.Bool.{and_from, false_from_ne_true}
+use Rattle.std.proofs.lemmas.List.{length-map, length_push, length-replicate}
 use Rattle.std.proofs.lemmas.List.Elements.{All-contains, All-push, Contains-append_cases}
 use Rattle.zio_types.specs.declared.place.Place.{Place}
-use Rattle.zio_types.specs.Places.{end_of, is_inside, is_free}
+use Rattle.zio_types.specs.Places.{is_inside, is_free}
 use Rattle.zio_types.specs.Choices.{Choice}
-use Rattle.zio_places.specs.Flags.{flag_at, AreAll}
-use Rattle.zio_places.specs.Spaces.{SpaceState, used, SamePlaces, are_inside, are_apart, IsSound}
+use Rattle.zio_places.specs.Spaces.{SamePlaces, are_inside, are_apart, IsSound}
 use Rattle.zio_places.specs.Counted.{IsCounted}
-use Rattle.zio_places.specs.Tables.{TopState, no_top, top_at, sizes_of, places_from, live_from, live_of, covers, one_if, total, cover_count, taken_in, taken_at, Count, AreEven, AreKept, HasFlags, GetUsed, AllGetUsed, GetLive, Hold}
-use Rattle.zio_places.proofs.PlaceLemmas.{total-append, one_if-le, covers-from, covers-parts, is_free-from_counts, total-contains, Contains-head, Contains-tail, Contains-nothing, contains-same, same_place, same_place-true, same_place-refl, place_count, place_count-contains, contains-place_count}
+use Rattle.zio_places.specs.Tables.{TopState, top_at, sizes_of, places_from, live_from, live_of, covers, one_if, total, cover_count, taken_in, taken_at, Count, AreEven, AreKept, AllGetUsed, GetLive, Hold}
+use Rattle.zio_places.proofs.PlaceLemmas.{total-append, one_if-le, covers-from, is_free-from_counts, total-contains, Contains-head, Contains-tail, contains-same, same_place, same_place-true, place_count-contains, contains-place_count}
 use Rattle.zio_places.proofs.TableLemmas.{live-length}
-use Rattle.zio_places.proofs.ChangeLemmas.{taken_in-free}
 use Rattle.zio_places.proofs.HoldLemmas.{taken-flags, live_of-same}
 use Rattle.zio_places.proofs.CountLemmas.{inside-from_flags}
 
@@ -45,9 +43,9 @@ pub inside-counted : (tops : List TopState) (pending : List Place) → Count (li
     are_inside (sizes_of tops) (live_of tops ++ pending) ≡ true
 inside-counted tops pending count even filled =
     list_all-from (is_inside (sizes_of tops)) (live_of tops ++ pending) (λ p there.
-      inside-from_flags tops p false even (taken-flags tops p (filled-used tops pending filled p there) (λ sector mine.
-        let one : one_if (covers p p.top sector) ≡ 1 = ap one_if mine in
-        omega (arith, one, count p.top sector, total-contains (λ q. one_if (covers q p.top sector)) (live_of tops ++ pending) p there))))
+    inside-from_flags tops p false even (taken-flags tops p (filled-used tops pending filled p there) (λ sector mine.
+    let one : one_if (covers p p.top sector) ≡ 1 = ap one_if mine in
+    omega (arith, one, count p.top sector, total-contains (λ q. one_if (covers q p.top sector)) (live_of tops ++ pending) p there))))
 
 pub apart-counted : (tops : List TopState) (pending : List Place) → Count (live_of tops ++ pending) tops → are_apart (live_of tops ++ pending) ≡ true
 apart-counted tops pending count = apart-from_counts (live_of tops ++ pending) (λ top sector. omega (arith, count top sector, taken_at-le tops top sector))
@@ -83,7 +81,7 @@ counted-held old new places pending live spare pending_room entries entries_room
   few = omega (arith, c.few, same_tops old new h.sizes);
   even = h.even c.even;
   count = λ top sector.
-    omega (arith, c.count top sector, h.taken top sector, h.live (λ p. one_if (covers p top sector)), total-append (λ p. one_if (covers p top sector)) (live_of old) pending, total-append (λ p. one_if (covers p top sector)) (live_of new) pending);
+      omega (arith, c.count top sector, h.taken top sector, h.live (λ p. one_if (covers p top sector)), total-append (λ p. one_if (covers p top sector)) (live_of old) pending, total-append (λ p. one_if (covers p top sector)) (live_of new) pending);
   filled = c.filled;
   live_count = omega (arith, e, c.live_count, h.live (λ p. 1), total-ones (live_of old), total-ones (live_of new), total-ones places);
   pending_fit = room;
@@ -100,11 +98,16 @@ counted-given_back old new p pending live spare pending_room entries entries_roo
       few = omega (arith, c.few, same_tops old new (sym h.sizes));
       even = λ top. sym (ap length (h.free top)) ∙ c.even top ∙ h.lens top;
       count = λ top sector.
-        let same : taken_at old top sector ≡ taken_at new top sector = ap (λ fs. taken_in fs sector) (h.free top) in
-        omega (arith, same, c.count top sector, h.live (λ q. one_if (covers q top sector)),
-          total-append (λ q. one_if (covers q top sector)) (live_of old) pending,
-          total-append (λ q. one_if (covers q top sector)) (live_of new) (pending ++ p ∷ []),
-          total-append (λ q. one_if (covers q top sector)) pending (p ∷ []));
+          let same : taken_at old top sector ≡ taken_at new top sector = ap (λ fs. taken_in fs sector) (h.free top) in
+          omega (
+            arith,
+            same,
+            c.count top sector,
+            h.live (λ q. one_if (covers q top sector)),
+            total-append (λ q. one_if (covers q top sector)) (live_of old) pending,
+            total-append (λ q. one_if (covers q top sector)) (live_of new) (pending ++ p ∷ []),
+            total-append (λ q. one_if (covers q top sector)) pending (p ∷ []),
+          );
       filled = All-push (λ (q : Place). 0 < q.sectors) pending p c.filled filled;
       live_count = omega (arith, e, c.live_count, fewer);
       pending_fit = omega (arith, c.pending_fit, e, c.live_count, fewer, length_push pending p);
@@ -113,21 +116,19 @@ counted-given_back old new p pending live spare pending_room entries entries_roo
 
 -- the place itself is live no more, and all others are
 pub given_back-live : (old new : List TopState) (p : Place) → AreKept old → GetLive new old p → 0 < p.sectors → (q : Place) → Contains (live_of new) q ↔ (Contains (live_of old) q × (q ≢ p))
-given_back-live old new p kept h filled q =
-    (
-      (λ there.
-        (
-          contains-place_count q (live_of old) (omega (arith, h.live (λ r. one_if (same_place q r)), place_count-contains q (live_of new) there)),
-          (λ same.
-            let f : Place → ℕ = λ r. one_if (covers r p.top p.sector) in
-            let one : f p ≡ 1 = ap one_if (covers-from p p.top p.sector refl (omega arith) (omega arith)) in
-            let also : f q ≡ 1 = ap f same ∙ one in
-            absurd (omega (arith, h.live f, one, also, total-contains f (live_of new) q there, kept.covered p.top p.sector, taken_at-le old p.top p.sector)))
-        )),
-      (λ there.
-        let other : one_if (same_place q p) ≡ 0 = ap one_if (false_from_ne_true (same_place q p) (λ on. there.1 (same_place-true q p on))) in
-        contains-place_count q (live_of new) (omega (arith, h.live (λ r. one_if (same_place q r)), other, place_count-contains q (live_of old) there.0)))
-    )
+given_back-live old new p kept h filled q = (
+  (λ there. (
+    contains-place_count q (live_of old) (omega (arith, h.live (λ r. one_if (same_place q r)), place_count-contains q (live_of new) there)),
+    (λ same.
+        let f : Place → ℕ = λ r. one_if (covers r p.top p.sector) in
+        let one : f p ≡ 1 = ap one_if (covers-from p p.top p.sector refl (omega arith) (omega arith)) in
+        let also : f q ≡ 1 = ap f same ∙ one in
+        absurd (omega (arith, h.live f, one, also, total-contains f (live_of new) q there, kept.covered p.top p.sector, taken_at-le old p.top p.sector))),
+  )),
+  (λ there.
+      let other : one_if (same_place q p) ≡ 0 = ap one_if (false_from_ne_true (same_place q p) (λ on. there.1 (same_place-true q p on))) in
+      contains-place_count q (live_of new) (omega (arith, h.live (λ r. one_if (same_place q r)), other, place_count-contains q (live_of old) there.0))),
+)
 
 -- ---- the round ends
 pub counted-closed : (old new : List TopState) (pending : List Place) (live spare pending_room entries entries_room : ℕ) → AllGetUsed new old pending →
@@ -138,8 +139,14 @@ counted-closed old new pending live spare pending_room entries entries_room h c 
       few = omega (arith, c.few, same_tops old new (sym h.sizes));
       even = h.even_back c.even;
       count = λ top sector.
-        omega (arith, c.count top sector, h.taken top sector, ap (λ ps. cover_count ps top sector) same,
-          total-append (λ p. one_if (covers p top sector)) (live_of old) pending, total-append (λ p. one_if (covers p top sector)) (live_of new) []);
+          omega (
+            arith,
+            c.count top sector,
+            h.taken top sector,
+            ap (λ ps. cover_count ps top sector) same,
+            total-append (λ p. one_if (covers p top sector)) (live_of old) pending,
+            total-append (λ p. one_if (covers p top sector)) (live_of new) [],
+          );
       filled = λ k d l. absurd (omega arith);
       live_count = c.live_count ∙ ap length (sym same);
       pending_fit = omega (arith, c.pending_fit);

@@ -1,15 +1,12 @@
 -- What the tables say after a change of one top, and which live places they hold.
-use Rattle.std.proofs.Common.{◌≡◌, ℕ, zero, suc, ◌+◌, ◌-◌, ◌<◌, ◌≤◌, ◌≢◌, List, [], ◌∷◌, ◌++◌, length, map, get_or, set, refl, sym, ap, subst, ◌∙◌, arith, zero-add, add-zero}
-use Rattle.std.specs.Prelude.{Bool, true, false, not, ◌⊎◌, Contains}
+use Rattle.std.proofs.Common.{◌≡◌, ℕ, zero, suc, ◌+◌, ◌-◌, ◌<◌, ◌≤◌, List, [], ◌∷◌, length, get_or, set, refl, sym, ap, subst, ◌∙◌, arith, zero-add}
+use Rattle.std.specs.Prelude.{Contains}
 use Rattle.std.proofs.Common.{inl, inr}
-use Rattle.std.proofs.lemmas.Bool.{cases_Bool, cases_lt, cases_eq, false≢true, true≢false, false_from_ne_true, not_from_false, not_from_true}
-use Rattle.std.proofs.lemmas.List.{get_or-set_same, get_or-set_other, get_or_past, get_or_default, length-set, length-map, ext_get_or}
+use Rattle.std.proofs.lemmas.Bool.{cases_eq}
 use Rattle.std.proofs.lemmas.List.Elements.{Contains-append_cases, Contains-append_left, Contains-append_right}
 use Rattle.zio_types.specs.declared.place.Place.{Place}
-use Rattle.zio_types.specs.Places.{end_of}
-use Rattle.zio_places.specs.Flags.{flag_at, AreAll, GetFlag}
-use Rattle.zio_places.specs.Tables.{TopState, no_top, top_at, sizes_of, places_here, places_from, live_from, live_of, covers, one_if, total, cover_count, taken_in, taken_at, length_at, Count, AreEven, AreKept, HasFlags, GetUsed, GetLive, Hold}
-use Rattle.zio_places.proofs.PlaceLemmas.{total-append, one_if-true, one_if-le, covers-from, Covered, covers-parts, total-contains, Contains-nothing, Contains-head, Contains-cases, place_from, contains-same, place_count, place_count-contains, contains-place_count}
+use Rattle.zio_places.specs.Tables.{TopState, top_at, places_here, places_from, live_from, live_of, total, length_at}
+use Rattle.zio_places.proofs.PlaceLemmas.{total-append, Contains-nothing, Contains-head, Contains-cases, place_from}
 
 -- ---- sums over the live places, after a change of a length
 total_set_length : (f : Place → ℕ) (top sector at : ℕ) (lens : List ℕ) (k n : ℕ) → k < length lens → sector + k ≡ at →
@@ -88,7 +85,7 @@ contains-places_from top sector (n ∷ lens) p h =
           let next : p.sector - sector ≡ suc (p.sector - (sector + 1)) = omega (arith, h.from, other) in
           Contains-append_right (places_here top sector n) (places_from top (sector + 1) lens) p
           (contains-places_from top (sector + 1) lens p
-            (record { on = h.on; from = omega (arith, h.from, other); filled = h.filled; size = sym (ap (λ k. get_or (n ∷ lens) k 0) next) ∙ h.size }))
+          (record { on = h.on; from = omega (arith, h.from, other); filled = h.filled; size = sym (ap (λ k. get_or (n ∷ lens) k 0) next) ∙ h.size }))
     ]
 
 pub record IsLive (top : ℕ) (tops : List TopState) (p : Place) : Type 0 where
@@ -125,7 +122,7 @@ contains-live_from top (t ∷ tops) p h =
           let next : p.top - top ≡ suc (p.top - (top + 1)) = omega (arith, h.from, other) in
           Contains-append_right (places_from top 0 t.lens) (live_from (top + 1) tops) p
           (contains-live_from (top + 1) tops p
-            (record { from = omega (arith, h.from, other); filled = h.filled; size = sym (ap (λ k. get_or (top_at (t ∷ tops) k).lens p.sector 0) next) ∙ h.size }))
+          (record { from = omega (arith, h.from, other); filled = h.filled; size = sym (ap (λ k. get_or (top_at (t ∷ tops) k).lens p.sector 0) next) ∙ h.size }))
     ]
 
 -- a place is live exactly where the table has its length at its first sector

@@ -1,16 +1,15 @@
 -- Bits of a word as flags.
-use Rattle.std.proofs.Common.{◌≡◌, ℕ, ◌+◌, ◌-◌, ◌^◌, ◌<◌, ◌≤◌, suc, zero, min, max, List, length, map, get_or, replicate, refl, sym, ap, ◌∙◌, arith, zero-add, w64}
+use Rattle.std.proofs.Common.{◌≡◌, ℕ, ◌+◌, ◌-◌, ◌^◌, ◌<◌, ◌≤◌, max, List, length, replicate, sym, ap, ◌∙◌, arith, zero-add, w64}
 use Rattle.std.specs.Prelude.{Bool, true, false, ◌==◌, ◌⊎◌, bit_and, bit_or}
 use Rattle.std.specs.Int.{bit_at}
-use Rattle.std.specs.List.{range_with_len}
 use Rattle.std.proofs.lemmas.Bool.{cases_lt}
 use Rattle.std.proofs.Common.{inl, inr}
 use Rattle.std.proofs.lemmas.List.{ext_get_or, get_or-replicate, length-replicate, get_or_past}
 use Rattle.std.proofs.lemmas.List.FromFn.{length-map-range_with_len, get_or-map-range_with_len}
-use Rattle.std.proofs.lemmas.Nat.Bits.{bit_at_ones, bit_at_ones_above, bit_at_or, bit_at_and, bit_at_not, bit_at-lt, bit_at_mask_inside, bit_at_mask_below, bit_at_mask_above}
+use Rattle.std.proofs.lemmas.Nat.Bits.{bit_at_ones, bit_at_or, bit_at_and, bit_at_not, bit_at-lt, bit_at_mask_inside, bit_at_mask_below, bit_at_mask_above}
 use Rattle.std.proofs.lemmas.Nat.{pow_pos}
 use Rattle.std.proofs.Math.Pow.{pow_mono}
-use Rattle.zio_places.specs.Flags.{flag_at, AreAll, GetFlag}
+use Rattle.zio_places.specs.Flags.{flag_at, GetFlag}
 use Rattle.zio_places.specs.Words.{flags_of}
 
 pub length-flags_of : (bits len : ℕ) → length (flags_of bits len) ≡ len

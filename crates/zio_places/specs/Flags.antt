@@ -1,6 +1,6 @@
 -- Lists of flags, true for a free sector, and what is kept of one so that a run of free sectors is found without
 -- reading them.
-use Rattle.std.specs.Prelude.{◌≡◌, ℕ, ◌+◌, ◌<◌, ◌≤◌, max, List, [], ◌∷◌, ◌++◌, length, reverse, Bool, true, false, ◌==◌}
+use Rattle.std.specs.Prelude.{◌≡◌, ℕ, ◌+◌, ◌<◌, ◌≤◌, max, List, [], ◌∷◌, length, reverse, Bool, true, false, ◌==◌}
 use Rattle.std.specs.List.{slice_index_or}
 use Rattle.zio_places.specs.declared.summary.Summary.{Summary}
 

@@ -1,5 +1,5 @@
 -- The flags of a node of the tree, and what holds of it.
-use Rattle.std.specs.Prelude.{◌≡◌, ℕ, ◌+◌, ◌^◌, ◌<◌, ◌≤◌, List, ◌++◌, length, Bool}
+use Rattle.std.specs.Prelude.{◌≡◌, ◌+◌, ◌^◌, ◌<◌, ◌≤◌, List, ◌++◌, length, Bool}
 use Rattle.zio_places.specs.declared.summary.Summary.{Summary}
 use Rattle.zio_places.specs.declared.runs.Node.{Node}
 use Rattle.zio_places.specs.declared.runs.Node.TheVariants.{Leaf, Fork}

@@ -1,5 +1,5 @@
 -- What a contract sees of the space, and the words of its calls.
-use Rattle.std.specs.Prelude.{◌≡◌, ℕ, ◌<◌, List, [], ◌∷◌, ◌++◌, ◌↔◌, Bool, true, false, ◌&&◌, cond, IsTrue, All, AllPairs, Contains}
+use Rattle.std.specs.Prelude.{◌≡◌, ℕ, List, [], ◌∷◌, ◌++◌, ◌↔◌, Bool, true, ◌&&◌, cond, Contains}
 use Rattle.std.specs.List.{list_all}
 use Rattle.zio_types.specs.declared.place.Place.{Place}
 use Rattle.zio_types.specs.Places.{is_inside, is_free}

@@ -1,5 +1,5 @@
 -- The tables of the tops, by sector: which sectors are free, and the length of the live place that begins there.
-use Rattle.std.specs.Prelude.{◌≡◌, ℕ, zero, suc, ◌+◌, ◌<◌, ◌≤◌, List, [], ◌∷◌, ◌++◌, length, map, slice_index, Bool, true, false, ◌&&◌, not, Option, Some, None, MatchOption, ◌==◌, nat_lt, nat_le}
+use Rattle.std.specs.Prelude.{◌≡◌, ℕ, zero, suc, ◌+◌, ◌<◌, ◌≤◌, List, [], ◌∷◌, ◌++◌, length, map, slice_index, Bool, true, false, ◌&&◌, not, ◌==◌, nat_lt, nat_le}
 use Rattle.std.specs.List.{slice_index_or}
 use Rattle.zio_types.specs.declared.place.Place.{Place}
 use Rattle.zio_types.specs.Places.{end_of, uses_top}

@@ -10,3 +10,6 @@ mod tops;
 mod word;
 
 pub use space::{ClaimFault, Space};
+
+#[cfg(test)]
+mod tests;

@@ -47,30 +47,24 @@ impl Model for Space {
     ghost use Rattle.zio_places.specs.Tables.{sizes_of, live_of};
     ghost use Rattle.zio_places.specs.Counted.{IsCounted};
 
-    ghost view = {
-        λ s. record {
-            sizes = sizes_of s.tops.items;
-            live = live_of s.tops.items;
-            pending = s.pending.items;
-            entries = s.entries.items;
-            spare = s.spare
-        }
-    };
+    ghost view = { λ s. record {
+      sizes = sizes_of s.tops.items;
+      live = live_of s.tops.items;
+      pending = s.pending.items;
+      entries = s.entries.items;
+      spare = s.spare;
+    } };
 
-    ghost invariant = {
-        λ s. IsCounted s.tops.items s.pending.items s.live s.spare
-            (vec_capacity s.pending) (vec_len s.entries) (vec_capacity s.entries)
-    };
+    ghost invariant = { λ s. IsCounted s.tops.items s.pending.items s.live s.spare
+        (vec_capacity s.pending) (vec_len s.entries) (vec_capacity s.entries) };
 }
 
 impl Space {
     /// A top for each number of sectors, all of it free.
     pub fn new(alloc: Global, sectors: &[u64]) -> Result<Space, NoMemory>
         requires { length sectors.now < 2 ^ 32 }
-        ensures {
-            IfOk result (λ s. s ≡
-                record { sizes = sectors.now; live = []; pending = []; entries = []; spare = 0 })
-        }
+        ensures { IfOk result (λ s. s ≡
+            record { sizes = sectors.now; live = []; pending = []; entries = []; spare = 0 }) }
     {
         let mut tops = Vec::new(alloc);
         for count in sectors {
@@ -95,8 +89,7 @@ impl Space {
         if n <= self.spare {
             return Ok(());
         }
-        self.pending
-            .reserve(self.live + COPIES_MAX * n as usize)?;
+        self.pending.reserve(self.live + COPIES_MAX * n as usize)?;
         self.entries.reserve(n as usize)?;
         self.spare = n;
         Ok(())
@@ -162,17 +155,11 @@ impl Space {
     /// where there is no memory to give them all back.
     pub fn claim(&mut self, places: &[Place]) -> Result<(), ClaimFault>
         ensures ok { OnOk result (SamePlaces self.new.live (places.now ++ self.old.live)) }
-        ensures same {
-            OnOk result (self.new ≡ record self.old { live = self.new.live })
-        }
-        ensures outside {
-            (result ≡ Err ClaimFault.Outside) ↔ (are_inside self.old.sizes places.now ≡ false)
-        }
-        ensures taken {
-            (result ≡ Err ClaimFault.Taken) ↔
-                ((are_inside self.old.sizes places.now ≡ true)
-                    × (are_open (used self.old) places.now ≡ false))
-        }
+        ensures same { OnOk result (self.new ≡ record self.old { live = self.new.live }) }
+        ensures outside { (result ≡ Err ClaimFault.Outside) ↔ (are_inside self.old.sizes places.now ≡ false) }
+        ensures taken { (result ≡ Err ClaimFault.Taken) ↔
+            ((are_inside self.old.sizes places.now ≡ true)
+            × (are_open (used self.old) places.now ≡ false)) }
         ensures err { OnErr result (self.new ≡ self.old) }
         ensures sound { IsSound self.new }
     {

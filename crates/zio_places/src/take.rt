@@ -59,7 +59,11 @@ pub fn taken_count(entry: &Entry) -> u32
     ensures count { result ≡ length (taken_by entry.now) }
     ensures most { result ≤ 3 }
 {
-    if entry.found < entry.copies { 0 } else { entry.found }
+    if entry.found < entry.copies {
+        0
+    } else {
+        entry.found
+    }
 }
 
 pub fn copy_of(entry: &Entry) -> Entry

@@ -138,7 +138,11 @@ fn find_fresh(tops: &[Table], earlier: &[Place], sectors: u32) -> Option<Place>
             continue;
         }
         if let Some(sector) = table.first_run(sectors) {
-            return Some(Place { top, sector, sectors });
+            return Some(Place {
+                top,
+                sector,
+                sectors,
+            });
         }
     }
     None

@@ -1,9 +1,8 @@
-use Rattle.std.proofs.Common.{◌≡◌, ◌+◌, ◌/◌, ◌∷◌, ◌++◌, [], List, length, set, take, sym, ap, subst, ◌∙◌, arith}
-use Rattle.zio_types.specs.declared.place.Place.{Place}
+use Rattle.std.proofs.Common.{◌/◌, ◌∷◌, [], take, sym, subst, arith}
 use Rattle.zio_types.specs.Choices.{no_place}
 use Rattle.zio_types.specs.Places.{AreCopies}
 use Rattle.zio_types.specs.Filled.{length-take-filled}
-use Rattle.zio_places.specs.Tables.{Count, Hold, sizes_of}
+use Rattle.zio_places.specs.Tables.{Hold, sizes_of}
 use Rattle.zio_places.proofs.HoldLemmas.{Hold-then}
 use Rattle.zio_places.proofs.CountLemmas.{Count-hold}
 use Rattle.zio_places.proofs.LawLemmas.{found-next, none-refused, AreCopies-push, filled-push}
@@ -30,7 +29,7 @@ loop-found-preserved c =
       filled = more.0;
       held = subst (λ ps. Hold c.args.tops.now c.hold.new.tops ps) (sym more.1) (Hold-then c.args.tops.now c.loop-found.tops c.hold.new.tops places (p ∷ []) i.held c.hold.ensures);
       lawful = λ used count.
-        subst (λ ps. AreCopies (sizes_of c.args.tops.now) used (c.args.size / 512) [] ps) (sym more.1)
-        (AreCopies-push (sizes_of c.args.tops.now) used (c.args.size / 512) [] places p (i.lawful used count)
+          subst (λ ps. AreCopies (sizes_of c.args.tops.now) used (c.args.size / 512) [] ps) (sym more.1)
+          (AreCopies-push (sizes_of c.args.tops.now) used (c.args.size / 512) [] places p (i.lawful used count)
           (found-next used places (sizes_of c.args.tops.now) c.loop-found.tops (c.args.size / 512) p i.held.sizes (Count-hold used c.args.tops.now c.loop-found.tops places count i.held) (i.held.even c.requires.kept.even) c.in-Some.ensures));
     }

@@ -1,7 +1,7 @@
-use Rattle.std.proofs.Common.{◌≡◌, ap, subst, ◌∙◌}
+use Rattle.std.proofs.Common.{ap, subst, ◌∙◌}
 use Rattle.std.specs.Prelude.{true, false}
 use Rattle.zio_places.specs.Flags.{GetFlag}
-use Rattle.zio_places.specs.Tables.{TopState, top_at}
+use Rattle.zio_places.specs.Tables.{TopState}
 use Rattle.zio_places.proofs.ChangeLemmas.{HasFlags-top, GetUsed-cleared}
 use Rattle.zio_places.proofs.HoldLemmas.{top_read}
 use Rattle.zio_places.proofs.tops.clear.Goals as goal

@@ -1,4 +1,4 @@
-use Rattle.std.proofs.Common.{◌≡◌, set, ap, ◌∙◌}
+use Rattle.std.proofs.Common.{set, ap, ◌∙◌}
 use Rattle.zio_places.specs.Tables.{TopState}
 use Rattle.zio_places.proofs.ChangeLemmas.{GetLive-entered, inside-length}
 use Rattle.zio_places.proofs.HoldLemmas.{top_read}

@@ -1,4 +1,4 @@
-use Rattle.std.proofs.Common.{◌≡◌, get_or, ap, ◌∙◌}
+use Rattle.std.proofs.Common.{get_or, ap, ◌∙◌}
 use Rattle.zio_places.proofs.HoldLemmas.{free-unheld, Hold-one}
 use Rattle.zio_places.proofs.tops.hold.Goals as goal
 

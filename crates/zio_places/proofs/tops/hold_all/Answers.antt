@@ -1,13 +1,12 @@
-use Rattle.std.proofs.Common.{◌≡◌, ◌+◌, ◌∷◌, ◌++◌, [], List, get_or, take, drop, sym, ap, subst, ◌∙◌}
-use Rattle.std.specs.Prelude.{true, false}
+use Rattle.std.proofs.Common.{◌≡◌, ◌+◌, ◌∷◌, ◌++◌, [], get_or, take, drop, sym, ap, subst, ◌∙◌}
+use Rattle.std.specs.Prelude.{true}
 use Rattle.std.proofs.Common.{inl, inr}
 use Rattle.std.proofs.lemmas.Bool.{cases_Bool, false≢true}
 use Rattle.std.proofs.lemmas.List.{take_more}
-use Rattle.zio_types.specs.declared.place.Place.{Place}
 use Rattle.zio_types.specs.Choices.{no_place}
 use Rattle.zio_types.specs.Places.{is_inside}
 use Rattle.zio_places.specs.Spaces.{are_open}
-use Rattle.zio_places.specs.Tables.{Count, Hold, sizes_of}
+use Rattle.zio_places.specs.Tables.{Hold, sizes_of}
 use Rattle.zio_places.proofs.HoldLemmas.{Hold-then}
 use Rattle.zio_places.proofs.CountLemmas.{places-at, list_all-at, are_open-front, are_open-push, Count-hold, flags-from_is_free, is_free-from_flags}
 use Rattle.zio_places.proofs.tops.hold_all.Goals as goal
@@ -36,10 +35,10 @@ loop-i-preserved c =
     let more = take_more places i no_place c.loop-i-test.true in
     record {
       held =
-        subst (λ ps. Hold c.args.tops.now c.hold.new.tops ps) (sym more)
-        (Hold-then c.args.tops.now c.loop-i.tops c.hold.new.tops (take i places) (p ∷ []) held c.hold.ensures);
+          subst (λ ps. Hold c.args.tops.now c.hold.new.tops ps) (sym more)
+          (Hold-then c.args.tops.now c.loop-i.tops c.hold.new.tops (take i places) (p ∷ []) held c.hold.ensures);
       open_so_far = λ used count.
-        ap (are_open used) more
-        ∙ are_open-push used (take i places) p (c.loop-i.invariant.open_so_far used count)
+          ap (are_open used) more
+          ∙ are_open-push used (take i places) p (c.loop-i.invariant.open_so_far used count)
           (is_free-from_flags (take i places ++ used) c.loop-i.tops p (Count-hold used c.args.tops.now c.loop-i.tops (take i places) count held) (c.is_open.ensures.0 c.if-not-is_open.false));
     }

@@ -1,4 +1,4 @@
-use Rattle.std.proofs.Common.{◌≡◌, set, ap, ◌∙◌, arith}
+use Rattle.std.proofs.Common.{set, ap, ◌∙◌, arith}
 use Rattle.zio_places.specs.Tables.{TopState}
 use Rattle.zio_places.proofs.ChangeLemmas.{GetLive-removed, inside-length, length-inside}
 use Rattle.zio_places.proofs.HoldLemmas.{top_read}

@@ -1,7 +1,7 @@
-use Rattle.std.proofs.Common.{◌≡◌, ◌+◌, ◌-◌, ◌<◌, ◌≤◌, length, refl, sym, ap, subst, ◌∙◌, arith, rules}
+use Rattle.std.proofs.Common.{◌≡◌, ◌≤◌, length, ap, arith, rules}
 use Rattle.std.specs.Prelude.{true}
 use Rattle.zio_places.specs.declared.summary.Summary.{Summary}
-use Rattle.zio_places.specs.Flags.{summary_of, best_run, back_run, front_run, AreAll}
+use Rattle.zio_places.specs.Flags.{summary_of, best_run, back_run, front_run}
 use Rattle.zio_places.proofs.FlagLemmas.{front_run-le, back_run-le, best_run-le}
 use Rattle.zio_places.proofs.ForkLemmas.{at_Fork, at_Leaf, AreAll-over, AreAll-right, best_run-right}
 use Rattle.zio_places.proofs.runs.Runs.+first_run.Goals as goal

@@ -1,10 +1,9 @@
-use Rattle.std.proofs.Common.{◌≡◌, ◌+◌, ◌-◌, ◌<◌, ◌≤◌, ◌^◌, length, refl, sym, ap, subst, ◌∙◌, arith}
+use Rattle.std.proofs.Common.{◌≡◌, length, sym, ap, subst, ◌∙◌, arith}
 use Rattle.std.proofs.Common.{Box}
 use Rattle.std.specs.declared.alloc.Global.{Global}
 use Rattle.zio_places.specs.declared.runs.Runs.{Runs}
 use Rattle.zio_places.specs.declared.summary.Summary.{Summary}
 use Rattle.zio_places.specs.Flags.{summary_of, GetFlag}
-use Rattle.zio_places.specs.Runs.{IsFork, IsLeaf}
 use Rattle.zio_places.proofs.FlagLemmas.{front_run-le, back_run-le}
 use Rattle.zio_places.proofs.ForkLemmas.{at_Fork, at_Leaf, left_changes, right_changes, both_change, IsFork-changed}
 use Rattle.zio_places.proofs.runs.Runs.+set_flag.Goals as goal

@@ -1,12 +1,10 @@
-use Rattle.std.proofs.Common.{◌≡◌, ◌+◌, ◌*◌, ◌≤◌, ◌++◌, [], List, length, refl, sym, ap, subst, ◌∙◌, arith}
-use Rattle.std.specs.Prelude.{true, false}
+use Rattle.std.proofs.Common.{◌≡◌, ◌++◌, [], List, refl, sym, ap, subst, ◌∙◌, arith}
 use Rattle.std.specs.Vec.{with_items}
 use Rattle.std.proofs.lemmas.Bool.{false≢true}
 use Rattle.std.proofs.lemmas.List.{with_items_is}
 use Rattle.zio_types.specs.declared.place.Place.{Place}
-use Rattle.zio_places.specs.Counted.{IsCounted}
-use Rattle.zio_places.specs.Spaces.{SpaceState, used, SamePlaces, are_inside, are_open, IsSound}
-use Rattle.zio_places.specs.Tables.{TopState, sizes_of, live_of, Count, AreKept, Hold}
+use Rattle.zio_places.specs.Spaces.{SpaceState, SamePlaces, are_inside, IsSound}
+use Rattle.zio_places.specs.Tables.{TopState, sizes_of, live_of, AreKept, Hold}
 use Rattle.zio_places.proofs.HoldLemmas.{AreKept-hold, Hold-same, live_of-unchanged}
 use Rattle.zio_places.proofs.SpaceLemmas.{AreKept-counted, counted-held, sound-counted, SamePlaces-held}
 use Rattle.zio_places.proofs.space.Space.claim.Goals as goal
@@ -18,10 +16,9 @@ released old new at final {between} places held first second back = Hold-same ol
 pub returns-then-not-all_inside-clause-taken : goal.returns-then-not-all_inside-clause-taken
 returns-then-not-all_inside-clause-taken c =
     let inside : c.all_inside.result ≡ are_inside c.args.self.now.sizes c.args.places.now =
-          c.all_inside.ensures ∙ ap (λ ts. are_inside (sizes_of ts) c.args.places.now) c.deref.ensures.value ∙ ap (λ (st : SpaceState). are_inside st.sizes c.args.places.now) c.self.view_is in
-    (
+    c.all_inside.ensures ∙ ap (λ ts. are_inside (sizes_of ts) c.args.places.now) c.deref.ensures.value ∙ ap (λ (st : SpaceState). are_inside st.sizes c.args.places.now) c.self.view_is in (
       (λ e. absurd (cc)),
-      (λ h. absurd (false≢true (sym c.if-not-all_inside.true ∙ inside ∙ h.0)))
+      (λ h. absurd (false≢true (sym c.if-not-all_inside.true ∙ inside ∙ h.0))),
     )
 
 pub returns-then-not-all_inside-clause-sound : goal.returns-then-not-all_inside-clause-sound
@@ -37,15 +34,14 @@ invariant_of-self c =
     let same = subst (λ ts. Hold ts c.hold_all.new.tops []) c.deref_mut.ensures.value (c.if-not-hold_all.ensures.unchanged refl) in
     rw written
     (counted-held c.self.inside.tops.items c.hold_all.new.tops [] c.self.inside.pending.items c.self.inside.live c.self.inside.spare _ _ _ _ _ _ _ same c.self.invariant
-      (omega arith) (omega (arith, c.self.invariant.pending_fit)) c.self.invariant.entries_fit)
+    (omega arith) (omega (arith, c.self.invariant.pending_fit)) c.self.invariant.entries_fit)
 
 pub returns-then-not-hold_all-clause-outside : goal.returns-then-not-hold_all-clause-outside
 returns-then-not-hold_all-clause-outside c =
     let inside : c.all_inside.result ≡ are_inside c.args.self.now.sizes c.args.places.now =
-          c.all_inside.ensures ∙ ap (λ ts. are_inside (sizes_of ts) c.args.places.now) c.deref.ensures.value ∙ ap (λ (st : SpaceState). are_inside st.sizes c.args.places.now) c.self.view_is in
-    (
+    c.all_inside.ensures ∙ ap (λ ts. are_inside (sizes_of ts) c.args.places.now) c.deref.ensures.value ∙ ap (λ (st : SpaceState). are_inside st.sizes c.args.places.now) c.self.view_is in (
       (λ e. absurd (cc)),
-      (λ h. absurd (false≢true (sym h ∙ sym inside ∙ c.if-not-all_inside.false)))
+      (λ h. absurd (false≢true (sym h ∙ sym inside ∙ c.if-not-all_inside.false))),
     )
 
 pub returns-then-not-hold_all-clause-err : goal.returns-then-not-hold_all-clause-err
@@ -66,7 +62,7 @@ invariant_of-self-in-Ok c =
     let held = subst (λ ts. Hold ts c.hold_all.new.tops c.args.places.now) c.deref_mut.ensures.value (c.if-not-hold_all.ensures.held refl) in
     rw (written, c.reserve.ensures.items)
     (counted-held c.self.inside.tops.items c.hold_all.new.tops c.args.places.now c.self.inside.pending.items c.self.inside.live c.self.inside.spare _ _ _ _ _ _ _ held c.self.invariant
-      refl (omega (arith, c.in-Ok.ensures.ok, c.reserve.ensures.len, c.self.inside.pending.ok.0)) c.self.invariant.entries_fit)
+    refl (omega (arith, c.in-Ok.ensures.ok, c.reserve.ensures.len, c.self.inside.pending.ok.0)) c.self.invariant.entries_fit)
 
 pub release_all-requires-clause-kept : goal.release_all-requires-clause-kept
 release_all-requires-clause-kept c =
@@ -83,7 +79,7 @@ invariant_of-self-in-Err c =
     let written : (with_items (with_items c.self.inside.tops c.hold_all.new.tops) c.release_all.new.tops).items ≡ c.release_all.new.tops = with_items_is (with_items c.self.inside.tops c.hold_all.new.tops) c.release_all.new.tops (omega arith) in
     rw (written, c.reserve.ensures.items)
     (counted-held c.self.inside.tops.items c.release_all.new.tops [] c.self.inside.pending.items c.self.inside.live c.self.inside.spare _ _ _ _ _ _ _ same c.self.invariant
-      (omega arith) (omega (arith, c.self.invariant.pending_fit, c.reserve.ensures.capacity)) c.self.invariant.entries_fit)
+    (omega arith) (omega (arith, c.self.invariant.pending_fit, c.reserve.ensures.capacity)) c.self.invariant.entries_fit)
 
 pub returns-in-Ok-clause-ok : goal.returns-in-Ok-clause-ok
 returns-in-Ok-clause-ok c =
@@ -96,10 +92,9 @@ returns-in-Ok-clause-ok c =
 pub returns-in-Ok-clause-outside : goal.returns-in-Ok-clause-outside
 returns-in-Ok-clause-outside c =
     let inside : c.all_inside.result ≡ are_inside c.args.self.now.sizes c.args.places.now =
-          c.all_inside.ensures ∙ ap (λ ts. are_inside (sizes_of ts) c.args.places.now) c.deref.ensures.value ∙ ap (λ (st : SpaceState). are_inside st.sizes c.args.places.now) c.self.view_is in
-    (
+    c.all_inside.ensures ∙ ap (λ ts. are_inside (sizes_of ts) c.args.places.now) c.deref.ensures.value ∙ ap (λ (st : SpaceState). are_inside st.sizes c.args.places.now) c.self.view_is in (
       (λ e. absurd (cc)),
-      (λ h. absurd (false≢true (sym h ∙ sym inside ∙ c.if-not-all_inside.false)))
+      (λ h. absurd (false≢true (sym h ∙ sym inside ∙ c.if-not-all_inside.false))),
     )
 
 pub returns-in-Ok-clause-sound : goal.returns-in-Ok-clause-sound

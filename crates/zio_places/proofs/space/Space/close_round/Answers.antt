@@ -1,10 +1,8 @@
-use Rattle.std.proofs.Common.{◌≡◌, ◌++◌, [], List, length, sym, ap, subst, ◌∙◌, arith}
+use Rattle.std.proofs.Common.{◌≡◌, sym, ap, subst, ◌∙◌, arith}
 use Rattle.std.specs.Vec.{with_items}
 use Rattle.std.proofs.lemmas.List.{with_items_is}
-use Rattle.zio_types.specs.declared.place.Place.{Place}
-use Rattle.zio_places.specs.Counted.{IsCounted}
 use Rattle.zio_places.specs.Spaces.{SpaceState}
-use Rattle.zio_places.specs.Tables.{TopState, sizes_of, live_of, covers, one_if, AllGetUsed}
+use Rattle.zio_places.specs.Tables.{sizes_of, live_of, covers, one_if, AllGetUsed}
 use Rattle.zio_places.proofs.PlaceLemmas.{total-append}
 use Rattle.zio_places.proofs.HoldLemmas.{live_of-same}
 use Rattle.zio_places.proofs.SpaceLemmas.{counted-closed, sound-counted}
@@ -27,9 +25,9 @@ returns-clause-same c =
     let written : (with_items c.self.inside.tops c.clear_all.new.tops).items ≡ c.clear_all.new.tops = with_items_is c.self.inside.tops c.clear_all.new.tops (omega arith) in
     let cleared = subst (λ ts. AllGetUsed c.clear_all.new.tops ts c.deref.result.now) c.deref_mut.ensures.value c.clear_all.ensures in
     let live : live_of (with_items c.self.inside.tops c.clear_all.new.tops).items ≡ c.args.self.now.live =
-          ap live_of written ∙ sym (live_of-same c.clear_all.new.tops c.self.inside.tops.items cleared.lens cleared.sizes) ∙ ap (λ (st : SpaceState). st.live) c.self.view_is in
+    ap live_of written ∙ sym (live_of-same c.clear_all.new.tops c.self.inside.tops.items cleared.lens cleared.sizes) ∙ ap (λ (st : SpaceState). st.live) c.self.view_is in
     let sizes : sizes_of (with_items c.self.inside.tops c.clear_all.new.tops).items ≡ c.args.self.now.sizes =
-          ap sizes_of written ∙ sym cleared.sizes ∙ ap (λ (st : SpaceState). st.sizes) c.self.view_is in
+    ap sizes_of written ∙ sym cleared.sizes ∙ ap (λ (st : SpaceState). st.sizes) c.self.view_is in
     let entries = ap (λ (st : SpaceState). st.entries) c.self.view_is in
     let spare = ap (λ (st : SpaceState). st.spare) c.self.view_is in
     let pending = c.clear.ensures.items in

@@ -1,9 +1,8 @@
-use Rattle.std.proofs.Common.{◌≡◌, ◌≢◌, ◌+◌, ◌-◌, ◌++◌, ◌∷◌, [], List, length, sym, ap, subst, ◌∙◌, arith}
+use Rattle.std.proofs.Common.{◌≡◌, ◌≢◌, ◌++◌, ◌∷◌, [], List, sym, subst, arith}
 use Rattle.std.specs.Prelude.{Contains, ◌↔◌}
 use Rattle.std.specs.Vec.{with_items}
 use Rattle.std.proofs.lemmas.List.{with_items_is}
 use Rattle.zio_types.specs.declared.place.Place.{Place}
-use Rattle.zio_places.specs.Counted.{IsCounted}
 use Rattle.zio_places.specs.Spaces.{SpaceState, SamePlaces}
 use Rattle.zio_places.specs.Tables.{TopState, live_of, length_at, GetLive}
 use Rattle.zio_places.proofs.TableLemmas.{live-length}
@@ -27,7 +26,7 @@ invariant_of-self c =
     let live = subst (λ (st : SpaceState). Contains st.live c.args.place) (sym c.self.view_is) c.requires in
     rw (written, c.push_reserved.ensures.items, c.push_reserved.ensures.capacity)
     (counted-given_back c.self.inside.tops.items c.remove.new.tops c.args.place c.self.inside.pending.items c.self.inside.live c.self.inside.spare _ _ _ _ removed
-      (live-length c.self.inside.tops.items c.args.place live).0 c.self.invariant (omega arith))
+    (live-length c.self.inside.tops.items c.args.place live).0 c.self.invariant (omega arith))
 
 pub returns-clause-live : goal.returns-clause-live
 returns-clause-live c =

@@ -1,10 +1,9 @@
-use Rattle.std.proofs.Common.{◌≡◌, ◌++◌, ◌∷◌, [], List, length, map, get_or, take, refl, sym, ap, subst, ◌∙◌, arith}
-use Rattle.std.proofs.lemmas.List.{take_all, take_more, map-append}
+use Rattle.std.proofs.Common.{◌≡◌, [], List, map, take, ap, ◌∙◌}
+use Rattle.std.proofs.lemmas.List.{take_all}
 use Rattle.zio_types.specs.declared.place.Place.{Place}
 use Rattle.zio_types.specs.Choices.{Choice}
-use Rattle.zio_places.specs.Counted.{IsCounted}
 use Rattle.zio_places.specs.Spaces.{SpaceState}
-use Rattle.zio_places.specs.Tables.{TopState, sizes_of, live_of}
+use Rattle.zio_places.specs.Tables.{sizes_of, live_of}
 use Rattle.zio_places.proofs.SpaceLemmas.{fresh_top, counted-new, sizes_of-fresh, live_of-fresh}
 use Rattle.zio_places.proofs.space.Space.new.Goals as goal
 

@@ -1,7 +1,5 @@
-use Rattle.std.proofs.Common.{◌≡◌, ◌+◌, ◌<◌, ◌≤◌, length, take, sym, ◌∙◌, arith}
-use Rattle.std.specs.Prelude.{true, false}
+use Rattle.std.proofs.Common.{◌<◌, length, take, sym, ◌∙◌, arith}
 use Rattle.std.proofs.lemmas.List.{length-take-le}
-use Rattle.zio_places.specs.Flags.{flag_at}
 use Rattle.zio_places.proofs.FlagLemmas.{runs_more_free, runs_more_used, run_ends, back_run-le}
 use Rattle.zio_places.proofs.word.Word.first_run.Goals as goal
 use Rattle.zio_places.proofs.word.Word.first_run.Goals.{then-is_free+else-run-count, else-is_free}

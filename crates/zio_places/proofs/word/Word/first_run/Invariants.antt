@@ -1,4 +1,4 @@
-use Rattle.std.proofs.Common.{◌≡◌, ◌<◌, ◌≤◌, take}
+use Rattle.std.proofs.Common.{◌≡◌, ◌<◌, take}
 use Rattle.zio_places.specs.Flags.{back_run, best_run}
 use Rattle.zio_places.proofs.word.Word.first_run.Given as goal
 

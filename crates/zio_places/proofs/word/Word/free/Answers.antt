@@ -1,4 +1,4 @@
-use Rattle.std.proofs.Common.{◌≡◌, ap, ◌∙◌}
+use Rattle.std.proofs.Common.{ap, ◌∙◌}
 use Rattle.zio_places.specs.Words.{flags_of}
 use Rattle.zio_places.proofs.WordLemmas.{flags_of-ones}
 use Rattle.zio_places.proofs.word.Word.free.Goals as goal

@@ -1,4 +1,4 @@
-use Rattle.std.proofs.Common.{◌≡◌, sym, ◌∙◌, arith}
+use Rattle.std.proofs.Common.{sym, ◌∙◌, arith}
 use Rattle.zio_places.proofs.FlagLemmas.{front_run-is}
 use Rattle.zio_places.proofs.word.Word.front_from.Goals as goal
 use Rattle.zio_places.proofs.word.Word.front_from.Goals.{then-loop-end-test+else-is_free, else-loop-end-test}

@@ -1,4 +1,4 @@
-use Rattle.std.proofs.Common.{◌≡◌, ◌+◌, ◌≤◌, arith}
+use Rattle.std.proofs.Common.{◌+◌, ◌≤◌, arith}
 use Rattle.zio_places.proofs.WordLemmas.{word_length, word_set}
 use Rattle.zio_places.proofs.word.Word.set_free.Goals as goal
 

@@ -1,4 +1,4 @@
-use Rattle.std.proofs.Common.{◌≡◌, ◌+◌, ◌≤◌, arith}
+use Rattle.std.proofs.Common.{◌+◌, ◌≤◌, arith}
 use Rattle.zio_places.proofs.WordLemmas.{word_length, word_clear}
 use Rattle.zio_places.proofs.word.Word.set_used.Goals as goal
 

@@ -1,6 +1,6 @@
-use Rattle.std.proofs.Common.{◌≡◌, ◌+◌, ◌<◌, ◌≤◌, ◌∷◌, [], length, take, sym, ap, ◌∙◌, arith}
+use Rattle.std.proofs.Common.{◌<◌, ◌∷◌, [], length, take, sym, ap, ◌∙◌, arith}
 use Rattle.std.specs.Prelude.{false}
-use Rattle.std.proofs.lemmas.List.{take_more, length-take-le}
+use Rattle.std.proofs.lemmas.List.{take_more}
 use Rattle.zio_places.specs.declared.summary.Summary.{Summary}
 use Rattle.zio_places.specs.Flags.{summary_of, joined, flag_at}
 use Rattle.zio_places.proofs.FlagLemmas.{summary_of-append, back_run-le}

@@ -3,7 +3,7 @@
 --
 -- What an object tells of its content is a relation between it and that content: in memory it holds of the one content
 -- that is there, and where an object tells nothing it holds of none.
-use Rattle.std.specs.Prelude.{◌≡◌, ◌≢◌, ℕ, ◌+◌, ◌-◌, ◌^◌, ◌<◌, ◌≤◌, min, List, [], ◌++◌, length, take, drop, ◌⊎◌, ◌↔◌, Result, Option, OnOk, OnErr, IfOk}
+use Rattle.std.specs.Prelude.{◌≡◌, ◌≢◌, ℕ, ◌+◌, ◌-◌, ◌^◌, ◌<◌, ◌≤◌, min, List, [], ◌++◌, length, take, drop, ◌⊎◌, ◌↔◌, Result, OnOk, OnErr}
 use Rattle.zio_types.specs.Bytes.{overwritten}
 
 -- ---- counts of faults

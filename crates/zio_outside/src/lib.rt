@@ -4,10 +4,17 @@
 //! disk tells it. `specs/Outside` has the words of these contracts.
 #![tactic(auto)]
 
+mod calls;
 mod disk;
+mod mem_disk;
+mod mem_shelf;
+mod mem_stream;
 mod shelf;
 mod stream;
 
 pub use disk::Disk;
+pub use mem_disk::MemDisk;
+pub use mem_shelf::{DiskBack, MemShelf};
+pub use mem_stream::{MemSink, MemSource};
 pub use shelf::{FetchFault, Shelf};
 pub use stream::{Failed, Sink, Source};

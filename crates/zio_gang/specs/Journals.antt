@@ -4,7 +4,8 @@ use Rattle.std.specs.Prelude.{◌≡◌, ℕ, List, [], ◌∷◌, ◌++◌, map
 use Rattle.std.specs.List.{AllByRecursion, list_any}
 use Rattle.zio_types.specs.declared.journal.Completion.{Completion}
 use Rattle.zio_types.specs.declared.place.Place.{Place}
-use Rattle.zio_types.specs.Choices.{Ask, Choice, is_refused, same_key}
+use Rattle.zio_types.specs.Choices.{Ask, Choice, same_key}
+pub use Rattle.zio_types.specs.Choices.{taken_by}
 use Rattle.zio_types.specs.Places.{IsLawfulChoice}
 use Rattle.zio_script.specs.declared.script.Request.{Request}
 use Rattle.zio_script.specs.Requests.{is_under}
@@ -25,14 +26,6 @@ abbrev pub HaveDistinctKeys : List Ask → Type 0
 HaveDistinctKeys [] = Unit {0}
 HaveDistinctKeys (ask ∷ asks) =
     AllByRecursion (λ (other : Ask). same_key ask.key other.key ≡ false) asks × HaveDistinctKeys asks
-
-abbrev pub taken_unless : Bool → List Place → List Place
-taken_unless true places = []
-taken_unless false places = places
-
--- what a choice takes from those after it: a refused one nothing
-abbrev pub taken_by : Choice → List Place
-taken_by c = taken_unless (is_refused c) c.places
 
 -- each choice is lawful beside the places that are used and those that the choices before it took
 abbrev pub AreLawful : List ℕ → List Place → List Choice → Type 0

@@ -7,7 +7,7 @@ use Rattle.zio_types.specs.declared.place.Place.{Place}
 use Rattle.zio_types.specs.declared.place.Top.{Top}
 use Rattle.zio_types.specs.Errors.{worst_of}
 use Rattle.zio_types.specs.Paths.{path_steps_max}
-use Rattle.zio_types.specs.Places.{sector_size, is_inside, is_free}
+use Rattle.zio_types.specs.Places.{sector_size, is_inside, are_open}
 use Rattle.zio_blkptr.specs.declared.pointer.Bp.{Bp}
 use Rattle.zio_blkptr.specs.Pointers.{places_of, pointer_of}
 use Rattle.zio_cksum.specs.Blocks.{Read, read_block, good_body, good_kept, good_claimed, blame}
@@ -178,14 +178,6 @@ claim_visit s = record {
   read_head = λ path bp images. read_block s false (good_claimed bp) images sector_size (places_of bp);
 }
 
--- no two of the places meet
-abbrev pub are_apart : List Place → Bool
-are_apart [] = true
-are_apart (p ∷ ps) = is_free ps p && are_apart ps
-
-abbrev pub can_be_claimed : List Place → List Place → Bool
-can_be_claimed used places = are_apart places && list_all (is_free used) places
-
 -- the tree that is claimed, or an error
 pub record Claimed : Type 0 where
   pub tree : Result Tree Errno
@@ -196,7 +188,7 @@ claimed_if true tree = Ok tree
 claimed_if false tree = Err Exist
 
 abbrev pub claimed_free : List Place → Tree → Result Tree Errno
-claimed_free used tree = claimed_if (can_be_claimed used (tree_places tree)) tree
+claimed_free used tree = claimed_if (are_open used (tree_places tree)) tree
 
 abbrev pub claimed_found : List Place → List (Option Errno) → Tree → Result Tree Errno
 claimed_found used [] tree = claimed_free used tree

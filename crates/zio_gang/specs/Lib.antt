@@ -1,4 +1,5 @@
 pub mod Attempts
+pub mod ByNumber
 pub mod HeaderFaults
 pub mod Journals
 pub mod Rounds

@@ -81,7 +81,7 @@ abbrev pub planted : Option ℕ → Request → List (List Request) → List (Li
 planted None r trees = trees ++ (r ∷ []) ∷ []
 planted (Some parent) r trees = map (put_before parent r) trees
 
--- the trees, and the requests that are to be put into them
+-- the trees with these requests put into them, one after another
 abbrev pub grown : List Request → List (List Request) → List (List Request)
 grown [] trees = trees
 grown (r ∷ rs) trees = grown rs (planted r.under r trees)
@@ -110,7 +110,7 @@ is_named_bound bound (Some name) = is_bound bound name
 abbrev pub has_bound : Bound → Request → Bool
 has_bound bound r = is_named_bound bound (name_of r.work)
 
--- beside suspended trees only reads of other blocks go on
+-- beside suspended trees nulls go on, and reads of other blocks
 abbrev pub is_blocked : List (List Pending) → List Request → Bool
 is_blocked [] tree = false
 is_blocked (s ∷ ss) tree = list_any (λ (r : Request). changes_pool r.work || is_awaited (s ∷ ss) r) tree

@@ -17,7 +17,8 @@ use Rattle.zio_script.specs.declared.script.Script.{Script}
 use Rattle.zio_cksum.specs.Images.{Images}
 use Rattle.zio_gang.specs.Journals.{asks_of}
 use Rattle.zio_gang.specs.Rounds.{trees_of}
-use Rattle.zio_worked.specs.Scripts.{script, write, read, null, under, can_fail, can_fail_under, fault, fault_over, choice, place, report, zeros, lines, requests_of, asks_in, bytes_read, images_after}
+use Rattle.zio_script.specs.Requests.{requests_of}
+use Rattle.zio_worked.specs.Scripts.{script, write, read, null, under, can_fail, can_fail_under, fault, fault_over, choice, place, report, zeros, lines, asks_in, bytes_read, images_after}
 
 -- ---- a write over two writes
 

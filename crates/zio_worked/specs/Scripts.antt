@@ -62,7 +62,7 @@ under_it parent canfail (RequestLine r) = RequestLine (record r { under = parent
 under_it parent canfail Go = Go
 under_it parent canfail Clear = Clear
 
--- the request stands under another, or may fail
+-- the request stands under another and may not fail, or stands under none and may fail, or may not
 abbrev pub under : ℕ → Item → Item
 under parent item = under_it (Some parent) false item
 
@@ -227,13 +227,6 @@ used_after s images choices = used_places (bound_after_run s images choices)
 abbrev pub lines : List String → List ℕ
 lines [] = []
 lines (text ∷ texts) = codes text ++ 10 ∷ lines texts
-
--- the requests of a script's lines
-abbrev pub requests_of : List Item → List Request
-requests_of [] = []
-requests_of (RequestLine r ∷ items) = r ∷ requests_of items
-requests_of (Go ∷ items) = requests_of items
-requests_of (Clear ∷ items) = requests_of items
 
 -- the rounds of the run
 abbrev pub rounds_in : Script → Images → List Choice → List Round

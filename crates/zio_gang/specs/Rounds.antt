@@ -1,7 +1,7 @@
 -- One round: the names that are bound, the trees of a batch, which of them are answered by admission, and what running
 -- the others leaves.
-use Rattle.std.specs.Prelude.{ℕ, List, [], ◌∷◌, ◌++◌, map, filter, find, Bool, true, false, ◌&&◌, ◌||◌, not, Option, Some, None, option_map, is_some, ◌==◌, bytes_eq}
-use Rattle.std.specs.List.{flat_map, list_any}
+use Rattle.std.specs.Prelude.{◌≡◌, ℕ, List, [], ◌∷◌, ◌++◌, map, filter, find, Bool, true, false, ◌&&◌, ◌||◌, not, Option, Some, None, option_map, is_some, ◌==◌, bytes_eq}
+use Rattle.std.specs.List.{AllByRecursion, flat_map, list_any}
 use Rattle.zio_types.specs.declared.error.Errno.{Errno}
 use Rattle.zio_types.specs.declared.error.Errno.TheVariants.{Io, Noent, Exist}
 use Rattle.zio_types.specs.declared.place.Place.{Place}
@@ -22,7 +22,7 @@ pub record Binding : Type 0 where
   pub name : List ℕ
   pub tree : Tree
 
--- The bound names. No name stands twice.
+-- the bound names
 abbrev pub Bound : Type 0
 Bound = List Binding
 
@@ -41,6 +41,11 @@ unbind name bound = filter (λ b. not (is_of name b)) bound
 
 abbrev pub bind : List ℕ → Tree → Bound → Bound
 bind name tree bound = record { name = name; tree = tree } ∷ unbind name bound
+
+-- no name stands twice
+abbrev pub NamesOnce : Bound → Type 0
+NamesOnce [] = Unit {0}
+NamesOnce (b ∷ bound) = AllByRecursion (λ other. is_of b.name other ≡ false) bound × NamesOnce bound
 
 -- the places of all bound blocks
 abbrev pub used_places : Bound → List Place

@@ -6,13 +6,15 @@ ghost use Rattle.zio_cksum.specs.Images.{Images};
 ghost use Rattle.zio_gang.specs.declared.tree.Tree.{Tree};
 ghost use Rattle.zio_gang.specs.Attempts.{Pending, Return, Terms, attempt_each, joined_attempt};
 ghost use Rattle.zio_gang.specs.HeaderFaults.{first_header_fault};
-ghost use Rattle.zio_gang.specs.Rounds.{Bound, bind, block_of, unbind};
+ghost use Rattle.zio_gang.specs.Rounds.{Bound, NamesOnce, bind, block_of, unbind};
 
-/// The bound names are a map: a name that is bound has its block, one that is unbound has none, and no other name
-/// is touched.
+/// The bound names are a map: a name that is bound has its block, one that is unbound has none, no name stands twice,
+/// and no other name is touched.
 pub fn bound_names_are_a_map()
     ensures bound { (name : List ℕ) (tree : Tree) (bound : Bound) → block_of (bind name tree bound) name ≡ Some tree }
     ensures unbound { (name : List ℕ) (bound : Bound) → block_of (unbind name bound) name ≡ None }
+    ensures bind_once { (name : List ℕ) (tree : Tree) (bound : Bound) → NamesOnce bound → NamesOnce (bind name tree bound) }
+    ensures unbind_once { (name : List ℕ) (bound : Bound) → NamesOnce bound → NamesOnce (unbind name bound) }
     ensures others_bound { (name other : List ℕ) (tree : Tree) (bound : Bound) → other ≢ name →
         block_of (bind name tree bound) other ≡ block_of bound other }
     ensures others_unbound { (name other : List ℕ) (bound : Bound) → other ≢ name →

@@ -4,6 +4,7 @@ ghost use Rattle.zio_blkptr.specs.Pointers.{valid, word};
 ghost use Rattle.zio_cksum.specs.Headers.{header_front, header_of, member_bytes};
 ghost use Rattle.zio_gang.specs.HeaderFaults.{slot_at};
 
+use thiserror::Error;
 use zio_blkptr::{Bp, encode};
 use zio_cksum::gang_sum;
 use zio_types::Place;
@@ -39,17 +40,22 @@ pub struct Header {
 }
 
 /// Why bytes aren't a gang's header, from the fault that is looked for first.
-#[derive(Clone, Copy, Debug, PartialEq, Eq)]
+#[derive(Clone, Copy, Debug, PartialEq, Eq, Error)]
 pub enum HeaderFault {
     /// The magic is another.
+    #[error("not the magic of a gang header")]
     Magic,
     /// The sum isn't the one for the place and the birth.
+    #[error("not the sum for this place and birth")]
     Sum,
     /// A byte of the filler isn't zero.
+    #[error("a filler byte that isn't zero")]
     Filler,
     /// The first pointer is absent, or one stands behind an absent one, or isn't spelled as one.
+    #[error("not one to three pointers from the front")]
     Member,
     /// The members aren't as many and as large as those of the block.
+    #[error("not the members' sizes of this block")]
     Sizes,
 }
 

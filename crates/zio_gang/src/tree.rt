@@ -106,3 +106,6 @@ fn is_same_path(p: &Path, q: &Path) -> bool
 {
     *p == *q
 }
+
+#[cfg(test)]
+mod tests;

@@ -41,6 +41,7 @@ are_no_members first second third =
     is_vacant first || (is_vacant second && not (is_vacant third))
     || is_garbled first || is_garbled second || is_garbled third
 
+-- the pointers are no members from the front
 unfoldable pub has_member_fault : List ℕ → Bool
 has_member_fault bytes = are_no_members (slot_at bytes 0) (slot_at bytes 1) (slot_at bytes 2)
 

@@ -212,11 +212,11 @@ reverse-ones : (n : ℕ) (flag : Bool) → reverse (replicate n flag) ≡ replic
 reverse-ones n flag =
     ext_get_or false (reverse (replicate n flag)) (replicate n flag) (length-reverse (replicate n flag))
     (λ k h.
-      let long : length (replicate n flag) ≡ n = length-replicate n flag in
-      let turned : length (reverse (replicate n flag)) ≡ n = length-reverse (replicate n flag) ∙ long in
-      get_or-reverse (replicate n flag) k false (omega (arith, h, long, turned))
-      ∙ get_or-replicate n (length (replicate n flag) - 1 - k) flag false (omega (arith, h, long, turned))
-      ∙ sym (get_or-replicate n k flag false (omega (arith, h, turned))))
+    let long : length (replicate n flag) ≡ n = length-replicate n flag in
+    let turned : length (reverse (replicate n flag)) ≡ n = length-reverse (replicate n flag) ∙ long in
+    get_or-reverse (replicate n flag) k false (omega (arith, h, long, turned))
+    ∙ get_or-replicate n (length (replicate n flag) - 1 - k) flag false (omega (arith, h, long, turned))
+    ∙ sym (get_or-replicate n k flag false (omega (arith, h, turned))))
 
 best_run-free_ones : (n : ℕ) → best_run (replicate n true) ≡ n
 best_run-free_ones zero = refl
@@ -253,12 +253,12 @@ take-ones xs at n flag h =
     ext_get_or false (take (at + n) xs) (take at xs ++ replicate n flag)
     (whole ∙ sym (length-append (take at xs) (replicate n flag) ∙ ap (λ m. m + length (replicate n flag)) long ∙ ap (λ m. at + m) (length-replicate n flag)))
     (λ k l.
-      let within : k < at + n = omega (arith, l, whole) in
-      get_or-take (at + n) xs k false within
-      ∙ elim (cases_lt k at) [
-        | inl before ↦ sym (get_or_append_left (take at xs) (replicate n flag) false k (omega (arith, long, before)) ∙ get_or-take at xs k false before)
-        | inr from ↦ h.each k from within ∙ sym (get_or-append_right (take at xs) (replicate n flag) at k false long from ∙ get_or-replicate n (k - at) flag false (omega arith))
-      ])
+    let within : k < at + n = omega (arith, l, whole) in
+    get_or-take (at + n) xs k false within
+    ∙ elim (cases_lt k at) [
+      | inl before ↦ sym (get_or_append_left (take at xs) (replicate n flag) false k (omega (arith, long, before)) ∙ get_or-take at xs k false before)
+      | inr from ↦ h.each k from within ∙ sym (get_or-append_right (take at xs) (replicate n flag) at k false long from ∙ get_or-replicate n (k - at) flag false (omega arith))
+    ])
 
 -- no run of a summary is longer than its range
 pub summary_back-le : (s : Summary) (xs : List Bool) → s ≡ summary_of xs → s.back ≤ s.sectors

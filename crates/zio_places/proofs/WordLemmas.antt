@@ -97,8 +97,8 @@ pub word_run : (bits len at count : ℕ) (flags : List Bool) → flags_of bits l
 word_run bits len at count flags is fits here equal = record {
   fits = omega (arith, fits, word_length bits len flags is);
   each = λ k a b.
-    let split : at + (k - at) ≡ k = omega arith in
-    let first : bit_at (bits / 2 ^ at) 0 ≡ bit_at bits at = bit_at-shifted bits at 0 ∙ ap (bit_at bits) (omega arith) in
-    let bit : bit_at bits k ≡ bit_at bits at = ap (bit_at bits) (sym split) ∙ sym (bit_at-shifted bits at (k - at)) ∙ equal (k - at) (omega arith) ∙ first in
-    word_flag bits len flags k is (omega arith) ∙ ap (λ b. b == 1) bit ∙ sym (word_flag bits len flags at is here);
+      let split : at + (k - at) ≡ k = omega arith in
+      let first : bit_at (bits / 2 ^ at) 0 ≡ bit_at bits at = bit_at-shifted bits at 0 ∙ ap (bit_at bits) (omega arith) in
+      let bit : bit_at bits k ≡ bit_at bits at = ap (bit_at bits) (sym split) ∙ sym (bit_at-shifted bits at (k - at)) ∙ equal (k - at) (omega arith) ∙ first in
+      word_flag bits len flags k is (omega arith) ∙ ap (λ b. b == 1) bit ∙ sym (word_flag bits len flags at is here);
 }

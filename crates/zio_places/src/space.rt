@@ -136,7 +136,8 @@ impl Space {
 
     /// The place was taken or claimed, and not given back.
     pub fn is_live(&self, place: &Place) -> bool
-        ensures { IsTrue result ↔ Contains self.now.live place.now }
+        ensures live { IsTrue result ↔ Contains self.now.live place.now }
+        ensures sound { IsSound self.now }
     {
         is_live(&self.tops, place)
     }

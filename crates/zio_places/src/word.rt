@@ -64,7 +64,11 @@ fn equal_bits(n: u64) -> u32
     ensures most { result ≤ 64 }
     ensures equal { (i : ℕ) → i < result → bit_at n i ≡ bit_at n 0 }
 {
-    if n & 1 == 1 { clear_bits(!n) } else { clear_bits(n) }
+    if n & 1 == 1 {
+        clear_bits(!n)
+    } else {
+        clear_bits(n)
+    }
 }
 
 impl Word {
@@ -142,7 +146,7 @@ impl Word {
     {
         let mut end = at;
         while end < self.len() && self.is_free(end) {
-            end += 1;
+            end += self.run_from(end);
         }
         end - at
     }

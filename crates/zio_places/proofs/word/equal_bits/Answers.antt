@@ -1,4 +1,4 @@
-use Rattle.std.proofs.Common.{◌≡◌, ◌-◌, ◌<◌, ap, sym, ◌∙◌, arith, w64}
+use Rattle.std.proofs.Common.{◌≡◌, ◌-◌, arith, w64}
 use Rattle.std.specs.Int.{bit_at}
 use Rattle.std.proofs.lemmas.Nat.Bits.{bit_at_not, bit_at-lt}
 use Rattle.zio_places.proofs.word.equal_bits.Goals as goal

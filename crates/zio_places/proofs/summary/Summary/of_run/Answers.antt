@@ -1,4 +1,4 @@
-use Rattle.std.proofs.Common.{◌≡◌, replicate, sym, ap, ◌∙◌}
+use Rattle.std.proofs.Common.{replicate, sym, ap, ◌∙◌}
 use Rattle.std.specs.Prelude.{true, false}
 use Rattle.zio_places.specs.Flags.{summary_of}
 use Rattle.zio_places.proofs.FlagLemmas.{summary_of-ones}

@@ -1,4 +1,4 @@
-use Rattle.std.proofs.Common.{◌≡◌, ◌+◌, ◌-◌, ◌<◌, ◌≤◌, min, arith}
+use Rattle.std.proofs.Common.{◌≤◌, arith}
 use Rattle.zio_places.proofs.WordLemmas.{word_length, word_run}
 use Rattle.zio_places.proofs.word.Word.run_from.Goals as goal
 

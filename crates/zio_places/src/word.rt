@@ -73,7 +73,7 @@ fn equal_bits(n: u64) -> u32
 
 impl Word {
     /// All free.
-    pub fn free(len: u32) -> Word
+    pub fn all_free(len: u32) -> Word
         requires { len ≤ 64 }
         ensures { result ≡ replicate len true }
     {

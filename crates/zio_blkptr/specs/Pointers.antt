@@ -1,6 +1,6 @@
 -- Which block pointers are valid, the 128 bytes that spell one, and the pointer that bytes spell. The table of
 -- the words stands in docs/FORMATS.md, "Block pointer".
-use Rattle.std.specs.Prelude.{◌≡◌, ℕ, zero, suc, ◌+◌, ◌-◌, ◌*◌, ◌/◌, ◌%◌, ◌^◌, ◌<◌, List, [], ◌∷◌, ◌++◌, length, take, drop, replicate, Bool, true, false, ◌&&◌, Option, ◌==◌, nat_lt, nat_le, bytes_eq, take_while, if◌then◌else◌, IsTrue}
+use Rattle.std.specs.Prelude.{◌≡◌, ℕ, ◌+◌, ◌-◌, ◌*◌, ◌/◌, ◌%◌, ◌^◌, ◌<◌, List, [], ◌∷◌, ◌++◌, length, take, drop, replicate, Bool, true, false, ◌&&◌, Option, ◌==◌, nat_lt, nat_le, bytes_eq, take_while, if◌then◌else◌, IsTrue}
 use Rattle.std.specs.Bool.{then_some}
 use Rattle.std.specs.Int.{w64, to_le_bytes, from_le_bytes}
 use Rattle.std.specs.List.{list_all, flat_map, AllByRecursion}

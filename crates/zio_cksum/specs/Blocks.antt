@@ -1,6 +1,6 @@
 -- Reads and writes of the copies of one block: which leaf's bytes are taken, which are rewritten, and which error
 -- comes where none is good.
-use Rattle.std.specs.Prelude.{ℕ, zero, suc, ◌+◌, ◌*◌, ◌/◌, ◌%◌, List, [], ◌∷◌, ◌++◌, length, map, take, drop, slice_get, Bool, true, false, Option, Some, None, Result, Ok, Err, unwrap_or, bytes_eq}
+use Rattle.std.specs.Prelude.{ℕ, ◌/◌, ◌%◌, List, [], ◌∷◌, ◌++◌, length, map, take, drop, slice_get, Bool, true, false, Option, Some, None, Result, Ok, Err, unwrap_or, bytes_eq}
 use Rattle.zio_types.specs.declared.error.Errno.{Errno}
 use Rattle.zio_types.specs.declared.error.Errno.TheVariants.{Cksum, Nxio}
 use Rattle.zio_types.specs.declared.place.Place.{Place}

@@ -1,6 +1,6 @@
 -- Gang headers: the sizes of a gang's members, the bytes of a header and the members that it names.
 -- docs/FORMATS.md, "Gang header".
-use Rattle.std.specs.Prelude.{◌≡◌, ℕ, ◌+◌, ◌-◌, ◌*◌, ◌/◌, ◌%◌, List, [], ◌∷◌, ◌++◌, map, take, drop, replicate, filter, filter_map, Bool, ◌&&◌, Option, Some, None, nat_lt, bytes_eq, IsTrue}
+use Rattle.std.specs.Prelude.{◌≡◌, ℕ, ◌+◌, ◌-◌, ◌*◌, ◌/◌, List, [], ◌∷◌, ◌++◌, map, take, drop, replicate, filter, filter_map, Bool, ◌&&◌, Option, Some, None, nat_lt, bytes_eq, IsTrue}
 use Rattle.std.specs.List.{flat_map, AllByRecursion}
 use Rattle.zio_types.specs.declared.place.Place.{Place}
 use Rattle.zio_types.specs.Filled.{filled_to}

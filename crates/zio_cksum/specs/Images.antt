@@ -1,5 +1,6 @@
 -- The leaves' images, and what one operation on a leaf answers and leaves.
 use Rattle.std.specs.Prelude.{ℕ, ◌+◌, List, [], ◌++◌, length, take, drop, slice_index_or, slice_set, Bool, true, false, Option, Some, None, Result, Ok, Err}
+pub use Rattle.zio_types.specs.Bytes.{overwritten}
 use Rattle.zio_types.specs.declared.error.Errno.{Errno}
 use Rattle.zio_types.specs.declared.error.Errno.TheVariants.{Io, Nxio}
 use Rattle.zio_types.specs.declared.place.Top.{Top}
@@ -30,10 +31,6 @@ image_of images leaf = slice_index_or images leaf []
 -- the bytes there
 abbrev pub bytes_at : Images → Spot → ℕ → List ℕ
 bytes_at images spot len = take len (drop spot.at (image_of images spot.leaf))
-
--- the bytes, with others in the place of as many
-abbrev pub overwritten : List ℕ → ℕ → List ℕ → List ℕ
-overwritten image at bytes = take at image ++ bytes ++ drop (at + length bytes) image
 
 -- the images with these bytes there
 abbrev pub with_bytes : Images → Spot → List ℕ → Images

@@ -1,5 +1,5 @@
 -- The checksums of bytes: four words each. docs/FORMATS.md, "Checksums".
-use Rattle.std.specs.Prelude.{ℕ, zero, suc, ◌+◌, ◌*◌, ◌%◌, ◌^◌, List, [], ◌∷◌, take, drop, Bool, true, bytes_eq}
+use Rattle.std.specs.Prelude.{ℕ, ◌+◌, ◌%◌, ◌^◌, List, [], ◌∷◌, take, drop, Bool, true, bytes_eq}
 use Rattle.std.specs.Int.{w32, w64, from_le_bytes, from_be_bytes}
 use Rattle.sha2.specs.Sha256.{sha256}
 use Rattle.zio_blkptr.specs.declared.pointer.SumKind.{SumKind}

@@ -1,18 +1,14 @@
 -- Which row of a fault table a leaf operation meets, and what a flipping row does to bytes.
-use Rattle.std.specs.Prelude.{ℕ, ◌+◌, ◌-◌, min, max, List, ◌++◌, map, take, drop, Bool, true, false, ◌&&◌, not, Option, Some, None, ◌==◌, nat_lt, nat_le, find, option_map}
+use Rattle.std.specs.Prelude.{ℕ, ◌+◌, ◌-◌, ◌<◌, ◌^◌, min, max, List, ◌++◌, map, take, drop, Bool, true, ◌&&◌, not, Option, ◌==◌, nat_lt, nat_le, find, option_map}
+use Rattle.zio_faults.specs.declared.table.Operation.{Operation}
 use Rattle.zio_faults.specs.declared.table.Row.{Row}
 use Rattle.zio_faults.specs.declared.table.Hit.{Hit}
 use Rattle.zio_faults.specs.declared.table.On.{On}
 use Rattle.zio_faults.specs.declared.table.On.TheVariants.{Read, Write, Any}
 
--- One operation on a leaf: whether it writes, the range of bytes, at which resume point and in which pass.
-pub record Operation : Type 0 where
-  pub leaf : ℕ
-  pub write : Bool
-  pub at : ℕ
-  pub len : ℕ
-  pub point : ℕ
-  pub retry : Bool
+-- the end of a row's range is a number of 64 bits
+abbrev pub RowFits : Row → Type 0
+RowFits row = row.at + row.len < 2 ^ 64
 
 -- a row for this kind of operation
 abbrev pub is_for : On → Bool → Bool

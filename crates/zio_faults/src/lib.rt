@@ -6,4 +6,4 @@
 
 mod table;
 
-pub use table::{FaultKind, Hit, On, Row, Table};
+pub use table::{FaultKind, Hit, On, Operation, Row, Table, flip};

@@ -13,7 +13,6 @@ use Rattle.zio_types.specs.Choices.{Ask, Choice}
 use Rattle.zio_types.specs.Errors.{worst_error, worst_of}
 use Rattle.zio_blkptr.specs.declared.pointer.Bp.{Bp}
 use Rattle.zio_blkptr.specs.declared.pointer.SumKind.{SumKind}
-use Rattle.zio_script.specs.declared.script.Body.{Body}
 use Rattle.zio_script.specs.declared.script.Failmode.{Failmode}
 use Rattle.zio_script.specs.declared.script.Failmode.TheVariants.{Wait, Continue, Panic}
 use Rattle.zio_script.specs.declared.script.Request.{Request}
@@ -24,6 +23,7 @@ use Rattle.zio_script.specs.Requests.{kind_of, is_under_number}
 use Rattle.zio_cksum.specs.Blocks.{Read as BlockRead}
 use Rattle.zio_cksum.specs.Images.{Images, Setting, Written}
 use Rattle.zio_gang.specs.declared.tree.Tree.{Tree}
+use Rattle.zio_gang.specs.ByNumber.{merge_by}
 use Rattle.zio_gang.specs.Trees.{Claimed, read_tree, free_tree, claim_tree}
 use Rattle.zio_gang.specs.Writes.{Writing, Placed, content_of, place_block}
 
@@ -36,7 +36,7 @@ pub record Terms : Type 0 where
   -- the places of all blocks that were bound when the round began
   pub used : List Place
 
--- what a finished child leaves with its parent: its number, its error, and its pointer if it is a write with a place
+-- what a child leaves with its parent: its number, its error if it finished, and its pointer if it is a write with a place
 pub record Child : Type 0 where
   pub number : ℕ
   pub error : Option Errno
@@ -114,28 +114,28 @@ abbrev pub suspend_unless : Bool → Bits → Bits
 suspend_unless true bits = bits
 suspend_unless false bits = record { now = bits.now; suspend = true }
 
+-- a claim may always fail, any other request by its flag
+abbrev pub may_fail : Kind → Bool → Bool
+may_fail NullKind canfail = canfail
+may_fail ReadKind canfail = canfail
+may_fail WriteKind canfail = canfail
+may_fail FreeKind canfail = canfail
+may_fail ClaimKind canfail = true
+
 abbrev pub decided : Bool → Bits → Bits
 decided canfail bits = suspend_unless (canfail || has_bits bits) bits
 
 -- all bits of a request: its children's, and those for the error of its own work
 abbrev pub all_bits : Kind → Option Errno → Bool → Failmode → Bits → Bits
 all_bits kind None canfail mode children = children
-all_bits kind (Some e) canfail mode children = decided canfail (joined_bits (kind_bits kind e canfail mode) children)
+all_bits kind (Some e) canfail mode children =
+    decided (may_fail kind canfail) (joined_bits (kind_bits kind e canfail mode) children)
 
 -- ---- children
 
-abbrev pub insert_if : Bool → Child → Child → List Child → List Child → List Child
-insert_if true c d cs inserted = c ∷ d ∷ cs
-insert_if false c d cs inserted = d ∷ inserted
-
--- a child at its place by number
-abbrev pub insert_child : Child → List Child → List Child
-insert_child c [] = c ∷ []
-insert_child c (d ∷ ds) = insert_if (nat_lt c.number d.number) c d ds (insert_child c ds)
-
+-- children at their places by number
 abbrev pub insert_children : List Child → List Child → List Child
-insert_children [] cs = cs
-insert_children (c ∷ cs) ds = insert_child c (insert_children cs ds)
+insert_children new kept = merge_by (λ (c : Child). c.number) new kept
 
 -- what the children of a request handed to it in this attempt
 abbrev pub returned_to : Pending → List Return → List Return
@@ -315,6 +315,19 @@ unfoldable pub attempt_each : Terms → ℕ → List Pending → List Return →
 attempt_each t attempt [] returns images = record { returns = returns; ended = []; again = []; asks = []; images = images }
 attempt_each t attempt (p ∷ ps) returns images =
     then_attempt returns (attempt_one t attempt p returns images) (attempt_each t attempt ps)
+
+abbrev pub added_attempt : Attempt → Attempt → Attempt
+added_attempt front rest = record {
+  returns = rest.returns;
+  ended = front.ended ++ rest.ended;
+  again = front.again ++ rest.again;
+  asks = front.asks ++ rest.asks;
+  images = rest.images;
+}
+
+-- an attempt that goes on with what it handed on
+abbrev pub joined_attempt : Attempt → (List Return → Images → Attempt) → Attempt
+joined_attempt front rest = added_attempt front (rest front.returns front.images)
 
 abbrev pub attempt_tree : Terms → ℕ → List Pending → Images → Attempt
 attempt_tree t attempt tree images = attempt_each t attempt tree [] images

@@ -1,5 +1,5 @@
 -- The run of a script: its rounds in their order, with the images and the bound names after each, and how it ends.
-use Rattle.std.specs.Prelude.{ℕ, ◌+◌, ◌/◌, min, List, [], ◌∷◌, ◌++◌, length, map, slice_index_or, Bool, true, false, ◌&&◌, ◌||◌, not, Option, Some, None}
+use Rattle.std.specs.Prelude.{ℕ, ◌+◌, ◌/◌, min, List, [], ◌∷◌, ◌++◌, length, map, Bool, true, false, ◌&&◌, ◌||◌, not, Option, Some, None}
 use Rattle.zio_types.specs.declared.place.Place.{Place}
 use Rattle.zio_types.specs.declared.place.Top.{Top}
 use Rattle.zio_types.specs.Choices.{Ask, Choice}
@@ -48,7 +48,7 @@ plan_of script images journal = record {
 
 -- ---- what happens in a run
 
--- one round: what it was and what the pool was at its start, what it asked for, which requests finished and which are
+-- one round: what it was and which places were in use at its start, what it asked for, which requests finished and which are
 -- left of its trees, and what the pool is after it
 pub record Round : Type 0 where
   pub number : ℕ

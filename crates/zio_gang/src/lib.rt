@@ -7,7 +7,15 @@
 #![tactic(auto)]
 
 mod ending;
+mod faults;
+mod header;
+mod laws;
+mod sizes;
 mod tree;
 
 pub use ending::Ending;
-pub use tree::{Head, Header, Split, Tree};
+pub use faults::header_decode;
+pub use header::{Header, HeaderFault, Split, header_encode};
+pub use laws::{bound_names_are_a_map, headers_have_no_fault, trees_are_attempted_in_turn};
+pub use sizes::{SPLIT_SIZE_MAX, split};
+pub use tree::{Head, Tree};

@@ -2,8 +2,10 @@
 use Rattle.std.specs.Prelude.{◌≡◌, ℕ, List, [], ◌∷◌, ◌++◌, ◌↔◌, Bool, true, ◌&&◌, cond, Contains}
 use Rattle.std.specs.List.{list_all}
 use Rattle.zio_types.specs.declared.place.Place.{Place}
-use Rattle.zio_types.specs.Places.{is_inside, is_free}
-use Rattle.zio_types.specs.Choices.{Choice, is_refused}
+pub use Rattle.zio_types.specs.Choices.{taken_by}
+use Rattle.zio_types.specs.Places.{is_inside}
+pub use Rattle.zio_types.specs.Places.{are_apart, are_open}
+use Rattle.zio_types.specs.Choices.{Choice}
 
 pub record SpaceState : Type 0 where
   -- the sectors of each top
@@ -25,22 +27,9 @@ used st = st.live ++ st.pending
 abbrev pub SamePlaces : List Place → List Place → Type 0
 SamePlaces xs ys = (p : Place) → Contains xs p ↔ Contains ys p
 
--- what a choice takes: nothing where it is refused
-abbrev pub taken_by : Choice → List Place
-taken_by choice = cond (is_refused choice) [] choice.places
-
 -- each lies inside its top
 abbrev pub are_inside : List ℕ → List Place → Bool
 are_inside sizes places = list_all (is_inside sizes) places
-
--- no two of them meet
-abbrev pub are_apart : List Place → Bool
-are_apart [] = true
-are_apart (p ∷ places) = is_free places p && are_apart places
-
--- each is free beside the used ones, and no two of them meet
-abbrev pub are_open : List Place → List Place → Bool
-are_open used places = list_all (is_free used) places && are_apart places
 
 -- the live and the pending places lie inside their tops, and no two of them meet
 pub record IsSound (st : SpaceState) : Type 0 where

@@ -1,5 +1,5 @@
 -- Arrays of a fixed length of which only the front is used. All behind it is the filler.
-use Rattle.std.specs.Prelude.{◌≡◌, ℕ, ◌-◌, ◌+◌, ◌≤◌, min, List, ◌++◌, length, take, replicate}
+use Rattle.std.specs.Prelude.{◌≡◌, ℕ, ◌-◌, ◌≤◌, min, List, ◌++◌, length, take, replicate}
 use Rattle.std.proofs.Common.{arith, length-append, length-take, ap, ◌∙◌}
 use Rattle.std.proofs.lemmas.List.{length-replicate}
 

@@ -1,5 +1,5 @@
 -- Runs of sectors: which meet, which lie on their top, which are free, and which may be found for an ask.
-use Rattle.std.specs.Prelude.{◌≡◌, ℕ, ◌+◌, ◌/◌, ◌<◌, ◌≤◌, min, max, List, [], ◌∷◌, ◌++◌, length, map, slice_get, Bool, true, false, ◌&&◌, not, Option, Some, None, IsTrue, ◌==◌, nat_lt, nat_le}
+use Rattle.std.specs.Prelude.{◌≡◌, ℕ, ◌+◌, ◌/◌, ◌<◌, ◌≤◌, min, max, List, [], ◌∷◌, ◌++◌, length, slice_get, Bool, true, false, ◌&&◌, not, Option, Some, None, IsTrue, ◌==◌, nat_lt, nat_le}
 use Rattle.std.specs.List.{list_all, list_any}
 use Rattle.zio_types.specs.declared.place.Place.{Place}
 use Rattle.zio_types.specs.Choices.{Choice}
@@ -27,6 +27,15 @@ is_inside sizes p = is_below p (slice_get sizes p.top)
 -- no used place has one of its sectors
 abbrev pub is_free : List Place → Place → Bool
 is_free used p = list_all (λ q. not (meets p q)) used
+
+-- no two of the places meet
+abbrev pub are_apart : List Place → Bool
+are_apart [] = true
+are_apart (p ∷ places) = is_free places p && are_apart places
+
+-- each is free beside the used ones, and no two of them meet
+abbrev pub are_open : List Place → List Place → Bool
+are_open used places = list_all (is_free used) places && are_apart places
 
 -- the run of sectors that begins there
 abbrev pub run_at : ℕ → ℕ → ℕ → Place

@@ -1,0 +1,83 @@
+-- Which child of a mirror or of a block with copies is tried next, and when a read has its answer.
+use Rattle.std.specs.Prelude.{ℕ, ◌-◌, List, [], ◌∷◌, length, slice_get, Bool, true, false, Option, Some, None, Result, Ok, Err, ◌==◌, if◌then◌else◌, nat_lt}
+use Rattle.std.specs.List.{list_any, range_with_len}
+use Rattle.zio_types.specs.declared.error.Errno.{Errno}
+use Rattle.zio_types.specs.Errors.{worst_of}
+use Rattle.zio_types.specs.declared.place.Place.{Place}
+use Rattle.zio_cksum.specs.Blocks.{blame, all_errors, error_if, found_or, read_place}
+use Rattle.zio_cksum.specs.Images.{Images, Setting}
+use Rattle.zio_mirror.specs.declared.plan.Step.{Step}
+use Rattle.zio_mirror.specs.declared.plan.Step.TheVariants.{Try, Good, Bad}
+
+-- the children in the order in which they are tried, and the answers so far, of the first of them
+pub record Plan : Type 0 where
+  pub order : List ℕ
+  pub answers : List (Option Errno)
+
+-- so many children, numbered from 0
+abbrev pub children : ℕ → List ℕ
+children n = range_with_len 0 n
+
+-- the number below n at which one below twice n comes round
+abbrev pub round_to : ℕ → ℕ → ℕ
+round_to n i = if nat_lt i n then i else i - n
+
+-- the child that was answered without error
+abbrev pub good_child : List ℕ → List (Option Errno) → Option ℕ
+good_child [] answers = None
+good_child (c ∷ cs) [] = None
+good_child (c ∷ cs) (None ∷ answers) = Some c
+good_child (c ∷ cs) (Some e ∷ answers) = good_child cs answers
+
+-- the children that were tried and failed, before one was good
+abbrev pub failed_children : List ℕ → List (Option Errno) → List ℕ
+failed_children [] answers = []
+failed_children (c ∷ cs) [] = []
+failed_children (c ∷ cs) (None ∷ answers) = []
+failed_children (c ∷ cs) (Some e ∷ answers) = c ∷ failed_children cs answers
+
+abbrev pub step_with : Option ℕ → Option ℕ → List (Option Errno) → Step
+step_with (Some good) untried answers = Good good
+step_with None (Some untried) answers = Try untried
+step_with None None answers = Bad (blame answers)
+
+-- a good child ends the read; else the first child without an answer is tried; where all failed the worst error counts
+abbrev pub step_of : Plan → Step
+step_of plan = step_with (good_child plan.order plan.answers) (slice_get plan.order (length plan.answers)) plan.answers
+
+abbrev pub is_try : Step → Bool
+is_try (Try child) = true
+is_try (Good child) = false
+is_try (Bad e) = false
+
+abbrev pub repaired_with : Option ℕ → List ℕ → List ℕ
+repaired_with None failed = []
+repaired_with (Some good) failed = failed
+
+-- the children that a good read rewrites
+abbrev pub to_repair : Plan → List ℕ
+to_repair plan = repaired_with (good_child plan.order plan.answers) (failed_children plan.order plan.answers)
+
+abbrev pub is_among : ℕ → List ℕ → Bool
+is_among child cs = list_any (λ c. c == child) cs
+
+-- the error of a write from those of its parts: one good part is enough for a mirror, and a block needs them all
+abbrev pub written_error : Bool → List (Option Errno) → Option Errno
+written_error true errors = worst_of errors
+written_error false errors = error_if (all_errors errors) (Some (blame errors))
+
+-- what a read of one place answers, as one of the copies of a block
+abbrev pub place_answer : Setting → Bool → (List ℕ → Bool) → Images → ℕ → Place → Result (List ℕ) Errno
+place_answer s retry good images len p =
+    found_or ((read_place s retry good images len p).found) ((read_place s retry good images len p).errors)
+
+-- ---- a plan that is answered by reads
+
+abbrev pub then_answers : Result (List ℕ) Errno → List (Option Errno) → List (Option Errno)
+then_answers (Ok bytes) answers = None ∷ []
+then_answers (Err e) answers = Some e ∷ answers
+
+-- the answers of reads that are made in order until one is good
+abbrev pub answers_of : (ℕ → Result (List ℕ) Errno) → List ℕ → List (Option Errno)
+answers_of read [] = []
+answers_of read (c ∷ cs) = then_answers (read c) (answers_of read cs)

@@ -1,0 +1,4 @@
+pub mod Memory
+pub mod MemoryShelf
+pub mod Outside
+pub use Rattle.zio_types.specs.Bytes

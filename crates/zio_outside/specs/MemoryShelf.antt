@@ -1,0 +1,54 @@
+-- What a clause sees of a shelf in memory.
+use Rattle.std.specs.Prelude.{◌≡◌, ◌≢◌, ℕ, Bool, cond, nat_eq, List, [], ◌∷◌, Option, Some, None}
+use Rattle.std.specs.Cmp.Lexicographic.{pointwise}
+use Rattle.zio_outside.specs.Memory.{told, disk_image}
+use Rattle.zio_outside.specs.declared.mem_disk.MemDisk.{MemDisk}
+use Rattle.zio_outside.specs.declared.mem_shelf.Slot.{Slot}
+use Rattle.zio_outside.specs.declared.mem_shelf.MemShelf.{MemShelf}
+
+abbrev pub is_named : List ℕ → Slot → Bool
+is_named name s = pointwise nat_eq s.name name
+
+-- the first slot of a name
+abbrev pub slot_of : List Slot → List ℕ → Option (Option MemDisk)
+slot_of [] name = None
+slot_of (s ∷ rest) name = cond (is_named name s) (Some s.disk) (slot_of rest name)
+
+-- what the shelf has under a name: none where no disk was put, and within it none where the disk is out
+abbrev pub shelf_slot : MemShelf → List ℕ → Option (Option MemDisk)
+shelf_slot s = slot_of s.slots.items
+
+-- the disk of a slot, if it is at home
+abbrev pub at_home : Option (Option MemDisk) → Option MemDisk
+at_home None = None
+at_home (Some disk) = disk
+
+-- a disk of this name is at home, with these bytes
+abbrev pub image_of : (List ℕ → Option (Option MemDisk)) → List ℕ → List ℕ → Type 0
+image_of slots name bytes = (disk : MemDisk) × (slots name ≡ Some (Some disk)) × told (disk_image disk) bytes
+
+-- the disk of this name is out
+abbrev pub out_of : (List ℕ → Option (Option MemDisk)) → List ℕ → Type 0
+out_of slots name = slots name ≡ Some None
+
+-- what is under one name changed, and nothing else
+pub record ChangesOnly (old new : List ℕ → Option (Option MemDisk)) (name : List ℕ) (disk : Option MemDisk) : Type 0 where
+  pub changed : new name ≡ Some disk
+  pub others : (other : List ℕ) → other ≢ name → new other ≡ old other
+
+abbrev pub shelf_faults : MemShelf → ℕ
+shelf_faults s = s.calls.faults
+
+abbrev pub shelf_disk_faults : MemShelf → ℕ
+shelf_disk_faults s = s.disk_faults
+
+abbrev pub shelf_fetches : MemShelf → ℕ
+shelf_fetches s = s.fetches
+
+-- the numbers of its fetches that fail
+abbrev pub shelf_fails : MemShelf → List ℕ
+shelf_fails s = s.calls.fails
+
+-- how many fetches were made
+abbrev pub shelf_calls : MemShelf → ℕ
+shelf_calls s = s.calls.made

@@ -1,0 +1,50 @@
+ghost use Rattle.std.specs.Prelude.{◌≡◌, ◌+◌, ◌≤◌, ℕ, List, length, OnOk, OnErr};
+ghost use Rattle.zio_outside.specs.Outside.{CountsFault, Keeps, ReadsAt, TearsAt, WritesAt, count_max};
+
+use crate::Failed;
+
+/// A device of a fixed size, in bytes.
+pub trait Disk: Send {
+    /// How often it has failed.
+    ghost faults: { Self → ℕ };
+
+    /// How often it had failed when a shelf last handed it out, or 0 where none did.
+    ghost faults_at_fetch: { Self → ℕ };
+
+    ghost bytes: { Self → ℕ };
+
+    /// Its image, where it tells it.
+    ghost image: { Self → List ℕ → Type 0 };
+
+    /// The name under which a shelf handed it out, where it tells its image.
+    ghost home: { Self → List ℕ → Type 0 };
+
+    fn size(&self) -> u64
+        ensures { result ≡ bytes self.now };
+
+    /// Reads the bytes from `at` on into the buffer.
+    fn read_at(&mut self, at: u64, buffer: &mut [u8]) -> Result<(), Failed>
+        requires { at + length buffer.old ≤ bytes self.old }
+        ensures count { CountsFault result (faults self.old) (faults self.new) }
+        ensures read { OnOk result (ReadsAt (image self.old) at buffer.new) }
+        ensures image { Keeps (image self.old) (image self.new) }
+        ensures home { Keeps (home self.old) (home self.new) }
+        ensures bytes { bytes self.new ≡ bytes self.old }
+        ensures at_fetch { faults_at_fetch self.new ≡ faults_at_fetch self.old };
+
+    /// Writes the piece over the bytes from `at` on. After `Failed` these bytes may be any.
+    fn write_at(&mut self, at: u64, piece: &[u8]) -> Result<(), Failed>
+        requires { at + length piece.now ≤ bytes self.old }
+        ensures count { CountsFault result (faults self.old) (faults self.new) }
+        ensures ok { OnOk result (WritesAt (image self.old) (image self.new) at piece.now) }
+        ensures failed { OnErr result (TearsAt (image self.old) (image self.new) at piece.now) }
+        ensures home { Keeps (home self.old) (home self.new) }
+        ensures bytes { bytes self.new ≡ bytes self.old }
+        ensures at_fetch { faults_at_fetch self.new ≡ faults_at_fetch self.old };
+
+    /// An image that is told has the disk's size.
+    ghost has_size: { (disk : Self) (content : List ℕ) → image disk content → length content ≡ bytes disk };
+
+    /// A count never passes its last value.
+    ghost counts: { (disk : Self) → faults disk ≤ count_max };
+}

@@ -1,0 +1,26 @@
+//! What a run reads, writes and stores its blocks on: sources, sinks, disks, and shelves of disks.
+//!
+//! It stands on `zio_types`. Read `Disk` first: its contract names the disk's image by a relation that holds where the
+//! disk tells it. `specs/Outside` has the words of these contracts.
+#![tactic(auto)]
+
+mod calls;
+mod disk;
+mod mem_disk;
+mod mem_shelf;
+mod mem_stream;
+mod real_disk;
+mod real_stream;
+mod shelf;
+mod stream;
+#[cfg(test)]
+mod tests;
+
+pub use disk::Disk;
+pub use mem_disk::MemDisk;
+pub use mem_shelf::{DiskBack, MemShelf};
+pub use mem_stream::{MemSink, MemSource};
+pub use real_disk::{FileDisk, FileShelf};
+pub use real_stream::{StdSink, StdSource};
+pub use shelf::{FetchFault, Shelf};
+pub use stream::{Failed, Sink, Source};

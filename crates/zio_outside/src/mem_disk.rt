@@ -1,0 +1,166 @@
+ghost use Rattle.std.specs.Prelude.{◌≡◌, ◌<◌, ◌≤◌, ◌+◌, ◌↔◌, ℕ, List, [], length, Option, None, Some, IsErr, IsOk, IsTrue, OnErr, OnOk, vec_len};
+ghost use Rattle.std.specs.List.{Contains};
+ghost use Rattle.std.specs.Option.{option_copied};
+ghost use Rattle.zio_outside.specs.Outside.{CountsFault, Keeps, ReadsAt, TearsAt, WritesAt, count_max, counted};
+
+use crate::calls::Calls;
+use crate::{Disk, Failed};
+use zio_types::{Bytes, List, Text};
+
+/// A disk in memory, which tells its image.
+#[derive(Debug, Drop)]
+pub struct MemDisk {
+    image: Vec<u8>,
+    calls: Calls,
+    reads: u64,
+    writes: u64,
+    faults_at_fetch: u64,
+    home: Option<Text>,
+}
+
+impl MemDisk {
+    ghost use Rattle.zio_outside.specs.Memory.{disk_image, disk_faults, disk_faults_at_fetch, disk_home, disk_fails, disk_calls, disk_reads, disk_writes, HandedOut};
+
+    /// A disk with this image, of its size, without a fault and without a home. Its reads and writes with the numbers in
+    /// `fails`, counted together from 0, fail.
+    pub fn new(image: Bytes, fails: List<u64>) -> MemDisk
+        ensures image { disk_image result ≡ image }
+        ensures faults { disk_faults result ≡ 0 }
+        ensures at_fetch { disk_faults_at_fetch result ≡ 0 }
+        ensures home { disk_home result ≡ None }
+        ensures fails { disk_fails result ≡ fails }
+        ensures calls { disk_calls result ≡ 0 }
+        ensures reads { disk_reads result ≡ 0 }
+        ensures writes { disk_writes result ≡ 0 }
+    {
+        MemDisk {
+            image: image.into_vec(),
+            calls: Calls::new(fails),
+            reads: 0,
+            writes: 0,
+            faults_at_fetch: 0,
+            home: None,
+        }
+    }
+
+    /// Goes out under this name. A count of faults at its last value goes out as the one before it, so that the next
+    /// fault shows.
+    pub(crate) fn go_out(&mut self, name: Text)
+        ensures { HandedOut self.old self.new name }
+    {
+        self.calls.keep_room();
+        self.faults_at_fetch = self.calls.faults();
+        self.home = Some(name);
+    }
+
+    /// The name under which it was handed out, if it was.
+    pub(crate) fn home(&self) -> Option<&str>
+        ensures { option_copied result ≡ disk_home self.now }
+    {
+        match &self.home {
+            Some(name) => Some(name.as_str()),
+            None => None,
+        }
+    }
+
+    /// It has failed since it was handed out.
+    pub(crate) fn has_failed(&self) -> bool
+        ensures { IsTrue result ↔ (disk_faults_at_fetch self.now < disk_faults self.now) }
+    {
+        self.faults_at_fetch < self.calls.faults()
+    }
+
+    pub fn image(&self) -> &[u8]
+        ensures { result.now ≡ disk_image self.now }
+    {
+        self.image.as_slice()
+    }
+
+    /// How many calls of `read_at` were made, those that failed among them.
+    pub fn reads(&self) -> u64
+        ensures { result ≡ disk_reads self.now }
+    {
+        self.reads
+    }
+
+    /// How many calls of `write_at` were made, those that failed among them.
+    pub fn writes(&self) -> u64
+        ensures { result ≡ disk_writes self.now }
+    {
+        self.writes
+    }
+}
+
+impl Disk for MemDisk {
+    ghost use Rattle.zio_outside.specs.Memory.{told, disk_image, disk_faults, disk_faults_at_fetch, disk_home, disk_fails, disk_calls, disk_reads, disk_writes};
+
+    ghost faults = { disk_faults };
+
+    ghost faults_at_fetch = { disk_faults_at_fetch };
+
+    ghost bytes = { λ d. length (disk_image d) };
+
+    ghost image = { λ d. told (disk_image d) };
+
+    ghost home = { λ d name. disk_home d ≡ Some name };
+
+    fn size(&self) -> u64 {
+        self.image.len() as u64
+    }
+
+    /// Reads the bytes from `at` on into the buffer. A call that is listed raises the count of faults by one and leaves
+    /// the buffer.
+    fn read_at(&mut self, at: u64, buffer: &mut [u8]) -> Result<(), Failed>
+        requires { at + length buffer.old ≤ length (disk_image self.old) }
+        ensures count { CountsFault result (disk_faults self.old) (disk_faults self.new) }
+        ensures read { OnOk result (ReadsAt (told (disk_image self.old)) at buffer.new) }
+        ensures image { Keeps (told (disk_image self.old)) (told (disk_image self.new)) }
+        ensures home { Keeps (λ name. disk_home self.old ≡ Some name) (λ name. disk_home self.new ≡ Some name) }
+        ensures bytes { length (disk_image self.new) ≡ length (disk_image self.old) }
+        ensures at_fetch { disk_faults_at_fetch self.new ≡ disk_faults_at_fetch self.old }
+        ensures listed { IsErr result ↔ Contains (disk_fails self.old) (disk_calls self.old) }
+        ensures steady { disk_fails self.old ≡ [] → IsOk result }
+        ensures raised { OnErr result (disk_faults self.new ≡ counted (disk_faults self.old)) }
+        ensures kept { OnErr result (buffer.new ≡ buffer.old) }
+        ensures fails { disk_fails self.new ≡ disk_fails self.old }
+        ensures calls { disk_calls self.new ≡ counted (disk_calls self.old) }
+        ensures reads { disk_reads self.new ≡ counted (disk_reads self.old) }
+        ensures writes { disk_writes self.new ≡ disk_writes self.old }
+    {
+        self.reads = self.reads.saturating_add(1);
+        self.calls.begin()?;
+        let at = at as usize;
+        buffer.copy_from_slice(&self.image[at..at + buffer.len()]);
+        Ok(())
+    }
+
+    /// Writes the piece over the bytes from `at` on. A call that is listed raises the count of faults by one and leaves
+    /// the image.
+    fn write_at(&mut self, at: u64, piece: &[u8]) -> Result<(), Failed>
+        requires { at + length piece.now ≤ length (disk_image self.old) }
+        ensures count { CountsFault result (disk_faults self.old) (disk_faults self.new) }
+        ensures ok { OnOk result (WritesAt (told (disk_image self.old)) (told (disk_image self.new)) at piece.now) }
+        ensures failed { OnErr result (TearsAt (told (disk_image self.old)) (told (disk_image self.new)) at piece.now) }
+        ensures home { Keeps (λ name. disk_home self.old ≡ Some name) (λ name. disk_home self.new ≡ Some name) }
+        ensures bytes { length (disk_image self.new) ≡ length (disk_image self.old) }
+        ensures at_fetch { disk_faults_at_fetch self.new ≡ disk_faults_at_fetch self.old }
+        ensures listed { IsErr result ↔ Contains (disk_fails self.old) (disk_calls self.old) }
+        ensures steady { disk_fails self.old ≡ [] → IsOk result }
+        ensures raised { OnErr result (disk_faults self.new ≡ counted (disk_faults self.old)) }
+        ensures kept { OnErr result (disk_image self.new ≡ disk_image self.old) }
+        ensures fails { disk_fails self.new ≡ disk_fails self.old }
+        ensures calls { disk_calls self.new ≡ counted (disk_calls self.old) }
+        ensures reads { disk_reads self.new ≡ disk_reads self.old }
+        ensures writes { disk_writes self.new ≡ counted (disk_writes self.old) }
+    {
+        self.writes = self.writes.saturating_add(1);
+        self.calls.begin()?;
+        let at = at as usize;
+        self.image[at..at + piece.len()].copy_from_slice(piece);
+        Ok(())
+    }
+
+    ghost has_size = { λ d content told. Prim.search told };
+
+    ghost counts = { λ d. d.calls.in_range };
+}

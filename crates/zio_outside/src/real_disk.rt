@@ -1,0 +1,157 @@
+ghost use Rattle.std.specs.Prelude.{◌≡◌, ◌≤◌, IfOk};
+ghost use Rattle.zio_outside.specs.Outside.{count_max};
+
+use crate::{Disk, Failed, FetchFault, Shelf};
+use std::fs::{OpenFile, OpenOptions};
+use std::io;
+use std::io::{Read, Seek, SeekFrom, Write};
+use std::rt::Files;
+
+/// A disk that is a file, which tells nothing of its image. Each error raises its count of faults by one, as does a
+/// file that gives or takes nothing of a rest.
+#[derive(Drop)]
+pub struct FileDisk<F> {
+    file: F,
+    bytes: u64,
+    faults: u64,
+    ghost in_range: { faults ≤ count_max },
+}
+
+impl<F: Read + Write + Seek> FileDisk<F> {
+    fn read_whole(&mut self, at: u64, buffer: &mut [u8]) -> io::Result<()>
+        ensures bytes { self.new.bytes ≡ self.old.bytes }
+        ensures faults { self.new.faults ≡ self.old.faults }
+    {
+        self.file.seek(SeekFrom::Start(at))?;
+        self.file.read_exact(buffer)
+    }
+
+    fn write_whole(&mut self, at: u64, piece: &[u8]) -> io::Result<()>
+        ensures bytes { self.new.bytes ≡ self.old.bytes }
+        ensures faults { self.new.faults ≡ self.old.faults }
+    {
+        self.file.seek(SeekFrom::Start(at))?;
+        self.file.write_all(piece)
+    }
+}
+
+impl<F: Read + Write + Seek + Send> Disk for FileDisk<F> {
+    ghost faults = { λ d. d.faults };
+
+    ghost faults_at_fetch = { λ _. 0 };
+
+    ghost bytes = { λ d. d.bytes };
+
+    ghost image = { λ _ _. ⊥ };
+
+    ghost home = { λ _ _. ⊥ };
+
+    fn size(&self) -> u64 {
+        self.bytes
+    }
+
+    fn read_at(&mut self, at: u64, buffer: &mut [u8]) -> Result<(), Failed> {
+        match self.read_whole(at, buffer) {
+            Ok(()) => Ok(()),
+            Err(_) => {
+                self.faults = self.faults.saturating_add(1);
+                Err(Failed)
+            }
+        }
+    }
+
+    fn write_at(&mut self, at: u64, piece: &[u8]) -> Result<(), Failed> {
+        match self.write_whole(at, piece) {
+            Ok(()) => Ok(()),
+            Err(_) => {
+                self.faults = self.faults.saturating_add(1);
+                Err(Failed)
+            }
+        }
+    }
+
+    ghost has_size = { λ d content told. absurd told };
+
+    ghost counts = { λ d. d.in_range };
+}
+
+/// A shelf of files, each an image of its own, which tells nothing of them. A disk has the size that its file has when
+/// it is fetched, and a file that can't be opened for reading and writing raises the count of faults by one.
+#[derive(Drop)]
+pub struct FileShelf<'a, R> {
+    rt: &'a R,
+    faults: u64,
+    disk_faults: u64,
+    fetches: u64,
+}
+
+impl<'a, R: Files> FileShelf<'a, R> {
+    /// A shelf of all files, by their paths, without a fault.
+    pub fn new(rt: &'a R) -> FileShelf<'a, R>
+        ensures faults { result.faults ≡ 0 }
+        ensures disk_faults { result.disk_faults ≡ 0 }
+        ensures fetches { result.fetches ≡ 0 }
+    {
+        FileShelf {
+            rt,
+            faults: 0,
+            disk_faults: 0,
+            fetches: 0,
+        }
+    }
+
+    fn open(&self, path: &str) -> io::Result<FileDisk<R::File>>
+        ensures { IfOk result (λ disk. disk.faults ≡ 0) }
+    {
+        let file = OpenOptions::new()
+            .read(true)
+            .write(true)
+            .open(self.rt, path)?;
+        let bytes = file.metadata()?.len();
+        Ok(FileDisk {
+            file,
+            bytes,
+            faults: 0,
+        })
+    }
+}
+
+impl<'a, R: Files> Shelf for FileShelf<'a, R>
+where
+    R::File: Send,
+{
+    type Disk = FileDisk<R::File>;
+
+    ghost faults = { λ s. s.faults };
+
+    ghost disk_faults = { λ s. s.disk_faults };
+
+    ghost fetches = { λ s. s.fetches };
+
+    ghost tells = { λ _. ⊥ };
+
+    ghost image = { λ _ _ _. ⊥ };
+
+    ghost out = { λ _ _. ⊥ };
+
+    /// Opens the file of this path.
+    fn fetch(&mut self, name: &str) -> Result<FileDisk<R::File>, FetchFault> {
+        match self.open(name) {
+            Ok(disk) => {
+                self.fetches = self.fetches.saturating_add(1);
+                Ok(disk)
+            }
+            Err(_) => {
+                self.faults = self.faults.saturating_add(1);
+                Err(FetchFault::Failed)
+            }
+        }
+    }
+
+    /// Closes the file.
+    fn give_back(&mut self, disk: FileDisk<R::File>) {
+        if disk.faults > 0 {
+            self.disk_faults = self.disk_faults.saturating_add(1);
+        }
+    }
+}

@@ -6,8 +6,7 @@ use Rattle.std.proofs.lemmas.Bool.{false≢true, and_parts, and_from, lt-ltb, lt
 use Rattle.std.proofs.lemmas.List.{take-append-drop, drop_more}
 use Rattle.std.proofs.lemmas.List.Folds.{list_all-append}
 use Rattle.zio_types.specs.declared.place.Place.{Place}
-use Rattle.zio_types.specs.Places.{end_of, meets, is_below, is_inside, is_free}
-use Rattle.zio_places.specs.Spaces.{are_apart, are_open}
+use Rattle.zio_types.specs.Places.{end_of, meets, is_below, is_inside, is_free, are_apart, are_open}
 use Rattle.zio_places.specs.Tables.{TopState, top_at, sizes_of, covers, one_if, Count, AreEven, HasFlags, Hold}
 use Rattle.zio_places.proofs.PlaceLemmas.{total-append, covers-from, covers-parts, is_free-from_counts, counts-from_is_free, meets-symmetric}
 use Rattle.zio_places.proofs.ChangeLemmas.{taken_in-free, taken_in-zero}

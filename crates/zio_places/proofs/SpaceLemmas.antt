@@ -7,9 +7,9 @@ use Rattle.std.proofs.lemmas.Bool.{and_from, false_from_ne_true}
 use Rattle.std.proofs.lemmas.List.{length-map, length_push, length-replicate}
 use Rattle.std.proofs.lemmas.List.Elements.{All-contains, All-push, Contains-append_cases}
 use Rattle.zio_types.specs.declared.place.Place.{Place}
-use Rattle.zio_types.specs.Places.{is_inside, is_free}
+use Rattle.zio_types.specs.Places.{is_inside, is_free, are_apart}
 use Rattle.zio_types.specs.Choices.{Choice}
-use Rattle.zio_places.specs.Spaces.{SamePlaces, are_inside, are_apart, IsSound}
+use Rattle.zio_places.specs.Spaces.{SamePlaces, are_inside, IsSound}
 use Rattle.zio_places.specs.Counted.{IsCounted}
 use Rattle.zio_places.specs.Tables.{TopState, top_at, sizes_of, places_from, live_from, live_of, covers, one_if, total, cover_count, taken_in, taken_at, Count, AreEven, AreKept, AllGetUsed, GetLive, Hold}
 use Rattle.zio_places.proofs.PlaceLemmas.{total-append, one_if-le, covers-from, is_free-from_counts, total-contains, Contains-head, Contains-tail, contains-same, same_place, same_place-true, place_count-contains, contains-place_count}

@@ -1,9 +1,9 @@
 //! The tables of all tops: places are held, released and found here.
 
 ghost use Rattle.std.specs.Prelude.{◌≡◌, ◌+◌, ◌^◌, ◌<◌, ◌≤◌, ◌∷◌, [], ℕ, List, length, true, false, Contains, IsTrue, All, ◌↔◌, MatchOption};
-ghost use Rattle.zio_types.specs.Places.{is_inside, uses_top};
+ghost use Rattle.zio_types.specs.Places.{is_inside, uses_top, are_open};
 ghost use Rattle.zio_places.specs.Flags.{AreAll};
-ghost use Rattle.zio_places.specs.Spaces.{are_inside, are_open};
+ghost use Rattle.zio_places.specs.Spaces.{are_inside};
 ghost use Rattle.zio_places.specs.Tables.{top_at, sizes_of, live_of, length_at, total, cover_count, taken_at, Count, AreEven, AreKept, HasFlags, GetUsed, AllGetUsed, GetLive, Hold, IsRoom, IsFresh, IsFound, NoneHasRoom, NoFreshHasRoom};
 
 use crate::table::Table;

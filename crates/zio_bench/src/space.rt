@@ -4,7 +4,7 @@ use zio_places::Space;
 use zio_types::{Key, Path, Place, Role};
 
 /// How many calls there are before a round is closed.
-const ROUND: u32 = 1000;
+const ROUND: u32 = 64;
 
 /// Takes one sector and gives it back, so many times, beside so many free runs of one sector. The answer is how many
 /// places were found.

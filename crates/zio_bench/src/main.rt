@@ -4,8 +4,11 @@
 //!     space RUNS CALLS    places taken and given back, beside so many free runs of one sector
 //!     hit ROWS CALLS      looks into a fault table
 //!     sum BYTES TIMES     fletcher4 and SHA-256 of so many bytes
+//!     header SIZE TIMES   a gang header of a block of this size, read
+//!     digest BYTES TIMES  SHA-256 alone
 #![tactic(auto)]
 
+mod header;
 mod space;
 mod sums;
 mod table;
@@ -20,7 +23,7 @@ fn main(rt: HostRuntime) -> Result<()> {
         words.push(word)?;
     }
     let [_, subject, size, times] = words.as_slice() else {
-        bail!("words: space RUNS CALLS, hit ROWS CALLS or sum BYTES TIMES");
+        bail!("words: a subject, a size and a number of calls");
     };
     let size: u32 = size.parse().context("a size")?;
     let times: u32 = times.parse().context("a number of calls")?;
@@ -28,7 +31,9 @@ fn main(rt: HostRuntime) -> Result<()> {
         "space" => space::take_and_give_back(alloc, size, times)?,
         "hit" => table::look(alloc, size, times)?,
         "sum" => sums::add_up(alloc, size, times)?,
-        _ => bail!("space, hit or sum"),
+        "header" => header::read(alloc, size, times)?,
+        "digest" => sums::digest(alloc, size, times)?,
+        _ => bail!("space, hit, sum, header or digest"),
     };
     println!(rt; "{done}")?;
     Ok(())

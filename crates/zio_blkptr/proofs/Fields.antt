@@ -14,7 +14,7 @@ pub record PlaceWords (p : Place) (u v : ℕ) : Type 0 where
   pub first_fits : u < 2 ^ 64
   pub second_fits : v < 2 ^ 64
 
-bit_small : (gang : Bool) → bit gang < 2
+pub bit_small : (gang : Bool) → bit gang < 2
 bit_small false = omega arith
 bit_small true = omega arith
 
@@ -57,7 +57,7 @@ place_field-words bytes i p u v holds first second =
 gang_bit : (sector b : ℕ) → sector < 2 ^ 48 → b < 2 → (sector + b * 2 ^ 63) / 2 ^ 63 ≡ b
 gang_bit sector b fits small = omega arith
 
-bit_is_one : (gang : Bool) → (bit gang == 1) ≡ gang
+pub bit_is_one : (gang : Bool) → (bit gang == 1) ≡ gang
 bit_is_one false = refl
 bit_is_one true = refl
 
@@ -85,22 +85,22 @@ pub record IsSize (size : ℕ) : Type 0 where
   pub high : size ≤ 131072
 
 -- a size in sectors less 1 is below 256
-few_sectors : (size : ℕ) → IsSize size → size / 512 - 1 < 256
+pub few_sectors : (size : ℕ) → IsSize size → size / 512 - 1 < 256
 few_sectors size h = omega arith
 
-sum_small : (sum : SumKind) → sum_number sum < 16
+pub sum_small : (sum : SumKind) → sum_number sum < 16
 sum_small Off = omega arith
 sum_small Fletcher4 = omega arith
 sum_small Sha256 = omega arith
 
 -- a checksum's number says which it is
-sum_number_read : (sum : SumKind) → sum_of_number (sum_number sum) ≡ sum
+pub sum_number_read : (sum : SumKind) → sum_of_number (sum_number sum) ≡ sum
 sum_number_read Off = refl
 sum_number_read Fletcher4 = refl
 sum_number_read Sha256 = refl
 
 -- a size is its sectors less 1, and 1, in bytes
-size_again : (size : ℕ) → IsSize size → (size / 512 - 1 + 1) * 512 ≡ size
+pub size_again : (size : ℕ) → IsSize size → (size / 512 - 1 + 1) * 512 ≡ size
 size_again size h = omega arith
 
 -- the word of properties of a pointer with this size and checksum

@@ -17,7 +17,7 @@ use Rattle.zio_blkptr.proofs.Fields.{PlaceWords, PlaceWords-present, PlaceWords-
 -- ---- what validity says
 
 -- What a valid pointer's count, places and size are.
-record ValidParts (bp : Bp) : Type 0 where
+pub record ValidParts (bp : Bp) : Type 0 where
   pub low : 1 ≤ bp.count
   pub high : bp.count ≤ 3
   pub present : IsTrue (list_all (is_present bp) (places_of bp))
@@ -45,7 +45,7 @@ IsSize-from size h =
       high = leb-true size 131072 two.1;
     }
 
-valid_parts : (bp : Bp) → IsTrue (valid bp) → ValidParts bp
+pub valid_parts : (bp : Bp) → IsTrue (valid bp) → ValidParts bp
 valid_parts bp h =
     let parts = six_parts (nat_le 1 bp.count) (nat_le bp.count 3) (list_all (is_present bp) (places_of bp)) (list_all is_absent (drop bp.count bp.places)) (is_block_size bp.size) (nat_le 1 bp.birth) h in
     record {
@@ -57,7 +57,7 @@ valid_parts bp h =
     }
 
 -- The place has sectors, and all its fields are in range.
-record IsInRange (p : Place) : Type 0 where
+pub record IsInRange (p : Place) : Type 0 where
   pub some : 0 < p.sectors
   pub sectors : p.sectors < 2 ^ 24
   pub top : p.top < 2 ^ 24
@@ -69,7 +69,7 @@ sectors_in_range true size n h e = (omega arith, omega arith)
 sectors_in_range false size n h e = (omega arith, omega arith)
 
 -- a place that a valid pointer counts is in range
-IsInRange-from : (bp : Bp) (p : Place) → IsSize bp.size → IsTrue (is_present bp p) → IsInRange p
+pub IsInRange-from : (bp : Bp) (p : Place) → IsSize bp.size → IsTrue (is_present bp p) → IsInRange p
 IsInRange-from bp p size h =
     let two = and_parts (p.sectors == sectors_each bp && nat_lt p.top (2 ^ 24)) (nat_lt p.sector (2 ^ 48)) h in
     let one = and_parts (p.sectors == sectors_each bp) (nat_lt p.top (2 ^ 24)) two.0 in
@@ -82,13 +82,13 @@ IsInRange-from bp p size h =
     }
 
 -- All the place's fields are 0.
-record IsZero (p : Place) : Type 0 where
+pub record IsZero (p : Place) : Type 0 where
   pub sectors : p.sectors ≡ 0
   pub top : p.top ≡ 0
   pub sector : p.sector ≡ 0
 
 -- a place behind those that it counts is zero
-IsZero-from : (p : Place) → IsTrue (is_absent p) → IsZero p
+pub IsZero-from : (p : Place) → IsTrue (is_absent p) → IsZero p
 IsZero-from p h =
     let two = and_parts (p.sectors == 0 && p.top == 0) (p.sector == 0) h in
     let one = and_parts (p.sectors == 0) (p.top == 0) two.0 in
@@ -100,7 +100,7 @@ IsZero-from p h =
 
 -- ---- how many places have sectors
 
-length-sectors : (p q r : Place) (n : ℕ) → prefix_len has_sectors (p ∷ q ∷ r ∷ []) ≡ n → length (take_while has_sectors (p ∷ q ∷ r ∷ [])) ≡ n
+pub length-sectors : (p q r : Place) (n : ℕ) → prefix_len has_sectors (p ∷ q ∷ r ∷ []) ≡ n → length (take_while has_sectors (p ∷ q ∷ r ∷ [])) ≡ n
 length-sectors p q r n e = length-prefix_len has_sectors (p ∷ q ∷ r ∷ []) ∙ e
 
 has : (p : Place) → IsInRange p → has_sectors p ≡ true
@@ -110,29 +110,29 @@ has_none : (p : Place) → IsZero p → has_sectors p ≡ false
 has_none p h = ap (nat_lt 0) h.sectors
 
 -- of three tests in a row, how many pass from the first on
-one_passes : (t u v : Bool) → t ≡ true → u ≡ false → cond t (1 + cond u (1 + cond v 1 0) 0) 0 ≡ 1
+pub one_passes : (t u v : Bool) → t ≡ true → u ≡ false → cond t (1 + cond u (1 + cond v 1 0) 0) 0 ≡ 1
 one_passes t u v h k = ap (λ b. cond b (1 + cond u (1 + cond v 1 0) 0) 0) h ∙ ap (λ b. 1 + cond b (1 + cond v 1 0) 0) k
 
-two_pass : (t u v : Bool) → t ≡ true → u ≡ true → v ≡ false → cond t (1 + cond u (1 + cond v 1 0) 0) 0 ≡ 2
+pub two_pass : (t u v : Bool) → t ≡ true → u ≡ true → v ≡ false → cond t (1 + cond u (1 + cond v 1 0) 0) 0 ≡ 2
 two_pass t u v h k l = ap (λ b. cond b (1 + cond u (1 + cond v 1 0) 0) 0) h ∙ ap (λ b. 1 + cond b (1 + cond v 1 0) 0) k ∙ ap (λ b. 1 + (1 + cond b 1 0)) l
 
-three_pass : (t u v : Bool) → t ≡ true → u ≡ true → v ≡ true → cond t (1 + cond u (1 + cond v 1 0) 0) 0 ≡ 3
+pub three_pass : (t u v : Bool) → t ≡ true → u ≡ true → v ≡ true → cond t (1 + cond u (1 + cond v 1 0) 0) 0 ≡ 3
 three_pass t u v h k l = ap (λ b. cond b (1 + cond u (1 + cond v 1 0) 0) 0) h ∙ ap (λ b. 1 + cond b (1 + cond v 1 0) 0) k ∙ ap (λ b. 1 + (1 + cond b 1 0)) l
 
 -- the places that have sectors are those that are counted
-one_has : (p q r : Place) → IsInRange p → IsZero q → length (take_while has_sectors (p ∷ q ∷ r ∷ [])) ≡ 1
+pub one_has : (p q r : Place) → IsInRange p → IsZero q → length (take_while has_sectors (p ∷ q ∷ r ∷ [])) ≡ 1
 one_has p q r at_p at_q = length-sectors p q r 1 (one_passes (has_sectors p) (has_sectors q) (has_sectors r) (has p at_p) (has_none q at_q))
 
-two_have : (p q r : Place) → IsInRange p → IsInRange q → IsZero r → length (take_while has_sectors (p ∷ q ∷ r ∷ [])) ≡ 2
+pub two_have : (p q r : Place) → IsInRange p → IsInRange q → IsZero r → length (take_while has_sectors (p ∷ q ∷ r ∷ [])) ≡ 2
 two_have p q r at_p at_q at_r = length-sectors p q r 2 (two_pass (has_sectors p) (has_sectors q) (has_sectors r) (has p at_p) (has q at_q) (has_none r at_r))
 
-three_have : (p q r : Place) → IsInRange p → IsInRange q → IsInRange r → length (take_while has_sectors (p ∷ q ∷ r ∷ [])) ≡ 3
+pub three_have : (p q r : Place) → IsInRange p → IsInRange q → IsInRange r → length (take_while has_sectors (p ∷ q ∷ r ∷ [])) ≡ 3
 three_have p q r at_p at_q at_r = length-sectors p q r 3 (three_pass (has_sectors p) (has_sectors q) (has_sectors r) (has p at_p) (has q at_q) (has r at_r))
 
 -- ---- the fields of sixteen words
 
 -- the pointer of these fields
-abbrev made : ℕ → Place → Place → Place → Bool → ℕ → SumKind → ℕ → ℕ → ℕ → ℕ → ℕ → Bp
+abbrev pub made : ℕ → Place → Place → Place → Bool → ℕ → SumKind → ℕ → ℕ → ℕ → ℕ → ℕ → Bp
 made count p q r gang size sum birth a b c d = record {
   count = count;
   places = p ∷ q ∷ r ∷ [];
@@ -144,7 +144,7 @@ made count p q r gang size sum birth a b c d = record {
 }
 
 -- its words: two for each place, the properties, three of 0, the birth, the fill, and the checksum
-abbrev sixteen : ℕ → ℕ → ℕ → ℕ → ℕ → ℕ → ℕ → ℕ → ℕ → ℕ → ℕ → ℕ → List ℕ
+abbrev pub sixteen : ℕ → ℕ → ℕ → ℕ → ℕ → ℕ → ℕ → ℕ → ℕ → ℕ → ℕ → ℕ → List ℕ
 sixteen u0 v0 u1 v1 u2 v2 props birth a b c d =
     u0 ∷ v0 ∷ u1 ∷ v1 ∷ u2 ∷ v2 ∷ props ∷ 0 ∷ 0 ∷ 0 ∷ birth ∷ 1 ∷ a ∷ b ∷ c ∷ d ∷ []
 
@@ -186,7 +186,7 @@ place_fits : (p : Place) (u v : ℕ) (ws : List ℕ) → PlaceWords p u v → Al
 place_fits p u v ws h rest = (h.first_fits, (h.second_fits, rest))
 
 -- all sixteen words fit
-sixteen-fit : (p q r : Place) (size : ℕ) (sum : SumKind) (birth a b c d : ℕ) (u0 v0 u1 v1 u2 v2 : ℕ)
+pub sixteen-fit : (p q r : Place) (size : ℕ) (sum : SumKind) (birth a b c d : ℕ) (u0 v0 u1 v1 u2 v2 : ℕ)
     → PlaceWords p u0 v0 → PlaceWords q u1 v1 → PlaceWords r u2 v2
     → IsSize size → birth < 2 ^ 64 → AllFit (a ∷ b ∷ c ∷ d ∷ [])
     → AllFit (sixteen u0 v0 u1 v1 u2 v2 (properties_of size sum) birth a b c d)
@@ -211,32 +211,32 @@ fields-sixteen count p q r gang size sum birth a b c d u0 v0 u1 v1 u2 v2 at_p at
     fields-words (flat_map word ws) count p q r gang size sum birth a b c d u0 v0 u1 v1 u2 v2 (words_read ws (sixteen-fit p q r size sum birth a b c d u0 v0 u1 v1 u2 v2 at_p at_q at_r size_ok birth_fits words_fit)) at_p at_q at_r counted gang_is size_ok
 
 -- the words of a place in range
-abbrev first_of : Place → ℕ
+abbrev pub first_of : Place → ℕ
 first_of p = p.sectors + p.top * 2 ^ 32
 
-abbrev second_of : Bool → Place → ℕ
+abbrev pub second_of : Bool → Place → ℕ
 second_of gang p = p.sector + bit gang * 2 ^ 63
 
-words_of_place : (gang : Bool) (p : Place) → IsInRange p → PlaceWords p (first_of p) (second_of gang p)
+pub words_of_place : (gang : Bool) (p : Place) → IsInRange p → PlaceWords p (first_of p) (second_of gang p)
 words_of_place gang p h = PlaceWords-present gang p h.sectors h.top h.sector
 
-words_of_none : (p : Place) → IsZero p → PlaceWords p 0 0
+pub words_of_none : (p : Place) → IsZero p → PlaceWords p 0 0
 words_of_none p h = PlaceWords-absent p h.sectors h.top h.sector
 
 -- a pointer with one place is spelled by these words
-spelling-one : (p q r : Place) (gang : Bool) (size : ℕ) (sum : SumKind) (birth a b c d : ℕ)
+pub spelling-one : (p q r : Place) (gang : Bool) (size : ℕ) (sum : SumKind) (birth a b c d : ℕ)
     → spelling (made 1 p q r gang size sum birth a b c d)
     ≡ flat_map word (sixteen (first_of p) (second_of gang p) 0 0 0 0 (properties_of size sum) birth a b c d)
 spelling-one p q r gang size sum birth a b c d = refl
 
 -- with two places
-spelling-two : (p q r : Place) (gang : Bool) (size : ℕ) (sum : SumKind) (birth a b c d : ℕ)
+pub spelling-two : (p q r : Place) (gang : Bool) (size : ℕ) (sum : SumKind) (birth a b c d : ℕ)
     → spelling (made 2 p q r gang size sum birth a b c d)
     ≡ flat_map word (sixteen (first_of p) (second_of gang p) (first_of q) (second_of gang q) 0 0 (properties_of size sum) birth a b c d)
 spelling-two p q r gang size sum birth a b c d = refl
 
 -- with three places
-spelling-three : (p q r : Place) (gang : Bool) (size : ℕ) (sum : SumKind) (birth a b c d : ℕ)
+pub spelling-three : (p q r : Place) (gang : Bool) (size : ℕ) (sum : SumKind) (birth a b c d : ℕ)
     → spelling (made 3 p q r gang size sum birth a b c d)
     ≡ flat_map word (sixteen (first_of p) (second_of gang p) (first_of q) (second_of gang q) (first_of r) (second_of gang r) (properties_of size sum) birth a b c d)
 spelling-three p q r gang size sum birth a b c d = refl
@@ -310,7 +310,7 @@ read_made (suc (suc (suc zero))) p q r gang size sum birth a b c d ok birth_fits
 read_made (suc (suc (suc (suc n)))) p q r gang size sum birth a b c d ok birth_fits words_fit = absurd (omega (arith, ok.high))
 
 -- the pointer with these places and words
-abbrev with_lists : Bp → List Place → List ℕ → Bp
+abbrev pub with_lists : Bp → List Place → List ℕ → Bp
 with_lists bp places words = record bp { places = places; words = words }
 
 -- its checksum has four words
@@ -369,7 +369,7 @@ then_some-Some true x y e = (refl, same_Some x y e)
 then_some-Some false x y e = absurd (none-some y e)
 
 -- the fields of bytes that spell a pointer are that pointer's
-fields-pointer : (bytes : List ℕ) (bp : Bp) → pointer_of bytes ≡ Some bp → fields bytes ≡ bp
+pub fields-pointer : (bytes : List ℕ) (bp : Bp) → pointer_of bytes ≡ Some bp → fields bytes ≡ bp
 fields-pointer bytes bp e = (then_some-Some (spells (fields bytes) bytes) (fields bytes) bp e).1
 
 -- a pointer that is read from bytes is valid, and they are its spelling

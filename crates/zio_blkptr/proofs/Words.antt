@@ -1,8 +1,10 @@
 -- Bytes that are words of eight, and the words that they give back.
-use Rattle.std.proofs.Common.{◌≡◌, ℕ, zero, suc, ◌+◌, ◌*◌, ◌^◌, ◌<◌, List, [], ◌∷◌, length, take, drop, get_or, refl, ap, sym, ◌∙◌, arith, drop-drop, get_or-take, get_or-drop}
-use Rattle.std.proofs.lemmas.Nat.{from_le_bytes-to_le_bytes_8}
+use Rattle.std.proofs.Common.{◌≡◌, ℕ, zero, suc, ◌+◌, ◌*◌, ◌^◌, ◌<◌, List, [], ◌∷◌, ◌++◌, length, take, drop, get_or, refl, ap, sym, ◌∙◌, subst, arith, drop-drop, get_or-drop, length-take, length-drop}
+use Rattle.std.proofs.lemmas.Nat.{from_le_bytes-to_le_bytes_8, le_bytes_8}
+use Rattle.std.proofs.lemmas.List.{drop_all, take-append-drop}
 use Rattle.std.specs.Int.{w64, from_le_bytes}
 use Rattle.std.specs.List.{flat_map, AllByRecursion}
+use Rattle.std.specs.Simd.{first_chunks}
 use Rattle.zio_blkptr.specs.Pointers.{word, word_of}
 
 -- Each of the words fits in 64 bits.
@@ -37,15 +39,56 @@ sum-fits : (a b c d e f g h : ℕ) → a < 256 → b < 256 → c < 256 → d < 2
     → a + b * 256 + c * 65536 + d * 16777216 + e * 4294967296 + f * 1099511627776 + g * 281474976710656 + h * 72057594037927936 < 2 ^ 64
 sum-fits a b c d e f g h at_a at_b at_c at_d at_e at_f at_g at_h = omega arith
 
--- each of the eight bytes from n on is a byte
-part-small : (bytes : List ℕ) (n : ℕ) → ((k : ℕ) → get_or bytes k 0 < 2 ^ 8) → (k : ℕ) → k < 8 → get_or (take 8 (drop n bytes)) k 0 < 256
-part-small bytes n small k h =
-    let here : get_or (take 8 (drop n bytes)) k 0 ≡ get_or bytes (n + k) 0 = get_or-take 8 (drop n bytes) k 0 h ∙ get_or-drop n bytes k 0 in
-    omega (arith, here, small (n + k))
+-- of fewer bytes each is a byte too
+pub take_small : (n : ℕ) (xs : List ℕ) → ((i : ℕ) → get_or xs i 0 < 2 ^ 8) → (i : ℕ) → get_or (take n xs) i 0 < 2 ^ 8
+take_small zero xs small i = omega arith
+take_small (suc n) [] small i = omega arith
+take_small (suc n) (x ∷ xs) small zero = small 0
+take_small (suc n) (x ∷ xs) small (suc i) = take_small n xs (λ k. small (suc k)) i
+
+-- and so in any part
+pub slice_small : (n m : ℕ) (xs : List ℕ) → ((i : ℕ) → get_or xs i 0 < 2 ^ 8) → (i : ℕ) → get_or (take n (drop m xs)) i 0 < 2 ^ 8
+slice_small n m xs small = take_small n (drop m xs) (λ i. subst (λ x. x < 2 ^ 8) (sym (get_or-drop m xs i 0)) (small (m + i)))
 
 -- each word of bytes fits
 pub word_of-fits : (bytes : List ℕ) (i : ℕ) → ((k : ℕ) → get_or bytes k 0 < 2 ^ 8) → word_of bytes i < 2 ^ 64
 word_of-fits bytes i small =
+    let at = slice_small 8 (8 * i) bytes small in
+    sum-fits _ _ _ _ _ _ _ _ (at 0) (at 1) (at 2) (at 3) (at 4) (at 5) (at 6) (at 7)
+
+-- ---- bytes in pieces of equal length
+
+-- piece i of k pieces of n
+pub get_or-first_chunks : (n k : ℕ) (xs : List ℕ) (i : ℕ) → i < k → get_or (first_chunks n k xs) i [] ≡ take n (drop (n * i) xs)
+get_or-first_chunks n zero xs i h = absurd (omega arith)
+get_or-first_chunks n (suc k) xs zero h = let e : 0 ≡ n * 0 = omega arith in ap (λ m. take n (drop m xs)) e
+get_or-first_chunks n (suc k) xs (suc i) h =
+    let next : n + n * i ≡ n * suc i = omega arith in
+    get_or-first_chunks n k (drop n xs) i (omega arith) ∙ ap (take n) (drop-drop (n * i) n xs) ∙ ap (λ m. take n (drop m xs)) next
+
+-- bytes of a word are those of the number that they are
+word-again : (xs : List ℕ) → length xs ≡ 8 → ((i : ℕ) → get_or xs i 0 < 256) → word (from_le_bytes w64 xs) ≡ xs
+word-again xs long small = le_bytes_8 xs (from_le_bytes w64 xs) long small refl
+
+-- so many words of bytes, from word i on
+abbrev pub words_from : List ℕ → ℕ → ℕ → List ℕ
+words_from bytes i zero = []
+words_from bytes i (suc n) = word_of bytes i ∷ words_from bytes (i + 1) n
+
+-- bytes are those of their words
+words_again : (bytes : List ℕ) (n i : ℕ) → length bytes ≡ 8 * (i + n) → ((k : ℕ) → get_or bytes k 0 < 2 ^ 8)
+    → flat_map word (words_from bytes i n) ≡ drop (8 * i) bytes
+words_again bytes zero i long small = sym (drop_all (8 * i) bytes (omega arith))
+words_again bytes (suc n) i long small =
     let part = take 8 (drop (8 * i) bytes) in
-    let at : (k : ℕ) → k < 8 → get_or part k 0 < 256 = part-small bytes (8 * i) small in
-    sum-fits _ _ _ _ _ _ _ _ (at 0 (omega arith)) (at 1 (omega arith)) (at 2 (omega arith)) (at 3 (omega arith)) (at 4 (omega arith)) (at 5 (omega arith)) (at 6 (omega arith)) (at 7 (omega arith))
+    let room : length part ≡ 8 = omega (arith, length-take 8 (drop (8 * i) bytes), length-drop (8 * i) bytes) in
+    let left : length bytes ≡ 8 * (i + 1 + n) = omega arith in
+    let next : 8 * i + 8 ≡ 8 * (i + 1) = omega arith in
+    let here : word (word_of bytes i) ≡ part = word-again part room (slice_small 8 (8 * i) bytes small) in
+    let rest : drop 8 (drop (8 * i) bytes) ≡ drop (8 * (i + 1)) bytes = drop-drop 8 (8 * i) bytes ∙ ap (λ m. drop m bytes) next in
+    (λ j. here j ++ words_again bytes n (i + 1) left small j) ∙ ap (λ t. part ++ t) (sym rest) ∙ take-append-drop 8 (drop (8 * i) bytes)
+
+-- the sixteen words of 128 bytes
+pub bytes_are_words : (bytes : List ℕ) → length bytes ≡ 128 → ((k : ℕ) → get_or bytes k 0 < 2 ^ 8)
+    → flat_map word (words_from bytes 0 16) ≡ bytes
+bytes_are_words bytes long small = words_again bytes 16 0 long small

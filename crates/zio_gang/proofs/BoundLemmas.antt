@@ -1,9 +1,10 @@
 -- The bound names are a map.
-use Rattle.std.proofs.Common.{◌≡◌, ◌≢◌, ℕ, List, [], ◌∷◌, Bool, true, false, cond, not, find, Option, Some, None, option_map, bytes_eq, refl, sym, ap, ◌∙◌}
+use Rattle.std.proofs.Common.{◌≡◌, ◌≢◌, ℕ, List, [], ◌∷◌, Bool, true, false, cond, not, find, Some, None, option_map, bytes_eq, refl, sym, ap, ◌∙◌}
 use Rattle.std.proofs.lemmas.Slice.Eq.{bytes_eq-Decides}
 use Rattle.std.proofs.lemmas.Bool.{false_from_ne_true}
 use Rattle.zio_gang.specs.declared.tree.Tree.{Tree}
-use Rattle.zio_gang.specs.Rounds.{Binding, Bound, bind, unbind, block_of, is_of}
+use Rattle.std.specs.List.{AllByRecursion}
+use Rattle.zio_gang.specs.Rounds.{Binding, Bound, NamesOnce, bind, unbind, block_of, is_of}
 
 bytes_eq-same : (name : List ℕ) → bytes_eq name name ≡ true
 bytes_eq-same name = (bytes_eq-Decides name name).1 refl
@@ -45,3 +46,35 @@ pub block_of-bind-other : (name other : List ℕ) (tree : Tree) (bound : Bound) 
 block_of-bind-other name other tree bound h =
     let differs : bytes_eq name other ≡ false = bytes_eq-other name other (λ same. h (sym same)) in
     rw differs (block_of-unbind-other name other bound h)
+
+-- ---- no name stands twice
+
+-- what holds of all holds of those that are left
+kept-unbind : (P : Binding → Type 0) (name : List ℕ) (bound : Bound) → AllByRecursion P bound → AllByRecursion P (unbind name bound)
+kept-unbind P name [] h = tt
+kept-unbind P name (b ∷ bound) h = go (is_of name b) (kept-unbind P name bound h.1)
+  where
+    go : (t : Bool) → AllByRecursion P (unbind name bound) → AllByRecursion P (cond (not t) (b ∷ unbind name bound) (unbind name bound))
+    go true rest = rest
+    go false rest = (h.0, rest)
+
+pub NamesOnce-unbind : (name : List ℕ) (bound : Bound) → NamesOnce bound → NamesOnce (unbind name bound)
+NamesOnce-unbind name [] h = tt
+NamesOnce-unbind name (b ∷ bound) h = go (is_of name b) (NamesOnce-unbind name bound h.1)
+  where
+    go : (t : Bool) → NamesOnce (unbind name bound) → NamesOnce (cond (not t) (b ∷ unbind name bound) (unbind name bound))
+    go true later = later
+    go false later = (kept-unbind (λ other. is_of b.name other ≡ false) name bound h.0, later)
+
+-- none that is left has the name
+others-unbind : (name : List ℕ) (bound : Bound) → AllByRecursion (λ other. is_of name other ≡ false) (unbind name bound)
+others-unbind name [] = tt
+others-unbind name (b ∷ bound) = go (is_of name b) refl (others-unbind name bound)
+  where
+    go : (t : Bool) → is_of name b ≡ t → AllByRecursion (λ other. is_of name other ≡ false) (unbind name bound) →
+        AllByRecursion (λ other. is_of name other ≡ false) (cond (not t) (b ∷ unbind name bound) (unbind name bound))
+    go true e later = later
+    go false e later = (e, later)
+
+pub NamesOnce-bind : (name : List ℕ) (tree : Tree) (bound : Bound) → NamesOnce bound → NamesOnce (bind name tree bound)
+NamesOnce-bind name tree bound h = (others-unbind name bound, NamesOnce-unbind name bound h)

@@ -2,7 +2,7 @@
 --
 -- A tree is the list of its requests in the order of their attempts: each child's tree by rising number, then the
 -- request itself. So the root is last, and what is attempted again is a part of the list in the same order.
-use Rattle.std.specs.Prelude.{ℕ, zero, suc, ◌+◌, List, [], ◌∷◌, ◌++◌, map, filter, Bool, true, false, ◌&&◌, ◌||◌, not, Option, Some, None, Result, Ok, Err, nat_lt}
+use Rattle.std.specs.Prelude.{ℕ, zero, suc, ◌+◌, List, [], ◌∷◌, ◌++◌, map, filter, Bool, true, false, ◌&&◌, ◌||◌, not, Option, Some, None, Result, Ok, Err}
 use Rattle.zio_types.specs.declared.error.Errno.{Errno}
 use Rattle.zio_types.specs.declared.error.Errno.TheVariants.{Nxio, Nospc, Noent}
 use Rattle.zio_types.specs.declared.place.Place.{Place}
@@ -23,6 +23,7 @@ use Rattle.zio_script.specs.Requests.{kind_of, is_under_number}
 use Rattle.zio_cksum.specs.Blocks.{Read as BlockRead}
 use Rattle.zio_cksum.specs.Images.{Images, Setting, Written}
 use Rattle.zio_gang.specs.declared.tree.Tree.{Tree}
+use Rattle.zio_gang.specs.ByNumber.{merge_by}
 use Rattle.zio_gang.specs.Trees.{Claimed, read_tree, free_tree, claim_tree}
 use Rattle.zio_gang.specs.Writes.{Writing, Placed, content_of, place_block}
 
@@ -35,7 +36,7 @@ pub record Terms : Type 0 where
   -- the places of all blocks that were bound when the round began
   pub used : List Place
 
--- what a finished child leaves with its parent: its number, its error, and its pointer if it is a write with a place
+-- what a child leaves with its parent: its number, its error if it finished, and its pointer if it is a write with a place
 pub record Child : Type 0 where
   pub number : ℕ
   pub error : Option Errno
@@ -113,28 +114,28 @@ abbrev pub suspend_unless : Bool → Bits → Bits
 suspend_unless true bits = bits
 suspend_unless false bits = record { now = bits.now; suspend = true }
 
+-- a claim may always fail, any other request by its flag
+abbrev pub may_fail : Kind → Bool → Bool
+may_fail NullKind canfail = canfail
+may_fail ReadKind canfail = canfail
+may_fail WriteKind canfail = canfail
+may_fail FreeKind canfail = canfail
+may_fail ClaimKind canfail = true
+
 abbrev pub decided : Bool → Bits → Bits
 decided canfail bits = suspend_unless (canfail || has_bits bits) bits
 
 -- all bits of a request: its children's, and those for the error of its own work
 abbrev pub all_bits : Kind → Option Errno → Bool → Failmode → Bits → Bits
 all_bits kind None canfail mode children = children
-all_bits kind (Some e) canfail mode children = decided canfail (joined_bits (kind_bits kind e canfail mode) children)
+all_bits kind (Some e) canfail mode children =
+    decided (may_fail kind canfail) (joined_bits (kind_bits kind e canfail mode) children)
 
 -- ---- children
 
-abbrev pub insert_if : Bool → Child → Child → List Child → List Child → List Child
-insert_if true c d cs inserted = c ∷ d ∷ cs
-insert_if false c d cs inserted = d ∷ inserted
-
--- a child at its place by number
-abbrev pub insert_child : Child → List Child → List Child
-insert_child c [] = c ∷ []
-insert_child c (d ∷ ds) = insert_if (nat_lt c.number d.number) c d ds (insert_child c ds)
-
+-- children at their places by number
 abbrev pub insert_children : List Child → List Child → List Child
-insert_children [] cs = cs
-insert_children (c ∷ cs) ds = insert_child c (insert_children cs ds)
+insert_children new kept = merge_by (λ (c : Child). c.number) new kept
 
 -- what the children of a request handed to it in this attempt
 abbrev pub returned_to : Pending → List Return → List Return

@@ -1,10 +1,11 @@
 -- Which journals a run may have: each round's choices are lawful answers to what it asks for, and its completions are
 -- the requests that finished in it, each after its children.
-use Rattle.std.specs.Prelude.{◌≡◌, ℕ, List, [], ◌∷◌, ◌++◌, map, filter, Bool, true, false, ◌&&◌, IsTrue, Contains, ◌==◌}
+use Rattle.std.specs.Prelude.{◌≡◌, ℕ, List, [], ◌∷◌, ◌++◌, map, filter, Bool, false, ◌&&◌, IsTrue, Contains, ◌==◌}
 use Rattle.std.specs.List.{AllByRecursion, list_any}
 use Rattle.zio_types.specs.declared.journal.Completion.{Completion}
 use Rattle.zio_types.specs.declared.place.Place.{Place}
-use Rattle.zio_types.specs.Choices.{Ask, Choice, is_refused, same_key}
+use Rattle.zio_types.specs.Choices.{Ask, Choice, same_key}
+pub use Rattle.zio_types.specs.Choices.{taken_by}
 use Rattle.zio_types.specs.Places.{IsLawfulChoice}
 use Rattle.zio_script.specs.declared.script.Request.{Request}
 use Rattle.zio_script.specs.Requests.{is_under}
@@ -26,25 +27,18 @@ HaveDistinctKeys [] = Unit {0}
 HaveDistinctKeys (ask ∷ asks) =
     AllByRecursion (λ (other : Ask). same_key ask.key other.key ≡ false) asks × HaveDistinctKeys asks
 
-abbrev pub taken_unless : Bool → List Place → List Place
-taken_unless true places = []
-taken_unless false places = places
-
--- what a choice takes from those after it: a refused one nothing
-abbrev pub taken_by : Choice → List Place
-taken_by c = taken_unless (is_refused c) c.places
-
 -- each choice is lawful beside the places that are used and those that the choices before it took
 abbrev pub AreLawful : List ℕ → List Place → List Choice → Type 0
 AreLawful sizes used [] = Unit {0}
 AreLawful sizes used (c ∷ cs) = IsLawfulChoice sizes used c × AreLawful sizes (taken_by c ++ used) cs
 
--- The choices of one round: for all that it asks and for nothing else, each lawful.
-pub record AreChoicesOf (sizes : List ℕ) (round : Round) (choices : List Choice) : Type 0 where
+-- The choices of one round, beside the places in use at its start: for all that it asks and for nothing else, each
+-- lawful. The sizes are the sectors of each top.
+pub record AreChoicesOf (sizes : List ℕ) (used : List Place) (asks : List Ask) (choices : List Choice) : Type 0 where
   pub distinct : HaveDistinctKeys (asks_of choices)
-  pub asked : AllByRecursion (λ ask. Contains round.asks ask) (asks_of choices)
-  pub answered : AllByRecursion (λ ask. Contains (asks_of choices) ask) round.asks
-  pub lawful : AreLawful sizes round.used choices
+  pub asked : AllByRecursion (λ ask. Contains asks ask) (asks_of choices)
+  pub answered : AllByRecursion (λ ask. Contains (asks_of choices) ask) asks
+  pub lawful : AreLawful sizes used choices
 
 abbrev pub is_round_of : ℕ → Round → Bool
 is_round_of number round = round.number == number
@@ -52,7 +46,7 @@ is_round_of number round = round.number == number
 -- Every choice belongs to one of the rounds, and each round has its choices.
 pub record IsLawfulJournal (sizes : List ℕ) (rounds : List Round) (journal : List Choice) : Type 0 where
   pub of_rounds : AllByRecursion (λ (c : Choice). IsTrue (list_any (is_round_of c.asked.key.round) rounds)) journal
-  pub each : AllByRecursion (λ (round : Round). AreChoicesOf sizes round (choices_in round.number journal)) rounds
+  pub each : AllByRecursion (λ (round : Round). AreChoicesOf sizes round.used round.asks (choices_in round.number journal)) rounds
 
 -- ---- completions
 
@@ -80,14 +74,14 @@ CompleteAfterChildren requests (c ∷ cs) =
     AllByRecursion (λ other. is_child requests c other ≡ false) cs × CompleteAfterChildren requests cs
 
 -- The completions of one round are those of the requests that finished in it.
-pub record AreCompletionsOf (round : Round) (completions : List Completion) : Type 0 where
-  pub finished : AllByRecursion (λ c. Contains (map (completion_of round.number) round.ended) c) completions
-  pub all : AllByRecursion (λ c. Contains completions c) (map (completion_of round.number) round.ended)
+pub record AreCompletionsOf (number : ℕ) (ended : List Ended) (completions : List Completion) : Type 0 where
+  pub finished : AllByRecursion (λ c. Contains (map (completion_of number) ended) c) completions
+  pub all : AllByRecursion (λ c. Contains completions c) (map (completion_of number) ended)
 
 -- Every completion belongs to one of the rounds, each round has its completions, no request completes twice, and none
--- before its children.
+-- before its children among all requests of the script.
 pub record AreCompletions (requests : List Request) (rounds : List Round) (completions : List Completion) : Type 0 where
   pub of_rounds : AllByRecursion (λ (c : Completion). IsTrue (list_any (is_round_of c.round) rounds)) completions
-  pub each : AllByRecursion (λ (round : Round). AreCompletionsOf round (completions_in round.number completions)) rounds
+  pub each : AllByRecursion (λ (round : Round). AreCompletionsOf round.number round.ended (completions_in round.number completions)) rounds
   pub once : CompleteOnce completions
   pub after_children : CompleteAfterChildren requests completions

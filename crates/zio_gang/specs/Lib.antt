@@ -1,4 +1,6 @@
 pub mod Attempts
+pub mod ByNumber
+pub mod HeaderFaults
 pub mod Journals
 pub mod Rounds
 pub mod Runs

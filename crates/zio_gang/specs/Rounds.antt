@@ -1,7 +1,7 @@
 -- One round: the names that are bound, the trees of a batch, which of them are answered by admission, and what running
 -- the others leaves.
-use Rattle.std.specs.Prelude.{ℕ, List, [], ◌∷◌, ◌++◌, map, filter, find, Bool, true, false, ◌&&◌, ◌||◌, not, Option, Some, None, option_map, is_some, ◌==◌, bytes_eq}
-use Rattle.std.specs.List.{flat_map, list_any}
+use Rattle.std.specs.Prelude.{◌≡◌, ℕ, List, [], ◌∷◌, ◌++◌, map, filter, find, Bool, true, false, ◌&&◌, ◌||◌, not, Option, Some, None, option_map, is_some, ◌==◌, bytes_eq}
+use Rattle.std.specs.List.{AllByRecursion, flat_map, list_any}
 use Rattle.zio_types.specs.declared.error.Errno.{Errno}
 use Rattle.zio_types.specs.declared.error.Errno.TheVariants.{Io, Noent, Exist}
 use Rattle.zio_types.specs.declared.place.Place.{Place}
@@ -22,7 +22,7 @@ pub record Binding : Type 0 where
   pub name : List ℕ
   pub tree : Tree
 
--- The bound names. No name stands twice.
+-- the bound names
 abbrev pub Bound : Type 0
 Bound = List Binding
 
@@ -41,6 +41,11 @@ unbind name bound = filter (λ b. not (is_of name b)) bound
 
 abbrev pub bind : List ℕ → Tree → Bound → Bound
 bind name tree bound = record { name = name; tree = tree } ∷ unbind name bound
+
+-- no name stands twice
+abbrev pub NamesOnce : Bound → Type 0
+NamesOnce [] = Unit {0}
+NamesOnce (b ∷ bound) = AllByRecursion (λ other. is_of b.name other ≡ false) bound × NamesOnce bound
 
 -- the places of all bound blocks
 abbrev pub used_places : Bound → List Place
@@ -81,7 +86,7 @@ abbrev pub planted : Option ℕ → Request → List (List Request) → List (Li
 planted None r trees = trees ++ (r ∷ []) ∷ []
 planted (Some parent) r trees = map (put_before parent r) trees
 
--- the trees, and the requests that are to be put into them
+-- the trees with these requests put into them, one after another
 abbrev pub grown : List Request → List (List Request) → List (List Request)
 grown [] trees = trees
 grown (r ∷ rs) trees = grown rs (planted r.under r trees)
@@ -110,7 +115,7 @@ is_named_bound bound (Some name) = is_bound bound name
 abbrev pub has_bound : Bound → Request → Bool
 has_bound bound r = is_named_bound bound (name_of r.work)
 
--- beside suspended trees only reads of other blocks go on
+-- beside suspended trees nulls go on, and reads of other blocks
 abbrev pub is_blocked : List (List Pending) → List Request → Bool
 is_blocked [] tree = false
 is_blocked (s ∷ ss) tree = list_any (λ (r : Request). changes_pool r.work || is_awaited (s ∷ ss) r) tree

@@ -48,7 +48,7 @@ plan_of script images journal = record {
 
 -- ---- what happens in a run
 
--- one round: what it was and what the pool was at its start, what it asked for, which requests finished and which are
+-- one round: what it was and which places were in use at its start, what it asked for, which requests finished and which are
 -- left of its trees, and what the pool is after it
 pub record Round : Type 0 where
   pub number : ℕ

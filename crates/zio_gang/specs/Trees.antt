@@ -1,13 +1,12 @@
 -- A block's tree: its pointer and the gang headers under it, how it is read, and what a claim of one answers.
-use Rattle.std.specs.Prelude.{ℕ, zero, suc, ◌+◌, List, [], ◌∷◌, ◌++◌, map, find, Bool, true, false, ◌&&◌, Option, Some, None, option_map, Result, Ok, Err, bytes_eq}
+use Rattle.std.specs.Prelude.{ℕ, zero, suc, ◌+◌, List, [], ◌∷◌, ◌++◌, map, find, Bool, true, false, Option, Some, None, option_map, Result, Ok, Err, bytes_eq}
 use Rattle.std.specs.List.{flat_map, list_all}
 use Rattle.zio_types.specs.declared.error.Errno.{Errno}
 use Rattle.zio_types.specs.declared.error.Errno.TheVariants.{Cksum, Inval, Exist}
 use Rattle.zio_types.specs.declared.place.Place.{Place}
 use Rattle.zio_types.specs.declared.place.Top.{Top}
 use Rattle.zio_types.specs.Errors.{worst_of}
-use Rattle.zio_types.specs.Paths.{path_steps_max}
-use Rattle.zio_types.specs.Places.{sector_size, is_inside, is_free}
+use Rattle.zio_types.specs.Places.{sector_size, is_inside, are_open}
 use Rattle.zio_blkptr.specs.declared.pointer.Bp.{Bp}
 use Rattle.zio_blkptr.specs.Pointers.{places_of, pointer_of}
 use Rattle.zio_cksum.specs.Blocks.{Read, read_block, good_body, good_kept, good_claimed, blame}
@@ -98,9 +97,13 @@ walk zero v path bp images = walk_pointer (v.judge bp) bp.gang bp (stopped_walk 
 walk (suc levels) v path bp images =
     walk_pointer (v.judge bp) bp.gang bp (λ now. walk_read (walk levels v) path (v.read_head path bp now)) images
 
--- the walk of a whole tree, whose headers stand at depths 0 to 7
+-- how many levels of headers a tree has at most: depths 0 to 7
+abbrev pub header_levels_max : ℕ
+header_levels_max = 8
+
+-- the walk of a whole tree
 abbrev pub walk_tree : Visit → Bp → Images → Walk
-walk_tree v bp images = walk path_steps_max v [] bp images
+walk_tree v bp images = walk header_levels_max v [] bp images
 
 -- ---- reading a tree
 
@@ -115,20 +118,20 @@ abbrev pub walk_kept : Setting → Tree → Images → Walk
 walk_kept s tree images = walk_tree (kept_visit s tree.heads) tree.bp images
 
 -- the bodies of some pointers: their errors, what was read, and the images after
-pub record Bodies : Type 0 where
+pub record BodiesRead : Type 0 where
   pub errors : List (Option Errno)
   pub bytes : List ℕ
   pub images : Images
 
-abbrev pub add_body : Result (List ℕ) Errno → Bodies → Bodies
+abbrev pub add_body : Result (List ℕ) Errno → BodiesRead → BodiesRead
 add_body (Ok bytes) others = record { errors = others.errors; bytes = bytes ++ others.bytes; images = others.images }
 add_body (Err e) others = record { errors = Some e ∷ others.errors; bytes = others.bytes; images = others.images }
 
-abbrev pub then_bodies : Read → (Images → Bodies) → Bodies
+abbrev pub then_bodies : Read → (Images → BodiesRead) → BodiesRead
 then_bodies read others = add_body read.found (others read.images)
 
 -- each body in order, good where it has its sum
-abbrev pub read_bodies : Setting → List Bp → Images → Bodies
+abbrev pub read_bodies : Setting → List Bp → Images → BodiesRead
 read_bodies s [] images = record { errors = []; bytes = []; images = images }
 read_bodies s (bp ∷ bps) images =
     then_bodies (read_block s true (good_body bp) images bp.size (places_of bp)) (read_bodies s bps)
@@ -137,7 +140,7 @@ abbrev pub unless_errors : {X : Type 0} → List (Option Errno) → X → Result
 unless_errors [] x = Ok x
 unless_errors (e ∷ errors) x = Err (blame (e ∷ errors))
 
-abbrev pub bodies_read : Bodies → Read
+abbrev pub bodies_read : BodiesRead → Read
 bodies_read b = record { found = unless_errors b.errors b.bytes; images = b.images }
 
 abbrev pub bodies_unless : List (Option Errno) → Setting → Walk → Read
@@ -171,20 +174,12 @@ abbrev pub inval_unless : Bool → Option Errno
 inval_unless true = None
 inval_unless false = Some Inval
 
--- every place has to be inside its top, and a header is good where it is one of some members; nothing is repaired
+-- every place has to be inside its top, and a header is good where it is the header of some members; nothing is repaired
 abbrev pub claim_visit : Setting → Visit
 claim_visit s = record {
   judge = λ bp. inval_unless (list_all (is_inside (sizes_of s.tops)) (places_of bp));
   read_head = λ path bp images. read_block s false (good_claimed bp) images sector_size (places_of bp);
 }
-
--- no two of the places meet
-abbrev pub are_apart : List Place → Bool
-are_apart [] = true
-are_apart (p ∷ ps) = is_free ps p && are_apart ps
-
-abbrev pub can_be_claimed : List Place → List Place → Bool
-can_be_claimed used places = are_apart places && list_all (is_free used) places
 
 -- the tree that is claimed, or an error
 pub record Claimed : Type 0 where
@@ -196,7 +191,7 @@ claimed_if true tree = Ok tree
 claimed_if false tree = Err Exist
 
 abbrev pub claimed_free : List Place → Tree → Result Tree Errno
-claimed_free used tree = claimed_if (can_be_claimed used (tree_places tree)) tree
+claimed_free used tree = claimed_if (are_open used (tree_places tree)) tree
 
 abbrev pub claimed_found : List Place → List (Option Errno) → Tree → Result Tree Errno
 claimed_found used [] tree = claimed_free used tree

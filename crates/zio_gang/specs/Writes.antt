@@ -1,13 +1,13 @@
 -- What a write stores, and where: its content, the asks for places, and the gang that takes the place of a block for
 -- which no run is free.
-use Rattle.std.specs.Prelude.{ℕ, zero, suc, ◌+◌, ◌-◌, ◌%◌, min, List, [], ◌∷◌, ◌++◌, length, take, drop, replicate, find, slice_index_or, Bool, true, false, Option, Some, None, nat_le}
+use Rattle.std.specs.Prelude.{ℕ, zero, suc, ◌+◌, ◌-◌, ◌%◌, min, List, [], ◌∷◌, ◌++◌, length, take, drop, replicate, find, slice_index_or, Bool, true, false, Option, Some, None, nat_le, nat_lt}
 use Rattle.std.specs.List.{flat_map}
 use Rattle.zio_types.specs.declared.error.Errno.{Errno}
 use Rattle.zio_types.specs.declared.error.Errno.TheVariants.{Nospc}
 use Rattle.zio_types.specs.declared.journal.Role.{Role}
 use Rattle.zio_types.specs.declared.journal.Role.TheVariants.{Body, Head as HeadRole}
 use Rattle.zio_types.specs.declared.place.Place.{Place}
-use Rattle.zio_types.specs.Choices.{Ask, Choice, is_refused, no_place, same_key}
+use Rattle.zio_types.specs.Choices.{Ask, Choice, no_place, same_key}
 use Rattle.zio_types.specs.Errors.{worst_error, worst_of}
 use Rattle.zio_types.specs.Filled.{filled_to}
 use Rattle.zio_types.specs.Paths.{path_steps_max}
@@ -36,13 +36,13 @@ abbrev pub places_unless : Bool → Choice → Option (List Place)
 places_unless true choice = None
 places_unless false choice = Some choice.places
 
-abbrev pub places_chosen : Option Choice → Option (List Place)
-places_chosen None = None
-places_chosen (Some choice) = places_unless (is_refused choice) choice
+abbrev pub places_chosen : ℕ → Option Choice → Option (List Place)
+places_chosen copies None = None
+places_chosen copies (Some choice) = places_unless (nat_lt (length choice.places) copies) choice
 
--- the places that the journal has for an ask, none where it was refused or doesn't stand there
+-- the places that the journal has for an ask, none where it found fewer than the copies or doesn't stand there
 abbrev pub chosen : List Choice → Ask → Option (List Place)
-chosen journal ask = places_chosen (find (λ (c : Choice). same_key c.asked.key ask.key) journal)
+chosen journal ask = places_chosen ask.copies (find (λ (c : Choice). same_key c.asked.key ask.key) journal)
 
 -- ---- placed writes
 
@@ -77,10 +77,11 @@ ask_for w path role size copies = record {
 abbrev pub body_ask : Writing → List ℕ → List ℕ → Ask
 body_ask w path bytes = ask_for w path Body (length bytes) w.copies
 
--- a header has one copy more than its members, and at most three
+-- how many copies there are at most
 abbrev pub copies_max : ℕ
 copies_max = 3
 
+-- a header has one copy more than its members, up to that
 abbrev pub head_ask : Writing → List ℕ → Ask
 head_ask w path = ask_for w path HeadRole sector_size (min (w.copies + 1) copies_max)
 

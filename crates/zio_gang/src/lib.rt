@@ -1,15 +1,22 @@
 //! Gang blocks and the meaning of a script.
 //!
-//! It stands on `zio_cksum` and `zio_script`. Read `Tree` first: a block's pointer with the headers under it.
+//! It stands on `zio_cksum` and `zio_script`. Read `Tree` first: a block's pointer with the headers under it. A header
+//! is made by `header_encode` for the place and birth of its gang, and read by `header_decode` for these alone.
 //! What a script means stands in `specs/`, from the reads of a block's tree (`specs/Trees`) and placed writes
 //! (`specs/Writes`) over one attempt of a tree of requests (`specs/Attempts`) and one round (`specs/Rounds`) to the
 //! run of a script (`specs/Runs`); `specs/Journals` says which journals and completions are lawful.
 #![tactic(auto)]
 
 mod ending;
+mod faults;
+mod header;
 mod laws;
+mod sizes;
 mod tree;
 
 pub use ending::Ending;
-pub use laws::{bound_names_are_a_map, trees_are_attempted_in_turn};
-pub use tree::{Head, Header, Split, Tree};
+pub use faults::header_decode;
+pub use header::{Header, HeaderFault, Split, header_encode};
+pub use laws::{bound_names_are_a_map, headers_have_no_fault, trees_are_attempted_in_turn};
+pub use sizes::{SPLIT_SIZE_MAX, split};
+pub use tree::{Head, Tree};

@@ -22,9 +22,9 @@ use Rattle.zio_report.specs.declared.report.Show.TheVariants.{Report, Summary}
 
 -- ---- words
 
--- a line ends with a newline
-abbrev pub ended : List ℕ → List ℕ
-ended text = text ++ 10 ∷ []
+-- the text as a line, which ends with a newline
+abbrev pub as_line : List ℕ → List ℕ
+as_line text = text ++ 10 ∷ []
 
 -- a blank and a word
 abbrev pub spaced : List ℕ → List ℕ
@@ -62,7 +62,7 @@ batch_text (Some batch) = codes "batch " ++ decimal batch
 
 abbrev pub head_text : RoundHead → List ℕ
 head_text head =
-    ended (codes "round " ++ decimal head.round ++ spaced (batch_text head.batch) ++ codes " point " ++ decimal head.point)
+    as_line (codes "round " ++ decimal head.round ++ spaced (batch_text head.batch) ++ codes " point " ++ decimal head.point)
 
 -- ---- requests
 
@@ -91,7 +91,7 @@ name_text (Some name) = spaced name
 
 abbrev pub line_text : Bool → Line → List ℕ
 line_text with_bytes line =
-    ended (decimal line.number ++ spaced (kind_text line.kind) ++ name_text line.name
+    as_line (decimal line.number ++ spaced (kind_text line.kind) ++ name_text line.name
     ++ spaced (result_text with_bytes line.result))
 
 -- ---- the journal
@@ -110,14 +110,14 @@ place_text p = spaced (decimal p.top ++ codes ":" ++ decimal p.sector)
 
 abbrev pub choice_text : Choice → List ℕ
 choice_text c =
-    ended (codes "take " ++ decimal c.asked.key.request ++ spaced (decimal c.asked.key.attempt)
+    as_line (codes "take " ++ decimal c.asked.key.request ++ spaced (decimal c.asked.key.attempt)
     ++ spaced (path_text c.asked.key.path) ++ spaced (role_text c.asked.key.role) ++ spaced (decimal c.asked.size)
     ++ spaced (decimal c.asked.copies) ++ flat_map place_text c.places ++ when (is_refused c) (codes " refused"))
 
 -- the requests that completed, or no line where none did
 abbrev pub order_text : List Completion → List ℕ
 order_text [] = []
-order_text (c ∷ cs) = ended (codes "order" ++ flat_map (λ (d : Completion). spaced (decimal d.request)) (c ∷ cs))
+order_text (c ∷ cs) = as_line (codes "order" ++ flat_map (λ (d : Completion). spaced (decimal d.request)) (c ∷ cs))
 
 abbrev pub journal_text : List Choice → List Completion → List ℕ
 journal_text choices completions = flat_map choice_text choices ++ order_text completions

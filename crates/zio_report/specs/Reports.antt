@@ -1,5 +1,5 @@
 -- The text of a whole run. docs/FORMATS.md, "Report".
-use Rattle.std.specs.Prelude.{ℕ, ◌-◌, List, [], ◌∷◌, ◌++◌, length, map, filter, sum_by, Bool, true, false, Option, Some, None, is_none, is_some, nat_le, decimal, codes}
+use Rattle.std.specs.Prelude.{ℕ, ◌-◌, List, [], ◌++◌, length, map, filter, sum_by, Option, Some, None, is_none, is_some, decimal, codes}
 use Rattle.std.specs.List.{flat_map}
 use Rattle.zio_types.specs.declared.error.Errno.{Errno}
 use Rattle.zio_types.specs.declared.journal.Completion.{Completion}
@@ -11,6 +11,7 @@ use Rattle.zio_gang.specs.declared.ending.Ending.{Ending}
 use Rattle.zio_gang.specs.declared.ending.Ending.TheVariants.{Complete, Panic, Left}
 use Rattle.zio_gang.specs.declared.tree.Tree.{Tree}
 use Rattle.zio_gang.specs.Attempts.{Ended, Pending}
+use Rattle.zio_gang.specs.ByNumber.{merge_by}
 use Rattle.zio_gang.specs.Journals.{choices_in, completions_in}
 use Rattle.zio_gang.specs.Runs.{Event, Round, rounds_of}
 use Rattle.zio_gang.specs.Runs.Event.{RanRound, HeldBatch}
@@ -20,7 +21,7 @@ use Rattle.zio_report.specs.declared.report.LineResult.TheVariants.{Suspended, F
 use Rattle.zio_report.specs.declared.report.RoundHead.{RoundHead}
 use Rattle.zio_report.specs.declared.report.Show.{Show}
 use Rattle.zio_report.specs.declared.report.Show.TheVariants.{Report, Summary}
-use Rattle.zio_report.specs.Lines.{ended, round_text}
+use Rattle.zio_report.specs.Lines.{as_line, round_text}
 
 -- ---- the lines of a round
 
@@ -56,18 +57,8 @@ line_of_pending p = record {
   result = Suspended;
 }
 
-abbrev pub insert_if : Bool → Line → Line → List Line → List Line → List Line
-insert_if true l m ms inserted = l ∷ m ∷ ms
-insert_if false l m ms inserted = m ∷ inserted
-
--- a line at its place by number
-abbrev pub insert_line : Line → List Line → List Line
-insert_line l [] = l ∷ []
-insert_line l (m ∷ ms) = insert_if (nat_le l.number m.number) l m ms (insert_line l ms)
-
 abbrev pub by_number : List Line → List Line
-by_number [] = []
-by_number (l ∷ ls) = insert_line l (by_number ls)
+by_number lines = merge_by (λ (l : Line). l.number) lines []
 
 -- every request that was in the round, by number: those that finished in it, and those that are left of its trees
 abbrev pub lines_of : Round → List Line
@@ -79,10 +70,10 @@ head_of round = record { round = round.number; batch = round.batch; point = roun
 -- ---- the report
 
 abbrev pub pool_text : ℕ → ℕ → List ℕ
-pool_text tops images = ended (codes "pool " ++ decimal tops ++ codes " " ++ decimal images)
+pool_text tops images = as_line (codes "pool " ++ decimal tops ++ codes " " ++ decimal images)
 
 abbrev pub held_text : ℕ → List ℕ
-held_text batch = ended (codes "held " ++ decimal batch)
+held_text batch = as_line (codes "held " ++ decimal batch)
 
 abbrev pub end_code : Ending → ℕ
 end_code Complete = 0
@@ -90,7 +81,7 @@ end_code Panic = 4
 end_code Left = 9
 
 abbrev pub end_text : Ending → List ℕ
-end_text ending = ended (codes "end " ++ decimal (end_code ending))
+end_text ending = as_line (codes "end " ++ decimal (end_code ending))
 
 -- what a journal holds, without the number of its rounds
 pub record Records : Type 0 where
@@ -117,27 +108,27 @@ bad_ended events = filter (λ (e : Ended). is_some e.error) (all_ended events)
 -- the reads without error
 abbrev pub summary_text : ℕ → List Event → Ending → List ℕ
 summary_text requests events ending =
-    ended (codes "requests " ++ decimal requests)
-    ++ ended (codes "ok " ++ decimal (length (good_ended events)))
-    ++ ended (codes "failed " ++ decimal (length (bad_ended events)))
-    ++ ended (codes "left " ++ decimal (requests - length (all_ended events)))
-    ++ ended (codes "read " ++ decimal (sum_by (λ (e : Ended). length e.bytes) (good_ended events)))
+    as_line (codes "requests " ++ decimal requests)
+    ++ as_line (codes "ok " ++ decimal (length (good_ended events)))
+    ++ as_line (codes "failed " ++ decimal (length (bad_ended events)))
+    ++ as_line (codes "left " ++ decimal (requests - length (all_ended events)))
+    ++ as_line (codes "read " ++ decimal (sum_by (λ (e : Ended). length e.bytes) (good_ended events)))
     ++ end_text ending
 
 -- ---- the whole text
 
 -- what the text of a run is about: how many tops, images and requests there are
-pub record Counts : Type 0 where
+pub record RunSize : Type 0 where
   pub tops : ℕ
   pub images : ℕ
   pub requests : ℕ
 
 -- the text up to the end line: the pool, and each round and held batch in turn
-abbrev pub text_so_far : Show → Counts → Records → List Event → List ℕ
+abbrev pub text_so_far : Show → RunSize → Records → List Event → List ℕ
 text_so_far (Report journal bytes) n j events = pool_text n.tops n.images ++ flat_map (event_text (Report journal bytes) j) events
 text_so_far Summary n j events = []
 
 -- the whole text of a run
-abbrev pub run_text : Show → Counts → Records → List Event → Ending → List ℕ
+abbrev pub run_text : Show → RunSize → Records → List Event → Ending → List ℕ
 run_text (Report journal bytes) n j events ending = text_so_far (Report journal bytes) n j events ++ end_text ending
 run_text Summary n j events ending = summary_text n.requests events ending

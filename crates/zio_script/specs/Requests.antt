@@ -1,7 +1,9 @@
 -- What is asked of requests all over: their kinds, the blocks that they name, and whether they change one.
-use Rattle.std.specs.Prelude.{ℕ, List, Bool, true, false, Option, Some, None, ◌==◌}
+use Rattle.std.specs.Prelude.{ℕ, List, [], ◌∷◌, Bool, true, false, Option, Some, None, ◌==◌}
 use Rattle.zio_types.specs.declared.request.Kind.{Kind}
 use Rattle.zio_types.specs.declared.request.Kind.TheVariants.{Null as NullKind, Read as ReadKind, Write as WriteKind, Free as FreeKind, Claim as ClaimKind}
+use Rattle.zio_script.specs.declared.script.Item.{Item}
+use Rattle.zio_script.specs.declared.script.Item.TheVariants.{Request as RequestLine, Go, Clear}
 use Rattle.zio_script.specs.declared.script.Request.{Request}
 use Rattle.zio_script.specs.declared.script.Work.{Work}
 use Rattle.zio_script.specs.declared.script.Work.TheVariants.{Null, Read, Write, Free, Claim}
@@ -44,6 +46,13 @@ changes_pool (Read name prio) = false
 changes_pool (Write name sum copies prio body) = true
 changes_pool (Free name) = true
 changes_pool (Claim name pointer) = true
+
+-- the requests of a script's lines
+abbrev pub requests_of : List Item → List Request
+requests_of [] = []
+requests_of (RequestLine r ∷ items) = r ∷ requests_of items
+requests_of (Go ∷ items) = requests_of items
+requests_of (Clear ∷ items) = requests_of items
 
 -- the request stands under the one of this number
 abbrev pub is_under_number : Option ℕ → ℕ → Bool

@@ -8,7 +8,7 @@ use zio_types::{Bytes, List, Prio, ReqNo};
 pub enum Failmode {
     /// Later batches wait for the next `clear`.
     Wait,
-    /// Later batches run, and devices that are gone are errors.
+    /// Later batches run, and a device that is gone is an error of a request that may fail.
     Continue,
     /// The run ends.
     Panic,

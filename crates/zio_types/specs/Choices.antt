@@ -1,5 +1,5 @@
 -- What a journal records: what was asked of the space, and the places that it found.
-use Rattle.std.specs.Prelude.{ℕ, List, Bool, true, false, ◌&&◌, ◌==◌, bytes_eq, length, nat_lt}
+use Rattle.std.specs.Prelude.{ℕ, List, [], cond, Bool, true, false, ◌&&◌, ◌==◌, bytes_eq, length, nat_lt}
 use Rattle.zio_types.specs.declared.place.Place.{Place}
 use Rattle.zio_types.specs.declared.journal.Key.{Key}
 use Rattle.zio_types.specs.declared.journal.Role.{Role}
@@ -23,6 +23,10 @@ pub record Choice : Type 0 where
 -- a choice is refused where a copy has no place
 abbrev pub is_refused : Choice → Bool
 is_refused choice = nat_lt (length choice.places) choice.asked.copies
+
+-- what a choice takes: nothing where it is refused
+abbrev pub taken_by : Choice → List Place
+taken_by choice = cond (is_refused choice) [] choice.places
 
 abbrev pub same_role : Role → Role → Bool
 same_role Body Body = true

@@ -28,6 +28,15 @@ is_inside sizes p = is_below p (slice_get sizes p.top)
 abbrev pub is_free : List Place → Place → Bool
 is_free used p = list_all (λ q. not (meets p q)) used
 
+-- no two of the places meet
+abbrev pub are_apart : List Place → Bool
+are_apart [] = true
+are_apart (p ∷ places) = is_free places p && are_apart places
+
+-- each is free beside the used ones, and no two of them meet
+abbrev pub are_open : List Place → List Place → Bool
+are_open used places = list_all (is_free used) places && are_apart places
+
 -- the run of sectors that begins there
 abbrev pub run_at : ℕ → ℕ → ℕ → Place
 run_at top sectors sector = record { top = top; sector = sector; sectors = sectors }

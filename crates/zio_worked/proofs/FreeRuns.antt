@@ -1,5 +1,5 @@
 -- Whether a top has a free run of so many sectors, by a test of each start.
-use Rattle.std.proofs.Common.{◌≡◌, ℕ, zero, suc, ◌+◌, ◌<◌, ◌≤◌, List, length, slice_get, Bool, true, false, ◌&&◌, ◌||◌, not, Option, Some, None, Decides, ⊎_elim, subst, refl, arith, leb-true, below_more}
+use Rattle.std.proofs.Common.{◌≡◌, ℕ, zero, suc, ◌+◌, ◌<◌, ◌≤◌, List, length, slice_get, Bool, true, false, ◌&&◌, ◌||◌, not, Option, Some, None, Decides, ⊎_elim, subst, refl, arith, leb-true, below_more, nat_lt}
 use Rattle.std.proofs.lemmas.Bool.{both_ways, and_parts, and_from, or_cases, or_parts, not_from_false, true_from_ne_false, cases_lt}
 use Rattle.std.proofs.lemmas.Option.{slice_get_past}
 use Rattle.zio_types.specs.declared.place.Place.{Place}
@@ -38,7 +38,7 @@ has_run sizes used top sectors = any_below (is_run sizes used top sectors) (star
 
 start_is_below : (size : Option ℕ) (top sectors sector : ℕ) → is_below (run_at top sectors sector) size ≡ true → sector < starts size
 start_is_below None top sectors sector e = absurd (both_ways false refl e)
-start_is_below (Some n) top sectors sector e = omega (arith, leb-true (sector + sectors) n e)
+start_is_below (Some n) top sectors sector e = omega (arith, leb-true (sector + sectors) n ((and_parts (nat_lt 0 sectors) _ e).1))
 
 run_from : (sizes : List ℕ) (used : List Place) (top sectors : ℕ) → (sector : ℕ) × (is_run sizes used top sectors sector ≡ true) → HasRun sizes used top sectors
 run_from sizes used top sectors (sector, e) =

@@ -1,11 +1,15 @@
 pub mod Absent
 pub mod AdmissionCases
 pub mod BlockCases
+pub mod ClaimCases
 pub mod CompletionCases
 pub mod ErrorCases
 pub mod Evaluation
 pub mod FamilyCases
+pub mod FormatCases
 pub mod FreeRuns
+pub mod GangCases
 pub mod JournalCases
 pub mod LawfulChoices
+pub mod MirrorCases
 pub mod SuspensionCases

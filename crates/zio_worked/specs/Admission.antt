@@ -9,14 +9,14 @@ use Rattle.zio_script.specs.declared.script.Failmode.TheVariants.{Wait, Continue
 use Rattle.zio_script.specs.declared.script.Item.{Item}
 use Rattle.zio_script.specs.declared.script.Item.TheVariants.{Go, Clear}
 use Rattle.zio_script.specs.declared.script.Script.{Script}
-use Rattle.zio_worked.specs.Scripts.{script, write, read, free, claim, null, under, can_fail, must, can_fail_under, row_over, choice, place, report, zeros, lines}
+use Rattle.zio_worked.specs.Scripts.{script, write, read, free, claim, null, under, can_fail, must, can_fail_under, fault_over, choice, place, report, zeros, lines}
 use Rattle.zio_worked.specs.Suspension.{broken_script, four_attempts}
 
 -- ---- beside a suspended tree
 
 -- Two blocks are bound. The device of a is gone for reads, and a read of it that may not fail is suspended.
 abbrev pub beside_script : List Item → Script
-beside_script items = script Continue ((0 ∷ []) ∷ []) (row_over 0 OnRead 0 1 0 65535 Gone ∷ []) (
+beside_script items = script Continue ((0 ∷ []) ∷ []) (fault_over 0 OnRead 0 1 0 65535 Gone ∷ []) (
     write 1 (codes "a") Off 1 65 512
     ∷ write 2 (codes "b") Off 1 66 512
     ∷ Go
@@ -72,7 +72,7 @@ ChangesAreRefused =
 
 -- A write over two writes, of which the second can't be written.
 abbrev pub finished_script : Script
-finished_script = script Continue ((0 ∷ []) ∷ []) (row_over 0 OnWrite 12 4 0 65535 Eio ∷ []) (
+finished_script = script Continue ((0 ∷ []) ∷ []) (fault_over 0 OnWrite 12 4 0 65535 Eio ∷ []) (
     write 1 (codes "p") Off 1 112 512
     ∷ under 1 (write 2 (codes "a") Off 1 65 512)
     ∷ under 1 (write 3 (codes "b") Off 1 66 512)

@@ -9,7 +9,8 @@ use Rattle.zio_script.specs.declared.script.Script.{Script}
 use Rattle.zio_cksum.specs.Images.{Images}
 use Rattle.zio_gang.specs.Journals.{AreCompletions}
 use Rattle.zio_worked.specs.Families.{null_script, null_choices, again_script, again_images, again_choices, refused_script, refused_choices}
-use Rattle.zio_worked.specs.Scripts.{completion, zeros, requests_of, rounds_in}
+use Rattle.zio_script.specs.Requests.{requests_of}
+use Rattle.zio_worked.specs.Scripts.{completion, zeros, rounds_in}
 
 -- the completions are lawful for the run under these choices
 abbrev pub Complete : Script → Images → List Choice → List Completion → Type 0

@@ -17,7 +17,8 @@ use Rattle.zio_script.specs.declared.script.Script.{Script}
 use Rattle.zio_cksum.specs.Images.{Images}
 use Rattle.zio_gang.specs.Journals.{asks_of}
 use Rattle.zio_gang.specs.Rounds.{trees_of}
-use Rattle.zio_worked.specs.Scripts.{script, write, read, null, under, can_fail, can_fail_under, row, row_over, choice, place, report, zeros, lines, requests_of, asks_in, bytes_read, images_after}
+use Rattle.zio_script.specs.Requests.{requests_of}
+use Rattle.zio_worked.specs.Scripts.{script, write, read, null, under, can_fail, can_fail_under, fault, fault_over, choice, place, report, zeros, lines, asks_in, bytes_read, images_after}
 
 -- ---- a write over two writes
 
@@ -105,7 +106,7 @@ WritesNest =
 -- ---- a child that goes again
 
 abbrev pub again_script : Script
-again_script = script Wait ((0 ∷ []) ∷ (1 ∷ []) ∷ []) (row 1 Any 0 1 Gone ∷ []) (
+again_script = script Wait ((0 ∷ []) ∷ (1 ∷ []) ∷ []) (fault 1 Any 0 1 Gone ∷ []) (
     write 1 (codes "p") Off 1 112 512
     ∷ under 1 (write 2 (codes "a") Off 1 65 512)
     ∷ under 1 (write 3 (codes "b") Off 2 66 512)
@@ -156,7 +157,7 @@ FinishedChildIsKept = asks_in again_script again_images again_choices ≡ asks_o
 -- ---- errors of children
 
 abbrev pub null_script : Failmode → FaultKind → Script
-null_script failmode kind = script failmode ((0 ∷ []) ∷ []) (row 0 OnRead 0 65535 kind ∷ []) (
+null_script failmode kind = script failmode ((0 ∷ []) ∷ []) (fault 0 OnRead 0 65535 kind ∷ []) (
     write 1 (codes "x") Off 1 65 512
     ∷ Go
     ∷ can_fail (null 2)
@@ -251,7 +252,7 @@ ZerosForNoPlace =
 
 -- the child's place can't be written, the parent's can
 abbrev pub unwritten_script : Script
-unwritten_script = script Wait ((0 ∷ []) ∷ []) (row_over 0 OnWrite 5 1 0 65535 Eio ∷ []) (
+unwritten_script = script Wait ((0 ∷ []) ∷ []) (fault_over 0 OnWrite 5 1 0 65535 Eio ∷ []) (
     can_fail (write 1 (codes "p") Off 1 112 384) ∷ can_fail_under 1 (write 2 (codes "c") Off 1 66 512) ∷ Go ∷ [])
 
 abbrev pub unwritten_choices : List Choice
@@ -279,7 +280,7 @@ UnwrittenChildHasPointer =
 abbrev pub MustChildHoldsParent : Type 0
 MustChildHoldsParent =
     report
-    (script Wait ((0 ∷ []) ∷ []) (row 0 OnWrite 0 1 Eio ∷ []) (
+    (script Wait ((0 ∷ []) ∷ []) (fault 0 OnWrite 0 1 Eio ∷ []) (
     can_fail (null 1) ∷ under 1 (write 2 (codes "c") Off 1 66 512) ∷ Go ∷ Clear ∷ []))
     (zeros 4096 ∷ [])
     (choice 2 1 0 [] Body 512 1 (place 0 0 1 ∷ [])

@@ -1,8 +1,12 @@
 pub mod Admission
 pub mod Blocks
+pub mod Claims
 pub mod Completions
 pub mod ErrorRanks
 pub mod Families
+pub mod Formats
+pub mod Gangs
 pub mod LawfulJournals
+pub mod Mirrors
 pub mod Scripts
 pub mod Suspension

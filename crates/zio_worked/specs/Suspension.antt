@@ -11,14 +11,14 @@ use Rattle.zio_script.specs.declared.script.Item.{Item}
 use Rattle.zio_script.specs.declared.script.Item.TheVariants.{Go, Clear}
 use Rattle.zio_script.specs.declared.script.Script.{Script}
 use Rattle.zio_gang.specs.Journals.{asks_of}
-use Rattle.zio_worked.specs.Scripts.{script, write, read, free, null, under, can_fail, must, row, row_over, choice, place, report, zeros, lines, asks_in}
+use Rattle.zio_worked.specs.Scripts.{script, write, read, free, null, under, can_fail, must, fault, fault_over, choice, place, report, zeros, lines, asks_in}
 
 -- ---- four attempts
 
 -- until the first clear no write succeeds
 abbrev pub broken_script : Failmode → List Item → Script
 broken_script failmode items =
-    script failmode ((0 ∷ []) ∷ []) (row 0 OnWrite 0 1 Eio ∷ []) (write 1 (codes "x") Off 1 65 512 ∷ Go ∷ items)
+    script failmode ((0 ∷ []) ∷ []) (fault 0 OnWrite 0 1 Eio ∷ []) (write 1 (codes "x") Off 1 65 512 ∷ Go ∷ items)
 
 abbrev pub four_attempts : List Choice
 four_attempts =
@@ -43,7 +43,7 @@ FourAttemptsAsk = asks_in (broken_script Wait []) (zeros 4096 ∷ []) four_attem
 
 -- A null stands over a write that would go again at once and a read that waits for a device.
 abbrev pub mixed_script : Script
-mixed_script = script Wait ((0 ∷ []) ∷ []) (row_over 0 OnWrite 0 4 0 1 Eio ∷ row_over 0 OnRead 7 1 0 1 Gone ∷ []) (
+mixed_script = script Wait ((0 ∷ []) ∷ []) (fault_over 0 OnWrite 0 4 0 1 Eio ∷ fault_over 0 OnRead 7 1 0 1 Gone ∷ []) (
     write 1 (codes "y") Off 1 65 512
     ∷ Go
     ∷ null 2
@@ -155,7 +155,7 @@ ClearRaisesThePoint =
 
 -- Two reads that may not fail: the device of a is gone until the first clear, that of b fails until the second.
 abbrev pub two_reads : Script
-two_reads = script Continue ((0 ∷ []) ∷ []) (row_over 0 OnRead 0 1 0 1 Gone ∷ row_over 0 OnRead 1 1 0 2 Eio ∷ []) (
+two_reads = script Continue ((0 ∷ []) ∷ []) (fault_over 0 OnRead 0 1 0 1 Gone ∷ fault_over 0 OnRead 1 1 0 2 Eio ∷ []) (
     write 1 (codes "a") Off 1 65 512
     ∷ write 2 (codes "b") Off 1 66 512
     ∷ Go
@@ -190,7 +190,7 @@ SuspendedTreesShareARound =
 -- Until the first clear x can't be written, and until the second y can't.
 abbrev pub held_script : List Item → Script
 held_script items =
-    script Wait ((0 ∷ []) ∷ []) (row_over 0 OnWrite 0 4 0 1 Eio ∷ row_over 0 OnWrite 4 4 0 2 Eio ∷ []) (
+    script Wait ((0 ∷ []) ∷ []) (fault_over 0 OnWrite 0 4 0 1 Eio ∷ fault_over 0 OnWrite 4 4 0 2 Eio ∷ []) (
     write 1 (codes "x") Off 1 65 512
     ∷ Go
     ∷ write 2 (codes "y") Off 1 66 512
@@ -305,7 +305,7 @@ FreedSpaceServesLater =
 
 -- Every other sector is full, so x is a gang. Until the first clear none of its two headers can be read.
 abbrev pub gang_script : Failmode → List Item → Script
-gang_script failmode items = script failmode ((0 ∷ []) ∷ []) (row_over 0 OnRead 0 3 0 1 Gone ∷ []) (
+gang_script failmode items = script failmode ((0 ∷ []) ∷ []) (fault_over 0 OnRead 0 3 0 1 Gone ∷ []) (
     write 1 (codes "a") Off 1 97 512
     ∷ write 2 (codes "b") Off 1 98 512
     ∷ write 3 (codes "c") Off 1 99 512

@@ -1,0 +1,265 @@
+ghost use Rattle.std.specs.Prelude.{◌≡◌, ◌<◌, ◌≤◌, Some, None, Err, MatchOption, MatchResult, IsOk, length, take_while};
+ghost use Rattle.zio_blkptr.specs.Pointers.{fields, has_sectors, place_field, pointer_of, sum_of_number};
+ghost use Rattle.zio_blkptr.specs.Faults.{first_fault, has_order_fault, has_field_fault, has_size_fault, has_dva_fault, is_sum_number, has_fixed_properties, are_fixed_words, has_places_in_front, are_good_places, has_place, is_good_place, is_place_of, is_no_place, sectors_wanted};
+
+use crate::packing::{bits, word_of};
+use crate::pointer::{BLOCK_SIZE_MAX, Bp, BpFault, SumKind};
+use zio_types::{Place, SECTOR_SIZE};
+
+/// The valid pointer that the bytes spell. Where they spell none, the first of their faults in the order of
+/// `BpFault`: docs/FORMATS.md, "Block pointer".
+pub fn decode(bytes: &[u8; 128]) -> Result<Bp, BpFault>
+    ensures pointer { MatchResult result (λ bp. pointer_of bytes.now ≡ Some bp) (λ f. pointer_of bytes.now ≡ None) }
+    ensures fault { MatchOption (first_fault bytes.now) (IsOk result) (λ f. result ≡ Err f) }
+{
+    match first_fault(bytes) {
+        Some(fault) => Err(fault),
+        None => Ok(fields(bytes)),
+    }
+}
+
+fn first_fault(bytes: &[u8; 128]) -> Option<BpFault>
+    ensures { result ≡ first_fault bytes.now }
+{
+    if has_order_fault(bytes) {
+        Some(BpFault::Order)
+    } else if has_field_fault(bytes) {
+        Some(BpFault::Field)
+    } else if has_size_fault(bytes) {
+        Some(BpFault::Size)
+    } else if has_dva_fault(bytes) {
+        Some(BpFault::Dva)
+    } else {
+        None
+    }
+}
+
+fn has_order_fault(bytes: &[u8; 128]) -> bool
+    ensures { result ≡ has_order_fault bytes.now }
+{
+    bits(word_of(bytes, 6), 63, 1) == 0
+}
+
+fn has_field_fault(bytes: &[u8; 128]) -> bool
+    ensures { result ≡ has_field_fault bytes.now }
+{
+    let fixed = are_fixed_words(
+        word_of(bytes, 7),
+        word_of(bytes, 8),
+        word_of(bytes, 9),
+        word_of(bytes, 10),
+        word_of(bytes, 11),
+    );
+    !(has_fixed_properties(word_of(bytes, 6)) && fixed)
+}
+
+// Compression is off, the checksum is one of the three, and embedded, type, level, encrypted and dedup are zero.
+fn has_fixed_properties(properties: u64) -> bool
+    ensures { result ≡ has_fixed_properties properties }
+{
+    bits(properties, 32, 7) == 2
+        && bits(properties, 39, 1) == 0
+        && is_sum_number(bits(properties, 40, 8))
+        && bits(properties, 48, 8) == 0
+        && bits(properties, 56, 5) == 0
+        && bits(properties, 61, 1) == 0
+        && bits(properties, 62, 1) == 0
+}
+
+fn is_sum_number(number: u64) -> bool
+    ensures { result ≡ is_sum_number number }
+{
+    number == 2 || number == 7 || number == 8
+}
+
+// Three words are zero, there is a birth, and the fill is 1.
+fn are_fixed_words(seven: u64, eight: u64, nine: u64, birth: u64, fill: u64) -> bool
+    ensures { result ≡ are_fixed_words seven eight nine birth fill }
+{
+    seven == 0 && eight == 0 && nine == 0 && birth > 0 && fill == 1
+}
+
+fn has_size_fault(bytes: &[u8; 128]) -> bool
+    ensures { result ≡ has_size_fault bytes.now }
+{
+    let properties = word_of(bytes, 6);
+    let logical = bits(properties, 0, 16);
+    let physical = bits(properties, 16, 16);
+    !(logical == physical && (logical + 1) * u64::from(SECTOR_SIZE) <= u64::from(BLOCK_SIZE_MAX))
+}
+
+fn has_dva_fault(bytes: &[u8; 128]) -> bool
+    ensures { result ≡ has_dva_fault bytes.now }
+{
+    !(has_places_in_front(bytes) && are_good_places(bytes))
+}
+
+fn has_places_in_front(bytes: &[u8; 128]) -> bool
+    ensures { result ≡ has_places_in_front bytes.now }
+{
+    has_place(bytes, 0) && (has_place(bytes, 1) || !has_place(bytes, 2))
+}
+
+fn are_good_places(bytes: &[u8; 128]) -> bool
+    ensures { result ≡ are_good_places bytes.now }
+{
+    is_good_place(bytes, 0) && is_good_place(bytes, 1) && is_good_place(bytes, 2)
+}
+
+fn has_place(bytes: &[u8; 128], i: usize) -> bool
+    requires { i < 3 }
+    ensures { result ≡ has_place bytes.now i }
+{
+    bits(word_of(bytes, 2 * i), 0, 24) > 0
+}
+
+fn is_good_place(bytes: &[u8; 128], i: usize) -> bool
+    requires { i < 3 }
+    ensures { result ≡ is_good_place bytes.now i }
+{
+    let first = word_of(bytes, 2 * i);
+    let second = word_of(bytes, 2 * i + 1);
+    if has_place(bytes, i) {
+        is_place_of(
+            sectors_wanted(bytes),
+            bits(word_of(bytes, 1), 63, 1),
+            first,
+            second,
+        )
+    } else {
+        first == 0 && second == 0
+    }
+}
+
+fn sectors_wanted(bytes: &[u8; 128]) -> u64
+    ensures { result ≡ sectors_wanted bytes.now }
+{
+    if bits(word_of(bytes, 1), 63, 1) == 1 {
+        1
+    } else {
+        bits(word_of(bytes, 6), 0, 16) + 1
+    }
+}
+
+// The grid and the bits above the top are zero.
+fn is_place_of(sectors: u64, gang: u64, first: u64, second: u64) -> bool
+    ensures { result ≡ is_place_of sectors gang first second }
+{
+    bits(first, 0, 24) == sectors
+        && bits(first, 24, 8) == 0
+        && bits(first, 56, 8) == 0
+        && bits(second, 0, 63) < 1 << 48
+        && bits(second, 63, 1) == gang
+}
+
+// ---- what the fields hold
+
+fn fields(bytes: &[u8; 128]) -> Bp
+    ensures { result ≡ fields bytes.now }
+{
+    let places = [
+        place_field(bytes, 0),
+        place_field(bytes, 1),
+        place_field(bytes, 2),
+    ];
+    let properties = word_of(bytes, 6);
+    Bp {
+        count: count_present(&places),
+        places,
+        gang: word_of(bytes, 1) >> 63 == 1,
+        size: (bits(properties, 0, 16) as u32 + 1) * SECTOR_SIZE,
+        sum: sum_of_number(bits(properties, 40, 8)),
+        birth: word_of(bytes, 10),
+        words: [
+            word_of(bytes, 12),
+            word_of(bytes, 13),
+            word_of(bytes, 14),
+            word_of(bytes, 15),
+        ],
+    }
+}
+
+// How many places there are from the front.
+fn count_present(places: &[Place; 3]) -> u32
+    ensures { result ≡ length (take_while has_sectors places.now) }
+{
+    places.iter().take_while(|p| p.sectors > 0).count() as u32
+}
+
+fn place_field(bytes: &[u8; 128], i: usize) -> Place
+    requires { i < 3 }
+    ensures { result ≡ place_field bytes.now i }
+{
+    let first = word_of(bytes, 2 * i);
+    Place {
+        top: bits(first, 32, 24) as u32,
+        sector: bits(word_of(bytes, 2 * i + 1), 0, 63),
+        sectors: bits(first, 0, 24) as u32,
+    }
+}
+
+fn sum_of_number(number: u64) -> SumKind
+    ensures { result ≡ sum_of_number number }
+{
+    match number {
+        7 => SumKind::Fletcher4,
+        8 => SumKind::Sha256,
+        _ => SumKind::Off,
+    }
+}
+
+#[cfg(test)]
+mod tests {
+    use super::*;
+
+    // A pointer with fletcher4 and one sector at sector 4096 of top 0, born with batch 1. Its checksum is zeros.
+    fn sample() -> [u8; 128] {
+        let mut bytes = [0; 128];
+        bytes[0] = 1;
+        bytes[9] = 0x10;
+        bytes[52] = 2;
+        bytes[53] = 7;
+        bytes[55] = 0x80;
+        bytes[80] = 1;
+        bytes[88] = 1;
+        bytes
+    }
+
+    #[test]
+    fn fletcher4_is_number_seven(rt: HostRuntime) {
+        let place = Place {
+            top: 0,
+            sector: 4096,
+            sectors: 1,
+        };
+        let none = Place {
+            top: 0,
+            sector: 0,
+            sectors: 0,
+        };
+        let bp = Bp {
+            count: 1,
+            places: [place, none, none],
+            gang: false,
+            size: 512,
+            sum: SumKind::Fletcher4,
+            birth: 1,
+            words: [0; 4],
+        };
+        assert_eq!(rt; decode(&sample()), Ok(bp));
+    }
+
+    // Each step changes one byte more, whose fault is looked for before those of the steps above.
+    #[test]
+    fn earlier_fault_hides_later_ones(rt: HostRuntime) {
+        let mut bytes = sample();
+        bytes[3] = 1;
+        assert_eq!(rt; decode(&bytes), Err(BpFault::Dva), "grid");
+        bytes[50] = 1;
+        assert_eq!(rt; decode(&bytes), Err(BpFault::Size), "other physical size");
+        bytes[80] = 0;
+        assert_eq!(rt; decode(&bytes), Err(BpFault::Field), "no birth");
+        bytes[55] = 0;
+        assert_eq!(rt; decode(&bytes), Err(BpFault::Order), "high byte first");
+    }
+}

@@ -1,0 +1,123 @@
+ghost use Rattle.std.specs.Prelude.{◌≡◌, ◌+◌, ◌*◌, ◌^◌, ◌<◌, ◌==◌, IfOk, IsTrue, if◌then◌else◌};
+ghost use Rattle.hex.specs.Hex.{encode_lower};
+ghost use Rattle.zio_blkptr.specs.Pointers.{valid, is_block_size, spelling, bit, sum_number, properties};
+
+use crate::packing::bytes_of;
+use crate::pointer::{Bp, SumKind};
+use std::alloc::Global;
+use zio_types::{NoMemory, Place, SECTOR_SIZE, Text};
+
+/// The 128 bytes that spell a valid pointer: docs/FORMATS.md, "Block pointer".
+pub fn encode(bp: &Bp) -> [u8; 128]
+    requires { IsTrue (valid bp.now) }
+    ensures { result ≡ spelling bp.now }
+{
+    let [p, q, r] = &bp.places;
+    let [a, b, c, d] = bp.words;
+    bytes_of(&[
+        first_word(p),
+        second_word(bp.gang, p),
+        first_word(q),
+        second_word(bp.gang, q),
+        first_word(r),
+        second_word(bp.gang, r),
+        properties(bp),
+        0,
+        0,
+        0,
+        bp.birth,
+        1,
+        a,
+        b,
+        c,
+        d,
+    ])
+}
+
+/// The 256 lower-case hexadecimal digits of a valid pointer's bytes.
+pub fn bp_text(alloc: Global, bp: &Bp) -> Result<Text, NoMemory>
+    requires { IsTrue (valid bp.now) }
+    ensures { IfOk result (λ t. t ≡ encode_lower (spelling bp.now)) }
+{
+    Ok(Text::from_string(hex::encode(alloc, encode(bp))?))
+}
+
+fn first_word(p: &Place) -> u64
+    ensures { result ≡ p.now.sectors + p.now.top * 2 ^ 32 }
+{
+    u64::from(p.sectors) + (u64::from(p.top) << 32)
+}
+
+// An absent place has no gang bit.
+fn second_word(gang: bool, p: &Place) -> u64
+    requires { p.now.sector < 2 ^ 48 }
+    ensures { result ≡ (if p.now.sectors == 0 then p.now.sector else p.now.sector + bit gang * 2 ^ 63) }
+{
+    if gang && p.sectors > 0 {
+        p.sector + (1 << 63)
+    } else {
+        p.sector
+    }
+}
+
+fn properties(bp: &Bp) -> u64
+    requires { IsTrue (is_block_size bp.now.size) }
+    ensures { result ≡ properties bp.now }
+{
+    let sectors = u64::from(bp.size / SECTOR_SIZE - 1);
+    sectors + (sectors << 16) + (2 << 32) + (sum_number(bp.sum) << 40) + (1 << 63)
+}
+
+fn sum_number(sum: SumKind) -> u64
+    ensures { result ≡ sum_number sum }
+{
+    match sum {
+        SumKind::Off => 2,
+        SumKind::Fletcher4 => 7,
+        SumKind::Sha256 => 8,
+    }
+}
+
+#[cfg(test)]
+mod tests {
+    use super::*;
+    use crate::{decode, is_valid};
+    use std::test::Fail;
+
+    const NO_PLACE: Place = Place {
+        top: 0,
+        sector: 0,
+        sectors: 0,
+    };
+
+    #[test]
+    fn text_has_the_low_byte_of_each_word_first(rt: HostRuntime) -> Result<(), Fail> {
+        let place = Place {
+            top: 1,
+            sector: 32,
+            sectors: 2,
+        };
+        let bp = Bp {
+            count: 1,
+            places: [place, NO_PLACE, NO_PLACE],
+            gang: false,
+            size: 1024,
+            sum: SumKind::Sha256,
+            birth: 9,
+            words: [1, 2, 3, 4],
+        };
+        assert!(rt; is_valid(&bp));
+        let text = bp_text(rt.alloc(), &bp)?;
+        let words = "02000000010000002000000000000000\
+                     00000000000000000000000000000000\
+                     00000000000000000000000000000000\
+                     01000100020800800000000000000000\
+                     00000000000000000000000000000000\
+                     09000000000000000100000000000000\
+                     01000000000000000200000000000000\
+                     03000000000000000400000000000000";
+        assert_eq!(rt; text.as_str(), words);
+        assert_eq!(rt; decode(&encode(&bp)), Ok(bp));
+        Ok(())
+    }
+}

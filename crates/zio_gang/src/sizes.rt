@@ -1,0 +1,75 @@
+ghost use Rattle.std.specs.Prelude.{◌≡◌, ◌%◌, ◌<◌, ◌≤◌, take};
+ghost use Rattle.zio_types.specs.Filled.{IsFilled};
+ghost use Rattle.zio_cksum.specs.Headers.{rounded_up, split_sizes};
+
+use crate::header::Split;
+use zio_types::SECTOR_SIZE;
+
+/// The largest block that is split, in bytes.
+pub const SPLIT_SIZE_MAX: u32 = 1 << 20;
+
+/// The sizes of the members that a block of so many bytes is split into: a third, half of the rest and the rest, each
+/// rounded down and then up to whole sectors. Members of nothing are left out.
+pub fn split(size: u32) -> Split
+    requires positive { 0 < size }
+    requires whole { size % 512 ≡ 0 }
+    requires most { size ≤ SPLIT_SIZE_MAX }
+    ensures sizes { take result.n result.sizes ≡ split_sizes size }
+    ensures rest { IsFilled 0 3 result.n result.sizes }
+    ensures least { 1 ≤ result.n }
+{
+    let first = rounded_up(size / 3);
+    let second = rounded_up((size - first) / 2);
+    let third = rounded_up(size - first - second);
+    let n = if second == 0 {
+        1
+    } else if third == 0 {
+        2
+    } else {
+        3
+    };
+    Split {
+        n,
+        sizes: [first, second, third],
+    }
+}
+
+fn rounded_up(size: u32) -> u32
+    requires { size ≤ SPLIT_SIZE_MAX }
+    ensures { result ≡ rounded_up size }
+{
+    size.div_ceil(SECTOR_SIZE) * SECTOR_SIZE
+}
+
+#[cfg(test)]
+mod tests {
+    use super::*;
+
+    #[test]
+    fn the_first_members_have_the_sectors_that_are_left_over(rt: HostRuntime) {
+        let largest = Split {
+            n: 3,
+            sizes: [44_032, 43_520, 43_520],
+        };
+        assert_eq!(rt; split(131_072), largest);
+        let four = Split {
+            n: 3,
+            sizes: [1024, 512, 512],
+        };
+        assert_eq!(rt; split(2048), four);
+    }
+
+    #[test]
+    fn a_small_block_has_fewer_members(rt: HostRuntime) {
+        let two = Split {
+            n: 2,
+            sizes: [512, 512, 0],
+        };
+        assert_eq!(rt; split(1024), two);
+        let one = Split {
+            n: 1,
+            sizes: [512, 0, 0],
+        };
+        assert_eq!(rt; split(512), one);
+    }
+}

@@ -1,0 +1,78 @@
+//! Places for the copies of an ask.
+
+ghost use Rattle.std.specs.Prelude.{◌≡◌, ◌^◌, ◌%◌, ◌<◌, ◌≤◌, List, length, cond};
+ghost use Rattle.zio_types.specs.Choices.{is_refused, taken_by};
+ghost use Rattle.zio_types.specs.Places.{IsLawfulChoice};
+ghost use Rattle.zio_places.specs.Tables.{sizes_of, Count, AreKept, Hold};
+
+use crate::table::Table;
+use crate::tops::{find, hold, release_all};
+use zio_types::{Entry, Key, Place, SECTOR_SIZE};
+
+/// What stands behind the places found.
+const NO_PLACE: Place = Place {
+    top: 0,
+    sector: 0,
+    sectors: 0,
+};
+
+/// Finds and holds a place for each copy. Where one has none, those found are free again.
+pub fn take_copies(tops: &mut [Table], key: Key, size: u32, copies: u32) -> Entry
+    requires few { length tops.old < 2 ^ 32 }
+    requires kept { AreKept tops.old }
+    requires some { 0 < size }
+    requires whole { size % 512 ≡ 0 }
+    requires most { copies ≤ 3 }
+    ensures asked { result.asked ≡ record { key = key; size = size; copies = copies } }
+    ensures held { Hold tops.old tops.new (taken_by result) }
+    ensures lawful { (used : List Place) → Count used tops.old → IsLawfulChoice (sizes_of tops.old) used result }
+{
+    let sectors = size / SECTOR_SIZE;
+    let mut places = [NO_PLACE; 3];
+    for found in 0..copies {
+        let earlier = found as usize;
+        let Some(place) = find(tops, &places[..earlier], sectors) else {
+            release_all(tops, &places[..earlier]);
+            return Entry {
+                key,
+                size,
+                copies,
+                found,
+                places,
+            };
+        };
+        hold(tops, place);
+        places[earlier] = place;
+    }
+    Entry {
+        key,
+        size,
+        copies,
+        found: copies,
+        places,
+    }
+}
+
+/// How many places the entry takes.
+pub fn taken_count(entry: &Entry) -> u32
+    ensures count { result ≡ length (taken_by entry.now) }
+    ensures most { result ≤ 3 }
+{
+    if entry.found < entry.copies {
+        0
+    } else {
+        entry.found
+    }
+}
+
+pub fn copy_of(entry: &Entry) -> Entry
+    ensures { result ≡ entry.now }
+{
+    Entry {
+        key: entry.key,
+        size: entry.size,
+        copies: entry.copies,
+        found: entry.found,
+        places: entry.places,
+    }
+}

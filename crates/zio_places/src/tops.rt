@@ -1,0 +1,210 @@
+//! The tables of all tops: places are held, released and found here.
+
+ghost use Rattle.std.specs.Prelude.{◌≡◌, ◌+◌, ◌^◌, ◌<◌, ◌≤◌, ◌∷◌, [], ℕ, List, length, true, false, Contains, IsTrue, All, ◌↔◌, MatchOption};
+ghost use Rattle.zio_types.specs.Places.{is_inside, uses_top, are_open};
+ghost use Rattle.zio_places.specs.Flags.{AreAll};
+ghost use Rattle.zio_places.specs.Spaces.{are_inside};
+ghost use Rattle.zio_places.specs.Tables.{top_at, sizes_of, live_of, length_at, total, cover_count, taken_at, Count, AreEven, AreKept, HasFlags, GetUsed, AllGetUsed, GetLive, Hold, IsRoom, IsFresh, IsFound, NoneHasRoom, NoFreshHasRoom};
+
+use crate::table::Table;
+use zio_types::Place;
+
+/// The place lies below the end of its top, and has sectors.
+pub fn is_inside(tops: &[Table], place: &Place) -> bool
+    ensures { result ≡ is_inside (sizes_of tops.now) place.now }
+{
+    let top = place.top as usize;
+    if top >= tops.len() {
+        return false;
+    }
+    let sectors = tops[top].sectors();
+    let count = u64::from(place.sectors);
+    0 < count && place.sector <= sectors && count <= sectors - place.sector
+}
+
+/// The place's sectors get used.
+pub fn mark(tops: &mut [Table], place: Place)
+    requires { HasFlags tops.old place true }
+    ensures { GetUsed tops.old tops.new place }
+{
+    let table = &mut tops[place.top as usize];
+    table.set_flag(place.sector, place.sectors, false);
+}
+
+/// They get free.
+pub fn clear(tops: &mut [Table], place: Place)
+    requires { HasFlags tops.old place false }
+    ensures { GetUsed tops.new tops.old place }
+{
+    let table = &mut tops[place.top as usize];
+    table.set_flag(place.sector, place.sectors, true);
+}
+
+/// The place is live from now on.
+pub fn enter(tops: &mut [Table], place: Place)
+    requires filled { 0 < place.sectors }
+    requires inside { place.sector < length (top_at tops.old place.top).lengths }
+    requires empty { length_at tops.old place.top place.sector ≡ 0 }
+    ensures { GetLive tops.old tops.new place }
+{
+    let table = &mut tops[place.top as usize];
+    table.set_length(place.sector, place.sectors);
+}
+
+/// It is live no more.
+pub fn remove(tops: &mut [Table], place: Place)
+    requires filled { 0 < place.sectors }
+    requires live { length_at tops.old place.top place.sector ≡ place.sectors }
+    ensures { GetLive tops.new tops.old place }
+{
+    let table = &mut tops[place.top as usize];
+    table.set_length(place.sector, 0);
+}
+
+/// The place is live, and its sectors used.
+pub fn hold(tops: &mut [Table], place: Place)
+    requires kept { AreKept tops.old }
+    requires room { HasFlags tops.old place true }
+    ensures { Hold tops.old tops.new (place ∷ []) }
+{
+    mark(tops, place);
+    enter(tops, place);
+}
+
+/// A live place is live no more, and its sectors are free.
+pub fn release(tops: &mut [Table], place: Place)
+    requires kept { AreKept tops.old }
+    requires live { Contains (live_of tops.old) place }
+    ensures { Hold tops.new tops.old (place ∷ []) }
+{
+    remove(tops, place);
+    clear(tops, place);
+}
+
+/// So many places at once, each live and no two the same, are live no more, and their sectors are free.
+pub fn release_all(tops: &mut [Table], places: &[Place])
+    requires kept { AreKept tops.old }
+    requires live { (f : Place → ℕ) → total f places.now ≤ total f (live_of tops.old) }
+    ensures { Hold tops.new tops.old places.now }
+{
+    for place in places {
+        release(tops, *place);
+    }
+}
+
+/// All sectors of the place are free.
+pub fn is_open(tops: &[Table], place: &Place) -> bool
+    requires inside { IsTrue (is_inside (sizes_of tops.now) place.now) }
+    requires even { AreEven tops.now }
+    ensures { IsTrue result ↔ HasFlags tops.now place.now true }
+{
+    let table = &tops[place.top as usize];
+    table.is_free(place.sector, place.sectors)
+}
+
+/// Holds the places, or none of them where one isn't free beside those before it.
+pub fn hold_all(tops: &mut [Table], places: &[Place]) -> bool
+    requires kept { AreKept tops.old }
+    requires inside { are_inside (sizes_of tops.old) places.now ≡ true }
+    ensures held { IsTrue result → Hold tops.old tops.new places.now }
+    ensures unchanged { result ≡ false → Hold tops.old tops.new [] }
+    ensures exact { (used : List Place) → Count used tops.old → result ≡ are_open used places.now }
+{
+    for (i, place) in places.iter().enumerate() {
+        if !is_open(tops, place) {
+            release_all(tops, &places[..i]);
+            return false;
+        }
+        hold(tops, *place);
+    }
+    true
+}
+
+fn is_used(places: &[Place], top: u32) -> bool
+    ensures { result ≡ uses_top places.now top }
+{
+    places.iter().any(|place| place.top == top)
+}
+
+/// A place on the first top with room that none of the earlier places uses.
+fn find_fresh(tops: &[Table], earlier: &[Place], sectors: u32) -> Option<Place>
+    requires few { length tops.now < 2 ^ 32 }
+    requires some { 0 < sectors }
+    ensures { MatchOption result (NoFreshHasRoom tops.now earlier.now sectors) (IsFresh tops.now earlier.now sectors) }
+{
+    for (i, table) in tops.iter().enumerate() {
+        let top = i as u32;
+        if is_used(earlier, top) {
+            continue;
+        }
+        if let Some(sector) = table.first_run(sectors) {
+            return Some(Place {
+                top,
+                sector,
+                sectors,
+            });
+        }
+    }
+    None
+}
+
+/// A place on the first top with room.
+fn find_any(tops: &[Table], sectors: u32) -> Option<Place>
+    requires few { length tops.now < 2 ^ 32 }
+    requires some { 0 < sectors }
+    ensures { MatchOption result (NoneHasRoom tops.now sectors) (IsRoom tops.now sectors) }
+{
+    for (i, table) in tops.iter().enumerate() {
+        if let Some(sector) = table.first_run(sectors) {
+            return Some(Place {
+                top: i as u32,
+                sector,
+                sectors,
+            });
+        }
+    }
+    None
+}
+
+/// A place for the next copy, on a top that none of the earlier ones uses where such a top has room.
+pub fn find(tops: &[Table], earlier: &[Place], sectors: u32) -> Option<Place>
+    requires few { length tops.now < 2 ^ 32 }
+    requires some { 0 < sectors }
+    ensures { MatchOption result (NoneHasRoom tops.now sectors) (IsFound tops.now earlier.now sectors) }
+{
+    let fresh = find_fresh(tops, earlier, sectors);
+    if fresh.is_some() {
+        return fresh;
+    }
+    find_any(tops, sectors)
+}
+
+/// The place is one of the live ones.
+pub fn is_live(tops: &[Table], place: &Place) -> bool
+    ensures { IsTrue result ↔ Contains (live_of tops.now) place.now }
+{
+    let top = place.top as usize;
+    if top >= tops.len() {
+        return false;
+    }
+    let sectors = place.sectors;
+    0 < sectors && tops[top].length_at(place.sector) == sectors
+}
+
+/// Each place lies inside its top.
+pub fn all_inside(tops: &[Table], places: &[Place]) -> bool
+    ensures { result ≡ are_inside (sizes_of tops.now) places.now }
+{
+    places.iter().all(|place| is_inside(tops, place))
+}
+
+/// The sectors of places that are no longer live get free.
+pub fn clear_all(tops: &mut [Table], places: &[Place])
+    requires filled { All (λ p. 0 < p.sectors) places.now }
+    requires taken { (top sector : ℕ) → cover_count places.now top sector ≤ taken_at tops.old top sector }
+    ensures { AllGetUsed tops.new tops.old places.now }
+{
+    for place in places {
+        clear(tops, *place);
+    }
+}

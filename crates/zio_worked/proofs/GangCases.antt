@@ -1,0 +1,147 @@
+use Rattle.std.proofs.Common.{refl}
+use Rattle.zio_worked.proofs.Evaluation.{evaluation}
+use Rattle.zio_worked.specs.Gangs.{ScatteredSpaceMakesAGang, GangAsksForItsParts, GangStandsInTheJournal, GangPointerHasTheWholeSum, GangInsideAGang, NestedGangAsksForItsParts, NestedGangIsStored, NestedHeaderIsMended, NestedHeadersFailTheRead, NestedGangIsFreed, RefusedHeaderSuspendsTheWrite, RefusedHeaderIsAskedForOnce, RefusedHeaderFailsTheWrite, OneSectorWithoutSpaceFails, OneSectorAsksForNoHeader, OneSectorWithoutSpaceWaits, HeaderHasOneCopyMore, MemberWithoutAPlaceIsZeros, MemberThatIsntWrittenHasItsPointer, HeaderCopyThatIsntWrittenFailsTheGang, PlacesComeBackAfterTheRound, SecondAttemptOfAGangAsksAnew, DamagedHeaderIsMended, HeaderMendedThroughAFlipStaysWrong, FreeMendsAHeader, DamagedHeadersFailTheRead, FreeWaitsForItsHeader, MembersBelowABadHeaderArentRead, DamagedMemberIsMended, DamagedMemberFailsTheRead, FreeWaitsForAMissingDevice, MissingDeviceFailsAFreeUnderContinue, PlainFreeReadsNothing, GangUsesAllItsPlaces, FreedGangUsesNoPlace, NothingIsUsedAfterAllFrees}
+
+pub scattered_space_makes_a_gang : ScatteredSpaceMakesAGang
+unfolding evaluation
+scattered_space_makes_a_gang = refl
+
+pub gang_asks_for_its_parts : GangAsksForItsParts
+unfolding evaluation
+gang_asks_for_its_parts = refl
+
+pub gang_stands_in_the_journal : GangStandsInTheJournal
+unfolding evaluation
+gang_stands_in_the_journal = refl
+
+pub gang_pointer_has_the_whole_sum : GangPointerHasTheWholeSum
+unfolding evaluation
+gang_pointer_has_the_whole_sum = refl
+
+pub gang_inside_a_gang : GangInsideAGang
+unfolding evaluation
+gang_inside_a_gang = refl
+
+pub nested_gang_asks_for_its_parts : NestedGangAsksForItsParts
+unfolding evaluation
+nested_gang_asks_for_its_parts = refl
+
+pub nested_gang_is_stored : NestedGangIsStored
+unfolding evaluation
+nested_gang_is_stored = refl
+
+pub nested_header_is_mended : NestedHeaderIsMended
+unfolding evaluation
+nested_header_is_mended = refl
+
+pub nested_headers_fail_the_read : NestedHeadersFailTheRead
+unfolding evaluation
+nested_headers_fail_the_read = refl
+
+pub nested_gang_is_freed : NestedGangIsFreed
+unfolding evaluation
+nested_gang_is_freed = refl
+
+pub refused_header_suspends_the_write : RefusedHeaderSuspendsTheWrite
+unfolding evaluation
+refused_header_suspends_the_write = refl
+
+pub refused_header_is_asked_for_once : RefusedHeaderIsAskedForOnce
+unfolding evaluation
+refused_header_is_asked_for_once = refl
+
+pub refused_header_fails_the_write : RefusedHeaderFailsTheWrite
+unfolding evaluation
+refused_header_fails_the_write = refl
+
+pub one_sector_without_space_fails : OneSectorWithoutSpaceFails
+unfolding evaluation
+one_sector_without_space_fails = refl
+
+pub one_sector_asks_for_no_header : OneSectorAsksForNoHeader
+unfolding evaluation
+one_sector_asks_for_no_header = refl
+
+pub one_sector_without_space_waits : OneSectorWithoutSpaceWaits
+unfolding evaluation
+one_sector_without_space_waits = refl
+
+pub header_has_one_copy_more : HeaderHasOneCopyMore
+unfolding evaluation
+header_has_one_copy_more = refl
+
+pub member_without_a_place_is_zeros : MemberWithoutAPlaceIsZeros
+unfolding evaluation
+member_without_a_place_is_zeros = refl
+
+pub member_that_isnt_written_has_its_pointer : MemberThatIsntWrittenHasItsPointer
+unfolding evaluation
+member_that_isnt_written_has_its_pointer = refl
+
+pub header_copy_that_isnt_written_fails_the_gang : HeaderCopyThatIsntWrittenFailsTheGang
+unfolding evaluation
+header_copy_that_isnt_written_fails_the_gang = refl
+
+pub places_come_back_after_the_round : PlacesComeBackAfterTheRound
+unfolding evaluation
+places_come_back_after_the_round = refl
+
+pub second_attempt_of_a_gang_asks_anew : SecondAttemptOfAGangAsksAnew
+unfolding evaluation
+second_attempt_of_a_gang_asks_anew = refl
+
+pub damaged_header_is_mended : DamagedHeaderIsMended
+unfolding evaluation
+damaged_header_is_mended = refl
+
+pub header_mended_through_a_flip_stays_wrong : HeaderMendedThroughAFlipStaysWrong
+unfolding evaluation
+header_mended_through_a_flip_stays_wrong = refl
+
+pub free_mends_a_header : FreeMendsAHeader
+unfolding evaluation
+free_mends_a_header = refl
+
+pub damaged_headers_fail_the_read : DamagedHeadersFailTheRead
+unfolding evaluation
+damaged_headers_fail_the_read = refl
+
+pub free_waits_for_its_header : FreeWaitsForItsHeader
+unfolding evaluation
+free_waits_for_its_header = refl
+
+pub members_below_a_bad_header_arent_read : MembersBelowABadHeaderArentRead
+unfolding evaluation
+members_below_a_bad_header_arent_read = refl
+
+pub damaged_member_is_mended : DamagedMemberIsMended
+unfolding evaluation
+damaged_member_is_mended = refl
+
+pub damaged_member_fails_the_read : DamagedMemberFailsTheRead
+unfolding evaluation
+damaged_member_fails_the_read = refl
+
+pub free_waits_for_a_missing_device : FreeWaitsForAMissingDevice
+unfolding evaluation
+free_waits_for_a_missing_device = refl
+
+pub missing_device_fails_a_free_under_continue : MissingDeviceFailsAFreeUnderContinue
+unfolding evaluation
+missing_device_fails_a_free_under_continue = refl
+
+pub plain_free_reads_nothing : PlainFreeReadsNothing
+unfolding evaluation
+plain_free_reads_nothing = refl
+
+pub gang_uses_all_its_places : GangUsesAllItsPlaces
+unfolding evaluation
+gang_uses_all_its_places = refl
+
+pub freed_gang_uses_no_place : FreedGangUsesNoPlace
+unfolding evaluation
+freed_gang_uses_no_place = refl
+
+pub nothing_is_used_after_all_frees : NothingIsUsedAfterAllFrees
+unfolding evaluation
+nothing_is_used_after_all_frees = refl

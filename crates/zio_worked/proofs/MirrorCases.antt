@@ -1,0 +1,139 @@
+use Rattle.std.proofs.Common.{refl}
+use Rattle.zio_worked.proofs.Evaluation.{evaluation}
+use Rattle.zio_worked.specs.Mirrors.{MissedWriteIsGoodByTheOther, MissedWriteIsRepaired, RepairThatFailsIsIgnored, LeafBehindAGoodOneIsLeft, FlippedWriteIsStored, FlippedWriteIsRepaired, RepairThroughAFlipStaysWrong, FlippedReadIsHandedOut, FlipTurnsTheCommonPart, FirstRowCounts, RowIsMetInItsRange, RowHoldsBetweenItsPoints, ReadPassesInTheRetry, RepairIsMadeInThePassOfTheGoodRead, RetryMendsItsOwnFailuresAlone, OneGoodLeafNeedsNoRetry, RetryWritesAllCopies, SecondCopyIsReadAndMendsTheFirst, CopyBehindAGoodOneIsLeft, AllLeavesOfABadCopyAreMended, MissingTopSuspendsTheWrite, EachAttemptAsks, AttemptsStandInTheJournal, MissingCopyLeavesTheWrite, ReadsBeginAtAnotherLeaf, ReadsGoRoundFourLeaves, DamagedBlockIsAChecksumError, DamagedBlockWithoutAChecksumIsHandedOut, DeviceErrorIsWorseThanAWrongSum, WrongSumIsWorseThanAMissingDevice, FailedWriteHasTheWorstError, ReadWaitsForAMissingDevice, MissingDeviceUnderContinueIsAnError, ReadThatMayNotFailWaitsUnderContinue}
+
+pub missed_write_is_good_by_the_other : MissedWriteIsGoodByTheOther
+unfolding evaluation
+missed_write_is_good_by_the_other = refl
+
+pub missed_write_is_repaired : MissedWriteIsRepaired
+unfolding evaluation
+missed_write_is_repaired = refl
+
+pub repair_that_fails_is_ignored : RepairThatFailsIsIgnored
+unfolding evaluation
+repair_that_fails_is_ignored = refl
+
+pub leaf_behind_a_good_one_is_left : LeafBehindAGoodOneIsLeft
+unfolding evaluation
+leaf_behind_a_good_one_is_left = refl
+
+pub flipped_write_is_stored : FlippedWriteIsStored
+unfolding evaluation
+flipped_write_is_stored = refl
+
+pub flipped_write_is_repaired : FlippedWriteIsRepaired
+unfolding evaluation
+flipped_write_is_repaired = refl
+
+pub repair_through_a_flip_stays_wrong : RepairThroughAFlipStaysWrong
+unfolding evaluation
+repair_through_a_flip_stays_wrong = refl
+
+pub flipped_read_is_handed_out : FlippedReadIsHandedOut
+unfolding evaluation
+flipped_read_is_handed_out = refl
+
+pub flip_turns_the_common_part : FlipTurnsTheCommonPart
+unfolding evaluation
+flip_turns_the_common_part = refl
+
+pub first_row_counts : FirstRowCounts
+unfolding evaluation
+first_row_counts = refl
+
+pub row_is_met_in_its_range : RowIsMetInItsRange
+unfolding evaluation
+row_is_met_in_its_range = refl
+
+pub row_holds_between_its_points : RowHoldsBetweenItsPoints
+unfolding evaluation
+row_holds_between_its_points = refl
+
+pub read_passes_in_the_retry : ReadPassesInTheRetry
+unfolding evaluation
+read_passes_in_the_retry = refl
+
+pub repair_is_made_in_the_pass_of_the_good_read : RepairIsMadeInThePassOfTheGoodRead
+unfolding evaluation
+repair_is_made_in_the_pass_of_the_good_read = refl
+
+pub retry_mends_its_own_failures_alone : RetryMendsItsOwnFailuresAlone
+unfolding evaluation
+retry_mends_its_own_failures_alone = refl
+
+pub one_good_leaf_needs_no_retry : OneGoodLeafNeedsNoRetry
+unfolding evaluation
+one_good_leaf_needs_no_retry = refl
+
+pub retry_writes_all_copies : RetryWritesAllCopies
+unfolding evaluation
+retry_writes_all_copies = refl
+
+pub second_copy_is_read_and_mends_the_first : SecondCopyIsReadAndMendsTheFirst
+unfolding evaluation
+second_copy_is_read_and_mends_the_first = refl
+
+pub copy_behind_a_good_one_is_left : CopyBehindAGoodOneIsLeft
+unfolding evaluation
+copy_behind_a_good_one_is_left = refl
+
+pub all_leaves_of_a_bad_copy_are_mended : AllLeavesOfABadCopyAreMended
+unfolding evaluation
+all_leaves_of_a_bad_copy_are_mended = refl
+
+pub missing_top_suspends_the_write : MissingTopSuspendsTheWrite
+unfolding evaluation
+missing_top_suspends_the_write = refl
+
+pub each_attempt_asks : EachAttemptAsks
+unfolding evaluation
+each_attempt_asks = refl
+
+pub attempts_stand_in_the_journal : AttemptsStandInTheJournal
+unfolding evaluation
+attempts_stand_in_the_journal = refl
+
+pub missing_copy_leaves_the_write : MissingCopyLeavesTheWrite
+unfolding evaluation
+missing_copy_leaves_the_write = refl
+
+pub reads_begin_at_another_leaf : ReadsBeginAtAnotherLeaf
+unfolding evaluation
+reads_begin_at_another_leaf = refl
+
+pub reads_go_round_four_leaves : ReadsGoRoundFourLeaves
+unfolding evaluation
+reads_go_round_four_leaves = refl
+
+pub damaged_block_is_a_checksum_error : DamagedBlockIsAChecksumError
+unfolding evaluation
+damaged_block_is_a_checksum_error = refl
+
+pub damaged_block_without_a_checksum_is_handed_out : DamagedBlockWithoutAChecksumIsHandedOut
+unfolding evaluation
+damaged_block_without_a_checksum_is_handed_out = refl
+
+pub device_error_is_worse_than_a_wrong_sum : DeviceErrorIsWorseThanAWrongSum
+unfolding evaluation
+device_error_is_worse_than_a_wrong_sum = refl
+
+pub wrong_sum_is_worse_than_a_missing_device : WrongSumIsWorseThanAMissingDevice
+unfolding evaluation
+wrong_sum_is_worse_than_a_missing_device = refl
+
+pub failed_write_has_the_worst_error : FailedWriteHasTheWorstError
+unfolding evaluation
+failed_write_has_the_worst_error = refl
+
+pub read_waits_for_a_missing_device : ReadWaitsForAMissingDevice
+unfolding evaluation
+read_waits_for_a_missing_device = refl
+
+pub missing_device_under_continue_is_an_error : MissingDeviceUnderContinueIsAnError
+unfolding evaluation
+missing_device_under_continue_is_an_error = refl
+
+pub read_that_may_not_fail_waits_under_continue : ReadThatMayNotFailWaitsUnderContinue
+unfolding evaluation
+read_that_may_not_fail_waits_under_continue = refl

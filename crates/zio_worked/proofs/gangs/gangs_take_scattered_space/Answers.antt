@@ -1,0 +1,42 @@
+use Rattle.zio_worked.proofs.GangCases.{scattered_space_makes_a_gang, gang_asks_for_its_parts, gang_stands_in_the_journal, gang_pointer_has_the_whole_sum, gang_inside_a_gang, nested_gang_asks_for_its_parts, nested_gang_is_stored, nested_header_is_mended, nested_headers_fail_the_read, nested_gang_is_freed, refused_header_suspends_the_write, refused_header_is_asked_for_once, refused_header_fails_the_write, one_sector_without_space_fails, one_sector_asks_for_no_header, one_sector_without_space_waits, header_has_one_copy_more, member_without_a_place_is_zeros, member_that_isnt_written_has_its_pointer, header_copy_that_isnt_written_fails_the_gang, places_come_back_after_the_round, second_attempt_of_a_gang_asks_anew, damaged_header_is_mended, header_mended_through_a_flip_stays_wrong, free_mends_a_header, damaged_headers_fail_the_read, free_waits_for_its_header, members_below_a_bad_header_arent_read, damaged_member_is_mended, damaged_member_fails_the_read, free_waits_for_a_missing_device, missing_device_fails_a_free_under_continue, plain_free_reads_nothing, gang_uses_all_its_places, freed_gang_uses_no_place, nothing_is_used_after_all_frees}
+use Rattle.zio_worked.proofs.gangs.gangs_take_scattered_space.Goals as goal
+
+pub returns : goal.returns
+returns c = record {
+  scattered_space_makes_a_gang = scattered_space_makes_a_gang;
+  gang_asks_for_its_parts = gang_asks_for_its_parts;
+  gang_stands_in_the_journal = gang_stands_in_the_journal;
+  gang_pointer_has_the_whole_sum = gang_pointer_has_the_whole_sum;
+  gang_inside_a_gang = gang_inside_a_gang;
+  nested_gang_asks_for_its_parts = nested_gang_asks_for_its_parts;
+  nested_gang_is_stored = nested_gang_is_stored;
+  nested_header_is_mended = nested_header_is_mended;
+  nested_headers_fail_the_read = nested_headers_fail_the_read;
+  nested_gang_is_freed = nested_gang_is_freed;
+  refused_header_suspends_the_write = refused_header_suspends_the_write;
+  refused_header_is_asked_for_once = refused_header_is_asked_for_once;
+  refused_header_fails_the_write = refused_header_fails_the_write;
+  one_sector_without_space_fails = one_sector_without_space_fails;
+  one_sector_asks_for_no_header = one_sector_asks_for_no_header;
+  one_sector_without_space_waits = one_sector_without_space_waits;
+  header_has_one_copy_more = header_has_one_copy_more;
+  member_without_a_place_is_zeros = member_without_a_place_is_zeros;
+  member_that_isnt_written_has_its_pointer = member_that_isnt_written_has_its_pointer;
+  header_copy_that_isnt_written_fails_the_gang = header_copy_that_isnt_written_fails_the_gang;
+  places_come_back_after_the_round = places_come_back_after_the_round;
+  second_attempt_of_a_gang_asks_anew = second_attempt_of_a_gang_asks_anew;
+  damaged_header_is_mended = damaged_header_is_mended;
+  header_mended_through_a_flip_stays_wrong = header_mended_through_a_flip_stays_wrong;
+  free_mends_a_header = free_mends_a_header;
+  damaged_headers_fail_the_read = damaged_headers_fail_the_read;
+  free_waits_for_its_header = free_waits_for_its_header;
+  members_below_a_bad_header_arent_read = members_below_a_bad_header_arent_read;
+  damaged_member_is_mended = damaged_member_is_mended;
+  damaged_member_fails_the_read = damaged_member_fails_the_read;
+  free_waits_for_a_missing_device = free_waits_for_a_missing_device;
+  missing_device_fails_a_free_under_continue = missing_device_fails_a_free_under_continue;
+  plain_free_reads_nothing = plain_free_reads_nothing;
+  gang_uses_all_its_places = gang_uses_all_its_places;
+  freed_gang_uses_no_place = freed_gang_uses_no_place;
+  nothing_is_used_after_all_frees = nothing_is_used_after_all_frees;
+}

@@ -1,0 +1,40 @@
+use Rattle.zio_worked.proofs.MirrorCases.{missed_write_is_good_by_the_other, missed_write_is_repaired, repair_that_fails_is_ignored, leaf_behind_a_good_one_is_left, flipped_write_is_stored, flipped_write_is_repaired, repair_through_a_flip_stays_wrong, flipped_read_is_handed_out, flip_turns_the_common_part, first_row_counts, row_is_met_in_its_range, row_holds_between_its_points, read_passes_in_the_retry, repair_is_made_in_the_pass_of_the_good_read, retry_mends_its_own_failures_alone, one_good_leaf_needs_no_retry, retry_writes_all_copies, second_copy_is_read_and_mends_the_first, copy_behind_a_good_one_is_left, all_leaves_of_a_bad_copy_are_mended, missing_top_suspends_the_write, each_attempt_asks, attempts_stand_in_the_journal, missing_copy_leaves_the_write, reads_begin_at_another_leaf, reads_go_round_four_leaves, damaged_block_is_a_checksum_error, damaged_block_without_a_checksum_is_handed_out, device_error_is_worse_than_a_wrong_sum, wrong_sum_is_worse_than_a_missing_device, failed_write_has_the_worst_error, read_waits_for_a_missing_device, missing_device_under_continue_is_an_error, read_that_may_not_fail_waits_under_continue}
+use Rattle.zio_worked.proofs.mirrors.mirrors_give_and_mend.Goals as goal
+
+pub returns : goal.returns
+returns c = record {
+  missed_write_is_good_by_the_other = missed_write_is_good_by_the_other;
+  missed_write_is_repaired = missed_write_is_repaired;
+  repair_that_fails_is_ignored = repair_that_fails_is_ignored;
+  leaf_behind_a_good_one_is_left = leaf_behind_a_good_one_is_left;
+  flipped_write_is_stored = flipped_write_is_stored;
+  flipped_write_is_repaired = flipped_write_is_repaired;
+  repair_through_a_flip_stays_wrong = repair_through_a_flip_stays_wrong;
+  flipped_read_is_handed_out = flipped_read_is_handed_out;
+  flip_turns_the_common_part = flip_turns_the_common_part;
+  first_row_counts = first_row_counts;
+  row_is_met_in_its_range = row_is_met_in_its_range;
+  row_holds_between_its_points = row_holds_between_its_points;
+  read_passes_in_the_retry = read_passes_in_the_retry;
+  repair_is_made_in_the_pass_of_the_good_read = repair_is_made_in_the_pass_of_the_good_read;
+  retry_mends_its_own_failures_alone = retry_mends_its_own_failures_alone;
+  one_good_leaf_needs_no_retry = one_good_leaf_needs_no_retry;
+  retry_writes_all_copies = retry_writes_all_copies;
+  second_copy_is_read_and_mends_the_first = second_copy_is_read_and_mends_the_first;
+  copy_behind_a_good_one_is_left = copy_behind_a_good_one_is_left;
+  all_leaves_of_a_bad_copy_are_mended = all_leaves_of_a_bad_copy_are_mended;
+  missing_top_suspends_the_write = missing_top_suspends_the_write;
+  each_attempt_asks = each_attempt_asks;
+  attempts_stand_in_the_journal = attempts_stand_in_the_journal;
+  missing_copy_leaves_the_write = missing_copy_leaves_the_write;
+  reads_begin_at_another_leaf = reads_begin_at_another_leaf;
+  reads_go_round_four_leaves = reads_go_round_four_leaves;
+  damaged_block_is_a_checksum_error = damaged_block_is_a_checksum_error;
+  damaged_block_without_a_checksum_is_handed_out = damaged_block_without_a_checksum_is_handed_out;
+  device_error_is_worse_than_a_wrong_sum = device_error_is_worse_than_a_wrong_sum;
+  wrong_sum_is_worse_than_a_missing_device = wrong_sum_is_worse_than_a_missing_device;
+  failed_write_has_the_worst_error = failed_write_has_the_worst_error;
+  read_waits_for_a_missing_device = read_waits_for_a_missing_device;
+  missing_device_under_continue_is_an_error = missing_device_under_continue_is_an_error;
+  read_that_may_not_fail_waits_under_continue = read_that_may_not_fail_waits_under_continue;
+}

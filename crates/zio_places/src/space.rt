@@ -1,4 +1,4 @@
-ghost use Rattle.std.specs.Prelude.{◌≡◌, ◌≢◌, ◌+◌, ◌%◌, ◌^◌, ◌<◌, ◌≤◌, ◌↔◌, [], ◌∷◌, ◌++◌, length, true, false, Contains, IsTrue, IfOk, OnOk, OnErr};
+ghost use Rattle.std.specs.Prelude.{◌≡◌, ◌≢◌, ◌+◌, ◌%◌, ◌^◌, ◌<◌, ◌≤◌, ◌↔◌, [], ◌∷◌, ◌++◌, length, true, false, Contains, IsTrue, IsOk, IfOk, OnOk, OnErr};
 ghost use Rattle.zio_types.specs.Choices.{taken_by};
 ghost use Rattle.zio_types.specs.Places.{IsLawfulChoice, are_open};
 ghost use Rattle.zio_places.specs.Spaces.{SpaceState, used, SamePlaces, are_inside, IsSound};
@@ -80,9 +80,11 @@ impl Space {
         })
     }
 
-    /// Makes room for so many entries, and for giving back what they take.
+    /// Makes room for so many entries, and for giving back what they take. Where there is room already it takes no
+    /// memory, and after an error nothing has changed.
     pub fn reserve(&mut self, n: u32) -> Result<(), NoMemory>
         ensures ok { OnOk result (n ≤ self.new.spare) }
+        ensures enough { n ≤ self.old.spare → IsOk result }
         ensures kept { self.old.spare ≤ self.new.spare }
         ensures same { self.new ≡ record self.old { spare = self.new.spare } }
         ensures err { OnErr result (self.new ≡ self.old) }

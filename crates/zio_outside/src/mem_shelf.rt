@@ -168,7 +168,7 @@ impl Shelf for MemShelf {
     type Disk = MemDisk;
 
     ghost use Rattle.zio_outside.specs.Memory.{told, disk_image, disk_home, disk_faults, disk_faults_at_fetch, HandedOut};
-    ghost use Rattle.zio_outside.specs.MemoryShelf.{ChangesOnly, shelf_slot, image_of, out_of, shelf_faults, shelf_disk_faults, shelf_fetches, shelf_fails, shelf_calls};
+    ghost use Rattle.zio_outside.specs.MemoryShelf.{ChangesOnly, shelf_slot, image_of, out_of, shelf_faults, shelf_disk_faults, shelf_fetches, shelf_fails, shelf_calls, image_of-one};
 
     ghost faults = { shelf_faults };
 
@@ -256,4 +256,6 @@ impl Shelf for MemShelf {
         self.count_faults_of(&disk);
         self.put_home(disk);
     }
+
+    ghost one_image = { λ s. image_of-one (shelf_slot s) };
 }

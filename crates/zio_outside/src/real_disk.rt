@@ -154,4 +154,6 @@ where
             self.disk_faults = self.disk_faults.saturating_add(1);
         }
     }
+
+    ghost one_image = { λ s name a b told other. absurd told };
 }

@@ -64,4 +64,7 @@ pub trait Shelf {
         ensures tells { tells self.old ↔ tells self.new }
         ensures home { tells self.old → (name bytes : List ℕ) → Self.Disk.home disk name → Self.Disk.image disk bytes →
             ComesHome name bytes (image self.old) (image self.new) (out self.old) (out self.new) };
+
+    /// It tells one image of a disk.
+    ghost one_image: { (shelf : Self) (name a b : List ℕ) → image shelf name a → image shelf name b → a ≡ b };
 }

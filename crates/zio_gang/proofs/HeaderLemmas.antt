@@ -1,6 +1,6 @@
 -- Bytes have no fault exactly where they are the header of some members.
 use Rattle.std.proofs.Common.{◌≡◌, ℕ, zero, suc, ◌+◌, ◌<◌, ◌≤◌, List, [], ◌∷◌, ◌++◌, length, map, filter, take, drop, replicate, Bool, true, false, not, cond, ◌&&◌, ◌||◌, IsTrue, Option, Some, None, is_none, bytes_eq, nat_lt, refl, ap, sym, ◌∙◌, subst, arith, append_assoc, length-append, length-take, length-drop, ltb-false}
-use Rattle.std.proofs.Math.Seq.{take-append_seam, drop-append_seam, take-add}
+use Rattle.std.proofs.Math.Seq.{take-add}
 use Rattle.std.proofs.lemmas.Bool.{false≢true, and_parts, and_from, or_parts, not-false, not_from_true}
 use Rattle.std.proofs.Math.Bool.{or-false}
 use Rattle.std.proofs.lemmas.List.{append-nil, length-map, take-append-drop}
@@ -13,7 +13,7 @@ use Rattle.zio_blkptr.specs.Pointers.{word, spelling, pointer_of, valid, FitsTyp
 use Rattle.zio_blkptr.proofs.PointerLemmas.{pointer_of-spelling, spelling-pointer, length-spelling}
 use Rattle.zio_cksum.specs.Headers.{Heads, header_magic, header_front, header_of, gang_sum_of, members_max, member_bytes, members_of, is_header, first_size, second_size, third_size, split_sizes, offset_of}
 use Rattle.zio_cksum.specs.Sums.{sha256_words}
-use Rattle.zio_cksum.proofs.HeaderLemmas.{named_law}
+use Rattle.zio_cksum.proofs.HeaderLemmas.{named_law, take-front, drop-front}
 use Rattle.zio_cksum.proofs.SplitLemmas.{few_law}
 use Rattle.zio_gang.specs.declared.header.Header.{Header}
 use Rattle.zio_gang.specs.declared.header.HeaderFault.{HeaderFault}
@@ -21,13 +21,6 @@ use Rattle.zio_gang.specs.declared.header.HeaderFault.TheVariants.{Magic, Sum, F
 use Rattle.zio_gang.specs.HeaderFaults.{Holds, Names, are_scattered, present, slot_at, is_vacant, is_garbled, are_no_members, has_magic_fault, has_sum_fault, has_filler_fault, has_member_fault, has_sizes_fault, first_header_fault}
 
 -- ---- the parts of bytes
-
--- the first n bytes are the part in front that has as many
-pub take-front : (n : ℕ) (xs ys : List ℕ) → length xs ≡ n → take n (xs ++ ys) ≡ xs
-take-front n xs ys e = subst (λ k. take k (xs ++ ys) ≡ xs) e (take-append_seam xs ys)
-
-pub drop-front : (n : ℕ) (xs ys : List ℕ) → length xs ≡ n → drop n (xs ++ ys) ≡ ys
-drop-front n xs ys e = subst (λ k. drop k (xs ++ ys) ≡ ys) e (drop-append_seam xs ys)
 
 -- a part behind a front of n bytes
 part-behind : (n k : ℕ) (front part rest : List ℕ) → length front ≡ n → length part ≡ k
@@ -189,12 +182,9 @@ both_pass place birth size bytes ms read spelled sizes =
     ((bytes_eq-Decides header bytes).1 spelled)
     ((bytes_eq-Decides said (split_sizes size)).1 (sym (ap (map (λ (m : Bp). m.size)) read) ∙ sizes))
 
--- those of three that are there
-abbrev kept : Option Bp → Option Bp → Option Bp → List Bp
-kept x y z = cons_option x (cons_option y (cons_option z []))
-
-members_are_held : (bytes : List ℕ) (x y z : Option Bp) → IsHeld (slot_at bytes 0) x → IsHeld (slot_at bytes 1) y → IsHeld (slot_at bytes 2) z → members_of bytes ≡ kept x y z
-members_are_held bytes x y z at_x at_y at_z = λ j. kept (at_x.read j) (at_y.read j) (at_z.read j)
+-- what the slots hold is what the bytes name
+members_are_held : (bytes : List ℕ) (x y z : Option Bp) → IsHeld (slot_at bytes 0) x → IsHeld (slot_at bytes 1) y → IsHeld (slot_at bytes 2) z → members_of bytes ≡ present x y z
+members_are_held bytes x y z at_x at_y at_z = λ j. present (at_x.read j) (at_y.read j) (at_z.read j)
 
 pub header_from_no_fault : (place : Place) (birth size : ℕ) (bytes : List ℕ) → 480 ≤ length bytes
     → first_header_fault place birth size bytes ≡ None → IsTrue (is_header place birth size bytes)

@@ -6,7 +6,8 @@ use Rattle.zio_types.specs.declared.place.Place.{Place}
 use Rattle.zio_blkptr.specs.declared.pointer.Bp.{Bp}
 use Rattle.zio_blkptr.specs.Pointers.{word}
 use Rattle.zio_cksum.specs.Headers.{header_magic, header_front, header_of, gang_sum_of, member_bytes}
-use Rattle.zio_gang.proofs.HeaderLemmas.{take-front, drop-front, gang_sum_of-front}
+use Rattle.zio_cksum.proofs.HeaderLemmas.{take-front, drop-front}
+use Rattle.zio_gang.proofs.HeaderLemmas.{gang_sum_of-front}
 
 -- the three members' bytes
 flat_three : (ms : List (Option Bp)) → length ms ≡ 3

@@ -2,7 +2,7 @@
 --
 -- A tree is the list of its requests in the order of their attempts: each child's tree by rising number, then the
 -- request itself. So the root is last, and what is attempted again is a part of the list in the same order.
-use Rattle.std.specs.Prelude.{ℕ, zero, suc, ◌+◌, List, [], ◌∷◌, ◌++◌, map, filter, Bool, true, false, ◌&&◌, ◌||◌, not, Option, Some, None, Result, Ok, Err, nat_lt}
+use Rattle.std.specs.Prelude.{ℕ, zero, suc, ◌+◌, List, [], ◌∷◌, ◌++◌, map, filter, Bool, true, false, ◌&&◌, ◌||◌, not, Option, Some, None, Result, Ok, Err}
 use Rattle.zio_types.specs.declared.error.Errno.{Errno}
 use Rattle.zio_types.specs.declared.error.Errno.TheVariants.{Nxio, Nospc, Noent}
 use Rattle.zio_types.specs.declared.place.Place.{Place}

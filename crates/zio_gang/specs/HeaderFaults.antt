@@ -11,6 +11,7 @@ use Rattle.zio_gang.specs.declared.header.HeaderFault.TheVariants.{Magic, Sum, F
 
 -- ---- the faults
 
+-- the magic is another
 unfoldable pub has_magic_fault : List ℕ → Bool
 has_magic_fault bytes = not (bytes_eq (take 8 (drop 472 bytes)) (word header_magic))
 
@@ -18,6 +19,7 @@ has_magic_fault bytes = not (bytes_eq (take 8 (drop 472 bytes)) (word header_mag
 unfoldable pub has_sum_fault : Place → ℕ → List ℕ → Bool
 has_sum_fault place birth bytes = not (bytes_eq (drop 480 bytes) (flat_map word (gang_sum_of bytes place birth)))
 
+-- a byte of the filler isn't zero
 unfoldable pub has_filler_fault : List ℕ → Bool
 has_filler_fault bytes = not (bytes_eq (take 88 (drop 384 bytes)) (replicate 88 0))
 
@@ -39,6 +41,7 @@ are_no_members first second third =
     is_vacant first || (is_vacant second && not (is_vacant third))
     || is_garbled first || is_garbled second || is_garbled third
 
+-- the pointers are no members from the front
 unfoldable pub has_member_fault : List ℕ → Bool
 has_member_fault bytes = are_no_members (slot_at bytes 0) (slot_at bytes 1) (slot_at bytes 2)
 
@@ -58,6 +61,16 @@ first_header_fault place birth size bytes =
 
 -- ---- what a header names
 
+-- The header names these members, one to three, and the first once more in what is left of its three.
+pub record Names (header : Header) (members : List Bp) : Type 0 where
+  pub least : 1 ≤ header.n
+  pub most : header.n ≤ 3
+  pub count : header.n ≡ length members
+  pub front : take header.n header.members ≡ members
+  pub rest : (k : ℕ) → header.n ≤ k → k < 3 → slice_get header.members k ≡ slice_get header.members 0
+
+-- ---- its slots
+
 -- The slot holds this pointer, or nothing.
 pub record Holds (slot : List ℕ) (member : Option Bp) : Type 0 where
   pub vacant : is_vacant slot ≡ is_none member
@@ -68,14 +81,6 @@ pub record Holds (slot : List ℕ) (member : Option Bp) : Type 0 where
 abbrev pub are_scattered : Option Bp → Option Bp → Option Bp → Bool
 are_scattered first second third = is_none first || (is_none second && not (is_none third))
 
--- those of three members that are there
+-- those of the three that are there
 abbrev pub present : Option Bp → Option Bp → Option Bp → List Bp
 present first second third = cons_option first (cons_option second (cons_option third []))
-
--- The header names these members, and the first once more in what is left of its three.
-pub record Names (header : Header) (members : List Bp) : Type 0 where
-  pub least : 1 ≤ header.n
-  pub most : header.n ≤ 3
-  pub count : header.n ≡ length members
-  pub front : take header.n header.members ≡ members
-  pub rest : (k : ℕ) → header.n ≤ k → k < 3 → slice_get header.members k ≡ slice_get header.members 0

@@ -1,6 +1,7 @@
 //! Gang blocks and the meaning of a script.
 //!
-//! It stands on `zio_cksum` and `zio_script`. Read `Tree` first: a block's pointer with the headers under it.
+//! It stands on `zio_cksum` and `zio_script`. Read `Tree` first: a block's pointer with the headers under it. A header
+//! is made by `header_encode` for the place and birth of its gang, and read by `header_decode` for these alone.
 //! What a script means stands in `specs/`, from the reads of a block's tree (`specs/Trees`) and placed writes
 //! (`specs/Writes`) over one attempt of a tree of requests (`specs/Attempts`) and one round (`specs/Rounds`) to the
 //! run of a script (`specs/Runs`); `specs/Journals` says which journals and completions are lawful.

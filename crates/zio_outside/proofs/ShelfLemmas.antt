@@ -1,5 +1,5 @@
 -- A change under one name is a disk that goes out or comes home.
-use Rattle.std.proofs.Common.{◌≡◌, ◌≢◌, ℕ, Bool, true, false, nat_eq, List, ◌⊎◌, ◌↔◌, inl, inr, Option, Some, None, refl, ap, sym, ◌∙◌, subst}
+use Rattle.std.proofs.Common.{◌≡◌, ◌≢◌, ℕ, Bool, true, false, nat_eq, List, ◌⊎◌, inl, inr, Option, Some, None, refl, ap, sym, ◌∙◌, subst}
 use Rattle.std.specs.Cmp.Lexicographic.{pointwise, same_text, other_text}
 use Rattle.zio_outside.specs.Memory.{told, disk_image}
 use Rattle.zio_outside.specs.MemoryShelf.{ChangesOnly, image_of, out_of}

@@ -114,8 +114,8 @@ impl Disk for MemDisk {
         requires { at + length buffer.old ≤ length (disk_image self.old) }
         ensures count { CountsFault result (disk_faults self.old) (disk_faults self.new) }
         ensures read { OnOk result (ReadsAt (told (disk_image self.old)) at buffer.new) }
-        ensures image { Keeps (told (disk_image self.old)) (told (disk_image self.new)) }
-        ensures home { Keeps (λ name. disk_home self.old ≡ Some name) (λ name. disk_home self.new ≡ Some name) }
+        ensures image { disk_image self.new ≡ disk_image self.old }
+        ensures home { disk_home self.new ≡ disk_home self.old }
         ensures bytes { length (disk_image self.new) ≡ length (disk_image self.old) }
         ensures at_fetch { disk_faults_at_fetch self.new ≡ disk_faults_at_fetch self.old }
         ensures listed { IsErr result ↔ Contains (disk_fails self.old) (disk_calls self.old) }
@@ -141,7 +141,7 @@ impl Disk for MemDisk {
         ensures count { CountsFault result (disk_faults self.old) (disk_faults self.new) }
         ensures ok { OnOk result (WritesAt (told (disk_image self.old)) (told (disk_image self.new)) at piece.now) }
         ensures failed { OnErr result (TearsAt (told (disk_image self.old)) (told (disk_image self.new)) at piece.now) }
-        ensures home { Keeps (λ name. disk_home self.old ≡ Some name) (λ name. disk_home self.new ≡ Some name) }
+        ensures home { disk_home self.new ≡ disk_home self.old }
         ensures bytes { length (disk_image self.new) ≡ length (disk_image self.old) }
         ensures at_fetch { disk_faults_at_fetch self.new ≡ disk_faults_at_fetch self.old }
         ensures listed { IsErr result ↔ Contains (disk_fails self.old) (disk_calls self.old) }

@@ -203,6 +203,7 @@ impl Shelf for MemShelf {
         ensures handed { IfOk result (λ disk. (was : MemDisk) ×
             (shelf_slot self.old name.now ≡ Some (Some was)) × HandedOut was disk name.now) }
         ensures change { OnOk result (ChangesOnly (shelf_slot self.old) (shelf_slot self.new) name.now None) }
+        ensures kept { OnErr result ((other : List ℕ) → shelf_slot self.new other ≡ shelf_slot self.old other) }
         ensures cause { IsErrOf result FetchFault.Failed →
             Contains (shelf_fails self.old) (shelf_calls self.old) ⊎ (shelf_slot self.old name.now ≡ None) }
         ensures listed { OnOk result (¬ Contains (shelf_fails self.old) (shelf_calls self.old)) }

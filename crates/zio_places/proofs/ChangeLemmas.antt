@@ -48,10 +48,10 @@ top_at-set tops k x h = get_or-set_same tops k x no_top h
 pub top_at-other : (tops : List TopState) (k t : ℕ) (x : TopState) → t ≢ k → top_at (set tops k x) t ≡ top_at tops t
 top_at-other tops k t x h = get_or-set_other tops k t x no_top h
 
-pub sizes_of-set : (tops : List TopState) (k : ℕ) (x : TopState) → k < length tops → length x.lens ≡ length (top_at tops k).lens → sizes_of (set tops k x) ≡ sizes_of tops
+pub sizes_of-set : (tops : List TopState) (k : ℕ) (x : TopState) → k < length tops → length x.lengths ≡ length (top_at tops k).lengths → sizes_of (set tops k x) ≡ sizes_of tops
 sizes_of-set [] k x h e = absurd (omega arith)
 sizes_of-set (t ∷ tops) zero x h e = ap (λ n. n ∷ sizes_of tops) e
-sizes_of-set (t ∷ tops) (suc k) x h e = ap (λ ns. length t.lens ∷ ns) (sizes_of-set tops k x (omega arith) e)
+sizes_of-set (t ∷ tops) (suc k) x h e = ap (λ ns. length t.lengths ∷ ns) (sizes_of-set tops k x (omega arith) e)
 
 -- a fact of each top, where it holds of the new one and held of all
 each_top : (P : TopState → TopState → Type 0) → ((t : TopState) → P t t) → (tops : List TopState) (k : ℕ) (x : TopState) → k < length tops → P (top_at tops k) x →
@@ -123,21 +123,21 @@ taken-cleared old new p sector h used =
     } in
     taken-marked new old p sector back (record { fits = omega (arith, h.length, used.fits); each = h.within })
 
-module _ (tops : List TopState) (p : Place) (x : TopState) (there : p.top < length tops) (lens : x.lens ≡ (top_at tops p.top).lens) (long : length x.free ≡ length (top_at tops p.top).free) where
+module _ (tops : List TopState) (p : Place) (x : TopState) (there : p.top < length tops) (lengths : x.lengths ≡ (top_at tops p.top).lengths) (long : length x.free ≡ length (top_at tops p.top).free) where
   same_sizes : sizes_of (set tops p.top x) ≡ sizes_of tops
-  same_sizes = sizes_of-set tops p.top x there (ap length lens)
+  same_sizes = sizes_of-set tops p.top x there (ap length lengths)
 
-  same_lens : (top : ℕ) → (top_at (set tops p.top x) top).lens ≡ (top_at tops top).lens
-  same_lens = each_top (λ t u. u.lens ≡ t.lens) (λ t. refl) tops p.top x there lens
+  same_lengths : (top : ℕ) → (top_at (set tops p.top x) top).lengths ≡ (top_at tops top).lengths
+  same_lengths = each_top (λ t u. u.lengths ≡ t.lengths) (λ t. refl) tops p.top x there lengths
 
   same_long : (top : ℕ) → length (top_at (set tops p.top x) top).free ≡ length (top_at tops top).free
   same_long = each_top (λ t u. length u.free ≡ length t.free) (λ t. refl) tops p.top x there long
 
   still_even : AreEven tops → AreEven (set tops p.top x)
-  still_even h = λ top. same_long top ∙ h top ∙ sym (ap length (same_lens top))
+  still_even h = λ top. same_long top ∙ h top ∙ sym (ap length (same_lengths top))
 
   was_even : AreEven (set tops p.top x) → AreEven tops
-  was_even h = λ top. sym (same_long top) ∙ h top ∙ ap length (same_lens top)
+  was_even h = λ top. sym (same_long top) ∙ h top ∙ ap length (same_lengths top)
 
   other_top : (top sector : ℕ) → top ≢ p.top → (covers p top sector ≡ false) × (taken_at (set tops p.top x) top sector ≡ taken_at tops top sector)
   other_top top sector n = (covers-not p top sector (λ a b c. n (sym a)), ap (λ (t : TopState). taken_in t.free sector) (top_at-other tops p.top top x n))
@@ -145,37 +145,37 @@ module _ (tops : List TopState) (p : Place) (x : TopState) (there : p.top < leng
   this_top : (sector : ℕ) → taken_at (set tops p.top x) p.top sector ≡ taken_in x.free sector
   this_top sector = ap (λ (t : TopState). taken_in t.free sector) (top_at-set tops p.top x there)
 
-pub GetUsed-marked : (tops : List TopState) (p : Place) (x : TopState) → HasFlags tops p true → GetFlag (top_at tops p.top).free x.free p.sector p.sectors false → x.lens ≡ (top_at tops p.top).lens →
+pub GetUsed-marked : (tops : List TopState) (p : Place) (x : TopState) → HasFlags tops p true → GetFlag (top_at tops p.top).free x.free p.sector p.sectors false → x.lengths ≡ (top_at tops p.top).lengths →
     GetUsed tops (set tops p.top x) p
-GetUsed-marked tops p x room change lens =
+GetUsed-marked tops p x room change lengths =
     let there = inside-top tops p true room in
     record {
-      sizes = same_sizes tops p x there lens change.length;
-      even = still_even tops p x there lens change.length;
-      even_back = was_even tops p x there lens change.length;
-      lens = same_lens tops p x there lens change.length;
+      sizes = same_sizes tops p x there lengths change.length;
+      even = still_even tops p x there lengths change.length;
+      even_back = was_even tops p x there lengths change.length;
+      lengths = same_lengths tops p x there lengths change.length;
       taken = λ top sector.
           elim (cases_eq top p.top) [
             | inl e ↦ subst (λ t. taken_at (set tops p.top x) t sector ≡ one_if (covers p t sector) + taken_at tops t sector) (sym e)
-                (this_top tops p x there lens change.length sector ∙ taken-marked (top_at tops p.top).free x.free p sector change room.flags)
-            | inr n ↦ let o = other_top tops p x there lens change.length top sector n in omega (arith, o.1, ap one_if o.0)
+                (this_top tops p x there lengths change.length sector ∙ taken-marked (top_at tops p.top).free x.free p sector change room.flags)
+            | inr n ↦ let o = other_top tops p x there lengths change.length top sector n in omega (arith, o.1, ap one_if o.0)
           ];
     }
 
-pub GetUsed-cleared : (tops : List TopState) (p : Place) (x : TopState) → HasFlags tops p false → GetFlag (top_at tops p.top).free x.free p.sector p.sectors true → x.lens ≡ (top_at tops p.top).lens →
+pub GetUsed-cleared : (tops : List TopState) (p : Place) (x : TopState) → HasFlags tops p false → GetFlag (top_at tops p.top).free x.free p.sector p.sectors true → x.lengths ≡ (top_at tops p.top).lengths →
     GetUsed (set tops p.top x) tops p
-GetUsed-cleared tops p x used change lens =
+GetUsed-cleared tops p x used change lengths =
     let there = inside-top tops p false used in
     record {
-      sizes = sym (same_sizes tops p x there lens change.length);
-      even = was_even tops p x there lens change.length;
-      even_back = still_even tops p x there lens change.length;
-      lens = λ top. sym (same_lens tops p x there lens change.length top);
+      sizes = sym (same_sizes tops p x there lengths change.length);
+      even = was_even tops p x there lengths change.length;
+      even_back = still_even tops p x there lengths change.length;
+      lengths = λ top. sym (same_lengths tops p x there lengths change.length top);
       taken = λ top sector.
           elim (cases_eq top p.top) [
             | inl e ↦ subst (λ t. taken_at tops t sector ≡ one_if (covers p t sector) + taken_at (set tops p.top x) t sector) (sym e)
-                (taken-cleared (top_at tops p.top).free x.free p sector change used.flags ∙ ap (λ n. one_if (covers p p.top sector) + n) (sym (this_top tops p x there lens change.length sector)))
-            | inr n ↦ let o = other_top tops p x there lens change.length top sector n in omega (arith, o.1, ap one_if o.0)
+                (taken-cleared (top_at tops p.top).free x.free p sector change used.flags ∙ ap (λ n. one_if (covers p p.top sector) + n) (sym (this_top tops p x there lengths change.length sector)))
+            | inr n ↦ let o = other_top tops p x there lengths change.length top sector n in omega (arith, o.1, ap one_if o.0)
           ];
     }
 
@@ -186,49 +186,49 @@ total_here f p h = go p.sectors refl h where
   go zero e h = absurd (omega arith)
   go (suc n) e h = add-zero (f (record { top = p.top; sector = p.sector; sectors = suc n })) ∙ ap (λ m. f (record { top = p.top; sector = p.sector; sectors = m })) e
 
-pub inside-length : (tops : List TopState) (top sector : ℕ) → sector < length (top_at tops top).lens → top < length tops
+pub inside-length : (tops : List TopState) (top sector : ℕ) → sector < length (top_at tops top).lengths → top < length tops
 inside-length tops top sector h =
     elim (cases_lt top (length tops)) [
       | inl here ↦ here
       | inr past ↦
-          let none : length (top_at tops top).lens ≡ 0 = ap (λ (t : TopState). length t.lens) (get_or_past tops top no_top past) in
+          let none : length (top_at tops top).lengths ≡ 0 = ap (λ (t : TopState). length t.lengths) (get_or_past tops top no_top past) in
           absurd (omega (arith, h, none))
     ]
 
-pub length-inside : (tops : List TopState) (top sector : ℕ) → 0 < length_at tops top sector → sector < length (top_at tops top).lens
+pub length-inside : (tops : List TopState) (top sector : ℕ) → 0 < length_at tops top sector → sector < length (top_at tops top).lengths
 length-inside tops top sector h =
-    elim (cases_lt sector (length (top_at tops top).lens)) [
+    elim (cases_lt sector (length (top_at tops top).lengths)) [
       | inl here ↦ here
-      | inr past ↦ absurd (omega (arith, h, get_or_past (top_at tops top).lens sector 0 past))
+      | inr past ↦ absurd (omega (arith, h, get_or_past (top_at tops top).lengths sector 0 past))
     ]
 
-pub GetLive-entered : (tops : List TopState) (p : Place) (x : TopState) → 0 < p.sectors → p.sector < length (top_at tops p.top).lens → length_at tops p.top p.sector ≡ 0 →
-    x.lens ≡ set (top_at tops p.top).lens p.sector p.sectors → x.free ≡ (top_at tops p.top).free → GetLive tops (set tops p.top x) p
-GetLive-entered tops p x filled inside none lens free =
+pub GetLive-entered : (tops : List TopState) (p : Place) (x : TopState) → 0 < p.sectors → p.sector < length (top_at tops p.top).lengths → length_at tops p.top p.sector ≡ 0 →
+    x.lengths ≡ set (top_at tops p.top).lengths p.sector p.sectors → x.free ≡ (top_at tops p.top).free → GetLive tops (set tops p.top x) p
+GetLive-entered tops p x filled inside none lengths free =
     let there = inside-length tops p.top p.sector inside in
-    let long : length x.lens ≡ length (top_at tops p.top).lens = ap length lens ∙ length-set (top_at tops p.top).lens p.sector p.sectors in
+    let long : length x.lengths ≡ length (top_at tops p.top).lengths = ap length lengths ∙ length-set (top_at tops p.top).lengths p.sector p.sectors in
     record {
       sizes = sizes_of-set tops p.top x there long;
       free = each_top (λ t u. u.free ≡ t.free) (λ t. refl) tops p.top x there free;
-      lens = each_top (λ t u. length u.lens ≡ length t.lens) (λ t. refl) tops p.top x there long;
+      lengths = each_top (λ t u. length u.lengths ≡ length t.lengths) (λ t. refl) tops p.top x there long;
       live = λ f.
-          let change = total_set f tops p.top p.sector p.sectors x there inside lens in
+          let change = total_set f tops p.top p.sector p.sectors x there inside lengths in
           let before : total f (places_here p.top p.sector (length_at tops p.top p.sector)) ≡ 0 = ap (λ n. total f (places_here p.top p.sector n)) none in
           omega (arith, change, before, total_here f p filled);
     }
 
 pub GetLive-removed : (tops : List TopState) (p : Place) (x : TopState) → 0 < p.sectors → length_at tops p.top p.sector ≡ p.sectors →
-    x.lens ≡ set (top_at tops p.top).lens p.sector 0 → x.free ≡ (top_at tops p.top).free → GetLive (set tops p.top x) tops p
-GetLive-removed tops p x filled size lens free =
+    x.lengths ≡ set (top_at tops p.top).lengths p.sector 0 → x.free ≡ (top_at tops p.top).free → GetLive (set tops p.top x) tops p
+GetLive-removed tops p x filled size lengths free =
     let inside = length-inside tops p.top p.sector (omega (arith, size, filled)) in
     let there = inside-length tops p.top p.sector inside in
-    let long : length x.lens ≡ length (top_at tops p.top).lens = ap length lens ∙ length-set (top_at tops p.top).lens p.sector 0 in
+    let long : length x.lengths ≡ length (top_at tops p.top).lengths = ap length lengths ∙ length-set (top_at tops p.top).lengths p.sector 0 in
     record {
       sizes = sym (sizes_of-set tops p.top x there long);
       free = λ top. sym (each_top (λ t u. u.free ≡ t.free) (λ t. refl) tops p.top x there free top);
-      lens = λ top. sym (each_top (λ t u. length u.lens ≡ length t.lens) (λ t. refl) tops p.top x there long top);
+      lengths = λ top. sym (each_top (λ t u. length u.lengths ≡ length t.lengths) (λ t. refl) tops p.top x there long top);
       live = λ f.
-          let change = total_set f tops p.top p.sector 0 x there inside lens in
+          let change = total_set f tops p.top p.sector 0 x there inside lengths in
           let before : total f (places_here p.top p.sector (length_at tops p.top p.sector)) ≡ f p = ap (λ n. total f (places_here p.top p.sector n)) size ∙ total_here f p filled in
           omega (arith, change, before);
     }

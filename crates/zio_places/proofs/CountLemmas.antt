@@ -6,29 +6,28 @@ use Rattle.std.proofs.lemmas.Bool.{false≢true, and_parts, and_from, lt-ltb, lt
 use Rattle.std.proofs.lemmas.List.{take-append-drop, drop_more}
 use Rattle.std.proofs.lemmas.List.Folds.{list_all-append}
 use Rattle.zio_types.specs.declared.place.Place.{Place}
-use Rattle.zio_types.specs.Places.{end_of, meets, is_below, is_inside, is_free}
-use Rattle.zio_places.specs.Spaces.{are_apart, are_open}
+use Rattle.zio_types.specs.Places.{end_of, meets, is_below, is_inside, is_free, are_apart, are_open}
 use Rattle.zio_places.specs.Tables.{TopState, top_at, sizes_of, covers, one_if, Count, AreEven, HasFlags, Hold}
 use Rattle.zio_places.proofs.PlaceLemmas.{total-append, covers-from, covers-parts, is_free-from_counts, counts-from_is_free, meets-symmetric}
 use Rattle.zio_places.proofs.ChangeLemmas.{taken_in-free, taken_in-zero}
 
-below-parts : (p : Place) (tops : List TopState) (top : ℕ) → is_below p (slice_get (sizes_of tops) top) ≡ true → (0 < p.sectors) × (end_of p ≤ length (top_at tops top).lens)
+below-parts : (p : Place) (tops : List TopState) (top : ℕ) → is_below p (slice_get (sizes_of tops) top) ≡ true → (0 < p.sectors) × (end_of p ≤ length (top_at tops top).lengths)
 below-parts p [] top h = absurd (false≢true h)
 below-parts p (t ∷ tops) zero h =
-    let parts = and_parts (nat_lt 0 p.sectors) (nat_le (end_of p) (length t.lens)) h in
-    (ltb-true 0 p.sectors parts.0, leb-true (end_of p) (length t.lens) parts.1)
+    let parts = and_parts (nat_lt 0 p.sectors) (nat_le (end_of p) (length t.lengths)) h in
+    (ltb-true 0 p.sectors parts.0, leb-true (end_of p) (length t.lengths) parts.1)
 below-parts p (t ∷ tops) (suc top) h = below-parts p tops top h
 
-below-from : (p : Place) (tops : List TopState) (top : ℕ) → 0 < p.sectors → end_of p ≤ length (top_at tops top).lens → is_below p (slice_get (sizes_of tops) top) ≡ true
+below-from : (p : Place) (tops : List TopState) (top : ℕ) → 0 < p.sectors → end_of p ≤ length (top_at tops top).lengths → is_below p (slice_get (sizes_of tops) top) ≡ true
 below-from p [] top filled h = absurd (omega (arith, filled, h))
-below-from p (t ∷ tops) zero filled h = and_from (nat_lt 0 p.sectors) (nat_le (end_of p) (length t.lens)) (lt-ltb 0 p.sectors filled) (le-leb (end_of p) (length t.lens) h)
+below-from p (t ∷ tops) zero filled h = and_from (nat_lt 0 p.sectors) (nat_le (end_of p) (length t.lengths)) (lt-ltb 0 p.sectors filled) (le-leb (end_of p) (length t.lengths) h)
 below-from p (t ∷ tops) (suc top) filled h = below-from p tops top filled h
 
 -- a place inside has sectors, all of its top
-pub inside-parts : (tops : List TopState) (p : Place) → is_inside (sizes_of tops) p ≡ true → (0 < p.sectors) × (end_of p ≤ length (top_at tops p.top).lens)
+pub inside-parts : (tops : List TopState) (p : Place) → is_inside (sizes_of tops) p ≡ true → (0 < p.sectors) × (end_of p ≤ length (top_at tops p.top).lengths)
 inside-parts tops p h = below-parts p tops p.top h
 
-pub inside-from : (tops : List TopState) (p : Place) → 0 < p.sectors → end_of p ≤ length (top_at tops p.top).lens → is_inside (sizes_of tops) p ≡ true
+pub inside-from : (tops : List TopState) (p : Place) → 0 < p.sectors → end_of p ≤ length (top_at tops p.top).lengths → is_inside (sizes_of tops) p ≡ true
 inside-from tops p filled h = below-from p tops p.top filled h
 
 -- ---- free flags and free places

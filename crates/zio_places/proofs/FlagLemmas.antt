@@ -1,9 +1,10 @@
 -- Runs of free flags in lists that are joined.
-use Rattle.std.proofs.Common.{◌≡◌, ℕ, ◌+◌, ◌-◌, ◌<◌, ◌≤◌, ◌≢◌, suc, zero, max, List, [], ◌∷◌, ◌++◌, length, reverse, take, drop, refl, sym, ap, subst, ◌∙◌, arith, length-append, zero-add}
+use Rattle.std.proofs.Common.{◌≡◌, ℕ, ◌+◌, ◌-◌, ◌<◌, ◌≤◌, ◌≢◌, suc, zero, max, List, [], ◌∷◌, ◌++◌, length, reverse, take, drop, replicate, refl, sym, ap, subst, ◌∙◌, arith, length-append, zero-add}
 use Rattle.std.specs.Prelude.{Bool, true, false, ◌==◌}
 use Rattle.std.proofs.Common.{inl, inr}
 use Rattle.std.proofs.lemmas.Bool.{eq-eqb, ne_eqb, cases_eq, false≢true, cases_lt}
-use Rattle.std.proofs.lemmas.List.{length-reverse, reverse-append, get_or-reverse, get_or_past, append-nil, take_more, length-take-le, get_or-take, get_or-drop, length-drop}
+use Rattle.std.proofs.lemmas.List.{ext_get_or, length-replicate, get_or-replicate, length-reverse, reverse-append, get_or-reverse, get_or_append_left, get_or-append_right, get_or_past, append-nil, take_more, length-take-le, get_or-take, get_or-drop, length-drop}
+use Rattle.zio_places.specs.declared.summary.Summary.{Summary}
 use Rattle.zio_places.specs.Flags.{flag_at, front_run, back_run, best_run, summary_of, extended, joined, AreAll}
 
 pub extended_on : (a b m : ℕ) → a ≡ b → extended (a == b) a m ≡ a + m
@@ -197,3 +198,76 @@ AreAll-from_front_run xs at n fits h = record {
 
 pub front_run-from_AreAll : (xs : List Bool) (at n : ℕ) → AreAll xs at n true → n ≤ front_run (drop at xs)
 front_run-from_AreAll xs at n h = front_run-most (drop at xs) n (λ k l. get_or-drop at xs k false ∙ h.each (at + k) (omega arith) (omega arith))
+
+-- ---- so many of one flag
+front_run-free_ones : (n : ℕ) → front_run (replicate n true) ≡ n
+front_run-free_ones zero = refl
+front_run-free_ones (suc n) = omega (arith, front_run-free_ones n)
+
+front_run-used_ones : (n : ℕ) → front_run (replicate n false) ≡ 0
+front_run-used_ones zero = refl
+front_run-used_ones (suc n) = refl
+
+reverse-ones : (n : ℕ) (flag : Bool) → reverse (replicate n flag) ≡ replicate n flag
+reverse-ones n flag =
+    ext_get_or false (reverse (replicate n flag)) (replicate n flag) (length-reverse (replicate n flag))
+    (λ k h.
+    let long : length (replicate n flag) ≡ n = length-replicate n flag in
+    let turned : length (reverse (replicate n flag)) ≡ n = length-reverse (replicate n flag) ∙ long in
+    get_or-reverse (replicate n flag) k false (omega (arith, h, long, turned))
+    ∙ get_or-replicate n (length (replicate n flag) - 1 - k) flag false (omega (arith, h, long, turned))
+    ∙ sym (get_or-replicate n k flag false (omega (arith, h, turned))))
+
+best_run-free_ones : (n : ℕ) → best_run (replicate n true) ≡ n
+best_run-free_ones zero = refl
+best_run-free_ones (suc n) = omega (arith, front_run-free_ones n, best_run-free_ones n)
+
+best_run-used_ones : (n : ℕ) → best_run (replicate n false) ≡ 0
+best_run-used_ones zero = refl
+best_run-used_ones (suc n) = omega (arith, best_run-used_ones n)
+
+-- how many of them are free
+abbrev pub free_ones : Bool → ℕ → ℕ
+free_ones true n = n
+free_ones false n = 0
+
+pub summary_of-ones : (n : ℕ) (flag : Bool) → summary_of (replicate n flag) ≡ record { sectors = n; front = free_ones flag n; back = free_ones flag n; best = free_ones flag n }
+summary_of-ones n true =
+    let sectors : length (replicate n true) ≡ n = length-replicate n true in
+    let front : front_run (replicate n true) ≡ n = front_run-free_ones n in
+    let back : back_run (replicate n true) ≡ n = ap front_run (reverse-ones n true) ∙ front in
+    let best : best_run (replicate n true) ≡ n = best_run-free_ones n in
+    cc
+summary_of-ones n false =
+    let sectors : length (replicate n false) ≡ n = length-replicate n false in
+    let front : front_run (replicate n false) ≡ 0 = front_run-used_ones n in
+    let back : back_run (replicate n false) ≡ 0 = ap front_run (reverse-ones n false) ∙ front in
+    let best : best_run (replicate n false) ≡ 0 = best_run-used_ones n in
+    cc
+
+-- so many more of one flag
+pub take-ones : (xs : List Bool) (at n : ℕ) (flag : Bool) → AreAll xs at n flag → take (at + n) xs ≡ take at xs ++ replicate n flag
+take-ones xs at n flag h =
+    let long : length (take at xs) ≡ at = length-take-le at xs (omega (arith, h.fits)) in
+    let whole : length (take (at + n) xs) ≡ at + n = length-take-le (at + n) xs h.fits in
+    ext_get_or false (take (at + n) xs) (take at xs ++ replicate n flag)
+    (whole ∙ sym (length-append (take at xs) (replicate n flag) ∙ ap (λ m. m + length (replicate n flag)) long ∙ ap (λ m. at + m) (length-replicate n flag)))
+    (λ k l.
+    let within : k < at + n = omega (arith, l, whole) in
+    get_or-take (at + n) xs k false within
+    ∙ elim (cases_lt k at) [
+      | inl before ↦ sym (get_or_append_left (take at xs) (replicate n flag) false k (omega (arith, long, before)) ∙ get_or-take at xs k false before)
+      | inr from ↦ h.each k from within ∙ sym (get_or-append_right (take at xs) (replicate n flag) at k false long from ∙ get_or-replicate n (k - at) flag false (omega arith))
+    ])
+
+-- no run of a summary is longer than its range
+pub summary_back-le : (s : Summary) (xs : List Bool) → s ≡ summary_of xs → s.back ≤ s.sectors
+summary_back-le s xs e = omega (arith, ap (λ (t : Summary). t.back) e, ap (λ (t : Summary). t.sectors) e, back_run-le xs)
+
+pub summary_front-le : (s : Summary) (xs : List Bool) → s ≡ summary_of xs → s.front ≤ s.sectors
+summary_front-le s xs e = omega (arith, ap (λ (t : Summary). t.front) e, ap (λ (t : Summary). t.sectors) e, front_run-le xs)
+
+-- the summary of so many more of one flag
+pub summary_more : (xs : List Bool) (at n : ℕ) (flag : Bool) (s a b : Summary) → AreAll xs at n flag → s ≡ joined a b → a ≡ summary_of (take at xs) → b ≡ summary_of (replicate n flag) → s ≡ summary_of (take (at + n) xs)
+summary_more xs at n flag s a b run e ea eb =
+    e ∙ ap (λ x. joined x b) ea ∙ ap (joined (summary_of (take at xs))) eb ∙ sym (summary_of-append (take at xs) (replicate n flag)) ∙ ap summary_of (sym (take-ones xs at n flag run))

@@ -30,19 +30,19 @@ AreKept-release old new places h kept = record {
 }
 
 -- ---- one change after another
-live_from-same : (top : ℕ) (a b : List TopState) → ((k : ℕ) → (top_at b k).lens ≡ (top_at a k).lens) → length b ≡ length a → live_from top b ≡ live_from top a
+live_from-same : (top : ℕ) (a b : List TopState) → ((k : ℕ) → (top_at b k).lengths ≡ (top_at a k).lengths) → length b ≡ length a → live_from top b ≡ live_from top a
 live_from-same top [] [] h n = refl
 live_from-same top [] (y ∷ b) h n = absurd (omega (arith, n))
 live_from-same top (x ∷ a) [] h n = absurd (omega (arith, n))
 live_from-same top (x ∷ a) (y ∷ b) h n =
-    let first : y.lens ≡ x.lens = h 0 in
+    let first : y.lengths ≡ x.lengths = h 0 in
     let rest : live_from (top + 1) b ≡ live_from (top + 1) a = live_from-same (top + 1) a b (λ k. h (suc k)) (omega (arith, n)) in
-    ap (λ ls. places_from top 0 ls ++ live_from (top + 1) b) first ∙ ap (λ ps. places_from top 0 x.lens ++ ps) rest
+    ap (λ ls. places_from top 0 ls ++ live_from (top + 1) b) first ∙ ap (λ ps. places_from top 0 x.lengths ++ ps) rest
 
 -- tables of the same lengths have the same live places
-pub live_of-same : (a b : List TopState) → ((top : ℕ) → (top_at b top).lens ≡ (top_at a top).lens) → sizes_of b ≡ sizes_of a → live_of b ≡ live_of a
+pub live_of-same : (a b : List TopState) → ((top : ℕ) → (top_at b top).lengths ≡ (top_at a top).lengths) → sizes_of b ≡ sizes_of a → live_of b ≡ live_of a
 live_of-same a b h s =
-    live_from-same 0 a b h (sym (length-map b (λ (t : TopState). length t.lens)) ∙ ap length s ∙ length-map a (λ (t : TopState). length t.lens))
+    live_from-same 0 a b h (sym (length-map b (λ (t : TopState). length t.lengths)) ∙ ap length s ∙ length-map a (λ (t : TopState). length t.lengths))
 
 pub Hold-nothing : (tops : List TopState) → Hold tops tops []
 Hold-nothing tops = record {
@@ -84,10 +84,10 @@ Hold-same a b c xs h k = record {
 pub Hold-one : (a b c : List TopState) (p : Place) → GetUsed a b p → GetLive b c p → Hold a c (p ∷ [])
 Hold-one a b c p used live = record {
   sizes = live.sizes ∙ used.sizes;
-  even = λ e top. ap length (live.free top) ∙ used.even e top ∙ sym (live.lens top);
-  even_back = λ e. used.even_back (λ top. sym (ap length (live.free top)) ∙ e top ∙ live.lens top);
+  even = λ e top. ap length (live.free top) ∙ used.even e top ∙ sym (live.lengths top);
+  even_back = λ e. used.even_back (λ top. sym (ap length (live.free top)) ∙ e top ∙ live.lengths top);
   live = λ f.
-      let same : total f (live_of b) ≡ total f (live_of a) = ap (total f) (live_of-same a b used.lens used.sizes) in
+      let same : total f (live_of b) ≡ total f (live_of a) = ap (total f) (live_of-same a b used.lengths used.sizes) in
       omega (arith, live.live f, same);
   taken = λ top sector.
       let same : taken_at c top sector ≡ taken_at b top sector = ap (λ fs. taken_in fs sector) (live.free top) in
@@ -121,7 +121,7 @@ free-unheld tops p kept room =
     ]
 
 -- ---- the same live places in the tables give the same list of them
-size_at : (a : List TopState) (top : ℕ) → length (top_at a top).lens ≡ get_or (sizes_of a) top 0
+size_at : (a : List TopState) (top : ℕ) → length (top_at a top).lengths ≡ get_or (sizes_of a) top 0
 size_at [] top = refl
 size_at (t ∷ a) zero = refl
 size_at (t ∷ a) (suc top) = size_at a top
@@ -135,9 +135,9 @@ pub live_of-unchanged : (a b : List TopState) → Hold a b [] → live_of b ≡ 
 live_of-unchanged a b h =
     let forth = contains-same (live_of a) (live_of b) (λ f. sym (h.live f ∙ zero-add (total f (live_of a)))) in
     let back = contains-same (live_of b) (live_of a) (λ f. h.live f ∙ zero-add (total f (live_of a))) in
-    let long : (top : ℕ) → length (top_at b top).lens ≡ length (top_at a top).lens = λ top. size_at b top ∙ ap (λ ns. get_or ns top 0) h.sizes ∙ sym (size_at a top) in
+    let long : (top : ℕ) → length (top_at b top).lengths ≡ length (top_at a top).lengths = λ top. size_at b top ∙ ap (λ ns. get_or ns top 0) h.sizes ∙ sym (size_at a top) in
     live_of-same a b
-    (λ top. ext_get_or 0 (top_at b top).lens (top_at a top).lens (long top) (λ sector inside.
+    (λ top. ext_get_or 0 (top_at b top).lengths (top_at a top).lengths (long top) (λ sector inside.
     elim (cases_eq (length_at a top sector) 0) [
       | inl none ↦
           elim (cases_eq (length_at b top sector) 0) [
@@ -161,7 +161,7 @@ AllGetUsed-nothing tops = record {
   sizes = refl;
   even = λ h. h;
   even_back = λ h. h;
-  lens = λ top. refl;
+  lengths = λ top. refl;
   taken = λ top sector. sym (zero-add (taken_at tops top sector));
 }
 
@@ -170,7 +170,7 @@ AllGetUsed-before a b c p xs h k = record {
   sizes = k.sizes ∙ h.sizes;
   even = λ e. k.even (h.even e);
   even_back = λ e. h.even_back (k.even_back e);
-  lens = λ top. k.lens top ∙ h.lens top;
+  lengths = λ top. k.lengths top ∙ h.lengths top;
   taken = λ top sector. omega (arith, h.taken top sector, k.taken top sector, total-append (λ q. one_if (covers q top sector)) xs (p ∷ []));
 }
 

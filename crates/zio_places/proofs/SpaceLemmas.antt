@@ -7,9 +7,9 @@ use Rattle.std.proofs.lemmas.Bool.{and_from, false_from_ne_true}
 use Rattle.std.proofs.lemmas.List.{length-map, length_push, length-replicate}
 use Rattle.std.proofs.lemmas.List.Elements.{All-contains, All-push, Contains-append_cases}
 use Rattle.zio_types.specs.declared.place.Place.{Place}
-use Rattle.zio_types.specs.Places.{is_inside, is_free}
+use Rattle.zio_types.specs.Places.{is_inside, is_free, are_apart}
 use Rattle.zio_types.specs.Choices.{Choice}
-use Rattle.zio_places.specs.Spaces.{SamePlaces, are_inside, are_apart, IsSound}
+use Rattle.zio_places.specs.Spaces.{SamePlaces, are_inside, IsSound}
 use Rattle.zio_places.specs.Counted.{IsCounted}
 use Rattle.zio_places.specs.Tables.{TopState, top_at, sizes_of, places_from, live_from, live_of, covers, one_if, total, cover_count, taken_in, taken_at, Count, AreEven, AreKept, AllGetUsed, GetLive, Hold}
 use Rattle.zio_places.proofs.PlaceLemmas.{total-append, one_if-le, covers-from, is_free-from_counts, total-contains, Contains-head, Contains-tail, contains-same, same_place, same_place-true, place_count-contains, contains-place_count}
@@ -71,7 +71,7 @@ total-ones [] = refl
 total-ones (x ∷ xs) = omega (arith, total-ones xs)
 
 same_tops : (old new : List TopState) → sizes_of new ≡ sizes_of old → length new ≡ length old
-same_tops old new h = sym (length-map new (λ (t : TopState). length t.lens)) ∙ ap length h ∙ length-map old (λ (t : TopState). length t.lens)
+same_tops old new h = sym (length-map new (λ (t : TopState). length t.lengths)) ∙ ap length h ∙ length-map old (λ (t : TopState). length t.lengths)
 
 -- ---- places get live, and their sectors used
 pub counted-held : (old new : List TopState) (places pending : List Place) (live spare pending_room entries entries_room live' spare' pending_room' entries' : ℕ) → Hold old new places →
@@ -96,7 +96,7 @@ counted-given_back old new p pending live spare pending_room entries entries_roo
     let fewer : length (live_of old) ≡ 1 + length (live_of new) = omega (arith, h.live (λ q. 1), total-ones (live_of old), total-ones (live_of new)) in
     record {
       few = omega (arith, c.few, same_tops old new (sym h.sizes));
-      even = λ top. sym (ap length (h.free top)) ∙ c.even top ∙ h.lens top;
+      even = λ top. sym (ap length (h.free top)) ∙ c.even top ∙ h.lengths top;
       count = λ top sector.
           let same : taken_at old top sector ≡ taken_at new top sector = ap (λ fs. taken_in fs sector) (h.free top) in
           omega (
@@ -134,7 +134,7 @@ given_back-live old new p kept h filled q = (
 pub counted-closed : (old new : List TopState) (pending : List Place) (live spare pending_room entries entries_room : ℕ) → AllGetUsed new old pending →
     IsCounted old pending live spare pending_room entries entries_room → IsCounted new [] live spare pending_room entries entries_room
 counted-closed old new pending live spare pending_room entries entries_room h c =
-    let same : live_of new ≡ live_of old = sym (live_of-same new old h.lens h.sizes) in
+    let same : live_of new ≡ live_of old = sym (live_of-same new old h.lengths h.sizes) in
     record {
       few = omega (arith, c.few, same_tops old new (sym h.sizes));
       even = h.even_back c.even;
@@ -155,7 +155,7 @@ counted-closed old new pending live spare pending_room entries entries_room h c 
 
 -- ---- a space is new
 abbrev pub fresh_top : ℕ → TopState
-fresh_top n = record { free = replicate n true; lens = replicate n 0 }
+fresh_top n = record { free = replicate n true; lengths = replicate n 0 }
 
 pub sizes_of-fresh : (ns : List ℕ) → sizes_of (map fresh_top ns) ≡ ns
 sizes_of-fresh [] = refl
@@ -172,7 +172,7 @@ live_from-fresh top (n ∷ ns) = ap (λ ps. ps ++ live_from (top + 1) (map fresh
 pub live_of-fresh : (ns : List ℕ) → live_of (map fresh_top ns) ≡ []
 live_of-fresh ns = live_from-fresh 0 ns
 
-even-fresh : (ns : List ℕ) (top : ℕ) → length (top_at (map fresh_top ns) top).free ≡ length (top_at (map fresh_top ns) top).lens
+even-fresh : (ns : List ℕ) (top : ℕ) → length (top_at (map fresh_top ns) top).free ≡ length (top_at (map fresh_top ns) top).lengths
 even-fresh [] top = refl
 even-fresh (n ∷ ns) zero = length-replicate n true ∙ sym (length-replicate n 0)
 even-fresh (n ∷ ns) (suc top) = even-fresh ns top

@@ -1,5 +1,5 @@
 -- Bits of a word as flags.
-use Rattle.std.proofs.Common.{◌≡◌, ℕ, ◌+◌, ◌-◌, ◌^◌, ◌<◌, ◌≤◌, max, List, length, replicate, sym, ap, ◌∙◌, arith, zero-add, w64}
+use Rattle.std.proofs.Common.{◌≡◌, ℕ, ◌+◌, ◌-◌, ◌^◌, ◌<◌, ◌≤◌, max, List, length, replicate, sym, ap, ◌∙◌, arith, zero-add, w64, ◌/◌, ◌%◌}
 use Rattle.std.specs.Prelude.{Bool, true, false, ◌==◌, ◌⊎◌, bit_and, bit_or}
 use Rattle.std.specs.Int.{bit_at}
 use Rattle.std.proofs.lemmas.Bool.{cases_lt}
@@ -7,9 +7,10 @@ use Rattle.std.proofs.Common.{inl, inr}
 use Rattle.std.proofs.lemmas.List.{ext_get_or, get_or-replicate, length-replicate, get_or_past}
 use Rattle.std.proofs.lemmas.List.FromFn.{length-map-range_with_len, get_or-map-range_with_len}
 use Rattle.std.proofs.lemmas.Nat.Bits.{bit_at_ones, bit_at_or, bit_at_and, bit_at_not, bit_at-lt, bit_at_mask_inside, bit_at_mask_below, bit_at_mask_above}
-use Rattle.std.proofs.lemmas.Nat.{pow_pos}
+use Rattle.std.proofs.lemmas.Nat.{pow_pos, pow-add}
+use Rattle.std.proofs.Math.Nat.{div-div-eq-div-mul}
 use Rattle.std.proofs.Math.Pow.{pow_mono}
-use Rattle.zio_places.specs.Flags.{flag_at, GetFlag}
+use Rattle.zio_places.specs.Flags.{flag_at, AreAll, GetFlag}
 use Rattle.zio_places.specs.Words.{flags_of}
 
 pub length-flags_of : (bits len : ℕ) → length (flags_of bits len) ≡ len
@@ -86,3 +87,18 @@ word_clear bits len at count flags is fits short =
     let zero_there : bit_at (2 ^ (at + count) - 2 ^ at) k ≡ 0 = elim h [ inl b ↦ bit_at_mask_below at (at + count) k b | inr b ↦ bit_at_mask_above at (at + count) k b ] in
     bit_at_and bits (18446744073709551615 - (2 ^ (at + count) - 2 ^ at)) k ∙ omega (arith, flip k (omega arith), zero_there, bit_at-lt bits k))
     fits
+
+-- the bits of a number that is shifted down
+pub bit_at-shifted : (n at i : ℕ) → bit_at (n / 2 ^ at) i ≡ bit_at n (at + i)
+bit_at-shifted n at i = ap (λ m. m % 2) (div-div-eq-div-mul n (2 ^ at) (2 ^ i) ∙ ap (λ p. n / p) (sym (pow-add 2 at i)))
+
+-- equal bits are flags of one kind
+pub word_run : (bits len at count : ℕ) (flags : List Bool) → flags_of bits len ≡ flags → at + count ≤ len → at < len → ((i : ℕ) → i < count → bit_at (bits / 2 ^ at) i ≡ bit_at (bits / 2 ^ at) 0) → AreAll flags at count (flag_at flags at)
+word_run bits len at count flags is fits here equal = record {
+  fits = omega (arith, fits, word_length bits len flags is);
+  each = λ k a b.
+      let split : at + (k - at) ≡ k = omega arith in
+      let first : bit_at (bits / 2 ^ at) 0 ≡ bit_at bits at = bit_at-shifted bits at 0 ∙ ap (bit_at bits) (omega arith) in
+      let bit : bit_at bits k ≡ bit_at bits at = ap (bit_at bits) (sym split) ∙ sym (bit_at-shifted bits at (k - at)) ∙ equal (k - at) (omega arith) ∙ first in
+      word_flag bits len flags k is (omega arith) ∙ ap (λ b. b == 1) bit ∙ sym (word_flag bits len flags at is here);
+}

@@ -1,10 +1,8 @@
 -- What a contract sees of the space, and the words of its calls.
-use Rattle.std.specs.Prelude.{◌≡◌, ℕ, List, [], ◌∷◌, ◌++◌, ◌↔◌, Bool, true, ◌&&◌, cond, Contains}
+use Rattle.std.specs.Prelude.{◌≡◌, ℕ, List, ◌++◌, ◌↔◌, Bool, true, Contains}
 use Rattle.std.specs.List.{list_all}
 use Rattle.zio_types.specs.declared.place.Place.{Place}
-pub use Rattle.zio_types.specs.Choices.{taken_by}
-use Rattle.zio_types.specs.Places.{is_inside}
-pub use Rattle.zio_types.specs.Places.{are_apart, are_open}
+use Rattle.zio_types.specs.Places.{is_inside, are_apart}
 use Rattle.zio_types.specs.Choices.{Choice}
 
 pub record SpaceState : Type 0 where

@@ -8,16 +8,16 @@ use Rattle.zio_places.specs.Flags.{best_run, AreAll}
 -- the free flags of a top's sectors, and for each the length of the live place that begins there, 0 for none
 pub record TopState : Type 0 where
   pub free : List Bool
-  pub lens : List ℕ
+  pub lengths : List ℕ
 
 abbrev pub no_top : TopState
-no_top = record { free = []; lens = [] }
+no_top = record { free = []; lengths = [] }
 
 abbrev pub top_at : List TopState → ℕ → TopState
 top_at tops top = slice_index_or tops top no_top
 
 abbrev pub sizes_of : List TopState → List ℕ
-sizes_of tops = map (λ t. length t.lens) tops
+sizes_of tops = map (λ t. length t.lengths) tops
 
 -- the live place that begins at a sector, where one does
 abbrev pub places_here : ℕ → ℕ → ℕ → List Place
@@ -26,11 +26,11 @@ places_here top sector (suc n) = record { top = top; sector = sector; sectors = 
 
 abbrev pub places_from : ℕ → ℕ → List ℕ → List Place
 places_from top sector [] = []
-places_from top sector (n ∷ lens) = places_here top sector n ++ places_from top (sector + 1) lens
+places_from top sector (n ∷ lengths) = places_here top sector n ++ places_from top (sector + 1) lengths
 
 abbrev pub live_from : ℕ → List TopState → List Place
 live_from top [] = []
-live_from top (t ∷ tops) = places_from top 0 t.lens ++ live_from (top + 1) tops
+live_from top (t ∷ tops) = places_from top 0 t.lengths ++ live_from (top + 1) tops
 
 -- the live places, by top and sector
 abbrev pub live_of : List TopState → List Place
@@ -61,7 +61,7 @@ abbrev pub taken_at : List TopState → ℕ → ℕ → ℕ
 taken_at tops top sector = taken_in (top_at tops top).free sector
 
 abbrev pub length_at : List TopState → ℕ → ℕ → ℕ
-length_at tops top sector = slice_index (top_at tops top).lens sector
+length_at tops top sector = slice_index (top_at tops top).lengths sector
 
 -- the tables say of each sector whether one of these places has it, and no two of them do
 abbrev pub Count : List Place → List TopState → Type 0
@@ -69,7 +69,7 @@ Count used tops = (top sector : ℕ) → cover_count used top sector ≡ taken_a
 
 -- each top has as many flags as lengths
 abbrev pub AreEven : List TopState → Type 0
-AreEven tops = (top : ℕ) → length (top_at tops top).free ≡ length (top_at tops top).lens
+AreEven tops = (top : ℕ) → length (top_at tops top).free ≡ length (top_at tops top).lengths
 
 -- what holds of the tables whatever is pending: a sector of a live place isn't free
 pub record AreKept (tops : List TopState) : Type 0 where
@@ -86,7 +86,7 @@ pub record GetUsed (old new : List TopState) (p : Place) : Type 0 where
   pub sizes : sizes_of new ≡ sizes_of old
   pub even : AreEven old → AreEven new
   pub even_back : AreEven new → AreEven old
-  pub lens : (top : ℕ) → (top_at new top).lens ≡ (top_at old top).lens
+  pub lengths : (top : ℕ) → (top_at new top).lengths ≡ (top_at old top).lengths
   pub taken : (top sector : ℕ) → taken_at new top sector ≡ one_if (covers p top sector) + taken_at old top sector
 
 -- the same for places one after another
@@ -94,14 +94,14 @@ pub record AllGetUsed (old new : List TopState) (places : List Place) : Type 0 w
   pub sizes : sizes_of new ≡ sizes_of old
   pub even : AreEven old → AreEven new
   pub even_back : AreEven new → AreEven old
-  pub lens : (top : ℕ) → (top_at new top).lens ≡ (top_at old top).lens
+  pub lengths : (top : ℕ) → (top_at new top).lengths ≡ (top_at old top).lengths
   pub taken : (top sector : ℕ) → taken_at new top sector ≡ cover_count places top sector + taken_at old top sector
 
 -- the same flags, and one place more is live
 pub record GetLive (old new : List TopState) (p : Place) : Type 0 where
   pub sizes : sizes_of new ≡ sizes_of old
   pub free : (top : ℕ) → (top_at new top).free ≡ (top_at old top).free
-  pub lens : (top : ℕ) → length (top_at new top).lens ≡ length (top_at old top).lens
+  pub lengths : (top : ℕ) → length (top_at new top).lengths ≡ length (top_at old top).lengths
   pub live : (f : Place → ℕ) → total f (live_of new) ≡ f p + total f (live_of old)
 
 -- some places more are live, and their sectors used

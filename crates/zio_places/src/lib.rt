@@ -1,4 +1,11 @@
-//! The space of a pool: which sectors of its tops are used, and where a block may be placed.
+//! The space of a pool: which sectors of its tops are used, where a block may be placed, and the journal of what
+//! was asked and found.
+//!
+//! It stands on zio_types alone. Read `Space` first: its calls stand in the order in which a round meets them, and
+//! a contract sees it as a `SpaceState` of `specs/Spaces`, whose live places stand by top and sector. Below it, a
+//! `Table` for each top has the live lengths by sector, and `Runs`, a tree over words of free flags. No call reads
+//! the live places or the free runs one after another: `take` costs the tops, a logarithm of their sectors and the
+//! words of the run that it marks; `give_back` and `is_live` are one look into a table.
 #![tactic(auto)]
 
 mod runs;

@@ -42,11 +42,11 @@ impl Model for Runs {
 
 impl Runs {
     /// So many free sectors.
-    pub fn free(alloc: Global, sectors: u64) -> Result<Runs, AllocError>
+    pub fn all_free(alloc: Global, sectors: u64) -> Result<Runs, AllocError>
         ensures { IfOk result (λ r. r ≡ replicate sectors true) }
     {
         if sectors <= WORD_SECTORS {
-            let word = Word::free(sectors as u32);
+            let word = Word::all_free(sectors as u32);
             let summary = word.summary();
             return Ok(Runs {
                 node: Node::Leaf(word, summary),
@@ -54,8 +54,8 @@ impl Runs {
         }
         let words = (sectors - 1) / WORD_SECTORS + 1;
         let middle = words / 2 * WORD_SECTORS;
-        let left = Runs::free(alloc, middle)?;
-        let right = Runs::free(alloc, sectors - middle)?;
+        let left = Runs::all_free(alloc, middle)?;
+        let right = Runs::all_free(alloc, sectors - middle)?;
         let summary = left.summary().join(right.summary());
         let left = Box::new(alloc, left)?;
         let right = Box::new(alloc, right)?;

@@ -1,6 +1,7 @@
 ghost use Rattle.std.specs.Prelude.{◌≡◌, ◌≢◌, ◌+◌, ◌%◌, ◌^◌, ◌<◌, ◌≤◌, ◌↔◌, [], ◌∷◌, ◌++◌, length, true, false, Contains, IsTrue, IfOk, OnOk, OnErr};
-ghost use Rattle.zio_types.specs.Places.{IsLawfulChoice};
-ghost use Rattle.zio_places.specs.Spaces.{SpaceState, used, taken_by, SamePlaces, are_inside, are_open, IsSound};
+ghost use Rattle.zio_types.specs.Choices.{taken_by};
+ghost use Rattle.zio_types.specs.Places.{IsLawfulChoice, are_open};
+ghost use Rattle.zio_places.specs.Spaces.{SpaceState, used, SamePlaces, are_inside, IsSound};
 
 use crate::table::Table;
 use crate::take::{copy_of, take_copies, taken_count};
@@ -136,7 +137,8 @@ impl Space {
 
     /// The place was taken or claimed, and not given back.
     pub fn is_live(&self, place: &Place) -> bool
-        ensures { IsTrue result ↔ Contains self.now.live place.now }
+        ensures live { IsTrue result ↔ Contains self.now.live place.now }
+        ensures sound { IsSound self.now }
     {
         is_live(&self.tops, place)
     }

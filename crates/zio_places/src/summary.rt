@@ -1,4 +1,4 @@
-ghost use Rattle.std.specs.Prelude.{◌≡◌, ◌+◌, ◌^◌, ◌<◌, ◌≤◌, [], ◌∷◌};
+ghost use Rattle.std.specs.Prelude.{◌≡◌, ◌+◌, ◌^◌, ◌<◌, ◌≤◌, [], replicate};
 ghost use Rattle.zio_places.specs.Flags.{summary_of, joined};
 
 /// What is kept of a range of sectors.
@@ -25,13 +25,13 @@ impl Summary {
         }
     }
 
-    /// Of one sector.
-    pub fn of_one(is_free: bool) -> Summary
-        ensures { result ≡ summary_of (is_free ∷ []) }
+    /// Of so many sectors of one flag.
+    pub fn of_run(sectors: u64, is_free: bool) -> Summary
+        ensures { result ≡ summary_of (replicate sectors is_free) }
     {
-        let free = if is_free { 1 } else { 0 };
+        let free = if is_free { sectors } else { 0 };
         Summary {
-            sectors: 1,
+            sectors,
             front: free,
             back: free,
             best: free,

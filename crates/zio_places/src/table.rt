@@ -10,7 +10,7 @@ use std::marker::Model;
 #[derive(Drop)]
 pub struct Table {
     free: Runs,
-    lens: Vec<u32>,
+    lengths: Vec<u32>,
 }
 
 impl Model for Table {
@@ -18,24 +18,24 @@ impl Model for Table {
 
     ghost Value = { TopState };
 
-    ghost view = { λ t. record { free = t.free; lens = t.lens.items } };
+    ghost view = { λ t. record { free = t.free; lengths = t.lengths.items } };
 }
 
 impl Table {
     /// All free, and no live place.
     pub fn new(alloc: Global, sectors: u64) -> Result<Table, AllocError>
         ensures free { IfOk result (λ t. t.free ≡ replicate sectors true) }
-        ensures lens { IfOk result (λ t. t.lens ≡ replicate sectors 0) }
+        ensures lengths { IfOk result (λ t. t.lengths ≡ replicate sectors 0) }
     {
-        let lens = vec![in alloc; 0; sectors as usize]?;
-        let free = Runs::free(alloc, sectors)?;
-        Ok(Table { free, lens })
+        let lengths = vec![in alloc; 0; sectors as usize]?;
+        let free = Runs::all_free(alloc, sectors)?;
+        Ok(Table { free, lengths })
     }
 
     pub fn sectors(&self) -> u64
-        ensures { result ≡ length self.now.lens }
+        ensures { result ≡ length self.now.lengths }
     {
-        self.lens.len() as u64
+        self.lengths.len() as u64
     }
 
     /// The first sector of a run of so many free ones, where there is one.
@@ -62,23 +62,23 @@ impl Table {
     pub fn set_flag(&mut self, at: u64, sectors: u32, is_free: bool)
         requires { at + sectors ≤ length self.old.free }
         ensures flags { GetFlag self.old.free self.new.free at sectors is_free }
-        ensures lens { self.new.lens ≡ self.old.lens }
+        ensures lengths { self.new.lengths ≡ self.old.lengths }
     {
         self.free.set_flag(at, u64::from(sectors), is_free);
     }
 
     /// The length of the live place that begins there, 0 for none.
     pub fn length_at(&self, at: u64) -> u32
-        ensures { result ≡ slice_index self.now.lens at }
+        ensures { result ≡ slice_index self.now.lengths at }
     {
-        self.lens.get(at as usize).copied().unwrap_or(0)
+        self.lengths.get(at as usize).copied().unwrap_or(0)
     }
 
     pub fn set_length(&mut self, at: u64, sectors: u32)
-        requires { at < length self.old.lens }
-        ensures lens { self.new.lens ≡ slice_set self.old.lens at sectors }
+        requires { at < length self.old.lengths }
+        ensures lengths { self.new.lengths ≡ slice_set self.old.lengths at sectors }
         ensures free { self.new.free ≡ self.old.free }
     {
-        self.lens[at as usize] = sectors;
+        self.lengths[at as usize] = sectors;
     }
 }

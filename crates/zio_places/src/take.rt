@@ -1,9 +1,8 @@
 //! Places for the copies of an ask.
 
 ghost use Rattle.std.specs.Prelude.{◌≡◌, ◌^◌, ◌%◌, ◌<◌, ◌≤◌, List, length, cond};
-ghost use Rattle.zio_types.specs.Choices.{is_refused};
+ghost use Rattle.zio_types.specs.Choices.{is_refused, taken_by};
 ghost use Rattle.zio_types.specs.Places.{IsLawfulChoice};
-ghost use Rattle.zio_places.specs.Spaces.{taken_by};
 ghost use Rattle.zio_places.specs.Tables.{sizes_of, Count, AreKept, Hold};
 
 use crate::table::Table;

@@ -1,9 +1,9 @@
 //! The tables of all tops: places are held, released and found here.
 
 ghost use Rattle.std.specs.Prelude.{◌≡◌, ◌+◌, ◌^◌, ◌<◌, ◌≤◌, ◌∷◌, [], ℕ, List, length, true, false, Contains, IsTrue, All, ◌↔◌, MatchOption};
-ghost use Rattle.zio_types.specs.Places.{is_inside, uses_top};
+ghost use Rattle.zio_types.specs.Places.{is_inside, uses_top, are_open};
 ghost use Rattle.zio_places.specs.Flags.{AreAll};
-ghost use Rattle.zio_places.specs.Spaces.{are_inside, are_open};
+ghost use Rattle.zio_places.specs.Spaces.{are_inside};
 ghost use Rattle.zio_places.specs.Tables.{top_at, sizes_of, live_of, length_at, total, cover_count, taken_at, Count, AreEven, AreKept, HasFlags, GetUsed, AllGetUsed, GetLive, Hold, IsRoom, IsFresh, IsFound, NoneHasRoom, NoFreshHasRoom};
 
 use crate::table::Table;
@@ -43,7 +43,7 @@ pub fn clear(tops: &mut [Table], place: Place)
 /// The place is live from now on.
 pub fn enter(tops: &mut [Table], place: Place)
     requires filled { 0 < place.sectors }
-    requires inside { place.sector < length (top_at tops.old place.top).lens }
+    requires inside { place.sector < length (top_at tops.old place.top).lengths }
     requires empty { length_at tops.old place.top place.sector ≡ 0 }
     ensures { GetLive tops.old tops.new place }
 {
@@ -108,7 +108,7 @@ pub fn hold_all(tops: &mut [Table], places: &[Place]) -> bool
     requires inside { are_inside (sizes_of tops.old) places.now ≡ true }
     ensures held { IsTrue result → Hold tops.old tops.new places.now }
     ensures unchanged { result ≡ false → Hold tops.old tops.new [] }
-    ensures open { (used : List Place) → Count used tops.old → result ≡ are_open used places.now }
+    ensures exact { (used : List Place) → Count used tops.old → result ≡ are_open used places.now }
 {
     for (i, place) in places.iter().enumerate() {
         if !is_open(tops, place) {

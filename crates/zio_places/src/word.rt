@@ -1,4 +1,5 @@
-ghost use Rattle.std.specs.Prelude.{◌≡◌, ◌+◌, ◌-◌, ◌^◌, ◌<◌, ◌≤◌, length, drop, replicate, true, false};
+ghost use Rattle.std.specs.Prelude.{◌≡◌, ℕ, ◌+◌, ◌-◌, ◌^◌, ◌<◌, ◌≤◌, length, drop, replicate, true, false};
+ghost use Rattle.std.specs.Int.{bit_at};
 ghost use Rattle.zio_places.specs.Flags.{summary_of, flag_at, front_run, best_run, AreAll, GetFlag};
 
 use crate::summary::Summary;
@@ -47,9 +48,32 @@ fn ones(from: u32, to: u32) -> u64
     low_ones(to) - low_ones(from)
 }
 
+/// How many of the lowest bits are clear, at most 64.
+fn clear_bits(n: u64) -> u32
+    requires { bit_at n 0 ≡ 0 }
+    ensures some { 0 < result }
+    ensures most { result ≤ 64 }
+    ensures clear { (i : ℕ) → i < result → bit_at n i ≡ 0 }
+{
+    if n == 0 { 64 } else { n.trailing_zeros() }
+}
+
+/// How many of the lowest bits are equal, at most 64.
+fn equal_bits(n: u64) -> u32
+    ensures some { 0 < result }
+    ensures most { result ≤ 64 }
+    ensures equal { (i : ℕ) → i < result → bit_at n i ≡ bit_at n 0 }
+{
+    if n & 1 == 1 {
+        clear_bits(!n)
+    } else {
+        clear_bits(n)
+    }
+}
+
 impl Word {
     /// All free.
-    pub fn free(len: u32) -> Word
+    pub fn all_free(len: u32) -> Word
         requires { len ≤ 64 }
         ensures { result ≡ replicate len true }
     {
@@ -73,12 +97,24 @@ impl Word {
         self.len
     }
 
+    /// How many from here on have one flag.
+    fn run_from(&self, at: u32) -> u32
+        requires { at < length self.now }
+        ensures some { 0 < result }
+        ensures same { AreAll self.now at result (flag_at self.now at) }
+    {
+        equal_bits(self.bits >> at).min(self.len - at)
+    }
+
     pub fn summary(&self) -> Summary
         ensures { result ≡ summary_of self.now }
     {
         let mut summary = Summary::empty();
-        for at in 0..self.len() {
-            summary = summary.join(Summary::of_one(self.is_free(at)));
+        let mut at = 0;
+        while at < self.len() {
+            let run = self.run_from(at);
+            summary = summary.join(Summary::of_run(u64::from(run), self.is_free(at)));
+            at += run;
         }
         summary
     }
@@ -110,7 +146,7 @@ impl Word {
     {
         let mut end = at;
         while end < self.len() && self.is_free(end) {
-            end += 1;
+            end += self.run_from(end);
         }
         end - at
     }

@@ -1,5 +1,5 @@
 -- The text of a whole run. docs/FORMATS.md, "Report".
-use Rattle.std.specs.Prelude.{ℕ, ◌-◌, List, [], ◌∷◌, ◌++◌, length, map, filter, sum_by, Bool, true, false, Option, Some, None, is_none, is_some, nat_le, decimal, codes}
+use Rattle.std.specs.Prelude.{ℕ, ◌-◌, List, [], ◌++◌, length, map, filter, sum_by, Option, Some, None, is_none, is_some, decimal, codes}
 use Rattle.std.specs.List.{flat_map}
 use Rattle.zio_types.specs.declared.error.Errno.{Errno}
 use Rattle.zio_types.specs.declared.journal.Completion.{Completion}

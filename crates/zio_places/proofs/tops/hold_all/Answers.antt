@@ -4,15 +4,14 @@ use Rattle.std.proofs.Common.{inl, inr}
 use Rattle.std.proofs.lemmas.Bool.{cases_Bool, false≢true}
 use Rattle.std.proofs.lemmas.List.{take_more}
 use Rattle.zio_types.specs.Choices.{no_place}
-use Rattle.zio_types.specs.Places.{is_inside}
-use Rattle.zio_places.specs.Spaces.{are_open}
+use Rattle.zio_types.specs.Places.{is_inside, are_open}
 use Rattle.zio_places.specs.Tables.{Hold, sizes_of}
 use Rattle.zio_places.proofs.HoldLemmas.{Hold-then}
 use Rattle.zio_places.proofs.CountLemmas.{places-at, list_all-at, are_open-front, are_open-push, Count-hold, flags-from_is_free, is_free-from_flags}
 use Rattle.zio_places.proofs.tops.hold_all.Goals as goal
 
-pub returns-then-not-is_open-clause-open : goal.returns-then-not-is_open-clause-open
-returns-then-not-is_open-clause-open c used count =
+pub returns-then-not-is_open-clause-exact : goal.returns-then-not-is_open-clause-exact
+returns-then-not-is_open-clause-exact c used count =
     let places = c.args.places.now in
     let i = c.loop-i.i in
     let p = get_or places i no_place in

@@ -1,7 +1,7 @@
 use Rattle.std.proofs.Common.{◌≡◌, List, take}
 use Rattle.std.specs.Prelude.{true}
+use Rattle.zio_types.specs.Places.{are_open}
 use Rattle.zio_types.specs.declared.place.Place.{Place}
-use Rattle.zio_places.specs.Spaces.{are_open}
 use Rattle.zio_places.specs.Tables.{Count, Hold}
 use Rattle.zio_places.proofs.tops.hold_all.Given as goal
 

@@ -19,7 +19,7 @@ returns-then-top-tops c = (
 pub returns-then-sectors-gt0 : goal.returns-then-sectors-gt0
 returns-then-sectors-gt0 c =
     let read = top_read c.args.tops.now c.args.place.now.top c.index-tops-top.result c.if-top-tops.false in
-    let size : c.length_at.result ≡ length_at c.args.tops.now c.args.place.now.top c.args.place.now.sector = c.length_at.ensures ∙ ap (λ (t : TopState). get_or t.lens c.args.place.now.sector 0) (c.index-tops-top.is ∙ read) in (
+    let size : c.length_at.result ≡ length_at c.args.tops.now c.args.place.now.top c.args.place.now.sector = c.length_at.ensures ∙ ap (λ (t : TopState). get_or t.lengths c.args.place.now.sector 0) (c.index-tops-top.is ∙ read) in (
       (λ h. length-live c.args.tops.now c.args.place.now c.if-sectors-gt0.true (sym size ∙ eqb-true c.length_at.result c.args.place.now.sectors h)),
       (λ h. eq-eqb c.length_at.result c.args.place.now.sectors (size ∙ (live-length c.args.tops.now c.args.place.now h).1)),
     )

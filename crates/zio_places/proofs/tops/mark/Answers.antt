@@ -12,4 +12,4 @@ returns c =
     let read = top_read c.args.tops.now c.args.place.top c.index-tops-place.result there in
     GetUsed-marked c.args.tops.now c.args.place c.set_flag.new.self c.requires
     (subst (λ (t : TopState). GetFlag t.free c.set_flag.new.self.free c.args.place.sector c.args.place.sectors false) read c.set_flag.ensures.flags)
-    (c.set_flag.ensures.lens ∙ ap (λ (t : TopState). t.lens) read)
+    (c.set_flag.ensures.lengths ∙ ap (λ (t : TopState). t.lengths) read)

@@ -10,5 +10,5 @@ returns c =
     let there = inside-length c.args.tops.now c.args.place.top c.args.place.sector inside in
     let read = top_read c.args.tops.now c.args.place.top c.index-tops-place.result there in
     GetLive-removed c.args.tops.now c.args.place c.set_length.new.self c.requires.filled c.requires.live
-    (c.set_length.ensures.lens ∙ ap (λ (t : TopState). set t.lens c.args.place.sector 0) read)
+    (c.set_length.ensures.lengths ∙ ap (λ (t : TopState). set t.lengths c.args.place.sector 0) read)
     (c.set_length.ensures.free ∙ ap (λ (t : TopState). t.free) read)

@@ -1,4 +1,4 @@
-use Rattle.std.proofs.Common.{◌≡◌, ap, sym, ◌∙◌}
+use Rattle.std.proofs.Common.{ap, sym, ◌∙◌}
 use Rattle.zio_outside.specs.MemoryShelf.{at_home}
 use Rattle.zio_outside.proofs.SlotLemmas.{slot_of-none, place_from_position, disk_found}
 use Rattle.zio_outside.proofs.mem_shelf.MemShelf.disk.Goals as goal

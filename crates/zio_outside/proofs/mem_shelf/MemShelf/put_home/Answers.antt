@@ -1,4 +1,4 @@
-use Rattle.std.proofs.Common.{◌≡◌, ap, sym, ◌∙◌, refl, Some, None}
+use Rattle.std.proofs.Common.{◌≡◌, refl, Some, None}
 use Rattle.zio_outside.specs.MemoryShelf.{slot_of}
 use Rattle.zio_outside.proofs.SlotLemmas.{slot_of-none, place_from_position, name_found, change_at, home_place}
 use Rattle.zio_outside.proofs.mem_shelf.MemShelf.put_home.Goals as goal

@@ -1,4 +1,4 @@
-use Rattle.std.proofs.Common.{◌≡◌, ap, sym, ◌∙◌, Some, None, Option}
+use Rattle.std.proofs.Common.{ap, sym, ◌∙◌, Some}
 use Rattle.zio_outside.specs.MemoryShelf.{at_home}
 use Rattle.zio_outside.proofs.SlotLemmas.{slot_of-none, place_from_position, disk_found, name_found, change_at, if_none}
 use Rattle.zio_outside.proofs.mem_shelf.MemShelf.take_disk.Goals as goal

@@ -1,4 +1,4 @@
-use Rattle.std.proofs.Common.{◌≡◌, List, ℕ, ap, sym, ◌∙◌, refl, subst, Some}
+use Rattle.std.proofs.Common.{List, ℕ, ap, sym, ◌∙◌, refl, subst, Some}
 use Rattle.zio_outside.specs.Memory.{HandedOut, disk_image}
 use Rattle.zio_outside.specs.MemoryShelf.{slot_of}
 use Rattle.zio_outside.specs.declared.mem_shelf.MemShelf.{MemShelf}

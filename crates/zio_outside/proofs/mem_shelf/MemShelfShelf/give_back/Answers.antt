@@ -1,6 +1,5 @@
-use Rattle.std.proofs.Common.{◌≡◌, List, ℕ, ap, sym, ◌∙◌, subst, Some, None, Option}
-use Rattle.zio_outside.specs.MemoryShelf.{slot_of, ChangesOnly}
-use Rattle.zio_outside.specs.declared.mem_disk.MemDisk.{MemDisk}
+use Rattle.std.proofs.Common.{◌≡◌, List, ℕ, ap, subst, Some, None}
+use Rattle.zio_outside.specs.MemoryShelf.{slot_of}
 use Rattle.zio_outside.specs.declared.mem_shelf.MemShelf.{MemShelf}
 use Rattle.zio_outside.proofs.ShelfLemmas.{ComesHome-from_change, change_after, only_name}
 use Rattle.zio_outside.proofs.mem_shelf.MemShelfShelf.give_back.Goals as goal

@@ -25,7 +25,7 @@ returns-clause-same c =
     let written : (with_items c.self.inside.tops c.clear_all.new.tops).items ≡ c.clear_all.new.tops = with_items_is c.self.inside.tops c.clear_all.new.tops (omega arith) in
     let cleared = subst (λ ts. AllGetUsed c.clear_all.new.tops ts c.deref.result.now) c.deref_mut.ensures.value c.clear_all.ensures in
     let live : live_of (with_items c.self.inside.tops c.clear_all.new.tops).items ≡ c.args.self.now.live =
-    ap live_of written ∙ sym (live_of-same c.clear_all.new.tops c.self.inside.tops.items cleared.lens cleared.sizes) ∙ ap (λ (st : SpaceState). st.live) c.self.view_is in
+    ap live_of written ∙ sym (live_of-same c.clear_all.new.tops c.self.inside.tops.items cleared.lengths cleared.sizes) ∙ ap (λ (st : SpaceState). st.live) c.self.view_is in
     let sizes : sizes_of (with_items c.self.inside.tops c.clear_all.new.tops).items ≡ c.args.self.now.sizes =
     ap sizes_of written ∙ sym cleared.sizes ∙ ap (λ (st : SpaceState). st.sizes) c.self.view_is in
     let entries = ap (λ (st : SpaceState). st.entries) c.self.view_is in

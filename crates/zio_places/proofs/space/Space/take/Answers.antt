@@ -1,9 +1,10 @@
 use Rattle.std.proofs.Common.{◌≡◌, ◌++◌, List, sym, ap, subst, arith}
 use Rattle.std.specs.Vec.{with_items}
 use Rattle.std.proofs.lemmas.List.{with_items_is}
+use Rattle.zio_types.specs.Choices.{taken_by}
 use Rattle.zio_types.specs.declared.place.Place.{Place}
 use Rattle.zio_types.specs.Places.{IsLawfulChoice}
-use Rattle.zio_places.specs.Spaces.{SpaceState, used, taken_by, SamePlaces}
+use Rattle.zio_places.specs.Spaces.{SpaceState, used, SamePlaces}
 use Rattle.zio_places.specs.Tables.{TopState, sizes_of, live_of, Count, AreKept, Hold}
 use Rattle.zio_places.proofs.SpaceLemmas.{AreKept-counted, counted-held, sound-counted, SamePlaces-held}
 use Rattle.zio_places.proofs.space.Space.take.Goals as goal

@@ -1,25 +1,20 @@
-use Rattle.std.proofs.Common.{◌<◌, ◌∷◌, [], length, take, sym, ap, ◌∙◌, arith}
-use Rattle.std.specs.Prelude.{false}
-use Rattle.std.proofs.lemmas.List.{take_more}
-use Rattle.zio_places.specs.declared.summary.Summary.{Summary}
-use Rattle.zio_places.specs.Flags.{summary_of, joined, flag_at}
-use Rattle.zio_places.proofs.FlagLemmas.{summary_of-append, back_run-le}
+use Rattle.std.proofs.Common.{replicate, ap, ◌∙◌}
+use Rattle.zio_places.specs.Flags.{flag_at, summary_of}
+use Rattle.zio_places.proofs.FlagLemmas.{summary_back-le, summary_front-le, summary_more}
 use Rattle.zio_places.proofs.word.Word.summary.Goals as goal
 
 pub join-summary-requires-clause-back : goal.join-summary-requires-clause-back
-join-summary-requires-clause-back c =
-    let back = ap (λ (s : Summary). s.back) c.loop-at.invariant in
-    let sectors = ap (λ (s : Summary). s.sectors) c.loop-at.invariant in
-    omega (arith, back, sectors, back_run-le (take c.loop-at.at c.args.self.now))
+join-summary-requires-clause-back c = summary_back-le _ _ c.loop-at.invariant.so_far
+
+pub join-summary-requires-clause-front : goal.join-summary-requires-clause-front
+join-summary-requires-clause-front c = summary_front-le _ _ c.of_run.ensures
 
 pub loop-at-preserved : goal.loop-at-preserved
 loop-at-preserved c =
-    let here : c.loop-at.at < length c.args.self.now = omega arith in
-    let more = take_more c.args.self.now c.loop-at.at false here in
-    let whole = summary_of-append (take c.loop-at.at c.args.self.now) (flag_at c.args.self.now c.loop-at.at ∷ []) in
-    let one = ap (λ b. summary_of (b ∷ [])) c.is_free.ensures in
-    let so_far = c.loop-at.invariant in
-    c.join-summary.ensures
-    ∙ ap (λ s. joined s c.of_one.result) so_far
-    ∙ ap (λ s. joined (summary_of (take c.loop-at.at c.args.self.now)) s) (c.of_one.ensures ∙ one)
-    ∙ sym whole ∙ ap summary_of (sym more)
+    record {
+      within = c.run_from-run.ensures.same.fits;
+      so_far =
+          summary_more c.args.self.now c.loop-at.at c.run_from-run.result (flag_at c.args.self.now c.loop-at.at) c.join-summary.result c.loop-at.summary c.of_run.result c.run_from-run.ensures.same c.join-summary.ensures
+          c.loop-at.invariant.so_far
+          (c.of_run.ensures ∙ ap (λ n. summary_of (replicate n c.is_free.result)) c.from.ensures ∙ ap (λ b. summary_of (replicate c.run_from-run.result b)) c.is_free.ensures);
+    }

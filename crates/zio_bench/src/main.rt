@@ -1,0 +1,40 @@
+//! Times the calls that a run makes most often: one subject and its sizes are the words, and what is printed doesn't
+//! depend on time. `bench/run` starts it under a clock.
+//!
+//!     space RUNS CALLS    places taken and given back, beside so many free runs of one sector
+//!     hit ROWS CALLS      looks into a fault table
+//!     sum BYTES TIMES     fletcher4 and SHA-256 of so many bytes
+//!     header SIZE TIMES   a gang header of a block of this size, read
+//!     digest BYTES TIMES  SHA-256 alone
+#![tactic(auto)]
+
+mod header;
+mod space;
+mod sums;
+mod table;
+
+use anyhow::{Context, Result, bail};
+use std::env;
+
+fn main(rt: HostRuntime) -> Result<()> {
+    let alloc = rt.alloc();
+    let mut words = Vec::new(alloc);
+    for word in env::args(&rt)? {
+        words.push(word)?;
+    }
+    let [_, subject, size, times] = words.as_slice() else {
+        bail!("words: a subject, a size and a number of calls");
+    };
+    let size: u32 = size.parse().context("a size")?;
+    let times: u32 = times.parse().context("a number of calls")?;
+    let done = match subject.as_str() {
+        "space" => space::take_and_give_back(alloc, size, times)?,
+        "hit" => table::look(alloc, size, times)?,
+        "sum" => sums::add_up(alloc, size, times)?,
+        "header" => header::read(alloc, size, times)?,
+        "digest" => sums::digest(alloc, size, times)?,
+        _ => bail!("space, hit, sum, header or digest"),
+    };
+    println!(rt; "{done}")?;
+    Ok(())
+}

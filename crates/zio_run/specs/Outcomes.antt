@@ -1,5 +1,5 @@
 -- The texts that a run prints beside its report, and how it ends where a text was due.
-use Rattle.std.specs.Prelude.{◌≡◌, ℕ, ◌+◌, ◌≤◌, List, [], ◌∷◌, ◌++◌, take, ◌⊎◌, decimal, codes}
+use Rattle.std.specs.Prelude.{◌≡◌, ℕ, ◌+◌, ◌≤◌, List, [], ◌++◌, take, ◌⊎◌, decimal, codes}
 use Rattle.zio_types.specs.declared.journal.Journal.{Journal}
 use Rattle.zio_outside.specs.Outside.{Appends, AppendsFront, Keeps, Rose}
 use Rattle.zio_script.specs.declared.script.Script.{Script}
@@ -15,8 +15,8 @@ use Rattle.zio_run.specs.declared.image.TheConstants.{IMAGE_LEN_MAX, IMAGE_LEN_M
 -- ---- what is read
 
 -- what is read of a text: all of it, or as much as shows that it is too long
-abbrev pub IsReadOf : List ℕ → List ℕ → Type 0
-IsReadOf text bytes = bytes ≡ take (SCRIPT_LEN_MAX + 1) text
+pub record IsReadOf (text bytes : List ℕ) : Type 0 where
+  pub read : bytes ≡ take (SCRIPT_LEN_MAX + 1) text
 
 -- ---- images
 
@@ -48,6 +48,10 @@ abbrev pub shortest_report : List ℕ
 shortest_report = pool_text 1 1 ++ end_text Complete
 
 -- ---- ends
+
+-- the codes of a run in which no request can be left and no round be broken
+abbrev pub IsSerialCode : ℕ → Type 0
+IsSerialCode code = (code ≡ 0) ⊎ (code ≡ 1) ⊎ (code ≡ 2) ⊎ (code ≡ 3) ⊎ (code ≡ 5) ⊎ (code ≡ 6) ⊎ (code ≡ 8)
 
 -- How a run ends where this text was due with this code: so, or with a front of the text and code 6 where the sink's
 -- count rose, or with nothing and code 8.

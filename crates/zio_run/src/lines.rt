@@ -47,7 +47,8 @@ pub(crate) fn end_line(ending: Ending) -> &'static str
 pub(crate) fn end_with<O: Sink>(out: &mut O, text: &str, code: u8) -> Status
     requires sink { code ≢ CODE_SINK }
     requires memory { code ≢ CODE_MEMORY }
-    ensures { Ends code text.now result.code (O.faults out.old) (O.faults out.new) (O.holds out.old) (O.holds out.new) }
+    ensures has_memory { result.code ≢ CODE_MEMORY }
+    ensures ends { Ends code text.now result.code (O.faults out.old) (O.faults out.new) (O.holds out.old) (O.holds out.new) }
 {
     match out.write(text.as_bytes()) {
         Ok(()) => Status { code },

@@ -1,5 +1,4 @@
 ghost use Rattle.std.specs.Prelude.{◌≡◌, ◌∷◌, [], ◌⊎◌, ◌↔◌, ℕ, List, length, map, string_bytes};
-ghost use Rattle.std.specs.List.{Contains};
 ghost use Rattle.zio_outside.specs.Outside.{Appends, AppendsFront, Keeps, Rose, StaysHome};
 ghost use Rattle.zio_script.specs.FirstForm.{IsFaultOf, IsScriptOf};
 ghost use Rattle.zio_script.specs.declared.script.Script.{Script};
@@ -8,7 +7,7 @@ ghost use Rattle.zio_report.specs.declared.report.Show.TheVariants.{Report};
 ghost use Rattle.std.specs.Prelude.{false};
 ghost use Rattle.zio_run.specs.Commands.{IsCommand, IsNoCommand};
 ghost use Rattle.zio_run.specs.Headline.{Headline};
-ghost use Rattle.zio_run.specs.Outcomes.{Ends, HasLawfulSize, IsDue, IsEmptyJournal, images_line, script_line, shortest_report, words_line};
+ghost use Rattle.zio_run.specs.Outcomes.{Ends, HasLawfulSize, IsDue, IsEmptyJournal, IsSerialCode, images_line, script_line, shortest_report, words_line};
 
 use crate::command::image_of;
 use crate::image::is_lawful_size;
@@ -38,7 +37,7 @@ pub fn zio_serial_main<S: Source, O: Sink, H: Shelf>(
     requires home { H.tells shelf.old → (name : List ℕ) → ¬ H.out shelf.old name }
 
     // The cause of each code.
-    ensures codes { Contains (0 ∷ 1 ∷ 2 ∷ 3 ∷ 5 ∷ 6 ∷ 8 ∷ []) result.code }
+    ensures codes { IsSerialCode result.code }
     ensures words { result.code ≡ 1 → IsNoCommand (map string_bytes words.now) }
     ensures no_command { IsNoCommand (map string_bytes words.now) → (result.code ≡ 1) ⊎ (result.code ≡ 6) }
     ensures accepted { (result.code ≡ 0) ⊎ (result.code ≡ 3) →
@@ -65,6 +64,12 @@ pub fn zio_serial_main<S: Source, O: Sink, H: Shelf>(
         IsCommand (map string_bytes words.now) name → H.tells shelf.old → H.image shelf.old name image →
         Headline (Report false false) text (name ∷ []) (image ∷ []) journal.new (H.image shelf.new)
         (O.holds out.old) (O.holds out.new) result.code }
+
+    // No other code comes where all is in order and no count of faults rose.
+    ensures complete { (name text image : List ℕ) (read : Script) → IsCommand (map string_bytes words.now) name →
+        S.left script.old text → IsScriptOf text read → H.tells shelf.old → H.image shelf.old name image → HasLawfulSize (length image) →
+        ¬ Rose (S.faults script.old) (S.faults script.new) → ¬ Rose (O.faults out.old) (O.faults out.new) →
+        ¬ Rose (H.faults shelf.old) (H.faults shelf.new) → (result.code ≡ 0) ⊎ (result.code ≡ 8) }
 
     // What stays.
     ensures journal { journal.new ≡ journal.old }

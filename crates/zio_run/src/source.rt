@@ -1,4 +1,4 @@
-ghost use Rattle.std.specs.Prelude.{◌≡◌, ◌+◌, ◌<◌, ◌≤◌, ◌++◌, ℕ, List, [], length, take, drop, IfOk, OnOk, OnErr, IsErrOf, vec_len};
+ghost use Rattle.std.specs.Prelude.{◌≡◌, ◌+◌, ◌<◌, ◌≤◌, ◌++◌, ℕ, List, [], length, take, drop, IfErr, IfOk, OnOk, OnErr, IsErrOf, vec_len};
 ghost use Rattle.zio_outside.specs.Outside.{Rose};
 ghost use Rattle.zio_run.specs.Outcomes.{IsReadOf};
 
@@ -22,10 +22,7 @@ pub(crate) fn read_all<S: Source>(alloc: Global, source: &mut S) -> Result<Vec<u
     ensures failed { IsErrOf result ReadFault.Failed → Rose (S.faults source.old) (S.faults source.new) }
     ensures read { IfOk result (λ bytes. (text : List ℕ) → S.left source.old text → IsReadOf text bytes.items) }
 {
-    let mut piece = match vec![in alloc; 0; PIECE_LEN] {
-        Ok(piece) => piece,
-        Err(_) => return Err(ReadFault::Memory),
-    };
+    let mut piece = new_piece(alloc)?;
     let mut bytes = Vec::new(alloc);
     while bytes.len() <= SCRIPT_LEN_MAX {
         let want = PIECE_LEN.min(SCRIPT_LEN_MAX + 1 - bytes.len());
@@ -35,6 +32,16 @@ pub(crate) fn read_all<S: Source>(alloc: Global, source: &mut S) -> Result<Vec<u
         }
     }
     Ok(bytes)
+}
+
+fn new_piece(alloc: Global) -> Result<Vec<u8>, ReadFault>
+    ensures ok { IfOk result (λ piece. vec_len piece ≡ PIECE_LEN) }
+    ensures err { IfErr result (λ fault. fault ≡ ReadFault.Memory) }
+{
+    match vec![in alloc; 0; PIECE_LEN] {
+        Ok(piece) => Ok(piece),
+        Err(_) => Err(ReadFault::Memory),
+    }
 }
 
 /// Reads into the piece, and adds what was read at the end of the bytes: none only at the end of the input.

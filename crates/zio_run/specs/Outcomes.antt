@@ -58,6 +58,7 @@ IsSerialCode code = (code ≡ 0) ⊎ (code ≡ 1) ⊎ (code ≡ 2) ⊎ (code ≡
 pub record Ends (due : ℕ) (text : List ℕ) (code old_faults new_faults : ℕ) (old new : List ℕ → Type 0) : Type 0 where
   pub codes_are : (code ≡ due) ⊎ (code ≡ 6) ⊎ (code ≡ 8)
   pub written : code ≡ due → Appends old new text
+  pub steady : code ≡ due → new_faults ≡ old_faults
   pub failed : code ≡ 6 → Rose old_faults new_faults
   pub front : code ≡ 6 → AppendsFront old new text
   pub nothing : code ≡ 8 → Keeps old new

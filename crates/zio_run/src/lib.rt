@@ -9,6 +9,8 @@ mod image;
 mod lines;
 mod serial;
 mod source;
+#[cfg(test)]
+mod tests;
 
 pub use image::{IMAGE_LEN_MAX, IMAGE_LEN_MIN};
 pub use serial::zio_serial_main;

@@ -43,12 +43,14 @@ pub fn zio_serial_main<S: Source, O: Sink, H: Shelf>(
     ensures accepted { (result.code ≡ 0) ⊎ (result.code ≡ 3) →
         (text : List ℕ) → S.left script.old text → (read : Script) × IsScriptOf text read }
     ensures images { result.code ≡ 3 → (name : List ℕ) → IsCommand (map string_bytes words.now) name →
-        Rose (H.faults shelf.old) (H.faults shelf.new)
+        (Rose (H.faults shelf.old) (H.faults shelf.new) × (H.fetches shelf.new ≡ H.fetches shelf.old))
         ⊎ ((image : List ℕ) → H.tells shelf.old → H.image shelf.old name image → ¬ HasLawfulSize (length image)) }
     ensures measured { result.code ≡ 0 → (name image : List ℕ) → IsCommand (map string_bytes words.now) name →
         H.tells shelf.old → H.image shelf.old name image → HasLawfulSize (length image) }
     ensures source { result.code ≡ 5 → Rose (S.faults script.old) (S.faults script.new) }
     ensures sink { result.code ≡ 6 → Rose (O.faults out.old) (O.faults out.new) }
+    ensures steady { result.code ≡ 0 → (S.faults script.new ≡ S.faults script.old)
+        × (O.faults out.new ≡ O.faults out.old) × (H.faults shelf.new ≡ H.faults shelf.old) }
 
     // What is written.
     ensures words_line { result.code ≡ 1 → Appends (O.holds out.old) (O.holds out.new) words_line }
@@ -97,11 +99,13 @@ pub fn zio_serial_main<S: Source, O: Sink, H: Shelf>(
 fn run_on_shelf<O: Sink, H: Shelf>(alloc: Global, name: &str, shelf: &mut H, out: &mut O) -> Status
     requires { H.tells shelf.old → (other : List ℕ) → ¬ H.out shelf.old other }
     ensures codes { (result.code ≡ 0) ⊎ (result.code ≡ 3) ⊎ (result.code ≡ 6) ⊎ (result.code ≡ 8) }
-    ensures images { result.code ≡ 3 → Rose (H.faults shelf.old) (H.faults shelf.new)
+    ensures images { result.code ≡ 3 →
+        (Rose (H.faults shelf.old) (H.faults shelf.new) × (H.fetches shelf.new ≡ H.fetches shelf.old))
         ⊎ ((image : List ℕ) → H.tells shelf.old → H.image shelf.old name.now image → ¬ HasLawfulSize (length image)) }
     ensures measured { result.code ≡ 0 → (image : List ℕ) → H.tells shelf.old → H.image shelf.old name.now image →
         HasLawfulSize (length image) }
     ensures sink { result.code ≡ 6 → Rose (O.faults out.old) (O.faults out.new) }
+    ensures steady { result.code ≡ 0 → (O.faults out.new ≡ O.faults out.old) × (H.faults shelf.new ≡ H.faults shelf.old) }
     ensures images_line { result.code ≡ 3 → Appends (O.holds out.old) (O.holds out.new) (images_line 0) }
     ensures report { result.code ≡ 0 → Appends (O.holds out.old) (O.holds out.new) shortest_report }
     ensures nothing { result.code ≡ 8 → Keeps (O.holds out.old) (O.holds out.new) }
@@ -129,6 +133,7 @@ fn run_over<O: Sink, D: Disk>(alloc: Global, disk: &D, out: &mut O) -> Status
     ensures images { result.code ≡ 3 → ¬ HasLawfulSize (D.bytes disk.now) }
     ensures measured { result.code ≡ 0 → HasLawfulSize (D.bytes disk.now) }
     ensures sink { result.code ≡ 6 → Rose (O.faults out.old) (O.faults out.new) }
+    ensures steady { result.code ≡ 0 → O.faults out.new ≡ O.faults out.old }
     ensures images_line { result.code ≡ 3 → Appends (O.holds out.old) (O.holds out.new) (images_line 0) }
     ensures report { result.code ≡ 0 → Appends (O.holds out.old) (O.holds out.new) shortest_report }
     ensures nothing { result.code ≡ 8 → Keeps (O.holds out.old) (O.holds out.new) }

@@ -20,6 +20,7 @@ pub(crate) enum ReadFault {
 /// Reads a source to its end, or to one byte more than a script may have.
 pub(crate) fn read_all<S: Source>(alloc: Global, source: &mut S) -> Result<Vec<u8>, ReadFault>
     ensures failed { IsErrOf result ReadFault.Failed → Rose (S.faults source.old) (S.faults source.new) }
+    ensures count { OnOk result (S.faults source.new ≡ S.faults source.old) }
     ensures read { IfOk result (λ bytes. (text : List ℕ) → S.left source.old text → IsReadOf text bytes.items) }
 {
     let mut piece = new_piece(alloc)?;

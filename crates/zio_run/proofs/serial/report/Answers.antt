@@ -17,6 +17,7 @@ returns-in-Ok-write g c =
       codes_are = c.end_with.ensures.ends.codes_are;
       written = λ e. Appends-both old mid new (pool_text 1 1) (end_text Complete) first
           (subst (λ (xs : List ℕ). Appends mid new xs) ends (c.end_with.ensures.ends.written e));
+      steady = λ e. c.end_with.ensures.ends.steady e ∙ c.in-Ok-write.ensures.count.ok;
       failed = λ e. subst (λ (n : ℕ). Rose n (g.O.Sink.faults c.end_with.new.out)) c.in-Ok-write.ensures.count.ok (c.end_with.ensures.ends.failed e);
       front = λ e. AppendsFront-second old mid new (pool_text 1 1) (end_text Complete) first
           (subst (λ (xs : List ℕ). AppendsFront mid new xs) ends (c.end_with.ensures.ends.front e));
@@ -31,6 +32,7 @@ returns g c =
     record {
       codes_are = inr (inl refl);
       written = λ e. absurd (omega arith);
+      steady = λ e. absurd (omega arith);
       failed = λ _. c.in-Err.ensures.count.failed;
       front = λ _. AppendsFront-first old new (pool_text 1 1) (end_text Complete)
           (subst (λ (xs : List ℕ). AppendsFront old new xs) pool c.in-Err.ensures.failed);

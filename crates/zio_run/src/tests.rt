@@ -89,6 +89,19 @@ fn check(rt: &impl Abort, alloc: Global, case: &Case<'_>) -> Result<(), Fail> {
     Ok(())
 }
 
+/// The words are no command.
+fn refuses(rt: &impl Abort, alloc: Global, words: &[&str]) -> Result<(), Fail> {
+    let case = Case {
+        words,
+        script: b"top 0\n",
+        image_len: 65536,
+        fails: STEADY,
+        code: 1,
+        output: b"words\n",
+    };
+    check(rt, alloc, &case)
+}
+
 #[test]
 fn the_shortest_script_runs(rt: HostRuntime) -> Result<(), Fail> {
     check(&rt, rt.alloc(), &SHORTEST)
@@ -96,27 +109,12 @@ fn the_shortest_script_runs(rt: HostRuntime) -> Result<(), Fail> {
 
 #[test]
 fn words_that_are_no_command_are_told(rt: HostRuntime) -> Result<(), Fail> {
-    let no_words: &[&str] = &[];
-    for words in [
-        no_words,
-        &["run"],
-        &["run", "-a"],
-        &["run", ""],
-        &["go", "a"],
-        &["run", "a", "b"],
-    ] {
-        check(
-            &rt,
-            rt.alloc(),
-            &Case {
-                words,
-                code: 1,
-                output: b"words\n",
-                ..SHORTEST
-            },
-        )?;
-    }
-    Ok(())
+    refuses(&rt, rt.alloc(), &[])?;
+    refuses(&rt, rt.alloc(), &["run"])?;
+    refuses(&rt, rt.alloc(), &["run", "-a"])?;
+    refuses(&rt, rt.alloc(), &["run", ""])?;
+    refuses(&rt, rt.alloc(), &["go", "a"])?;
+    refuses(&rt, rt.alloc(), &["run", "a", "b"])
 }
 
 #[test]

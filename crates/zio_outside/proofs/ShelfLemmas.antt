@@ -70,3 +70,23 @@ change_after old between new name disk e change = subst (λ (slots : List ℕ �
 
 pub only_name : (home : Option (List ℕ)) (name other : List ℕ) → home ≡ Some name → home ≡ Some other → name ≡ other
 only_name home name other e f = cc
+
+-- a disk that went out and came home with its image left the shelf as it was
+pub StaysHome-after_trip : (name image : List ℕ) (old mid new : List ℕ → List ℕ → Type 0) (old_out mid_out new_out : List ℕ → Type 0)
+    → GoesOut name old mid old_out mid_out → ComesHome name image mid new mid_out new_out
+    → old name image → ((other a b : List ℕ) → old other a → old other b → a ≡ b) → ((other : List ℕ) → old_out other → ⊥)
+    → StaysHome old new old_out new_out
+StaysHome-after_trip name image old mid new old_out mid_out new_out gone back told one home = record {
+  images = λ other bytes. (
+    λ h. elim ((back.images other bytes).0 h) [
+      inl p ↦ ((gone.images other bytes).0 p.0).0
+      | inr p ↦ subst (λ (n : List ℕ). old n bytes) (sym p.0) (subst (λ (xs : List ℕ). old name xs) (sym p.1) told) ],
+    λ h. elim (decided other name) [
+      inl e ↦ (back.images other bytes).1 (inr (e, one name bytes image (subst (λ (n : List ℕ). old n bytes) e h) told))
+      | inr differ ↦ (back.images other bytes).1 (inl ((gone.images other bytes).1 (h, differ), differ)) ]);
+  out = λ other. (
+    λ h. elim ((gone.out other).0 ((back.out other).0 h).0) [
+      inl p ↦ p
+      | inr e ↦ absurd (((back.out other).0 h).1 e) ],
+    λ h. absurd (home other h));
+}

@@ -52,3 +52,12 @@ shelf_fails s = s.calls.fails
 -- how many fetches were made
 abbrev pub shelf_calls : MemShelf → ℕ
 shelf_calls s = s.calls.made
+
+-- a shelf in memory tells one image of a disk
+pub image_of-one : (slots : List ℕ → Option (Option MemDisk)) (name a b : List ℕ) → image_of slots name a → image_of slots name b → a ≡ b
+image_of-one slots name a b p q =
+    let there : slots name ≡ Some (Some p.0) = p.1 in
+    let other : slots name ≡ Some (Some q.0) = q.1 in
+    let first : a ≡ disk_image p.0 = p.2 in
+    let second : b ≡ disk_image q.0 = q.2 in
+    cc

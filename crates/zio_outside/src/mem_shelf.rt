@@ -172,7 +172,7 @@ impl Shelf for MemShelf {
     type Disk = MemDisk;
 
     ghost use Rattle.zio_outside.specs.Memory.{told, disk_image, disk_home, disk_faults, disk_faults_at_fetch, HandedOut};
-    ghost use Rattle.zio_outside.specs.MemoryShelf.{ChangesOnly, shelf_slot, image_of, out_of, shelf_faults, shelf_disk_faults, shelf_fetches, shelf_fails, shelf_calls};
+    ghost use Rattle.zio_outside.specs.MemoryShelf.{ChangesOnly, shelf_slot, image_of, out_of, shelf_faults, shelf_disk_faults, shelf_fetches, shelf_fails, shelf_calls, image_of-one};
 
     ghost faults = { shelf_faults };
 
@@ -263,4 +263,6 @@ impl Shelf for MemShelf {
     }
 
     ghost counts = { λ s. (s.calls.in_range, s.disk_faults_in_range, s.fetches_in_range) };
+
+    ghost one_image = { λ s. image_of-one (shelf_slot s) };
 }

@@ -160,4 +160,6 @@ where
     }
 
     ghost counts = { λ s. (s.faults_in_range, s.disk_faults_in_range, s.fetches_in_range) };
+
+    ghost one_image = { λ s name a b told other. absurd told };
 }

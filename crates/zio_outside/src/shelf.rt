@@ -68,4 +68,7 @@ pub trait Shelf {
     /// No count passes its last value.
     ghost counts: { (shelf : Self) →
         (faults shelf ≤ count_max) × (disk_faults shelf ≤ count_max) × (fetches shelf ≤ count_max) };
+
+    /// It tells one image of a disk.
+    ghost one_image: { (shelf : Self) (name a b : List ℕ) → image shelf name a → image shelf name b → a ≡ b };
 }

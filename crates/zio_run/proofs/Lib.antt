@@ -1,0 +1,4 @@
+pub mod ReadLemmas
+pub mod ScriptLemmas
+pub mod TextLemmas
+pub mod WordLemmas

@@ -1,0 +1,16 @@
+//! The top calls: from the words of a command to its code.
+//!
+//! They stand on all crates below. Read `zio_serial_main` first: each of its codes has its cause and its text in a
+//! clause of its own, and code 0 the meaning of the script, which `specs/Headline` says.
+#![tactic(auto)]
+
+mod command;
+mod image;
+mod lines;
+mod serial;
+mod source;
+#[cfg(test)]
+mod tests;
+
+pub use image::{IMAGE_LEN_MAX, IMAGE_LEN_MIN};
+pub use serial::zio_serial_main;

@@ -79,14 +79,19 @@ pub StaysHome-after_trip : (name image : List ℕ) (old mid new : List ℕ → L
 StaysHome-after_trip name image old mid new old_out mid_out new_out gone back told one home = record {
   images = λ other bytes. (
     λ h. elim ((back.images other bytes).0 h) [
-      inl p ↦ ((gone.images other bytes).0 p.0).0
-      | inr p ↦ subst (λ (n : List ℕ). old n bytes) (sym p.0) (subst (λ (xs : List ℕ). old name xs) (sym p.1) told) ],
+      | inl p ↦ ((gone.images other bytes).0 p.0).0
+      | inr p ↦ subst (λ (n : List ℕ). old n bytes) (sym p.0) (subst (λ (xs : List ℕ). old name xs) (sym p.1) told)
+    ],
     λ h. elim (decided other name) [
-      inl e ↦ (back.images other bytes).1 (inr (e, one name bytes image (subst (λ (n : List ℕ). old n bytes) e h) told))
-      | inr differ ↦ (back.images other bytes).1 (inl ((gone.images other bytes).1 (h, differ), differ)) ]);
+      | inl e ↦ (back.images other bytes).1 (inr (e, one name bytes image (subst (λ (n : List ℕ). old n bytes) e h) told))
+      | inr differ ↦ (back.images other bytes).1 (inl ((gone.images other bytes).1 (h, differ), differ))
+    ],
+  );
   out = λ other. (
     λ h. elim ((gone.out other).0 ((back.out other).0 h).0) [
-      inl p ↦ p
-      | inr e ↦ absurd (((back.out other).0 h).1 e) ],
-    λ h. absurd (home other h));
+      | inl p ↦ p
+      | inr e ↦ absurd (((back.out other).0 h).1 e)
+    ],
+    λ h. absurd (home other h),
+  );
 }

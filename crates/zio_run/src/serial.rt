@@ -75,6 +75,8 @@ pub fn zio_serial_main<S: Source, O: Sink, H: Shelf>(
 
     // What stays.
     ensures journal { journal.new ≡ journal.old }
+    ensures unread { IsNoCommand (map string_bytes words.now) → (script.new ≡ script.old) × (shelf.new ≡ shelf.old) }
+    ensures unfetched { (result.code ≡ 2) ⊎ (result.code ≡ 5) → shelf.new ≡ shelf.old }
     ensures tells { H.tells shelf.old ↔ H.tells shelf.new }
     ensures home { H.tells shelf.old →
         StaysHome (H.image shelf.old) (H.image shelf.new) (H.out shelf.old) (H.out shelf.new) }

@@ -6,9 +6,12 @@
 //!     sum BYTES TIMES     fletcher4 and SHA-256 of so many bytes
 //!     header SIZE TIMES   a gang header of a block of this size, read
 //!     digest BYTES TIMES  SHA-256 alone
+//!     fletcher BYTES TIMES    fletcher4 alone
+//!     script REQUESTS TIMES   the text of a script of so many reads, read
 #![tactic(auto)]
 
 mod header;
+mod script;
 mod space;
 mod sums;
 mod table;
@@ -33,7 +36,9 @@ fn main(rt: HostRuntime) -> Result<()> {
         "sum" => sums::add_up(alloc, size, times)?,
         "header" => header::read(alloc, size, times)?,
         "digest" => sums::digest(alloc, size, times)?,
-        _ => bail!("space, hit, sum, header or digest"),
+        "fletcher" => sums::fletcher(alloc, size, times)?,
+        "script" => script::read(alloc, size, times)?,
+        _ => bail!("space, hit, sum, header, digest, fletcher or script"),
     };
     println!(rt; "{done}")?;
     Ok(())

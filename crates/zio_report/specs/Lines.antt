@@ -1,7 +1,7 @@
 -- The text of one round. docs/FORMATS.md, "Report".
-use Rattle.std.specs.Prelude.{ℕ, List, [], ◌∷◌, ◌++◌, length, slice_index, Bool, true, false, Option, Some, None, decimal, codes}
+use Rattle.std.specs.Prelude.{◌≡◌, ℕ, ◌%◌, List, [], ◌∷◌, ◌++◌, length, slice_index, Bool, true, false, Option, Some, None, decimal, codes}
 use Rattle.std.specs.Fmt.{radix_digits}
-use Rattle.std.specs.List.{flat_map}
+use Rattle.std.specs.List.{flat_map, AllByRecursion}
 use Rattle.hex.specs.Hex.{encode_lower}
 use Rattle.zio_types.specs.declared.error.Errno.{Errno}
 use Rattle.zio_types.specs.declared.error.Errno.TheVariants.{Nxio, Cksum, Io, Nospc, Inval, Exist, Noent}
@@ -84,6 +84,17 @@ result_text with_bytes (Sized size) = codes "ok " ++ decimal size
 result_text with_bytes (Bytes bytes) =
     codes "ok " ++ decimal (length bytes) ++ spaced (sums_text (fletcher4 bytes))
     ++ when with_bytes (codes " data " ++ encode_lower bytes)
+
+-- the bytes of a read are whole sectors
+abbrev pub IsWhole : LineResult → Type 0
+IsWhole Suspended = Unit {0}
+IsWhole (Failed e) = Unit {0}
+IsWhole Done = Unit {0}
+IsWhole (Sized size) = Unit {0}
+IsWhole (Bytes bytes) = length bytes % 512 ≡ 0
+
+abbrev pub AreWhole : List Line → Type 0
+AreWhole lines = AllByRecursion (λ (l : Line). IsWhole l.result) lines
 
 abbrev pub name_text : Option (List ℕ) → List ℕ
 name_text None = []

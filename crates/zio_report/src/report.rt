@@ -47,3 +47,14 @@ pub struct Line {
     pub name: Option<Name>,
     pub result: LineResult,
 }
+
+/// Why the run of a script was stopped.
+#[derive(Clone, Copy, Debug, PartialEq, Eq)]
+pub enum RunFault {
+    /// A disk failed.
+    Device,
+    /// The sink failed.
+    Sink,
+    /// Want of memory.
+    Memory,
+}

@@ -1,4 +1,4 @@
+pub mod DiskLemmas
 pub mod ReadLemmas
 pub mod ScriptLemmas
-pub mod TextLemmas
 pub mod WordLemmas

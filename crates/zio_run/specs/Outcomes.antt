@@ -1,14 +1,12 @@
 -- The texts that a run prints beside its report, and how it ends where a text was due.
-use Rattle.std.specs.Prelude.{◌≡◌, ℕ, ◌+◌, ◌≤◌, List, [], ◌++◌, take, ◌⊎◌, decimal, codes}
-use Rattle.zio_types.specs.declared.journal.Journal.{Journal}
+use Rattle.std.specs.Prelude.{◌≡◌, ◌≢◌, ◌↔◌, ℕ, ◌+◌, ◌≤◌, List, [], ◌++◌, take, ◌⊎◌, decimal, codes}
 use Rattle.zio_outside.specs.Outside.{Appends, AppendsFront, Keeps, Rose}
 use Rattle.zio_script.specs.declared.script.Script.{Script}
 use Rattle.zio_script.specs.declared.script.ScriptFault.{ScriptFault}
 use Rattle.zio_script.specs.declared.read.TheConstants.{SCRIPT_LEN_MAX}
 use Rattle.zio_script.specs.FirstForm.{IsFaultOf, IsScriptOf}
-use Rattle.zio_gang.specs.declared.ending.Ending.TheVariants.{Complete}
 use Rattle.zio_report.specs.Lines.{as_line, spaced}
-use Rattle.zio_report.specs.Reports.{pool_text, end_text}
+use Rattle.zio_report.specs.Reports.{pool_text}
 use Rattle.zio_run.specs.Commands.{IsNoCommand}
 use Rattle.zio_run.specs.declared.image.TheConstants.{IMAGE_LEN_MAX, IMAGE_LEN_MIN}
 
@@ -24,13 +22,6 @@ pub record HasLawfulSize (bytes : ℕ) : Type 0 where
   pub low : IMAGE_LEN_MIN ≤ bytes
   pub high : bytes ≤ IMAGE_LEN_MAX
 
--- ---- journals
-
-pub record IsEmptyJournal (journal : Journal) : Type 0 where
-  pub places : journal.places ≡ []
-  pub completions : journal.completions ≡ []
-  pub rounds : journal.rounds ≡ 0
-
 -- ---- texts
 
 abbrev pub words_line : List ℕ
@@ -43,15 +34,11 @@ script_line fault = as_line (codes "script " ++ decimal fault.line ++ spaced (de
 abbrev pub images_line : ℕ → List ℕ
 images_line leaf = as_line (codes "images " ++ decimal leaf)
 
--- the whole report of a script without requests, over one top and one image
-abbrev pub shortest_report : List ℕ
-shortest_report = pool_text 1 1 ++ end_text Complete
-
 -- ---- ends
 
--- the codes of a run in which no request can be left and no round be broken
+-- the codes of a run in which no request can be left
 abbrev pub IsSerialCode : ℕ → Type 0
-IsSerialCode code = (code ≡ 0) ⊎ (code ≡ 1) ⊎ (code ≡ 2) ⊎ (code ≡ 3) ⊎ (code ≡ 5) ⊎ (code ≡ 6) ⊎ (code ≡ 8)
+IsSerialCode code = (code ≡ 0) ⊎ (code ≡ 1) ⊎ (code ≡ 2) ⊎ (code ≡ 3) ⊎ (code ≡ 5) ⊎ (code ≡ 6) ⊎ (code ≡ 7) ⊎ (code ≡ 8)
 
 -- How a run ends where this text was due with this code: so, or with a front of the text and code 6 where the sink's
 -- count rose, or with nothing and code 8.
@@ -63,9 +50,25 @@ pub record Ends (due : ℕ) (text : List ℕ) (code old_faults new_faults : ℕ)
   pub front : code ≡ 6 → AppendsFront old new text
   pub nothing : code ≡ 8 → Keeps old new
 
--- What was due: the line of the words, of the script's fault or of an image, or the report.
+-- What was due: the line of the words, of the script's fault or of an image, or a report, which begins with the line of
+-- the pool.
 abbrev pub IsDue : List (List ℕ) → List ℕ → List ℕ → Type 0
 IsDue words text full =
     (IsNoCommand words × (full ≡ words_line))
     ⊎ ((fault : ScriptFault) × IsFaultOf text fault × (full ≡ script_line fault))
-    ⊎ ((script : Script) × IsScriptOf text script × ((full ≡ images_line 0) ⊎ (full ≡ shortest_report)))
+    ⊎ ((script : Script) × IsScriptOf text script × ((full ≡ images_line 0) ⊎ ((rest : List ℕ) × (full ≡ pool_text 1 1 ++ rest))))
+
+-- ---- what stays of a disk and of the shelf
+
+-- a run left a disk's size, its count at fetch and its home as they were, and the disk still tells an image if it told one
+pub record IsAfter {D : Type 0} (bytes faults_at_fetch : D → ℕ) (home image : D → List ℕ → Type 0) (old new : D) : Type 0 where
+  pub size : bytes new ≡ bytes old
+  pub at_fetch : faults_at_fetch new ≡ faults_at_fetch old
+  pub home_kept : Keeps (home old) (home new)
+  pub told : (content : List ℕ) → image old content → (after : List ℕ) × image new after
+
+-- the other disks stay where they are with their images, the one of this name is at home, and tells an image if it told one
+pub record KeepsOthers (name : List ℕ) (old new : List ℕ → List ℕ → Type 0) (old_out new_out : List ℕ → Type 0) : Type 0 where
+  pub images : (other image : List ℕ) → other ≢ name → new other image ↔ old other image
+  pub out : (other : List ℕ) → new_out other ↔ old_out other
+  pub still : (image : List ℕ) → old name image → (after : List ℕ) × new name after

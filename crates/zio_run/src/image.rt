@@ -1,5 +1,11 @@
-ghost use Rattle.std.specs.Prelude.{IsTrue, ◌↔◌};
+ghost use Rattle.std.specs.Prelude.{◌≡◌, ◌∷◌, ◌/◌, [], Err, IfOk, IsTrue, OnErr, ◌↔◌};
+ghost use Rattle.zio_plain.specs.Rounds.{first_top};
 ghost use Rattle.zio_run.specs.Outcomes.{HasLawfulSize};
+
+use std::alloc::Global;
+use zio_places::Space;
+use zio_report::RunFault;
+use zio_types::{List, SECTOR_SIZE, Top};
 
 /// The fewest bytes of an image.
 pub const IMAGE_LEN_MIN: u64 = 64 * 1024;
@@ -11,4 +17,36 @@ pub(crate) fn is_lawful_size(bytes: u64) -> bool
     ensures { IsTrue result ↔ HasLawfulSize bytes }
 {
     IMAGE_LEN_MIN <= bytes && bytes <= IMAGE_LEN_MAX
+}
+
+/// The one top of leaf 0, whose disk has so many bytes.
+pub(crate) fn top_over(alloc: Global, bytes: u64) -> Result<List<Top>, RunFault>
+    ensures ok { IfOk result (λ tops. tops ≡ first_top bytes ∷ []) }
+    ensures err { OnErr result (result ≡ Err RunFault.Memory) }
+{
+    let mut leaves = List::new(alloc);
+    let mut tops = List::new(alloc);
+    if leaves.push(0).is_err() {
+        return Err(RunFault::Memory);
+    }
+    let top = Top {
+        leaves,
+        sectors: bytes / u64::from(SECTOR_SIZE),
+    };
+    match tops.push(top) {
+        Ok(()) => Ok(tops),
+        Err(_) => Err(RunFault::Memory),
+    }
+}
+
+/// The space of that top, all of it free.
+pub(crate) fn space_over(alloc: Global, bytes: u64) -> Result<Space, RunFault>
+    ensures ok { IfOk result (λ space. space ≡
+        record { sizes = bytes / 512 ∷ []; live = []; pending = []; entries = []; spare = 0 }) }
+    ensures err { OnErr result (result ≡ Err RunFault.Memory) }
+{
+    match Space::new(alloc, &[bytes / u64::from(SECTOR_SIZE)]) {
+        Ok(space) => Ok(space),
+        Err(_) => Err(RunFault::Memory),
+    }
 }

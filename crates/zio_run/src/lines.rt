@@ -1,5 +1,5 @@
 ghost use Rattle.std.specs.Prelude.{◌≡◌, ◌≢◌, IfOk, string_bytes};
-ghost use Rattle.zio_report.specs.Reports.{end_text, pool_text};
+ghost use Rattle.zio_report.specs.Reports.{end_code};
 ghost use Rattle.zio_run.specs.Outcomes.{Ends, images_line, script_line};
 
 use std::alloc::{AllocError, Global};
@@ -8,8 +8,14 @@ use zio_outside::Sink;
 use zio_script::ScriptFault;
 use zio_types::Status;
 
+/// The code where the source failed.
+pub(crate) const CODE_SOURCE: u8 = 5;
+
 /// The code where the sink failed.
 pub(crate) const CODE_SINK: u8 = 6;
+
+/// The code where a disk failed.
+pub(crate) const CODE_DEVICE: u8 = 7;
 
 /// The code for want of memory.
 pub(crate) const CODE_MEMORY: u8 = 8;
@@ -27,19 +33,14 @@ pub(crate) fn images_line(alloc: Global, leaf: u32) -> Result<String, AllocError
     format!(in alloc; "images {leaf}\n")
 }
 
-pub(crate) fn pool_line(alloc: Global, tops: usize, images: usize) -> Result<String, AllocError>
-    ensures { IfOk result (λ line. string_bytes line ≡ pool_text tops images) }
-{
-    format!(in alloc; "pool {tops} {images}\n")
-}
-
-pub(crate) fn end_line(ending: Ending) -> &'static str
-    ensures { result.now ≡ end_text ending }
+/// The code of a run that was not stopped.
+pub(crate) fn code_of(ending: Ending) -> u8
+    ensures { result ≡ end_code ending }
 {
     match ending {
-        Ending::Complete => "end 0\n",
-        Ending::Panic => "end 4\n",
-        Ending::Left => "end 9\n",
+        Ending::Complete => 0,
+        Ending::Panic => 4,
+        Ending::Left => 9,
     }
 }
 

@@ -1,30 +1,38 @@
-ghost use Rattle.std.specs.Prelude.{◌≡◌, ◌∷◌, [], ◌⊎◌, ◌↔◌, ℕ, List, length, map, string_bytes};
+ghost use Rattle.std.specs.Prelude.{◌≡◌, ◌∷◌, ◌++◌, [], ◌⊎◌, ◌↔◌, ℕ, List, IfOk, IsErrOf, OnOk, length, map, slice_index_or, string_bytes, take};
 ghost use Rattle.zio_outside.specs.Outside.{Appends, AppendsFront, Keeps, Rose, StaysHome};
-ghost use Rattle.zio_script.specs.FirstForm.{IsFaultOf, IsScriptOf};
+ghost use Rattle.zio_script.specs.FirstForm.{IsFaultOf, IsFirstScript, IsScriptOf};
 ghost use Rattle.zio_script.specs.declared.script.Script.{Script};
 ghost use Rattle.zio_script.specs.declared.script.ScriptFault.{ScriptFault};
-ghost use Rattle.zio_report.specs.declared.report.Show.TheVariants.{Report};
-ghost use Rattle.std.specs.Prelude.{false};
+ghost use Rattle.zio_report.specs.Meanings.{IsEmptyJournal, IsMeaning};
+ghost use Rattle.zio_gang.specs.declared.ending.Ending.TheVariants.{Complete};
+ghost use Rattle.zio_report.specs.Reports.{end_code, pool_text};
+ghost use Rattle.zio_cksum.specs.Images.{Images};
+ghost use Rattle.zio_plain.specs.Disks.{AnyRose, AreSameDisks, Tell};
+ghost use Rattle.zio_plain.specs.Rounds.{Begins, plain_show};
 ghost use Rattle.zio_run.specs.Commands.{IsCommand, IsNoCommand};
 ghost use Rattle.zio_run.specs.Headline.{Headline};
-ghost use Rattle.zio_run.specs.Outcomes.{Ends, HasLawfulSize, IsDue, IsEmptyJournal, IsSerialCode, images_line, script_line, shortest_report, words_line};
+ghost use Rattle.zio_run.specs.Outcomes.{HasLawfulSize, IsAfter, IsDue, IsSerialCode, KeepsOthers, images_line, script_line, words_line};
 
 use crate::command::image_of;
-use crate::image::is_lawful_size;
+use crate::image::{is_lawful_size, space_over, top_over};
 use crate::lines::{
-    CODE_MEMORY, CODE_SINK, end_line, end_with, pool_line, refuse_image, refuse_script,
+    CODE_DEVICE, CODE_MEMORY, CODE_SINK, CODE_SOURCE, code_of, end_with, refuse_image,
+    refuse_script,
 };
 use crate::source::{ReadFault, read_all};
 use std::alloc::Global;
 use zio_gang::Ending;
 use zio_outside::{Disk, FetchFault, Shelf, Sink, Source};
-use zio_script::{ScriptError, read_script};
+use zio_plain::run_script;
+use zio_report::RunFault;
+use zio_script::{Script, ScriptError, read_script};
 use zio_types::{Journal, Status};
 
 /// Runs a command on one thread, and ends with its code.
 ///
 /// The words are those after the program's name. The source is read to its end, or to one byte more than a script may
-/// have. Code 8 is want of memory, and may come whenever memory is asked for.
+/// have. The disk that is fetched is back on the shelf afterwards, with every code. Code 8 is want of memory, and may
+/// come whenever memory is asked for.
 pub fn zio_serial_main<S: Source, O: Sink, H: Shelf>(
     alloc: Global,
     words: &[String],
@@ -33,6 +41,8 @@ pub fn zio_serial_main<S: Source, O: Sink, H: Shelf>(
     out: &mut O,
     journal: &mut Journal,
 ) -> Status
+where
+    H::Disk: Drop,
     requires empty { IsEmptyJournal journal.old }
     requires home { H.tells shelf.old → (name : List ℕ) → ¬ H.out shelf.old name }
 
@@ -40,87 +50,108 @@ pub fn zio_serial_main<S: Source, O: Sink, H: Shelf>(
     ensures codes { IsSerialCode result.code }
     ensures words { result.code ≡ 1 → IsNoCommand (map string_bytes words.now) }
     ensures no_command { IsNoCommand (map string_bytes words.now) → (result.code ≡ 1) ⊎ (result.code ≡ 6) }
-    ensures accepted { (result.code ≡ 0) ⊎ (result.code ≡ 3) →
+    ensures accepted { (result.code ≡ 0) ⊎ (result.code ≡ 3) ⊎ (result.code ≡ 7) →
         (text : List ℕ) → S.left script.old text → (read : Script) × IsScriptOf text read }
     ensures images { result.code ≡ 3 → (name : List ℕ) → IsCommand (map string_bytes words.now) name →
         (Rose (H.faults shelf.old) (H.faults shelf.new) × (H.fetches shelf.new ≡ H.fetches shelf.old))
         ⊎ ((image : List ℕ) → H.tells shelf.old → H.image shelf.old name image → ¬ HasLawfulSize (length image)) }
-    ensures measured { result.code ≡ 0 → (name image : List ℕ) → IsCommand (map string_bytes words.now) name →
+    ensures measured { (result.code ≡ 0) ⊎ (result.code ≡ 7) → (name image : List ℕ) → IsCommand (map string_bytes words.now) name →
         H.tells shelf.old → H.image shelf.old name image → HasLawfulSize (length image) }
     ensures source { result.code ≡ 5 → Rose (S.faults script.old) (S.faults script.new) }
     ensures sink { result.code ≡ 6 → Rose (O.faults out.old) (O.faults out.new) }
-    ensures steady { result.code ≡ 0 → (S.faults script.new ≡ S.faults script.old)
-        × (O.faults out.new ≡ O.faults out.old) × (H.faults shelf.new ≡ H.faults shelf.old) }
+    ensures device { result.code ≡ 7 → Rose (H.disk_faults shelf.old) (H.disk_faults shelf.new) }
+    ensures steady { result.code ≡ 0 → (S.faults script.new ≡ S.faults script.old) × (O.faults out.new ≡ O.faults out.old)
+        × (H.faults shelf.new ≡ H.faults shelf.old) × (H.disk_faults shelf.new ≡ H.disk_faults shelf.old) }
 
     // What is written.
     ensures words_line { result.code ≡ 1 → Appends (O.holds out.old) (O.holds out.new) words_line }
     ensures script_line { result.code ≡ 2 → (text : List ℕ) → S.left script.old text →
         (fault : ScriptFault) × IsFaultOf text fault × Appends (O.holds out.old) (O.holds out.new) (script_line fault) }
     ensures images_line { result.code ≡ 3 → Appends (O.holds out.old) (O.holds out.new) (images_line 0) }
-    ensures nothing { (result.code ≡ 5) ⊎ (result.code ≡ 8) → Keeps (O.holds out.old) (O.holds out.new) }
-    ensures front { result.code ≡ 6 → (text : List ℕ) → S.left script.old text → (full : List ℕ) ×
-        IsDue (map string_bytes words.now) text full × AppendsFront (O.holds out.old) (O.holds out.new) full }
+    ensures nothing { result.code ≡ 5 → Keeps (O.holds out.old) (O.holds out.new) }
+    ensures begun { (result.code ≡ 7) ⊎ (result.code ≡ 8) → Begins (O.holds out.old) (O.holds out.new) (pool_text 1 1) }
+    ensures front { result.code ≡ 6 → (text : List ℕ) → S.left script.old text → (held : List ℕ) → O.holds out.old held →
+        (full : List ℕ) × IsDue (map string_bytes words.now) text full × (n : ℕ) × O.holds out.new (held ++ take n full) }
 
     // What code 0 says of the report, the images and the journal.
     ensures headline { result.code ≡ 0 → (text name image : List ℕ) → S.left script.old text →
         IsCommand (map string_bytes words.now) name → H.tells shelf.old → H.image shelf.old name image →
-        Headline (Report false false) text (name ∷ []) (image ∷ []) journal.new (H.image shelf.new)
+        Headline plain_show text (name ∷ []) (image ∷ []) journal.new (H.image shelf.new)
         (O.holds out.old) (O.holds out.new) result.code }
 
     // No other code comes where all is in order and no count of faults rose.
     ensures complete { (name text image : List ℕ) (read : Script) → IsCommand (map string_bytes words.now) name →
         S.left script.old text → IsScriptOf text read → H.tells shelf.old → H.image shelf.old name image → HasLawfulSize (length image) →
         ¬ Rose (S.faults script.old) (S.faults script.new) → ¬ Rose (O.faults out.old) (O.faults out.new) →
-        ¬ Rose (H.faults shelf.old) (H.faults shelf.new) → (result.code ≡ 0) ⊎ (result.code ≡ 8) }
+        ¬ Rose (H.faults shelf.old) (H.faults shelf.new) → ¬ Rose (H.disk_faults shelf.old) (H.disk_faults shelf.new) →
+        (result.code ≡ 0) ⊎ (result.code ≡ 8) }
 
     // What stays.
-    ensures journal { journal.new ≡ journal.old }
+    ensures journal { (result.code ≡ 1) ⊎ (result.code ≡ 2) ⊎ (result.code ≡ 3) ⊎ (result.code ≡ 5) → journal.new ≡ journal.old }
     ensures unread { IsNoCommand (map string_bytes words.now) → (script.new ≡ script.old) × (shelf.new ≡ shelf.old) }
     ensures unfetched { (result.code ≡ 2) ⊎ (result.code ≡ 5) → shelf.new ≡ shelf.old }
+    ensures untouched { result.code ≡ 3 → (H.disk_faults shelf.new ≡ H.disk_faults shelf.old) × (H.tells shelf.old →
+        StaysHome (H.image shelf.old) (H.image shelf.new) (H.out shelf.old) (H.out shelf.new)) }
     ensures tells { H.tells shelf.old ↔ H.tells shelf.new }
-    ensures home { H.tells shelf.old →
-        StaysHome (H.image shelf.old) (H.image shelf.new) (H.out shelf.old) (H.out shelf.new) }
-    ensures disk_faults { H.disk_faults shelf.new ≡ H.disk_faults shelf.old }
+    ensures home { (name : List ℕ) → IsCommand (map string_bytes words.now) name → H.tells shelf.old →
+        KeepsOthers name (H.image shelf.old) (H.image shelf.new) (H.out shelf.old) (H.out shelf.new) }
 {
     let Some(name) = image_of(words) else {
         return end_with(out, "words\n", 1);
     };
     let bytes = match read_all(alloc, script) {
         Ok(bytes) => bytes,
-        Err(ReadFault::Failed) => return Status { code: 5 },
+        Err(ReadFault::Failed) => return Status { code: CODE_SOURCE },
         Err(ReadFault::Memory) => return Status { code: CODE_MEMORY },
     };
     match read_script(alloc, bytes.as_slice()) {
-        Ok(_) => run_on_shelf(alloc, name, shelf, out),
+        Ok(script) => run_on_shelf(alloc, &script, name, shelf, out, journal),
         Err(ScriptError::Fault(fault)) => refuse_script(alloc, out, fault),
         Err(ScriptError::Memory) => Status { code: CODE_MEMORY },
     }
 }
 
-/// Fetches the image, runs over it and gives it back.
-fn run_on_shelf<O: Sink, H: Shelf>(alloc: Global, name: &str, shelf: &mut H, out: &mut O) -> Status
-    requires { H.tells shelf.old → (other : List ℕ) → ¬ H.out shelf.old other }
-    ensures codes { (result.code ≡ 0) ⊎ (result.code ≡ 3) ⊎ (result.code ≡ 6) ⊎ (result.code ≡ 8) }
+/// Fetches the image, runs the script over it and gives it back.
+fn run_on_shelf<O: Sink, H: Shelf>(
+    alloc: Global,
+    script: &Script,
+    name: &str,
+    shelf: &mut H,
+    out: &mut O,
+    journal: &mut Journal,
+) -> Status
+where
+    H::Disk: Drop,
+    requires form { IsFirstScript script.now }
+    requires empty { IsEmptyJournal journal.old }
+    requires home { H.tells shelf.old → (other : List ℕ) → ¬ H.out shelf.old other }
+    ensures codes { (result.code ≡ 0) ⊎ (result.code ≡ 3) ⊎ (result.code ≡ 6) ⊎ (result.code ≡ 7) ⊎ (result.code ≡ 8) }
     ensures images { result.code ≡ 3 →
         (Rose (H.faults shelf.old) (H.faults shelf.new) × (H.fetches shelf.new ≡ H.fetches shelf.old))
         ⊎ ((image : List ℕ) → H.tells shelf.old → H.image shelf.old name.now image → ¬ HasLawfulSize (length image)) }
-    ensures measured { result.code ≡ 0 → (image : List ℕ) → H.tells shelf.old → H.image shelf.old name.now image →
+    ensures measured { (result.code ≡ 0) ⊎ (result.code ≡ 7) → (image : List ℕ) → H.tells shelf.old → H.image shelf.old name.now image →
         HasLawfulSize (length image) }
     ensures sink { result.code ≡ 6 → Rose (O.faults out.old) (O.faults out.new) }
-    ensures steady { result.code ≡ 0 → (O.faults out.new ≡ O.faults out.old) × (H.faults shelf.new ≡ H.faults shelf.old) }
+    ensures device { result.code ≡ 7 → Rose (H.disk_faults shelf.old) (H.disk_faults shelf.new) }
+    ensures steady { result.code ≡ 0 → (O.faults out.new ≡ O.faults out.old) × (H.faults shelf.new ≡ H.faults shelf.old)
+        × (H.disk_faults shelf.new ≡ H.disk_faults shelf.old) }
     ensures images_line { result.code ≡ 3 → Appends (O.holds out.old) (O.holds out.new) (images_line 0) }
-    ensures report { result.code ≡ 0 → Appends (O.holds out.old) (O.holds out.new) shortest_report }
-    ensures nothing { result.code ≡ 8 → Keeps (O.holds out.old) (O.holds out.new) }
+    ensures meaning { result.code ≡ 0 → (image : List ℕ) → H.tells shelf.old → H.image shelf.old name.now image →
+        (after printed : List ℕ) × IsMeaning plain_show script.now (image ∷ []) journal.new (after ∷ []) printed result.code
+        × H.image shelf.new name.now after × Appends (O.holds out.old) (O.holds out.new) printed }
     ensures front { result.code ≡ 6 → AppendsFront (O.holds out.old) (O.holds out.new) (images_line 0)
-        ⊎ AppendsFront (O.holds out.old) (O.holds out.new) shortest_report }
+        ⊎ Begins (O.holds out.old) (O.holds out.new) (pool_text 1 1) }
+    ensures begun { (result.code ≡ 7) ⊎ (result.code ≡ 8) → Begins (O.holds out.old) (O.holds out.new) (pool_text 1 1) }
+    ensures journal { result.code ≡ 3 → journal.new ≡ journal.old }
+    ensures untouched { result.code ≡ 3 → (H.disk_faults shelf.new ≡ H.disk_faults shelf.old) × (H.tells shelf.old →
+        StaysHome (H.image shelf.old) (H.image shelf.new) (H.out shelf.old) (H.out shelf.new)) }
     ensures tells { H.tells shelf.old ↔ H.tells shelf.new }
     ensures home { H.tells shelf.old →
-        StaysHome (H.image shelf.old) (H.image shelf.new) (H.out shelf.old) (H.out shelf.new) }
-    ensures disk_faults { H.disk_faults shelf.new ≡ H.disk_faults shelf.old }
+        KeepsOthers name.now (H.image shelf.old) (H.image shelf.new) (H.out shelf.old) (H.out shelf.new) }
 {
     match shelf.fetch(name) {
         Ok(disk) => {
-            let status = run_over(alloc, &disk, out);
+            let (status, disk) = run_on_disk(alloc, script, disk, out, journal);
             shelf.give_back(disk);
             status
         }
@@ -129,35 +160,105 @@ fn run_on_shelf<O: Sink, H: Shelf>(alloc: Global, name: &str, shelf: &mut H, out
     }
 }
 
-/// Measures the image and runs over it.
-fn run_over<O: Sink, D: Disk>(alloc: Global, disk: &D, out: &mut O) -> Status
-    ensures codes { (result.code ≡ 0) ⊎ (result.code ≡ 3) ⊎ (result.code ≡ 6) ⊎ (result.code ≡ 8) }
-    ensures images { result.code ≡ 3 → ¬ HasLawfulSize (D.bytes disk.now) }
-    ensures measured { result.code ≡ 0 → HasLawfulSize (D.bytes disk.now) }
-    ensures sink { result.code ≡ 6 → Rose (O.faults out.old) (O.faults out.new) }
-    ensures steady { result.code ≡ 0 → O.faults out.new ≡ O.faults out.old }
-    ensures images_line { result.code ≡ 3 → Appends (O.holds out.old) (O.holds out.new) (images_line 0) }
-    ensures report { result.code ≡ 0 → Appends (O.holds out.old) (O.holds out.new) shortest_report }
-    ensures nothing { result.code ≡ 8 → Keeps (O.holds out.old) (O.holds out.new) }
-    ensures front { result.code ≡ 6 → AppendsFront (O.holds out.old) (O.holds out.new) (images_line 0)
-        ⊎ AppendsFront (O.holds out.old) (O.holds out.new) shortest_report }
+/// Runs the script over the disk of leaf 0, and hands the disk back.
+fn run_on_disk<O: Sink, D: Disk + Drop>(
+    alloc: Global,
+    script: &Script,
+    disk: D,
+    out: &mut O,
+    journal: &mut Journal,
+) -> (Status, D)
+    requires form { IsFirstScript script.now }
+    requires empty { IsEmptyJournal journal.old }
+    ensures codes { (result.0.code ≡ 0) ⊎ (result.0.code ≡ 3) ⊎ (result.0.code ≡ 6) ⊎ (result.0.code ≡ 7) ⊎ (result.0.code ≡ 8) }
+    ensures images { result.0.code ≡ 3 → ¬ HasLawfulSize (D.bytes disk) }
+    ensures measured { (result.0.code ≡ 0) ⊎ (result.0.code ≡ 7) → HasLawfulSize (D.bytes disk) }
+    ensures sink { result.0.code ≡ 6 → Rose (O.faults out.old) (O.faults out.new) }
+    ensures device { result.0.code ≡ 7 → Rose (D.faults disk) (D.faults result.1) }
+    ensures steady { result.0.code ≡ 0 → (O.faults out.new ≡ O.faults out.old) × (D.faults result.1 ≡ D.faults disk) }
+    ensures images_line { result.0.code ≡ 3 → Appends (O.holds out.old) (O.holds out.new) (images_line 0) }
+    ensures meaning { result.0.code ≡ 0 → (image : List ℕ) → D.image disk image →
+        (after printed : List ℕ) × IsMeaning plain_show script.now (image ∷ []) journal.new (after ∷ []) printed result.0.code
+        × D.image result.1 after × Appends (O.holds out.old) (O.holds out.new) printed }
+    ensures front { result.0.code ≡ 6 → AppendsFront (O.holds out.old) (O.holds out.new) (images_line 0)
+        ⊎ Begins (O.holds out.old) (O.holds out.new) (pool_text 1 1) }
+    ensures begun { (result.0.code ≡ 7) ⊎ (result.0.code ≡ 8) → Begins (O.holds out.old) (O.holds out.new) (pool_text 1 1) }
+    ensures untouched { result.0.code ≡ 3 → (result.1 ≡ disk) × (journal.new ≡ journal.old) }
+    ensures after { IsAfter D.bytes D.faults_at_fetch D.home D.image disk result.1 }
 {
-    if is_lawful_size(disk.size()) {
-        report(alloc, out)
-    } else {
-        refuse_image(alloc, out, 0)
+    let mut disks = Vec::new(alloc);
+    if let Err(refused) = disks.push(disk) {
+        return (Status { code: CODE_MEMORY }, refused.value);
+    }
+    let status = run_over(alloc, script, disks.as_mut_slice(), out, journal);
+    (status, disks.remove(0))
+}
+
+/// Measures the image and runs the script over its disk.
+fn run_over<O: Sink, D: Disk>(
+    alloc: Global,
+    script: &Script,
+    disks: &mut [D],
+    out: &mut O,
+    journal: &mut Journal,
+) -> Status
+    requires form { IsFirstScript script.now }
+    requires empty { IsEmptyJournal journal.old }
+    requires one { length disks.old ≡ 1 }
+    ensures codes { (result.code ≡ 0) ⊎ (result.code ≡ 3) ⊎ (result.code ≡ 6) ⊎ (result.code ≡ 7) ⊎ (result.code ≡ 8) }
+    ensures images { result.code ≡ 3 → ¬ HasLawfulSize (slice_index_or (map D.bytes disks.old) 0 0) }
+    ensures measured { (result.code ≡ 0) ⊎ (result.code ≡ 7) → HasLawfulSize (slice_index_or (map D.bytes disks.old) 0 0) }
+    ensures sink { result.code ≡ 6 → Rose (O.faults out.old) (O.faults out.new) }
+    ensures device { result.code ≡ 7 → AnyRose (map D.faults disks.old) (map D.faults disks.new) }
+    ensures steady { result.code ≡ 0 → (O.faults out.new ≡ O.faults out.old) × (map D.faults disks.new ≡ map D.faults disks.old) }
+    ensures images_line { result.code ≡ 3 → Appends (O.holds out.old) (O.holds out.new) (images_line 0) }
+    ensures meaning { result.code ≡ 0 → (before : Images) → Tell D.image disks.old before →
+        (after : Images) × (printed : List ℕ) × IsMeaning plain_show script.now before journal.new after printed result.code
+        × Tell D.image disks.new after × Appends (O.holds out.old) (O.holds out.new) printed }
+    ensures front { result.code ≡ 6 → AppendsFront (O.holds out.old) (O.holds out.new) (images_line 0)
+        ⊎ Begins (O.holds out.old) (O.holds out.new) (pool_text 1 1) }
+    ensures begun { (result.code ≡ 7) ⊎ (result.code ≡ 8) → Begins (O.holds out.old) (O.holds out.new) (pool_text 1 1) }
+    ensures untouched { result.code ≡ 3 → (disks.new ≡ disks.old) × (journal.new ≡ journal.old) }
+    ensures same { AreSameDisks D.bytes D.faults_at_fetch D.home D.image disks.old disks.new }
+{
+    let size = disks[0].size();
+    if !is_lawful_size(size) {
+        return refuse_image(alloc, out, 0);
+    }
+    match run_sized(alloc, script, size, disks, out, journal) {
+        Ok(ending) => Status {
+            code: code_of(ending),
+        },
+        Err(RunFault::Device) => Status { code: CODE_DEVICE },
+        Err(RunFault::Sink) => Status { code: CODE_SINK },
+        Err(RunFault::Memory) => Status { code: CODE_MEMORY },
     }
 }
 
-/// Writes the report.
-fn report<O: Sink>(alloc: Global, out: &mut O) -> Status
-    ensures { Ends 0 shortest_report result.code (O.faults out.old) (O.faults out.new) (O.holds out.old) (O.holds out.new) }
+/// Runs the script over a disk of a lawful size, with its places from a space of its own.
+fn run_sized<O: Sink, D: Disk>(
+    alloc: Global,
+    script: &Script,
+    size: u64,
+    disks: &mut [D],
+    out: &mut O,
+    journal: &mut Journal,
+) -> Result<Ending, RunFault>
+    requires form { IsFirstScript script.now }
+    requires empty { IsEmptyJournal journal.old }
+    requires size { map D.bytes disks.old ≡ size ∷ [] }
+    requires lawful { HasLawfulSize size }
+    ensures ending { IfOk result (λ ending. ending ≡ Complete) }
+    ensures meaning { IfOk result (λ ending. (before : Images) → Tell D.image disks.old before →
+        (after : Images) × (printed : List ℕ) × IsMeaning plain_show script.now before journal.new after printed (end_code ending)
+        × Tell D.image disks.new after × Appends (O.holds out.old) (O.holds out.new) printed) }
+    ensures steady { OnOk result ((map D.faults disks.new ≡ map D.faults disks.old) × (O.faults out.new ≡ O.faults out.old)) }
+    ensures device { IsErrOf result RunFault.Device → AnyRose (map D.faults disks.old) (map D.faults disks.new) }
+    ensures sink { IsErrOf result RunFault.Sink → Rose (O.faults out.old) (O.faults out.new) }
+    ensures begun { Begins (O.holds out.old) (O.holds out.new) (pool_text 1 1) }
+    ensures same { AreSameDisks D.bytes D.faults_at_fetch D.home D.image disks.old disks.new }
 {
-    let Ok(line) = pool_line(alloc, 1, 1) else {
-        return Status { code: CODE_MEMORY };
-    };
-    match out.write(line.as_bytes()) {
-        Ok(()) => end_with(out, end_line(Ending::Complete), 0),
-        Err(_) => Status { code: CODE_SINK },
-    }
+    let tops = top_over(alloc, size)?;
+    let mut space = space_over(alloc, size)?;
+    run_script(alloc, script, tops, disks, &mut space, out, journal)
 }

@@ -1,7 +1,12 @@
+//! The top call over the objects in memory, with each of their calls failing, and over a disk that forgets.
+
 ghost use Rattle.std.specs.Prelude.{ℕ, List, IfOk};
 ghost use Rattle.zio_outside.specs.MemoryShelf.{out_of, shelf_slot};
 
+mod forgetful;
+
 use crate::zio_serial_main;
+use forgetful::ForgetfulShelf;
 use std::alloc::Global;
 use std::process::Abort;
 use std::test::Fail;
@@ -13,6 +18,7 @@ use zio_types::{Journal, List, Text};
 struct Fails<'a> {
     source: &'a [u64],
     shelf: &'a [u64],
+    disk: &'a [u64],
     sink: &'a [u64],
 }
 
@@ -21,6 +27,7 @@ const NONE: &[u64] = &[];
 const STEADY: Fails<'static> = Fails {
     source: NONE,
     shelf: NONE,
+    disk: NONE,
     sink: NONE,
 };
 
@@ -30,21 +37,30 @@ fn list<T: Copy>(alloc: Global, items: &[T]) -> Result<List<T>, Fail> {
     Ok(list)
 }
 
-/// A shelf of one disk `a`.
-fn shelf_of(alloc: Global, image_len: usize, fails: &[u64]) -> Result<MemShelf, Fail>
+/// A shelf of one disk `a` of zeros.
+fn shelf_of(alloc: Global, image_len: usize, fails: &Fails<'_>) -> Result<MemShelf, Fail>
     ensures { IfOk result (λ shelf. (name : List ℕ) → ¬ out_of (shelf_slot shelf) name) }
 {
-    let fails = list(alloc, fails)?;
+    let shelf_fails = list(alloc, fails.shelf)?;
+    let disk_fails = list(alloc, fails.disk)?;
     let image = List::from_vec(vec![in alloc; 0; image_len]?);
     let name = Text::from_string(String::from_str(alloc, "a")?);
-    let mut shelf = MemShelf::new(alloc, fails);
-    match shelf.put(name, MemDisk::new(image, List::new(alloc))) {
+    let mut shelf = MemShelf::new(alloc, shelf_fails);
+    match shelf.put(name, MemDisk::new(image, disk_fails)) {
         Ok(()) => Ok(shelf),
         Err(_) => Err(Fail::from("no memory")),
     }
 }
 
-/// A run over one disk `a`, and what it has to come to.
+fn words_of(alloc: Global, words: &[&str]) -> Result<Vec<String>, Fail> {
+    let mut owned = Vec::new(alloc);
+    for word in words {
+        owned.push(String::from_str(alloc, word)?)?;
+    }
+    Ok(owned)
+}
+
+/// A run over one disk `a` of zeros, and what it has to come to.
 #[derive(Clone, Copy)]
 struct Case<'a> {
     words: &'a [&'a str],
@@ -53,6 +69,8 @@ struct Case<'a> {
     fails: Fails<'a>,
     code: u8,
     output: &'a [u8],
+    /// How many sectors of the disk are 512 bytes 0x41 afterwards. All others are zeros.
+    written: usize,
 }
 
 /// The shortest script over the smallest image.
@@ -63,17 +81,32 @@ const SHORTEST: Case<'static> = Case {
     fails: STEADY,
     code: 0,
     output: b"pool 1 1\nend 0\n",
+    written: 0,
 };
 
-/// Runs the case and compares its code and output. The disk is home afterwards.
+/// A write and its read. The sum is fletcher4 of 512 bytes 0x41.
+const WRITE_THEN_READ: Case<'static> = Case {
+    script: b"top 0\n1 write x sha256 1 sync fill 41 512\ngo\n2 read x sync\ngo\n",
+    output: b"pool 1 1\nround 1 batch 1 point 0\n1 write x ok 512\nround 2 batch 2 point 0\n\
+        2 read x ok 512 20a0a0a080:83878787040:16439b9b85580:2d92628254f020\nend 0\n",
+    written: 1,
+    ..SHORTEST
+};
+
+/// How many sectors have this byte alone.
+fn sectors_of(image: &[u8], byte: u8) -> usize {
+    image
+        .chunks(512)
+        .filter(|sector| sector.iter().all(|b| *b == byte))
+        .count()
+}
+
+/// Runs the case and compares its code, its output and the disk, which is home afterwards.
 fn check(rt: &impl Abort, alloc: Global, case: &Case<'_>) -> Result<(), Fail> {
     let mut source = MemSource::new(list(alloc, case.script)?, list(alloc, case.fails.source)?);
-    let mut sink = MemSink::new(alloc, 64, list(alloc, case.fails.sink)?)?;
-    let mut shelf = shelf_of(alloc, case.image_len, case.fails.shelf)?;
-    let mut words = Vec::new(alloc);
-    for word in case.words {
-        words.push(String::from_str(alloc, word)?)?;
-    }
+    let mut sink = MemSink::new(alloc, 256, list(alloc, case.fails.sink)?)?;
+    let mut shelf = shelf_of(alloc, case.image_len, &case.fails)?;
+    let words = words_of(alloc, case.words)?;
     let mut journal = Journal::new(alloc);
     let status = zio_serial_main(
         alloc,
@@ -85,12 +118,35 @@ fn check(rt: &impl Abort, alloc: Global, case: &Case<'_>) -> Result<(), Fail> {
     );
     assert_eq!(rt; status.code, case.code);
     assert_eq!(rt; sink.held(), case.output);
-    assert!(rt; shelf.disk("a").is_some(), "the disk is home");
-    Ok(())
+    match shelf.disk("a") {
+        Some(disk) => {
+            assert_eq!(rt; sectors_of(disk.image(), 0x41), case.written);
+            let zeros = sectors_of(disk.image(), 0);
+            assert_eq!(rt; zeros.checked_add(case.written), Some(case.image_len / 512));
+            Ok(())
+        }
+        None => Err(Fail::from("the disk isn't home")),
+    }
+}
+
+#[test]
+fn scripts_run_to_their_reports(rt: HostRuntime) -> Result<(), Fail> {
+    let alloc = rt.alloc();
+    check(&rt, alloc, &SHORTEST)?;
+    check(&rt, alloc, &WRITE_THEN_READ)?;
+    check(
+        &rt,
+        alloc,
+        &Case {
+            script: b"top 0\n7 read x sync\ngo\n",
+            output: b"pool 1 1\nround 1 batch 1 point 0\n7 read x ENOENT\nend 0\n",
+            ..SHORTEST
+        },
+    )
 }
 
 /// The words are no command.
-fn refuses(rt: &impl Abort, alloc: Global, words: &[&str]) -> Result<(), Fail> {
+fn refuses_words(rt: &impl Abort, alloc: Global, words: &[&str]) -> Result<(), Fail> {
     let case = Case {
         words,
         script: b"top 0\n",
@@ -98,70 +154,53 @@ fn refuses(rt: &impl Abort, alloc: Global, words: &[&str]) -> Result<(), Fail> {
         fails: STEADY,
         code: 1,
         output: b"words\n",
+        written: 0,
+    };
+    check(rt, alloc, &case)
+}
+
+/// The text is no script.
+fn refuses_script<'a>(
+    rt: &impl Abort,
+    alloc: Global,
+    script: &'a [u8],
+    output: &'a [u8],
+) -> Result<(), Fail> {
+    let case = Case {
+        words: &["run", "a"],
+        script,
+        image_len: 65536,
+        fails: STEADY,
+        code: 2,
+        output,
+        written: 0,
     };
     check(rt, alloc, &case)
 }
 
 #[test]
-fn the_shortest_script_runs(rt: HostRuntime) -> Result<(), Fail> {
-    check(&rt, rt.alloc(), &SHORTEST)
-}
-
-#[test]
-fn words_that_are_no_command_are_told(rt: HostRuntime) -> Result<(), Fail> {
-    refuses(&rt, rt.alloc(), &[])?;
-    refuses(&rt, rt.alloc(), &["run"])?;
-    refuses(&rt, rt.alloc(), &["run", "-a"])?;
-    refuses(&rt, rt.alloc(), &["run", ""])?;
-    refuses(&rt, rt.alloc(), &["go", "a"])?;
-    refuses(&rt, rt.alloc(), &["run", "a", "b"])
-}
-
-#[test]
-fn a_script_of_another_form_is_told(rt: HostRuntime) -> Result<(), Fail> {
+fn what_is_refused_is_told(rt: HostRuntime) -> Result<(), Fail> {
     let alloc = rt.alloc();
+    refuses_words(&rt, alloc, &[])?;
+    refuses_words(&rt, alloc, &["run"])?;
+    refuses_words(&rt, alloc, &["run", "-a"])?;
+    refuses_words(&rt, alloc, &["run", ""])?;
+    refuses_words(&rt, alloc, &["go", "a"])?;
+    refuses_words(&rt, alloc, &["run", "a", "b"])?;
+    refuses_script(&rt, alloc, b"", b"script 1 10\n")?;
+    refuses_script(&rt, alloc, b"top 0", b"script 1 10\n")?;
+    refuses_script(&rt, alloc, b"top 0\ngo\n", b"script 2 10\n")?;
+    let without_go = b"top 0\n1 write x sha256 1 sync fill 41 512\n";
+    refuses_script(&rt, alloc, without_go, b"script 3 10\n")?;
     check(
         &rt,
         alloc,
-        &Case {
-            script: b"",
-            code: 2,
-            output: b"script 1 10\n",
-            ..SHORTEST
-        },
-    )?;
-    check(
-        &rt,
-        alloc,
-        &Case {
-            script: b"top 0",
-            code: 2,
-            output: b"script 1 10\n",
-            ..SHORTEST
-        },
-    )?;
-    check(
-        &rt,
-        alloc,
-        &Case {
-            script: b"top 0\ngo\n",
-            code: 2,
-            output: b"script 2 10\n",
-            ..SHORTEST
-        },
-    )
-}
-
-#[test]
-fn an_image_of_512_bytes_is_told(rt: HostRuntime) -> Result<(), Fail> {
-    check(
-        &rt,
-        rt.alloc(),
         &Case {
             image_len: 512,
             code: 3,
             output: b"images 0\n",
-            ..SHORTEST
+            written: 0,
+            ..WRITE_THEN_READ
         },
     )
 }
@@ -169,56 +208,110 @@ fn an_image_of_512_bytes_is_told(rt: HostRuntime) -> Result<(), Fail> {
 #[test]
 fn each_failing_call_has_its_code(rt: HostRuntime) -> Result<(), Fail> {
     let alloc = rt.alloc();
-    check(
-        &rt,
-        alloc,
-        &Case {
-            fails: Fails {
+    let one_round = b"pool 1 1\nround 1 batch 1 point 0\n1 write x ok 512\n";
+    for (fails, code, output, written) in [
+        (
+            Fails {
                 source: &[0],
                 ..STEADY
             },
-            code: 5,
-            output: b"",
-            ..SHORTEST
-        },
-    )?;
-    check(
-        &rt,
-        alloc,
-        &Case {
-            fails: Fails {
+            5,
+            b"" as &[u8],
+            0,
+        ),
+        (
+            Fails {
                 shelf: &[0],
                 ..STEADY
             },
-            code: 3,
-            output: b"images 0\n",
-            ..SHORTEST
-        },
-    )?;
-    check(
-        &rt,
-        alloc,
-        &Case {
-            fails: Fails {
+            3,
+            b"images 0\n",
+            0,
+        ),
+        (
+            Fails {
+                disk: &[0],
+                ..STEADY
+            },
+            7,
+            b"pool 1 1\n",
+            0,
+        ),
+        (
+            Fails {
+                disk: &[1],
+                ..STEADY
+            },
+            7,
+            one_round,
+            1,
+        ),
+        (
+            Fails {
                 sink: &[0],
                 ..STEADY
             },
-            code: 6,
-            output: b"",
-            ..SHORTEST
-        },
-    )?;
-    check(
-        &rt,
-        alloc,
-        &Case {
-            fails: Fails {
+            6,
+            b"",
+            0,
+        ),
+        (
+            Fails {
                 sink: &[1],
                 ..STEADY
             },
-            code: 6,
-            output: b"pool 1 1\n",
-            ..SHORTEST
-        },
-    )
+            6,
+            b"pool 1 1\n",
+            1,
+        ),
+        (
+            Fails {
+                sink: &[2],
+                ..STEADY
+            },
+            6,
+            one_round,
+            1,
+        ),
+    ] {
+        check(
+            &rt,
+            alloc,
+            &Case {
+                fails,
+                code,
+                output,
+                written,
+                ..WRITE_THEN_READ
+            },
+        )?;
+    }
+    Ok(())
+}
+
+#[test]
+fn bytes_that_a_disk_lost_are_a_checksum_error(rt: HostRuntime) -> Result<(), Fail> {
+    let alloc = rt.alloc();
+    let mut source = MemSource::new(list(alloc, WRITE_THEN_READ.script)?, List::new(alloc));
+    let mut sink = MemSink::new(alloc, 256, List::new(alloc))?;
+    let mut shelf = ForgetfulShelf::new();
+    let words = words_of(alloc, &["run", "a"])?;
+    let mut journal = Journal::new(alloc);
+    let status = zio_serial_main(
+        alloc,
+        words.as_slice(),
+        &mut source,
+        &mut shelf,
+        &mut sink,
+        &mut journal,
+    );
+    assert_eq!(rt; status.code, 0);
+    assert_eq!(rt;
+        sink.held(),
+        b"pool 1 1\nround 1 batch 1 point 0\n1 write x ok 512\nround 2 batch 2 point 0\n\
+        2 read x ECKSUM\nend 0\n"
+            .as_slice()
+    );
+    assert_eq!(rt; shelf.reads(), 2, "the read is made once more");
+    Ok(())
 }

@@ -1,3 +1,7 @@
+ghost use Rattle.std.specs.Prelude.{◌≡◌, ◌↔◌, IsTrue, MatchOption};
+ghost use Rattle.std.specs.List.{All};
+ghost use Rattle.zio_script.specs.FirstForm.{IsName, IsNameChar};
+
 use std::marker::Model;
 
 /// The most characters of a name.
@@ -25,4 +29,33 @@ impl Model for Name {
     ghost inverse = { λ t. record { len = length t; bytes = filled_to 0 16 t } };
 
     ghost inverse_ok = { λ n h i. record { len = length-take-filled 0 16 n.len n.bytes h i; bytes = sym h.rest i } };
+}
+
+impl Name {
+    /// The name that the word is.
+    pub(crate) fn from_word(word: &[u8]) -> Option<Name>
+        ensures { MatchOption result (IsName word.now → ⊥) (λ name. IsName word.now × (name ≡ word.now)) }
+    {
+        if word.is_empty() || word.len() > NAME_LEN_MAX as usize || !are_name_chars(word) {
+            return None;
+        }
+        let mut bytes = [0; 16];
+        bytes[..word.len()].copy_from_slice(word);
+        Some(Name {
+            len: word.len() as u32,
+            bytes,
+        })
+    }
+}
+
+fn are_name_chars(word: &[u8]) -> bool
+    ensures { IsTrue result ↔ All IsNameChar word.now }
+{
+    word.iter().all(|c| is_name_char(*c))
+}
+
+fn is_name_char(c: u8) -> bool
+    ensures { IsTrue result ↔ IsNameChar c }
+{
+    matches!(c, b'a'..=b'z' | b'0'..=b'9' | b'_')
 }

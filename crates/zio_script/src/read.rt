@@ -1,9 +1,12 @@
-ghost use Rattle.std.specs.Prelude.{◌≡◌, IfOk, IfErr, MatchOption};
-ghost use Rattle.zio_script.specs.FirstForm.{IsFaultOf, IsReason, IsScriptOf, first_line, shortest_script};
+ghost use Rattle.std.specs.Prelude.{◌≡◌, ◌++◌, ◌∷◌, [], ◌≤◌, codes, length, IfOk, IfErr, OnOk};
+ghost use Rattle.zio_script.specs.FirstForm.{IsReason, IsScriptOf, fault_at};
+ghost use Rattle.zio_script.specs.Reading.{first_script};
 
-use crate::{Failmode, Script, ScriptError, ScriptFault};
+use crate::line::request_line;
+use crate::word::skip;
+use crate::{Failmode, Item, Request, Script, ScriptError, ScriptFault};
 use std::alloc::{AllocError, Global};
-use zio_types::List;
+use zio_types::{List, NoMemory};
 
 /// The most bytes of a script.
 pub const SCRIPT_LEN_MAX: usize = 16 * 1024 * 1024;
@@ -14,41 +17,69 @@ const WHY_NOT_BUILT: u32 = 10;
 /// The reason of a text that is too long, at line 0.
 const WHY_TOO_LONG: u32 = 3;
 
-/// The script that a text is, or its first faulty line.
+/// The script that a text is, or its first faulty line with the least reason why it is one. Line 0 says that the text has
+/// more than `SCRIPT_LEN_MAX` bytes; a line that is missing at the end counts as the line after the last.
 pub fn read_script(alloc: Global, bytes: &[u8]) -> Result<Script, ScriptError>
     ensures script { IfOk result (IsScriptOf bytes.now) }
     ensures fault { IfErr result (IsReason bytes.now) }
 {
-    if let Some(fault) = first_fault(bytes) {
-        return Err(ScriptError::Fault(fault));
-    }
-    shortest(alloc).map_err(|_| ScriptError::Memory)
-}
-
-fn first_fault(bytes: &[u8]) -> Option<ScriptFault>
-    ensures { MatchOption result (bytes.now ≡ first_line) (IsFaultOf bytes.now) }
-{
     if bytes.len() > SCRIPT_LEN_MAX {
-        return Some(ScriptFault {
-            line: 0,
-            why: WHY_TOO_LONG,
-        });
+        return Err(fault_at(0, WHY_TOO_LONG));
     }
-    match bytes.strip_prefix(b"top 0\n") {
-        None => Some(ScriptFault {
-            line: 1,
-            why: WHY_NOT_BUILT,
-        }),
-        Some(rest) if rest.is_empty() => None,
-        Some(_) => Some(ScriptFault {
-            line: 2,
-            why: WHY_NOT_BUILT,
-        }),
-    }
+    let Some(rest) = skip(bytes, b"top 0\n") else {
+        return Err(fault_at(1, WHY_NOT_BUILT));
+    };
+    let items = read_items(alloc, rest)?;
+    let Ok(script) = first_script(alloc, items) else {
+        return Err(ScriptError::Memory);
+    };
+    Ok(script)
 }
 
-fn shortest(alloc: Global) -> Result<Script, AllocError>
-    ensures { IfOk result (λ script. script ≡ shortest_script) }
+// The items of a text that follows the line of the top.
+fn read_items(alloc: Global, text: &[u8]) -> Result<List<Item>, ScriptError>
+    requires { length (codes "top 0\n" ++ text.now) ≤ SCRIPT_LEN_MAX }
+    ensures script { IfOk result (λ items. IsScriptOf (codes "top 0\n" ++ text.now) (first_script items)) }
+    ensures fault { IfErr result (IsReason (codes "top 0\n" ++ text.now)) }
+{
+    let mut items = List::new(alloc);
+    let mut rest = text;
+    let mut last = None;
+    let mut line = 2;
+    while !rest.is_empty() {
+        let Some((request, after)) = request_line(last, rest) else {
+            return Err(fault_at(line, WHY_NOT_BUILT));
+        };
+        let Some(after) = skip(after, b"go\n") else {
+            return Err(fault_at(line + 1, WHY_NOT_BUILT));
+        };
+        last = Some(request.number);
+        let Ok(()) = push_batch(&mut items, request) else {
+            return Err(ScriptError::Memory);
+        };
+        rest = after;
+        line += 2;
+    }
+    Ok(items)
+}
+
+fn fault_at(line: u32, why: u32) -> ScriptError
+    ensures { result ≡ ScriptError.Fault (fault_at line why) }
+{
+    ScriptError::Fault(ScriptFault { line, why })
+}
+
+// Adds the request and its `go`.
+fn push_batch(items: &mut List<Item>, request: Request) -> Result<(), NoMemory>
+    ensures { OnOk result (items.new ≡ items.old ++ (Item.Request request ∷ Item.Go ∷ [])) }
+{
+    items.push(Item::Request(request))?;
+    items.push(Item::Go)?;
+    Ok(())
+}
+
+fn first_script(alloc: Global, items: List<Item>) -> Result<Script, AllocError>
+    ensures { IfOk result (λ script. script ≡ first_script items) }
 {
     let leaves = vec![in alloc; 0]?;
     let tops = vec![in alloc; List::from_vec(leaves)]?;
@@ -56,6 +87,6 @@ fn shortest(alloc: Global) -> Result<Script, AllocError>
         failmode: Failmode::Wait,
         tops: List::from_vec(tops),
         faults: List::new(alloc),
-        items: List::new(alloc),
+        items,
     })
 }

@@ -12,4 +12,5 @@ pub mod GangCases
 pub mod JournalCases
 pub mod LawfulChoices
 pub mod MirrorCases
+pub mod ScriptCases
 pub mod SuspensionCases

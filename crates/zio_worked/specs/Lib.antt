@@ -8,5 +8,6 @@ pub mod Formats
 pub mod Gangs
 pub mod LawfulJournals
 pub mod Mirrors
+pub mod ScriptTexts
 pub mod Scripts
 pub mod Suspension

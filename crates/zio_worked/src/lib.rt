@@ -11,6 +11,7 @@ mod formats;
 mod gangs;
 mod journals;
 mod mirrors;
+mod scripts;
 mod suspension;
 
 pub use admission::admission_answers_whole_trees;
@@ -23,4 +24,5 @@ pub use formats::formats_are_spelled;
 pub use gangs::gangs_take_scattered_space;
 pub use journals::lawful_journals_answer_what_is_asked;
 pub use mirrors::mirrors_give_and_mend;
+pub use scripts::scripts_are_read;
 pub use suspension::suspended_trees_wait_for_a_clear;

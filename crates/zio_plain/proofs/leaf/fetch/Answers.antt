@@ -1,0 +1,42 @@
+use Rattle.std.proofs.Common.{◌≡◌, ◌<◌, List, ℕ, ◌++◌, length, take, drop, subst, arith}
+use Rattle.std.proofs.lemmas.Result.{err_from_is_err_and}
+use Rattle.zio_cksum.specs.Images.{Spot, bytes_at, image_of}
+use Rattle.zio_plain.proofs.DiskLemmas.{handles_none, handles_one, tell_at, tell_kept, fetched, spot_within}
+use Rattle.zio_plain.proofs.leaf.fetch.Goals as goal
+
+pub returns-in_err-bytes-clause-handled : goal.returns-in_err-bytes-clause-handled
+returns-in_err-bytes-clause-handled g c =
+    let p = err_from_is_err_and c.from_residual.result c.from_residual.ensures.1 in
+    let is = p.1 in
+    let same = p.2 in
+    let memory = c.in_err-bytes.ensures.err in
+    handles_none g.D.Disk.bytes g.D.Disk.faults g.D.Disk.faults_at_fetch g.D.Disk.home g.D.Disk.image _ c.args.disks.now (λ e. cc)
+
+pub returns-in-Ok-clause-told : goal.returns-in-Ok-clause-told
+returns-in-Ok-clause-told g c images tell =
+    let spot : Spot = record { leaf = c.spot.inside.leaf; at = c.spot.inside.at } in
+    let view : spot ≡ c.args.spot.now = c.spot.view_is in
+    let within : c.spot.inside.leaf < length c.args.disks.now = spot_within g.D.Disk.bytes c.args.disks.now spot c.args.spot.now c.args.len view c.requires.some c.requires.lies in
+    let there : List ℕ = drop spot.at (image_of images spot.leaf) in
+    let read : c.read_at.new.buffer ≡ take (length c.read_at.new.buffer) there =
+    c.in-Ok.ensures.read (image_of images spot.leaf) (tell_at g.D.Disk.image c.args.disks.now images spot.leaf c.index-disks-leaf.result tell within) in
+    let len : c.in_ok-bytes.bytes.len ≡ c.args.len = c.in_ok-bytes.ensures.ok in
+    let kept = c.read_at.auto.buffer in
+    let given = c.as_mut_slice.ensures.len in
+    let whole : length c.read_at.new.buffer ≡ c.args.len = omega arith in (
+      subst (λ (s : Spot). take c.in_ok-bytes.bytes.len (c.read_at.new.buffer ++ drop (length c.read_at.new.buffer) c.in_ok-bytes.bytes.items) ≡ bytes_at images s c.args.len) view
+          (fetched there c.read_at.new.buffer (drop (length c.read_at.new.buffer) c.in_ok-bytes.bytes.items) c.in_ok-bytes.bytes.len c.args.len whole len read),
+      tell_kept g.D.Disk.image c.args.disks.now images spot.leaf c.index-disks-leaf.result c.read_at.new.self c.in-Ok.ensures.image tell,
+    )
+
+pub returns-in-Ok-clause-handled : goal.returns-in-Ok-clause-handled
+returns-in-Ok-clause-handled g c =
+    let within = spot_within g.D.Disk.bytes c.args.disks.now (record { leaf = c.spot.inside.leaf; at = c.spot.inside.at }) c.args.spot.now c.args.len c.spot.view_is c.requires.some c.requires.lies in
+    handles_one g.D.Disk.bytes g.D.Disk.faults g.D.Disk.faults_at_fetch g.D.Disk.home g.D.Disk.image _ c.args.disks.now c.spot.inside.leaf c.index-disks-leaf.result c.read_at.new.self
+    within c.in-Ok.ensures.bytes c.in-Ok.ensures.at_fetch c.in-Ok.ensures.home (λ content told. (content, (c.in-Ok.ensures.image content).0 told)) c.in-Ok.ensures.count.ok (λ e. cc)
+
+pub returns-in-Err-clause-handled : goal.returns-in-Err-clause-handled
+returns-in-Err-clause-handled g c =
+    let within = spot_within g.D.Disk.bytes c.args.disks.now (record { leaf = c.spot.inside.leaf; at = c.spot.inside.at }) c.args.spot.now c.args.len c.spot.view_is c.requires.some c.requires.lies in
+    handles_one g.D.Disk.bytes g.D.Disk.faults g.D.Disk.faults_at_fetch g.D.Disk.home g.D.Disk.image _ c.args.disks.now c.spot.inside.leaf c.index-disks-leaf.result c.read_at.new.self
+    within c.in-Err.ensures.bytes c.in-Err.ensures.at_fetch c.in-Err.ensures.home (λ content told. (content, (c.in-Err.ensures.image content).0 told)) tt (λ e. c.in-Err.ensures.count.failed)

@@ -1,0 +1,199 @@
+// What one operation on a leaf answers and leaves.
+
+ghost use Rattle.std.specs.Prelude.{◌≡◌, ◌+◌, ◌*◌, ◌≤◌, ◌<◌, ◌^◌, IfErr, IfOk, None, ℕ, length, map, slice_index_or, vec_len};
+ghost use Rattle.std.specs.List.{AllByRecursion};
+ghost use Rattle.zio_faults.specs.Hits.{RowFits, flipped};
+ghost use Rattle.zio_cksum.specs.Blocks.{spot_in};
+ghost use Rattle.zio_cksum.specs.Headers.{offset_of};
+ghost use Rattle.zio_cksum.specs.Images.{Images, bytes_at, faulty_read, faulty_write, met, read_leaf, with_bytes, write_leaf};
+ghost use Rattle.zio_plain.specs.Disks.{Handles, Tell};
+
+use crate::setting::{Setting, Spot, Stop};
+use std::alloc::Global;
+use zio_faults::{FaultKind, Hit, flip};
+use zio_outside::Disk;
+use zio_types::{Bytes, Errno, Place, SECTOR_SIZE};
+
+/// The size of a leaf's disk in bytes, 0 of a leaf that isn't there.
+fn size_of<D: Disk>(disks: &[D], leaf: u32) -> u64
+    ensures { result ≡ slice_index_or (map D.bytes disks.now) leaf 0 }
+{
+    match disks.get(leaf as usize) {
+        Some(disk) => disk.size(),
+        None => 0,
+    }
+}
+
+/// Where the place begins on the leaf, whose size is a number of 64 bits.
+pub(crate) fn spot_in<D: Disk>(disks: &[D], place: &Place, leaf: u32) -> Spot
+    requires { offset_of place.now ≤ slice_index_or (map D.bytes disks.now) leaf 0 }
+    ensures spot { result ≡ spot_in place.now leaf }
+    ensures room { slice_index_or (map D.bytes disks.now) leaf 0 < 2 ^ 64 }
+{
+    // A proof knows the bound of a size once it is asked for.
+    let _size = size_of(disks, leaf);
+    let at = place.sector * u64::from(SECTOR_SIZE);
+    Spot { leaf, at }
+}
+
+/// Reads from a leaf, as its disk or the row that the read meets says.
+pub(crate) fn read_leaf<D: Disk>(
+    alloc: Global,
+    setting: &Setting,
+    disks: &mut [D],
+    retry: bool,
+    len: u32,
+    spot: &Spot,
+) -> Result<Result<Bytes, Errno>, Stop>
+    requires rows { AllByRecursion RowFits setting.now.rows }
+    requires some { 0 < len }
+    requires room { spot.now.at + len < 2 ^ 64 }
+    requires lies { spot.now.at + len ≤ slice_index_or (map D.bytes disks.old) spot.now.leaf 0 }
+    ensures len { IfOk result (λ answer. IfOk answer (λ bytes. length bytes ≡ len)) }
+    ensures told { IfOk result (λ answer. (images : Images) → Tell D.image disks.old images →
+        (answer ≡ read_leaf setting.now retry images len spot.now) × Tell D.image disks.new images) }
+    ensures handled { Handles D.bytes D.faults D.faults_at_fetch D.home D.image result disks.old disks.new }
+{
+    match setting.hit(retry, false, spot, u64::from(len)) {
+        None => {
+            let bytes = fetch(alloc, disks, len, spot)?;
+            Ok(Ok(Bytes::from_vec(bytes)))
+        }
+        Some(hit) => read_faulty(alloc, disks, len, spot, &hit),
+    }
+}
+
+fn read_faulty<D: Disk>(
+    alloc: Global,
+    disks: &mut [D],
+    len: u32,
+    spot: &Spot,
+    hit: &Hit,
+) -> Result<Result<Bytes, Errno>, Stop>
+    requires from { spot.now.at ≤ hit.now.at }
+    requires to { hit.now.at + hit.now.len ≤ spot.now.at + len }
+    requires some { 0 < len }
+    requires lies { spot.now.at + len ≤ slice_index_or (map D.bytes disks.old) spot.now.leaf 0 }
+    ensures len { IfOk result (λ answer. IfOk answer (λ bytes. length bytes ≡ len)) }
+    ensures told { IfOk result (λ answer. (images : Images) → Tell D.image disks.old images →
+        (answer ≡ faulty_read hit.now.kind hit.now spot.now.at (bytes_at images spot.now len))
+        × Tell D.image disks.new images) }
+    ensures handled { Handles D.bytes D.faults D.faults_at_fetch D.home D.image result disks.old disks.new }
+{
+    match hit.kind {
+        FaultKind::Eio => Ok(Err(Errno::Io)),
+        FaultKind::Gone => Ok(Err(Errno::Nxio)),
+        FaultKind::Flip => {
+            let mut bytes = fetch(alloc, disks, len, spot)?;
+            flip(bytes.as_mut_slice(), spot.at, hit);
+            Ok(Ok(Bytes::from_vec(bytes)))
+        }
+    }
+}
+
+/// The bytes that the disk of a leaf has there.
+fn fetch<D: Disk>(alloc: Global, disks: &mut [D], len: u32, spot: &Spot) -> Result<Vec<u8>, Stop>
+    requires some { 0 < len }
+    requires lies { spot.now.at + len ≤ slice_index_or (map D.bytes disks.old) spot.now.leaf 0 }
+    ensures len { IfOk result (λ bytes. vec_len bytes ≡ len) }
+    ensures told { IfOk result (λ bytes. (images : Images) → Tell D.image disks.old images →
+        (bytes.items ≡ bytes_at images spot.now len) × Tell D.image disks.new images) }
+    ensures handled { Handles D.bytes D.faults D.faults_at_fetch D.home D.image result disks.old disks.new }
+{
+    let mut bytes = zeros(alloc, len)?;
+    let leaf = spot.leaf as usize;
+    match disks[leaf].read_at(spot.at, bytes.as_mut_slice()) {
+        Ok(()) => Ok(bytes),
+        Err(_) => Err(Stop::Device),
+    }
+}
+
+fn zeros(alloc: Global, len: u32) -> Result<Vec<u8>, Stop>
+    ensures ok { IfOk result (λ bytes. vec_len bytes ≡ len) }
+    ensures err { IfErr result (λ stop. stop ≡ Stop.Memory) }
+{
+    match vec![in alloc; 0; len as usize] {
+        Ok(bytes) => Ok(bytes),
+        Err(_) => Err(Stop::Memory),
+    }
+}
+
+/// Writes to a leaf, as its disk or the row that the write meets says.
+pub(crate) fn write_leaf<D: Disk>(
+    alloc: Global,
+    setting: &Setting,
+    disks: &mut [D],
+    retry: bool,
+    bytes: &[u8],
+    spot: &Spot,
+) -> Result<Option<Errno>, Stop>
+    requires rows { AllByRecursion RowFits setting.now.rows }
+    requires room { spot.now.at + length bytes.now < 2 ^ 64 }
+    requires lies { spot.now.at + length bytes.now ≤ slice_index_or (map D.bytes disks.old) spot.now.leaf 0 }
+    ensures told { IfOk result (λ error. (images : Images) → Tell D.image disks.old images →
+        (error ≡ (write_leaf setting.now retry bytes.now images spot.now).error)
+        × Tell D.image disks.new (write_leaf setting.now retry bytes.now images spot.now).images) }
+    ensures handled { Handles D.bytes D.faults D.faults_at_fetch D.home D.image result disks.old disks.new }
+{
+    match setting.hit(retry, true, spot, bytes.len() as u64) {
+        None => store(disks, bytes, spot),
+        Some(hit) => write_faulty(alloc, disks, bytes, spot, &hit),
+    }
+}
+
+fn write_faulty<D: Disk>(
+    alloc: Global,
+    disks: &mut [D],
+    bytes: &[u8],
+    spot: &Spot,
+    hit: &Hit,
+) -> Result<Option<Errno>, Stop>
+    requires from { spot.now.at ≤ hit.now.at }
+    requires to { hit.now.at + hit.now.len ≤ spot.now.at + length bytes.now }
+    requires lies { spot.now.at + length bytes.now ≤ slice_index_or (map D.bytes disks.old) spot.now.leaf 0 }
+    ensures told { IfOk result (λ error. (images : Images) → Tell D.image disks.old images →
+        (error ≡ (faulty_write hit.now.kind hit.now images spot.now bytes.now).error)
+        × Tell D.image disks.new (faulty_write hit.now.kind hit.now images spot.now bytes.now).images) }
+    ensures handled { Handles D.bytes D.faults D.faults_at_fetch D.home D.image result disks.old disks.new }
+{
+    match hit.kind {
+        FaultKind::Eio => Ok(Some(Errno::Io)),
+        FaultKind::Gone => Ok(Some(Errno::Nxio)),
+        FaultKind::Flip => {
+            let turned = turned(alloc, bytes, spot.at, hit)?;
+            store(disks, turned.as_slice(), spot)
+        }
+    }
+}
+
+/// A copy of the bytes, with those inverted that the hit covers.
+fn turned(alloc: Global, bytes: &[u8], at: u64, hit: &Hit) -> Result<Bytes, Stop>
+    requires from { at ≤ hit.now.at }
+    requires to { hit.now.at + hit.now.len ≤ at + length bytes.now }
+    ensures ok { IfOk result (λ turned. turned ≡ flipped at hit.now bytes.now) }
+    ensures err { IfErr result (λ stop. stop ≡ Stop.Memory) }
+{
+    let mut copy = Vec::new(alloc);
+    if copy.extend_from_slice(bytes).is_err() {
+        return Err(Stop::Memory);
+    }
+    flip(copy.as_mut_slice(), at, hit);
+    Ok(Bytes::from_vec(copy))
+}
+
+/// Stores the bytes. Where the leaf isn't there they are none.
+fn store<D: Disk>(disks: &mut [D], bytes: &[u8], spot: &Spot) -> Result<Option<Errno>, Stop>
+    requires { spot.now.at + length bytes.now ≤ slice_index_or (map D.bytes disks.old) spot.now.leaf 0 }
+    ensures told { IfOk result (λ error. (images : Images) → Tell D.image disks.old images →
+        (error ≡ None) × Tell D.image disks.new (with_bytes images spot.now bytes.now)) }
+    ensures handled { Handles D.bytes D.faults D.faults_at_fetch D.home D.image result disks.old disks.new }
+{
+    let leaf = spot.leaf as usize;
+    if leaf >= disks.len() {
+        return Ok(None);
+    }
+    match disks[leaf].write_at(spot.at, bytes) {
+        Ok(()) => Ok(None),
+        Err(_) => Err(Stop::Device),
+    }
+}

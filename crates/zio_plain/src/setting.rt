@@ -1,0 +1,72 @@
+ghost use Rattle.std.specs.Prelude.{◌≡◌, ◌+◌, ◌<◌, ◌^◌};
+ghost use Rattle.std.specs.List.{AllByRecursion};
+ghost use Rattle.zio_faults.specs.Hits.{RowFits};
+ghost use Rattle.zio_cksum.specs.Blocks.{leaves_of};
+ghost use Rattle.zio_cksum.specs.Images.{met};
+
+use std::marker::Model;
+use zio_faults::{Hit, Table};
+use zio_types::{List, Place, Top};
+
+/// What an operation on a leaf depends on beside the disks.
+#[derive(Debug, Drop)]
+pub(crate) struct Setting {
+    pub(crate) tops: List<Top>,
+    pub(crate) table: Table,
+    /// The resume point.
+    pub(crate) point: u32,
+}
+
+impl Model for Setting {
+    ghost use Rattle.zio_cksum.specs.Images.{Setting as Seen};
+
+    ghost Value = { Seen };
+
+    ghost view = { λ s. record { tops = s.tops; rows = s.table.rows; point = s.point } };
+}
+
+impl Setting {
+    /// The place's leaves, in the order of the top.
+    pub(crate) fn leaves(&self, place: &Place) -> &[u32]
+        ensures { result.now ≡ leaves_of self.now place.now }
+    {
+        match self.tops.as_slice().get(place.top as usize) {
+            Some(top) => top.leaves.as_slice(),
+            None => &[],
+        }
+    }
+
+    /// The row that an operation meets.
+    pub(crate) fn hit(&self, retry: bool, write: bool, spot: &Spot, len: u64) -> Option<Hit>
+        requires rows { AllByRecursion RowFits self.now.rows }
+        requires room { spot.now.at + len < 2 ^ 64 }
+        ensures { result ≡ met self.now retry write spot.now len }
+    {
+        self.table
+            .hit(spot.leaf, write, spot.at, len, self.point, retry)
+    }
+}
+
+/// Where an operation goes: a leaf and a byte of it.
+#[derive(Debug, Drop)]
+pub(crate) struct Spot {
+    pub(crate) leaf: u32,
+    pub(crate) at: u64,
+}
+
+impl Model for Spot {
+    ghost use Rattle.zio_cksum.specs.Images.{Spot as Seen};
+
+    ghost Value = { Seen };
+
+    ghost view = { λ s. record { leaf = s.leaf; at = s.at } };
+}
+
+/// Why an operation on blocks was stopped.
+#[derive(Clone, Copy, Debug, PartialEq, Eq)]
+pub(crate) enum Stop {
+    /// A disk failed.
+    Device,
+    /// Want of memory.
+    Memory,
+}

@@ -1,0 +1,9 @@
+use Rattle.std.proofs.Common.{◌≡◌, take}
+use Rattle.std.specs.Str.Parse.{AllDigits, digits_value}
+use Rattle.zio_script.proofs.word.digits_value.Given as goal
+
+abbrev pub invariant-loop-c : goal.invariant-loop-c
+invariant-loop-c l = record {
+  digits : AllDigits 10 (take l.c-index l.word);
+  value : l.number ≡ digits_value 10 (take l.c-index l.word);
+}

@@ -1,0 +1,111 @@
+-- Which texts are scripts, and the first faulty line of those that aren't, with the least why: docs/FORMATS.md, "Script".
+use Rattle.std.specs.Prelude.{◌≡◌, ℕ, ◌+◌, List, [], ◌∷◌, ◌++◌, length, Bool, true, false, nat_le, Option, Some, None, Result, Ok, Err}
+use Rattle.std.specs.Result.{result_ok, result_err}
+use Rattle.zio_script.specs.declared.read.TheConstants.{SCRIPT_LEN_MAX}
+use Rattle.zio_script.specs.declared.script.Item.{Item}
+use Rattle.zio_script.specs.declared.script.Item.TheVariants.{Request as RequestItem, Go, Clear}
+use Rattle.zio_script.specs.declared.script.Script.{Script}
+use Rattle.zio_script.specs.declared.script.ScriptFault.{ScriptFault}
+use Rattle.zio_script.specs.Lines.{Line, FailmodeLine, TopLine, FaultLine, RequestLine, GoLine, ClearLine, Shape, shape_of, line_of}
+use Rattle.zio_script.specs.Whys.{Before, nothing_before, open_batch, request_in, whys_of, whys_at_end, least_why}
+use Rattle.zio_script.specs.Words.{Word, is_skipped, lines_of, words_of}
+
+-- ---- the script of the lines
+
+-- a line stands before now
+abbrev pub begun_with : Script → Before
+begun_with script = record { begun = true; script = script }
+
+-- one more item
+abbrev pub with_item : Script → Item → Before
+with_item script item = begun_with (record script { items = script.items ++ item ∷ [] })
+
+-- the script so far, with a line that has no fault
+abbrev pub script_with : Script → Line → Before
+script_with script (FailmodeLine mode) = begun_with (record script { failmode = mode })
+script_with script (TopLine leaves) = begun_with (record script { tops = script.tops ++ leaves ∷ [] })
+script_with script (FaultLine row) = begun_with (record script { faults = script.faults ++ row ∷ [] })
+script_with script (RequestLine asked) = with_item script (RequestItem (request_in (open_batch script) asked))
+script_with script GoLine = with_item script Go
+script_with script ClearLine = with_item script Clear
+
+-- a why that applies, or else the value
+abbrev pub unless_why : {X : Type 0} → Option ℕ → X → Result X ℕ
+unless_why None x = Ok x
+unless_why (Some n) x = Err n
+
+-- why 2 where a number or a hexadecimal word is wrong, else the least of the others
+abbrev pub after_line : Before → Option Line → Result Before ℕ
+after_line before None = Err 2
+after_line before (Some line) = unless_why (least_why (whys_of before line)) (script_with before.script line)
+
+-- why 1 where the line has no shape
+abbrev pub after_shape : Before → Option Shape → Result Before ℕ
+after_shape before None = Err 1
+after_shape before (Some shape) = after_line before (line_of shape)
+
+-- why 10 where the form isn't built, and then nothing else of the line is looked at
+abbrev pub after_form : Bool → Before → List Word → Result Before ℕ
+after_form false before words = Err 10
+after_form true before words = after_shape before (shape_of words)
+
+-- a skipped line changes nothing
+abbrev pub unless_skipped : Bool → Before → Result Before ℕ → Result Before ℕ
+unless_skipped true before after = Ok before
+unless_skipped false before after = after
+
+-- the script after one more line, or the line's least why
+abbrev pub after_words : (List Word → Bool) → Before → List Word → Result Before ℕ
+after_words is_built before words = unless_skipped (is_skipped words) before (after_form (is_built words) before words)
+
+-- ---- texts
+
+-- a faulty line and its why
+abbrev pub fault_at : ℕ → ℕ → ScriptFault
+fault_at line number = record { line = line; why = number }
+
+-- the rest is read only after a line without a fault
+abbrev pub read_on : ℕ → Result Before ℕ → (Before → Result Script ScriptFault) → Result Script ScriptFault
+read_on line (Err n) rest = Err (fault_at line n)
+read_on line (Ok before) rest = rest before
+
+-- a fault at the end stands at the number after the last line
+abbrev pub ended : ℕ → Option ℕ → Script → Result Script ScriptFault
+ended line None script = Ok script
+ended line (Some n) script = Err (fault_at line n)
+
+-- the lines from this number on, after those before
+unfoldable pub read_lines : (List Word → Bool) → ℕ → List Word → Before → Result Script ScriptFault
+read_lines is_built n [] before = ended n (least_why (whys_at_end before.script)) before.script
+read_lines is_built n (line ∷ lines) before =
+    read_on n (after_words is_built before (words_of line)) (read_lines is_built (n + 1) lines)
+
+-- a text that is too long is why 3 at line 0
+abbrev pub read_short : Bool → (List Word → Bool) → List ℕ → Result Script ScriptFault
+read_short false is_built text = Err (fault_at 0 3)
+read_short true is_built text = read_lines is_built 1 (lines_of text) nothing_before
+
+-- The script that a text is, or its first faulty line with the least why. The test says by the words of a line, whatever
+-- they are, whether its form is built.
+abbrev pub reading : (List Word → Bool) → List ℕ → Result Script ScriptFault
+reading is_built text = read_short (nat_le (length text) SCRIPT_LEN_MAX) is_built text
+
+-- all forms are built
+abbrev pub all_built : List Word → Bool
+all_built words = true
+
+-- the script that a text is, if it has no fault
+abbrev pub script_of : (List Word → Bool) → List ℕ → Option Script
+script_of is_built text = result_ok (reading is_built text)
+
+-- the fault of a text, if it is no script
+abbrev pub fault_of : (List Word → Bool) → List ℕ → Option ScriptFault
+fault_of is_built text = result_err (reading is_built text)
+
+-- the text is this script
+abbrev pub IsScriptIn : (List Word → Bool) → List ℕ → Script → Type 0
+IsScriptIn is_built text script = reading is_built text ≡ Ok script
+
+-- the text has this first faulty line, with this least why
+abbrev pub IsFaultIn : (List Word → Bool) → List ℕ → ScriptFault → Type 0
+IsFaultIn is_built text fault = reading is_built text ≡ Err fault

@@ -1,0 +1,85 @@
+//! The program `zio_serial`: runs a script on an image file, on one thread.
+//!
+//! It joins `zio_serial_main` to standard input, standard output and files, and ends with its code as the exit status.
+//! What a run does is the contract of that call. Only the single words `--help` and `--version` are answered here, as
+//! `about` says.
+#![tactic(auto)]
+
+mod about;
+#[cfg(test)]
+mod tests;
+
+use about::{asked, text_of};
+use std::alloc::AllocError;
+use std::env;
+use std::fs::File;
+use std::io::ErrorKind;
+use std::process::ExitCode;
+use zio_outside::{FileShelf, Sink, StdSink, StdSource};
+use zio_run::zio_serial_main;
+use zio_types::Journal;
+
+/// The status where standard output couldn't be written.
+const CODE_SINK: u8 = 6;
+
+/// The status for want of memory.
+const CODE_MEMORY: u8 = 8;
+
+fn main(rt: HostRuntime) -> ExitCode {
+    let _stand_ins = [stand_in(&rt), stand_in(&rt), stand_in(&rt)];
+    let code = match words(&rt) {
+        Ok(words) => answer(&rt, words.as_slice()),
+        Err(_) => CODE_MEMORY,
+    };
+    ExitCode::from(code)
+}
+
+/// Takes the place of a standard stream that the program was started without: an image would be opened there, and be
+/// overwritten by the report. A directory can be neither read nor written, so the stream fails as it would have.
+fn stand_in(rt: &HostRuntime) -> Option<File> {
+    File::open(rt, "/").ok()
+}
+
+/// The words after the program's name, or no words where one isn't UTF-8, since no command has such a word.
+fn words(rt: &HostRuntime) -> Result<Vec<String>, AllocError> {
+    let alloc = rt.alloc();
+    match env::args(rt) {
+        Ok(words) => words.skip(1).collect(alloc),
+        Err(error) if error.kind() == ErrorKind::InvalidData => Ok(Vec::new(alloc)),
+        Err(_) => Err(AllocError),
+    }
+}
+
+fn answer(rt: &HostRuntime, words: &[String]) -> u8 {
+    match asked(words) {
+        Some(question) => match text_of(rt.alloc(), question) {
+            Ok(text) => tell(rt, text.as_str()),
+            Err(_) => CODE_MEMORY,
+        },
+        None => run(rt, words),
+    }
+}
+
+fn tell(rt: &HostRuntime, text: &str) -> u8 {
+    match StdSink::new(rt).write(text.as_bytes()) {
+        Ok(()) => 0,
+        Err(_) => CODE_SINK,
+    }
+}
+
+fn run(rt: &HostRuntime, words: &[String]) -> u8 {
+    let alloc = rt.alloc();
+    let mut script = StdSource::new(rt);
+    let mut shelf = FileShelf::new(rt);
+    let mut out = StdSink::new(rt);
+    let mut journal = Journal::new(alloc);
+    zio_serial_main(
+        alloc,
+        words,
+        &mut script,
+        &mut shelf,
+        &mut out,
+        &mut journal,
+    )
+    .code
+}

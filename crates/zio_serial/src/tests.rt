@@ -1,0 +1,30 @@
+use crate::about::{Question, text_of};
+use std::test::Fail;
+
+#[test]
+fn the_version_is_that_of_the_program(rt: HostRuntime) -> Result<(), Fail> {
+    let text = text_of(rt.alloc(), Question::Version)?;
+    assert_eq!(rt; text.as_str(), "zio_serial 0.1.0\n");
+    Ok(())
+}
+
+#[test]
+fn the_help_has_a_line_for_each_code(rt: HostRuntime) -> Result<(), Fail> {
+    let text = text_of(rt.alloc(), Question::Help)?;
+    let mut codes = Vec::new(rt.alloc());
+    for line in text.as_str().lines() {
+        if let Some((code, _)) = line.trim().split_once("  ") {
+            if let Ok(code) = code.parse::<u8>() {
+                codes.push(code)?;
+            }
+        }
+    }
+    assert_eq!(rt; codes.as_slice(), [0, 1, 2, 3, 5, 6, 7, 8].as_slice());
+    assert!(rt;
+        text.as_str()
+            .contains("\nUsage: zio_serial run IMAGE < SCRIPT\n"),
+        "{text}"
+    );
+    assert!(rt; text.as_str().ends_with('\n'), "{text}");
+    Ok(())
+}

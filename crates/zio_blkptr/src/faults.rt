@@ -2,7 +2,12 @@ ghost use Rattle.std.specs.Prelude.{◌≡◌, ◌<◌, ◌≤◌, Some, None, E
 ghost use Rattle.zio_blkptr.specs.Pointers.{fields, has_sectors, place_field, pointer_of, sum_of_number};
 ghost use Rattle.zio_blkptr.specs.Faults.{first_fault, has_order_fault, has_field_fault, has_size_fault, has_dva_fault, is_sum_number, has_fixed_properties, are_fixed_words, has_places_in_front, are_good_places, has_place, is_good_place, is_place_of, is_no_place, sectors_wanted};
 
-use crate::packing::{bits, word_of};
+use crate::packing::word_of;
+use crate::parts::{
+    COMPRESSION_OFF, LITTLE_ENDIAN, above_top, byte_order, checksum, compression, content_type,
+    dedup, embedded, encrypted, gang_bit, grid, level, logical_size, physical_size, place_sector,
+    place_sectors, place_top,
+};
 use crate::pointer::{BLOCK_SIZE_MAX, Bp, BpFault, SumKind};
 use zio_types::{Place, SECTOR_SIZE};
 
@@ -37,7 +42,7 @@ fn first_fault(bytes: &[u8; 128]) -> Option<BpFault>
 fn has_order_fault(bytes: &[u8; 128]) -> bool
     ensures { result ≡ has_order_fault bytes.now }
 {
-    bits(word_of(bytes, 6), 63, 1) == 0
+    byte_order(word_of(bytes, 6)) != LITTLE_ENDIAN
 }
 
 fn has_field_fault(bytes: &[u8; 128]) -> bool
@@ -57,13 +62,13 @@ fn has_field_fault(bytes: &[u8; 128]) -> bool
 fn has_fixed_properties(properties: u64) -> bool
     ensures { result ≡ has_fixed_properties properties }
 {
-    bits(properties, 32, 7) == 2
-        && bits(properties, 39, 1) == 0
-        && is_sum_number(bits(properties, 40, 8))
-        && bits(properties, 48, 8) == 0
-        && bits(properties, 56, 5) == 0
-        && bits(properties, 61, 1) == 0
-        && bits(properties, 62, 1) == 0
+    compression(properties) == COMPRESSION_OFF
+        && embedded(properties) == 0
+        && is_sum_number(checksum(properties))
+        && content_type(properties) == 0
+        && level(properties) == 0
+        && encrypted(properties) == 0
+        && dedup(properties) == 0
 }
 
 fn is_sum_number(number: u64) -> bool
@@ -83,8 +88,8 @@ fn has_size_fault(bytes: &[u8; 128]) -> bool
     ensures { result ≡ has_size_fault bytes.now }
 {
     let properties = word_of(bytes, 6);
-    let logical = bits(properties, 0, 16);
-    let physical = bits(properties, 16, 16);
+    let logical = logical_size(properties);
+    let physical = physical_size(properties);
     !(logical == physical && (logical + 1) * u64::from(SECTOR_SIZE) <= u64::from(BLOCK_SIZE_MAX))
 }
 
@@ -110,7 +115,7 @@ fn has_place(bytes: &[u8; 128], i: usize) -> bool
     requires { i < 3 }
     ensures { result ≡ has_place bytes.now i }
 {
-    bits(word_of(bytes, 2 * i), 0, 24) > 0
+    place_sectors(word_of(bytes, 2 * i)) > 0
 }
 
 fn is_good_place(bytes: &[u8; 128], i: usize) -> bool
@@ -122,7 +127,7 @@ fn is_good_place(bytes: &[u8; 128], i: usize) -> bool
     if has_place(bytes, i) {
         is_place_of(
             sectors_wanted(bytes),
-            bits(word_of(bytes, 1), 63, 1),
+            gang_bit(word_of(bytes, 1)),
             first,
             second,
         )
@@ -134,10 +139,10 @@ fn is_good_place(bytes: &[u8; 128], i: usize) -> bool
 fn sectors_wanted(bytes: &[u8; 128]) -> u64
     ensures { result ≡ sectors_wanted bytes.now }
 {
-    if bits(word_of(bytes, 1), 63, 1) == 1 {
+    if gang_bit(word_of(bytes, 1)) == 1 {
         1
     } else {
-        bits(word_of(bytes, 6), 0, 16) + 1
+        logical_size(word_of(bytes, 6)) + 1
     }
 }
 
@@ -145,11 +150,11 @@ fn sectors_wanted(bytes: &[u8; 128]) -> u64
 fn is_place_of(sectors: u64, gang: u64, first: u64, second: u64) -> bool
     ensures { result ≡ is_place_of sectors gang first second }
 {
-    bits(first, 0, 24) == sectors
-        && bits(first, 24, 8) == 0
-        && bits(first, 56, 8) == 0
-        && bits(second, 0, 63) < 1 << 48
-        && bits(second, 63, 1) == gang
+    place_sectors(first) == sectors
+        && grid(first) == 0
+        && above_top(first) == 0
+        && place_sector(second) < 1 << 48
+        && gang_bit(second) == gang
 }
 
 // ---- what the fields hold
@@ -166,9 +171,9 @@ fn fields(bytes: &[u8; 128]) -> Bp
     Bp {
         count: count_present(&places),
         places,
-        gang: word_of(bytes, 1) >> 63 == 1,
-        size: (bits(properties, 0, 16) as u32 + 1) * SECTOR_SIZE,
-        sum: sum_of_number(bits(properties, 40, 8)),
+        gang: gang_bit(word_of(bytes, 1)) == 1,
+        size: (logical_size(properties) as u32 + 1) * SECTOR_SIZE,
+        sum: sum_of_number(checksum(properties)),
         birth: word_of(bytes, 10),
         words: [
             word_of(bytes, 12),
@@ -192,9 +197,9 @@ fn place_field(bytes: &[u8; 128], i: usize) -> Place
 {
     let first = word_of(bytes, 2 * i);
     Place {
-        top: bits(first, 32, 24) as u32,
-        sector: bits(word_of(bytes, 2 * i + 1), 0, 63),
-        sectors: bits(first, 0, 24) as u32,
+        top: place_top(first) as u32,
+        sector: place_sector(word_of(bytes, 2 * i + 1)),
+        sectors: place_sectors(first) as u32,
     }
 }
 

@@ -8,6 +8,7 @@
 mod faults;
 mod laws;
 mod packing;
+mod parts;
 mod pointer;
 mod spelling;
 

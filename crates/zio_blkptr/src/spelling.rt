@@ -3,6 +3,7 @@ ghost use Rattle.hex.specs.Hex.{encode_lower};
 ghost use Rattle.zio_blkptr.specs.Pointers.{valid, is_block_size, spelling, bit, sum_number, properties};
 
 use crate::packing::bytes_of;
+use crate::parts::{COMPRESSION_OFF, LITTLE_ENDIAN};
 use crate::pointer::{Bp, SumKind};
 use std::alloc::Global;
 use zio_types::{NoMemory, Place, SECTOR_SIZE, Text};
@@ -60,12 +61,19 @@ fn second_word(gang: bool, p: &Place) -> u64
     }
 }
 
+// All other parts are zero.
 fn properties(bp: &Bp) -> u64
     requires { IsTrue (is_block_size bp.now.size) }
     ensures { result ≡ properties bp.now }
 {
-    let sectors = u64::from(bp.size / SECTOR_SIZE - 1);
-    sectors + (sectors << 16) + (2 << 32) + (sum_number(bp.sum) << 40) + (1 << 63)
+    let logical_size = u64::from(bp.size / SECTOR_SIZE - 1);
+    let physical_size = logical_size;
+    let checksum = sum_number(bp.sum);
+    logical_size
+        + (physical_size << 16)
+        + (COMPRESSION_OFF << 32)
+        + (checksum << 40)
+        + (LITTLE_ENDIAN << 63)
 }
 
 fn sum_number(sum: SumKind) -> u64

@@ -11,9 +11,9 @@ returns c =
     let r = c.place_field-3.ensures in
     let properties = c.word_of-properties.ensures in
     let count = c.count_present.ensures ∙ (λ j. length (take_while has_sectors (p j ∷ q j ∷ r j ∷ []))) in
-    let gang = ap (λ w. w / 2 ^ 63 == 1) c.word_of.ensures in
-    let size = ap (λ n. (n + 1) * 512) (c.bits.ensures ∙ bits_low c.word_of-properties.result 16 ∙ ap (λ w. w % 2 ^ 16) properties) in
-    let sum = c.sum_of_number.ensures ∙ ap sum_of_number (c.bits-2.ensures ∙ ap (λ w. bits w 40 8) properties) in
+    let gang = ap (λ n. n == 1) (c.gang_bit.ensures.highest ∙ ap (λ w. w / 2 ^ 63) c.word_of.ensures) in
+    let size = ap (λ n. (n + 1) * 512) (c.logical_size.ensures ∙ bits_low c.word_of-properties.result 16 ∙ ap (λ w. w % 2 ^ 16) properties) in
+    let sum = c.sum_of_number.ensures ∙ ap sum_of_number (c.checksum.ensures ∙ ap (λ w. bits w 40 8) properties) in
     λ j. record {
       count = count j;
       places = p j ∷ q j ∷ r j ∷ [];

@@ -8,6 +8,7 @@
 //!     digest BYTES TIMES  SHA-256 alone
 //!     fletcher BYTES TIMES    fletcher4 alone
 //!     script REQUESTS TIMES   the text of a script of so many reads, read
+//!     batches REQUESTS TIMES  the text of a script of so many writes in batches of a thousand, read
 #![tactic(auto)]
 
 mod header;
@@ -38,7 +39,8 @@ fn main(rt: HostRuntime) -> Result<()> {
         "digest" => sums::digest(alloc, size, times)?,
         "fletcher" => sums::fletcher(alloc, size, times)?,
         "script" => script::read(alloc, size, times)?,
-        _ => bail!("space, hit, sum, header, digest, fletcher or script"),
+        "batches" => script::read_batches(alloc, size, times)?,
+        _ => bail!("space, hit, sum, header, digest, fletcher, script or batches"),
     };
     println!(rt; "{done}")?;
     Ok(())

@@ -9,7 +9,7 @@ use Rattle.zio_types.specs.Choices.{Ask}
 use Rattle.zio_script.specs.declared.script.Request.{Request}
 use Rattle.zio_script.specs.declared.script.Work.{Work}
 use Rattle.zio_script.specs.declared.script.Work.TheVariants.{Null, Read, Write, Free, Claim}
-use Rattle.zio_script.specs.Requests.{name_of, needs_block, makes_block, changes_pool}
+use Rattle.zio_script.specs.Requests.{name_of, names_it, needs_block, makes_block, changes_pool}
 use Rattle.zio_cksum.specs.Images.{Images}
 use Rattle.zio_gang.specs.declared.tree.Tree.{Tree}
 use Rattle.zio_gang.specs.Attempts.{Terms, Pending, Ended, Settled, settle}
@@ -96,12 +96,6 @@ abbrev pub trees_of : List Request → List (List Request)
 trees_of batch = grown batch []
 
 -- ---- admission
-
--- the request names the block
-abbrev pub names_it : Option (List ℕ) → Option (List ℕ) → Bool
-names_it None named = false
-names_it (Some name) None = false
-names_it (Some name) (Some other) = bytes_eq name other
 
 -- an unfinished request of a suspended tree names the block that the request names
 abbrev pub is_awaited : List (List Pending) → Request → Bool

@@ -12,13 +12,13 @@ use Rattle.zio_places.specs.Spaces.{SamePlaces}
 use Rattle.zio_script.specs.declared.script.Request.{Request}
 use Rattle.zio_script.specs.declared.script.Work.{Work}
 use Rattle.zio_script.specs.declared.script.Work.TheVariants.{Null, Read, Write, Free, Claim}
-use Rattle.zio_script.specs.Requests.{makes_block, name_of}
+use Rattle.zio_script.specs.Requests.{makes_block, name_of, names_it}
 use Rattle.zio_gang.specs.declared.tree.Tree.{Tree}
 use Rattle.zio_gang.specs.Attempts.{Ended}
-use Rattle.zio_gang.specs.Rounds.{Binding, Bound, bind, block_of, bound_after, bound_by, bound_unless, is_of, names_it, unbind, used_places}
+use Rattle.zio_gang.specs.Rounds.{Binding, Bound, bind, block_of, bound_after, bound_by, bound_unless, is_of, unbind, used_places}
 use Rattle.zio_gang.specs.Trees.{tree_places}
 use Rattle.zio_plain.specs.Batches.{Answered, Fate, Finished, Waits, error_by, made_by, named_block, places_made, taken_of}
-use Rattle.zio_plain.specs.PlainForm.{IsPlainRequest, IsRead, IsWrite}
+use Rattle.zio_script.specs.PlainForm.{IsPlainRequest, IsRead, IsWrite}
 use Rattle.zio_plain.specs.Rounds.{ended_as}
 use Rattle.zio_plain.specs.Runs.{Front, IsBound, used_beside}
 use Rattle.zio_plain.proofs.FrontLemmas.{ended_next, front_with}

@@ -1,5 +1,5 @@
--- The one top of the first setting has a place for a sector, and its blocks have plain pointers.
-use Rattle.std.proofs.Common.{◌≡◌, ℕ, zero, suc, ◌/◌, ◌≤◌, List, [], ◌∷◌, length, map, Option, Some, None, Result, Ok, Err, IfOk, IsTrue, refl, ap, ◌∙◌, subst, arith, true, false, Bool, ◌<◌, ◌++◌, sym}
+-- What is found for a sector on the one top of the first setting, and that its blocks have plain pointers.
+use Rattle.std.proofs.Common.{◌≡◌, ℕ, zero, suc, ◌/◌, ◌≤◌, List, [], ◌∷◌, length, map, Option, Some, None, Result, Ok, Err, IfOk, IsTrue, refl, ap, ◌∙◌, subst, arith, true, false, Bool}
 use Rattle.std.specs.Prelude.{cond, find, option_map, slice_get}
 use Rattle.zio_types.specs.declared.error.Errno.{Errno}
 use Rattle.zio_types.specs.declared.error.Errno.TheVariants.{Cksum}
@@ -9,8 +9,7 @@ use Rattle.zio_gang.specs.Attempts.{own_found, own_read}
 use Rattle.zio_types.specs.declared.place.Place.{Place}
 use Rattle.zio_types.specs.declared.place.Top.{Top}
 use Rattle.zio_types.specs.Choices.{Ask, Choice}
-use Rattle.std.proofs.lemmas.Bool.{le-leb}
-use Rattle.zio_types.specs.Places.{AreCopies, HasRun, IsLawfulChoice, is_below, is_inside}
+use Rattle.zio_types.specs.Places.{AreCopies, IsLawfulChoice, is_below, is_inside}
 use Rattle.zio_cksum.specs.Images.{Images, Setting}
 use Rattle.zio_gang.specs.declared.tree.Tree.{Tree}
 use Rattle.zio_gang.specs.Rounds.{Binding, Bound, block_of, is_of}
@@ -44,23 +43,6 @@ found_sector s used ask entry lawful asked size copies some =
       sector = one.0.length ∙ ap (λ (n : ℕ). n / 512) size_is;
       inside = one.0.inside;
     }
-
-some_sector : (disk : ℕ) → 512 ≤ disk → 1 ≤ disk / 512
-some_sector disk h = omega arith
-
--- where nothing is in use, a sector is found
-pub never_refused : (s : Setting) (sizes : List ℕ) (used : List Place) (entry : Choice) → IsFirstSetting s sizes
-    → IsLawfulChoice (map (λ (t : Top). t.sectors) s.tops) used entry → used ≡ [] → entry.asked.size ≡ 512 → entry.asked.copies ≡ 1 → entry.places ≡ [] → ⊥
-never_refused s sizes used entry first lawful unused size copies none =
-    let n : ℕ = first.disk / 512 in
-    let there : IsLawfulChoice (n ∷ []) [] entry =
-    subst (λ (us : List Place). IsLawfulChoice (n ∷ []) us entry) unused
-    (subst (λ (xs : List ℕ). IsLawfulChoice xs used entry) (sizes_are s first.disk first.tops) lawful) in
-    let few : length entry.places < entry.asked.copies = (let empty : length entry.places ≡ 0 = ap length none in omega arith) in
-    let run : HasRun (n ∷ []) [] 0 1 = record { sector = 0; inside = le-leb 1 n (some_sector first.disk first.some); free = refl } in
-    there.refused few 0
-    (subst (λ (ps : List Place). HasRun (n ∷ []) (ps ++ []) 0 (entry.asked.size / 512)) (sym none)
-    (subst (λ (k : ℕ). HasRun (n ∷ []) [] 0 (k / 512)) (sym size) run))
 
 found_if : (s : Setting) (b : Binding) (t : Bool) (rest : Option Binding) (tree : Tree) → IsPlainPointer s b.tree.bp × (b.tree.heads ≡ [])
     → option_map (λ (o : Binding). o.tree) (cond t (Some b) rest) ≡ Some tree

@@ -1,9 +1,10 @@
 -- The journal of rounds that are run one after another.
-use Rattle.std.proofs.Common.{◌≡◌, ℕ, ◌+◌, ◌<◌, ◌≤◌, List, [], ◌∷◌, ◌++◌, map, filter, Bool, true, false, Option, None, Some, option_to_list, inl, inr, refl, sym, ap, ◌∙◌, subst, arith, append_assoc, eq-eqb}
+use Rattle.std.proofs.Common.{◌≡◌, ℕ, ◌+◌, ◌<◌, ◌≤◌, List, [], ◌∷◌, ◌++◌, length, map, drop, filter, Bool, true, false, Option, None, Some, option_to_list, inl, inr, refl, sym, ap, ◌∙◌, subst, arith, append_assoc, eq-eqb}
 use Rattle.std.proofs.lemmas.Bool.{and_left, and_right, cond-false, cond-true, ne_eqb, or_from, or_left, or_right}
 use Rattle.std.proofs.lemmas.List.{append-nil}
 use Rattle.std.proofs.lemmas.List.Elements.{Contains-append_cases, Contains-append_left, Contains-append_right, Contains-push, filter-append}
 use Rattle.std.proofs.lemmas.List.Folds.{list_any-append}
+use Rattle.std.proofs.Math.Seq.{drop-append_seam}
 use Rattle.std.specs.List.{AllByRecursion, list_any}
 use Rattle.std.specs.Prelude.{Contains, IsTrue, ◌==◌}
 use Rattle.zio_types.specs.declared.journal.Completion.{Completion}
@@ -74,6 +75,36 @@ module _ {X : Type 0} (number : X → ℕ) (n k : ℕ) (xs new : List X) where
       (all_weaker (λ x. number x ≤ n) (λ x. (number x == k) ≡ false) xs (λ x le. ne_eqb (number x) k (λ same. omega arith)) earlier))
       ∙ filter_whole (λ x. number x == k) new
       (all_weaker (λ x. number x ≡ n + 1) (λ x. (number x == k) ≡ true) new (λ x at. eq-eqb (number x) k (at ∙ sym now)) next)
+
+-- what later rounds add is none of this round
+in_later : {X : Type 0} (number : X → ℕ) (k : ℕ) (xs later : List X) → AllByRecursion (λ x. k < number x) later
+    → filter (λ x. number x == k) (xs ++ later) ≡ filter (λ x. number x == k) xs
+in_later number k xs later after =
+    filter-append (λ x. number x == k) xs later
+    ∙ ap (λ (ys : List _). filter (λ x. number x == k) xs ++ ys)
+    (filter_none (λ x. number x == k) later
+    (all_weaker (λ x. k < number x) (λ x. (number x == k) ≡ false) later (λ x more. ne_eqb (number x) k (λ same. omega arith)) after))
+    ∙ append-nil (filter (λ x. number x == k) xs)
+
+-- the next round has those of the next alone, whatever later rounds add
+pub in_round : {X : Type 0} (number : X → ℕ) (n : ℕ) (old now new later : List X) → now ≡ old ++ new → AllByRecursion (λ x. number x ≤ n) old
+    → AllByRecursion (λ x. number x ≡ n + 1) new → AllByRecursion (λ x. n + 1 < number x) later
+    → filter (λ x. number x == n + 1) (now ++ later) ≡ new
+in_round number n old now new later is earlier next after =
+    in_later number (n + 1) now later after
+    ∙ (ap (filter (λ x. number x == n + 1)) is ∙ in_next number n (n + 1) old new refl earlier next)
+
+-- those of the next round and those of later ones come after this one
+pub all_after : {X : Type 0} (number : X → ℕ) (n : ℕ) (new later : List X) → AllByRecursion (λ x. number x ≡ n + 1) new → AllByRecursion (λ x. n + 1 < number x) later
+    → AllByRecursion (λ x. n < number x) (new ++ later)
+all_after number n new later next after =
+    all_append (λ x. n < number x) new later
+    (all_weaker (λ x. number x ≡ n + 1) (λ x. n < number x) new (λ x at. omega arith) next)
+    (all_weaker (λ x. n + 1 < number x) (λ x. n < number x) later (λ x more. omega arith) after)
+
+-- what stands behind so many
+pub behind_past : {X : Type 0} (old now new : List X) (past : ℕ) → now ≡ old ++ new → past ≡ length old → drop past now ≡ new
+behind_past old now new past is at = ap (λ (n : ℕ). drop n now) at ∙ (ap (drop (length old)) is ∙ drop-append_seam old new)
 
 -- each is of one of the rounds, where each of the new ones is of the next round
 of_rounds_next : {X : Type 0} (number : X → ℕ) (n : ℕ) (rounds : List Round) (round : Round) (xs new : List X)

@@ -13,3 +13,4 @@ pub mod RunLemmas
 pub mod ShownLemmas
 pub mod TextLemmas
 pub mod WriteLemmas
+pub mod NameLemmas

@@ -1,8 +1,9 @@
 -- A batch of requests that each stand alone: what becomes of one of them, and what they come to up to one of them.
-use Rattle.std.specs.Prelude.{◌≡◌, ◌<◌, ℕ, ◌+◌, List, [], ◌∷◌, ◌++◌, map, Bool, true, false, ◌||◌, Option, Some, None, option_to_list}
+use Rattle.std.specs.Prelude.{◌≡◌, ◌<◌, ◌≤◌, ℕ, ◌+◌, List, [], ◌∷◌, ◌++◌, length, map, drop, Bool, true, false, ◌||◌, Option, Some, None, option_to_list}
 use Rattle.std.specs.List.{AllByRecursion, flat_map}
 use Rattle.zio_types.specs.declared.error.Errno.{Errno}
 use Rattle.zio_types.specs.declared.error.Errno.TheVariants.{Nospc}
+use Rattle.zio_types.specs.declared.journal.Completion.{Completion}
 use Rattle.zio_types.specs.declared.journal.Journal.{Journal}
 use Rattle.zio_types.specs.declared.place.Place.{Place}
 use Rattle.zio_types.specs.Choices.{Choice, taken_by}
@@ -19,8 +20,9 @@ use Rattle.zio_gang.specs.Runs.{Batch, State}
 use Rattle.zio_gang.specs.Trees.{tree_places}
 use Rattle.zio_report.specs.declared.report.Line.{Line}
 use Rattle.zio_report.specs.declared.report.LineResult.TheVariants.{Suspended}
+use Rattle.zio_report.specs.declared.report.Show.{Show}
 use Rattle.zio_report.specs.Reports.{line_of_ended}
-use Rattle.zio_plain.specs.Rounds.{View, ended_as, first_ask, own_view, plain_show, plan_in}
+use Rattle.zio_plain.specs.Rounds.{View, ended_as, first_ask, own_view, plan_in}
 use Rattle.zio_plain.specs.declared.round.Run.{Run}
 use Rattle.zio_report.specs.Lines.{round_text}
 
@@ -144,6 +146,8 @@ pub record IsNoted (run_old run_new : Run) (r : Request) (old new : Journal) (fa
   pub waits : run_new.waits ≡ (run_old.waits || waits_by fate)
   pub bound : (name : List ℕ) → block_of run_new.bound name ≡ block_of (bound_by r.work (made_by fate) run_old.bound) name
   pub batches : run_new.batches ≡ run_old.batches
+  pub past_places : run_new.past_places ≡ run_old.past_places
+  pub past_completions : run_new.past_completions ≡ run_old.past_completions
   pub suspended : run_new.suspended ≡ run_old.suspended
 
 -- what the run of a request changes beside the disks: the places in use, and what is noted
@@ -155,6 +159,29 @@ pub record Did (sizes : List ℕ) (used_old used_new : List Place) (run_old run_
   pub free : (tree : Tree) → made_by fate ≡ Some tree → (named_block run_old.bound (name_of r.work) ≡ None) × (makes_block r.work ≡ true)
   pub noted : IsNoted run_old run_new r old new fate entry
 
--- the text of the round with these lines
-abbrev pub text_of_lines : ℕ → List Line → List ℕ
-text_of_lines round lines = round_text plain_show (record { round = round; batch = Some round; point = 0 }) lines [] []
+-- the text of the round with these lines, choices and completions
+abbrev pub text_of_lines : Show → ℕ → List Line → List Choice → List Completion → List ℕ
+text_of_lines show round lines choices completions =
+    round_text show (record { round = round; batch = Some round; point = 0 }) lines choices completions
+
+-- the text of the round in which a run is, with what its journal has behind the earlier rounds
+abbrev pub text_of_run : Show → Run → Journal → List ℕ
+text_of_run show run journal =
+    text_of_lines show (journal.rounds + 1) run.lines (drop run.past_places journal.places) (drop run.past_completions journal.completions)
+
+-- the run after the round, with the journal as it is then
+abbrev pub next_run : Run → Journal → Run
+next_run run journal = record {
+  bound = run.bound;
+  lines = [];
+  waits = false;
+  batches = run.batches + 1;
+  past_places = length journal.places;
+  past_completions = length journal.completions;
+  suspended = run.waits;
+}
+
+-- the choices and completions of earlier rounds are a front of the journal
+pub record HasPast (run : Run) (journal : Journal) : Type 0 where
+  pub places : run.past_places ≤ length journal.places
+  pub completions : run.past_completions ≤ length journal.completions

@@ -21,7 +21,7 @@ use Rattle.zio_gang.specs.declared.tree.Tree.{Tree}
 use Rattle.zio_gang.specs.Rounds.{Binding, Bound}
 use Rattle.zio_gang.specs.Runs.{Plan}
 use Rattle.zio_report.specs.declared.report.Show.{Show}
-use Rattle.zio_report.specs.declared.report.Show.TheVariants.{Report}
+use Rattle.zio_report.specs.declared.report.Show.TheVariants.{Report, Summary}
 
 -- the one top, of leaf 0, whose disk has so many bytes
 abbrev pub first_top : ℕ → Top
@@ -113,8 +113,10 @@ ArePlain s bound = AllByRecursion (λ (b : Binding). IsPlainPointer s b.tree.bp 
 abbrev pub ended_as : Request → View → Ended
 ended_as r v = record { request = r; error = v.error; bytes = v.bytes; tree = v.tree }
 
-abbrev pub plain_show : Show
-plain_show = Report false false
+-- a report, and not a summary alone
+abbrev pub IsReport : Show → Type 0
+IsReport (Report journal bytes) = Unit {0}
+IsReport Summary = ⊥
 
 -- for each content that it told before, it tells that with something after it
 abbrev pub Grows : (List ℕ → Type 0) → (List ℕ → Type 0) → Type 0

@@ -1,5 +1,5 @@
 -- A run of a script by its definitions, up to one of its lines.
-use Rattle.std.specs.Prelude.{◌≡◌, ℕ, ◌+◌, ◌≤◌, List, [], ◌∷◌, ◌++◌, length, map, Bool, true, false, Some}
+use Rattle.std.specs.Prelude.{◌≡◌, ℕ, ◌+◌, ◌<◌, ◌≤◌, List, [], ◌∷◌, ◌++◌, length, map, Bool, true, false, Some}
 use Rattle.std.specs.List.{AllByRecursion, flat_map}
 use Rattle.zio_types.specs.declared.journal.Completion.{Completion}
 use Rattle.zio_types.specs.declared.journal.Journal.{Journal}
@@ -10,17 +10,18 @@ use Rattle.zio_places.specs.Spaces.{SamePlaces}
 use Rattle.zio_script.specs.declared.script.Item.{Item}
 use Rattle.zio_script.specs.declared.script.Item.TheVariants.{Request as RequestLine}
 use Rattle.zio_script.specs.declared.script.Request.{Request}
-use Rattle.zio_script.specs.Requests.{name_of, requests_of}
+use Rattle.zio_script.specs.Requests.{name_of, names_it, requests_of}
 use Rattle.zio_cksum.specs.Images.{Images, Setting}
 use Rattle.zio_gang.specs.Attempts.{Ended, Pending}
 use Rattle.zio_gang.specs.Journals.{AreCompletions, AreCompletionsOf, AreLawful, CompleteOnce, HaveDistinctKeys, IsLawfulJournal, asks_of}
-use Rattle.zio_gang.specs.Rounds.{Bound, admitted, block_of, bound_after, names_it, pending_trees, settle_each, trees_of, used_places}
+use Rattle.zio_gang.specs.Rounds.{Bound, admitted, block_of, bound_after, pending_trees, settle_each, trees_of, used_places}
 use Rattle.zio_gang.specs.Runs.{Batch, Event, Round, State, add_events, has_trees, rounds_of, run_lines, start_state}
 use Rattle.zio_report.specs.declared.report.Line.{Line}
-use Rattle.zio_report.specs.Reports.{Records, by_number, event_text, line_of_ended, line_of_pending}
+use Rattle.zio_report.specs.declared.report.Show.{Show}
+use Rattle.zio_report.specs.Reports.{by_number, event_text, line_of_ended, line_of_pending}
 use Rattle.zio_plain.specs.declared.round.Run.{Run}
 use Rattle.zio_plain.specs.Batches.{resting, terms_in}
-use Rattle.zio_plain.specs.Rounds.{plan_in, plain_show}
+use Rattle.zio_plain.specs.Rounds.{plan_in}
 
 abbrev pub sectors_of : Setting → List ℕ
 sectors_of s = map (λ (t : Top). t.sectors) s.tops
@@ -31,17 +32,23 @@ pub record IsBelow (rounds : ℕ) (events : List Event) (journal : Journal) : Ty
   pub numbers : AllByRecursion (λ (r : Round). r.number ≤ rounds) (rounds_of events)
   pub completions : AllByRecursion (λ (c : Completion). c.round ≤ rounds) journal.completions
 
--- what was printed of these events, whatever the journal
-abbrev pub IsPrintedOf : List Event → List ℕ → Type 0
-IsPrintedOf events printed = (j : Records) → printed ≡ flat_map (event_text plain_show j) events
+-- these choices and completions are of rounds after this one
+pub record AreLater (round : ℕ) (more : List Choice) (done : List Completion) : Type 0 where
+  pub choices : AllByRecursion (λ (c : Choice). round < c.asked.key.round) more
+  pub completions : AllByRecursion (λ (c : Completion). round < c.round) done
+
+-- what was printed of these events, also where the journal goes on with later rounds
+abbrev pub IsPrintedOf : Show → Journal → List Event → List ℕ → Type 0
+IsPrintedOf show journal events printed = (more : List Choice) (done : List Completion) → AreLater journal.rounds more done →
+    printed ≡ flat_map (event_text show (record { choices = journal.places ++ more; completions = journal.completions ++ done })) events
 
 -- What a run has come to between two batches, where these lines are left: these events, this state, and what was printed
 -- of them. The events don't depend on what the journal will hold of later rounds.
-pub record Went (s : Setting) (items : List Item) (before : Images) (now : State) (journal : Journal) (rest : List Item) (printed : List ℕ) : Type 0 where
+pub record Went (show : Show) (s : Setting) (items : List Item) (before : Images) (now : State) (journal : Journal) (rest : List Item) (printed : List ℕ) : Type 0 where
   pub events : List Event
   pub course : (later : List Choice) → run_lines (plan_in s (journal.places ++ later)) items (start_state before)
       ≡ add_events events (run_lines (plan_in s (journal.places ++ later)) rest now)
-  pub shown : IsPrintedOf events printed
+  pub shown : IsPrintedOf show journal events printed
   pub lawful : IsLawfulJournal (sectors_of s) (rounds_of events) journal.places
   pub counted : journal.rounds ≡ length (rounds_of events)
   pub completed : AreCompletions (requests_of items) (rounds_of events) journal.completions
@@ -100,30 +107,32 @@ pub record IsBound (bound now : Bound) (batch : List Request) (used : List Place
   pub used_is : SamePlaces used (used_places (bound_after f.ended bound))
 
 -- a run in a batch, before anything waits
-pub record StandsCalm (s : Setting) (items : List Item) (before now : Images) (last : ℕ) (batch : List Request) (used : List Place) (run : Run) (journal : Journal) (printed : List ℕ) (rest : List Item) : Type 0 where
+pub record StandsCalm (show : Show) (s : Setting) (items : List Item) (before now : Images) (last : ℕ) (batch : List Request) (used : List Place) (run : Run) (journal : Journal) (printed : List ℕ) (rest : List Item) : Type 0 where
   pub images : Images
   pub bound : Bound
   pub old : Journal
   pub front : Front
-  pub went : Went s items before (resting images bound old.rounds old.rounds [] []) old (map RequestLine batch ++ rest) printed
+  pub went : Went show s items before (resting images bound old.rounds old.rounds [] []) old (map RequestLine batch ++ rest) printed
   pub front_is : IsFront s bound images old.rounds journal.places batch now front
   pub journaled : IsJournaled s bound old journal last front
   pub shown : IsShown last run.lines run.waits front
   pub bound_is : IsBound bound run.bound batch used front
   pub begun : batch ≡ [] → (now ≡ images) × (journal ≡ old)
   pub batches : run.batches ≡ old.rounds
+  pub past_places : run.past_places ≡ length old.places
+  pub past_completions : run.past_completions ≡ length old.completions
   pub calm : run.suspended ≡ false
 
 -- a run in which a tree is suspended
-pub record StandsHeld (s : Setting) (items : List Item) (before now : Images) (batch : List Request) (run : Run) (journal : Journal) (printed : List ℕ) (rest : List Item) : Type 0 where
+pub record StandsHeld (show : Show) (s : Setting) (items : List Item) (before now : Images) (batch : List Request) (run : Run) (journal : Journal) (printed : List ℕ) (rest : List Item) : Type 0 where
   pub bound : Bound
   pub left : List (List Pending)
   pub held : List Batch
-  pub went : Went s items before (resting now bound run.batches journal.rounds left held) journal (map RequestLine batch ++ rest) printed
+  pub went : Went show s items before (resting now bound run.batches journal.rounds left held) journal (map RequestLine batch ++ rest) printed
   pub some : has_trees left ≡ true
   pub waits : run.suspended ≡ true
 
 -- where a run stands
-pub data Stands (s : Setting) (items : List Item) (before now : Images) (last : ℕ) (batch : List Request) (used : List Place) (run : Run) (journal : Journal) (printed : List ℕ) (rest : List Item) : Type 0 where
-  IsCalm : StandsCalm s items before now last batch used run journal printed rest → Stands s items before now last batch used run journal printed rest
-  IsHeld : StandsHeld s items before now batch run journal printed rest → Stands s items before now last batch used run journal printed rest
+pub data Stands (show : Show) (s : Setting) (items : List Item) (before now : Images) (last : ℕ) (batch : List Request) (used : List Place) (run : Run) (journal : Journal) (printed : List ℕ) (rest : List Item) : Type 0 where
+  IsCalm : StandsCalm show s items before now last batch used run journal printed rest → Stands show s items before now last batch used run journal printed rest
+  IsHeld : StandsHeld show s items before now batch run journal printed rest → Stands show s items before now last batch used run journal printed rest

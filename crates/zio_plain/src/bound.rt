@@ -1,56 +1,58 @@
-ghost use Rattle.std.specs.Prelude.{◌≡◌, ◌++◌, ◌∷◌, [], IsTrue, bytes_eq, option_copied, OnOk, OnErr, Err};
-ghost use Rattle.zio_gang.specs.Rounds.{block_of, is_of};
+//! The names that are bound, and their blocks.
+
+ghost use Rattle.std.specs.Prelude.{◌≡◌, ◌++◌, ◌∷◌, [], None, option_copied, OnOk, OnErr, Err};
+ghost use Rattle.zio_gang.specs.Rounds.{block_of};
 
 use crate::setting::Stop;
+use indexmap::IndexMap;
+use std::alloc::Global;
 use std::marker::Model;
 use zio_gang::Tree;
 use zio_script::Name;
-use zio_types::List;
 
-/// A block that has a name.
+/// The bound names with their blocks, oldest first. A name is found by its hash, so a look-up goes over no list.
 #[derive(Debug, Drop)]
-pub(crate) struct Binding {
-    pub(crate) name: Name,
-    pub(crate) tree: Tree,
+pub(crate) struct Bound {
+    trees: IndexMap<Name, Tree>,
 }
 
-impl Model for Binding {
-    ghost use Rattle.zio_gang.specs.Rounds.{Binding as Seen};
+impl Model for Bound {
+    ghost use Rattle.std.specs.Prelude.{map, List, ℕ};
+    ghost use Rattle.zio_gang.specs.declared.tree.Tree.{Tree};
+    ghost use Rattle.zio_gang.specs.Rounds.{Bound as Seen};
 
     ghost Value = { Seen };
 
-    ghost view = { λ b. record { name = b.name; tree = b.tree } };
+    ghost view = { λ b. map (λ (e : List ℕ × Tree). record { name = e.0; tree = e.1 }) b.trees.entries };
 }
 
-/// The bound names, oldest first. A look-up goes over all of them, so a run takes the square of its requests; a map in the
-/// order of the names would do with a logarithm each.
-pub(crate) type Bound = List<Binding>;
-
-/// The block of a name.
-pub(crate) fn block_of<'a>(bound: &'a [Binding], name: &Name) -> Option<&'a Tree>
-    ensures { option_copied result ≡ block_of bound.now name.now }
-{
-    for binding in bound {
-        if is_of(binding, name) {
-            return Some(&binding.tree);
+impl Bound {
+    /// No name is bound.
+    pub(crate) fn new(alloc: Global) -> Bound
+        ensures { result ≡ [] }
+    {
+        Bound {
+            trees: IndexMap::new(alloc),
         }
     }
-    None
-}
 
-fn is_of(binding: &Binding, name: &Name) -> bool
-    ensures { result ≡ is_of name.now binding.now }
-{
-    binding.name == *name
-}
+    /// The block of a name.
+    pub(crate) fn block_of(&self, name: &Name) -> Option<&Tree>
+        ensures { option_copied result ≡ block_of self.now name.now }
+    {
+        self.trees.get(name)
+    }
 
-/// Binds a name.
-pub(crate) fn bind(bound: &mut Bound, name: Name, tree: Tree) -> Result<(), Stop>
-    ensures ok { OnOk result (bound.new ≡ bound.old ++ record { name = name; tree = tree } ∷ []) }
-    ensures err { OnErr result (result ≡ Err Stop.Memory) }
-{
-    match bound.push(Binding { name, tree }) {
-        Ok(()) => Ok(()),
-        Err(_) => Err(Stop::Memory),
+    /// Binds a free name, behind the others. Where memory is refused the names are as they were.
+    pub(crate) fn bind(&mut self, name: Name, tree: Tree) -> Result<(), Stop>
+        requires { block_of self.old name ≡ None }
+        ensures ok { OnOk result (self.new ≡ self.old ++ record { name = name; tree = tree } ∷ []) }
+        ensures err { OnErr result (result ≡ Err Stop.Memory) }
+        ensures kept { OnErr result (self.new ≡ self.old) }
+    {
+        match self.trees.insert(name, tree) {
+            Ok(_) => Ok(()),
+            Err(_) => Err(Stop::Memory),
+        }
     }
 }

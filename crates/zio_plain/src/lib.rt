@@ -2,10 +2,10 @@
 //! chooser.
 //!
 //! It stands on the outside, the script, the report and the definitions of `zio_gang` and `zio_cksum`, and on no engine.
-//! Read `run_script` first: its report and its last images are the plain meaning of the script. `specs/PlainForm` is the
-//! form of the scripts that it runs, `specs/Disks` says what several disks tell, `specs/Batches` what becomes of a request
-//! of a batch, and `specs/Runs` how the meaning of a script comes apart into lines. So far no request stands under another,
-//! writes have one copy of a sector, and there is one top without faults.
+//! Read `run_script` first: its report and its last images are the plain meaning of the script. `specs/PlainForm` of
+//! `zio_script` is the form of the scripts that it runs, `specs/Disks` says what several disks tell, `specs/Batches` what
+//! becomes of a request of a batch, and `specs/Runs` how the meaning of a script comes apart into lines. So far no request
+//! stands under another, writes have one copy of a sector, and there is one top without faults.
 #![tactic(auto)]
 
 mod bound;

@@ -16,8 +16,8 @@ ghost use Rattle.zio_gang.specs.Writes.{padded};
 ghost use Rattle.zio_places.specs.Spaces.{SamePlaces};
 ghost use Rattle.zio_script.specs.Requests.{makes_block, name_of};
 ghost use Rattle.zio_plain.specs.Batches.{Became, Fate, IsGiven, Shows, named_block, places_made, taken_of};
-ghost use Rattle.zio_plain.specs.PlainForm.{IsPlainRequest};
-ghost use Rattle.std.specs.Prelude.{◌++◌, ◌⊎◌};
+ghost use Rattle.zio_script.specs.PlainForm.{IsPlainRequest};
+ghost use Rattle.std.specs.Prelude.{◌++◌};
 ghost use Rattle.zio_types.specs.Choices.{taken_by};
 ghost use Rattle.zio_plain.specs.Disks.{AnyRose, AreSameDisks, Tell};
 ghost use Rattle.zio_gang.specs.Attempts.{own_read};
@@ -31,7 +31,7 @@ ghost use Rattle.zio_script.specs.declared.script.Body.{Body};
 ghost use Rattle.zio_cksum.specs.Blocks.{write_piece};
 ghost use Rattle.zio_types.specs.declared.journal.Role.TheVariants.{Body as BodyRole};
 
-use crate::bound::{Binding, block_of};
+use crate::bound::Bound;
 use crate::chooser::Chooser;
 use crate::read::read_block;
 use crate::setting::{Setting, Stop};
@@ -253,7 +253,7 @@ fn read_named<D: Disk>(
     alloc: Global,
     setting: &Setting,
     disks: &mut [D],
-    bound: &[Binding],
+    bound: &Bound,
     name: &Name,
 ) -> Result<Own, Stop>
     requires setting { IsFirstSetting setting.now (map D.bytes disks.old) }
@@ -270,7 +270,7 @@ fn read_named<D: Disk>(
     ensures steady { OnOk result (map D.faults disks.new ≡ map D.faults disks.old) }
     ensures device { IsErrOf result Stop.Device → AnyRose (map D.faults disks.old) (map D.faults disks.new) }
 {
-    match block_of(bound, name) {
+    match bound.block_of(name) {
         Some(tree) => read_own(alloc, setting, disks, &tree.bp),
         None => Ok(answered(alloc, Errno::Noent)),
     }
@@ -300,7 +300,6 @@ fn write_new<D: Disk, C: Chooser>(
     ensures used { IfOk result (λ own. SamePlaces (C.used chooser.new) (taken_of (option_to_list own.entry) ++ C.used chooser.old)) }
     ensures bytes { IfOk result (λ own. own.bytes ≡ []) }
     ensures block { IfOk result (λ own. (tree : Tree) → own.block ≡ Some tree → IsPlainPointer setting.now tree.bp × (tree.heads ≡ []) × (own.error ≡ None)) }
-    ensures roomy { IfOk result (λ own. C.used chooser.old ≡ [] → own.waits ≡ false) }
     ensures sizes { C.sizes chooser.new ≡ C.sizes chooser.old }
     ensures same { AreSameDisks D.bytes D.faults_at_fetch D.home D.image disks.old disks.new }
     ensures steady { OnOk result (map D.faults disks.new ≡ map D.faults disks.old) }
@@ -320,7 +319,7 @@ fn write_named<D: Disk, C: Chooser>(
     setting: &Setting,
     disks: &mut [D],
     chooser: &mut C,
-    bound: &[Binding],
+    bound: &Bound,
     request: &Request,
     rounds: u32,
     name: &Name,
@@ -341,13 +340,12 @@ fn write_named<D: Disk, C: Chooser>(
     ensures bytes { IfOk result (λ own. own.bytes ≡ []) }
     ensures block { IfOk result (λ own. (tree : Tree) → own.block ≡ Some tree →
         IsPlainPointer setting.now tree.bp × (tree.heads ≡ []) × (own.error ≡ None) × (block_of bound.now name.now ≡ None)) }
-    ensures roomy { IfOk result (λ own. C.used chooser.old ≡ [] → own.waits ≡ false) }
     ensures sizes { C.sizes chooser.new ≡ C.sizes chooser.old }
     ensures same { AreSameDisks D.bytes D.faults_at_fetch D.home D.image disks.old disks.new }
     ensures steady { OnOk result (map D.faults disks.new ≡ map D.faults disks.old) }
     ensures device { IsErrOf result Stop.Device → AnyRose (map D.faults disks.old) (map D.faults disks.new) }
 {
-    match block_of(bound, name) {
+    match bound.block_of(name) {
         Some(_) => Ok(answered(alloc, Errno::Exist)),
         None => {
             let bytes = sector_of(alloc, body)?;
@@ -371,7 +369,7 @@ pub(crate) fn own_work<D: Disk, C: Chooser>(
     setting: &Setting,
     disks: &mut [D],
     chooser: &mut C,
-    bound: &[Binding],
+    bound: &Bound,
     request: &Request,
     rounds: u32,
 ) -> Result<Own, Stop>
@@ -389,7 +387,6 @@ pub(crate) fn own_work<D: Disk, C: Chooser>(
     ensures block { IfOk result (λ own. (tree : Tree) → own.block ≡ Some tree →
         IsPlainPointer setting.now tree.bp × (tree.heads ≡ []) × (own.error ≡ None) × (named_block bound.now (name_of request.now.work) ≡ None)
         × (makes_block request.now.work ≡ true)) }
-    ensures roomy { IfOk result (λ own. (C.used chooser.old ≡ []) ⊎ (makes_block request.now.work ≡ false) → own.waits ≡ false) }
     ensures sizes { C.sizes chooser.new ≡ C.sizes chooser.old }
     ensures same { AreSameDisks D.bytes D.faults_at_fetch D.home D.image disks.old disks.new }
     ensures steady { OnOk result (map D.faults disks.new ≡ map D.faults disks.old) }

@@ -1,6 +1,6 @@
 //! The requests of a batch, and the end of its round.
 
-ghost use Rattle.std.specs.Prelude.{◌||◌, ◌⊎◌, false, ◌≡◌, ◌≢◌, ◌∷◌, ◌++◌, ◌+◌, ◌%◌, ◌<◌, [], ℕ, List, None, Some, OnOk, OnErr, IfOk, IsErrOf, length, map, option_to_list, true, false, Err, Option};
+ghost use Rattle.std.specs.Prelude.{◌≡◌, ◌≢◌, ◌∷◌, ◌++◌, ◌+◌, ◌%◌, ◌<◌, [], ℕ, List, None, Some, OnOk, OnErr, IfOk, IsErrOf, length, map, option_to_list, true, false, Err, Option};
 ghost use Rattle.zio_outside.specs.Outside.{Appends, AppendsFront, Rose};
 ghost use Rattle.zio_types.specs.Choices.{Choice};
 ghost use Rattle.zio_types.specs.declared.place.Place.{Place};
@@ -10,14 +10,14 @@ ghost use Rattle.zio_script.specs.declared.script.Request.{Request};
 ghost use Rattle.zio_cksum.specs.Images.{Images, Setting as SeenSetting};
 ghost use Rattle.zio_gang.specs.Rounds.{block_of, bound_by};
 ghost use Rattle.zio_gang.specs.declared.tree.Tree.{Tree};
-ghost use Rattle.zio_report.specs.Lines.{AreWhole, round_text};
+ghost use Rattle.zio_report.specs.Lines.{AreWhole};
 ghost use Rattle.zio_report.specs.Reports.{held_text, line_of_ended};
-ghost use Rattle.zio_plain.specs.Batches.{Became, Did, Fate, IsNoted, Shows, line_waiting, named_block, text_of_lines};
+ghost use Rattle.zio_plain.specs.Batches.{Became, Did, Fate, HasPast, IsNoted, Shows, line_waiting, named_block, next_run, text_of_lines, text_of_run};
 ghost use Rattle.zio_plain.specs.Disks.{AnyRose, AreSameDisks, Tell};
-ghost use Rattle.zio_plain.specs.PlainForm.{IsPlainRequest};
-ghost use Rattle.zio_plain.specs.Rounds.{ArePlain, IsFirstSetting, IsPlainPointer, Grows, own_view, plain_show};
+ghost use Rattle.zio_script.specs.PlainForm.{IsPlainRequest};
+ghost use Rattle.zio_plain.specs.Rounds.{ArePlain, IsFirstSetting, IsPlainPointer, Grows, own_view};
 
-use crate::bound::{Bound, bind};
+use crate::bound::Bound;
 use crate::chooser::Chooser;
 use crate::own::{Own, own_work};
 use crate::setting::{Setting, Stop};
@@ -39,15 +39,13 @@ pub(crate) struct Run {
     pub(crate) waits: bool,
     /// How many batches were met.
     pub(crate) batches: u32,
+    /// How many entries of the journal are of earlier rounds.
+    pub(crate) past_places: usize,
+    /// How many completions of the journal are of earlier rounds.
+    pub(crate) past_completions: usize,
     /// A tree is suspended since an earlier round, so batches are held.
     pub(crate) suspended: bool,
 }
-
-/// The report without the journal and without bytes.
-const PLAIN: Show = Show::Report {
-    journal: false,
-    bytes: false,
-};
 
 /// What is shown of a request that ended so, or that waits.
 fn line_of(
@@ -89,10 +87,17 @@ fn result_of(work: &Work, error: Option<Errno>, bytes: Bytes, block: &Option<Tre
     }
 }
 
-/// The text of a round with these lines.
-fn text_of(alloc: Global, round: u32, lines: &[Line]) -> Result<Text, RunFault>
+/// The text of a round with these lines, entries and completions.
+fn text_of(
+    alloc: Global,
+    show: &Show,
+    round: u32,
+    lines: &[Line],
+    entries: &[Entry],
+    completions: &[Completion],
+) -> Result<Text, RunFault>
     requires whole { AreWhole lines.now }
-    ensures text { IfOk result (λ text. text ≡ text_of_lines round lines.now) }
+    ensures text { IfOk result (λ text. text ≡ text_of_lines show.now round lines.now entries.now completions.now) }
     ensures err { OnErr result (result ≡ Err RunFault.Memory) }
 {
     let head = RoundHead {
@@ -100,7 +105,7 @@ fn text_of(alloc: Global, round: u32, lines: &[Line]) -> Result<Text, RunFault>
         batch: Some(round),
         point: 0,
     };
-    match render(alloc, &PLAIN, &head, lines, &[], &[]) {
+    match render(alloc, show, &head, lines, entries, completions) {
         Ok(text) => Ok(text),
         Err(_) => Err(RunFault::Memory),
     }
@@ -156,7 +161,7 @@ fn bind_made(bound: &mut Bound, request: &Request, block: Option<Tree>) -> Resul
     let Some(name) = request.work.name() else {
         return Ok(());
     };
-    match bind(bound, name, tree) {
+    match bound.bind(name, tree) {
         Ok(()) => Ok(()),
         Err(_) => Err(RunFault::Memory),
     }
@@ -169,6 +174,7 @@ fn note(run: &mut Run, request: &Request, own: Own, journal: &mut Journal) -> Re
     requires free { (tree : Tree) → own.block ≡ Some tree → (named_block run.old.bound (name_of request.now.work) ≡ None) × (makes_block request.now.work ≡ true) }
     requires len { own.error ≡ None → length own.bytes % 512 ≡ 0 }
     requires whole { AreWhole run.old.lines }
+    requires past { HasPast run.old journal.old }
     ensures noted { OnOk result ((fate : Fate) → Shows fate (own_view own.error own.bytes own.block) own.waits
         → IsNoted run.old run.new request.now journal.old journal.new fate own.entry) }
     ensures plain { OnOk result ((s : SeenSetting) → ((tree : Tree) → own.block ≡ Some tree → IsPlainPointer s tree.bp × (tree.heads ≡ []))
@@ -176,7 +182,7 @@ fn note(run: &mut Run, request: &Request, own: Own, journal: &mut Journal) -> Re
     ensures whole { OnOk result (AreWhole run.new.lines) }
     ensures rounds { OnOk result (journal.new.rounds ≡ journal.old.rounds) }
     ensures kept { OnOk result ((run.new.batches ≡ run.old.batches) × (run.new.suspended ≡ run.old.suspended)) }
-    ensures waits { OnOk result (run.new.waits ≡ (run.old.waits || own.waits)) }
+    ensures past { OnOk result (HasPast run.new journal.new) }
     ensures err { OnErr result (result ≡ Err RunFault.Memory) }
 {
     let Own {
@@ -198,6 +204,7 @@ fn note(run: &mut Run, request: &Request, own: Own, journal: &mut Journal) -> Re
 /// Ends a round, and writes its text.
 pub(crate) fn close<O: Sink>(
     alloc: Global,
+    show: &Show,
     run: &mut Run,
     out: &mut O,
     journal: &mut Journal,
@@ -205,16 +212,26 @@ pub(crate) fn close<O: Sink>(
     requires rounds { journal.old.rounds < 65535 }
     requires batches { run.old.batches < 65535 }
     requires whole { AreWhole run.old.lines }
-    ensures printed { OnOk result (Appends (O.holds out.old) (O.holds out.new) (text_of_lines (journal.old.rounds + 1) run.old.lines)) }
+    requires past { HasPast run.old journal.old }
+    ensures printed { OnOk result (Appends (O.holds out.old) (O.holds out.new) (text_of_run show.now run.old journal.old)) }
     ensures journal { OnOk result (journal.new ≡ record journal.old { rounds = journal.old.rounds + 1 }) }
-    ensures run { OnOk result (run.new ≡ record { bound = run.old.bound; lines = []; waits = false; batches = run.old.batches + 1; suspended = run.old.waits }) }
+    ensures run { OnOk result (run.new ≡ next_run run.old journal.old) }
     ensures steady { OnOk result (O.faults out.new ≡ O.faults out.old) }
     ensures sink { IsErrOf result RunFault.Sink → Rose (O.faults out.old) (O.faults out.new) }
     ensures device { ¬ IsErrOf result RunFault.Device }
     ensures grows { Grows (O.holds out.old) (O.holds out.new) }
 {
-    let text = text_of(alloc, journal.rounds + 1, run.lines.as_slice())?;
+    let text = text_of(
+        alloc,
+        show,
+        journal.rounds + 1,
+        run.lines.as_slice(),
+        &journal.places.as_slice()[run.past_places..],
+        &journal.completions.as_slice()[run.past_completions..],
+    )?;
     journal.rounds += 1;
+    run.past_places = journal.places.len();
+    run.past_completions = journal.completions.len();
     run.lines = List::new(alloc);
     run.suspended = run.waits;
     run.waits = false;
@@ -270,6 +287,7 @@ pub(crate) fn run_request<D: Disk, C: Chooser>(
     requires form { (last : ℕ) × IsPlainRequest last request.now }
     requires sizes { C.sizes chooser.old ≡ map (λ (t : Top). t.sectors) setting.now.tops }
     requires whole { AreWhole run.old.lines }
+    requires past { HasPast run.old journal.old }
     ensures ran { OnOk result ((images : Images) → Tell D.image disks.old images → (fate : Fate) × (entry : Option Choice) × (after : Images) ×
         Tell D.image disks.new after
         × Became setting.now (named_block run.old.bound (name_of request.now.work)) journal.old.rounds request.now images fate (option_to_list entry) after
@@ -278,7 +296,7 @@ pub(crate) fn run_request<D: Disk, C: Chooser>(
     ensures whole { OnOk result (AreWhole run.new.lines) }
     ensures rounds { OnOk result (journal.new.rounds ≡ journal.old.rounds) }
     ensures kept { OnOk result ((run.new.batches ≡ run.old.batches) × (run.new.suspended ≡ run.old.suspended)) }
-    ensures roomy { OnOk result ((C.used chooser.old ≡ []) ⊎ (makes_block request.now.work ≡ false) → run.old.waits ≡ false → run.new.waits ≡ false) }
+    ensures past { OnOk result (HasPast run.new journal.new) }
     ensures sizes { C.sizes chooser.new ≡ C.sizes chooser.old }
     ensures same { AreSameDisks D.bytes D.faults_at_fetch D.home D.image disks.old disks.new }
     ensures steady { OnOk result (map D.faults disks.new ≡ map D.faults disks.old) }
@@ -290,7 +308,7 @@ pub(crate) fn run_request<D: Disk, C: Chooser>(
         setting,
         disks,
         chooser,
-        run.bound.as_slice(),
+        &run.bound,
         request,
         journal.rounds,
     ) {

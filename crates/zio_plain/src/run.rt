@@ -4,7 +4,6 @@ ghost use Rattle.std.specs.Prelude.{IfSome, None, ◌≡◌, ◌∷◌, ◌++◌
 ghost use Rattle.zio_outside.specs.Outside.{Appends, Rose};
 ghost use Rattle.zio_types.specs.declared.place.Top.{Top};
 ghost use Rattle.zio_script.specs.declared.script.Request.{Request};
-ghost use Rattle.zio_script.specs.FirstForm.{AreFirstItems, IsFirstScript};
 ghost use Rattle.zio_cksum.specs.Images.{Images};
 ghost use Rattle.zio_gang.specs.declared.ending.Ending.TheVariants.{Complete, Left};
 ghost use Rattle.zio_gang.specs.Runs.{State, ending, left_if};
@@ -12,10 +11,13 @@ ghost use Rattle.zio_report.specs.Lines.{AreWhole};
 ghost use Rattle.zio_report.specs.Meanings.{IsEmptyJournal, IsMeaning};
 ghost use Rattle.zio_report.specs.Reports.{end_code, pool_text};
 ghost use Rattle.zio_plain.specs.Disks.{AnyRose, AreSameDisks, Tell};
-ghost use Rattle.zio_plain.specs.PlainForm.{ArePlainItems, HasRoots, IsNextItem, IsPlainScript, IsSafe, batch_after, last_after, steps_of};
-ghost use Rattle.zio_plain.specs.Rounds.{ArePlain, Begins, Grows, IsFirstPool, IsFirstSetting, plain_show};
+ghost use Rattle.zio_script.specs.PlainForm.{ArePlainItems, HasRoots, IsNextItem, IsPlainScript, last_after, steps_of};
+ghost use Rattle.zio_script.specs.Whys.{batch_after};
+ghost use Rattle.zio_plain.specs.Batches.{HasPast};
+ghost use Rattle.zio_plain.specs.Rounds.{ArePlain, Begins, Grows, IsFirstPool, IsFirstSetting, IsReport};
 ghost use Rattle.zio_plain.specs.Runs.{Stands, Went};
 
+use crate::bound::Bound;
 use crate::chooser::Chooser;
 use crate::round::{Run, close, hold, run_request, write_text};
 use crate::setting::Setting;
@@ -23,19 +25,21 @@ use std::alloc::Global;
 use zio_faults::Table;
 use zio_gang::Ending;
 use zio_outside::{Disk, Sink};
-use zio_report::{RunFault, end_line, pool_line};
+use zio_report::{RunFault, Show, end_line, pool_line};
 use zio_script::{Item, Script};
 use zio_types::{Journal, List, Text, Top};
 
 /// Runs a script over disks, and writes its report.
 ///
-/// The disks are the leaves 0, 1, 2 in turn, and the tops are the script's, each with the sectors of its smallest leaf. A
-/// disk's failure, the sink's and want of memory end the run: `RunFault` says which. What was printed stays, and so do the
-/// entries and completions so far, also those of the round that was cut short. A write for which no sector is free is
-/// suspended, later batches are held, and the run ends with `Left`.
+/// The report has a text for each round, with or without the journal and the bytes of reads. The disks are the leaves
+/// 0, 1, 2 in turn, and the tops are the script's, each with the sectors of its smallest leaf. A disk's failure, the
+/// sink's and want of memory end the run: `RunFault` says which. What was printed stays, and so do the entries and
+/// completions so far, also those of the round that was cut short. A write for which no sector is free is suspended, later
+/// batches are held, and the run ends with `Left`.
 pub fn run_script<D: Disk, C: Chooser, O: Sink>(
     alloc: Global,
     script: &Script,
+    show: &Show,
     tops: List<Top>,
     disks: &mut [D],
     chooser: &mut C,
@@ -43,14 +47,14 @@ pub fn run_script<D: Disk, C: Chooser, O: Sink>(
     journal: &mut Journal,
 ) -> Result<Ending, RunFault>
     requires form { IsPlainScript script.now }
+    requires report { IsReport show.now }
     requires pool { IsFirstPool tops (map D.bytes disks.old) }
     requires used { C.used chooser.old ≡ [] }
     requires sizes { C.sizes chooser.old ≡ map (λ (t : Top). t.sectors) tops }
     requires empty { IsEmptyJournal journal.old }
     ensures ending { IfOk result (λ ending. (ending ≡ Complete) ⊎ (ending ≡ Left)) }
-    ensures first { IfOk result (λ ending. IsFirstScript script.now → ending ≡ Complete) }
     ensures meaning { IfOk result (λ ending. (before : Images) → Tell D.image disks.old before → (after : Images) × (printed : List ℕ) ×
-        IsMeaning plain_show script.now before journal.new after printed (end_code ending)
+        IsMeaning show.now script.now before journal.new after printed (end_code ending)
         × Tell D.image disks.new after × Appends (O.holds out.old) (O.holds out.new) printed) }
     ensures same { AreSameDisks D.bytes D.faults_at_fetch D.home D.image disks.old disks.new }
     ensures steady { OnOk result ((map D.faults disks.new ≡ map D.faults disks.old) × (O.faults out.new ≡ O.faults out.old)) }
@@ -64,6 +68,7 @@ pub fn run_script<D: Disk, C: Chooser, O: Sink>(
     let suspended = run_items(
         alloc,
         &setting,
+        show,
         script.items.as_slice(),
         disks,
         chooser,
@@ -117,6 +122,7 @@ fn pool_of(alloc: Global, tops: usize, images: usize) -> Result<Text, RunFault>
 fn run_items<D: Disk, C: Chooser, O: Sink>(
     alloc: Global,
     setting: &Setting,
+    show: &Show,
     items: &[Item],
     disks: &mut [D],
     chooser: &mut C,
@@ -129,9 +135,8 @@ fn run_items<D: Disk, C: Chooser, O: Sink>(
     requires sizes { C.sizes chooser.old ≡ map (λ (t : Top). t.sectors) setting.now.tops }
     requires empty { IsEmptyJournal journal.old }
     ensures went { IfOk result (λ suspended. (before : Images) → Tell D.image disks.old before → (end : State) × (printed : List ℕ) ×
-        Went setting.now items.now before end journal.new [] printed × (ending end ≡ left_if suspended)
+        Went show.now setting.now items.now before end journal.new [] printed × (ending end ≡ left_if suspended)
         × Tell D.image disks.new end.images × Appends (O.holds out.old) (O.holds out.new) printed) }
-    ensures first { IfOk result (λ suspended. AreFirstItems items.now → suspended ≡ false) }
     ensures same { AreSameDisks D.bytes D.faults_at_fetch D.home D.image disks.old disks.new }
     ensures steady { OnOk result ((map D.faults disks.new ≡ map D.faults disks.old) × (O.faults out.new ≡ O.faults out.old)) }
     ensures device { IsErrOf result RunFault.Device → AnyRose (map D.faults disks.old) (map D.faults disks.new) }
@@ -139,15 +144,19 @@ fn run_items<D: Disk, C: Chooser, O: Sink>(
     ensures grows { Grows (O.holds out.old) (O.holds out.new) }
 {
     let mut run = Run {
-        bound: List::new(alloc),
+        bound: Bound::new(alloc),
         lines: List::new(alloc),
         waits: false,
         batches: 0,
+        past_places: 0,
+        past_completions: 0,
         suspended: false,
     };
     let mut rest = items;
     while let Some((item, more)) = next_item(rest) {
-        run_item(alloc, setting, disks, chooser, &mut run, item, out, journal)?;
+        run_item(
+            alloc, setting, show, disks, chooser, &mut run, item, out, journal,
+        )?;
         rest = more;
     }
     Ok(run.suspended)
@@ -168,6 +177,7 @@ fn next_item(items: &[Item]) -> Option<(&Item, &[Item])>
 fn run_item<D: Disk, C: Chooser, O: Sink>(
     alloc: Global,
     setting: &Setting,
+    show: &Show,
     disks: &mut [D],
     chooser: &mut C,
     run: &mut Run,
@@ -178,21 +188,22 @@ fn run_item<D: Disk, C: Chooser, O: Sink>(
     requires setting { IsFirstSetting setting.now (map D.bytes disks.old) }
     requires bound { ArePlain setting.now run.old.bound }
     requires whole { AreWhole run.old.lines }
+    requires past { HasPast run.old journal.old }
     requires next { (last : ℕ) × (batch : List Request) × IsNextItem last batch item.now }
     requires rounds { journal.old.rounds < 65535 }
     requires batches { run.old.batches < 65535 }
     requires sizes { C.sizes chooser.old ≡ map (λ (t : Top). t.sectors) setting.now.tops }
     ensures ran { OnOk result ((items rest : List Item) (before now : Images) (last : ℕ) (batch : List Request) (printed : List ℕ) →
         HasRoots items → IsNextItem last batch item.now
-        → Stands setting.now items before now last batch (C.used chooser.old) run.old journal.old printed (item.now ∷ rest)
+        → Stands show.now setting.now items before now last batch (C.used chooser.old) run.old journal.old printed (item.now ∷ rest)
         → Tell D.image disks.old now → (after : Images) × (more : List ℕ) ×
-        Stands setting.now items before after (last_after last item.now) (batch_after batch item.now) (C.used chooser.new) run.new journal.new (printed ++ more) rest
+        Stands show.now setting.now items before after (last_after last item.now) (batch_after batch item.now) (C.used chooser.new) run.new journal.new (printed ++ more) rest
         × Tell D.image disks.new after × Appends (O.holds out.old) (O.holds out.new) more) }
     ensures bound { OnOk result (ArePlain setting.now run.new.bound) }
     ensures whole { OnOk result (AreWhole run.new.lines) }
+    ensures past { OnOk result (HasPast run.new journal.new) }
     ensures rounds { OnOk result (journal.new.rounds ≤ journal.old.rounds + steps_of item.now) }
     ensures batches { OnOk result (run.new.batches ≡ run.old.batches + steps_of item.now) }
-    ensures calm { OnOk result (IsSafe (C.used chooser.old) item.now → run.old.waits ≡ false → run.old.suspended ≡ false → (run.new.waits ≡ false) × (run.new.suspended ≡ false)) }
     ensures sizes { C.sizes chooser.new ≡ C.sizes chooser.old }
     ensures same { AreSameDisks D.bytes D.faults_at_fetch D.home D.image disks.old disks.new }
     ensures steady { OnOk result ((map D.faults disks.new ≡ map D.faults disks.old) × (O.faults out.new ≡ O.faults out.old)) }
@@ -206,7 +217,7 @@ fn run_item<D: Disk, C: Chooser, O: Sink>(
             alloc, setting, disks, chooser, run, request, journal,
         ),
         Item::Go if run.suspended => hold(alloc, run, out),
-        Item::Go => close(alloc, run, out, journal),
+        Item::Go => close(alloc, show, run, out, journal),
         Item::Clear => unreachable!(),
     }
 }

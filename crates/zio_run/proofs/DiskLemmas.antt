@@ -1,7 +1,7 @@
 -- The one disk of a run, before it and after it.
-use Rattle.std.proofs.Common.{◌≡◌, ℕ, List, [], ◌∷◌, ◌++◌, ◌⊎◌, inl, inr, length, map, take, drop, get_or, ap, subst, ◌∙◌, sym, refl}
+use Rattle.std.proofs.Common.{◌≡◌, ℕ, List, [], ◌∷◌, ◌++◌, inl, inr, length, take, drop, get_or, ap, ◌∙◌, refl}
 use Rattle.zio_cksum.specs.Images.{Images}
-use Rattle.zio_outside.specs.Outside.{ComesHome, GoesOut, Keeps, Rose, StaysHome}
+use Rattle.zio_outside.specs.Outside.{ComesHome, GoesOut, StaysHome}
 use Rattle.zio_plain.specs.Disks.{AreSameDisks, Tell}
 use Rattle.zio_run.specs.Outcomes.{IsAfter, KeepsOthers}
 

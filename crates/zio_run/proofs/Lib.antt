@@ -1,4 +1,4 @@
+pub mod CommandLemmas
 pub mod DiskLemmas
 pub mod ReadLemmas
 pub mod ScriptLemmas
-pub mod WordLemmas

@@ -1,10 +1,12 @@
 -- A text is the script, or has the fault, that what was read of it is or has.
-use Rattle.std.proofs.Common.{◌≡◌, ℕ, ◌+◌, ◌≤◌, min, List, ◌∷◌, [], ◌++◌, length, inl, inr, refl, sym, ap, ◌∙◌, subst, arith}
-use Rattle.std.proofs.lemmas.List.{length-take, take_all, append-nil}
+use Rattle.std.proofs.Common.{◌≡◌, ℕ, ◌+◌, ◌≤◌, ◌<◌, min, nat_le, List, length, Bool, true, false, Result, Ok, Err, refl, sym, ap, ◌∙◌, arith}
+use Rattle.std.proofs.lemmas.List.{length-take, take_all}
+use Rattle.std.proofs.lemmas.Bool.{leb-false, leb-true, lt-leb}
 use Rattle.zio_script.specs.declared.read.TheConstants.{SCRIPT_LEN_MAX}
 use Rattle.zio_script.specs.declared.script.Script.{Script}
 use Rattle.zio_script.specs.declared.script.ScriptFault.{ScriptFault}
-use Rattle.zio_script.specs.FirstForm.{IsFaultOf, IsScriptOf, IsTooLong}
+use Rattle.zio_script.specs.Built.{IsFaultOf, IsScriptOf, is_built}
+use Rattle.zio_script.specs.Grammar.{read_short, reading}
 use Rattle.zio_run.specs.Outcomes.{IsReadOf}
 
 read_len : (text bytes : List ℕ) → IsReadOf text bytes → length bytes ≡ min (SCRIPT_LEN_MAX + 1) (length text)
@@ -16,17 +18,32 @@ whole text bytes read short =
     let len = read_len text bytes read in
     read.read ∙ take_all (SCRIPT_LEN_MAX + 1) text (omega arith)
 
-pub IsScriptOf-read : (text bytes : List ℕ) (script : Script) → IsReadOf text bytes → IsScriptOf bytes script → IsScriptOf text script
-IsScriptOf-read text bytes script read is =
-    subst (λ (xs : List ℕ). IsScriptOf xs script) (whole text bytes read is.short) is
+-- and of one that is too long so much that it shows
+still_long : (text bytes : List ℕ) → IsReadOf text bytes → SCRIPT_LEN_MAX < length bytes → SCRIPT_LEN_MAX < length text
+still_long text bytes read long = let len = read_len text bytes read in omega arith
 
-not_long : (bytes : List ℕ) → (IsTooLong bytes → ⊥) → length bytes ≤ SCRIPT_LEN_MAX
-not_long bytes short = omega arith
+reading-by : (text bytes : List ℕ) → IsReadOf text bytes → (b : Bool) → nat_le (length bytes) SCRIPT_LEN_MAX ≡ b
+    → reading is_built bytes ≡ reading is_built text
+reading-by text bytes read true short = ap (reading is_built) (whole text bytes read (leb-true (length bytes) SCRIPT_LEN_MAX short))
+reading-by text bytes read false long =
+    let more : nat_le (length text) SCRIPT_LEN_MAX ≡ false =
+    lt-leb (length text) SCRIPT_LEN_MAX (still_long text bytes read (leb-false (length bytes) SCRIPT_LEN_MAX long)) in
+    ap (λ (b : Bool). read_short b is_built bytes) long ∙ sym (ap (λ (b : Bool). read_short b is_built text) more)
+
+-- what was read of a text is read as the text is
+reading-read : (text bytes : List ℕ) → IsReadOf text bytes → reading is_built bytes ≡ reading is_built text
+reading-read text bytes read = reading-by text bytes read (nat_le (length bytes) SCRIPT_LEN_MAX) refl
+
+pub IsScriptOf-read : (text bytes : List ℕ) (script : Script) → IsReadOf text bytes → IsScriptOf bytes script → IsScriptOf text script
+IsScriptOf-read text bytes script read is = sym (reading-read text bytes read) ∙ is
 
 pub IsFaultOf-read : (text bytes : List ℕ) (fault : ScriptFault) → IsReadOf text bytes → IsFaultOf bytes fault → IsFaultOf text fault
-IsFaultOf-read text bytes fault read (inl long) =
-    let len = read_len text bytes read in
-    let more = long.0 in
-    inl (omega arith, long.1)
-IsFaultOf-read text bytes fault read (inr line) =
-    subst (λ (xs : List ℕ). IsFaultOf xs fault) (whole text bytes read (not_long bytes line.0)) (inr line)
+IsFaultOf-read text bytes fault read is = sym (reading-read text bytes read) ∙ is
+
+ok_differs : {A B : Type 0} (r : Result A B) (a : A) (b : B) → r ≡ Ok a → r ≡ Err b → ⊥
+ok_differs (Ok x) a b h k = let no : Ok x ≡ Err b = k in cc
+ok_differs (Err x) a b h k = let no : Err x ≡ Ok a = h in cc
+
+-- a text is no script where it has a fault
+pub no_script : (text : List ℕ) (script : Script) (fault : ScriptFault) → IsScriptOf text script → IsFaultOf text fault → ⊥
+no_script text script fault is has = ok_differs (reading is_built text) script fault is has

@@ -4,7 +4,7 @@ use Rattle.std.specs.Prelude.{ℕ, List, [], ◌∷◌}
 use Rattle.zio_types.specs.declared.journal.Journal.{Journal}
 use Rattle.zio_outside.specs.Outside.{Appends}
 use Rattle.zio_script.specs.declared.script.Script.{Script}
-use Rattle.zio_script.specs.FirstForm.{IsScriptOf}
+use Rattle.zio_script.specs.Built.{IsScriptOf}
 use Rattle.zio_cksum.specs.Images.{Images}
 use Rattle.zio_report.specs.declared.report.Show.{Show}
 use Rattle.zio_report.specs.Meanings.{IsMeaning}

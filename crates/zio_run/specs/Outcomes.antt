@@ -1,10 +1,10 @@
 -- The texts that a run prints beside its report, and how it ends where a text was due.
-use Rattle.std.specs.Prelude.{◌≡◌, ◌≢◌, ◌↔◌, ℕ, ◌+◌, ◌≤◌, List, [], ◌++◌, take, ◌⊎◌, decimal, codes}
+use Rattle.std.specs.Prelude.{◌≡◌, ◌≢◌, ◌↔◌, ℕ, ◌+◌, ◌≤◌, List, ◌++◌, take, ◌⊎◌, decimal, codes}
 use Rattle.zio_outside.specs.Outside.{Appends, AppendsFront, Keeps, Rose}
 use Rattle.zio_script.specs.declared.script.Script.{Script}
 use Rattle.zio_script.specs.declared.script.ScriptFault.{ScriptFault}
 use Rattle.zio_script.specs.declared.read.TheConstants.{SCRIPT_LEN_MAX}
-use Rattle.zio_script.specs.FirstForm.{IsFaultOf, IsScriptOf}
+use Rattle.zio_script.specs.Built.{IsFaultOf, IsScriptOf}
 use Rattle.zio_report.specs.Lines.{as_line, spaced}
 use Rattle.zio_report.specs.Reports.{pool_text}
 use Rattle.zio_run.specs.Commands.{IsNoCommand}
@@ -36,9 +36,13 @@ images_line leaf = as_line (codes "images " ++ decimal leaf)
 
 -- ---- ends
 
--- the codes of a run in which no request can be left
+-- the codes of a run that was not stopped: every request completed, or something is left
+abbrev pub IsRun : ℕ → Type 0
+IsRun code = (code ≡ 0) ⊎ (code ≡ 9)
+
+-- the codes of a run on one thread
 abbrev pub IsSerialCode : ℕ → Type 0
-IsSerialCode code = (code ≡ 0) ⊎ (code ≡ 1) ⊎ (code ≡ 2) ⊎ (code ≡ 3) ⊎ (code ≡ 5) ⊎ (code ≡ 6) ⊎ (code ≡ 7) ⊎ (code ≡ 8)
+IsSerialCode code = IsRun code ⊎ (code ≡ 1) ⊎ (code ≡ 2) ⊎ (code ≡ 3) ⊎ (code ≡ 5) ⊎ (code ≡ 6) ⊎ (code ≡ 7) ⊎ (code ≡ 8)
 
 -- How a run ends where this text was due with this code: so, or with a front of the text and code 6 where the sink's
 -- count rose, or with nothing and code 8.

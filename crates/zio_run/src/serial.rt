@@ -1,19 +1,21 @@
 ghost use Rattle.std.specs.Prelude.{◌≡◌, ◌∷◌, ◌++◌, [], ◌⊎◌, ◌↔◌, ℕ, List, IfOk, IsErrOf, OnOk, length, map, slice_index_or, string_bytes, take};
 ghost use Rattle.zio_outside.specs.Outside.{Appends, AppendsFront, Keeps, Rose, StaysHome};
-ghost use Rattle.zio_script.specs.FirstForm.{IsFaultOf, IsFirstScript, IsScriptOf};
+ghost use Rattle.zio_script.specs.Built.{IsFaultOf, IsScriptOf};
+ghost use Rattle.zio_script.specs.PlainForm.{IsPlainScript};
 ghost use Rattle.zio_script.specs.declared.script.Script.{Script};
 ghost use Rattle.zio_script.specs.declared.script.ScriptFault.{ScriptFault};
 ghost use Rattle.zio_report.specs.Meanings.{IsEmptyJournal, IsMeaning};
-ghost use Rattle.zio_gang.specs.declared.ending.Ending.TheVariants.{Complete};
+ghost use Rattle.zio_gang.specs.declared.ending.Ending.TheVariants.{Complete, Left};
 ghost use Rattle.zio_report.specs.Reports.{end_code, pool_text};
 ghost use Rattle.zio_cksum.specs.Images.{Images};
 ghost use Rattle.zio_plain.specs.Disks.{AnyRose, AreSameDisks, Tell};
-ghost use Rattle.zio_plain.specs.Rounds.{Begins, plain_show};
+ghost use Rattle.zio_plain.specs.Rounds.{Begins, IsReport};
+ghost use Rattle.zio_report.specs.declared.report.Show.{Show as SeenShow};
 ghost use Rattle.zio_run.specs.Commands.{IsCommand, IsNoCommand};
 ghost use Rattle.zio_run.specs.Headline.{Headline};
-ghost use Rattle.zio_run.specs.Outcomes.{HasLawfulSize, IsAfter, IsDue, IsSerialCode, KeepsOthers, images_line, script_line, words_line};
+ghost use Rattle.zio_run.specs.Outcomes.{HasLawfulSize, IsAfter, IsDue, IsRun, IsSerialCode, KeepsOthers, images_line, script_line, words_line};
 
-use crate::command::image_of;
+use crate::command::command_of;
 use crate::image::{is_lawful_size, space_over, top_over};
 use crate::lines::{
     CODE_DEVICE, CODE_MEMORY, CODE_SINK, CODE_SOURCE, code_of, end_with, refuse_image,
@@ -24,7 +26,7 @@ use std::alloc::Global;
 use zio_gang::Ending;
 use zio_outside::{Disk, FetchFault, Shelf, Sink, Source};
 use zio_plain::run_script;
-use zio_report::RunFault;
+use zio_report::{RunFault, Show};
 use zio_script::{Script, ScriptError, read_script};
 use zio_types::{Journal, Status};
 
@@ -50,17 +52,17 @@ where
     ensures codes { IsSerialCode result.code }
     ensures words { result.code ≡ 1 → IsNoCommand (map string_bytes words.now) }
     ensures no_command { IsNoCommand (map string_bytes words.now) → (result.code ≡ 1) ⊎ (result.code ≡ 6) }
-    ensures accepted { (result.code ≡ 0) ⊎ (result.code ≡ 3) ⊎ (result.code ≡ 7) →
+    ensures accepted { IsRun result.code ⊎ (result.code ≡ 3) ⊎ (result.code ≡ 7) →
         (text : List ℕ) → S.left script.old text → (read : Script) × IsScriptOf text read }
-    ensures images { result.code ≡ 3 → (name : List ℕ) → IsCommand (map string_bytes words.now) name →
+    ensures images { result.code ≡ 3 → (show : SeenShow) (name : List ℕ) → IsCommand (map string_bytes words.now) show name →
         (Rose (H.faults shelf.old) (H.faults shelf.new) × (H.fetches shelf.new ≡ H.fetches shelf.old))
         ⊎ ((image : List ℕ) → H.tells shelf.old → H.image shelf.old name image → ¬ HasLawfulSize (length image)) }
-    ensures measured { (result.code ≡ 0) ⊎ (result.code ≡ 7) → (name image : List ℕ) → IsCommand (map string_bytes words.now) name →
+    ensures measured { IsRun result.code ⊎ (result.code ≡ 7) → (show : SeenShow) (name image : List ℕ) → IsCommand (map string_bytes words.now) show name →
         H.tells shelf.old → H.image shelf.old name image → HasLawfulSize (length image) }
     ensures source { result.code ≡ 5 → Rose (S.faults script.old) (S.faults script.new) }
     ensures sink { result.code ≡ 6 → Rose (O.faults out.old) (O.faults out.new) }
     ensures device { result.code ≡ 7 → Rose (H.disk_faults shelf.old) (H.disk_faults shelf.new) }
-    ensures steady { result.code ≡ 0 → (S.faults script.new ≡ S.faults script.old) × (O.faults out.new ≡ O.faults out.old)
+    ensures steady { IsRun result.code → (S.faults script.new ≡ S.faults script.old) × (O.faults out.new ≡ O.faults out.old)
         × (H.faults shelf.new ≡ H.faults shelf.old) × (H.disk_faults shelf.new ≡ H.disk_faults shelf.old) }
 
     // What is written.
@@ -73,18 +75,18 @@ where
     ensures front { result.code ≡ 6 → (text : List ℕ) → S.left script.old text → (held : List ℕ) → O.holds out.old held →
         (full : List ℕ) × IsDue (map string_bytes words.now) text full × (n : ℕ) × O.holds out.new (held ++ take n full) }
 
-    // What code 0 says of the report, the images and the journal.
-    ensures headline { result.code ≡ 0 → (text name image : List ℕ) → S.left script.old text →
-        IsCommand (map string_bytes words.now) name → H.tells shelf.old → H.image shelf.old name image →
-        Headline plain_show text (name ∷ []) (image ∷ []) journal.new (H.image shelf.new)
+    // What the codes 0 and 9 say of the report, the images and the journal.
+    ensures headline { IsRun result.code → (text : List ℕ) (show : SeenShow) (name image : List ℕ) → S.left script.old text →
+        IsCommand (map string_bytes words.now) show name → H.tells shelf.old → H.image shelf.old name image →
+        Headline show text (name ∷ []) (image ∷ []) journal.new (H.image shelf.new)
         (O.holds out.old) (O.holds out.new) result.code }
 
     // No other code comes where all is in order and no count of faults rose.
-    ensures complete { (name text image : List ℕ) (read : Script) → IsCommand (map string_bytes words.now) name →
+    ensures complete { (show : SeenShow) (name text image : List ℕ) (read : Script) → IsCommand (map string_bytes words.now) show name →
         S.left script.old text → IsScriptOf text read → H.tells shelf.old → H.image shelf.old name image → HasLawfulSize (length image) →
         ¬ Rose (S.faults script.old) (S.faults script.new) → ¬ Rose (O.faults out.old) (O.faults out.new) →
         ¬ Rose (H.faults shelf.old) (H.faults shelf.new) → ¬ Rose (H.disk_faults shelf.old) (H.disk_faults shelf.new) →
-        (result.code ≡ 0) ⊎ (result.code ≡ 8) }
+        IsRun result.code ⊎ (result.code ≡ 8) }
 
     // What stays.
     ensures journal { (result.code ≡ 1) ⊎ (result.code ≡ 2) ⊎ (result.code ≡ 3) ⊎ (result.code ≡ 5) → journal.new ≡ journal.old }
@@ -93,10 +95,10 @@ where
     ensures untouched { result.code ≡ 3 → (H.disk_faults shelf.new ≡ H.disk_faults shelf.old) × (H.tells shelf.old →
         StaysHome (H.image shelf.old) (H.image shelf.new) (H.out shelf.old) (H.out shelf.new)) }
     ensures tells { H.tells shelf.old ↔ H.tells shelf.new }
-    ensures home { (name : List ℕ) → IsCommand (map string_bytes words.now) name → H.tells shelf.old →
+    ensures home { (show : SeenShow) (name : List ℕ) → IsCommand (map string_bytes words.now) show name → H.tells shelf.old →
         KeepsOthers name (H.image shelf.old) (H.image shelf.new) (H.out shelf.old) (H.out shelf.new) }
 {
-    let Some(name) = image_of(words) else {
+    let Some(command) = command_of(words) else {
         return end_with(out, "words\n", 1);
     };
     let bytes = match read_all(alloc, script) {
@@ -105,7 +107,15 @@ where
         Err(ReadFault::Memory) => return Status { code: CODE_MEMORY },
     };
     match read_script(alloc, bytes.as_slice()) {
-        Ok(script) => run_on_shelf(alloc, &script, name, shelf, out, journal),
+        Ok(script) => run_on_shelf(
+            alloc,
+            &script,
+            &command.show,
+            command.image,
+            shelf,
+            out,
+            journal,
+        ),
         Err(ScriptError::Fault(fault)) => refuse_script(alloc, out, fault),
         Err(ScriptError::Memory) => Status { code: CODE_MEMORY },
     }
@@ -115,6 +125,7 @@ where
 fn run_on_shelf<O: Sink, H: Shelf>(
     alloc: Global,
     script: &Script,
+    show: &Show,
     name: &str,
     shelf: &mut H,
     out: &mut O,
@@ -122,22 +133,23 @@ fn run_on_shelf<O: Sink, H: Shelf>(
 ) -> Status
 where
     H::Disk: Drop,
-    requires form { IsFirstScript script.now }
+    requires form { IsPlainScript script.now }
+    requires report { IsReport show.now }
     requires empty { IsEmptyJournal journal.old }
     requires home { H.tells shelf.old → (other : List ℕ) → ¬ H.out shelf.old other }
-    ensures codes { (result.code ≡ 0) ⊎ (result.code ≡ 3) ⊎ (result.code ≡ 6) ⊎ (result.code ≡ 7) ⊎ (result.code ≡ 8) }
+    ensures codes { IsRun result.code ⊎ (result.code ≡ 3) ⊎ (result.code ≡ 6) ⊎ (result.code ≡ 7) ⊎ (result.code ≡ 8) }
     ensures images { result.code ≡ 3 →
         (Rose (H.faults shelf.old) (H.faults shelf.new) × (H.fetches shelf.new ≡ H.fetches shelf.old))
         ⊎ ((image : List ℕ) → H.tells shelf.old → H.image shelf.old name.now image → ¬ HasLawfulSize (length image)) }
-    ensures measured { (result.code ≡ 0) ⊎ (result.code ≡ 7) → (image : List ℕ) → H.tells shelf.old → H.image shelf.old name.now image →
+    ensures measured { IsRun result.code ⊎ (result.code ≡ 7) → (image : List ℕ) → H.tells shelf.old → H.image shelf.old name.now image →
         HasLawfulSize (length image) }
     ensures sink { result.code ≡ 6 → Rose (O.faults out.old) (O.faults out.new) }
     ensures device { result.code ≡ 7 → Rose (H.disk_faults shelf.old) (H.disk_faults shelf.new) }
-    ensures steady { result.code ≡ 0 → (O.faults out.new ≡ O.faults out.old) × (H.faults shelf.new ≡ H.faults shelf.old)
+    ensures steady { IsRun result.code → (O.faults out.new ≡ O.faults out.old) × (H.faults shelf.new ≡ H.faults shelf.old)
         × (H.disk_faults shelf.new ≡ H.disk_faults shelf.old) }
     ensures images_line { result.code ≡ 3 → Appends (O.holds out.old) (O.holds out.new) (images_line 0) }
-    ensures meaning { result.code ≡ 0 → (image : List ℕ) → H.tells shelf.old → H.image shelf.old name.now image →
-        (after printed : List ℕ) × IsMeaning plain_show script.now (image ∷ []) journal.new (after ∷ []) printed result.code
+    ensures meaning { IsRun result.code → (image : List ℕ) → H.tells shelf.old → H.image shelf.old name.now image →
+        (after printed : List ℕ) × IsMeaning show.now script.now (image ∷ []) journal.new (after ∷ []) printed result.code
         × H.image shelf.new name.now after × Appends (O.holds out.old) (O.holds out.new) printed }
     ensures front { result.code ≡ 6 → AppendsFront (O.holds out.old) (O.holds out.new) (images_line 0)
         ⊎ Begins (O.holds out.old) (O.holds out.new) (pool_text 1 1) }
@@ -151,7 +163,7 @@ where
 {
     match shelf.fetch(name) {
         Ok(disk) => {
-            let (status, disk) = run_on_disk(alloc, script, disk, out, journal);
+            let (status, disk) = run_on_disk(alloc, script, show, disk, out, journal);
             shelf.give_back(disk);
             status
         }
@@ -164,21 +176,23 @@ where
 fn run_on_disk<O: Sink, D: Disk + Drop>(
     alloc: Global,
     script: &Script,
+    show: &Show,
     disk: D,
     out: &mut O,
     journal: &mut Journal,
 ) -> (Status, D)
-    requires form { IsFirstScript script.now }
+    requires form { IsPlainScript script.now }
+    requires report { IsReport show.now }
     requires empty { IsEmptyJournal journal.old }
-    ensures codes { (result.0.code ≡ 0) ⊎ (result.0.code ≡ 3) ⊎ (result.0.code ≡ 6) ⊎ (result.0.code ≡ 7) ⊎ (result.0.code ≡ 8) }
+    ensures codes { IsRun result.0.code ⊎ (result.0.code ≡ 3) ⊎ (result.0.code ≡ 6) ⊎ (result.0.code ≡ 7) ⊎ (result.0.code ≡ 8) }
     ensures images { result.0.code ≡ 3 → ¬ HasLawfulSize (D.bytes disk) }
-    ensures measured { (result.0.code ≡ 0) ⊎ (result.0.code ≡ 7) → HasLawfulSize (D.bytes disk) }
+    ensures measured { IsRun result.0.code ⊎ (result.0.code ≡ 7) → HasLawfulSize (D.bytes disk) }
     ensures sink { result.0.code ≡ 6 → Rose (O.faults out.old) (O.faults out.new) }
     ensures device { result.0.code ≡ 7 → Rose (D.faults disk) (D.faults result.1) }
-    ensures steady { result.0.code ≡ 0 → (O.faults out.new ≡ O.faults out.old) × (D.faults result.1 ≡ D.faults disk) }
+    ensures steady { IsRun result.0.code → (O.faults out.new ≡ O.faults out.old) × (D.faults result.1 ≡ D.faults disk) }
     ensures images_line { result.0.code ≡ 3 → Appends (O.holds out.old) (O.holds out.new) (images_line 0) }
-    ensures meaning { result.0.code ≡ 0 → (image : List ℕ) → D.image disk image →
-        (after printed : List ℕ) × IsMeaning plain_show script.now (image ∷ []) journal.new (after ∷ []) printed result.0.code
+    ensures meaning { IsRun result.0.code → (image : List ℕ) → D.image disk image →
+        (after printed : List ℕ) × IsMeaning show.now script.now (image ∷ []) journal.new (after ∷ []) printed result.0.code
         × D.image result.1 after × Appends (O.holds out.old) (O.holds out.new) printed }
     ensures front { result.0.code ≡ 6 → AppendsFront (O.holds out.old) (O.holds out.new) (images_line 0)
         ⊎ Begins (O.holds out.old) (O.holds out.new) (pool_text 1 1) }
@@ -190,7 +204,7 @@ fn run_on_disk<O: Sink, D: Disk + Drop>(
     if let Err(refused) = disks.push(disk) {
         return (Status { code: CODE_MEMORY }, refused.value);
     }
-    let status = run_over(alloc, script, disks.as_mut_slice(), out, journal);
+    let status = run_over(alloc, script, show, disks.as_mut_slice(), out, journal);
     (status, disks.remove(0))
 }
 
@@ -198,22 +212,24 @@ fn run_on_disk<O: Sink, D: Disk + Drop>(
 fn run_over<O: Sink, D: Disk>(
     alloc: Global,
     script: &Script,
+    show: &Show,
     disks: &mut [D],
     out: &mut O,
     journal: &mut Journal,
 ) -> Status
-    requires form { IsFirstScript script.now }
+    requires form { IsPlainScript script.now }
+    requires report { IsReport show.now }
     requires empty { IsEmptyJournal journal.old }
     requires one { length disks.old ≡ 1 }
-    ensures codes { (result.code ≡ 0) ⊎ (result.code ≡ 3) ⊎ (result.code ≡ 6) ⊎ (result.code ≡ 7) ⊎ (result.code ≡ 8) }
+    ensures codes { IsRun result.code ⊎ (result.code ≡ 3) ⊎ (result.code ≡ 6) ⊎ (result.code ≡ 7) ⊎ (result.code ≡ 8) }
     ensures images { result.code ≡ 3 → ¬ HasLawfulSize (slice_index_or (map D.bytes disks.old) 0 0) }
-    ensures measured { (result.code ≡ 0) ⊎ (result.code ≡ 7) → HasLawfulSize (slice_index_or (map D.bytes disks.old) 0 0) }
+    ensures measured { IsRun result.code ⊎ (result.code ≡ 7) → HasLawfulSize (slice_index_or (map D.bytes disks.old) 0 0) }
     ensures sink { result.code ≡ 6 → Rose (O.faults out.old) (O.faults out.new) }
     ensures device { result.code ≡ 7 → AnyRose (map D.faults disks.old) (map D.faults disks.new) }
-    ensures steady { result.code ≡ 0 → (O.faults out.new ≡ O.faults out.old) × (map D.faults disks.new ≡ map D.faults disks.old) }
+    ensures steady { IsRun result.code → (O.faults out.new ≡ O.faults out.old) × (map D.faults disks.new ≡ map D.faults disks.old) }
     ensures images_line { result.code ≡ 3 → Appends (O.holds out.old) (O.holds out.new) (images_line 0) }
-    ensures meaning { result.code ≡ 0 → (before : Images) → Tell D.image disks.old before →
-        (after : Images) × (printed : List ℕ) × IsMeaning plain_show script.now before journal.new after printed result.code
+    ensures meaning { IsRun result.code → (before : Images) → Tell D.image disks.old before →
+        (after : Images) × (printed : List ℕ) × IsMeaning show.now script.now before journal.new after printed result.code
         × Tell D.image disks.new after × Appends (O.holds out.old) (O.holds out.new) printed }
     ensures front { result.code ≡ 6 → AppendsFront (O.holds out.old) (O.holds out.new) (images_line 0)
         ⊎ Begins (O.holds out.old) (O.holds out.new) (pool_text 1 1) }
@@ -225,7 +241,7 @@ fn run_over<O: Sink, D: Disk>(
     if !is_lawful_size(size) {
         return refuse_image(alloc, out, 0);
     }
-    match run_sized(alloc, script, size, disks, out, journal) {
+    match run_sized(alloc, script, show, size, disks, out, journal) {
         Ok(ending) => Status {
             code: code_of(ending),
         },
@@ -239,18 +255,20 @@ fn run_over<O: Sink, D: Disk>(
 fn run_sized<O: Sink, D: Disk>(
     alloc: Global,
     script: &Script,
+    show: &Show,
     size: u64,
     disks: &mut [D],
     out: &mut O,
     journal: &mut Journal,
 ) -> Result<Ending, RunFault>
-    requires form { IsFirstScript script.now }
+    requires form { IsPlainScript script.now }
+    requires report { IsReport show.now }
     requires empty { IsEmptyJournal journal.old }
     requires size { map D.bytes disks.old ≡ size ∷ [] }
     requires lawful { HasLawfulSize size }
-    ensures ending { IfOk result (λ ending. ending ≡ Complete) }
+    ensures ending { IfOk result (λ ending. (ending ≡ Complete) ⊎ (ending ≡ Left)) }
     ensures meaning { IfOk result (λ ending. (before : Images) → Tell D.image disks.old before →
-        (after : Images) × (printed : List ℕ) × IsMeaning plain_show script.now before journal.new after printed (end_code ending)
+        (after : Images) × (printed : List ℕ) × IsMeaning show.now script.now before journal.new after printed (end_code ending)
         × Tell D.image disks.new after × Appends (O.holds out.old) (O.holds out.new) printed) }
     ensures steady { OnOk result ((map D.faults disks.new ≡ map D.faults disks.old) × (O.faults out.new ≡ O.faults out.old)) }
     ensures device { IsErrOf result RunFault.Device → AnyRose (map D.faults disks.old) (map D.faults disks.new) }
@@ -260,5 +278,5 @@ fn run_sized<O: Sink, D: Disk>(
 {
     let tops = top_over(alloc, size)?;
     let mut space = space_over(alloc, size)?;
-    run_script(alloc, script, tops, disks, &mut space, out, journal)
+    run_script(alloc, script, show, tops, disks, &mut space, out, journal)
 }

@@ -22,6 +22,9 @@ struct Fails<'a> {
     sink: &'a [u64],
 }
 
+/// The bytes that a sink takes.
+const ROOM: u64 = 8192;
+
 const NONE: &[u64] = &[];
 
 const STEADY: Fails<'static> = Fails {
@@ -69,8 +72,10 @@ struct Case<'a> {
     fails: Fails<'a>,
     code: u8,
     output: &'a [u8],
-    /// How many sectors of the disk are 512 bytes 0x41 afterwards. All others are zeros.
+    /// How many sectors of the disk are 512 bytes 0x41 afterwards.
     written: usize,
+    /// How many have other bytes that aren't all zeros.
+    others: usize,
 }
 
 /// The shortest script over the smallest image.
@@ -82,6 +87,22 @@ const SHORTEST: Case<'static> = Case {
     code: 0,
     output: b"pool 1 1\nend 0\n",
     written: 0,
+    others: 0,
+};
+
+/// Three bodies in a batch, their reads by every class with a read of no block, and a second write of a name. The sums are
+/// fletcher4 of the bodies with zeros up to a sector.
+const BODIES: Case<'static> = Case {
+    script: b"# bodies\n\ntop 0\n1 write a off 1 async data 00fF\n2\twrite b  fletcher4 1 sync fill 42 3\r\n\
+        3 write c sha256 1 sync seq 0 12\ngo\n4 read a scrub\n5 read b async\n6 read c sync\n7 read d sync\ngo\n\
+        8 write a off 1 sync fill 41 512\ngo",
+    output: b"pool 1 1\nround 1 batch 1 point 0\n1 write a ok 512\n2 write b ok 512\n3 write c ok 512\n\
+        round 2 batch 2 point 0\n4 read a ok 512 ff00:7f8000:201fc000:5700a8000\n\
+        5 read b ok 512 424242:21212100:858d8d080:169b4b34b00\n\
+        6 read c ok 512 1902769ff:c6f63aa99e:31dabea9dbf2:864badd066b00\n7 read d ENOENT\n\
+        round 3 batch 3 point 0\n8 write a EEXIST\nend 0\n",
+    others: 3,
+    ..SHORTEST
 };
 
 /// A write and its read. The sum is fletcher4 of 512 bytes 0x41.
@@ -104,7 +125,7 @@ fn sectors_of(image: &[u8], byte: u8) -> usize {
 /// Runs the case and compares its code, its output and the disk, which is home afterwards.
 fn check(rt: &impl Abort, alloc: Global, case: &Case<'_>) -> Result<(), Fail> {
     let mut source = MemSource::new(list(alloc, case.script)?, list(alloc, case.fails.source)?);
-    let mut sink = MemSink::new(alloc, 256, list(alloc, case.fails.sink)?)?;
+    let mut sink = MemSink::new(alloc, ROOM, list(alloc, case.fails.sink)?)?;
     let mut shelf = shelf_of(alloc, case.image_len, &case.fails)?;
     let words = words_of(alloc, case.words)?;
     let mut journal = Journal::new(alloc);
@@ -122,7 +143,11 @@ fn check(rt: &impl Abort, alloc: Global, case: &Case<'_>) -> Result<(), Fail> {
         Some(disk) => {
             assert_eq!(rt; sectors_of(disk.image(), 0x41), case.written);
             let zeros = sectors_of(disk.image(), 0);
-            assert_eq!(rt; zeros.checked_add(case.written), Some(case.image_len / 512));
+            let used = case.written.checked_add(case.others);
+            assert_eq!(rt;
+                used.and_then(|n| zeros.checked_add(n)),
+                Some(case.image_len / 512)
+            );
             Ok(())
         }
         None => Err(Fail::from("the disk isn't home")),
@@ -134,6 +159,7 @@ fn scripts_run_to_their_reports(rt: HostRuntime) -> Result<(), Fail> {
     let alloc = rt.alloc();
     check(&rt, alloc, &SHORTEST)?;
     check(&rt, alloc, &WRITE_THEN_READ)?;
+    check(&rt, alloc, &BODIES)?;
     check(
         &rt,
         alloc,
@@ -149,12 +175,9 @@ fn scripts_run_to_their_reports(rt: HostRuntime) -> Result<(), Fail> {
 fn refuses_words(rt: &impl Abort, alloc: Global, words: &[&str]) -> Result<(), Fail> {
     let case = Case {
         words,
-        script: b"top 0\n",
-        image_len: 65536,
-        fails: STEADY,
         code: 1,
         output: b"words\n",
-        written: 0,
+        ..SHORTEST
     };
     check(rt, alloc, &case)
 }
@@ -167,13 +190,10 @@ fn refuses_script<'a>(
     output: &'a [u8],
 ) -> Result<(), Fail> {
     let case = Case {
-        words: &["run", "a"],
         script,
-        image_len: 65536,
-        fails: STEADY,
         code: 2,
         output,
-        written: 0,
+        ..SHORTEST
     };
     check(rt, alloc, &case)
 }
@@ -187,11 +207,15 @@ fn what_is_refused_is_told(rt: HostRuntime) -> Result<(), Fail> {
     refuses_words(&rt, alloc, &["run", ""])?;
     refuses_words(&rt, alloc, &["go", "a"])?;
     refuses_words(&rt, alloc, &["run", "a", "b"])?;
-    refuses_script(&rt, alloc, b"", b"script 1 10\n")?;
-    refuses_script(&rt, alloc, b"top 0", b"script 1 10\n")?;
-    refuses_script(&rt, alloc, b"top 0\ngo\n", b"script 2 10\n")?;
-    let without_go = b"top 0\n1 write x sha256 1 sync fill 41 512\n";
-    refuses_script(&rt, alloc, without_go, b"script 3 10\n")?;
+    refuses_words(&rt, alloc, &["run", "a", "--data"])?;
+    refuses_words(&rt, alloc, &["run", "--picks", "a"])?;
+    refuses_words(&rt, alloc, &["run", "--journal", "--journal", "a"])?;
+    refuses_words(&rt, alloc, &["run", "--data", "--journal", "--data", "a"])?;
+    refuses_script(&rt, alloc, b"", b"script 1 9\n")?;
+    refuses_script(&rt, alloc, b"top 0\n1 wri", b"script 2 1\n")?;
+    let same_name = b"top 0\n1 read x sync\n2 read x sync\ngo\n";
+    refuses_script(&rt, alloc, same_name, b"script 3 6\n")?;
+    refuses_script(&rt, alloc, b"# later\ntop 0\nclear\n", b"script 3 10\n")?;
     check(
         &rt,
         alloc,
@@ -203,6 +227,114 @@ fn what_is_refused_is_told(rt: HostRuntime) -> Result<(), Fail> {
             ..WRITE_THEN_READ
         },
     )
+}
+
+/// Runs a script over a shelf of one disk `a` of 128 sectors, and gives its code and its output beside the disk's image.
+fn run_of(
+    alloc: Global,
+    words: &[&str],
+    script: List<u8>,
+) -> Result<(u8, MemSink, MemShelf), Fail> {
+    let mut source = MemSource::new(script, List::new(alloc));
+    let mut sink = MemSink::new(alloc, ROOM, List::new(alloc))?;
+    let mut shelf = shelf_of(alloc, 65536, &STEADY)?;
+    let words = words_of(alloc, words)?;
+    let mut journal = Journal::new(alloc);
+    let status = zio_serial_main(
+        alloc,
+        words.as_slice(),
+        &mut source,
+        &mut shelf,
+        &mut sink,
+        &mut journal,
+    );
+    Ok((status.code, sink, shelf))
+}
+
+/// The sector of the disk that is 512 bytes 0x41.
+fn filled_sector(shelf: &MemShelf) -> Option<usize> {
+    shelf
+        .disk("a")?
+        .image()
+        .chunks(512)
+        .position(|sector| sector.iter().all(|b| *b == 0x41))
+}
+
+#[test]
+fn journal_and_bytes_are_shown(rt: HostRuntime) -> Result<(), Fail> {
+    let alloc = rt.alloc();
+    let sum = "20a0a0a080:83878787040:16439b9b85580:2d92628254f020";
+    let digits = "41".repeat(alloc, 512)?;
+    for (words, journal, bytes) in [
+        (&["run", "--journal", "a"] as &[&str], true, false),
+        (&["run", "--data", "a"], false, true),
+        (&["run", "--journal", "--data", "a"], true, true),
+        (&["run", "--data", "--journal", "a"], true, true),
+    ] {
+        let (code, sink, shelf) = run_of(alloc, words, list(alloc, WRITE_THEN_READ.script)?)?;
+        let Some(sector) = filled_sector(&shelf) else {
+            return Err(Fail::from("nothing was written"));
+        };
+        let (take, first, second) = if journal {
+            (
+                format!(in alloc; "take 1 0 - body 512 1 0:{sector}\n")?,
+                "order 1\n",
+                "order 2\n",
+            )
+        } else {
+            (String::new(alloc), "", "")
+        };
+        let shown = if bytes {
+            format!(in alloc; " data {}", digits.as_str())?
+        } else {
+            String::new(alloc)
+        };
+        let expected = format!(in alloc;
+            "pool 1 1\nround 1 batch 1 point 0\n1 write x ok 512\n{}{first}round 2 batch 2 point 0\n2 read x ok 512 {sum}{}\n{second}end 0\n",
+            take.as_str(),
+            shown.as_str()
+        )?;
+        assert_eq!(rt; code, 0);
+        assert_eq!(rt; sink.held(), expected.as_bytes());
+    }
+    Ok(())
+}
+
+/// A batch of 129 writes of a sector, one more than the disk has.
+fn writes_of_129_sectors(alloc: Global) -> Result<String, Fail> {
+    let mut script = String::from_str(alloc, "top 0\n")?;
+    for i in 1..130u32 {
+        let line = format!(in alloc; "{i} write b{i} sha256 1 sync fill 41 512\n")?;
+        script.push_str(line.as_str())?;
+    }
+    script.push_str("go\n")?;
+    Ok(script)
+}
+
+/// How many lines of the text end so.
+fn lines_with_end(text: &[u8], end: &[u8]) -> usize {
+    text.split(|c| *c == b'\n')
+        .filter(|line| line.ends_with(end))
+        .count()
+}
+
+#[test]
+fn one_of_129_writes_is_suspended(rt: HostRuntime) -> Result<(), Fail> {
+    let alloc = rt.alloc();
+    for (more, end) in [
+        ("", b"\nend 9\n" as &[u8]),
+        ("200 read b1 sync\ngo\n", b"\nheld 2\nend 9\n"),
+    ] {
+        let mut script = writes_of_129_sectors(alloc)?;
+        script.push_str(more)?;
+        let (code, sink, _shelf) = run_of(alloc, &["run", "a"], list(alloc, script.as_bytes())?)?;
+        assert_eq!(rt; code, 9);
+        assert_eq!(rt; lines_with_end(sink.held(), b" suspended"), 1);
+        assert_eq!(rt; lines_with_end(sink.held(), b" ok 512"), 128);
+        assert_eq!(rt; lines_with_end(sink.held(), b" point 0"), 1);
+        assert_eq!(rt; sink.held().ends_with(end), true);
+    }
+    Ok(())
 }
 
 #[test]
@@ -293,7 +425,7 @@ fn each_failing_call_has_its_code(rt: HostRuntime) -> Result<(), Fail> {
 fn bytes_that_a_disk_lost_are_a_checksum_error(rt: HostRuntime) -> Result<(), Fail> {
     let alloc = rt.alloc();
     let mut source = MemSource::new(list(alloc, WRITE_THEN_READ.script)?, List::new(alloc));
-    let mut sink = MemSink::new(alloc, 256, List::new(alloc))?;
+    let mut sink = MemSink::new(alloc, ROOM, List::new(alloc))?;
     let mut shelf = ForgetfulShelf::new();
     let words = words_of(alloc, &["run", "a"])?;
     let mut journal = Journal::new(alloc);

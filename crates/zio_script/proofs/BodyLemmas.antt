@@ -1,11 +1,14 @@
 -- The bytes of the generator, eight in a turn.
-use Rattle.std.proofs.Common.{◌≡◌, ◌<◌, ◌≤◌, ◌+◌, ◌-◌, ◌/◌, ◌⊎◌, ℕ, List, [], ◌++◌, length, take, min, refl, sym, ap, ◌∙◌, subst, inl, inr, arith, add-one}
+use Rattle.std.proofs.Common.{◌≡◌, ◌<◌, ◌≤◌, ◌+◌, ◌-◌, ◌*◌, ◌/◌, ◌⊎◌, ℕ, zero, suc, List, [], ◌++◌, length, take, min, refl, sym, ap, ◌∙◌, subst, inl, inr, arith, add-one}
 use Rattle.std.proofs.lemmas.Bool.{cases_lt}
-use Rattle.std.proofs.lemmas.List.{append_assoc, append-nil, take-append-le, take_all}
+use Rattle.std.proofs.lemmas.List.{append_assoc, append-nil, length-append, length-replicate, length-take, take-append-le, take_all}
 use Rattle.std.proofs.Math.Nat.{div-eq-sub-div}
 use Rattle.std.proofs.Math.Seq.{take-append-add}
 use Rattle.std.specs.Int.{w64, to_le_bytes}
-use Rattle.zio_script.specs.Bodies.{generated, next_state, sequence}
+use Rattle.zio_script.specs.declared.script.Body.{Body}
+use Rattle.zio_script.specs.declared.script.Body.TheVariants.{Hex, Fill, Seq}
+use Rattle.zio_script.specs.Bodies.{body_of, generated, next_state, sequence}
+use Rattle.zio_script.specs.Whys.{body_len}
 
 -- these bytes are a front of the sequence, and the others follow from the state
 pub record IsSequenceFront (seed len state left : ℕ) (bytes : List ℕ) : Type 0 where
@@ -57,3 +60,24 @@ sequence_more seed len state left taken bytes more is taken_is added = record {
       ∙ (append_assoc bytes (take taken (to_le_bytes w64 (next_state state))) (take (left - taken) (generated (next_state state) ((left - taken) / 8 + 1)))
       ∙ (ap (λ (xs : List ℕ). bytes ++ xs) (sym (turn state left taken taken_is)) ∙ is.whole));
 }
+
+-- ---- how many bytes a body has
+
+length-generated : (state n : ℕ) → length (generated state n) ≡ 8 * n
+unfolding generated
+length-generated state zero = refl
+length-generated state (suc n) =
+    let more : length (generated (next_state state) n) ≡ 8 * n = length-generated (next_state state) n in
+    let word : length (to_le_bytes w64 (next_state state)) ≡ 8 = refl in
+    simp length-append (omega arith)
+
+length-sequence : (seed len : ℕ) → length (sequence seed len) ≡ len
+unfolding sequence
+length-sequence seed len =
+    let all : length (generated seed (len / 8 + 1)) ≡ 8 * (len / 8 + 1) = length-generated seed (len / 8 + 1) in
+    simp length-take (omega arith)
+
+pub length-body : (body : Body) → length (body_of body) ≡ body_len body
+length-body (Hex bytes) = refl
+length-body (Fill byte len) = length-replicate len byte
+length-body (Seq seed len) = length-sequence seed len

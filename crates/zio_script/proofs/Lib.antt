@@ -1,7 +1,11 @@
-pub mod WordLemmas
-pub mod LineLemmas
-pub mod FrontLemmas
-pub mod SoFarLemmas
-pub mod FaultLemmas
 pub mod BodyLemmas
-pub mod OneScript
+pub mod DraftLemmas
+pub mod FormLemmas
+pub mod FrontLemmas
+pub mod KeptLemmas
+pub mod KeyLemmas
+pub mod ReadLemmas
+pub mod ShapeLemmas
+pub mod ShortLemmas
+pub mod SizeLemmas
+pub mod WordLemmas

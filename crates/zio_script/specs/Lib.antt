@@ -1,7 +1,10 @@
 pub mod Bodies
-pub mod FirstForm
+pub mod Built
+pub mod Drafts
 pub mod Grammar
+pub mod Keys
 pub mod Lines
+pub mod PlainForm
 pub mod Reading
 pub mod Requests
 pub mod Whys

@@ -1,79 +1,193 @@
--- What the reader's own steps find at the front of a text.
-use Rattle.std.specs.Prelude.{◌≡◌, ◌≢◌, ◌<◌, ◌≤◌, ℕ, List, [], ◌∷◌, ◌++◌, ◌⊎◌, Option, Some, None, true, false, codes}
-use Rattle.std.specs.List.{AllByRecursion}
-use Rattle.zio_types.specs.declared.request.Prio.TheVariants.{SyncRead, SyncWrite}
-use Rattle.zio_blkptr.specs.declared.pointer.SumKind.TheVariants.{Sha256}
-use Rattle.zio_script.specs.declared.script.Body.TheVariants.{Fill}
-use Rattle.zio_script.specs.declared.script.Failmode.TheVariants.{Wait}
-use Rattle.zio_script.specs.declared.script.Item.{Item}
-use Rattle.zio_script.specs.declared.script.Item.TheVariants.{Request as RequestLine}
-use Rattle.zio_script.specs.declared.script.Request.{Request}
-use Rattle.zio_script.specs.declared.script.Script.{Script}
+-- What the reader finds in one line: the reader's own words for it, and nothing that has to be believed.
+use Rattle.std.specs.Prelude.{◌≡◌, ℕ, List, [], ◌∷◌, Bool, true, false, Option, Some, None, option_map, codes}
+use Rattle.zio_types.specs.declared.request.Kind.{Kind}
+use Rattle.zio_types.specs.declared.request.Kind.TheVariants.{Null as NullKind, Read as ReadKind, Write as WriteKind, Free as FreeKind, Claim as ClaimKind}
+use Rattle.zio_script.specs.declared.fixed.FirstWord.{FirstWord}
+use Rattle.zio_script.specs.declared.fixed.FirstWord.TheVariants.{Failmode as FailmodeWord, Top as TopWord, Fault as FaultWord, Go as GoWord, Clear as ClearWord}
+use Rattle.zio_script.specs.declared.fixed.BodyForm.{BodyForm}
+use Rattle.zio_script.specs.declared.fixed.BodyForm.TheVariants.{Data, Fill, Seq}
+use Rattle.zio_script.specs.declared.line.Asked.{Asked}
+use Rattle.zio_script.specs.declared.line.Deed.{Deed}
+use Rattle.zio_script.specs.declared.line.Deed.TheVariants.{Read as ReadDeed, Write as WriteDeed}
+use Rattle.zio_script.specs.declared.line.Line.{Line}
+use Rattle.zio_script.specs.declared.line.Line.TheVariants.{Top, Go, Request}
+use Rattle.zio_script.specs.declared.line.LineFault.{LineFault}
+use Rattle.zio_script.specs.declared.line.LineFault.TheVariants.{NotBuilt, NoShape, NoNumber, Memory}
+use Rattle.zio_script.specs.declared.shape.BodyShape.{BodyShape as BodyWords}
+use Rattle.zio_script.specs.declared.shape.BodyShape.TheVariants.{Hex as HexWords, Fill as FillWords, Seq as SeqWords}
+use Rattle.zio_script.specs.declared.shape.DeedShape.{DeedShape as DeedWords}
+use Rattle.zio_script.specs.declared.shape.DeedShape.TheVariants.{Read as ReadWords, Write as WriteWords}
+use Rattle.zio_script.specs.declared.shape.LineShape.{LineShape as ShapeWords}
+use Rattle.zio_script.specs.declared.shape.LineShape.TheVariants.{Top as TopWords, Go as GoWords, Request as RequestWords}
+use Rattle.zio_script.specs.declared.shape.RequestShape.{RequestShape as AskedShape}
+use Rattle.zio_script.specs.declared.script.Work.{Work}
 use Rattle.zio_script.specs.declared.script.Work.TheVariants.{Read, Write}
-use Rattle.zio_script.specs.FirstForm.{IsFirstRead, IsFirstWrite, IsHexByte, IsLineOf, IsName, first_size, number_max}
+use Rattle.zio_script.specs.Built.{is_built, is_hex_built, is_len_built, is_long_len, is_never_built, is_top_built, is_read_built, is_write_built, is_built_as}
+use Rattle.zio_script.specs.Lines.{Asked as AskedWords, BodyShape, HexShape, FillShape, SeqShape, WorkShape, ReadShape, WriteShape, Line as LineWords, TopLine, RequestLine, GoLine, Shape, TopShape, RequestShape, GoShape, shape_of, failmode_shape, top_shape, fault_shape, go_shape, clear_shape, body_of_shape, line_of, ◌>>=◌}
+use Rattle.zio_script.specs.Words.{Entry, Word, sum_words, value_in, write_classes}
 
--- ---- words
+-- what a request does on this block
+abbrev pub work_on : List ℕ → Deed → Work
+work_on name (ReadDeed prio) = Read name prio
+work_on name (WriteDeed sum prio body) = Write name sum 1 prio body
 
-abbrev pub Lacks : ℕ → List ℕ → Type 0
-Lacks c text = AllByRecursion (λ b. b ≢ c) text
+-- a request under no other, without a flag
+abbrev pub asked_alone : Asked → AskedWords
+asked_alone asked = record { number = asked.number; work = work_on asked.name.now asked.deed; under = None; flag = None }
 
--- a word with the blank after it, and the rest
-pub record IsWord (text word rest : List ℕ) : Type 0 where
-  pub text_is : text ≡ word ++ (32 ∷ rest)
-  pub whole : Lacks 32 word
+-- the line that was read
+abbrev pub line_as : Line → LineWords
+line_as Top = TopLine (0 ∷ [])
+line_as Go = GoLine
+line_as (Request asked) = RequestLine (asked_alone asked)
 
-abbrev pub IsNumber : ℕ → Type 0
-IsNumber n = (1 ≤ n) × (n ≤ number_max)
+-- the words are this line, whose form is built
+pub record IsLineOf (words : List Word) (line : LineWords) : Type 0 where
+  pub shape : Shape
+  pub built : is_built words ≡ true
+  pub shape_is : shape_of words ≡ Some shape
+  pub line_is : line_of shape ≡ Some line
 
--- two hexadecimal digits, and the rest
-pub record IsByteWord (text : List ℕ) (byte : ℕ) (rest : List ℕ) : Type 0 where
-  pub digits : List ℕ
-  pub hex : IsHexByte digits byte
-  pub text_is : text ≡ digits ++ rest
+-- a word of the line's shape isn't what it stands for
+pub record HasNoNumber (words : List Word) : Type 0 where
+  pub shape : Shape
+  pub built : is_built words ≡ true
+  pub shape_is : shape_of words ≡ Some shape
+  pub wrong : line_of shape ≡ None
 
--- ---- requests
+-- why the words are no line; memory may always be wanting
+abbrev pub IsWhyOf : List Word → LineFault → Type 0
+IsWhyOf words NotBuilt = is_built words ≡ false
+IsWhyOf words NoShape = (is_built words ≡ true) × (shape_of words ≡ None)
+IsWhyOf words NoNumber = HasNoNumber words
+IsWhyOf words Memory = Unit {0}
 
--- what a read of this number says after its number
-pub record IsReadEnd (number : ℕ) (text : List ℕ) (r : Request) (rest : List ℕ) : Type 0 where
-  pub name : List ℕ
-  pub named : IsName name
-  pub text_is : text ≡ codes "read " ++ (name ++ (32 ∷ (codes "sync\n" ++ rest)))
-  pub number_is : r.number ≡ number
-  pub work : r.work ≡ Read name SyncRead
-  pub root : r.under ≡ None
-  pub may : r.canfail ≡ true
+-- ---- fixed words
 
--- what a write of this number says after its number
-pub record IsWriteEnd (number : ℕ) (text : List ℕ) (r : Request) (rest : List ℕ) : Type 0 where
-  pub name : List ℕ
-  pub byte : ℕ
-  pub after : List ℕ
-  pub named : IsName name
-  pub fill : IsByteWord after byte (codes " 512\n" ++ rest)
-  pub text_is : text ≡ codes "write " ++ (name ++ (32 ∷ (codes "sha256 1 sync fill " ++ after)))
-  pub number_is : r.number ≡ number
-  pub work : r.work ≡ Write name Sha256 1 SyncWrite (Fill byte first_size)
-  pub root : r.under ≡ None
-  pub must : r.canfail ≡ false
+-- what the first word of a line stands for, unless it is a request
+abbrev pub line_words : List (Entry FirstWord)
+line_words =
+    record { word = codes "failmode"; value = FailmodeWord }
+    ∷ record { word = codes "top"; value = TopWord }
+    ∷ record { word = codes "fault"; value = FaultWord }
+    ∷ record { word = codes "go"; value = GoWord }
+    ∷ record { word = codes "clear"; value = ClearWord } ∷ []
 
-abbrev pub IsAbove : Option ℕ → ℕ → Type 0
-IsAbove None number = Unit {0}
-IsAbove (Some last) number = last < number
+-- which lines with this first word are built, by the words behind it
+abbrev pub is_first_built : FirstWord → List Word → Bool
+is_first_built FailmodeWord words = false
+is_first_built TopWord words = is_top_built words
+is_first_built FaultWord words = false
+is_first_built GoWord words = true
+is_first_built ClearWord words = false
 
--- the request may stand after one of this number, or first
-abbrev pub IsNext : Option ℕ → Request → Type 0
-IsNext None r = IsFirstWrite 0 r ⊎ IsFirstRead 0 r
-IsNext (Some last) r = IsFirstRead last r
+-- what the first word of a body stands for
+abbrev pub body_form_words : List (Entry BodyForm)
+body_form_words =
+    record { word = codes "data"; value = Data }
+    ∷ record { word = codes "fill"; value = Fill }
+    ∷ record { word = codes "seq"; value = Seq } ∷ []
 
--- the line of a request that may come next, with its newline, and the rest
-pub record IsRequestLine (last : Option ℕ) (text : List ℕ) (r : Request) (rest : List ℕ) : Type 0 where
-  pub line : List ℕ
-  pub text_is : text ≡ line ++ (10 ∷ rest)
-  pub spelled : IsLineOf line (RequestLine r)
-  pub next : IsNext last r
+-- which requests of a kind are built
+abbrev pub work_form : Kind → List Word → Bool
+work_form NullKind = is_never_built
+work_form ReadKind = is_read_built
+work_form WriteKind = is_write_built
+work_form FreeKind = is_never_built
+work_form ClaimKind = is_never_built
 
--- ---- texts
+-- which bodies of a form are built
+abbrev pub content_form : BodyForm → List Word → Bool
+content_form Data = is_hex_built
+content_form Fill = is_len_built
+content_form Seq = is_len_built
 
--- the script with one top of leaf 0, no faults, and these items
-abbrev pub first_script : List Item → Script
-first_script items = record { failmode = Wait; tops = (0 ∷ []) ∷ []; faults = []; items = items }
+-- what stands behind a request's kind is built
+abbrev pub is_work_built : Option Kind → List Word → Bool
+is_work_built kind words = is_built_as (option_map work_form kind) words
+
+-- what stands behind the first word of a body is built
+abbrev pub is_content_built : Option BodyForm → List Word → Bool
+is_content_built form words = is_built_as (option_map content_form form) words
+
+-- ---- shapes
+
+-- the shape of a body
+abbrev pub body_shape_as : BodyWords → BodyShape
+body_shape_as (HexWords hex) = HexShape hex.now
+body_shape_as (FillWords byte len) = FillShape byte.now len.now
+body_shape_as (SeqWords seed len) = SeqShape seed.now len.now
+
+-- the shape of what a request does on this block
+abbrev pub deed_shape_as : Word → DeedWords → WorkShape
+deed_shape_as name (ReadWords prio) = ReadShape name prio
+deed_shape_as name (WriteWords sum prio body) = WriteShape name sum (codes "1") prio (body_shape_as body)
+
+-- the shape of a request under no other, without a flag
+abbrev pub request_shape_as : AskedShape → Shape
+request_shape_as asked = RequestShape asked.number.now (deed_shape_as asked.name.now asked.deed) (record { under = None; flag = None })
+
+-- the shape that was read
+abbrev pub line_shape_as : ShapeWords → Shape
+line_shape_as TopWords = TopShape (codes "0" ∷ [])
+line_shape_as GoWords = GoShape
+line_shape_as (RequestWords asked) = request_shape_as asked
+
+-- the shape by the first word and those behind it
+abbrev pub first_shape : FirstWord → List Word → Option Shape
+first_shape FailmodeWord = failmode_shape
+first_shape TopWord = top_shape
+first_shape FaultWord = fault_shape
+first_shape GoWord = go_shape
+first_shape ClearWord = clear_shape
+
+-- a body of this form that is all of these words
+abbrev pub content_of : BodyForm → List Word → Option BodyShape
+content_of Data (hex ∷ []) = Some (HexShape hex)
+content_of Fill (hh ∷ len ∷ []) = Some (FillShape hh len)
+content_of Seq (seed ∷ len ∷ []) = Some (SeqShape seed len)
+content_of form words = None
+
+-- a body that is all of these words
+abbrev pub whole_body : List Word → Option BodyShape
+whole_body [] = None
+whole_body (word ∷ words) = value_in body_form_words word >>= λ form. content_of form words
+
+-- a write of one copy that stands alone
+abbrev pub one_copy_shape : Word → Word → Word → Word → List Word → Option Shape
+one_copy_shape n name sum class words = do
+  kind ← value_in sum_words sum
+  prio ← value_in write_classes class
+  body ← whole_body words
+  Some (RequestShape n (WriteShape name kind (codes "1") prio body) (record { under = None; flag = None }))
+
+-- the body's LEN is built
+abbrev pub HasBuiltLen : BodyWords → Type 0
+HasBuiltLen (HexWords hex) = Unit {0}
+HasBuiltLen (FillWords byte len) = is_long_len len.now ≡ false
+HasBuiltLen (SeqWords seed len) = is_long_len len.now ≡ false
+
+-- a write's LEN is built
+abbrev pub HasBuiltDeed : DeedWords → Type 0
+HasBuiltDeed (ReadWords prio) = Unit {0}
+HasBuiltDeed (WriteWords sum prio body) = HasBuiltLen body
+
+-- the line's LEN is built
+abbrev pub HasBuiltLine : ShapeWords → Type 0
+HasBuiltLine TopWords = Unit {0}
+HasBuiltLine GoWords = Unit {0}
+HasBuiltLine (RequestWords asked) = HasBuiltDeed asked.deed
+
+-- ---- numbers
+
+-- what a request does, once its words are read
+abbrev pub deed_of : DeedWords → Option Deed
+deed_of (ReadWords prio) = Some (ReadDeed prio)
+deed_of (WriteWords sum prio body) = option_map (λ it. WriteDeed sum prio it) (body_of_shape (body_shape_as body))
+
+-- why the words spell nothing; memory may always be wanting
+abbrev pub IsWrong : {X : Type 0} → Option X → LineFault → Type 0
+IsWrong spelled NotBuilt = ⊥
+IsWrong spelled NoShape = ⊥
+IsWrong spelled NoNumber = spelled ≡ None
+IsWrong spelled Memory = Unit {0}

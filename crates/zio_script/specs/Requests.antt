@@ -1,5 +1,5 @@
 -- What is asked of requests all over: their kinds, the blocks that they name, and whether they change one.
-use Rattle.std.specs.Prelude.{ℕ, List, [], ◌∷◌, Bool, true, false, Option, Some, None, ◌==◌}
+use Rattle.std.specs.Prelude.{ℕ, List, [], ◌∷◌, Bool, true, false, Option, Some, None, ◌==◌, bytes_eq}
 use Rattle.zio_types.specs.declared.request.Kind.{Kind}
 use Rattle.zio_types.specs.declared.request.Kind.TheVariants.{Null as NullKind, Read as ReadKind, Write as WriteKind, Free as FreeKind, Claim as ClaimKind}
 use Rattle.zio_script.specs.declared.script.Item.{Item}
@@ -22,6 +22,12 @@ name_of (Read name prio) = Some name
 name_of (Write name sum copies prio body) = Some name
 name_of (Free name) = Some name
 name_of (Claim name pointer) = Some name
+
+-- two blocks, both named and with the same name
+abbrev pub names_it : Option (List ℕ) → Option (List ℕ) → Bool
+names_it None named = false
+names_it (Some name) None = false
+names_it (Some name) (Some other) = bytes_eq name other
 
 -- the work needs a block of its name
 abbrev pub needs_block : Work → Bool

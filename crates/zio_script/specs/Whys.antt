@@ -1,6 +1,6 @@
 -- What is wrong with a line, after the lines before it, and with the end of a text: docs/FORMATS.md, "Words of a line" and
 -- "Whys".
-use Rattle.std.specs.Prelude.{ℕ, zero, suc, ◌+◌, ◌-◌, ◌*◌, ◌/◌, List, [], ◌∷◌, ◌++◌, length, map, reverse, find, fold, sum, count_by, Bool, true, false, not, ◌&&◌, ◌||◌, ◌==◌, nat_lt, nat_le, Option, Some, None, option_map, bytes_eq}
+use Rattle.std.specs.Prelude.{ℕ, zero, suc, ◌+◌, ◌-◌, ◌*◌, ◌/◌, List, [], ◌∷◌, ◌++◌, length, map, reverse, find, fold, sum, count_by, Bool, true, false, not, ◌&&◌, ◌||◌, ◌==◌, nat_lt, nat_le, Option, Some, None, option_map}
 use Rattle.std.specs.List.{list_any, list_all, flat_map}
 use Rattle.zio_types.specs.declared.request.Kind.{Kind}
 use Rattle.zio_types.specs.declared.request.Kind.TheVariants.{Null as NullKind, Read as ReadKind, Write as WriteKind, Free as FreeKind, Claim as ClaimKind}
@@ -17,7 +17,7 @@ use Rattle.zio_script.specs.declared.script.Script.{Script}
 use Rattle.zio_script.specs.declared.script.Work.{Work}
 use Rattle.zio_script.specs.declared.script.Work.TheVariants.{Null, Read, Write, Free, Claim}
 use Rattle.zio_script.specs.Lines.{Asked, Line, FailmodeLine, TopLine, FaultLine, RequestLine, GoLine, ClearLine}
-use Rattle.zio_script.specs.Requests.{kind_of, name_of, requests_of, is_under, is_under_number}
+use Rattle.zio_script.specs.Requests.{kind_of, name_of, names_it, requests_of, is_under, is_under_number}
 use Rattle.zio_script.specs.Words.{Word, is_empty, is_name}
 
 -- ---- what stands before a line
@@ -226,15 +226,9 @@ abbrev pub is_misnamed : Option Word → Bool
 is_misnamed None = false
 is_misnamed (Some name) = not (is_name name)
 
--- two names, both there and equal
-abbrev pub are_same : Option Word → Option Word → Bool
-are_same None b = false
-are_same (Some name) None = false
-are_same (Some name) (Some other) = bytes_eq name other
-
 -- an earlier request of the batch has this name
 abbrev pub is_taken : List Request → Option Word → Bool
-is_taken batch name = list_any (λ (r : Request). are_same name (name_of r.work)) batch
+is_taken batch name = list_any (λ (r : Request). names_it name (name_of r.work)) batch
 
 -- ---- why 7: flags
 

@@ -1,23 +1,26 @@
 //! Scripts: what a run is to do, on which tops and with which faults.
 //!
 //! It stands on `zio_types`, `zio_blkptr` and `zio_faults`. Read `Script` first, then `read_script`, then `body_bytes`.
-//! `specs/FirstForm` has the texts that are read so far, `specs/Bodies` the bytes of a write's body; docs/FORMATS.md,
-//! "Script", the language. `specs/Reading` is the reader's own, and nothing of it has to be believed.
+//! `specs/Grammar` says which texts are scripts, with `specs/Words`, `specs/Lines` and `specs/Whys` below it, `specs/Built`
+//! which forms are read so far, and `specs/Bodies` what the bytes of a write's body are; docs/FORMATS.md, "Script", has the
+//! language. `specs/Reading`, `specs/Drafts` and `specs/Keys` are the reader's own, and nothing of them has to be believed.
 #![tactic(auto)]
 
 mod body;
-mod laws;
+mod built;
+mod draft;
+mod fixed;
 mod line;
 mod name;
 mod read;
 mod script;
+mod shape;
 #[cfg(test)]
 mod tests;
 mod word;
 mod work;
 
 pub use body::body_bytes;
-pub use laws::{a_text_is_one_script, a_text_is_one_thing};
 pub use name::{NAME_LEN_MAX, Name};
 pub use read::{SCRIPT_LEN_MAX, read_script};
 pub use script::{Body, Failmode, Item, Request, Script, ScriptError, ScriptFault, Work};

@@ -1,87 +1,179 @@
-//! The lines of requests.
-ghost use Rattle.std.specs.Prelude.{◌↔◌, ℕ, List, IsTrue, MatchOption};
-ghost use Rattle.zio_script.specs.declared.script.Request.{Request};
-ghost use Rattle.zio_script.specs.Reading.{IsAbove, IsReadEnd, IsRequestLine, IsWriteEnd};
+//! What a line says by its words.
+ghost use Rattle.std.specs.Prelude.{◌≡◌, false, IfErr, IfOk, Some, map};
+ghost use Rattle.zio_script.specs.Built.{is_long_len};
+ghost use Rattle.zio_script.specs.Lines.{FillShape, HexShape, RequestLine, SeqShape, body_of_shape, line_of};
+ghost use Rattle.zio_script.specs.Reading.{HasBuiltDeed, HasBuiltLen, HasBuiltLine, IsLineOf, IsWhyOf, IsWrong, asked_alone, body_shape_as, deed_of, line_as, line_shape_as, request_shape_as};
+ghost use Rattle.zio_script.specs.Words.{byte_of, number};
 
-use crate::word::{hex_byte, number, skip, split_word};
-use crate::{Body, Name, Request, Work};
+use crate::Body;
+use crate::built::is_built;
+use crate::shape::{BodyShape, DeedShape, LineShape, RequestShape, line_shape};
+use crate::word::{byte_of, bytes_of, number};
+use std::alloc::Global;
 use zio_blkptr::SumKind;
-use zio_types::{Prio, ReqNo};
+use zio_types::{NoMemory, Prio};
 
-/// How many bytes a write has.
-const FIRST_SIZE: u32 = 512;
-
-/// The request at the front of the text that may come next, and what follows its line. `last` is the number of the
-/// request before it.
-pub(crate) fn request_line(last: Option<ReqNo>, text: &[u8]) -> Option<(Request, &[u8])>
-    ensures { MatchOption result ((r : Request) (rest : List ℕ) → IsRequestLine last text.now r rest → ⊥)
-        (λ p. IsRequestLine last text.now p.0 p.1.now) }
-{
-    let (word, rest) = split_word(text)?;
-    let number = number(word)?;
-    if !is_above(last, number) {
-        return None;
-    }
-    if let Some(found) = read_end(number, rest) {
-        return Some(found);
-    }
-    if last.is_some() {
-        return None;
-    }
-    write_end(number, rest)
+/// What a line says.
+#[derive(Drop)]
+pub(crate) enum Line<'a> {
+    /// One top, of leaf 0.
+    Top,
+    Go,
+    Request(Asked<'a>),
 }
 
-fn is_above(last: Option<ReqNo>, number: ReqNo) -> bool
-    ensures { IsTrue result ↔ IsAbove last number }
+/// A request that stands under no other and has no flag.
+#[derive(Drop)]
+pub(crate) struct Asked<'a> {
+    pub number: u64,
+    /// The word in the name's place.
+    pub name: &'a [u8],
+    pub deed: Deed,
+}
+
+/// What a request does with its block.
+#[derive(Drop)]
+pub(crate) enum Deed {
+    Read {
+        prio: Prio,
+    },
+    /// One copy.
+    Write {
+        sum: SumKind,
+        prio: Prio,
+        body: Body,
+    },
+}
+
+/// Why words are no line, whatever stands before them.
+#[derive(Clone, Copy, Debug, PartialEq, Eq)]
+pub(crate) enum LineFault {
+    /// The form isn't read yet.
+    NotBuilt,
+    /// The words have the shape of no line.
+    NoShape,
+    /// A word is no number, or no hexadecimal digits, where it has to be.
+    NoNumber,
+    /// Want of memory.
+    Memory,
+}
+
+/// What the words say.
+pub(crate) fn line_in<'a>(alloc: Global, words: &[&'a [u8]]) -> Result<Line<'a>, LineFault>
+    ensures line { IfOk result (λ line. IsLineOf (map (λ w. w.now) words.now) (line_as line)) }
+    ensures fault { IfErr result (IsWhyOf (map (λ w. w.now) words.now)) }
 {
-    match last {
-        None => true,
-        Some(last) => last < number,
+    if !is_built(words) {
+        return Err(LineFault::NotBuilt);
+    }
+    match line_shape(words) {
+        Some(shape) => line_of(alloc, shape),
+        None => Err(LineFault::NoShape),
     }
 }
 
-fn read_end(number: ReqNo, text: &[u8]) -> Option<(Request, &[u8])>
-    ensures { MatchOption result ((r : Request) (rest : List ℕ) → IsReadEnd number text.now r rest → ⊥)
-        (λ p. IsReadEnd number text.now p.0 p.1.now) }
+fn line_of(alloc: Global, shape: LineShape<'_>) -> Result<Line<'_>, LineFault>
+    requires { HasBuiltLine shape }
+    ensures line { IfOk result (λ line. line_of (line_shape_as shape.entry) ≡ Some (line_as line)) }
+    ensures fault { IfErr result (IsWrong (line_of (line_shape_as shape.entry))) }
 {
-    let (word, rest) = split_word(skip(text, b"read ")?)?;
-    let name = Name::from_word(word)?;
-    let rest = skip(rest, b"sync\n")?;
-    let request = Request {
+    match shape {
+        LineShape::Top => Ok(Line::Top),
+        LineShape::Go => Ok(Line::Go),
+        LineShape::Request(request) => Ok(Line::Request(asked_of(alloc, request)?)),
+    }
+}
+
+fn asked_of(alloc: Global, request: RequestShape<'_>) -> Result<Asked<'_>, LineFault>
+    requires { HasBuiltDeed request.deed }
+    ensures line { IfOk result (λ asked. line_of (request_shape_as request.entry) ≡ Some (RequestLine (asked_alone asked))) }
+    ensures fault { IfErr result (IsWrong (line_of (request_shape_as request.entry))) }
+{
+    let number = number_in(request.number)?;
+    let deed = deed_of(alloc, request.deed)?;
+    Ok(Asked {
         number,
-        work: Work::Read {
-            name,
-            prio: Prio::SyncRead,
-        },
-        under: None,
-        canfail: true,
-    };
-    Some((request, rest))
+        name: request.name,
+        deed,
+    })
 }
 
-fn write_end(number: ReqNo, text: &[u8]) -> Option<(Request, &[u8])>
-    ensures { MatchOption result ((r : Request) (rest : List ℕ) → IsWriteEnd number text.now r rest → ⊥)
-        (λ p. IsWriteEnd number text.now p.0 p.1.now) }
+fn deed_of(alloc: Global, deed: DeedShape<'_>) -> Result<Deed, LineFault>
+    requires { HasBuiltDeed deed }
+    ensures deed { IfOk result (λ made. deed_of deed.entry ≡ Some made) }
+    ensures fault { IfErr result (IsWrong (deed_of deed.entry)) }
 {
-    let (word, rest) = split_word(skip(text, b"write ")?)?;
-    let name = Name::from_word(word)?;
-    let rest = skip(rest, b"sha256 1 sync fill ")?;
-    let (byte, rest) = hex_byte(rest)?;
-    let rest = skip(rest, b" 512\n")?;
-    let request = Request {
-        number,
-        work: Work::Write {
-            name,
-            sum: SumKind::Sha256,
-            copies: 1,
-            prio: Prio::SyncWrite,
-            body: Body::Fill {
-                byte,
-                len: FIRST_SIZE,
-            },
+    match deed {
+        DeedShape::Read { prio } => Ok(Deed::Read { prio }),
+        DeedShape::Write { sum, prio, body } => {
+            let body = body_of_shape(alloc, body)?;
+            Ok(Deed::Write { sum, prio, body })
         },
-        under: None,
-        canfail: false,
-    };
-    Some((request, rest))
+    }
+}
+
+fn body_of_shape(alloc: Global, body: BodyShape<'_>) -> Result<Body, LineFault>
+    requires { HasBuiltLen body }
+    ensures body { IfOk result (λ made. body_of_shape (body_shape_as body.entry) ≡ Some made) }
+    ensures fault { IfErr result (IsWrong (body_of_shape (body_shape_as body.entry))) }
+{
+    match body {
+        BodyShape::Hex(hex) => hex_of(alloc, hex),
+        BodyShape::Fill { byte, len } => fill_of(byte, len),
+        BodyShape::Seq { seed, len } => seq_of(seed, len),
+    }
+}
+
+fn hex_of(alloc: Global, hex: &[u8]) -> Result<Body, LineFault>
+    ensures body { IfOk result (λ made. body_of_shape (HexShape hex.now) ≡ Some made) }
+    ensures fault { IfErr result (IsWrong (body_of_shape (HexShape hex.now))) }
+{
+    match bytes_of(alloc, hex) {
+        Ok(Some(bytes)) => Ok(Body::Hex(bytes)),
+        Ok(None) => Err(LineFault::NoNumber),
+        Err(NoMemory) => Err(LineFault::Memory),
+    }
+}
+
+fn fill_of(byte: &[u8], len: &[u8]) -> Result<Body, LineFault>
+    requires { is_long_len len.now ≡ false }
+    ensures body { IfOk result (λ made. body_of_shape (FillShape byte.now len.now) ≡ Some made) }
+    ensures fault { IfErr result (IsWrong (body_of_shape (FillShape byte.now len.now))) }
+{
+    let byte = byte_in(byte)?;
+    let len = len_in(len)?;
+    Ok(Body::Fill { byte, len })
+}
+
+fn seq_of(seed: &[u8], len: &[u8]) -> Result<Body, LineFault>
+    requires { is_long_len len.now ≡ false }
+    ensures body { IfOk result (λ made. body_of_shape (SeqShape seed.now len.now) ≡ Some made) }
+    ensures fault { IfErr result (IsWrong (body_of_shape (SeqShape seed.now len.now))) }
+{
+    let seed = number_in(seed)?;
+    let len = len_in(len)?;
+    Ok(Body::Seq { seed, len })
+}
+
+fn number_in(word: &[u8]) -> Result<u64, LineFault>
+    ensures number { IfOk result (λ n. number word.now ≡ Some n) }
+    ensures fault { IfErr result (IsWrong (number word.now)) }
+{
+    number(word).ok_or(LineFault::NoNumber)
+}
+
+fn byte_in(word: &[u8]) -> Result<u8, LineFault>
+    ensures byte { IfOk result (λ byte. byte_of word.now ≡ Some byte) }
+    ensures fault { IfErr result (IsWrong (byte_of word.now)) }
+{
+    byte_of(word).ok_or(LineFault::NoNumber)
+}
+
+fn len_in(word: &[u8]) -> Result<u32, LineFault>
+    requires { is_long_len word.now ≡ false }
+    ensures len { IfOk result (λ n. number word.now ≡ Some n) }
+    ensures fault { IfErr result (IsWrong (number word.now)) }
+{
+    let len = number_in(word)?;
+    Ok(len as u32)
 }

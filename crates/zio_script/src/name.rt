@@ -1,6 +1,7 @@
-ghost use Rattle.std.specs.Prelude.{◌≡◌, ◌↔◌, IsTrue, MatchOption};
-ghost use Rattle.std.specs.List.{All};
-ghost use Rattle.zio_script.specs.FirstForm.{IsName, IsNameChar};
+ghost use Rattle.std.specs.Prelude.{◌≡◌, ◌<◌, ◌≤◌, ◌^◌, MatchOption, length, true, false};
+ghost use Rattle.std.specs.List.{list_all};
+ghost use Rattle.zio_script.specs.Keys.{name_key};
+ghost use Rattle.zio_script.specs.Words.{is_name, is_name_char};
 
 use std::marker::Model;
 
@@ -8,7 +9,7 @@ use std::marker::Model;
 pub const NAME_LEN_MAX: u32 = 16;
 
 /// A block's name, of the letters a to z, digits and `_`. A contract sees it as its text.
-#[derive(Clone, Copy, Debug, PartialEq, Eq)]
+#[derive(Clone, Copy, Debug, PartialEq, Eq, Hash)]
 pub struct Name {
     pub len: u32,
     /// Zeros from `len` on.
@@ -32,9 +33,16 @@ impl Model for Name {
 }
 
 impl Name {
+    /// A number that no other name has.
+    pub(crate) fn key(&self) -> u128
+        ensures { result ≡ name_key self.now }
+    {
+        key_of(&self.bytes[..self.len as usize])
+    }
+
     /// The name that the word is.
     pub(crate) fn from_word(word: &[u8]) -> Option<Name>
-        ensures { MatchOption result (IsName word.now → ⊥) (λ name. IsName word.now × (name ≡ word.now)) }
+        ensures { MatchOption result (is_name word.now ≡ false) (λ name. (is_name word.now ≡ true) × (name ≡ word.now)) }
     {
         if word.is_empty() || word.len() > NAME_LEN_MAX as usize || !are_name_chars(word) {
             return None;
@@ -48,14 +56,26 @@ impl Name {
     }
 }
 
+// The bytes as digits to the base 256, the lowest first.
+fn key_of(bytes: &[u8]) -> u128
+    requires { length bytes.now ≤ 16 }
+    ensures key { result ≡ name_key bytes.now }
+    ensures small { result < 256 ^ length bytes.now }
+{
+    match bytes {
+        [] => 0,
+        [first, rest @ ..] => key_of(rest) * 256 + u128::from(*first),
+    }
+}
+
 fn are_name_chars(word: &[u8]) -> bool
-    ensures { IsTrue result ↔ All IsNameChar word.now }
+    ensures { result ≡ list_all is_name_char word.now }
 {
     word.iter().all(|c| is_name_char(*c))
 }
 
 fn is_name_char(c: u8) -> bool
-    ensures { IsTrue result ↔ IsNameChar c }
+    ensures { result ≡ is_name_char c }
 {
     matches!(c, b'a'..=b'z' | b'0'..=b'9' | b'_')
 }

@@ -1,7 +1,10 @@
+ghost use Rattle.std.specs.Prelude.{◌≡◌};
+ghost use Rattle.zio_script.specs.declared.script.ScriptError.TheVariants.{Memory};
+
 use crate::Name;
 use zio_blkptr::SumKind;
 use zio_faults::Row;
-use zio_types::{Bytes, List, Prio, ReqNo};
+use zio_types::{Bytes, List, NoMemory, Prio, ReqNo};
 
 /// What a run does where a tree can't go on.
 #[derive(Clone, Copy, Debug, PartialEq, Eq)]
@@ -96,4 +99,12 @@ pub enum ScriptError {
     Fault(ScriptFault),
     /// Want of memory.
     Memory,
+}
+
+impl From<NoMemory> for ScriptError {
+    ghost from_gives = { λ _ e. e ≡ Memory };
+
+    fn from(_refused: NoMemory) -> ScriptError {
+        ScriptError::Memory
+    }
 }

@@ -1,106 +1,164 @@
-use crate::{Body, Item, Request, Script, ScriptError, Work, body_bytes, read_script};
+//! The reader on texts whose answers were worked out by hand, and the generator's first value.
+
+use crate::{
+    Body, Item, SCRIPT_LEN_MAX, Script, ScriptError, ScriptFault, body_bytes, read_script,
+};
 use std::alloc::Global;
+use std::process::Abort;
 use std::test::Fail;
 
-/// Texts, each with its first faulty line.
-const FAULTY: &[(&[u8], u32)] = &[
-    (b"", 1),
-    (b"top 0", 1),
-    (b"\ntop 0\n", 1),
-    (b"top 0\ngo\n", 2),
-    (b"top 0\n1 read x sync\n", 3),
-    (b"top 0\n1 read x sync\ngo", 3),
-    (b"top 0\n1 read x sync", 2),
-    (b"top 0\n0 read x sync\ngo\n", 2),
-    (b"top 0\n01 read x sync\ngo\n", 2),
-    (b"top 0\n65536 read x sync\ngo\n", 2),
-    (b"top 0\n99999999999999999999 read x sync\ngo\n", 2),
-    (b"top 0\n+1 read x sync\ngo\n", 2),
-    (b"top 0\n read x sync\ngo\n", 2),
-    (b"top 0\n1 read abcdefghijklmnopq sync\ngo\n", 2),
-    (b"top 0\n1 read  sync\ngo\n", 2),
-    (b"top 0\n1 read X sync\ngo\n", 2),
-    (b"top 0\n1  read x sync\ngo\n", 2),
-    (b"top 0\n1\tread x sync\ngo\n", 2),
-    (b"top 0\n1 read x sync \ngo\n", 2),
-    (b"top 0\n2 read x sync\ngo\n2 read x sync\ngo\n", 4),
-    (b"top 0\n2 read x sync\ngo\n1 read x sync\ngo\n", 4),
-    (b"top 0\n1 read x sync\ngo\ngo\n", 4),
-    (b"top 0\n1 write x sha256 1 sync fill aG 512\ngo\n", 2),
-    (b"top 0\n1 write x sha256 1 sync fill a 512\ngo\n", 2),
+/// Texts, each with its first faulty line and the least why.
+const FAULTY: &[(&[u8], u32, u32)] = &[
+    // no shape
+    (b"hello\n", 1, 1),
+    (b"top 0\n1 wri", 2, 1),
+    (b"# a pool\ntop 0\n\t# no request\n1 wri\n", 4, 1),
+    (b"top 0\ngo now\n", 2, 1),
+    (b"top 0\n1 read x\ngo\n", 2, 1),
+    (b"top 0\n1 read x sync more\ngo\n", 2, 1),
+    (b"top 0\n1 write x md5 1 sync fill 00 1\ngo\n", 2, 1),
+    (b"top 0\n1 write x off 1 scrub fill 00 1\ngo\n", 2, 1),
+    // no number, or no hexadecimal digits
+    (b"top 0\n01 read x sync\ngo\n", 2, 2),
+    (b"top 0\n+1 read x sync\ngo\n", 2, 2),
+    (b"top 0\ngo read x sync\ngo\n", 2, 2),
+    (b"top 0\n18446744073709551616 read x sync\n", 2, 2),
+    (b"top 0\n1 write x off 1 sync data 0\ngo\n", 2, 2),
+    (b"top 0\n1 write x off 1 sync data 0g\ngo\n", 2, 2),
+    (b"top 0\n1 write x off 1 sync fill 0 1\ngo\n", 2, 2),
+    (b"top 0\n1 write x off 1 sync fill 00 0600\ngo\n", 2, 2),
     (
-        b"top 0\n1 write x sha256 1 sync fill aa 512\ngo\n2 write y sha256 1 sync fill aa 512\ngo\n",
+        b"top 0\n1 write x off 1 sync seq 18446744073709551616 1\ngo\n",
+        2,
+        2,
+    ),
+    // out of range
+    (b"top 0\n0 read x sync\ngo\n", 2, 3),
+    (b"top 0\n65536 read x sync\ngo\n", 2, 3),
+    (b"top 0\n18446744073709551615 read X sync\ngo\n", 2, 3),
+    (b"top 0\n1 write x off 1 sync fill 00 0\ngo\n", 2, 3),
+    (b"top 0\n2 read x sync\n0 read x sync\ngo\n", 3, 3),
+    // out of order
+    (b"1 read x sync\ngo\n", 1, 4),
+    (b"top 0\ngo\n", 2, 4),
+    (b"top 0\n1 read x sync\ntop 0\n", 3, 4),
+    (b"top 0\n2 read x sync\ngo\n2 read x sync\ngo\n", 4, 4),
+    (b"top 0\n2 read x sync\n1 read x sync\ngo\n", 3, 4),
+    (b"top 0\n1 read x sync", 3, 4),
+    (b"top 0\n1 read x sync\n", 3, 4),
+    // no name
+    (b"top 0\n1 read X sync\nclear\n", 2, 5),
+    (b"top 0\n1 read abcdefghijklmnopq sync\ngo\n", 2, 5),
+    (b"top 0\n1 write a-b off 1 sync fill 00 1\ngo\n", 2, 5),
+    // a name twice
+    (b"top 0\n1 read x sync\n2 read x sync\ngo\n", 3, 6),
+    (
+        b"top 0\n1 write x off 1 sync fill 00 1\n2 read y sync\n3 read x sync\ngo\n",
         4,
+        6,
     ),
     (
-        b"top 0\n1 read x sync\ngo\n2 write y sha256 1 sync fill aa 512\ngo\n",
-        4,
+        b"top 0\n1 read x sync\ngo\n2 read y sync\n\n3 write y off 1 sync seq 1 1\n",
+        6,
+        6,
     ),
-    (b"top 0\n1 read x sync\n2 read y sync\ngo\n", 3),
+    // no top, or a leaf twice
+    (b"", 1, 9),
+    (b"# nothing\n \n", 3, 9),
+    (b"top 0\ntop 0\n", 2, 9),
+    // forms that aren't built
+    (b"failmode wait\n", 1, 10),
+    (b"top 0\nfault what\n", 2, 10),
+    (b"top 0\nclear up\n", 2, 10),
+    (b"top\n", 1, 10),
+    (b"top 0 1\n", 1, 10),
+    (b"top 0\n1 null\n", 2, 10),
+    (b"top 0\ngo free\n", 2, 10),
+    (b"top 0\n1 claim x zz\n", 2, 10),
+    (b"top 0\n1 write x off 2 sync fill zz 1\n", 2, 10),
+    (b"top 0\n1 write x off 01\n", 2, 10),
+    (b"top 0\n1 write x off 1 sync fill zz 513\n", 2, 10),
+    (
+        b"top 0\n1 write x off 1 sync seq 0 99999999999999999999\n",
+        2,
+        10,
+    ),
+    (b"top 0\n1 read x soon must\n", 2, 10),
+    (b"top 0\n1 write x off 1 sync fill 00 1 under 1\n", 2, 10),
+    (b"top 0\n1 write x off 1 sync data 00 canfail\n", 2, 10),
 ];
 
+/// The text has this fault.
+fn refuses(rt: &impl Abort, alloc: Global, text: &[u8], line: u32, why: u32) -> Result<(), Fail> {
+    let Err(ScriptError::Fault(fault)) = read_script(alloc, text) else {
+        return Err(Fail::from("a script, or no memory"));
+    };
+    assert_eq!(rt; fault, ScriptFault { line, why });
+    Ok(())
+}
+
 #[test]
-fn the_first_faulty_line_is_named(rt: HostRuntime) -> Result<(), Fail> {
-    for (text, line) in FAULTY {
-        let Err(ScriptError::Fault(fault)) = read_script(rt.alloc(), text) else {
-            return Err(Fail::from("a script, or no memory"));
-        };
-        assert_eq!(rt; fault.line, *line);
-        assert_eq!(rt; fault.why, 10);
+fn the_first_faulty_line_is_named_by_its_least_why(rt: HostRuntime) -> Result<(), Fail> {
+    for (text, line, why) in FAULTY {
+        refuses(&rt, rt.alloc(), text, *line, *why)?;
     }
     Ok(())
 }
 
-/// The byte that the script's first request writes.
-fn first_fill(script: &Script) -> Option<u8> {
-    match script.items.as_slice().first() {
-        Some(
-            Item::Request(
-                Request {
-                    work: Work::Write {
-                        body: Body::Fill { byte, .. },
-                        ..
-                    },
-                    ..
-                },
-            ),
-        ) => Some(*byte),
-        _ => None,
+#[test]
+fn what_is_too_long_is_refused(rt: HostRuntime) -> Result<(), Fail> {
+    let alloc = rt.alloc();
+    let long = vec![in alloc; b'#'; SCRIPT_LEN_MAX + 1]?;
+    refuses(&rt, alloc, long.as_slice(), 0, 3)?;
+    let digits = "00".repeat(alloc, 513)?;
+    let body = format!(in alloc; "top 0\n1 write x off 1 sync data {digits}\n")?;
+    refuses(&rt, alloc, body.as_bytes(), 2, 10)?;
+    let mut batch = String::from_str(alloc, "top 0\n")?;
+    for i in 1..1026u32 {
+        let line = format!(in alloc; "{i} read b{i} sync\n")?;
+        batch.push_str(line.as_str())?;
     }
+    refuses(&rt, alloc, batch.as_bytes(), 1026, 3)
 }
 
-/// The number of the script's last request, where a `go` follows it.
-fn last_number(script: &Script) -> Option<u32> {
-    match script.items.as_slice() {
-        [.., Item::Request(request), Item::Go] => Some(request.number),
-        _ => None,
+/// What the items are, in a letter each.
+fn letters(alloc: Global, script: &Script) -> Result<String, Fail> {
+    let mut letters = String::new(alloc);
+    for item in script.items.as_slice() {
+        letters.push(match item {
+            Item::Request(_) => 'r',
+            Item::Go => 'g',
+            Item::Clear => 'c',
+        })?;
     }
-}
-
-fn script_of(alloc: Global, text: &[u8]) -> Result<Script, Fail> {
-    match read_script(alloc, text) {
-        Ok(script) => Ok(script),
-        Err(_) => Err(Fail::from("a fault")),
-    }
+    Ok(letters)
 }
 
 #[test]
 fn scripts_are_read(rt: HostRuntime) -> Result<(), Fail> {
-    let shortest = script_of(rt.alloc(), b"top 0\n")?;
-    assert_eq!(rt; shortest.items.len(), 0);
-    let reads = script_of(
-        rt.alloc(),
-        b"top 0\n1 read x sync\ngo\n65535 read abcdefghijklm_09 sync\ngo\n",
-    )?;
-    assert_eq!(rt; reads.items.len(), 4);
-    assert_eq!(rt; first_fill(&reads), None);
-    assert_eq!(rt; last_number(&reads), Some(65_535));
-    let write = script_of(
-        rt.alloc(),
-        b"top 0\n7 write x sha256 1 sync fill aF 512\ngo\n8 read x sync\ngo\n",
-    )?;
-    assert_eq!(rt; first_fill(&write), Some(0xAF));
-    assert_eq!(rt; last_number(&write), Some(8));
+    let alloc = rt.alloc();
+    for (text, items) in [
+        (b"top 0" as &[u8], ""),
+        (b"\n#\ntop 0\n", ""),
+        (b"\t top\r0 \r\n#x\n1\tread  x\tsync\n\n go \r", "rg"),
+        (
+            b"top 0\n1 write a off 1 sync data aF\n2 read b scrub\ngo\n3 read a async\ngo\n",
+            "rrgrg",
+        ),
+        (
+            b"top 0\n7 write abcdefghijklm_09 sha256 1 async seq 18446744073709551615 512\ngo\n",
+            "rg",
+        ),
+        (
+            b"top 0\n65535 write x fletcher4 1 sync fill aF 512\ngo\n",
+            "rg",
+        ),
+    ] {
+        match read_script(alloc, text) {
+            Ok(script) => assert_eq!(rt; letters(alloc, &script)?.as_str(), items),
+            Err(_) => return Err(Fail::from("a fault")),
+        }
+    }
     Ok(())
 }
 

@@ -1,90 +1,125 @@
-//! The words of a script's lines.
-ghost use Rattle.std.specs.Prelude.{◌≡◌, ◌≢◌, ◌==◌, ◌++◌, ◌∷◌, ◌<◌, ◌≤◌, ◌↔◌, ℕ, List, length, slice_index, decimal, IsTrue, MatchOption};
-ghost use Rattle.std.specs.List.{position};
-ghost use Rattle.std.specs.Str.Parse.{AllDigits, digits_value};
-ghost use Rattle.zio_script.specs.FirstForm.{IsHexDigit};
-ghost use Rattle.zio_script.specs.Reading.{IsByteWord, IsNumber, IsWord};
+//! The lines of a text, the words of a line, and what words spell.
+ghost use Rattle.std.specs.Prelude.{◌≡◌, ◌∷◌, ◌<◌, ◌≤◌, ◌^◌, ◌&&◌, true, [], IfOk, IfSome, MatchOption, OnOk, length, map, nat_lt};
+ghost use Rattle.std.specs.List.{list_all};
+ghost use Rattle.std.specs.Char.{is_digit};
+ghost use Rattle.std.specs.Str.Parse.{digits_value};
+ghost use Rattle.zio_script.specs.Words.{byte_of, bytes_of, has_leading_zero, is_blank, is_comment, is_numeral, lines_of, number, words_of};
 
-use zio_types::ReqNo;
+use hex::FromHexError;
+use std::alloc::Global;
+use zio_types::{Bytes, List, NoMemory};
 
-/// The highest number of a request.
-const NUMBER_MAX: ReqNo = 65_535;
-
-/// The most digits of a number.
-const NUMBER_LEN_MAX: usize = 5;
-
-/// What follows these words, where they stand at the front.
-pub(crate) fn skip<'a>(text: &'a [u8], words: &[u8]) -> Option<&'a [u8]>
-    ensures { MatchOption result ((rest : List ℕ) → text.now ≢ words.now ++ rest) (λ rest. text.now ≡ words.now ++ rest.now) }
+/// The first line of the text without its newline, and what follows it; none where the text is empty.
+pub(crate) fn next_line(text: &[u8]) -> Option<(&[u8], &[u8])>
+    ensures line { MatchOption result (text.now ≡ []) (λ p. lines_of text.now ≡ p.0.now ∷ lines_of p.1.now) }
+    ensures shorter { IfSome result (λ p. length p.1.now < length text.now) }
 {
-    text.strip_prefix(words)
-}
-
-/// What stands before the first blank, and what follows it.
-pub(crate) fn split_word(text: &[u8]) -> Option<(&[u8], &[u8])>
-    ensures { MatchOption result ((word rest : List ℕ) → text.now ≢ word ++ (32 ∷ rest)) (λ p. IsWord text.now p.0.now p.1.now) }
-{
-    let blank = first_blank(text)?;
-    Some((&text[..blank], &text[blank + 1..]))
-}
-
-fn first_blank(text: &[u8]) -> Option<usize>
-    ensures { result ≡ position (λ c. c == 32) text.now }
-{
-    text.iter().position(|c| *c == b' ')
-}
-
-/// The number that the word spells, from 1 and without leading zeros.
-pub(crate) fn number(word: &[u8]) -> Option<ReqNo>
-    ensures { MatchOption result ((n : ℕ) → IsNumber n → word.now ≢ decimal n) (λ n. IsNumber n × (word.now ≡ decimal n)) }
-{
-    if word.len() > NUMBER_LEN_MAX || has_leading_zero(word) {
+    if text.is_empty() {
         return None;
     }
-    let number = digits_value(word)?;
-    if number == 0 || number > NUMBER_MAX {
-        return None;
+    match text.iter().position(|c| *c == b'\n') {
+        Some(end) => Some((&text[..end], &text[end + 1..])),
+        None => Some((text, &[])),
     }
-    Some(number)
+}
+
+/// The words of the line, in place of those that stand there.
+pub(crate) fn split_words<'a>(line: &'a [u8], words: &mut Vec<&'a [u8]>) -> Result<(), NoMemory>
+    ensures { OnOk result (map (λ w. w.now) words.new.items ≡ words_of line.now) }
+{
+    words.clear();
+    for part in line.split(|c| is_blank(*c)) {
+        if !part.is_empty() {
+            words.push(part)?;
+        }
+    }
+    Ok(())
+}
+
+fn is_blank(c: u8) -> bool
+    ensures { result ≡ is_blank c }
+{
+    matches!(c, b' ' | b'\t' | b'\r')
+}
+
+/// The word begins with `#`.
+pub(crate) fn is_comment(word: &[u8]) -> bool
+    ensures { result ≡ is_comment word.now }
+{
+    word.first() == Some(&b'#')
+}
+
+/// The number that the word spells, in decimal digits without a leading zero.
+pub(crate) fn number(word: &[u8]) -> Option<u64>
+    ensures { result ≡ number word.now }
+{
+    if is_numeral(word) {
+        digits_value(word)
+    } else {
+        None
+    }
+}
+
+/// The word is a numeral, and the number that it spells is above `most`.
+pub(crate) fn is_numeral_above(word: &[u8], most: u64) -> bool
+    ensures { result ≡ is_numeral word.now && nat_lt most (digits_value 10 word.now) }
+{
+    is_numeral(word)
+        && match digits_value(word) {
+            Some(number) => number > most,
+            None => true,
+        }
+}
+
+// Decimal digits, without a leading zero.
+fn is_numeral(word: &[u8]) -> bool
+    ensures { result ≡ is_numeral word.now }
+{
+    !word.is_empty() && are_digits(word) && !has_leading_zero(word)
+}
+
+fn are_digits(word: &[u8]) -> bool
+    ensures { result ≡ list_all (λ c. is_digit c 10) word.now }
+{
+    word.iter().all(|c| c.is_ascii_digit())
 }
 
 fn has_leading_zero(word: &[u8]) -> bool
-    ensures { IsTrue result ↔ (slice_index word.now 0 ≡ 48) }
+    ensures { result ≡ has_leading_zero word.now }
 {
-    word.first() == Some(&b'0')
+    word.len() > 1 && word[0] == b'0'
 }
 
-fn digits_value(word: &[u8]) -> Option<u32>
-    requires { length word.now ≤ NUMBER_LEN_MAX }
-    ensures { MatchOption result (AllDigits 10 word.now → ⊥) (λ n. AllDigits 10 word.now × (n ≡ digits_value 10 word.now)) }
+// The number that the digits spell, which may be too large for its type.
+fn digits_value(digits: &[u8]) -> Option<u64>
+    requires { list_all (λ c. is_digit c 10) digits.now ≡ true }
+    ensures { MatchOption result (2 ^ 64 ≤ digits_value 10 digits.now) (λ value. value ≡ digits_value 10 digits.now) }
 {
-    let mut number = 0;
-    for c in word {
-        if !c.is_ascii_digit() {
-            return None;
-        }
-        number = number * 10 + u32::from(*c - b'0');
+    let mut value = 0u64;
+    for digit in digits {
+        value = value
+            .checked_mul(10)?
+            .checked_add(u64::from(*digit - b'0'))?;
     }
-    Some(number)
+    Some(value)
 }
 
-/// The byte that two hexadecimal digits at the front spell, and what follows them.
-pub(crate) fn hex_byte(text: &[u8]) -> Option<(u8, &[u8])>
-    ensures { MatchOption result ((byte : ℕ) (rest : List ℕ) → IsByteWord text.now byte rest → ⊥) (λ p. IsByteWord text.now p.0 p.1.now) }
+/// The bytes that the word spells, two hexadecimal digits of either case each.
+pub(crate) fn bytes_of(alloc: Global, word: &[u8]) -> Result<Option<Bytes>, NoMemory>
+    ensures { IfOk result (λ bytes. bytes ≡ bytes_of word.now) }
 {
-    let [first, second, rest @ ..] = text else {
-        return None;
-    };
-    Some((hex_digit(*first)? * 16 + hex_digit(*second)?, rest))
-}
-
-fn hex_digit(c: u8) -> Option<u8>
-    ensures { MatchOption result ((n : ℕ) → IsHexDigit c n → ⊥) (λ n. IsHexDigit c n × (n < 16)) }
-{
-    match c {
-        b'0'..=b'9' => Some(c - b'0'),
-        b'a'..=b'f' => Some(c - b'a' + 10),
-        b'A'..=b'F' => Some(c - b'A' + 10),
-        _ => None,
+    match hex::decode(alloc, word) {
+        Ok(bytes) => Ok(Some(List::from_vec(bytes))),
+        Err(FromHexError::OutOfMemory) => Err(NoMemory),
+        Err(_) => Ok(None),
     }
+}
+
+/// The byte that exactly two hexadecimal digits spell.
+pub(crate) fn byte_of(word: &[u8]) -> Option<u8>
+    ensures { result ≡ byte_of word.now }
+{
+    let mut byte = [0];
+    hex::decode_to_slice(word, &mut byte).ok()?;
+    Some(byte[0])
 }

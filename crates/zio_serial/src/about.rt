@@ -7,11 +7,14 @@ use std::alloc::{AllocError, Global};
 
 const ABOUT: &str = "Runs a script of block reads and writes on an image file, on one thread.";
 
-const USAGE: &str = "zio_serial run IMAGE < SCRIPT";
+const USAGE: &str = "zio_serial run [--journal] [--data] IMAGE < SCRIPT";
 
 const AFTER: &str = "\
 run IMAGE reads a script from standard input, runs it, and writes the report to
 standard output. IMAGE is a file of 64 KiB to 256 MiB that is changed in place.
+  --journal  shows where each round's blocks were placed, and the order in
+             which its requests completed
+  --data     shows the bytes that each read gave
 
 Exit status:
   0  the script was run to its end, and all its requests completed
@@ -21,7 +24,8 @@ Exit status:
   5  standard input couldn't be read
   6  standard output couldn't be written
   7  the image couldn't be read or written
-  8  memory was wanted and not given";
+  8  memory was wanted and not given
+  9  the script was run to its end, and a request is suspended or held";
 
 /// What a single word asks of the program itself.
 #[derive(Clone, Copy)]

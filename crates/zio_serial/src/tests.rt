@@ -19,10 +19,9 @@ fn the_help_has_a_line_for_each_code(rt: HostRuntime) -> Result<(), Fail> {
             }
         }
     }
-    assert_eq!(rt; codes.as_slice(), [0, 1, 2, 3, 5, 6, 7, 8].as_slice());
+    assert_eq!(rt; codes.as_slice(), [0, 1, 2, 3, 5, 6, 7, 8, 9].as_slice());
     assert!(rt;
-        text.as_str()
-            .contains("\nUsage: zio_serial run IMAGE < SCRIPT\n"),
+        text.as_str().contains("\nUsage: zio_serial run [--journal] [--data] IMAGE < SCRIPT\n"),
         "{text}"
     );
     assert!(rt; text.as_str().ends_with('\n'), "{text}");

@@ -3,7 +3,7 @@ use Rattle.std.proofs.lemmas.Bool.{lt-leb}
 use Rattle.hex.specs.Hex.{decode_pairs}
 use Rattle.zio_script.specs.declared.read.TheConstants.{SCRIPT_LEN_MAX}
 use Rattle.zio_script.specs.Grammar.{read_lines}
-use Rattle.zio_worked.specs.ScriptTexts.{TopAloneIsAScript, WholeScriptIsRead, RootsHaveTheirFlags, ChildrenHaveTheirFlags, BodiesAreRead, BlanksPartWords, EdgesAreAccepted, OthersAreAccepted, WordsHaveToFit, OtherLinesHaveToFit, NumbersAreDecimal, DigitsComeInPairs, LinesMayHaveTwoShapes, NumbersHaveRanges, FaultsHaveRanges, TopsAreCounted, FaultsAreCounted, ClearsAreCounted, RequestsAreCounted, PointersTakeRoom, SizesArePadded, BatchHasALimit, LongTextsAreRefused, LinesHaveAnOrder, NumbersRise, BatchesAreEnded, NamesHaveTheirCharacters, NamesStandOnce, FlagsFollowParents, OnlyAParentIsWrong, ParentsStandBefore, ClaimsStandAlone, DepthHasALimit, ChildrenAreCounted, TopsAreWanted, LeavesStandOnce, FormsMayBeUnbuilt, SkippedLinesAreCounted, FirstLineCounts, LeastWhyCounts}
+use Rattle.zio_worked.specs.ScriptTexts.{TopAloneIsAScript, WholeScriptIsRead, RootsHaveTheirFlags, ChildrenHaveTheirFlags, BodiesAreRead, BlanksPartWords, EdgesAreAccepted, OthersAreAccepted, WordsHaveToFit, OtherLinesHaveToFit, NumbersAreDecimal, DigitsComeInPairs, LinesMayHaveTwoShapes, NumbersHaveRanges, FaultsHaveRanges, TopsAreCounted, FaultsAreCounted, ClearsAreCounted, RequestsAreCounted, PointersTakeRoom, SizesArePadded, BatchHasALimit, LongTextsAreRefused, LinesHaveAnOrder, NumbersRise, BatchesAreEnded, NamesHaveTheirCharacters, NamesStandOnce, FlagsFollowParents, OnlyAParentIsWrong, ParentsStandBefore, ClaimsStandAlone, DepthHasALimit, ChildrenAreCounted, TopsAreWanted, LeavesStandOnce, FormsMayBeUnbuilt, UnbuiltFormsAreNamed, SkippedLinesAreCounted, FirstLineCounts, LeastWhyCounts}
 
 pub top_alone_is_a_script : TopAloneIsAScript
 unfolding read_lines decode_pairs
@@ -151,6 +151,10 @@ leaves_stand_once = refl
 pub forms_may_be_unbuilt : FormsMayBeUnbuilt
 unfolding read_lines decode_pairs
 forms_may_be_unbuilt = refl
+
+pub unbuilt_forms_are_named : UnbuiltFormsAreNamed
+unfolding read_lines decode_pairs
+unbuilt_forms_are_named = refl
 
 pub skipped_lines_are_counted : SkippedLinesAreCounted
 unfolding read_lines decode_pairs

@@ -15,6 +15,7 @@ use Rattle.zio_script.specs.declared.script.Item.TheVariants.{Request as Request
 use Rattle.zio_script.specs.declared.script.Request.{Request}
 use Rattle.zio_script.specs.declared.script.Script.{Script}
 use Rattle.zio_script.specs.declared.script.Work.TheVariants.{Null, Read, Write, Claim}
+use Rattle.zio_script.specs.Built.{is_built}
 use Rattle.zio_script.specs.Grammar.{IsFaultIn, IsScriptIn, all_built, fault_at, fault_of, script_of, begun_with}
 use Rattle.zio_script.specs.Lines.{Asked, FaultLine, ClearLine}
 use Rattle.zio_script.specs.Requests.{requests_of}
@@ -494,6 +495,28 @@ FormsMayBeUnbuilt = AreFaultyIn some_built (
     ∷ in_top ("0 null" ∷ "clear" ∷ []) 2 3
     ∷ in_top ("go" ∷ []) 2 4
     ∷ in_top ("# clear" ∷ "wri" ∷ []) 3 1 ∷ [])
+
+-- the forms that aren't read so far, and lines beside them that are refused for another why
+abbrev pub UnbuiltFormsAreNamed : Type 0
+UnbuiltFormsAreNamed = AreFaultyIn is_built (
+    faulty ("failmode wait" ∷ []) 1 10
+    ∷ faulty ("top" ∷ []) 1 10
+    ∷ faulty ("top 0 1" ∷ []) 1 10
+    ∷ in_top ("fault" ∷ []) 2 10
+    ∷ in_top ("clear up" ∷ []) 2 10
+    ∷ in_top ("1 null" ∷ []) 2 10
+    ∷ in_top ("go free" ∷ []) 2 10
+    ∷ in_top ("1 claim x zz" ∷ []) 2 10
+    ∷ in_top ("1 write x off 01" ∷ []) 2 10
+    ∷ in_top ("1 write x off" ∷ []) 2 1
+    ∷ in_top ("1 write x off 1 sync fill zz 513" ∷ []) 2 10
+    ∷ in_top ("1 write x off 1 sync fill zz 512" ∷ []) 2 2
+    ∷ in_top ("1 write x off 1 sync fill 00 0600" ∷ []) 2 2
+    ∷ in_top ("1 write x off 1 soon seq a 99999999999999999999" ∷ []) 2 10
+    ∷ in_top ("1 write x off 1 sync data 00 under" ∷ []) 2 10
+    ∷ in_top ("1 read x soon must" ∷ []) 2 10
+    ∷ in_top ("1 read x sync more" ∷ []) 2 1
+    ∷ in_top ("1 read X sync" ∷ "clear" ∷ []) 2 5 ∷ [])
 
 -- ---- which fault counts
 

@@ -1,5 +1,4 @@
-use Rattle.std.proofs.Common.{◌≡◌, List, [], Option, option_to_list, sym, ap, ◌∙◌, subst, true, false, inl, inr, ◌⊎◌}
-use Rattle.zio_types.specs.declared.place.Place.{Place}
+use Rattle.std.proofs.Common.{◌≡◌, List, [], Option, option_to_list, sym, ap, ◌∙◌, subst}
 use Rattle.std.proofs.lemmas.Result.{IfOk-weaker}
 use Rattle.zio_types.specs.Choices.{Choice}
 use Rattle.zio_gang.specs.declared.tree.Tree.{Tree}
@@ -44,16 +43,3 @@ returns-in-Write-clause-block g c =
       ap makes_block c.in-Write.is,
     )))
     c.write_named.ensures.block
-
-pub returns-in-Read-clause-roomy : goal.returns-in-Read-clause-roomy
-returns-in-Read-clause-roomy g c = IfOk-weaker c.read_named.result _ _ (λ own is safe. is) c.read_named.ensures.waits
-
-safe_write : (work : Work) (used : List Place) → makes_block work ≡ true → (used ≡ []) ⊎ (makes_block work ≡ false) → used ≡ []
-safe_write work used makes (inl unused) = unused
-safe_write work used makes (inr no_block) = let no : ⊥ = cc in absurd no
-
-pub returns-in-Write-clause-roomy : goal.returns-in-Write-clause-roomy
-returns-in-Write-clause-roomy g c =
-    IfOk-weaker c.write_named.result _ _
-    (λ own h safe. h (safe_write c.args.request.now.work (g.C.Chooser.used c.args.chooser.now) (ap makes_block c.in-Write.is) safe))
-    c.write_named.ensures.roomy

@@ -10,7 +10,7 @@ use Rattle.zio_plain.specs.Batches.{Became, Finished, Waits, places_made, taken_
 use Rattle.zio_plain.specs.Rounds.{IsFound, first_ask, own_view, plain_pointer, written_view}
 use Rattle.zio_plain.proofs.BecameLemmas.{became_waits, became_write, made_one, none_by, some_by, taken_nowhere, taken_one, view_same}
 use Rattle.zio_plain.proofs.DiskLemmas.{same_itself}
-use Rattle.zio_plain.proofs.FoundLemmas.{IfOk-both, found_sector, never_refused}
+use Rattle.zio_plain.proofs.FoundLemmas.{IfOk-both, found_sector}
 use Rattle.zio_plain.proofs.own.write_new.Goals as goal
 
 pub returns-in_err-entry-clause-same : goal.returns-in_err-entry-clause-same
@@ -88,14 +88,3 @@ returns-clause-own g c =
     (IfOk-both c.write_at.result _ _
     (IfOk-both c.write_at.result _ _ c.write_at.ensures.own c.write_at.ensures.entry)
     (IfOk-both c.write_at.result _ _ c.write_at.ensures.waits c.write_at.ensures.made))
-
-pub returns-then-is_empty-clause-roomy : goal.returns-then-is_empty-clause-roomy
-returns-then-is_empty-clause-roomy g c unused =
-    let entry : Choice = c.in_ok-entry.entry in
-    let lawful : IsLawfulChoice (map (λ (t : Top). t.sectors) c.args.setting.now.tops) (g.C.Chooser.used c.args.chooser.now) entry = rw (← c.requires.sizes) c.in_ok-entry.ensures.lawful in
-    let nowhere : entry.places ≡ [] = sym c.places_found.ensures ∙ none_by c.is_empty.result c.places_found.result.now c.if-is_empty.true c.is_empty.ensures in
-    absurd (never_refused c.args.setting.now (map g.D.Disk.bytes c.args.disks.now) (g.C.Chooser.used c.args.chooser.now) entry c.requires.setting lawful unused
-    (ap (λ (a : Ask). a.size) c.in_ok-entry.ensures.asked ∙ c.requires.size) (ap (λ (a : Ask). a.copies) c.in_ok-entry.ensures.asked) nowhere)
-
-pub returns-clause-roomy : goal.returns-clause-roomy
-returns-clause-roomy g c = IfOk-weaker c.write_at.result _ _ (λ own is unused. is) c.write_at.ensures.waits

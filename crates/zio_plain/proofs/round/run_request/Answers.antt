@@ -1,7 +1,5 @@
-use Rattle.std.proofs.Common.{◌≡◌, option_to_list, Bool, false, ◌||◌, sym, ap, ◌∙◌, subst}
-use Rattle.zio_gang.specs.Rounds.{Bound}
-use Rattle.zio_script.specs.Requests.{name_of}
-use Rattle.zio_plain.specs.Batches.{Became, made_by, named_block, places_made}
+use Rattle.std.proofs.Common.{◌≡◌, sym, ap, ◌∙◌}
+use Rattle.zio_plain.specs.Batches.{made_by, places_made}
 use Rattle.zio_plain.specs.Rounds.{View, own_view}
 use Rattle.zio_plain.proofs.BecameLemmas.{OnOk-then, error_shown, made_shown}
 use Rattle.zio_plain.proofs.round.run_request.Goals as goal
@@ -9,7 +7,7 @@ use Rattle.zio_plain.proofs.round.run_request.Goals as goal
 pub note-requires-clause-free : goal.note-requires-clause-free
 note-requires-clause-free g c tree is =
     let b = c.in-Ok.ensures.block tree is in
-    (ap (λ (bound : Bound). named_block bound (name_of c.args.request.now.work)) (sym c.as_slice.ensures) ∙ b.3, b.4)
+    (b.3, b.4)
 
 pub returns-in-Ok-clause-bound : goal.returns-in-Ok-clause-bound
 returns-in-Ok-clause-bound g c =
@@ -29,25 +27,14 @@ returns-in-Ok-clause-ran g c =
       own.entry,
       this.1,
       this.2,
-      subst (λ (bound : Bound). Became c.args.setting.now (named_block bound (name_of c.args.request.now.work)) c.args.journal.now.rounds c.args.request.now images this.0 (option_to_list own.entry) this.1) c.as_slice.ensures this.5,
+      this.5,
       record {
         given = c.in-Ok.ensures.given;
         used = c.in-Ok.ensures.used;
         made = this.4 ∙ ap places_made (sym made);
         tidy = λ tree at. error_shown this.0 v own.waits this.3 ∙ (c.in-Ok.ensures.block tree (sym made ∙ at)).2;
-        free = λ tree at.
-            (let b = c.in-Ok.ensures.block tree (sym made ∙ at) in
-            (ap (λ (bound : Bound). named_block bound (name_of c.args.request.now.work)) (sym c.as_slice.ensures) ∙ b.3, b.4));
+        free = λ tree at. (let b = c.in-Ok.ensures.block tree (sym made ∙ at) in (b.3, b.4));
         noted = noted this.0 this.3;
       },
     )))
     c.note.ensures.noted
-
-neither : (a b w : Bool) → w ≡ (a || b) → a ≡ false → b ≡ false → w ≡ false
-neither a b w is not_a not_b = is ∙ (ap (λ (x : Bool). x || b) not_a ∙ not_b)
-
-pub returns-in-Ok-clause-roomy : goal.returns-in-Ok-clause-roomy
-returns-in-Ok-clause-roomy g c =
-    OnOk-then c.note.result _ _
-    (λ is safe calm. neither c.args.run.now.waits c.in-Ok.own.waits c.note.new.run.waits is calm (c.in-Ok.ensures.roomy safe))
-    c.note.ensures.waits

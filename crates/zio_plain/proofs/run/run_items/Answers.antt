@@ -6,16 +6,17 @@ use Rattle.zio_cksum.specs.Images.{Images}
 use Rattle.zio_gang.specs.Rounds.{Bound}
 use Rattle.zio_report.specs.declared.report.Line.{Line}
 use Rattle.zio_plain.specs.Disks.{Tell}
-use Rattle.zio_plain.specs.PlainForm.{ArePlainItems, IsFirstLeft, batch_after, last_after}
+use Rattle.zio_script.specs.PlainForm.{ArePlainItems, last_after}
+use Rattle.zio_script.specs.Whys.{batch_after}
 use Rattle.zio_plain.specs.Runs.{Stands}
 use Rattle.zio_plain.proofs.DiskLemmas.{same_itself, same_then}
-use Rattle.zio_plain.proofs.FormLemmas.{few_next, first_left, high_next, left_next, plain_roots}
+use Rattle.zio_plain.proofs.FormLemmas.{few_next, high_next, plain_roots}
 use Rattle.zio_plain.proofs.RunLemmas.{stands_end, stands_start}
 use Rattle.zio_plain.proofs.TextLemmas.{Appends-both, Appends-none, Grows-none, Grows-then}
 use Rattle.zio_plain.proofs.run.run_items.Goals as goal
 
 abbrev run_with : Bound → List Line → Run
-run_with bound lines = record { bound = bound; lines = lines; waits = false; batches = 0; suspended = false }
+run_with bound lines = record { bound = bound; lines = lines; waits = false; batches = 0; past_places = 0; past_completions = 0; suspended = false }
 
 start_is : (bound : Bound) (lines : List Line) → bound ≡ [] → lines ≡ [] → run_with bound lines ≡ run_with [] []
 start_is bound lines a b = ap (λ (x : Bound). run_with x lines) a ∙ ap (run_with []) b
@@ -31,16 +32,16 @@ loop-item-init g c = (
     high = omega arith;
     plain = rw c.new.ensures tt;
     whole = rw c.new-2.ensures tt;
+    past = record { places = omega arith; completions = omega arith };
     sizes = refl;
     same = same_itself g.D.Disk.bytes g.D.Disk.faults_at_fetch g.D.Disk.home g.D.Disk.image c.args.disks.now;
     disk_faults = refl;
     sink_faults = refl;
     grown = Grows-none (g.O.Sink.holds c.args.out.now);
-    first = λ h. (first_left (g.C.Chooser.used c.args.chooser.now) c.args.items.now h c.requires.used, refl, refl);
     told = λ before tells. (
       before,
       [],
-      stands_start c.args.setting.now c.args.items.now before (g.C.Chooser.used c.args.chooser.now) _ c.args.journal.now c.requires.empty c.requires.used
+      stands_start c.args.show.now c.args.setting.now c.args.items.now before (g.C.Chooser.used c.args.chooser.now) _ c.args.journal.now c.requires.empty c.requires.used
           (start_is c.new.result c.new-2.result c.new.ensures c.new-2.ensures),
       tells,
       Appends-none (g.O.Sink.holds c.args.out.now),
@@ -55,6 +56,7 @@ returns-in_err-run_item-clause-same g c =
 
 pub loop-item-preserved : goal.loop-item-preserved
 loop-item-preserved g c =
+    let show = c.args.show.now in
     let s = c.args.setting.now in
     let last : ℕ = c.loop-item.invariant.0 in
     let batch : List Request = c.loop-item.invariant.1 in
@@ -73,21 +75,16 @@ loop-item-preserved g c =
         high = high_next last batch item form.0 i.high;
         plain = ran.bound;
         whole = ran.whole;
+        past = ran.past;
         sizes = ran.sizes ∙ i.sizes;
         same = same_then g.D.Disk.bytes g.D.Disk.faults_at_fetch g.D.Disk.home g.D.Disk.image c.args.disks.now c.loop-item.disks c.run_item.new.disks i.same ran.same;
         disk_faults = ran.steady.0 ∙ i.disk_faults;
         sink_faults = ran.steady.1 ∙ i.sink_faults;
         grown = Grows-then (g.O.Sink.holds c.args.out.now) (g.O.Sink.holds c.loop-item.out) (g.O.Sink.holds c.run_item.new.out) i.grown ran.grows;
-        first = λ h.
-            (let so_far = i.first h in
-            let there : IsFirstLeft (g.C.Chooser.used c.loop-item.chooser) (item ∷ more) =
-            subst (IsFirstLeft (g.C.Chooser.used c.loop-item.chooser)) c.in-Some.ensures.some so_far.0 in
-            let still = ran.calm there.0 so_far.1 so_far.2 in
-            (left_next (g.C.Chooser.used c.run_item.new.chooser) more there.1, still.0, still.1));
         told = λ before tells.
             (let so_far = i.told before tells in
-            let there : Stands s c.args.items.now before so_far.0 last batch (g.C.Chooser.used c.loop-item.chooser) c.loop-item.run old so_far.1 (item ∷ more) =
-            subst (λ (rest : List Item). Stands s c.args.items.now before so_far.0 last batch (g.C.Chooser.used c.loop-item.chooser) c.loop-item.run old so_far.1 rest) c.in-Some.ensures.some so_far.2 in
+            let there : Stands show s c.args.items.now before so_far.0 last batch (g.C.Chooser.used c.loop-item.chooser) c.loop-item.run old so_far.1 (item ∷ more) =
+            subst (λ (rest : List Item). Stands show s c.args.items.now before so_far.0 last batch (g.C.Chooser.used c.loop-item.chooser) c.loop-item.run old so_far.1 rest) c.in-Some.ensures.some so_far.2 in
             let this = ran.ran c.args.items.now more before so_far.0 last batch so_far.1 (plain_roots 0 [] c.args.items.now c.requires.items) form.0 there so_far.3 in (
               this.0,
               so_far.1 ++ this.1,
@@ -100,6 +97,7 @@ loop-item-preserved g c =
 
 pub returns-clause-went : goal.returns-clause-went
 returns-clause-went g c before tells =
+    let show = c.args.show.now in
     let s = c.args.setting.now in
     let last : ℕ = c.loop-item.invariant.0 in
     let batch : List Request = c.loop-item.invariant.1 in
@@ -108,10 +106,10 @@ returns-clause-went g c before tells =
     let end : c.loop-item.rest.now ≡ [] = c.in_default.ensures.none refl in
     let none : batch ≡ [] = subst (ArePlainItems last batch) end i.left in
     let done = i.told before tells in
-    let there : Stands s c.args.items.now before done.0 last [] used c.loop-item.run c.loop-item.journal done.1 [] =
-    subst (λ (qs : List Request). Stands s c.args.items.now before done.0 last qs used c.loop-item.run c.loop-item.journal done.1 []) none
-    (subst (λ (rest : List Item). Stands s c.args.items.now before done.0 last batch used c.loop-item.run c.loop-item.journal done.1 rest) end done.2) in
-    let last_state = stands_end s c.args.items.now before done.0 last used c.loop-item.run c.loop-item.journal done.1 there in (
+    let there : Stands show s c.args.items.now before done.0 last [] used c.loop-item.run c.loop-item.journal done.1 [] =
+    subst (λ (qs : List Request). Stands show s c.args.items.now before done.0 last qs used c.loop-item.run c.loop-item.journal done.1 []) none
+    (subst (λ (rest : List Item). Stands show s c.args.items.now before done.0 last batch used c.loop-item.run c.loop-item.journal done.1 rest) end done.2) in
+    let last_state = stands_end show s c.args.items.now before done.0 last used c.loop-item.run c.loop-item.journal done.1 there in (
       last_state.0,
       done.1,
       last_state.1,
@@ -119,6 +117,3 @@ returns-clause-went g c before tells =
       subst (λ (images : Images). Tell g.D.Disk.image c.loop-item.disks images) (sym last_state.3) done.3,
       done.4,
     )
-
-pub returns-clause-first : goal.returns-clause-first
-returns-clause-first g c h = (c.loop-item.invariant.2.first h).2

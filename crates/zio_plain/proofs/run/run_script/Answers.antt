@@ -4,11 +4,10 @@ use Rattle.std.proofs.lemmas.List.{length-map}
 use Rattle.zio_script.specs.declared.script.Item.{Item}
 use Rattle.zio_cksum.specs.Images.{Images, Setting}
 use Rattle.zio_gang.specs.declared.ending.Ending.{Ending}
-use Rattle.zio_gang.specs.Runs.{State, ending, left_if}
-use Rattle.zio_script.specs.FirstForm.{AreFirstItems}
+use Rattle.zio_gang.specs.Runs.{State, ending}
 use Rattle.zio_report.specs.Meanings.{IsMeaning}
 use Rattle.zio_report.specs.Reports.{end_code, end_text, pool_text}
-use Rattle.zio_plain.specs.Rounds.{first_top, plain_show}
+use Rattle.zio_plain.specs.Rounds.{first_top}
 use Rattle.zio_plain.specs.Runs.{Went}
 use Rattle.zio_plain.proofs.DiskLemmas.{same_itself}
 use Rattle.zio_plain.proofs.RunLemmas.{one_image, went_end}
@@ -61,6 +60,7 @@ returns-clause-begun g c =
 
 pub returns-clause-meaning : goal.returns-clause-meaning
 returns-clause-meaning g c before tells =
+    let show = c.args.show.now in
     let s = c.in_ok-setting.setting in
     let disk = c.requires.pool.disk in
     let setting_is = c.in_ok-setting.ensures.ok in
@@ -70,9 +70,9 @@ returns-clause-meaning g c before tells =
     let went = c.in_ok-suspended.ensures.went before tells in
     let end : State = went.0 in
     let ending_is : c.ending_of-ending.result ≡ ending end = c.ending_of-ending.ensures.ending ∙ sym went.3 in
-    let went_items : Went s c.args.script.now.items (image.0 ∷ []) end c.run_items.new.journal [] went.1 =
-    subst (λ (items : List Item). Went s items (image.0 ∷ []) end c.run_items.new.journal [] went.1) c.as_slice.ensures
-    (subst (λ (b : Images). Went s c.as_slice.result.now b end c.run_items.new.journal [] went.1) image.1 went.2) in
+    let went_items : Went show s c.args.script.now.items (image.0 ∷ []) end c.run_items.new.journal [] went.1 =
+    subst (λ (items : List Item). Went show s items (image.0 ∷ []) end c.run_items.new.journal [] went.1) c.as_slice.ensures
+    (subst (λ (b : Images). Went show s c.as_slice.result.now b end c.run_items.new.journal [] went.1) image.1 went.2) in
     let counts : pool_text c.len.result (length c.args.disks.now) ≡ pool_text 1 1 =
     ap (λ (n : ℕ). pool_text n (length c.args.disks.now)) (c.len.ensures ∙ ap length c.requires.form.tops)
     ∙ ap (λ (n : ℕ). pool_text 1 n) (sym (length-map c.args.disks.now g.D.Disk.bytes) ∙ ap length c.requires.pool.sizes_are) in
@@ -84,17 +84,12 @@ returns-clause-meaning g c before tells =
     let text : List ℕ = (pool_text 1 1 ++ went.1) ++ end_text (ending end) in (
       end.images,
       text,
-      subst (λ (e : Ending). IsMeaning plain_show c.args.script.now before c.run_items.new.journal end.images text (end_code e)) (sym ending_is)
-          (subst (λ (b : Images). IsMeaning plain_show c.args.script.now b c.run_items.new.journal end.images text (end_code (ending end))) (sym image.1)
-          (went_end s c.args.script.now image.0 disk end c.run_items.new.journal went.1 went_items c.requires.form tops rows image.2)),
+      subst (λ (e : Ending). IsMeaning show c.args.script.now before c.run_items.new.journal end.images text (end_code e)) (sym ending_is)
+          (subst (λ (b : Images). IsMeaning show c.args.script.now b c.run_items.new.journal end.images text (end_code (ending end))) (sym image.1)
+          (went_end show s c.args.script.now image.0 disk end c.run_items.new.journal went.1 went_items c.requires.report c.requires.form tops rows image.2)),
       went.4,
       Appends-both (g.O.Sink.holds c.args.out.now) (g.O.Sink.holds c.run_items.new.out) (g.O.Sink.holds c.write_text-2.new.out)
           (pool_text 1 1 ++ went.1) (end_text (ending end))
           (Appends-both (g.O.Sink.holds c.args.out.now) (g.O.Sink.holds c.write_text.new.out) (g.O.Sink.holds c.run_items.new.out)
           (pool_text 1 1) went.1 first went.5) last,
     )
-
-pub returns-clause-first : goal.returns-clause-first
-returns-clause-first g c form =
-    c.ending_of-ending.ensures.ending
-    ∙ ap left_if (c.in_ok-suspended.ensures.first (subst AreFirstItems (sym c.as_slice.ensures) form.items))

@@ -1,7 +1,6 @@
-use Rattle.std.proofs.Common.{◌≡◌, ℕ, List, ◌∷◌, [], ◌++◌, map, sym, ap, ◌∙◌, ◌+◌, subst, refl, arith}
+use Rattle.std.proofs.Common.{◌≡◌, ℕ, ◌∷◌, [], ◌++◌, sym, ap, ◌∙◌, ◌+◌, subst}
 use Rattle.zio_cksum.specs.Images.{Images}
 use Rattle.zio_plain.specs.Disks.{AreSameDisks, Tell}
-use Rattle.zio_plain.specs.Rounds.{plain_show}
 use Rattle.zio_report.specs.Meanings.{IsMeaning}
 use Rattle.zio_run.proofs.DiskLemmas.{first_of, one_disk, tell_one}
 use Rattle.zio_run.proofs.serial.run_on_disk.Goals as goal
@@ -20,7 +19,7 @@ returns-clause-meaning g c code image told =
     let after = tell_one g.D.Disk.image new.0 m.0 (subst (λ ds. Tell g.D.Disk.image ds m.0) new.1 m.3) in (
       after.0,
       m.1,
-      subst (λ (xs : Images). IsMeaning plain_show c.args.script.now (image ∷ []) c.run_over-status.new.journal xs m.1 c.run_over-status.result.code) after.1 m.2,
+      subst (λ (xs : Images). IsMeaning c.args.show.now c.args.script.now (image ∷ []) c.run_over-status.new.journal xs m.1 c.run_over-status.result.code) after.1 m.2,
       subst (λ d. g.D.Disk.image d after.0) (sym result) after.2,
       m.4,
     )

@@ -1,4 +1,4 @@
-use Rattle.std.proofs.Common.{◌≡◌, ℕ, List, ◌∷◌, [], inl, inr, sym, ap, ◌∙◌, subst, refl}
+use Rattle.std.proofs.Common.{◌≡◌, inr, sym, ◌∙◌, subst, refl}
 use Rattle.zio_outside.proofs.ShelfLemmas.{StaysHome-after_trip}
 use Rattle.zio_run.proofs.DiskLemmas.{KeepsOthers-after_trip}
 use Rattle.zio_run.proofs.serial.run_on_shelf.Goals as goal

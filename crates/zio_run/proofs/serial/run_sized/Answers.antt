@@ -1,7 +1,6 @@
-use Rattle.std.proofs.Common.{◌≡◌, ℕ, List, ◌∷◌, [], length, map, sym, ap, ◌∙◌, subst}
+use Rattle.std.proofs.Common.{◌≡◌, ℕ, length, sym, ap, ◌∙◌, subst}
 use Rattle.std.proofs.lemmas.List.{length-map}
 use Rattle.zio_plain.proofs.DiskLemmas.{same_itself}
-use Rattle.zio_plain.proofs.FormLemmas.{plain_script}
 use Rattle.zio_plain.specs.Rounds.{Begins}
 use Rattle.zio_report.specs.Reports.{pool_text}
 use Rattle.zio_run.proofs.serial.run_sized.Goals as goal
@@ -18,6 +17,3 @@ returns-clause-begun g c =
     let disks : length c.args.disks.now ≡ 1 = sym (length-map c.args.disks.now g.D.Disk.bytes) ∙ ap length c.requires.size in
     subst (λ (n : ℕ). Begins (g.O.Sink.holds c.args.out.now) (g.O.Sink.holds c.run_script.new.out) (pool_text 1 n)) disks
     (subst (λ (n : ℕ). Begins (g.O.Sink.holds c.args.out.now) (g.O.Sink.holds c.run_script.new.out) (pool_text n (length c.args.disks.now))) tops c.run_script.ensures.begun)
-
-pub run_script-requires-clause-form : goal.run_script-requires-clause-form
-run_script-requires-clause-form g c κs within = plain_script c.args.script.now c.requires.form

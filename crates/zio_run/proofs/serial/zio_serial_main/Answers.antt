@@ -1,8 +1,10 @@
-use Rattle.std.proofs.Common.{ℕ, List, [], ◌∷◌, ◌++◌, inl, inr, refl, take, subst, sym, ◌≡◌}
-use Rattle.zio_script.specs.FirstForm.{IsFaultOf, IsScriptOf}
-use Rattle.zio_script.proofs.FaultLemmas.{no_script}
+use Rattle.std.proofs.Common.{ℕ, List, map, string_bytes, [], ◌∷◌, ◌++◌, inl, inr, refl, subst, sym, ◌≡◌}
+use Rattle.zio_script.specs.Built.{IsFaultOf, IsScriptOf}
+use Rattle.zio_report.specs.Meanings.{IsMeaning}
 use Rattle.zio_report.specs.Reports.{pool_text}
-use Rattle.zio_run.proofs.ScriptLemmas.{IsFaultOf-read, IsScriptOf-read}
+use Rattle.zio_report.specs.declared.report.Show.{Show}
+use Rattle.zio_run.proofs.ScriptLemmas.{IsFaultOf-read, IsScriptOf-read, no_script}
+use Rattle.zio_run.proofs.CommandLemmas.{one_command}
 use Rattle.zio_run.specs.Outcomes.{images_line, script_line}
 use Rattle.zio_run.proofs.serial.zio_serial_main.Goals as goal
 
@@ -30,11 +32,12 @@ returns-in-Ok-read_script-clause-front g c e text told held has =
     ]
 
 pub returns-in-Ok-read_script-clause-headline : goal.returns-in-Ok-read_script-clause-headline
-returns-in-Ok-read_script-clause-headline g c e text name image told command tells before =
+returns-in-Ok-read_script-clause-headline g c e text show name image told command tells before =
     let script = c.in-Ok-read_script.script in
     let accepted : IsScriptOf text script = IsScriptOf-read text c.in-Ok.bytes.items script (c.in-Ok.ensures.read text told)
     (subst (λ (xs : List ℕ). IsScriptOf xs script) c.as_slice.ensures.value c.in-Ok-read_script.ensures.script) in
-    let same : name ≡ c.in-Some.name.now = (let these = command.words_are in let those = c.in-Some.ensures.words_are in cc) in
+    let one = one_command (map string_bytes c.args.words.now) show c.in-Some.command.show name c.in-Some.command.image.now command c.in-Some.ensures.command in
+    let same : name ≡ c.in-Some.command.image.now = one.1 in
     let there = subst (λ (n : List ℕ). g.H.Shelf.image c.args.shelf.now n image) same before in
     let m = c.run_on_shelf.ensures.meaning e image tells there in
     record {
@@ -42,14 +45,15 @@ returns-in-Ok-read_script-clause-headline g c e text name image told command tel
       after = m.0 ∷ [];
       printed = m.1;
       accepted = accepted;
-      meaning = m.2;
+      meaning = subst (λ (s : Show). IsMeaning s script (image ∷ []) c.run_on_shelf.new.journal (m.0 ∷ []) m.1 c.run_on_shelf.result.code) (sym one.0) m.2;
       stored = (subst (λ (n : List ℕ). g.H.Shelf.image c.run_on_shelf.new.shelf n m.0) (sym same) m.3, tt);
       written = m.4;
     }
 
 pub returns-in-Ok-read_script-clause-complete : goal.returns-in-Ok-read_script-clause-complete
-returns-in-Ok-read_script-clause-complete g c name text image read command told is tells before lawful s o h d =
-    let same : name ≡ c.in-Some.name.now = (let these = command.words_are in let those = c.in-Some.ensures.words_are in cc) in
+returns-in-Ok-read_script-clause-complete g c show name text image read command told is tells before lawful s o h d =
+    let one = one_command (map string_bytes c.args.words.now) show c.in-Some.command.show name c.in-Some.command.image.now command c.in-Some.ensures.command in
+    let same : name ≡ c.in-Some.command.image.now = one.1 in
     let there = subst (λ (n : List ℕ). g.H.Shelf.image c.args.shelf.now n image) same before in
     elim c.run_on_shelf.ensures.codes [
       | inl good ↦ inl good
@@ -83,9 +87,26 @@ returns-in-Err-Fault-clause-front g c e text told held has =
     (script_line fault, inr (inl (fault, faulty, refl)), (front e held has).0, (front e held has).1)
 
 pub returns-in-Err-Fault-clause-complete : goal.returns-in-Err-Fault-clause-complete
-returns-in-Err-Fault-clause-complete g c name text image read command told is tells before lawful s o h d =
+returns-in-Err-Fault-clause-complete g c show name text image read command told is tells before lawful s o h d =
     let reason = rw c.in-Err-Fault.field-0-is at c.in-Err-Fault.ensures.fault in
     let fault = c.in-Err-Fault.fault in
     let faulty : IsFaultOf text fault = IsFaultOf-read text c.in-Ok.bytes.items fault (c.in-Ok.ensures.read text told)
     (subst (λ (xs : List ℕ). IsFaultOf xs fault) c.as_slice.ensures.value reason) in
     absurd (no_script text read fault is faulty)
+
+pub returns-in_default-clause-complete : goal.returns-in_default-clause-complete
+returns-in_default-clause-complete g c show name text image read command told is tells before lawful s o h d =
+    absurd (c.in_default.ensures.command show name command)
+
+pub returns-in-Ok-read_script-clause-images : goal.returns-in-Ok-read_script-clause-images
+returns-in-Ok-read_script-clause-images g c e show name command =
+    let one = one_command (map string_bytes c.args.words.now) show c.in-Some.command.show name c.in-Some.command.image.now command c.in-Some.ensures.command in
+    elim (c.run_on_shelf.ensures.images e) [
+      | inl rose ↦ inl rose
+      | inr unlawful ↦ inr (λ image tells told. unlawful image tells (subst (λ (n : List ℕ). g.H.Shelf.image c.args.shelf.now n image) one.1 told))
+    ]
+
+pub returns-in-Ok-read_script-clause-measured : goal.returns-in-Ok-read_script-clause-measured
+returns-in-Ok-read_script-clause-measured g c e show name image command tells told =
+    let one = one_command (map string_bytes c.args.words.now) show c.in-Some.command.show name c.in-Some.command.image.now command c.in-Some.ensures.command in
+    c.run_on_shelf.ensures.measured e image tells (subst (λ (n : List ℕ). g.H.Shelf.image c.args.shelf.now n image) one.1 told)

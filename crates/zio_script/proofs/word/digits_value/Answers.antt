@@ -1,24 +1,22 @@
-use Rattle.std.proofs.Common.{arith, sym}
-use Rattle.zio_script.proofs.WordLemmas.{all_digits_more, no_digits, value_more, value_small}
+use Rattle.std.proofs.Common.{◌≤◌, rules, arith}
+use Rattle.std.specs.Str.Parse.{digits_value}
+use Rattle.zio_script.proofs.WordLemmas.{digits_turn}
 use Rattle.zio_script.proofs.word.digits_value.Goals as goal
 
-pub returns-then-not-is_ascii_digit : goal.returns-then-not-is_ascii_digit
-returns-then-not-is_ascii_digit c = no_digits c.args.word.now c.loop-c.c-index c.loop-c-test.true (sym c.if-not-is_ascii_digit.ensures.value)
+pub returns-in_err-checked_mul : goal.returns-in_err-checked_mul
+returns-in_err-checked_mul c =
+    let turn = digits_turn c.args.digits.now c.loop-digit.digit-index c.loop-digit.value c.requires (search rules) c.loop-digit.invariant in
+    let large : 18446744073709551616 ≤ digits_value 10 c.args.digits.now = omega (arith, turn.below, c.in_err-checked_mul.ensures) in
+    search rules
 
-pub overflow_mul-number : goal.overflow_mul-number
-overflow_mul-number c =
-    let small = value_small c.args.word.now c.loop-c.c-index c.loop-c.number c.loop-c.invariant.digits c.loop-c.invariant.value c.loop-c-test.true c.requires in
-    omega arith
+pub returns-in_err-value : goal.returns-in_err-value
+returns-in_err-value c =
+    let turn = digits_turn c.args.digits.now c.loop-digit.digit-index c.loop-digit.value c.requires (search rules) c.loop-digit.invariant in
+    let large : 18446744073709551616 ≤ digits_value 10 c.args.digits.now = omega (arith, turn.below, c.in_err-value.ensures, c.in_ok-checked_mul.ensures, c.from.ensures) in
+    search rules
 
-pub overflow_add-number : goal.overflow_add-number
-overflow_add-number c =
-    let small = value_small c.args.word.now c.loop-c.c-index c.loop-c.number c.loop-c.invariant.digits c.loop-c.invariant.value c.loop-c-test.true c.requires in
-    omega arith
-
-pub loop-c-preserved : goal.loop-c-preserved
-loop-c-preserved c =
-    let digit = sym c.if-not-is_ascii_digit.ensures.value in
-    record {
-      digits = all_digits_more c.args.word.now c.loop-c.c-index c.loop-c.invariant.digits c.loop-c-test.true digit;
-      value = value_more c.args.word.now c.loop-c.c-index c.loop-c.number c.from.result c.loop-c.invariant.value c.loop-c-test.true digit c.from.ensures;
-    }
+pub loop-digit-preserved : goal.loop-digit-preserved
+loop-digit-preserved c =
+    let turn = digits_turn c.args.digits.now c.loop-digit.digit-index c.loop-digit.value c.requires (search rules) c.loop-digit.invariant in
+    let turn_next = turn.next in
+    grind arith

@@ -1,9 +1,6 @@
 use Rattle.std.proofs.Common.{◌≡◌, take}
-use Rattle.std.specs.Str.Parse.{AllDigits, digits_value}
+use Rattle.std.specs.Str.Parse.{digits_value}
 use Rattle.zio_script.proofs.word.digits_value.Given as goal
 
-abbrev pub invariant-loop-c : goal.invariant-loop-c
-invariant-loop-c l = record {
-  digits : AllDigits 10 (take l.c-index l.word);
-  value : l.number ≡ digits_value 10 (take l.c-index l.word);
-}
+abbrev pub invariant-loop-digit : goal.invariant-loop-digit
+invariant-loop-digit l = l.value ≡ digits_value 10 (take l.digit-index l.digits)

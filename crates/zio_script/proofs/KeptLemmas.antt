@@ -1,0 +1,248 @@
+-- What a draft keeps, line by line.
+use Rattle.std.proofs.Common.{◌≡◌, ◌≤◌, ◌<◌, ◌+◌, ℕ, List, [], ◌∷◌, ◌++◌, length, fold, refl, sym, ap, ◌∙◌, Bool, true, false, not, cond, ◌||◌, ◌&&◌, nat_le, Some, None, arith}
+use Rattle.std.proofs.lemmas.Bool.{and_parts, le-leb, leb-true, leb-false, lt-leb, not-false}
+use Rattle.std.proofs.lemmas.List.{append-nil, length-append}
+use Rattle.std.proofs.lemmas.List.Folds.{list_any-append}
+use Rattle.std.proofs.lemmas.List.Sums.{fold-append}
+use Rattle.std.proofs.lemmas.Bool.Decides.{nat_tests, same_from_decides}
+use Rattle.std.proofs.lemmas.Slice.Eq.{bytes_eq-Decides}
+use Rattle.std.specs.BTreeMap.{is_at}
+use Rattle.std.specs.BTreeSet.{BTreeSet, contains_by, insert_key}
+use Rattle.std.specs.List.{AllByRecursion, list_all, list_any}
+use Rattle.std.specs.Ordering.{is_eq, match_ordering, nat_cmp}
+use Rattle.std.specs.Prelude.{bytes_eq}
+use Rattle.std.specs.declared.cmp.Ordering.{Ordering}
+use Rattle.std.specs.declared.cmp.Ordering.TheVariants.{Less, Equal, Greater}
+use Rattle.zio_script.specs.declared.draft.Draft.{Draft}
+use Rattle.zio_script.specs.declared.line.Asked.{Asked}
+use Rattle.zio_script.specs.declared.line.Deed.{Deed}
+use Rattle.zio_script.specs.declared.line.Deed.TheVariants.{Read as ReadDeed, Write as WriteDeed}
+use Rattle.zio_script.specs.declared.name.TheConstants.{NAME_LEN_MAX}
+use Rattle.zio_script.specs.declared.script.Failmode.TheVariants.{Wait}
+use Rattle.zio_script.specs.declared.script.Item.{Item}
+use Rattle.zio_script.specs.declared.script.Item.TheVariants.{Request as RequestItem, Go}
+use Rattle.zio_script.specs.declared.script.Request.{Request}
+use Rattle.zio_script.specs.Bodies.{body_of}
+use Rattle.zio_script.specs.Drafts.{IsKept, IsNamed, IsShortDeed, IsSmall, batch_of, request_made, request_whys_of, script_so_far, tops_if}
+use Rattle.zio_script.specs.Grammar.{with_item}
+use Rattle.zio_script.specs.Keys.{name_key}
+use Rattle.zio_script.specs.PlainForm.{IsNewName, IsPlainRequest, IsRead, IsWrite, last_after}
+use Rattle.zio_script.specs.Reading.{asked_alone, work_on}
+use Rattle.zio_script.specs.Requests.{kind_of, name_of, names_it, requests_of}
+use Rattle.zio_script.specs.Whys.{batch_after, body_len, breaks_limit, falls_back, fits_work, is_claim, is_misnamed, is_number, is_taken, least_why, number_max, shares_with_claim, why}
+use Rattle.zio_script.specs.Words.{is_empty, is_name, is_name_char}
+use Rattle.zio_script.proofs.BodyLemmas.{length-body}
+use Rattle.zio_script.proofs.FrontLemmas.{all_more, any_none, front_more, none_passes, requests-append}
+use Rattle.zio_script.proofs.KeyLemmas.{same_name}
+use Rattle.zio_script.proofs.SizeLemmas.{limit_of, small_made}
+
+-- ---- a request without a fault
+
+three_false : (a b c : Bool) → (a || b || c) ≡ false → (a ≡ false) × ((b ≡ false) × (c ≡ false))
+three_false false false false e = (refl, (refl, refl))
+three_false false false true e = let no : ⊥ = cc in absurd no
+three_false false true c e = let no : ⊥ = cc in absurd no
+three_false true b c e = let no : ⊥ = cc in absurd no
+
+named : (name : List ℕ) (deed : Deed) → name_of (work_on name deed) ≡ Some name
+named name (ReadDeed prio) = refl
+named name (WriteDeed sum prio body) = refl
+
+no_claims : (batch : List Request) → AllByRecursion IsSmall batch → AllByRecursion (λ (r : Request). is_claim (kind_of r.work) ≡ false) batch
+no_claims [] all = tt
+no_claims (r ∷ batch) all = (all.0.other, no_claims batch all.1)
+
+claim_alone : (batch : List Request) (name : List ℕ) (deed : Deed) → AllByRecursion IsSmall batch → shares_with_claim batch (kind_of (work_on name deed)) ≡ false
+claim_alone batch name (ReadDeed prio) all = any_none (λ (r : Request). is_claim (kind_of r.work)) batch (no_claims batch all)
+claim_alone batch name (WriteDeed sum prio body) all = any_none (λ (r : Request). is_claim (kind_of r.work)) batch (no_claims batch all)
+
+-- no why applies but for 6
+six_or_none : (a b c d f : Bool) → a ≡ false → b ≡ false → c ≡ false → f ≡ false
+    → least_why (why 3 a ∷ why 4 b ∷ why 5 c ∷ why 6 d ∷ why 7 false ∷ why 8 f ∷ []) ≡ cond d (Some 6) None
+six_or_none a b c true f no_a no_b no_c no_f = rw (no_a, no_b, no_c) refl
+six_or_none a b c false f no_a no_b no_c no_f = rw (no_a, no_b, no_c, no_f) refl
+
+pub named_from : (draft : Draft) (asked : Asked) → IsKept draft → IsShortDeed asked.deed → breaks_limit (batch_of draft) (asked_alone asked) ≡ false
+    → draft.has_top ≡ true → draft.last + 1 ≤ asked.number → is_name asked.name.now ≡ true → IsNamed draft asked
+named_from draft asked kept short within top above is_one =
+    let parts = three_false (not (is_number asked.number)) (not (fits_work (work_on [] asked.deed))) (nat_le 1024 (length (batch_of draft)))
+    (sym (limit_of (batch_of draft) asked kept.small short) ∙ within) in
+    let ends = and_parts (nat_le 1 asked.number) (nat_le asked.number number_max) (not-false (is_number asked.number) parts.0) in
+    let room : length (batch_of draft) < 1024 = leb-false 1024 (length (batch_of draft)) parts.1.1 in
+    let len : length (batch_of draft) ≡ draft.batch_len = kept.len in
+    record {
+      within = within;
+      top = top;
+      above = above;
+      name = is_one;
+      low = leb-true 1 asked.number ends.0;
+      high = leb-true asked.number number_max ends.1;
+      room = omega arith;
+      fits = not-false (fits_work (work_on [] asked.deed)) parts.1.0;
+    }
+
+-- the least why is 6 where the batch has the name
+pub why_named : (draft : Draft) (asked : Asked) → IsKept draft → IsNamed draft asked
+    → least_why (request_whys_of draft asked) ≡ cond (is_taken (batch_of draft) (Some asked.name.now)) (Some 6) None
+why_named draft asked kept is =
+    let above : draft.last + 1 ≤ asked.number = is.above in
+    let rises : (is_empty (tops_if draft.has_top) || falls_back (script_so_far draft) asked.number) ≡ false
+    = rw is.top (kept.last asked.number is.low ∙ lt-leb asked.number draft.last (omega arith)) in
+    rw (← named asked.name.now asked.deed)
+    (six_or_none (breaks_limit (batch_of draft) (asked_alone asked)) (is_empty (tops_if draft.has_top) || falls_back (script_so_far draft) asked.number)
+    (is_misnamed (name_of (work_on asked.name.now asked.deed))) (is_taken (batch_of draft) (name_of (work_on asked.name.now asked.deed)))
+    (shares_with_claim (batch_of draft) (kind_of (work_on asked.name.now asked.deed)))
+    is.within rises (rw (named asked.name.now asked.deed, is.name) refl) (claim_alone (batch_of draft) asked.name.now asked.deed kept.small))
+
+-- ---- the request that is made
+
+plain_of : (last : ℕ) (asked : Asked) (deed : Deed) → asked.deed ≡ deed → IsShortDeed deed → fits_work (work_on [] deed) ≡ true
+    → last < asked.number → asked.number ≤ number_max → IsPlainRequest last (request_made asked)
+plain_of last asked (ReadDeed prio) is short fits above most = IsRead (record {
+  name = asked.name.now;
+  prio = prio;
+  above = above;
+  most = most;
+  work = rw is refl;
+  root = refl;
+  may = rw is refl;
+})
+plain_of last asked (WriteDeed sum prio body) is short fits above most =
+    let ends = and_parts (nat_le 1 (body_len body)) (nat_le (body_len body) 131072) fits in
+    let len : length (body_of body) ≡ body_len body = length-body body in
+    let few : body_len body ≤ 512 = short in
+    let some : 1 ≤ body_len body = leb-true 1 (body_len body) ends.0 in
+    IsWrite (record {
+      name = asked.name.now;
+      sum = sum;
+      prio = prio;
+      body = body;
+      above = above;
+      most = most;
+      work = rw is refl;
+      some = omega arith;
+      fits = omega arith;
+      root = refl;
+      must = rw is refl;
+    })
+
+-- ---- names
+
+or_again : (a b : Bool) → (a || b) ≡ (a || (a || b))
+or_again false b = refl
+or_again true b = refl
+
+or_turned : (a b c : Bool) → (a || (b || c)) ≡ (b || (a || c))
+or_turned false b c = refl
+or_turned true false c = refl
+or_turned true true c = refl
+
+or_last : (a b : Bool) → (a || b) ≡ (b || (a || false))
+or_last false false = refl
+or_last false true = refl
+or_last true false = refl
+or_last true true = refl
+
+placed : (q key x : ℕ) (keys : List ℕ) (o : Ordering) → nat_cmp key x ≡ o
+    → list_any (is_at (nat_cmp q)) (insert_key nat_cmp keys key) ≡ (is_at (nat_cmp q) key || list_any (is_at (nat_cmp q)) keys)
+    → list_any (is_at (nat_cmp q)) (match_ordering o (key ∷ x ∷ keys) (x ∷ keys) (x ∷ insert_key nat_cmp keys key))
+    ≡ (is_at (nat_cmp q) key || (is_at (nat_cmp q) x || list_any (is_at (nat_cmp q)) keys))
+placed q key x keys Less is more = refl
+placed q key x keys Equal is more =
+    let same : key ≡ x = grind (arith, nat_tests) in
+    rw same (or_again (is_at (nat_cmp q) x) (list_any (is_at (nat_cmp q)) keys))
+placed q key x keys Greater is more = rw more (or_turned (is_at (nat_cmp q) x) (is_at (nat_cmp q) key) (list_any (is_at (nat_cmp q)) keys))
+
+inserted : (q key : ℕ) (keys : List ℕ)
+    → list_any (is_at (nat_cmp q)) (insert_key nat_cmp keys key) ≡ (is_at (nat_cmp q) key || list_any (is_at (nat_cmp q)) keys)
+inserted q key [] = refl
+inserted q key (x ∷ keys) = placed q key x keys (nat_cmp key x) refl (inserted q key keys)
+
+at_key : (a b : ℕ) → is_eq (nat_cmp a b) ≡ true → a ≡ b
+at_key a b is = grind (arith, nat_tests)
+
+key_at : (a b : ℕ) → a ≡ b → is_eq (nat_cmp a b) ≡ true
+key_at a b is = grind (arith, nat_tests)
+
+-- two names are the same by their keys as by their bytes
+chars_of : (name : List ℕ) → is_name name ≡ true → list_all is_name_char name ≡ true
+chars_of name is = (and_parts (nat_le 1 (length name) && nat_le (length name) NAME_LEN_MAX) (list_all is_name_char name) is).1
+
+same_key : (name other : List ℕ) → is_name name ≡ true → is_name other ≡ true → is_eq (nat_cmp (name_key name) (name_key other)) ≡ bytes_eq name other
+same_key name other is there =
+    same_from_decides (is_eq (nat_cmp (name_key name) (name_key other))) (bytes_eq name other)
+    (λ at. same_name name other (chars_of name is) (chars_of other there) (at_key (name_key name) (name_key other) at), λ same. key_at (name_key name) (name_key other) (ap name_key same))
+    (bytes_eq-Decides name other)
+
+-- ---- a request more
+
+new_name : (batch : List Request) (asked : Asked) → is_taken batch (Some asked.name.now) ≡ false → IsNewName (request_made asked) batch
+new_name batch asked free = rw (named asked.name.now asked.deed) (none_passes (λ (q : Request). names_it (Some asked.name.now) (name_of q.work)) batch free)
+
+or_false : (a : Bool) → (a || false) ≡ a
+or_false false = refl
+or_false true = refl
+
+-- with the test of the earlier ones
+rises_by : (n last number : ℕ) → last + 1 ≤ number → (b : Bool) → nat_le n last ≡ b → (b || (nat_le n number || false)) ≡ nat_le n number
+rises_by n last number above false is = or_false (nat_le n number)
+rises_by n last number above true is =
+    let low : n ≤ last = leb-true n last is in
+    sym (le-leb n number (omega arith))
+
+rises_to : (n last number : ℕ) → last + 1 ≤ number → (nat_le n last || (nat_le n number || false)) ≡ nat_le n number
+rises_to n last number above = rises_by n last number above (nat_le n last) refl
+
+-- what an insertion says of the name
+pub new_is : (draft : Draft) (asked : Asked) (key : ℕ) (new : Bool) → IsKept draft → IsNamed draft asked → key ≡ name_key asked.name.now
+    → new ≡ not (contains_by (nat_cmp key) draft.names) → new ≡ not (is_taken (batch_of draft) (Some asked.name.now))
+new_is draft asked key new kept good same is = is ∙ rw same (ap not (kept.names asked.name.now good.name))
+
+pub kept_request : (draft : Draft) (asked : Asked) (items : List Item) (names : BTreeSet ℕ) (key : ℕ) → IsKept draft → IsShortDeed asked.deed → IsNamed draft asked → is_taken (batch_of draft) (Some asked.name.now) ≡ false
+    → key ≡ name_key asked.name.now → names.keys ≡ insert_key nat_cmp draft.names.keys key → items ≡ draft.items ++ RequestItem (request_made asked) ∷ []
+    → IsKept (record { has_top = draft.has_top; items = items; last = asked.number; batch_len = draft.batch_len + 1; names = names })
+kept_request draft asked items names key kept short good free same keys is =
+    let batch : fold batch_after [] items ≡ batch_of draft ++ request_made asked ∷ []
+    = rw is (fold-append batch_after [] draft.items (RequestItem (request_made asked) ∷ [])) in
+    let numbers : requests_of items ≡ requests_of draft.items ++ request_made asked ∷ []
+    = rw is (requests-append draft.items (RequestItem (request_made asked) ∷ [])) in
+    let len : length (batch_of draft) ≡ draft.batch_len = kept.len in
+    let above : draft.last + 1 ≤ asked.number = good.above in
+    record {
+      len = rw batch (simp length-append (omega arith));
+      most = good.room;
+      names = λ name is_one. rw (keys, same, batch) (inserted (name_key name) (name_key asked.name.now) draft.names.keys
+          ∙ (rw (kept.names name is_one, list_any-append, same_key name asked.name.now is_one good.name, named asked.name.now asked.deed)
+          (or_last (bytes_eq name asked.name.now) (is_taken (batch_of draft) (Some name)))));
+      last = λ n low. rw (numbers, list_any-append, kept.last n low) (rises_to n draft.last asked.number above);
+      last_is = rw is (fold-append last_after 0 draft.items (RequestItem (request_made asked) ∷ []));
+      small = rw batch (all_more IsSmall (batch_of draft) (request_made asked) kept.small (small_made asked short));
+      plain = rw is (front_more 0 [] draft.items (RequestItem (request_made asked)) kept.plain
+          (rw kept.last_is (plain_of draft.last asked asked.deed refl short good.fits (omega arith) good.high), new_name (batch_of draft) asked free));
+    }
+
+-- the script with an item more
+pub next_item : (draft : Draft) (item : Item) (items : List Item) → items ≡ draft.items ++ item ∷ []
+    → with_item (script_so_far draft) item ≡ record { begun = true; script = record { failmode = Wait; tops = tops_if draft.has_top; faults = []; items = items } }
+next_item draft item items is = rw is refl
+
+-- ---- a go
+
+pub kept_go : (draft : Draft) (items : List Item) (names : BTreeSet ℕ) → IsKept draft → 1 ≤ draft.batch_len
+    → names.keys ≡ [] → items ≡ draft.items ++ Go ∷ []
+    → IsKept (record { has_top = draft.has_top; items = items; last = draft.last; batch_len = 0; names = names })
+kept_go draft items names kept some keys is =
+    let batch : fold batch_after [] items ≡ [] = rw is (fold-append batch_after [] draft.items (Go ∷ [])) in
+    let numbers : requests_of items ≡ requests_of draft.items
+    = rw is (requests-append draft.items (Go ∷ []) ∙ append-nil (requests_of draft.items)) in
+    let len : length (batch_of draft) ≡ draft.batch_len = kept.len in
+    let waits : 1 ≤ length (batch_of draft) = omega arith in
+    record {
+      len = rw batch refl;
+      most = omega arith;
+      names = λ name is_one. rw (keys, batch) refl;
+      last = λ n low. rw numbers (kept.last n low);
+      last_is = rw is (fold-append last_after 0 draft.items (Go ∷ []) ∙ kept.last_is);
+      small = rw batch tt;
+      plain = rw is (front_more 0 [] draft.items Go kept.plain waits);
+    }

@@ -1,0 +1,18 @@
+use Rattle.std.proofs.Common.{◌∙◌, sym, map}
+use Rattle.std.proofs.lemmas.Result.{on_ok_weaker}
+use Rattle.zio_script.proofs.ShortLemmas.{short_line}
+use Rattle.zio_script.proofs.DraftLemmas.{adds_skipped, adds_words}
+use Rattle.zio_script.specs.Reading.{line_as}
+use Rattle.zio_script.proofs.draft.Draft.add_words.Goals as goal
+
+pub returns-then-is_skipped-clause-added : goal.returns-then-is_skipped-clause-added
+returns-then-is_skipped-clause-added c = adds_skipped c.args.self.now (map (λ w. w.now) c.args.words.now) (sym c.is_skipped.ensures ∙ c.if-is_skipped.true)
+
+pub add_line-requires-clause-short : goal.add_line-requires-clause-short
+add_line-requires-clause-short c = short_line (map (λ w. w.now) c.args.words.now) c.in-Ok.line c.in-Ok.ensures.line
+
+pub returns-in-Ok-clause-added : goal.returns-in-Ok-clause-added
+returns-in-Ok-clause-added c =
+    on_ok_weaker c.add_line.result
+    (adds_words c.args.self.now c.add_line.new.self (map (λ w. w.now) c.args.words.now) (line_as c.in-Ok.line) (sym c.is_skipped.ensures ∙ c.if-is_skipped.false) c.in-Ok.ensures.line)
+    c.add_line.ensures.added

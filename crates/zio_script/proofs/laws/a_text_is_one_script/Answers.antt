@@ -1,5 +1,0 @@
-use Rattle.zio_script.proofs.OneScript.{one_script}
-use Rattle.zio_script.proofs.laws.a_text_is_one_script.Goals as goal
-
-pub returns : goal.returns
-returns c = one_script

@@ -6,18 +6,15 @@ use Rattle.std.proofs.lemmas.List.Folds.{list_any-append}
 use Rattle.std.proofs.lemmas.List.Sums.{fold-append}
 use Rattle.std.proofs.lemmas.Bool.Decides.{nat_tests, same_from_decides}
 use Rattle.std.proofs.lemmas.Slice.Eq.{bytes_eq-Decides}
-use Rattle.std.specs.BTreeMap.{is_at}
-use Rattle.std.specs.BTreeSet.{BTreeSet, contains_by, insert_key}
-use Rattle.std.specs.List.{AllByRecursion, list_all, list_any}
-use Rattle.std.specs.Ordering.{is_eq, match_ordering, nat_cmp}
+use Rattle.std.specs.List.{AllByRecursion, list_all}
+use Rattle.std.specs.Ordering.{is_eq, nat_cmp}
 use Rattle.std.specs.Prelude.{bytes_eq}
-use Rattle.std.specs.declared.cmp.Ordering.{Ordering}
-use Rattle.std.specs.declared.cmp.Ordering.TheVariants.{Less, Equal, Greater}
 use Rattle.zio_script.specs.declared.draft.Draft.{Draft}
 use Rattle.zio_script.specs.declared.line.Asked.{Asked}
 use Rattle.zio_script.specs.declared.line.Deed.{Deed}
 use Rattle.zio_script.specs.declared.line.Deed.TheVariants.{Read as ReadDeed, Write as WriteDeed}
 use Rattle.zio_script.specs.declared.name.TheConstants.{NAME_LEN_MAX}
+use Rattle.zio_script.specs.declared.names.BatchNames.{BatchNames}
 use Rattle.zio_script.specs.declared.script.Failmode.TheVariants.{Wait}
 use Rattle.zio_script.specs.declared.script.Item.{Item}
 use Rattle.zio_script.specs.declared.script.Item.TheVariants.{Request as RequestItem, Go}
@@ -25,7 +22,7 @@ use Rattle.zio_script.specs.declared.script.Request.{Request}
 use Rattle.zio_script.specs.Bodies.{body_of}
 use Rattle.zio_script.specs.Drafts.{IsKept, IsNamed, IsShortDeed, IsSmall, batch_of, request_made, request_whys_of, script_so_far, tops_if}
 use Rattle.zio_script.specs.Grammar.{with_item}
-use Rattle.zio_script.specs.Keys.{name_key}
+use Rattle.zio_script.specs.Keys.{AddsKey, IsBegun, has_key, name_key}
 use Rattle.zio_script.specs.PlainForm.{IsNewName, IsPlainRequest, IsRead, IsWrite, last_after}
 use Rattle.zio_script.specs.Reading.{asked_alone, work_on}
 use Rattle.zio_script.specs.Requests.{kind_of, name_of, names_it, requests_of}
@@ -128,35 +125,11 @@ plain_of last asked (WriteDeed sum prio body) is short fits above most =
 
 -- ---- names
 
-or_again : (a b : Bool) → (a || b) ≡ (a || (a || b))
-or_again false b = refl
-or_again true b = refl
-
-or_turned : (a b c : Bool) → (a || (b || c)) ≡ (b || (a || c))
-or_turned false b c = refl
-or_turned true false c = refl
-or_turned true true c = refl
-
 or_last : (a b : Bool) → (a || b) ≡ (b || (a || false))
 or_last false false = refl
 or_last false true = refl
 or_last true false = refl
 or_last true true = refl
-
-placed : (q key x : ℕ) (keys : List ℕ) (o : Ordering) → nat_cmp key x ≡ o
-    → list_any (is_at (nat_cmp q)) (insert_key nat_cmp keys key) ≡ (is_at (nat_cmp q) key || list_any (is_at (nat_cmp q)) keys)
-    → list_any (is_at (nat_cmp q)) (match_ordering o (key ∷ x ∷ keys) (x ∷ keys) (x ∷ insert_key nat_cmp keys key))
-    ≡ (is_at (nat_cmp q) key || (is_at (nat_cmp q) x || list_any (is_at (nat_cmp q)) keys))
-placed q key x keys Less is more = refl
-placed q key x keys Equal is more =
-    let same : key ≡ x = grind (arith, nat_tests) in
-    rw same (or_again (is_at (nat_cmp q) x) (list_any (is_at (nat_cmp q)) keys))
-placed q key x keys Greater is more = rw more (or_turned (is_at (nat_cmp q) x) (is_at (nat_cmp q) key) (list_any (is_at (nat_cmp q)) keys))
-
-inserted : (q key : ℕ) (keys : List ℕ)
-    → list_any (is_at (nat_cmp q)) (insert_key nat_cmp keys key) ≡ (is_at (nat_cmp q) key || list_any (is_at (nat_cmp q)) keys)
-inserted q key [] = refl
-inserted q key (x ∷ keys) = placed q key x keys (nat_cmp key x) refl (inserted q key keys)
 
 at_key : (a b : ℕ) → is_eq (nat_cmp a b) ≡ true → a ≡ b
 at_key a b is = grind (arith, nat_tests)
@@ -195,13 +168,13 @@ rises_to n last number above = rises_by n last number above (nat_le n last) refl
 
 -- what an insertion says of the name
 pub new_is : (draft : Draft) (asked : Asked) (key : ℕ) (new : Bool) → IsKept draft → IsNamed draft asked → key ≡ name_key asked.name.now
-    → new ≡ not (contains_by (nat_cmp key) draft.names) → new ≡ not (is_taken (batch_of draft) (Some asked.name.now))
+    → new ≡ not (has_key draft.names key) → new ≡ not (is_taken (batch_of draft) (Some asked.name.now))
 new_is draft asked key new kept good same is = is ∙ rw same (ap not (kept.names asked.name.now good.name))
 
-pub kept_request : (draft : Draft) (asked : Asked) (items : List Item) (names : BTreeSet ℕ) (key : ℕ) → IsKept draft → IsShortDeed asked.deed → IsNamed draft asked → is_taken (batch_of draft) (Some asked.name.now) ≡ false
-    → key ≡ name_key asked.name.now → names.keys ≡ insert_key nat_cmp draft.names.keys key → items ≡ draft.items ++ RequestItem (request_made asked) ∷ []
+pub kept_request : (draft : Draft) (asked : Asked) (items : List Item) (names : BatchNames) (key : ℕ) → IsKept draft → IsShortDeed asked.deed → IsNamed draft asked → is_taken (batch_of draft) (Some asked.name.now) ≡ false
+    → key ≡ name_key asked.name.now → IsBegun names → AddsKey draft.names key names → items ≡ draft.items ++ RequestItem (request_made asked) ∷ []
     → IsKept (record { has_top = draft.has_top; items = items; last = asked.number; batch_len = draft.batch_len + 1; names = names })
-kept_request draft asked items names key kept short good free same keys is =
+kept_request draft asked items names key kept short good free same begun adds is =
     let batch : fold batch_after [] items ≡ batch_of draft ++ request_made asked ∷ []
     = rw is (fold-append batch_after [] draft.items (RequestItem (request_made asked) ∷ [])) in
     let numbers : requests_of items ≡ requests_of draft.items ++ request_made asked ∷ []
@@ -211,8 +184,9 @@ kept_request draft asked items names key kept short good free same keys is =
     record {
       len = rw batch (simp length-append (omega arith));
       most = good.room;
-      names = λ name is_one. rw (keys, same, batch) (inserted (name_key name) (name_key asked.name.now) draft.names.keys
-          ∙ (rw (kept.names name is_one, list_any-append, same_key name asked.name.now is_one good.name, named asked.name.now asked.deed)
+      begun = begun;
+      names = λ name is_one. rw batch (adds (name_key name)
+          ∙ (rw (same, kept.names name is_one, list_any-append, same_key name asked.name.now is_one good.name, named asked.name.now asked.deed)
           (or_last (bytes_eq name asked.name.now) (is_taken (batch_of draft) (Some name)))));
       last = λ n low. rw (numbers, list_any-append, kept.last n low) (rises_to n draft.last asked.number above);
       last_is = rw is (fold-append last_after 0 draft.items (RequestItem (request_made asked) ∷ []));
@@ -228,10 +202,10 @@ next_item draft item items is = rw is refl
 
 -- ---- a go
 
-pub kept_go : (draft : Draft) (items : List Item) (names : BTreeSet ℕ) → IsKept draft → 1 ≤ draft.batch_len
-    → names.keys ≡ [] → items ≡ draft.items ++ Go ∷ []
+pub kept_go : (draft : Draft) (items : List Item) (names : BatchNames) → IsKept draft → 1 ≤ draft.batch_len
+    → names.first ≡ None → names.others.keys ≡ [] → items ≡ draft.items ++ Go ∷ []
     → IsKept (record { has_top = draft.has_top; items = items; last = draft.last; batch_len = 0; names = names })
-kept_go draft items names kept some keys is =
+kept_go draft items names kept some first others is =
     let batch : fold batch_after [] items ≡ [] = rw is (fold-append batch_after [] draft.items (Go ∷ [])) in
     let numbers : requests_of items ≡ requests_of draft.items
     = rw is (requests-append draft.items (Go ∷ []) ∙ append-nil (requests_of draft.items)) in
@@ -240,7 +214,8 @@ kept_go draft items names kept some keys is =
     record {
       len = rw batch refl;
       most = omega arith;
-      names = λ name is_one. rw (keys, batch) refl;
+      begun = λ _. others;
+      names = λ name is_one. rw (first, others, batch) refl;
       last = λ n low. rw numbers (kept.last n low);
       last_is = rw is (fold-append last_after 0 draft.items (Go ∷ []) ∙ kept.last_is);
       small = rw batch tt;

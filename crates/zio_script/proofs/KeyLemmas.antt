@@ -1,16 +1,46 @@
--- Names with the same number are the same name.
-use Rattle.std.proofs.Common.{◌≡◌, ◌≤◌, ◌<◌, ◌^◌, ℕ, List, [], ◌∷◌, refl, Bool, true, false, ◌&&◌, ◌||◌, ◌==◌, nat_le, arith}
-use Rattle.std.proofs.Math.Nat.{pow-le-pow_right}
+-- A name's number is that of its bytes, and names with the same number are the same name.
+use Rattle.std.proofs.Common.{◌≡◌, ◌≤◌, ◌+◌, ◌*◌, ◌-◌, ℕ, zero, suc, List, [], ◌∷◌, ◌++◌, length, take, replicate, slice_index, refl, sym, ap, ◌∙◌, Bool, true, false, ◌&&◌, ◌||◌, ◌==◌, nat_le, arith}
 use Rattle.std.proofs.lemmas.Bool.{and_parts, eqb-true, leb-true}
+use Rattle.std.specs.Int.{from_le_bytes, w128}
 use Rattle.std.specs.List.{list_all}
 use Rattle.zio_script.specs.Keys.{name_key}
 use Rattle.zio_script.specs.Words.{is_name_char}
+use Rattle.zio_types.specs.Filled.{IsFilled, length-filled}
 
--- a number of a few digits is small
-pub few_digits : (digits key : ℕ) → digits ≤ 15 → key < 256 ^ digits → key < 256 ^ 15
-few_digits digits key few small =
-    let more : 256 ^ digits ≤ 256 ^ 15 = pow-le-pow_right {n = 256} (omega arith) few in
-    omega arith
+-- ---- the number of a name's bytes
+
+-- the bytes from place i on, the lowest first
+abbrev key_from : ℕ → ℕ → List ℕ → ℕ
+key_from i zero bytes = 0
+key_from i (suc n) bytes = slice_index bytes i + 256 * key_from (suc i) n bytes
+
+key_from-cons : (i n c : ℕ) (cs : List ℕ) → key_from (suc i) n (c ∷ cs) ≡ key_from i n cs
+key_from-cons i zero c cs = refl
+key_from-cons i (suc n) c cs = ap (λ (r : ℕ). slice_index cs i + 256 * r) (key_from-cons (suc i) n c cs)
+
+key_from-start : (cs : List ℕ) → key_from 0 (length cs) cs ≡ name_key cs
+key_from-start [] = refl
+key_from-start (c ∷ cs) =
+    let moved = key_from-cons 0 (length cs) c cs in
+    let rest = key_from-start cs in
+    omega (arith, moved, rest)
+
+-- zeros behind the bytes change nothing
+key-zeros : (n : ℕ) → name_key (replicate n 0) ≡ 0
+key-zeros zero = refl
+key-zeros (suc n) = let rest = key-zeros n in omega (arith, rest)
+
+key-zeros_behind : (cs : List ℕ) (n : ℕ) → name_key (cs ++ replicate n 0) ≡ name_key cs
+key-zeros_behind [] n = key-zeros n
+key-zeros_behind (c ∷ cs) n = ap (λ (r : ℕ). r * 256 + c) (key-zeros_behind cs n)
+
+pub key_of_filled : (used : ℕ) (bytes : List ℕ) → IsFilled 0 16 used bytes → from_le_bytes w128 bytes ≡ name_key (take used bytes)
+key_of_filled used bytes filled =
+    let places : from_le_bytes w128 bytes ≡ key_from 0 16 bytes = omega arith in
+    places ∙ ap (λ (n : ℕ). key_from 0 n bytes) (sym (length-filled 0 16 used bytes filled)) ∙ key_from-start bytes
+    ∙ ap name_key filled.rest ∙ key-zeros_behind (take used bytes) (16 - length (take used bytes))
+
+-- ---- two names
 
 char_by : (c : ℕ) (letter digit line : Bool) → (nat_le 97 c && nat_le c 122) ≡ letter → (nat_le 48 c && nat_le c 57) ≡ digit → (c == 95) ≡ line
     → (letter || digit || line) ≡ true → (48 ≤ c) × (c ≤ 122)

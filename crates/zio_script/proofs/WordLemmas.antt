@@ -1,18 +1,21 @@
 -- The first line of a text, the parts of a line, and the numbers that digits spell.
-use Rattle.std.proofs.Common.{◌≡◌, ◌≢◌, ◌<◌, ◌≤◌, ◌+◌, ◌-◌, ◌*◌, ◌%◌, ◌==◌, ◌∷◌, [], ℕ, List, Bool, true, false, length, get_or, take, drop, refl, sym, ap, ◌∙◌, arith, None, Result, Ok, Err, inl, inr, ltb-true}
+use Rattle.std.proofs.Common.{◌≡◌, ◌≢◌, ◌<◌, ◌≤◌, ◌+◌, ◌-◌, ◌*◌, ◌^◌, ◌%◌, ◌==◌, ◌∷◌, [], ℕ, List, Bool, true, false, length, get_or, take, drop, refl, sym, ap, ◌∙◌, arith, None, Result, Ok, Err, inl, inr, ltb-true}
 use Rattle.std.specs.Prelude.{option_and_then}
-use Rattle.std.specs.Char.{digit_value, is_digit}
+use Rattle.std.specs.Char.{digit_value, is_ascii_digit, is_digit}
 use Rattle.std.specs.List.{list_all, slice_split, position_or_len, before_first, after_first}
 use Rattle.std.specs.Result.{result_ok}
-use Rattle.std.specs.Str.Parse.{digits_value}
-use Rattle.std.proofs.lemmas.Bool.{cases_eq, eq-eqb, ne_eqb}
+use Rattle.std.specs.Str.Parse.{AllDigits, digits_value}
+use Rattle.std.proofs.lemmas.Bool.{and_parts, cases_eq, eq-eqb, ne_eqb}
+use Rattle.std.proofs.lemmas.Bool.Decides.{nat_tests}
+use Rattle.std.proofs.lemmas.List.{length-take-le}
+use Rattle.std.proofs.lemmas.List.Folds.{list_all_more}
 use Rattle.std.proofs.lemmas.List.Splits.{slice_split_none, slice_split_first, length-slice_split}
 use Rattle.std.proofs.lemmas.List.Sums.{position_or_len_is}
 use Rattle.std.proofs.lemmas.List.Elements.{All-from_get_or}
 use Rattle.std.proofs.lemmas.List.Sums.{AllPass-from_list_all}
 use Rattle.std.proofs.lemmas.Int.Digits.{digits_value_more}
 use Rattle.std.proofs.lemmas.Str.{digit_value_digit}
-use Rattle.std.proofs.lemmas.Str.Parse.{digit_from_value, digits_value-take-le}
+use Rattle.std.proofs.lemmas.Str.Parse.{IsNumeralModel, digit_from_value, digits_value-take-le, digits_value_short, numerals_by_value, tells_digits}
 use Rattle.hex.specs.Hex.{decode_of, decode_sized}
 use Rattle.hex.proofs.HexLemmas.{decode_of-ok, decode_sized-odd, decode_sized-other, decode_sized-twice}
 use Rattle.hex.specs.declared.error.FromHexError.{FromHexError}
@@ -65,6 +68,48 @@ digits_turn digits i value all inside is =
     let whole = digits_value-take-le 10 digits (i + 1) (omega arith) in
     let next : value * 10 + (get_or digits i 0 - 48) ≡ digits_value 10 (take (i + 1) digits) = rw is (omega arith) in
     record { is_digit = omega arith; next = next; below = omega arith }
+
+-- ---- a word whose number fits, whatever its digits are
+
+abbrev pub is_decimal : ℕ → Bool
+is_decimal c = is_digit c 10
+
+all_digits : (word : Word) → list_all is_decimal word ≡ true → AllDigits 10 word
+all_digits [] all = tt
+all_digits (c ∷ cs) all = (ltb-true _ _ (and_parts _ _ all).0, all_digits cs (and_parts _ _ all).1)
+
+decimals : IsNumeralModel (AllDigits 10) (digits_value 10)
+decimals = numerals_by_value (AllDigits 10) tells_digits
+
+pub short_value : (k : ℕ) (word : Word) → list_all is_decimal word ≡ true → length word ≤ k → digits_value 10 word < 10 ^ k
+short_value k word all short = digits_value_short decimals word k (all_digits word all) short
+
+-- one digit more: the value before it leaves room for it
+pub record IsShortTurn (word : Word) (i value : ℕ) : Type 0 where
+  pub room : value < 1000000000000000000
+  pub digit : get_or word i 0 < 58
+  pub all : list_all is_decimal (take (i + 1) word) ≡ true
+  pub next : value * 10 + (get_or word i 0 - 48) ≡ digits_value 10 (take (i + 1) word)
+
+decimal_of : (c : ℕ) → is_ascii_digit c ≡ true → (is_decimal c ≡ true) × (digit_value c ≡ c - 48) × (c < 58)
+decimal_of c is =
+    let low : 48 ≤ c = grind (arith, nat_tests) in
+    let high : c ≤ 57 = grind (arith, nat_tests) in
+    (grind (arith, nat_tests), grind (arith, nat_tests), omega arith)
+
+pub short_turn : (word : Word) (i value : ℕ) → list_all is_decimal (take i word) ≡ true → value ≡ digits_value 10 (take i word) → i < length word → length word ≤ 19
+    → is_ascii_digit (get_or word i 0) ≡ true → IsShortTurn word i value
+short_turn word i value all is inside short digit =
+    let parts = decimal_of (get_or word i 0) digit in
+    let same : digit_value (get_or word i 0) ≡ get_or word i 0 - 48 = parts.1 in
+    let len : length (take i word) ≡ i = length-take-le i word (omega arith) in
+    let below = short_value 18 (take i word) all (omega arith) in
+    record {
+      room = omega arith;
+      digit = parts.2;
+      all = list_all_more is_decimal word i 0 inside ∙ (rw (all, parts.0) refl);
+      next = rw (digits_value_more 10 word i inside) (omega arith);
+    }
 
 -- ---- hexadecimal digits
 

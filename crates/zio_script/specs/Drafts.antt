@@ -1,9 +1,7 @@
 -- What the reader keeps of the lines so far, and how it stands to their script: the reader's own words, and nothing that
 -- has to be believed.
 use Rattle.std.specs.Prelude.{◌≡◌, ℕ, ◌+◌, ◌≤◌, ◌∷◌, List, [], length, fold, Bool, true, false, nat_le, Some, None, Ok, Err}
-use Rattle.std.specs.BTreeSet.{contains_by}
 use Rattle.std.specs.List.{AllByRecursion}
-use Rattle.std.specs.Ordering.{nat_cmp}
 use Rattle.zio_script.specs.declared.draft.Draft.{Draft}
 use Rattle.zio_script.specs.declared.draft.Refusal.{Refusal}
 use Rattle.zio_script.specs.declared.draft.Refusal.TheVariants.{Why, Memory}
@@ -22,7 +20,7 @@ use Rattle.zio_script.specs.declared.script.ScriptError.{ScriptError}
 use Rattle.zio_script.specs.declared.script.ScriptError.TheVariants.{Fault, Memory as NoMemory}
 use Rattle.zio_script.specs.Built.{is_built}
 use Rattle.zio_script.specs.Grammar.{after_words, ended, read_lines, script_with}
-use Rattle.zio_script.specs.Keys.{name_key}
+use Rattle.zio_script.specs.Keys.{IsBegun, has_key, name_key}
 use Rattle.zio_script.specs.Lines.{Line as LineWords}
 use Rattle.zio_script.specs.PlainForm.{IsNextItem, last_after}
 use Rattle.zio_script.specs.Reading.{asked_alone, work_on}
@@ -51,7 +49,7 @@ batch_of draft = fold batch_after [] draft.items
 
 -- a name that the open batch has
 abbrev pub has_name : Draft → List ℕ → Bool
-has_name draft name = contains_by (nat_cmp (name_key name)) draft.names
+has_name draft name = has_key draft.names (name_key name)
 
 -- ---- what a draft keeps
 
@@ -71,6 +69,7 @@ ArePlainFront last batch (item ∷ items) =
 pub record IsKept (draft : Draft) : Type 0 where
   pub len : length (batch_of draft) ≡ draft.batch_len
   pub most : draft.batch_len ≤ 1024
+  pub begun : IsBegun draft.names
   pub names : (name : List ℕ) → is_name name ≡ true → has_name draft name ≡ is_taken (batch_of draft) (Some name)
   pub last : (n : ℕ) → 1 ≤ n → falls_back (script_so_far draft) n ≡ nat_le n draft.last
   pub last_is : fold last_after 0 draft.items ≡ draft.last

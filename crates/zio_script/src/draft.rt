@@ -9,10 +9,10 @@ ghost use Rattle.zio_script.specs.Whys.{body_len, breaks_limit, fits_work, is_nu
 ghost use Rattle.zio_script.specs.Words.{is_skipped};
 
 use crate::line::{Asked, Deed, Line, LineFault, line_in};
+use crate::names::BatchNames;
 use crate::word::is_comment;
 use crate::{Body, Failmode, Item, Name, Request, Script, ScriptError, ScriptFault, Work};
 use std::alloc::{AllocFailed, Global};
-use std::collections::BTreeSet;
 use zio_types::{List, NoMemory};
 
 /// The highest number of a request.
@@ -59,8 +59,8 @@ pub(crate) struct Draft {
     last: u32,
     /// How many requests stand behind the last `go`.
     batch_len: u32,
-    /// The keys of their names, which compare in one step.
-    names: BTreeSet<u128>,
+    /// Their names.
+    names: BatchNames,
 }
 
 impl Draft {
@@ -75,7 +75,7 @@ impl Draft {
             items: List::new(alloc),
             last: 0,
             batch_len: 0,
-            names: BTreeSet::new(alloc),
+            names: BatchNames::new(alloc),
         }
     }
 

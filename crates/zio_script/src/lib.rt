@@ -12,6 +12,7 @@ mod draft;
 mod fixed;
 mod line;
 mod name;
+mod names;
 mod read;
 mod script;
 mod shape;

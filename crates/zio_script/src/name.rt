@@ -1,4 +1,4 @@
-ghost use Rattle.std.specs.Prelude.{◌≡◌, ◌<◌, ◌≤◌, ◌^◌, MatchOption, length, true, false};
+ghost use Rattle.std.specs.Prelude.{◌≡◌, MatchOption, true, false};
 ghost use Rattle.std.specs.List.{list_all};
 ghost use Rattle.zio_script.specs.Keys.{name_key};
 ghost use Rattle.zio_script.specs.Words.{is_name, is_name_char};
@@ -37,7 +37,7 @@ impl Name {
     pub(crate) fn key(&self) -> u128
         ensures { result ≡ name_key self.now }
     {
-        key_of(&self.bytes[..self.len as usize])
+        u128::from_le_bytes(self.bytes)
     }
 
     /// The name that the word is.
@@ -53,18 +53,6 @@ impl Name {
             len: word.len() as u32,
             bytes,
         })
-    }
-}
-
-// The bytes as digits to the base 256, the lowest first.
-fn key_of(bytes: &[u8]) -> u128
-    requires { length bytes.now ≤ 16 }
-    ensures key { result ≡ name_key bytes.now }
-    ensures small { result < 256 ^ length bytes.now }
-{
-    match bytes {
-        [] => 0,
-        [first, rest @ ..] => key_of(rest) * 256 + u128::from(*first),
     }
 }
 

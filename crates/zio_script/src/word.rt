@@ -1,6 +1,7 @@
 //! The lines of a text, the words of a line, and what words spell.
 ghost use Rattle.std.specs.Prelude.{◌≡◌, ◌∷◌, ◌<◌, ◌≤◌, ◌^◌, ◌&&◌, true, [], IfOk, IfSome, MatchOption, OnOk, length, map, nat_lt};
 ghost use Rattle.std.specs.List.{list_all};
+ghost use Rattle.std.specs.Bool.{then_some};
 ghost use Rattle.std.specs.Char.{is_digit};
 ghost use Rattle.std.specs.Str.Parse.{digits_value};
 ghost use Rattle.zio_script.specs.Words.{byte_of, bytes_of, has_leading_zero, is_blank, is_comment, is_numeral, lines_of, number, words_of};
@@ -8,6 +9,9 @@ ghost use Rattle.zio_script.specs.Words.{byte_of, bytes_of, has_leading_zero, is
 use hex::FromHexError;
 use std::alloc::Global;
 use zio_types::{Bytes, List, NoMemory};
+
+/// The most digits whose number fits its type, whatever they are.
+const FITTING_LEN_MAX: usize = 19;
 
 /// The first line of the text without its newline, and what follows it; none where the text is empty.
 pub(crate) fn next_line(text: &[u8]) -> Option<(&[u8], &[u8])>
@@ -53,11 +57,39 @@ pub(crate) fn is_comment(word: &[u8]) -> bool
 pub(crate) fn number(word: &[u8]) -> Option<u64>
     ensures { result ≡ number word.now }
 {
+    if word.len() > FITTING_LEN_MAX {
+        return long_number(word);
+    }
+    if word.is_empty() || has_leading_zero(word) {
+        return None;
+    }
+    short_digits_value(word)
+}
+
+// The same for a word whose number may be too large for its type.
+fn long_number(word: &[u8]) -> Option<u64>
+    ensures { result ≡ number word.now }
+{
     if is_numeral(word) {
         digits_value(word)
     } else {
         None
     }
+}
+
+// The number that so few digits spell, read in one pass.
+fn short_digits_value(word: &[u8]) -> Option<u64>
+    requires { length word.now ≤ FITTING_LEN_MAX }
+    ensures { result ≡ then_some (list_all (λ c. is_digit c 10) word.now) (digits_value 10 word.now) }
+{
+    let mut value = 0u64;
+    for c in word {
+        if !c.is_ascii_digit() {
+            return None;
+        }
+        value = value * 10 + u64::from(*c - b'0');
+    }
+    Some(value)
 }
 
 /// The word is a numeral, and the number that it spells is above `most`.

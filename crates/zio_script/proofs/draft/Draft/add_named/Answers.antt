@@ -22,7 +22,7 @@ returns-clause-kept c =
     let is_new : c.in_ok-insert.field-0 ≡ true = search rules in
     let free : is_taken (batch_of c.args.self.now) (Some c.args.asked.name.now) ≡ false
     = not-true _ (sym (new_is c.args.self.now c.args.asked c.key.result c.in_ok-insert.field-0 c.requires.kept c.requires.named key c.in_ok-insert.ensures.added) ∙ is_new) in
-    kept_request c.args.self.now c.args.asked c.push.new.self c.insert.new.self c.key.result c.requires.kept c.requires.short c.requires.named free key c.in_ok-insert.ensures.keys
+    kept_request c.args.self.now c.args.asked c.push.new.self c.insert.new.self c.key.result c.requires.kept c.requires.short c.requires.named free key c.in_ok-insert.ensures.begun c.in_ok-insert.ensures.keys
     (c.in_ok-push.ensures.ok ∙ ap (λ (r : Request). c.args.self.now.items ++ RequestItem r ∷ []) c.request_of.ensures)
 
 pub returns-clause-added : goal.returns-clause-added

@@ -1,7 +1,8 @@
 //! The top calls: from the words of a command to its code.
 //!
 //! They stand on all crates below. Read `zio_serial_main` first: each of its codes has its cause and its text in a
-//! clause of its own, and code 0 the meaning of the script, which `specs/Headline` says.
+//! clause of its own, and the codes 0 and 9 the meaning of the script, which `specs/Headline` says. `specs/Commands` has
+//! the words of a command.
 #![tactic(auto)]
 
 mod command;

@@ -1,10 +1,10 @@
 -- Bytes that are written over others: how many there are after, and which stay.
-use Rattle.std.proofs.Common.{◌≡◌, ◌≢◌, ℕ, zero, suc, ◌+◌, ◌-◌, ◌<◌, ◌≤◌, List, [], ◌∷◌, ◌++◌, length, set, take, drop, map, slice_get, ◌⊎◌, inl, inr, ⊎_elim, refl, ap, ◌∙◌, arith, length-append, length-take, length-drop, get_or-set_other, get_or-set_same}
+use Rattle.std.proofs.Common.{◌≡◌, ◌≢◌, ℕ, zero, suc, ◌+◌, ◌-◌, ◌<◌, ◌≤◌, List, [], ◌∷◌, ◌++◌, length, set, take, drop, map, replicate, slice_get, ◌⊎◌, inl, inr, ⊎_elim, refl, ap, ◌∙◌, arith, length-append, length-take, length-drop, get_or-set_other, get_or-set_same}
 use Rattle.std.proofs.lemmas.Bool.{cases_lt}
-use Rattle.std.proofs.lemmas.List.{length-map, set_past}
+use Rattle.std.proofs.lemmas.List.{length-map, length-replicate, set_past}
 use Rattle.zio_faults.specs.declared.table.Hit.{Hit}
 use Rattle.zio_faults.specs.Hits.{flipped, inverted}
-use Rattle.zio_cksum.specs.Images.{Images, overwritten, image_of}
+use Rattle.zio_cksum.specs.Images.{Images, overwritten, image_of, padded_to}
 
 -- ---- an item by its place
 
@@ -61,6 +61,14 @@ pub overwritten_outside : (image : List ℕ) (at : ℕ) (bytes : List ℕ) (i : 
 overwritten_outside image at bytes i h out =
     ⊎_elim (λ l. overwritten_before image at bytes i h l)
     (λ l. overwritten_behind image at bytes i h l) (outside_cases at (at + length bytes) i out)
+
+-- ---- bytes with zeros behind them
+
+-- they fill the place
+pub length-padded_to : (span : ℕ) (bytes : List ℕ) → length (padded_to span bytes) ≡ span
+length-padded_to span bytes =
+    let zeros : List ℕ = replicate (span - length bytes) 0 in
+    omega (arith, length-take span (bytes ++ zeros), length-append bytes zeros, length-replicate {A = ℕ} (span - length bytes) 0)
 
 -- ---- bytes with some of them inverted
 

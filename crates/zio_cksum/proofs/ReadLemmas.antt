@@ -9,16 +9,16 @@ use Rattle.zio_faults.specs.declared.table.FaultKind.TheVariants.{Eio, Gone, Fli
 use Rattle.zio_cksum.specs.Headers.{offset_of}
 use Rattle.zio_cksum.specs.Images.{Images, Setting, Spot, image_of, bytes_at, met, faulty_read, read_met, read_leaf, write_leaf}
 use Rattle.zio_cksum.specs.Blocks.{Tried, Pass, spot_in, leaves_of, read_order, judged, judged_by, first_good, then_others, read_place, passed_with, read_pass, repaired, repaired_if, last_pass_with, first_pass_with, read_block, turn_size}
-use Rattle.zio_cksum.specs.Frames.{FitSpots, SameOutside, spots_of}
-use Rattle.zio_cksum.proofs.AllLemmas.{all_weaker, all_append, all_take, all_drop, all_map, all_unmap, all_contained, all_true}
+use Rattle.zio_cksum.specs.Frames.{FitSpots, HaveRoom, SameOutside, spots_of}
+use Rattle.zio_cksum.proofs.AllLemmas.{all_contains, all_weaker, all_append, all_take, all_drop, all_map, all_unmap, all_contained, all_true}
 use Rattle.zio_cksum.proofs.ByteLemmas.{length-flipped}
 use Rattle.zio_cksum.proofs.FrameLemmas.{AreAmong, places_among, same_itself, same_then, fit_same, spot_fits, write_same}
 
 -- ---- one leaf
 
 -- where they lie on the image, as many bytes are there as were asked
-length-bytes_at : (images : Images) (spot : Spot) (len : ℕ) → spot.at + len ≤ length (image_of images spot.leaf) → length (bytes_at images spot len) ≡ len
-length-bytes_at images spot len fit =
+length-bytes_at : (images : Images) (spot : Spot) (len : ℕ) → len ≤ spot.span → spot.at + spot.span ≤ length (image_of images spot.leaf) → length (bytes_at images spot len) ≡ len
+length-bytes_at images spot len room fit =
     omega (arith, length-take len (drop spot.at (image_of images spot.leaf)), length-drop spot.at (image_of images spot.leaf))
 
 -- an answer with bytes has as many as the image gave
@@ -32,14 +32,14 @@ met_has N None at bytes h = h
 met_has N (Some hit) at bytes h = faulty_has N hit.kind hit at bytes h
 
 -- whatever row it meets, what a leaf answers is as long as was asked
-leaf_length : (s : Setting) (retry : Bool) (images : Images) (len : ℕ) (spot : Spot) → spot.at + len ≤ length (image_of images spot.leaf) → IfOk (read_leaf s retry images len spot) (λ b. length b ≡ len)
-leaf_length s retry images len spot fit =
-    met_has (λ n. n ≡ len) (met s retry false spot len) spot.at (bytes_at images spot len) (length-bytes_at images spot len fit)
+leaf_length : (s : Setting) (retry : Bool) (images : Images) (len : ℕ) (spot : Spot) → len ≤ spot.span → spot.at + spot.span ≤ length (image_of images spot.leaf) → IfOk (read_leaf s retry images len spot) (λ b. length b ≡ len)
+leaf_length s retry images len spot room fit =
+    met_has (λ n. n ≡ len) (met s retry false spot) spot.at (bytes_at images spot len) (length-bytes_at images spot len room fit)
 
 -- past the image's end it is shorter
 leaf_at_most : (s : Setting) (retry : Bool) (images : Images) (len : ℕ) (spot : Spot) → IfOk (read_leaf s retry images len spot) (λ b. length b ≤ len)
 leaf_at_most s retry images len spot =
-    met_has (λ n. n ≤ len) (met s retry false spot len) spot.at (bytes_at images spot len)
+    met_has (λ n. n ≤ len) (met s retry false spot) spot.at (bytes_at images spot len)
     (omega (arith, length-take len (drop spot.at (image_of images spot.leaf))))
 
 judged_by_keeps : (Q : List ℕ → Type 0) (t : Bool) (bytes : List ℕ) → Q bytes → IfOk (judged_by t bytes) Q
@@ -92,14 +92,15 @@ leaves_among : (spots : List Spot) (s : Setting) (p : Place) → AreAmong spots 
 leaves_among spots s p h = all_unmap (Contains spots) (spot_in p) (leaves_of s p) h
 
 -- where its copies lie on their leaves, a place gives as many bytes as were asked
-place_length : (spots : List Spot) (s : Setting) (retry : Bool) (good : List ℕ → Bool) (images : Images) (len : ℕ) (p : Place) → FitSpots spots len images → AreAmong spots s p → IfSome ((read_place s retry good images len p).found) (λ b. length b ≡ len)
-place_length spots s retry good images len p fit among =
+place_length : (spots : List Spot) (s : Setting) (retry : Bool) (good : List ℕ → Bool) (images : Images) (len : ℕ) (p : Place) → HaveRoom len spots → FitSpots spots images → AreAmong spots s p → IfSome ((read_place s retry good images len p).found) (λ b. length b ≡ len)
+place_length spots s retry good images len p room fit among =
     found_has (λ b. length b ≡ len) (λ leaf. judged good (read_leaf s retry images len (spot_in p leaf))) (read_order (offset_of p) (leaves_of s p))
     (order_has (λ leaf. IfOk (judged good (read_leaf s retry images len (spot_in p leaf))) (λ b. length b ≡ len)) (offset_of p) (leaves_of s p)
     (all_weaker (λ leaf. Contains spots (spot_in p leaf)) (λ leaf. IfOk (judged good (read_leaf s retry images len (spot_in p leaf))) (λ b. length b ≡ len)) (leaves_of s p)
     (λ leaf c. judged_keeps (λ b. length b ≡ len) good (read_leaf s retry images len (spot_in p leaf))
     (leaf_length s retry images len (spot_in p leaf)
-    (spot_fits spots len images (spot_in p leaf) fit c)))
+    (all_contains (λ (t : Spot). len ≤ t.span) spots (spot_in p leaf) room c)
+    (spot_fits spots images (spot_in p leaf) fit c)))
     (leaves_among spots s p among)))
 
 -- what a place gives is good
@@ -152,17 +153,17 @@ pass_repairs spots s retry good images len (p ∷ ps) h =
 -- ---- repairs
 
 -- repairs at some of the spots change nothing outside the spots
-repaired_same : (all : List Spot) (len : ℕ) (s : Setting) (retry : Bool) (bytes : List ℕ) (spots : List Spot) (images : Images) → length bytes ≡ len → AllByRecursion (Contains all) spots → FitSpots all len images → SameOutside all len images (repaired s retry bytes spots images)
-repaired_same all len s retry bytes [] images e h fit = same_itself all len images
-repaired_same all len s retry bytes (spot ∷ spots) images e h fit =
+repaired_same : (all : List Spot) (s : Setting) (retry : Bool) (bytes : List ℕ) (spots : List Spot) (images : Images) → AllByRecursion (Contains all) spots → FitSpots all images → SameOutside all images (repaired s retry bytes spots images)
+repaired_same all s retry bytes [] images h fit = same_itself all images
+repaired_same all s retry bytes (spot ∷ spots) images h fit =
     let now : Images = (write_leaf s retry bytes images spot).images in
-    let first : SameOutside all len images now = write_same all len s retry bytes images spot e fit h.0 in
-    same_then all len images now _ first
-    (repaired_same all len s retry bytes spots now e h.1 (fit_same all all len len images now first fit))
+    let first : SameOutside all images now = write_same all s retry bytes images spot fit h.0 in
+    same_then all images now _ first
+    (repaired_same all s retry bytes spots now h.1 (fit_same all all images now first fit))
 
-repaired_if_same : (repair : Bool) (all : List Spot) (len : ℕ) (s : Setting) (retry : Bool) (bytes : List ℕ) (spots : List Spot) (images : Images) → length bytes ≡ len → AllByRecursion (Contains all) spots → FitSpots all len images → SameOutside all len images (repaired_if repair s retry bytes spots images)
-repaired_if_same true all len s retry bytes spots images e h fit = repaired_same all len s retry bytes spots images e h fit
-repaired_if_same false all len s retry bytes spots images e h fit = same_itself all len images
+repaired_if_same : (repair : Bool) (all : List Spot) (s : Setting) (retry : Bool) (bytes : List ℕ) (spots : List Spot) (images : Images) → AllByRecursion (Contains all) spots → FitSpots all images → SameOutside all images (repaired_if repair s retry bytes spots images)
+repaired_if_same true all s retry bytes spots images h fit = repaired_same all s retry bytes spots images h fit
+repaired_if_same false all s retry bytes spots images h fit = same_itself all images
 
 -- ---- a read of one or two passes
 
@@ -180,14 +181,14 @@ block_found Q s repair good images len places h =
     first_found Q (read_pass s false good images len places).found s repair images (read_pass s false good images len places) (λ retry. read_pass s retry good images len places)
     (pass_found Q s false good images len places (h false)) (pass_found Q s true good images len places (h true))
 
--- a read changes nothing outside the spots, where each pass repairs these alone and finds as many bytes as fit them
-last_same : (found : Option (List ℕ)) (all : List Spot) (len : ℕ) (s : Setting) (repair : Bool) (images : Images) (pass : Pass) → IfSome found (λ b. length b ≡ len) → AllByRecursion (Contains all) pass.repairs → FitSpots all len images → SameOutside all len images ((last_pass_with found s repair images pass).images)
-last_same (Some bytes) all len s repair images pass e h fit = repaired_if_same repair all len s true bytes pass.repairs images e h fit
-last_same None all len s repair images pass e h fit = same_itself all len images
+-- a read changes nothing outside the spots, where each pass repairs these alone
+last_same : (found : Option (List ℕ)) (all : List Spot) (s : Setting) (repair : Bool) (images : Images) (pass : Pass) → AllByRecursion (Contains all) pass.repairs → FitSpots all images → SameOutside all images ((last_pass_with found s repair images pass).images)
+last_same (Some bytes) all s repair images pass h fit = repaired_if_same repair all s true bytes pass.repairs images h fit
+last_same None all s repair images pass h fit = same_itself all images
 
-first_same : (found : Option (List ℕ)) (all : List Spot) (len : ℕ) (s : Setting) (repair : Bool) (images : Images) (pass : Pass) (pass_in : Bool → Pass) → IfSome found (λ b. length b ≡ len) → AllByRecursion (Contains all) pass.repairs → IfSome (pass_in true).found (λ b. length b ≡ len) → AllByRecursion (Contains all) (pass_in true).repairs → FitSpots all len images → SameOutside all len images ((first_pass_with found s repair images pass pass_in).images)
-first_same (Some bytes) all len s repair images pass pass_in e h e2 h2 fit = repaired_if_same repair all len s false bytes pass.repairs images e h fit
-first_same None all len s repair images pass pass_in e h e2 h2 fit = last_same (pass_in true).found all len s repair images (pass_in true) e2 h2 fit
+first_same : (found : Option (List ℕ)) (all : List Spot) (s : Setting) (repair : Bool) (images : Images) (pass : Pass) (pass_in : Bool → Pass) → AllByRecursion (Contains all) pass.repairs → AllByRecursion (Contains all) (pass_in true).repairs → FitSpots all images → SameOutside all images ((first_pass_with found s repair images pass pass_in).images)
+first_same (Some bytes) all s repair images pass pass_in h h2 fit = repaired_if_same repair all s false bytes pass.repairs images h fit
+first_same None all s repair images pass pass_in h h2 fit = last_same (pass_in true).found all s repair images (pass_in true) h2 fit
 
 -- without repair a read changes nothing
 last_without : (found : Option (List ℕ)) (s : Setting) (images : Images) (pass : Pass) → (last_pass_with found s false images pass).images ≡ images
@@ -200,31 +201,28 @@ first_without None s images pass pass_in = last_without (pass_in true).found s i
 
 -- ---- the law's clauses
 
-pub repairs_law : (s : Setting) (retry : Bool) (bytes : List ℕ) (spots : List Spot) (images : Images) → FitSpots spots (length bytes) images → SameOutside spots (length bytes) images (repaired s retry bytes spots images)
-repairs_law s retry bytes spots images fit = repaired_same spots (length bytes) s retry bytes spots images refl (all_contained spots) fit
+pub repairs_law : (s : Setting) (retry : Bool) (bytes : List ℕ) (spots : List Spot) (images : Images) → FitSpots spots images → SameOutside spots images (repaired s retry bytes spots images)
+repairs_law s retry bytes spots images fit = repaired_same spots s retry bytes spots images (all_contained spots) fit
 
-places_length : (s : Setting) (good : List ℕ → Bool) (images : Images) (len : ℕ) (places : List Place) → FitSpots (spots_of s places) len images → (retry : Bool) → AllByRecursion (λ p. IfSome ((read_place s retry good images len p).found) (λ b. length b ≡ len)) places
-places_length s good images len places fit retry =
+places_length : (s : Setting) (good : List ℕ → Bool) (images : Images) (len : ℕ) (places : List Place) → HaveRoom len (spots_of s places) → FitSpots (spots_of s places) images → (retry : Bool) → AllByRecursion (λ p. IfSome ((read_place s retry good images len p).found) (λ b. length b ≡ len)) places
+places_length s good images len places room fit retry =
     all_weaker (AreAmong (spots_of s places) s) (λ p. IfSome ((read_place s retry good images len p).found) (λ b. length b ≡ len)) places
-    (λ p among. place_length (spots_of s places) s retry good images len p fit among) (places_among s places)
+    (λ p among. place_length (spots_of s places) s retry good images len p room fit among) (places_among s places)
 
-pub reads_law : (s : Setting) (repair : Bool) (good : List ℕ → Bool) (images : Images) (len : ℕ) (places : List Place) → FitSpots (spots_of s places) len images → SameOutside (spots_of s places) len images ((read_block s repair good images len places).images)
+pub reads_law : (s : Setting) (repair : Bool) (good : List ℕ → Bool) (images : Images) (len : ℕ) (places : List Place) → FitSpots (spots_of s places) images → SameOutside (spots_of s places) images ((read_block s repair good images len places).images)
 reads_law s repair good images len places fit =
     let all : List Spot = spots_of s places in
     let among : AllByRecursion (AreAmong all s) places = places_among s places in
-    first_same (read_pass s false good images len places).found all len s repair images (read_pass s false good images len places) (λ retry. read_pass s retry good images len places)
-    (pass_found (λ b. length b ≡ len) s false good images len places (places_length s good images len places fit false))
-    (pass_repairs all s false good images len places among)
-    (pass_found (λ b. length b ≡ len) s true good images len places (places_length s good images len places fit true))
-    (pass_repairs all s true good images len places among) fit
+    first_same (read_pass s false good images len places).found all s repair images (read_pass s false good images len places) (λ retry. read_pass s retry good images len places)
+    (pass_repairs all s false good images len places among) (pass_repairs all s true good images len places among) fit
 
 pub without_law : (s : Setting) (good : List ℕ → Bool) (images : Images) (len : ℕ) (places : List Place) → (read_block s false good images len places).images ≡ images
 without_law s good images len places =
     first_without (read_pass s false good images len places).found s images (read_pass s false good images len places) (λ retry. read_pass s retry good images len places)
 
-pub size_law : (s : Setting) (repair : Bool) (good : List ℕ → Bool) (images : Images) (len : ℕ) (places : List Place) → FitSpots (spots_of s places) len images → IfOk ((read_block s repair good images len places).found) (λ bytes. length bytes ≡ len)
-size_law s repair good images len places fit =
-    block_found (λ b. length b ≡ len) s repair good images len places (places_length s good images len places fit)
+pub size_law : (s : Setting) (repair : Bool) (good : List ℕ → Bool) (images : Images) (len : ℕ) (places : List Place) → HaveRoom len (spots_of s places) → FitSpots (spots_of s places) images → IfOk ((read_block s repair good images len places).found) (λ bytes. length bytes ≡ len)
+size_law s repair good images len places room fit =
+    block_found (λ b. length b ≡ len) s repair good images len places (places_length s good images len places room fit)
 
 pub at_most_law : (s : Setting) (repair : Bool) (good : List ℕ → Bool) (images : Images) (len : ℕ) (places : List Place) → IfOk ((read_block s repair good images len places).found) (λ bytes. length bytes ≤ len)
 at_most_law s repair good images len places =

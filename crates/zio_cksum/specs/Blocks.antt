@@ -1,11 +1,12 @@
 -- Reads and writes of the copies of one block: which leaf's bytes are taken, which are rewritten, and which error
 -- comes where none is good.
-use Rattle.std.specs.Prelude.{ℕ, ◌/◌, ◌%◌, List, [], ◌∷◌, ◌++◌, length, map, take, drop, slice_get, Bool, true, false, Option, Some, None, Result, Ok, Err, unwrap_or, bytes_eq}
+use Rattle.std.specs.Prelude.{ℕ, ◌*◌, ◌/◌, ◌%◌, List, [], ◌∷◌, ◌++◌, length, map, take, drop, slice_get, Bool, true, false, Option, Some, None, Result, Ok, Err, unwrap_or, bytes_eq}
 use Rattle.zio_types.specs.declared.error.Errno.{Errno}
 use Rattle.zio_types.specs.declared.error.Errno.TheVariants.{Cksum, Nxio}
 use Rattle.zio_types.specs.declared.place.Place.{Place}
 use Rattle.zio_types.specs.declared.place.Top.{Top}
 use Rattle.zio_types.specs.Errors.{worst_of}
+use Rattle.zio_types.specs.Places.{sector_size}
 use Rattle.zio_blkptr.specs.declared.pointer.Bp.{Bp}
 use Rattle.zio_blkptr.specs.Pointers.{places_of}
 use Rattle.zio_cksum.specs.Headers.{offset_of, is_header}
@@ -88,8 +89,9 @@ abbrev pub judged : (List ℕ → Bool) → Result (List ℕ) Errno → Result (
 judged good (Ok bytes) = judged_by (good bytes) bytes
 judged good (Err e) = Err e
 
+-- the whole place, on one of its leaves
 abbrev pub spot_in : Place → ℕ → Spot
-spot_in p leaf = record { leaf = leaf; at = offset_of p }
+spot_in p leaf = record { leaf = leaf; at = offset_of p; span = p.sectors * sector_size }
 
 -- the place's leaves are tried in the order of reads
 abbrev pub read_place : Setting → Bool → (List ℕ → Bool) → Images → ℕ → Place → Tried ℕ

@@ -4,6 +4,7 @@ pub use Rattle.zio_types.specs.Bytes.{overwritten}
 use Rattle.zio_types.specs.declared.error.Errno.{Errno}
 use Rattle.zio_types.specs.declared.error.Errno.TheVariants.{Io, Nxio}
 use Rattle.zio_types.specs.declared.place.Top.{Top}
+use Rattle.zio_types.specs.Filled.{filled_to}
 use Rattle.zio_faults.specs.declared.table.Row.{Row}
 use Rattle.zio_faults.specs.declared.table.Hit.{Hit}
 use Rattle.zio_faults.specs.declared.table.FaultKind.{FaultKind}
@@ -20,15 +21,16 @@ pub record Setting : Type 0 where
   pub rows : List Row
   pub point : ℕ
 
--- where an operation goes: a leaf and a byte of it
+-- where an operation goes: a leaf, a byte of it, and how many bytes its place has from there on
 pub record Spot : Type 0 where
   pub leaf : ℕ
   pub at : ℕ
+  pub span : ℕ
 
 abbrev pub image_of : Images → ℕ → List ℕ
 image_of images leaf = slice_index_or images leaf []
 
--- the bytes there
+-- so many bytes there
 abbrev pub bytes_at : Images → Spot → ℕ → List ℕ
 bytes_at images spot len = take len (drop spot.at (image_of images spot.leaf))
 
@@ -37,13 +39,13 @@ abbrev pub with_bytes : Images → Spot → List ℕ → Images
 with_bytes images spot bytes =
     slice_set images spot.leaf (overwritten (image_of images spot.leaf) spot.at bytes)
 
--- the row that an operation meets
-abbrev pub met : Setting → Bool → Bool → Spot → ℕ → Option Hit
-met s retry write spot len = first_hit s.rows (record {
+-- the row that an operation meets, which covers its whole place
+abbrev pub met : Setting → Bool → Bool → Spot → Option Hit
+met s retry write spot = first_hit s.rows (record {
   leaf = spot.leaf;
   write = write;
   at = spot.at;
-  len = len;
+  len = spot.span;
   point = s.point;
   retry = retry;
 })
@@ -59,9 +61,9 @@ abbrev pub read_met : Option Hit → ℕ → List ℕ → Result (List ℕ) Errn
 read_met None at bytes = Ok bytes
 read_met (Some hit) at bytes = faulty_read hit.kind hit at bytes
 
--- the answer of a leaf: the image's bytes, or as the row that it meets says
+-- the answer of a leaf: the first bytes of the place, or as the row that it meets says
 abbrev pub read_leaf : Setting → Bool → Images → ℕ → Spot → Result (List ℕ) Errno
-read_leaf s retry images len spot = read_met (met s retry false spot len) spot.at (bytes_at images spot len)
+read_leaf s retry images len spot = read_met (met s retry false spot) spot.at (bytes_at images spot len)
 
 -- ---- a write
 
@@ -85,6 +87,10 @@ abbrev pub write_met : Option Hit → Images → Spot → List ℕ → Written
 write_met None images spot bytes = stored images spot bytes
 write_met (Some hit) images spot bytes = faulty_write hit.kind hit images spot bytes
 
--- a leaf stores the bytes, or does as the row that it meets says
+-- the bytes, and zeros behind them to the end of a place of so many bytes
+abbrev pub padded_to : ℕ → List ℕ → List ℕ
+padded_to span bytes = take span (filled_to 0 span bytes)
+
+-- a leaf stores the bytes and zeros to the place's end, or does as the row that it meets says
 abbrev pub write_leaf : Setting → Bool → List ℕ → Images → Spot → Written
-write_leaf s retry bytes images spot = write_met (met s retry true spot (length bytes)) images spot bytes
+write_leaf s retry bytes images spot = write_met (met s retry true spot) images spot (padded_to spot.span bytes)

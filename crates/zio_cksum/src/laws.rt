@@ -2,7 +2,7 @@ ghost use Rattle.std.specs.Prelude.{◌≡◌, ℕ, ◌%◌, ◌<◌, ◌≤◌,
 ghost use Rattle.std.specs.List.{AllByRecursion};
 ghost use Rattle.zio_types.specs.declared.place.Place.{Place};
 ghost use Rattle.zio_cksum.specs.Blocks.{read_block, repaired, write_piece};
-ghost use Rattle.zio_cksum.specs.Frames.{FitSpots, SameOutside, spots_of};
+ghost use Rattle.zio_cksum.specs.Frames.{FitSpots, HaveRoom, SameOutside, spots_of};
 ghost use Rattle.zio_cksum.specs.Headers.{split_sizes};
 ghost use Rattle.zio_cksum.specs.Images.{Images, Setting, Spot};
 
@@ -21,17 +21,17 @@ pub fn members_add_up()
 /// where each copy lies on its leaf.
 pub fn reads_keep_the_rest()
     ensures repairs { (s : Setting) (retry : Bool) (bytes : List ℕ) (spots : List Spot) (images : Images) →
-        FitSpots spots (length bytes) images →
-        SameOutside spots (length bytes) images (repaired s retry bytes spots images) }
+        FitSpots spots images →
+        SameOutside spots images (repaired s retry bytes spots images) }
     ensures reads { (s : Setting) (repair : Bool) (good : List ℕ → Bool) (images : Images) (len : ℕ) (places : List Place) →
-        FitSpots (spots_of s places) len images →
-        SameOutside (spots_of s places) len images ((read_block s repair good images len places).images) }
+        FitSpots (spots_of s places) images →
+        SameOutside (spots_of s places) images ((read_block s repair good images len places).images) }
     ensures without_repair { (s : Setting) (good : List ℕ → Bool) (images : Images) (len : ℕ) (places : List Place) →
         (read_block s false good images len places).images ≡ images }
     ensures at_most { (s : Setting) (repair : Bool) (good : List ℕ → Bool) (images : Images) (len : ℕ) (places : List Place) →
         IfOk ((read_block s repair good images len places).found) (λ bytes. length bytes ≤ len) }
     ensures size { (s : Setting) (repair : Bool) (good : List ℕ → Bool) (images : Images) (len : ℕ) (places : List Place) →
-        FitSpots (spots_of s places) len images →
+        HaveRoom len (spots_of s places) → FitSpots (spots_of s places) images →
         IfOk ((read_block s repair good images len places).found) (λ bytes. length bytes ≡ len) }
     ensures good { (s : Setting) (repair : Bool) (good : List ℕ → Bool) (images : Images) (len : ℕ) (places : List Place) →
         IfOk ((read_block s repair good images len places).found) (λ bytes. IsTrue (good bytes)) }
@@ -40,6 +40,6 @@ pub fn reads_keep_the_rest()
 /// A write leaves the images as they were outside its places.
 pub fn writes_keep_the_rest()
     ensures { (s : Setting) (bytes : List ℕ) (places : List Place) (images : Images) →
-        FitSpots (spots_of s places) (length bytes) images →
-        SameOutside (spots_of s places) (length bytes) images ((write_piece s bytes places images).images) }
+        FitSpots (spots_of s places) images →
+        SameOutside (spots_of s places) images ((write_piece s bytes places images).images) }
 {}

@@ -1,5 +1,6 @@
 -- Trees are attempted one after another.
 use Rattle.std.proofs.Common.{◌≡◌, ℕ, List, [], ◌∷◌, ◌++◌, refl, sym, ap, ◌∙◌, append_assoc}
+use Rattle.zio_types.specs.Choices.{Choice}
 use Rattle.zio_cksum.specs.Images.{Images}
 use Rattle.zio_gang.specs.Attempts.{Attempt, Attempted, Pending, Return, Terms, add_attempted, added_attempt, attempt_each, attempt_one, joined_attempt}
 
@@ -12,11 +13,11 @@ add_attempted-added one front rest i = record {
   images = rest.images;
 }
 
-pub attempt_each-append : (t : Terms) (attempt : ℕ) (front rest : List Pending) (returns : List Return) (images : Images) →
-    attempt_each t attempt (front ++ rest) returns images ≡ joined_attempt (attempt_each t attempt front returns images) (attempt_each t attempt rest)
+pub attempt_each-append : (journal : List Choice) (t : Terms) (attempt : ℕ) (front rest : List Pending) (returns : List Return) (images : Images) →
+    attempt_each journal t attempt (front ++ rest) returns images ≡ joined_attempt (attempt_each journal t attempt front returns images) (attempt_each journal t attempt rest)
 unfolding attempt_each
-attempt_each-append t attempt [] rest returns images = refl
-attempt_each-append t attempt (p ∷ ps) rest returns images =
-    let one : Attempted = attempt_one t attempt p returns images in
-    ap (add_attempted one) (attempt_each-append t attempt ps rest (one.return ∷ returns) one.images)
-    ∙ add_attempted-added one (attempt_each t attempt ps (one.return ∷ returns) one.images) _
+attempt_each-append journal t attempt [] rest returns images = refl
+attempt_each-append journal t attempt (p ∷ ps) rest returns images =
+    let one : Attempted = attempt_one journal t attempt p returns images in
+    ap (add_attempted one) (attempt_each-append journal t attempt ps rest (one.return ∷ returns) one.images)
+    ∙ add_attempted-added one (attempt_each journal t attempt ps (one.return ∷ returns) one.images) _

@@ -3,3 +3,7 @@ pub mod BoundLemmas
 pub mod HeaderLemmas
 pub mod PlaceLemmas
 pub mod WriteLemmas
+pub mod DependenceLemmas
+pub mod PieceLemmas
+pub mod FateLemmas
+pub mod FateRuns

@@ -2,23 +2,21 @@
 --
 -- A tree is the list of its requests in the order of their attempts: each child's tree by rising number, then the
 -- request itself. So the root is last, and what is attempted again is a part of the list in the same order.
-use Rattle.std.specs.Prelude.{ℕ, zero, suc, ◌+◌, List, [], ◌∷◌, ◌++◌, map, filter, Bool, true, false, ◌&&◌, ◌||◌, not, Option, Some, None, Result, Ok, Err}
+use Rattle.std.specs.Prelude.{ℕ, zero, suc, ◌+◌, List, [], ◌∷◌, ◌++◌, map, filter, Bool, true, false, ◌&&◌, not, Option, Some, None, Result, Ok, Err}
 use Rattle.zio_types.specs.declared.error.Errno.{Errno}
-use Rattle.zio_types.specs.declared.error.Errno.TheVariants.{Nxio, Nospc, Noent}
+use Rattle.zio_types.specs.declared.error.Errno.TheVariants.{Noent}
 use Rattle.zio_types.specs.declared.place.Place.{Place}
 use Rattle.zio_types.specs.declared.request.Bits.{Bits}
-use Rattle.zio_types.specs.declared.request.Kind.{Kind}
-use Rattle.zio_types.specs.declared.request.Kind.TheVariants.{Null as NullKind, Read as ReadKind, Write as WriteKind, Free as FreeKind, Claim as ClaimKind}
 use Rattle.zio_types.specs.Choices.{Ask, Choice}
 use Rattle.zio_types.specs.Errors.{worst_error, worst_of}
 use Rattle.zio_blkptr.specs.declared.pointer.Bp.{Bp}
 use Rattle.zio_blkptr.specs.declared.pointer.SumKind.{SumKind}
 use Rattle.zio_script.specs.declared.script.Failmode.{Failmode}
-use Rattle.zio_script.specs.declared.script.Failmode.TheVariants.{Wait, Continue, Panic}
 use Rattle.zio_script.specs.declared.script.Request.{Request}
 use Rattle.zio_script.specs.declared.script.Work.{Work}
 use Rattle.zio_script.specs.declared.script.Work.TheVariants.{Null, Read, Write, Free, Claim}
 use Rattle.zio_script.specs.Bodies.{body_of}
+pub use Rattle.zio_script.specs.Decisions.{no_bits, joined_bits, has_bits, write_bits, gone_bits, write_bits_unless, kind_bits, suspend_unless, may_fail, decided, all_bits}
 use Rattle.zio_script.specs.Requests.{kind_of, is_under_number}
 use Rattle.zio_cksum.specs.Blocks.{Read as BlockRead}
 use Rattle.zio_cksum.specs.Images.{Images, Setting, Written}
@@ -31,7 +29,6 @@ use Rattle.zio_gang.specs.Writes.{Writing, Placed, content_of, place_block}
 pub record Terms : Type 0 where
   pub setting : Setting
   pub failmode : Failmode
-  pub journal : List Choice
   pub round : ℕ
   -- the places of all blocks that were bound when the round began
   pub used : List Place
@@ -67,69 +64,12 @@ pub record Return : Type 0 where
 
 -- ---- bits
 
-abbrev pub no_bits : Bits
-no_bits = record { now = false; suspend = false }
-
-abbrev pub joined_bits : Bits → Bits → Bits
-joined_bits a b = record { now = a.now || b.now; suspend = a.suspend || b.suspend }
-
-abbrev pub has_bits : Bits → Bool
-has_bits b = b.now || b.suspend
-
 abbrev pub now_alone : Bits → Bool
 now_alone b = b.now && not b.suspend
 
 abbrev pub bits_of : List Return → Bits
 bits_of [] = no_bits
 bits_of (r ∷ rs) = joined_bits r.bits (bits_of rs)
-
--- ---- the failure decision
-
--- a write that may not fail waits where there is no space, and else is tried at once
-abbrev pub write_bits : Errno → Bits
-write_bits Nospc = record { now = false; suspend = true }
-write_bits _ = record { now = true; suspend = false }
-
--- a read or a free waits for a device that is gone, unless the run goes on without it
-abbrev pub gone_bits : Errno → Failmode → Bits
-gone_bits Nxio Wait = record { now = false; suspend = true }
-gone_bits Nxio Continue = no_bits
-gone_bits Nxio Panic = record { now = false; suspend = true }
-gone_bits _ mode = no_bits
-
-abbrev pub write_bits_unless : Bool → Errno → Bits
-write_bits_unless true e = no_bits
-write_bits_unless false e = write_bits e
-
--- the bits that the error of the own work gives by the kind of work
-abbrev pub kind_bits : Kind → Errno → Bool → Failmode → Bits
-kind_bits NullKind e canfail mode = no_bits
-kind_bits ReadKind e canfail mode = gone_bits e mode
-kind_bits WriteKind e canfail mode = write_bits_unless canfail e
-kind_bits FreeKind e canfail mode = gone_bits e mode
-kind_bits ClaimKind e canfail mode = no_bits
-
--- what may not fail and has no bit, of its own or of a child, waits
-abbrev pub suspend_unless : Bool → Bits → Bits
-suspend_unless true bits = bits
-suspend_unless false bits = record { now = bits.now; suspend = true }
-
--- a claim may always fail, any other request by its flag
-abbrev pub may_fail : Kind → Bool → Bool
-may_fail NullKind canfail = canfail
-may_fail ReadKind canfail = canfail
-may_fail WriteKind canfail = canfail
-may_fail FreeKind canfail = canfail
-may_fail ClaimKind canfail = true
-
-abbrev pub decided : Bool → Bits → Bits
-decided canfail bits = suspend_unless (canfail || has_bits bits) bits
-
--- all bits of a request: its children's, and those for the error of its own work
-abbrev pub all_bits : Kind → Option Errno → Bool → Failmode → Bits → Bits
-all_bits kind None canfail mode children = children
-all_bits kind (Some e) canfail mode children =
-    decided (may_fail kind canfail) (joined_bits (kind_bits kind e canfail mode) children)
 
 -- ---- children
 
@@ -197,7 +137,6 @@ own_claim claimed = own_claimed claimed.tree claimed.images
 abbrev pub writing_of : Terms → ℕ → Pending → SumKind → ℕ → Writing
 writing_of t attempt p sum copies = record {
   setting = t.setting;
-  journal = t.journal;
   request = p.request.number;
   round = t.round;
   attempt = attempt;
@@ -216,13 +155,13 @@ free_of t None images = only_error (Some Noent) images
 free_of t (Some tree) images = own_free (free_tree t.setting tree images)
 
 -- nothing for a null, the block's tree for a read or a free, the content for a write, the pointer for a claim
-abbrev pub own_work : Terms → ℕ → Pending → Work → List (Option Bp) → Images → Own
-own_work t attempt p Null pointers images = only_error None images
-own_work t attempt p (Read name prio) pointers images = read_of t p.block images
-own_work t attempt p (Write name sum copies prio body) pointers images =
-    own_write (place_block (writing_of t attempt p sum copies) (content_of pointers (body_of body)) images)
-own_work t attempt p (Free name) pointers images = free_of t p.block images
-own_work t attempt p (Claim name pointer) pointers images = own_claim (claim_tree t.setting t.used pointer images)
+abbrev pub own_work : List Choice → Terms → ℕ → Pending → Work → List (Option Bp) → Images → Own
+own_work journal t attempt p Null pointers images = only_error None images
+own_work journal t attempt p (Read name prio) pointers images = read_of t p.block images
+own_work journal t attempt p (Write name sum copies prio body) pointers images =
+    own_write (place_block journal (writing_of t attempt p sum copies) (content_of pointers (body_of body)) images)
+own_work journal t attempt p (Free name) pointers images = free_of t p.block images
+own_work journal t attempt p (Claim name pointer) pointers images = own_claim (claim_tree t.setting t.used pointer images)
 
 -- ---- one request in an attempt
 
@@ -278,14 +217,14 @@ judged_own t p returns own =
     (insert_children (children_of (finished_of returns)) p.kept)
 
 -- all children, those that go again too, give their pointers to the content
-abbrev pub attempt_with : Terms → ℕ → Pending → List Return → Images → Attempted
-attempt_with t attempt p returns images =
-    judged_own t p returns (own_work t attempt p p.request.work
+abbrev pub attempt_with : List Choice → Terms → ℕ → Pending → List Return → Images → Attempted
+attempt_with journal t attempt p returns images =
+    judged_own t p returns (own_work journal t attempt p p.request.work
     (map (λ (c : Child). c.pointer) (insert_children (children_of returns) p.kept)) images)
 
 -- a request whose children were attempted before it
-abbrev pub attempt_one : Terms → ℕ → Pending → List Return → Images → Attempted
-attempt_one t attempt p returns images = attempt_with t attempt p (returned_to p returns) images
+abbrev pub attempt_one : List Choice → Terms → ℕ → Pending → List Return → Images → Attempted
+attempt_one journal t attempt p returns images = attempt_with journal t attempt p (returned_to p returns) images
 
 -- ---- an attempt of a tree
 
@@ -311,10 +250,10 @@ abbrev pub then_attempt : List Return → Attempted → (List Return → Images 
 then_attempt returns one others = add_attempted one (others (one.return ∷ returns) one.images)
 
 -- each request in turn
-unfoldable pub attempt_each : Terms → ℕ → List Pending → List Return → Images → Attempt
-attempt_each t attempt [] returns images = record { returns = returns; ended = []; again = []; asks = []; images = images }
-attempt_each t attempt (p ∷ ps) returns images =
-    then_attempt returns (attempt_one t attempt p returns images) (attempt_each t attempt ps)
+unfoldable pub attempt_each : List Choice → Terms → ℕ → List Pending → List Return → Images → Attempt
+attempt_each journal t attempt [] returns images = record { returns = returns; ended = []; again = []; asks = []; images = images }
+attempt_each journal t attempt (p ∷ ps) returns images =
+    then_attempt returns (attempt_one journal t attempt p returns images) (attempt_each journal t attempt ps)
 
 abbrev pub added_attempt : Attempt → Attempt → Attempt
 added_attempt front rest = record {
@@ -329,8 +268,8 @@ added_attempt front rest = record {
 abbrev pub joined_attempt : Attempt → (List Return → Images → Attempt) → Attempt
 joined_attempt front rest = added_attempt front (rest front.returns front.images)
 
-abbrev pub attempt_tree : Terms → ℕ → List Pending → Images → Attempt
-attempt_tree t attempt tree images = attempt_each t attempt tree [] images
+abbrev pub attempt_tree : List Choice → Terms → ℕ → List Pending → Images → Attempt
+attempt_tree journal t attempt tree images = attempt_each journal t attempt tree [] images
 
 -- the root is attempted last
 abbrev pub root_bits : List Return → Bits
@@ -365,15 +304,15 @@ abbrev pub settled_by : Attempt → (List Pending → Images → Settled) → Se
 settled_by a again = settled_if (now_alone (root_bits a.returns)) a again
 
 -- the remaining tree is attempted again while its root is to go again at once, so many times at most
-unfoldable pub settle_from : ℕ → Terms → ℕ → List Pending → Images → Settled
-settle_from zero t attempt tree images = settled_as (attempt_tree t attempt tree images)
-settle_from (suc more) t attempt tree images =
-    settled_by (attempt_tree t attempt tree images) (settle_from more t (attempt + 1))
+unfoldable pub settle_from : ℕ → List Choice → Terms → ℕ → List Pending → Images → Settled
+settle_from zero journal t attempt tree images = settled_as (attempt_tree journal t attempt tree images)
+settle_from (suc more) journal t attempt tree images =
+    settled_by (attempt_tree journal t attempt tree images) (settle_from more journal t (attempt + 1))
 
 -- how often a tree goes again at once in a round
 abbrev pub reexecutions_max : ℕ
 reexecutions_max = 3
 
 -- a tree in one round: nothing is left of it where it finished, else it is suspended
-abbrev pub settle : Terms → List Pending → Images → Settled
-settle t tree images = settle_from reexecutions_max t 0 tree images
+abbrev pub settle : List Choice → Terms → List Pending → Images → Settled
+settle journal t tree images = settle_from reexecutions_max journal t 0 tree images

@@ -4,6 +4,7 @@ use Rattle.std.specs.Prelude.{◌≡◌, ℕ, List, [], ◌∷◌, ◌++◌, map
 use Rattle.std.specs.List.{AllByRecursion, list_any}
 use Rattle.zio_types.specs.declared.journal.Completion.{Completion}
 use Rattle.zio_types.specs.declared.place.Place.{Place}
+use Rattle.zio_types.specs.declared.place.TopSize.{TopSize}
 use Rattle.zio_types.specs.Choices.{Ask, Choice, same_key}
 pub use Rattle.zio_types.specs.Choices.{taken_by}
 use Rattle.zio_types.specs.Places.{IsLawfulChoice}
@@ -28,13 +29,13 @@ HaveDistinctKeys (ask ∷ asks) =
     AllByRecursion (λ (other : Ask). same_key ask.key other.key ≡ false) asks × HaveDistinctKeys asks
 
 -- each choice is lawful beside the places that are used and those that the choices before it took
-abbrev pub AreLawful : List ℕ → List Place → List Choice → Type 0
+abbrev pub AreLawful : List TopSize → List Place → List Choice → Type 0
 AreLawful sizes used [] = Unit {0}
 AreLawful sizes used (c ∷ cs) = IsLawfulChoice sizes used c × AreLawful sizes (taken_by c ++ used) cs
 
 -- The choices of one round, beside the places in use at its start: for all that it asks and for nothing else, each
--- lawful. The sizes are the sectors of each top.
-pub record AreChoicesOf (sizes : List ℕ) (used : List Place) (asks : List Ask) (choices : List Choice) : Type 0 where
+-- lawful. The sizes are the sectors and units of the tops.
+pub record AreChoicesOf (sizes : List TopSize) (used : List Place) (asks : List Ask) (choices : List Choice) : Type 0 where
   pub distinct : HaveDistinctKeys (asks_of choices)
   pub asked : AllByRecursion (λ ask. Contains asks ask) (asks_of choices)
   pub answered : AllByRecursion (λ ask. Contains (asks_of choices) ask) asks
@@ -44,7 +45,7 @@ abbrev pub is_round_of : ℕ → Round → Bool
 is_round_of number round = round.number == number
 
 -- Every choice belongs to one of the rounds, and each round has its choices.
-pub record IsLawfulJournal (sizes : List ℕ) (rounds : List Round) (journal : List Choice) : Type 0 where
+pub record IsLawfulJournal (sizes : List TopSize) (rounds : List Round) (journal : List Choice) : Type 0 where
   pub of_rounds : AllByRecursion (λ (c : Choice). IsTrue (list_any (is_round_of c.asked.key.round) rounds)) journal
   pub each : AllByRecursion (λ (round : Round). AreChoicesOf sizes round.used round.asks (choices_in round.number journal)) rounds
 

@@ -1,7 +1,9 @@
 pub mod Attempts
 pub mod ByNumber
+pub mod Fates
 pub mod HeaderFaults
 pub mod Journals
+pub mod Pieces
 pub mod Rounds
 pub mod Runs
 pub mod Trees

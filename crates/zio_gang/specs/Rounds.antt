@@ -5,7 +5,7 @@ use Rattle.std.specs.List.{AllByRecursion, flat_map, list_any}
 use Rattle.zio_types.specs.declared.error.Errno.{Errno}
 use Rattle.zio_types.specs.declared.error.Errno.TheVariants.{Io, Noent, Exist}
 use Rattle.zio_types.specs.declared.place.Place.{Place}
-use Rattle.zio_types.specs.Choices.{Ask}
+use Rattle.zio_types.specs.Choices.{Ask, Choice}
 use Rattle.zio_script.specs.declared.script.Request.{Request}
 use Rattle.zio_script.specs.declared.script.Work.{Work}
 use Rattle.zio_script.specs.declared.script.Work.TheVariants.{Null, Read, Write, Free, Claim}
@@ -82,18 +82,18 @@ abbrev pub put_before : ℕ → Request → List Request → List Request
 put_before parent r [] = []
 put_before parent r (q ∷ qs) = put_if (q.number == parent) r q qs (put_before parent r qs)
 
-abbrev pub planted : Option ℕ → Request → List (List Request) → List (List Request)
-planted None r trees = trees ++ (r ∷ []) ∷ []
-planted (Some parent) r trees = map (put_before parent r) trees
+abbrev pub with_request : Option ℕ → Request → List (List Request) → List (List Request)
+with_request None r trees = trees ++ (r ∷ []) ∷ []
+with_request (Some parent) r trees = map (put_before parent r) trees
 
 -- the trees with these requests put into them, one after another
-abbrev pub grown : List Request → List (List Request) → List (List Request)
-grown [] trees = trees
-grown (r ∷ rs) trees = grown rs (planted r.under r trees)
+abbrev pub with_requests : List Request → List (List Request) → List (List Request)
+with_requests [] trees = trees
+with_requests (r ∷ rs) trees = with_requests rs (with_request r.under r trees)
 
 -- the trees of a batch by the numbers of their roots, each in the order of attempts
 abbrev pub trees_of : List Request → List (List Request)
-trees_of batch = grown batch []
+trees_of batch = with_requests batch []
 
 -- ---- admission
 
@@ -102,12 +102,13 @@ abbrev pub is_awaited : List (List Pending) → Request → Bool
 is_awaited suspended r =
     list_any (λ tree. list_any (λ (p : Pending). names_it (name_of r.work) (name_of p.request.work)) tree) suspended
 
-abbrev pub is_named_bound : Bound → Option (List ℕ) → Bool
-is_named_bound bound None = false
-is_named_bound bound (Some name) = is_bound bound name
+-- a name is there, and passes the test
+abbrev pub passes : (List ℕ → Bool) → Option (List ℕ) → Bool
+passes test None = false
+passes test (Some name) = test name
 
-abbrev pub has_bound : Bound → Request → Bool
-has_bound bound r = is_named_bound bound (name_of r.work)
+abbrev pub has_bound : (List ℕ → Bool) → Request → Bool
+has_bound bound r = passes bound (name_of r.work)
 
 -- beside suspended trees nulls go on, and reads of other blocks
 abbrev pub is_blocked : List (List Pending) → List Request → Bool
@@ -115,11 +116,11 @@ is_blocked [] tree = false
 is_blocked (s ∷ ss) tree = list_any (λ (r : Request). changes_pool r.work || is_awaited (s ∷ ss) r) tree
 
 -- a read or a free names a block that isn't bound
-abbrev pub lacks_block : Bound → List Request → Bool
+abbrev pub lacks_block : (List ℕ → Bool) → List Request → Bool
 lacks_block bound tree = list_any (λ (r : Request). needs_block r.work && not (has_bound bound r)) tree
 
 -- a write or a claim names a block that is bound
-abbrev pub takes_bound : Bound → List Request → Bool
+abbrev pub takes_bound : (List ℕ → Bool) → List Request → Bool
 takes_bound bound tree = list_any (λ (r : Request). makes_block r.work && has_bound bound r) tree
 
 abbrev pub first_rule : Bool → Bool → Bool → Option Errno
@@ -128,8 +129,9 @@ first_rule false true takes = Some Noent
 first_rule false false true = Some Exist
 first_rule false false false = None
 
--- the error with which a whole tree is answered before it runs, by the first rule that applies, or none
-abbrev pub admission : List (List Pending) → Bound → List Request → Option Errno
+-- the error with which a whole tree is answered before it runs, by the first rule that applies, or none; the test tells
+-- which names are bound
+abbrev pub admission : List (List Pending) → (List ℕ → Bool) → List Request → Option Errno
 admission suspended bound tree = first_rule (is_blocked suspended tree) (lacks_block bound tree) (takes_bound bound tree)
 
 abbrev pub answered_with : Errno → Request → Ended
@@ -144,7 +146,7 @@ abbrev pub admit_with : Option Errno → List Request → Admitted → Admitted
 admit_with (Some e) tree others = record { answered = map (answered_with e) tree ++ others.answered; trees = others.trees }
 admit_with None tree others = record { answered = others.answered; trees = tree ∷ others.trees }
 
-abbrev pub admitted : List (List Pending) → Bound → List (List Request) → Admitted
+abbrev pub admitted : List (List Pending) → (List ℕ → Bool) → List (List Request) → Admitted
 admitted suspended bound [] = record { answered = []; trees = [] }
 admitted suspended bound (tree ∷ trees) =
     admit_with (admission suspended bound tree) tree (admitted suspended bound trees)
@@ -190,8 +192,9 @@ add_settled s others = record {
 abbrev pub then_trees : Settled → (Images → Ran) → Ran
 then_trees s others = add_settled s (others s.images)
 
--- Each tree is settled over the images that the one before it left. In a batch each block is named once and no two
--- places meet, so their order changes nothing.
-unfoldable pub settle_each : Terms → List (List Pending) → Images → Ran
-settle_each t [] images = record { left = []; ended = []; asks = []; images = images }
-settle_each t (tree ∷ trees) images = then_trees (settle t tree images) (settle_each t trees)
+-- Each tree is settled over the images that the one before it left. In a batch a block is named once, or by reads alone
+-- in a script without rows that are `first` or `flip`, and places of different blocks don't meet: so the order of the
+-- trees changes nothing.
+unfoldable pub settle_each : List Choice → Terms → List (List Pending) → Images → Ran
+settle_each journal t [] images = record { left = []; ended = []; asks = []; images = images }
+settle_each journal t (tree ∷ trees) images = then_trees (settle journal t tree images) (settle_each journal t trees)

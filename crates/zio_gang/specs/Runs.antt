@@ -1,5 +1,5 @@
 -- The run of a script: its rounds in their order, with the images and the bound names after each, and how it ends.
-use Rattle.std.specs.Prelude.{ℕ, ◌+◌, ◌/◌, min, List, [], ◌∷◌, ◌++◌, length, map, Bool, true, false, ◌&&◌, ◌||◌, not, Option, Some, None}
+use Rattle.std.specs.Prelude.{ℕ, ◌+◌, ◌*◌, ◌/◌, min, List, [], ◌∷◌, ◌++◌, length, map, Bool, true, false, ◌&&◌, ◌||◌, not, Option, Some, None}
 use Rattle.zio_types.specs.declared.place.Place.{Place}
 use Rattle.zio_types.specs.declared.place.Top.{Top}
 use Rattle.zio_types.specs.Choices.{Ask, Choice}
@@ -11,23 +11,29 @@ use Rattle.zio_script.specs.declared.script.Item.{Item}
 use Rattle.zio_script.specs.declared.script.Item.TheVariants.{Request as RequestLine, Go, Clear}
 use Rattle.zio_script.specs.declared.script.Request.{Request}
 use Rattle.zio_script.specs.declared.script.Script.{Script}
+use Rattle.zio_script.specs.declared.script.TopLine.{TopLine}
 use Rattle.zio_cksum.specs.Images.{Images, image_of}
 use Rattle.zio_gang.specs.declared.ending.Ending.{Ending}
 use Rattle.zio_gang.specs.declared.ending.Ending.TheVariants.{Complete, Panic, Left}
 use Rattle.zio_gang.specs.Attempts.{Terms, Pending, Ended}
-use Rattle.zio_gang.specs.Rounds.{Admitted, Bound, Ran, admitted, trees_of, pending_trees, settle_each, bound_after, used_places}
+use Rattle.zio_gang.specs.Rounds.{Admitted, Bound, Ran, admitted, trees_of, is_bound, pending_trees, settle_each, bound_after, used_places}
 
 -- ---- the tops
 
+-- how many whole sectors the smallest of the leaves has
 abbrev pub least_sectors : Images → List ℕ → ℕ
 least_sectors images [] = 0
 least_sectors images (leaf ∷ []) = length (image_of images leaf) / sector_size
 least_sectors images (leaf ∷ other ∷ leaves) =
     min (length (image_of images leaf) / sector_size) (least_sectors images (other ∷ leaves))
 
--- a top has as many sectors as its smallest leaf has whole ones
-abbrev pub top_of : Images → List ℕ → Top
-top_of images leaves = record { leaves = leaves; sectors = least_sectors images leaves }
+-- a top has as many sectors as its smallest leaf has whole ones, rounded down to a multiple of its unit
+abbrev pub top_of : Images → TopLine → Top
+top_of images line = record {
+  leaves = line.leaves;
+  sectors = least_sectors images line.leaves / line.unit * line.unit;
+  unit = line.unit;
+}
 
 -- ---- what a run depends on
 
@@ -127,7 +133,6 @@ abbrev pub terms_of : Plan → State → Terms
 terms_of plan st = record {
   setting = record { tops = plan.tops; rows = plan.rows; point = st.point };
   failmode = plan.failmode;
-  journal = plan.journal;
   round = st.rounds + 1;
   used = used_places st.bound;
 }
@@ -163,17 +168,17 @@ abbrev pub run_admitted : Plan → State → ℕ → Admitted → Course
 run_admitted plan st number a =
     after_round plan st st.suspended
     (round_of st (Some number) a.answered
-    (settle_each (terms_of plan st) (pending_trees st.bound number a.trees) st.images))
+    (settle_each plan.journal (terms_of plan st) (pending_trees st.bound number a.trees) st.images))
 
 -- a batch is one round, beside what is suspended
 abbrev pub run_batch : Plan → Batch → State → Course
 run_batch plan batch st =
-    run_admitted plan st batch.number (admitted st.suspended st.bound (trees_of batch.requests))
+    run_admitted plan st batch.number (admitted st.suspended (is_bound st.bound) (trees_of batch.requests))
 
 -- the suspended trees are one round
 abbrev pub run_suspended : Plan → State → Course
 run_suspended plan st =
-    after_round plan st [] (round_of st None [] (settle_each (terms_of plan st) st.suspended st.images))
+    after_round plan st [] (round_of st None [] (settle_each plan.journal (terms_of plan st) st.suspended st.images))
 
 -- ---- lines of the script
 

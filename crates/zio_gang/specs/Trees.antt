@@ -1,12 +1,13 @@
 -- A block's tree: its pointer and the gang headers under it, how it is read, and what a claim of one answers.
-use Rattle.std.specs.Prelude.{ℕ, zero, suc, ◌+◌, List, [], ◌∷◌, ◌++◌, map, find, Bool, true, false, Option, Some, None, option_map, Result, Ok, Err, bytes_eq}
+use Rattle.std.specs.Prelude.{ℕ, zero, suc, ◌+◌, List, [], ◌∷◌, ◌++◌, map, find, Bool, true, false, ◌&&◌, if◌then◌else◌, Option, Some, None, option_map, Result, Ok, Err, bytes_eq}
 use Rattle.std.specs.List.{flat_map, list_all}
 use Rattle.zio_types.specs.declared.error.Errno.{Errno}
 use Rattle.zio_types.specs.declared.error.Errno.TheVariants.{Cksum, Inval, Exist}
 use Rattle.zio_types.specs.declared.place.Place.{Place}
 use Rattle.zio_types.specs.declared.place.Top.{Top}
+use Rattle.zio_types.specs.declared.place.TopSize.{TopSize}
 use Rattle.zio_types.specs.Errors.{worst_of}
-use Rattle.zio_types.specs.Places.{sector_size, is_inside, are_open}
+use Rattle.zio_types.specs.Places.{sector_size, is_inside, fits_size, are_open}
 use Rattle.zio_blkptr.specs.declared.pointer.Bp.{Bp}
 use Rattle.zio_blkptr.specs.Pointers.{places_of, pointer_of}
 use Rattle.zio_cksum.specs.Blocks.{Read, read_block, good_body, good_kept, good_claimed, blame}
@@ -166,18 +167,30 @@ free_tree s tree images = walk_error (walk_kept s tree images)
 
 -- ---- claiming a tree
 
--- the sectors of each top
-abbrev pub sizes_of : List Top → List ℕ
-sizes_of tops = map (λ (t : Top). t.sectors) tops
+-- the sectors and the unit of a top
+abbrev pub size_of : Top → TopSize
+size_of top = record { sectors = top.sectors; unit = top.unit }
+
+abbrev pub sizes_of : List Top → List TopSize
+sizes_of tops = map size_of tops
+
+-- how many bytes each place of the pointer holds: a header, or the whole block
+abbrev pub piece_size : Bp → ℕ
+piece_size bp = if bp.gang then sector_size else bp.size
 
 abbrev pub inval_unless : Bool → Option Errno
 inval_unless true = None
 inval_unless false = Some Inval
 
--- every place has to be inside its top, and a header is good where it is the header of some members; nothing is repaired
+-- the place is inside its top and fits the size
+abbrev pub is_claimable : List TopSize → ℕ → Place → Bool
+is_claimable tops size p = is_inside tops p && fits_size tops size p
+
+-- every place has to be inside its top and to fit its piece, and a header is good where it is the header of some
+-- members; nothing is repaired
 abbrev pub claim_visit : Setting → Visit
 claim_visit s = record {
-  judge = λ bp. inval_unless (list_all (is_inside (sizes_of s.tops)) (places_of bp));
+  judge = λ bp. inval_unless (list_all (is_claimable (sizes_of s.tops) (piece_size bp)) (places_of bp));
   read_head = λ path bp images. read_block s false (good_claimed bp) images sector_size (places_of bp);
 }
 

@@ -7,7 +7,7 @@ use Rattle.zio_types.specs.declared.error.Errno.TheVariants.{Nospc}
 use Rattle.zio_types.specs.declared.journal.Role.{Role}
 use Rattle.zio_types.specs.declared.journal.Role.TheVariants.{Body, Head as HeadRole}
 use Rattle.zio_types.specs.declared.place.Place.{Place}
-use Rattle.zio_types.specs.Choices.{Ask, Choice, no_place, same_key}
+use Rattle.zio_types.specs.Choices.{Ask, Choice, no_place, same_ask}
 use Rattle.zio_types.specs.Errors.{worst_error, worst_of}
 use Rattle.zio_types.specs.Filled.{filled_to}
 use Rattle.zio_types.specs.Paths.{path_steps_max}
@@ -42,14 +42,13 @@ places_chosen copies (Some choice) = places_unless (nat_lt (length choice.places
 
 -- the places that the journal has for an ask, none where it found fewer than the copies or doesn't stand there
 abbrev pub chosen : List Choice → Ask → Option (List Place)
-chosen journal ask = places_chosen ask.copies (find (λ (c : Choice). same_key c.asked.key ask.key) journal)
+chosen journal ask = places_chosen ask.copies (find (λ (c : Choice). same_ask c.asked ask) journal)
 
 -- ---- placed writes
 
 -- what all parts of one block's write share
 pub record Writing : Type 0 where
   pub setting : Setting
-  pub journal : List Choice
   pub request : ℕ
   pub round : ℕ
   pub attempt : ℕ
@@ -168,24 +167,24 @@ gang_with (Some places) w place path bytes images =
     with_members w path bytes places (place_members place path 0 (cut (split_sizes (length bytes)) bytes) images)
 
 -- a part that is refused: one sector has no place, a larger part becomes a gang
-abbrev pub gang_unless : Bool → Writing → (List ℕ → List ℕ → Images → Placed) → List ℕ → List ℕ → Images → Placed
-gang_unless true w place path bytes images = without_place (body_ask w path bytes ∷ []) images
-gang_unless false w place path bytes images = gang_with (chosen w.journal (head_ask w path)) w place path bytes images
+abbrev pub gang_unless : Bool → List Choice → Writing → (List ℕ → List ℕ → Images → Placed) → List ℕ → List ℕ → Images → Placed
+gang_unless true journal w place path bytes images = without_place (body_ask w path bytes ∷ []) images
+gang_unless false journal w place path bytes images = gang_with (chosen journal (head_ask w path)) w place path bytes images
 
-abbrev pub body_with : Option (List Place) → Writing → (List ℕ → List ℕ → Images → Placed) → List ℕ → List ℕ → Images → Placed
-body_with (Some places) w place path bytes images =
+abbrev pub body_with : Option (List Place) → List Choice → Writing → (List ℕ → List ℕ → Images → Placed) → List ℕ → List ℕ → Images → Placed
+body_with (Some places) journal w place path bytes images =
     body_placed w path bytes places (write_piece w.setting bytes places images)
-body_with None w place path bytes images =
-    gang_unless (nat_le (length bytes) sector_size) w place path bytes images
+body_with None journal w place path bytes images =
+    gang_unless (nat_le (length bytes) sector_size) journal w place path bytes images
 
 -- The copies of the part are asked for. Where they are refused it becomes a gang of smaller parts, each placed in the
 -- same way at its own path; as many levels may follow as the first argument says, which is more than any block needs.
-unfoldable pub place_part : ℕ → Writing → List ℕ → List ℕ → Images → Placed
-place_part zero w path bytes images =
-    body_with (chosen w.journal (body_ask w path bytes)) w (λ below part now. without_place [] now) path bytes images
-place_part (suc levels) w path bytes images =
-    body_with (chosen w.journal (body_ask w path bytes)) w (place_part levels w) path bytes images
+unfoldable pub place_part : ℕ → List Choice → Writing → List ℕ → List ℕ → Images → Placed
+place_part zero journal w path bytes images =
+    body_with (chosen journal (body_ask w path bytes)) journal w (λ below part now. without_place [] now) path bytes images
+place_part (suc levels) journal w path bytes images =
+    body_with (chosen journal (body_ask w path bytes)) journal w (place_part levels journal w) path bytes images
 
 -- the write of a whole block
-abbrev pub place_block : Writing → List ℕ → Images → Placed
-place_block w bytes images = place_part path_steps_max w [] bytes images
+abbrev pub place_block : List Choice → Writing → List ℕ → Images → Placed
+place_block journal w bytes images = place_part path_steps_max journal w [] bytes images

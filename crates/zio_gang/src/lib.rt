@@ -17,6 +17,9 @@ mod tree;
 pub use ending::Ending;
 pub use faults::header_decode;
 pub use header::{Header, HeaderFault, Split, header_encode};
-pub use laws::{bound_names_are_a_map, headers_have_no_fault, trees_are_attempted_in_turn};
+pub use laws::{
+    a_round_depends_on_its_own_choices, a_tree_is_read_by_its_pieces, bound_names_are_a_map,
+    each_request_has_one_fate, headers_have_no_fault, trees_are_attempted_in_turn,
+};
 pub use sizes::{SPLIT_SIZE_MAX, split};
 pub use tree::{Head, Tree};

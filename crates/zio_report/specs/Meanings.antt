@@ -6,6 +6,7 @@ use Rattle.zio_script.specs.declared.script.Script.{Script}
 use Rattle.zio_script.specs.Requests.{requests_of}
 use Rattle.zio_cksum.specs.Images.{Images}
 use Rattle.zio_gang.specs.Journals.{IsLawfulJournal, AreCompletions}
+use Rattle.zio_gang.specs.Trees.{sizes_of}
 use Rattle.zio_gang.specs.Runs.{Course, run_script, rounds_of, ending, top_of}
 use Rattle.zio_report.specs.declared.report.Show.{Show}
 use Rattle.zio_report.specs.Reports.{run_text, end_code, RunSize, Records}
@@ -15,12 +16,13 @@ pub record IsEmptyJournal (journal : Journal) : Type 0 where
   pub completions : journal.completions ≡ []
   pub rounds : journal.rounds ≡ 0
 
--- the sectors of each top
-abbrev pub sizes_of : Script → Images → List ℕ
-sizes_of script images = map (λ (top : Top). top.sectors) (map (top_of images) script.tops)
+-- the tops that a script has over these images
+abbrev pub tops_of : Script → Images → List Top
+tops_of script images = map (top_of images) script.tops
 
-abbrev pub size_of : Script → Images → RunSize
-size_of script images = record { tops = length script.tops; images = length images; requests = length (requests_of script.items) }
+-- how many tops, images and requests a run has
+abbrev pub run_size_of : Script → Images → RunSize
+run_size_of script images = record { tops = length script.tops; images = length images; requests = length (requests_of script.items) }
 
 abbrev pub records_of : Journal → Records
 records_of journal = record { choices = journal.places; completions = journal.completions }
@@ -32,9 +34,9 @@ course_of script images journal = run_script script images journal.places
 -- What a script means over these images, with the journal of a run.
 pub record IsMeaning (show : Show) (script : Script) (before : Images) (journal : Journal) (after : Images) (printed : List ℕ) (code : ℕ) : Type 0 where
   pub images : after ≡ (course_of script before journal).state.images
-  pub report : printed ≡ run_text show (size_of script before) (records_of journal)
+  pub report : printed ≡ run_text show (run_size_of script before) (records_of journal)
       (course_of script before journal).events (ending (course_of script before journal).state)
-  pub places : IsLawfulJournal (sizes_of script before) (rounds_of (course_of script before journal).events) journal.places
+  pub places : IsLawfulJournal (sizes_of (tops_of script before)) (rounds_of (course_of script before journal).events) journal.places
   pub rounds : journal.rounds ≡ length (rounds_of (course_of script before journal).events)
   pub completions : AreCompletions (requests_of script.items) (rounds_of (course_of script before journal).events) journal.completions
   pub code_is : code ≡ end_code (ending (course_of script before journal).state)

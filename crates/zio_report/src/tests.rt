@@ -95,8 +95,7 @@ fn check(rt: &impl Abort, alloc: Global, case: &Case<'_>) -> Result<(), Fail>
 }
 
 fn named(letter: u8) -> Option<Name> {
-    let bytes = [letter, 0, 0, 0, 0, 0, 0, 0, 0, 0, 0, 0, 0, 0, 0, 0];
-    Some(Name { len: 1, bytes })
+    Name::from_word(&[letter])
 }
 
 fn line(number: u32, kind: Kind, name: u8, outcome: LineResult) -> Line

@@ -39,3 +39,7 @@ abbrev pub same_key : Key → Key → Bool
 same_key a b =
     (a.request == b.request) && (a.round == b.round) && (a.attempt == b.attempt)
     && bytes_eq a.path b.path && same_role a.role b.role
+
+-- both ask for the same: the key, the size and the copies
+abbrev pub same_ask : Ask → Ask → Bool
+same_ask a b = same_key a.key b.key && (a.size == b.size) && (a.copies == b.copies)

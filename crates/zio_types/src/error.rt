@@ -2,6 +2,7 @@ ghost use Rattle.std.specs.Prelude.{◌≡◌};
 ghost use Rattle.zio_types.specs.Errors.{rank, worst_error};
 
 use std::alloc::{AllocError, AllocFailed};
+use thiserror::Error;
 
 /// What a request can fail with, from the mildest to the worst.
 #[derive(Clone, Copy, Debug, PartialEq, Eq)]
@@ -23,7 +24,8 @@ pub enum Errno {
 }
 
 /// Want of memory.
-#[derive(Clone, Copy, Debug, PartialEq, Eq)]
+#[derive(Clone, Copy, Debug, PartialEq, Eq, Error)]
+#[error("no memory")]
 pub struct NoMemory;
 
 impl From<AllocError> for NoMemory {

@@ -91,6 +91,21 @@ impl Model for Entry {
     ghost invariant = { λ e. IsFilled no_place 3 e.found e.places };
 }
 
+impl Entry {
+    /// The same entry once more, without memory.
+    pub fn copy(&self) -> Entry
+        ensures { result ≡ self.now }
+    {
+        Entry {
+            key: self.key,
+            size: self.size,
+            copies: self.copies,
+            found: self.found,
+            places: self.places,
+        }
+    }
+}
+
 /// The end of a request.
 #[derive(Clone, Copy, Debug, PartialEq, Eq)]
 pub struct Completion {

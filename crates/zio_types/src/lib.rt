@@ -3,7 +3,7 @@
 //!
 //! It stands on no other crate of the project. Read `List` first, then `Entry`: a journal is a list of
 //! entries, each what was asked of the space and the places found. `specs/Places` has the law of an entry,
-//! `specs/Errors` the order of errors.
+//! `specs/Errors` the order of errors, `specs/Machine` what a request keeps of its children.
 #![tactic(auto)]
 
 mod error;
@@ -16,9 +16,9 @@ mod text;
 
 pub use error::{Errno, NoMemory, worst};
 pub use journal::{Completion, Entry, Journal, Key, Path, Role};
-pub use laws::errors_join_in_any_order;
+pub use laws::{a_wake_ends_its_own_stall, counts_follow_the_marks, errors_join_in_any_order};
 pub use list::{List, Rest};
-pub use place::{Place, Top};
+pub use place::{Place, Top, TopSize};
 pub use request::{Bits, ChildKind, Flags, Kind, Phase, Prio, ReqNo, Status};
 pub use text::Text;
 

@@ -1,3 +1,6 @@
+ghost use Rattle.std.specs.Prelude.{◌≡◌};
+ghost use Rattle.zio_types.specs.Bits.{has_bits, joined_bits};
+
 /// A request's number in its script.
 pub type ReqNo = u32;
 
@@ -59,6 +62,31 @@ pub struct Bits {
     pub now: bool,
     /// After the next `clear`.
     pub suspend: bool,
+}
+
+impl Bits {
+    /// A request with these has its end.
+    pub const NONE: Bits = Bits {
+        now: false,
+        suspend: false,
+    };
+
+    /// Each bit that one of the two has.
+    pub fn join(self, other: Bits) -> Bits
+        ensures { result ≡ joined_bits self other }
+    {
+        Bits {
+            now: self.now || other.now,
+            suspend: self.suspend || other.suspend,
+        }
+    }
+
+    /// Whether a request with these goes again.
+    pub fn go_again(self) -> bool
+        ensures { result ≡ has_bits self }
+    {
+        self.now || self.suspend
+    }
 }
 
 /// What a program ends with.

@@ -1,5 +1,5 @@
 -- Bytes that spell a pointer have no fault, so bytes have a fault exactly where they spell none.
-use Rattle.std.proofs.Common.{◌≡◌, ℕ, zero, suc, ◌+◌, ◌-◌, ◌*◌, ◌/◌, ◌^◌, ◌<◌, ◌≤◌, List, [], ◌∷◌, length, drop, get_or, Bool, true, false, not, ◌&&◌, ◌||◌, ◌==◌, cond, nat_lt, nat_le, IsTrue, Option, Some, None, IsSome, is_some, ◌↔◌, ◌⊎◌, inl, inr, ⊎_elim, refl, ap, sym, ◌∙◌, subst, arith, eqb-true, eq-eqb, lt-ltb, leb-true}
+use Rattle.std.proofs.Common.{◌≡◌, ℕ, zero, suc, ◌+◌, ◌-◌, ◌*◌, ◌/◌, ◌^◌, ◌<◌, ◌≤◌, List, [], ◌∷◌, length, drop, get_or, Bool, true, false, not, ◌&&◌, ◌||◌, ◌==◌, cond, nat_lt, nat_le, IsTrue, Option, Some, None, IsSome, is_some, ◌↔◌, ◌⊎◌, inl, inr, ⊎_elim, refl, ap, sym, ◌∙◌, subst, arith, eq-eqb, lt-ltb, leb-true}
 use Rattle.std.proofs.lemmas.Bool.{and_parts, and_from, le-leb}
 use Rattle.std.proofs.lemmas.Option.{none-some}
 use Rattle.std.specs.List.{flat_map, list_all}
@@ -8,13 +8,14 @@ use Rattle.zio_blkptr.specs.declared.pointer.Bp.{Bp}
 use Rattle.zio_blkptr.specs.declared.pointer.SumKind.{SumKind}
 use Rattle.zio_blkptr.specs.declared.pointer.SumKind.TheVariants.{Off, Fletcher4, Sha256}
 use Rattle.zio_blkptr.specs.declared.pointer.BpFault.{BpFault}
-use Rattle.zio_blkptr.specs.Pointers.{valid, places_of, is_absent, is_present, is_block_size, sectors_each, word, word_of, fields, spelling, pointer_of, sum_number}
-use Rattle.zio_blkptr.specs.Faults.{logical_size, physical_size, byte_order, place_sectors, gang_bit, is_place_of, is_no_place, has_fixed_properties, are_fixed_words, has_fitting_size, is_sum_number, first_fault}
+use Rattle.zio_blkptr.specs.declared.pointer.TheConstants.{BLOCK_SIZE_MAX, SECTOR_END, TOP_END}
+use Rattle.zio_blkptr.specs.Pointers.{valid, places_of, is_absent, is_present, is_block_size, is_rounding_of, sectors_stored, word, word_of, fields, spelling, pointer_of, sum_number}
+use Rattle.zio_blkptr.specs.Faults.{logical_size, physical_size, byte_order, place_sectors, gang_bit, sectors_at, is_place_of, is_no_place, has_fixed_properties, are_fixed_words, has_fitting_size, is_sum_number, first_fault}
 use Rattle.zio_blkptr.proofs.Words.{AllFit, words_read}
 use Rattle.zio_blkptr.proofs.Fields.{PlaceWords, IsSize, properties_of, few_sectors, sum_small, size_again, bit_is_one}
-use Rattle.zio_blkptr.proofs.FaultParts.{PropertyParts, parts_read, fixed_pass, sectors_read, gang_read_back, there_pass}
-use Rattle.zio_blkptr.proofs.PointerLemmas.{ValidParts, valid_parts, IsInRange, IsInRange-from, IsZero-from, made, sixteen, sixteen-fit, first_of, second_of, words_of_place, words_of_none, spelling-one, spelling-two, spelling-three, spelling-pointer, fields-pointer, FitsTypes-pointer}
-use Rattle.zio_blkptr.proofs.FaultTests.{wanted, there, good, in_front, all_good, Passes, first_of_four}
+use Rattle.zio_blkptr.proofs.FaultParts.{PropertyParts, parts_read, fixed_pass, sectors_read, gang_read_back, is_place_of-words}
+use Rattle.zio_blkptr.proofs.PointerLemmas.{ValidParts, valid_parts, IsInRange, IsInRange-from, IsZero-from, bp_with, sixteen, sixteen-fit, first_of, second_of, words_of_place, words_of_none, spelling-one, spelling-two, spelling-three, spelling-pointer, fields-pointer, FitsTypes-pointer}
+use Rattle.zio_blkptr.proofs.FaultTests.{holds_sectors, is_good, in_front, all_good, Passes, first_of_four}
 use Rattle.zio_blkptr.proofs.Faultless.{place_at, pointer_of-no_fault}
 
 -- ---- bytes that spell a pointer have no fault
@@ -41,10 +42,10 @@ no_fault_words bytes u0 v0 u1 v1 u2 v2 w birth rest at h =
     let field : not (has_fixed_properties w && are_fixed_words 0 0 0 birth 1) ≡ false =
     ap not (and_from (has_fixed_properties w) (are_fixed_words 0 0 0 birth 1) (fixed_pass w h.fixed) born) in
     let size : not (has_fitting_size w) ≡ false =
-    ap not (and_from (logical_size w == physical_size w) (nat_le ((logical_size w + 1) * 512) 131072) (eq-eqb (logical_size w) (physical_size w) h.same) (le-leb ((logical_size w + 1) * 512) 131072 h.small)) in
-    let g0 = good (wanted v0 w) (gang_bit v0) u0 v0 in
-    let g1 = good (wanted v0 w) (gang_bit v0) u1 v1 in
-    let g2 = good (wanted v0 w) (gang_bit v0) u2 v2 in
+    ap not (and_from (logical_size w == physical_size w) (nat_le ((logical_size w + 1) * 512) BLOCK_SIZE_MAX) (eq-eqb (logical_size w) (physical_size w) h.same) (le-leb ((logical_size w + 1) * 512) BLOCK_SIZE_MAX h.small)) in
+    let g0 = is_good (sectors_at v0 w) (gang_bit v0) u0 v0 in
+    let g1 = is_good (sectors_at v1 w) (gang_bit v0) u1 v1 in
+    let g2 = is_good (sectors_at v2 w) (gang_bit v0) u2 v2 in
     let goods = and_from (g0 && g1) g2 (and_from g0 g1 h.first h.second) h.third in
     let dva : not (in_front u0 u1 u2 && all_good u0 v0 u1 v1 u2 v2 w) ≡ false =
     ap not (and_from (in_front u0 u1 u2) (all_good u0 v0 u1 v1 u2 v2 w) h.front goods) in
@@ -61,9 +62,9 @@ number_known Sha256 = refl
 
 -- the words of a pointer's fields pass, where those of its places do
 passes_by : (u0 v0 u1 v1 u2 v2 size birth : ℕ) (sum : SumKind) → IsSize size → 0 < birth → IsTrue (in_front u0 u1 u2)
-    → IsTrue (good (wanted v0 (properties_of size sum)) (gang_bit v0) u0 v0)
-    → IsTrue (good (wanted v0 (properties_of size sum)) (gang_bit v0) u1 v1)
-    → IsTrue (good (wanted v0 (properties_of size sum)) (gang_bit v0) u2 v2)
+    → IsTrue (is_good (sectors_at v0 (properties_of size sum)) (gang_bit v0) u0 v0)
+    → IsTrue (is_good (sectors_at v1 (properties_of size sum)) (gang_bit v0) u1 v1)
+    → IsTrue (is_good (sectors_at v2 (properties_of size sum)) (gang_bit v0) u2 v2)
     → Passes u0 v0 u1 v1 u2 v2 (properties_of size sum) birth
 passes_by u0 v0 u1 v1 u2 v2 size birth sum ok born front first second third =
     let parts : PropertyParts (properties_of size sum) (size / 512 - 1) (sum_number sum) =
@@ -82,7 +83,7 @@ passes_by u0 v0 u1 v1 u2 v2 size birth sum ok born front first second third =
         dedups = parts.dedups;
       };
       same = parts.logical ∙ sym parts.physical;
-      small = subst (λ k. k ≤ 131072) (sym (ap (λ k. (k + 1) * 512) parts.logical ∙ whole)) ok.high;
+      small = subst (λ k. k ≤ BLOCK_SIZE_MAX) (sym (ap (λ k. (k + 1) * 512) parts.logical ∙ whole)) ok.high;
       born = born;
       front = front;
       first = first;
@@ -90,13 +91,13 @@ passes_by u0 v0 u1 v1 u2 v2 size birth sum ok born front first second third =
       third = third;
     }
 
-there_is : (gang : Bool) (p : Place) → IsInRange p → there (first_of p) ≡ true
-there_is gang p h = let e = sectors_read gang p h in lt-ltb 0 (place_sectors (first_of p)) (subst (λ n. 0 < n) (sym e) h.some)
+holds_sectors-first : (gang : Bool) (p : Place) → IsInRange p → holds_sectors (first_of p) ≡ true
+holds_sectors-first gang p h = let e = sectors_read gang p h in lt-ltb 0 (place_sectors (first_of p)) (subst (λ n. 0 < n) (sym e) h.some)
 
--- as many sectors are wanted as the pointer says
-wanted_is : (gang : Bool) (p : Place) (size : ℕ) (sum : SumKind) → IsInRange p → IsSize size
-    → wanted (second_of gang p) (properties_of size sum) ≡ cond gang 1 (size / 512)
-wanted_is gang p size sum h ok =
+-- a place's second word says as many stored sectors as the pointer
+stored_is : (gang : Bool) (p : Place) (size : ℕ) (sum : SumKind) → IsInRange p → IsSize size
+    → sectors_at (second_of gang p) (properties_of size sum) ≡ cond gang 1 (size / 512)
+stored_is gang p size sum h ok =
     let parts : PropertyParts (properties_of size sum) (size / 512 - 1) (sum_number sum) =
     parts_read (size / 512 - 1) (sum_number sum) (few_sectors size ok) (sum_small sum) in
     let is_gang = ap (λ b. b == 1) (gang_read_back gang p h) ∙ bit_is_one gang in
@@ -107,18 +108,20 @@ wanted_is gang p size sum h ok =
 
 -- the words of a counted place are good beside the first
 good_by : (gang : Bool) (first p : Place) (size : ℕ) (sum : SumKind) → IsInRange first → IsInRange p → IsSize size
-    → p.sectors ≡ cond gang 1 (size / 512)
-    → IsTrue (good (wanted (second_of gang first) (properties_of size sum)) (gang_bit (second_of gang first)) (first_of p) (second_of gang p))
+    → IsTrue (is_rounding_of p.sectors (cond gang 1 (size / 512)))
+    → IsTrue (is_good (sectors_at (second_of gang p) (properties_of size sum)) (gang_bit (second_of gang first)) (first_of p) (second_of gang p))
 good_by gang first p size sum h0 h ok counted =
-    let sectors = wanted (second_of gang first) (properties_of size sum) in
+    let stored = sectors_at (second_of gang p) (properties_of size sum) in
     let b = gang_bit (second_of gang first) in
-    ap (λ t. cond t (is_place_of sectors b (first_of p) (second_of gang p)) (is_no_place (first_of p) (second_of gang p))) (there_is gang p h)
-    ∙ there_pass gang p sectors b h (counted ∙ sym (wanted_is gang first size sum h0 ok)) (sym (gang_read_back gang first h0))
+    let is = sym (stored_is gang p size sum h ok) in
+    ap (λ t. cond t (is_place_of stored b (first_of p) (second_of gang p)) (is_no_place (first_of p) (second_of gang p))) (holds_sectors-first gang p h)
+    ∙ is_place_of-words gang p stored b h (subst (λ n. IsTrue (is_rounding_of p.sectors n)) is counted) (sym (gang_read_back gang first h0))
 
-counted_is : (bp : Bp) (p : Place) → IsTrue (is_present bp p) → p.sectors ≡ sectors_each bp
+counted_is : (bp : Bp) (p : Place) → IsTrue (is_present bp p) → IsTrue (is_rounding_of p.sectors (sectors_stored bp))
 counted_is bp p h =
-    let two = and_parts (p.sectors == sectors_each bp && nat_lt p.top (2 ^ 24)) (nat_lt p.sector (2 ^ 48)) h in
-    eqb-true p.sectors (sectors_each bp) (and_parts (p.sectors == sectors_each bp) (nat_lt p.top (2 ^ 24)) two.0).0
+    let rounded = is_rounding_of p.sectors (sectors_stored bp) in
+    let two = and_parts (rounded && nat_lt p.top TOP_END) (nat_lt p.sector SECTOR_END) h in
+    (and_parts rounded (nat_lt p.top TOP_END) two.0).0
 
 -- bytes that are these words have no fault where the words pass
 sixteen_no_fault : (bytes : List ℕ) (p q r : Place) (size : ℕ) (sum : SumKind) (birth a b c d u0 v0 u1 v1 u2 v2 : ℕ)
@@ -131,58 +134,58 @@ sixteen_no_fault bytes p q r size sum birth a b c d u0 v0 u1 v1 u2 v2 e at_p at_
     no_fault_words bytes u0 v0 u1 v1 u2 v2 (properties_of size sum) birth (a ∷ b ∷ c ∷ d ∷ [])
     (λ i lt. ap (λ xs. word_of xs i) e ∙ words_read ws fit i lt) h
 
-made_no_fault : (bytes : List ℕ) (count : ℕ) (p q r : Place) (gang : Bool) (size : ℕ) (sum : SumKind) (birth a b c d : ℕ)
-    → ValidParts (made count p q r gang size sum birth a b c d) → 0 < birth → birth < 2 ^ 64 → AllFit (a ∷ b ∷ c ∷ d ∷ [])
-    → bytes ≡ spelling (made count p q r gang size sum birth a b c d) → first_fault bytes ≡ None
-made_no_fault bytes zero p q r gang size sum birth a b c d ok born birth_fits words_fit e = absurd (omega (arith, ok.low))
-made_no_fault bytes (suc zero) p q r gang size sum birth a b c d ok born birth_fits words_fit e =
-    let bp = made 1 p q r gang size sum birth a b c d in
+no_fault-bp_with : (bytes : List ℕ) (count : ℕ) (p q r : Place) (gang : Bool) (size : ℕ) (sum : SumKind) (birth a b c d : ℕ)
+    → ValidParts (bp_with count p q r gang size sum birth a b c d) → 0 < birth → birth < 2 ^ 64 → AllFit (a ∷ b ∷ c ∷ d ∷ [])
+    → bytes ≡ spelling (bp_with count p q r gang size sum birth a b c d) → first_fault bytes ≡ None
+no_fault-bp_with bytes zero p q r gang size sum birth a b c d ok born birth_fits words_fit e = absurd (omega (arith, ok.low))
+no_fault-bp_with bytes (suc zero) p q r gang size sum birth a b c d ok born birth_fits words_fit e =
+    let bp = bp_with 1 p q r gang size sum birth a b c d in
     let present = and_parts (is_present bp p) true ok.present in
     let absent = and_parts (is_absent q) (is_absent r && true) ok.absent in
     let at_p = IsInRange-from bp p ok.size present.0 in
     let at_q = IsZero-from q absent.0 in
     let at_r = IsZero-from r (and_parts (is_absent r) true absent.1).0 in
-    let t0 = there_is gang p at_p in
+    let t0 = holds_sectors-first gang p at_p in
     sixteen_no_fault bytes p q r size sum birth a b c d (first_of p) (second_of gang p) 0 0 0 0
     (e ∙ spelling-one p q r gang size sum birth a b c d)
     (words_of_place gang p at_p) (words_of_none q at_q) (words_of_none r at_r) ok.size birth_fits words_fit
-    (passes_by (first_of p) (second_of gang p) 0 0 0 0 size birth sum ok.size born (and_from (there (first_of p)) true t0 refl)
+    (passes_by (first_of p) (second_of gang p) 0 0 0 0 size birth sum ok.size born (and_from (holds_sectors (first_of p)) true t0 refl)
     (good_by gang p p size sum at_p at_p ok.size (counted_is bp p present.0)) refl refl)
-made_no_fault bytes (suc (suc zero)) p q r gang size sum birth a b c d ok born birth_fits words_fit e =
-    let bp = made 2 p q r gang size sum birth a b c d in
+no_fault-bp_with bytes (suc (suc zero)) p q r gang size sum birth a b c d ok born birth_fits words_fit e =
+    let bp = bp_with 2 p q r gang size sum birth a b c d in
     let present = and_parts (is_present bp p) (is_present bp q && true) ok.present in
     let second = (and_parts (is_present bp q) true present.1).0 in
     let at_p = IsInRange-from bp p ok.size present.0 in
     let at_q = IsInRange-from bp q ok.size second in
     let at_r = IsZero-from r (and_parts (is_absent r) true ok.absent).0 in
-    let t0 = there_is gang p at_p in
-    let t1 = there_is gang q at_q in
+    let t0 = holds_sectors-first gang p at_p in
+    let t1 = holds_sectors-first gang q at_q in
     sixteen_no_fault bytes p q r size sum birth a b c d (first_of p) (second_of gang p) (first_of q) (second_of gang q) 0 0
     (e ∙ spelling-two p q r gang size sum birth a b c d)
     (words_of_place gang p at_p) (words_of_place gang q at_q) (words_of_none r at_r) ok.size birth_fits words_fit
     (passes_by (first_of p) (second_of gang p) (first_of q) (second_of gang q) 0 0 size birth sum ok.size born
-    (and_from (there (first_of p)) (there (first_of q) || true) t0 (ap (λ t. t || true) t1))
+    (and_from (holds_sectors (first_of p)) (holds_sectors (first_of q) || true) t0 (ap (λ t. t || true) t1))
     (good_by gang p p size sum at_p at_p ok.size (counted_is bp p present.0))
     (good_by gang p q size sum at_p at_q ok.size (counted_is bp q second)) refl)
-made_no_fault bytes (suc (suc (suc zero))) p q r gang size sum birth a b c d ok born birth_fits words_fit e =
-    let bp = made 3 p q r gang size sum birth a b c d in
+no_fault-bp_with bytes (suc (suc (suc zero))) p q r gang size sum birth a b c d ok born birth_fits words_fit e =
+    let bp = bp_with 3 p q r gang size sum birth a b c d in
     let present = and_parts (is_present bp p) (is_present bp q && (is_present bp r && true)) ok.present in
     let others = and_parts (is_present bp q) (is_present bp r && true) present.1 in
     let third = (and_parts (is_present bp r) true others.1).0 in
     let at_p = IsInRange-from bp p ok.size present.0 in
     let at_q = IsInRange-from bp q ok.size others.0 in
     let at_r = IsInRange-from bp r ok.size third in
-    let t0 = there_is gang p at_p in
-    let t1 = there_is gang q at_q in
+    let t0 = holds_sectors-first gang p at_p in
+    let t1 = holds_sectors-first gang q at_q in
     sixteen_no_fault bytes p q r size sum birth a b c d (first_of p) (second_of gang p) (first_of q) (second_of gang q) (first_of r) (second_of gang r)
     (e ∙ spelling-three p q r gang size sum birth a b c d)
     (words_of_place gang p at_p) (words_of_place gang q at_q) (words_of_place gang r at_r) ok.size birth_fits words_fit
     (passes_by (first_of p) (second_of gang p) (first_of q) (second_of gang q) (first_of r) (second_of gang r) size birth sum ok.size born
-    (and_from (there (first_of p)) (there (first_of q) || not (there (first_of r))) t0 (ap (λ t. t || not (there (first_of r))) t1))
+    (and_from (holds_sectors (first_of p)) (holds_sectors (first_of q) || not (holds_sectors (first_of r))) t0 (ap (λ t. t || not (holds_sectors (first_of r))) t1))
     (good_by gang p p size sum at_p at_p ok.size (counted_is bp p present.0))
     (good_by gang p q size sum at_p at_q ok.size (counted_is bp q others.0))
     (good_by gang p r size sum at_p at_r ok.size (counted_is bp r third)))
-made_no_fault bytes (suc (suc (suc (suc n)))) p q r gang size sum birth a b c d ok born birth_fits words_fit e = absurd (omega (arith, ok.high))
+no_fault-bp_with bytes (suc (suc (suc (suc n)))) p q r gang size sum birth a b c d ok born birth_fits words_fit e = absurd (omega (arith, ok.high))
 
 born_from : (bp : Bp) → IsTrue (valid bp) → 0 < bp.birth
 born_from bp h =
@@ -200,7 +203,7 @@ no_fault-pointer_of bytes bp small e =
     let p = place_at (word_of bytes 0) (word_of bytes 1) in
     let q = place_at (word_of bytes 2) (word_of bytes 3) in
     let r = place_at (word_of bytes 4) (word_of bytes 5) in
-    made_no_fault bytes found.count p q r found.gang found.size found.sum (word_of bytes 10) (word_of bytes 12) (word_of bytes 13) (word_of bytes 14) (word_of bytes 15)
+    no_fault-bp_with bytes found.count p q r found.gang found.size found.sum (word_of bytes 10) (word_of bytes 12) (word_of bytes 13) (word_of bytes 14) (word_of bytes 15)
     (valid_parts found spelled.0) (born_from found spelled.0) types.birth types.each_word (sym spelled.1)
 
 some_from : (o : Option Bp) → IsSome o → (bp : Bp) × (o ≡ Some bp)

@@ -1,8 +1,9 @@
 -- The parts of a pointer's words, as the faults read them: of the word of properties, and of the two words of a place.
-use Rattle.std.proofs.Common.{◌≡◌, ℕ, ◌+◌, ◌*◌, ◌/◌, ◌%◌, ◌^◌, ◌<◌, Bool, true, false, ◌&&◌, ◌||◌, ◌==◌, nat_lt, IsTrue, ◌⊎◌, inl, inr, ⊎_elim, refl, ap, sym, ◌∙◌, arith, eqb-true, eq-eqb, ltb-true, lt-ltb}
-use Rattle.std.proofs.lemmas.Bool.{and_parts, and_from}
+use Rattle.std.proofs.Common.{◌≡◌, ℕ, ◌+◌, ◌*◌, ◌/◌, ◌%◌, ◌^◌, ◌<◌, Bool, ◌&&◌, ◌||◌, ◌==◌, nat_lt, IsTrue, ⊎_elim, ap, sym, ◌∙◌, subst, arith, eqb-true, eq-eqb, ltb-true, lt-ltb}
+use Rattle.std.proofs.lemmas.Bool.{and_parts, and_from, or_cases}
 use Rattle.zio_types.specs.declared.place.Place.{Place}
-use Rattle.zio_blkptr.specs.Pointers.{bit, sum_number, sum_of_number}
+use Rattle.zio_blkptr.specs.declared.pointer.TheConstants.{SECTOR_END}
+use Rattle.zio_blkptr.specs.Pointers.{bit, is_rounding_of, sum_number, sum_of_number}
 use Rattle.zio_blkptr.specs.Faults.{bits, logical_size, physical_size, compression, embedded, checksum, content_type, level, encrypted, dedup, byte_order, place_sectors, grid, above_top, place_sector, gang_bit, is_sum_number, has_fixed_properties, is_place_of}
 use Rattle.zio_blkptr.proofs.Fields.{bit_small}
 use Rattle.zio_blkptr.proofs.PointerLemmas.{IsInRange, first_of, second_of}
@@ -27,7 +28,7 @@ pub record PropertyParts (w n s : ℕ) : Type 0 where
   pub order : byte_order w ≡ 1
 
 -- a size in sectors less 1 and a checksum's number are read from the word that they make
-pub parts_read : (n s : ℕ) → n < 256 → s < 16 → PropertyParts (n + n * 2 ^ 16 + 2 * 2 ^ 32 + s * 2 ^ 40 + 2 ^ 63) n s
+pub parts_read : (n s : ℕ) → n < 2 ^ 16 → s < 16 → PropertyParts (n + n * 2 ^ 16 + 2 * 2 ^ 32 + s * 2 ^ 40 + 2 ^ 63) n s
 parts_read n s small few = record {
   logical = omega arith;
   physical = omega arith;
@@ -107,10 +108,6 @@ fixed_pass w h =
     let six = and_from (a && b && c && d && e) f five (eq-eqb (encrypted w) 0 h.encrypts) in
     and_from (a && b && c && d && e && f) (dedup w == 0) six (eq-eqb (dedup w) 0 h.dedups)
 
-or_cases : (a b : Bool) → IsTrue (a || b) → IsTrue a ⊎ IsTrue b
-or_cases true b h = inl refl
-or_cases false b h = inr h
-
 -- a checksum's number is that of the checksum that it stands for
 pub sum_again : (s : ℕ) → IsTrue (is_sum_number s) → sum_number (sum_of_number s) ≡ s
 sum_again s h =
@@ -121,29 +118,33 @@ sum_again s h =
 
 -- ---- the words of a place
 
--- Two words of a place with so many sectors and this gang bit: they are what their parts make.
-pub record IsThere (sectors gang u v : ℕ) : Type 0 where
-  pub counted : u % 2 ^ 24 ≡ sectors
+-- Two words of a place that stores so many sectors, with this gang bit: they are what their parts make.
+pub record IsPlaceOf (stored gang u v : ℕ) : Type 0 where
+  pub counted : IsTrue (is_rounding_of (u % 2 ^ 24) stored)
   pub first : u % 2 ^ 24 + u / 2 ^ 32 % 2 ^ 24 * 2 ^ 32 ≡ u
   pub sector : v % 2 ^ 63 < 2 ^ 48
   pub second : v % 2 ^ 63 + gang * 2 ^ 63 ≡ v
+  pub own : gang_bit v ≡ gang
 
-pub there_from : (sectors gang u v : ℕ) → u < 2 ^ 64 → v < 2 ^ 64 → IsTrue (is_place_of sectors gang u v) → IsThere sectors gang u v
-there_from sectors gang u v at_u at_v h =
-    let four = and_parts (place_sectors u == sectors && grid u == 0 && above_top u == 0 && nat_lt (place_sector v) (2 ^ 48)) (gang_bit v == gang) h in
-    let three = and_parts (place_sectors u == sectors && grid u == 0 && above_top u == 0) (nat_lt (place_sector v) (2 ^ 48)) four.0 in
-    let two = and_parts (place_sectors u == sectors && grid u == 0) (above_top u == 0) three.0 in
-    let one = and_parts (place_sectors u == sectors) (grid u == 0) two.0 in
-    let counted = eqb-true (place_sectors u) sectors one.0 in
+pub IsPlaceOf-from : (stored gang u v : ℕ) → u < 2 ^ 64 → v < 2 ^ 64 → IsTrue (is_place_of stored gang u v)
+    → IsPlaceOf stored gang u v
+IsPlaceOf-from stored gang u v at_u at_v h =
+    let rounded = is_rounding_of (place_sectors u) stored in
+    let small = nat_lt (place_sector v) SECTOR_END in
+    let four = and_parts (rounded && grid u == 0 && above_top u == 0 && small) (gang_bit v == gang) h in
+    let three = and_parts (rounded && grid u == 0 && above_top u == 0) small four.0 in
+    let two = and_parts (rounded && grid u == 0) (above_top u == 0) three.0 in
+    let one = and_parts rounded (grid u == 0) two.0 in
     let no_grid = eqb-true (grid u) 0 one.1 in
     let none_above = eqb-true (above_top u) 0 two.1 in
-    let small = ltb-true (place_sector v) (2 ^ 48) three.1 in
+    let sector = ltb-true (place_sector v) SECTOR_END three.1 in
     let bit_is = eqb-true (gang_bit v) gang four.1 in
     record {
-      counted = omega (arith, counted);
+      counted = subst (λ n. IsTrue (is_rounding_of n stored)) (bits_low u 24) one.0;
       first = omega (arith, no_grid, none_above);
-      sector = omega (arith, small);
+      sector = omega (arith, sector);
       second = omega (arith, bit_is);
+      own = bit_is;
     }
 
 -- The parts of the words of a place in range.
@@ -173,13 +174,18 @@ pub gang_read_back : (gang : Bool) (p : Place) → IsInRange p → gang_bit (sec
 gang_read_back gang p h = (place_parts p (bit gang) h.sectors h.top h.sector (bit_small gang)).gang
 
 -- the words of a place in range pass
-pub there_pass : (gang : Bool) (p : Place) (sectors b : ℕ) → IsInRange p → p.sectors ≡ sectors → bit gang ≡ b
-    → IsTrue (is_place_of sectors b (first_of p) (second_of gang p))
-there_pass gang p sectors b h counted is =
+pub is_place_of-words : (gang : Bool) (p : Place) (stored b : ℕ) → IsInRange p → IsTrue (is_rounding_of p.sectors stored)
+    → bit gang ≡ b → IsTrue (is_place_of stored b (first_of p) (second_of gang p))
+is_place_of-words gang p stored b h counted is =
     let u = first_of p in
     let v = second_of gang p in
     let parts = place_parts p (bit gang) h.sectors h.top h.sector (bit_small gang) in
-    let one = and_from (place_sectors u == sectors) (grid u == 0) (eq-eqb (place_sectors u) sectors (parts.counted ∙ counted)) (eq-eqb (grid u) 0 parts.no_grid) in
-    let two = and_from (place_sectors u == sectors && grid u == 0) (above_top u == 0) one (eq-eqb (above_top u) 0 parts.none_above) in
-    let three = and_from (place_sectors u == sectors && grid u == 0 && above_top u == 0) (nat_lt (place_sector v) (2 ^ 48)) two (lt-ltb (place_sector v) (2 ^ 48) parts.sector) in
-    and_from (place_sectors u == sectors && grid u == 0 && above_top u == 0 && nat_lt (place_sector v) (2 ^ 48)) (gang_bit v == b) three (eq-eqb (gang_bit v) b (parts.gang ∙ is))
+    let rounded = is_rounding_of (place_sectors u) stored in
+    let small = nat_lt (place_sector v) SECTOR_END in
+    let at_rounded : IsTrue rounded = subst (λ n. IsTrue (is_rounding_of n stored)) (sym parts.counted) counted in
+    let one = and_from rounded (grid u == 0) at_rounded (eq-eqb (grid u) 0 parts.no_grid) in
+    let two = and_from (rounded && grid u == 0) (above_top u == 0) one (eq-eqb (above_top u) 0 parts.none_above) in
+    let three = and_from (rounded && grid u == 0 && above_top u == 0) small two
+    (lt-ltb (place_sector v) SECTOR_END parts.sector) in
+    and_from (rounded && grid u == 0 && above_top u == 0 && small) (gang_bit v == b) three
+    (eq-eqb (gang_bit v) b (parts.gang ∙ is))

@@ -4,8 +4,9 @@ use Rattle.std.proofs.lemmas.Bool.{and_parts, eqb-false}
 use Rattle.std.proofs.lemmas.Option.{none-some}
 use Rattle.zio_blkptr.specs.declared.pointer.BpFault.{BpFault}
 use Rattle.zio_blkptr.specs.declared.pointer.BpFault.TheVariants.{Order, Field, Size, Dva}
+use Rattle.zio_blkptr.specs.declared.pointer.TheConstants.{BLOCK_SIZE_MAX}
 use Rattle.zio_blkptr.specs.Pointers.{word_of}
-use Rattle.zio_blkptr.specs.Faults.{logical_size, physical_size, byte_order, place_sectors, gang_bit, is_place_of, is_no_place, has_fixed_properties, are_fixed_words, has_fitting_size, has_order_fault, has_field_fault, has_size_fault, has_dva_fault, has_places_in_front, are_good_places, is_good_place, first_fault}
+use Rattle.zio_blkptr.specs.Faults.{logical_size, physical_size, byte_order, place_sectors, gang_bit, sectors_at, is_place_of, is_no_place, has_fixed_properties, are_fixed_words, has_fitting_size, has_order_fault, has_field_fault, has_size_fault, has_dva_fault, has_places_in_front, are_good_places, is_good_place, first_fault}
 use Rattle.zio_blkptr.proofs.FaultParts.{FixedParts, fixed_parts}
 
 -- ---- the four tests
@@ -27,22 +28,23 @@ not-false : (b : Bool) → not b ≡ false → b ≡ true
 not-false true e = refl
 not-false false e = sym e
 
--- the tests of the places, on their words and the word of properties
-abbrev pub wanted : ℕ → ℕ → ℕ
-wanted v w = cond (gang_bit v == 1) 1 (logical_size w + 1)
+-- ---- the tests of the places, on their words and the word of properties
 
-abbrev pub there : ℕ → Bool
-there u = nat_lt 0 (place_sectors u)
+-- a place's first word has sectors
+abbrev pub holds_sectors : ℕ → Bool
+holds_sectors u = nat_lt 0 (place_sectors u)
 
-abbrev pub good : ℕ → ℕ → ℕ → ℕ → Bool
-good sectors gang u v = cond (there u) (is_place_of sectors gang u v) (is_no_place u v)
+-- two words of a place that is there and right, or of none
+abbrev pub is_good : ℕ → ℕ → ℕ → ℕ → Bool
+is_good stored gang u v = cond (holds_sectors u) (is_place_of stored gang u v) (is_no_place u v)
 
 abbrev pub in_front : ℕ → ℕ → ℕ → Bool
-in_front u0 u1 u2 = there u0 && (there u1 || not (there u2))
+in_front u0 u1 u2 = holds_sectors u0 && (holds_sectors u1 || not (holds_sectors u2))
 
 abbrev pub all_good : ℕ → ℕ → ℕ → ℕ → ℕ → ℕ → ℕ → Bool
 all_good u0 v0 u1 v1 u2 v2 w =
-    good (wanted v0 w) (gang_bit v0) u0 v0 && good (wanted v0 w) (gang_bit v0) u1 v1 && good (wanted v0 w) (gang_bit v0) u2 v2
+    is_good (sectors_at v0 w) (gang_bit v0) u0 v0 && is_good (sectors_at v1 w) (gang_bit v0) u1 v1
+    && is_good (sectors_at v2 w) (gang_bit v0) u2 v2
 
 -- ---- what bytes without a fault hold
 
@@ -51,12 +53,12 @@ pub record Passes (u0 v0 u1 v1 u2 v2 w birth : ℕ) : Type 0 where
   pub order : byte_order w ≡ 1
   pub fixed : FixedParts w
   pub same : logical_size w ≡ physical_size w
-  pub small : (logical_size w + 1) * 512 ≤ 131072
+  pub small : (logical_size w + 1) * 512 ≤ BLOCK_SIZE_MAX
   pub born : 0 < birth
   pub front : IsTrue (in_front u0 u1 u2)
-  pub first : IsTrue (good (wanted v0 w) (gang_bit v0) u0 v0)
-  pub second : IsTrue (good (wanted v0 w) (gang_bit v0) u1 v1)
-  pub third : IsTrue (good (wanted v0 w) (gang_bit v0) u2 v2)
+  pub first : IsTrue (is_good (sectors_at v0 w) (gang_bit v0) u0 v0)
+  pub second : IsTrue (is_good (sectors_at v1 w) (gang_bit v0) u1 v1)
+  pub third : IsTrue (is_good (sectors_at v2 w) (gang_bit v0) u2 v2)
 
 -- The words that are fixed.
 pub record Fixed (bytes : List ℕ) : Type 0 where
@@ -87,7 +89,7 @@ passes_from bytes e =
     let values = are_fixed_words (word_of bytes 7) (word_of bytes 8) (word_of bytes 9) (word_of bytes 10) (word_of bytes 11) in
     let field = and_parts (has_fixed_properties w) values (not-false (has_fixed_properties w && values) four.1) in
     let fixed = fixed_words (word_of bytes 7) (word_of bytes 8) (word_of bytes 9) (word_of bytes 10) (word_of bytes 11) field.1 in
-    let size = and_parts (logical_size w == physical_size w) (nat_le ((logical_size w + 1) * 512) 131072) (not-false (has_fitting_size w) four.2) in
+    let size = and_parts (logical_size w == physical_size w) (nat_le ((logical_size w + 1) * 512) BLOCK_SIZE_MAX) (not-false (has_fitting_size w) four.2) in
     let places = and_parts (has_places_in_front bytes) (are_good_places bytes) (not-false (has_places_in_front bytes && are_good_places bytes) four.3) in
     let two = and_parts (is_good_place bytes 0 && is_good_place bytes 1) (is_good_place bytes 2) places.1 in
     let one = and_parts (is_good_place bytes 0) (is_good_place bytes 1) two.0 in (
@@ -95,7 +97,7 @@ passes_from bytes e =
         order = order_is w four.0;
         fixed = fixed_parts w field.0;
         same = eqb-true (logical_size w) (physical_size w) size.0;
-        small = leb-true ((logical_size w + 1) * 512) 131072 size.1;
+        small = leb-true ((logical_size w + 1) * 512) BLOCK_SIZE_MAX size.1;
         born = fixed.3;
         front = places.0;
         first = one.0;

@@ -5,6 +5,7 @@ use Rattle.zio_types.specs.declared.place.Place.{Place}
 use Rattle.zio_blkptr.specs.Pointers.{bit, place_field, word_of, sum_number, sum_of_number}
 use Rattle.zio_blkptr.specs.declared.pointer.SumKind.{SumKind}
 use Rattle.zio_blkptr.specs.declared.pointer.SumKind.TheVariants.{Off, Fletcher4, Sha256}
+use Rattle.zio_blkptr.specs.declared.pointer.TheConstants.{BLOCK_SIZE_MAX}
 
 -- The place is what stands in these two words, and both fit.
 pub record PlaceWords (p : Place) (u v : ℕ) : Type 0 where
@@ -68,24 +69,24 @@ gang_read sector gang fits = ap (λ n. n == 1) (gang_bit sector (bit gang) fits 
 -- ---- the word of properties, of a size in sectors less 1 and a checksum's number
 
 -- its lowest 16 bits are the size
-size_part : (n s : ℕ) → n < 256 → s < 16 → (n + n * 2 ^ 16 + 2 * 2 ^ 32 + s * 2 ^ 40 + 2 ^ 63) % 2 ^ 16 ≡ n
+size_part : (n s : ℕ) → n < 2 ^ 16 → s < 16 → (n + n * 2 ^ 16 + 2 * 2 ^ 32 + s * 2 ^ 40 + 2 ^ 63) % 2 ^ 16 ≡ n
 size_part n s small few = omega arith
 
 -- its bits 40 to 47 are the checksum's number
-sum_part : (n s : ℕ) → n < 256 → s < 16 → (n + n * 2 ^ 16 + 2 * 2 ^ 32 + s * 2 ^ 40 + 2 ^ 63) / 2 ^ 40 % 2 ^ 8 ≡ s
+sum_part : (n s : ℕ) → n < 2 ^ 16 → s < 16 → (n + n * 2 ^ 16 + 2 * 2 ^ 32 + s * 2 ^ 40 + 2 ^ 63) / 2 ^ 40 % 2 ^ 8 ≡ s
 sum_part n s small few = omega arith
 
-fits_part : (n s : ℕ) → n < 256 → s < 16 → n + n * 2 ^ 16 + 2 * 2 ^ 32 + s * 2 ^ 40 + 2 ^ 63 < 2 ^ 64
+fits_part : (n s : ℕ) → n < 2 ^ 16 → s < 16 → n + n * 2 ^ 16 + 2 * 2 ^ 32 + s * 2 ^ 40 + 2 ^ 63 < 2 ^ 64
 fits_part n s small few = omega arith
 
 -- The size is of whole sectors, up to the largest block's.
 pub record IsSize (size : ℕ) : Type 0 where
   pub whole : size % 512 ≡ 0
   pub low : 512 ≤ size
-  pub high : size ≤ 131072
+  pub high : size ≤ BLOCK_SIZE_MAX
 
--- a size in sectors less 1 is below 256
-pub few_sectors : (size : ℕ) → IsSize size → size / 512 - 1 < 256
+-- a size in sectors less 1 has 16 bits
+pub few_sectors : (size : ℕ) → IsSize size → size / 512 - 1 < 2 ^ 16
 few_sectors size h = omega arith
 
 pub sum_small : (sum : SumKind) → sum_number sum < 16

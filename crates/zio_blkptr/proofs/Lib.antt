@@ -6,3 +6,4 @@ pub mod FaultTests
 pub mod Faultless
 pub mod Fields
 pub mod PointerLemmas
+pub mod Roundings

@@ -10,7 +10,9 @@ use Rattle.std.proofs.lemmas.List.Folds.{length-prefix_len}
 use Rattle.zio_types.specs.declared.place.Place.{Place}
 use Rattle.zio_blkptr.specs.declared.pointer.Bp.{Bp}
 use Rattle.zio_blkptr.specs.declared.pointer.SumKind.{SumKind}
-use Rattle.zio_blkptr.specs.Pointers.{valid, is_absent, is_present, is_block_size, sectors_each, places_of, word, word_of, bit, has_sectors, place_fields, fields, spells, spelling, pointer_of, sum_of_number, FitsTypes, Spells}
+use Rattle.zio_blkptr.specs.declared.pointer.TheConstants.{BLOCK_SIZE_MAX, SECTOR_END, TOP_END}
+use Rattle.zio_blkptr.specs.Pointers.{valid, is_absent, is_present, is_block_size, is_rounding_of, sectors_stored, places_of, word, word_of, bit, has_sectors, place_fields, fields, spells, spelling, pointer_of, sum_of_number, FitsTypes, Spells}
+use Rattle.zio_blkptr.proofs.Roundings.{near_by_rounding}
 use Rattle.zio_blkptr.proofs.Words.{AllFit, words_read, word_of-fits}
 use Rattle.zio_blkptr.proofs.Fields.{PlaceWords, PlaceWords-present, PlaceWords-absent, place_field-words, IsSize, properties_of, properties-fit, size_read, sum_read, gang_read}
 
@@ -37,12 +39,12 @@ six_parts a b c d e f h =
 
 IsSize-from : (size : ℕ) → IsTrue (is_block_size size) → IsSize size
 IsSize-from size h =
-    let two = and_parts (size % 512 == 0 && nat_le 512 size) (nat_le size 131072) h in
+    let two = and_parts (size % 512 == 0 && nat_le 512 size) (nat_le size BLOCK_SIZE_MAX) h in
     let one = and_parts (size % 512 == 0) (nat_le 512 size) two.0 in
     record {
       whole = eqb-true (size % 512) 0 one.0;
       low = leb-true 512 size one.1;
-      high = leb-true size 131072 two.1;
+      high = leb-true size BLOCK_SIZE_MAX two.1;
     }
 
 pub valid_parts : (bp : Bp) → IsTrue (valid bp) → ValidParts bp
@@ -63,22 +65,24 @@ pub record IsInRange (p : Place) : Type 0 where
   pub top : p.top < 2 ^ 24
   pub sector : p.sector < 2 ^ 48
 
--- a gang's place has one sector, and any other the block's, of which there is at least one
-sectors_in_range : (gang : Bool) (size n : ℕ) → IsSize size → n ≡ cond gang 1 (size / 512) → (0 < n) × (n < 2 ^ 24)
-sectors_in_range true size n h e = (omega arith, omega arith)
-sectors_in_range false size n h e = (omega arith, omega arith)
+-- a place has at least one sector, and fewer than its field could hold
+sectors_in_range : (gang : Bool) (size n : ℕ) → IsSize size → IsTrue (is_rounding_of n (cond gang 1 (size / 512)))
+    → (0 < n) × (n < 2 ^ 24)
+sectors_in_range true size n h e = let near = near_by_rounding n 1 e in (omega arith, omega arith)
+sectors_in_range false size n h e = let near = near_by_rounding n (size / 512) e in (omega arith, omega arith)
 
 -- a place that a valid pointer counts is in range
 pub IsInRange-from : (bp : Bp) (p : Place) → IsSize bp.size → IsTrue (is_present bp p) → IsInRange p
 IsInRange-from bp p size h =
-    let two = and_parts (p.sectors == sectors_each bp && nat_lt p.top (2 ^ 24)) (nat_lt p.sector (2 ^ 48)) h in
-    let one = and_parts (p.sectors == sectors_each bp) (nat_lt p.top (2 ^ 24)) two.0 in
-    let sectors = sectors_in_range bp.gang bp.size p.sectors size (eqb-true p.sectors (sectors_each bp) one.0) in
+    let rounded = is_rounding_of p.sectors (sectors_stored bp) in
+    let two = and_parts (rounded && nat_lt p.top TOP_END) (nat_lt p.sector SECTOR_END) h in
+    let one = and_parts rounded (nat_lt p.top TOP_END) two.0 in
+    let sectors = sectors_in_range bp.gang bp.size p.sectors size one.0 in
     record {
       some = sectors.0;
       sectors = sectors.1;
-      top = ltb-true p.top (2 ^ 24) one.1;
-      sector = ltb-true p.sector (2 ^ 48) two.1;
+      top = ltb-true p.top TOP_END one.1;
+      sector = ltb-true p.sector SECTOR_END two.1;
     }
 
 -- All the place's fields are 0.
@@ -132,8 +136,8 @@ three_have p q r at_p at_q at_r = length-sectors p q r 3 (three_pass (has_sector
 -- ---- the fields of sixteen words
 
 -- the pointer of these fields
-abbrev pub made : ℕ → Place → Place → Place → Bool → ℕ → SumKind → ℕ → ℕ → ℕ → ℕ → ℕ → Bp
-made count p q r gang size sum birth a b c d = record {
+abbrev pub bp_with : ℕ → Place → Place → Place → Bool → ℕ → SumKind → ℕ → ℕ → ℕ → ℕ → ℕ → Bp
+bp_with count p q r gang size sum birth a b c d = record {
   count = count;
   places = p ∷ q ∷ r ∷ [];
   gang = gang;
@@ -153,7 +157,7 @@ fields-words : (bytes : List ℕ) (count : ℕ) (p q r : Place) (gang : Bool) (s
     → ((i : ℕ) → i < 16 → word_of bytes i ≡ get_or (sixteen u0 v0 u1 v1 u2 v2 (properties_of size sum) birth a b c d) i 0)
     → PlaceWords p u0 v0 → PlaceWords q u1 v1 → PlaceWords r u2 v2
     → length (take_while has_sectors (p ∷ q ∷ r ∷ [])) ≡ count → (v0 / 2 ^ 63 == 1) ≡ gang → IsSize size
-    → fields bytes ≡ made count p q r gang size sum birth a b c d
+    → fields bytes ≡ bp_with count p q r gang size sum birth a b c d
 fields-words bytes count p q r gang size sum birth a b c d u0 v0 u1 v1 u2 v2 at at_p at_q at_r counted gang_is size_ok =
     let p_is = place_field-words bytes 0 p u0 v0 at_p (at 0 (omega arith)) (at 1 (omega arith)) in
     let q_is = place_field-words bytes 1 q u1 v1 at_q (at 2 (omega arith)) (at 3 (omega arith)) in
@@ -205,7 +209,7 @@ fields-sixteen : (count : ℕ) (p q r : Place) (gang : Bool) (size : ℕ) (sum :
     → PlaceWords p u0 v0 → PlaceWords q u1 v1 → PlaceWords r u2 v2
     → length (take_while has_sectors (p ∷ q ∷ r ∷ [])) ≡ count → (v0 / 2 ^ 63 == 1) ≡ gang → IsSize size
     → birth < 2 ^ 64 → AllFit (a ∷ b ∷ c ∷ d ∷ [])
-    → fields (flat_map word (sixteen u0 v0 u1 v1 u2 v2 (properties_of size sum) birth a b c d)) ≡ made count p q r gang size sum birth a b c d
+    → fields (flat_map word (sixteen u0 v0 u1 v1 u2 v2 (properties_of size sum) birth a b c d)) ≡ bp_with count p q r gang size sum birth a b c d
 fields-sixteen count p q r gang size sum birth a b c d u0 v0 u1 v1 u2 v2 at_p at_q at_r counted gang_is size_ok birth_fits words_fit =
     let ws = sixteen u0 v0 u1 v1 u2 v2 (properties_of size sum) birth a b c d in
     fields-words (flat_map word ws) count p q r gang size sum birth a b c d u0 v0 u1 v1 u2 v2 (words_read ws (sixteen-fit p q r size sum birth a b c d u0 v0 u1 v1 u2 v2 at_p at_q at_r size_ok birth_fits words_fit)) at_p at_q at_r counted gang_is size_ok
@@ -225,19 +229,19 @@ words_of_none p h = PlaceWords-absent p h.sectors h.top h.sector
 
 -- a pointer with one place is spelled by these words
 pub spelling-one : (p q r : Place) (gang : Bool) (size : ℕ) (sum : SumKind) (birth a b c d : ℕ)
-    → spelling (made 1 p q r gang size sum birth a b c d)
+    → spelling (bp_with 1 p q r gang size sum birth a b c d)
     ≡ flat_map word (sixteen (first_of p) (second_of gang p) 0 0 0 0 (properties_of size sum) birth a b c d)
 spelling-one p q r gang size sum birth a b c d = refl
 
 -- with two places
 pub spelling-two : (p q r : Place) (gang : Bool) (size : ℕ) (sum : SumKind) (birth a b c d : ℕ)
-    → spelling (made 2 p q r gang size sum birth a b c d)
+    → spelling (bp_with 2 p q r gang size sum birth a b c d)
     ≡ flat_map word (sixteen (first_of p) (second_of gang p) (first_of q) (second_of gang q) 0 0 (properties_of size sum) birth a b c d)
 spelling-two p q r gang size sum birth a b c d = refl
 
 -- with three places
 pub spelling-three : (p q r : Place) (gang : Bool) (size : ℕ) (sum : SumKind) (birth a b c d : ℕ)
-    → spelling (made 3 p q r gang size sum birth a b c d)
+    → spelling (bp_with 3 p q r gang size sum birth a b c d)
     ≡ flat_map word (sixteen (first_of p) (second_of gang p) (first_of q) (second_of gang q) (first_of r) (second_of gang r) (properties_of size sum) birth a b c d)
 spelling-three p q r gang size sum birth a b c d = refl
 
@@ -249,11 +253,11 @@ record IsReadBack (bp : Bp) : Type 0 where
   pub long : length (spelling bp) ≡ 128
 
 read_one : (p q r : Place) (gang : Bool) (size : ℕ) (sum : SumKind) (birth a b c d : ℕ)
-    → ValidParts (made 1 p q r gang size sum birth a b c d)
+    → ValidParts (bp_with 1 p q r gang size sum birth a b c d)
     → birth < 2 ^ 64 → AllFit (a ∷ b ∷ c ∷ d ∷ [])
-    → IsReadBack (made 1 p q r gang size sum birth a b c d)
+    → IsReadBack (bp_with 1 p q r gang size sum birth a b c d)
 read_one p q r gang size sum birth a b c d ok birth_fits words_fit =
-    let bp = made 1 p q r gang size sum birth a b c d in
+    let bp = bp_with 1 p q r gang size sum birth a b c d in
     let present = and_parts (is_present bp p) true ok.present in
     let absent = and_parts (is_absent q) (is_absent r && true) ok.absent in
     let at_p = IsInRange-from bp p ok.size present.0 in
@@ -265,11 +269,11 @@ read_one p q r gang size sum birth a b c d ok birth_fits words_fit =
     record { again = ap fields (spelling-one p q r gang size sum birth a b c d) ∙ again; long = refl }
 
 read_two : (p q r : Place) (gang : Bool) (size : ℕ) (sum : SumKind) (birth a b c d : ℕ)
-    → ValidParts (made 2 p q r gang size sum birth a b c d)
+    → ValidParts (bp_with 2 p q r gang size sum birth a b c d)
     → birth < 2 ^ 64 → AllFit (a ∷ b ∷ c ∷ d ∷ [])
-    → IsReadBack (made 2 p q r gang size sum birth a b c d)
+    → IsReadBack (bp_with 2 p q r gang size sum birth a b c d)
 read_two p q r gang size sum birth a b c d ok birth_fits words_fit =
-    let bp = made 2 p q r gang size sum birth a b c d in
+    let bp = bp_with 2 p q r gang size sum birth a b c d in
     let present = and_parts (is_present bp p) (is_present bp q && true) ok.present in
     let at_p = IsInRange-from bp p ok.size present.0 in
     let at_q = IsInRange-from bp q ok.size (and_parts (is_present bp q) true present.1).0 in
@@ -280,11 +284,11 @@ read_two p q r gang size sum birth a b c d ok birth_fits words_fit =
     record { again = ap fields (spelling-two p q r gang size sum birth a b c d) ∙ again; long = refl }
 
 read_three : (p q r : Place) (gang : Bool) (size : ℕ) (sum : SumKind) (birth a b c d : ℕ)
-    → ValidParts (made 3 p q r gang size sum birth a b c d)
+    → ValidParts (bp_with 3 p q r gang size sum birth a b c d)
     → birth < 2 ^ 64 → AllFit (a ∷ b ∷ c ∷ d ∷ [])
-    → IsReadBack (made 3 p q r gang size sum birth a b c d)
+    → IsReadBack (bp_with 3 p q r gang size sum birth a b c d)
 read_three p q r gang size sum birth a b c d ok birth_fits words_fit =
-    let bp = made 3 p q r gang size sum birth a b c d in
+    let bp = bp_with 3 p q r gang size sum birth a b c d in
     let first = and_parts (is_present bp p) (is_present bp q && (is_present bp r && true)) ok.present in
     let second = and_parts (is_present bp q) (is_present bp r && true) first.1 in
     let at_p = IsInRange-from bp p ok.size first.0 in
@@ -296,18 +300,18 @@ read_three p q r gang size sum birth a b c d ok birth_fits words_fit =
     record { again = ap fields (spelling-three p q r gang size sum birth a b c d) ∙ again; long = refl }
 
 -- a valid pointer has one, two or three places
-read_made : (count : ℕ) (p q r : Place) (gang : Bool) (size : ℕ) (sum : SumKind) (birth a b c d : ℕ)
-    → ValidParts (made count p q r gang size sum birth a b c d)
+read-bp_with : (count : ℕ) (p q r : Place) (gang : Bool) (size : ℕ) (sum : SumKind) (birth a b c d : ℕ)
+    → ValidParts (bp_with count p q r gang size sum birth a b c d)
     → birth < 2 ^ 64 → AllFit (a ∷ b ∷ c ∷ d ∷ [])
-    → IsReadBack (made count p q r gang size sum birth a b c d)
-read_made zero p q r gang size sum birth a b c d ok birth_fits words_fit = absurd (omega (arith, ok.low))
-read_made (suc zero) p q r gang size sum birth a b c d ok birth_fits words_fit =
+    → IsReadBack (bp_with count p q r gang size sum birth a b c d)
+read-bp_with zero p q r gang size sum birth a b c d ok birth_fits words_fit = absurd (omega (arith, ok.low))
+read-bp_with (suc zero) p q r gang size sum birth a b c d ok birth_fits words_fit =
     read_one p q r gang size sum birth a b c d ok birth_fits words_fit
-read_made (suc (suc zero)) p q r gang size sum birth a b c d ok birth_fits words_fit =
+read-bp_with (suc (suc zero)) p q r gang size sum birth a b c d ok birth_fits words_fit =
     read_two p q r gang size sum birth a b c d ok birth_fits words_fit
-read_made (suc (suc (suc zero))) p q r gang size sum birth a b c d ok birth_fits words_fit =
+read-bp_with (suc (suc (suc zero))) p q r gang size sum birth a b c d ok birth_fits words_fit =
     read_three p q r gang size sum birth a b c d ok birth_fits words_fit
-read_made (suc (suc (suc (suc n)))) p q r gang size sum birth a b c d ok birth_fits words_fit = absurd (omega (arith, ok.high))
+read-bp_with (suc (suc (suc (suc n)))) p q r gang size sum birth a b c d ok birth_fits words_fit = absurd (omega (arith, ok.high))
 
 -- the pointer with these places and words
 abbrev pub with_lists : Bp → List Place → List ℕ → Bp
@@ -323,7 +327,7 @@ read_words bp p q r (a ∷ []) l ok birth_fits words_fit = absurd (omega (arith,
 read_words bp p q r (a ∷ b ∷ []) l ok birth_fits words_fit = absurd (omega (arith, l))
 read_words bp p q r (a ∷ b ∷ c ∷ []) l ok birth_fits words_fit = absurd (omega (arith, l))
 read_words bp p q r (a ∷ b ∷ c ∷ d ∷ []) l ok birth_fits words_fit =
-    read_made bp.count p q r bp.gang bp.size bp.sum bp.birth a b c d ok birth_fits words_fit
+    read-bp_with bp.count p q r bp.gang bp.size bp.sum bp.birth a b c d ok birth_fits words_fit
 read_words bp p q r (a ∷ b ∷ c ∷ d ∷ e ∷ words) l ok birth_fits words_fit = absurd (omega (arith, l))
 
 -- and it has room for three places

@@ -6,9 +6,10 @@ use Rattle.std.specs.List.{flat_map, list_all}
 use Rattle.zio_types.specs.declared.place.Place.{Place}
 use Rattle.zio_blkptr.specs.declared.pointer.Bp.{Bp}
 use Rattle.zio_blkptr.specs.declared.pointer.SumKind.{SumKind}
-use Rattle.zio_blkptr.specs.Pointers.{valid, is_absent, is_present, sectors_each, word, bit, properties, spelling}
+use Rattle.zio_blkptr.specs.declared.pointer.TheConstants.{SECTOR_END, TOP_END}
+use Rattle.zio_blkptr.specs.Pointers.{valid, is_absent, is_present, is_rounding_of, sectors_stored, word, bit, properties, spelling}
 use Rattle.zio_blkptr.proofs.Fields.{properties_of}
-use Rattle.zio_blkptr.proofs.PointerLemmas.{ValidParts, valid_parts, IsInRange, IsInRange-from, IsZero, IsZero-from, made, with_lists, first_of, second_of, spelling-one, spelling-two, spelling-three}
+use Rattle.zio_blkptr.proofs.PointerLemmas.{ValidParts, valid_parts, IsInRange, IsInRange-from, IsZero, IsZero-from, bp_with, with_lists, first_of, second_of, spelling-one, spelling-two, spelling-three}
 
 abbrev pub zero_place : Place
 zero_place = record { top = 0; sector = 0; sectors = 0 }
@@ -26,8 +27,8 @@ place_small bp zero (p ∷ ps) h k (suc i) = place_small bp zero ps refl (and_pa
 place_small bp (suc n) [] h k i = omega arith
 place_small bp (suc n) (p ∷ ps) h k zero =
     let present = and_parts (is_present bp p) (list_all (is_present bp) (take n ps)) h in
-    let two = and_parts (p.sectors == sectors_each bp && nat_lt p.top (2 ^ 24)) (nat_lt p.sector (2 ^ 48)) present.0 in
-    ltb-true p.sector (2 ^ 48) two.1
+    let front = is_rounding_of p.sectors (sectors_stored bp) && nat_lt p.top TOP_END in
+    ltb-true p.sector SECTOR_END (and_parts front (nat_lt p.sector SECTOR_END) present.0).1
 place_small bp (suc n) (p ∷ ps) h k (suc i) =
     place_small bp n ps (and_parts (is_present bp p) (list_all (is_present bp) (take n ps)) h).1 k i
 
@@ -59,10 +60,10 @@ sixteen_of p q r gang props birth a b c d =
     ∷ 0 ∷ 0 ∷ 0 ∷ birth ∷ 1 ∷ a ∷ b ∷ c ∷ d ∷ []
 
 one_spelled : (p q r : Place) (gang : Bool) (size : ℕ) (sum : SumKind) (birth a b c d : ℕ)
-    → ValidParts (made 1 p q r gang size sum birth a b c d)
-    → flat_map word (sixteen_of p q r gang (properties_of size sum) birth a b c d) ≡ spelling (made 1 p q r gang size sum birth a b c d)
+    → ValidParts (bp_with 1 p q r gang size sum birth a b c d)
+    → flat_map word (sixteen_of p q r gang (properties_of size sum) birth a b c d) ≡ spelling (bp_with 1 p q r gang size sum birth a b c d)
 one_spelled p q r gang size sum birth a b c d ok =
-    let bp = made 1 p q r gang size sum birth a b c d in
+    let bp = bp_with 1 p q r gang size sum birth a b c d in
     let absent = and_parts (is_absent q) (is_absent r && true) ok.absent in
     let at_p = IsInRange-from bp p ok.size (and_parts (is_present bp p) true ok.present).0 in
     let at_q = IsZero-from q absent.0 in
@@ -75,10 +76,10 @@ one_spelled p q r gang size sum birth a b c d ok =
     ∙ sym (spelling-one p q r gang size sum birth a b c d)
 
 two_spelled : (p q r : Place) (gang : Bool) (size : ℕ) (sum : SumKind) (birth a b c d : ℕ)
-    → ValidParts (made 2 p q r gang size sum birth a b c d)
-    → flat_map word (sixteen_of p q r gang (properties_of size sum) birth a b c d) ≡ spelling (made 2 p q r gang size sum birth a b c d)
+    → ValidParts (bp_with 2 p q r gang size sum birth a b c d)
+    → flat_map word (sixteen_of p q r gang (properties_of size sum) birth a b c d) ≡ spelling (bp_with 2 p q r gang size sum birth a b c d)
 two_spelled p q r gang size sum birth a b c d ok =
-    let bp = made 2 p q r gang size sum birth a b c d in
+    let bp = bp_with 2 p q r gang size sum birth a b c d in
     let present = and_parts (is_present bp p) (is_present bp q && true) ok.present in
     let at_p = IsInRange-from bp p ok.size present.0 in
     let at_q = IsInRange-from bp q ok.size (and_parts (is_present bp q) true present.1).0 in
@@ -91,10 +92,10 @@ two_spelled p q r gang size sum birth a b c d ok =
     ∙ sym (spelling-two p q r gang size sum birth a b c d)
 
 three_spelled : (p q r : Place) (gang : Bool) (size : ℕ) (sum : SumKind) (birth a b c d : ℕ)
-    → ValidParts (made 3 p q r gang size sum birth a b c d)
-    → flat_map word (sixteen_of p q r gang (properties_of size sum) birth a b c d) ≡ spelling (made 3 p q r gang size sum birth a b c d)
+    → ValidParts (bp_with 3 p q r gang size sum birth a b c d)
+    → flat_map word (sixteen_of p q r gang (properties_of size sum) birth a b c d) ≡ spelling (bp_with 3 p q r gang size sum birth a b c d)
 three_spelled p q r gang size sum birth a b c d ok =
-    let bp = made 3 p q r gang size sum birth a b c d in
+    let bp = bp_with 3 p q r gang size sum birth a b c d in
     let first = and_parts (is_present bp p) (is_present bp q && (is_present bp r && true)) ok.present in
     let second = and_parts (is_present bp q) (is_present bp r && true) first.1 in
     let at_p = IsInRange-from bp p ok.size first.0 in
@@ -107,14 +108,14 @@ three_spelled p q r gang size sum birth a b c d ok =
     ))
     ∙ sym (spelling-three p q r gang size sum birth a b c d)
 
-made_spelled : (count : ℕ) (p q r : Place) (gang : Bool) (size : ℕ) (sum : SumKind) (birth a b c d : ℕ)
-    → ValidParts (made count p q r gang size sum birth a b c d)
-    → flat_map word (sixteen_of p q r gang (properties_of size sum) birth a b c d) ≡ spelling (made count p q r gang size sum birth a b c d)
-made_spelled zero p q r gang size sum birth a b c d ok = absurd (omega (arith, ok.low))
-made_spelled (suc zero) p q r gang size sum birth a b c d ok = one_spelled p q r gang size sum birth a b c d ok
-made_spelled (suc (suc zero)) p q r gang size sum birth a b c d ok = two_spelled p q r gang size sum birth a b c d ok
-made_spelled (suc (suc (suc zero))) p q r gang size sum birth a b c d ok = three_spelled p q r gang size sum birth a b c d ok
-made_spelled (suc (suc (suc (suc n)))) p q r gang size sum birth a b c d ok = absurd (omega (arith, ok.high))
+spelled-bp_with : (count : ℕ) (p q r : Place) (gang : Bool) (size : ℕ) (sum : SumKind) (birth a b c d : ℕ)
+    → ValidParts (bp_with count p q r gang size sum birth a b c d)
+    → flat_map word (sixteen_of p q r gang (properties_of size sum) birth a b c d) ≡ spelling (bp_with count p q r gang size sum birth a b c d)
+spelled-bp_with zero p q r gang size sum birth a b c d ok = absurd (omega (arith, ok.low))
+spelled-bp_with (suc zero) p q r gang size sum birth a b c d ok = one_spelled p q r gang size sum birth a b c d ok
+spelled-bp_with (suc (suc zero)) p q r gang size sum birth a b c d ok = two_spelled p q r gang size sum birth a b c d ok
+spelled-bp_with (suc (suc (suc zero))) p q r gang size sum birth a b c d ok = three_spelled p q r gang size sum birth a b c d ok
+spelled-bp_with (suc (suc (suc (suc n)))) p q r gang size sum birth a b c d ok = absurd (omega (arith, ok.high))
 
 -- the words of a pointer with these lists
 abbrev pub words_of : Bp → List Place → List ℕ → List ℕ
@@ -129,7 +130,7 @@ words_spelled bp p q r [] l ok = absurd (omega (arith, l))
 words_spelled bp p q r (a ∷ []) l ok = absurd (omega (arith, l))
 words_spelled bp p q r (a ∷ b ∷ []) l ok = absurd (omega (arith, l))
 words_spelled bp p q r (a ∷ b ∷ c ∷ []) l ok = absurd (omega (arith, l))
-words_spelled bp p q r (a ∷ b ∷ c ∷ d ∷ []) l ok = made_spelled bp.count p q r bp.gang bp.size bp.sum bp.birth a b c d ok
+words_spelled bp p q r (a ∷ b ∷ c ∷ d ∷ []) l ok = spelled-bp_with bp.count p q r bp.gang bp.size bp.sum bp.birth a b c d ok
 words_spelled bp p q r (a ∷ b ∷ c ∷ d ∷ e ∷ words) l ok = absurd (omega (arith, l))
 
 lists_spelled : (bp : Bp) (places : List Place) (words : List ℕ) → length places ≡ 3 → length words ≡ 4

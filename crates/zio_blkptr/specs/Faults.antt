@@ -4,7 +4,10 @@ use Rattle.std.specs.Prelude.{ℕ, ◌+◌, ◌*◌, ◌/◌, ◌%◌, ◌^◌, 
 use Rattle.zio_types.specs.Places.{sector_size}
 use Rattle.zio_blkptr.specs.declared.pointer.BpFault.{BpFault}
 use Rattle.zio_blkptr.specs.declared.pointer.BpFault.TheVariants.{Order, Field, Size, Dva}
-use Rattle.zio_blkptr.specs.Pointers.{block_size_max, word_of}
+use Rattle.zio_blkptr.specs.declared.parts.TheConstants.{COMPRESSION_OFF}
+use Rattle.zio_blkptr.specs.declared.pointer.SumKind.TheVariants.{Off, Fletcher4, Sha256}
+use Rattle.zio_blkptr.specs.declared.pointer.TheConstants.{BLOCK_SIZE_MAX, SECTOR_END}
+use Rattle.zio_blkptr.specs.Pointers.{word_of, is_rounding_of, sum_number}
 
 -- ---- the parts of a word
 
@@ -66,14 +69,14 @@ gang_bit w = bits w 63 1
 abbrev pub has_order_fault : List ℕ → Bool
 has_order_fault bytes = byte_order (word_of bytes 6) == 0
 
--- the numbers of off, fletcher4 and SHA-256
+-- the number of a checksum kind
 abbrev pub is_sum_number : ℕ → Bool
-is_sum_number n = (n == 2) || (n == 7) || (n == 8)
+is_sum_number n = (n == sum_number Off) || (n == sum_number Fletcher4) || (n == sum_number Sha256)
 
 -- compression is off, the checksum is one of the three, and all else is zero
 abbrev pub has_fixed_properties : ℕ → Bool
 has_fixed_properties w =
-    (compression w == 2) && (embedded w == 0) && is_sum_number (checksum w) && (content_type w == 0)
+    (compression w == COMPRESSION_OFF) && (embedded w == 0) && is_sum_number (checksum w) && (content_type w == 0)
     && (level w == 0) && (encrypted w == 0) && (dedup w == 0)
 
 -- three words are zero, there is a birth, and the fill is 1
@@ -85,13 +88,14 @@ are_fixed_words seven eight nine birth fill =
 abbrev pub has_field_fault : List ℕ → Bool
 has_field_fault bytes = not (
     has_fixed_properties (word_of bytes 6)
-    && are_fixed_words (word_of bytes 7) (word_of bytes 8) (word_of bytes 9) (word_of bytes 10) (word_of bytes 11)
+    && are_fixed_words
+    (word_of bytes 7) (word_of bytes 8) (word_of bytes 9) (word_of bytes 10) (word_of bytes 11)
     )
 
 -- the sizes are equal and not too large
 abbrev pub has_fitting_size : ℕ → Bool
 has_fitting_size w =
-    (logical_size w == physical_size w) && nat_le ((logical_size w + 1) * sector_size) block_size_max
+    (logical_size w == physical_size w) && nat_le ((logical_size w + 1) * sector_size) BLOCK_SIZE_MAX
 
 -- the sizes differ or are too large
 abbrev pub has_size_fault : List ℕ → Bool
@@ -101,31 +105,34 @@ has_size_fault bytes = not (has_fitting_size (word_of bytes 6))
 abbrev pub has_place : List ℕ → ℕ → Bool
 has_place bytes i = nat_lt 0 (place_sectors (word_of bytes (2 * i)))
 
--- how many sectors each place has
-abbrev pub sectors_wanted : List ℕ → ℕ
-sectors_wanted bytes = if gang_bit (word_of bytes 1) == 1 then 1 else logical_size (word_of bytes 6) + 1
+-- the sectors of what lies at a place with this second word: a header by its own gang bit, else the block
+abbrev pub sectors_at : ℕ → ℕ → ℕ
+sectors_at v properties = if gang_bit v == 1 then 1 else logical_size properties + 1
 
--- two words of a place with so many sectors and this gang bit, its other bits zero
+-- two words of a place that stores so many sectors, rounded up, with this gang bit, its other bits zero
 abbrev pub is_place_of : ℕ → ℕ → ℕ → ℕ → Bool
-is_place_of sectors gang u v =
-    (place_sectors u == sectors) && (grid u == 0) && (above_top u == 0)
-    && nat_lt (place_sector v) (2 ^ 48) && (gang_bit v == gang)
+is_place_of stored gang u v =
+    is_rounding_of (place_sectors u) stored && (grid u == 0) && (above_top u == 0)
+    && nat_lt (place_sector v) SECTOR_END && (gang_bit v == gang)
 
 -- two words of no place
 abbrev pub is_no_place : ℕ → ℕ → Bool
 is_no_place u v = (u == 0) && (v == 0)
 
--- place i has the sectors wanted and the gang bit of the first, or both its words are zero
+-- place i is one of this block with the gang bit of the first, or both its words are zero
 abbrev pub is_good_place : List ℕ → ℕ → Bool
 is_good_place bytes i =
     if has_place bytes i
-    then is_place_of (sectors_wanted bytes) (gang_bit (word_of bytes 1)) (word_of bytes (2 * i)) (word_of bytes (2 * i + 1))
+    then is_place_of
+    (sectors_at (word_of bytes (2 * i + 1)) (word_of bytes 6)) (gang_bit (word_of bytes 1))
+    (word_of bytes (2 * i)) (word_of bytes (2 * i + 1))
     else is_no_place (word_of bytes (2 * i)) (word_of bytes (2 * i + 1))
 
 -- there is a first place, and no third without a second
 abbrev pub has_places_in_front : List ℕ → Bool
 has_places_in_front bytes = has_place bytes 0 && (has_place bytes 1 || not (has_place bytes 2))
 
+-- each of the three places is good
 abbrev pub are_good_places : List ℕ → Bool
 are_good_places bytes = is_good_place bytes 0 && is_good_place bytes 1 && is_good_place bytes 2
 

@@ -1,43 +1,51 @@
--- Which block pointers are valid, the 128 bytes that spell one, and the pointer that bytes spell. The table of
--- the words stands in docs/FORMATS.md, "Block pointer".
+-- Which block pointers are valid, the 128 bytes that spell one, and the pointer that bytes spell. The table
+-- of the words stands in docs/FORMATS.md, "Block pointer".
 use Rattle.std.specs.Prelude.{◌≡◌, ℕ, ◌+◌, ◌-◌, ◌*◌, ◌/◌, ◌%◌, ◌^◌, ◌<◌, List, [], ◌∷◌, ◌++◌, length, take, drop, replicate, Bool, true, false, ◌&&◌, Option, ◌==◌, nat_lt, nat_le, bytes_eq, take_while, if◌then◌else◌, IsTrue}
 use Rattle.std.specs.Bool.{then_some}
 use Rattle.std.specs.Int.{w64, to_le_bytes, from_le_bytes}
-use Rattle.std.specs.List.{list_all, flat_map, AllByRecursion}
+use Rattle.std.specs.List.{list_all, list_any, flat_map, AllByRecursion}
 use Rattle.zio_types.specs.declared.place.Place.{Place}
 use Rattle.zio_types.specs.Filled.{filled_to}
-use Rattle.zio_types.specs.Places.{sector_size}
+use Rattle.zio_types.specs.Places.{rounded_to, sector_size}
+use Rattle.zio_blkptr.specs.declared.parts.TheConstants.{COMPRESSION_OFF, LITTLE_ENDIAN}
 use Rattle.zio_blkptr.specs.declared.pointer.Bp.{Bp}
 use Rattle.zio_blkptr.specs.declared.pointer.SumKind.{SumKind}
 use Rattle.zio_blkptr.specs.declared.pointer.SumKind.TheVariants.{Off, Fletcher4, Sha256}
-
--- the largest block, in bytes
-abbrev pub block_size_max : ℕ
-block_size_max = 131072
+use Rattle.zio_blkptr.specs.declared.pointer.TheConstants.{BLOCK_SIZE_MAX, PLACES_MAX, SECTOR_END, TOP_END}
 
 -- the places that the pointer counts
 abbrev pub places_of : Bp → List Place
 places_of bp = take bp.count bp.places
 
--- how many sectors each of its places has: a gang's hold its header
-abbrev pub sectors_each : Bp → ℕ
-sectors_each bp = if bp.gang then 1 else bp.size / sector_size
+-- ---- how many sectors a place has
+
+-- so many sectors are n, rounded up to a multiple of 1, 2, 4 or 8
+abbrev pub is_rounding_of : ℕ → ℕ → Bool
+is_rounding_of sectors n = list_any (λ unit. sectors == rounded_to unit n) (1 ∷ 2 ∷ 4 ∷ 8 ∷ [])
+
+-- the sectors of what lies at each place: a gang's header, or the whole block
+abbrev pub sectors_stored : Bp → ℕ
+sectors_stored bp = if bp.gang then 1 else bp.size / sector_size
 
 -- ---- validity
 
+-- a place that isn't there: all its fields are zero
 abbrev pub is_absent : Place → Bool
 is_absent p = (p.sectors == 0) && (p.top == 0) && (p.sector == 0)
 
+-- a place of the pointer: it has a rounding of its own, and its top and its first sector are in range
 abbrev pub is_present : Bp → Place → Bool
-is_present bp p = (p.sectors == sectors_each bp) && nat_lt p.top (2 ^ 24) && nat_lt p.sector (2 ^ 48)
+is_present bp p =
+    is_rounding_of p.sectors (sectors_stored bp) && nat_lt p.top TOP_END && nat_lt p.sector SECTOR_END
 
 -- a size of whole sectors, up to the largest block's
 abbrev pub is_block_size : ℕ → Bool
-is_block_size size = (size % sector_size == 0) && nat_le sector_size size && nat_le size block_size_max
+is_block_size size = (size % sector_size == 0) && nat_le sector_size size && nat_le size BLOCK_SIZE_MAX
 
+-- one to three places and nothing behind them, a block's size, and a birth
 abbrev pub valid : Bp → Bool
 valid bp =
-    nat_le 1 bp.count && nat_le bp.count 3
+    nat_le 1 bp.count && nat_le bp.count PLACES_MAX
     && list_all (is_present bp) (places_of bp) && list_all is_absent (drop bp.count bp.places)
     && is_block_size bp.size && nat_le 1 bp.birth
 
@@ -47,10 +55,12 @@ valid bp =
 abbrev pub word : ℕ → List ℕ
 word n = to_le_bytes w64 n
 
+-- the gang bit
 abbrev pub bit : Bool → ℕ
 bit false = 0
 bit true = 1
 
+-- the number of a checksum kind
 abbrev pub sum_number : SumKind → ℕ
 sum_number Off = 2
 sum_number Fletcher4 = 7
@@ -63,10 +73,11 @@ place_spelling gang p = word (p.sectors + p.top * 2 ^ 32) ++ word (p.sector + bi
 -- both sizes in sectors less 1, compression off, the checksum's number, and the byte order
 abbrev pub properties : Bp → ℕ
 properties bp =
-    (bp.size / sector_size - 1) + (bp.size / sector_size - 1) * 2 ^ 16 + 2 * 2 ^ 32
-    + sum_number bp.sum * 2 ^ 40 + 2 ^ 63
+    (bp.size / sector_size - 1) + (bp.size / sector_size - 1) * 2 ^ 16 + COMPRESSION_OFF * 2 ^ 32
+    + sum_number bp.sum * 2 ^ 40 + LITTLE_ENDIAN * 2 ^ 63
 
--- the 128 bytes of a pointer: three places, the properties, three words of 0, the birth, the fill of 1, and the checksum
+-- the 128 bytes of a pointer: three places, the properties, three words of 0, the birth, the fill of 1, and
+-- the checksum
 abbrev pub spelling : Bp → List ℕ
 spelling bp =
     filled_to 0 48 (flat_map (place_spelling bp.gang) (places_of bp))
@@ -78,8 +89,10 @@ spelling bp =
 abbrev pub word_of : List ℕ → ℕ → ℕ
 word_of bytes i = from_le_bytes w64 (take 8 (drop (8 * i) bytes))
 
+-- the checksum kind of a number
 abbrev pub sum_of_number : ℕ → SumKind
-sum_of_number n = if n == 7 then Fletcher4 else (if n == 8 then Sha256 else Off)
+sum_of_number n =
+    if n == sum_number Fletcher4 then Fletcher4 else (if n == sum_number Sha256 then Sha256 else Off)
 
 -- place i by its two words
 abbrev pub place_field : List ℕ → ℕ → Place
@@ -89,9 +102,11 @@ place_field bytes i = record {
   sectors = word_of bytes (2 * i) % 2 ^ 24;
 }
 
+-- the three places
 abbrev pub place_fields : List ℕ → List Place
 place_fields bytes = place_field bytes 0 ∷ place_field bytes 1 ∷ place_field bytes 2 ∷ []
 
+-- the place is there
 abbrev pub has_sectors : Place → Bool
 has_sectors p = nat_lt 0 p.sectors
 
@@ -117,6 +132,7 @@ pointer_of bytes = then_some (spells (fields bytes) bytes) (fields bytes)
 
 -- ---- what the types of a pointer's fields say of it
 
+-- Three places, four words of a checksum, and each word below 2^64.
 pub record FitsTypes (bp : Bp) : Type 0 where
   pub places : length bp.places ≡ 3
   pub birth : bp.birth < 2 ^ 64

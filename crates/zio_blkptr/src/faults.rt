@@ -1,6 +1,6 @@
-ghost use Rattle.std.specs.Prelude.{◌≡◌, ◌<◌, ◌≤◌, Some, None, Err, MatchOption, MatchResult, IsOk, length, take_while};
+ghost use Rattle.std.specs.Prelude.{◌≡◌, ◌^◌, ◌<◌, ◌≤◌, Some, None, Err, MatchOption, MatchResult, IsOk, length, take_while};
 ghost use Rattle.zio_blkptr.specs.Pointers.{fields, has_sectors, place_field, pointer_of, sum_of_number};
-ghost use Rattle.zio_blkptr.specs.Faults.{first_fault, has_order_fault, has_field_fault, has_size_fault, has_dva_fault, is_sum_number, has_fixed_properties, are_fixed_words, has_places_in_front, are_good_places, has_place, is_good_place, is_place_of, is_no_place, sectors_wanted};
+ghost use Rattle.zio_blkptr.specs.Faults.{first_fault, has_order_fault, has_field_fault, has_size_fault, has_dva_fault, is_sum_number, has_fixed_properties, are_fixed_words, has_places_in_front, are_good_places, has_place, is_good_place, is_place_of, is_no_place, sectors_at};
 
 use crate::packing::word_of;
 use crate::parts::{
@@ -8,13 +8,16 @@ use crate::parts::{
     dedup, embedded, encrypted, gang_bit, grid, level, logical_size, physical_size, place_sector,
     place_sectors, place_top,
 };
-use crate::pointer::{BLOCK_SIZE_MAX, Bp, BpFault, SumKind};
+use crate::pointer::{BLOCK_SIZE_MAX, Bp, BpFault, SECTOR_END, SumKind, is_rounding_of};
+use crate::spelling::sum_number;
 use zio_types::{Place, SECTOR_SIZE};
 
 /// The valid pointer that the bytes spell. Where they spell none, the first of their faults in the order of
 /// `BpFault`: docs/FORMATS.md, "Block pointer".
 pub fn decode(bytes: &[u8; 128]) -> Result<Bp, BpFault>
-    ensures pointer { MatchResult result (λ bp. pointer_of bytes.now ≡ Some bp) (λ f. pointer_of bytes.now ≡ None) }
+    ensures pointer { MatchResult result
+        (λ bp. pointer_of bytes.now ≡ Some bp)
+        (λ f. pointer_of bytes.now ≡ None) }
     ensures fault { MatchOption (first_fault bytes.now) (IsOk result) (λ f. result ≡ Err f) }
 {
     match first_fault(bytes) {
@@ -58,7 +61,8 @@ fn has_field_fault(bytes: &[u8; 128]) -> bool
     !(has_fixed_properties(word_of(bytes, 6)) && fixed)
 }
 
-// Compression is off, the checksum is one of the three, and embedded, type, level, encrypted and dedup are zero.
+// Compression is off, the checksum is one of the three, and embedded, type, level, encrypted and dedup are
+// zero.
 fn has_fixed_properties(properties: u64) -> bool
     ensures { result ≡ has_fixed_properties properties }
 {
@@ -74,7 +78,9 @@ fn has_fixed_properties(properties: u64) -> bool
 fn is_sum_number(number: u64) -> bool
     ensures { result ≡ is_sum_number number }
 {
-    number == 2 || number == 7 || number == 8
+    number == sum_number(SumKind::Off)
+        || number == sum_number(SumKind::Fletcher4)
+        || number == sum_number(SumKind::Sha256)
 }
 
 // Three words are zero, there is a birth, and the fill is 1.
@@ -125,35 +131,34 @@ fn is_good_place(bytes: &[u8; 128], i: usize) -> bool
     let first = word_of(bytes, 2 * i);
     let second = word_of(bytes, 2 * i + 1);
     if has_place(bytes, i) {
-        is_place_of(
-            sectors_wanted(bytes),
-            gang_bit(word_of(bytes, 1)),
-            first,
-            second,
-        )
+        let stored = sectors_at(second, word_of(bytes, 6));
+        is_place_of(stored, gang_bit(word_of(bytes, 1)), first, second)
     } else {
         first == 0 && second == 0
     }
 }
 
-fn sectors_wanted(bytes: &[u8; 128]) -> u64
-    ensures { result ≡ sectors_wanted bytes.now }
+// A gang's place holds its header, and the place's own bit says whether it is one.
+fn sectors_at(second: u64, properties: u64) -> u64
+    ensures value { result ≡ sectors_at second properties }
+    ensures few { result < 2 ^ 32 }
 {
-    if gang_bit(word_of(bytes, 1)) == 1 {
+    if gang_bit(second) == 1 {
         1
     } else {
-        logical_size(word_of(bytes, 6)) + 1
+        logical_size(properties) + 1
     }
 }
 
 // The grid and the bits above the top are zero.
-fn is_place_of(sectors: u64, gang: u64, first: u64, second: u64) -> bool
-    ensures { result ≡ is_place_of sectors gang first second }
+fn is_place_of(stored: u64, gang: u64, first: u64, second: u64) -> bool
+    requires { stored < 2 ^ 32 }
+    ensures { result ≡ is_place_of stored gang first second }
 {
-    place_sectors(first) == sectors
+    is_rounding_of(place_sectors(first), stored)
         && grid(first) == 0
         && above_top(first) == 0
-        && place_sector(second) < 1 << 48
+        && place_sector(second) < SECTOR_END
         && gang_bit(second) == gang
 }
 
@@ -206,65 +211,14 @@ fn place_field(bytes: &[u8; 128], i: usize) -> Place
 fn sum_of_number(number: u64) -> SumKind
     ensures { result ≡ sum_of_number number }
 {
-    match number {
-        7 => SumKind::Fletcher4,
-        8 => SumKind::Sha256,
-        _ => SumKind::Off,
+    if number == sum_number(SumKind::Fletcher4) {
+        SumKind::Fletcher4
+    } else if number == sum_number(SumKind::Sha256) {
+        SumKind::Sha256
+    } else {
+        SumKind::Off
     }
 }
 
 #[cfg(test)]
-mod tests {
-    use super::*;
-
-    // A pointer with fletcher4 and one sector at sector 4096 of top 0, born with batch 1. Its checksum is zeros.
-    fn sample() -> [u8; 128] {
-        let mut bytes = [0; 128];
-        bytes[0] = 1;
-        bytes[9] = 0x10;
-        bytes[52] = 2;
-        bytes[53] = 7;
-        bytes[55] = 0x80;
-        bytes[80] = 1;
-        bytes[88] = 1;
-        bytes
-    }
-
-    #[test]
-    fn fletcher4_is_number_seven(rt: HostRuntime) {
-        let place = Place {
-            top: 0,
-            sector: 4096,
-            sectors: 1,
-        };
-        let none = Place {
-            top: 0,
-            sector: 0,
-            sectors: 0,
-        };
-        let bp = Bp {
-            count: 1,
-            places: [place, none, none],
-            gang: false,
-            size: 512,
-            sum: SumKind::Fletcher4,
-            birth: 1,
-            words: [0; 4],
-        };
-        assert_eq!(rt; decode(&sample()), Ok(bp));
-    }
-
-    // Each step changes one byte more, whose fault is looked for before those of the steps above.
-    #[test]
-    fn earlier_fault_hides_later_ones(rt: HostRuntime) {
-        let mut bytes = sample();
-        bytes[3] = 1;
-        assert_eq!(rt; decode(&bytes), Err(BpFault::Dva), "grid");
-        bytes[50] = 1;
-        assert_eq!(rt; decode(&bytes), Err(BpFault::Size), "other physical size");
-        bytes[80] = 0;
-        assert_eq!(rt; decode(&bytes), Err(BpFault::Field), "no birth");
-        bytes[55] = 0;
-        assert_eq!(rt; decode(&bytes), Err(BpFault::Order), "high byte first");
-    }
-}
+mod tests;

@@ -1,11 +1,21 @@
-ghost use Rattle.std.specs.Prelude.{◌≡◌, length};
+ghost use Rattle.std.specs.Prelude.{◌≡◌, ◌^◌, ◌<◌, length};
 ghost use Rattle.std.specs.List.{list_all};
-ghost use Rattle.zio_blkptr.specs.Pointers.{valid, is_present, is_absent, is_block_size};
+ghost use Rattle.zio_blkptr.specs.Pointers.{valid, is_present, is_absent, is_block_size, is_rounding_of};
 
+use thiserror::Error;
 use zio_types::{Place, SECTOR_SIZE};
 
 /// The largest block, in bytes.
-pub const BLOCK_SIZE_MAX: u32 = 131_072;
+pub const BLOCK_SIZE_MAX: u32 = 1_048_576;
+
+/// The places of a pointer, at most.
+pub const PLACES_MAX: u32 = 3;
+
+/// A place's top is below this.
+pub const TOP_END: u32 = 1 << 24;
+
+/// A place's first sector is below this.
+pub const SECTOR_END: u64 = 1 << 48;
 
 /// How a block's checksum is computed.
 #[derive(Clone, Copy, Debug, PartialEq, Eq)]
@@ -23,7 +33,7 @@ pub enum SumKind {
 pub struct Bp {
     /// How many places there are, one to three.
     pub count: u32,
-    /// The places of its copies, all zero from `count` on.
+    /// The places of its copies, all zero from `count` on. The sectors of each are rounded up by themselves.
     pub places: [Place; 3],
     /// The places hold gang headers, and not the block's bytes.
     pub gang: bool,
@@ -37,24 +47,29 @@ pub struct Bp {
 }
 
 /// Why bytes aren't a pointer, from the fault that is looked for first.
-#[derive(Clone, Copy, Debug, PartialEq, Eq)]
+#[derive(Clone, Copy, Debug, PartialEq, Eq, Error)]
 pub enum BpFault {
     /// The byte order isn't little-endian.
+    #[error("the byte order isn't little-endian")]
     Order,
     /// A field has another than its fixed value.
+    #[error("a field hasn't its fixed value")]
     Field,
-    /// The sizes differ or are too large.
+    /// The logical and the physical size differ, or are above `BLOCK_SIZE_MAX`.
+    #[error("the sizes differ or are too large")]
     Size,
-    /// A place is wrong.
+    /// The places don't stand from the front, or one of them isn't a place of this block.
+    #[error("a place is wrong")]
     Dva,
 }
 
-/// Whether a pointer can be spelled: it has one to three places of the right number of sectors and in
-/// range, nothing behind them, a size of whole sectors up to `BLOCK_SIZE_MAX`, and a birth.
+/// Whether a pointer can be spelled: it has one to `PLACES_MAX` places in range and nothing behind them, a
+/// size of whole sectors up to `BLOCK_SIZE_MAX`, and a birth. Each place has the sectors of the block, or the
+/// one of a gang's header, rounded up to a multiple of 1, 2, 4 or 8, whatever the others are rounded to.
 pub fn is_valid(bp: &Bp) -> bool
     ensures { result ≡ valid bp.now }
 {
-    if bp.count < 1 || bp.count > 3 {
+    if bp.count < 1 || bp.count > PLACES_MAX {
         return false;
     }
     let (present, absent) = bp.places.split_at(bp.count as usize);
@@ -76,8 +91,21 @@ fn are_absent(places: &[Place]) -> bool
 fn is_present(bp: &Bp, p: &Place) -> bool
     ensures { result ≡ is_present bp.now p.now }
 {
-    let sectors = if bp.gang { 1 } else { bp.size / SECTOR_SIZE };
-    p.sectors == sectors && p.top < 1 << 24 && p.sector < 1 << 48
+    let stored = if bp.gang { 1 } else { bp.size / SECTOR_SIZE };
+    is_rounding_of(u64::from(p.sectors), u64::from(stored))
+        && p.top < TOP_END
+        && p.sector < SECTOR_END
+}
+
+/// Whether so many sectors are `stored` ones, rounded up to a multiple of 1, 2, 4 or 8.
+pub(crate) fn is_rounding_of(sectors: u64, stored: u64) -> bool
+    requires { stored < 2 ^ 32 }
+    ensures { result ≡ is_rounding_of sectors stored }
+{
+    sectors == stored
+        || sectors == stored.div_ceil(2) * 2
+        || sectors == stored.div_ceil(4) * 4
+        || sectors == stored.div_ceil(8) * 8
 }
 
 fn is_absent(p: &Place) -> bool

@@ -4,7 +4,7 @@ ghost use Rattle.zio_blkptr.specs.Pointers.{valid, is_block_size, spelling, bit,
 
 use crate::packing::bytes_of;
 use crate::parts::{COMPRESSION_OFF, LITTLE_ENDIAN};
-use crate::pointer::{Bp, SumKind};
+use crate::pointer::{Bp, SECTOR_END, SumKind};
 use std::alloc::Global;
 use zio_types::{NoMemory, Place, SECTOR_SIZE, Text};
 
@@ -51,7 +51,7 @@ fn first_word(p: &Place) -> u64
 
 // An absent place has no gang bit.
 fn second_word(gang: bool, p: &Place) -> u64
-    requires { p.now.sector < 2 ^ 48 }
+    requires { p.now.sector < SECTOR_END }
     ensures { result ≡ (if p.now.sectors == 0 then p.now.sector else p.now.sector + bit gang * 2 ^ 63) }
 {
     if gang && p.sectors > 0 {
@@ -76,7 +76,8 @@ fn properties(bp: &Bp) -> u64
         + (LITTLE_ENDIAN << 63)
 }
 
-fn sum_number(sum: SumKind) -> u64
+/// The number of a checksum kind.
+pub(crate) fn sum_number(sum: SumKind) -> u64
     ensures { result ≡ sum_number sum }
 {
     match sum {

@@ -2,7 +2,7 @@
 use Rattle.std.proofs.Common.{◌≡◌, List, refl, ◌∙◌, true, false}
 use Rattle.zio_script.specs.declared.draft.Draft.{Draft}
 use Rattle.zio_script.specs.declared.draft.Refusal.{Refusal}
-use Rattle.zio_script.specs.declared.draft.Refusal.TheVariants.{Why, Memory}
+use Rattle.zio_script.specs.declared.draft.Refusal.TheVariants.{Faulty, Memory}
 use Rattle.zio_script.specs.declared.line.LineFault.{LineFault}
 use Rattle.zio_script.specs.declared.line.LineFault.TheVariants.{NotBuilt, NoShape, NoNumber, Memory as WantsMemory}
 use Rattle.zio_script.specs.Built.{is_built}
@@ -29,7 +29,7 @@ adds_words old new words line told is adds = λ begun. record {
 
 pub why_of_line : (draft : Draft) (words : List Word) (line : LineWords) (refusal : Refusal) → is_skipped words ≡ false → IsLineOf words line
     → IsLineWhy draft line refusal → IsWordsWhy draft words refusal
-why_of_line draft words line (Why n) told is applies = λ begun. after_line_of (before_of begun draft) words line told is ∙ rw (applies begun) refl
+why_of_line draft words line (Faulty why) told is applies = λ begun. after_line_of (before_of begun draft) words line told is ∙ rw (applies begun) refl
 why_of_line draft words line Memory told is applies = tt
 
 pub why_of_words : (draft : Draft) (words : List Word) (fault : LineFault) → is_skipped words ≡ false → IsWhyOf words fault

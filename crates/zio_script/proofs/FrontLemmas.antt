@@ -32,11 +32,11 @@ pub all_more : {X : Type 0} (P : X → Type 0) (xs : List X) (x : X) → AllByRe
 all_more P [] x all here = (here, tt)
 all_more P (y ∷ xs) x all here = (all.0, all_more P xs x all.1 here)
 
-or_left_false : (a b : Bool) → (a || b) ≡ false → a ≡ false
+pub or_left_false : (a b : Bool) → (a || b) ≡ false → a ≡ false
 or_left_false false b e = refl
 or_left_false true b e = e
 
-or_right_false : (a b : Bool) → (a || b) ≡ false → b ≡ false
+pub or_right_false : (a b : Bool) → (a || b) ≡ false → b ≡ false
 or_right_false false b e = e
 or_right_false true false e = refl
 or_right_false true true e = e

@@ -1,10 +1,12 @@
 -- A name's number is that of its bytes, and names with the same number are the same name.
-use Rattle.std.proofs.Common.{◌≡◌, ◌≤◌, ◌+◌, ◌*◌, ◌-◌, ℕ, zero, suc, List, [], ◌∷◌, ◌++◌, length, take, replicate, slice_index, refl, sym, ap, ◌∙◌, Bool, true, false, ◌&&◌, ◌||◌, ◌==◌, nat_le, arith}
+use Rattle.std.proofs.Common.{◌≡◌, ◌≤◌, ◌+◌, ◌*◌, ◌-◌, ℕ, zero, suc, List, [], ◌∷◌, ◌++◌, length, take, drop, replicate, slice_index, refl, sym, ap, ◌∙◌, Bool, true, false, ◌&&◌, ◌||◌, ◌==◌, nat_le, arith}
 use Rattle.std.proofs.lemmas.Bool.{and_parts, eqb-true, leb-true}
+use Rattle.std.proofs.lemmas.List.{drop-replicate}
+use Rattle.std.proofs.Math.Seq.{take-append_seam}
 use Rattle.std.specs.Int.{from_le_bytes, w128}
 use Rattle.std.specs.List.{list_all}
 use Rattle.zio_script.specs.Keys.{name_key}
-use Rattle.zio_script.specs.Words.{is_name_char}
+use Rattle.zio_script.specs.Words.{is_name, is_name_char}
 use Rattle.zio_types.specs.Filled.{IsFilled, length-filled}
 
 -- ---- the number of a name's bytes
@@ -39,6 +41,19 @@ key_of_filled used bytes filled =
     let places : from_le_bytes w128 bytes ≡ key_from 0 16 bytes = omega arith in
     places ∙ ap (λ (n : ℕ). key_from 0 n bytes) (sym (length-filled 0 16 used bytes filled)) ∙ key_from-start bytes
     ∙ ap name_key filled.rest ∙ key-zeros_behind (take used bytes) (16 - length (take used bytes))
+
+-- ---- a name
+
+-- a word in front of zeros
+pub filled_word : (word copied : List ℕ) → copied ≡ word → length word ≤ 16 → IsFilled 0 16 (length word) (copied ++ drop (length word) (replicate 16 0))
+filled_word word copied same fits = record {
+  fits = fits;
+  rest = rw (same, take-append_seam word (drop (length word) (replicate 16 0))) (ap (λ (zeros : List ℕ). word ++ zeros) (drop-replicate (length word) 16 0));
+}
+
+-- the word is all that is taken of them
+pub filled_name : (word copied behind : List ℕ) → copied ≡ word → is_name word ≡ true → is_name (take (length word) (copied ++ behind)) ≡ true
+filled_name word copied behind same named = rw (same, take-append_seam word behind) named
 
 -- ---- two names
 

@@ -1,3 +1,4 @@
+pub mod AcceptedLemmas
 pub mod BodyLemmas
 pub mod DraftLemmas
 pub mod FormLemmas

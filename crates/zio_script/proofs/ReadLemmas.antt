@@ -3,11 +3,13 @@ use Rattle.std.proofs.Common.{◌≡◌, ◌≤◌, ◌<◌, ◌+◌, ℕ, List,
 use Rattle.std.proofs.lemmas.Bool.{le-leb, lt-leb}
 use Rattle.zio_script.specs.declared.draft.Draft.{Draft}
 use Rattle.zio_script.specs.declared.draft.Refusal.{Refusal}
-use Rattle.zio_script.specs.declared.draft.Refusal.TheVariants.{Why, Memory}
+use Rattle.zio_script.specs.declared.draft.Refusal.TheVariants.{Faulty, Memory}
 use Rattle.zio_script.specs.declared.read.TheConstants.{SCRIPT_LEN_MAX}
 use Rattle.zio_script.specs.declared.script.Script.{Script}
 use Rattle.zio_script.specs.declared.script.ScriptError.{ScriptError}
 use Rattle.zio_script.specs.declared.script.ScriptError.TheVariants.{Fault, Memory as NoMemory}
+use Rattle.zio_script.specs.declared.why.Why.{Why}
+use Rattle.zio_script.specs.declared.why.Why.TheVariants.{Limit}
 use Rattle.zio_script.specs.Built.{IsReason, IsScriptOf, is_built}
 use Rattle.zio_script.specs.Drafts.{AddsWords, IsEnd, IsEndWhy, IsKept, IsReadTo, IsWordsWhy, before_of, error_at, script_so_far}
 use Rattle.zio_script.specs.Grammar.{after_words, ended, read_lines, read_on, reading}
@@ -29,7 +31,7 @@ end_read line before = refl
 read_from_start : (text : List ℕ) → length text ≤ SCRIPT_LEN_MAX → reading is_built text ≡ read_lines is_built 1 (lines_of text) nothing_before
 read_from_start text short = rw (le-leb (length text) SCRIPT_LEN_MAX short) refl
 
-pub too_long : (text : List ℕ) → SCRIPT_LEN_MAX < length text → IsReason text (error_at 0 (Why 3))
+pub too_long : (text : List ℕ) → SCRIPT_LEN_MAX < length text → IsReason text (error_at 0 (Faulty Limit))
 too_long text long = rw (lt-leb (length text) SCRIPT_LEN_MAX long) refl
 
 -- ---- a draft of the lines so far
@@ -52,17 +54,17 @@ read_more text rest behind first words line draft next is lines shorter split ke
       begun = (subst (λ (ws : List Word). AddsWords draft ws next) split adds is.begun).later;
       same = is.same ∙ (ap (λ (ls : List Word). read_lines is_built line ls (before_of is.begun draft)) lines
           ∙ (first_read line first (lines_of behind) (before_of is.begun draft)
-          ∙ ap (λ (r : Result Before ℕ). read_on line r (read_lines is_built (line + 1) (lines_of behind))) (subst (λ (ws : List Word). AddsWords draft ws next) split adds is.begun).after));
+          ∙ ap (λ (r : Result Before Why). read_on line r (read_lines is_built (line + 1) (lines_of behind))) (subst (λ (ws : List Word). AddsWords draft ws next) split adds is.begun).after));
       near = omega arith;
     }
 
 pub read_fault : (text rest behind : List ℕ) (first : Word) (words : List Word) (line : ℕ) (draft : Draft) (refusal : Refusal) → length text ≤ SCRIPT_LEN_MAX
     → IsReadTo text line rest draft → lines_of rest ≡ first ∷ lines_of behind → words ≡ words_of first → IsWordsWhy draft words refusal
     → IsReason text (error_at line refusal)
-read_fault text rest behind first words line draft (Why n) short is lines split why =
+read_fault text rest behind first words line draft (Faulty reason) short is lines split why =
     read_from_start text short ∙ (is.same ∙ (ap (λ (ls : List Word). read_lines is_built line ls (before_of is.begun draft)) lines
     ∙ (first_read line first (lines_of behind) (before_of is.begun draft)
-    ∙ ap (λ (r : Result Before ℕ). read_on line r (read_lines is_built (line + 1) (lines_of behind))) (subst (λ (ws : List Word). IsWordsWhy draft ws (Why n)) split why is.begun))))
+    ∙ ap (λ (r : Result Before Why). read_on line r (read_lines is_built (line + 1) (lines_of behind))) (subst (λ (ws : List Word). IsWordsWhy draft ws (Faulty reason)) split why is.begun))))
 read_fault text rest behind first words line draft Memory short is lines split why = tt
 
 no_lines : (rest : List ℕ) → rest ≡ [] → lines_of rest ≡ []

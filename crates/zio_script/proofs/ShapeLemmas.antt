@@ -1,6 +1,7 @@
 -- The shapes of lines whose forms are built.
 use Rattle.std.proofs.Common.{◌≡◌, ◌≢◌, ◌≤◌, ◌-◌, ℕ, List, [], ◌∷◌, map, length, take, drop, slice_index_or, Bool, true, false, cond, Option, Some, None, option_map, refl, sym, ap, ◌∙◌, arith, Bor}
-use Rattle.std.specs.Prelude.{codes, nat_le, not, ◌&&◌}
+use Rattle.std.specs.Prelude.{codes, nat_le, not}
+use Rattle.std.proofs.lemmas.Bool.{and_parts}
 use Rattle.std.proofs.lemmas.Slice.Eq.{bytes_eq-Decides}
 use Rattle.std.proofs.lemmas.List.{take_all}
 use Rattle.zio_script.specs.declared.fixed.FirstWord.{FirstWord}
@@ -22,14 +23,6 @@ nothing_bound (Some x) = refl
 bound_same : {X Y : Type 0} (x : Option X) (f g : X → Option Y) → ((y : X) → f y ≡ g y) → (x >>= f) ≡ (x >>= g)
 bound_same None f g same = refl
 bound_same (Some x) f g same = same x
-
-and_left : (a b : Bool) → a && b ≡ true → a ≡ true
-and_left true b both = refl
-and_left false b both = both
-
-and_right : (a b : Bool) → a && b ≡ true → b ≡ true
-and_right true b both = both
-and_right false b both = absurd (cc)
 
 -- ---- tails
 
@@ -101,17 +94,17 @@ unfolding found_form
 content_is make Data [] built = refl
 content_is make Data (hex ∷ []) built = refl
 content_is make Data (hex ∷ word ∷ words) built =
-    behind make (HexShape hex) word words (and_right (nat_le (length hex) 1024) (is_built_by tail_forms (word ∷ words)) built)
+    behind make (HexShape hex) word words (and_parts (nat_le (length hex) 1024) (is_built_by tail_forms (word ∷ words)) built).1
 content_is make Fill [] built = refl
 content_is make Fill (hh ∷ []) built = refl
 content_is make Fill (hh ∷ len ∷ []) built = refl
 content_is make Fill (hh ∷ len ∷ word ∷ words) built =
-    behind make (FillShape hh len) word words (and_right (not (is_long_len len)) (is_built_by tail_forms (word ∷ words)) built)
+    behind make (FillShape hh len) word words (and_parts (not (is_long_len len)) (is_built_by tail_forms (word ∷ words)) built).1
 content_is make Seq [] built = refl
 content_is make Seq (seed ∷ []) built = refl
 content_is make Seq (seed ∷ len ∷ []) built = refl
 content_is make Seq (seed ∷ len ∷ word ∷ words) built =
-    behind make (SeqShape seed len) word words (and_right (not (is_long_len len)) (is_built_by tail_forms (word ∷ words)) built)
+    behind make (SeqShape seed len) word words (and_parts (not (is_long_len len)) (is_built_by tail_forms (word ∷ words)) built).1
 
 formed : {X : Type 0} (make : BodyShape → Tail → X) (form : Option BodyForm) (words : List Word) → is_content_built form words ≡ true
     → whole make (form >>= λ it. content_of it words) ≡ tailed make (option_map found_form form >>= λ it. it words)
@@ -130,8 +123,8 @@ body_is make (word ∷ words) built =
 write_is : (n name sum copies class : Word) (words : List Word) → is_write_built (name ∷ sum ∷ copies ∷ class ∷ words) ≡ true
     → one_copy_shape n name sum class words ≡ kind_shape n WriteKind (name ∷ sum ∷ copies ∷ class ∷ words)
 write_is n name sum copies class words built =
-    let one : codes "1" ≡ copies = (bytes_eq-Decides (codes "1") copies).0 (and_left (is_word (codes "1") copies) (is_built_by body_forms words) built) in
-    let body : is_built_by body_forms words ≡ true = and_right (is_word (codes "1") copies) (is_built_by body_forms words) built in
+    let one : codes "1" ≡ copies = (bytes_eq-Decides (codes "1") copies).0 (and_parts (is_word (codes "1") copies) (is_built_by body_forms words) built).0 in
+    let body : is_built_by body_forms words ≡ true = (and_parts (is_word (codes "1") copies) (is_built_by body_forms words) built).1 in
     bound_same (value_in sum_words sum) _ _ (λ (kind : SumKind).
     bound_same (value_in write_classes class) _ _ (λ (prio : Prio).
     body_is (λ (shape : BodyShape) (tail : Tail). RequestShape n (WriteShape name kind (codes "1") prio shape) tail) words body

@@ -14,9 +14,9 @@ use Rattle.zio_blkptr.specs.declared.pointer.SumKind.{SumKind}
 use Rattle.zio_faults.specs.declared.table.FaultKind.{FaultKind}
 use Rattle.zio_faults.specs.declared.table.On.{On}
 use Rattle.zio_faults.specs.declared.table.Row.{Row}
-use Rattle.zio_script.specs.declared.line.Asked.{Asked}
-use Rattle.zio_script.specs.declared.line.Deed.{Deed}
-use Rattle.zio_script.specs.declared.line.Deed.TheVariants.{Read as ReadDeed, Write as WriteDeed}
+use Rattle.zio_script.specs.declared.line.NewRequest.{NewRequest}
+use Rattle.zio_script.specs.declared.line.Access.{Access}
+use Rattle.zio_script.specs.declared.line.Access.TheVariants.{Read as ReadAccess, Write as WriteAccess}
 use Rattle.zio_script.specs.declared.line.Line.{Line}
 use Rattle.zio_script.specs.declared.line.Line.TheVariants.{Top, Go, Request}
 use Rattle.zio_script.specs.declared.script.Body.{Body}
@@ -25,9 +25,9 @@ use Rattle.zio_script.specs.declared.script.Failmode.{Failmode}
 use Rattle.zio_script.specs.declared.script.Work.{Work}
 use Rattle.zio_script.specs.declared.script.Work.TheVariants.{Null, Read, Write, Free, Claim}
 use Rattle.zio_script.specs.Built.{body_forms, tail_forms, is_built, is_built_as, is_built_by, is_hex_built, is_len_built, is_long_len, is_never_built, is_read_built, is_write_built, line_forms, work_forms}
-use Rattle.zio_script.specs.Drafts.{IsShort, IsShortDeed}
-use Rattle.zio_script.specs.Lines.{◌>>=◌, Asked as AskedWords, BodyFound, BodyShape, HexShape, FillShape, SeqShape, FaultLine, RequestLine, RowShape, Shape, FailmodeShape, TopShape, FaultShape, RequestShape, GoShape, ClearShape, Tail, TopLine, WorkShape, NullShape, ReadShape, WriteShape, FreeShape, ClaimShape, body_found, body_of_shape, clear_shape, failmode_shape, fault_shape, fill_body, first_of_end, go_shape, hex_body, kind_shape, line_of, named_shape, numbers, parent_number, request_shape, row_of, seq_body, shape_of, tail_of, top_shape, work_of}
-use Rattle.zio_script.specs.Reading.{IsLineOf, asked_alone, line_as, work_on}
+use Rattle.zio_script.specs.Drafts.{IsShort, IsShortAccess}
+use Rattle.zio_script.specs.Lines.{◌>>=◌, NewRequest as NewRequestWords, BodyFound, BodyShape, HexShape, FillShape, SeqShape, FaultLine, RequestLine, RowShape, Shape, FailmodeShape, TopShape, FaultShape, RequestShape, GoShape, ClearShape, Tail, LeavesLine, TopWords, WorkShape, NullShape, ReadShape, WriteShape, FreeShape, ClaimShape, body_found, body_of_shape, clear_shape, failmode_shape, fault_shape, fill_body, first_of_end, go_shape, has_leaves, hex_body, kind_shape, line_of, named_shape, numbers, parent_number, request_shape, row_of, sector_number, seq_body, shape_of, tail_of, top_shape, top_words, work_of}
+use Rattle.zio_script.specs.Reading.{IsLineOf, lone_request, line_as, work_on}
 use Rattle.zio_script.specs.Whys.{body_len}
 use Rattle.zio_script.specs.Words.{Word, byte_of, bytes_of, failmode_words, fault_words, is_numeral, is_word, number, operation_words, read_classes, sum_words, value_in, write_classes}
 
@@ -135,7 +135,7 @@ IsShortWork (ClaimShape name hex) = Unit {0}
 
 abbrev IsShortLine : Shape → Type 0
 IsShortLine (FailmodeShape mode) = Unit {0}
-IsShortLine (TopShape words) = Unit {0}
+IsShortLine (TopShape top) = Unit {0}
 IsShortLine (FaultShape row) = Unit {0}
 IsShortLine (RequestShape n work tail) = IsShortWork work
 IsShortLine GoShape = Unit {0}
@@ -206,13 +206,12 @@ failmode_short [] = tt
 failmode_short (mode ∷ []) = mode_short (value_in failmode_words mode)
 failmode_short (mode ∷ next ∷ words) = tt
 
+top_by : (is : Bool) (top : TopWords) → IsShortFound (then_some is (TopShape top))
+top_by true top = tt
+top_by false top = tt
+
 top_short : (words : List Word) → IsShortFound (top_shape words)
-top_short [] = tt
-top_short (a ∷ []) = tt
-top_short (a ∷ b ∷ []) = tt
-top_short (a ∷ b ∷ c ∷ []) = tt
-top_short (a ∷ b ∷ c ∷ d ∷ []) = tt
-top_short (a ∷ b ∷ c ∷ d ∷ e ∷ words) = tt
+top_short words = top_by (has_leaves (top_words words)) (top_words words)
 
 row_short : (on : Option On) (kind : Option FaultKind) (first : Option Bool) (row : On → FaultKind → Bool → RowShape)
     → IsShortFound (on >>= λ o. kind >>= λ k. first >>= λ f. Some (FaultShape (row o k f)))
@@ -303,7 +302,7 @@ work_short (WriteShape name sum copies prio body) work short is =
 work_short (FreeShape name) work short is = let same : Free name ≡ work = cc in rw (← same) tt
 work_short (ClaimShape name hex) work short is = claim_len name (bytes_of hex) work is
 
-asked_short : (own : Option ℕ) (work : Option Work) (under : Option (Option ℕ)) (flag : Option Bool) (asked : AskedWords) → ((w : Work) → work ≡ Some w → IsShortOf w)
+asked_short : (own : Option ℕ) (work : Option Work) (under : Option (Option ℕ)) (flag : Option Bool) (asked : NewRequestWords) → ((w : Work) → work ≡ Some w → IsShortOf w)
     → option_map RequestLine (own >>= λ o. work >>= λ w. under >>= λ u. Some (record { number = o; work = w; under = u; flag = flag })) ≡ Some (RequestLine asked)
     → IsShortOf asked.work
 asked_short None work under flag asked short is = let no : ⊥ = cc in absurd no
@@ -313,31 +312,33 @@ asked_short (Some o) (Some w) (Some u) flag asked short is =
     let same : record { number = o; work = w; under = u; flag = flag } ≡ asked = cc in
     rw (← same) (short w refl)
 
-no_top : (leaves : Option (List ℕ)) (asked : AskedWords) → option_map TopLine leaves ≡ Some (RequestLine asked) → ⊥
-no_top None asked is = cc
-no_top (Some ns) asked is = cc
+no_top : (leaves : Option (List ℕ)) (sector : Option ℕ) (asked : NewRequestWords)
+    → (leaves >>= λ ns. sector >>= λ s. Some (LeavesLine ns s)) ≡ Some (RequestLine asked) → ⊥
+no_top None sector asked is = cc
+no_top (Some ns) None asked is = cc
+no_top (Some ns) (Some s) asked is = cc
 
-no_row : (row : Option Row) (asked : AskedWords) → option_map FaultLine row ≡ Some (RequestLine asked) → ⊥
+no_row : (row : Option Row) (asked : NewRequestWords) → option_map FaultLine row ≡ Some (RequestLine asked) → ⊥
 no_row None asked is = cc
 no_row (Some r) asked is = cc
 
-line_short : (shape : Shape) (asked : AskedWords) → IsShortLine shape → line_of shape ≡ Some (RequestLine asked) → IsShortOf asked.work
+line_short : (shape : Shape) (asked : NewRequestWords) → IsShortLine shape → line_of shape ≡ Some (RequestLine asked) → IsShortOf asked.work
 line_short (FailmodeShape mode) asked short is = let no : ⊥ = cc in absurd no
-line_short (TopShape words) asked short is = absurd (no_top (numbers words) asked is)
+line_short (TopShape top) asked short is = absurd (no_top (numbers top.leaves) (sector_number top.sector) asked is)
 line_short (FaultShape row) asked short is = absurd (no_row (row_of row) asked is)
 line_short (RequestShape n work tail) asked short is =
     asked_short (number n) (work_of work) (parent_number tail.under) tail.flag asked (λ w found. work_short work w short found) is
 line_short GoShape asked short is = let no : ⊥ = cc in absurd no
 line_short ClearShape asked short is = let no : ⊥ = cc in absurd no
 
-deed_short : (name : List ℕ) (deed : Deed) → IsShortOf (work_on name deed) → IsShortDeed deed
-deed_short name (ReadDeed prio) short = tt
-deed_short name (WriteDeed sum prio body) short = short
+access_short : (name : List ℕ) (access : Access) → IsShortOf (work_on name access) → IsShortAccess access
+access_short name (ReadAccess prio) short = tt
+access_short name (WriteAccess sum prio body) short = short
 
-request_line : (words : List Word) (asked : Asked) → IsLineOf words (RequestLine (asked_alone asked)) → IsShortDeed asked.deed
+request_line : (words : List Word) (asked : NewRequest) → IsLineOf words (RequestLine (lone_request asked)) → IsShortAccess asked.access
 request_line words asked is =
-    deed_short asked.name.now asked.deed
-    (line_short is.shape (asked_alone asked) (subst IsShortFound is.shape_is (shape_short words is.built)) is.line_is)
+    access_short asked.name.now asked.access
+    (line_short is.shape (lone_request asked) (subst IsShortFound is.shape_is (shape_short words is.built)) is.line_is)
 
 pub short_line : (words : List Word) (line : Line) → IsLineOf words (line_as line) → IsShort line
 short_line words Top is = tt

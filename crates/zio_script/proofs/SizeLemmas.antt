@@ -4,14 +4,15 @@ use Rattle.std.proofs.lemmas.Bool.{le-ltb, or_from, leb-false}
 use Rattle.std.proofs.lemmas.List.{length-append, length-map}
 use Rattle.std.specs.List.{AllByRecursion, list_any, sum}
 use Rattle.zio_blkptr.specs.declared.pointer.TheConstants.{BLOCK_SIZE_MAX}
-use Rattle.zio_script.specs.declared.line.Asked.{Asked}
-use Rattle.zio_script.specs.declared.line.Deed.{Deed}
-use Rattle.zio_script.specs.declared.line.Deed.TheVariants.{Read as ReadDeed, Write as WriteDeed}
+use Rattle.zio_script.specs.declared.limits.TheConstants.{BATCH_SIZE_MAX, POINTER_SIZE}
+use Rattle.zio_script.specs.declared.line.NewRequest.{NewRequest}
+use Rattle.zio_script.specs.declared.line.Access.{Access}
+use Rattle.zio_script.specs.declared.line.Access.TheVariants.{Read as ReadAccess, Write as WriteAccess}
 use Rattle.zio_script.specs.declared.script.Request.{Request}
-use Rattle.zio_script.specs.Drafts.{IsShortDeed, IsSmall, request_made}
-use Rattle.zio_script.specs.Reading.{asked_alone, work_on}
+use Rattle.zio_script.specs.Drafts.{IsShortAccess, IsSmall, request_made}
+use Rattle.zio_script.specs.Reading.{lone_request, work_on}
 use Rattle.zio_script.specs.Requests.{is_under, kind_of}
-use Rattle.zio_script.specs.Whys.{are_too_large, batch_size_max, body_len, breaks_limit, fits_work, is_number, is_write, pointer_size, request_in, rounded_up, size_with, sizes_with, writes_under}
+use Rattle.zio_script.specs.Whys.{are_too_large, body_len, breaks_limit, fits_work, is_number, is_write, request_in, rounded_up, size_with, sizes_with, writes_under}
 use Rattle.zio_script.proofs.FrontLemmas.{all_more}
 
 -- ---- children
@@ -19,7 +20,7 @@ use Rattle.zio_script.proofs.FrontLemmas.{all_more}
 no_child : (r : Request) (n : ℕ) → r.under ≡ None → is_under r n ≡ false
 no_child r n root = rw root refl
 
-counts_none : {X : Type 0} (p : X → Bool) (n : ℕ) (xs : List X) → AllByRecursion (λ x. p x ≡ false) xs
+pub counts_none : {X : Type 0} (p : X → Bool) (n : ℕ) (xs : List X) → AllByRecursion (λ x. p x ≡ false) xs
     → fold (λ a x. a + cond (p x) 1 0) n xs ≡ n
 counts_none p n [] all = refl
 counts_none p n (x ∷ xs) all =
@@ -57,7 +58,7 @@ none_above (x ∷ xs) all =
 few_low : (xs : List ℕ) → AllByRecursion (λ x. x ≤ 512) xs → length xs ≤ 1024 → are_too_large xs ≡ false
 few_low xs all few =
     let total : sum xs ≤ 0 + 512 * length xs = sum_low 0 xs all in
-    or_from (list_any (nat_lt BLOCK_SIZE_MAX) xs) (nat_lt batch_size_max (sum xs)) (none_above xs all) (le-ltb batch_size_max (sum xs) (omega arith))
+    or_from (list_any (nat_lt BLOCK_SIZE_MAX) xs) (nat_lt BATCH_SIZE_MAX (sum xs)) (none_above xs all) (le-ltb BATCH_SIZE_MAX (sum xs) (omega arith))
 
 pub small_batch : (batch : List Request) (r : Request) → AllByRecursion IsSmall batch → IsSmall r → length batch < 1024
     → are_too_large (sizes_with batch r) ≡ false
@@ -70,21 +71,21 @@ small_batch batch r all small few =
 
 -- ---- the request that is made
 
-round_small : (n : ℕ) → n ≤ 512 → rounded_up (n + pointer_size * 0) ≤ 512
+round_small : (n : ℕ) → n ≤ 512 → rounded_up (n + POINTER_SIZE * 0) ≤ 512
 round_small n few = omega arith
 
-small_of : (asked : Asked) (deed : Deed) → asked.deed ≡ deed → IsShortDeed deed → IsSmall (request_made asked)
-small_of asked (ReadDeed prio) is short = record { root = refl; size = rw is (omega arith); other = rw is refl }
-small_of asked (WriteDeed sum prio body) is short = record { root = refl; size = rw is (round_small (body_len body) short); other = rw is refl }
+small_of : (asked : NewRequest) (access : Access) → asked.access ≡ access → IsShortAccess access → IsSmall (request_made asked)
+small_of asked (ReadAccess prio) is short = record { root = refl; size = rw is (omega arith); other = rw is refl }
+small_of asked (WriteAccess sum prio body) is short = record { root = refl; size = rw is (round_small (body_len body) short); other = rw is refl }
 
-pub small_made : (asked : Asked) → IsShortDeed asked.deed → IsSmall (request_made asked)
-small_made asked short = small_of asked asked.deed refl short
+pub small_made : (asked : NewRequest) → IsShortAccess asked.access → IsSmall (request_made asked)
+small_made asked short = small_of asked asked.access refl short
 
 -- ---- why 3
 
-fits_named : (name : List ℕ) (deed : Deed) → fits_work (work_on name deed) ≡ fits_work (work_on [] deed)
-fits_named name (ReadDeed prio) = refl
-fits_named name (WriteDeed sum prio body) = refl
+fits_named : (name : List ℕ) (access : Access) → fits_work (work_on name access) ≡ fits_work (work_on [] access)
+fits_named name (ReadAccess prio) = refl
+fits_named name (WriteAccess sum prio body) = refl
 
 joined : (number fits full large : Bool) → (full ≡ false → large ≡ false)
     → (not (number && true && fits) || full || large) ≡ (not number || not fits || full)
@@ -93,9 +94,9 @@ joined true false full large never = refl
 joined true true true large never = refl
 joined true true false large never = never refl
 
-pub limit_of : (batch : List Request) (asked : Asked) → AllByRecursion IsSmall batch → IsShortDeed asked.deed
-    → breaks_limit batch (asked_alone asked) ≡ (not (is_number asked.number) || not (fits_work (work_on [] asked.deed)) || nat_le 1024 (length batch))
+pub limit_of : (batch : List Request) (asked : NewRequest) → AllByRecursion IsSmall batch → IsShortAccess asked.access
+    → breaks_limit batch (lone_request asked) ≡ (not (is_number asked.number) || not (fits_work (work_on [] asked.access)) || nat_le 1024 (length batch))
 limit_of batch asked all short =
-    rw (← fits_named asked.name.now asked.deed)
-    (joined (is_number asked.number) (fits_work (work_on asked.name.now asked.deed)) (nat_le 1024 (length batch)) (are_too_large (sizes_with batch (request_in batch (asked_alone asked))))
+    rw (← fits_named asked.name.now asked.access)
+    (joined (is_number asked.number) (fits_work (work_on asked.name.now asked.access)) (nat_le 1024 (length batch)) (are_too_large (sizes_with batch (request_in batch (lone_request asked))))
     (λ few. small_batch batch (request_made asked) all (small_made asked short) (leb-false 1024 (length batch) few)))

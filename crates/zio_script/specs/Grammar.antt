@@ -1,13 +1,16 @@
 -- Which texts are scripts, and the first faulty line of those that aren't, with the least why: docs/FORMATS.md, "Script".
-use Rattle.std.specs.Prelude.{◌≡◌, ℕ, ◌+◌, List, [], ◌∷◌, ◌++◌, length, Bool, true, false, nat_le, Option, Some, None, Result, Ok, Err}
+use Rattle.std.specs.Prelude.{◌≡◌, ℕ, ◌+◌, ◌/◌, List, [], ◌∷◌, ◌++◌, length, Bool, true, false, nat_le, Option, Some, None, Result, Ok, Err}
 use Rattle.std.specs.Result.{result_ok, result_err}
 use Rattle.zio_script.specs.declared.read.TheConstants.{SCRIPT_LEN_MAX}
 use Rattle.zio_script.specs.declared.script.Item.{Item}
 use Rattle.zio_script.specs.declared.script.Item.TheVariants.{Request as RequestItem, Go, Clear}
 use Rattle.zio_script.specs.declared.script.Script.{Script}
 use Rattle.zio_script.specs.declared.script.ScriptFault.{ScriptFault}
-use Rattle.zio_script.specs.Lines.{Line, FailmodeLine, TopLine, FaultLine, RequestLine, GoLine, ClearLine, Shape, shape_of, line_of}
-use Rattle.zio_script.specs.Whys.{Before, nothing_before, open_batch, request_in, whys_of, whys_at_end, least_why}
+use Rattle.zio_script.specs.declared.why.Why.{Why}
+use Rattle.zio_script.specs.declared.why.Why.TheVariants.{Word as NoShape, Number, Limit, NotYet}
+use Rattle.zio_types.specs.Places.{sector_size}
+use Rattle.zio_script.specs.Lines.{Line, FailmodeLine, LeavesLine, FaultLine, RequestLine, GoLine, ClearLine, Shape, shape_of, line_of}
+use Rattle.zio_script.specs.Whys.{Before, nothing_before, open_batch, request_in, why_number, whys_of, whys_at_end, least_why}
 use Rattle.zio_script.specs.Words.{Word, is_skipped, lines_of, words_of}
 
 -- ---- the script of the lines
@@ -23,56 +26,61 @@ with_item script item = begun_with (record script { items = script.items ++ item
 -- the script so far, with a line that has no fault
 abbrev pub script_with : Script → Line → Before
 script_with script (FailmodeLine mode) = begun_with (record script { failmode = mode })
-script_with script (TopLine leaves) = begun_with (record script { tops = script.tops ++ leaves ∷ [] })
+script_with script (LeavesLine leaves sector) =
+    begun_with (record script { tops = script.tops ++ record { leaves = leaves; unit = sector / sector_size } ∷ [] })
 script_with script (FaultLine row) = begun_with (record script { faults = script.faults ++ row ∷ [] })
 script_with script (RequestLine asked) = with_item script (RequestItem (request_in (open_batch script) asked))
 script_with script GoLine = with_item script Go
 script_with script ClearLine = with_item script Clear
 
 -- a why that applies, or else the value
-abbrev pub unless_why : {X : Type 0} → Option ℕ → X → Result X ℕ
+abbrev pub unless_why : {X : Type 0} → Option Why → X → Result X Why
 unless_why None x = Ok x
-unless_why (Some n) x = Err n
+unless_why (Some why) x = Err why
 
--- why 2 where a number or a hexadecimal word is wrong, else the least of the others
-abbrev pub after_line : Before → Option Line → Result Before ℕ
-after_line before None = Err 2
+-- Number where a number or a hexadecimal word is wrong, else the least of the others
+abbrev pub after_line : Before → Option Line → Result Before Why
+after_line before None = Err Number
 after_line before (Some line) = unless_why (least_why (whys_of before line)) (script_with before.script line)
 
--- why 1 where the line has no shape
-abbrev pub after_shape : Before → Option Shape → Result Before ℕ
-after_shape before None = Err 1
+-- Word where the line has no shape
+abbrev pub after_shape : Before → Option Shape → Result Before Why
+after_shape before None = Err NoShape
 after_shape before (Some shape) = after_line before (line_of shape)
 
--- why 10 where the form isn't built, and then nothing else of the line is looked at
-abbrev pub after_form : Bool → Before → List Word → Result Before ℕ
-after_form false before words = Err 10
+-- NotYet where the form isn't built, and then nothing else of the line is looked at
+abbrev pub after_form : Bool → Before → List Word → Result Before Why
+after_form false before words = Err NotYet
 after_form true before words = after_shape before (shape_of words)
 
 -- a skipped line changes nothing
-abbrev pub unless_skipped : Bool → Before → Result Before ℕ → Result Before ℕ
+abbrev pub unless_skipped : Bool → Before → Result Before Why → Result Before Why
 unless_skipped true before after = Ok before
 unless_skipped false before after = after
 
 -- the script after one more line, or the line's least why
-abbrev pub after_words : (List Word → Bool) → Before → List Word → Result Before ℕ
+abbrev pub after_words : (List Word → Bool) → Before → List Word → Result Before Why
 after_words is_built before words = unless_skipped (is_skipped words) before (after_form (is_built words) before words)
 
 -- ---- texts
 
--- a faulty line and its why
+-- a faulty line and the number of its why
 abbrev pub fault_at : ℕ → ℕ → ScriptFault
 fault_at line number = record { line = line; why = number }
 
+-- the same by the why
+abbrev pub fault_for : ℕ → Why → ScriptFault
+fault_for line why = fault_at line (why_number why)
+
 -- the rest is read only after a line without a fault
-abbrev pub read_on : ℕ → Result Before ℕ → (Before → Result Script ScriptFault) → Result Script ScriptFault
-read_on line (Err n) rest = Err (fault_at line n)
+abbrev pub read_on : ℕ → Result Before Why → (Before → Result Script ScriptFault) → Result Script ScriptFault
+read_on line (Err why) rest = Err (fault_for line why)
 read_on line (Ok before) rest = rest before
 
 -- a fault at the end stands at the number after the last line
-abbrev pub ended : ℕ → Option ℕ → Script → Result Script ScriptFault
+abbrev pub ended : ℕ → Option Why → Script → Result Script ScriptFault
 ended line None script = Ok script
-ended line (Some n) script = Err (fault_at line n)
+ended line (Some why) script = Err (fault_for line why)
 
 -- the lines from this number on, after those before
 unfoldable pub read_lines : (List Word → Bool) → ℕ → List Word → Before → Result Script ScriptFault
@@ -80,9 +88,9 @@ read_lines is_built n [] before = ended n (least_why (whys_at_end before.script)
 read_lines is_built n (line ∷ lines) before =
     read_on n (after_words is_built before (words_of line)) (read_lines is_built (n + 1) lines)
 
--- a text that is too long is why 3 at line 0
+-- a text that is too long is Limit at line 0
 abbrev pub read_short : Bool → (List Word → Bool) → List ℕ → Result Script ScriptFault
-read_short false is_built text = Err (fault_at 0 3)
+read_short false is_built text = Err (fault_for 0 Limit)
 read_short true is_built text = read_lines is_built 1 (lines_of text) nothing_before
 
 -- The script that a text is, or its first faulty line with the least why. The test says by the words of a line, whatever

@@ -1,5 +1,7 @@
+pub mod Accepted
 pub mod Bodies
 pub mod Built
+pub mod Decisions
 pub mod Drafts
 pub mod Grammar
 pub mod Keys

@@ -1,6 +1,7 @@
 -- The shapes of a script's lines, by their words alone, and the lines that they are once each number and each
 -- hexadecimal word is read: docs/FORMATS.md, "Shapes of lines".
-use Rattle.std.specs.Prelude.{ℕ, List, [], ◌∷◌, Bool, true, false, cond, Option, Some, None, option_map, codes}
+use Rattle.std.specs.Prelude.{ℕ, List, [], ◌∷◌, length, Bool, true, false, cond, ◌&&◌, nat_le, Option, Some, None, option_map, codes}
+use Rattle.std.specs.Bool.{then_some}
 use Rattle.std.specs.Option.{option_or}
 use Rattle.zio_types.specs.declared.request.Kind.{Kind}
 use Rattle.zio_types.specs.declared.request.Kind.TheVariants.{Null as NullKind, Read as ReadKind, Write as WriteKind, Free as FreeKind, Claim as ClaimKind}
@@ -9,11 +10,13 @@ use Rattle.zio_blkptr.specs.declared.pointer.SumKind.{SumKind}
 use Rattle.zio_faults.specs.declared.table.FaultKind.{FaultKind}
 use Rattle.zio_faults.specs.declared.table.On.{On}
 use Rattle.zio_faults.specs.declared.table.Row.{Row}
+use Rattle.zio_script.specs.declared.limits.TheConstants.{TOP_LEAVES_MAX}
 use Rattle.zio_script.specs.declared.script.Body.{Body}
 use Rattle.zio_script.specs.declared.script.Body.TheVariants.{Hex, Fill, Seq}
 use Rattle.zio_script.specs.declared.script.Failmode.{Failmode}
 use Rattle.zio_script.specs.declared.script.Work.{Work}
 use Rattle.zio_script.specs.declared.script.Work.TheVariants.{Null, Read, Write, Free, Claim}
+use Rattle.zio_types.specs.Places.{sector_size}
 use Rattle.zio_script.specs.Words.{Word, Entry, value_in, is_word, number, bytes_of, byte_of, failmode_words, operation_words, fault_words, kind_words, sum_words, read_classes, write_classes, flag_words}
 
 -- the next step, if there is a value
@@ -54,10 +57,15 @@ pub record RowShape : Type 0 where
   pub kind : FaultKind
   pub first : Bool
 
+-- `LEAF [LEAF [LEAF [LEAF]]] [sector S]`
+pub record TopWords : Type 0 where
+  pub leaves : List Word
+  pub sector : Option Word
+
 -- what a line is by its words: each word in capitals is any word
 pub data Shape : Type 0 where
   FailmodeShape : Failmode → Shape
-  TopShape : List Word → Shape
+  TopShape : TopWords → Shape
   FaultShape : RowShape → Shape
   RequestShape : Word → WorkShape → Tail → Shape
   GoShape : Shape
@@ -133,7 +141,8 @@ kind_shape n WriteKind (name ∷ sum ∷ copies ∷ class ∷ words) = do
 kind_shape n FreeKind (name ∷ words) = do
   tail ← tail_of words
   Some (RequestShape n (FreeShape name) tail)
-kind_shape n ClaimKind (name ∷ hex ∷ []) = Some (RequestShape n (ClaimShape name hex) (record { under = None; flag = None }))
+kind_shape n ClaimKind (name ∷ hex ∷ []) =
+    Some (RequestShape n (ClaimShape name hex) (record { under = None; flag = None }))
 kind_shape n _ _ = None
 
 -- N and the word of a kind stand in front
@@ -148,13 +157,28 @@ abbrev pub failmode_shape : List Word → Option Shape
 failmode_shape (mode ∷ []) = option_map FailmodeShape (value_in failmode_words mode)
 failmode_shape _ = None
 
--- one to four leaves
+-- `sector S`, and nothing more
+abbrev pub sector_end : List Word → Option Word
+sector_end (word ∷ s ∷ []) = then_some (is_word (codes "sector") word) s
+sector_end _ = None
+
+-- a leaf before `sector S`, or before these others
+abbrev pub with_leaf : Word → Option Word → TopWords → TopWords
+with_leaf leaf (Some s) others = record { leaves = leaf ∷ []; sector = Some s }
+with_leaf leaf None others = record { leaves = leaf ∷ others.leaves; sector = others.sector }
+
+-- the words of a `top`: where `sector` stands before the last of them, behind a leaf, it is no leaf
+abbrev pub top_words : List Word → TopWords
+top_words [] = record { leaves = []; sector = None }
+top_words (leaf ∷ words) = with_leaf leaf (sector_end words) (top_words words)
+
+-- there are one to four leaves
+abbrev pub has_leaves : TopWords → Bool
+has_leaves top = nat_le 1 (length top.leaves) && nat_le (length top.leaves) TOP_LEAVES_MAX
+
+-- `LEAF [LEAF [LEAF [LEAF]]] [sector S]`
 abbrev pub top_shape : List Word → Option Shape
-top_shape (a ∷ []) = Some (TopShape (a ∷ []))
-top_shape (a ∷ b ∷ []) = Some (TopShape (a ∷ b ∷ []))
-top_shape (a ∷ b ∷ c ∷ []) = Some (TopShape (a ∷ b ∷ c ∷ []))
-top_shape (a ∷ b ∷ c ∷ d ∷ []) = Some (TopShape (a ∷ b ∷ c ∷ d ∷ []))
-top_shape _ = None
+top_shape words = then_some (has_leaves (top_words words)) (TopShape (top_words words))
 
 -- `[first]`
 abbrev pub first_of_end : List Word → Option Bool
@@ -212,18 +236,18 @@ shape_of words = option_or (named_shape words) (request_shape words)
 -- ---- numbers and hexadecimal words
 
 -- what a request's line says, once its words are read
-pub record Asked : Type 0 where
+pub record NewRequest : Type 0 where
   pub number : ℕ
   pub work : Work
   pub under : Option ℕ
   pub flag : Option Bool
 
--- a line whose numbers and hexadecimal words are read
+-- a line whose numbers and hexadecimal words are read; of a top its leaves and S
 pub data Line : Type 0 where
   FailmodeLine : Failmode → Line
-  TopLine : List ℕ → Line
+  LeavesLine : List ℕ → ℕ → Line
   FaultLine : Row → Line
-  RequestLine : Asked → Line
+  RequestLine : NewRequest → Line
   GoLine : Line
   ClearLine : Line
 
@@ -234,6 +258,18 @@ numbers (word ∷ words) = do
   n ← number word
   ns ← numbers words
   Some (n ∷ ns)
+
+-- S is a number; without it a top has sectors of 512 bytes
+abbrev pub sector_number : Option Word → Option ℕ
+sector_number None = Some sector_size
+sector_number (Some s) = number s
+
+-- each LEAF is a number, and so is S
+abbrev pub top_of : TopWords → Option Line
+top_of top = do
+  leaves ← numbers top.leaves
+  sector ← sector_number top.sector
+  Some (LeavesLine leaves sector)
 
 -- LEAF, AT, LEN, FROM and UNTIL are numbers
 abbrev pub row_of : RowShape → Option Row
@@ -283,8 +319,8 @@ parent_number None = Some None
 parent_number (Some p) = option_map (λ n. Some n) (number p)
 
 -- N is a number, and so are the others
-abbrev pub asked_of : Word → WorkShape → Tail → Option Asked
-asked_of n shape tail = do
+abbrev pub new_request_of : Word → WorkShape → Tail → Option NewRequest
+new_request_of n shape tail = do
   own ← number n
   work ← work_of shape
   under ← parent_number tail.under
@@ -294,8 +330,8 @@ asked_of n shape tail = do
 -- HH is two digits.
 abbrev pub line_of : Shape → Option Line
 line_of (FailmodeShape mode) = Some (FailmodeLine mode)
-line_of (TopShape words) = option_map TopLine (numbers words)
+line_of (TopShape top) = top_of top
 line_of (FaultShape shape) = option_map FaultLine (row_of shape)
-line_of (RequestShape n shape tail) = option_map RequestLine (asked_of n shape tail)
+line_of (RequestShape n shape tail) = option_map RequestLine (new_request_of n shape tail)
 line_of GoShape = Some GoLine
 line_of ClearShape = Some ClearLine

@@ -1,5 +1,6 @@
 -- The form of a script that is run: one top of leaf 0, no faults, and batches of requests that each stand alone, by rising
--- numbers. A batch names each block once. Reads may fail; a write has one copy of at most a sector and may not fail.
+-- numbers. A batch names
+-- each block once, or by reads alone. Reads may fail; a write has one copy of at most a sector and may not fail.
 use Rattle.std.specs.Prelude.{◌≡◌, ◌<◌, ◌≤◌, ℕ, List, [], ◌∷◌, length, None, true, false}
 use Rattle.std.specs.List.{AllByRecursion}
 use Rattle.zio_types.specs.declared.request.Prio.{Prio}
@@ -12,15 +13,16 @@ use Rattle.zio_script.specs.declared.script.Request.{Request}
 use Rattle.zio_script.specs.declared.script.Script.{Script}
 use Rattle.zio_script.specs.declared.script.Work.TheVariants.{Read, Write}
 use Rattle.zio_script.specs.Bodies.{body_of}
-use Rattle.zio_script.specs.Requests.{name_of, names_it, requests_of}
-use Rattle.zio_script.specs.Whys.{batch_after, number_max}
+use Rattle.zio_script.specs.declared.limits.TheConstants.{NUMBER_MAX}
+use Rattle.zio_script.specs.Requests.{requests_of}
+use Rattle.zio_script.specs.Whys.{batch_after, clashes}
 
 -- a read, which may fail, with a number above the last
 pub record IsPlainRead (last : ℕ) (r : Request) : Type 0 where
   pub name : List ℕ
   pub prio : Prio
   pub above : last < r.number
-  pub most : r.number ≤ number_max
+  pub most : r.number ≤ NUMBER_MAX
   pub work : r.work ≡ Read name prio
   pub root : r.under ≡ None
   pub may : r.canfail ≡ true
@@ -32,7 +34,7 @@ pub record IsPlainWrite (last : ℕ) (r : Request) : Type 0 where
   pub prio : Prio
   pub body : Body
   pub above : last < r.number
-  pub most : r.number ≤ number_max
+  pub most : r.number ≤ NUMBER_MAX
   pub work : r.work ≡ Write name sum 1 prio body
   pub some : 1 ≤ length (body_of body)
   pub fits : length (body_of body) ≤ 512
@@ -43,9 +45,9 @@ pub data IsPlainRequest (last : ℕ) (r : Request) : Type 0 where
   IsRead : IsPlainRead last r → IsPlainRequest last r
   IsWrite : IsPlainWrite last r → IsPlainRequest last r
 
--- none of these requests names the block of this one
+-- none of these requests names the block of this one, but for reads where this is a read
 abbrev pub IsNewName : Request → List Request → Type 0
-IsNewName r batch = AllByRecursion (λ (q : Request). names_it (name_of r.work) (name_of q.work) ≡ false) batch
+IsNewName r batch = AllByRecursion (λ (q : Request). clashes false r.work q.work ≡ false) batch
 
 -- a line that may come next, where the last request has this number and the batch has these requests so far
 abbrev pub IsNextItem : ℕ → List Request → Item → Type 0
@@ -77,6 +79,6 @@ ArePlainItems last batch (item ∷ items) =
 -- one top of leaf 0, no faults, and such lines
 pub record IsPlainScript (script : Script) : Type 0 where
   pub failmode : script.failmode ≡ Wait
-  pub tops : script.tops ≡ (0 ∷ []) ∷ []
+  pub tops : script.tops ≡ record { leaves = 0 ∷ []; unit = 1 } ∷ []
   pub faults : script.faults ≡ []
   pub items : ArePlainItems 0 [] script.items

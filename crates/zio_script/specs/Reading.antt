@@ -6,40 +6,45 @@ use Rattle.zio_script.specs.declared.fixed.FirstWord.{FirstWord}
 use Rattle.zio_script.specs.declared.fixed.FirstWord.TheVariants.{Failmode as FailmodeWord, Top as TopWord, Fault as FaultWord, Go as GoWord, Clear as ClearWord}
 use Rattle.zio_script.specs.declared.fixed.BodyForm.{BodyForm}
 use Rattle.zio_script.specs.declared.fixed.BodyForm.TheVariants.{Data, Fill, Seq}
-use Rattle.zio_script.specs.declared.line.Asked.{Asked}
-use Rattle.zio_script.specs.declared.line.Deed.{Deed}
-use Rattle.zio_script.specs.declared.line.Deed.TheVariants.{Read as ReadDeed, Write as WriteDeed}
+use Rattle.zio_script.specs.declared.line.NewRequest.{NewRequest}
+use Rattle.zio_script.specs.declared.line.Access.{Access}
+use Rattle.zio_script.specs.declared.line.Access.TheVariants.{Read as ReadAccess, Write as WriteAccess}
 use Rattle.zio_script.specs.declared.line.Line.{Line}
 use Rattle.zio_script.specs.declared.line.Line.TheVariants.{Top, Go, Request}
 use Rattle.zio_script.specs.declared.line.LineFault.{LineFault}
 use Rattle.zio_script.specs.declared.line.LineFault.TheVariants.{NotBuilt, NoShape, NoNumber, Memory}
 use Rattle.zio_script.specs.declared.shape.BodyShape.{BodyShape as BodyWords}
 use Rattle.zio_script.specs.declared.shape.BodyShape.TheVariants.{Hex as HexWords, Fill as FillWords, Seq as SeqWords}
-use Rattle.zio_script.specs.declared.shape.DeedShape.{DeedShape as DeedWords}
-use Rattle.zio_script.specs.declared.shape.DeedShape.TheVariants.{Read as ReadWords, Write as WriteWords}
+use Rattle.zio_script.specs.declared.shape.AccessShape.{AccessShape as AccessWords}
+use Rattle.zio_script.specs.declared.shape.AccessShape.TheVariants.{Read as ReadWords, Write as WriteWords}
 use Rattle.zio_script.specs.declared.shape.LineShape.{LineShape as ShapeWords}
 use Rattle.zio_script.specs.declared.shape.LineShape.TheVariants.{Top as TopWords, Go as GoWords, Request as RequestWords}
-use Rattle.zio_script.specs.declared.shape.RequestShape.{RequestShape as AskedShape}
+use Rattle.zio_script.specs.declared.shape.RequestShape.{RequestShape as LoneRequestWords}
 use Rattle.zio_script.specs.declared.script.Work.{Work}
 use Rattle.zio_script.specs.declared.script.Work.TheVariants.{Read, Write}
 use Rattle.zio_script.specs.Built.{is_built, is_hex_built, is_len_built, is_long_len, is_never_built, is_top_built, is_read_built, is_write_built, is_built_as}
-use Rattle.zio_script.specs.Lines.{Asked as AskedWords, BodyShape, HexShape, FillShape, SeqShape, WorkShape, ReadShape, WriteShape, Line as LineWords, TopLine, RequestLine, GoLine, Shape, TopShape, RequestShape, GoShape, shape_of, failmode_shape, top_shape, fault_shape, go_shape, clear_shape, body_of_shape, line_of, ◌>>=◌}
+use Rattle.zio_script.specs.Lines.{NewRequest as NewRequestWords, BodyShape, HexShape, FillShape, SeqShape, WorkShape, ReadShape, WriteShape, Line as LineWords, LeavesLine, RequestLine, GoLine, Shape, TopShape, RequestShape, GoShape, shape_of, failmode_shape, top_shape, fault_shape, go_shape, clear_shape, body_of_shape, line_of, ◌>>=◌}
 use Rattle.zio_script.specs.Words.{Entry, Word, sum_words, value_in, write_classes}
 
 -- what a request does on this block
-abbrev pub work_on : List ℕ → Deed → Work
-work_on name (ReadDeed prio) = Read name prio
-work_on name (WriteDeed sum prio body) = Write name sum 1 prio body
+abbrev pub work_on : List ℕ → Access → Work
+work_on name (ReadAccess prio) = Read name prio
+work_on name (WriteAccess sum prio body) = Write name sum 1 prio body
 
 -- a request under no other, without a flag
-abbrev pub asked_alone : Asked → AskedWords
-asked_alone asked = record { number = asked.number; work = work_on asked.name.now asked.deed; under = None; flag = None }
+abbrev pub lone_request : NewRequest → NewRequestWords
+lone_request asked = record {
+  number = asked.number;
+  work = work_on asked.name.now asked.access;
+  under = None;
+  flag = None;
+}
 
 -- the line that was read
 abbrev pub line_as : Line → LineWords
-line_as Top = TopLine (0 ∷ [])
+line_as Top = LeavesLine (0 ∷ []) 512
 line_as Go = GoLine
-line_as (Request asked) = RequestLine (asked_alone asked)
+line_as (Request asked) = RequestLine (lone_request asked)
 
 -- the words are this line, whose form is built
 pub record IsLineOf (words : List Word) (line : LineWords) : Type 0 where
@@ -119,17 +124,18 @@ body_shape_as (FillWords byte len) = FillShape byte.now len.now
 body_shape_as (SeqWords seed len) = SeqShape seed.now len.now
 
 -- the shape of what a request does on this block
-abbrev pub deed_shape_as : Word → DeedWords → WorkShape
-deed_shape_as name (ReadWords prio) = ReadShape name prio
-deed_shape_as name (WriteWords sum prio body) = WriteShape name sum (codes "1") prio (body_shape_as body)
+abbrev pub access_shape_as : Word → AccessWords → WorkShape
+access_shape_as name (ReadWords prio) = ReadShape name prio
+access_shape_as name (WriteWords sum prio body) = WriteShape name sum (codes "1") prio (body_shape_as body)
 
 -- the shape of a request under no other, without a flag
-abbrev pub request_shape_as : AskedShape → Shape
-request_shape_as asked = RequestShape asked.number.now (deed_shape_as asked.name.now asked.deed) (record { under = None; flag = None })
+abbrev pub request_shape_as : LoneRequestWords → Shape
+request_shape_as asked =
+    RequestShape asked.number.now (access_shape_as asked.name.now asked.access) (record { under = None; flag = None })
 
 -- the shape that was read
 abbrev pub line_shape_as : ShapeWords → Shape
-line_shape_as TopWords = TopShape (codes "0" ∷ [])
+line_shape_as TopWords = TopShape (record { leaves = codes "0" ∷ []; sector = None })
 line_shape_as GoWords = GoShape
 line_shape_as (RequestWords asked) = request_shape_as asked
 
@@ -168,22 +174,23 @@ HasBuiltLen (FillWords byte len) = is_long_len len.now ≡ false
 HasBuiltLen (SeqWords seed len) = is_long_len len.now ≡ false
 
 -- a write's LEN is built
-abbrev pub HasBuiltDeed : DeedWords → Type 0
-HasBuiltDeed (ReadWords prio) = Unit {0}
-HasBuiltDeed (WriteWords sum prio body) = HasBuiltLen body
+abbrev pub HasBuiltAccess : AccessWords → Type 0
+HasBuiltAccess (ReadWords prio) = Unit {0}
+HasBuiltAccess (WriteWords sum prio body) = HasBuiltLen body
 
 -- the line's LEN is built
 abbrev pub HasBuiltLine : ShapeWords → Type 0
 HasBuiltLine TopWords = Unit {0}
 HasBuiltLine GoWords = Unit {0}
-HasBuiltLine (RequestWords asked) = HasBuiltDeed asked.deed
+HasBuiltLine (RequestWords asked) = HasBuiltAccess asked.access
 
 -- ---- numbers
 
 -- what a request does, once its words are read
-abbrev pub deed_of : DeedWords → Option Deed
-deed_of (ReadWords prio) = Some (ReadDeed prio)
-deed_of (WriteWords sum prio body) = option_map (λ it. WriteDeed sum prio it) (body_of_shape (body_shape_as body))
+abbrev pub access_of : AccessWords → Option Access
+access_of (ReadWords prio) = Some (ReadAccess prio)
+access_of (WriteWords sum prio body) =
+    option_map (λ it. WriteAccess sum prio it) (body_of_shape (body_shape_as body))
 
 -- why the words spell nothing; memory may always be wanting
 abbrev pub IsWrong : {X : Type 0} → Option X → LineFault → Type 0

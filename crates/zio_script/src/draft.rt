@@ -1,31 +1,29 @@
 //! What the lines so far make, and whether a line may follow them.
 ghost use Rattle.std.specs.Prelude.{◌≡◌, ◌≤◌, ◌∷◌, [], false, not, ◌||◌, IfErr, IfOk, OnOk, Some, None, map, nat_le};
 ghost use Rattle.zio_script.specs.declared.draft.Refusal.TheVariants.{Memory};
-ghost use Rattle.zio_script.specs.Drafts.{AddsLine, AddsWords, IsEnd, IsEndWhy, IsKept, IsLineWhy, IsNamed, IsShort, IsShortDeed, IsWordsWhy, batch_of, error_at, refusal_of, request_made, request_whys_of};
-ghost use Rattle.zio_script.specs.Lines.{GoLine, RequestLine, TopLine};
+ghost use Rattle.zio_script.specs.Drafts.{AddsLine, AddsWords, IsEnd, IsEndWhy, IsKept, IsLineWhy, IsNamed, IsShort, IsShortAccess, IsWordsWhy, batch_of, error_at, is_read_access, plain_top, refusal_of, request_made, request_whys_of};
+ghost use Rattle.zio_script.specs.Keys.{AreForgotten};
+ghost use Rattle.zio_script.specs.Lines.{GoLine, LeavesLine, RequestLine};
 ghost use Rattle.zio_script.specs.PlainForm.{IsPlainScript};
-ghost use Rattle.zio_script.specs.Reading.{asked_alone, line_as, work_on};
+ghost use Rattle.zio_script.specs.Reading.{lone_request, line_as, work_on};
 ghost use Rattle.zio_script.specs.Whys.{body_len, breaks_limit, fits_work, is_number, least_why};
 ghost use Rattle.zio_script.specs.Words.{is_skipped};
 
-use crate::line::{Asked, Deed, Line, LineFault, line_in};
+use crate::limits::{BATCH_LEN_MAX, NUMBER_MAX};
+use crate::line::{Access, Line, LineFault, NewRequest, line_in};
 use crate::names::BatchNames;
 use crate::word::is_comment;
-use crate::{Body, Failmode, Item, Name, Request, Script, ScriptError, ScriptFault, Work};
+use crate::{
+    Body, Failmode, Item, Name, Request, Script, ScriptError, ScriptFault, TopLine, Why, Work,
+};
 use std::alloc::{AllocFailed, Global};
 use zio_types::{List, NoMemory};
-
-/// The highest number of a request.
-const NUMBER_MAX: u64 = 65_535;
-
-/// The most requests of a batch.
-const REQUESTS_MAX: u32 = 1024;
 
 /// Why a line doesn't follow those before it.
 #[derive(Debug, Drop)]
 pub(crate) enum Refusal {
-    /// The least why, as docs/FORMATS.md has them under "Whys".
-    Why(u32),
+    /// The least why.
+    Faulty(Why),
     /// Want of memory.
     Memory,
 }
@@ -36,7 +34,10 @@ impl Refusal {
         ensures { result ≡ error_at line self }
     {
         match self {
-            Refusal::Why(why) => ScriptError::Fault(ScriptFault { line, why }),
+            Refusal::Faulty(why) => ScriptError::Fault(ScriptFault {
+                line,
+                why: why.number(),
+            }),
             Refusal::Memory => ScriptError::Memory,
         }
     }
@@ -112,14 +113,14 @@ impl Draft {
     fn add_top(&mut self) -> Result<(), Refusal>
         requires { IsKept self.old }
         ensures kept { OnOk result (IsKept self.new) }
-        ensures added { OnOk result (AddsLine self.old (TopLine (0 ∷ [])) self.new) }
-        ensures why { IfErr result (IsLineWhy self.old (TopLine (0 ∷ []))) }
+        ensures added { OnOk result (AddsLine self.old (LeavesLine (0 ∷ []) 512) self.new) }
+        ensures why { IfErr result (IsLineWhy self.old (LeavesLine (0 ∷ []) 512)) }
     {
         if !self.items.is_empty() {
-            return Err(Refusal::Why(4));
+            return Err(Refusal::Faulty(Why::Order));
         }
         if self.has_top {
-            return Err(Refusal::Why(9));
+            return Err(Refusal::Faulty(Why::Pool));
         }
         self.has_top = true;
         Ok(())
@@ -132,7 +133,7 @@ impl Draft {
         ensures why { IfErr result (IsLineWhy self.old GoLine) }
     {
         if self.batch_len == 0 {
-            return Err(Refusal::Why(4));
+            return Err(Refusal::Faulty(Why::Order));
         }
         self.items.push(Item::Go)?;
         self.batch_len = 0;
@@ -140,31 +141,32 @@ impl Draft {
         Ok(())
     }
 
-    fn add_request(&mut self, asked: Asked) -> Result<(), Refusal>
+    fn add_request(&mut self, asked: NewRequest) -> Result<(), Refusal>
         requires kept { IsKept self.old }
-        requires short { IsShortDeed asked.deed }
+        requires short { IsShortAccess asked.access }
         ensures kept { OnOk result (IsKept self.new) }
-        ensures added { OnOk result (AddsLine self.old (RequestLine (asked_alone asked.entry)) self.new) }
-        ensures why { IfErr result (IsLineWhy self.old (RequestLine (asked_alone asked.entry))) }
+        ensures added { OnOk result (AddsLine self.old (RequestLine (lone_request asked.entry)) self.new) }
+        ensures why { IfErr result (IsLineWhy self.old (RequestLine (lone_request asked.entry))) }
     {
         match self.name_for(&asked) {
             Ok(name) => self.add_named(asked, name),
-            Err(why) => Err(Refusal::Why(why)),
+            Err(why) => Err(Refusal::Faulty(why)),
         }
     }
 
-    // Adds a request with its name, unless the batch has the name.
-    fn add_named(&mut self, asked: Asked, name: Name) -> Result<(), Refusal>
+    // Adds a request with its name, unless the batch has it and they aren't all reads.
+    fn add_named(&mut self, asked: NewRequest, name: Name) -> Result<(), Refusal>
         requires kept { IsKept self.old }
-        requires short { IsShortDeed asked.deed }
+        requires short { IsShortAccess asked.access }
         requires named { IsNamed self.old asked }
         requires name { name ≡ asked.name.now }
         ensures kept { OnOk result (IsKept self.new) }
-        ensures added { OnOk result (AddsLine self.old (RequestLine (asked_alone asked.entry)) self.new) }
-        ensures why { IfErr result (IsLineWhy self.old (RequestLine (asked_alone asked.entry))) }
+        ensures added { OnOk result (AddsLine self.old (RequestLine (lone_request asked.entry)) self.new) }
+        ensures why { IfErr result (IsLineWhy self.old (RequestLine (lone_request asked.entry))) }
     {
-        if !self.names.insert(name.key())? {
-            return Err(Refusal::Why(6));
+        let is_read = is_read(&asked.access);
+        if !self.names.insert(name.key(), is_read)? {
+            return Err(Refusal::Faulty(Why::Conflict));
         }
         self.last = asked.number as u32;
         self.batch_len += 1;
@@ -173,28 +175,28 @@ impl Draft {
     }
 
     // The name of the request's block, or the least why below 6.
-    fn name_for(&self, asked: &Asked) -> Result<Name, u32>
+    fn name_for(&self, asked: &NewRequest) -> Result<Name, Why>
         requires kept { IsKept self.now }
-        requires short { IsShortDeed asked.now.deed }
+        requires short { IsShortAccess asked.now.access }
         ensures named { OnOk result (IsNamed self.now asked.now) }
         ensures name { IfOk result (λ name. name ≡ asked.now.name.now) }
         ensures why { IfErr result (λ why. least_why (request_whys_of self.now asked.now) ≡ Some why) }
     {
         if self.breaks_limit(asked) {
-            return Err(3);
+            return Err(Why::Limit);
         }
         if !self.has_top || asked.number <= u64::from(self.last) {
-            return Err(4);
+            return Err(Why::Order);
         }
-        Name::from_word(asked.name).ok_or(5)
+        Name::from_word(asked.name).ok_or(Why::Name)
     }
 
-    fn breaks_limit(&self, asked: &Asked) -> bool
+    fn breaks_limit(&self, asked: &NewRequest) -> bool
         requires kept { IsKept self.now }
-        requires short { IsShortDeed asked.now.deed }
-        ensures { result ≡ breaks_limit (batch_of self.now) (asked_alone asked.now) }
+        requires short { IsShortAccess asked.now.access }
+        ensures { result ≡ breaks_limit (batch_of self.now) (lone_request asked.now) }
     {
-        !is_number(asked.number) || is_empty_write(&asked.deed) || self.batch_len >= REQUESTS_MAX
+        !is_number(asked.number) || is_empty_write(&asked.access) || self.batch_len >= BATCH_LEN_MAX
     }
 
     /// The script, or what is wrong at the end of the text, behind the line before this number.
@@ -205,10 +207,10 @@ impl Draft {
         ensures fault { IfErr result (IsEndWhy self line) }
     {
         if self.batch_len > 0 {
-            return Err(Refusal::Why(4).at(line));
+            return Err(Refusal::Faulty(Why::Order).at(line));
         }
         if !self.has_top {
-            return Err(Refusal::Why(9).at(line));
+            return Err(Refusal::Faulty(Why::Pool).at(line));
         }
         Ok(Script {
             failmode: Failmode::Wait,
@@ -219,14 +221,14 @@ impl Draft {
     }
 }
 
-// The tops of leaf 0 alone.
-fn only_top(alloc: Global) -> Result<List<List<u32>>, NoMemory>
-    ensures { IfOk result (λ tops. tops ≡ (0 ∷ []) ∷ []) }
+// One top of leaf 0 alone.
+fn only_top(alloc: Global) -> Result<List<TopLine>, NoMemory>
+    ensures { IfOk result (λ tops. tops ≡ plain_top ∷ []) }
 {
     let mut leaves = List::new(alloc);
     leaves.push(0)?;
     let mut tops = List::new(alloc);
-    tops.push(leaves)?;
+    tops.push(TopLine { leaves, unit: 1 })?;
     Ok(tops)
 }
 
@@ -243,9 +245,9 @@ fn refusal_of(fault: LineFault) -> Refusal
     ensures { result ≡ refusal_of fault }
 {
     match fault {
-        LineFault::NotBuilt => Refusal::Why(10),
-        LineFault::NoShape => Refusal::Why(1),
-        LineFault::NoNumber => Refusal::Why(2),
+        LineFault::NotBuilt => Refusal::Faulty(Why::NotYet),
+        LineFault::NoShape => Refusal::Faulty(Why::Word),
+        LineFault::NoNumber => Refusal::Faulty(Why::Number),
         LineFault::Memory => Refusal::Memory,
     }
 }
@@ -253,17 +255,23 @@ fn refusal_of(fault: LineFault) -> Refusal
 fn is_number(number: u64) -> bool
     ensures { result ≡ is_number number }
 {
-    (1..=NUMBER_MAX).contains(&number)
+    (1..=u64::from(NUMBER_MAX)).contains(&number)
+}
+
+fn is_read(access: &Access) -> bool
+    ensures { result ≡ is_read_access access.now }
+{
+    matches!(access, Access::Read { .. })
 }
 
 // A write without a byte.
-fn is_empty_write(deed: &Deed) -> bool
-    requires { IsShortDeed deed.now }
-    ensures { result ≡ not (fits_work (work_on [] deed.now)) }
+fn is_empty_write(access: &Access) -> bool
+    requires { IsShortAccess access.now }
+    ensures { result ≡ not (fits_work (work_on [] access.now)) }
 {
-    match deed {
-        Deed::Read { .. } => false,
-        Deed::Write { body, .. } => body_len(body) == 0,
+    match access {
+        Access::Read { .. } => false,
+        Access::Write { body, .. } => body_len(body) == 0,
     }
 }
 
@@ -277,20 +285,20 @@ fn body_len(body: &Body) -> usize
 }
 
 // A read may fail, and a write may not.
-fn request_of(asked: Asked, name: Name) -> Request
+fn request_of(asked: NewRequest, name: Name) -> Request
     requires fits { asked.number ≤ 65535 }
     requires name { name ≡ asked.name.now }
     ensures { result ≡ request_made asked.entry }
 {
     let number = asked.number as u32;
-    match asked.deed {
-        Deed::Read { prio } => Request {
+    match asked.access {
+        Access::Read { prio } => Request {
             number,
             work: Work::Read { name, prio },
             under: None,
             canfail: true,
         },
-        Deed::Write { sum, prio, body } => Request {
+        Access::Write { sum, prio, body } => Request {
             number,
             work: Work::Write {
                 name,

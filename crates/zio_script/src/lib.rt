@@ -1,15 +1,19 @@
 //! Scripts: what a run is to do, on which tops and with which faults.
 //!
 //! It stands on `zio_types`, `zio_blkptr` and `zio_faults`. Read `Script` first, then `read_script`, then `body_bytes`.
-//! `specs/Grammar` says which texts are scripts, with `specs/Words`, `specs/Lines` and `specs/Whys` below it, `specs/Built`
-//! which forms are read so far, and `specs/Bodies` what the bytes of a write's body are; docs/FORMATS.md, "Script", has the
-//! language. `specs/Reading`, `specs/Drafts` and `specs/Keys` are the reader's own, and nothing of them has to be believed.
+//! `specs/Grammar` says which texts are scripts, with `specs/Words`, `specs/Lines` and `specs/Whys` below it,
+//! `specs/Built` which forms are read so far, `specs/Accepted` what holds of every script, and `specs/Bodies` what the
+//! bytes of a write's body are; docs/FORMATS.md, "Script", has the language. `specs/Decisions` says how requests go
+//! again by a script's failmode. `specs/Reading`, `specs/Drafts` and
+//! `specs/Keys` are the reader's own, and nothing of them has to be believed.
 #![tactic(auto)]
 
 mod body;
 mod built;
 mod draft;
 mod fixed;
+mod laws;
+mod limits;
 mod line;
 mod name;
 mod names;
@@ -18,10 +22,18 @@ mod script;
 mod shape;
 #[cfg(test)]
 mod tests;
+mod why;
 mod word;
 mod work;
 
 pub use body::body_bytes;
+pub use laws::accepted_scripts_are_orderly;
+pub use limits::{
+    BATCH_LEN_MAX, BATCH_SIZE_MAX, CHILDREN_MAX, CLEARS_MAX, COPIES_MAX, DEPTH_MAX,
+    FAULT_RANGE_MAX, FAULTS_MAX, LEAF_MAX, NUMBER_MAX, POINT_MAX, POINTER_SIZE, TOP_LEAVES_MAX,
+    TOPS_MAX,
+};
 pub use name::{NAME_LEN_MAX, Name};
 pub use read::{SCRIPT_LEN_MAX, read_script};
-pub use script::{Body, Failmode, Item, Request, Script, ScriptError, ScriptFault, Work};
+pub use script::{Body, Failmode, Item, Request, Script, ScriptError, ScriptFault, TopLine, Work};
+pub use why::Why;

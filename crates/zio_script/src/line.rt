@@ -2,12 +2,12 @@
 ghost use Rattle.std.specs.Prelude.{◌≡◌, false, IfErr, IfOk, Some, map};
 ghost use Rattle.zio_script.specs.Built.{is_long_len};
 ghost use Rattle.zio_script.specs.Lines.{FillShape, HexShape, RequestLine, SeqShape, body_of_shape, line_of};
-ghost use Rattle.zio_script.specs.Reading.{HasBuiltDeed, HasBuiltLen, HasBuiltLine, IsLineOf, IsWhyOf, IsWrong, asked_alone, body_shape_as, deed_of, line_as, line_shape_as, request_shape_as};
+ghost use Rattle.zio_script.specs.Reading.{HasBuiltAccess, HasBuiltLen, HasBuiltLine, IsLineOf, IsWhyOf, IsWrong, lone_request, body_shape_as, access_of, line_as, line_shape_as, request_shape_as};
 ghost use Rattle.zio_script.specs.Words.{byte_of, number};
 
 use crate::Body;
 use crate::built::is_built;
-use crate::shape::{BodyShape, DeedShape, LineShape, RequestShape, line_shape};
+use crate::shape::{AccessShape, BodyShape, LineShape, RequestShape, line_shape};
 use crate::word::{byte_of, bytes_of, number};
 use std::alloc::Global;
 use zio_blkptr::SumKind;
@@ -19,21 +19,21 @@ pub(crate) enum Line<'a> {
     /// One top, of leaf 0.
     Top,
     Go,
-    Request(Asked<'a>),
+    Request(NewRequest<'a>),
 }
 
 /// A request that stands under no other and has no flag.
 #[derive(Drop)]
-pub(crate) struct Asked<'a> {
+pub(crate) struct NewRequest<'a> {
     pub number: u64,
     /// The word in the name's place.
     pub name: &'a [u8],
-    pub deed: Deed,
+    pub access: Access,
 }
 
 /// What a request does with its block.
 #[derive(Drop)]
-pub(crate) enum Deed {
+pub(crate) enum Access {
     Read {
         prio: Prio,
     },
@@ -80,34 +80,35 @@ fn line_of(alloc: Global, shape: LineShape<'_>) -> Result<Line<'_>, LineFault>
     match shape {
         LineShape::Top => Ok(Line::Top),
         LineShape::Go => Ok(Line::Go),
-        LineShape::Request(request) => Ok(Line::Request(asked_of(alloc, request)?)),
+        LineShape::Request(request) => Ok(Line::Request(new_request_of(alloc, request)?)),
     }
 }
 
-fn asked_of(alloc: Global, request: RequestShape<'_>) -> Result<Asked<'_>, LineFault>
-    requires { HasBuiltDeed request.deed }
-    ensures line { IfOk result (λ asked. line_of (request_shape_as request.entry) ≡ Some (RequestLine (asked_alone asked))) }
+fn new_request_of(alloc: Global, request: RequestShape<'_>) -> Result<NewRequest<'_>, LineFault>
+    requires { HasBuiltAccess request.access }
+    ensures line { IfOk result (λ asked.
+        line_of (request_shape_as request.entry) ≡ Some (RequestLine (lone_request asked))) }
     ensures fault { IfErr result (IsWrong (line_of (request_shape_as request.entry))) }
 {
     let number = number_in(request.number)?;
-    let deed = deed_of(alloc, request.deed)?;
-    Ok(Asked {
+    let access = access_of(alloc, request.access)?;
+    Ok(NewRequest {
         number,
         name: request.name,
-        deed,
+        access,
     })
 }
 
-fn deed_of(alloc: Global, deed: DeedShape<'_>) -> Result<Deed, LineFault>
-    requires { HasBuiltDeed deed }
-    ensures deed { IfOk result (λ made. deed_of deed.entry ≡ Some made) }
-    ensures fault { IfErr result (IsWrong (deed_of deed.entry)) }
+fn access_of(alloc: Global, access: AccessShape<'_>) -> Result<Access, LineFault>
+    requires { HasBuiltAccess access }
+    ensures access { IfOk result (λ made. access_of access.entry ≡ Some made) }
+    ensures fault { IfErr result (IsWrong (access_of access.entry)) }
 {
-    match deed {
-        DeedShape::Read { prio } => Ok(Deed::Read { prio }),
-        DeedShape::Write { sum, prio, body } => {
+    match access {
+        AccessShape::Read { prio } => Ok(Access::Read { prio }),
+        AccessShape::Write { sum, prio, body } => {
             let body = body_of_shape(alloc, body)?;
-            Ok(Deed::Write { sum, prio, body })
+            Ok(Access::Write { sum, prio, body })
         },
     }
 }

@@ -74,12 +74,20 @@ pub enum Item {
     Clear,
 }
 
+/// A top: a mirror of its leaves.
+#[derive(Debug, Drop)]
+pub struct TopLine {
+    /// One to four numbers of leaves.
+    pub leaves: List<u32>,
+    /// How many sectors of 512 bytes a sector of the leaves has: 1, 2, 4 or 8.
+    pub unit: u32,
+}
+
 /// What a run is to do.
 #[derive(Debug, Drop)]
 pub struct Script {
     pub failmode: Failmode,
-    /// The leaves of each top.
-    pub tops: List<List<u32>>,
+    pub tops: List<TopLine>,
     pub faults: List<Row>,
     pub items: List<Item>,
 }
@@ -89,7 +97,7 @@ pub struct Script {
 pub struct ScriptFault {
     /// From 1; 0 where the script is too long.
     pub line: u32,
-    /// 1 to 10, as docs/FORMATS.md has them under "Script".
+    /// The number of a `Why`.
     pub why: u32,
 }
 

@@ -2,7 +2,7 @@
 ghost use Rattle.std.specs.Prelude.{◌≡◌, IfSome, Some, drop, map, option_map, true};
 ghost use Rattle.zio_script.specs.Built.{body_forms, is_built, is_built_by, is_read_built, is_write_built, line_forms, work_forms};
 ghost use Rattle.zio_script.specs.Lines.{kind_shape, named_shape, request_shape, shape_of};
-ghost use Rattle.zio_script.specs.Reading.{HasBuiltDeed, HasBuiltLen, HasBuiltLine, body_shape_as, content_of, first_shape, is_content_built, is_first_built, is_work_built, line_shape_as, one_copy_shape, request_shape_as, whole_body};
+ghost use Rattle.zio_script.specs.Reading.{HasBuiltAccess, HasBuiltLen, HasBuiltLine, body_shape_as, content_of, first_shape, is_content_built, is_first_built, is_work_built, line_shape_as, one_copy_shape, request_shape_as, whole_body};
 ghost use Rattle.zio_types.specs.declared.request.Kind.TheVariants.{Read, Write};
 
 use crate::fixed::{
@@ -25,12 +25,12 @@ pub(crate) enum LineShape<'a> {
 pub(crate) struct RequestShape<'a> {
     pub number: &'a [u8],
     pub name: &'a [u8],
-    pub deed: DeedShape<'a>,
+    pub access: AccessShape<'a>,
 }
 
 /// What a request does with its block.
 #[derive(Clone, Copy)]
-pub(crate) enum DeedShape<'a> {
+pub(crate) enum AccessShape<'a> {
     Read {
         prio: Prio,
     },
@@ -87,7 +87,7 @@ fn first_shape<'a>(first: FirstWord, words: &[&'a [u8]]) -> Option<LineShape<'a>
 fn request_shape<'a>(words: &[&'a [u8]]) -> Option<RequestShape<'a>>
     requires { is_built_by work_forms (drop 1 (map (λ w. w.now) words.now)) ≡ true }
     ensures shape { option_map request_shape_as result ≡ request_shape (map (λ w. w.now) words.now) }
-    ensures len { IfSome result (λ request. HasBuiltDeed request.deed) }
+    ensures len { IfSome result (λ request. HasBuiltAccess request.access) }
 {
     let (number, rest) = words.split_first()?;
     let (word, rest) = rest.split_first()?;
@@ -96,8 +96,9 @@ fn request_shape<'a>(words: &[&'a [u8]]) -> Option<RequestShape<'a>>
 
 fn work_shape<'a>(number: &'a [u8], kind: Kind, words: &[&'a [u8]]) -> Option<RequestShape<'a>>
     requires { is_work_built (Some kind) (map (λ w. w.now) words.now) ≡ true }
-    ensures shape { option_map request_shape_as result ≡ kind_shape number.now kind (map (λ w. w.now) words.now) }
-    ensures len { IfSome result (λ request. HasBuiltDeed request.deed) }
+    ensures shape { option_map request_shape_as result
+        ≡ kind_shape number.now kind (map (λ w. w.now) words.now) }
+    ensures len { IfSome result (λ request. HasBuiltAccess request.access) }
 {
     match kind {
         Kind::Read => read_shape(number, words),
@@ -108,8 +109,9 @@ fn work_shape<'a>(number: &'a [u8], kind: Kind, words: &[&'a [u8]]) -> Option<Re
 
 fn read_shape<'a>(number: &'a [u8], words: &[&'a [u8]]) -> Option<RequestShape<'a>>
     requires { is_read_built (map (λ w. w.now) words.now) ≡ true }
-    ensures shape { option_map request_shape_as result ≡ kind_shape number.now Read (map (λ w. w.now) words.now) }
-    ensures len { IfSome result (λ request. HasBuiltDeed request.deed) }
+    ensures shape { option_map request_shape_as result
+        ≡ kind_shape number.now Read (map (λ w. w.now) words.now) }
+    ensures len { IfSome result (λ request. HasBuiltAccess request.access) }
 {
     let [name, class] = words else {
         return None;
@@ -118,14 +120,15 @@ fn read_shape<'a>(number: &'a [u8], words: &[&'a [u8]]) -> Option<RequestShape<'
     Some(RequestShape {
         number,
         name,
-        deed: DeedShape::Read { prio },
+        access: AccessShape::Read { prio },
     })
 }
 
 fn write_shape<'a>(number: &'a [u8], words: &[&'a [u8]]) -> Option<RequestShape<'a>>
     requires { is_write_built (map (λ w. w.now) words.now) ≡ true }
-    ensures shape { option_map request_shape_as result ≡ kind_shape number.now Write (map (λ w. w.now) words.now) }
-    ensures len { IfSome result (λ request. HasBuiltDeed request.deed) }
+    ensures shape { option_map request_shape_as result
+        ≡ kind_shape number.now Write (map (λ w. w.now) words.now) }
+    ensures len { IfSome result (λ request. HasBuiltAccess request.access) }
 {
     match words {
         [name, sum, _, class, body @ ..] => one_copy_shape(number, name, sum, class, body),
@@ -142,8 +145,9 @@ fn one_copy_shape<'a>(
     body: &[&'a [u8]],
 ) -> Option<RequestShape<'a>>
     requires { is_built_by body_forms (map (λ w. w.now) body.now) ≡ true }
-    ensures shape { option_map request_shape_as result ≡ one_copy_shape number.now name.now sum.now class.now (map (λ w. w.now) body.now) }
-    ensures len { IfSome result (λ request. HasBuiltDeed request.deed) }
+    ensures shape { option_map request_shape_as result
+        ≡ one_copy_shape number.now name.now sum.now class.now (map (λ w. w.now) body.now) }
+    ensures len { IfSome result (λ request. HasBuiltAccess request.access) }
 {
     let sum = sum_in(sum)?;
     let prio = write_class_in(class)?;
@@ -151,7 +155,7 @@ fn one_copy_shape<'a>(
     Some(RequestShape {
         number,
         name,
-        deed: DeedShape::Write { sum, prio, body },
+        access: AccessShape::Write { sum, prio, body },
     })
 }
 

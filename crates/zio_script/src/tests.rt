@@ -51,7 +51,11 @@ const FAULTY: &[(&[u8], u32, u32)] = &[
     (b"top 0\n1 read abcdefghijklmnopq sync\ngo\n", 2, 5),
     (b"top 0\n1 write a-b off 1 sync fill 00 1\ngo\n", 2, 5),
     // a name twice
-    (b"top 0\n1 read x sync\n2 read x sync\ngo\n", 3, 6),
+    (
+        b"top 0\n1 read x sync\n2 read x sync\n3 write x off 1 sync fill 00 1\n",
+        4,
+        6,
+    ),
     (
         b"top 0\n1 write x off 1 sync fill 00 1\n2 read y sync\n3 read x sync\ngo\n",
         4,
@@ -72,6 +76,7 @@ const FAULTY: &[(&[u8], u32, u32)] = &[
     (b"top 0\nclear up\n", 2, 10),
     (b"top\n", 1, 10),
     (b"top 0 1\n", 1, 10),
+    (b"top 0 sector 512\n", 1, 10),
     (b"top 0\n1 null\n", 2, 10),
     (b"top 0\ngo free\n", 2, 10),
     (b"top 0\n1 claim x zz\n", 2, 10),
@@ -148,6 +153,10 @@ fn scripts_are_read(rt: HostRuntime) -> Result<(), Fail> {
         (
             b"top 0\n7 write abcdefghijklm_09 sha256 1 async seq 18446744073709551615 512\ngo\n",
             "rg",
+        ),
+        (
+            b"top 0\n1 read x sync\n2 read y sync\n3 read x async\n4 read x scrub\ngo\n",
+            "rrrrg",
         ),
         (
             b"top 0\n65535 write x fletcher4 1 sync fill aF 512\ngo\n",

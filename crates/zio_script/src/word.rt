@@ -125,7 +125,8 @@ fn has_leading_zero(word: &[u8]) -> bool
 // The number that the digits spell, which may be too large for its type.
 fn digits_value(digits: &[u8]) -> Option<u64>
     requires { list_all (λ c. is_digit c 10) digits.now ≡ true }
-    ensures { MatchOption result (2 ^ 64 ≤ digits_value 10 digits.now) (λ value. value ≡ digits_value 10 digits.now) }
+    ensures { MatchOption result (2 ^ 64 ≤ digits_value 10 digits.now)
+        (λ value. value ≡ digits_value 10 digits.now) }
 {
     let mut value = 0u64;
     for digit in digits {

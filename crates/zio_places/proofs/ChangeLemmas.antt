@@ -5,9 +5,10 @@ use Rattle.std.proofs.Common.{inl, inr}
 use Rattle.std.proofs.lemmas.Bool.{cases_Bool, cases_lt, cases_eq, false_from_ne_true}
 use Rattle.std.proofs.lemmas.List.{get_or-set_same, get_or-set_other, get_or_past, get_or_default, length-set}
 use Rattle.zio_types.specs.declared.place.Place.{Place}
+use Rattle.zio_types.specs.declared.place.TopSize.{TopSize}
 use Rattle.zio_types.specs.Places.{end_of}
-use Rattle.zio_places.specs.Flags.{flag_at, AreAll, GetFlag}
-use Rattle.zio_places.specs.Tables.{TopState, no_top, top_at, sizes_of, places_here, covers, one_if, total, taken_in, taken_at, length_at, AreEven, HasFlags, GetUsed, GetLive}
+use Rattle.zio_places.specs.Flags.{flag_at, AreAll, IsRangeSet}
+use Rattle.zio_places.specs.Tables.{TopState, no_top, top_at, size_of, sizes_of, places_here, covers, one_if, total, taken_in, taken_at, length_at, HaveEqualLengths, HasFlags, IsMarkedUsed, IsEntered}
 use Rattle.zio_places.proofs.PlaceLemmas.{covers-from, covers-parts}
 use Rattle.zio_places.proofs.TableLemmas.{total_set}
 
@@ -24,6 +25,9 @@ taken_in-free xs k e =
       | inl here ↦ taken_in-flag xs k here ∙ ap (λ b. one_if (not b)) e
       | inr past ↦ taken_in-past xs k past
     ]
+
+pub taken_in-used : (xs : List Bool) (k : ℕ) → k < length xs → flag_at xs k ≡ false → taken_in xs k ≡ 1
+taken_in-used xs k h e = taken_in-flag xs k h ∙ ap (λ b. one_if (not b)) e
 
 pub taken_in-one : (xs : List Bool) (k : ℕ) → 0 < taken_in xs k → (k < length xs) × (flag_at xs k ≡ false)
 taken_in-one xs k h =
@@ -48,10 +52,16 @@ top_at-set tops k x h = get_or-set_same tops k x no_top h
 pub top_at-other : (tops : List TopState) (k t : ℕ) (x : TopState) → t ≢ k → top_at (set tops k x) t ≡ top_at tops t
 top_at-other tops k t x h = get_or-set_other tops k t x no_top h
 
-pub sizes_of-set : (tops : List TopState) (k : ℕ) (x : TopState) → k < length tops → length x.lengths ≡ length (top_at tops k).lengths → sizes_of (set tops k x) ≡ sizes_of tops
+pub sizes_of-set : (tops : List TopState) (k : ℕ) (x : TopState) → k < length tops → size_of x ≡ size_of (top_at tops k) → sizes_of (set tops k x) ≡ sizes_of tops
 sizes_of-set [] k x h e = absurd (omega arith)
-sizes_of-set (t ∷ tops) zero x h e = ap (λ n. n ∷ sizes_of tops) e
-sizes_of-set (t ∷ tops) (suc k) x h e = ap (λ ns. length t.lengths ∷ ns) (sizes_of-set tops k x (omega arith) e)
+sizes_of-set (t ∷ tops) zero x h e = ap (λ s. s ∷ sizes_of tops) e
+sizes_of-set (t ∷ tops) (suc k) x h e = ap (λ ss. size_of t ∷ ss) (sizes_of-set tops k x (omega arith) e)
+
+-- a top of as many sectors and of the same unit has the same size
+pub size_of-same : (x t : TopState) → length x.lengths ≡ length t.lengths → x.unit ≡ t.unit → size_of x ≡ size_of t
+size_of-same x t e u =
+    let make : ℕ → ℕ → TopSize = λ n m. record { sectors = n; unit = m } in
+    ap (λ n. make n x.unit) e ∙ ap (make (length t.lengths)) u
 
 -- a fact of each top, where it holds of the new one and held of all
 each_top : (P : TopState → TopState → Type 0) → ((t : TopState) → P t t) → (tops : List TopState) (k : ℕ) (x : TopState) → k < length tops → P (top_at tops k) x →
@@ -78,7 +88,7 @@ covers-not : (p : Place) (top sector : ℕ) → ((p.top ≡ top) → (p.sector �
 covers-not p top sector h = false_from_ne_true (covers p top sector) (λ on. let c = covers-parts p top sector on in h c.top c.from c.to)
 
 -- free sectors that get used count for their place
-taken-marked : (old new : List Bool) (p : Place) (sector : ℕ) → GetFlag old new p.sector p.sectors false → AreAll old p.sector p.sectors true →
+taken-marked : (old new : List Bool) (p : Place) (sector : ℕ) → IsRangeSet old new p.sector p.sectors false → AreAll old p.sector p.sectors true →
     taken_in new sector ≡ one_if (covers p p.top sector) + taken_in old sector
 taken-marked old new p sector h free =
     elim (cases_lt sector p.sector) [
@@ -112,10 +122,10 @@ taken-marked old new p sector h free =
     ]
 
 -- and used ones that get free no longer do
-taken-cleared : (old new : List Bool) (p : Place) (sector : ℕ) → GetFlag old new p.sector p.sectors true → AreAll old p.sector p.sectors false →
+taken-cleared : (old new : List Bool) (p : Place) (sector : ℕ) → IsRangeSet old new p.sector p.sectors true → AreAll old p.sector p.sectors false →
     taken_in old sector ≡ one_if (covers p p.top sector) + taken_in new sector
 taken-cleared old new p sector h used =
-    let back : GetFlag new old p.sector p.sectors false = record {
+    let back : IsRangeSet new old p.sector p.sectors false = record {
       length = sym h.length;
       within = used.each;
       before = λ k l. sym (h.before k l);
@@ -123,9 +133,9 @@ taken-cleared old new p sector h used =
     } in
     taken-marked new old p sector back (record { fits = omega (arith, h.length, used.fits); each = h.within })
 
-module _ (tops : List TopState) (p : Place) (x : TopState) (there : p.top < length tops) (lengths : x.lengths ≡ (top_at tops p.top).lengths) (long : length x.free ≡ length (top_at tops p.top).free) where
+module _ (tops : List TopState) (p : Place) (x : TopState) (there : p.top < length tops) (lengths : x.lengths ≡ (top_at tops p.top).lengths) (long : length x.free ≡ length (top_at tops p.top).free) (unit : x.unit ≡ (top_at tops p.top).unit) where
   same_sizes : sizes_of (set tops p.top x) ≡ sizes_of tops
-  same_sizes = sizes_of-set tops p.top x there (ap length lengths)
+  same_sizes = sizes_of-set tops p.top x there (size_of-same x (top_at tops p.top) (ap length lengths) unit)
 
   same_lengths : (top : ℕ) → (top_at (set tops p.top x) top).lengths ≡ (top_at tops top).lengths
   same_lengths = each_top (λ t u. u.lengths ≡ t.lengths) (λ t. refl) tops p.top x there lengths
@@ -133,10 +143,10 @@ module _ (tops : List TopState) (p : Place) (x : TopState) (there : p.top < leng
   same_long : (top : ℕ) → length (top_at (set tops p.top x) top).free ≡ length (top_at tops top).free
   same_long = each_top (λ t u. length u.free ≡ length t.free) (λ t. refl) tops p.top x there long
 
-  still_even : AreEven tops → AreEven (set tops p.top x)
+  still_even : HaveEqualLengths tops → HaveEqualLengths (set tops p.top x)
   still_even h = λ top. same_long top ∙ h top ∙ sym (ap length (same_lengths top))
 
-  was_even : AreEven (set tops p.top x) → AreEven tops
+  was_even : HaveEqualLengths (set tops p.top x) → HaveEqualLengths tops
   was_even h = λ top. sym (same_long top) ∙ h top ∙ ap length (same_lengths top)
 
   other_top : (top sector : ℕ) → top ≢ p.top → (covers p top sector ≡ false) × (taken_at (set tops p.top x) top sector ≡ taken_at tops top sector)
@@ -145,37 +155,37 @@ module _ (tops : List TopState) (p : Place) (x : TopState) (there : p.top < leng
   this_top : (sector : ℕ) → taken_at (set tops p.top x) p.top sector ≡ taken_in x.free sector
   this_top sector = ap (λ (t : TopState). taken_in t.free sector) (top_at-set tops p.top x there)
 
-pub GetUsed-marked : (tops : List TopState) (p : Place) (x : TopState) → HasFlags tops p true → GetFlag (top_at tops p.top).free x.free p.sector p.sectors false → x.lengths ≡ (top_at tops p.top).lengths →
-    GetUsed tops (set tops p.top x) p
-GetUsed-marked tops p x room change lengths =
+pub IsMarkedUsed-marked : (tops : List TopState) (p : Place) (x : TopState) → HasFlags tops p true → IsRangeSet (top_at tops p.top).free x.free p.sector p.sectors false → x.lengths ≡ (top_at tops p.top).lengths → x.unit ≡ (top_at tops p.top).unit →
+    IsMarkedUsed tops (set tops p.top x) p
+IsMarkedUsed-marked tops p x room change lengths unit =
     let there = inside-top tops p true room in
     record {
-      sizes = same_sizes tops p x there lengths change.length;
-      even = still_even tops p x there lengths change.length;
-      even_back = was_even tops p x there lengths change.length;
-      lengths = same_lengths tops p x there lengths change.length;
+      sizes = same_sizes tops p x there lengths change.length unit;
+      even = still_even tops p x there lengths change.length unit;
+      even_back = was_even tops p x there lengths change.length unit;
+      lengths = same_lengths tops p x there lengths change.length unit;
       taken = λ top sector.
           elim (cases_eq top p.top) [
             | inl e ↦ subst (λ t. taken_at (set tops p.top x) t sector ≡ one_if (covers p t sector) + taken_at tops t sector) (sym e)
-                (this_top tops p x there lengths change.length sector ∙ taken-marked (top_at tops p.top).free x.free p sector change room.flags)
-            | inr n ↦ let o = other_top tops p x there lengths change.length top sector n in omega (arith, o.1, ap one_if o.0)
+                (this_top tops p x there lengths change.length unit sector ∙ taken-marked (top_at tops p.top).free x.free p sector change room.flags)
+            | inr n ↦ let o = other_top tops p x there lengths change.length unit top sector n in omega (arith, o.1, ap one_if o.0)
           ];
     }
 
-pub GetUsed-cleared : (tops : List TopState) (p : Place) (x : TopState) → HasFlags tops p false → GetFlag (top_at tops p.top).free x.free p.sector p.sectors true → x.lengths ≡ (top_at tops p.top).lengths →
-    GetUsed (set tops p.top x) tops p
-GetUsed-cleared tops p x used change lengths =
+pub IsMarkedUsed-cleared : (tops : List TopState) (p : Place) (x : TopState) → HasFlags tops p false → IsRangeSet (top_at tops p.top).free x.free p.sector p.sectors true → x.lengths ≡ (top_at tops p.top).lengths → x.unit ≡ (top_at tops p.top).unit →
+    IsMarkedUsed (set tops p.top x) tops p
+IsMarkedUsed-cleared tops p x used change lengths unit =
     let there = inside-top tops p false used in
     record {
-      sizes = sym (same_sizes tops p x there lengths change.length);
-      even = was_even tops p x there lengths change.length;
-      even_back = still_even tops p x there lengths change.length;
-      lengths = λ top. sym (same_lengths tops p x there lengths change.length top);
+      sizes = sym (same_sizes tops p x there lengths change.length unit);
+      even = was_even tops p x there lengths change.length unit;
+      even_back = still_even tops p x there lengths change.length unit;
+      lengths = λ top. sym (same_lengths tops p x there lengths change.length unit top);
       taken = λ top sector.
           elim (cases_eq top p.top) [
             | inl e ↦ subst (λ t. taken_at tops t sector ≡ one_if (covers p t sector) + taken_at (set tops p.top x) t sector) (sym e)
-                (taken-cleared (top_at tops p.top).free x.free p sector change used.flags ∙ ap (λ n. one_if (covers p p.top sector) + n) (sym (this_top tops p x there lengths change.length sector)))
-            | inr n ↦ let o = other_top tops p x there lengths change.length top sector n in omega (arith, o.1, ap one_if o.0)
+                (taken-cleared (top_at tops p.top).free x.free p sector change used.flags ∙ ap (λ n. one_if (covers p p.top sector) + n) (sym (this_top tops p x there lengths change.length unit sector)))
+            | inr n ↦ let o = other_top tops p x there lengths change.length unit top sector n in omega (arith, o.1, ap one_if o.0)
           ];
     }
 
@@ -202,13 +212,13 @@ length-inside tops top sector h =
       | inr past ↦ absurd (omega (arith, h, get_or_past (top_at tops top).lengths sector 0 past))
     ]
 
-pub GetLive-entered : (tops : List TopState) (p : Place) (x : TopState) → 0 < p.sectors → p.sector < length (top_at tops p.top).lengths → length_at tops p.top p.sector ≡ 0 →
-    x.lengths ≡ set (top_at tops p.top).lengths p.sector p.sectors → x.free ≡ (top_at tops p.top).free → GetLive tops (set tops p.top x) p
-GetLive-entered tops p x filled inside none lengths free =
+pub IsEntered-entered : (tops : List TopState) (p : Place) (x : TopState) → 0 < p.sectors → p.sector < length (top_at tops p.top).lengths → length_at tops p.top p.sector ≡ 0 →
+    x.lengths ≡ set (top_at tops p.top).lengths p.sector p.sectors → x.free ≡ (top_at tops p.top).free → x.unit ≡ (top_at tops p.top).unit → IsEntered tops (set tops p.top x) p
+IsEntered-entered tops p x filled inside none lengths free unit =
     let there = inside-length tops p.top p.sector inside in
     let long : length x.lengths ≡ length (top_at tops p.top).lengths = ap length lengths ∙ length-set (top_at tops p.top).lengths p.sector p.sectors in
     record {
-      sizes = sizes_of-set tops p.top x there long;
+      sizes = sizes_of-set tops p.top x there (size_of-same x (top_at tops p.top) long unit);
       free = each_top (λ t u. u.free ≡ t.free) (λ t. refl) tops p.top x there free;
       lengths = each_top (λ t u. length u.lengths ≡ length t.lengths) (λ t. refl) tops p.top x there long;
       live = λ f.
@@ -217,14 +227,14 @@ GetLive-entered tops p x filled inside none lengths free =
           omega (arith, change, before, total_here f p filled);
     }
 
-pub GetLive-removed : (tops : List TopState) (p : Place) (x : TopState) → 0 < p.sectors → length_at tops p.top p.sector ≡ p.sectors →
-    x.lengths ≡ set (top_at tops p.top).lengths p.sector 0 → x.free ≡ (top_at tops p.top).free → GetLive (set tops p.top x) tops p
-GetLive-removed tops p x filled size lengths free =
+pub IsEntered-removed : (tops : List TopState) (p : Place) (x : TopState) → 0 < p.sectors → length_at tops p.top p.sector ≡ p.sectors →
+    x.lengths ≡ set (top_at tops p.top).lengths p.sector 0 → x.free ≡ (top_at tops p.top).free → x.unit ≡ (top_at tops p.top).unit → IsEntered (set tops p.top x) tops p
+IsEntered-removed tops p x filled size lengths free unit =
     let inside = length-inside tops p.top p.sector (omega (arith, size, filled)) in
     let there = inside-length tops p.top p.sector inside in
     let long : length x.lengths ≡ length (top_at tops p.top).lengths = ap length lengths ∙ length-set (top_at tops p.top).lengths p.sector 0 in
     record {
-      sizes = sym (sizes_of-set tops p.top x there long);
+      sizes = sym (sizes_of-set tops p.top x there (size_of-same x (top_at tops p.top) long unit));
       free = λ top. sym (each_top (λ t u. u.free ≡ t.free) (λ t. refl) tops p.top x there free top);
       lengths = λ top. sym (each_top (λ t u. length u.lengths ≡ length t.lengths) (λ t. refl) tops p.top x there long top);
       live = λ f.

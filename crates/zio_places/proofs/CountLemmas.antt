@@ -7,7 +7,7 @@ use Rattle.std.proofs.lemmas.List.{take-append-drop, drop_more}
 use Rattle.std.proofs.lemmas.List.Folds.{list_all-append}
 use Rattle.zio_types.specs.declared.place.Place.{Place}
 use Rattle.zio_types.specs.Places.{end_of, meets, is_below, is_inside, is_free, are_apart, are_open}
-use Rattle.zio_places.specs.Tables.{TopState, top_at, sizes_of, covers, one_if, Count, AreEven, HasFlags, Hold}
+use Rattle.zio_places.specs.Tables.{TopState, top_at, sizes_of, covers, one_if, AreBitmapsOf, HaveEqualLengths, HasFlags, AreAllocated}
 use Rattle.zio_places.proofs.PlaceLemmas.{total-append, covers-from, covers-parts, is_free-from_counts, counts-from_is_free, meets-symmetric}
 use Rattle.zio_places.proofs.ChangeLemmas.{taken_in-free, taken_in-zero}
 
@@ -31,13 +31,13 @@ pub inside-from : (tops : List TopState) (p : Place) → 0 < p.sectors → end_o
 inside-from tops p filled h = below-from p tops p.top filled h
 
 -- ---- free flags and free places
-pub is_free-from_flags : (used : List Place) (tops : List TopState) (p : Place) → Count used tops → HasFlags tops p true → is_free used p ≡ true
+pub is_free-from_flags : (used : List Place) (tops : List TopState) (p : Place) → AreBitmapsOf used tops → HasFlags tops p true → is_free used p ≡ true
 is_free-from_flags used tops p count h =
     is_free-from_counts used p (λ sector mine.
     let c = covers-parts p p.top sector mine in
     count p.top sector ∙ taken_in-free (top_at tops p.top).free sector (h.flags.each sector c.from c.to))
 
-pub flags-from_is_free : (used : List Place) (tops : List TopState) (p : Place) → Count used tops → AreEven tops → is_inside (sizes_of tops) p ≡ true → is_free used p ≡ true → HasFlags tops p true
+pub flags-from_is_free : (used : List Place) (tops : List TopState) (p : Place) → AreBitmapsOf used tops → HaveEqualLengths tops → is_inside (sizes_of tops) p ≡ true → is_free used p ≡ true → HasFlags tops p true
 flags-from_is_free used tops p count even inside free =
     let parts = inside-parts tops p inside in
     let fits : p.sector + p.sectors ≤ length (top_at tops p.top).free = omega (arith, parts.1, even p.top) in
@@ -51,11 +51,11 @@ flags-from_is_free used tops p count even inside free =
       };
     }
 
-pub inside-from_flags : (tops : List TopState) (p : Place) (flag : Bool) → AreEven tops → HasFlags tops p flag → is_inside (sizes_of tops) p ≡ true
+pub inside-from_flags : (tops : List TopState) (p : Place) (flag : Bool) → HaveEqualLengths tops → HasFlags tops p flag → is_inside (sizes_of tops) p ≡ true
 inside-from_flags tops p flag even h = inside-from tops p h.filled (omega (arith, h.flags.fits, even p.top))
 
-pub Count-hold : (used : List Place) (old new : List TopState) (places : List Place) → Count used old → Hold old new places → Count (places ++ used) new
-Count-hold used old new places count h top sector =
+pub AreBitmapsOf-allocate : (used : List Place) (old new : List TopState) (places : List Place) → AreBitmapsOf used old → AreAllocated old new places → AreBitmapsOf (places ++ used) new
+AreBitmapsOf-allocate used old new places count h top sector =
     omega (arith, total-append (λ p. one_if (covers p top sector)) places used, count top sector, h.taken top sector)
 
 -- ---- places that are free one after another

@@ -5,7 +5,7 @@ use Rattle.std.proofs.Common.{inl, inr}
 use Rattle.std.proofs.lemmas.Bool.{eq-eqb, ne_eqb, cases_eq, false≢true, cases_lt}
 use Rattle.std.proofs.lemmas.List.{ext_get_or, length-replicate, get_or-replicate, length-reverse, reverse-append, get_or-reverse, get_or_append_left, get_or-append_right, get_or_past, append-nil, take_more, length-take-le, get_or-take, get_or-drop, length-drop}
 use Rattle.zio_places.specs.declared.summary.Summary.{Summary}
-use Rattle.zio_places.specs.Flags.{flag_at, front_run, back_run, best_run, summary_of, extended, joined, AreAll}
+use Rattle.zio_places.specs.Flags.{flag_at, front_run, back_run, best_run, summary_of, extended, joined, AreAll, IsFreeRun}
 
 pub extended_on : (a b m : ℕ) → a ≡ b → extended (a == b) a m ≡ a + m
 extended_on a b m e = rw (eq-eqb a b e) refl
@@ -36,6 +36,14 @@ front_run-most (false ∷ xs) (suc n) h = absurd (false≢true (h 0 (omega arith
 front_run-most (true ∷ xs) (suc n) h =
     let rest : n ≤ front_run xs = front_run-most xs n (λ k l. h (suc k) (omega arith)) in omega arith
 
+-- and what follows isn't
+front_run-stop : (xs : List Bool) → front_run xs < length xs → flag_at xs (front_run xs) ≡ false
+front_run-stop [] h = absurd (omega arith)
+front_run-stop (false ∷ xs) h = refl
+front_run-stop (true ∷ xs) h =
+    let next : front_run (true ∷ xs) ≡ suc (front_run xs) = omega arith in
+    ap (flag_at (true ∷ xs)) next ∙ front_run-stop xs (omega arith)
+
 pub front_run-append : (xs ys : List Bool) → front_run (xs ++ ys) ≡ extended (front_run xs == length xs) (front_run xs) (front_run ys)
 front_run-append [] ys = sym (zero-add (front_run ys))
 front_run-append (false ∷ xs) ys = sym (extended_off 0 (suc (length xs)) (front_run ys) (λ e. omega arith))
@@ -63,6 +71,15 @@ back_run-free xs k h l =
     let same : flag_at (reverse xs) (length xs - 1 - k) ≡ flag_at xs (length xs - 1 - (length xs - 1 - k)) = get_or-reverse xs (length xs - 1 - k) false (omega arith) in
     let back : length xs - 1 - (length xs - 1 - k) ≡ k = omega arith in
     ap (flag_at xs) (sym back) ∙ sym same ∙ there
+
+-- and what stands before it isn't
+pub back_run-stop : (xs : List Bool) (k : ℕ) → k + 1 + back_run xs ≡ length xs → flag_at xs k ≡ false
+back_run-stop xs k e =
+    let inside : back_run xs < length xs = omega arith in
+    let there : flag_at (reverse xs) (back_run xs) ≡ false = front_run-stop (reverse xs) (omega (arith, inside, length-reverse xs)) in
+    let same : flag_at (reverse xs) (back_run xs) ≡ flag_at xs (length xs - 1 - back_run xs) = get_or-reverse xs (back_run xs) false inside in
+    let here : length xs - 1 - back_run xs ≡ k = omega arith in
+    ap (flag_at xs) (sym here) ∙ sym same ∙ there
 
 -- one list is free throughout, seen from either end
 pub back_run-whole : (xs : List Bool) → front_run xs ≡ length xs → back_run xs ≡ length xs
@@ -154,7 +171,7 @@ runs_more_used xs i h e =
     (ap back_run more ∙ back, ap best_run more ∙ best ∙ omega (arith, back_run-le-best_run (take i xs)))
 
 -- the run that ends with a sector, where it has come to this length
-pub run_ends : (xs : List Bool) (i count : ℕ) → i < length xs → flag_at xs i ≡ true → back_run (take i xs) + 1 ≡ count → AreAll xs (i + 1 - count) count true
+run_ends : (xs : List Bool) (i count : ℕ) → i < length xs → flag_at xs i ≡ true → back_run (take i xs) + 1 ≡ count → AreAll xs (i + 1 - count) count true
 run_ends xs i count h e n =
     let taken : length (take i xs) ≡ i = length-take-le i xs (omega arith) in
     let short : back_run (take i xs) ≤ i = omega (arith, back_run-le (take i xs)) in
@@ -167,6 +184,18 @@ run_ends xs i count h e n =
                 let before : k < i = omega arith in
                 sym (get_or-take i xs k false before) ∙ back_run-free (take i xs) k (omega arith) (omega arith)
           ];
+    }
+
+-- it begins where the list does or behind a used one
+pub free_run_ends : (xs : List Bool) (i count : ℕ) → i < length xs → flag_at xs i ≡ true → back_run (take i xs) + 1 ≡ count → IsFreeRun xs (i + 1 - count) count
+free_run_ends xs i count h e n =
+    let taken : length (take i xs) ≡ i = length-take-le i xs (omega arith) in
+    let short : back_run (take i xs) ≤ i = omega (arith, back_run-le (take i xs)) in
+    record {
+      all = run_ends xs i count h e n;
+      start = λ k first.
+          let before : k < i = omega arith in
+          sym (get_or-take i xs k false before) ∙ back_run-stop (take i xs) k (omega arith);
     }
 
 pub front_run-is : (xs : List Bool) (at end : ℕ) → at ≤ end → end ≤ length xs →

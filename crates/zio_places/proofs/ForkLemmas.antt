@@ -9,9 +9,9 @@ use Rattle.zio_places.specs.declared.summary.Summary.{Summary}
 use Rattle.zio_places.specs.declared.runs.Runs.{Runs}
 use Rattle.zio_places.specs.declared.runs.Node.{Node}
 use Rattle.zio_places.specs.declared.runs.Node.TheVariants.{Leaf, Fork}
-use Rattle.zio_places.specs.Flags.{flag_at, front_run, back_run, best_run, summary_of, joined, AreAll, GetFlag}
+use Rattle.zio_places.specs.Flags.{flag_at, front_run, back_run, best_run, summary_of, joined, AreAll, IsFreeRun, IsRangeSet}
 use Rattle.zio_places.specs.Runs.{flags_in, IsSummed, IsFork, IsLeaf}
-use Rattle.zio_places.proofs.FlagLemmas.{front_run-append, front_run-le, front_run-free, back_run-le, back_run-free, best_run-append, extended_on, extended_off, summary_of-append}
+use Rattle.zio_places.proofs.FlagLemmas.{front_run-append, front_run-le, front_run-free, front_run-most, back_run-le, back_run-free, back_run-stop, best_run-append, extended_on, extended_off, summary_of-append}
 
 pub record AtFork (flags left right : List Bool) (summary : Summary) : Type 0 where
   pub is : flags ≡ left ++ right
@@ -59,6 +59,34 @@ AreAll-over l r count h = record {
       ];
 }
 
+-- the same for runs that begin at a boundary
+pub IsFreeRun-left : (l r : List Bool) (at count : ℕ) → IsFreeRun l at count → IsFreeRun (l ++ r) at count
+IsFreeRun-left l r at count h = record {
+  all = AreAll-left l r at count true h.all;
+  start = λ k first. flag_at-left l r k (omega (arith, first, h.all.fits)) ∙ h.start k first;
+}
+
+pub IsFreeRun-over : (l r : List Bool) (count : ℕ) → count ≤ back_run l + front_run r → IsFreeRun (l ++ r) (length l - back_run l) count
+IsFreeRun-over l r count h = record {
+  all = AreAll-over l r count h;
+  start = λ k first. flag_at-left l r k (omega (arith, first)) ∙ back_run-stop l k (omega (arith, first, back_run-le l));
+}
+
+-- a run of the right side is longer than its front, so it doesn't begin there
+pub IsFreeRun-right : (l r : List Bool) (at count : ℕ) → back_run l + front_run r < count → IsFreeRun r at count → IsFreeRun (l ++ r) (length l + at) count
+IsFreeRun-right l r at count less h =
+    let behind : 0 < at =
+    elim (cases_lt 0 at) [
+      | inl some ↦ some
+      | inr none ↦
+          let most : count ≤ front_run r = front_run-most r count (λ k below. h.all.each k (omega (arith, none)) (omega (arith, none, below))) in
+          absurd (omega (arith, less, most))
+    ] in
+    record {
+      all = AreAll-right l r at count true h.all;
+      start = λ k first. flag_at-right l r k (omega (arith, first, behind)) ∙ h.start (k - length l) (omega (arith, first, behind));
+    }
+
 -- a run that is neither in the left side nor over the middle is in the right side
 pub best_run-right : (l r : List Bool) (count : ℕ) → count ≤ best_run (l ++ r) → best_run l < count → back_run l + front_run r < count → count ≤ best_run r
 best_run-right l r count h a b = omega (arith, h, a, b, best_run-append l r)
@@ -80,8 +108,8 @@ drop-append-right l r at h =
     ap (λ n. drop n (l ++ r)) (sym split) ∙ sym (drop-drop (at - length l) (length l) (l ++ r)) ∙ ap (drop (at - length l)) (drop_at l r (length l) refl)
 
 -- a change of one side, or of both
-pub GetFlag-left : (l r new : List Bool) (at count : ℕ) (flag : Bool) → GetFlag l new at count flag → at + count ≤ length l → GetFlag (l ++ r) (new ++ r) at count flag
-GetFlag-left l r new at count flag h fits = record {
+pub IsRangeSet-left : (l r new : List Bool) (at count : ℕ) (flag : Bool) → IsRangeSet l new at count flag → at + count ≤ length l → IsRangeSet (l ++ r) (new ++ r) at count flag
+IsRangeSet-left l r new at count flag h fits = record {
   length = length-append new r ∙ ap (λ n. n + length r) h.length ∙ sym (length-append l r);
   within = λ k a b. flag_at-left new r k (omega (arith, h.length)) ∙ h.within k a b;
   before = λ k a. flag_at-left new r k (omega (arith, h.length)) ∙ h.before k a ∙ sym (flag_at-left l r k (omega arith));
@@ -92,8 +120,8 @@ GetFlag-left l r new at count flag h fits = record {
       ];
 }
 
-pub GetFlag-right : (l r new : List Bool) (at count : ℕ) (flag : Bool) → GetFlag r new (at - length l) count flag → length l ≤ at → GetFlag (l ++ r) (l ++ new) at count flag
-GetFlag-right l r new at count flag h from = record {
+pub IsRangeSet-right : (l r new : List Bool) (at count : ℕ) (flag : Bool) → IsRangeSet r new (at - length l) count flag → length l ≤ at → IsRangeSet (l ++ r) (l ++ new) at count flag
+IsRangeSet-right l r new at count flag h from = record {
   length = length-append l new ∙ ap (λ n. length l + n) h.length ∙ sym (length-append l r);
   within = λ k a b. flag_at-right l new k (omega arith) ∙ h.within (k - length l) (omega arith) (omega arith);
   before = λ k a.
@@ -104,9 +132,9 @@ GetFlag-right l r new at count flag h from = record {
   after = λ k a. flag_at-right l new k (omega arith) ∙ h.after (k - length l) (omega arith) ∙ sym (flag_at-right l r k (omega arith));
 }
 
-pub GetFlag-over : (l r new_l new_r : List Bool) (at count : ℕ) (flag : Bool) → at ≤ length l → length l ≤ at + count →
-    GetFlag l new_l at (length l - at) flag → GetFlag r new_r 0 (at + count - length l) flag → GetFlag (l ++ r) (new_l ++ new_r) at count flag
-GetFlag-over l r new_l new_r at count flag a b hl hr = record {
+pub IsRangeSet-over : (l r new_l new_r : List Bool) (at count : ℕ) (flag : Bool) → at ≤ length l → length l ≤ at + count →
+    IsRangeSet l new_l at (length l - at) flag → IsRangeSet r new_r 0 (at + count - length l) flag → IsRangeSet (l ++ r) (new_l ++ new_r) at count flag
+IsRangeSet-over l r new_l new_r at count flag a b hl hr = record {
   length = length-append new_l new_r ∙ ap (λ n. n + length new_r) hl.length ∙ ap (λ n. length l + n) hr.length ∙ sym (length-append l r);
   within = λ k from to.
       elim (cases_lt k (length l)) [
@@ -128,32 +156,32 @@ IsFork-from l r s a b e ea eb lf rf fits = record {
 
 -- a change of the sides as one of the fork's flags
 pub record SidesChange (flags l r new_l new_r : List Bool) (at count : ℕ) (flag : Bool) : Type 0 where
-  pub whole : GetFlag flags (new_l ++ new_r) at count flag
+  pub whole : IsRangeSet flags (new_l ++ new_r) at count flag
   pub left : length new_l ≡ length l
   pub right : length new_r ≡ length r
 
 pub left_changes : (flags l r side new : List Bool) (at count : ℕ) (flag : Bool) → flags ≡ l ++ r → side ≡ l →
-    GetFlag side new at count flag → at + count ≤ length l → SidesChange flags l r new r at count flag
+    IsRangeSet side new at count flag → at + count ≤ length l → SidesChange flags l r new r at count flag
 left_changes flags l r side new at count flag is same h fits =
-    let on : GetFlag l new at count flag = subst (λ s. GetFlag s new at count flag) same h in
-    record { whole = subst (λ fs. GetFlag fs (new ++ r) at count flag) (sym is) (GetFlag-left l r new at count flag on fits); left = on.length; right = refl }
+    let on : IsRangeSet l new at count flag = subst (λ s. IsRangeSet s new at count flag) same h in
+    record { whole = subst (λ fs. IsRangeSet fs (new ++ r) at count flag) (sym is) (IsRangeSet-left l r new at count flag on fits); left = on.length; right = refl }
 
 pub right_changes : (flags l r side new : List Bool) (at from count : ℕ) (flag : Bool) → flags ≡ l ++ r → side ≡ r →
-    GetFlag side new from count flag → from ≡ at - length l → length l ≤ at → SidesChange flags l r l new at count flag
+    IsRangeSet side new from count flag → from ≡ at - length l → length l ≤ at → SidesChange flags l r l new at count flag
 right_changes flags l r side new at from count flag is same h e past =
-    let on : GetFlag r new from count flag = subst (λ s. GetFlag s new from count flag) same h in
-    let there : GetFlag r new (at - length l) count flag = subst (λ n. GetFlag r new n count flag) e on in
-    record { whole = subst (λ fs. GetFlag fs (l ++ new) at count flag) (sym is) (GetFlag-right l r new at count flag there past); left = refl; right = on.length }
+    let on : IsRangeSet r new from count flag = subst (λ s. IsRangeSet s new from count flag) same h in
+    let there : IsRangeSet r new (at - length l) count flag = subst (λ n. IsRangeSet r new n count flag) e on in
+    record { whole = subst (λ fs. IsRangeSet fs (l ++ new) at count flag) (sym is) (IsRangeSet-right l r new at count flag there past); left = refl; right = on.length }
 
 pub both_change : (flags l r side_l side_r new_l new_r : List Bool) (at count front back : ℕ) (flag : Bool) → flags ≡ l ++ r → side_l ≡ l → side_r ≡ r →
-    GetFlag side_l new_l at front flag → GetFlag side_r new_r 0 back flag → front ≡ length l - at → back ≡ at + count - length l → at ≤ length l → length l ≤ at + count →
+    IsRangeSet side_l new_l at front flag → IsRangeSet side_r new_r 0 back flag → front ≡ length l - at → back ≡ at + count - length l → at ≤ length l → length l ≤ at + count →
     SidesChange flags l r new_l new_r at count flag
 both_change flags l r side_l side_r new_l new_r at count front back flag is same_l same_r hl hr ef eb a b =
-    let on_l : GetFlag l new_l at front flag = subst (λ s. GetFlag s new_l at front flag) same_l hl in
-    let on_r : GetFlag r new_r 0 back flag = subst (λ s. GetFlag s new_r 0 back flag) same_r hr in
-    let here : GetFlag l new_l at (length l - at) flag = subst (λ n. GetFlag l new_l at n flag) ef on_l in
-    let there : GetFlag r new_r 0 (at + count - length l) flag = subst (λ n. GetFlag r new_r 0 n flag) eb on_r in
-    record { whole = subst (λ fs. GetFlag fs (new_l ++ new_r) at count flag) (sym is) (GetFlag-over l r new_l new_r at count flag a b here there); left = on_l.length; right = on_r.length }
+    let on_l : IsRangeSet l new_l at front flag = subst (λ s. IsRangeSet s new_l at front flag) same_l hl in
+    let on_r : IsRangeSet r new_r 0 back flag = subst (λ s. IsRangeSet s new_r 0 back flag) same_r hr in
+    let here : IsRangeSet l new_l at (length l - at) flag = subst (λ n. IsRangeSet l new_l at n flag) ef on_l in
+    let there : IsRangeSet r new_r 0 (at + count - length l) flag = subst (λ n. IsRangeSet r new_r 0 n flag) eb on_r in
+    record { whole = subst (λ fs. IsRangeSet fs (new_l ++ new_r) at count flag) (sym is) (IsRangeSet-over l r new_l new_r at count flag a b here there); left = on_l.length; right = on_r.length }
 
 -- the fork's summary after it
 pub IsFork-changed : (flags l r new_l new_r : List Bool) (at count : ℕ) (flag : Bool) (old s a b : Summary) → SidesChange flags l r new_l new_r at count flag → IsFork l r old →

@@ -4,7 +4,10 @@ pub mod ForkLemmas
 pub mod PlaceLemmas
 pub mod TableLemmas
 pub mod ChangeLemmas
-pub mod HoldLemmas
+pub mod AllocateLemmas
 pub mod CountLemmas
+pub mod UnitLemmas
 pub mod LawLemmas
+pub mod OrderLemmas
+pub mod SetLemmas
 pub mod SpaceLemmas

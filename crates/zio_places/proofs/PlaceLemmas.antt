@@ -6,6 +6,7 @@ use Rattle.std.proofs.lemmas.Bool.{eq-eqb, eqb-true, ltb-true, lt-ltb, le-leb, l
 use Rattle.std.proofs.lemmas.List.Elements.{Contains-append_cases, Contains-append_right}
 use Rattle.zio_types.specs.declared.place.Place.{Place}
 use Rattle.zio_types.specs.Places.{end_of, meets, is_free}
+use Rattle.zio_places.specs.Ordered.{is_same_place}
 use Rattle.zio_places.specs.Tables.{covers, one_if, total, cover_count}
 
 pub total-append : (f : Place → ℕ) (xs ys : List Place) → total f (xs ++ ys) ≡ total f xs + total f ys
@@ -104,11 +105,8 @@ counts-from_is_free (q ∷ used) p sector h mine =
     omega (arith, zero_here, counts-from_is_free used p sector parts.1 mine)
 
 -- ---- membership by sums
-abbrev pub same_place : Place → Place → Bool
-same_place p q = (p.top == q.top) && ((p.sector == q.sector) && (p.sectors == q.sectors))
-
-pub same_place-refl : (p : Place) → same_place p p ≡ true
-same_place-refl p =
+pub is_same_place-refl : (p : Place) → is_same_place p p ≡ true
+is_same_place-refl p =
     and_from (p.top == p.top) ((p.sector == p.sector) && (p.sectors == p.sectors)) (eq-eqb p.top p.top refl)
     (and_from (p.sector == p.sector) (p.sectors == p.sectors) (eq-eqb p.sector p.sector refl) (eq-eqb p.sectors p.sectors refl))
 
@@ -117,8 +115,8 @@ place_from p q t s n =
     let make : ℕ → ℕ → ℕ → Place = λ a b c. record { top = a; sector = b; sectors = c } in
     ap (λ a. make a p.sector p.sectors) t ∙ ap (λ b. make q.top b p.sectors) s ∙ ap (λ c. make q.top q.sector c) n
 
-pub same_place-true : (p q : Place) → same_place p q ≡ true → p ≡ q
-same_place-true p q h =
+pub is_same_place-true : (p q : Place) → is_same_place p q ≡ true → p ≡ q
+is_same_place-true p q h =
     let parts = and_parts (p.top == q.top) ((p.sector == q.sector) && (p.sectors == q.sectors)) h in
     let ends = and_parts (p.sector == q.sector) (p.sectors == q.sectors) parts.1 in
     let top : p.top ≡ q.top = eqb-true p.top q.top parts.0 in
@@ -127,7 +125,7 @@ same_place-true p q h =
     place_from p q top sector sectors
 
 abbrev pub place_count : Place → List Place → ℕ
-place_count p xs = total (λ q. one_if (same_place p q)) xs
+place_count p xs = total (λ q. one_if (is_same_place p q)) xs
 
 pub Contains-nothing : (p : Place) → Contains [] p → ⊥
 Contains-nothing p h = omega (arith, h.1)
@@ -155,23 +153,23 @@ total-contains f (x ∷ xs) p h =
 
 pub place_count-contains : (p : Place) (xs : List Place) → Contains xs p → 0 < place_count p xs
 place_count-contains p xs h =
-    let one : one_if (same_place p p) ≡ 1 = ap one_if (same_place-refl p) in
-    omega (arith, one, total-contains (λ q. one_if (same_place p q)) xs p h)
+    let one : one_if (is_same_place p p) ≡ 1 = ap one_if (is_same_place-refl p) in
+    omega (arith, one, total-contains (λ q. one_if (is_same_place p q)) xs p h)
 
 pub contains-place_count : (p : Place) (xs : List Place) → 0 < place_count p xs → Contains xs p
 contains-place_count p [] h = absurd (omega arith)
 contains-place_count p (x ∷ xs) h =
-    elim (cases_Bool (same_place p x)) [
-      | inl on ↦ subst (λ q. Contains (x ∷ xs) q) (sym (same_place-true p x on)) (Contains-head x xs)
+    elim (cases_Bool (is_same_place p x)) [
+      | inl on ↦ subst (λ q. Contains (x ∷ xs) q) (sym (is_same_place-true p x on)) (Contains-head x xs)
       | inr off ↦
-          let zero_here : one_if (same_place p x) ≡ 0 = ap one_if off in
+          let zero_here : one_if (is_same_place p x) ≡ 0 = ap one_if off in
           Contains-tail x p xs (contains-place_count p xs (omega (arith, zero_here, h)))
     ]
 
 -- lists of the same sums have the same places
 pub contains-same : (xs ys : List Place) → ((f : Place → ℕ) → total f xs ≡ total f ys) → (p : Place) → Contains xs p → Contains ys p
-contains-same xs ys h p there = contains-place_count p ys (omega (arith, h (λ q. one_if (same_place p q)), place_count-contains p xs there))
+contains-same xs ys h p there = contains-place_count p ys (omega (arith, h (λ q. one_if (is_same_place p q)), place_count-contains p xs there))
 
 -- places that sum to no more are among the others
 pub contains-included : (xs ys : List Place) → ((f : Place → ℕ) → total f xs ≤ total f ys) → (p : Place) → Contains xs p → Contains ys p
-contains-included xs ys h p there = contains-place_count p ys (omega (arith, h (λ q. one_if (same_place p q)), place_count-contains p xs there))
+contains-included xs ys h p there = contains-place_count p ys (omega (arith, h (λ q. one_if (is_same_place p q)), place_count-contains p xs there))

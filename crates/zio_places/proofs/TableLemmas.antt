@@ -1,4 +1,4 @@
--- What the tables say after a change of one top, and which live places they hold.
+-- What the tables say after a change of one top, and which live places they have.
 use Rattle.std.proofs.Common.{◌≡◌, ℕ, zero, suc, ◌+◌, ◌-◌, ◌<◌, ◌≤◌, List, [], ◌∷◌, length, get_or, set, refl, sym, ap, subst, ◌∙◌, arith, zero-add}
 use Rattle.std.specs.Prelude.{Contains}
 use Rattle.std.proofs.Common.{inl, inr}
@@ -93,7 +93,7 @@ pub record IsLive (top : ℕ) (tops : List TopState) (p : Place) : Type 0 where
   pub filled : 0 < p.sectors
   pub size : get_or (top_at tops (p.top - top)).lengths p.sector 0 ≡ p.sectors
 
-live_from-contains : (top : ℕ) (tops : List TopState) (p : Place) → Contains (live_from top tops) p → IsLive top tops p
+pub live_from-contains : (top : ℕ) (tops : List TopState) (p : Place) → Contains (live_from top tops) p → IsLive top tops p
 live_from-contains top [] p h = absurd (Contains-nothing p h)
 live_from-contains top (t ∷ tops) p h =
     elim (Contains-append_cases (places_from top 0 t.lengths) (live_from (top + 1) tops) p h) [

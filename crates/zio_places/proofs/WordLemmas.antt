@@ -10,7 +10,7 @@ use Rattle.std.proofs.lemmas.Nat.Bits.{bit_at_ones, bit_at_or, bit_at_and, bit_a
 use Rattle.std.proofs.lemmas.Nat.{pow_pos, pow-add}
 use Rattle.std.proofs.Math.Nat.{div-div-eq-div-mul}
 use Rattle.std.proofs.Math.Pow.{pow_mono}
-use Rattle.zio_places.specs.Flags.{flag_at, AreAll, GetFlag}
+use Rattle.zio_places.specs.Flags.{flag_at, AreAll, IsRangeSet}
 use Rattle.zio_places.specs.Words.{flags_of}
 
 pub length-flags_of : (bits len : ℕ) → length (flags_of bits len) ≡ len
@@ -48,7 +48,7 @@ module _ (bits new len at count : ℕ) (flags : List Bool) (is : flags_of bits l
       ]
 
   -- a word gets a flag where its bits do
-  pub word_gets : at + count ≤ length flags → GetFlag flags (flags_of new len) at count flag
+  pub word_gets : at + count ≤ length flags → IsRangeSet flags (flags_of new len) at count flag
   word_gets fits =
       let long : length flags ≡ len = word_length bits len flags is in
       record {
@@ -59,7 +59,7 @@ module _ (bits new len at count : ℕ) (flags : List Bool) (is : flags_of bits l
       }
 
 pub word_set : (bits len at count : ℕ) (flags : List Bool) → flags_of bits len ≡ flags → at + count ≤ length flags →
-    GetFlag flags (flags_of (bit_or bits (2 ^ (at + count) - 2 ^ at)) len) at count true
+    IsRangeSet flags (flags_of (bit_or bits (2 ^ (at + count) - 2 ^ at)) len) at count true
 word_set bits len at count flags is fits =
     word_gets bits (bit_or bits (2 ^ (at + count) - 2 ^ at)) len at count flags is true
     (λ k a l there.
@@ -72,7 +72,7 @@ word_set bits len at count flags is fits =
     fits
 
 pub word_clear : (bits len at count : ℕ) (flags : List Bool) → flags_of bits len ≡ flags → at + count ≤ length flags → len ≤ 64 →
-    GetFlag flags (flags_of (bit_and bits (18446744073709551615 - (2 ^ (at + count) - 2 ^ at))) len) at count false
+    IsRangeSet flags (flags_of (bit_and bits (18446744073709551615 - (2 ^ (at + count) - 2 ^ at))) len) at count false
 word_clear bits len at count flags is fits short =
     let long : length flags ≡ len = word_length bits len flags is in
     let small : 2 ^ (at + count) ≤ 2 ^ 64 = pow_mono {i = at + count} {j = 64} (omega arith) in

@@ -24,7 +24,12 @@ best_run [] = 0
 best_run (flag ∷ flags) = max (front_run (flag ∷ flags)) (best_run flags)
 
 abbrev pub summary_of : List Bool → Summary
-summary_of flags = record { sectors = length flags; front = front_run flags; back = back_run flags; best = best_run flags }
+summary_of flags = record {
+  sectors = length flags;
+  front = front_run flags;
+  back = back_run flags;
+  best = best_run flags;
+}
 
 -- a run goes on with what follows where all before is of it
 abbrev pub extended : Bool → ℕ → ℕ → ℕ
@@ -45,8 +50,13 @@ pub record AreAll (flags : List Bool) (at count : ℕ) (flag : Bool) : Type 0 wh
   pub fits : at + count ≤ length flags
   pub each : (k : ℕ) → at ≤ k → k < at + count → flag_at flags k ≡ flag
 
+-- so many free ones, where the list begins or behind a used one
+pub record IsFreeRun (flags : List Bool) (at count : ℕ) : Type 0 where
+  pub all : AreAll flags at count true
+  pub start : (k : ℕ) → k + 1 ≡ at → flag_at flags k ≡ false
+
 -- from here on, so many got this flag, and the others stay
-pub record GetFlag (old new : List Bool) (at count : ℕ) (flag : Bool) : Type 0 where
+pub record IsRangeSet (old new : List Bool) (at count : ℕ) (flag : Bool) : Type 0 where
   pub length : length new ≡ length old
   pub within : (k : ℕ) → at ≤ k → k < at + count → flag_at new k ≡ flag
   pub before : (k : ℕ) → k < at → flag_at new k ≡ flag_at old k

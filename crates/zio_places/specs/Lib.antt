@@ -1,5 +1,6 @@
-pub mod Counted
+pub mod Consistent
 pub mod Flags
+pub mod Ordered
 pub mod Runs
 pub mod RunsFall
 pub mod Spaces

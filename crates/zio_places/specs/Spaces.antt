@@ -1,18 +1,19 @@
 -- What a contract sees of the space, and the words of its calls.
-use Rattle.std.specs.Prelude.{◌≡◌, ℕ, List, ◌++◌, ◌↔◌, Bool, true, Contains}
+use Rattle.std.specs.Prelude.{◌≡◌, ℕ, List, ◌++◌, Bool, true, ◌&&◌}
 use Rattle.std.specs.List.{list_all}
 use Rattle.zio_types.specs.declared.place.Place.{Place}
-use Rattle.zio_types.specs.Places.{is_inside, are_apart}
+use Rattle.zio_types.specs.declared.place.TopSize.{TopSize}
+use Rattle.zio_types.specs.Places.{is_inside, is_aligned, are_apart}
 use Rattle.zio_types.specs.Choices.{Choice}
 
 pub record SpaceState : Type 0 where
-  -- the sectors of each top
-  pub sizes : List ℕ
-  -- taken or claimed, and not given back
+  -- the sectors and the unit of each top
+  pub sizes : List TopSize
+  -- taken or claimed, and not given back, by top and sector
   pub live : List Place
-  -- given back in this round
+  -- given back in this round, in that order
   pub pending : List Place
-  -- the journal
+  -- the entries since the journal was last taken out
   pub entries : List Choice
   -- how many entries there is room for
   pub spare : ℕ
@@ -21,15 +22,14 @@ pub record SpaceState : Type 0 where
 abbrev pub used : SpaceState → List Place
 used st = st.live ++ st.pending
 
--- both lists have the same places, in whatever order
-abbrev pub SamePlaces : List Place → List Place → Type 0
-SamePlaces xs ys = (p : Place) → Contains xs p ↔ Contains ys p
+-- the place lies inside its top, and its sectors are whole units
+abbrev pub is_on_top : List TopSize → Place → Bool
+is_on_top sizes p = is_inside sizes p && is_aligned sizes p
 
--- each lies inside its top
-abbrev pub are_inside : List ℕ → List Place → Bool
-are_inside sizes places = list_all (is_inside sizes) places
+abbrev pub are_on_tops : List TopSize → List Place → Bool
+are_on_tops sizes places = list_all (is_on_top sizes) places
 
--- the live and the pending places lie inside their tops, and no two of them meet
+-- the live and the pending places lie inside their tops on whole units, and no two of them meet
 pub record IsSound (st : SpaceState) : Type 0 where
-  pub inside : are_inside st.sizes (used st) ≡ true
+  pub inside : are_on_tops st.sizes (used st) ≡ true
   pub apart : are_apart (used st) ≡ true

@@ -1,5 +1,5 @@
 ghost use Rattle.std.specs.Prelude.{◌≡◌, ◌+◌, ◌^◌, ◌<◌, ◌≤◌, length, drop, replicate, true, false, IfOk};
-ghost use Rattle.zio_places.specs.Flags.{summary_of, front_run, best_run, AreAll, GetFlag};
+ghost use Rattle.zio_places.specs.Flags.{summary_of, front_run, best_run, IsFreeRun, IsRangeSet};
 
 use crate::summary::Summary;
 use crate::word::{WORD_SECTORS, Word};
@@ -73,11 +73,11 @@ impl Runs {
         }
     }
 
-    /// The first sector of a run of so many free ones.
+    /// The first sector of a run of so many free ones, which begins where the list does or behind a used one.
     pub fn first_run(&self, count: u64) -> u64
         requires some { 0 < count }
         requires room { count ≤ best_run self.now }
-        ensures { AreAll self.now result count true }
+        ensures { IsFreeRun self.now result count }
     {
         match &self.node {
             Node::Leaf(word, _) => word.first_run(count as u32) as u64,
@@ -120,7 +120,7 @@ impl Runs {
     /// Gives so many sectors from here on this flag.
     pub fn set_flag(&mut self, at: u64, count: u64, is_free: bool)
         requires { at + count ≤ length self.old }
-        ensures { GetFlag self.old self.new at count is_free }
+        ensures { IsRangeSet self.old self.new at count is_free }
     {
         match &mut self.node {
             Node::Leaf(word, summary) => {

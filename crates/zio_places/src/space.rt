@@ -1,15 +1,18 @@
-ghost use Rattle.std.specs.Prelude.{◌≡◌, ◌≢◌, ◌+◌, ◌%◌, ◌^◌, ◌<◌, ◌≤◌, ◌↔◌, [], ◌∷◌, ◌++◌, length, true, false, Contains, IsTrue, IsOk, IfOk, OnOk, OnErr};
+ghost use Rattle.std.specs.Prelude.{◌≡◌, ◌+◌, ◌%◌, ◌^◌, ◌<◌, ◌≤◌, ◌↔◌, [], ◌∷◌, ◌++◌, length, max, true, false, Contains, IsTrue, IsOk, IfOk, OnOk, OnErr};
+ghost use Rattle.std.specs.List.{list_all};
 ghost use Rattle.zio_types.specs.Choices.{taken_by};
-ghost use Rattle.zio_types.specs.Places.{IsLawfulChoice, are_open};
-ghost use Rattle.zio_places.specs.Spaces.{SpaceState, used, SamePlaces, are_inside, IsSound};
+ghost use Rattle.zio_types.specs.Places.{IsLawfulChoice, is_lawful_top, are_open};
+ghost use Rattle.zio_places.specs.Ordered.{all_placed_in, without};
+ghost use Rattle.zio_places.specs.Spaces.{SpaceState, used, are_on_tops, IsSound};
 
 use crate::table::Table;
-use crate::take::{copy_of, take_copies, taken_count};
-use crate::tops::{all_inside, clear_all, hold_all, is_live, release_all, remove};
+use crate::take::{take_copies, taken_count};
+use crate::tops::{all_on_tops, allocate_all, clear_all, is_live, release_all, remove};
 use std::alloc::Global;
 use std::marker::Model;
+use std::mem;
 use thiserror::Error;
-use zio_types::{Entry, Key, NoMemory, Place};
+use zio_types::{Entry, Key, List, NoMemory, Place, TopSize};
 
 /// Places for an entry's copies, at most.
 const COPIES_MAX: usize = 3;
@@ -46,7 +49,7 @@ impl Model for Space {
 
     ghost use Rattle.std.specs.Prelude.{vec_len, vec_capacity};
     ghost use Rattle.zio_places.specs.Tables.{sizes_of, live_of};
-    ghost use Rattle.zio_places.specs.Counted.{IsCounted};
+    ghost use Rattle.zio_places.specs.Consistent.{IsConsistent};
 
     ghost view = { λ s. record {
       sizes = sizes_of s.tops.items;
@@ -56,23 +59,24 @@ impl Model for Space {
       spare = s.spare;
     } };
 
-    ghost invariant = { λ s. IsCounted s.tops.items s.pending.items s.live s.spare
+    ghost invariant = { λ s. IsConsistent s.tops.items s.pending.items s.live s.spare
         (vec_capacity s.pending) (vec_len s.entries) (vec_capacity s.entries) };
 }
 
 impl Space {
-    /// A top for each number of sectors, all of it free.
-    pub fn new(alloc: Global, sectors: &[u64]) -> Result<Space, NoMemory>
-        requires { length sectors.now < 2 ^ 32 }
+    /// Tops of these sizes, all of them free.
+    pub fn new(alloc: Global, tops: &[TopSize]) -> Result<Space, NoMemory>
+        requires few { length tops.now < 2 ^ 32 }
+        requires lawful { list_all is_lawful_top tops.now ≡ true }
         ensures { IfOk result (λ s. s ≡
-            record { sizes = sectors.now; live = []; pending = []; entries = []; spare = 0 }) }
+            record { sizes = tops.now; live = []; pending = []; entries = []; spare = 0 }) }
     {
-        let mut tops = Vec::new(alloc);
-        for count in sectors {
-            tops.push(Table::new(alloc, *count)?)?;
+        let mut tables = Vec::new(alloc);
+        for top in tops {
+            tables.push(Table::new(alloc, *top)?)?;
         }
         Ok(Space {
-            tops,
+            tops: tables,
             pending: Vec::new(alloc),
             entries: Vec::new(alloc),
             live: 0,
@@ -83,10 +87,8 @@ impl Space {
     /// Makes room for so many entries, and for giving back what they take. Where there is room already it takes no
     /// memory, and after an error nothing has changed.
     pub fn reserve(&mut self, n: u32) -> Result<(), NoMemory>
-        ensures ok { OnOk result (n ≤ self.new.spare) }
+        ensures ok { OnOk result (self.new ≡ record self.old { spare = max self.old.spare n }) }
         ensures enough { n ≤ self.old.spare → IsOk result }
-        ensures kept { self.old.spare ≤ self.new.spare }
-        ensures same { self.new ≡ record self.old { spare = self.new.spare } }
         ensures err { OnErr result (self.new ≡ self.old) }
     {
         if n <= self.spare {
@@ -98,8 +100,8 @@ impl Space {
         Ok(())
     }
 
-    /// Takes a place for each copy, of the whole size in bytes, or none where one has no place. The entry, which
-    /// says what was found, is appended to the journal. Needs no memory.
+    /// Takes a place for each copy, of the whole size in bytes rounded up to whole units of its top, or none where one
+    /// has no place. The entry, which says what was found, is appended to the journal. Needs no memory.
     pub fn take(&mut self, key: Key, size: u32, copies: u32) -> Entry
         requires room { 1 ≤ self.old.spare }
         requires some { 0 < size }
@@ -108,7 +110,7 @@ impl Space {
         requires most { copies ≤ 3 }
         ensures asked { result.asked ≡ record { key = key; size = size; copies = copies } }
         ensures lawful { IsLawfulChoice self.old.sizes (used self.old) result }
-        ensures live { SamePlaces self.new.live (taken_by result ++ self.old.live) }
+        ensures live { self.new.live ≡ all_placed_in (taken_by result) self.old.live }
         ensures sizes { self.new.sizes ≡ self.old.sizes }
         ensures pending { self.new.pending ≡ self.old.pending }
         ensures entries { self.new.entries ≡ self.old.entries ++ result ∷ [] }
@@ -118,15 +120,15 @@ impl Space {
         let entry = take_copies(&mut self.tops, key, size, copies);
         self.live += taken_count(&entry) as usize;
         self.spare -= 1;
-        self.entries.push_reserved(copy_of(&entry));
+        self.entries.push_reserved(entry.copy());
         entry
     }
 
     /// A live place waits for the end of the round. Needs no memory.
     pub fn give_back(&mut self, place: Place)
         requires { Contains self.old.live place }
-        ensures live { (q : Place) → Contains self.new.live q ↔ (Contains self.old.live q × (q ≢ place)) }
-        ensures pending { SamePlaces self.new.pending (place ∷ self.old.pending) }
+        ensures live { self.new.live ≡ without place self.old.live }
+        ensures pending { self.new.pending ≡ self.old.pending ++ place ∷ [] }
         ensures sizes { self.new.sizes ≡ self.old.sizes }
         ensures entries { self.new.entries ≡ self.old.entries }
         ensures spare { self.new.spare ≡ self.old.spare }
@@ -155,22 +157,23 @@ impl Space {
         self.pending.clear();
     }
 
-    /// Makes the places live, or none of them where one lies outside its top, isn't free or meets another, or
-    /// where there is no memory to give them all back.
+    /// Makes the places live, or none of them where one lies outside its top or not on whole units of it, isn't free
+    /// or meets another, or where there is no memory to give them all back.
     pub fn claim(&mut self, places: &[Place]) -> Result<(), ClaimFault>
-        ensures ok { OnOk result (SamePlaces self.new.live (places.now ++ self.old.live)) }
-        ensures same { OnOk result (self.new ≡ record self.old { live = self.new.live }) }
-        ensures outside { (result ≡ Err ClaimFault.Outside) ↔ (are_inside self.old.sizes places.now ≡ false) }
+        ensures ok { OnOk result
+            (self.new ≡ record self.old { live = all_placed_in places.now self.old.live }) }
+        ensures outside { (result ≡ Err ClaimFault.Outside) ↔
+            (are_on_tops self.old.sizes places.now ≡ false) }
         ensures taken { (result ≡ Err ClaimFault.Taken) ↔
-            ((are_inside self.old.sizes places.now ≡ true)
+            ((are_on_tops self.old.sizes places.now ≡ true)
             × (are_open (used self.old) places.now ≡ false)) }
         ensures err { OnErr result (self.new ≡ self.old) }
         ensures sound { IsSound self.new }
     {
-        if !all_inside(&self.tops, places) {
+        if !all_on_tops(&self.tops, places) {
             return Err(ClaimFault::Outside);
         }
-        if !hold_all(&mut self.tops, places) {
+        if !allocate_all(&mut self.tops, places) {
             return Err(ClaimFault::Taken);
         }
         let room = self.live + COPIES_MAX * self.spare as usize + places.len();
@@ -186,10 +189,21 @@ impl Space {
         }
     }
 
-    /// The journal so far.
+    /// The journal's entries since they were last taken out.
     pub fn entries(&self) -> &[Entry]
         ensures { result.now ≡ self.now.entries }
     {
         self.entries.as_slice()
+    }
+
+    /// Takes the entries out of the journal, with their room: nothing is spare after it. Needs no memory.
+    pub fn take_entries(&mut self) -> List<Entry>
+        ensures entries { result ≡ self.old.entries }
+        ensures same { self.new ≡ record self.old { entries = []; spare = 0 } }
+    {
+        let alloc = *self.entries.allocator();
+        let entries = mem::replace(&mut self.entries, Vec::new(alloc));
+        self.spare = 0;
+        List::from_vec(entries)
     }
 }

@@ -3,10 +3,10 @@
 ghost use Rattle.std.specs.Prelude.{◌≡◌, ◌^◌, ◌%◌, ◌<◌, ◌≤◌, List, length, cond};
 ghost use Rattle.zio_types.specs.Choices.{is_refused, taken_by};
 ghost use Rattle.zio_types.specs.Places.{IsLawfulChoice};
-ghost use Rattle.zio_places.specs.Tables.{sizes_of, Count, AreKept, Hold};
+ghost use Rattle.zio_places.specs.Tables.{sizes_of, AreAligned, AreBitmapsOf, AreConsistent, AreAllocated};
 
 use crate::table::Table;
-use crate::tops::{find, hold, release_all};
+use crate::tops::{allocate, find, release_all};
 use zio_types::{Entry, Key, Place, SECTOR_SIZE};
 
 /// What stands behind the places found.
@@ -19,13 +19,14 @@ const NO_PLACE: Place = Place {
 /// Finds and holds a place for each copy. Where one has none, those found are free again.
 pub fn take_copies(tops: &mut [Table], key: Key, size: u32, copies: u32) -> Entry
     requires few { length tops.old < 2 ^ 32 }
-    requires kept { AreKept tops.old }
+    requires kept { AreConsistent tops.old }
     requires some { 0 < size }
     requires whole { size % 512 ≡ 0 }
     requires most { copies ≤ 3 }
     ensures asked { result.asked ≡ record { key = key; size = size; copies = copies } }
-    ensures held { Hold tops.old tops.new (taken_by result) }
-    ensures lawful { (used : List Place) → Count used tops.old → IsLawfulChoice (sizes_of tops.old) used result }
+    ensures held { AreAllocated tops.old tops.new (taken_by result) }
+    ensures lawful { (used : List Place) → AreBitmapsOf used tops.old → AreAligned (sizes_of tops.old) used →
+        IsLawfulChoice (sizes_of tops.old) used result }
 {
     let sectors = size / SECTOR_SIZE;
     let mut places = [NO_PLACE; 3];
@@ -41,7 +42,7 @@ pub fn take_copies(tops: &mut [Table], key: Key, size: u32, copies: u32) -> Entr
                 places,
             };
         };
-        hold(tops, place);
+        allocate(tops, place);
         places[earlier] = place;
     }
     Entry {
@@ -62,17 +63,5 @@ pub fn taken_count(entry: &Entry) -> u32
         0
     } else {
         entry.found
-    }
-}
-
-pub fn copy_of(entry: &Entry) -> Entry
-    ensures { result ≡ entry.now }
-{
-    Entry {
-        key: entry.key,
-        size: entry.size,
-        copies: entry.copies,
-        found: entry.found,
-        places: entry.places,
     }
 }

@@ -50,7 +50,13 @@ fn every_second(alloc: Global, count: u64) -> Result<Vec<Place>, NoMemory>
 
 #[test]
 fn a_body_without_a_run_asks_for_its_gang(rt: HostRuntime) -> Result<(), Fail> {
-    let mut space = Space::new(rt.alloc(), &[128])?;
+    let mut space = Space::new(
+        rt.alloc(),
+        &[TopSize {
+            sectors: 128,
+            unit: 1,
+        }],
+    )?;
     space.claim(every_second(rt.alloc(), 64)?.as_slice())?;
     let whole = root();
     let first = whole.child(0).ok_or("too deep")?;
@@ -74,7 +80,23 @@ fn a_body_without_a_run_asks_for_its_gang(rt: HostRuntime) -> Result<(), Fail> {
 
 #[test]
 fn no_place_is_given_to_two_blocks(rt: HostRuntime) -> Result<(), Fail> {
-    let mut space = Space::new(rt.alloc(), &[40, 0, 100])?;
+    let mut space = Space::new(
+        rt.alloc(),
+        &[
+            TopSize {
+                sectors: 40,
+                unit: 1,
+            },
+            TopSize {
+                sectors: 0,
+                unit: 1,
+            },
+            TopSize {
+                sectors: 100,
+                unit: 1,
+            },
+        ],
+    )?;
     let mut seen = vec![in rt.alloc(); false; 140]?;
     for i in 0..28u32 {
         space.reserve(1)?;
@@ -97,7 +119,13 @@ fn no_place_is_given_to_two_blocks(rt: HostRuntime) -> Result<(), Fail> {
 
 #[test]
 fn a_place_is_free_again_only_after_the_round(rt: HostRuntime) -> Result<(), Fail> {
-    let mut space = Space::new(rt.alloc(), &[100])?;
+    let mut space = Space::new(
+        rt.alloc(),
+        &[TopSize {
+            sectors: 100,
+            unit: 1,
+        }],
+    )?;
     let whole = Place {
         top: 0,
         sector: 0,
@@ -110,5 +138,108 @@ fn a_place_is_free_again_only_after_the_round(rt: HostRuntime) -> Result<(), Fai
     assert_eq!(rt; ask(&mut space, key(root(), Role::Body), 512, 1)?, 0);
     space.close_round();
     assert_eq!(rt; ask(&mut space, key(root(), Role::Body), 51200, 1)?, 1);
+    Ok(())
+}
+
+#[test]
+fn a_top_of_unit_8_takes_as_many_blocks_as_it_has_units(rt: HostRuntime) -> Result<(), Fail> {
+    let mut space = Space::new(
+        rt.alloc(),
+        &[TopSize {
+            sectors: 128,
+            unit: 8,
+        }],
+    )?;
+    let mut is_taken = vec![in rt.alloc(); false; 128]?;
+    for i in 0..16u32 {
+        space.reserve(1)?;
+        let entry = space.take(key(root(), Role::Body), 512, 1);
+        assert_eq!(rt; entry.found, 1, "block {i}");
+        let place = entry.places[0];
+        assert_eq!(rt; place.sectors, 8);
+        assert_eq!(rt; place.sector % 8, 0);
+        assert!(rt; place.sector < 128);
+        let at = place.sector as usize;
+        assert!(rt; at < is_taken.len());
+        assert!(rt; !is_taken[at], "sector {at}");
+        is_taken[at] = true;
+    }
+    assert_eq!(rt; ask(&mut space, key(root(), Role::Body), 512, 1)?, 0);
+    Ok(())
+}
+
+#[test]
+fn copies_on_tops_of_two_units_have_their_own_lengths(rt: HostRuntime) -> Result<(), Fail> {
+    let mut space = Space::new(
+        rt.alloc(),
+        &[
+            TopSize {
+                sectors: 16,
+                unit: 8,
+            },
+            TopSize {
+                sectors: 16,
+                unit: 1,
+            },
+        ],
+    )?;
+    space.reserve(1)?;
+    let entry = space.take(key(root(), Role::Body), 512, 2);
+    assert_eq!(rt; entry.found, 2);
+    let mut lengths = [0; 2];
+    for place in &entry.places[..2] {
+        if place.top < 2 {
+            lengths[place.top as usize] = place.sectors;
+        }
+    }
+    assert_eq!(rt; lengths, [8, 1]);
+    Ok(())
+}
+
+#[test]
+fn a_claim_is_of_whole_units(rt: HostRuntime) -> Result<(), Fail> {
+    let mut space = Space::new(
+        rt.alloc(),
+        &[TopSize {
+            sectors: 128,
+            unit: 8,
+        }],
+    )?;
+    let cases = [
+        (8, 1, Err(ClaimFault::Outside)),
+        (4, 8, Err(ClaimFault::Outside)),
+        (128, 8, Err(ClaimFault::Outside)),
+        (8, 8, Ok(())),
+        (8, 8, Err(ClaimFault::Taken)),
+    ];
+    for (sector, sectors, wanted) in cases {
+        let place = Place {
+            top: 0,
+            sector,
+            sectors,
+        };
+        let claimed = space.claim(&[place]);
+        assert!(rt; claimed == wanted, "sector {sector}, {sectors} sectors");
+    }
+    Ok(())
+}
+
+#[test]
+fn a_journal_is_taken_out_and_goes_on(rt: HostRuntime) -> Result<(), Fail> {
+    let mut space = Space::new(
+        rt.alloc(),
+        &[TopSize {
+            sectors: 4,
+            unit: 1,
+        }],
+    )?;
+    space.reserve(3)?;
+    let first = space.take(key(root(), Role::Body), 512, 1);
+    let entries = space.take_entries();
+    assert_eq!(rt; entries.len(), 1);
+    assert!(rt; space.entries().is_empty());
+    assert!(rt; space.is_live(&first.places[0]));
+    assert_eq!(rt; ask(&mut space, key(root(), Role::Head), 512, 3)?, 3);
+    assert_eq!(rt; space.entries().len(), 1);
     Ok(())
 }

@@ -3,29 +3,28 @@
 ghost use Rattle.std.specs.Prelude.{◌≡◌, ◌+◌, ◌^◌, ◌<◌, ◌≤◌, ◌∷◌, [], ℕ, List, length, true, false, Contains, IsTrue, All, ◌↔◌, MatchOption};
 ghost use Rattle.zio_types.specs.Places.{is_inside, uses_top, are_open};
 ghost use Rattle.zio_places.specs.Flags.{AreAll};
-ghost use Rattle.zio_places.specs.Spaces.{are_inside};
-ghost use Rattle.zio_places.specs.Tables.{top_at, sizes_of, live_of, length_at, total, cover_count, taken_at, Count, AreEven, AreKept, HasFlags, GetUsed, AllGetUsed, GetLive, Hold, IsRoom, IsFresh, IsFound, NoneHasRoom, NoFreshHasRoom};
+ghost use Rattle.zio_places.specs.Spaces.{is_on_top, are_on_tops};
+ghost use Rattle.zio_places.specs.Tables.{top_at, sizes_of, live_of, length_at, total, cover_count, taken_at, AreBitmapsOf, HaveEqualLengths, AreConsistent, HasFlags, IsMarkedUsed, AreMarkedUsed, IsEntered, AreAllocated, IsRoom, IsFresh, IsFound, NoneHasRoom, NoFreshHasRoom};
 
 use crate::table::Table;
 use zio_types::Place;
 
-/// The place lies below the end of its top, and has sectors.
-pub fn is_inside(tops: &[Table], place: &Place) -> bool
-    ensures { result ≡ is_inside (sizes_of tops.now) place.now }
+/// The place lies below the end of its top, has sectors, and stands on whole units.
+pub fn is_on_top(tops: &[Table], place: &Place) -> bool
+    ensures { result ≡ is_on_top (sizes_of tops.now) place.now }
 {
     let top = place.top as usize;
     if top >= tops.len() {
         return false;
     }
-    let sectors = tops[top].sectors();
-    let count = u64::from(place.sectors);
-    0 < count && place.sector <= sectors && count <= sectors - place.sector
+    let table = &tops[top];
+    table.is_inside(place) && table.is_aligned(place)
 }
 
 /// The place's sectors get used.
 pub fn mark(tops: &mut [Table], place: Place)
     requires { HasFlags tops.old place true }
-    ensures { GetUsed tops.old tops.new place }
+    ensures { IsMarkedUsed tops.old tops.new place }
 {
     let table = &mut tops[place.top as usize];
     table.set_flag(place.sector, place.sectors, false);
@@ -34,7 +33,7 @@ pub fn mark(tops: &mut [Table], place: Place)
 /// They get free.
 pub fn clear(tops: &mut [Table], place: Place)
     requires { HasFlags tops.old place false }
-    ensures { GetUsed tops.new tops.old place }
+    ensures { IsMarkedUsed tops.new tops.old place }
 {
     let table = &mut tops[place.top as usize];
     table.set_flag(place.sector, place.sectors, true);
@@ -45,7 +44,7 @@ pub fn enter(tops: &mut [Table], place: Place)
     requires filled { 0 < place.sectors }
     requires inside { place.sector < length (top_at tops.old place.top).lengths }
     requires empty { length_at tops.old place.top place.sector ≡ 0 }
-    ensures { GetLive tops.old tops.new place }
+    ensures { IsEntered tops.old tops.new place }
 {
     let table = &mut tops[place.top as usize];
     table.set_length(place.sector, place.sectors);
@@ -55,17 +54,17 @@ pub fn enter(tops: &mut [Table], place: Place)
 pub fn remove(tops: &mut [Table], place: Place)
     requires filled { 0 < place.sectors }
     requires live { length_at tops.old place.top place.sector ≡ place.sectors }
-    ensures { GetLive tops.new tops.old place }
+    ensures { IsEntered tops.new tops.old place }
 {
     let table = &mut tops[place.top as usize];
     table.set_length(place.sector, 0);
 }
 
 /// The place is live, and its sectors used.
-pub fn hold(tops: &mut [Table], place: Place)
-    requires kept { AreKept tops.old }
+pub fn allocate(tops: &mut [Table], place: Place)
+    requires kept { AreConsistent tops.old }
     requires room { HasFlags tops.old place true }
-    ensures { Hold tops.old tops.new (place ∷ []) }
+    ensures { AreAllocated tops.old tops.new (place ∷ []) }
 {
     mark(tops, place);
     enter(tops, place);
@@ -73,9 +72,9 @@ pub fn hold(tops: &mut [Table], place: Place)
 
 /// A live place is live no more, and its sectors are free.
 pub fn release(tops: &mut [Table], place: Place)
-    requires kept { AreKept tops.old }
+    requires kept { AreConsistent tops.old }
     requires live { Contains (live_of tops.old) place }
-    ensures { Hold tops.new tops.old (place ∷ []) }
+    ensures { AreAllocated tops.new tops.old (place ∷ []) }
 {
     remove(tops, place);
     clear(tops, place);
@@ -83,9 +82,9 @@ pub fn release(tops: &mut [Table], place: Place)
 
 /// So many places at once, each live and no two the same, are live no more, and their sectors are free.
 pub fn release_all(tops: &mut [Table], places: &[Place])
-    requires kept { AreKept tops.old }
+    requires kept { AreConsistent tops.old }
     requires live { (f : Place → ℕ) → total f places.now ≤ total f (live_of tops.old) }
-    ensures { Hold tops.new tops.old places.now }
+    ensures { AreAllocated tops.new tops.old places.now }
 {
     for place in places {
         release(tops, *place);
@@ -95,7 +94,7 @@ pub fn release_all(tops: &mut [Table], places: &[Place])
 /// All sectors of the place are free.
 pub fn is_open(tops: &[Table], place: &Place) -> bool
     requires inside { IsTrue (is_inside (sizes_of tops.now) place.now) }
-    requires even { AreEven tops.now }
+    requires even { HaveEqualLengths tops.now }
     ensures { IsTrue result ↔ HasFlags tops.now place.now true }
 {
     let table = &tops[place.top as usize];
@@ -103,19 +102,19 @@ pub fn is_open(tops: &[Table], place: &Place) -> bool
 }
 
 /// Holds the places, or none of them where one isn't free beside those before it.
-pub fn hold_all(tops: &mut [Table], places: &[Place]) -> bool
-    requires kept { AreKept tops.old }
-    requires inside { are_inside (sizes_of tops.old) places.now ≡ true }
-    ensures held { IsTrue result → Hold tops.old tops.new places.now }
-    ensures unchanged { result ≡ false → Hold tops.old tops.new [] }
-    ensures exact { (used : List Place) → Count used tops.old → result ≡ are_open used places.now }
+pub fn allocate_all(tops: &mut [Table], places: &[Place]) -> bool
+    requires kept { AreConsistent tops.old }
+    requires inside { are_on_tops (sizes_of tops.old) places.now ≡ true }
+    ensures held { IsTrue result → AreAllocated tops.old tops.new places.now }
+    ensures unchanged { result ≡ false → AreAllocated tops.old tops.new [] }
+    ensures exact { (used : List Place) → AreBitmapsOf used tops.old → result ≡ are_open used places.now }
 {
     for (i, place) in places.iter().enumerate() {
         if !is_open(tops, place) {
             release_all(tops, &places[..i]);
             return false;
         }
-        hold(tops, *place);
+        allocate(tops, *place);
     }
     true
 }
@@ -126,40 +125,47 @@ fn is_used(places: &[Place], top: u32) -> bool
     places.iter().any(|place| place.top == top)
 }
 
-/// A place on the first top with room that none of the earlier places uses.
+/// A place for so many sectors, rounded up to whole units, on the first top with room that none of the earlier places
+/// uses.
 fn find_fresh(tops: &[Table], earlier: &[Place], sectors: u32) -> Option<Place>
     requires few { length tops.now < 2 ^ 32 }
     requires some { 0 < sectors }
-    ensures { MatchOption result (NoFreshHasRoom tops.now earlier.now sectors) (IsFresh tops.now earlier.now sectors) }
+    requires most { sectors ≤ 2 ^ 23 }
+    ensures { MatchOption result
+        (NoFreshHasRoom tops.now earlier.now sectors)
+        (IsFresh tops.now earlier.now sectors) }
 {
     for (i, table) in tops.iter().enumerate() {
         let top = i as u32;
         if is_used(earlier, top) {
             continue;
         }
-        if let Some(sector) = table.first_run(sectors) {
+        let count = table.whole_units(sectors);
+        if let Some(sector) = table.first_run(count) {
             return Some(Place {
                 top,
                 sector,
-                sectors,
+                sectors: count,
             });
         }
     }
     None
 }
 
-/// A place on the first top with room.
+/// A place for so many sectors, rounded up to whole units, on the first top with room.
 fn find_any(tops: &[Table], sectors: u32) -> Option<Place>
     requires few { length tops.now < 2 ^ 32 }
     requires some { 0 < sectors }
+    requires most { sectors ≤ 2 ^ 23 }
     ensures { MatchOption result (NoneHasRoom tops.now sectors) (IsRoom tops.now sectors) }
 {
     for (i, table) in tops.iter().enumerate() {
-        if let Some(sector) = table.first_run(sectors) {
+        let count = table.whole_units(sectors);
+        if let Some(sector) = table.first_run(count) {
             return Some(Place {
                 top: i as u32,
                 sector,
-                sectors,
+                sectors: count,
             });
         }
     }
@@ -170,6 +176,7 @@ fn find_any(tops: &[Table], sectors: u32) -> Option<Place>
 pub fn find(tops: &[Table], earlier: &[Place], sectors: u32) -> Option<Place>
     requires few { length tops.now < 2 ^ 32 }
     requires some { 0 < sectors }
+    requires most { sectors ≤ 2 ^ 23 }
     ensures { MatchOption result (NoneHasRoom tops.now sectors) (IsFound tops.now earlier.now sectors) }
 {
     let fresh = find_fresh(tops, earlier, sectors);
@@ -191,18 +198,18 @@ pub fn is_live(tops: &[Table], place: &Place) -> bool
     0 < sectors && tops[top].length_at(place.sector) == sectors
 }
 
-/// Each place lies inside its top.
-pub fn all_inside(tops: &[Table], places: &[Place]) -> bool
-    ensures { result ≡ are_inside (sizes_of tops.now) places.now }
+/// Each place lies inside its top on whole units.
+pub fn all_on_tops(tops: &[Table], places: &[Place]) -> bool
+    ensures { result ≡ are_on_tops (sizes_of tops.now) places.now }
 {
-    places.iter().all(|place| is_inside(tops, place))
+    places.iter().all(|place| is_on_top(tops, place))
 }
 
 /// The sectors of places that are no longer live get free.
 pub fn clear_all(tops: &mut [Table], places: &[Place])
     requires filled { All (λ p. 0 < p.sectors) places.now }
     requires taken { (top sector : ℕ) → cover_count places.now top sector ≤ taken_at tops.old top sector }
-    ensures { AllGetUsed tops.new tops.old places.now }
+    ensures { AreMarkedUsed tops.new tops.old places.now }
 {
     for place in places {
         clear(tops, *place);

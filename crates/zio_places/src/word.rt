@@ -1,6 +1,6 @@
 ghost use Rattle.std.specs.Prelude.{◌≡◌, ℕ, ◌+◌, ◌-◌, ◌^◌, ◌<◌, ◌≤◌, length, drop, replicate, true, false};
 ghost use Rattle.std.specs.Int.{bit_at};
-ghost use Rattle.zio_places.specs.Flags.{summary_of, flag_at, front_run, best_run, AreAll, GetFlag};
+ghost use Rattle.zio_places.specs.Flags.{summary_of, flag_at, front_run, best_run, AreAll, IsFreeRun, IsRangeSet};
 
 use crate::summary::Summary;
 use std::marker::Model;
@@ -119,11 +119,11 @@ impl Word {
         summary
     }
 
-    /// The first sector of a run of so many free ones.
+    /// The first sector of a run of so many free ones, which begins where the word does or behind a used one.
     pub fn first_run(&self, count: u32) -> u32
         requires some { 0 < count }
         requires room { count ≤ best_run self.now }
-        ensures { AreAll self.now result count true }
+        ensures { IsFreeRun self.now result count }
     {
         let mut run = 0;
         for at in 0..self.len() {
@@ -154,7 +154,7 @@ impl Word {
     /// Gives so many sectors from here on this flag.
     pub fn set_flag(&mut self, at: u32, count: u32, is_free: bool)
         requires { at + count ≤ length self.old }
-        ensures { GetFlag self.old self.new at count is_free }
+        ensures { IsRangeSet self.old self.new at count is_free }
     {
         if is_free {
             self.set_free(at, count);
@@ -165,7 +165,7 @@ impl Word {
 
     fn set_free(&mut self, at: u32, count: u32)
         requires { at + count ≤ length self.old }
-        ensures { GetFlag self.old self.new at count true }
+        ensures { IsRangeSet self.old self.new at count true }
     {
         let bits = self.bits;
         self.bits = bits | ones(at, at + count);
@@ -173,7 +173,7 @@ impl Word {
 
     fn set_used(&mut self, at: u32, count: u32)
         requires { at + count ≤ length self.old }
-        ensures { GetFlag self.old self.new at count false }
+        ensures { IsRangeSet self.old self.new at count false }
     {
         let bits = self.bits;
         self.bits = bits & !ones(at, at + count);

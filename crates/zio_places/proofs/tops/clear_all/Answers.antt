@@ -1,8 +1,8 @@
 use Rattle.std.proofs.Common.{◌≡◌, get_or, take, sym, ap, subst, arith}
 use Rattle.std.proofs.lemmas.List.{drop_more, take_more}
 use Rattle.zio_types.specs.Choices.{no_place}
-use Rattle.zio_places.specs.Tables.{covers, one_if, cover_count, AllGetUsed}
-use Rattle.zio_places.proofs.HoldLemmas.{AllGetUsed-before, taken-flags}
+use Rattle.zio_places.specs.Tables.{covers, one_if, cover_count, AreMarkedUsed}
+use Rattle.zio_places.proofs.AllocateLemmas.{AreMarkedUsed-before, taken-flags}
 use Rattle.zio_places.proofs.tops.clear_all.Goals as goal
 
 pub clear-requires : goal.clear-requires
@@ -24,7 +24,7 @@ loop-place-preserved c =
     let rest = drop_more places i no_place c.loop-place-test.true in
     record {
       cleared =
-          subst (λ ps. AllGetUsed c.clear.new.tops c.args.tops.now ps) (sym (take_more places i no_place c.loop-place-test.true))
-          (AllGetUsed-before c.clear.new.tops c.loop-place.tops c.args.tops.now p (take i places) c.clear.ensures c.loop-place.invariant.cleared);
+          subst (λ ps. AreMarkedUsed c.clear.new.tops c.args.tops.now ps) (sym (take_more places i no_place c.loop-place-test.true))
+          (AreMarkedUsed-before c.clear.new.tops c.loop-place.tops c.args.tops.now p (take i places) c.clear.ensures c.loop-place.invariant.cleared);
       left = λ top sector. omega (arith, ap (λ ps. cover_count ps top sector) rest, c.loop-place.invariant.left top sector, c.clear.ensures.taken top sector);
     }

@@ -3,7 +3,7 @@ use Rattle.std.proofs.lemmas.Bool.{false≢true, eqb-true, eq-eqb, ltb-true, lt-
 use Rattle.zio_places.specs.Tables.{TopState, length_at}
 use Rattle.zio_places.proofs.TableLemmas.{live-length, length-live}
 use Rattle.zio_places.proofs.ChangeLemmas.{length-inside, inside-length}
-use Rattle.zio_places.proofs.HoldLemmas.{top_read}
+use Rattle.zio_places.proofs.AllocateLemmas.{top_read}
 use Rattle.zio_places.proofs.tops.is_live.Goals as goal
 
 pub returns-then-top-tops : goal.returns-then-top-tops

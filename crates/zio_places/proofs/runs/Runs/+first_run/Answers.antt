@@ -1,9 +1,8 @@
 use Rattle.std.proofs.Common.{◌≡◌, ◌≤◌, length, ap, arith, rules}
-use Rattle.std.specs.Prelude.{true}
 use Rattle.zio_places.specs.declared.summary.Summary.{Summary}
 use Rattle.zio_places.specs.Flags.{summary_of, best_run, back_run, front_run}
 use Rattle.zio_places.proofs.FlagLemmas.{front_run-le, back_run-le, best_run-le}
-use Rattle.zio_places.proofs.ForkLemmas.{at_Fork, at_Leaf, AreAll-over, AreAll-right, best_run-right}
+use Rattle.zio_places.proofs.ForkLemmas.{at_Fork, at_Leaf, IsFreeRun-over, IsFreeRun-right, best_run-right}
 use Rattle.zio_places.proofs.runs.Runs.+first_run.Goals as goal
 
 pub overflow_cast-count : goal.overflow_cast-count
@@ -33,7 +32,7 @@ returns-then-count-before-2 t c =
     let back : c.summary-before.result.back ≡ back_run c.in-Fork.left.value = ap (λ (s : Summary). s.back) left in
     let sectors : c.summary-before.result.sectors ≡ length c.in-Fork.left.value = ap (λ (s : Summary). s.sectors) left in
     let front : c.summary.result.front ≡ front_run c.in-Fork.right.value = ap (λ (s : Summary). s.front) right in
-    let over = AreAll-over c.in-Fork.left.value c.in-Fork.right.value c.args.count (omega (arith, back, front, c.if-count-before-2.true)) in
+    let over = IsFreeRun-over c.in-Fork.left.value c.in-Fork.right.value c.args.count (omega (arith, back, front, c.if-count-before-2.true)) in
     rw (fork.is, sectors, back) over
 
 pub first_run-requires-else-count-before-2 : goal.first_run-requires-else-count-before-2
@@ -55,12 +54,15 @@ overflow_add-result t c =
     let left : c.summary-before.result ≡ summary_of c.in-Fork.left.value = cc in
     let sectors : c.summary-before.result.sectors ≡ length c.in-Fork.left.value = ap (λ (s : Summary). s.sectors) left in
     let there = ap length c.deref-else-count-before-2.ensures in
-    omega (arith, sectors, there, c.first_run-else-count-before-2.ensures.fits, fork.kept.fits)
+    omega (arith, sectors, there, c.first_run-else-count-before-2.ensures.all.fits, fork.kept.fits)
 
 pub returns-else-count-before-2 : goal.returns-else-count-before-2
 returns-else-count-before-2 t c =
     let fork = at_Fork c.self.view_is c.self.invariant c.in-Fork.is in
     let left : c.summary-before.result ≡ summary_of c.in-Fork.left.value = cc in
+    let right : c.summary.result ≡ summary_of c.in-Fork.right.value = cc in
+    let back : c.summary-before.result.back ≡ back_run c.in-Fork.left.value = ap (λ (s : Summary). s.back) left in
     let sectors : c.summary-before.result.sectors ≡ length c.in-Fork.left.value = ap (λ (s : Summary). s.sectors) left in
+    let front : c.summary.result.front ≡ front_run c.in-Fork.right.value = ap (λ (s : Summary). s.front) right in
     let found = rw c.deref-else-count-before-2.ensures at c.first_run-else-count-before-2.ensures in
-    rw (fork.is, sectors) (AreAll-right c.in-Fork.left.value c.in-Fork.right.value _ c.args.count true found)
+    rw (fork.is, sectors) (IsFreeRun-right c.in-Fork.left.value c.in-Fork.right.value _ c.args.count (omega (arith, back, front, c.if-count-before-2.false)) found)

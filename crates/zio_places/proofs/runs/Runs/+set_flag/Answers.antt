@@ -3,7 +3,7 @@ use Rattle.std.proofs.Common.{Box}
 use Rattle.std.specs.declared.alloc.Global.{Global}
 use Rattle.zio_places.specs.declared.runs.Runs.{Runs}
 use Rattle.zio_places.specs.declared.summary.Summary.{Summary}
-use Rattle.zio_places.specs.Flags.{summary_of, GetFlag}
+use Rattle.zio_places.specs.Flags.{summary_of, IsRangeSet}
 use Rattle.zio_places.proofs.FlagLemmas.{front_run-le, back_run-le}
 use Rattle.zio_places.proofs.ForkLemmas.{at_Fork, at_Leaf, left_changes, right_changes, both_change, IsFork-changed}
 use Rattle.zio_places.proofs.runs.Runs.+set_flag.Goals as goal
@@ -22,7 +22,7 @@ returns t c =
     elim c.match-self.branch [
       | in-Leaf w ↦
           let leaf = at_Leaf c.self.view_is c.self.invariant w.in-Leaf.is in
-          rw w.self-inside-is (subst (λ fs. GetFlag fs w.set_flag.new.self c.args.at c.args.count c.args.is_free) (sym leaf.is) w.set_flag.ensures)
+          rw w.self-inside-is (subst (λ fs. IsRangeSet fs w.set_flag.new.self c.args.at c.args.count c.args.is_free) (sym leaf.is) w.set_flag.ensures)
       | in-Fork w ↦
           let fork = at_Fork c.self.view_is c.self.invariant w.in-Fork.is in
           let middle_sum : w.summary-middle.result ≡ summary_of w.in-Fork.left.value = w.summary-middle.ensures ∙ ap summary_of w.deref.ensures in

@@ -1,6 +1,6 @@
 use Rattle.std.proofs.Common.{◌<◌, length, take, sym, ◌∙◌, arith}
 use Rattle.std.proofs.lemmas.List.{length-take-le}
-use Rattle.zio_places.proofs.FlagLemmas.{runs_more_free, runs_more_used, run_ends, back_run-le}
+use Rattle.zio_places.proofs.FlagLemmas.{runs_more_free, runs_more_used, free_run_ends, back_run-le}
 use Rattle.zio_places.proofs.word.Word.first_run.Goals as goal
 use Rattle.zio_places.proofs.word.Word.first_run.Goals.{then-is_free+else-run-count, else-is_free}
 
@@ -11,7 +11,7 @@ overflow_sub-result c =
 
 pub returns-then-run-count : goal.returns-then-run-count
 returns-then-run-count c =
-    run_ends c.args.self.now c.loop-at.at c.args.count (omega arith) (sym c.is_free.ensures ∙ c.if-is_free.true) (omega (arith, c.loop-at.invariant.so_far))
+    free_run_ends c.args.self.now c.loop-at.at c.args.count (omega arith) (sym c.is_free.ensures ∙ c.if-is_free.true) (omega (arith, c.loop-at.invariant.so_far))
 
 pub loop-at-preserved : goal.loop-at-preserved
 loop-at-preserved c =

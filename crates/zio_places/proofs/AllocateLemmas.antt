@@ -1,28 +1,28 @@
 -- Places held and released one after another, and what stays true of the tables.
-use Rattle.std.proofs.Common.{◌≡◌, ℕ, zero, suc, ◌+◌, ◌-◌, ◌<◌, ◌≤◌, List, [], ◌∷◌, ◌++◌, length, get_or, refl, sym, ap, subst, ◌∙◌, arith, zero-add}
+use Rattle.std.proofs.Common.{◌≡◌, ℕ, suc, ◌+◌, ◌-◌, ◌<◌, ◌≤◌, List, [], ◌∷◌, ◌++◌, length, get_or, refl, sym, ap, subst, ◌∙◌, arith, zero-add}
 use Rattle.std.specs.Prelude.{Bool, true, false, Contains}
 use Rattle.std.proofs.Common.{inl, inr}
 use Rattle.std.proofs.lemmas.Bool.{cases_eq, false≢true}
-use Rattle.std.proofs.lemmas.List.{ext_get_or, length-map, get_or_default}
+use Rattle.std.proofs.lemmas.List.{length-map, get_or_default}
 use Rattle.zio_types.specs.declared.place.Place.{Place}
 use Rattle.zio_types.specs.Places.{end_of}
 use Rattle.zio_places.specs.Flags.{flag_at, AreAll}
-use Rattle.zio_places.specs.Tables.{TopState, no_top, top_at, sizes_of, places_from, live_from, live_of, covers, one_if, total, taken_in, taken_at, length_at, AreKept, HasFlags, GetUsed, AllGetUsed, GetLive, Hold}
-use Rattle.zio_places.proofs.PlaceLemmas.{total-append, covers-from, total-contains, contains-same}
+use Rattle.zio_places.specs.Tables.{TopState, no_top, top_at, size_of, sizes_of, places_from, live_from, live_of, covers, one_if, total, taken_in, taken_at, length_at, AreConsistent, HasFlags, IsMarkedUsed, AreMarkedUsed, IsEntered, AreAllocated}
+use Rattle.zio_places.proofs.PlaceLemmas.{total-append, covers-from, total-contains}
 use Rattle.zio_places.proofs.TableLemmas.{live-length, length-live}
 use Rattle.zio_places.proofs.ChangeLemmas.{taken_in-one}
 
 -- ---- the tables stay kept
-pub AreKept-hold : (old new : List TopState) (places : List Place) → Hold old new places → AreKept old → AreKept new
-AreKept-hold old new places h kept = record {
+pub AreConsistent-allocate : (old new : List TopState) (places : List Place) → AreAllocated old new places → AreConsistent old → AreConsistent new
+AreConsistent-allocate old new places h kept = record {
   even = h.even kept.even;
   covered = λ top sector.
       let live = h.live (λ p. one_if (covers p top sector)) in
       omega (arith, live, h.taken top sector, kept.covered top sector);
 }
 
-pub AreKept-release : (old new : List TopState) (places : List Place) → Hold old new places → AreKept new → AreKept old
-AreKept-release old new places h kept = record {
+pub AreConsistent-release : (old new : List TopState) (places : List Place) → AreAllocated old new places → AreConsistent new → AreConsistent old
+AreConsistent-release old new places h kept = record {
   even = h.even_back kept.even;
   covered = λ top sector.
       let live = h.live (λ p. one_if (covers p top sector)) in
@@ -42,10 +42,10 @@ live_from-same top (x ∷ a) (y ∷ b) h n =
 -- tables of the same lengths have the same live places
 pub live_of-same : (a b : List TopState) → ((top : ℕ) → (top_at b top).lengths ≡ (top_at a top).lengths) → sizes_of b ≡ sizes_of a → live_of b ≡ live_of a
 live_of-same a b h s =
-    live_from-same 0 a b h (sym (length-map b (λ (t : TopState). length t.lengths)) ∙ ap length s ∙ length-map a (λ (t : TopState). length t.lengths))
+    live_from-same 0 a b h (sym (length-map b size_of) ∙ ap length s ∙ length-map a size_of)
 
-pub Hold-nothing : (tops : List TopState) → Hold tops tops []
-Hold-nothing tops = record {
+pub AreAllocated-nothing : (tops : List TopState) → AreAllocated tops tops []
+AreAllocated-nothing tops = record {
   sizes = refl;
   even = λ h. h;
   even_back = λ h. h;
@@ -53,8 +53,8 @@ Hold-nothing tops = record {
   taken = λ top sector. sym (zero-add (taken_at tops top sector));
 }
 
-pub Hold-then : (a b c : List TopState) (xs ys : List Place) → Hold a b xs → Hold b c ys → Hold a c (xs ++ ys)
-Hold-then a b c xs ys h k = record {
+pub AreAllocated-then : (a b c : List TopState) (xs ys : List Place) → AreAllocated a b xs → AreAllocated b c ys → AreAllocated a c (xs ++ ys)
+AreAllocated-then a b c xs ys h k = record {
   sizes = k.sizes ∙ h.sizes;
   even = λ e. k.even (h.even e);
   even_back = λ e. h.even_back (k.even_back e);
@@ -62,8 +62,8 @@ Hold-then a b c xs ys h k = record {
   taken = λ top sector. omega (arith, h.taken top sector, k.taken top sector, total-append (λ p. one_if (covers p top sector)) xs ys);
 }
 
-pub Hold-before : (a b c : List TopState) (xs ys : List Place) → Hold a b xs → Hold b c ys → Hold a c (ys ++ xs)
-Hold-before a b c xs ys h k = record {
+pub AreAllocated-before : (a b c : List TopState) (xs ys : List Place) → AreAllocated a b xs → AreAllocated b c ys → AreAllocated a c (ys ++ xs)
+AreAllocated-before a b c xs ys h k = record {
   sizes = k.sizes ∙ h.sizes;
   even = λ e. k.even (h.even e);
   even_back = λ e. h.even_back (k.even_back e);
@@ -72,8 +72,8 @@ Hold-before a b c xs ys h k = record {
 }
 
 -- what was held from one state to two is the same there
-pub Hold-same : (a b c : List TopState) (xs : List Place) → Hold a b xs → Hold c b xs → Hold a c []
-Hold-same a b c xs h k = record {
+pub AreAllocated-same : (a b c : List TopState) (xs : List Place) → AreAllocated a b xs → AreAllocated c b xs → AreAllocated a c []
+AreAllocated-same a b c xs h k = record {
   sizes = sym k.sizes ∙ h.sizes;
   even = λ e. k.even_back (h.even e);
   even_back = λ e. h.even_back (k.even e);
@@ -81,8 +81,8 @@ Hold-same a b c xs h k = record {
   taken = λ top sector. omega (arith, h.taken top sector, k.taken top sector);
 }
 
-pub Hold-one : (a b c : List TopState) (p : Place) → GetUsed a b p → GetLive b c p → Hold a c (p ∷ [])
-Hold-one a b c p used live = record {
+pub AreAllocated-one : (a b c : List TopState) (p : Place) → IsMarkedUsed a b p → IsEntered b c p → AreAllocated a c (p ∷ [])
+AreAllocated-one a b c p used live = record {
   sizes = live.sizes ∙ used.sizes;
   even = λ e top. ap length (live.free top) ∙ used.even e top ∙ sym (live.lengths top);
   even_back = λ e. used.even_back (λ top. sym (ap length (live.free top)) ∙ e top ∙ live.lengths top);
@@ -95,7 +95,7 @@ Hold-one a b c p used live = record {
 }
 
 -- ---- what is known of a live place, and of free sectors
-pub live-flags : (tops : List TopState) (p : Place) → AreKept tops → Contains (live_of tops) p → HasFlags tops p false
+pub live-flags : (tops : List TopState) (p : Place) → AreConsistent tops → Contains (live_of tops) p → HasFlags tops p false
 live-flags tops p kept h =
     let filled = (live-length tops p h).0 in
     let taken : (sector : ℕ) → p.sector ≤ sector → sector < end_of p → 0 < taken_at tops p.top sector = λ sector a b.
@@ -107,7 +107,7 @@ live-flags tops p kept h =
       flags = record { fits = omega (arith, last.0); each = λ k a b. (taken_in-one (top_at tops p.top).free k (taken k a b)).1 };
     }
 
-pub free-unheld : (tops : List TopState) (p : Place) → AreKept tops → HasFlags tops p true → length_at tops p.top p.sector ≡ 0
+pub free-unheld : (tops : List TopState) (p : Place) → AreConsistent tops → HasFlags tops p true → length_at tops p.top p.sector ≡ 0
 free-unheld tops p kept room =
     elim (cases_eq (length_at tops p.top p.sector) 0) [
       | inl none ↦ none
@@ -120,34 +120,6 @@ free-unheld tops p kept room =
           absurd (false≢true (sym off ∙ on))
     ]
 
--- ---- the same live places in the tables give the same list of them
-size_at : (a : List TopState) (top : ℕ) → length (top_at a top).lengths ≡ get_or (sizes_of a) top 0
-size_at [] top = refl
-size_at (t ∷ a) zero = refl
-size_at (t ∷ a) (suc top) = size_at a top
-
-length_at-same : (a b : List TopState) → ((p : Place) → Contains (live_of a) p → Contains (live_of b) p) → (top sector : ℕ) → 0 < length_at a top sector → length_at b top sector ≡ length_at a top sector
-length_at-same a b h top sector some =
-    let q : Place = record { top = top; sector = sector; sectors = length_at a top sector } in
-    (live-length b q (h q (length-live a q some refl))).1
-
-pub live_of-unchanged : (a b : List TopState) → Hold a b [] → live_of b ≡ live_of a
-live_of-unchanged a b h =
-    let forth = contains-same (live_of a) (live_of b) (λ f. sym (h.live f ∙ zero-add (total f (live_of a)))) in
-    let back = contains-same (live_of b) (live_of a) (λ f. h.live f ∙ zero-add (total f (live_of a))) in
-    let long : (top : ℕ) → length (top_at b top).lengths ≡ length (top_at a top).lengths = λ top. size_at b top ∙ ap (λ ns. get_or ns top 0) h.sizes ∙ sym (size_at a top) in
-    live_of-same a b
-    (λ top. ext_get_or 0 (top_at b top).lengths (top_at a top).lengths (long top) (λ sector inside.
-    elim (cases_eq (length_at a top sector) 0) [
-      | inl none ↦
-          elim (cases_eq (length_at b top sector) 0) [
-            | inl also ↦ also ∙ sym none
-            | inr some ↦ absurd (omega (arith, none, some, length_at-same b a back top sector (omega (arith, some))))
-          ]
-      | inr some ↦ length_at-same a b forth top sector (omega (arith, some))
-    ]))
-    h.sizes
-
 pub HasFlags-free : (a b : List TopState) (p : Place) (flag : Bool) → (top_at b p.top).free ≡ (top_at a p.top).free → HasFlags a p flag → HasFlags b p flag
 HasFlags-free a b p flag e h = record { filled = h.filled; flags = subst (λ fs. AreAll fs p.sector p.sectors flag) (sym e) h.flags }
 
@@ -156,8 +128,8 @@ pub top_read : (tops : List TopState) (top : ℕ) (t : TopState) → top < lengt
 top_read tops top t here = get_or_default tops top t no_top here
 
 -- ---- sectors that get free one place after another
-pub AllGetUsed-nothing : (tops : List TopState) → AllGetUsed tops tops []
-AllGetUsed-nothing tops = record {
+pub AreMarkedUsed-nothing : (tops : List TopState) → AreMarkedUsed tops tops []
+AreMarkedUsed-nothing tops = record {
   sizes = refl;
   even = λ h. h;
   even_back = λ h. h;
@@ -165,8 +137,8 @@ AllGetUsed-nothing tops = record {
   taken = λ top sector. sym (zero-add (taken_at tops top sector));
 }
 
-pub AllGetUsed-before : (a b c : List TopState) (p : Place) (xs : List Place) → GetUsed a b p → AllGetUsed b c xs → AllGetUsed a c (xs ++ p ∷ [])
-AllGetUsed-before a b c p xs h k = record {
+pub AreMarkedUsed-before : (a b c : List TopState) (p : Place) (xs : List Place) → IsMarkedUsed a b p → AreMarkedUsed b c xs → AreMarkedUsed a c (xs ++ p ∷ [])
+AreMarkedUsed-before a b c p xs h k = record {
   sizes = k.sizes ∙ h.sizes;
   even = λ e. k.even (h.even e);
   even_back = λ e. h.even_back (k.even_back e);

@@ -2,7 +2,7 @@
 use Rattle.std.proofs.Common.{◌≡◌, ◌≢◌, ℕ, Bool, true, false, nat_eq, List, ◌⊎◌, inl, inr, Option, Some, None, refl, ap, sym, ◌∙◌, subst}
 use Rattle.std.specs.Cmp.Lexicographic.{pointwise, same_text, other_text}
 use Rattle.zio_outside.specs.Memory.{told, disk_image}
-use Rattle.zio_outside.specs.MemoryShelf.{ChangesOnly, image_of, out_of}
+use Rattle.zio_outside.specs.MemoryShelf.{ChangesOnly, IsSoundSlot, at_home, image_of, out_of}
 use Rattle.zio_outside.specs.Outside.{ComesHome, GoesOut, StaysHome}
 use Rattle.zio_outside.specs.declared.mem_disk.MemDisk.{MemDisk}
 
@@ -95,3 +95,18 @@ StaysHome-after_trip name image old mid new old_out mid_out new_out gone back to
     λ h. absurd (home other h),
   );
 }
+
+-- a change under one name to what is sound leaves each name sound that was
+pub IsSoundSlot-after_change : (old new : List ℕ → Option (Option MemDisk)) (name other : List ℕ) (disk : Option MemDisk)
+    → ChangesOnly old new name disk → IsSoundSlot (Some disk) → IsSoundSlot (old other) → IsSoundSlot (new other)
+IsSoundSlot-after_change old new name other disk change sound was =
+    elim (decided other name) [
+      | inl e ↦ subst (λ (n : List ℕ). IsSoundSlot (new n)) (sym e) (subst IsSoundSlot (sym change.changed) sound)
+      | inr differ ↦ subst IsSoundSlot (sym (change.others other differ)) was
+    ]
+
+-- where a name is sound and its disk isn't out, its disk is at home
+pub sound_at_home : (under : Option (Option MemDisk)) → None ≡ at_home under → under ≢ Some None → IsSoundSlot under → ⊥
+sound_at_home None none home sound = sound
+sound_at_home (Some None) none home sound = home refl
+sound_at_home (Some (Some disk)) none home sound = let no : None ≡ Some disk = none in cc

@@ -1,5 +1,6 @@
 -- What a clause sees of the sources, sinks and disks in memory. They tell all of it.
-use Rattle.std.specs.Prelude.{◌≡◌, ℕ, ◌-◌, min, List, drop, Option, Some}
+use Rattle.std.specs.Prelude.{◌≡◌, ℕ, ◌+◌, ◌-◌, ◌<◌, ◌≤◌, min, List, [], length, drop, Option, Some}
+use Rattle.std.proofs.Common.{arith}
 use Rattle.zio_outside.specs.Outside.{count_max}
 use Rattle.zio_outside.specs.declared.mem_stream.MemSource.{MemSource}
 use Rattle.zio_outside.specs.declared.mem_stream.MemSink.{MemSink}
@@ -8,6 +9,14 @@ use Rattle.zio_outside.specs.declared.mem_disk.MemDisk.{MemDisk}
 -- content that is told: these bytes and no others
 abbrev pub told : List ℕ → List ℕ → Type 0
 told content bytes = bytes ≡ content
+
+-- no call is to fail, and none has failed
+pub record IsSteady (fails : List ℕ) (faults : ℕ) : Type 0 where
+  pub unlisted : fails ≡ []
+  pub faultless : faults ≡ 0
+
+pub IsSteady-below_max : (fails : List ℕ) (faults : ℕ) → IsSteady fails faults → faults < count_max
+IsSteady-below_max fails faults steady = omega (arith, steady.faultless)
 
 -- ---- a source
 
@@ -24,6 +33,9 @@ source_fails s = s.calls.fails
 -- how many calls were made
 abbrev pub source_calls : MemSource → ℕ
 source_calls s = s.calls.made
+
+abbrev pub IsSoundSource : MemSource → Type 0
+IsSoundSource s = IsSteady (source_fails s) (source_faults s)
 
 -- ---- a sink
 
@@ -44,6 +56,18 @@ sink_fails s = s.calls.fails
 -- how many calls were made
 abbrev pub sink_calls : MemSink → ℕ
 sink_calls s = s.calls.made
+
+-- a sink is sound for as many bytes as its room has left
+pub record IsSoundSink (s : MemSink) (more : ℕ) : Type 0 where
+  pub steady : IsSteady (sink_fails s) (sink_faults s)
+  pub fits : length (sink_held s) + more ≤ sink_room s
+
+pub IsSoundSink-fewer : (s : MemSink) (fewer room : ℕ) → fewer ≤ room → IsSoundSink s room
+    → IsSoundSink s fewer
+IsSoundSink-fewer s fewer room less sound = record {
+  steady = sound.steady;
+  fits = let fits = sound.fits in omega arith;
+}
 
 -- ---- a disk
 
@@ -73,6 +97,9 @@ disk_reads d = d.reads
 
 abbrev pub disk_writes : MemDisk → ℕ
 disk_writes d = d.writes
+
+abbrev pub IsSoundDisk : MemDisk → Type 0
+IsSoundDisk d = IsSteady (disk_fails d) (disk_faults d)
 
 -- a disk was handed out under a name, and is otherwise as it was
 pub record HandedOut (was out : MemDisk) (name : List ℕ) : Type 0 where

@@ -69,13 +69,16 @@ TearsAt old new at piece = (image : List ℕ) → old image →
 -- ---- a shelf
 
 -- the disk of a name leaves the shelf
-pub record GoesOut (name : List ℕ) (old new : List ℕ → List ℕ → Type 0) (old_out new_out : List ℕ → Type 0) : Type 0 where
+pub record GoesOut (name : List ℕ) (old new : List ℕ → List ℕ → Type 0) (old_out new_out : List ℕ → Type 0)
+    : Type 0 where
   pub images : (other image : List ℕ) → new other image ↔ (old other image × (other ≢ name))
   pub out : (other : List ℕ) → new_out other ↔ (old_out other ⊎ (other ≡ name))
 
 -- the disk of a name comes home with this image
-pub record ComesHome (name image : List ℕ) (old new : List ℕ → List ℕ → Type 0) (old_out new_out : List ℕ → Type 0) : Type 0 where
-  pub images : (other bytes : List ℕ) → new other bytes ↔ ((old other bytes × (other ≢ name)) ⊎ ((other ≡ name) × (bytes ≡ image)))
+pub record ComesHome (name image : List ℕ) (old new : List ℕ → List ℕ → Type 0)
+    (old_out new_out : List ℕ → Type 0) : Type 0 where
+  pub images : (other bytes : List ℕ) →
+      new other bytes ↔ ((old other bytes × (other ≢ name)) ⊎ ((other ≡ name) × (bytes ≡ image)))
   pub out : (other : List ℕ) → new_out other ↔ (old_out other × (other ≢ name))
 
 -- nothing left the shelf or came home

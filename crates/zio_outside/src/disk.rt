@@ -1,4 +1,4 @@
-ghost use Rattle.std.specs.Prelude.{◌≡◌, ◌+◌, ◌≤◌, ℕ, List, length, OnOk, OnErr};
+ghost use Rattle.std.specs.Prelude.{◌≡◌, ◌+◌, ◌<◌, ◌≤◌, ℕ, List, length, OnOk, OnErr};
 ghost use Rattle.zio_outside.specs.Outside.{CountsFault, Keeps, ReadsAt, TearsAt, WritesAt, count_max};
 
 use crate::Failed;
@@ -19,6 +19,9 @@ pub trait Disk: Send {
     /// The name under which a shelf handed it out, where it tells its image.
     ghost home: { Self → List ℕ → Type 0 };
 
+    /// No call of it fails from now on.
+    ghost sound: { Self → Type 0 };
+
     fn size(&self) -> u64
         ensures { result ≡ bytes self.now };
 
@@ -26,6 +29,7 @@ pub trait Disk: Send {
     fn read_at(&mut self, at: u64, buffer: &mut [u8]) -> Result<(), Failed>
         requires { at + length buffer.old ≤ bytes self.old }
         ensures count { CountsFault result (faults self.old) (faults self.new) }
+        ensures sound { sound self.old → sound self.new × (faults self.new ≡ faults self.old) }
         ensures read { OnOk result (ReadsAt (image self.old) at buffer.new) }
         ensures image { Keeps (image self.old) (image self.new) }
         ensures home { Keeps (home self.old) (home self.new) }
@@ -36,6 +40,7 @@ pub trait Disk: Send {
     fn write_at(&mut self, at: u64, piece: &[u8]) -> Result<(), Failed>
         requires { at + length piece.now ≤ bytes self.old }
         ensures count { CountsFault result (faults self.old) (faults self.new) }
+        ensures sound { sound self.old → sound self.new × (faults self.new ≡ faults self.old) }
         ensures ok { OnOk result (WritesAt (image self.old) (image self.new) at piece.now) }
         ensures failed { OnErr result (TearsAt (image self.old) (image self.new) at piece.now) }
         ensures home { Keeps (home self.old) (home self.new) }
@@ -47,4 +52,7 @@ pub trait Disk: Send {
 
     /// A count never passes its last value.
     ghost counts: { (disk : Self) → faults disk ≤ count_max };
+
+    /// The count of a sound disk isn't at its last value. So its calls answer no `Failed`.
+    ghost sound_counts: { (disk : Self) → sound disk → faults disk < count_max };
 }

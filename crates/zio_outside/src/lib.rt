@@ -1,4 +1,5 @@
-//! What a run reads, writes and stores its blocks on: sources, sinks, disks, and shelves of disks.
+//! What a run reads, writes and stores its blocks on: sources, sinks, disks, and shelves of disks; and the gate that its
+//! leaf operations pass.
 //!
 //! It stands on `zio_types`. Read `Disk` first: its contract names the disk's image by a relation that holds where the
 //! disk tells it. The objects in memory, as `MemDisk`, tell all, and fail where they are told to. Those over the system,
@@ -8,6 +9,7 @@
 
 mod calls;
 mod disk;
+mod gate;
 mod mem_disk;
 mod mem_shelf;
 mod mem_stream;
@@ -19,6 +21,7 @@ mod stream;
 mod tests;
 
 pub use disk::Disk;
+pub use gate::{Gate, MeetGate, NoGate};
 pub use mem_disk::MemDisk;
 pub use mem_shelf::{DiskBack, MemShelf};
 pub use mem_stream::{MemSink, MemSource};

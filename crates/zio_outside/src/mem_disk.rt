@@ -95,6 +95,7 @@ impl MemDisk {
 
 impl Disk for MemDisk {
     ghost use Rattle.zio_outside.specs.Memory.{told, disk_image, disk_faults, disk_faults_at_fetch, disk_home, disk_fails, disk_calls, disk_reads, disk_writes};
+    ghost use Rattle.zio_outside.specs.Memory.{IsSoundDisk, IsSteady-below_max};
 
     ghost faults = { disk_faults };
 
@@ -106,6 +107,8 @@ impl Disk for MemDisk {
 
     ghost home = { λ d name. disk_home d ≡ Some name };
 
+    ghost sound = { IsSoundDisk };
+
     fn size(&self) -> u64 {
         self.image.len() as u64
     }
@@ -115,6 +118,8 @@ impl Disk for MemDisk {
     fn read_at(&mut self, at: u64, buffer: &mut [u8]) -> Result<(), Failed>
         requires { at + length buffer.old ≤ length (disk_image self.old) }
         ensures count { CountsFault result (disk_faults self.old) (disk_faults self.new) }
+        ensures sound { IsSoundDisk self.old →
+            IsSoundDisk self.new × (disk_faults self.new ≡ disk_faults self.old) }
         ensures read { OnOk result (ReadsAt (told (disk_image self.old)) at buffer.new) }
         ensures image { disk_image self.new ≡ disk_image self.old }
         ensures home { disk_home self.new ≡ disk_home self.old }
@@ -143,8 +148,12 @@ impl Disk for MemDisk {
     fn write_at(&mut self, at: u64, piece: &[u8]) -> Result<(), Failed>
         requires { at + length piece.now ≤ length (disk_image self.old) }
         ensures count { CountsFault result (disk_faults self.old) (disk_faults self.new) }
-        ensures ok { OnOk result (WritesAt (told (disk_image self.old)) (told (disk_image self.new)) at piece.now) }
-        ensures failed { OnErr result (TearsAt (told (disk_image self.old)) (told (disk_image self.new)) at piece.now) }
+        ensures sound { IsSoundDisk self.old →
+            IsSoundDisk self.new × (disk_faults self.new ≡ disk_faults self.old) }
+        ensures ok { OnOk result
+            (WritesAt (told (disk_image self.old)) (told (disk_image self.new)) at piece.now) }
+        ensures failed { OnErr result
+            (TearsAt (told (disk_image self.old)) (told (disk_image self.new)) at piece.now) }
         ensures home { disk_home self.new ≡ disk_home self.old }
         ensures bytes { length (disk_image self.new) ≡ length (disk_image self.old) }
         ensures at_fetch { disk_faults_at_fetch self.new ≡ disk_faults_at_fetch self.old }
@@ -169,4 +178,6 @@ impl Disk for MemDisk {
     ghost has_size = { λ d content told. ap length told };
 
     ghost counts = { λ d. d.calls.in_range };
+
+    ghost sound_counts = { λ d sound. IsSteady-below_max (disk_fails d) (disk_faults d) sound };
 }

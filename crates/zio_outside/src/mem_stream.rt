@@ -1,6 +1,7 @@
-ghost use Rattle.std.specs.Prelude.{◌≡◌, ◌<◌, ◌≤◌, ◌+◌, ◌-◌, ◌⊎◌, ◌↔◌, ℕ, List, [], length, drop, min, vec_len, vec_capacity, IfOk, IsErr, IsOk, OnErr, OnOk};
+ghost use Rattle.std.specs.Prelude.{◌≡◌, ◌<◌, ◌≤◌, ◌+◌, ◌-◌, ◌⊎◌, ◌↔◌, ℕ, List, [], length, drop, min};
+ghost use Rattle.std.specs.Prelude.{vec_len, vec_capacity, IfOk, IsErr, IsOk, OnErr, OnOk};
 ghost use Rattle.std.specs.List.{Contains};
-ghost use Rattle.zio_outside.specs.Outside.{Appends, AppendsFront, CountsFault, Moves, counted};
+ghost use Rattle.zio_outside.specs.Outside.{Appends, AppendsFront, CountsFault, Moves, count_max, counted};
 
 use crate::calls::Calls;
 use crate::{Failed, Sink, Source};
@@ -35,16 +36,21 @@ impl MemSource {
 }
 
 impl Source for MemSource {
-    ghost use Rattle.zio_outside.specs.Memory.{told, source_left, source_faults, source_fails, source_calls};
+    ghost use Rattle.zio_outside.specs.Memory.{told, source_left, source_faults, source_fails, source_calls, IsSoundSource};
+    ghost use Rattle.zio_outside.specs.Memory.{IsSteady-below_max};
 
     ghost faults = { source_faults };
 
     ghost left = { λ s. told (source_left s) };
 
+    ghost sound = { IsSoundSource };
+
     /// Moves as many bytes as are left and the buffer holds. A call that is listed raises the count of faults by one
     /// and moves nothing.
     fn read(&mut self, buffer: &mut [u8]) -> Result<usize, Failed>
         ensures count { CountsFault result (source_faults self.old) (source_faults self.new) }
+        ensures sound { IsSoundSource self.old →
+            IsSoundSource self.new × (source_faults self.new ≡ source_faults self.old) }
         ensures within { IfOk result (λ n. n ≤ length buffer.old) }
         ensures moved { IfOk result (λ n. (bytes : List ℕ) → told (source_left self.old) bytes →
             Moves bytes buffer.old buffer.new n × told (source_left self.new) (drop n bytes)) }
@@ -54,7 +60,8 @@ impl Source for MemSource {
         ensures listed { IsErr result ↔ Contains (source_fails self.old) (source_calls self.old) }
         ensures steady { source_fails self.old ≡ [] → IsOk result }
         ensures raised { OnErr result (source_faults self.new ≡ counted (source_faults self.old)) }
-        ensures kept { OnErr result ((source_left self.new ≡ source_left self.old) × (buffer.new ≡ buffer.old)) }
+        ensures kept { OnErr result
+            ((source_left self.new ≡ source_left self.old) × (buffer.new ≡ buffer.old)) }
         ensures fails { source_fails self.new ≡ source_fails self.old }
         ensures calls { source_calls self.new ≡ counted (source_calls self.old) }
     {
@@ -65,6 +72,8 @@ impl Source for MemSource {
         self.moved += n;
         Ok(n)
     }
+
+    ghost sound_counts = { λ s sound. IsSteady-below_max (source_fails s) (source_faults s) sound };
 }
 
 /// A sink in memory with a fixed room, which tells what it holds.
@@ -106,18 +115,24 @@ impl MemSink {
 }
 
 impl Sink for MemSink {
-    ghost use Rattle.zio_outside.specs.Memory.{told, sink_held, sink_room, sink_faults, sink_fails, sink_calls};
+    ghost use Rattle.zio_outside.specs.Memory.{told, sink_held, sink_room, sink_faults, sink_fails, sink_calls, IsSoundSink};
+    ghost use Rattle.zio_outside.specs.Memory.{IsSteady-below_max, IsSoundSink-fewer};
 
     ghost faults = { sink_faults };
 
     ghost holds = { λ s. told (sink_held s) };
 
+    ghost sound = { IsSoundSink };
+
     /// Appends the piece, without memory. A call that is listed, and one whose piece doesn't fit into what is left of
     /// the room, raises the count of faults by one and appends nothing.
     fn write(&mut self, piece: &[u8]) -> Result<(), Failed>
         ensures count { CountsFault result (sink_faults self.old) (sink_faults self.new) }
+        ensures sound { (more : ℕ) → IsSoundSink self.old (length piece.now + more) →
+            IsSoundSink self.new more × (sink_faults self.new ≡ sink_faults self.old) }
         ensures ok { OnOk result (Appends (told (sink_held self.old)) (told (sink_held self.new)) piece.now) }
-        ensures failed { OnErr result (AppendsFront (told (sink_held self.old)) (told (sink_held self.new)) piece.now) }
+        ensures failed { OnErr result
+            (AppendsFront (told (sink_held self.old)) (told (sink_held self.new)) piece.now) }
 
         // Beside what each sink ensures: which calls fail, and what they leave.
         ensures cause { IsErr result ↔ (Contains (sink_fails self.old) (sink_calls self.old)
@@ -136,4 +151,8 @@ impl Sink for MemSink {
         }
         self.held.extend_from_slice(piece).map_err(|_| Failed)
     }
+
+    ghost sound_counts = { λ s room sound. IsSteady-below_max (sink_fails s) (sink_faults s) sound.steady };
+
+    ghost sound_fewer = { IsSoundSink-fewer };
 }

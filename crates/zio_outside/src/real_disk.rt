@@ -47,6 +47,8 @@ impl<F: Read + Write + Seek + Send> Disk for FileDisk<F> {
 
     ghost home = { λ _ _. ⊥ };
 
+    ghost sound = { λ _. ⊥ };
+
     fn size(&self) -> u64 {
         self.bytes
     }
@@ -74,6 +76,8 @@ impl<F: Read + Write + Seek + Send> Disk for FileDisk<F> {
     ghost has_size = { λ d content told. absurd told };
 
     ghost counts = { λ d. d.in_range };
+
+    ghost sound_counts = { λ d sound. absurd sound };
 }
 
 /// A shelf of files, each an image of its own, which tells nothing of them.
@@ -83,9 +87,12 @@ pub struct FileShelf<'a, R> {
     faults: u64,
     disk_faults: u64,
     fetches: u64,
+    returns: u64,
+    last_size: u64,
     ghost faults_in_range: { faults ≤ count_max },
     ghost disk_faults_in_range: { disk_faults ≤ count_max },
     ghost fetches_in_range: { fetches ≤ count_max },
+    ghost returns_in_range: { returns ≤ count_max },
 }
 
 impl<'a, R: Files> FileShelf<'a, R> {
@@ -94,12 +101,15 @@ impl<'a, R: Files> FileShelf<'a, R> {
         ensures faults { result.faults ≡ 0 }
         ensures disk_faults { result.disk_faults ≡ 0 }
         ensures fetches { result.fetches ≡ 0 }
+        ensures returns { result.returns ≡ 0 }
     {
         FileShelf {
             rt,
             faults: 0,
             disk_faults: 0,
             fetches: 0,
+            returns: 0,
+            last_size: 0,
         }
     }
 
@@ -131,11 +141,17 @@ where
 
     ghost fetches = { λ s. s.fetches };
 
+    ghost returns = { λ s. s.returns };
+
+    ghost last_size = { λ s. s.last_size };
+
     ghost tells = { λ _. ⊥ };
 
     ghost image = { λ _ _ _. ⊥ };
 
     ghost out = { λ _ _. ⊥ };
+
+    ghost sound = { λ _ _. ⊥ };
 
     /// Opens the file of this path for reading and writing. The disk has the size that the file has now. Each error
     /// raises the count of faults by one and is answered `Failed`, never `Memory`.
@@ -143,6 +159,7 @@ where
         match self.open(name) {
             Ok(disk) => {
                 self.fetches = self.fetches.saturating_add(1);
+                self.last_size = disk.bytes;
                 Ok(disk)
             }
             Err(_) => {
@@ -157,9 +174,13 @@ where
         if disk.faults > 0 {
             self.disk_faults = self.disk_faults.saturating_add(1);
         }
+        self.returns = self.returns.saturating_add(1);
     }
 
-    ghost counts = { λ s. (s.faults_in_range, s.disk_faults_in_range, s.fetches_in_range) };
+    ghost counts = { λ s.
+        (s.faults_in_range, s.disk_faults_in_range, s.fetches_in_range, s.returns_in_range) };
 
     ghost one_image = { λ s name a b told other. absurd told };
+
+    ghost sound_counts = { λ s name sound. absurd sound };
 }

@@ -32,6 +32,8 @@ impl<R: Input> Source for StdSource<R> {
 
     ghost left = { λ _ _. ⊥ };
 
+    ghost sound = { λ _. ⊥ };
+
     fn read(&mut self, buffer: &mut [u8]) -> Result<usize, Failed> {
         match self.reader.read(buffer) {
             Ok(n) => Ok(n),
@@ -41,6 +43,8 @@ impl<R: Input> Source for StdSource<R> {
             }
         }
     }
+
+    ghost sound_counts = { λ s sound. absurd sound };
 }
 
 /// Standard output, which tells nothing of what it holds and is flushed after each piece.
@@ -77,6 +81,8 @@ impl<'a, R: Print> Sink for StdSink<'a, R> {
 
     ghost holds = { λ _ _. ⊥ };
 
+    ghost sound = { λ _ _. ⊥ };
+
     fn write(&mut self, piece: &[u8]) -> Result<(), Failed> {
         match self.write_through(piece) {
             Ok(()) => Ok(()),
@@ -86,4 +92,8 @@ impl<'a, R: Print> Sink for StdSink<'a, R> {
             }
         }
     }
+
+    ghost sound_counts = { λ s room sound. absurd sound };
+
+    ghost sound_fewer = { λ s fewer room less sound. absurd sound };
 }

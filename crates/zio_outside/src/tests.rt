@@ -5,7 +5,7 @@ use std::alloc::{Allocator, Global};
 use std::fmt::Display;
 use std::io::{BufRead, Lines};
 use std::test::Fail;
-use std::{env, fs, io};
+use std::{env, fs, io, thread};
 use zio_types::{Bytes, List, NoMemory, Text};
 
 fn bytes(alloc: Global, items: &[u8]) -> Result<Bytes, NoMemory>
@@ -176,4 +176,32 @@ fn the_standard_input_is_a_source(rt: HostRuntime) {
 fn an_output_that_fails_is_a_fault(rt: HostRuntime) {
     assert_eq!(rt; StdSink::new(&rt).write(b"written\n"), Ok(()));
     assert_eq!(rt; StdSink::new(&Fake).write(b"lost"), Err(Failed));
+}
+
+#[test]
+fn two_threads_meet_at_the_gate(rt: HostRuntime) {
+    let gate = MeetGate::new((3, 0), (4, 1), 10_000_000);
+    thread::join(&rt, || gate.before(3, 0), || gate.before(4, 1));
+    assert!(rt; gate.met());
+}
+
+#[test]
+fn one_thread_never_meets_itself(rt: HostRuntime) {
+    let gate = MeetGate::new((3, 0), (4, 1), 1000);
+    for _ in 0..3 {
+        gate.before(3, 0);
+        gate.before(4, 1);
+        gate.completed(3);
+    }
+    assert!(rt; !gate.met());
+}
+
+#[test]
+fn other_operations_pass_a_gate_at_once(rt: HostRuntime) {
+    let gate = MeetGate::new((3, 0), (4, 1), u64::MAX);
+    gate.before(3, 1);
+    gate.before(4, 0);
+    NoGate.before(3, 0);
+    NoGate.completed(3);
+    assert!(rt; !gate.met());
 }

@@ -3,7 +3,7 @@ use Rattle.zio_outside.specs.Memory.{HandedOut, disk_image}
 use Rattle.zio_outside.specs.MemoryShelf.{slot_of}
 use Rattle.zio_outside.specs.declared.mem_shelf.MemShelf.{MemShelf}
 use Rattle.zio_outside.proofs.SlotLemmas.{at_home-some}
-use Rattle.zio_outside.proofs.ShelfLemmas.{GoesOut-from_change, StaysHome-equal}
+use Rattle.zio_outside.proofs.ShelfLemmas.{GoesOut-from_change, StaysHome-equal, sound_at_home}
 use Rattle.zio_outside.proofs.mem_shelf.MemShelfShelf.fetch.Goals as goal
 
 pub returns-in-Some-take_disk-clause-disk : goal.returns-in-Some-take_disk-clause-disk
@@ -23,3 +23,6 @@ returns-in-Some-take_disk-clause-handed c =
 
 pub returns-in-None-clause-home : goal.returns-in-None-clause-home
 returns-in-None-clause-home c = StaysHome-equal _ _ (ap (λ (s : MemShelf). slot_of s.slots.items) c.in-None.ensures.none)
+
+pub returns-in-None-clause-sound : goal.returns-in-None-clause-sound
+returns-in-None-clause-sound c sound = absurd (sound_at_home _ c.in-None.ensures.was c.requires sound.kept)

@@ -2,6 +2,7 @@
 //! depend on time. `bench/run` starts it under a clock.
 //!
 //!     space RUNS CALLS    places taken and given back, beside so many free runs of one sector
+//!     units RUNS CALLS    the same on a top whose sectors are placed in eights
 //!     hit ROWS CALLS      looks into a fault table
 //!     sum BYTES TIMES     fletcher4 and SHA-256 of so many bytes
 //!     header SIZE TIMES   a gang header of a block of this size, read
@@ -17,6 +18,7 @@ mod space;
 mod sums;
 mod table;
 
+use crate::space::Unit;
 use anyhow::{Context, Result, bail};
 use std::env;
 
@@ -32,7 +34,8 @@ fn main(rt: HostRuntime) -> Result<()> {
     let size: u32 = size.parse().context("a size")?;
     let times: u32 = times.parse().context("a number of calls")?;
     let done = match subject.as_str() {
-        "space" => space::take_and_give_back(alloc, size, times)?,
+        "space" => space::take_and_give_back(alloc, Unit::One, size, times)?,
+        "units" => space::take_and_give_back(alloc, Unit::Eight, size, times)?,
         "hit" => table::look(alloc, size, times)?,
         "sum" => sums::add_up(alloc, size, times)?,
         "header" => header::read(alloc, size, times)?,
@@ -40,7 +43,7 @@ fn main(rt: HostRuntime) -> Result<()> {
         "fletcher" => sums::fletcher(alloc, size, times)?,
         "script" => script::read(alloc, size, times)?,
         "batches" => script::read_batches(alloc, size, times)?,
-        _ => bail!("space, hit, sum, header, digest, fletcher, script or batches"),
+        _ => bail!("space, units, hit, sum, header, digest, fletcher, script or batches"),
     };
     println!(rt; "{done}")?;
     Ok(())

@@ -41,9 +41,9 @@ tree_is tree none = ap (λ heads. record { bp = tree.bp; heads = heads }) none
 abbrev pending_at : Bound → ℕ → Request → Work → Pending
 pending_at bound birth r work = record { request = r; birth = birth; block = block_if (needs_block work) (name_of work) bound; kept = [] }
 
-own_at : (t : Terms) (bound : Bound) (birth : ℕ) (r : Request) (work : Work) (images : Images) → r.work ≡ work
-    → own_work t 0 (pending bound birth r) r.work [] images ≡ own_work t 0 (pending_at bound birth r work) work [] images
-own_at t bound birth r work images at = ap (λ (w : Work). own_work t 0 (pending_at bound birth r w) w [] images) at
+own_at : (j : List Choice) (t : Terms) (bound : Bound) (birth : ℕ) (r : Request) (work : Work) (images : Images) → r.work ≡ work
+    → own_work j t 0 (pending bound birth r) r.work [] images ≡ own_work j t 0 (pending_at bound birth r work) work [] images
+own_at j t bound birth r work images at = ap (λ (w : Work). own_work j t 0 (pending_at bound birth r w) w [] images) at
 
 -- the block of the name that the work has
 found_at : (bound : Bound) (r : Request) (work : Work) (found : Option Tree) → r.work ≡ work → named_block bound (name_of r.work) ≡ found
@@ -61,18 +61,19 @@ pub became_read : (s : Setting) (sizes : List ℕ) (images : Images) (n : ℕ) (
     → IsFirstSetting s sizes → IsPlainPointer s tree.bp → tree.heads ≡ [] → r.work ≡ Read name prio → r.canfail ≡ true
     → Became s (Some tree) n r images (Finished (view_of (own_read (read_plain s tree.bp images)))) [] (read_plain s tree.bp images).images
 became_read s sizes images n r name prio tree first plain none work canfail bound earlier later known others =
-    let t : Terms = terms_in s (earlier ++ ([] ++ later)) bound n in
+    let j : List Choice = earlier ++ ([] ++ later) in
+    let t : Terms = terms_in s bound n in
     let read : BlockRead = read_plain s tree.bp images in
     let found : block_of bound name ≡ Some tree = found_at bound r (Read name prio) (Some tree) work known in
-    let own_is : own_work t 0 (pending bound (n + 1) r) r.work [] images ≡ own_read read =
-    own_at t bound (n + 1) r (Read name prio) images work
+    let own_is : own_work j t 0 (pending bound (n + 1) r) r.work [] images ≡ own_read read =
+    own_at j t bound (n + 1) r (Read name prio) images work
     ∙ (ap (λ (b : Option Tree). read_of t b images) (found ∙ ap Some (tree_is tree none))
     ∙ (ap (λ (b : BlockRead). own_read b) (tree_plain (at_start s) tree.bp images plain.plain)
     ∙ ap (λ (x : Setting). own_read (read_plain x tree.bp images)) (start_is s first.point))) in
     let calmly : has_bits (all_bits (kind_of r.work) (own_read read).error r.canfail Wait no_bits) ≡ false =
     calm_read r name prio (own_read read).error work canfail (λ e is. read_fails s sizes tree.bp images e first plain is) in (
       admission_found bound r name prio tree work found,
-      settle_alone t bound (n + 1) r images
+      settle_alone j t bound (n + 1) r images
           (subst (λ (o : Own). has_bits (all_bits (kind_of r.work) o.error r.canfail Wait no_bits) ≡ false) (sym own_is) calmly)
           ∙ (ap (λ (o : Own). settled_own r o) own_is ∙ found_alone r bound (n + 1) read.found read.images),
     )
@@ -109,24 +110,25 @@ module _ (s : Setting) (images : Images) (n : ℕ) (r : Request) (name : List �
       → Became s None n r images (Finished (written_view (write_piece s bytes entry.places images) (plain_pointer entry.places kind (n + 1) bytes)))
       (entry ∷ []) (write_piece s bytes entry.places images).images
   became_write sizes first work content sector asked found bound earlier later known others =
-      let t : Terms = terms_in s (earlier ++ ((entry ∷ []) ++ later)) bound n in
+      let j : List Choice = earlier ++ ((entry ∷ []) ++ later) in
+      let t : Terms = terms_in s bound n in
       let w : Writing = writing_of t 0 (pending_at bound (n + 1) r (Write name kind 1 prio body)) kind 1 in
       let written : Written = write_piece s bytes entry.places images in
       let free : block_of bound name ≡ None = found_at bound r (Write name kind 1 prio body) None work known in
       let some : 1 ≤ length entry.places = (let one : length entry.places ≡ 1 = ap length found.one in omega arith) in
-      let at : chosen t.journal (body_ask w [] bytes) ≡ Some entry.places =
-      ap (λ (len : ℕ). chosen t.journal (record (first_ask r.number (n + 1)) { size = len })) sector
+      let at : chosen j (body_ask w [] bytes) ≡ Some entry.places =
+      ap (λ (len : ℕ). chosen j (record (first_ask r.number (n + 1)) { size = len })) sector
       ∙ chosen_behind r.number earlier entry later (first_ask r.number (n + 1)) others refl asked some in
-      let own_is : own_work t 0 (pending bound (n + 1) r) r.work [] images ≡ own_write (body_placed w [] bytes entry.places written) =
-      own_at t bound (n + 1) r (Write name kind 1 prio body) images work
-      ∙ (ap (λ (c : List ℕ). own_write (place_block w c images)) content
-      ∙ (ap (λ (p : Placed). own_write p) (placed_whole w bytes entry.places images at)
+      let own_is : own_work j t 0 (pending bound (n + 1) r) r.work [] images ≡ own_write (body_placed w [] bytes entry.places written) =
+      own_at j t bound (n + 1) r (Write name kind 1 prio body) images work
+      ∙ (ap (λ (c : List ℕ). own_write (place_block j w c images)) content
+      ∙ (ap (λ (p : Placed). own_write p) (placed_whole j w bytes entry.places images at)
       ∙ ap (λ (x : Setting). own_write (body_placed w [] bytes entry.places (write_piece x bytes entry.places images))) (start_is s first.point))) in
       let good : written.error ≡ None = write_succeeds s sizes entry.asked entry bytes images first found in
       let calmly : has_bits (all_bits (kind_of r.work) written.error r.canfail Wait no_bits) ≡ false =
       subst (λ (error : Option Errno). has_bits (all_bits (kind_of r.work) error r.canfail Wait no_bits) ≡ false) (sym good) (calm_done (kind_of r.work) r.canfail) in (
         admission_new bound r name kind 1 prio body work free,
-        settle_alone t bound (n + 1) r images
+        settle_alone j t bound (n + 1) r images
             (subst (λ (o : Own). has_bits (all_bits (kind_of r.work) o.error r.canfail Wait no_bits) ≡ false) (sym own_is) calmly)
             ∙ (ap (λ (o : Own). settled_own r o) own_is
             ∙ (ap (λ (len : ℕ). settled_sized len r n kind bytes entry.places (first_ask r.number (n + 1)) written) sector
@@ -134,29 +136,30 @@ module _ (s : Setting) (images : Images) (n : ℕ) (r : Request) (name : List �
       )
 
   -- a sector without a place
-  placed_nowhere : (w : Writing) → chosen w.journal (body_ask w [] bytes) ≡ None → length bytes ≡ 512
-      → place_block w bytes images ≡ without_place (body_ask w [] bytes ∷ []) images
+  placed_nowhere : (j : List Choice) (w : Writing) → chosen j (body_ask w [] bytes) ≡ None → length bytes ≡ 512
+      → place_block j w bytes images ≡ without_place (body_ask w [] bytes ∷ []) images
   unfolding place_part
-  placed_nowhere w none sector =
-      ap (λ (o : Option (List Place)). body_with o w (place_part 7 w) [] bytes images) none
-      ∙ ap (λ (small : Bool). gang_unless small w (place_part 7 w) [] bytes images) (ap (λ (len : ℕ). nat_le len 512) sector)
+  placed_nowhere j w none sector =
+      ap (λ (o : Option (List Place)). body_with o j w (place_part 7 j w) [] bytes images) none
+      ∙ ap (λ (small : Bool). gang_unless small j w (place_part 7 j w) [] bytes images) (ap (λ (len : ℕ). nat_le len 512) sector)
 
   pub became_waits : s.point ≡ 0 → r.work ≡ Write name kind 1 prio body → padded (body_of body) ≡ bytes → length bytes ≡ 512
       → entry.asked ≡ first_ask r.number (n + 1) → entry.places ≡ [] → r.canfail ≡ false
       → Became s None n r images Waits (entry ∷ []) images
   became_waits start work content sector asked nowhere must bound earlier later known others =
-      let t : Terms = terms_in s (earlier ++ ((entry ∷ []) ++ later)) bound n in
+      let j : List Choice = earlier ++ ((entry ∷ []) ++ later) in
+      let t : Terms = terms_in s bound n in
       let w : Writing = writing_of t 0 (pending_at bound (n + 1) r (Write name kind 1 prio body)) kind 1 in
       let free : block_of bound name ≡ None = found_at bound r (Write name kind 1 prio body) None work known in
-      let at : chosen t.journal (body_ask w [] bytes) ≡ None =
-      ap (λ (len : ℕ). chosen t.journal (record (first_ask r.number (n + 1)) { size = len })) sector
+      let at : chosen j (body_ask w [] bytes) ≡ None =
+      ap (λ (len : ℕ). chosen j (record (first_ask r.number (n + 1)) { size = len })) sector
       ∙ chosen_refused r.number earlier entry later (first_ask r.number (n + 1)) others refl asked refl nowhere in
-      let own_is : own_work t 0 (pending bound (n + 1) r) r.work [] images ≡ own_write (without_place (body_ask w [] bytes ∷ []) images) =
-      own_at t bound (n + 1) r (Write name kind 1 prio body) images work
-      ∙ (ap (λ (c : List ℕ). own_write (place_block w c images)) content
-      ∙ ap (λ (p : Placed). own_write p) (placed_nowhere w at sector)) in (
+      let own_is : own_work j t 0 (pending bound (n + 1) r) r.work [] images ≡ own_write (without_place (body_ask w [] bytes ∷ []) images) =
+      own_at j t bound (n + 1) r (Write name kind 1 prio body) images work
+      ∙ (ap (λ (c : List ℕ). own_write (place_block j w c images)) content
+      ∙ ap (λ (p : Placed). own_write p) (placed_nowhere j w at sector)) in (
         admission_new bound r name kind 1 prio body work free,
-        settle_waits t bound (n + 1) r images (ap (λ (o : Own). o.error) own_is) (ap kind_of work) must
+        settle_waits j t bound (n + 1) r images (ap (λ (o : Own). o.error) own_is) (ap kind_of work) must
             ∙ (ap (λ (o : Own). record { left = pending bound (n + 1) r ∷ []; ended = []; asks = o.asks; images = o.images }) own_is
             ∙ (ap (λ (len : ℕ). record { left = pending bound (n + 1) r ∷ []; ended = []; asks = record (first_ask r.number (n + 1)) { size = len } ∷ []; images = images }) sector
             ∙ ap (λ (a : Ask). record { left = pending bound (n + 1) r ∷ []; ended = []; asks = a ∷ []; images = images }) (sym asked))),

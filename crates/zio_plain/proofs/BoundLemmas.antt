@@ -1,5 +1,5 @@
 -- The bound names of a batch with one request more.
-use Rattle.std.proofs.Common.{◌≡◌, ℕ, List, [], ◌∷◌, ◌++◌, bytes_eq, Bool, true, false, not, Option, Some, None, option_to_list, refl, sym, ap, ◌∙◌, subst, inl, inr, ◌⊎◌}
+use Rattle.std.proofs.Common.{◌≡◌, ◌&&◌, ℕ, List, [], ◌∷◌, ◌++◌, bytes_eq, Bool, true, false, not, Option, Some, None, option_to_list, refl, sym, ap, ◌∙◌, subst, inl, inr, ◌⊎◌}
 use Rattle.std.proofs.lemmas.Bool.{cond-false, cond-true}
 use Rattle.std.proofs.lemmas.List.{append-nil}
 use Rattle.std.proofs.lemmas.Slice.Eq.{bytes_eq-Decides}
@@ -8,11 +8,11 @@ use Rattle.zio_types.specs.declared.error.Errno.{Errno}
 use Rattle.zio_types.specs.declared.place.Place.{Place}
 use Rattle.zio_types.specs.declared.request.Prio.{Prio}
 use Rattle.zio_types.specs.Choices.{Choice, taken_by}
-use Rattle.zio_places.specs.Spaces.{SamePlaces}
+use Rattle.zio_types.specs.Places.{SamePlaces}
 use Rattle.zio_script.specs.declared.script.Request.{Request}
 use Rattle.zio_script.specs.declared.script.Work.{Work}
 use Rattle.zio_script.specs.declared.script.Work.TheVariants.{Null, Read, Write, Free, Claim}
-use Rattle.zio_script.specs.Requests.{makes_block, name_of, names_it}
+use Rattle.zio_script.specs.Requests.{changes_pool, makes_block, name_of, names_it}
 use Rattle.zio_gang.specs.declared.tree.Tree.{Tree}
 use Rattle.zio_gang.specs.Attempts.{Ended}
 use Rattle.zio_gang.specs.Rounds.{Binding, Bound, bind, block_of, bound_after, bound_by, bound_unless, is_of, unbind, used_places}
@@ -184,7 +184,7 @@ by_same (Write n sum copies prio body) (Some tree) a b h same name =
 by_same (Free n) made a b h same name = elim h [ ]
 by_same (Claim n pointer) made a b h same name = elim h [ ]
 
-by_other : (work : Work) (made : Option Tree) (bound : Bound) (name : List ℕ) → IsReadOrWrite work → names_it (Some name) (name_of work) ≡ false
+by_other : (work : Work) (made : Option Tree) (bound : Bound) (name : List ℕ) → IsReadOrWrite work → (changes_pool work && names_it (Some name) (name_of work)) ≡ false
     → block_of (bound_by work made bound) name ≡ block_of bound name
 by_other Null made bound name h other = elim h [ ]
 by_other (Read n prio) made bound name h other = refl
@@ -259,7 +259,7 @@ bound_next bound old new batch used_old used_new n last r fate entry f is form u
     record {
       same = λ name. names name ∙ (by_same r.work (made_by fate) old now plain is.same name ∙ ap (λ (b : Bound). block_of b name) (sym after_is));
       fresh = λ name others.
-          (let parts = all_front (λ (q : Request). names_it (Some name) (name_of q.work) ≡ false) batch (r ∷ []) others in
+          (let parts = all_front (λ (q : Request). (changes_pool q.work && names_it (Some name) (name_of q.work)) ≡ false) batch (r ∷ []) others in
           ap (λ (b : Bound). block_of b name) after_is ∙ (by_other r.work (made_by fate) now name plain parts.1.0 ∙ is.fresh name parts.0));
       taken = places_after
           ∙ (ap (λ (ps : List Place). taken_of given ++ ps) is.taken

@@ -1,5 +1,6 @@
 -- The run of batches of one request each.
 use Rattle.std.proofs.Common.{◌≡◌, ℕ, zero, suc, ◌+◌, ◌-◌, ◌/◌, ◌%◌, ◌<◌, ◌≤◌, List, [], ◌∷◌, ◌++◌, length, replicate, Bool, true, false, ◌&&◌, ◌||◌, not, Option, Some, None, Result, Ok, Err, refl, sym, ap, ◌∙◌, arith, append_assoc, eq-eqb, add-one, drop, take, map, inl, inr, ◌⊎◌, nat_le, nat_lt, length-append, length-drop, length-take, leb-true}
+use Rattle.zio_types.specs.declared.place.TopSize.{TopSize}
 use Rattle.std.proofs.lemmas.Bool.{and_from, and_parts, and_left, cond-false, cond-true, le-ltb, ne_eqb}
 use Rattle.std.proofs.lemmas.Grind.{flat_map-append}
 use Rattle.std.proofs.lemmas.List.{append-nil}
@@ -16,7 +17,7 @@ use Rattle.zio_types.specs.declared.request.Bits.{Bits}
 use Rattle.zio_types.specs.declared.request.Kind.{Kind}
 use Rattle.zio_types.specs.declared.request.Kind.TheVariants.{Read as ReadKind, Write as WriteKind}
 use Rattle.zio_types.specs.declared.request.Prio.{Prio}
-use Rattle.zio_types.specs.Choices.{Ask, Choice, same_key, same_role}
+use Rattle.zio_types.specs.Choices.{Ask, Choice, same_key, same_role, same_ask}
 use Rattle.zio_types.specs.Errors.{worst_error, worst_of}
 use Rattle.zio_types.specs.Places.{end_of, is_below}
 use Rattle.zio_faults.specs.declared.table.Hit.{Hit}
@@ -33,10 +34,10 @@ use Rattle.zio_script.specs.declared.script.Work.TheVariants.{Read, Write}
 use Rattle.zio_script.specs.Requests.{kind_of, makes_block, name_of, needs_block}
 use Rattle.zio_cksum.specs.Blocks.{Pass, Read as BlockRead, Tried, again_on_error, again_with, blame, first_good, first_pass_with, good_body, in_turn, judged, judged_by, last_pass, last_pass_with, leaves_of, passed_with, place_written, read_block, read_order, read_pass, read_place, rotated, spot_in, then_others, then_writes, turn_size, write_pass, write_piece, write_place}
 use Rattle.zio_cksum.specs.Headers.{offset_of}
-use Rattle.zio_cksum.specs.Images.{Images, Setting, Spot, Written, bytes_at, met, read_leaf, read_met, write_leaf, write_met}
+use Rattle.zio_cksum.specs.Images.{Images, Setting, Spot, Written, bytes_at, met, read_leaf, read_met, write_leaf, write_met, padded_to}
 use Rattle.zio_gang.specs.declared.tree.Tree.{Tree}
 use Rattle.zio_gang.specs.Attempts.{Attempted, Own, Pending, Settled, Terms, settle, all_bits, attempt_each, closed, closed_if, ended_with, has_bits, no_bits, own_work, settle_from, settled_by, then_attempt, tree_unless}
-use Rattle.zio_gang.specs.Rounds.{Bound, admission, block_of, first_rule, is_named_bound, pending}
+use Rattle.zio_gang.specs.Rounds.{Bound, admission, block_of, first_rule, is_bound, passes, pending}
 use Rattle.zio_gang.specs.Runs.{Course, Event, Plan, Round, State, RanRound, HeldBatch, add_events, quiet, rounds_of, run_lines}
 use Rattle.zio_gang.specs.Trees.{Visit, add_body, after_walk, bodies_read, kept_visit, read_tree, walk, walk_pointer, walk_read}
 use Rattle.zio_gang.specs.Writes.{Writing, body_ask, body_placed, body_with, chosen, padded, place_block, place_part, places_chosen, places_unless}
@@ -73,35 +74,35 @@ settled_own r own = record {
 }
 
 -- with no bits a request ends
-pub settle_alone : (t : Terms) (bound : Bound) (birth : ℕ) (r : Request) (images : Images)
-    → has_bits (all_bits (kind_of r.work) (own_work t 0 (pending bound birth r) r.work [] images).error r.canfail t.failmode no_bits) ≡ false
-    → settle t (pending bound birth r ∷ []) images ≡ settled_own r (own_work t 0 (pending bound birth r) r.work [] images)
+pub settle_alone : (j : List Choice) (t : Terms) (bound : Bound) (birth : ℕ) (r : Request) (images : Images)
+    → has_bits (all_bits (kind_of r.work) (own_work j t 0 (pending bound birth r) r.work [] images).error r.canfail t.failmode no_bits) ≡ false
+    → settle j t (pending bound birth r ∷ []) images ≡ settled_own r (own_work j t 0 (pending bound birth r) r.work [] images)
 unfolding settle_from attempt_each
-settle_alone t bound birth r images calmly =
+settle_alone j t bound birth r images calmly =
     let p : Pending = pending bound birth r in
-    let own : Own = own_work t 0 p r.work [] images in
+    let own : Own = own_work j t 0 p r.work [] images in
     let bits : Bits = all_bits (kind_of r.work) own.error r.canfail t.failmode no_bits in
-    ap (λ (one : Attempted). settled_by (then_attempt [] one (attempt_each t 0 [])) (settle_from 2 t (0 + 1))) (closed_alone p own bits calmly)
+    ap (λ (one : Attempted). settled_by (then_attempt [] one (attempt_each j t 0 [])) (settle_from 2 j t (0 + 1))) (closed_alone p own bits calmly)
     ∙ ap (λ (asks : List Ask). record (settled_own r own) { asks = asks }) (append-nil own.asks)
 
 -- a write for which there is no space, and which may not fail, waits
-pub settle_waits : (t : Terms) (bound : Bound) (birth : ℕ) (r : Request) (images : Images)
-    → (own_work t 0 (pending bound birth r) r.work [] images).error ≡ Some Nospc → kind_of r.work ≡ WriteKind → r.canfail ≡ false
-    → settle t (pending bound birth r ∷ []) images ≡ record {
+pub settle_waits : (j : List Choice) (t : Terms) (bound : Bound) (birth : ℕ) (r : Request) (images : Images)
+    → (own_work j t 0 (pending bound birth r) r.work [] images).error ≡ Some Nospc → kind_of r.work ≡ WriteKind → r.canfail ≡ false
+    → settle j t (pending bound birth r ∷ []) images ≡ record {
       left = pending bound birth r ∷ [];
       ended = [];
-      asks = (own_work t 0 (pending bound birth r) r.work [] images).asks;
-      images = (own_work t 0 (pending bound birth r) r.work [] images).images;
+      asks = (own_work j t 0 (pending bound birth r) r.work [] images).asks;
+      images = (own_work j t 0 (pending bound birth r) r.work [] images).images;
     }
 unfolding settle_from attempt_each
-settle_waits t bound birth r images full kind must =
+settle_waits j t bound birth r images full kind must =
     let p : Pending = pending bound birth r in
-    let own : Own = own_work t 0 p r.work [] images in
+    let own : Own = own_work j t 0 p r.work [] images in
     let bits_are : all_bits (kind_of r.work) own.error r.canfail t.failmode no_bits ≡ record { now = false; suspend = true } =
     ap (λ (k : Kind). all_bits k own.error r.canfail t.failmode no_bits) kind
     ∙ (ap (λ (error : Option Errno). all_bits WriteKind error r.canfail t.failmode no_bits) full
     ∙ ap (λ (may : Bool). all_bits WriteKind (Some Nospc) may t.failmode no_bits) must) in
-    ap (λ (bits : Bits). settled_by (then_attempt [] (closed p own bits []) (attempt_each t 0 [])) (settle_from 2 t (0 + 1))) bits_are
+    ap (λ (bits : Bits). settled_by (then_attempt [] (closed p own bits []) (attempt_each j t 0 [])) (settle_from 2 j t (0 + 1))) bits_are
     ∙ ap (λ (asks : List Ask). record { left = p ∷ []; ended = []; asks = asks; images = own.images }) (append-nil own.asks)
 
 pub run_end : (plan : Plan) (st : State) → run_lines plan [] st ≡ quiet st
@@ -111,20 +112,20 @@ run_end plan st = refl
 -- ---- what a single request comes to
 
 -- what admission answers to a request alone in its batch
-abbrev admission_of : Bound → Work → Option Errno
+abbrev admission_of : (List ℕ → Bool) → Work → Option Errno
 admission_of bound work =
-    first_rule false ((needs_block work && not (is_named_bound bound (name_of work))) || false)
-    ((makes_block work && is_named_bound bound (name_of work)) || false)
+    first_rule false ((needs_block work && not (passes bound (name_of work))) || false)
+    ((makes_block work && passes bound (name_of work)) || false)
 
 pub admission_missing : (bound : Bound) (r : Request) (name : List ℕ) (prio : Prio) → r.work ≡ Read name prio → block_of bound name ≡ None
-    → admission [] bound (r ∷ []) ≡ Some Noent
+    → admission [] (is_bound bound) (r ∷ []) ≡ Some Noent
 admission_missing bound r name prio work missing =
-    ap (admission_of bound) work ∙ ap (λ (found : Option Tree). first_rule false (not (is_some found) || false) false) missing
+    ap (admission_of (is_bound bound)) work ∙ ap (λ (found : Option Tree). first_rule false (not (is_some found) || false) false) missing
 
 pub admission_found : (bound : Bound) (r : Request) (name : List ℕ) (prio : Prio) (tree : Tree) → r.work ≡ Read name prio → block_of bound name ≡ Some tree
-    → admission [] bound (r ∷ []) ≡ None
+    → admission [] (is_bound bound) (r ∷ []) ≡ None
 admission_found bound r name prio tree work found =
-    ap (admission_of bound) work ∙ ap (λ (o : Option Tree). first_rule false (not (is_some o) || false) false) found
+    ap (admission_of (is_bound bound)) work ∙ ap (λ (o : Option Tree). first_rule false (not (is_some o) || false) false) found
 
 one_body : (found : Result (List ℕ) Errno) (images : Images)
     → bodies_read (add_body found (record { errors = []; bytes = []; images = images })) ≡ record { found = found; images = images }
@@ -143,24 +144,24 @@ read_plain s bp images plain =
 
 pub admission_taken : (bound : Bound) (r : Request) (name : List ℕ) (sum : SumKind) (copies : ℕ) (prio : Prio) (body : Body) (tree : Tree)
     → r.work ≡ Write name sum copies prio body → block_of bound name ≡ Some tree
-    → admission [] bound (r ∷ []) ≡ Some Exist
+    → admission [] (is_bound bound) (r ∷ []) ≡ Some Exist
 admission_taken bound r name sum copies prio body tree work taken =
-    ap (admission_of bound) work ∙ ap (λ (o : Option Tree). first_rule false false (is_some o || false)) taken
+    ap (admission_of (is_bound bound)) work ∙ ap (λ (o : Option Tree). first_rule false false (is_some o || false)) taken
 
 pub admission_new : (bound : Bound) (r : Request) (name : List ℕ) (sum : SumKind) (copies : ℕ) (prio : Prio) (body : Body)
     → r.work ≡ Write name sum copies prio body → block_of bound name ≡ None
-    → admission [] bound (r ∷ []) ≡ None
+    → admission [] (is_bound bound) (r ∷ []) ≡ None
 admission_new bound r name sum copies prio body work free =
-    ap (admission_of bound) work ∙ ap (λ (o : Option Tree). first_rule false false (is_some o || false)) free
+    ap (admission_of (is_bound bound)) work ∙ ap (λ (o : Option Tree). first_rule false false (is_some o || false)) free
 
 -- a sector isn't padded
 pub padded_sector : (bytes : List ℕ) → length bytes ≡ 512 → padded bytes ≡ bytes
 padded_sector bytes sector = ap (λ (len : ℕ). bytes ++ replicate ((512 - len % 512) % 512) 0) sector ∙ append-nil bytes
 
-pub placed_whole : (w : Writing) (bytes : List ℕ) (places : List Place) (images : Images) → chosen w.journal (body_ask w [] bytes) ≡ Some places
-    → place_block w bytes images ≡ body_placed w [] bytes places (write_piece w.setting bytes places images)
+pub placed_whole : (j : List Choice) (w : Writing) (bytes : List ℕ) (places : List Place) (images : Images) → chosen j (body_ask w [] bytes) ≡ Some places
+    → place_block j w bytes images ≡ body_placed w [] bytes places (write_piece w.setting bytes places images)
 unfolding place_part
-placed_whole w bytes places images e = ap (λ (o : Option (List Place)). body_with o w (place_part 7 w) [] bytes images) e
+placed_whole j w bytes places images e = ap (λ (o : Option (List Place)). body_with o j w (place_part 7 j w) [] bytes images) e
 
 -- ---- choices of the journal
 
@@ -176,21 +177,26 @@ same_key_itself k =
     ((bytes_eq-Decides k.path k.path).1 refl))
     (same_role_itself k.role)
 
-passed_over : (k : ℕ) (earlier later : List Choice) (key : Key) → AllByRecursion (λ (c : Choice). c.asked.key.request < k) earlier → key.request ≡ k
-    → find (λ (c : Choice). same_key c.asked.key key) (earlier ++ later) ≡ find (λ (c : Choice). same_key c.asked.key key) later
-passed_over k [] later key before now = refl
-passed_over k (c ∷ earlier) later key before now =
+same_ask_itself : (a : Ask) → same_ask a a ≡ true
+same_ask_itself a =
+    and_from _ _ (and_from _ _ (same_key_itself a.key) (eq-eqb a.size a.size refl)) (eq-eqb a.copies a.copies refl)
+
+passed_over : (k : ℕ) (earlier later : List Choice) (ask : Ask) → AllByRecursion (λ (c : Choice). c.asked.key.request < k) earlier → ask.key.request ≡ k
+    → find (λ (c : Choice). same_ask c.asked ask) (earlier ++ later) ≡ find (λ (c : Choice). same_ask c.asked ask) later
+passed_over k [] later ask before now = refl
+passed_over k (c ∷ earlier) later ask before now =
     let less : c.asked.key.request < k = before.0 in
-    let other : c.asked.key.request ≡ key.request → ⊥ = λ same. omega arith in
-    cond-false (same_key c.asked.key key) (Some c) _ (and_left _ _ (and_left _ _ (and_left _ _ (and_left _ _ (ne_eqb _ _ other)))))
-    ∙ passed_over k earlier later key before.1 now
+    let other : c.asked.key.request ≡ ask.key.request → ⊥ = λ same. omega arith in
+    cond-false (same_ask c.asked ask) (Some c) _
+    (and_left _ _ (and_left _ _ (and_left _ _ (and_left _ _ (and_left _ _ (and_left _ _ (ne_eqb _ _ other)))))))
+    ∙ passed_over k earlier later ask before.1 now
 
 -- the choice for an ask, behind those of earlier requests
 found_behind : (k : ℕ) (earlier : List Choice) (c : Choice) (later : List Choice) (ask : Ask) → AllByRecursion (λ (d : Choice). d.asked.key.request < k) earlier
-    → ask.key.request ≡ k → c.asked ≡ ask → find (λ (d : Choice). same_key d.asked.key ask.key) (earlier ++ (c ∷ later)) ≡ Some c
+    → ask.key.request ≡ k → c.asked ≡ ask → find (λ (d : Choice). same_ask d.asked ask) (earlier ++ (c ∷ later)) ≡ Some c
 found_behind k earlier c later ask before at asked =
-    passed_over k earlier (c ∷ later) ask.key before at
-    ∙ cond-true (same_key c.asked.key ask.key) (Some c) _ (ap (λ (key : Key). same_key key ask.key) (ap (λ (a : Ask). a.key) asked) ∙ same_key_itself ask.key)
+    passed_over k earlier (c ∷ later) ask before at
+    ∙ cond-true (same_ask c.asked ask) (Some c) _ (ap (λ (a : Ask). same_ask a ask) asked ∙ same_ask_itself ask)
 
 pub chosen_behind : (k : ℕ) (earlier : List Choice) (c : Choice) (later : List Choice) (ask : Ask) → AllByRecursion (λ (d : Choice). d.asked.key.request < k) earlier
     → ask.key.request ≡ k → c.asked ≡ ask → ask.copies ≤ length c.places → chosen (earlier ++ (c ∷ later)) ask ≡ Some c.places
@@ -207,9 +213,9 @@ chosen_refused k earlier c later ask before at asked one none =
 
 -- ---- blocks without faults
 
-met_none : (s : Setting) (retry write : Bool) (spot : Spot) (len : ℕ) → s.rows ≡ [] → met s retry write spot len ≡ None
-met_none s retry write spot len faultless =
-    ap (λ (rows : List Row). first_hit rows (record { leaf = spot.leaf; write = write; at = spot.at; len = len; point = s.point; retry = retry })) faultless
+met_none : (s : Setting) (retry write : Bool) (spot : Spot) → s.rows ≡ [] → met s retry write spot ≡ None
+met_none s retry write spot faultless =
+    ap (λ (rows : List Row). first_hit rows (record { leaf = spot.leaf; write = write; at = spot.at; len = spot.span; point = s.point; retry = retry })) faultless
 
 judged_error : (good : Bool) (bytes : List ℕ) (e : Errno) → judged_by good bytes ≡ Err e → e ≡ Cksum
 judged_error true bytes e bad = cc
@@ -221,7 +227,7 @@ leaf_error : (s : Setting) (retry : Bool) (good : List ℕ → Bool) (images : I
 leaf_error s retry good images len spot faultless e bad =
     let bytes : List ℕ = bytes_at images spot len in
     let whole : judged good (read_leaf s retry images len spot) ≡ judged_by (good bytes) bytes =
-    ap (λ (hit : Option Hit). judged good (read_met hit spot.at bytes)) (met_none s retry false spot len faultless) in
+    ap (λ (hit : Option Hit). judged good (read_met hit spot.at bytes)) (met_none s retry false spot faultless) in
     judged_error (good bytes) bytes e (sym whole ∙ bad)
 
 -- the worst of what failed is a checksum error, where there is anything
@@ -299,8 +305,8 @@ place_good : (s : Setting) (retry : Bool) (bytes : List ℕ) (images : Images) (
 place_good s retry bytes images p leaf leaves faultless at_leaves =
     let spot : Spot = spot_in p leaf in
     ap (λ (all : List ℕ). (place_written (in_turn (write_leaf s retry bytes) (map (spot_in p) all) images)).error) at_leaves
-    ∙ ap (λ (hit : Option Hit). (place_written (then_writes (write_met hit images spot bytes) (in_turn (write_leaf s retry bytes) (map (spot_in p) leaves)))).error)
-    (met_none s retry true spot (length bytes) faultless)
+    ∙ ap (λ (hit : Option Hit). (place_written (then_writes (write_met hit images spot (padded_to spot.span bytes)) (in_turn (write_leaf s retry bytes) (map (spot_in p) leaves)))).error)
+    (met_none s retry true spot faultless)
 
 again_good : (w : Written) (again : Images → Written) → w.error ≡ None → (again_on_error w again).error ≡ None
 again_good w again good = ap (λ (error : Option Errno). (again_with error w again).error) good ∙ good
@@ -347,8 +353,8 @@ events_text_both show j xs e =
 
 -- ---- room for a sector
 
-pub inside_first : (sectors : ℕ) (p : Place) (top : ℕ) → IsTrue (is_below p (slice_get (sectors ∷ []) top)) → (top ≡ 0) × (end_of p ≤ sectors)
-inside_first sectors p zero inside =
-    let parts = and_parts (nat_lt 0 p.sectors) (nat_le (end_of p) sectors) inside in
-    (refl, leb-true (end_of p) sectors parts.1)
-inside_first sectors p (suc top) inside = cc
+pub inside_first : (size : TopSize) (p : Place) (top : ℕ) → IsTrue (is_below p (slice_get (size ∷ []) top)) → (top ≡ 0) × (end_of p ≤ size.sectors)
+inside_first size p zero inside =
+    let parts = and_parts (nat_lt 0 p.sectors) (nat_le (end_of p) size.sectors) inside in
+    (refl, leb-true (end_of p) size.sectors parts.1)
+inside_first size p (suc top) inside = cc

@@ -9,7 +9,7 @@ use Rattle.zio_faults.specs.declared.table.Operation.{Operation}
 use Rattle.zio_faults.specs.Hits.{first_hit, hit_on, selects, common_start, common_end}
 use Rattle.zio_outside.specs.Outside.{Keeps, Rose, WritesAt}
 use Rattle.zio_cksum.specs.Images.{Images, Setting, Spot, met, image_of, with_bytes, overwritten}
-use Rattle.zio_plain.specs.Disks.{Tell, KeepHomes, AnyRose, AreSameDisks, Handles, StillTell}
+use Rattle.zio_plain.specs.Disks.{Tell, KeepHomes, AnyRose, AreSameDisks, Handles, StaySound, StillTell}
 use Rattle.zio_plain.specs.declared.setting.Stop.{Stop}
 use Rattle.zio_plain.specs.declared.setting.Stop.TheVariants.{Device}
 
@@ -119,16 +119,46 @@ still_set image [] i any d h = tt
 still_set image (x ∷ xs) zero any d h = (h, still_itself image xs)
 still_set image (x ∷ xs) (suc i) any d h = (λ content told. (content, told), still_set image xs i any d h)
 
-pub same_itself : {D : Type 0} (bytes faults_at_fetch : D → ℕ) (home image : D → List ℕ → Type 0) (disks : List D) → AreSameDisks bytes faults_at_fetch home image disks disks
-same_itself bytes faults_at_fetch home image disks =
-    record { sizes = refl; at_fetch = refl; homes = homes_itself home disks; told = still_itself image disks }
+stay_itself : {D : Type 0} (sound : D → Type 0) (faults : D → ℕ) (disks : List D) → StaySound sound faults disks disks
+stay_itself sound faults [] = tt
+stay_itself sound faults (disk ∷ disks) = (λ s. (s, refl), stay_itself sound faults disks)
 
-pub same_then : {D : Type 0} (bytes faults_at_fetch : D → ℕ) (home image : D → List ℕ → Type 0) (a b c : List D) → AreSameDisks bytes faults_at_fetch home image a b → AreSameDisks bytes faults_at_fetch home image b c → AreSameDisks bytes faults_at_fetch home image a c
-same_then bytes faults_at_fetch home image a b c h k = record {
+stay_then : {D : Type 0} (sound : D → Type 0) (faults : D → ℕ) (a b c : List D)
+    → StaySound sound faults a b → StaySound sound faults b c → StaySound sound faults a c
+stay_then sound faults [] [] [] h k = tt
+stay_then sound faults [] [] (z ∷ zs) h k = absurd k
+stay_then sound faults [] (y ∷ ys) zs h k = absurd h
+stay_then sound faults (x ∷ xs) [] zs h k = absurd h
+stay_then sound faults (x ∷ xs) (y ∷ ys) [] h k = absurd k
+stay_then sound faults (x ∷ xs) (y ∷ ys) (z ∷ zs) h k = (
+  λ s. (let mid = h.0 s in let end = k.0 mid.0 in (end.0, end.1 ∙ mid.1)),
+  stay_then sound faults xs ys zs h.1 k.1,
+)
+
+stay_set : {D : Type 0} (sound : D → Type 0) (faults : D → ℕ) (disks : List D) (i : ℕ) (any d : D)
+    → (sound (get_or disks i any) → sound d × (faults d ≡ faults (get_or disks i any)))
+    → StaySound sound faults disks (set disks i d)
+stay_set sound faults [] i any d h = tt
+stay_set sound faults (x ∷ xs) zero any d h = (h, stay_itself sound faults xs)
+stay_set sound faults (x ∷ xs) (suc i) any d h = (λ s. (s, refl), stay_set sound faults xs i any d h)
+
+pub same_itself : {D : Type 0} (bytes faults faults_at_fetch : D → ℕ) (home image : D → List ℕ → Type 0) (sound : D → Type 0) (disks : List D) → AreSameDisks bytes faults faults_at_fetch home image sound disks disks
+same_itself bytes faults faults_at_fetch home image sound disks =
+    record {
+      sizes = refl;
+      at_fetch = refl;
+      homes = homes_itself home disks;
+      told = still_itself image disks;
+      stay = stay_itself sound faults disks;
+    }
+
+pub same_then : {D : Type 0} (bytes faults faults_at_fetch : D → ℕ) (home image : D → List ℕ → Type 0) (sound : D → Type 0) (a b c : List D) → AreSameDisks bytes faults faults_at_fetch home image sound a b → AreSameDisks bytes faults faults_at_fetch home image sound b c → AreSameDisks bytes faults faults_at_fetch home image sound a c
+same_then bytes faults faults_at_fetch home image sound a b c h k = record {
   sizes = k.sizes ∙ h.sizes;
   at_fetch = k.at_fetch ∙ h.at_fetch;
   homes = homes_then home a b c h.homes k.homes;
   told = still_then image a b c h.told k.told;
+  stay = stay_then sound faults a b c h.stay k.stay;
 }
 
 -- ---- what an operation leaves
@@ -143,48 +173,50 @@ on_ok (Ok x) h = h
 on_ok (Err e) h = tt
 
 -- an operation that changes no disk
-pub handles_none : {D A : Type 0} (bytes faults faults_at_fetch : D → ℕ) (home image : D → List ℕ → Type 0) (answer : Result A Stop) (disks : List D) → answer ≢ Err Device → Handles bytes faults faults_at_fetch home image answer disks disks
-handles_none bytes faults faults_at_fetch home image answer disks ne = record {
-  same = same_itself bytes faults_at_fetch home image disks;
+pub handles_none : {D A : Type 0} (bytes faults faults_at_fetch : D → ℕ) (home image : D → List ℕ → Type 0) (sound : D → Type 0) (answer : Result A Stop) (disks : List D) → answer ≢ Err Device → Handles bytes faults faults_at_fetch home image sound answer disks disks
+handles_none bytes faults faults_at_fetch home image sound answer disks ne = record {
+  same = same_itself bytes faults faults_at_fetch home image sound disks;
   steady = on_ok answer refl;
   device = λ e. absurd (ne e);
 }
 
 -- an operation on one of the disks
-pub handles_one : {D A : Type 0} (bytes faults faults_at_fetch : D → ℕ) (home image : D → List ℕ → Type 0) (answer : Result A Stop) (disks : List D) (i : ℕ) (any new : D) → i < length disks
+pub handles_one : {D A : Type 0} (bytes faults faults_at_fetch : D → ℕ) (home image : D → List ℕ → Type 0) (sound : D → Type 0) (answer : Result A Stop) (disks : List D) (i : ℕ) (any new : D) → i < length disks
     → bytes new ≡ bytes (get_or disks i any) → faults_at_fetch new ≡ faults_at_fetch (get_or disks i any) → Keeps (home (get_or disks i any)) (home new)
     → ((content : List ℕ) → image (get_or disks i any) content → (after : List ℕ) × image new after)
+    → (sound (get_or disks i any) → sound new × (faults new ≡ faults (get_or disks i any)))
     → OnOk answer (faults new ≡ faults (get_or disks i any)) → (answer ≡ Err Device → Rose (faults (get_or disks i any)) (faults new))
-    → Handles bytes faults faults_at_fetch home image answer disks (set disks i new)
-handles_one bytes faults faults_at_fetch home image answer disks i any new within size fetch kept still ok err = record {
+    → Handles bytes faults faults_at_fetch home image sound answer disks (set disks i new)
+handles_one bytes faults faults_at_fetch home image sound answer disks i any new within size fetch kept still stays ok err = record {
   same = record {
     sizes = map_set bytes disks i any new within size;
     at_fetch = map_set faults_at_fetch disks i any new within fetch;
     homes = homes_set home disks i any new kept;
     told = still_set image disks i any new still;
+    stay = stay_set sound faults disks i any new stays;
   };
   steady = on_ok_weaker answer (λ e. map_set faults disks i any new within e) ok;
   device = λ e. rose_at faults disks i any new within (err e);
 }
 
 -- one operation after another, whose answer counts
-pub handles_then : {D A B : Type 0} {bytes faults faults_at_fetch : D → ℕ} {home image : D → List ℕ → Type 0} {x : A} {answer : Result B Stop} {a b c : List D}
-    → Handles {A = A} bytes faults faults_at_fetch home image (Ok x) a b → Handles bytes faults faults_at_fetch home image answer b c → Handles bytes faults faults_at_fetch home image answer a c
-handles_then {D} {A} {B} {bytes} {faults} {faults_at_fetch} {home} {image} {x} {answer} {a} {b} {c} h k = record {
-  same = same_then bytes faults_at_fetch home image a b c h.same k.same;
+pub handles_then : {D A B : Type 0} {bytes faults faults_at_fetch : D → ℕ} {home image : D → List ℕ → Type 0} {sound : D → Type 0} {x : A} {answer : Result B Stop} {a b c : List D}
+    → Handles {A = A} bytes faults faults_at_fetch home image sound (Ok x) a b → Handles bytes faults faults_at_fetch home image sound answer b c → Handles bytes faults faults_at_fetch home image sound answer a c
+handles_then {D} {A} {B} {bytes} {faults} {faults_at_fetch} {home} {image} {sound} {x} {answer} {a} {b} {c} h k = record {
+  same = same_then bytes faults faults_at_fetch home image sound a b c h.same k.same;
   steady = on_ok_weaker answer (λ s. s ∙ h.steady) k.steady;
   device = λ d. subst (λ counts. AnyRose counts (map faults c)) h.steady (k.device d);
 }
 
 -- another answer where no disk failed
-pub handles_ok : {D A B : Type 0} {bytes faults faults_at_fetch : D → ℕ} {home image : D → List ℕ → Type 0} {x : A} {a b : List D} (y : B)
-    → Handles {A = A} bytes faults faults_at_fetch home image (Ok x) a b → Handles {A = B} bytes faults faults_at_fetch home image (Ok y) a b
+pub handles_ok : {D A B : Type 0} {bytes faults faults_at_fetch : D → ℕ} {home image : D → List ℕ → Type 0} {sound : D → Type 0} {x : A} {a b : List D} (y : B)
+    → Handles {A = A} bytes faults faults_at_fetch home image sound (Ok x) a b → Handles {A = B} bytes faults faults_at_fetch home image sound (Ok y) a b
 handles_ok y h = record { same = h.same; steady = h.steady; device = λ e. cc }
 
 -- an error that is passed on
-pub handles_err : {D A B : Type 0} {bytes faults faults_at_fetch : D → ℕ} {home image : D → List ℕ → Type 0} {stop : Stop} {a b : List D} (answer : Result B Stop)
-    → IsErrAnd answer (λ s. s ≡ stop) → Handles {A = A} bytes faults faults_at_fetch home image (Err stop) a b → Handles bytes faults faults_at_fetch home image answer a b
-handles_err {D} {A} {B} {bytes} {faults} {faults_at_fetch} {home} {image} {stop} {a} {b} answer is h =
+pub handles_err : {D A B : Type 0} {bytes faults faults_at_fetch : D → ℕ} {home image : D → List ℕ → Type 0} {sound : D → Type 0} {stop : Stop} {a b : List D} (answer : Result B Stop)
+    → IsErrAnd answer (λ s. s ≡ stop) → Handles {A = A} bytes faults faults_at_fetch home image sound (Err stop) a b → Handles bytes faults faults_at_fetch home image sound answer a b
+handles_err {D} {A} {B} {bytes} {faults} {faults_at_fetch} {home} {image} {sound} {stop} {a} {b} answer is h =
     let p = err_from_is_err_and answer is in
     record {
       same = h.same;
@@ -216,10 +248,10 @@ hit_ends o (row ∷ rows) =
     met_step (λ hit. hit.at + hit.len ≤ o.at + o.len) (selects row o) o row (find (λ r. selects r o) rows)
     (λ e. let h = selects_common row o e in omega arith) (hit_ends o rows)
 
-pub met_ends : (s : Setting) (retry write : Bool) (spot : Spot) (len : ℕ) (hit : Hit) → Some hit ≡ met s retry write spot len → hit.at + hit.len ≤ spot.at + len
-met_ends s retry write spot len hit e =
-    subst (λ (o : Option Hit). IfSome o (λ h. h.at + h.len ≤ spot.at + len)) (sym e)
-    (hit_ends (record { leaf = spot.leaf; write = write; at = spot.at; len = len; point = s.point; retry = retry }) s.rows)
+pub met_ends : (s : Setting) (retry write : Bool) (spot : Spot) (hit : Hit) → Some hit ≡ met s retry write spot → hit.at + hit.len ≤ spot.at + spot.span
+met_ends s retry write spot hit e =
+    subst (λ (o : Option Hit). IfSome o (λ h. h.at + h.len ≤ spot.at + spot.span)) (sym e)
+    (hit_ends (record { leaf = spot.leaf; write = write; at = spot.at; len = spot.span; point = s.point; retry = retry }) s.rows)
 
 -- ---- a fetch
 

@@ -8,19 +8,19 @@ use Rattle.zio_script.specs.Requests.{name_of}
 use Rattle.zio_cksum.specs.Images.{Images, Setting}
 use Rattle.zio_gang.specs.Attempts.{Ended, Pending, Settled, Terms, settle}
 use Rattle.zio_gang.specs.Journals.{asks_of, completion_of}
-use Rattle.zio_gang.specs.Rounds.{Admitted, Bound, Ran, add_left, add_settled, admission, admit_with, admitted, answered_with, grown, pending, pending_trees, planted, settle_each, trees_of}
+use Rattle.zio_gang.specs.Rounds.{Admitted, Bound, Ran, add_left, add_settled, admission, admit_with, admitted, answered_with, with_requests, pending, pending_trees, with_request, settle_each, trees_of, is_bound}
 use Rattle.zio_plain.specs.Batches.{Answered, AreOfEarlier, Became, Fate, Finished, Waits, ended_by, named_block, settled_of, terms_in}
 use Rattle.zio_plain.specs.Rounds.{ended_as}
 use Rattle.zio_plain.specs.Runs.{Front, IsFront}
 
 -- ---- trees
 
-grown_push : (r : Request) (rs : List Request) (trees : List (List Request)) → grown (rs ++ r ∷ []) trees ≡ planted r.under r (grown rs trees)
-grown_push r [] trees = refl
-grown_push r (q ∷ rs) trees = grown_push r rs (planted q.under q trees)
+with_requests_push : (r : Request) (rs : List Request) (trees : List (List Request)) → with_requests (rs ++ r ∷ []) trees ≡ with_request r.under r (with_requests rs trees)
+with_requests_push r [] trees = refl
+with_requests_push r (q ∷ rs) trees = with_requests_push r rs (with_request q.under q trees)
 
 trees_push : (r : Request) (batch : List Request) → r.under ≡ None → trees_of (batch ++ r ∷ []) ≡ trees_of batch ++ (r ∷ []) ∷ []
-trees_push r batch root = grown_push r batch [] ∙ ap (λ (under : Option ℕ). planted under r (grown batch [])) root
+trees_push r batch root = with_requests_push r batch [] ∙ ap (λ (under : Option ℕ). with_request under r (with_requests batch [])) root
 
 -- ---- admission
 
@@ -33,11 +33,11 @@ admit_both (Some e) tree a b =
 admit_both None tree a b = refl
 
 admitted_push : (bound : Bound) (trees : List (List Request)) (tree : List Request)
-    → admitted [] bound (trees ++ tree ∷ []) ≡ both_admitted (admitted [] bound trees) (admitted [] bound (tree ∷ []))
+    → admitted [] (is_bound bound) (trees ++ tree ∷ []) ≡ both_admitted (admitted [] (is_bound bound) trees) (admitted [] (is_bound bound) (tree ∷ []))
 admitted_push bound [] tree = refl
 admitted_push bound (t ∷ trees) tree =
-    ap (admit_with (admission [] bound t) t) (admitted_push bound trees tree)
-    ∙ admit_both (admission [] bound t) t (admitted [] bound trees) (admitted [] bound (tree ∷ []))
+    ap (admit_with (admission [] (is_bound bound) t) t) (admitted_push bound trees tree)
+    ∙ admit_both (admission [] (is_bound bound) t) t (admitted [] (is_bound bound) trees) (admitted [] (is_bound bound) (tree ∷ []))
 
 -- ---- what runs
 
@@ -53,18 +53,18 @@ left_both : (left : List Pending) (xs ys : List (List Pending)) → add_left lef
 left_both [] xs ys = refl
 left_both (p ∷ ps) xs ys = refl
 
-settle_push : (t : Terms) (trees : List (List Pending)) (tree : List Pending) (images : Images)
-    → settle_each t (trees ++ tree ∷ []) images ≡ ran_then (settle_each t trees images) (settle t tree (settle_each t trees images).images)
+settle_push : (j : List Choice) (t : Terms) (trees : List (List Pending)) (tree : List Pending) (images : Images)
+    → settle_each j t (trees ++ tree ∷ []) images ≡ ran_then (settle_each j t trees images) (settle j t tree (settle_each j t trees images).images)
 unfolding settle_each
-settle_push t [] tree images =
-    let s : Settled = settle t tree images in
+settle_push j t [] tree images =
+    let s : Settled = settle j t tree images in
     ap (λ (ended : List Ended). record { left = add_left s.left []; ended = ended; asks = s.asks ++ []; images = s.images }) (append-nil s.ended)
     ∙ ap (λ (asks : List Ask). record { left = add_left s.left []; ended = s.ended; asks = asks; images = s.images }) (append-nil s.asks)
-settle_push t (first ∷ trees) tree images =
-    let s : Settled = settle t first images in
-    let ran : Ran = settle_each t trees s.images in
-    let last : Settled = settle t tree ran.images in
-    ap (add_settled s) (settle_push t trees tree s.images)
+settle_push j t (first ∷ trees) tree images =
+    let s : Settled = settle j t first images in
+    let ran : Ran = settle_each j t trees s.images in
+    let last : Settled = settle j t tree ran.images in
+    ap (add_settled s) (settle_push j t trees tree s.images)
     ∙ (ap (λ (left : List (List Pending)). record { left = left; ended = s.ended ++ (ran.ended ++ last.ended); asks = s.asks ++ (ran.asks ++ last.asks); images = last.images })
     (left_both s.left ran.left (add_left last.left []))
     ∙ (ap (λ (ended : List Ended). record { left = add_left s.left ran.left ++ add_left last.left []; ended = ended; asks = s.asks ++ (ran.asks ++ last.asks); images = last.images })
@@ -114,12 +114,12 @@ front_with bound n r Waits given f = record f {
 }
 
 module _ (s : Setting) (bound : Bound) (images : Images) (n : ℕ) (journal : List Choice) (batch : List Request) (now : Images) (f : Front) (r : Request) (given : List Choice) (after : Images) where
-  admitted_next : (error : Option Errno) → IsFront s bound images n journal batch now f → r.under ≡ None → admission [] bound (r ∷ []) ≡ error
-      → admitted [] bound (trees_of (batch ++ r ∷ [])) ≡ both_admitted (record { answered = f.answered; trees = f.trees }) (admit_with error (r ∷ []) (record { answered = []; trees = [] }))
+  admitted_next : (error : Option Errno) → IsFront s bound images n journal batch now f → r.under ≡ None → admission [] (is_bound bound) (r ∷ []) ≡ error
+      → admitted [] (is_bound bound) (trees_of (batch ++ r ∷ [])) ≡ both_admitted (record { answered = f.answered; trees = f.trees }) (admit_with error (r ∷ []) (record { answered = []; trees = [] }))
   admitted_next error front root is =
-      ap (admitted [] bound) (trees_push r batch root)
+      ap (admitted [] (is_bound bound)) (trees_push r batch root)
       ∙ (admitted_push bound (trees_of batch) (r ∷ [])
-      ∙ (ap (λ (a : Admitted). both_admitted a (admitted [] bound ((r ∷ []) ∷ []))) front.admitted_is
+      ∙ (ap (λ (a : Admitted). both_admitted a (admitted [] (is_bound bound) ((r ∷ []) ∷ []))) front.admitted_is
       ∙ ap (λ (a : Option Errno). both_admitted (record { answered = f.answered; trees = f.trees }) (admit_with a (r ∷ []) (record { answered = []; trees = [] }))) is))
 
   -- what ran so far
@@ -127,17 +127,18 @@ module _ (s : Setting) (bound : Bound) (images : Images) (n : ℕ) (journal : Li
   ran_so_far = record { left = f.left; ended = f.ended; asks = asks_of f.given; images = now }
 
   settled_next : (fate : Fate) (later : List Choice) → IsFront s bound images n journal batch now f
-      → settle (terms_in s (journal ++ (given ++ later)) bound n) (pending bound (n + 1) r ∷ []) now ≡ settled_of fate (pending bound (n + 1) r) given after
-      → settle_each (terms_in s ((journal ++ given) ++ later) bound n) (pending_trees bound (n + 1) (f.trees ++ (r ∷ []) ∷ [])) images
+      → settle (journal ++ (given ++ later)) (terms_in s bound n) (pending bound (n + 1) r ∷ []) now ≡ settled_of fate (pending bound (n + 1) r) given after
+      → settle_each ((journal ++ given) ++ later) (terms_in s bound n) (pending_trees bound (n + 1) (f.trees ++ (r ∷ []) ∷ [])) images
       ≡ ran_then ran_so_far (settled_of fate (pending bound (n + 1) r) given after)
   settled_next fate later front settles =
-      let t : Terms = terms_in s (journal ++ (given ++ later)) bound n in
+      let j : List Choice = journal ++ (given ++ later) in
+      let t : Terms = terms_in s bound n in
       let p : Pending = pending bound (n + 1) r in
       let before : List (List Pending) = pending_trees bound (n + 1) f.trees in
-      ap (λ (j : List Choice). settle_each (terms_in s j bound n) (pending_trees bound (n + 1) (f.trees ++ (r ∷ []) ∷ [])) images) (append_assoc journal given later)
-      ∙ (ap (λ (ps : List (List Pending)). settle_each t ps images) (pending_push bound (n + 1) f.trees r)
-      ∙ (settle_push t before (p ∷ []) images
-      ∙ (ap (λ (ran : Ran). ran_then ran (settle t (p ∷ []) ran.images)) (front.settled (given ++ later))
+      ap (λ (j : List Choice). settle_each j (terms_in s bound n) (pending_trees bound (n + 1) (f.trees ++ (r ∷ []) ∷ [])) images) (append_assoc journal given later)
+      ∙ (ap (λ (ps : List (List Pending)). settle_each j t ps images) (pending_push bound (n + 1) f.trees r)
+      ∙ (settle_push j t before (p ∷ []) images
+      ∙ (ap (λ (ran : Ran). ran_then ran (settle j t (p ∷ []) ran.images)) (front.settled (given ++ later))
       ∙ ap (ran_then ran_so_far) settles)))
 
   pub front_next : (fate : Fate) → IsFront s bound images n journal batch now f → r.under ≡ None → AreOfEarlier r journal
@@ -149,7 +150,7 @@ module _ (s : Setting) (bound : Bound) (images : Images) (n : ℕ) (journal : Li
     settled = λ later.
         (let list_is : (journal ++ given) ++ later ≡ journal ++ later =
         ap (λ (g : List Choice). (journal ++ g) ++ later) became.0 ∙ ap (λ (j : List Choice). j ++ later) (append-nil journal) in
-        ap (λ (j : List Choice). settle_each (terms_in s j bound n) (pending_trees bound (n + 1) f.trees) images) list_is
+        ap (λ (j : List Choice). settle_each j (terms_in s bound n) (pending_trees bound (n + 1) f.trees) images) list_is
         ∙ (front.settled later
         ∙ (ap (λ (i : Images). record { left = f.left; ended = f.ended; asks = asks_of f.given; images = i }) (sym became.1)
         ∙ ap (λ (g : List Choice). record { left = f.left; ended = f.ended; asks = asks_of g; images = after })

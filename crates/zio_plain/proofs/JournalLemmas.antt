@@ -1,5 +1,6 @@
 -- The journal of rounds that are run one after another.
 use Rattle.std.proofs.Common.{◌≡◌, ℕ, ◌+◌, ◌<◌, ◌≤◌, List, [], ◌∷◌, ◌++◌, length, map, drop, filter, Bool, true, false, Option, None, Some, option_to_list, inl, inr, refl, sym, ap, ◌∙◌, subst, arith, append_assoc, eq-eqb}
+use Rattle.zio_types.specs.declared.place.TopSize.{TopSize}
 use Rattle.std.proofs.lemmas.Bool.{and_left, and_right, cond-false, cond-true, ne_eqb, or_from, or_left, or_right}
 use Rattle.std.proofs.lemmas.List.{append-nil}
 use Rattle.std.proofs.lemmas.List.Elements.{Contains-append_cases, Contains-append_left, Contains-append_right, Contains-push, filter-append}
@@ -18,7 +19,7 @@ use Rattle.zio_gang.specs.Attempts.{Ended}
 use Rattle.zio_gang.specs.Rounds.{Bound, answered_with, used_places}
 use Rattle.zio_types.specs.declared.journal.Journal.{Journal}
 use Rattle.zio_cksum.specs.Images.{Setting}
-use Rattle.zio_places.specs.Spaces.{SamePlaces}
+use Rattle.zio_types.specs.Places.{SamePlaces}
 use Rattle.zio_plain.specs.Batches.{Answered, Fate, Finished, IsGiven, Waits, ended_by}
 use Rattle.zio_plain.specs.Rounds.{ended_as}
 use Rattle.zio_plain.specs.Runs.{Front, IsJournaled, sectors_of, used_beside}
@@ -120,14 +121,14 @@ of_rounds_next number n rounds round xs new of at next =
 
 -- ---- choices
 
-pub choices_none : (sizes : List ℕ) (used : List Place) → AreChoicesOf sizes used [] []
+pub choices_none : (sizes : List TopSize) (used : List Place) → AreChoicesOf sizes used [] []
 choices_none sizes used = record { distinct = tt; asked = tt; answered = tt; lawful = tt }
 
-pub lawful_none : (sizes : List ℕ) → IsLawfulJournal sizes [] []
+pub lawful_none : (sizes : List TopSize) → IsLawfulJournal sizes [] []
 lawful_none sizes = record { of_rounds = tt; each = tt }
 
 -- the choices of one round more
-pub lawful_next : (sizes : List ℕ) (n : ℕ) (rounds : List Round) (round : Round) (choices new : List Choice)
+pub lawful_next : (sizes : List TopSize) (n : ℕ) (rounds : List Round) (round : Round) (choices new : List Choice)
     → IsLawfulJournal sizes rounds choices
     → AllByRecursion (λ (c : Choice). c.asked.key.round ≤ n) choices
     → AllByRecursion (λ (r : Round). r.number ≤ n) rounds
@@ -256,7 +257,7 @@ keys_push k (a ∷ asks) ask distinct low at =
       keys_push k asks ask distinct.1 low.1 at,
     )
 
-lawful_push : (sizes : List ℕ) (used : List Place) (cs : List Choice) (c : Choice) → AreLawful sizes used cs → IsLawfulChoice sizes (used_beside cs used) c
+lawful_push : (sizes : List TopSize) (used : List Place) (cs : List Choice) (c : Choice) → AreLawful sizes used cs → IsLawfulChoice sizes (used_beside cs used) c
     → AreLawful sizes used (cs ++ c ∷ [])
 lawful_push sizes used [] c lawful next = (next, tt)
 lawful_push sizes used (d ∷ cs) c lawful next = (lawful.0, lawful_push sizes (taken_by d ++ used) cs c lawful.1 next)
@@ -271,7 +272,7 @@ asks_low : (k : ℕ) (given : List Choice) → IsLow k given → AllByRecursion 
 asks_low k [] h = tt
 asks_low k (c ∷ given) h = (h.0, asks_low k given h.1)
 
-module _ (sizes : List ℕ) (used beside : List Place) (r : Request) (round : ℕ) (given : List Choice) where
+module _ (sizes : List TopSize) (used beside : List Place) (r : Request) (round : ℕ) (given : List Choice) where
   distinct_next : (entry : Option Choice) → HaveDistinctKeys (asks_of given) → IsLow r.number given → IsGiven sizes used r round entry
       → HaveDistinctKeys (asks_of (given ++ option_to_list entry))
   distinct_next None distinct low is = subst (λ (cs : List Choice). HaveDistinctKeys (asks_of cs)) (sym (append-nil given)) distinct

@@ -1,14 +1,15 @@
 -- Lists of the same places, with others behind them.
 use Rattle.std.proofs.Common.{◌≡◌, ℕ, ◌/◌, List, [], ◌∷◌, ◌++◌, inl, inr, Bool, not, refl, sym, subst}
+use Rattle.zio_types.specs.declared.place.TopSize.{TopSize}
 use Rattle.std.specs.List.{AllByRecursion, list_all}
 use Rattle.std.proofs.lemmas.Bool.{and_from, and_parts}
 use Rattle.zio_cksum.proofs.AllLemmas.{all_contained, all_contains, all_weaker}
 use Rattle.zio_types.specs.Choices.{Choice}
-use Rattle.zio_types.specs.Places.{AreCopies, HasRun, IsLawfulChoice, is_free, meets, run_at}
+use Rattle.zio_types.specs.Places.{AreCopies, HasRun, IsLawfulChoice, is_free, meets}
 use Rattle.std.specs.Prelude.{Contains, IsTrue}
 use Rattle.std.proofs.lemmas.List.Elements.{Contains-append_left, Contains-append_right, Contains-append_cases}
 use Rattle.zio_types.specs.declared.place.Place.{Place}
-use Rattle.zio_places.specs.Spaces.{SamePlaces}
+use Rattle.zio_types.specs.Places.{SamePlaces}
 
 one_way : (xs ys zs : List Place) → ((p : Place) → Contains xs p → Contains ys p) → (p : Place) → Contains (xs ++ zs) p → Contains (ys ++ zs) p
 one_way xs ys zs h p there = elim (Contains-append_cases xs zs p there) [
@@ -61,31 +62,33 @@ free_same : (xs ys : List Place) (p : Place) → SamePlaces xs ys → IsTrue (is
 free_same xs ys p same h =
     pass_all (λ q. not (meets p q)) ys (passes_each (λ q. not (meets p q)) xs ys h (contained_all xs ys same))
 
-run_same : (sizes : List ℕ) (xs ys : List Place) (top sectors : ℕ) → SamePlaces xs ys → HasRun sizes xs top sectors → HasRun sizes ys top sectors
-run_same sizes xs ys top sectors same run = record {
-  sector = run.sector;
+run_same : (tops : List TopSize) (xs ys : List Place) (top size : ℕ) → SamePlaces xs ys → HasRun tops xs top size → HasRun tops ys top size
+run_same tops xs ys top size same run = record {
+  place = run.place;
+  there = run.there;
+  fits = run.fits;
   inside = run.inside;
-  free = free_same xs ys (run_at top sectors run.sector) same run.free;
+  free = free_same xs ys run.place same run.free;
 }
 
-copies_same : (sizes : List ℕ) (xs ys : List Place) (sectors : ℕ) (earlier places : List Place) → SamePlaces xs ys
-    → AreCopies sizes xs sectors earlier places → AreCopies sizes ys sectors earlier places
-copies_same sizes xs ys sectors earlier [] same h = tt
-copies_same sizes xs ys sectors earlier (p ∷ places) same h = (
+copies_same : (tops : List TopSize) (xs ys : List Place) (size : ℕ) (earlier places : List Place) → SamePlaces xs ys
+    → AreCopies tops xs size earlier places → AreCopies tops ys size earlier places
+copies_same tops xs ys size earlier [] same h = tt
+copies_same tops xs ys size earlier (p ∷ places) same h = (
   record {
-    length = h.0.length;
+    fits = h.0.fits;
     inside = h.0.inside;
     free = free_same (earlier ++ xs) (earlier ++ ys) p (SamePlaces-behind xs ys earlier same) h.0.free;
     spread = λ uses top unused run. h.0.spread uses top unused
-        (run_same sizes (earlier ++ ys) (earlier ++ xs) top sectors (SamePlaces-back (earlier ++ xs) (earlier ++ ys) (SamePlaces-behind xs ys earlier same)) run);
+        (run_same tops (earlier ++ ys) (earlier ++ xs) top size (SamePlaces-back (earlier ++ xs) (earlier ++ ys) (SamePlaces-behind xs ys earlier same)) run);
   },
-  copies_same sizes xs ys sectors (earlier ++ p ∷ []) places same h.1,
+  copies_same tops xs ys size (earlier ++ p ∷ []) places same h.1,
 )
 
-pub lawful_same : (sizes : List ℕ) (xs ys : List Place) (c : Choice) → SamePlaces xs ys → IsLawfulChoice sizes xs c → IsLawfulChoice sizes ys c
-lawful_same sizes xs ys c same lawful = record {
+pub lawful_same : (tops : List TopSize) (xs ys : List Place) (c : Choice) → SamePlaces xs ys → IsLawfulChoice tops xs c → IsLawfulChoice tops ys c
+lawful_same tops xs ys c same lawful = record {
   found = lawful.found;
-  copies = copies_same sizes xs ys (c.asked.size / 512) [] c.places same lawful.copies;
+  copies = copies_same tops xs ys c.asked.size [] c.places same lawful.copies;
   refused = λ few top run. lawful.refused few top
-      (run_same sizes (c.places ++ ys) (c.places ++ xs) top (c.asked.size / 512) (SamePlaces-back (c.places ++ xs) (c.places ++ ys) (SamePlaces-behind xs ys c.places same)) run);
+      (run_same tops (c.places ++ ys) (c.places ++ xs) top c.asked.size (SamePlaces-back (c.places ++ xs) (c.places ++ ys) (SamePlaces-behind xs ys c.places same)) run);
 }

@@ -1,5 +1,5 @@
 -- A run from one line of the script to the next.
-use Rattle.std.proofs.Common.{◌≡◌, ℕ, ◌+◌, ◌/◌, ◌<◌, ◌≤◌, List, [], ◌∷◌, ◌++◌, ◌||◌, not, Bool, length, map, drop, Option, Some, None, option_to_list, true, false, refl, sym, ap, ◌∙◌, subst, arith, append_assoc, length-append}
+use Rattle.std.proofs.Common.{◌≡◌, ◌&&◌, not, false, ◌*◌, ℕ, ◌+◌, ◌/◌, ◌<◌, ◌≤◌, List, [], ◌∷◌, ◌++◌, ◌||◌, not, Bool, length, map, drop, Option, Some, None, option_to_list, true, false, refl, sym, ap, ◌∙◌, subst, arith, append_assoc, length-append}
 use Rattle.std.specs.List.{AllByRecursion, flat_map}
 use Rattle.std.proofs.lemmas.List.{append-nil}
 use Rattle.zio_types.specs.declared.journal.Completion.{Completion}
@@ -7,7 +7,7 @@ use Rattle.zio_types.specs.declared.journal.Journal.{Journal}
 use Rattle.zio_types.specs.declared.place.Place.{Place}
 use Rattle.zio_types.specs.declared.place.Top.{Top}
 use Rattle.zio_types.specs.Choices.{Choice}
-use Rattle.zio_places.specs.Spaces.{SamePlaces}
+use Rattle.zio_types.specs.Places.{SamePlaces}
 use Rattle.zio_cksum.proofs.AllLemmas.{all_weaker}
 use Rattle.zio_faults.specs.declared.table.Row.{Row}
 use Rattle.zio_script.specs.declared.script.Failmode.{Failmode}
@@ -15,7 +15,14 @@ use Rattle.zio_script.specs.declared.script.Item.{Item}
 use Rattle.zio_script.specs.declared.script.Item.TheVariants.{Request as RequestLine, Go}
 use Rattle.zio_script.specs.declared.script.Request.{Request}
 use Rattle.zio_script.specs.declared.script.Script.{Script}
-use Rattle.zio_script.specs.Requests.{name_of, names_it, requests_of}
+use Rattle.zio_script.specs.declared.script.Work.{Work}
+use Rattle.zio_script.specs.declared.script.Work.TheVariants.{Null, Read, Write, Free, Claim}
+use Rattle.zio_script.specs.Whys.{clashes, is_read}
+use Rattle.zio_script.specs.Requests.{kind_of, names_it}
+use Rattle.zio_script.specs.declared.script.TopLine.{TopLine}
+use Rattle.zio_gang.specs.Trees.{size_of, sizes_of}
+use Rattle.zio_types.specs.declared.place.TopSize.{TopSize}
+use Rattle.zio_script.specs.Requests.{name_of, names_it, requests_of, changes_pool}
 use Rattle.zio_cksum.specs.Images.{Images, Setting}
 use Rattle.zio_gang.specs.declared.ending.Ending.{Ending}
 use Rattle.zio_gang.specs.Attempts.{Pending}
@@ -25,7 +32,7 @@ use Rattle.zio_gang.specs.Runs.{Batch, Course, Event, Plan, Round, State, HeldBa
 use Rattle.zio_report.specs.declared.report.Line.{Line}
 use Rattle.zio_report.specs.declared.report.Show.{Show}
 use Rattle.zio_report.specs.declared.report.Show.TheVariants.{Report, Summary}
-use Rattle.zio_report.specs.Meanings.{IsEmptyJournal, IsMeaning, course_of, records_of, size_of, sizes_of}
+use Rattle.zio_report.specs.Meanings.{IsEmptyJournal, IsMeaning, course_of, records_of, run_size_of, tops_of}
 use Rattle.zio_report.specs.Reports.{Records, RunSize, end_code, end_text, event_text, held_text, lines_of, pool_text, run_text}
 use Rattle.zio_plain.specs.declared.round.Run.{Run}
 use Rattle.zio_plain.specs.Batches.{AreOfEarlier, Became, Did, Fate, named_block, next_run, resting, text_of_lines, text_of_run, waits_by}
@@ -260,8 +267,21 @@ not_begun : (batch : List Request) (r : Request) → batch ++ r ∷ [] ≡ [] �
 not_begun [] r e = cc
 not_begun (q ∷ batch) r e = cc
 
+not_named : (names shared reading : Bool) → (names && not (reading && shared)) ≡ false → shared ≡ false → names ≡ false
+not_named false shared reading e alone = refl
+not_named true shared false e alone = cc
+not_named true shared true e alone = let both : not shared ≡ false = e in cc
+
+-- what doesn't clash with a request changes no block of its name
+unchanged : (work other : Work) → clashes false work other ≡ false → (changes_pool other && names_it (name_of work) (name_of other)) ≡ false
+unchanged work Null e = refl
+unchanged work (Read name prio) e = refl
+unchanged work (Write name sum copies prio body) e = not_named (names_it (name_of work) (Some name)) false (is_read (kind_of work)) e refl
+unchanged work (Free name) e = not_named (names_it (name_of work) (Some name)) false (is_read (kind_of work)) e refl
+unchanged work (Claim name pointer) e = not_named (names_it (name_of work) (Some name)) false (is_read (kind_of work)) e refl
+
 named_here : (bound now : Bound) (batch : List Request) (used : List Place) (f : Front) (name : Option (List ℕ)) → IsBound bound now batch used f
-    → AllByRecursion (λ (q : Request). names_it name (name_of q.work) ≡ false) batch → named_block now name ≡ named_block bound name
+    → AllByRecursion (λ (q : Request). (changes_pool q.work && names_it name (name_of q.work)) ≡ false) batch → named_block now name ≡ named_block bound name
 named_here bound now batch used f None is new = refl
 named_here bound now batch used f (Some name) is new = is.same name ∙ is.fresh name new
 
@@ -320,7 +340,9 @@ module _ (show : Show) (s : Setting) (items rest : List Item) (before now : Imag
       let given : List Choice = option_to_list entry in
       let above : last < r.number = above_of last r form in
       let named : named_block run.bound (name_of r.work) ≡ named_block stands.bound (name_of r.work) =
-      named_here stands.bound run.bound batch used f (name_of r.work) stands.bound_is is_new in
+      named_here stands.bound run.bound batch used f (name_of r.work) stands.bound_is
+      (all_weaker (λ (q : Request). clashes false r.work q.work ≡ false) (λ (q : Request). (changes_pool q.work && names_it (name_of r.work) (name_of q.work)) ≡ false) batch
+      (λ q. unchanged r.work q.work) is_new) in
       let became_there : Became s (named_block stands.bound (name_of r.work)) n r now fate given after =
       subst (λ (k : ℕ). Became s (named_block stands.bound (name_of r.work)) k r now fate given after) stands.journaled.rounds
       (subst (λ o. Became s o journal.rounds r now fate given after) named became) in
@@ -484,6 +506,10 @@ stands_end show s items before now last used run journal printed (IsHeld stands)
   refl,
 )
 
+-- a unit of one sector leaves none out
+whole_units : (n : ℕ) → n / 1 * 1 ≡ n
+whole_units n = omega arith
+
 -- what a script means, by the plan of its setting
 plain_course : (s : Setting) (script : Script) (image : List ℕ) (disk : ℕ) (journal : Journal)
     → IsPlainScript script → s.tops ≡ first_top disk ∷ [] → s.rows ≡ [] → length image ≡ disk
@@ -491,7 +517,8 @@ plain_course : (s : Setting) (script : Script) (image : List ℕ) (disk : ℕ) (
 plain_course s script image disk journal form tops rows size =
     let with_tops = λ (ts : List Top) (rs : List Row) (mode : Failmode). run_lines (record { tops = ts; rows = rs; failmode = mode; journal = journal.places }) script.items (start_state (image ∷ [])) in
     let tops_are : map (top_of (image ∷ [])) script.tops ≡ s.tops =
-    ap (map (top_of (image ∷ []))) form.tops ∙ (ap (λ (n : ℕ). first_top n ∷ []) size ∙ sym tops) in
+    ap (map (top_of (image ∷ []))) form.tops ∙ (ap (λ (n : ℕ). record { leaves = 0 ∷ []; sectors = n / 512 / 1 * 1; unit = 1 } ∷ []) size
+    ∙ ap (λ (n : ℕ). record { leaves = 0 ∷ []; sectors = n; unit = 1 } ∷ []) (whole_units (disk / 512)) ∙ sym tops) in
     let rows_are : script.faults ≡ s.rows = form.faults ∙ sym rows in
     ap (λ (ts : List Top). with_tops ts script.faults script.failmode) tops_are
     ∙ (ap (λ (rs : List Row). with_tops s.tops rs script.failmode) rows_are
@@ -521,23 +548,23 @@ went_end show s script image disk end journal printed went report form tops rows
     let course : Course = record { events = went.events; state = end } in
     let course_is : course_of script (image ∷ []) journal ≡ course =
     plain_course s script image disk journal form tops rows size ∙ course_end show s script.items (image ∷ []) end journal printed went in
-    let sizes_are : sizes_of script (image ∷ []) ≡ sectors_of s =
-    ap (λ (ts : List (List ℕ)). map (λ (top : Top). top.sectors) (map (top_of (image ∷ [])) ts)) form.tops
-    ∙ (ap (λ (n : ℕ). n / 512 ∷ []) size ∙ sym (ap (λ (ts : List Top). map (λ (t : Top). t.sectors) ts) tops)) in
+    let sizes_are : sizes_of (tops_of script (image ∷ [])) ≡ sectors_of s =
+    ap (λ (ts : List TopLine). sizes_of (map (top_of (image ∷ [])) ts)) form.tops
+    ∙ (ap (λ (n : ℕ). record { sectors = n / 512 / 1 * 1; unit = 1 } ∷ []) size ∙ ap (λ (n : ℕ). record { sectors = n; unit = 1 } ∷ []) (whole_units (disk / 512)) ∙ sym (ap (λ (ts : List Top). map size_of ts) tops)) in
     let printed_is : printed ≡ flat_map (event_text show (records_of journal)) went.events =
     went.shown [] [] (record { choices = tt; completions = tt })
     ∙ (ap (λ (cs : List Choice). flat_map (event_text show (record { choices = cs; completions = journal.completions ++ [] })) went.events) (append-nil journal.places)
     ∙ ap (λ (cs : List Completion). flat_map (event_text show (record { choices = journal.places; completions = cs })) went.events) (append-nil journal.completions)) in
     let text : (pool_text 1 1 ++ printed) ++ end_text (ending end)
-    ≡ run_text show (size_of script (image ∷ [])) (records_of journal) course.events (ending course.state) =
+    ≡ run_text show (run_size_of script (image ∷ [])) (records_of journal) course.events (ending course.state) =
     ap (λ (ts : List ℕ). (pool_text 1 1 ++ ts) ++ end_text (ending end)) printed_is
     ∙ (ap (λ (n : ℕ). (pool_text n 1 ++ flat_map (event_text show (records_of journal)) went.events) ++ end_text (ending end)) (sym (ap length form.tops))
-    ∙ text_whole show (size_of script (image ∷ [])) (records_of journal) went.events (ending end) report) in
+    ∙ text_whole show (run_size_of script (image ∷ [])) (records_of journal) went.events (ending end) report) in
     record {
       images = ap (λ (k : Course). k.state.images) (sym course_is);
-      report = text ∙ ap (λ (k : Course). run_text show (size_of script (image ∷ [])) (records_of journal) k.events (ending k.state)) (sym course_is);
-      places = subst (λ (k : Course). IsLawfulJournal (sizes_of script (image ∷ [])) (rounds_of k.events) journal.places) (sym course_is)
-          (subst (λ (xs : List ℕ). IsLawfulJournal xs (rounds_of went.events) journal.places) (sym sizes_are) went.lawful);
+      report = text ∙ ap (λ (k : Course). run_text show (run_size_of script (image ∷ [])) (records_of journal) k.events (ending k.state)) (sym course_is);
+      places = subst (λ (k : Course). IsLawfulJournal (sizes_of (tops_of script (image ∷ []))) (rounds_of k.events) journal.places) (sym course_is)
+          (subst (λ (xs : List TopSize). IsLawfulJournal xs (rounds_of went.events) journal.places) (sym sizes_are) went.lawful);
       rounds = went.counted ∙ ap (λ (k : Course). length (rounds_of k.events)) (sym course_is);
       completions = subst (λ (k : Course). AreCompletions (requests_of script.items) (rounds_of k.events) journal.completions) (sym course_is) went.completed;
       code_is = ap (λ (k : Course). end_code (ending k.state)) (sym course_is);

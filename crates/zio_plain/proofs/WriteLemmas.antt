@@ -60,7 +60,7 @@ all_right P [] ys h = h
 all_right P (x ∷ xs) ys h = all_right P xs ys h.1
 
 abbrev pub lies : List ℕ → ℕ → Spot → Type 0
-lies sizes len spot = spot.at + len ≤ get_or sizes spot.leaf 0
+lies sizes len spot = (len ≤ spot.span) × (spot.at + spot.span ≤ get_or sizes spot.leaf 0)
 
 -- the first place's leaves, and the other places
 pub first_lies : (s : Setting) (sizes : List ℕ) (len : ℕ) (place : Place) (places : List Place) → LieOn sizes len (spots_of s (place ∷ places)) → LieOn sizes len (map (spot_in place) (leaves_of s place))

@@ -1,5 +1,7 @@
 -- A batch of requests that each stand alone: what becomes of one of them, and what they come to up to one of them.
 use Rattle.std.specs.Prelude.{◌≡◌, ◌<◌, ◌≤◌, ℕ, ◌+◌, List, [], ◌∷◌, ◌++◌, length, map, drop, Bool, true, false, ◌||◌, Option, Some, None, option_to_list}
+use Rattle.zio_types.specs.declared.place.TopSize.{TopSize}
+use Rattle.zio_script.specs.declared.script.Failmode.TheVariants.{Wait}
 use Rattle.std.specs.List.{AllByRecursion, flat_map}
 use Rattle.zio_types.specs.declared.error.Errno.{Errno}
 use Rattle.zio_types.specs.declared.error.Errno.TheVariants.{Nospc}
@@ -8,14 +10,14 @@ use Rattle.zio_types.specs.declared.journal.Journal.{Journal}
 use Rattle.zio_types.specs.declared.place.Place.{Place}
 use Rattle.zio_types.specs.Choices.{Choice, taken_by}
 use Rattle.zio_types.specs.Places.{IsLawfulChoice}
-use Rattle.zio_places.specs.Spaces.{SamePlaces}
+use Rattle.zio_types.specs.Places.{SamePlaces}
 use Rattle.zio_script.specs.declared.script.Request.{Request}
 use Rattle.zio_script.specs.Requests.{kind_of, makes_block, name_of}
 use Rattle.zio_cksum.specs.Images.{Images, Setting}
 use Rattle.zio_gang.specs.declared.tree.Tree.{Tree}
 use Rattle.zio_gang.specs.Attempts.{Ended, Pending, Settled, Terms, settle}
 use Rattle.zio_gang.specs.Journals.{asks_of, completion_of}
-use Rattle.zio_gang.specs.Rounds.{Bound, admission, answered_with, block_of, bound_by, pending, used_places}
+use Rattle.zio_gang.specs.Rounds.{Bound, admission, answered_with, block_of, bound_by, pending, used_places, is_bound}
 use Rattle.zio_gang.specs.Runs.{Batch, State}
 use Rattle.zio_gang.specs.Trees.{tree_places}
 use Rattle.zio_report.specs.declared.report.Line.{Line}
@@ -41,11 +43,10 @@ resting images bound batches rounds suspended held = record {
 }
 
 -- what the terms of a round depend on, after so many rounds
-abbrev pub terms_in : Setting → List Choice → Bound → ℕ → Terms
-terms_in s journal bound n = record {
+abbrev pub terms_in : Setting → Bound → ℕ → Terms
+terms_in s bound n = record {
   setting = record { tops = s.tops; rows = s.rows; point = 0 };
-  failmode = (plan_in s journal).failmode;
-  journal = journal;
+  failmode = Wait;
   round = n + 1;
   used = used_places bound;
 }
@@ -75,15 +76,15 @@ AreOfEarlier r choices = AllByRecursion (λ (c : Choice). c.asked.key.request < 
 abbrev pub Settles : Setting → Option Tree → ℕ → Request → Images → Fate → List Choice → Images → Type 0
 Settles s found n r images fate given after = (bound : Bound) (earlier later : List Choice) →
     named_block bound (name_of r.work) ≡ found → AreOfEarlier r earlier →
-    (admission [] bound (r ∷ []) ≡ None)
-    × (settle (terms_in s (earlier ++ (given ++ later)) bound n) (pending bound (n + 1) r ∷ []) images
+    (admission [] (is_bound bound) (r ∷ []) ≡ None)
+    × (settle (earlier ++ (given ++ later)) (terms_in s bound n) (pending bound (n + 1) r ∷ []) images
     ≡ settled_of fate (pending bound (n + 1) r) given after)
 
 -- this became of a request whose name has this block, after so many rounds
 abbrev pub Became : Setting → Option Tree → ℕ → Request → Images → Fate → List Choice → Images → Type 0
 Became s found n r images (Answered e) given after =
     (given ≡ []) × (after ≡ images)
-    × ((bound : Bound) → named_block bound (name_of r.work) ≡ found → admission [] bound (r ∷ []) ≡ Some e)
+    × ((bound : Bound) → named_block bound (name_of r.work) ≡ found → admission [] (is_bound bound) (r ∷ []) ≡ Some e)
 Became s found n r images (Finished v) given after = Settles s found n r images (Finished v) given after
 Became s found n r images Waits given after = Settles s found n r images Waits given after
 
@@ -129,7 +130,7 @@ places_made None = []
 places_made (Some tree) = tree_places tree
 
 -- what a request was given: nothing, or what is lawful beside the places in use
-abbrev pub IsGiven : List ℕ → List Place → Request → ℕ → Option Choice → Type 0
+abbrev pub IsGiven : List TopSize → List Place → Request → ℕ → Option Choice → Type 0
 IsGiven sizes used r round None = Unit {0}
 IsGiven sizes used r round (Some entry) = (entry.asked ≡ first_ask r.number round) × IsLawfulChoice sizes used entry
 
@@ -151,7 +152,7 @@ pub record IsNoted (run_old run_new : Run) (r : Request) (old new : Journal) (fa
   pub suspended : run_new.suspended ≡ run_old.suspended
 
 -- what the run of a request changes beside the disks: the places in use, and what is noted
-pub record Did (sizes : List ℕ) (used_old used_new : List Place) (run_old run_new : Run) (r : Request) (old new : Journal) (fate : Fate) (entry : Option Choice) : Type 0 where
+pub record Did (sizes : List TopSize) (used_old used_new : List Place) (run_old run_new : Run) (r : Request) (old new : Journal) (fate : Fate) (entry : Option Choice) : Type 0 where
   pub given : IsGiven sizes used_old r (old.rounds + 1) entry
   pub used : SamePlaces used_new (taken_of (option_to_list entry) ++ used_old)
   pub made : taken_of (option_to_list entry) ≡ places_made (made_by fate)

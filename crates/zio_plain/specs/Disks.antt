@@ -34,6 +34,14 @@ StillTell image (disk ∷ disks) [] = ⊥
 StillTell image (old ∷ olds) (new ∷ news) =
     ((content : List ℕ) → image old content → (after : List ℕ) × image new after) × StillTell image olds news
 
+-- each disk that was sound is sound, and its count of faults stayed
+abbrev pub StaySound : {D : Type 0} → (D → Type 0) → (D → ℕ) → List D → List D → Type 0
+StaySound sound faults [] [] = Unit {0}
+StaySound sound faults [] (disk ∷ disks) = ⊥
+StaySound sound faults (disk ∷ disks) [] = ⊥
+StaySound sound faults (old ∷ olds) (new ∷ news) =
+    (sound old → sound new × (faults new ≡ faults old)) × StaySound sound faults olds news
+
 -- one of the counts rose
 abbrev pub AnyRose : List ℕ → List ℕ → Type 0
 AnyRose [] [] = ⊥
@@ -41,16 +49,21 @@ AnyRose [] (new ∷ news) = ⊥
 AnyRose (old ∷ olds) [] = ⊥
 AnyRose (old ∷ olds) (new ∷ news) = Rose old new ⊎ AnyRose olds news
 
--- What no operation changes of the disks: their sizes, their counts at fetch and their homes, and that they tell an image.
-pub record AreSameDisks {D : Type 0} (bytes faults_at_fetch : D → ℕ) (home image : D → List ℕ → Type 0) (old new : List D) : Type 0 where
+-- What no operation changes of the disks: their sizes, their counts at fetch and their homes, that they tell an image,
+-- and that they are sound.
+pub record AreSameDisks {D : Type 0} (bytes faults faults_at_fetch : D → ℕ) (home image : D → List ℕ → Type 0) (sound : D → Type 0) (old new : List D) : Type 0 where
   pub sizes : map bytes new ≡ map bytes old
   pub at_fetch : map faults_at_fetch new ≡ map faults_at_fetch old
   pub homes : KeepHomes home old new
   pub told : StillTell image old new
+  pub stay : StaySound sound faults old new
 
--- so many bytes from each spot on lie on the disk of its leaf, where the disks have these sizes
+-- the spot has room for so many bytes, and lies on the disk of its leaf, where the disks have these sizes
+abbrev pub Lies : List ℕ → ℕ → Spot → Type 0
+Lies sizes len spot = (len ≤ spot.span) × (spot.at + spot.span ≤ slice_index_or sizes spot.leaf 0)
+
 abbrev pub LieOn : List ℕ → ℕ → List Spot → Type 0
-LieOn sizes len spots = AllByRecursion (λ (spot : Spot). spot.at + len ≤ slice_index_or sizes spot.leaf 0) spots
+LieOn sizes len spots = AllByRecursion (Lies sizes len) spots
 
 -- the copies of a block of so many bytes at these places lie on the disks
 abbrev pub AreOnDisks : Setting → List ℕ → ℕ → List Place → Type 0
@@ -58,8 +71,8 @@ AreOnDisks s sizes len places = LieOn sizes len (spots_of s places)
 
 -- What an operation on the disks leaves, whatever they tell: without an error the counts of their faults stay, and it is
 -- stopped by a device only where one of them rose.
-pub record Handles {D A : Type 0} (bytes faults faults_at_fetch : D → ℕ) (home image : D → List ℕ → Type 0) (answer : Result A Stop) (old new : List D) : Type 0 where
-  pub same : AreSameDisks bytes faults_at_fetch home image old new
+pub record Handles {D A : Type 0} (bytes faults faults_at_fetch : D → ℕ) (home image : D → List ℕ → Type 0) (sound : D → Type 0) (answer : Result A Stop) (old new : List D) : Type 0 where
+  pub same : AreSameDisks bytes faults faults_at_fetch home image sound old new
   pub steady : OnOk answer (map faults new ≡ map faults old)
   pub device : answer ≡ Err Device → AnyRose (map faults old) (map faults new)
 

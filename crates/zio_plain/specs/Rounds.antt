@@ -1,5 +1,6 @@
 -- What a round leaves, and what a run of them needs.
 use Rattle.std.specs.Prelude.{◌≡◌, ℕ, ◌/◌, ◌≤◌, List, [], ◌∷◌, ◌++◌, length, map, take, Option, Some, IsTrue, true, false}
+use Rattle.zio_gang.specs.Trees.{size_of}
 use Rattle.std.specs.List.{AllByRecursion}
 use Rattle.zio_types.specs.declared.error.Errno.{Errno}
 use Rattle.zio_types.specs.declared.place.Top.{Top}
@@ -25,7 +26,7 @@ use Rattle.zio_report.specs.declared.report.Show.TheVariants.{Report, Summary}
 
 -- the one top, of leaf 0, whose disk has so many bytes
 abbrev pub first_top : ℕ → Top
-first_top bytes = record { leaves = 0 ∷ []; sectors = bytes / sector_size }
+first_top bytes = record { leaves = 0 ∷ []; sectors = bytes / sector_size; unit = 1 }
 
 -- a run over the one top of one disk, without faults
 pub record IsFirstSetting (s : Setting) (sizes : List ℕ) : Type 0 where
@@ -67,7 +68,7 @@ pub record IsPlainPointer (s : Setting) (bp : Bp) : Type 0 where
   pub one : places_of bp ≡ place ∷ []
   pub ok : IsTrue (valid bp)
   pub plain : bp.gang ≡ false
-  pub inside : IsTrue (is_inside (map (λ (t : Top). t.sectors) s.tops) place)
+  pub inside : IsTrue (is_inside (map size_of s.tops) place)
 
 -- the read of such a block
 abbrev pub read_plain : Setting → Bp → Images → BlockRead
@@ -103,7 +104,7 @@ pub record IsFound (s : Setting) (ask : Ask) (entry : Choice) : Type 0 where
   pub asked : entry.asked ≡ ask
   pub one : entry.places ≡ place ∷ []
   pub sector : place.sectors ≡ 1
-  pub inside : IsTrue (is_inside (map (λ (t : Top). t.sectors) s.tops) place)
+  pub inside : IsTrue (is_inside (map size_of s.tops) place)
 
 -- the bound blocks have plain pointers and no headers
 abbrev pub ArePlain : Setting → Bound → Type 0

@@ -1,20 +1,22 @@
 -- A run of a script by its definitions, up to one of its lines.
-use Rattle.std.specs.Prelude.{◌≡◌, ℕ, ◌+◌, ◌<◌, ◌≤◌, List, [], ◌∷◌, ◌++◌, length, map, Bool, true, false, Some}
+use Rattle.std.specs.Prelude.{◌≡◌, ◌&&◌, ℕ, ◌+◌, ◌<◌, ◌≤◌, List, [], ◌∷◌, ◌++◌, length, map, Bool, true, false, Some}
+use Rattle.zio_gang.specs.Trees.{size_of}
+use Rattle.zio_types.specs.declared.place.TopSize.{TopSize}
 use Rattle.std.specs.List.{AllByRecursion, flat_map}
 use Rattle.zio_types.specs.declared.journal.Completion.{Completion}
 use Rattle.zio_types.specs.declared.journal.Journal.{Journal}
 use Rattle.zio_types.specs.declared.place.Place.{Place}
 use Rattle.zio_types.specs.declared.place.Top.{Top}
 use Rattle.zio_types.specs.Choices.{Choice, taken_by}
-use Rattle.zio_places.specs.Spaces.{SamePlaces}
+use Rattle.zio_types.specs.Places.{SamePlaces}
 use Rattle.zio_script.specs.declared.script.Item.{Item}
 use Rattle.zio_script.specs.declared.script.Item.TheVariants.{Request as RequestLine}
 use Rattle.zio_script.specs.declared.script.Request.{Request}
-use Rattle.zio_script.specs.Requests.{name_of, names_it, requests_of}
+use Rattle.zio_script.specs.Requests.{changes_pool, name_of, names_it, requests_of}
 use Rattle.zio_cksum.specs.Images.{Images, Setting}
 use Rattle.zio_gang.specs.Attempts.{Ended, Pending}
 use Rattle.zio_gang.specs.Journals.{AreCompletions, AreCompletionsOf, AreLawful, CompleteOnce, HaveDistinctKeys, IsLawfulJournal, asks_of}
-use Rattle.zio_gang.specs.Rounds.{Bound, admitted, block_of, bound_after, pending_trees, settle_each, trees_of, used_places}
+use Rattle.zio_gang.specs.Rounds.{Bound, admitted, block_of, bound_after, pending_trees, settle_each, trees_of, used_places, is_bound}
 use Rattle.zio_gang.specs.Runs.{Batch, Event, Round, State, add_events, has_trees, rounds_of, run_lines, start_state}
 use Rattle.zio_report.specs.declared.report.Line.{Line}
 use Rattle.zio_report.specs.declared.report.Show.{Show}
@@ -23,8 +25,8 @@ use Rattle.zio_plain.specs.declared.round.Run.{Run}
 use Rattle.zio_plain.specs.Batches.{resting, terms_in}
 use Rattle.zio_plain.specs.Rounds.{plan_in}
 
-abbrev pub sectors_of : Setting → List ℕ
-sectors_of s = map (λ (t : Top). t.sectors) s.tops
+abbrev pub sectors_of : Setting → List TopSize
+sectors_of s = map size_of s.tops
 
 -- All that was asked, run and completed so far has a round up to this one.
 pub record IsBelow (rounds : ℕ) (events : List Event) (journal : Journal) : Type 0 where
@@ -74,8 +76,8 @@ pub record Front : Type 0 where
 
 -- the round of the batch so far by its definition
 pub record IsFront (s : Setting) (bound : Bound) (images : Images) (n : ℕ) (journal : List Choice) (batch : List Request) (now : Images) (f : Front) : Type 0 where
-  pub admitted_is : admitted [] bound (trees_of batch) ≡ record { answered = f.answered; trees = f.trees }
-  pub settled : (later : List Choice) → settle_each (terms_in s (journal ++ later) bound n) (pending_trees bound (n + 1) f.trees) images
+  pub admitted_is : admitted [] (is_bound bound) (trees_of batch) ≡ record { answered = f.answered; trees = f.trees }
+  pub settled : (later : List Choice) → settle_each (journal ++ later) (terms_in s bound n) (pending_trees bound (n + 1) f.trees) images
       ≡ record { left = f.left; ended = f.ended; asks = asks_of f.given; images = now }
 
 -- its choices and completions, behind those of the rounds before
@@ -101,7 +103,7 @@ pub record IsShown (last : ℕ) (lines : List Line) (waits : Bool) (f : Front) :
 -- its bound names and the places in use
 pub record IsBound (bound now : Bound) (batch : List Request) (used : List Place) (f : Front) : Type 0 where
   pub same : (name : List ℕ) → block_of now name ≡ block_of (bound_after f.ended bound) name
-  pub fresh : (name : List ℕ) → AllByRecursion (λ (q : Request). names_it (Some name) (name_of q.work) ≡ false) batch
+  pub fresh : (name : List ℕ) → AllByRecursion (λ (q : Request). (changes_pool q.work && names_it (Some name) (name_of q.work)) ≡ false) batch
       → block_of (bound_after f.ended bound) name ≡ block_of bound name
   pub taken : used_places (bound_after f.ended bound) ≡ used_beside f.given (used_places bound)
   pub used_is : SamePlaces used (used_places (bound_after f.ended bound))

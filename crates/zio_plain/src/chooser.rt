@@ -2,7 +2,9 @@ ghost use Rattle.std.specs.Prelude.{◌≡◌, ◌∷◌, ◌++◌, [], ℕ, ◌
 ghost use Rattle.zio_types.specs.Choices.{Choice, taken_by};
 ghost use Rattle.zio_types.specs.Places.{IsLawfulChoice};
 ghost use Rattle.zio_types.specs.declared.place.Place.{Place};
-ghost use Rattle.zio_places.specs.Spaces.{SamePlaces, used};
+ghost use Rattle.zio_types.specs.declared.place.TopSize.{TopSize};
+ghost use Rattle.zio_places.specs.Spaces.{used};
+ghost use Rattle.zio_types.specs.Places.{SamePlaces};
 
 use std::alloc::Global;
 use zio_places::Space;
@@ -10,8 +12,8 @@ use zio_types::{Entry, Key, NoMemory};
 
 /// Where blocks are placed: each ask is answered by a lawful entry beside the places in use.
 pub trait Chooser {
-    /// The sectors of each top.
-    ghost sizes: { Self → List ℕ };
+    /// The sectors and the unit of each top.
+    ghost sizes: { Self → List TopSize };
 
     /// The places in use.
     ghost used: { Self → List Place };

@@ -1,11 +1,11 @@
 // What one operation on a leaf answers and leaves.
 
-ghost use Rattle.std.specs.Prelude.{◌≡◌, ◌+◌, ◌*◌, ◌≤◌, ◌<◌, ◌^◌, IfErr, IfOk, None, ℕ, length, map, slice_index_or, vec_len};
+ghost use Rattle.std.specs.Prelude.{◌≡◌, true, ◌+◌, ◌*◌, ◌≤◌, ◌<◌, ◌^◌, IfErr, IfOk, None, ℕ, length, map, slice_index_or, vec_len};
 ghost use Rattle.std.specs.List.{AllByRecursion};
 ghost use Rattle.zio_faults.specs.Hits.{RowFits, flipped};
 ghost use Rattle.zio_cksum.specs.Blocks.{spot_in};
 ghost use Rattle.zio_cksum.specs.Headers.{offset_of};
-ghost use Rattle.zio_cksum.specs.Images.{Images, bytes_at, faulty_read, faulty_write, met, read_leaf, with_bytes, write_leaf};
+ghost use Rattle.zio_cksum.specs.Images.{Images, bytes_at, faulty_read, faulty_write, met, padded_to, read_leaf, with_bytes, write_leaf, write_met};
 ghost use Rattle.zio_plain.specs.Disks.{Handles, Tell};
 
 use crate::setting::{Setting, Spot, Stop};
@@ -33,10 +33,11 @@ pub(crate) fn spot_in<D: Disk>(disks: &[D], place: &Place, leaf: u32) -> Spot
     // A proof knows the bound of a size once it is asked for.
     let _size = size_of(disks, leaf);
     let at = place.sector * u64::from(SECTOR_SIZE);
-    Spot { leaf, at }
+    let span = u64::from(place.sectors) * u64::from(SECTOR_SIZE);
+    Spot { leaf, at, span }
 }
 
-/// Reads from a leaf, as its disk or the row that the read meets says.
+/// Reads the first bytes of a place from a leaf, as its disk or the row that the read meets says.
 pub(crate) fn read_leaf<D: Disk>(
     alloc: Global,
     setting: &Setting,
@@ -47,14 +48,15 @@ pub(crate) fn read_leaf<D: Disk>(
 ) -> Result<Result<Bytes, Errno>, Stop>
     requires rows { AllByRecursion RowFits setting.now.rows }
     requires some { 0 < len }
-    requires room { spot.now.at + len < 2 ^ 64 }
-    requires lies { spot.now.at + len ≤ slice_index_or (map D.bytes disks.old) spot.now.leaf 0 }
+    requires long { len ≤ spot.now.span }
+    requires room { spot.now.at + spot.now.span < 2 ^ 64 }
+    requires lies { spot.now.at + spot.now.span ≤ slice_index_or (map D.bytes disks.old) spot.now.leaf 0 }
     ensures len { IfOk result (λ answer. IfOk answer (λ bytes. length bytes ≡ len)) }
     ensures told { IfOk result (λ answer. (images : Images) → Tell D.image disks.old images →
         (answer ≡ read_leaf setting.now retry images len spot.now) × Tell D.image disks.new images) }
-    ensures handled { Handles D.bytes D.faults D.faults_at_fetch D.home D.image result disks.old disks.new }
+    ensures handled { Handles D.bytes D.faults D.faults_at_fetch D.home D.image D.sound result disks.old disks.new }
 {
-    match setting.hit(retry, false, spot, u64::from(len)) {
+    match setting.hit(retry, false, spot) {
         None => {
             let bytes = fetch(alloc, disks, len, spot)?;
             Ok(Ok(Bytes::from_vec(bytes)))
@@ -71,24 +73,42 @@ fn read_faulty<D: Disk>(
     hit: &Hit,
 ) -> Result<Result<Bytes, Errno>, Stop>
     requires from { spot.now.at ≤ hit.now.at }
-    requires to { hit.now.at + hit.now.len ≤ spot.now.at + len }
     requires some { 0 < len }
     requires lies { spot.now.at + len ≤ slice_index_or (map D.bytes disks.old) spot.now.leaf 0 }
     ensures len { IfOk result (λ answer. IfOk answer (λ bytes. length bytes ≡ len)) }
     ensures told { IfOk result (λ answer. (images : Images) → Tell D.image disks.old images →
         (answer ≡ faulty_read hit.now.kind hit.now spot.now.at (bytes_at images spot.now len))
         × Tell D.image disks.new images) }
-    ensures handled { Handles D.bytes D.faults D.faults_at_fetch D.home D.image result disks.old disks.new }
+    ensures handled { Handles D.bytes D.faults D.faults_at_fetch D.home D.image D.sound result disks.old disks.new }
 {
     match hit.kind {
         FaultKind::Eio => Ok(Err(Errno::Io)),
         FaultKind::Gone => Ok(Err(Errno::Nxio)),
         FaultKind::Flip => {
             let mut bytes = fetch(alloc, disks, len, spot)?;
-            flip(bytes.as_mut_slice(), spot.at, hit);
+            turn(bytes.as_mut_slice(), spot.at, hit);
             Ok(Ok(Bytes::from_vec(bytes)))
         }
     }
+}
+
+/// Inverts those of the bytes that the hit covers, which may lie behind them or go on there.
+fn turn(bytes: &mut [u8], at: u64, hit: &Hit)
+    requires { at ≤ hit.now.at }
+    ensures { bytes.new ≡ flipped at hit.now bytes.old }
+{
+    let start = hit.at - at;
+    let count = bytes.len() as u64;
+    if start >= count {
+        return;
+    }
+    let len = hit.len.min(count - start);
+    let within = Hit {
+        kind: hit.kind,
+        at: hit.at,
+        len,
+    };
+    flip(bytes, at, &within);
 }
 
 /// The bytes that the disk of a leaf has there.
@@ -98,7 +118,7 @@ fn fetch<D: Disk>(alloc: Global, disks: &mut [D], len: u32, spot: &Spot) -> Resu
     ensures len { IfOk result (λ bytes. vec_len bytes ≡ len) }
     ensures told { IfOk result (λ bytes. (images : Images) → Tell D.image disks.old images →
         (bytes.items ≡ bytes_at images spot.now len) × Tell D.image disks.new images) }
-    ensures handled { Handles D.bytes D.faults D.faults_at_fetch D.home D.image result disks.old disks.new }
+    ensures handled { Handles D.bytes D.faults D.faults_at_fetch D.home D.image D.sound result disks.old disks.new }
 {
     let mut bytes = zeros(alloc, len)?;
     let leaf = spot.leaf as usize;
@@ -118,7 +138,7 @@ fn zeros(alloc: Global, len: u32) -> Result<Vec<u8>, Stop>
     }
 }
 
-/// Writes to a leaf, as its disk or the row that the write meets says.
+/// Writes the bytes to a leaf, with zeros to the place's end, as its disk or the row that the write meets says.
 pub(crate) fn write_leaf<D: Disk>(
     alloc: Global,
     setting: &Setting,
@@ -128,14 +148,56 @@ pub(crate) fn write_leaf<D: Disk>(
     spot: &Spot,
 ) -> Result<Option<Errno>, Stop>
     requires rows { AllByRecursion RowFits setting.now.rows }
-    requires room { spot.now.at + length bytes.now < 2 ^ 64 }
-    requires lies { spot.now.at + length bytes.now ≤ slice_index_or (map D.bytes disks.old) spot.now.leaf 0 }
+    requires long { length bytes.now ≤ spot.now.span }
+    requires room { spot.now.at + spot.now.span < 2 ^ 64 }
+    requires lies { spot.now.at + spot.now.span ≤ slice_index_or (map D.bytes disks.old) spot.now.leaf 0 }
     ensures told { IfOk result (λ error. (images : Images) → Tell D.image disks.old images →
         (error ≡ (write_leaf setting.now retry bytes.now images spot.now).error)
         × Tell D.image disks.new (write_leaf setting.now retry bytes.now images spot.now).images) }
-    ensures handled { Handles D.bytes D.faults D.faults_at_fetch D.home D.image result disks.old disks.new }
+    ensures handled { Handles D.bytes D.faults D.faults_at_fetch D.home D.image D.sound result disks.old disks.new }
 {
-    match setting.hit(retry, true, spot, bytes.len() as u64) {
+    if bytes.len() as u64 == spot.span {
+        return write_whole(alloc, setting, disks, retry, bytes, spot);
+    }
+    let whole = padded_to(alloc, bytes, spot.span)?;
+    write_whole(alloc, setting, disks, retry, whole.as_slice(), spot)
+}
+
+/// The bytes, and zeros behind them to so many.
+fn padded_to(alloc: Global, bytes: &[u8], span: u64) -> Result<Bytes, Stop>
+    requires { length bytes.now ≤ span }
+    ensures ok { IfOk result (λ whole. whole ≡ padded_to span bytes.now) }
+    ensures err { IfErr result (λ stop. stop ≡ Stop.Memory) }
+{
+    let mut whole = Vec::new(alloc);
+    if whole.extend_from_slice(bytes).is_err() {
+        return Err(Stop::Memory);
+    }
+    if whole.resize(span as usize, 0).is_err() {
+        return Err(Stop::Memory);
+    }
+    Ok(Bytes::from_vec(whole))
+}
+
+/// Writes all bytes of a place to a leaf.
+fn write_whole<D: Disk>(
+    alloc: Global,
+    setting: &Setting,
+    disks: &mut [D],
+    retry: bool,
+    bytes: &[u8],
+    spot: &Spot,
+) -> Result<Option<Errno>, Stop>
+    requires rows { AllByRecursion RowFits setting.now.rows }
+    requires whole { length bytes.now ≡ spot.now.span }
+    requires room { spot.now.at + length bytes.now < 2 ^ 64 }
+    requires lies { spot.now.at + length bytes.now ≤ slice_index_or (map D.bytes disks.old) spot.now.leaf 0 }
+    ensures told { IfOk result (λ error. (images : Images) → Tell D.image disks.old images →
+        (error ≡ (write_met (met setting.now retry true spot.now) images spot.now bytes.now).error)
+        × Tell D.image disks.new (write_met (met setting.now retry true spot.now) images spot.now bytes.now).images) }
+    ensures handled { Handles D.bytes D.faults D.faults_at_fetch D.home D.image D.sound result disks.old disks.new }
+{
+    match setting.hit(retry, true, spot) {
         None => store(disks, bytes, spot),
         Some(hit) => write_faulty(alloc, disks, bytes, spot, &hit),
     }
@@ -154,7 +216,7 @@ fn write_faulty<D: Disk>(
     ensures told { IfOk result (λ error. (images : Images) → Tell D.image disks.old images →
         (error ≡ (faulty_write hit.now.kind hit.now images spot.now bytes.now).error)
         × Tell D.image disks.new (faulty_write hit.now.kind hit.now images spot.now bytes.now).images) }
-    ensures handled { Handles D.bytes D.faults D.faults_at_fetch D.home D.image result disks.old disks.new }
+    ensures handled { Handles D.bytes D.faults D.faults_at_fetch D.home D.image D.sound result disks.old disks.new }
 {
     match hit.kind {
         FaultKind::Eio => Ok(Some(Errno::Io)),
@@ -186,7 +248,7 @@ fn store<D: Disk>(disks: &mut [D], bytes: &[u8], spot: &Spot) -> Result<Option<E
     requires { spot.now.at + length bytes.now ≤ slice_index_or (map D.bytes disks.old) spot.now.leaf 0 }
     ensures told { IfOk result (λ error. (images : Images) → Tell D.image disks.old images →
         (error ≡ None) × Tell D.image disks.new (with_bytes images spot.now bytes.now)) }
-    ensures handled { Handles D.bytes D.faults D.faults_at_fetch D.home D.image result disks.old disks.new }
+    ensures handled { Handles D.bytes D.faults D.faults_at_fetch D.home D.image D.sound result disks.old disks.new }
 {
     let leaf = spot.leaf as usize;
     if leaf >= disks.len() {

@@ -1,6 +1,7 @@
 //! What becomes of a request that stands under no other.
 
 ghost use Rattle.std.specs.Prelude.{◌≡◌, ◌≢◌, ◌∷◌, [], ◌+◌, ◌<◌, ℕ, List, None, Some, IfOk, OnOk, IsErrOf, length, map, option_to_list, option_copied};
+ghost use Rattle.zio_gang.specs.Trees.{size_of};
 ghost use Rattle.std.specs.Prelude.{◌≤◌, ◌%◌, IsTrue, true, false, Option, OnErr, Err};
 ghost use Rattle.zio_gang.specs.declared.tree.Tree.{Tree};
 ghost use Rattle.std.specs.List.{AllByRecursion};
@@ -13,7 +14,7 @@ ghost use Rattle.zio_cksum.specs.Images.{Images};
 ghost use Rattle.zio_cksum.specs.Sums.{sum_of};
 ghost use Rattle.zio_gang.specs.Rounds.{Bound as Seen, block_of};
 ghost use Rattle.zio_gang.specs.Writes.{padded};
-ghost use Rattle.zio_places.specs.Spaces.{SamePlaces};
+ghost use Rattle.zio_types.specs.Places.{SamePlaces};
 ghost use Rattle.zio_script.specs.Requests.{makes_block, name_of};
 ghost use Rattle.zio_plain.specs.Batches.{Became, Fate, IsGiven, Shows, named_block, places_made, taken_of};
 ghost use Rattle.zio_script.specs.PlainForm.{IsPlainRequest};
@@ -151,7 +152,7 @@ fn read_own<D: Disk>(
     ensures len { IfOk result (λ own. own.error ≡ None → length own.bytes ≡ bp.now.size) }
     ensures block { IfOk result (λ own. own.block ≡ None) }
     ensures waits { IfOk result (λ own. own.waits ≡ false) }
-    ensures same { AreSameDisks D.bytes D.faults_at_fetch D.home D.image disks.old disks.new }
+    ensures same { AreSameDisks D.bytes D.faults D.faults_at_fetch D.home D.image D.sound disks.old disks.new }
     ensures steady { OnOk result (map D.faults disks.new ≡ map D.faults disks.old) }
     ensures device { IsErrOf result Stop.Device → AnyRose (map D.faults disks.old) (map D.faults disks.new) }
 {
@@ -191,7 +192,7 @@ fn write_at<D: Disk>(
     ensures waits { IfOk result (λ own. own.waits ≡ false) }
     ensures made { IfOk result (λ own. own.error ≡ None → own.block ≡ Some (record { bp = plain_pointer entry.places kind birth bytes.now; heads = [] })) }
     ensures block { IfOk result (λ own. (tree : Tree) → own.block ≡ Some tree → IsPlainPointer setting.now tree.bp × (tree.heads ≡ []) × (own.error ≡ None)) }
-    ensures same { AreSameDisks D.bytes D.faults_at_fetch D.home D.image disks.old disks.new }
+    ensures same { AreSameDisks D.bytes D.faults D.faults_at_fetch D.home D.image D.sound disks.old disks.new }
     ensures steady { OnOk result (map D.faults disks.new ≡ map D.faults disks.old) }
     ensures device { IsErrOf result Stop.Device → AnyRose (map D.faults disks.old) (map D.faults disks.new) }
 {
@@ -266,7 +267,7 @@ fn read_named<D: Disk>(
     ensures len { IfOk result (λ own. own.error ≡ None → length own.bytes % 512 ≡ 0) }
     ensures waits { IfOk result (λ own. own.waits ≡ false) }
     ensures block { IfOk result (λ own. own.block ≡ None) }
-    ensures same { AreSameDisks D.bytes D.faults_at_fetch D.home D.image disks.old disks.new }
+    ensures same { AreSameDisks D.bytes D.faults D.faults_at_fetch D.home D.image D.sound disks.old disks.new }
     ensures steady { OnOk result (map D.faults disks.new ≡ map D.faults disks.old) }
     ensures device { IsErrOf result Stop.Device → AnyRose (map D.faults disks.old) (map D.faults disks.new) }
 {
@@ -290,7 +291,7 @@ fn write_new<D: Disk, C: Chooser>(
     requires setting { IsFirstSetting setting.now (map D.bytes disks.old) }
     requires size { length bytes.now ≡ 512 }
     requires rounds { rounds < 65535 }
-    requires sizes { C.sizes chooser.old ≡ map (λ (t : Top). t.sectors) setting.now.tops }
+    requires sizes { C.sizes chooser.old ≡ map size_of setting.now.tops }
     ensures own { IfOk result (λ own. (images : Images) → Tell D.image disks.old images → (fate : Fate) × (after : Images) ×
         Tell D.image disks.new after × Shows fate (own_view own.error own.bytes own.block) own.waits × (taken_of (option_to_list own.entry) ≡ places_made own.block)
         × ((r : Request) (name : List ℕ) (prio : Prio) (body : Body) → r.number ≡ request → r.work ≡ Work.Write name kind 1 prio body → r.canfail ≡ false
@@ -301,7 +302,7 @@ fn write_new<D: Disk, C: Chooser>(
     ensures bytes { IfOk result (λ own. own.bytes ≡ []) }
     ensures block { IfOk result (λ own. (tree : Tree) → own.block ≡ Some tree → IsPlainPointer setting.now tree.bp × (tree.heads ≡ []) × (own.error ≡ None)) }
     ensures sizes { C.sizes chooser.new ≡ C.sizes chooser.old }
-    ensures same { AreSameDisks D.bytes D.faults_at_fetch D.home D.image disks.old disks.new }
+    ensures same { AreSameDisks D.bytes D.faults D.faults_at_fetch D.home D.image D.sound disks.old disks.new }
     ensures steady { OnOk result (map D.faults disks.new ≡ map D.faults disks.old) }
     ensures device { IsErrOf result Stop.Device → AnyRose (map D.faults disks.old) (map D.faults disks.new) }
 {
@@ -330,7 +331,7 @@ fn write_named<D: Disk, C: Chooser>(
     requires some { 1 ≤ length (body_of body.now) }
     requires fits { length (body_of body.now) ≤ 512 }
     requires rounds { rounds < 65535 }
-    requires sizes { C.sizes chooser.old ≡ map (λ (t : Top). t.sectors) setting.now.tops }
+    requires sizes { C.sizes chooser.old ≡ map size_of setting.now.tops }
     ensures own { IfOk result (λ own. (images : Images) → Tell D.image disks.old images → (fate : Fate) × (after : Images) ×
         Tell D.image disks.new after × Shows fate (own_view own.error own.bytes own.block) own.waits × (taken_of (option_to_list own.entry) ≡ places_made own.block)
         × ((prio : Prio) → request.now.work ≡ Work.Write name.now kind 1 prio body.now → request.now.canfail ≡ false
@@ -341,7 +342,7 @@ fn write_named<D: Disk, C: Chooser>(
     ensures block { IfOk result (λ own. (tree : Tree) → own.block ≡ Some tree →
         IsPlainPointer setting.now tree.bp × (tree.heads ≡ []) × (own.error ≡ None) × (block_of bound.now name.now ≡ None)) }
     ensures sizes { C.sizes chooser.new ≡ C.sizes chooser.old }
-    ensures same { AreSameDisks D.bytes D.faults_at_fetch D.home D.image disks.old disks.new }
+    ensures same { AreSameDisks D.bytes D.faults D.faults_at_fetch D.home D.image D.sound disks.old disks.new }
     ensures steady { OnOk result (map D.faults disks.new ≡ map D.faults disks.old) }
     ensures device { IsErrOf result Stop.Device → AnyRose (map D.faults disks.old) (map D.faults disks.new) }
 {
@@ -377,7 +378,7 @@ pub(crate) fn own_work<D: Disk, C: Chooser>(
     requires bound { ArePlain setting.now bound.now }
     requires rounds { rounds < 65535 }
     requires form { (last : ℕ) × IsPlainRequest last request.now }
-    requires sizes { C.sizes chooser.old ≡ map (λ (t : Top). t.sectors) setting.now.tops }
+    requires sizes { C.sizes chooser.old ≡ map size_of setting.now.tops }
     ensures own { IfOk result (λ own. (images : Images) → Tell D.image disks.old images → (fate : Fate) × (after : Images) ×
         Tell D.image disks.new after × Shows fate (own_view own.error own.bytes own.block) own.waits × (taken_of (option_to_list own.entry) ≡ places_made own.block)
         × Became setting.now (named_block bound.now (name_of request.now.work)) rounds request.now images fate (option_to_list own.entry) after) }
@@ -388,7 +389,7 @@ pub(crate) fn own_work<D: Disk, C: Chooser>(
         IsPlainPointer setting.now tree.bp × (tree.heads ≡ []) × (own.error ≡ None) × (named_block bound.now (name_of request.now.work) ≡ None)
         × (makes_block request.now.work ≡ true)) }
     ensures sizes { C.sizes chooser.new ≡ C.sizes chooser.old }
-    ensures same { AreSameDisks D.bytes D.faults_at_fetch D.home D.image disks.old disks.new }
+    ensures same { AreSameDisks D.bytes D.faults D.faults_at_fetch D.home D.image D.sound disks.old disks.new }
     ensures steady { OnOk result (map D.faults disks.new ≡ map D.faults disks.old) }
     ensures device { IsErrOf result Stop.Device → AnyRose (map D.faults disks.old) (map D.faults disks.new) }
 {

@@ -54,7 +54,7 @@ pub(crate) fn read_block<D: Disk>(
         (found ≡ (read_block setting.now true (good_body bp.now) images bp.now.size (places_of bp.now)).found)
         × Tell D.image disks.new (read_block setting.now true (good_body bp.now) images bp.now.size (places_of bp.now)).images) }
     ensures len { IfOk result (λ found. IfOk found (λ bytes. length bytes ≡ bp.now.size)) }
-    ensures same { AreSameDisks D.bytes D.faults_at_fetch D.home D.image disks.old disks.new }
+    ensures same { AreSameDisks D.bytes D.faults D.faults_at_fetch D.home D.image D.sound disks.old disks.new }
     ensures steady { OnOk result (map D.faults disks.new ≡ map D.faults disks.old) }
     ensures device { IsErrOf result Stop.Device → AnyRose (map D.faults disks.old) (map D.faults disks.new) }
 {
@@ -81,7 +81,7 @@ fn last_pass<D: Disk>(
     ensures told { IfOk result (λ found. (images : Images) → Tell D.image disks.old images →
         let read = last_pass setting.now true images (read_pass setting.now true (good_body bp.now) images bp.now.size places.now) in
         (found ≡ read.found) × Tell D.image disks.new read.images) }
-    ensures handled { Handles D.bytes D.faults D.faults_at_fetch D.home D.image result disks.old disks.new }
+    ensures handled { Handles D.bytes D.faults D.faults_at_fetch D.home D.image D.sound result disks.old disks.new }
 {
     let pass = read_pass(alloc, setting, disks, true, bp, places)?;
     match pass {
@@ -104,7 +104,7 @@ fn take_good<D: Disk>(
     ensures bytes { IfOk result (λ found. found ≡ Ok good.bytes) }
     ensures told { IfOk result (λ found. (images : Images) → Tell D.image disks.old images →
         Tell D.image disks.new (repaired setting.now retry good.bytes (repairs_in setting.now places.now good.before good.failed) images)) }
-    ensures handled { Handles D.bytes D.faults D.faults_at_fetch D.home D.image result disks.old disks.new }
+    ensures handled { Handles D.bytes D.faults D.faults_at_fetch D.home D.image D.sound result disks.old disks.new }
 {
     let Good {
         bytes,
@@ -139,7 +139,7 @@ fn repair<D: Disk>(
     requires lies { LieOn (map D.bytes disks.old) (length bytes.now) (repairs_in setting.now places.now before failed.now) }
     ensures told { IfOk result (λ _. (images : Images) → Tell D.image disks.old images →
         Tell D.image disks.new (repaired setting.now retry bytes.now (repairs_in setting.now places.now before failed.now) images)) }
-    ensures handled { Handles D.bytes D.faults D.faults_at_fetch D.home D.image result disks.old disks.new }
+    ensures handled { Handles D.bytes D.faults D.faults_at_fetch D.home D.image D.sound result disks.old disks.new }
 {
     let [place, rest @ ..] = places else {
         return Ok(());
@@ -183,7 +183,7 @@ fn read_pass<D: Disk>(
         (λ good. (Some good.bytes ≡ seen.found) × (repairs_in setting.now places.now good.before good.failed ≡ seen.repairs))
         (λ error. (None ≡ seen.found) × (error ≡ worst_of seen.errors))
         × Tell D.image disks.new images) }
-    ensures handled { Handles D.bytes D.faults D.faults_at_fetch D.home D.image result disks.old disks.new }
+    ensures handled { Handles D.bytes D.faults D.faults_at_fetch D.home D.image D.sound result disks.old disks.new }
 {
     match places {
         [] => Ok(Err(None)),
@@ -244,7 +244,7 @@ fn read_place<D: Disk>(
         (λ good. (Some good.bytes ≡ tried.found) × (good.failed ≡ tried.failed))
         (λ error. (None ≡ tried.found) × (error ≡ blame tried.errors))
         × Tell D.image disks.new images) }
-    ensures handled { Handles D.bytes D.faults D.faults_at_fetch D.home D.image result disks.old disks.new }
+    ensures handled { Handles D.bytes D.faults D.faults_at_fetch D.home D.image D.sound result disks.old disks.new }
 {
     let order = read_order(alloc, place, setting.leaves(place))?;
     let tried = first_good(alloc, setting, disks, retry, bp, place, order.as_slice())?;
@@ -305,7 +305,7 @@ fn first_good<D: Disk>(
         (read_leaf setting.now retry images bp.now.size (spot_in place.now leaf))) leaves.now in
         (tried.found ≡ seen.found) × (take tried.failed leaves.now ≡ seen.failed) × (tried.worst ≡ worst_of seen.errors)
         × Tell D.image disks.new images) }
-    ensures handled { Handles D.bytes D.faults D.faults_at_fetch D.home D.image result disks.old disks.new }
+    ensures handled { Handles D.bytes D.faults D.faults_at_fetch D.home D.image D.sound result disks.old disks.new }
 {
     match leaves {
         [] => Ok(Tried {

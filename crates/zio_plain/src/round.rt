@@ -1,6 +1,7 @@
 //! The requests of a batch, and the end of its round.
 
 ghost use Rattle.std.specs.Prelude.{◌≡◌, ◌≢◌, ◌∷◌, ◌++◌, ◌+◌, ◌%◌, ◌<◌, [], ℕ, List, None, Some, OnOk, OnErr, IfOk, IsErrOf, length, map, option_to_list, true, false, Err, Option};
+ghost use Rattle.zio_gang.specs.Trees.{size_of};
 ghost use Rattle.zio_outside.specs.Outside.{Appends, AppendsFront, Rose};
 ghost use Rattle.zio_types.specs.Choices.{Choice};
 ghost use Rattle.zio_types.specs.declared.place.Place.{Place};
@@ -285,7 +286,7 @@ pub(crate) fn run_request<D: Disk, C: Chooser>(
     requires bound { ArePlain setting.now run.old.bound }
     requires rounds { journal.old.rounds < 65535 }
     requires form { (last : ℕ) × IsPlainRequest last request.now }
-    requires sizes { C.sizes chooser.old ≡ map (λ (t : Top). t.sectors) setting.now.tops }
+    requires sizes { C.sizes chooser.old ≡ map size_of setting.now.tops }
     requires whole { AreWhole run.old.lines }
     requires past { HasPast run.old journal.old }
     ensures ran { OnOk result ((images : Images) → Tell D.image disks.old images → (fate : Fate) × (entry : Option Choice) × (after : Images) ×
@@ -298,7 +299,7 @@ pub(crate) fn run_request<D: Disk, C: Chooser>(
     ensures kept { OnOk result ((run.new.batches ≡ run.old.batches) × (run.new.suspended ≡ run.old.suspended)) }
     ensures past { OnOk result (HasPast run.new journal.new) }
     ensures sizes { C.sizes chooser.new ≡ C.sizes chooser.old }
-    ensures same { AreSameDisks D.bytes D.faults_at_fetch D.home D.image disks.old disks.new }
+    ensures same { AreSameDisks D.bytes D.faults D.faults_at_fetch D.home D.image D.sound disks.old disks.new }
     ensures steady { OnOk result (map D.faults disks.new ≡ map D.faults disks.old) }
     ensures device { IsErrOf result RunFault.Device → AnyRose (map D.faults disks.old) (map D.faults disks.new) }
     ensures sink { ¬ IsErrOf result RunFault.Sink }

@@ -1,6 +1,7 @@
 //! A run of a script: its lines in turn, between the line of the pool and that of the end.
 
 ghost use Rattle.std.specs.Prelude.{IfSome, None, ◌≡◌, ◌∷◌, ◌++◌, ◌+◌, ◌<◌, ◌≤◌, ◌⊎◌, [], ℕ, List, IfOk, OnOk, IsErrOf, OnErr, Err, length, map, true, false};
+ghost use Rattle.zio_gang.specs.Trees.{size_of};
 ghost use Rattle.zio_outside.specs.Outside.{Appends, Rose};
 ghost use Rattle.zio_types.specs.declared.place.Top.{Top};
 ghost use Rattle.zio_script.specs.declared.script.Request.{Request};
@@ -50,13 +51,13 @@ pub fn run_script<D: Disk, C: Chooser, O: Sink>(
     requires report { IsReport show.now }
     requires pool { IsFirstPool tops (map D.bytes disks.old) }
     requires used { C.used chooser.old ≡ [] }
-    requires sizes { C.sizes chooser.old ≡ map (λ (t : Top). t.sectors) tops }
+    requires sizes { C.sizes chooser.old ≡ map size_of tops }
     requires empty { IsEmptyJournal journal.old }
     ensures ending { IfOk result (λ ending. (ending ≡ Complete) ⊎ (ending ≡ Left)) }
     ensures meaning { IfOk result (λ ending. (before : Images) → Tell D.image disks.old before → (after : Images) × (printed : List ℕ) ×
         IsMeaning show.now script.now before journal.new after printed (end_code ending)
         × Tell D.image disks.new after × Appends (O.holds out.old) (O.holds out.new) printed) }
-    ensures same { AreSameDisks D.bytes D.faults_at_fetch D.home D.image disks.old disks.new }
+    ensures same { AreSameDisks D.bytes D.faults D.faults_at_fetch D.home D.image D.sound disks.old disks.new }
     ensures steady { OnOk result ((map D.faults disks.new ≡ map D.faults disks.old) × (O.faults out.new ≡ O.faults out.old)) }
     ensures device { IsErrOf result RunFault.Device → AnyRose (map D.faults disks.old) (map D.faults disks.new) }
     ensures sink { IsErrOf result RunFault.Sink → Rose (O.faults out.old) (O.faults out.new) }
@@ -132,12 +133,12 @@ fn run_items<D: Disk, C: Chooser, O: Sink>(
     requires setting { IsFirstSetting setting.now (map D.bytes disks.old) }
     requires items { ArePlainItems 0 [] items.now }
     requires used { C.used chooser.old ≡ [] }
-    requires sizes { C.sizes chooser.old ≡ map (λ (t : Top). t.sectors) setting.now.tops }
+    requires sizes { C.sizes chooser.old ≡ map size_of setting.now.tops }
     requires empty { IsEmptyJournal journal.old }
     ensures went { IfOk result (λ suspended. (before : Images) → Tell D.image disks.old before → (end : State) × (printed : List ℕ) ×
         Went show.now setting.now items.now before end journal.new [] printed × (ending end ≡ left_if suspended)
         × Tell D.image disks.new end.images × Appends (O.holds out.old) (O.holds out.new) printed) }
-    ensures same { AreSameDisks D.bytes D.faults_at_fetch D.home D.image disks.old disks.new }
+    ensures same { AreSameDisks D.bytes D.faults D.faults_at_fetch D.home D.image D.sound disks.old disks.new }
     ensures steady { OnOk result ((map D.faults disks.new ≡ map D.faults disks.old) × (O.faults out.new ≡ O.faults out.old)) }
     ensures device { IsErrOf result RunFault.Device → AnyRose (map D.faults disks.old) (map D.faults disks.new) }
     ensures sink { IsErrOf result RunFault.Sink → Rose (O.faults out.old) (O.faults out.new) }
@@ -192,7 +193,7 @@ fn run_item<D: Disk, C: Chooser, O: Sink>(
     requires next { (last : ℕ) × (batch : List Request) × IsNextItem last batch item.now }
     requires rounds { journal.old.rounds < 65535 }
     requires batches { run.old.batches < 65535 }
-    requires sizes { C.sizes chooser.old ≡ map (λ (t : Top). t.sectors) setting.now.tops }
+    requires sizes { C.sizes chooser.old ≡ map size_of setting.now.tops }
     ensures ran { OnOk result ((items rest : List Item) (before now : Images) (last : ℕ) (batch : List Request) (printed : List ℕ) →
         HasRoots items → IsNextItem last batch item.now
         → Stands show.now setting.now items before now last batch (C.used chooser.old) run.old journal.old printed (item.now ∷ rest)
@@ -205,7 +206,7 @@ fn run_item<D: Disk, C: Chooser, O: Sink>(
     ensures rounds { OnOk result (journal.new.rounds ≤ journal.old.rounds + steps_of item.now) }
     ensures batches { OnOk result (run.new.batches ≡ run.old.batches + steps_of item.now) }
     ensures sizes { C.sizes chooser.new ≡ C.sizes chooser.old }
-    ensures same { AreSameDisks D.bytes D.faults_at_fetch D.home D.image disks.old disks.new }
+    ensures same { AreSameDisks D.bytes D.faults D.faults_at_fetch D.home D.image D.sound disks.old disks.new }
     ensures steady { OnOk result ((map D.faults disks.new ≡ map D.faults disks.old) × (O.faults out.new ≡ O.faults out.old)) }
     ensures device { IsErrOf result RunFault.Device → AnyRose (map D.faults disks.old) (map D.faults disks.new) }
     ensures sink { IsErrOf result RunFault.Sink → Rose (O.faults out.old) (O.faults out.new) }

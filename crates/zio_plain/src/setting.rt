@@ -37,21 +37,22 @@ impl Setting {
     }
 
     /// The row that an operation meets.
-    pub(crate) fn hit(&self, retry: bool, write: bool, spot: &Spot, len: u64) -> Option<Hit>
+    pub(crate) fn hit(&self, retry: bool, write: bool, spot: &Spot) -> Option<Hit>
         requires rows { AllByRecursion RowFits self.now.rows }
-        requires room { spot.now.at + len < 2 ^ 64 }
-        ensures { result ≡ met self.now retry write spot.now len }
+        requires room { spot.now.at + spot.now.span < 2 ^ 64 }
+        ensures { result ≡ met self.now retry write spot.now }
     {
         self.table
-            .hit(spot.leaf, write, spot.at, len, self.point, retry)
+            .hit(spot.leaf, write, spot.at, spot.span, self.point, retry)
     }
 }
 
-/// Where an operation goes: a leaf and a byte of it.
+/// Where an operation goes: a leaf, a byte of it, and how many bytes its place has from there on.
 #[derive(Debug, Drop)]
 pub(crate) struct Spot {
     pub(crate) leaf: u32,
     pub(crate) at: u64,
+    pub(crate) span: u64,
 }
 
 impl Model for Spot {
@@ -59,7 +60,7 @@ impl Model for Spot {
 
     ghost Value = { Seen };
 
-    ghost view = { λ s. record { leaf = s.leaf; at = s.at } };
+    ghost view = { λ s. record { leaf = s.leaf; at = s.at; span = s.span } };
 }
 
 /// Why an operation on blocks was stopped.

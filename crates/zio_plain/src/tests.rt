@@ -20,8 +20,8 @@ use zio_gang::Ending;
 use zio_outside::{MemDisk, MemSink};
 use zio_places::Space;
 use zio_report::Show;
-use zio_script::{Body, Failmode, Item, Name, Request, Script, Work};
-use zio_types::{Errno, Journal, List, Place, Prio, Top};
+use zio_script::{Body, Failmode, Item, Name, Request, Script, TopLine, Work};
+use zio_types::{Errno, Journal, List, Place, Prio, Top, TopSize};
 
 const LEAF_LEN: usize = 65536;
 
@@ -88,7 +88,7 @@ fn row(leaf: u32, fault: &Fault) -> Row
 
 /// One top of two leaves, each with its row.
 fn mirror(alloc: Global, faults: &[Fault; 2]) -> Result<Setting, Fail>
-    ensures tops { IfOk result (λ s. s.tops ≡ record { leaves = 0 ∷ 1 ∷ []; sectors = 128 } ∷ []) }
+    ensures tops { IfOk result (λ s. s.tops ≡ record { leaves = 0 ∷ 1 ∷ []; sectors = 128; unit = 1 } ∷ []) }
     ensures rows { IfOk result (λ s. AllByRecursion RowFits s.rows) }
 {
     let mut leaves = List::new(alloc);
@@ -97,6 +97,7 @@ fn mirror(alloc: Global, faults: &[Fault; 2]) -> Result<Setting, Fail>
     let Ok(()) = tops.push(Top {
         leaves,
         sectors: 128,
+        unit: 1,
     }) else {
         return Err(Fail::from("no memory"));
     };
@@ -264,10 +265,13 @@ fn write_and_read(alloc: Global) -> Result<Script, Fail>
         Item::Request(read),
         Item::Go,
     ]?;
-    let leaves = List::from_vec(vec![in alloc; 0]?);
+    let top = TopLine {
+        leaves: List::from_vec(vec![in alloc; 0]?),
+        unit: 1,
+    };
     Ok(Script {
         failmode: Failmode::Wait,
-        tops: List::from_vec(vec![in alloc; leaves]?),
+        tops: List::from_vec(vec![in alloc; top]?),
         faults: List::new(alloc),
         items: List::from_vec(items),
     })
@@ -281,6 +285,7 @@ fn one_top(alloc: Global) -> Result<List<Top>, Fail>
     let top = Top {
         leaves,
         sectors: 128,
+        unit: 1,
     };
     Ok(List::from_vec(vec![in alloc; top]?))
 }
@@ -313,7 +318,11 @@ fn each_round_shows_its_own_journal_and_bytes(rt: HostRuntime) -> Result<(), Fai
     };
     let tops = one_top(alloc)?;
     let mut disks = [empty_disk(alloc)?];
-    let mut space = Space::new(alloc, &[128])?;
+    let size = TopSize {
+        sectors: 128,
+        unit: 1,
+    };
+    let mut space = Space::new(alloc, &[size])?;
     let mut out = MemSink::new(alloc, 4096, List::new(alloc))?;
     let mut journal = Journal::new(alloc);
     let ending = run_script(

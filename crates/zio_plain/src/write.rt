@@ -24,7 +24,7 @@ pub(crate) fn write_piece<D: Disk>(
     ensures written { IfOk result (λ error. (images : Images) → Tell D.image disks.old images →
         (error ≡ (write_piece setting.now bytes.now places.now images).error)
         × Tell D.image disks.new (write_piece setting.now bytes.now places.now images).images) }
-    ensures same { AreSameDisks D.bytes D.faults_at_fetch D.home D.image disks.old disks.new }
+    ensures same { AreSameDisks D.bytes D.faults D.faults_at_fetch D.home D.image D.sound disks.old disks.new }
     ensures steady { OnOk result (map D.faults disks.new ≡ map D.faults disks.old) }
     ensures device { IsErrOf result Stop.Device → AnyRose (map D.faults disks.old) (map D.faults disks.new) }
 {
@@ -49,7 +49,7 @@ fn write_pass<D: Disk>(
     ensures told { IfOk result (λ error. (images : Images) → Tell D.image disks.old images →
         (error ≡ (write_pass setting.now retry bytes.now places.now images).error)
         × Tell D.image disks.new (write_pass setting.now retry bytes.now places.now images).images) }
-    ensures handled { Handles D.bytes D.faults D.faults_at_fetch D.home D.image result disks.old disks.new }
+    ensures handled { Handles D.bytes D.faults D.faults_at_fetch D.home D.image D.sound result disks.old disks.new }
 {
     match places {
         [] => Ok(None),
@@ -77,7 +77,7 @@ pub(crate) fn write_leaves<D: Disk>(
     ensures told { IfOk result (λ error. (images : Images) → Tell D.image disks.old images →
         let writes = in_turn (write_leaf setting.now retry bytes.now) (map (spot_in place.now) leaves.now) images in
         (error ≡ (place_written writes).error) × Tell D.image disks.new writes.images) }
-    ensures handled { Handles D.bytes D.faults D.faults_at_fetch D.home D.image result disks.old disks.new }
+    ensures handled { Handles D.bytes D.faults D.faults_at_fetch D.home D.image D.sound result disks.old disks.new }
 {
     match leaves {
         [] => Ok(Some(Errno::Nxio)),

@@ -1,15 +1,15 @@
 -- The one disk of a run, before it and after it.
-use Rattle.std.proofs.Common.{◌≡◌, ℕ, List, [], ◌∷◌, ◌++◌, inl, inr, length, take, drop, get_or, ap, ◌∙◌, refl}
+use Rattle.std.proofs.Common.{◌<◌, arith, ◌≡◌, ℕ, List, [], ◌∷◌, ◌++◌, inl, inr, length, take, drop, get_or, ap, ◌∙◌, refl}
 use Rattle.zio_cksum.specs.Images.{Images}
-use Rattle.zio_outside.specs.Outside.{ComesHome, GoesOut, StaysHome}
+use Rattle.zio_outside.specs.Outside.{ComesHome, GoesOut, Rose, StaysHome, count_max}
 use Rattle.zio_plain.specs.Disks.{AreSameDisks, Tell}
 use Rattle.zio_run.specs.Outcomes.{IsAfter, KeepsOthers}
 
-pub one_disk : {D : Type 0} (bytes faults_at_fetch : D → ℕ) (home image : D → List ℕ → Type 0) (old : D) (news : List D)
-    → AreSameDisks bytes faults_at_fetch home image (old ∷ []) news
-    → (new : D) × (news ≡ new ∷ []) × IsAfter bytes faults_at_fetch home image old new
-one_disk bytes faults_at_fetch home image old [] same = let no : ⊥ = (let sizes = same.sizes in cc) in absurd no
-one_disk bytes faults_at_fetch home image old (new ∷ []) same = (
+pub one_disk : {D : Type 0} (bytes faults faults_at_fetch : D → ℕ) (home image : D → List ℕ → Type 0) (sound : D → Type 0) (old : D) (news : List D)
+    → AreSameDisks bytes faults faults_at_fetch home image sound (old ∷ []) news
+    → (new : D) × (news ≡ new ∷ []) × IsAfter bytes faults faults_at_fetch home image sound old new
+one_disk bytes faults faults_at_fetch home image sound old [] same = let no : ⊥ = (let sizes = same.sizes in cc) in absurd no
+one_disk bytes faults faults_at_fetch home image sound old (new ∷ []) same = (
   new,
   refl,
   record {
@@ -17,9 +17,10 @@ one_disk bytes faults_at_fetch home image old (new ∷ []) same = (
     at_fetch = (let fetched = same.at_fetch in cc);
     home_kept = same.homes.0;
     told = same.told.0;
+    stay = same.stay.0;
   },
 )
-one_disk bytes faults_at_fetch home image old (new ∷ more ∷ news) same = let no : ⊥ = (let sizes = same.sizes in cc) in absurd no
+one_disk bytes faults faults_at_fetch home image sound old (new ∷ more ∷ news) same = let no : ⊥ = (let sizes = same.sizes in cc) in absurd no
 
 -- a disk that went out and came home with some image left the others as they were
 pub KeepsOthers-after_trip : (name image : List ℕ) (old mid new : List ℕ → List ℕ → Type 0) (old_out mid_out new_out : List ℕ → Type 0)
@@ -65,3 +66,8 @@ pub first_of : {D : Type 0} (len : ℕ) (news items : List D) (new result : D) �
 first_of {D} len news items new result one is first =
     first ∙ (ap (λ (n : ℕ). get_or (take n (news ++ drop (length news) items)) 0 result) one
     ∙ ap (λ (xs : List D). get_or (take 1 (xs ++ drop (length news) items)) 0 result) is)
+
+-- a count that stayed below its last value didn't rise
+pub not_rose : (old new : ℕ) → new ≡ old → old < count_max → Rose old new → ⊥
+not_rose old new same below (inl more) = omega arith
+not_rose old new same below (inr last) = omega arith

@@ -1,7 +1,7 @@
 -- What has been read of a text, turn by turn.
 use Rattle.std.proofs.Common.{◌≡◌, ℕ, ◌+◌, ◌-◌, ◌≤◌, List, [], ◌++◌, length, take, drop, refl, sym, ap, ◌∙◌, subst, arith}
-use Rattle.std.proofs.lemmas.List.{append-nil, take_all, drop-drop, length-drop, length-append, length-take-le}
-use Rattle.std.proofs.Math.Seq.{take-add}
+use Rattle.std.proofs.lemmas.List.{append-nil, take_all, drop_all, drop-drop, length-drop, length-append, length-take-le}
+use Rattle.std.proofs.Math.Seq.{drop-nil, take-add}
 
 -- these bytes were read of the text, and the rest is left
 pub record HasRead (left : List ℕ → Type 0) (text bytes : List ℕ) : Type 0 where
@@ -44,3 +44,13 @@ HasRead-end left text bytes more n most read none added short =
 pub HasRead-full : (left : List ℕ → Type 0) (text bytes : List ℕ) (most : ℕ) → HasRead left text bytes
     → length bytes ≡ most → bytes ≡ take most text
 HasRead-full left text bytes most read len = subst (λ (n : ℕ). bytes ≡ take n text) len read.front
+
+-- where nothing was left, nothing is left, however much more was asked for
+pub HasRead-end_rest : (left : List ℕ → Type 0) (text bytes : List ℕ) (n most : ℕ) → drop (length bytes) text ≡ []
+    → length bytes ≤ most → left (drop n (drop (length bytes) text)) → left (drop most text)
+HasRead-end_rest left text bytes n most none short told =
+    let rest_len : length (drop (length bytes) text) ≡ length text - length bytes = length-drop (length bytes) text in
+    let no_rest : length (drop (length bytes) text) ≡ 0 = ap length none in
+    let past : drop most text ≡ [] = drop_all most text (omega arith) in
+    let here : drop n (drop (length bytes) text) ≡ [] = ap (λ (xs : List ℕ). drop n xs) none ∙ drop-nil n in
+    subst left (here ∙ sym past) told

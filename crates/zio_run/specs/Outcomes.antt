@@ -1,6 +1,6 @@
 -- The texts that a run prints beside its report, and how it ends where a text was due.
-use Rattle.std.specs.Prelude.{◌≡◌, ◌≢◌, ◌↔◌, ℕ, ◌+◌, ◌≤◌, List, ◌++◌, take, ◌⊎◌, decimal, codes}
-use Rattle.zio_outside.specs.Outside.{Appends, AppendsFront, Keeps, Rose}
+use Rattle.std.specs.Prelude.{◌≡◌, ◌≢◌, ◌↔◌, ℕ, zero, suc, ◌+◌, ◌≤◌, List, ◌++◌, drop, take, ◌⊎◌, decimal, codes}
+use Rattle.zio_outside.specs.Outside.{Appends, AppendsFront, Keeps, Rose, counted}
 use Rattle.zio_script.specs.declared.script.Script.{Script}
 use Rattle.zio_script.specs.declared.script.ScriptFault.{ScriptFault}
 use Rattle.zio_script.specs.declared.read.TheConstants.{SCRIPT_LEN_MAX}
@@ -15,6 +15,10 @@ use Rattle.zio_run.specs.declared.image.TheConstants.{IMAGE_LEN_MAX, IMAGE_LEN_M
 -- what is read of a text: all of it, or as much as shows that it is too long
 pub record IsReadOf (text bytes : List ℕ) : Type 0 where
   pub read : bytes ≡ take (SCRIPT_LEN_MAX + 1) text
+
+-- what is left of a text once it was read: nothing, or what is behind so much
+abbrev pub rest_of : List ℕ → List ℕ
+rest_of text = drop (SCRIPT_LEN_MAX + 1) text
 
 -- ---- images
 
@@ -64,12 +68,25 @@ IsDue words text full =
 
 -- ---- what stays of a disk and of the shelf
 
--- a run left a disk's size, its count at fetch and its home as they were, and the disk still tells an image if it told one
-pub record IsAfter {D : Type 0} (bytes faults_at_fetch : D → ℕ) (home image : D → List ℕ → Type 0) (old new : D) : Type 0 where
+-- a run left a disk's size, its count at fetch and its home as they were, and the disk still tells an image if it told
+-- one, and is sound if it was
+pub record IsAfter {D : Type 0} (bytes faults faults_at_fetch : D → ℕ) (home image : D → List ℕ → Type 0) (sound : D → Type 0) (old new : D) : Type 0 where
   pub size : bytes new ≡ bytes old
   pub at_fetch : faults_at_fetch new ≡ faults_at_fetch old
   pub home_kept : Keeps (home old) (home new)
   pub told : (content : List ℕ) → image old content → (after : List ℕ) × image new after
+  pub stay : sound old → sound new × (faults new ≡ faults old)
+
+-- a count that went up so many times, by one each time
+abbrev pub counted_times : ℕ → ℕ → ℕ
+counted_times zero count = count
+counted_times (suc times) count = counted (counted_times times count)
+
+-- as many disks came home as were handed out
+pub record IsEachBack (old_fetches new_fetches old_returns new_returns : ℕ) : Type 0 where
+  pub times : ℕ
+  pub fetched : new_fetches ≡ counted_times times old_fetches
+  pub returned : new_returns ≡ counted_times times old_returns
 
 -- the other disks stay where they are with their images, the one of this name is at home, and tells an image if it told one
 pub record KeepsOthers (name : List ℕ) (old new : List ℕ → List ℕ → Type 0) (old_out new_out : List ℕ → Type 0) : Type 0 where

@@ -5,7 +5,7 @@ ghost use Rattle.zio_run.specs.Outcomes.{HasLawfulSize};
 use std::alloc::Global;
 use zio_places::Space;
 use zio_report::RunFault;
-use zio_types::{List, SECTOR_SIZE, Top};
+use zio_types::{List, SECTOR_SIZE, Top, TopSize};
 
 /// The fewest bytes of an image.
 pub const IMAGE_LEN_MIN: u64 = 64 * 1024;
@@ -32,6 +32,7 @@ pub(crate) fn top_over(alloc: Global, bytes: u64) -> Result<List<Top>, RunFault>
     let top = Top {
         leaves,
         sectors: bytes / u64::from(SECTOR_SIZE),
+        unit: 1,
     };
     match tops.push(top) {
         Ok(()) => Ok(tops),
@@ -42,10 +43,14 @@ pub(crate) fn top_over(alloc: Global, bytes: u64) -> Result<List<Top>, RunFault>
 /// The space of that top, all of it free.
 pub(crate) fn space_over(alloc: Global, bytes: u64) -> Result<Space, RunFault>
     ensures ok { IfOk result (λ space. space ≡
-        record { sizes = bytes / 512 ∷ []; live = []; pending = []; entries = []; spare = 0 }) }
+        record { sizes = record { sectors = bytes / 512; unit = 1 } ∷ []; live = []; pending = []; entries = []; spare = 0 }) }
     ensures err { OnErr result (result ≡ Err RunFault.Memory) }
 {
-    match Space::new(alloc, &[bytes / u64::from(SECTOR_SIZE)]) {
+    let top = TopSize {
+        sectors: bytes / u64::from(SECTOR_SIZE),
+        unit: 1,
+    };
+    match Space::new(alloc, &[top]) {
         Ok(space) => Ok(space),
         Err(_) => Err(RunFault::Memory),
     }

@@ -1,5 +1,5 @@
-ghost use Rattle.std.specs.Prelude.{◌≡◌, ◌∷◌, ◌++◌, [], ◌⊎◌, ◌↔◌, ℕ, List, IfOk, IsErrOf, OnOk, length, map, slice_index_or, string_bytes, take};
-ghost use Rattle.zio_outside.specs.Outside.{Appends, AppendsFront, Keeps, Rose, StaysHome};
+ghost use Rattle.std.specs.Prelude.{◌≡◌, ◌≢◌, ◌∷◌, ◌++◌, [], ◌⊎◌, ◌↔◌, ℕ, List, IfOk, IsErrOf, OnOk, length, map, slice_index_or, string_bytes, take};
+ghost use Rattle.zio_outside.specs.Outside.{Appends, AppendsFront, Keeps, Rose, StaysHome, counted};
 ghost use Rattle.zio_script.specs.Built.{IsFaultOf, IsScriptOf};
 ghost use Rattle.zio_script.specs.PlainForm.{IsPlainScript};
 ghost use Rattle.zio_script.specs.declared.script.Script.{Script};
@@ -13,7 +13,7 @@ ghost use Rattle.zio_plain.specs.Rounds.{Begins, IsReport};
 ghost use Rattle.zio_report.specs.declared.report.Show.{Show as SeenShow};
 ghost use Rattle.zio_run.specs.Commands.{IsCommand, IsNoCommand};
 ghost use Rattle.zio_run.specs.Headline.{Headline};
-ghost use Rattle.zio_run.specs.Outcomes.{HasLawfulSize, IsAfter, IsDue, IsRun, IsSerialCode, KeepsOthers, images_line, script_line, words_line};
+ghost use Rattle.zio_run.specs.Outcomes.{HasLawfulSize, IsAfter, IsDue, IsEachBack, IsRun, IsSerialCode, KeepsOthers, images_line, rest_of, script_line, words_line};
 
 use crate::command::command_of;
 use crate::image::{is_lawful_size, space_over, top_over};
@@ -54,15 +54,24 @@ where
     ensures no_command { IsNoCommand (map string_bytes words.now) → (result.code ≡ 1) ⊎ (result.code ≡ 6) }
     ensures accepted { IsRun result.code ⊎ (result.code ≡ 3) ⊎ (result.code ≡ 7) →
         (text : List ℕ) → S.left script.old text → (read : Script) × IsScriptOf text read }
-    ensures images { result.code ≡ 3 → (show : SeenShow) (name : List ℕ) → IsCommand (map string_bytes words.now) show name →
+    ensures images { result.code ≡ 3 →
         (Rose (H.faults shelf.old) (H.faults shelf.new) × (H.fetches shelf.new ≡ H.fetches shelf.old))
+        ⊎ ((H.fetches shelf.new ≡ counted (H.fetches shelf.old)) × ¬ HasLawfulSize (H.last_size shelf.new)) }
+    ensures size { IsRun result.code ⊎ (result.code ≡ 7) →
+        (H.fetches shelf.new ≡ counted (H.fetches shelf.old)) × HasLawfulSize (H.last_size shelf.new) }
+    ensures told_images { result.code ≡ 3 →
+        (show : SeenShow) (name : List ℕ) → IsCommand (map string_bytes words.now) show name →
+        Rose (H.faults shelf.old) (H.faults shelf.new)
         ⊎ ((image : List ℕ) → H.tells shelf.old → H.image shelf.old name image → ¬ HasLawfulSize (length image)) }
     ensures measured { IsRun result.code ⊎ (result.code ≡ 7) → (show : SeenShow) (name image : List ℕ) → IsCommand (map string_bytes words.now) show name →
         H.tells shelf.old → H.image shelf.old name image → HasLawfulSize (length image) }
     ensures source { result.code ≡ 5 → Rose (S.faults script.old) (S.faults script.new) }
     ensures sink { result.code ≡ 6 → Rose (O.faults out.old) (O.faults out.new) }
     ensures device { result.code ≡ 7 → Rose (H.disk_faults shelf.old) (H.disk_faults shelf.new) }
-    ensures steady { IsRun result.code → (S.faults script.new ≡ S.faults script.old) × (O.faults out.new ≡ O.faults out.old)
+    ensures sink_steady { (result.code ≡ 1) ⊎ (result.code ≡ 2) ⊎ (result.code ≡ 3) →
+        O.faults out.new ≡ O.faults out.old }
+    ensures steady { IsRun result.code →
+        (S.faults script.new ≡ S.faults script.old) × (O.faults out.new ≡ O.faults out.old)
         × (H.faults shelf.new ≡ H.faults shelf.old) × (H.disk_faults shelf.new ≡ H.disk_faults shelf.old) }
 
     // What is written.
@@ -88,7 +97,24 @@ where
         ¬ Rose (H.faults shelf.old) (H.faults shelf.new) → ¬ Rose (H.disk_faults shelf.old) (H.disk_faults shelf.new) →
         IsRun result.code ⊎ (result.code ≡ 8) }
 
+    // Nor where all is in order, the source is sound, the shelf is sound for the image, and the sink didn't fail.
+    ensures sound_run { (show : SeenShow) (name text image : List ℕ) (read : Script) →
+        IsCommand (map string_bytes words.now) show name → S.left script.old text → IsScriptOf text read →
+        H.tells shelf.old → H.image shelf.old name image → HasLawfulSize (length image) →
+        S.sound script.old → H.sound shelf.old name → ¬ Rose (O.faults out.old) (O.faults out.new) →
+        IsRun result.code ⊎ (result.code ≡ 8) }
+
+    // What is read: the script to its end, or to one byte more than a script may have.
+    ensures rest { (show : SeenShow) (name : List ℕ) → IsCommand (map string_bytes words.now) show name →
+        (result.code ≢ 5) → (result.code ≢ 8) →
+        (text : List ℕ) → S.left script.old text → S.left script.new (rest_of text) }
+    ensures source_sound { S.sound script.old → S.sound script.new × (S.faults script.new ≡ S.faults script.old) }
+
     // What stays.
+    ensures back { IsEachBack (H.fetches shelf.old) (H.fetches shelf.new) (H.returns shelf.old) (H.returns shelf.new) }
+    ensures sound { (show : SeenShow) (name : List ℕ) → IsCommand (map string_bytes words.now) show name →
+        H.sound shelf.old name → H.sound shelf.new name
+        × (H.faults shelf.new ≡ H.faults shelf.old) × (H.disk_faults shelf.new ≡ H.disk_faults shelf.old) }
     ensures journal { (result.code ≡ 1) ⊎ (result.code ≡ 2) ⊎ (result.code ≡ 3) ⊎ (result.code ≡ 5) → journal.new ≡ journal.old }
     ensures unread { IsNoCommand (map string_bytes words.now) → (script.new ≡ script.old) × (shelf.new ≡ shelf.old) }
     ensures unfetched { (result.code ≡ 2) ⊎ (result.code ≡ 5) → shelf.new ≡ shelf.old }
@@ -140,7 +166,15 @@ where
     ensures codes { IsRun result.code ⊎ (result.code ≡ 3) ⊎ (result.code ≡ 6) ⊎ (result.code ≡ 7) ⊎ (result.code ≡ 8) }
     ensures images { result.code ≡ 3 →
         (Rose (H.faults shelf.old) (H.faults shelf.new) × (H.fetches shelf.new ≡ H.fetches shelf.old))
+        ⊎ ((H.fetches shelf.new ≡ counted (H.fetches shelf.old)) × ¬ HasLawfulSize (H.last_size shelf.new)) }
+    ensures size { IsRun result.code ⊎ (result.code ≡ 7) →
+        (H.fetches shelf.new ≡ counted (H.fetches shelf.old)) × HasLawfulSize (H.last_size shelf.new) }
+    ensures told_images { result.code ≡ 3 → Rose (H.faults shelf.old) (H.faults shelf.new)
         ⊎ ((image : List ℕ) → H.tells shelf.old → H.image shelf.old name.now image → ¬ HasLawfulSize (length image)) }
+    ensures back { IsEachBack (H.fetches shelf.old) (H.fetches shelf.new) (H.returns shelf.old) (H.returns shelf.new) }
+    ensures sound { H.sound shelf.old name.now → H.sound shelf.new name.now
+        × (H.faults shelf.new ≡ H.faults shelf.old) × (H.disk_faults shelf.new ≡ H.disk_faults shelf.old) }
+    ensures sink_steady { result.code ≡ 3 → O.faults out.new ≡ O.faults out.old }
     ensures measured { IsRun result.code ⊎ (result.code ≡ 7) → (image : List ℕ) → H.tells shelf.old → H.image shelf.old name.now image →
         HasLawfulSize (length image) }
     ensures sink { result.code ≡ 6 → Rose (O.faults out.old) (O.faults out.new) }
@@ -186,6 +220,7 @@ fn run_on_disk<O: Sink, D: Disk + Drop>(
     requires empty { IsEmptyJournal journal.old }
     ensures codes { IsRun result.0.code ⊎ (result.0.code ≡ 3) ⊎ (result.0.code ≡ 6) ⊎ (result.0.code ≡ 7) ⊎ (result.0.code ≡ 8) }
     ensures images { result.0.code ≡ 3 → ¬ HasLawfulSize (D.bytes disk) }
+    ensures sink_steady { result.0.code ≡ 3 → O.faults out.new ≡ O.faults out.old }
     ensures measured { IsRun result.0.code ⊎ (result.0.code ≡ 7) → HasLawfulSize (D.bytes disk) }
     ensures sink { result.0.code ≡ 6 → Rose (O.faults out.old) (O.faults out.new) }
     ensures device { result.0.code ≡ 7 → Rose (D.faults disk) (D.faults result.1) }
@@ -198,7 +233,7 @@ fn run_on_disk<O: Sink, D: Disk + Drop>(
         ⊎ Begins (O.holds out.old) (O.holds out.new) (pool_text 1 1) }
     ensures begun { (result.0.code ≡ 7) ⊎ (result.0.code ≡ 8) → Begins (O.holds out.old) (O.holds out.new) (pool_text 1 1) }
     ensures untouched { result.0.code ≡ 3 → (result.1 ≡ disk) × (journal.new ≡ journal.old) }
-    ensures after { IsAfter D.bytes D.faults_at_fetch D.home D.image disk result.1 }
+    ensures after { IsAfter D.bytes D.faults D.faults_at_fetch D.home D.image D.sound disk result.1 }
 {
     let mut disks = Vec::new(alloc);
     if let Err(refused) = disks.push(disk) {
@@ -223,6 +258,7 @@ fn run_over<O: Sink, D: Disk>(
     requires one { length disks.old ≡ 1 }
     ensures codes { IsRun result.code ⊎ (result.code ≡ 3) ⊎ (result.code ≡ 6) ⊎ (result.code ≡ 7) ⊎ (result.code ≡ 8) }
     ensures images { result.code ≡ 3 → ¬ HasLawfulSize (slice_index_or (map D.bytes disks.old) 0 0) }
+    ensures sink_steady { result.code ≡ 3 → O.faults out.new ≡ O.faults out.old }
     ensures measured { IsRun result.code ⊎ (result.code ≡ 7) → HasLawfulSize (slice_index_or (map D.bytes disks.old) 0 0) }
     ensures sink { result.code ≡ 6 → Rose (O.faults out.old) (O.faults out.new) }
     ensures device { result.code ≡ 7 → AnyRose (map D.faults disks.old) (map D.faults disks.new) }
@@ -235,7 +271,7 @@ fn run_over<O: Sink, D: Disk>(
         ⊎ Begins (O.holds out.old) (O.holds out.new) (pool_text 1 1) }
     ensures begun { (result.code ≡ 7) ⊎ (result.code ≡ 8) → Begins (O.holds out.old) (O.holds out.new) (pool_text 1 1) }
     ensures untouched { result.code ≡ 3 → (disks.new ≡ disks.old) × (journal.new ≡ journal.old) }
-    ensures same { AreSameDisks D.bytes D.faults_at_fetch D.home D.image disks.old disks.new }
+    ensures same { AreSameDisks D.bytes D.faults D.faults_at_fetch D.home D.image D.sound disks.old disks.new }
 {
     let size = disks[0].size();
     if !is_lawful_size(size) {
@@ -274,7 +310,7 @@ fn run_sized<O: Sink, D: Disk>(
     ensures device { IsErrOf result RunFault.Device → AnyRose (map D.faults disks.old) (map D.faults disks.new) }
     ensures sink { IsErrOf result RunFault.Sink → Rose (O.faults out.old) (O.faults out.new) }
     ensures begun { Begins (O.holds out.old) (O.holds out.new) (pool_text 1 1) }
-    ensures same { AreSameDisks D.bytes D.faults_at_fetch D.home D.image disks.old disks.new }
+    ensures same { AreSameDisks D.bytes D.faults D.faults_at_fetch D.home D.image D.sound disks.old disks.new }
 {
     let tops = top_over(alloc, size)?;
     let mut space = space_over(alloc, size)?;

@@ -1,6 +1,6 @@
 ghost use Rattle.std.specs.Prelude.{◌≡◌, ◌+◌, ◌<◌, ◌≤◌, ◌++◌, ℕ, List, [], length, take, drop, IfErr, IfOk, OnOk, OnErr, IsErrOf, vec_len};
 ghost use Rattle.zio_outside.specs.Outside.{Rose};
-ghost use Rattle.zio_run.specs.Outcomes.{IsReadOf};
+ghost use Rattle.zio_run.specs.Outcomes.{IsReadOf, rest_of};
 
 use std::alloc::Global;
 use zio_outside::Source;
@@ -21,7 +21,9 @@ pub(crate) enum ReadFault {
 pub(crate) fn read_all<S: Source>(alloc: Global, source: &mut S) -> Result<Vec<u8>, ReadFault>
     ensures failed { IsErrOf result ReadFault.Failed → Rose (S.faults source.old) (S.faults source.new) }
     ensures count { OnOk result (S.faults source.new ≡ S.faults source.old) }
+    ensures sound { S.sound source.old → S.sound source.new × (S.faults source.new ≡ S.faults source.old) }
     ensures read { IfOk result (λ bytes. (text : List ℕ) → S.left source.old text → IsReadOf text bytes.items) }
+    ensures rest { OnOk result ((text : List ℕ) → S.left source.old text → S.left source.new (rest_of text)) }
 {
     let mut piece = new_piece(alloc)?;
     let mut bytes = Vec::new(alloc);
@@ -54,6 +56,7 @@ fn read_piece<S: Source>(
     requires { 0 < length piece.old }
     ensures failed { IsErrOf result ReadFault.Failed → Rose (S.faults source.old) (S.faults source.new) }
     ensures count { OnOk result (S.faults source.new ≡ S.faults source.old) }
+    ensures sound { S.sound source.old → S.sound source.new × (S.faults source.new ≡ S.faults source.old) }
     ensures within { IfOk result (λ n. n ≤ length piece.old) }
     ensures len { IfOk result (λ n. vec_len bytes.new ≡ vec_len bytes.old + n) }
     ensures left { IfOk result (λ n. (left : List ℕ) → S.left source.old left → S.left source.new (drop n left)) }

@@ -114,6 +114,13 @@ const WRITE_THEN_READ: Case<'static> = Case {
     ..SHORTEST
 };
 
+/// Two reads of one name in a batch.
+const TWO_READS: Case<'static> = Case {
+    script: b"top 0\n1 read x sync\n2 read x sync\ngo\n",
+    output: b"pool 1 1\nround 1 batch 1 point 0\n1 read x ENOENT\n2 read x ENOENT\nend 0\n",
+    ..SHORTEST
+};
+
 /// How many sectors have this byte alone.
 fn sectors_of(image: &[u8], byte: u8) -> usize {
     image
@@ -160,6 +167,7 @@ fn scripts_run_to_their_reports(rt: HostRuntime) -> Result<(), Fail> {
     check(&rt, alloc, &SHORTEST)?;
     check(&rt, alloc, &WRITE_THEN_READ)?;
     check(&rt, alloc, &BODIES)?;
+    check(&rt, alloc, &TWO_READS)?;
     check(
         &rt,
         alloc,
@@ -213,7 +221,7 @@ fn what_is_refused_is_told(rt: HostRuntime) -> Result<(), Fail> {
     refuses_words(&rt, alloc, &["run", "--data", "--journal", "--data", "a"])?;
     refuses_script(&rt, alloc, b"", b"script 1 9\n")?;
     refuses_script(&rt, alloc, b"top 0\n1 wri", b"script 2 1\n")?;
-    let same_name = b"top 0\n1 read x sync\n2 read x sync\ngo\n";
+    let same_name = b"top 0\n1 read x sync\n2 write x off 1 sync fill 41 512\ngo\n";
     refuses_script(&rt, alloc, same_name, b"script 3 6\n")?;
     refuses_script(&rt, alloc, b"# later\ntop 0\nclear\n", b"script 3 10\n")?;
     check(

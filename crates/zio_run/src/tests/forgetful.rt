@@ -23,6 +23,8 @@ impl Disk for Forgetful {
 
     ghost home = { λ _ _. ⊥ };
 
+    ghost sound = { λ _. ⊥ };
+
     fn size(&self) -> u64 {
         65536
     }
@@ -40,6 +42,8 @@ impl Disk for Forgetful {
     ghost has_size = { λ d content told. absurd told };
 
     ghost counts = { λ d. d.in_range };
+
+    ghost sound_counts = { λ d sound. absurd sound };
 }
 
 /// Hands out forgetful disks under every name, and counts their reads.
@@ -48,8 +52,10 @@ pub(crate) struct ForgetfulShelf {
     reads: u64,
     faults: u64,
     fetches: u64,
+    returns: u64,
     ghost faults_in_range: { faults ≤ count_max },
     ghost fetches_in_range: { fetches ≤ count_max },
+    ghost returns_in_range: { returns ≤ count_max },
 }
 
 impl ForgetfulShelf {
@@ -58,6 +64,7 @@ impl ForgetfulShelf {
             reads: 0,
             faults: 0,
             fetches: 0,
+            returns: 0,
         }
     }
 
@@ -75,11 +82,17 @@ impl Shelf for ForgetfulShelf {
 
     ghost fetches = { λ s. s.fetches };
 
+    ghost returns = { λ s. s.returns };
+
+    ghost last_size = { λ _. 65536 };
+
     ghost tells = { λ _. ⊥ };
 
     ghost image = { λ _ _ _. ⊥ };
 
     ghost out = { λ _ _. ⊥ };
+
+    ghost sound = { λ _ _. ⊥ };
 
     fn fetch(&mut self, _name: &str) -> Result<Forgetful, FetchFault> {
         self.fetches = self.fetches.saturating_add(1);
@@ -91,9 +104,13 @@ impl Shelf for ForgetfulShelf {
 
     fn give_back(&mut self, disk: Forgetful) {
         self.reads = self.reads.saturating_add(disk.reads);
+        self.returns = self.returns.saturating_add(1);
     }
 
-    ghost counts = { λ s. (s.faults_in_range, s.faults_in_range, s.fetches_in_range) };
+    ghost counts = { λ s.
+        (s.faults_in_range, s.faults_in_range, s.fetches_in_range, s.returns_in_range) };
 
     ghost one_image = { λ s name a b told other. absurd told };
+
+    ghost sound_counts = { λ s name sound. absurd sound };
 }

@@ -10,11 +10,11 @@ returns-in_err-bytes-clause-handled g c =
     let is = p.1 in
     let same = p.2 in
     let memory = c.in_err-bytes.ensures.err in
-    handles_none g.D.Disk.bytes g.D.Disk.faults g.D.Disk.faults_at_fetch g.D.Disk.home g.D.Disk.image _ c.args.disks.now (λ e. cc)
+    handles_none g.D.Disk.bytes g.D.Disk.faults g.D.Disk.faults_at_fetch g.D.Disk.home g.D.Disk.image g.D.Disk.sound _ c.args.disks.now (λ e. cc)
 
 pub returns-in-Ok-clause-told : goal.returns-in-Ok-clause-told
 returns-in-Ok-clause-told g c images tell =
-    let spot : Spot = record { leaf = c.spot.inside.leaf; at = c.spot.inside.at } in
+    let spot : Spot = record { leaf = c.spot.inside.leaf; at = c.spot.inside.at; span = c.spot.inside.span } in
     let view : spot ≡ c.args.spot.now = c.spot.view_is in
     let within : c.spot.inside.leaf < length c.args.disks.now = spot_within g.D.Disk.bytes c.args.disks.now spot c.args.spot.now c.args.len view c.requires.some c.requires.lies in
     let there : List ℕ = drop spot.at (image_of images spot.leaf) in
@@ -31,12 +31,12 @@ returns-in-Ok-clause-told g c images tell =
 
 pub returns-in-Ok-clause-handled : goal.returns-in-Ok-clause-handled
 returns-in-Ok-clause-handled g c =
-    let within = spot_within g.D.Disk.bytes c.args.disks.now (record { leaf = c.spot.inside.leaf; at = c.spot.inside.at }) c.args.spot.now c.args.len c.spot.view_is c.requires.some c.requires.lies in
-    handles_one g.D.Disk.bytes g.D.Disk.faults g.D.Disk.faults_at_fetch g.D.Disk.home g.D.Disk.image _ c.args.disks.now c.spot.inside.leaf c.index-disks-leaf.result c.read_at.new.self
-    within c.in-Ok.ensures.bytes c.in-Ok.ensures.at_fetch c.in-Ok.ensures.home (λ content told. (content, (c.in-Ok.ensures.image content).0 told)) c.in-Ok.ensures.count.ok (λ e. cc)
+    let within = spot_within g.D.Disk.bytes c.args.disks.now (record { leaf = c.spot.inside.leaf; at = c.spot.inside.at; span = c.spot.inside.span }) c.args.spot.now c.args.len c.spot.view_is c.requires.some c.requires.lies in
+    handles_one g.D.Disk.bytes g.D.Disk.faults g.D.Disk.faults_at_fetch g.D.Disk.home g.D.Disk.image g.D.Disk.sound _ c.args.disks.now c.spot.inside.leaf c.index-disks-leaf.result c.read_at.new.self
+    within c.in-Ok.ensures.bytes c.in-Ok.ensures.at_fetch c.in-Ok.ensures.home (λ content told. (content, (c.in-Ok.ensures.image content).0 told)) c.in-Ok.ensures.sound c.in-Ok.ensures.count.ok (λ e. cc)
 
 pub returns-in-Err-clause-handled : goal.returns-in-Err-clause-handled
 returns-in-Err-clause-handled g c =
-    let within = spot_within g.D.Disk.bytes c.args.disks.now (record { leaf = c.spot.inside.leaf; at = c.spot.inside.at }) c.args.spot.now c.args.len c.spot.view_is c.requires.some c.requires.lies in
-    handles_one g.D.Disk.bytes g.D.Disk.faults g.D.Disk.faults_at_fetch g.D.Disk.home g.D.Disk.image _ c.args.disks.now c.spot.inside.leaf c.index-disks-leaf.result c.read_at.new.self
-    within c.in-Err.ensures.bytes c.in-Err.ensures.at_fetch c.in-Err.ensures.home (λ content told. (content, (c.in-Err.ensures.image content).0 told)) tt (λ e. c.in-Err.ensures.count.failed)
+    let within = spot_within g.D.Disk.bytes c.args.disks.now (record { leaf = c.spot.inside.leaf; at = c.spot.inside.at; span = c.spot.inside.span }) c.args.spot.now c.args.len c.spot.view_is c.requires.some c.requires.lies in
+    handles_one g.D.Disk.bytes g.D.Disk.faults g.D.Disk.faults_at_fetch g.D.Disk.home g.D.Disk.image g.D.Disk.sound _ c.args.disks.now c.spot.inside.leaf c.index-disks-leaf.result c.read_at.new.self
+    within c.in-Err.ensures.bytes c.in-Err.ensures.at_fetch c.in-Err.ensures.home (λ content told. (content, (c.in-Err.ensures.image content).0 told)) c.in-Err.ensures.sound tt (λ e. c.in-Err.ensures.count.failed)

@@ -6,11 +6,11 @@ use Rattle.zio_plain.proofs.leaf.store.Goals as goal
 
 pub returns-then-leaf-disks-clause-handled : goal.returns-then-leaf-disks-clause-handled
 returns-then-leaf-disks-clause-handled g c =
-    handles_none g.D.Disk.bytes g.D.Disk.faults g.D.Disk.faults_at_fetch g.D.Disk.home g.D.Disk.image _ c.args.disks.now (λ e. cc)
+    handles_none g.D.Disk.bytes g.D.Disk.faults g.D.Disk.faults_at_fetch g.D.Disk.home g.D.Disk.image g.D.Disk.sound _ c.args.disks.now (λ e. cc)
 
 pub returns-in-Ok-clause-told : goal.returns-in-Ok-clause-told
 returns-in-Ok-clause-told g c images tell =
-    let spot : Spot = record { leaf = c.spot.inside.leaf; at = c.spot.inside.at } in
+    let spot : Spot = record { leaf = c.spot.inside.leaf; at = c.spot.inside.at; span = c.spot.inside.span } in
     let view : spot ≡ c.args.spot.now = c.spot.view_is in
     let stored : Tell g.D.Disk.image (set c.args.disks.now c.spot.inside.leaf c.write_at.new.self) (with_bytes images spot c.args.bytes.now) =
     stored_there g.D.Disk.image c.args.disks.now images spot c.args.bytes.now c.index-disks-leaf.result c.write_at.new.self c.if-leaf-disks.false c.in-Ok.ensures.ok tell in
@@ -18,10 +18,10 @@ returns-in-Ok-clause-told g c images tell =
 
 pub returns-in-Ok-clause-handled : goal.returns-in-Ok-clause-handled
 returns-in-Ok-clause-handled g c =
-    handles_one g.D.Disk.bytes g.D.Disk.faults g.D.Disk.faults_at_fetch g.D.Disk.home g.D.Disk.image _ c.args.disks.now c.spot.inside.leaf c.index-disks-leaf.result c.write_at.new.self
-    c.if-leaf-disks.false c.in-Ok.ensures.bytes c.in-Ok.ensures.at_fetch c.in-Ok.ensures.home (λ content told. (_, c.in-Ok.ensures.ok content told)) c.in-Ok.ensures.count.ok (λ e. cc)
+    handles_one g.D.Disk.bytes g.D.Disk.faults g.D.Disk.faults_at_fetch g.D.Disk.home g.D.Disk.image g.D.Disk.sound _ c.args.disks.now c.spot.inside.leaf c.index-disks-leaf.result c.write_at.new.self
+    c.if-leaf-disks.false c.in-Ok.ensures.bytes c.in-Ok.ensures.at_fetch c.in-Ok.ensures.home (λ content told. (_, c.in-Ok.ensures.ok content told)) c.in-Ok.ensures.sound c.in-Ok.ensures.count.ok (λ e. cc)
 
 pub returns-in-Err-clause-handled : goal.returns-in-Err-clause-handled
 returns-in-Err-clause-handled g c =
-    handles_one g.D.Disk.bytes g.D.Disk.faults g.D.Disk.faults_at_fetch g.D.Disk.home g.D.Disk.image _ c.args.disks.now c.spot.inside.leaf c.index-disks-leaf.result c.write_at.new.self
-    c.if-leaf-disks.false c.in-Err.ensures.bytes c.in-Err.ensures.at_fetch c.in-Err.ensures.home (λ content told. (let torn = c.in-Err.ensures.failed content told in (_, torn.2))) tt (λ e. c.in-Err.ensures.count.failed)
+    handles_one g.D.Disk.bytes g.D.Disk.faults g.D.Disk.faults_at_fetch g.D.Disk.home g.D.Disk.image g.D.Disk.sound _ c.args.disks.now c.spot.inside.leaf c.index-disks-leaf.result c.write_at.new.self
+    c.if-leaf-disks.false c.in-Err.ensures.bytes c.in-Err.ensures.at_fetch c.in-Err.ensures.home (λ content told. (let torn = c.in-Err.ensures.failed content told in (_, torn.2))) c.in-Err.ensures.sound tt (λ e. c.in-Err.ensures.count.failed)

@@ -1,7 +1,11 @@
-use Rattle.std.proofs.Common.{true, length}
-use Rattle.zio_plain.proofs.DiskLemmas.{met_ends}
+use Rattle.std.proofs.lemmas.Result.{err_from_is_err_and}
+use Rattle.zio_plain.proofs.DiskLemmas.{handles_none}
 use Rattle.zio_plain.proofs.leaf.write_leaf.Goals as goal
 
-pub write_faulty-requires-clause-to : goal.write_faulty-requires-clause-to
-write_faulty-requires-clause-to g c κs within =
-    met_ends c.args.setting.now c.args.retry true c.args.spot.now (length c.args.bytes.now) c.in-Some.hit c.in-Some.ensures
+pub returns-in_err-whole-clause-handled : goal.returns-in_err-whole-clause-handled
+returns-in_err-whole-clause-handled g c =
+    let p = err_from_is_err_and c.from_residual.result c.from_residual.ensures.1 in
+    let is = p.1 in
+    let same = p.2 in
+    let memory = c.in_err-whole.ensures.err in
+    handles_none g.D.Disk.bytes g.D.Disk.faults g.D.Disk.faults_at_fetch g.D.Disk.home g.D.Disk.image g.D.Disk.sound _ c.args.disks.now (λ e. cc)

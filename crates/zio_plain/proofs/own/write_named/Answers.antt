@@ -12,10 +12,10 @@ use Rattle.zio_plain.proofs.DiskLemmas.{same_itself}
 use Rattle.zio_plain.proofs.own.write_named.Goals as goal
 
 pub returns-in_err-bytes-in-None-clause-same : goal.returns-in_err-bytes-in-None-clause-same
-returns-in_err-bytes-in-None-clause-same g c = same_itself g.D.Disk.bytes g.D.Disk.faults_at_fetch g.D.Disk.home g.D.Disk.image c.args.disks.now
+returns-in_err-bytes-in-None-clause-same g c = same_itself g.D.Disk.bytes g.D.Disk.faults g.D.Disk.faults_at_fetch g.D.Disk.home g.D.Disk.image g.D.Disk.sound c.args.disks.now
 
 pub returns-in-Some-clause-same : goal.returns-in-Some-clause-same
-returns-in-Some-clause-same g c = same_itself g.D.Disk.bytes g.D.Disk.faults_at_fetch g.D.Disk.home g.D.Disk.image c.args.disks.now
+returns-in-Some-clause-same g c = same_itself g.D.Disk.bytes g.D.Disk.faults g.D.Disk.faults_at_fetch g.D.Disk.home g.D.Disk.image g.D.Disk.sound c.args.disks.now
 
 pub returns-in-Some-clause-own : goal.returns-in-Some-clause-own
 returns-in-Some-clause-own g c images before =

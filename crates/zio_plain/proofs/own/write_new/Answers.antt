@@ -1,10 +1,11 @@
 use Rattle.std.proofs.Common.{◌≡◌, ℕ, ◌+◌, List, [], ◌∷◌, ◌++◌, length, map, Some, None, option_to_list, refl, sym, ap, ◌∙◌, subst}
+use Rattle.zio_gang.specs.Trees.{size_of}
 use Rattle.std.proofs.lemmas.Result.{IfOk-weaker}
 use Rattle.zio_types.specs.declared.place.Place.{Place}
 use Rattle.zio_types.specs.declared.place.Top.{Top}
 use Rattle.zio_types.specs.Choices.{Ask, Choice}
 use Rattle.zio_types.specs.Places.{IsLawfulChoice}
-use Rattle.zio_places.specs.Spaces.{SamePlaces}
+use Rattle.zio_types.specs.Places.{SamePlaces}
 use Rattle.zio_cksum.specs.Blocks.{write_piece}
 use Rattle.zio_plain.specs.Batches.{Became, Finished, Waits, places_made, taken_of}
 use Rattle.zio_plain.specs.Rounds.{IsFound, first_ask, own_view, plain_pointer, written_view}
@@ -14,10 +15,10 @@ use Rattle.zio_plain.proofs.FoundLemmas.{IfOk-both, found_sector}
 use Rattle.zio_plain.proofs.own.write_new.Goals as goal
 
 pub returns-in_err-entry-clause-same : goal.returns-in_err-entry-clause-same
-returns-in_err-entry-clause-same g c = same_itself g.D.Disk.bytes g.D.Disk.faults_at_fetch g.D.Disk.home g.D.Disk.image c.args.disks.now
+returns-in_err-entry-clause-same g c = same_itself g.D.Disk.bytes g.D.Disk.faults g.D.Disk.faults_at_fetch g.D.Disk.home g.D.Disk.image g.D.Disk.sound c.args.disks.now
 
 pub returns-then-is_empty-clause-same : goal.returns-then-is_empty-clause-same
-returns-then-is_empty-clause-same g c = same_itself g.D.Disk.bytes g.D.Disk.faults_at_fetch g.D.Disk.home g.D.Disk.image c.args.disks.now
+returns-then-is_empty-clause-same g c = same_itself g.D.Disk.bytes g.D.Disk.faults g.D.Disk.faults_at_fetch g.D.Disk.home g.D.Disk.image g.D.Disk.sound c.args.disks.now
 
 pub returns-then-is_empty-clause-used : goal.returns-then-is_empty-clause-used
 returns-then-is_empty-clause-used g c =
@@ -58,13 +59,13 @@ returns-clause-own g c =
     let n = c.args.rounds in
     let s = c.args.setting.now in
     let bytes = c.args.bytes.now in
-    let lawful : IsLawfulChoice (map (λ (t : Top). t.sectors) s.tops) (g.C.Chooser.used c.args.chooser.now) entry = rw (← c.requires.sizes) c.in_ok-entry.ensures.lawful in
+    let lawful : IsLawfulChoice (map size_of s.tops) (g.C.Chooser.used c.args.chooser.now) entry = rw (← c.requires.sizes) c.in_ok-entry.ensures.lawful in
     let asked : entry.asked ≡ first_ask c.args.request (n + 1) =
     c.in_ok-entry.ensures.asked ∙ ap (λ (k : ℕ). record (first_ask c.args.request (n + 1)) { size = k }) c.requires.size in
     let some : length entry.places ≡ 0 → ⊥ =
     subst (λ (ps : List Place). length ps ≡ 0 → ⊥) c.places_found.ensures (some_by c.is_empty.result c.places_found.result.now c.if-is_empty.false c.is_empty.ensures) in
     let found : IsFound s entry.asked entry =
-    found_sector s (g.C.Chooser.used c.args.chooser.now) entry.asked entry lawful refl (ap (λ (a : Ask). a.size) asked) (ap (λ (a : Ask). a.copies) asked) some in
+    found_sector s (map g.D.Disk.bytes c.args.disks.now) (g.C.Chooser.used c.args.chooser.now) entry.asked entry c.requires.setting lawful refl (ap (λ (a : Ask). a.size) asked) (ap (λ (a : Ask). a.copies) asked) some in
     let birth : c.from-birth.result + 1 ≡ n + 1 = ap (λ (k : ℕ). k + 1) c.from-birth.ensures in
     IfOk-weaker c.write_at.result _ _
     (λ own told images before.

@@ -10,7 +10,7 @@ use Rattle.zio_plain.proofs.read.+repair.Goals as goal
 
 pub returns-in_default-clause-handled : goal.returns-in_default-clause-handled
 returns-in_default-clause-handled g t c =
-    handles_none g.D.Disk.bytes g.D.Disk.faults g.D.Disk.faults_at_fetch g.D.Disk.home g.D.Disk.image _ c.args.disks.now (λ e. cc)
+    handles_none g.D.Disk.bytes g.D.Disk.faults g.D.Disk.faults_at_fetch g.D.Disk.home g.D.Disk.image g.D.Disk.sound _ c.args.disks.now (λ e. cc)
 
 pub returns-then-before-eq0-clause-told : goal.returns-then-before-eq0-clause-told
 returns-then-before-eq0-clause-told g t c images tell =

@@ -12,16 +12,17 @@ use Rattle.zio_plain.proofs.BecameLemmas.{OnOk-both, OnOk-then}
 use Rattle.zio_plain.proofs.DiskLemmas.{same_itself}
 use Rattle.zio_plain.proofs.RunLemmas.{close_of, hold_of, later_of, request_of}
 use Rattle.zio_plain.proofs.TextLemmas.{Appends-none}
+use Rattle.zio_types.specs.declared.place.TopSize.{TopSize}
 use Rattle.zio_plain.proofs.run.run_item.Goals as goal
 
 pub returns-in-Request-clause-same : goal.returns-in-Request-clause-same
-returns-in-Request-clause-same g c = same_itself g.D.Disk.bytes g.D.Disk.faults_at_fetch g.D.Disk.home g.D.Disk.image c.args.disks.now
+returns-in-Request-clause-same g c = same_itself g.D.Disk.bytes g.D.Disk.faults g.D.Disk.faults_at_fetch g.D.Disk.home g.D.Disk.image g.D.Disk.sound c.args.disks.now
 
 pub returns-in-Go-clause-same : goal.returns-in-Go-clause-same
-returns-in-Go-clause-same g c = same_itself g.D.Disk.bytes g.D.Disk.faults_at_fetch g.D.Disk.home g.D.Disk.image c.args.disks.now
+returns-in-Go-clause-same g c = same_itself g.D.Disk.bytes g.D.Disk.faults g.D.Disk.faults_at_fetch g.D.Disk.home g.D.Disk.image g.D.Disk.sound c.args.disks.now
 
 pub returns-in-Go-2-clause-same : goal.returns-in-Go-2-clause-same
-returns-in-Go-2-clause-same g c = same_itself g.D.Disk.bytes g.D.Disk.faults_at_fetch g.D.Disk.home g.D.Disk.image c.args.disks.now
+returns-in-Go-2-clause-same g c = same_itself g.D.Disk.bytes g.D.Disk.faults g.D.Disk.faults_at_fetch g.D.Disk.home g.D.Disk.image g.D.Disk.sound c.args.disks.now
 
 pub returns-in-Request-clause-ran : goal.returns-in-Request-clause-ran
 returns-in-Request-clause-ran g c items rest before now last batch printed roots next stands tells =
@@ -60,7 +61,7 @@ returns-in-Request-2-clause-ran g c =
     subst (λ (i : Item). Stands show s items before now last batch used run j printed (i ∷ rest)) c.in-Request-2.is stands in
     let form : IsPlainRequest last r × IsNewName r batch = subst (IsNextItem last batch) c.in-Request-2.is next in
     let did : Did (sectors_of s) used used_new run run_new r j j_new this.0 this.1 =
-    subst (λ (sizes : List ℕ). Did sizes used used_new run run_new r j j_new this.0 this.1) c.requires.sizes this.5 in (
+    subst (λ (sizes : List TopSize). Did sizes used used_new run run_new r j j_new this.0 this.1) c.requires.sizes this.5 in (
       this.2,
       [],
       subst (λ (i : Item). Stands show s items before this.2 (last_after last i) (batch_after batch i) used_new run_new j_new (printed ++ []) rest) (sym c.in-Request-2.is)

@@ -34,7 +34,7 @@ loop-item-init g c = (
     whole = rw c.new-2.ensures tt;
     past = record { places = omega arith; completions = omega arith };
     sizes = refl;
-    same = same_itself g.D.Disk.bytes g.D.Disk.faults_at_fetch g.D.Disk.home g.D.Disk.image c.args.disks.now;
+    same = same_itself g.D.Disk.bytes g.D.Disk.faults g.D.Disk.faults_at_fetch g.D.Disk.home g.D.Disk.image g.D.Disk.sound c.args.disks.now;
     disk_faults = refl;
     sink_faults = refl;
     grown = Grows-none (g.O.Sink.holds c.args.out.now);
@@ -51,7 +51,7 @@ loop-item-init g c = (
 
 pub returns-in_err-run_item-clause-same : goal.returns-in_err-run_item-clause-same
 returns-in_err-run_item-clause-same g c =
-    same_then g.D.Disk.bytes g.D.Disk.faults_at_fetch g.D.Disk.home g.D.Disk.image c.args.disks.now c.loop-item.disks c.run_item.new.disks
+    same_then g.D.Disk.bytes g.D.Disk.faults g.D.Disk.faults_at_fetch g.D.Disk.home g.D.Disk.image g.D.Disk.sound c.args.disks.now c.loop-item.disks c.run_item.new.disks
     c.loop-item.invariant.2.same c.run_item.ensures.same
 
 pub loop-item-preserved : goal.loop-item-preserved
@@ -77,7 +77,7 @@ loop-item-preserved g c =
         whole = ran.whole;
         past = ran.past;
         sizes = ran.sizes ∙ i.sizes;
-        same = same_then g.D.Disk.bytes g.D.Disk.faults_at_fetch g.D.Disk.home g.D.Disk.image c.args.disks.now c.loop-item.disks c.run_item.new.disks i.same ran.same;
+        same = same_then g.D.Disk.bytes g.D.Disk.faults g.D.Disk.faults_at_fetch g.D.Disk.home g.D.Disk.image g.D.Disk.sound c.args.disks.now c.loop-item.disks c.run_item.new.disks i.same ran.same;
         disk_faults = ran.steady.0 ∙ i.disk_faults;
         sink_faults = ran.steady.1 ∙ i.sink_faults;
         grown = Grows-then (g.O.Sink.holds c.args.out.now) (g.O.Sink.holds c.loop-item.out) (g.O.Sink.holds c.run_item.new.out) i.grown ran.grows;

@@ -20,7 +20,7 @@ invariant-loop-item g l = (last : ℕ) × (batch : List Request) × record {
   whole : AreWhole l.run.lines;
   past : HasPast l.run l.journal;
   sizes : g.C.Chooser.sizes l.chooser ≡ g.C.Chooser.sizes l.fn.chooser;
-  same : AreSameDisks g.D.Disk.bytes g.D.Disk.faults_at_fetch g.D.Disk.home g.D.Disk.image l.fn.disks l.disks;
+  same : AreSameDisks g.D.Disk.bytes g.D.Disk.faults g.D.Disk.faults_at_fetch g.D.Disk.home g.D.Disk.image g.D.Disk.sound l.fn.disks l.disks;
   disk_faults : map g.D.Disk.faults l.disks ≡ map g.D.Disk.faults l.fn.disks;
   sink_faults : g.O.Sink.faults l.out ≡ g.O.Sink.faults l.fn.out;
   grown : Grows (g.O.Sink.holds l.fn.out) (g.O.Sink.holds l.out);

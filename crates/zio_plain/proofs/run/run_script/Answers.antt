@@ -15,13 +15,13 @@ use Rattle.zio_plain.proofs.TextLemmas.{Appends-both, Begins-front, Begins-grown
 use Rattle.zio_plain.proofs.run.run_script.Goals as goal
 
 pub returns-in_err-setting-clause-same : goal.returns-in_err-setting-clause-same
-returns-in_err-setting-clause-same g c = same_itself g.D.Disk.bytes g.D.Disk.faults_at_fetch g.D.Disk.home g.D.Disk.image c.args.disks.now
+returns-in_err-setting-clause-same g c = same_itself g.D.Disk.bytes g.D.Disk.faults g.D.Disk.faults_at_fetch g.D.Disk.home g.D.Disk.image g.D.Disk.sound c.args.disks.now
 
 pub returns-in_err-pool-clause-same : goal.returns-in_err-pool-clause-same
-returns-in_err-pool-clause-same g c = same_itself g.D.Disk.bytes g.D.Disk.faults_at_fetch g.D.Disk.home g.D.Disk.image c.args.disks.now
+returns-in_err-pool-clause-same g c = same_itself g.D.Disk.bytes g.D.Disk.faults g.D.Disk.faults_at_fetch g.D.Disk.home g.D.Disk.image g.D.Disk.sound c.args.disks.now
 
 pub returns-in_err-write_text-clause-same : goal.returns-in_err-write_text-clause-same
-returns-in_err-write_text-clause-same g c = same_itself g.D.Disk.bytes g.D.Disk.faults_at_fetch g.D.Disk.home g.D.Disk.image c.args.disks.now
+returns-in_err-write_text-clause-same g c = same_itself g.D.Disk.bytes g.D.Disk.faults g.D.Disk.faults_at_fetch g.D.Disk.home g.D.Disk.image g.D.Disk.sound c.args.disks.now
 
 pub returns-in_err-write_text-clause-begun : goal.returns-in_err-write_text-clause-begun
 returns-in_err-write_text-clause-begun g c =

@@ -6,10 +6,10 @@ use Rattle.zio_report.specs.Reports.{pool_text}
 use Rattle.zio_run.proofs.serial.run_sized.Goals as goal
 
 pub returns-in_err-tops-clause-same : goal.returns-in_err-tops-clause-same
-returns-in_err-tops-clause-same g c = same_itself g.D.Disk.bytes g.D.Disk.faults_at_fetch g.D.Disk.home g.D.Disk.image c.args.disks.now
+returns-in_err-tops-clause-same g c = same_itself g.D.Disk.bytes g.D.Disk.faults g.D.Disk.faults_at_fetch g.D.Disk.home g.D.Disk.image g.D.Disk.sound c.args.disks.now
 
 pub returns-in_err-space-clause-same : goal.returns-in_err-space-clause-same
-returns-in_err-space-clause-same g c = same_itself g.D.Disk.bytes g.D.Disk.faults_at_fetch g.D.Disk.home g.D.Disk.image c.args.disks.now
+returns-in_err-space-clause-same g c = same_itself g.D.Disk.bytes g.D.Disk.faults g.D.Disk.faults_at_fetch g.D.Disk.home g.D.Disk.image g.D.Disk.sound c.args.disks.now
 
 pub returns-clause-begun : goal.returns-clause-begun
 returns-clause-begun g c =

@@ -5,6 +5,7 @@ use Rattle.zio_report.specs.Reports.{pool_text}
 use Rattle.zio_report.specs.declared.report.Show.{Show}
 use Rattle.zio_run.proofs.ScriptLemmas.{IsFaultOf-read, IsScriptOf-read, no_script}
 use Rattle.zio_run.proofs.CommandLemmas.{one_command}
+use Rattle.zio_run.proofs.DiskLemmas.{not_rose}
 use Rattle.zio_run.specs.Outcomes.{images_line, script_line}
 use Rattle.zio_run.proofs.serial.zio_serial_main.Goals as goal
 
@@ -57,8 +58,8 @@ returns-in-Ok-read_script-clause-complete g c show name text image read command 
     let there = subst (λ (n : List ℕ). g.H.Shelf.image c.args.shelf.now n image) same before in
     elim c.run_on_shelf.ensures.codes [
       | inl good ↦ inl good
-      | inr (inl refused) ↦ elim (c.run_on_shelf.ensures.images refused) [
-        | inl rose ↦ absurd (h rose.0)
+      | inr (inl refused) ↦ elim (c.run_on_shelf.ensures.told_images refused) [
+        | inl rose ↦ absurd (h rose)
         | inr unlawful ↦ absurd (unlawful image tells there lawful)
       ]
       | inr (inr (inl sink)) ↦ absurd (o (c.run_on_shelf.ensures.sink sink))
@@ -98,10 +99,10 @@ pub returns-in_default-clause-complete : goal.returns-in_default-clause-complete
 returns-in_default-clause-complete g c show name text image read command told is tells before lawful s o h d =
     absurd (c.in_default.ensures.command show name command)
 
-pub returns-in-Ok-read_script-clause-images : goal.returns-in-Ok-read_script-clause-images
-returns-in-Ok-read_script-clause-images g c e show name command =
+pub returns-in-Ok-read_script-clause-told_images : goal.returns-in-Ok-read_script-clause-told_images
+returns-in-Ok-read_script-clause-told_images g c e show name command =
     let one = one_command (map string_bytes c.args.words.now) show c.in-Some.command.show name c.in-Some.command.image.now command c.in-Some.ensures.command in
-    elim (c.run_on_shelf.ensures.images e) [
+    elim (c.run_on_shelf.ensures.told_images e) [
       | inl rose ↦ inl rose
       | inr unlawful ↦ inr (λ image tells told. unlawful image tells (subst (λ (n : List ℕ). g.H.Shelf.image c.args.shelf.now n image) one.1 told))
     ]
@@ -110,3 +111,34 @@ pub returns-in-Ok-read_script-clause-measured : goal.returns-in-Ok-read_script-c
 returns-in-Ok-read_script-clause-measured g c e show name image command tells told =
     let one = one_command (map string_bytes c.args.words.now) show c.in-Some.command.show name c.in-Some.command.image.now command c.in-Some.ensures.command in
     c.run_on_shelf.ensures.measured e image tells (subst (λ (n : List ℕ). g.H.Shelf.image c.args.shelf.now n image) one.1 told)
+
+pub returns-in-Ok-read_script-clause-sound : goal.returns-in-Ok-read_script-clause-sound
+returns-in-Ok-read_script-clause-sound g c show name command sound =
+    let one = one_command (map string_bytes c.args.words.now) show c.in-Some.command.show name c.in-Some.command.image.now command c.in-Some.ensures.command in
+    let after = c.run_on_shelf.ensures.sound (subst (λ (n : List ℕ). g.H.Shelf.sound c.args.shelf.now n) one.1 sound) in
+    (subst (λ (n : List ℕ). g.H.Shelf.sound c.run_on_shelf.new.shelf n) (sym one.1) after.0, after.1, after.2)
+
+pub returns-in_default-clause-rest : goal.returns-in_default-clause-rest
+returns-in_default-clause-rest g c show name command failed memory text told =
+    absurd (c.in_default.ensures.command show name command)
+
+pub returns-in-Ok-read_script-clause-sound_run : goal.returns-in-Ok-read_script-clause-sound_run
+returns-in-Ok-read_script-clause-sound_run g c show name text image read command told is tells before lawful source shelf o =
+    let one = one_command (map string_bytes c.args.words.now) show c.in-Some.command.show name c.in-Some.command.image.now command c.in-Some.ensures.command in
+    let here = subst (λ (n : List ℕ). g.H.Shelf.sound c.args.shelf.now n) one.1 shelf in
+    let after = c.run_on_shelf.ensures.sound here in
+    let below = g.met.H.Shelf.sound_counts c.args.shelf.now name shelf in
+    returns-in-Ok-read_script-clause-complete g c show name text image read command told is tells before lawful
+    (not_rose _ _ (c.read_all.ensures.sound source).1 (g.met.S.Source.sound_counts c.args.script.now source)) o
+    (not_rose _ _ after.1 below.0) (not_rose _ _ after.2 below.1)
+
+pub returns-in-Err-Fault-clause-sound_run : goal.returns-in-Err-Fault-clause-sound_run
+returns-in-Err-Fault-clause-sound_run g c show name text image read command told is tells before lawful source shelf o =
+    let below = g.met.H.Shelf.sound_counts c.args.shelf.now name shelf in
+    returns-in-Err-Fault-clause-complete g c show name text image read command told is tells before lawful
+    (not_rose _ _ (c.read_all.ensures.sound source).1 (g.met.S.Source.sound_counts c.args.script.now source)) o
+    (not_rose _ _ refl below.0) (not_rose _ _ refl below.1)
+
+pub returns-in_default-clause-sound_run : goal.returns-in_default-clause-sound_run
+returns-in_default-clause-sound_run g c show name text image read command told is tells before lawful source shelf o =
+    absurd (c.in_default.ensures.command show name command)

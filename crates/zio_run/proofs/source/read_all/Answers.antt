@@ -4,7 +4,7 @@ use Rattle.std.proofs.lemmas.Result.{err_from_is_err_and}
 use Rattle.zio_outside.specs.Outside.{Rose}
 use Rattle.zio_script.specs.declared.read.TheConstants.{SCRIPT_LEN_MAX}
 use Rattle.zio_run.specs.declared.source.ReadFault.TheVariants.{Failed}
-use Rattle.zio_run.proofs.ReadLemmas.{HasRead-end, HasRead-full, HasRead-more}
+use Rattle.zio_run.proofs.ReadLemmas.{HasRead-end, HasRead-end_rest, HasRead-full, HasRead-more}
 use Rattle.zio_run.proofs.source.read_all.Goals as goal
 
 pub returns-in_err-taken-clause-failed : goal.returns-in_err-taken-clause-failed
@@ -38,6 +38,7 @@ loop-bytes-preserved g c = record {
       let within : c.in_ok-taken.taken ≤ length (take c.min-want.result c.deref_mut.result.now) = c.in_ok-taken.ensures.within in
       omega (arith, length-take c.min-want.result c.deref_mut.result.now);
   count = c.in_ok-taken.ensures.count ∙ c.loop-bytes.invariant.count;
+  sound = λ s. (c.in_ok-taken.ensures.sound (c.loop-bytes.invariant.sound s)).0;
   told = λ text told.
       (let before = c.loop-bytes.invariant.told text told in
       let rest = drop (length c.loop-bytes.bytes.items) text in
@@ -53,3 +54,35 @@ returns-clause-read g c text told =
     let short = c.loop-bytes.invariant.short in
     let full : length c.loop-bytes.bytes.items ≡ SCRIPT_LEN_MAX + 1 = omega arith in
     record { read = HasRead-full (g.S.Source.left c.loop-bytes.source) text c.loop-bytes.bytes.items (SCRIPT_LEN_MAX + 1) before full }
+
+pub returns-in_err-taken-clause-sound : goal.returns-in_err-taken-clause-sound
+returns-in_err-taken-clause-sound g c sound =
+    let after = c.read_piece.ensures.sound (c.loop-bytes.invariant.sound sound) in
+    (after.0, after.1 ∙ c.loop-bytes.invariant.count)
+
+pub returns-then-taken-eq0-clause-sound : goal.returns-then-taken-eq0-clause-sound
+returns-then-taken-eq0-clause-sound g c sound =
+    let after = c.read_piece.ensures.sound (c.loop-bytes.invariant.sound sound) in
+    (after.0, after.1 ∙ c.loop-bytes.invariant.count)
+
+pub returns-clause-sound : goal.returns-clause-sound
+returns-clause-sound g c sound = (c.loop-bytes.invariant.sound sound, c.loop-bytes.invariant.count)
+
+pub returns-then-taken-eq0-clause-rest : goal.returns-then-taken-eq0-clause-rest
+returns-then-taken-eq0-clause-rest g c text told =
+    let before = c.loop-bytes.invariant.told text told in
+    let rest = drop (length c.loop-bytes.bytes.items) text in
+    let none = c.in_ok-taken.ensures.at_end rest before.rest c.if-taken-eq0.true in
+    let len = c.loop-bytes.bytes.ok.0 in
+    let short = c.loop-bytes.invariant.short in
+    let small : length c.loop-bytes.bytes.items ≤ SCRIPT_LEN_MAX + 1 = omega arith in
+    HasRead-end_rest (g.S.Source.left c.read_piece.new.source) text c.loop-bytes.bytes.items c.in_ok-taken.taken (SCRIPT_LEN_MAX + 1)
+    none small (c.in_ok-taken.ensures.left rest before.rest)
+
+pub returns-clause-rest : goal.returns-clause-rest
+returns-clause-rest g c text told =
+    let before = c.loop-bytes.invariant.told text told in
+    let len = c.loop-bytes.bytes.ok.0 in
+    let short = c.loop-bytes.invariant.short in
+    let full : length c.loop-bytes.bytes.items ≡ SCRIPT_LEN_MAX + 1 = omega arith in
+    subst (λ (n : ℕ). g.S.Source.left c.loop-bytes.source (drop n text)) full before.rest

@@ -9,6 +9,7 @@ invariant-loop-bytes g l = record {
   piece : vec_len l.piece ≡ PIECE_LEN;
   short : vec_len l.bytes ≤ SCRIPT_LEN_MAX + 1;
   count : g.S.Source.faults l.source ≡ g.S.Source.faults l.fn.source;
+  sound : g.S.Source.sound l.fn.source → g.S.Source.sound l.source;
   told : (text : List ℕ) → g.S.Source.left l.fn.source text → HasRead (g.S.Source.left l.source) text l.bytes.items;
 }
 

@@ -1,7 +1,10 @@
-use Rattle.std.proofs.Common.{◌≡◌, List, ◌++◌, ap, subst, ◌∙◌, append_assoc}
+use Rattle.std.proofs.Common.{◌≡◌, List, ◌++◌, ap, subst, sym, ◌∙◌, append_assoc}
 use Rattle.zio_types.specs.declared.place.Place.{Place}
 use Rattle.zio_types.specs.Choices.{taken_by}
-use Rattle.zio_places.specs.Spaces.{SamePlaces, SpaceState, used}
+use Rattle.zio_types.specs.Places.{SamePlaces}
+use Rattle.zio_places.specs.Ordered.{all_placed_in}
+use Rattle.zio_places.specs.Spaces.{SpaceState, used}
+use Rattle.zio_places.proofs.SetLemmas.{all_placed-same}
 use Rattle.zio_plain.proofs.PlaceLemmas.{SamePlaces-append}
 use Rattle.zio_plain.proofs.chooser.SpaceChooser.choose.Goals as goal
 
@@ -20,5 +23,7 @@ used_after old now new taken live pending kept same =
 pub returns-clause-used : goal.returns-clause-used
 returns-clause-used c =
     used_after c.args.self.now c.reserve.new.self c.take.new.self (taken_by c.take.result)
-    (ap (λ (s : SpaceState). s.live) c.in_ok-reserve.ensures.same) (ap (λ (s : SpaceState). s.pending) c.in_ok-reserve.ensures.same)
-    c.take.ensures.pending c.take.ensures.live
+    (ap (λ (s : SpaceState). s.live) c.in_ok-reserve.ensures.ok) (ap (λ (s : SpaceState). s.pending) c.in_ok-reserve.ensures.ok)
+    c.take.ensures.pending
+    (subst (λ (xs : List Place). SamePlaces xs (taken_by c.take.result ++ c.reserve.new.self.live)) (sym c.take.ensures.live)
+    (all_placed-same (taken_by c.take.result) c.reserve.new.self.live))

@@ -1,6 +1,6 @@
 use Rattle.std.proofs.Common.{refl}
 use Rattle.zio_worked.proofs.Evaluation.{evaluation}
-use Rattle.zio_worked.specs.Formats.{PointerOfOnePlace, PointerInHexadecimal, LargestPointerIsSpelled, LargestPointerIsRead, PointerOfFletcher4IsRead, PointerOfThreeRunsIsRead, FixedFieldsAreFixed, SizesHaveToFit, PlacesHaveToFit, WordsWithoutAChecksumMayBeAny, LengthHasToFit, Fletcher4OfOnes, Fletcher4OfShortBytes, Fletcher4Wraps, Sha256OfAbc, Sha256OfTwoBlocks, Sha256OfNothing, OffChecksNothing, BytesFitTheirSum, OtherWordsDontFit, SplitInAtMostThree, HeaderSumHasPlaceAndBirth, HeaderSumIsSha256, HeaderHasItsMagic}
+use Rattle.zio_worked.specs.Formats.{PointerOfOnePlace, PointerInHexadecimal, LargestPointerIsSpelled, LargestPointerIsRead, PointerOfFletcher4IsRead, PointerOfThreeRunsIsRead, FixedFieldsAreFixed, SizesHaveToFit, PlacesAreRoundedUp, OtherRoundingsAreRefused, PlacesHaveToFit, WordsWithoutAChecksumMayBeAny, LengthHasToFit, Fletcher4OfOnes, Fletcher4OfShortBytes, Fletcher4Wraps, Sha256OfAbc, Sha256OfTwoBlocks, Sha256OfNothing, OffChecksNothing, BytesFitTheirSum, OtherWordsDontFit, SplitInAtMostThree, HeaderSumHasPlaceAndBirth, HeaderSumIsSha256, HeaderHasItsMagic}
 
 pub pointer_of_one_place : PointerOfOnePlace
 unfolding evaluation
@@ -33,6 +33,14 @@ fixed_fields_are_fixed = refl
 pub sizes_have_to_fit : SizesHaveToFit
 unfolding evaluation
 sizes_have_to_fit = refl
+
+pub places_are_rounded_up : PlacesAreRoundedUp
+unfolding evaluation
+places_are_rounded_up = refl
+
+pub other_roundings_are_refused : OtherRoundingsAreRefused
+unfolding evaluation
+other_roundings_are_refused = refl
 
 pub places_have_to_fit : PlacesHaveToFit
 unfolding evaluation

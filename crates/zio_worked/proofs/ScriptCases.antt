@@ -3,7 +3,7 @@ use Rattle.std.proofs.lemmas.Bool.{lt-leb}
 use Rattle.hex.specs.Hex.{decode_pairs}
 use Rattle.zio_script.specs.declared.read.TheConstants.{SCRIPT_LEN_MAX}
 use Rattle.zio_script.specs.Grammar.{read_lines}
-use Rattle.zio_worked.specs.ScriptTexts.{TopAloneIsAScript, WholeScriptIsRead, RootsHaveTheirFlags, ChildrenHaveTheirFlags, BodiesAreRead, BlanksPartWords, EdgesAreAccepted, OthersAreAccepted, WordsHaveToFit, OtherLinesHaveToFit, NumbersAreDecimal, DigitsComeInPairs, LinesMayHaveTwoShapes, NumbersHaveRanges, FaultsHaveRanges, TopsAreCounted, FaultsAreCounted, ClearsAreCounted, RequestsAreCounted, PointersTakeRoom, SizesArePadded, BatchHasALimit, LongTextsAreRefused, LinesHaveAnOrder, NumbersRise, BatchesAreEnded, NamesHaveTheirCharacters, NamesStandOnce, FlagsFollowParents, OnlyAParentIsWrong, ParentsStandBefore, ClaimsStandAlone, DepthHasALimit, ChildrenAreCounted, TopsAreWanted, LeavesStandOnce, FormsMayBeUnbuilt, UnbuiltFormsAreNamed, SkippedLinesAreCounted, FirstLineCounts, LeastWhyCounts}
+use Rattle.zio_worked.specs.ScriptTexts.{TopAloneIsAScript, WholeScriptIsRead, TopsHaveUnits, RootsHaveTheirFlags, ChildrenHaveTheirFlags, BodiesAreRead, BlanksPartWords, EdgesAreAccepted, ReadsMayShareABlock, OthersAreAccepted, WordsHaveToFit, OtherLinesHaveToFit, NumbersAreDecimal, DigitsComeInPairs, SectorMayBeALeaf, LinesMayHaveTwoShapes, NumbersHaveRanges, FaultsHaveRanges, TopsAreCounted, FaultsAreCounted, ClearsAreCounted, RequestsAreCounted, PointersTakeRoom, SizesArePadded, BatchHasALimit, LongTextsAreRefused, LinesHaveAnOrder, NumbersRise, BatchesAreEnded, NamesHaveTheirCharacters, NamesStandOnce, RowsMayTellReadsApart, FlagsFollowParents, OnlyAParentIsWrong, ParentsStandBefore, ClaimsStandAlone, DepthHasALimit, ChildrenAreCounted, TopsAreWanted, LeavesStandOnce, FormsMayBeUnbuilt, UnbuiltFormsAreNamed, SkippedLinesAreCounted, FirstLineCounts, LeastWhyCounts}
 
 pub top_alone_is_a_script : TopAloneIsAScript
 unfolding read_lines decode_pairs
@@ -12,6 +12,10 @@ top_alone_is_a_script = refl
 pub whole_script_is_read : WholeScriptIsRead
 unfolding read_lines decode_pairs
 whole_script_is_read = refl
+
+pub tops_have_units : TopsHaveUnits
+unfolding read_lines decode_pairs
+tops_have_units = refl
 
 pub roots_have_their_flags : RootsHaveTheirFlags
 unfolding read_lines decode_pairs
@@ -33,6 +37,10 @@ pub edges_are_accepted : EdgesAreAccepted
 unfolding read_lines decode_pairs
 edges_are_accepted = refl
 
+pub reads_may_share_a_block : ReadsMayShareABlock
+unfolding read_lines decode_pairs
+reads_may_share_a_block = refl
+
 pub others_are_accepted : OthersAreAccepted
 unfolding read_lines decode_pairs
 others_are_accepted = refl
@@ -52,6 +60,10 @@ numbers_are_decimal = refl
 pub digits_come_in_pairs : DigitsComeInPairs
 unfolding read_lines decode_pairs
 digits_come_in_pairs = refl
+
+pub sector_may_be_a_leaf : SectorMayBeALeaf
+unfolding read_lines decode_pairs
+sector_may_be_a_leaf = refl
 
 pub lines_may_have_two_shapes : LinesMayHaveTwoShapes
 unfolding read_lines decode_pairs
@@ -115,6 +127,10 @@ names_have_their_characters = refl
 pub names_stand_once : NamesStandOnce
 unfolding read_lines decode_pairs
 names_stand_once = refl
+
+pub rows_may_tell_reads_apart : RowsMayTellReadsApart
+unfolding read_lines decode_pairs
+rows_may_tell_reads_apart = refl
 
 pub flags_follow_parents : FlagsFollowParents
 unfolding read_lines decode_pairs

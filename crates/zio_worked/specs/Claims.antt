@@ -246,7 +246,7 @@ claimed_tree = record {
 }
 
 abbrev pub setting : Setting
-setting = record { tops = record { leaves = 0 ∷ []; sectors = 8 } ∷ []; rows = []; point = 0 }
+setting = record { tops = record { leaves = 0 ∷ []; sectors = 8; unit = 1 } ∷ []; rows = []; point = 0 }
 
 abbrev pub KeptHeaderIsGood : Type 0
 KeptHeaderIsGood =

@@ -1,5 +1,5 @@
 -- Bytes of pointers and headers, checksums, and the sizes of a gang's members.
-use Rattle.std.specs.Prelude.{◌≡◌, ℕ, List, [], ◌∷◌, ◌++◌, map, take, replicate, codes, slice_set, Bool, true, false, Option, Some, None, is_some, Result, Ok, Err}
+use Rattle.std.specs.Prelude.{◌≡◌, ℕ, List, [], ◌∷◌, ◌++◌, ◌+◌, ◌^◌, map, take, replicate, codes, slice_set, Bool, true, false, Option, Some, None, is_some, Result, Ok, Err}
 use Rattle.std.specs.List.{flat_map}
 use Rattle.hex.specs.declared.error.FromHexError.{FromHexError}
 use Rattle.hex.specs.Hex.{encode_lower, decode_of}
@@ -44,9 +44,9 @@ PointerInHexadecimal =
 abbrev pub largest_pointer : Bp
 largest_pointer = record {
   count = 3;
-  places = place 0xffffff 0xffffffffffff 1 ∷ place 1 0xffffffffffff 1 ∷ place 0xffffff 2 1 ∷ [];
+  places = place 0xffffff 0xffffffffffff 8 ∷ place 1 0xffffffffffff 4 ∷ place 0xffffff 2 1 ∷ [];
   gang = true;
-  size = 131072;
+  size = 1048576;
   sum = Fletcher4;
   birth = 0xffffffffffffffff;
   words = replicate 4 0xffffffffffffffff;
@@ -54,8 +54,8 @@ largest_pointer = record {
 
 abbrev pub largest_words : List ℕ
 largest_words =
-    0x00ffffff00000001 ∷ 0x8000ffffffffffff ∷ 0x0000000100000001 ∷ 0x8000ffffffffffff
-    ∷ 0x00ffffff00000001 ∷ 0x8000000000000002 ∷ 0x8000070200ff00ff ∷ 0 ∷ 0 ∷ 0 ∷ 0xffffffffffffffff ∷ 1
+    0x00ffffff00000008 ∷ 0x8000ffffffffffff ∷ 0x0000000100000004 ∷ 0x8000ffffffffffff
+    ∷ 0x00ffffff00000001 ∷ 0x8000000000000002 ∷ 0x8000070207ff07ff ∷ 0 ∷ 0 ∷ 0 ∷ 0xffffffffffffffff ∷ 1
     ∷ replicate 4 0xffffffffffffffff
 
 abbrev pub LargestPointerIsSpelled : Type 0
@@ -126,14 +126,35 @@ FixedFieldsAreFixed =
     ∷ changed 7 1 ∷ changed 8 1 ∷ changed 9 1 ∷ changed 10 0 ∷ changed 11 0 ∷ changed 11 2 ∷ [])
     ≡ replicate 14 false
 
--- the logical size is the physical one, and the size that the place has; the largest is 256 sectors
+-- the logical size is the physical one, and the largest is 2,048 sectors
 abbrev pub SizesHaveToFit : Type 0
 SizesHaveToFit =
     map is_pointer (
-    changed 6 0x8000070200000001 ∷ changed 6 0x8000070200010000 ∷ changed 6 0x8000070200010001 ∷ changed 0 2
-    ∷ slice_set (changed 6 0x8000070201000100) 0 257
-    ∷ slice_set (changed 6 0x8000070200ff00ff) 0 256 ∷ slice_set (changed 6 0x8000070200010001) 0 2 ∷ [])
-    ≡ false ∷ false ∷ false ∷ false ∷ false ∷ true ∷ true ∷ []
+    changed 6 0x8000070200000001 ∷ changed 6 0x8000070200010000 ∷ changed 6 0x8000070200010001
+    ∷ slice_set (changed 6 0x8000070208000800) 0 2049
+    ∷ slice_set (changed 6 0x8000070207ff07ff) 0 2048 ∷ slice_set (changed 6 0x8000070200010001) 0 2 ∷ [])
+    ≡ false ∷ false ∷ false ∷ false ∷ true ∷ true ∷ []
+
+-- 1,536 bytes at two places of so many sectors, or a gang's places with these
+abbrev pub of_two_places : ℕ → ℕ → ℕ → List ℕ
+of_two_places gang a b =
+    slice_set (slice_set (slice_set (slice_set (changed 6 0x8000070200020002) 0 a) 1 (gang + 8)) 2 b) 3 (gang + 16)
+
+-- a place has the sectors of the size, or 1 for a gang, rounded up to 1, 2, 4 or 8, whatever the other has
+abbrev pub PlacesAreRoundedUp : Type 0
+PlacesAreRoundedUp =
+    map is_pointer (
+    of_two_places 0 3 3 ∷ of_two_places 0 4 8 ∷ of_two_places 0 8 3
+    ∷ of_two_places (2 ^ 63) 1 1 ∷ of_two_places (2 ^ 63) 2 8 ∷ of_two_places (2 ^ 63) 4 1 ∷ [])
+    ≡ replicate 6 true
+
+-- no other number is one
+abbrev pub OtherRoundingsAreRefused : Type 0
+OtherRoundingsAreRefused =
+    map is_pointer (
+    of_two_places 0 5 3 ∷ of_two_places 0 3 6 ∷ of_two_places 0 2 3 ∷ of_two_places 0 16 4 ∷ of_two_places 0 1 1
+    ∷ of_two_places (2 ^ 63) 3 1 ∷ of_two_places (2 ^ 63) 1 16 ∷ of_two_places (2 ^ 63) 3 3 ∷ [])
+    ≡ replicate 8 false
 
 -- no sectors, grid bits, bits above the top, a sector of 2 ^ 48, a place behind an absent one, bits in an absent place,
 -- and gang bits that differ

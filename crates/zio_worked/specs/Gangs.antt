@@ -3,7 +3,7 @@ use Rattle.std.specs.Prelude.{◌≡◌, ℕ, ◌-◌, List, [], ◌∷◌, ◌+
 use Rattle.zio_types.specs.declared.journal.Role.TheVariants.{Body, Head}
 use Rattle.zio_types.specs.declared.place.Place.{Place}
 use Rattle.zio_types.specs.Choices.{Choice}
-use Rattle.zio_types.specs.Places.{is_free, run_at}
+use Rattle.zio_types.specs.Places.{is_free}
 use Rattle.zio_blkptr.specs.declared.pointer.SumKind.TheVariants.{Off, Fletcher4}
 use Rattle.zio_faults.specs.declared.table.FaultKind.TheVariants.{Eio, Gone, Flip}
 use Rattle.zio_faults.specs.declared.table.On.TheVariants.{Read, Write}
@@ -662,7 +662,7 @@ PlainFreeReadsNothing =
 -- ---- places of a gang
 
 abbrev pub not_used : List Place → List ℕ
-not_used used = filter (λ sector. is_free used (run_at 0 1 sector)) (0 ∷ 1 ∷ 2 ∷ 3 ∷ 4 ∷ 5 ∷ 6 ∷ 7 ∷ [])
+not_used used = filter (λ sector. is_free used (record { top = 0; sector = sector; sectors = 1 })) (0 ∷ 1 ∷ 2 ∷ 3 ∷ 4 ∷ 5 ∷ 6 ∷ 7 ∷ [])
 
 -- a bound gang has its header's places and its members'
 abbrev pub GangUsesAllItsPlaces : Type 0

@@ -1,6 +1,7 @@
 -- Which choices a journal may have for what a run asks.
 use Rattle.std.specs.Prelude.{List, [], ◌∷◌, ◌++◌, codes}
 use Rattle.zio_types.specs.declared.journal.Role.TheVariants.{Body, Head}
+use Rattle.zio_types.specs.declared.place.Place.{Place}
 use Rattle.zio_types.specs.Choices.{Choice}
 use Rattle.zio_blkptr.specs.declared.pointer.SumKind.TheVariants.{Off}
 use Rattle.zio_script.specs.declared.script.Failmode.TheVariants.{Wait}
@@ -11,7 +12,7 @@ use Rattle.zio_gang.specs.Journals.{IsLawfulJournal}
 use Rattle.zio_gang.specs.Runs.{plan_of}
 use Rattle.zio_gang.specs.Trees.{sizes_of}
 use Rattle.zio_worked.specs.Families.{refused_script, refused_choices}
-use Rattle.zio_worked.specs.Scripts.{script, write, choice, place, zeros, rounds_in}
+use Rattle.zio_worked.specs.Scripts.{script, script_over, write, choice, place, zeros, rounds_in}
 use Rattle.zio_worked.specs.Suspension.{broken_script, four_attempts, gang_script, gang_choices}
 
 -- the choices are lawful for the run that they give
@@ -150,3 +151,24 @@ RefusedBeforeTheLast =
     ∷ choice 3 2 0 [] Head 512 2 []
     ∷ choice 2 2 0 [] Body 512 1 (place 0 7 1 ∷ [])
     ∷ choice 5 4 0 [] Body 512 1 (place 0 7 1 ∷ []) ∷ [])
+
+-- ---- a top of two places of eight sectors
+
+abbrev pub IsLawfulUnit : Place → Type 0
+IsLawfulUnit p =
+    IsLawful (script_over Wait (record { leaves = 0 ∷ []; unit = 8 } ∷ []) [] (write 1 (codes "x") Off 1 65 512 ∷ Go ∷ []))
+    (zeros 8192 ∷ []) (choice 1 1 0 [] Body 512 1 (p ∷ []) ∷ [])
+
+-- one sector takes a whole unit
+abbrev pub WholeUnitIsLawful : Type 0
+WholeUnitIsLawful = IsLawfulUnit (place 0 8 8)
+
+-- a place begins at a unit
+abbrev pub PlaceBetweenUnits : Type 0
+PlaceBetweenUnits = ¬ IsLawfulUnit (place 0 4 8)
+
+abbrev pub PlaceOfPartOfAUnit : Type 0
+PlaceOfPartOfAUnit = ¬ IsLawfulUnit (place 0 8 1)
+
+abbrev pub PlaceOfTwoUnits : Type 0
+PlaceOfTwoUnits = ¬ IsLawfulUnit (place 0 0 16)

@@ -8,6 +8,8 @@ pub mod Formats
 pub mod Gangs
 pub mod LawfulJournals
 pub mod Mirrors
+pub mod Reads
 pub mod ScriptTexts
 pub mod Scripts
 pub mod Suspension
+pub mod Units

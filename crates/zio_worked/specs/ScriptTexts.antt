@@ -14,10 +14,13 @@ use Rattle.zio_script.specs.declared.script.Item.{Item}
 use Rattle.zio_script.specs.declared.script.Item.TheVariants.{Request as RequestItem, Go, Clear}
 use Rattle.zio_script.specs.declared.script.Request.{Request}
 use Rattle.zio_script.specs.declared.script.Script.{Script}
+use Rattle.zio_script.specs.declared.script.TopLine.{TopLine}
+use Rattle.zio_script.specs.declared.why.Why.{Why}
+use Rattle.zio_script.specs.declared.why.Why.TheVariants.{Limit}
 use Rattle.zio_script.specs.declared.script.Work.TheVariants.{Null, Read, Write, Claim}
 use Rattle.zio_script.specs.Built.{is_built}
 use Rattle.zio_script.specs.Grammar.{IsFaultIn, IsScriptIn, all_built, fault_at, fault_of, script_of, begun_with}
-use Rattle.zio_script.specs.Lines.{Asked, FaultLine, ClearLine}
+use Rattle.zio_script.specs.Lines.{NewRequest, FaultLine, ClearLine}
 use Rattle.zio_script.specs.Requests.{requests_of}
 use Rattle.zio_script.specs.Whys.{are_too_large, breaks_limit, least_why, refuses_child, sizes_with, whys_of}
 use Rattle.zio_script.specs.Words.{Word, is_word}
@@ -59,18 +62,22 @@ AreAccepted texts = are_accepted texts ≡ map (λ text. true) texts
 abbrev pub claim_line : String → List ℕ
 claim_line words = codes words ++ replicate 128 0x34 ++ replicate 128 0x31 ++ 10 ∷ []
 
+-- a top of these leaves, whose sectors have so many of 512 bytes
+abbrev pub top_of : List ℕ → ℕ → TopLine
+top_of leaves unit = record { leaves = leaves; unit = unit }
+
 -- ---- texts that are accepted
 
 abbrev pub TopAloneIsAScript : Type 0
 TopAloneIsAScript =
-    IsScriptIn all_built (codes "top 0") (record { failmode = Wait; tops = (0 ∷ []) ∷ []; faults = []; items = [] })
+    IsScriptIn all_built (codes "top 0") (record { failmode = Wait; tops = top_of (0 ∷ []) 1 ∷ []; faults = []; items = [] })
 
 abbrev pub whole_text : List ℕ
 whole_text =
     lines (
     "failmode continue"
     ∷ "top 0 1"
-    ∷ "top 2"
+    ∷ "top 2 sector 4096"
     ∷ "fault 1 write 512 1024 0 3 flip first"
     ∷ "fault 2 any 0 268435456 1 65535 gone"
     ∷ "3 null canfail"
@@ -84,7 +91,7 @@ whole_text =
 abbrev pub WholeScriptIsRead : Type 0
 WholeScriptIsRead = IsScriptIn all_built whole_text (record {
   failmode = Continue;
-  tops = (0 ∷ 1 ∷ []) ∷ (2 ∷ []) ∷ [];
+  tops = top_of (0 ∷ 1 ∷ []) 1 ∷ top_of (2 ∷ []) 8 ∷ [];
   faults = in_first_pass (row_at 1 OnWrite 512 1024 0 3 Flip) ∷ row_at 2 Any 0 268435456 1 65535 Gone ∷ [];
   items =
       RequestItem (record { number = 3; work = Null; under = None; canfail = true })
@@ -105,6 +112,25 @@ WholeScriptIsRead = IsScriptIn all_built whole_text (record {
       })
       ∷ Go ∷ [];
 })
+
+-- the size of a sector, in sectors of 512 bytes; the words win over leaves
+abbrev pub TopsHaveUnits : Type 0
+TopsHaveUnits =
+    option_map (λ (script : Script). script.tops) (script_of all_built (
+    lines (
+    "top 0"
+    ∷ "top 1 sector 512"
+    ∷ "top 2 3 sector 1024"
+    ∷ "top 4 5 6 sector 2048"
+    ∷ "top 7 8 9 10 sector 4096"
+    ∷ "top 11 12 13 14" ∷ [])))
+    ≡ Some (
+    top_of (0 ∷ []) 1
+    ∷ top_of (1 ∷ []) 1
+    ∷ top_of (2 ∷ 3 ∷ []) 2
+    ∷ top_of (4 ∷ 5 ∷ 6 ∷ []) 4
+    ∷ top_of (7 ∷ 8 ∷ 9 ∷ 10 ∷ []) 8
+    ∷ top_of (11 ∷ 12 ∷ 13 ∷ 14 ∷ []) 1 ∷ [])
 
 abbrev pub canfail_of : Item → List Bool
 canfail_of (RequestItem r) = r.canfail ∷ []
@@ -155,12 +181,12 @@ BodiesAreRead =
     lines (
     "top 0"
     ∷ "1 write a off 1 sync data 00fFAb"
-    ∷ "2 write b sha256 3 async seq 18446744073709551615 131072"
+    ∷ "2 write b sha256 3 async seq 18446744073709551615 1048576"
     ∷ "3 write c fletcher4 2 sync fill aB 1"
     ∷ "go" ∷ [])))
     ≡ Some (
     Write (codes "a") Off 1 SyncWrite (Hex (0 ∷ 255 ∷ 171 ∷ []))
-    ∷ Write (codes "b") Sha256 3 AsyncWrite (Seq 18446744073709551615 131072)
+    ∷ Write (codes "b") Sha256 3 AsyncWrite (Seq 18446744073709551615 1048576)
     ∷ Write (codes "c") Fletcher4 2 SyncWrite (Fill 171 1) ∷ [])
 
 -- any blanks, tabs and carriage returns part words, and no newline has to come last
@@ -174,10 +200,27 @@ abbrev pub EdgesAreAccepted : Type 0
 EdgesAreAccepted = AreAccepted (
     lines ("top 15" ∷ "fault 15 read 268435456 268435456 65534 65535 eio first" ∷ "65535 null" ∷ "go" ∷ [])
     ∷ lines (
-    "top 0 1 2 3"
+    "top 0 1 2 3 sector 4096"
     ∷ "top 4" ∷ "top 5" ∷ "top 6" ∷ "top 7" ∷ "top 8" ∷ "top 9" ∷ "top 10"
-    ∷ "1 write abcdefghijklm_89 off 3 sync seq 0 131072"
+    ∷ "1 write abcdefghijklm_89 off 3 sync seq 0 1048576"
     ∷ "go" ∷ "clear" ∷ "clear" ∷ []) ∷ [])
+
+-- reads of one batch may name one block, unless a row is `first` or `flip`
+abbrev pub ReadsMayShareABlock : Type 0
+ReadsMayShareABlock = AreAccepted (
+    lines ("top 0" ∷ "1 read x sync" ∷ "2 read x sync" ∷ "go" ∷ [])
+    ∷ lines ("top 0" ∷ "1 read x sync" ∷ "2 null canfail" ∷ "3 read x async under 2" ∷ "4 read x scrub under 1" ∷ "go" ∷ [])
+    ∷ lines (
+    "top 0 1"
+    ∷ "fault 0 write 0 65536 0 1 eio"
+    ∷ "1 write x sha256 1 sync fill 41 512"
+    ∷ "go"
+    ∷ "clear"
+    ∷ "2 read x sync"
+    ∷ "3 read x sync"
+    ∷ "go" ∷ [])
+    ∷ lines ("top 0" ∷ "fault 0 read 0 1 0 1 gone" ∷ "1 read x sync" ∷ "2 read x sync" ∷ "go" ∷ [])
+    ∷ lines ("top 0" ∷ "fault 0 any 0 1 0 1 flip" ∷ "1 read x sync" ∷ "go" ∷ "2 read x sync" ∷ "go" ∷ []) ∷ [])
 
 -- a block may be named again in the next batch, `must` may stand under what may fail, and children may stand deep
 abbrev pub OthersAreAccepted : Type 0
@@ -209,6 +252,8 @@ abbrev pub OtherLinesHaveToFit : Type 0
 OtherLinesHaveToFit = AreFaulty (
     faulty ("top" ∷ []) 1 1
     ∷ faulty ("top 0 1 2 3 4" ∷ []) 1 1
+    ∷ faulty ("top 0 1 2 3 4 sector 512" ∷ []) 1 1
+    ∷ faulty ("top 0 1 sector 512 2" ∷ []) 1 1
     ∷ faulty ("failmode stop" ∷ []) 1 1
     ∷ faulty ("failmode wait wait" ∷ []) 1 1
     ∷ in_top ("fault 0 read 0 1 0 eio" ∷ []) 2 1
@@ -228,6 +273,9 @@ NumbersAreDecimal = AreFaulty (
     ∷ faulty ("top 0x1" ∷ []) 1 2
     ∷ faulty ("top 18446744073709551616" ∷ []) 1 2
     ∷ faulty ("top 18446744073709551615" ∷ []) 1 3
+    ∷ faulty ("top 0 sector 0512" ∷ []) 1 2
+    ∷ faulty ("top 0 sector x" ∷ []) 1 2
+    ∷ faulty ("top 0 sector 18446744073709551616" ∷ []) 1 2
     ∷ in_top ("fault 0 read 0 1 0 1. eio" ∷ []) 2 2
     ∷ in_top ("01 null" ∷ []) 2 2
     ∷ in_top ("1 null under x" ∷ []) 2 2
@@ -249,6 +297,17 @@ DigitsComeInPairs = AreFaulty (
     ∷ in_top ("1 claim x 00" ∷ []) 2 3
     ∷ faulty_text (lines ("top 0" ∷ []) ++ codes "1 claim x 00" ++ claim_line "") 2 3 ∷ [])
 
+-- where `sector` doesn't stand before the last word, or no leaf before it, it is a leaf that is no number
+abbrev pub SectorMayBeALeaf : Type 0
+SectorMayBeALeaf = AreFaulty (
+    faulty ("top 0 sector" ∷ []) 1 2
+    ∷ faulty ("top sector" ∷ []) 1 2
+    ∷ faulty ("top sector 512" ∷ []) 1 2
+    ∷ faulty ("top 0 1 2 sector" ∷ []) 1 2
+    ∷ faulty ("top 0 sector 512 1" ∷ []) 1 2
+    ∷ faulty ("top sector sector 512" ∷ []) 1 2
+    ∷ faulty ("top 0 sector 512 sector 512" ∷ []) 1 2 ∷ [])
+
 -- a word in capitals is any word, so these are requests whose N is no number
 abbrev pub LinesMayHaveTwoShapes : Type 0
 LinesMayHaveTwoShapes = AreFaulty (
@@ -266,6 +325,10 @@ LinesMayHaveTwoShapes = AreFaulty (
 abbrev pub NumbersHaveRanges : Type 0
 NumbersHaveRanges = AreFaulty (
     faulty ("top 16" ∷ []) 1 3
+    ∷ faulty ("top 0 sector 768" ∷ []) 1 3
+    ∷ faulty ("top 0 sector 0" ∷ []) 1 3
+    ∷ faulty ("top 0 1 sector 256" ∷ []) 1 3
+    ∷ faulty ("top 0 1 sector 8192" ∷ []) 1 3
     ∷ in_top ("0 null" ∷ []) 2 3
     ∷ in_top ("65536 null" ∷ []) 2 3
     ∷ in_top ("1 null" ∷ "2 null under 0" ∷ []) 3 3
@@ -273,8 +336,8 @@ NumbersHaveRanges = AreFaulty (
     ∷ in_top ("1 write x off 0 sync fill 00 1" ∷ []) 2 3
     ∷ in_top ("1 write x off 4 sync fill 00 1" ∷ []) 2 3
     ∷ in_top ("1 write x off 1 sync fill 00 0" ∷ []) 2 3
-    ∷ in_top ("1 write x off 1 sync fill 00 131073" ∷ []) 2 3
-    ∷ in_top ("1 write x off 1 sync seq 0 131073" ∷ []) 2 3 ∷ [])
+    ∷ in_top ("1 write x fletcher4 1 async fill 41 1048577" ∷ []) 2 3
+    ∷ in_top ("1 write x off 1 sync seq 0 1048577" ∷ []) 2 3 ∷ [])
 
 abbrev pub FaultsHaveRanges : Type 0
 FaultsHaveRanges = AreFaulty (
@@ -297,27 +360,27 @@ TopsAreCounted = AreFaulty (
 abbrev pub script_with : ℕ → List Item → Script
 script_with faults items = record {
   failmode = Wait;
-  tops = (0 ∷ []) ∷ [];
+  tops = top_of (0 ∷ []) 1 ∷ [];
   faults = replicate faults (row_at 0 Any 0 1 0 1 Eio);
   items = items;
 }
 
-abbrev pub fault_line_why : ℕ → Option ℕ
+abbrev pub fault_line_why : ℕ → Option Why
 fault_line_why faults = least_why (whys_of (begun_with (script_with faults [])) (FaultLine (row_at 0 Any 0 1 0 1 Eio)))
 
 abbrev pub FaultsAreCounted : Type 0
-FaultsAreCounted = map fault_line_why (255 ∷ 256 ∷ []) ≡ None ∷ Some 3 ∷ []
+FaultsAreCounted = map fault_line_why (255 ∷ 256 ∷ []) ≡ None ∷ Some Limit ∷ []
 
-abbrev pub clear_line_why : ℕ → Option ℕ
+abbrev pub clear_line_why : ℕ → Option Why
 clear_line_why clears = least_why (whys_of (begun_with (script_with 0 (replicate clears Clear))) ClearLine)
 
 abbrev pub ClearsAreCounted : Type 0
-ClearsAreCounted = map clear_line_why (65533 ∷ 65534 ∷ []) ≡ None ∷ Some 3 ∷ []
+ClearsAreCounted = map clear_line_why (65533 ∷ 65534 ∷ []) ≡ None ∷ Some Limit ∷ []
 
 abbrev pub null_request : ℕ → Option ℕ → Bool → Request
 null_request number under canfail = record { number = number; work = Null; under = under; canfail = canfail }
 
-abbrev pub null_asked : Asked
+abbrev pub null_asked : NewRequest
 null_asked = record { number = 9; work = Null; under = None; flag = None }
 
 abbrev pub RequestsAreCounted : Type 0
@@ -327,13 +390,13 @@ RequestsAreCounted =
 -- a child's pointer takes 128 bytes of its parent; a child that is too much is the faulty line, whatever else it is
 abbrev pub PointersTakeRoom : Type 0
 PointersTakeRoom = AreFaulty (
-    in_top ("1 write a off 1 sync fill 00 131072" ∷ "2 write b off 1 sync fill 00 1 under 1" ∷ []) 3 3
-    ∷ in_top ("2 write a off 1 sync fill 00 131072" ∷ "1 write b off 1 sync fill 00 1 under 2" ∷ []) 3 3
-    ∷ in_top ("1 write a off 1 sync fill 00 131072" ∷ "2 null under 1" ∷ []) 3 8
-    ∷ in_top ("1 write a off 1 sync fill 00 131072" ∷ "1 write b off 1 sync fill 00 1 under 3" ∷ []) 3 4
+    in_top ("1 write a off 1 sync fill 00 1048576" ∷ "2 write b off 1 sync fill 00 1 under 1" ∷ []) 3 3
+    ∷ in_top ("2 write a off 1 sync fill 00 1048576" ∷ "1 write b off 1 sync fill 00 1 under 2" ∷ []) 3 3
+    ∷ in_top ("1 write a off 1 sync fill 00 1048576" ∷ "2 null under 1" ∷ []) 3 8
+    ∷ in_top ("1 write a off 1 sync fill 00 1048576" ∷ "1 write b off 1 sync fill 00 1 under 3" ∷ []) 3 4
     ∷ in_top (
-    "1 write a off 1 sync fill 00 130944"
-    ∷ "2 write b off 1 sync fill 00 131072 under 1"
+    "1 write a off 1 sync fill 00 1048448"
+    ∷ "2 write b off 1 sync fill 00 1048576 under 1"
     ∷ "3 write c off 1 sync fill 00 1 under 1" ∷ []) 4 3 ∷ [])
 
 abbrev pub write_request : ℕ → ℕ → Option ℕ → Request
@@ -353,10 +416,10 @@ SizesArePadded =
     ∷ null_request 3 None false ∷ []) (write_request 4 1 (Some 1))
     ≡ 1024 ∷ 512 ∷ 0 ∷ 512 ∷ []
 
--- 128 writes of 131,072 bytes are 16 MiB
+-- 16 writes of 1,048,576 bytes are 16 MiB
 abbrev pub BatchHasALimit : Type 0
 BatchHasALimit =
-    are_too_large (replicate 128 131072) ∷ are_too_large (512 ∷ replicate 128 131072) ∷ are_too_large (131584 ∷ []) ∷ []
+    are_too_large (replicate 16 1048576) ∷ are_too_large (512 ∷ replicate 16 1048576) ∷ are_too_large (1049088 ∷ []) ∷ []
     ≡ false ∷ true ∷ true ∷ []
 
 -- a text of more than 16 MiB, whatever it is
@@ -404,12 +467,34 @@ NamesHaveTheirCharacters = AreFaulty (
     ∷ in_top ("1 write abcdefghijklmnopq off 1 sync data 00" ∷ []) 2 5
     ∷ faulty_text (lines ("top 0" ∷ []) ++ claim_line "1 claim x{ ") 2 5 ∷ [])
 
+-- a name again, where one of the lines is no read
 abbrev pub NamesStandOnce : Type 0
 NamesStandOnce = AreFaulty (
-    in_top ("1 read x sync" ∷ "2 read x sync" ∷ "go" ∷ []) 3 6
+    in_top ("1 read x sync" ∷ "2 free x" ∷ []) 3 6
+    ∷ in_top ("1 write x off 1 sync data 00" ∷ "2 read x sync" ∷ []) 3 6
+    ∷ in_top ("1 read x sync" ∷ "2 read x sync" ∷ "3 write x off 1 sync data 00" ∷ []) 4 6
     ∷ in_top ("1 write x off 1 sync data 00" ∷ "2 read xx sync" ∷ "3 free x" ∷ []) 4 6
-    ∷ in_top ("1 null" ∷ "2 read x sync under 1" ∷ "3 read x async" ∷ []) 4 6
     ∷ faulty_text (lines ("top 0" ∷ "1 read x sync" ∷ []) ++ claim_line "2 claim x ") 3 6 ∷ [])
+
+-- a row that is `first` or `flip`, whatever else it is, tells reads apart
+abbrev pub RowsMayTellReadsApart : Type 0
+RowsMayTellReadsApart = AreFaulty (
+    faulty (
+    "top 0 1"
+    ∷ "fault 0 write 0 65536 0 1 eio first"
+    ∷ "1 write x sha256 1 sync fill 41 512"
+    ∷ "go"
+    ∷ "clear"
+    ∷ "2 read x sync"
+    ∷ "3 read x sync"
+    ∷ "go" ∷ []) 7 6
+    ∷ faulty (
+    "top 0 1"
+    ∷ "fault 0 any 0 1 0 1 eio"
+    ∷ "fault 1 write 0 1 9 10 flip"
+    ∷ "1 read x sync"
+    ∷ "2 read x scrub" ∷ []) 5 6
+    ∷ in_top ("fault 0 read 0 1 0 1 gone first" ∷ "1 read x sync" ∷ "2 read x sync" ∷ []) 4 6 ∷ [])
 
 -- ---- whys 7 and 8: parents
 
@@ -436,7 +521,7 @@ ParentsStandBefore = AreFaulty (
     ∷ in_top ("1 null" ∷ "go" ∷ "2 null under 1" ∷ []) 4 8
     ∷ in_top ("1 free x" ∷ "2 null under 1" ∷ []) 3 8
     ∷ in_top ("1 write x off 1 sync data 00" ∷ "2 read y sync under 1" ∷ []) 3 8
-    ∷ in_top ("5 write x off 1 sync fill 00 131072 under 5" ∷ []) 2 8 ∷ [])
+    ∷ in_top ("5 write x off 1 sync fill 00 1048576 under 5" ∷ []) 2 8 ∷ [])
 
 abbrev pub ClaimsStandAlone : Type 0
 ClaimsStandAlone = AreFaulty (
@@ -502,6 +587,7 @@ UnbuiltFormsAreNamed = AreFaultyIn is_built (
     faulty ("failmode wait" ∷ []) 1 10
     ∷ faulty ("top" ∷ []) 1 10
     ∷ faulty ("top 0 1" ∷ []) 1 10
+    ∷ faulty ("top 0 sector 512" ∷ []) 1 10
     ∷ in_top ("fault" ∷ []) 2 10
     ∷ in_top ("clear up" ∷ []) 2 10
     ∷ in_top ("1 null" ∷ []) 2 10
@@ -516,7 +602,9 @@ UnbuiltFormsAreNamed = AreFaultyIn is_built (
     ∷ in_top ("1 write x off 1 sync data 00 under" ∷ []) 2 10
     ∷ in_top ("1 read x soon must" ∷ []) 2 10
     ∷ in_top ("1 read x sync more" ∷ []) 2 1
-    ∷ in_top ("1 read X sync" ∷ "clear" ∷ []) 2 5 ∷ [])
+    ∷ in_top ("1 read X sync" ∷ "clear" ∷ []) 2 5
+    ∷ in_top ("1 read x sync" ∷ "2 read x sync" ∷ "3 write x off 1 sync fill 00 1" ∷ []) 4 6
+    ∷ in_top ("1 write x off 1 sync fill 00 1048577" ∷ []) 2 10 ∷ [])
 
 -- ---- which fault counts
 
@@ -538,12 +626,13 @@ abbrev pub LeastWhyCounts : Type 0
 LeastWhyCounts = AreFaulty (
     faulty ("top 16 x" ∷ []) 1 2
     ∷ faulty ("top 0 0 16" ∷ []) 1 3
+    ∷ faulty ("top 0 0 sector 768" ∷ []) 1 3
     ∷ faulty ("fault 16 any 0 1 0 1 eio" ∷ []) 1 3
     ∷ faulty ("fault 0 any 0 1 0 1 eio" ∷ []) 1 4
     ∷ in_top ("fault 0 any 0 1 0 1 eio" ∷ "top 0" ∷ []) 3 4
     ∷ in_top ("0 read X sync" ∷ []) 2 3
     ∷ in_top ("1 read x sync" ∷ "1 read x sync" ∷ []) 3 4
     ∷ in_top ("1 null" ∷ "2 read X sync under 1 canfail" ∷ []) 3 5
-    ∷ in_top ("1 null" ∷ "2 read x sync" ∷ "3 read x sync under 1 canfail" ∷ []) 4 6
-    ∷ in_top ("1 read x sync" ∷ "2 read x sync under 3" ∷ []) 3 6
+    ∷ in_top ("1 null" ∷ "2 read x sync" ∷ "3 free x under 1 canfail" ∷ []) 4 6
+    ∷ in_top ("1 read x sync" ∷ "2 free x under 3" ∷ []) 3 6
     ∷ in_top ("1 free x" ∷ "2 null under 1 canfail" ∷ []) 3 7 ∷ [])

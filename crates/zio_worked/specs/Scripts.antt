@@ -1,6 +1,6 @@
 -- Short words for scripts over small images, and what a run of one shows and leaves.
 use Prim.Native.String.{String}
-use Rattle.std.specs.Prelude.{ℕ, ◌*◌, List, [], ◌∷◌, ◌++◌, length, filter, replicate, Bool, true, false, Option, Some, None, codes, ◌==◌, option_map}
+use Rattle.std.specs.Prelude.{ℕ, ◌*◌, List, [], ◌∷◌, ◌++◌, length, filter, replicate, Bool, true, false, Option, Some, None, codes, ◌==◌, option_map, map}
 use Rattle.std.specs.List.{flat_map}
 use Rattle.zio_types.specs.declared.error.Errno.{Errno}
 use Rattle.zio_types.specs.declared.journal.Completion.{Completion}
@@ -21,6 +21,7 @@ use Rattle.zio_script.specs.declared.script.Failmode.{Failmode}
 use Rattle.zio_script.specs.declared.script.Item.{Item}
 use Rattle.zio_script.specs.declared.script.Item.TheVariants.{Request as RequestLine, Go, Clear}
 use Rattle.zio_script.specs.declared.script.Script.{Script}
+use Rattle.zio_script.specs.declared.script.TopLine.{TopLine}
 use Rattle.zio_script.specs.declared.script.Work.TheVariants.{Null, Read, Write, Free, Claim}
 use Rattle.zio_cksum.specs.Images.{Images}
 use Rattle.zio_gang.specs.Attempts.{Ended}
@@ -132,8 +133,15 @@ choice request round attempt path role size copies places = record {
   places = places;
 }
 
+abbrev pub script_over : Failmode → List TopLine → List Row → List Item → Script
+script_over failmode tops rows items = record { failmode = failmode; tops = tops; faults = rows; items = items }
+
+-- a top of these leaves whose unit is one sector
+abbrev pub top_line : List ℕ → TopLine
+top_line leaves = record { leaves = leaves; unit = 1 }
+
 abbrev pub script : Failmode → List (List ℕ) → List Row → List Item → Script
-script failmode tops rows items = record { failmode = failmode; tops = tops; faults = rows; items = items }
+script failmode tops rows items = script_over failmode (map top_line tops) rows items
 
 -- the same over so many sectors, from this one on
 abbrev pub fault_over : ℕ → On → ℕ → ℕ → ℕ → ℕ → FaultKind → Row

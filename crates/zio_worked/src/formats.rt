@@ -1,4 +1,4 @@
-ghost use Rattle.zio_worked.specs.Formats.{PointerOfOnePlace, PointerInHexadecimal, LargestPointerIsSpelled, LargestPointerIsRead, PointerOfFletcher4IsRead, PointerOfThreeRunsIsRead, FixedFieldsAreFixed, SizesHaveToFit, PlacesHaveToFit, WordsWithoutAChecksumMayBeAny, LengthHasToFit, Fletcher4OfOnes, Fletcher4OfShortBytes, Fletcher4Wraps, Sha256OfAbc, Sha256OfTwoBlocks, Sha256OfNothing, OffChecksNothing, BytesFitTheirSum, OtherWordsDontFit, SplitInAtMostThree, HeaderSumHasPlaceAndBirth, HeaderSumIsSha256, HeaderHasItsMagic};
+ghost use Rattle.zio_worked.specs.Formats.{PointerOfOnePlace, PointerInHexadecimal, LargestPointerIsSpelled, LargestPointerIsRead, PointerOfFletcher4IsRead, PointerOfThreeRunsIsRead, FixedFieldsAreFixed, SizesHaveToFit, PlacesAreRoundedUp, OtherRoundingsAreRefused, PlacesHaveToFit, WordsWithoutAChecksumMayBeAny, LengthHasToFit, Fletcher4OfOnes, Fletcher4OfShortBytes, Fletcher4Wraps, Sha256OfAbc, Sha256OfTwoBlocks, Sha256OfNothing, OffChecksNothing, BytesFitTheirSum, OtherWordsDontFit, SplitInAtMostThree, HeaderSumHasPlaceAndBirth, HeaderSumIsSha256, HeaderHasItsMagic};
 
 /// Pointers, headers, checksums and splits are spelled as docs/FORMATS.md says.
 pub fn formats_are_spelled()
@@ -10,6 +10,8 @@ pub fn formats_are_spelled()
     ensures pointer_of_three_runs_is_read { PointerOfThreeRunsIsRead }
     ensures fixed_fields_are_fixed { FixedFieldsAreFixed }
     ensures sizes_have_to_fit { SizesHaveToFit }
+    ensures places_are_rounded_up { PlacesAreRoundedUp }
+    ensures other_roundings_are_refused { OtherRoundingsAreRefused }
     ensures places_have_to_fit { PlacesHaveToFit }
     ensures words_without_a_checksum_may_be_any { WordsWithoutAChecksumMayBeAny }
     ensures length_has_to_fit { LengthHasToFit }

@@ -1,4 +1,4 @@
-ghost use Rattle.zio_worked.specs.LawfulJournals.{PairIsLawful, OtherOrderIsLawful, KeyNotAskedFor, KeyTwice, AskWithoutChoice, OtherSize, RoundThatWasNotRun, PlaceOfAnother, PlaceOutside, PlaceTooShort, TooManyPlaces, RefusedWithRoom, PlaceOfBoundBlock, PlaceOfEarlierAttempt, GivenBackIsLawful, CopyOnUsedTop, SecondCopyIsLawful, RefusedIsLawful, GangIsLawful, RefusedBeforeTheLast};
+ghost use Rattle.zio_worked.specs.LawfulJournals.{PairIsLawful, OtherOrderIsLawful, KeyNotAskedFor, KeyTwice, AskWithoutChoice, OtherSize, RoundThatWasNotRun, PlaceOfAnother, PlaceOutside, PlaceTooShort, TooManyPlaces, RefusedWithRoom, PlaceOfBoundBlock, PlaceOfEarlierAttempt, GivenBackIsLawful, CopyOnUsedTop, SecondCopyIsLawful, RefusedIsLawful, GangIsLawful, RefusedBeforeTheLast, WholeUnitIsLawful, PlaceBetweenUnits, PlaceOfPartOfAUnit, PlaceOfTwoUnits};
 
 /// A journal answers all that its run asks for and nothing else, with places that were free.
 pub fn lawful_journals_answer_what_is_asked()
@@ -22,4 +22,8 @@ pub fn lawful_journals_answer_what_is_asked()
     ensures refused_is_lawful { RefusedIsLawful }
     ensures gang_is_lawful { GangIsLawful }
     ensures refused_before_the_last { RefusedBeforeTheLast }
+    ensures whole_unit_is_lawful { WholeUnitIsLawful }
+    ensures place_between_units { PlaceBetweenUnits }
+    ensures place_of_part_of_a_unit { PlaceOfPartOfAUnit }
+    ensures place_of_two_units { PlaceOfTwoUnits }
 {}

@@ -11,8 +11,10 @@ mod formats;
 mod gangs;
 mod journals;
 mod mirrors;
+mod reads;
 mod scripts;
 mod suspension;
+mod units;
 
 pub use admission::admission_answers_whole_trees;
 pub use blocks::blocks_are_written_and_read;
@@ -24,5 +26,7 @@ pub use formats::formats_are_spelled;
 pub use gangs::gangs_take_scattered_space;
 pub use journals::lawful_journals_answer_what_is_asked;
 pub use mirrors::mirrors_give_and_mend;
+pub use reads::reads_blame_and_mend;
 pub use scripts::scripts_are_read;
 pub use suspension::suspended_trees_wait_for_a_clear;
+pub use units::units_are_stored_whole;

@@ -1,19 +1,22 @@
-ghost use Rattle.zio_worked.specs.ScriptTexts.{TopAloneIsAScript, WholeScriptIsRead, RootsHaveTheirFlags, ChildrenHaveTheirFlags, BodiesAreRead, BlanksPartWords, EdgesAreAccepted, OthersAreAccepted, WordsHaveToFit, OtherLinesHaveToFit, NumbersAreDecimal, DigitsComeInPairs, LinesMayHaveTwoShapes, NumbersHaveRanges, FaultsHaveRanges, TopsAreCounted, FaultsAreCounted, ClearsAreCounted, RequestsAreCounted, PointersTakeRoom, SizesArePadded, BatchHasALimit, LongTextsAreRefused, LinesHaveAnOrder, NumbersRise, BatchesAreEnded, NamesHaveTheirCharacters, NamesStandOnce, FlagsFollowParents, OnlyAParentIsWrong, ParentsStandBefore, ClaimsStandAlone, DepthHasALimit, ChildrenAreCounted, TopsAreWanted, LeavesStandOnce, FormsMayBeUnbuilt, UnbuiltFormsAreNamed, SkippedLinesAreCounted, FirstLineCounts, LeastWhyCounts};
+ghost use Rattle.zio_worked.specs.ScriptTexts.{TopAloneIsAScript, WholeScriptIsRead, TopsHaveUnits, RootsHaveTheirFlags, ChildrenHaveTheirFlags, BodiesAreRead, BlanksPartWords, EdgesAreAccepted, ReadsMayShareABlock, OthersAreAccepted, WordsHaveToFit, OtherLinesHaveToFit, NumbersAreDecimal, DigitsComeInPairs, SectorMayBeALeaf, LinesMayHaveTwoShapes, NumbersHaveRanges, FaultsHaveRanges, TopsAreCounted, FaultsAreCounted, ClearsAreCounted, RequestsAreCounted, PointersTakeRoom, SizesArePadded, BatchHasALimit, LongTextsAreRefused, LinesHaveAnOrder, NumbersRise, BatchesAreEnded, NamesHaveTheirCharacters, NamesStandOnce, RowsMayTellReadsApart, FlagsFollowParents, OnlyAParentIsWrong, ParentsStandBefore, ClaimsStandAlone, DepthHasALimit, ChildrenAreCounted, TopsAreWanted, LeavesStandOnce, FormsMayBeUnbuilt, UnbuiltFormsAreNamed, SkippedLinesAreCounted, FirstLineCounts, LeastWhyCounts};
 
 /// Texts are read as scripts, or refused with their first faulty line and its least why.
 pub fn scripts_are_read()
     ensures top_alone_is_a_script { TopAloneIsAScript }
     ensures whole_script_is_read { WholeScriptIsRead }
+    ensures tops_have_units { TopsHaveUnits }
     ensures roots_have_their_flags { RootsHaveTheirFlags }
     ensures children_have_their_flags { ChildrenHaveTheirFlags }
     ensures bodies_are_read { BodiesAreRead }
     ensures blanks_part_words { BlanksPartWords }
     ensures edges_are_accepted { EdgesAreAccepted }
+    ensures reads_may_share_a_block { ReadsMayShareABlock }
     ensures others_are_accepted { OthersAreAccepted }
     ensures words_have_to_fit { WordsHaveToFit }
     ensures other_lines_have_to_fit { OtherLinesHaveToFit }
     ensures numbers_are_decimal { NumbersAreDecimal }
     ensures digits_come_in_pairs { DigitsComeInPairs }
+    ensures sector_may_be_a_leaf { SectorMayBeALeaf }
     ensures lines_may_have_two_shapes { LinesMayHaveTwoShapes }
     ensures numbers_have_ranges { NumbersHaveRanges }
     ensures faults_have_ranges { FaultsHaveRanges }
@@ -30,6 +33,7 @@ pub fn scripts_are_read()
     ensures batches_are_ended { BatchesAreEnded }
     ensures names_have_their_characters { NamesHaveTheirCharacters }
     ensures names_stand_once { NamesStandOnce }
+    ensures rows_may_tell_reads_apart { RowsMayTellReadsApart }
     ensures flags_follow_parents { FlagsFollowParents }
     ensures only_a_parent_is_wrong { OnlyAParentIsWrong }
     ensures parents_stand_before { ParentsStandBefore }

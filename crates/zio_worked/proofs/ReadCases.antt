@@ -1,0 +1,35 @@
+use Rattle.std.proofs.Common.{refl}
+use Rattle.zio_worked.proofs.Evaluation.{evaluation}
+use Rattle.zio_worked.specs.Reads.{MissingDeviceUnderPanicStopsTheRun, EachPlaceOfAClaimIsTested, PointerBelowTheDeepestIsTested, WorstErrorOfTheBodiesCounts, WorstErrorOfTheHeadersCounts, EveryCopyBeforeTheGoodOneIsMended, FirstPassMendsInTheFirst, RetryMendsInTheRetry}
+
+pub missing_device_under_panic_stops_the_run : MissingDeviceUnderPanicStopsTheRun
+unfolding evaluation
+missing_device_under_panic_stops_the_run = refl
+
+pub each_place_of_a_claim_is_tested : EachPlaceOfAClaimIsTested
+unfolding evaluation
+each_place_of_a_claim_is_tested = refl
+
+pub pointer_below_the_deepest_is_tested : PointerBelowTheDeepestIsTested
+unfolding evaluation
+pointer_below_the_deepest_is_tested = refl
+
+pub worst_error_of_the_bodies_counts : WorstErrorOfTheBodiesCounts
+unfolding evaluation
+worst_error_of_the_bodies_counts = refl
+
+pub worst_error_of_the_headers_counts : WorstErrorOfTheHeadersCounts
+unfolding evaluation
+worst_error_of_the_headers_counts = refl
+
+pub every_copy_before_the_good_one_is_mended : EveryCopyBeforeTheGoodOneIsMended
+unfolding evaluation
+every_copy_before_the_good_one_is_mended = refl
+
+pub first_pass_mends_in_the_first : FirstPassMendsInTheFirst
+unfolding evaluation
+first_pass_mends_in_the_first = refl
+
+pub retry_mends_in_the_retry : RetryMendsInTheRetry
+unfolding evaluation
+retry_mends_in_the_retry = refl

@@ -1,0 +1,2 @@
+mod BroodLemmas
+mod TallyLemmas

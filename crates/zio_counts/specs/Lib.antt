@@ -1,0 +1,3 @@
+pub mod Broods
+pub mod Kept
+pub mod Tallies

@@ -1,0 +1,152 @@
+ghost use Rattle.std.specs.Prelude.{◌≡◌, ◌+◌, ◌-◌, ◌^◌, ◌<◌, ◌≤◌, ◌∷◌, ◌++◌, [], length, IsTrue, IfOk, IfSome, OnOk, OnErr, None, nat_eq, ◌==◌, ℕ, option_copied, slice_get, slice_set};
+ghost use Rattle.std.specs.List.{position};
+ghost use Rattle.std.specs.Option.{option_and_then};
+ghost use Rattle.std.specs.Bool.{then_some};
+ghost use Rattle.std.specs.HashMap.{get, IsUnchanged};
+ghost use Rattle.zio_counts.specs.Broods.{awaits, first_or, has_label, misses, new_child};
+
+use crate::child::Child;
+use crate::firsts::Firsts;
+use std::alloc::Global;
+use std::collections::HashMap;
+use std::marker::Model;
+use zio_types::{ChildKind, List, NoMemory, Phase};
+
+/// A node's children by number, with the values that they handed in.
+#[derive(Drop)]
+pub struct Brood<R, V> {
+    children: Vec<Child<R, V>>,
+    /// The first child with each label.
+    numbers: HashMap<u64, u32>,
+    firsts: Firsts,
+}
+
+impl<R, V> Model for Brood<R, V> {
+    ghost use Rattle.std.specs.Prelude.{List as Seq, ◌≡◌, ◌<◌, ◌^◌, length};
+    ghost use Rattle.zio_counts.specs.declared.child.Child.{Child};
+    ghost use Rattle.zio_counts.specs.Broods.{IsIndex, firsts_of};
+
+    ghost Value = { Seq (Child R V) };
+
+    ghost view = { λ b. b.children.items };
+
+    ghost invariant = { λ b.
+        (length b.children.items < 2 ^ 32) × (b.firsts ≡ firsts_of b.children.items)
+        × IsIndex b.numbers b.children.items };
+}
+
+impl<R: Drop, V: Drop> Brood<R, V> {
+    /// Without children and without memory; the children's memory is from `alloc`.
+    pub fn new(alloc: Global) -> Brood<R, V>
+        ensures { result ≡ [] }
+    {
+        Brood {
+            children: Vec::new(alloc),
+            numbers: HashMap::new(alloc),
+            firsts: Firsts::new(),
+        }
+    }
+
+    /// How many children were added.
+    pub fn len(&self) -> u32
+        ensures { result ≡ length self.now }
+    {
+        self.children.len() as u32
+    }
+
+    /// Adds a child without values, and answers its number. Where memory is refused the children are as before.
+    pub fn add(&mut self, kind: ChildKind, label: u64) -> Result<u32, NoMemory>
+        requires { length self.old < 2 ^ 32 - 1 }
+        ensures ok { OnOk result (self.new ≡ self.old ++ new_child kind label ∷ []) }
+        ensures number { IfOk result (λ n. n ≡ length self.old) }
+        ensures err { OnErr result (self.new ≡ self.old) }
+    {
+        let number = self.children.len();
+        self.children.push(Child::new(kind, label))?;
+        if note_first(&mut self.numbers, label, number as u32).is_err() {
+            self.children.pop();
+            return Err(NoMemory);
+        }
+        self.firsts.step(kind, number);
+        Ok(number as u32)
+    }
+
+    /// Hands in the ready value of a child that has none and isn't of kind vdev.
+    pub fn ready(&mut self, child: u32, value: R)
+        requires { IsTrue (awaits Phase.Ready (slice_get self.old child)) }
+        ensures { IfSome (slice_get self.old child) (λ c.
+            self.new ≡ slice_set self.old child (record c { ready = Some value })) }
+    {
+        let at = child as usize;
+        self.children[at].ready = Some(value);
+        let kind = self.children[at].kind;
+        self.firsts.pass(kind, Phase::Ready, at, &self.children);
+    }
+
+    /// Hands in the done value of a child that has none.
+    pub fn done(&mut self, child: u32, value: V)
+        requires { IsTrue (awaits Phase.Done (slice_get self.old child)) }
+        ensures { IfSome (slice_get self.old child) (λ c.
+            self.new ≡ slice_set self.old child (record c { done = Some value })) }
+    {
+        let at = child as usize;
+        self.children[at].done = Some(value);
+        let kind = self.children[at].kind;
+        self.firsts.pass(kind, Phase::Done, at, &self.children);
+    }
+
+    /// The first child of the kind without a value for the phase, if there is one. A vdev child misses no ready value.
+    pub fn missing(&self, kind: ChildKind, phase: Phase) -> Option<u32>
+        ensures { result ≡ position (misses kind phase) self.now }
+    {
+        let count = self.children.len();
+        let first = self.firsts.at(kind, phase, count);
+        if first < count {
+            Some(first as u32)
+        } else {
+            None
+        }
+    }
+
+    /// The first child with the label, if there is one.
+    pub fn find(&self, label: u64) -> Option<u32>
+        ensures { result ≡ position (has_label label) self.now }
+    {
+        self.numbers.get(&label).copied()
+    }
+
+    /// The ready value of a child, if it has one.
+    pub fn ready_value(&self, child: u32) -> Option<&R>
+        requires { child < length self.now }
+        ensures { option_copied result ≡ option_and_then (λ c. c.ready) (slice_get self.now child) }
+    {
+        self.children[child as usize].ready.as_ref()
+    }
+
+    /// The done value of a child, if it has one.
+    pub fn done_value(&self, child: u32) -> Option<&V>
+        requires { child < length self.now }
+        ensures { option_copied result ≡ option_and_then (λ c. c.done) (slice_get self.now child) }
+    {
+        self.children[child as usize].done.as_ref()
+    }
+
+    /// All children with their values.
+    pub fn into_children(self) -> List<Child<R, V>>
+        ensures { result ≡ self }
+    {
+        List::from_vec(self.children)
+    }
+}
+
+/// Notes the number of a label that has none yet.
+fn note_first(numbers: &mut HashMap<u64, u32>, label: u64, number: u32) -> Result<(), NoMemory>
+    ensures ok { OnOk result ((other : ℕ) →
+        get nat_eq numbers.new other ≡ first_or (get nat_eq numbers.old other) (then_some (label == other) number)) }
+    ensures err { OnErr result (IsUnchanged numbers.old numbers.new) }
+{
+    if !numbers.contains_key(&label) {
+        numbers.insert(label, number)?;
+    }
+    Ok(())
+}

@@ -1,0 +1,43 @@
+//! The stages of a request, and the pipelines that say which of them it takes.
+//!
+//! It stands on no other crate. Read `Stage` first, whose variants stand in the order in which a request takes them, then
+//! `next`. Contracts see a pipeline by the stages that it has; `specs/Stages` says which these are.
+#![tactic(auto)]
+
+mod laws;
+mod pipeline;
+mod stage;
+
+pub use laws::pipelines_have_their_stages;
+pub use pipeline::{
+    CLAIM, FREE, INTERLOCK, NULL, Pipeline, READ, REWRITE, VDEV_CHILD, VDEV_IO, WRITE, next,
+    with_gang,
+};
+pub use stage::Stage;
+
+#[cfg(test)]
+mod tests {
+    use super::*;
+
+    #[test]
+    fn a_read_of_a_gang_takes_the_gang_stages(rt: HostRuntime) {
+        let mask = with_gang(READ);
+        let mut stage = Stage::Start;
+        let taken = [
+            Stage::ReadBpInit,
+            Stage::GangAssemble,
+            Stage::GangIssue,
+            Stage::Ready,
+            Stage::VdevIoStart,
+            Stage::VdevIoDone,
+            Stage::VdevIoAssess,
+            Stage::ChecksumVerify,
+            Stage::Done,
+        ];
+        for wanted in taken {
+            assert!(rt; stage != Stage::Done);
+            stage = next(stage, mask);
+            assert_eq!(rt; stage, wanted);
+        }
+    }
+}

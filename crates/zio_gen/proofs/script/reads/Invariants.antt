@@ -1,0 +1,8 @@
+use Rattle.std.proofs.Common.{◌≡◌, ◌+◌, ◌++◌}
+use Rattle.std.specs.String.{string_bytes}
+use Rattle.zio_gen.specs.Generated.{read_line, texts}
+use Rattle.zio_gen.proofs.script.reads.Given as goal
+
+-- the lines of the blocks so far
+abbrev pub invariant-loop-k : goal.invariant-loop-k
+invariant-loop-k l = string_bytes l.out ≡ string_bytes l.initial.out ++ texts (λ k. read_line (l.number + k) (l.block + k)) l.k

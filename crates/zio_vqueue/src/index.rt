@@ -1,0 +1,130 @@
+ghost use Rattle.std.specs.Prelude.{◌≡◌, ◌++◌, ◌∷◌, [], ℕ, OnOk, OnErr, Some, None, ◌==◌, cond, not, filter, false, find};
+ghost use Rattle.std.specs.Map.{values_of};
+ghost use Rattle.std.specs.BTreeMap.{is_at};
+ghost use Rattle.std.specs.Ordering.{nat_cmp};
+ghost use Rattle.zio_vqueue.specs.Classes.{classes};
+ghost use Rattle.zio_vqueue.specs.Queues.{AreApart, FitsDevice, is_queued, or_else, without};
+ghost use Rattle.zio_vqueue.specs.Spots.{AreBefore, AreThere, IsEntered, IsIndexed, at_time, first_served, is_due_on};
+
+use crate::class::{ACTIVE_MAX, ACTIVE_MIN, CLASSES, class_number, is_sync};
+use crate::op::Op;
+use crate::spots::{Spot, first_from, shelve, unshelve};
+use std::collections::BTreeMap;
+use zio_types::{NoMemory, Prio};
+
+/// Puts an operation at its time, after all others, and at its spots; or nowhere, where memory is refused.
+pub(crate) fn enter(
+    by_time: &mut BTreeMap<u64, Op>,
+    spots: &mut BTreeMap<Spot, Op>,
+    time: u64,
+    op: Op,
+) -> Result<(), NoMemory>
+    requires indexed { IsIndexed by_time.old.entries spots.old.entries }
+    requires fits { FitsDevice op }
+    requires apart { is_queued op.ticket (values_of by_time.old.entries) ≡ false }
+    requires later { AreBefore time by_time.old.entries }
+    ensures ok { OnOk result (by_time.new.entries ≡ by_time.old.entries ++ (time, op) ∷ []) }
+    ensures err { OnErr result (by_time.new.entries ≡ by_time.old.entries) }
+    ensures indexed { IsIndexed by_time.new.entries spots.new.entries }
+{
+    match shelve(spots, time, op) {
+        Ok(()) => enter_time(by_time, spots, time, op),
+        Err(refused) => {
+            unshelve(spots, time, &op);
+            Err(refused)
+        }
+    }
+}
+
+/// Puts an operation that stands at its spots at its time; or takes it from its spots, where memory is refused.
+fn enter_time(
+    by_time: &mut BTreeMap<u64, Op>,
+    spots: &mut BTreeMap<Spot, Op>,
+    time: u64,
+    op: Op,
+) -> Result<(), NoMemory>
+    requires entered { IsEntered by_time.old.entries spots.old.entries time op }
+    ensures ok { OnOk result (by_time.new.entries ≡ by_time.old.entries ++ (time, op) ∷ []) }
+    ensures err { OnErr result (by_time.new.entries ≡ by_time.old.entries) }
+    ensures indexed { IsIndexed by_time.new.entries spots.new.entries }
+{
+    match by_time.insert(time, op) {
+        Ok(_) => Ok(()),
+        Err(_) => {
+            unshelve(spots, time, &op);
+            Err(NoMemory)
+        }
+    }
+}
+
+/// Takes the members from their times and spots.
+pub(crate) fn withdraw(
+    by_time: &mut BTreeMap<u64, Op>,
+    spots: &mut BTreeMap<Spot, Op>,
+    members: &[(Spot, Op)],
+)
+    requires indexed { IsIndexed by_time.old.entries spots.old.entries }
+    requires there { AreThere by_time.old.entries members.now }
+    requires apart { AreApart (values_of members.now) }
+    ensures queued { values_of by_time.new.entries ≡ without (values_of members.now) (values_of by_time.old.entries) }
+    ensures before { (time : ℕ) → AreBefore time by_time.old.entries → AreBefore time by_time.new.entries }
+    ensures indexed { IsIndexed by_time.new.entries spots.new.entries }
+{
+    for (spot, op) in members {
+        withdraw_one(by_time, spots, spot.time, op);
+    }
+}
+
+fn withdraw_one(by_time: &mut BTreeMap<u64, Op>, spots: &mut BTreeMap<Spot, Op>, time: u64, op: &Op)
+    requires indexed { IsIndexed by_time.old.entries spots.old.entries }
+    requires there { at_time by_time.old.entries time ≡ Some op.now }
+    ensures queued { values_of by_time.new.entries ≡ filter (λ o. not (o.ticket == op.now.ticket)) (values_of by_time.old.entries) }
+    ensures times { (t : ℕ) → at_time by_time.new.entries t ≡ cond (is_at (nat_cmp time) t) None (at_time by_time.old.entries t) }
+    ensures before { (t : ℕ) → AreBefore t by_time.old.entries → AreBefore t by_time.new.entries }
+    ensures indexed { IsIndexed by_time.new.entries spots.new.entries }
+{
+    by_time.remove(&time);
+    unshelve(spots, time, op);
+}
+
+/// The operation of a class that is served first, with its time, where groups so far ended at `last`.
+pub(crate) fn first_served(spots: &BTreeMap<Spot, Op>, prio: Prio, last: u64) -> Option<(Spot, Op)>
+    ensures { result ≡ first_served prio last spots.now.entries }
+{
+    let class = class_number(prio);
+    let start = if is_sync(prio) { 0 } else { last };
+    match first_from(spots, class, start) {
+        Some(first) => Some(first),
+        None => first_from(spots, class, 0),
+    }
+}
+
+/// The class that is served next.
+pub(crate) fn eligible(spots: &BTreeMap<Spot, Op>, active: &[u32; 5]) -> Option<Prio>
+    ensures { result ≡ or_else (find (is_due_on spots.now.entries active.now ACTIVE_MIN) classes) (find (is_due_on spots.now.entries active.now ACTIVE_MAX) classes) }
+{
+    match first_due(spots, active, &ACTIVE_MIN) {
+        Some(prio) => Some(prio),
+        None => first_due(spots, active, &ACTIVE_MAX),
+    }
+}
+
+/// The first class with operations and fewer active groups than its limit.
+fn first_due(spots: &BTreeMap<Spot, Op>, active: &[u32; 5], limits: &[u32; 5]) -> Option<Prio>
+    ensures { result ≡ find (is_due_on spots.now.entries active.now limits.now) classes }
+{
+    for prio in &CLASSES {
+        if is_due(spots, active, limits, *prio) {
+            return Some(*prio);
+        }
+    }
+    None
+}
+
+fn is_due(spots: &BTreeMap<Spot, Op>, active: &[u32; 5], limits: &[u32; 5], prio: Prio) -> bool
+    ensures { result ≡ is_due_on spots.now.entries active.now limits.now prio }
+{
+    let class = class_number(prio);
+    let number = class as usize;
+    first_from(spots, class, 0).is_some() && active[number] < limits[number]
+}

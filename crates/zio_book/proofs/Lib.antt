@@ -1,0 +1,6 @@
+pub mod Sums
+pub mod Steps
+pub mod Seats
+pub mod Receipts
+pub mod Ends
+pub mod Closing

@@ -1,0 +1,14 @@
+mod Words
+mod Lists
+mod Views
+mod Stages
+mod Adds
+mod Starts
+mod Rolls
+mod Waits
+mod Slots
+mod Gives
+mod Lowers
+mod Arrives
+mod Settles
+mod Dues

@@ -1,0 +1,10 @@
+pub mod Kids
+pub mod Dues
+pub mod Latch
+pub mod Plays
+pub mod Owners
+pub mod Starts
+pub mod Calls
+pub mod Added
+pub mod Wakes
+pub mod Takes

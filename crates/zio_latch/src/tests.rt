@@ -1,0 +1,133 @@
+//! A latch of numbers.
+ghost use Rattle.std.specs.Prelude.{◌≡◌, ◌<◌, ◌-◌, ◌^◌, length, true};
+
+use crate::{Arrival, Arrived, Fits, Owner, Rests};
+use std::alloc::{AllocError, Global};
+use std::test::Fail;
+use std::thread;
+use zio_types::{ChildKind, Phase};
+
+impl Rests for u32 {
+    ghost rests = { λ _ _ _ _. Unit {0} };
+}
+
+impl Fits for u64 {
+    ghost fits = { λ _ _. Unit {0} };
+}
+
+// The numbers and values that a wake brought, in its order.
+fn taken(
+    alloc: Global,
+    arrived: &mut Arrived<u32, u64, u64>,
+) -> Result<Vec<(u32, u64)>, AllocError> {
+    let mut values = Vec::new(alloc);
+    while let Some((number, arrival)) = arrived.next() {
+        match arrival {
+            Arrival::Ready(value) => values.push((number, value))?,
+            Arrival::Done(value) => values.push((number, value))?,
+        }
+    }
+    Ok(values)
+}
+
+#[test]
+fn a_latch_keeps_its_capacity_and_wakes_at_zero(rt: HostRuntime) -> Result<(), Fail> {
+    let mut owner = Owner::<u32, u64, u64>::new(rt.alloc(), 2)?;
+    let child = owner
+        .add(ChildKind::Vdev, 70)?
+        .expect(&rt, "there is room for one");
+    let other = owner
+        .add(ChildKind::Gang, 71)?
+        .expect(&rt, "there is room for two");
+    assert!(rt; owner.add(ChildKind::Vdev, 72)?.is_none());
+    assert_eq!(rt; (child.number(), child.label()), (0, 70));
+    assert_eq!(rt; (other.number(), other.label()), (1, 71));
+    let mut woken = owner
+        .wait(5, ChildKind::Logical, Phase::Done)
+        .expect(&rt, "no such child is out");
+    assert_eq!(rt; woken.node, 5);
+    assert!(rt; woken.arrived.next().is_none());
+    let owner = woken.arrived.into_owner();
+    assert!(rt; owner.wait(6, ChildKind::Vdev, Phase::Done).is_err());
+    let mut woken = child.done(30).expect(&rt, "the owner waited for it");
+    assert_eq!(rt; woken.node, 6);
+    let values = taken(rt.alloc(), &mut woken.arrived)?;
+    assert_eq!(rt; values.as_slice(), [(0u32, 30u64)].as_slice());
+    Ok(())
+}
+
+#[test]
+fn the_last_of_two_wakes_with_both_values_by_number(rt: HostRuntime) -> Result<(), Fail> {
+    let mut owner = Owner::<u32, u64, u64>::new(rt.alloc(), 2)?;
+    let first = owner
+        .add(ChildKind::Vdev, 70)?
+        .expect(&rt, "there is room for one");
+    let second = owner
+        .add(ChildKind::Vdev, 71)?
+        .expect(&rt, "there is room for two");
+    assert!(rt; owner.wait(5, ChildKind::Vdev, Phase::Done).is_err());
+    assert!(rt; second.done(31).is_none());
+    let mut woken = first.done(30).expect(&rt, "it is the last");
+    assert_eq!(rt; woken.node, 5);
+    let values = taken(rt.alloc(), &mut woken.arrived)?;
+    assert_eq!(rt;
+        values.as_slice(),
+        [(0u32, 30u64), (1u32, 31u64)].as_slice()
+    );
+    Ok(())
+}
+
+#[test]
+fn a_gang_child_wakes_with_its_ready_and_with_its_done_value(rt: HostRuntime) -> Result<(), Fail> {
+    let mut owner = Owner::<u32, u64, u64>::new(rt.alloc(), 1)?;
+    let mut child = owner
+        .add(ChildKind::Gang, 70)?
+        .expect(&rt, "there is room for one");
+    assert!(rt; owner.wait(5, ChildKind::Gang, Phase::Ready).is_err());
+    let mut woken = child.ready(30).expect(&rt, "the owner waited for it");
+    let values = taken(rt.alloc(), &mut woken.arrived)?;
+    assert_eq!(rt; values.as_slice(), [(0u32, 30u64)].as_slice());
+    let owner = woken.arrived.into_owner();
+    assert!(rt; owner.wait(6, ChildKind::Gang, Phase::Done).is_err());
+    let mut woken = child.done(31).expect(&rt, "the owner waited for it");
+    assert_eq!(rt; woken.node, 6);
+    let values = taken(rt.alloc(), &mut woken.arrived)?;
+    assert_eq!(rt; values.as_slice(), [(0u32, 31u64)].as_slice());
+    Ok(())
+}
+
+// The new thread mostly comes second, so that each of the two is given to it in turn.
+#[test]
+fn a_child_ends_on_another_thread_while_its_owner_waits(rt: HostRuntime) -> Result<(), Fail> {
+    for round in 0..4000u64 {
+        let mut owner = Owner::<u32, u64, u64>::new(rt.alloc(), 1)?;
+        let child = owner
+            .add(ChildKind::Vdev, round)?
+            .expect(&rt, "there is room for one");
+        let (ended, waited) = if round % 2 == 0 {
+            thread::join(
+                &rt,
+                move || child.done(round),
+                move || owner.wait(5, ChildKind::Vdev, Phase::Done),
+            )
+        } else {
+            let (waited, ended) = thread::join(
+                &rt,
+                move || owner.wait(5, ChildKind::Vdev, Phase::Done),
+                move || child.done(round),
+            );
+            (ended, waited)
+        };
+        let mut woken = match ended {
+            Some(woken) => {
+                assert!(rt; waited.is_err());
+                woken
+            }
+            None => waited.expect(&rt, "one of the two is woken"),
+        };
+        assert_eq!(rt; woken.node, 5);
+        let values = taken(rt.alloc(), &mut woken.arrived)?;
+        assert_eq!(rt; values.as_slice(), [(0u32, round)].as_slice());
+    }
+    Ok(())
+}

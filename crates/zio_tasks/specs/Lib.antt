@@ -1,0 +1,4 @@
+pub mod Hands
+pub mod Rule
+pub mod Queues
+pub mod Team

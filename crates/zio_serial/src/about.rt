@@ -1,13 +1,12 @@
-ghost use Rattle.std.specs.Prelude.{◌≡◌, ◌≢◌, ◌∷◌, [], MatchOption, map, string_bytes};
-ghost use Rattle.zio_serial.specs.Questions.{word_of};
-ghost use Rattle.zio_serial.specs.declared.about.Question.{Question};
+ghost use Rattle.std.specs.Prelude.{◌≡◌, map, string_bytes};
+ghost use Rattle.zio_serial.specs.Questions.{asked_by, asked_by_one, asked_by_two, is_help};
 
 use clap::{Arg, ArgAction, Command};
 use std::alloc::{AllocError, Global};
 
 const ABOUT: &str = "Runs a script of block reads and writes on an image file, on one thread.";
 
-const USAGE: &str = "zio_serial run [--journal] [--data] IMAGE < SCRIPT";
+pub const USAGE: &str = "zio_serial run [--journal] [--data] IMAGE < SCRIPT";
 
 const AFTER: &str = "\
 run IMAGE reads a script from standard input, runs it, and writes the report to
@@ -19,13 +18,25 @@ standard output. IMAGE is a file of 64 KiB to 256 MiB that is changed in place.
 Exit status:
   0  the script was run to its end, and all its requests completed
   1  the words are no command
-  2  the script isn't accepted; `script LINE WHY` tells where and why
+  2  the script isn't accepted; `script LINE WHY` tells where and why (below)
   3  the image couldn't be opened, or isn't of 64 KiB to 256 MiB
   5  standard input couldn't be read
   6  standard output couldn't be written
   7  the image couldn't be read or written
   8  memory was wanted and not given
-  9  the script was run to its end, and a request is suspended or held";
+  9  the script was run to its end, and a request is suspended or held
+
+Of each status but 0 a line on standard error tells more. The whys of status 2:
+  1  the line has no shape of the language
+  2  a number isn't plain decimal, or hexadecimal digits are wrong
+  3  a number, a size or the script is beyond its limit
+  4  the line, or the end, comes out of order
+  5  a name isn't 1 to 16 of a to z, 0 to 9 and _
+  6  the batch names this block already
+  7  canfail under a request that may not fail
+  8  the parent isn't one, or the batch of a claim has another request
+  9  a leaf is in two tops, a fault's leaf in none, or there is no top
+  10 this form isn't built yet";
 
 /// What a single word asks of the program itself.
 #[derive(Clone, Copy)]
@@ -34,25 +45,41 @@ pub enum Question {
     Version,
 }
 
-impl Question {
-    fn of(word: &str) -> Option<Question>
-        ensures { MatchOption result ((q : Question) → word.now ≢ word_of q) (λ q. word.now ≡ word_of q) }
-    {
-        match word {
-            "--help" => Some(Question::Help),
-            "--version" => Some(Question::Version),
-            _ => None,
-        }
+fn is_help(word: &str) -> bool
+    ensures { result ≡ is_help word.now }
+{
+    word == "--help" || word == "-h"
+}
+
+fn asked_by_one(word: &str) -> Option<Question>
+    ensures { result ≡ asked_by_one word.now }
+{
+    if is_help(word) {
+        Some(Question::Help)
+    } else if word == "--version" {
+        Some(Question::Version)
+    } else {
+        None
+    }
+}
+
+fn asked_by_two(first: &str, word: &str) -> Option<Question>
+    ensures { result ≡ asked_by_two first.now word.now }
+{
+    if first == "run" && is_help(word) {
+        Some(Question::Help)
+    } else {
+        None
     }
 }
 
 /// The question that these words are, none where they are for the top call.
 pub fn asked(words: &[String]) -> Option<Question>
-    ensures { MatchOption result ((q : Question) → map string_bytes words.now ≢ word_of q ∷ [])
-        (λ q. map string_bytes words.now ≡ word_of q ∷ []) }
+    ensures { result ≡ asked_by (map string_bytes words.now) }
 {
     match words {
-        [word] => Question::of(word.as_str()),
+        [word] => asked_by_one(word.as_str()),
+        [first, word] => asked_by_two(first.as_str(), word.as_str()),
         _ => None,
     }
 }

@@ -1,13 +1,15 @@
 //! The program `zio_serial`: runs a script on an image file, on one thread.
 //!
 //! It joins `zio_serial_main` to standard input, standard output and files, and ends with its code as the exit status.
-//! What a run does is the contract of that call. Only the single words `--help` and `--version` are answered here, as
-//! `about` says.
+//! What a run does is the contract of that call. Questions for help or the version are answered here, as `about` says, and
+//! `told` has the line on standard error that goes with a code other than 0.
 #![tactic(auto)]
 
 mod about;
 #[cfg(test)]
 mod tests;
+mod told;
+mod watched;
 
 use about::{asked, text_of};
 use std::alloc::AllocError;
@@ -15,6 +17,8 @@ use std::env;
 use std::fs::File;
 use std::io::ErrorKind;
 use std::process::ExitCode;
+use told::line_of;
+use watched::Watched;
 use zio_outside::{FileShelf, Sink, StdSink, StdSource};
 use zio_run::zio_serial_main;
 use zio_types::Journal;
@@ -71,15 +75,25 @@ fn run(rt: &HostRuntime, words: &[String]) -> u8 {
     let alloc = rt.alloc();
     let mut script = StdSource::new(rt);
     let mut shelf = FileShelf::new(rt);
-    let mut out = StdSink::new(rt);
+    let mut out = Watched::new(StdSink::new(rt));
     let mut journal = Journal::new(alloc);
-    zio_serial_main(
+    let status = zio_serial_main(
         alloc,
         words,
         &mut script,
         &mut shelf,
         &mut out,
         &mut journal,
-    )
-    .code
+    );
+    if status.code != 0 {
+        explain(rt, status.code, out.front(), words);
+    }
+    status.code
+}
+
+/// Tells in a line on standard error what the code means here. It says more than the code does, and changes nothing.
+fn explain(rt: &HostRuntime, code: u8, front: &[u8], words: &[String]) {
+    if let Ok(line) = line_of(rt, rt.alloc(), code, front, words) {
+        let _ = eprintln!(rt; "zio_serial: {line}");
+    }
 }

@@ -1,4 +1,5 @@
 use crate::about::{Question, text_of};
+use crate::told::why_text;
 use std::test::Fail;
 
 #[test]
@@ -19,11 +20,23 @@ fn the_help_has_a_line_for_each_code(rt: HostRuntime) -> Result<(), Fail> {
             }
         }
     }
-    assert_eq!(rt; codes.as_slice(), [0, 1, 2, 3, 5, 6, 7, 8, 9].as_slice());
+    assert_eq!(rt;
+        codes.as_slice(),
+        [0, 1, 2, 3, 5, 6, 7, 8, 9, 1, 2, 3, 4, 5, 6, 7, 8, 9].as_slice()
+    );
     assert!(rt;
         text.as_str().contains("\nUsage: zio_serial run [--journal] [--data] IMAGE < SCRIPT\n"),
         "{text}"
     );
     assert!(rt; text.as_str().ends_with('\n'), "{text}");
+    Ok(())
+}
+
+#[test]
+fn the_help_has_each_why_as_it_is_told(rt: HostRuntime) -> Result<(), Fail> {
+    let text = text_of(rt.alloc(), Question::Help)?;
+    for why in 1..11 {
+        assert!(rt; text.as_str().contains(why_text(why)), "why {why}");
+    }
     Ok(())
 }

@@ -19,30 +19,39 @@ bits word first count = word / 2 ^ first % 2 ^ count
 abbrev pub logical_size : ℕ → ℕ
 logical_size w = bits w 0 16
 
+-- the size as stored
 abbrev pub physical_size : ℕ → ℕ
 physical_size w = bits w 16 16
 
+-- the number of a compression, off alone
 abbrev pub compression : ℕ → ℕ
 compression w = bits w 32 7
 
+-- no block is embedded in its pointer
 abbrev pub embedded : ℕ → ℕ
 embedded w = bits w 39 1
 
+-- the number of the checksum kind
 abbrev pub checksum : ℕ → ℕ
 checksum w = bits w 40 8
 
+-- the type of the content, which has no number here
 abbrev pub content_type : ℕ → ℕ
 content_type w = bits w 48 8
 
+-- the level, always 0
 abbrev pub level : ℕ → ℕ
 level w = bits w 56 5
 
+-- no block is encrypted
 abbrev pub encrypted : ℕ → ℕ
 encrypted w = bits w 61 1
 
+-- no block is shared
 abbrev pub dedup : ℕ → ℕ
 dedup w = bits w 62 1
 
+-- the byte order, 1 for little-endian
 abbrev pub byte_order : ℕ → ℕ
 byte_order w = bits w 63 1
 
@@ -50,9 +59,11 @@ byte_order w = bits w 63 1
 abbrev pub place_sectors : ℕ → ℕ
 place_sectors w = bits w 0 24
 
+-- the grid, always 0
 abbrev pub grid : ℕ → ℕ
 grid w = bits w 24 8
 
+-- the bits above the top's number
 abbrev pub above_top : ℕ → ℕ
 above_top w = bits w 56 8
 
@@ -60,6 +71,7 @@ above_top w = bits w 56 8
 abbrev pub place_sector : ℕ → ℕ
 place_sector w = bits w 0 63
 
+-- the pointer is a gang's
 abbrev pub gang_bit : ℕ → ℕ
 gang_bit w = bits w 63 1
 

@@ -20,20 +20,24 @@ abbrev pub good_body : Bp → List ℕ → Bool
 good_body bp bytes = fits bp.sum bp.words bytes
 
 -- bytes of a header that is kept equal the kept ones
+-- Rule: header goodness.
 abbrev pub good_kept : Option (List ℕ) → List ℕ → Bool
 good_kept None bytes = false
 good_kept (Some kept) bytes = bytes_eq kept bytes
 
+-- the same, where the pointer has a first place
 abbrev pub good_claimed_at : Option Place → Bp → List ℕ → Bool
 good_claimed_at None bp bytes = false
 good_claimed_at (Some place) bp bytes = is_header place bp.birth bp.size bytes
 
 -- bytes of a claimed header are the header of some members, for the gang pointer's first place, birth and size
+-- Rule: header goodness.
 abbrev pub good_claimed : Bp → List ℕ → Bool
 good_claimed bp bytes = good_claimed_at (slice_get (places_of bp) 0) bp bytes
 
 -- ---- the leaves of a place, in the order of reads
 
+-- a top's leaves, none where there is no such top
 abbrev pub leaves_of_top : Option Top → List ℕ
 leaves_of_top None = []
 leaves_of_top (Some top) = top.leaves
@@ -46,10 +50,12 @@ leaves_of s p = leaves_of_top (slice_get s.tops p.top)
 abbrev pub turn_size : ℕ
 turn_size = 2097152
 
+-- a list begun at its item n, the items before that behind it
 abbrev pub rotated : ℕ → List ℕ → List ℕ
 rotated n xs = drop n xs ++ take n xs
 
 -- the first leaf changes with each turn along the top
+-- Rule: read order.
 abbrev pub read_order : ℕ → List ℕ → List ℕ
 read_order offset leaves = rotated (offset / turn_size % length leaves) leaves
 
@@ -61,6 +67,7 @@ pub record Tried (C : Type 0) : Type 0 where
   pub failed : List C
   pub errors : List (Option Errno)
 
+-- a candidate that was read, before those behind it
 abbrev pub then_others : {C : Type 0} → C → Result (List ℕ) Errno → Tried C → Tried C
 then_others c (Ok bytes) others = record { found = Some bytes; failed = []; errors = [] }
 then_others c (Err e) others = record { found = others.found; failed = c ∷ others.failed; errors = Some e ∷ others.errors }
@@ -74,12 +81,14 @@ first_good read (c ∷ cs) = then_others c (read c) (first_good read cs)
 abbrev pub blame : List (Option Errno) → Errno
 blame errors = unwrap_or (worst_of errors) Nxio
 
+-- the bytes, or the worst of the errors
 abbrev pub found_or : Option (List ℕ) → List (Option Errno) → Result (List ℕ) Errno
 found_or (Some bytes) errors = Ok bytes
 found_or None errors = Err (blame errors)
 
 -- ---- reading a place
 
+-- bytes that passed their test, or a checksum error
 abbrev pub judged_by : Bool → List ℕ → Result (List ℕ) Errno
 judged_by true bytes = Ok bytes
 judged_by false bytes = Err Cksum
@@ -108,6 +117,7 @@ pub record Pass : Type 0 where
   pub repairs : List Spot
   pub errors : List (Option Errno)
 
+-- one place of a pass, by whether one of its leaves was good, before the places behind it
 abbrev pub passed_with : Option (List ℕ) → List Spot → List Spot → Tried ℕ → Pass → Pass
 passed_with (Some bytes) bad all tried others = record { found = Some bytes; repairs = bad; errors = [] }
 passed_with None bad all tried others = record {
@@ -117,10 +127,13 @@ passed_with None bad all tried others = record {
 }
 
 -- in the good place those leaves are rewritten that were tried and failed, in each place before it all leaves
+-- Rule: read repair.
 abbrev pub then_places : Setting → Place → Tried ℕ → Pass → Pass
 then_places s p tried others =
     passed_with tried.found (map (spot_in p) tried.failed) (map (spot_in p) (leaves_of s p)) tried others
 
+-- the places of a piece in order, up to the first that has a good leaf
+-- Rule: read order.
 abbrev pub read_pass : Setting → Bool → (List ℕ → Bool) → Images → ℕ → List Place → Pass
 read_pass s retry good images len [] = record { found = None; repairs = []; errors = [] }
 read_pass s retry good images len (p ∷ ps) =
@@ -132,6 +145,7 @@ pub record Read : Type 0 where
   pub images : Images
 
 -- rewrites each spot; a write that fails changes nothing and is passed over
+-- Rule: read repair.
 abbrev pub repaired : Setting → Bool → List ℕ → List Spot → Images → Images
 repaired s retry bytes [] images = images
 repaired s retry bytes (spot ∷ spots) images = repaired s retry bytes spots ((write_leaf s retry bytes images spot).images)
@@ -148,22 +162,27 @@ found_in s repair retry images pass bytes = record {
   images = repaired_if repair s retry bytes pass.repairs images;
 }
 
+-- the read after the retry pass, by what that pass found
 abbrev pub last_pass_with : Option (List ℕ) → Setting → Bool → Images → Pass → Read
 last_pass_with (Some bytes) s repair images pass = found_in s repair true images pass bytes
 last_pass_with None s repair images pass = record { found = Err (blame pass.errors); images = images }
 
+-- the read after the retry pass, whose error counts
 abbrev pub last_pass : Setting → Bool → Images → Pass → Read
 last_pass s repair images pass = last_pass_with pass.found s repair images pass
 
+-- the read after the first pass, by what that pass found
 abbrev pub first_pass_with : Option (List ℕ) → Setting → Bool → Images → Pass → (Bool → Pass) → Read
 first_pass_with (Some bytes) s repair images pass pass_in = found_in s repair false images pass bytes
 first_pass_with None s repair images pass pass_in = last_pass s repair images (pass_in true)
 
+-- the read after the first pass, with the retry pass behind it where nothing was good
 abbrev pub first_pass : Setting → Bool → Images → Pass → (Bool → Pass) → Read
 first_pass s repair images pass pass_in = first_pass_with pass.found s repair images pass pass_in
 
 -- The places are tried in order, and where none is good once more in the retry pass, whose error counts. Repairs are
 -- made in the pass of the good read.
+-- Rule: read order.
 abbrev pub read_block : Setting → Bool → (List ℕ → Bool) → Images → ℕ → List Place → Read
 read_block s repair good images len places =
     first_pass s repair images (read_pass s false good images len places)
@@ -176,9 +195,11 @@ pub record Writes : Type 0 where
   pub errors : List (Option Errno)
   pub images : Images
 
+-- a write's error in front of those behind it
 abbrev pub add_write : Option Errno → Writes → Writes
 add_write error others = record { errors = error ∷ others.errors; images = others.images }
 
+-- a write, and those behind it over the images that it left
 abbrev pub then_writes : Written → (Images → Writes) → Writes
 then_writes w others = add_write w.error (others w.images)
 
@@ -187,11 +208,13 @@ abbrev pub in_turn : {X : Type 0} → (Images → X → Written) → List X → 
 in_turn write [] images = record { errors = []; images = images }
 in_turn write (x ∷ xs) images = then_writes (write images x) (in_turn write xs)
 
+-- each of the writes failed
 abbrev pub all_errors : List (Option Errno) → Bool
 all_errors [] = true
 all_errors (None ∷ errors) = false
 all_errors (Some e ∷ errors) = all_errors errors
 
+-- the error where the test says so
 abbrev pub error_if : Bool → Option Errno → Option Errno
 error_if true error = error
 error_if false error = None
@@ -200,6 +223,8 @@ error_if false error = None
 abbrev pub place_written : Writes → Written
 place_written w = record { error = error_if (all_errors w.errors) (Some (blame w.errors)); images = w.images }
 
+-- every leaf of one place is written
+-- Rule: mirrored write.
 abbrev pub write_place : Setting → Bool → List ℕ → Images → Place → Written
 write_place s retry bytes images p =
     place_written (in_turn (write_leaf s retry bytes) (map (spot_in p) (leaves_of s p)) images)
@@ -208,9 +233,12 @@ write_place s retry bytes images p =
 abbrev pub pass_written : Writes → Written
 pass_written w = record { error = worst_of w.errors; images = w.images }
 
+-- every place of a piece is written, in one pass
+-- Rule: mirrored write.
 abbrev pub write_pass : Setting → Bool → List ℕ → List Place → Images → Written
 write_pass s retry bytes places images = pass_written (in_turn (write_place s retry bytes) places images)
 
+-- what was written first, or where it has an error what is written again
 abbrev pub again_with : Option Errno → Written → (Images → Written) → Written
 again_with None w again = w
 again_with (Some e) w again = again w.images
@@ -221,6 +249,7 @@ again_on_error w again = again_with w.error w again
 
 -- The bytes go to each leaf of each place. After an error all is written once more in the retry pass, whose error
 -- counts.
+-- Rule: mirrored write.
 abbrev pub write_piece : Setting → List ℕ → List Place → Images → Written
 write_piece s bytes places images =
     again_on_error (write_pass s false bytes places images) (write_pass s true bytes places)

@@ -19,13 +19,16 @@ rounded_up n = (n + 511) / sector_size * sector_size
 abbrev pub first_size : ℕ → ℕ
 first_size size = rounded_up (size / 3)
 
+-- the second: half of what the first leaves
 abbrev pub second_size : ℕ → ℕ
 second_size size = rounded_up ((size - first_size size) / 2)
 
+-- the third: what both leave
 abbrev pub third_size : ℕ → ℕ
 third_size size = rounded_up (size - first_size size - second_size size)
 
 -- the sizes of the members of a block, without those of nothing
+-- Rule: gang fallback.
 abbrev pub split_sizes : ℕ → List ℕ
 split_sizes size = filter (λ n. nat_lt 0 n) (first_size size ∷ second_size size ∷ third_size size ∷ [])
 
@@ -35,6 +38,7 @@ split_sizes size = filter (λ n. nat_lt 0 n) (first_size size ∷ second_size si
 abbrev pub members_max : ℕ
 members_max = 3
 
+-- the word that tells a gang header
 abbrev pub header_magic : ℕ
 header_magic = 0x0210da7ab10c7a11
 
@@ -57,6 +61,7 @@ gang_sum_of header place birth =
     sha256_words (take 480 header ++ word place.top ++ word (offset_of place) ++ word birth ++ word 0)
 
 -- the header of three members, each a pointer or none
+-- Rule: gang header write.
 abbrev pub header_of : List (Option Bp) → Place → ℕ → List ℕ
 header_of members place birth =
     header_front members ++ flat_map word (gang_sum_of (header_front members) place birth)
@@ -79,6 +84,7 @@ abbrev pub members_of : List ℕ → List Bp
 members_of bytes = filter_map pointer_of (slots bytes)
 
 -- the bytes are the header of some members
+-- Rule: header goodness.
 abbrev pub is_header : Place → ℕ → ℕ → List ℕ → Bool
 is_header place birth size bytes =
     bytes_eq (header_of (filled_to None members_max (map Some (members_of bytes))) place birth) bytes

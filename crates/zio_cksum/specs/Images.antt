@@ -27,6 +27,7 @@ pub record Spot : Type 0 where
   pub at : ℕ
   pub span : ℕ
 
+-- the bytes of one leaf
 abbrev pub image_of : Images → ℕ → List ℕ
 image_of images leaf = slice_index_or images leaf []
 
@@ -52,16 +53,20 @@ met s retry write spot = first_hit s.rows (record {
 
 -- ---- a read
 
+-- what a row of this kind makes of a read's bytes
 abbrev pub faulty_read : FaultKind → Hit → ℕ → List ℕ → Result (List ℕ) Errno
 faulty_read Eio hit at bytes = Err Io
 faulty_read Gone hit at bytes = Err Nxio
 faulty_read Flip hit at bytes = Ok (flipped at hit bytes)
 
+-- a read's answer by the row that it meets, if any
+-- Rule: fault kinds.
 abbrev pub read_met : Option Hit → ℕ → List ℕ → Result (List ℕ) Errno
 read_met None at bytes = Ok bytes
 read_met (Some hit) at bytes = faulty_read hit.kind hit at bytes
 
 -- the answer of a leaf: the first bytes of the place, or as the row that it meets says
+-- Rule: sector units.
 abbrev pub read_leaf : Setting → Bool → Images → ℕ → Spot → Result (List ℕ) Errno
 read_leaf s retry images len spot = read_met (met s retry false spot) spot.at (bytes_at images spot len)
 
@@ -72,17 +77,22 @@ pub record Written : Type 0 where
   pub error : Option Errno
   pub images : Images
 
+-- a write that stored nothing
 abbrev pub failed : Errno → Images → Written
 failed e images = record { error = Some e; images = images }
 
+-- a write whose bytes lie on the image
 abbrev pub stored : Images → Spot → List ℕ → Written
 stored images spot bytes = record { error = None; images = with_bytes images spot bytes }
 
+-- what a row of this kind makes of a write
 abbrev pub faulty_write : FaultKind → Hit → Images → Spot → List ℕ → Written
 faulty_write Eio hit images spot bytes = failed Io images
 faulty_write Gone hit images spot bytes = failed Nxio images
 faulty_write Flip hit images spot bytes = stored images spot (flipped spot.at hit bytes)
 
+-- what a write does by the row that it meets, if any
+-- Rule: fault kinds.
 abbrev pub write_met : Option Hit → Images → Spot → List ℕ → Written
 write_met None images spot bytes = stored images spot bytes
 write_met (Some hit) images spot bytes = faulty_write hit.kind hit images spot bytes
@@ -92,5 +102,6 @@ abbrev pub padded_to : ℕ → List ℕ → List ℕ
 padded_to span bytes = take span (filled_to 0 span bytes)
 
 -- a leaf stores the bytes and zeros to the place's end, or does as the row that it meets says
+-- Rule: sector units.
 abbrev pub write_leaf : Setting → Bool → List ℕ → Images → Spot → Written
 write_leaf s retry bytes images spot = write_met (met s retry true spot) images spot (padded_to spot.span bytes)

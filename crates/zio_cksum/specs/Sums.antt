@@ -29,9 +29,11 @@ fletcher_after s (y ∷ z ∷ []) = s
 fletcher_after s (z ∷ []) = s
 fletcher_after s [] = s
 
+-- the four sums as words
 abbrev pub fletcher_words : Fletcher → List ℕ
 fletcher_words s = s.a ∷ s.b ∷ s.c ∷ s.d ∷ []
 
+-- fletcher4 of the bytes, from sums of zero
 unfoldable pub fletcher4 : List ℕ → List ℕ
 fletcher4 bytes = fletcher_words (fletcher_after (record { a = 0; b = 0; c = 0; d = 0 }) bytes)
 
@@ -43,6 +45,7 @@ digest_words digest =
     ∷ from_be_bytes w64 (take 8 (drop 16 digest))
     ∷ from_be_bytes w64 (take 8 (drop 24 digest)) ∷ []
 
+-- the digest of FIPS 180-4, as four words
 unfoldable pub sha256_words : List ℕ → List ℕ
 sha256_words bytes = digest_words (sha256 bytes)
 

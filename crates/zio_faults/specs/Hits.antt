@@ -20,10 +20,12 @@ is_for Any write = true
 abbrev pub common_start : Row → Operation → ℕ
 common_start row o = max row.at o.at
 
+-- where it ends
 abbrev pub common_end : Row → Operation → ℕ
 common_end row o = min (row.at + row.len) (o.at + o.len)
 
 -- the row is for this leaf and operation, meets its range and holds at its resume point, and in a retry pass isn't for first passes alone
+-- Rule: fault matching.
 abbrev pub selects : Row → Operation → Bool
 selects row o =
     (row.leaf == o.leaf) && is_for row.on o.write && nat_lt (common_start row o) (common_end row o)
@@ -34,6 +36,7 @@ abbrev pub hit_on : Operation → Row → Hit
 hit_on o row = record { kind = row.kind; at = common_start row o; len = common_end row o - common_start row o }
 
 -- the first row of the table that the operation meets
+-- Rule: fault matching.
 abbrev pub first_hit : List Row → Operation → Option Hit
 first_hit rows o = option_map (hit_on o) (find (λ row. selects row o) rows)
 
@@ -42,6 +45,7 @@ abbrev pub inverted : ℕ → ℕ
 inverted byte = 255 - byte
 
 -- the bytes of a range that begins there, with those that the hit covers inverted
+-- Rule: fault kinds.
 abbrev pub flipped : ℕ → Hit → List ℕ → List ℕ
 flipped at hit bytes =
     take (hit.at - at) bytes

@@ -64,9 +64,11 @@ pub record Return : Type 0 where
 
 -- ---- bits
 
+-- goes again at once: NOW is set and SUSPEND isn't
 abbrev pub now_alone : Bits → Bool
 now_alone b = b.now && not b.suspend
 
+-- the bits of all that children handed on
 abbrev pub bits_of : List Return → Bits
 bits_of [] = no_bits
 bits_of (r ∷ rs) = joined_bits r.bits (bits_of rs)
@@ -81,9 +83,11 @@ insert_children new kept = merge_by (λ (c : Child). c.number) new kept
 abbrev pub returned_to : Pending → List Return → List Return
 returned_to p returns = filter (λ (r : Return). is_under_number r.under p.request.number) returns
 
+-- the children among what was handed on
 abbrev pub children_of : List Return → List Child
 children_of returns = map (λ (r : Return). r.child) returns
 
+-- what was handed on by those that don't go again
 abbrev pub finished_of : List Return → List Return
 finished_of returns = filter (λ (r : Return). not (has_bits r.bits)) returns
 
@@ -99,23 +103,29 @@ pub record Own : Type 0 where
   pub asks : List Ask
   pub images : Images
 
+-- own work that gives nothing but an error or none
 abbrev pub only_error : Option Errno → Images → Own
 only_error error images = record { error = error; bytes = []; tree = None; pointer = None; asks = []; images = images }
 
+-- own work that gives bytes or an error
 abbrev pub own_found : Result (List ℕ) Errno → Images → Own
 own_found (Err e) images = only_error (Some e) images
 own_found (Ok bytes) images = record { error = None; bytes = bytes; tree = None; pointer = None; asks = []; images = images }
 
+-- the own work of a read
 abbrev pub own_read : BlockRead → Own
 own_read read = own_found read.found read.images
 
+-- the own work of a free
 abbrev pub own_free : Written → Own
 own_free written = only_error written.error written.images
 
+-- the block that a write placed, if it has a pointer
 abbrev pub placed_tree : Option Bp → Placed → Option Tree
 placed_tree None placed = None
 placed_tree (Some bp) placed = Some (record { bp = bp; heads = placed.heads })
 
+-- the own work of a write
 abbrev pub own_write : Placed → Own
 own_write placed = record {
   error = placed.error;
@@ -126,10 +136,12 @@ own_write placed = record {
   images = placed.images;
 }
 
+-- own work that gives a block or an error
 abbrev pub own_claimed : Result Tree Errno → Images → Own
 own_claimed (Err e) images = only_error (Some e) images
 own_claimed (Ok tree) images = record { error = None; bytes = []; tree = Some tree; pointer = None; asks = []; images = images }
 
+-- the own work of a claim
 abbrev pub own_claim : Claimed → Own
 own_claim claimed = own_claimed claimed.tree claimed.images
 
@@ -150,6 +162,7 @@ abbrev pub read_of : Terms → Option Tree → Images → Own
 read_of t None images = only_error (Some Noent) images
 read_of t (Some tree) images = own_read (read_tree t.setting tree images)
 
+-- the same for a free
 abbrev pub free_of : Terms → Option Tree → Images → Own
 free_of t None images = only_error (Some Noent) images
 free_of t (Some tree) images = own_free (free_tree t.setting tree images)
@@ -173,10 +186,13 @@ pub record Attempted : Type 0 where
   pub asks : List Ask
   pub images : Images
 
+-- the block that a request made; with an error its places are given back
+-- Rule: places given back.
 abbrev pub tree_unless : Option Errno → Option Tree → Option Tree
 tree_unless None tree = tree
 tree_unless (Some e) tree = None
 
+-- the request finishes with this error or none
 abbrev pub ended_with : Pending → Own → Option Errno → Attempted
 ended_with p own error = record {
   return = record {
@@ -190,6 +206,8 @@ ended_with p own error = record {
   images = own.images;
 }
 
+-- the request goes again: it hands on its bits and pointer and no error, and keeps the children that finished
+-- Rule: reexecution.
 abbrev pub goes_again : Pending → Own → Bits → List Child → Attempted
 goes_again p own bits kept = record {
   return = record {
@@ -204,13 +222,17 @@ goes_again p own bits kept = record {
 }
 
 -- with bits it goes again and keeps the children that finished; else it finishes with the worst of its own error and theirs
+-- Rule: error joining.
 abbrev pub closed_if : Bool → Pending → Own → Bits → List Child → Attempted
 closed_if true p own bits kept = goes_again p own bits kept
 closed_if false p own bits kept = ended_with p own (worst_error own.error (worst_of (map (λ (c : Child). c.error) kept)))
 
+-- what becomes of a request whose bits are known
 abbrev pub closed : Pending → Own → Bits → List Child → Attempted
 closed p own bits kept = closed_if (has_bits bits) p own bits kept
 
+-- what becomes of a request after its own work, by the failure decision
+-- Rule: error joining.
 abbrev pub judged_own : Terms → Pending → List Return → Own → Attempted
 judged_own t p returns own =
     closed p own (all_bits (kind_of p.request.work) own.error p.request.canfail t.failmode (bits_of returns))
@@ -237,6 +259,7 @@ pub record Attempt : Type 0 where
   pub asks : List Ask
   pub images : Images
 
+-- one request in front of those behind it
 abbrev pub add_attempted : Attempted → Attempt → Attempt
 add_attempted one others = record {
   returns = others.returns;
@@ -246,15 +269,18 @@ add_attempted one others = record {
   images = others.images;
 }
 
+-- a request, and those behind it with what it handed on
 abbrev pub then_attempt : List Return → Attempted → (List Return → Images → Attempt) → Attempt
 then_attempt returns one others = add_attempted one (others (one.return ∷ returns) one.images)
 
 -- each request in turn
+-- Rule: reexecution.
 unfoldable pub attempt_each : List Choice → Terms → ℕ → List Pending → List Return → Images → Attempt
 attempt_each journal t attempt [] returns images = record { returns = returns; ended = []; again = []; asks = []; images = images }
 attempt_each journal t attempt (p ∷ ps) returns images =
     then_attempt returns (attempt_one journal t attempt p returns images) (attempt_each journal t attempt ps)
 
+-- the front of an attempt before the rest of it
 abbrev pub added_attempt : Attempt → Attempt → Attempt
 added_attempt front rest = record {
   returns = rest.returns;
@@ -268,6 +294,8 @@ added_attempt front rest = record {
 abbrev pub joined_attempt : Attempt → (List Return → Images → Attempt) → Attempt
 joined_attempt front rest = added_attempt front (rest front.returns front.images)
 
+-- one attempt of a tree: each request after its children, the root last
+-- Rule: order within an attempt.
 abbrev pub attempt_tree : List Choice → Terms → ℕ → List Pending → Images → Attempt
 attempt_tree journal t attempt tree images = attempt_each journal t attempt tree [] images
 
@@ -285,9 +313,11 @@ pub record Settled : Type 0 where
   pub asks : List Ask
   pub images : Images
 
+-- a tree that isn't attempted again in this round
 abbrev pub settled_as : Attempt → Settled
 settled_as a = record { left = a.again; ended = a.ended; asks = a.asks; images = a.images }
 
+-- what an earlier attempt finished, in front of the later ones'
 abbrev pub add_earlier : Attempt → Settled → Settled
 add_earlier a later = record {
   left = later.left;
@@ -296,23 +326,28 @@ add_earlier a later = record {
   images = later.images;
 }
 
+-- an attempt, and where the test says so the next
 abbrev pub settled_if : Bool → Attempt → (List Pending → Images → Settled) → Settled
 settled_if true a again = add_earlier a (again a.again a.images)
 settled_if false a again = settled_as a
 
+-- an attempt, and the next while the root's bits are NOW alone
 abbrev pub settled_by : Attempt → (List Pending → Images → Settled) → Settled
 settled_by a again = settled_if (now_alone (root_bits a.returns)) a again
 
 -- the remaining tree is attempted again while its root is to go again at once, so many times at most
+-- Rule: reexecution limit.
 unfoldable pub settle_from : ℕ → List Choice → Terms → ℕ → List Pending → Images → Settled
 settle_from zero journal t attempt tree images = settled_as (attempt_tree journal t attempt tree images)
 settle_from (suc more) journal t attempt tree images =
     settled_by (attempt_tree journal t attempt tree images) (settle_from more journal t (attempt + 1))
 
 -- how often a tree goes again at once in a round
+-- Rule: reexecution limit.
 abbrev pub reexecutions_max : ℕ
 reexecutions_max = 3
 
 -- a tree in one round: nothing is left of it where it finished, else it is suspended
+-- Rule: reexecution limit.
 abbrev pub settle : List Choice → Terms → List Pending → Images → Settled
 settle journal t tree images = settle_from reexecutions_max journal t 0 tree images

@@ -22,6 +22,7 @@ suspended_requests st = flat_map (map (λ (p : Pending). p.request)) st.suspende
 abbrev pub held_requests : State → List Request
 held_requests st = flat_map (λ (b : Batch). b.requests) st.held
 
+-- a line behind a panic leaves its request unrun
 abbrev pub unrun_line : Bool → Item → List Request
 unrun_line true (RequestLine r) = r ∷ []
 unrun_line true Go = []
@@ -35,6 +36,7 @@ unrun_lines plan (item ∷ items) st =
     unrun_line st.panicked item ++ unrun_lines plan items ((line_if st.panicked plan item st).state)
 
 -- the requests that a panic left unrun: those of a batch that was open then, and those of all lines behind it
+-- Rule: panic.
 abbrev pub unrun : Script → Images → List Choice → List Request
 unrun script images journal =
     (run_script script images journal).state.batch

@@ -19,6 +19,7 @@ use Rattle.zio_gang.specs.Runs.{Round}
 abbrev pub choices_in : ℕ → List Choice → List Choice
 choices_in round journal = filter (λ (c : Choice). c.asked.key.round == round) journal
 
+-- what the choices were asked for
 abbrev pub asks_of : List Choice → List Ask
 asks_of choices = map (λ (c : Choice). c.asked) choices
 
@@ -29,28 +30,33 @@ HaveDistinctKeys (ask ∷ asks) =
     AllByRecursion (λ (other : Ask). same_key ask.key other.key ≡ false) asks × HaveDistinctKeys asks
 
 -- each choice is lawful beside the places that are used and those that the choices before it took
+-- Rule: allocation.
 abbrev pub AreLawful : List TopSize → List Place → List Choice → Type 0
 AreLawful sizes used [] = Unit {0}
 AreLawful sizes used (c ∷ cs) = IsLawfulChoice sizes used c × AreLawful sizes (taken_by c ++ used) cs
 
 -- The choices of one round, beside the places in use at its start: for all that it asks and for nothing else, each
 -- lawful. The sizes are the sectors and units of the tops.
+-- Rule: deferred free.
 pub record AreChoicesOf (sizes : List TopSize) (used : List Place) (asks : List Ask) (choices : List Choice) : Type 0 where
   pub distinct : HaveDistinctKeys (asks_of choices)
   pub asked : AllByRecursion (λ ask. Contains asks ask) (asks_of choices)
   pub answered : AllByRecursion (λ ask. Contains (asks_of choices) ask) asks
   pub lawful : AreLawful sizes used choices
 
+-- the round has this number
 abbrev pub is_round_of : ℕ → Round → Bool
 is_round_of number round = round.number == number
 
 -- Every choice belongs to one of the rounds, and each round has its choices.
+-- Rule: allocation.
 pub record IsLawfulJournal (sizes : List TopSize) (rounds : List Round) (journal : List Choice) : Type 0 where
   pub of_rounds : AllByRecursion (λ (c : Choice). IsTrue (list_any (is_round_of c.asked.key.round) rounds)) journal
   pub each : AllByRecursion (λ (round : Round). AreChoicesOf sizes round.used round.asks (choices_in round.number journal)) rounds
 
 -- ---- completions
 
+-- the completions of one round, in the journal's order
 abbrev pub completions_in : ℕ → List Completion → List Completion
 completions_in round completions = filter (λ (c : Completion). c.round == round) completions
 
@@ -81,6 +87,7 @@ pub record AreCompletionsOf (number : ℕ) (ended : List Ended) (completions : L
 
 -- Every completion belongs to one of the rounds, each round has its completions, no request completes twice, and none
 -- before its children among all requests of the script.
+-- Rule: completions.
 pub record AreCompletions (requests : List Request) (rounds : List Round) (completions : List Completion) : Type 0 where
   pub of_rounds : AllByRecursion (λ (c : Completion). IsTrue (list_any (is_round_of c.round) rounds)) completions
   pub each : AllByRecursion (λ (round : Round). AreCompletionsOf round.number round.ended (completions_in round.number completions)) rounds

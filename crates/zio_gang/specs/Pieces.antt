@@ -27,9 +27,11 @@ pub record Parts : Type 0 where
   pub heads : List Piece
   pub bodies : List Piece
 
+-- nothing under a pointer
 abbrev pub no_parts : Parts
 no_parts = record { heads = []; bodies = [] }
 
+-- the parts of one pointer before those of another
 abbrev pub joined_parts : Parts → Parts → Parts
 joined_parts a b = record { heads = a.heads ++ b.heads; bodies = a.bodies ++ b.bodies }
 
@@ -43,9 +45,11 @@ abbrev pub parts_of_members : (List ℕ → Bp → Parts) → List ℕ → ℕ �
 parts_of_members parts path n [] = no_parts
 parts_of_members parts path n (m ∷ ms) = joined_parts (parts (path ++ n ∷ []) m) (parts_of_members parts path (n + 1) ms)
 
+-- the parts below a header, with that header in front
 abbrev pub below_piece : Piece → Parts → Parts
 below_piece head parts = record { heads = head ∷ parts.heads; bodies = parts.bodies }
 
+-- a gang's parts, or the body of a pointer that is no gang
 abbrev pub parts_if : Bool → Bp → Parts → Parts
 parts_if true bp gang = gang
 parts_if false bp gang = record { heads = []; bodies = body_piece bp ∷ [] }
@@ -58,6 +62,7 @@ parts_from (suc levels) heads path bp =
     (below_piece (head_piece heads path bp)
     (parts_of_members (parts_from levels heads) path 0 (members_kept (kept_at heads path))))
 
+-- the headers and the bodies of a block
 abbrev pub parts_of : Tree → Parts
 parts_of tree = parts_from header_levels_max tree.heads [] tree.bp
 

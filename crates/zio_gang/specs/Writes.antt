@@ -27,15 +27,18 @@ abbrev pub padded : List ℕ → List ℕ
 padded bytes = bytes ++ replicate ((sector_size - length bytes % sector_size) % sector_size) 0
 
 -- the pointers of the write's children in the order of their numbers, zeros for none, then its own data, padded
+-- Rule: write content.
 abbrev pub content_of : List (Option Bp) → List ℕ → List ℕ
 content_of pointers own = padded (flat_map member_bytes pointers ++ own)
 
 -- ---- choices of the journal
 
+-- a choice's places, none where it is refused
 abbrev pub places_unless : Bool → Choice → Option (List Place)
 places_unless true choice = None
 places_unless false choice = Some choice.places
 
+-- the places of the choice that was found, if it has all copies
 abbrev pub places_chosen : ℕ → Option Choice → Option (List Place)
 places_chosen copies None = None
 places_chosen copies (Some choice) = places_unless (nat_lt (length choice.places) copies) choice
@@ -65,6 +68,7 @@ pub record Placed : Type 0 where
   pub asks : List Ask
   pub images : Images
 
+-- an ask of this write, for a part at a path
 abbrev pub ask_for : Writing → List ℕ → Role → ℕ → ℕ → Ask
 ask_for w path role size copies = record {
   key = record { request = w.request; round = w.round; attempt = w.attempt; path = path; role = role };
@@ -73,6 +77,7 @@ ask_for w path role size copies = record {
 }
 
 -- the copies of the whole part
+-- Rule: allocation.
 abbrev pub body_ask : Writing → List ℕ → List ℕ → Ask
 body_ask w path bytes = ask_for w path Body (length bytes) w.copies
 
@@ -81,9 +86,11 @@ abbrev pub copies_max : ℕ
 copies_max = 3
 
 -- a header has one copy more than its members, up to that
+-- Rule: gang fallback.
 abbrev pub head_ask : Writing → List ℕ → Ask
 head_ask w path = ask_for w path HeadRole sector_size (min (w.copies + 1) copies_max)
 
+-- the pointer of bytes that lie at these places
 abbrev pub pointer_to : Writing → List Place → Bool → List ℕ → Bp
 pointer_to w places gang bytes = record {
   count = length places;
@@ -122,6 +129,7 @@ pub record Members : Type 0 where
   pub asks : List Ask
   pub images : Images
 
+-- a member in front of those behind it
 abbrev pub add_member : Placed → Members → Members
 add_member m others = record {
   errors = m.error ∷ others.errors;
@@ -131,6 +139,7 @@ add_member m others = record {
   images = others.images;
 }
 
+-- a member, and those behind it over the images that its write left
 abbrev pub then_place : Placed → (Images → Members) → Members
 then_place m others = add_member m (others m.images)
 
@@ -141,9 +150,11 @@ place_members place path n (part ∷ parts) images =
     then_place (place (path ++ n ∷ []) part images) (place_members place path (n + 1) parts)
 
 -- the header of the members, for the first place and the block's birth
+-- Rule: gang header write.
 abbrev pub gang_header : Writing → List Place → Members → List ℕ
 gang_header w places m = header_of (filled_to None members_max m.pointers) (slice_index_or places 0 no_place) w.birth
 
+-- a gang whose header was written: the worst error of members and header, and the gang's pointer
 abbrev pub gang_placed : Writing → List ℕ → List ℕ → List Place → Members → List ℕ → Written → Placed
 gang_placed w path bytes places m header written = record {
   error = worst_error (worst_of m.errors) written.error;
@@ -153,10 +164,13 @@ gang_placed w path bytes places m header written = record {
   images = written.images;
 }
 
+-- a gang whose header's bytes are known: they are written to its places
 abbrev pub with_header : Writing → List ℕ → List ℕ → List Place → Members → List ℕ → Placed
 with_header w path bytes places m header =
     gang_placed w path bytes places m header (write_piece w.setting header places m.images)
 
+-- a gang whose members were placed: its header is written also where a member has no place
+-- Rule: gang header write.
 abbrev pub with_members : Writing → List ℕ → List ℕ → List Place → Members → Placed
 with_members w path bytes places m = with_header w path bytes places m (gang_header w places m)
 
@@ -171,6 +185,8 @@ abbrev pub gang_unless : Bool → List Choice → Writing → (List ℕ → List
 gang_unless true journal w place path bytes images = without_place (body_ask w path bytes ∷ []) images
 gang_unless false journal w place path bytes images = gang_with (chosen journal (head_ask w path)) w place path bytes images
 
+-- a part that has places, or that becomes a gang if it is larger than a sector
+-- Rule: gang fallback.
 abbrev pub body_with : Option (List Place) → List Choice → Writing → (List ℕ → List ℕ → Images → Placed) → List ℕ → List ℕ → Images → Placed
 body_with (Some places) journal w place path bytes images =
     body_placed w path bytes places (write_piece w.setting bytes places images)
@@ -186,5 +202,6 @@ place_part (suc levels) journal w path bytes images =
     body_with (chosen journal (body_ask w path bytes)) journal w (place_part levels journal w) path bytes images
 
 -- the write of a whole block
+-- Rule: gang fallback.
 abbrev pub place_block : List Choice → Writing → List ℕ → Images → Placed
 place_block journal w bytes images = place_part path_steps_max journal w [] bytes images

@@ -30,6 +30,7 @@ as_line text = text ++ 10 ∷ []
 abbrev pub spaced : List ℕ → List ℕ
 spaced text = 32 ∷ text
 
+-- the word of a request kind
 abbrev pub kind_text : Kind → List ℕ
 kind_text Null = codes "null"
 kind_text Read = codes "read"
@@ -37,6 +38,7 @@ kind_text Write = codes "write"
 kind_text Free = codes "free"
 kind_text Claim = codes "claim"
 
+-- the name of an error
 abbrev pub errno_text : Errno → List ℕ
 errno_text Nxio = codes "ENXIO"
 errno_text Cksum = codes "ECKSUM"
@@ -46,20 +48,24 @@ errno_text Inval = codes "EINVAL"
 errno_text Exist = codes "EEXIST"
 errno_text Noent = codes "ENOENT"
 
+-- the word for what an entry asks for: a body or a header
 abbrev pub role_text : Role → List ℕ
 role_text Body = codes "body"
 role_text Head = codes "head"
 
+-- the text where the test says so, else nothing
 abbrev pub when : Bool → List ℕ → List ℕ
 when true text = text
 when false text = []
 
 -- ---- the head of a round
 
+-- the batch of a round, or the word of a clear's round
 abbrev pub batch_text : Option ℕ → List ℕ
 batch_text None = codes "clear"
 batch_text (Some batch) = codes "batch " ++ decimal batch
 
+-- the line at the head of a round
 abbrev pub head_text : RoundHead → List ℕ
 head_text head =
     as_line (codes "round " ++ decimal head.round ++ spaced (batch_text head.batch) ++ codes " point " ++ decimal head.point)
@@ -76,6 +82,7 @@ sums_text sums =
     hexadecimal (slice_index sums 0) ++ codes ":" ++ hexadecimal (slice_index sums 1) ++ codes ":"
     ++ hexadecimal (slice_index sums 2) ++ codes ":" ++ hexadecimal (slice_index sums 3)
 
+-- what a line says of its request: suspended, an error, or ok with what there is to tell
 abbrev pub result_text : Bool → LineResult → List ℕ
 result_text with_bytes Suspended = codes "suspended"
 result_text with_bytes (Failed e) = errno_text e
@@ -93,13 +100,16 @@ IsWhole Done = Unit {0}
 IsWhole (Sized size) = Unit {0}
 IsWhole (Bytes bytes) = length bytes % 512 ≡ 0
 
+-- so it is with each of the lines
 abbrev pub AreWhole : List Line → Type 0
 AreWhole lines = AllByRecursion (λ (l : Line). IsWhole l.result) lines
 
+-- the name of a request that has one
 abbrev pub name_text : Option (List ℕ) → List ℕ
 name_text None = []
 name_text (Some name) = spaced name
 
+-- the line of one request
 abbrev pub line_text : Bool → Line → List ℕ
 line_text with_bytes line =
     as_line (decimal line.number ++ spaced (kind_text line.kind) ++ name_text line.name
@@ -107,18 +117,22 @@ line_text with_bytes line =
 
 -- ---- the journal
 
+-- the steps of a path with points between them
 abbrev pub joined_steps : List ℕ → List ℕ
 joined_steps [] = []
 joined_steps (step ∷ []) = decimal step
 joined_steps (step ∷ next ∷ steps) = decimal step ++ codes "." ++ joined_steps (next ∷ steps)
 
+-- a path, or a dash for that of the whole block
 abbrev pub path_text : List ℕ → List ℕ
 path_text [] = codes "-"
 path_text (step ∷ steps) = joined_steps (step ∷ steps)
 
+-- a place: its top and its first sector
 abbrev pub place_text : Place → List ℕ
 place_text p = spaced (decimal p.top ++ codes ":" ++ decimal p.sector)
 
+-- the line of one entry
 abbrev pub choice_text : Choice → List ℕ
 choice_text c =
     as_line (codes "take " ++ decimal c.asked.key.request ++ spaced (decimal c.asked.key.attempt)
@@ -130,6 +144,7 @@ abbrev pub order_text : List Completion → List ℕ
 order_text [] = []
 order_text (c ∷ cs) = as_line (codes "order" ++ flat_map (λ (d : Completion). spaced (decimal d.request)) (c ∷ cs))
 
+-- the lines of a round's entries, and that of its completions
 abbrev pub journal_text : List Choice → List Completion → List ℕ
 journal_text choices completions = flat_map choice_text choices ++ order_text completions
 

@@ -11,6 +11,7 @@ use Rattle.zio_gang.specs.Runs.{Course, run_script, rounds_of, ending, top_of}
 use Rattle.zio_report.specs.declared.report.Show.{Show}
 use Rattle.zio_report.specs.Reports.{run_text, end_code, RunSize, Records}
 
+-- nothing was asked for, nothing completed, and no round was run
 pub record IsEmptyJournal (journal : Journal) : Type 0 where
   pub places : journal.places ≡ []
   pub completions : journal.completions ≡ []
@@ -24,6 +25,7 @@ tops_of script images = map (top_of images) script.tops
 abbrev pub run_size_of : Script → Images → RunSize
 run_size_of script images = record { tops = length script.tops; images = length images; requests = length (requests_of script.items) }
 
+-- a journal's entries and completions
 abbrev pub records_of : Journal → Records
 records_of journal = record { choices = journal.places; completions = journal.completions }
 

@@ -25,6 +25,7 @@ use Rattle.zio_report.specs.Lines.{as_line, round_text}
 
 -- ---- the lines of a round
 
+-- the size of the block that a write made
 abbrev pub sized_by : Option Tree → LineResult
 sized_by None = Done
 sized_by (Some tree) = Sized tree.bp.size
@@ -37,10 +38,12 @@ good_result Write e = sized_by e.tree
 good_result Free e = Done
 good_result Claim e = Done
 
+-- what is shown of a request that finished: its error, or what it has to tell
 abbrev pub result_with : Option Errno → Ended → LineResult
 result_with None e = good_result (kind_of e.request.work) e
 result_with (Some error) e = Failed error
 
+-- the line of a request that finished
 abbrev pub line_of_ended : Ended → Line
 line_of_ended e = record {
   number = e.request.number;
@@ -49,6 +52,7 @@ line_of_ended e = record {
   result = result_with e.error e;
 }
 
+-- the line of a request that is left
 abbrev pub line_of_pending : Pending → Line
 line_of_pending p = record {
   number = p.request.number;
@@ -57,6 +61,7 @@ line_of_pending p = record {
   result = Suspended;
 }
 
+-- lines in the order of their requests' numbers
 abbrev pub by_number : List Line → List Line
 by_number lines = merge_by (λ (l : Line). l.number) lines []
 
@@ -64,22 +69,27 @@ by_number lines = merge_by (λ (l : Line). l.number) lines []
 abbrev pub lines_of : Round → List Line
 lines_of round = by_number (map line_of_ended round.ended ++ flat_map (map line_of_pending) round.left)
 
+-- what the head of a round tells
 abbrev pub head_of : Round → RoundHead
 head_of round = record { round = round.number; batch = round.batch; point = round.point }
 
 -- ---- the report
 
+-- the first line: how many tops and images there are
 abbrev pub pool_text : ℕ → ℕ → List ℕ
 pool_text tops images = as_line (codes "pool " ++ decimal tops ++ codes " " ++ decimal images)
 
+-- the line of a held batch
 abbrev pub held_text : ℕ → List ℕ
 held_text batch = as_line (codes "held " ++ decimal batch)
 
+-- the code of an ending, which is also the program's status
 abbrev pub end_code : Ending → ℕ
 end_code Complete = 0
 end_code Panic = 4
 end_code Left = 9
 
+-- the last line
 abbrev pub end_text : Ending → List ℕ
 end_text ending = as_line (codes "end " ++ decimal (end_code ending))
 
@@ -88,6 +98,7 @@ pub record Records : Type 0 where
   pub choices : List Choice
   pub completions : List Completion
 
+-- the text of a round or of a held batch
 abbrev pub event_text : Show → Records → Event → List ℕ
 event_text show j (RanRound round) =
     round_text show (head_of round) (lines_of round) (choices_in round.number j.choices) (completions_in round.number j.completions)
@@ -95,12 +106,15 @@ event_text show j (HeldBatch batch) = held_text batch
 
 -- ---- the summary
 
+-- all requests that finished
 abbrev pub all_ended : List Event → List Ended
 all_ended events = flat_map (λ (round : Round). round.ended) (rounds_of events)
 
+-- those without error
 abbrev pub good_ended : List Event → List Ended
 good_ended events = filter (λ (e : Ended). is_none e.error) (all_ended events)
 
+-- those with an error
 abbrev pub bad_ended : List Event → List Ended
 bad_ended events = filter (λ (e : Ended). is_some e.error) (all_ended events)
 

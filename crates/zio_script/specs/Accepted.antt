@@ -51,6 +51,7 @@ abbrev pub sizes_in : List Request → List ℕ
 sizes_in batch = map (λ (q : Request). size_with (writes_under batch q.number) q.work) batch
 
 -- no two of the requests name one block, but for reads where no fault row tells them apart
+-- Rule: shared reads.
 abbrev pub NameApart : Bool → List Request → Type 0
 NameApart apart [] = Unit {0}
 NameApart apart (r ∷ requests) =
@@ -63,6 +64,7 @@ pub record IsInRange (r : Request) : Type 0 where
   pub name : is_misnamed (name_of r.work) ≡ false
 
 -- a batch: parents before children, a claim alone, sizes and their sum within the limits
+-- Rule: request kinds.
 pub record IsOrderlyBatch (apart : Bool) (batch : List Request) : Type 0 where
   pub ranges : AllByRecursion IsInRange batch
   pub names : NameApart apart batch

@@ -46,10 +46,12 @@ may_fail Write canfail = canfail
 may_fail Free canfail = canfail
 may_fail Claim canfail = true
 
+-- Rule: failure decision.
 abbrev pub decided : Bool → Bits → Bits
 decided canfail bits = suspend_unless (canfail || has_bits bits) bits
 
 -- all bits of a request: its children's, and those for the error of its own work
+-- Rule: failure decision, reexecution.
 abbrev pub all_bits : Kind → Option Errno → Bool → Failmode → Bits → Bits
 all_bits kind None canfail mode children = children
 all_bits kind (Some e) canfail mode children =

@@ -81,6 +81,7 @@ must_parent None = false
 must_parent (Some parent) = not parent.canfail
 
 -- `canfail` or `must`, else false under a parent that may not fail, else by the kind
+-- Rule: request kinds.
 abbrev pub may_fail : Option Bool → Option Request → Kind → Bool
 may_fail (Some flag) parent kind = flag
 may_fail None parent kind = not (must_parent parent) && may_fail_alone kind
@@ -202,6 +203,7 @@ is_flip Gone = false
 is_flip Flip = true
 
 -- a fault row is `first` or `flip`
+-- Rule: shared reads.
 abbrev pub tells_reads_apart : Script → Bool
 tells_reads_apart script = list_any (λ (row : Row). row.first || is_flip row.kind) script.faults
 
@@ -218,10 +220,12 @@ abbrev pub may_share : Bool → Work → Work → Bool
 may_share apart work other = not apart && is_read (kind_of work) && is_read (kind_of other)
 
 -- the two name one block, and may not
+-- Rule: shared reads.
 abbrev pub clashes : Bool → Work → Work → Bool
 clashes apart work other = names_it (name_of work) (name_of other) && not (may_share apart work other)
 
 -- an earlier request of the batch names the block of this work, and isn't a read beside reads
+-- Rule: shared reads.
 abbrev pub is_taken : Script → List Request → Work → Bool
 is_taken script batch work = list_any (λ (r : Request). clashes (tells_reads_apart script) work r.work) batch
 
@@ -235,6 +239,7 @@ says_canfail (Some flag) = flag
 -- ---- why 8, Parent
 
 -- the first kind may have a request of the second one under it
+-- Rule: request kinds.
 abbrev pub may_have : Kind → Kind → Bool
 may_have NullKind child = true
 may_have ReadKind child = true
@@ -281,6 +286,7 @@ is_claim FreeKind = false
 is_claim ClaimKind = true
 
 -- a claim and another request are in one batch
+-- Rule: request kinds.
 abbrev pub shares_with_claim : List Request → Kind → Bool
 shares_with_claim batch kind =
     is_claim kind && not (is_empty batch) || list_any (λ (r : Request). is_claim (kind_of r.work)) batch

@@ -2,6 +2,7 @@
 use Rattle.std.specs.Prelude.{Bool, false, ◌||◌}
 use Rattle.zio_types.specs.declared.request.Bits.{Bits}
 
+-- neither: the request doesn't go again
 abbrev pub no_bits : Bits
 no_bits = record { now = false; suspend = false }
 

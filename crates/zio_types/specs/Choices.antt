@@ -28,6 +28,7 @@ is_refused choice = nat_lt (length choice.places) choice.asked.copies
 abbrev pub taken_by : Choice → List Place
 taken_by choice = cond (is_refused choice) [] choice.places
 
+-- both ask for a body, or both for a header
 abbrev pub same_role : Role → Role → Bool
 same_role Body Body = true
 same_role Head Head = true

@@ -4,6 +4,7 @@ use Rattle.zio_types.specs.declared.error.Errno.{Errno}
 use Rattle.zio_types.specs.declared.error.Errno.TheVariants.{Nxio, Cksum, Io, Nospc, Inval, Exist, Noent}
 
 -- how bad an error is; none is the least
+-- Rule: error rank.
 abbrev pub rank : Option Errno → ℕ
 rank None = 0
 rank (Some Nxio) = 1
@@ -20,6 +21,7 @@ second_if true a b = b
 second_if false a b = a
 
 -- the error of the greater rank
+-- Rule: error rank.
 abbrev pub worst_error : Option Errno → Option Errno → Option Errno
 worst_error a b = second_if (nat_lt (rank a) (rank b)) a b
 

@@ -18,15 +18,18 @@ pub record Child : Type 0 where
   pub ready : Bool
   pub done : Bool
 
+-- the kind is that of places, leaf operations and repairs
 abbrev pub is_vdev : ChildKind → Bool
 is_vdev Vdev = true
 is_vdev Gang = false
 is_vdev Logical = false
 
 -- a child as it is added: a vdev child is ready then
+-- Rule: child counts.
 abbrev pub new_child : ChildKind → Child
 new_child kind = record { kind = kind; ready = is_vdev kind; done = false }
 
+-- both kinds are one
 abbrev pub same_kind : ChildKind → ChildKind → Bool
 same_kind Vdev Vdev = true
 same_kind Vdev Gang = false
@@ -38,6 +41,7 @@ same_kind Logical Vdev = false
 same_kind Logical Gang = false
 same_kind Logical Logical = true
 
+-- both phases are one
 abbrev pub same_phase : Phase → Phase → Bool
 same_phase Ready Ready = true
 same_phase Ready Done = false
@@ -50,6 +54,7 @@ lacks Ready child = not child.ready
 lacks Done child = not child.done
 
 -- the child is of the kind, and hasn't the mark of the phase
+-- Rule: child counts.
 abbrev pub owes : ChildKind → Phase → Child → Bool
 owes kind phase child = same_kind child.kind kind && lacks phase child
 
@@ -59,15 +64,18 @@ owes_at kind phase n [] = false
 owes_at kind phase zero (child ∷ children) = owes kind phase child
 owes_at kind phase (suc n) (child ∷ children) = owes_at kind phase n children
 
+-- 1 where the test holds, else 0
 abbrev pub one_if : Bool → ℕ
 one_if true = 1
 one_if false = 0
 
 -- how many children of the kind haven't the mark of the phase
+-- Rule: child counts.
 abbrev pub count_of : ChildKind → Phase → List Child → ℕ
 count_of kind phase [] = 0
 count_of kind phase (child ∷ children) = one_if (owes kind phase child) + count_of kind phase children
 
+-- the child with the mark of the phase
 abbrev pub marked : Phase → Child → Child
 marked Ready child = record child { ready = true }
 marked Done child = record child { done = true }
@@ -91,6 +99,7 @@ pub record PerKind (X : Type 0) : Type 0 where
   pub gang : X
   pub logical : X
 
+-- that of a kind
 abbrev pub of_kind : {X : Type 0} → ChildKind → PerKind X → X
 of_kind Vdev each = each.vdev
 of_kind Gang each = each.gang
@@ -141,14 +150,17 @@ error_unless true error = None
 error_unless false error = error
 
 -- the worst of the errors of a kind so far and a child's
+-- Rule: error joining.
 abbrev pub joined_errors : ChildKind → Option Errno → PerKind (Option Errno) → PerKind (Option Errno)
 joined_errors kind error errors = with_kind kind (worst_error (of_kind kind errors) error) errors
 
+-- the request stalls on the count, unless that is 0
 abbrev pub stalled_unless : Bool → Count → Machine → Machine
 stalled_unless true count m = m
 stalled_unless false count m = record m { stall = Some count }
 
 -- what an event does beside the wake; a wait stalls where the count isn't 0
+-- Rule: child completion.
 abbrev pub happened : Event → Machine → Machine
 happened (Added kind) m = record m { children = m.children ++ new_child kind ∷ [] }
 happened (BecameReady kind n) m = record m { children = marked_at Ready n m.children }
@@ -161,9 +173,11 @@ happened (BecameDone kind n error bits) m = record {
 happened (Waited kind phase) m =
     stalled_unless (count_of kind phase m.children == 0) (record { kind = kind; phase = phase }) m
 
+-- the count is that of this kind and phase
 abbrev pub is_count : ChildKind → Phase → Count → Bool
 is_count kind phase count = same_kind count.kind kind && same_phase count.phase phase
 
+-- the stall is that of this kind and phase
 abbrev pub is_stall : ChildKind → Phase → Option Count → Bool
 is_stall kind phase None = false
 is_stall kind phase (Some count) = is_count kind phase count
@@ -173,6 +187,7 @@ abbrev pub is_over : ChildKind → Phase → Machine → Bool
 is_over kind phase m = is_stall kind phase m.stall && (count_of kind phase m.children == 0)
 
 -- the event brings the count to 0 on which the request stalls: the wake comes with it
+-- Rule: child completion.
 abbrev pub wakes : Event → Machine → Bool
 wakes (Added kind) m = false
 wakes (BecameReady kind n) m = is_over kind Ready (happened (BecameReady kind n) m)
@@ -188,6 +203,7 @@ woken_if false m = m
 abbrev pub after : Event → Machine → Machine
 after event m = woken_if (wakes event m) (happened event m)
 
+-- a stall whose count isn't 0, or none
 abbrev pub is_open : List Child → Option Count → Bool
 is_open children None = true
 is_open children (Some count) = not (count_of count.kind count.phase children == 0)
@@ -198,6 +214,7 @@ stall_is_open m = is_open m.children m.stall
 
 -- ---- a wait for several kinds
 
+-- this count where the test says so, else another
 abbrev pub first_if : Bool → Count → Option Count → Option Count
 first_if true count others = Some count
 first_if false count others = others
@@ -209,14 +226,17 @@ count_or kind kinds phase children others =
     (record { kind = kind; phase = phase }) others
 
 -- the first count of these kinds that isn't 0, in the order vdev, gang, logical
+-- Rule: wait order.
 abbrev pub first_count : List ChildKind → Phase → List Child → Option Count
 first_count kinds phase children =
     count_or Vdev kinds phase children (count_or Gang kinds phase children (count_or Logical kinds phase children None))
 
+-- a wait on this count, or none
 abbrev pub waited_on : Option Count → Machine → Machine
 waited_on None m = m
 waited_on (Some count) m = after (Waited count.kind count.phase) m
 
 -- a wait for the children of these kinds stalls on the first count that isn't 0, if there is one
+-- Rule: wait order.
 abbrev pub after_wait : List ChildKind → Phase → Machine → Machine
 after_wait kinds phase m = waited_on (first_count kinds phase m.children) m

@@ -27,9 +27,11 @@ abbrev pub rounded_to : ℕ → ℕ → ℕ
 rounded_to unit n = (n + (unit - 1)) / unit * unit
 
 -- how many sectors a size in bytes takes on a top
+-- Rule: sector units.
 abbrev pub sectors_on : TopSize → ℕ → ℕ
 sectors_on top size = rounded_to top.unit (size / sector_size)
 
+-- the same by the top, if there is one
 abbrev pub is_below : Place → Option TopSize → Bool
 is_below p None = false
 is_below p (Some top) = nat_lt 0 p.sectors && nat_le (end_of p) top.sectors
@@ -38,14 +40,17 @@ is_below p (Some top) = nat_lt 0 p.sectors && nat_le (end_of p) top.sectors
 abbrev pub is_inside : List TopSize → Place → Bool
 is_inside tops p = is_below p (slice_get tops p.top)
 
+-- the same by the top, if there is one
 abbrev pub fits_on : ℕ → Place → Option TopSize → Bool
 fits_on size p None = false
 fits_on size p (Some top) = (p.sector % top.unit == 0) && (p.sectors == sectors_on top size)
 
 -- The place fits the size: its sector is a multiple of its top's unit, and its sectors are those that the size takes there.
+-- Rule: sector units.
 abbrev pub fits_size : List TopSize → ℕ → Place → Bool
 fits_size tops size p = fits_on size p (slice_get tops p.top)
 
+-- the same by the top, if there is one
 abbrev pub is_aligned_on : Place → Option TopSize → Bool
 is_aligned_on p None = false
 is_aligned_on p (Some top) = (p.sector % top.unit == 0) && (p.sectors % top.unit == 0)
@@ -59,6 +64,7 @@ abbrev pub is_unit : ℕ → Bool
 is_unit n = (n == 1) || (n == 2) || (n == 4) || (n == 8)
 
 -- the top has one of these units, which divides its sectors
+-- Rule: sector units.
 abbrev pub is_lawful_top : TopSize → Bool
 is_lawful_top top = is_unit top.unit && (top.sectors % top.unit == 0)
 
@@ -88,6 +94,7 @@ abbrev pub uses_top : List Place → ℕ → Bool
 uses_top places top = list_any (λ p. p.top == top) places
 
 -- a place that may be found for a copy of this size, where the earlier copies have these places
+-- Rule: allocation.
 pub record IsNextCopy (tops : List TopSize) (used : List Place) (size : ℕ) (earlier : List Place) (p : Place) : Type 0 where
   pub fits : IsTrue (fits_size tops size p)
   pub inside : IsTrue (is_inside tops p)
@@ -103,6 +110,7 @@ AreCopies tops used size earlier (p ∷ ps) =
     IsNextCopy tops used size earlier p × AreCopies tops used size (earlier ++ p ∷ []) ps
 
 -- The law of one choice, beside the places that are used: a place for each copy, or for as many as there is room for.
+-- Rule: allocation.
 pub record IsLawfulChoice (tops : List TopSize) (used : List Place) (choice : Choice) : Type 0 where
   pub found : length choice.places ≤ choice.asked.copies
   pub copies : AreCopies tops used choice.asked.size [] choice.places

@@ -6,13 +6,10 @@ use Rattle.std.proofs.Math.Nat.{mod-add-div, add-mul-mod_self_left}
 use mathlib.Core.Option.{some, some-injective, some-ne-none}
 use lib.ListN.{get_elem?}
 use Rattle.atomic_table.proofs.Lists.{at_set}
+pub use Rattle.zio_types.proofs.ListLemmas.{total_append, all_map}
 use Rattle.zio_book.specs.History.{Leads, total, once_below}
 
 module _ {A : Type 0} where
-  pub total_append : (f : A → ℕ) (xs ys : List A) → total f (xs ++ ys) ≡ total f xs + total f ys
-  total_append f [] ys = omega arith
-  total_append f (x ∷ xs) ys = omega (arith, total_append f xs ys)
-
   pub total_set : (f : A → ℕ) (xs : List A) (i : ℕ) (x y : A) → get_elem? xs i ≡ some x → total f (set xs i y) + f x ≡ total f xs + f y
   total_set f [] i x y at = absurd (some-ne-none x (sym at))
   total_set f (z ∷ zs) zero x y at = let e : f z ≡ f x = ap f (some-injective z x at) in omega arith
@@ -55,10 +52,6 @@ module _ {A : Type 0} where
   pub each_set : (P : ℕ → A → Type 0) (xs : List A) (i : ℕ) (y : A) → P i y → ((j : ℕ) (u : A) → j ≢ i → get_elem? xs j ≡ some u → P j u) → (j : ℕ) (u : A) → get_elem? (set xs i y) j ≡ some u → P j u
   each_set P xs i y mine others j u at =
       ⊎_elim (λ (t : (j ≡ i) × (y ≡ u)). subst (λ (z : ℕ × A). P z.0 z.1) (λ k. (sym t.0 k, t.1 k)) mine) (λ (t : (j ≢ i) × (get_elem? xs j ≡ some u)). others j u t.0 t.1) (at_set xs i j y u at)
-
-  pub all_map : (P Q : A → Type 0) (xs : List A) → All P xs → ((x : A) → P x → Q x) → All Q xs
-  all_map P Q [] a f = All-nil Q
-  all_map P Q (x ∷ xs) a f = All-cons Q x xs (f x (All-head P x xs a)) (all_map P Q xs (All-tail P x xs a) f)
 
   pub get_longer : (xs ys : List A) (k : ℕ) (a : A) → slice_get xs k ≡ Some a → slice_get (xs ++ ys) k ≡ Some a
   get_longer [] ys k a e = absurd (cc)

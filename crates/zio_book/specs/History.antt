@@ -1,4 +1,5 @@
 -- Histories, and what is counted in them.
+pub use Rattle.zio_types.specs.Totals.{total}
 use Rattle.zio_book.specs.declared.view.Kept.{Kept}
 use Rattle.std.specs.Prelude.{◌≡◌, ℕ, ◌+◌, Option, Some, None, cond, eqb, ltb, List, [], ◌∷◌, ◌++◌, All}
 
@@ -6,11 +7,6 @@ use Rattle.std.specs.Prelude.{◌≡◌, ℕ, ◌+◌, Option, Some, None, cond,
 abbrev pub Leads : {H N : Type 0} → (H → N → H → Type 0) → H → List N → H → Type 0
 Leads gives s [] t = s ≡ t
 Leads {H} gives s (n ∷ ns) t = (u : H) × gives s n u × Leads gives u ns t
-
--- a number for each item, added up
-abbrev pub total : {A : Type 0} → (A → ℕ) → List A → ℕ
-total f [] = 0
-total f (x ∷ xs) = f x + total f xs
 
 -- how often an act has the number k
 abbrev pub times : {A : Type 0} → ℕ → List (ℕ × A) → ℕ

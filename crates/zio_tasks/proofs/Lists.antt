@@ -1,13 +1,10 @@
 -- Sums over lists, what stands beside a number, and what holds of each item.
 use Rattle.std.proofs.Common.{◌≡◌, ◌≢◌, ℕ, ◌+◌, cond, eqb, true, false, eq-eqb, ne_eqb, List, [], ◌∷◌, ◌++◌, refl, ap, arith, All}
 use Rattle.std.proofs.lemmas.List.Elements.{All-nil, All-cons, All-head, All-tail}
+pub use Rattle.zio_types.proofs.ListLemmas.{total_append, all_map}
 use Rattle.zio_tasks.specs.Hands.{total, of, taken}
 
 module _ {A : Type 0} where
-  pub total_append : (f : A → ℕ) (xs ys : List A) → total f (xs ++ ys) ≡ total f xs + total f ys
-  total_append f [] ys = omega arith
-  total_append f (x ∷ xs) ys = omega (arith, total_append f xs ys)
-
   joined : (b : _) (a : A) (xs ys zs : List A) → zs ≡ xs ++ ys → cond b (a ∷ zs) zs ≡ cond b (a ∷ xs) xs ++ ys
   joined true a xs ys zs e = ap (λ l. a ∷ l) e
   joined false a xs ys zs e = e
@@ -33,10 +30,6 @@ module _ {A : Type 0} where
   pub all_right : (P : A → Type 0) (xs ys : List A) → All P (xs ++ ys) → All P ys
   all_right P [] ys a = a
   all_right P (x ∷ xs) ys a = all_right P xs ys (All-tail P x (xs ++ ys) a)
-
-  pub all_map : (P Q : A → Type 0) (xs : List A) → All P xs → ((x : A) → P x → Q x) → All Q xs
-  all_map P Q [] a f = All-nil Q
-  all_map P Q (x ∷ xs) a f = All-cons Q x xs (f x (All-head P x xs a)) (all_map P Q xs (All-tail P x xs a) f)
 
   -- two facts of each
   pub all_both : (P Q : A → Type 0) (xs : List A) → All P xs → All Q xs → All (λ x. P x × Q x) xs

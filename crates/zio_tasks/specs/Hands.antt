@@ -1,15 +1,11 @@
 -- What is known of the tasks of one queue: what each pass put into it and took out of it, and the one order in which all of them stand.
 use Rattle.std.specs.Prelude.{Bool, ◌≡◌, ℕ, ◌+◌, ◌<◌, ◌≤◌, cond, eqb, List, [], ◌∷◌, ◌++◌, map, length, All, Contains}
+pub use Rattle.zio_types.specs.Totals.{total}
 use Rattle.zio_tasks.specs.declared.hand.Hand.{Hand}
 
 -- what the pass of this number put, and what it took, each with the number of the pass that put it
 abbrev pub hand : {T : Type 0} → ℕ → List T → List (ℕ × T) → Hand T
 hand number puts takes = record { number = number; puts = puts; takes = takes }
-
--- a number for each item, added up
-abbrev pub total : {A : Type 0} → (A → ℕ) → List A → ℕ
-total f [] = 0
-total f (x ∷ xs) = f x + total f xs
 
 -- what stands beside the number k, in order
 abbrev pub of : {A : Type 0} → ℕ → List (ℕ × A) → List A

@@ -1,6 +1,7 @@
 -- How the counts of the request machine follow its children's marks, and when its wakes come.
 use Rattle.std.proofs.Common.{◌≡◌, ℕ, zero, suc, ◌+◌, List, [], ◌∷◌, ◌++◌, Bool, true, false, ◌&&◌, not, ◌==◌, Option, Some, None, IsTrue, refl, ap, sym, ◌∙◌, arith, ◌≢◌, eq-eqb, ne_eqb}
 use Rattle.std.proofs.lemmas.Bool.{false≢true}
+use Rattle.std.proofs.Math.Bool.{and-false, and-true}
 use Rattle.zio_types.specs.declared.request.ChildKind.{ChildKind}
 use Rattle.zio_types.specs.declared.request.ChildKind.TheVariants.{Vdev, Gang, Logical}
 use Rattle.zio_types.specs.declared.request.Phase.{Phase}
@@ -32,14 +33,6 @@ same_kind-sym Gang Logical = refl
 same_kind-sym Logical Vdev = refl
 same_kind-sym Logical Gang = refl
 same_kind-sym Logical Logical = refl
-
-pub and-false : (b : Bool) → (b && false) ≡ false
-and-false true = refl
-and-false false = refl
-
-pub and-true : (b : Bool) → (b && true) ≡ b
-and-true true = refl
-and-true false = refl
 
 front_true : (a b : Bool) → IsTrue (a && b) → IsTrue a
 front_true true b h = refl

@@ -6,3 +6,4 @@ pub mod Filled
 pub mod Machine
 pub mod Paths
 pub mod Places
+pub mod Totals

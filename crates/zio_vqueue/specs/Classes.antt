@@ -4,6 +4,7 @@ use Rattle.zio_types.specs.declared.request.Prio.{Prio}
 use Rattle.zio_types.specs.declared.request.Prio.TheVariants.{SyncRead, SyncWrite, AsyncRead, AsyncWrite, Scrub}
 
 -- the classes in the order in which they are served
+-- Rule: queue classes.
 abbrev pub classes : List Prio
 classes = SyncRead ∷ SyncWrite ∷ AsyncRead ∷ AsyncWrite ∷ Scrub ∷ []
 
@@ -16,6 +17,7 @@ class_number AsyncWrite = 3
 class_number Scrub = 4
 
 -- active groups of a class below which it is served before any class that has its minimum
+-- Rule: queue classes.
 abbrev pub minimum_of : Prio → ℕ
 minimum_of SyncRead = 10
 minimum_of SyncWrite = 10
@@ -24,6 +26,7 @@ minimum_of AsyncWrite = 2
 minimum_of Scrub = 1
 
 -- the most active groups of a class
+-- Rule: queue classes.
 abbrev pub maximum_of : Prio → ℕ
 maximum_of SyncRead = 10
 maximum_of SyncWrite = 10

@@ -1,5 +1,6 @@
 -- The steps by which a value goes to the owner keep the rule.
 use Rattle.std.proofs.Common.{◌≡◌, ◌≢◌, ℕ, zero, suc, ◌+◌, ◌^◌, ◌<◌, Bool, true, false, ◌&&◌, ◌||◌, ◌==◌, List, [], ◌∷◌, ◌++◌, length, get_or, set, refl, ap, ap₂, sym, ◌∙◌, subst, inl, inr, arith, length-set, eq-eqb, ne_eqb}
+use Rattle.std.proofs.Math.Bool.{or-false}
 use mathlib.Core.Option.{some, none, some-injective, some-ne-none}
 use mathlib.Core.Option as maybe
 use mathlib.Core.Logic.{dite}
@@ -28,10 +29,6 @@ use Rattle.zio_latch.proofs.Slots.{OneSlot, slots_kept, free_kept, node_kept}
 use Rattle.zio_latch.proofs.Views.{child_steps, owner_steps}
 use Rattle.zio_latch.proofs.Waits.{loaded}
 use Rattle.zio_latch.proofs.Words.{slot_below, same_phase_self}
-
-or_false : (b : Bool) → (b || false) ≡ b
-or_false true = refl
-or_false false = refl
 
 or_true : (a b : Bool) → b ≡ true → (a || b) ≡ true
 or_true true b e = refl
@@ -65,7 +62,7 @@ none_lack k p (x ∷ rows) zero r e z same = none_first (same_kind r.child.kind 
 none_lack k p (x ∷ rows) (suc n) r e z same = none_lack k p rows n r e (omega arith) same
 
 pub has-append : (j : ℕ) (xs : List ℕ) (n : ℕ) → has j (xs ++ n ∷ []) ≡ (has j xs || (n == j))
-has-append j [] n = or_false (n == j)
+has-append j [] n = or-false (n == j)
 has-append j (x ∷ xs) n = ap (λ (b : Bool). (x == j) || b) (has-append j xs n) ∙ or_assoc (x == j) (has j xs) (n == j)
 
 both_true : (a b : Bool) → (a && b) ≡ true → (a ≡ true) × (b ≡ true)
@@ -211,7 +208,7 @@ module _ {N R V : Type 0} (fits_ready : R → ℕ → Type 0) (fits_done : V →
         long = length-set s.homes sl (some Bare);
         others = λ j ne. set_else s.homes sl j (some Bare) ne;
         elsewhere = λ j q ne e p'. (λ i. held_by (owes_value p' q.kid) (lacks p' q.child) (l.busy_of j && same_phase (turn_if q.child.ready) p')
-            (taken_if (same_kind k q.kid.kind && same_phase p p') ((has-append j g n ∙ ap (λ (x : Bool). has j g || x) (ne_eqb n j (λ x. ne (sym x))) ∙ or_false (has j g)) i) (sym (has_one j n ne) i)) p' q.kid.label)
+            (taken_if (same_kind k q.kid.kind && same_phase p p') ((has-append j g n ∙ ap (λ (x : Bool). has j g || x) (ne_eqb n j (λ x. ne (sym x))) ∙ or-false (has j g)) i) (sym (has_one j n ne) i)) p' q.kid.label)
             ∙ sym (ap (λ z. row_holds z (l.busy_of j) j q p') st);
         here = subst (HoldsAt fits_ready fits_done rests homes sl) (sym now) (set_here s.homes sl (some Bare) near);
         there = λ p' ne. (λ i. held_by (owes_value p' r.kid) (lacks p' r.child) (l.busy_of n && same_phase (turn_if r.child.ready) p') (taken_if (other_phase (same_kind k r.kid.kind) p p' ne i) (has n (g ++ n ∷ [])) false) p' r.kid.label)

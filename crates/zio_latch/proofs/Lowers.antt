@@ -1,5 +1,6 @@
 -- The step by which a child's value comes, with the wake where its count comes to 0.
 use Rattle.std.proofs.Common.{◌≡◌, ◌≢◌, ℕ, ◌+◌, ◌-◌, ◌*◌, ◌%◌, ◌^◌, ◌<◌, ◌≤◌, Bool, true, false, ◌&&◌, ◌==◌, not, IsTrue, List, [], ◌∷◌, length, get_or, set, refl, ap, ap₂, sym, ◌∙◌, subst, inl, inr, ◌⊎◌, ⊎_elim, arith, length-set, eq-eqb, ne_eqb, None}
+use Rattle.std.proofs.Math.Bool.{and-false}
 use mathlib.Core.Option.{some}
 use mathlib.Core.Logic.{dite}
 use native.Mathlib.Decide.{ℕ_discrete}
@@ -34,10 +35,6 @@ may_is : (p : Phase) (k : ChildKind) (n : ℕ) (m : Machine) → may_happen (val
 may_is Ready k n m = refl
 may_is Done k n m = refl
 
-and_false : (b : Bool) → (b && false) ≡ false
-and_false true = refl
-and_false false = refl
-
 bit_le : (b : Bool) → one_if b ≤ 1
 bit_le true = omega arith
 bit_le false = omega arith
@@ -48,7 +45,7 @@ asleep_by : (k : ChildKind) (p : Phase) (kind : ChildKind) (q : Phase) (c d : �
 asleep_by k p kind q c d (inl e) f ne =
     let one : one_if (same_kind kind k && same_phase q p) ≡ 1 = (λ i. one_if (same_kind (e.0 i) k && same_phase (e.1 i) p)) ∙ marked_self k p in
     let more : d ≢ 0 = λ z. ne (omega arith) in
-    ap (λ (b : Bool). is_stall k p (stall_of (Parked kind q)) && b) (ne_eqb d 0 more) ∙ and_false (is_stall k p (stall_of (Parked kind q)))
+    ap (λ (b : Bool). is_stall k p (stall_of (Parked kind q)) && b) (ne_eqb d 0 more) ∙ and-false (is_stall k p (stall_of (Parked kind q)))
 asleep_by k p kind q c d (inr other) f ne = ap (λ (b : Bool). b && (d == 0)) (not_same kind q k p (λ x. other (sym x)))
 
 asleep : (stage : Stage) (rows rows' : List Row) (k : ChildKind) (p : Phase) → Fallen k p rows rows' → (face stage rows k p ≡ 3 → ⊥) → (is_stall k p (stall_of stage) && (count_of k p (children_of rows') == 0)) ≡ false

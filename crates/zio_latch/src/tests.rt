@@ -1,7 +1,7 @@
 //! A latch of numbers.
 ghost use Rattle.std.specs.Prelude.{◌≡◌, ◌<◌, ◌-◌, ◌^◌, length, true};
 
-use crate::{Arrival, Arrived, Fits, Owner, Rests};
+use crate::{Arrival, Arrived, Fits, Owner, Parked, Rests, Woken};
 use std::alloc::{AllocError, Global};
 use std::test::Fail;
 use std::thread;
@@ -128,6 +128,131 @@ fn a_child_ends_on_another_thread_while_its_owner_waits(rt: HostRuntime) -> Resu
         assert_eq!(rt; woken.node, 5);
         let values = taken(rt.alloc(), &mut woken.arrived)?;
         assert_eq!(rt; values.as_slice(), [(0u32, round)].as_slice());
+    }
+    Ok(())
+}
+
+// The one of the two that was woken, and whether it was just one.
+fn woken_of(
+    ended: Option<Woken<u32, u64, u64>>,
+    waited: Result<Woken<u32, u64, u64>, Parked>,
+) -> (bool, Option<Woken<u32, u64, u64>>) {
+    match (ended, waited) {
+        (Some(woken), Err(_)) => (true, Some(woken)),
+        (None, Ok(woken)) => (true, Some(woken)),
+        (Some(woken), Ok(_)) => (false, Some(woken)),
+        (None, Err(_)) => (false, None),
+    }
+}
+
+// Two vdev children and a gang child are out at once. Which thread ends which, and which comes second, changes with
+// the round.
+#[test]
+fn the_last_of_several_children_ends_on_another_thread(rt: HostRuntime) -> Result<(), Fail> {
+    for round in 0..4000u64 {
+        let mut owner = Owner::<u32, u64, u64>::new(rt.alloc(), 3)?;
+        let first = owner
+            .add(ChildKind::Vdev, 70)?
+            .expect(&rt, "there is room for one");
+        let second = owner
+            .add(ChildKind::Vdev, 71)?
+            .expect(&rt, "there is room for two");
+        let mut gang = owner
+            .add(ChildKind::Gang, 72)?
+            .expect(&rt, "there is room for three");
+        let (ended, waited) = if round % 3 == 0 {
+            thread::join(
+                &rt,
+                move || first.done(round).or(second.done(round)),
+                move || owner.wait(5, ChildKind::Vdev, Phase::Done),
+            )
+        } else if round % 3 == 1 {
+            let (waited, ended) = thread::join(
+                &rt,
+                move || owner.wait(5, ChildKind::Vdev, Phase::Done),
+                move || second.done(round).or(first.done(round)),
+            );
+            (ended, waited)
+        } else {
+            let (ended, (other, waited)) = thread::join(
+                &rt,
+                move || first.done(round),
+                move || {
+                    let other = second.done(round);
+                    (other, owner.wait(5, ChildKind::Vdev, Phase::Done))
+                },
+            );
+            assert!(rt; other.is_none());
+            (ended, waited)
+        };
+        let (once, woken) = woken_of(ended, waited);
+        assert!(rt; once);
+        let mut woken = woken.expect(&rt, "one of the two is woken");
+        assert_eq!(rt; woken.node, 5);
+        let values = taken(rt.alloc(), &mut woken.arrived)?;
+        assert_eq!(rt;
+            values.as_slice(),
+            [(0u32, round), (1u32, round)].as_slice()
+        );
+        let owner = woken.arrived.into_owner();
+        let (ended, waited) = thread::join(
+            &rt,
+            move || {
+                let ready = gang.ready(round);
+                let done = gang.done(round);
+                (ready, done)
+            },
+            move || owner.wait(6, ChildKind::Gang, Phase::Ready),
+        );
+        let (ready, done) = ended;
+        assert!(rt; done.is_none());
+        let (once, woken) = woken_of(ready, waited);
+        assert!(rt; once);
+        let mut woken = woken.expect(&rt, "one of the two is woken");
+        assert_eq!(rt; woken.node, 6);
+        let values = taken(rt.alloc(), &mut woken.arrived)?;
+        assert_eq!(rt; values.as_slice(), [(2u32, round)].as_slice());
+        let owner = woken.arrived.into_owner();
+        let mut woken = owner
+            .wait(7, ChildKind::Gang, Phase::Done)
+            .expect(&rt, "its done value came before");
+        let values = taken(rt.alloc(), &mut woken.arrived)?;
+        assert_eq!(rt; values.as_slice(), [(2u32, round)].as_slice());
+    }
+    Ok(())
+}
+
+// The second child is added and ends while the first ends on the other thread.
+#[test]
+fn a_child_ends_while_its_owner_adds_another(rt: HostRuntime) -> Result<(), Fail> {
+    let alloc = rt.alloc();
+    for round in 0..4000u64 {
+        let mut owner = Owner::<u32, u64, u64>::new(alloc, 2)?;
+        let first = owner
+            .add(ChildKind::Vdev, 70)?
+            .expect(&rt, "there is room for one");
+        let (ended, added) = thread::join(
+            &rt,
+            move || first.done(round),
+            move || {
+                let Ok(Some(second)) = owner.add(ChildKind::Vdev, 71) else {
+                    return None;
+                };
+                let other = second.done(round);
+                Some((other, owner.wait(5, ChildKind::Vdev, Phase::Done)))
+            },
+        );
+        let (other, waited) = added.expect(&rt, "there is room for two");
+        assert!(rt; other.is_none());
+        let (once, woken) = woken_of(ended, waited);
+        assert!(rt; once);
+        let mut woken = woken.expect(&rt, "one of the two is woken");
+        assert_eq!(rt; woken.node, 5);
+        let values = taken(alloc, &mut woken.arrived)?;
+        assert_eq!(rt;
+            values.as_slice(),
+            [(0u32, round), (1u32, round)].as_slice()
+        );
     }
     Ok(())
 }

@@ -14,7 +14,7 @@ use Rattle.zio_types.specs.declared.request.ChildKind.TheVariants.{Vdev, Gang, L
 use Rattle.zio_types.specs.declared.request.Phase.{Phase}
 use Rattle.zio_types.specs.declared.request.Phase.TheVariants.{Ready, Done}
 use Rattle.zio_types.specs.Machine.{is_count, same_kind}
-use Rattle.zio_types.proofs.MachineLemmas.{and-false, and-true}
+use Rattle.std.proofs.Math.Bool.{and-false, and-true}
 use Rattle.zio_counts.specs.declared.child.Child.{Child}
 use Rattle.zio_counts.specs.declared.firsts.Firsts.{Firsts}
 use Rattle.zio_counts.specs.Broods.{IsIndex, IsPassed, all_stepped, first_of, first_or, firsts_of, has_label, misses, new_child, stepped, with_first}

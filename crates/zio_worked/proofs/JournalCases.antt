@@ -5,7 +5,7 @@ use Rattle.zio_types.specs.Choices.{Ask, same_key}
 use Rattle.zio_worked.proofs.Absent.{not_contained}
 use Rattle.zio_worked.proofs.Evaluation.{evaluation}
 use Rattle.zio_worked.proofs.LawfulChoices.{are_lawful-sound}
-use Rattle.zio_worked.specs.LawfulJournals.{pair_script, for_x, for_y, second_attempt, half_of_y, PairIsLawful, OtherOrderIsLawful, KeyNotAskedFor, KeyTwice, AskWithoutChoice, OtherSize, RoundThatWasNotRun, PlaceOfAnother, PlaceOutside, PlaceTooShort, TooManyPlaces, RefusedWithRoom, PlaceOfBoundBlock, PlaceOfEarlierAttempt, GivenBackIsLawful, CopyOnUsedTop, SecondCopyIsLawful, RefusedIsLawful, GangIsLawful, RefusedBeforeTheLast, WholeUnitIsLawful, PlaceBetweenUnits, PlaceOfPartOfAUnit, PlaceOfTwoUnits}
+use Rattle.zio_worked.specs.LawfulJournals.{pair_script, for_x, for_y, second_attempt, half_of_y, PairIsLawful, OtherOrderIsLawful, KeyNotAskedFor, KeyTwice, AskWithoutChoice, OtherSize, RoundThatWasNotRun, PlaceOfAnother, PlaceOutside, PlaceTooShort, TooManyPlaces, RefusedWithRoom, PlaceOfBoundBlock, PlaceFreedInTheRound, PlaceOfEarlierAttempt, GivenBackIsLawful, CopyOnUsedTop, SecondCopyIsLawful, RefusedIsLawful, GangIsLawful, RefusedBeforeTheLast, WholeUnitIsLawful, PlaceBetweenUnits, PlaceOfPartOfAUnit, PlaceOfTwoUnits}
 use Rattle.zio_worked.specs.Scripts.{choice, place, zeros, asks_in}
 use Rattle.zio_worked.specs.Suspension.{four_attempts, gang_choices}
 
@@ -92,6 +92,10 @@ refused_with_room h = h.each.0.lawful.1.0.refused (lit< tt) 0 (record { place = 
 pub place_of_bound_block : PlaceOfBoundBlock
 unfolding evaluation
 place_of_bound_block h = true≢false (sym h.each.1.0.lawful.0.copies.0.free)
+
+pub place_freed_in_the_round : PlaceFreedInTheRound
+unfolding evaluation
+place_freed_in_the_round h = true≢false (sym h.each.1.0.lawful.0.copies.0.free)
 
 pub place_of_earlier_attempt : PlaceOfEarlierAttempt
 unfolding evaluation

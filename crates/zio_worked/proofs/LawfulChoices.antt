@@ -1,5 +1,5 @@
 -- A test by which choices are shown to be lawful.
-use Rattle.std.proofs.Common.{◌≡◌, ℕ, ◌/◌, ◌<◌, List, [], ◌∷◌, ◌++◌, length, Bool, true, false, ◌&&◌, ◌||◌, not, nat_le, ◌==◌, ⊎_elim, arith, refl, leb-true}
+use Rattle.std.proofs.Common.{◌≡◌, ℕ, ◌<◌, List, [], ◌∷◌, ◌++◌, length, Bool, true, false, ◌&&◌, ◌||◌, not, nat_le, ⊎_elim, arith, refl, leb-true}
 use Rattle.std.proofs.lemmas.Bool.{both_ways, and_parts, or_cases, not-true}
 use Rattle.zio_types.specs.declared.place.Place.{Place}
 use Rattle.zio_types.specs.declared.place.TopSize.{TopSize}

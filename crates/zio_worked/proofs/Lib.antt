@@ -12,6 +12,7 @@ pub mod GangCases
 pub mod JournalCases
 pub mod LawfulChoices
 pub mod MirrorCases
+pub mod PartCases
 pub mod ReadCases
 pub mod ScriptCases
 pub mod SuspensionCases

@@ -1,6 +1,6 @@
 use Rattle.std.proofs.Common.{refl}
 use Rattle.zio_worked.proofs.Evaluation.{evaluation}
-use Rattle.zio_worked.specs.Units.{TailIsZeros, FaultOfTheTailFailsTheWrite, FaultOfTheTailFailsTheRead, FirstBytesAreRead, FlipOfTheTailIsStored, OneSectorStandsInEight, ChoiceOfAUnitIsShown, OneSectorIsClaimedInEight, ThreeSectorsAreClaimedByTheUnit, PlacesFitTheirUnits, EachReaderHasItsLine, ReadersOfOneBlockAgree, FullTopSuspendsTheNextWrite, GangStandsOnTopsOfDifferentUnits}
+use Rattle.zio_worked.specs.Units.{TailIsZeros, FaultOfTheTailFailsTheWrite, FaultOfTheTailFailsTheRead, FirstBytesAreRead, FlipOfTheTailIsStored, OneSectorStandsInEight, ChoiceOfAUnitIsShown, OneSectorIsClaimedInEight, ThreeSectorsAreClaimedByTheUnit, PlacesFitTheirUnits, EachReaderHasItsLine, ReadersOfOneBlockAgree, FullTopSuspendsTheNextWrite, GangStandsOnTopsOfDifferentUnits, ReadersKeepEarlierRepairs}
 
 pub tail_is_zeros : TailIsZeros
 unfolding evaluation
@@ -57,3 +57,7 @@ full_top_suspends_the_next_write = refl
 pub gang_stands_on_tops_of_different_units : GangStandsOnTopsOfDifferentUnits
 unfolding evaluation
 gang_stands_on_tops_of_different_units = refl
+
+pub readers_keep_earlier_repairs : ReadersKeepEarlierRepairs
+unfolding evaluation
+readers_keep_earlier_repairs = refl

@@ -12,7 +12,7 @@ use Rattle.zio_gang.specs.Journals.{IsLawfulJournal}
 use Rattle.zio_gang.specs.Runs.{plan_of}
 use Rattle.zio_gang.specs.Trees.{sizes_of}
 use Rattle.zio_worked.specs.Families.{refused_script, refused_choices}
-use Rattle.zio_worked.specs.Scripts.{script, script_over, write, choice, place, zeros, rounds_in}
+use Rattle.zio_worked.specs.Scripts.{script, script_over, write, free, choice, place, zeros, rounds_in}
 use Rattle.zio_worked.specs.Suspension.{broken_script, four_attempts, gang_script, gang_choices}
 
 -- the choices are lawful for the run that they give
@@ -96,6 +96,15 @@ PlaceOfBoundBlock =
     (script Wait ((0 ∷ []) ∷ []) [] (write 1 (codes "x") Off 1 65 512 ∷ Go ∷ write 2 (codes "y") Off 1 66 512 ∷ Go ∷ []))
     (zeros 4096 ∷ [])
     (choice 1 1 0 [] Body 512 1 (place 0 0 1 ∷ []) ∷ choice 2 2 0 [] Body 512 1 (place 0 0 1 ∷ []) ∷ [])
+
+-- what is freed in a round is free only after it
+abbrev pub PlaceFreedInTheRound : Type 0
+PlaceFreedInTheRound =
+    ¬ IsLawful
+    (script Wait ((0 ∷ []) ∷ []) [] (
+    write 1 (codes "x") Off 1 65 512 ∷ Go ∷ free 2 (codes "x") ∷ write 3 (codes "y") Off 1 66 512 ∷ Go ∷ []))
+    (zeros 4096 ∷ [])
+    (choice 1 1 0 [] Body 512 1 (place 0 0 1 ∷ []) ∷ choice 3 2 0 [] Body 512 1 (place 0 0 1 ∷ []) ∷ [])
 
 -- a write that fails gives its place back, but not to the next attempt
 abbrev pub PlaceOfEarlierAttempt : Type 0

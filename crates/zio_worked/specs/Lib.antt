@@ -8,6 +8,7 @@ pub mod Formats
 pub mod Gangs
 pub mod LawfulJournals
 pub mod Mirrors
+pub mod Parts
 pub mod Reads
 pub mod ScriptTexts
 pub mod Scripts

@@ -1,5 +1,5 @@
 -- Which error a read has, what it mends and in which pass, what waits under panic, and each place of a claim.
-use Rattle.std.specs.Prelude.{◌≡◌, ℕ, List, [], ◌∷◌, ◌++◌, map, codes, replicate, bytes_eq, true, Ok, Err}
+use Rattle.std.specs.Prelude.{◌≡◌, ℕ, List, [], ◌∷◌, ◌++◌, map, replicate, bytes_eq, true, Ok, Err}
 use Rattle.zio_types.specs.declared.error.Errno.TheVariants.{Io}
 use Rattle.zio_blkptr.specs.declared.pointer.SumKind.TheVariants.{Off}
 use Rattle.zio_faults.specs.declared.table.FaultKind.TheVariants.{Eio, Gone}
@@ -13,7 +13,7 @@ use Rattle.zio_gang.specs.Trees.{read_tree}
 use Rattle.zio_gang.specs.declared.tree.Tree.{Tree}
 use Rattle.zio_worked.specs.Claims.{image, image_with, claim_x, one_round, good_header, gang_of_one_at, claimed_tree, seven_headers, eighth_header}
 use Rattle.zio_worked.specs.Mirrors.{write_x, read_x, untouched, one_place}
-use Rattle.zio_worked.specs.Scripts.{script, fault, fault_over, in_first_pass, place, one_leaf, sectors_of, zeros, no_sum, pointer_with, one_copy_at, two_copies_at, header_with, report, lines}
+use Rattle.zio_worked.specs.Scripts.{script, fault, fault_over, in_first_pass, place, one_leaf, sectors_of, zeros, no_sum, pointer_with, two_copies_at, header_with, report, lines}
 
 -- ---- panic
 

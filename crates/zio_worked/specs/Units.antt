@@ -1,9 +1,7 @@
 -- Tops with units of several sectors: what is stored, read and claimed there; and several readers of one block.
-use Rattle.std.specs.Prelude.{◌≡◌, ℕ, ◌*◌, ◌+◌, ◌-◌, List, [], ◌∷◌, ◌++◌, map, codes, replicate, take, Bool, true, false, Some, None, Ok, Err}
+use Rattle.std.specs.Prelude.{◌≡◌, ℕ, ◌*◌, ◌+◌, ◌-◌, List, [], ◌∷◌, ◌++◌, map, codes, replicate, true, false, Some, None, Ok, Err}
 use Rattle.zio_types.specs.declared.error.Errno.TheVariants.{Io}
-use Rattle.zio_types.specs.declared.journal.Role.TheVariants.{Body, Head}
-use Rattle.zio_types.specs.declared.place.TopSize.{TopSize}
-use Rattle.zio_types.specs.Choices.{Choice}
+use Rattle.zio_types.specs.declared.journal.Role.TheVariants.{Body}
 use Rattle.zio_types.specs.Places.{fits_size}
 use Rattle.zio_blkptr.specs.declared.pointer.SumKind.TheVariants.{Off, Sha256}
 use Rattle.zio_faults.specs.declared.table.FaultKind.TheVariants.{Eio, Flip}
@@ -13,13 +11,12 @@ use Rattle.zio_script.specs.declared.script.Failmode.TheVariants.{Wait}
 use Rattle.zio_script.specs.declared.script.Item.{Item}
 use Rattle.zio_script.specs.declared.script.Item.TheVariants.{Go, Clear}
 use Rattle.zio_script.specs.declared.script.Script.{Script}
-use Rattle.zio_script.specs.declared.script.TopLine.{TopLine}
 use Rattle.zio_cksum.specs.Images.{Images, Setting, Spot, read_leaf, write_leaf}
 use Rattle.zio_gang.specs.declared.tree.Tree.{Tree}
 use Rattle.zio_gang.specs.Trees.{read_tree}
 use Rattle.zio_worked.specs.Claims.{one_round}
 use Rattle.zio_worked.specs.Mirrors.{write_x, read_x, two_leaves, one_place, at_3}
-use Rattle.zio_worked.specs.Scripts.{script, script_over, write, read, claim, free, can_fail, fault, fault_at, fault_over, choice, place, mirror, sectors_of, zeros, no_sum, pointer_with, header_with, report, report_with_journal, outcome, images_after, lines}
+use Rattle.zio_worked.specs.Scripts.{script, script_over, write, read, claim, fault, fault_at, fault_over, choice, place, mirror, sectors_of, zeros, no_sum, pointer_with, header_with, report, report_with_journal, outcome, images_after, lines}
 
 -- ---- operations on a place of eight sectors
 
@@ -174,6 +171,22 @@ ReadersOfOneBlockAgree =
           ∷ "end 0" ∷ []);
       images = at_3 65 ∷ at_3 65 ∷ [];
     }
+
+-- x at sector 3 and y at sector 5
+abbrev pub both_blocks : List ℕ
+both_blocks = sectors_of 3 7 ++ sectors_of 1 65 ++ sectors_of 1 7 ++ sectors_of 1 66 ++ sectors_of 2 7
+
+-- three reads of one batch, of x, of y and of x again: each finds the images as the one before left them, so what each
+-- mended stays
+abbrev pub ReadersKeepEarlierRepairs : Type 0
+ReadersKeepEarlierRepairs =
+    images_after
+    (script Wait mirror (fault 0 OnWrite 0 1 Eio ∷ []) (
+    write 1 (codes "x") Sha256 1 65 512 ∷ write 2 (codes "y") Sha256 1 66 512 ∷ Go ∷ Clear
+    ∷ read 3 (codes "x") ∷ read 4 (codes "y") ∷ read 5 (codes "x") ∷ Go ∷ []))
+    two_leaves
+    (choice 1 1 0 [] Body 512 1 (place 0 3 1 ∷ []) ∷ choice 2 1 0 [] Body 512 1 (place 0 5 1 ∷ []) ∷ [])
+    ≡ both_blocks ∷ both_blocks ∷ []
 
 -- ---- a full top
 

@@ -1,4 +1,4 @@
-ghost use Rattle.zio_worked.specs.LawfulJournals.{PairIsLawful, OtherOrderIsLawful, KeyNotAskedFor, KeyTwice, AskWithoutChoice, OtherSize, RoundThatWasNotRun, PlaceOfAnother, PlaceOutside, PlaceTooShort, TooManyPlaces, RefusedWithRoom, PlaceOfBoundBlock, PlaceOfEarlierAttempt, GivenBackIsLawful, CopyOnUsedTop, SecondCopyIsLawful, RefusedIsLawful, GangIsLawful, RefusedBeforeTheLast, WholeUnitIsLawful, PlaceBetweenUnits, PlaceOfPartOfAUnit, PlaceOfTwoUnits};
+ghost use Rattle.zio_worked.specs.LawfulJournals.{PairIsLawful, OtherOrderIsLawful, KeyNotAskedFor, KeyTwice, AskWithoutChoice, OtherSize, RoundThatWasNotRun, PlaceOfAnother, PlaceOutside, PlaceTooShort, TooManyPlaces, RefusedWithRoom, PlaceOfBoundBlock, PlaceFreedInTheRound, PlaceOfEarlierAttempt, GivenBackIsLawful, CopyOnUsedTop, SecondCopyIsLawful, RefusedIsLawful, GangIsLawful, RefusedBeforeTheLast, WholeUnitIsLawful, PlaceBetweenUnits, PlaceOfPartOfAUnit, PlaceOfTwoUnits};
 
 /// A journal answers all that its run asks for and nothing else, with places that were free.
 pub fn lawful_journals_answer_what_is_asked()
@@ -15,6 +15,7 @@ pub fn lawful_journals_answer_what_is_asked()
     ensures too_many_places { TooManyPlaces }
     ensures refused_with_room { RefusedWithRoom }
     ensures place_of_bound_block { PlaceOfBoundBlock }
+    ensures place_freed_in_the_round { PlaceFreedInTheRound }
     ensures place_of_earlier_attempt { PlaceOfEarlierAttempt }
     ensures given_back_is_lawful { GivenBackIsLawful }
     ensures copy_on_used_top { CopyOnUsedTop }

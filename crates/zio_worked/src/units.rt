@@ -1,4 +1,4 @@
-ghost use Rattle.zio_worked.specs.Units.{TailIsZeros, FaultOfTheTailFailsTheWrite, FaultOfTheTailFailsTheRead, FirstBytesAreRead, FlipOfTheTailIsStored, OneSectorStandsInEight, ChoiceOfAUnitIsShown, OneSectorIsClaimedInEight, ThreeSectorsAreClaimedByTheUnit, PlacesFitTheirUnits, EachReaderHasItsLine, ReadersOfOneBlockAgree, FullTopSuspendsTheNextWrite, GangStandsOnTopsOfDifferentUnits};
+ghost use Rattle.zio_worked.specs.Units.{TailIsZeros, FaultOfTheTailFailsTheWrite, FaultOfTheTailFailsTheRead, FirstBytesAreRead, FlipOfTheTailIsStored, OneSectorStandsInEight, ChoiceOfAUnitIsShown, OneSectorIsClaimedInEight, ThreeSectorsAreClaimedByTheUnit, PlacesFitTheirUnits, EachReaderHasItsLine, ReadersOfOneBlockAgree, FullTopSuspendsTheNextWrite, GangStandsOnTopsOfDifferentUnits, ReadersKeepEarlierRepairs};
 
 /// Where a top has units of several sectors, places are whole units; a batch may read one block several times.
 pub fn units_are_stored_whole()
@@ -16,4 +16,5 @@ pub fn units_are_stored_whole()
     ensures readers_of_one_block_agree { ReadersOfOneBlockAgree }
     ensures full_top_suspends_the_next_write { FullTopSuspendsTheNextWrite }
     ensures gang_stands_on_tops_of_different_units { GangStandsOnTopsOfDifferentUnits }
+    ensures readers_keep_earlier_repairs { ReadersKeepEarlierRepairs }
 {}

@@ -1,0 +1,51 @@
+use Rattle.std.proofs.Common.{refl}
+use Rattle.zio_worked.proofs.Evaluation.{evaluation}
+use Rattle.zio_worked.specs.Parts.{EntryAnswersItsOwnAsk, WorstErrorOfAFreeCounts, FailedHeaderKeepsBodiesUnread, SummaryCounts, SummaryShowsNoRound, EachRoundShowsItsOwnJournal, BirthIsTheBatch, HeaderIsForItsFirstPlaceAndBirth, SuspendedTreesGoByNumber, FailedFreeKeepsItsName, WorstErrorOfAPlaceCounts, BitsOfAllChildrenCount}
+
+pub entry_answers_its_own_ask : EntryAnswersItsOwnAsk
+unfolding evaluation
+entry_answers_its_own_ask = refl
+
+pub worst_error_of_a_free_counts : WorstErrorOfAFreeCounts
+unfolding evaluation
+worst_error_of_a_free_counts = refl
+
+pub failed_header_keeps_bodies_unread : FailedHeaderKeepsBodiesUnread
+unfolding evaluation
+failed_header_keeps_bodies_unread = refl
+
+pub summary_counts : SummaryCounts
+unfolding evaluation
+summary_counts = refl
+
+pub summary_shows_no_round : SummaryShowsNoRound
+unfolding evaluation
+summary_shows_no_round = refl
+
+pub each_round_shows_its_own_journal : EachRoundShowsItsOwnJournal
+unfolding evaluation
+each_round_shows_its_own_journal = refl
+
+pub birth_is_the_batch : BirthIsTheBatch
+unfolding evaluation
+birth_is_the_batch = refl
+
+pub header_is_for_its_first_place_and_birth : HeaderIsForItsFirstPlaceAndBirth
+unfolding evaluation
+header_is_for_its_first_place_and_birth = refl
+
+pub suspended_trees_go_by_number : SuspendedTreesGoByNumber
+unfolding evaluation
+suspended_trees_go_by_number = refl
+
+pub failed_free_keeps_its_name : FailedFreeKeepsItsName
+unfolding evaluation
+failed_free_keeps_its_name = refl
+
+pub worst_error_of_a_place_counts : WorstErrorOfAPlaceCounts
+unfolding evaluation
+worst_error_of_a_place_counts = refl
+
+pub bits_of_all_children_count : BitsOfAllChildrenCount
+unfolding evaluation
+bits_of_all_children_count = refl

@@ -1,0 +1,223 @@
+-- Single definitions, where a whole run wouldn't tell a wrong one.
+use Rattle.std.specs.Prelude.{◌≡◌, ℕ, List, [], ◌∷◌, ◌++◌, map, codes, replicate, true, false, Option, Some, None, Err, option_map}
+use Rattle.zio_types.specs.declared.error.Errno.{Errno}
+use Rattle.zio_types.specs.declared.error.Errno.TheVariants.{Cksum, Io}
+use Rattle.zio_types.specs.declared.journal.Role.TheVariants.{Body, Head}
+use Rattle.zio_types.specs.declared.place.Place.{Place}
+use Rattle.zio_types.specs.declared.request.Bits.{Bits}
+use Rattle.zio_types.specs.Choices.{Choice}
+use Rattle.zio_blkptr.specs.declared.pointer.Bp.{Bp}
+use Rattle.zio_blkptr.specs.declared.pointer.SumKind.TheVariants.{Off}
+use Rattle.zio_faults.specs.declared.table.FaultKind.TheVariants.{Eio, Gone}
+use Rattle.zio_faults.specs.declared.table.On.TheVariants.{Read as OnRead, Write as OnWrite}
+use Rattle.zio_faults.specs.declared.table.Row.{Row}
+use Rattle.zio_script.specs.declared.script.Failmode.TheVariants.{Wait, Continue}
+use Rattle.zio_script.specs.declared.script.Item.TheVariants.{Go, Clear}
+use Rattle.zio_script.specs.declared.script.Script.{Script}
+use Rattle.zio_script.specs.declared.script.Work.TheVariants.{Free}
+use Rattle.zio_cksum.specs.Blocks.{write_place}
+use Rattle.zio_cksum.specs.Headers.{header_of}
+use Rattle.zio_cksum.specs.Images.{Setting}
+use Rattle.zio_gang.specs.declared.tree.Tree.{Tree}
+use Rattle.zio_gang.specs.Attempts.{Ended, Return, bits_of}
+use Rattle.zio_gang.specs.Rounds.{bound_after, is_bound}
+use Rattle.zio_gang.specs.Runs.{Course, Round, ending, run_script}
+use Rattle.zio_gang.specs.Trees.{free_tree, read_tree}
+use Rattle.zio_gang.specs.Writes.{Writing, Members, chosen, gang_header}
+use Rattle.zio_report.specs.declared.report.Show.TheVariants.{Summary}
+use Rattle.zio_report.specs.Lines.{round_text}
+use Rattle.zio_report.specs.Reports.{run_text, text_so_far}
+use Rattle.zio_worked.specs.Claims.{image_with, claimed_tree, gang_of_one_at}
+use Rattle.zio_worked.specs.Reads.{one_top, gone_and_eio, header_of_gangs, tree_of_gangs}
+use Rattle.zio_worked.specs.Scripts.{script, write, read, must, fault, fault_over, pointer_after, rounds_in, choice, place, one_leaf, sectors_of, zeros, no_sum, two_copies_at, header_with, report_with_journal, completion, lines}
+
+-- ---- asks
+
+-- two places
+abbrev pub found : List Place
+found = place 0 5 1 ∷ place 0 6 1 ∷ []
+
+-- an entry is for one request, round, attempt, path, role, size and number of copies, and answers no other ask
+abbrev pub EntryAnswersItsOwnAsk : Type 0
+EntryAnswersItsOwnAsk =
+    map (λ (c : Choice). chosen (c ∷ []) (choice 1 1 0 [] Body 512 2 []).asked) (
+    choice 1 1 0 [] Body 512 2 found
+    ∷ choice 2 1 0 [] Body 512 2 found
+    ∷ choice 1 2 0 [] Body 512 2 found
+    ∷ choice 1 1 1 [] Body 512 2 found
+    ∷ choice 1 1 0 (0 ∷ []) Body 512 2 found
+    ∷ choice 1 1 0 [] Head 512 2 found
+    ∷ choice 1 1 0 [] Body 1024 2 found
+    ∷ choice 1 1 0 [] Body 512 1 found ∷ [])
+    ≡ Some found ∷ replicate 7 None
+
+-- ---- headers that fail
+
+-- of two headers that a free can't read the worse error counts, were it that of the first or the second
+abbrev pub WorstErrorOfAFreeCounts : Type 0
+WorstErrorOfAFreeCounts =
+    map (λ rows. free_tree (one_top rows) tree_of_gangs (image_with header_of_gangs))
+    (gone_and_eio 5 6 ∷ gone_and_eio 6 5 ∷ [])
+    ≡ replicate 2 (record { error = Some Io; images = image_with header_of_gangs })
+
+-- a kept header of a gang, and of a body in two copies
+abbrev pub header_of_both : List ℕ
+header_of_both = header_with (gang_of_one_at 5 ++ two_copies_at 6 7 ++ zeros 128) no_sum
+
+-- the gang's header isn't what stands at sector 5
+abbrev pub tree_of_both : Tree
+tree_of_both = record claimed_tree {
+  heads = record { path = []; bytes = header_of_both } ∷ record { path = 0 ∷ []; bytes = zeros 512 } ∷ [];
+}
+
+-- beside a header that failed no body is read, so the body's first copy isn't mended from the second
+abbrev pub FailedHeaderKeepsBodiesUnread : Type 0
+FailedHeaderKeepsBodiesUnread =
+    read_tree (one_top (fault_over 0 OnRead 6 1 0 1 Eio ∷ [])) tree_of_both (image_with header_of_both)
+    ≡ record { found = Err Cksum; images = image_with header_of_both }
+
+-- ---- errors and bits of several
+
+-- one mirror of two leaves with these rows
+abbrev pub one_mirror : List Row → Setting
+one_mirror rows = record { tops = record { leaves = 0 ∷ 1 ∷ []; sectors = 1; unit = 1 } ∷ []; rows = rows; point = 0 }
+
+-- where no leaf of a place can be written the worst of their errors counts, were it that of the first or the second
+abbrev pub WorstErrorOfAPlaceCounts : Type 0
+WorstErrorOfAPlaceCounts =
+    map (λ rows. (write_place (one_mirror rows) false (sectors_of 1 65) (sectors_of 1 1 ∷ sectors_of 1 2 ∷ []) (place 0 0 1)).error) (
+    (fault 0 OnWrite 0 1 Gone ∷ fault 1 OnWrite 0 1 Eio ∷ [])
+    ∷ (fault 0 OnWrite 0 1 Eio ∷ fault 1 OnWrite 0 1 Gone ∷ []) ∷ [])
+    ≡ replicate 2 (Some Io)
+
+-- what a child with these bits hands on
+abbrev pub return_with : Bits → Return
+return_with bits = record { under = Some 9; bits = bits; child = record { number = 1; error = None; pointer = None } }
+
+-- a request has the bits of all its children
+abbrev pub BitsOfAllChildrenCount : Type 0
+BitsOfAllChildrenCount =
+    bits_of (return_with (record { now = true; suspend = false }) ∷ return_with (record { now = false; suspend = true }) ∷ [])
+    ≡ record { now = true; suspend = true }
+
+-- ---- numbers and names
+
+-- x finds no place in the round of its go, so y is held; the clear runs both
+abbrev pub held_script : Script
+held_script = script Wait one_leaf [] (
+    write 1 (codes "x") Off 1 65 512 ∷ Go ∷ write 2 (codes "y") Off 1 66 512 ∷ Go ∷ Clear ∷ [])
+
+-- a birth is the number of the batch, also where the write finishes in another round
+abbrev pub BirthIsTheBatch : Type 0
+BirthIsTheBatch =
+    map (λ name. option_map (λ (bp : Bp). bp.birth) (pointer_after held_script (zeros 4096 ∷ []) (
+    choice 1 2 0 [] Body 512 1 (place 0 3 1 ∷ []) ∷ choice 2 3 0 [] Body 512 1 (place 0 4 1 ∷ []) ∷ []) name))
+    (codes "x" ∷ codes "y" ∷ [])
+    ≡ Some 1 ∷ Some 2 ∷ []
+
+-- the write of a block of the first batch in the seventh round
+abbrev pub writing : Writing
+writing = record {
+  setting = one_top [];
+  request = 1;
+  round = 7;
+  attempt = 0;
+  sum = Off;
+  copies = 1;
+  birth = 1;
+}
+
+-- two members without a place
+abbrev pub gang_members : Members
+gang_members = record {
+  errors = None ∷ None ∷ [];
+  pointers = None ∷ None ∷ [];
+  heads = [];
+  asks = [];
+  images = [];
+}
+
+-- a gang's header is made for its first place and its block's birth
+abbrev pub HeaderIsForItsFirstPlaceAndBirth : Type 0
+HeaderIsForItsFirstPlaceAndBirth =
+    gang_header writing found gang_members
+    ≡ header_of (None ∷ None ∷ None ∷ []) (place 0 5 1) 1
+
+-- two reads that may not fail are suspended one after the other; the clear runs them by rising number
+abbrev pub SuspendedTreesGoByNumber : Type 0
+SuspendedTreesGoByNumber =
+    map (λ (round : Round). map (λ (e : Ended). e.request.number) round.ended) (
+    rounds_in
+    (script Continue one_leaf (fault 0 OnRead 0 1 Eio ∷ []) (
+    write 1 (codes "x") Off 1 65 512 ∷ write 2 (codes "y") Off 1 66 512 ∷ Go
+    ∷ must (read 3 (codes "x")) ∷ Go ∷ must (read 4 (codes "y")) ∷ Go ∷ Clear ∷ []))
+    (zeros 4096 ∷ [])
+    (choice 1 1 0 [] Body 512 1 (place 0 3 1 ∷ []) ∷ choice 2 1 0 [] Body 512 1 (place 0 4 1 ∷ []) ∷ []))
+    ≡ (1 ∷ 2 ∷ []) ∷ [] ∷ [] ∷ (3 ∷ 4 ∷ []) ∷ []
+
+-- a free of x that ended so
+abbrev pub freed : Option Errno → Ended
+freed error = record {
+  request = record { number = 1; work = Free (codes "x"); under = None; canfail = false };
+  error = error;
+  bytes = [];
+  tree = None;
+}
+
+-- a free that failed leaves its name bound
+abbrev pub FailedFreeKeepsItsName : Type 0
+FailedFreeKeepsItsName =
+    map (λ error. is_bound (bound_after (freed error ∷ []) (record { name = codes "x"; tree = claimed_tree } ∷ [])) (codes "x"))
+    (Some Io ∷ None ∷ [])
+    ≡ true ∷ false ∷ []
+
+-- ---- the summary
+
+-- a write and a read finish, a read of another name doesn't, and a write that finds no place stays suspended
+abbrev pub four_requests : Script
+four_requests = script Wait one_leaf [] (
+    write 1 (codes "x") Off 1 65 512 ∷ Go
+    ∷ read 2 (codes "x") ∷ read 3 (codes "y") ∷ write 4 (codes "z") Off 1 66 512 ∷ Go ∷ [])
+
+abbrev pub summary_of : Course → List ℕ
+summary_of course =
+    run_text Summary (record { tops = 1; images = 1; requests = 4 }) (record { choices = []; completions = [] })
+    course.events (ending course.state)
+
+-- what finished without and with an error, what is left, and the bytes that were read
+abbrev pub SummaryCounts : Type 0
+SummaryCounts =
+    summary_of (run_script four_requests (zeros 4096 ∷ []) (choice 1 1 0 [] Body 512 1 (place 0 3 1 ∷ []) ∷ []))
+    ≡ lines ("requests 4" ∷ "ok 2" ∷ "failed 1" ∷ "left 1" ∷ "read 512" ∷ "end 9" ∷ [])
+
+-- it comes in place of all rounds
+abbrev pub SummaryShowsNoRound : Type 0
+SummaryShowsNoRound =
+    round_text Summary (record { round = 1; batch = Some 1; point = 0 }) [] [] [] ++ text_so_far Summary (record { tops = 1; images = 1; requests = 4 })
+    (record { choices = []; completions = [] })
+    ((run_script four_requests (zeros 4096 ∷ []) []).events)
+    ≡ []
+
+-- ---- the journal in a report
+
+-- the second of two writes finds no place
+abbrev pub two_writes : Script
+two_writes = script Wait one_leaf [] (
+    write 1 (codes "x") Off 1 65 512 ∷ Go ∷ write 2 (codes "y") Off 1 66 512 ∷ Go ∷ [])
+
+-- each round shows its own choices and completions, and no order where nothing completed
+abbrev pub EachRoundShowsItsOwnJournal : Type 0
+EachRoundShowsItsOwnJournal =
+    report_with_journal two_writes (zeros 4096 ∷ [])
+    (choice 1 1 0 [] Body 512 1 (place 0 3 1 ∷ []) ∷ choice 2 2 0 [] Body 512 1 [] ∷ [])
+    (completion 1 1 None ∷ [])
+    ≡ lines (
+    "pool 1 1"
+    ∷ "round 1 batch 1 point 0"
+    ∷ "1 write x ok 512"
+    ∷ "take 1 0 - body 512 1 0:3"
+    ∷ "order 1"
+    ∷ "round 2 batch 2 point 0"
+    ∷ "2 write y suspended"
+    ∷ "take 2 0 - body 512 1 refused"
+    ∷ "end 9" ∷ [])

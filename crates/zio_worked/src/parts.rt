@@ -1,0 +1,17 @@
+ghost use Rattle.zio_worked.specs.Parts.{EntryAnswersItsOwnAsk, WorstErrorOfAFreeCounts, FailedHeaderKeepsBodiesUnread, SummaryCounts, SummaryShowsNoRound, EachRoundShowsItsOwnJournal, BirthIsTheBatch, HeaderIsForItsFirstPlaceAndBirth, SuspendedTreesGoByNumber, FailedFreeKeepsItsName, WorstErrorOfAPlaceCounts, BitsOfAllChildrenCount};
+
+/// What a single definition gives, where a whole run wouldn't tell a wrong one.
+pub fn single_definitions_follow_their_rules()
+    ensures entry_answers_its_own_ask { EntryAnswersItsOwnAsk }
+    ensures worst_error_of_a_free_counts { WorstErrorOfAFreeCounts }
+    ensures failed_header_keeps_bodies_unread { FailedHeaderKeepsBodiesUnread }
+    ensures summary_counts { SummaryCounts }
+    ensures summary_shows_no_round { SummaryShowsNoRound }
+    ensures each_round_shows_its_own_journal { EachRoundShowsItsOwnJournal }
+    ensures birth_is_the_batch { BirthIsTheBatch }
+    ensures header_is_for_its_first_place_and_birth { HeaderIsForItsFirstPlaceAndBirth }
+    ensures suspended_trees_go_by_number { SuspendedTreesGoByNumber }
+    ensures failed_free_keeps_its_name { FailedFreeKeepsItsName }
+    ensures worst_error_of_a_place_counts { WorstErrorOfAPlaceCounts }
+    ensures bits_of_all_children_count { BitsOfAllChildrenCount }
+{}

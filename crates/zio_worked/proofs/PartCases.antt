@@ -1,6 +1,6 @@
 use Rattle.std.proofs.Common.{refl}
 use Rattle.zio_worked.proofs.Evaluation.{evaluation}
-use Rattle.zio_worked.specs.Parts.{EntryAnswersItsOwnAsk, WorstErrorOfAFreeCounts, FailedHeaderKeepsBodiesUnread, SummaryCounts, SummaryShowsNoRound, EachRoundShowsItsOwnJournal, BirthIsTheBatch, HeaderIsForItsFirstPlaceAndBirth, SuspendedTreesGoByNumber, FailedFreeKeepsItsName, WorstErrorOfAPlaceCounts, BitsOfAllChildrenCount}
+use Rattle.zio_worked.specs.Parts.{EntryAnswersItsOwnAsk, WorstErrorOfAFreeCounts, FailedHeaderKeepsBodiesUnread, SummaryCounts, SummaryShowsNoRound, EachRoundShowsItsOwnJournal, BirthIsTheBatch, HeaderIsForItsFirstPlaceAndBirth, SuspendedTreesGoByNumber, FailedFreeKeepsItsName, WorstErrorOfAPlaceCounts, BitsOfAllChildrenCount, HeldBatchIsLeft}
 
 pub entry_answers_its_own_ask : EntryAnswersItsOwnAsk
 unfolding evaluation
@@ -49,3 +49,7 @@ worst_error_of_a_place_counts = refl
 pub bits_of_all_children_count : BitsOfAllChildrenCount
 unfolding evaluation
 bits_of_all_children_count = refl
+
+pub held_batch_is_left : HeldBatchIsLeft
+unfolding evaluation
+held_batch_is_left = refl

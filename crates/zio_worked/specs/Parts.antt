@@ -18,10 +18,11 @@ use Rattle.zio_script.specs.declared.script.Work.TheVariants.{Free}
 use Rattle.zio_cksum.specs.Blocks.{write_place}
 use Rattle.zio_cksum.specs.Headers.{header_of}
 use Rattle.zio_cksum.specs.Images.{Setting}
+use Rattle.zio_gang.specs.declared.ending.Ending.TheVariants.{Left}
 use Rattle.zio_gang.specs.declared.tree.Tree.{Tree}
 use Rattle.zio_gang.specs.Attempts.{Ended, Return, bits_of}
 use Rattle.zio_gang.specs.Rounds.{bound_after, is_bound}
-use Rattle.zio_gang.specs.Runs.{Course, Round, ending, run_script}
+use Rattle.zio_gang.specs.Runs.{Course, Round, ending, run_script, start_state}
 use Rattle.zio_gang.specs.Trees.{free_tree, read_tree}
 use Rattle.zio_gang.specs.Writes.{Writing, Members, chosen, gang_header}
 use Rattle.zio_report.specs.declared.report.Show.TheVariants.{Summary}
@@ -154,6 +155,10 @@ SuspendedTreesGoByNumber =
     (zeros 4096 ∷ [])
     (choice 1 1 0 [] Body 512 1 (place 0 3 1 ∷ []) ∷ choice 2 1 0 [] Body 512 1 (place 0 4 1 ∷ []) ∷ []))
     ≡ (1 ∷ 2 ∷ []) ∷ [] ∷ [] ∷ (3 ∷ 4 ∷ []) ∷ []
+
+-- a run that ends with a held batch has left something, were nothing suspended
+abbrev pub HeldBatchIsLeft : Type 0
+HeldBatchIsLeft = ending (record (start_state []) { held = record { number = 1; requests = [] } ∷ [] }) ≡ Left
 
 -- a free of x that ended so
 abbrev pub freed : Option Errno → Ended

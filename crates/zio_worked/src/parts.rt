@@ -1,4 +1,4 @@
-ghost use Rattle.zio_worked.specs.Parts.{EntryAnswersItsOwnAsk, WorstErrorOfAFreeCounts, FailedHeaderKeepsBodiesUnread, SummaryCounts, SummaryShowsNoRound, EachRoundShowsItsOwnJournal, BirthIsTheBatch, HeaderIsForItsFirstPlaceAndBirth, SuspendedTreesGoByNumber, FailedFreeKeepsItsName, WorstErrorOfAPlaceCounts, BitsOfAllChildrenCount};
+ghost use Rattle.zio_worked.specs.Parts.{EntryAnswersItsOwnAsk, WorstErrorOfAFreeCounts, FailedHeaderKeepsBodiesUnread, SummaryCounts, SummaryShowsNoRound, EachRoundShowsItsOwnJournal, BirthIsTheBatch, HeaderIsForItsFirstPlaceAndBirth, SuspendedTreesGoByNumber, FailedFreeKeepsItsName, WorstErrorOfAPlaceCounts, BitsOfAllChildrenCount, HeldBatchIsLeft};
 
 /// What a single definition gives, where a whole run wouldn't tell a wrong one.
 pub fn single_definitions_follow_their_rules()
@@ -14,4 +14,5 @@ pub fn single_definitions_follow_their_rules()
     ensures failed_free_keeps_its_name { FailedFreeKeepsItsName }
     ensures worst_error_of_a_place_counts { WorstErrorOfAPlaceCounts }
     ensures bits_of_all_children_count { BitsOfAllChildrenCount }
+    ensures held_batch_is_left { HeldBatchIsLeft }
 {}

@@ -1,6 +1,6 @@
 use Rattle.std.proofs.Common.{refl}
 use Rattle.zio_worked.proofs.Evaluation.{evaluation}
-use Rattle.zio_worked.specs.Parts.{EntryAnswersItsOwnAsk, WorstErrorOfAFreeCounts, FailedHeaderKeepsBodiesUnread, SummaryCounts, SummaryShowsNoRound, EachRoundShowsItsOwnJournal, BirthIsTheBatch, HeaderIsForItsFirstPlaceAndBirth, SuspendedTreesGoByNumber, FailedFreeKeepsItsName, WorstErrorOfAPlaceCounts, BitsOfAllChildrenCount, HeldBatchIsLeft}
+use Rattle.zio_worked.specs.Parts.{EntryAnswersItsOwnAsk, WorstErrorOfAFreeCounts, FailedHeaderKeepsBodiesUnread, SummaryCounts, SummaryShowsNoRound, EachRoundShowsItsOwnJournal, BirthIsTheBatch, HeaderIsForItsFirstPlaceAndBirth, SuspendedTreesGoByNumber, FailedFreeKeepsItsName, WorstErrorOfAPlaceCounts, BitsOfAllChildrenCount, HeldBatchIsLeft, HeadersAreKeptByPath, HeaderThatIsntKeptIsBad, TreesStandByTheirRoots, PathsHavePoints}
 
 pub entry_answers_its_own_ask : EntryAnswersItsOwnAsk
 unfolding evaluation
@@ -53,3 +53,19 @@ bits_of_all_children_count = refl
 pub held_batch_is_left : HeldBatchIsLeft
 unfolding evaluation
 held_batch_is_left = refl
+
+pub headers_are_kept_by_path : HeadersAreKeptByPath
+unfolding evaluation
+headers_are_kept_by_path = refl
+
+pub header_that_isnt_kept_is_bad : HeaderThatIsntKeptIsBad
+unfolding evaluation
+header_that_isnt_kept_is_bad = refl
+
+pub trees_stand_by_their_roots : TreesStandByTheirRoots
+unfolding evaluation
+trees_stand_by_their_roots = refl
+
+pub paths_have_points : PathsHavePoints
+unfolding evaluation
+paths_have_points = refl

@@ -13,20 +13,22 @@ use Rattle.zio_faults.specs.declared.table.On.TheVariants.{Read as OnRead, Write
 use Rattle.zio_faults.specs.declared.table.Row.{Row}
 use Rattle.zio_script.specs.declared.script.Failmode.TheVariants.{Wait, Continue}
 use Rattle.zio_script.specs.declared.script.Item.TheVariants.{Go, Clear}
+use Rattle.zio_script.specs.declared.script.Request.{Request}
 use Rattle.zio_script.specs.declared.script.Script.{Script}
-use Rattle.zio_script.specs.declared.script.Work.TheVariants.{Free}
+use Rattle.zio_script.specs.declared.script.Work.TheVariants.{Free, Null}
 use Rattle.zio_cksum.specs.Blocks.{write_place}
 use Rattle.zio_cksum.specs.Headers.{header_of}
 use Rattle.zio_cksum.specs.Images.{Setting}
 use Rattle.zio_gang.specs.declared.ending.Ending.TheVariants.{Left}
+use Rattle.zio_gang.specs.declared.tree.Head.{Head as KeptHead}
 use Rattle.zio_gang.specs.declared.tree.Tree.{Tree}
 use Rattle.zio_gang.specs.Attempts.{Ended, Return, bits_of}
-use Rattle.zio_gang.specs.Rounds.{bound_after, is_bound}
+use Rattle.zio_gang.specs.Rounds.{bound_after, is_bound, trees_of}
 use Rattle.zio_gang.specs.Runs.{Course, Round, ending, run_script, start_state}
-use Rattle.zio_gang.specs.Trees.{free_tree, read_tree}
+use Rattle.zio_gang.specs.Trees.{free_tree, kept_at, read_tree}
 use Rattle.zio_gang.specs.Writes.{Writing, Members, chosen, gang_header}
 use Rattle.zio_report.specs.declared.report.Show.TheVariants.{Summary}
-use Rattle.zio_report.specs.Lines.{round_text}
+use Rattle.zio_report.specs.Lines.{path_text, round_text}
 use Rattle.zio_report.specs.Reports.{run_text, text_so_far}
 use Rattle.zio_worked.specs.Claims.{image_with, claimed_tree, gang_of_one_at}
 use Rattle.zio_worked.specs.Reads.{one_top, gone_and_eio, header_of_gangs, tree_of_gangs}
@@ -76,6 +78,34 @@ abbrev pub FailedHeaderKeepsBodiesUnread : Type 0
 FailedHeaderKeepsBodiesUnread =
     read_tree (one_top (fault_over 0 OnRead 6 1 0 1 Eio ∷ [])) tree_of_both (image_with header_of_both)
     ≡ record { found = Err Cksum; images = image_with header_of_both }
+
+-- the headers of two paths
+abbrev pub two_heads : List KeptHead
+two_heads = record { path = []; bytes = 1 ∷ [] } ∷ record { path = 0 ∷ 2 ∷ []; bytes = 2 ∷ [] } ∷ []
+
+-- a header is kept under its whole path
+abbrev pub HeadersAreKeptByPath : Type 0
+HeadersAreKeptByPath =
+    map (kept_at two_heads) ([] ∷ (0 ∷ 2 ∷ []) ∷ (0 ∷ []) ∷ (2 ∷ 0 ∷ []) ∷ [])
+    ≡ Some (1 ∷ []) ∷ Some (2 ∷ []) ∷ None ∷ None ∷ []
+
+-- where no header is kept none is good
+abbrev pub HeaderThatIsntKeptIsBad : Type 0
+HeaderThatIsntKeptIsBad =
+    read_tree (one_top []) (record claimed_tree { heads = [] }) (image_with header_of_both)
+    ≡ record { found = Err Cksum; images = image_with header_of_both }
+
+-- ---- trees
+
+abbrev pub null_under : ℕ → Option ℕ → Request
+null_under number parent = record { number = number; work = Null; under = parent; canfail = false }
+
+-- roots stand by rising number, and each request behind its children, which stand by rising number
+abbrev pub TreesStandByTheirRoots : Type 0
+TreesStandByTheirRoots =
+    map (map (λ (r : Request). r.number)) (trees_of (
+    null_under 1 None ∷ null_under 2 None ∷ null_under 3 (Some 1) ∷ null_under 4 (Some 1) ∷ null_under 5 (Some 3) ∷ []))
+    ≡ (5 ∷ 3 ∷ 4 ∷ 1 ∷ []) ∷ (2 ∷ []) ∷ []
 
 -- ---- errors and bits of several
 
@@ -226,3 +256,8 @@ EachRoundShowsItsOwnJournal =
     ∷ "2 write y suspended"
     ∷ "take 2 0 - body 512 1 refused"
     ∷ "end 9" ∷ [])
+
+-- the steps of a path have points between them, and that of the whole block is a dash
+abbrev pub PathsHavePoints : Type 0
+PathsHavePoints =
+    map path_text ([] ∷ (0 ∷ []) ∷ (0 ∷ 2 ∷ 1 ∷ []) ∷ []) ≡ codes "-" ∷ codes "0" ∷ codes "0.2.1" ∷ []

@@ -1,4 +1,4 @@
-ghost use Rattle.zio_worked.specs.Parts.{EntryAnswersItsOwnAsk, WorstErrorOfAFreeCounts, FailedHeaderKeepsBodiesUnread, SummaryCounts, SummaryShowsNoRound, EachRoundShowsItsOwnJournal, BirthIsTheBatch, HeaderIsForItsFirstPlaceAndBirth, SuspendedTreesGoByNumber, FailedFreeKeepsItsName, WorstErrorOfAPlaceCounts, BitsOfAllChildrenCount, HeldBatchIsLeft};
+ghost use Rattle.zio_worked.specs.Parts.{EntryAnswersItsOwnAsk, WorstErrorOfAFreeCounts, FailedHeaderKeepsBodiesUnread, SummaryCounts, SummaryShowsNoRound, EachRoundShowsItsOwnJournal, BirthIsTheBatch, HeaderIsForItsFirstPlaceAndBirth, SuspendedTreesGoByNumber, FailedFreeKeepsItsName, WorstErrorOfAPlaceCounts, BitsOfAllChildrenCount, HeldBatchIsLeft, HeadersAreKeptByPath, HeaderThatIsntKeptIsBad, TreesStandByTheirRoots, PathsHavePoints};
 
 /// What a single definition gives, where a whole run wouldn't tell a wrong one.
 pub fn single_definitions_follow_their_rules()
@@ -15,4 +15,8 @@ pub fn single_definitions_follow_their_rules()
     ensures worst_error_of_a_place_counts { WorstErrorOfAPlaceCounts }
     ensures bits_of_all_children_count { BitsOfAllChildrenCount }
     ensures held_batch_is_left { HeldBatchIsLeft }
+    ensures headers_are_kept_by_path { HeadersAreKeptByPath }
+    ensures header_that_isnt_kept_is_bad { HeaderThatIsntKeptIsBad }
+    ensures trees_stand_by_their_roots { TreesStandByTheirRoots }
+    ensures paths_have_points { PathsHavePoints }
 {}

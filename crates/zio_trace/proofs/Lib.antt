@@ -1,0 +1,13 @@
+pub mod ByteLemmas
+pub mod CopyLemmas
+pub mod FamilyLemmas
+pub mod HistoryLemmas
+pub mod LeafLemmas
+pub mod ListLemmas
+pub mod OrderLemmas
+pub mod ProgramLemmas
+pub mod RequestLemmas
+pub mod RoundLemmas
+pub mod SettleLemmas
+pub mod TaskLemmas
+pub mod WholeRound

@@ -1,0 +1,9 @@
+pub mod CopyPrograms
+pub mod Conflicts
+pub mod Families
+pub mod Leaves
+pub mod Orders
+pub mod Plans
+pub mod Programs
+pub mod Rounds
+pub mod Tasks

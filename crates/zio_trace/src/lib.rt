@@ -1,0 +1,19 @@
+//! The bridge from definitions to engines: what a round means, taken apart into single operations.
+//!
+//! It stands on `zio_gang`. A definition threads images through a recursion; an engine makes single operations on
+//! leaves, in whatever order its tasks come to them. Here each definition has a program of operations that gives the
+//! same where it runs alone (`specs/Programs`, `specs/CopyPrograms`, `specs/Plans`), and operations that don't conflict
+//! may change places (`specs/Leaves`, `specs/Orders`).
+//! Every call is a law: its contract is the statement, and its body is empty. docs/BRIDGE.md has the idea and an
+//! example; read `tasks_are_done_by_their_plans` and `leaf_operations_in_any_order` first.
+#![tactic(auto)]
+
+mod copies;
+mod orders;
+mod plans;
+
+pub use copies::{copies_are_read_by_programs, pieces_are_written_by_programs};
+pub use orders::{a_round_in_any_order, leaf_operations_commute, leaf_operations_in_any_order};
+pub use plans::{
+    families_are_attempted_as_lists, rounds_are_done_by_their_plans, tasks_are_done_by_their_plans,
+};

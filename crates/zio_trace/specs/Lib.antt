@@ -1,9 +1,11 @@
 pub mod CopyPrograms
 pub mod Conflicts
 pub mod Families
+pub mod Footprints
 pub mod Leaves
 pub mod Orders
 pub mod Plans
 pub mod Programs
 pub mod Rounds
 pub mod Tasks
+pub mod Traces

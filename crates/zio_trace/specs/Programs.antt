@@ -81,8 +81,3 @@ pub data Made {Op Ans : Type 0} (plan : Op → Program Op Ans Ans) : List (Deed 
   NoneMade : Made plan [] []
   Itself : {c : Deed Op Ans} {cs ds : List (Deed Op Ans)} → Made plan cs ds → Made plan (c ∷ cs) (c ∷ ds)
   ByParts : {c : Deed Op Ans} {cs calls ds es : List (Deed Op Ans)} → Does (plan c.op) calls c.answer → Made plan calls ds → Made plan cs es → Made plan (c ∷ cs) (ds ++ es)
-
--- Whatever fitting answers it gets, each operation that the program asks is one of these, and what it ends with is so.
-abbrev pub Stays : {Op Ans A : Type 0} → (Op → Ans → Type 0) → (Op → Type 0) → (A → Type 0) → Program Op Ans A → Type 0
-Stays Fits P Q (Ends a) = Q a
-Stays {Op} {Ans} Fits P Q (Asks op more) = P op × ((answer : Ans) → Fits op answer → Stays Fits P Q (more answer))

@@ -9,10 +9,12 @@
 #![tactic(auto)]
 
 mod copies;
+mod footprints;
 mod orders;
 mod plans;
 
 pub use copies::{copies_are_read_by_programs, pieces_are_written_by_programs};
+pub use footprints::{tasks_have_traces, tasks_stay_within_their_footprints};
 pub use orders::{a_round_in_any_order, leaf_operations_commute, leaf_operations_in_any_order};
 pub use plans::{
     families_are_attempted_as_lists, rounds_are_done_by_their_plans, tasks_are_done_by_their_plans,

@@ -1,4 +1,5 @@
 pub mod ByteLemmas
+pub mod ChoiceLemmas
 pub mod CopyLemmas
 pub mod FamilyLemmas
 pub mod FootprintLemmas
@@ -8,13 +9,16 @@ pub mod LeafLemmas
 pub mod ListLemmas
 pub mod MayLemmas
 pub mod OrderLemmas
+pub mod PlaceLemmas
 pub mod ProgramLemmas
 pub mod RequestFootprints
 pub mod RequestLemmas
 pub mod RoundLemmas
+pub mod SeparateLemmas
 pub mod SettleLemmas
 pub mod TaskFootprints
 pub mod TaskLemmas
 pub mod TraceLemmas
+pub mod TreeOrderLemmas
 pub mod WholeRound
 pub mod WholeTraces

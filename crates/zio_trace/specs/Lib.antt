@@ -7,5 +7,7 @@ pub mod Orders
 pub mod Plans
 pub mod Programs
 pub mod Rounds
+pub mod Separate
 pub mod Tasks
 pub mod Traces
+pub mod TreeOrders

@@ -1,6 +1,7 @@
 pub mod ByteLemmas
 pub mod ChoiceLemmas
 pub mod CopyLemmas
+pub mod ExampleCases
 pub mod FamilyLemmas
 pub mod FootprintLemmas
 pub mod GroundLemmas

@@ -1,5 +1,6 @@
 pub mod CopyPrograms
 pub mod Conflicts
+pub mod Examples
 pub mod Families
 pub mod Footprints
 pub mod Leaves

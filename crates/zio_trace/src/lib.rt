@@ -9,12 +9,14 @@
 #![tactic(auto)]
 
 mod copies;
+mod examples;
 mod footprints;
 mod orders;
 mod plans;
 mod trees;
 
 pub use copies::{copies_are_read_by_programs, pieces_are_written_by_programs};
+pub use examples::a_repair_beside_a_write;
 pub use footprints::{tasks_have_traces, tasks_stay_within_their_footprints};
 pub use orders::{a_round_in_any_order, leaf_operations_commute, leaf_operations_in_any_order};
 pub use plans::{

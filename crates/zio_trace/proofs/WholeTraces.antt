@@ -37,7 +37,7 @@ module _ (j : List Choice) (t : Terms) where
   singles_fit [] before after all h = tt
   singles_fit (d ∷ ds) before after all h = (single_fits d.op d.answer before all.0 h.0, singles_fit ds (means j t d.op before).images after all.1 h.1)
 
-  single_asks : (o : Task) (images : Images) → is_single o ≡ true → (means j t o images).asks ≡ asked_by o
+  pub single_asks : (o : Task) (images : Images) → is_single o ≡ true → (means j t o images).asks ≡ asked_by o
   single_asks (Leaf (Fetch retry len spot)) images e = refl
   single_asks (Leaf (Store retry bytes spot)) images e = refl
   single_asks (Find a) images e = refl

@@ -13,6 +13,7 @@ mod examples;
 mod footprints;
 mod orders;
 mod plans;
+mod rounds;
 mod trees;
 
 pub use copies::{copies_are_read_by_programs, pieces_are_written_by_programs};
@@ -22,4 +23,5 @@ pub use orders::{a_round_in_any_order, leaf_operations_commute, leaf_operations_
 pub use plans::{
     families_are_attempted_as_lists, rounds_are_done_by_their_plans, tasks_are_done_by_their_plans,
 };
+pub use rounds::rounds_are_settled_in_any_order;
 pub use trees::{trees_over_different_blocks_in_any_order, trees_that_dont_conflict_in_any_order};

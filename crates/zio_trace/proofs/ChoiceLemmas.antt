@@ -105,7 +105,7 @@ keeps_first true x ys e = contains_first x ys
 keeps_first false x ys e = absurd (cc)
 
 -- the parts of an ask that the look-up compares
-keys_same : (c : Choice) (ask : Ask) → same_ask c.asked ask ≡ true → (c.asked.key.round ≡ ask.key.round) × (c.asked.key.request ≡ ask.key.request) × (c.asked.copies ≡ ask.copies)
+pub keys_same : (c : Choice) (ask : Ask) → same_ask c.asked ask ≡ true → (c.asked.key.round ≡ ask.key.round) × (c.asked.key.request ≡ ask.key.request) × (c.asked.copies ≡ ask.copies)
 keys_same c ask e =
     let whole = and_parts _ _ e in
     let first = and_parts _ _ whole.0 in

@@ -1,12 +1,12 @@
 -- What was done in a round, in whatever order, is what its program gives alone.
-use Rattle.std.proofs.Common.{◌≡◌, ℕ, suc, true, List, [], ◌∷◌, Contains, Bool, inl, inr, refl, sym, ap, ◌∙◌, subst}
+use Rattle.std.proofs.Common.{◌≡◌, ℕ, suc, ◌+◌, ◌≤◌, true, false, List, [], ◌∷◌, Contains, Bool, inl, inr, refl, sym, ap, ◌∙◌, subst, arith}
 use Rattle.std.specs.List.{AllByRecursion}
 use Rattle.zio_types.specs.Choices.{Ask}
 use Rattle.zio_cksum.specs.Images.{Images}
-use Rattle.zio_cksum.proofs.AllLemmas.{all_append, all_contained}
+use Rattle.zio_cksum.proofs.AllLemmas.{all_append, all_contained, all_contains, all_weaker}
 use Rattle.zio_trace.specs.Footprints.{Stays}
 use Rattle.zio_trace.specs.Labels.{Labelled, labelled, ways_at, means_at, Earlier, same_place}
-use Rattle.zio_trace.specs.Oracles.{Ways, Oracle, IsOracle, asked_in, Agrees, ops_of, AreOnce, Ascends, deeds_as, Shuffled}
+use Rattle.zio_trace.specs.Oracles.{Ways, Oracle, IsOracle, asked_in, Agrees, ops_of, AreOnce, Ascends, deeds_as, Shuffled, weigh}
 use Rattle.zio_trace.specs.Orders.{Commute}
 use Rattle.zio_trace.specs.Programs.{Meaning, Program, run, Deed, Happen, asks_of, Ends, Asks}
 use Rattle.zio_trace.specs.Rules.{Rules, AreLawful, IsDone}
@@ -15,6 +15,7 @@ use Rattle.zio_trace.proofs.AskedLemmas.{happen_as_asked}
 use Rattle.zio_trace.proofs.LabelLemmas.{labelled_run, ground_labelled, asked_ascend, same_itself, test_among}
 use Rattle.zio_trace.proofs.OracleExists.{oracle_is, oracle_of, answer_in, oracle_agrees}
 use Rattle.zio_trace.proofs.OracleLemmas.{program_gave, op_gave}
+use Rattle.zio_trace.proofs.ListLemmas.{contains_first, contains_later}
 
 all_ops : {Op Ans : Type 0} (P : Op → Type 0) (ds : List (Deed Op Ans)) → AllByRecursion P (ops_of ds) → AllByRecursion (λ (d : Deed Op Ans). P d.op) ds
 all_ops P [] h = tt
@@ -51,11 +52,31 @@ op_singles {Op} ways o is op (Above e below) =
     subst (AllByRecursion (λ (x : Op). ways.single x ≡ true)) (sym (is.asked op e))
     (program_singles ways.single o (ways.plan op) (λ q m. op_singles ways o is q (below q m)))
 
+-- ---- what is asked is what was done
+
+abbrev bit : Bool → ℕ
+bit true = 1
+bit false = 0
+
+heavy : {X : Type 0} (w : X → ℕ) (xs : List X) → AllByRecursion (λ (x : X). w x ≤ weigh w xs) xs
+heavy w [] = tt
+heavy {X} w (x ∷ xs) = (omega arith, all_weaker (λ (y : X). w y ≤ weigh w xs) (λ (y : X). w y ≤ w x + weigh w xs) xs (λ y h. omega arith) (heavy w xs))
+
+listed_if : {Op : Type 0} (b : Bool) (x y : Labelled Op) (ys : List (Labelled Op)) → (b ≡ true → y ≡ x) → (1 ≤ weigh (λ (z : Labelled Op). bit (same_place x z)) ys → Contains ys x) → 1 ≤ bit b + weigh (λ (z : Labelled Op). bit (same_place x z)) ys → Contains (y ∷ ys) x
+listed_if true x y ys h k n = subst (Contains (y ∷ ys)) (h refl) (contains_first y ys)
+listed_if false x y ys h k n = contains_later y ys x (k (omega arith))
+
+listed : {Op : Type 0} (x : Labelled Op) (ys : List (Labelled Op)) → AllByRecursion (λ (y : Labelled Op). same_place x y ≡ true → y ≡ x) ys → 1 ≤ weigh (λ (z : Labelled Op). bit (same_place x z)) ys → Contains ys x
+listed x [] h n = absurd (omega arith)
+listed x (y ∷ ys) h n = listed_if (same_place x y) x y ys h.0 (listed x ys h.1) n
+
 -- alone, the program asks as often for what was done, and gives this value and these images
 pub record IsAlone {Op Ans A : Type 0} (r : Rules Op Ans) (p : Program Op Ans A) (ds : List (Deed (Labelled Op) Ans)) (value : A) (before after : Images) : Type 0 where
   pub oracle : Oracle (Labelled Op) Ans
   pub ops : List (Labelled Op)
   pub all : Shuffled ops (ops_of ds)
+  pub within : AllByRecursion (Contains ops) (ops_of ds)
+  pub back : AllByRecursion (Contains (ops_of ds)) ops
   pub single : AllByRecursion (λ (x : Labelled Op). r.ways.single x.op ≡ true) ops
   pub gives : run r.means p before ≡ record { value = value; asks = asks_of (means_at r.means) (deeds_as oracle ops) before; images = after }
 
@@ -80,8 +101,9 @@ done_alone {Op} {Ans} {A} r l p ds value before after done sound happen =
       answer = λ x y. l.commute.answer x.op y.op;
       images = λ x y. l.commute.images x.op y.op;
     } in
+    let test = test_among ops ascends in
     let ordered : Happen means (deeds_as o ops) before after =
-    happen_as_asked means r.Sound (λ x. r.Lies x.op) (λ x y. r.Apart x.op y.op) commute Earlier same_place (Contains ops) (test_among ops ascends) o ops ds before after
+    happen_as_asked means r.Sound (λ x. r.Lies x.op) (λ x y. r.Apart x.op y.op) commute Earlier same_place (Contains ops) test o ops ds before after
     (all_contained ops) (all_ops (Contains ops) ds (done.within o is agrees)) (done.all o is agrees) agrees ascends done.order done.lies sound happen in
     let law : (x : Labelled Op) (images : Images) → run means (ways.plan x) images ≡ means x images = λ x images. labelled_run r.means x.at 0 (r.ways.plan x.op) images ∙ l.law x.op images in
     let gives = program_gave means o round (λ q m. op_gave ways means o is law q (ground q)) before after ordered in
@@ -89,6 +111,18 @@ done_alone {Op} {Ans} {A} r l p ds value before after done sound happen =
       oracle = o;
       ops = ops;
       all = done.all o is agrees;
+      within = done.within o is agrees;
+      back =
+          all_weaker (Contains ops) (Contains (ops_of ds)) ops
+          (λ x c.
+          let w : Labelled Op → ℕ = λ z. bit (same_place x z) in
+          let some : w x ≤ weigh w ops = all_contains (λ (y : Labelled Op). w y ≤ weigh w ops) ops x (heavy w ops) c in
+          let one : w x ≡ 1 = ap (λ (b : Bool). bit b) (same_itself x) in
+          let as_often : weigh w ops ≡ weigh w (ops_of ds) = done.all o is agrees w in
+          listed x (ops_of ds)
+          (all_weaker (Contains ops) (λ (y : Labelled Op). same_place x y ≡ true → y ≡ x) (ops_of ds) (λ y k e. sym (test.is x y c k e)) (done.within o is agrees))
+          (omega arith))
+          (all_contained ops);
       single = program_singles ways.single o round (λ q m. op_singles ways o is q (ground q));
       gives =
           sym (labelled_run r.means [] 0 p before) ∙ gives

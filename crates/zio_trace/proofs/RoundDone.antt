@@ -46,7 +46,7 @@ weigh_append : {X : Type 0} (w : X → ℕ) (xs ys : List X) → weigh w (xs ++ 
 weigh_append w [] ys = omega arith
 weigh_append w (x ∷ xs) ys = let e : weigh w (xs ++ ys) ≡ weigh w xs + weigh w ys = weigh_append w xs ys in omega arith
 
-weigh_asks : (w : Ask → ℕ) (ops : List (Labelled Task)) → weigh w (asks_in ops) ≡ weigh (λ (x : Labelled Task). weigh w (asked_by x.op)) ops
+pub weigh_asks : (w : Ask → ℕ) (ops : List (Labelled Task)) → weigh w (asks_in ops) ≡ weigh (λ (x : Labelled Task). weigh w (asked_by x.op)) ops
 weigh_asks w [] = refl
 weigh_asks w (x ∷ xs) =
     let e : weigh w (asks_in xs) ≡ weigh (λ (y : Labelled Task). weigh w (asked_by y.op)) xs = weigh_asks w xs in

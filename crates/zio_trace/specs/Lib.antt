@@ -1,8 +1,10 @@
 pub mod Conflicts
 pub mod CopyPrograms
+pub mod Entries
 pub mod Examples
 pub mod Families
 pub mod Footprints
+pub mod Keys
 pub mod Labels
 pub mod Leaves
 pub mod Oracles

@@ -6,16 +6,16 @@ use Rattle.zio_types.specs.Choices.{Ask, Choice}
 use Rattle.zio_gang.specs.Attempts.{Terms}
 use Rattle.zio_gang.specs.Writes.{chosen}
 use Rattle.zio_trace.specs.Conflicts.{TaskLies, TasksApart, is_single}
+use Rattle.zio_trace.specs.Families.{Forest}
 use Rattle.zio_trace.specs.Footprints.{FitsTask, Within}
+use Rattle.zio_trace.specs.Labels.{Labelled}
 use Rattle.zio_trace.specs.Leaves.{HaveSizes}
 use Rattle.zio_trace.specs.Oracles.{Ways, Shuffled, ops_of}
 use Rattle.zio_trace.specs.Plans.{plan}
-use Rattle.zio_trace.specs.Rules.{Rules}
-use Rattle.zio_trace.specs.Tasks.{Find, Found, Task, Value, means}
-use Rattle.zio_trace.specs.Labels.{Labelled}
 use Rattle.zio_trace.specs.Programs.{Deed}
 use Rattle.zio_trace.specs.Rounds.{Round, trees_in}
-use Rattle.zio_trace.specs.Families.{Forest}
+use Rattle.zio_trace.specs.Rules.{Rules}
+use Rattle.zio_trace.specs.Tasks.{Find, Found, Task, Value, means}
 use Rattle.zio_trace.specs.Traces.{asked_by}
 
 abbrev pub task_ways : List Choice → Terms → Ways Task Value

@@ -23,5 +23,8 @@ pub use orders::{a_round_in_any_order, leaf_operations_commute, leaf_operations_
 pub use plans::{
     families_are_attempted_as_lists, rounds_are_done_by_their_plans, tasks_are_done_by_their_plans,
 };
-pub use rounds::rounds_are_settled_in_any_order;
+pub use rounds::{
+    answers_stand_whichever_journal_comes, rounds_are_settled_by_their_entries,
+    rounds_are_settled_in_any_order,
+};
 pub use trees::{trees_over_different_blocks_in_any_order, trees_that_dont_conflict_in_any_order};

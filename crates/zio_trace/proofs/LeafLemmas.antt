@@ -144,7 +144,7 @@ faulty_answer Eio hit a b spot bytes = refl
 faulty_answer Gone hit a b spot bytes = refl
 faulty_answer Flip hit a b spot bytes = refl
 
-met_answer : (hit : Option Hit) (a b : Images) (spot : Spot) (bytes : List ℕ) → (write_met hit a spot bytes).error ≡ (write_met hit b spot bytes).error
+pub met_answer : (hit : Option Hit) (a b : Images) (spot : Spot) (bytes : List ℕ) → (write_met hit a spot bytes).error ≡ (write_met hit b spot bytes).error
 met_answer None a b spot bytes = refl
 met_answer (Some hit) a b spot bytes = faulty_answer hit.kind hit a b spot bytes
 

@@ -23,6 +23,11 @@ pub mod OrderLemmas
 pub mod PathLemmas
 pub mod PlaceLemmas
 pub mod ProgramLemmas
+pub mod ReaderFaults
+pub mod ReaderImages
+pub mod ReaderLemmas
+pub mod ReaderPrograms
+pub mod ReadersTogether
 pub mod RequestFootprints
 pub mod RequestLemmas
 pub mod RoundDone

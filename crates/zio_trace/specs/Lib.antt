@@ -11,6 +11,7 @@ pub mod Oracles
 pub mod Orders
 pub mod Plans
 pub mod Programs
+pub mod Readers
 pub mod RoundRules
 pub mod Rounds
 pub mod Rules

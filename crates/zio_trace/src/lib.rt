@@ -13,6 +13,7 @@ mod examples;
 mod footprints;
 mod orders;
 mod plans;
+mod readers;
 mod rounds;
 mod trees;
 
@@ -23,6 +24,7 @@ pub use orders::{a_round_in_any_order, leaf_operations_commute, leaf_operations_
 pub use plans::{
     families_are_attempted_as_lists, rounds_are_done_by_their_plans, tasks_are_done_by_their_plans,
 };
+pub use readers::readers_of_a_block_in_any_order;
 pub use rounds::{
     answers_stand_whichever_journal_comes, rounds_are_settled_by_their_entries,
     rounds_are_settled_in_any_order,

@@ -3,12 +3,15 @@ pub mod AskedLemmas
 pub mod ByteLemmas
 pub mod CapLemmas
 pub mod ChoiceLemmas
+pub mod ClearLemmas
 pub mod CopyLemmas
 pub mod DoneLemmas
 pub mod EntryLemmas
 pub mod ExampleCases
 pub mod FamilyLemmas
+pub mod FinishLemmas
 pub mod FootprintLemmas
+pub mod GoingLemmas
 pub mod GroundLemmas
 pub mod HistoryLemmas
 pub mod KeyLemmas
@@ -17,6 +20,7 @@ pub mod LeafLemmas
 pub mod ListLemmas
 pub mod MayLemmas
 pub mod OnceKeys
+pub mod OnceLemmas
 pub mod OracleExists
 pub mod OracleLemmas
 pub mod OrderLemmas
@@ -28,6 +32,7 @@ pub mod ReaderImages
 pub mod ReaderLemmas
 pub mod ReaderPrograms
 pub mod ReadersTogether
+pub mod ReceiptLemmas
 pub mod RequestFootprints
 pub mod RequestLemmas
 pub mod RoundDone
@@ -35,9 +40,12 @@ pub mod RoundEnds
 pub mod RoundLemmas
 pub mod SeparateLemmas
 pub mod SettleLemmas
+pub mod StayLemmas
+pub mod StepLemmas
 pub mod TaskFootprints
 pub mod TaskLemmas
 pub mod TraceLemmas
 pub mod TreeOrderLemmas
+pub mod ViewLemmas
 pub mod WholeRound
 pub mod WholeTraces

@@ -1,9 +1,13 @@
+pub mod Calls
+pub mod Clearings
 pub mod Conflicts
 pub mod CopyPrograms
+pub mod Engines
 pub mod Entries
 pub mod Examples
 pub mod Families
 pub mod Footprints
+pub mod Going
 pub mod Keys
 pub mod Labels
 pub mod Leaves
@@ -12,6 +16,7 @@ pub mod Orders
 pub mod Plans
 pub mod Programs
 pub mod Readers
+pub mod Receipts
 pub mod RoundRules
 pub mod Rounds
 pub mod Rules
@@ -19,3 +24,4 @@ pub mod Separate
 pub mod Tasks
 pub mod Traces
 pub mod TreeOrders
+pub mod Views

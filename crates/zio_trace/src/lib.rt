@@ -9,6 +9,7 @@
 #![tactic(auto)]
 
 mod copies;
+mod engines;
 mod examples;
 mod footprints;
 mod orders;
@@ -16,8 +17,12 @@ mod plans;
 mod readers;
 mod rounds;
 mod trees;
+mod views;
 
 pub use copies::{copies_are_read_by_programs, pieces_are_written_by_programs};
+pub use engines::{
+    an_engine_goes_through_a_round, nodes_in_flight_stay_clear, nodes_know_by_their_own_deeds,
+};
 pub use examples::a_repair_beside_a_write;
 pub use footprints::{tasks_have_traces, tasks_stay_within_their_footprints};
 pub use orders::{a_round_in_any_order, leaf_operations_commute, leaf_operations_in_any_order};
@@ -30,3 +35,4 @@ pub use rounds::{
     rounds_are_settled_in_any_order,
 };
 pub use trees::{trees_over_different_blocks_in_any_order, trees_that_dont_conflict_in_any_order};
+pub use views::{a_node_shows_the_rest_of_its_program, operations_that_are_out_stand_first};

@@ -1,10 +1,10 @@
 -- What deeds ask for, and what their entries were asked for.
-use Rattle.std.proofs.Common.{◌≡◌, ℕ, ◌+◌, List, [], ◌∷◌, ◌++◌, refl, sym, ap, ◌∙◌, arith}
-use Rattle.zio_types.specs.Choices.{Ask, Choice}
+use Rattle.std.proofs.Common.{◌≡◌, List, [], ◌∷◌, ◌++◌, sym, ap}
+use Rattle.zio_types.specs.Choices.{Choice}
 use Rattle.zio_gang.specs.Journals.{asks_of}
 use Rattle.zio_trace.specs.Entries.{RecordedBy, Recorded}
 use Rattle.zio_trace.specs.Labels.{Labelled}
-use Rattle.zio_trace.specs.Oracles.{weigh, ops_of}
+use Rattle.zio_trace.specs.Oracles.{ops_of}
 use Rattle.zio_trace.specs.Programs.{Deed}
 use Rattle.zio_trace.specs.RoundRules.{asks_in}
 use Rattle.zio_trace.specs.Tasks.{Task, Leaf, Find, ReadCopies, WriteCopies, WritePart, ReadHeads, ReadTree, TakePlaces, Attempt, Settle, Value}

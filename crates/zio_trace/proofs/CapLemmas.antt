@@ -1,5 +1,5 @@
 -- A round asks for each key once at most.
-use Rattle.std.proofs.Common.{◌≡◌, ℕ, zero, suc, ◌+◌, ◌≤◌, Bool, true, false, cond, List, [], ◌∷◌, ◌++◌, inl, inr, refl, sym, ap, ◌∙◌, subst, arith}
+use Rattle.std.proofs.Common.{◌≡◌, ℕ, suc, ◌+◌, ◌≤◌, true, false, List, [], ◌∷◌, ◌++◌, inl, inr, refl, sym, ap, subst, arith}
 use Rattle.zio_trace.specs.Keys.{Capped}
 use Rattle.zio_trace.specs.Labels.{Labelled, labelled, ways_at}
 use Rattle.zio_trace.specs.Oracles.{Ways, Oracle, IsOracle, heard, asked_in, weigh}

@@ -1,17 +1,17 @@
 -- The places of a lawful journal's choices: free beside those in use, inside their tops, and apart for different requests.
-use Rattle.std.proofs.Common.{◌≡◌, ◌≢◌, ℕ, ◌<◌, List, [], ◌∷◌, ◌++◌, length, Bool, true, false, not, cond, find, filter, ◌&&◌, ◌==◌, nat_lt, Option, Some, None, IsTrue, Contains, ◌⊎◌, inl, inr, ⊎_elim, refl, sym, ap, ◌∙◌, subst, eqb-true, eq-eqb, arith}
-use Rattle.std.specs.List.{AllByRecursion, list_all}
-use Rattle.std.proofs.lemmas.Bool.{and_parts, true_from_ne_false}
-use Rattle.std.proofs.lemmas.List.Elements.{Contains-append_left, Contains-append_right, Contains-append_cases, Contains-push_cases}
+use Rattle.std.proofs.Common.{◌≡◌, ◌≢◌, ℕ, List, [], ◌∷◌, ◌++◌, length, Bool, true, false, not, cond, find, ◌==◌, nat_lt, Option, Some, None, IsTrue, Contains, ◌⊎◌, inl, inr, ⊎_elim, refl, sym, ap, ◌∙◌, subst, eqb-true, eq-eqb}
+use Rattle.std.specs.List.{AllByRecursion}
+use Rattle.std.proofs.lemmas.Bool.{and_parts}
+use Rattle.std.proofs.lemmas.List.Elements.{Contains-append_cases, Contains-push_cases}
 use Rattle.zio_types.specs.declared.place.Place.{Place}
 use Rattle.zio_types.specs.declared.place.TopSize.{TopSize}
-use Rattle.zio_types.specs.Choices.{Ask, Choice, is_refused, same_ask, taken_by}
+use Rattle.zio_types.specs.Choices.{Ask, Choice, same_ask, taken_by}
 use Rattle.zio_types.specs.Places.{AreCopies, is_free, is_inside, meets}
 use Rattle.zio_cksum.proofs.AllLemmas.{all_contains, all_weaker}
 use Rattle.zio_gang.specs.Journals.{AreLawful, choices_in}
 use Rattle.zio_gang.specs.Writes.{chosen, places_chosen, places_unless}
 use Rattle.zio_trace.specs.TreeOrders.{Pairs}
-use Rattle.zio_trace.proofs.ListLemmas.{all_front, all_rest, all_lists, contains_first, contains_later}
+use Rattle.zio_trace.proofs.ListLemmas.{all_front, all_rest, contains_first, contains_later}
 
 -- ---- lists
 

@@ -1,7 +1,6 @@
 -- What was done in a round, in whatever order, is what its program gives alone.
 use Rattle.std.proofs.Common.{◌≡◌, ℕ, suc, ◌+◌, ◌≤◌, true, false, List, [], ◌∷◌, Contains, Bool, inl, inr, refl, sym, ap, ◌∙◌, subst, arith}
 use Rattle.std.specs.List.{AllByRecursion}
-use Rattle.zio_types.specs.Choices.{Ask}
 use Rattle.zio_cksum.specs.Images.{Images}
 use Rattle.zio_cksum.proofs.AllLemmas.{all_append, all_contained, all_contains, all_weaker}
 use Rattle.zio_trace.specs.Footprints.{Stays}

@@ -1,5 +1,5 @@
 -- The example, evaluated.
-use Rattle.std.proofs.Common.{◌≡◌, List, [], ◌∷◌, Ok, refl}
+use Rattle.std.proofs.Common.{[], ◌∷◌, refl}
 use Rattle.zio_cksum.specs.Images.{Images}
 use Rattle.zio_trace.specs.Examples.{images_after, images_before, reads_bad, reads_good, repairs, sound_leaves, writes_on}
 use Rattle.zio_trace.specs.Leaves.{on_leaf}

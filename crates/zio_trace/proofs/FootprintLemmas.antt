@@ -1,5 +1,5 @@
 -- Where the programs of a block's copies stay, and that what they find is good.
-use Rattle.std.proofs.Common.{◌≡◌, ℕ, ◌/◌, ◌%◌, ◌≤◌, List, [], ◌∷◌, ◌++◌, length, map, take, drop, Bool, true, false, Option, Some, None, Result, Ok, Err, IfOk, IfSome, IsTrue, Contains, refl, sym, ◌∙◌, arith}
+use Rattle.std.proofs.Common.{◌≡◌, ℕ, ◌/◌, ◌%◌, List, [], ◌∷◌, ◌++◌, length, map, take, drop, Bool, true, false, Option, Some, None, Result, Ok, Err, IfOk, IfSome, IsTrue, Contains, refl, sym, ◌∙◌, arith}
 use Rattle.std.specs.List.{AllByRecursion}
 use Rattle.zio_types.specs.declared.error.Errno.{Errno}
 use Rattle.zio_types.specs.declared.place.Place.{Place}
@@ -10,7 +10,7 @@ use Rattle.zio_cksum.specs.Headers.{offset_of}
 use Rattle.zio_cksum.specs.Images.{Setting, Spot}
 use Rattle.zio_cksum.proofs.AllLemmas.{all_append, all_take, all_drop, all_map, all_unmap}
 use Rattle.zio_cksum.proofs.FrameLemmas.{AreAmong, places_among}
-use Rattle.zio_trace.specs.CopyPrograms.{Program, with_failure, try_on, try_each, fetch_in, place_reading, pass_on, pass_each, pass_reading, none_tried, none_passed, store_each, found_by, last_on, first_on, block_reading, place_error, place_writing, places_writing, pass_writing, again_on, piece_writing}
+use Rattle.zio_trace.specs.CopyPrograms.{Program, with_failure, try_on, try_each, fetch_in, place_reading, pass_on, pass_each, pass_reading, none_tried, none_passed, store_each, found_by, last_on, first_on, block_reading, place_writing, places_writing, pass_writing, again_on, piece_writing}
 use Rattle.zio_trace.specs.Footprints.{Stays}
 use Rattle.zio_trace.specs.Leaves.{LeafOp, Fetch, Store, Answer, IsAmong, stores, error_of}
 use Rattle.zio_trace.specs.Programs.{Program as ProgramOf, Ends, Asks, ◌>>=◌}

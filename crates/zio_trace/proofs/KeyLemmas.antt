@@ -1,5 +1,5 @@
 -- Each plan of a task asks for a key no more often than the task may.
-use Rattle.std.proofs.Common.{◌≡◌, ℕ, zero, suc, ◌+◌, ◌<◌, ◌≤◌, List, [], ◌∷◌, ◌++◌, length, Bool, true, false, cond, nat_le, Option, Some, None, Ok, Err, refl, sym, ap, ◌∙◌, subst, arith}
+use Rattle.std.proofs.Common.{◌≡◌, ℕ, zero, suc, ◌+◌, ◌≤◌, List, [], ◌∷◌, ◌++◌, length, Bool, true, false, cond, nat_le, Option, Some, None, Ok, Err, refl, subst, arith}
 use Rattle.zio_types.specs.declared.error.Errno.{Errno}
 use Rattle.zio_types.specs.declared.journal.Key.{Key}
 use Rattle.zio_types.specs.declared.journal.Role.{Role}
@@ -25,15 +25,14 @@ use Rattle.zio_trace.specs.Families.{Forest, NoTrees, TreeOf, root_left, before}
 use Rattle.zio_trace.specs.Keys.{bit, if_same, starts, count_in, cap, FitsLeft, Capped}
 use Rattle.zio_trace.specs.Labels.{same_number, same_at}
 use Rattle.zio_trace.specs.Leaves.{LeafOp, Answer}
-use Rattle.zio_trace.specs.Plans.{Plan, Kids, bare, add_kid, by_leaves, plan_members, plan_gang, plan_gang_unless, plan_body, plan_part, plan_write, head_task, plan_below, plan_found, plan_pointer, plan_bodies, plan_after, plan_tree, plan_read, plan_free, plan_taken, plan_claim, plan_own, plan_kids, plan_root, plan_left, plan_again, plan_settle, plan, stopped}
-use Rattle.zio_trace.specs.Programs.{Program as ProgramOf, Ends, Asks, ◌>>=◌, ask}
-use Rattle.zio_trace.specs.Rounds.{Round, plan_round}
-use Rattle.zio_trace.specs.Tasks.{good_by, Look, ByKept, ByClaim, visit_of, Task, Leaf, Find, ReadCopies, WriteCopies, WritePart, ReadHeads, ReadTree, TakePlaces, Attempt, Settle, Value, Got, Wrote, One, Settled, SettledBy, OwnGot, got, found, StoredAs, nowhere, walked, attempted}
+use Rattle.zio_trace.specs.Plans.{Plan, Kids, bare, by_leaves, plan_members, plan_gang, plan_gang_unless, plan_body, plan_part, plan_write, head_task, plan_below, plan_found, plan_pointer, plan_bodies, plan_after, plan_tree, plan_read, plan_free, plan_taken, plan_claim, plan_own, plan_kids, plan_root, plan_left, plan_again, plan_settle, plan}
+use Rattle.zio_trace.specs.Programs.{Program as ProgramOf, Ends, Asks, ask}
+use Rattle.zio_trace.specs.Rounds.{plan_round}
+use Rattle.zio_trace.specs.Tasks.{good_by, Look, ByKept, ByClaim, Task, ReadCopies, WriteCopies, WritePart, ReadHeads, ReadTree, Attempt, Settle, Value, Got, Wrote, One, Settled, OwnGot, got, found, StoredAs, nowhere, walked, attempted}
 use Rattle.zio_trace.specs.Traces.{AsksOnly}
 use Rattle.zio_trace.proofs.CapLemmas.{capped-more, capped-then, idle}
 use Rattle.zio_trace.proofs.GroundLemmas.{only-then}
-use Rattle.zio_trace.proofs.LabelLemmas.{number_itself, number_is}
-use Rattle.zio_trace.proofs.PathLemmas.{if_added, if_more, passes, of_path, one_of_path, key_bit}
+use Rattle.zio_trace.proofs.PathLemmas.{if_added, if_more, passes, one_of_path, key_bit}
 
 module _ (k : Key) where
   abbrev Idle : {A : Type 0} → Plan A → Type 0

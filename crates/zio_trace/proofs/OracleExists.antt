@@ -1,10 +1,10 @@
 -- There is an oracle, whatever the operations that are done at once answer.
-use Rattle.std.proofs.Common.{◌≡◌, Bool, true, false, cond, List, [], ◌∷◌, ◌++◌, inl, inr, refl, ap, ◌∙◌, subst}
+use Rattle.std.proofs.Common.{◌≡◌, Bool, true, false, cond, List, [], ◌∷◌, ◌++◌, inl, inr, refl, ap, ◌∙◌}
 use Rattle.std.specs.List.{AllByRecursion}
 use Rattle.zio_trace.specs.Footprints.{Stays}
 use Rattle.zio_trace.specs.Oracles.{Ways, Oracle, IsOracle, heard, asked_in, Agrees, AreOnce}
 use Rattle.zio_trace.specs.Programs.{Program, Ends, Asks, Deed}
-use Rattle.zio_trace.specs.Traces.{Mentions, Grounded, Bottom, Above, AsksOnly}
+use Rattle.zio_trace.specs.Traces.{Mentions, Grounded, Bottom, Above}
 
 abbrev Found : Type 0 → Type 0 → Type 0
 Found Op Ans = Ans × List Op

@@ -1,6 +1,5 @@
 -- Oracles that agree with deeds, and what happens where an oracle's deeds happen.
 use Rattle.std.proofs.Common.{◌≡◌, List, [], ◌∷◌, ◌++◌, inl, inr, refl, sym, ap, ◌∙◌, subst, append-nil, append_assoc}
-use Rattle.std.specs.List.{AllByRecursion}
 use Rattle.zio_types.specs.Choices.{Ask}
 use Rattle.zio_cksum.specs.Images.{Images}
 use Rattle.zio_trace.specs.Oracles.{Ways, Oracle, IsOracle, heard, asked_in, Sure, deed_as, deeds_as}

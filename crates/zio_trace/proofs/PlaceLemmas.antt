@@ -1,5 +1,5 @@
 -- Operations on copies at places that don't meet are apart, and they lie on their leaves.
-use Rattle.std.proofs.Common.{◌≡◌, ◌≢◌, ℕ, ◌+◌, ◌*◌, ◌<◌, ◌≤◌, max, min, nat_lt, List, [], ◌∷◌, ◌++◌, map, slice_get, Bool, true, false, ◌&&◌, ◌==◌, Option, Some, None, option_map, IfSome, IsTrue, Contains, ◌⊎◌, inl, inr, ⊎_elim, refl, sym, ap, ◌∙◌, subst, eq-eqb, eqb-true, ltb-false, ltb-true, leb-true, nat_le, arith}
+use Rattle.std.proofs.Common.{◌≡◌, ◌≢◌, ℕ, ◌+◌, ◌*◌, ◌<◌, ◌≤◌, max, min, nat_lt, List, [], ◌∷◌, map, slice_get, Bool, true, false, ◌&&◌, ◌==◌, Option, Some, None, option_map, IfSome, IsTrue, ◌⊎◌, inl, inr, ⊎_elim, subst, eq-eqb, ltb-false, ltb-true, leb-true, nat_le, arith}
 use Rattle.std.specs.List.{AllByRecursion, flat_map}
 use Rattle.std.proofs.lemmas.Bool.{and_parts, cases_eq, cases_lt}
 use Rattle.std.proofs.lemmas.Option.{slice_get-map}

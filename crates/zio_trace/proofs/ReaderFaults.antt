@@ -1,8 +1,6 @@
 -- Rows that turn no bytes and aren't for first passes alone: an operation meets the same row in both passes, and a read
 -- that meets one fails whatever the bytes are.
-use Rattle.std.proofs.Common.{◌≡◌, ℕ, List, [], ◌∷◌, Bool, true, false, cond, ◌&&◌, ◌==◌, not, nat_lt, nat_le, find, option_map, Option, Some, None, Result, Ok, Err, ◌⊎◌, inl, inr, refl, ap, ◌∙◌, subst, sym}
-use Rattle.std.specs.List.{AllByRecursion}
-use Rattle.zio_types.specs.declared.error.Errno.{Errno}
+use Rattle.std.proofs.Common.{◌≡◌, ℕ, List, [], ◌∷◌, Bool, true, false, cond, ◌&&◌, ◌==◌, not, nat_lt, nat_le, find, option_map, Option, Some, None, Ok, ◌⊎◌, inl, inr, refl, ap}
 use Rattle.zio_types.specs.declared.place.Place.{Place}
 use Rattle.zio_faults.specs.declared.table.FaultKind.{FaultKind}
 use Rattle.zio_faults.specs.declared.table.FaultKind.TheVariants.{Eio, Gone, Flip}
@@ -10,7 +8,7 @@ use Rattle.zio_faults.specs.declared.table.Hit.{Hit}
 use Rattle.zio_faults.specs.declared.table.Operation.{Operation}
 use Rattle.zio_faults.specs.declared.table.Row.{Row}
 use Rattle.zio_faults.specs.Hits.{common_end, common_start, hit_on, is_for, selects}
-use Rattle.zio_cksum.specs.Blocks.{Pass, first_good, judged, leaves_of, read_order, read_pass, read_place, spot_in, then_places}
+use Rattle.zio_cksum.specs.Blocks.{first_good, judged, leaves_of, read_order, read_pass, spot_in, then_places}
 use Rattle.zio_cksum.specs.Headers.{offset_of}
 use Rattle.zio_cksum.specs.Images.{Images, Setting, Spot, bytes_at, faulty_read, met, read_leaf, read_met}
 use Rattle.zio_trace.specs.Readers.{RowsArePlain, TurnsNoBytes}

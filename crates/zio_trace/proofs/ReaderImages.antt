@@ -1,23 +1,21 @@
 -- Repairs of one block with the same bytes: in whatever order, and however often.
-use Rattle.std.proofs.Common.{◌≡◌, ◌≢◌, ℕ, ◌+◌, ◌<◌, ◌≤◌, List, [], ◌∷◌, length, set, take, drop, Bool, true, false, Option, Some, None, Result, Ok, Err, IsTrue, Contains, ◌⊎◌, inl, inr, ⊎_elim, refl, sym, ap, ◌∙◌, subst, arith}
+use Rattle.std.proofs.Common.{◌≡◌, ℕ, ◌+◌, ◌<◌, ◌≤◌, List, [], ◌∷◌, length, set, true, false, Option, Some, None, Contains, ◌⊎◌, inl, inr, ⊎_elim, refl, sym, ap, ◌∙◌, subst, arith}
 use Rattle.std.specs.List.{AllByRecursion}
 use Rattle.std.proofs.lemmas.Bool.{cases_lt}
 use Rattle.std.proofs.lemmas.List.{set-set}
-use Rattle.zio_types.specs.declared.error.Errno.{Errno}
 use Rattle.zio_faults.specs.declared.table.Hit.{Hit}
 use Rattle.zio_faults.specs.declared.table.FaultKind.{FaultKind}
 use Rattle.zio_faults.specs.declared.table.FaultKind.TheVariants.{Eio, Gone, Flip}
-use Rattle.zio_cksum.specs.Blocks.{judged, judged_by, repaired}
-use Rattle.zio_cksum.specs.Images.{Images, Setting, Spot, bytes_at, faulty_write, image_of, met, overwritten, padded_to, read_leaf, read_met, with_bytes, write_leaf, write_met}
+use Rattle.zio_cksum.specs.Blocks.{repaired}
+use Rattle.zio_cksum.specs.Images.{Images, Setting, Spot, faulty_write, image_of, met, overwritten, padded_to, with_bytes, write_leaf, write_met}
 use Rattle.zio_cksum.proofs.AllLemmas.{all_contains}
 use Rattle.zio_cksum.proofs.ByteLemmas.{image_of_same, images_past, length-padded_to}
-use Rattle.zio_trace.specs.Leaves.{Answer, AreClear, HaveSizes, LeafOp, LiesOn, Store, Fetch, on_leaf}
-use Rattle.zio_trace.specs.Readers.{CopiesApart, CopiesLie, RowsArePlain, TurnsNoBytes}
-use Rattle.zio_trace.proofs.ByteLemmas.{front_padded, over_twice, read_written}
+use Rattle.zio_trace.specs.Leaves.{AreClear, HaveSizes, LiesOn, Store}
+use Rattle.zio_trace.specs.Readers.{RowsArePlain, TurnsNoBytes}
+use Rattle.zio_trace.proofs.ByteLemmas.{over_twice}
 use Rattle.zio_trace.proofs.LeafLemmas.{done_sizes, leaves_commute}
-use Rattle.zio_trace.proofs.ReaderFaults.{MetPlain, met_plain, read_plain}
+use Rattle.zio_trace.proofs.ReaderFaults.{MetPlain, met_plain}
 use Rattle.zio_trace.proofs.ChoiceLemmas.{contained_cases}
-use Rattle.zio_trace.proofs.ListLemmas.{contains_first, contains_later}
 
 with_twice : (images : Images) (t : Spot) (b : List ℕ) → t.at + length b ≤ length (image_of images t.leaf) → with_bytes (with_bytes images t b) t b ≡ with_bytes images t b
 with_twice images t b fits =

@@ -1,28 +1,23 @@
 -- Several readers of one block, in any order of their operations.
-use Rattle.std.proofs.Common.{◌≡◌, ℕ, zero, suc, ◌+◌, ◌<◌, ◌≤◌, List, [], ◌∷◌, ◌++◌, length, map, replicate, take, drop, Bool, true, false, Option, Some, None, Result, Ok, Err, IfOk, IsTrue, Contains, ◌⊎◌, inl, inr, ⊎_elim, refl, sym, ap, ◌∙◌, subst, arith}
+use Rattle.std.proofs.Common.{◌≡◌, ℕ, ◌+◌, ◌<◌, ◌≤◌, List, [], ◌∷◌, ◌++◌, length, map, take, drop, Bool, true, false, Option, Some, None, Result, Ok, Contains, ◌⊎◌, inl, inr, ⊎_elim, refl, sym, ap, ◌∙◌, subst, arith}
 use Rattle.std.specs.List.{AllByRecursion}
 use Rattle.std.proofs.lemmas.Bool.{cases_lt}
 use Rattle.zio_types.specs.declared.error.Errno.{Errno}
-use Rattle.zio_types.specs.declared.place.Place.{Place}
 use Rattle.zio_faults.specs.declared.table.Hit.{Hit}
-use Rattle.zio_cksum.specs.Blocks.{Pass, Read, Tried, first_pass_with, judged, judged_by, last_pass_with, leaves_of, passed_with, read_block, read_pass, read_place, repaired, spot_in}
-use Rattle.zio_cksum.specs.Frames.{FitSpots, HaveRoom, spots_of}
-use Rattle.zio_cksum.specs.Images.{Images, Setting, Spot, bytes_at, image_of, met, overwritten, padded_to, read_leaf, read_met, with_bytes, write_leaf, write_met}
-use Rattle.zio_cksum.proofs.AllLemmas.{all_append, all_contained, all_contains, all_map, all_unmap, all_weaker}
+use Rattle.zio_cksum.specs.Blocks.{Pass, Tried, judged, judged_by, passed_with, repaired}
+use Rattle.zio_cksum.specs.Images.{Images, Setting, Spot, bytes_at, image_of, met, overwritten, padded_to, read_leaf, read_met, with_bytes}
+use Rattle.zio_cksum.proofs.AllLemmas.{all_append, all_contained, all_contains, all_unmap, all_weaker}
 use Rattle.zio_cksum.proofs.ByteLemmas.{image_of_same, images_past, length-padded_to}
-use Rattle.zio_cksum.proofs.FrameLemmas.{AreAmong, places_among}
-use Rattle.zio_cksum.proofs.ReadLemmas.{good_law, size_law}
-use Rattle.zio_trace.specs.CopyPrograms.{Program, block_reading}
-use Rattle.zio_trace.specs.Leaves.{Answer, AreClear, Fetch, HaveSizes, LeafOp, LiesOn, Store, answer_of, on_leaf}
+use Rattle.zio_trace.specs.CopyPrograms.{Program}
+use Rattle.zio_trace.specs.Leaves.{Answer, AreClear, Fetch, HaveSizes, Store, answer_of, on_leaf}
 use Rattle.zio_trace.specs.Programs.{Asks, Done, Ends, run}
 use Rattle.zio_trace.specs.Readers.{AllEnd, CopiesApart, CopiesLie, Interleaved, OneDoes, RowsArePlain}
 use Rattle.zio_trace.proofs.ByteLemmas.{front_padded, read_written}
-use Rattle.zio_trace.proofs.CopyLemmas.{block_run}
 use Rattle.zio_trace.proofs.LeafLemmas.{leaves_commute, met_answer}
 use Rattle.zio_trace.proofs.ListLemmas.{all_front, all_rest}
-use Rattle.zio_trace.proofs.ReaderFaults.{MetPlain, met_plain, pass_same, read_plain}
+use Rattle.zio_trace.proofs.ReaderFaults.{met_plain, read_plain}
 use Rattle.zio_trace.proofs.ReaderImages.{met_stores, put_again, put_commutes, put_copy, put_sizes}
-use Rattle.zio_trace.proofs.ReaderPrograms.{Fine, May, Repairs, block_fine, repairs_fine}
+use Rattle.zio_trace.proofs.ReaderPrograms.{Fine, May, Repairs, repairs_fine}
 
 -- ---- lists of programs
 

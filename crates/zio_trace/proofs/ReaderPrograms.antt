@@ -7,10 +7,10 @@ use Rattle.zio_types.specs.declared.place.Place.{Place}
 use Rattle.zio_cksum.specs.Blocks.{Pass, Tried, blame, first_good, judged, leaves_of, passed_with, read_order, read_pass, read_place, spot_in, then_others, turn_size}
 use Rattle.zio_cksum.specs.Headers.{offset_of}
 use Rattle.zio_cksum.specs.Images.{Images, Setting, Spot, read_leaf}
-use Rattle.zio_cksum.proofs.AllLemmas.{all_append, all_drop, all_map, all_take, all_unmap, all_weaker}
+use Rattle.zio_cksum.proofs.AllLemmas.{all_append, all_drop, all_map, all_take, all_unmap}
 use Rattle.zio_cksum.proofs.FrameLemmas.{AreAmong}
 use Rattle.zio_trace.specs.CopyPrograms.{Program, block_reading, fetch_in, first_on, found_by, none_passed, none_tried, pass_each, pass_on, pass_reading, place_reading, store_each, try_each, try_on, with_failure}
-use Rattle.zio_trace.specs.Leaves.{Answer, Fetch, LeafOp, Store, error_of}
+use Rattle.zio_trace.specs.Leaves.{Answer, Fetch, Store, error_of}
 use Rattle.zio_trace.specs.Programs.{Asks, Ends, ◌>>=◌}
 use Rattle.zio_trace.proofs.ListLemmas.{all_front, all_rest}
 

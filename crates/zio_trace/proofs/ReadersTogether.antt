@@ -3,15 +3,15 @@ use Rattle.std.proofs.Common.{◌≡◌, ℕ, zero, suc, ◌+◌, ◌≤◌, Lis
 use Rattle.std.specs.List.{AllByRecursion}
 use Rattle.zio_types.specs.declared.error.Errno.{Errno}
 use Rattle.zio_types.specs.declared.place.Place.{Place}
-use Rattle.zio_cksum.specs.Blocks.{Pass, Read, Tried, blame, first_pass_with, judged, last_pass_with, leaves_of, passed_with, read_block, read_order, read_pass, read_place, repaired, spot_in}
+use Rattle.zio_cksum.specs.Blocks.{Pass, Read, Tried, first_pass_with, judged, last_pass_with, leaves_of, read_block, read_order, read_pass, read_place, repaired, spot_in}
 use Rattle.zio_cksum.specs.Frames.{FitSpots, HaveRoom, spots_of}
 use Rattle.zio_cksum.specs.Headers.{offset_of}
 use Rattle.zio_cksum.specs.Images.{Images, Setting, Spot, image_of, read_leaf}
-use Rattle.zio_cksum.proofs.AllLemmas.{all_append, all_contained, all_contains, all_drop, all_map, all_take, all_unmap, all_weaker}
+use Rattle.zio_cksum.proofs.AllLemmas.{all_append, all_contained, all_map, all_unmap, all_weaker}
 use Rattle.zio_cksum.proofs.FrameLemmas.{AreAmong, places_among}
 use Rattle.zio_cksum.proofs.ReadLemmas.{good_law, size_law}
-use Rattle.zio_trace.specs.CopyPrograms.{Program, block_reading, fetch_in, first_on, found_by, last_on, none_passed, none_tried, pass_each, pass_on, pass_reading, place_reading, try_each, try_on, with_failure}
-use Rattle.zio_trace.specs.Leaves.{Answer, Fetch, HaveSizes, LeafOp, Store, on_leaf}
+use Rattle.zio_trace.specs.CopyPrograms.{Program, block_reading, fetch_in, first_on, last_on, none_passed, none_tried, pass_each, pass_on, pass_reading, place_reading, try_each, try_on, with_failure}
+use Rattle.zio_trace.specs.Leaves.{Answer, Fetch, HaveSizes, Store, on_leaf}
 use Rattle.zio_trace.specs.Programs.{Asks, Done, Ends, run, ◌>>=◌}
 use Rattle.zio_trace.specs.Readers.{AllEnd, CopiesApart, CopiesLie, Interleaved, OneDoes, RowsArePlain}
 use Rattle.zio_trace.proofs.CopyLemmas.{block_run, pass_run}

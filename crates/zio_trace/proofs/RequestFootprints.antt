@@ -1,6 +1,5 @@
 -- The plans of requests and trees stay within the own work of their requests.
 use Rattle.std.proofs.Common.{◌≡◌, ℕ, zero, suc, ◌+◌, List, [], ◌∷◌, ◌++◌, map, Bool, true, false, Option, Some, None, Contains, ⊎_elim, refl, sym, ap, ◌∙◌, subst, append_assoc}
-use Rattle.std.specs.List.{AllByRecursion}
 use Rattle.std.proofs.lemmas.List.Elements.{Contains-append_left, Contains-append_right, Contains-append_cases}
 use Rattle.zio_types.specs.declared.error.Errno.{Errno}
 use Rattle.zio_types.specs.declared.request.Bits.{Bits}
@@ -11,18 +10,15 @@ use Rattle.zio_blkptr.specs.Pointers.{pointer_of}
 use Rattle.zio_script.specs.declared.script.Work.{Work}
 use Rattle.zio_script.specs.declared.script.Work.TheVariants.{Null, Read as WorkRead, Write, Free, Claim}
 use Rattle.zio_script.specs.Bodies.{body_of}
-use Rattle.zio_script.specs.Requests.{kind_of}
 use Rattle.zio_cksum.proofs.AllLemmas.{all_append, all_weaker, all_contains}
 use Rattle.zio_gang.specs.declared.tree.Tree.{Tree}
-use Rattle.zio_gang.specs.Attempts.{Terms, Pending, Return, Child, Own, Attempted, all_bits, bits_of, closed_if, children_of, finished_of, has_bits, insert_children, judged_own, now_alone, reexecutions_max}
+use Rattle.zio_gang.specs.Attempts.{Terms, Pending, Child, Own, Attempted, closed_if, children_of, insert_children, judged_own, now_alone, reexecutions_max}
 use Rattle.zio_gang.specs.Pieces.{Parts, parts_of, pieces_of}
-use Rattle.zio_gang.specs.Trees.{header_levels_max}
 use Rattle.zio_gang.specs.Writes.{content_of}
 use Rattle.zio_trace.specs.Families.{Forest, NoTrees, TreeOf, flat, before, root_left}
 use Rattle.zio_trace.specs.Footprints.{Stays, FitsTask, Within, OfWork, OfRequest, OfTree, OfBlock, OfClaim, AreFrom, ReadsAlone, OfPart}
-use Rattle.zio_trace.specs.Plans.{Plan, Kids, plan_own, plan_read, plan_free, plan_claim, plan_taken, plan_tree, plan_write, plan_kids, plan_root, plan_left, plan_again, plan_settle, bare, one_of, plan}
-use Rattle.zio_trace.specs.Programs.{Ends, Asks, ◌>>=◌, ask}
-use Rattle.zio_trace.specs.Tasks.{Task, Leaf, Find, TakePlaces, ReadCopies, WriteCopies, WritePart, ReadHeads, ReadTree, Attempt, Settle, Look, ByKept, ByClaim, OwnGot, One, Settled, Value, AttemptedBy, SettledBy, attempted, got, stored, walked}
+use Rattle.zio_trace.specs.Plans.{Plan, Kids, plan_own, plan_read, plan_free, plan_claim, plan_taken, plan_tree, plan_write, plan_kids, plan_root, plan_left, plan_again, plan_settle, bare, plan}
+use Rattle.zio_trace.specs.Tasks.{Task, Leaf, Find, TakePlaces, ReadCopies, WriteCopies, WritePart, ReadHeads, ReadTree, Attempt, Settle, ByKept, ByClaim, OwnGot, One, Settled, Value, attempted, walked}
 use Rattle.zio_trace.proofs.FootprintLemmas.{stays-then}
 use Rattle.zio_trace.proofs.ListLemmas.{all_front, all_rest, contains_first, contains_later}
 use Rattle.zio_trace.proofs.TaskFootprints.{read_copies_stay, write_copies_stay, write_part_stays, kept_heads_stay, claimed_heads_stay, tree_stays, on_more, stays_wider}

@@ -1,10 +1,9 @@
 -- What an engine did in a round, in whatever order, is what settling each tree leaves.
-use Rattle.std.proofs.Common.{◌≡◌, ℕ, ◌+◌, Bool, true, false, List, [], ◌∷◌, ◌++◌, refl, sym, ap, ◌∙◌, subst, arith}
+use Rattle.std.proofs.Common.{◌≡◌, ℕ, ◌+◌, true, List, [], ◌∷◌, ◌++◌, refl, sym, ap, ◌∙◌, subst, arith}
 use Rattle.std.specs.List.{AllByRecursion}
 use Rattle.zio_types.specs.Choices.{Ask, Choice}
 use Rattle.zio_cksum.specs.Images.{Images}
 use Rattle.zio_gang.specs.Attempts.{Terms}
-use Rattle.zio_gang.specs.Rounds.{settle_each}
 use Rattle.zio_trace.specs.Conflicts.{is_single}
 use Rattle.zio_trace.specs.Families.{Forest}
 use Rattle.zio_trace.specs.Footprints.{FitsTask}
@@ -13,7 +12,7 @@ use Rattle.zio_trace.specs.Leaves.{HaveSizes}
 use Rattle.zio_trace.specs.Oracles.{Oracle, Shuffled, deeds_as, ops_of, weigh}
 use Rattle.zio_trace.specs.Programs.{Deed, Done, Happen, asks_of}
 use Rattle.zio_trace.specs.RoundRules.{IsSettled, asks_in, mend_task, task_rules}
-use Rattle.zio_trace.specs.Rounds.{AreTrees, Round, plan_round, trees_in}
+use Rattle.zio_trace.specs.Rounds.{AreTrees, Round, plan_round}
 use Rattle.zio_trace.specs.Rules.{AreLawful, IsDone}
 use Rattle.zio_trace.specs.Tasks.{Find, Leaf, TakePlaces, Task, Value, means}
 use Rattle.zio_trace.specs.Traces.{asked_by}

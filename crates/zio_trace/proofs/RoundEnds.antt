@@ -1,24 +1,22 @@
 -- A round's end: what was done by rules that know no journal was done under the entries.
-use Rattle.std.proofs.Common.{◌≡◌, ℕ, Bool, true, false, List, [], ◌∷◌, ◌++◌, Contains, refl, sym, ap, ◌∙◌, subst}
+use Rattle.std.proofs.Common.{◌≡◌, ℕ, true, List, [], ◌∷◌, Contains, refl, sym, ap, ◌∙◌, subst}
 use Rattle.std.specs.List.{AllByRecursion}
 use Rattle.std.proofs.lemmas.List.Elements.{Contains-append_left, Contains-append_right}
 use Rattle.zio_types.specs.Choices.{Ask, Choice}
 use Rattle.zio_cksum.specs.Images.{Images}
 use Rattle.zio_cksum.proofs.AllLemmas.{all_append, all_contained, all_contains, all_weaker}
 use Rattle.zio_gang.specs.Attempts.{Terms}
-use Rattle.zio_gang.specs.Journals.{AreChoicesOf, HaveDistinctKeys, asks_of, choices_in}
-use Rattle.zio_gang.specs.Trees.{sizes_of}
-use Rattle.zio_gang.specs.Rounds.{settle_each}
+use Rattle.zio_gang.specs.Journals.{HaveDistinctKeys, asks_of, choices_in}
 use Rattle.zio_trace.specs.Conflicts.{is_single}
 use Rattle.zio_trace.specs.Entries.{AnsweredBy, AnswersBy, IsSettledByEntries, Pass, PassBy, Recorded, any_rules, any_ways}
 use Rattle.zio_trace.specs.Families.{Forest}
 use Rattle.zio_trace.specs.Keys.{NumbersOnce}
 use Rattle.zio_trace.specs.Labels.{Labelled, means_at, ways_at}
 use Rattle.zio_trace.specs.Leaves.{HaveSizes}
-use Rattle.zio_trace.specs.Oracles.{IsOracle, Oracle, Shuffled, deeds_as, ops_of, weigh}
-use Rattle.zio_trace.specs.Programs.{Deed, Done, Happen, asks_of as asks_done}
+use Rattle.zio_trace.specs.Oracles.{IsOracle, Oracle, ops_of, weigh}
+use Rattle.zio_trace.specs.Programs.{Deed, Done, Happen}
 use Rattle.zio_trace.specs.RoundRules.{asks_in, mend_task, task_rules, task_ways}
-use Rattle.zio_trace.specs.Rounds.{AreTrees, Round, plan_round, trees_in}
+use Rattle.zio_trace.specs.Rounds.{AreTrees, Round, plan_round}
 use Rattle.zio_trace.specs.Rules.{IsDone}
 use Rattle.zio_trace.specs.Tasks.{Find, Leaf, TakePlaces, Task, Value, means}
 use Rattle.zio_trace.specs.Traces.{asked_by}

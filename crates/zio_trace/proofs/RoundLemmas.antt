@@ -1,12 +1,12 @@
 -- What an engine did, in whatever order, is what its calls mean.
-use Rattle.std.proofs.Common.{◌≡◌, ℕ, List, [], ◌∷◌, ◌++◌, length, slice_get, Some, refl, sym, ap, subst}
+use Rattle.std.proofs.Common.{◌≡◌, ℕ, List, refl, sym, ap, subst}
 use Rattle.std.specs.List.{AllByRecursion}
 use Rattle.zio_cksum.specs.Images.{Images}
 use Rattle.zio_types.specs.Choices.{Choice}
 use Rattle.zio_gang.specs.Attempts.{Terms}
 use Rattle.zio_trace.specs.Conflicts.{TaskLies, TasksApart}
 use Rattle.zio_trace.specs.Leaves.{AreApart, HaveSizes, LiesOn, on_leaf}
-use Rattle.zio_trace.specs.Orders.{Commute, Stamped, deeds_in, by_stamp, RisesTo, Rise, Once, IsOrderOf}
+use Rattle.zio_trace.specs.Orders.{Commute, Stamped, deeds_in, IsOrderOf}
 use Rattle.zio_trace.specs.Programs.{Meaning, Program, run, Deed, Does, Happen, asks_of, Made}
 use Rattle.zio_trace.specs.Tasks.{Task, Leaf, Find, TakePlaces, Got, means}
 use Rattle.zio_trace.proofs.HistoryLemmas.{history_by_stamp}

@@ -1,11 +1,10 @@
 -- Trees over different blocks don't conflict.
-use Rattle.std.proofs.Common.{◌≡◌, ◌≢◌, map, ℕ, zero, suc, ◌+◌, ◌*◌, ◌≤◌, List, [], ◌∷◌, ◌++◌, Bool, true, false, cond, bytes_eq, find, Option, Some, None, option_map, IfSome, IsTrue, Contains, ◌⊎◌, inl, inr, ⊎_elim, refl, sym, ap, ◌∙◌, subst, arith}
+use Rattle.std.proofs.Common.{◌≡◌, ◌≢◌, map, ℕ, zero, suc, ◌+◌, List, [], ◌∷◌, ◌++◌, Bool, true, false, cond, bytes_eq, find, Option, Some, None, option_map, IfSome, IsTrue, Contains, ◌⊎◌, inl, inr, ⊎_elim, refl, sym, ◌∙◌, subst, arith}
 use Rattle.std.specs.List.{AllByRecursion, flat_map}
-use Rattle.std.proofs.lemmas.List.Elements.{Contains-append_left, Contains-append_right}
 use Rattle.std.specs.Prelude.{IsPermutation}
 use Rattle.zio_types.specs.declared.place.Place.{Place}
 use Rattle.zio_types.specs.Choices.{Ask, Choice}
-use Rattle.zio_types.specs.Places.{is_inside, meets, sector_size}
+use Rattle.zio_types.specs.Places.{is_inside, meets}
 use Rattle.zio_blkptr.specs.declared.pointer.Bp.{Bp}
 use Rattle.zio_blkptr.specs.Pointers.{places_of}
 use Rattle.zio_script.specs.declared.script.Work.{Work}
@@ -19,17 +18,16 @@ use Rattle.zio_gang.specs.declared.tree.Tree.{Tree}
 use Rattle.zio_gang.specs.Attempts.{Terms, Pending}
 use Rattle.zio_gang.specs.Journals.{AreLawful, choices_in}
 use Rattle.zio_gang.specs.Rounds.{settle_each}
-use Rattle.zio_gang.specs.Pieces.{Parts, Piece, below_piece, body_piece, head_piece, members_kept, no_parts, parts_from, parts_if, parts_of, parts_of_members, pieces_of}
+use Rattle.zio_gang.specs.Pieces.{Parts, Piece, below_piece, head_piece, members_kept, no_parts, parts_from, parts_if, parts_of, parts_of_members, pieces_of}
 use Rattle.zio_gang.specs.Trees.{header_levels_max, kept_at, sizes_of, tree_places, tree_pointers}
 use Rattle.zio_gang.specs.Writes.{chosen}
-use Rattle.zio_trace.specs.Conflicts.{TaskLies, TasksApart, is_single}
-use Rattle.zio_trace.specs.Families.{flat}
-use Rattle.zio_trace.specs.Footprints.{OfBlock, OfPart, OfRequest, OfTree, OfWork, OnPieces}
-use Rattle.zio_trace.specs.Leaves.{AreApart, IsAmong, LeafOp, HaveSizes}
+use Rattle.zio_trace.specs.Conflicts.{TaskLies, TasksApart}
+use Rattle.zio_trace.specs.Footprints.{OfBlock, OfPart, OfRequest, OfWork, OnPieces}
+use Rattle.zio_trace.specs.Leaves.{IsAmong, LeafOp, HaveSizes}
 use Rattle.zio_trace.specs.Separate.{AreOverDifferentBlocks, AreSeparate, BlocksApart, HaveRoomFor, IsNoClaim, IsSoundBlock, IsSoundRequest, LeavesHold, LeavesOnce, NoneMeet, requests_in}
 use Rattle.zio_trace.specs.Tasks.{Find, Leaf, Task}
 use Rattle.zio_trace.specs.TreeOrders.{Pairs, Root, TreeLies, TreesApart, AreAlike, IsTree, flat_root}
-use Rattle.zio_trace.proofs.ChoiceLemmas.{MeetsNone, IsPlaced, chosen_apart, chosen_placed}
+use Rattle.zio_trace.proofs.ChoiceLemmas.{IsPlaced, chosen_apart, chosen_placed}
 use Rattle.zio_trace.proofs.LeafLemmas.{apart_sym}
 use Rattle.zio_trace.proofs.ListLemmas.{all_front, all_lists, all_rest, contains_first, contains_later}
 use Rattle.zio_trace.proofs.PlaceLemmas.{blocks_apart, copies_lie}

@@ -1,5 +1,5 @@
 -- Each task's plan stays within what the task may do, whatever fitting answers come, and its own answer fits.
-use Rattle.std.proofs.Common.{◌≡◌, ℕ, zero, suc, ◌+◌, List, [], ◌∷◌, ◌++◌, length, map, Bool, true, false, nat_le, Option, Some, None, Result, Ok, Err, IfOk, IsTrue, Contains, bytes_eq, refl, sym, ap, ◌∙◌, subst, append_assoc, append-nil}
+use Rattle.std.proofs.Common.{◌≡◌, ℕ, zero, suc, ◌+◌, List, [], ◌∷◌, ◌++◌, length, Bool, true, false, nat_le, Option, Some, None, Ok, Err, IfOk, IsTrue, Contains, refl, sym, ap, ◌∙◌, subst, append_assoc, append-nil}
 use Rattle.std.specs.List.{AllByRecursion}
 use Rattle.std.proofs.lemmas.List.Elements.{Contains-append_left, Contains-append_right}
 use Rattle.std.proofs.lemmas.Slice.Eq.{bytes_eq-Decides}
@@ -9,24 +9,23 @@ use Rattle.zio_types.specs.Choices.{Ask, Choice}
 use Rattle.zio_types.specs.Places.{sector_size}
 use Rattle.zio_blkptr.specs.declared.pointer.Bp.{Bp}
 use Rattle.zio_blkptr.specs.declared.pointer.SumKind.{SumKind}
-use Rattle.zio_blkptr.specs.Pointers.{places_of}
 use Rattle.zio_cksum.specs.Frames.{spots_of}
 use Rattle.zio_cksum.specs.Headers.{split_sizes, members_of}
 use Rattle.zio_cksum.specs.Blocks.{good_kept}
 use Rattle.zio_cksum.specs.Images.{Setting, Spot}
-use Rattle.zio_cksum.proofs.AllLemmas.{all_append, all_weaker, all_contained}
+use Rattle.zio_cksum.proofs.AllLemmas.{all_append, all_weaker}
 use Rattle.zio_gang.specs.declared.tree.Head.{Head}
 use Rattle.zio_gang.specs.declared.tree.Tree.{Tree}
 use Rattle.zio_gang.specs.Attempts.{Terms, Pending, writing_of}
 use Rattle.zio_gang.specs.Pieces.{Piece, Parts, parts_from, parts_if, parts_of, parts_of_members, pieces_of, head_piece, body_piece, members_kept, below_piece, no_parts}
-use Rattle.zio_gang.specs.Trees.{kept_at, header_levels_max}
+use Rattle.zio_gang.specs.Trees.{kept_at}
 use Rattle.zio_gang.specs.Writes.{Writing, chosen, body_ask, head_ask, cut}
 use Rattle.zio_trace.specs.CopyPrograms.{block_reading, piece_writing}
-use Rattle.zio_trace.specs.Footprints.{Stays, FitsTask, Within, OnSpots, OnPieces, IsOfPart, OfPart, ReadsAlone, FitsHeads}
+use Rattle.zio_trace.specs.Footprints.{Stays, FitsTask, Within, OnSpots, OnPieces, IsOfPart, OfPart, ReadsAlone}
 use Rattle.zio_trace.specs.Leaves.{LeafOp, Answer, IsAmong}
-use Rattle.zio_trace.specs.Plans.{Plan, by_leaves, plan_members, plan_gang, plan_gang_unless, plan_body, plan_part, plan_write, plan_below, plan_found, plan_pointer, plan_bodies, plan_after, plan_tree, head_task, header_over, stopped, under_head, join_walked, plan}
-use Rattle.zio_trace.specs.Programs.{Program as ProgramOf, Ends, Asks, ◌>>=◌, ask}
-use Rattle.zio_trace.specs.Tasks.{Test, good_by, Task, Leaf, Find, ReadCopies, WriteCopies, WritePart, ReadHeads, ReadTree, TakePlaces, Value, StoredAs, Got, Wrote, Walked, WalkedBy, KeptAs, BodyOf, ByKept, ByClaim, Look, visit_of, nowhere, got, found, walked, stored}
+use Rattle.zio_trace.specs.Plans.{Plan, by_leaves, plan_members, plan_gang, plan_gang_unless, plan_body, plan_part, plan_write, plan_below, plan_found, plan_pointer, plan_bodies, plan_after, plan_tree, header_over, plan}
+use Rattle.zio_trace.specs.Programs.{Program as ProgramOf, Ends, Asks, ask}
+use Rattle.zio_trace.specs.Tasks.{Test, good_by, Task, Leaf, Find, ReadCopies, WriteCopies, WritePart, ReadHeads, Value, StoredAs, Walked, ByKept, ByClaim, nowhere, got, found, walked}
 use Rattle.zio_trace.proofs.FootprintLemmas.{stays-then, read_stays, write_stays, Anything, ReadsOn}
 use Rattle.zio_trace.proofs.ListLemmas.{contains_first, contains_later}
 

@@ -1,18 +1,13 @@
 -- Each task has a trace.
-use Rattle.std.proofs.Common.{◌≡◌, Bool, true, false, List, [], ◌∷◌, ◌++◌, inl, inr, refl, sym, ap, ◌∙◌, subst, append_assoc, append-nil}
+use Rattle.std.proofs.Common.{◌≡◌, Bool, true, List, [], ◌∷◌, ◌++◌, inl, inr, refl, sym, ap, ◌∙◌, subst, append_assoc, append-nil}
 use Rattle.std.specs.List.{AllByRecursion}
-use Rattle.zio_types.specs.Choices.{Ask, Choice}
+use Rattle.zio_types.specs.Choices.{Ask}
 use Rattle.zio_cksum.specs.Images.{Images}
-use Rattle.zio_cksum.proofs.AllLemmas.{all_append, all_weaker}
-use Rattle.zio_gang.specs.Attempts.{Terms}
-use Rattle.zio_gang.specs.Writes.{chosen}
-use Rattle.zio_trace.specs.Conflicts.{is_single}
-use Rattle.zio_trace.specs.Footprints.{Stays, FitsTask, Within}
+use Rattle.zio_cksum.proofs.AllLemmas.{all_append}
 use Rattle.zio_trace.specs.Plans.{plan}
 use Rattle.zio_trace.specs.Programs.{Done, Meaning, Program, Ends, Asks, run, Deed, Does, Happen, asks_of, deeds_of, Made, NoneMade, Itself, ByParts}
-use Rattle.zio_trace.specs.Tasks.{Task, Leaf, Find, TakePlaces, Value, found, means}
-use Rattle.zio_trace.specs.Traces.{Mentions, Grounded, Bottom, Above, AsksOnly, asked_by, all_asked, IsTrace}
-use Rattle.zio_trace.proofs.ListLemmas.{all_front, all_rest}
+use Rattle.zio_trace.specs.Tasks.{means}
+use Rattle.zio_trace.specs.Traces.{Mentions, Grounded, Bottom, Above, AsksOnly}
 use Rattle.zio_trace.proofs.ProgramLemmas.{own_does, run_does, made_happen, happen_apart}
 
 pub mentions_only : {Op Ans A : Type 0} (P : Op → Type 0) (p : Program Op Ans A) (q : Op) → AsksOnly P p → Mentions p q → P q

@@ -1,17 +1,16 @@
 -- Trees whose operations don't conflict may be run in any order.
-use Rattle.std.proofs.Common.{◌≡◌, ℕ, zero, suc, ◌+◌, ◌<◌, List, [], ◌∷◌, ◌++◌, length, map, set, get_or, swap, refl, sym, ap, ◌∙◌, subst, append_assoc, arith, true}
+use Rattle.std.proofs.Common.{◌≡◌, ℕ, zero, suc, ◌<◌, List, [], ◌∷◌, ◌++◌, length, map, set, get_or, swap, refl, sym, ap, ◌∙◌, subst, append_assoc, arith}
 use Rattle.std.specs.List.{AllByRecursion}
 use Rattle.std.specs.Prelude.{IsPermutation}
 use Rattle.std.proofs.lemmas.List.Edits.{swap_is}
-use Rattle.std.proofs.lemmas.List.Sorted.{IsPermutation-refl, IsPermutation-trans, IsPermutation-append, IsPermutation-append_comm, IsPermutation-append_left, IsPermutation-append_right, IsPermutation-cons, IsPermutation-keeps}
-use Rattle.zio_types.specs.Choices.{Ask, Choice}
+use Rattle.std.proofs.lemmas.List.Sorted.{IsPermutation-refl, IsPermutation-trans, IsPermutation-append, IsPermutation-append_comm, IsPermutation-cons, IsPermutation-keeps}
+use Rattle.zio_types.specs.Choices.{Choice}
 use Rattle.zio_cksum.specs.Images.{Images}
-use Rattle.zio_gang.specs.Attempts.{Terms, Pending, Settled as TreeSettled, settle, reexecutions_max}
+use Rattle.zio_gang.specs.Attempts.{Terms, Pending, Settled as TreeSettled, reexecutions_max}
 use Rattle.zio_gang.specs.Rounds.{Ran, add_left, add_settled, settle_each, then_trees}
-use Rattle.zio_trace.specs.Families.{flat}
 use Rattle.zio_trace.specs.Leaves.{HaveSizes}
 use Rattle.zio_trace.specs.Programs.{Done}
-use Rattle.zio_trace.specs.Tasks.{Settle, Task, Value, means, settled}
+use Rattle.zio_trace.specs.Tasks.{Settle, Value, means, settled}
 use Rattle.zio_trace.specs.TreeOrders.{AreAlike, IsTree, Pairs, Root, TreeLies, TreesApart, flat_root}
 use Rattle.zio_trace.proofs.RoundLemmas.{tasks_commute}
 use Rattle.zio_trace.proofs.SettleLemmas.{tree_settles}

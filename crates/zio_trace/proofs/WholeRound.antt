@@ -4,7 +4,7 @@ use Rattle.std.specs.List.{AllByRecursion}
 use Rattle.zio_cksum.specs.Images.{Images}
 use Rattle.zio_types.specs.Choices.{Choice}
 use Rattle.zio_gang.specs.Attempts.{Terms, Settled as TreeSettled, reexecutions_max}
-use Rattle.zio_gang.specs.Rounds.{Ran, then_trees, settle_each}
+use Rattle.zio_gang.specs.Rounds.{then_trees, settle_each}
 use Rattle.zio_trace.specs.Conflicts.{TasksApart, TaskLies}
 use Rattle.zio_trace.specs.Families.{Forest, NoTrees, TreeOf}
 use Rattle.zio_trace.specs.Leaves.{HaveSizes}

@@ -1,11 +1,10 @@
 -- The trace of a task, and whole tasks whose operations don't conflict.
-use Rattle.std.proofs.Common.{◌≡◌, ℕ, Bool, true, false, List, [], ◌∷◌, ◌++◌, refl, sym, ap, ◌∙◌, subst, append_assoc, append-nil}
+use Rattle.std.proofs.Common.{◌≡◌, ℕ, true, List, [], ◌∷◌, ◌++◌, refl, sym, ap, ◌∙◌, subst, append-nil}
 use Rattle.std.specs.List.{AllByRecursion}
-use Rattle.zio_types.specs.Choices.{Ask, Choice}
+use Rattle.zio_types.specs.Choices.{Choice}
 use Rattle.zio_cksum.specs.Images.{Images}
-use Rattle.zio_cksum.proofs.AllLemmas.{all_weaker, all_true}
+use Rattle.zio_cksum.proofs.AllLemmas.{all_weaker}
 use Rattle.zio_gang.specs.Attempts.{Terms}
-use Rattle.zio_gang.specs.Writes.{chosen}
 use Rattle.zio_trace.specs.Conflicts.{TaskLies, TasksApart, is_single}
 use Rattle.zio_trace.specs.Footprints.{FitsTask, Within}
 use Rattle.zio_trace.specs.Leaves.{HaveSizes, Fetch, Store}
@@ -15,13 +14,13 @@ use Rattle.zio_trace.specs.Programs.{Done, Meaning, Deed, Happen, Made, asks_of}
 use Rattle.zio_trace.specs.Tasks.{Task, Leaf, Find, TakePlaces, Value, found, means}
 use Rattle.zio_trace.specs.Traces.{all_asked, asked_by, IsTrace}
 use Rattle.zio_trace.proofs.GroundLemmas.{task_ground}
-use Rattle.zio_trace.proofs.ListLemmas.{all_front, all_rest, all_lists}
+use Rattle.zio_trace.proofs.ListLemmas.{all_lists}
 use Rattle.zio_trace.proofs.MayLemmas.{made_may}
 use Rattle.zio_trace.proofs.ProgramLemmas.{happen_apart, made_happen}
 use Rattle.zio_trace.proofs.RequestFootprints.{tasks_stay}
 use Rattle.zio_trace.proofs.RequestLemmas.{plan_run}
 use Rattle.zio_trace.proofs.RoundLemmas.{tasks_commute}
-use Rattle.zio_trace.proofs.TraceLemmas.{ComesTo, one_comes, made_asks, happen_join}
+use Rattle.zio_trace.proofs.TraceLemmas.{one_comes, made_asks, happen_join}
 
 -- ---- one task's trace
 

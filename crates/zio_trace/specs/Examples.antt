@@ -1,5 +1,5 @@
 -- A read with a repair beside a write of another block, on a mirror of two leaves. docs/BRIDGE.md tells it.
-use Rattle.std.specs.Prelude.{ℕ, List, [], ◌∷◌, false, Ok}
+use Rattle.std.specs.Prelude.{ℕ, [], ◌∷◌, false, Ok}
 use Rattle.zio_cksum.specs.Images.{Images, Setting, Spot}
 use Rattle.zio_trace.specs.Leaves.{Answer, Fetch, LeafOp, Store}
 use Rattle.zio_trace.specs.Programs.{Deed}

@@ -1,5 +1,5 @@
 -- How often a task may ask for a key.
-use Rattle.std.specs.Prelude.{◌≡◌, ℕ, ◌+◌, ◌≤◌, cond, Bool, true, false, List, [], ◌∷◌}
+use Rattle.std.specs.Prelude.{ℕ, ◌+◌, ◌≤◌, cond, Bool, true, false, List, [], ◌∷◌}
 use Rattle.zio_types.specs.declared.journal.Key.{Key}
 use Rattle.zio_types.specs.Choices.{same_key}
 use Rattle.zio_trace.specs.Families.{Forest, NoTrees, TreeOf}

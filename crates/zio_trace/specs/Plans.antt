@@ -3,7 +3,7 @@ use Rattle.std.specs.Prelude.{ℕ, zero, suc, ◌+◌, List, [], ◌∷◌, ◌+
 use Rattle.zio_types.specs.declared.error.Errno.{Errno}
 use Rattle.zio_types.specs.declared.error.Errno.TheVariants.{Cksum, Noent, Inval, Exist}
 use Rattle.zio_types.specs.declared.place.Place.{Place}
-use Rattle.zio_types.specs.Choices.{Choice, no_place}
+use Rattle.zio_types.specs.Choices.{no_place}
 use Rattle.zio_types.specs.Errors.{worst_error, worst_of}
 use Rattle.zio_types.specs.Filled.{filled_to}
 use Rattle.zio_types.specs.Places.{sector_size}

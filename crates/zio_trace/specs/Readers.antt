@@ -1,5 +1,5 @@
 -- Several readers of one block, whose operations are made in any order.
-use Rattle.std.specs.Prelude.{◌≡◌, ℕ, ◌+◌, ◌≤◌, List, [], ◌∷◌, ◌++◌, map, false, Contains, ◌⊎◌}
+use Rattle.std.specs.Prelude.{◌≡◌, ℕ, ◌+◌, ◌≤◌, List, ◌∷◌, ◌++◌, map, false, Contains, ◌⊎◌}
 use Rattle.std.specs.List.{AllByRecursion}
 use Rattle.zio_faults.specs.declared.table.Row.{Row}
 use Rattle.zio_faults.specs.declared.table.FaultKind.{FaultKind}

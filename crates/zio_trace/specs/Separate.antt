@@ -1,5 +1,5 @@
 -- Rounds whose trees are over different blocks, beside a lawful journal.
-use Rattle.std.specs.Prelude.{◌≡◌, ◌≢◌, ℕ, ◌*◌, ◌≤◌, List, ◌∷◌, Bool, true, false, Option, Some, None, IfSome, IsTrue, Contains, slice_get}
+use Rattle.std.specs.Prelude.{◌≡◌, ◌≢◌, ℕ, ◌*◌, ◌≤◌, List, ◌∷◌, false, Option, Some, None, IfSome, IsTrue, Contains, slice_get}
 use Rattle.std.specs.List.{AllByRecursion}
 use Rattle.zio_types.specs.declared.place.Place.{Place}
 use Rattle.zio_types.specs.declared.place.Top.{Top}

@@ -33,32 +33,32 @@ below_under [] m n xs ys h = inl h
 below_under (a ∷ at) m n xs ys h = inr (refl, below_under at m n xs ys h)
 
 -- in the part of this operation
-abbrev InPart : {Op : Type 0} → List ℕ → Labelled Op → Type 0
+abbrev pub InPart : {Op : Type 0} → List ℕ → Labelled Op → Type 0
 InPart at x = (below : List ℕ) × (x.at ≡ at ++ below)
 
-abbrev Under : {Op : Type 0} → List ℕ → ℕ → Labelled Op → Type 0
+abbrev pub Under : {Op : Type 0} → List ℕ → ℕ → Labelled Op → Type 0
 Under at n x = IsUnder at n x.at
 
-sooner : {Op : Type 0} (at : List ℕ) (n : ℕ) (x y : Labelled Op) → InPart (at ++ n ∷ []) x → Under at (suc n) y → Earlier x y
+pub sooner : {Op : Type 0} (at : List ℕ) (n : ℕ) (x y : Labelled Op) → InPart (at ++ n ∷ []) x → Under at (suc n) y → Earlier x y
 sooner at n x y h k =
     let a : x.at ≡ at ++ n ∷ h.0 = h.1 ∙ append_assoc at (n ∷ []) h.0 in
     let less : n < k.number = let f : suc n ≤ k.number = k.from in omega arith in
     subst (λ (xs : List ℕ). Below xs y.at) (sym a) (subst (Below (at ++ n ∷ h.0)) (sym k.is) (below_under at n k.number h.0 k.below less))
 
-under_part : {Op : Type 0} (at : List ℕ) (n : ℕ) (x : Labelled Op) → InPart (at ++ n ∷ []) x → Under at n x
+pub under_part : {Op : Type 0} (at : List ℕ) (n : ℕ) (x : Labelled Op) → InPart (at ++ n ∷ []) x → Under at n x
 under_part at n x h = record { number = n; below = h.0; from = omega arith; is = h.1 ∙ append_assoc at (n ∷ []) h.0 }
 
-under_less : {Op : Type 0} (at : List ℕ) (n : ℕ) (x : Labelled Op) → Under at (suc n) x → Under at n x
+pub under_less : {Op : Type 0} (at : List ℕ) (n : ℕ) (x : Labelled Op) → Under at (suc n) x → Under at n x
 under_less at n x h = record { number = h.number; below = h.below; from = let f : suc n ≤ h.number = h.from in omega arith; is = h.is }
 
-part_under : {Op : Type 0} (at : List ℕ) (n : ℕ) (x : Labelled Op) → Under at n x → InPart at x
+pub part_under : {Op : Type 0} (at : List ℕ) (n : ℕ) (x : Labelled Op) → Under at n x → InPart at x
 part_under at n x h = (h.number ∷ h.below, h.is)
 
 all_cross : {X : Type 0} (R : X → X → Type 0) (P Q : X → Type 0) → ((x y : X) → P x → Q y → R x y) → (x : X) (ys : List X) → P x → AllByRecursion Q ys → AllByRecursion (R x) ys
 all_cross R P Q h x [] p k = tt
 all_cross R P Q h x (y ∷ ys) p k = (h x y p k.0, all_cross R P Q h x ys p k.1)
 
-ascends_append : {Op : Type 0} (Before : Op → Op → Type 0) (P Q : Op → Type 0) → ((x y : Op) → P x → Q y → Before x y) → (xs ys : List Op) → Ascends Before xs → Ascends Before ys → AllByRecursion P xs → AllByRecursion Q ys → Ascends Before (xs ++ ys)
+pub ascends_append : {Op : Type 0} (Before : Op → Op → Type 0) (P Q : Op → Type 0) → ((x y : Op) → P x → Q y → Before x y) → (xs ys : List Op) → Ascends Before xs → Ascends Before ys → AllByRecursion P xs → AllByRecursion Q ys → Ascends Before (xs ++ ys)
 ascends_append Before P Q h [] ys a b p q = b
 ascends_append Before P Q h (x ∷ xs) ys a b p q =
     (all_append (Before x) xs ys a.0 (all_cross Before P Q h x ys p.0 q), ascends_append Before P Q h xs ys a.1 b p.1 q)

@@ -46,6 +46,7 @@ pub mod TaskFootprints
 pub mod TaskLemmas
 pub mod TraceLemmas
 pub mod TreeOrderLemmas
+pub mod TurnLemmas
 pub mod ViewLemmas
 pub mod WholeRound
 pub mod WholeTraces

@@ -31,8 +31,8 @@ pub use plans::{
 };
 pub use readers::readers_of_a_block_in_any_order;
 pub use rounds::{
-    answers_stand_whichever_journal_comes, rounds_are_settled_by_their_entries,
-    rounds_are_settled_in_any_order,
+    answers_stand_whichever_journal_comes, each_round_has_a_history,
+    rounds_are_settled_by_their_entries, rounds_are_settled_in_any_order,
 };
 pub use trees::{trees_over_different_blocks_in_any_order, trees_that_dont_conflict_in_any_order};
 pub use views::{a_node_shows_the_rest_of_its_program, operations_that_are_out_stand_first};

@@ -1,16 +1,18 @@
 ghost use Rattle.std.specs.Prelude.{◌≡◌, List, ℕ};
+ghost use Rattle.std.specs.List.{AllByRecursion};
 ghost use Rattle.zio_types.specs.declared.place.Place.{Place};
 ghost use Rattle.zio_types.specs.declared.place.TopSize.{TopSize};
 ghost use Rattle.zio_types.specs.Choices.{Choice};
 ghost use Rattle.zio_cksum.specs.Images.{Images};
 ghost use Rattle.zio_gang.specs.Attempts.{Terms};
 ghost use Rattle.zio_gang.specs.Journals.{AreLawful, HaveDistinctKeys, asks_of, choices_in};
+ghost use Rattle.zio_trace.specs.Conflicts.{TaskLies};
 ghost use Rattle.zio_trace.specs.Entries.{AnsweredBy, IsSettledByEntries, MayCome, Pass, Recorded, any_rules};
 ghost use Rattle.zio_trace.specs.Families.{Forest};
 ghost use Rattle.zio_trace.specs.Keys.{NumbersOnce};
 ghost use Rattle.zio_trace.specs.Labels.{Labelled, means_at};
 ghost use Rattle.zio_trace.specs.Leaves.{HaveSizes};
-ghost use Rattle.zio_trace.specs.Programs.{Deed, Happen};
+ghost use Rattle.zio_trace.specs.Programs.{Deed, Happen, run};
 ghost use Rattle.zio_trace.specs.RoundRules.{IsSettled, task_rules};
 ghost use Rattle.zio_trace.specs.Rounds.{AreTrees, Round, plan_round};
 ghost use Rattle.zio_trace.specs.Rules.{IsDone};
@@ -47,4 +49,14 @@ pub fn answers_stand_whichever_journal_comes()
         AnsweredBy journal history }
     ensures entries { (sizes : List TopSize) (used : List Place) (entries : List Choice) →
         HaveDistinctKeys (asks_of entries) → AreLawful sizes used entries → MayCome sizes used entries entries }
+{}
+
+/// Each round has such a history: what its plan does where it runs alone, in the definitions' order.
+pub fn each_round_has_a_history()
+    ensures { (journal : List Choice) (t : Terms) (sizes : ℕ → ℕ) (f : Forest) (before : Images) →
+        let alone = run (means journal t) (plan_round f) before in
+        (history : List (Deed (Labelled Task) Value))
+        × Happen (means_at (means journal t)) history before alone.images
+        × (AllByRecursion (λ (d : Deed (Labelled Task) Value). TaskLies sizes d.op.op) history →
+        IsDone (task_rules journal t sizes) (plan_round f) history alone.value) }
 {}

@@ -1,0 +1,38 @@
+//! The bridge from definitions to engines: what a round means, taken apart into single operations.
+//!
+//! It stands on `zio_gang`. A definition threads images through a recursion; an engine makes single operations on
+//! leaves, in whatever order its tasks come to them. Here each definition has a program of operations that gives the
+//! same where it runs alone (`specs/Programs`, `specs/CopyPrograms`, `specs/Plans`), and operations that don't conflict
+//! may change places (`specs/Leaves`, `specs/Orders`).
+//! Every call is a law: its contract is the statement, and its body is empty. docs/BRIDGE.md has the idea and an
+//! example; read `tasks_are_done_by_their_plans` and `leaf_operations_in_any_order` first.
+#![tactic(auto)]
+
+mod copies;
+mod engines;
+mod examples;
+mod footprints;
+mod orders;
+mod plans;
+mod readers;
+mod rounds;
+mod trees;
+mod views;
+
+pub use copies::{copies_are_read_by_programs, pieces_are_written_by_programs};
+pub use engines::{
+    an_engine_goes_through_a_round, nodes_in_flight_stay_clear, nodes_know_by_their_own_deeds,
+};
+pub use examples::a_repair_beside_a_write;
+pub use footprints::{tasks_have_traces, tasks_stay_within_their_footprints};
+pub use orders::{a_round_in_any_order, leaf_operations_commute, leaf_operations_in_any_order};
+pub use plans::{
+    families_are_attempted_as_lists, rounds_are_done_by_their_plans, tasks_are_done_by_their_plans,
+};
+pub use readers::readers_of_a_block_in_any_order;
+pub use rounds::{
+    answers_stand_whichever_journal_comes, each_round_has_a_history,
+    rounds_are_settled_by_their_entries, rounds_are_settled_in_any_order,
+};
+pub use trees::{trees_over_different_blocks_in_any_order, trees_that_dont_conflict_in_any_order};
+pub use views::{a_node_shows_the_rest_of_its_program, operations_that_are_out_stand_first};

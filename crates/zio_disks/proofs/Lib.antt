@@ -1,0 +1,4 @@
+pub mod CopyLemmas
+pub mod DiskLemmas
+pub mod ReadLemmas
+pub mod WriteLemmas

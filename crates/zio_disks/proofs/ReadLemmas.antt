@@ -177,6 +177,11 @@ good_behind_among s places any error (Ok good) result some is h =
 good_behind_among s places any error (Err worst) result some is h =
     subst (λ r. IfOk r (λ g. AllByRecursion (Contains (spots_of s places)) (repairs_in s places g.before g.failed))) (sym is) tt
 
+-- good bytes behind a place are good bytes
+pub good_behind_good : (P : Type 0) (error : Errno) (others result : Result Good (Option Errno)) → result ≡ good_behind error others → IfOk others (λ _. P) → IfOk result (λ _. P)
+good_behind_good P error (Ok good) result is h = subst (λ r. IfOk r (λ _. P)) (sym is) h
+good_behind_good P error (Err worst) result is h = subst (λ r. IfOk r (λ _. P)) (sym is) tt
+
 -- the first place has a good leaf
 pub first_taken : (s : Setting) (retry : Bool) (good : List ℕ → Bool) (images : Images) (len : ℕ) (places : List Place) (any : Place) (bytes : List ℕ) (before : ℕ) (failed : List ℕ) → 1 ≤ length places → before ≡ 0
     → Some bytes ≡ (read_place s retry good images len (get_or places 0 any)).found → failed ≡ (read_place s retry good images len (get_or places 0 any)).failed

@@ -8,9 +8,9 @@ use Rattle.zio_disks.specs.declared.copies.GoodCopy.TheVariants.{Body, Kept, Cla
 
 -- which bytes are good
 abbrev pub good_by : GoodCopy → List ℕ → Bool
-good_by (Body bp) bytes = good_body bp.now bytes
-good_by (Kept header) bytes = good_kept (option_copied header) bytes
-good_by (Claimed bp) bytes = good_claimed bp.now bytes
+good_by (Body bp) = good_body bp.now
+good_by (Kept header) = good_kept (option_copied header)
+good_by (Claimed bp) = good_claimed bp.now
 
 -- a body has the size that its pointer says, and a header is one sector; pointers are valid
 abbrev pub IsOfSize : GoodCopy → ℕ → Type 0

@@ -1,4 +1,4 @@
-ghost use Rattle.std.specs.Prelude.{◌≡◌, IsTrue, length};
+ghost use Rattle.std.specs.Prelude.{◌≡◌, IsTrue, None, length};
 ghost use Rattle.zio_blkptr.specs.Pointers.{valid};
 ghost use Rattle.zio_cksum.specs.Blocks.{good_claimed, judged};
 ghost use Rattle.zio_disks.specs.Copies.{IsOfSize, good_by};
@@ -38,7 +38,8 @@ impl GoodCopy<'_> {
     /// What the read of a copy comes to: bytes that aren't good count as a checksum error.
     pub(crate) fn judge(&self, error: Option<Errno>, bytes: &[u8]) -> Option<Errno>
         requires { IsOfSize self.now (length bytes.now) }
-        ensures { found_with result bytes.now ≡ judged (good_by self.now) (found_with error bytes.now) }
+        ensures value { found_with result bytes.now ≡ judged (good_by self.now) (found_with error bytes.now) }
+        ensures good { result ≡ None → IsTrue (good_by self.now bytes.now) }
     {
         if error.is_some() {
             return error;

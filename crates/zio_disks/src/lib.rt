@@ -10,6 +10,8 @@ mod copies;
 mod leaf;
 mod read;
 mod setting;
+#[cfg(test)]
+mod tests;
 mod write;
 
 pub use copies::GoodCopy;

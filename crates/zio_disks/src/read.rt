@@ -1,6 +1,6 @@
 // Reads of a block: which copy is tried next, and which are rewritten after a good one.
 
-ghost use Rattle.std.specs.Prelude.{◌≡◌, ◌-◌, ◌^◌, ◌<◌, ◌≤◌, IfErr, IfOk, MatchResult, Contains, List, None, Some, [], ℕ, length, map, take, true};
+ghost use Rattle.std.specs.Prelude.{◌≡◌, ◌-◌, ◌^◌, ◌<◌, ◌≤◌, IfErr, IfOk, IsTrue, MatchResult, Contains, List, None, Some, [], ℕ, length, map, take, true};
 ghost use Rattle.std.specs.List.{AllByRecursion};
 ghost use Rattle.zio_types.specs.Errors.{worst_of};
 ghost use Rattle.zio_faults.specs.Hits.{RowFits};
@@ -59,6 +59,7 @@ pub fn read_block<D: Disk>(
     requires some { 0 < length buffer.old }
     requires good { IsOfSize good.now (length buffer.old) }
     requires lies { AreOnDisks setting.now (map D.bytes disks.old) (length buffer.old) places.now }
+    ensures good { IfOk result (λ error. error ≡ None → IsTrue (good_by good.now buffer.new)) }
     ensures told { IfOk result (λ error. (images : Images) → Tell D.image disks.old images →
         let read = read_block setting.now repair (good_by good.now) images (length buffer.old) places.now in
         (found_with error buffer.new ≡ read.found) × Tell D.image disks.new read.images) }
@@ -88,6 +89,7 @@ fn last_pass<D: Disk>(
     requires some { 0 < length buffer.old }
     requires good { IsOfSize good.now (length buffer.old) }
     requires lies { AreOnDisks setting.now (map D.bytes disks.old) (length buffer.old) places.now }
+    ensures good { IfOk result (λ error. error ≡ None → IsTrue (good_by good.now buffer.new)) }
     ensures told { IfOk result (λ error. (images : Images) → Tell D.image disks.old images →
         let read = last_pass setting.now repair images (read_pass setting.now true (good_by good.now) images (length buffer.old) places.now) in
         (found_with error buffer.new ≡ read.found) × Tell D.image disks.new read.images) }
@@ -192,6 +194,7 @@ fn read_pass<D: Disk>(
     ensures within { IfOk result (λ pass. IfOk pass (λ found. found.before ≤ length places.now)) }
     ensures among { IfOk result (λ pass. IfOk pass (λ found.
         AllByRecursion (Contains (spots_of setting.now places.now)) (repairs_in setting.now places.now found.before found.failed))) }
+    ensures good { IfOk result (λ pass. IfOk pass (λ _. IsTrue (good_by good.now buffer.new))) }
     ensures told { IfOk result (λ pass. (images : Images) → Tell D.image disks.old images →
         let seen = read_pass setting.now retry (good_by good.now) images (length buffer.old) places.now in
         MatchResult pass
@@ -247,6 +250,7 @@ fn read_place<D: Disk>(
     ensures within { IfOk result (λ read. IfOk read (λ found. found.before ≡ 0)) }
     ensures among { IfOk result (λ read. IfOk read (λ found.
         AllByRecursion (Contains (map (spot_in place.now) (leaves_of setting.now place.now))) (map (spot_in place.now) found.failed))) }
+    ensures good { IfOk result (λ read. IfOk read (λ _. IsTrue (good_by good.now buffer.new))) }
     ensures told { IfOk result (λ read. (images : Images) → Tell D.image disks.old images →
         let tried = read_place setting.now retry (good_by good.now) images (length buffer.old) place.now in
         MatchResult read
@@ -308,6 +312,7 @@ fn first_good<D: Disk>(
     requires good { IsOfSize good.now (length buffer.old) }
     requires lies { LieOn (map D.bytes disks.old) (length buffer.old) (map (spot_in place.now) leaves.now) }
     ensures within { IfOk result (λ tried. tried.failed ≤ length leaves.now) }
+    ensures good { IfOk result (λ tried. tried.found ≡ true → IsTrue (good_by good.now buffer.new)) }
     ensures told { IfOk result (λ tried. (images : Images) → Tell D.image disks.old images →
         let seen = first_good (λ leaf. judged (good_by good.now)
         (read_leaf setting.now retry images (length buffer.old) (spot_in place.now leaf))) leaves.now in

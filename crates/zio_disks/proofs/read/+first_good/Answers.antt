@@ -27,7 +27,7 @@ returns-clause-told g t c images tell =
     let first : (found_with c.in_ok-read.read c.read_leaf.new.buffer ≡ here len c.spot_in-spot.result) × Tell g.D.Disk.image c.read_leaf.new.disks images =
     c.in_ok-read.ensures.told images tell in
     let failed : Err c.in-Some.error ≡ read len (get_or c.args.leaves.now 0 0) =
-    c.in-Some.ensures ∙ ap (judged good) first.0 ∙ ap (λ spot. judged good (here len spot)) c.spot_in-spot.ensures.spot in
+    c.in-Some.ensures.value ∙ ap (judged good) first.0 ∙ ap (λ spot. judged good (here len spot)) c.spot_in-spot.ensures.spot in
     let others = c.in_ok-others.ensures.told images first.1 in
     let rest : FirstTold (read len) rest_of (found_if c.in_ok-others.others.found c.first_good.new.buffer) c.in_ok-others.others.failed c.in_ok-others.others.worst =
     subst (λ n. FirstTold (read n) rest_of (found_if c.in_ok-others.others.found c.first_good.new.buffer) c.in_ok-others.others.failed c.in_ok-others.others.worst)

@@ -10,7 +10,7 @@ use Rattle.zio_disks.specs.Disks.{LieOn}
 use Rattle.zio_disks.specs.declared.read.Good.{Good}
 use Rattle.zio_disks.proofs.DiskLemmas.{handles_none, handles_ok, handles_err, handles_then}
 use Rattle.zio_disks.proofs.WriteLemmas.{head_lies, rest_lies}
-use Rattle.zio_disks.proofs.ReadLemmas.{first_taken, good_behind_among, here_repairs_among}
+use Rattle.zio_disks.proofs.ReadLemmas.{first_taken, good_behind_among, good_behind_good, here_repairs_among}
 use Rattle.zio_disks.proofs.read.+read_pass.Goals as goal
 
 pub read_place-requires-clause-lies : goal.read_place-requires-clause-lies
@@ -61,3 +61,7 @@ returns-in_ok-others-in-Err-clause-among g t c =
 pub returns-in_ok-others-in-Err-clause-handled : goal.returns-in_ok-others-in-Err-clause-handled
 returns-in_ok-others-in-Err-clause-handled g t c =
     handles_then c.in_ok-read-in-len1-up.ensures.handled (handles_ok _ c.in_ok-others-in-Err.ensures.handled)
+
+pub returns-in_ok-others-in-Err-clause-good : goal.returns-in_ok-others-in-Err-clause-good
+returns-in_ok-others-in-Err-clause-good g t c =
+    good_behind_good _ c.in-Err.error c.in_ok-others-in-Err.others c.behind.result c.behind.ensures c.in_ok-others-in-Err.ensures.good

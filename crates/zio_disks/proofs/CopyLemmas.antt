@@ -1,11 +1,10 @@
 -- What a pointer says of the header or the body that is read for it.
-use Rattle.std.proofs.Common.{◌≡◌, ℕ, zero, suc, ◌+◌, ◌%◌, ◌^◌, ◌<◌, ◌≤◌, List, [], ◌∷◌, length, get_or, take, Bool, true, false, ◌&&◌, Option, Some, None, slice_get, IsTrue, refl, sym, ap, ◌∙◌, arith}
+use Rattle.std.proofs.Common.{◌≡◌, ℕ, zero, suc, ◌%◌, ◌^◌, ◌<◌, ◌≤◌, List, [], ◌∷◌, length, get_or, take, Bool, true, false, Some, slice_get, IsTrue, refl, sym, ap, ◌∙◌, arith}
 use Rattle.std.proofs.lemmas.Bool.{and_parts}
 use Rattle.std.specs.List.{list_all}
-use Rattle.zio_types.specs.declared.place.Place.{Place}
 use Rattle.zio_types.specs.Choices.{no_place}
 use Rattle.zio_blkptr.specs.declared.pointer.Bp.{Bp}
-use Rattle.zio_blkptr.specs.Pointers.{is_present, places_of, valid}
+use Rattle.zio_blkptr.specs.Pointers.{is_present, valid}
 use Rattle.zio_blkptr.proofs.PointerLemmas.{IsInRange-from, valid_parts}
 use Rattle.zio_cksum.specs.Blocks.{good_claimed, good_claimed_at}
 use Rattle.zio_cksum.specs.Headers.{is_header}

@@ -1,5 +1,5 @@
 -- Several disks by their numbers, when one of them is another and when nothing changes.
-use Rattle.std.proofs.Common.{◌≡◌, ℕ, zero, suc, ◌+◌, ◌<◌, ◌≤◌, List, [], ◌∷◌, length, map, get_or, set, inl, inr, refl, sym, ap, subst, ◌∙◌, Result, Ok, Err, OnOk, IsErrAnd, ◌≢◌, Bool, true, false, ◌&&◌, cond, Option, Some, IfSome, option_map, find, take, ◌++◌, ◌-◌, replicate, Contains, ⊎_elim, arith}
+use Rattle.std.proofs.Common.{◌≡◌, ℕ, zero, suc, ◌+◌, ◌<◌, ◌≤◌, List, [], ◌∷◌, length, map, get_or, set, inl, inr, refl, sym, ap, subst, ◌∙◌, Result, Ok, Err, OnOk, OnErr, IsErrAnd, ◌≢◌, Bool, true, false, ◌&&◌, cond, Option, Some, IfSome, option_map, find, take, ◌++◌, ◌-◌, replicate, Contains, ⊎_elim, arith}
 use Rattle.std.proofs.lemmas.List.{set_past}
 use Rattle.std.proofs.lemmas.Result.{err_from_is_err_and, on_ok_weaker}
 use Rattle.std.proofs.lemmas.Bool.{ltb-true, cases_lt}
@@ -16,7 +16,7 @@ use Rattle.std.specs.List.{AllByRecursion}
 use Rattle.std.proofs.lemmas.List.{append-nil}
 use Rattle.zio_disks.specs.Disks.{Tell, KeepHomes, AnyRose, AreSameDisks, Handles, StaySound, StillTell, TellOutside}
 use Rattle.zio_disks.specs.declared.setting.Stop.{Stop}
-use Rattle.zio_disks.specs.declared.setting.Stop.TheVariants.{Device}
+use Rattle.zio_disks.specs.declared.setting.Stop.TheVariants.{Device, Memory}
 
 -- ---- one disk by its number
 
@@ -268,6 +268,15 @@ handles_err {D} {A} {B} {bytes} {faults} {faults_at_fetch} {home} {image} {sound
       device = λ e. h.device (let f = p.1 in let q = p.2 in cc);
       outside = h.outside;
     }
+
+-- what follows without a disk, and fails for memory alone
+pub not_device : {A : Type 0} (answer : Result A Stop) → OnErr answer (answer ≡ Err Memory) → answer ≢ Err Device
+not_device (Ok x) h = λ e. cc
+not_device (Err stop) h = λ e. let f : Err stop ≡ Err Memory = h in cc
+
+pub handles_after : {D A B : Type 0} {bytes faults faults_at_fetch : D → ℕ} {home image : D → List ℕ → Type 0} {sound : D → Type 0} {spots : List Spot} {x : A} {a b : List D} (answer : Result B Stop)
+    → OnErr answer (answer ≡ Err Memory) → Handles {A = A} bytes faults faults_at_fetch home image sound spots (Ok x) a b → Handles {A = B} bytes faults faults_at_fetch home image sound spots answer a b
+handles_after answer memory h = record { same = h.same; steady = on_ok answer h.steady; device = λ e. absurd (not_device answer memory e); outside = h.outside }
 
 -- ---- one operation
 

@@ -1,4 +1,5 @@
 pub mod CopyLemmas
 pub mod DiskLemmas
 pub mod ReadLemmas
+pub mod TreeLemmas
 pub mod WriteLemmas

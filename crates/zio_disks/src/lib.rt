@@ -12,9 +12,11 @@ mod read;
 mod setting;
 #[cfg(test)]
 mod tests;
+mod trees;
 mod write;
 
 pub use copies::GoodCopy;
 pub use read::read_block;
 pub use setting::{Setting, Stop};
+pub use trees::free_tree;
 pub use write::write_piece;

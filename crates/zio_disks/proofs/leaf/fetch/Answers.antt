@@ -1,4 +1,4 @@
-use Rattle.std.proofs.Common.{◌≡◌, ◌<◌, List, ℕ, [], length, take, drop, ap, subst, ◌∙◌, arith}
+use Rattle.std.proofs.Common.{◌≡◌, ◌<◌, List, ℕ, [], length, take, drop, ap, subst, ◌∙◌}
 use Rattle.zio_cksum.specs.Images.{Spot, bytes_at, image_of}
 use Rattle.zio_disks.proofs.DiskLemmas.{handles_one, kept_outside, tell_at, tell_kept, spot_within}
 use Rattle.zio_disks.proofs.leaf.fetch.Goals as goal

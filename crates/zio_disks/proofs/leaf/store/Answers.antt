@@ -1,4 +1,4 @@
-use Rattle.std.proofs.Common.{◌≡◌, ◌∷◌, [], List, ℕ, get_or, length, refl, subst, set}
+use Rattle.std.proofs.Common.{◌≡◌, ◌∷◌, [], get_or, length, refl, subst, set}
 use Rattle.zio_cksum.specs.Images.{Spot, with_bytes}
 use Rattle.zio_disks.specs.Disks.{Tell, TellOutside}
 use Rattle.zio_disks.proofs.DiskLemmas.{handles_none, handles_one, stored_outside, stored_there}

@@ -1,5 +1,5 @@
-use Rattle.std.proofs.Common.{true, length, arith}
-use Rattle.zio_disks.proofs.DiskLemmas.{met_ends, padded_whole}
+use Rattle.std.proofs.Common.{true, arith}
+use Rattle.zio_disks.proofs.DiskLemmas.{met_ends}
 use Rattle.zio_disks.proofs.leaf.write_leaf.Goals as goal
 
 pub write_faulty-requires-clause-to : goal.write_faulty-requires-clause-to

@@ -1,4 +1,4 @@
-use Rattle.std.proofs.Common.{◌≡◌, ◌-◌, ◌<◌, Contains, List, length, map, get_or, take, drop, subst, sym, arith}
+use Rattle.std.proofs.Common.{◌-◌, ◌<◌, Contains, List, length, map, get_or, take, drop, subst, sym, arith}
 use Rattle.std.specs.List.{AllByRecursion}
 use Rattle.std.proofs.lemmas.Result.{IfOk-weaker}
 use Rattle.zio_types.specs.declared.place.Place.{Place}

@@ -1,8 +1,4 @@
-use Rattle.std.proofs.Common.{List, length, map}
-use Rattle.zio_cksum.specs.Frames.{spots_of}
-use Rattle.zio_disks.specs.Disks.{repairs_in}
-use Rattle.zio_disks.proofs.DiskLemmas.{handles_none, handles_wider}
-use Rattle.zio_disks.proofs.WriteLemmas.{among_lie}
+use Rattle.zio_disks.proofs.DiskLemmas.{handles_none}
 use Rattle.zio_disks.proofs.read.repair_if.Goals as goal
 
 pub returns-then-not-wanted-clause-handled : goal.returns-then-not-wanted-clause-handled

@@ -1,9 +1,9 @@
-use Rattle.std.proofs.Common.{List, ap, get_or, length, map, subst, sym}
+use Rattle.std.proofs.Common.{List, get_or, length, map, subst, sym}
 use Rattle.std.specs.List.{AllByRecursion}
-use Rattle.std.proofs.Common.{Contains, ◌≡◌, ℕ}
+use Rattle.std.proofs.Common.{Contains}
 use Rattle.zio_types.specs.declared.place.Place.{Place}
 use Rattle.zio_disks.proofs.WriteLemmas.{first_place_among, head_lies, other_places_among, rest_lies}
-use Rattle.zio_cksum.specs.Blocks.{leaves_of, spot_in}
+use Rattle.zio_cksum.specs.Blocks.{spot_in}
 use Rattle.zio_cksum.specs.Frames.{spots_of}
 use Rattle.zio_cksum.specs.Images.{Spot}
 use Rattle.zio_disks.specs.Disks.{LieOn}

@@ -1,10 +1,10 @@
-use Rattle.std.proofs.Common.{◌≡◌, ◌*◌, ℕ, length, map, subst, sym, ap, ◌∙◌, arith}
+use Rattle.std.proofs.Common.{◌≡◌, ◌*◌, length, map, subst, ap, ◌∙◌, arith}
 use Rattle.std.proofs.lemmas.Result.{IfOk-weaker, err_from_is_err_and}
 use Rattle.zio_types.specs.Places.{sector_size}
 use Rattle.zio_cksum.specs.Blocks.{Writes, in_turn, place_written, spot_in}
 use Rattle.zio_cksum.specs.Images.{Images, padded_to, write_leaf}
 use Rattle.zio_cksum.proofs.ByteLemmas.{length-padded_to}
-use Rattle.zio_disks.specs.Disks.{LieOn, Tell}
+use Rattle.zio_disks.specs.Disks.{Tell}
 use Rattle.zio_disks.proofs.DiskLemmas.{handles_none}
 use Rattle.zio_disks.proofs.WriteLemmas.{room_of, turn_padded, whole_lies}
 use Rattle.zio_disks.proofs.write.write_leaves.Goals as goal

@@ -1,3 +1,4 @@
+pub mod BodyLemmas
 pub mod CopyLemmas
 pub mod DiskLemmas
 pub mod ReadLemmas

@@ -1,5 +1,5 @@
 -- Disks that bear the tops of a setting, blocks whose places lie on them, and what the headers of a block name.
-use Rattle.std.specs.Prelude.{◌≡◌, ℕ, ◌*◌, ◌≤◌, List, Contains, false, slice_index_or, IsTrue, Result, Ok, Err}
+use Rattle.std.specs.Prelude.{◌≡◌, ℕ, ◌*◌, ◌≤◌, List, [], ◌∷◌, Contains, false, Option, Some, slice_index_or, IsTrue, Result, Ok, Err}
 use Rattle.std.specs.List.{AllByRecursion, list_all}
 use Rattle.zio_types.specs.declared.error.Errno.{Errno}
 use Rattle.zio_types.specs.declared.place.Top.{Top}
@@ -40,3 +40,12 @@ pub record IsBodyOf (tree : Tree) (bp : Bp) : Type 0 where
 abbrev pub members_in : Result (List ℕ) Errno → Result (List Bp) Errno
 members_in (Ok bytes) = Ok (members_of bytes)
 members_in (Err e) = Err e
+
+-- what a read adds to the errors, and to the bytes
+abbrev pub errors_in : Result (List ℕ) Errno → List (Option Errno)
+errors_in (Ok bytes) = []
+errors_in (Err e) = Some e ∷ []
+
+abbrev pub bytes_in : Result (List ℕ) Errno → List ℕ
+bytes_in (Ok bytes) = bytes
+bytes_in (Err e) = []

@@ -6,6 +6,7 @@
 //! `specs/Copies` what a good copy is.
 #![tactic(auto)]
 
+mod bodies;
 mod copies;
 mod leaf;
 mod read;
@@ -15,6 +16,7 @@ mod tests;
 mod trees;
 mod write;
 
+pub use bodies::read_tree;
 pub use copies::GoodCopy;
 pub use read::read_block;
 pub use setting::{Setting, Stop};

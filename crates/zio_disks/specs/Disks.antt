@@ -82,6 +82,11 @@ pub record Handles {D A : Type 0} (bytes faults faults_at_fetch : D → ℕ) (ho
   pub device : answer ≡ Err Device → AnyRose (map faults old) (map faults new)
   pub outside : TellOutside image spots old new
 
+-- what a read of a block may rewrite: its copies, and nothing without repairs
+abbrev pub touched : Bool → Setting → List Place → List Spot
+touched true s places = spots_of s places
+touched false s places = []
+
 -- bytes in a buffer, or the error in their place
 abbrev pub found_with : Option Errno → List ℕ → Result (List ℕ) Errno
 found_with None bytes = Ok bytes

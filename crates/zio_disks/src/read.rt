@@ -9,7 +9,7 @@ ghost use Rattle.zio_cksum.specs.Frames.{spots_of};
 ghost use Rattle.zio_cksum.specs.Headers.{offset_of};
 ghost use Rattle.zio_cksum.specs.Images.{Images, read_leaf};
 ghost use Rattle.zio_disks.specs.Copies.{IsOfSize, good_by};
-ghost use Rattle.zio_disks.specs.Disks.{AreOnDisks, Handles, LieOn, Tell, found_if, found_with, good_behind, repairs_in};
+ghost use Rattle.zio_disks.specs.Disks.{AreOnDisks, Handles, LieOn, Tell, found_if, found_with, good_behind, repairs_in, touched};
 
 use crate::copies::GoodCopy;
 use crate::leaf::{read_leaf, spot_in};
@@ -45,7 +45,7 @@ struct Good {
 /// Reads a block into the buffer from the first good copy: the places in order, in each the leaves from the one whose
 /// turn it is. Where none is good all is tried once more in the retry pass, whose error counts: the worst of the
 /// places'. With `repair` a good read rewrites all leaves of the places that failed before it, and in its own place
-/// those that failed. After an error the buffer may hold anything.
+/// those that failed; without it no disk is written. After an error the buffer may hold anything.
 pub fn read_block<D: Disk>(
     alloc: Global,
     setting: &Setting,
@@ -63,7 +63,7 @@ pub fn read_block<D: Disk>(
     ensures told { IfOk result (λ error. (images : Images) → Tell D.image disks.old images →
         let read = read_block setting.now repair (good_by good.now) images (length buffer.old) places.now in
         (found_with error buffer.new ≡ read.found) × Tell D.image disks.new read.images) }
-    ensures handled { Handles D.bytes D.faults D.faults_at_fetch D.home D.image D.sound (spots_of setting.now places.now) result disks.old disks.new }
+    ensures handled { Handles D.bytes D.faults D.faults_at_fetch D.home D.image D.sound (touched repair setting.now places.now) result disks.old disks.new }
 {
     let first = read_pass(alloc, setting, disks, false, good, places, buffer)?;
     match first {
@@ -93,7 +93,7 @@ fn last_pass<D: Disk>(
     ensures told { IfOk result (λ error. (images : Images) → Tell D.image disks.old images →
         let read = last_pass setting.now repair images (read_pass setting.now true (good_by good.now) images (length buffer.old) places.now) in
         (found_with error buffer.new ≡ read.found) × Tell D.image disks.new read.images) }
-    ensures handled { Handles D.bytes D.faults D.faults_at_fetch D.home D.image D.sound (spots_of setting.now places.now) result disks.old disks.new }
+    ensures handled { Handles D.bytes D.faults D.faults_at_fetch D.home D.image D.sound (touched repair setting.now places.now) result disks.old disks.new }
 {
     let pass = read_pass(alloc, setting, disks, true, good, places, buffer)?;
     match pass {
@@ -121,7 +121,7 @@ fn repair_if<D: Disk>(
     requires lies { AreOnDisks setting.now (map D.bytes disks.old) (length bytes.now) places.now }
     ensures told { IfOk result (λ _. (images : Images) → Tell D.image disks.old images →
         Tell D.image disks.new (repaired_if wanted setting.now retry bytes.now (repairs_in setting.now places.now good.before good.failed) images)) }
-    ensures handled { Handles D.bytes D.faults D.faults_at_fetch D.home D.image D.sound (spots_of setting.now places.now) result disks.old disks.new }
+    ensures handled { Handles D.bytes D.faults D.faults_at_fetch D.home D.image D.sound (touched wanted setting.now places.now) result disks.old disks.new }
 {
     let Good { before, failed } = good;
     if !wanted {

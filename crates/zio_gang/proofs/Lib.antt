@@ -1,6 +1,7 @@
 pub mod AttemptLemmas
 pub mod BoundLemmas
 pub mod HeaderLemmas
+pub mod MemberLemmas
 pub mod PlaceLemmas
 pub mod WriteLemmas
 pub mod DependenceLemmas

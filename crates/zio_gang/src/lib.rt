@@ -11,6 +11,7 @@ mod ending;
 mod faults;
 mod header;
 mod laws;
+mod members;
 mod sizes;
 mod tree;
 
@@ -21,5 +22,6 @@ pub use laws::{
     a_round_depends_on_its_own_choices, a_tree_is_read_by_its_pieces, bound_names_are_a_map,
     each_request_has_one_fate, headers_have_no_fault, trees_are_attempted_in_turn,
 };
+pub use members::members_of;
 pub use sizes::{SPLIT_SIZE_MAX, split};
 pub use tree::{Head, Tree};

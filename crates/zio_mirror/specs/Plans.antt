@@ -1,11 +1,13 @@
 -- Which child of a mirror or of a block with copies is tried next, and when a read has its answer.
-use Rattle.std.specs.Prelude.{ℕ, ◌-◌, List, [], ◌∷◌, length, slice_get, Bool, true, false, Option, Some, None, Result, Ok, Err, ◌==◌, if◌then◌else◌, nat_lt}
+use Rattle.std.specs.Prelude.{ℕ, ◌-◌, List, [], ◌∷◌, length, slice_get, slice_index_or, Bool, true, false, Option, Some, None, Result, Ok, Err, ◌==◌, if◌then◌else◌, nat_lt}
 use Rattle.std.specs.List.{list_any, range_with_len}
 use Rattle.zio_types.specs.declared.error.Errno.{Errno}
 use Rattle.zio_types.specs.Errors.{worst_of}
 use Rattle.zio_types.specs.declared.place.Place.{Place}
-use Rattle.zio_cksum.specs.Blocks.{blame, all_errors, error_if, found_or, read_place}
-use Rattle.zio_cksum.specs.Images.{Images, Setting}
+use Rattle.zio_types.specs.Choices.{no_place}
+use Rattle.zio_cksum.specs.Blocks.{blame, all_errors, error_if, found_or, judged, leaves_of, read_order, read_place, spot_in}
+use Rattle.zio_cksum.specs.Headers.{offset_of}
+use Rattle.zio_cksum.specs.Images.{Images, Setting, read_leaf}
 use Rattle.zio_mirror.specs.declared.plan.Step.{Step}
 use Rattle.zio_mirror.specs.declared.plan.Step.TheVariants.{Try, Good, Bad}
 
@@ -81,3 +83,30 @@ then_answers (Err e) answers = Some e ∷ answers
 abbrev pub answers_of : (ℕ → Result (List ℕ) Errno) → List ℕ → List (Option Errno)
 answers_of read [] = []
 answers_of read (c ∷ cs) = then_answers (read c) (answers_of read cs)
+
+-- ---- the leaves of a place and the places of a block, as children
+
+-- the children of a plan over a place's leaves, in the order of reads
+abbrev pub order_in : Setting → Place → List ℕ
+order_in s p = read_order (offset_of p) (children (length (leaves_of s p)))
+
+-- the leaf that a child of such a plan stands for
+abbrev pub leaf_of : Setting → Place → ℕ → ℕ
+leaf_of s p child = slice_index_or (leaves_of s p) child 0
+
+-- what the read of such a child gives
+abbrev pub read_child : Setting → Bool → (List ℕ → Bool) → Images → ℕ → Place → ℕ → Result (List ℕ) Errno
+read_child s retry good images len p child =
+    judged good (read_leaf s retry images len (spot_in p (leaf_of s p child)))
+
+-- the place that a child of a plan over a block's copies stands for
+abbrev pub place_of : List Place → ℕ → Place
+place_of places child = slice_index_or places child no_place
+
+-- what the read of such a child gives
+abbrev pub read_copy : Setting → Bool → (List ℕ → Bool) → Images → ℕ → List Place → ℕ → Result (List ℕ) Errno
+read_copy s retry good images len places child = place_answer s retry good images len (place_of places child)
+
+-- a plan in this order, whose children were answered by these reads until one was good
+abbrev pub answered_by : (ℕ → Result (List ℕ) Errno) → List ℕ → Plan
+answered_by read order = record { order = order; answers = answers_of read order }

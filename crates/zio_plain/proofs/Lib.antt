@@ -1,16 +1,13 @@
 pub mod BecameLemmas
 pub mod BoundLemmas
 pub mod CourseLemmas
-pub mod DiskLemmas
 pub mod FormLemmas
 pub mod FoundLemmas
 pub mod FrontLemmas
 pub mod JournalLemmas
 pub mod OrderLemmas
 pub mod PlaceLemmas
-pub mod ReadLemmas
 pub mod RunLemmas
 pub mod ShownLemmas
 pub mod TextLemmas
-pub mod WriteLemmas
 pub mod NameLemmas

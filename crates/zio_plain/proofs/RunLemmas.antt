@@ -36,7 +36,7 @@ use Rattle.zio_report.specs.Meanings.{IsEmptyJournal, IsMeaning, course_of, reco
 use Rattle.zio_report.specs.Reports.{Records, RunSize, end_code, end_text, event_text, held_text, lines_of, pool_text, run_text}
 use Rattle.zio_plain.specs.declared.round.Run.{Run}
 use Rattle.zio_plain.specs.Batches.{AreOfEarlier, Became, Did, Fate, named_block, next_run, resting, text_of_lines, text_of_run, waits_by}
-use Rattle.zio_plain.specs.Disks.{Tell}
+use Rattle.zio_disks.specs.Disks.{Tell}
 use Rattle.zio_script.specs.PlainForm.{HasRoots, IsNewName, IsPlainRequest, IsPlainScript}
 use Rattle.zio_plain.specs.Rounds.{IsReport, first_top, plan_in}
 use Rattle.zio_plain.specs.Runs.{AreLater, Front, IsBelow, IsBound, IsFront, IsJournaled, IsPrintedOf, IsShown, Stands, StandsCalm, StandsHeld, IsCalm, IsHeld, Went, sectors_of, used_beside}

@@ -1,4 +1,3 @@
 pub mod Batches
-pub mod Disks
 pub mod Rounds
 pub mod Runs

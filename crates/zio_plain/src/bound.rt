@@ -3,10 +3,10 @@
 ghost use Rattle.std.specs.Prelude.{◌≡◌, ◌++◌, ◌∷◌, [], None, option_copied, OnOk, OnErr, Err};
 ghost use Rattle.zio_gang.specs.Rounds.{block_of};
 
-use crate::setting::Stop;
 use indexmap::IndexMap;
 use std::alloc::Global;
 use std::marker::Model;
+use zio_disks::Stop;
 use zio_gang::Tree;
 use zio_script::Name;
 

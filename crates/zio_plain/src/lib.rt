@@ -1,24 +1,21 @@
 //! The definitions as a program: a script runs tree by tree and depth first, over any disks, with its places from any
 //! chooser.
 //!
-//! It stands on the outside, the script, the report and the definitions of `zio_gang` and `zio_cksum`, and on no engine.
+//! It stands on the outside, the disks, the script, the report and the definitions of `zio_gang` and `zio_cksum`, and on no
+//! engine.
 //! Read `run_script` first: its report and its last images are the plain meaning of the script. `specs/PlainForm` of
-//! `zio_script` is the form of the scripts that it runs, `specs/Disks` says what several disks tell, `specs/Batches` what
-//! becomes of a request of a batch, and `specs/Runs` how the meaning of a script comes apart into lines. So far no request
+//! `zio_script` is the form of the scripts that it runs, `specs/Batches` says what becomes of a request of a batch, and `specs/Runs` how the meaning of a script comes apart into lines. So far no request
 //! stands under another, writes have one copy of a sector, and there is one top without faults.
 #![tactic(auto)]
 
+mod body;
 mod bound;
 mod chooser;
-mod leaf;
 mod own;
-mod read;
 mod round;
 mod run;
-mod setting;
 #[cfg(test)]
 mod tests;
-mod write;
 
 pub use chooser::Chooser;
 pub use run::run_script;

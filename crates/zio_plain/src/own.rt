@@ -20,7 +20,7 @@ ghost use Rattle.zio_plain.specs.Batches.{Became, Fate, IsGiven, Shows, named_bl
 ghost use Rattle.zio_script.specs.PlainForm.{IsPlainRequest};
 ghost use Rattle.std.specs.Prelude.{◌++◌};
 ghost use Rattle.zio_types.specs.Choices.{taken_by};
-ghost use Rattle.zio_plain.specs.Disks.{AnyRose, AreSameDisks, Tell};
+ghost use Rattle.zio_disks.specs.Disks.{AnyRose, AreSameDisks, Tell};
 ghost use Rattle.zio_gang.specs.Attempts.{own_read};
 ghost use Rattle.zio_plain.specs.Rounds.{IsFirstSetting, ArePlain, IsFound, IsPlainPointer, own_view, plain_pointer, read_plain, view_of, written_view, first_ask};
 ghost use Rattle.zio_types.specs.declared.place.Place.{Place};
@@ -32,14 +32,13 @@ ghost use Rattle.zio_script.specs.declared.script.Body.{Body};
 ghost use Rattle.zio_cksum.specs.Blocks.{write_piece};
 ghost use Rattle.zio_types.specs.declared.journal.Role.TheVariants.{Body as BodyRole};
 
+use crate::body::read_body;
 use crate::bound::Bound;
 use crate::chooser::Chooser;
-use crate::read::read_block;
-use crate::setting::{Setting, Stop};
-use crate::write::write_piece;
 use std::alloc::Global;
 use zio_blkptr::{Bp, SumKind};
 use zio_cksum::sum;
+use zio_disks::{Setting, Stop, write_piece};
 use zio_gang::Tree;
 use zio_outside::Disk;
 use zio_script::{Body, Name, Request, Work, body_bytes};
@@ -156,7 +155,7 @@ fn read_own<D: Disk>(
     ensures steady { OnOk result (map D.faults disks.new ≡ map D.faults disks.old) }
     ensures device { IsErrOf result Stop.Device → AnyRose (map D.faults disks.old) (map D.faults disks.new) }
 {
-    match read_block(alloc, setting, disks, bp)? {
+    match read_body(alloc, setting, disks, bp)? {
         Ok(bytes) => Ok(Own {
             error: None,
             bytes,

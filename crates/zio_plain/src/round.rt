@@ -14,15 +14,15 @@ ghost use Rattle.zio_gang.specs.declared.tree.Tree.{Tree};
 ghost use Rattle.zio_report.specs.Lines.{AreWhole};
 ghost use Rattle.zio_report.specs.Reports.{held_text, line_of_ended};
 ghost use Rattle.zio_plain.specs.Batches.{Became, Did, Fate, HasPast, IsNoted, Shows, line_waiting, named_block, next_run, text_of_lines, text_of_run};
-ghost use Rattle.zio_plain.specs.Disks.{AnyRose, AreSameDisks, Tell};
+ghost use Rattle.zio_disks.specs.Disks.{AnyRose, AreSameDisks, Tell};
 ghost use Rattle.zio_script.specs.PlainForm.{IsPlainRequest};
 ghost use Rattle.zio_plain.specs.Rounds.{ArePlain, IsFirstSetting, IsPlainPointer, Grows, own_view};
 
 use crate::bound::Bound;
 use crate::chooser::Chooser;
 use crate::own::{Own, own_work};
-use crate::setting::{Setting, Stop};
 use std::alloc::Global;
+use zio_disks::{Setting, Stop};
 use zio_gang::Tree;
 use zio_outside::{Disk, Sink};
 use zio_report::{Line, LineResult, RoundHead, RunFault, Show, held_line, render};

@@ -2,7 +2,7 @@
 use Rattle.std.proofs.Common.{◌<◌, arith, ◌≡◌, ℕ, List, [], ◌∷◌, ◌++◌, inl, inr, length, take, drop, get_or, ap, ◌∙◌, refl}
 use Rattle.zio_cksum.specs.Images.{Images}
 use Rattle.zio_outside.specs.Outside.{ComesHome, GoesOut, Rose, StaysHome, count_max}
-use Rattle.zio_plain.specs.Disks.{AreSameDisks, Tell}
+use Rattle.zio_disks.specs.Disks.{AreSameDisks, Tell}
 use Rattle.zio_run.specs.Outcomes.{IsAfter, KeepsOthers}
 
 pub one_disk : {D : Type 0} (bytes faults faults_at_fetch : D → ℕ) (home image : D → List ℕ → Type 0) (sound : D → Type 0) (old : D) (news : List D)

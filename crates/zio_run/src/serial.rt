@@ -8,7 +8,7 @@ ghost use Rattle.zio_report.specs.Meanings.{IsEmptyJournal, IsMeaning};
 ghost use Rattle.zio_gang.specs.declared.ending.Ending.TheVariants.{Complete, Left};
 ghost use Rattle.zio_report.specs.Reports.{end_code, pool_text};
 ghost use Rattle.zio_cksum.specs.Images.{Images};
-ghost use Rattle.zio_plain.specs.Disks.{AnyRose, AreSameDisks, Tell};
+ghost use Rattle.zio_disks.specs.Disks.{AnyRose, AreSameDisks, Tell};
 ghost use Rattle.zio_plain.specs.Rounds.{Begins, IsReport};
 ghost use Rattle.zio_report.specs.declared.report.Show.{Show as SeenShow};
 ghost use Rattle.zio_run.specs.Commands.{IsCommand, IsNoCommand};

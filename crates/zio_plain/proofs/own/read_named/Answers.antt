@@ -8,7 +8,7 @@ use Rattle.zio_types.specs.declared.error.Errno.TheVariants.{Noent}
 use Rattle.zio_plain.specs.Batches.{Answered, Became, Finished}
 use Rattle.zio_plain.specs.Rounds.{IsPlainPointer, read_plain, view_of}
 use Rattle.zio_plain.proofs.BecameLemmas.{became_missing, became_read, view_same}
-use Rattle.zio_plain.proofs.DiskLemmas.{same_itself}
+use Rattle.zio_disks.proofs.DiskLemmas.{same_itself}
 use Rattle.zio_plain.proofs.FoundLemmas.{IfOk-both, plain_in}
 use Rattle.zio_plain.proofs.own.read_named.Goals as goal
 

@@ -8,7 +8,7 @@ use Rattle.zio_script.specs.Bodies.{body_of}
 use Rattle.zio_types.specs.declared.error.Errno.TheVariants.{Exist}
 use Rattle.zio_plain.specs.Batches.{Answered, Became, places_made, taken_of}
 use Rattle.zio_plain.proofs.BecameLemmas.{became_taken, view_same}
-use Rattle.zio_plain.proofs.DiskLemmas.{same_itself}
+use Rattle.zio_disks.proofs.DiskLemmas.{same_itself}
 use Rattle.zio_plain.proofs.own.write_named.Goals as goal
 
 pub returns-in_err-bytes-in-None-clause-same : goal.returns-in_err-bytes-in-None-clause-same

@@ -10,7 +10,7 @@ use Rattle.zio_cksum.specs.Blocks.{write_piece}
 use Rattle.zio_plain.specs.Batches.{Became, Finished, Waits, places_made, taken_of}
 use Rattle.zio_plain.specs.Rounds.{IsFound, first_ask, own_view, plain_pointer, written_view}
 use Rattle.zio_plain.proofs.BecameLemmas.{became_waits, became_write, made_one, none_by, some_by, taken_nowhere, taken_one, view_same}
-use Rattle.zio_plain.proofs.DiskLemmas.{same_itself}
+use Rattle.zio_disks.proofs.DiskLemmas.{same_itself}
 use Rattle.zio_plain.proofs.FoundLemmas.{IfOk-both, found_sector}
 use Rattle.zio_plain.proofs.own.write_new.Goals as goal
 

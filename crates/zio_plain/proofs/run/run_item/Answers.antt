@@ -9,7 +9,7 @@ use Rattle.zio_script.specs.PlainForm.{IsNewName, IsNextItem, IsPlainRequest, la
 use Rattle.zio_script.specs.Whys.{batch_after}
 use Rattle.zio_plain.specs.Runs.{Stands, sectors_of}
 use Rattle.zio_plain.proofs.BecameLemmas.{OnOk-both, OnOk-then}
-use Rattle.zio_plain.proofs.DiskLemmas.{same_itself}
+use Rattle.zio_disks.proofs.DiskLemmas.{same_itself}
 use Rattle.zio_plain.proofs.RunLemmas.{close_of, hold_of, later_of, request_of}
 use Rattle.zio_plain.proofs.TextLemmas.{Appends-none}
 use Rattle.zio_types.specs.declared.place.TopSize.{TopSize}

@@ -5,11 +5,11 @@ use Rattle.zio_plain.specs.declared.round.Run.{Run}
 use Rattle.zio_cksum.specs.Images.{Images}
 use Rattle.zio_gang.specs.Rounds.{Bound}
 use Rattle.zio_report.specs.declared.report.Line.{Line}
-use Rattle.zio_plain.specs.Disks.{Tell}
+use Rattle.zio_disks.specs.Disks.{Tell}
 use Rattle.zio_script.specs.PlainForm.{ArePlainItems, last_after}
 use Rattle.zio_script.specs.Whys.{batch_after}
 use Rattle.zio_plain.specs.Runs.{Stands}
-use Rattle.zio_plain.proofs.DiskLemmas.{same_itself, same_then}
+use Rattle.zio_disks.proofs.DiskLemmas.{same_itself, same_then}
 use Rattle.zio_plain.proofs.FormLemmas.{few_next, high_next, plain_roots}
 use Rattle.zio_plain.proofs.RunLemmas.{stands_end, stands_start}
 use Rattle.zio_plain.proofs.TextLemmas.{Appends-both, Appends-none, Grows-none, Grows-then}

@@ -4,7 +4,7 @@ use Rattle.zio_script.specs.declared.script.Request.{Request}
 use Rattle.zio_cksum.specs.Images.{Images}
 use Rattle.zio_report.specs.Lines.{AreWhole}
 use Rattle.zio_plain.specs.Batches.{HasPast}
-use Rattle.zio_plain.specs.Disks.{AreSameDisks, Tell}
+use Rattle.zio_disks.specs.Disks.{AreSameDisks, Tell}
 use Rattle.zio_script.specs.PlainForm.{ArePlainItems}
 use Rattle.zio_plain.specs.Rounds.{ArePlain, Grows}
 use Rattle.zio_plain.specs.Runs.{Stands}

@@ -9,7 +9,7 @@ use Rattle.zio_report.specs.Meanings.{IsMeaning}
 use Rattle.zio_report.specs.Reports.{end_code, end_text, pool_text}
 use Rattle.zio_plain.specs.Rounds.{first_top}
 use Rattle.zio_plain.specs.Runs.{Went}
-use Rattle.zio_plain.proofs.DiskLemmas.{same_itself}
+use Rattle.zio_disks.proofs.DiskLemmas.{same_itself}
 use Rattle.zio_plain.proofs.RunLemmas.{one_image, went_end}
 use Rattle.zio_plain.proofs.TextLemmas.{Appends-both, Begins-front, Begins-grown, Grows-then}
 use Rattle.zio_plain.proofs.run.run_script.Goals as goal

@@ -1,6 +1,6 @@
 use Rattle.std.proofs.Common.{◌≡◌, ℕ, ◌∷◌, [], ◌++◌, sym, ap, ◌∙◌, ◌+◌, subst}
 use Rattle.zio_cksum.specs.Images.{Images}
-use Rattle.zio_plain.specs.Disks.{AreSameDisks, Tell}
+use Rattle.zio_disks.specs.Disks.{AreSameDisks, Tell}
 use Rattle.zio_report.specs.Meanings.{IsMeaning}
 use Rattle.zio_run.proofs.DiskLemmas.{first_of, one_disk, tell_one}
 use Rattle.zio_run.proofs.serial.run_on_disk.Goals as goal

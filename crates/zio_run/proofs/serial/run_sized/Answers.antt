@@ -1,6 +1,6 @@
 use Rattle.std.proofs.Common.{◌≡◌, ℕ, length, sym, ap, ◌∙◌, subst}
 use Rattle.std.proofs.lemmas.List.{length-map}
-use Rattle.zio_plain.proofs.DiskLemmas.{same_itself}
+use Rattle.zio_disks.proofs.DiskLemmas.{same_itself}
 use Rattle.zio_plain.specs.Rounds.{Begins}
 use Rattle.zio_report.specs.Reports.{pool_text}
 use Rattle.zio_run.proofs.serial.run_sized.Goals as goal

@@ -1,0 +1,6 @@
+pub mod BodyLemmas
+pub mod CopyLemmas
+pub mod DiskLemmas
+pub mod ReadLemmas
+pub mod TreeLemmas
+pub mod WriteLemmas

@@ -1,0 +1,6 @@
+use Rattle.zio_cksum.proofs.AllLemmas.{all_contained}
+use Rattle.zio_gang.specs.Trees.{tree_pointers}
+use Rattle.zio_disks.proofs.trees.walk_tree.Goals as goal
+
+pub walk_pointer-requires-clause-listed : goal.walk_pointer-requires-clause-listed
+walk_pointer-requires-clause-listed g c κs within = (all_contained (tree_pointers c.args.tree.now)).0

@@ -1,8 +1,0 @@
-use Rattle.std.proofs.Common.{true, length, arith}
-use Rattle.zio_plain.proofs.DiskLemmas.{met_ends}
-use Rattle.zio_plain.proofs.leaf.write_whole.Goals as goal
-
-pub write_faulty-requires-clause-to : goal.write_faulty-requires-clause-to
-write_faulty-requires-clause-to g c κs within =
-    let ends = met_ends c.args.setting.now c.args.retry true c.args.spot.now c.in-Some.hit c.in-Some.ensures in
-    omega arith

@@ -1,5 +1,0 @@
-use Rattle.std.proofs.Common.{length}
-use Rattle.zio_plain.proofs.read.+repair.Given as goal
-
-abbrev pub decreases-repair : goal.decreases-repair
-decreases-repair g l = length l.places.now

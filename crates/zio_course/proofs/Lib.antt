@@ -1,0 +1,4 @@
+mod AdmissionLemmas
+mod ForestLemmas
+mod NameLemmas
+mod PlantLemmas

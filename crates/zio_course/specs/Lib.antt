@@ -1,0 +1,4 @@
+pub mod Admissions
+pub mod Forests
+pub mod Names
+pub mod Runners

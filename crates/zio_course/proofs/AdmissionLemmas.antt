@@ -345,3 +345,11 @@ part_next whole (RequestLine r) rest trees h = record {
 }
 part_next whole Go rest trees h = record { same = h.same; rising = h.rising; good = h.good; once = h.once }
 part_next whole Clear rest trees h = record { same = h.same; rising = h.rising; good = h.good; once = h.once }
+
+parts : (whole : List (List Request)) (rest : List Item) (trees : List (List Request)) → IsPart whole rest trees → (n : ℕ) → StandsOnce n whole
+parts whole [] trees h n = subst (StandsOnce n) h.same (h.once n)
+parts whole (item ∷ rest) trees h n = parts whole rest (with_line item trees) (part_next whole item rest trees h) n
+
+-- no number stands in two trees of a batch
+pub stand_once : (items : List Item) → AreRising (requests_of items) → (n : ℕ) → StandsOnce n (trees_of (requests_of items))
+stand_once items rising n = parts (trees_of (requests_of items)) items [] (part_start items rising) n

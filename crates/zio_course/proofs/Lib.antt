@@ -1,4 +1,6 @@
 mod AdmissionLemmas
+mod AdmittedLemmas
 mod ForestLemmas
 mod NameLemmas
 mod PlantLemmas
+mod ToldLemmas

@@ -125,7 +125,7 @@ fn block_for(alloc: Global, work: &Work, bound: &Bound) -> Result<Option<Tree>, 
 }
 
 /// The last first.
-fn reversed<T>(items: List<T>) -> List<T>
+pub(crate) fn reversed<T>(items: List<T>) -> List<T>
     ensures { result ≡ reverse items }
 {
     let mut items = items.into_vec();

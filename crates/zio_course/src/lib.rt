@@ -1,22 +1,28 @@
 //! The run of a script over any runner of rounds.
 //!
 //! It stands on the script, the definitions of `zio_gang` and the report, and on no engine. Read `Runner` first: it makes
-//! trees of requests and runs rounds of them. `Bound` has the names that are bound, `Awaited` those that a suspended
-//! request names, `Verdicts` what admission says of the trees of a batch, and `trees_to_run` makes those that run.
-//! Contracts see a tree as the list of its requests in the order of their attempts. `specs/Runners` says what a round is
-//! to a runner.
+//! trees of requests and runs rounds of them. A batch is a slice of a script's lines. `Admission` says which of its trees
+//! are answered before its round, `trees_to_run` makes those that run, `tell_batch` tells of each request after it, and
+//! `enter_round` counts it in the journal. Contracts see a tree as the list of its requests in the order of their
+//! attempts. `specs/Runners` says what a round is to a runner.
 #![tactic(auto)]
 
 mod admission;
 mod awaited;
 mod bound;
+mod enter;
 mod forest;
+mod laws;
 mod lines;
 mod runner;
+mod told;
 mod waiting;
 
 pub use admission::{Admission, Rules};
 pub use awaited::Awaited;
 pub use bound::Bound;
+pub use enter::enter_round;
 pub use forest::trees_to_run;
+pub use laws::whole_trees_are_admitted;
 pub use runner::{Finished, Job, RoundEnd, Runner, Stop};
+pub use told::tell_batch;

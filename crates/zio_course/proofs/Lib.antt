@@ -1,5 +1,7 @@
 mod AdmissionLemmas
 mod AdmittedLemmas
+mod AnsweredLemmas
+mod EndLemmas
 mod ForestLemmas
 mod NameLemmas
 mod PlantLemmas

@@ -8,21 +8,25 @@
 #![tactic(auto)]
 
 mod admission;
+mod answered;
 mod awaited;
 mod bound;
 mod enter;
 mod forest;
 mod laws;
 mod lines;
+mod round;
 mod runner;
 mod told;
 mod waiting;
 
 pub use admission::{Admission, Rules};
+pub use answered::answered_ends;
 pub use awaited::Awaited;
 pub use bound::Bound;
 pub use enter::enter_round;
 pub use forest::trees_to_run;
 pub use laws::whole_trees_are_admitted;
+pub use round::{WholeRound, whole_round};
 pub use runner::{Finished, Job, RoundEnd, Runner, Stop};
 pub use told::tell_batch;

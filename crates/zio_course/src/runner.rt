@@ -5,6 +5,7 @@ ghost use Rattle.std.specs.List.{AllByRecursion};
 ghost use Rattle.zio_cksum.specs.Images.{Images};
 ghost use Rattle.zio_gang.specs.Attempts.{Pending};
 ghost use Rattle.zio_gang.specs.declared.tree.Tree.{Tree as SeenTree};
+ghost use Rattle.zio_course.specs.declared.runner.Stop.TheVariants.{Memory};
 ghost use Rattle.zio_course.specs.Runners.{AreRunnable, IsNewTree, IsRound, IsRoundEnd, Standing, Stays, StoppedAfter, StandsAfter, AnyRose, DiffersInRound, ended_seen, fresh, made_trees, terms_at, tree_over};
 
 use zio_gang::Tree;
@@ -56,6 +57,14 @@ pub enum Stop {
     Memory,
 }
 
+impl From<NoMemory> for Stop {
+    ghost from_gives = { λ _ s. s ≡ Memory };
+
+    fn from(_refused: NoMemory) -> Stop {
+        Stop::Memory
+    }
+}
+
 /// Makes trees of requests, and runs rounds of them.
 pub trait Runner {
     /// A tree of requests that hasn't finished.
@@ -100,7 +109,8 @@ pub trait Runner {
         requires next { (standing self.old).last < job.round }
         requires trees { AreRunnable (standing self.old) (map pending job.trees) }
         ensures round { IfOk result (λ end. (before : Images) → tells self.old before → (after : Images) × tells self.new after
-            × IsRound (terms_at (standing self.old) job.failmode job.round job.point) (map pending job.trees) before after (ended_seen pending end)) }
+            × IsRound (terms_at (standing self.old) job.failmode job.round job.point) (map pending job.trees) before after (ended_seen pending end)
+            × DiffersInRound (standing self.old) (map pending job.trees) before after) }
         ensures end { IfOk result (λ end. IsRoundEnd (standing self.old) job.round (map pending job.trees) (ended_seen pending end)) }
         ensures fits { IfOk result (λ end. AllByRecursion fits (made_trees end.finished)) }
         ensures stands { IfOk result (λ end. StandsAfter (standing self.old) (standing self.new) job.round (map pending job.trees) (ended_seen pending end)) }

@@ -1,6 +1,7 @@
 mod AdmissionLemmas
 mod AdmittedLemmas
 mod AnsweredLemmas
+mod BatchLemmas
 mod EndLemmas
 mod ForestLemmas
 mod NameLemmas

@@ -10,6 +10,7 @@
 mod admission;
 mod answered;
 mod awaited;
+mod batch;
 mod bound;
 mod enter;
 mod forest;
@@ -23,6 +24,7 @@ mod waiting;
 pub use admission::{Admission, Rules};
 pub use answered::answered_ends;
 pub use awaited::Awaited;
+pub use batch::{BatchEnd, run_batch};
 pub use bound::Bound;
 pub use enter::enter_round;
 pub use forest::trees_to_run;

@@ -43,7 +43,7 @@ pub fn whole_round<R: Runner>(
         × IsRoundEnd (R.standing runner.old) job.round (map R.pending job.trees) end
         × StandsAfter (R.standing runner.old) (R.standing runner.new) job.round (map R.pending job.trees) end
         × ((before : Images) → R.tells runner.old before → (after : Images) × R.tells runner.new after
-            × IsRound (terms_at (R.standing runner.old) job.failmode job.round job.point) (map R.pending job.trees) before after end)) }
+        × IsRound (terms_at (R.standing runner.old) job.failmode job.round job.point) (map R.pending job.trees) before after end)) }
     ensures fits { IfOk result (λ ran. AllByRecursion R.fits (made_trees ran.finished)) }
     ensures kept { OnErr result (journal.new ≡ journal.old) }
     ensures cut { OnErr result ((before : Images) → R.tells runner.old before → (after : Images) × R.tells runner.new after

@@ -1,5 +1,5 @@
 -- What requests that finished do to the bound names, and their lines.
-use Rattle.std.proofs.Common.{◌≡◌, ◌≢◌, ℕ, ◌<◌, List, [], ◌∷◌, ◌++◌, map, filter, Bool, true, false, cond, Option, Some, None, is_none, bytes_eq, eqb, eqb-true, eq-eqb, refl, sym, ap, ◌∙◌, subst, append_assoc, inl, inr, ◌⊎◌, arith}
+use Rattle.std.proofs.Common.{◌≡◌, ◌≢◌, ℕ, ◌%◌, ◌<◌, List, [], ◌∷◌, ◌++◌, map, filter, length, Bool, true, false, cond, Option, Some, None, is_none, bytes_eq, eqb, eqb-true, eq-eqb, refl, sym, ap, ◌∙◌, subst, append_assoc, inl, inr, ◌⊎◌, arith}
 use Rattle.std.proofs.lemmas.Bool.{false_from_ne_true}
 use Rattle.std.proofs.lemmas.List.{append-nil, map-append}
 use Rattle.std.proofs.lemmas.Slice.Eq.{bytes_eq-Decides}
@@ -11,12 +11,16 @@ use Rattle.zio_script.specs.declared.script.Request.{Request}
 use Rattle.zio_script.specs.declared.script.Work.{Work}
 use Rattle.zio_script.specs.declared.script.Work.TheVariants.{Null, Read, Write, Free, Claim}
 use Rattle.zio_script.specs.Accepted.{AreRising}
-use Rattle.zio_script.specs.Requests.{requests_of}
+use Rattle.zio_script.specs.Requests.{kind_of, requests_of}
 use Rattle.zio_gang.specs.declared.tree.Tree.{Tree}
 use Rattle.zio_gang.specs.Attempts.{Ended}
 use Rattle.zio_gang.specs.Rounds.{Bound, bind, block_of, bound_after, bound_by, bound_unless, unbind}
 use Rattle.zio_gang.proofs.BoundLemmas.{block_of-bind, block_of-bind-other, block_of-unbind, block_of-unbind-other}
+use Rattle.zio_types.specs.declared.request.Kind.{Kind}
+use Rattle.zio_types.specs.declared.request.Kind.TheVariants.{Null as NullKind, Read as ReadKind, Write as WriteKind, Free as FreeKind, Claim as ClaimKind}
 use Rattle.zio_report.specs.declared.report.Line.{Line}
+use Rattle.zio_report.specs.Lines.{AreWhole, IsWhole}
+use Rattle.zio_report.specs.Reports.{good_result, result_with, sized_by}
 use Rattle.zio_course.specs.declared.runner.Finished.{Finished}
 use Rattle.zio_course.specs.Forests.{names_of}
 use Rattle.zio_course.specs.Names.{named_in}
@@ -300,3 +304,42 @@ pub telling_end : (error : ℕ → Option Errno) (finished : List Finished) (bat
 telling_end error finished batch old fs lines bound front h =
     let same : front ≡ batch = sym (append-nil front) ∙ h.all in
     subst (λ (rs : List Request). IsTelling error finished batch old [] fs lines bound rs) same h
+
+-- ---- lines that can be shown
+
+sized_whole : (tree : Option Tree) → IsWhole (sized_by tree)
+sized_whole None = tt
+sized_whole (Some tree) = tt
+
+good_whole : (kind : Kind) (e : Ended) → length e.bytes % 512 ≡ 0 → IsWhole (good_result kind e)
+good_whole NullKind e h = tt
+good_whole ReadKind e h = h
+good_whole WriteKind e h = sized_whole e.tree
+good_whole FreeKind e h = tt
+good_whole ClaimKind e h = tt
+
+result_whole : (error : Option Errno) (e : Ended) → length e.bytes % 512 ≡ 0 → IsWhole (result_with error e)
+result_whole None e h = good_whole (kind_of e.request.work) e h
+result_whole (Some error) e h = tt
+
+line_whole : (e : Option Errno) (o : Option Finished) (r : Request) → ((f : Finished) → o ≡ Some f → length f.bytes % 512 ≡ 0) → IsWhole (line_by e o r).result
+line_whole (Some e) o r h = tt
+line_whole None None r h = tt
+line_whole None (Some f) r h = result_whole f.error (ended_as r f) (h f refl)
+
+found_holds_if : (P : Finished → Type 0) (b : Bool) (f g : Finished) (o : Option Finished) → P f → ((x : Finished) → o ≡ Some x → P x) → cond b (Some f) o ≡ Some g → P g
+found_holds_if P true f g o p later e = subst P (let same : f ≡ g = cc in same) p
+found_holds_if P false f g o p later e = later g e
+
+found_holds : (P : Finished → Type 0) (fs : List Finished) (n : ℕ) (g : Finished) → AllByRecursion P fs → finish_of fs n ≡ Some g → P g
+found_holds P [] n g h e = absurd (let no = e in cc)
+found_holds P (f ∷ fs) n g h e = found_holds_if P (eqb f.request n) f g (finish_of fs n) h.0 (λ x is. found_holds P fs n x h.1 is) e
+
+-- the bytes of what finished are whole sectors, so its lines can be shown
+pub lines_whole : (error : ℕ → Option Errno) (finished : List Finished) (requests : List Request)
+    → AllByRecursion (λ (f : Finished). length f.bytes % 512 ≡ 0) finished → AreWhole (map (line_told error finished) requests)
+lines_whole error finished [] h = tt
+lines_whole error finished (r ∷ rs) h = (
+  line_whole (error r.number) (finish_of finished r.number) r (λ f e. found_holds (λ (x : Finished). length x.bytes % 512 ≡ 0) finished r.number f h e),
+  lines_whole error finished rs h,
+)

@@ -6,6 +6,7 @@ ghost use Rattle.zio_script.specs.Requests.{requests_of};
 ghost use Rattle.zio_cksum.specs.Images.{Images};
 ghost use Rattle.zio_gang.specs.Attempts.{Pending};
 ghost use Rattle.zio_gang.specs.Rounds.{pending_trees, trees_of};
+ghost use Rattle.zio_report.specs.Lines.{AreWhole};
 ghost use Rattle.zio_course.specs.declared.runner.RoundEnd.{RoundEnd as SeenEnd};
 ghost use Rattle.zio_course.specs.Admissions.{error_in};
 ghost use Rattle.zio_course.specs.Answered.{answered_in};
@@ -38,7 +39,7 @@ pub struct BatchEnd<T> {
 /// Runs a batch as one round after those that the journal counts: the trees that admission lets run, beside what is
 /// suspended.
 ///
-/// The round is in the journal, with the ends of what admission answered, before anything is told of it. Where it is cut
+/// The lines can be shown: the bytes of reads are whole sectors. The round is in the journal, with the ends of what admission answered, before anything is told of it. Where it is cut
 /// short the journal is as it was or has the whole round.
 pub fn run_batch<R: Runner>(
     alloc: Global,
@@ -68,6 +69,7 @@ pub fn run_batch<R: Runner>(
         × ((before : Images) → R.tells runner.old before → (after : Images) × R.tells runner.new after
         × IsRound (terms_at (R.standing runner.old) failmode (journal.old.rounds + 1) point)
         (pending_trees (names_of bound.old) number (trees_of (running admission.now.slots.entries admission.now.rules.items batch.now))) before after end)) }
+    ensures shown { IfOk result (λ ran. AreWhole ran.lines) }
     ensures cut { OnErr result ((before : Images) → R.tells runner.old before → (after : Images) × R.tells runner.new after
         × IsCutShort (R.standing runner.old) (terms_at (R.standing runner.old) failmode (journal.old.rounds + 1) point)
         (pending_trees (names_of bound.old) number (trees_of (running admission.now.slots.entries admission.now.rules.items batch.now)))

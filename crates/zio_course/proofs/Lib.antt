@@ -1,0 +1,9 @@
+mod AdmissionLemmas
+mod AdmittedLemmas
+mod AnsweredLemmas
+mod BatchLemmas
+mod EndLemmas
+mod ForestLemmas
+mod NameLemmas
+mod PlantLemmas
+mod ToldLemmas

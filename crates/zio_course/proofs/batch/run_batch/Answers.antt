@@ -1,0 +1,103 @@
+use Rattle.std.proofs.Common.{◌≡◌, ℕ, ◌+◌, List, map, reverse, Option, refl, sym, ap, subst, ◌∙◌, inr}
+use Rattle.zio_types.specs.declared.error.Errno.{Errno}
+use Rattle.zio_types.specs.declared.journal.Completion.{Completion}
+use Rattle.zio_script.specs.declared.script.Request.{Request}
+use Rattle.zio_script.specs.Requests.{requests_of}
+use Rattle.zio_gang.specs.declared.tree.Tree.{Tree}
+use Rattle.zio_gang.specs.Attempts.{Pending}
+use Rattle.zio_gang.specs.Rounds.{block_of, bound_after, pending_trees, trees_of}
+use Rattle.zio_report.specs.Lines.{AreWhole}
+use Rattle.zio_course.specs.declared.admission.Rules.{Rules}
+use Rattle.zio_course.specs.declared.runner.Finished.{Finished}
+use Rattle.zio_course.specs.Admissions.{error_in}
+use Rattle.zio_course.specs.Answered.{answered_in}
+use Rattle.zio_course.specs.Forests.{names_of, running}
+use Rattle.zio_course.specs.Names.{named_in}
+use Rattle.zio_course.specs.Runners.{numbers_of, requests_in}
+use Rattle.zio_course.specs.Told.{AreFinishedOf, ended_told, line_told}
+use Rattle.zio_course.proofs.BatchLemmas.{Whole, on_err, whole_moved}
+use Rattle.zio_course.proofs.EndLemmas.{finished_of_batch}
+use Rattle.zio_course.proofs.PlantLemmas.{ready_rising}
+use Rattle.zio_course.proofs.ToldLemmas.{lines_whole}
+use Rattle.zio_course.proofs.batch.run_batch.Goals as goal
+
+pub tell_batch-requires-clause-finished : goal.tell_batch-requires-clause-finished
+tell_batch-requires-clause-finished g c =
+    let slots : List (ℕ × ℕ) = c.args.admission.now.slots.entries in
+    let rules : List Rules = c.args.admission.now.rules.items in
+    let entries : List (List ℕ × Tree) = c.args.bound.now in
+    let runs : List Request = running slots rules c.args.batch.now in
+    let trees : List (List Pending) = pending_trees (names_of entries) c.args.number (trees_of runs) in
+    let answered : List Completion = reverse (answered_in (error_in slots rules) (c.args.journal.now.rounds + 1) (requests_of c.args.batch.now)) in
+    let w : Whole (g.R.Runner.standing c.args.runner.now) trees answered (g.R.Runner.tells c.args.runner.now) c.args.failmode (c.args.journal.now.rounds + 1) c.args.point
+    c.args.journal.now c.whole_round.new.journal (g.R.Runner.standing c.whole_round.new.runner) (g.R.Runner.tells c.whole_round.new.runner)
+    c.in_ok-finished.field-0.finished (map g.R.Runner.pending c.in_ok-finished.field-0.left) =
+    whole_moved _ _ _ _ _ _ _ _ _ _ _ _ _ _ _ _ _ c.in_ok-trees.ensures.stays.standing c.in_ok-trees.ensures.trees c.in_ok-answered.ensures
+    (λ images h. (c.in_ok-trees.ensures.stays.images images).0 h) c.in_ok-finished.ensures.whole in
+    subst (AreFinishedOf runs) (sym w.1.finished_is)
+    (finished_of_batch (names_of entries) c.args.number runs w.0.finished (numbers_of (requests_in w.0.left))
+    (ready_rising c.args.number entries runs c.requires.ready) w.2.rising w.2.each)
+
+pub returns-in_err-lines-clause-cut : goal.returns-in_err-lines-clause-cut
+returns-in_err-lines-clause-cut g c =
+    let slots : List (ℕ × ℕ) = c.args.admission.now.slots.entries in
+    let rules : List Rules = c.args.admission.now.rules.items in
+    let entries : List (List ℕ × Tree) = c.args.bound.now in
+    let trees : List (List Pending) = pending_trees (names_of entries) c.args.number (trees_of (running slots rules c.args.batch.now)) in
+    let answered : List Completion = reverse (answered_in (error_in slots rules) (c.args.journal.now.rounds + 1) (requests_of c.args.batch.now)) in
+    let w : Whole (g.R.Runner.standing c.args.runner.now) trees answered (g.R.Runner.tells c.args.runner.now) c.args.failmode (c.args.journal.now.rounds + 1) c.args.point
+    c.args.journal.now c.whole_round.new.journal (g.R.Runner.standing c.whole_round.new.runner) (g.R.Runner.tells c.whole_round.new.runner)
+    c.in_ok-finished.field-0.finished (map g.R.Runner.pending c.in_ok-finished.field-0.left) =
+    whole_moved _ _ _ _ _ _ _ _ _ _ _ _ _ _ _ _ _ c.in_ok-trees.ensures.stays.standing c.in_ok-trees.ensures.trees c.in_ok-answered.ensures
+    (λ images h. (c.in_ok-trees.ensures.stays.images images).0 h) c.in_ok-finished.ensures.whole in
+    on_err c.from_residual-in_err-lines.result
+    (λ before told.
+    (let after = w.4 before told in (
+      after.0,
+      after.1,
+      inr (w.0, record { places = w.1.places; completions = w.1.completions; rounds = w.1.rounds; finished_is = refl; left_is = refl }, after.2),
+    )))
+
+pub returns-clause-ran : goal.returns-clause-ran
+returns-clause-ran g c =
+    let slots : List (ℕ × ℕ) = c.args.admission.now.slots.entries in
+    let rules : List Rules = c.args.admission.now.rules.items in
+    let error : ℕ → Option Errno = error_in slots rules in
+    let requests : List Request = requests_of c.args.batch.now in
+    let entries : List (List ℕ × Tree) = c.args.bound.now in
+    let after_bound : List (List ℕ × Tree) = c.tell_batch.new.bound in
+    let trees : List (List Pending) = pending_trees (names_of entries) c.args.number (trees_of (running slots rules c.args.batch.now)) in
+    let answered : List Completion = reverse (answered_in error (c.args.journal.now.rounds + 1) requests) in
+    let w : Whole (g.R.Runner.standing c.args.runner.now) trees answered (g.R.Runner.tells c.args.runner.now) c.args.failmode (c.args.journal.now.rounds + 1) c.args.point
+    c.args.journal.now c.whole_round.new.journal (g.R.Runner.standing c.whole_round.new.runner) (g.R.Runner.tells c.whole_round.new.runner)
+    c.in_ok-finished.field-0.finished (map g.R.Runner.pending c.in_ok-finished.field-0.left) =
+    whole_moved _ _ _ _ _ _ _ _ _ _ _ _ _ _ _ _ _ c.in_ok-trees.ensures.stays.standing c.in_ok-trees.ensures.trees c.in_ok-answered.ensures
+    (λ images h. (c.in_ok-trees.ensures.stays.images images).0 h) c.in_ok-finished.ensures.whole in (
+      w.0,
+      record {
+        journal = record { places = w.1.places; completions = w.1.completions; rounds = w.1.rounds; finished_is = refl; left_is = w.1.left_is };
+        lines_are = c.in_ok-lines.ensures.lines ∙ ap (λ (fs : List Finished). map (line_told error fs) requests) w.1.finished_is;
+        bound_is = λ name. c.in_ok-lines.ensures.bound name
+            ∙ ap (λ (fs : List Finished). block_of (bound_after (ended_told error fs requests) (names_of entries)) name) w.1.finished_is;
+      },
+      w.2,
+      w.3,
+      w.4,
+    )
+
+pub returns-clause-shown : goal.returns-clause-shown
+returns-clause-shown g c =
+    let slots : List (ℕ × ℕ) = c.args.admission.now.slots.entries in
+    let rules : List Rules = c.args.admission.now.rules.items in
+    let error : ℕ → Option Errno = error_in slots rules in
+    let requests : List Request = requests_of c.args.batch.now in
+    let entries : List (List ℕ × Tree) = c.args.bound.now in
+    let trees : List (List Pending) = pending_trees (names_of entries) c.args.number (trees_of (running slots rules c.args.batch.now)) in
+    let answered : List Completion = reverse (answered_in error (c.args.journal.now.rounds + 1) requests) in
+    let w : Whole (g.R.Runner.standing c.args.runner.now) trees answered (g.R.Runner.tells c.args.runner.now) c.args.failmode (c.args.journal.now.rounds + 1) c.args.point
+    c.args.journal.now c.whole_round.new.journal (g.R.Runner.standing c.whole_round.new.runner) (g.R.Runner.tells c.whole_round.new.runner)
+    c.in_ok-finished.field-0.finished (map g.R.Runner.pending c.in_ok-finished.field-0.left) =
+    whole_moved _ _ _ _ _ _ _ _ _ _ _ _ _ _ _ _ _ c.in_ok-trees.ensures.stays.standing c.in_ok-trees.ensures.trees c.in_ok-answered.ensures
+    (λ images h. (c.in_ok-trees.ensures.stays.images images).0 h) c.in_ok-finished.ensures.whole in
+    subst AreWhole (sym (c.in_ok-lines.ensures.lines ∙ ap (λ (fs : List Finished). map (line_told error fs) requests) w.1.finished_is))
+    (lines_whole error w.0.finished requests w.2.sectors)

@@ -1,0 +1,34 @@
+//! The run of a script over any runner of rounds.
+//!
+//! It stands on the script, the definitions of `zio_gang` and the report, and on no engine. Read `Runner` first: it makes
+//! trees of requests and runs rounds of them. A batch is a slice of a script's lines. `Admission` says which of its trees
+//! are answered before its round, `trees_to_run` makes those that run, `tell_batch` tells of each request after it, and
+//! `enter_round` counts it in the journal. Contracts see a tree as the list of its requests in the order of their
+//! attempts. `specs/Runners` says what a round is to a runner.
+#![tactic(auto)]
+
+mod admission;
+mod answered;
+mod awaited;
+mod batch;
+mod bound;
+mod enter;
+mod forest;
+mod laws;
+mod lines;
+mod round;
+mod runner;
+mod told;
+mod waiting;
+
+pub use admission::{Admission, Rules};
+pub use answered::answered_ends;
+pub use awaited::Awaited;
+pub use batch::{BatchEnd, run_batch};
+pub use bound::Bound;
+pub use enter::enter_round;
+pub use forest::trees_to_run;
+pub use laws::whole_trees_are_admitted;
+pub use round::{WholeRound, whole_round};
+pub use runner::{Finished, Job, RoundEnd, Runner, Stop};
+pub use told::tell_batch;

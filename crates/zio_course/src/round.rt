@@ -1,0 +1,73 @@
+//! A whole round: it is run, and enters the journal.
+
+ghost use Rattle.std.specs.Prelude.{◌≡◌, ◌++◌, ◌+◌, ◌<◌, ◌^◌, List, IfOk, IsErrOf, OnErr, false, map};
+ghost use Rattle.std.specs.List.{AllByRecursion};
+ghost use Rattle.zio_cksum.specs.Images.{Images};
+ghost use Rattle.zio_gang.specs.Attempts.{Pending};
+ghost use Rattle.zio_course.specs.declared.runner.RoundEnd.{RoundEnd as SeenEnd};
+ghost use Rattle.zio_course.specs.Entered.{IsEntered};
+ghost use Rattle.zio_course.specs.Runners.{AnyRose, AreRunnable, DiffersInRound, IsRound, IsRoundEnd, StandsAfter, made_trees, terms_at};
+
+use crate::enter::enter_round;
+use crate::runner::{Finished, Job, RoundEnd, Runner, Stop};
+use std::alloc::Global;
+use zio_types::{Completion, Journal, List, NoMemory};
+
+/// What a whole round leaves beside the journal.
+#[derive(Debug, Drop)]
+pub struct WholeRound<T> {
+    /// By number.
+    pub finished: List<Finished>,
+    /// What is left of the trees that are suspended.
+    pub left: List<T>,
+}
+
+/// Runs a round, and enters it in the journal once it is whole: its entries, and its completions behind those of the
+/// requests that admission answered.
+///
+/// Where it is stopped, or memory for the journal is refused, the journal is as it was. What it did to the images then lies
+/// in sectors that no place in use had, and in places of blocks that its trees name.
+pub fn whole_round<R: Runner>(
+    alloc: Global,
+    runner: &mut R,
+    job: Job<R::Tree>,
+    answered: List<Completion>,
+    journal: &mut Journal,
+) -> Result<WholeRound<R::Tree>, Stop>
+    requires rounds { journal.old.rounds + 1 < 2 ^ 32 }
+    requires number { job.round ≡ journal.old.rounds + 1 }
+    requires runs { (R.standing runner.old).stopped ≡ false }
+    requires next { (R.standing runner.old).last < job.round }
+    requires trees { AreRunnable (R.standing runner.old) (map R.pending job.trees) }
+    ensures whole { IfOk result (λ ran. (end : SeenEnd (List Pending)) × IsEntered answered journal.old journal.new end ran.finished (map R.pending ran.left)
+        × IsRoundEnd (R.standing runner.old) job.round (map R.pending job.trees) end
+        × StandsAfter (R.standing runner.old) (R.standing runner.new) job.round (map R.pending job.trees) end
+        × ((before : Images) → R.tells runner.old before → (after : Images) × R.tells runner.new after
+        × IsRound (terms_at (R.standing runner.old) job.failmode job.round job.point) (map R.pending job.trees) before after end)) }
+    ensures fits { IfOk result (λ ran. AllByRecursion R.fits (made_trees ran.finished)) }
+    ensures kept { OnErr result (journal.new ≡ journal.old) }
+    ensures cut { OnErr result ((before : Images) → R.tells runner.old before → (after : Images) × R.tells runner.new after
+        × DiffersInRound (R.standing runner.old) (map R.pending job.trees) before after) }
+    ensures device { IsErrOf result Stop.Device → AnyRose (R.standing runner.old).faults (R.standing runner.new).faults }
+    ensures same { R.same runner.old runner.new }
+{
+    let RoundEnd {
+        finished,
+        left,
+        completions,
+        entries,
+    } = runner.round(job)?;
+    let completions = both(answered, completions)?;
+    enter_round(alloc, journal, entries, completions)?;
+    Ok(WholeRound { finished, left })
+}
+
+/// The items of both, one list after the other.
+fn both<T: Drop>(first: List<T>, more: List<T>) -> Result<List<T>, NoMemory>
+    ensures { IfOk result (λ items. items ≡ first ++ more) }
+{
+    let mut items = first.into_vec();
+    let mut more = more.into_vec();
+    items.append(&mut more)?;
+    Ok(List::from_vec(items))
+}

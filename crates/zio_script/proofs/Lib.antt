@@ -5,6 +5,7 @@ pub mod FormLemmas
 pub mod FrontLemmas
 pub mod KeptLemmas
 pub mod KeyLemmas
+mod LineShapeLemmas
 pub mod ReadLemmas
 pub mod ShapeLemmas
 pub mod ShortLemmas

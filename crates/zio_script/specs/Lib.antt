@@ -6,8 +6,10 @@ pub mod Drafts
 pub mod Grammar
 pub mod Keys
 pub mod Lines
+pub mod NewLines
 pub mod PlainForm
 pub mod Reading
 pub mod Requests
+pub mod Shapes
 pub mod Whys
 pub mod Words

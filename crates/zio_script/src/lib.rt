@@ -15,11 +15,13 @@ mod fixed;
 mod laws;
 mod limits;
 mod line;
+mod lines;
 mod name;
 mod names;
 mod read;
 mod script;
 mod shape;
+mod shapes;
 #[cfg(test)]
 mod tests;
 mod why;

@@ -6,6 +6,7 @@ pub mod FrontLemmas
 pub mod KeptLemmas
 pub mod KeyLemmas
 mod LineShapeLemmas
+pub mod OpenBatchLemmas
 pub mod ReadLemmas
 pub mod ShapeLemmas
 pub mod ShortLemmas

@@ -7,6 +7,7 @@ pub mod Grammar
 pub mod Keys
 pub mod Lines
 pub mod NewLines
+pub mod OpenBatches
 pub mod PlainForm
 pub mod Reading
 pub mod Requests

@@ -18,6 +18,7 @@ mod line;
 mod lines;
 mod name;
 mod names;
+mod open_batch;
 mod read;
 mod script;
 mod shape;

@@ -1,0 +1,108 @@
+-- What the reader keeps of the batch that is open, and how it stands to the batch's requests: the reader's own words, and
+-- nothing that has to be believed.
+use Rattle.std.specs.Prelude.{◌≡◌, ◌≢◌, ◌<◌, ℕ, List, [], ◌∷◌, length, map, sum, slice_index_or, reverse, Bool, true, false, not, ◌&&◌, Option, Some, None, Result, Ok, Err}
+use Rattle.std.specs.List.{AllByRecursion, list_any}
+use Rattle.zio_script.specs.declared.open_batch.Mark.{Mark}
+use Rattle.zio_script.specs.declared.open_batch.OpenBatch.{OpenBatch}
+use Rattle.zio_script.specs.declared.open_batch.Stand.{Stand}
+use Rattle.zio_script.specs.declared.open_batch.Stand.TheVariants.{Root, Under, Lost}
+use Rattle.zio_script.specs.declared.script.Request.{Request}
+use Rattle.zio_script.specs.declared.script.Work.{Work}
+use Rattle.zio_script.specs.declared.script.Work.TheVariants.{Null, Read, Write, Free, Claim}
+use Rattle.zio_script.specs.Accepted.{AreRising, sizes_in}
+use Rattle.zio_script.specs.Keys.{AreBegun, has_key, name_key}
+use Rattle.zio_script.specs.Requests.{is_under_number, kind_of, name_of, names_it}
+use Rattle.zio_script.specs.Whys.{body_len, children_in, depth_under, is_claim, is_read, parent_in, writes_under}
+use Rattle.zio_script.specs.Words.{is_name}
+
+-- ---- marks
+
+-- the bytes of a write without its children's pointers
+abbrev pub work_len : Work → ℕ
+work_len Null = 0
+work_len (Read name prio) = 0
+work_len (Write name sum copies prio body) = body_len body
+work_len (Free name) = 0
+work_len (Claim name pointer) = 0
+
+-- what is kept of a request among those of its batch
+abbrev pub mark_in : List Request → Request → Mark
+mark_in batch r = record {
+  number = r.number;
+  kind = kind_of r.work;
+  canfail = r.canfail;
+  depth = depth_under batch r.under;
+  children = children_in batch r.number;
+  writes = writes_under batch r.number;
+  len = work_len r.work;
+}
+
+-- the same of each
+abbrev pub marks_of : List Request → List Mark
+marks_of batch = map (mark_in batch) batch
+
+-- each of these, the last first, has a number of its own, and none stands under it or under a later one
+abbrev pub AreTidy : List Request → Type 0
+AreTidy [] = Unit {0}
+AreTidy (r ∷ requests) =
+    (is_under_number r.under r.number ≡ false)
+    × AllByRecursion (λ (q : Request). is_under_number q.under r.number ≡ false) requests
+    × AllByRecursion (λ (q : Request). q.number < r.number) requests × AreTidy requests
+
+-- ---- names
+
+-- the block may be named beside reads: it is read, and no row tells reads apart
+abbrev pub is_shared : Bool → Work → Bool
+is_shared apart work = not apart && is_read (kind_of work)
+
+-- a request of the batch that shares its block has the name
+abbrev pub is_shared_in : Bool → List Request → List ℕ → Bool
+is_shared_in apart batch name =
+    list_any (λ (r : Request). names_it (Some name) (name_of r.work) && is_shared apart r.work) batch
+
+-- another request of the batch has the name
+abbrev pub is_owned_in : Bool → List Request → List ℕ → Bool
+is_owned_in apart batch name =
+    list_any (λ (r : Request). names_it (Some name) (name_of r.work) && not (is_shared apart r.work)) batch
+
+-- ---- the batch
+
+-- what is kept is that of these requests
+pub record IsBatch (apart : Bool) (batch : List Request) (kept : OpenBatch) : Type 0 where
+  pub marks : kept.marks.items ≡ marks_of batch
+  pub size : kept.size ≡ sum (sizes_in batch)
+  pub claim : kept.has_claim ≡ list_any (λ (r : Request). is_claim (kind_of r.work)) batch
+  pub begun : AreBegun kept.names
+  pub read : (name : List ℕ) → is_name name ≡ true → has_key kept.names.read (name_key name) ≡ is_shared_in apart batch name
+  pub written : (name : List ℕ) → is_name name ≡ true → has_key kept.names.written (name_key name) ≡ is_owned_in apart batch name
+  pub rising : AreRising batch
+  pub tidy : AreTidy (reverse batch)
+
+-- ---- parents
+
+-- the request under which another one stands, and where its mark is
+pub record IsParentAt (batch : List Request) (kept : OpenBatch) (under : Option ℕ) (i : ℕ) : Type 0 where
+  pub number : ℕ
+  pub parent : Request
+  pub under_is : under ≡ Some number
+  pub found : parent_in batch (Some number) ≡ Some parent
+  pub within : i < length kept.marks.items
+  pub there : (d : Request) → slice_index_or batch i d ≡ parent
+  pub mark : (d : Mark) → slice_index_or kept.marks.items i d ≡ mark_in batch parent
+
+-- no request of the batch has the number
+pub record IsParentLost (batch : List Request) (under : Option ℕ) : Type 0 where
+  pub number : ℕ
+  pub under_is : under ≡ Some number
+  pub none : parent_in batch (Some number) ≡ None
+
+-- where a request stands
+abbrev pub IsStand : List Request → OpenBatch → Option ℕ → Stand → Type 0
+IsStand batch kept under Root = under ≡ None
+IsStand batch kept under (Under i) = IsParentAt batch kept under i
+IsStand batch kept under Lost = IsParentLost batch under
+
+-- where the request of a number is, if the batch has it
+abbrev pub IsPosition : List Request → OpenBatch → ℕ → Result ℕ ℕ → Type 0
+IsPosition batch kept number (Ok i) = IsParentAt batch kept (Some number) i
+IsPosition batch kept number (Err i) = parent_in batch (Some number) ≡ None

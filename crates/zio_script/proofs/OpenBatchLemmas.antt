@@ -90,9 +90,9 @@ position_is apart batch kept p (Ok i) is within equal =
     let len : length kept.marks.items ≡ length batch = ap length is.marks ∙ length-map batch (mark_in batch) in
     let inside : i < length batch = omega arith in
     let at : (d : Request) → (slice_index_or batch i d).number ≡ p = λ d.
-        let mark : slice_index_or kept.marks.items i (mark_in batch d) ≡ mark_in batch (slice_index_or batch i d)
-        = ap (λ (ms : List Mark). slice_index_or ms i (mark_in batch d)) is.marks ∙ index_map (mark_in batch) batch i d (mark_in batch d) inside in
-        sym (ap (λ (m : Mark). m.number) mark) ∙ ranked _ p _ (sym (equal (mark_in batch d))) in
+    let mark : slice_index_or kept.marks.items i (mark_in batch d) ≡ mark_in batch (slice_index_or batch i d)
+    = ap (λ (ms : List Mark). slice_index_or ms i (mark_in batch d)) is.marks ∙ index_map (mark_in batch) batch i d (mark_in batch d) inside in
+    sym (ap (λ (m : Mark). m.number) mark) ∙ ranked _ p _ (sym (equal (mark_in batch d))) in
     let found = found_at batch p i is.rising inside at in
     record {
       number = p;
@@ -110,11 +110,16 @@ position_is apart batch kept p (Err i) is within parted =
     = rw is.marks (marks_rise batch (mark_in batch) (λ r. refl) is.rising p) in
     let ends = parted rise in
     not_found batch p (λ k d inside.
-        let mark : slice_index_or kept.marks.items k (mark_in batch d) ≡ mark_in batch (slice_index_or batch k d)
-        = ap (λ (ms : List Mark). slice_index_or ms k (mark_in batch d)) is.marks ∙ index_map (mark_in batch) batch k d (mark_in batch d) inside in
-        let number : (slice_index_or kept.marks.items k (mark_in batch d)).number ≡ (slice_index_or batch k d).number = ap (λ (m : Mark). m.number) mark in
-        λ same. grind (arith, number, same, λ (low : k < i). ranked _ p _ (sym (ends.0 k (mark_in batch d) (omega arith) low)),
-        λ (high : i ≤ k). ranked _ p _ (sym (ends.1 k (mark_in batch d) high (omega arith)))))
+    let mark : slice_index_or kept.marks.items k (mark_in batch d) ≡ mark_in batch (slice_index_or batch k d)
+    = ap (λ (ms : List Mark). slice_index_or ms k (mark_in batch d)) is.marks ∙ index_map (mark_in batch) batch k d (mark_in batch d) inside in
+    let number : (slice_index_or kept.marks.items k (mark_in batch d)).number ≡ (slice_index_or batch k d).number = ap (λ (m : Mark). m.number) mark in
+    λ same. grind (
+      arith,
+      number,
+      same,
+      λ (low : k < i). ranked _ p _ (sym (ends.0 k (mark_in batch d) (omega arith) low)),
+      λ (high : i ≤ k). ranked _ p _ (sym (ends.1 k (mark_in batch d) high (omega arith))),
+    ))
 
 pub parent_of : (batch : List Request) (kept : OpenBatch) (under : Option ℕ) (p i : ℕ) (result : Result ℕ ℕ) → under ≡ Some p → result ≡ Ok i
     → IsPosition batch kept p result → IsParentAt batch kept under i

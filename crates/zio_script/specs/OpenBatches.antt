@@ -1,6 +1,6 @@
 -- What the reader keeps of the batch that is open, and how it stands to the batch's requests: the reader's own words, and
 -- nothing that has to be believed.
-use Rattle.std.specs.Prelude.{◌≡◌, ◌≢◌, ◌<◌, ℕ, List, [], ◌∷◌, length, map, sum, slice_index_or, reverse, Bool, true, false, not, ◌&&◌, Option, Some, None, Result, Ok, Err}
+use Rattle.std.specs.Prelude.{◌≡◌, ◌<◌, ◌≤◌, ◌+◌, ◌-◌, ◌*◌, ℕ, List, [], ◌∷◌, length, map, sum, slice_index_or, slice_set, reverse, Bool, true, false, not, cond, nat_lt, nat_le, ◌&&◌, ◌||◌, Option, Some, None, Result, Ok, Err}
 use Rattle.std.specs.List.{AllByRecursion, list_any}
 use Rattle.zio_script.specs.declared.open_batch.Mark.{Mark}
 use Rattle.zio_script.specs.declared.open_batch.OpenBatch.{OpenBatch}
@@ -9,10 +9,14 @@ use Rattle.zio_script.specs.declared.open_batch.Stand.TheVariants.{Root, Under, 
 use Rattle.zio_script.specs.declared.script.Request.{Request}
 use Rattle.zio_script.specs.declared.script.Work.{Work}
 use Rattle.zio_script.specs.declared.script.Work.TheVariants.{Null, Read, Write, Free, Claim}
+use Rattle.zio_blkptr.specs.declared.pointer.TheConstants.{BLOCK_SIZE_MAX}
+use Rattle.zio_script.specs.declared.limits.TheConstants.{BATCH_LEN_MAX, BATCH_SIZE_MAX, CHILDREN_MAX, DEPTH_MAX, POINTER_SIZE}
+use Rattle.zio_types.specs.declared.request.Kind.{Kind}
+use Rattle.zio_types.specs.declared.request.Kind.TheVariants.{Null as NullKind}
 use Rattle.zio_script.specs.Accepted.{AreRising, sizes_in}
 use Rattle.zio_script.specs.Keys.{AreBegun, has_key, name_key}
 use Rattle.zio_script.specs.Requests.{is_under_number, kind_of, name_of, names_it}
-use Rattle.zio_script.specs.Whys.{body_len, children_in, depth_under, is_claim, is_read, parent_in, writes_under}
+use Rattle.zio_script.specs.Whys.{body_len, children_in, depth_under, is_claim, is_read, is_write, may_have, parent_in, rounded_up, writes_under}
 use Rattle.zio_script.specs.Words.{is_name}
 
 -- ---- marks
@@ -106,3 +110,81 @@ IsStand batch kept under Lost = IsParentLost batch under
 abbrev pub IsPosition : List Request → OpenBatch → ℕ → Result ℕ ℕ → Type 0
 IsPosition batch kept number (Ok i) = IsParentAt batch kept (Some number) i
 IsPosition batch kept number (Err i) = parent_in batch (Some number) ≡ None
+
+-- ---- where a request stands, by the marks
+
+abbrev pub no_mark : Mark
+no_mark = record { number = 0; kind = NullKind; canfail = false; depth = 0; children = 0; writes = 0; len = 0 }
+
+-- the mark there
+abbrev pub mark_at : OpenBatch → ℕ → Mark
+mark_at kept i = slice_index_or kept.marks.items i no_mark
+
+-- the size of a request with so many writes under it
+abbrev pub marked_size : ℕ → Mark → ℕ
+marked_size writes mark = cond (is_write mark.kind) (rounded_up (mark.len + POINTER_SIZE * writes)) 0
+
+-- the numbers of a mark are small, and its size is part of this one
+pub record IsMarkWithin (size : ℕ) (mark : Mark) : Type 0 where
+  pub len : mark.len ≤ BLOCK_SIZE_MAX
+  pub writes : mark.writes < BATCH_LEN_MAX
+  pub children : mark.children < BATCH_LEN_MAX
+  pub depth : mark.depth ≤ BATCH_LEN_MAX
+  pub part : marked_size mark.writes mark ≤ size
+
+-- the mark of the parent is there, and small
+abbrev pub IsStandWithin : OpenBatch → Stand → Type 0
+IsStandWithin kept Root = Unit {0}
+IsStandWithin kept (Under i) = (i < length kept.marks.items) × IsMarkWithin kept.size (mark_at kept i)
+IsStandWithin kept Lost = Unit {0}
+
+-- the size of a batch, where a block in it and the batch itself aren't too large
+abbrev pub within : ℕ → ℕ → Option ℕ
+within block batch = cond (nat_lt BLOCK_SIZE_MAX block || nat_lt BATCH_SIZE_MAX batch) None (Some batch)
+
+-- with one more write of this size under a request
+abbrev pub size_under : ℕ → Mark → ℕ → Option ℕ
+size_under size parent own =
+    within (marked_size (parent.writes + 1) parent)
+    (size - marked_size parent.writes parent + marked_size (parent.writes + 1) parent + own)
+
+-- with one more write of this size
+abbrev pub write_after : OpenBatch → Stand → ℕ → Option ℕ
+write_after kept Root own = within 0 (kept.size + own)
+write_after kept (Under i) own = size_under kept.size (mark_at kept i) own
+write_after kept Lost own = within 0 (kept.size + own)
+
+-- with one more request
+abbrev pub size_after : OpenBatch → Stand → Bool → ℕ → Option ℕ
+size_after kept stand true len = write_after kept stand (rounded_up len)
+size_after kept stand false len = Some kept.size
+
+-- the parent may not fail
+abbrev pub must_at : OpenBatch → Stand → Bool
+must_at kept Root = false
+must_at kept (Under i) = not (mark_at kept i).canfail
+must_at kept Lost = false
+
+-- a request of this kind can't stand there
+abbrev pub is_full_at : OpenBatch → Kind → Stand → Bool
+is_full_at kept kind Root = false
+is_full_at kept kind (Under i) =
+    not (may_have (mark_at kept i).kind kind) || nat_le CHILDREN_MAX (mark_at kept i).children
+    || nat_le DEPTH_MAX (mark_at kept i).depth
+is_full_at kept kind Lost = true
+
+-- how deep a request stands there
+abbrev pub depth_at : OpenBatch → Stand → ℕ
+depth_at kept Root = 1
+depth_at kept (Under i) = (mark_at kept i).depth + 1
+depth_at kept Lost = 1
+
+-- a mark with one more child of this kind
+abbrev pub with_child : Kind → Mark → Mark
+with_child kind mark = record mark { children = mark.children + 1; writes = mark.writes + cond (is_write kind) 1 0 }
+
+-- the marks with one more child there
+abbrev pub marks_after : List Mark → Stand → Kind → List Mark
+marks_after marks Root kind = marks
+marks_after marks (Under i) kind = slice_set marks i (with_child kind (slice_index_or marks i no_mark))
+marks_after marks Lost kind = marks

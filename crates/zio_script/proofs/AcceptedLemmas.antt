@@ -245,7 +245,7 @@ batches-append_go batch (RequestItem q ∷ items) = batches-append_go (batch ++ 
 batches-append_go batch (Go ∷ items) = ap (λ (bs : List (List Request)). batch ∷ bs) (batches-append_go [] items)
 batches-append_go batch (Clear ∷ items) = batches-append_go batch items
 
-request_orderly : (script : Script) (asked : NewRequest) → IsOrderlyScript script → least_why (whys_of (record { begun = true; script = script }) (RequestLine asked)) ≡ None
+pub request_orderly : (script : Script) (asked : NewRequest) → IsOrderlyScript script → least_why (whys_of (record { begun = true; script = script }) (RequestLine asked)) ≡ None
     → AreOrderly (tells_reads_apart script) (script.items ++ RequestItem (request_in (open_batch script) asked) ∷ [])
 request_orderly script asked orderly none =
     let r = request_in (open_batch script) asked in
@@ -263,14 +263,14 @@ request_orderly script asked orderly none =
       last = rw (fold-append batch_after [] script.items (RequestItem r ∷ [])) batch;
     }
 
-go_orderly : (apart : Bool) (items : List Item) → AreOrderly apart items → AreOrderly apart (items ++ Go ∷ [])
+pub go_orderly : (apart : Bool) (items : List Item) → AreOrderly apart items → AreOrderly apart (items ++ Go ∷ [])
 go_orderly apart items orderly = record {
   rising = rw (requests-append items (Go ∷ []), append-nil (requests_of items)) orderly.rising;
   batches = rw (batches-append_go [] items) (all_more (IsOrderlyBatch apart) (batches_of items) (fold batch_after [] items) orderly.batches orderly.last);
   last = rw (fold-append batch_after [] items (Go ∷ [])) (empty_orderly apart);
 }
 
-clear_orderly : (apart : Bool) (items : List Item) → AreOrderly apart items → AreOrderly apart (items ++ Clear ∷ [])
+pub clear_orderly : (apart : Bool) (items : List Item) → AreOrderly apart items → AreOrderly apart (items ++ Clear ∷ [])
 clear_orderly apart items orderly = record {
   rising = rw (requests-append items (Clear ∷ []), append-nil (requests_of items)) orderly.rising;
   batches = rw (batches-append_clear [] items) orderly.batches;

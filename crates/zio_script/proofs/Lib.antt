@@ -1,11 +1,13 @@
 pub mod AcceptedLemmas
 pub mod BodyLemmas
+pub mod BuilderLemmas
 pub mod DraftLemmas
 pub mod FormLemmas
 pub mod FrontLemmas
 pub mod KeptLemmas
 pub mod KeyLemmas
 mod LineShapeLemmas
+pub mod MarkLemmas
 pub mod OpenBatchLemmas
 pub mod ReadLemmas
 pub mod ShapeLemmas

@@ -1,5 +1,6 @@
 pub mod Accepted
 pub mod Bodies
+pub mod Builders
 pub mod Built
 pub mod Decisions
 pub mod Drafts

@@ -127,9 +127,9 @@ marked_size writes mark = cond (is_write mark.kind) (rounded_up (mark.len + POIN
 -- the numbers of a mark are small, and its size is part of this one
 pub record IsMarkWithin (size : ℕ) (mark : Mark) : Type 0 where
   pub len : mark.len ≤ BLOCK_SIZE_MAX
-  pub writes : mark.writes < BATCH_LEN_MAX
-  pub children : mark.children < BATCH_LEN_MAX
-  pub depth : mark.depth ≤ BATCH_LEN_MAX
+  pub writes : mark.writes ≤ BATCH_LEN_MAX
+  pub children : mark.children ≤ BATCH_LEN_MAX
+  pub depth : mark.depth ≤ BATCH_LEN_MAX + 1
   pub part : marked_size mark.writes mark ≤ size
 
 -- the mark of the parent is there, and small

@@ -9,6 +9,7 @@
 #![tactic(auto)]
 
 mod body;
+mod builder;
 mod built;
 mod draft;
 mod fixed;
@@ -19,12 +20,14 @@ mod lines;
 mod name;
 mod names;
 mod open_batch;
+mod ranges;
 mod read;
 mod script;
 mod shape;
 mod shapes;
 #[cfg(test)]
 mod tests;
+mod values;
 mod why;
 mod word;
 mod work;

@@ -206,7 +206,7 @@ fn rounded_up(len: u64) -> u64
 // The size of a request with so many writes under it.
 fn marked_size(mark: &Mark, writes: u32) -> u64
     requires len { mark.now.len ≤ BLOCK_SIZE_MAX }
-    requires writes { writes ≤ 1024 }
+    requires writes { writes ≤ 1025 }
     ensures { result ≡ marked_size writes mark.now }
 {
     if mark.kind != Kind::Write {
@@ -228,8 +228,8 @@ fn may_have(parent: Kind, child: Kind) -> bool
 
 // A mark with one more child of this kind.
 fn with_child(mark: Mark, kind: Kind) -> Mark
-    requires children { mark.children < 1024 }
-    requires writes { mark.writes < 1024 }
+    requires children { mark.children ≤ 1024 }
+    requires writes { mark.writes ≤ 1024 }
     ensures { result ≡ with_child kind mark }
 {
     let is_write = kind == Kind::Write;

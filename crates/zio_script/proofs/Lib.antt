@@ -1,4 +1,5 @@
 pub mod AcceptedLemmas
+pub mod BatchSizeLemmas
 pub mod BodyLemmas
 pub mod BuilderLemmas
 pub mod DraftLemmas
@@ -13,4 +14,5 @@ pub mod ReadLemmas
 pub mod ShapeLemmas
 pub mod ShortLemmas
 pub mod SizeLemmas
+pub mod StandLemmas
 pub mod WordLemmas

@@ -74,7 +74,7 @@ found_one {X} P test (y ∷ xs) x all found = by_test (test y) found (found_one 
     by_test true here rest = let same : y ≡ x = cc in subst P same all.0
     by_test false there rest = rest there
 
-eqb_sym : (a b : ℕ) (is : Bool) → (a == b) ≡ is → (b == a) ≡ is
+pub eqb_sym : (a b : ℕ) (is : Bool) → (a == b) ≡ is → (b == a) ≡ is
 eqb_sym a b true same = grind (arith, nat_tests)
 eqb_sym a b false other = grind (arith, nat_tests)
 
@@ -150,13 +150,13 @@ depth_of_child batch p parent rising tidy found =
 -- ---- the marks of the others
 
 -- a mark with one more request in the batch
-abbrev with_new : Request → Mark → Mark
+abbrev pub with_new : Request → Mark → Mark
 with_new r mark = cond (is_under_number r.under mark.number) (with_child (kind_of r.work) mark) mark
 
-count_more : (test : Request → Bool) (batch : List Request) (r : Request) → count_by test (batch ++ r ∷ []) ≡ count_by test batch + cond (test r) 1 0
+pub count_more : (test : Request → Bool) (batch : List Request) (r : Request) → count_by test (batch ++ r ∷ []) ≡ count_by test batch + cond (test r) 1 0
 count_more test batch r = fold-append (λ n q. n + cond (test q) 1 0) 0 batch (r ∷ [])
 
-depth_stays : (batch : List Request) (r : Request) (under : Option ℕ) → is_under_number under r.number ≡ false → depth_under (batch ++ r ∷ []) under ≡ depth_under batch under
+pub depth_stays : (batch : List Request) (r : Request) (under : Option ℕ) → is_under_number under r.number ≡ false → depth_under (batch ++ r ∷ []) under ≡ depth_under batch under
 depth_stays batch r under past =
     ap (λ (rs : List Request). 1 + levels rs under) (reverse-append batch (r ∷ []))
     ∙ ap (λ (n : ℕ). 1 + n) (levels_past r (reverse batch) under past)
@@ -178,13 +178,13 @@ mark_more batch r q past =
     (count_more (λ (p : Request). is_under p q.number) batch r)
     (count_more (λ (p : Request). is_under p q.number && is_write (kind_of p.work)) batch r)
 
-marks_more : (batch rs : List Request) (r : Request) → AllByRecursion (NotUnder r.number) rs → map (mark_in (batch ++ r ∷ [])) rs ≡ map (λ q. with_new r (mark_in batch q)) rs
+pub marks_more : (batch rs : List Request) (r : Request) → AllByRecursion (NotUnder r.number) rs → map (mark_in (batch ++ r ∷ [])) rs ≡ map (λ q. with_new r (mark_in batch q)) rs
 marks_more batch [] r past = refl
 marks_more batch (q ∷ rs) r past = rw (mark_more batch r q past.0, marks_more batch rs r past.1) refl
 
 -- ---- which of the others changes
 
-marks_same : (f : Request → Mark) (rs : List Request) (r : Request) → ((q : Request) → (f q).number ≡ q.number)
+pub marks_same : (f : Request → Mark) (rs : List Request) (r : Request) → ((q : Request) → (f q).number ≡ q.number)
     → AllByRecursion (λ (q : Request). is_under_number r.under q.number ≡ false) rs → map (λ q. with_new r (f q)) rs ≡ map f rs
 marks_same f [] r same other = refl
 marks_same f (q ∷ rs) r same other =
@@ -199,7 +199,7 @@ not_under_by r p (q ∷ rs) is above =
     let other : (p == q.number) ≡ false = ne_eqb p q.number (omega arith) in
     (rw is other, not_under_by r p rs is above.1)
 
-marks_set : (f : Request → Mark) (rs : List Request) (i p : ℕ) (r : Request) → ((q : Request) → (f q).number ≡ q.number) → AreRising rs → r.under ≡ Some p
+pub marks_set : (f : Request → Mark) (rs : List Request) (i p : ℕ) (r : Request) → ((q : Request) → (f q).number ≡ q.number) → AreRising rs → r.under ≡ Some p
     → i < length rs → ((d : Request) → (slice_index_or rs i d).number ≡ p)
     → map (λ q. with_new r (f q)) rs ≡ slice_set (map f rs) i (with_child (kind_of r.work) (slice_index_or (map f rs) i no_mark))
 marks_set f [] i p r same rising is within there = absurd (omega arith)

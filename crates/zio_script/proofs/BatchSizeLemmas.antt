@@ -1,8 +1,8 @@
 -- The sizes of a batch with one more request.
-use Rattle.std.proofs.Common.{◌≡◌, ◌≤◌, ◌<◌, ◌+◌, ◌-◌, ◌*◌, ℕ, zero, suc, List, [], ◌∷◌, ◌++◌, length, map, fold, refl, sym, ap, ◌∙◌, subst, Bool, true, false, not, cond, ◌&&◌, ◌||◌, ◌==◌, nat_le, nat_lt, Option, Some, None, slice_index_or, slice_set, arith}
+use Rattle.std.proofs.Common.{◌≡◌, ◌≤◌, ◌<◌, ◌+◌, ◌-◌, ◌*◌, ℕ, zero, suc, List, [], ◌∷◌, ◌++◌, length, map, fold, reverse, refl, sym, ap, ◌∙◌, subst, Bool, true, false, cond, ◌&&◌, ◌||◌, ◌==◌, nat_le, nat_lt, Option, Some, None, slice_index_or, slice_set, arith}
 use Rattle.std.proofs.lemmas.Bool.{and_parts, ne_eqb, le-ltb, leb-true, or_from}
 use Rattle.std.proofs.lemmas.Bool.Decides.{nat_tests}
-use Rattle.std.proofs.lemmas.List.{length-append, length-map, map-append}
+use Rattle.std.proofs.lemmas.List.{length-map, length-reverse}
 use Rattle.std.proofs.lemmas.List.Folds.{list_any-append}
 use Rattle.std.proofs.lemmas.List.Sums.{fold-append}
 use Rattle.std.specs.Prelude.{sum}
@@ -73,6 +73,7 @@ any_set test (x ∷ xs) (suc i) y none within = rw (before (test x) (list_any te
     before : (a b : Bool) → (a || b) ≡ false → a ≡ false
     before false b e = refl
     before true b e = let no : ⊥ = cc in absurd no
+
     after : (a b : Bool) → (a || b) ≡ false → b ≡ false
     after false b e = e
     after true b e = let no : ⊥ = cc in absurd no
@@ -261,3 +262,71 @@ size_is apart batch kept r Root true write is small fits at = sized_apart batch 
 size_is apart batch kept r (Under i) true write is small fits at = sized_under apart batch kept r i is small fits write at
 size_is apart batch kept r Lost true write is small fits at =
     sized_apart batch r kept.size small is.size fits write (under_lost r at.number batch at.under_is (none_of_number batch at.number at.none))
+
+-- ---- the numbers of marks
+
+count_low : (test : Request → Bool) (rs : List Request) (n : ℕ) → fold (λ a q. a + cond (test q) 1 0) n rs ≤ n + length rs
+count_low test [] n = omega arith
+count_low test (r ∷ rs) n = by_test (test r) refl (count_low test rs)
+  where
+    by_test : (is : Bool) → test r ≡ is → ((m : ℕ) → fold (λ a q. a + cond (test q) 1 0) m rs ≤ m + length rs)
+        → fold (λ a q. a + cond (test q) 1 0) n (r ∷ rs) ≤ n + length (r ∷ rs)
+    by_test true is rest = let more : fold (λ a q. a + cond (test q) 1 0) (n + 1) rs ≤ n + 1 + length rs = rest (n + 1) in rw is (omega arith)
+    by_test false is rest = let more : fold (λ a q. a + cond (test q) 1 0) (n + 0) rs ≤ n + 0 + length rs = rest (n + 0) in rw is (omega arith)
+
+levels_low : (rs : List Request) (under : Option ℕ) → levels rs under ≤ length rs
+levels_low [] under = omega arith
+levels_low (r ∷ rs) under = by_test (is_under_number under r.number) refl (levels_low rs)
+  where
+    by_test : (is : Bool) → is_under_number under r.number ≡ is → ((u : Option ℕ) → levels rs u ≤ length rs) → levels (r ∷ rs) under ≤ length (r ∷ rs)
+    by_test true is rest = let up : levels rs r.under ≤ length rs = rest r.under in rw is (omega arith)
+    by_test false is rest = let up : levels rs under ≤ length rs = rest under in rw is (omega arith)
+
+work_low : (work : Work) → fits_work work ≡ true → work_len work ≤ BLOCK_SIZE_MAX
+work_low Null fits = omega arith
+work_low (Read name prio) fits = omega arith
+work_low (Write name sum copies prio body) fits =
+    leb-true (body_len body) BLOCK_SIZE_MAX
+    (and_parts (nat_le 1 (body_len body)) (nat_le (body_len body) BLOCK_SIZE_MAX) (and_parts (nat_le 1 copies && nat_le copies 3) (nat_le 1 (body_len body) && nat_le (body_len body) BLOCK_SIZE_MAX) fits).1).1
+work_low (Free name) fits = omega arith
+work_low (Claim name pointer) fits = omega arith
+
+pub sizes_within : (apart : Bool) (batch : List Request) → IsOrderlyBatch apart batch → AreWithin (sizes_in batch)
+sizes_within apart batch orderly = record {
+  none = any_none (nat_lt BLOCK_SIZE_MAX) (sizes_in batch) (low (sizes_in batch) orderly.sizes);
+  total = orderly.total;
+}
+  where
+    low : (xs : List ℕ) → AllByRecursion (λ n. n ≤ BLOCK_SIZE_MAX) xs → AllByRecursion (λ n. nat_lt BLOCK_SIZE_MAX n ≡ false) xs
+    low [] all = tt
+    low (x ∷ xs) all = (le-ltb BLOCK_SIZE_MAX x all.0, low xs all.1)
+
+pub stand_within : (apart other : Bool) (batch : List Request) (kept : OpenBatch) (under : Option ℕ) (stand : Stand) → IsBatch apart batch kept → IsOrderlyBatch other batch
+    → IsStand batch kept under stand → IsStandWithin kept stand
+stand_within apart other batch kept under Root is orderly stand = tt
+stand_within apart other batch kept under (Under i) is orderly stand =
+    let parent = stand.parent in
+    let len : length kept.marks.items ≡ length batch = ap length is.marks ∙ length-map batch (mark_in batch) in
+    let low : i < length kept.marks.items = stand.within in
+    let most : length batch ≤ 1024 = orderly.most in
+    let range : IsInRange parent = subst IsInRange (stand.there parent) (all_at IsInRange batch i parent orderly.ranges (omega arith)) in
+    let writes : writes_under batch parent.number ≤ 0 + length batch = count_low (λ (q : Request). is_under q parent.number && is_write (kind_of q.work)) batch 0 in
+    let children : children_in batch parent.number ≤ 0 + length batch = count_low (λ (q : Request). is_under q parent.number) batch 0 in
+    let reversed : length (reverse batch) ≡ length batch = length-reverse batch in
+    let up : levels (reverse batch) parent.under ≤ length (reverse batch) = levels_low (reverse batch) parent.under in
+    let old : size_with (writes_under batch parent.number) parent.work ≡ slice_index_or (sizes_in batch) i 0
+    = sym (index_map (λ (q : Request). size_with (writes_under batch q.number) q.work) batch i parent 0 (omega arith) ∙ ap (λ (q : Request). size_with (writes_under batch q.number) q.work) (stand.there parent)) in
+    let sizes_len : length (sizes_in batch) ≡ length batch = length-map batch (λ (q : Request). size_with (writes_under batch q.number) q.work) in
+    let part : slice_index_or (sizes_in batch) i 0 ≤ sum (sizes_in batch) = sum_has (sizes_in batch) i 0 (omega arith) in
+    let size : kept.size ≡ sum (sizes_in batch) = is.size in
+    let marked = marked_work (writes_under batch parent.number) parent.work in (
+      low,
+      rw (stand.mark no_mark) (record {
+        len = work_low parent.work range.work;
+        writes = omega arith;
+        children = omega arith;
+        depth = omega arith;
+        part = rw marked (omega arith);
+      }),
+    )
+stand_within apart other batch kept under Lost is orderly stand = tt

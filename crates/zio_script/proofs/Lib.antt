@@ -11,6 +11,7 @@ mod LineShapeLemmas
 pub mod MarkLemmas
 pub mod OpenBatchLemmas
 pub mod ReadLemmas
+pub mod RequestLemmas
 pub mod ShapeLemmas
 pub mod ShortLemmas
 pub mod SizeLemmas

@@ -31,9 +31,10 @@ NotUnder n q = is_under_number q.under n ≡ false
 none_under_from : (before batch : List Request) (n : ℕ) → AreBehindParents before batch → AllByRecursion (λ (q : Request). q.number < n) before
     → AllByRecursion (λ (q : Request). q.number < n) batch → AllByRecursion (NotUnder n) batch
 none_under_from before [] n behind low lows = tt
-none_under_from before (q ∷ batch) n behind low lows =
-    (not_under (kind_of q.work) q.under before n behind.0 low,
-    none_under_from (before ++ q ∷ []) batch n behind.1 (all_more (λ (r : Request). r.number < n) before q low lows.0) lows.1)
+none_under_from before (q ∷ batch) n behind low lows = (
+  not_under (kind_of q.work) q.under before n behind.0 low,
+  none_under_from (before ++ q ∷ []) batch n behind.1 (all_more (λ (r : Request). r.number < n) before q low lows.0) lows.1,
+)
 
 pub none_under_later : (batch : List Request) (n : ℕ) → AreBehindParents [] batch → AllByRecursion (λ (q : Request). q.number < n) batch
     → AllByRecursion (NotUnder n) batch
@@ -53,9 +54,12 @@ all_reverse P (x ∷ xs) all =
 pub tidy_more : (batch : List Request) (r : Request) → AreTidy (reverse batch) → AreBehindParents [] batch → AllByRecursion (λ (q : Request). q.number < r.number) batch
     → is_under_number r.under r.number ≡ false → AreTidy (reverse (batch ++ r ∷ []))
 tidy_more batch r tidy behind low own =
-    subst AreTidy (sym (reverse-append batch (r ∷ [])))
-    (own, all_reverse (NotUnder r.number) batch (none_under_later batch r.number behind low),
-    all_reverse (λ (q : Request). q.number < r.number) batch low, tidy)
+    subst AreTidy (sym (reverse-append batch (r ∷ []))) (
+      own,
+      all_reverse (NotUnder r.number) batch (none_under_later batch r.number behind low),
+      all_reverse (λ (q : Request). q.number < r.number) batch low,
+      tidy,
+    )
 
 -- ---- depths
 

@@ -1,6 +1,6 @@
 -- What the reader keeps of the lines so far, of any form, and how it stands to their script: the reader's own words, and
 -- nothing that has to be believed.
-use Rattle.std.specs.Prelude.{◌≡◌, ◌≤◌, ◌<◌, ◌+◌, ℕ, List, length, slice_index_or, Bool, false, Some, None, Ok, Err, nat_le}
+use Rattle.std.specs.Prelude.{◌≡◌, ◌≤◌, ◌<◌, ◌+◌, ℕ, List, length, slice_index_or, Bool, true, false, ◌||◌, Option, Some, None, Ok, Err, nat_le, sum}
 use Rattle.std.specs.Prelude.{count_by}
 use Rattle.zio_script.specs.declared.builder.Builder.{Builder}
 use Rattle.zio_script.specs.declared.draft.Refusal.{Refusal}
@@ -14,9 +14,11 @@ use Rattle.zio_script.specs.declared.script.ScriptFault.{ScriptFault}
 use Rattle.zio_script.specs.Accepted.{IsOrderlyScript}
 use Rattle.zio_script.specs.Grammar.{IsFaultIn, IsScriptIn, after_words, all_built, ended, fault_for, read_lines, script_with}
 use Rattle.zio_script.specs.Lines.{Line, NewRequest}
-use Rattle.zio_script.specs.OpenBatches.{IsBatch}
-use Rattle.zio_script.specs.Whys.{Before, Check, all_leaves, falls_back, is_among, is_clear, least_why, nothing_before, open_batch, request_whys, tells_reads_apart, whys_at_end, whys_of}
-use Rattle.zio_script.specs.Words.{Word, lines_of}
+use Rattle.zio_script.specs.OpenBatches.{IsBatch, IsStand, IsStandWithin}
+use Rattle.zio_script.specs.Requests.{name_of}
+use Rattle.zio_script.specs.declared.open_batch.Stand.{Stand}
+use Rattle.zio_script.specs.Whys.{Before, Check, all_leaves, breaks_limit, falls_back, fits_work, is_misnamed, request_in, sizes_with, is_among, is_clear, least_why, nothing_before, open_batch, request_whys, tells_reads_apart, whys_at_end, whys_of}
+use Rattle.zio_script.specs.Words.{Word, is_empty, lines_of}
 
 -- ---- the script of the lines so far
 
@@ -69,6 +71,28 @@ IsWordsWhy b words Memory = Unit {0}
 -- the whys of a request
 abbrev pub request_whys_of : Builder → NewRequest → List Check
 request_whys_of b asked = request_whys (script_of b) (batch_of b) asked
+
+-- a line's request, of the request that it makes
+abbrev pub asked_of : Request → Option Bool → NewRequest
+asked_of r flag = record { number = r.number; work = r.work; under = r.under; flag = flag }
+
+-- whether a request breaks a limit, and the sizes of the batch with it
+abbrev pub AreLimited : List Request → NewRequest → Option ℕ → Type 0
+AreLimited batch asked None = breaks_limit batch asked ≡ true
+AreLimited batch asked (Some size) =
+    (breaks_limit batch asked ≡ false) × (size ≡ sum (sizes_with batch (request_in batch asked)))
+
+-- a request to which no why below 6 applies
+pub record IsNamed (b : Builder) (r : Request) (flag : Option Bool) (stand : Stand) (size : ℕ) : Type 0 where
+  pub within : breaks_limit (batch_of b) (asked_of r flag) ≡ false
+  pub above : (is_empty b.tops || falls_back (script_of b) r.number) ≡ false
+  pub named : is_misnamed (name_of r.work) ≡ false
+  pub made : request_in (batch_of b) (asked_of r flag) ≡ r
+  pub stands : IsStand (batch_of b) b.batch r.under stand
+  pub sized : size ≡ sum (sizes_with (batch_of b) r)
+  pub last : b.last < r.number
+  pub fits : fits_work r.work ≡ true
+  pub inside : IsStandWithin b.batch stand
 
 -- ---- the text
 

@@ -1,6 +1,6 @@
 -- What the reader makes of a line of any form, once its words are read: the reader's own words, and nothing that has to be
 -- believed.
-use Rattle.std.specs.Prelude.{◌≡◌, ℕ, List, [], ◌∷◌, ◌++◌, map, Option, Some, None, option_map}
+use Rattle.std.specs.Prelude.{◌≡◌, ℕ, List, [], ◌∷◌, ◌++◌, map, Bool, Option, Some, None, option_map}
 use Rattle.zio_faults.specs.declared.table.Row.{Row}
 use Rattle.zio_script.specs.declared.line.LineFault.{LineFault}
 use Rattle.zio_script.specs.declared.line.LineFault.TheVariants.{NotBuilt, NoShape, NoNumber, Memory}
@@ -20,6 +20,7 @@ use Rattle.zio_script.specs.declared.shapes.TopShape.{TopShape as TopFound}
 use Rattle.zio_script.specs.declared.shapes.WorkShape.{WorkShape as WorkWords}
 use Rattle.zio_script.specs.declared.script.Body.{Body}
 use Rattle.zio_script.specs.declared.script.Body.TheVariants.{Hex, Fill, Seq}
+use Rattle.zio_script.specs.declared.script.Request.{Request as MadeRequest}
 use Rattle.zio_script.specs.declared.script.Work.{Work}
 use Rattle.zio_script.specs.declared.script.Work.TheVariants.{Null, Read, Write, Free, Claim}
 use Rattle.zio_script.specs.Lines.{Line, FailmodeLine, LeavesLine, FaultLine, RequestLine, GoLine, ClearLine, NewRequest, Shape, body_of_shape, line_of, new_request_of, numbers, row_of as row_of_words, shape_of, top_of as top_of_words, work_of as work_of_words}
@@ -121,3 +122,8 @@ IsNoLine words NotBuilt = ⊥
 IsNoLine words NoShape = shape_of words ≡ None
 IsNoLine words NoNumber = LacksNumber words
 IsNoLine words Memory = Unit {0}
+
+-- ---- the request that a line makes
+
+abbrev pub request_made : NewRequest → Bool → MadeRequest
+request_made asked canfail = record { number = asked.number; work = asked.work; under = asked.under; canfail = canfail }

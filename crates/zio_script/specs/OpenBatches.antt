@@ -2,6 +2,7 @@
 -- nothing that has to be believed.
 use Rattle.std.specs.Prelude.{◌≡◌, ◌<◌, ◌≤◌, ◌+◌, ◌-◌, ◌*◌, ℕ, List, [], ◌∷◌, length, map, sum, slice_index_or, slice_set, reverse, Bool, true, false, not, cond, nat_lt, nat_le, ◌&&◌, ◌||◌, Option, Some, None, Result, Ok, Err}
 use Rattle.std.specs.List.{AllByRecursion, list_any}
+use Rattle.zio_script.specs.declared.names.BatchNames.{BatchNames}
 use Rattle.zio_script.specs.declared.open_batch.Mark.{Mark}
 use Rattle.zio_script.specs.declared.open_batch.OpenBatch.{OpenBatch}
 use Rattle.zio_script.specs.declared.open_batch.Stand.{Stand}
@@ -14,7 +15,7 @@ use Rattle.zio_script.specs.declared.limits.TheConstants.{BATCH_LEN_MAX, BATCH_S
 use Rattle.zio_types.specs.declared.request.Kind.{Kind}
 use Rattle.zio_types.specs.declared.request.Kind.TheVariants.{Null as NullKind}
 use Rattle.zio_script.specs.Accepted.{AreRising, sizes_in}
-use Rattle.zio_script.specs.Keys.{AreBegun, has_key, name_key}
+use Rattle.zio_script.specs.Keys.{AddsName, AreBegun, clash, has_key, name_key}
 use Rattle.zio_script.specs.Requests.{is_under_number, kind_of, name_of, names_it}
 use Rattle.zio_script.specs.Whys.{body_len, children_in, depth_under, is_claim, is_read, is_write, may_have, parent_in, rounded_up, writes_under}
 use Rattle.zio_script.specs.Words.{is_name}
@@ -188,3 +189,33 @@ abbrev pub marks_after : List Mark → Stand → Kind → List Mark
 marks_after marks Root kind = marks
 marks_after marks (Under i) kind = slice_set marks i (with_child kind (slice_index_or marks i no_mark))
 marks_after marks Lost kind = marks
+
+-- ---- the name of one more request
+
+-- the batch has the name, and this work may not share its block
+abbrev pub is_clash_by : Option (List ℕ) → BatchNames → Bool → Bool
+is_clash_by None names shared = false
+is_clash_by (Some name) names shared = clash names shared (name_key name)
+
+abbrev pub is_clash : BatchNames → Bool → Work → Bool
+is_clash names apart work = is_clash_by (name_of work) names (is_shared apart work)
+
+-- the names with that of this work
+abbrev pub AddsWorkBy : Option (List ℕ) → BatchNames → Bool → BatchNames → Type 0
+AddsWorkBy None old shared new = new ≡ old
+AddsWorkBy (Some name) old shared new = AddsName old (name_key name) shared new
+
+abbrev pub AddsWork : BatchNames → Bool → Work → BatchNames → Type 0
+AddsWork old apart work new = AddsWorkBy (name_of work) old (is_shared apart work) new
+
+-- a request's mark where it stands, before it has children
+abbrev pub new_mark : OpenBatch → Request → Stand → Mark
+new_mark kept r stand = record {
+  number = r.number;
+  kind = kind_of r.work;
+  canfail = r.canfail;
+  depth = depth_at kept stand;
+  children = 0;
+  writes = 0;
+  len = work_len r.work;
+}

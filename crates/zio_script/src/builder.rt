@@ -1,22 +1,26 @@
 //! What the lines so far make, and whether a line may follow them.
-ghost use Rattle.std.specs.Prelude.{◌≡◌, ◌<◌, [], ℕ, List, false, true, ◌||◌, IfErr, OnOk, slice_index_or};
-ghost use Rattle.zio_script.specs.Builders.{AddsLine, IsKept, IsLineWhy, Sees, script_of};
-ghost use Rattle.zio_script.specs.Lines.{ClearLine, FailmodeLine, FaultLine, GoLine};
-ghost use Rattle.zio_script.specs.NewLines.{row_as, top_as};
-ghost use Rattle.zio_script.specs.Whys.{is_among, is_leaf, repeats_leaf};
+ghost use Rattle.std.specs.Prelude.{◌≡◌, ◌<◌, [], ℕ, List, false, true, ◌||◌, ◌&&◌, IfErr, OnOk, slice_index_or};
+ghost use Rattle.zio_script.specs.Builders.{AddsLine, AreLimited, IsKept, IsLineWhy, IsNamed, Sees, asked_of, batch_of, script_of};
+ghost use Rattle.zio_script.specs.Lines.{ClearLine, FailmodeLine, FaultLine, GoLine, RequestLine};
+ghost use Rattle.zio_script.specs.NewLines.{request_as, row_as, top_as, work_as};
+ghost use Rattle.zio_script.specs.OpenBatches.{IsStand, IsStandWithin, is_full_at, must_at};
+ghost use Rattle.zio_script.specs.Requests.{kind_of};
+ghost use Rattle.zio_script.specs.Whys.{is_among, is_leaf, may_fail, parent_in, repeats_leaf, says_canfail, shares_with_claim};
 ghost use Rattle.std.specs.List.{list_all};
 ghost use Rattle.zio_script.specs.declared.script.Failmode.{Failmode};
 
 use crate::draft::Refusal;
-use crate::limits::{CLEARS_MAX, FAULTS_MAX, TOPS_MAX};
-use crate::lines::{NewRow, NewTop};
-use crate::open_batch::OpenBatch;
-use crate::ranges::{are_leaves, fits_row, is_sector};
-use crate::values::{add_leaves, row_of};
-use crate::{Failmode, Item, TopLine, Why};
+use crate::limits::{BATCH_LEN_MAX, CLEARS_MAX, FAULTS_MAX, TOPS_MAX};
+use crate::lines::{NewRequest, NewRow, NewTop};
+use crate::open_batch::{OpenBatch, Stand};
+use crate::ranges::{are_leaves, fits_asked, fits_row, is_sector, work_len};
+use crate::values::{
+    add_leaves, is_claim, is_write, kind_of, may_fail_alone, request_of, row_of, says_canfail,
+};
+use crate::{Failmode, Item, Request, TopLine, Why};
 use std::alloc::Global;
 use zio_faults::{FaultKind, Row};
-use zio_types::{List, SECTOR_SIZE};
+use zio_types::{Kind, List, SECTOR_SIZE};
 
 /// The script of the lines so far, and what the next line is held against.
 #[derive(Drop)]
@@ -116,6 +120,113 @@ impl Builder {
         self.apart = self.apart || row.first || row.kind == FaultKind::Flip;
         self.begun = true;
         Ok(())
+    }
+
+    fn add_request(&mut self, asked: NewRequest<'_>) -> Result<(), Refusal>
+        requires { IsKept self.old }
+        ensures kept { OnOk result (IsKept self.new) }
+        ensures added { OnOk result (AddsLine self.old (RequestLine (request_as asked.entry)) self.new) }
+        ensures why { IfErr result (IsLineWhy self.old (RequestLine (request_as asked.entry))) }
+    {
+        let stand = self.batch.stand(asked.under);
+        let Some(size) = self.size_with(&asked, stand) else {
+            return Err(Refusal::Faulty(Why::Limit));
+        };
+        if self.tops.is_empty() || asked.number <= u64::from(self.last) {
+            return Err(Refusal::Faulty(Why::Order));
+        }
+        let flag = asked.flag;
+        let canfail = self.may_fail(&asked, stand);
+        match request_of(asked, canfail) {
+            Some(request) => self.add_named(request, flag, stand, size),
+            None => Err(Refusal::Faulty(Why::Name)),
+        }
+    }
+
+    // The bytes of all writes with the request, none where it breaks a limit.
+    fn size_with(&self, asked: &NewRequest<'_>, stand: Stand) -> Option<u64>
+        requires kept { IsKept self.now }
+        requires stand { IsStand (batch_of self.now) self.now.batch asked.now.under stand }
+        ensures { AreLimited (batch_of self.now) (request_as asked.now) result }
+    {
+        if !fits_asked(asked) || self.batch.marks.len() >= BATCH_LEN_MAX as usize {
+            return None;
+        }
+        let is_write = is_write(kind_of(&asked.work));
+        let len = work_len(&asked.work) as u32;
+        self.batch.size_with(is_write, len, stand)
+    }
+
+    fn may_fail(&self, asked: &NewRequest<'_>, stand: Stand) -> bool
+        requires kept { IsKept self.now }
+        requires stand { IsStand (batch_of self.now) self.now.batch asked.now.under stand }
+        ensures { result ≡ may_fail asked.now.flag (parent_in (batch_of self.now) asked.now.under) (kind_of (work_as asked.now.work)) }
+    {
+        match asked.flag {
+            Some(flag) => flag,
+            None => !self.batch.is_under_must(stand) && may_fail_alone(kind_of(&asked.work)),
+        }
+    }
+
+    // Adds a request that is named, if no later why applies.
+    fn add_named(
+        &mut self,
+        request: Request,
+        flag: Option<bool>,
+        stand: Stand,
+        size: u64,
+    ) -> Result<(), Refusal>
+        requires kept { IsKept self.old }
+        requires named { IsNamed self.old request flag stand size }
+        ensures kept { OnOk result (IsKept self.new) }
+        ensures added { OnOk result (AddsLine self.old (RequestLine (asked_of request flag)) self.new) }
+        ensures why { IfErr result (IsLineWhy self.old (RequestLine (asked_of request flag))) }
+    {
+        let kind = request.work.kind();
+        let is_wrong = self.is_wrong(flag, stand);
+        let is_lost = self.is_lost(kind, stand);
+        let mark = self.batch.mark(&request, stand);
+        if !self.batch.insert_name(&request.work, self.apart)? {
+            return Err(Refusal::Faulty(Why::Conflict));
+        }
+        if is_wrong {
+            return Err(Refusal::Faulty(Why::Flag));
+        }
+        if is_lost {
+            return Err(Refusal::Faulty(Why::Parent));
+        }
+        self.batch.add(mark, stand)?;
+        self.batch.size = size;
+        self.batch.has_claim = self.batch.has_claim || is_claim(kind);
+        self.last = request.number;
+        self.items.push(Item::Request(request))?;
+        self.begun = true;
+        Ok(())
+    }
+
+    // A request that may fail would stand there under one that may not.
+    fn is_wrong(&self, flag: Option<bool>, stand: Stand) -> bool
+        requires { IsStandWithin self.now.batch stand }
+        ensures { result ≡ (says_canfail flag && must_at self.now.batch stand) }
+    {
+        says_canfail(flag) && self.batch.is_under_must(stand)
+    }
+
+    // A request of this kind can't stand there, or not beside the others.
+    fn is_lost(&self, kind: Kind, stand: Stand) -> bool
+        requires kept { IsKept self.now }
+        requires stand { IsStandWithin self.now.batch stand }
+        ensures { result ≡ (is_full_at self.now.batch kind stand || shares_with_claim (batch_of self.now) kind) }
+    {
+        self.batch.refuses(kind, stand) || self.shares_with_claim(kind)
+    }
+
+    // A claim and another request would be in the batch.
+    fn shares_with_claim(&self, kind: Kind) -> bool
+        requires { IsKept self.now }
+        ensures { result ≡ shares_with_claim (batch_of self.now) kind }
+    {
+        is_claim(kind) && !self.batch.marks.is_empty() || self.batch.has_claim
     }
 
     fn add_go(&mut self) -> Result<(), Refusal>

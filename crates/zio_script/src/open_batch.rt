@@ -1,12 +1,13 @@
 //! The requests since the last `go`, as far as the next line is held against them.
-ghost use Rattle.std.specs.Prelude.{◌≡◌, ◌≤◌, ◌<◌, ◌*◌, ◌++◌, ◌∷◌, [], List, Bool, ℕ, None, OnOk, false};
-ghost use Rattle.zio_script.specs.Keys.{AreForgotten};
-ghost use Rattle.zio_script.specs.OpenBatches.{IsBatch, IsPosition, IsStand, IsMarkWithin, IsStandWithin, depth_at, is_full_at, marked_size, marks_after, must_at, size_after, size_under, with_child, within};
-ghost use Rattle.zio_script.specs.Whys.{may_have, rounded_up};
-ghost use Rattle.zio_script.specs.declared.script.Request.{Request};
+ghost use Rattle.std.specs.Prelude.{◌≡◌, ◌≤◌, ◌<◌, ◌*◌, ◌++◌, ◌∷◌, [], List, Bool, ℕ, None, OnOk, IfOk, false, true, not};
+ghost use Rattle.zio_script.specs.Keys.{AreBegun, AreForgotten};
+ghost use Rattle.zio_script.specs.OpenBatches.{IsBatch, IsPosition, IsStand, IsMarkWithin, AddsWork, IsStandWithin, depth_at, is_clash, is_full_at, marked_size, marks_after, must_at, new_mark, size_after, size_under, with_child, within, work_len};
+ghost use Rattle.zio_script.specs.Whys.{body_len, fits_work, may_have, rounded_up};
+ghost use Rattle.zio_script.specs.declared.script.Request.{Request as SeenRequest};
 
 use crate::limits::{BATCH_SIZE_MAX, CHILDREN_MAX, DEPTH_MAX, POINTER_SIZE};
 use crate::names::BatchNames;
+use crate::{Body, Request, Work};
 use std::alloc::{AllocFailed, Global};
 use zio_blkptr::BLOCK_SIZE_MAX;
 use zio_types::{Kind, SECTOR_SIZE};
@@ -80,7 +81,7 @@ impl OpenBatch {
 
     /// Where a request under this number stands.
     pub(crate) fn stand(&self, under: Option<u64>) -> Stand
-        ensures { (apart : Bool) (batch : List Request) → IsBatch apart batch self.now → IsStand batch self.now under result }
+        ensures { (apart : Bool) (batch : List SeenRequest) → IsBatch apart batch self.now → IsStand batch self.now under result }
     {
         match under {
             None => Stand::Root,
@@ -93,7 +94,7 @@ impl OpenBatch {
 
     // Where the mark of this number is.
     fn position(&self, number: u64) -> Result<usize, usize>
-        ensures { (apart : Bool) (batch : List Request) → IsBatch apart batch self.now → IsPosition batch self.now number result }
+        ensures { (apart : Bool) (batch : List SeenRequest) → IsBatch apart batch self.now → IsPosition batch self.now number result }
     {
         self.marks
             .binary_search_by_key(&number, |mark| u64::from(mark.number))
@@ -167,6 +168,44 @@ impl OpenBatch {
         }
     }
 
+    /// The mark of a request that stands there, before it has children.
+    pub(crate) fn mark(&self, request: &Request, stand: Stand) -> Mark
+        requires stand { IsStandWithin self.now stand }
+        requires fits { fits_work request.now.work ≡ true }
+        ensures { result ≡ new_mark self.now request.now stand }
+    {
+        Mark {
+            number: request.number,
+            kind: request.work.kind(),
+            canfail: request.canfail,
+            depth: self.depth(stand),
+            children: 0,
+            writes: 0,
+            len: work_len(&request.work),
+        }
+    }
+
+    /// Adds the name of this work, if it has one, and says whether the batch may have it.
+    pub(crate) fn insert_name(
+        &mut self,
+        work: &Work,
+        apart: bool,
+    ) -> Result<bool, AllocFailed<u128>>
+        requires { AreBegun self.old.names }
+        ensures begun { OnOk result (AreBegun self.new.names) }
+        ensures marks { OnOk result (self.new.marks ≡ self.old.marks) }
+        ensures size { OnOk result (self.new.size ≡ self.old.size) }
+        ensures claim { OnOk result (self.new.has_claim ≡ self.old.has_claim) }
+        ensures added { IfOk result (λ added. added ≡ not (is_clash self.old.names apart work.now)) }
+        ensures names { IfOk result (λ added. added ≡ true → AddsWork self.old.names apart work.now self.new.names) }
+    {
+        let is_shared = !apart && work.kind() == Kind::Read;
+        match work.name() {
+            None => Ok(true),
+            Some(name) => self.names.insert(name.key(), is_shared),
+        }
+    }
+
     /// Adds the mark of a request that stands there.
     pub(crate) fn add(&mut self, mark: Mark, stand: Stand) -> Result<(), AllocFailed<Mark>>
         requires { IsStandWithin self.old stand }
@@ -237,5 +276,26 @@ fn with_child(mark: Mark, kind: Kind) -> Mark
         children: mark.children + 1,
         writes: mark.writes + u32::from(is_write),
         ..mark
+    }
+}
+
+// The bytes of a write without its children's pointers, 0 of other work.
+fn work_len(work: &Work) -> u32
+    requires { fits_work work.now ≡ true }
+    ensures { result ≡ work_len work.now }
+{
+    match work {
+        Work::Write { body, .. } => body_len(body),
+        Work::Null | Work::Read { .. } | Work::Free { .. } | Work::Claim { .. } => 0,
+    }
+}
+
+fn body_len(body: &Body) -> u32
+    requires { body_len body.now ≤ BLOCK_SIZE_MAX }
+    ensures { result ≡ body_len body.now }
+{
+    match body {
+        Body::Hex(bytes) => bytes.len() as u32,
+        Body::Fill { len, .. } | Body::Seq { len, .. } => *len,
     }
 }

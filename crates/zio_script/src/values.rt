@@ -1,12 +1,12 @@
 //! The values of a script that lines make whose numbers are in their ranges.
 ghost use Rattle.std.specs.Prelude.{◌≡◌, ◌++◌, ◌≤◌, MatchOption, OnOk, length, true, false};
 ghost use Rattle.std.specs.List.{list_all};
-ghost use Rattle.zio_script.specs.NewLines.{body_as, row_as, work_as};
+ghost use Rattle.zio_script.specs.NewLines.{body_as, request_as, request_made, row_as, work_as};
 ghost use Rattle.zio_script.specs.Requests.{kind_of, name_of};
-ghost use Rattle.zio_script.specs.Whys.{body_len, fits_row, fits_work, is_leaf, is_misnamed, is_write, may_fail_alone};
+ghost use Rattle.zio_script.specs.Whys.{body_len, fits_asked, fits_row, fits_work, is_claim, is_leaf, is_misnamed, is_number_if, is_write, may_fail_alone, says_canfail};
 
-use crate::lines::{NewBody, NewRow, NewWork};
-use crate::{Body, Name, Work};
+use crate::lines::{NewBody, NewRequest, NewRow, NewWork};
+use crate::{Body, Name, Request, Work};
 use zio_faults::Row;
 use zio_types::{Kind, List, NoMemory};
 
@@ -120,9 +120,60 @@ fn body_of(body: NewBody) -> Body
     }
 }
 
+/// The request, none where the word in its name's place is no name.
+pub(crate) fn request_of(asked: NewRequest<'_>, canfail: bool) -> Option<Request>
+    requires { fits_asked (request_as asked) ≡ true }
+    ensures { MatchOption result (is_misnamed (name_of (request_as asked.entry).work) ≡ true)
+        (λ made. (made ≡ request_made (request_as asked.entry) canfail) × (is_misnamed (name_of (request_as asked.entry).work) ≡ false)) }
+{
+    let number = asked.number as u32;
+    let under = number_if(asked.under);
+    let work = work_of(asked.work)?;
+    Some(Request {
+        number,
+        work,
+        under,
+        canfail,
+    })
+}
+
+fn number_if(number: Option<u64>) -> Option<u32>
+    requires { is_number_if number ≡ true }
+    ensures { result ≡ number }
+{
+    match number {
+        None => None,
+        Some(number) => Some(number as u32),
+    }
+}
+
 /// Whether a request of this kind may fail where its line and its parent say nothing.
 pub(crate) fn may_fail_alone(kind: Kind) -> bool
     ensures { result ≡ may_fail_alone kind }
 {
     matches!(kind, Kind::Read | Kind::Claim)
+}
+
+/// The kind is a write.
+pub(crate) fn is_write(kind: Kind) -> bool
+    ensures { result ≡ is_write kind }
+{
+    matches!(kind, Kind::Write)
+}
+
+/// The kind is a claim.
+pub(crate) fn is_claim(kind: Kind) -> bool
+    ensures { result ≡ is_claim kind }
+{
+    matches!(kind, Kind::Claim)
+}
+
+/// The flag is there, and is `canfail`.
+pub(crate) fn says_canfail(flag: Option<bool>) -> bool
+    ensures { result ≡ says_canfail flag }
+{
+    match flag {
+        None => false,
+        Some(flag) => flag,
+    }
 }

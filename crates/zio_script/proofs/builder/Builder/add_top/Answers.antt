@@ -11,4 +11,4 @@ returns-clause-kept c =
     let once : c.repeats_leaf.result ≡ false = c.if-repeats_leaf.false in
     kept_top c.args.self.now c.push.new.self _ c.repeats_leaf.new.seen c.requires none c.in_ok-push.ensures.ok
     (λ n low. c.repeats_leaf.ensures.seen (all_leaves (script_of c.args.self.now)) c.requires.seen once n low
-        ∙ ap (λ (ls : List ℕ). is_among (all_leaves (script_of c.args.self.now)) n || is_among ls n) (rw leaves refl))
+    ∙ ap (λ (ls : List ℕ). is_among (all_leaves (script_of c.args.self.now)) n || is_among ls n) (rw leaves refl))

@@ -16,4 +16,5 @@ pub mod ShapeLemmas
 pub mod ShortLemmas
 pub mod SizeLemmas
 pub mod StandLemmas
+pub mod WholeLemmas
 pub mod WordLemmas

@@ -1,6 +1,6 @@
 -- A request more, in what is kept of the lines of any form.
 use Rattle.std.proofs.Common.{◌≡◌, ◌≤◌, ◌<◌, ◌+◌, ℕ, List, [], ◌∷◌, ◌++◌, length, map, fold, reverse, refl, sym, ap, ◌∙◌, subst, Bool, true, false, not, cond, ◌&&◌, ◌||◌, ◌==◌, nat_le, Option, Some, None, arith, slice_index_or}
-use Rattle.std.proofs.lemmas.Bool.{leb-false, lt-leb, not-false, not-true}
+use Rattle.std.proofs.lemmas.Bool.{and_parts, leb-true, lt-leb, not-false}
 use Rattle.std.proofs.lemmas.List.{append-nil, length-map, map-append}
 use Rattle.std.proofs.lemmas.List.Folds.{list_any-append}
 use Rattle.std.proofs.lemmas.List.Sums.{fold-append}
@@ -9,7 +9,7 @@ use Rattle.std.specs.Ordering.{is_eq, nat_cmp}
 use Rattle.std.specs.List.{AllByRecursion, list_any}
 use Rattle.zio_types.specs.declared.request.Kind.{Kind}
 use Rattle.zio_script.specs.declared.builder.Builder.{Builder}
-use Rattle.zio_script.specs.declared.limits.TheConstants.{BATCH_LEN_MAX}
+use Rattle.zio_script.specs.declared.limits.TheConstants.{BATCH_LEN_MAX, NUMBER_MAX}
 use Rattle.zio_script.specs.declared.names.BatchNames.{BatchNames}
 use Rattle.zio_script.specs.declared.open_batch.Mark.{Mark}
 use Rattle.zio_script.specs.declared.open_batch.OpenBatch.{OpenBatch}
@@ -33,8 +33,8 @@ use Rattle.zio_script.specs.Requests.{is_under_number, kind_of, name_of, names_i
 use Rattle.zio_script.specs.Whys.{are_too_large, batch_after, breaks_limit, children_in, clashes, depth_under, falls_back, fits_asked, fits_work, has_bad_parent, if_so, is_claim, is_clear, is_misnamed, is_number, is_number_if, is_read, is_taken, is_write, least_why, may_fail, may_share, must_parent, open_batch, parent_in, request_in, request_whys, says_canfail, shares_with_claim, sizes_with, tells_reads_apart, writes_under}
 use Rattle.zio_script.specs.Words.{is_empty, is_name}
 use Rattle.zio_script.proofs.AcceptedLemmas.{lower, no_child_yet, open_passes, parent_there, request_orderly, rising_more, sizes_same, not_under}
-use Rattle.zio_script.proofs.BatchSizeLemmas.{AreSized, TooLarge, Fit}
-use Rattle.zio_script.proofs.FrontLemmas.{all_more, or_right_false, requests-append}
+use Rattle.zio_script.proofs.BatchSizeLemmas.{AreSized, TooLarge, Fit, stand_within}
+use Rattle.zio_script.proofs.FrontLemmas.{all_more, or_left_false, or_right_false, requests-append}
 use Rattle.zio_script.proofs.KeptLemmas.{or_false, or_moved, rises_to, same_key}
 use Rattle.zio_script.proofs.MarkLemmas.{NotUnder, depth_stays, none_under_later, tidy_more}
 use Rattle.zio_script.proofs.SizeLemmas.{counts_none}
@@ -246,3 +246,35 @@ kept_request b r flag stand size items batch kept named none is more =
 pub named_next : (b : Builder) (r : Request) (flag : Option Bool) (stand : Stand) (size : ℕ) (items : List Item) (batch : OpenBatch) → IsNamed b r flag stand size → items ≡ b.items ++ RequestItem r ∷ []
     → script_with (script_of b) (RequestLine (asked_of r flag)) ≡ record { begun = true; script = record { failmode = b.failmode; tops = b.tops; faults = b.faults; items = items } }
 named_next b r flag stand size items batch named is = rw (is, named.made) refl
+
+-- ---- a request that is named
+
+pub fits_of : (batch : List Request) (asked : NewRequest) → breaks_limit batch asked ≡ false → fits_asked asked ≡ true
+fits_of batch asked within =
+    let large = are_too_large (sizes_with batch (request_in batch asked)) in
+    let full = nat_le BATCH_LEN_MAX (length batch) in
+    not-false (fits_asked asked) (or_left_false (not (fits_asked asked)) full (or_left_false (not (fits_asked asked) || full) large within))
+
+pub named_of : (b : Builder) (asked : NewRequest) (r : Request) (stand : Stand) (size : ℕ) (canfail : Bool) → IsKept b → breaks_limit (batch_of b) asked ≡ false
+    → size ≡ sum (sizes_with (batch_of b) (request_in (batch_of b) asked)) → is_empty b.tops ≡ false → b.last < asked.number → r ≡ request_made asked canfail
+    → canfail ≡ may_fail asked.flag (parent_in (batch_of b) asked.under) (kind_of asked.work) → is_misnamed (name_of asked.work) ≡ false
+    → IsStand (batch_of b) b.batch asked.under stand → IsNamed b r asked.flag stand size
+named_of b asked r stand size canfail kept within sized tops above is can named stands =
+    let fits : fits_asked asked ≡ true = fits_of (batch_of b) asked within in
+    let parts = fits_parts asked fits in
+    let low : 1 ≤ asked.number = leb-true 1 asked.number (and_parts (nat_le 1 asked.number) (nat_le asked.number NUMBER_MAX) parts.0).0 in
+    let made : request_in (batch_of b) asked ≡ request_made asked canfail = ap (λ (may : Bool). request_made asked may) (sym can) in
+    rw is (record {
+      within = within;
+      above = rw (tops, kept.last asked.number low) (lt-leb asked.number b.last above);
+      named = named;
+      made = made;
+      stands = stands;
+      sized = sized ∙ ap (λ (q : Request). sum (sizes_with (batch_of b) q)) made;
+      last = above;
+      fits = parts.2;
+      inside = stand_within b.apart (tells_reads_apart (script_of b)) (batch_of b) b.batch asked.under stand kept.batch kept.orderly.last stands;
+    })
+
+pub same_asked : (asked : NewRequest) (r : Request) (canfail : Bool) → r ≡ request_made asked canfail → asked_of r asked.flag ≡ asked
+same_asked asked r canfail is = rw is refl

@@ -1,23 +1,23 @@
 //! What the lines so far make, and whether a line may follow them.
-ghost use Rattle.std.specs.Prelude.{◌≡◌, ◌<◌, [], ℕ, List, false, true, ◌||◌, ◌&&◌, IfErr, OnOk, slice_index_or};
-ghost use Rattle.zio_script.specs.Builders.{AddsLine, AreLimited, IsKept, IsLineWhy, IsNamed, Sees, asked_of, batch_of, script_of};
+ghost use Rattle.std.specs.Prelude.{◌≡◌, ◌<◌, [], ℕ, List, false, true, ◌||◌, ◌&&◌, IfErr, IfOk, OnOk, map, slice_index_or};
+ghost use Rattle.zio_script.specs.Builders.{AddsLine, AddsWords, AreLimited, IsEnd, IsEndWhy, IsKept, IsLineWhy, IsNamed, IsWordsWhy, Sees, asked_of, batch_of, script_of};
 ghost use Rattle.zio_script.specs.Lines.{ClearLine, FailmodeLine, FaultLine, GoLine, RequestLine};
-ghost use Rattle.zio_script.specs.NewLines.{request_as, row_as, top_as, work_as};
+ghost use Rattle.zio_script.specs.NewLines.{line_as, request_as, row_as, top_as, work_as};
 ghost use Rattle.zio_script.specs.OpenBatches.{IsStand, IsStandWithin, is_full_at, must_at};
 ghost use Rattle.zio_script.specs.Requests.{kind_of};
 ghost use Rattle.zio_script.specs.Whys.{is_among, is_leaf, may_fail, parent_in, repeats_leaf, says_canfail, shares_with_claim};
 ghost use Rattle.std.specs.List.{list_all};
 ghost use Rattle.zio_script.specs.declared.script.Failmode.{Failmode};
 
-use crate::draft::Refusal;
+use crate::draft::{Refusal, is_skipped, refusal_of};
 use crate::limits::{BATCH_LEN_MAX, CLEARS_MAX, FAULTS_MAX, TOPS_MAX};
-use crate::lines::{NewRequest, NewRow, NewTop};
+use crate::lines::{Line, NewRequest, NewRow, NewTop, line_in};
 use crate::open_batch::{OpenBatch, Stand};
 use crate::ranges::{are_leaves, fits_asked, fits_row, is_sector, work_len};
 use crate::values::{
     add_leaves, is_claim, is_write, kind_of, may_fail_alone, request_of, row_of, says_canfail,
 };
-use crate::{Failmode, Item, Request, TopLine, Why};
+use crate::{Failmode, Item, Request, Script, ScriptError, TopLine, Why};
 use std::alloc::Global;
 use zio_faults::{FaultKind, Row};
 use zio_types::{Kind, List, SECTOR_SIZE};
@@ -61,6 +61,58 @@ impl Builder {
             clears: 0,
             batch: OpenBatch::new(alloc),
         }
+    }
+
+    /// Adds the line of these words.
+    pub(crate) fn add_words(&mut self, alloc: Global, words: &[&[u8]]) -> Result<(), Refusal>
+        requires { IsKept self.old }
+        ensures kept { OnOk result (IsKept self.new) }
+        ensures added { OnOk result (AddsWords self.old (map (λ w. w.now) words.now) self.new) }
+        ensures why { IfErr result (IsWordsWhy self.old (map (λ w. w.now) words.now)) }
+    {
+        if is_skipped(words) {
+            return Ok(());
+        }
+        match line_in(alloc, words) {
+            Ok(line) => self.add_line(alloc, line),
+            Err(fault) => Err(refusal_of(fault)),
+        }
+    }
+
+    fn add_line(&mut self, alloc: Global, line: Line<'_>) -> Result<(), Refusal>
+        requires { IsKept self.old }
+        ensures kept { OnOk result (IsKept self.new) }
+        ensures added { OnOk result (AddsLine self.old (line_as line.entry) self.new) }
+        ensures why { IfErr result (IsLineWhy self.old (line_as line.entry)) }
+    {
+        match line {
+            Line::Failmode(mode) => self.add_failmode(mode),
+            Line::Top(top) => self.add_top(alloc, top),
+            Line::Fault(row) => self.add_fault(row),
+            Line::Request(asked) => self.add_request(asked),
+            Line::Go => self.add_go(),
+            Line::Clear => self.add_clear(),
+        }
+    }
+
+    /// The script, or what is wrong at the end of the text, behind the line before this number.
+    pub(crate) fn finish(self, line: u32) -> Result<Script, ScriptError>
+        requires { IsKept self }
+        ensures script { IfOk result (IsEnd self line) }
+        ensures fault { IfErr result (IsEndWhy self line) }
+    {
+        if !self.batch.marks.is_empty() {
+            return Err(Refusal::Faulty(Why::Order).at(line));
+        }
+        if self.tops.is_empty() {
+            return Err(Refusal::Faulty(Why::Pool).at(line));
+        }
+        Ok(Script {
+            failmode: self.failmode,
+            tops: self.tops,
+            faults: self.faults,
+            items: self.items,
+        })
     }
 
     fn add_failmode(&mut self, mode: Failmode) -> Result<(), Refusal>
@@ -197,7 +249,7 @@ impl Builder {
         }
         self.batch.add(mark, stand)?;
         self.batch.size = size;
-        self.batch.has_claim = self.batch.has_claim || is_claim(kind);
+        self.batch.has_claim |= is_claim(kind);
         self.last = request.number;
         self.items.push(Item::Request(request))?;
         self.begun = true;

@@ -1,6 +1,6 @@
 -- The sizes of a batch with one more request.
 use Rattle.std.proofs.Common.{◌≡◌, ◌≤◌, ◌<◌, ◌+◌, ◌-◌, ◌*◌, ℕ, zero, suc, List, [], ◌∷◌, ◌++◌, length, map, fold, reverse, refl, sym, ap, ◌∙◌, subst, Bool, true, false, cond, ◌&&◌, ◌||◌, ◌==◌, nat_le, nat_lt, Option, Some, None, slice_index_or, slice_set, arith}
-use Rattle.std.proofs.lemmas.Bool.{and_parts, ne_eqb, le-ltb, leb-true, or_from}
+use Rattle.std.proofs.lemmas.Bool.{and_parts, ne_eqb, le-ltb, leb-true}
 use Rattle.std.proofs.lemmas.Bool.Decides.{nat_tests}
 use Rattle.std.proofs.lemmas.List.{length-map, length-reverse}
 use Rattle.std.proofs.lemmas.List.Folds.{list_any-append}
@@ -8,9 +8,7 @@ use Rattle.std.proofs.lemmas.List.Sums.{fold-append}
 use Rattle.std.specs.Prelude.{sum}
 use Rattle.std.specs.List.{AllByRecursion, list_any}
 use Rattle.zio_blkptr.specs.declared.pointer.TheConstants.{BLOCK_SIZE_MAX}
-use Rattle.zio_types.specs.declared.request.Kind.{Kind}
-use Rattle.zio_script.specs.declared.limits.TheConstants.{BATCH_LEN_MAX, BATCH_SIZE_MAX, POINTER_SIZE}
-use Rattle.zio_script.specs.declared.open_batch.Mark.{Mark}
+use Rattle.zio_script.specs.declared.limits.TheConstants.{BATCH_SIZE_MAX, POINTER_SIZE}
 use Rattle.zio_script.specs.declared.open_batch.OpenBatch.{OpenBatch}
 use Rattle.zio_script.specs.declared.open_batch.Stand.{Stand}
 use Rattle.zio_script.specs.declared.open_batch.Stand.TheVariants.{Root, Under, Lost}
@@ -18,9 +16,9 @@ use Rattle.zio_script.specs.declared.script.Request.{Request}
 use Rattle.zio_script.specs.declared.script.Work.{Work}
 use Rattle.zio_script.specs.declared.script.Work.TheVariants.{Null, Read, Write, Free, Claim}
 use Rattle.zio_script.specs.Accepted.{AreRising, IsInRange, IsOrderlyBatch, sizes_in}
-use Rattle.zio_script.specs.OpenBatches.{IsBatch, IsMarkWithin, IsParentAt, IsStand, IsStandWithin, mark_at, mark_in, marked_size, marks_after, marks_of, no_mark, size_after, size_under, with_child, within, work_len, write_after}
+use Rattle.zio_script.specs.OpenBatches.{IsBatch, IsParentAt, IsStand, IsStandWithin, mark_at, mark_in, no_mark, size_after, size_under, within, work_len}
 use Rattle.zio_script.specs.Requests.{is_under, is_under_number, kind_of}
-use Rattle.zio_script.specs.Whys.{are_too_large, body_len, children_in, depth_under, fits_work, is_write, levels, rounded_up, size_with, sizes_with, writes_under}
+use Rattle.zio_script.specs.Whys.{are_too_large, body_len, children_in, fits_work, is_write, levels, rounded_up, size_with, sizes_with, writes_under}
 use Rattle.zio_script.proofs.FrontLemmas.{any_none}
 use Rattle.zio_script.proofs.MarkLemmas.{count_more}
 use Rattle.zio_script.proofs.OpenBatchLemmas.{all_at, index_map}

@@ -1,5 +1,5 @@
 -- What is kept of the lines of any form, line by line.
-use Rattle.std.proofs.Common.{◌≡◌, ◌≤◌, ◌<◌, ◌+◌, ◌-◌, ℕ, List, [], ◌∷◌, ◌++◌, length, drop, take, fold, refl, sym, ap, ◌∙◌, Bool, true, false, ◌||◌, ◌==◌, ◌≢◌, nat_le, None, arith, slice_index_or, slice_set}
+use Rattle.std.proofs.Common.{◌≡◌, ◌≤◌, ◌<◌, ◌+◌, ◌-◌, ℕ, List, [], ◌∷◌, ◌++◌, length, drop, take, fold, refl, sym, ap, ◌∙◌, Bool, true, false, ◌||◌, ◌==◌, ◌≢◌, nat_le, arith, slice_index_or, slice_set}
 use Rattle.std.proofs.lemmas.Bool.{and_parts, eqb-true, leb-true}
 use Rattle.std.proofs.lemmas.Bool.Decides.{nat_tests}
 use Rattle.std.proofs.lemmas.Grind.{flat_map-append}
@@ -12,13 +12,13 @@ use Rattle.zio_script.specs.declared.builder.Builder.{Builder}
 use Rattle.zio_script.specs.declared.limits.TheConstants.{CLEARS_MAX}
 use Rattle.zio_script.specs.declared.open_batch.OpenBatch.{OpenBatch}
 use Rattle.zio_script.specs.declared.script.Item.{Item}
-use Rattle.zio_script.specs.declared.script.Item.TheVariants.{Request as RequestItem, Go, Clear}
+use Rattle.zio_script.specs.declared.script.Item.TheVariants.{Go, Clear}
 use Rattle.zio_script.specs.Builders.{IsKept, Sees, batch_of, script_of}
 use Rattle.zio_script.specs.Keys.{AreForgotten}
 use Rattle.zio_script.specs.OpenBatches.{IsBatch}
 use Rattle.zio_script.specs.Requests.{requests_of}
 use Rattle.zio_script.specs.declared.script.TopLine.{TopLine as Top}
-use Rattle.zio_script.specs.Whys.{all_leaves, is_among, is_leaf, batch_after, falls_back, is_clear, tells_reads_apart}
+use Rattle.zio_script.specs.Whys.{all_leaves, is_among, is_leaf, batch_after, is_clear, tells_reads_apart}
 use Rattle.zio_script.proofs.AcceptedLemmas.{clear_orderly, go_orderly}
 use Rattle.zio_script.proofs.FrontLemmas.{requests-append}
 

@@ -1,26 +1,21 @@
 -- The marks of a batch with one more request.
-use Rattle.std.proofs.Common.{◌≡◌, ◌≢◌, ◌≤◌, ◌<◌, ◌+◌, ◌-◌, ◌*◌, ℕ, zero, suc, List, [], ◌∷◌, ◌++◌, length, map, fold, reverse, refl, sym, ap, ◌∙◌, subst, Bool, true, false, not, cond, ◌&&◌, ◌||◌, ◌==◌, nat_le, nat_lt, Option, Some, None, slice_index_or, slice_set, arith}
+use Rattle.std.proofs.Common.{◌≡◌, ◌≢◌, ◌<◌, ◌+◌, ℕ, zero, suc, List, [], ◌∷◌, ◌++◌, length, map, reverse, refl, sym, ap, ◌∙◌, subst, Bool, true, false, cond, ◌&&◌, ◌==◌, Option, Some, None, slice_index_or, slice_set, arith}
 use Rattle.std.proofs.lemmas.Bool.{eqb-true, ne_eqb}
 use Rattle.std.proofs.lemmas.Bool.Decides.{nat_tests}
-use Rattle.std.proofs.lemmas.List.{length-append, length-map, map-append, reverse-append}
+use Rattle.std.proofs.lemmas.List.{reverse-append}
 use Rattle.std.proofs.lemmas.List.Sums.{fold-append}
 use Rattle.std.specs.Prelude.{count_by, find}
-use Rattle.std.specs.List.{AllByRecursion, list_any}
+use Rattle.std.specs.List.{AllByRecursion}
 use Rattle.zio_types.specs.declared.request.Kind.{Kind}
-use Rattle.zio_script.specs.declared.limits.TheConstants.{CHILDREN_MAX, DEPTH_MAX}
 use Rattle.zio_script.specs.declared.open_batch.Mark.{Mark}
-use Rattle.zio_script.specs.declared.open_batch.OpenBatch.{OpenBatch}
-use Rattle.zio_script.specs.declared.open_batch.Stand.{Stand}
-use Rattle.zio_script.specs.declared.open_batch.Stand.TheVariants.{Root, Under, Lost}
 use Rattle.zio_script.specs.declared.script.Request.{Request}
-use Rattle.zio_script.specs.Accepted.{AreBehindParents, AreRising, HasParentIn}
-use Rattle.zio_script.specs.OpenBatches.{AreTidy, IsBatch, IsParentAt, IsStand, depth_at, is_full_at, mark_at, mark_in, marks_after, marks_of, no_mark, with_child, work_len}
+use Rattle.zio_script.specs.Accepted.{AreBehindParents, AreRising}
+use Rattle.zio_script.specs.OpenBatches.{AreTidy, mark_in, no_mark, with_child}
 use Rattle.zio_script.specs.Requests.{is_under, is_under_number, kind_of}
-use Rattle.zio_script.specs.Whys.{children_in, depth_under, has_bad_parent, is_write, levels, levels_at, may_have, parent_in, refuses_child, writes_under}
+use Rattle.zio_script.specs.Whys.{children_in, depth_under, is_write, levels, parent_in, writes_under}
 use Rattle.zio_script.proofs.AcceptedLemmas.{all_as, not_under}
 use Rattle.zio_script.proofs.FrontLemmas.{all_more}
 use Rattle.zio_script.proofs.OpenBatchLemmas.{all_at}
-use Rattle.zio_script.proofs.SizeLemmas.{counts_none}
 
 -- ---- no request stands under a later one
 

@@ -1,6 +1,6 @@
 -- The marks of an open batch: where the mark of a request is.
-use Rattle.std.proofs.Common.{◌≡◌, ◌≢◌, ◌≤◌, ◌<◌, ◌+◌, ◌-◌, ℕ, zero, suc, List, [], ◌∷◌, ◌++◌, length, map, refl, sym, ap, ◌∙◌, subst, Bool, true, false, ◌==◌, Option, Some, None, Result, Ok, Err, slice_index_or, arith}
-use Rattle.std.proofs.lemmas.Bool.{eqb-true, ne_eqb}
+use Rattle.std.proofs.Common.{◌≡◌, ◌≢◌, ◌≤◌, ◌<◌, ℕ, zero, suc, List, [], ◌∷◌, length, map, refl, sym, ap, ◌∙◌, Bool, true, false, ◌==◌, Option, Some, None, Result, Ok, Err, slice_index_or, arith}
+use Rattle.std.proofs.lemmas.Bool.{ne_eqb}
 use Rattle.std.proofs.lemmas.Bool.Decides.{nat_tests}
 use Rattle.std.proofs.lemmas.Cmp.{ranked}
 use Rattle.std.proofs.lemmas.List.{length-map}
@@ -12,8 +12,7 @@ use Rattle.zio_script.specs.declared.open_batch.Mark.{Mark}
 use Rattle.zio_script.specs.declared.open_batch.OpenBatch.{OpenBatch}
 use Rattle.zio_script.specs.declared.script.Request.{Request}
 use Rattle.zio_script.specs.Accepted.{AreRising}
-use Rattle.zio_script.specs.OpenBatches.{IsBatch, IsParentAt, IsPosition, mark_in, marks_of}
-use Rattle.zio_script.specs.Whys.{parent_in}
+use Rattle.zio_script.specs.OpenBatches.{IsBatch, IsParentAt, IsPosition, mark_in}
 
 -- ---- lists by index
 

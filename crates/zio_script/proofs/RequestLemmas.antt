@@ -1,36 +1,32 @@
 -- A request more, in what is kept of the lines of any form.
-use Rattle.std.proofs.Common.{◌≡◌, ◌≤◌, ◌<◌, ◌+◌, ℕ, List, [], ◌∷◌, ◌++◌, length, map, fold, reverse, refl, sym, ap, ◌∙◌, subst, Bool, true, false, not, cond, ◌&&◌, ◌||◌, ◌==◌, nat_le, Option, Some, None, arith, slice_index_or}
+use Rattle.std.proofs.Common.{◌≡◌, ◌≤◌, ◌<◌, ◌+◌, ℕ, List, [], ◌∷◌, ◌++◌, length, map, fold, refl, sym, ap, ◌∙◌, Bool, true, false, not, cond, ◌&&◌, ◌||◌, nat_le, Option, Some, None, arith}
 use Rattle.std.proofs.lemmas.Bool.{and_parts, leb-true, lt-leb, not-false}
-use Rattle.std.proofs.lemmas.List.{append-nil, length-map, map-append}
+use Rattle.std.proofs.lemmas.List.{map-append}
 use Rattle.std.proofs.lemmas.List.Folds.{list_any-append}
 use Rattle.std.proofs.lemmas.List.Sums.{fold-append}
 use Rattle.std.specs.Prelude.{bytes_eq, count_by, sum}
 use Rattle.std.specs.Ordering.{is_eq, nat_cmp}
 use Rattle.std.specs.List.{AllByRecursion, list_any}
-use Rattle.zio_types.specs.declared.request.Kind.{Kind}
 use Rattle.zio_script.specs.declared.builder.Builder.{Builder}
 use Rattle.zio_script.specs.declared.limits.TheConstants.{BATCH_LEN_MAX, NUMBER_MAX}
 use Rattle.zio_script.specs.declared.names.BatchNames.{BatchNames}
 use Rattle.zio_script.specs.declared.open_batch.Mark.{Mark}
 use Rattle.zio_script.specs.declared.open_batch.OpenBatch.{OpenBatch}
 use Rattle.zio_script.specs.declared.open_batch.Stand.{Stand}
-use Rattle.zio_script.specs.declared.open_batch.Stand.TheVariants.{Root, Under, Lost}
 use Rattle.zio_script.specs.declared.script.Item.{Item}
 use Rattle.zio_script.specs.declared.script.Item.TheVariants.{Request as RequestItem}
 use Rattle.zio_script.specs.declared.script.Request.{Request}
-use Rattle.zio_script.specs.declared.script.Script.{Script}
 use Rattle.zio_script.specs.declared.script.Work.{Work}
-use Rattle.zio_script.specs.declared.why.Why.{Why}
 use Rattle.zio_script.specs.declared.why.Why.TheVariants.{Limit, Order, Name, Conflict, Flag, Parent}
-use Rattle.zio_script.specs.Accepted.{AreBehindParents, HasParentIn, IsOrderlyBatch, sizes_in}
+use Rattle.zio_script.specs.Accepted.{AreBehindParents, HasParentIn}
 use Rattle.zio_script.specs.Builders.{AreLimited, IsKept, IsNamed, asked_of, batch_of, script_of}
 use Rattle.zio_script.specs.Grammar.{script_with}
-use Rattle.zio_script.specs.Keys.{AddsName, AreBegun, clash, has_key, name_key}
+use Rattle.zio_script.specs.Keys.{AreBegun, has_key, name_key}
 use Rattle.zio_script.specs.Lines.{NewRequest, RequestLine}
 use Rattle.zio_script.specs.NewLines.{request_made}
-use Rattle.zio_script.specs.OpenBatches.{AddsWork, AddsWorkBy, IsBatch, IsStand, IsStandWithin, depth_at, is_clash, is_clash_by, is_full_at, is_owned_in, is_shared, is_shared_in, mark_in, marks_after, marks_of, must_at, new_mark, size_after, work_len}
+use Rattle.zio_script.specs.OpenBatches.{AddsWork, AddsWorkBy, IsBatch, IsStand, depth_at, is_clash, is_clash_by, is_full_at, is_owned_in, is_shared, is_shared_in, mark_in, marks_after, marks_of, must_at, new_mark, work_len}
 use Rattle.zio_script.specs.Requests.{is_under_number, kind_of, name_of, names_it, requests_of}
-use Rattle.zio_script.specs.Whys.{are_too_large, batch_after, breaks_limit, children_in, clashes, depth_under, falls_back, fits_asked, fits_work, has_bad_parent, if_so, is_claim, is_clear, is_misnamed, is_number, is_number_if, is_read, is_taken, is_write, least_why, may_fail, may_share, must_parent, open_batch, parent_in, request_in, request_whys, says_canfail, shares_with_claim, sizes_with, tells_reads_apart, writes_under}
+use Rattle.zio_script.specs.Whys.{are_too_large, batch_after, breaks_limit, children_in, clashes, depth_under, falls_back, fits_asked, fits_work, has_bad_parent, if_so, is_claim, is_clear, is_misnamed, is_number, is_number_if, is_read, is_taken, least_why, may_fail, may_share, must_parent, parent_in, request_in, request_whys, says_canfail, shares_with_claim, sizes_with, tells_reads_apart, writes_under}
 use Rattle.zio_script.specs.Words.{is_empty, is_name}
 use Rattle.zio_script.proofs.AcceptedLemmas.{lower, no_child_yet, open_passes, parent_there, request_orderly, rising_more, sizes_same, not_under}
 use Rattle.zio_script.proofs.BatchSizeLemmas.{AreSized, TooLarge, Fit, stand_within}

@@ -1,29 +1,20 @@
 -- What the mark of a parent says of the whys of a child, and of the sizes of the batch with it.
-use Rattle.std.proofs.Common.{◌≡◌, ◌≢◌, ◌≤◌, ◌<◌, ◌+◌, ◌-◌, ◌*◌, ℕ, zero, suc, List, [], ◌∷◌, ◌++◌, length, map, fold, reverse, refl, sym, ap, ◌∙◌, subst, Bool, true, false, not, cond, ◌&&◌, ◌||◌, ◌==◌, nat_le, nat_lt, Option, Some, None, slice_index_or, slice_set, arith}
-use Rattle.std.proofs.lemmas.Bool.{and_parts, eqb-true, le-ltb, leb-true, lt-ltb, or_from}
+use Rattle.std.proofs.Common.{◌≡◌, ◌<◌, ◌+◌, ℕ, List, [], ◌∷◌, ◌++◌, length, map, reverse, refl, sym, ap, ◌∙◌, subst, Bool, true, false, not, cond, ◌||◌, ◌==◌, nat_le, nat_lt, Option, Some, None, arith}
+use Rattle.std.proofs.lemmas.Bool.{eqb-true}
 use Rattle.std.proofs.lemmas.Bool.Decides.{nat_tests}
-use Rattle.std.proofs.lemmas.List.{length-append, length-map, map-append}
-use Rattle.std.proofs.lemmas.List.Folds.{list_any-append}
-use Rattle.std.proofs.lemmas.List.Sums.{fold-append}
-use Rattle.std.specs.Prelude.{find, sum}
-use Rattle.std.specs.List.{AllByRecursion, list_any}
+use Rattle.std.proofs.lemmas.List.{length-map}
+use Rattle.std.specs.Prelude.{find}
+use Rattle.std.specs.List.{AllByRecursion}
 use Rattle.zio_types.specs.declared.request.Kind.{Kind}
-use Rattle.zio_blkptr.specs.declared.pointer.TheConstants.{BLOCK_SIZE_MAX}
-use Rattle.zio_script.specs.declared.limits.TheConstants.{BATCH_LEN_MAX, BATCH_SIZE_MAX, CHILDREN_MAX, DEPTH_MAX, POINTER_SIZE}
-use Rattle.zio_script.specs.declared.open_batch.Mark.{Mark}
+use Rattle.zio_script.specs.declared.limits.TheConstants.{CHILDREN_MAX, DEPTH_MAX}
 use Rattle.zio_script.specs.declared.open_batch.OpenBatch.{OpenBatch}
 use Rattle.zio_script.specs.declared.open_batch.Stand.{Stand}
 use Rattle.zio_script.specs.declared.open_batch.Stand.TheVariants.{Root, Under, Lost}
 use Rattle.zio_script.specs.declared.script.Request.{Request}
-use Rattle.zio_script.specs.declared.script.Work.{Work}
-use Rattle.zio_script.specs.declared.script.Work.TheVariants.{Null, Read, Write, Free, Claim}
-use Rattle.zio_script.specs.Accepted.{AreRising, IsInRange, IsOrderlyBatch, sizes_in}
-use Rattle.zio_script.specs.OpenBatches.{IsBatch, IsMarkWithin, IsParentAt, IsStand, IsStandWithin, depth_at, is_full_at, mark_at, mark_in, marked_size, marks_after, marks_of, must_at, no_mark, size_after, size_under, with_child, within, work_len, write_after}
+use Rattle.zio_script.specs.OpenBatches.{IsBatch, IsStand, depth_at, is_full_at, mark_in, marks_after, marks_of, must_at, no_mark}
 use Rattle.zio_script.specs.Requests.{is_under_number, kind_of}
-use Rattle.zio_script.specs.Whys.{are_too_large, body_len, children_in, depth_under, fits_work, has_bad_parent, is_write, levels, may_have, must_parent, parent_in, refuses_child, rounded_up, size_with, sizes_with, writes_under}
-use Rattle.zio_script.proofs.FrontLemmas.{none_passes}
+use Rattle.zio_script.specs.Whys.{children_in, depth_under, has_bad_parent, levels, may_have, must_parent, parent_in}
 use Rattle.zio_script.proofs.MarkLemmas.{NotUnder, depth_of_child, eqb_sym, marks_more, marks_same, marks_set}
-use Rattle.zio_script.proofs.OpenBatchLemmas.{all_at, index_map}
 
 -- ---- where a request stands
 

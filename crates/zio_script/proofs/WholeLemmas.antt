@@ -1,5 +1,5 @@
 -- The lines of a text of any form one after another, and its end.
-use Rattle.std.proofs.Common.{◌≡◌, ◌≤◌, ◌<◌, ◌+◌, ℕ, List, [], ◌∷◌, length, refl, ap, ◌∙◌, subst, true, false, None, Result, arith}
+use Rattle.std.proofs.Common.{◌≡◌, ◌≤◌, ◌<◌, ◌+◌, ℕ, List, [], ◌∷◌, length, refl, ap, ◌∙◌, subst, true, false, Result, arith}
 use Rattle.std.proofs.lemmas.Bool.{le-leb, lt-leb}
 use Rattle.zio_script.specs.declared.builder.Builder.{Builder}
 use Rattle.zio_script.specs.declared.draft.Refusal.{Refusal}

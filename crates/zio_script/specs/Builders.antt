@@ -10,9 +10,8 @@ use Rattle.zio_script.specs.declared.script.Request.{Request}
 use Rattle.zio_script.specs.declared.script.Script.{Script}
 use Rattle.zio_script.specs.declared.script.ScriptError.{ScriptError}
 use Rattle.zio_script.specs.declared.script.ScriptError.TheVariants.{Fault, Memory as NoMemory}
-use Rattle.zio_script.specs.declared.script.ScriptFault.{ScriptFault}
 use Rattle.zio_script.specs.Accepted.{IsOrderlyScript}
-use Rattle.zio_script.specs.Grammar.{IsFaultIn, IsScriptIn, after_words, all_built, ended, fault_for, read_lines, script_with}
+use Rattle.zio_script.specs.Grammar.{IsFaultIn, after_words, all_built, ended, read_lines, script_with}
 use Rattle.zio_script.specs.Lines.{Line, NewRequest}
 use Rattle.zio_script.specs.OpenBatches.{IsBatch, IsStand, IsStandWithin}
 use Rattle.zio_script.specs.Requests.{name_of}

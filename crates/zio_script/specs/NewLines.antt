@@ -1,6 +1,6 @@
 -- What the reader makes of a line of any form, once its words are read: the reader's own words, and nothing that has to be
 -- believed.
-use Rattle.std.specs.Prelude.{◌≡◌, ℕ, List, [], ◌∷◌, ◌++◌, map, Bool, Option, Some, None, option_map}
+use Rattle.std.specs.Prelude.{◌≡◌, ℕ, List, ◌++◌, Bool, Option, Some, None}
 use Rattle.zio_faults.specs.declared.table.Row.{Row}
 use Rattle.zio_script.specs.declared.line.LineFault.{LineFault}
 use Rattle.zio_script.specs.declared.line.LineFault.TheVariants.{NotBuilt, NoShape, NoNumber, Memory}

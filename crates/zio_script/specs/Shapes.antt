@@ -1,5 +1,5 @@
 -- What the reader finds in one line by its words, of any form: the reader's own words, and nothing that has to be believed.
-use Rattle.std.specs.Prelude.{◌≡◌, ◌≤◌, ℕ, List, [], ◌∷◌, ◌++◌, length, map, true, Option, option_map, codes}
+use Rattle.std.specs.Prelude.{◌≡◌, ◌≤◌, List, [], ◌∷◌, ◌++◌, length, map, true, Option, option_map, codes}
 use Rattle.zio_script.specs.declared.fixed.BodyForm.{BodyForm}
 use Rattle.zio_script.specs.declared.fixed.BodyForm.TheVariants.{Data, Fill, Seq}
 use Rattle.zio_script.specs.declared.shapes.LineShape.{LineShape}

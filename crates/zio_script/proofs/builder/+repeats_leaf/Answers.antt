@@ -1,4 +1,4 @@
-use Rattle.std.proofs.Common.{rules, arith}
+use Rattle.std.proofs.Common.{rules}
 use Rattle.zio_script.proofs.BuilderLemmas.{sees_rest}
 use Rattle.zio_script.proofs.builder.+repeats_leaf.Goals as goal
 

@@ -1,4 +1,4 @@
-use Rattle.std.proofs.Common.{◌≡◌, ℕ, List, [], refl, ap, ◌∙◌, rules, arith, Bool, false, ◌||◌}
+use Rattle.std.proofs.Common.{◌≡◌, ℕ, List, [], refl, ap, ◌∙◌, rules, false, ◌||◌}
 use Rattle.zio_script.specs.Builders.{script_of}
 use Rattle.zio_script.specs.Whys.{all_leaves, is_among}
 use Rattle.zio_script.proofs.BuilderLemmas.{kept_top}

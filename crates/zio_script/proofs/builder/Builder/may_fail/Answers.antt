@@ -1,5 +1,4 @@
 use Rattle.zio_script.specs.Builders.{batch_of}
-use Rattle.zio_script.specs.Whys.{tells_reads_apart}
 use Rattle.zio_script.proofs.BatchSizeLemmas.{stand_within}
 use Rattle.zio_script.proofs.builder.Builder.may_fail.Goals as goal
 

@@ -1,12 +1,11 @@
-use Rattle.std.proofs.Common.{◌≡◌, ◌<◌, length, ap, sym, ◌∙◌, rules, arith, true, ◌&&◌}
-use Rattle.std.proofs.lemmas.Bool.{and_parts}
+use Rattle.std.proofs.Common.{◌≡◌, ◌<◌, length, ap, sym, ◌∙◌, rules, arith, true}
 use Rattle.std.proofs.lemmas.List.{length-map}
 use Rattle.zio_script.specs.declared.limits.TheConstants.{BATCH_LEN_MAX}
 use Rattle.zio_script.specs.Builders.{batch_of}
 use Rattle.zio_script.specs.NewLines.{request_as, work_as}
 use Rattle.zio_script.specs.OpenBatches.{mark_in}
 use Rattle.zio_script.specs.Requests.{kind_of}
-use Rattle.zio_script.specs.Whys.{fits_asked, fits_work, is_number, is_number_if, is_write, request_in}
+use Rattle.zio_script.specs.Whys.{fits_asked, is_write, request_in}
 use Rattle.zio_script.proofs.BatchSizeLemmas.{size_is, sizes_within, stand_within}
 use Rattle.zio_script.proofs.RequestLemmas.{fits_parts, limited_is}
 use Rattle.zio_script.proofs.builder.Builder.size_with.Goals as goal

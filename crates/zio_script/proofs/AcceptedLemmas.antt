@@ -48,23 +48,23 @@ none_of_six false false false false false false none = record { limit = refl; or
 
 -- ---- numbers
 
-all_as : {X : Type 0} (P Q : X → Type 0) (xs : List X) → ((x : X) → P x → Q x) → AllByRecursion P xs → AllByRecursion Q xs
+pub all_as : {X : Type 0} (P Q : X → Type 0) (xs : List X) → ((x : X) → P x → Q x) → AllByRecursion P xs → AllByRecursion Q xs
 all_as P Q [] each all = tt
 all_as P Q (x ∷ xs) each all = (each x all.0, all_as P Q xs each all.1)
 
 -- every request before has a lower number
-lower : (rs : List Request) (n : ℕ) → list_any (λ (r : Request). nat_le n r.number) rs ≡ false → AllByRecursion (λ (r : Request). r.number < n) rs
+pub lower : (rs : List Request) (n : ℕ) → list_any (λ (r : Request). nat_le n r.number) rs ≡ false → AllByRecursion (λ (r : Request). r.number < n) rs
 lower rs n none =
     all_as (λ (r : Request). nat_le n r.number ≡ false) (λ (r : Request). r.number < n) rs (λ (r : Request). leb-false n r.number)
     (none_passes (λ (r : Request). nat_le n r.number) rs none)
 
-rising_more : (rs : List Request) (r : Request) → AreRising rs → AllByRecursion (λ (q : Request). q.number < r.number) rs → AreRising (rs ++ r ∷ [])
+pub rising_more : (rs : List Request) (r : Request) → AreRising rs → AllByRecursion (λ (q : Request). q.number < r.number) rs → AreRising (rs ++ r ∷ [])
 rising_more [] r rising all = (tt, tt)
 rising_more (q ∷ rs) r rising all =
     (all_more (λ (p : Request). q.number < p.number) rs r rising.0 all.0, rising_more rs r rising.1 all.1)
 
 -- a test that no request of the lines passes, none of the open batch passes
-open_passes : (test : Request → Bool) (batch : List Request) (items : List Item) → list_any test batch ≡ false → list_any test (requests_of items) ≡ false
+pub open_passes : (test : Request → Bool) (batch : List Request) (items : List Item) → list_any test batch ≡ false → list_any test (requests_of items) ≡ false
     → list_any test (fold batch_after batch items) ≡ false
 open_passes test batch [] none others = none
 open_passes test batch (RequestItem r ∷ items) none others =
@@ -79,7 +79,7 @@ any_some : {X : Type 0} (is any : Bool) (x : X) (found : Option X) → any ≡ i
 any_some true any x found same = refl
 any_some false any x found same = same
 
-any_found : (test : Request → Bool) (rs : List Request) → list_any test rs ≡ is_some (find test rs)
+pub any_found : (test : Request → Bool) (rs : List Request) → list_any test rs ≡ is_some (find test rs)
 any_found test [] = refl
 any_found test (r ∷ rs) = any_some (test r) (list_any test rs) r (find test rs) (any_found test rs)
 
@@ -97,7 +97,7 @@ child_of batch child p (Some parent) found refused deep =
       depth = ltb-false DEPTH_MAX (depth_under batch (Some p)) deep;
     }
 
-parent_there : (batch : List Request) (child : Kind) (under : Option ℕ) → has_bad_parent batch child under ≡ false → HasParentIn batch child under
+pub parent_there : (batch : List Request) (child : Kind) (under : Option ℕ) → has_bad_parent batch child under ≡ false → HasParentIn batch child under
 parent_there batch child None good = tt
 parent_there batch child (Some p) good =
     let refused = refuses_child batch child (parent_in batch (Some p)) in
@@ -121,7 +121,7 @@ any_below [] p n there all = let no : ⊥ = cc in absurd no
 any_below (q ∷ rs) p n there all =
     below_by (q.number == p) q.number p n (list_any (λ (r : Request). r.number == p) rs) refl there all.0 (λ more. any_below rs p n more all.1)
 
-not_under : (kind : Kind) (under : Option ℕ) (before : List Request) (n : ℕ) → HasParentIn before kind under → AllByRecursion (λ (q : Request). q.number < n) before
+pub not_under : (kind : Kind) (under : Option ℕ) (before : List Request) (n : ℕ) → HasParentIn before kind under → AllByRecursion (λ (q : Request). q.number < n) before
     → is_under_number under n ≡ false
 not_under kind None before n there low = refl
 not_under kind (Some p) before n there low =
@@ -141,21 +141,21 @@ none_under before [] n behind low lows = tt
 none_under before (q ∷ batch) n behind low lows =
     (counts_not q before n behind.0 low, none_under (before ++ q ∷ []) batch n behind.1 (all_more (λ (r : Request). r.number < n) before q low lows.0) lows.1)
 
-no_child_yet : (batch : List Request) (r : Request) → AreBehindParents [] batch → HasParentIn batch (kind_of r.work) r.under
+pub no_child_yet : (batch : List Request) (r : Request) → AreBehindParents [] batch → HasParentIn batch (kind_of r.work) r.under
     → AllByRecursion (λ (q : Request). q.number < r.number) batch → writes_under (batch ++ r ∷ []) r.number ≡ 0
 no_child_yet batch r behind there low =
     counts_none (λ (q : Request). is_under q r.number && is_write (kind_of q.work)) 0 (batch ++ r ∷ [])
     (all_more (CountsNot r.number) batch r (none_under [] batch r.number behind tt low) (counts_not r batch r.number there low))
 
 -- the sizes that are tested are those of the batch
-sizes_same : (batch : List Request) (r : Request) → writes_under (batch ++ r ∷ []) r.number ≡ 0 → sizes_in (batch ++ r ∷ []) ≡ sizes_with batch r
+pub sizes_same : (batch : List Request) (r : Request) → writes_under (batch ++ r ∷ []) r.number ≡ 0 → sizes_in (batch ++ r ∷ []) ≡ sizes_with batch r
 sizes_same batch r none =
     map-append (λ (q : Request). size_with (writes_under (batch ++ r ∷ []) q.number) q.work) batch (r ∷ [])
     ∙ ap (λ (n : ℕ). map (λ (q : Request). size_with (writes_under (batch ++ r ∷ []) q.number) q.work) batch ++ size_with n r.work ∷ []) none
 
 -- ---- a batch
 
-empty_orderly : (apart : Bool) → IsOrderlyBatch apart []
+pub empty_orderly : (apart : Bool) → IsOrderlyBatch apart []
 empty_orderly apart = record {
   ranges = tt;
   names = tt;
@@ -179,7 +179,7 @@ claim_more batch r shares there =
     (sym (list_any-append (λ (q : Request). is_claim (kind_of q.work)) batch (r ∷ [])) ∙ there) in
     simp length-append (omega arith)
 
-low_sizes : (sizes : List ℕ) → are_too_large sizes ≡ false → (AllByRecursion (λ n. n ≤ BLOCK_SIZE_MAX) sizes) × (sum sizes ≤ BATCH_SIZE_MAX)
+pub low_sizes : (sizes : List ℕ) → are_too_large sizes ≡ false → (AllByRecursion (λ n. n ≤ BLOCK_SIZE_MAX) sizes) × (sum sizes ≤ BATCH_SIZE_MAX)
 low_sizes sizes fits = (
   all_as (λ n. nat_lt BLOCK_SIZE_MAX n ≡ false) (λ n. n ≤ BLOCK_SIZE_MAX) sizes (ltb-false BLOCK_SIZE_MAX)
       (none_passes (nat_lt BLOCK_SIZE_MAX) sizes (or_left_false (list_any (nat_lt BLOCK_SIZE_MAX) sizes) (nat_lt BATCH_SIZE_MAX (sum sizes)) fits)),
@@ -245,7 +245,7 @@ batches-append_go batch (RequestItem q ∷ items) = batches-append_go (batch ++ 
 batches-append_go batch (Go ∷ items) = ap (λ (bs : List (List Request)). batch ∷ bs) (batches-append_go [] items)
 batches-append_go batch (Clear ∷ items) = batches-append_go batch items
 
-request_orderly : (script : Script) (asked : NewRequest) → IsOrderlyScript script → least_why (whys_of (record { begun = true; script = script }) (RequestLine asked)) ≡ None
+pub request_orderly : (script : Script) (asked : NewRequest) → IsOrderlyScript script → least_why (whys_of (record { begun = true; script = script }) (RequestLine asked)) ≡ None
     → AreOrderly (tells_reads_apart script) (script.items ++ RequestItem (request_in (open_batch script) asked) ∷ [])
 request_orderly script asked orderly none =
     let r = request_in (open_batch script) asked in
@@ -263,14 +263,14 @@ request_orderly script asked orderly none =
       last = rw (fold-append batch_after [] script.items (RequestItem r ∷ [])) batch;
     }
 
-go_orderly : (apart : Bool) (items : List Item) → AreOrderly apart items → AreOrderly apart (items ++ Go ∷ [])
+pub go_orderly : (apart : Bool) (items : List Item) → AreOrderly apart items → AreOrderly apart (items ++ Go ∷ [])
 go_orderly apart items orderly = record {
   rising = rw (requests-append items (Go ∷ []), append-nil (requests_of items)) orderly.rising;
   batches = rw (batches-append_go [] items) (all_more (IsOrderlyBatch apart) (batches_of items) (fold batch_after [] items) orderly.batches orderly.last);
   last = rw (fold-append batch_after [] items (Go ∷ [])) (empty_orderly apart);
 }
 
-clear_orderly : (apart : Bool) (items : List Item) → AreOrderly apart items → AreOrderly apart (items ++ Clear ∷ [])
+pub clear_orderly : (apart : Bool) (items : List Item) → AreOrderly apart items → AreOrderly apart (items ++ Clear ∷ [])
 clear_orderly apart items orderly = record {
   rising = rw (requests-append items (Clear ∷ []), append-nil (requests_of items)) orderly.rising;
   batches = rw (batches-append_clear [] items) orderly.batches;
@@ -287,7 +287,7 @@ no_lines : (apart : Bool) (items : List Item) → not (is_empty items) ≡ false
 no_lines apart [] none = record { rising = tt; batches = tt; last = empty_orderly apart }
 no_lines apart (item ∷ items) none = let no : ⊥ = cc in absurd no
 
-line_orderly : (before : Before) (line : Line) → IsOrderlyScript before.script → least_why (whys_of before line) ≡ None
+pub line_orderly : (before : Before) (line : Line) → IsOrderlyScript before.script → least_why (whys_of before line) ≡ None
     → IsOrderlyScript (script_with before.script line).script
 line_orderly before (FailmodeLine mode) orderly none = orderly
 line_orderly before (LeavesLine leaves sector) orderly none = orderly

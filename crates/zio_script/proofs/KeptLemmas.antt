@@ -127,11 +127,11 @@ plain_of last asked (WriteAccess sum prio body) is short fits above most =
 
 -- ---- names
 
-or_false : (a : Bool) → (a || false) ≡ a
+pub or_false : (a : Bool) → (a || false) ≡ a
 or_false false = refl
 or_false true = refl
 
-or_moved : (kind name others : Bool) → (kind && name || others) ≡ (others || (name && kind || false))
+pub or_moved : (kind name others : Bool) → (kind && name || others) ≡ (others || (name && kind || false))
 or_moved false false others = sym (or_false others)
 or_moved false true others = sym (or_false others)
 or_moved true false others = sym (or_false others)
@@ -148,7 +148,7 @@ key_at a b is = grind (arith, nat_tests)
 chars_of : (name : List ℕ) → is_name name ≡ true → list_all is_name_char name ≡ true
 chars_of name is = (and_parts (nat_le 1 (length name) && nat_le (length name) NAME_LEN_MAX) (list_all is_name_char name) is).1
 
-same_key : (name other : List ℕ) → is_name name ≡ true → is_name other ≡ true → is_eq (nat_cmp (name_key name) (name_key other)) ≡ bytes_eq name other
+pub same_key : (name other : List ℕ) → is_name name ≡ true → is_name other ≡ true → is_eq (nat_cmp (name_key name) (name_key other)) ≡ bytes_eq name other
 same_key name other is there =
     same_from_decides (is_eq (nat_cmp (name_key name) (name_key other))) (bytes_eq name other)
     (λ at. same_name name other (chars_of name is) (chars_of other there) (at_key (name_key name) (name_key other) at), λ same. key_at (name_key name) (name_key other) (ap name_key same))
@@ -167,7 +167,7 @@ rises_by n last number above true is =
     let low : n ≤ last = leb-true n last is in
     sym (le-leb n number (omega arith))
 
-rises_to : (n last number : ℕ) → last + 1 ≤ number → (nat_le n last || (nat_le n number || false)) ≡ nat_le n number
+pub rises_to : (n last number : ℕ) → last + 1 ≤ number → (nat_le n last || (nat_le n number || false)) ≡ nat_le n number
 rises_to n last number above = rises_by n last number above (nat_le n last) refl
 
 -- a request of this name reads the block or not

@@ -51,6 +51,14 @@ impl<T: Drop> From<AllocFailed<T>> for Refusal {
     }
 }
 
+impl From<NoMemory> for Refusal {
+    ghost from_gives = { λ _ e. e ≡ Memory };
+
+    fn from(_refused: NoMemory) -> Refusal {
+        Refusal::Memory
+    }
+}
+
 /// The script of the lines so far, and what the next line is held against.
 #[derive(Drop)]
 pub(crate) struct Draft {
@@ -232,7 +240,7 @@ fn only_top(alloc: Global) -> Result<List<TopLine>, NoMemory>
     Ok(tops)
 }
 
-fn is_skipped(words: &[&[u8]]) -> bool
+pub(crate) fn is_skipped(words: &[&[u8]]) -> bool
     ensures { result ≡ is_skipped (map (λ w. w.now) words.now) }
 {
     match words.first() {
@@ -241,7 +249,7 @@ fn is_skipped(words: &[&[u8]]) -> bool
     }
 }
 
-fn refusal_of(fault: LineFault) -> Refusal
+pub(crate) fn refusal_of(fault: LineFault) -> Refusal
     ensures { result ≡ refusal_of fault }
 {
     match fault {

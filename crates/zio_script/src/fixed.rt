@@ -2,9 +2,12 @@
 ghost use Rattle.std.specs.Prelude.{◌≡◌, [], ◌∷◌};
 ghost use Rattle.zio_script.specs.Built.{is_built_by, tail_forms};
 ghost use Rattle.zio_script.specs.Reading.{body_form_words, line_words};
-ghost use Rattle.zio_script.specs.Words.{kind_words, read_classes, sum_words, value_in, write_classes};
+ghost use Rattle.zio_script.specs.Words.{failmode_words, fault_words, flag_words, is_word, kind_words, operation_words, read_classes, sum_words, value_in, write_classes};
+ghost use Rattle.std.specs.Prelude.{codes};
 
+use crate::Failmode;
 use zio_blkptr::SumKind;
+use zio_faults::{FaultKind, On};
 use zio_types::{Kind, Prio};
 
 /// The first word of a line that is no request.
@@ -111,4 +114,72 @@ pub(crate) fn begins_no_tail(word: &[u8]) -> bool
         b"under" | b"must" | b"canfail" => false,
         _ => true,
     }
+}
+
+/// What a run does where a tree can't go on.
+pub(crate) fn failmode_in(word: &[u8]) -> Option<Failmode>
+    ensures { result ≡ value_in failmode_words word.now }
+{
+    match word {
+        b"wait" => Some(Failmode::Wait),
+        b"continue" => Some(Failmode::Continue),
+        b"panic" => Some(Failmode::Panic),
+        _ => None,
+    }
+}
+
+/// The operations that a row of the fault table is for.
+pub(crate) fn operation_in(word: &[u8]) -> Option<On>
+    ensures { result ≡ value_in operation_words word.now }
+{
+    match word {
+        b"read" => Some(On::Read),
+        b"write" => Some(On::Write),
+        b"any" => Some(On::Any),
+        _ => None,
+    }
+}
+
+/// What an operation that meets a row does.
+pub(crate) fn fault_in(word: &[u8]) -> Option<FaultKind>
+    ensures { result ≡ value_in fault_words word.now }
+{
+    match word {
+        b"eio" => Some(FaultKind::Eio),
+        b"gone" => Some(FaultKind::Gone),
+        b"flip" => Some(FaultKind::Flip),
+        _ => None,
+    }
+}
+
+/// Whether a request may fail, by its flag.
+pub(crate) fn flag_in(word: &[u8]) -> Option<bool>
+    ensures { result ≡ value_in flag_words word.now }
+{
+    match word {
+        b"must" => Some(false),
+        b"canfail" => Some(true),
+        _ => None,
+    }
+}
+
+/// The word stands before the number of a parent.
+pub(crate) fn is_under(word: &[u8]) -> bool
+    ensures { result ≡ is_word (codes "under") word.now }
+{
+    matches!(word, b"under")
+}
+
+/// The word stands before the size of a top's sectors.
+pub(crate) fn is_sector(word: &[u8]) -> bool
+    ensures { result ≡ is_word (codes "sector") word.now }
+{
+    matches!(word, b"sector")
+}
+
+/// The word marks a row that a retry pass doesn't meet.
+pub(crate) fn is_first(word: &[u8]) -> bool
+    ensures { result ≡ is_word (codes "first") word.now }
+{
+    matches!(word, b"first")
 }

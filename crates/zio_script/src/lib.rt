@@ -9,19 +9,26 @@
 #![tactic(auto)]
 
 mod body;
+mod builder;
 mod built;
 mod draft;
 mod fixed;
 mod laws;
 mod limits;
 mod line;
+mod lines;
 mod name;
 mod names;
+mod open_batch;
+mod ranges;
 mod read;
 mod script;
 mod shape;
+mod shapes;
 #[cfg(test)]
 mod tests;
+mod values;
+mod whole;
 mod why;
 mod word;
 mod work;
@@ -36,4 +43,5 @@ pub use limits::{
 pub use name::{NAME_LEN_MAX, Name};
 pub use read::{SCRIPT_LEN_MAX, read_script};
 pub use script::{Body, Failmode, Item, Request, Script, ScriptError, ScriptFault, TopLine, Work};
+pub use whole::read_whole_script;
 pub use why::Why;

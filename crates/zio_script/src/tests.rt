@@ -2,6 +2,7 @@
 
 use crate::{
     Body, Item, SCRIPT_LEN_MAX, Script, ScriptError, ScriptFault, body_bytes, read_script,
+    read_whole_script,
 };
 use std::alloc::Global;
 use std::process::Abort;
@@ -164,6 +165,145 @@ fn scripts_are_read(rt: HostRuntime) -> Result<(), Fail> {
         ),
     ] {
         match read_script(alloc, text) {
+            Ok(script) => assert_eq!(rt; letters(alloc, &script)?.as_str(), items),
+            Err(_) => return Err(Fail::from("a fault")),
+        }
+    }
+    Ok(())
+}
+
+/// Texts of any form, each with its first faulty line and the least why.
+const FAULTY_WHOLE: &[(&[u8], u32, u32)] = &[
+    (b"", 1, 9),
+    (b"top 0\n1 wri", 2, 1),
+    (b"top\n", 1, 1),
+    (b"top 0 1 2 3 4\n", 1, 1),
+    (b"top 0\nfault 0 read 0 1 0 1 eio second\n", 2, 1),
+    (b"top 0\n1 claim x 00 must\n", 2, 1),
+    (b"top 0\n1 null under 1 must now\n", 2, 1),
+    (b"top sector 512\n", 1, 2),
+    (b"top 0\n1 null under p\n", 2, 2),
+    (b"top 0\n1 claim x 0\n", 2, 2),
+    (b"top 0 sector 768\n", 1, 3),
+    (b"top 16\n", 1, 3),
+    (b"top 0\nfault 0 read 0 1 1 1 eio\n", 2, 3),
+    (b"top 0\n1 claim x 00\ngo\n", 2, 3),
+    (
+        b"top 0\n1 write x fletcher4 1 async fill 41 1048577\ngo\n",
+        2,
+        3,
+    ),
+    (b"top 0\n1 write x off 4 sync fill 41 1\ngo\n", 2, 3),
+    (
+        b"top 0\n1 write p off 1 sync fill 00 1048576\n2 write c off 1 sync fill 00 1 under 1\ngo\n",
+        3,
+        3,
+    ),
+    (b"top 0\nfailmode wait\n", 2, 4),
+    (b"failmode wait\nfailmode wait\n", 2, 4),
+    (b"fault 0 read 0 1 0 1 eio\n", 1, 4),
+    (b"top 0\n1 null", 3, 4),
+    (b"top 0\n1 null\nclear\n", 3, 4),
+    (b"top 0\n1 free X\ngo\n", 2, 5),
+    (b"top 0\n1 read x sync\n2 free x\ngo\n", 3, 6),
+    (
+        b"top 0 1\nfault 0 write 0 65536 0 1 eio first\n1 write x sha256 1 sync fill 41 512\ngo\nclear\n2 read x sync\n3 read x sync\ngo\n",
+        7,
+        6,
+    ),
+    (
+        b"top 0\n1 null must\n2 read x sync under 1 canfail\ngo\n",
+        3,
+        7,
+    ),
+    (b"top 0\n1 free x\n2 null under 1 canfail\ngo\n", 3, 7),
+    (b"top 0\n1 free x\n2 null under 1\ngo\n", 3, 8),
+    (b"top 0\n1 null under 2\ngo\n", 2, 8),
+    (
+        b"top 0\n1 write p off 1 sync fill 00 512\n2 read a sync under 1\ngo\n",
+        3,
+        8,
+    ),
+    (b"top 0 0\n", 1, 9),
+    (b"top 0\ntop 1 0\n", 2, 9),
+    (b"top 0\nfault 1 read 0 1 0 1 eio\n", 2, 9),
+];
+
+/// A claim's pointer: 256 digits, all zeros.
+const POINTER: &str = "0000000000000000000000000000000000000000000000000000000000000000\
+0000000000000000000000000000000000000000000000000000000000000000\
+0000000000000000000000000000000000000000000000000000000000000000\
+0000000000000000000000000000000000000000000000000000000000000000";
+
+/// The text, whichever of its forms are run, has this fault.
+fn refuses_whole(
+    rt: &impl Abort,
+    alloc: Global,
+    text: &[u8],
+    line: u32,
+    why: u32,
+) -> Result<(), Fail> {
+    let Err(ScriptError::Fault(fault)) = read_whole_script(alloc, text) else {
+        return Err(Fail::from("a script, or no memory"));
+    };
+    assert_eq!(rt; fault, ScriptFault { line, why });
+    Ok(())
+}
+
+#[test]
+fn texts_of_any_form_are_refused_by_their_least_why(rt: HostRuntime) -> Result<(), Fail> {
+    let alloc = rt.alloc();
+    for (text, line, why) in FAULTY_WHOLE {
+        refuses_whole(&rt, alloc, text, *line, *why)?;
+    }
+    let beside = format!(in alloc; "top 0\n1 null\n2 claim x {POINTER}\ngo\n")?;
+    refuses_whole(&rt, alloc, beside.as_bytes(), 3, 8)?;
+    let behind = format!(in alloc; "top 0\n1 claim x {POINTER}\n2 null\ngo\n")?;
+    refuses_whole(&rt, alloc, behind.as_bytes(), 3, 8)?;
+    let mut deep = String::from_str(alloc, "top 0\n1 null\n")?;
+    for i in 2..18u32 {
+        let line = format!(in alloc; "{i} null under {}\n", i - 1)?;
+        deep.push_str(line.as_str())?;
+    }
+    refuses_whole(&rt, alloc, deep.as_bytes(), 18, 8)?;
+    let mut full = String::from_str(alloc, "top 0\n1 null\n")?;
+    for i in 2..258u32 {
+        let line = format!(in alloc; "{i} null under 1\n")?;
+        full.push_str(line.as_str())?;
+    }
+    refuses_whole(&rt, alloc, full.as_bytes(), 258, 8)?;
+    let mut large = String::from_str(alloc, "top 0\n")?;
+    for i in 1..18u32 {
+        let line = format!(in alloc; "{i} write b{i} off 1 sync fill 00 1048576\n")?;
+        large.push_str(line.as_str())?;
+    }
+    refuses_whole(&rt, alloc, large.as_bytes(), 18, 3)
+}
+
+#[test]
+fn scripts_of_any_form_are_read(rt: HostRuntime) -> Result<(), Fail> {
+    let alloc = rt.alloc();
+    let claim = format!(in alloc; "top 0 1 sector 4096\n1 claim x {POINTER}\ngo\n")?;
+    for (text, items) in [
+        (claim.as_bytes(), "rg"),
+        (
+            b"failmode panic\ntop 0\ntop 1 2 3 4\nfault 4 any 0 268435456 0 65535 flip first\n1 free a\ngo\nclear\nclear\n",
+            "rgcc",
+        ),
+        (
+            b"top 0\n1 null canfail\n2 read x sync under 1 must\ngo\n",
+            "rrg",
+        ),
+        (
+            b"top 0 1\nfault 0 write 0 65536 0 1 eio\n1 write x sha256 2 sync fill 41 512\ngo\nclear\n2 read x sync\n3 read x sync\ngo\n",
+            "rgcrrg",
+        ),
+        (
+            b"top 0\n1 write p off 1 sync fill 00 512\n2 write a sha256 1 sync fill 41 512 under 1\n3 write b fletcher4 3 sync data 4A4b under 1\ngo\n4 read p sync\ngo\n",
+            "rrrgrg",
+        ),
+    ] {
+        match read_whole_script(alloc, text) {
             Ok(script) => assert_eq!(rt; letters(alloc, &script)?.as_str(), items),
             Err(_) => return Err(Fail::from("a fault")),
         }

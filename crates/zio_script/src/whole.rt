@@ -1,0 +1,36 @@
+//! The reader of the whole language: a text's lines in turn, each after those before it.
+ghost use Rattle.std.specs.Prelude.{IfErr, IfOk};
+ghost use Rattle.zio_script.specs.Builders.{IsReason};
+ghost use Rattle.zio_script.specs.Grammar.{IsScriptIn, all_built};
+
+use crate::builder::Builder;
+use crate::draft::Refusal;
+use crate::read::SCRIPT_LEN_MAX;
+use crate::word::{next_line, split_words};
+use crate::{Script, ScriptError, Why};
+use std::alloc::Global;
+
+/// The script that a text is, whichever of its forms are run so far, or its first faulty line with the number of the
+/// least `Why`, which is never `NotYet`. Line 0 says that the text has more than `SCRIPT_LEN_MAX` bytes; a fault at the
+/// end has the number after the last line's.
+pub fn read_whole_script(alloc: Global, bytes: &[u8]) -> Result<Script, ScriptError>
+    ensures script { IfOk result (IsScriptIn all_built bytes.now) }
+    ensures fault { IfErr result (IsReason bytes.now) }
+{
+    if bytes.len() > SCRIPT_LEN_MAX {
+        return Err(Refusal::Faulty(Why::Limit).at(0));
+    }
+    let mut builder = Builder::new(alloc);
+    let mut words = Vec::new(alloc);
+    let mut rest = bytes;
+    let mut line = 1;
+    while let Some((first, behind)) = next_line(rest) {
+        split_words(first, &mut words)?;
+        if let Err(refusal) = builder.add_words(alloc, &words) {
+            return Err(refusal.at(line));
+        }
+        rest = behind;
+        line += 1;
+    }
+    builder.finish(line)
+}

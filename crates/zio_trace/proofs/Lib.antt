@@ -40,7 +40,6 @@ pub mod RoundEnds
 pub mod RoundLemmas
 pub mod SeparateLemmas
 pub mod SettleLemmas
-pub mod StayLemmas
 pub mod StepLemmas
 pub mod TaskFootprints
 pub mod TaskLemmas

@@ -1,8 +1,7 @@
 -- Which requests of a batch run, and which are answered.
-use Rattle.std.proofs.Common.{◌≡◌, ℕ, suc, ◌<◌, List, [], ◌∷◌, ◌++◌, map, filter, slice_get, Bool, true, false, ◌&&◌, ◌||◌, not, cond, Option, Some, None, is_none, eqb, eq-eqb, refl, sym, ap, ◌∙◌, subst}
+use Rattle.std.proofs.Common.{◌≡◌, ℕ, suc, ◌<◌, List, [], ◌∷◌, ◌++◌, map, filter, Bool, true, false, ◌&&◌, ◌||◌, not, cond, Option, Some, None, is_none, eqb, eq-eqb, refl, sym, ap, ◌∙◌, subst}
 use Rattle.std.proofs.lemmas.Bool.{false_from_ne_true}
 use Rattle.std.specs.List.{AllByRecursion, list_any}
-use Rattle.std.specs.Map.{lookup}
 use Rattle.std.specs.Option.{option_map}
 use Rattle.zio_types.specs.declared.error.Errno.{Errno}
 use Rattle.zio_script.specs.declared.script.Item.{Item}
@@ -10,7 +9,7 @@ use Rattle.zio_script.specs.declared.script.Request.{Request}
 use Rattle.zio_script.specs.Accepted.{AreRising}
 use Rattle.zio_script.specs.Requests.{changes_pool, makes_block, name_of, names_it, needs_block, requests_of}
 use Rattle.zio_gang.specs.Attempts.{Pending}
-use Rattle.zio_gang.specs.Rounds.{Admitted, admission, admit_with, admitted, answered_with, first_rule, is_awaited, is_blocked, passes, trees_of}
+use Rattle.zio_gang.specs.Rounds.{Admitted, admission, admit_with, admitted, first_rule, is_awaited, is_blocked, passes, trees_of}
 use Rattle.zio_gang.specs.Runs.{has_trees}
 use Rattle.zio_course.specs.declared.admission.Rules.{Rules}
 use Rattle.zio_course.specs.Admissions.{IsAdmission, StandsOnce, error_at, error_by, error_in, has_number, rules_in, slot_if, slot_of}

@@ -1,5 +1,5 @@
 -- A whole round as the round of a batch.
-use Rattle.std.proofs.Common.{◌≡◌, ℕ, List, map, OnErr, Result, Ok, Err, refl, sym, ap, ◌∙◌, subst}
+use Rattle.std.proofs.Common.{◌≡◌, ℕ, List, OnErr, Result, Ok, Err, subst}
 use Rattle.zio_types.specs.declared.journal.Completion.{Completion}
 use Rattle.zio_types.specs.declared.journal.Journal.{Journal}
 use Rattle.zio_script.specs.declared.script.Failmode.{Failmode}

@@ -1,11 +1,11 @@
-use Rattle.std.proofs.Common.{◌≡◌, ℕ, List, [], ◌∷◌, ◌++◌, reverse, Option, refl, ap, sym, subst, ◌∙◌}
+use Rattle.std.proofs.Common.{◌≡◌, ℕ, List, [], ◌∷◌, ◌++◌, reverse, Option, refl, ap, sym, ◌∙◌}
 use Rattle.std.proofs.lemmas.List.{append-nil}
 use Rattle.zio_types.specs.declared.error.Errno.{Errno}
 use Rattle.zio_script.specs.declared.script.Item.{Item}
 use Rattle.zio_script.specs.declared.script.Request.{Request}
 use Rattle.zio_script.specs.Requests.{requests_of}
 use Rattle.zio_course.specs.Admissions.{error_in}
-use Rattle.zio_course.specs.Answered.{answered_by, answered_in}
+use Rattle.zio_course.specs.Answered.{answered_in}
 use Rattle.zio_course.proofs.AnsweredLemmas.{answered_next, requests_split}
 use Rattle.zio_course.proofs.answered.answered_ends.Goals as goal
 

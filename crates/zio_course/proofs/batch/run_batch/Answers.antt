@@ -1,4 +1,4 @@
-use Rattle.std.proofs.Common.{◌≡◌, ℕ, ◌+◌, List, map, reverse, Option, refl, sym, ap, subst, ◌∙◌, inr}
+use Rattle.std.proofs.Common.{ℕ, ◌+◌, List, map, reverse, Option, refl, sym, ap, subst, ◌∙◌, inr}
 use Rattle.zio_types.specs.declared.error.Errno.{Errno}
 use Rattle.zio_types.specs.declared.journal.Completion.{Completion}
 use Rattle.zio_script.specs.declared.script.Request.{Request}
@@ -12,7 +12,6 @@ use Rattle.zio_course.specs.declared.runner.Finished.{Finished}
 use Rattle.zio_course.specs.Admissions.{error_in}
 use Rattle.zio_course.specs.Answered.{answered_in}
 use Rattle.zio_course.specs.Forests.{names_of, running}
-use Rattle.zio_course.specs.Names.{named_in}
 use Rattle.zio_course.specs.Runners.{numbers_of, requests_in}
 use Rattle.zio_course.specs.Told.{AreFinishedOf, ended_told, line_told}
 use Rattle.zio_course.proofs.BatchLemmas.{Whole, on_err, whole_moved}

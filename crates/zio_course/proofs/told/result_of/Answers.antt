@@ -1,7 +1,5 @@
-use Rattle.std.proofs.Common.{◌≡◌, ℕ, List, Some, None, refl, ap, sym, ◌∙◌}
+use Rattle.std.proofs.Common.{ℕ, List, Some, None, refl, ap, ◌∙◌}
 use Rattle.zio_gang.specs.declared.tree.Tree.{Tree}
-use Rattle.zio_gang.specs.Rounds.{block_of, bound_by}
-use Rattle.zio_course.specs.Forests.{names_of}
 use Rattle.zio_course.specs.Names.{named_in}
 use Rattle.zio_course.proofs.PlantLemmas.{named_of}
 use Rattle.zio_course.proofs.ToldLemmas.{bound_out, bound_put, failed_bound, finish_bound}

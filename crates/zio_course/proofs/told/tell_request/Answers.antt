@@ -1,4 +1,4 @@
-use Rattle.std.proofs.Common.{◌≡◌, ℕ, List, Option, Some, None, ap, sym, ◌∙◌}
+use Rattle.std.proofs.Common.{Option, None, ap, sym, ◌∙◌}
 use Rattle.zio_types.specs.declared.error.Errno.{Errno}
 use Rattle.zio_gang.specs.Rounds.{block_of, bound_after}
 use Rattle.zio_course.specs.declared.runner.Finished.{Finished}

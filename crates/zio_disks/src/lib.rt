@@ -1,9 +1,11 @@
-//! Several disks by the numbers of their leaves: reads of a block's copies with repairs, and writes of a piece.
+//! Several disks by the numbers of their leaves: reads of a block's copies with repairs, writes of a piece, and whole
+//! blocks with the gang headers under their pointers.
 //!
-//! It stands on the outside, and on the definitions of `zio_cksum`. Read `read_block` and `write_piece` first:
-//! where the disks tell their images they do what these definitions say, and whatever a disk tells and however a call
-//! ends, nothing changes outside the places that it was given. `specs/Disks` says what several disks tell,
-//! `specs/Copies` what a good copy is.
+//! It stands on the outside, and on the definitions of `zio_cksum` and `zio_gang`. Read `read_block` and `write_piece`
+//! first, then `read_tree` and `free_tree`: where the disks tell their images these calls do what the definitions of
+//! their names say, and whatever a disk tells and however a call ends, nothing changes outside the places that it was
+//! given. `specs/Disks` says what several disks tell, `specs/Copies` what a good copy is, and `specs/Trees` which disks
+//! bear the tops of a setting.
 #![tactic(auto)]
 
 mod bodies;

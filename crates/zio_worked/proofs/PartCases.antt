@@ -1,6 +1,6 @@
 use Rattle.std.proofs.Common.{refl}
 use Rattle.zio_worked.proofs.Evaluation.{evaluation}
-use Rattle.zio_worked.specs.Parts.{EntryAnswersItsOwnAsk, WorstErrorOfAFreeCounts, FailedHeaderKeepsBodiesUnread, SummaryCounts, SummaryShowsNoRound, EachRoundShowsItsOwnJournal, BirthIsTheBatch, HeaderIsForItsFirstPlaceAndBirth, SuspendedTreesGoByNumber, FailedFreeKeepsItsName, WorstErrorOfAPlaceCounts, BitsOfAllChildrenCount, HeldBatchIsLeft, HeadersAreKeptByPath, HeaderThatIsntKeptIsBad, TreesStandByTheirRoots, PathsHavePoints}
+use Rattle.zio_worked.specs.Parts.{EntryAnswersItsOwnAsk, WorstErrorOfAFreeCounts, FailedHeaderKeepsBodiesUnread, SummaryCounts, SummaryShowsNoRound, EachRoundShowsItsOwnJournal, BirthIsTheBatch, HeaderIsForItsFirstPlaceAndBirth, SuspendedTreesGoByNumber, FailedFreeKeepsItsName, WorstErrorOfAPlaceCounts, BitsOfAllChildrenCount, HeldBatchIsLeft, HeadersAreKeptByPath, HeaderThatIsntKeptIsBad, TreesStandByTheirRoots, PathsHavePoints, EachMemberHasItsPath, TopHasWholeUnits, ReadsAnswerByTheKindOfTheirRow, WritesAnswerByTheKindOfTheirRow}
 
 pub entry_answers_its_own_ask : EntryAnswersItsOwnAsk
 unfolding evaluation
@@ -69,3 +69,19 @@ trees_stand_by_their_roots = refl
 pub paths_have_points : PathsHavePoints
 unfolding evaluation
 paths_have_points = refl
+
+pub each_member_has_its_path : EachMemberHasItsPath
+unfolding evaluation
+each_member_has_its_path = refl
+
+pub top_has_whole_units : TopHasWholeUnits
+unfolding evaluation
+top_has_whole_units = refl
+
+pub reads_answer_by_the_kind_of_their_row : ReadsAnswerByTheKindOfTheirRow
+unfolding evaluation
+reads_answer_by_the_kind_of_their_row = refl
+
+pub writes_answer_by_the_kind_of_their_row : WritesAnswerByTheKindOfTheirRow
+unfolding evaluation
+writes_answer_by_the_kind_of_their_row = refl

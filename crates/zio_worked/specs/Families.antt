@@ -1,5 +1,5 @@
 -- Requests under requests: what a parent takes of its children, and how a family finishes.
-use Rattle.std.specs.Prelude.{◌≡◌, ℕ, List, [], ◌∷◌, ◌++◌, map, take, replicate, false, codes}
+use Rattle.std.specs.Prelude.{◌≡◌, ℕ, ◌+◌, ◌*◌, List, [], ◌∷◌, ◌++◌, map, take, replicate, false, codes}
 use Rattle.zio_types.specs.declared.journal.Role.TheVariants.{Body, Head}
 use Rattle.zio_types.specs.Choices.{Choice, no_place}
 use Rattle.zio_blkptr.specs.declared.pointer.Bp.{Bp}
@@ -18,7 +18,7 @@ use Rattle.zio_cksum.specs.Images.{Images}
 use Rattle.zio_gang.specs.Journals.{asks_of}
 use Rattle.zio_gang.specs.Rounds.{trees_of}
 use Rattle.zio_script.specs.Requests.{requests_of}
-use Rattle.zio_worked.specs.Scripts.{script, write, read, null, under, can_fail, can_fail_under, fault, fault_over, choice, place, report, zeros, lines, asks_in, bytes_read, images_after}
+use Rattle.zio_worked.specs.Scripts.{script, write, read, null, under, can_fail, can_fail_under, fault, fault_over, choice, place, report, sectors_of, zeros, lines, asks_in, bytes_read, images_after}
 
 -- ---- a write over two writes
 
@@ -153,6 +153,27 @@ ChildGoesAgain =
 -- the child that finished isn't asked for again; b and its parent are in each attempt
 abbrev pub FinishedChildIsKept : Type 0
 FinishedChildIsKept = asks_in again_script again_images again_choices ≡ asks_of again_choices
+
+-- b's two copies in an attempt, at this sector of the first top and that of the second
+abbrev pub pointer_to_b : ℕ → ℕ → Bp
+pointer_to_b first second = record (pointer_to first) {
+  count = 2;
+  places = place 0 first 1 ∷ place 1 second 1 ∷ no_place ∷ [];
+}
+
+-- what an attempt of the first round leaves on the first top: b's first copy, and p behind it
+abbrev pub attempt_left : ℕ → List ℕ
+attempt_left n =
+    sectors_of 1 66
+    ++ spelling (pointer_to 0) ++ spelling (pointer_to_b (3 * n + 1) n) ++ sectors_of 1 112 ++ zeros 256
+
+-- In each attempt p has the pointers of both children: that of a, which finished in the first one, and that of b from
+-- this one, though b goes again.
+abbrev pub EachAttemptHasItsPointers : Type 0
+EachAttemptHasItsPointers =
+    images_after (record again_script { items = take 4 again_script.items }) again_images again_choices
+    ≡ (sectors_of 1 65 ++ attempt_left 0 ++ attempt_left 1 ++ attempt_left 2 ++ attempt_left 3 ++ zeros 1536)
+    ∷ zeros 8192 ∷ []
 
 -- ---- errors of children
 

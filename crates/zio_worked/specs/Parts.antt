@@ -1,14 +1,14 @@
 -- Single definitions, where a whole run wouldn't tell a wrong one.
-use Rattle.std.specs.Prelude.{◌≡◌, ℕ, List, [], ◌∷◌, ◌++◌, map, codes, replicate, true, false, Option, Some, None, Err, option_map}
+use Rattle.std.specs.Prelude.{◌≡◌, ℕ, List, [], ◌∷◌, ◌++◌, map, codes, replicate, true, false, Option, Some, None, Ok, Err, option_map}
 use Rattle.zio_types.specs.declared.error.Errno.{Errno}
-use Rattle.zio_types.specs.declared.error.Errno.TheVariants.{Cksum, Io}
+use Rattle.zio_types.specs.declared.error.Errno.TheVariants.{Cksum, Io, Nxio}
 use Rattle.zio_types.specs.declared.journal.Role.TheVariants.{Body, Head}
 use Rattle.zio_types.specs.declared.place.Place.{Place}
 use Rattle.zio_types.specs.declared.request.Bits.{Bits}
 use Rattle.zio_types.specs.Choices.{Choice}
 use Rattle.zio_blkptr.specs.declared.pointer.Bp.{Bp}
 use Rattle.zio_blkptr.specs.declared.pointer.SumKind.TheVariants.{Off}
-use Rattle.zio_faults.specs.declared.table.FaultKind.TheVariants.{Eio, Gone}
+use Rattle.zio_faults.specs.declared.table.FaultKind.TheVariants.{Eio, Gone, Flip}
 use Rattle.zio_faults.specs.declared.table.On.TheVariants.{Read as OnRead, Write as OnWrite}
 use Rattle.zio_faults.specs.declared.table.Row.{Row}
 use Rattle.zio_script.specs.declared.script.Failmode.TheVariants.{Wait, Continue}
@@ -18,13 +18,13 @@ use Rattle.zio_script.specs.declared.script.Script.{Script}
 use Rattle.zio_script.specs.declared.script.Work.TheVariants.{Free, Null}
 use Rattle.zio_cksum.specs.Blocks.{write_place}
 use Rattle.zio_cksum.specs.Headers.{header_of}
-use Rattle.zio_cksum.specs.Images.{Setting}
+use Rattle.zio_cksum.specs.Images.{Images, Setting, Spot, read_leaf, write_leaf}
 use Rattle.zio_gang.specs.declared.ending.Ending.TheVariants.{Left}
 use Rattle.zio_gang.specs.declared.tree.Head.{Head as KeptHead}
 use Rattle.zio_gang.specs.declared.tree.Tree.{Tree}
 use Rattle.zio_gang.specs.Attempts.{Ended, Return, bits_of}
 use Rattle.zio_gang.specs.Rounds.{bound_after, is_bound, trees_of}
-use Rattle.zio_gang.specs.Runs.{Course, Round, ending, run_script, start_state}
+use Rattle.zio_gang.specs.Runs.{Course, Round, ending, run_script, start_state, top_of}
 use Rattle.zio_gang.specs.Trees.{free_tree, kept_at, read_tree}
 use Rattle.zio_gang.specs.Writes.{Writing, Members, chosen, gang_header}
 use Rattle.zio_report.specs.declared.report.Show.TheVariants.{Summary}
@@ -32,7 +32,7 @@ use Rattle.zio_report.specs.Lines.{path_text, round_text}
 use Rattle.zio_report.specs.Reports.{run_text, text_so_far}
 use Rattle.zio_worked.specs.Claims.{image_with, claimed_tree, gang_of_one_at}
 use Rattle.zio_worked.specs.Reads.{one_top, gone_and_eio, header_of_gangs, tree_of_gangs}
-use Rattle.zio_worked.specs.Scripts.{script, write, read, must, fault, fault_over, pointer_after, rounds_in, choice, place, one_leaf, sectors_of, zeros, no_sum, two_copies_at, header_with, report_with_journal, completion, lines}
+use Rattle.zio_worked.specs.Scripts.{script, write, read, must, fault, fault_over, pointer_after, rounds_in, choice, place, one_leaf, sectors_of, zeros, no_sum, one_copy_at, two_copies_at, header_with, report_with_journal, completion, lines}
 
 -- ---- asks
 
@@ -95,6 +95,30 @@ HeaderThatIsntKeptIsBad =
     read_tree (one_top []) (record claimed_tree { heads = [] }) (image_with header_of_both)
     ≡ record { found = Err Cksum; images = image_with header_of_both }
 
+-- a header of one member, which stands at this sector
+abbrev pub header_to_one : ℕ → List ℕ
+header_to_one sector = header_with (one_copy_at sector ++ zeros 256) no_sum
+
+-- the gangs at the sectors 5 and 6 have members at the sectors 0 and 1
+abbrev pub tree_of_members : Tree
+tree_of_members = record claimed_tree {
+  heads =
+      record { path = []; bytes = header_of_gangs }
+      ∷ record { path = 0 ∷ []; bytes = header_to_one 0 }
+      ∷ record { path = 1 ∷ []; bytes = header_to_one 1 } ∷ [];
+}
+
+abbrev pub image_of_members : Images
+image_of_members =
+    (sectors_of 1 65 ++ sectors_of 1 66 ++ sectors_of 1 7 ++ header_of_gangs ++ sectors_of 1 7
+    ++ header_to_one 0 ++ header_to_one 1 ++ sectors_of 1 7) ∷ []
+
+-- each member has its own path, and its header is good where it equals the one kept there
+abbrev pub EachMemberHasItsPath : Type 0
+EachMemberHasItsPath =
+    read_tree (one_top []) tree_of_members image_of_members
+    ≡ record { found = Ok (sectors_of 1 65 ++ sectors_of 1 66); images = image_of_members }
+
 -- ---- trees
 
 abbrev pub null_under : ℕ → Option ℕ → Request
@@ -130,6 +154,39 @@ abbrev pub BitsOfAllChildrenCount : Type 0
 BitsOfAllChildrenCount =
     bits_of (return_with (record { now = true; suspend = false }) ∷ return_with (record { now = false; suspend = true }) ∷ [])
     ≡ record { now = true; suspend = true }
+
+-- ---- devices
+
+-- leaves of 19 sectors, and of 13 and a rest
+abbrev pub unequal_leaves : Images
+unequal_leaves = zeros 9728 ∷ zeros 6756 ∷ []
+
+-- a mirror has the whole units of its smaller leaf, in either order
+abbrev pub TopHasWholeUnits : Type 0
+TopHasWholeUnits =
+    map (λ leaves. map (λ unit. (top_of unequal_leaves (record { leaves = leaves; unit = unit })).sectors) (1 ∷ 2 ∷ 4 ∷ 8 ∷ []))
+    ((0 ∷ 1 ∷ []) ∷ (1 ∷ 0 ∷ []) ∷ (0 ∷ []) ∷ [])
+    ≡ (13 ∷ 12 ∷ 12 ∷ 8 ∷ []) ∷ (13 ∷ 12 ∷ 12 ∷ 8 ∷ []) ∷ (19 ∷ 18 ∷ 16 ∷ 16 ∷ []) ∷ []
+
+-- the one sector of leaf 0
+abbrev pub whole_leaf : Spot
+whole_leaf = record { leaf = 0; at = 0; span = 512 }
+
+-- a read answers EIO, ENXIO or the turned bytes
+abbrev pub ReadsAnswerByTheKindOfTheirRow : Type 0
+ReadsAnswerByTheKindOfTheirRow =
+    map (λ kind. read_leaf (one_mirror (fault 0 OnRead 0 1 kind ∷ [])) false (sectors_of 1 7 ∷ []) 512 whole_leaf)
+    (Eio ∷ Gone ∷ Flip ∷ [])
+    ≡ Err Io ∷ Err Nxio ∷ Ok (sectors_of 1 248) ∷ []
+
+-- a write answers EIO or ENXIO and stores nothing, or stores the turned bytes
+abbrev pub WritesAnswerByTheKindOfTheirRow : Type 0
+WritesAnswerByTheKindOfTheirRow =
+    map (λ kind. write_leaf (one_mirror (fault 0 OnWrite 0 1 kind ∷ [])) false (sectors_of 1 65) (sectors_of 1 7 ∷ []) whole_leaf)
+    (Eio ∷ Gone ∷ Flip ∷ [])
+    ≡ record { error = Some Io; images = sectors_of 1 7 ∷ [] }
+    ∷ record { error = Some Nxio; images = sectors_of 1 7 ∷ [] }
+    ∷ record { error = None; images = sectors_of 1 190 ∷ [] } ∷ []
 
 -- ---- numbers and names
 

@@ -1,4 +1,4 @@
-ghost use Rattle.zio_worked.specs.Families.{WriteOverTwoWrites, PointersStandInFront, WritesNest, ChildGoesAgain, FinishedChildIsKept, NullOverBadRead, NullOverGoneRead, NullOverGoneReadGoesOn, ChildErrorBindsNothing, ZerosForNoPlace, UnwrittenChildFails, UnwrittenChildHasPointer, MustChildHoldsParent, ChildrenComeFirst, FamiliesAreApart};
+ghost use Rattle.zio_worked.specs.Families.{WriteOverTwoWrites, PointersStandInFront, WritesNest, ChildGoesAgain, FinishedChildIsKept, NullOverBadRead, NullOverGoneRead, NullOverGoneReadGoesOn, ChildErrorBindsNothing, ZerosForNoPlace, UnwrittenChildFails, UnwrittenChildHasPointer, MustChildHoldsParent, ChildrenComeFirst, FamiliesAreApart, EachAttemptHasItsPointers};
 
 /// A request finishes after those under it, with their pointers and errors, and goes again with them.
 pub fn families_finish_together()
@@ -17,4 +17,5 @@ pub fn families_finish_together()
     ensures must_child_holds_parent { MustChildHoldsParent }
     ensures children_come_first { ChildrenComeFirst }
     ensures families_are_apart { FamiliesAreApart }
+    ensures each_attempt_has_its_pointers { EachAttemptHasItsPointers }
 {}

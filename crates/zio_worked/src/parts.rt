@@ -1,4 +1,4 @@
-ghost use Rattle.zio_worked.specs.Parts.{EntryAnswersItsOwnAsk, WorstErrorOfAFreeCounts, FailedHeaderKeepsBodiesUnread, SummaryCounts, SummaryShowsNoRound, EachRoundShowsItsOwnJournal, BirthIsTheBatch, HeaderIsForItsFirstPlaceAndBirth, SuspendedTreesGoByNumber, FailedFreeKeepsItsName, WorstErrorOfAPlaceCounts, BitsOfAllChildrenCount, HeldBatchIsLeft, HeadersAreKeptByPath, HeaderThatIsntKeptIsBad, TreesStandByTheirRoots, PathsHavePoints};
+ghost use Rattle.zio_worked.specs.Parts.{EntryAnswersItsOwnAsk, WorstErrorOfAFreeCounts, FailedHeaderKeepsBodiesUnread, SummaryCounts, SummaryShowsNoRound, EachRoundShowsItsOwnJournal, BirthIsTheBatch, HeaderIsForItsFirstPlaceAndBirth, SuspendedTreesGoByNumber, FailedFreeKeepsItsName, WorstErrorOfAPlaceCounts, BitsOfAllChildrenCount, HeldBatchIsLeft, HeadersAreKeptByPath, HeaderThatIsntKeptIsBad, TreesStandByTheirRoots, PathsHavePoints, EachMemberHasItsPath, TopHasWholeUnits, ReadsAnswerByTheKindOfTheirRow, WritesAnswerByTheKindOfTheirRow};
 
 /// What a single definition gives, where a whole run wouldn't tell a wrong one.
 pub fn single_definitions_follow_their_rules()
@@ -19,4 +19,8 @@ pub fn single_definitions_follow_their_rules()
     ensures header_that_isnt_kept_is_bad { HeaderThatIsntKeptIsBad }
     ensures trees_stand_by_their_roots { TreesStandByTheirRoots }
     ensures paths_have_points { PathsHavePoints }
+    ensures each_member_has_its_path { EachMemberHasItsPath }
+    ensures top_has_whole_units { TopHasWholeUnits }
+    ensures reads_answer_by_the_kind_of_their_row { ReadsAnswerByTheKindOfTheirRow }
+    ensures writes_answer_by_the_kind_of_their_row { WritesAnswerByTheKindOfTheirRow }
 {}

@@ -18,6 +18,8 @@ mod laws;
 mod lines;
 mod round;
 mod runner;
+#[cfg(test)]
+mod tests;
 mod told;
 mod waiting;
 

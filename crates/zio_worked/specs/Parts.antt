@@ -22,7 +22,7 @@ use Rattle.zio_cksum.specs.Images.{Images, Setting, Spot, read_leaf, write_leaf}
 use Rattle.zio_gang.specs.declared.ending.Ending.TheVariants.{Left}
 use Rattle.zio_gang.specs.declared.tree.Head.{Head as KeptHead}
 use Rattle.zio_gang.specs.declared.tree.Tree.{Tree}
-use Rattle.zio_gang.specs.Attempts.{Ended, Return, bits_of}
+use Rattle.zio_gang.specs.Attempts.{Ended, Own, Pending, Return, bits_of, ended_with}
 use Rattle.zio_gang.specs.Rounds.{bound_after, is_bound, trees_of}
 use Rattle.zio_gang.specs.Runs.{Course, Round, ending, run_script, start_state, top_of}
 use Rattle.zio_gang.specs.Trees.{free_tree, kept_at, read_tree}
@@ -262,6 +262,20 @@ FailedFreeKeepsItsName =
     map (λ error. is_bound (bound_after (freed error ∷ []) (record { name = codes "x"; tree = claimed_tree } ∷ [])) (codes "x"))
     (Some Io ∷ None ∷ [])
     ≡ true ∷ false ∷ []
+
+-- a request that waits to be attempted
+abbrev pub pending_null : Pending
+pending_null = record { request = null_under 1 None; birth = 1; block = None; kept = [] }
+
+-- own work that made a block
+abbrev pub made_tree : Own
+made_tree = record { error = None; bytes = []; tree = Some claimed_tree; pointer = None; asks = []; images = [] }
+
+-- a request keeps the block that it made only where it finishes without error, were the error that of a child
+abbrev pub FailedRequestKeepsNoBlock : Type 0
+FailedRequestKeepsNoBlock =
+    map (λ error. map (λ (e : Ended). e.tree) ((ended_with pending_null made_tree error).ended)) (Some Io ∷ None ∷ [])
+    ≡ (None ∷ []) ∷ (Some claimed_tree ∷ []) ∷ []
 
 -- ---- the summary
 

@@ -219,6 +219,3 @@ fn sum_of_number(number: u64) -> SumKind
         SumKind::Off
     }
 }
-
-#[cfg(test)]
-mod tests;

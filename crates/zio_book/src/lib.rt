@@ -14,6 +14,3 @@ mod view;
 pub use book::{Book, CmdBack, HeldBack, Pass, Receipt};
 pub use held::Held;
 pub use view::{Birth, Kept, View};
-
-#[cfg(test)]
-mod tests;

@@ -11,8 +11,6 @@ mod counts;
 mod decision;
 mod firsts;
 mod laws;
-#[cfg(test)]
-mod tests;
 
 pub use brood::Brood;
 pub use child::Child;

@@ -132,6 +132,3 @@ fn has_other_sizes(header: &Header, size: u32) -> bool
     let wanted = split(size);
     &sizes[..header.n as usize] != &wanted.sizes[..wanted.n as usize]
 }
-
-#[cfg(test)]
-mod tests;

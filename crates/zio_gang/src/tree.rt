@@ -106,6 +106,3 @@ fn is_same_path(p: &Path, q: &Path) -> bool
 {
     *p == *q
 }
-
-#[cfg(test)]
-mod tests;

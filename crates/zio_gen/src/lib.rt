@@ -7,6 +7,3 @@ mod lines;
 mod script;
 
 pub use script::{BLOCKS_MAX, gen_};
-
-#[cfg(test)]
-mod tests;

@@ -23,6 +23,3 @@ pub use arrived::{Arrival, Arrived, Parked, Woken};
 pub use child::Child;
 pub use meaning::{Fits, Rests};
 pub use owner::Owner;
-
-#[cfg(test)]
-mod tests;

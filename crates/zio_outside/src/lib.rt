@@ -17,8 +17,6 @@ mod real_disk;
 mod real_stream;
 mod shelf;
 mod stream;
-#[cfg(test)]
-mod tests;
 
 pub use disk::Disk;
 pub use gate::{Gate, MeetGate, NoGate};

@@ -21,6 +21,3 @@ mod word;
 pub use laws::live_places_are_a_set;
 pub use space::{ClaimFault, Space};
 pub use zio_types::TopSize;
-
-#[cfg(test)]
-mod tests;

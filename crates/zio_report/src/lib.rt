@@ -14,6 +14,3 @@ mod words;
 pub use report::{Line, LineResult, RoundHead, RunFault, Show};
 pub use round::render;
 pub use run_lines::{end_line, held_line, pool_line};
-
-#[cfg(test)]
-mod tests;

@@ -13,6 +13,3 @@ mod tasks;
 pub use hand::{Hand, Pile};
 pub use queue::QueueId;
 pub use tasks::{TaskPass, Tasks};
-
-#[cfg(test)]
-mod tests;

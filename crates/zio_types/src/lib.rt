@@ -27,6 +27,3 @@ pub type Bytes = List<u8>;
 
 /// Bytes in a sector.
 pub const SECTOR_SIZE: u32 = 512;
-
-#[cfg(test)]
-mod tests;

@@ -16,6 +16,3 @@ pub use class::{ACTIVE_MAX, ACTIVE_MIN};
 pub use gather::{READ_GAP_MAX, SPAN_MAX};
 pub use op::{Group, Op, lone, scatter};
 pub use queue::VQueue;
-
-#[cfg(test)]
-mod tests;

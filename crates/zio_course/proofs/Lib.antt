@@ -2,8 +2,17 @@ mod AdmissionLemmas
 mod AdmittedLemmas
 mod AnsweredLemmas
 mod BatchLemmas
+mod CourseLemmas
+mod DoneLemmas
 mod EndLemmas
+mod FitLemmas
 mod ForestLemmas
+mod LineLemmas
 mod NameLemmas
+mod PlaceLemmas
 mod PlantLemmas
+mod RanLemmas
+mod SortLemmas
+mod StepLemmas
 mod ToldLemmas
+mod TouchLemmas

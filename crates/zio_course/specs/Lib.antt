@@ -5,4 +5,5 @@ pub mod Entered
 pub mod Forests
 pub mod Names
 pub mod Runners
+pub mod Steps
 pub mod Told

@@ -1,14 +1,26 @@
-ghost use Rattle.std.specs.Prelude.{◌≡◌, ℕ, Bool, List};
-ghost use Rattle.zio_script.specs.Accepted.{AreRising};
+ghost use Rattle.std.specs.Prelude.{◌≡◌, ◌+◌, ◌++◌, ℕ, Bool, List, [], Some, reverse};
+ghost use Rattle.zio_types.specs.declared.journal.Journal.{Journal};
+ghost use Rattle.zio_script.specs.Accepted.{AreBehindParents, AreRising, NameApart};
 ghost use Rattle.zio_script.specs.Requests.{requests_of};
+ghost use Rattle.zio_script.specs.declared.script.Failmode.{Failmode};
 ghost use Rattle.zio_script.specs.declared.script.Item.{Item};
+ghost use Rattle.zio_cksum.specs.Images.{Images};
+ghost use Rattle.zio_gang.specs.declared.tree.Tree.{Tree};
 ghost use Rattle.zio_gang.specs.Attempts.{Pending};
-ghost use Rattle.zio_gang.specs.Rounds.{admitted, trees_of};
-ghost use Rattle.zio_gang.specs.Runs.{has_trees};
-ghost use Rattle.zio_course.specs.Admissions.{IsAdmission};
+ghost use Rattle.zio_gang.specs.Journals.{choices_in};
+ghost use Rattle.zio_gang.specs.Rounds.{admitted, pending_trees, trees_of};
+ghost use Rattle.zio_gang.specs.Runs.{Plan, Round, State, after_round, has_trees, run_batch};
+ghost use Rattle.zio_report.specs.declared.report.Line.{Line};
+ghost use Rattle.zio_course.specs.Admissions.{IsAdmission, error_in};
 ghost use Rattle.zio_course.specs.Admitted.{AreAwaited};
-ghost use Rattle.zio_course.specs.Forests.{running};
+ghost use Rattle.zio_course.specs.Answered.{answered_in};
+ghost use Rattle.zio_course.specs.Entered.{IsBatchRun};
+ghost use Rattle.zio_course.specs.Forests.{names_of, running};
+ghost use Rattle.zio_course.specs.Names.{is_some_name};
+ghost use Rattle.zio_course.specs.Runners.{IsRound, IsRoundEnd, Standing, terms_at};
+ghost use Rattle.zio_course.specs.Steps.{IsAt, IsNextRound, IsPlanOf};
 ghost use Rattle.zio_course.specs.declared.admission.Rules.{Rules};
+ghost use Rattle.zio_course.specs.declared.runner.RoundEnd.{RoundEnd};
 
 /// Where admission is noted for the trees of a batch, whose numbers rise, the trees of the requests that it lets run are
 /// those that run by the definition, whole and in order.
@@ -17,4 +29,24 @@ pub fn whole_trees_are_admitted()
         AreRising (requests_of items) → AreAwaited suspended awaited
         → IsAdmission (has_trees suspended) awaited bound (trees_of (requests_of items)) slots rules
         → trees_of (running slots rules items) ≡ (admitted suspended bound (trees_of (requests_of items))).trees }
+{}
+
+/// A batch that was run is the next round of the course, whatever the journal holds of other rounds: the lines that were
+/// told of it are those of the report, what is left and the bound names are the same, and its choices and completions are
+/// lawful.
+pub fn a_batch_is_a_round_of_the_course()
+    ensures { (apart : Bool) (plan : Plan) (st : State) (s : Standing) (failmode : Failmode) (bound new_bound : List (List ℕ × Tree)) (suspended : List (List Pending)) (awaited : List ℕ → Bool)
+        (number point : ℕ) (items : List Item) (slots : List (ℕ × ℕ)) (rules : List Rules) (before after : Images) (old new : Journal) (end : RoundEnd (List Pending)) (lines : List Line) (left : List (List Pending)) →
+        let requests = requests_of items in
+        let trees = pending_trees (names_of bound) number (trees_of (running slots rules items)) in
+        IsPlanOf s failmode plan → IsAt s bound suspended old.rounds point before st
+        → AreRising requests → AreBehindParents [] requests → NameApart apart requests
+        → AreAwaited suspended awaited → IsAdmission (has_trees suspended) awaited (is_some_name bound) (trees_of requests) slots rules
+        → IsBatchRun (error_in slots rules) requests bound new_bound old new end lines left
+        → IsRoundEnd s (old.rounds + 1) trees end
+        → IsRound (terms_at s failmode (old.rounds + 1) point) trees before after end
+        → choices_in (old.rounds + 1) plan.journal ≡ choices_in (old.rounds + 1) end.entries
+        → (round : Round) × (run_batch plan (record { number = number; requests = requests }) st ≡ after_round plan st st.suspended round)
+        × IsNextRound s (old.rounds + 1) point (Some number) lines end.entries
+        (reverse (answered_in (error_in slots rules) (old.rounds + 1) requests) ++ end.completions) left after new_bound round }
 {}

@@ -14,5 +14,6 @@ mod PlantLemmas
 mod RanLemmas
 mod SortLemmas
 mod StepLemmas
+mod SuspendedLemmas
 mod ToldLemmas
 mod TouchLemmas

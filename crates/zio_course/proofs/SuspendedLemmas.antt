@@ -1,5 +1,5 @@
 -- The requests of suspended trees as lines of a script.
-use Rattle.std.proofs.Common.{◌≡◌, ℕ, suc, ◌+◌, ◌<◌, ◌≤◌, length, get_or, arith, List, [], ◌∷◌, ◌++◌, map, filter, drop, true, Bool, Option, None, is_none, refl, sym, ap, subst, ◌∙◌}
+use Rattle.std.proofs.Common.{◌≡◌, ℕ, suc, ◌+◌, ◌<◌, ◌≤◌, length, get_or, arith, List, [], ◌∷◌, ◌++◌, map, filter, count_by, drop, true, false, Bool, ◌||◌, cond, eqb, Option, None, is_none, refl, sym, ap, subst, ◌∙◌}
 use Rattle.std.proofs.Math.ListN.{get_or-map}
 use Rattle.std.proofs.Math.Seq.{drop-cons}
 use Rattle.std.proofs.lemmas.List.{drop_all}
@@ -9,10 +9,17 @@ use Rattle.zio_script.specs.declared.script.Item.TheVariants.{Request as Request
 use Rattle.zio_script.specs.declared.script.Request.{Request}
 use Rattle.zio_script.specs.Requests.{requests_of}
 use Rattle.zio_script.specs.Accepted.{AreRising}
+use Rattle.std.specs.List.{AllByRecursion}
+use Rattle.zio_gang.specs.Attempts.{Pending}
 use Rattle.zio_gang.specs.declared.tree.Tree.{Tree}
 use Rattle.zio_report.specs.declared.report.Line.{Line}
 use Rattle.zio_course.specs.declared.runner.Finished.{Finished}
+use Rattle.zio_course.specs.Admissions.{has_number}
+use Rattle.zio_course.specs.Answered.{answered_in}
+use Rattle.zio_course.specs.Runners.{AreRisingFrom, is_numbered, numbers_of, requests_in}
+use Rattle.zio_course.specs.Steps.{AreUnfinished}
 use Rattle.zio_course.specs.Told.{AreFinishedOf, no_error}
+use Rattle.zio_course.proofs.EndLemmas.{of_some, own_times, times, times_is, true_if}
 use Rattle.zio_course.proofs.ToldLemmas.{IsTelling, kept_of, telling_start}
 
 abbrev pub as_lines : List Request → List Item
@@ -51,3 +58,39 @@ drop_first f xs i x h is =
 -- at its end nothing is left
 pub drop_last : {X Y : Type 0} (f : X → Y) (xs : List X) (i : ℕ) → length xs ≤ i → drop i (map f xs) ≡ []
 drop_last f xs i h = drop_all i (map f xs) (subst (λ (n : ℕ). n ≤ i) (sym (len_map f xs)) h)
+
+-- ---- what finished of them
+
+lacking_none : (n : ℕ) (rs : List Request) → has_number n rs ≡ false → times n (numbers_of rs) ≡ 0
+lacking_none n [] h = refl
+lacking_none n (r ∷ rs) h = go (eqb r.number n) refl (lacking_none n rs) h
+  where
+    go : (b : Bool) → eqb r.number n ≡ b → (has_number n rs ≡ false → times n (numbers_of rs) ≡ 0) → (b || has_number n rs) ≡ false
+        → cond (eqb r.number n) (1 + times n (numbers_of rs)) (times n (numbers_of rs)) ≡ 0
+    go true e later k = absurd (let no_one = k in cc)
+    go false e later k = ap (λ (b : Bool). cond b (1 + times n (numbers_of rs)) (times n (numbers_of rs))) e ∙ later k
+
+-- what finished of the suspended trees is of some of their requests, in their order
+pub finished_of_suspended : (suspended left : List (List Pending)) (rs : List Request) (finished : List Finished) → AreUnfinished suspended rs
+    → AreRisingFrom 0 (map (λ (f : Finished). f.request) finished)
+    → ((n : ℕ) → count_by (is_numbered n) (numbers_of (requests_in suspended))
+    ≡ count_by (is_numbered n) (map (λ (f : Finished). f.request) finished) + count_by (is_numbered n) (numbers_of (requests_in left)))
+    → AreFinishedOf rs finished
+finished_of_suspended suspended left rs finished h up each =
+    of_some rs 0 finished h.rising up (numbered finished (λ n some. true_if (has_number n rs) (λ none.
+    (let absent : times n (numbers_of rs) ≡ 0 = lacking_none n rs none in
+    let own = times_is n (numbers_of rs) in
+    let count = times_is n (map (λ (f : Finished). f.request) finished) in
+    let whole = h.each n in
+    let split = each n in omega arith))) (own_times (map (λ (f : Finished). f.request) finished)))
+  where
+    numbered : (fs : List Finished) → ((n : ℕ) → 1 ≤ times n (map (λ (f : Finished). f.request) finished) → has_number n rs ≡ true)
+        → AllByRecursion (λ n. 1 ≤ times n (map (λ (f : Finished). f.request) finished)) (map (λ (f : Finished). f.request) fs)
+        → AllByRecursion (λ (f : Finished). has_number f.request rs ≡ true) fs
+    numbered [] has k = tt
+    numbered (f ∷ fs) has k = (has f.request k.0, numbered fs has k.1)
+
+-- nothing is answered before the round of a clear
+pub none_answered : (round : ℕ) (rs : List Request) → answered_in no_error round rs ≡ []
+none_answered round [] = refl
+none_answered round (r ∷ rs) = none_answered round rs

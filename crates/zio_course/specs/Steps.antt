@@ -1,9 +1,12 @@
 -- The next round of a course, and what is known beside it.
-use Rattle.std.specs.Prelude.{◌≡◌, ℕ, List, Option}
+use Rattle.std.specs.Prelude.{◌≡◌, ℕ, List, Option, Contains, count_by}
+use Rattle.std.specs.List.{AllByRecursion}
 use Rattle.zio_types.specs.declared.journal.Completion.{Completion}
 use Rattle.zio_types.specs.Choices.{Choice}
 use Rattle.zio_types.specs.Places.{SamePlaces}
 use Rattle.zio_script.specs.declared.script.Failmode.{Failmode}
+use Rattle.zio_script.specs.declared.script.Request.{Request}
+use Rattle.zio_script.specs.Accepted.{AreRising}
 use Rattle.zio_cksum.specs.Images.{Images}
 use Rattle.zio_gang.specs.declared.tree.Tree.{Tree}
 use Rattle.zio_gang.specs.Attempts.{Pending}
@@ -14,7 +17,13 @@ use Rattle.zio_gang.specs.Trees.{sizes_of}
 use Rattle.zio_report.specs.declared.report.Line.{Line}
 use Rattle.zio_report.specs.Reports.{head_of, lines_of}
 use Rattle.zio_course.specs.Names.{named_in}
-use Rattle.zio_course.specs.Runners.{Standing}
+use Rattle.zio_course.specs.Runners.{Standing, is_numbered, numbers_of, requests_in}
+
+-- The requests of suspended trees, by number: none more and none less.
+pub record AreUnfinished (suspended : List (List Pending)) (unfinished : List Request) : Type 0 where
+  pub rising : AreRising unfinished
+  pub among : AllByRecursion (Contains unfinished) (requests_in suspended)
+  pub each : (n : ℕ) → count_by (is_numbered n) (numbers_of (requests_in suspended)) ≡ count_by (is_numbered n) (numbers_of unfinished)
 
 -- a plan has the tops and the fault table of a runner
 pub record IsPlanOf (s : Standing) (failmode : Failmode) (plan : Plan) : Type 0 where

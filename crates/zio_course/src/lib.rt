@@ -34,5 +34,5 @@ pub use forest::trees_to_run;
 pub use laws::{a_batch_is_a_round_of_the_course, whole_trees_are_admitted};
 pub use round::{WholeRound, whole_round};
 pub use runner::{Finished, Job, RoundEnd, Runner, Stop};
-pub use suspended::tell_suspended;
+pub use suspended::{run_suspended, tell_suspended};
 pub use told::tell_batch;

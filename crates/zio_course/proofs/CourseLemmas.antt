@@ -223,7 +223,8 @@ pub ran_lines : (error : ℕ → Option Errno) (requests : List Request) (answer
     → AllByRecursion (λ (e : Ended). IsOneOf e.request requests) answered
     → AreTreesOf (λ (r : Request). IsOneOf r requests) trees
     → AreTreesOf (λ (r : Request). error r.number ≡ None) trees
-    → ((f : Request → ℕ) → of_ended f answered + of_trees f trees ≡ tally f requests)
+    → ((n : ℕ) → of_ended (λ (r : Request). one_if (eqb r.number n)) answered + of_trees (λ (r : Request). one_if (eqb r.number n)) trees
+    ≡ tally (λ (r : Request). one_if (eqb r.number n)) requests)
     → AreRisingFrom 0 (map (λ (f : Finished). f.request) (finished_by_number ran.ended))
     → by_number (map line_of_ended (answered ++ ran.ended) ++ flat_map (map line_of_pending) ran.left) ≡ map (line_told error (finished_by_number ran.ended)) requests
 ran_lines error requests answered trees j t images rising told among tree_among none sums up =
@@ -242,7 +243,7 @@ ran_lines error requests answered trees j t images rising told among tree_among 
     (let f : Request → ℕ = λ (r : Request). one_if (eqb r.number p.request.number) in
     let some : 1 ≤ of_trees f ran.left = left_weighed p tree ran.left at here in
     let split : of_ended f ran.ended + of_trees f ran.left ≡ of_trees f trees = trees_sum f j t trees images in
-    let whole : of_ended f answered + of_trees f trees ≡ tally f requests = sums f in
+    let whole : of_ended f answered + of_trees f trees ≡ tally f requests = sums p.request.number in
     let once : tally f requests ≤ 1 = once_counted p.request.number requests rising in
     omega arith)))) in
     lines_are_told error finished requests (answered ++ ran.ended) ran.left rising
@@ -256,7 +257,7 @@ ran_lines error requests answered trees j t images rising told among tree_among 
     let all : tally f (all_requests (answered ++ ran.ended) ran.left) ≡ of_ended f (answered ++ ran.ended) + of_trees f ran.left = request_tally f (answered ++ ran.ended) ran.left in
     let parts : of_ended f (answered ++ ran.ended) ≡ of_ended f answered + of_ended f ran.ended = tally-append (λ (e : Ended). f e.request) answered ran.ended in
     let split : of_ended f ran.ended + of_trees f ran.left ≡ of_trees f trees = trees_sum f j t trees images in
-    let whole : of_ended f answered + of_trees f trees ≡ tally f requests = sums f in
+    let whole : of_ended f answered + of_trees f trees ≡ tally f requests = sums n in
     omega arith))
   where
     all_flat : (P : Pending → Type 0) (left : List (List Pending)) → AllByRecursion (λ (tree : List Pending). AllByRecursion P tree) left → AllByRecursion P (joined_trees left)
@@ -279,8 +280,9 @@ batch_lines error suspended bound requests names birth j t images rising behind 
     ran_lines error requests a.answered trees j t images rising judged.0 inside.0
     (trees_all (λ (r : Request). IsOneOf r requests) names birth a.trees inside.1)
     (trees_all (λ (r : Request). error r.number ≡ None) names birth a.trees judged.1)
-    (λ f.
-    (let batch : tally (tally f) (trees_of requests) ≡ tally f requests = batch_held requests behind rising f in
+    (λ n.
+    (let f : Request → ℕ = λ (r : Request). one_if (eqb r.number n) in
+    let batch : tally (tally f) (trees_of requests) ≡ tally f requests = batch_held requests behind rising f in
     let split : of_ended f a.answered + tally (tally f) a.trees ≡ tally (tally f) (trees_of requests) = admitted_sum f suspended bound (trees_of requests) in
     let runs : of_trees f trees ≡ tally (tally f) a.trees = pending_sum f names birth a.trees in
     omega arith)) up

@@ -2,6 +2,7 @@ mod AdmissionLemmas
 mod AdmittedLemmas
 mod AnsweredLemmas
 mod BatchLemmas
+mod ClearLemmas
 mod CourseLemmas
 mod DoneLemmas
 mod EndLemmas

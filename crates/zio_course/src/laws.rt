@@ -1,15 +1,16 @@
-ghost use Rattle.std.specs.Prelude.{◌≡◌, ◌+◌, ◌++◌, ℕ, Bool, List, [], Some, reverse};
+ghost use Rattle.std.specs.Prelude.{◌≡◌, ◌+◌, ◌++◌, ℕ, Bool, List, [], None, Some, reverse};
 ghost use Rattle.zio_types.specs.declared.journal.Journal.{Journal};
 ghost use Rattle.zio_script.specs.Accepted.{AreBehindParents, AreRising, NameApart};
 ghost use Rattle.zio_script.specs.Requests.{requests_of};
 ghost use Rattle.zio_script.specs.declared.script.Failmode.{Failmode};
 ghost use Rattle.zio_script.specs.declared.script.Item.{Item};
+ghost use Rattle.zio_script.specs.declared.script.Request.{Request};
 ghost use Rattle.zio_cksum.specs.Images.{Images};
 ghost use Rattle.zio_gang.specs.declared.tree.Tree.{Tree};
 ghost use Rattle.zio_gang.specs.Attempts.{Pending};
 ghost use Rattle.zio_gang.specs.Journals.{choices_in};
 ghost use Rattle.zio_gang.specs.Rounds.{admitted, pending_trees, trees_of};
-ghost use Rattle.zio_gang.specs.Runs.{Plan, Round, State, after_round, has_trees, run_batch};
+ghost use Rattle.zio_gang.specs.Runs.{Plan, Round, State, after_round, has_trees, run_batch, run_suspended};
 ghost use Rattle.zio_report.specs.declared.report.Line.{Line};
 ghost use Rattle.zio_course.specs.Admissions.{IsAdmission, error_in};
 ghost use Rattle.zio_course.specs.Admitted.{AreAwaited};
@@ -18,7 +19,8 @@ ghost use Rattle.zio_course.specs.Entered.{IsBatchRun};
 ghost use Rattle.zio_course.specs.Forests.{names_of, running};
 ghost use Rattle.zio_course.specs.Names.{is_some_name};
 ghost use Rattle.zio_course.specs.Runners.{IsRound, IsRoundEnd, Standing, terms_at};
-ghost use Rattle.zio_course.specs.Steps.{IsAt, IsNextRound, IsPlanOf};
+ghost use Rattle.zio_course.specs.Steps.{AreUnfinished, IsAt, IsNextRound, IsPlanOf};
+ghost use Rattle.zio_course.specs.Told.{no_error};
 ghost use Rattle.zio_course.specs.declared.admission.Rules.{Rules};
 ghost use Rattle.zio_course.specs.declared.runner.RoundEnd.{RoundEnd};
 
@@ -49,4 +51,18 @@ pub fn a_batch_is_a_round_of_the_course()
         → (round : Round) × (run_batch plan (record { number = number; requests = requests }) st ≡ after_round plan st st.suspended round)
         × IsNextRound s (old.rounds + 1) point (Some number) lines end.entries
         (reverse (answered_in (error_in slots rules) (old.rounds + 1) requests) ++ end.completions) left after new_bound round }
+{}
+
+/// The round of the suspended trees is the next round of the course too.
+pub fn a_clear_is_a_round_of_the_course()
+    ensures { (apart : Bool) (plan : Plan) (st : State) (s : Standing) (failmode : Failmode) (bound new_bound : List (List ℕ × Tree)) (suspended : List (List Pending)) (unfinished : List Request)
+        (point : ℕ) (before after : Images) (old new : Journal) (end : RoundEnd (List Pending)) (lines : List Line) (left : List (List Pending)) →
+        IsPlanOf s failmode plan → IsAt s bound suspended old.rounds point before st
+        → AreUnfinished suspended unfinished → NameApart apart unfinished
+        → IsBatchRun no_error unfinished bound new_bound old new end lines left
+        → IsRoundEnd s (old.rounds + 1) suspended end
+        → IsRound (terms_at s failmode (old.rounds + 1) point) suspended before after end
+        → choices_in (old.rounds + 1) plan.journal ≡ choices_in (old.rounds + 1) end.entries
+        → (round : Round) × (run_suspended plan st ≡ after_round plan st [] round)
+        × IsNextRound s (old.rounds + 1) point None lines end.entries end.completions left after new_bound round }
 {}

@@ -8,11 +8,13 @@ mod DoneLemmas
 mod EndLemmas
 mod FitLemmas
 mod ForestLemmas
+mod JournalLemmas
 mod LineLemmas
 mod NameLemmas
 mod PlaceLemmas
 mod PlantLemmas
 mod RanLemmas
+mod SoFarLemmas
 mod SortLemmas
 mod StepLemmas
 mod SuspendedLemmas

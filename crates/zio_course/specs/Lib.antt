@@ -1,6 +1,7 @@
 pub mod Admissions
 pub mod Admitted
 pub mod Answered
+pub mod Course
 pub mod Entered
 pub mod Forests
 pub mod Names

@@ -1,4 +1,9 @@
-ghost use Rattle.std.specs.Prelude.{◌≡◌, ◌+◌, ◌++◌, ℕ, Bool, List, [], None, Some, reverse};
+ghost use Rattle.std.specs.Prelude.{◌≡◌, ◌+◌, ◌<◌, ◌++◌, ◌∷◌, ℕ, Bool, List, [], None, Some, reverse};
+ghost use Rattle.std.specs.List.{AllByRecursion};
+ghost use Rattle.zio_types.specs.declared.journal.Completion.{Completion};
+ghost use Rattle.zio_types.specs.declared.place.TopSize.{TopSize};
+ghost use Rattle.zio_types.specs.Choices.{Choice};
+ghost use Rattle.zio_script.specs.declared.script.Script.{Script};
 ghost use Rattle.zio_types.specs.declared.journal.Journal.{Journal};
 ghost use Rattle.zio_script.specs.Accepted.{AreBehindParents, AreRising, NameApart};
 ghost use Rattle.zio_script.specs.Requests.{requests_of};
@@ -8,13 +13,19 @@ ghost use Rattle.zio_script.specs.declared.script.Request.{Request};
 ghost use Rattle.zio_cksum.specs.Images.{Images};
 ghost use Rattle.zio_gang.specs.declared.tree.Tree.{Tree};
 ghost use Rattle.zio_gang.specs.Attempts.{Pending};
-ghost use Rattle.zio_gang.specs.Journals.{choices_in};
+ghost use Rattle.zio_gang.specs.Journals.{AreChoicesOf, AreCompletionsOf, CompleteAfterChildren, CompleteOnce, choices_in};
 ghost use Rattle.zio_gang.specs.Rounds.{admitted, pending_trees, trees_of};
-ghost use Rattle.zio_gang.specs.Runs.{Plan, Round, State, after_round, has_trees, run_batch, run_suspended};
+ghost use Rattle.zio_gang.specs.Runs.{Course, Event, Plan, Round, State, after_round, has_trees, plan_of, run_batch, run_suspended, then_course};
+ghost use Rattle.zio_gang.specs.Runs.Event.{RanRound, HeldBatch};
 ghost use Rattle.zio_report.specs.declared.report.Line.{Line};
+ghost use Rattle.zio_report.specs.declared.report.RoundHead.{RoundHead};
+ghost use Rattle.zio_report.specs.declared.report.Show.{Show};
+ghost use Rattle.zio_report.specs.Lines.{round_text};
+ghost use Rattle.zio_report.specs.Reports.{RunSize, head_of, held_text, lines_of};
 ghost use Rattle.zio_course.specs.Admissions.{IsAdmission, error_in};
 ghost use Rattle.zio_course.specs.Admitted.{AreAwaited};
 ghost use Rattle.zio_course.specs.Answered.{answered_in};
+ghost use Rattle.zio_course.specs.Course.{IsEnteredSoFar, Reaches, shown_of};
 ghost use Rattle.zio_course.specs.Entered.{IsBatchRun};
 ghost use Rattle.zio_course.specs.Forests.{names_of, running};
 ghost use Rattle.zio_course.specs.Names.{is_some_name};
@@ -65,4 +76,29 @@ pub fn a_clear_is_a_round_of_the_course()
         → choices_in (old.rounds + 1) plan.journal ≡ choices_in (old.rounds + 1) end.entries
         → (round : Round) × (run_suspended plan st ≡ after_round plan st [] round)
         × IsNextRound s (old.rounds + 1) point None lines end.entries end.completions left after new_bound round }
+{}
+
+/// What was run stays run. A round that follows is entered behind the rounds before, with its entries, completions and text;
+/// a batch that is held adds its line; and the course goes on from the state that a step of it left.
+pub fn what_was_run_stays_run()
+    ensures round { (show : Show) (n : RunSize) (sizes : List TopSize) (requests : List Request) (old new : Journal) (events : List Event) (printed : List ℕ) (round : Round)
+        (head : RoundHead) (lines : List Line) (entries : List Choice) (done : List Completion) →
+        IsEnteredSoFar show n sizes requests old events printed
+        → new.places ≡ old.places ++ entries → new.completions ≡ old.completions ++ done → new.rounds ≡ old.rounds + 1
+        → AllByRecursion (λ (c : Choice). c.asked.key.round ≡ old.rounds + 1) entries
+        → AllByRecursion (λ (c : Completion). c.round ≡ old.rounds + 1) done
+        → round.number ≡ old.rounds + 1 → head_of round ≡ head → lines_of round ≡ lines
+        → AreChoicesOf sizes round.used round.asks entries → AreCompletionsOf round.number round.ended done
+        → CompleteOnce (old.completions ++ done) → CompleteAfterChildren requests (old.completions ++ done)
+        → IsEnteredSoFar show n sizes requests new (events ++ RanRound round ∷ []) (printed ++ round_text show head lines entries done) }
+    ensures held { (show : Show) (n : RunSize) (sizes : List TopSize) (requests : List Request) (journal : Journal) (events : List Event) (printed : List ℕ) (batch : ℕ) →
+        IsEnteredSoFar show n sizes requests journal events printed
+        → IsEnteredSoFar show n sizes requests journal (events ++ HeldBatch batch ∷ []) (printed ++ shown_of show (held_text batch)) }
+    ensures course { (script : Script) (before : Images) (old new : Journal) (entries : List Choice) (events more : List Event) (step : Plan → Course) (st : State) (rest : Plan → State → Course) →
+        Reaches script before old events (λ plan. then_course (step plan) (rest plan))
+        → new.places ≡ old.places ++ entries
+        → ((later : List Choice) → AllByRecursion (λ (c : Choice). new.rounds < c.asked.key.round) later → AllByRecursion (λ (c : Choice). old.rounds < c.asked.key.round) (entries ++ later))
+        → ((later : List Choice) → AllByRecursion (λ (c : Choice). new.rounds < c.asked.key.round) later
+        → step (plan_of script before (new.places ++ later)) ≡ record { events = more; state = st })
+        → Reaches script before new (events ++ more) (λ plan. rest plan st) }
 {}

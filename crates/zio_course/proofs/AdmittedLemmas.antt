@@ -212,7 +212,7 @@ module _ (error : ℕ → Option Errno) where
     runs_are [] judge = refl
     runs_are (r ∷ rs) judge = runs_if (same_parent r.under None) r rs refl judge (λ h. runs_are rs h)
 
-rising_if : (P : Request → Bool) (n : ℕ) (rs : List Request) → AllByRecursion (λ (q : Request). n < q.number) rs → AllByRecursion (λ (q : Request). n < q.number) (filter P rs)
+pub rising_if : (P : Request → Bool) (n : ℕ) (rs : List Request) → AllByRecursion (λ (q : Request). n < q.number) rs → AllByRecursion (λ (q : Request). n < q.number) (filter P rs)
 rising_if P n [] h = tt
 rising_if P n (r ∷ rs) h = go (P r) (rising_if P n rs h.1)
   where
@@ -220,7 +220,7 @@ rising_if P n (r ∷ rs) h = go (P r) (rising_if P n rs h.1)
     go true rest = (h.0, rest)
     go false rest = rest
 
-rising_kept : (P : Request → Bool) (rs : List Request) → AreRising rs → AreRising (filter P rs)
+pub rising_kept : (P : Request → Bool) (rs : List Request) → AreRising rs → AreRising (filter P rs)
 rising_kept P [] h = tt
 rising_kept P (r ∷ rs) h = go (P r) (rising_kept P rs h.1)
   where

@@ -14,6 +14,7 @@ mod NameLemmas
 mod PlaceLemmas
 mod PlantLemmas
 mod RanLemmas
+mod ReadyLemmas
 mod SoFarLemmas
 mod SortLemmas
 mod StepLemmas

@@ -46,7 +46,7 @@ use Rattle.zio_course.proofs.TouchLemmas.{after_same, apart_alike}
 
 -- ---- what finished
 
-some_same : {X : Type 0} (x y : X) → Some x ≡ Some y → x ≡ y
+pub some_same : {X : Type 0} (x y : X) → Some x ≡ Some y → x ≡ y
 some_same x y e = cc
 
 -- what is found by its number is there and has it
@@ -198,10 +198,10 @@ all_answered error suspended bound (tree ∷ trees) judge = (
         absurd (let no = sym (one_all (λ (q : Request). error q.number ≡ None) r t h at) ∙ is in cc))
 
 -- what holds of all requests of a batch's trees holds of the batch's
-abbrev joined_requests : List (List Request) → List Request
+abbrev pub joined_requests : List (List Request) → List Request
 joined_requests trees = flat_map (λ (tree : List Request). tree) trees
 
-flat_all : (P : Request → Type 0) (trees : List (List Request)) → AllByRecursion (λ tree. AllByRecursion P tree) trees → AllByRecursion P (joined_requests trees)
+pub flat_all : (P : Request → Type 0) (trees : List (List Request)) → AllByRecursion (λ tree. AllByRecursion P tree) trees → AllByRecursion P (joined_requests trees)
 flat_all P [] h = tt
 flat_all P (tree ∷ trees) h = append tree h.0 (flat_all P trees h.1)
   where
@@ -209,14 +209,14 @@ flat_all P (tree ∷ trees) h = append tree h.0 (flat_all P trees h.1)
     append [] hs rest = rest
     append (r ∷ rs) hs rest = (hs.0, append rs hs.1 rest)
 
-flat_tally : (f : Request → ℕ) (trees : List (List Request)) → tally f (joined_requests trees) ≡ tally (tally f) trees
+pub flat_tally : (f : Request → ℕ) (trees : List (List Request)) → tally f (joined_requests trees) ≡ tally (tally f) trees
 flat_tally f [] = refl
 flat_tally f (tree ∷ trees) =
     let here : tally f (tree ++ joined_requests trees) ≡ tally f tree + tally f (joined_requests trees) = tally-append f tree (joined_requests trees) in
     let rest : tally f (joined_requests trees) ≡ tally (tally f) trees = flat_tally f trees in
     omega arith
 
-from_trees : (P : Request → Type 0) (requests : List Request) → AreRising requests → AreBehindParents [] requests
+pub from_trees : (P : Request → Type 0) (requests : List Request) → AreRising requests → AreBehindParents [] requests
     → AllByRecursion (λ tree. AllByRecursion P tree) (trees_of requests) → AllByRecursion P requests
 from_trees P requests rising behind h =
     let joined : List Request = joined_requests (trees_of requests) in

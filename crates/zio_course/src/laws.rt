@@ -1,11 +1,11 @@
-ghost use Rattle.std.specs.Prelude.{◌≡◌, ◌+◌, ◌<◌, ◌++◌, ◌∷◌, ℕ, Bool, List, [], None, Some, reverse};
+ghost use Rattle.std.specs.Prelude.{◌≡◌, ◌+◌, ◌<◌, ◌≤◌, ◌++◌, ◌∷◌, ℕ, Bool, List, [], None, Some, reverse};
 ghost use Rattle.std.specs.List.{AllByRecursion};
 ghost use Rattle.zio_types.specs.declared.journal.Completion.{Completion};
 ghost use Rattle.zio_types.specs.declared.place.TopSize.{TopSize};
 ghost use Rattle.zio_types.specs.Choices.{Choice};
 ghost use Rattle.zio_script.specs.declared.script.Script.{Script};
 ghost use Rattle.zio_types.specs.declared.journal.Journal.{Journal};
-ghost use Rattle.zio_script.specs.Accepted.{AreBehindParents, AreRising, NameApart};
+ghost use Rattle.zio_script.specs.Accepted.{AreBehindParents, AreRising, IsOrderlyBatch, NameApart};
 ghost use Rattle.zio_script.specs.Requests.{requests_of};
 ghost use Rattle.zio_script.specs.declared.script.Failmode.{Failmode};
 ghost use Rattle.zio_script.specs.declared.script.Item.{Item};
@@ -27,7 +27,7 @@ ghost use Rattle.zio_course.specs.Admitted.{AreAwaited};
 ghost use Rattle.zio_course.specs.Answered.{answered_in};
 ghost use Rattle.zio_course.specs.Course.{IsEnteredSoFar, Reaches, shown_of};
 ghost use Rattle.zio_course.specs.Entered.{IsBatchRun};
-ghost use Rattle.zio_course.specs.Forests.{names_of, running};
+ghost use Rattle.zio_course.specs.Forests.{AreReady, names_of, running};
 ghost use Rattle.zio_course.specs.Names.{is_some_name};
 ghost use Rattle.zio_course.specs.Runners.{IsRound, IsRoundEnd, Standing, terms_at};
 ghost use Rattle.zio_course.specs.Steps.{AreUnfinished, IsAt, IsNextRound, IsPlanOf};
@@ -101,4 +101,13 @@ pub fn what_was_run_stays_run()
         → ((later : List Choice) → AllByRecursion (λ (c : Choice). new.rounds < c.asked.key.round) later
         → step (plan_of script before (new.places ++ later)) ≡ record { events = more; state = st })
         → Reaches script before new (events ++ more) (λ plan. rest plan st) }
+{}
+
+/// The requests of an orderly batch that admission lets run are ready for their round: their blocks are bound where they
+/// need one, and the numbers and sizes of their children are within the limits, although some were answered.
+pub fn an_orderly_batch_is_ready()
+    ensures { (apart : Bool) (suspended : List (List Pending)) (awaited : List ℕ → Bool) (bound : List (List ℕ × Tree)) (number : ℕ) (items : List Item) (slots : List (ℕ × ℕ)) (rules : List Rules) →
+        1 ≤ number → AreRising (requests_of items) → IsOrderlyBatch apart (requests_of items) → AreAwaited suspended awaited
+        → IsAdmission (has_trees suspended) awaited (is_some_name bound) (trees_of (requests_of items)) slots rules
+        → AreReady number bound (running slots rules items) }
 {}

@@ -59,15 +59,15 @@ all_free suspended =
     all_true (λ (tree : List Pending). AllByRecursion (λ (p : Pending). no_error p.request.number ≡ None) tree) suspended
     (λ tree. all_true (λ (p : Pending). no_error p.request.number ≡ None) tree (λ p. refl))
 
-times_if : (b : Bool) (n : ℕ) → cond b (1 + n) n ≡ one_if b + n
+pub times_if : (b : Bool) (n : ℕ) → cond b (1 + n) n ≡ one_if b + n
 times_if true n = refl
 times_if false n = let zero_and : n ≡ 0 + n = omega arith in zero_and
 
-times_tally : (n : ℕ) (rs : List Request) → times n (numbers_of rs) ≡ tally (λ (r : Request). one_if (eqb r.number n)) rs
+pub times_tally : (n : ℕ) (rs : List Request) → times n (numbers_of rs) ≡ tally (λ (r : Request). one_if (eqb r.number n)) rs
 times_tally n [] = refl
 times_tally n (r ∷ rs) = times_if (eqb r.number n) (times n (numbers_of rs)) ∙ ap (λ (k : ℕ). one_if (eqb r.number n) + k) (times_tally n rs)
 
-trees_tally : (n : ℕ) (trees : List (List Pending)) → tally (λ (r : Request). one_if (eqb r.number n)) (requests_in trees) ≡ of_trees (λ (r : Request). one_if (eqb r.number n)) trees
+pub trees_tally : (n : ℕ) (trees : List (List Pending)) → tally (λ (r : Request). one_if (eqb r.number n)) (requests_in trees) ≡ of_trees (λ (r : Request). one_if (eqb r.number n)) trees
 trees_tally n trees =
     sum_map (λ (r : Request). one_if (eqb r.number n)) (λ (p : Pending). p.request) (joined_trees trees)
     ∙ sum_flat (λ (p : Pending). one_if (eqb p.request.number n)) (λ (tree : List Pending). tree) trees

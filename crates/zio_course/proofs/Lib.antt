@@ -15,6 +15,7 @@ mod PlaceLemmas
 mod PlantLemmas
 mod RanLemmas
 mod ReadyLemmas
+mod RunnableLemmas
 mod SoFarLemmas
 mod SortLemmas
 mod StepLemmas

@@ -107,7 +107,7 @@ block_there bound (Claim name pointer) fit = refl
 
 -- ---- children
 
-found_one : (n : ℕ) (rs : List Request) (q : Request) → find (λ (r : Request). eqb r.number n) rs ≡ Some q → IsOneOf q rs × (q.number ≡ n)
+pub found_one : (n : ℕ) (rs : List Request) (q : Request) → find (λ (r : Request). eqb r.number n) rs ≡ Some q → IsOneOf q rs × (q.number ≡ n)
 found_one n [] q is = absurd (let f = is in cc)
 found_one n (r ∷ rs) q is = go (eqb r.number n) refl is (found_one n rs q)
   where
@@ -149,11 +149,11 @@ all_may before (r ∷ rs) rising h =
 
 -- ---- counts
 
-abbrev counting : (Request → Bool) → List Request → ℕ
+abbrev pub counting : (Request → Bool) → List Request → ℕ
 counting test [] = 0
 counting test (r ∷ rs) = cond (test r) (1 + counting test rs) (counting test rs)
 
-counting_is : (test : Request → Bool) (rs : List Request) → counting test rs ≡ count_by test rs
+pub counting_is : (test : Request → Bool) (rs : List Request) → counting test rs ≡ count_by test rs
 counting_is test rs = is_count_by (counting test) test refl (λ r qs. refl) rs
 
 more_if : (b : Bool) (n m : ℕ) → n ≤ m → n ≤ cond b (1 + m) m

@@ -1,4 +1,4 @@
-ghost use Rattle.std.specs.Prelude.{◌≡◌, ◌+◌, ◌<◌, ◌≤◌, ◌++◌, ◌∷◌, ℕ, Bool, List, [], None, Some, reverse};
+ghost use Rattle.std.specs.Prelude.{◌≡◌, ◌+◌, ◌<◌, ◌≤◌, ◌++◌, ◌∷◌, ℕ, Bool, List, [], Contains, IfSome, None, Some, reverse};
 ghost use Rattle.std.specs.List.{AllByRecursion};
 ghost use Rattle.zio_types.specs.declared.journal.Completion.{Completion};
 ghost use Rattle.zio_types.specs.declared.place.TopSize.{TopSize};
@@ -17,6 +17,7 @@ ghost use Rattle.zio_gang.specs.Journals.{AreChoicesOf, AreCompletionsOf, Comple
 ghost use Rattle.zio_gang.specs.Rounds.{admitted, pending_trees, trees_of};
 ghost use Rattle.zio_gang.specs.Runs.{Course, Event, Plan, Round, State, after_round, has_trees, plan_of, run_batch, run_suspended, then_course};
 ghost use Rattle.zio_gang.specs.Runs.Event.{RanRound, HeldBatch};
+ghost use Rattle.zio_gang.specs.Trees.{tree_places};
 ghost use Rattle.zio_report.specs.declared.report.Line.{Line};
 ghost use Rattle.zio_report.specs.declared.report.RoundHead.{RoundHead};
 ghost use Rattle.zio_report.specs.declared.report.Show.{Show};
@@ -28,8 +29,8 @@ ghost use Rattle.zio_course.specs.Answered.{answered_in};
 ghost use Rattle.zio_course.specs.Course.{IsEnteredSoFar, Reaches, shown_of};
 ghost use Rattle.zio_course.specs.Entered.{IsBatchRun};
 ghost use Rattle.zio_course.specs.Forests.{AreReady, names_of, running};
-ghost use Rattle.zio_course.specs.Names.{is_some_name};
-ghost use Rattle.zio_course.specs.Runners.{IsRound, IsRoundEnd, Standing, terms_at};
+ghost use Rattle.zio_course.specs.Names.{is_some_name, named_in};
+ghost use Rattle.zio_course.specs.Runners.{AreRunnable, IsRound, IsRoundEnd, Standing, rows_tell_apart, terms_at};
 ghost use Rattle.zio_course.specs.Steps.{AreUnfinished, IsAt, IsNextRound, IsPlanOf};
 ghost use Rattle.zio_course.specs.Told.{no_error};
 ghost use Rattle.zio_course.specs.declared.admission.Rules.{Rules};
@@ -110,4 +111,13 @@ pub fn an_orderly_batch_is_ready()
         1 ≤ number → AreRising (requests_of items) → IsOrderlyBatch apart (requests_of items) → AreAwaited suspended awaited
         → IsAdmission (has_trees suspended) awaited (is_some_name bound) (trees_of (requests_of items)) slots rules
         → AreReady number bound (running slots rules items) }
+{}
+
+/// Its trees are runnable too, where the places of all bound blocks are in use.
+pub fn an_orderly_batch_is_runnable()
+    ensures { (s : Standing) (apart : Bool) (suspended : List (List Pending)) (awaited : List ℕ → Bool) (bound : List (List ℕ × Tree)) (number : ℕ) (items : List Item) (slots : List (ℕ × ℕ)) (rules : List Rules) →
+        rows_tell_apart s.rows ≡ apart → AreRising (requests_of items) → IsOrderlyBatch apart (requests_of items) → AreAwaited suspended awaited
+        → IsAdmission (has_trees suspended) awaited (is_some_name bound) (trees_of (requests_of items)) slots rules
+        → ((name : List ℕ) → IfSome (named_in bound name) (λ tree. AllByRecursion (Contains s.live) (tree_places tree)))
+        → AreRunnable s (pending_trees (names_of bound) number (trees_of (running slots rules items))) }
 {}

@@ -1,30 +1,28 @@
 -- The round of suspended trees is the next round of the course.
-use Rattle.std.proofs.Common.{◌≡◌, ℕ, ◌+◌, List, [], ◌∷◌, ◌++◌, map, reverse, count_by, Bool, true, false, cond, Option, None, eqb, refl, sym, ap, ◌∙◌, subst, arith, Contains}
+use Rattle.std.proofs.Common.{◌≡◌, ℕ, ◌+◌, List, [], ◌∷◌, ◌++◌, map, reverse, Bool, true, false, cond, None, eqb, refl, sym, ap, ◌∙◌, subst, arith, Contains}
 use Rattle.std.specs.List.{AllByRecursion, flat_map}
-use Rattle.zio_types.specs.declared.error.Errno.{Errno}
 use Rattle.zio_types.specs.declared.journal.Completion.{Completion}
 use Rattle.zio_types.specs.declared.journal.Journal.{Journal}
-use Rattle.zio_types.specs.Choices.{Ask, Choice}
+use Rattle.zio_types.specs.Choices.{Ask}
 use Rattle.zio_script.specs.declared.script.Failmode.{Failmode}
 use Rattle.zio_script.specs.declared.script.Request.{Request}
 use Rattle.zio_script.specs.Accepted.{NameApart}
 use Rattle.zio_cksum.specs.Images.{Images}
-use Rattle.zio_cksum.proofs.AllLemmas.{all_contains, all_true, all_unmap, all_weaker}
+use Rattle.zio_cksum.proofs.AllLemmas.{all_true, all_unmap, all_weaker}
 use Rattle.zio_gang.specs.declared.tree.Tree.{Tree}
 use Rattle.zio_gang.specs.Attempts.{Ended, Pending, Terms}
 use Rattle.zio_gang.specs.Journals.{AreChoicesOf, AreCompletionsOf, choices_in}
 use Rattle.zio_gang.specs.Rounds.{Ran, block_of, bound_after, settle_each, used_places}
 use Rattle.zio_gang.specs.Runs.{Plan, Round, State, after_round, round_of, run_suspended, terms_of}
 use Rattle.zio_gang.specs.Trees.{sizes_of}
-use Rattle.zio_gang.proofs.FateLemmas.{of_pending, of_trees, sum_flat, sum_map, tally}
+use Rattle.zio_gang.proofs.FateLemmas.{of_trees, sum_flat, sum_map, tally}
 use Rattle.zio_report.specs.declared.report.Line.{Line}
 use Rattle.zio_report.specs.Reports.{by_number, line_of_ended, line_of_pending}
 use Rattle.zio_course.specs.declared.runner.Finished.{Finished}
 use Rattle.zio_course.specs.declared.runner.RoundEnd.{RoundEnd}
-use Rattle.zio_course.specs.Answered.{answered_in}
 use Rattle.zio_course.specs.Entered.{IsBatchRun}
 use Rattle.zio_course.specs.Forests.{names_of}
-use Rattle.zio_course.specs.Runners.{AreRisingFrom, IsRound, IsRoundEnd, Standing, completion_for, finished_by_number, is_numbered, joined_trees, numbers_of, requests_in, terms_at}
+use Rattle.zio_course.specs.Runners.{AreRisingFrom, IsRound, IsRoundEnd, Standing, completion_for, finished_by_number, joined_trees, numbers_of, requests_in, terms_at}
 use Rattle.zio_course.specs.Steps.{AreUnfinished, IsAt, IsNextRound, IsPlanOf}
 use Rattle.zio_course.specs.Told.{ended_told, line_told, no_error}
 use Rattle.zio_course.proofs.CourseLemmas.{ran_lines, settled_at}

@@ -10,6 +10,8 @@ mod FitLemmas
 mod ForestLemmas
 mod JournalLemmas
 mod LineLemmas
+mod LiveLemmas
+mod MadeLemmas
 mod NameLemmas
 mod PlaceLemmas
 mod PlantLemmas

@@ -1,6 +1,6 @@
 -- The requests of an orderly batch that admission lets run are ready: blocks are there where they are needed, and children
 -- and sizes are within the limits.
-use Rattle.std.proofs.Common.{◌≡◌, ℕ, ◌+◌, ◌*◌, ◌-◌, ◌/◌, ◌<◌, ◌≤◌, List, [], ◌∷◌, ◌++◌, map, filter, count_by, find, Bool, true, false, ◌&&◌, ◌||◌, not, cond, Option, Some, None, is_none, is_some, eqb, eqb-true, eq-eqb, refl, sym, ap, ◌∙◌, subst, inl, inr, arith, append_assoc}
+use Rattle.std.proofs.Common.{◌≡◌, ℕ, ◌+◌, ◌<◌, ◌≤◌, List, [], ◌∷◌, ◌++◌, filter, count_by, find, Bool, true, false, ◌&&◌, ◌||◌, not, cond, Option, Some, None, is_none, is_some, eqb, eqb-true, refl, sym, ap, ◌∙◌, subst, inl, inr, arith, append_assoc}
 use Rattle.std.proofs.lemmas.List.Recursion.{is_count_by}
 use Rattle.std.specs.List.{AllByRecursion, list_any}
 use Rattle.zio_types.specs.declared.error.Errno.{Errno}
@@ -11,23 +11,23 @@ use Rattle.zio_script.specs.declared.script.Item.{Item}
 use Rattle.zio_script.specs.declared.script.Request.{Request}
 use Rattle.zio_script.specs.declared.script.Work.{Work}
 use Rattle.zio_script.specs.declared.script.Work.TheVariants.{Null, Read, Write, Free, Claim}
-use Rattle.zio_script.specs.Accepted.{AreBehindParents, AreRising, HasParentIn, IsInRange, IsOrderlyBatch, sizes_in}
+use Rattle.zio_script.specs.Accepted.{AreBehindParents, AreRising, HasParentIn, IsInRange, IsOrderlyBatch}
 use Rattle.zio_script.specs.Requests.{is_under, is_under_number, kind_of, makes_block, name_of, needs_block, requests_of}
-use Rattle.zio_script.specs.Whys.{children_in, is_write, may_have, parent_in, rounded_up, size_with, writes_under}
+use Rattle.zio_script.specs.Whys.{children_in, is_write, may_have, rounded_up, size_with, writes_under}
 use Rattle.zio_cksum.proofs.AllLemmas.{all_unmap, all_weaker}
 use Rattle.zio_gang.specs.declared.tree.Tree.{Tree}
 use Rattle.zio_gang.specs.Attempts.{Pending}
 use Rattle.zio_gang.specs.Rounds.{admission, first_rule, is_blocked, lacks_block, passes, takes_bound, trees_of}
 use Rattle.zio_gang.specs.Runs.{has_trees}
-use Rattle.zio_gang.proofs.FateLemmas.{rising_back, rising_front}
+use Rattle.zio_gang.proofs.FateLemmas.{rising_front}
 use Rattle.zio_course.specs.declared.admission.Rules.{Rules}
 use Rattle.zio_course.specs.Admissions.{IsAdmission, error_in}
 use Rattle.zio_course.specs.Admitted.{AreAwaited}
 use Rattle.zio_course.specs.Forests.{AreReady, IsReady, block_by, running}
-use Rattle.zio_course.specs.Names.{is_some_name, named_in}
+use Rattle.zio_course.specs.Names.{is_some_name}
 use Rattle.zio_course.proofs.AdmissionLemmas.{stand_once}
-use Rattle.zio_course.proofs.AdmittedLemmas.{Judge, all_both, judged_by, rising_if, rising_kept}
-use Rattle.zio_course.proofs.SortLemmas.{IsOneOf, all_one, one_left, one_right}
+use Rattle.zio_course.proofs.AdmittedLemmas.{Judge, all_both, judged_by, rising_kept}
+use Rattle.zio_course.proofs.SortLemmas.{IsOneOf, one_left, one_right}
 use Rattle.zio_course.proofs.StepLemmas.{from_trees, one_number, some_same}
 
 -- ---- blocks
@@ -280,8 +280,11 @@ module _ (number : ℕ) (some : 1 ≤ number) (bound : List (List ℕ × Tree)) 
       let m : counting test rs ≤ cond (test r) (1 + counting test rs) (counting test rs) = more_if (test r) (counting test rs) (counting test rs) (omega arith) in omega arith)) rising.1 may.1 sound.1)
     where
       go : (b : Bool) → keep r ≡ b → AreReady number bound (filter keep rs) → AreReady number bound (cond b (r ∷ filter keep rs) (filter keep rs))
-      go true kept later = (one_ready r rs (λ test. (let w : cond (test r) (1 + counting test rs) (counting test rs) ≤ counting test batch = within test in
-          let m : counting test rs ≤ cond (test r) (1 + counting test rs) (counting test rs) = more_if (test r) (counting test rs) (counting test rs) (omega arith) in omega arith)) kept rising may.0 sound.0, later)
+      go true kept later = (
+        one_ready r rs (λ test. (let w : cond (test r) (1 + counting test rs) (counting test rs) ≤ counting test batch = within test in
+            let m : counting test rs ≤ cond (test r) (1 + counting test rs) (counting test rs) = more_if (test r) (counting test rs) (counting test rs) (omega arith) in omega arith)) kept rising may.0 sound.0,
+        later,
+      )
       go false kept later = later
 
 -- The requests of an orderly batch that run are ready.

@@ -1,6 +1,5 @@
 -- The trees of an orderly batch are runnable.
-use Rattle.std.proofs.Common.{◌≡◌, ℕ, ◌+◌, ◌<◌, ◌≤◌, List, [], ◌∷◌, ◌++◌, length, map, filter, count_by, Bool, true, false, ◌&&◌, ◌||◌, not, cond, Option, Some, None, IfSome, is_none, bytes_eq, eqb, eqb-true, eq-eqb, refl, sym, ap, ◌∙◌, subst, inl, inr, ◌⊎◌, arith, Contains}
-use Rattle.std.specs.Prelude.{option_to_list}
+use Rattle.std.proofs.Common.{◌≡◌, ℕ, ◌+◌, ◌≤◌, List, [], ◌∷◌, ◌++◌, length, map, filter, count_by, Bool, true, false, ◌&&◌, ◌||◌, not, cond, Option, Some, None, IfSome, is_none, bytes_eq, eqb, eq-eqb, refl, sym, ap, ◌∙◌, subst, inl, inr, ◌⊎◌, arith, Contains}
 use Rattle.std.proofs.lemmas.Slice.Eq.{bytes_eq-Decides}
 use Rattle.std.proofs.lemmas.Bool.{false_from_ne_true}
 use Rattle.std.specs.List.{AllByRecursion, flat_map, list_any}
@@ -12,10 +11,10 @@ use Rattle.zio_script.specs.declared.script.Work.{Work}
 use Rattle.zio_script.specs.Accepted.{AreRising, IsOrderlyBatch, NameApart}
 use Rattle.zio_script.specs.Requests.{kind_of, name_of, names_it, needs_block, requests_of}
 use Rattle.zio_script.specs.Whys.{clashes, is_claim, is_read, may_share}
-use Rattle.zio_cksum.proofs.AllLemmas.{all_append, all_map, all_weaker}
+use Rattle.zio_cksum.proofs.AllLemmas.{all_append, all_map}
 use Rattle.zio_gang.specs.declared.tree.Tree.{Tree}
-use Rattle.zio_gang.specs.Attempts.{Ended, Pending}
-use Rattle.zio_gang.specs.Rounds.{Admitted, Bound, admitted, block_if, block_of, pending, pending_trees, trees_of}
+use Rattle.zio_gang.specs.Attempts.{Pending}
+use Rattle.zio_gang.specs.Rounds.{Admitted, Bound, admitted, block_if, pending, pending_trees, trees_of}
 use Rattle.zio_gang.specs.Runs.{has_trees}
 use Rattle.zio_gang.specs.Trees.{tree_places}
 use Rattle.zio_gang.proofs.FateLemmas.{admitted_sum, batch_held, of_ended, of_trees, pending_sum, sum_flat, sum_map, tally}
@@ -24,7 +23,7 @@ use Rattle.zio_course.specs.Admissions.{IsAdmission, error_in}
 use Rattle.zio_course.specs.Admitted.{AreAwaited}
 use Rattle.zio_course.specs.Forests.{names_of, running, same_parent, trees_under}
 use Rattle.zio_course.specs.Names.{is_some_name, named_in}
-use Rattle.zio_course.specs.Runners.{AreRisingFrom, AreRunnable, Standing, has_claim, joined_trees, named_places, numbers_of, places_of_block, requests_in, roots_of, rows_tell_apart}
+use Rattle.zio_course.specs.Runners.{AreRisingFrom, AreRunnable, Standing, joined_trees, named_places, numbers_of, places_of_block, requests_in, roots_of, rows_tell_apart}
 use Rattle.zio_course.proofs.AdmittedLemmas.{rising_kept, trees_admitted}
 use Rattle.zio_course.proofs.ClearLemmas.{times_if}
 use Rattle.zio_course.proofs.CourseLemmas.{once_counted, trees_all}
@@ -38,7 +37,7 @@ use Rattle.zio_course.proofs.TouchLemmas.{two_apart}
 
 -- ---- names
 
-eq_swap : (a b : List ℕ) → bytes_eq a b ≡ bytes_eq b a
+pub eq_swap : (a b : List ℕ) → bytes_eq a b ≡ bytes_eq b a
 eq_swap a b = go (bytes_eq a b) refl (bytes_eq b a) refl
   where
     go : (x : Bool) → bytes_eq a b ≡ x → (y : Bool) → bytes_eq b a ≡ y → bytes_eq a b ≡ bytes_eq b a
@@ -147,6 +146,7 @@ block_live live bound true (Some name) h =
   where
     append_none : (ps : List Place) → AllByRecursion (Contains live) ps → AllByRecursion (Contains live) (ps ++ [])
     append_none ps k = all_append (Contains live) ps [] k tt
+
     go : (o : Option Tree) → IfSome o (λ tree. AllByRecursion (Contains live) (tree_places tree)) → AllByRecursion (Contains live) (places_of_block o)
     go None k = tt
     go (Some tree) k = append_none (tree_places tree) k

@@ -1,5 +1,5 @@
 -- A run that has come further by a round, or by a batch that is held.
-use Rattle.std.proofs.Common.{◌≡◌, ℕ, ◌+◌, ◌<◌, ◌≤◌, List, [], ◌∷◌, ◌++◌, length, map, Bool, true, false, Option, refl, sym, ap, ◌∙◌, subst, arith, append_assoc, length-append}
+use Rattle.std.proofs.Common.{◌≡◌, ℕ, ◌+◌, ◌<◌, ◌≤◌, List, [], ◌∷◌, ◌++◌, length, refl, sym, ap, ◌∙◌, subst, append_assoc, length-append}
 use Rattle.std.proofs.lemmas.List.{append-nil}
 use Rattle.std.specs.List.{AllByRecursion, flat_map}
 use Rattle.zio_types.specs.declared.journal.Completion.{Completion}
@@ -9,7 +9,6 @@ use Rattle.zio_types.specs.Choices.{Choice}
 use Rattle.zio_script.specs.declared.script.Request.{Request}
 use Rattle.zio_script.specs.declared.script.Script.{Script}
 use Rattle.zio_cksum.specs.Images.{Images}
-use Rattle.zio_cksum.proofs.AllLemmas.{all_append, all_weaker}
 use Rattle.zio_gang.specs.Journals.{AreChoicesOf, AreCompletions, AreCompletionsOf, CompleteAfterChildren, CompleteOnce, IsLawfulJournal, choices_in, completions_in}
 use Rattle.zio_gang.specs.Runs.{Course, Event, Plan, Round, State, add_events, plan_of, rounds_of, run_script, then_course}
 use Rattle.zio_gang.specs.Runs.Event.{RanRound, HeldBatch}
@@ -19,8 +18,8 @@ use Rattle.zio_report.specs.declared.report.Show.{Show}
 use Rattle.zio_report.specs.declared.report.Show.TheVariants.{Report, Summary}
 use Rattle.zio_report.specs.Lines.{round_text}
 use Rattle.zio_report.specs.Reports.{Records, RunSize, event_text, head_of, held_text, lines_of, pool_text, text_so_far}
-use Rattle.zio_course.specs.Course.{AreLater, IsEnteredSoFar, Reaches, shown_of}
-use Rattle.zio_course.proofs.JournalLemmas.{all_after, all_next, all_push, completions_next, in_round, lawful_next}
+use Rattle.zio_course.specs.Course.{IsEnteredSoFar, Reaches, shown_of}
+use Rattle.zio_course.proofs.JournalLemmas.{all_after, all_next, completions_next, in_round, lawful_next}
 
 -- ---- what happened
 

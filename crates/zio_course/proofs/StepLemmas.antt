@@ -50,9 +50,9 @@ pub some_same : {X : Type 0} (x y : X) → Some x ≡ Some y → x ≡ y
 some_same x y e = cc
 
 -- what is found by its number is there and has it
-record Found (fs : List Finished) (n : ℕ) (f : Finished) : Type 0 where
-  at : IsOneOf f fs
-  number : f.request ≡ n
+pub record Found (fs : List Finished) (n : ℕ) (f : Finished) : Type 0 where
+  pub at : IsOneOf f fs
+  pub number : f.request ≡ n
 
 found_if : (b : Bool) (g : Finished) (fs : List Finished) (n : ℕ) (f : Finished) → eqb g.request n ≡ b → cond b (Some g) (finish_of fs n) ≡ Some f
     → (finish_of fs n ≡ Some f → Found fs n f) → Found (g ∷ fs) n f
@@ -61,7 +61,7 @@ found_if true g fs n f e is later =
     record { at = inl same; number = ap (λ (x : Finished). x.request) (sym same) ∙ eqb-true g.request n e }
 found_if false g fs n f e is later = let rest = later is in record { at = inr rest.at; number = rest.number }
 
-found_there : (fs : List Finished) (n : ℕ) (f : Finished) → finish_of fs n ≡ Some f → Found fs n f
+pub found_there : (fs : List Finished) (n : ℕ) (f : Finished) → finish_of fs n ≡ Some f → Found fs n f
 found_there [] n f is = absurd (let no = is in cc)
 found_there (g ∷ fs) n f is = found_if (eqb g.request n) g fs n f refl is (λ later. found_there fs n f later)
 

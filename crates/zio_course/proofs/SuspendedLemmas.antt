@@ -1,9 +1,8 @@
 -- The requests of suspended trees as lines of a script.
-use Rattle.std.proofs.Common.{◌≡◌, ℕ, suc, ◌+◌, ◌<◌, ◌≤◌, length, get_or, arith, List, [], ◌∷◌, ◌++◌, map, filter, count_by, drop, true, false, Bool, ◌||◌, cond, eqb, Option, None, is_none, refl, sym, ap, subst, ◌∙◌}
+use Rattle.std.proofs.Common.{◌≡◌, ℕ, suc, ◌+◌, ◌<◌, ◌≤◌, length, get_or, arith, List, [], ◌∷◌, map, count_by, drop, true, false, Bool, ◌||◌, cond, eqb, refl, sym, ap, subst, ◌∙◌}
 use Rattle.std.proofs.Math.ListN.{get_or-map}
 use Rattle.std.proofs.Math.Seq.{drop-cons}
 use Rattle.std.proofs.lemmas.List.{drop_all}
-use Rattle.zio_types.specs.declared.error.Errno.{Errno}
 use Rattle.zio_script.specs.declared.script.Item.{Item}
 use Rattle.zio_script.specs.declared.script.Item.TheVariants.{Request as RequestLine}
 use Rattle.zio_script.specs.declared.script.Request.{Request}

@@ -19,19 +19,19 @@ use Rattle.zio_course.proofs.ToldLemmas.{bind_if, unbind_if}
 -- ---- what a request makes of a name
 
 -- a block that it makes, where it makes one
-abbrev made_if : Option Tree → Option (Option Tree)
+abbrev pub made_if : Option Tree → Option (Option Tree)
 made_if None = None
 made_if (Some tree) = Some (Some tree)
 
 -- the block or none that a request without error makes of a name, if it changes that
-abbrev touch_by : Work → Option Tree → List ℕ → Option (Option Tree)
+abbrev pub touch_by : Work → Option Tree → List ℕ → Option (Option Tree)
 touch_by Null tree name = None
 touch_by (Read n prio) tree name = None
 touch_by (Write n sum copies prio body) tree name = cond (bytes_eq n name) (made_if tree) None
 touch_by (Free n) tree name = cond (bytes_eq n name) (Some None) None
 touch_by (Claim n pointer) tree name = cond (bytes_eq n name) (made_if tree) None
 
-abbrev touch_unless : Option Errno → Ended → List ℕ → Option (Option Tree)
+abbrev pub touch_unless : Option Errno → Ended → List ℕ → Option (Option Tree)
 touch_unless None e name = touch_by e.request.work e.tree name
 touch_unless (Some error) e name = None
 
@@ -74,7 +74,7 @@ unless_touched (Some error) e bound name = refl
 -- ---- all that ended
 
 -- none of them changes the name
-after_untouched : (es : List Ended) (bound : Bound) (name : List ℕ) → AllByRecursion (λ (e : Ended). touch name e ≡ None) es
+pub after_untouched : (es : List Ended) (bound : Bound) (name : List ℕ) → AllByRecursion (λ (e : Ended). touch name e ≡ None) es
     → block_of (bound_after es bound) name ≡ block_of bound name
 after_untouched [] bound name none = refl
 after_untouched (e ∷ es) bound name none =
@@ -82,7 +82,7 @@ after_untouched (e ∷ es) bound name none =
     ∙ (unless_touched e.error e bound name ∙ ap (λ (t : Option (Option Tree)). touched t (block_of bound name)) none.0)
 
 -- each leaves the name, or makes this of it
-abbrev AreAgreed : List ℕ → Option Tree → List Ended → Type 0
+abbrev pub AreAgreed : List ℕ → Option Tree → List Ended → Type 0
 AreAgreed name after es = AllByRecursion (λ (e : Ended). (touch name e ≡ None) ⊎ (touch name e ≡ Some after)) es
 
 stays_so : (es : List Ended) (bound : Bound) (name : List ℕ) (after : Option Tree) → AreAgreed name after es → block_of bound name ≡ after
@@ -95,7 +95,7 @@ stays_so (e ∷ es) bound name after agreed is =
     go (inl none) = ap (λ (t : Option (Option Tree)). touched t (block_of bound name)) none ∙ is
     go (inr some) = ap (λ (t : Option (Option Tree)). touched t (block_of bound name)) some
 
-becomes : (es : List Ended) (bound : Bound) (name : List ℕ) (after : Option Tree) (e : Ended) → AreAgreed name after es → IsOneOf e es → touch name e ≡ Some after
+pub becomes : (es : List Ended) (bound : Bound) (name : List ℕ) (after : Option Tree) (e : Ended) → AreAgreed name after es → IsOneOf e es → touch name e ≡ Some after
     → block_of (bound_after es bound) name ≡ after
 becomes [] bound name after e agreed at some = absurd at
 becomes (x ∷ es) bound name after e agreed (inl same) some =
@@ -105,13 +105,13 @@ becomes (x ∷ es) bound name after e agreed (inl same) some =
 becomes (x ∷ es) bound name after e agreed (inr at) some = becomes es (bound_unless x.error x bound) name after e agreed.1 at some
 
 -- some request changes the name
-record Toucher (name : List ℕ) (es : List Ended) : Type 0 where
-  ended : Ended
-  after : Option Tree
-  at : IsOneOf ended es
-  makes : touch name ended ≡ Some after
+pub record Toucher (name : List ℕ) (es : List Ended) : Type 0 where
+  pub ended : Ended
+  pub after : Option Tree
+  pub at : IsOneOf ended es
+  pub makes : touch name ended ≡ Some after
 
-first_toucher : (name : List ℕ) (es : List Ended) → AllByRecursion (λ (e : Ended). touch name e ≡ None) es ⊎ Toucher name es
+pub first_toucher : (name : List ℕ) (es : List Ended) → AllByRecursion (λ (e : Ended). touch name e ≡ None) es ⊎ Toucher name es
 first_toucher name [] = inl tt
 first_toucher name (e ∷ es) = go (touch name e) refl (first_toucher name es)
   where
@@ -125,7 +125,7 @@ first_toucher name (e ∷ es) = go (touch name e) refl (first_toucher name es)
 abbrev pub TouchAlike : List ℕ → List Ended → Type 0
 TouchAlike name es = (e f : Ended) (a b : Option Tree) → IsOneOf e es → IsOneOf f es → touch name e ≡ Some a → touch name f ≡ Some b → a ≡ b
 
-agreed_by : (name : List ℕ) (es fs : List Ended) (e : Ended) (after : Option Tree) → TouchAlike name es → IsOneOf e es → touch name e ≡ Some after
+pub agreed_by : (name : List ℕ) (es fs : List Ended) (e : Ended) (after : Option Tree) → TouchAlike name es → IsOneOf e es → touch name e ≡ Some after
     → AllByRecursion (λ (f : Ended). IsOneOf f es) fs → AreAgreed name after fs
 agreed_by name es fs e after alike at some among =
     all_one (λ (f : Ended). (touch name f ≡ None) ⊎ (touch name f ≡ Some after)) fs
@@ -158,7 +158,7 @@ record Changes (work : Work) (name : List ℕ) : Type 0 where
   is : bytes_eq own name ≡ true
   reads : is_read (kind_of work) ≡ false
 
-change_if : (b : Bool) (t : Option (Option Tree)) (after : Option Tree) → cond b t None ≡ Some after → b ≡ true
+pub change_if : (b : Bool) (t : Option (Option Tree)) (after : Option Tree) → cond b t None ≡ Some after → b ≡ true
 change_if true t after e = refl
 change_if false t after e = absurd (let no = e in cc)
 

@@ -4,6 +4,7 @@ pub mod Answered
 pub mod Course
 pub mod Entered
 pub mod Forests
+pub mod Live
 pub mod Names
 pub mod Runners
 pub mod Steps

@@ -1,8 +1,11 @@
-ghost use Rattle.std.specs.Prelude.{◌≡◌, ◌+◌, ◌<◌, ◌≤◌, ◌++◌, ◌∷◌, ℕ, Bool, List, [], Contains, IfSome, None, Some, reverse};
+ghost use Rattle.std.specs.Prelude.{◌≡◌, ◌+◌, ◌<◌, ◌≤◌, ◌++◌, ◌∷◌, ℕ, Bool, List, [], Contains, IfSome, None, Option, Some, reverse};
 ghost use Rattle.std.specs.List.{AllByRecursion};
 ghost use Rattle.zio_types.specs.declared.journal.Completion.{Completion};
 ghost use Rattle.zio_types.specs.declared.place.TopSize.{TopSize};
+ghost use Rattle.zio_types.specs.declared.error.Errno.{Errno};
+ghost use Rattle.zio_types.specs.declared.place.Place.{Place};
 ghost use Rattle.zio_types.specs.Choices.{Choice};
+ghost use Rattle.zio_types.specs.Places.{SamePlaces};
 ghost use Rattle.zio_script.specs.declared.script.Script.{Script};
 ghost use Rattle.zio_types.specs.declared.journal.Journal.{Journal};
 ghost use Rattle.zio_script.specs.Accepted.{AreBehindParents, AreRising, IsOrderlyBatch, NameApart};
@@ -14,7 +17,7 @@ ghost use Rattle.zio_cksum.specs.Images.{Images};
 ghost use Rattle.zio_gang.specs.declared.tree.Tree.{Tree};
 ghost use Rattle.zio_gang.specs.Attempts.{Pending};
 ghost use Rattle.zio_gang.specs.Journals.{AreChoicesOf, AreCompletionsOf, CompleteAfterChildren, CompleteOnce, choices_in};
-ghost use Rattle.zio_gang.specs.Rounds.{admitted, pending_trees, trees_of};
+ghost use Rattle.zio_gang.specs.Rounds.{Bound, NamesOnce, admitted, block_of, bound_after, pending_trees, trees_of, used_places};
 ghost use Rattle.zio_gang.specs.Runs.{Course, Event, Plan, Round, State, after_round, has_trees, plan_of, run_batch, run_suspended, then_course};
 ghost use Rattle.zio_gang.specs.Runs.Event.{RanRound, HeldBatch};
 ghost use Rattle.zio_gang.specs.Trees.{tree_places};
@@ -29,10 +32,11 @@ ghost use Rattle.zio_course.specs.Answered.{answered_in};
 ghost use Rattle.zio_course.specs.Course.{IsEnteredSoFar, Reaches, shown_of};
 ghost use Rattle.zio_course.specs.Entered.{IsBatchRun};
 ghost use Rattle.zio_course.specs.Forests.{AreReady, names_of, running};
+ghost use Rattle.zio_course.specs.Live.{IsLive, IsRoundOver};
 ghost use Rattle.zio_course.specs.Names.{is_some_name, named_in};
-ghost use Rattle.zio_course.specs.Runners.{AreRunnable, IsRound, IsRoundEnd, Standing, rows_tell_apart, terms_at};
+ghost use Rattle.zio_course.specs.Runners.{AreRunnable, IsRound, IsRoundEnd, Standing, StandsAfter, rows_tell_apart, terms_at};
 ghost use Rattle.zio_course.specs.Steps.{AreUnfinished, IsAt, IsNextRound, IsPlanOf};
-ghost use Rattle.zio_course.specs.Told.{no_error};
+ghost use Rattle.zio_course.specs.Told.{ended_told, no_error};
 ghost use Rattle.zio_course.specs.declared.admission.Rules.{Rules};
 ghost use Rattle.zio_course.specs.declared.runner.RoundEnd.{RoundEnd};
 
@@ -120,4 +124,15 @@ pub fn an_orderly_batch_is_runnable()
         → IsAdmission (has_trees suspended) awaited (is_some_name bound) (trees_of (requests_of items)) slots rules
         → ((name : List ℕ) → IfSome (named_in bound name) (λ tree. AllByRecursion (Contains s.live) (tree_places tree)))
         → AreRunnable s (pending_trees (names_of bound) number (trees_of (running slots rules items))) }
+{}
+
+/// The places in use are those of the blocks that are bound, and stay so over a round: those of blocks that were freed
+/// leave them, and those of blocks that were made come to them. A course has the same places in use.
+pub fn bound_places_are_live()
+    ensures after { (s new : Standing) (round : ℕ) (apart : Bool) (trees : List (List Pending)) (end : RoundEnd (List Pending)) (requests : List Request) (error : ℕ → Option Errno) (bound after : List (List ℕ × Tree)) →
+        IsLive s.live bound → StandsAfter s new round trees end → IsRoundEnd s round trees end → IsRoundOver apart bound error requests trees
+        → ((name : List ℕ) → named_in after name ≡ block_of (bound_after (ended_told error end.finished requests) (names_of bound)) name)
+        → IsLive new.live after }
+    ensures used { (b : Bound) (bound : List (List ℕ × Tree)) (live : List Place) → NamesOnce b → ((name : List ℕ) → block_of b name ≡ named_in bound name) → IsLive live bound
+        → SamePlaces (used_places b) live }
 {}

@@ -1,4 +1,4 @@
-use Rattle.std.proofs.Common.{◌≡◌, ◌+◌, ◌++◌, ℕ, List, [], map, reverse, Bor, refl, sym, ap, subst, ◌∙◌, inr}
+use Rattle.std.proofs.Common.{◌+◌, ℕ, List, [], map, reverse, Bor, refl, sym, ap, subst, ◌∙◌, inr}
 use Rattle.zio_types.specs.declared.journal.Completion.{Completion}
 use Rattle.zio_script.specs.declared.script.Request.{Request}
 use Rattle.zio_gang.specs.declared.tree.Tree.{Tree}

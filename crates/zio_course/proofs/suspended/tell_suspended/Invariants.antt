@@ -1,4 +1,4 @@
-use Rattle.std.proofs.Common.{◌≡◌, ℕ, List, map, drop, reverse, Bor}
+use Rattle.std.proofs.Common.{List, map, drop, reverse, Bor}
 use Rattle.zio_script.specs.declared.script.Request.{Request}
 use Rattle.zio_course.specs.Told.{no_error}
 use Rattle.zio_course.proofs.SuspendedLemmas.{as_lines}

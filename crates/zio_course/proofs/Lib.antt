@@ -9,10 +9,12 @@ mod EndLemmas
 mod FitLemmas
 mod ForestLemmas
 mod JournalLemmas
+mod LeftLemmas
 mod LineLemmas
 mod LiveLemmas
 mod MadeLemmas
 mod NameLemmas
+mod OverLemmas
 mod PlaceLemmas
 mod PlantLemmas
 mod RanLemmas

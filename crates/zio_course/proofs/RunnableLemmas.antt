@@ -91,7 +91,7 @@ apart_of apart rs (y ∷ ys) names among once =
 
 -- ---- counts
 
-counted_by : (n : ℕ) (rs : List Request) → count_by (λ (r : Request). eqb r.number n) rs ≡ counted (λ (r : Request). r.number) n rs
+pub counted_by : (n : ℕ) (rs : List Request) → count_by (λ (r : Request). eqb r.number n) rs ≡ counted (λ (r : Request). r.number) n rs
 counted_by n rs = sym (counting_is (λ (r : Request). eqb r.number n) rs) ∙ go rs
   where
     go : (qs : List Request) → counting (λ (r : Request). eqb r.number n) qs ≡ counted (λ (r : Request). r.number) n qs
@@ -174,7 +174,7 @@ module _ (live : List Place) (bound : List (List ℕ × Tree)) (birth : ℕ) (h 
 
 -- ---- all together
 
-kept : (P : Request → Type 0) (test : Request → Bool) (qs : List Request) → AllByRecursion P qs → AllByRecursion P (filter test qs)
+pub kept : (P : Request → Type 0) (test : Request → Bool) (qs : List Request) → AllByRecursion P qs → AllByRecursion P (filter test qs)
 kept P test [] h = tt
 kept P test (q ∷ qs) h = go (test q) (kept P test qs h.1)
   where
@@ -225,3 +225,14 @@ batch_runnable s apart suspended awaited bound number items slots rules rows ris
           let right : tally (λ (r : Request). 1) requests ≡ length requests = all_counted requests in omega arith);
       live = trees_live s.live bound number live (trees_of rs);
     }
+
+-- what holds of each request that has no error holds of those that are kept for having none
+pub kept_none : (P : Request → Type 0) (error : ℕ → Option Errno) (qs : List Request) → AllByRecursion (λ (r : Request). error r.number ≡ None → P r) qs
+    → AllByRecursion P (filter (λ (r : Request). is_none (error r.number)) qs)
+kept_none P error [] h = tt
+kept_none P error (q ∷ qs) h = go (error q.number) refl (kept_none P error qs h.1)
+  where
+    go : (o : Option Errno) → error q.number ≡ o → AllByRecursion P (filter (λ (r : Request). is_none (error r.number)) qs)
+        → AllByRecursion P (cond (is_none (error q.number)) (q ∷ filter (λ (r : Request). is_none (error r.number)) qs) (filter (λ (r : Request). is_none (error r.number)) qs))
+    go None is rest = subst (λ (e : Option Errno). AllByRecursion P (cond (is_none e) (q ∷ filter (λ (r : Request). is_none (error r.number)) qs) (filter (λ (r : Request). is_none (error r.number)) qs))) (sym is) (h.0 is, rest)
+    go (Some x) is rest = subst (λ (e : Option Errno). AllByRecursion P (cond (is_none e) (q ∷ filter (λ (r : Request). is_none (error r.number)) qs) (filter (λ (r : Request). is_none (error r.number)) qs))) (sym is) rest

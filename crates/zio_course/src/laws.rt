@@ -34,7 +34,7 @@ ghost use Rattle.zio_course.specs.Entered.{IsBatchRun};
 ghost use Rattle.zio_course.specs.Forests.{AreReady, names_of, running};
 ghost use Rattle.zio_course.specs.Live.{IsLive, IsRoundOver};
 ghost use Rattle.zio_course.specs.Names.{is_some_name, named_in};
-ghost use Rattle.zio_course.specs.Runners.{AreRunnable, IsRound, IsRoundEnd, Standing, StandsAfter, rows_tell_apart, terms_at};
+ghost use Rattle.zio_course.specs.Runners.{AreRunnable, IsRound, IsRoundEnd, Standing, StandsAfter, named_places, rows_tell_apart, terms_at};
 ghost use Rattle.zio_course.specs.Steps.{AreUnfinished, IsAt, IsNextRound, IsPlanOf};
 ghost use Rattle.zio_course.specs.Told.{ended_told, no_error};
 ghost use Rattle.zio_course.specs.declared.admission.Rules.{Rules};
@@ -135,4 +135,17 @@ pub fn bound_places_are_live()
         → IsLive new.live after }
     ensures used { (b : Bound) (bound : List (List ℕ × Tree)) (live : List Place) → NamesOnce b → ((name : List ℕ) → block_of b name ≡ named_in bound name) → IsLive live bound
         → SamePlaces (used_places b) live }
+{}
+
+/// What an orderly batch is when its round is over, so that the law above holds of it; and what a round leaves of runnable
+/// trees is runnable again, where the blocks that it names are still in use.
+pub fn a_round_leaves_runnable_trees()
+    ensures over { (apart : Bool) (suspended : List (List Pending)) (awaited : List ℕ → Bool) (bound : List (List ℕ × Tree)) (number : ℕ) (items : List Item) (slots : List (ℕ × ℕ)) (rules : List Rules) →
+        AreRising (requests_of items) → IsOrderlyBatch apart (requests_of items) → AreAwaited suspended awaited
+        → IsAdmission (has_trees suspended) awaited (is_some_name bound) (trees_of (requests_of items)) slots rules
+        → IsRoundOver apart bound (error_in slots rules) (requests_of items) (pending_trees (names_of bound) number (trees_of (running slots rules items))) }
+    ensures left { (s new : Standing) (round : ℕ) (trees : List (List Pending)) (end : RoundEnd (List Pending)) →
+        AreRunnable s trees → IsRoundEnd s round trees end → StandsAfter s new round trees end
+        → AllByRecursion (Contains new.live) (named_places end.left)
+        → AreRunnable new end.left }
 {}

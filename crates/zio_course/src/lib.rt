@@ -21,6 +21,7 @@ mod runner;
 mod suspended;
 #[cfg(test)]
 mod tests;
+mod texts;
 mod told;
 mod waiting;
 
@@ -35,4 +36,5 @@ pub use laws::{a_batch_is_a_round_of_the_course, a_clear_is_a_round_of_the_cours
 pub use round::{WholeRound, whole_round};
 pub use runner::{Finished, Job, RoundEnd, Runner, Stop};
 pub use suspended::{run_suspended, tell_suspended};
+pub use texts::{write_held, write_pool, write_round, write_text};
 pub use told::tell_batch;

@@ -20,6 +20,7 @@ mod PlantLemmas
 mod RanLemmas
 mod ReadyLemmas
 mod RunnableLemmas
+mod ShortLemmas
 mod SoFarLemmas
 mod SortLemmas
 mod StepLemmas

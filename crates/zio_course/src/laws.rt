@@ -1,4 +1,4 @@
-ghost use Rattle.std.specs.Prelude.{◌≡◌, ◌+◌, ◌<◌, ◌≤◌, ◌++◌, ◌∷◌, ℕ, Bool, List, [], Contains, IfSome, None, Option, Some, reverse};
+ghost use Rattle.std.specs.Prelude.{◌≡◌, ◌+◌, ◌<◌, ◌≤◌, ◌++◌, ◌∷◌, ℕ, Bool, List, [], Contains, IfSome, length, None, Option, Some, reverse};
 ghost use Rattle.std.specs.List.{AllByRecursion};
 ghost use Rattle.zio_types.specs.declared.journal.Completion.{Completion};
 ghost use Rattle.zio_types.specs.declared.place.TopSize.{TopSize};
@@ -9,7 +9,10 @@ ghost use Rattle.zio_types.specs.Places.{SamePlaces};
 ghost use Rattle.zio_script.specs.declared.script.Script.{Script};
 ghost use Rattle.zio_types.specs.declared.journal.Journal.{Journal};
 ghost use Rattle.zio_script.specs.Accepted.{AreBehindParents, AreRising, IsOrderlyBatch, NameApart};
+ghost use Rattle.zio_script.specs.Grammar.{IsScriptIn};
 ghost use Rattle.zio_script.specs.Requests.{requests_of};
+ghost use Rattle.zio_script.specs.Words.{Word};
+ghost use Rattle.zio_script.specs.declared.read.TheConstants.{SCRIPT_LEN_MAX};
 ghost use Rattle.zio_script.specs.declared.script.Failmode.{Failmode};
 ghost use Rattle.zio_script.specs.declared.script.Item.{Item};
 ghost use Rattle.zio_script.specs.declared.script.Request.{Request};
@@ -148,4 +151,9 @@ pub fn a_round_leaves_runnable_trees()
         AreRunnable s trees → IsRoundEnd s round trees end → StandsAfter s new round trees end
         → AllByRecursion (Contains new.live) (named_places end.left)
         → AreRunnable new end.left }
+{}
+
+/// An accepted script has few items, so the numbers of its rounds and batches fit.
+pub fn accepted_scripts_are_short()
+    ensures { (is_built : List Word → Bool) (text : List ℕ) (script : Script) → IsScriptIn is_built text script → length script.items ≤ SCRIPT_LEN_MAX + 1 }
 {}

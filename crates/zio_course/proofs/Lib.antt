@@ -15,6 +15,7 @@ mod LiveLemmas
 mod MadeLemmas
 mod NameLemmas
 mod OverLemmas
+mod ParentLemmas
 mod PlaceLemmas
 mod PlantLemmas
 mod RanLemmas

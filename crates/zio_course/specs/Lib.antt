@@ -6,6 +6,7 @@ pub mod Entered
 pub mod Forests
 pub mod Live
 pub mod Names
+pub mod Parents
 pub mod Runners
 pub mod Steps
 pub mod Told

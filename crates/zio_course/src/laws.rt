@@ -18,9 +18,9 @@ ghost use Rattle.zio_script.specs.declared.script.Item.{Item};
 ghost use Rattle.zio_script.specs.declared.script.Request.{Request};
 ghost use Rattle.zio_cksum.specs.Images.{Images};
 ghost use Rattle.zio_gang.specs.declared.tree.Tree.{Tree};
-ghost use Rattle.zio_gang.specs.Attempts.{Pending};
+ghost use Rattle.zio_gang.specs.Attempts.{Pending, Terms};
 ghost use Rattle.zio_gang.specs.Journals.{AreChoicesOf, AreCompletionsOf, CompleteAfterChildren, CompleteOnce, choices_in};
-ghost use Rattle.zio_gang.specs.Rounds.{Bound, NamesOnce, admitted, block_of, bound_after, pending_trees, trees_of, used_places};
+ghost use Rattle.zio_gang.specs.Rounds.{Bound, NamesOnce, admitted, block_of, bound_after, pending_trees, settle_each, trees_of, used_places};
 ghost use Rattle.zio_gang.specs.Runs.{Course, Event, Plan, Round, State, after_round, has_trees, plan_of, run_batch, run_suspended, then_course};
 ghost use Rattle.zio_gang.specs.Runs.Event.{RanRound, HeldBatch};
 ghost use Rattle.zio_gang.specs.Trees.{tree_places};
@@ -37,6 +37,7 @@ ghost use Rattle.zio_course.specs.Entered.{IsBatchRun};
 ghost use Rattle.zio_course.specs.Forests.{AreReady, names_of, running};
 ghost use Rattle.zio_course.specs.Live.{IsLive, IsRoundOver};
 ghost use Rattle.zio_course.specs.Names.{is_some_name, named_in};
+ghost use Rattle.zio_course.specs.Parents.{AreParented};
 ghost use Rattle.zio_course.specs.Runners.{AreRunnable, IsRound, IsRoundEnd, Standing, StandsAfter, named_places, rows_tell_apart, terms_at};
 ghost use Rattle.zio_course.specs.Steps.{AreUnfinished, IsAt, IsNextRound, IsPlanOf};
 ghost use Rattle.zio_course.specs.Told.{ended_told, no_error};
@@ -156,4 +157,12 @@ pub fn a_round_leaves_runnable_trees()
 /// An accepted script has few items, so the numbers of its rounds and batches fit.
 pub fn accepted_scripts_are_short()
     ensures { (is_built : List Word → Bool) (text : List ℕ) (script : Script) → IsScriptIn is_built text script → length script.items ≤ SCRIPT_LEN_MAX + 1 }
+{}
+
+/// Parents wait for their children: in the trees of a batch each request comes before its parent, and where a round leaves a
+/// request it leaves its parent. So no later round completes a child of a request that completed.
+pub fn parents_wait_for_children()
+    ensures batch { (names : Bound) (birth : ℕ) (requests : List Request) → AllByRecursion AreParented (pending_trees names birth (trees_of requests)) }
+    ensures round { (j : List Choice) (t : Terms) (trees : List (List Pending)) (images : Images) → AllByRecursion AreParented trees
+        → AllByRecursion AreParented (settle_each j t trees images).left }
 {}

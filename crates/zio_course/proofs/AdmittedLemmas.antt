@@ -20,7 +20,7 @@ use Rattle.zio_course.proofs.ForestLemmas.{all_then, trees_from_back}
 
 -- ---- the rules
 
-any_same : (P Q : Request → Bool) (tree : List Request) → ((r : Request) → P r ≡ Q r) → list_any P tree ≡ list_any Q tree
+pub any_same : (P Q : Request → Bool) (tree : List Request) → ((r : Request) → P r ≡ Q r) → list_any P tree ≡ list_any Q tree
 any_same P Q [] same = refl
 any_same P Q (r ∷ rs) same = ap (λ (b : Bool). b || list_any P rs) (same r) ∙ ap (λ (b : Bool). Q r || b) (any_same P Q rs same)
 
@@ -58,7 +58,7 @@ rules_admit suspended awaited bound tree h =
 
 -- ---- each request has the error of its tree
 
-abbrev Judge : (ℕ → Option Errno) → (List Request → Option Errno) → List (List Request) → Type 0
+abbrev pub Judge : (ℕ → Option Errno) → (List Request → Option Errno) → List (List Request) → Type 0
 Judge error judged trees = AllByRecursion (λ tree. AllByRecursion (λ (q : Request). error q.number ≡ judged tree) tree) trees
 
 or_true : (b : Bool) → b || true ≡ true
@@ -73,7 +73,7 @@ own_numbers (x ∷ xs) = (
       (λ y h. ap (λ (b : Bool). eqb x.number y.number || b) h ∙ or_true (eqb x.number y.number)) (own_numbers xs),
 )
 
-not_both : {X : Type 0} (b : Bool) → b ≡ true → b ≡ false → X
+pub not_both : {X : Type 0} (b : Bool) → b ≡ true → b ≡ false → X
 not_both b e f = absurd (let g = sym e ∙ f in cc)
 
 not_before : (t : List Request) (ts : List (List Request)) → ((n : ℕ) → has_number n t ≡ true → AllByRecursion (λ u. has_number n u ≡ false) ts)
@@ -118,7 +118,7 @@ judge_as e f j k trees same alike h =
     all_then (λ tree. AllByRecursion (λ (q : Request). f q.number ≡ j tree) tree) (λ tree. AllByRecursion (λ (q : Request). e q.number ≡ k tree) tree) trees
     (λ tree p. all_then (λ (q : Request). f q.number ≡ j tree) (λ (q : Request). e q.number ≡ k tree) tree (λ q is. same q.number ∙ (is ∙ alike tree)) p) h
 
-judged_by : (suspended : List (List Pending)) (awaited bound : List ℕ → Bool) (trees : List (List Request)) (slots : List (ℕ × ℕ)) (rules : List Rules)
+pub judged_by : (suspended : List (List Pending)) (awaited bound : List ℕ → Bool) (trees : List (List Request)) (slots : List (ℕ × ℕ)) (rules : List Rules)
     → AreAwaited suspended awaited → ((n : ℕ) → StandsOnce n trees) → IsAdmission (has_trees suspended) awaited bound trees slots rules
     → Judge (error_in slots rules) (admission suspended bound) trees
 judged_by suspended awaited bound trees slots rules waits once is =
@@ -212,7 +212,7 @@ module _ (error : ℕ → Option Errno) where
     runs_are [] judge = refl
     runs_are (r ∷ rs) judge = runs_if (same_parent r.under None) r rs refl judge (λ h. runs_are rs h)
 
-rising_if : (P : Request → Bool) (n : ℕ) (rs : List Request) → AllByRecursion (λ (q : Request). n < q.number) rs → AllByRecursion (λ (q : Request). n < q.number) (filter P rs)
+pub rising_if : (P : Request → Bool) (n : ℕ) (rs : List Request) → AllByRecursion (λ (q : Request). n < q.number) rs → AllByRecursion (λ (q : Request). n < q.number) (filter P rs)
 rising_if P n [] h = tt
 rising_if P n (r ∷ rs) h = go (P r) (rising_if P n rs h.1)
   where
@@ -220,7 +220,7 @@ rising_if P n (r ∷ rs) h = go (P r) (rising_if P n rs h.1)
     go true rest = (h.0, rest)
     go false rest = rest
 
-rising_kept : (P : Request → Bool) (rs : List Request) → AreRising rs → AreRising (filter P rs)
+pub rising_kept : (P : Request → Bool) (rs : List Request) → AreRising rs → AreRising (filter P rs)
 rising_kept P [] h = tt
 rising_kept P (r ∷ rs) h = go (P r) (rising_kept P rs h.1)
   where

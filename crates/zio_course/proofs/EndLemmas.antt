@@ -16,11 +16,11 @@ use Rattle.zio_course.proofs.ForestLemmas.{all_put, all_then}
 -- ---- numbers
 
 -- how often a number stands there
-abbrev times : ℕ → List ℕ → ℕ
+abbrev pub times : ℕ → List ℕ → ℕ
 times n [] = 0
 times n (m ∷ ms) = cond (eqb m n) (1 + times n ms) (times n ms)
 
-times_is : (n : ℕ) (ns : List ℕ) → times n ns ≡ count_by (is_numbered n) ns
+pub times_is : (n : ℕ) (ns : List ℕ) → times n ns ≡ count_by (is_numbered n) ns
 times_is n ns = is_count_by (times n) (is_numbered n) refl (λ m ms. refl) ns
 
 some_if : (b : Bool) (k : ℕ) → b ≡ true → 1 ≤ cond b (1 + k) k
@@ -31,7 +31,7 @@ more_if : (b : Bool) (k : ℕ) → 1 ≤ k → 1 ≤ cond b (1 + k) k
 more_if true k h = omega arith
 more_if false k h = h
 
-own_times : (ns : List ℕ) → AllByRecursion (λ n. 1 ≤ times n ns) ns
+pub own_times : (ns : List ℕ) → AllByRecursion (λ n. 1 ≤ times n ns) ns
 own_times [] = tt
 own_times (m ∷ ms) = (
   some_if (eqb m m) (times m ms) (eq-eqb m m refl),
@@ -101,7 +101,7 @@ lacking n bound birth rs h =
     ∙ no_times n (joined_trees (pending_trees bound birth (trees_of rs)))
     (all_pending (λ (q : Request). eqb q.number n ≡ false) bound birth (trees_of rs) (all_in_trees (λ (q : Request). eqb q.number n ≡ false) rs (lacks n rs h)))
 
-true_if : (b : Bool) → (b ≡ false → ⊥) → b ≡ true
+pub true_if : (b : Bool) → (b ≡ false → ⊥) → b ≡ true
 true_if true h = refl
 true_if false h = absurd (h refl)
 
@@ -148,7 +148,7 @@ none_finish : (rs : List Request) → AreFinishedOf rs []
 none_finish [] = tt
 none_finish (r ∷ rs) = tt
 
-of_some : (rs : List Request) (least : ℕ) (fs : List Finished) → AreRising rs → AreRisingFrom least (map (λ (f : Finished). f.request) fs)
+pub of_some : (rs : List Request) (least : ℕ) (fs : List Finished) → AreRising rs → AreRisingFrom least (map (λ (f : Finished). f.request) fs)
     → AllByRecursion (λ (f : Finished). has_number f.request rs ≡ true) fs → AreFinishedOf rs fs
 of_some rs least [] rising low h = none_finish rs
 of_some [] least (f ∷ fs) rising low h = absurd (let no = h.0 in cc)

@@ -94,7 +94,7 @@ module _ (names : Bound) (birth : ℕ) where
   roots_if false front r trees others later = later
 
   -- the roots of the trees under a number are the requests under it
-  roots_are : (rs : List Request) (under : Option ℕ)
+  pub roots_are : (rs : List Request) (under : Option ℕ)
       → roots_of (pending_trees names birth (trees_under rs under)) ≡ filter (λ (q : Request). same_parent q.under under) rs
   roots_are [] under = refl
   roots_are (r ∷ rs) under =
@@ -108,7 +108,7 @@ module _ (names : Bound) (birth : ℕ) where
       ap length (roots_if true front r trees (roots_of (pending_trees names birth trees)) refl) ∙ omega (arith, later)
   each_if false front r trees later = later
 
-  each_root : (rs : List Request) (under : Option ℕ)
+  pub each_root : (rs : List Request) (under : Option ℕ)
       → length (roots_of (pending_trees names birth (trees_under rs under))) ≡ length (pending_trees names birth (trees_under rs under))
   each_root [] under = refl
   each_root (r ∷ rs) under =
@@ -138,7 +138,7 @@ rising_if : (b : Bool) (least : ℕ) (q : Request) (others : List Request) → l
 rising_if true least q others low above same = (low, above)
 rising_if false least q others low above same = same
 
-rising_are : (P : Request → Bool) (least : ℕ) (rs : List Request) → AllByRecursion (λ (q : Request). least ≤ q.number) rs → AreRising rs
+pub rising_are : (P : Request → Bool) (least : ℕ) (rs : List Request) → AllByRecursion (λ (q : Request). least ≤ q.number) rs → AreRising rs
     → AreRisingFrom least (numbers_of (filter P rs))
 rising_are P least [] low rising = tt
 rising_are P least (q ∷ qs) low rising =
@@ -146,7 +146,7 @@ rising_are P least (q ∷ qs) low rising =
     (rising_are P (q.number + 1) qs (all_then (λ (x : Request). q.number < x.number) (λ (x : Request). q.number + 1 ≤ x.number) qs (λ x h. omega arith) rising.0) rising.1)
     (rising_are P least qs low.1 rising.1)
 
-all_low : (rs : List Request) → AllByRecursion (λ (q : Request). 0 ≤ q.number) rs
+pub all_low : (rs : List Request) → AllByRecursion (λ (q : Request). 0 ≤ q.number) rs
 all_low [] = tt
 all_low (q ∷ qs) = (omega arith, all_low qs)
 

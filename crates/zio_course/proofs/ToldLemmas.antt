@@ -33,13 +33,13 @@ use Rattle.zio_course.proofs.PlantLemmas.{named_of}
 other_name : (n m : List ℕ) → bytes_eq n m ≡ false → m ≢ n
 other_name n m e same = let yes_same : bytes_eq n m ≡ true = (bytes_eq-Decides n m).1 (sym same) in (let no : ⊥ = cc in no)
 
-bind_if : (b : Bool) (n m : List ℕ) (tree : Tree) (bound : Bound) → bytes_eq n m ≡ b → block_of (bind n tree bound) m ≡ cond b (Some tree) (block_of bound m)
+pub bind_if : (b : Bool) (n m : List ℕ) (tree : Tree) (bound : Bound) → bytes_eq n m ≡ b → block_of (bind n tree bound) m ≡ cond b (Some tree) (block_of bound m)
 bind_if true n m tree bound e =
     let same : n ≡ m = (bytes_eq-Decides n m).0 e in
     subst (λ (k : List ℕ). block_of (bind n tree bound) k ≡ Some tree) same (block_of-bind n tree bound)
 bind_if false n m tree bound e = block_of-bind-other n m tree bound (other_name n m e)
 
-unbind_if : (b : Bool) (n m : List ℕ) (bound : Bound) → bytes_eq n m ≡ b → block_of (unbind n bound) m ≡ cond b None (block_of bound m)
+pub unbind_if : (b : Bool) (n m : List ℕ) (bound : Bound) → bytes_eq n m ≡ b → block_of (unbind n bound) m ≡ cond b None (block_of bound m)
 unbind_if true n m bound e =
     let same : n ≡ m = (bytes_eq-Decides n m).0 e in
     subst (λ (k : List ℕ). block_of (unbind n bound) k ≡ None) same (block_of-unbind n bound)
@@ -105,7 +105,7 @@ after_agree [] a b same name = same name
 after_agree (e ∷ es) a b same name =
     after_agree es (bound_unless e.error e a) (bound_unless e.error e b) (unless_agree e.error e a b same) name
 
-after_both : (xs ys : List Ended) (bound : Bound) → bound_after (xs ++ ys) bound ≡ bound_after ys (bound_after xs bound)
+pub after_both : (xs ys : List Ended) (bound : Bound) → bound_after (xs ++ ys) bound ≡ bound_after ys (bound_after xs bound)
 after_both [] ys bound = refl
 after_both (x ∷ xs) ys bound = after_both xs ys (bound_unless x.error x bound)
 
@@ -331,7 +331,7 @@ found_holds_if : (P : Finished → Type 0) (b : Bool) (f g : Finished) (o : Opti
 found_holds_if P true f g o p later e = subst P (let same : f ≡ g = cc in same) p
 found_holds_if P false f g o p later e = later g e
 
-found_holds : (P : Finished → Type 0) (fs : List Finished) (n : ℕ) (g : Finished) → AllByRecursion P fs → finish_of fs n ≡ Some g → P g
+pub found_holds : (P : Finished → Type 0) (fs : List Finished) (n : ℕ) (g : Finished) → AllByRecursion P fs → finish_of fs n ≡ Some g → P g
 found_holds P [] n g h e = absurd (let no = e in cc)
 found_holds P (f ∷ fs) n g h e = found_holds_if P (eqb f.request n) f g (finish_of fs n) h.0 (λ x is. found_holds P fs n x h.1 is) e
 

@@ -1,8 +1,12 @@
 pub mod Admissions
 pub mod Admitted
 pub mod Answered
+pub mod Course
 pub mod Entered
 pub mod Forests
+pub mod Live
 pub mod Names
+pub mod Parents
 pub mod Runners
+pub mod Steps
 pub mod Told

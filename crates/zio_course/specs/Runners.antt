@@ -15,7 +15,7 @@ use Rattle.zio_script.specs.declared.script.Request.{Request}
 use Rattle.zio_script.specs.declared.script.Work.{Work}
 use Rattle.zio_script.specs.declared.script.Work.TheVariants.{Null, Read, Write, Free, Claim}
 use Rattle.zio_script.specs.Accepted.{IsInRange, NameApart}
-use Rattle.zio_script.specs.Requests.{kind_of, needs_block}
+use Rattle.zio_script.specs.Requests.{kind_of, makes_block, needs_block}
 use Rattle.zio_script.specs.Whys.{is_claim, is_flip, is_write, may_have, size_with}
 use Rattle.zio_cksum.specs.Images.{Images, image_of}
 use Rattle.zio_gang.specs.declared.tree.Tree.{Tree}
@@ -205,6 +205,11 @@ abbrev pub HasReadSize : List (List Pending) → Finished → Type 0
 HasReadSize trees f = f.error ≡ None → AllByRecursion (λ (p : Pending). p.request.number ≡ f.request →
     AllByRecursion (λ n. length f.bytes ≡ n) (read_size p.request.work p.block)) (joined_trees trees)
 
+-- a request with a block finished without error, and makes one
+abbrev pub MakesTree : List (List Pending) → Finished → Type 0
+MakesTree trees f = is_some f.tree ≡ true →
+    (f.error ≡ None) × AllByRecursion (λ (p : Pending). p.request.number ≡ f.request → makes_block p.request.work ≡ true) (joined_trees trees)
+
 abbrev pub made_trees : List Finished → List Tree
 made_trees finished = flat_map (λ (f : Finished). option_to_list f.tree) finished
 
@@ -226,15 +231,18 @@ freed_places trees finished =
     (filter (λ (p : Pending). is_good_in finished p.request.number) (joined_trees trees))
 
 -- What holds of a round's end also where no image is told: each request finished or is left, and not both; what is left are
--- rests of the trees; numbers of what finished rise; the blocks that were made lie inside the tops, apart from each other
--- and from what was in use; and each request that finished has one completion, behind those of its children.
+-- rests of the trees, with no claim among them, since a claim may always fail; numbers of what finished rise; writes and
+-- claims alone made blocks; these lie inside the tops, apart from each other and from what was in use; and each request
+-- that finished has one completion, behind those of its children.
 pub record IsRoundEnd (s : Standing) (round : ℕ) (trees : List (List Pending)) (end : RoundEnd (List Pending)) : Type 0 where
   pub each : (n : ℕ) → count_by (is_numbered n) (numbers_of (requests_in trees))
       ≡ count_by (is_numbered n) (map (λ (f : Finished). f.request) end.finished) + count_by (is_numbered n) (numbers_of (requests_in end.left))
   pub rests : AreRestsOf trees end.left
+  pub claims : has_claim (requests_in end.left) ≡ false
   pub rising : AreRisingFrom 0 (map (λ (f : Finished). f.request) end.finished)
   pub reads : AllByRecursion (HasReadSize trees) end.finished
   pub sectors : AllByRecursion (λ (f : Finished). length f.bytes % sector_size ≡ 0) end.finished
+  pub makers : AllByRecursion (MakesTree trees) end.finished
   pub inside : IsTrue (list_all (is_inside (sizes_of s.tops)) (made_places end.finished))
   pub free : IsTrue (are_open s.live (made_places end.finished))
   pub completed : AllByRecursion (λ c. Contains (map (completion_for round) end.finished) c) end.completions

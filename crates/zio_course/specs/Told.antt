@@ -85,3 +85,9 @@ abbrev pub ends_by : (ℕ → Option Errno) → List Finished → Item → List 
 ends_by error left (RequestLine r) = ended_by (error r.number) (next_if (error r.number) left r.number) r
 ends_by error left Go = []
 ends_by error left Clear = []
+
+-- ---- requests of suspended trees
+
+-- nothing is answered before the round of a clear
+abbrev pub no_error : ℕ → Option Errno
+no_error n = None

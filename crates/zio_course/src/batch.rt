@@ -1,6 +1,6 @@
 //! The round of a batch.
 
-ghost use Rattle.std.specs.Prelude.{◌≡◌, ◌+◌, ◌<◌, ◌≤◌, ◌^◌, ℕ, List, IfOk, IfSome, IsErrOf, OnErr, false, map, reverse};
+ghost use Rattle.std.specs.Prelude.{◌≡◌, ◌+◌, ◌<◌, ◌≤◌, ◌^◌, ℕ, List, IfOk, IfSome, IsErrOf, OnErr, OnOk, false, map, reverse};
 ghost use Rattle.zio_script.specs.Accepted.{AreRising};
 ghost use Rattle.zio_script.specs.Requests.{requests_of};
 ghost use Rattle.zio_cksum.specs.Images.{Images};
@@ -39,8 +39,8 @@ pub struct BatchEnd<T> {
 /// Runs a batch as one round after those that the journal counts: the trees that admission lets run, beside what is
 /// suspended.
 ///
-/// The lines can be shown: the bytes of reads are whole sectors. The round is in the journal, with the ends of what admission answered, before anything is told of it. Where it is cut
-/// short the journal is as it was or has the whole round.
+/// The lines can be shown: the bytes of reads are whole sectors. The round is in the journal, with the ends of what admission
+/// answered, before anything is told of it. Where it is cut short the journal is as it was or has the whole round.
 pub fn run_batch<R: Runner>(
     alloc: Global,
     runner: &mut R,
@@ -70,6 +70,7 @@ pub fn run_batch<R: Runner>(
         × IsRound (terms_at (R.standing runner.old) failmode (journal.old.rounds + 1) point)
         (pending_trees (names_of bound.old) number (trees_of (running admission.now.slots.entries admission.now.rules.items batch.now))) before after end)) }
     ensures shown { IfOk result (λ ran. AreWhole ran.lines) }
+    ensures fits { OnOk result ((name : List ℕ) → IfSome (named_in bound.new name) R.fits) }
     ensures cut { OnErr result ((before : Images) → R.tells runner.old before → (after : Images) × R.tells runner.new after
         × IsCutShort (R.standing runner.old) (terms_at (R.standing runner.old) failmode (journal.old.rounds + 1) point)
         (pending_trees (names_of bound.old) number (trees_of (running admission.now.slots.entries admission.now.rules.items batch.now)))

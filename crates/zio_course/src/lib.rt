@@ -18,8 +18,10 @@ mod laws;
 mod lines;
 mod round;
 mod runner;
+mod suspended;
 #[cfg(test)]
 mod tests;
+mod texts;
 mod told;
 mod waiting;
 
@@ -30,7 +32,9 @@ pub use batch::{BatchEnd, run_batch};
 pub use bound::Bound;
 pub use enter::enter_round;
 pub use forest::trees_to_run;
-pub use laws::whole_trees_are_admitted;
+pub use laws::{accepted_scripts_are_short, a_batch_is_a_round_of_the_course, a_clear_is_a_round_of_the_course, a_round_leaves_runnable_trees, an_orderly_batch_is_ready, an_orderly_batch_is_runnable, bound_places_are_live, parents_wait_for_children, what_was_run_stays_run, whole_trees_are_admitted};
 pub use round::{WholeRound, whole_round};
 pub use runner::{Finished, Job, RoundEnd, Runner, Stop};
+pub use suspended::{run_suspended, tell_suspended};
+pub use texts::{write_held, write_pool, write_round, write_text};
 pub use told::tell_batch;

@@ -93,7 +93,7 @@ fn tell_one(
 }
 
 /// The next that finished, if it is of this request.
-fn take_of(left: &mut Vec<Finished>, number: ReqNo) -> Option<Finished>
+pub(crate) fn take_of(left: &mut Vec<Finished>, number: ReqNo) -> Option<Finished>
     ensures taken { result ≡ next_of (reverse left.old.items) number }
     ensures left { reverse left.new.items ≡ rest_of (reverse left.old.items) number }
 {
@@ -105,7 +105,7 @@ fn take_of(left: &mut Vec<Finished>, number: ReqNo) -> Option<Finished>
 }
 
 /// The line of a request that was answered, finished or waits, and what it does to the bound names.
-fn tell_request(
+pub(crate) fn tell_request(
     request: &Request,
     error: Option<Errno>,
     finished: Option<Finished>,

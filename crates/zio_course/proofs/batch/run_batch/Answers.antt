@@ -16,6 +16,7 @@ use Rattle.zio_course.specs.Runners.{numbers_of, requests_in}
 use Rattle.zio_course.specs.Told.{AreFinishedOf, ended_told, line_told}
 use Rattle.zio_course.proofs.BatchLemmas.{Whole, on_err, whole_moved}
 use Rattle.zio_course.proofs.EndLemmas.{finished_of_batch}
+use Rattle.zio_course.proofs.FitLemmas.{bound_fits}
 use Rattle.zio_course.proofs.PlantLemmas.{ready_rising}
 use Rattle.zio_course.proofs.ToldLemmas.{lines_whole}
 use Rattle.zio_course.proofs.batch.run_batch.Goals as goal
@@ -100,3 +101,9 @@ returns-clause-shown g c =
     (λ images h. (c.in_ok-trees.ensures.stays.images images).0 h) c.in_ok-finished.ensures.whole in
     subst AreWhole (sym (c.in_ok-lines.ensures.lines ∙ ap (λ (fs : List Finished). map (line_told error fs) requests) w.1.finished_is))
     (lines_whole error w.0.finished requests w.2.sectors)
+
+pub returns-clause-fits : goal.returns-clause-fits
+returns-clause-fits g c =
+    let error : ℕ → Option Errno = error_in c.args.admission.now.slots.entries c.args.admission.now.rules.items in
+    bound_fits g.R.Runner.fits error c.in_ok-finished.field-0.finished (requests_of c.args.batch.now) c.args.bound.now c.tell_batch.new.bound
+    c.requires.fits c.in_ok-finished.ensures.fits c.in_ok-lines.ensures.bound

@@ -1,0 +1,95 @@
+//! The round of a `clear`: the trees that are suspended.
+
+ghost use Rattle.std.specs.Prelude.{◌≡◌, ◌+◌, ◌<◌, ◌≤◌, ◌^◌, [], ℕ, List, IfOk, IfSome, IsErrOf, OnErr, OnOk, false, map};
+ghost use Rattle.zio_script.specs.Accepted.{AreRising};
+ghost use Rattle.zio_cksum.specs.Images.{Images};
+ghost use Rattle.zio_gang.specs.Attempts.{Pending};
+ghost use Rattle.zio_gang.specs.Rounds.{block_of, bound_after};
+ghost use Rattle.zio_report.specs.Lines.{AreWhole};
+ghost use Rattle.zio_course.specs.declared.runner.RoundEnd.{RoundEnd as SeenEnd};
+ghost use Rattle.zio_course.specs.Entered.{IsBatchRun, IsCutShort};
+ghost use Rattle.zio_course.specs.Forests.{names_of};
+ghost use Rattle.zio_course.specs.Names.{named_in};
+ghost use Rattle.zio_course.specs.Runners.{AnyRose, AreRunnable, IsRound, IsRoundEnd, StandsAfter, terms_at};
+ghost use Rattle.zio_course.specs.Steps.{AreUnfinished};
+ghost use Rattle.zio_course.specs.Told.{AreFinishedOf, ended_told, line_told, no_error};
+
+use crate::batch::BatchEnd;
+use crate::bound::Bound;
+use crate::forest::reversed;
+use crate::round::{WholeRound, whole_round};
+use crate::runner::{Finished, Job, Runner, Stop};
+use crate::told::{take_of, tell_request};
+use std::alloc::Global;
+use zio_report::Line;
+use zio_script::{Failmode, Request};
+use zio_types::{Journal, List, NoMemory};
+
+/// Runs the trees that are suspended as one round after those that the journal counts. Their requests come by number.
+///
+/// What it leaves is what the round of a batch leaves in which nothing was answered, also where it is cut short.
+pub fn run_suspended<R: Runner>(
+    alloc: Global,
+    runner: &mut R,
+    trees: List<R::Tree>,
+    unfinished: &[&Request],
+    point: u32,
+    failmode: Failmode,
+    bound: &mut Bound,
+    journal: &mut Journal,
+) -> Result<BatchEnd<R::Tree>, Stop>
+    requires unfinished { AreUnfinished (map R.pending trees) (map (λ r. r.now) unfinished.now) }
+    requires fits { (name : List ℕ) → IfSome (named_in bound.old name) R.fits }
+    requires rounds { journal.old.rounds + 1 < 2 ^ 32 }
+    requires runs { (R.standing runner.old).stopped ≡ false }
+    requires next { (R.standing runner.old).last ≤ journal.old.rounds }
+    requires trees { AreRunnable (R.standing runner.old) (map R.pending trees) }
+    ensures ran { IfOk result (λ ran. (end : SeenEnd (List Pending))
+        × IsBatchRun no_error (map (λ r. r.now) unfinished.now) bound.old bound.new journal.old journal.new end ran.lines (map R.pending ran.left)
+        × IsRoundEnd (R.standing runner.old) (journal.old.rounds + 1) (map R.pending trees) end
+        × StandsAfter (R.standing runner.old) (R.standing runner.new) (journal.old.rounds + 1) (map R.pending trees) end
+        × ((before : Images) → R.tells runner.old before → (after : Images) × R.tells runner.new after
+        × IsRound (terms_at (R.standing runner.old) failmode (journal.old.rounds + 1) point) (map R.pending trees) before after end)) }
+    ensures shown { IfOk result (λ ran. AreWhole ran.lines) }
+    ensures fits { OnOk result ((name : List ℕ) → IfSome (named_in bound.new name) R.fits) }
+    ensures cut { OnErr result ((before : Images) → R.tells runner.old before → (after : Images) × R.tells runner.new after
+        × IsCutShort (R.standing runner.old) (terms_at (R.standing runner.old) failmode (journal.old.rounds + 1) point)
+        (map R.pending trees) [] journal.old journal.new before after) }
+    ensures device { IsErrOf result Stop.Device → AnyRose (R.standing runner.old).faults (R.standing runner.new).faults }
+    ensures same { R.same runner.old runner.new }
+{
+    let round = journal.rounds + 1;
+    let job = Job {
+        round,
+        point,
+        failmode,
+        trees,
+    };
+    let WholeRound { finished, left } = whole_round(alloc, runner, job, List::new(alloc), journal)?;
+    let lines = tell_suspended(alloc, unfinished, finished, bound)?;
+    Ok(BatchEnd { lines, left })
+}
+
+/// The lines of the requests of suspended trees after their round, by number: of what finished, and of what still waits.
+/// Names are bound and unbound as after the round of a batch.
+pub fn tell_suspended(
+    alloc: Global,
+    unfinished: &[&Request],
+    finished: List<Finished>,
+    bound: &mut Bound,
+) -> Result<List<Line>, NoMemory>
+    requires rising { AreRising (map (λ r. r.now) unfinished.now) }
+    requires finished { AreFinishedOf (map (λ r. r.now) unfinished.now) finished }
+    ensures lines { IfOk result (λ lines. lines ≡ map (line_told no_error finished) (map (λ r. r.now) unfinished.now)) }
+    ensures bound { OnOk result ((name : List ℕ) → named_in bound.new name
+        ≡ block_of (bound_after (ended_told no_error finished (map (λ r. r.now) unfinished.now)) (names_of bound.old)) name) }
+{
+    let mut lines = List::new(alloc);
+    let mut left = reversed(finished).into_vec();
+    for request in unfinished {
+        let finished = take_of(&mut left, request.number);
+        let line = tell_request(request, None, finished, bound)?;
+        lines.push(line)?;
+    }
+    Ok(lines)
+}

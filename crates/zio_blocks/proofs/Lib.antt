@@ -1,0 +1,6 @@
+pub mod PlaceSets
+pub mod ChooserLemmas
+pub mod AskLemmas
+pub mod FoundLemmas
+pub mod TellLemmas
+pub mod BlockLemmas

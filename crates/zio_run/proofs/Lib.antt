@@ -1,4 +1,7 @@
 pub mod CommandLemmas
 pub mod DiskLemmas
+pub mod NumberLemmas
+pub mod OptionLemmas
 pub mod ReadLemmas
 pub mod ScriptLemmas
+pub mod WordLemmas

@@ -6,12 +6,20 @@
 #![tactic(auto)]
 
 mod command;
+mod generated;
 mod image;
 mod lines;
+mod names;
+mod number;
+mod options;
 mod serial;
 mod source;
 #[cfg(test)]
 mod tests;
+mod words;
 
 pub use image::{IMAGE_LEN_MAX, IMAGE_LEN_MIN};
+pub use names::IMAGES_MAX;
+pub use options::{WORKERS_MAX, WORKERS_USUAL};
 pub use serial::zio_serial_main;
+pub use words::{Command, WordsError, read_words};

@@ -1,3 +1,4 @@
 pub mod Copies
 pub mod Disks
 pub mod Trees
+pub mod Whole

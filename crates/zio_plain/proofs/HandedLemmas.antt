@@ -1,5 +1,5 @@
 -- What a loop over what was handed on adds with each item.
-use Rattle.std.proofs.Common.{◌≡◌, ℕ, ◌+◌, ◌<◌, ◌≤◌, List, [], ◌∷◌, ◌++◌, map, filter, count_by, reverse, take, get_or, length, Bool, true, false, refl, sym, ap, ◌∙◌, arith}
+use Rattle.std.proofs.Common.{◌≡◌, ℕ, ◌+◌, ◌<◌, List, [], ◌∷◌, ◌++◌, map, reverse, take, get_or, length, sym, ap, ◌∙◌}
 use Rattle.std.proofs.lemmas.List.{take_more, reverse-append, map-append}
 use Rattle.zio_types.specs.declared.error.Errno.{Errno}
 use Rattle.std.specs.Prelude.{Option, None}

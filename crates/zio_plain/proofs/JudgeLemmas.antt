@@ -1,9 +1,7 @@
 -- What a request is judged to, and the definition.
-use Rattle.std.proofs.Common.{◌≡◌, ℕ, ◌+◌, ◌≤◌, List, [], ◌∷◌, ◌++◌, map, filter, reverse, length, Bool, true, false, not, cond, nat_le, Option, refl, sym, ap, ◌∙◌, subst, arith}
-use Rattle.std.specs.List.{AllByRecursion}
+use Rattle.std.proofs.Common.{◌≡◌, ℕ, ◌+◌, ◌≤◌, List, [], ◌∷◌, ◌++◌, map, filter, reverse, Bool, true, false, not, cond, nat_le, refl, sym, ap, ◌∙◌, subst, arith}
 use Rattle.std.proofs.lemmas.List.{map-append, reverse-append, append-nil}
 use Rattle.std.proofs.lemmas.List.Elements.{filter-append}
-use Rattle.zio_types.specs.declared.error.Errno.{Errno}
 use Rattle.zio_types.specs.declared.request.Bits.{Bits}
 use Rattle.zio_types.specs.Choices.{Ask}
 use Rattle.zio_types.specs.Errors.{worst_error, worst_of}
@@ -11,7 +9,7 @@ use Rattle.zio_script.specs.declared.script.Failmode.{Failmode}
 use Rattle.zio_script.specs.Requests.{kind_of}
 use Rattle.zio_cksum.specs.Images.{Images}
 use Rattle.zio_gang.specs.Attempts.{Child, Own, Return, Terms, all_bits, bits_of, children_of, closed_if, ended_with, finished_of, goes_again, has_bits, insert_children, judged_own}
-use Rattle.zio_gang.specs.ByNumber.{insert_by, insert_if, merge_by}
+use Rattle.zio_gang.specs.ByNumber.{insert_by, insert_if}
 use Rattle.zio_course.specs.Runners.{AreRisingFrom}
 use Rattle.zio_plain.specs.declared.judge.Judged.{Judged}
 use Rattle.zio_plain.specs.declared.owns.OwnEnd.{OwnEnd}
@@ -93,7 +91,7 @@ kept_seen : (hs : List Handed) (ks kept : List Kept) → kept ≡ merged (revers
     → map child_of kept ≡ insert_children (children_of (finished_of (map return_of (reverse hs)))) (map child_of ks)
 kept_seen hs ks kept is =
     let turned : reverse (children_handed (done_in hs)) ≡ children_handed (done_in (reverse hs)) =
-        sym (map_reverse (λ (h : Handed). h.child) (done_in hs)) ∙ ap children_handed (sym (filter_reverse goes_on hs)) in
+    sym (map_reverse (λ (h : Handed). h.child) (done_in hs)) ∙ ap children_handed (sym (filter_reverse goes_on hs)) in
     ap (map child_of) is ∙ merge_seen (reverse (children_handed (done_in hs))) ks
     ∙ ap (λ cs. insert_children cs (map child_of ks)) (ap (map child_of) turned ∙ children_seen (done_in (reverse hs)) ∙ ap children_of (done_seen (reverse hs)))
 

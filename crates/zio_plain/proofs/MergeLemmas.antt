@@ -1,5 +1,5 @@
 -- New children, by number, among those that were kept.
-use Rattle.std.proofs.Common.{◌≡◌, ℕ, ◌+◌, ◌<◌, ◌≤◌, List, [], ◌∷◌, ◌++◌, map, reverse, drop, drop-cons, get_or, length, append_assoc, add-one, Bool, true, false, nat_le, refl, sym, ap, ◌∙◌, subst, arith}
+use Rattle.std.proofs.Common.{◌≡◌, ℕ, ◌+◌, ◌<◌, ◌≤◌, List, [], ◌∷◌, ◌++◌, reverse, drop, drop-cons, get_or, length, append_assoc, add-one, true, false, nat_le, refl, sym, ap, ◌∙◌, subst, arith}
 use Rattle.std.specs.List.{AllByRecursion}
 use Rattle.std.proofs.lemmas.List.{reverse-append}
 use Rattle.zio_gang.specs.ByNumber.{insert_if, insert_by, merge_by}
@@ -75,7 +75,7 @@ merge_first least x new kept front rest rising split =
     let above : AreAbove (x.number + 1) (reverse new) = above_reverse (x.number + 1) new (above_rising (x.number + 1) new rising.1) in
     let low : AreBelow (x.number + 1) (front ++ x ∷ []) = below_append (x.number + 1) front x (below_more x.number (x.number + 1) front (omega arith) split.low) (omega arith) in
     let placed : insert_by number x kept ≡ (front ++ x ∷ []) ++ rest =
-        ap (insert_by number x) split.joined ∙ insert_behind x front rest split.low ∙ ap (λ ks. front ++ ks) (insert_before x rest split.stop) ∙ moved front rest in
+    ap (insert_by number x) split.joined ∙ insert_behind x front rest split.low ∙ ap (λ ks. front ++ ks) (insert_before x rest split.stop) ∙ moved front rest in
     ap (λ ks. merge_by number ks kept) (reverse-append (x ∷ []) new)
     ∙ merge_last (reverse new) x kept
     ∙ ap (merge_by number (reverse new)) placed
@@ -98,8 +98,9 @@ merge_step new kept all behind rest next after i d h before split pushed =
     let s : IsSplitAt x.number rest split.0 next = split.2 in
     let one : merged (reverse (x ∷ drop (i + 1) new)) rest ≡ (split.0 ++ x ∷ []) ++ merged (reverse (drop (i + 1) new)) next = merge_first before.1.0 x (drop (i + 1) new) rest split.0 next rising s in
     let e : all ++ (split.0 ++ x ∷ []) ≡ after =
-        sym (append_assoc all split.0 (x ∷ [])) ∙ ap (λ ks. ks ++ x ∷ []) (sym split.1) ∙ sym pushed in
-    (before.0 ∙ ap (λ ks. all ++ merged (reverse ks) rest) more ∙ ap (λ ks. all ++ ks) one
-    ∙ sym (append_assoc all (split.0 ++ x ∷ []) (merged (reverse (drop (i + 1) new)) next))
-    ∙ ap (λ ks. ks ++ merged (reverse (drop (i + 1) new)) next) e,
-    (x.number + 1, rising.1))
+    sym (append_assoc all split.0 (x ∷ [])) ∙ ap (λ ks. ks ++ x ∷ []) (sym split.1) ∙ sym pushed in (
+      before.0 ∙ ap (λ ks. all ++ merged (reverse ks) rest) more ∙ ap (λ ks. all ++ ks) one
+          ∙ sym (append_assoc all (split.0 ++ x ∷ []) (merged (reverse (drop (i + 1) new)) next))
+          ∙ ap (λ ks. ks ++ merged (reverse (drop (i + 1) new)) next) e,
+      (x.number + 1, rising.1),
+    )

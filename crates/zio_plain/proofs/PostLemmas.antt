@@ -1,5 +1,5 @@
 -- Trees that stand one after another, and a request behind the trees of its children.
-use Rattle.std.proofs.Common.{◌≡◌, ℕ, suc, ◌+◌, ◌≤◌, List, [], ◌∷◌, ◌++◌, length, map, take, drop, reverse, count_by, cond, Bool, true, false, Option, Some, IfSome, is_some, refl, sym, ap, ◌∙◌, subst, arith, length-append, append_assoc}
+use Rattle.std.proofs.Common.{◌≡◌, ℕ, suc, ◌+◌, ◌≤◌, List, [], ◌∷◌, ◌++◌, length, map, take, drop, reverse, count_by, cond, true, Option, Some, IfSome, is_some, refl, sym, ap, ◌∙◌, subst, arith, length-append, append_assoc}
 use Rattle.std.specs.Prelude.{option_to_list}
 use Rattle.std.specs.List.{AllByRecursion, flat_map}
 use Rattle.std.proofs.lemmas.List.{reverse-append, map-append, take-append-le, drop-append-le, append-nil, length-reverse}
@@ -40,9 +40,10 @@ over_more w met outer h =
 -- what was met before stays below
 pub behind_more : (met outer tree : List Waiting) → AreBehindChildren met tree → AreBehindChildren (met ++ outer) tree
 behind_more met outer [] h = tt
-behind_more met outer (w ∷ ws) h =
-    (over_more w met outer h.0,
-    subst (λ ms. AreBehindChildren (w ∷ ms) ws) (sym (drop_front w.unfinished met outer h.0.enough)) (behind_more (w ∷ drop w.unfinished met) outer ws h.1))
+behind_more met outer (w ∷ ws) h = (
+  over_more w met outer h.0,
+  subst (λ ms. AreBehindChildren (w ∷ ms) ws) (sym (drop_front w.unfinished met outer h.0.enough)) (behind_more (w ∷ drop w.unfinished met) outer ws h.1),
+)
 
 pub met_more : (met outer tree : List Waiting) → AreBehindChildren met tree → met_after (met ++ outer) tree ≡ met_after met tree ++ outer
 met_more met outer [] h = refl
@@ -81,7 +82,7 @@ pub trees_more : (fits : Tree → Type 0) (trees : List (List Pending)) (all tre
 trees_more fits trees all tree h one =
     let met : List Waiting = met_after [] all in
     let after : met_after [] (all ++ tree) ≡ one.root ∷ met =
-        met_then [] all tree ∙ met_more [] met tree one.ordered ∙ ap (λ ws. ws ++ met) one.alone in
+    met_then [] all tree ∙ met_more [] met tree one.ordered ∙ ap (λ ws. ws ++ met) one.alone in
     record {
       same = map-append pending_of all tree ∙ ap (λ ps. ps ++ pendings tree) h.same
           ∙ ap (λ ps. joined_trees trees ++ ps) (sym (append-nil (pendings tree)))
@@ -122,7 +123,7 @@ writes_in rs = count_by (λ (q : Request). is_write (kind_of q.work)) rs
 
 all_writes : (rs : List Request) → AllByRecursion (λ (q : Request). is_write (kind_of q.work) ≡ true) rs → writes_in rs ≡ length rs
 all_writes [] h = refl
-all_writes (q ∷ rs) h = 
+all_writes (q ∷ rs) h =
     let n : cond {A = ℕ} (is_write (kind_of q.work)) 1 0 ≡ 1 = ap (λ b. cond {A = ℕ} b 1 0) h.0 in
     let e : writes_in rs ≡ length rs = all_writes rs h.1 in
     let f : writes_in (q ∷ rs) ≡ cond {A = ℕ} (is_write (kind_of q.work)) 1 0 + writes_in rs = sum_by-cons (λ (q : Request). cond (is_write (kind_of q.work)) 1 0) q rs in
@@ -148,9 +149,9 @@ pub tree_made : (fits : Tree → Type 0) (r : Request) (birth : ℕ) (block : Op
 tree_made fits r birth block trees all w new fit h request_is birth_is block_is kept_is open_is =
     let met : List Waiting = met_after [] all in
     let roots : roots_of trees ≡ requests_in (reverse met) =
-        roots_requests trees ∙ ap (map request_of) (sym h.roots) ∙ requests_seen (reverse met) in
+    roots_requests trees ∙ ap (map request_of) (sym h.roots) ∙ requests_seen (reverse met) in
     let count : length met ≡ w.unfinished =
-        sym (length-reverse met) ∙ sym (length_requests (reverse met)) ∙ ap length (sym roots) ∙ new.each ∙ sym open_is in
+    sym (length-reverse met) ∙ sym (length_requests (reverse met)) ∙ ap length (sym roots) ∙ new.each ∙ sym open_is in
     let all_met : take w.unfinished met ≡ met = ap (λ n. take n met) (sym count) ∙ take-length met in
     let none_left : drop w.unfinished met ≡ [] = ap (λ n. drop n met) (sym count) ∙ drop-length met in
     let kids : requests_in (children_in w met) ≡ roots_of trees = ap (λ ws. requests_in (reverse ws)) all_met ∙ sym roots in
@@ -161,7 +162,7 @@ tree_made fits r birth block trees all w new fit h request_is birth_is block_is 
       rising = subst (λ rs. AreRisingFrom 0 (numbers_of rs)) (sym kids) new.rising;
     } in
     let child_count : length w.kept + w.unfinished ≡ length (roots_of trees) =
-        ap (λ (ks : List Kept). length ks + w.unfinished) kept_is ∙ (omega (arith, open_is, new.each)) in
+    ap (λ (ks : List Kept). length ks + w.unfinished) kept_is ∙ (omega (arith, open_is, new.each)) in
     let sound : IsSound fits w = record {
       range = subst IsInRange (sym request_is) new.range;
       some = subst (λ n. 1 ≤ n) (sym birth_is) new.some;

@@ -1,5 +1,5 @@
 -- What becomes of a request in an attempt.
-use Rattle.std.specs.Prelude.{◌≡◌, ℕ, List, [], ◌∷◌, map, filter, count_by, reverse, Option, Some, None, not}
+use Rattle.std.specs.Prelude.{◌≡◌, ℕ, List, [], ◌∷◌, map, filter, count_by, Option, Some, None, not}
 use Rattle.zio_types.specs.declared.error.Errno.{Errno}
 use Rattle.zio_types.specs.Choices.{Ask}
 use Rattle.zio_script.specs.declared.script.Work.{Work}

@@ -1,5 +1,5 @@
 -- The order of attempts: each request stands right behind the trees of its children.
-use Rattle.std.specs.Prelude.{◌≡◌, ℕ, ◌+◌, ◌≤◌, List, [], ◌∷◌, ◌++◌, length, map, take, drop, reverse, Option, Some, IfSome, is_some, option_to_list}
+use Rattle.std.specs.Prelude.{◌≡◌, ◌+◌, ◌≤◌, List, [], ◌∷◌, length, map, take, drop, reverse, Some, IfSome, is_some, option_to_list}
 use Rattle.std.specs.List.{AllByRecursion, flat_map}
 use Rattle.zio_blkptr.specs.declared.pointer.TheConstants.{BLOCK_SIZE_MAX}
 use Rattle.zio_script.specs.declared.limits.TheConstants.{CHILDREN_MAX}
@@ -10,7 +10,6 @@ use Rattle.zio_script.specs.Whys.{size_with}
 use Rattle.zio_gang.specs.Attempts.{Pending}
 use Rattle.zio_gang.specs.declared.tree.Tree.{Tree}
 use Rattle.zio_course.specs.Runners.{AreRisingFrom, joined_trees, numbers_of, root_of}
-use Rattle.zio_plain.specs.declared.waiting.Kept.{Kept}
 use Rattle.zio_plain.specs.declared.waiting.Waiting.{Waiting}
 use Rattle.zio_plain.specs.Waits.{HasPointer, pending_of, pendings}
 

@@ -1,7 +1,3 @@
-use Rattle.std.proofs.Common.{◌≡◌, ◌∙◌, ◌++◌, ℕ, List, ◌∷◌, [], ap, subst, sym, add-one, drop, drop-cons, get_or, length, reverse, append_assoc}
-use Rattle.zio_course.specs.Runners.{AreRisingFrom}
-use Rattle.zio_plain.specs.Waits.{merged, numbers_in}
-use Rattle.zio_plain.specs.declared.waiting.Kept.{Kept}
 use Rattle.zio_plain.proofs.MergeLemmas.{merge_step}
 use Rattle.zio_plain.proofs.children.merged.Goals as goal
 

@@ -1,4 +1,3 @@
-use Rattle.std.proofs.Common.{◌≡◌, ◌∙◌, List, ap, map, take}
 use Rattle.zio_plain.proofs.HandedLemmas.{worst_step}
 use Rattle.zio_plain.proofs.children.worst_of.Goals as goal
 

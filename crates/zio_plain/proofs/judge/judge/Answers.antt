@@ -1,4 +1,4 @@
-use Rattle.std.proofs.Common.{◌≡◌, ◌∙◌, Bool, ap, sym, subst, reverse, map, List}
+use Rattle.std.proofs.Common.{◌∙◌, ap, sym, subst, reverse, List}
 use Rattle.zio_types.specs.declared.request.Bits.{Bits}
 use Rattle.zio_types.specs.declared.request.Kind.{Kind}
 use Rattle.zio_script.specs.Requests.{kind_of}

@@ -7,7 +7,6 @@ use Rattle.zio_blkptr.specs.declared.pointer.Bp.{Bp}
 use Rattle.zio_cksum.specs.Blocks.{good_body, leaves_of, leaves_of_top, read_block, write_piece}
 use Rattle.zio_gang.specs.Attempts.{own_found, own_read}
 use Rattle.zio_types.specs.declared.place.Place.{Place}
-use Rattle.zio_types.specs.declared.place.Top.{Top}
 use Rattle.zio_types.specs.Choices.{Ask, Choice}
 use Rattle.zio_types.specs.declared.place.TopSize.{TopSize}
 use Rattle.zio_types.specs.Places.{AreCopies, IsLawfulChoice, fits_on, fits_size, is_below, is_inside}

@@ -11,3 +11,7 @@ pub mod RunLemmas
 pub mod ShownLemmas
 pub mod TextLemmas
 pub mod NameLemmas
+pub mod HandedLemmas
+pub mod JudgeLemmas
+pub mod MergeLemmas
+pub mod PostLemmas

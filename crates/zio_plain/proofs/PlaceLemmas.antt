@@ -1,5 +1,5 @@
 -- Lists of the same places, with others behind them.
-use Rattle.std.proofs.Common.{◌≡◌, ℕ, ◌/◌, List, [], ◌∷◌, ◌++◌, inl, inr, Bool, not, refl, sym, subst}
+use Rattle.std.proofs.Common.{◌≡◌, ℕ, List, [], ◌∷◌, ◌++◌, inl, inr, Bool, not, refl, sym, subst}
 use Rattle.zio_types.specs.declared.place.TopSize.{TopSize}
 use Rattle.std.specs.List.{AllByRecursion, list_all}
 use Rattle.std.proofs.lemmas.Bool.{and_from, and_parts}

@@ -24,7 +24,7 @@ use Rattle.zio_report.specs.declared.report.Line.{Line}
 use Rattle.zio_report.specs.declared.report.LineResult.TheVariants.{Suspended}
 use Rattle.zio_report.specs.declared.report.Show.{Show}
 use Rattle.zio_report.specs.Reports.{line_of_ended}
-use Rattle.zio_plain.specs.Rounds.{View, ended_as, first_ask, own_view, plan_in}
+use Rattle.zio_plain.specs.Rounds.{View, ended_as, first_ask, own_view}
 use Rattle.zio_plain.specs.declared.round.Run.{Run}
 use Rattle.zio_report.specs.Lines.{round_text}
 

@@ -6,7 +6,6 @@ use Rattle.std.specs.List.{AllByRecursion, flat_map}
 use Rattle.zio_types.specs.declared.journal.Completion.{Completion}
 use Rattle.zio_types.specs.declared.journal.Journal.{Journal}
 use Rattle.zio_types.specs.declared.place.Place.{Place}
-use Rattle.zio_types.specs.declared.place.Top.{Top}
 use Rattle.zio_types.specs.Choices.{Choice, taken_by}
 use Rattle.zio_types.specs.Places.{SamePlaces}
 use Rattle.zio_script.specs.declared.script.Item.{Item}

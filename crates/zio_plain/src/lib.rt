@@ -10,12 +10,20 @@
 
 mod body;
 mod bound;
+mod children;
 mod chooser;
+mod content;
+mod judge;
 mod own;
+mod owns;
+mod request;
 mod round;
 mod run;
 #[cfg(test)]
 mod tests;
+mod tree;
+mod waiting;
 
 pub use chooser::Chooser;
 pub use run::run_script;
+pub use tree::PlainTree;

@@ -1,4 +1,4 @@
-use Rattle.std.proofs.Common.{◌≡◌, ℕ, ◌++◌, List, [], ◌∷◌, None, Some, Ok, Err, Option, Result, length, drop, take, true, subst, sym, ap, refl, ◌∙◌, arith}
+use Rattle.std.proofs.Common.{◌≡◌, ℕ, ◌++◌, List, [], ◌∷◌, Ok, Err, Option, length, take, true, subst, sym, ap, refl, ◌∙◌, arith}
 use Rattle.zio_types.specs.declared.error.Errno.{Errno}
 use Rattle.zio_blkptr.specs.Pointers.{places_of}
 use Rattle.zio_cksum.specs.Blocks.{Read, good_body, read_block}

@@ -1,4 +1,4 @@
-use Rattle.std.proofs.Common.{◌≡◌, refl, List, None, Some, ap, map, subst, sym, ◌∙◌, []}
+use Rattle.std.proofs.Common.{◌≡◌, refl, None, map, subst, sym, ◌∙◌, []}
 use Rattle.zio_gang.specs.declared.tree.Tree.{Tree}
 use Rattle.zio_plain.specs.Rounds.{IsPlainPointer, plain_pointer}
 use Rattle.zio_plain.proofs.FoundLemmas.{found_pointer}

@@ -2,7 +2,6 @@ use Rattle.std.proofs.Common.{◌≡◌, ℕ, ◌+◌, List, [], ◌∷◌, ◌+
 use Rattle.zio_gang.specs.Trees.{size_of}
 use Rattle.std.proofs.lemmas.Result.{IfOk-weaker}
 use Rattle.zio_types.specs.declared.place.Place.{Place}
-use Rattle.zio_types.specs.declared.place.Top.{Top}
 use Rattle.zio_types.specs.Choices.{Ask, Choice}
 use Rattle.zio_types.specs.Places.{IsLawfulChoice}
 use Rattle.zio_types.specs.Places.{SamePlaces}

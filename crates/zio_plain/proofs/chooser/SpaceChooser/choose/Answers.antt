@@ -2,7 +2,6 @@ use Rattle.std.proofs.Common.{◌≡◌, List, ◌++◌, ap, subst, sym, ◌∙�
 use Rattle.zio_types.specs.declared.place.Place.{Place}
 use Rattle.zio_types.specs.Choices.{taken_by}
 use Rattle.zio_types.specs.Places.{SamePlaces}
-use Rattle.zio_places.specs.Ordered.{all_placed_in}
 use Rattle.zio_places.specs.Spaces.{SpaceState, used}
 use Rattle.zio_places.proofs.SetLemmas.{all_placed-same}
 use Rattle.zio_plain.proofs.PlaceLemmas.{SamePlaces-append}

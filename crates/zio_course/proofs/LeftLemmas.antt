@@ -1,15 +1,14 @@
 -- What a round leaves of runnable trees is runnable.
-use Rattle.std.proofs.Common.{◌≡◌, ℕ, suc, ◌+◌, ◌<◌, ◌≤◌, List, [], ◌∷◌, ◌++◌, length, map, filter, count_by, Bool, true, false, ◌&&◌, cond, Option, Some, None, eqb, eqb-true, eq-eqb, refl, sym, ap, ◌∙◌, subst, inl, inr, ◌⊎◌, arith, Contains}
+use Rattle.std.proofs.Common.{◌≡◌, ℕ, suc, ◌+◌, ◌≤◌, List, [], ◌∷◌, ◌++◌, length, map, count_by, Bool, true, false, cond, Option, Some, None, eqb, eq-eqb, refl, sym, ap, ◌∙◌, subst, inl, inr, arith, Contains}
 use Rattle.std.specs.Prelude.{option_to_list}
-use Rattle.std.specs.List.{AllByRecursion, flat_map}
-use Rattle.zio_types.specs.declared.place.Place.{Place}
+use Rattle.std.specs.List.{AllByRecursion}
 use Rattle.zio_faults.specs.declared.table.Row.{Row}
 use Rattle.zio_script.specs.declared.script.Request.{Request}
 use Rattle.zio_script.specs.Accepted.{NameApart}
 use Rattle.zio_cksum.proofs.AllLemmas.{all_map, all_weaker}
 use Rattle.zio_gang.specs.Attempts.{Pending}
 use Rattle.zio_course.specs.declared.runner.RoundEnd.{RoundEnd}
-use Rattle.zio_course.specs.Runners.{AreRestsOf, AreRisingFrom, AreRunnable, IsFrontOf, IsRestOf, IsRoundEnd, IsSamePending, Standing, StandsAfter, has_claim, is_numbered, joined_trees, named_places, numbers_of, places_of_block, requests_in, root_of, roots_of, rows_tell_apart}
+use Rattle.zio_course.specs.Runners.{AreRestsOf, AreRisingFrom, AreRunnable, IsRestOf, IsRoundEnd, IsSamePending, Standing, StandsAfter, has_claim, is_numbered, joined_trees, named_places, numbers_of, requests_in, root_of, roots_of, rows_tell_apart}
 use Rattle.zio_course.proofs.AdmittedLemmas.{not_both}
 use Rattle.zio_course.proofs.EndLemmas.{times, times_is}
 use Rattle.zio_course.proofs.RunnableLemmas.{apart_of, counted_by}

@@ -9,7 +9,7 @@ use Rattle.zio_script.specs.Requests.{makes_block, name_of, needs_block, request
 use Rattle.zio_cksum.proofs.AllLemmas.{all_contained}
 use Rattle.zio_gang.specs.declared.tree.Tree.{Tree}
 use Rattle.zio_gang.specs.Attempts.{Pending}
-use Rattle.zio_gang.specs.Rounds.{Bound, admission, block_if, passes, pending, pending_trees, trees_of}
+use Rattle.zio_gang.specs.Rounds.{Bound, block_if, passes, pending, pending_trees, trees_of}
 use Rattle.zio_gang.specs.Runs.{has_trees}
 use Rattle.zio_course.specs.declared.admission.Rules.{Rules}
 use Rattle.zio_course.specs.Admissions.{IsAdmission, error_in}
@@ -18,10 +18,9 @@ use Rattle.zio_course.specs.Forests.{names_of, running}
 use Rattle.zio_course.specs.Live.{IsRoundOver}
 use Rattle.zio_course.specs.Names.{is_some_name}
 use Rattle.zio_course.specs.Runners.{joined_trees}
-use Rattle.zio_course.proofs.AdmittedLemmas.{all_both}
 use Rattle.zio_course.proofs.EndLemmas.{all_in_trees}
 use Rattle.zio_course.proofs.ReadyLemmas.{IsFitUnless, all_fit}
-use Rattle.zio_course.proofs.RunnableLemmas.{kept, kept_none}
+use Rattle.zio_course.proofs.RunnableLemmas.{kept_none}
 
 -- what holds of each request of a batch holds of its trees
 pending_all : (P : Pending → Type 0) (names : Bound) (birth : ℕ) (trees : List (List Request)) → AllByRecursion (λ tree. AllByRecursion (λ (r : Request). P (pending names birth r)) tree) trees
@@ -62,13 +61,16 @@ batch_over apart suspended awaited bound number items slots rules rising orderly
     weaken : (P : Request → Type 0) (rs : List Request) → AllByRecursion P rs → AllByRecursion (λ (r : Request). error_in slots rules r.number ≡ None → P r) rs
     weaken P [] h = tt
     weaken P (r ∷ rs) h = (λ none. h.0, weaken P rs h.1)
+
     itself : (rs : List Request) → AllByRecursion (λ (r : Request). error_in slots rules r.number ≡ None → error_in slots rules r.number ≡ None) rs
     itself [] = tt
     itself (r ∷ rs) = (λ none. none, itself rs)
+
     same_block : (rs : List Request) → AllByRecursion (λ (r : Request). error_in slots rules r.number ≡ None
         → block_if (needs_block r.work) (name_of r.work) (names_of bound) ≡ block_if (needs_block r.work) (name_of r.work) (names_of bound)) rs
     same_block [] = tt
     same_block (r ∷ rs) = (λ none. refl, same_block rs)
+
     lacking : (rs : List Request) → AllByRecursion (IsFitUnless (error_in slots rules) (is_some_name bound)) rs
         → AllByRecursion (λ (r : Request). error_in slots rules r.number ≡ None → makes_block r.work ≡ true → passes (is_some_name bound) (name_of r.work) ≡ false) rs
     lacking [] h = tt

@@ -9,8 +9,8 @@ use Rattle.zio_script.specs.declared.script.Failmode.{Failmode}
 use Rattle.zio_script.specs.declared.script.Request.{Request}
 use Rattle.zio_script.specs.Requests.{is_under_number, kind_of}
 use Rattle.zio_cksum.specs.Images.{Images}
-use Rattle.zio_gang.specs.Attempts.{Attempt, Attempted, Child, Own, Pending, Return, Settled, Terms, all_bits, attempt_each, attempt_one, bits_of, children_of, closed_if, decided, finished_of, has_bits, insert_children, joined_bits, kind_bits, may_fail, own_work, returned_to, settle, settle_from, settled_if, suspend_unless}
-use Rattle.zio_gang.specs.Rounds.{Bound, Ran, add_left, pending, pending_trees, put_before, put_if, settle_each, trees_of, with_request, with_requests}
+use Rattle.zio_gang.specs.Attempts.{Attempt, Attempted, Child, Own, Pending, Return, Settled, Terms, all_bits, attempt_each, attempt_one, bits_of, children_of, closed_if, finished_of, has_bits, insert_children, joined_bits, kind_bits, may_fail, own_work, returned_to, settle, settle_from, settled_if, suspend_unless}
+use Rattle.zio_gang.specs.Rounds.{Bound, add_left, pending, pending_trees, put_before, put_if, settle_each, trees_of, with_request, with_requests}
 use Rattle.zio_course.specs.Parents.{AreParented, has_numbered}
 
 -- ---- bits

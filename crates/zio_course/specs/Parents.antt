@@ -1,5 +1,5 @@
 -- Parents wait for their children.
-use Rattle.std.specs.Prelude.{◌≡◌, ℕ, List, [], ◌∷◌, Bool, true, Option, Some, ◌==◌}
+use Rattle.std.specs.Prelude.{◌≡◌, ℕ, List, [], ◌∷◌, Bool, true, Some, ◌==◌}
 use Rattle.std.specs.List.{list_any}
 use Rattle.zio_gang.specs.Attempts.{Pending}
 

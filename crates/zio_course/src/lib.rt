@@ -3,8 +3,9 @@
 //! It stands on the script, the definitions of `zio_gang` and the report, and on no engine. Read `Runner` first: it makes
 //! trees of requests and runs rounds of them. A batch is a slice of a script's lines. `Admission` says which of its trees
 //! are answered before its round, `trees_to_run` makes those that run, `tell_batch` tells of each request after it, and
-//! `enter_round` counts it in the journal. Contracts see a tree as the list of its requests in the order of their
-//! attempts. `specs/Runners` says what a round is to a runner.
+//! `enter_round` counts it in the journal: `run_batch` is all of these. `run_suspended` is the round of a `clear`, and
+//! `write_round` writes what a round told. Contracts see a tree as the list of its requests in the order of their
+//! attempts. `specs/Runners` says what a round is to a runner, and `laws` that such rounds are those of a script's course.
 #![tactic(auto)]
 
 mod admission;
@@ -32,7 +33,12 @@ pub use batch::{BatchEnd, run_batch};
 pub use bound::Bound;
 pub use enter::enter_round;
 pub use forest::trees_to_run;
-pub use laws::{accepted_scripts_are_short, a_batch_is_a_round_of_the_course, a_clear_is_a_round_of_the_course, a_round_leaves_runnable_trees, an_orderly_batch_is_ready, an_orderly_batch_is_runnable, bound_places_are_live, parents_wait_for_children, what_was_run_stays_run, whole_trees_are_admitted};
+pub use laws::{
+    a_batch_is_a_round_of_the_course, a_clear_is_a_round_of_the_course,
+    a_round_leaves_runnable_trees, accepted_scripts_are_short, an_orderly_batch_is_ready,
+    an_orderly_batch_is_runnable, bound_places_are_live, parents_wait_for_children,
+    what_was_run_stays_run, whole_trees_are_admitted,
+};
 pub use round::{WholeRound, whole_round};
 pub use runner::{Finished, Job, RoundEnd, Runner, Stop};
 pub use suspended::{run_suspended, tell_suspended};

@@ -15,3 +15,5 @@ pub mod HandedLemmas
 pub mod JudgeLemmas
 pub mod MergeLemmas
 pub mod PostLemmas
+pub mod ContentLemmas
+pub mod ReturnLemmas

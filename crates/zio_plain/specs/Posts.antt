@@ -10,6 +10,7 @@ use Rattle.zio_script.specs.Whys.{size_with}
 use Rattle.zio_gang.specs.Attempts.{Pending}
 use Rattle.zio_gang.specs.declared.tree.Tree.{Tree}
 use Rattle.zio_course.specs.Runners.{AreRisingFrom, joined_trees, numbers_of, root_of}
+use Rattle.zio_plain.specs.declared.waiting.Handed.{Handed}
 use Rattle.zio_plain.specs.declared.waiting.Waiting.{Waiting}
 use Rattle.zio_plain.specs.Waits.{HasPointer, pending_of, pendings}
 
@@ -60,3 +61,10 @@ pub record AreTrees (fits : Tree → Type 0) (trees : List (List Pending)) (all 
   pub ordered : AreBehindChildren [] all
   pub roots : map pending_of (reverse (met_after [] all)) ≡ flat_map (λ tree. option_to_list (root_of tree)) trees
   pub sound : AllByRecursion (IsSound fits) all
+
+-- what was handed on, by these requests
+abbrev pub AreHandedBy : List Handed → List Waiting → Type 0
+AreHandedBy [] [] = Unit {0}
+AreHandedBy [] (m ∷ ms) = ⊥
+AreHandedBy (h ∷ hs) [] = ⊥
+AreHandedBy (h ∷ hs) (m ∷ ms) = (h.under ≡ m.request.under) × AreHandedBy hs ms

@@ -14,6 +14,7 @@ mod children;
 mod chooser;
 mod content;
 mod judge;
+mod laws;
 mod own;
 mod owns;
 mod request;
@@ -25,5 +26,6 @@ mod tree;
 mod waiting;
 
 pub use chooser::Chooser;
+pub use laws::children_hand_on_last;
 pub use run::run_script;
 pub use tree::PlainTree;

@@ -3,6 +3,7 @@ use Rattle.std.specs.Prelude.{◌≡◌, ◌≢◌, ℕ, List, [], ◌∷◌, �
 use Rattle.std.specs.List.{AllByRecursion, list_any}
 use Rattle.zio_report.specs.declared.report.Show.{Show}
 use Rattle.zio_report.specs.declared.report.Show.TheVariants.{Report}
+use Rattle.zio_run.specs.Words.{IsNoGen}
 
 -- the report has the journal's entries and the order of completions
 abbrev pub journal_option : List ℕ
@@ -42,5 +43,10 @@ pub record IsCommand (words : List (List ℕ)) (show : Show) (image : List ℕ) 
   pub show_is : show ≡ shown_by options
   pub named : IsImageName image
 
-abbrev pub IsNoCommand : List (List ℕ) → Type 0
-IsNoCommand words = (show : Show) (image : List ℕ) → ¬ IsCommand words show image
+abbrev pub IsNoRun : List (List ℕ) → Type 0
+IsNoRun words = (show : Show) (image : List ℕ) → ¬ IsCommand words show image
+
+-- neither a run nor `gen`
+pub record IsNoCommand (words : List (List ℕ)) : Type 0 where
+  pub no_run : IsNoRun words
+  pub no_gen : IsNoGen words

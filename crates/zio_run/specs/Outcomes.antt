@@ -7,7 +7,7 @@ use Rattle.zio_script.specs.declared.read.TheConstants.{SCRIPT_LEN_MAX}
 use Rattle.zio_script.specs.Built.{IsFaultOf, IsScriptOf}
 use Rattle.zio_report.specs.Lines.{as_line, spaced}
 use Rattle.zio_report.specs.Reports.{pool_text}
-use Rattle.zio_run.specs.Commands.{IsNoCommand}
+use Rattle.zio_run.specs.Commands.{IsNoCommand, IsNoRun}
 use Rattle.zio_run.specs.declared.image.TheConstants.{IMAGE_LEN_MAX, IMAGE_LEN_MIN}
 
 -- ---- what is read
@@ -60,11 +60,18 @@ pub record Ends (due : ℕ) (text : List ℕ) (code old_faults new_faults : ℕ)
 
 -- What was due: the line of the words, of the script's fault or of an image, or a report, which begins with the line of
 -- the pool.
-abbrev pub IsDue : List (List ℕ) → List ℕ → List ℕ → Type 0
-IsDue words text full =
-    (IsNoCommand words × (full ≡ words_line))
+abbrev pub IsDueIf : Type 0 → List ℕ → List ℕ → Type 0
+IsDueIf no_command text full =
+    (no_command × (full ≡ words_line))
     ⊎ ((fault : ScriptFault) × IsFaultOf text fault × (full ≡ script_line fault))
     ⊎ ((script : Script) × IsScriptOf text script × ((full ≡ images_line 0) ⊎ ((rest : List ℕ) × (full ≡ pool_text 1 1 ++ rest))))
+
+abbrev pub IsDue : List (List ℕ) → List ℕ → List ℕ → Type 0
+IsDue words text full = IsDueIf (IsNoCommand words) text full
+
+-- the same where the words aren't those of `gen`
+abbrev pub IsRunDue : List (List ℕ) → List ℕ → List ℕ → Type 0
+IsRunDue words text full = IsDueIf (IsNoRun words) text full
 
 -- ---- what stays of a disk and of the shelf
 

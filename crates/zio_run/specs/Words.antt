@@ -159,6 +159,9 @@ pub record IsGenOf (words : List (List ℕ)) (seed n : ℕ) : Type 0 where
   pub words_are : words ≡ codes "gen" ∷ rest
   pub size : IsSize rest seed n []
 
+abbrev pub IsNoGen : List (List ℕ) → Type 0
+IsNoGen words = (seed n : ℕ) → ¬ IsGenOf words seed n
+
 -- `load`, the same, and images
 pub record IsLoadOf (words : List (List ℕ)) (seed n : ℕ) (images : List (List ℕ)) : Type 0 where
   pub rest : List (List ℕ)

@@ -1,7 +1,7 @@
 ghost use Rattle.std.specs.Prelude.{◌≡◌, ◌↔◌, ◌++◌, ◌∷◌, [], IfSome, IsTrue, List, ℕ, MatchOption, map, string_bytes};
 ghost use Rattle.std.specs.List.{AllByRecursion};
 ghost use Rattle.zio_plain.specs.Rounds.{IsReport};
-ghost use Rattle.zio_run.specs.Commands.{AreOnce, IsCommand, IsImageName, IsNoCommand, IsOption, shown_by};
+ghost use Rattle.zio_run.specs.Commands.{AreOnce, IsCommand, IsImageName, IsNoRun, IsOption, shown_by};
 
 use zio_report::Show;
 
@@ -14,7 +14,7 @@ pub(crate) struct Command<'a> {
 
 /// The command of these words, none where they aren't one.
 pub(crate) fn command_of(words: &[String]) -> Option<Command<'_>>
-    ensures command { MatchOption result (IsNoCommand (map string_bytes words.now))
+    ensures command { MatchOption result (IsNoRun (map string_bytes words.now))
         (λ command. IsCommand (map string_bytes words.now) command.show command.image.now) }
     ensures report { IfSome result (λ command. IsReport command.show) }
 {

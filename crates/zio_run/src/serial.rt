@@ -11,17 +11,21 @@ ghost use Rattle.zio_cksum.specs.Images.{Images};
 ghost use Rattle.zio_disks.specs.Disks.{AnyRose, AreSameDisks, Tell};
 ghost use Rattle.zio_plain.specs.Rounds.{Begins, IsReport};
 ghost use Rattle.zio_report.specs.declared.report.Show.{Show as SeenShow};
-ghost use Rattle.zio_run.specs.Commands.{IsCommand, IsNoCommand};
+ghost use Rattle.zio_gen.specs.Generated.{script_text};
+ghost use Rattle.zio_run.specs.Commands.{IsCommand, IsNoCommand, IsNoRun};
+ghost use Rattle.zio_run.specs.Words.{IsGenOf, IsNoGen};
 ghost use Rattle.zio_run.specs.Headline.{Headline};
-ghost use Rattle.zio_run.specs.Outcomes.{HasLawfulSize, IsAfter, IsDue, IsEachBack, IsRun, IsSerialCode, KeepsOthers, images_line, rest_of, script_line, words_line};
+ghost use Rattle.zio_run.specs.Outcomes.{Ends, HasLawfulSize, IsAfter, IsDue, IsEachBack, IsRun, IsRunDue, IsSerialCode, KeepsOthers, images_line, rest_of, script_line, words_line};
 
 use crate::command::command_of;
+use crate::generated::write_generated;
 use crate::image::{is_lawful_size, space_over, top_over};
 use crate::lines::{
     CODE_DEVICE, CODE_MEMORY, CODE_SINK, CODE_SOURCE, code_of, end_with, refuse_image,
     refuse_script,
 };
 use crate::source::{ReadFault, read_all};
+use crate::words::generated;
 use std::alloc::Global;
 use zio_gang::Ending;
 use zio_outside::{Disk, FetchFault, Shelf, Sink, Source};
@@ -32,7 +36,7 @@ use zio_types::{Journal, Status};
 
 /// Runs a command on one thread, and ends with its code.
 ///
-/// The words are those after the program's name. The source is read to its end, or to one byte more than a script may
+/// The words are those after the program's name. `gen` writes the script of a seed, and reads nothing. For a run the source is read to its end, or to one byte more than a script may
 /// have. The disk that is fetched is back on the shelf afterwards, with every code. Code 8 is want of memory, and may
 /// come whenever memory is asked for.
 pub fn zio_serial_main<S: Source, O: Sink, H: Shelf>(
@@ -52,6 +56,108 @@ where
     ensures codes { IsSerialCode result.code }
     ensures words { result.code ≡ 1 → IsNoCommand (map string_bytes words.now) }
     ensures no_command { IsNoCommand (map string_bytes words.now) → (result.code ≡ 1) ⊎ (result.code ≡ 6) }
+    ensures accepted { IsNoGen (map string_bytes words.now) → IsRun result.code ⊎ (result.code ≡ 3) ⊎ (result.code ≡ 7) →
+        (text : List ℕ) → S.left script.old text → (read : Script) × IsScriptOf text read }
+    ensures images { result.code ≡ 3 →
+        (Rose (H.faults shelf.old) (H.faults shelf.new) × (H.fetches shelf.new ≡ H.fetches shelf.old))
+        ⊎ ((H.fetches shelf.new ≡ counted (H.fetches shelf.old)) × ¬ HasLawfulSize (H.last_size shelf.new)) }
+    ensures size { IsNoGen (map string_bytes words.now) → IsRun result.code ⊎ (result.code ≡ 7) →
+        (H.fetches shelf.new ≡ counted (H.fetches shelf.old)) × HasLawfulSize (H.last_size shelf.new) }
+    ensures told_images { result.code ≡ 3 →
+        (show : SeenShow) (name : List ℕ) → IsCommand (map string_bytes words.now) show name →
+        Rose (H.faults shelf.old) (H.faults shelf.new)
+        ⊎ ((image : List ℕ) → H.tells shelf.old → H.image shelf.old name image → ¬ HasLawfulSize (length image)) }
+    ensures measured { IsRun result.code ⊎ (result.code ≡ 7) → (show : SeenShow) (name image : List ℕ) → IsCommand (map string_bytes words.now) show name →
+        H.tells shelf.old → H.image shelf.old name image → HasLawfulSize (length image) }
+    ensures source { result.code ≡ 5 → Rose (S.faults script.old) (S.faults script.new) }
+    ensures sink { result.code ≡ 6 → Rose (O.faults out.old) (O.faults out.new) }
+    ensures device { result.code ≡ 7 → Rose (H.disk_faults shelf.old) (H.disk_faults shelf.new) }
+    ensures sink_steady { (result.code ≡ 1) ⊎ (result.code ≡ 2) ⊎ (result.code ≡ 3) →
+        O.faults out.new ≡ O.faults out.old }
+    ensures steady { IsRun result.code →
+        (S.faults script.new ≡ S.faults script.old) × (O.faults out.new ≡ O.faults out.old)
+        × (H.faults shelf.new ≡ H.faults shelf.old) × (H.disk_faults shelf.new ≡ H.disk_faults shelf.old) }
+
+    // What is written.
+    ensures words_line { result.code ≡ 1 → Appends (O.holds out.old) (O.holds out.new) words_line }
+    ensures script_line { result.code ≡ 2 → (text : List ℕ) → S.left script.old text →
+        (fault : ScriptFault) × IsFaultOf text fault × Appends (O.holds out.old) (O.holds out.new) (script_line fault) }
+    ensures images_line { result.code ≡ 3 → Appends (O.holds out.old) (O.holds out.new) (images_line 0) }
+    ensures nothing { result.code ≡ 5 → Keeps (O.holds out.old) (O.holds out.new) }
+    ensures begun { IsNoGen (map string_bytes words.now) → (result.code ≡ 7) ⊎ (result.code ≡ 8) → Begins (O.holds out.old) (O.holds out.new) (pool_text 1 1) }
+    ensures front { IsNoGen (map string_bytes words.now) → result.code ≡ 6 → (text : List ℕ) → S.left script.old text → (held : List ℕ) → O.holds out.old held →
+        (full : List ℕ) × IsDue (map string_bytes words.now) text full × (n : ℕ) × O.holds out.new (held ++ take n full) }
+
+    // What the codes 0 and 9 say of the report, the images and the journal.
+    ensures headline { IsRun result.code → (text : List ℕ) (show : SeenShow) (name image : List ℕ) → S.left script.old text →
+        IsCommand (map string_bytes words.now) show name → H.tells shelf.old → H.image shelf.old name image →
+        Headline show text (name ∷ []) (image ∷ []) journal.new (H.image shelf.new)
+        (O.holds out.old) (O.holds out.new) result.code }
+
+    // No other code comes where all is in order and no count of faults rose.
+    ensures complete { (show : SeenShow) (name text image : List ℕ) (read : Script) → IsCommand (map string_bytes words.now) show name →
+        S.left script.old text → IsScriptOf text read → H.tells shelf.old → H.image shelf.old name image → HasLawfulSize (length image) →
+        ¬ Rose (S.faults script.old) (S.faults script.new) → ¬ Rose (O.faults out.old) (O.faults out.new) →
+        ¬ Rose (H.faults shelf.old) (H.faults shelf.new) → ¬ Rose (H.disk_faults shelf.old) (H.disk_faults shelf.new) →
+        IsRun result.code ⊎ (result.code ≡ 8) }
+
+    // Nor where all is in order, the source is sound, the shelf is sound for the image, and the sink didn't fail.
+    ensures sound_run { (show : SeenShow) (name text image : List ℕ) (read : Script) →
+        IsCommand (map string_bytes words.now) show name → S.left script.old text → IsScriptOf text read →
+        H.tells shelf.old → H.image shelf.old name image → HasLawfulSize (length image) →
+        S.sound script.old → H.sound shelf.old name → ¬ Rose (O.faults out.old) (O.faults out.new) →
+        IsRun result.code ⊎ (result.code ≡ 8) }
+
+    // What `gen` comes to: its text, and all but the sink stays as it was.
+    ensures generated { (seed n : ℕ) → IsGenOf (map string_bytes words.now) seed n →
+        Ends 0 (script_text seed n) result.code (O.faults out.old) (O.faults out.new) (O.holds out.old) (O.holds out.new) }
+    ensures gen_stays { (seed n : ℕ) → IsGenOf (map string_bytes words.now) seed n →
+        (script.new ≡ script.old) × (shelf.new ≡ shelf.old) × (journal.new ≡ journal.old) }
+
+    // What is read: the script to its end, or to one byte more than a script may have.
+    ensures rest { (show : SeenShow) (name : List ℕ) → IsCommand (map string_bytes words.now) show name →
+        (result.code ≢ 5) → (result.code ≢ 8) →
+        (text : List ℕ) → S.left script.old text → S.left script.new (rest_of text) }
+    ensures source_sound { S.sound script.old → S.sound script.new × (S.faults script.new ≡ S.faults script.old) }
+
+    // What stays.
+    ensures back { IsEachBack (H.fetches shelf.old) (H.fetches shelf.new) (H.returns shelf.old) (H.returns shelf.new) }
+    ensures sound { (show : SeenShow) (name : List ℕ) → IsCommand (map string_bytes words.now) show name →
+        H.sound shelf.old name → H.sound shelf.new name
+        × (H.faults shelf.new ≡ H.faults shelf.old) × (H.disk_faults shelf.new ≡ H.disk_faults shelf.old) }
+    ensures journal { (result.code ≡ 1) ⊎ (result.code ≡ 2) ⊎ (result.code ≡ 3) ⊎ (result.code ≡ 5) → journal.new ≡ journal.old }
+    ensures unread { IsNoCommand (map string_bytes words.now) → (script.new ≡ script.old) × (shelf.new ≡ shelf.old) }
+    ensures unfetched { (result.code ≡ 2) ⊎ (result.code ≡ 5) → shelf.new ≡ shelf.old }
+    ensures untouched { result.code ≡ 3 → (H.disk_faults shelf.new ≡ H.disk_faults shelf.old) × (H.tells shelf.old →
+        StaysHome (H.image shelf.old) (H.image shelf.new) (H.out shelf.old) (H.out shelf.new)) }
+    ensures tells { H.tells shelf.old ↔ H.tells shelf.new }
+    ensures home { (show : SeenShow) (name : List ℕ) → IsCommand (map string_bytes words.now) show name → H.tells shelf.old →
+        KeepsOthers name (H.image shelf.old) (H.image shelf.new) (H.out shelf.old) (H.out shelf.new) }
+{
+    match generated(words) {
+        Some((seed, n)) => write_generated(alloc, seed, n, out),
+        None => run_words(alloc, words, script, shelf, out, journal),
+    }
+}
+
+/// The same of words that may be those of a run.
+fn run_words<S: Source, O: Sink, H: Shelf>(
+    alloc: Global,
+    words: &[String],
+    script: &mut S,
+    shelf: &mut H,
+    out: &mut O,
+    journal: &mut Journal,
+) -> Status
+where
+    H::Disk: Drop,
+    requires empty { IsEmptyJournal journal.old }
+    requires home { H.tells shelf.old → (name : List ℕ) → ¬ H.out shelf.old name }
+
+    // The cause of each code.
+    ensures codes { IsSerialCode result.code }
+    ensures words { result.code ≡ 1 → IsNoRun (map string_bytes words.now) }
+    ensures no_command { IsNoRun (map string_bytes words.now) → (result.code ≡ 1) ⊎ (result.code ≡ 6) }
     ensures accepted { IsRun result.code ⊎ (result.code ≡ 3) ⊎ (result.code ≡ 7) →
         (text : List ℕ) → S.left script.old text → (read : Script) × IsScriptOf text read }
     ensures images { result.code ≡ 3 →
@@ -82,7 +188,7 @@ where
     ensures nothing { result.code ≡ 5 → Keeps (O.holds out.old) (O.holds out.new) }
     ensures begun { (result.code ≡ 7) ⊎ (result.code ≡ 8) → Begins (O.holds out.old) (O.holds out.new) (pool_text 1 1) }
     ensures front { result.code ≡ 6 → (text : List ℕ) → S.left script.old text → (held : List ℕ) → O.holds out.old held →
-        (full : List ℕ) × IsDue (map string_bytes words.now) text full × (n : ℕ) × O.holds out.new (held ++ take n full) }
+        (full : List ℕ) × IsRunDue (map string_bytes words.now) text full × (n : ℕ) × O.holds out.new (held ++ take n full) }
 
     // What the codes 0 and 9 say of the report, the images and the journal.
     ensures headline { IsRun result.code → (text : List ℕ) (show : SeenShow) (name image : List ℕ) → S.left script.old text →
@@ -116,7 +222,7 @@ where
         H.sound shelf.old name → H.sound shelf.new name
         × (H.faults shelf.new ≡ H.faults shelf.old) × (H.disk_faults shelf.new ≡ H.disk_faults shelf.old) }
     ensures journal { (result.code ≡ 1) ⊎ (result.code ≡ 2) ⊎ (result.code ≡ 3) ⊎ (result.code ≡ 5) → journal.new ≡ journal.old }
-    ensures unread { IsNoCommand (map string_bytes words.now) → (script.new ≡ script.old) × (shelf.new ≡ shelf.old) }
+    ensures unread { IsNoRun (map string_bytes words.now) → (script.new ≡ script.old) × (shelf.new ≡ shelf.old) }
     ensures unfetched { (result.code ≡ 2) ⊎ (result.code ≡ 5) → shelf.new ≡ shelf.old }
     ensures untouched { result.code ≡ 3 → (H.disk_faults shelf.new ≡ H.disk_faults shelf.old) × (H.tells shelf.old →
         StaysHome (H.image shelf.old) (H.image shelf.new) (H.out shelf.old) (H.out shelf.new)) }

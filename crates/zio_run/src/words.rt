@@ -1,7 +1,7 @@
 //! The words of a command: docs/FORMATS.md, "Words of a command".
 
-ghost use Rattle.std.specs.Prelude.{◌∷◌, true, IfOk, IsErrOf, MatchOption, codes, map, string_bytes};
-ghost use Rattle.zio_run.specs.Words.{IsCommandOf, IsNoCommandOf, IsSize, NoSize};
+ghost use Rattle.std.specs.Prelude.{◌∷◌, true, IfOk, IfSome, IsErrOf, MatchOption, codes, map, string_bytes};
+ghost use Rattle.zio_run.specs.Words.{IsCommandOf, IsGenOf, IsNoCommandOf, IsNoGen, IsSize, IsWithin, NoSize};
 
 use crate::names::read_images;
 use crate::number::number_within;
@@ -105,6 +105,30 @@ fn read_load(alloc: Global, words: &[String]) -> Result<Command, WordsError>
     };
     let images = read_images(alloc, names)?;
     Ok(Command::Load { seed, n, images })
+}
+
+/// The seed and the number of blocks of `gen`, none where the words aren't that command.
+pub(crate) fn generated(words: &[String]) -> Option<(u32, u32)>
+    ensures size { MatchOption result (IsNoGen (map string_bytes words.now)) (λ size. IsGenOf (map string_bytes words.now) size.0 size.1) }
+    ensures blocks { IfSome result (λ size. IsWithin 1 BLOCKS_MAX size.1) }
+{
+    let (verb, rest) = first_word(words)?;
+    if verb == "gen" {
+        generated_by(rest)
+    } else {
+        None
+    }
+}
+
+/// The same of the words behind `gen`.
+fn generated_by(words: &[String]) -> Option<(u32, u32)>
+    ensures size { MatchOption result (IsNoGen (codes "gen" ∷ map string_bytes words.now)) (λ size. IsGenOf (codes "gen" ∷ map string_bytes words.now) size.0 size.1) }
+    ensures blocks { IfSome result (λ size. IsWithin 1 BLOCKS_MAX size.1) }
+{
+    match size_of(words) {
+        Some((seed, n, rest)) if rest.is_empty() => Some((seed, n)),
+        _ => None,
+    }
 }
 
 /// The seed and the number of blocks with which the words begin, and the words behind them.

@@ -179,6 +179,21 @@ fn scripts_run_to_their_reports(rt: HostRuntime) -> Result<(), Fail> {
     )
 }
 
+/// The text is the one that docs/FORMATS.md has.
+#[test]
+fn script_of_one_block_is_generated(rt: HostRuntime) -> Result<(), Fail> {
+    let text =
+        b"top 0 1\ntop 2 3\nfault 2 any 0 268435456 0 1 gone\nfault 3 any 0 268435456 0 1 gone\n\
+        fault 0 read 0 268435456 0 2 eio\n1 write b1 sha256 1 async seq 8 9728\ngo\n2 read b1 async must\ngo\n\
+        3 free b1 must\ngo\nclear\nclear\n";
+    let case = Case {
+        words: &["gen", "7", "1"],
+        output: text,
+        ..SHORTEST
+    };
+    check(&rt, rt.alloc(), &case)
+}
+
 /// The words are no command.
 fn refuses_words(rt: &impl Abort, alloc: Global, words: &[&str]) -> Result<(), Fail> {
     let case = Case {
@@ -217,6 +232,10 @@ fn what_is_refused_is_told(rt: HostRuntime) -> Result<(), Fail> {
     refuses_words(&rt, alloc, &["run", "a", "b"])?;
     refuses_words(&rt, alloc, &["run", "a", "--data"])?;
     refuses_words(&rt, alloc, &["run", "--picks", "a"])?;
+    refuses_words(&rt, alloc, &["gen", "7"])?;
+    refuses_words(&rt, alloc, &["gen", "07", "1"])?;
+    refuses_words(&rt, alloc, &["gen", "7", "20001"])?;
+    refuses_words(&rt, alloc, &["load", "7", "1", "a"])?;
     refuses_words(&rt, alloc, &["run", "--journal", "--journal", "a"])?;
     refuses_words(&rt, alloc, &["run", "--data", "--journal", "--data", "a"])?;
     refuses_script(&rt, alloc, b"", b"script 1 9\n")?;

@@ -6,7 +6,8 @@ use std::alloc::{AllocError, Global};
 
 const ABOUT: &str = "Runs a script of block reads and writes on an image file, on one thread.";
 
-pub const USAGE: &str = "zio_serial run [--journal] [--data] IMAGE < SCRIPT";
+pub const USAGE: &str = "zio_serial run [--journal] [--data] IMAGE < SCRIPT
+       zio_serial gen SEED N";
 
 const AFTER: &str = "\
 run IMAGE reads a script from standard input, runs it, and writes the report to
@@ -15,8 +16,11 @@ standard output. IMAGE is a file of 64 KiB to 256 MiB that is changed in place.
              which its requests completed
   --data     shows the bytes that each read gave
 
+gen SEED N writes a script of 1 to 20000 blocks on a pool of four images, always
+the same for a SEED below 4294967296.
+
 Exit status:
-  0  the script was run to its end, and all its requests completed
+  0  the script was run to its end, and all its requests completed; or written
   1  the words are no command
   2  the script isn't accepted; `script LINE WHY` tells where and why (below)
   3  the image couldn't be opened, or isn't of 64 KiB to 256 MiB

@@ -28,6 +28,10 @@ fn the_help_has_a_line_for_each_code(rt: HostRuntime) -> Result<(), Fail> {
         text.as_str().contains("\nUsage: zio_serial run [--journal] [--data] IMAGE < SCRIPT\n"),
         "{text}"
     );
+    assert!(rt;
+        text.as_str().contains("\n       zio_serial gen SEED N\n"),
+        "{text}"
+    );
     assert!(rt; text.as_str().ends_with('\n'), "{text}");
     Ok(())
 }

@@ -9,5 +9,5 @@ returns-then-eq-clause-size c =
     let same : bytes_eq c.in_ok-verb.verb.now (codes "gen") ≡ true = sym c.if-eq.ensures in
     let verb : c.in_ok-verb.verb.now ≡ codes "gen" = (bytes_eq-Decides c.in_ok-verb.verb.now (codes "gen")).0 same in
     let words : map string_bytes c.args.words.now ≡ codes "gen" ∷ map string_bytes c.in_ok-verb.rest.now =
-        c.in_ok-verb.ensures ∙ ap (λ (v : List ℕ). v ∷ map string_bytes c.in_ok-verb.rest.now) verb in
+    c.in_ok-verb.ensures ∙ ap (λ (v : List ℕ). v ∷ map string_bytes c.in_ok-verb.rest.now) verb in
     subst (λ (ws : List (List ℕ)). MatchOption c.generated_by.result (IsNoGen ws) (λ size. IsGenOf ws size.0 size.1)) (sym words) c.generated_by.ensures.size

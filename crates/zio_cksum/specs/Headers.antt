@@ -5,15 +5,12 @@ use Rattle.std.specs.List.{flat_map, AllByRecursion}
 use Rattle.zio_types.specs.declared.place.Place.{Place}
 use Rattle.zio_types.specs.Filled.{filled_to}
 use Rattle.zio_types.specs.Places.{sector_size}
+pub use Rattle.zio_types.specs.Places.{rounded_up}
 use Rattle.zio_blkptr.specs.declared.pointer.Bp.{Bp}
 use Rattle.zio_blkptr.specs.Pointers.{word, spelling, pointer_of, valid, FitsTypes}
 use Rattle.zio_cksum.specs.Sums.{sha256_words}
 
 -- ---- the members' sizes
-
--- the next multiple of a sector
-abbrev pub rounded_up : ℕ → ℕ
-rounded_up n = (n + 511) / sector_size * sector_size
 
 -- what the first, the second and the third member get of what is left
 abbrev pub first_size : ℕ → ℕ

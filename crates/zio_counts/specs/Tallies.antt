@@ -9,7 +9,7 @@ use Rattle.zio_types.specs.declared.request.Phase.{Phase}
 use Rattle.zio_types.specs.declared.request.Phase.TheVariants.{Ready, Done}
 use Rattle.zio_types.specs.Bits.{has_bits, joined_bits}
 use Rattle.zio_types.specs.Errors.{worst_error}
-use Rattle.zio_types.specs.Machine.{BecameDone, BecameReady, Count, Event, Machine, PerKind, count_of, error_unless, first_if, is_stall, joined_errors, same_kind}
+use Rattle.zio_types.specs.Machine.{BecameDone, BecameReady, Count, CountEvent, Machine, PerKind, count_of, error_unless, first_if, is_stall, joined_errors, same_kind}
 
 -- the five counts, and the rest of a machine; a vdev child is always ready
 pub record Tally : Type 0 where
@@ -107,7 +107,7 @@ pub record Shows (t : Tally) (m : Machine) : Type 0 where
   pub vdevs : count_of Vdev Ready m.children ≡ 0
 
 -- the event that a parent hears of
-abbrev pub event_of : ChildKind → Phase → ℕ → Option Errno → Bits → Event
+abbrev pub event_of : ChildKind → Phase → ℕ → Option Errno → Bits → CountEvent
 event_of kind Ready n error bits = BecameReady kind n
 event_of kind Done n error bits = BecameDone kind n error bits
 

@@ -1,7 +1,7 @@
 -- What a round is to whatever runs it.
 use Rattle.std.specs.Prelude.{◌≡◌, ℕ, ◌+◌, ◌/◌, ◌%◌, ◌<◌, ◌≤◌, List, [], ◌∷◌, ◌++◌, length, map, filter, count_by, Bool, true, false, ◌&&◌, ◌||◌, Option, Some, None, is_some, is_none, IsTrue, ◌==◌, nat_lt, nat_le, ◌⊎◌, ◌↔◌, slice_get, Contains, option_to_list}
 use Rattle.std.specs.List.{AllByRecursion, flat_map, list_all, list_any}
-use Rattle.zio_outside.specs.Outside.{Rose}
+pub use Rattle.zio_outside.specs.Outside.{AnyRose}
 use Rattle.zio_types.specs.declared.journal.Completion.{Completion}
 use Rattle.zio_types.specs.declared.place.Place.{Place}
 use Rattle.zio_types.specs.declared.place.Top.{Top}
@@ -36,13 +36,6 @@ pub record Standing : Type 0 where
   pub last : ℕ
   pub stopped : Bool
   pub faults : List ℕ
-
--- one of the counts rose
-abbrev pub AnyRose : List ℕ → List ℕ → Type 0
-AnyRose [] [] = ⊥
-AnyRose [] (new ∷ news) = ⊥
-AnyRose (old ∷ olds) [] = ⊥
-AnyRose (old ∷ olds) (new ∷ news) = Rose old new ⊎ AnyRose olds news
 
 -- nothing changed
 pub record Stays (old new : Standing) (old_tells new_tells : Images → Type 0) : Type 0 where

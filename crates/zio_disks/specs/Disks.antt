@@ -1,10 +1,11 @@
 -- Several disks by their numbers: what they tell, and what operations on them keep.
-use Rattle.std.specs.Prelude.{◌≡◌, ℕ, zero, suc, ◌+◌, ◌≤◌, List, [], ◌∷◌, ◌++◌, map, ◌⊎◌, slice_index_or, Bool, true, false, Option, Some, None, Result, Ok, Err, OnOk}
+use Rattle.std.specs.Prelude.{◌≡◌, ℕ, zero, suc, ◌+◌, ◌≤◌, List, [], ◌∷◌, ◌++◌, map, slice_index_or, Bool, true, false, Option, Some, None, Result, Ok, Err, OnOk}
 use Rattle.std.specs.List.{AllByRecursion}
 use Rattle.zio_types.specs.declared.error.Errno.{Errno}
 use Rattle.zio_types.specs.declared.place.Place.{Place}
 use Rattle.zio_types.specs.Errors.{worst_error}
-use Rattle.zio_outside.specs.Outside.{Keeps, Rose}
+use Rattle.zio_outside.specs.Outside.{Keeps}
+pub use Rattle.zio_outside.specs.Outside.{AnyRose}
 use Rattle.zio_cksum.specs.Blocks.{leaves_of, spot_in}
 use Rattle.zio_cksum.specs.Frames.{SameOutside, spots_of}
 use Rattle.zio_cksum.specs.Images.{Images, Setting, Spot}
@@ -41,13 +42,6 @@ StaySound sound faults [] (disk ∷ disks) = ⊥
 StaySound sound faults (disk ∷ disks) [] = ⊥
 StaySound sound faults (old ∷ olds) (new ∷ news) =
     (sound old → sound new × (faults new ≡ faults old)) × StaySound sound faults olds news
-
--- one of the counts rose
-abbrev pub AnyRose : List ℕ → List ℕ → Type 0
-AnyRose [] [] = ⊥
-AnyRose [] (new ∷ news) = ⊥
-AnyRose (old ∷ olds) [] = ⊥
-AnyRose (old ∷ olds) (new ∷ news) = Rose old new ⊎ AnyRose olds news
 
 -- What no operation changes of the disks: their sizes, their counts at fetch and their homes, that they tell an image,
 -- and that they are sound.

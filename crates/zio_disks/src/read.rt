@@ -16,11 +16,12 @@ use crate::leaf::{read_leaf, spot_in};
 use crate::setting::{Setting, Stop};
 use crate::write::write_leaves;
 use std::alloc::Global;
+use zio_mirror::TURN_SIZE;
 use zio_outside::Disk;
-use zio_types::{Errno, List, Place, worst};
+use zio_types::{Errno, List, Place, SECTOR_SIZE, worst};
 
 /// How many sectors of a top are read from one leaf first, before it is the next one's turn.
-const TURN_SECTORS: u64 = 4096;
+const TURN_SECTORS: u64 = TURN_SIZE / SECTOR_SIZE as u64;
 
 /// What the leaves of a place gave that were tried in order until one was good.
 #[derive(Debug, Drop)]

@@ -7,7 +7,7 @@ use Rattle.zio_types.specs.declared.request.ChildKind.TheVariants.{Vdev}
 use Rattle.zio_types.specs.declared.request.Phase.{Phase}
 use Rattle.zio_types.specs.declared.request.Phase.TheVariants.{Ready, Done}
 use Rattle.zio_types.specs.Bits.{no_bits}
-use Rattle.zio_types.specs.Machine.{BecameDone, BecameReady, Child, Event, Machine, count_of, is_vdev, lacks, may_happen, wakes}
+use Rattle.zio_types.specs.Machine.{BecameDone, BecameReady, Child, CountEvent, Machine, count_of, is_vdev, lacks, may_happen, wakes}
 use Rattle.zio_latch.specs.declared.view.Right.{Right}
 use Rattle.zio_latch.specs.declared.view.View.{View}
 use Rattle.zio_latch.specs.declared.view.Stage.{Stage}
@@ -80,7 +80,7 @@ abbrev pub given : View → View
 given v = record { owns = false; post = v.post; minds = not v.right.ready; right = with_busy v.right false true }
 
 -- the event of a child's value; its error and bits are in the value
-abbrev pub value_event : Phase → ChildKind → ℕ → Event
+abbrev pub value_event : Phase → ChildKind → ℕ → CountEvent
 value_event Ready kind n = BecameReady kind n
 value_event Done kind n = BecameDone kind n None no_bits
 

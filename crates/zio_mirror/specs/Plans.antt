@@ -12,7 +12,7 @@ use Rattle.zio_mirror.specs.declared.plan.Step.{Step}
 use Rattle.zio_mirror.specs.declared.plan.Step.TheVariants.{Try, Good, Bad}
 
 -- the children in the order in which they are tried, and the answers so far, of the first of them
-pub record Plan : Type 0 where
+pub record Tries : Type 0 where
   pub order : List ℕ
   pub answers : List (Option Errno)
 
@@ -44,7 +44,7 @@ step_with None (Some untried) answers = Try untried
 step_with None None answers = Bad (blame answers)
 
 -- a good child ends the read; else the first child without an answer is tried; where all failed the worst error counts
-abbrev pub step_of : Plan → Step
+abbrev pub step_of : Tries → Step
 step_of plan = step_with (good_child plan.order plan.answers) (slice_get plan.order (length plan.answers)) plan.answers
 
 abbrev pub is_try : Step → Bool
@@ -57,7 +57,7 @@ repaired_with None failed = []
 repaired_with (Some good) failed = failed
 
 -- the children that a good read rewrites
-abbrev pub to_repair : Plan → List ℕ
+abbrev pub to_repair : Tries → List ℕ
 to_repair plan = repaired_with (good_child plan.order plan.answers) (failed_children plan.order plan.answers)
 
 abbrev pub is_among : ℕ → List ℕ → Bool
@@ -108,5 +108,5 @@ abbrev pub read_copy : Setting → Bool → (List ℕ → Bool) → Images → �
 read_copy s retry good images len places child = place_answer s retry good images len (place_of places child)
 
 -- a plan in this order, whose children were answered by these reads until one was good
-abbrev pub answered_by : (ℕ → Result (List ℕ) Errno) → List ℕ → Plan
+abbrev pub answered_by : (ℕ → Result (List ℕ) Errno) → List ℕ → Tries
 answered_by read order = record { order = order; answers = answers_of read order }

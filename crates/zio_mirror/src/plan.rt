@@ -7,7 +7,7 @@ use std::marker::Model;
 use zio_types::Errno;
 
 /// How many bytes of a top are read from one leaf first, before it is the next one's turn.
-const TURN_SIZE: u64 = 2 << 20;
+pub const TURN_SIZE: u64 = 2 << 20;
 
 /// The most children that a plan has: the leaves of a top.
 pub const CHILDREN_MAX: u32 = 4;
@@ -34,9 +34,9 @@ pub struct ReadPlan {
 
 impl Model for ReadPlan {
     ghost use Rattle.std.specs.Prelude.{take, length, ◌≤◌, ◌≡◌};
-    ghost use Rattle.zio_mirror.specs.Plans.{Plan};
+    ghost use Rattle.zio_mirror.specs.Plans.{Tries};
 
-    ghost Value = { Plan };
+    ghost Value = { Tries };
 
     ghost view = { λ p. record { order = take p.n p.order; answers = take p.answered p.answers } };
 

@@ -3,7 +3,7 @@
 --
 -- What an object tells of its content is a relation between it and that content: in memory it holds of the one content
 -- that is there, and where an object tells nothing it holds of none.
-use Rattle.std.specs.Prelude.{◌≡◌, ◌≢◌, ℕ, ◌+◌, ◌-◌, ◌^◌, ◌<◌, ◌≤◌, min, List, [], ◌++◌, length, take, drop, ◌⊎◌, ◌↔◌, Result, OnOk, OnErr}
+use Rattle.std.specs.Prelude.{◌≡◌, ◌≢◌, ℕ, ◌+◌, ◌-◌, ◌^◌, ◌<◌, ◌≤◌, min, List, [], ◌∷◌, ◌++◌, length, take, drop, ◌⊎◌, ◌↔◌, Result, OnOk, OnErr}
 use Rattle.zio_types.specs.Bytes.{overwritten}
 
 -- ---- counts of faults
@@ -15,6 +15,13 @@ count_max = 2 ^ 64 - 1
 -- a count rose, or stands at its last value
 abbrev pub Rose : ℕ → ℕ → Type 0
 Rose old new = (old < new) ⊎ (new ≡ count_max)
+
+-- one of the counts rose
+abbrev pub AnyRose : List ℕ → List ℕ → Type 0
+AnyRose [] [] = ⊥
+AnyRose [] (new ∷ news) = ⊥
+AnyRose (old ∷ olds) [] = ⊥
+AnyRose (old ∷ olds) (new ∷ news) = Rose old new ⊎ AnyRose olds news
 
 -- a count that rises at its last value stays there
 abbrev pub Raised : ℕ → ℕ → Type 0

@@ -1,7 +1,7 @@
 pub mod Consistent
 pub mod Flags
 pub mod Ordered
-pub mod Runs
+pub mod FreeRuns
 pub mod RunsFall
 pub mod Spaces
 pub mod Tables

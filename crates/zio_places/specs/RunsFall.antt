@@ -3,8 +3,8 @@ use Rattle.std.specs.Prelude.{◌≤◌, max, length}
 use Rattle.std.proofs.Common.{arith, length-append}
 use Rattle.zio_places.specs.declared.runs.Node.{Node}
 use Rattle.zio_places.specs.declared.runs.Node.TheVariants.{Leaf, Fork}
-use Rattle.zio_places.specs.declared.runs.Runs.TheDeep.{deep-Node}
-use Rattle.zio_places.specs.Runs.{flags_in, IsSummed}
+use Rattle.zio_places.specs.declared.runs.FreeRuns.TheDeep.{deep-Node}
+use Rattle.zio_places.specs.FreeRuns.{flags_in, IsSummed}
 
 pub depth_le-length-flags : (n : Node) → IsSummed n → max (deep-Node n) 0 ≤ length (flags_in n)
 depth_le-length-flags (Leaf word summary) h = omega arith

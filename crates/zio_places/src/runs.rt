@@ -10,7 +10,7 @@ use std::marker::Model;
 /// some written back, in a logarithm of steps and the words that change.
 #[cycle(runs)]
 #[derive(Drop)]
-pub struct Runs {
+pub struct FreeRuns {
     node: Node,
 }
 
@@ -19,15 +19,15 @@ pub struct Runs {
 enum Node {
     Leaf(Word, Summary),
     // The sectors of the left side come first.
-    Fork(Box<Runs>, Box<Runs>, Summary),
+    Fork(Box<FreeRuns>, Box<FreeRuns>, Summary),
 }
 
-impl Model for Runs {
+impl Model for FreeRuns {
     ghost use Rattle.std.specs.Prelude.{List, Bool, length};
 
     ghost Value = { List Bool };
 
-    ghost use Rattle.zio_places.specs.Runs.{flags_in, IsSummed};
+    ghost use Rattle.zio_places.specs.FreeRuns.{flags_in, IsSummed};
 
     ghost view = { λ r. flags_in r.node };
 
@@ -40,26 +40,26 @@ impl Model for Runs {
     ghost size_decreases = { λ r h. depth_le-length-flags r.node h };
 }
 
-impl Runs {
+impl FreeRuns {
     /// So many free sectors.
-    pub fn all_free(alloc: Global, sectors: u64) -> Result<Runs, AllocError>
+    pub fn all_free(alloc: Global, sectors: u64) -> Result<FreeRuns, AllocError>
         ensures { IfOk result (λ r. r ≡ replicate sectors true) }
     {
         if sectors <= WORD_SECTORS {
             let word = Word::all_free(sectors as u32);
             let summary = word.summary();
-            return Ok(Runs {
+            return Ok(FreeRuns {
                 node: Node::Leaf(word, summary),
             });
         }
         let words = (sectors - 1) / WORD_SECTORS + 1;
         let middle = words / 2 * WORD_SECTORS;
-        let left = Runs::all_free(alloc, middle)?;
-        let right = Runs::all_free(alloc, sectors - middle)?;
+        let left = FreeRuns::all_free(alloc, middle)?;
+        let right = FreeRuns::all_free(alloc, sectors - middle)?;
         let summary = left.summary().join(right.summary());
         let left = Box::new(alloc, left)?;
         let right = Box::new(alloc, right)?;
-        Ok(Runs {
+        Ok(FreeRuns {
             node: Node::Fork(left, right, summary),
         })
     }

@@ -3,7 +3,7 @@ ghost use Rattle.zio_types.specs.Places.{rounded_to, is_below, is_aligned_on};
 ghost use Rattle.zio_places.specs.Flags.{best_run, AreAll, IsFreeRun, IsRangeSet};
 ghost use Rattle.zio_places.specs.Tables.{TopState, size_of, IsSmallUnit};
 
-use crate::runs::Runs;
+use crate::runs::FreeRuns;
 use std::alloc::{AllocError, Global};
 use std::marker::Model;
 use zio_types::{Place, TopSize};
@@ -12,7 +12,7 @@ use zio_types::{Place, TopSize};
 /// stand on whole units, so a run of free sectors begins and ends at one.
 #[derive(Drop)]
 pub struct Table {
-    free: Runs,
+    free: FreeRuns,
     lengths: Vec<u32>,
     unit: u32,
 }
@@ -36,7 +36,7 @@ impl Table {
         ensures unit { IfOk result (λ t. t.unit ≡ top.unit) }
     {
         let lengths = vec![in alloc; 0; top.sectors as usize]?;
-        let free = Runs::all_free(alloc, top.sectors)?;
+        let free = FreeRuns::all_free(alloc, top.sectors)?;
         Ok(Table {
             free,
             lengths,

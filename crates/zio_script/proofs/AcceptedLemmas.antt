@@ -18,7 +18,7 @@ use Rattle.zio_script.specs.declared.why.Why.{Why}
 use Rattle.zio_script.specs.declared.why.Why.TheVariants.{Limit, Order, Name, Conflict, Flag, Parent, Pool}
 use Rattle.zio_script.specs.Accepted.{AreBehindParents, AreOrderly, AreRising, HasParentIn, IsChildOf, IsInRange, IsOrderlyBatch, IsOrderlyScript, NameApart, batches_from, batches_of, sizes_in}
 use Rattle.zio_script.specs.Grammar.{IsScriptIn, after_form, after_line, after_shape, after_words, ended, read_lines, read_on, read_short, script_with, unless_skipped, unless_why}
-use Rattle.zio_script.specs.Lines.{NewRequest, Line, FailmodeLine, LeavesLine, FaultLine, RequestLine, GoLine, ClearLine, Shape, line_of, shape_of}
+use Rattle.zio_script.specs.Lines.{NewRequest, ScriptLine, FailmodeLine, LeavesLine, FaultLine, RequestLine, GoLine, ClearLine, Shape, line_of, shape_of}
 use Rattle.zio_script.specs.Requests.{is_under, is_under_number, kind_of, name_of, requests_of}
 use Rattle.zio_script.specs.Whys.{Before, are_too_large, batch_after, breaks_limit, children_in, clashes, depth_under, falls_back, fits_asked, fits_work, has_bad_parent, if_so, is_claim, is_misnamed, is_number, is_number_if, is_write, least_why, may_have, nothing_before, open_batch, parent_in, refuses_child, request_in, shares_with_claim, size_with, sizes_with, tells_reads_apart, whys_of, writes_under}
 use Rattle.zio_script.specs.Words.{Word, is_empty, is_skipped, lines_of, words_of}
@@ -287,7 +287,7 @@ no_lines : (apart : Bool) (items : List Item) → not (is_empty items) ≡ false
 no_lines apart [] none = record { rising = tt; batches = tt; last = empty_orderly apart }
 no_lines apart (item ∷ items) none = let no : ⊥ = cc in absurd no
 
-pub line_orderly : (before : Before) (line : Line) → IsOrderlyScript before.script → least_why (whys_of before line) ≡ None
+pub line_orderly : (before : Before) (line : ScriptLine) → IsOrderlyScript before.script → least_why (whys_of before line) ≡ None
     → IsOrderlyScript (script_with before.script line).script
 line_orderly before (FailmodeLine mode) orderly none = orderly
 line_orderly before (LeavesLine leaves sector) orderly none = orderly
@@ -304,7 +304,7 @@ no_why : (why : Option Why) (made next : Before) → unless_why why made ≡ Ok 
 no_why None made next is = (refl, cc)
 no_why (Some why) made next is = let no : ⊥ = cc in absurd no
 
-after_line_orderly : (before next : Before) (line : Option Line) → IsOrderlyScript before.script → after_line before line ≡ Ok next → IsOrderlyScript next.script
+after_line_orderly : (before next : Before) (line : Option ScriptLine) → IsOrderlyScript before.script → after_line before line ≡ Ok next → IsOrderlyScript next.script
 after_line_orderly before next None orderly is = let no : ⊥ = cc in absurd no
 after_line_orderly before next (Some line) orderly is =
     let parts = no_why (least_why (whys_of before line)) (script_with before.script line) next is in

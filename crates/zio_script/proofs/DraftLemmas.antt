@@ -8,7 +8,7 @@ use Rattle.zio_script.specs.declared.line.LineFault.TheVariants.{NotBuilt, NoSha
 use Rattle.zio_script.specs.Built.{is_built}
 use Rattle.zio_script.specs.Drafts.{AddsLine, AddsWords, IsLineWhy, IsWordsWhy, before_of, refusal_of}
 use Rattle.zio_script.specs.Grammar.{after_words, script_with, unless_why}
-use Rattle.zio_script.specs.Lines.{Line as LineWords}
+use Rattle.zio_script.specs.Lines.{ScriptLine as LineWords}
 use Rattle.zio_script.specs.Reading.{IsLineOf, IsWhyOf}
 use Rattle.zio_script.specs.Whys.{Before, least_why, whys_of}
 use Rattle.zio_script.specs.Words.{Word, is_skipped}

@@ -16,7 +16,7 @@ use Rattle.zio_script.specs.declared.why.Why.TheVariants.{Limit}
 use Rattle.zio_script.specs.Builders.{AddsLine, AddsWords, IsEnd, IsEndWhy, IsKept, IsLineWhy, IsReadTo, IsReason, IsWordsWhy, before_of, script_of}
 use Rattle.zio_script.specs.Drafts.{error_at, refusal_of}
 use Rattle.zio_script.specs.Grammar.{IsScriptIn, after_words, all_built, ended, read_lines, read_on, reading, script_with, unless_why}
-use Rattle.zio_script.specs.Lines.{Line}
+use Rattle.zio_script.specs.Lines.{ScriptLine}
 use Rattle.zio_script.specs.NewLines.{IsLineIn, IsNoLine}
 use Rattle.zio_script.specs.Whys.{Before, least_why, nothing_before, whys_at_end, whys_of}
 use Rattle.zio_script.specs.Words.{Word, is_skipped, lines_of, words_of}
@@ -26,15 +26,15 @@ use Rattle.zio_script.specs.Words.{Word, is_skipped, lines_of, words_of}
 pub adds_skipped : (b : Builder) (words : List Word) → is_skipped words ≡ true → AddsWords b words b
 adds_skipped b words skipped = rw skipped refl
 
-after_line_of : (before : Before) (words : List Word) (line : Line) → is_skipped words ≡ false → IsLineIn words line
+after_line_of : (before : Before) (words : List Word) (line : ScriptLine) → is_skipped words ≡ false → IsLineIn words line
     → after_words all_built before words ≡ unless_why (least_why (whys_of before line)) (script_with before.script line)
 after_line_of before words line told is = rw (told, is.shape_is, is.line_is) refl
 
-pub adds_words : (old new : Builder) (words : List Word) (line : Line) → is_skipped words ≡ false → IsLineIn words line → AddsLine old line new
+pub adds_words : (old new : Builder) (words : List Word) (line : ScriptLine) → is_skipped words ≡ false → IsLineIn words line → AddsLine old line new
     → AddsWords old words new
 adds_words old new words line told is adds = after_line_of (before_of old) words line told is ∙ rw (adds.none, adds.next) refl
 
-pub why_of_line : (b : Builder) (words : List Word) (line : Line) (refusal : Refusal) → is_skipped words ≡ false → IsLineIn words line
+pub why_of_line : (b : Builder) (words : List Word) (line : ScriptLine) (refusal : Refusal) → is_skipped words ≡ false → IsLineIn words line
     → IsLineWhy b line refusal → IsWordsWhy b words refusal
 why_of_line b words line (Faulty why) told is applies = after_line_of (before_of b) words line told is ∙ rw applies refl
 why_of_line b words line Memory told is applies = tt

@@ -12,7 +12,7 @@ use Rattle.zio_script.specs.declared.script.ScriptError.{ScriptError}
 use Rattle.zio_script.specs.declared.script.ScriptError.TheVariants.{Fault, Memory as NoMemory}
 use Rattle.zio_script.specs.Accepted.{IsOrderlyScript}
 use Rattle.zio_script.specs.Grammar.{IsFaultIn, after_words, all_built, ended, read_lines, script_with}
-use Rattle.zio_script.specs.Lines.{Line, NewRequest}
+use Rattle.zio_script.specs.Lines.{ScriptLine, NewRequest}
 use Rattle.zio_script.specs.OpenBatches.{IsBatch, IsStand, IsStandWithin}
 use Rattle.zio_script.specs.Requests.{name_of}
 use Rattle.zio_script.specs.declared.open_batch.Stand.{Stand}
@@ -49,12 +49,12 @@ pub record IsKept (b : Builder) : Type 0 where
 -- ---- one line more
 
 -- the line has no fault, and makes this
-pub record AddsLine (old : Builder) (line : Line) (new : Builder) : Type 0 where
+pub record AddsLine (old : Builder) (line : ScriptLine) (new : Builder) : Type 0 where
   pub none : least_why (whys_of (before_of old) line) ≡ None
   pub next : script_with (script_of old) line ≡ before_of new
 
 -- the least why of the line; memory may always be wanting
-abbrev pub IsLineWhy : Builder → Line → Refusal → Type 0
+abbrev pub IsLineWhy : Builder → ScriptLine → Refusal → Type 0
 IsLineWhy b line (Faulty why) = least_why (whys_of (before_of b) line) ≡ Some why
 IsLineWhy b line Memory = Unit {0}
 

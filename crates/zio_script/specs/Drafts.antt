@@ -23,7 +23,7 @@ use Rattle.zio_script.specs.declared.why.Why.TheVariants.{Word as HasNoShape, Nu
 use Rattle.zio_script.specs.Built.{is_built}
 use Rattle.zio_script.specs.Grammar.{after_words, ended, fault_for, read_lines, script_with}
 use Rattle.zio_script.specs.Keys.{AreBegun, has_key, name_key}
-use Rattle.zio_script.specs.Lines.{Line as LineWords}
+use Rattle.zio_script.specs.Lines.{ScriptLine as LineWords}
 use Rattle.zio_script.specs.PlainForm.{IsNextItem, last_after}
 use Rattle.zio_script.specs.Reading.{lone_request, work_on}
 use Rattle.zio_script.specs.Requests.{kind_of, name_of, names_it}

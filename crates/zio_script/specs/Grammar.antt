@@ -9,7 +9,7 @@ use Rattle.zio_script.specs.declared.script.ScriptFault.{ScriptFault}
 use Rattle.zio_script.specs.declared.why.Why.{Why}
 use Rattle.zio_script.specs.declared.why.Why.TheVariants.{Word as NoShape, Number, Limit, NotYet}
 use Rattle.zio_types.specs.Places.{sector_size}
-use Rattle.zio_script.specs.Lines.{Line, FailmodeLine, LeavesLine, FaultLine, RequestLine, GoLine, ClearLine, Shape, shape_of, line_of}
+use Rattle.zio_script.specs.Lines.{ScriptLine, FailmodeLine, LeavesLine, FaultLine, RequestLine, GoLine, ClearLine, Shape, shape_of, line_of}
 use Rattle.zio_script.specs.Whys.{Before, nothing_before, open_batch, request_in, why_number, whys_of, whys_at_end, least_why}
 use Rattle.zio_script.specs.Words.{Word, is_skipped, lines_of, words_of}
 
@@ -24,7 +24,7 @@ abbrev pub with_item : Script → Item → Before
 with_item script item = begun_with (record script { items = script.items ++ item ∷ [] })
 
 -- the script so far, with a line that has no fault
-abbrev pub script_with : Script → Line → Before
+abbrev pub script_with : Script → ScriptLine → Before
 script_with script (FailmodeLine mode) = begun_with (record script { failmode = mode })
 script_with script (LeavesLine leaves sector) =
     begun_with (record script { tops = script.tops ++ record { leaves = leaves; unit = sector / sector_size } ∷ [] })
@@ -39,7 +39,7 @@ unless_why None x = Ok x
 unless_why (Some why) x = Err why
 
 -- Number where a number or a hexadecimal word is wrong, else the least of the others
-abbrev pub after_line : Before → Option Line → Result Before Why
+abbrev pub after_line : Before → Option ScriptLine → Result Before Why
 after_line before None = Err Number
 after_line before (Some line) = unless_why (least_why (whys_of before line)) (script_with before.script line)
 

@@ -243,13 +243,13 @@ pub record NewRequest : Type 0 where
   pub flag : Option Bool
 
 -- a line whose numbers and hexadecimal words are read; of a top its leaves and S
-pub data Line : Type 0 where
-  FailmodeLine : Failmode → Line
-  LeavesLine : List ℕ → ℕ → Line
-  FaultLine : Row → Line
-  RequestLine : NewRequest → Line
-  GoLine : Line
-  ClearLine : Line
+pub data ScriptLine : Type 0 where
+  FailmodeLine : Failmode → ScriptLine
+  LeavesLine : List ℕ → ℕ → ScriptLine
+  FaultLine : Row → ScriptLine
+  RequestLine : NewRequest → ScriptLine
+  GoLine : ScriptLine
+  ClearLine : ScriptLine
 
 -- all words are numbers
 abbrev pub numbers : List Word → Option (List ℕ)
@@ -265,7 +265,7 @@ sector_number None = Some sector_size
 sector_number (Some s) = number s
 
 -- each LEAF is a number, and so is S
-abbrev pub top_of : TopWords → Option Line
+abbrev pub top_of : TopWords → Option ScriptLine
 top_of top = do
   leaves ← numbers top.leaves
   sector ← sector_number top.sector
@@ -328,7 +328,7 @@ new_request_of n shape tail = do
 
 -- The line that a shape is, if each word in a number's place is a number, each HEX has digits alone and in pairs, and each
 -- HH is two digits.
-abbrev pub line_of : Shape → Option Line
+abbrev pub line_of : Shape → Option ScriptLine
 line_of (FailmodeShape mode) = Some (FailmodeLine mode)
 line_of (TopShape top) = top_of top
 line_of (FaultShape shape) = option_map FaultLine (row_of shape)

@@ -23,7 +23,7 @@ use Rattle.zio_script.specs.declared.script.Body.TheVariants.{Hex, Fill, Seq}
 use Rattle.zio_script.specs.declared.script.Request.{Request as MadeRequest}
 use Rattle.zio_script.specs.declared.script.Work.{Work}
 use Rattle.zio_script.specs.declared.script.Work.TheVariants.{Null, Read, Write, Free, Claim}
-use Rattle.zio_script.specs.Lines.{Line, FailmodeLine, LeavesLine, FaultLine, RequestLine, GoLine, ClearLine, NewRequest, Shape, body_of_shape, line_of, new_request_of, numbers, row_of as row_of_words, shape_of, top_of as top_of_words, work_of as work_of_words}
+use Rattle.zio_script.specs.Lines.{ScriptLine, FailmodeLine, LeavesLine, FaultLine, RequestLine, GoLine, ClearLine, NewRequest, Shape, body_of_shape, line_of, new_request_of, numbers, row_of as row_of_words, shape_of, top_of as top_of_words, work_of as work_of_words}
 use Rattle.zio_script.specs.Reading.{body_shape_as}
 use Rattle.zio_script.specs.Shapes.{row_as as row_words, tail_as, top_as as top_words_as, work_as as work_words}
 use Rattle.zio_script.specs.Words.{Word}
@@ -62,11 +62,11 @@ row_as row = record {
 }
 
 -- a top
-abbrev pub top_as : NewTop → Line
+abbrev pub top_as : NewTop → ScriptLine
 top_as top = LeavesLine top.leaves top.sector
 
 -- a line
-abbrev pub line_as : NewLine → Line
+abbrev pub line_as : NewLine → ScriptLine
 line_as (Failmode mode) = FailmodeLine mode
 line_as (Top top) = top_as top
 line_as (Fault row) = FaultLine (row_as row)
@@ -77,7 +77,7 @@ line_as Clear = ClearLine
 -- ---- what its words say
 
 -- of the words of a top
-abbrev pub top_of : TopFound → Option Line
+abbrev pub top_of : TopFound → Option ScriptLine
 top_of top = top_of_words (top_words_as top)
 
 -- of the words of a row
@@ -105,7 +105,7 @@ pub record GivesNumbers (words : List Word) (old new : List ℕ) : Type 0 where
 -- ---- lines
 
 -- the words are this line
-pub record IsLineIn (words : List Word) (line : Line) : Type 0 where
+pub record IsLineIn (words : List Word) (line : ScriptLine) : Type 0 where
   pub shape : Shape
   pub shape_is : shape_of words ≡ Some shape
   pub line_is : line_of shape ≡ Some line

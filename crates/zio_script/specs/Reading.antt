@@ -23,7 +23,7 @@ use Rattle.zio_script.specs.declared.shape.RequestShape.{RequestShape as LoneReq
 use Rattle.zio_script.specs.declared.script.Work.{Work}
 use Rattle.zio_script.specs.declared.script.Work.TheVariants.{Read, Write}
 use Rattle.zio_script.specs.Built.{is_built, is_hex_built, is_len_built, is_long_len, is_never_built, is_top_built, is_read_built, is_write_built, is_built_as}
-use Rattle.zio_script.specs.Lines.{NewRequest as NewRequestWords, BodyShape, HexShape, FillShape, SeqShape, WorkShape, ReadShape, WriteShape, Line as LineWords, LeavesLine, RequestLine, GoLine, Shape, TopShape, RequestShape, GoShape, shape_of, failmode_shape, top_shape, fault_shape, go_shape, clear_shape, body_of_shape, line_of, ◌>>=◌}
+use Rattle.zio_script.specs.Lines.{NewRequest as NewRequestWords, BodyShape, HexShape, FillShape, SeqShape, WorkShape, ReadShape, WriteShape, ScriptLine as LineWords, LeavesLine, RequestLine, GoLine, Shape, TopShape, RequestShape, GoShape, shape_of, failmode_shape, top_shape, fault_shape, go_shape, clear_shape, body_of_shape, line_of, ◌>>=◌}
 use Rattle.zio_script.specs.Words.{Entry, Word, sum_words, value_in, write_classes}
 
 -- what a request does on this block

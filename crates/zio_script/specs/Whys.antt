@@ -4,7 +4,7 @@ use Rattle.std.specs.Prelude.{ℕ, zero, suc, ◌+◌, ◌-◌, ◌*◌, ◌/◌
 use Rattle.std.specs.List.{list_any, list_all, flat_map}
 use Rattle.zio_types.specs.declared.request.Kind.{Kind}
 use Rattle.zio_types.specs.declared.request.Kind.TheVariants.{Null as NullKind, Read as ReadKind, Write as WriteKind, Free as FreeKind, Claim as ClaimKind}
-use Rattle.zio_types.specs.Places.{sector_size}
+pub use Rattle.zio_types.specs.Places.{rounded_up}
 use Rattle.zio_faults.specs.declared.table.FaultKind.{FaultKind}
 use Rattle.zio_faults.specs.declared.table.FaultKind.TheVariants.{Eio, Gone, Flip}
 use Rattle.zio_faults.specs.declared.table.Row.{Row}
@@ -22,7 +22,7 @@ use Rattle.zio_script.specs.declared.why.Why.{Why}
 use Rattle.zio_script.specs.declared.why.Why.TheVariants.{Word as NoShape, Number, Limit, Order, Name, Conflict, Flag, Parent, Pool, NotYet}
 use Rattle.zio_script.specs.declared.script.Work.{Work}
 use Rattle.zio_script.specs.declared.script.Work.TheVariants.{Null, Read, Write, Free, Claim}
-use Rattle.zio_script.specs.Lines.{NewRequest, Line, FailmodeLine, LeavesLine, FaultLine, RequestLine, GoLine, ClearLine}
+use Rattle.zio_script.specs.Lines.{NewRequest, ScriptLine, FailmodeLine, LeavesLine, FaultLine, RequestLine, GoLine, ClearLine}
 use Rattle.zio_script.specs.Requests.{kind_of, name_of, names_it, requests_of, is_under, is_under_number}
 use Rattle.zio_script.specs.Words.{Word, is_empty, is_name}
 
@@ -142,10 +142,6 @@ fits_work (Claim name pointer) = length pointer == POINTER_SIZE
 -- N, P, COPIES and lengths in range
 abbrev pub fits_asked : NewRequest → Bool
 fits_asked asked = is_number asked.number && is_number_if asked.under && fits_work asked.work
-
--- a number of bytes, rounded up to whole sectors
-abbrev pub rounded_up : ℕ → ℕ
-rounded_up n = (n + sector_size - 1) / sector_size * sector_size
 
 -- the size of a write with so many children that are writes; other work has none
 abbrev pub size_with : ℕ → Work → ℕ
@@ -345,7 +341,7 @@ request_whys script batch asked =
     has_bad_parent batch (kind_of asked.work) asked.under || shares_with_claim batch (kind_of asked.work)) ∷ []
 
 -- the whys of a line whose words are read, by their numbers
-abbrev pub whys_of : Before → Line → List Check
+abbrev pub whys_of : Before → ScriptLine → List Check
 whys_of before (FailmodeLine mode) = if_so Order before.begun ∷ []
 whys_of before (LeavesLine leaves sector) =
     if_so Limit (

@@ -239,7 +239,7 @@ fn rounded_up(len: u64) -> u64
     ensures { result ≡ rounded_up len }
 {
     let sector = u64::from(SECTOR_SIZE);
-    (len + sector - 1) / sector * sector
+    len.div_ceil(sector) * sector
 }
 
 // The size of a request with so many writes under it.

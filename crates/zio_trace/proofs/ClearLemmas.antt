@@ -4,7 +4,7 @@ use Rattle.std.specs.List.{AllByRecursion}
 use Rattle.zio_cksum.proofs.AllLemmas.{all_append, all_weaker}
 use Rattle.zio_trace.specs.Programs.{Deed}
 use Rattle.zio_trace.specs.Labels.{Labelled, Below, Earlier, IsIn}
-use Rattle.zio_trace.specs.Clearings.{Seat, Reach, Away, Free, FreeOf, Holds, Pairs, AreClear}
+use Rattle.zio_trace.specs.Clearings.{Seat, Reach, Away, Free, FreeOf, Holds, AllPairs, AreClear}
 use Rattle.zio_trace.proofs.LabelLemmas.{below_itself}
 
 -- ---- places
@@ -72,7 +72,7 @@ column : {X : Type 0} (R : X → X → Type 0) (a : X) (xs ys : List X) → AllB
 column R a xs [] h k = tt
 column R a xs (y ∷ ys) h k = ((h.0, k.0), column R a xs ys h.1 k.1)
 
-pairs_cons : {X : Type 0} (R : X → X → Type 0) (a : X) (xs : List X) → R a a → AllByRecursion (R a) xs → AllByRecursion (λ (y : X). R y a) xs → Pairs R xs → Pairs R (a ∷ xs)
+pairs_cons : {X : Type 0} (R : X → X → Type 0) (a : X) (xs : List X) → R a a → AllByRecursion (R a) xs → AllByRecursion (λ (y : X). R y a) xs → AllPairs R xs → AllPairs R (a ∷ xs)
 pairs_cons R a xs self out into h = ((self, out), column R a xs xs into h)
 
 all_and : {X : Type 0} (P Q S : X → Type 0) (xs : List X) → ((x : X) → P x → Q x → S x) → AllByRecursion P xs → AllByRecursion Q xs → AllByRecursion S xs

@@ -5,7 +5,7 @@ use Rattle.zio_cksum.proofs.AllLemmas.{all_append, all_weaker}
 use Rattle.zio_trace.specs.Programs.{Program, Ends, Asks, Deed}
 use Rattle.zio_trace.specs.Oracles.{Oracle, IsOracle, heard, asked_in, Agrees, Sure, weigh, ops_of}
 use Rattle.zio_trace.specs.Labels.{Labelled, labelled, ways_at, Earlier, same_place}
-use Rattle.zio_trace.specs.Going.{asked_behind, Slot, todo_of, Knows, Within, weigh_slots, IsGoing}
+use Rattle.zio_trace.specs.Going.{asked_behind, Slot, todo_of, Knows, AskedWithin, weigh_slots, IsGoing}
 use Rattle.zio_trace.proofs.OracleLemmas.{sure_more}
 use Rattle.zio_trace.proofs.LabelLemmas.{asked_ascend}
 use Rattle.zio_trace.proofs.StepLemmas.{behind_none}
@@ -68,13 +68,13 @@ module _ {Op Ans A : Type 0} (r : Rules Op Ans) (l : AreLawful r) (p : Program O
             let f : weigh w (ops_of (ds ++ d ∷ [])) ≡ weigh w (ops_of ds) + (w x + 0) = ap (weigh w) (ops_append ds (d ∷ [])) ∙ weigh_append w (ops_of ds) (x ∷ []) in
             omega arith;
         inside = (
-          λ o is agrees. (subst (Within p o) (split o is agrees) (h.inside.0 o is (old_of o agrees))).1,
-          all_weaker (λ (q : Slot Op Ans). Sure (ways_at r.ways) ds (λ o. Within p o (todo_of o q))) (λ (q : Slot Op Ans). Sure (ways_at r.ways) (ds ++ d ∷ []) (λ o. Within p o (todo_of o q))) slots (λ q k. sure_more (ways_at r.ways) (λ o. Within p o (todo_of o q)) ds (d ∷ []) k) h.inside.1,
+          λ o is agrees. (subst (AskedWithin p o) (split o is agrees) (h.inside.0 o is (old_of o agrees))).1,
+          all_weaker (λ (q : Slot Op Ans). Sure (ways_at r.ways) ds (λ o. AskedWithin p o (todo_of o q))) (λ (q : Slot Op Ans). Sure (ways_at r.ways) (ds ++ d ∷ []) (λ o. AskedWithin p o (todo_of o q))) slots (λ q k. sure_more (ways_at r.ways) (λ o. AskedWithin p o (todo_of o q)) ds (d ∷ []) k) h.inside.1,
         );
-        left = sure_more (ways_at r.ways) (λ o. Within p o (asked_behind o outs root)) ds (d ∷ []) h.left;
+        left = sure_more (ways_at r.ways) (λ o. AskedWithin p o (asked_behind o outs root)) ds (d ∷ []) h.left;
         within = λ o is agrees.
-            subst (Within p o) (sym (ops_append ds (d ∷ [])))
-            (all_append (Contains (asked_in o (labelled [] 0 p))) (ops_of ds) (x ∷ []) (h.within o is (old_of o agrees)) ((subst (Within p o) (split o is agrees) (h.inside.0 o is (old_of o agrees))).0, tt));
+            subst (AskedWithin p o) (sym (ops_append ds (d ∷ [])))
+            (all_append (Contains (asked_in o (labelled [] 0 p))) (ops_of ds) (x ∷ []) (h.within o is (old_of o agrees)) ((subst (AskedWithin p o) (split o is agrees) (h.inside.0 o is (old_of o agrees))).0, tt));
         once = once_more d ds h.once not_done;
         single = all_append (λ (e : Deed (Labelled Op) Ans). r.ways.single e.op.op ≡ true) ds (d ∷ []) h.single (single, tt);
         fit = all_append (λ (e : Deed (Labelled Op) Ans). r.mend e.op.op e.answer ≡ e.answer) ds (d ∷ []) h.fit (fit, tt);

@@ -6,7 +6,7 @@ use Rattle.zio_trace.specs.Programs.{Program, Ends, Deed}
 use Rattle.zio_trace.specs.Calls.{answered_at}
 use Rattle.zio_trace.specs.Oracles.{Ways, Oracle, IsOracle, heard, asked_in, Agrees, Sure, weigh, ops_of}
 use Rattle.zio_trace.specs.Labels.{Labelled, labelled, ways_at}
-use Rattle.zio_trace.specs.Going.{nth_asked, asked_behind, Slot, todo_of, Knows, IsFresh, Within, weigh_slots, IsGoing}
+use Rattle.zio_trace.specs.Going.{nth_asked, asked_behind, Slot, todo_of, Knows, IsFresh, AskedWithin, weigh_slots, IsGoing}
 use Rattle.zio_trace.proofs.StepLemmas.{behind_none, behind_next, heard_answered, behind_answered}
 
 module _ {Op Ans A : Type 0} (ways : Ways Op Ans) (Apart : Op → Op → Type 0) (Lies : Op → Type 0) (mend : Op → Ans → Ans) (p : Program Op Ans A) where
@@ -32,7 +32,7 @@ module _ {Op Ans A : Type 0} (ways : Ways Op Ans) (Apart : Op → Op → Type 0)
     ends = λ o is agrees. refl;
     todo = λ o is agrees w. let e : weigh w (asked_behind o 0 (labelled [] 0 p)) ≡ weigh w (asked_in o (labelled [] 0 p)) = ap (weigh w) (behind_none o (labelled [] 0 p)) in omega arith;
     inside = tt;
-    left = λ o is agrees. subst (Within p o) (sym (behind_none o (labelled [] 0 p))) (all_contained (asked_in o (labelled [] 0 p)));
+    left = λ o is agrees. subst (AskedWithin p o) (sym (behind_none o (labelled [] 0 p))) (all_contained (asked_in o (labelled [] 0 p)));
     within = λ o is agrees. tt;
     once = tt;
     single = tt;
@@ -56,8 +56,8 @@ module _ {Op Ans A : Type 0} (ways : Ways Op Ans) (Apart : Op → Op → Type 0)
             let e : weigh w (todo_of o s) ≡ weigh w (todo_of o child) + weigh w (asked_behind o (suc s.outs) s.rest) = ap (weigh w) (split o is agrees) ∙ weigh_append w (todo_of o child) (asked_behind o (suc s.outs) s.rest) in
             omega arith;
         inside = (
-          λ o is agrees. front _ (todo_of o child) (asked_behind o (suc s.outs) s.rest) (subst (Within p o) (split o is agrees) (h.inside.0 o is agrees)),
-          (λ o is agrees. back _ (todo_of o child) (asked_behind o (suc s.outs) s.rest) (subst (Within p o) (split o is agrees) (h.inside.0 o is agrees)), h.inside.1),
+          λ o is agrees. front _ (todo_of o child) (asked_behind o (suc s.outs) s.rest) (subst (AskedWithin p o) (split o is agrees) (h.inside.0 o is agrees)),
+          (λ o is agrees. back _ (todo_of o child) (asked_behind o (suc s.outs) s.rest) (subst (AskedWithin p o) (split o is agrees) (h.inside.0 o is agrees)), h.inside.1),
         );
         left = h.left;
         within = h.within;
@@ -82,8 +82,8 @@ module _ {Op Ans A : Type 0} (ways : Ways Op Ans) (Apart : Op → Op → Type 0)
             let all : weigh w (asked_in o (labelled [] 0 p)) ≡ weigh w (ops_of ds) + (weigh_slots o w slots + weigh w (asked_behind o outs root)) = h.todo o is agrees w in
             let e : weigh w (asked_behind o outs root) ≡ weigh w (todo_of o child) + weigh w (asked_behind o (suc outs) root) = ap (weigh w) (split o is agrees) ∙ weigh_append w (todo_of o child) (asked_behind o (suc outs) root) in
             omega arith;
-        inside = (λ o is agrees. front _ (todo_of o child) (asked_behind o (suc outs) root) (subst (Within p o) (split o is agrees) (h.left o is agrees)), h.inside);
-        left = λ o is agrees. back _ (todo_of o child) (asked_behind o (suc outs) root) (subst (Within p o) (split o is agrees) (h.left o is agrees));
+        inside = (λ o is agrees. front _ (todo_of o child) (asked_behind o (suc outs) root) (subst (AskedWithin p o) (split o is agrees) (h.left o is agrees)), h.inside);
+        left = λ o is agrees. back _ (todo_of o child) (asked_behind o (suc outs) root) (subst (AskedWithin p o) (split o is agrees) (h.left o is agrees));
         within = h.within;
         once = h.once;
         single = h.single;
@@ -110,7 +110,7 @@ module _ {Op Ans A : Type 0} (ways : Ways Op Ans) (Apart : Op → Op → Type 0)
             let e : weigh w (todo_of o s) ≡ 0 = ap (weigh w) (none o) in
             let f : weigh w (asked_behind o m (answered_at n v q.rest)) ≡ weigh w (todo_of o q) = ap (weigh w) (same o is agrees) in
             omega arith;
-        inside = (λ o is agrees. subst (Within p o) (sym (same o is agrees)) (h.inside.1.0 o is agrees), h.inside.1.1);
+        inside = (λ o is agrees. subst (AskedWithin p o) (sym (same o is agrees)) (h.inside.1.0 o is agrees), h.inside.1.1);
         left = h.left;
         within = h.within;
         once = h.once;
@@ -139,7 +139,7 @@ module _ {Op Ans A : Type 0} (ways : Ways Op Ans) (Apart : Op → Op → Type 0)
             let f : weigh w (asked_behind o m (answered_at n v root)) ≡ weigh w (asked_behind o (suc m) root) = ap (weigh w) (same o is agrees) in
             omega arith;
         inside = h.inside.1;
-        left = λ o is agrees. subst (Within p o) (sym (same o is agrees)) (h.left o is agrees);
+        left = λ o is agrees. subst (AskedWithin p o) (sym (same o is agrees)) (h.left o is agrees);
         within = h.within;
         once = h.once;
         single = h.single;
@@ -166,7 +166,7 @@ module _ {Op Ans A : Type 0} (ways : Ways Op Ans) (Apart : Op → Op → Type 0)
   going_to_front ds xs y ys root outs h = record {
     knows = all_to_front (Knows ways ds) xs y ys h.knows;
     todo = λ o is agrees w. h.todo o is agrees w ∙ ap (λ (n : ℕ). weigh w (ops_of ds) + (n + weigh w (asked_behind o outs root))) (weigh_front o w xs y ys);
-    inside = all_to_front (λ (s : Slot Op Ans). Sure (ways_at ways) ds (λ o. Within p o (todo_of o s))) xs y ys h.inside;
+    inside = all_to_front (λ (s : Slot Op Ans). Sure (ways_at ways) ds (λ o. AskedWithin p o (todo_of o s))) xs y ys h.inside;
     ends = h.ends;
     left = h.left;
     within = h.within;
@@ -181,7 +181,7 @@ module _ {Op Ans A : Type 0} (ways : Ways Op Ans) (Apart : Op → Op → Type 0)
   going_from_front ds xs y ys root outs h = record {
     knows = all_from_front (Knows ways ds) xs y ys h.knows;
     todo = λ o is agrees w. h.todo o is agrees w ∙ ap (λ (n : ℕ). weigh w (ops_of ds) + (n + weigh w (asked_behind o outs root))) (sym (weigh_front o w xs y ys));
-    inside = all_from_front (λ (s : Slot Op Ans). Sure (ways_at ways) ds (λ o. Within p o (todo_of o s))) xs y ys h.inside;
+    inside = all_from_front (λ (s : Slot Op Ans). Sure (ways_at ways) ds (λ o. AskedWithin p o (todo_of o s))) xs y ys h.inside;
     ends = h.ends;
     left = h.left;
     within = h.within;

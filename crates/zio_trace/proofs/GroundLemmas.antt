@@ -18,7 +18,7 @@ use Rattle.zio_trace.specs.Conflicts.{is_single}
 use Rattle.zio_trace.specs.CopyPrograms.{block_reading, piece_writing}
 use Rattle.zio_trace.specs.Families.{Forest, NoTrees, TreeOf}
 use Rattle.zio_trace.specs.Leaves.{LeafOp, Answer}
-use Rattle.zio_trace.specs.Plans.{Plan, Kids, by_leaves, plan_members, plan_gang, plan_gang_unless, plan_body, plan_part, plan_write, head_task, plan_below, plan_found, plan_pointer, plan_bodies, plan_after, plan_tree, plan_read, plan_free, plan_taken, plan_claim, plan_own, plan_kids, plan_root, plan_left, plan_again, plan_settle, plan}
+use Rattle.zio_trace.specs.Plans.{TaskPlan, Kids, by_leaves, plan_members, plan_gang, plan_gang_unless, plan_body, plan_part, plan_write, head_task, plan_below, plan_found, plan_pointer, plan_bodies, plan_after, plan_tree, plan_read, plan_free, plan_taken, plan_claim, plan_own, plan_kids, plan_root, plan_left, plan_again, plan_settle, plan}
 use Rattle.zio_trace.specs.Programs.{Program as ProgramOf, Ends, Asks, ◌>>=◌, ask}
 use Rattle.zio_trace.specs.Tasks.{Test, good_by, Look, ByKept, ByClaim, visit_of, Task, Leaf, Find, ReadCopies, WriteCopies, WritePart, ReadHeads, ReadTree, TakePlaces, Attempt, Settle, Value, Got, Wrote, One, Settled, got, found, StoredAs, nowhere, walked, attempted}
 use Rattle.zio_trace.specs.Traces.{AsksOnly, Grounded, Bottom, Above}
@@ -54,7 +54,7 @@ module _ (t : Terms) where
 
   -- ---- a part that is written
 
-  module _ (below : List ℕ → List ℕ → Plan Value) (h : (path part : List ℕ) → AsksOnly G (below path part)) where
+  module _ (below : List ℕ → List ℕ → TaskPlan Value) (h : (path part : List ℕ) → AsksOnly G (below path part)) where
     members_ground : (path : List ℕ) (n : ℕ) (bits : List (List ℕ)) → AsksOnly G (plan_members below path n bits)
     members_ground path n [] = tt
     members_ground path n (part ∷ bits) =
@@ -99,7 +99,7 @@ module _ (t : Terms) where
   found_ground down h path (Err e) = tt
   found_ground down h path (Ok bytes) = only-then G (plan_below down path 0 (members_of bytes)) _ (below_ground down h path 0 (members_of bytes)) (λ w. tt)
 
-  pointer_ground : (e : Option Errno) (gang : Bool) (bp : Bp) (follow : Plan Value) → AsksOnly G follow → AsksOnly G (plan_pointer e gang bp follow)
+  pointer_ground : (e : Option Errno) (gang : Bool) (bp : Bp) (follow : TaskPlan Value) → AsksOnly G follow → AsksOnly G (plan_pointer e gang bp follow)
   pointer_ground (Some e) gang bp follow h = tt
   pointer_ground None false bp follow h = tt
   pointer_ground None true bp follow h = h
@@ -168,11 +168,11 @@ module _ (t : Terms) where
   attempt_ground attempt p kids =
       planned (Attempt attempt p kids) refl (only-then G (plan_kids attempt kids) _ (kids_ground attempt kids) (λ k. root_ground attempt p k))
 
-  left_ground : (one : One) (left : Forest) (again : Pending → Forest → Plan Settled) → ((p : Pending) (kids : Forest) → AsksOnly G (again p kids)) → AsksOnly G (plan_left one left again)
+  left_ground : (one : One) (left : Forest) (again : Pending → Forest → TaskPlan Settled) → ((p : Pending) (kids : Forest) → AsksOnly G (again p kids)) → AsksOnly G (plan_left one left again)
   left_ground one NoTrees again h = tt
   left_ground one (TreeOf p kids others) again h = only-then G (again p kids) _ (h p kids) (λ later. tt)
 
-  again_ground : (now : Bool) (one : One) (again : Pending → Forest → Plan Settled) → ((p : Pending) (kids : Forest) → AsksOnly G (again p kids)) → AsksOnly G (plan_again now one again)
+  again_ground : (now : Bool) (one : One) (again : Pending → Forest → TaskPlan Settled) → ((p : Pending) (kids : Forest) → AsksOnly G (again p kids)) → AsksOnly G (plan_again now one again)
   again_ground true one again h = left_ground one one.left again h
   again_ground false one again h = tt
 

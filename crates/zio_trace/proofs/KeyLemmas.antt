@@ -25,7 +25,7 @@ use Rattle.zio_trace.specs.Families.{Forest, NoTrees, TreeOf, root_left, before}
 use Rattle.zio_trace.specs.Keys.{bit, if_same, starts, count_in, cap, FitsLeft, Capped}
 use Rattle.zio_trace.specs.Labels.{same_number, same_at}
 use Rattle.zio_trace.specs.Leaves.{LeafOp, Answer}
-use Rattle.zio_trace.specs.Plans.{Plan, Kids, bare, by_leaves, plan_members, plan_gang, plan_gang_unless, plan_body, plan_part, plan_write, head_task, plan_below, plan_found, plan_pointer, plan_bodies, plan_after, plan_tree, plan_read, plan_free, plan_taken, plan_claim, plan_own, plan_kids, plan_root, plan_left, plan_again, plan_settle, plan}
+use Rattle.zio_trace.specs.Plans.{TaskPlan, Kids, bare, by_leaves, plan_members, plan_gang, plan_gang_unless, plan_body, plan_part, plan_write, head_task, plan_below, plan_found, plan_pointer, plan_bodies, plan_after, plan_tree, plan_read, plan_free, plan_taken, plan_claim, plan_own, plan_kids, plan_root, plan_left, plan_again, plan_settle, plan}
 use Rattle.zio_trace.specs.Programs.{Program as ProgramOf, Ends, Asks, ask}
 use Rattle.zio_trace.specs.Rounds.{plan_round}
 use Rattle.zio_trace.specs.Tasks.{good_by, Look, ByKept, ByClaim, Task, ReadCopies, WriteCopies, WritePart, ReadHeads, ReadTree, Attempt, Settle, Value, Got, Wrote, One, Settled, OwnGot, got, found, StoredAs, nowhere, walked, attempted}
@@ -35,10 +35,10 @@ use Rattle.zio_trace.proofs.GroundLemmas.{only-then}
 use Rattle.zio_trace.proofs.PathLemmas.{if_added, if_more, passes, one_of_path, key_bit}
 
 module _ (k : Key) where
-  abbrev Idle : {A : Type 0} → Plan A → Type 0
+  abbrev Idle : {A : Type 0} → TaskPlan A → Type 0
   Idle p = AsksOnly (λ (task : Task). cap k task ≡ 0) p
 
-  abbrev Caps : {A : Type 0} → (A → Type 0) → ℕ → Plan A → Type 0
+  abbrev Caps : {A : Type 0} → (A → Type 0) → ℕ → TaskPlan A → Type 0
   Caps Q n p = Capped FitsLeft (cap k) Q n p
 
   -- ---- what asks for no places
@@ -55,7 +55,7 @@ module _ (k : Key) where
   found_idle look levels path (Err e) = tt
   found_idle look levels path (Ok bytes) = only-then _ (plan_below (ReadHeads look levels) path 0 (members_of bytes)) _ (below_idle look levels path 0 (members_of bytes)) (λ w. tt)
 
-  pointer_idle : (e : Option Errno) (gang : Bool) (bp : Bp) (follow : Plan Value) → Idle follow → Idle (plan_pointer e gang bp follow)
+  pointer_idle : (e : Option Errno) (gang : Bool) (bp : Bp) (follow : TaskPlan Value) → Idle follow → Idle (plan_pointer e gang bp follow)
   pointer_idle (Some e) gang bp follow h = tt
   pointer_idle None false bp follow h = tt
   pointer_idle None true bp follow h = h
@@ -119,7 +119,7 @@ module _ (k : Key) where
     abbrev Any : {A : Type 0} → A → Type 0
     Any a = Unit {0}
 
-    module _ (below : List ℕ → List ℕ → Plan Value) (h : (path part : List ℕ) → Caps Any (part_cap path) (below path part)) (path : List ℕ) where
+    module _ (below : List ℕ → List ℕ → TaskPlan Value) (h : (path part : List ℕ) → Caps Any (part_cap path) (below path part)) (path : List ℕ) where
       abbrev f : ℕ → Bool
       f n = starts (path ++ n ∷ []) k.path
 
@@ -247,7 +247,7 @@ module _ (k : Key) where
   abbrev from_attempt : ℕ → ℕ → ℕ
   from_attempt attempt n = cond (from_number attempt k.attempt) n 0
 
-  left_capped : (one : One) (left : Forest) (again : Pending → Forest → Plan Settled) (attempt most : ℕ) → count_in k.request left ≤ most
+  left_capped : (one : One) (left : Forest) (again : Pending → Forest → TaskPlan Settled) (attempt most : ℕ) → count_in k.request left ≤ most
       → ((p : Pending) (kids : Forest) → Caps FitsNow (from_attempt attempt (tree_count p kids)) (again p kids)) → Caps FitsNow (from_attempt attempt most) (plan_left one left again)
   left_capped one NoTrees again attempt most l h = tt
   left_capped one (TreeOf p kids others) again attempt most l h =
@@ -255,7 +255,7 @@ module _ (k : Key) where
       capped-more FitsLeft (cap k) FitsNow (from_attempt attempt (tree_count p kids) + 0) (from_attempt attempt most) (plan_left one (TreeOf p kids others) again) (omega arith)
       (capped-then FitsLeft (cap k) FitsNow FitsNow (from_attempt attempt (tree_count p kids)) 0 (again p kids) _ (h p kids) (λ later q. tt))
 
-  again_capped : (now : Bool) (one : One) (again : Pending → Forest → Plan Settled) (attempt most : ℕ) → count_in k.request one.left ≤ most
+  again_capped : (now : Bool) (one : One) (again : Pending → Forest → TaskPlan Settled) (attempt most : ℕ) → count_in k.request one.left ≤ most
       → ((p : Pending) (kids : Forest) → Caps FitsNow (from_attempt attempt (tree_count p kids)) (again p kids)) → Caps FitsNow (from_attempt attempt most) (plan_again now one again)
   again_capped true one again attempt most l h = left_capped one one.left again attempt most l h
   again_capped false one again attempt most l h = tt

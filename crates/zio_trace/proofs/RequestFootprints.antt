@@ -17,7 +17,7 @@ use Rattle.zio_gang.specs.Pieces.{Parts, parts_of, pieces_of}
 use Rattle.zio_gang.specs.Writes.{content_of}
 use Rattle.zio_trace.specs.Families.{Forest, NoTrees, TreeOf, flat, before, root_left}
 use Rattle.zio_trace.specs.Footprints.{Stays, FitsTask, Within, OfWork, OfRequest, OfTree, OfBlock, OfClaim, AreFrom, ReadsAlone, OfPart}
-use Rattle.zio_trace.specs.Plans.{Plan, Kids, plan_own, plan_read, plan_free, plan_claim, plan_taken, plan_tree, plan_write, plan_kids, plan_root, plan_left, plan_again, plan_settle, bare, plan}
+use Rattle.zio_trace.specs.Plans.{TaskPlan, Kids, plan_own, plan_read, plan_free, plan_claim, plan_taken, plan_tree, plan_write, plan_kids, plan_root, plan_left, plan_again, plan_settle, bare, plan}
 use Rattle.zio_trace.specs.Tasks.{Task, Leaf, Find, TakePlaces, ReadCopies, WriteCopies, WritePart, ReadHeads, ReadTree, Attempt, Settle, ByKept, ByClaim, OwnGot, One, Settled, Value, attempted, walked}
 use Rattle.zio_trace.proofs.FootprintLemmas.{stays-then}
 use Rattle.zio_trace.proofs.ListLemmas.{all_front, all_rest, contains_first, contains_later}
@@ -62,7 +62,7 @@ tree_more j t ps qs d f h = (h.0, f h.0 h.1, h.2)
 -- ---- a request's own work
 
 module _ (j : List Choice) (t : Terms) where
-  abbrev StaysAt : {A : Type 0} → (Task → Type 0) → Plan A → Type 0
+  abbrev StaysAt : {A : Type 0} → (Task → Type 0) → TaskPlan A → Type 0
   StaysAt P x = Stays (FitsTask j t) (λ (q : Task). (d : Task) → Within j t q d → P d) (λ a. Unit {0}) x
 
   read_stays_at : (block : Option Tree) → StaysAt (OfBlock t.setting block) (plan_read block)
@@ -120,7 +120,7 @@ module _ (j : List Choice) (t : Terms) where
   root_from ps (q ∷ qs) kids h k = all_append _ (flat kids) (q ∷ []) k (h.0, tt)
 
   -- a request and the trees under it
-  abbrev TreeOnly : {A : Type 0} → List Pending → (A → Forest) → Plan A → Type 0
+  abbrev TreeOnly : {A : Type 0} → List Pending → (A → Forest) → TaskPlan A → Type 0
   TreeOnly {A} ps left x = Stays (FitsTask j t) (λ (q : Task). (d : Task) → Within j t q d → OfTree j t ps d) (λ (a : A). AreFrom ps (flat (left a))) x
 
   kids_stay : (attempt : ℕ) (kids : Forest) → TreeOnly (flat kids) (λ (k : Kids). k.left) (plan_kids attempt kids)
@@ -171,7 +171,7 @@ module _ (j : List Choice) (t : Terms) where
 
   -- ---- all attempts
 
-  abbrev SettleOnly : List Pending → Plan Settled → Type 0
+  abbrev SettleOnly : List Pending → TaskPlan Settled → Type 0
   SettleOnly ps x = Stays (FitsTask j t) (λ (q : Task). (d : Task) → Within j t q d → OfTree j t ps d) (λ (s : Settled). Unit {0}) x
 
   -- what goes again is from the tree
@@ -180,7 +180,7 @@ module _ (j : List Choice) (t : Terms) where
       let rest : AreFrom ps (q ∷ flat others) = all_rest _ (flat kids) (q ∷ flat others) h in
       (rest.0, all_front _ (flat kids) (q ∷ flat others) h)
 
-  left_stays : (ps : List Pending) (one : One) (left : Forest) (again : Pending → Forest → Plan Settled) → AreFrom ps (flat left)
+  left_stays : (ps : List Pending) (one : One) (left : Forest) (again : Pending → Forest → TaskPlan Settled) → AreFrom ps (flat left)
       → ((q : Pending) (ks : Forest) → SettleOnly (q ∷ flat ks) (again q ks)) → SettleOnly ps (plan_left one left again)
   left_stays ps one NoTrees again from h = tt
   left_stays ps one (TreeOf q kids others) again from h =
@@ -190,7 +190,7 @@ module _ (j : List Choice) (t : Terms) where
       (h q kids))
       (λ later u. tt)
 
-  again_stays : (ps : List Pending) (now : Bool) (one : One) (again : Pending → Forest → Plan Settled) → AreFrom ps (flat one.left)
+  again_stays : (ps : List Pending) (now : Bool) (one : One) (again : Pending → Forest → TaskPlan Settled) → AreFrom ps (flat one.left)
       → ((q : Pending) (ks : Forest) → SettleOnly (q ∷ flat ks) (again q ks)) → SettleOnly ps (plan_again now one again)
   again_stays ps true one again from h = left_stays ps one one.left again from h
   again_stays ps false one again from h = tt

@@ -16,7 +16,7 @@ use Rattle.zio_gang.specs.Attempts.{Terms, Pending, Child, Own, Attempted, writi
 use Rattle.zio_gang.specs.Trees.{Walk, walk_tree, claim_visit, tree_places, free_tree, claim_tree, claim_pointer, claimed_found, claimed_if}
 use Rattle.zio_gang.specs.Writes.{Placed, place_block, content_of}
 use Rattle.zio_trace.specs.Families.{Forest, NoTrees, TreeOf, Grown, Rooted, rooted, attempt_forest, attempt_root}
-use Rattle.zio_trace.specs.Plans.{Plan, plan_write, plan_tree, own_read_by, own_stored, own_taken, plan_read, plan_free, plan_taken, plan_claim, plan_own, Kids, add_kid, plan_kids, bare, one_of, plan_root, add_settled, plan_left, plan_again, plan_settle, plan}
+use Rattle.zio_trace.specs.Plans.{TaskPlan, plan_write, plan_tree, own_read_by, own_stored, own_taken, plan_read, plan_free, plan_taken, plan_claim, plan_own, Kids, add_kid, plan_kids, bare, one_of, plan_root, add_settled, plan_left, plan_again, plan_settle, plan}
 use Rattle.zio_trace.specs.Programs.{Done, behind, run}
 use Rattle.zio_trace.specs.Tasks.{Task, Leaf, Find, ReadCopies, WriteCopies, WritePart, ReadHeads, ReadTree, TakePlaces, Attempt, Settle, AttemptedBy, SettledBy, OwnGot, One, Settled, got, stored, as_own, as_one, AllEnded, settle_left, settle_if, settle_root, means}
 use Rattle.zio_trace.proofs.ProgramLemmas.{gives_then}
@@ -103,14 +103,14 @@ as_all e = record { value = e.value; asks = e.asks; images = e.images }
 abbrev one_in : Rooted → One
 one_in r = record { return = r.return; ended = r.ended; again = r.again; left = r.left }
 
-left_run : (j : List Choice) (t : Terms) (r : Rooted) (left : Forest) (again : Pending → Forest → Plan Settled) (settle : Pending → Forest → Images → AllEnded)
+left_run : (j : List Choice) (t : Terms) (r : Rooted) (left : Forest) (again : Pending → Forest → TaskPlan Settled) (settle : Pending → Forest → Images → AllEnded)
     → ((p : Pending) (kids : Forest) (images : Images) → run (means j t) (again p kids) images ≡ as_all (settle p kids images))
     → behind r.asks (run (means j t) (plan_left (one_in r) left again) r.images) ≡ as_all (settle_left r left settle)
 left_run j t r NoTrees again settle h = no_more r.asks _ r.images
 left_run j t r (TreeOf p kids others) again settle h =
     ap (behind r.asks) (made_of j t (again p kids) (λ later. add_settled (one_in r) later) r.images (as_all (settle p kids r.images)) (h p kids r.images))
 
-again_run : (j : List Choice) (t : Terms) (now : Bool) (r : Rooted) (again : Pending → Forest → Plan Settled) (settle : Pending → Forest → Images → AllEnded)
+again_run : (j : List Choice) (t : Terms) (now : Bool) (r : Rooted) (again : Pending → Forest → TaskPlan Settled) (settle : Pending → Forest → Images → AllEnded)
     → ((p : Pending) (kids : Forest) (images : Images) → run (means j t) (again p kids) images ≡ as_all (settle p kids images))
     → behind r.asks (run (means j t) (plan_again now (one_in r) again) r.images) ≡ as_all (settle_if now r settle)
 again_run j t true r again settle h = left_run j t r r.left again settle h

@@ -23,7 +23,7 @@ use Rattle.zio_gang.specs.Writes.{Writing, chosen, body_ask, head_ask, cut}
 use Rattle.zio_trace.specs.CopyPrograms.{block_reading, piece_writing}
 use Rattle.zio_trace.specs.Footprints.{Stays, FitsTask, Within, OnSpots, OnPieces, IsOfPart, OfPart, ReadsAlone}
 use Rattle.zio_trace.specs.Leaves.{LeafOp, Answer, IsAmong}
-use Rattle.zio_trace.specs.Plans.{Plan, by_leaves, plan_members, plan_gang, plan_gang_unless, plan_body, plan_part, plan_write, plan_below, plan_found, plan_pointer, plan_bodies, plan_after, plan_tree, header_over, plan}
+use Rattle.zio_trace.specs.Plans.{TaskPlan, by_leaves, plan_members, plan_gang, plan_gang_unless, plan_body, plan_part, plan_write, plan_below, plan_found, plan_pointer, plan_bodies, plan_after, plan_tree, header_over, plan}
 use Rattle.zio_trace.specs.Programs.{Program as ProgramOf, Ends, Asks, ask}
 use Rattle.zio_trace.specs.Tasks.{Test, good_by, Task, Leaf, Find, ReadCopies, WriteCopies, WritePart, ReadHeads, Value, StoredAs, Walked, ByKept, ByClaim, nowhere, got, found, walked}
 use Rattle.zio_trace.proofs.FootprintLemmas.{stays-then, read_stays, write_stays, Anything, ReadsOn}
@@ -71,7 +71,7 @@ module _ (j : List Choice) (t : Terms) (attempt : ℕ) (p : Pending) (sum : SumK
   abbrev May : List ℕ → Task → Type 0
   May path q = (d : Task) → Within j t q d → OfPart j t p.request.number attempt path d
 
-  abbrev PartStays : {A : Type 0} → List ℕ → Plan A → Type 0
+  abbrev PartStays : {A : Type 0} → List ℕ → TaskPlan A → Type 0
   PartStays path x = Stays (FitsTask j t) (May path) (λ a. Unit {0}) x
 
   below_part : (path : List ℕ) (n : ℕ) (d : Task) → OfPart j t p.request.number attempt (path ++ n ∷ []) d → OfPart j t p.request.number attempt path d
@@ -89,36 +89,36 @@ module _ (j : List Choice) (t : Terms) (attempt : ℕ) (p : Pending) (sum : SumK
   writes_own path a places bytes h is (Leaf act) among = (a, places, h, is, among)
   writes_own path a places bytes h is _ among = absurd among
 
-  abbrev Below : (List ℕ → List ℕ → Plan Value) → Type 0
+  abbrev Below : (List ℕ → List ℕ → TaskPlan Value) → Type 0
   Below below = (path part : List ℕ) → PartStays path (below path part)
 
-  weaker : {A : Type 0} (path : List ℕ) (n : ℕ) (x : Plan A) → PartStays (path ++ n ∷ []) x → PartStays path x
+  weaker : {A : Type 0} (path : List ℕ) (n : ℕ) (x : TaskPlan A) → PartStays (path ++ n ∷ []) x → PartStays path x
   weaker path n (Ends a) h = tt
   weaker path n (Asks op more) h = ((λ d may. below_part path n d (h.0 d may)), λ v fits. weaker path n (more v) (h.1 v fits))
 
-  members_stay : (below : List ℕ → List ℕ → Plan Value) → Below below → (path : List ℕ) (n : ℕ) (bits : List (List ℕ)) → PartStays path (plan_members below path n bits)
+  members_stay : (below : List ℕ → List ℕ → TaskPlan Value) → Below below → (path : List ℕ) (n : ℕ) (bits : List (List ℕ)) → PartStays path (plan_members below path n bits)
   members_stay below h path n [] = tt
   members_stay below h path n (part ∷ bits) =
       stays-then (FitsTask j t) (May path) (λ v. Unit {0}) (λ v. Unit {0}) (below (path ++ n ∷ []) part) _ (weaker path n (below (path ++ n ∷ []) part) (h (path ++ n ∷ []) part))
       (λ v k. stays-then (FitsTask j t) (May path) (λ o. Unit {0}) (λ o. Unit {0}) (plan_members below path (n + 1) bits) _ (members_stay below h path (n + 1) bits) (λ o m. tt))
 
-  gang_stays : (below : List ℕ → List ℕ → Plan Value) → Below below → (path bytes : List ℕ) (places : Option (List Place)) → places ≡ chosen j (head_ask wr path) → PartStays path (plan_gang places wr below path bytes)
+  gang_stays : (below : List ℕ → List ℕ → TaskPlan Value) → Below below → (path bytes : List ℕ) (places : Option (List Place)) → places ≡ chosen j (head_ask wr path) → PartStays path (plan_gang places wr below path bytes)
   gang_stays below h path bytes None is = tt
   gang_stays below h path bytes (Some places) is =
       stays-then (FitsTask j t) (May path) (λ m. Unit {0}) (λ v. Unit {0}) (plan_members below path 0 (cut (split_sizes (length bytes)) bytes)) _ (members_stay below h path 0 (cut (split_sizes (length bytes)) bytes))
       (λ m k. (writes_own path (head_ask wr path) places (header_over wr places m) (own_ask path (head_ask wr path) refl refl refl refl) (sym is), λ v fits. tt))
 
-  unless_stays : (below : List ℕ → List ℕ → Plan Value) → Below below → (path bytes : List ℕ) (one : Bool) → PartStays path (plan_gang_unless one wr below path bytes)
+  unless_stays : (below : List ℕ → List ℕ → TaskPlan Value) → Below below → (path bytes : List ℕ) (one : Bool) → PartStays path (plan_gang_unless one wr below path bytes)
   unless_stays below h path bytes true = tt
   unless_stays below h path bytes false =
       (asks_own path (head_ask wr path) (own_ask path (head_ask wr path) refl refl refl refl), λ v fits. gang_stays below h path bytes (found v) fits)
 
-  body_stays : (below : List ℕ → List ℕ → Plan Value) → Below below → (path bytes : List ℕ) (places : Option (List Place)) → places ≡ chosen j (body_ask wr path bytes) → PartStays path (plan_body places wr below path bytes)
+  body_stays : (below : List ℕ → List ℕ → TaskPlan Value) → Below below → (path bytes : List ℕ) (places : Option (List Place)) → places ≡ chosen j (body_ask wr path bytes) → PartStays path (plan_body places wr below path bytes)
   body_stays below h path bytes (Some places) is =
       (writes_own path (body_ask wr path bytes) places bytes (own_ask path (body_ask wr path bytes) refl refl refl refl) (sym is), λ v fits. tt)
   body_stays below h path bytes None is = unless_stays below h path bytes (nat_le (length bytes) sector_size)
 
-  part_stays : (below : List ℕ → List ℕ → Plan Value) → Below below → (path bytes : List ℕ) → PartStays path (plan_part wr below path bytes)
+  part_stays : (below : List ℕ → List ℕ → TaskPlan Value) → Below below → (path bytes : List ℕ) → PartStays path (plan_part wr below path bytes)
   part_stays below h path bytes =
       (asks_own path (body_ask wr path bytes) (own_ask path (body_ask wr path bytes) refl refl refl refl), λ v fits. body_stays below h path bytes (found v) fits)
 
@@ -134,12 +134,12 @@ on_more s xs ys f d h = (h.0, f h.0 h.1, h.2)
 
 module _ (j : List Choice) (t : Terms) where
   -- what a walk over kept headers may do, and what it comes to
-  abbrev WalkStays : {A : Type 0} → Parts → (A → List Bp) → Plan A → Type 0
+  abbrev WalkStays : {A : Type 0} → Parts → (A → List Bp) → TaskPlan A → Type 0
   WalkStays {A} parts bodies x =
       Stays (FitsTask j t) (λ (q : Task). (d : Task) → Within j t q d → OnPieces t.setting parts.heads d)
       (λ (a : A). AllByRecursion (λ (b : Bp). Contains parts.bodies (body_piece b)) (bodies a)) x
 
-  pub stays_wider : {A : Type 0} (P R : Task → Type 0) (Q S : A → Type 0) (x : Plan A) → ((q : Task) → P q → R q) → ((a : A) → Q a → S a) → Stays (FitsTask j t) P Q x → Stays (FitsTask j t) R S x
+  pub stays_wider : {A : Type 0} (P R : Task → Type 0) (Q S : A → Type 0) (x : TaskPlan A) → ((q : Task) → P q → R q) → ((a : A) → Q a → S a) → Stays (FitsTask j t) P Q x → Stays (FitsTask j t) R S x
   stays_wider P R Q S (Ends a) f g h = g a h
   stays_wider P R Q S (Asks op more) f g h = (f op h.0, λ v fits. stays_wider P R Q S (more v) f g (h.1 v fits))
 
@@ -178,7 +178,7 @@ module _ (j : List Choice) (t : Terms) where
       (below_stays heads levels path 0 (members_of bytes)))
       (λ w k. k))
 
-  pointer_stays : (e : Option Errno) (gang : Bool) (bp : Bp) (follow : Plan Value) (parts : Parts) → WalkStays parts (λ v. (walked v).bodies) follow → WalkStays (parts_if gang bp parts) (λ v. (walked v).bodies) (plan_pointer e gang bp follow)
+  pointer_stays : (e : Option Errno) (gang : Bool) (bp : Bp) (follow : TaskPlan Value) (parts : Parts) → WalkStays parts (λ v. (walked v).bodies) follow → WalkStays (parts_if gang bp parts) (λ v. (walked v).bodies) (plan_pointer e gang bp follow)
   pointer_stays (Some e) gang bp follow parts h = tt
   pointer_stays None false bp follow parts h = (contains_first (body_piece bp) [], tt)
   pointer_stays None true bp follow parts h = h
@@ -197,7 +197,7 @@ module _ (j : List Choice) (t : Terms) where
 
   -- ---- and a claim's
 
-  abbrev ReadsOnly : {A : Type 0} → Plan A → Type 0
+  abbrev ReadsOnly : {A : Type 0} → TaskPlan A → Type 0
   ReadsOnly x = Stays (FitsTask j t) (λ (q : Task). (d : Task) → Within j t q d → ReadsAlone d) (λ a. Unit {0}) x
 
   below_reads : (levels : ℕ) (path : List ℕ) (n : ℕ) (ms : List Bp) → ReadsOnly (plan_below (ReadHeads ByClaim levels) path n ms)
@@ -210,7 +210,7 @@ module _ (j : List Choice) (t : Terms) where
   found_reads levels path (Ok bytes) =
       stays-then (FitsTask j t) _ (λ w. Unit {0}) _ (plan_below (ReadHeads ByClaim levels) path 0 (members_of bytes)) _ (below_reads levels path 0 (members_of bytes)) (λ w k. tt)
 
-  pointer_reads : (e : Option Errno) (gang : Bool) (bp : Bp) (follow : Plan Value) → ReadsOnly follow → ReadsOnly (plan_pointer e gang bp follow)
+  pointer_reads : (e : Option Errno) (gang : Bool) (bp : Bp) (follow : TaskPlan Value) → ReadsOnly follow → ReadsOnly (plan_pointer e gang bp follow)
   pointer_reads (Some e) gang bp follow h = tt
   pointer_reads None false bp follow h = tt
   pointer_reads None true bp follow h = h

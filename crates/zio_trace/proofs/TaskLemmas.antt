@@ -17,7 +17,7 @@ use Rattle.zio_gang.specs.Trees.{Walk, walk, walk_members, walk_found, walk_read
 use Rattle.zio_gang.specs.Writes.{Writing, Placed, Members, chosen, body_ask, head_ask, cut, place_members, gang_with, gang_unless, body_with, without_place, place_part}
 use Rattle.zio_trace.specs.CopyPrograms.{block_reading, piece_writing}
 use Rattle.zio_trace.specs.Leaves.{LeafOp, Answer, on_leaf}
-use Rattle.zio_trace.specs.Plans.{Plan, by_leaves, Kin, add_kin, plan_members, plan_gang, plan_gang_unless, plan_body, plan_part, head_task, join_walked, under_head, plan_below, plan_found, plan_pointer, stopped, Bodies, add_got, plan_bodies, plan_after, plan}
+use Rattle.zio_trace.specs.Plans.{TaskPlan, by_leaves, Kin, add_kin, plan_members, plan_gang, plan_gang_unless, plan_body, plan_part, head_task, join_walked, under_head, plan_below, plan_found, plan_pointer, stopped, Bodies, add_got, plan_bodies, plan_after, plan}
 use Rattle.zio_trace.specs.Programs.{Done, Program as ProgramOf, Ends, Asks, ◌>>=◌, ask, behind, run}
 use Rattle.zio_trace.specs.Tasks.{Test, good_by, Look, ByKept, ByClaim, visit_of, Task, ReadCopies, WriteCopies, WritePart, ReadHeads, ReadTree, Walked, Value, Got, Wrote, StoredAs, WalkedBy, nowhere, got, stored, as_stored, as_walked, as_got, means}
 use Rattle.zio_trace.proofs.CopyLemmas.{block_run, piece_run}
@@ -31,7 +31,7 @@ pub ask_run : (j : List Choice) (t : Terms) (task : Task) (images : Images) → 
 ask_run j t task images = no_more (means j t task images).asks (means j t task images).value (means j t task images).images
 
 -- what a value is made into
-pub made_of : {A B : Type 0} (j : List Choice) (t : Terms) (p : Plan A) (f : A → B) (images : Images) (d : Done A) → run (means j t) p images ≡ d → run (means j t) (p >>= λ a. Ends (f a)) images ≡ record { value = f d.value; asks = d.asks; images = d.images }
+pub made_of : {A B : Type 0} (j : List Choice) (t : Terms) (p : TaskPlan A) (f : A → B) (images : Images) (d : Done A) → run (means j t) p images ≡ d → run (means j t) (p >>= λ a. Ends (f a)) images ≡ record { value = f d.value; asks = d.asks; images = d.images }
 made_of j t p f images d h = gives_then (means j t) p (λ a. Ends (f a)) images d _ h refl ∙ no_more d.asks (f d.value) d.images
 
 -- ---- copies
@@ -62,17 +62,17 @@ as_kin m = record {
 }
 
 -- what is planned below is what is placed there
-abbrev GivesBelow : List Choice → Terms → (List ℕ → List ℕ → Plan Value) → (List ℕ → List ℕ → Images → Placed) → Type 0
+abbrev GivesBelow : List Choice → Terms → (List ℕ → List ℕ → TaskPlan Value) → (List ℕ → List ℕ → Images → Placed) → Type 0
 GivesBelow j t below place = (path part : List ℕ) (images : Images) → run (means j t) (below path part) images ≡ as_stored (place path part images)
 
-members_run : (j : List Choice) (t : Terms) (below : List ℕ → List ℕ → Plan Value) (place : List ℕ → List ℕ → Images → Placed) → GivesBelow j t below place → (path : List ℕ) (n : ℕ) (bits : List (List ℕ)) (images : Images) → run (means j t) (plan_members below path n bits) images ≡ as_kin (place_members place path n bits images)
+members_run : (j : List Choice) (t : Terms) (below : List ℕ → List ℕ → TaskPlan Value) (place : List ℕ → List ℕ → Images → Placed) → GivesBelow j t below place → (path : List ℕ) (n : ℕ) (bits : List (List ℕ)) (images : Images) → run (means j t) (plan_members below path n bits) images ≡ as_kin (place_members place path n bits images)
 members_run j t below place h path n [] images = refl
 members_run j t below place h path n (part ∷ bits) images =
     let m : Placed = place (path ++ n ∷ []) part images in
     gives_then (means j t) (below (path ++ n ∷ []) part) _ images (as_stored m) _ (h (path ++ n ∷ []) part images)
     (made_of j t (plan_members below path (n + 1) bits) (λ others. add_kin (stored (as_stored m).value) others) m.images _ (members_run j t below place h path (n + 1) bits m.images))
 
-module _ (j : List Choice) (t : Terms) (attempt : ℕ) (p : Pending) (sum : SumKind) (copies : ℕ) (below : List ℕ → List ℕ → Plan Value) (place : List ℕ → List ℕ → Images → Placed) (h : GivesBelow j t below place) (path bytes : List ℕ) (images : Images) where
+module _ (j : List Choice) (t : Terms) (attempt : ℕ) (p : Pending) (sum : SumKind) (copies : ℕ) (below : List ℕ → List ℕ → TaskPlan Value) (place : List ℕ → List ℕ → Images → Placed) (h : GivesBelow j t below place) (path bytes : List ℕ) (images : Images) where
   abbrev the_write : Writing
   the_write = writing_of t attempt p sum copies
 
@@ -119,7 +119,7 @@ found_run j t look levels path images (Err e) = refl
 found_run j t look levels path images (Ok bytes) =
     made_of j t (plan_below (ReadHeads look levels) path 0 (members_of bytes)) (λ w. WalkedBy (under_head path bytes w)) images _ (below_run j t look levels path 0 (members_of bytes) images)
 
-pointer_run : (j : List Choice) (t : Terms) (e : Option Errno) (gang : Bool) (bp : Bp) (follow : Plan Value) (on : Images → Walk) (images : Images) → run (means j t) follow images ≡ as_walked (on images) → run (means j t) (plan_pointer e gang bp follow) images ≡ as_walked (walk_pointer e gang bp on images)
+pointer_run : (j : List Choice) (t : Terms) (e : Option Errno) (gang : Bool) (bp : Bp) (follow : TaskPlan Value) (on : Images → Walk) (images : Images) → run (means j t) follow images ≡ as_walked (on images) → run (means j t) (plan_pointer e gang bp follow) images ≡ as_walked (walk_pointer e gang bp on images)
 pointer_run j t (Some e) gang bp follow on images h = refl
 pointer_run j t None false bp follow on images h = refl
 pointer_run j t None true bp follow on images h = h

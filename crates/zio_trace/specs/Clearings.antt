@@ -29,8 +29,8 @@ FreeOf r s q = Earlier s.op q.op → Free r s.op.op q.op.op
 abbrev pub Holds : {Op : Type 0} → Seat Op → List ℕ → Type 0
 Holds s x = (n : ℕ) (below : List ℕ) → IsIn s.op.at n below x → n < s.next
 
-abbrev pub Pairs : {X : Type 0} → (X → X → Type 0) → List X → Type 0
-Pairs {X} R xs = AllByRecursion (λ (x : X). AllByRecursion (R x) xs) xs
+abbrev pub AllPairs : {X : Type 0} → (X → X → Type 0) → List X → Type 0
+AllPairs {X} R xs = AllByRecursion (λ (x : X). AllByRecursion (R x) xs) xs
 
 abbrev pub Differ : {Op : Type 0} → List (Seat Op) → Type 0
 Differ [] = Unit {0}
@@ -39,6 +39,6 @@ Differ {Op} (s ∷ ss) = AllByRecursion (λ (q : Seat Op). s.op.at ≡ q.op.at �
 pub record AreClear {Op Ans : Type 0} (r : Reach Op) (ds : List (Deed (Labelled Op) Ans)) (seats : List (Seat Op)) : Type 0 where
   pub clear : AllByRecursion (λ (s : Seat Op). AllByRecursion (λ (e : Deed (Labelled Op) Ans). Earlier s.op e.op → Away r s.op.op e.op.op) ds) seats
   pub done : AllByRecursion (λ (s : Seat Op). AllByRecursion (λ (e : Deed (Labelled Op) Ans). Holds s e.op.at) ds) seats
-  pub free : Pairs (FreeOf r) seats
-  pub flying : Pairs (λ (s q : Seat Op). Holds s q.op.at) seats
+  pub free : AllPairs (FreeOf r) seats
+  pub flying : AllPairs (λ (s q : Seat Op). Holds s q.op.at) seats
   pub differ : Differ seats

@@ -35,8 +35,8 @@ abbrev pub IsFresh : {Op Ans : Type 0} → Ways Op Ans → List (Deed (Labelled 
 IsFresh ways ds s = Sure (ways_at ways) ds (λ o. (heard o s.rest ≡ o.answer s.op) × (todo_of o s ≡ o.asked s.op))
 
 -- these stand in what the round asks
-abbrev pub Within : {Op Ans A : Type 0} → Program Op Ans A → Oracle (Labelled Op) Ans → List (Labelled Op) → Type 0
-Within p o ops = AllByRecursion (Contains (asked_in o (labelled [] 0 p))) ops
+abbrev pub AskedWithin : {Op Ans A : Type 0} → Program Op Ans A → Oracle (Labelled Op) Ans → List (Labelled Op) → Type 0
+AskedWithin p o ops = AllByRecursion (Contains (asked_in o (labelled [] 0 p))) ops
 
 -- what is weighed of all that is in flight
 abbrev pub weigh_slots : {Op Ans : Type 0} → Oracle (Labelled Op) Ans → (Labelled Op → ℕ) → List (Slot Op Ans) → ℕ
@@ -48,9 +48,9 @@ pub record IsGoing {Op Ans A : Type 0} (ways : Ways Op Ans) (Apart : Op → Op �
   pub knows : AllByRecursion (Knows ways ds) slots
   pub ends : Sure (ways_at ways) ds (λ o. heard o root ≡ heard o (labelled [] 0 p))
   pub todo : Sure (ways_at ways) ds (λ o. (w : Labelled Op → ℕ) → weigh w (asked_in o (labelled [] 0 p)) ≡ weigh w (ops_of ds) + (weigh_slots o w slots + weigh w (asked_behind o outs root)))
-  pub inside : AllByRecursion (λ (s : Slot Op Ans). Sure (ways_at ways) ds (λ o. Within p o (todo_of o s))) slots
-  pub left : Sure (ways_at ways) ds (λ o. Within p o (asked_behind o outs root))
-  pub within : Sure (ways_at ways) ds (λ o. Within p o (ops_of ds))
+  pub inside : AllByRecursion (λ (s : Slot Op Ans). Sure (ways_at ways) ds (λ o. AskedWithin p o (todo_of o s))) slots
+  pub left : Sure (ways_at ways) ds (λ o. AskedWithin p o (asked_behind o outs root))
+  pub within : Sure (ways_at ways) ds (λ o. AskedWithin p o (ops_of ds))
   pub once : AreOnce same_place ds
   pub single : AllByRecursion (λ (d : Deed (Labelled Op) Ans). ways.single d.op.op ≡ true) ds
   pub fit : AllByRecursion (λ (d : Deed (Labelled Op) Ans). mend d.op.op d.answer ≡ d.answer) ds

@@ -3,7 +3,7 @@ use Rattle.std.specs.Prelude.{List, [], ◌∷◌, ◌++◌, None}
 use Rattle.zio_gang.specs.Attempts.{Pending, Ended}
 use Rattle.zio_gang.specs.Rounds.{Ran, add_left}
 use Rattle.zio_trace.specs.Families.{Forest, NoTrees, TreeOf, flat, AreUnder}
-use Rattle.zio_trace.specs.Plans.{Plan}
+use Rattle.zio_trace.specs.Plans.{TaskPlan}
 use Rattle.zio_trace.specs.Programs.{Ends, ◌>>=◌, ask, Done}
 use Rattle.zio_trace.specs.Tasks.{Settled, Settle, settled}
 
@@ -23,7 +23,7 @@ pub record Round : Type 0 where
 abbrev pub add_tree : Settled → Round → Round
 add_tree s others = record { left = add_left s.again others.left; ended = s.ended ++ others.ended }
 
-abbrev pub plan_round : Forest → Plan Round
+abbrev pub plan_round : Forest → TaskPlan Round
 plan_round NoTrees = Ends (record { left = []; ended = [] })
 plan_round (TreeOf p kids others) = ask (Settle p kids) >>= λ v. plan_round others >>= λ o. Ends (add_tree (settled v) o)
 

@@ -6,7 +6,7 @@ use Rattle.zio_types.specs.declared.request.ChildKind.{ChildKind}
 use Rattle.zio_types.specs.declared.request.ChildKind.TheVariants.{Vdev, Gang, Logical}
 use Rattle.zio_types.specs.declared.request.Phase.{Phase}
 use Rattle.zio_types.specs.declared.request.Phase.TheVariants.{Ready, Done}
-use Rattle.zio_types.specs.Machine.{Added, BecameDone, BecameReady, Child, Count, Event, Machine, Waited, after, count_of, happened, is_count, is_open, is_stall, marked, marked_at, may_happen, new_child, one_if, owes, owes_at, same_kind, same_phase, stall_is_open, stalled_unless, wakes, woken_if}
+use Rattle.zio_types.specs.Machine.{Added, BecameDone, BecameReady, Child, Count, CountEvent, Machine, Waited, after, count_of, happened, is_count, is_open, is_stall, marked, marked_at, may_happen, new_child, one_if, owes, owes_at, same_kind, same_phase, stall_is_open, stalled_unless, wakes, woken_if}
 
 -- nothing follows from what never holds but everything
 no_false : {X : Type 0} → false ≡ true → X
@@ -173,7 +173,7 @@ open_by_wait : (b : Bool) (count : Count) (m : Machine) → (count_of count.kind
 open_by_wait true count m e o = o
 open_by_wait false count m e o = ap not e
 
-pub stall_is_open-after : (m : Machine) (event : Event) → IsTrue (may_happen event m) → stall_is_open m ≡ true →
+pub stall_is_open-after : (m : Machine) (event : CountEvent) → IsTrue (may_happen event m) → stall_is_open m ≡ true →
     stall_is_open (after event m) ≡ true
 stall_is_open-after m (Added kind) h o = is_open-append m.children (new_child kind) m.stall o
 stall_is_open-after m (BecameReady kind n) h o =

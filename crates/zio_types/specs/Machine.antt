@@ -131,14 +131,14 @@ fresh = record {
 -- ---- what happens to it
 
 -- one event; a child is named by its kind and its number
-pub data Event : Type 0 where
-  Added : ChildKind → Event
-  BecameReady : ChildKind → ℕ → Event
-  BecameDone : ChildKind → ℕ → Option Errno → Bits → Event
-  Waited : ChildKind → Phase → Event
+pub data CountEvent : Type 0 where
+  Added : ChildKind → CountEvent
+  BecameReady : ChildKind → ℕ → CountEvent
+  BecameDone : ChildKind → ℕ → Option Errno → Bits → CountEvent
+  Waited : ChildKind → Phase → CountEvent
 
 -- a child becomes ready once, and done once
-abbrev pub may_happen : Event → Machine → Bool
+abbrev pub may_happen : CountEvent → Machine → Bool
 may_happen (Added kind) m = true
 may_happen (BecameReady kind n) m = owes_at kind Ready n m.children
 may_happen (BecameDone kind n error bits) m = owes_at kind Done n m.children
@@ -161,7 +161,7 @@ stalled_unless false count m = record m { stall = Some count }
 
 -- what an event does beside the wake; a wait stalls where the count isn't 0
 -- Rule: child completion.
-abbrev pub happened : Event → Machine → Machine
+abbrev pub happened : CountEvent → Machine → Machine
 happened (Added kind) m = record m { children = m.children ++ new_child kind ∷ [] }
 happened (BecameReady kind n) m = record m { children = marked_at Ready n m.children }
 happened (BecameDone kind n error bits) m = record {
@@ -188,7 +188,7 @@ is_over kind phase m = is_stall kind phase m.stall && (count_of kind phase m.chi
 
 -- the event brings the count to 0 on which the request stalls: the wake comes with it
 -- Rule: child completion.
-abbrev pub wakes : Event → Machine → Bool
+abbrev pub wakes : CountEvent → Machine → Bool
 wakes (Added kind) m = false
 wakes (BecameReady kind n) m = is_over kind Ready (happened (BecameReady kind n) m)
 wakes (BecameDone kind n error bits) m = is_over kind Done (happened (BecameDone kind n error bits) m)
@@ -200,7 +200,7 @@ woken_if true m = record m { stall = None }
 woken_if false m = m
 
 -- the state after an event, and the wake if it comes with it
-abbrev pub after : Event → Machine → Machine
+abbrev pub after : CountEvent → Machine → Machine
 after event m = woken_if (wakes event m) (happened event m)
 
 -- a stall whose count isn't 0, or none

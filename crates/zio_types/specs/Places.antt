@@ -26,6 +26,10 @@ SamePlaces xs ys = (p : Place) → Contains xs p ↔ Contains ys p
 abbrev pub rounded_to : ℕ → ℕ → ℕ
 rounded_to unit n = (n + (unit - 1)) / unit * unit
 
+-- a number of bytes, rounded up to whole sectors
+abbrev pub rounded_up : ℕ → ℕ
+rounded_up n = (n + 511) / sector_size * sector_size
+
 -- how many sectors a size in bytes takes on a top
 -- Rule: sector units.
 abbrev pub sectors_on : TopSize → ℕ → ℕ

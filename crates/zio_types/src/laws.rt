@@ -5,7 +5,7 @@ ghost use Rattle.zio_types.specs.declared.request.ChildKind.{ChildKind};
 ghost use Rattle.zio_types.specs.declared.request.Phase.{Phase};
 ghost use Rattle.zio_types.specs.declared.request.Phase.TheVariants.{Ready, Done};
 ghost use Rattle.zio_types.specs.Errors.{rank, worst_error};
-ghost use Rattle.zio_types.specs.Machine.{Child, Event, Machine, after, BecameDone, BecameReady, count_of, is_count, is_stall, marked_at, may_happen, new_child, one_if, owes, owes_at, stall_is_open, wakes};
+ghost use Rattle.zio_types.specs.Machine.{Child, CountEvent, Machine, after, BecameDone, BecameReady, count_of, is_count, is_stall, marked_at, may_happen, new_child, one_if, owes, owes_at, stall_is_open, wakes};
 
 /// Errors may be joined in any order and more than once: what comes out has the greatest rank of all.
 pub fn errors_join_in_any_order()
@@ -38,7 +38,7 @@ pub fn a_wake_ends_its_own_stall()
     ensures done { (m : Machine) (kind : ChildKind) (n : ℕ) (error : Option Errno) (bits : Bits) →
         IsTrue (owes_at kind Done n m.children) →
         wakes (BecameDone kind n error bits) m ≡ (is_stall kind Done m.stall && (count_of kind Done m.children == 1)) }
-    ensures cleared { (m : Machine) (event : Event) → wakes event m ≡ true → (after event m).stall ≡ None }
-    ensures open_still { (m : Machine) (event : Event) → IsTrue (may_happen event m) →
+    ensures cleared { (m : Machine) (event : CountEvent) → wakes event m ≡ true → (after event m).stall ≡ None }
+    ensures open_still { (m : Machine) (event : CountEvent) → IsTrue (may_happen event m) →
         stall_is_open m ≡ true → stall_is_open (after event m) ≡ true }
 {}

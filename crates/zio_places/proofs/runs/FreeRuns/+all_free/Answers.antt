@@ -4,7 +4,7 @@ use Rattle.std.proofs.lemmas.List.{length-replicate, replicate-append-replicate}
 use Rattle.zio_places.specs.declared.summary.Summary.{Summary}
 use Rattle.zio_places.proofs.FlagLemmas.{front_run-le, back_run-le}
 use Rattle.zio_places.proofs.ForkLemmas.{IsFork-from}
-use Rattle.zio_places.proofs.runs.Runs.+all_free.Goals as goal
+use Rattle.zio_places.proofs.runs.FreeRuns.+all_free.Goals as goal
 
 pub join-summary-requires-clause-back : goal.join-summary-requires-clause-back
 join-summary-requires-clause-back t c = omega (arith, ap (λ (s : Summary). s.back) c.summary.ensures, ap (λ (s : Summary). s.sectors) c.summary.ensures, back_run-le c.in_ok-left.left)

@@ -1,13 +1,13 @@
 use Rattle.std.proofs.Common.{◌≡◌, length, sym, ap, subst, ◌∙◌, arith}
 use Rattle.std.proofs.Common.{Box}
 use Rattle.std.specs.declared.alloc.Global.{Global}
-use Rattle.zio_places.specs.declared.runs.Runs.{Runs}
+use Rattle.zio_places.specs.declared.runs.FreeRuns.{FreeRuns}
 use Rattle.zio_places.specs.declared.summary.Summary.{Summary}
 use Rattle.zio_places.specs.Flags.{summary_of, IsRangeSet}
 use Rattle.zio_places.proofs.FlagLemmas.{front_run-le, back_run-le}
 use Rattle.zio_places.proofs.ForkLemmas.{at_Fork, at_Leaf, left_changes, right_changes, both_change, IsFork-changed}
-use Rattle.zio_places.proofs.runs.Runs.+set_flag.Goals as goal
-use Rattle.zio_places.proofs.runs.Runs.+set_flag.Goals.{in-Leaf, in-Fork, then-end-middle, else-end-middle+then-middle-at, else-end-middle+else-middle-at}
+use Rattle.zio_places.proofs.runs.FreeRuns.+set_flag.Goals as goal
+use Rattle.zio_places.proofs.runs.FreeRuns.+set_flag.Goals.{in-Leaf, in-Fork, then-end-middle, else-end-middle+then-middle-at, else-end-middle+else-middle-at}
 
 pub join-requires-clause-back : goal.join-requires-clause-back
 join-requires-clause-back t c =
@@ -47,8 +47,8 @@ invariant_of-self t c =
           let left_sum : w.summary-in-Fork.result ≡ summary_of w.if-end-middle.left.value = w.summary-in-Fork.ensures ∙ ap summary_of w.deref-in-Fork.ensures in
           let right_sum : w.summary-in-Fork-2.result ≡ summary_of w.if-end-middle.right.value = w.summary-in-Fork-2.ensures ∙ ap summary_of w.deref-in-Fork-2.ensures in
           rw w.self-inside-is (elim w.if-end-middle.branch [
-            | then-end-middle v ↦ rw (v.left-is, v.right-is) (IsFork-changed _ _ _ _ _ _ _ _ _ _ _ _ (left_changes _ _ w.in-Fork.right.value _ _ _ _ _ fork.is v.deref_mut.ensures.value v.set_flag-then-end-middle.ensures (omega (arith, middle, v.if-end-middle.true))) fork.kept w.join.ensures (left_sum ∙ ap (λ (b : Box Runs Global). summary_of b.value) v.left-is) (right_sum ∙ ap (λ (b : Box Runs Global). summary_of b.value) v.right-is))
-            | else-end-middle+then-middle-at v ↦ rw (v.left-is, v.right-is) (IsFork-changed _ _ _ _ _ _ _ _ _ _ _ _ (right_changes _ w.in-Fork.left.value _ _ _ c.args.at _ _ _ fork.is v.deref_mut-then-middle-at.ensures.value v.set_flag-then-middle-at.ensures (omega (arith, middle)) (omega (arith, middle, v.if-middle-at.true))) fork.kept w.join.ensures (left_sum ∙ ap (λ (b : Box Runs Global). summary_of b.value) v.left-is) (right_sum ∙ ap (λ (b : Box Runs Global). summary_of b.value) v.right-is))
-            | else-end-middle+else-middle-at v ↦ rw (v.left-is, v.right-is) (IsFork-changed _ _ _ _ _ _ _ _ _ _ _ _ (both_change _ _ _ _ _ _ _ c.args.at c.args.count _ _ _ fork.is v.deref_mut-else-middle-at.ensures.value v.deref_mut-else-middle-at-2.ensures.value v.set_flag-else-middle-at.ensures v.set_flag-else-middle-at-2.ensures (omega (arith, middle)) (omega (arith, middle)) (omega (arith, middle, v.if-middle-at.false)) (omega (arith, middle, v.if-end-middle.false))) fork.kept w.join.ensures (left_sum ∙ ap (λ (b : Box Runs Global). summary_of b.value) v.left-is) (right_sum ∙ ap (λ (b : Box Runs Global). summary_of b.value) v.right-is))
+            | then-end-middle v ↦ rw (v.left-is, v.right-is) (IsFork-changed _ _ _ _ _ _ _ _ _ _ _ _ (left_changes _ _ w.in-Fork.right.value _ _ _ _ _ fork.is v.deref_mut.ensures.value v.set_flag-then-end-middle.ensures (omega (arith, middle, v.if-end-middle.true))) fork.kept w.join.ensures (left_sum ∙ ap (λ (b : Box FreeRuns Global). summary_of b.value) v.left-is) (right_sum ∙ ap (λ (b : Box FreeRuns Global). summary_of b.value) v.right-is))
+            | else-end-middle+then-middle-at v ↦ rw (v.left-is, v.right-is) (IsFork-changed _ _ _ _ _ _ _ _ _ _ _ _ (right_changes _ w.in-Fork.left.value _ _ _ c.args.at _ _ _ fork.is v.deref_mut-then-middle-at.ensures.value v.set_flag-then-middle-at.ensures (omega (arith, middle)) (omega (arith, middle, v.if-middle-at.true))) fork.kept w.join.ensures (left_sum ∙ ap (λ (b : Box FreeRuns Global). summary_of b.value) v.left-is) (right_sum ∙ ap (λ (b : Box FreeRuns Global). summary_of b.value) v.right-is))
+            | else-end-middle+else-middle-at v ↦ rw (v.left-is, v.right-is) (IsFork-changed _ _ _ _ _ _ _ _ _ _ _ _ (both_change _ _ _ _ _ _ _ c.args.at c.args.count _ _ _ fork.is v.deref_mut-else-middle-at.ensures.value v.deref_mut-else-middle-at-2.ensures.value v.set_flag-else-middle-at.ensures v.set_flag-else-middle-at-2.ensures (omega (arith, middle)) (omega (arith, middle)) (omega (arith, middle, v.if-middle-at.false)) (omega (arith, middle, v.if-end-middle.false))) fork.kept w.join.ensures (left_sum ∙ ap (λ (b : Box FreeRuns Global). summary_of b.value) v.left-is) (right_sum ∙ ap (λ (b : Box FreeRuns Global). summary_of b.value) v.right-is))
           ])
     ]

@@ -4,7 +4,7 @@ use Rattle.zio_places.specs.declared.summary.Summary.{Summary}
 use Rattle.zio_places.specs.Flags.{summary_of, front_run}
 use Rattle.zio_places.proofs.FlagLemmas.{front_run-le}
 use Rattle.zio_places.proofs.ForkLemmas.{at_Fork, front_run-left-whole, front_run-left-part, drop-append-right}
-use Rattle.zio_places.proofs.runs.Runs.+front_from.Goals as goal
+use Rattle.zio_places.proofs.runs.FreeRuns.+front_from.Goals as goal
 
 pub overflow_add-at : goal.overflow_add-at
 overflow_add-at t c =

@@ -3,7 +3,7 @@ use Rattle.zio_places.specs.declared.summary.Summary.{Summary}
 use Rattle.zio_places.specs.Flags.{summary_of, best_run, back_run, front_run}
 use Rattle.zio_places.proofs.FlagLemmas.{front_run-le, back_run-le, best_run-le}
 use Rattle.zio_places.proofs.ForkLemmas.{at_Fork, at_Leaf, IsFreeRun-over, IsFreeRun-right, best_run-right}
-use Rattle.zio_places.proofs.runs.Runs.+first_run.Goals as goal
+use Rattle.zio_places.proofs.runs.FreeRuns.+first_run.Goals as goal
 
 pub overflow_cast-count : goal.overflow_cast-count
 overflow_cast-count t c =

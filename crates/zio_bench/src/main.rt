@@ -5,6 +5,8 @@
 //!     units RUNS CALLS    the same on a top whose sectors are placed in eights
 //!     hit ROWS CALLS      looks into a fault table
 //!     sum BYTES TIMES     fletcher4 and SHA-256 of so many bytes
+//!     queue QUEUED CALLS  operations put and taken in groups, so many at a time, each behind the one before
+//!     random QUEUED CALLS the same all over the device
 //!     header SIZE TIMES   a gang header of a block of this size, read
 //!     digest BYTES TIMES  SHA-256 alone
 //!     fletcher BYTES TIMES    fletcher4 alone
@@ -13,11 +15,13 @@
 #![tactic(auto)]
 
 mod header;
+mod queue;
 mod script;
 mod space;
 mod sums;
 mod table;
 
+use crate::queue::Order;
 use crate::space::Unit;
 use anyhow::{Context, Result, bail};
 use std::env;
@@ -37,13 +41,17 @@ fn main(rt: HostRuntime) -> Result<()> {
         "space" => space::take_and_give_back(alloc, Unit::One, size, times)?,
         "units" => space::take_and_give_back(alloc, Unit::Eight, size, times)?,
         "hit" => table::look(alloc, size, times)?,
+        "queue" => queue::put_and_take(alloc, Order::Sequential, size, times)?,
+        "random" => queue::put_and_take(alloc, Order::Random, size, times)?,
         "sum" => sums::add_up(alloc, size, times)?,
         "header" => header::read(alloc, size, times)?,
         "digest" => sums::digest(alloc, size, times)?,
         "fletcher" => sums::fletcher(alloc, size, times)?,
         "script" => script::read(alloc, size, times)?,
         "batches" => script::read_batches(alloc, size, times)?,
-        _ => bail!("space, units, hit, sum, header, digest, fletcher, script or batches"),
+        _ => bail!(
+            "space, units, hit, queue, random, sum, header, digest, fletcher, script or batches"
+        ),
     };
     println!(rt; "{done}")?;
     Ok(())

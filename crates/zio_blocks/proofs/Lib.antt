@@ -4,3 +4,4 @@ pub mod AskLemmas
 pub mod FoundLemmas
 pub mod TellLemmas
 pub mod BlockLemmas
+pub mod ClaimLemmas

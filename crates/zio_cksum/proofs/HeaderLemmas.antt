@@ -39,18 +39,18 @@ slots_are xs ys zs rest at_x at_y at_z =
 -- ---- what a slot names
 
 -- The bytes of this member are 128, and name it.
-record IsNamed (o : Option Bp) : Type 0 where
+pub record IsNamed (o : Option Bp) : Type 0 where
   pub long : length (member_bytes o) ≡ 128
   pub back : pointer_of (member_bytes o) ≡ o
 
-none_named : IsNamed None
+pub none_named : IsNamed None
 none_named = record { long = refl; back = refl }
 
-some_named : (m : Bp) → FitsTypes m → IsTrue (valid m) → IsNamed (Some m)
+pub some_named : (m : Bp) → FitsTypes m → IsTrue (valid m) → IsNamed (Some m)
 some_named m types ok = record { long = length-spelling m types ok; back = pointer_of-spelling m types ok }
 
 -- those of three that are there
-abbrev kept : Option Bp → Option Bp → Option Bp → List Bp
+abbrev pub kept : Option Bp → Option Bp → Option Bp → List Bp
 kept x y z = cons_option x (cons_option y (cons_option z []))
 
 -- bytes that begin with those of three members name them
@@ -66,7 +66,7 @@ header_parts : (xs ys zs filler magic sum : List ℕ)
 header_parts xs ys zs filler magic sum = simp append_assoc
 
 -- a header of three members names them
-header_names : (x y z : Option Bp) (place : Place) (birth : ℕ) → IsNamed x → IsNamed y → IsNamed z
+pub header_names : (x y z : Option Bp) (place : Place) (birth : ℕ) → IsNamed x → IsNamed y → IsNamed z
     → members_of (header_of (x ∷ y ∷ z ∷ []) place birth) ≡ kept x y z
 header_names x y z place birth at_x at_y at_z =
     let front = x ∷ y ∷ z ∷ [] in

@@ -3,13 +3,14 @@
 ghost use Rattle.std.specs.Prelude.{◌≡◌, ◌∷◌, ◌++◌, ◌%◌, ◌*◌, ◌+◌, ◌^◌, ◌<◌, ◌≤◌, [], ℕ, Err, IfOk, IfSome, IsTrue, List, None, OnErr, OnOk, Some, false, length, map, slice_index_or, sum, drop, take, true, vec_len};
 ghost use Rattle.std.specs.List.{AllByRecursion};
 ghost use Rattle.zio_types.specs.Choices.{is_refused, no_place};
-ghost use Rattle.zio_types.specs.Filled.{IsFilled};
+ghost use Rattle.zio_types.specs.Filled.{IsFilled, filled_to};
 ghost use Rattle.zio_types.specs.Places.{IsLawfulChoice};
 ghost use Rattle.zio_types.specs.declared.place.Place.{Place};
+ghost use Rattle.zio_blkptr.specs.Pointers.{FitsTypes};
 ghost use Rattle.zio_cksum.specs.Blocks.{write_piece};
 ghost use Rattle.zio_cksum.specs.Frames.{spots_of};
 ghost use Rattle.zio_cksum.specs.Headers.{split_sizes};
-ghost use Rattle.zio_cksum.specs.Images.{Images};
+ghost use Rattle.zio_cksum.specs.Images.{Images, Setting};
 ghost use Rattle.zio_gang.specs.Trees.{sizes_of};
 ghost use Rattle.zio_gang.specs.Writes.{body_ask, chosen, cut, gang_with, head_ask, place_members, place_part, pointer_to, with_members};
 ghost use Rattle.zio_gang.specs.declared.tree.Head.{Head as Header};
@@ -17,12 +18,13 @@ ghost use Rattle.zio_disks.specs.Disks.{Handles, Tell};
 ghost use Rattle.zio_disks.specs.Trees.{BearsTops};
 ghost use Rattle.zio_blocks.specs.Blocks.{HavePointers, terms_of};
 ghost use Rattle.zio_blocks.specs.Choosers.{given_since, taken_by_all};
+ghost use Rattle.zio_blocks.specs.Laid.{AreLaid, AskOnce, IsBelow, IsFrom, IsLaid, IsOfGang};
 ghost use Rattle.zio_blocks.specs.Parts.{Asks, IsMade, IsPartSize, TellsMembers, TellsPart};
 
 use crate::chooser::Chooser;
 use crate::place::Writing;
 use std::alloc::Global;
-use zio_blkptr::Bp;
+use zio_blkptr::{Bp, SumKind};
 use zio_cksum::sum;
 use zio_disks::{Setting, Stop, write_piece};
 use zio_gang::{Head, header_encode, split};
@@ -61,6 +63,7 @@ fn ask<C: Chooser>(
       copies = copies;
     }) }
     ensures lawful { IfOk result (λ entry. IsLawfulChoice (C.sizes chooser.old) (C.used chooser.old) entry) }
+    ensures none { OnErr result (given_since (C.given chooser.old) (C.given chooser.new) ≡ []) }
     ensures memory { OnErr result (result ≡ Err Stop.Memory) }
 {
     let key = Key {
@@ -109,20 +112,39 @@ fn nowhere() -> Part
 }
 
 /// The pointer to bytes whose copies, or the copies of whose header, lie at the places that the entry found.
-fn pointer_to(setting: &Setting, writing: &Writing, entry: &Entry, gang: bool, bytes: &[u8]) -> Bp
+fn pointer_to(writing: &Writing, entry: &Entry, gang: bool, bytes: &[u8]) -> Bp
     requires most { length bytes.now < 2 ^ 32 }
     requires whole { length bytes.now % 512 ≡ 0 }
-    ensures { result ≡ pointer_to (terms_of setting.now writing.now) entry.now.places gang bytes.now }
+    ensures pointer { (setting : Setting) → result ≡ pointer_to (terms_of setting writing.now) entry.now.places gang bytes.now }
+    ensures types { FitsTypes result }
 {
-    let _setting = setting;
+    let size = bytes.len() as u32;
+    let words = sum(writing.sum, bytes);
+    pointer_at(entry, gang, size, writing.sum, writing.birth, words)
+}
+
+/// The pointer with these fields and the places that the entry found.
+fn pointer_at(entry: &Entry, gang: bool, size: u32, sum: SumKind, birth: u64, words: [u64; 4]) -> Bp
+    ensures pointer { result ≡ record {
+      count = length entry.now.places;
+      places = filled_to no_place 3 entry.now.places;
+      gang = gang;
+      size = size;
+      sum = sum;
+      birth = birth;
+      words = words;
+    } }
+    ensures types { FitsTypes result }
+{
+    let [first, second, third, fourth] = words;
     Bp {
         count: entry.found,
         places: entry.places,
         gang,
-        size: bytes.len() as u32,
-        sum: writing.sum,
-        birth: writing.birth,
-        words: sum(writing.sum, bytes),
+        size,
+        sum,
+        birth,
+        words: [first, second, third, fourth],
     }
 }
 
@@ -153,7 +175,9 @@ pub(crate) fn place_part<D: Disk, C: Chooser>(
     requires depth { length path.now + levels ≤ 8 }
     ensures asks { Asks writing.now (C.sizes chooser.old) (C.used chooser.old) (C.live chooser.old) (C.given chooser.old) (C.sizes chooser.new) (C.used chooser.new) (C.live chooser.new) (C.given chooser.new) }
     ensures behind { OnOk result (heads.new.items ≡ heads.old.items ++ drop (length heads.old.items) heads.new.items) }
-    ensures made { IfOk result (λ part. IfSome part.pointer (IsMade (sizes_of setting.now.tops))) }
+    ensures keys { AskOnce (IsFrom path.now) (given_since (C.given chooser.old) (C.given chooser.new)) }
+    ensures laid { IfOk result (λ part. IsLaid (sizes_of setting.now.tops) levels path.now (length bytes.now) part (drop (length heads.old.items) heads.new.items)
+        (taken_by_all (given_since (C.given chooser.old) (C.given chooser.new)))) }
     ensures told { IfOk result (λ part. (images : Images) → Tell D.image disks.old images →
         TellsPart D.image (λ journal. place_part levels journal (terms_of setting.now writing.now) path.now bytes.now images) [] part
         heads.old.items heads.new.items (given_since (C.given chooser.old) (C.given chooser.new)) disks.new) }
@@ -208,10 +232,11 @@ fn write_body<D: Disk>(
         × Tell D.image disks.new (write_piece setting.now bytes.now entry.now.places images).images) }
     ensures handled { Handles D.bytes D.faults D.faults_at_fetch D.home D.image D.sound (spots_of setting.now entry.now.places) result disks.old disks.new }
 {
+    let pointer = pointer_to(writing, entry, false, bytes);
     let error = write_piece(alloc, setting, disks, bytes, places_found(entry))?;
     Ok(Part {
         error,
-        pointer: Some(pointer_to(setting, writing, entry, false, bytes)),
+        pointer: Some(pointer),
     })
 }
 
@@ -241,7 +266,9 @@ fn place_gang<D: Disk, C: Chooser>(
     requires depth { length path.now + levels < 8 }
     ensures asks { Asks writing.now (C.sizes chooser.old) (C.used chooser.old) (C.live chooser.old) (C.given chooser.old) (C.sizes chooser.new) (C.used chooser.new) (C.live chooser.new) (C.given chooser.new) }
     ensures behind { OnOk result (heads.new.items ≡ heads.old.items ++ drop (length heads.old.items) heads.new.items) }
-    ensures made { IfOk result (λ part. IfSome part.pointer (IsMade (sizes_of setting.now.tops))) }
+    ensures keys { AskOnce (IsOfGang path.now) (given_since (C.given chooser.old) (C.given chooser.new)) }
+    ensures laid { IfOk result (λ part. IsLaid (sizes_of setting.now.tops) (levels + 1) path.now (length bytes.now) part (drop (length heads.old.items) heads.new.items)
+        (taken_by_all (given_since (C.given chooser.old) (C.given chooser.new)))) }
     ensures told { IfOk result (λ part. (images : Images) → Tell D.image disks.old images →
         let w = terms_of setting.now writing.now in
         TellsPart D.image (λ journal. gang_with (chosen journal (head_ask w path.now)) w (place_part levels journal w) path.now bytes.now images)
@@ -290,7 +317,9 @@ fn write_gang<D: Disk, C: Chooser>(
     requires found { is_refused entry.now ≡ false }
     ensures asks { Asks writing.now (C.sizes chooser.old) (C.used chooser.old) (C.live chooser.old) (C.given chooser.old) (C.sizes chooser.new) (C.used chooser.new) (C.live chooser.new) (C.given chooser.new) }
     ensures behind { OnOk result (heads.new.items ≡ heads.old.items ++ drop (length heads.old.items) heads.new.items) }
-    ensures made { IfOk result (λ part. IfSome part.pointer (IsMade (sizes_of setting.now.tops))) }
+    ensures keys { AskOnce (IsBelow path.now 0) (given_since (C.given chooser.old) (C.given chooser.new)) }
+    ensures laid { IfOk result (λ part. IsLaid (sizes_of setting.now.tops) (levels + 1) path.now (length bytes.now) part (drop (length heads.old.items) heads.new.items)
+        (entry.now.places ++ taken_by_all (given_since (C.given chooser.old) (C.given chooser.new)))) }
     ensures told { IfOk result (λ part. (images : Images) → Tell D.image disks.old images →
         let w = terms_of setting.now writing.now in
         TellsPart D.image
@@ -322,10 +351,11 @@ fn write_gang<D: Disk, C: Chooser>(
     )?;
     let header = header_encode(&pointers, &first_place(entry), writing.birth);
     fill_head(heads, at, &header);
+    let pointer = pointer_to(writing, entry, true, bytes);
     let written = write_piece(alloc, setting, disks, &header, places_found(entry))?;
     Ok(Part {
         error: worst(error, written),
-        pointer: Some(pointer_to(setting, writing, entry, true, bytes)),
+        pointer: Some(pointer),
     })
 }
 
@@ -362,6 +392,9 @@ fn place_members<D: Disk, C: Chooser>(
     ensures asks { Asks writing.now (C.sizes chooser.old) (C.used chooser.old) (C.live chooser.old) (C.given chooser.old) (C.sizes chooser.new) (C.used chooser.new) (C.live chooser.new) (C.given chooser.new) }
     ensures behind { OnOk result (heads.new.items ≡ heads.old.items ++ drop (length heads.old.items) heads.new.items) }
     ensures made { OnOk result (AllByRecursion (λ pointer. IfSome pointer (IsMade (sizes_of setting.now.tops))) pointers.new) }
+    ensures keys { AskOnce (IsBelow path.now n) (given_since (C.given chooser.old) (C.given chooser.new)) }
+    ensures laid { IfOk result (λ error. AreLaid (sizes_of setting.now.tops) levels path.now n sizes.now error pointers.old pointers.new (drop (length heads.old.items) heads.new.items)
+        (taken_by_all (given_since (C.given chooser.old) (C.given chooser.new)))) }
     ensures told { IfOk result (λ error. (images : Images) → Tell D.image disks.old images →
         let w = terms_of setting.now writing.now in
         TellsMembers D.image (λ journal. place_members (place_part levels journal w) path.now n (cut sizes.now bytes.now) images) error n pointers.old pointers.new

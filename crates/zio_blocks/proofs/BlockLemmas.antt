@@ -20,7 +20,7 @@ use Rattle.zio_disks.specs.Whole.{AreUnder, IsWholeTree}
 use Rattle.zio_blocks.specs.Blocks.{Places}
 use Rattle.zio_blocks.specs.Laid.{IsLaid, places_if, pointers_in}
 use Rattle.zio_blocks.specs.Parts.{IsMade, TellsPart}
-use Rattle.zio_blocks.specs.declared.parts.Part.{Part}
+use Rattle.zio_blocks.specs.declared.pieces.Part.{Part}
 use Rattle.zio_blocks.specs.declared.place.PlacedBlock.{PlacedBlock}
 
 -- the tree of the pointer, if there is one, with these headers

@@ -24,7 +24,7 @@ use Rattle.zio_gang.specs.declared.tree.Head.{Head}
 use Rattle.zio_disks.specs.Whole.{AreUnder, AreUnderGang, AreUnderIf, AreUnderMembers}
 use Rattle.zio_blocks.specs.Laid.{AreLaid, AreWhole, IsLaid, places_if, pointers_in}
 use Rattle.zio_blocks.specs.Parts.{IsMade}
-use Rattle.zio_blocks.specs.declared.parts.Part.{Part}
+use Rattle.zio_blocks.specs.declared.pieces.Part.{Part}
 
 -- ---- the worst of two errors
 

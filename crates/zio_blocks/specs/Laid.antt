@@ -17,7 +17,7 @@ use Rattle.zio_gang.specs.declared.tree.Head.{Head}
 use Rattle.zio_gang.specs.Journals.{HaveDistinctKeys, asks_of}
 use Rattle.zio_disks.specs.Whole.{AreUnder, AreUnderMembers}
 use Rattle.zio_blocks.specs.Parts.{IsMade}
-use Rattle.zio_blocks.specs.declared.parts.Part.{Part}
+use Rattle.zio_blocks.specs.declared.pieces.Part.{Part}
 
 -- ---- keys
 
@@ -58,8 +58,8 @@ places_if (Some bp) = places_of bp
 abbrev pub pointers_in : List Head → List Bp
 pointers_in heads = flat_map (λ (h : Head). members_of h.bytes) heads
 
--- A part of so many bytes at a path, with the headers under it, that took these places. It has no pointer where it took
--- none. Its headers are whole unless a part under it has no place, which is an error of that rank at least.
+-- A part of so many bytes at a path, with the headers under it, that took these places. Without a pointer it took none.
+-- Its headers are whole unless a part under it has no place, which is an error of that rank at least.
 pub record IsLaid (tops : List TopSize) (levels : ℕ) (path : List ℕ) (len : ℕ) (part : Part) (heads : List Head) (taken : List Place) : Type 0 where
   pub made : IfSome part.pointer (IsMade tops)
   pub size : IfSome part.pointer (λ bp. bp.size ≡ len)

@@ -20,7 +20,7 @@ use Rattle.zio_disks.specs.Whole.{IsFitting}
 use Rattle.zio_blocks.specs.Blocks.{AnswersBy, AsksFor}
 use Rattle.zio_blocks.specs.Choosers.{AreHeld}
 use Rattle.zio_blocks.specs.declared.place.Writing.{Writing}
-use Rattle.zio_blocks.specs.declared.parts.Part.{Part}
+use Rattle.zio_blocks.specs.declared.pieces.Part.{Part}
 
 -- What a part's write asked of the chooser and left there.
 pub record Asks (w : Writing) (sizes_old : List TopSize) (used_old live_old : List Place) (given_old : List Choice) (sizes_new : List TopSize) (used_new live_new : List Place) (given_new : List Choice) : Type 0 where

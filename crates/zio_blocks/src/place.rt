@@ -15,7 +15,8 @@ ghost use Rattle.zio_blocks.specs.Blocks.{AsksFor, HavePointers, Places, terms_o
 ghost use Rattle.zio_blocks.specs.Choosers.{AreHeld, given_since, taken_by_all};
 
 use crate::chooser::Chooser;
-use crate::parts::{Part, place_part};
+use crate::parts::place_part;
+use crate::pieces::Part;
 use std::alloc::Global;
 use zio_blkptr::SumKind;
 use zio_disks::{Setting, Stop};
@@ -51,6 +52,9 @@ pub struct PlacedBlock {
 /// Places a block of whole sectors, up to `BLOCK_SIZE_MAX` bytes, and writes it. Where no run is free for it a block of
 /// one sector has `Nospc` and no place, and a larger one becomes a gang: a header, and members that are placed in the
 /// same way. A gang has no place exactly where its header has none; its header is written also where a member has no place.
+///
+/// Whatever the error, the tree's places are those that were taken, so they can be given back by it. The tree is whole
+/// unless the error is `Nospc` or ranks above that: then a part of it may have no place.
 pub fn place_block<D: Disk, C: Chooser>(
     alloc: Global,
     setting: &Setting,

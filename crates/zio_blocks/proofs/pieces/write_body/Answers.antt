@@ -5,7 +5,7 @@ use Rattle.zio_gang.specs.Trees.{sizes_of}
 use Rattle.zio_disks.specs.Disks.{LieOn}
 use Rattle.zio_blocks.specs.Blocks.{terms_of}
 use Rattle.zio_blocks.proofs.FoundLemmas.{entry_lies, made_pointer, whole_entry}
-use Rattle.zio_blocks.proofs.parts.write_body.Goals as goal
+use Rattle.zio_blocks.proofs.pieces.write_body.Goals as goal
 
 pub write_piece-requires-clause-lies : goal.write_piece-requires-clause-lies
 write_piece-requires-clause-lies g c κs within =

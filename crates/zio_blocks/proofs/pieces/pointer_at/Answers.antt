@@ -1,7 +1,7 @@
 use Rattle.std.proofs.Common.{arith, rules}
 use Rattle.zio_types.specs.Filled.{length-filled}
 use Rattle.zio_types.specs.Choices.{no_place}
-use Rattle.zio_blocks.proofs.parts.pointer_at.Goals as goal
+use Rattle.zio_blocks.proofs.pieces.pointer_at.Goals as goal
 
 pub returns-clause-types : goal.returns-clause-types
 returns-clause-types c = record {

@@ -2,7 +2,7 @@
 use Rattle.std.proofs.Common.{◌≡◌, ◌==◌, ◌&&◌, ℕ, zero, suc, ◌+◌, ◌<◌, ◌≤◌, List, [], ◌∷◌, ◌++◌, inl, inr, length, length-append, append_assoc, refl, sym, ap, subst, ◌∙◌, arith, Option, Some}
 use Rattle.std.specs.Prelude.{Bool, true, false, bytes_eq, cond, find, slice_index_or, Contains}
 use Rattle.std.specs.List.{AllByRecursion}
-use Rattle.std.proofs.lemmas.Bool.{and_parts, false_from_ne_true, false≢true}
+use Rattle.std.proofs.lemmas.Bool.{and_parts, eqb-true, false_from_ne_true, false≢true}
 use Rattle.std.proofs.lemmas.List.{append-nil}
 use Rattle.std.proofs.lemmas.Slice.Eq.{bytes_eq-Decides}
 use Rattle.zio_types.specs.declared.journal.Key.{Key}
@@ -11,21 +11,35 @@ use Rattle.zio_types.specs.Choices.{Ask, Choice, same_ask, same_key, same_role}
 use Rattle.zio_cksum.proofs.AllLemmas.{all_append, all_contains, all_map, all_unmap, all_weaker}
 use Rattle.zio_gang.specs.Journals.{HaveDistinctKeys, asks_of}
 use Rattle.zio_gang.proofs.JournalLemmas.{each_found, same_ask_itself}
-use Rattle.zio_blocks.specs.Blocks.{AnswersBy}
+use Rattle.zio_blocks.specs.Blocks.{AnswersBy, IsOf}
 use Rattle.zio_blocks.specs.Laid.{AskOnce, IsBelow, IsFrom, IsHeadOf, IsOfGang}
+use Rattle.zio_blocks.specs.declared.place.Writing.{Writing}
 
 -- ---- keys that differ
 
 -- of two keys that are the same
 record SameNames (a b : Key) : Type 0 where
+  pub request : a.request ≡ b.request
+  pub round : a.round ≡ b.round
+  pub attempt : a.attempt ≡ b.attempt
   pub path : a.path ≡ b.path
   pub role : same_role a.role b.role ≡ true
 
 same_names : (a b : Key) → same_key a b ≡ true → SameNames a b
 same_names a b h =
-    let front = (a.request == b.request) && (a.round == b.round) && (a.attempt == b.attempt) in
-    let all = and_parts (front && bytes_eq a.path b.path) (same_role a.role b.role) h in
-    record { path = (bytes_eq-Decides a.path b.path).0 (and_parts front (bytes_eq a.path b.path) all.0).1; role = all.1 }
+    let round = (a.request == b.request) && (a.round == b.round) in
+    let attempt = round && (a.attempt == b.attempt) in
+    let all = and_parts (attempt && bytes_eq a.path b.path) (same_role a.role b.role) h in
+    let front = and_parts attempt (bytes_eq a.path b.path) all.0 in
+    let times = and_parts round (a.attempt == b.attempt) front.0 in
+    let requests = and_parts (a.request == b.request) (a.round == b.round) times.0 in
+    record {
+      request = eqb-true a.request b.request requests.0;
+      round = eqb-true a.round b.round requests.1;
+      attempt = eqb-true a.attempt b.attempt times.1;
+      path = (bytes_eq-Decides a.path b.path).0 front.1;
+      role = all.1;
+    }
 
 abbrev pub Differ : Choice → Choice → Type 0
 Differ e f = same_key e.asked.key f.asked.key ≡ false
@@ -37,6 +51,12 @@ other_role : (e f : Choice) → e.asked.key.role ≡ BodyRole → f.asked.key.ro
 other_role e f body head =
     false_from_ne_true (same_key e.asked.key f.asked.key) (λ same.
     false≢true ((λ j. same_role (sym body j) (sym head j)) ∙ (same_names e.asked.key f.asked.key same).role))
+
+-- entries of two writes that are of other requests, rounds or attempts
+pub other_writes : (w v : Writing) (e f : Choice) → (w.request ≡ v.request → w.round ≡ v.round → w.attempt ≡ v.attempt → ⊥) → IsOf w e → IsOf v f → Differ e f
+other_writes w v e f other own its = false_from_ne_true (same_key e.asked.key f.asked.key) (λ same.
+    let names = same_names e.asked.key f.asked.key same in
+    other (sym own.request ∙ names.request ∙ its.request) (sym own.round ∙ names.round ∙ its.round) (sym own.attempt ∙ names.attempt ∙ its.attempt))
 
 -- ---- paths
 
@@ -85,7 +105,8 @@ below_others path n f below = record { member = below.member; rest = below.rest;
 
 -- ---- lists of entries
 
-distinct_then : (P Q : Choice → Type 0) (es fs : List Choice) → ((e f : Choice) → P e → Q f → Differ e f) → AllByRecursion P es → AllByRecursion Q fs
+-- entries and others behind them, all of whose keys differ from theirs
+pub distinct_then : (P Q : Choice → Type 0) (es fs : List Choice) → ((e f : Choice) → P e → Q f → Differ e f) → AllByRecursion P es → AllByRecursion Q fs
     → HaveDistinctKeys (asks_of es) → HaveDistinctKeys (asks_of fs) → HaveDistinctKeys (asks_of (es ++ fs))
 distinct_then P Q [] fs apart ps qs a b = b
 distinct_then P Q (e ∷ es) fs apart ps qs a b = (

@@ -1,7 +1,10 @@
-pub mod PlaceSets
-pub mod ChooserLemmas
 pub mod AskLemmas
-pub mod FoundLemmas
-pub mod TellLemmas
 pub mod BlockLemmas
+pub mod ChooserLemmas
 pub mod ClaimLemmas
+pub mod FoundLemmas
+pub mod KeyLemmas
+pub mod LaidLemmas
+pub mod OpenLemmas
+pub mod PlaceSets
+pub mod TellLemmas

@@ -1,4 +1,5 @@
 pub mod Blocks
 pub mod Choosers
 pub mod Claims
+pub mod Laid
 pub mod Parts

@@ -10,6 +10,7 @@
 mod chooser;
 mod claim;
 mod parts;
+mod pieces;
 mod place;
 
 pub use chooser::{Chooser, Unclaimed};

@@ -5,6 +5,7 @@ use Rattle.zio_types.specs.declared.journal.Key.{Key}
 use Rattle.zio_types.specs.Choices.{Ask, Choice, same_key}
 use Rattle.zio_gang.specs.Attempts.{Terms}
 use Rattle.zio_gang.specs.Journals.{asks_of, HaveDistinctKeys}
+use Rattle.zio_gang.proofs.JournalLemmas.{same_key_itself}
 use Rattle.zio_trace.specs.Conflicts.{is_single}
 use Rattle.zio_trace.specs.Entries.{Recorded, any_rules, any_ways}
 use Rattle.zio_trace.specs.Families.{Forest}
@@ -22,7 +23,6 @@ use Rattle.zio_trace.specs.Traces.{asked_by}
 use Rattle.zio_trace.proofs.AskLemmas.{asks_recorded}
 use Rattle.zio_trace.proofs.CapLemmas.{program_capped, op_capped}
 use Rattle.zio_trace.proofs.DoneLemmas.{some_oracle}
-use Rattle.zio_trace.proofs.EntryLemmas.{same_key_itself}
 use Rattle.zio_trace.proofs.GroundLemmas.{task_ground}
 use Rattle.zio_trace.proofs.KeyLemmas.{plans_capped, round_capped}
 use Rattle.zio_trace.proofs.RequestLemmas.{plan_run}

@@ -1,3 +1,6 @@
+pub mod ClapRows
+pub mod ClapSizes
+pub mod ClapWalks
 pub mod CommandLemmas
 pub mod DiskLemmas
 pub mod NumberLemmas

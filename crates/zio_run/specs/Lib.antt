@@ -1,4 +1,5 @@
 pub mod Commands
 pub mod Headline
 pub mod Outcomes
+pub mod Parses
 pub mod Words

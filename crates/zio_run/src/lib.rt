@@ -12,6 +12,7 @@ mod lines;
 mod names;
 mod number;
 mod options;
+mod parse;
 mod serial;
 mod source;
 #[cfg(test)]

@@ -3,9 +3,10 @@
 ghost use Rattle.std.specs.Prelude.{◌∷◌, true, IfOk, IfSome, IsErrOf, MatchOption, codes, map, string_bytes};
 ghost use Rattle.zio_run.specs.Words.{IsCommandOf, IsGenOf, IsNoCommandOf, IsNoGen, IsSize, IsWithin, NoSize};
 
-use crate::names::read_images;
+use crate::names::are_images;
 use crate::number::number_within;
 use crate::options::{first_word, options_of};
+use crate::parse::{parse_gen, parse_load, parse_run};
 use std::alloc::Global;
 use zio_gen::BLOCKS_MAX;
 use zio_report::Show;
@@ -59,7 +60,7 @@ pub fn read_words(alloc: Global, serial: bool, words: &[String]) -> Result<Comma
     if verb == "run" {
         read_run(alloc, serial, rest)
     } else if serial && verb == "gen" {
-        read_gen(rest)
+        read_gen(alloc, rest)
     } else if serial && verb == "load" {
         read_load(alloc, rest)
     } else {
@@ -72,25 +73,19 @@ fn read_run(alloc: Global, serial: bool, words: &[String]) -> Result<Command, Wo
     ensures ok { IfOk result (IsCommandOf serial (codes "run" ∷ map string_bytes words.now)) }
     ensures words { IsErrOf result WordsError.Words → IsNoCommandOf serial (codes "run" ∷ map string_bytes words.now) }
 {
-    let Some((options, names)) = options_of(serial, words) else {
-        return Err(WordsError::Words);
-    };
-    let images = read_images(alloc, names)?;
-    Ok(Command::Run {
-        workers: options.workers(serial),
-        picks: None,
-        show: options.show(),
-        images,
-    })
+    match options_of(serial, words) {
+        Some((_, names)) if are_images(names) => parse_run(alloc, serial, words),
+        _ => Err(WordsError::Words),
+    }
 }
 
 /// The command of the words behind `gen`.
-fn read_gen(words: &[String]) -> Result<Command, WordsError>
+fn read_gen(alloc: Global, words: &[String]) -> Result<Command, WordsError>
     ensures ok { IfOk result (IsCommandOf true (codes "gen" ∷ map string_bytes words.now)) }
     ensures words { IsErrOf result WordsError.Words → IsNoCommandOf true (codes "gen" ∷ map string_bytes words.now) }
 {
     match size_of(words) {
-        Some((seed, n, rest)) if rest.is_empty() => Ok(Command::Gen { seed, n }),
+        Some((_, _, rest)) if rest.is_empty() => parse_gen(alloc, words),
         _ => Err(WordsError::Words),
     }
 }
@@ -100,11 +95,10 @@ fn read_load(alloc: Global, words: &[String]) -> Result<Command, WordsError>
     ensures ok { IfOk result (IsCommandOf true (codes "load" ∷ map string_bytes words.now)) }
     ensures words { IsErrOf result WordsError.Words → IsNoCommandOf true (codes "load" ∷ map string_bytes words.now) }
 {
-    let Some((seed, n, names)) = size_of(words) else {
-        return Err(WordsError::Words);
-    };
-    let images = read_images(alloc, names)?;
-    Ok(Command::Load { seed, n, images })
+    match size_of(words) {
+        Some((_, _, names)) if are_images(names) => parse_load(alloc, words),
+        _ => Err(WordsError::Words),
+    }
 }
 
 /// The seed and the number of blocks of `gen`, none where the words aren't that command.

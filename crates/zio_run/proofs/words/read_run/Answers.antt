@@ -1,17 +1,15 @@
-use Rattle.std.proofs.Common.{◌≡◌, Err, map, string_bytes}
-use Rattle.std.proofs.lemmas.Result.{err_from_is_err_and}
-use Rattle.zio_run.specs.declared.words.WordsError.TheVariants.{Words}
+use Rattle.std.proofs.Common.{◌≡◌, Bool, true, false, ◌↔◌, IsTrue, map, string_bytes, sym, ◌∙◌, true≢false}
 use Rattle.zio_run.proofs.WordLemmas.{no_run, no_run_images}
+use Rattle.zio_run.proofs.words.read_run.Goals.{in_default-via-in-Some+else-are_images, in_default-via-in_default}
 use Rattle.zio_run.proofs.words.read_run.Goals as goal
 
-pub returns-in_default-clause-words : goal.returns-in_default-clause-words
-returns-in_default-clause-words c e = no_run c.args.serial (map string_bytes c.args.words.now) c.in_default.ensures
+not_so : {P : Type 0} (b : Bool) → b ≡ false → IsTrue b ↔ P → ¬ P
+not_so b is tells p = true≢false (sym (tells.1 p) ∙ is)
 
-pub returns-in_err-images-clause-words : goal.returns-in_err-images-clause-words
-returns-in_err-images-clause-words c h =
-    let p = err_from_is_err_and c.from_residual.result c.from_residual.ensures.1 in
-    let was = c.in_err-images.was in
-    let first = p.1 in
-    let second = p.2 in
-    let failed : c.read_images.result ≡ Err Words = cc in
-    no_run_images c.args.serial (map string_bytes c.args.words.now) c.in-Some.options (map string_bytes c.in-Some.names.now) c.in-Some.ensures (c.read_images.ensures.err failed)
+pub returns-in_default-clause-words : goal.returns-in_default-clause-words
+returns-in_default-clause-words c e = elim c.in_default.branch [
+  | in_default-via-in-Some+else-are_images w ↦
+      no_run_images c.args.serial (map string_bytes c.args.words.now) _ (map string_bytes w.in-Some.names.now) w.in-Some.ensures
+      (not_so w.are_images.result w.if-are_images.false w.are_images.ensures)
+  | in_default-via-in_default w ↦ no_run c.args.serial (map string_bytes c.args.words.now) w.in_default.ensures
+]

@@ -1,0 +1,36 @@
+-- What clap is told of the words of a command.
+use Rattle.std.specs.Prelude.{◌≡◌, ℕ, List, [], ◌∷◌, codes, Some, Bool, true, false, cond}
+use Rattle.clap.specs.declared.builder.action.ArgAction.TheVariants.{Append, SetTrue}
+use Rattle.clap.specs.Walk.{Rule}
+use Rattle.clap.specs.Simple.{App, new_app, new_rule, on_top, with_rule}
+
+abbrev pub flag_rule : List ℕ → Rule
+flag_rule name = record (new_rule name) { long = Some name; action = Some SetTrue }
+
+abbrev pub image_rule : Rule
+image_rule = record (new_rule (codes "image")) { action = Some Append }
+
+abbrev pub workers_rule : Rule
+workers_rule = record (new_rule (codes "workers")) { long = Some (codes "workers") }
+
+-- without help, and with the words alone
+abbrev pub bare_app : List ℕ → App
+bare_app name = on_top (λ s. record s { disable_help_flag = true; no_binary_name = true }) (new_app name)
+
+-- the options and the images
+abbrev pub run_alone : App
+run_alone = with_rule (with_rule (with_rule (bare_app (codes "run")) (flag_rule (codes "journal"))) (flag_rule (codes "data"))) image_rule
+
+abbrev pub run_app : Bool → App
+run_app true = run_alone
+run_app false = with_rule run_alone workers_rule
+
+-- a seed and a number of blocks
+abbrev pub size_app : List ℕ → App
+size_app name = with_rule (with_rule (bare_app name) (new_rule (codes "seed"))) (new_rule (codes "n"))
+
+abbrev pub gen_app : App
+gen_app = size_app (codes "gen")
+
+abbrev pub load_app : App
+load_app = with_rule (size_app (codes "load")) image_rule

@@ -8,6 +8,8 @@
 #[cfg(test)]
 mod books;
 #[cfg(test)]
+mod claims;
+#[cfg(test)]
 mod counts;
 #[cfg(test)]
 mod generator;

@@ -1,5 +1,5 @@
 -- The walk of a claim step by step, and what it adds.
-use Rattle.std.proofs.Common.{◌≡◌, ℕ, zero, suc, ◌+◌, ◌-◌, ◌<◌, ◌≤◌, List, [], ◌∷◌, ◌++◌, length, get_or, take, drop, Bool, true, false, IsTrue, Option, Some, None, Result, Ok, Err, refl, sym, ap, subst, ◌∙◌, arith, append_assoc}
+use Rattle.std.proofs.Common.{◌≡◌, ℕ, zero, suc, ◌+◌, ◌-◌, ◌<◌, ◌≤◌, List, [], ◌∷◌, ◌++◌, length, get_or, take, drop, Bool, true, false, IsTrue, Option, Some, None, Result, Ok, refl, sym, ap, subst, ◌∙◌, arith, append_assoc}
 use Rattle.std.specs.List.{AllByRecursion, cons_option, flat_map, list_all}
 use Rattle.std.proofs.lemmas.Bool.{and_from, and_parts}
 use Rattle.std.proofs.lemmas.Grind.{flat_map-append}
@@ -12,16 +12,15 @@ use Rattle.zio_types.specs.Places.{fits_size, is_inside, sector_size}
 use Rattle.zio_blkptr.specs.declared.pointer.Bp.{Bp}
 use Rattle.zio_blkptr.specs.Pointers.{places_of, pointer_of, valid}
 use Rattle.zio_blkptr.proofs.PointerLemmas.{spelling-pointer}
-use Rattle.zio_cksum.specs.Blocks.{blame, good_claimed, read_block}
+use Rattle.zio_cksum.specs.Blocks.{good_claimed, read_block}
 use Rattle.zio_cksum.specs.Headers.{members_of}
 use Rattle.zio_cksum.specs.Images.{Images, Setting}
 use Rattle.zio_cksum.proofs.AllLemmas.{all_append}
 use Rattle.zio_gang.specs.declared.tree.Head.{Head}
-use Rattle.zio_gang.specs.declared.tree.Tree.{Tree}
-use Rattle.zio_gang.specs.Trees.{Walk, body_walk, claim_visit, inval_unless, is_claimable, piece_size, sizes_of, stopped_walk, unless_errors, walk, walk_found, walk_members, walk_pointer, walk_read}
+use Rattle.zio_gang.specs.Trees.{Walk, body_walk, claim_visit, inval_unless, is_claimable, piece_size, sizes_of, stopped_walk, walk, walk_found, walk_members, walk_pointer, walk_read}
 use Rattle.zio_disks.specs.Claims.{AddsTo, AreRead}
 use Rattle.zio_disks.specs.Trees.{IsPlacedIn, IsPlacedTree}
-use Rattle.zio_disks.specs.Whole.{AreUnder, AreUnderGang, AreUnderIf, AreUnderMembers, IsFitting, IsFittingTree}
+use Rattle.zio_disks.specs.Whole.{AreUnder, AreUnderGang, AreUnderIf, AreUnderMembers, IsFitting}
 use Rattle.zio_disks.proofs.WriteLemmas.{rest_of}
 
 -- ---- a walk step by step

@@ -3,5 +3,6 @@ pub mod ClaimLemmas
 pub mod CopyLemmas
 pub mod DiskLemmas
 pub mod ReadLemmas
+pub mod SizeLemmas
 pub mod TreeLemmas
 pub mod WriteLemmas

@@ -106,7 +106,7 @@ kept_members [] path bytes e = absurd (let f = e in cc)
 kept_members (head ∷ heads) path bytes e =
     kept_if (bytes_eq head.path path) head heads (find (λ (h : Head). bytes_eq h.path path) heads) bytes e (kept_members heads path bytes)
 
-is_kept : (kept : Option (List ℕ)) (bytes : List ℕ) → IsTrue (good_kept kept bytes) → kept ≡ Some bytes
+pub is_kept : (kept : Option (List ℕ)) (bytes : List ℕ) → IsTrue (good_kept kept bytes) → kept ≡ Some bytes
 is_kept None bytes h = absurd (let f = h in cc)
 is_kept (Some kept) bytes h = ap Some ((bytes_eq-Decides kept bytes).0 h)
 

@@ -1,5 +1,6 @@
 pub mod Claims
 pub mod Copies
 pub mod Disks
+pub mod Kept
 pub mod Trees
 pub mod Whole

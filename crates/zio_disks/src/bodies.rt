@@ -1,6 +1,6 @@
 // The bodies of a block, read with repairs and joined.
 
-ghost use Rattle.std.specs.Prelude.{◌≡◌, ◌∷◌, ◌++◌, Contains, IfErr, IfOk, OnErr, OnOk, Err, length, map, vec_len, true, false};
+ghost use Rattle.std.specs.Prelude.{◌≡◌, ◌∷◌, ◌++◌, ◌+◌, ◌≤◌, Contains, IfErr, IfOk, OnErr, OnOk, Err, length, map, vec_len, true, false};
 ghost use Rattle.std.specs.List.{AllByRecursion};
 ghost use Rattle.zio_blkptr.specs.Pointers.{places_of};
 ghost use Rattle.zio_cksum.specs.Blocks.{blame, good_body, read_block};
@@ -8,7 +8,9 @@ ghost use Rattle.zio_cksum.specs.Frames.{spots_of};
 ghost use Rattle.zio_cksum.specs.Images.{Images};
 ghost use Rattle.zio_gang.specs.Trees.{bodies_read, read_bodies, read_tree, sizes_of, tree_places};
 ghost use Rattle.zio_disks.specs.Disks.{Handles, Tell};
+ghost use Rattle.zio_disks.specs.Kept.{bytes_of_all};
 ghost use Rattle.zio_disks.specs.Trees.{BearsTops, IsBodyOf, IsPlacedTree, bytes_in, errors_in};
+ghost use Rattle.zio_disks.specs.Whole.{IsWholeTree};
 
 use crate::copies::GoodCopy;
 use crate::read::read_block;
@@ -34,6 +36,7 @@ pub fn read_tree<D: Disk>(
     ensures told { IfOk result (λ found. (images : Images) → Tell D.image disks.old images →
         let read = read_tree setting.now tree.now images in
         (found ≡ read.found) × Tell D.image disks.new read.images) }
+    ensures length { IsWholeTree tree.now → IfOk result (λ found. IfOk found (λ bytes. length bytes ≡ tree.now.bp.size)) }
     ensures handled { Handles D.bytes D.faults D.faults_at_fetch D.home D.image D.sound (spots_of setting.now (tree_places tree.now)) result disks.old disks.new }
 {
     let mut errors = List::new(alloc);
@@ -65,6 +68,7 @@ fn join_bodies<D: Disk>(
     ensures told { IfOk result (λ found. (images : Images) → Tell D.image disks.old images →
         let read = bodies_read (read_bodies setting.now bodies.now images) in
         (found ≡ read.found) × Tell D.image disks.new read.images) }
+    ensures length { IfOk result (λ found. IfOk found (λ bytes. length bytes ≡ bytes_of_all bodies.now)) }
     ensures handled { Handles D.bytes D.faults D.faults_at_fetch D.home D.image D.sound (spots_of setting.now (tree_places tree.now)) result disks.old disks.new }
 {
     let mut errors = List::new(alloc);
@@ -93,6 +97,8 @@ fn read_bodies<D: Disk>(
     ensures told { IfOk result (λ _. (images : Images) → Tell D.image disks.old images →
         let b = read_bodies setting.now bodies.now images in
         (errors.new ≡ errors.old ++ b.errors) × (bytes.new ≡ bytes.old ++ b.bytes) × Tell D.image disks.new b.images) }
+    ensures grows { OnOk result (length errors.old ≤ length errors.new) }
+    ensures sized { OnOk result (length errors.new ≡ length errors.old → length bytes.new ≡ length bytes.old + bytes_of_all bodies.now) }
     ensures handled { Handles D.bytes D.faults D.faults_at_fetch D.home D.image D.sound (spots_of setting.now (tree_places tree.now)) result disks.old disks.new }
 {
     let [bp, rest @ ..] = bodies else {
@@ -118,6 +124,8 @@ fn add_body<D: Disk>(
     ensures told { IfOk result (λ _. (images : Images) → Tell D.image disks.old images →
         let read = read_block setting.now true (good_body bp.now) images bp.now.size (places_of bp.now) in
         (errors.new ≡ errors.old ++ errors_in read.found) × (bytes.new ≡ bytes.old ++ bytes_in read.found) × Tell D.image disks.new read.images) }
+    ensures grows { OnOk result (length errors.old ≤ length errors.new) }
+    ensures sized { OnOk result (length errors.new ≡ length errors.old → length bytes.new ≡ length bytes.old + bp.now.size) }
     ensures handled { Handles D.bytes D.faults D.faults_at_fetch D.home D.image D.sound (spots_of setting.now (tree_places tree.now)) result disks.old disks.new }
 {
     match read_body(alloc, setting, disks, tree, bp)? {

@@ -10,7 +10,9 @@ ghost use Rattle.zio_cksum.specs.Frames.{spots_of};
 ghost use Rattle.zio_cksum.specs.Images.{Images};
 ghost use Rattle.zio_gang.specs.Trees.{free_tree, kept_at, kept_visit, sizes_of, tree_places, tree_pointers, walk, walk_kept, walk_members};
 ghost use Rattle.zio_disks.specs.Disks.{Handles, Tell};
+ghost use Rattle.zio_disks.specs.Kept.{AreKept, AreNamedAt, IsKept, bytes_of_all};
 ghost use Rattle.zio_disks.specs.Trees.{BearsTops, IsBodyOf, IsPlacedTree, members_in};
+ghost use Rattle.zio_disks.specs.Whole.{IsWholeTree};
 
 use crate::copies::GoodCopy;
 use crate::read::read_block;
@@ -72,6 +74,9 @@ pub(crate) fn walk_tree<D: Disk>(
         let w = walk_kept setting.now tree.now images in
         (errors.new ≡ errors.old ++ w.errors) × (bodies.new ≡ bodies.old ++ w.bodies) × Tell D.image disks.new w.images) }
     ensures bodies { AllByRecursion (IsBodyOf tree.now) bodies.new }
+    ensures grows { OnOk result (length errors.old ≤ length errors.new) }
+    ensures sized { OnOk result (IsWholeTree tree.now → length errors.new ≡ length errors.old →
+        bytes_of_all bodies.new ≡ bytes_of_all bodies.old + tree.now.bp.size) }
     ensures handled { Handles D.bytes D.faults D.faults_at_fetch D.home D.image D.sound (spots_of setting.now (tree_places tree.now)) result disks.old disks.new }
 {
     let top = Path {
@@ -105,6 +110,9 @@ fn walk_pointer<D: Disk>(
         let w = walk levels (kept_visit setting.now tree.now.heads) path.now bp.now images in
         (errors.new ≡ errors.old ++ w.errors) × (bodies.new ≡ bodies.old ++ w.bodies) × Tell D.image disks.new w.images) }
     ensures bodies { AllByRecursion (IsBodyOf tree.now) bodies.new }
+    ensures grows { OnOk result (length errors.old ≤ length errors.new) }
+    ensures sized { OnOk result (IsKept levels tree.now.heads path.now bp.now → length errors.new ≡ length errors.old →
+        bytes_of_all bodies.new ≡ bytes_of_all bodies.old + bp.now.size) }
     ensures handled { Handles D.bytes D.faults D.faults_at_fetch D.home D.image D.sound (spots_of setting.now (tree_places tree.now)) result disks.old disks.new }
 {
     if !bp.gang {
@@ -154,6 +162,9 @@ fn walk_members<D: Disk>(
         let w = walk_members (walk levels (kept_visit setting.now tree.now.heads)) path.now n members.now images in
         (errors.new ≡ errors.old ++ w.errors) × (bodies.new ≡ bodies.old ++ w.bodies) × Tell D.image disks.new w.images) }
     ensures bodies { AllByRecursion (IsBodyOf tree.now) bodies.new }
+    ensures grows { OnOk result (length errors.old ≤ length errors.new) }
+    ensures sized { OnOk result (AreKept (IsKept levels tree.now.heads) path.now n members.now → length errors.new ≡ length errors.old →
+        bytes_of_all bodies.new ≡ bytes_of_all bodies.old + bytes_of_all members.now) }
     ensures handled { Handles D.bytes D.faults D.faults_at_fetch D.home D.image D.sound (spots_of setting.now (tree_places tree.now)) result disks.old disks.new }
 {
     let [member, rest @ ..] = members else {
@@ -207,6 +218,7 @@ fn read_members<D: Disk>(
         (found ≡ members_in read.found) × Tell D.image disks.new read.images) }
     ensures listed { IfOk result (λ found. IfOk found (λ members. AllByRecursion (Contains (tree_pointers tree.now)) members)) }
     ensures few { IfOk result (λ found. IfOk found (λ members. length members ≤ 3)) }
+    ensures kept { IfOk result (λ found. IfOk found (AreNamedAt tree.now.heads path.now)) }
     ensures handled { Handles D.bytes D.faults D.faults_at_fetch D.home D.image D.sound (spots_of setting.now (tree_places tree.now)) result disks.old disks.new }
 {
     let mut header = [0; 512];

@@ -1,15 +1,18 @@
-use Rattle.std.proofs.Common.{◌≡◌, true, ◌-◌, ◌<◌, ◌++◌, ℕ, List, Ok, Err, subst, sym, ap, ◌∙◌, arith}
+use Rattle.std.proofs.Common.{rules, ◌≡◌, true, ◌+◌, ◌-◌, ◌*◌, ◌<◌, ◌≤◌, ◌++◌, Contains, length, map, ℕ, List, Ok, Err, IfOk, subst, sym, ap, ◌∙◌, arith}
+use Rattle.std.specs.List.{AllByRecursion}
 use Rattle.std.proofs.lemmas.List.{append-nil}
-use Rattle.std.proofs.lemmas.Result.{IfOk-weaker}
+use Rattle.std.proofs.lemmas.Result.{IfOk-weaker, on_ok_weaker}
 use Rattle.zio_types.specs.Places.{sector_size}
 use Rattle.zio_blkptr.specs.declared.pointer.Bp.{Bp}
 use Rattle.zio_blkptr.specs.Pointers.{places_of}
 use Rattle.zio_cksum.specs.Blocks.{Read, good_kept, read_block}
 use Rattle.zio_cksum.specs.Images.{Images}
-use Rattle.zio_gang.specs.Trees.{Walk, kept_at, kept_visit, walk, walk_members, walk_read}
+use Rattle.zio_gang.specs.Trees.{Walk, kept_at, kept_visit, tree_pointers, walk, walk_members, walk_read}
 use Rattle.zio_disks.specs.Disks.{Tell}
-use Rattle.zio_disks.specs.Trees.{members_in}
+use Rattle.zio_disks.specs.Kept.{AreNamedAt}
+use Rattle.zio_disks.specs.Trees.{BearsTops, members_in}
 use Rattle.zio_disks.proofs.DiskLemmas.{handles_none, handles_then, not_device}
+use Rattle.zio_disks.proofs.SizeLemmas.{kept_below, sized_by}
 use Rattle.zio_disks.proofs.TreeLemmas.{BelowHead, on_if, walk_below, walk_body, walk_deep, walk_failed, walk_gang}
 use Rattle.zio_disks.proofs.trees.+walk.Goals as goal
 
@@ -89,3 +92,36 @@ walk_pointer-returns-in-Err-clause-told g t c =
     subst (λ (w : Walk). (c.note_error-in-Err.new.errors ≡ c.args.errors.now ++ w.errors) × (c.args.bodies.now ≡ c.args.bodies.now ++ w.bodies) × Tell g.D.Disk.image c.read_members.new.disks w.images)
     (sym (walk_gang c.args.levels c.args.setting.now c.args.tree.now.heads c.args.path.now c.args.bp.now images c.if-not-bp.false some ∙ walk_failed below c.args.path.now read.found read.images c.in-Err.error named))
     (added, sym (append-nil c.args.bodies.now), told.1)))
+
+pub walk_pointer-returns-in-Ok-clause-sized : goal.walk_pointer-returns-in-Ok-clause-sized
+walk_pointer-returns-in-Ok-clause-sized g t c =
+    let no = c.if-levels-eq0.false in
+    let some : 0 < c.args.levels = omega arith in
+    let named : AreNamedAt c.args.tree.now.heads c.args.path.now c.in-Ok.members = subst (λ f. IfOk f (AreNamedAt c.args.tree.now.heads c.args.path.now)) c.in-Ok.is c.in_ok-members.ensures.kept in
+    let here : AreNamedAt c.args.tree.now.heads c.args.path.now c.as_slice.result.now = subst (AreNamedAt c.args.tree.now.heads c.args.path.now) (sym c.as_slice.ensures) named in
+    on_ok_weaker c.walk_members.result
+    (λ h. sized_by _ _ _ _ _ _ _ _ (kept_below c.args.levels c.args.tree.now.heads c.args.path.now c.args.bp.now c.as_slice.result.now c.if-not-bp.false some here) h)
+    c.walk_members.ensures.sized
+
+falls_by : (levels count t : ℕ) → 0 < levels → 0 + count ≤ 3 → 5 * levels ≡ t → 5 * (levels - 1) + 1 + count < t
+falls_by levels count t some few is = omega arith
+
+deeper : (path levels : ℕ) → 0 < levels → path + levels ≤ 8 → path + (levels - 1) < 8
+deeper path levels some h = omega arith
+
+from_first : (n : ℕ) → n ≤ 3 → 0 + n ≤ 3
+from_first n h = omega arith
+
+pub walk_pointer-walk_members-requires : goal.walk_pointer-walk_members-requires
+walk_pointer-walk_members-requires g t c κs within =
+    let no = c.if-levels-eq0.false in
+    let some : 0 < c.args.levels = omega arith in
+    let count : length c.in-Ok.members ≤ 3 = subst (λ f. IfOk f (λ (ms : List Bp). length ms ≤ 3)) c.in-Ok.is c.in_ok-members.ensures.few in
+    let few : 0 + length c.as_slice.result.now ≤ 3 = subst (λ (ms : List Bp). 0 + length ms ≤ 3) (sym c.as_slice.ensures) (from_first (length c.in-Ok.members) count) in
+    let listed : AllByRecursion (Contains (tree_pointers c.args.tree.now)) c.as_slice.result.now =
+    subst (AllByRecursion (Contains (tree_pointers c.args.tree.now))) (sym c.as_slice.ensures)
+    (subst (λ f. IfOk f (λ (ms : List Bp). AllByRecursion (Contains (tree_pointers c.args.tree.now)) ms)) c.in-Ok.is c.in_ok-members.ensures.listed) in
+    let bears : BearsTops c.args.setting.now (map g.D.Disk.bytes c.read_members.new.disks) = subst (BearsTops c.args.setting.now) (sym c.in_ok-members.ensures.handled.same.sizes) c.requires.bears in (
+      falls_by c.args.levels (length c.as_slice.result.now) t some few c.decreases,
+      (search rules, (search rules, (bears, (c.requires.placed, (listed, (few, (deeper (length c.args.path.now) c.args.levels some c.requires.depth, c.requires.bodies))))))),
+    )

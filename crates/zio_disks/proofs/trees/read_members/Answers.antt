@@ -1,4 +1,4 @@
-use Rattle.std.proofs.Common.{◌≡◌, ◌≤◌, true, ℕ, List, Contains, IfOk, Option, Ok, Result, IsTrue, length, map, cond, option_copied, subst, sym, ap, ◌∙◌}
+use Rattle.std.proofs.Common.{◌≡◌, ◌≤◌, true, ℕ, List, Contains, IfOk, Option, Ok, Result, IsTrue, length, map, cond, option_copied, refl, subst, sym, ap, ◌∙◌}
 use Rattle.std.specs.List.{AllByRecursion}
 use Rattle.std.proofs.lemmas.Result.{IfOk-weaker}
 use Rattle.zio_types.specs.declared.error.Errno.{Errno}
@@ -12,9 +12,10 @@ use Rattle.zio_cksum.specs.Images.{Images}
 use Rattle.zio_cksum.proofs.AllLemmas.{all_contains}
 use Rattle.zio_gang.specs.Trees.{kept_at, sizes_of, tree_places, tree_pointers}
 use Rattle.zio_disks.specs.Disks.{LieOn, Tell, found_with}
+use Rattle.zio_disks.specs.Kept.{AreNamedAt}
 use Rattle.zio_disks.specs.Trees.{IsPlacedIn, members_in}
 use Rattle.zio_disks.proofs.DiskLemmas.{handles_after, handles_err, handles_ok, handles_wider}
-use Rattle.zio_disks.proofs.TreeLemmas.{few_members, good_members, pointer_among, pointer_lies}
+use Rattle.zio_disks.proofs.TreeLemmas.{few_members, good_members, is_kept, pointer_among, pointer_lies}
 use Rattle.zio_disks.proofs.trees.read_members.Goals as goal
 
 pub read_block-requires-clause-lies : goal.read_block-requires-clause-lies
@@ -69,4 +70,14 @@ returns-in-None-clause-few g c =
     IfOk-weaker c.named.result _ _
     (λ (found : Result (List Bp) Errno) (is : found ≡ members_in (Ok c.read_block.new.buffer)).
     subst (λ r. IfOk r (λ ms. length ms ≤ 3)) (sym is) (few_members c.read_block.new.buffer))
+    c.named.ensures.ok
+
+pub returns-in-None-clause-kept : goal.returns-in-None-clause-kept
+returns-in-None-clause-kept g c =
+    let good : IsTrue (good_kept (kept_at c.args.tree.now.heads c.args.path.now) c.read_block.new.buffer) =
+    subst (λ k. IsTrue (good_kept k c.read_block.new.buffer)) c.head.ensures (c.in_ok-read.ensures.good c.in-None.is) in
+    IfOk-weaker c.named.result _ _
+    (λ (found : Result (List Bp) Errno) (is : found ≡ members_in (Ok c.read_block.new.buffer)).
+    subst (λ r. IfOk r (AreNamedAt c.args.tree.now.heads c.args.path.now)) (sym is)
+    (record { header = c.read_block.new.buffer; found = is_kept (kept_at c.args.tree.now.heads c.args.path.now) c.read_block.new.buffer good; named = refl }))
     c.named.ensures.ok

@@ -1,10 +1,10 @@
-//! Whole blocks over disks and a chooser of places: placed writes that become gangs where no run is free.
+//! Whole blocks over disks and a chooser of places: placed writes that become gangs where no run is free, and claims.
 //!
 //! It stands on the disks by number, on the space, and on the definitions of `zio_gang`. Read `Chooser` first: what gives
-//! places, of which `Space` is one. Then `place_block`, which does what the definition of its name says where the disks
+//! places, of which `Space` is one. Then `place_block` and `claim_block`, which do what the definitions say where the disks
 //! tell their images; whatever a disk tells and however a call ends, nothing changes outside the places that were free
-//! at the call. `specs/Choosers` says what a chooser holds, and `specs/Blocks` what a placed write
-//! asks for and leaves.
+//! at the call, and a claim changes nothing. `specs/Choosers` says what a chooser holds, `specs/Blocks` and `specs/Laid`
+//! what a placed write asks for and leaves, and `specs/Claims` what a claim does.
 #![tactic(auto)]
 
 mod chooser;

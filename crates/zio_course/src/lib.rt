@@ -14,10 +14,12 @@ mod awaited;
 mod batch;
 mod bound;
 mod enter;
+mod fold;
 mod forest;
 mod laws;
 mod lines;
 mod round;
+mod rounds;
 mod runner;
 mod suspended;
 #[cfg(test)]
@@ -32,14 +34,17 @@ pub use awaited::Awaited;
 pub use batch::{BatchEnd, run_batch};
 pub use bound::Bound;
 pub use enter::enter_round;
+pub use fold::{Batch, Fold, Tally, requests_in};
 pub use forest::trees_to_run;
 pub use laws::{
     a_batch_is_a_round_of_the_course, a_clear_is_a_round_of_the_course,
     a_round_leaves_runnable_trees, accepted_scripts_are_short, an_orderly_batch_is_ready,
     an_orderly_batch_is_runnable, bound_places_are_live, parents_wait_for_children,
+    suspended_trees_are_runnable,
     what_was_run_stays_run, whole_trees_are_admitted,
 };
 pub use round::{WholeRound, whole_round};
+pub use rounds::{batch_round, clear_round};
 pub use runner::{Finished, Job, RoundEnd, Runner, Stop};
 pub use suspended::{run_suspended, tell_suspended};
 pub use texts::{write_held, write_pool, write_round, write_text};

@@ -17,6 +17,7 @@ mod LeftLemmas
 mod LineLemmas
 mod LiveLemmas
 mod MadeLemmas
+mod MoveLemmas
 mod NameLemmas
 mod NextLemmas
 mod OverLemmas

@@ -7,6 +7,7 @@ pub mod Faults
 pub mod Folds
 pub mod Forests
 pub mod Live
+pub mod Moves
 pub mod Names
 pub mod Parents
 pub mod Runners

@@ -16,6 +16,7 @@ mod bound;
 mod enter;
 mod fold;
 mod forest;
+mod held;
 mod laws;
 mod lines;
 mod round;
@@ -36,6 +37,7 @@ pub use bound::Bound;
 pub use enter::enter_round;
 pub use fold::{Batch, Fold, Tally, requests_in};
 pub use forest::trees_to_run;
+pub use held::run_held;
 pub use laws::{
     a_batch_is_a_round_of_the_course, a_clear_is_a_round_of_the_course,
     a_round_leaves_runnable_trees, accepted_scripts_are_short, an_orderly_batch_is_ready,

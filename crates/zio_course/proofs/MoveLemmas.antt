@@ -1,0 +1,294 @@
+-- Steps of a run, one after another.
+use Rattle.std.proofs.Common.{◌≡◌, ℕ, suc, ◌+◌, ◌<◌, ◌≤◌, ◌^◌, List, [], ◌∷◌, ◌++◌, length, map, Bool, true, false, not, ◌||◌, refl, sym, ap, ◌∙◌, subst, inl, inr, ◌⊎◌, arith, append_assoc, length-append, Result, Ok, Err}
+use Rattle.std.specs.Prelude.{IfErr, IsErrAnd}
+use Rattle.std.specs.List.{AllByRecursion, flat_map}
+use Rattle.std.proofs.lemmas.List.{append-nil}
+use Rattle.zio_outside.specs.Outside.{Appends}
+use Rattle.zio_types.specs.declared.journal.Journal.{Journal}
+use Rattle.zio_types.specs.declared.place.Top.{Top}
+use Rattle.zio_types.specs.Choices.{Choice}
+use Rattle.zio_faults.specs.declared.table.Row.{Row}
+use Rattle.zio_script.specs.declared.script.Failmode.{Failmode}
+use Rattle.zio_script.specs.declared.script.Request.{Request}
+use Rattle.zio_script.specs.declared.script.Script.{Script}
+use Rattle.zio_script.specs.Accepted.{AreRising, IsOrderlyBatch}
+use Rattle.zio_cksum.specs.Images.{Images}
+use Rattle.zio_gang.specs.declared.tree.Tree.{Tree}
+use Rattle.zio_gang.specs.Attempts.{Pending}
+use Rattle.zio_gang.specs.Runs.{Batch, Course, Event, Plan, State, add_events, goes_on, has_trees, held_if, plan_of, quiet, run_batch, run_held, then_course}
+use Rattle.zio_cksum.proofs.AllLemmas.{all_append, all_weaker}
+use Rattle.zio_report.specs.declared.report.Line.{Line}
+use Rattle.zio_report.specs.declared.report.LineResult.{LineResult}
+use Rattle.zio_report.specs.declared.report.LineResult.TheVariants.{Suspended, Failed, Done, Sized, Bytes}
+use Rattle.zio_report.specs.declared.report.RunFault.{RunFault}
+use Rattle.zio_report.specs.declared.report.Show.{Show}
+use Rattle.zio_report.specs.Reports.{RunSize}
+use Rattle.zio_course.specs.Folds.{IsSteady, SeenFold, has_items, requests_in_all, waiting_by, waiting_of}
+use Rattle.zio_course.specs.Moves.{HeldRan, IsGoing, StepCut, StepRan, requests_held}
+use Rattle.zio_course.specs.Runners.{Standing, rows_tell_apart}
+use Rattle.zio_course.specs.SoFar.{Ahead, IsCourseAt, IsCut, IsCutText, coming}
+use Rattle.zio_course.proofs.CutLemmas.{Appends-none, written_then}
+use Rattle.zio_course.proofs.JoinLemmas.{rising_both, rising_join}
+use Rattle.zio_course.proofs.SoFarLemmas.{events_both}
+
+-- ---- the rest of a course
+
+pub course_assoc : (c : Course) (d e : State → Course) → then_course (then_course c d) e ≡ then_course c (λ st. then_course (d st) e)
+course_assoc c d e = events_both c.events (d c.state).events (e (d c.state).state)
+
+-- a course that goes on the same way
+pub course_same : (show : Show) (n : RunSize) (script : Script) (before : Images) (s : Standing) (f : SeenFold) (ahead : Ahead) (later : List (List Request)) (old : Journal) (images : Images) (printed : List ℕ) (rest other : Plan → State → Course)
+    → (h : IsCourseAt show n script before s f ahead later old images printed rest) → ((js : List Choice) → rest (plan_of script before js) h.state ≡ other (plan_of script before js) h.state)
+    → IsCourseAt show n script before s f ahead later old images printed other
+course_same show n script before s f ahead later old images printed rest other h same =
+    record {
+      events = h.events;
+      state = h.state;
+      reached = λ more than. h.reached more than ∙ ap (add_events h.events) (same (old.places ++ more));
+      entered = h.entered;
+      plan = h.plan;
+      at = h.at;
+      once = h.once;
+      held = h.held;
+      batch = h.batch;
+      batches = h.batches;
+      panicked = h.panicked;
+      images_are = h.images_are;
+      names_are = h.names_are;
+      good = h.good;
+      bad = h.bad;
+      read = h.read;
+      parents = h.parents;
+      up = h.up;
+      rising = h.rising;
+      among = h.among;
+      past = h.past;
+    }
+
+-- what a script has yet to run, or the resume point, changes between two rounds
+pub course_moved : (show : Show) (n : RunSize) (script : Script) (before : Images) (s : Standing) (f : SeenFold) (ahead : Ahead) (later : List (List Request)) (old : Journal) (images : Images) (printed : List ℕ) (rest other : Plan → State → Course)
+    (held : List Batch) (batch : List Request) (batches point : ℕ)
+    → (h : IsCourseAt show n script before s f ahead later old images printed rest)
+    → ((js : List Choice) → rest (plan_of script before js) h.state ≡ other (plan_of script before js) (record h.state { held = held; batch = batch; batches = batches; point = point }))
+    → IsCourseAt show n script before s (record f { point = point }) (record { held = held; batch = batch; batches = batches }) later old images printed other
+course_moved show n script before s f ahead later old images printed rest other held batch batches point h same =
+    record {
+      events = h.events;
+      state = record h.state { held = held; batch = batch; batches = batches; point = point };
+      reached = λ more than. h.reached more than ∙ ap (add_events h.events) (same (old.places ++ more));
+      at = record { names = h.at.names; used = h.at.used; suspended_is = h.at.suspended_is; rounds_is = h.at.rounds_is; point_is = refl; images_are = h.at.images_are };
+      held = refl;
+      batch = refl;
+      batches = refl;
+      entered = h.entered;
+      plan = h.plan;
+      once = h.once;
+      panicked = h.panicked;
+      images_are = h.images_are;
+      names_are = h.names_are;
+      good = h.good;
+      bad = h.bad;
+      read = h.read;
+      parents = h.parents;
+      up = h.up;
+      rising = h.rising;
+      among = h.among;
+      past = h.past;
+    }
+
+pub Appends-both : (a b c : List ℕ → Type 0) (xs ys : List ℕ) → Appends a b xs → Appends b c ys → Appends a c (xs ++ ys)
+Appends-both a b c xs ys h k held at = subst c (append_assoc held xs ys) (k (held ++ xs) (h held at))
+
+-- ---- held batches
+
+held_quiet : (plan : Plan) (held : List Batch) (st : State) → has_trees st.suspended ≡ true → run_held plan held st ≡ quiet (record st { held = held })
+unfolding run_held
+held_quiet plan [] st some = refl
+held_quiet plan (b ∷ held) st some = ap (λ (t : Bool). held_if t (b ∷ held) st (λ now. then_course (run_batch plan b now) (run_held plan held))) some
+
+none_held : (plan : Plan) (st : State) → run_held plan [] st ≡ quiet (record st { held = [] })
+unfolding run_held
+none_held plan st = refl
+
+held_first : (plan : Plan) (b : Batch) (held : List Batch) (st : State) → has_trees st.suspended ≡ false → run_held plan (b ∷ held) st ≡ then_course (run_batch plan b st) (run_held plan held)
+unfolding run_held
+held_first plan b held st none = ap (λ (t : Bool). held_if t (b ∷ held) st (λ now. then_course (run_batch plan b now) (run_held plan held))) none
+
+pub state_same : (st : State) (held : List Batch) (batch : List Request) (batches point : ℕ) → st.batch ≡ batch → st.batches ≡ batches → st.point ≡ point
+    → record st { held = held } ≡ record st { held = held; batch = batch; batches = batches; point = point }
+state_same st held batch batches point a b d =
+    ap (λ (x : List Request). record st { held = held; batch = x }) a
+    ∙ (ap (λ (x : ℕ). record st { held = held; batch = batch; batches = x }) b ∙ ap (λ (x : ℕ). record st { held = held; batch = batch; batches = batches; point = x }) d)
+
+-- the batches that are left stay held
+pub held_end : (show : Show) (n : RunSize) (script : Script) (before : Images) (s : Standing) (f : SeenFold) (ahead : Ahead) (later : List (List Request)) (old : Journal) (images : Images) (printed : List ℕ) (rest : Plan → State → Course) (held : List Batch)
+    → (has_trees f.suspended ≡ true) ⊎ (held ≡ [])
+    → IsCourseAt show n script before s f ahead later old images printed (λ plan st. then_course (run_held plan held st) (rest plan))
+    → IsCourseAt show n script before s f (record ahead { held = held }) later old images printed rest
+held_end show n script before s f ahead later old images printed rest held why h =
+    course_moved show n script before s f ahead later old images printed (λ plan st. then_course (run_held plan held st) (rest plan)) rest held ahead.batch ahead.batches f.point h
+    (λ js. ap (λ (c : Course). then_course c (rest (plan_of script before js))) (go (plan_of script before js) why)
+    ∙ ap (λ (st : State). rest (plan_of script before js) st) (state_same h.state held ahead.batch ahead.batches f.point h.batch h.batches h.at.point_is))
+  where
+    go : (plan : Plan) → (has_trees f.suspended ≡ true) ⊎ (held ≡ []) → run_held plan held h.state ≡ quiet (record h.state { held = held })
+    go plan (inl some) = held_quiet plan held h.state (ap has_trees h.at.suspended_is ∙ some)
+    go plan (inr none) = ap (λ (bs : List Batch). run_held plan bs h.state) none ∙ (none_held plan h.state ∙ ap (λ (bs : List Batch). quiet (record h.state { held = bs })) (sym none))
+
+-- the next one runs
+pub held_next : (show : Show) (n : RunSize) (script : Script) (before : Images) (s : Standing) (f : SeenFold) (ahead : Ahead) (later : List (List Request)) (old : Journal) (images : Images) (printed : List ℕ) (rest : Plan → State → Course) (b : Batch) (held : List Batch)
+    → has_trees f.suspended ≡ false
+    → IsCourseAt show n script before s f ahead later old images printed (λ plan st. then_course (run_held plan (b ∷ held) st) (rest plan))
+    → IsCourseAt show n script before s f ahead later old images printed (λ plan st. then_course (run_batch plan b st) (λ now. then_course (run_held plan held now) (rest plan)))
+held_next show n script before s f ahead later old images printed rest b held none h =
+    course_same show n script before s f ahead later old images printed (λ plan st. then_course (run_held plan (b ∷ held) st) (rest plan))
+    (λ plan st. then_course (run_batch plan b st) (λ now. then_course (run_held plan held now) (rest plan))) h
+    (λ js. ap (λ (c : Course). then_course c (rest (plan_of script before js))) (held_first (plan_of script before js) b held h.state (ap has_trees h.at.suspended_is ∙ none))
+    ∙ course_assoc (run_batch (plan_of script before js) b h.state) (run_held (plan_of script before js) held) (rest (plan_of script before js)))
+
+pub held_none : (show : Show) (failmode : Failmode) (s : Standing) (f : SeenFold) (held : List Batch) (old : Journal) (tells : Images → Type 0) (holds : List ℕ → Type 0) → HeldRan show failmode s s f f held held old old tells tells holds holds
+held_none show failmode s f held old tells holds n script before images ahead later printed rest mode orderly h told =
+    (images, [], subst (λ (text : List ℕ). IsCourseAt show n script before s f ahead (requests_held held ++ later) old images text (λ plan st. then_course (run_held plan held st) (rest plan))) (sym (append-nil printed)) h, told, Appends-none holds)
+
+pub held_more : (show : Show) (failmode : Failmode) (s mid now : Standing) (f m g : SeenFold) (held left : List Batch) (b : Batch) (old j new : Journal) (tells mid_tells new_tells : Images → Type 0) (holds mid_holds new_holds : List ℕ → Type 0)
+    → mid.rows ≡ s.rows → AllByRecursion (IsOrderlyBatch (rows_tell_apart s.rows)) (requests_held left) → has_trees m.suspended ≡ false
+    → HeldRan show failmode s mid f m held (b ∷ left) old j tells mid_tells holds mid_holds
+    → StepRan show failmode mid now m g (λ a. a) (b.requests ∷ []) [] j new mid_tells new_tells mid_holds new_holds (λ ahead plan st. run_batch plan b st)
+    → HeldRan show failmode s now f g held left old new tells new_tells holds new_holds
+held_more show failmode s mid now f m g held left b old j new tells mid_tells new_tells holds mid_holds new_holds rows orderly none so_far step n script before images ahead later printed rest mode orderly_later h told =
+    let first = so_far n script before images ahead later printed rest mode orderly_later h told in
+    let next = held_next show n script before mid m ahead (requests_held (b ∷ left) ++ later) j first.0 (printed ++ first.1) rest b left none first.2 in
+    let second = step n script before first.0 ahead (requests_held left ++ later) (printed ++ first.1) (λ plan st. then_course (run_held plan left st) (rest plan)) mode
+    (subst (λ (r : List Row). AllByRecursion (IsOrderlyBatch (rows_tell_apart r)) (requests_held left ++ later)) (sym rows) (all_append (IsOrderlyBatch (rows_tell_apart s.rows)) (requests_held left) later orderly orderly_later)) next first.3 in (
+      second.0,
+      first.1 ++ second.1,
+      subst (λ (text : List ℕ). IsCourseAt show n script before now g ahead (requests_held left ++ later) new second.0 text (λ plan st. then_course (run_held plan left st) (rest plan))) (append_assoc printed first.1 second.1) second.2,
+      second.3,
+      Appends-both holds mid_holds new_holds first.1 second.1 first.4 second.4,
+    )
+
+pub held_cut : (show : Show) (failmode : Failmode) (s mid : Standing) (f m : SeenFold) (held left : List Batch) (b : Batch) (old j new : Journal) (tells mid_tells new_tells : Images → Type 0) (holds mid_holds new_holds : List ℕ → Type 0) (fault : RunFault)
+    → mid.rows ≡ s.rows → mid.tops ≡ s.tops → AllByRecursion (IsOrderlyBatch (rows_tell_apart s.rows)) (requests_held left) → has_trees m.suspended ≡ false
+    → HeldRan show failmode s mid f m held (b ∷ left) old j tells mid_tells holds mid_holds
+    → StepCut show failmode mid m (b.requests ∷ []) j new mid_tells new_tells mid_holds new_holds (λ ahead plan st. run_batch plan b st) fault
+    → StepCut show failmode s f (requests_held held) old new tells new_tells holds new_holds (λ ahead plan st. run_held plan held st) fault
+held_cut show failmode s mid f m held left b old j new tells mid_tells new_tells holds mid_holds new_holds fault rows tops orderly none so_far step n script before images ahead later printed rest mode orderly_later h told =
+    let first = so_far n script before images ahead later printed rest mode orderly_later h told in
+    let next = held_next show n script before mid m ahead (requests_held (b ∷ left) ++ later) j first.0 (printed ++ first.1) rest b left none first.2 in
+    let second = step n script before first.0 ahead (requests_held left ++ later) (printed ++ first.1) (λ plan st. then_course (run_held plan left st) (rest plan)) mode
+    (subst (λ (r : List Row). AllByRecursion (IsOrderlyBatch (rows_tell_apart r)) (requests_held left ++ later)) (sym rows) (all_append (IsOrderlyBatch (rows_tell_apart s.rows)) (requests_held left) later orderly orderly_later)) next first.3 in (
+      second.0,
+      second.1,
+      subst (λ (t : List Top). IsCut show n script before t fault new second.0 second.1) tops second.2,
+      second.3,
+      written_then fault holds mid_holds new_holds printed first.1 second.1 first.4 second.4,
+    )
+
+-- ---- a run that can go on
+
+waits_all : (P : Request → Type 0) (rs : List Request) (ls : List Line) → AllByRecursion P rs → AllByRecursion P (waiting_of rs ls)
+waits_all P [] ls h = tt
+waits_all P (r ∷ rs) [] h = tt
+waits_all P (r ∷ rs) (l ∷ ls) h = all_append P (waiting_by l.result r) (waiting_of rs ls) (own l.result) (waits_all P rs ls h.1)
+  where
+    own : (x : LineResult) → AllByRecursion P (waiting_by x r)
+    own Suspended = (h.0, tt)
+    own (Failed e) = tt
+    own Done = tt
+    own (Sized n) = tt
+    own (Bytes bytes) = tt
+
+waits_rising : (rs : List Request) (ls : List Line) → AreRising rs → AreRising (waiting_of rs ls)
+waits_rising [] ls h = tt
+waits_rising (r ∷ rs) [] h = tt
+waits_rising (r ∷ rs) (l ∷ ls) h = own l.result (waits_all (λ (q : Request). r.number < q.number) rs ls h.0) (waits_rising rs ls h.1)
+  where
+    own : (x : LineResult) → AllByRecursion (λ (q : Request). r.number < q.number) (waiting_of rs ls) → AreRising (waiting_of rs ls) → AreRising (waiting_by x r ++ waiting_of rs ls)
+    own Suspended above rest = (above, rest)
+    own (Failed e) above rest = rest
+    own Done above rest = rest
+    own (Sized n) above rest = rest
+    own (Bytes bytes) above rest = rest
+
+-- of a round's requests those that wait are left
+pub rising_waits : (front own back : List Request) (ls : List Line) → AreRising (front ++ (own ++ back)) → AreRising ((front ++ waiting_of own ls) ++ back)
+rising_waits front own back ls up =
+    let outer = rising_both front (own ++ back) up in
+    let inner = rising_both own back outer.1 in
+    let some : List Request = waiting_of own ls in
+    let back_above : AllByRecursion (λ (x : Request). AllByRecursion (λ (y : Request). x.number < y.number) back) some = waits_all (λ (x : Request). AllByRecursion (λ (y : Request). x.number < y.number) back) own ls inner.2 in
+    subst AreRising (sym (append_assoc front some back))
+    (rising_join front (some ++ back) outer.0 (rising_join some back (waits_rising own ls inner.0) inner.1 back_above)
+    (all_weaker (λ (x : Request). AllByRecursion (λ (y : Request). x.number < y.number) (own ++ back)) (λ (x : Request). AllByRecursion (λ (y : Request). x.number < y.number) (some ++ back)) front
+    (λ x low. (let parts = all_parts_of (λ (y : Request). x.number < y.number) own back low in all_append (λ (y : Request). x.number < y.number) some back (waits_all (λ (y : Request). x.number < y.number) own ls parts.0) parts.1)) outer.2))
+  where
+    all_parts_of : (P : Request → Type 0) (xs ys : List Request) → AllByRecursion P (xs ++ ys) → AllByRecursion P xs × AllByRecursion P ys
+    all_parts_of P [] ys h = (tt, h)
+    all_parts_of P (x ∷ xs) ys h = let rest = all_parts_of P xs ys h.1 in ((h.0, rest.0), rest.1)
+
+-- after the round of the first held batch
+pub going_batch : (fits : Tree → Type 0) (s now : Standing) (rounds next : ℕ) (f g : SeenFold) (b : Batch) (held : List Batch) (later : List (List Request)) (spare : ℕ) (ls : List Line)
+    → IsGoing fits s rounds f (b ∷ held) later spare → IsSteady fits now next g → now.rows ≡ s.rows → next ≡ rounds + 1
+    → g.unfinished ≡ f.unfinished ++ waiting_of b.requests ls
+    → g.tally.good + g.tally.bad + length g.unfinished ≡ f.tally.good + f.tally.bad + length f.unfinished + length b.requests
+    → IsGoing fits now next g held later spare
+going_batch fits s now rounds next f g b held later spare ls going steady rows next_is unfinished_is few_is =
+    let back : List Request = requests_in_all (requests_held held ++ later) in
+    let a : length (f.unfinished ++ (b.requests ++ back)) ≡ length f.unfinished + length (b.requests ++ back) = length-append f.unfinished (b.requests ++ back) in
+    let d = length-append b.requests back in
+    let e = length-append g.unfinished back in
+    let most = going.few in
+    let fit = going.rounds_fit in
+    record {
+      steady = steady;
+      rising = subst (λ (us : List Request). AreRising (us ++ back)) (sym unfinished_is) (rising_waits f.unfinished b.requests back ls going.rising);
+      orderly = subst (λ (r : List Row). AllByRecursion (IsOrderlyBatch (rows_tell_apart r)) (requests_held held ++ later)) (sym rows) going.orderly.1;
+      numbers = going.numbers.1;
+      rounds_fit = omega arith;
+      few = omega arith;
+    }
+
+pub held_over : (show : Show) (failmode : Failmode) (s now : Standing) (f g : SeenFold) (held left : List Batch) (old new : Journal) (tells new_tells : Images → Type 0) (holds new_holds : List ℕ → Type 0)
+    → (has_trees g.suspended ≡ true) ⊎ (left ≡ [])
+    → HeldRan show failmode s now f g held left old new tells new_tells holds new_holds
+    → StepRan show failmode s now f g (λ ahead. record ahead { held = left }) (requests_held held) (requests_held left) old new tells new_tells holds new_holds (λ ahead plan st. run_held plan held st)
+held_over show failmode s now f g held left old new tells new_tells holds new_holds why ran n script before images ahead later printed rest mode orderly h told =
+    let x = ran n script before images ahead later printed rest mode orderly h told in
+    (x.0, x.1, held_end show n script before now g ahead (requests_held left ++ later) new x.0 (printed ++ x.1) rest left why x.2, x.3, x.4)
+
+pub not_empty : {T : Type 0} (r : Bool) (xs : List T) → (xs ≡ [] → r ≡ true) → r ≡ false → has_items xs ≡ true
+not_empty r [] h e = absurd (let no = sym e ∙ h refl in cc)
+not_empty r (x ∷ xs) h e = refl
+
+pub nil_of : {T : Type 0} (xs : List T) → length xs ≡ 0 → xs ≡ []
+nil_of [] h = refl
+nil_of (x ∷ xs) h = absurd (omega arith)
+
+pub by_same : (r : Result Unit RunFault) (fault : RunFault) (P : RunFault → Type 0) → IsErrAnd r (λ e. e ≡ fault) → P fault → IfErr r P
+by_same (Ok x) fault P is h = tt
+by_same (Err e) fault P is h = subst P (sym is) h
+
+pub first_two : (front own back : List Request) → AreRising (front ++ (own ++ back)) → AreRising (front ++ own)
+first_two front own back up =
+    let outer = rising_both front (own ++ back) up in
+    let inner = rising_both own back outer.1 in
+    rising_join front own outer.0 inner.0
+    (all_weaker (λ (x : Request). AllByRecursion (λ (y : Request). x.number < y.number) (own ++ back)) (λ (x : Request). AllByRecursion (λ (y : Request). x.number < y.number) own) front
+    (λ x low. front_all (λ (y : Request). x.number < y.number) own low) outer.2)
+  where
+    front_all : (P : Request → Type 0) (xs : List Request) → AllByRecursion P (xs ++ back) → AllByRecursion P xs
+    front_all P [] h = tt
+    front_all P (x ∷ xs) h = (h.0, front_all P xs h.1)
+
+pub first_fits : (rounds held spare : ℕ) → rounds + (suc held) + spare < 2 ^ 32 → rounds + 1 < 2 ^ 32
+first_fits rounds held spare h = omega arith
+
+pub first_few : (n : ℕ) (front own back : List Request) → n + length (front ++ (own ++ back)) < 2 ^ 32 → n + length own < 2 ^ 32
+first_few n front own back h = let a = length-append front (own ++ back) in let b = length-append own back in omega arith
+
+pub held_orderly : (fits : Tree → Type 0) (s mid : Standing) (rounds : ℕ) (f : SeenFold) (b : Batch) (held : List Batch) (later : List (List Request)) (spare : ℕ) → mid.rows ≡ s.rows → IsGoing fits mid rounds f (b ∷ held) later spare
+    → AllByRecursion (IsOrderlyBatch (rows_tell_apart s.rows)) (requests_held held)
+held_orderly fits s mid rounds f b held later spare rows h = front_of (requests_held held) (subst (λ (r : List Row). AllByRecursion (IsOrderlyBatch (rows_tell_apart r)) (requests_held held ++ later)) rows h.orderly.1)
+  where
+    front_of : (xs : List (List Request)) → AllByRecursion (IsOrderlyBatch (rows_tell_apart s.rows)) (xs ++ later) → AllByRecursion (IsOrderlyBatch (rows_tell_apart s.rows)) xs
+    front_of [] k = tt
+    front_of (x ∷ xs) k = (k.0, front_of xs k.1)

@@ -1,6 +1,6 @@
 -- Steps of a run, one after another.
 use Rattle.std.proofs.Common.{◌≡◌, ℕ, suc, ◌+◌, ◌<◌, ◌≤◌, ◌^◌, List, [], ◌∷◌, ◌++◌, length, map, Bool, true, false, not, ◌||◌, refl, sym, ap, ◌∙◌, subst, inl, inr, ◌⊎◌, arith, append_assoc, length-append, Result, Ok, Err}
-use Rattle.std.specs.Prelude.{IfErr, IsErrAnd}
+use Rattle.std.specs.Prelude.{IfErr, IsErrAnd, OnOk}
 use Rattle.std.specs.List.{AllByRecursion, flat_map}
 use Rattle.std.proofs.lemmas.List.{append-nil}
 use Rattle.zio_outside.specs.Outside.{Appends}
@@ -15,7 +15,7 @@ use Rattle.zio_script.specs.Accepted.{AreRising, IsOrderlyBatch}
 use Rattle.zio_cksum.specs.Images.{Images}
 use Rattle.zio_gang.specs.declared.tree.Tree.{Tree}
 use Rattle.zio_gang.specs.Attempts.{Pending}
-use Rattle.zio_gang.specs.Runs.{Batch, Course, Event, Plan, State, add_events, goes_on, has_trees, held_if, plan_of, quiet, run_batch, run_held, then_course}
+use Rattle.zio_gang.specs.Runs.{Batch, Course, Event, Plan, State, add_events, clear_if, clear_line, goes_on, has_trees, held_after, held_if, plan_of, quiet, run_batch, run_held, run_suspended, then_course}
 use Rattle.zio_cksum.proofs.AllLemmas.{all_append, all_weaker}
 use Rattle.zio_report.specs.declared.report.Line.{Line}
 use Rattle.zio_report.specs.declared.report.LineResult.{LineResult}
@@ -24,7 +24,7 @@ use Rattle.zio_report.specs.declared.report.RunFault.{RunFault}
 use Rattle.zio_report.specs.declared.report.Show.{Show}
 use Rattle.zio_report.specs.Reports.{RunSize}
 use Rattle.zio_course.specs.Folds.{IsSteady, SeenFold, has_items, requests_in_all, waiting_by, waiting_of}
-use Rattle.zio_course.specs.Moves.{HeldRan, IsGoing, StepCut, StepRan, requests_held}
+use Rattle.zio_course.specs.Moves.{HeldRan, IsGoing, LineCut, LineRan, StepCut, StepRan, requests_held}
 use Rattle.zio_course.specs.Runners.{Standing, rows_tell_apart}
 use Rattle.zio_course.specs.SoFar.{Ahead, IsCourseAt, IsCut, IsCutText, coming}
 use Rattle.zio_course.proofs.CutLemmas.{Appends-none, written_then}
@@ -292,3 +292,163 @@ held_orderly fits s mid rounds f b held later spare rows h = front_of (requests_
     front_of : (xs : List (List Request)) → AllByRecursion (IsOrderlyBatch (rows_tell_apart s.rows)) (xs ++ later) → AllByRecursion (IsOrderlyBatch (rows_tell_apart s.rows)) xs
     front_of [] k = tt
     front_of (x ∷ xs) k = (k.0, front_of xs k.1)
+
+-- ---- a clear
+
+clear_quiet : (plan : Plan) (st : State) (rest : State → Course) → has_trees st.suspended ≡ false → then_course (clear_if (has_trees st.suspended) plan st) rest ≡ rest st
+clear_quiet plan st rest none = ap (λ (b : Bool). then_course (clear_if b plan st) rest) none
+
+clear_runs : (plan : Plan) (st : State) (rest : State → Course) → has_trees st.suspended ≡ true → then_course (clear_if (has_trees st.suspended) plan st) rest ≡ then_course (run_suspended plan st) rest
+clear_runs plan st rest some = ap (λ (b : Bool). then_course (clear_if b plan st) rest) some
+
+pub waiting_none : (show : Show) (failmode : Failmode) (s : Standing) (f : SeenFold) (old : Journal) (tells : Images → Type 0) (holds : List ℕ → Type 0) → has_trees f.suspended ≡ false
+    → StepRan show failmode s s f f (λ a. a) [] [] old old tells tells holds holds (λ ahead plan st. clear_if (has_trees st.suspended) plan st)
+waiting_none show failmode s f old tells holds none n script before images ahead later printed rest mode orderly h told = (
+  images,
+  [],
+  subst (λ (text : List ℕ). IsCourseAt show n script before s f ahead later old images text rest) (sym (append-nil printed))
+      (course_same show n script before s f ahead later old images printed (λ plan st. then_course (clear_if (has_trees st.suspended) plan st) (rest plan)) rest h
+      (λ js. clear_quiet (plan_of script before js) h.state (rest (plan_of script before js)) (ap has_trees h.at.suspended_is ∙ none))),
+  told,
+  Appends-none holds,
+)
+
+pub waiting_some : (show : Show) (failmode : Failmode) (s now : Standing) (f g : SeenFold) (old new : Journal) (tells new_tells : Images → Type 0) (holds new_holds : List ℕ → Type 0) → has_trees f.suspended ≡ true
+    → StepRan show failmode s now f g (λ a. a) [] [] old new tells new_tells holds new_holds (λ ahead plan st. run_suspended plan st)
+    → StepRan show failmode s now f g (λ a. a) [] [] old new tells new_tells holds new_holds (λ ahead plan st. clear_if (has_trees st.suspended) plan st)
+waiting_some show failmode s now f g old new tells new_tells holds new_holds some step n script before images ahead later printed rest mode orderly h told =
+    step n script before images ahead later printed rest mode orderly
+    (course_same show n script before s f ahead later old images printed (λ plan st. then_course (clear_if (has_trees st.suspended) plan st) (rest plan)) (λ plan st. then_course (run_suspended plan st) (rest plan)) h
+    (λ js. clear_runs (plan_of script before js) h.state (rest (plan_of script before js)) (ap has_trees h.at.suspended_is ∙ some))) told
+
+pub waiting_cut : (show : Show) (failmode : Failmode) (s : Standing) (f : SeenFold) (old new : Journal) (tells new_tells : Images → Type 0) (holds new_holds : List ℕ → Type 0) (fault : RunFault) → has_trees f.suspended ≡ true
+    → StepCut show failmode s f [] old new tells new_tells holds new_holds (λ ahead plan st. run_suspended plan st) fault
+    → StepCut show failmode s f [] old new tells new_tells holds new_holds (λ ahead plan st. clear_if (has_trees st.suspended) plan st) fault
+waiting_cut show failmode s f old new tells new_tells holds new_holds fault some step n script before images ahead later printed rest mode orderly h told =
+    step n script before images ahead later printed rest mode orderly
+    (course_same show n script before s f ahead later old images printed (λ plan st. then_course (clear_if (has_trees st.suspended) plan st) (rest plan)) (λ plan st. then_course (run_suspended plan st) (rest plan)) h
+    (λ js. clear_runs (plan_of script before js) h.state (rest (plan_of script before js)) (ap has_trees h.at.suspended_is ∙ some))) told
+
+pub going_less : (fits : Tree → Type 0) (s : Standing) (rounds : ℕ) (f : SeenFold) (held : List Batch) (later : List (List Request)) (spare : ℕ) → IsGoing fits s rounds f held later (spare + 1) → IsGoing fits s rounds f held later spare
+going_less fits s rounds f held later spare h = record { steady = h.steady; rising = h.rising; orderly = h.orderly; numbers = h.numbers; rounds_fit = let fit = h.rounds_fit in omega arith; few = h.few }
+
+pub going_clear : (fits : Tree → Type 0) (s now : Standing) (rounds next : ℕ) (f g : SeenFold) (held : List Batch) (later : List (List Request)) (spare : ℕ) (ls : List Line)
+    → IsGoing fits s rounds f held later (spare + 1) → IsSteady fits now next g → now.rows ≡ s.rows → next ≡ rounds + 1
+    → g.unfinished ≡ waiting_of f.unfinished ls
+    → g.tally.good + g.tally.bad + length g.unfinished ≡ f.tally.good + f.tally.bad + length f.unfinished
+    → IsGoing fits now next g held later spare
+going_clear fits s now rounds next f g held later spare ls going steady rows next_is unfinished_is few_is =
+    let back : List Request = requests_in_all (requests_held held ++ later) in
+    let none : List Request = [] in
+    let a = length-append f.unfinished back in
+    let e = length-append g.unfinished back in
+    let most = going.few in
+    let fit = going.rounds_fit in
+    record {
+      steady = steady;
+      rising = subst (λ (us : List Request). AreRising (us ++ back)) (sym unfinished_is) (rising_waits none f.unfinished back ls going.rising);
+      orderly = subst (λ (r : List Row). AllByRecursion (IsOrderlyBatch (rows_tell_apart r)) (requests_held held ++ later)) (sym rows) going.orderly;
+      numbers = going.numbers;
+      rounds_fit = omega arith;
+      few = omega arith;
+    }
+
+-- the resume point rises
+pub going_raised : (fits : Tree → Type 0) (s : Standing) (rounds : ℕ) (f : SeenFold) (held : List Batch) (later : List (List Request)) (spare point : ℕ) → IsGoing fits s rounds f held later spare → IsGoing fits s rounds (record f { point = point }) held later spare
+going_raised fits s rounds f held later spare point h = record {
+  steady = record { fits_all = h.steady.fits_all; live = h.steady.live; waits = h.steady.waits; awaited = h.steady.awaited; runs = h.steady.runs; last = h.steady.last; sums = h.steady.sums };
+  rising = h.rising;
+  orderly = h.orderly;
+  numbers = h.numbers;
+  rounds_fit = h.rounds_fit;
+  few = h.few;
+}
+
+state_raised : (st : State) (held : List Batch) (batch : List Request) (batches point : ℕ) → st.held ≡ held → st.batch ≡ batch → st.batches ≡ batches → st.point ≡ point
+    → record st { point = st.point + 1 } ≡ record st { held = held; batch = batch; batches = batches; point = point + 1 }
+state_raised st held batch batches point a b d e =
+    ap (λ (x : List Batch). record st { held = x; point = st.point + 1 }) a
+    ∙ (ap (λ (x : List Request). record st { held = held; batch = x; point = st.point + 1 }) b
+    ∙ (ap (λ (x : ℕ). record st { held = held; batch = batch; batches = x; point = st.point + 1 }) d
+    ∙ ap (λ (x : ℕ). record st { held = held; batch = batch; batches = batches; point = x + 1 }) e))
+
+-- the suspended trees are next, and then the held batches
+pub clear_first : (show : Show) (n : RunSize) (script : Script) (before : Images) (s : Standing) (f : SeenFold) (ahead : Ahead) (later : List (List Request)) (old : Journal) (images : Images) (printed : List ℕ) (rest : Plan → State → Course)
+    → IsCourseAt show n script before s f ahead later old images printed (λ plan st. then_course (clear_line plan st) (rest plan))
+    → IsCourseAt show n script before s (record f { point = f.point + 1 }) ahead later old images printed (λ plan st. then_course (clear_if (has_trees st.suspended) plan st) (λ now. then_course (run_held plan now.held now) (rest plan)))
+clear_first show n script before s f ahead later old images printed rest h =
+    course_moved show n script before s f ahead later old images printed (λ plan st. then_course (clear_line plan st) (rest plan))
+    (λ plan st. then_course (clear_if (has_trees st.suspended) plan st) (λ now. then_course (run_held plan now.held now) (rest plan))) ahead.held ahead.batch ahead.batches (f.point + 1) h
+    (λ js. course_assoc (clear_if (has_trees h.state.suspended) (plan_of script before js) (record h.state { point = h.state.point + 1 })) (held_after (plan_of script before js)) (rest (plan_of script before js))
+    ∙ ap (λ (st : State). then_course (clear_if (has_trees h.state.suspended) (plan_of script before js) st) (λ now. then_course (run_held (plan_of script before js) now.held now) (rest (plan_of script before js))))
+    (state_raised h.state ahead.held ahead.batch ahead.batches f.point h.held h.batch h.batches h.at.point_is))
+
+pub held_are : (show : Show) (n : RunSize) (script : Script) (before : Images) (s : Standing) (f : SeenFold) (ahead : Ahead) (later : List (List Request)) (old : Journal) (images : Images) (printed : List ℕ) (rest : Plan → State → Course)
+    → IsCourseAt show n script before s f ahead later old images printed (λ plan st. then_course (run_held plan st.held st) (rest plan))
+    → IsCourseAt show n script before s f ahead later old images printed (λ plan st. then_course (run_held plan ahead.held st) (rest plan))
+held_are show n script before s f ahead later old images printed rest h =
+    course_same show n script before s f ahead later old images printed (λ plan st. then_course (run_held plan st.held st) (rest plan)) (λ plan st. then_course (run_held plan ahead.held st) (rest plan)) h
+    (λ js. ap (λ (bs : List Batch). then_course (run_held (plan_of script before js) bs h.state) (rest (plan_of script before js))) h.held)
+
+pub line_clear : (show : Show) (failmode : Failmode) (s mid now : Standing) (f m g : SeenFold) (held left : List Batch) (batch : List Request) (batches : ℕ) (old j new : Journal) (tells mid_tells new_tells : Images → Type 0) (holds mid_holds new_holds : List ℕ → Type 0)
+    → mid.rows ≡ s.rows → AllByRecursion (IsOrderlyBatch (rows_tell_apart s.rows)) (requests_held held)
+    → StepRan show failmode s mid (record f { point = f.point + 1 }) m (λ a. a) [] [] old j tells mid_tells holds mid_holds (λ ahead plan st. clear_if (has_trees st.suspended) plan st)
+    → StepRan show failmode mid now m g (λ ahead. record ahead { held = left }) (requests_held held) (requests_held left) j new mid_tells new_tells mid_holds new_holds (λ ahead plan st. run_held plan held st)
+    → LineRan show failmode s now f g (record { held = held; batch = batch; batches = batches }) (record { held = left; batch = batch; batches = batches }) (requests_held held) (requests_held left)
+    old new tells new_tells holds new_holds clear_line
+line_clear show failmode s mid now f m g held left batch batches old j new tells mid_tells new_tells holds mid_holds new_holds rows orderly waiting runs n script before images later printed rest mode orderly_later h told =
+    let ahead : Ahead = record { held = held; batch = batch; batches = batches } in
+    let first = waiting n script before images ahead (requests_held held ++ later) printed (λ plan st. then_course (run_held plan st.held st) (rest plan)) mode
+    (all_append (IsOrderlyBatch (rows_tell_apart s.rows)) (requests_held held) later orderly orderly_later)
+    (clear_first show n script before s f ahead (requests_held held ++ later) old images printed rest h) told in
+    let second = runs n script before first.0 ahead later (printed ++ first.1) rest mode (subst (λ (r : List Row). AllByRecursion (IsOrderlyBatch (rows_tell_apart r)) later) (sym rows) orderly_later)
+    (held_are show n script before mid m ahead (requests_held held ++ later) j first.0 (printed ++ first.1) rest first.2) first.3 in (
+      second.0,
+      first.1 ++ second.1,
+      subst (λ (text : List ℕ). IsCourseAt show n script before now g (record ahead { held = left }) (requests_held left ++ later) new second.0 text rest) (append_assoc printed first.1 second.1) second.2,
+      second.3,
+      Appends-both holds mid_holds new_holds first.1 second.1 first.4 second.4,
+    )
+
+pub line_clear_cut : (show : Show) (failmode : Failmode) (s mid : Standing) (f m : SeenFold) (held : List Batch) (batch : List Request) (batches : ℕ) (old j new : Journal) (tells mid_tells new_tells : Images → Type 0) (holds mid_holds new_holds : List ℕ → Type 0) (fault : RunFault)
+    → mid.rows ≡ s.rows → mid.tops ≡ s.tops → AllByRecursion (IsOrderlyBatch (rows_tell_apart s.rows)) (requests_held held)
+    → StepRan show failmode s mid (record f { point = f.point + 1 }) m (λ a. a) [] [] old j tells mid_tells holds mid_holds (λ ahead plan st. clear_if (has_trees st.suspended) plan st)
+    → StepCut show failmode mid m (requests_held held) j new mid_tells new_tells mid_holds new_holds (λ ahead plan st. run_held plan held st) fault
+    → LineCut show failmode s f (record { held = held; batch = batch; batches = batches }) (requests_held held) old new tells new_tells holds new_holds clear_line fault
+line_clear_cut show failmode s mid f m held batch batches old j new tells mid_tells new_tells holds mid_holds new_holds fault rows tops orderly waiting runs n script before images later printed rest mode orderly_later h told =
+    let ahead : Ahead = record { held = held; batch = batch; batches = batches } in
+    let first = waiting n script before images ahead (requests_held held ++ later) printed (λ plan st. then_course (run_held plan st.held st) (rest plan)) mode
+    (all_append (IsOrderlyBatch (rows_tell_apart s.rows)) (requests_held held) later orderly orderly_later)
+    (clear_first show n script before s f ahead (requests_held held ++ later) old images printed rest h) told in
+    let second = runs n script before first.0 ahead later (printed ++ first.1) rest mode (subst (λ (r : List Row). AllByRecursion (IsOrderlyBatch (rows_tell_apart r)) later) (sym rows) orderly_later)
+    (held_are show n script before mid m ahead (requests_held held ++ later) j first.0 (printed ++ first.1) rest first.2) first.3 in (
+      second.0,
+      second.1,
+      subst (λ (t : List Top). IsCut show n script before t fault new second.0 second.1) tops second.2,
+      second.3,
+      written_then fault holds mid_holds new_holds printed first.1 second.1 first.4 second.4,
+    )
+
+pub line_waiting_cut : (show : Show) (failmode : Failmode) (s : Standing) (f : SeenFold) (held : List Batch) (batch : List Request) (batches : ℕ) (old new : Journal) (tells new_tells : Images → Type 0) (holds new_holds : List ℕ → Type 0) (fault : RunFault)
+    → AllByRecursion (IsOrderlyBatch (rows_tell_apart s.rows)) (requests_held held)
+    → StepCut show failmode s (record f { point = f.point + 1 }) [] old new tells new_tells holds new_holds (λ ahead plan st. clear_if (has_trees st.suspended) plan st) fault
+    → LineCut show failmode s f (record { held = held; batch = batch; batches = batches }) (requests_held held) old new tells new_tells holds new_holds clear_line fault
+line_waiting_cut show failmode s f held batch batches old new tells new_tells holds new_holds fault orderly waiting n script before images later printed rest mode orderly_later h told =
+    waiting n script before images (record { held = held; batch = batch; batches = batches }) (requests_held held ++ later) printed (λ plan st. then_course (run_held plan st.held st) (rest plan)) mode
+    (all_append (IsOrderlyBatch (rows_tell_apart s.rows)) (requests_held held) later orderly orderly_later)
+    (clear_first show n script before s f (record { held = held; batch = batch; batches = batches }) (requests_held held ++ later) old images printed rest h) told
+
+pub all_held : (fits : Tree → Type 0) (s : Standing) (rounds : ℕ) (f : SeenFold) (held : List Batch) (later : List (List Request)) (spare : ℕ) → IsGoing fits s rounds f held later spare → AllByRecursion (IsOrderlyBatch (rows_tell_apart s.rows)) (requests_held held)
+all_held fits s rounds f held later spare h = front_of (requests_held held) h.orderly
+  where
+    front_of : (xs : List (List Request)) → AllByRecursion (IsOrderlyBatch (rows_tell_apart s.rows)) (xs ++ later) → AllByRecursion (IsOrderlyBatch (rows_tell_apart s.rows)) xs
+    front_of [] k = tt
+    front_of (x ∷ xs) k = (k.0, front_of xs k.1)
+
+pub ok_step : (r : Result Unit RunFault) (A B : Type 0) → (A → B) → OnOk r A → OnOk r B
+ok_step (Ok x) A B k h = k h
+ok_step (Err e) A B k h = tt
+
+pub err_step : (r : Result Unit RunFault) (P Q : RunFault → Type 0) → ((e : RunFault) → P e → Q e) → IfErr r P → IfErr r Q
+err_step (Ok x) P Q k h = tt
+err_step (Err e) P Q k h = k e h

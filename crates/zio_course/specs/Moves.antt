@@ -1,5 +1,5 @@
 -- Steps of a run: what a call does to it, wherever in its course it was.
-use Rattle.std.specs.Prelude.{◌≡◌, ℕ, ◌+◌, ◌<◌, ◌≤◌, ◌^◌, List, ◌++◌, length, map}
+use Rattle.std.specs.Prelude.{◌≡◌, ℕ, ◌+◌, ◌<◌, ◌≤◌, ◌^◌, List, [], ◌++◌, length, map, true, not, ◌||◌}
 use Rattle.std.specs.List.{AllByRecursion}
 use Rattle.zio_outside.specs.Outside.{Appends}
 use Rattle.zio_types.specs.declared.journal.Journal.{Journal}
@@ -9,7 +9,8 @@ use Rattle.zio_script.specs.declared.script.Script.{Script}
 use Rattle.zio_script.specs.Accepted.{AreRising, IsOrderlyBatch}
 use Rattle.zio_cksum.specs.Images.{Images}
 use Rattle.zio_gang.specs.declared.tree.Tree.{Tree}
-use Rattle.zio_gang.specs.Runs.{Batch, Course, Plan, State, run_held, then_course}
+use Rattle.zio_gang.specs.Attempts.{Pending}
+use Rattle.zio_gang.specs.Runs.{Batch, Course, Plan, State, goes_on, has_trees, run_held, then_course}
 use Rattle.zio_report.specs.declared.report.RunFault.{RunFault}
 use Rattle.zio_report.specs.declared.report.Show.{Show}
 use Rattle.zio_report.specs.Reports.{RunSize}
@@ -62,3 +63,28 @@ HeldRan show failmode s now f g held left old new tells new_tells holds new_hold
     → tells images → (after : Images) × (more : List ℕ)
     × IsCourseAt show n script before now g ahead (requests_held left ++ later) new after (printed ++ more) (λ plan st. then_course (run_held plan left st) (rest plan))
     × new_tells after × Appends holds new_holds more
+
+-- Where the course is before this line of the script, with this ahead of it, it is behind it afterwards, with that ahead of it.
+abbrev pub LineRan : Show → Failmode → Standing → Standing → SeenFold → SeenFold → Ahead → Ahead → List (List Request) → List (List Request) → Journal → Journal → (Images → Type 0) → (Images → Type 0)
+    → (List ℕ → Type 0) → (List ℕ → Type 0) → (Plan → State → Course) → Type 0
+LineRan show failmode s now f g ahead to own kept old new tells new_tells holds new_holds step =
+    (n : RunSize) (script : Script) (before images : Images) (later : List (List Request)) (printed : List ℕ) (rest : Plan → State → Course) →
+    script.failmode ≡ failmode → AllByRecursion (IsOrderlyBatch (rows_tell_apart s.rows)) later
+    → IsCourseAt show n script before s f ahead (own ++ later) old images printed (λ plan st. then_course (step plan st) (rest plan))
+    → tells images → (after : Images) × (more : List ℕ)
+    × IsCourseAt show n script before now g to (kept ++ later) new after (printed ++ more) rest
+    × new_tells after × Appends holds new_holds more
+
+-- the same where it was cut short
+abbrev pub LineCut : Show → Failmode → Standing → SeenFold → Ahead → List (List Request) → Journal → Journal → (Images → Type 0) → (Images → Type 0)
+    → (List ℕ → Type 0) → (List ℕ → Type 0) → (Plan → State → Course) → RunFault → Type 0
+LineCut show failmode s f ahead own old new tells new_tells holds new_holds step fault =
+    (n : RunSize) (script : Script) (before images : Images) (later : List (List Request)) (printed : List ℕ) (rest : Plan → State → Course) →
+    script.failmode ≡ failmode → AllByRecursion (IsOrderlyBatch (rows_tell_apart s.rows)) later
+    → IsCourseAt show n script before s f ahead (own ++ later) old images printed (λ plan st. then_course (step plan st) (rest plan))
+    → tells images → (after : Images) × (text : List ℕ)
+    × IsCut show n script before s.tops fault new after text × new_tells after × IsCutText fault holds new_holds printed text
+
+-- nothing is held where batches run
+abbrev pub HeldWaits : Failmode → List (List Pending) → List Batch → Type 0
+HeldWaits failmode suspended held = (not (has_trees suspended) || goes_on failmode) ≡ true → held ≡ []

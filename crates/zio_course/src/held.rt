@@ -1,10 +1,10 @@
 //! Batches that are held until nothing is suspended.
 
-ghost use Rattle.std.specs.Prelude.{◌≡◌, ◌∷◌, ◌++◌, [], ℕ, List, IfErr, IsErrOf, OnOk, map};
+ghost use Rattle.std.specs.Prelude.{◌≡◌, ◌≤◌, ◌⊎◌, [], ℕ, List, IfErr, IsErrOf, OnOk, length, true};
 ghost use Rattle.zio_outside.specs.Outside.{Rose};
 ghost use Rattle.zio_script.specs.declared.script.Request.{Request};
 ghost use Rattle.zio_gang.specs.Runs.{run_held as run_held_by};
-ghost use Rattle.zio_course.specs.Folds.{batches_seen, fold_seen};
+ghost use Rattle.zio_course.specs.Folds.{batches_seen, fold_seen, has_items};
 ghost use Rattle.zio_course.specs.Moves.{IsGoing, StepCut, StepRan, requests_held};
 ghost use Rattle.zio_course.specs.Runners.{AnyRose};
 
@@ -37,6 +37,8 @@ pub fn run_held<'a, R: Runner, O: Sink>(
         journal.old journal.new (R.tells runner.old) (R.tells runner.new) (O.holds out.old) (O.holds out.new) (λ ahead plan st. run_held_by plan (batches_seen held.old.items) st)) }
     ensures going { OnOk result ((later : List (List Request)) (spare : ℕ) → IsGoing R.fits (R.standing runner.old) journal.old.rounds (fold_seen R.pending fold.old) (batches_seen held.old.items) later spare
         → IsGoing R.fits (R.standing runner.new) journal.new.rounds (fold_seen R.pending fold.new) (batches_seen held.new.items) later spare) }
+    ensures over { OnOk result ((has_items fold.new.suspended ≡ true) ⊎ (held.new.items ≡ [])) }
+    ensures less { length held.new.items ≤ length held.old.items }
     ensures tops { (R.standing runner.new).tops ≡ (R.standing runner.old).tops }
     ensures rows { (R.standing runner.new).rows ≡ (R.standing runner.old).rows }
     ensures point { fold.new.point ≡ fold.old.point }

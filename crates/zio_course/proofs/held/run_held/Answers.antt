@@ -1,4 +1,4 @@
-use Rattle.std.proofs.Common.{◌≡◌, ℕ, ◌+◌, ◌<◌, ◌≤◌, List, [], ◌∷◌, ◌++◌, length, map, Bor, true, false, refl, sym, ap, subst, ◌∙◌, inl, inr, arith, length-append}
+use Rattle.std.proofs.Common.{◌≡◌, ℕ, suc, ◌+◌, ◌<◌, ◌≤◌, List, [], ◌∷◌, ◌++◌, length, map, Bor, true, false, refl, sym, ap, subst, ◌∙◌, inl, inr, arith, length-append}
 use Rattle.zio_script.specs.declared.script.Request.{Request}
 use Rattle.zio_script.specs.Requests.{requests_of}
 use Rattle.zio_gang.specs.Runs.{Batch as DefinedBatch, has_trees}
@@ -15,6 +15,7 @@ pub loop-alloc-init : goal.loop-alloc-init
 loop-alloc-init g c = record {
   going = λ later spare h. h;
   ran = held_none c.args.show.now c.args.failmode (g.R.Runner.standing c.args.runner.now) (fold_seen g.R.Runner.pending c.args.fold.now) (batches_seen c.args.held.now.items) c.args.journal.now (g.R.Runner.tells c.args.runner.now) (g.O.Sink.holds c.args.out.now);
+  less = omega arith;
   tops = refl;
   rows = refl;
   point = refl;
@@ -84,6 +85,7 @@ loop-alloc-preserved g c =
           (held_orderly g.R.Runner.fits (g.R.Runner.standing c.args.runner.now) s c.loop-alloc.journal.rounds f (batch_seen b) (batches_seen left) c.requires.0 c.requires.1 i.rows (going c.requires.0 c.requires.1 c.requires.2)) none
           (subst (λ (bs : List Batch). HeldRan c.args.show.now c.args.failmode (g.R.Runner.standing c.args.runner.now) s (fold_seen g.R.Runner.pending c.args.fold.now) f (batches_seen c.args.held.now.items) (batches_seen bs)
           c.args.journal.now c.loop-alloc.journal (g.R.Runner.tells c.args.runner.now) (g.R.Runner.tells c.loop-alloc.runner) (g.O.Sink.holds c.args.out.now) (g.O.Sink.holds c.loop-alloc.out)) c.in-Some.ensures.items i.ran) did.ran;
+      less = let a = i.less in let e : length c.loop-alloc.held.items ≡ suc (length left) = ap length c.in-Some.ensures.items in omega arith;
       tops = did.tops ∙ i.tops;
       rows = did.rows ∙ i.rows;
       point = did.point ∙ i.point;
@@ -129,3 +131,9 @@ pub returns-in_default-clause-going : goal.returns-in_default-clause-going
 returns-in_default-clause-going g c later spare h =
     subst (λ (bs : List Batch). IsGoing g.R.Runner.fits (g.R.Runner.standing c.loop-alloc.runner) c.loop-alloc.journal.rounds (fold_seen g.R.Runner.pending c.loop-alloc.fold) (batches_seen bs) later spare) c.in_default.ensures.items
     (c.loop-alloc.invariant.going later spare h)
+
+pub returns-after-loop-alloc-clause-over : goal.returns-after-loop-alloc-clause-over
+returns-after-loop-alloc-clause-over g c = inl (not_empty c.is_empty.result c.loop-alloc.fold.suspended c.is_empty.ensures.1 c.loop-alloc-test.false)
+
+pub returns-in_default-clause-over : goal.returns-in_default-clause-over
+returns-in_default-clause-over g c = inr (nil_of c.pop_front.new.self.items (omega (arith, c.pop_front.new.self.ok.0, c.in_default.ensures.cases.1)))

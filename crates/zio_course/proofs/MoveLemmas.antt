@@ -1,6 +1,6 @@
 -- Steps of a run, one after another.
-use Rattle.std.proofs.Common.{◌≡◌, ℕ, suc, ◌+◌, ◌<◌, ◌≤◌, ◌^◌, List, [], ◌∷◌, ◌++◌, length, map, Bool, true, false, not, ◌||◌, refl, sym, ap, ◌∙◌, subst, inl, inr, ◌⊎◌, arith, append_assoc, length-append, Result, Ok, Err}
-use Rattle.std.specs.Prelude.{IfErr, IsErrAnd, OnOk}
+use Rattle.std.proofs.Common.{◌≡◌, ℕ, suc, ◌+◌, ◌<◌, ◌≤◌, ◌^◌, List, [], ◌∷◌, ◌++◌, length, map, filter, Bool, true, false, not, ◌||◌, refl, sym, ap, ◌∙◌, subst, inl, inr, ◌⊎◌, arith, append_assoc, length-append, Result, Ok, Err}
+use Rattle.std.specs.Prelude.{IfErr, IsErrAnd, OnOk, is_none, is_some, sum_by}
 use Rattle.std.specs.List.{AllByRecursion, flat_map}
 use Rattle.std.proofs.lemmas.List.{append-nil}
 use Rattle.zio_outside.specs.Outside.{Appends}
@@ -14,22 +14,26 @@ use Rattle.zio_script.specs.declared.script.Script.{Script}
 use Rattle.zio_script.specs.Accepted.{AreRising, IsOrderlyBatch}
 use Rattle.zio_cksum.specs.Images.{Images}
 use Rattle.zio_gang.specs.declared.tree.Tree.{Tree}
-use Rattle.zio_gang.specs.Attempts.{Pending}
-use Rattle.zio_gang.specs.Runs.{Batch, Course, Event, Plan, State, add_events, clear_if, clear_line, goes_on, has_trees, held_after, held_if, plan_of, quiet, run_batch, run_held, run_suspended, then_course}
+use Rattle.zio_gang.specs.Attempts.{Ended, Pending}
+use Rattle.zio_gang.specs.Runs.Event.{HeldBatch}
+use Rattle.zio_gang.specs.Trees.{sizes_of}
+use Rattle.zio_script.specs.Requests.{requests_of}
+use Rattle.zio_course.specs.Course.{shown_of}
+use Rattle.zio_gang.specs.Runs.{Batch, Course, Event, Plan, State, add_events, Round, clear_if, clear_line, go_if, go_line, goes_on, has_trees, held_batch, held_after, held_if, plan_of, quiet, rounds_of, run_batch, run_held, run_suspended, then_course}
 use Rattle.zio_cksum.proofs.AllLemmas.{all_append, all_weaker}
 use Rattle.zio_report.specs.declared.report.Line.{Line}
 use Rattle.zio_report.specs.declared.report.LineResult.{LineResult}
 use Rattle.zio_report.specs.declared.report.LineResult.TheVariants.{Suspended, Failed, Done, Sized, Bytes}
 use Rattle.zio_report.specs.declared.report.RunFault.{RunFault}
 use Rattle.zio_report.specs.declared.report.Show.{Show}
-use Rattle.zio_report.specs.Reports.{RunSize}
+use Rattle.zio_report.specs.Reports.{RunSize, held_text}
 use Rattle.zio_course.specs.Folds.{IsSteady, SeenFold, has_items, requests_in_all, waiting_by, waiting_of}
 use Rattle.zio_course.specs.Moves.{HeldRan, IsGoing, LineCut, LineRan, StepCut, StepRan, requests_held}
 use Rattle.zio_course.specs.Runners.{Standing, rows_tell_apart}
-use Rattle.zio_course.specs.SoFar.{Ahead, IsCourseAt, IsCut, IsCutText, coming}
+use Rattle.zio_course.specs.SoFar.{Ahead, IsCourseAt, IsCut, IsCutText, coming, images_after, names_after}
 use Rattle.zio_course.proofs.CutLemmas.{Appends-none, written_then}
 use Rattle.zio_course.proofs.JoinLemmas.{rising_both, rising_join}
-use Rattle.zio_course.proofs.SoFarLemmas.{events_both}
+use Rattle.zio_course.proofs.SoFarLemmas.{events_both, rounds_held, so_far_held}
 
 -- ---- the rest of a course
 
@@ -452,3 +456,120 @@ ok_step (Err e) A B k h = tt
 pub err_step : (r : Result Unit RunFault) (P Q : RunFault → Type 0) → ((e : RunFault) → P e → Q e) → IfErr r P → IfErr r Q
 err_step (Ok x) P Q k h = tt
 err_step (Err e) P Q k h = k e h
+
+-- ---- a go
+
+go_state : (st : State) (held : List Batch) (batches point : ℕ) → st.held ≡ held → st.batches ≡ batches → st.point ≡ point
+    → record st { batch = []; batches = st.batches + 1 } ≡ record st { held = held; batch = []; batches = batches + 1; point = point }
+go_state st held batches point a d e =
+    ap (λ (x : List Batch). record st { held = x; batch = []; batches = st.batches + 1 }) a
+    ∙ (ap (λ (x : ℕ). record st { held = held; batch = []; batches = x + 1 }) d
+    ∙ ap (λ (x : ℕ). record st { held = held; batch = []; batches = batches + 1; point = x }) e)
+
+pub go_first : (show : Show) (n : RunSize) (script : Script) (before : Images) (s : Standing) (f : SeenFold) (ahead : Ahead) (later : List (List Request)) (old : Journal) (images : Images) (printed : List ℕ) (rest : Plan → State → Course) (b : Bool)
+    → (not (has_trees f.suspended) || goes_on script.failmode) ≡ b
+    → IsCourseAt show n script before s f ahead later old images printed (λ plan st. then_course (go_line plan st) (rest plan))
+    → IsCourseAt show n script before s f (record { held = ahead.held; batch = []; batches = ahead.batches + 1 }) later old images printed
+    (λ plan st. then_course (go_if b plan (record { number = ahead.batches + 1; requests = ahead.batch }) st) (rest plan))
+go_first show n script before s f ahead later old images printed rest b is h =
+    course_moved show n script before s f ahead later old images printed (λ plan st. then_course (go_line plan st) (rest plan))
+    (λ plan st. then_course (go_if b plan (record { number = ahead.batches + 1; requests = ahead.batch }) st) (rest plan)) ahead.held [] (ahead.batches + 1) f.point h
+    (λ js.
+    (let plan : Plan = plan_of script before js in
+    let st : State = record h.state { batch = []; batches = h.state.batches + 1 } in
+    let to : State = record h.state { held = ahead.held; batch = []; batches = ahead.batches + 1; point = f.point } in
+    let same : (not (has_trees h.state.suspended) || goes_on script.failmode) ≡ b = ap (λ (ts : List (List Pending)). not (has_trees ts) || goes_on script.failmode) h.at.suspended_is ∙ is in
+    ap (λ (x : Bool). then_course (go_if x plan (record { number = h.state.batches + 1; requests = h.state.batch }) st) (rest plan)) same
+    ∙ (ap (λ (x : ℕ). then_course (go_if b plan (record { number = x + 1; requests = h.state.batch }) st) (rest plan)) h.batches
+    ∙ (ap (λ (x : List Request). then_course (go_if b plan (record { number = ahead.batches + 1; requests = x }) st) (rest plan)) h.batch
+    ∙ ap (λ (x : State). then_course (go_if b plan (record { number = ahead.batches + 1; requests = ahead.batch }) x) (rest plan)) (go_state h.state ahead.held ahead.batches f.point h.held h.batches h.at.point_is)))))
+
+-- a batch more is held
+pub go_held : (show : Show) (n : RunSize) (script : Script) (before : Images) (s : Standing) (f : SeenFold) (ahead : Ahead) (later : List (List Request)) (old : Journal) (images : Images) (printed : List ℕ) (rest : Plan → State → Course) (batch : Batch)
+    → IsCourseAt show n script before s f ahead later old images printed (λ plan st. then_course (held_batch batch st) (rest plan))
+    → IsCourseAt show n script before s f (record ahead { held = ahead.held ++ batch ∷ [] }) later old images (printed ++ shown_of show (held_text batch.number)) rest
+go_held show n script before s f ahead later old images printed rest batch h =
+    let events : List Event = h.events ++ HeldBatch batch.number ∷ [] in
+    let same : rounds_of h.events ≡ rounds_of events = sym (rounds_held h.events batch.number) in
+    record {
+      events = events;
+      state = record h.state { held = h.state.held ++ batch ∷ [] };
+      reached = λ more than. h.reached more than ∙ sym (events_both h.events (HeldBatch batch.number ∷ []) (rest (plan_of script before (old.places ++ more)) (record h.state { held = h.state.held ++ batch ∷ [] })));
+      entered = so_far_held show n (sizes_of s.tops) (requests_of script.items) old h.events printed batch.number h.entered;
+      plan = h.plan;
+      at = record { names = h.at.names; used = h.at.used; suspended_is = h.at.suspended_is; rounds_is = h.at.rounds_is; point_is = h.at.point_is; images_are = h.at.images_are };
+      once = h.once;
+      held = ap (λ (bs : List Batch). bs ++ batch ∷ []) h.held;
+      batch = h.batch;
+      batches = h.batches;
+      panicked = h.panicked;
+      images_are = h.images_are ∙ ap (images_after before) same;
+      names_are = h.names_are ∙ ap (names_after []) same;
+      good = h.good ∙ ap (λ (rs : List Round). length (filter (λ (e : Ended). is_none e.error) (flat_map (λ (r : Round). r.ended) rs))) same;
+      bad = h.bad ∙ ap (λ (rs : List Round). length (filter (λ (e : Ended). is_some e.error) (flat_map (λ (r : Round). r.ended) rs))) same;
+      read = h.read ∙ ap (λ (rs : List Round). sum_by (λ (e : Ended). length e.bytes) (filter (λ (e : Ended). is_none e.error) (flat_map (λ (r : Round). r.ended) rs))) same;
+      parents = h.parents;
+      up = h.up;
+      rising = h.rising;
+      among = h.among;
+      past = h.past;
+    }
+
+held_both : (held : List Batch) (b : Batch) (later : List (List Request)) → requests_held (held ++ b ∷ []) ++ later ≡ requests_held held ++ (b.requests ∷ later)
+held_both [] b later = refl
+held_both (x ∷ held) b later = ap (λ (rs : List (List Request)). x.requests ∷ rs) (held_both held b later)
+
+own_both : (held : List (List Request)) (rs : List Request) (later : List (List Request)) → (held ++ rs ∷ []) ++ later ≡ held ++ (rs ∷ later)
+own_both held rs later = append_assoc held (rs ∷ []) later
+
+-- one batch more, which was to come next
+pub going_take : (fits : Tree → Type 0) (s : Standing) (rounds : ℕ) (f : SeenFold) (held : List Batch) (b : Batch) (later : List (List Request)) (spare : ℕ) → 1 ≤ b.number
+    → IsGoing fits s rounds f held (b.requests ∷ later) (spare + 1) → IsGoing fits s rounds f (held ++ b ∷ []) later spare
+going_take fits s rounds f held b later spare number h = record {
+  steady = h.steady;
+  rising = subst (λ (bs : List (List Request)). AreRising (coming f.unfinished bs)) (sym (held_both held b later)) h.rising;
+  orderly = subst (AllByRecursion (IsOrderlyBatch (rows_tell_apart s.rows))) (sym (held_both held b later)) h.orderly;
+  numbers = all_append (λ (x : Batch). 1 ≤ x.number) held (b ∷ []) h.numbers (number, tt);
+  rounds_fit = let a = length-append held (b ∷ []) in let fit = h.rounds_fit in omega arith;
+  few = subst (λ (bs : List (List Request)). f.tally.good + f.tally.bad + length (coming f.unfinished bs) < 2 ^ 32) (sym (held_both held b later)) h.few;
+}
+
+pub line_runs : (show : Show) (failmode : Failmode) (s now : Standing) (f g : SeenFold) (held : List Batch) (b : Batch) (batches : ℕ) (old new : Journal) (tells new_tells : Images → Type 0) (holds new_holds : List ℕ → Type 0)
+    → (not (has_trees f.suspended) || goes_on failmode) ≡ true → held ≡ [] → b.number ≡ batches + 1
+    → StepRan show failmode s now f g (λ a. a) (b.requests ∷ []) [] old new tells new_tells holds new_holds (λ ahead plan st. run_batch plan b st)
+    → LineRan show failmode s now f g (record { held = held; batch = b.requests; batches = batches }) (record { held = held; batch = []; batches = batches + 1 }) (requests_held held ++ b.requests ∷ []) (requests_held held)
+    old new tells new_tells holds new_holds go_line
+line_runs show failmode s now f g held b batches old new tells new_tells holds new_holds runs none number step n script before images later printed rest mode orderly h told =
+    subst (λ (bs : List Batch). (after : Images) × (more : List ℕ) × IsCourseAt show n script before now g (record { held = bs; batch = []; batches = batches + 1 }) (requests_held bs ++ later) new after (printed ++ more) rest × new_tells after × Appends holds new_holds more) (sym none)
+    (step n script before images (record { held = []; batch = []; batches = batches + 1 }) later printed rest mode orderly
+    (subst (λ (k : ℕ). IsCourseAt show n script before s f (record { held = []; batch = []; batches = batches + 1 }) (b.requests ∷ later) old images printed (λ plan st. then_course (run_batch plan (record { number = k; requests = b.requests }) st) (rest plan))) (sym number)
+    (go_first show n script before s f (record { held = []; batch = b.requests; batches = batches }) (b.requests ∷ later) old images printed rest true
+    (ap (λ (m : Failmode). not (has_trees f.suspended) || goes_on m) mode ∙ runs)
+    (subst (λ (bs : List Batch). IsCourseAt show n script before s f (record { held = bs; batch = b.requests; batches = batches }) ((requests_held bs ++ b.requests ∷ []) ++ later) old images printed (λ plan st. then_course (go_line plan st) (rest plan))) none h))) told)
+
+pub line_runs_cut : (show : Show) (failmode : Failmode) (s : Standing) (f : SeenFold) (held : List Batch) (b : Batch) (batches : ℕ) (old new : Journal) (tells new_tells : Images → Type 0) (holds new_holds : List ℕ → Type 0) (fault : RunFault)
+    → (not (has_trees f.suspended) || goes_on failmode) ≡ true → held ≡ [] → b.number ≡ batches + 1
+    → StepCut show failmode s f (b.requests ∷ []) old new tells new_tells holds new_holds (λ ahead plan st. run_batch plan b st) fault
+    → LineCut show failmode s f (record { held = held; batch = b.requests; batches = batches }) (requests_held held ++ b.requests ∷ []) old new tells new_tells holds new_holds go_line fault
+line_runs_cut show failmode s f held b batches old new tells new_tells holds new_holds fault runs none number step n script before images later printed rest mode orderly h told =
+    step n script before images (record { held = []; batch = []; batches = batches + 1 }) later printed rest mode orderly
+    (subst (λ (k : ℕ). IsCourseAt show n script before s f (record { held = []; batch = []; batches = batches + 1 }) (b.requests ∷ later) old images printed (λ plan st. then_course (run_batch plan (record { number = k; requests = b.requests }) st) (rest plan))) (sym number)
+    (go_first show n script before s f (record { held = []; batch = b.requests; batches = batches }) (b.requests ∷ later) old images printed rest true
+    (ap (λ (m : Failmode). not (has_trees f.suspended) || goes_on m) mode ∙ runs)
+    (subst (λ (bs : List Batch). IsCourseAt show n script before s f (record { held = bs; batch = b.requests; batches = batches }) ((requests_held bs ++ b.requests ∷ []) ++ later) old images printed (λ plan st. then_course (go_line plan st) (rest plan))) none h))) told
+
+-- where the line is held
+pub holds_at : (show : Show) (n : RunSize) (script : Script) (before : Images) (s : Standing) (f : SeenFold) (held : List Batch) (b : Batch) (batches : ℕ) (later : List (List Request)) (old : Journal) (images : Images) (printed : List ℕ) (rest : Plan → State → Course)
+    → (not (has_trees f.suspended) || goes_on script.failmode) ≡ false → b.number ≡ batches + 1
+    → IsCourseAt show n script before s f (record { held = held; batch = b.requests; batches = batches }) ((requests_held held ++ b.requests ∷ []) ++ later) old images printed (λ plan st. then_course (go_line plan st) (rest plan))
+    → IsCourseAt show n script before s f (record { held = held ++ b ∷ []; batch = []; batches = batches + 1 }) (requests_held (held ++ b ∷ []) ++ later) old images (printed ++ shown_of show (held_text b.number)) rest
+holds_at show n script before s f held b batches later old images printed rest waits number h =
+    subst (λ (bs : List (List Request)). IsCourseAt show n script before s f (record { held = held ++ b ∷ []; batch = []; batches = batches + 1 }) bs old images (printed ++ shown_of show (held_text b.number)) rest)
+    (own_both (requests_held held) b.requests later ∙ sym (held_both held b later))
+    (go_held show n script before s f (record { held = held; batch = []; batches = batches + 1 }) ((requests_held held ++ b.requests ∷ []) ++ later) old images printed rest b
+    (subst (λ (k : ℕ). IsCourseAt show n script before s f (record { held = held; batch = []; batches = batches + 1 }) ((requests_held held ++ b.requests ∷ []) ++ later) old images printed (λ plan st. then_course (held_batch (record { number = k; requests = b.requests }) st) (rest plan))) (sym number)
+    (go_first show n script before s f (record { held = held; batch = b.requests; batches = batches }) ((requests_held held ++ b.requests ∷ []) ++ later) old images printed rest false waits h)))
+
+pub ok_any : (r : Result Unit RunFault) (A : Type 0) → A → OnOk r A
+ok_any (Ok x) A h = h
+ok_any (Err e) A h = tt

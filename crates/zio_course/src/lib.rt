@@ -17,6 +17,7 @@ mod clear;
 mod enter;
 mod fold;
 mod forest;
+mod go;
 mod held;
 mod laws;
 mod lines;
@@ -39,6 +40,7 @@ pub use clear::clear_line;
 pub use enter::enter_round;
 pub use fold::{Batch, Fold, Tally, requests_in};
 pub use forest::trees_to_run;
+pub use go::go_line;
 pub use held::run_held;
 pub use laws::{
     a_batch_is_a_round_of_the_course, a_clear_is_a_round_of_the_course,

@@ -389,8 +389,12 @@ ends_complete s round apart all trees end requests error bound up_all among over
       once = over.once;
       after = after_in all (requests_in trees) end.completions up_all in_all of_ran over.after_children;
       of = all_weaker (λ (c : Completion). (q : Request) × IsOneOf q (requests_in trees) × (q.number ≡ c.request) × (finish_of end.finished q.number ≡ None → ⊥)) (IsDone error end.finished requests) end.completions
-          (λ c h. (h.0, one_all (λ (q : Request). IsOneOf q requests) h.0 (requests_in trees) inside h.1, h.2,
-          right_if (is_none (error h.0.number)) (is_none (finish_of end.finished h.0.number)) (some_left (finish_of end.finished h.0.number) h.3))) ran;
+          (λ c h. (
+            h.0,
+            one_all (λ (q : Request). IsOneOf q requests) h.0 (requests_in trees) inside h.1,
+            h.2,
+            right_if (is_none (error h.0.number)) (is_none (finish_of end.finished h.0.number)) (some_left (finish_of end.finished h.0.number) h.3),
+          )) ran;
     }
   where
     in_requests : (P : Request → Type 0) (ps : List Pending) → AllByRecursion (λ (p : Pending). P p.request) ps → AllByRecursion P (map (λ (p : Pending). p.request) ps)
@@ -433,8 +437,12 @@ round_completes s round apart all trees end requests error bound up_all among up
           (all_weaker (λ (c : Completion). (q : Request) × IsOneOf q requests × (q.number ≡ c.request) × (is_none (error q.number) ≡ false)) (IsDone error end.finished requests) given
           (λ c h. (h.0, h.1, h.2, left_if (is_none (error h.0.number)) (is_none (finish_of end.finished h.0.number)) h.3)) of_answered)
           (all_weaker (λ (c : Completion). (q : Request) × IsOneOf q (requests_in trees) × (q.number ≡ c.request) × (finish_of end.finished q.number ≡ None → ⊥)) (IsDone error end.finished requests) end.completions
-          (λ c h. (h.0, one_all (λ (q : Request). IsOneOf q requests) h.0 (requests_in trees) inside h.1, h.2,
-          right_if (is_none (error h.0.number)) (is_none (finish_of end.finished h.0.number)) (some_left (finish_of end.finished h.0.number) h.3))) ran);
+          (λ c h. (
+            h.0,
+            one_all (λ (q : Request). IsOneOf q requests) h.0 (requests_in trees) inside h.1,
+            h.2,
+            right_if (is_none (error h.0.number)) (is_none (finish_of end.finished h.0.number)) (some_left (finish_of end.finished h.0.number) h.3),
+          )) ran);
     }
   where
     all_requests : (P : Request → Type 0) (ps : List Pending) → AllByRecursion (λ (p : Pending). P p.request) ps → AllByRecursion P (map (λ (p : Pending). p.request) ps)

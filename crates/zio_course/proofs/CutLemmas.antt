@@ -132,16 +132,23 @@ take-both (x ∷ xs) ys k =
 pub written_then : (fault : RunFault) (old mid new : List ℕ → Type 0) (printed more text : List ℕ) → Appends old mid more → IsCutText fault mid new (printed ++ more) text → IsCutText fault old new printed text
 written_then Device old mid new printed more text first h =
     (more ++ h.0, h.1 ∙ append_assoc printed more h.0, λ held k. subst new (append_assoc held more h.0) (h.2 (held ++ more) (first held k)))
-written_then Sink old mid new printed more text first h =
-    (more ++ h.0, h.1 ∙ append_assoc printed more h.0, λ held k.
-    (let rest = h.2 (held ++ more) (first held k) in
-    front_of held (rest.0) (rest.1)))
+written_then Sink old mid new printed more text first h = (
+  more ++ h.0,
+  h.1 ∙ append_assoc printed more h.0,
+  λ held k.
+      (let rest = h.2 (held ++ more) (first held k) in
+      front_of held (rest.0) (rest.1)),
+)
   where
     front_of : (held : List ℕ) (k : ℕ) → new ((held ++ more) ++ take k h.0) → (m : ℕ) × new (held ++ take m (more ++ h.0))
     front_of held k got = (length more + k, subst new (append_assoc held more (take k h.0) ∙ ap (λ (xs : List ℕ). held ++ xs) (sym (take-both more h.0 k))) got)
-written_then Memory old mid new printed more text first h =
-    (more ++ h.0, h.1, h.2 ∙ ap (λ (xs : List ℕ). xs ++ h.1) (append_assoc printed more h.0), subst EndsWhole (append_assoc printed more h.0) h.3,
-    λ held k. subst new (append_assoc held more h.0) (h.4 (held ++ more) (first held k)))
+written_then Memory old mid new printed more text first h = (
+  more ++ h.0,
+  h.1,
+  h.2 ∙ ap (λ (xs : List ℕ). xs ++ h.1) (append_assoc printed more h.0),
+  subst EndsWhole (append_assoc printed more h.0) h.3,
+  λ held k. subst new (append_assoc held more h.0) (h.4 (held ++ more) (first held k)),
+)
 
 -- ---- which fault
 

@@ -55,9 +55,7 @@ pub fn clear_line<'a, R: Runner, O: Sink>(
 {
     fold.point += 1;
     run_waiting(alloc, failmode, show, runner, fold, out, journal)?;
-    run_held(
-        alloc, failmode, show, runner, fold, held, out, journal,
-    )
+    run_held(alloc, failmode, show, runner, fold, held, out, journal)
 }
 
 /// Runs the trees that are suspended as the next round, if there are any.

@@ -166,10 +166,7 @@ impl<'a, T: Drop> Fold<'a, T> {
 }
 
 /// The requests of a batch.
-pub fn requests_in<'a>(
-    alloc: Global,
-    lines: &'a [Item],
-) -> Result<Vec<&'a Request>, NoMemory>
+pub fn requests_in<'a>(alloc: Global, lines: &'a [Item]) -> Result<Vec<&'a Request>, NoMemory>
     ensures { IfOk result (λ found. map (λ r. r.now) found.items ≡ requests_of lines.now) }
 {
     let mut found = Vec::new(alloc);

@@ -57,9 +57,7 @@ pub fn go_line<'a, R: Runner, O: Sink>(
     ensures same { R.same runner.old runner.new }
 {
     if runs_now(&fold.suspended, failmode) {
-        batch_round(
-            alloc, failmode, show, runner, fold, batch, out, journal,
-        )
+        batch_round(alloc, failmode, show, runner, fold, batch, out, journal)
     } else {
         hold(alloc, show, held, *batch, out)
     }

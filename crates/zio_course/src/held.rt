@@ -52,9 +52,7 @@ pub fn run_held<'a, R: Runner, O: Sink>(
         let Some(batch) = held.pop_front() else {
             break;
         };
-        batch_round(
-            alloc, failmode, show, runner, fold, &batch, out, journal,
-        )?;
+        batch_round(alloc, failmode, show, runner, fold, &batch, out, journal)?;
     }
     Ok(())
 }

@@ -161,7 +161,7 @@ pub fn accepted_scripts_are_short()
 {}
 
 /// Parents wait for their children: in the trees of a batch each request comes before its parent, and where a round leaves a
-/// request it leaves its parent. So no later round completes a child of a request that completed.
+/// request it leaves its parent.
 pub fn parents_wait_for_children()
     ensures batch { (names : Bound) (birth : ℕ) (requests : List Request) → AllByRecursion AreParented (pending_trees names birth (trees_of requests)) }
     ensures round { (j : List Choice) (t : Terms) (trees : List (List Pending)) (images : Images) → AllByRecursion AreParented trees

@@ -46,8 +46,7 @@ pub use laws::{
     a_batch_is_a_round_of_the_course, a_clear_is_a_round_of_the_course,
     a_round_leaves_runnable_trees, accepted_scripts_are_short, an_orderly_batch_is_ready,
     an_orderly_batch_is_runnable, bound_places_are_live, parents_wait_for_children,
-    suspended_trees_are_runnable,
-    what_was_run_stays_run, whole_trees_are_admitted,
+    suspended_trees_are_runnable, what_was_run_stays_run, whole_trees_are_admitted,
 };
 pub use round::{WholeRound, whole_round};
 pub use rounds::{batch_round, clear_round};

@@ -273,17 +273,15 @@ fn batch_requests<'a>(alloc: Global, batch: &Batch<'a>) -> Result<Vec<&'a Reques
 }
 
 /// The admission of a batch beside what is suspended.
-fn admit<'a, T: Drop>(alloc: Global, fold: &Fold<'a, T>, batch: &Batch<'a>) -> Result<Admission, Stop>
+fn admit<'a, T: Drop>(
+    alloc: Global,
+    fold: &Fold<'a, T>,
+    batch: &Batch<'a>,
+) -> Result<Admission, Stop>
     requires rising { AreRising (requests_of batch.now.lines.now) }
     ensures ok { IfOk result (λ a. IsAdmission (has_items fold.now.suspended) (is_name_in fold.now.awaited) (is_some_name fold.now.bound) (trees_of (requests_of batch.now.lines.now)) a.slots.entries a.rules.items) }
     ensures err { IsErrOf result Stop.Device → ⊥ }
 {
     let waits = !fold.suspended.is_empty();
-    Ok(Admission::of(
-        alloc,
-        batch.lines,
-        waits,
-        &fold.awaited,
-        &fold.bound,
-    )?)
+    Ok(Admission::of(alloc, batch.lines, waits, &fold.awaited, &fold.bound)?)
 }

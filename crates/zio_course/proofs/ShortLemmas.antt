@@ -11,7 +11,7 @@ use Rattle.zio_script.specs.declared.script.Script.{Script}
 use Rattle.zio_script.specs.declared.script.ScriptFault.{ScriptFault}
 use Rattle.zio_script.specs.declared.why.Why.{Why}
 use Rattle.zio_script.specs.Grammar.{IsScriptIn, after_form, after_line, after_shape, after_words, ended, read_lines, read_on, read_short, script_with, unless_skipped, unless_why}
-use Rattle.zio_script.specs.Lines.{Line, FailmodeLine, LeavesLine, FaultLine, RequestLine, GoLine, ClearLine, Shape, line_of, shape_of}
+use Rattle.zio_script.specs.Lines.{ScriptLine, FailmodeLine, LeavesLine, FaultLine, RequestLine, GoLine, ClearLine, Shape, line_of, shape_of}
 use Rattle.zio_script.specs.Whys.{Before, least_why, nothing_before, whys_at_end, whys_of}
 use Rattle.zio_script.specs.Words.{Word, is_skipped, lines_of, without_empty_end, words_of}
 
@@ -56,7 +56,7 @@ AddsOne before r = (next : Before) → r ≡ Ok next → items_in next ≤ items
 pushed : (items : List Item) (item : Item) → length (items ++ item ∷ []) ≤ length items + 1
 pushed items item = omega (arith, length-append items (item ∷ []))
 
-line_adds : (before : Before) (line : Line) → items_in (script_with before.script line) ≤ items_in before + 1
+line_adds : (before : Before) (line : ScriptLine) → items_in (script_with before.script line) ≤ items_in before + 1
 line_adds before (FailmodeLine mode) = omega arith
 line_adds before (LeavesLine leaves sector) = omega arith
 line_adds before (FaultLine row) = omega arith
@@ -70,11 +70,11 @@ read_as before = Ok before
 same_before : (a b : Before) (n : ℕ) → read_as a ≡ Ok b → items_in a ≤ n → items_in b ≤ n
 same_before a b n e h = let same : a ≡ b = cc in subst (λ (x : Before). items_in x ≤ n) same h
 
-why_adds : (why : Option Why) (before : Before) (line : Line) → AddsOne before (unless_why why (script_with before.script line))
+why_adds : (why : Option Why) (before : Before) (line : ScriptLine) → AddsOne before (unless_why why (script_with before.script line))
 why_adds None before line next e = same_before (script_with before.script line) next (items_in before + 1) e (line_adds before line)
 why_adds (Some why) before line next e = absurd (let no_error = e in cc)
 
-after_line_adds : (before : Before) (line : Option Line) → AddsOne before (after_line before line)
+after_line_adds : (before : Before) (line : Option ScriptLine) → AddsOne before (after_line before line)
 after_line_adds before None next e = absurd (let no_error = e in cc)
 after_line_adds before (Some line) next e = why_adds (least_why (whys_of before line)) before line next e
 

@@ -29,6 +29,7 @@ mod RoundLemmas
 mod ReadyLemmas
 mod RoundsLemmas
 mod RunnableLemmas
+mod ScriptLemmas
 mod ShortLemmas
 mod SoFarLemmas
 mod SortLemmas

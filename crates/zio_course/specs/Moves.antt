@@ -4,13 +4,14 @@ use Rattle.std.specs.List.{AllByRecursion}
 use Rattle.zio_outside.specs.Outside.{Appends}
 use Rattle.zio_types.specs.declared.journal.Journal.{Journal}
 use Rattle.zio_script.specs.declared.script.Failmode.{Failmode}
+use Rattle.zio_script.specs.declared.script.Item.{Item}
 use Rattle.zio_script.specs.declared.script.Request.{Request}
 use Rattle.zio_script.specs.declared.script.Script.{Script}
-use Rattle.zio_script.specs.Accepted.{AreRising, IsOrderlyBatch}
+use Rattle.zio_script.specs.Accepted.{AreRising, IsOrderlyBatch, batches_from}
 use Rattle.zio_cksum.specs.Images.{Images}
 use Rattle.zio_gang.specs.declared.tree.Tree.{Tree}
 use Rattle.zio_gang.specs.Attempts.{Pending}
-use Rattle.zio_gang.specs.Runs.{Batch, Course, Plan, State, goes_on, has_trees, run_held, then_course}
+use Rattle.zio_gang.specs.Runs.{Batch, Course, Plan, State, goes_on, has_trees, quiet, run_held, run_lines, then_course}
 use Rattle.zio_report.specs.declared.report.RunFault.{RunFault}
 use Rattle.zio_report.specs.declared.report.Show.{Show}
 use Rattle.zio_report.specs.Reports.{RunSize}
@@ -88,3 +89,30 @@ LineCut show failmode s f ahead own old new tells new_tells holds new_holds step
 -- nothing is held where batches run
 abbrev pub HeldWaits : Failmode → List (List Pending) → List Batch → Type 0
 HeldWaits failmode suspended held = (not (has_trees suspended) || goes_on failmode) ≡ true → held ≡ []
+
+-- The lines of a script so far: where the course began with all of them, it now goes on with those that are left.
+abbrev pub LinesRan : Show → Failmode → Standing → Standing → SeenFold → SeenFold → List Item → List Item → Ahead → List (List Request) → Journal → Journal → (Images → Type 0) → (Images → Type 0)
+    → (List ℕ → Type 0) → (List ℕ → Type 0) → Type 0
+LinesRan show failmode s now f g items left to later old new tells new_tells holds new_holds =
+    (n : RunSize) (script : Script) (before images : Images) (printed : List ℕ) → script.failmode ≡ failmode
+    → IsCourseAt show n script before s f (record { held = []; batch = []; batches = 0 }) (batches_from [] items) old images printed (λ plan st. run_lines plan items st)
+    → tells images → (after : Images) × (more : List ℕ)
+    × IsCourseAt show n script before now g to later new after (printed ++ more) (λ plan st. run_lines plan left st)
+    × new_tells after × Appends holds new_holds more
+
+-- All of them: the course is over.
+abbrev pub LinesOver : Show → Failmode → Standing → Standing → SeenFold → SeenFold → List Item → List Batch → Journal → Journal → (Images → Type 0) → (Images → Type 0) → (List ℕ → Type 0) → (List ℕ → Type 0) → Type 0
+LinesOver show failmode s now f g items held old new tells new_tells holds new_holds =
+    (n : RunSize) (script : Script) (before images : Images) (printed : List ℕ) → script.failmode ≡ failmode
+    → IsCourseAt show n script before s f (record { held = []; batch = []; batches = 0 }) (batches_from [] items) old images printed (λ plan st. run_lines plan items st)
+    → tells images → (after : Images) × (more : List ℕ) × (to : Ahead) × (later : List (List Request))
+    × IsCourseAt show n script before now g to later new after (printed ++ more) (λ plan st. quiet st)
+    × (to.held ≡ held) × new_tells after × Appends holds new_holds more
+
+-- the same where they were cut short
+abbrev pub LinesCut : Show → Failmode → Standing → SeenFold → List Item → Journal → Journal → (Images → Type 0) → (Images → Type 0) → (List ℕ → Type 0) → (List ℕ → Type 0) → RunFault → Type 0
+LinesCut show failmode s f items old new tells new_tells holds new_holds fault =
+    (n : RunSize) (script : Script) (before images : Images) (printed : List ℕ) → script.failmode ≡ failmode
+    → IsCourseAt show n script before s f (record { held = []; batch = []; batches = 0 }) (batches_from [] items) old images printed (λ plan st. run_lines plan items st)
+    → tells images → (after : Images) × (text : List ℕ)
+    × IsCut show n script before s.tops fault new after text × new_tells after × IsCutText fault holds new_holds printed text

@@ -139,7 +139,6 @@ take_front whole front rest is =
     go [] = refl
     go (x ∷ xs) = ap (λ (ys : List Item). x ∷ ys) (go xs)
 
-
 pub all_behind : (P : List Request → Type 0) (xs : List (List Request)) (b : List Request) (later : List (List Request)) → AllByRecursion P (xs ++ (b ∷ later)) → AllByRecursion P later
 all_behind P [] b later h = h.1
 all_behind P (x ∷ xs) b later h = all_behind P xs b later h.1

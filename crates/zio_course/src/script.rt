@@ -68,9 +68,7 @@ pub fn run_lines<'a, R: Runner, O: Sink>(
                 )?;
                 from = more;
             }
-            Item::Clear => clear_line(
-                alloc, failmode, show, runner, fold, held, out, journal,
-            )?,
+            Item::Clear => clear_line(alloc, failmode, show, runner, fold, held, out, journal)?,
         }
         rest = more;
     }

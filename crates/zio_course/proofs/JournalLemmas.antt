@@ -38,7 +38,7 @@ filter_none : {X : Type 0} (test : X → Bool) (xs : List X) → AllByRecursion 
 filter_none test [] h = refl
 filter_none test (x ∷ xs) h = cond-false (test x) (x ∷ filter test xs) (filter test xs) h.0 ∙ filter_none test xs h.1
 
-filter_whole : {X : Type 0} (test : X → Bool) (xs : List X) → AllByRecursion (λ x. test x ≡ true) xs → filter test xs ≡ xs
+pub filter_whole : {X : Type 0} (test : X → Bool) (xs : List X) → AllByRecursion (λ x. test x ≡ true) xs → filter test xs ≡ xs
 filter_whole test [] h = refl
 filter_whole test (x ∷ xs) h =
     cond-true (test x) (x ∷ filter test xs) (filter test xs) h.0 ∙ ap (λ (ys : List _). x ∷ ys) (filter_whole test xs h.1)

@@ -71,7 +71,7 @@ least_lower : (least more : ℕ) (ns : List ℕ) → least ≤ more → AreRisin
 least_lower least more [] h rising = tt
 least_lower least more (n ∷ ns) h rising = (let up : more ≤ n = rising.0 in omega arith, rising.1)
 
-rests_each : (trees left : List (List Pending)) → AreRestsOf trees left → length (roots_of left) ≡ length left
+pub rests_each : (trees left : List (List Pending)) → AreRestsOf trees left → length (roots_of left) ≡ length left
 rests_each [] [] h = refl
 rests_each [] (l ∷ left) h = absurd h
 rests_each (tree ∷ trees) [] h = refl
@@ -83,7 +83,7 @@ rests_each (tree ∷ trees) (l ∷ left) (inl h) =
 rests_each (tree ∷ trees) (l ∷ left) (inr h) = rests_each trees (l ∷ left) h
 
 -- the numbers of the roots rise
-rests_rising : (trees left : List (List Pending)) (least : ℕ) → AllByRecursion (λ (tree : List Pending). (p : Pending) × (root_of tree ≡ Some p)) trees → AreRestsOf trees left
+pub rests_rising : (trees left : List (List Pending)) (least : ℕ) → AllByRecursion (λ (tree : List Pending). (p : Pending) × (root_of tree ≡ Some p)) trees → AreRestsOf trees left
     → AreRisingFrom least (numbers_of (roots_of trees)) → AreRisingFrom least (numbers_of (roots_of left))
 rests_rising [] [] least roots h rising = tt
 rests_rising [] (l ∷ left) least roots h rising = absurd h
@@ -107,7 +107,7 @@ roots_less (tree ∷ trees) = go (root_of tree) (roots_less trees)
     go (Some q) later = omega arith
 
 -- where there are as many roots as trees, each has one
-roots_there : (trees : List (List Pending)) → length (roots_of trees) ≡ length trees → AllByRecursion (λ (tree : List Pending). (p : Pending) × (root_of tree ≡ Some p)) trees
+pub roots_there : (trees : List (List Pending)) → length (roots_of trees) ≡ length trees → AllByRecursion (λ (tree : List Pending). (p : Pending) × (root_of tree ≡ Some p)) trees
 roots_there [] h = tt
 roots_there (tree ∷ trees) h = go (root_of tree) refl h (roots_less trees) (roots_there trees)
   where
@@ -140,14 +140,14 @@ rests_in (tree ∷ trees) (l ∷ left) (inr h) =
 
 -- ---- how often
 
-counted_left : (n : ℕ) (rs : List Request) → counted (λ (r : Request). r.number) n rs ≡ count_by (is_numbered n) (numbers_of rs)
+pub counted_left : (n : ℕ) (rs : List Request) → counted (λ (r : Request). r.number) n rs ≡ count_by (is_numbered n) (numbers_of rs)
 counted_left n rs = sym (times_tally n rs) ∙ times_is n (numbers_of rs)
 
-once_in : (n : ℕ) (trees : List (List Pending)) → count_by (λ (r : Request). eqb r.number n) (requests_in trees) ≡ count_by (is_numbered n) (numbers_of (requests_in trees))
+pub once_in : (n : ℕ) (trees : List (List Pending)) → count_by (λ (r : Request). eqb r.number n) (requests_in trees) ≡ count_by (is_numbered n) (numbers_of (requests_in trees))
 once_in n trees = counted_by n (requests_in trees) ∙ counted_left n (requests_in trees)
 
 -- a request that is left didn't finish
-left_times : (q : Pending) (ps : List Pending) → IsOneOf q ps → 1 ≤ times q.request.number (numbers_of (map (λ (p : Pending). p.request) ps))
+pub left_times : (q : Pending) (ps : List Pending) → IsOneOf q ps → 1 ≤ times q.request.number (numbers_of (map (λ (p : Pending). p.request) ps))
 left_times q [] at = absurd at
 left_times q (p ∷ ps) (inl same) =
     let k : ℕ = times q.request.number (numbers_of (map (λ (x : Pending). x.request) ps)) in

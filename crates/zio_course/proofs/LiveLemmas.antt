@@ -50,13 +50,13 @@ record IsOver (bound : List (List ℕ × Tree)) (error : ℕ → Option Errno) (
   ends : (f : Finished) → IsOneOf f finished → (p : Pending) × IsOneOf p (joined_trees trees) × (p.request.number ≡ f.request)
 
 -- an end that is told, and the request that it is of
-record ToldEnd (error : ℕ → Option Errno) (finished : List Finished) (requests : List Request) (e : Ended) : Type 0 where
-  end : Finished
-  at : IsOneOf end finished
-  number : end.request ≡ e.request.number
-  found : finish_of finished e.request.number ≡ Some end
-  is : e ≡ ended_as e.request end
-  inside : IsOneOf e.request requests
+pub record ToldEnd (error : ℕ → Option Errno) (finished : List Finished) (requests : List Request) (e : Ended) : Type 0 where
+  pub end : Finished
+  pub at : IsOneOf end finished
+  pub number : end.request ≡ e.request.number
+  pub found : finish_of finished e.request.number ≡ Some end
+  pub is : e ≡ ended_as e.request end
+  pub inside : IsOneOf e.request requests
 
 told_end_if : (error : ℕ → Option Errno) (finished : List Finished) (requests : List Request) (r : Request) (o : Option Errno) (f : Option Finished) → IsOneOf r requests
     → finish_of finished r.number ≡ f → AllByRecursion (ToldEnd error finished requests) (ended_by o f r)
@@ -66,7 +66,7 @@ told_end_if error finished requests r None (Some f) at is =
     let found : Found finished r.number f = found_there finished r.number f is in
     (record { end = f; at = found.at; number = found.number; found = is; is = refl; inside = at }, tt)
 
-told_ends : (error : ℕ → Option Errno) (finished : List Finished) (requests rs : List Request) → AllByRecursion (λ (r : Request). IsOneOf r requests) rs
+pub told_ends : (error : ℕ → Option Errno) (finished : List Finished) (requests rs : List Request) → AllByRecursion (λ (r : Request). IsOneOf r requests) rs
     → AllByRecursion (ToldEnd error finished requests) (ended_told error finished rs)
 told_ends error finished requests [] h = tt
 told_ends error finished requests (r ∷ rs) h =

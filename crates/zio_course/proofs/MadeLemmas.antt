@@ -33,16 +33,16 @@ one_either x (z ∷ xs) ys (inr at) = go (one_either x xs ys at)
     go (inr back) = inr back
 
 -- the item that it stands in
-pub record Within {X Y : Type 0} (g : X → List Y) (xs : List X) (y : Y) : Type 0 where
+pub record CameFrom {X Y : Type 0} (g : X → List Y) (xs : List X) (y : Y) : Type 0 where
   pub item : X
   pub at : IsOneOf item xs
   pub there : IsOneOf y (g item)
 
-pub one_within : {X Y : Type 0} (g : X → List Y) (xs : List X) (y : Y) → IsOneOf y (flat_map g xs) → Within g xs y
+pub one_within : {X Y : Type 0} (g : X → List Y) (xs : List X) (y : Y) → IsOneOf y (flat_map g xs) → CameFrom g xs y
 one_within g [] y at = absurd at
 one_within g (x ∷ xs) y at = go (one_either y (g x) (flat_map g xs) at) (one_within g xs y)
   where
-    go : IsOneOf y (g x) ⊎ IsOneOf y (flat_map g xs) → (IsOneOf y (flat_map g xs) → Within g xs y) → Within g (x ∷ xs) y
+    go : IsOneOf y (g x) ⊎ IsOneOf y (flat_map g xs) → (IsOneOf y (flat_map g xs) → CameFrom g xs y) → CameFrom g (x ∷ xs) y
     go (inl here) later = record { item = x; at = inl refl; there = here }
     go (inr back) later = let w = later back in record { item = w.item; at = inr w.at; there = w.there }
 

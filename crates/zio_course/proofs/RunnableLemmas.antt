@@ -102,11 +102,11 @@ all_counted : (rs : List Request) → tally (λ (r : Request). 1) rs ≡ length 
 all_counted [] = refl
 all_counted (r ∷ rs) = (let later : tally (λ (q : Request). 1) rs ≡ length rs = all_counted rs in omega arith)
 
-trees_of_tally : (f : Request → ℕ) (trees : List (List Pending)) → tally f (requests_in trees) ≡ of_trees f trees
+pub trees_of_tally : (f : Request → ℕ) (trees : List (List Pending)) → tally f (requests_in trees) ≡ of_trees f trees
 trees_of_tally f trees =
     sum_map f (λ (p : Pending). p.request) (joined_trees trees) ∙ sum_flat (λ (p : Pending). f p.request) (λ (tree : List Pending). tree) trees
 
-joined_all : (P : Request → Type 0) (trees : List (List Pending)) → AreTreesOf P trees → AllByRecursion P (requests_in trees)
+pub joined_all : (P : Request → Type 0) (trees : List (List Pending)) → AreTreesOf P trees → AllByRecursion P (requests_in trees)
 joined_all P trees h = all_map P (λ (p : Pending). p.request) (joined_trees trees) (flat trees h)
   where
     flat : (ts : List (List Pending)) → AreTreesOf P ts → AllByRecursion (λ (p : Pending). P p.request) (joined_trees ts)
@@ -119,12 +119,12 @@ or_true : (b : Bool) → (b || true) ≡ true
 or_true true = refl
 or_true false = refl
 
-one_passes : (test : Request → Bool) (y : Request) (qs : List Request) → IsOneOf y qs → test y ≡ true → list_any test qs ≡ true
+pub one_passes : (test : Request → Bool) (y : Request) (qs : List Request) → IsOneOf y qs → test y ≡ true → list_any test qs ≡ true
 one_passes test y [] at is = absurd at
 one_passes test y (q ∷ qs) (inl same) is = ap (λ (b : Bool). b || list_any test qs) (ap test same ∙ is)
 one_passes test y (q ∷ qs) (inr at) is = ap (λ (b : Bool). test q || b) (one_passes test y qs at is) ∙ or_true (test q)
 
-any_among : (test : Request → Bool) (rs ys : List Request) → AllByRecursion (λ (y : Request). IsOneOf y rs) ys → list_any test ys ≡ true → list_any test rs ≡ true
+pub any_among : (test : Request → Bool) (rs ys : List Request) → AllByRecursion (λ (y : Request). IsOneOf y rs) ys → list_any test ys ≡ true → list_any test rs ≡ true
 any_among test rs [] among e = absurd (let f = e in cc)
 any_among test rs (y ∷ ys) among e = go (test y) refl e (any_among test rs ys among.1)
   where
@@ -138,7 +138,7 @@ some_there test (y ∷ ys) e = omega arith
 
 -- ---- places in use
 
-block_live : (live : List Place) (bound : List (List ℕ × Tree)) (needs : Bool) (name : Option (List ℕ))
+pub block_live : (live : List Place) (bound : List (List ℕ × Tree)) (needs : Bool) (name : Option (List ℕ))
     → ((n : List ℕ) → IfSome (named_in bound n) (λ tree. AllByRecursion (Contains live) (tree_places tree)))
     → AllByRecursion (Contains live) (places_of_block (block_if needs name (names_of bound)))
 block_live live bound true (Some name) h =

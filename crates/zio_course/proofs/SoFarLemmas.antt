@@ -26,12 +26,12 @@ use Rattle.zio_course.proofs.JournalLemmas.{all_after, all_next, completions_nex
 pub events_both : (xs ys : List Event) (c : Course) → add_events (xs ++ ys) c ≡ add_events xs (add_events ys c)
 events_both xs ys c = ap (λ (events : List Event). record { events = events; state = c.state }) (append_assoc xs ys c.events)
 
-rounds_push : (xs : List Event) (round : Round) → rounds_of (xs ++ RanRound round ∷ []) ≡ rounds_of xs ++ round ∷ []
+pub rounds_push : (xs : List Event) (round : Round) → rounds_of (xs ++ RanRound round ∷ []) ≡ rounds_of xs ++ round ∷ []
 rounds_push [] round = refl
 rounds_push (RanRound r ∷ xs) round = ap (λ (rs : List Round). r ∷ rs) (rounds_push xs round)
 rounds_push (HeldBatch b ∷ xs) round = rounds_push xs round
 
-rounds_held : (xs : List Event) (batch : ℕ) → rounds_of (xs ++ HeldBatch batch ∷ []) ≡ rounds_of xs
+pub rounds_held : (xs : List Event) (batch : ℕ) → rounds_of (xs ++ HeldBatch batch ∷ []) ≡ rounds_of xs
 rounds_held [] batch = refl
 rounds_held (RanRound r ∷ xs) batch = ap (λ (rs : List Round). r ∷ rs) (rounds_held xs batch)
 rounds_held (HeldBatch b ∷ xs) batch = rounds_held xs batch

@@ -165,7 +165,7 @@ answered_if error (Some x) tree others h rest = go tree h
     go (r ∷ rs) hs = ((x, hs.0, refl), go rs hs.1)
 answered_if error None tree others h rest = rest
 
-are_answered : (error : ℕ → Option Errno) (suspended : List (List Pending)) (bound : List ℕ → Bool) (trees : List (List Request))
+pub are_answered : (error : ℕ → Option Errno) (suspended : List (List Pending)) (bound : List ℕ → Bool) (trees : List (List Request))
     → Judge error (admission suspended bound) trees → AllByRecursion (IsAnswered error) (admitted suspended bound trees).answered
 are_answered error suspended bound [] judge = tt
 are_answered error suspended bound (tree ∷ trees) judge =

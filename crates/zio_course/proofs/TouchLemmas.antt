@@ -152,11 +152,11 @@ after_same es fs a b name alike among back same = go (first_toucher name es)
 -- ---- requests that are apart by names
 
 -- the request changes this name
-record Changes (work : Work) (name : List ℕ) : Type 0 where
-  own : List ℕ
-  names : name_of work ≡ Some own
-  is : bytes_eq own name ≡ true
-  reads : is_read (kind_of work) ≡ false
+pub record Changes (work : Work) (name : List ℕ) : Type 0 where
+  pub own : List ℕ
+  pub names : name_of work ≡ Some own
+  pub is : bytes_eq own name ≡ true
+  pub reads : is_read (kind_of work) ≡ false
 
 pub change_if : (b : Bool) (t : Option (Option Tree)) (after : Option Tree) → cond b t None ≡ Some after → b ≡ true
 change_if true t after e = refl
@@ -171,14 +171,14 @@ change_by (Free n) tree name after e = record { own = n; names = refl; is = chan
 change_by (Claim n pointer) tree name after e =
     record { own = n; names = refl; is = change_if (bytes_eq n name) (made_if tree) after e; reads = refl }
 
-changes : (e : Ended) (name : List ℕ) (after : Option Tree) → touch name e ≡ Some after → Changes e.request.work name
+pub changes : (e : Ended) (name : List ℕ) (after : Option Tree) → touch name e ≡ Some after → Changes e.request.work name
 changes e name after is = go e.error refl
   where
     go : (error : Option Errno) → e.error ≡ error → Changes e.request.work name
     go None none = change_by e.request.work e.tree name after (sym (ap (λ (o : Option Errno). touch_unless o e name) none) ∙ is)
     go (Some x) some = absurd (let no = sym (ap (λ (o : Option Errno). touch_unless o e name) some) ∙ is in cc)
 
-not_shared : (apart other : Bool) → (not apart && false && other) ≡ false
+pub not_shared : (apart other : Bool) → (not apart && false && other) ≡ false
 not_shared true other = refl
 not_shared false other = refl
 

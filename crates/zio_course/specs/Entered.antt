@@ -14,7 +14,7 @@ use Rattle.zio_course.specs.declared.runner.RoundEnd.{RoundEnd}
 use Rattle.zio_course.specs.Answered.{answered_in}
 use Rattle.zio_course.specs.Forests.{names_of}
 use Rattle.zio_course.specs.Names.{named_in}
-use Rattle.zio_course.specs.Runners.{DiffersInRound, IsRound, Standing}
+use Rattle.zio_course.specs.Runners.{DiffersInRound, IsRound, IsRoundEnd, Standing, StandsAfter}
 use Rattle.zio_course.specs.Told.{ended_told, line_told}
 
 -- The journal has the round's entries, the completions of what was answered and then the round's, and one round more; and
@@ -35,7 +35,7 @@ pub record IsBatchRun (error : ℕ → Option Errno) (requests : List Request) (
 
 -- What a round leaves that was cut short: the journal as it was and images that differ loosely, or the whole round in the
 -- journal and its images.
-abbrev pub IsCutShort : Standing → Terms → List (List Pending) → List Completion → Journal → Journal → Images → Images → Type 0
-IsCutShort s t trees answered old new before after =
+abbrev pub IsCutShort : Standing → Standing → Terms → List (List Pending) → List Completion → Journal → Journal → Images → Images → Type 0
+IsCutShort s now t trees answered old new before after =
     ((new ≡ old) × DiffersInRound s trees before after)
-    ⊎ ((end : RoundEnd (List Pending)) × IsEntered answered old new end end.finished end.left × IsRound t trees before after end)
+    ⊎ ((end : RoundEnd (List Pending)) × IsEntered answered old new end end.finished end.left × IsRoundEnd s (old.rounds + 1) trees end × StandsAfter s now (old.rounds + 1) trees end × IsRound t trees before after end)

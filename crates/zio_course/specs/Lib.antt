@@ -3,10 +3,14 @@ pub mod Admitted
 pub mod Answered
 pub mod Course
 pub mod Entered
+pub mod Faults
+pub mod Folds
 pub mod Forests
 pub mod Live
+pub mod Moves
 pub mod Names
 pub mod Parents
 pub mod Runners
+pub mod SoFar
 pub mod Steps
 pub mod Told

@@ -72,10 +72,13 @@ pub fn run_batch<R: Runner>(
     ensures shown { IfOk result (λ ran. AreWhole ran.lines) }
     ensures fits { OnOk result ((name : List ℕ) → IfSome (named_in bound.new name) R.fits) }
     ensures cut { OnErr result ((before : Images) → R.tells runner.old before → (after : Images) × R.tells runner.new after
-        × IsCutShort (R.standing runner.old) (terms_at (R.standing runner.old) failmode (journal.old.rounds + 1) point)
+        × IsCutShort (R.standing runner.old) (R.standing runner.new) (terms_at (R.standing runner.old) failmode (journal.old.rounds + 1) point)
         (pending_trees (names_of bound.old) number (trees_of (running admission.now.slots.entries admission.now.rules.items batch.now)))
         (reverse (answered_in (error_in admission.now.slots.entries admission.now.rules.items) (journal.old.rounds + 1) (requests_of batch.now)))
         journal.old journal.new before after) }
+    ensures tops { (R.standing runner.new).tops ≡ (R.standing runner.old).tops }
+    ensures rows { (R.standing runner.new).rows ≡ (R.standing runner.old).rows }
+    ensures kept { IsErrOf result Stop.Device → journal.new ≡ journal.old }
     ensures device { IsErrOf result Stop.Device → AnyRose (R.standing runner.old).faults (R.standing runner.new).faults }
     ensures same { R.same runner.old runner.new }
 {

@@ -1,4 +1,4 @@
-ghost use Rattle.std.specs.Prelude.{◌≡◌, ◌+◌, ◌<◌, ◌≤◌, ◌++◌, ◌∷◌, ℕ, Bool, List, [], Contains, IfSome, length, None, Option, Some, reverse};
+ghost use Rattle.std.specs.Prelude.{◌≡◌, ◌&&◌, ◌+◌, ◌<◌, ◌≤◌, ◌++◌, ◌∷◌, ℕ, Bool, List, [], Contains, IfSome, count_by, filter, is_none, length, None, Option, Some, reverse};
 ghost use Rattle.std.specs.List.{AllByRecursion};
 ghost use Rattle.zio_types.specs.declared.journal.Completion.{Completion};
 ghost use Rattle.zio_types.specs.declared.place.TopSize.{TopSize};
@@ -34,13 +34,14 @@ ghost use Rattle.zio_course.specs.Admitted.{AreAwaited};
 ghost use Rattle.zio_course.specs.Answered.{answered_in};
 ghost use Rattle.zio_course.specs.Course.{IsEnteredSoFar, Reaches, shown_of};
 ghost use Rattle.zio_course.specs.Entered.{IsBatchRun};
+ghost use Rattle.zio_course.specs.Folds.{AreSuspended, is_named_by};
 ghost use Rattle.zio_course.specs.Forests.{AreReady, names_of, running};
 ghost use Rattle.zio_course.specs.Live.{IsLive, IsRoundOver};
 ghost use Rattle.zio_course.specs.Names.{is_some_name, named_in};
 ghost use Rattle.zio_course.specs.Parents.{AreParented};
-ghost use Rattle.zio_course.specs.Runners.{AreRunnable, IsRound, IsRoundEnd, Standing, StandsAfter, named_places, rows_tell_apart, terms_at};
+ghost use Rattle.zio_course.specs.Runners.{AreRunnable, IsRound, IsRoundEnd, Standing, StandsAfter, is_numbered, named_places, numbers_of, requests_in, rows_tell_apart, terms_at};
 ghost use Rattle.zio_course.specs.Steps.{AreUnfinished, IsAt, IsNextRound, IsPlanOf};
-ghost use Rattle.zio_course.specs.Told.{ended_told, no_error};
+ghost use Rattle.zio_course.specs.Told.{ended_told, finish_of, no_error};
 ghost use Rattle.zio_course.specs.declared.admission.Rules.{Rules};
 ghost use Rattle.zio_course.specs.declared.runner.RoundEnd.{RoundEnd};
 
@@ -160,9 +161,30 @@ pub fn accepted_scripts_are_short()
 {}
 
 /// Parents wait for their children: in the trees of a batch each request comes before its parent, and where a round leaves a
-/// request it leaves its parent. So no later round completes a child of a request that completed.
+/// request it leaves its parent.
 pub fn parents_wait_for_children()
     ensures batch { (names : Bound) (birth : ℕ) (requests : List Request) → AllByRecursion AreParented (pending_trees names birth (trees_of requests)) }
     ensures round { (j : List Choice) (t : Terms) (trees : List (List Pending)) (images : Images) → AllByRecursion AreParented trees
         → AllByRecursion AreParented (settle_each j t trees images).left }
+{}
+
+/// Trees that wait for the next `clear` are runnable, and what a round leaves of runnable trees waits so, with those of its
+/// requests that were neither answered nor finished.
+pub fn suspended_trees_are_runnable()
+    ensures runnable { (s : Standing) (bound : List (List ℕ × Tree)) (suspended : List (List Pending)) (unfinished : List Request) →
+        AreSuspended (rows_tell_apart s.rows) bound suspended unfinished → IsLive s.live bound → AreRunnable s suspended }
+    ensures left { (s : Standing) (round : ℕ) (apart : Bool) (trees : List (List Pending)) (end : RoundEnd (List Pending)) (requests : List Request) (error : ℕ → Option Errno) (bound after : List (List ℕ × Tree)) →
+        AreRunnable s trees → IsRoundEnd s round trees end → IsRoundOver apart bound error requests trees
+        → ((n : ℕ) → count_by (is_numbered n) (numbers_of (requests_in trees)) ≡ count_by (is_numbered n) (numbers_of (filter (λ (r : Request). is_none (error r.number)) requests)))
+        → ((name : List ℕ) → named_in after name ≡ block_of (bound_after (ended_told error end.finished requests) (names_of bound)) name)
+        → AreSuspended apart after end.left (filter (λ (r : Request). is_none (error r.number) && is_none (finish_of end.finished r.number)) requests) }
+    ensures batch { (s : Standing) (round number : ℕ) (awaited : List ℕ → Bool) (suspended : List (List Pending)) (unfinished : List Request) (bound after : List (List ℕ × Tree)) (items : List Item) (slots : List (ℕ × ℕ)) (rules : List Rules) (end : RoundEnd (List Pending)) →
+        AreSuspended (rows_tell_apart s.rows) bound suspended unfinished → IsLive s.live bound → AreAwaited suspended awaited
+        → AreRising (unfinished ++ requests_of items) → IsOrderlyBatch (rows_tell_apart s.rows) (requests_of items)
+        → IsAdmission (has_trees suspended) awaited (is_some_name bound) (trees_of (requests_of items)) slots rules
+        → IsRoundEnd s round (pending_trees (names_of bound) number (trees_of (running slots rules items))) end
+        → ((name : List ℕ) → named_in after name ≡ block_of (bound_after (ended_told (error_in slots rules) end.finished (requests_of items)) (names_of bound)) name)
+        → AreSuspended (rows_tell_apart s.rows) after (suspended ++ end.left) (unfinished ++ filter (λ (r : Request). is_none (error_in slots rules r.number) && is_none (finish_of end.finished r.number)) (requests_of items)) }
+    ensures awaited { (suspended : List (List Pending)) (unfinished : List Request) (awaited : List ℕ → Bool) → AreUnfinished suspended unfinished
+        → ((name : List ℕ) → awaited name ≡ is_named_by unfinished name) → AreAwaited suspended awaited }
 {}

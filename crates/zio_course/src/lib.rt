@@ -13,12 +13,18 @@ mod answered;
 mod awaited;
 mod batch;
 mod bound;
+mod clear;
 mod enter;
+mod fold;
 mod forest;
+mod go;
+mod held;
 mod laws;
 mod lines;
 mod round;
+mod rounds;
 mod runner;
+mod script;
 mod suspended;
 #[cfg(test)]
 mod tests;
@@ -31,16 +37,22 @@ pub use answered::answered_ends;
 pub use awaited::Awaited;
 pub use batch::{BatchEnd, run_batch};
 pub use bound::Bound;
+pub use clear::clear_line;
 pub use enter::enter_round;
+pub use fold::{Batch, Fold, Tally, requests_in};
 pub use forest::trees_to_run;
+pub use go::go_line;
+pub use held::run_held;
 pub use laws::{
     a_batch_is_a_round_of_the_course, a_clear_is_a_round_of_the_course,
     a_round_leaves_runnable_trees, accepted_scripts_are_short, an_orderly_batch_is_ready,
     an_orderly_batch_is_runnable, bound_places_are_live, parents_wait_for_children,
-    what_was_run_stays_run, whole_trees_are_admitted,
+    suspended_trees_are_runnable, what_was_run_stays_run, whole_trees_are_admitted,
 };
 pub use round::{WholeRound, whole_round};
+pub use rounds::{batch_round, clear_round};
 pub use runner::{Finished, Job, RoundEnd, Runner, Stop};
+pub use script::run_lines;
 pub use suspended::{run_suspended, tell_suspended};
 pub use texts::{write_held, write_pool, write_round, write_text};
 pub use told::tell_batch;

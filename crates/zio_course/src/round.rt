@@ -48,6 +48,8 @@ pub fn whole_round<R: Runner>(
     ensures kept { OnErr result (journal.new ≡ journal.old) }
     ensures cut { OnErr result ((before : Images) → R.tells runner.old before → (after : Images) × R.tells runner.new after
         × DiffersInRound (R.standing runner.old) (map R.pending job.trees) before after) }
+    ensures tops { (R.standing runner.new).tops ≡ (R.standing runner.old).tops }
+    ensures rows { (R.standing runner.new).rows ≡ (R.standing runner.old).rows }
     ensures device { IsErrOf result Stop.Device → AnyRose (R.standing runner.old).faults (R.standing runner.new).faults }
     ensures same { R.same runner.old runner.new }
 {
@@ -63,7 +65,7 @@ pub fn whole_round<R: Runner>(
 }
 
 /// The items of both, one list after the other.
-fn both<T: Drop>(first: List<T>, more: List<T>) -> Result<List<T>, NoMemory>
+pub(crate) fn both<T: Drop>(first: List<T>, more: List<T>) -> Result<List<T>, NoMemory>
     ensures { IfOk result (λ items. items ≡ first ++ more) }
 {
     let mut items = first.into_vec();

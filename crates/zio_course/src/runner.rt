@@ -6,9 +6,11 @@ ghost use Rattle.zio_cksum.specs.Images.{Images};
 ghost use Rattle.zio_gang.specs.Attempts.{Pending};
 ghost use Rattle.zio_gang.specs.declared.tree.Tree.{Tree as SeenTree};
 ghost use Rattle.zio_course.specs.declared.runner.Stop.TheVariants.{Memory};
+ghost use Rattle.zio_course.specs.Faults.{fault_of};
 ghost use Rattle.zio_course.specs.Runners.{AreRunnable, IsNewTree, IsRound, IsRoundEnd, Standing, Stays, StoppedAfter, StandsAfter, AnyRose, DiffersInRound, ended_seen, fresh, made_trees, terms_at, tree_over};
 
 use zio_gang::Tree;
+use zio_report::RunFault;
 use zio_script::{Failmode, Request};
 use zio_types::{Bytes, Completion, Entry, Errno, List, NoMemory, ReqNo};
 
@@ -62,6 +64,17 @@ impl From<NoMemory> for Stop {
 
     fn from(_refused: NoMemory) -> Stop {
         Stop::Memory
+    }
+}
+
+impl From<Stop> for RunFault {
+    ghost from_gives = { λ stop fault. fault ≡ fault_of stop };
+
+    fn from(stop: Stop) -> RunFault {
+        match stop {
+            Stop::Device => RunFault::Device,
+            Stop::Memory => RunFault::Memory,
+        }
     }
 }
 

@@ -53,8 +53,11 @@ pub fn run_suspended<R: Runner>(
     ensures shown { IfOk result (λ ran. AreWhole ran.lines) }
     ensures fits { OnOk result ((name : List ℕ) → IfSome (named_in bound.new name) R.fits) }
     ensures cut { OnErr result ((before : Images) → R.tells runner.old before → (after : Images) × R.tells runner.new after
-        × IsCutShort (R.standing runner.old) (terms_at (R.standing runner.old) failmode (journal.old.rounds + 1) point)
+        × IsCutShort (R.standing runner.old) (R.standing runner.new) (terms_at (R.standing runner.old) failmode (journal.old.rounds + 1) point)
         (map R.pending trees) [] journal.old journal.new before after) }
+    ensures tops { (R.standing runner.new).tops ≡ (R.standing runner.old).tops }
+    ensures rows { (R.standing runner.new).rows ≡ (R.standing runner.old).rows }
+    ensures kept { IsErrOf result Stop.Device → journal.new ≡ journal.old }
     ensures device { IsErrOf result Stop.Device → AnyRose (R.standing runner.old).faults (R.standing runner.new).faults }
     ensures same { R.same runner.old runner.new }
 {

@@ -35,7 +35,7 @@ returns-in_err-lines-clause-cut g c =
     (let after = w.4 before told in (
       after.0,
       after.1,
-      inr (w.0, record { places = w.1.places; completions = w.1.completions; rounds = w.1.rounds; finished_is = refl; left_is = refl }, after.2),
+      inr (w.0, record { places = w.1.places; completions = w.1.completions; rounds = w.1.rounds; finished_is = refl; left_is = refl }, w.2, w.3, after.2),
     )))
 
 pub returns-clause-ran : goal.returns-clause-ran

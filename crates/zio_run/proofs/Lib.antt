@@ -4,4 +4,5 @@ pub mod NumberLemmas
 pub mod OptionLemmas
 pub mod ReadLemmas
 pub mod ScriptLemmas
+pub mod ShelfLemmas
 pub mod WordLemmas

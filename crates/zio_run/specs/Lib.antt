@@ -1,4 +1,5 @@
 pub mod Commands
 pub mod Headline
 pub mod Outcomes
+pub mod Shelves
 pub mod Words

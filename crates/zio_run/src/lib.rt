@@ -13,6 +13,7 @@ mod names;
 mod number;
 mod options;
 mod serial;
+mod shelf;
 mod source;
 #[cfg(test)]
 mod tests;
@@ -22,4 +23,5 @@ pub use image::{IMAGE_LEN_MAX, IMAGE_LEN_MIN};
 pub use names::IMAGES_MAX;
 pub use options::{WORKERS_MAX, WORKERS_USUAL};
 pub use serial::zio_serial_main;
+pub use shelf::{ImagesFault, fetch_images, give_back_images};
 pub use words::{Command, WordsError, read_words};

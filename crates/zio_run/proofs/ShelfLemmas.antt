@@ -438,6 +438,14 @@ pub lawful-more : (old mid : List ℕ → List ℕ → Type 0) (name : List ℕ)
 lawful-more old mid name rest k first keep behind [] told = absurd told
 lawful-more old mid name rest k first keep behind (bytes ∷ images) told = (first bytes told.0, behind images (keep images told.1))
 
+-- as many sizes as names are all of them
+pub lawful-all : (old : List ℕ → List ℕ → Type 0) (names : List (List ℕ)) (images : Images) → TellEach old names images
+    → AllByRecursion HasLawfulSize (take (length names) (map (length {A = ℕ}) images)) → AllByRecursion HasLawfulSize (map (length {A = ℕ}) images)
+lawful-all old [] [] told all = tt
+lawful-all old [] (bytes ∷ images) told all = absurd told
+lawful-all old (name ∷ names) [] told all = absurd told
+lawful-all old (name ∷ names) (bytes ∷ images) told all = (all.0, lawful-all old names images told.1 all.1)
+
 -- the first size out of range is that of the first image ..
 pub IsFirstUnlawful-here : (old : List ℕ → List ℕ → Type 0) (name : List ℕ) (rest : List (List ℕ))
     → ((bytes : List ℕ) → old name bytes → ¬ HasLawfulSize (length bytes)) → (images : Images) → TellEach old (name ∷ rest) images

@@ -2,4 +2,5 @@ pub mod Commands
 pub mod Headline
 pub mod Outcomes
 pub mod Shelves
+pub mod Tops
 pub mod Words

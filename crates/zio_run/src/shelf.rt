@@ -44,6 +44,8 @@ where
     ensures fresh { IfOk result (λ disks. AreFresh H.Disk.bytes H.Disk.faults H.Disk.faults_at_fetch disks.items) }
     ensures told { IfOk result (λ disks. H.tells shelf.old → AreFetched H.Disk.home H.Disk.image names.now disks.items
         (H.image shelf.old) (H.image shelf.new) (H.out shelf.old) (H.out shelf.new)) }
+    ensures lawful_told { OnOk result ((images : Images) → H.tells shelf.old → TellEach (H.image shelf.old) names.now images →
+        AllByRecursion HasLawfulSize (map length images)) }
     ensures fetches { OnOk result ((H.fetches shelf.new ≡ counted_times (length names.now) (H.fetches shelf.old))
         × (H.returns shelf.new ≡ H.returns shelf.old)) }
     ensures size { OnOk result (HasLawfulSize (H.last_size shelf.new)) }

@@ -1,10 +1,11 @@
 use Rattle.std.proofs.Common.{◌≡◌, ◌≤◌, [], ℕ, suc, Err, List, length, map, take, sym, ap, ◌∙◌, subst, arith}
 use Rattle.std.proofs.lemmas.List.{take_all}
+use Rattle.std.specs.List.{AllByRecursion}
 use Rattle.zio_outside.specs.Outside.{counted}
-use Rattle.zio_run.specs.Outcomes.{IsEachBack, counted_times}
+use Rattle.zio_run.specs.Outcomes.{HasLawfulSize, IsEachBack, counted_times}
 use Rattle.zio_run.specs.Shelves.{AreFetched, IsFirstUnlawful, added}
 use Rattle.zio_run.specs.declared.shelf.ImagesFault.TheVariants.{Size}
-use Rattle.zio_run.proofs.ShelfLemmas.{AreNames-take, AreOut-fetched, StaysHome-after_trips, by_fault, counted_times-first, each_front}
+use Rattle.zio_run.proofs.ShelfLemmas.{AreNames-take, AreOut-fetched, StaysHome-after_trips, by_fault, counted_times-first, each_front, lawful-all}
 use Rattle.zio_run.proofs.shelf.fetch_images.Goals as goal
 
 pub give_back_images-requires-clause-home : goal.give_back_images-requires-clause-home
@@ -42,6 +43,15 @@ returns-in-Ok-clause-told g c tells =
     subst (λ ds. length (added ds news) ≡ length names) z c.in-Ok.ensures.all in
     let most : length names ≤ length news = omega arith in
     subst (λ (ns : List (List ℕ)). AreFetched home image ns news old mid old_out mid_out) (take_all (length news) names most) fetched
+
+pub returns-in-Ok-clause-lawful_told : goal.returns-in-Ok-clause-lawful_told
+returns-in-Ok-clause-lawful_told g c images tells told =
+    let news = c.fetch_each.new.disks.items in
+    let z : c.reserve.new.self.items ≡ [] = c.reserve.ensures.items ∙ c.new-disks.ensures.items in
+    let names = c.args.names.now in
+    let all : length (added c.reserve.new.self.items news) ≡ length names = c.in-Ok.ensures.all in
+    lawful-all (g.H.Shelf.image c.args.shelf.now) names images told
+    (subst (λ (n : ℕ). AllByRecursion HasLawfulSize (take n (map (length {A = ℕ}) images))) all (c.fetch_each.ensures.lawful_told images tells told))
 
 pub returns-in-Err-clause-unlawful_told : goal.returns-in-Err-clause-unlawful_told
 returns-in-Err-clause-unlawful_told g c leaf err images tells told =

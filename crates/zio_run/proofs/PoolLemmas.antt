@@ -1,8 +1,8 @@
 -- What the `top` and `fault` lines of an accepted script have, by its lines one after another.
-use Rattle.std.proofs.Common.{◌≡◌, ◌<◌, ◌≤◌, ℕ, ◌+◌, ◌-◌, ◌/◌, ◌^◌, List, [], ◌∷◌, ◌++◌, length, Bool, true, false, not, ◌&&◌, ◌||◌, ◌==◌, nat_le, nat_lt, Option, Some, None, Result, Ok, Err, refl, sym, ap, ◌∙◌, subst, arith}
+use Rattle.std.proofs.Common.{◌≡◌, ◌<◌, ◌≤◌, ℕ, ◌+◌, ◌-◌, ◌/◌, List, [], ◌∷◌, ◌++◌, length, Bool, true, false, not, ◌&&◌, ◌||◌, ◌==◌, nat_le, nat_lt, Option, Some, None, Result, Ok, Err, refl, sym, subst, arith}
 use Rattle.std.proofs.lemmas.Bool.{and_parts, eqb-true, leb-true, leb-false}
 use Rattle.std.proofs.lemmas.List.{length-append}
-use Rattle.std.specs.List.{AllByRecursion, list_all, list_any}
+use Rattle.std.specs.List.{list_all}
 use Rattle.zio_types.specs.Places.{is_unit, sector_size}
 use Rattle.zio_faults.specs.declared.table.Row.{Row}
 use Rattle.zio_faults.specs.Hits.{RowFits}
@@ -17,8 +17,8 @@ use Rattle.zio_script.specs.Grammar.{IsScriptIn, after_form, after_line, after_s
 use Rattle.zio_script.specs.Lines.{ScriptLine, FailmodeLine, LeavesLine, FaultLine, RequestLine, GoLine, ClearLine, Shape, line_of, shape_of}
 use Rattle.zio_script.specs.Whys.{Before, fits_row, if_so, is_leaf, is_sector, is_within, least_why, nothing_before, whys_at_end, whys_of}
 use Rattle.zio_script.specs.Words.{Word, is_skipped, lines_of, words_of}
-use Rattle.zio_run.specs.Tops.{HaveUnits, IsLawfulPool}
-use Rattle.zio_run.proofs.TopLemmas.{all_push}
+use Rattle.zio_run.specs.Tops.{IsLawfulPool}
+use Rattle.zio_plain.proofs.JournalLemmas.{all_push}
 
 -- ---- one line
 

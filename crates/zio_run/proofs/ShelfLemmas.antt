@@ -1,18 +1,18 @@
 -- Disks that leave their shelf one by one and come home one by one.
-use Rattle.std.proofs.Common.{◌≡◌, ◌≢◌, ◌<◌, ◌≤◌, ℕ, zero, suc, ◌+◌, ◌-◌, get_or, Result, Ok, Err, List, [], ◌∷◌, ◌++◌, ◌⊎◌, inl, inr, Bool, true, false, ◌||◌, length, map, take, drop, refl, sym, ap, ◌∙◌, subst, arith, rules}
+use Rattle.std.proofs.Common.{◌≡◌, ◌≢◌, ◌<◌, ◌≤◌, ℕ, zero, suc, ◌-◌, get_or, Result, Ok, Err, List, [], ◌∷◌, ◌++◌, ◌⊎◌, inl, inr, Bool, true, false, ◌||◌, length, map, take, drop, refl, sym, ap, ◌∙◌, subst, arith}
 use Rattle.std.specs.Cmp.Lexicographic.{same_text, other_text}
 use Rattle.std.specs.List.{AllByRecursion, Contains}
 use Rattle.std.proofs.lemmas.List.{take_all}
-use Rattle.std.specs.Prelude.{bytes_eq, slice_index_or, ◌↔◌, OnOk}
+use Rattle.std.specs.Prelude.{bytes_eq, OnOk}
+use Rattle.zio_cksum.proofs.AllLemmas.{all_contains}
 use Rattle.zio_cksum.specs.Images.{Images}
 use Rattle.zio_outside.specs.Outside.{ComesHome, GoesOut, StaysHome, count_max, counted}
-use Rattle.zio_disks.specs.Disks.{Tell}
 use Rattle.zio_run.specs.Headline.{TellEach}
 use Rattle.zio_run.specs.declared.shelf.ImagesFault.{ImagesFault}
 use Rattle.zio_run.specs.declared.shelf.ImagesFault.TheVariants.{Failed, Size, Memory}
 use Rattle.zio_run.specs.Outcomes.{HasLawfulSize, counted_times}
-use Rattle.zio_run.specs.Shelves.{AreAt, AreFetched, AreFresh, AreOut, ComeHome, GoOut, IsFirstUnlawful, KeepOthers, added}
-use Rattle.zio_run.specs.Words.{AreNames, IsImageName, is_among}
+use Rattle.zio_run.specs.Shelves.{AreFetched, AreFresh, AreOut, ComeHome, GoOut, IsFirstUnlawful, KeepOthers, added}
+use Rattle.zio_run.specs.Words.{AreNames, is_among}
 
 -- ---- what a list contains
 
@@ -32,13 +32,6 @@ Contains-none y (k, inside, is) = let l : k < 0 = inside in omega arith
 each : {X : Type 0} (P : X → Type 0) (xs : List X) → ((x : X) → Contains xs x → P x) → AllByRecursion P xs
 each P [] all = tt
 each P (x ∷ xs) all = (all x (Contains-here x x xs refl), each P xs (λ y there. all y (Contains-there x y xs there)))
-
-of_each : {X : Type 0} (P : X → Type 0) (xs : List X) → AllByRecursion P xs → (x : X) → Contains xs x → P x
-of_each P [] all x there = absurd (Contains-none x there)
-of_each P (y ∷ xs) all x there = elim (Contains-cons y x xs there) [
-  | inl e ↦ subst P e all.0
-  | inr rest ↦ of_each P xs all.1 x rest
-]
 
 -- ---- names
 
@@ -109,25 +102,6 @@ added-one {D} old mid new disk one more =
     let whole : new ≡ old ++ disk ∷ added mid new =
     more ∙ (ap (λ (xs : List D). xs ++ added mid new) one ∙ append_one old disk (added mid new)) in
     ap (λ (xs : List D). added old xs) whole ∙ added-front old (disk ∷ added mid new)
-
-pub added-whole : {D : Type 0} (old mid new : List D) (disk : D) → mid ≡ old ++ disk ∷ [] → new ≡ mid ++ added mid new
-    → new ≡ old ++ added old new
-added-whole {D} old mid new disk one more =
-    let whole : new ≡ old ++ disk ∷ added mid new =
-    more ∙ (ap (λ (xs : List D). xs ++ added mid new) one ∙ append_one old disk (added mid new)) in
-    whole ∙ ap (λ (xs : List D). old ++ xs) (sym (added-one old mid new disk one more))
-
-pub AreFresh-none : {D : Type 0} (bytes faults faults_at_fetch : D → ℕ) → AreFresh bytes faults faults_at_fetch []
-AreFresh-none bytes faults faults_at_fetch = record { lawful = tt; unfailed = refl; below = tt }
-
-pub AreFresh-more : {D : Type 0} (bytes faults faults_at_fetch : D → ℕ) (disk : D) (disks : List D)
-    → HasLawfulSize (bytes disk) × (faults_at_fetch disk ≡ faults disk) × (faults disk < count_max)
-    → AreFresh bytes faults faults_at_fetch disks → AreFresh bytes faults faults_at_fetch (disk ∷ disks)
-AreFresh-more bytes faults faults_at_fetch disk disks first rest = record {
-  lawful = (first.0, rest.lawful);
-  unfailed = (let a = first.1 in let b = rest.unfailed in cc);
-  below = (first.2, rest.below);
-}
 
 -- ---- counts
 
@@ -218,7 +192,7 @@ pub home_after : (name : List ℕ) (names : List (List ℕ)) (old mid : List ℕ
     → AllByRecursion (λ n. ¬ mid_out n) names
 home_after name names old mid old_out mid_out are first home =
     each (λ n. ¬ mid_out n) names (λ n there out. elim ((first.out n).0 out) [
-      | inl p ↦ of_each (λ m. ¬ old_out m) names home n there p
+      | inl p ↦ all_contains (λ m. ¬ old_out m) names n home there p
       | inr e ↦ AreNames-apart name names are (subst (λ m. Contains names m) e there)
     ])
 
@@ -326,7 +300,7 @@ AreOut-after home disk_image name bytes names images disks old mid old_out mid_o
   homes = out.homes;
   told = out.told;
   out_now = each mid_out names (λ n there. (first.out n).1
-      (of_each old_out names out.out_now n there, λ e. AreNames-apart name names are (subst (λ m. Contains names m) e there)));
+      (all_contains old_out names n out.out_now there, λ e. AreNames-apart name names are (subst (λ m. Contains names m) e there)));
 }
 
 -- disks that were fetched are out
@@ -391,7 +365,7 @@ StaysHome-after_trips names images old mid new old_out mid_out new_out gone back
   out = λ name. (
     λ h. (let a = (back.out name).0 h in
         elim ((gone.out name).0 a.0) [ inl p ↦ p | inr there ↦ absurd (a.1 there) ]),
-    λ h. (back.out name).1 ((gone.out name).1 (inl h), λ there. of_each (λ n. ¬ old_out n) names home name there h),
+    λ h. (back.out name).1 ((gone.out name).1 (inl h), λ there. all_contains (λ n. ¬ old_out n) names name home there h),
   );
 }
 
@@ -407,7 +381,7 @@ KeepOthers-after_trips names images old mid new old_out mid_out new_out gone bac
   out = λ name. (
     λ h. (let a = (back.out name).0 h in
         elim ((gone.out name).0 a.0) [ inl p ↦ p | inr there ↦ absurd (a.1 there) ]),
-    λ h. (back.out name).1 ((gone.out name).1 (inl h), λ there. of_each (λ n. ¬ old_out n) names home name there h),
+    λ h. (back.out name).1 ((gone.out name).1 (inl h), λ there. all_contains (λ n. ¬ old_out n) names name home there h),
   );
   still = λ before told. (images, back.told);
 }
@@ -446,18 +420,7 @@ lawful-all old [] (bytes ∷ images) told all = absurd told
 lawful-all old (name ∷ names) [] told all = absurd told
 lawful-all old (name ∷ names) (bytes ∷ images) told all = (all.0, lawful-all old names images told.1 all.1)
 
--- the first size out of range is that of the first image ..
-pub IsFirstUnlawful-here : (old : List ℕ → List ℕ → Type 0) (name : List ℕ) (rest : List (List ℕ))
-    → ((bytes : List ℕ) → old name bytes → ¬ HasLawfulSize (length bytes)) → (images : Images) → TellEach old (name ∷ rest) images
-    → IsFirstUnlawful (map (length {A = ℕ}) images) 0
-IsFirstUnlawful-here old name rest first [] told = absurd told
-IsFirstUnlawful-here old name rest first (bytes ∷ images) told = record {
-  there = omega arith;
-  before = tt;
-  unlawful = first bytes told.0;
-}
-
--- .. or one behind it
+-- the first size out of range is one behind the first image's
 pub IsFirstUnlawful-more : (old mid : List ℕ → List ℕ → Type 0) (name : List ℕ) (rest : List (List ℕ)) (k : ℕ)
     → ((bytes : List ℕ) → old name bytes → HasLawfulSize (length bytes))
     → ((images : Images) → TellEach old rest images → TellEach mid rest images)
@@ -471,16 +434,6 @@ IsFirstUnlawful-more old mid name rest k first keep behind (bytes ∷ images) to
       before = (first bytes told.0, later.before);
       unlawful = later.unlawful;
     }
-
--- what holds of each name here holds of each there
-pub each_weaker : {X : Type 0} (P Q : X → Type 0) → ((x : X) → P x → Q x) → (xs : List X) → AllByRecursion P xs → AllByRecursion Q xs
-each_weaker P Q f [] all = tt
-each_weaker P Q f (x ∷ xs) all = (f x all.0, each_weaker P Q f xs all.1)
-
-pub each_front : {X : Type 0} (P : X → Type 0) (k : ℕ) (xs : List X) → AllByRecursion P xs → AllByRecursion P (take k xs)
-each_front P zero xs all = tt
-each_front P (suc k) [] all = tt
-each_front P (suc k) (x ∷ xs) all = (all.0, each_front P k xs all.1)
 
 -- what holds of each fault
 pub by_fault : {T P : Type 0} (r : Result T ImagesFault) (fault : ImagesFault) → r ≡ Err fault → ((leaf : ℕ) → r ≡ Err (Failed leaf) → P)

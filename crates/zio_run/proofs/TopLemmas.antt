@@ -1,28 +1,13 @@
 -- The sectors of tops by the sizes of their leaves, and the leaves that have images.
-use Rattle.std.proofs.Common.{◌≡◌, ◌<◌, ◌≤◌, ℕ, zero, suc, ◌+◌, ◌-◌, ◌*◌, ◌/◌, ◌%◌, min, List, [], ◌∷◌, ◌++◌, Option, Some, None, get_or, length, map, take, drop, Bool, true, false, ◌&&◌, ◌||◌, ◌==◌, refl, sym, ap, ◌∙◌, subst, arith, append_assoc}
-use Rattle.std.specs.List.{AllByRecursion, flat_map, list_all}
+use Rattle.std.proofs.Common.{◌≡◌, ◌<◌, ◌≤◌, ℕ, zero, suc, ◌-◌, ◌*◌, ◌/◌, min, List, [], ◌∷◌, ◌++◌, Option, Some, None, get_or, length, take, drop, refl, sym, ap, ◌∙◌, subst, arith, append_assoc}
+use Rattle.std.specs.List.{AllByRecursion}
 use Rattle.std.specs.Prelude.{MatchOption, slice_index_or}
 use Rattle.std.proofs.lemmas.List.{take_all}
-use Rattle.zio_types.specs.declared.place.Top.{Top}
-use Rattle.zio_types.specs.Places.{is_lawful_top, is_unit, sector_size}
-use Rattle.zio_cksum.specs.Images.{Images, image_of}
-use Rattle.zio_gang.specs.Runs.{least_sectors, top_of}
-use Rattle.zio_gang.specs.Trees.{size_of, sizes_of}
+use Rattle.zio_types.specs.Places.{sector_size}
+use Rattle.zio_cksum.proofs.AllLemmas.{all_append, all_weaker}
 use Rattle.zio_script.specs.declared.script.TopLine.{TopLine}
-use Rattle.zio_run.proofs.ShelfLemmas.{each_weaker}
+use Rattle.zio_plain.proofs.JournalLemmas.{all_front}
 use Rattle.zio_run.specs.Tops.{HaveImages, IsFirstMissing, leaves_of}
-
-all_append : (P : ℕ → Type 0) (xs ys : List ℕ) → AllByRecursion P xs → AllByRecursion P ys → AllByRecursion P (xs ++ ys)
-all_append P [] ys a b = b
-all_append P (x ∷ xs) ys a b = (a.0, all_append P xs ys a.1 b)
-
-all_parts : (P : ℕ → Type 0) (xs ys : List ℕ) → AllByRecursion P (xs ++ ys) → AllByRecursion P xs × AllByRecursion P ys
-all_parts P [] ys a = (tt, a)
-all_parts P (x ∷ xs) ys a = let more = all_parts P xs ys a.1 in ((a.0, more.0), more.1)
-
-pub all_push : {X : Type 0} (P : X → Type 0) (xs : List X) (x : X) → AllByRecursion P xs → P x → AllByRecursion P (xs ++ x ∷ [])
-all_push P [] x a h = (h, tt)
-all_push P (y ∷ xs) x a h = (a.0, all_push P xs x a.1 h)
 
 pub all_at : {X : Type 0} (P : X → Type 0) (xs : List X) (k : ℕ) (x : X) → AllByRecursion P xs → k < length xs → x ≡ get_or xs k x → P x
 all_at P [] k x a inside is = let l : k < 0 = inside in absurd (omega arith)
@@ -35,24 +20,10 @@ pub HaveImages-lines : (images : ℕ) (lines : List TopLine) → HaveImages imag
     → AllByRecursion (λ (line : TopLine). HaveImages images line.leaves) lines
 HaveImages-lines images [] have = tt
 HaveImages-lines images (line ∷ lines) have =
-    let parts = all_parts (λ leaf. leaf < images) line.leaves (leaves_of lines) have in
+    let parts = all_front (λ leaf. leaf < images) line.leaves (leaves_of lines) have in
     (parts.0, HaveImages-lines images lines parts.1)
 
-pub HaveImages-more : (images : ℕ) (line : TopLine) (lines : List TopLine) → HaveImages images line.leaves → HaveImages images (leaves_of lines)
-    → HaveImages images (leaves_of (line ∷ lines))
-HaveImages-more images line lines here behind = all_append (λ leaf. leaf < images) line.leaves (leaves_of lines) here behind
-
--- the first without one is in the first top ..
-pub IsFirstMissing-here : (images : ℕ) (leaves more : List ℕ) (leaf : ℕ) → IsFirstMissing images leaves leaf → IsFirstMissing images (leaves ++ more) leaf
-IsFirstMissing-here images leaves more leaf first = record {
-  front = first.front;
-  behind = first.behind ++ more;
-  leaves_are = ap (λ (xs : List ℕ). xs ++ more) first.leaves_are ∙ (simp append_assoc);
-  named = first.named;
-  missing = first.missing;
-}
-
--- .. or behind it
+-- the first without one may stand behind others
 pub IsFirstMissing-behind : (images : ℕ) (leaves more : List ℕ) (leaf : ℕ) → HaveImages images leaves → IsFirstMissing images more leaf
     → IsFirstMissing images (leaves ++ more) leaf
 IsFirstMissing-behind images leaves more leaf here first = record {
@@ -78,17 +49,6 @@ missing_behind images leaf rest (Some n) here h = IsFirstMissing-behind images (
 
 -- ---- sectors
 
--- the size of a leaf is the length of its image
-size_at : (images : Images) (leaf : ℕ) → slice_index_or (map (length {A = ℕ}) images) leaf 0 ≡ length (image_of images leaf)
-size_at [] leaf = refl
-size_at (bytes ∷ images) zero = refl
-size_at (bytes ∷ images) (suc leaf) = size_at images leaf
-
-pub sectors_of_image : (images : Images) (sizes : List ℕ) (leaf : ℕ) → map (length {A = ℕ}) images ≡ sizes
-    → slice_index_or sizes leaf 0 / sector_size ≡ length (image_of images leaf) / sector_size
-sectors_of_image images sizes leaf are =
-    ap (λ (ns : List ℕ). slice_index_or ns leaf 0 / sector_size) (sym are) ∙ ap (λ (n : ℕ). n / sector_size) (size_at images leaf)
-
 -- the fewest sectors of some leaves and one more fit each of them
 pub fits_more : (sizes : List ℕ) (leaf : ℕ) (rest : List ℕ) (here others least : ℕ) → here ≡ slice_index_or sizes leaf 0 / sector_size
     → least ≡ min here others → AllByRecursion (λ n. others * sector_size ≤ slice_index_or sizes n 0) rest
@@ -99,6 +59,6 @@ fits_more sizes leaf rest here others least is least_is behind =
     let fewer : least ≤ others = omega arith in
     let whole : here * 512 ≤ size = omega arith in (
       (omega arith),
-      each_weaker (λ n. others * sector_size ≤ slice_index_or sizes n 0) (λ n. least * sector_size ≤ slice_index_or sizes n 0)
-          (λ n fits. omega arith) rest behind,
+      all_weaker (λ n. others * sector_size ≤ slice_index_or sizes n 0) (λ n. least * sector_size ≤ slice_index_or sizes n 0) rest
+          (λ n fits. omega arith) behind,
     )

@@ -1,5 +1,5 @@
 -- The images of a command and their shelf: what fetching all of them leaves, and what giving them back leaves.
-use Rattle.std.specs.Prelude.{◌≡◌, ◌+◌, ◌<◌, ◌≤◌, ◌↔◌, ◌⊎◌, ℕ, List, [], ◌∷◌, drop, length, map, slice_index_or, take}
+use Rattle.std.specs.Prelude.{◌≡◌, ◌<◌, ◌≤◌, ◌↔◌, ◌⊎◌, ℕ, List, [], ◌∷◌, drop, length, map, slice_index_or, take}
 use Rattle.std.specs.List.{AllByRecursion, Contains}
 use Rattle.zio_outside.specs.Outside.{count_max}
 use Rattle.zio_cksum.specs.Images.{Images}

@@ -1,12 +1,13 @@
 use Rattle.std.proofs.Common.{◌≡◌, ◌<◌, ◌∷◌, ℕ, suc, List, length, map, take, drop, ◌-◌, sym, ap, ◌∙◌, subst, refl, arith}
 use Rattle.std.specs.List.{AllByRecursion}
+use Rattle.zio_cksum.proofs.AllLemmas.{all_weaker}
 use Rattle.zio_cksum.specs.Images.{Images}
 use Rattle.zio_outside.specs.Outside.{Rose, counted}
 use Rattle.zio_run.specs.Headline.{TellEach}
 use Rattle.zio_run.specs.Outcomes.{HasLawfulSize, counted_times}
 use Rattle.zio_run.specs.Shelves.{AreFetched, IsFirstUnlawful, added}
 use Rattle.zio_run.specs.Words.{AreNames}
-use Rattle.zio_run.proofs.ShelfLemmas.{AreFetched-more, AreFetched-none, IsFirstUnlawful-more, StaysHome-refl, TellEach-goes_out, added-none, added-one, counted-more, each_weaker, home_after, lawful-more, names_split, on_ok}
+use Rattle.zio_run.proofs.ShelfLemmas.{AreFetched-more, AreFetched-none, IsFirstUnlawful-more, StaysHome-refl, TellEach-goes_out, added-none, added-one, counted-more, home_after, lawful-more, names_split, on_ok}
 use Rattle.zio_run.proofs.shelf.+fetch_each.Goals as goal
 
 pub returns-in_default-clause-told : goal.returns-in_default-clause-told
@@ -216,7 +217,7 @@ returns-clause-sound g t c all =
     let both : AllByRecursion (g.H.Shelf.sound c.args.shelf.now) (name ∷ rest) =
     subst (λ (ns : List (List ℕ)). AllByRecursion (g.H.Shelf.sound c.args.shelf.now) ns) e all in
     let s = c.in_ok-disk.ensures.sound both.0 in
-    let later = c.fetch_each.ensures.sound (each_weaker (g.H.Shelf.sound c.args.shelf.now) (g.H.Shelf.sound c.fetch_lawful.new.shelf) s.2 rest both.1) in (
+    let later = c.fetch_each.ensures.sound (all_weaker (g.H.Shelf.sound c.args.shelf.now) (g.H.Shelf.sound c.fetch_lawful.new.shelf) rest s.2 both.1) in (
       later.0 ∙ s.0,
       later.1,
       λ n h. later.2 n (s.2 n h),

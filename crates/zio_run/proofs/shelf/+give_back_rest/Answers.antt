@@ -1,4 +1,4 @@
-use Rattle.std.proofs.Common.{◌≡◌, ◌∷◌, ℕ, List, length, sym, ap, ◌∙◌, subst}
+use Rattle.std.proofs.Common.{◌∷◌, ℕ, List, length, sym, ap, ◌∙◌, subst}
 use Rattle.zio_cksum.specs.Images.{Images}
 use Rattle.zio_run.specs.Outcomes.{counted_times}
 use Rattle.zio_run.specs.Shelves.{AreOut, ComeHome}

@@ -1,11 +1,12 @@
 use Rattle.std.proofs.Common.{◌≡◌, ◌≤◌, [], ℕ, suc, Err, List, length, map, take, sym, ap, ◌∙◌, subst, arith}
 use Rattle.std.proofs.lemmas.List.{take_all}
 use Rattle.std.specs.List.{AllByRecursion}
+use Rattle.zio_cksum.proofs.AllLemmas.{all_take}
 use Rattle.zio_outside.specs.Outside.{counted}
-use Rattle.zio_run.specs.Outcomes.{HasLawfulSize, IsEachBack, counted_times}
+use Rattle.zio_run.specs.Outcomes.{HasLawfulSize, counted_times}
 use Rattle.zio_run.specs.Shelves.{AreFetched, IsFirstUnlawful, added}
 use Rattle.zio_run.specs.declared.shelf.ImagesFault.TheVariants.{Size}
-use Rattle.zio_run.proofs.ShelfLemmas.{AreNames-take, AreOut-fetched, StaysHome-after_trips, by_fault, counted_times-first, each_front, lawful-all}
+use Rattle.zio_run.proofs.ShelfLemmas.{AreNames-take, AreOut-fetched, StaysHome-after_trips, by_fault, counted_times-first, lawful-all}
 use Rattle.zio_run.proofs.shelf.fetch_images.Goals as goal
 
 pub give_back_images-requires-clause-home : goal.give_back_images-requires-clause-home
@@ -116,4 +117,4 @@ returns-in-Err-clause-stays g c tells =
     let back = c.give_back_images.ensures.home still (take (length news) names) fetched.images are in
     StaysHome-after_trips (take (length news) names) fetched.images old mid new old_out mid_out new_out fetched.gone back fetched.before
     (g.met.H.Shelf.one_image c.args.shelf.now) (g.met.H.Shelf.one_image c.give_back_images.new.shelf)
-    (each_front (λ (n : List ℕ). ¬ old_out n) (length news) names (c.requires.home tells))
+    (all_take (λ (n : List ℕ). ¬ old_out n) (length news) names (c.requires.home tells))

@@ -5,6 +5,9 @@ pub mod CommandLemmas
 pub mod DiskLemmas
 pub mod NumberLemmas
 pub mod OptionLemmas
+pub mod PoolLemmas
 pub mod ReadLemmas
 pub mod ScriptLemmas
+pub mod ShelfLemmas
+pub mod TopLemmas
 pub mod WordLemmas

@@ -8,19 +8,25 @@
 mod command;
 mod generated;
 mod image;
+mod laws;
 mod lines;
 mod names;
 mod number;
 mod options;
 mod parse;
 mod serial;
+mod shelf;
 mod source;
 #[cfg(test)]
 mod tests;
+mod tops;
 mod words;
 
 pub use image::{IMAGE_LEN_MAX, IMAGE_LEN_MIN};
+pub use laws::accepted_scripts_have_lawful_pools;
 pub use names::IMAGES_MAX;
 pub use options::{WORKERS_MAX, WORKERS_USUAL};
 pub use serial::zio_serial_main;
+pub use shelf::{ImagesFault, fetch_images, give_back_images};
+pub use tops::{TopsFault, sizes_of_disks, space_of, tops_over};
 pub use words::{Command, WordsError, read_words};

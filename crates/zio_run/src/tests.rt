@@ -4,6 +4,7 @@ ghost use Rattle.std.specs.Prelude.{ℕ, List, IfOk};
 ghost use Rattle.zio_outside.specs.MemoryShelf.{out_of, shelf_slot};
 
 mod forgetful;
+mod images;
 
 use crate::zio_serial_main;
 use forgetful::ForgetfulShelf;

@@ -5,7 +5,6 @@ use Rattle.zio_report.specs.declared.report.Show.{Show}
 use Rattle.zio_run.specs.Commands.{IsCommand}
 use Rattle.zio_run.specs.Outcomes.{Ends}
 use Rattle.zio_run.specs.Words.{IsGenOf}
-use Rattle.zio_run.specs.declared.words.Command.{Command}
 use Rattle.zio_run.specs.declared.words.Command.TheVariants.{Gen}
 use Rattle.zio_run.proofs.OptionLemmas.{differ, heads}
 use Rattle.zio_run.proofs.WordLemmas.{one_command_of}

@@ -17,3 +17,8 @@ pub mod MergeLemmas
 pub mod PostLemmas
 pub mod ContentLemmas
 pub mod ReturnLemmas
+pub mod FateLemmas
+pub mod StepLemmas
+pub mod StillLemmas
+pub mod PassLemmas
+pub mod SettleLemmas

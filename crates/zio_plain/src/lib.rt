@@ -8,6 +8,7 @@
 //! stands under another, writes have one copy of a sector, and there is one top without faults.
 #![tactic(auto)]
 
+mod attempt;
 mod body;
 mod bound;
 mod children;
@@ -20,10 +21,12 @@ mod owns;
 mod request;
 mod round;
 mod run;
+mod settle;
 #[cfg(test)]
 mod tests;
 mod tree;
 mod waiting;
+mod works;
 
 pub use chooser::Chooser;
 pub use laws::children_hand_on_last;

@@ -1,5 +1,5 @@
 -- What is asked of a chooser, step after step, and which spots that makes.
-use Rattle.std.proofs.Common.{◌≡◌, ◌≢◌, ◌-◌, ◌≤◌, ℕ, List, [], ◌∷◌, ◌++◌, inl, inr, append_assoc, sym, ap, subst, ◌∙◌, arith, length, drop, get_or, map, take, IfOk, Result, Ok, Err}
+use Rattle.std.proofs.Common.{◌≡◌, ◌≢◌, ◌-◌, ◌<◌, ◌≤◌, ℕ, List, [], ◌∷◌, ◌++◌, inl, inr, append_assoc, refl, sym, ap, subst, ◌∙◌, arith, length, drop, get_or, map, take, IfOk, Result, Ok, Err}
 use Rattle.std.specs.Prelude.{IsErrAnd, OnErr, true, false, cond}
 use Rattle.std.specs.List.{AllByRecursion}
 use Rattle.std.proofs.Math.Seq.{drop-append_seam}
@@ -220,6 +220,10 @@ if_both (Err e) P Q p q = tt
 -- what stands behind a front
 pub behind_of : {X : Type 0} (old new more : List X) → new ≡ old ++ more → new ≡ old ++ drop (length old) new
 behind_of old new more is = is ∙ ap (λ xs. old ++ xs) (sym (ap (drop (length old)) is ∙ drop-append_seam old more))
+
+pub none_of : {X : Type 0} (xs : List X) → length xs < 1 → xs ≡ []
+none_of [] h = refl
+none_of (x ∷ xs) h = absurd (omega (arith, h))
 
 pub first_of : {X : Type 0} (xs : List X) (d : X) → 1 ≤ length xs → xs ≡ get_or xs 0 d ∷ take (length xs - 1) (drop 1 xs)
 first_of [] d h = absurd (omega arith)

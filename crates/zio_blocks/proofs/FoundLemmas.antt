@@ -11,7 +11,7 @@ use Rattle.zio_types.specs.Choices.{Ask, Choice, is_refused, no_place}
 use Rattle.zio_types.specs.Places.{AreCopies, IsLawfulChoice, end_of, fits_on, fits_size, is_below, is_inside, is_lawful_top, is_unit, rounded_to, sector_size}
 use Rattle.zio_blkptr.specs.declared.pointer.Bp.{Bp}
 use Rattle.zio_blkptr.specs.declared.pointer.TheConstants.{SECTOR_END, TOP_END}
-use Rattle.zio_blkptr.specs.Pointers.{is_absent, is_block_size, is_present, is_rounding_of, places_of, sectors_stored}
+use Rattle.zio_blkptr.specs.Pointers.{FitsTypes, is_absent, is_block_size, is_present, is_rounding_of, places_of, sectors_stored}
 use Rattle.zio_cksum.specs.Frames.{spots_of}
 use Rattle.zio_cksum.specs.Images.{Setting}
 use Rattle.zio_gang.specs.Trees.{is_claimable, piece_size, size_of, sizes_of}
@@ -85,7 +85,7 @@ pub record IsFound (tops : List TopSize) (size : ℕ) (p : Place) : Type 0 where
   pub fits : IsTrue (fits_size tops size p)
   pub inside : IsTrue (is_inside tops p)
 
-found_each : (tops : List TopSize) (used : List Place) (size : ℕ) (earlier places : List Place) → AreCopies tops used size earlier places → AllByRecursion (IsFound tops size) places
+pub found_each : (tops : List TopSize) (used : List Place) (size : ℕ) (earlier places : List Place) → AreCopies tops used size earlier places → AllByRecursion (IsFound tops size) places
 found_each tops used size earlier [] h = tt
 found_each tops used size earlier (p ∷ places) h = (record { fits = h.0.fits; inside = h.0.inside }, found_each tops used size (earlier ++ p ∷ []) places h.1)
 
@@ -140,8 +140,8 @@ stored_is w places false bytes size e = ap (λ n. n / sector_size) e
 
 -- a pointer to what lies at the places of such an entry
 pub made_pointer : (tops : List Top) (w : Writing) (places : List Place) (gang : Bool) (bytes : List ℕ) (size : ℕ) → HavePointers tops → IsWholeEntry (sizes_of tops) size places → cond gang 512 (length bytes) ≡ size
-    → 0 < length bytes → length bytes % 512 ≡ 0 → length bytes ≤ 1048576 → 1 ≤ w.birth → IsMade (sizes_of tops) (pointer_to w places gang bytes)
-made_pointer tops w places gang bytes size have entry is some whole most born =
+    → 0 < length bytes → length bytes % 512 ≡ 0 → length bytes ≤ 1048576 → 1 ≤ w.birth → FitsTypes (pointer_to w places gang bytes) → IsMade (sizes_of tops) (pointer_to w places gang bytes)
+made_pointer tops w places gang bytes size have entry is some whole most born types =
     let bp : Bp = pointer_to w places gang bytes in
     let at : places_of bp ≡ places = places_of_pointer w places gang bytes in
     let present : list_all (is_present bp) (places_of bp) ≡ true =
@@ -153,6 +153,7 @@ made_pointer tops w places gang bytes size have entry is some whole most born =
     (and_from (length bytes % sector_size == 0) (nat_le sector_size (length bytes)) (eq-eqb (length bytes % 512) 0 whole) (le-leb 512 (length bytes) (omega arith)))
     (le-leb (length bytes) 1048576 most) in
     record {
+      types = types;
       ok = and_from _ _ (and_from _ _ (and_from _ _ (and_from _ _ (and_from _ _ (le-leb 1 (length places) entry.one) (le-leb (length places) 3 entry.three)) present) absent) sized) (le-leb 1 w.birth born);
       inside = ap (list_all (is_inside (sizes_of tops))) at ∙ all_inside (sizes_of tops) size places entry.each;
       fitting = ap (λ n. list_all (is_claimable (sizes_of tops) n) (places_of bp)) is ∙ ap (list_all (is_claimable (sizes_of tops) size)) at ∙ all_claimable (sizes_of tops) size places entry.each;

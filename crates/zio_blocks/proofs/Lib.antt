@@ -4,3 +4,6 @@ pub mod AskLemmas
 pub mod FoundLemmas
 pub mod TellLemmas
 pub mod BlockLemmas
+pub mod KeyLemmas
+pub mod LaidLemmas
+pub mod OpenLemmas

@@ -6,7 +6,8 @@ use Rattle.std.proofs.lemmas.Bool.{and_from, and_parts}
 use Rattle.zio_cksum.proofs.AllLemmas.{all_contained, all_contains, all_weaker}
 use Rattle.zio_types.specs.Choices.{Choice}
 use Rattle.zio_types.specs.Places.{AreCopies, HasRun, IsLawfulChoice, is_free, meets}
-use Rattle.std.specs.Prelude.{Contains, IsTrue}
+use Rattle.std.specs.Prelude.{Contains, IsPermutation, IsTrue}
+use Rattle.std.proofs.lemmas.List.Sorted.{Contains-permutation, IsPermutation-sym}
 use Rattle.std.proofs.lemmas.List.Elements.{Contains-append_left, Contains-append_right, Contains-append_cases}
 use Rattle.zio_types.specs.declared.place.Place.{Place}
 use Rattle.zio_types.specs.Places.{SamePlaces}
@@ -40,6 +41,10 @@ SamePlaces-back xs ys h p = ((h p).1, (h p).0)
 
 pub SamePlaces-equal : (xs ys : List Place) → xs ≡ ys → SamePlaces xs ys
 SamePlaces-equal xs ys e p = (λ c. subst (λ (zs : List Place). Contains zs p) e c, λ c. subst (λ (zs : List Place). Contains zs p) (sym e) c)
+
+-- the same in another order
+pub SamePlaces-moved : (xs ys : List Place) → IsPermutation xs ys → SamePlaces xs ys
+SamePlaces-moved xs ys moved p = (Contains-permutation xs ys p moved, Contains-permutation ys xs p (IsPermutation-sym xs ys moved))
 
 -- ---- the law of a choice beside the same places
 

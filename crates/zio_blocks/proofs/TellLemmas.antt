@@ -21,7 +21,7 @@ use Rattle.zio_gang.specs.Writes.{Members, Placed, Writing, add_member, body_ask
 use Rattle.zio_disks.specs.Disks.{Tell}
 use Rattle.zio_disks.proofs.WriteLemmas.{all_left, all_right}
 use Rattle.zio_blocks.specs.Parts.{AreMembers, IsPart, TellsMembers, TellsPart}
-use Rattle.zio_blocks.specs.declared.parts.Part.{Part}
+use Rattle.zio_blocks.specs.declared.pieces.Part.{Part}
 
 -- ---- what a journal has for an ask
 

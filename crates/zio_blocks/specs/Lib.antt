@@ -1,3 +1,4 @@
 pub mod Blocks
 pub mod Choosers
+pub mod Laid
 pub mod Parts

@@ -9,7 +9,7 @@ use Rattle.zio_types.specs.Errors.{worst_of}
 use Rattle.zio_types.specs.Filled.{filled_to}
 use Rattle.zio_types.specs.Places.{is_inside}
 use Rattle.zio_blkptr.specs.declared.pointer.Bp.{Bp}
-use Rattle.zio_blkptr.specs.Pointers.{places_of, valid}
+use Rattle.zio_blkptr.specs.Pointers.{FitsTypes, places_of, valid}
 use Rattle.zio_cksum.specs.Headers.{members_max}
 use Rattle.zio_cksum.specs.Images.{Images}
 use Rattle.zio_gang.specs.declared.tree.Head.{Head}
@@ -20,7 +20,7 @@ use Rattle.zio_disks.specs.Whole.{IsFitting}
 use Rattle.zio_blocks.specs.Blocks.{AnswersBy, AsksFor}
 use Rattle.zio_blocks.specs.Choosers.{AreHeld}
 use Rattle.zio_blocks.specs.declared.place.Writing.{Writing}
-use Rattle.zio_blocks.specs.declared.parts.Part.{Part}
+use Rattle.zio_blocks.specs.declared.pieces.Part.{Part}
 
 -- What a part's write asked of the chooser and left there.
 pub record Asks (w : Writing) (sizes_old : List TopSize) (used_old live_old : List Place) (given_old : List Choice) (sizes_new : List TopSize) (used_new live_new : List Place) (given_new : List Choice) : Type 0 where
@@ -30,6 +30,7 @@ pub record Asks (w : Writing) (sizes_old : List TopSize) (used_old live_old : Li
 
 -- A pointer that was made: it is valid, and its places lie on their tops and fit.
 pub record IsMade (tops : List TopSize) (bp : Bp) : Type 0 where
+  pub types : FitsTypes bp
   pub ok : IsTrue (valid bp)
   pub inside : IsTrue (list_all (is_inside tops) (places_of bp))
   pub fitting : IsFitting tops bp

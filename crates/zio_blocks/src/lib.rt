@@ -9,6 +9,7 @@
 
 mod chooser;
 mod parts;
+mod pieces;
 mod place;
 
 pub use chooser::{Chooser, Unclaimed};

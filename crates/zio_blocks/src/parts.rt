@@ -1,130 +1,38 @@
 // A block's parts: each is placed whole, or as a gang of smaller ones.
 
-ghost use Rattle.std.specs.Prelude.{◌≡◌, ◌∷◌, ◌++◌, ◌%◌, ◌*◌, ◌+◌, ◌^◌, ◌<◌, ◌≤◌, [], ℕ, Err, IfOk, IfSome, IsTrue, List, None, OnErr, OnOk, Some, false, length, map, slice_index_or, sum, drop, take, true, vec_len};
+ghost use Rattle.std.specs.Prelude.{◌≡◌, ◌∷◌, ◌++◌, ◌%◌, ◌*◌, ◌+◌, ◌^◌, ◌<◌, ◌≤◌, [], IfOk, IfSome, List, None, OnOk, false, length, map, sum, drop};
 ghost use Rattle.std.specs.List.{AllByRecursion};
-ghost use Rattle.zio_types.specs.Choices.{is_refused, no_place};
+ghost use Rattle.zio_types.specs.Choices.{is_refused};
 ghost use Rattle.zio_types.specs.Filled.{IsFilled};
 ghost use Rattle.zio_types.specs.Places.{IsLawfulChoice};
 ghost use Rattle.zio_types.specs.declared.place.Place.{Place};
-ghost use Rattle.zio_cksum.specs.Blocks.{write_piece};
 ghost use Rattle.zio_cksum.specs.Frames.{spots_of};
 ghost use Rattle.zio_cksum.specs.Headers.{split_sizes};
 ghost use Rattle.zio_cksum.specs.Images.{Images};
 ghost use Rattle.zio_gang.specs.Trees.{sizes_of};
-ghost use Rattle.zio_gang.specs.Writes.{body_ask, chosen, cut, gang_with, head_ask, place_members, place_part, pointer_to, with_members};
-ghost use Rattle.zio_gang.specs.declared.tree.Head.{Head as Header};
+ghost use Rattle.zio_gang.specs.Writes.{body_ask, chosen, cut, gang_with, head_ask, place_members, place_part, with_members};
 ghost use Rattle.zio_disks.specs.Disks.{Handles, Tell};
 ghost use Rattle.zio_disks.specs.Trees.{BearsTops};
 ghost use Rattle.zio_blocks.specs.Blocks.{HavePointers, terms_of};
 ghost use Rattle.zio_blocks.specs.Choosers.{given_since, taken_by_all};
+ghost use Rattle.zio_blocks.specs.Laid.{AreLaid, AskOnce, IsBelow, IsFrom, IsLaid, IsOfGang};
 ghost use Rattle.zio_blocks.specs.Parts.{Asks, IsMade, IsPartSize, TellsMembers, TellsPart};
 
 use crate::chooser::Chooser;
+use crate::pieces::{
+    Part, add_head, ask, below, fill_head, first_place, is_refused, nowhere, places_found,
+    pointer_to, write_body,
+};
 use crate::place::Writing;
 use std::alloc::Global;
 use zio_blkptr::Bp;
-use zio_cksum::sum;
 use zio_disks::{Setting, Stop, write_piece};
 use zio_gang::{Head, header_encode, split};
 use zio_outside::Disk;
-use zio_types::{Entry, Errno, Key, Path, Place, Role, SECTOR_SIZE, worst};
+use zio_types::{Entry, Errno, Path, Role, SECTOR_SIZE, worst};
 
 /// How many copies there are at most.
 const COPIES_MAX: u32 = 3;
-
-/// What became of a part of a block.
-#[derive(Debug, Drop)]
-pub(crate) struct Part {
-    pub(crate) error: Option<Errno>,
-    /// None exactly where it has no place.
-    pub(crate) pointer: Option<Bp>,
-}
-
-/// Asks for places of a part of the block.
-fn ask<C: Chooser>(
-    chooser: &mut C,
-    writing: &Writing,
-    path: &Path,
-    role: Role,
-    size: u32,
-    copies: u32,
-) -> Result<Entry, Stop>
-    requires some { 0 < size }
-    requires whole { size % 512 ≡ 0 }
-    requires one { 1 ≤ copies }
-    requires most { copies ≤ 3 }
-    ensures asks { Asks writing.now (C.sizes chooser.old) (C.used chooser.old) (C.live chooser.old) (C.given chooser.old) (C.sizes chooser.new) (C.used chooser.new) (C.live chooser.new) (C.given chooser.new) }
-    ensures given { IfOk result (λ entry. given_since (C.given chooser.old) (C.given chooser.new) ≡ entry ∷ []) }
-    ensures asked { IfOk result (λ entry. entry.asked ≡ record {
-      key = record { request = writing.now.request; round = writing.now.round; attempt = writing.now.attempt; path = path.now; role = role };
-      size = size;
-      copies = copies;
-    }) }
-    ensures lawful { IfOk result (λ entry. IsLawfulChoice (C.sizes chooser.old) (C.used chooser.old) entry) }
-    ensures memory { OnErr result (result ≡ Err Stop.Memory) }
-{
-    let key = Key {
-        request: writing.request,
-        round: writing.round,
-        attempt: writing.attempt,
-        path: *path,
-        role,
-    };
-    match chooser.choose(key, size, copies) {
-        Ok(entry) => Ok(entry),
-        Err(_) => Err(Stop::Memory),
-    }
-}
-
-fn is_refused(entry: &Entry) -> bool
-    ensures { result ≡ is_refused entry.now }
-{
-    entry.found < entry.copies
-}
-
-/// The places that the entry found.
-fn places_found(entry: &Entry) -> &[Place]
-    ensures { result.now ≡ entry.now.places }
-{
-    &entry.places[..entry.found as usize]
-}
-
-/// The first of the places that the entry found.
-fn first_place(entry: &Entry) -> Place
-    requires { 1 ≤ length entry.now.places }
-    ensures { result ≡ slice_index_or entry.now.places 0 no_place }
-{
-    entry.places[0]
-}
-
-/// A part without a place.
-fn nowhere() -> Part
-    ensures error { result.error ≡ Some Errno.Nospc }
-    ensures pointer { result.pointer ≡ None }
-{
-    Part {
-        error: Some(Errno::Nospc),
-        pointer: None,
-    }
-}
-
-/// The pointer to bytes whose copies, or the copies of whose header, lie at the places that the entry found.
-fn pointer_to(setting: &Setting, writing: &Writing, entry: &Entry, gang: bool, bytes: &[u8]) -> Bp
-    requires most { length bytes.now < 2 ^ 32 }
-    requires whole { length bytes.now % 512 ≡ 0 }
-    ensures { result ≡ pointer_to (terms_of setting.now writing.now) entry.now.places gang bytes.now }
-{
-    let _setting = setting;
-    Bp {
-        count: entry.found,
-        places: entry.places,
-        gang,
-        size: bytes.len() as u32,
-        sum: writing.sum,
-        birth: writing.birth,
-        words: sum(writing.sum, bytes),
-    }
-}
 
 /// Places a part of a block and writes it, whole or as a gang with so many levels of headers. It adds the headers to those
 /// before.
@@ -153,7 +61,9 @@ pub(crate) fn place_part<D: Disk, C: Chooser>(
     requires depth { length path.now + levels ≤ 8 }
     ensures asks { Asks writing.now (C.sizes chooser.old) (C.used chooser.old) (C.live chooser.old) (C.given chooser.old) (C.sizes chooser.new) (C.used chooser.new) (C.live chooser.new) (C.given chooser.new) }
     ensures behind { OnOk result (heads.new.items ≡ heads.old.items ++ drop (length heads.old.items) heads.new.items) }
-    ensures made { IfOk result (λ part. IfSome part.pointer (IsMade (sizes_of setting.now.tops))) }
+    ensures keys { AskOnce (IsFrom path.now) (given_since (C.given chooser.old) (C.given chooser.new)) }
+    ensures laid { IfOk result (λ part. IsLaid (sizes_of setting.now.tops) levels path.now (length bytes.now) part (drop (length heads.old.items) heads.new.items)
+        (taken_by_all (given_since (C.given chooser.old) (C.given chooser.new)))) }
     ensures told { IfOk result (λ part. (images : Images) → Tell D.image disks.old images →
         TellsPart D.image (λ journal. place_part levels journal (terms_of setting.now writing.now) path.now bytes.now images) [] part
         heads.old.items heads.new.items (given_since (C.given chooser.old) (C.given chooser.new)) disks.new) }
@@ -179,40 +89,6 @@ pub(crate) fn place_part<D: Disk, C: Chooser>(
         bytes,
         heads,
     )
-}
-
-/// Writes the part's bytes to the places that its entry found.
-fn write_body<D: Disk>(
-    alloc: Global,
-    setting: &Setting,
-    disks: &mut [D],
-    writing: &Writing,
-    entry: &Entry,
-    bytes: &[u8],
-) -> Result<Part, Stop>
-    requires bears { BearsTops setting.now (map D.bytes disks.old) }
-    requires tops { HavePointers setting.now.tops }
-    requires birth { 1 ≤ writing.now.birth }
-    requires some { 0 < length bytes.now }
-    requires whole { length bytes.now % 512 ≡ 0 }
-    requires most { length bytes.now ≤ 1048576 }
-    requires one { 1 ≤ entry.now.asked.copies }
-    requires three { entry.now.asked.copies ≤ 3 }
-    requires size { entry.now.asked.size ≡ length bytes.now }
-    requires lawful { (used : List Place) × IsLawfulChoice (sizes_of setting.now.tops) used entry.now }
-    requires found { is_refused entry.now ≡ false }
-    ensures made { IfOk result (λ part. part.pointer ≡ Some (pointer_to (terms_of setting.now writing.now) entry.now.places false bytes.now)) }
-    ensures good { IfOk result (λ part. IsMade (sizes_of setting.now.tops) (pointer_to (terms_of setting.now writing.now) entry.now.places false bytes.now)) }
-    ensures told { IfOk result (λ part. (images : Images) → Tell D.image disks.old images →
-        (part.error ≡ (write_piece setting.now bytes.now entry.now.places images).error)
-        × Tell D.image disks.new (write_piece setting.now bytes.now entry.now.places images).images) }
-    ensures handled { Handles D.bytes D.faults D.faults_at_fetch D.home D.image D.sound (spots_of setting.now entry.now.places) result disks.old disks.new }
-{
-    let error = write_piece(alloc, setting, disks, bytes, places_found(entry))?;
-    Ok(Part {
-        error,
-        pointer: Some(pointer_to(setting, writing, entry, false, bytes)),
-    })
 }
 
 /// Places a part as a gang, whose members have so many levels of headers below them.
@@ -241,7 +117,9 @@ fn place_gang<D: Disk, C: Chooser>(
     requires depth { length path.now + levels < 8 }
     ensures asks { Asks writing.now (C.sizes chooser.old) (C.used chooser.old) (C.live chooser.old) (C.given chooser.old) (C.sizes chooser.new) (C.used chooser.new) (C.live chooser.new) (C.given chooser.new) }
     ensures behind { OnOk result (heads.new.items ≡ heads.old.items ++ drop (length heads.old.items) heads.new.items) }
-    ensures made { IfOk result (λ part. IfSome part.pointer (IsMade (sizes_of setting.now.tops))) }
+    ensures keys { AskOnce (IsOfGang path.now) (given_since (C.given chooser.old) (C.given chooser.new)) }
+    ensures laid { IfOk result (λ part. IsLaid (sizes_of setting.now.tops) (levels + 1) path.now (length bytes.now) part (drop (length heads.old.items) heads.new.items)
+        (taken_by_all (given_since (C.given chooser.old) (C.given chooser.new)))) }
     ensures told { IfOk result (λ part. (images : Images) → Tell D.image disks.old images →
         let w = terms_of setting.now writing.now in
         TellsPart D.image (λ journal. gang_with (chosen journal (head_ask w path.now)) w (place_part levels journal w) path.now bytes.now images)
@@ -290,7 +168,9 @@ fn write_gang<D: Disk, C: Chooser>(
     requires found { is_refused entry.now ≡ false }
     ensures asks { Asks writing.now (C.sizes chooser.old) (C.used chooser.old) (C.live chooser.old) (C.given chooser.old) (C.sizes chooser.new) (C.used chooser.new) (C.live chooser.new) (C.given chooser.new) }
     ensures behind { OnOk result (heads.new.items ≡ heads.old.items ++ drop (length heads.old.items) heads.new.items) }
-    ensures made { IfOk result (λ part. IfSome part.pointer (IsMade (sizes_of setting.now.tops))) }
+    ensures keys { AskOnce (IsBelow path.now 0) (given_since (C.given chooser.old) (C.given chooser.new)) }
+    ensures laid { IfOk result (λ part. IsLaid (sizes_of setting.now.tops) (levels + 1) path.now (length bytes.now) part (drop (length heads.old.items) heads.new.items)
+        (entry.now.places ++ taken_by_all (given_since (C.given chooser.old) (C.given chooser.new)))) }
     ensures told { IfOk result (λ part. (images : Images) → Tell D.image disks.old images →
         let w = terms_of setting.now writing.now in
         TellsPart D.image
@@ -322,10 +202,11 @@ fn write_gang<D: Disk, C: Chooser>(
     )?;
     let header = header_encode(&pointers, &first_place(entry), writing.birth);
     fill_head(heads, at, &header);
+    let pointer = pointer_to(writing, entry, true, bytes);
     let written = write_piece(alloc, setting, disks, &header, places_found(entry))?;
     Ok(Part {
         error: worst(error, written),
-        pointer: Some(pointer_to(setting, writing, entry, true, bytes)),
+        pointer: Some(pointer),
     })
 }
 
@@ -362,6 +243,9 @@ fn place_members<D: Disk, C: Chooser>(
     ensures asks { Asks writing.now (C.sizes chooser.old) (C.used chooser.old) (C.live chooser.old) (C.given chooser.old) (C.sizes chooser.new) (C.used chooser.new) (C.live chooser.new) (C.given chooser.new) }
     ensures behind { OnOk result (heads.new.items ≡ heads.old.items ++ drop (length heads.old.items) heads.new.items) }
     ensures made { OnOk result (AllByRecursion (λ pointer. IfSome pointer (IsMade (sizes_of setting.now.tops))) pointers.new) }
+    ensures keys { AskOnce (IsBelow path.now n) (given_since (C.given chooser.old) (C.given chooser.new)) }
+    ensures laid { IfOk result (λ error. AreLaid (sizes_of setting.now.tops) levels path.now n sizes.now error pointers.old pointers.new (drop (length heads.old.items) heads.new.items)
+        (taken_by_all (given_since (C.given chooser.old) (C.given chooser.new)))) }
     ensures told { IfOk result (λ error. (images : Images) → Tell D.image disks.old images →
         let w = terms_of setting.now writing.now in
         TellsMembers D.image (λ journal. place_members (place_part levels journal w) path.now n (cut sizes.now bytes.now) images) error n pointers.old pointers.new
@@ -393,40 +277,4 @@ fn place_members<D: Disk, C: Chooser>(
         heads,
     )?;
     Ok(worst(placed.error, error))
-}
-
-/// The path to a member of the gang at this path, which has room for a step.
-fn below(path: &Path, member: u8) -> Path
-    requires member { member < 3 }
-    requires room { length path.now < 8 }
-    ensures { result ≡ path.now ++ member ∷ [] }
-{
-    match path.child(member) {
-        Some(below) => below,
-        None => unreachable!(),
-    }
-}
-
-/// Adds a header at this path, whose bytes aren't known yet.
-fn add_head(heads: &mut Vec<Head>, path: &Path) -> Result<(), Stop>
-    ensures ok { OnOk result ((zeros : List ℕ) × (heads.new.items ≡ heads.old.items ++ record { path = path.now; bytes = zeros } ∷ [])) }
-    ensures err { OnErr result (result ≡ Err Stop.Memory) }
-{
-    let head = Head {
-        path: *path,
-        bytes: [0; 512],
-    };
-    match heads.push(head) {
-        Ok(()) => Ok(()),
-        Err(_) => Err(Stop::Memory),
-    }
-}
-
-/// Gives the header there its bytes.
-fn fill_head(heads: &mut Vec<Head>, at: usize, bytes: &[u8; 512])
-    requires { at < vec_len heads.old }
-    ensures { (front back : List Header) (head : Header) → heads.old.items ≡ front ++ head ∷ back → at ≡ length front →
-        heads.new.items ≡ front ++ record { path = head.path; bytes = bytes.now } ∷ back }
-{
-    heads[at].bytes = *bytes;
 }

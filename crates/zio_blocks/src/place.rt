@@ -1,17 +1,22 @@
 //! Placed writes: where no run is free for a block, it becomes a gang of smaller parts.
 
-ghost use Rattle.std.specs.Prelude.{◌≡◌, ◌%◌, ◌<◌, ◌≤◌, IfOk, length, map, option_map};
+ghost use Rattle.std.specs.Prelude.{◌≡◌, ◌%◌, ◌<◌, ◌≤◌, [], IfOk, IfSome, IsPermutation, None, Some, length, map, option_map, true};
+ghost use Rattle.zio_types.specs.Errors.{rank};
+ghost use Rattle.zio_types.specs.Places.{are_open};
 ghost use Rattle.zio_blkptr.specs.declared.pointer.TheConstants.{BLOCK_SIZE_MAX};
 ghost use Rattle.zio_cksum.specs.Frames.{spots_of};
 ghost use Rattle.zio_cksum.specs.Images.{Images};
-ghost use Rattle.zio_gang.specs.Trees.{sizes_of};
+ghost use Rattle.zio_gang.specs.Journals.{HaveDistinctKeys, asks_of};
+ghost use Rattle.zio_gang.specs.Trees.{sizes_of, tree_places};
 ghost use Rattle.zio_disks.specs.Disks.{Handles, Tell};
-ghost use Rattle.zio_disks.specs.Trees.{BearsTops};
+ghost use Rattle.zio_disks.specs.Trees.{BearsTops, IsPlacedTree};
+ghost use Rattle.zio_disks.specs.Whole.{IsFittingTree, IsWholeTree};
 ghost use Rattle.zio_blocks.specs.Blocks.{AsksFor, HavePointers, Places, terms_of};
 ghost use Rattle.zio_blocks.specs.Choosers.{AreHeld, given_since, taken_by_all};
 
 use crate::chooser::Chooser;
-use crate::parts::{Part, place_part};
+use crate::parts::place_part;
+use crate::pieces::Part;
 use std::alloc::Global;
 use zio_blkptr::SumKind;
 use zio_disks::{Setting, Stop};
@@ -47,6 +52,9 @@ pub struct PlacedBlock {
 /// Places a block of whole sectors, up to `BLOCK_SIZE_MAX` bytes, and writes it. Where no run is free for it a block of
 /// one sector has `Nospc` and no place, and a larger one becomes a gang: a header, and members that are placed in the
 /// same way. A gang has no place exactly where its header has none; its header is written also where a member has no place.
+///
+/// Whatever the error, the tree's places are those that were taken, so they can be given back by it. The tree is whole
+/// unless the error is `Nospc` or ranks above that: then a part of it may have no place.
 pub fn place_block<D: Disk, C: Chooser>(
     alloc: Global,
     setting: &Setting,
@@ -67,6 +75,15 @@ pub fn place_block<D: Disk, C: Chooser>(
     ensures told { IfOk result (λ placed. (images : Images) → Tell D.image disks.old images →
         Places D.image (terms_of setting.now writing.now) bytes.now images placed (given_since (C.given chooser.old) (C.given chooser.new)) disks.new) }
     ensures asks { AsksFor (C.sizes chooser.old) writing.now (C.used chooser.old) (C.live chooser.old) (C.given chooser.old) (C.used chooser.new) (C.live chooser.new) (C.given chooser.new) }
+    ensures keys { HaveDistinctKeys (asks_of (given_since (C.given chooser.old) (C.given chooser.new))) }
+    ensures places { IfOk result (λ placed. IfSome placed.tree (λ tree. IsPermutation (tree_places tree) (taken_by_all (given_since (C.given chooser.old) (C.given chooser.new))))) }
+    ensures unused { IfOk result (λ placed. IfSome placed.tree (λ tree. are_open (C.used chooser.old) (tree_places tree) ≡ true)) }
+    ensures nowhere { IfOk result (λ placed. placed.tree ≡ None →
+        (taken_by_all (given_since (C.given chooser.old) (C.given chooser.new)) ≡ []) × (placed.error ≡ Some Errno.Nospc)) }
+    ensures inside { IfOk result (λ placed. IfSome placed.tree (IsPlacedTree (sizes_of setting.now.tops))) }
+    ensures fitting { IfOk result (λ placed. IfSome placed.tree (IsFittingTree (sizes_of setting.now.tops))) }
+    ensures size { IfOk result (λ placed. IfSome placed.tree (λ tree. tree.bp.size ≡ length bytes.now)) }
+    ensures whole { IfOk result (λ placed. rank placed.error < rank (Some Errno.Nospc) → IfSome placed.tree IsWholeTree) }
     ensures sizes { C.sizes chooser.new ≡ C.sizes chooser.old }
     ensures held { AreHeld (C.sizes chooser.old) (C.used chooser.old) (C.live chooser.old) → AreHeld (C.sizes chooser.new) (C.used chooser.new) (C.live chooser.new) }
     ensures handled { Handles D.bytes D.faults D.faults_at_fetch D.home D.image D.sound

@@ -8,3 +8,4 @@ pub mod DependenceLemmas
 pub mod PieceLemmas
 pub mod FateLemmas
 pub mod FateRuns
+pub mod JournalLemmas

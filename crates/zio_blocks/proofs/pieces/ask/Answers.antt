@@ -1,7 +1,7 @@
 use Rattle.std.proofs.Common.{ap}
 use Rattle.zio_types.specs.Choices.{Ask}
 use Rattle.zio_blocks.proofs.AskLemmas.{asks_one}
-use Rattle.zio_blocks.proofs.parts.ask.Goals as goal
+use Rattle.zio_blocks.proofs.pieces.ask.Goals as goal
 
 pub returns-in-Ok-clause-asks : goal.returns-in-Ok-clause-asks
 returns-in-Ok-clause-asks g c =

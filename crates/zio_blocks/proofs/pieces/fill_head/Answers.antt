@@ -2,7 +2,7 @@ use Rattle.std.proofs.Common.{◌≡◌, ◌∷◌, ◌++◌, get_or, ap, ◌∙
 use Rattle.std.specs.Prelude.{slice_set}
 use Rattle.zio_gang.specs.declared.tree.Head.{Head}
 use Rattle.zio_blocks.proofs.TellLemmas.{head_read, head_set}
-use Rattle.zio_blocks.proofs.parts.fill_head.Goals as goal
+use Rattle.zio_blocks.proofs.pieces.fill_head.Goals as goal
 
 pub returns : goal.returns
 returns c front back head is at =

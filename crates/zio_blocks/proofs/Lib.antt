@@ -7,3 +7,4 @@ pub mod BlockLemmas
 pub mod KeyLemmas
 pub mod LaidLemmas
 pub mod OpenLemmas
+pub mod ClaimLemmas

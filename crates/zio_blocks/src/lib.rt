@@ -8,9 +8,11 @@
 #![tactic(auto)]
 
 mod chooser;
+mod claim;
 mod parts;
 mod pieces;
 mod place;
 
 pub use chooser::{Chooser, Unclaimed};
+pub use claim::claim_block;
 pub use place::{PlacedBlock, Writing, place_block};

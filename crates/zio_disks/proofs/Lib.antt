@@ -1,4 +1,5 @@
 pub mod BodyLemmas
+pub mod ClaimLemmas
 pub mod CopyLemmas
 pub mod DiskLemmas
 pub mod ReadLemmas

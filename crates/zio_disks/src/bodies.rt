@@ -45,7 +45,7 @@ pub fn read_tree<D: Disk>(
     join_bodies(alloc, setting, disks, tree, bodies.as_slice())
 }
 
-fn blame(errors: &[Option<Errno>]) -> Errno
+pub(crate) fn blame(errors: &[Option<Errno>]) -> Errno
     ensures { result ≡ blame errors.now }
 {
     worst_of(errors).unwrap_or(Errno::Nxio)

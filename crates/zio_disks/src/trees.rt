@@ -23,7 +23,7 @@ use zio_outside::Disk;
 use zio_types::{Errno, List, Path};
 
 /// How many levels of headers a block has at most.
-const LEVELS_MAX: u32 = 8;
+pub(crate) const LEVELS_MAX: u32 = 8;
 
 /// Reads the headers of a block, with repairs, as a free of it does. It gives the worst of their errors, or none; below a
 /// header that failed none is read, and one that stands below eight others is a checksum error and isn't read.
@@ -178,7 +178,7 @@ fn walk_members<D: Disk>(
 }
 
 /// The path to a member of the gang at this path, which has room for a step.
-fn below(path: &Path, member: u8) -> Path
+pub(crate) fn below(path: &Path, member: u8) -> Path
     requires member { member < 3 }
     requires room { length path.now < 8 }
     ensures { result ≡ path.now ++ member ∷ [] }

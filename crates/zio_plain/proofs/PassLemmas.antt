@@ -1,11 +1,13 @@
 -- A pass over a tree, request by request.
 use Rattle.std.proofs.Common.{◌≡◌, ◌≢◌, ℕ, ◌≤◌, List, [], ◌∷◌, ◌++◌, length, map, filter, take, drop, reverse, cond, Bool, true, false, ◌||◌, ◌&&◌, not, Some, ◌⊎◌, inl, inr, eqb, eqb-true, refl, sym, ap, ◌∙◌, subst, arith, append_assoc, length-append}
-use Rattle.std.specs.List.{AllByRecursion, flat_map, list_any}
+use Rattle.std.specs.Prelude.{bytes_eq}
+use Rattle.std.specs.List.{AllByRecursion, flat_map}
 use Rattle.std.proofs.lemmas.List.{append-nil, map-append, reverse-reverse, take-append-drop}
 use Rattle.std.proofs.lemmas.List.Elements.{filter-append}
 use Rattle.std.proofs.lemmas.Grind.{flat_map-append}
 use Rattle.zio_types.specs.declared.place.Place.{Place}
-use Rattle.zio_types.specs.Choices.{Choice}
+use Rattle.zio_types.specs.declared.journal.Key.{Key}
+use Rattle.zio_types.specs.Choices.{Ask, Choice, same_key, same_role}
 use Rattle.zio_cksum.proofs.AllLemmas.{all_append, all_weaker}
 use Rattle.zio_script.specs.declared.script.Failmode.{Failmode}
 use Rattle.zio_script.specs.declared.script.Request.{Request}
@@ -15,7 +17,7 @@ use Rattle.zio_cksum.specs.Images.{Images}
 use Rattle.zio_disks.specs.Whole.{IsWholeTree}
 use Rattle.zio_gang.specs.declared.tree.Tree.{Tree}
 use Rattle.zio_gang.specs.Attempts.{Attempt, Attempted, Pending, Return, Terms, attempt_each, attempt_one, attempt_tree, has_bits, joined_attempt, now_alone, returned_to, root_bits}
-use Rattle.zio_gang.specs.Journals.{asks_of}
+use Rattle.zio_gang.specs.Journals.{HaveDistinctKeys, asks_of}
 use Rattle.zio_gang.specs.Trees.{tree_places}
 use Rattle.zio_gang.proofs.AttemptLemmas.{attempt_each-append}
 use Rattle.zio_blocks.specs.Blocks.{AnswersBy}
@@ -26,8 +28,8 @@ use Rattle.zio_plain.specs.declared.judge.Fate.TheVariants.{Ends, Again}
 use Rattle.zio_plain.specs.declared.waiting.Handed.{Handed}
 use Rattle.zio_plain.specs.declared.waiting.Waiting.{Waiting}
 use Rattle.zio_plain.specs.Judgments.{again_of, children_handed, ends_of}
-use Rattle.zio_plain.specs.OwnEnds.{AreBehind}
-use Rattle.zio_plain.specs.Passes.{AreNumberedApart, Fated, HasFate, IsAttempted, IsFated, IsFateOf, IsPass, IsPassed, IsStep, TellsAttempted, TellsPassed, ends_in, freed_in, freed_of, is_again, left_in, waitings_in}
+use Rattle.zio_plain.specs.OwnEnds.{AreAsked, IsFor}
+use Rattle.zio_plain.specs.Passes.{AreNumberedApart, Fated, HasFate, HasNumber, IsAmong, IsAttempted, IsFated, IsFateOf, IsPass, IsPassed, IsStep, TellsAttempted, TellsPassed, ends_in, freed_in, freed_of, is_again, left_in, waitings_in}
 use Rattle.zio_plain.specs.Posts.{AreBehindChildren, IsOneTree, IsOver, IsSound, children_in, met_after, requests_in}
 use Rattle.zio_plain.specs.Waits.{HasPointer, numbers_in, pending_of, pendings, return_of}
 use Rattle.zio_plain.proofs.FateLemmas.{all_turned}
@@ -92,11 +94,90 @@ all_front : {X : Type 0} (P : X → Type 0) (xs ys : List X) → AllByRecursion 
 all_front P [] ys h = tt
 all_front P (x ∷ xs) ys h = (h.0, all_front P xs ys h.1)
 
-pub answers_before : (journal old new : List Choice) → AreBehind old new → AnswersBy journal new → AnswersBy journal old
-answers_before journal old new h answers = all_front _ old h.more (subst (AnswersBy journal) h.is answers)
+all_back : {X : Type 0} (P : X → Type 0) (xs ys : List X) → AllByRecursion P (xs ++ ys) → AllByRecursion P ys
+all_back P [] ys h = h
+all_back P (x ∷ xs) ys h = all_back P xs ys h.1
 
-pub behind_both : (a b c : List Choice) → AreBehind a b → AreBehind b c → AreBehind a c
-behind_both a b c h k = record { more = h.more ++ k.more; is = k.is ∙ ap (λ es. es ++ k.more) h.is ∙ append_assoc a h.more k.more }
+and_first : (a b : Bool) → (a && b) ≡ true → a ≡ true
+and_first true b e = refl
+and_first false b e = absurd (cc)
+
+and_second : (a b : Bool) → (a && b) ≡ true → b ≡ true
+and_second true b e = e
+and_second false b e = absurd (cc)
+
+same_request : (a b : Key) → same_key a b ≡ true → a.request ≡ b.request
+same_request a b e =
+    let one = and_first (((eqb a.request b.request && eqb a.round b.round) && eqb a.attempt b.attempt) && bytes_eq a.path b.path) (same_role a.role b.role) e in
+    let two = and_first ((eqb a.request b.request && eqb a.round b.round) && eqb a.attempt b.attempt) (bytes_eq a.path b.path) one in
+    let three = and_first (eqb a.request b.request && eqb a.round b.round) (eqb a.attempt b.attempt) two in
+    eqb-true a.request b.request (and_first (eqb a.request b.request) (eqb a.round b.round) three)
+
+same_attempt : (a b : Key) → same_key a b ≡ true → a.attempt ≡ b.attempt
+same_attempt a b e =
+    let one = and_first (((eqb a.request b.request && eqb a.round b.round) && eqb a.attempt b.attempt) && bytes_eq a.path b.path) (same_role a.role b.role) e in
+    let two = and_first ((eqb a.request b.request && eqb a.round b.round) && eqb a.attempt b.attempt) (bytes_eq a.path b.path) one in
+    eqb-true a.attempt b.attempt (and_second (eqb a.request b.request && eqb a.round b.round) (eqb a.attempt b.attempt) two)
+
+pub answers_before : (may : ℕ → ℕ → Type 0) (journal old new : List Choice) → AreAsked may old new → AnswersBy journal new → AnswersBy journal old
+answers_before may journal old new h answers = all_front _ old h.more (subst (AnswersBy journal) h.is answers)
+
+-- keys of which the one may not ask what the other may
+keys_apart : (may might : ℕ → ℕ → Type 0) (a : Key) (bs : List Choice) → ((r n : ℕ) → may r n → might r n → ⊥) → may a.request a.attempt
+    → AllByRecursion (λ (c : Choice). might c.asked.key.request c.asked.key.attempt) bs → AllByRecursion (λ (other : Ask). same_key a other.key ≡ false) (asks_of bs)
+keys_apart may might a [] apart h k = tt
+keys_apart may might a (b ∷ bs) apart h k =
+    (not_number (same_key a b.asked.key) (λ e.
+    apart a.request a.attempt h
+    (subst (λ n. might a.request n) (sym (same_attempt a b.asked.key e)) (subst (λ r. might r b.asked.key.attempt) (sym (same_request a b.asked.key e)) k.0))),
+    keys_apart may might a bs apart h k.1)
+
+keys_both : (may might : ℕ → ℕ → Type 0) (xs ys : List Choice) → ((r n : ℕ) → may r n → might r n → ⊥)
+    → AllByRecursion (λ (c : Choice). may c.asked.key.request c.asked.key.attempt) xs → AllByRecursion (λ (c : Choice). might c.asked.key.request c.asked.key.attempt) ys
+    → HaveDistinctKeys (asks_of xs) → HaveDistinctKeys (asks_of ys) → HaveDistinctKeys (asks_of (xs ++ ys))
+keys_both may might [] ys apart h k d e = e
+keys_both may might (x ∷ xs) ys apart h k d e = (
+  subst (AllByRecursion (λ (other : Ask). same_key x.asked.key other.key ≡ false)) (sym (map-append (λ (c : Choice). c.asked) xs ys))
+      (all_append (λ (other : Ask). same_key x.asked.key other.key ≡ false) (asks_of xs) (asks_of ys) d.0 (keys_apart may might x.asked.key ys apart h.0 k)),
+  keys_both may might xs ys apart h.1 k d.1 e,
+)
+
+-- what was asked one after the other
+pub asked_both : (may might all : ℕ → ℕ → Type 0) (a b c : List Choice) → ((r n : ℕ) → may r n → might r n → ⊥) → ((r n : ℕ) → may r n → all r n) → ((r n : ℕ) → might r n → all r n)
+    → AreAsked may a b → AreAsked might b c → AreAsked all a c
+asked_both may might all a b c apart first second h k = record {
+  more = h.more ++ k.more;
+  is = k.is ∙ ap (λ es. es ++ k.more) h.is ∙ append_assoc a h.more k.more;
+  of = all_append (λ (x : Choice). all x.asked.key.request x.asked.key.attempt) h.more k.more
+      (all_weaker (λ (x : Choice). may x.asked.key.request x.asked.key.attempt) (λ (x : Choice). all x.asked.key.request x.asked.key.attempt) h.more (λ x p. first x.asked.key.request x.asked.key.attempt p) h.of)
+      (all_weaker (λ (x : Choice). might x.asked.key.request x.asked.key.attempt) (λ (x : Choice). all x.asked.key.request x.asked.key.attempt) k.more (λ x p. second x.asked.key.request x.asked.key.attempt p) k.of);
+  distinct = keys_both may might h.more k.more apart h.of k.of h.distinct k.distinct;
+}
+
+pub asked_weaker : (may all : ℕ → ℕ → Type 0) (a b : List Choice) → ((r n : ℕ) → may r n → all r n) → AreAsked may a b → AreAsked all a b
+asked_weaker may all a b first h = record {
+  more = h.more;
+  is = h.is;
+  of = all_weaker (λ (x : Choice). may x.asked.key.request x.asked.key.attempt) (λ (x : Choice). all x.asked.key.request x.asked.key.attempt) h.more (λ x p. first x.asked.key.request x.asked.key.attempt p) h.of;
+  distinct = h.distinct;
+}
+
+-- ---- numbers
+
+pub number_front : (n : ℕ) (xs ys : List Waiting) → HasNumber xs n → HasNumber (xs ++ ys) n
+number_front n [] ys h = absurd h
+number_front n (x ∷ xs) ys (inl e) = inl e
+number_front n (x ∷ xs) ys (inr h) = inr (number_front n xs ys h)
+
+pub number_back : (n : ℕ) (xs ys : List Waiting) → HasNumber ys n → HasNumber (xs ++ ys) n
+number_back n [] ys h = h
+number_back n (x ∷ xs) ys h = inr (number_back n xs ys h)
+
+-- no request in front has the number of one behind
+pub number_once : (w : Waiting) (xs rest : List Waiting) → AreNumberedApart (xs ++ w ∷ rest) → HasNumber xs w.request.number → ⊥
+number_once w [] rest apart h = h
+number_once w (x ∷ xs) rest apart (inl e) = (all_back _ xs (w ∷ rest) apart.0).0 (sym e)
+number_once w (x ∷ xs) rest apart (inr h) = number_once w xs rest apart.1 h
 
 pub asks_append : (a b : List Choice) → asks_of (a ++ b) ≡ asks_of a ++ asks_of b
 asks_append a b = map-append (λ (c : Choice). c.asked) a b
@@ -157,10 +238,6 @@ more_so_far journal t attempt images fates w fate one hs met rest old mid new af
 pub waits : (fates : List Fated) {ws vs : List Waiting} → ws ≡ vs → waitings_in fates ++ ws ≡ waitings_in fates ++ vs
 waits fates e = ap (λ ws. waitings_in fates ++ ws) e
 
-all_back : {X : Type 0} (P : X → Type 0) (xs ys : List X) → AllByRecursion P (xs ++ ys) → AllByRecursion P ys
-all_back P [] ys h = h
-all_back P (x ∷ xs) ys h = all_back P xs ys h.1
-
 -- of the next request
 pub all_at : (P : Waiting → Type 0) (fates : List Fated) (w : Waiting) (rest tree : List Waiting) → tree ≡ waitings_in fates ++ w ∷ rest → AllByRecursion P tree → P w
 all_at P fates w rest tree split h = (all_back P (waitings_in fates) (w ∷ rest) (subst (AllByRecursion P) split h)).0
@@ -204,7 +281,7 @@ module _ {S : Type 0} (tells : S → Images → Type 0) (runs fresh : S → Term
     pub apart : AreNumberedApart rest
     pub still : IsLeft left hs met
     pub moved : moves old new (made_places (ends_in fates))
-    pub behind : AreBehind (given old) (given new)
+    pub asked : AreAsked (IsAmong (waitings_in fates) (λ n. n ≡ attempt)) (given old) (given new)
     pub told : (t : Terms) → runs old t → t.failmode ≡ failmode → (has_claim (requests_in tree) ≡ true → fresh old t) → (images : Images) → tells old images
         → TellsSoFar tells given (λ journal. attempt_each journal t attempt (pendings (waitings_in fates)) [] images) fates hs rest old new
 
@@ -230,7 +307,7 @@ module _ {S : Type 0} (tells : S → Images → Type 0) (runs fresh : S → Term
         apart = apart;
         still = left_none;
         moved = itself;
-        behind = record { more = []; is = sym (append-nil (given old)) };
+        asked = record { more = []; is = sym (append-nil (given old)); of = tt; distinct = tt };
         told = λ t run mode claim images told. record {
           after = images;
           told = told;
@@ -253,11 +330,11 @@ module _ {S : Type 0} (tells : S → Images → Type 0) (runs fresh : S → Term
   pub passing_more : (w : Waiting) (rest : List Waiting) (hs hs_new : List Handed) (left left_new : List Waiting) (finished_old finished_mid finished_new : List Finished) (freed_old freed_mid freed_new : List Tree) (old mid new : S)
       → ((a b c : S) (ps qs : List Place) → moves a b ps → moves b c qs → moves a c (ps ++ qs))
       → ((a b : S) (ps : List Place) (t : Terms) → moves a b ps → runs a t → runs b t)
-      → (has_claim (requests_in tree) ≡ true → length tree ≡ 1)
+      → (has_claim (requests_in tree) ≡ true → length tree ≡ 1) → AreNumberedApart tree
       → IsPassing (w ∷ rest) hs left finished_old finished_mid freed_old freed_mid old mid
       → IsStep tells runs fresh given moves failmode attempt w hs hs_new left left_new finished_mid finished_new freed_mid freed_new mid new
       → IsPassing rest hs_new left_new finished_old finished_new freed_old freed_new old new
-  passing_more w rest hs hs_new left left_new finished_old finished_mid finished_new freed_old freed_mid freed_new old mid new then stays alone h step =
+  passing_more w rest hs hs_new left left_new finished_old finished_mid finished_new freed_old freed_mid freed_new old mid new then stays alone whole_apart h step =
       let fates : List Fated = h.fates ++ one_fated w step.fate in
       let over : IsOver w h.met = h.behind_rest.0 in
       let is : HasFate w (take w.unfinished hs) step.one step.fate = step.is in
@@ -282,7 +359,11 @@ module _ {S : Type 0} (tells : S → Images → Type 0) (runs fresh : S → Term
         apart = h.apart.1;
         still = left_step left w step.one hs h.met step.fate h.stack over h.sound.0 is h.still;
         moved = subst (λ ps. moves old new ps) (sym (made_append (ends_in h.fates) (ends_of step.fate)) ∙ ap made_places ends) (then old mid new (made_places (ends_in h.fates)) (made_places (ends_of step.fate)) h.moved step.moved);
-        behind = behind_both (given old) (given mid) (given new) h.behind step.behind;
+        asked = asked_both (IsAmong (waitings_in h.fates) (λ n. n ≡ attempt)) (IsFor w.request.number attempt) (IsAmong (waitings_in fates) (λ n. n ≡ attempt)) (given old) (given mid) (given new)
+            (λ r n one two. number_once w (waitings_in h.fates) rest (subst AreNumberedApart h.split whole_apart) (subst (HasNumber (waitings_in h.fates)) two.0 one.0))
+            (λ r n one. (subst (λ ws. HasNumber ws r) (sym (all_waitings h.fates)) (number_front r (waitings_in h.fates) (w ∷ []) one.0), one.1))
+            (λ r n two. (subst (λ ws. HasNumber ws r) (sym (all_waitings h.fates)) (number_back r (waitings_in h.fates) (w ∷ []) (inl (sym two.0))), two.1))
+            h.asked step.asked;
         told = λ t run mode claim images told.
             let before = h.told t run mode claim images told in
             let mine : is_claim (kind_of w.request.work) ≡ true → fresh mid t = λ e.
@@ -294,11 +375,14 @@ module _ {S : Type 0} (tells : S → Images → Type 0) (runs fresh : S → Term
               told = next.told;
               meant = λ journal answers.
                   more_so_far journal t attempt images h.fates w step.fate step.one hs h.met rest (given old) (given mid) (given new) before.after next.after
-                  h.stack over h.apart.0 (before.meant journal (answers_before journal (given mid) (given new) step.behind answers))
+                  h.stack over h.apart.0 (before.meant journal (answers_before (IsFor w.request.number attempt) journal (given mid) (given new) step.asked answers))
                   (λ returns same. next.meant journal answers returns (same ∙ returned_last h.met h.root w rest hs h.behind_rest h.alone h.apart.0 (stack_handed hs h.met h.stack)));
             };
       }))
     where
+      all_waitings : (fs : List Fated) → waitings_in (fs ++ one_fated w step.fate) ≡ waitings_in fs ++ w ∷ []
+      all_waitings fs = map-append (λ (f : Fated). f.waiting) fs (one_fated w step.fate)
+
       ends : ends_in h.fates ++ ends_of step.fate ≡ ends_in (h.fates ++ one_fated w step.fate)
       ends = ap (λ fs. ends_in h.fates ++ fs) (sym (append-nil (ends_of step.fate))) ∙ sym (flat_map-append (λ (f : Fated). ends_of f.fate) h.fates (one_fated w step.fate))
 
@@ -358,7 +442,7 @@ module _ {S : Type 0} (tells : S → Images → Type 0) (runs fresh : S → Term
         turns = λ e. left_tree left h.root x (now_has x.bits.now x.bits.suspend (sym (bits ∙ ap now_alone top) ∙ e)) l;
         rest = rest_if (has_bits x.bits) left h.root x refl l;
         moved = h.moved;
-        behind = h.behind;
+        asked = subst (λ ws. AreAsked (IsAmong ws (λ n. n ≡ attempt)) (given old) (given new)) (sym whole) h.asked;
         told = λ t run mode claim images told.
             let all = h.told t run mode claim images told in record {
               after = all.after;

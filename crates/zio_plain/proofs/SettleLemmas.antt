@@ -1,5 +1,5 @@
 -- Passes over a tree, one after another.
-use Rattle.std.proofs.Common.{◌≡◌, ◌≢◌, ℕ, zero, suc, ◌+◌, ◌-◌, ◌<◌, List, [], ◌∷◌, ◌++◌, length, map, Bool, true, false, ◌||◌, ◌⊎◌, inl, inr, refl, sym, ap, ◌∙◌, subst, arith, append_assoc}
+use Rattle.std.proofs.Common.{◌≡◌, ◌≢◌, ℕ, zero, suc, ◌+◌, ◌-◌, ◌<◌, ◌≤◌, List, [], ◌∷◌, ◌++◌, length, map, Bool, true, false, ◌||◌, ◌⊎◌, inl, inr, refl, sym, ap, ◌∙◌, subst, arith, append_assoc}
 use Rattle.std.specs.Prelude.{Result, Ok, Err, IfOk}
 use Rattle.std.specs.List.{AllByRecursion, flat_map}
 use Rattle.std.proofs.lemmas.List.{append-nil, map-append}
@@ -21,10 +21,10 @@ use Rattle.zio_plain.specs.declared.judge.Fate.{Fate}
 use Rattle.zio_plain.specs.declared.judge.Fate.TheVariants.{Ends, Again}
 use Rattle.zio_plain.specs.declared.waiting.Waiting.{Waiting}
 use Rattle.zio_plain.specs.Judgments.{again_of}
-use Rattle.zio_plain.specs.Passes.{AreChained, AreNumberedApart, ArePasses, Fated, IsFated, IsFateOf, IsPass, IsPassed, IsSettled, all_ends, all_freed, ends_in, freed_in, left_in, waitings_in}
+use Rattle.zio_plain.specs.Passes.{AreChained, AreNumberedApart, ArePasses, Fated, HasNumber, IsAmong, IsFated, IsFateOf, IsPass, IsPassed, IsSettled, all_ends, all_freed, ends_in, freed_in, left_in, waitings_in}
 use Rattle.zio_plain.specs.Posts.{IsOneTree, requests_in}
 use Rattle.zio_plain.specs.Waits.{pendings}
-use Rattle.zio_plain.proofs.PassLemmas.{answers_before, behind_both, made_append}
+use Rattle.zio_plain.proofs.PassLemmas.{answers_before, asked_both, asked_weaker, made_append}
 
 -- ---- what is left of a pass
 
@@ -57,6 +57,16 @@ left_can block same P (f ∷ fs) each h = one f.fate each.0.is (left_can block s
     one : (fate : Fate) → IsFateOf f.waiting each.0.kids fate → AllByRecursion (λ (w : Waiting). P (block w)) (left_in fs) → AllByRecursion (λ (w : Waiting). P (block w)) (again_of fate ++ left_in fs)
     one (Ends e) is rest = rest
     one (Again v) is rest = (subst P (sym (same f.waiting v is.block)) h.0, rest)
+
+-- the numbers of what is left
+pub left_numbers : (n : ℕ) (fs : List Fated) → AllByRecursion IsFated fs → HasNumber (left_in fs) n → HasNumber (waitings_in fs) n
+left_numbers n [] each h = absurd h
+left_numbers n (f ∷ fs) each h = one f.fate each.0.is (λ k. left_numbers n fs each.1 k) h
+  where
+    one : (fate : Fate) → IsFateOf f.waiting each.0.kids fate → (HasNumber (left_in fs) n → HasNumber (waitings_in fs) n) → HasNumber (again_of fate ++ left_in fs) n → HasNumber (f.waiting ∷ waitings_in fs) n
+    one (Ends e) is later k = inr (later k)
+    one (Again v) is later (inl e) = inl (ap (λ (r : Request). r.number) (sym is.request) ∙ e)
+    one (Again v) is later (inr k) = inr (later k)
 
 -- ---- no claim is left
 
@@ -158,7 +168,7 @@ module _ {S : Type 0} (tells : S → Images → Type 0) (runs fresh : S → Term
         freed = h.freed ∙ ap (λ ts. freed_old ++ ts) (sym (append-nil (freed_in h.fates)));
         rest = h.rest;
         moved = subst (λ fs. moves old new (made_places fs)) (sym ends) h.moved;
-        behind = h.behind;
+        asked = asked_weaker (IsAmong tree (λ n. n ≡ attempt)) (IsAmong tree (λ n. attempt ≤ n)) (given old) (given new) (λ r n k. (k.0, omega (arith, k.1))) h.asked;
         told = λ t run mode claim images told.
             let k = h.told t run mode claim images told in record {
               after = k.after;
@@ -185,7 +195,11 @@ module _ {S : Type 0} (tells : S → Images → Type 0) (runs fresh : S → Term
     rest = k.rest;
     moved = subst (λ ps. moves old new ps) (sym (made_append (ends_in h.fates) (all_ends k.passes)))
         (then old between new (made_places (ends_in h.fates)) (made_places (all_ends k.passes)) h.moved k.moved);
-    behind = behind_both (given old) (given between) (given new) h.behind k.behind;
+    asked = asked_both (IsAmong tree (λ n. n ≡ attempt)) (IsAmong mid (λ n. attempt + 1 ≤ n)) (IsAmong tree (λ n. attempt ≤ n)) (given old) (given between) (given new)
+        (λ r n one two. (let a : n ≡ attempt = one.1 in let b : attempt + 1 ≤ n = two.1 in omega arith))
+        (λ r n one. (one.0, (let a : n ≡ attempt = one.1 in omega arith)))
+        (λ r n two. (subst (λ ws. HasNumber ws r) (sym h.whole) (left_numbers r h.fates h.each (subst (λ ws. HasNumber ws r) h.left_are two.0)), (let b : attempt + 1 ≤ n = two.1 in omega arith)))
+        h.asked k.asked;
     told = λ t run mode claim images told.
         let first = h.told t run mode claim images told in
         let none : has_claim (requests_in mid) ≡ true → fresh between t = λ e. (let no : true ≡ false = sym e ∙ no_claim in absurd (cc)) in
@@ -195,7 +209,7 @@ module _ {S : Type 0} (tells : S → Images → Type 0) (runs fresh : S → Term
           meant = λ journal answers.
               subst (λ n. IsSettled (settle_from n journal t attempt (pendings tree) images) (ends_in h.fates ++ all_ends k.passes) left (given old) (given new) second.after) (sym is)
               (settled_more less journal t attempt tree mid left (ends_in h.fates) (all_ends k.passes) (given old) (given between) (given new) images first.after second.after
-              (first.meant journal (answers_before journal (given between) (given new) k.behind answers)) (second.meant journal answers));
+              (first.meant journal (answers_before (IsAmong mid (λ n. attempt + 1 ≤ n)) journal (given between) (given new) k.asked answers)) (second.meant journal answers));
         };
   }
 

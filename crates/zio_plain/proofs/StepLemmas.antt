@@ -28,7 +28,7 @@ use Rattle.zio_plain.specs.declared.waiting.Handed.{Handed}
 use Rattle.zio_plain.specs.declared.waiting.Kept.{Kept}
 use Rattle.zio_plain.specs.declared.waiting.Waiting.{Waiting}
 use Rattle.zio_plain.specs.Judgments.{IsJudged, again_in, again_of, children_handed, done_in, ends_of, freed_block, own_of, unused_in, unused_unless}
-use Rattle.zio_plain.specs.OwnEnds.{AreBehind, IsOwn, IsOwnEnd, TellsOwn}
+use Rattle.zio_plain.specs.OwnEnds.{AreAsked, IsFor, IsOwn, IsOwnEnd, TellsOwn}
 use Rattle.zio_plain.specs.Passes.{HasFate, IsAttempted, IsStep, TellsAttempted, freed_of, freed_unless, made_unless}
 use Rattle.zio_plain.specs.Waits.{HasPointer, child_of, merged, pending_of, pendings, pointers_in, return_of}
 use Rattle.zio_plain.proofs.FateLemmas.{HaveHanded, ended_tree, judged_fate}
@@ -158,7 +158,7 @@ module _ {S : Type 0} (tells : S → Images → Type 0) (runs fresh : S → Term
     pub unused_is : judged.unused ≡ unused_in judged.fate own.tree (freed_block w.request.work w.block)
     pub told : (t : Terms) → runs a t → (is_claim (kind_of w.request.work) ≡ true → fresh a t) → (images : Images) → tells a images
         → TellsOwn tells given (λ journal. own_work journal t attempt (pending_of w) w.request.work (pointers_in (merged (reverse (children_handed kids)) w.kept)) images) own a b
-    pub behind : AreBehind (given a) (given b)
+    pub asked : AreAsked (IsFor w.request.number attempt) (given a) (given b)
     pub images : (ims : Images) → tells b ims → tells c ims
     pub same : given c ≡ given b
 
@@ -175,8 +175,8 @@ module _ {S : Type 0} (tells : S → Images → Type 0) (runs fresh : S → Term
   pub run_of : (first second : List Handed) → first ≡ kids → second ≡ kids → old ≡ mid ++ kids → length kids ≡ w.unfinished → HaveHanded kids → AllByRecursion HasPointer w.kept
       → after ≡ mid ++ judged.handed ∷ [] → IsOwnEnd w own → IsJudgedBy second → IsAgainBy second
       → judged.unused ≡ unused_in judged.fate own.tree (freed_block w.request.work w.block)
-      → IsToldBy first → AreBehind (given a) (given b) → ((ims : Images) → tells b ims → tells c ims) → given c ≡ given b → IsRun
-  run_of first second one two split count pointers kept pushed end judged_is again_is unused_is told behind images same = record {
+      → IsToldBy first → AreAsked (IsFor w.request.number attempt) (given a) (given b) → ((ims : Images) → tells b ims → tells c ims) → given c ≡ given b → IsRun
+  run_of first second one two split count pointers kept pushed end judged_is again_is unused_is told asked images same = record {
     split = split;
     count = count;
     pointers = pointers;
@@ -187,7 +187,7 @@ module _ {S : Type 0} (tells : S → Images → Type 0) (runs fresh : S → Term
     again_is = subst IsAgainBy two again_is;
     unused_is = unused_is;
     told = subst IsToldBy one told;
-    behind = behind;
+    asked = asked;
     images = images;
     same = same;
   }
@@ -207,7 +207,7 @@ module _ {S : Type 0} (tells : S → Images → Type 0) (runs fresh : S → Term
           finished = fin;
           freed = freed;
           moved = moved;
-          behind = record { more = r.behind.more; is = r.same ∙ r.behind.is };
+          asked = record { more = r.asked.more; is = r.same ∙ r.asked.is; of = r.asked.of; distinct = r.asked.distinct };
           told = λ t run mode claim images told.
               subst (λ hs. TellsAttempted tells given (λ journal returns. attempt_one journal t attempt (pending_of w) returns images) w hs judged.handed judged.fate a c) (sym top.top)
               (tells_attempted tells given t attempt failmode w kids own judged images a b c mode (r.told t run claim images told) r.images r.same r.judged_is);

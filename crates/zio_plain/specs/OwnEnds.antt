@@ -7,7 +7,7 @@ use Rattle.zio_blkptr.specs.Pointers.{valid}
 use Rattle.zio_script.specs.Requests.{makes_block}
 use Rattle.zio_cksum.specs.Images.{Images}
 use Rattle.zio_gang.specs.Attempts.{Own}
-use Rattle.zio_gang.specs.Journals.{asks_of}
+use Rattle.zio_gang.specs.Journals.{HaveDistinctKeys, asks_of}
 use Rattle.zio_disks.specs.Whole.{IsWholeTree}
 use Rattle.zio_blocks.specs.Blocks.{AnswersBy}
 use Rattle.zio_course.specs.Runners.{read_size}
@@ -15,10 +15,16 @@ use Rattle.zio_plain.specs.declared.owns.OwnEnd.{OwnEnd}
 use Rattle.zio_plain.specs.declared.waiting.Waiting.{Waiting}
 use Rattle.zio_plain.specs.Judgments.{own_of}
 
--- More choices behind those of the first list.
-pub record AreBehind (old new : List Choice) : Type 0 where
+-- More choices behind those of the first list, for requests and attempts of this kind, each key once.
+pub record AreAsked (may : ℕ → ℕ → Type 0) (old new : List Choice) : Type 0 where
   pub more : List Choice
   pub is : new ≡ old ++ more
+  pub of : AllByRecursion (λ (c : Choice). may c.asked.key.request c.asked.key.attempt) more
+  pub distinct : HaveDistinctKeys (asks_of more)
+
+-- for this request in this attempt
+abbrev pub IsFor : ℕ → ℕ → ℕ → ℕ → Type 0
+IsFor request attempt r a = (r ≡ request) × (a ≡ attempt)
 
 -- What own work gives, whatever the disks tell: a valid pointer, a whole block where there is no error, and that of a
 -- write or a claim alone; whole sectors, and all bytes of a block that is read.

@@ -1,5 +1,5 @@
 -- A pass over a tree: each request in turn, which finishes or goes again.
-use Rattle.std.specs.Prelude.{◌≡◌, ◌≢◌, ◌⊎◌, ℕ, ◌+◌, ◌%◌, List, [], ◌∷◌, ◌++◌, map, length, take, drop, Bool, true, false, Option, Some, None, is_some, IfSome, option_to_list}
+use Rattle.std.specs.Prelude.{◌≡◌, ◌≢◌, ◌⊎◌, ℕ, ◌+◌, ◌%◌, ◌≤◌, List, [], ◌∷◌, ◌++◌, map, length, take, drop, Bool, true, false, Option, Some, None, is_some, IfSome, option_to_list}
 use Rattle.std.specs.List.{AllByRecursion, flat_map}
 use Rattle.zio_types.specs.declared.error.Errno.{Errno}
 use Rattle.zio_types.specs.declared.place.Place.{Place}
@@ -21,7 +21,7 @@ use Rattle.zio_plain.specs.declared.judge.Fate.TheVariants.{Ends, Again}
 use Rattle.zio_plain.specs.declared.waiting.Handed.{Handed}
 use Rattle.zio_plain.specs.declared.waiting.Waiting.{Waiting}
 use Rattle.zio_plain.specs.Judgments.{again_in, again_of, ends_of, freed_block}
-use Rattle.zio_plain.specs.OwnEnds.{AreBehind}
+use Rattle.zio_plain.specs.OwnEnds.{AreAsked, IsFor}
 use Rattle.zio_plain.specs.Posts.{IsOneTree, requests_in}
 use Rattle.zio_plain.specs.Waits.{HasPointer, pending_of, pendings, return_of}
 
@@ -105,7 +105,7 @@ pub record IsStep {S : Type 0} (tells : S → Images → Type 0) (runs fresh : S
   pub finished : finished_new ≡ finished_old ++ ends_of fate
   pub freed : freed_new ≡ freed_old ++ freed_of w fate
   pub moved : moves old new (made_places (ends_of fate))
-  pub behind : AreBehind (given old) (given new)
+  pub asked : AreAsked (IsFor w.request.number attempt) (given old) (given new)
   pub told : (t : Terms) → runs old t → t.failmode ≡ failmode → (is_claim (kind_of w.request.work) ≡ true → fresh old t) → (images : Images) → tells old images
       → TellsAttempted tells given (λ journal returns. attempt_one journal t attempt (pending_of w) returns images) w (take w.unfinished handed_old) one fate old new
 
@@ -138,6 +138,15 @@ abbrev pub AreNumberedApart : List Waiting → Type 0
 AreNumberedApart [] = Unit {0}
 AreNumberedApart (w ∷ ws) = AllByRecursion (λ (q : Waiting). q.request.number ≢ w.request.number) ws × AreNumberedApart ws
 
+-- one of the requests has the number
+abbrev pub HasNumber : List Waiting → ℕ → Type 0
+HasNumber [] n = ⊥
+HasNumber (w ∷ ws) n = (w.request.number ≡ n) ⊎ HasNumber ws n
+
+-- for one of these requests, in such an attempt
+abbrev pub IsAmong : List Waiting → (ℕ → Type 0) → ℕ → ℕ → Type 0
+IsAmong ws attempts request attempt = HasNumber ws request × attempts attempt
+
 -- the pass is what the definition says of the tree's attempt
 pub record IsPassed (a : Attempt) (finished : List Finished) (left : List Waiting) (at_once : Bool) (given_old given_new : List Choice) (after : Images) : Type 0 where
   pub ended : map finished_of a.ended ≡ finished
@@ -162,7 +171,7 @@ pub record IsPass {S : Type 0} (tells : S → Images → Type 0) (runs fresh : S
   pub turns : at_once ≡ true → IsOneTree IsWholeTree left
   pub rest : (left ≡ []) ⊎ IsOneTree IsWholeTree left
   pub moved : moves old new (made_places (ends_in fates))
-  pub behind : AreBehind (given old) (given new)
+  pub asked : AreAsked (IsAmong tree (λ n. n ≡ attempt)) (given old) (given new)
   pub told : (t : Terms) → runs old t → t.failmode ≡ failmode → (has_claim (requests_in tree) ≡ true → fresh old t) → (images : Images) → tells old images
       → TellsPassed tells given (λ journal. attempt_tree journal t attempt (pendings tree) images) (ends_in fates) left at_once old new
 
@@ -200,6 +209,6 @@ pub record ArePasses {S : Type 0} (tells : S → Images → Type 0) (runs fresh 
   pub freed : freed_new ≡ freed_old ++ all_freed passes
   pub rest : (left ≡ []) ⊎ IsOneTree IsWholeTree left
   pub moved : moves old new (made_places (all_ends passes))
-  pub behind : AreBehind (given old) (given new)
+  pub asked : AreAsked (IsAmong tree (λ n. attempt ≤ n)) (given old) (given new)
   pub told : (t : Terms) → runs old t → t.failmode ≡ failmode → (has_claim (requests_in tree) ≡ true → fresh old t) → (images : Images) → tells old images
       → TellsSettled tells given (λ journal. settle_from more journal t attempt (pendings tree) images) (all_ends passes) left old new

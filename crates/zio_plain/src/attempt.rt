@@ -10,7 +10,7 @@ ghost use Rattle.zio_gang.specs.Attempts.{Terms, now_alone, own_work, root_bits}
 ghost use Rattle.zio_course.specs.Runners.{AreRisingFrom, has_claim, places_of_block};
 ghost use Rattle.zio_disks.specs.Whole.{IsWholeTree};
 ghost use Rattle.zio_plain.specs.Judgments.{children_handed};
-ghost use Rattle.zio_plain.specs.OwnEnds.{AreBehind, IsOwnEnd, TellsOwn};
+ghost use Rattle.zio_plain.specs.OwnEnds.{AreAsked, IsFor, IsOwnEnd, TellsOwn};
 ghost use Rattle.zio_plain.specs.Passes.{AreNumberedApart, IsPass, IsStep, freed_unless, made_unless};
 ghost use Rattle.zio_plain.specs.Posts.{IsOneTree, IsSound, requests_in};
 ghost use Rattle.zio_plain.specs.Waits.{HasPointer, merged, numbers_in, pending_of, pointers_in, return_of};
@@ -150,7 +150,7 @@ fn do_own<W: OwnWork>(
         (λ journal. own_work journal t attempt (pending_of waiting.now) waiting.now.request.work
         (pointers_in (merged (reverse (children_handed children.now)) waiting.now.kept)) images) done.end works.old works.new) }
     ensures end { IfOk result (λ done. IsOwnEnd waiting.now done.end) }
-    ensures behind { OnOk result (AreBehind (W.given works.old) (W.given works.new)) }
+    ensures asked { OnOk result (AreAsked (IsFor waiting.now.request.number attempt) (W.given works.old) (W.given works.new)) }
     ensures moves { IfOk result (λ done. W.moves works.old works.new done.taken) }
     ensures made { IfOk result (λ done. done.end.error ≡ None → W.moves works.old works.new (places_of_block done.end.tree)) }
     ensures breaks { IfErr result (λ stop. W.breaks works.old works.new stop) }

@@ -13,7 +13,7 @@ ghost use Rattle.zio_disks.specs.Whole.{IsWholeTree};
 ghost use Rattle.zio_course.specs.declared.runner.Stop.{Stop as SeenStop};
 ghost use Rattle.zio_course.specs.declared.runner.Stop.TheVariants.{Memory};
 ghost use Rattle.zio_course.specs.Runners.{places_of_block};
-ghost use Rattle.zio_plain.specs.OwnEnds.{AreBehind, IsOwnEnd, TellsOwn};
+ghost use Rattle.zio_plain.specs.OwnEnds.{AreAsked, IsFor, IsOwnEnd, TellsOwn};
 ghost use Rattle.zio_plain.specs.Posts.{IsSound};
 ghost use Rattle.zio_plain.specs.Waits.{HasPointer, pending_of, pointers_in};
 
@@ -68,7 +68,7 @@ pub(crate) trait OwnWork {
             → (images : Images) → tells self.old images → TellsOwn tells given
             (λ journal. own_work journal t attempt (pending_of waiting.now) waiting.now.request.work (pointers_in children.now) images) done.end self.old self.new) }
         ensures end { IfOk result (λ done. IsOwnEnd waiting.now done.end) }
-        ensures behind { OnOk result (AreBehind (given self.old) (given self.new)) }
+        ensures asked { OnOk result (AreAsked (IsFor waiting.now.request.number attempt) (given self.old) (given self.new)) }
         ensures moves { IfOk result (λ done. moves self.old self.new done.taken) }
         ensures made { IfOk result (λ done. done.end.error ≡ None → moves self.old self.new (places_of_block done.end.tree)) }
         ensures breaks { IfErr result (λ stop. breaks self.old self.new stop) };

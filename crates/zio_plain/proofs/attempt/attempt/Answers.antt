@@ -71,7 +71,7 @@ loop-waiting-preserved g c =
     passing_more m.tells m.runs m.fresh m.given m.moves c.args.failmode c.args.attempt c.args.tree c.in-Some.waiting c.next.new.self hs (reverse c.attempt_request.new.handed.items)
     c.loop-waiting.again c.attempt_request.new.again c.args.ends.now.finished c.loop-waiting.ends.finished c.attempt_request.new.ends.finished
     c.args.ends.now.freed c.loop-waiting.ends.freed c.attempt_request.new.ends.freed c.args.works.now c.loop-waiting.works c.attempt_request.new.works
-    g.met.W.OwnWork.moves_then g.met.W.OwnWork.moves_runs c.requires.claim
+    g.met.W.OwnWork.moves_then g.met.W.OwnWork.moves_runs c.requires.claim c.requires.apart
     (subst (λ (ws : List Waiting). IsPassing m.tells m.runs m.fresh m.given m.moves c.args.failmode c.args.attempt c.args.tree ws hs c.loop-waiting.again
     c.args.ends.now.finished c.loop-waiting.ends.finished c.args.ends.now.freed c.loop-waiting.ends.freed c.args.works.now c.loop-waiting.works) c.in-Some.ensures.steps c.loop-waiting.invariant)
     c.in_ok-attempt_request.ensures.step

@@ -39,7 +39,7 @@ returns-in-Ends-clause-step g c =
     c.as_slice.ensures.value c.as_slice-2.ensures.value c.in_ok-children.ensures.last count
     (subst HaveHanded (reverse-reverse kids) (all_turned (λ (h : Handed). HasPointer h.child) (reverse kids) (subst HaveHanded top.top c.requires.pointers)))
     c.requires.sound.pointers c.in_ok-note_handed.ensures c.in_ok-end.ensures.end c.in_ok-one.ensures.judged c.in_ok-one.ensures.again c.in_ok-one.ensures.unused
-    c.in_ok-end.ensures.told c.in_ok-end.ensures.behind c.end_request.ensures.images c.end_request.ensures.given in
+    c.in_ok-end.ensures.told c.in_ok-end.ensures.asked c.end_request.ensures.images c.end_request.ensures.given in
     ok_both c.end_request.result c.end_request.ensures.finished c.end_request.ensures.freed (λ finished freed.
     step_ended m.tells m.runs m.fresh m.given m.moves c.args.failmode c.args.attempt c.args.waiting c.args.handed.now.items c.handed_last.new.handed.items c.note_handed.new.handed.items kids own c.in_ok-end.field-0.taken judged
     c.args.works.now c.do_own.new.works c.end_request.new.works c.args.again.now c.args.again.now c.args.ends.now.finished c.end_request.new.ends.finished c.args.ends.now.freed c.end_request.new.ends.freed
@@ -66,7 +66,7 @@ returns-clause-step g c =
     c.as_slice.ensures.value c.as_slice-2.ensures.value c.in_ok-children.ensures.last count
     (subst HaveHanded (reverse-reverse kids) (all_turned (λ (h : Handed). HasPointer h.child) (reverse kids) (subst HaveHanded top.top c.requires.pointers)))
     c.requires.sound.pointers c.in_ok-note_handed.ensures c.in_ok-end.ensures.end c.in_ok-one.ensures.judged c.in_ok-one.ensures.again c.in_ok-one.ensures.unused
-    c.in_ok-end.ensures.told c.in_ok-end.ensures.behind c.give_back.ensures.images c.give_back.ensures.given in
+    c.in_ok-end.ensures.told c.in_ok-end.ensures.asked c.give_back.ensures.images c.give_back.ensures.given in
     step_again m.tells m.runs m.fresh m.given m.moves c.args.failmode c.args.attempt c.args.waiting c.args.handed.now.items c.handed_last.new.handed.items c.note_handed.new.handed.items kids own c.in_ok-end.field-0.taken judged
     c.args.works.now c.do_own.new.works c.give_back.new.self c.args.again.now c.note_again.new.again c.args.ends.now.finished c.args.ends.now.finished c.args.ends.now.freed c.args.ends.now.freed
     c.in-Again.left run c.in-Again.is c.in_ok-note_again-in-Again.ensures refl refl c.in_ok-end.ensures.moves c.give_back.ensures.moves

@@ -22,3 +22,4 @@ pub mod StepLemmas
 pub mod StillLemmas
 pub mod PassLemmas
 pub mod SettleLemmas
+pub mod SettlingLemmas

@@ -6,3 +6,4 @@ pub mod OwnEnds
 pub mod Passes
 pub mod Posts
 pub mod Waits
+pub mod Settlings

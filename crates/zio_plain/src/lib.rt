@@ -25,6 +25,7 @@ mod settle;
 #[cfg(test)]
 mod tests;
 mod tree;
+mod trees;
 mod waiting;
 mod works;
 

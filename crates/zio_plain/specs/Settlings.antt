@@ -1,0 +1,75 @@
+-- The trees of a round, each settled over what the one before it left.
+use Rattle.std.specs.Prelude.{◌≡◌, ◌≤◌, ◌⊎◌, ℕ, List, [], ◌∷◌, ◌++◌, map, true}
+use Rattle.std.specs.List.{AllByRecursion, flat_map}
+use Rattle.zio_types.specs.declared.place.Place.{Place}
+use Rattle.zio_types.specs.Choices.{Choice}
+use Rattle.zio_script.specs.declared.script.Failmode.{Failmode}
+use Rattle.zio_cksum.specs.Images.{Images}
+use Rattle.zio_gang.specs.declared.tree.Tree.{Tree}
+use Rattle.zio_gang.specs.Attempts.{Pending, Terms}
+use Rattle.zio_gang.specs.Journals.{asks_of}
+use Rattle.zio_gang.specs.Rounds.{Ran, add_left, settle_each}
+use Rattle.zio_disks.specs.Whole.{IsWholeTree}
+use Rattle.zio_blocks.specs.Blocks.{AnswersBy}
+use Rattle.zio_course.specs.declared.runner.Finished.{Finished}
+use Rattle.zio_course.specs.Runners.{finished_of, has_claim, made_places, requests_in}
+use Rattle.zio_plain.specs.declared.waiting.Waiting.{Waiting}
+use Rattle.zio_plain.specs.OwnEnds.{AreAsked}
+use Rattle.zio_plain.specs.Passes.{AreChained, AreNumberedApart, Fated, IsAmong, all_ends, all_freed}
+use Rattle.zio_plain.specs.Posts.{IsOneTree}
+use Rattle.zio_plain.specs.Waits.{pendings}
+
+-- a tree, the passes over it, and what they left
+pub record TreeRun : Type 0 where
+  pub tree : List Waiting
+  pub passes : List (List Fated)
+  pub left : List Waiting
+
+-- a tree whose numbers are apart, passes over it, and nothing or a tree that is left
+pub record IsTreeRun (r : TreeRun) : Type 0 where
+  pub one : IsOneTree IsWholeTree r.tree
+  pub apart : AreNumberedApart r.tree
+  pub chained : AreChained r.tree r.passes r.left
+  pub rest : (r.left ≡ []) ⊎ IsOneTree IsWholeTree r.left
+
+abbrev pub trees_in : List TreeRun → List (List Pending)
+trees_in runs = map (λ (r : TreeRun). pendings r.tree) runs
+
+abbrev pub requests_run : List TreeRun → List Waiting
+requests_run runs = flat_map (λ (r : TreeRun). r.tree) runs
+
+-- what is left of the trees that are suspended
+abbrev pub trees_left : List TreeRun → List (List Pending)
+trees_left [] = []
+trees_left (r ∷ runs) = add_left (pendings r.left) (trees_left runs)
+
+abbrev pub ends_run : List TreeRun → List Finished
+ends_run runs = flat_map (λ (r : TreeRun). all_ends r.passes) runs
+
+abbrev pub freed_run : List TreeRun → List Tree
+freed_run runs = flat_map (λ (r : TreeRun). all_freed r.passes) runs
+
+-- the trees ran as the definition says
+pub record IsRan (ran : Ran) (finished : List Finished) (left : List (List Pending)) (given_old given_new : List Choice) (after : Images) : Type 0 where
+  pub ended : map finished_of ran.ended ≡ finished
+  pub left_is : ran.left ≡ left
+  pub asks : asks_of given_new ≡ asks_of given_old ++ ran.asks
+  pub images : ran.images ≡ after
+
+pub record TellsRan {S : Type 0} (tells : S → Images → Type 0) (given : S → List Choice) (means : List Choice → Ran) (finished : List Finished) (left : List (List Pending)) (old new : S) : Type 0 where
+  pub after : Images
+  pub told : tells new after
+  pub meant : (journal : List Choice) → AnswersBy journal (given new) → IsRan (means journal) finished left (given old) (given new) after
+
+-- What settling these trees adds and leaves.
+pub record AreRun {S : Type 0} (tells : S → Images → Type 0) (runs fresh : S → Terms → Type 0) (given : S → List Choice) (moves : S → S → List Place → Type 0) (failmode : Failmode) (trees left : List (List Pending)) (finished_old finished_new : List Finished) (freed_old freed_new : List Tree) (old new : S) : Type 0 where
+  pub each_run : List TreeRun
+  pub whole : trees ≡ trees_in each_run
+  pub left_are : left ≡ trees_left each_run
+  pub each : AllByRecursion IsTreeRun each_run
+  pub finished : finished_new ≡ finished_old ++ ends_run each_run
+  pub freed : freed_new ≡ freed_old ++ freed_run each_run
+  pub moved : moves old new (made_places (ends_run each_run))
+  pub asked : AreAsked (IsAmong (requests_run each_run) (λ n. 0 ≤ n)) (given old) (given new)
+  pub told : (t : Terms) → runs old t → t.failmode ≡ failmode → (has_claim (requests_in trees) ≡ true → fresh old t) → (images : Images) → tells old images
+      → TellsRan tells given (λ journal. settle_each journal t trees images) (ends_run each_run) left old new

@@ -23,7 +23,7 @@ mod ReadyLemmas
 mod RunnableLemmas
 mod ShortLemmas
 mod SoFarLemmas
-mod SortLemmas
+pub mod SortLemmas
 mod StepLemmas
 mod SuspendedLemmas
 mod ToldLemmas

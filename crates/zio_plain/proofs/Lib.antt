@@ -23,3 +23,5 @@ pub mod StillLemmas
 pub mod PassLemmas
 pub mod SettleLemmas
 pub mod SettlingLemmas
+pub mod CountLemmas
+pub mod SortedLemmas

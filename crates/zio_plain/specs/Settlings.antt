@@ -1,18 +1,21 @@
 -- The trees of a round, each settled over what the one before it left.
-use Rattle.std.specs.Prelude.{◌≡◌, ◌≤◌, ◌⊎◌, ℕ, List, [], ◌∷◌, ◌++◌, map, true}
+use Rattle.std.specs.Prelude.{◌≡◌, ◌≤◌, ◌⊎◌, ℕ, ◌+◌, ◌%◌, List, [], ◌∷◌, ◌++◌, length, map, count_by, true, Contains}
 use Rattle.std.specs.List.{AllByRecursion, flat_map}
+use Rattle.zio_types.specs.declared.journal.Completion.{Completion}
 use Rattle.zio_types.specs.declared.place.Place.{Place}
 use Rattle.zio_types.specs.Choices.{Choice}
+use Rattle.zio_types.specs.Places.{sector_size}
 use Rattle.zio_script.specs.declared.script.Failmode.{Failmode}
 use Rattle.zio_cksum.specs.Images.{Images}
 use Rattle.zio_gang.specs.declared.tree.Tree.{Tree}
 use Rattle.zio_gang.specs.Attempts.{Pending, Terms}
-use Rattle.zio_gang.specs.Journals.{asks_of}
+use Rattle.zio_gang.specs.ByNumber.{merge_by}
+use Rattle.zio_gang.specs.Journals.{CompleteOnce, asks_of}
 use Rattle.zio_gang.specs.Rounds.{Ran, add_left, settle_each}
 use Rattle.zio_disks.specs.Whole.{IsWholeTree}
 use Rattle.zio_blocks.specs.Blocks.{AnswersBy}
 use Rattle.zio_course.specs.declared.runner.Finished.{Finished}
-use Rattle.zio_course.specs.Runners.{finished_of, has_claim, made_places, requests_in}
+use Rattle.zio_course.specs.Runners.{AreRisingFrom, completion_for, finished_of, has_claim, is_numbered, made_places, numbers_of, requests_in}
 use Rattle.zio_plain.specs.declared.waiting.Waiting.{Waiting}
 use Rattle.zio_plain.specs.OwnEnds.{AreAsked}
 use Rattle.zio_plain.specs.Passes.{AreChained, AreNumberedApart, Fated, IsAmong, all_ends, all_freed}
@@ -73,3 +76,31 @@ pub record AreRun {S : Type 0} (tells : S → Images → Type 0) (runs fresh : S
   pub asked : AreAsked (IsAmong (requests_run each_run) (λ n. 0 ≤ n)) (given old) (given new)
   pub told : (t : Terms) → runs old t → t.failmode ≡ failmode → (has_claim (requests_in trees) ≡ true → fresh old t) → (images : Images) → tells old images
       → TellsRan tells given (λ journal. settle_each journal t trees images) (ends_run each_run) left old new
+
+-- ---- what a round comes to
+
+-- What settling these trees comes to: requests that finished, by number, their completions in the order in which they did,
+-- what is left, and what was freed.
+pub record IsTreesRun {S : Type 0} (tells : S → Images → Type 0) (runs fresh : S → Terms → Type 0) (given : S → List Choice) (moves : S → S → List Place → Type 0) (round : ℕ) (failmode : Failmode) (trees left : List (List Pending)) (finished : List Finished) (completions : List Completion) (freed : List Tree) (old new : S) : Type 0 where
+  pub each_run : List TreeRun
+  pub whole : trees ≡ trees_in each_run
+  pub left_are : left ≡ trees_left each_run
+  pub each : AllByRecursion IsTreeRun each_run
+  pub finished_are : finished ≡ merge_by (λ (f : Finished). f.request) (ends_run each_run) []
+  pub completions_are : completions ≡ map (completion_for round) (ends_run each_run)
+  pub freed_are : freed ≡ freed_run each_run
+  pub moved : moves old new (made_places (ends_run each_run))
+  pub asked : AreAsked (IsAmong (requests_run each_run) (λ n. 0 ≤ n)) (given old) (given new)
+  pub told : (t : Terms) → runs old t → t.failmode ≡ failmode → (has_claim (requests_in trees) ≡ true → fresh old t) → (images : Images) → tells old images
+      → TellsRan tells given (λ journal. settle_each journal t trees images) (ends_run each_run) left old new
+
+-- What holds of the lists that it comes to: each request finished or is left, and not both; numbers of what finished rise;
+-- bytes are whole sectors; and each that finished has one completion.
+pub record IsListEnd (round : ℕ) (trees left : List (List Pending)) (finished : List Finished) (completions : List Completion) : Type 0 where
+  pub each : (n : ℕ) → count_by (is_numbered n) (numbers_of (requests_in trees))
+      ≡ count_by (is_numbered n) (map (λ (f : Finished). f.request) finished) + count_by (is_numbered n) (numbers_of (requests_in left))
+  pub rising : AreRisingFrom 0 (map (λ (f : Finished). f.request) finished)
+  pub sectors : AllByRecursion (λ (f : Finished). length f.bytes % sector_size ≡ 0) finished
+  pub completed : AllByRecursion (λ c. Contains (map (completion_for round) finished) c) completions
+  pub all_completed : AllByRecursion (λ c. Contains completions c) (map (completion_for round) finished)
+  pub once : CompleteOnce completions

@@ -63,17 +63,17 @@ chain_counted : (n : ℕ) (tree : List Waiting) (passes : List (List Fated)) (le
 chain_counted n tree [] left h =
     let e : counted n (waits_numbers tree) ≡ counted n (waits_numbers left) = ap (λ ws. counted n (waits_numbers ws)) (sym h) in omega arith
 chain_counted n tree (fs ∷ passes) left h =
-    let a = pass_counted n fs h.1 in
-    let b = chain_counted n (left_in fs) passes left h.2 in
+    let a = pass_counted n fs h.0.each in
+    let b = chain_counted n (left_in fs) passes left h.1 in
     let c = counted_append n (ends_numbers (ends_in fs)) (ends_numbers (all_ends passes)) in
     let d : counted n (ends_numbers (ends_in fs ++ all_ends passes)) ≡ counted n (ends_numbers (ends_in fs) ++ ends_numbers (all_ends passes)) =
     ap (counted n) (map-append (λ (f : Finished). f.request) (ends_in fs) (all_ends passes)) in
-    ap (λ ws. counted n (waits_numbers ws)) h.0 ∙ (omega arith)
+    ap (λ ws. counted n (waits_numbers ws)) h.0.whole ∙ (omega arith)
 
 numbers_append : (xs ys : List Request) → numbers_of (xs ++ ys) ≡ numbers_of xs ++ numbers_of ys
 numbers_append xs ys = map-append (λ (r : Request). r.number) xs ys
 
-left_requests : (ws : List Waiting) (trees : List (List Pending)) → requests_of (add_left (pendings ws) trees) ≡ requests_in ws ++ requests_of trees
+pub left_requests : (ws : List Waiting) (trees : List (List Pending)) → requests_of (add_left (pendings ws) trees) ≡ requests_in ws ++ requests_of trees
 left_requests [] trees = refl
 left_requests (w ∷ ws) trees = requests_one (w ∷ ws) trees
 
@@ -116,7 +116,7 @@ runs_ends P ok (r ∷ runs) each = all_append P (all_ends r.passes) (ends_run ru
 
     chain : (tree : List Waiting) (passes : List (List Fated)) → AreChained tree passes r.left → AllByRecursion P (all_ends passes)
     chain tree [] h = tt
-    chain tree (fs ∷ passes) h = all_append P (ends_in fs) (all_ends passes) (pass fs h.1) (chain (left_in fs) passes h.2)
+    chain tree (fs ∷ passes) h = all_append P (ends_in fs) (all_ends passes) (pass fs h.0.each) (chain (left_in fs) passes h.1)
 
 pub ends_whole : (fs : List Finished) → AllByRecursion (λ (f : Finished). IfSome f.tree IsWholeTree) fs → AllByRecursion IsWholeTree (made_trees fs)
 ends_whole [] h = tt

@@ -25,3 +25,5 @@ pub mod SettleLemmas
 pub mod SettlingLemmas
 pub mod CountLemmas
 pub mod SortedLemmas
+pub mod OwnerLemmas
+pub mod RestLemmas

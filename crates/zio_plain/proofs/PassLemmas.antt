@@ -29,7 +29,7 @@ use Rattle.zio_plain.specs.declared.waiting.Handed.{Handed}
 use Rattle.zio_plain.specs.declared.waiting.Waiting.{Waiting}
 use Rattle.zio_plain.specs.Judgments.{again_of, children_handed, ends_of}
 use Rattle.zio_plain.specs.OwnEnds.{AreAsked, IsFor}
-use Rattle.zio_plain.specs.Passes.{AreNumberedApart, Fated, HasFate, HasNumber, IsAmong, IsAttempted, IsFated, IsFateOf, IsPass, IsPassed, IsStep, TellsAttempted, TellsPassed, ends_in, freed_in, freed_of, is_again, left_in, waitings_in}
+use Rattle.zio_plain.specs.Passes.{AreNumberedApart, Fated, HasFate, HasNumber, IsAmong, IsAttempted, IsFated, IsFateOf, IsPass, IsPassed, IsStep, LastIsAgain, TellsAttempted, TellsPassed, ends_in, freed_in, freed_of, is_again, left_in, waitings_in}
 use Rattle.zio_plain.specs.Posts.{AreBehindChildren, IsOneTree, IsOver, IsSound, children_in, met_after, requests_in}
 use Rattle.zio_plain.specs.Waits.{HasPointer, numbers_in, pending_of, pendings, return_of}
 use Rattle.zio_plain.proofs.FateLemmas.{all_turned}
@@ -126,11 +126,12 @@ answers_before may journal old new h answers = all_front _ old h.more (subst (An
 keys_apart : (may might : ℕ → ℕ → Type 0) (a : Key) (bs : List Choice) → ((r n : ℕ) → may r n → might r n → ⊥) → may a.request a.attempt
     → AllByRecursion (λ (c : Choice). might c.asked.key.request c.asked.key.attempt) bs → AllByRecursion (λ (other : Ask). same_key a other.key ≡ false) (asks_of bs)
 keys_apart may might a [] apart h k = tt
-keys_apart may might a (b ∷ bs) apart h k =
-    (not_number (same_key a b.asked.key) (λ e.
-    apart a.request a.attempt h
-    (subst (λ n. might a.request n) (sym (same_attempt a b.asked.key e)) (subst (λ r. might r b.asked.key.attempt) (sym (same_request a b.asked.key e)) k.0))),
-    keys_apart may might a bs apart h k.1)
+keys_apart may might a (b ∷ bs) apart h k = (
+  not_number (same_key a b.asked.key) (λ e.
+      apart a.request a.attempt h
+      (subst (λ n. might a.request n) (sym (same_attempt a b.asked.key e)) (subst (λ r. might r b.asked.key.attempt) (sym (same_request a b.asked.key e)) k.0))),
+  keys_apart may might a bs apart h k.1,
+)
 
 keys_both : (may might : ℕ → ℕ → Type 0) (xs ys : List Choice) → ((r n : ℕ) → may r n → might r n → ⊥)
     → AllByRecursion (λ (c : Choice). may c.asked.key.request c.asked.key.attempt) xs → AllByRecursion (λ (c : Choice). might c.asked.key.request c.asked.key.attempt) ys
@@ -233,6 +234,16 @@ more_so_far journal t attempt images fates w fate one hs met rest old mid new af
       images = k.images;
     })
 
+-- the last request is the one that handed on what is on top
+pub record IsTopOf (fates : List Fated) (hs : List Handed) : Type 0 where
+  pub front : List Fated
+  pub last : Fated
+  pub split : fates ≡ front ++ last ∷ []
+  pub one : Handed
+  pub below : List Handed
+  pub on : hs ≡ one ∷ below
+  pub bits : has_bits one.bits ≡ is_again last.fate
+
 -- ---- the loop
 
 pub waits : (fates : List Fated) {ws vs : List Waiting} → ws ≡ vs → waitings_in fates ++ ws ≡ waitings_in fates ++ vs
@@ -280,6 +291,7 @@ module _ {S : Type 0} (tells : S → Images → Type 0) (runs fresh : S → Term
     pub sound : AllByRecursion (IsSound IsWholeTree) rest
     pub apart : AreNumberedApart rest
     pub still : IsLeft left hs met
+    pub top : (fates ≡ []) ⊎ IsTopOf fates hs
     pub moved : moves old new (made_places (ends_in fates))
     pub asked : AreAsked (IsAmong (waitings_in fates) (λ n. n ≡ attempt)) (given old) (given new)
     pub told : (t : Terms) → runs old t → t.failmode ≡ failmode → (has_claim (requests_in tree) ≡ true → fresh old t) → (images : Images) → tells old images
@@ -306,6 +318,7 @@ module _ {S : Type 0} (tells : S → Images → Type 0) (runs fresh : S → Term
         sound = one.sound;
         apart = apart;
         still = left_none;
+        top = inl refl;
         moved = itself;
         asked = record { more = []; is = sym (append-nil (given old)); of = tt; distinct = tt };
         told = λ t run mode claim images told. record {
@@ -358,6 +371,7 @@ module _ {S : Type 0} (tells : S → Images → Type 0) (runs fresh : S → Term
         sound = h.sound.1;
         apart = h.apart.1;
         still = left_step left w step.one hs h.met step.fate h.stack over h.sound.0 is h.still;
+        top = inr (record { front = h.fates; last = record { waiting = w; fate = step.fate }; split = refl; one = step.one; below = drop w.unfinished hs; on = refl; bits = is.bits });
         moved = subst (λ ps. moves old new ps) (sym (made_append (ends_in h.fates) (ends_of step.fate)) ∙ ap made_places ends) (then old mid new (made_places (ends_in h.fates)) (made_places (ends_of step.fate)) h.moved step.moved);
         asked = asked_both (IsAmong (waitings_in h.fates) (λ n. n ≡ attempt)) (IsFor w.request.number attempt) (IsAmong (waitings_in fates) (λ n. n ≡ attempt)) (given old) (given mid) (given new)
             (λ r n one two. number_once w (waitings_in h.fates) rest (subst AreNumberedApart h.split whole_apart) (subst (HasNumber (waitings_in h.fates)) two.0 one.0))
@@ -424,10 +438,18 @@ module _ {S : Type 0} (tells : S → Images → Type 0) (runs fresh : S → Term
   rest_if true left root x e l = inr (left_tree left root x e l)
   rest_if false left root x e l = inl (left_ends left root x e l)
 
+  root_if : (b : Bool) (left : List Waiting) (root : Waiting) (x : Handed) (fates : List Fated) (hs : List Handed) → has_bits x.bits ≡ b → hs ≡ x ∷ [] → tree ≡ waitings_in fates → IsOneTree IsWholeTree tree
+      → (fates ≡ []) ⊎ IsTopOf fates hs → IsLeft left (x ∷ []) (root ∷ []) → (left ≡ []) ⊎ LastIsAgain fates
+  root_if false left root x fates hs e on whole one top l = inl (left_ends left root x e l)
+  root_if true left root x fates hs e on whole one (inl none) l = let no : [] ≡ one.root ∷ [] = sym (ap (met_after []) (whole ∙ ap waitings_in none)) ∙ one.alone in absurd (cc)
+  root_if true left root x fates hs e on whole one (inr t) l =
+      let same : t.one ≡ x = (let both : t.one ∷ t.below ≡ x ∷ [] = sym t.on ∙ on in cc) in
+      inr (record { front = t.front; last = t.last; split = t.split; is = sym t.bits ∙ ap (λ (y : Handed). has_bits y.bits) same ∙ e })
+
   pub passing_ends : (hs : List Handed) (left : List Waiting) (at_once : Bool) (finished_old finished_new : List Finished) (freed_old freed_new : List Tree) (old new : S)
-      → IsPassing [] hs left finished_old finished_new freed_old freed_new old new → at_once ≡ now_alone (root_bits (map return_of hs))
+      → IsOneTree IsWholeTree tree → IsPassing [] hs left finished_old finished_new freed_old freed_new old new → at_once ≡ now_alone (root_bits (map return_of hs))
       → IsPass tells runs fresh given moves failmode attempt tree left at_once finished_old finished_new freed_old freed_new old new
-  passing_ends hs left at_once finished_old finished_new freed_old freed_new old new h bits =
+  passing_ends hs left at_once finished_old finished_new freed_old freed_new old new one_tree h bits =
       let one = one_on hs h.root (subst (IsStack hs) h.alone h.stack) in
       let x : Handed = one.0 in
       let l : IsLeft left (x ∷ []) (h.root ∷ []) = subst (λ gs. IsLeft left gs (h.root ∷ [])) one.1 (subst (IsLeft left hs) h.alone h.still) in
@@ -441,6 +463,7 @@ module _ {S : Type 0} (tells : S → Images → Type 0) (runs fresh : S → Term
         each = h.each;
         turns = λ e. left_tree left h.root x (now_has x.bits.now x.bits.suspend (sym (bits ∙ ap now_alone top) ∙ e)) l;
         rest = rest_if (has_bits x.bits) left h.root x refl l;
+        root = root_if (has_bits x.bits) left h.root x h.fates hs refl one.1 whole one_tree h.top l;
         moved = h.moved;
         asked = subst (λ ws. AreAsked (IsAmong ws (λ n. n ≡ attempt)) (given old) (given new)) (sym whole) h.asked;
         told = λ t run mode claim images told.

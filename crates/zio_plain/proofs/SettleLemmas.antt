@@ -21,7 +21,7 @@ use Rattle.zio_plain.specs.declared.judge.Fate.{Fate}
 use Rattle.zio_plain.specs.declared.judge.Fate.TheVariants.{Ends, Again}
 use Rattle.zio_plain.specs.declared.waiting.Waiting.{Waiting}
 use Rattle.zio_plain.specs.Judgments.{again_of}
-use Rattle.zio_plain.specs.Passes.{AreChained, AreNumberedApart, ArePasses, Fated, HasNumber, IsAmong, IsFated, IsFateOf, IsPass, IsPassed, IsSettled, all_ends, all_freed, ends_in, freed_in, left_in, waitings_in}
+use Rattle.zio_plain.specs.Passes.{AreChained, AreNumberedApart, ArePasses, Fated, HasNumber, IsAmong, IsFated, IsFateOf, IsPass, IsPassed, IsPassOf, IsSettled, LastIsAgain, all_ends, all_freed, ends_in, freed_in, left_in, waitings_in}
 use Rattle.zio_plain.specs.Posts.{IsOneTree, requests_in}
 use Rattle.zio_plain.specs.Waits.{pendings}
 use Rattle.zio_plain.proofs.PassLemmas.{answers_before, asked_both, asked_weaker, made_append}
@@ -82,7 +82,7 @@ or_second : (a b : Bool) → b ≡ true → (a || b) ≡ true
 or_second true b e = refl
 or_second false b e = e
 
-claims_of : (fs : List Fated) → AllByRecursion IsFated fs → has_claim (requests_in (left_in fs)) ≡ true → has_claim (requests_in (waitings_in fs)) ≡ true
+pub claims_of : (fs : List Fated) → AllByRecursion IsFated fs → has_claim (requests_in (left_in fs)) ≡ true → has_claim (requests_in (waitings_in fs)) ≡ true
 claims_of [] each e = e
 claims_of (f ∷ fs) each e = one f.fate each.0.is (λ h. claims_of fs each.1 h) e
   where
@@ -121,6 +121,15 @@ no_claim_left tree fs whole each one alone =
     single (f ∷ g ∷ gs) k n t h = omega arith
 
 -- ---- settled
+
+pass_of : (tree left : List Waiting) (fates : List Fated) → tree ≡ waitings_in fates → AllByRecursion IsFated fates → left ≡ left_in fates → (left ≡ []) ⊎ IsOneTree IsWholeTree left → (left ≡ []) ⊎ LastIsAgain fates
+    → IsPassOf tree fates
+pass_of tree left fates whole each left_are rest root = record {
+  whole = whole;
+  each = each;
+  rest = subst (λ ws. (ws ≡ []) ⊎ IsOneTree IsWholeTree ws) left_are rest;
+  root = subst (λ ws. (ws ≡ []) ⊎ LastIsAgain fates) left_are root;
+}
 
 module _ {S : Type 0} (tells : S → Images → Type 0) (runs fresh : S → Terms → Type 0) (given : S → List Choice) (moves : S → S → List Place → Type 0) (failmode : Failmode) where
   -- the pass is the only one
@@ -163,7 +172,8 @@ module _ {S : Type 0} (tells : S → Images → Type 0) (runs fresh : S → Term
   passes_end more attempt tree left at_once finished_old finished_new freed_old freed_new old new why h =
       let ends : all_ends (h.fates ∷ []) ≡ ends_in h.fates = append-nil (ends_in h.fates) in record {
         passes = h.fates ∷ [];
-        chained = (h.whole, h.each, h.left_are);
+        some = omega arith;
+        chained = (pass_of tree left h.fates h.whole h.each h.left_are h.rest h.root, h.left_are);
         finished = h.finished ∙ ap (λ fs. finished_old ++ fs) (sym ends);
         freed = h.freed ∙ ap (λ ts. freed_old ++ ts) (sym (append-nil (freed_in h.fates)));
         rest = h.rest;
@@ -189,7 +199,8 @@ module _ {S : Type 0} (tells : S → Images → Type 0) (runs fresh : S → Term
       → ArePasses tells runs fresh given moves failmode more attempt tree left finished_old finished_new freed_old freed_new old new
   passes_go_on less more attempt tree mid left finished_old finished_mid finished_new freed_old freed_mid freed_new old between new is then stays no_claim h k = record {
     passes = h.fates ∷ k.passes;
-    chained = (h.whole, h.each, subst (λ ws. AreChained ws k.passes left) h.left_are k.chained);
+    some = omega arith;
+    chained = (pass_of tree mid h.fates h.whole h.each h.left_are h.rest h.root, subst (λ ws. AreChained ws k.passes left) h.left_are k.chained);
     finished = k.finished ∙ ap (λ fs. fs ++ all_ends k.passes) h.finished ∙ append_assoc finished_old (ends_in h.fates) (all_ends k.passes);
     freed = k.freed ∙ ap (λ ts. ts ++ all_freed k.passes) h.freed ∙ append_assoc freed_old (freed_in h.fates) (all_freed k.passes);
     rest = k.rest;

@@ -316,7 +316,7 @@ module _ {S : Type 0} (tells : S → Images → Type 0) (runs fresh : S → Term
         split = split ∙ sym (append_assoc (trees_in h.each_run) (pendings ws ∷ []) next) ∙ ap (λ ts. ts ++ next) (sym (map-append (λ (x : TreeRun). pendings x.tree) h.each_run (r ∷ [])));
         first = λ none. absurd (some h.each_run r none);
         left_are = left_all;
-        each = all_append IsTreeRun h.each_run (r ∷ []) h.each (record { one = one; apart = next_apart h.each_run ws next trees split once; chained = k.chained; rest = k.rest }, tt);
+        each = all_append IsTreeRun h.each_run (r ∷ []) h.each (record { one = one; apart = next_apart h.each_run ws next trees split once; some = k.some; chained = k.chained; rest = k.rest }, tt);
         finished = k.finished ∙ ap (λ fs. fs ++ all_ends k.passes) h.finished ∙ append_assoc finished_old (ends_run h.each_run) (all_ends k.passes) ∙ ap (λ fs. finished_old ++ fs) ends;
         freed = k.freed ∙ ap (λ ts. ts ++ all_freed k.passes) h.freed ∙ append_assoc freed_old (freed_run h.each_run) (all_freed k.passes)
             ∙ ap (λ ts. freed_old ++ ts) (ap (λ ts. freed_run h.each_run ++ ts) (sym (append-nil (all_freed k.passes))) ∙ sym (flat_map-append (λ (x : TreeRun). all_freed x.passes) h.each_run (r ∷ [])));

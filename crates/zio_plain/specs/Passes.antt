@@ -147,6 +147,13 @@ HasNumber (w ∷ ws) n = (w.request.number ≡ n) ⊎ HasNumber ws n
 abbrev pub IsAmong : List Waiting → (ℕ → Type 0) → ℕ → ℕ → Type 0
 IsAmong ws attempts request attempt = HasNumber ws request × attempts attempt
 
+-- the last request of the pass goes again
+pub record LastIsAgain (fates : List Fated) : Type 0 where
+  pub front : List Fated
+  pub last : Fated
+  pub split : fates ≡ front ++ last ∷ []
+  pub is : is_again last.fate ≡ true
+
 -- the pass is what the definition says of the tree's attempt
 pub record IsPassed (a : Attempt) (finished : List Finished) (left : List Waiting) (at_once : Bool) (given_old given_new : List Choice) (after : Images) : Type 0 where
   pub ended : map finished_of a.ended ≡ finished
@@ -170,6 +177,7 @@ pub record IsPass {S : Type 0} (tells : S → Images → Type 0) (runs fresh : S
   pub each : AllByRecursion IsFated fates
   pub turns : at_once ≡ true → IsOneTree IsWholeTree left
   pub rest : (left ≡ []) ⊎ IsOneTree IsWholeTree left
+  pub root : (left ≡ []) ⊎ LastIsAgain fates
   pub moved : moves old new (made_places (ends_in fates))
   pub asked : AreAsked (IsAmong tree (λ n. n ≡ attempt)) (given old) (given new)
   pub told : (t : Terms) → runs old t → t.failmode ≡ failmode → (has_claim (requests_in tree) ≡ true → fresh old t) → (images : Images) → tells old images
@@ -177,11 +185,17 @@ pub record IsPass {S : Type 0} (tells : S → Images → Type 0) (runs fresh : S
 
 -- ---- passes one after another
 
--- each pass is over what the one before left, which is a tree
+-- A pass over the tree with these fates: nothing is left of it, or a tree with the same root.
+pub record IsPassOf (tree : List Waiting) (fates : List Fated) : Type 0 where
+  pub whole : tree ≡ waitings_in fates
+  pub each : AllByRecursion IsFated fates
+  pub rest : (left_in fates ≡ []) ⊎ IsOneTree IsWholeTree (left_in fates)
+  pub root : (left_in fates ≡ []) ⊎ LastIsAgain fates
+
+-- each pass is over what the one before left
 abbrev pub AreChained : List Waiting → List (List Fated) → List Waiting → Type 0
 AreChained tree [] left = left ≡ tree
-AreChained tree (fates ∷ more) left =
-    (tree ≡ waitings_in fates) × AllByRecursion IsFated fates × AreChained (left_in fates) more left
+AreChained tree (fates ∷ more) left = IsPassOf tree fates × AreChained (left_in fates) more left
 
 abbrev pub all_ends : List (List Fated) → List Finished
 all_ends passes = flat_map ends_in passes
@@ -204,6 +218,7 @@ pub record TellsSettled {S : Type 0} (tells : S → Images → Type 0) (given : 
 -- What passes over a tree add and leave, so many at most behind the first.
 pub record ArePasses {S : Type 0} (tells : S → Images → Type 0) (runs fresh : S → Terms → Type 0) (given : S → List Choice) (moves : S → S → List Place → Type 0) (failmode : Failmode) (more attempt : ℕ) (tree left : List Waiting) (finished_old finished_new : List Finished) (freed_old freed_new : List Tree) (old new : S) : Type 0 where
   pub passes : List (List Fated)
+  pub some : 1 ≤ length passes
   pub chained : AreChained tree passes left
   pub finished : finished_new ≡ finished_old ++ all_ends passes
   pub freed : freed_new ≡ freed_old ++ all_freed passes

@@ -1,5 +1,5 @@
 -- The trees of a round, each settled over what the one before it left.
-use Rattle.std.specs.Prelude.{◌≡◌, ◌≤◌, ◌⊎◌, ℕ, ◌+◌, ◌%◌, List, [], ◌∷◌, ◌++◌, length, map, count_by, true, Contains}
+use Rattle.std.specs.Prelude.{◌≡◌, ◌≤◌, ◌⊎◌, ℕ, ◌+◌, ◌%◌, List, [], ◌∷◌, ◌++◌, length, map, count_by, false, true, Contains}
 use Rattle.std.specs.List.{AllByRecursion, flat_map}
 use Rattle.zio_types.specs.declared.journal.Completion.{Completion}
 use Rattle.zio_types.specs.declared.place.Place.{Place}
@@ -15,7 +15,7 @@ use Rattle.zio_gang.specs.Rounds.{Ran, add_left, settle_each}
 use Rattle.zio_disks.specs.Whole.{IsWholeTree}
 use Rattle.zio_blocks.specs.Blocks.{AnswersBy}
 use Rattle.zio_course.specs.declared.runner.Finished.{Finished}
-use Rattle.zio_course.specs.Runners.{AreRisingFrom, completion_for, finished_of, has_claim, is_numbered, made_places, numbers_of, requests_in}
+use Rattle.zio_course.specs.Runners.{AreRestsOf, AreRisingFrom, HasReadSize, MakesTree, completion_for, finished_of, has_claim, is_numbered, made_places, numbers_of, requests_in}
 use Rattle.zio_plain.specs.declared.waiting.Waiting.{Waiting}
 use Rattle.zio_plain.specs.OwnEnds.{AreAsked}
 use Rattle.zio_plain.specs.Passes.{AreChained, AreNumberedApart, Fated, IsAmong, all_ends, all_freed}
@@ -32,6 +32,7 @@ pub record TreeRun : Type 0 where
 pub record IsTreeRun (r : TreeRun) : Type 0 where
   pub one : IsOneTree IsWholeTree r.tree
   pub apart : AreNumberedApart r.tree
+  pub some : 1 ≤ length r.passes
   pub chained : AreChained r.tree r.passes r.left
   pub rest : (r.left ≡ []) ⊎ IsOneTree IsWholeTree r.left
 
@@ -94,12 +95,17 @@ pub record IsTreesRun {S : Type 0} (tells : S → Images → Type 0) (runs fresh
   pub told : (t : Terms) → runs old t → t.failmode ≡ failmode → (has_claim (requests_in trees) ≡ true → fresh old t) → (images : Images) → tells old images
       → TellsRan tells given (λ journal. settle_each journal t trees images) (ends_run each_run) left old new
 
--- What holds of the lists that it comes to: each request finished or is left, and not both; numbers of what finished rise;
--- bytes are whole sectors; and each that finished has one completion.
+-- What holds of the lists that it comes to: each request finished or is left, and not both; what is left are rests of the
+-- trees, with no claim among them; numbers of what finished rise; bytes are whole sectors, and all bytes of a block that was
+-- read without error; writes and claims alone made blocks; and each that finished has one completion.
 pub record IsListEnd (round : ℕ) (trees left : List (List Pending)) (finished : List Finished) (completions : List Completion) : Type 0 where
   pub each : (n : ℕ) → count_by (is_numbered n) (numbers_of (requests_in trees))
       ≡ count_by (is_numbered n) (map (λ (f : Finished). f.request) finished) + count_by (is_numbered n) (numbers_of (requests_in left))
+  pub rests : AreRestsOf trees left
+  pub claims : has_claim (requests_in left) ≡ false
   pub rising : AreRisingFrom 0 (map (λ (f : Finished). f.request) finished)
+  pub reads : AllByRecursion (HasReadSize trees) finished
+  pub makers : AllByRecursion (MakesTree trees) finished
   pub sectors : AllByRecursion (λ (f : Finished). length f.bytes % sector_size ≡ 0) finished
   pub completed : AllByRecursion (λ c. Contains (map (completion_for round) finished) c) completions
   pub all_completed : AllByRecursion (λ c. Contains completions c) (map (completion_for round) finished)

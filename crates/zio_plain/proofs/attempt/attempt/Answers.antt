@@ -89,6 +89,7 @@ returns-clause-pass g c =
     let hs : List Handed = reverse c.loop-waiting.handed.items in
     passing_ends m.tells m.runs m.fresh m.given m.moves c.args.failmode c.args.attempt c.args.tree hs c.loop-waiting.again c.goes_at_once-at_once.result
     c.args.ends.now.finished c.loop-waiting.ends.finished c.args.ends.now.freed c.loop-waiting.ends.freed c.args.works.now c.loop-waiting.works
+    c.requires.tree
     (subst (λ (ws : List Waiting). IsPassing m.tells m.runs m.fresh m.given m.moves c.args.failmode c.args.attempt c.args.tree ws hs c.loop-waiting.again
     c.args.ends.now.finished c.loop-waiting.ends.finished c.args.ends.now.freed c.loop-waiting.ends.freed c.args.works.now c.loop-waiting.works) c.in-None.ensures.steps.0 c.loop-waiting.invariant)
     (c.goes_at_once-at_once.ensures ∙ ap (λ (gs : List Handed). now_alone (root_bits (map return_of (reverse gs)))) c.deref.ensures.value)

@@ -27,3 +27,4 @@ pub mod CountLemmas
 pub mod SortedLemmas
 pub mod OwnerLemmas
 pub mod RestLemmas
+pub mod AfterLemmas

@@ -34,7 +34,7 @@ pub record IsOwned (ws : List Waiting) (f : Finished) : Type 0 where
 owned_more : (w : Waiting) (ws : List Waiting) (fs : List Finished) → AllByRecursion (IsOwned ws) fs → AllByRecursion (IsOwned (w ∷ ws)) fs
 owned_more w ws fs h = all_weaker (IsOwned ws) (IsOwned (w ∷ ws)) fs (λ f k. record { owner = k.owner; at = inr k.at; end = k.end }) h
 
-pass_owned : (fs : List Fated) → AllByRecursion IsFated fs → AllByRecursion (IsOwned (waitings_in fs)) (ends_in fs)
+pub pass_owned : (fs : List Fated) → AllByRecursion IsFated fs → AllByRecursion (IsOwned (waitings_in fs)) (ends_in fs)
 pass_owned [] each = tt
 pass_owned (f ∷ fs) each = one f.fate each.0.is (owned_more f.waiting (waitings_in fs) (ends_in fs) (pass_owned fs each.1))
   where
@@ -73,7 +73,7 @@ end_before w v f request block h = record {
   makes = λ some. let k = h.makes some in (k.0, ap (λ (r : Request). makes_block r.work) (sym request) ∙ k.1);
 }
 
-chain_owned : (tree : List Waiting) (passes : List (List Fated)) (left : List Waiting) → AreChained tree passes left → AllByRecursion (IsOwned tree) (all_ends passes)
+pub chain_owned : (tree : List Waiting) (passes : List (List Fated)) (left : List Waiting) → AreChained tree passes left → AllByRecursion (IsOwned tree) (all_ends passes)
 chain_owned tree [] left h = tt
 chain_owned tree (fs ∷ passes) left h =
     subst (λ ws. AllByRecursion (IsOwned ws) (ends_in fs ++ all_ends passes)) (sym h.0.whole)

@@ -10,7 +10,7 @@ use Rattle.zio_cksum.specs.Images.{Images}
 use Rattle.zio_gang.specs.declared.tree.Tree.{Tree}
 use Rattle.zio_gang.specs.Attempts.{Pending, Terms}
 use Rattle.zio_gang.specs.ByNumber.{merge_by}
-use Rattle.zio_gang.specs.Journals.{CompleteOnce, asks_of}
+use Rattle.zio_gang.specs.Journals.{CompleteAfterChildren, CompleteOnce, asks_of}
 use Rattle.zio_gang.specs.Rounds.{Ran, add_left, settle_each}
 use Rattle.zio_disks.specs.Whole.{IsWholeTree}
 use Rattle.zio_blocks.specs.Blocks.{AnswersBy}
@@ -97,7 +97,8 @@ pub record IsTreesRun {S : Type 0} (tells : S → Images → Type 0) (runs fresh
 
 -- What holds of the lists that it comes to: each request finished or is left, and not both; what is left are rests of the
 -- trees, with no claim among them; numbers of what finished rise; bytes are whole sectors, and all bytes of a block that was
--- read without error; writes and claims alone made blocks; and each that finished has one completion.
+-- read without error; writes and claims alone made blocks; and each that finished has one completion, behind those of its
+-- children.
 pub record IsListEnd (round : ℕ) (trees left : List (List Pending)) (finished : List Finished) (completions : List Completion) : Type 0 where
   pub each : (n : ℕ) → count_by (is_numbered n) (numbers_of (requests_in trees))
       ≡ count_by (is_numbered n) (map (λ (f : Finished). f.request) finished) + count_by (is_numbered n) (numbers_of (requests_in left))
@@ -110,3 +111,4 @@ pub record IsListEnd (round : ℕ) (trees left : List (List Pending)) (finished 
   pub completed : AllByRecursion (λ c. Contains (map (completion_for round) finished) c) completions
   pub all_completed : AllByRecursion (λ c. Contains completions c) (map (completion_for round) finished)
   pub once : CompleteOnce completions
+  pub after_children : CompleteAfterChildren (requests_in trees) completions

@@ -6,11 +6,12 @@ use Rattle.zio_types.specs.declared.journal.Completion.{Completion}
 use Rattle.zio_types.specs.Places.{sector_size}
 use Rattle.zio_disks.specs.Whole.{IsWholeTree}
 use Rattle.zio_gang.specs.Attempts.{Pending}
-use Rattle.zio_gang.specs.Journals.{CompleteOnce}
+use Rattle.zio_gang.specs.Journals.{CompleteAfterChildren, CompleteOnce}
 use Rattle.zio_course.specs.declared.runner.Finished.{Finished}
 use Rattle.zio_course.specs.Runners.{AreRestsOf, HasReadSize, MakesTree, completion_for, has_claim, numbers_of, requests_in}
 use Rattle.zio_plain.proofs.CountLemmas.{complete_once, counted, ends_are, ends_numbers, ends_whole, run_counted, run_once, runs_ends}
 use Rattle.zio_plain.specs.Settlings.{ends_run, trees_in, trees_left}
+use Rattle.zio_plain.proofs.AfterLemmas.{runs_complete}
 use Rattle.zio_plain.proofs.OwnerLemmas.{makers_right, reads_right, runs_apart}
 use Rattle.zio_plain.proofs.RestLemmas.{runs_claims, runs_rests}
 use Rattle.zio_plain.proofs.SortedLemmas.{all_moved, all_there, counted_moved}
@@ -46,6 +47,8 @@ returns-clause-ends g c =
       completed = subst (AllByRecursion (Contains (map (completion_for c.args.round) fs))) (sym listed) (all_there (completion_for c.args.round) es fs c.by_number.ensures.same);
       all_completed = subst (λ (cs : List Completion). AllByRecursion (Contains cs) (map (completion_for c.args.round) fs)) (sym listed)
           (all_there (completion_for c.args.round) fs es (IsPermutation-sym es fs c.by_number.ensures.same));
+      after_children = subst (CompleteAfterChildren (requests_in c.args.trees)) (sym (listed ∙ ap (map (completion_for c.args.round)) is))
+          (runs_complete c.args.round c.args.trees r.each_run r.whole r.each c.requires.roots (runs_apart c.args.trees r.each_run r.whole c.requires.once));
       once = subst CompleteOnce (sym listed) (complete_once c.args.round es (run_once c.args.trees r.each_run es r.each r.whole is c.requires.once));
     }
 

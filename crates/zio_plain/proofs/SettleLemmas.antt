@@ -1,6 +1,6 @@
 -- Passes over a tree, one after another.
 use Rattle.std.proofs.Common.{◌≡◌, ◌≢◌, ℕ, zero, suc, ◌+◌, ◌-◌, ◌<◌, ◌≤◌, List, [], ◌∷◌, ◌++◌, length, map, Bool, true, false, ◌||◌, ◌⊎◌, inl, inr, refl, sym, ap, ◌∙◌, subst, arith, append_assoc}
-use Rattle.std.specs.Prelude.{Result, Ok, Err, IfOk}
+use Rattle.std.specs.Prelude.{Result, Ok, Err, IfErr, IfOk}
 use Rattle.std.specs.List.{AllByRecursion, flat_map}
 use Rattle.std.proofs.lemmas.List.{append-nil, map-append}
 use Rattle.zio_types.specs.declared.place.Place.{Place}
@@ -15,12 +15,12 @@ use Rattle.zio_gang.specs.declared.tree.Tree.{Tree}
 use Rattle.zio_gang.specs.Attempts.{Attempt, Settled, Terms, attempt_tree, settle_from, settled_if}
 use Rattle.zio_gang.specs.Journals.{asks_of}
 use Rattle.zio_course.specs.declared.runner.Finished.{Finished}
-use Rattle.zio_course.specs.declared.runner.Stop.{Stop}
 use Rattle.zio_course.specs.Runners.{finished_of, has_claim, made_places}
 use Rattle.zio_plain.specs.declared.judge.Fate.{Fate}
 use Rattle.zio_plain.specs.declared.judge.Fate.TheVariants.{Ends, Again}
 use Rattle.zio_plain.specs.declared.waiting.Waiting.{Waiting}
 use Rattle.zio_plain.specs.Judgments.{again_of}
+use Rattle.zio_plain.specs.OwnEnds.{AreNamed}
 use Rattle.zio_plain.specs.Passes.{AreChained, AreNumberedApart, ArePasses, Fated, HasNumber, IsAmong, IsFated, IsFateOf, IsPass, IsPassed, IsPassOf, IsSettled, LastIsAgain, all_ends, all_freed, ends_in, freed_in, left_in, waitings_in}
 use Rattle.zio_plain.specs.Posts.{IsOneTree, requests_in}
 use Rattle.zio_plain.specs.Waits.{pendings}
@@ -224,16 +224,34 @@ module _ {S : Type 0} (tells : S → Images → Type 0) (runs fresh : S → Term
         };
   }
 
-  pub go_on : (more attempt : ℕ) (tree mid : List Waiting) (at_once : Bool) (result : Result (List Waiting) Stop) (finished_old finished_mid finished_new : List Finished) (freed_old freed_mid freed_new : List Tree) (old between new : S)
+  pub go_on : (more attempt : ℕ) (tree mid : List Waiting) (at_once : Bool) (left : List Waiting) (finished_old finished_mid finished_new : List Finished) (freed_old freed_mid freed_new : List Tree) (old between new : S)
       → 0 < more → at_once ≡ true
       → ((a b c : S) (ps qs : List Place) → moves a b ps → moves b c qs → moves a c (ps ++ qs))
       → ((a b : S) (ps : List Place) (t : Terms) → moves a b ps → runs a t → runs b t)
       → has_claim (requests_in mid) ≡ false
       → IsPass tells runs fresh given moves failmode attempt tree mid at_once finished_old finished_mid freed_old freed_mid old between
-      → IfOk result (λ left. ArePasses tells runs fresh given moves failmode (more - 1) (attempt + 1) mid left finished_mid finished_new freed_mid freed_new between new)
-      → IfOk result (λ left. ArePasses tells runs fresh given moves failmode more attempt tree left finished_old finished_new freed_old freed_new old new)
-  go_on more attempt tree mid at_once (Ok left) finished_old finished_mid finished_new freed_old freed_mid freed_new old between new some once then stays none h k =
+      → ArePasses tells runs fresh given moves failmode (more - 1) (attempt + 1) mid left finished_mid finished_new freed_mid freed_new between new
+      → ArePasses tells runs fresh given moves failmode more attempt tree left finished_old finished_new freed_old freed_new old new
+  go_on more attempt tree mid at_once left finished_old finished_mid finished_new freed_old freed_mid freed_new old between new some once then stays none h k =
       let is : more ≡ suc (more - 1) = omega arith in
       passes_go_on (more - 1) more attempt tree mid left finished_old finished_mid finished_new freed_old freed_mid freed_new old between new is then stays none
       (subst (λ b. IsPass tells runs fresh given moves failmode attempt tree mid b finished_old finished_mid freed_old freed_mid old between) once h) k
-  go_on more attempt tree mid at_once (Err e) finished_old finished_mid finished_new freed_old freed_mid freed_new old between new some once then stays none h k = tt
+
+-- ---- for whichever places the blocks have
+
+pub if_ok_all : {V E : Type 0} (r : Result V E) (At At' : List Place → Type 0) (P Q : List Place → V → Type 0) → ((named : List Place) → At' named → At named) → ((named : List Place) → At' named → (v : V) → P named v → Q named v)
+    → IfOk r (λ v. (named : List Place) → At named → P named v) → IfOk r (λ v. (named : List Place) → At' named → Q named v)
+if_ok_all (Ok v) At At' P Q less more h = λ named at. more named at v (h named (less named at))
+if_ok_all (Err e) At At' P Q less more h = tt
+
+pub if_err_all : {V E : Type 0} (r : Result V E) (At At' : List Place → Type 0) (P Q : List Place → E → Type 0) → ((named : List Place) → At' named → At named) → ((named : List Place) → At' named → (e : E) → P named e → Q named e)
+    → IfErr r (λ e. (named : List Place) → At named → P named e) → IfErr r (λ e. (named : List Place) → At' named → Q named e)
+if_err_all (Ok v) At At' P Q less more h = tt
+if_err_all (Err e) At At' P Q less more h = λ named at. more named at e (h named (less named at))
+
+-- what is left names no other blocks
+pub named_left : (named : List Place) (tree left : List Waiting) (fs : List Fated) → tree ≡ waitings_in fs → left ≡ left_in fs → AllByRecursion IsFated fs
+    → AllByRecursion (λ (w : Waiting). AreNamed named w.block) tree → AllByRecursion (λ (w : Waiting). AreNamed named w.block) left
+named_left named tree left fs whole left_are each at =
+    subst (AllByRecursion (λ (w : Waiting). AreNamed named w.block)) (sym left_are)
+    (left_can (λ (w : Waiting). w.block) (λ w v e. e) (AreNamed named) fs each (subst (AllByRecursion (λ (w : Waiting). AreNamed named w.block)) whole at))

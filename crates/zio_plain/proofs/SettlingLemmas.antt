@@ -6,7 +6,7 @@ use Rattle.std.proofs.lemmas.List.Sums.{sum_by-append, sum_by-cons}
 use Rattle.std.proofs.lemmas.Grind.{flat_map-append}
 use Rattle.zio_types.specs.declared.place.Place.{Place}
 use Rattle.zio_types.specs.Choices.{Choice}
-use Rattle.zio_cksum.proofs.AllLemmas.{all_append}
+use Rattle.zio_cksum.proofs.AllLemmas.{all_append, all_parts}
 use Rattle.zio_script.specs.declared.script.Failmode.{Failmode}
 use Rattle.zio_script.specs.declared.script.Request.{Request}
 use Rattle.zio_script.specs.Requests.{kind_of}
@@ -18,9 +18,9 @@ use Rattle.zio_gang.specs.Attempts.{Pending, Settled, Terms, settle}
 use Rattle.zio_gang.specs.Journals.{asks_of}
 use Rattle.zio_gang.specs.Rounds.{Ran, add_left, add_settled, settle_each}
 use Rattle.zio_course.specs.declared.runner.Finished.{Finished}
-use Rattle.zio_course.specs.Runners.{finished_of, has_claim, joined_trees, made_places, requests_in as requests_of}
+use Rattle.zio_course.specs.Runners.{finished_of, has_claim, joined_trees, made_places, named_places, places_of_block, requests_in as requests_of}
 use Rattle.zio_plain.specs.declared.waiting.Waiting.{Waiting}
-use Rattle.zio_plain.specs.OwnEnds.{AreAsked}
+use Rattle.zio_plain.specs.OwnEnds.{AreAsked, AreNamed}
 use Rattle.zio_plain.specs.Passes.{AreNumberedApart, ArePasses, HasNumber, IsAmong, IsSettled, all_ends, all_freed}
 use Rattle.zio_plain.specs.Posts.{IsOneTree, requests_in}
 use Rattle.zio_plain.specs.Settlings.{AreRun, IsRan, IsTreeRun, TellsRan, TreeRun, ends_run, freed_run, requests_run, trees_in, trees_left}
@@ -247,6 +247,11 @@ next_all P runs ws rest trees split h =
     seen : (vs : List Waiting) → AllByRecursion P (pendings vs) → AllByRecursion (λ (w : Waiting). P (pending_of w)) vs
     seen [] k = tt
     seen (v ∷ vs) k = (k.0, seen vs k.1)
+
+-- the next tree names blocks of the round
+pub next_named : (runs : List TreeRun) (ws : List Waiting) (rest trees : List (List Pending)) → trees ≡ trees_in runs ++ pendings ws ∷ rest → AllByRecursion (λ (w : Waiting). AreNamed (named_places trees) w.block) ws
+next_named runs ws rest trees split =
+    next_all (λ (p : Pending). AreNamed (named_places trees) p.block) runs ws rest trees split (all_parts (λ (p : Pending). places_of_block p.block) (joined_trees trees))
 
 -- ---- the loop
 

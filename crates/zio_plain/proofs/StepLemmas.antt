@@ -2,7 +2,7 @@
 use Rattle.std.proofs.Common.{◌≡◌, ℕ, ◌≤◌, List, [], ◌∷◌, ◌++◌, length, map, take, drop, reverse, Bool, true, false, Option, Some, None, refl, sym, ap, ◌∙◌, subst, arith, append_assoc}
 use Rattle.std.proofs.lemmas.List.{append-nil, reverse-append, take-append-le, drop-append-le, length-reverse}
 use Rattle.std.proofs.Math.Seq.{drop-length, take-length}
-use Rattle.std.specs.Prelude.{option_to_list, OnOk, Result, Ok, Err}
+use Rattle.std.specs.Prelude.{option_to_list, IfErr, OnErr, OnOk, Result, Ok, Err}
 use Rattle.std.specs.List.{AllByRecursion, flat_map}
 use Rattle.zio_types.specs.declared.error.Errno.{Errno}
 use Rattle.zio_types.specs.declared.place.Place.{Place}
@@ -19,6 +19,8 @@ use Rattle.zio_gang.specs.Journals.{asks_of}
 use Rattle.zio_gang.specs.Trees.{tree_places}
 use Rattle.zio_blocks.specs.Blocks.{AnswersBy}
 use Rattle.zio_course.specs.declared.runner.Finished.{Finished}
+use Rattle.zio_course.specs.declared.runner.Stop.{Stop}
+use Rattle.zio_course.specs.declared.runner.Stop.TheVariants.{Memory}
 use Rattle.zio_course.specs.Runners.{finished_of, made_places, places_of_block}
 use Rattle.zio_plain.specs.declared.judge.Fate.{Fate}
 use Rattle.zio_plain.specs.declared.judge.Fate.TheVariants.{Ends, Again}
@@ -37,6 +39,10 @@ use Rattle.zio_plain.proofs.JudgeLemmas.{children_seen, map_reverse, merge_seen}
 pub ok_both : {V E A B C : Type 0} (r : Result V E) → OnOk r A → OnOk r B → (A → B → C) → OnOk r C
 ok_both (Ok v) a b f = f a b
 ok_both (Err e) a b f = tt
+
+pub memory_stop : {V : Type 0} (r : Result V Stop) (P : Stop → Type 0) → OnErr r (r ≡ Err Memory) → P Memory → IfErr r P
+memory_stop (Ok v) P is h = tt
+memory_stop (Err e) P is h = let same : e ≡ Memory = cc in subst P (sym same) h
 
 -- ---- the stack
 

@@ -1,16 +1,18 @@
 -- What the own work of a request gives, whatever the disks tell and by the definition.
-use Rattle.std.specs.Prelude.{◌≡◌, ℕ, ◌%◌, List, ◌++◌, length, true, None, is_some, IfSome, IsTrue}
+use Rattle.std.specs.Prelude.{◌≡◌, ℕ, ◌%◌, List, ◌++◌, length, true, None, Option, is_some, IfSome, IsTrue, Contains}
 use Rattle.std.specs.List.{AllByRecursion}
+use Rattle.zio_types.specs.declared.place.Place.{Place}
 use Rattle.zio_types.specs.Choices.{Choice}
 use Rattle.zio_types.specs.Places.{sector_size}
 use Rattle.zio_blkptr.specs.Pointers.{valid}
 use Rattle.zio_script.specs.Requests.{makes_block}
 use Rattle.zio_cksum.specs.Images.{Images}
+use Rattle.zio_gang.specs.declared.tree.Tree.{Tree}
 use Rattle.zio_gang.specs.Attempts.{Own}
 use Rattle.zio_gang.specs.Journals.{HaveDistinctKeys, asks_of}
 use Rattle.zio_disks.specs.Whole.{IsWholeTree}
 use Rattle.zio_blocks.specs.Blocks.{AnswersBy}
-use Rattle.zio_course.specs.Runners.{read_size}
+use Rattle.zio_course.specs.Runners.{places_of_block, read_size}
 use Rattle.zio_plain.specs.declared.owns.OwnEnd.{OwnEnd}
 use Rattle.zio_plain.specs.declared.waiting.Waiting.{Waiting}
 use Rattle.zio_plain.specs.Judgments.{own_of}
@@ -25,6 +27,10 @@ pub record AreAsked (may : ℕ → ℕ → Type 0) (old new : List Choice) : Typ
 -- for this request in this attempt
 abbrev pub IsFor : ℕ → ℕ → ℕ → ℕ → Type 0
 IsFor request attempt r a = (r ≡ request) × (a ≡ attempt)
+
+-- the places of the block are among these
+abbrev pub AreNamed : List Place → Option Tree → Type 0
+AreNamed named block = AllByRecursion (Contains named) (places_of_block block)
 
 -- What own work gives, whatever the disks tell: a valid pointer, a whole block where there is no error, and that of a
 -- write or a claim alone; whole sectors, and all bytes of a block that is read.

@@ -106,9 +106,11 @@ pass_up all [] each seen apart later = tt
 pass_up all (f ∷ fs) each seen apart later = one f.fate each.0.is (pass_up all fs each.1 seen.1 apart.1 later.1)
   where
     one : (fate : Fate) → IsFateOf f.waiting each.0.kids fate → AreUp all (ends_in fs) → AreUp all (ends_of fate ++ ends_in fs)
-    one (Ends e) is rest =
-        (up_all all (waitings_in fs) e (ends_in fs) seen.1 (pass_owned fs each.1)
-            (subst (λ n. AllByRecursion (λ (v : Waiting). is_under v.request n ≡ false) (waitings_in fs)) (sym is.request) (later_apart f.waiting.request.number (waitings_in fs) apart.0 later.1)), rest)
+    one (Ends e) is rest = (
+      up_all all (waitings_in fs) e (ends_in fs) seen.1 (pass_owned fs each.1)
+          (subst (λ n. AllByRecursion (λ (v : Waiting). is_under v.request n ≡ false) (waitings_in fs)) (sym is.request) (later_apart f.waiting.request.number (waitings_in fs) apart.0 later.1)),
+      rest,
+    )
     one (Again v) is rest = rest
 
 -- ---- a pass after another
@@ -205,16 +207,16 @@ chain_up all tree (fs ∷ passes) left h one none apart seen =
     let owned : AllByRecursion (IsOwned (left_in fs)) (all_ends passes) = chain_owned (left_in fs) passes left h.1 in
     elim h.0.rest [
       | inl no_left ↦
-        (let empty : AllByRecursion (IsOwned []) (all_ends passes) = subst (λ ws. AllByRecursion (IsOwned ws) (all_ends passes)) no_left owned in
-        up_both all (ends_in fs) (all_ends passes) first (none_up all (all_ends passes) empty) (none_cross all (ends_in fs) (all_ends passes) empty))
+          (let empty : AllByRecursion (IsOwned []) (all_ends passes) = subst (λ ws. AllByRecursion (IsOwned ws) (all_ends passes)) no_left owned in
+          up_both all (ends_in fs) (all_ends passes) first (none_up all (all_ends passes) empty) (none_cross all (ends_in fs) (all_ends passes) empty))
       | inr rest ↦
-        (let none_left : rest.root.request.under ≡ None = root_stays tree fs h.0 one none rest in
-        let seen_left : AreSeenIn all (left_in fs) = left_seen all fs h.0.each seen_here in
-        let later : AreUnderLater (left_in fs) = under_later [] rest.root (left_in fs) none_left rest.ordered rest.alone in
-        up_both all (ends_in fs) (all_ends passes) first
-        (chain_up all (left_in fs) passes left h.1 rest none_left (left_apart fs h.0.each apart_here) seen_left)
-        (all_weaker (λ (e : Finished). AllByRecursion (λ (q : Waiting). q.request.number ≢ e.request) (left_in fs)) (λ e. AllByRecursion (IsUpFrom all e) (all_ends passes)) (ends_in fs)
-        (λ e k. up_all all (left_in fs) e (all_ends passes) seen_left owned (later_apart e.request (left_in fs) k later)) (ends_apart fs h.0.each apart_here)))
+          (let none_left : rest.root.request.under ≡ None = root_stays tree fs h.0 one none rest in
+          let seen_left : AreSeenIn all (left_in fs) = left_seen all fs h.0.each seen_here in
+          let later : AreUnderLater (left_in fs) = under_later [] rest.root (left_in fs) none_left rest.ordered rest.alone in
+          up_both all (ends_in fs) (all_ends passes) first
+          (chain_up all (left_in fs) passes left h.1 rest none_left (left_apart fs h.0.each apart_here) seen_left)
+          (all_weaker (λ (e : Finished). AllByRecursion (λ (q : Waiting). q.request.number ≢ e.request) (left_in fs)) (λ e. AllByRecursion (IsUpFrom all e) (all_ends passes)) (ends_in fs)
+          (λ e k. up_all all (left_in fs) e (all_ends passes) seen_left owned (later_apart e.request (left_in fs) k later)) (ends_apart fs h.0.each apart_here)))
     ]
 
 -- ---- trees after one another

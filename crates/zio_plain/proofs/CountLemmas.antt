@@ -1,7 +1,7 @@
 -- How often a number stands in what trees become: each request finishes or is left.
-use Rattle.std.proofs.Common.{◌≡◌, ℕ, ◌+◌, ◌≤◌, List, [], ◌∷◌, ◌++◌, length, map, cond, count_by, Bool, true, false, ◌==◌, eq-eqb, eqb, eqb-true, refl, sym, ap, ◌∙◌, subst, arith}
+use Rattle.std.proofs.Common.{◌≡◌, ℕ, ◌+◌, ◌≤◌, List, [], ◌∷◌, ◌++◌, map, cond, count_by, Bool, true, false, ◌==◌, eq-eqb, eqb, eqb-true, refl, sym, ap, ◌∙◌, arith}
 use Rattle.std.specs.Prelude.{Some, None, IfSome, option_to_list}
-use Rattle.std.specs.List.{AllByRecursion, flat_map}
+use Rattle.std.specs.List.{AllByRecursion}
 use Rattle.std.proofs.lemmas.List.{map-append}
 use Rattle.std.proofs.lemmas.List.Sums.{sum_by-append, sum_by-cons}
 use Rattle.zio_types.specs.declared.journal.Completion.{Completion}
@@ -131,10 +131,12 @@ ends_whole (f ∷ fs) h = all_append IsWholeTree (option_to_list f.tree) (made_t
 none_other : (n : ℕ) (round : ℕ) (fs : List Finished) (c : Completion) → c.request ≡ n → counted n (ends_numbers fs) ≤ 0 → AllByRecursion (λ (other : Completion). (c.request == other.request) ≡ false) (map (completion_for round) fs)
 none_other n round [] c is h = tt
 none_other n round (f ∷ fs) c is h =
-    let all = counted_cons n f.request (ends_numbers fs) in
-    (not_true (eqb c.request f.request) (λ e.
-    let same : f.request ≡ n = sym (eqb-true c.request f.request e) ∙ is in
-    let one : one_if (f.request == n) ≡ 1 = ap one_if (eq-eqb f.request n same) in omega arith), none_other n round fs c is (omega arith))
+    let all = counted_cons n f.request (ends_numbers fs) in (
+      not_true (eqb c.request f.request) (λ e.
+          let same : f.request ≡ n = sym (eqb-true c.request f.request e) ∙ is in
+          let one : one_if (f.request == n) ≡ 1 = ap one_if (eq-eqb f.request n same) in omega arith),
+      none_other n round fs c is (omega arith),
+    )
   where
     not_true : (b : Bool) → (b ≡ true → ⊥) → b ≡ false
     not_true true k = absurd (k refl)

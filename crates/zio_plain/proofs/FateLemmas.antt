@@ -1,5 +1,5 @@
 -- What becomes of a request, from what it is judged to.
-use Rattle.std.proofs.Common.{◌≡◌, ℕ, ◌+◌, ◌%◌, ◌≤◌, List, [], ◌∷◌, ◌++◌, suc, length, map, reverse, Bool, true, false, ◌||◌, not, cond, Option, Some, None, refl, sym, ap, ◌∙◌, subst, arith, length-append}
+use Rattle.std.proofs.Common.{◌≡◌, ℕ, ◌+◌, ◌%◌, List, [], ◌∷◌, ◌++◌, suc, length, map, reverse, Bool, true, false, ◌||◌, not, cond, Option, Some, None, refl, sym, ap, ◌∙◌, subst, arith}
 use Rattle.std.specs.Prelude.{is_some, IfSome, IsTrue, nat_le}
 use Rattle.std.specs.List.{AllByRecursion}
 use Rattle.std.proofs.lemmas.List.{length-reverse, reverse-append}
@@ -8,19 +8,19 @@ use Rattle.zio_types.specs.declared.error.Errno.{Errno}
 use Rattle.zio_types.specs.declared.request.Bits.{Bits}
 use Rattle.zio_types.specs.declared.request.Kind.{Kind}
 use Rattle.zio_types.specs.declared.request.Kind.TheVariants.{Null, Read, Write, Free, Claim}
-use Rattle.zio_types.specs.Choices.{Ask, Choice}
+use Rattle.zio_types.specs.Choices.{Ask}
 use Rattle.zio_types.specs.Errors.{rank, worst_error, worst_of}
 use Rattle.zio_types.proofs.ErrorLemmas.{rank-worst_error, same_rank}
 use Rattle.zio_blkptr.specs.Pointers.{valid}
 use Rattle.zio_gang.specs.ByNumber.{insert_by, insert_if}
 use Rattle.zio_script.specs.declared.script.Failmode.{Failmode}
-use Rattle.zio_script.specs.Requests.{kind_of, makes_block}
+use Rattle.zio_script.specs.Requests.{kind_of}
 use Rattle.zio_script.specs.Whys.{is_claim}
 use Rattle.zio_cksum.proofs.AllLemmas.{all_append}
 use Rattle.zio_cksum.specs.Images.{Images, Setting}
 use Rattle.zio_disks.specs.Whole.{IsWholeTree}
 use Rattle.zio_gang.specs.declared.tree.Tree.{Tree}
-use Rattle.zio_gang.specs.Attempts.{Attempted, Child, Ended, Own, Return, Terms, all_bits, bits_of, children_of, closed_if, decided, ended_with, goes_again, has_bits, insert_children, finished_of as finished_of_returns, joined_bits, judged_own, kind_bits, may_fail, no_bits, suspend_unless, tree_unless}
+use Rattle.zio_gang.specs.Attempts.{Child, Own, Return, Terms, all_bits, bits_of, children_of, closed_if, decided, has_bits, insert_children, finished_of as finished_of_returns, joined_bits, judged_own, kind_bits, may_fail, no_bits, suspend_unless, tree_unless}
 use Rattle.zio_course.specs.declared.runner.Finished.{Finished}
 use Rattle.zio_course.specs.Runners.{finished_of, read_size}
 use Rattle.zio_plain.specs.declared.judge.Fate.{Fate}
@@ -30,11 +30,10 @@ use Rattle.zio_plain.specs.declared.owns.OwnEnd.{OwnEnd}
 use Rattle.zio_plain.specs.declared.waiting.Handed.{Handed}
 use Rattle.zio_plain.specs.declared.waiting.Kept.{Kept}
 use Rattle.zio_plain.specs.declared.waiting.Waiting.{Waiting}
-use Rattle.zio_plain.specs.Judgments.{IsJudged, again_in, again_of, children_handed, done_in, ends_of, own_of}
+use Rattle.zio_plain.specs.Judgments.{IsJudged, again_in, children_handed, done_in, ends_of, own_of}
 use Rattle.zio_plain.specs.OwnEnds.{IsOwnEnd}
-use Rattle.zio_plain.specs.Passes.{AllEnd, HasFate, IsAgainOf, IsEndOf, IsFateOf, is_again}
-use Rattle.zio_plain.specs.Waits.{HasPointer, child_of, merged, pending_of, pendings, return_of}
-use Rattle.zio_plain.proofs.JudgeLemmas.{map_reverse}
+use Rattle.zio_plain.specs.Passes.{AllEnd, HasFate, IsFateOf, is_again}
+use Rattle.zio_plain.specs.Waits.{HasPointer, child_of, merged, pending_of, return_of}
 
 -- ---- bits
 

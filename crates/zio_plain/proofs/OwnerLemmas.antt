@@ -1,5 +1,5 @@
 -- Whose ends these are: each request that finished is one of the tree's.
-use Rattle.std.proofs.Common.{◌≡◌, ◌≢◌, ℕ, ◌≤◌, List, [], ◌∷◌, ◌++◌, length, count_by, true, ◌==◌, ◌⊎◌, inl, inr, refl, sym, ap, ◌∙◌, subst}
+use Rattle.std.proofs.Common.{◌≡◌, ◌≢◌, ℕ, ◌≤◌, List, [], ◌∷◌, ◌++◌, length, count_by, true, ◌==◌, inl, inr, refl, sym, ap, ◌∙◌, subst}
 use Rattle.std.specs.Prelude.{None, is_some}
 use Rattle.std.specs.List.{AllByRecursion}
 use Rattle.std.proofs.lemmas.List.{map-append}
@@ -142,9 +142,9 @@ pub makers_right : (trees : List (List Pending)) (runs : List TreeRun) → trees
 makers_right trees runs whole each apart =
     all_weaker (IsOwned (requests_run runs)) (MakesTree trees) (ends_run runs)
     (λ f h some. (
-    (h.end.makes some).0,
-    subst (AllByRecursion (λ (p : Pending). p.request.number ≡ f.request → makes_block p.request.work ≡ true)) (sym (ap joined_trees whole ∙ joined_runs runs))
-        (seen_all (λ (p : Pending). p.request.number ≡ f.request → makes_block p.request.work ≡ true) (requests_run runs) (owned_makes (requests_run runs) f apart h some)),
+      (h.end.makes some).0,
+      subst (AllByRecursion (λ (p : Pending). p.request.number ≡ f.request → makes_block p.request.work ≡ true)) (sym (ap joined_trees whole ∙ joined_runs runs))
+          (seen_all (λ (p : Pending). p.request.number ≡ f.request → makes_block p.request.work ≡ true) (requests_run runs) (owned_makes (requests_run runs) f apart h some)),
     ))
     (runs_owned runs each)
 

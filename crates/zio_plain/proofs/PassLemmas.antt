@@ -1,9 +1,8 @@
 -- A pass over a tree, request by request.
-use Rattle.std.proofs.Common.{◌≡◌, ◌≢◌, ℕ, ◌≤◌, List, [], ◌∷◌, ◌++◌, length, map, filter, take, drop, reverse, cond, Bool, true, false, ◌||◌, ◌&&◌, not, Some, ◌⊎◌, inl, inr, eqb, eqb-true, refl, sym, ap, ◌∙◌, subst, arith, append_assoc, length-append}
+use Rattle.std.proofs.Common.{◌≡◌, ◌≢◌, ℕ, ◌≤◌, List, [], ◌∷◌, ◌++◌, length, map, take, drop, reverse, cond, Bool, true, false, ◌||◌, ◌&&◌, not, Some, ◌⊎◌, inl, inr, eqb, eqb-true, refl, sym, ap, ◌∙◌, subst, arith, append_assoc, length-append}
 use Rattle.std.specs.Prelude.{bytes_eq}
 use Rattle.std.specs.List.{AllByRecursion, flat_map}
 use Rattle.std.proofs.lemmas.List.{append-nil, map-append, reverse-reverse, take-append-drop}
-use Rattle.std.proofs.lemmas.List.Elements.{filter-append}
 use Rattle.std.proofs.lemmas.Grind.{flat_map-append}
 use Rattle.zio_types.specs.declared.place.Place.{Place}
 use Rattle.zio_types.specs.declared.journal.Key.{Key}
@@ -16,20 +15,20 @@ use Rattle.zio_script.specs.Whys.{is_claim}
 use Rattle.zio_cksum.specs.Images.{Images}
 use Rattle.zio_disks.specs.Whole.{IsWholeTree}
 use Rattle.zio_gang.specs.declared.tree.Tree.{Tree}
-use Rattle.zio_gang.specs.Attempts.{Attempt, Attempted, Pending, Return, Terms, attempt_each, attempt_one, attempt_tree, has_bits, joined_attempt, now_alone, returned_to, root_bits}
+use Rattle.zio_gang.specs.Attempts.{Attempt, Attempted, Return, Terms, attempt_each, attempt_one, attempt_tree, has_bits, joined_attempt, now_alone, returned_to, root_bits}
 use Rattle.zio_gang.specs.Journals.{HaveDistinctKeys, asks_of}
 use Rattle.zio_gang.specs.Trees.{tree_places}
 use Rattle.zio_gang.proofs.AttemptLemmas.{attempt_each-append}
 use Rattle.zio_blocks.specs.Blocks.{AnswersBy}
 use Rattle.zio_course.specs.declared.runner.Finished.{Finished}
-use Rattle.zio_course.specs.Runners.{AreRisingFrom, finished_of, has_claim, made_places, made_trees, numbers_of, places_of_block}
+use Rattle.zio_course.specs.Runners.{AreRisingFrom, finished_of, has_claim, made_places, made_trees, places_of_block}
 use Rattle.zio_plain.specs.declared.judge.Fate.{Fate}
 use Rattle.zio_plain.specs.declared.judge.Fate.TheVariants.{Ends, Again}
 use Rattle.zio_plain.specs.declared.waiting.Handed.{Handed}
 use Rattle.zio_plain.specs.declared.waiting.Waiting.{Waiting}
 use Rattle.zio_plain.specs.Judgments.{again_of, children_handed, ends_of}
 use Rattle.zio_plain.specs.OwnEnds.{AreAsked, AreNamed, IsFor}
-use Rattle.zio_plain.specs.Passes.{AreNumberedApart, Fated, HasFate, HasNumber, IsAmong, IsAttempted, IsFated, IsFateOf, IsPass, IsPassed, IsStep, LastIsAgain, TellsAttempted, TellsPassed, ends_in, freed_in, freed_of, is_again, left_in, waitings_in}
+use Rattle.zio_plain.specs.Passes.{AreNumberedApart, Fated, HasFate, HasNumber, IsAmong, IsAttempted, IsFated, IsPass, IsPassed, IsStep, LastIsAgain, ends_in, freed_in, freed_of, is_again, left_in, waitings_in}
 use Rattle.zio_plain.specs.Posts.{AreBehindChildren, IsOneTree, IsOver, IsSound, children_in, met_after, requests_in}
 use Rattle.zio_plain.specs.Waits.{HasPointer, numbers_in, pending_of, pendings, return_of}
 use Rattle.zio_plain.proofs.FateLemmas.{all_turned}

@@ -1,5 +1,5 @@
 -- What is left of trees: rests of them, with no claim among them.
-use Rattle.std.proofs.Common.{◌≡◌, ℕ, suc, ◌+◌, ◌≤◌, List, [], ◌∷◌, ◌++◌, length, map, Bool, true, false, ◌||◌, ◌⊎◌, inl, inr, refl, sym, ap, ◌∙◌, subst, arith, length-append}
+use Rattle.std.proofs.Common.{◌≡◌, suc, ◌+◌, ◌≤◌, List, [], ◌∷◌, ◌++◌, length, Bool, true, false, ◌||◌, ◌⊎◌, inl, inr, refl, sym, ap, ◌∙◌, subst, arith, length-append}
 use Rattle.std.specs.List.{AllByRecursion}
 use Rattle.zio_script.specs.declared.script.Request.{Request}
 use Rattle.zio_script.specs.Requests.{kind_of}
@@ -12,7 +12,7 @@ use Rattle.zio_plain.specs.declared.judge.Fate.{Fate}
 use Rattle.zio_plain.specs.declared.judge.Fate.TheVariants.{Ends, Again}
 use Rattle.zio_plain.specs.declared.waiting.Waiting.{Waiting}
 use Rattle.zio_plain.specs.Judgments.{again_of}
-use Rattle.zio_plain.specs.Passes.{AreChained, Fated, IsFated, IsFateOf, IsPassOf, LastIsAgain, is_again, left_in, waitings_in}
+use Rattle.zio_plain.specs.Passes.{AreChained, Fated, IsFated, IsFateOf, IsPassOf, is_again, left_in, waitings_in}
 use Rattle.zio_plain.specs.Posts.{IsOneTree, requests_in}
 use Rattle.zio_plain.specs.Settlings.{IsTreeRun, TreeRun, trees_in, trees_left}
 use Rattle.zio_plain.specs.Waits.{pending_of, pendings}
@@ -72,7 +72,6 @@ pass_rest [] last each e = one last.fate e each.0.is
     one (Again v) again is = (same_again last.waiting v each.0.kids is, refl)
 pass_rest (f ∷ front) last each e = one f.fate each.0.is (pass_rest front last each.1 e)
   where
-
     one : (fate : Fate) → IsFateOf f.waiting each.0.kids fate → IsRestOf (pendings (waitings_in (front ++ last ∷ []))) (pendings (left_in (front ++ last ∷ [])))
         → IsRestOf (pending_of f.waiting ∷ pendings (waitings_in (front ++ last ∷ []))) (pendings (again_of fate ++ left_in (front ++ last ∷ [])))
     one (Ends x) is rest = rest_skip (pending_of f.waiting) (pendings (waitings_in (front ++ last ∷ []))) (pendings (left_in (front ++ last ∷ []))) rest
@@ -82,9 +81,9 @@ one_pass : (tree : List Waiting) (fs : List Fated) → IsPassOf tree fs → (lef
 one_pass tree fs h = elim h.root [
   | inl none ↦ inl none
   | inr last ↦
-    inr (subst (λ gs. IsRestOf (pendings tree) (pendings (left_in gs))) (sym last.split)
-    (subst (λ ws. IsRestOf (pendings ws) (pendings (left_in (last.front ++ last.last ∷ [])))) (sym (h.whole ∙ ap waitings_in last.split))
-    (pass_rest last.front last.last (subst (AllByRecursion IsFated) last.split h.each) last.is)))
+      inr (subst (λ gs. IsRestOf (pendings tree) (pendings (left_in gs))) (sym last.split)
+      (subst (λ ws. IsRestOf (pendings ws) (pendings (left_in (last.front ++ last.last ∷ [])))) (sym (h.whole ∙ ap waitings_in last.split))
+      (pass_rest last.front last.last (subst (AllByRecursion IsFated) last.split h.each) last.is)))
 ]
 
 chain_none : (tree : List Waiting) (passes : List (List Fated)) (left : List Waiting) → tree ≡ [] → AreChained tree passes left → left ≡ []

@@ -1,6 +1,6 @@
 -- Requests that finished, put in the order of their numbers.
-use Rattle.std.proofs.Common.{◌≡◌, ◌≢◌, ℕ, zero, suc, ◌+◌, ◌<◌, ◌≤◌, List, [], ◌∷◌, length, map, cond, get_or, Bool, true, false, ◌==◌, eqb, eq-eqb, refl, sym, ap, ◌∙◌, subst, arith}
-use Rattle.std.specs.Prelude.{Contains, IsPermutation, sum_by}
+use Rattle.std.proofs.Common.{◌≡◌, ◌≢◌, ℕ, suc, ◌+◌, ◌<◌, ◌≤◌, List, [], ◌∷◌, length, map, cond, get_or, Bool, true, false, ◌==◌, eqb, eq-eqb, refl, sym, ap, ◌∙◌, arith}
+use Rattle.std.specs.Prelude.{Contains, IsPermutation}
 use Rattle.std.specs.List.{AllByRecursion}
 use Rattle.std.specs.List.Sorted.{IsNonDecreasingBy}
 use Rattle.std.proofs.lemmas.List.Elements.{All-from_recursion, recursion_from_All}

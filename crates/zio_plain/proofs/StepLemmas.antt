@@ -1,5 +1,5 @@
 -- A request's part of a pass: what it adds, and that it is the definition's.
-use Rattle.std.proofs.Common.{◌≡◌, ℕ, ◌≤◌, List, [], ◌∷◌, ◌++◌, length, map, take, drop, reverse, Bool, true, false, Option, Some, None, refl, sym, ap, ◌∙◌, subst, arith, append_assoc}
+use Rattle.std.proofs.Common.{◌≡◌, ℕ, ◌≤◌, List, [], ◌∷◌, ◌++◌, length, map, take, drop, reverse, Bool, true, false, Option, Some, None, refl, sym, ap, ◌∙◌, subst, arith}
 use Rattle.std.proofs.lemmas.List.{append-nil, reverse-append, take-append-le, drop-append-le, length-reverse}
 use Rattle.std.proofs.Math.Seq.{drop-length, take-length}
 use Rattle.std.specs.Prelude.{option_to_list, IfErr, OnErr, OnOk, Result, Ok, Err}
@@ -21,8 +21,7 @@ use Rattle.zio_blocks.specs.Blocks.{AnswersBy}
 use Rattle.zio_course.specs.declared.runner.Finished.{Finished}
 use Rattle.zio_course.specs.declared.runner.Stop.{Stop}
 use Rattle.zio_course.specs.declared.runner.Stop.TheVariants.{Memory}
-use Rattle.zio_course.specs.Runners.{finished_of, made_places, places_of_block}
-use Rattle.zio_plain.specs.declared.judge.Fate.{Fate}
+use Rattle.zio_course.specs.Runners.{made_places, places_of_block}
 use Rattle.zio_plain.specs.declared.judge.Fate.TheVariants.{Ends, Again}
 use Rattle.zio_plain.specs.declared.judge.Judged.{Judged}
 use Rattle.zio_plain.specs.declared.owns.OwnEnd.{OwnEnd}
@@ -32,7 +31,7 @@ use Rattle.zio_plain.specs.declared.waiting.Waiting.{Waiting}
 use Rattle.zio_plain.specs.Judgments.{IsJudged, again_in, again_of, children_handed, done_in, ends_of, freed_block, own_of, unused_in, unused_unless}
 use Rattle.zio_plain.specs.OwnEnds.{AreAsked, IsFor, IsOwn, IsOwnEnd, TellsOwn}
 use Rattle.zio_plain.specs.Passes.{HasFate, IsAttempted, IsStep, TellsAttempted, freed_of, freed_unless, made_unless}
-use Rattle.zio_plain.specs.Waits.{HasPointer, child_of, merged, pending_of, pendings, pointers_in, return_of}
+use Rattle.zio_plain.specs.Waits.{HasPointer, child_of, merged, pending_of, pointers_in, return_of}
 use Rattle.zio_plain.proofs.FateLemmas.{HaveHanded, ended_tree, judged_fate}
 use Rattle.zio_plain.proofs.JudgeLemmas.{children_seen, map_reverse, merge_seen}
 

@@ -74,10 +74,10 @@ pub returns-else-at_once-clause-passes : goal.returns-else-at_once-clause-passes
 returns-else-at_once-clause-passes g t c named at =
     let m = g.W.OwnWork in
     elim c.else-at_once.branch [
-      else-at_once-via-then-at_once+else-more-gt0 w ↦
-      passes_end m.tells m.runs m.fresh m.given (m.moves named) c.args.failmode c.args.more c.args.number c.args.tree c.in_ok-left.field-0.left c.in_ok-left.field-0.at_once
-      c.args.ends.now.finished c.attempt.new.ends.finished c.args.ends.now.freed c.attempt.new.ends.freed c.args.works.now c.attempt.new.works (inr (omega (arith, w.if-more-gt0.false))) (c.in_ok-left.ensures.pass named at)
-    | else-at_once-via-else-at_once w ↦
-      passes_end m.tells m.runs m.fresh m.given (m.moves named) c.args.failmode c.args.more c.args.number c.args.tree c.in_ok-left.field-0.left c.in_ok-left.field-0.at_once
-      c.args.ends.now.finished c.attempt.new.ends.finished c.args.ends.now.freed c.attempt.new.ends.freed c.args.works.now c.attempt.new.works (inl w.if-at_once.false) (c.in_ok-left.ensures.pass named at)
+      | else-at_once-via-then-at_once+else-more-gt0 w ↦
+          passes_end m.tells m.runs m.fresh m.given (m.moves named) c.args.failmode c.args.more c.args.number c.args.tree c.in_ok-left.field-0.left c.in_ok-left.field-0.at_once
+          c.args.ends.now.finished c.attempt.new.ends.finished c.args.ends.now.freed c.attempt.new.ends.freed c.args.works.now c.attempt.new.works (inr (omega (arith, w.if-more-gt0.false))) (c.in_ok-left.ensures.pass named at)
+      | else-at_once-via-else-at_once w ↦
+          passes_end m.tells m.runs m.fresh m.given (m.moves named) c.args.failmode c.args.more c.args.number c.args.tree c.in_ok-left.field-0.left c.in_ok-left.field-0.at_once
+          c.args.ends.now.finished c.attempt.new.ends.finished c.args.ends.now.freed c.attempt.new.ends.freed c.args.works.now c.attempt.new.works (inl w.if-at_once.false) (c.in_ok-left.ensures.pass named at)
     ]

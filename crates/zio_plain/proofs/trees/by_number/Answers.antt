@@ -1,12 +1,8 @@
-use Rattle.std.proofs.Common.{◌≡◌, ℕ, ◌≤◌, List, ap, sym, subst, ◌∙◌, rules}
+use Rattle.std.proofs.Common.{◌≤◌, List, sym, subst, rules}
 use Rattle.std.specs.Prelude.{IsPermutation}
 use Rattle.std.specs.List.Sorted.{IsNonDecreasingBy}
 use Rattle.std.proofs.lemmas.List.Sorted.{IsNonDecreasingBy-from_sort, answers_always}
-use Rattle.zio_gang.specs.ByNumber.{merge_by}
 use Rattle.zio_course.specs.declared.runner.Finished.{Finished}
-use Rattle.zio_course.specs.Runners.{AreRisingFrom}
-use Rattle.zio_course.proofs.SortLemmas.{IsRisingBy}
-use Rattle.zio_plain.proofs.CountLemmas.{counted, ends_numbers}
 use Rattle.zio_plain.proofs.SortedLemmas.{counted_moved, merged_is, numbers_rise, rising_by}
 use Rattle.zio_plain.proofs.trees.by_number.Goals as goal
 

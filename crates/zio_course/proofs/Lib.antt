@@ -32,7 +32,7 @@ mod RunnableLemmas
 mod ScriptLemmas
 mod ShortLemmas
 mod SoFarLemmas
-mod SortLemmas
+pub mod SortLemmas
 mod StepLemmas
 mod SuspendedLemmas
 mod ToldLemmas

@@ -17,3 +17,14 @@ pub mod MergeLemmas
 pub mod PostLemmas
 pub mod ContentLemmas
 pub mod ReturnLemmas
+pub mod FateLemmas
+pub mod StepLemmas
+pub mod StillLemmas
+pub mod PassLemmas
+pub mod SettleLemmas
+pub mod SettlingLemmas
+pub mod CountLemmas
+pub mod SortedLemmas
+pub mod OwnerLemmas
+pub mod RestLemmas
+pub mod AfterLemmas

@@ -13,7 +13,7 @@ use Rattle.zio_plain.specs.Posts.{AreBehindChildren, AreHandedBy, IsOver, childr
 use Rattle.zio_plain.specs.Waits.{pending_of, return_of}
 
 -- one of the requests is the parent
-abbrev HasParent : List Waiting → Waiting → Type 0
+abbrev pub HasParent : List Waiting → Waiting → Type 0
 HasParent [] m = ⊥
 HasParent (w ∷ ws) m = (m.request.under ≡ Some w.request.number) ⊎ HasParent ws m
 

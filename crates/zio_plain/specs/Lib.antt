@@ -2,5 +2,8 @@ pub mod Batches
 pub mod Rounds
 pub mod Runs
 pub mod Judgments
+pub mod OwnEnds
+pub mod Passes
 pub mod Posts
 pub mod Waits
+pub mod Settlings

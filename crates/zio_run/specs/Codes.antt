@@ -2,19 +2,19 @@
 --
 -- The order of the causes: the words, reading the source, the script's rules, the images one after another, the leaves of
 -- the tops, then the rounds.
-use Rattle.std.specs.Prelude.{◌≡◌, ◌<◌, ◌+◌, ◌↔◌, ◌⊎◌, ℕ, List, ◌++◌, length, map, take}
+use Rattle.std.specs.Prelude.{◌≡◌, ◌<◌, ◌+◌, ◌↔◌, ◌⊎◌, ℕ, List, [], ◌∷◌, length, map, take}
 use Rattle.std.specs.List.{AllByRecursion}
 use Rattle.zio_types.specs.declared.journal.Journal.{Journal}
-use Rattle.zio_outside.specs.Outside.{Appends, Keeps, Rose, StaysHome}
+use Rattle.zio_outside.specs.Outside.{Appends, AppendsFront, Keeps, Rose, StaysHome}
 use Rattle.zio_script.specs.declared.script.Script.{Script}
 use Rattle.zio_script.specs.declared.script.ScriptFault.{ScriptFault}
 use Rattle.zio_script.specs.Built.{IsFaultOf, IsScriptOf}
 use Rattle.zio_script.specs.Requests.{requests_of}
 use Rattle.zio_cksum.specs.Images.{Images}
-use Rattle.zio_gang.specs.Runs.{Course, Event, Plan}
+use Rattle.zio_gang.specs.Runs.{Course, Event, HeldBatch, Plan, RanRound}
 use Rattle.zio_gang.specs.Trees.{sizes_of}
 use Rattle.zio_report.specs.declared.report.Show.{Show}
-use Rattle.zio_report.specs.Meanings.{run_size_of, tops_of}
+use Rattle.zio_report.specs.Meanings.{IsMeaning, run_size_of, tops_of}
 use Rattle.zio_course.specs.Course.{IsEnteredSoFar, Reaches}
 use Rattle.zio_run.specs.Headline.{Headline, TellEach}
 use Rattle.zio_run.specs.Outcomes.{HasLawfulSize, IsEachBack, counted_times, images_line, script_line, words_line}
@@ -121,20 +121,46 @@ pub record EndsRun (show : Show) (names : List (List ℕ)) (code : ℕ) (old new
 
 -- ---- codes 6, 7 and 8: a run that was cut short
 
--- These events happened first in the course of the script, and the journal is that of their rounds and no others.
-pub record IsSoFar (show : Show) (script : Script) (before : Images) (journal : Journal) (printed : List ℕ) : Type 0 where
-  pub events : List Event
+-- the images after these events
+abbrev pub images_after : Images → List Event → Images
+images_after images [] = images
+images_after images (RanRound round ∷ events) = images_after round.images events
+images_after images (HeldBatch batch ∷ events) = images_after images events
+
+-- These events happened first in the course of the script, this was printed of them, and the journal is that of their
+-- rounds and no others.
+pub record IsSoFar (show : Show) (script : Script) (before : Images) (journal : Journal) (events : List Event) (printed : List ℕ) : Type 0 where
   pub rest : Plan → Course
   pub reached : Reaches script before journal events rest
   pub entered : IsEnteredSoFar show (run_size_of script before) (sizes_of (tops_of script before)) (requests_of script.items) journal events printed
 
-pub record EndsCut (show : Show) (names : List (List ℕ)) (code : ℕ) (old new : Seen) (journal : Journal) : Type 0 where
+-- a line was due in place of a run: that of the words, of the script's fault or of a leaf
+abbrev pub IsLineDue : Type 0 → List (List ℕ) → List ℕ → Seen → Seen → List ℕ → Type 0
+IsLineDue is_no_command names text old new full =
+    (is_no_command × (full ≡ words_line))
+    ⊎ ((fault : ScriptFault) × IsFaultOf text fault × (full ≡ script_line fault))
+    ⊎ ((script : Script) × (leaf : ℕ) × IsScriptOf text script × IsLeafCause script names old.shelf new.shelf leaf × (full ≡ images_line leaf))
+
+-- the text of the whole rounds was due, or the whole report; these are the images after the rounds
+abbrev pub IsReportDue : Show → List ℕ → Images → Journal → List ℕ → Images → Type 0
+IsReportDue show text before journal full after = (script : Script) × IsScriptOf text script
+    × (((events : List Event) × IsSoFar show script before journal events full × (after ≡ images_after before events))
+    ⊎ ((code : ℕ) × IsMeaning show script before journal after full code))
+
+pub record EndsCut (is_no_command : Type 0) (show : Show) (names : List (List ℕ)) (code : ℕ) (old new : Seen) (journal : Journal) : Type 0 where
   pub sink : code ≡ 6 → Rose old.sink.faults new.sink.faults
+  -- a front of what was due is written, and the images are those after the whole rounds
+  pub front : code ≡ 6 → (text : List ℕ) (images : Images) → old.source.left text → old.shelf.tells →
+      TellEach old.shelf.image names images →
+      (full : List ℕ) × AppendsFront old.sink.holds new.sink.holds full
+      × ((IsLineDue is_no_command names text old new full × StaysHome old.shelf.image new.shelf.image old.shelf.out new.shelf.out)
+      ⊎ ((after : Images) × IsReportDue show text images journal full after × TellEach new.shelf.image names after))
   pub device : code ≡ 7 → Rose old.shelf.disk_faults new.shelf.disk_faults
+  -- the text of the whole rounds is written, without an end
   pub so_far : code ≡ 7 → (text : List ℕ) (images : Images) → old.source.left text → old.shelf.tells →
       TellEach old.shelf.image names images →
-      (script : Script) × (printed : List ℕ) × IsScriptOf text script × IsSoFar show script images journal printed
-      × Appends old.sink.holds new.sink.holds printed
+      (script : Script) × (events : List Event) × (printed : List ℕ) × IsScriptOf text script
+      × IsSoFar show script images journal events printed × Appends old.sink.holds new.sink.holds printed
 
 -- ---- what stays with every code
 

@@ -6,12 +6,12 @@ use Rattle.std.proofs.lemmas.List.{take_all}
 use Rattle.std.specs.Prelude.{bytes_eq, OnOk}
 use Rattle.zio_cksum.proofs.AllLemmas.{all_contains}
 use Rattle.zio_cksum.specs.Images.{Images}
-use Rattle.zio_outside.specs.Outside.{ComesHome, GoesOut, StaysHome, count_max, counted}
+use Rattle.zio_outside.specs.Outside.{ComesHome, GoesOut, StaysHome, counted}
 use Rattle.zio_run.specs.Headline.{TellEach}
 use Rattle.zio_run.specs.declared.shelf.ImagesFault.{ImagesFault}
 use Rattle.zio_run.specs.declared.shelf.ImagesFault.TheVariants.{Failed, Size, Memory}
 use Rattle.zio_run.specs.Outcomes.{HasLawfulSize, counted_times}
-use Rattle.zio_run.specs.Shelves.{AreFetched, AreFresh, AreOut, ComeHome, GoOut, IsFirstUnlawful, KeepOthers, added}
+use Rattle.zio_run.specs.Shelves.{AreFetched, AreOut, ComeHome, GoOut, IsFirstUnlawful, KeepOthers, added}
 use Rattle.zio_run.specs.Words.{AreNames, is_among}
 
 -- ---- what a list contains

@@ -1,41 +1,41 @@
-mod AdmissionLemmas
-mod AdmittedLemmas
-mod AnsweredLemmas
-mod BatchLemmas
-mod ClearLemmas
-mod CompleteLemmas
-mod CourseLemmas
-mod CutLemmas
-mod DoneLemmas
-mod EndLemmas
-mod FitLemmas
-mod FoldLemmas
-mod ForestLemmas
-mod JoinLemmas
-mod JournalLemmas
-mod LeftLemmas
-mod LineLemmas
-mod LiveLemmas
-mod MadeLemmas
-mod MoveLemmas
-mod NameLemmas
-mod NextLemmas
-mod OverLemmas
-mod ParentLemmas
-mod PlaceLemmas
-mod PlantLemmas
-mod RanLemmas
-mod RoundLemmas
-mod ReadyLemmas
-mod RoundsLemmas
-mod RunnableLemmas
-mod ScriptLemmas
-mod ShortLemmas
-mod SoFarLemmas
+pub mod AdmissionLemmas
+pub mod AdmittedLemmas
+pub mod AnsweredLemmas
+pub mod BatchLemmas
+pub mod ClearLemmas
+pub mod CompleteLemmas
+pub mod CourseLemmas
+pub mod CutLemmas
+pub mod DoneLemmas
+pub mod EndLemmas
+pub mod FitLemmas
+pub mod FoldLemmas
+pub mod ForestLemmas
+pub mod JoinLemmas
+pub mod JournalLemmas
+pub mod LeftLemmas
+pub mod LineLemmas
+pub mod LiveLemmas
+pub mod MadeLemmas
+pub mod MoveLemmas
+pub mod NameLemmas
+pub mod NextLemmas
+pub mod OverLemmas
+pub mod ParentLemmas
+pub mod PlaceLemmas
+pub mod PlantLemmas
+pub mod RanLemmas
+pub mod RoundLemmas
+pub mod ReadyLemmas
+pub mod RoundsLemmas
+pub mod RunnableLemmas
+pub mod ScriptLemmas
+pub mod ShortLemmas
+pub mod SoFarLemmas
 pub mod SortLemmas
-mod StepLemmas
-mod SuspendedLemmas
-mod ToldLemmas
-mod TallyLemmas
-mod TouchLemmas
-mod WaitLemmas
+pub mod StepLemmas
+pub mod SuspendedLemmas
+pub mod ToldLemmas
+pub mod TallyLemmas
+pub mod TouchLemmas
+pub mod WaitLemmas

@@ -1,0 +1,88 @@
+//! The run of a whole script over any runner of rounds.
+
+ghost use Rattle.std.specs.Prelude.{◌≡◌, [], ℕ, List, Bool, IfErr, IfOk, IsErrOf, OnOk, false, length, map};
+ghost use Rattle.zio_outside.specs.Outside.{Appends, Rose};
+ghost use Rattle.zio_script.specs.Grammar.{IsScriptIn};
+ghost use Rattle.zio_script.specs.Requests.{requests_of};
+ghost use Rattle.zio_script.specs.Words.{Word};
+ghost use Rattle.zio_cksum.specs.Images.{Images};
+ghost use Rattle.zio_gang.specs.Runs.{top_of};
+ghost use Rattle.zio_report.specs.Meanings.{IsEmptyJournal};
+ghost use Rattle.zio_course.specs.Runners.{AnyRose};
+ghost use Rattle.zio_course.specs.SoFar.{IsCut, IsCutText, IsFullText, IsWholeRun};
+
+use crate::ending::ending_of;
+use crate::finish::{begin, finish};
+use std::alloc::Global;
+use std::collections::VecDeque;
+use zio_course::{Fold, Runner, run_lines};
+use zio_gang::Ending;
+use zio_outside::Sink;
+use zio_report::{RunFault, Show};
+use zio_script::{Script, accepted_scripts_are_orderly};
+use zio_types::Journal;
+
+/// Runs a script over a runner of rounds that ran none yet, and writes its report or its summary.
+///
+/// `images` is how many images the line of the pool tells. The journal is empty before, and has the entries and completions
+/// of all rounds after. The run is cut short by `RunFault::Device` where a disk failed, by `RunFault::Sink` where `out`
+/// failed, and by `RunFault::Memory`. Then the journal and the text are those of the course so far, and the sink got all of
+/// it after a disk's failure, a front of it after its own, and whole lines for want of memory.
+pub fn run_script<R: Runner, O: Sink>(
+    alloc: Global,
+    script: &Script,
+    images: u32,
+    show: &Show,
+    runner: &mut R,
+    out: &mut O,
+    journal: &mut Journal,
+) -> Result<Ending, RunFault>
+    requires script { (is_built : List Word → Bool) × (text : List ℕ) × IsScriptIn is_built text script.now }
+    requires empty { IsEmptyJournal journal.old }
+    requires rows { (R.standing runner.old).rows ≡ script.now.faults }
+    requires tops { (before : Images) → R.tells runner.old before → (R.standing runner.old).tops ≡ map (top_of before) script.now.tops }
+    requires live { (R.standing runner.old).live ≡ [] }
+    requires last { (R.standing runner.old).last ≡ 0 }
+    requires runs { (R.standing runner.old).stopped ≡ false }
+    ensures whole { IfOk result (λ end. (before : Images) → R.tells runner.old before → (after : Images) × (printed : List ℕ)
+        × IsWholeRun show.now (record { tops = length script.now.tops; images = images; requests = length (requests_of script.now.items) }) script.now before journal.new after printed end
+        × R.tells runner.new after × Appends (O.holds out.old) (O.holds out.new) printed) }
+    ensures cut { IfErr result (λ fault. (before : Images) → R.tells runner.old before → (after : Images) × (text : List ℕ) × (full : List ℕ)
+        × IsCut show.now (record { tops = length script.now.tops; images = images; requests = length (requests_of script.now.items) }) script.now before (R.standing runner.old).tops fault journal.new after text
+        × IsFullText fault show.now (record { tops = length script.now.tops; images = images; requests = length (requests_of script.now.items) }) script.now before journal.new text full
+        × R.tells runner.new after × IsCutText fault (O.holds out.old) (O.holds out.new) [] full) }
+    ensures last { OnOk result ((R.standing runner.new).last ≡ journal.new.rounds) }
+    ensures tops { (R.standing runner.new).tops ≡ (R.standing runner.old).tops }
+    ensures rows { (R.standing runner.new).rows ≡ (R.standing runner.old).rows }
+    ensures faults { OnOk result ((R.standing runner.new).faults ≡ (R.standing runner.old).faults) }
+    ensures quiet { OnOk result (O.faults out.new ≡ O.faults out.old) }
+    ensures device { IsErrOf result RunFault.Device → AnyRose (R.standing runner.old).faults (R.standing runner.new).faults }
+    ensures sink { IsErrOf result RunFault.Sink → Rose (O.faults out.old) (O.faults out.new) }
+    ensures same { R.same runner.old runner.new }
+{
+    accepted_scripts_are_orderly();
+    begin(alloc, script.tops.len(), images as usize, show, out)?;
+    let mut fold = Fold::new(alloc);
+    let mut held = VecDeque::new(alloc);
+    run_lines(
+        alloc,
+        script.failmode,
+        show,
+        script.items.as_slice(),
+        runner,
+        &mut fold,
+        &mut held,
+        out,
+        journal,
+    )?;
+    let ending = ending_of(&fold, &held);
+    finish(
+        alloc,
+        show,
+        script.items.as_slice(),
+        &fold.tally,
+        ending,
+        out,
+    )?;
+    Ok(ending)
+}

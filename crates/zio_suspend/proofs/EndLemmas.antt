@@ -1,5 +1,5 @@
 -- Behind the last line of a script, and where its run was cut short.
-use Rattle.std.proofs.Common.{◌≡◌, ℕ, suc, ◌+◌, ◌-◌, ◌<◌, ◌≤◌, List, [], ◌∷◌, ◌++◌, length, map, filter, Bool, true, false, ◌||◌, Option, Some, None, refl, sym, ap, ◌∙◌, subst, inl, inr, ◌⊎◌, arith, append_assoc}
+use Rattle.std.proofs.Common.{◌≡◌, ℕ, suc, ◌+◌, ◌-◌, List, [], ◌∷◌, ◌++◌, length, map, filter, Bool, true, false, ◌||◌, Option, Some, None, refl, sym, ap, ◌∙◌, subst, inl, arith}
 use Rattle.std.specs.Prelude.{IfErr, IsErrAnd, Result, Ok, Err, cond, decimal, codes, is_none, is_some, sum_by}
 use Rattle.std.proofs.lemmas.List.{append-nil}
 use Rattle.zio_outside.specs.Outside.{Appends}
@@ -16,7 +16,7 @@ use Rattle.zio_cksum.specs.Images.{Images}
 use Rattle.zio_gang.specs.declared.ending.Ending.{Ending}
 use Rattle.zio_gang.specs.Attempts.{Ended, Pending}
 use Rattle.zio_gang.specs.Journals.{AreCompletions, IsLawfulJournal}
-use Rattle.zio_gang.specs.Runs.{Batch as DefinedBatch, Course, Event, Plan, State, ending, ending_if, has_held, has_trees, left_if, quiet, rounds_of, run_lines, run_script}
+use Rattle.zio_gang.specs.Runs.{Batch as DefinedBatch, Course, Event, State, ending, ending_if, has_held, has_trees, left_if, quiet, rounds_of, run_lines, run_script}
 use Rattle.zio_gang.specs.Trees.{sizes_of}
 use Rattle.zio_report.specs.declared.report.RunFault.{RunFault}
 use Rattle.zio_report.specs.declared.report.RunFault.TheVariants.{Device, Sink, Memory}
@@ -26,16 +26,17 @@ use Rattle.zio_report.specs.Lines.{as_line}
 use Rattle.zio_report.specs.Meanings.{IsEmptyJournal, records_of, tops_of}
 use Rattle.zio_report.specs.Reports.{Records, RunSize, all_ended, bad_ended, end_text, good_ended, pool_text, run_text, text_so_far}
 use Rattle.zio_course.specs.declared.fold.Batch.{Batch}
+use Rattle.zio_course.specs.declared.fold.Fold.{Fold}
 use Rattle.zio_course.specs.declared.fold.Tally.{Tally}
 use Rattle.zio_course.specs.Course.{shown_of}
-use Rattle.zio_course.specs.Folds.{SeenFold, batches_seen, has_items}
+use Rattle.zio_course.specs.Folds.{SeenFold, batches_seen, fold_seen, has_items}
 use Rattle.zio_course.specs.Moves.{LinesCut, LinesOver}
 use Rattle.zio_course.specs.Runners.{Standing}
 use Rattle.zio_course.specs.SoFar.{Ahead, EndsWhole, IsAtEnd, IsCourseAt, IsCut, IsCutText, IsFullText, IsWholeRun}
 use Rattle.zio_course.proofs.CutLemmas.{cut_at, printed_ends, written_then}
 use Rattle.zio_course.proofs.MoveLemmas.{Appends-both}
 use Rattle.zio_course.proofs.RoundsLemmas.{trees_items}
-use Rattle.zio_suspend.specs.Ends.{counts_text, ending_with, last_text}
+use Rattle.zio_suspend.specs.Ends.{ending_with, last_text}
 use Rattle.zio_suspend.proofs.StartLemmas.{IsNew, start_course}
 
 -- ---- the ending
@@ -44,7 +45,7 @@ held_items : (bs : List Batch) → has_held (batches_seen bs) ≡ has_items bs
 held_items [] = refl
 held_items (b ∷ bs) = refl
 
-pub ending_is : {T : Type 0} (pending : T → List Pending) (trees : List T) (held : List Batch) (panicked : Bool) (st : State)
+ending_is : {T : Type 0} (pending : T → List Pending) (trees : List T) (held : List Batch) (panicked : Bool) (st : State)
     → st.panicked ≡ panicked → st.suspended ≡ map pending trees → st.held ≡ batches_seen held → ending_with panicked (has_items trees || has_items held) ≡ ending st
 ending_is pending trees held panicked st same suspended waiting = go panicked ∙ ap (λ (b : Bool). ending_if b st) (sym same)
   where
@@ -142,6 +143,9 @@ pub record Starts (script : Script) (s : Standing) (f : SeenFold) (journal : Jou
 -- this is how the run ended, wherever its course is
 abbrev pub IsEndOf : SeenFold → List DefinedBatch → Ending → Type 0
 IsEndOf f held end = (st : State) → st.panicked ≡ f.panicked → st.suspended ≡ f.suspended → st.held ≡ held → end ≡ ending st
+
+pub end_of : {T : Type 0} (pending : T → List Pending) (fold : Fold T) (held : List Batch) (end : Ending) → end ≡ ending_with fold.panicked (has_items fold.suspended || has_items held) → IsEndOf (fold_seen pending fold) (batches_seen held) end
+end_of pending fold held end is st same suspended waiting = is ∙ ending_is pending fold.suspended held fold.panicked st same suspended waiting
 
 starts_at : (show : Show) (n : RunSize) (script : Script) (s : Standing) (f : SeenFold) (old : Journal) (tells : Images → Type 0) → Starts script s f old tells
     → (before : Images) → tells before

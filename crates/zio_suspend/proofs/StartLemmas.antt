@@ -1,12 +1,11 @@
 -- Before the first line of a script.
-use Rattle.std.proofs.Common.{◌≡◌, ℕ, ◌+◌, ◌<◌, ◌≤◌, ◌^◌, List, [], ◌∷◌, ◌++◌, length, map, Bool, true, false, Option, Some, None, refl, sym, ap, ◌∙◌, subst, inl, inr, ◌⊎◌, arith, append_assoc, length-append}
+use Rattle.std.proofs.Common.{◌≡◌, ℕ, ◌+◌, ◌<◌, ◌≤◌, ◌^◌, List, [], ◌∷◌, ◌++◌, length, map, Bool, false, Option, Some, None, refl, sym, ap, ◌∙◌, subst, arith, append_assoc, length-append}
 use Rattle.std.specs.Prelude.{◌*◌, ◌==◌, Contains, IfSome}
 use Rattle.std.specs.List.{AllByRecursion}
 use Rattle.std.proofs.lemmas.List.{append-nil}
 use Rattle.zio_types.specs.declared.journal.Completion.{Completion}
 use Rattle.zio_types.specs.declared.journal.Journal.{Journal}
 use Rattle.zio_types.specs.declared.place.Place.{Place}
-use Rattle.zio_types.specs.declared.place.Top.{Top}
 use Rattle.zio_types.specs.Choices.{Choice}
 use Rattle.zio_script.specs.declared.script.Item.{Item}
 use Rattle.zio_script.specs.declared.script.Item.TheVariants.{Request as RequestLine, Go, Clear}
@@ -22,7 +21,7 @@ use Rattle.zio_cksum.proofs.AllLemmas.{all_append, all_contained, all_weaker}
 use Rattle.zio_gang.specs.declared.tree.Tree.{Tree}
 use Rattle.zio_gang.specs.Attempts.{Pending}
 use Rattle.zio_gang.specs.Journals.{AreCompletions, IsLawfulJournal}
-use Rattle.zio_gang.specs.Runs.{Course, Event, Plan, State, add_events, plan_of, run_lines, run_script, start_state}
+use Rattle.zio_gang.specs.Runs.{run_lines, start_state}
 use Rattle.zio_gang.specs.Trees.{sizes_of, tree_places}
 use Rattle.zio_report.specs.declared.report.Show.{Show}
 use Rattle.zio_report.specs.declared.report.Show.TheVariants.{Report, Summary}
@@ -30,14 +29,14 @@ use Rattle.zio_report.specs.Meanings.{IsEmptyJournal, tops_of}
 use Rattle.zio_report.specs.Reports.{Records, RunSize, pool_text, text_so_far}
 use Rattle.zio_course.specs.declared.fold.Fold.{Fold}
 use Rattle.zio_course.specs.declared.fold.Tally.{Tally}
-use Rattle.zio_course.specs.Course.{IsEnteredSoFar, shown_of}
+use Rattle.zio_course.specs.Course.{shown_of}
 use Rattle.zio_course.specs.Folds.{AreSuspended, IsSteady, SeenFold, fold_seen, is_named_by, requests_in_all}
 use Rattle.zio_course.specs.Live.{IsLive}
 use Rattle.zio_course.specs.Moves.{IsGoing}
 use Rattle.zio_course.specs.Names.{is_name_in, named_in}
 use Rattle.zio_course.specs.Parents.{AreParented}
 use Rattle.zio_course.specs.Runners.{Standing, rows_tell_apart}
-use Rattle.zio_course.specs.SoFar.{Ahead, IsCourseAt, coming}
+use Rattle.zio_course.specs.SoFar.{IsCourseAt, coming}
 use Rattle.zio_course.proofs.DoneLemmas.{contains_one}
 use Rattle.zio_course.proofs.JoinLemmas.{rising_both, rising_join}
 use Rattle.zio_course.proofs.JournalLemmas.{completions_none, lawful_none}

@@ -1,4 +1,4 @@
-use Rattle.std.proofs.Common.{◌≡◌, ◌+◌, ◌<◌, ◌^◌, ◌++◌, [], ℕ, List, Err, length, map, refl, sym, ap, ◌∙◌, subst, inl, inr}
+use Rattle.std.proofs.Common.{◌+◌, ◌<◌, ◌^◌, ◌++◌, [], ℕ, List, Err, length, refl, sym, subst, inl, inr}
 use Rattle.zio_outside.specs.Outside.{Appends, AppendsFront}
 use Rattle.zio_types.specs.declared.journal.Journal.{Journal}
 use Rattle.zio_script.specs.declared.script.Item.{Item}
@@ -6,9 +6,9 @@ use Rattle.zio_script.specs.declared.script.Script.{Script}
 use Rattle.zio_script.specs.Accepted.{batches_from}
 use Rattle.zio_script.specs.Requests.{requests_of}
 use Rattle.zio_cksum.specs.Images.{Images}
-use Rattle.zio_gang.specs.Runs.{Batch as DefinedBatch, State}
+use Rattle.zio_gang.specs.Runs.{Batch as DefinedBatch}
 use Rattle.zio_report.specs.declared.report.RunFault.{RunFault}
-use Rattle.zio_report.specs.declared.report.RunFault.TheVariants.{Device, Sink, Memory}
+use Rattle.zio_report.specs.declared.report.RunFault.TheVariants.{Sink, Memory}
 use Rattle.zio_report.specs.declared.report.Show.{Show}
 use Rattle.zio_report.specs.Reports.{RunSize, pool_text}
 use Rattle.zio_course.specs.Course.{shown_of}
@@ -18,7 +18,7 @@ use Rattle.zio_course.specs.Runners.{Standing}
 use Rattle.zio_course.specs.SoFar.{IsCutText}
 use Rattle.zio_course.proofs.CutLemmas.{by_fault, not_written, part_written}
 use Rattle.zio_suspend.specs.Ends.{last_text}
-use Rattle.zio_suspend.proofs.EndLemmas.{IsEndOf, ScriptCut, Starts, cut_between, cut_first, cut_last, ending_is, same_fault, script_whole}
+use Rattle.zio_suspend.proofs.EndLemmas.{IsEndOf, ScriptCut, Starts, cut_between, cut_first, cut_last, end_of, same_fault, script_whole}
 use Rattle.zio_suspend.proofs.StartLemmas.{IsNew, fold_is_new, nothing_is_new, nothing_yet, start_going, start_point}
 use Rattle.zio_suspend.proofs.run.run_script.Goals as goal
 
@@ -140,8 +140,7 @@ returns-in_err-finish-clause-cut g c =
     let new_holds : List ℕ → Type 0 = g.O.Sink.holds c.finish.new.out in
     let ran : LinesOver show script.failmode s now f h script.items held old after tells new_tells mid over =
     subst (λ (items : List Item). LinesOver show script.failmode s now f h items held old after tells new_tells mid over) c.as_slice.ensures c.in_ok-run_lines.ensures.ran in
-    let ended : IsEndOf h held end = λ st same suspended waiting.
-    c.ending_of-ending.ensures ∙ ending_is g.R.Runner.pending c.run_lines.new.fold.suspended c.run_lines.new.held.items c.run_lines.new.fold.panicked st same suspended waiting in
+    let ended : IsEndOf h held end = end_of g.R.Runner.pending c.run_lines.new.fold c.run_lines.new.held.items end c.ending_of-ending.ensures in
     let last : List ℕ = last_text show n.requests h.tally end in
     let e : RunFault = c.in_err-finish.field-0.0 in
     same_fault c.from_residual-in_err-finish.result e (λ (fault : RunFault). ScriptCut show n script s after tells new_tells holds new_holds fault) c.from_residual-in_err-finish.ensures.1
@@ -188,8 +187,7 @@ returns-clause-whole g c =
     let new_holds : List ℕ → Type 0 = g.O.Sink.holds c.finish.new.out in
     let ran : LinesOver show script.failmode s now f h script.items held old after tells new_tells mid over =
     subst (λ (items : List Item). LinesOver show script.failmode s now f h items held old after tells new_tells mid over) c.as_slice.ensures c.in_ok-run_lines.ensures.ran in
-    let ended : IsEndOf h held end = λ st same suspended waiting.
-    c.ending_of-ending.ensures ∙ ending_is g.R.Runner.pending c.run_lines.new.fold.suspended c.run_lines.new.held.items c.run_lines.new.fold.panicked st same suspended waiting in
+    let ended : IsEndOf h held end = end_of g.R.Runner.pending c.run_lines.new.fold c.run_lines.new.held.items end c.ending_of-ending.ensures in
     let last : List ℕ = last_text show n.requests h.tally end in
     script_whole show n script s now f h held old after tells new_tells holds mid over new_holds end starts c.in_ok-run_lines.ensures.tops ended ran first
     (subst (λ (items : List Item). Appends over new_holds (last_text show (length (requests_of items)) h.tally end)) c.as_slice-2.ensures c.in_ok-finish.ensures.ok)

@@ -1,4 +1,4 @@
-use Rattle.std.proofs.Common.{◌≡◌, length, ℕ, ◌+◌, ◌≤◌}
+use Rattle.std.proofs.Common.{◌≡◌, length, ◌+◌, ◌≤◌}
 use Rattle.zio_script.specs.Requests.{requests_of}
 use Rattle.zio_suspend.proofs.summary.count_requests.Given as goal
 

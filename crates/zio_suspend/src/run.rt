@@ -26,8 +26,9 @@ use zio_types::Journal;
 ///
 /// `images` is how many images the line of the pool tells. The journal is empty before, and has the entries and completions
 /// of all rounds after. The run is cut short by `RunFault::Device` where a disk failed, by `RunFault::Sink` where `out`
-/// failed, and by `RunFault::Memory`. Then the journal and the text are those of the course so far, and the sink got all of
-/// it after a disk's failure, a front of it after its own, and whole lines for want of memory.
+/// failed, and by `RunFault::Memory`. Then the journal is that of the course so far. Of the text so far, or of the whole text
+/// where the course was over, the sink got all after a disk's failure, a front after its own, and whole lines for want of
+/// memory.
 pub fn run_script<R: Runner, O: Sink>(
     alloc: Global,
     script: &Script,

@@ -10,6 +10,6 @@ pub record AreTaken (places used_old live_old used_new live_new : List Place) : 
   pub live : SamePlaces live_new (places ++ live_old)
 
 -- The places in use, and the live ones, are those that they were.
-pub record AreKept (used_old live_old used_new live_new : List Place) : Type 0 where
+pub record StayTaken (used_old live_old used_new live_new : List Place) : Type 0 where
   pub used : used_new ≡ used_old
   pub live : live_new ≡ live_old

@@ -8,7 +8,7 @@ ghost use Rattle.zio_disks.specs.Disks.{Handles, Tell};
 ghost use Rattle.zio_disks.specs.Trees.{BearsTops, IsPlacedTree};
 ghost use Rattle.zio_disks.specs.Whole.{IsFittingTree, IsWholeTree};
 ghost use Rattle.zio_blocks.specs.Choosers.{AreHeld};
-ghost use Rattle.zio_blocks.specs.Claims.{AreKept, AreTaken};
+ghost use Rattle.zio_blocks.specs.Claims.{AreTaken, StayTaken};
 
 use crate::chooser::{Chooser, Unclaimed};
 use std::alloc::Global;
@@ -35,8 +35,8 @@ pub fn claim_block<D: Disk, C: Chooser>(
         (found ≡ claimed.tree) × Tell D.image disks.new claimed.images) }
     ensures claimed { IfOk result (λ found. IfOk found (λ tree.
         AreTaken (tree_places tree) (C.used chooser.old) (C.live chooser.old) (C.used chooser.new) (C.live chooser.new))) }
-    ensures refused { IfOk result (λ found. OnErr found (AreKept (C.used chooser.old) (C.live chooser.old) (C.used chooser.new) (C.live chooser.new))) }
-    ensures stopped { OnErr result (AreKept (C.used chooser.old) (C.live chooser.old) (C.used chooser.new) (C.live chooser.new)) }
+    ensures refused { IfOk result (λ found. OnErr found (StayTaken (C.used chooser.old) (C.live chooser.old) (C.used chooser.new) (C.live chooser.new))) }
+    ensures stopped { OnErr result (StayTaken (C.used chooser.old) (C.live chooser.old) (C.used chooser.new) (C.live chooser.new)) }
     ensures given { C.given chooser.new ≡ C.given chooser.old }
     ensures sizes { C.sizes chooser.new ≡ C.sizes chooser.old }
     ensures held { AreHeld (C.sizes chooser.old) (C.used chooser.old) (C.live chooser.old) → AreHeld (C.sizes chooser.new) (C.used chooser.new) (C.live chooser.new) }
@@ -65,8 +65,8 @@ fn take_places<C: Chooser>(
     ensures same { IfOk result (λ found. IfOk found (λ claimed. claimed ≡ tree)) }
     ensures claimed { IfOk result (λ found. IfOk found (λ claimed.
         AreTaken (tree_places claimed) (C.used chooser.old) (C.live chooser.old) (C.used chooser.new) (C.live chooser.new))) }
-    ensures refused { IfOk result (λ found. OnErr found (AreKept (C.used chooser.old) (C.live chooser.old) (C.used chooser.new) (C.live chooser.new))) }
-    ensures stopped { OnErr result (AreKept (C.used chooser.old) (C.live chooser.old) (C.used chooser.new) (C.live chooser.new)) }
+    ensures refused { IfOk result (λ found. OnErr found (StayTaken (C.used chooser.old) (C.live chooser.old) (C.used chooser.new) (C.live chooser.new))) }
+    ensures stopped { OnErr result (StayTaken (C.used chooser.old) (C.live chooser.old) (C.used chooser.new) (C.live chooser.new)) }
     ensures given { C.given chooser.new ≡ C.given chooser.old }
     ensures sizes { C.sizes chooser.new ≡ C.sizes chooser.old }
     ensures held { AreHeld (C.sizes chooser.old) (C.used chooser.old) (C.live chooser.old) → AreHeld (C.sizes chooser.new) (C.used chooser.new) (C.live chooser.new) }

@@ -1,7 +1,7 @@
 -- What completes in a round: each request once, behind its children, and none of it comes later.
-use Rattle.std.proofs.Common.{◌≡◌, ℕ, suc, ◌+◌, ◌<◌, ◌≤◌, List, [], ◌∷◌, ◌++◌, map, filter, reverse, find, count_by, Bool, true, false, ◌&&◌, ◌||◌, ◌==◌, cond, Option, Some, None, eqb, eqb-true, eq-eqb, refl, sym, ap, ◌∙◌, subst, inl, inr, ◌⊎◌, arith, Contains, append_assoc}
+use Rattle.std.proofs.Common.{◌≡◌, ℕ, ◌<◌, ◌≤◌, List, [], ◌∷◌, ◌++◌, map, filter, reverse, find, Bool, true, false, ◌&&◌, ◌||◌, ◌==◌, cond, Option, Some, None, eqb, eqb-true, eq-eqb, refl, sym, ap, ◌∙◌, subst, inl, inr, arith, Contains, append_assoc}
 use Rattle.std.specs.Prelude.{is_none}
-use Rattle.std.specs.List.{AllByRecursion, flat_map, list_any}
+use Rattle.std.specs.List.{AllByRecursion, list_any}
 use Rattle.std.proofs.lemmas.Bool.{false_from_ne_true}
 use Rattle.std.proofs.lemmas.List.{reverse-append}
 use Rattle.zio_types.specs.declared.error.Errno.{Errno}
@@ -10,27 +10,26 @@ use Rattle.zio_types.specs.declared.request.Kind.{Kind}
 use Rattle.zio_script.specs.declared.script.Request.{Request}
 use Rattle.zio_script.specs.Accepted.{AreBehindParents, AreRising, HasParentIn}
 use Rattle.zio_script.specs.Requests.{is_under, is_under_number, kind_of}
-use Rattle.zio_cksum.proofs.AllLemmas.{all_append, all_filter, all_true, all_weaker}
-use Rattle.zio_gang.specs.Attempts.{Ended, Pending}
-use Rattle.zio_gang.specs.Journals.{CompleteAfterChildren, CompleteOnce, completion_of, is_child}
+use Rattle.zio_cksum.proofs.AllLemmas.{all_append, all_filter, all_weaker}
+use Rattle.zio_gang.specs.Attempts.{Pending}
+use Rattle.zio_gang.specs.Journals.{CompleteAfterChildren, CompleteOnce, is_child}
 use Rattle.zio_gang.specs.declared.tree.Tree.{Tree}
-use Rattle.zio_gang.specs.Rounds.{answered_with}
 use Rattle.zio_course.specs.declared.runner.Finished.{Finished}
 use Rattle.zio_course.specs.declared.runner.RoundEnd.{RoundEnd}
 use Rattle.zio_course.specs.Answered.{answer_of, answered_in}
 use Rattle.zio_course.specs.Live.{IsRoundOver}
 use Rattle.zio_course.specs.Parents.{AreParented, has_numbered}
-use Rattle.zio_course.specs.Runners.{IsRoundEnd, Standing, completion_for, is_numbered, joined_trees, numbers_of, requests_in}
+use Rattle.zio_course.specs.Runners.{IsRoundEnd, Standing, completion_for, joined_trees, numbers_of, requests_in}
 use Rattle.zio_course.specs.Steps.{AreUnfinished}
 use Rattle.zio_course.specs.Told.{finish_of}
 use Rattle.zio_course.proofs.AdmittedLemmas.{not_both}
-use Rattle.zio_course.proofs.DoneLemmas.{contains_one, one_contains}
+use Rattle.zio_course.proofs.DoneLemmas.{contains_one}
 use Rattle.zio_course.proofs.EndLemmas.{own_times, times, times_is}
 use Rattle.zio_course.proofs.JoinLemmas.{rising_both, times_has, unfinished_in}
 use Rattle.zio_course.proofs.JournalLemmas.{after_both, once_both}
 use Rattle.zio_course.proofs.LineLemmas.{found_at}
-use Rattle.zio_course.proofs.MadeLemmas.{one_either, one_filtered}
-use Rattle.zio_course.proofs.SortLemmas.{IsOneOf, all_one, one_all, one_itself, one_left, one_map, one_right}
+use Rattle.zio_course.proofs.MadeLemmas.{one_filtered}
+use Rattle.zio_course.proofs.SortLemmas.{IsOneOf, all_one, one_all, one_left, one_map, one_right}
 use Rattle.zio_course.proofs.StepLemmas.{one_number, some_same}
 use Rattle.zio_course.proofs.WaitLemmas.{is_left}
 

@@ -1,10 +1,9 @@
 -- A run that was cut short.
-use Rattle.std.proofs.Common.{◌≡◌, ℕ, suc, ◌+◌, ◌/◌, ◌<◌, ◌≤◌, List, [], ◌∷◌, ◌++◌, length, map, take, filter, reverse, Bool, true, false, ◌&&◌, ◌||◌, Option, Some, None, refl, sym, ap, ◌∙◌, subst, inl, inr, ◌⊎◌, arith, Contains, append_assoc, Result, Ok, Err}
+use Rattle.std.proofs.Common.{◌≡◌, ℕ, suc, ◌+◌, ◌/◌, List, [], ◌∷◌, ◌++◌, length, map, take, Bool, true, false, ◌||◌, refl, sym, ap, ◌∙◌, subst, inl, inr, ◌⊎◌, arith, append_assoc, Result, Ok, Err}
 use Rattle.std.specs.Prelude.{codes, decimal, is_some, IfErr, IsErrOf}
-use Rattle.std.specs.List.{AllByRecursion, flat_map, list_any}
+use Rattle.std.specs.List.{flat_map, list_any}
 use Rattle.std.proofs.lemmas.List.{append-nil}
 use Rattle.zio_outside.specs.Outside.{Appends, AppendsFront}
-use Rattle.zio_types.specs.declared.error.Errno.{Errno}
 use Rattle.zio_types.specs.declared.journal.Completion.{Completion}
 use Rattle.zio_types.specs.declared.journal.Journal.{Journal}
 use Rattle.zio_types.specs.declared.place.Place.{Place}
@@ -14,16 +13,15 @@ use Rattle.zio_types.specs.Places.{SamePlaces, sector_size}
 use Rattle.zio_script.specs.declared.script.Item.{Item}
 use Rattle.zio_script.specs.declared.script.Request.{Request}
 use Rattle.zio_script.specs.declared.script.Script.{Script}
-use Rattle.zio_script.specs.Accepted.{AreRising, IsOrderlyBatch}
+use Rattle.zio_script.specs.Accepted.{AreRising}
 use Rattle.zio_script.specs.Requests.{requests_of}
-use Rattle.zio_cksum.specs.Images.{Images, image_of}
+use Rattle.zio_cksum.specs.Images.{Images}
 use Rattle.zio_gang.specs.declared.tree.Tree.{Tree}
 use Rattle.zio_gang.specs.Attempts.{Pending}
 use Rattle.zio_gang.specs.Journals.{choices_in, completions_in}
-use Rattle.zio_gang.specs.Rounds.{Admitted, Binding, Bound, admitted, block_of, bound_after, is_bound, pending_trees, trees_of, used_places}
-use Rattle.zio_gang.specs.Runs.{Batch, Course, Event, Plan, Round, State, has_trees, is_panic, rounds_of, run_batch, run_suspended, then_course}
+use Rattle.zio_gang.specs.Rounds.{Admitted, Binding, Bound, admitted, block_of, is_bound, pending_trees, trees_of, used_places}
+use Rattle.zio_gang.specs.Runs.{Course, Event, Plan, State, has_trees, rounds_of, run_batch, run_suspended, then_course}
 use Rattle.zio_gang.specs.Runs.Event.{RanRound, HeldBatch}
-use Rattle.zio_gang.specs.Trees.{sizes_of}
 use Rattle.zio_report.specs.declared.report.Line.{Line}
 use Rattle.zio_report.specs.declared.report.RoundHead.{RoundHead}
 use Rattle.zio_report.specs.declared.report.RunFault.{RunFault}
@@ -31,20 +29,18 @@ use Rattle.zio_report.specs.declared.report.RunFault.TheVariants.{Device, Sink, 
 use Rattle.zio_report.specs.declared.report.Show.{Show}
 use Rattle.zio_report.specs.declared.report.Show.TheVariants.{Report, Summary}
 use Rattle.zio_report.specs.Lines.{as_line, batch_text, choice_text, head_text, journal_text, kind_text, line_text, name_text, order_text, path_text, place_text, result_text, role_text, round_text, spaced, when}
-use Rattle.zio_report.specs.Reports.{Records, RunSize, event_text, head_of, held_text, lines_of, pool_text, text_so_far}
+use Rattle.zio_report.specs.Reports.{Records, RunSize, event_text, head_of, lines_of, pool_text, text_so_far}
 use Rattle.zio_course.specs.declared.admission.Rules.{Rules}
-use Rattle.zio_course.specs.declared.runner.RoundEnd.{RoundEnd}
 use Rattle.zio_course.specs.declared.runner.Stop.{Stop}
 use Rattle.zio_course.specs.declared.runner.Stop.TheVariants.{Device as DeviceStops, Memory as NoMemory}
-use Rattle.zio_course.specs.Admissions.{IsAdmission, error_in}
+use Rattle.zio_course.specs.Admissions.{IsAdmission}
 use Rattle.zio_course.specs.Admitted.{AreAwaited}
-use Rattle.zio_course.specs.Course.{IsEnteredSoFar, Reaches}
 use Rattle.zio_course.specs.Faults.{fault_of}
 use Rattle.zio_course.specs.Folds.{SeenFold}
 use Rattle.zio_course.specs.Forests.{names_of, running}
 use Rattle.zio_course.specs.Names.{is_some_name, named_in}
-use Rattle.zio_course.specs.Runners.{DiffersInRound, DiffersLoose, IsLoose, Standing, has_sector, named_places}
-use Rattle.zio_course.specs.SoFar.{Ahead, AreCutImages, EndsWhole, GoesOn, IsBroken, IsCourseAt, IsCut, IsCutText, images_after, names_after}
+use Rattle.zio_course.specs.Runners.{DiffersInRound, DiffersLoose, Standing, has_sector, named_places}
+use Rattle.zio_course.specs.SoFar.{Ahead, AreCutImages, EndsWhole, GoesOn, IsBroken, IsCourseAt, IsCut, IsCutText, images_after}
 use Rattle.zio_course.specs.SoFar.GoesOn.{WithBatch, WithSuspended}
 use Rattle.zio_course.proofs.AdmittedLemmas.{trees_admitted}
 use Rattle.zio_course.proofs.CompleteLemmas.{any_one}

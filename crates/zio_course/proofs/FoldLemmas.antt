@@ -1,5 +1,5 @@
 -- What became of a round's requests, one by one.
-use Rattle.std.proofs.Common.{◌≡◌, ℕ, suc, arith, ◌+◌, ◌<◌, List, [], ◌∷◌, ◌++◌, drop, length, get_or, map, Bool, true, false, ◌||◌, Some, refl, sym, ap, ◌∙◌, append_assoc}
+use Rattle.std.proofs.Common.{◌≡◌, ℕ, suc, arith, ◌+◌, ◌<◌, List, ◌∷◌, ◌++◌, drop, length, get_or, Bool, true, false, ◌||◌, Some, refl, sym, ap, ◌∙◌}
 use Rattle.std.proofs.Math.Seq.{drop-cons}
 use Rattle.std.proofs.lemmas.List.Folds.{list_any-append}
 use Rattle.zio_script.specs.declared.script.Request.{Request}

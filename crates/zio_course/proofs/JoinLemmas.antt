@@ -1,7 +1,7 @@
 -- Trees of a batch that wait beside those that wait already.
-use Rattle.std.proofs.Common.{◌≡◌, ℕ, suc, ◌+◌, ◌<◌, ◌≤◌, List, [], ◌∷◌, ◌++◌, length, map, filter, count_by, Bool, true, false, ◌&&◌, ◌||◌, not, cond, Option, Some, None, eqb, eqb-true, eq-eqb, refl, sym, ap, ◌∙◌, subst, inl, inr, arith, Contains, append_assoc, length-append}
+use Rattle.std.proofs.Common.{◌≡◌, ℕ, ◌+◌, ◌<◌, ◌≤◌, List, [], ◌∷◌, ◌++◌, length, map, filter, count_by, Bool, true, false, ◌&&◌, ◌||◌, not, cond, Option, Some, None, eqb, eqb-true, eq-eqb, refl, sym, ap, ◌∙◌, subst, inl, inr, arith, Contains, append_assoc, length-append}
 use Rattle.std.specs.Prelude.{is_none, is_some, option_to_list}
-use Rattle.std.specs.List.{AllByRecursion, flat_map, list_any}
+use Rattle.std.specs.List.{AllByRecursion, list_any}
 use Rattle.std.proofs.lemmas.Bool.{false_from_ne_true}
 use Rattle.std.proofs.lemmas.List.Elements.{Contains-append_left, Contains-append_right}
 use Rattle.std.proofs.lemmas.List.Folds.{list_any-append}
@@ -10,13 +10,13 @@ use Rattle.zio_script.specs.declared.script.Item.{Item}
 use Rattle.zio_script.specs.declared.script.Request.{Request}
 use Rattle.zio_script.specs.declared.script.Work.{Work}
 use Rattle.zio_script.specs.declared.script.Work.TheVariants.{Null, Read, Write, Free, Claim}
-use Rattle.zio_script.specs.Accepted.{AreBehindParents, AreRising, IsOrderlyBatch, NameApart}
+use Rattle.zio_script.specs.Accepted.{AreRising, IsOrderlyBatch, NameApart}
 use Rattle.zio_script.specs.Requests.{changes_pool, kind_of, makes_block, name_of, names_it, needs_block, requests_of}
 use Rattle.zio_script.specs.Whys.{clashes, is_claim, may_share}
 use Rattle.zio_cksum.proofs.AllLemmas.{all_append, all_true, all_weaker}
 use Rattle.zio_gang.specs.declared.tree.Tree.{Tree}
 use Rattle.zio_gang.specs.Attempts.{Ended, Pending}
-use Rattle.zio_gang.specs.Rounds.{Admitted, Bound, admission, admitted, block_if, block_of, bound_after, first_rule, is_awaited, is_blocked, lacks_block, passes, pending_trees, takes_bound, trees_of}
+use Rattle.zio_gang.specs.Rounds.{Admitted, admission, admitted, block_if, block_of, bound_after, first_rule, is_awaited, is_blocked, lacks_block, passes, pending_trees, takes_bound, trees_of}
 use Rattle.zio_gang.specs.Runs.{has_trees}
 use Rattle.zio_gang.proofs.FateLemmas.{admitted_sum, batch_held, of_ended, of_trees, pending_sum, tally}
 use Rattle.zio_course.specs.declared.admission.Rules.{Rules}
@@ -27,21 +27,20 @@ use Rattle.zio_course.specs.Admitted.{AreAwaited}
 use Rattle.zio_course.specs.Folds.{AreSuspended, is_named_by}
 use Rattle.zio_course.specs.Forests.{names_of, running}
 use Rattle.zio_course.specs.Live.{IsLive, IsRoundOver}
-use Rattle.zio_course.specs.Names.{is_name_in, is_some_name, named_in}
+use Rattle.zio_course.specs.Names.{is_some_name, named_in}
 use Rattle.zio_course.specs.Runners.{AreRisingFrom, AreRunnable, IsRoundEnd, Standing, has_claim, is_numbered, joined_trees, numbers_of, requests_in, root_of, roots_of, rows_tell_apart}
 use Rattle.zio_course.specs.Steps.{AreUnfinished}
-use Rattle.zio_course.specs.Told.{ended_as, ended_by, ended_told, finish_of, no_error}
+use Rattle.zio_course.specs.Told.{ended_by, ended_told, finish_of, no_error}
 use Rattle.zio_course.proofs.AdmissionLemmas.{stand_once}
-use Rattle.zio_course.proofs.AdmittedLemmas.{Judge, judged_by, not_both, rising_kept, trees_admitted}
+use Rattle.zio_course.proofs.AdmittedLemmas.{Judge, judged_by, rising_kept, trees_admitted}
 use Rattle.zio_course.proofs.ClearLemmas.{times_tally}
-use Rattle.zio_course.proofs.DoneLemmas.{IsAnswered, contains_one, one_contains}
+use Rattle.zio_course.proofs.DoneLemmas.{IsAnswered, contains_one}
 use Rattle.zio_course.proofs.EndLemmas.{times, times_is}
-use Rattle.zio_course.proofs.LeftLemmas.{roots_there}
-use Rattle.zio_course.proofs.MadeLemmas.{one_filtered, same_bytes}
+use Rattle.zio_course.proofs.MadeLemmas.{one_filtered}
 use Rattle.zio_course.proofs.OverLemmas.{batch_over}
 use Rattle.zio_course.proofs.PlantLemmas.{named_of}
 use Rattle.zio_course.proofs.RunnableLemmas.{any_among, batch_runnable, kept, kept_none, trees_of_tally}
-use Rattle.zio_course.proofs.SortLemmas.{IsOneOf, all_one, one_all, one_if, one_itself, one_left, one_map, one_right}
+use Rattle.zio_course.proofs.SortLemmas.{IsOneOf, all_one, one_all, one_if, one_left, one_map, one_right}
 use Rattle.zio_course.proofs.StepLemmas.{are_answered, from_trees, one_number}
 use Rattle.zio_course.proofs.SuspendedLemmas.{all_kept}
 use Rattle.zio_course.proofs.ToldLemmas.{kept_of}
@@ -438,6 +437,7 @@ suspended_join apart bound after suspended left unfinished more w v stay rising 
           one_all (λ (m : Request). r.number < m.number) q more
           (one_all (λ (u : Request). AllByRecursion (λ (m : Request). u.number < m.number) more) r unfinished below
           (root_among suspended unfinished r w.numbers at)) (root_among left more q v.numbers here))))))));
+      under = subst (AllByRecursion (λ (r : Request). r.under ≡ None)) (sym (roots_both suspended left)) (all_append (λ (r : Request). r.under ≡ None) (roots_of suspended) (roots_of left) w.under v.under);
       claims = list_any-claims;
     }
   where
@@ -486,7 +486,7 @@ batch_suspended s round number awaited suspended unfinished bound after items sl
     let error : ℕ → Option Errno = error_in slots rules in
     let trees : List (List Pending) = pending_trees (names_of bound) number (trees_of (running slots rules items)) in
     let up : AreRising requests = (rising_both unfinished requests rising).1 in
-    let runs : AreRunnable s trees = batch_runnable s apart suspended awaited bound number items slots rules refl up orderly waits admission_is live.there in
+    let runs : AreRunnable s trees = batch_runnable s apart suspended awaited bound number items slots rules refl up orderly waits admission_is live in
     let known : IsRoundOver apart bound error requests trees = batch_over apart suspended awaited bound number items slots rules up orderly waits admission_is in
     let left : AreSuspended apart after end.left (filter (is_left error end.finished) requests) =
     left_suspended s round apart trees end requests error bound after runs over known (batch_numbers apart suspended awaited bound number items slots rules up orderly waits admission_is) told in

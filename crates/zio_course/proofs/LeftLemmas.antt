@@ -11,6 +11,7 @@ use Rattle.zio_course.specs.declared.runner.RoundEnd.{RoundEnd}
 use Rattle.zio_course.specs.Runners.{AreRestsOf, AreRisingFrom, AreRunnable, IsRestOf, IsRoundEnd, IsSamePending, Standing, StandsAfter, has_claim, is_numbered, joined_trees, named_places, numbers_of, requests_in, root_of, roots_of, rows_tell_apart}
 use Rattle.zio_course.proofs.AdmittedLemmas.{not_both}
 use Rattle.zio_course.proofs.EndLemmas.{times, times_is}
+use Rattle.zio_course.proofs.FreedLemmas.{left_freed}
 use Rattle.zio_course.proofs.RunnableLemmas.{apart_of, counted_by}
 use Rattle.zio_course.proofs.SortLemmas.{IsOneOf, counted, one_left, one_map, one_right}
 use Rattle.zio_course.proofs.ClearLemmas.{times_tally}
@@ -98,6 +99,19 @@ rests_rising (tree ∷ trees) (l ∷ left) least roots (inr h) rising =
     let up = subst (λ (rs : List Request). AreRisingFrom least (numbers_of rs)) (roots_first tree trees roots.0.0 roots.0.1) rising in
     rests_rising trees (l ∷ left) least roots.1 h (least_lower least (roots.0.0.request.number + 1) (numbers_of (roots_of trees)) (let low : least ≤ roots.0.0.request.number = up.0 in omega arith) up.1)
 
+-- what holds of the roots holds of those that are left
+pub rests_roots : (P : Request → Type 0) (trees left : List (List Pending)) → AllByRecursion (λ (tree : List Pending). (p : Pending) × (root_of tree ≡ Some p)) trees → AreRestsOf trees left
+    → AllByRecursion P (roots_of trees) → AllByRecursion P (roots_of left)
+rests_roots P [] [] roots h all = tt
+rests_roots P [] (l ∷ left) roots h all = absurd h
+rests_roots P (tree ∷ trees) [] roots h all = tt
+rests_roots P (tree ∷ trees) (l ∷ left) roots (inl h) all =
+    let s = same_root tree l h.0 in
+    let each = subst (AllByRecursion P) (roots_first tree trees s.old s.old_is) all in
+    subst (AllByRecursion P) (sym (roots_first l left s.now s.now_is)) (subst P (sym s.same) each.0, rests_roots P trees left roots.1 h.1 each.1)
+rests_roots P (tree ∷ trees) (l ∷ left) roots (inr h) all =
+    let each = subst (AllByRecursion P) (roots_first tree trees roots.0.0 roots.0.1) all in rests_roots P trees (l ∷ left) roots.1 h each.1
+
 roots_less : (trees : List (List Pending)) → length (roots_of trees) ≤ length trees
 roots_less [] = omega arith
 roots_less (tree ∷ trees) = go (root_of tree) (roots_less trees)
@@ -184,4 +198,6 @@ left_runnable s new round trees end runs over stands live =
           (λ q r. subst (λ (x : Request). IsOneOf x (requests_in trees)) (sym r.same.request) (one_map (λ (p : Pending). p.request) r.old (joined_trees trees) r.at)) rests)) once);
       claim = λ has. not_both (has_claim (requests_in end.left)) has over.claims;
       live = live;
+      under = rests_roots (λ (r : Request). r.under ≡ None) trees end.left (roots_there trees runs.each) over.rests runs.under;
+      freed = left_freed trees end.left over.rests runs.freed;
     }

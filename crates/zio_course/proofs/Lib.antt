@@ -1,6 +1,7 @@
 pub mod AdmissionLemmas
 pub mod AdmittedLemmas
 pub mod AnsweredLemmas
+pub mod ApartLemmas
 pub mod BatchLemmas
 pub mod ClearLemmas
 pub mod CompleteLemmas
@@ -11,6 +12,7 @@ pub mod EndLemmas
 pub mod FitLemmas
 pub mod FoldLemmas
 pub mod ForestLemmas
+pub mod FreedLemmas
 pub mod JoinLemmas
 pub mod JournalLemmas
 pub mod LeftLemmas

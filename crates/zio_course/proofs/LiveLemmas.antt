@@ -5,7 +5,7 @@ use Rattle.std.proofs.lemmas.Bool.{and_parts}
 use Rattle.std.specs.List.{AllByRecursion, list_all}
 use Rattle.zio_types.specs.declared.error.Errno.{Errno}
 use Rattle.zio_types.specs.declared.place.Place.{Place}
-use Rattle.zio_types.specs.Places.{SamePlaces, are_apart, is_free, is_inside}
+use Rattle.zio_types.specs.Places.{SamePlaces, are_apart, is_free, is_inside, meets}
 use Rattle.zio_script.specs.declared.script.Request.{Request}
 use Rattle.zio_script.specs.declared.script.Work.{Work}
 use Rattle.zio_script.specs.declared.script.Work.TheVariants.{Free}
@@ -24,6 +24,7 @@ use Rattle.zio_course.specs.Names.{is_some_name, named_in}
 use Rattle.zio_course.specs.Runners.{IsRoundEnd, Standing, StandsAfter, MakesTree, freed_by, freed_places, is_good_in, joined_trees, made_places, numbers_of, requests_in}
 use Rattle.zio_course.specs.Told.{ended_as, ended_by, ended_told, finish_of}
 use Rattle.zio_course.proofs.AdmittedLemmas.{not_both}
+use Rattle.zio_course.proofs.ApartLemmas.{below_some, free_of, meets_self, meets_swap, one_passing}
 use Rattle.zio_course.proofs.DoneLemmas.{contains_one, one_contains}
 use Rattle.zio_course.proofs.EndLemmas.{own_times, times, times_is}
 use Rattle.zio_course.proofs.LineLemmas.{found_at}
@@ -32,7 +33,7 @@ use Rattle.zio_course.proofs.RunnableLemmas.{eq_swap}
 use Rattle.zio_course.proofs.SortLemmas.{IsOneOf, all_one, one_all}
 use Rattle.zio_course.proofs.StepLemmas.{Found, found_there, one_number, some_same}
 use Rattle.zio_course.proofs.TouchLemmas.{TouchAlike, Toucher, after_untouched, agreed_by, apart_alike, becomes, first_toucher, touch, touch_by, touch_unless}
-use Rattle.zio_course.proofs.MadeLemmas.{Change, Made, below_some, block_tree, filtered_one, found_good, freed_of, good_found, good_touch, made_one, makes_touch, not_free, one_filtered, one_made, one_maker, one_passing, one_within, same_bytes, tree_one, within_one}
+use Rattle.zio_course.proofs.MadeLemmas.{Change, Made, block_tree, filtered_one, found_good, freed_of, good_found, good_touch, made_apart, made_one, makes_touch, one_filtered, one_made, one_maker, one_within, same_bytes, tree_one, within_one}
 use Rattle.zio_course.proofs.MadeLemmas.Change.{Makes, Frees}
 
 -- ---- a round
@@ -266,40 +267,76 @@ module _ (s new : Standing) (round : ℕ) (trees : List (List Pending)) (end : R
   touched_made_by name t h has =
       changed_made name t h.0.ended h.0.after (good_touch h.0.ended h.0.after name h.0.makes).1 (sym h.1 ∙ has)
 
-  -- a place that was in use wasn't made
-  old_not_made : {Z : Type 0} (p : Place) → Contains s.live p → IsOneOf p (made_places end.finished) → Z
-  old_not_made p old made = not_free s.live p (some_sectors p made) (one_passing (is_free s.live) (made_places end.finished) p open_parts.0 made) (contains_one p s.live old)
+  -- a place that was made meets none that was in use
+  old_not_made : {Z : Type 0} (p q : Place) → Contains s.live p → IsOneOf q (made_places end.finished) → meets q p ≡ true → Z
+  old_not_made p q old made met =
+      not_both (meets q p) met (free_of s.live q p (one_passing (is_free s.live) (made_places end.finished) q open_parts.0 made) (contains_one p s.live old))
+
+  made_itself : (p : Place) → IsOneOf p (made_places end.finished) → meets p p ≡ true
+  made_itself p made = meets_self p (some_sectors p made)
 
   old_live : (name : List ℕ) (t : Tree) (p : Place) → named_in bound name ≡ Some t → Contains (tree_places t) p → Contains s.live p
   old_live name t p is at =
       let all : AllByRecursion (Contains s.live) (tree_places t) = subst (λ (o : Option Tree). IfSome o (λ tree. AllByRecursion (Contains s.live) (tree_places tree))) is (live.there name) in
       one_all (Contains s.live) p (tree_places t) all (contains_one p (tree_places t) at)
 
-  both_made : (n m : List ℕ) (t u : Tree) (p : Place) (e f : Ended) → IsOneOf e ends → IsOneOf f ends → (e.tree ≡ Some t) × (name_of e.request.work ≡ Some n)
-      → (f.tree ≡ Some u) × (name_of f.request.work ≡ Some m) → IsOneOf p (tree_places t) → IsOneOf p (tree_places u) → n ≡ m
-  both_made n m t u p e f at here made too pt pu =
+  both_made : (n m : List ℕ) (t u : Tree) (p q : Place) (e f : Ended) → meets p q ≡ true → IsOneOf e ends → IsOneOf f ends → (e.tree ≡ Some t) × (name_of e.request.work ≡ Some n)
+      → (f.tree ≡ Some u) × (name_of f.request.work ≡ Some m) → IsOneOf p (tree_places t) → IsOneOf q (tree_places u) → n ≡ m
+  both_made n m t u p q e f met at here made too pt qu =
       let a = end_at e at in
       let b = end_at f here in
-      let at_made : IsOneOf p (made_places end.finished) = made_here e t p at made.0 pt in
       let ends_same : a.end ≡ b.end =
-      one_maker end.finished a.end b.end t u p (some_sectors p at_made) open_parts.1 a.at b.at
-      (sym (ap (λ (x : Ended). x.tree) a.is) ∙ made.0) (sym (ap (λ (x : Ended). x.tree) b.is) ∙ too.0) pt pu in
+      one_maker end.finished a.end b.end t u p q met open_parts.1 a.at b.at
+      (sym (ap (λ (x : Ended). x.tree) a.is) ∙ made.0) (sym (ap (λ (x : Ended). x.tree) b.is) ∙ too.0) pt qu in
       let same : e.request ≡ f.request = known.one e.request f.request a.inside b.inside (sym a.number ∙ (ap (λ (x : Finished). x.request) ends_same ∙ b.number)) in
       some_same n m (sym made.1 ∙ (ap (λ (r : Request). name_of r.work) same ∙ too.1))
+
+  -- a place of a block that a request made of a name
+  touched_made : (name : List ℕ) (t : Tree) (p : Place) (h : (k : Toucher name ends) × (named_in after name ≡ k.after)) → named_in after name ≡ Some t
+      → Contains (tree_places t) p → IsOneOf p (made_places end.finished)
+  touched_made name t p h has there = made_here h.0.ended t p h.0.at (touched_made_by name t h has).0 (contains_one p (tree_places t) there)
+
+  two_touched : (n m : List ℕ) (t u : Tree) (p q : Place) (h : (k : Toucher n ends) × (named_in after n ≡ k.after)) (i : (k : Toucher m ends) × (named_in after m ≡ k.after))
+      → named_in after n ≡ Some t → named_in after m ≡ Some u → Contains (tree_places t) p → Contains (tree_places u) q → meets p q ≡ true → n ≡ m
+  two_touched n m t u p q h i nt mu pt qu met =
+      both_made n m t u p q h.0.ended i.0.ended met h.0.at i.0.at (touched_made_by n t h nt) (touched_made_by m u i mu) (contains_one p (tree_places t) pt) (contains_one q (tree_places u) qu)
 
   apart_after : (n m : List ℕ) (t u : Tree) (p : Place) → named_in after n ≡ Some t → named_in after m ≡ Some u → Contains (tree_places t) p → Contains (tree_places u) p → n ≡ m
   apart_after n m t u p nt mu pt pu = go (name_after n) (name_after m)
     where
       go : NameAfter n → NameAfter m → n ≡ m
       go (inl h) (inl k) = live.apart n m t u p (sym h.1 ∙ nt) (sym k.1 ∙ mu) pt pu
-      go (inl h) (inr k) = old_not_made p (old_live n t p (sym h.1 ∙ nt) pt) (made_here k.0.ended u p k.0.at (touched_made_by m u k mu).0 (contains_one p (tree_places u) pu))
-      go (inr h) (inl k) = old_not_made p (old_live m u p (sym k.1 ∙ mu) pu) (made_here h.0.ended t p h.0.at (touched_made_by n t h nt).0 (contains_one p (tree_places t) pt))
-      go (inr h) (inr k) =
-          both_made n m t u p h.0.ended k.0.ended h.0.at k.0.at (touched_made_by n t h nt) (touched_made_by m u k mu) (contains_one p (tree_places t) pt) (contains_one p (tree_places u) pu)
+      go (inl h) (inr k) = let made = touched_made m u p k mu pu in old_not_made p p (old_live n t p (sym h.1 ∙ nt) pt) made (made_itself p made)
+      go (inr h) (inl k) = let made = touched_made n t p h nt pt in old_not_made p p (old_live m u p (sym k.1 ∙ mu) pu) made (made_itself p made)
+      go (inr h) (inr k) = two_touched n m t u p p h k nt mu pt pu (made_itself p (touched_made n t p h nt pt))
+
+  own_after : (name : List ℕ) → IfSome (named_in after name) (λ tree. are_apart (tree_places tree) ≡ true)
+  own_after name = go (name_after name)
+    where
+      makes : (o : Option Tree) (e : Ended) → IsOneOf e ends → Change e.request.work e.tree o name → IfSome o (λ tree. are_apart (tree_places tree) ≡ true)
+      makes o e at (Makes t maker names is made) =
+          let a = end_at e at in
+          subst (λ (x : Option Tree). IfSome x (λ tree. are_apart (tree_places tree) ≡ true)) (sym made)
+          (made_apart end.finished a.end t open_parts.1 a.at (sym (ap (λ (x : Ended). x.tree) a.is) ∙ is))
+      makes o e at (Frees work made) = subst (λ (x : Option Tree). IfSome x (λ tree. are_apart (tree_places tree) ≡ true)) (sym made) tt
+
+      go : NameAfter name → IfSome (named_in after name) (λ tree. are_apart (tree_places tree) ≡ true)
+      go (inl h) = subst (λ (o : Option Tree). IfSome o (λ tree. are_apart (tree_places tree) ≡ true)) (sym h.1) (live.own name)
+      go (inr h) = subst (λ (o : Option Tree). IfSome o (λ tree. are_apart (tree_places tree) ≡ true)) (sym h.1)
+          (makes h.0.after h.0.ended h.0.at (good_touch h.0.ended h.0.after name h.0.makes).1)
+
+  between_after : (n m : List ℕ) (t u : Tree) (p q : Place) → named_in after n ≡ Some t → named_in after m ≡ Some u → Contains (tree_places t) p → Contains (tree_places u) q → meets p q ≡ true → n ≡ m
+  between_after n m t u p q nt mu pt qu met = go (name_after n) (name_after m)
+    where
+      go : NameAfter n → NameAfter m → n ≡ m
+      go (inl h) (inl k) = live.between n m t u p q (sym h.1 ∙ nt) (sym k.1 ∙ mu) pt qu met
+      go (inl h) (inr k) = old_not_made p q (old_live n t p (sym h.1 ∙ nt) pt) (touched_made m u q k mu qu) (meets_swap q p ∙ met)
+      go (inr h) (inl k) = old_not_made q p (old_live m u q (sym k.1 ∙ mu) qu) (touched_made n t p h nt pt) met
+      go (inr h) (inr k) = two_touched n m t u p q h k nt mu pt qu met
 
   -- After the round the places in use are those of the blocks that are bound then.
   live_after_round : IsLive new.live after
-  live_after_round = record { there = there_after; back = back_after; apart = apart_after }
+  live_after_round = record { there = there_after; back = back_after; apart = apart_after; own = own_after; between = between_after }
 
 -- ---- from what is known of a batch
 

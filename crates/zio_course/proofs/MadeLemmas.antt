@@ -1,13 +1,11 @@
 -- Which requests made the blocks of places, and which changed a name.
-use Rattle.std.proofs.Common.{◌≡◌, ℕ, ◌<◌, List, [], ◌∷◌, ◌++◌, filter, min, max, Bool, true, false, ◌&&◌, ◌||◌, not, cond, Option, Some, None, is_none, bytes_eq, eqb, eqb-true, eq-eqb, refl, sym, ap, ◌∙◌, subst, inl, inr, ◌⊎◌, arith}
-use Rattle.std.specs.Prelude.{nat_lt, nat_le, option_to_list}
-use Rattle.std.proofs.lemmas.Bool.{and_parts, lt-ltb, ltb-true}
+use Rattle.std.proofs.Common.{◌≡◌, ℕ, List, [], ◌∷◌, ◌++◌, filter, Bool, true, false, ◌&&◌, ◌||◌, cond, Option, Some, None, is_none, bytes_eq, eqb, eqb-true, eq-eqb, refl, sym, ap, ◌∙◌, subst, inl, inr, ◌⊎◌}
+use Rattle.std.specs.Prelude.{option_to_list}
 use Rattle.std.proofs.lemmas.Slice.Eq.{bytes_eq-Decides}
-use Rattle.std.specs.List.{flat_map, list_all}
+use Rattle.std.specs.List.{flat_map}
 use Rattle.zio_types.specs.declared.error.Errno.{Errno}
 use Rattle.zio_types.specs.declared.place.Place.{Place}
-use Rattle.zio_types.specs.declared.place.TopSize.{TopSize}
-use Rattle.zio_types.specs.Places.{are_apart, end_of, is_below, is_free, meets}
+use Rattle.zio_types.specs.Places.{are_apart, meets}
 use Rattle.zio_script.specs.declared.script.Work.{Work}
 use Rattle.zio_script.specs.declared.script.Work.TheVariants.{Null, Read, Write, Free, Claim}
 use Rattle.zio_script.specs.Requests.{makes_block, name_of}
@@ -17,6 +15,7 @@ use Rattle.zio_gang.specs.Trees.{tree_places}
 use Rattle.zio_course.specs.declared.runner.Finished.{Finished}
 use Rattle.zio_course.specs.Runners.{freed_by, is_good_in, made_places, made_trees, places_of_block}
 use Rattle.zio_course.proofs.AdmittedLemmas.{not_both}
+use Rattle.zio_course.proofs.ApartLemmas.{apart_behind, apart_front, meets_swap, parts_apart}
 use Rattle.zio_course.proofs.SortLemmas.{IsOneOf, one_left, one_right}
 use Rattle.zio_course.proofs.StepLemmas.{some_same}
 use Rattle.zio_course.proofs.TouchLemmas.{made_if, touch, touch_by, touch_unless}
@@ -69,55 +68,6 @@ filtered_one test (z ∷ xs) x (inr at) is = go (test z) (filtered_one test xs x
     go true later = inr later
     go false later = later
 
--- ---- places
-
-pub below_some : (p : Place) (top : Option TopSize) → is_below p top ≡ true → nat_lt 0 p.sectors ≡ true
-below_some p None e = absurd (let f = e in cc)
-below_some p (Some top) e = (and_parts (nat_lt 0 p.sectors) (nat_le (end_of p) top.sectors) e).0
-
-lt_of : (n : ℕ) → nat_lt 0 n ≡ true → 0 < n
-lt_of n e = ltb-true 0 n e
-
-max_self : (n : ℕ) → max n n ≡ n
-max_self n = omega arith
-
-min_self : (n : ℕ) → min n n ≡ n
-min_self n = omega arith
-
--- a place with sectors meets itself
-meets_self : (p : Place) → nat_lt 0 p.sectors ≡ true → meets p p ≡ true
-meets_self p some =
-    let more : 0 < p.sectors = lt_of p.sectors some in
-    let lower : max p.sector p.sector < min (end_of p) (end_of p) =
-    subst (λ (k : ℕ). k < min (end_of p) (end_of p)) (sym (max_self p.sector)) (subst (λ (k : ℕ). p.sector < k) (sym (min_self (end_of p))) (omega arith)) in
-    ap (λ (b : Bool). b && nat_lt (max p.sector p.sector) (min (end_of p) (end_of p))) (eq-eqb p.top p.top refl) ∙ lt-ltb (max p.sector p.sector) (min (end_of p) (end_of p)) lower
-
-pub one_passing : {X : Type 0} (test : X → Bool) (xs : List X) (x : X) → list_all test xs ≡ true → IsOneOf x xs → test x ≡ true
-one_passing test [] x all at = absurd at
-one_passing test (z ∷ xs) x all (inl same) = ap test (sym same) ∙ (and_parts (test z) (list_all test xs) all).0
-one_passing test (z ∷ xs) x all (inr at) = one_passing test xs x (and_parts (test z) (list_all test xs) all).1 at
-
-not_true : (b : Bool) → not b ≡ true → b ≡ false
-not_true true e = absurd (let f = e in cc)
-not_true false e = refl
-
--- a place with sectors isn't free beside itself
-pub not_free : {Z : Type 0} (used : List Place) (p : Place) → nat_lt 0 p.sectors ≡ true → is_free used p ≡ true → IsOneOf p used → Z
-not_free used p some free at = not_both (meets p p) (meets_self p some) (not_true (meets p p) (one_passing (λ (q : Place). not (meets p q)) used p free at))
-
--- a place doesn't stand in two parts of places that are apart
-apart_parts : {Z : Type 0} (xs ys : List Place) (p : Place) → nat_lt 0 p.sectors ≡ true → are_apart (xs ++ ys) ≡ true → IsOneOf p xs → IsOneOf p ys → Z
-apart_parts [] ys p some apart at there = absurd at
-apart_parts (x ∷ xs) ys p some apart (inl same) there =
-    let own : is_free (xs ++ ys) x ≡ true = (and_parts (is_free (xs ++ ys) x) (are_apart (xs ++ ys)) apart).0 in
-    not_free (xs ++ ys) p some (subst (λ (q : Place). is_free (xs ++ ys) q ≡ true) same own) (one_right p xs ys there)
-apart_parts (x ∷ xs) ys p some apart (inr at) there =
-    apart_parts xs ys p some (and_parts (is_free (xs ++ ys) x) (are_apart (xs ++ ys)) apart).1 at there
-
-apart_behind : (xs ys : List Place) → are_apart (xs ++ ys) ≡ true → are_apart ys ≡ true
-apart_behind [] ys apart = apart
-apart_behind (x ∷ xs) ys apart = apart_behind xs ys (and_parts (is_free (xs ++ ys) x) (are_apart (xs ++ ys)) apart).1
-
 -- ---- blocks that were made
 
 flat_front : (tree : Option Tree) (trees : List Tree) → flat_map tree_places (option_to_list tree ++ trees) ≡ places_of_block tree ++ flat_map tree_places trees
@@ -160,19 +110,31 @@ one_made fs p at =
     of_option (Some y) x (inl same) = ap Some same
     of_option (Some y) x (inr never) = absurd never
 
--- two that made blocks with one place are one
-pub one_maker : (fs : List Finished) (f g : Finished) (t u : Tree) (p : Place) → nat_lt 0 p.sectors ≡ true → are_apart (made_places fs) ≡ true
-    → IsOneOf f fs → IsOneOf g fs → f.tree ≡ Some t → g.tree ≡ Some u → IsOneOf p (tree_places t) → IsOneOf p (tree_places u) → f ≡ g
-one_maker [] f g t u p some apart a b ft gt pt pu = absurd a
-one_maker (h ∷ fs) f g t u p some apart (inl a) (inl b) ft gt pt pu = sym a ∙ b
-one_maker (h ∷ fs) f g t u p some apart (inl a) (inr b) ft gt pt pu =
-    apart_parts (places_of_block h.tree) (made_places fs) p some (ap are_apart (sym (made_front h fs)) ∙ apart)
-    (tree_one h.tree t p (ap (λ (x : Finished). x.tree) a ∙ ft) pt) (made_one fs g u p b gt pu)
-one_maker (h ∷ fs) f g t u p some apart (inr a) (inl b) ft gt pt pu =
-    apart_parts (places_of_block h.tree) (made_places fs) p some (ap are_apart (sym (made_front h fs)) ∙ apart)
-    (tree_one h.tree u p (ap (λ (x : Finished). x.tree) b ∙ gt) pu) (made_one fs f t p a ft pt)
-one_maker (h ∷ fs) f g t u p some apart (inr a) (inr b) ft gt pt pu =
-    one_maker fs f g t u p some (apart_behind (places_of_block h.tree) (made_places fs) (ap are_apart (sym (made_front h fs)) ∙ apart)) a b ft gt pt pu
+-- two that made blocks with places that meet are one
+pub one_maker : (fs : List Finished) (f g : Finished) (t u : Tree) (p q : Place) → meets p q ≡ true → are_apart (made_places fs) ≡ true
+    → IsOneOf f fs → IsOneOf g fs → f.tree ≡ Some t → g.tree ≡ Some u → IsOneOf p (tree_places t) → IsOneOf q (tree_places u) → f ≡ g
+one_maker [] f g t u p q met apart a b ft gt pt qu = absurd a
+one_maker (h ∷ fs) f g t u p q met apart (inl a) (inl b) ft gt pt qu = sym a ∙ b
+one_maker (h ∷ fs) f g t u p q met apart (inl a) (inr b) ft gt pt qu =
+    not_both (meets p q) met
+    (parts_apart (places_of_block h.tree) (made_places fs) p q (ap are_apart (sym (made_front h fs)) ∙ apart)
+    (tree_one h.tree t p (ap (λ (x : Finished). x.tree) a ∙ ft) pt) (made_one fs g u q b gt qu))
+one_maker (h ∷ fs) f g t u p q met apart (inr a) (inl b) ft gt pt qu =
+    not_both (meets p q) met
+    (meets_swap p q
+    ∙ parts_apart (places_of_block h.tree) (made_places fs) q p (ap are_apart (sym (made_front h fs)) ∙ apart)
+    (tree_one h.tree u q (ap (λ (x : Finished). x.tree) b ∙ gt) qu) (made_one fs f t p a ft pt))
+one_maker (h ∷ fs) f g t u p q met apart (inr a) (inr b) ft gt pt qu =
+    one_maker fs f g t u p q met (apart_behind (places_of_block h.tree) (made_places fs) (ap are_apart (sym (made_front h fs)) ∙ apart)) a b ft gt pt qu
+
+-- no two places of a block that was made meet
+pub made_apart : (fs : List Finished) (f : Finished) (t : Tree) → are_apart (made_places fs) ≡ true → IsOneOf f fs → f.tree ≡ Some t → are_apart (tree_places t) ≡ true
+made_apart [] f t apart at is = absurd at
+made_apart (g ∷ fs) f t apart (inl same) is =
+    let own : are_apart (places_of_block g.tree) ≡ true = apart_front (places_of_block g.tree) (made_places fs) (ap are_apart (sym (made_front g fs)) ∙ apart) in
+    apart_front (tree_places t) [] (subst (λ (o : Option Tree). are_apart (places_of_block o) ≡ true) (ap (λ (x : Finished). x.tree) same ∙ is) own)
+made_apart (g ∷ fs) f t apart (inr at) is =
+    made_apart fs f t (apart_behind (places_of_block g.tree) (made_places fs) (ap are_apart (sym (made_front g fs)) ∙ apart)) at is
 
 -- ---- what changes a name
 

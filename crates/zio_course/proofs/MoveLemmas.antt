@@ -1,5 +1,5 @@
 -- Steps of a run, one after another.
-use Rattle.std.proofs.Common.{◌≡◌, ℕ, suc, ◌+◌, ◌<◌, ◌≤◌, ◌^◌, List, [], ◌∷◌, ◌++◌, length, map, filter, Bool, true, false, not, ◌||◌, refl, sym, ap, ◌∙◌, subst, inl, inr, ◌⊎◌, arith, append_assoc, length-append, Result, Ok, Err}
+use Rattle.std.proofs.Common.{◌≡◌, ℕ, suc, ◌+◌, ◌<◌, ◌≤◌, ◌^◌, List, [], ◌∷◌, ◌++◌, length, filter, Bool, true, false, not, ◌||◌, refl, sym, ap, ◌∙◌, subst, inl, inr, ◌⊎◌, arith, append_assoc, length-append, Result, Ok, Err}
 use Rattle.std.specs.Prelude.{IfErr, IsErrAnd, OnOk, is_none, is_some, sum_by}
 use Rattle.std.specs.List.{AllByRecursion, flat_map}
 use Rattle.std.proofs.lemmas.List.{append-nil}
@@ -30,7 +30,7 @@ use Rattle.zio_report.specs.Reports.{RunSize, held_text}
 use Rattle.zio_course.specs.Folds.{IsSteady, SeenFold, has_items, requests_in_all, waiting_by, waiting_of}
 use Rattle.zio_course.specs.Moves.{HeldRan, IsGoing, LineCut, LineRan, StepCut, StepRan, requests_held}
 use Rattle.zio_course.specs.Runners.{Standing, rows_tell_apart}
-use Rattle.zio_course.specs.SoFar.{Ahead, IsCourseAt, IsCut, IsCutText, coming, images_after, names_after}
+use Rattle.zio_course.specs.SoFar.{Ahead, IsCourseAt, IsCut, coming, images_after, names_after}
 use Rattle.zio_course.proofs.CutLemmas.{Appends-none, written_then}
 use Rattle.zio_course.proofs.JoinLemmas.{rising_both, rising_join}
 use Rattle.zio_course.proofs.SoFarLemmas.{events_both, rounds_held, so_far_held}

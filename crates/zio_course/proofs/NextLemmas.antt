@@ -1,28 +1,25 @@
 -- The round of a batch, and that of a `clear`, as one round more of a run.
-use Rattle.std.proofs.Common.{◌≡◌, ℕ, ◌+◌, ◌<◌, ◌≤◌, List, [], ◌∷◌, ◌++◌, length, map, filter, reverse, count_by, Bool, true, false, ◌&&◌, ◌==◌, Option, Some, None, eqb, eqb-true, eq-eqb, refl, sym, ap, ◌∙◌, subst, inl, inr, arith, Contains, append_assoc}
-use Rattle.std.specs.Prelude.{is_none, is_some}
-use Rattle.std.specs.List.{AllByRecursion, flat_map}
-use Rattle.std.proofs.lemmas.List.{append-nil, reverse-append}
+use Rattle.std.proofs.Common.{◌≡◌, ℕ, ◌+◌, ◌<◌, List, [], ◌∷◌, ◌++◌, map, filter, reverse, Bool, true, false, ◌&&◌, ◌==◌, Option, Some, None, eq-eqb, refl, sym, ap, ◌∙◌, subst, inr, Contains, append_assoc}
+use Rattle.std.specs.List.{AllByRecursion}
 use Rattle.zio_types.specs.declared.error.Errno.{Errno}
 use Rattle.zio_types.specs.declared.journal.Completion.{Completion}
 use Rattle.zio_types.specs.declared.journal.Journal.{Journal}
 use Rattle.zio_types.specs.Choices.{Choice}
-use Rattle.zio_script.specs.declared.script.Failmode.{Failmode}
 use Rattle.zio_script.specs.declared.script.Item.{Item}
 use Rattle.zio_script.specs.declared.script.Request.{Request}
 use Rattle.zio_script.specs.declared.script.Script.{Script}
-use Rattle.zio_script.specs.Accepted.{AreBehindParents, AreRising, IsOrderlyBatch}
+use Rattle.zio_script.specs.Accepted.{AreRising, IsOrderlyBatch}
 use Rattle.zio_script.specs.Requests.{requests_of}
 use Rattle.zio_script.specs.declared.script.Work.{Work}
 use Rattle.zio_script.specs.declared.script.Work.TheVariants.{Null, Read, Write, Free, Claim}
 use Rattle.zio_cksum.specs.Images.{Images}
 use Rattle.zio_cksum.proofs.AllLemmas.{all_append, all_map, all_true, all_weaker}
 use Rattle.zio_gang.specs.declared.tree.Tree.{Tree}
-use Rattle.zio_gang.specs.Attempts.{Ended, Pending, Terms}
+use Rattle.zio_gang.specs.Attempts.{Ended, Pending}
 use Rattle.zio_gang.specs.Journals.{CompleteAfterChildren, CompleteOnce, choices_in}
 use Rattle.zio_gang.specs.Runs.Event.{RanRound}
-use Rattle.zio_gang.specs.Rounds.{admission, admit_with, answered_with, Admitted, Bound, NamesOnce, Ran, admitted, bind_made, block_of, bound_after, bound_by, bound_unless, is_bound, pending_trees, settle_each, trees_of, unbind}
-use Rattle.zio_gang.specs.Runs.{Batch, Course, Plan, Round, State, after_round, has_trees, is_panic, plan_of, round_of, rounds_of, run_batch, run_suspended, terms_of, then_course}
+use Rattle.zio_gang.specs.Rounds.{admission, admit_with, answered_with, Admitted, Bound, NamesOnce, Ran, admitted, bind_made, bound_after, bound_by, bound_unless, is_bound, pending_trees, settle_each, trees_of}
+use Rattle.zio_gang.specs.Runs.{Batch, Course, Plan, Round, State, after_round, has_trees, is_panic, plan_of, round_of, run_batch, run_suspended, terms_of, then_course}
 use Rattle.zio_gang.proofs.BoundLemmas.{NamesOnce-bind, NamesOnce-unbind}
 use Rattle.zio_gang.proofs.DependenceLemmas.{choices_law}
 use Rattle.zio_report.specs.declared.report.Line.{Line}
@@ -40,21 +37,21 @@ use Rattle.zio_course.specs.Entered.{IsBatchRun}
 use Rattle.zio_course.specs.Folds.{AreSuspended, SeenFold, counted_in, requests_in_all}
 use Rattle.zio_course.specs.Forests.{names_of, running}
 use Rattle.zio_course.specs.Live.{IsLive, IsRoundOver}
-use Rattle.zio_course.specs.Names.{is_some_name, named_in}
+use Rattle.zio_course.specs.Names.{is_some_name}
 use Rattle.zio_course.specs.Parents.{AreParented}
 use Rattle.zio_course.specs.Runners.{IsRound, IsRoundEnd, Standing, StandsAfter, completion_for, rows_tell_apart, terms_at}
 use Rattle.zio_course.specs.SoFar.{Ahead, IsCourseAt, coming}
-use Rattle.zio_course.specs.Steps.{IsAt, IsNextRound, IsPlanOf}
+use Rattle.zio_course.specs.Steps.{IsNextRound, IsPlanOf}
 use Rattle.zio_course.specs.Told.{no_error}
 use Rattle.zio_course.proofs.ClearLemmas.{suspended_round}
 use Rattle.zio_course.proofs.CompleteLemmas.{Completes, ends_complete, IsDone, IsOf, IsPast, Kin, back_all, below_batch, complete_next, kin_batch, kin_both, kin_unfinished, past_next, past_stays, round_completes}
-use Rattle.zio_course.proofs.DoneLemmas.{contains_one, one_contains}
+use Rattle.zio_course.proofs.DoneLemmas.{contains_one}
 use Rattle.zio_course.proofs.JoinLemmas.{rising_both, rising_join}
 use Rattle.zio_course.proofs.JournalLemmas.{filter_whole}
 use Rattle.zio_course.proofs.LiveLemmas.{live_after}
 use Rattle.zio_course.proofs.OverLemmas.{batch_over}
 use Rattle.zio_course.proofs.ParentLemmas.{batch_parented, ran_parented}
-use Rattle.zio_course.proofs.RoundLemmas.{IsNextOf, course_next, own_choices}
+use Rattle.zio_course.proofs.RoundLemmas.{course_next, own_choices}
 use Rattle.zio_course.proofs.SortLemmas.{IsOneOf, all_one, one_all, one_left, one_right}
 use Rattle.zio_course.proofs.StepLemmas.{batch_round}
 use Rattle.zio_course.proofs.SuspendedLemmas.{none_answered}

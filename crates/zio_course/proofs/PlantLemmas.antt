@@ -28,7 +28,7 @@ use Rattle.zio_course.specs.Names.{listed_in, named_in}
 use Rattle.zio_course.specs.Runners.{AreRisingFrom, IsChild, IsNewTree, Standing, Stays, fresh, joined_trees, numbers_of, root_of, roots_of, tree_over}
 use Rattle.zio_course.proofs.ForestLemmas.{above_apart, all_then, trees_from_back}
 
-eqb_back : (a b : ℕ) → eqb a b ≡ eqb b a
+pub eqb_back : (a b : ℕ) → eqb a b ≡ eqb b a
 eqb_back a b =
     same_from_decides (eqb a b) (eqb b a) (Decides-eqb a b)
     (Decides-like (eqb b a) (λ h. sym h) (λ h. sym h) (Decides-eqb b a))

@@ -1,5 +1,5 @@
 -- One round more of a run over images that are told.
-use Rattle.std.proofs.Common.{◌≡◌, ℕ, ◌+◌, ◌<◌, ◌≤◌, List, [], ◌∷◌, ◌++◌, length, map, filter, Bool, true, false, ◌&&◌, ◌==◌, Option, Some, None, refl, sym, ap, ◌∙◌, subst, inl, inr, arith, Contains, append_assoc, length-append}
+use Rattle.std.proofs.Common.{◌≡◌, ℕ, ◌+◌, ◌<◌, ◌≤◌, List, [], ◌∷◌, ◌++◌, length, filter, Bool, false, ◌&&◌, ◌==◌, Option, refl, sym, ap, ◌∙◌, subst, Contains, append_assoc, length-append}
 use Rattle.std.specs.Prelude.{is_none, is_some, sum_by}
 use Rattle.std.specs.List.{AllByRecursion, flat_map}
 use Rattle.std.proofs.lemmas.List.{append-nil}
@@ -7,39 +7,32 @@ use Rattle.std.proofs.lemmas.List.Elements.{filter-append}
 use Rattle.std.proofs.lemmas.List.Sums.{sum_by-append}
 use Rattle.zio_types.specs.declared.journal.Completion.{Completion}
 use Rattle.zio_types.specs.declared.journal.Journal.{Journal}
-use Rattle.zio_types.specs.declared.place.Place.{Place}
-use Rattle.zio_types.specs.declared.place.Top.{Top}
 use Rattle.zio_types.specs.declared.place.TopSize.{TopSize}
 use Rattle.zio_types.specs.Choices.{Choice}
-use Rattle.zio_script.specs.declared.script.Failmode.{Failmode}
 use Rattle.zio_script.specs.declared.script.Request.{Request}
 use Rattle.zio_script.specs.declared.script.Script.{Script}
 use Rattle.zio_script.specs.Accepted.{AreRising}
 use Rattle.zio_script.specs.Requests.{requests_of}
 use Rattle.zio_cksum.specs.Images.{Images}
-use Rattle.zio_cksum.proofs.AllLemmas.{all_append, all_weaker}
-use Rattle.zio_gang.specs.declared.tree.Tree.{Tree}
 use Rattle.zio_gang.specs.Attempts.{Ended, Pending}
 use Rattle.zio_gang.specs.Journals.{CompleteAfterChildren, CompleteOnce, choices_in}
-use Rattle.zio_gang.specs.Rounds.{Bound, NamesOnce, bind, bind_made, block_of, bound_after, bound_by, bound_unless, unbind}
+use Rattle.zio_gang.specs.Rounds.{Bound, NamesOnce}
 use Rattle.zio_gang.specs.Runs.{Course, Event, Plan, Round, State, after_round, has_trees, is_panic, plan_of, rounds_of, then_course}
-use Rattle.zio_gang.specs.Runs.Event.{RanRound, HeldBatch}
+use Rattle.zio_gang.specs.Runs.Event.{RanRound}
 use Rattle.zio_gang.specs.Trees.{sizes_of}
 use Rattle.zio_report.specs.declared.report.Line.{Line}
 use Rattle.zio_report.specs.declared.report.RoundHead.{RoundHead}
 use Rattle.zio_report.specs.declared.report.Show.{Show}
 use Rattle.zio_report.specs.Lines.{round_text}
-use Rattle.zio_report.specs.Reports.{RunSize, all_ended, bad_ended, good_ended, head_of}
-use Rattle.zio_course.specs.declared.fold.Tally.{Tally}
-use Rattle.zio_course.specs.Course.{IsEnteredSoFar, Reaches}
-use Rattle.zio_course.specs.Folds.{SeenFold, counted_in}
+use Rattle.zio_report.specs.Reports.{RunSize, all_ended, bad_ended, good_ended}
+use Rattle.zio_course.specs.Course.{IsEnteredSoFar}
+use Rattle.zio_course.specs.Folds.{SeenFold}
 use Rattle.zio_course.specs.Live.{IsLive}
-use Rattle.zio_course.specs.Names.{named_in}
 use Rattle.zio_course.specs.Parents.{AreParented}
 use Rattle.zio_course.specs.Runners.{Standing}
 use Rattle.zio_course.specs.SoFar.{Ahead, IsCourseAt, coming, images_after, names_after}
-use Rattle.zio_course.specs.Steps.{IsAt, IsNextRound, IsPlanOf}
-use Rattle.zio_course.proofs.JournalLemmas.{all_after, filter_whole, in_round}
+use Rattle.zio_course.specs.Steps.{IsNextRound}
+use Rattle.zio_course.proofs.JournalLemmas.{all_after, in_round}
 use Rattle.zio_course.proofs.LiveLemmas.{used_live}
 use Rattle.zio_course.proofs.SoFarLemmas.{reaches_next, rounds_push, so_far_round}
 

@@ -1,8 +1,7 @@
 -- Rounds of a run as the calls answer them: what is told after them, and where they are cut short.
-use Rattle.std.proofs.Common.{◌≡◌, ℕ, suc, ◌+◌, ◌<◌, ◌≤◌, List, [], ◌∷◌, ◌++◌, length, map, drop, filter, reverse, Bool, true, false, ◌&&◌, Option, Some, None, refl, sym, ap, ◌∙◌, subst, inl, inr, ◌*◌, ◌^◌, ◌||◌, length-append, arith, append_assoc, Result, Ok, Err}
+use Rattle.std.proofs.Common.{◌≡◌, ℕ, suc, ◌+◌, ◌≤◌, List, [], ◌∷◌, ◌++◌, length, map, drop, filter, reverse, Bool, ◌&&◌, Option, Some, None, refl, sym, ap, ◌∙◌, subst, inl, inr, ◌*◌, ◌^◌, ◌||◌, length-append, arith, Result, Ok, Err}
 use Rattle.std.specs.Prelude.{IfErr, IfSome, IsErrAnd, OnOk}
 use Rattle.std.specs.List.{AllByRecursion}
-use Rattle.std.proofs.lemmas.List.{append-nil}
 use Rattle.zio_types.specs.declared.error.Errno.{Errno}
 use Rattle.zio_types.specs.declared.journal.Completion.{Completion}
 use Rattle.zio_types.specs.declared.journal.Journal.{Journal}
@@ -15,8 +14,8 @@ use Rattle.zio_script.specs.Requests.{requests_of}
 use Rattle.zio_cksum.specs.Images.{Images}
 use Rattle.zio_gang.specs.declared.tree.Tree.{Tree}
 use Rattle.zio_gang.specs.Attempts.{Pending}
-use Rattle.zio_gang.specs.Rounds.{Bound, block_of, bound_after, pending_trees, trees_of}
-use Rattle.zio_gang.specs.Runs.{Batch, Course, Plan, State, has_trees, is_panic, run_batch, run_suspended, then_course}
+use Rattle.zio_gang.specs.Rounds.{Bound, bound_after, pending_trees, trees_of}
+use Rattle.zio_gang.specs.Runs.{Course, Plan, State, has_trees, is_panic, run_batch, run_suspended, then_course}
 use Rattle.zio_report.specs.declared.report.Line.{Line}
 use Rattle.zio_report.specs.declared.report.RunFault.{RunFault}
 use Rattle.zio_report.specs.declared.report.RunFault.TheVariants.{Memory}

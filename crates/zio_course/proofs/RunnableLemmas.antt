@@ -22,6 +22,7 @@ use Rattle.zio_course.specs.declared.admission.Rules.{Rules}
 use Rattle.zio_course.specs.Admissions.{IsAdmission, error_in}
 use Rattle.zio_course.specs.Admitted.{AreAwaited}
 use Rattle.zio_course.specs.Forests.{names_of, running, same_parent, trees_under}
+use Rattle.zio_course.specs.Live.{IsLive}
 use Rattle.zio_course.specs.Names.{is_some_name, named_in}
 use Rattle.zio_course.specs.Runners.{AreRisingFrom, AreRunnable, Standing, joined_trees, named_places, numbers_of, places_of_block, requests_in, roots_of, rows_tell_apart}
 use Rattle.zio_course.proofs.AdmittedLemmas.{rising_kept, trees_admitted}
@@ -29,6 +30,7 @@ use Rattle.zio_course.proofs.ClearLemmas.{times_if}
 use Rattle.zio_course.proofs.CourseLemmas.{once_counted, trees_all}
 use Rattle.zio_course.proofs.EndLemmas.{all_in_trees}
 use Rattle.zio_course.proofs.ForestLemmas.{trees_from_back}
+use Rattle.zio_course.proofs.FreedLemmas.{batch_blocks, named_freed}
 use Rattle.zio_course.proofs.PlantLemmas.{all_low, each_root, named_of, rising_are, roots_are}
 use Rattle.zio_course.proofs.RanLemmas.{AreTreesOf}
 use Rattle.zio_course.proofs.ReadyLemmas.{counting, counting_is}
@@ -154,23 +156,38 @@ block_live live bound true None h = tt
 block_live live bound false name h = tt
 
 module _ (live : List Place) (bound : List (List ℕ × Tree)) (birth : ℕ) (h : (n : List ℕ) → IfSome (named_in bound n) (λ tree. AllByRecursion (Contains live) (tree_places tree))) where
-  abbrev IsLive : Pending → Type 0
-  IsLive p = AllByRecursion (Contains live) (places_of_block p.block)
+  abbrev IsInUse : Pending → Type 0
+  IsInUse p = AllByRecursion (Contains live) (places_of_block p.block)
 
-  tree_live : (rs : List Request) (others : List Pending) → AllByRecursion IsLive others → AllByRecursion IsLive (map (pending (names_of bound) birth) rs ++ others)
+  tree_live : (rs : List Request) (others : List Pending) → AllByRecursion IsInUse others → AllByRecursion IsInUse (map (pending (names_of bound) birth) rs ++ others)
   tree_live [] others k = k
   tree_live (r ∷ rs) others k = (block_live live bound (needs_block r.work) (name_of r.work) h, tree_live rs others k)
 
-  each_live : (ts : List (List Request)) → AllByRecursion IsLive (joined_trees (pending_trees (names_of bound) birth ts))
+  each_live : (ts : List (List Request)) → AllByRecursion IsInUse (joined_trees (pending_trees (names_of bound) birth ts))
   each_live [] = tt
   each_live (t ∷ ts) = tree_live t (joined_trees (pending_trees (names_of bound) birth ts)) (each_live ts)
 
-  flat_live : (ps : List Pending) → AllByRecursion IsLive ps → AllByRecursion (Contains live) (flat_map (λ (p : Pending). places_of_block p.block) ps)
+  flat_live : (ps : List Pending) → AllByRecursion IsInUse ps → AllByRecursion (Contains live) (flat_map (λ (p : Pending). places_of_block p.block) ps)
   flat_live [] k = tt
   flat_live (p ∷ ps) k = all_append (Contains live) (places_of_block p.block) (flat_map (λ (q : Pending). places_of_block q.block) ps) k.0 (flat_live ps k.1)
 
   trees_live : (trees : List (List Request)) → AllByRecursion (Contains live) (named_places (pending_trees (names_of bound) birth trees))
   trees_live trees = flat_live (joined_trees (pending_trees (names_of bound) birth trees)) (each_live trees)
+
+-- ---- roots
+
+under_none : (under : Option ℕ) → same_parent under None ≡ true → under ≡ None
+under_none None e = refl
+under_none (Some n) e = absurd (let f = e in cc)
+
+all_under_none : (rs : List Request) → AllByRecursion (λ (r : Request). r.under ≡ None) (filter (λ (q : Request). same_parent q.under None) rs)
+all_under_none [] = tt
+all_under_none (r ∷ rs) = go (same_parent r.under None) refl (all_under_none rs)
+  where
+    go : (b : Bool) → same_parent r.under None ≡ b → AllByRecursion (λ (q : Request). q.under ≡ None) (filter (λ (q : Request). same_parent q.under None) rs)
+        → AllByRecursion (λ (q : Request). q.under ≡ None) (cond b (r ∷ filter (λ (q : Request). same_parent q.under None) rs) (filter (λ (q : Request). same_parent q.under None) rs))
+    go true e later = (under_none r.under e, later)
+    go false e later = later
 
 -- ---- all together
 
@@ -185,8 +202,7 @@ kept P test (q ∷ qs) h = go (test q) (kept P test qs h.1)
 pub batch_runnable : (s : Standing) (apart : Bool) (suspended : List (List Pending)) (awaited : List ℕ → Bool) (bound : List (List ℕ × Tree)) (number : ℕ) (items : List Item) (slots : List (ℕ × ℕ)) (rules : List Rules)
     → rows_tell_apart s.rows ≡ apart → AreRising (requests_of items) → IsOrderlyBatch apart (requests_of items) → AreAwaited suspended awaited
     → IsAdmission (has_trees suspended) awaited (is_some_name bound) (trees_of (requests_of items)) slots rules
-    → ((name : List ℕ) → IfSome (named_in bound name) (λ tree. AllByRecursion (Contains s.live) (tree_places tree)))
-    → AreRunnable s (pending_trees (names_of bound) number (trees_of (running slots rules items)))
+    → IsLive s.live bound → AreRunnable s (pending_trees (names_of bound) number (trees_of (running slots rules items)))
 batch_runnable s apart suspended awaited bound number items slots rules rows rising orderly waits admission_is live =
     let requests : List Request = requests_of items in
     let error : ℕ → Option Errno = error_in slots rules in
@@ -210,20 +226,24 @@ batch_runnable s apart suspended awaited bound number items slots rules rows ris
     all_in_trees (λ (r : Request). IsOneOf r requests) rs (kept (λ (r : Request). IsOneOf r requests) (λ (r : Request). is_none (error r.number)) requests (one_itself requests)) in
     let among : AllByRecursion (λ (r : Request). IsOneOf r requests) (requests_in trees) =
     joined_all (λ (r : Request). IsOneOf r requests) trees (trees_all (λ (r : Request). IsOneOf r requests) names number (trees_of rs) among_rs) in
+    let names_apart : NameApart apart (requests_in trees) = apart_of apart requests (requests_in trees) orderly.names among once in
     record {
       each = subst (λ (ts : List (List Request)). length (roots_of (pending_trees names number ts)) ≡ length (pending_trees names number ts)) under (each_root names number rs None);
       rising = subst (λ (ts : List (List Request)). AreRisingFrom 0 (numbers_of (roots_of (pending_trees names number ts)))) under
           (subst (λ (qs : List Request). AreRisingFrom 0 (numbers_of qs)) (sym (roots_are names number rs None))
           (rising_are (λ (q : Request). same_parent q.under None) 0 rs (all_low rs) rising_rs));
       once = λ n. subst (λ (k : ℕ). k ≤ 1) (sym (counted_by n (requests_in trees))) (once n);
-      apart = subst (λ (b : Bool). NameApart b (requests_in trees)) (sym rows) (apart_of apart requests (requests_in trees) orderly.names among once);
+      apart = subst (λ (b : Bool). NameApart b (requests_in trees)) (sym rows) names_apart;
       claim = λ has.
           (let alone : length requests ≡ 1 = orderly.claim (any_among (λ (r : Request). is_claim (kind_of r.work)) requests (requests_in trees) among has) in
           let some : 1 ≤ length (requests_in trees) = some_there (λ (r : Request). is_claim (kind_of r.work)) (requests_in trees) has in
           let sum = sums (λ (r : Request). 1) in
           let left : tally (λ (r : Request). 1) (requests_in trees) ≡ length (requests_in trees) = all_counted (requests_in trees) in
           let right : tally (λ (r : Request). 1) requests ≡ length requests = all_counted requests in omega arith);
-      live = trees_live s.live bound number live (trees_of rs);
+      live = trees_live s.live bound number live.there (trees_of rs);
+      under = subst (λ (ts : List (List Request)). AllByRecursion (λ (r : Request). r.under ≡ None) (roots_of (pending_trees names number ts))) under
+          (subst (AllByRecursion (λ (r : Request). r.under ≡ None)) (sym (roots_are names number rs None)) (all_under_none rs));
+      freed = named_freed s.live bound apart trees live names_apart (batch_blocks bound number (trees_of rs));
     }
 
 -- what holds of each request that has no error holds of those that are kept for having none

@@ -1,27 +1,22 @@
 -- The lines of a script, one after another.
-use Rattle.std.proofs.Common.{◌≡◌, ℕ, suc, ◌+◌, ◌-◌, ◌<◌, ◌≤◌, ◌^◌, List, [], ◌∷◌, ◌++◌, length, map, take, Bool, true, false, refl, sym, ap, ◌∙◌, subst, inl, inr, ◌⊎◌, arith, append_assoc, length-append}
+use Rattle.std.proofs.Common.{◌≡◌, ℕ, ◌-◌, List, [], ◌∷◌, ◌++◌, length, take, Bool, true, false, refl, sym, ap, ◌∙◌, subst, inl, inr, ◌⊎◌, arith, append_assoc, length-append}
 use Rattle.std.specs.List.{AllByRecursion}
 use Rattle.std.proofs.lemmas.List.{append-nil}
-use Rattle.zio_outside.specs.Outside.{Appends}
 use Rattle.zio_types.specs.declared.journal.Journal.{Journal}
 use Rattle.zio_types.specs.declared.place.Top.{Top}
-use Rattle.zio_faults.specs.declared.table.Row.{Row}
 use Rattle.zio_script.specs.declared.script.Failmode.{Failmode}
 use Rattle.zio_script.specs.declared.script.Item.{Item}
 use Rattle.zio_script.specs.declared.script.Item.TheVariants.{Request as RequestLine}
 use Rattle.zio_script.specs.declared.script.Request.{Request}
-use Rattle.zio_script.specs.declared.script.Script.{Script}
 use Rattle.zio_script.specs.Accepted.{IsOrderlyBatch, batches_from}
-use Rattle.zio_script.specs.Requests.{requests_of}
 use Rattle.zio_cksum.specs.Images.{Images}
-use Rattle.zio_gang.specs.Runs.{Batch, Course, Plan, State, line, line_if, plan_of, quiet, run_lines, then_course}
+use Rattle.zio_gang.specs.Runs.{Batch, Plan, State, line, line_if, plan_of, quiet, run_lines, then_course}
 use Rattle.zio_report.specs.declared.report.RunFault.{RunFault}
 use Rattle.zio_report.specs.declared.report.Show.{Show}
-use Rattle.zio_report.specs.Reports.{RunSize}
 use Rattle.zio_course.specs.Folds.{SeenFold}
 use Rattle.zio_course.specs.Moves.{LineCut, LineRan, LinesCut, LinesOver, LinesRan}
 use Rattle.zio_course.specs.Runners.{Standing, rows_tell_apart}
-use Rattle.zio_course.specs.SoFar.{Ahead, IsCourseAt, IsCut, IsCutText}
+use Rattle.zio_course.specs.SoFar.{Ahead, IsCourseAt, IsCut}
 use Rattle.zio_course.proofs.CutLemmas.{Appends-none, written_then}
 use Rattle.zio_course.proofs.MoveLemmas.{Appends-both, course_moved, course_same}
 

@@ -10,7 +10,7 @@ use Rattle.zio_script.specs.declared.script.Item.{Item}
 use Rattle.zio_script.specs.declared.script.Script.{Script}
 use Rattle.zio_script.specs.declared.script.ScriptFault.{ScriptFault}
 use Rattle.zio_script.specs.declared.why.Why.{Why}
-use Rattle.zio_script.specs.Grammar.{IsScriptIn, after_form, after_line, after_shape, after_words, ended, read_lines, read_on, read_short, script_with, unless_skipped, unless_why}
+use Rattle.zio_script.specs.Grammar.{IsScriptOf, after_line, after_shape, after_words, ended, read_lines, read_on, read_short, script_with, unless_skipped, unless_why}
 use Rattle.zio_script.specs.Lines.{ScriptLine, FailmodeLine, LeavesLine, FaultLine, RequestLine, GoLine, ClearLine, Shape, line_of, shape_of}
 use Rattle.zio_script.specs.Whys.{Before, least_why, nothing_before, whys_at_end, whys_of}
 use Rattle.zio_script.specs.Words.{Word, is_skipped, lines_of, without_empty_end, words_of}
@@ -82,17 +82,13 @@ after_shape_adds : (before : Before) (shape : Option Shape) → AddsOne before (
 after_shape_adds before None next e = absurd (let no_error = e in cc)
 after_shape_adds before (Some shape) next e = after_line_adds before (line_of shape) next e
 
-after_form_adds : (built : Bool) (before : Before) (words : List Word) → AddsOne before (after_form built before words)
-after_form_adds false before words next e = absurd (let no_error = e in cc)
-after_form_adds true before words next e = after_shape_adds before (shape_of words) next e
-
 skipped_adds : (skipped : Bool) (before : Before) (after : Result Before Why) → AddsOne before after → AddsOne before (unless_skipped skipped before after)
 skipped_adds true before after h next e = same_before before next (items_in before + 1) e (omega arith)
 skipped_adds false before after h next e = h next e
 
-words_add : (is_built : List Word → Bool) (before : Before) (words : List Word) → AddsOne before (after_words is_built before words)
-words_add is_built before words =
-    skipped_adds (is_skipped words) before (after_form (is_built words) before words) (after_form_adds (is_built words) before words)
+words_add : (before : Before) (words : List Word) → AddsOne before (after_words before words)
+words_add before words =
+    skipped_adds (is_skipped words) before (after_shape before (shape_of words)) (after_shape_adds before (shape_of words))
 
 end_items : (n : ℕ) (why : Option Why) (given script : Script) → ended n why given ≡ Ok script → length script.items ≤ length given.items
 end_items n None given script e = let same : given ≡ script = cc in subst (λ (x : Script). length x.items ≤ length given.items) same (omega arith)
@@ -106,24 +102,24 @@ next_items n before (Ok next) rest script more adds later e =
     let here : items_in next ≤ items_in before + 1 = adds next refl in
     let there : length script.items ≤ items_in next + more = later next e in omega arith
 
-read_items : (is_built : List Word → Bool) (n : ℕ) (lines : List Word) (before : Before) (script : Script) → read_lines is_built n lines before ≡ Ok script
+read_items : (n : ℕ) (lines : List Word) (before : Before) (script : Script) → read_lines n lines before ≡ Ok script
     → length script.items ≤ items_in before + length lines
 unfolding read_lines
-read_items is_built n [] before script e =
+read_items n [] before script e =
     let low : length script.items ≤ items_in before = end_items n (least_why (whys_at_end before.script)) before.script script e in omega arith
-read_items is_built n (line ∷ lines) before script e =
+read_items n (line ∷ lines) before script e =
     let most : length script.items ≤ items_in before + (length lines + 1) =
-    next_items n before (after_words is_built before (words_of line)) (read_lines is_built (n + 1) lines) script (length lines) (words_add is_built before (words_of line))
-    (λ next. λ is. read_items is_built (n + 1) lines next script is) e in omega arith
+    next_items n before (after_words before (words_of line)) (read_lines (n + 1) lines) script (length lines) (words_add before (words_of line))
+    (λ next. λ is. read_items (n + 1) lines next script is) e in omega arith
 
-short_items : (short : Bool) (is_built : List Word → Bool) (text : List ℕ) (script : Script) → nat_le (length text) SCRIPT_LEN_MAX ≡ short → read_short short is_built text ≡ Ok script
+short_items : (short : Bool) (text : List ℕ) (script : Script) → nat_le (length text) SCRIPT_LEN_MAX ≡ short → read_short short text ≡ Ok script
     → length script.items ≤ SCRIPT_LEN_MAX + 1
-short_items false is_built text script short e = absurd (let no_error = e in cc)
-short_items true is_built text script short e =
+short_items false text script short e = absurd (let no_error = e in cc)
+short_items true text script short e =
     let low : length text ≤ SCRIPT_LEN_MAX = leb-true (length text) SCRIPT_LEN_MAX short in
     let lines : length (lines_of text) ≤ length text + 1 = few_lines text in
-    let items : length script.items ≤ 0 + length (lines_of text) = read_items is_built 1 (lines_of text) nothing_before script e in omega arith
+    let items : length script.items ≤ 0 + length (lines_of text) = read_items 1 (lines_of text) nothing_before script e in omega arith
 
 -- An accepted script has no more items than its text has bytes, and one.
-pub few_items : (is_built : List Word → Bool) (text : List ℕ) (script : Script) → IsScriptIn is_built text script → length script.items ≤ SCRIPT_LEN_MAX + 1
-few_items is_built text script is = short_items (nat_le (length text) SCRIPT_LEN_MAX) is_built text script refl is
+pub few_items : (text : List ℕ) (script : Script) → IsScriptOf text script → length script.items ≤ SCRIPT_LEN_MAX + 1
+few_items text script is = short_items (nat_le (length text) SCRIPT_LEN_MAX) text script refl is

@@ -1,45 +1,40 @@
 -- Trees that wait for the next `clear`: they are runnable, and what a round leaves waits so.
-use Rattle.std.proofs.Common.{◌≡◌, ℕ, ◌+◌, ◌<◌, ◌≤◌, List, [], ◌∷◌, ◌++◌, length, map, filter, count_by, Bool, true, false, ◌&&◌, ◌||◌, not, cond, Option, Some, None, eqb, eqb-true, eq-eqb, refl, sym, ap, ◌∙◌, subst, inl, inr, ◌⊎◌, arith, Contains, bytes_eq}
-use Rattle.std.specs.Prelude.{is_none, is_some, option_to_list}
-use Rattle.std.specs.List.{AllByRecursion, flat_map, list_any}
-use Rattle.std.proofs.lemmas.Bool.{false_from_ne_true}
+use Rattle.std.proofs.Common.{◌≡◌, ℕ, ◌+◌, ◌≤◌, List, [], ◌∷◌, ◌++◌, map, filter, count_by, Bool, true, false, ◌&&◌, not, cond, Option, Some, None, eqb, eqb-true, refl, sym, ap, ◌∙◌, subst, inl, inr, ◌⊎◌, arith, Contains}
+use Rattle.std.specs.Prelude.{is_none, is_some}
+use Rattle.std.specs.List.{AllByRecursion, flat_map}
 use Rattle.zio_types.specs.declared.error.Errno.{Errno}
 use Rattle.zio_types.specs.declared.place.Place.{Place}
 use Rattle.zio_types.specs.declared.request.Kind.{Kind}
 use Rattle.zio_types.specs.declared.request.Kind.TheVariants.{Null as NullKind, Read as ReadKind, Write as WriteKind, Free as FreeKind, Claim as ClaimKind}
 use Rattle.zio_script.specs.declared.script.Request.{Request}
 use Rattle.zio_script.specs.declared.script.Work.{Work}
-use Rattle.zio_script.specs.Accepted.{AreRising, NameApart}
+use Rattle.zio_script.specs.Accepted.{NameApart}
 use Rattle.zio_script.specs.Requests.{kind_of, makes_block, name_of, names_it, needs_block}
 use Rattle.zio_script.specs.Whys.{clashes, is_read, may_share}
 use Rattle.zio_cksum.proofs.AllLemmas.{all_append, all_map, all_weaker, all_true}
 use Rattle.zio_gang.specs.declared.tree.Tree.{Tree}
 use Rattle.zio_gang.specs.Attempts.{Ended, Pending}
-use Rattle.zio_gang.specs.Rounds.{Bound, block_if, block_of, bound_after, passes}
-use Rattle.zio_gang.specs.Trees.{tree_places}
-use Rattle.zio_report.specs.declared.report.Line.{Line}
-use Rattle.zio_report.specs.declared.report.LineResult.{LineResult}
-use Rattle.zio_report.specs.Reports.{good_result, line_of_ended, result_with, sized_by}
+use Rattle.zio_gang.specs.Rounds.{block_if, block_of, bound_after, passes}
+use Rattle.zio_report.specs.Reports.{good_result, result_with, sized_by}
 use Rattle.zio_course.specs.declared.runner.Finished.{Finished}
 use Rattle.zio_course.specs.declared.runner.RoundEnd.{RoundEnd}
 use Rattle.zio_course.specs.Folds.{AreSuspended, waiting_by, waiting_of}
 use Rattle.zio_course.specs.Forests.{names_of}
 use Rattle.zio_course.specs.Live.{IsLive, IsRoundOver}
 use Rattle.zio_course.specs.Names.{is_some_name, named_in}
-use Rattle.zio_course.specs.Runners.{AreRunnable, IsRoundEnd, Standing, has_claim, is_numbered, joined_trees, named_places, numbers_of, places_of_block, requests_in, roots_of, rows_tell_apart}
-use Rattle.zio_course.specs.Steps.{AreUnfinished}
+use Rattle.zio_course.specs.Runners.{AreRunnable, IsRoundEnd, Standing, has_claim, is_numbered, joined_trees, numbers_of, places_of_block, requests_in, rows_tell_apart}
 use Rattle.zio_course.specs.Told.{ended_as, ended_told, finish_of, line_by, line_told, no_error}
 use Rattle.zio_course.proofs.AdmittedLemmas.{not_both, rising_kept}
 use Rattle.zio_course.proofs.CourseLemmas.{once_counted}
 use Rattle.zio_course.proofs.DoneLemmas.{contains_one, one_contains}
 use Rattle.zio_course.proofs.EndLemmas.{times, times_is}
-use Rattle.zio_course.proofs.LeftLemmas.{RestIn, counted_left, left_times, once_in, rests_each, rests_in, rests_rising, roots_there}
+use Rattle.zio_course.proofs.FreedLemmas.{named_freed}
+use Rattle.zio_course.proofs.LeftLemmas.{RestIn, counted_left, left_times, once_in, rests_each, rests_in, rests_rising, rests_roots, roots_there}
 use Rattle.zio_course.proofs.LiveLemmas.{ToldEnd, told_ends}
-use Rattle.zio_course.proofs.MadeLemmas.{filtered_one, same_bytes}
+use Rattle.zio_course.proofs.MadeLemmas.{filtered_one}
 use Rattle.zio_course.proofs.PlantLemmas.{named_of}
 use Rattle.zio_course.proofs.RunnableLemmas.{apart_of, block_live, clash_swap}
-use Rattle.zio_course.proofs.SortLemmas.{IsOneOf, all_one, counted, one_all, one_itself, one_map}
-use Rattle.zio_course.proofs.StepLemmas.{Found, found_there, some_same}
+use Rattle.zio_course.proofs.SortLemmas.{IsOneOf, all_one, counted, one_all, one_itself}
 use Rattle.zio_course.proofs.ToldLemmas.{kept_of}
 use Rattle.zio_course.proofs.TouchLemmas.{Changes, after_untouched, changes, not_shared, touch, two_apart}
 
@@ -58,17 +53,21 @@ suspended_runnable s bound suspended unfinished w live =
     let same = w.numbers.each n in
     let left = counted_left n unfinished in
     let most : counted (λ (r : Request). r.number) n unfinished ≤ 1 = once_counted n unfinished w.numbers.rising in omega arith) in
+    let names : NameApart (rows_tell_apart s.rows) (requests_in suspended) =
+    apart_of (rows_tell_apart s.rows) unfinished (requests_in suspended) w.over.names
+    (all_weaker (Contains unfinished) (λ (r : Request). IsOneOf r unfinished) (requests_in suspended) (λ r h. contains_one r unfinished h) w.numbers.among)
+    (λ n. let a = once_in n suspended in let b = counted_left n (requests_in suspended) in let c = few n in omega arith) in
     record {
       each = w.each;
       rising = w.rising;
       once = few;
-      apart = apart_of (rows_tell_apart s.rows) unfinished (requests_in suspended) w.over.names
-          (all_weaker (Contains unfinished) (λ (r : Request). IsOneOf r unfinished) (requests_in suspended) (λ r h. contains_one r unfinished h) w.numbers.among)
-          (λ n. let a = once_in n suspended in let b = counted_left n (requests_in suspended) in let c = few n in omega arith);
+      apart = names;
       claim = λ has. not_both (has_claim (requests_in suspended)) has w.claims;
       live = flat_live s.live (joined_trees suspended)
           (all_weaker (λ (p : Pending). p.block ≡ block_if (needs_block p.request.work) (name_of p.request.work) (names_of bound)) (λ (p : Pending). AllByRecursion (Contains s.live) (places_of_block p.block)) (joined_trees suspended)
           (λ p is. subst (λ (o : Option Tree). AllByRecursion (Contains s.live) (places_of_block o)) (sym is) (block_live s.live bound (needs_block p.request.work) (name_of p.request.work) live.there)) w.over.blocks);
+      under = w.under;
+      freed = named_freed s.live bound (rows_tell_apart s.rows) suspended live names w.over.blocks;
     }
 
 -- ---- which requests wait
@@ -272,6 +271,7 @@ left_suspended s round apart trees end requests error bound after runs over know
       };
       each = rests_each trees end.left over.rests;
       rising = rests_rising trees end.left 0 (roots_there trees runs.each) over.rests runs.rising;
+      under = rests_roots (λ (r : Request). r.under ≡ None) trees end.left (roots_there trees runs.each) over.rests runs.under;
       claims = over.claims;
     }
   where

@@ -1,7 +1,6 @@
 -- What a run has between two rounds, whether images are told or not.
-use Rattle.std.specs.Prelude.{◌≡◌, ℕ, ◌+◌, ◌*◌, ◌^◌, ◌≤◌, List, [], ◌∷◌, ◌++◌, length, map, Bool, true, false, ◌||◌, ◌&&◌, Some, None, IfSome}
+use Rattle.std.specs.Prelude.{◌≡◌, ℕ, ◌+◌, ◌*◌, ◌^◌, ◌≤◌, List, [], ◌∷◌, ◌++◌, length, map, Bool, true, false, Some, None, IfSome}
 use Rattle.std.specs.List.{AllByRecursion, flat_map, list_any}
-use Rattle.zio_script.specs.declared.script.Failmode.{Failmode}
 use Rattle.zio_script.specs.declared.script.Request.{Request}
 use Rattle.zio_script.specs.Requests.{name_of, names_it, requests_of}
 use Rattle.zio_gang.specs.declared.tree.Tree.{Tree}
@@ -94,12 +93,13 @@ has_items (x ∷ xs) = true
 -- ---- what is known
 
 -- Trees that wait for the next `clear`, and their requests by number: as when a round is over in which nothing was answered;
--- each has a root, the roots' numbers rise, and no claim is among them.
+-- each has a root, which stands under no request, the roots' numbers rise, and no claim is among them.
 pub record AreSuspended (apart : Bool) (bound : List (List ℕ × Tree)) (suspended : List (List Pending)) (unfinished : List Request) : Type 0 where
   pub over : IsRoundOver apart bound no_error unfinished suspended
   pub numbers : AreUnfinished suspended unfinished
   pub each : length (roots_of suspended) ≡ length suspended
   pub rising : AreRisingFrom 0 (numbers_of (roots_of suspended))
+  pub under : AllByRecursion (λ (r : Request). r.under ≡ None) (roots_of suspended)
   pub claims : has_claim (requests_in suspended) ≡ false
 
 -- A run between two rounds over a runner: its bound blocks are those in use and may be read, its trees are suspended, their

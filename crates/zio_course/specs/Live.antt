@@ -3,6 +3,7 @@ use Rattle.std.specs.Prelude.{◌≡◌, ℕ, List, Bool, true, false, Option, S
 use Rattle.std.specs.List.{AllByRecursion}
 use Rattle.zio_types.specs.declared.error.Errno.{Errno}
 use Rattle.zio_types.specs.declared.place.Place.{Place}
+use Rattle.zio_types.specs.Places.{are_apart, meets}
 use Rattle.zio_script.specs.declared.script.Request.{Request}
 use Rattle.zio_script.specs.Accepted.{AreRising, NameApart}
 use Rattle.zio_script.specs.Requests.{makes_block, name_of, needs_block}
@@ -21,12 +22,16 @@ pub record IsBoundPlace (bound : List (List ℕ × Tree)) (p : Place) : Type 0 w
   pub is : named_in bound name ≡ Some tree
   pub at : Contains (tree_places tree) p
 
--- The places of all bound blocks are in use, and no others, and two names have no place in common.
+-- The places of all bound blocks are in use, and no others; two names have no place in common; and no two places of a block
+-- meet, nor places of the blocks of two names.
 pub record IsLive (live : List Place) (bound : List (List ℕ × Tree)) : Type 0 where
   pub there : (name : List ℕ) → IfSome (named_in bound name) (λ tree. AllByRecursion (Contains live) (tree_places tree))
   pub back : (p : Place) → Contains live p → IsBoundPlace bound p
   pub apart : (n m : List ℕ) (t u : Tree) (p : Place) → named_in bound n ≡ Some t → named_in bound m ≡ Some u
       → Contains (tree_places t) p → Contains (tree_places u) p → n ≡ m
+  pub own : (name : List ℕ) → IfSome (named_in bound name) (λ tree. are_apart (tree_places tree) ≡ true)
+  pub between : (n m : List ℕ) (t u : Tree) (p q : Place) → named_in bound n ≡ Some t → named_in bound m ≡ Some u
+      → Contains (tree_places t) p → Contains (tree_places u) q → meets p q ≡ true → n ≡ m
 
 -- What is known of the trees of a round: their requests are some of these, by number and apart by names, which admission let
 -- run; each has the block that its name has where it needs one, and its name has none where it makes one.

@@ -6,7 +6,7 @@ use Rattle.zio_types.specs.declared.journal.Completion.{Completion}
 use Rattle.zio_types.specs.declared.place.Place.{Place}
 use Rattle.zio_types.specs.declared.place.Top.{Top}
 use Rattle.zio_types.specs.Choices.{Choice}
-use Rattle.zio_types.specs.Places.{end_of, is_inside, are_open, sector_size}
+use Rattle.zio_types.specs.Places.{are_apart, are_open, end_of, is_inside, sector_size}
 use Rattle.zio_faults.specs.declared.table.Row.{Row}
 use Rattle.zio_blkptr.specs.declared.pointer.TheConstants.{BLOCK_SIZE_MAX}
 use Rattle.zio_script.specs.declared.limits.TheConstants.{CHILDREN_MAX}
@@ -101,6 +101,18 @@ places_of_block block = flat_map tree_places (option_to_list block)
 abbrev pub named_places : List (List Pending) → List Place
 named_places trees = flat_map (λ (p : Pending). places_of_block p.block) (joined_trees trees)
 
+-- the places of the block that a free names
+abbrev pub freed_by : Work → Option Tree → List Place
+freed_by Null block = []
+freed_by (Read name prio) block = []
+freed_by (Write name sum copies prio body) block = []
+freed_by (Free name) block = places_of_block block
+freed_by (Claim name pointer) block = []
+
+-- the places of the blocks that frees of these trees name
+abbrev pub places_to_free : List (List Pending) → List Place
+places_to_free trees = flat_map (λ (p : Pending). freed_by p.request.work p.block) (joined_trees trees)
+
 -- a fault row tells two reads of one block apart
 abbrev pub rows_tell_apart : List Row → Bool
 rows_tell_apart rows = list_any (λ (row : Row). row.first || is_flip row.kind) rows
@@ -108,8 +120,9 @@ rows_tell_apart rows = list_any (λ (row : Row). row.first || is_flip row.kind) 
 abbrev pub has_claim : List Request → Bool
 has_claim requests = list_any (λ (r : Request). is_claim (kind_of r.work)) requests
 
--- Which trees a round may have: none is empty, their roots' numbers rise, no number stands twice, no two requests name one
--- block but for reads that no row tells apart, a claim is alone, and what reads and frees were given is in use.
+-- Which trees a round may have: none is empty, their roots stand under no request, the roots' numbers rise, no number stands
+-- twice, no two requests name one block but for reads that no row tells apart, a claim is alone, what reads and frees were
+-- given is in use, and no two places of the blocks that are to be freed meet.
 pub record AreRunnable (s : Standing) (trees : List (List Pending)) : Type 0 where
   pub each : length (roots_of trees) ≡ length trees
   pub rising : AreRisingFrom 0 (numbers_of (roots_of trees))
@@ -117,6 +130,8 @@ pub record AreRunnable (s : Standing) (trees : List (List Pending)) : Type 0 whe
   pub apart : NameApart (rows_tell_apart s.rows) (requests_in trees)
   pub claim : has_claim (requests_in trees) ≡ true → length (requests_in trees) ≡ 1
   pub live : AllByRecursion (Contains s.live) (named_places trees)
+  pub under : AllByRecursion (λ (r : Request). r.under ≡ None) (roots_of trees)
+  pub freed : are_apart (places_to_free trees) ≡ true
 
 -- ---- what a round gives
 
@@ -209,13 +224,6 @@ made_trees finished = flat_map (λ (f : Finished). option_to_list f.tree) finish
 -- the places of the blocks that were made
 abbrev pub made_places : List Finished → List Place
 made_places finished = flat_map tree_places (made_trees finished)
-
-abbrev pub freed_by : Work → Option Tree → List Place
-freed_by Null block = []
-freed_by (Read name prio) block = []
-freed_by (Write name sum copies prio body) block = []
-freed_by (Free name) block = places_of_block block
-freed_by (Claim name pointer) block = []
 
 -- the places of the blocks whose free finished without error
 abbrev pub freed_places : List (List Pending) → List Finished → List Place

@@ -1,11 +1,10 @@
 -- Where the run of a script is in its course, over images that are told.
-use Rattle.std.specs.Prelude.{◌≡◌, ℕ, ◌⊎◌, List, [], ◌∷◌, ◌++◌, length, map, sum_by, Bool, false, ◌==◌, Contains}
+use Rattle.std.specs.Prelude.{◌≡◌, ℕ, ◌⊎◌, List, [], ◌∷◌, ◌++◌, length, sum_by, false, ◌==◌, Contains}
 use Rattle.std.specs.List.{AllByRecursion}
 use Rattle.zio_outside.specs.Outside.{Appends, AppendsFront}
 use Rattle.zio_types.specs.declared.journal.Completion.{Completion}
 use Rattle.zio_types.specs.declared.journal.Journal.{Journal}
 use Rattle.zio_types.specs.declared.place.Top.{Top}
-use Rattle.zio_script.specs.declared.script.Item.{Item}
 use Rattle.zio_script.specs.declared.script.Request.{Request}
 use Rattle.zio_script.specs.declared.script.Script.{Script}
 use Rattle.zio_script.specs.Accepted.{AreRising}
@@ -15,14 +14,13 @@ use Rattle.zio_gang.specs.declared.ending.Ending.{Ending}
 use Rattle.zio_gang.specs.Attempts.{Ended, Pending}
 use Rattle.zio_gang.specs.Journals.{AreCompletions, IsLawfulJournal}
 use Rattle.zio_gang.specs.Rounds.{Bound, NamesOnce, admitted, is_bound, pending_trees, trees_of, used_places}
-use Rattle.zio_gang.specs.Runs.{Batch, Course, Event, Plan, Round, State, ending, plan_of, quiet, rounds_of, run_batch, run_script, run_suspended, then_course}
+use Rattle.zio_gang.specs.Runs.{Batch, Course, Event, Plan, Round, State, ending, plan_of, rounds_of, run_batch, run_script, run_suspended, then_course}
 use Rattle.zio_gang.specs.Trees.{sizes_of}
 use Rattle.zio_report.specs.declared.report.RunFault.{RunFault}
 use Rattle.zio_report.specs.declared.report.RunFault.TheVariants.{Device, Sink, Memory}
 use Rattle.zio_report.specs.declared.report.Show.{Show}
 use Rattle.zio_report.specs.Meanings.{records_of, tops_of}
 use Rattle.zio_report.specs.Reports.{RunSize, bad_ended, good_ended, run_text}
-use Rattle.zio_course.specs.declared.fold.Tally.{Tally}
 use Rattle.zio_course.specs.Course.{IsEnteredSoFar, Reaches}
 use Rattle.zio_course.specs.Folds.{SeenFold, requests_in_all}
 use Rattle.zio_course.specs.Parents.{AreParented}

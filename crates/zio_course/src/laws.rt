@@ -1,4 +1,4 @@
-ghost use Rattle.std.specs.Prelude.{◌≡◌, ◌&&◌, ◌+◌, ◌<◌, ◌≤◌, ◌++◌, ◌∷◌, ℕ, Bool, List, [], Contains, IfSome, count_by, filter, is_none, length, None, Option, Some, reverse};
+ghost use Rattle.std.specs.Prelude.{◌≡◌, ◌&&◌, ◌+◌, ◌<◌, ◌≤◌, ◌++◌, ◌∷◌, ℕ, Bool, List, [], Contains, count_by, filter, is_none, length, None, Option, Some, reverse};
 ghost use Rattle.std.specs.List.{AllByRecursion};
 ghost use Rattle.zio_types.specs.declared.journal.Completion.{Completion};
 ghost use Rattle.zio_types.specs.declared.place.TopSize.{TopSize};
@@ -9,9 +9,8 @@ ghost use Rattle.zio_types.specs.Places.{SamePlaces};
 ghost use Rattle.zio_script.specs.declared.script.Script.{Script};
 ghost use Rattle.zio_types.specs.declared.journal.Journal.{Journal};
 ghost use Rattle.zio_script.specs.Accepted.{AreBehindParents, AreRising, IsOrderlyBatch, NameApart};
-ghost use Rattle.zio_script.specs.Grammar.{IsScriptIn};
+ghost use Rattle.zio_script.specs.Grammar.{IsScriptOf};
 ghost use Rattle.zio_script.specs.Requests.{requests_of};
-ghost use Rattle.zio_script.specs.Words.{Word};
 ghost use Rattle.zio_script.specs.declared.read.TheConstants.{SCRIPT_LEN_MAX};
 ghost use Rattle.zio_script.specs.declared.script.Failmode.{Failmode};
 ghost use Rattle.zio_script.specs.declared.script.Item.{Item};
@@ -23,7 +22,6 @@ ghost use Rattle.zio_gang.specs.Journals.{AreChoicesOf, AreCompletionsOf, Comple
 ghost use Rattle.zio_gang.specs.Rounds.{Bound, NamesOnce, admitted, block_of, bound_after, pending_trees, settle_each, trees_of, used_places};
 ghost use Rattle.zio_gang.specs.Runs.{Course, Event, Plan, Round, State, after_round, has_trees, plan_of, run_batch, run_suspended, then_course};
 ghost use Rattle.zio_gang.specs.Runs.Event.{RanRound, HeldBatch};
-ghost use Rattle.zio_gang.specs.Trees.{tree_places};
 ghost use Rattle.zio_report.specs.declared.report.Line.{Line};
 ghost use Rattle.zio_report.specs.declared.report.RoundHead.{RoundHead};
 ghost use Rattle.zio_report.specs.declared.report.Show.{Show};
@@ -122,13 +120,12 @@ pub fn an_orderly_batch_is_ready()
         → AreReady number bound (running slots rules items) }
 {}
 
-/// Its trees are runnable too, where the places of all bound blocks are in use.
+/// Its trees are runnable too, where the places in use are those of the bound blocks.
 pub fn an_orderly_batch_is_runnable()
     ensures { (s : Standing) (apart : Bool) (suspended : List (List Pending)) (awaited : List ℕ → Bool) (bound : List (List ℕ × Tree)) (number : ℕ) (items : List Item) (slots : List (ℕ × ℕ)) (rules : List Rules) →
         rows_tell_apart s.rows ≡ apart → AreRising (requests_of items) → IsOrderlyBatch apart (requests_of items) → AreAwaited suspended awaited
         → IsAdmission (has_trees suspended) awaited (is_some_name bound) (trees_of (requests_of items)) slots rules
-        → ((name : List ℕ) → IfSome (named_in bound name) (λ tree. AllByRecursion (Contains s.live) (tree_places tree)))
-        → AreRunnable s (pending_trees (names_of bound) number (trees_of (running slots rules items))) }
+        → IsLive s.live bound → AreRunnable s (pending_trees (names_of bound) number (trees_of (running slots rules items))) }
 {}
 
 /// The places in use are those of the blocks that are bound, and stay so over a round: those of blocks that were freed
@@ -157,11 +154,11 @@ pub fn a_round_leaves_runnable_trees()
 
 /// An accepted script has few items, so the numbers of its rounds and batches fit.
 pub fn accepted_scripts_are_short()
-    ensures { (is_built : List Word → Bool) (text : List ℕ) (script : Script) → IsScriptIn is_built text script → length script.items ≤ SCRIPT_LEN_MAX + 1 }
+    ensures { (text : List ℕ) (script : Script) → IsScriptOf text script → length script.items ≤ SCRIPT_LEN_MAX + 1 }
 {}
 
-/// Parents wait for their children: in the trees of a batch each request comes before its parent, and where a round leaves a
-/// request it leaves its parent.
+/// In the trees of a batch the parent of each request that stands under one comes behind it in its tree; and where that
+/// holds of the trees of a round, it holds of what the round leaves of them.
 pub fn parents_wait_for_children()
     ensures batch { (names : Bound) (birth : ℕ) (requests : List Request) → AllByRecursion AreParented (pending_trees names birth (trees_of requests)) }
     ensures round { (j : List Choice) (t : Terms) (trees : List (List Pending)) (images : Images) → AllByRecursion AreParented trees

@@ -1,6 +1,6 @@
 //! The lines of a script in turn.
 
-ghost use Rattle.std.specs.Prelude.{◌≡◌, ◌++◌, ◌+◌, ◌<◌, ◌^◌, [], ℕ, List, IfErr, IsErrOf, OnOk, length};
+ghost use Rattle.std.specs.Prelude.{◌≡◌, ◌++◌, ◌+◌, ◌<◌, ◌^◌, [], ℕ, List, IfErr, IsErrOf, OnOk, false, length};
 ghost use Rattle.zio_outside.specs.Outside.{Rose};
 ghost use Rattle.zio_script.specs.declared.script.Item.{Item as SeenItem};
 ghost use Rattle.zio_script.specs.Accepted.{batches_from};
@@ -40,6 +40,7 @@ pub fn run_lines<'a, R: Runner, O: Sink>(
     ensures cut { IfErr result (LinesCut show.now failmode (R.standing runner.old) (fold_seen R.pending fold.old) items.now
         journal.old journal.new (R.tells runner.old) (R.tells runner.new) (O.holds out.old) (O.holds out.new)) }
     ensures last { OnOk result ((R.standing runner.new).last ≡ journal.new.rounds) }
+    ensures runs { OnOk result ((R.standing runner.new).stopped ≡ false) }
     ensures tops { (R.standing runner.new).tops ≡ (R.standing runner.old).tops }
     ensures rows { (R.standing runner.new).rows ≡ (R.standing runner.old).rows }
     ensures faults { OnOk result ((R.standing runner.new).faults ≡ (R.standing runner.old).faults) }

@@ -16,9 +16,8 @@ ghost use Rattle.zio_gang.specs.Runs.{run_script};
 ghost use Rattle.zio_gang.specs.Trees.{walk_kept};
 ghost use Rattle.zio_script.specs.declared.script.Request.{Request};
 ghost use Rattle.zio_script.specs.declared.script.Script.{Script};
-ghost use Rattle.zio_script.specs.Grammar.{IsScriptIn};
+ghost use Rattle.zio_script.specs.Grammar.{IsScriptOf};
 ghost use Rattle.zio_script.specs.Requests.{requests_of};
-ghost use Rattle.zio_script.specs.Words.{Word};
 
 /// The bound names are a map: a name that is bound has its block, one that is unbound has none, no name stands twice,
 /// and no other name is touched.
@@ -71,8 +70,8 @@ pub fn a_tree_is_read_by_its_pieces()
 /// as ended in its rounds, are left in suspended trees, stand in held batches, and are unrun behind a panic. Since
 /// numbers rise, each request is in one of these, once.
 pub fn each_request_has_one_fate()
-    ensures { (is_built : List Word → Bool) (text : List ℕ) (script : Script) (images : Images) (journal : List Choice)
-        (kind : Request → Bool) → IsScriptIn is_built text script →
+    ensures { (text : List ℕ) (script : Script) (images : Images) (journal : List Choice)
+        (kind : Request → Bool) → IsScriptOf text script →
         let course = run_script script images journal in
         count_by kind (requests_of script.items) ≡ count_by kind (ended_requests course.events)
         + count_by kind (suspended_requests course.state) + count_by kind (held_requests course.state)

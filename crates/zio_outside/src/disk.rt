@@ -3,8 +3,8 @@ ghost use Rattle.zio_outside.specs.Outside.{CountsFault, Keeps, ReadsAt, TearsAt
 
 use crate::Failed;
 
-/// A device of a fixed size, in bytes.
-pub trait Disk: Send {
+/// A device of a fixed size, in bytes. Who hands one to another thread asks for `Send` beside.
+pub trait Disk {
     /// How often it has failed.
     ghost faults: { Self → ℕ };
 
@@ -49,6 +49,9 @@ pub trait Disk: Send {
 
     /// An image that is told has the disk's size.
     ghost has_size: { (disk : Self) (content : List ℕ) → image disk content → length content ≡ bytes disk };
+
+    /// It tells one image.
+    ghost one_image: { (disk : Self) (a b : List ℕ) → image disk a → image disk b → a ≡ b };
 
     /// A count never passes its last value.
     ghost counts: { (disk : Self) → faults disk ≤ count_max };

@@ -1,5 +1,5 @@
 ghost use Rattle.std.specs.Prelude.{◌≡◌, ◌<◌, ◌≤◌, ◌+◌, ◌↔◌, List, [], length, Option, None, Some, IsErr, IsOk, IsTrue, OnErr, OnOk};
-ghost use Rattle.std.proofs.Common.{ap};
+ghost use Rattle.std.proofs.Common.{◌∙◌, ap, sym};
 ghost use Rattle.std.specs.List.{Contains};
 ghost use Rattle.std.specs.Option.{option_copied};
 ghost use Rattle.zio_outside.specs.Outside.{CountsFault, ReadsAt, TearsAt, WritesAt, counted};
@@ -176,6 +176,8 @@ impl Disk for MemDisk {
     }
 
     ghost has_size = { λ d content told. ap length told };
+
+    ghost one_image = { λ d a b told other. told ∙ sym other };
 
     ghost counts = { λ d. d.calls.in_range };
 

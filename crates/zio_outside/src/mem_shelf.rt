@@ -284,6 +284,7 @@ impl Shelf for MemShelf {
             Raised (shelf_disk_faults self.old) (shelf_disk_faults self.new) }
         ensures same { disk_faults_at_fetch disk ≡ disk_faults disk →
             shelf_disk_faults self.new ≡ shelf_disk_faults self.old }
+        ensures kept { shelf_disk_faults self.old ≤ shelf_disk_faults self.new }
         ensures sound { IsSoundDisk disk →
             (name : List ℕ) → IsSoundShelf self.old name → IsSoundShelf self.new name }
         ensures home { (name bytes : List ℕ) → disk_home disk ≡ Some name → told (disk_image disk) bytes →

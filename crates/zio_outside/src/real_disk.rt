@@ -75,6 +75,8 @@ impl<F: Read + Write + Seek + Send> Disk for FileDisk<F> {
 
     ghost has_size = { λ d content told. absurd told };
 
+    ghost one_image = { λ d a b told other. absurd told };
+
     ghost counts = { λ d. d.in_range };
 
     ghost sound_counts = { λ d sound. absurd sound };

@@ -80,6 +80,7 @@ pub trait Shelf {
             Raised (disk_faults self.old) (disk_faults self.new) }
         ensures same { Self.Disk.faults_at_fetch disk ≡ Self.Disk.faults disk →
             disk_faults self.new ≡ disk_faults self.old }
+        ensures kept { disk_faults self.old ≤ disk_faults self.new }
         ensures sound { Self.Disk.sound disk → (name : List ℕ) → sound self.old name → sound self.new name }
         ensures tells { tells self.old ↔ tells self.new }
         ensures home { tells self.old → (name bytes : List ℕ) → Self.Disk.home disk name →

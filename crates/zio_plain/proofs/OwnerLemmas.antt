@@ -114,7 +114,7 @@ seen_all : (P : Pending → Type 0) (ws : List Waiting) → AllByRecursion (λ (
 seen_all P [] h = tt
 seen_all P (w ∷ ws) h = (h.0, seen_all P ws h.1)
 
-joined_runs : (runs : List TreeRun) → joined_trees (trees_in runs) ≡ pendings (requests_run runs)
+pub joined_runs : (runs : List TreeRun) → joined_trees (trees_in runs) ≡ pendings (requests_run runs)
 joined_runs [] = refl
 joined_runs (r ∷ runs) = ap (λ ps. pendings r.tree ++ ps) (joined_runs runs) ∙ sym (map-append pending_of r.tree (requests_run runs))
 

@@ -7,7 +7,7 @@ use Rattle.std.proofs.lemmas.Grind.{flat_map-append}
 use Rattle.zio_types.specs.declared.place.Place.{Place}
 use Rattle.zio_types.specs.declared.journal.Key.{Key}
 use Rattle.zio_types.specs.Choices.{Ask, Choice, same_key, same_role}
-use Rattle.zio_cksum.proofs.AllLemmas.{all_append, all_parts, all_weaker}
+use Rattle.zio_cksum.proofs.AllLemmas.{all_append, all_weaker}
 use Rattle.zio_script.specs.declared.script.Failmode.{Failmode}
 use Rattle.zio_script.specs.declared.script.Request.{Request}
 use Rattle.zio_script.specs.Requests.{is_under_number, kind_of}
@@ -21,13 +21,13 @@ use Rattle.zio_gang.specs.Trees.{tree_places}
 use Rattle.zio_gang.proofs.AttemptLemmas.{attempt_each-append}
 use Rattle.zio_blocks.specs.Blocks.{AnswersBy}
 use Rattle.zio_course.specs.declared.runner.Finished.{Finished}
-use Rattle.zio_course.specs.Runners.{AreRisingFrom, finished_of, has_claim, made_places, made_trees, places_of_block}
+use Rattle.zio_course.specs.Runners.{AreRisingFrom, finished_of, has_claim, made_places, made_trees}
 use Rattle.zio_plain.specs.declared.judge.Fate.{Fate}
 use Rattle.zio_plain.specs.declared.judge.Fate.TheVariants.{Ends, Again}
 use Rattle.zio_plain.specs.declared.waiting.Handed.{Handed}
 use Rattle.zio_plain.specs.declared.waiting.Waiting.{Waiting}
 use Rattle.zio_plain.specs.Judgments.{again_of, children_handed, ends_of}
-use Rattle.zio_plain.specs.OwnEnds.{AreAsked, AreNamed, IsFor}
+use Rattle.zio_plain.specs.OwnEnds.{AreAsked, IsFor}
 use Rattle.zio_plain.specs.Passes.{AreNumberedApart, Fated, HasFate, HasNumber, IsAmong, IsAttempted, IsFated, IsPass, IsPassed, IsStep, LastIsAgain, ends_in, freed_in, freed_of, is_again, left_in, waitings_in}
 use Rattle.zio_plain.specs.Posts.{AreBehindChildren, IsOneTree, IsOver, IsSound, children_in, met_after, requests_in}
 use Rattle.zio_plain.specs.Waits.{HasPointer, numbers_in, pending_of, pendings, return_of}
@@ -187,13 +187,6 @@ one_fated w fate = record { waiting = w; fate = fate } ∷ []
 
 pub made_append : (a b : List Finished) → made_places (a ++ b) ≡ made_places a ++ made_places b
 made_append a b = ap (flat_map tree_places) (flat_map-append _ a b) ∙ flat_map-append tree_places (made_trees a) (made_trees b)
-
--- the places of all blocks that the requests name
-abbrev pub blocks_of : List Waiting → List Place
-blocks_of ws = flat_map (λ (w : Waiting). places_of_block w.block) ws
-
-pub named_all : (ws : List Waiting) → AllByRecursion (λ (w : Waiting). AreNamed (blocks_of ws) w.block) ws
-named_all ws = all_parts (λ (w : Waiting). places_of_block w.block) ws
 
 -- ---- so far
 

@@ -20,7 +20,7 @@ use Rattle.zio_plain.specs.declared.judge.Fate.{Fate}
 use Rattle.zio_plain.specs.declared.judge.Fate.TheVariants.{Ends, Again}
 use Rattle.zio_plain.specs.declared.waiting.Waiting.{Waiting}
 use Rattle.zio_plain.specs.Judgments.{again_of}
-use Rattle.zio_plain.specs.OwnEnds.{AreNamed}
+use Rattle.zio_plain.specs.OwnEnds.{AreNamed, Named}
 use Rattle.zio_plain.specs.Passes.{AreChained, AreNumberedApart, ArePasses, Fated, HasNumber, IsAmong, IsFated, IsFateOf, IsPass, IsPassed, IsPassOf, IsSettled, LastIsAgain, all_ends, all_freed, ends_in, freed_in, left_in, waitings_in}
 use Rattle.zio_plain.specs.Posts.{IsOneTree, requests_in}
 use Rattle.zio_plain.specs.Waits.{pendings}
@@ -237,21 +237,32 @@ module _ {S : Type 0} (tells : S → Images → Type 0) (runs fresh : S → Term
       passes_go_on (more - 1) more attempt tree mid left finished_old finished_mid finished_new freed_old freed_mid freed_new old between new is then stays none
       (subst (λ b. IsPass tells runs fresh given moves failmode attempt tree mid b finished_old finished_mid freed_old freed_mid old between) once h) k
 
--- ---- for whichever places the blocks have
+-- ---- for whatever the requests name
 
-pub if_ok_all : {V E : Type 0} (r : Result V E) (At At' : List Place → Type 0) (P Q : List Place → V → Type 0) → ((named : List Place) → At' named → At named) → ((named : List Place) → At' named → (v : V) → P named v → Q named v)
-    → IfOk r (λ v. (named : List Place) → At named → P named v) → IfOk r (λ v. (named : List Place) → At' named → Q named v)
+pub if_ok_all : {V E : Type 0} (r : Result V E) (At At' : Named → Type 0) (P Q : Named → V → Type 0) → ((named : Named) → At' named → At named) → ((named : Named) → At' named → (v : V) → P named v → Q named v)
+    → IfOk r (λ v. (named : Named) → At named → P named v) → IfOk r (λ v. (named : Named) → At' named → Q named v)
 if_ok_all (Ok v) At At' P Q less more h = λ named at. more named at v (h named (less named at))
 if_ok_all (Err e) At At' P Q less more h = tt
 
-pub if_err_all : {V E : Type 0} (r : Result V E) (At At' : List Place → Type 0) (P Q : List Place → E → Type 0) → ((named : List Place) → At' named → At named) → ((named : List Place) → At' named → (e : E) → P named e → Q named e)
-    → IfErr r (λ e. (named : List Place) → At named → P named e) → IfErr r (λ e. (named : List Place) → At' named → Q named e)
+pub if_err_all : {V E : Type 0} (r : Result V E) (At At' : Named → Type 0) (P Q : Named → E → Type 0) → ((named : Named) → At' named → At named) → ((named : Named) → At' named → (e : E) → P named e → Q named e)
+    → IfErr r (λ e. (named : Named) → At named → P named e) → IfErr r (λ e. (named : Named) → At' named → Q named e)
 if_err_all (Ok v) At At' P Q less more h = tt
 if_err_all (Err e) At At' P Q less more h = λ named at. more named at e (h named (less named at))
 
--- what is left names no other blocks
-pub named_left : (named : List Place) (tree left : List Waiting) (fs : List Fated) → tree ≡ waitings_in fs → left ≡ left_in fs → AllByRecursion IsFated fs
-    → AllByRecursion (λ (w : Waiting). AreNamed named w.block) tree → AllByRecursion (λ (w : Waiting). AreNamed named w.block) left
+left_named : (named : Named) (fs : List Fated) → AllByRecursion IsFated fs
+    → AllByRecursion (λ (w : Waiting). AreNamed named w.request.work w.block) (waitings_in fs) → AllByRecursion (λ (w : Waiting). AreNamed named w.request.work w.block) (left_in fs)
+left_named named [] each h = tt
+left_named named (f ∷ fs) each h = one f.fate each.0.is (left_named named fs each.1 h.1)
+  where
+    one : (fate : Fate) → IsFateOf f.waiting each.0.kids fate → AllByRecursion (λ (w : Waiting). AreNamed named w.request.work w.block) (left_in fs)
+        → AllByRecursion (λ (w : Waiting). AreNamed named w.request.work w.block) (again_of fate ++ left_in fs)
+    one (Ends e) is rest = rest
+    one (Again v) is rest =
+        (subst (λ (r : Request). AreNamed named r.work v.block) (sym is.request) (subst (AreNamed named f.waiting.request.work) (sym is.block) h.0), rest)
+
+-- what is left names nothing else
+pub named_left : (named : Named) (tree left : List Waiting) (fs : List Fated) → tree ≡ waitings_in fs → left ≡ left_in fs → AllByRecursion IsFated fs
+    → AllByRecursion (λ (w : Waiting). AreNamed named w.request.work w.block) tree → AllByRecursion (λ (w : Waiting). AreNamed named w.request.work w.block) left
 named_left named tree left fs whole left_are each at =
-    subst (AllByRecursion (λ (w : Waiting). AreNamed named w.block)) (sym left_are)
-    (left_can (λ (w : Waiting). w.block) (λ w v e. e) (AreNamed named) fs each (subst (AllByRecursion (λ (w : Waiting). AreNamed named w.block)) whole at))
+    subst (AllByRecursion (λ (w : Waiting). AreNamed named w.request.work w.block)) (sym left_are)
+    (left_named named fs each (subst (AllByRecursion (λ (w : Waiting). AreNamed named w.request.work w.block)) whole at))

@@ -1,12 +1,13 @@
 -- The trees of a round, tree by tree.
 use Rattle.std.proofs.Common.{◌≡◌, ◌≢◌, ℕ, suc, ◌+◌, ◌≤◌, List, [], ◌∷◌, ◌++◌, length, map, cond, count_by, Bool, true, false, ◌||◌, ◌==◌, inl, inr, eq-eqb, refl, sym, ap, ◌∙◌, subst, arith, append_assoc, length-append}
+use Rattle.std.specs.Prelude.{IfSome, Option}
 use Rattle.std.specs.List.{AllByRecursion}
 use Rattle.std.proofs.lemmas.List.{append-nil, map-append}
 use Rattle.std.proofs.lemmas.List.Sums.{sum_by-append, sum_by-cons}
 use Rattle.std.proofs.lemmas.Grind.{flat_map-append}
 use Rattle.zio_types.specs.declared.place.Place.{Place}
 use Rattle.zio_types.specs.Choices.{Choice}
-use Rattle.zio_cksum.proofs.AllLemmas.{all_append, all_parts}
+use Rattle.zio_cksum.proofs.AllLemmas.{all_append, all_parts, all_unmap}
 use Rattle.zio_script.specs.declared.script.Failmode.{Failmode}
 use Rattle.zio_script.specs.declared.script.Request.{Request}
 use Rattle.zio_script.specs.Requests.{kind_of}
@@ -18,14 +19,15 @@ use Rattle.zio_gang.specs.Attempts.{Pending, Settled, Terms, settle}
 use Rattle.zio_gang.specs.Journals.{asks_of}
 use Rattle.zio_gang.specs.Rounds.{Ran, add_left, add_settled, settle_each}
 use Rattle.zio_course.specs.declared.runner.Finished.{Finished}
-use Rattle.zio_course.specs.Runners.{finished_of, has_claim, joined_trees, made_places, named_places, places_of_block, requests_in as requests_of}
+use Rattle.zio_course.specs.Runners.{finished_of, has_claim, joined_trees, made_places, places_of_block, requests_in as requests_of}
 use Rattle.zio_plain.specs.declared.waiting.Waiting.{Waiting}
 use Rattle.zio_plain.specs.OwnEnds.{AreAsked, AreNamed}
 use Rattle.zio_plain.specs.Passes.{AreNumberedApart, ArePasses, HasNumber, IsAmong, IsSettled, all_ends, all_freed}
-use Rattle.zio_plain.specs.Posts.{IsOneTree, requests_in}
-use Rattle.zio_plain.specs.Settlings.{AreRun, IsRan, IsTreeRun, TellsRan, TreeRun, ends_run, freed_run, requests_run, trees_in, trees_left}
+use Rattle.zio_plain.specs.Posts.{IsOneTree, IsSound, requests_in}
+use Rattle.zio_plain.specs.Settlings.{AreRun, IsRan, IsTreeRun, TellsRan, TreeRun, ends_run, freed_run, named_in, requests_run, trees_in, trees_left}
 use Rattle.zio_plain.specs.Waits.{pending_of, pendings}
 use Rattle.zio_plain.proofs.PassLemmas.{answers_before, asked_both, made_append, number_back, number_front}
+use Rattle.zio_plain.proofs.NamedLemmas.{claims_all, named_each}
 
 -- ---- trees one after another
 
@@ -248,10 +250,19 @@ next_all P runs ws rest trees split h =
     seen [] k = tt
     seen (v ∷ vs) k = (k.0, seen vs k.1)
 
--- the next tree names blocks of the round
-pub next_named : (runs : List TreeRun) (ws : List Waiting) (rest trees : List (List Pending)) → trees ≡ trees_in runs ++ pendings ws ∷ rest → AllByRecursion (λ (w : Waiting). AreNamed (named_places trees) w.block) ws
-next_named runs ws rest trees split =
-    next_all (λ (p : Pending). AreNamed (named_places trees) p.block) runs ws rest trees split (all_parts (λ (p : Pending). places_of_block p.block) (joined_trees trees))
+-- what whole blocks may be given may be given here
+pub whole_can : (can : Option Tree → Type 0) (ws : List Waiting) → AllByRecursion (λ (w : Waiting). IfSome w.block IsWholeTree → can w.block) ws → AllByRecursion (IsSound IsWholeTree) ws
+    → AllByRecursion (λ (w : Waiting). can w.block) ws
+whole_can can [] h sound = tt
+whole_can can (w ∷ ws) h sound = (h.0 sound.0.fit, whole_can can ws h.1 sound.1)
+
+-- the next tree names what the round does
+pub next_named : (runs : List TreeRun) (ws : List Waiting) (rest trees : List (List Pending)) → trees ≡ trees_in runs ++ pendings ws ∷ rest
+    → (has_claim (requests_of trees) ≡ true → length (requests_of trees) ≡ 1) → AllByRecursion (λ (w : Waiting). AreNamed (named_in trees) w.request.work w.block) ws
+next_named runs ws rest trees split alone =
+    next_all (λ (p : Pending). AreNamed (named_in trees) p.request.work p.block) runs ws rest trees split
+    (named_each (λ (p : Pending). p.request.work) (λ (p : Pending). p.block) (named_in trees) (joined_trees trees) (all_parts (λ (p : Pending). places_of_block p.block) (joined_trees trees))
+    (all_unmap (λ (r : Request). is_claim (kind_of r.work) ≡ has_claim (requests_of trees)) (λ (p : Pending). p.request) (joined_trees trees) (claims_all (requests_of trees) alone)))
 
 -- ---- the loop
 

@@ -1,9 +1,11 @@
-pub mod Batches
-pub mod Rounds
-pub mod Runs
 pub mod Judgments
 pub mod OwnEnds
 pub mod Passes
 pub mod Posts
 pub mod Waits
 pub mod Settlings
+pub mod Grounds
+pub mod Plains
+pub mod Works
+pub mod GroundPlaces
+pub mod GroundLaws

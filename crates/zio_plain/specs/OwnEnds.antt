@@ -1,11 +1,13 @@
 -- What the own work of a request gives, whatever the disks tell and by the definition.
-use Rattle.std.specs.Prelude.{◌≡◌, ℕ, ◌%◌, List, ◌++◌, length, true, None, Option, is_some, IfSome, IsTrue, Contains}
+use Rattle.std.specs.Prelude.{◌≡◌, ℕ, ◌%◌, List, ◌++◌, length, Bool, true, None, Option, is_some, IfSome, IsTrue, Contains}
 use Rattle.std.specs.List.{AllByRecursion}
 use Rattle.zio_types.specs.declared.place.Place.{Place}
 use Rattle.zio_types.specs.Choices.{Choice}
 use Rattle.zio_types.specs.Places.{sector_size}
 use Rattle.zio_blkptr.specs.Pointers.{valid}
-use Rattle.zio_script.specs.Requests.{makes_block}
+use Rattle.zio_script.specs.declared.script.Work.{Work}
+use Rattle.zio_script.specs.Requests.{kind_of, makes_block}
+use Rattle.zio_script.specs.Whys.{is_claim}
 use Rattle.zio_cksum.specs.Images.{Images}
 use Rattle.zio_gang.specs.declared.tree.Tree.{Tree}
 use Rattle.zio_gang.specs.Attempts.{Own}
@@ -28,9 +30,15 @@ pub record AreAsked (may : ℕ → ℕ → Type 0) (old new : List Choice) : Typ
 abbrev pub IsFor : ℕ → ℕ → ℕ → ℕ → Type 0
 IsFor request attempt r a = (r ≡ request) × (a ≡ attempt)
 
--- the places of the block are among these
-abbrev pub AreNamed : List Place → Option Tree → Type 0
-AreNamed named block = AllByRecursion (Contains named) (places_of_block block)
+-- The places of the blocks that some requests read or free, and whether they are claims.
+pub record Named : Type 0 where
+  pub places : List Place
+  pub claims : Bool
+
+-- a request of such work is one of those: the places of its block are among theirs, and it is a claim where they are
+pub record AreNamed (named : Named) (work : Work) (block : Option Tree) : Type 0 where
+  pub within : AllByRecursion (Contains named.places) (places_of_block block)
+  pub claim : is_claim (kind_of work) ≡ named.claims
 
 -- What own work gives, whatever the disks tell: a valid pointer, a whole block where there is no error, and that of a
 -- write or a claim alone; whole sectors, and all bytes of a block that is read.

@@ -1,5 +1,5 @@
 -- The trees of a round, each settled over what the one before it left.
-use Rattle.std.specs.Prelude.{◌≡◌, ◌≤◌, ◌⊎◌, ℕ, ◌+◌, ◌%◌, List, [], ◌∷◌, ◌++◌, length, map, count_by, false, true, Contains}
+use Rattle.std.specs.Prelude.{◌≡◌, ◌≤◌, ◌⊎◌, ℕ, ◌+◌, ◌%◌, List, [], ◌∷◌, ◌++◌, length, map, count_by, false, true, Contains, IsPermutation}
 use Rattle.std.specs.List.{AllByRecursion, flat_map}
 use Rattle.zio_types.specs.declared.journal.Completion.{Completion}
 use Rattle.zio_types.specs.declared.place.Place.{Place}
@@ -15,12 +15,16 @@ use Rattle.zio_gang.specs.Rounds.{Ran, add_left, settle_each}
 use Rattle.zio_disks.specs.Whole.{IsWholeTree}
 use Rattle.zio_blocks.specs.Blocks.{AnswersBy}
 use Rattle.zio_course.specs.declared.runner.Finished.{Finished}
-use Rattle.zio_course.specs.Runners.{AreRestsOf, AreRisingFrom, HasReadSize, MakesTree, completion_for, finished_of, has_claim, is_numbered, made_places, numbers_of, requests_in}
+use Rattle.zio_course.specs.Runners.{AreRestsOf, AreRisingFrom, HasReadSize, MakesTree, completion_for, finished_of, has_claim, is_numbered, made_places, named_places, numbers_of, requests_in}
 use Rattle.zio_plain.specs.declared.waiting.Waiting.{Waiting}
-use Rattle.zio_plain.specs.OwnEnds.{AreAsked}
+use Rattle.zio_plain.specs.OwnEnds.{AreAsked, Named}
 use Rattle.zio_plain.specs.Passes.{AreChained, AreNumberedApart, Fated, IsAmong, all_ends, all_freed}
 use Rattle.zio_plain.specs.Posts.{IsOneTree}
 use Rattle.zio_plain.specs.Waits.{pendings}
+
+-- what the requests of some trees name
+abbrev pub named_in : List (List Pending) → Named
+named_in trees = record { places = named_places trees; claims = has_claim (requests_in trees) }
 
 -- a tree, the passes over it, and what they left
 pub record TreeRun : Type 0 where
@@ -88,6 +92,7 @@ pub record IsTreesRun {S : Type 0} (tells : S → Images → Type 0) (runs fresh
   pub left_are : left ≡ trees_left each_run
   pub each : AllByRecursion IsTreeRun each_run
   pub finished_are : finished ≡ merge_by (λ (f : Finished). f.request) (ends_run each_run) []
+  pub same : IsPermutation (ends_run each_run) finished
   pub completions_are : completions ≡ map (completion_for round) (ends_run each_run)
   pub freed_are : freed ≡ freed_run each_run
   pub moved : moves old new (made_places (ends_run each_run))

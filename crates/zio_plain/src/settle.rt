@@ -2,11 +2,10 @@
 
 ghost use Rattle.std.specs.Prelude.{◌≡◌, ◌+◌, ◌<◌, ◌^◌, List, IfErr, IfOk, length, true};
 ghost use Rattle.std.specs.List.{AllByRecursion};
-ghost use Rattle.zio_types.specs.declared.place.Place.{Place as SeenPlace};
 ghost use Rattle.zio_course.specs.Runners.{has_claim};
 ghost use Rattle.zio_disks.specs.Whole.{IsWholeTree};
 ghost use Rattle.zio_gang.specs.Attempts.{reexecutions_max};
-ghost use Rattle.zio_plain.specs.OwnEnds.{AreNamed};
+ghost use Rattle.zio_plain.specs.OwnEnds.{AreNamed, Named};
 ghost use Rattle.zio_plain.specs.Passes.{AreNumberedApart, ArePasses};
 ghost use Rattle.zio_plain.specs.Posts.{IsOneTree, requests_in};
 ghost use Rattle.zio_plain.specs.declared.waiting.Waiting.{Waiting as SeenWaiting};
@@ -34,9 +33,9 @@ pub(crate) fn settle<W: OwnWork>(
     requires apart { AreNumberedApart tree }
     requires can { AllByRecursion (λ (w : SeenWaiting). W.can works.old w.block) tree }
     requires claim { has_claim (requests_in tree) ≡ true → length tree ≡ 1 }
-    ensures passes { IfOk result (λ left. (named : List SeenPlace) → AllByRecursion (λ (w : SeenWaiting). AreNamed named w.block) tree → ArePasses W.tells W.runs W.fresh W.given (W.moves named) failmode reexecutions_max 0 tree left
+    ensures passes { IfOk result (λ left. (named : Named) → AllByRecursion (λ (w : SeenWaiting). AreNamed named w.request.work w.block) tree → ArePasses W.tells W.runs W.fresh W.given (W.moves named) failmode reexecutions_max 0 tree left
         ends.old.finished ends.new.finished ends.old.freed ends.new.freed works.old works.new) }
-    ensures breaks { IfErr result (λ stop. (named : List SeenPlace) → AllByRecursion (λ (w : SeenWaiting). AreNamed named w.block) tree → W.breaks named works.old works.new stop) }
+    ensures breaks { IfErr result (λ stop. (named : Named) → AllByRecursion (λ (w : SeenWaiting). AreNamed named w.request.work w.block) tree → W.breaks named works.old works.new stop) }
 {
     settle_from(alloc, works, failmode, REEXECUTIONS_MAX, 0, tree, ends)
 }
@@ -56,9 +55,9 @@ fn settle_from<W: OwnWork>(
     requires apart { AreNumberedApart tree }
     requires can { AllByRecursion (λ (w : SeenWaiting). W.can works.old w.block) tree }
     requires claim { has_claim (requests_in tree) ≡ true → length tree ≡ 1 }
-    ensures passes { IfOk result (λ left. (named : List SeenPlace) → AllByRecursion (λ (w : SeenWaiting). AreNamed named w.block) tree → ArePasses W.tells W.runs W.fresh W.given (W.moves named) failmode more number tree left
+    ensures passes { IfOk result (λ left. (named : Named) → AllByRecursion (λ (w : SeenWaiting). AreNamed named w.request.work w.block) tree → ArePasses W.tells W.runs W.fresh W.given (W.moves named) failmode more number tree left
         ends.old.finished ends.new.finished ends.old.freed ends.new.freed works.old works.new) }
-    ensures breaks { IfErr result (λ stop. (named : List SeenPlace) → AllByRecursion (λ (w : SeenWaiting). AreNamed named w.block) tree → W.breaks named works.old works.new stop) }
+    ensures breaks { IfErr result (λ stop. (named : Named) → AllByRecursion (λ (w : SeenWaiting). AreNamed named w.request.work w.block) tree → W.breaks named works.old works.new stop) }
 {
     let PassEnd { left, at_once } = attempt(alloc, works, failmode, number, tree, ends)?;
     if at_once && more > 0 {

@@ -1,16 +1,16 @@
 //! The trees of a round, one after another.
 
-ghost use Rattle.std.specs.Prelude.{◌≡◌, ◌≤◌, ◌⊎◌, ◌++◌, [], ℕ, ◌==◌, IfErr, IfOk, IsPermutation, None, OnOk, count_by, length, map, true};
+ghost use Rattle.std.specs.Prelude.{◌≡◌, ◌≤◌, ◌⊎◌, ◌++◌, [], ℕ, ◌==◌, IfErr, IfOk, IfSome, IsPermutation, None, OnOk, count_by, length, map, true};
 ghost use Rattle.std.specs.List.{AllByRecursion};
 ghost use Rattle.zio_script.specs.declared.script.Request.{Request as SeenRequest};
 ghost use Rattle.zio_gang.specs.Attempts.{Pending};
 ghost use Rattle.zio_gang.specs.ByNumber.{merge_by};
 ghost use Rattle.zio_gang.specs.Rounds.{add_left};
 ghost use Rattle.zio_course.specs.declared.runner.Finished.{Finished as SeenFinished};
-ghost use Rattle.zio_course.specs.Runners.{AreRisingFrom, completion_for, has_claim, is_numbered, joined_trees, made_trees, named_places, requests_in, roots_of};
+ghost use Rattle.zio_course.specs.Runners.{AreRisingFrom, completion_for, has_claim, is_numbered, joined_trees, made_trees, requests_in, roots_of};
 ghost use Rattle.zio_disks.specs.Whole.{IsWholeTree};
 ghost use Rattle.zio_plain.specs.Posts.{IsOneTree};
-ghost use Rattle.zio_plain.specs.Settlings.{AreRun, IsListEnd, IsTreesRun};
+ghost use Rattle.zio_plain.specs.Settlings.{AreRun, IsListEnd, IsTreesRun, named_in};
 ghost use Rattle.zio_plain.specs.Waits.{pendings};
 
 use crate::attempt::Ends;
@@ -33,11 +33,11 @@ pub(crate) fn settle_trees<W: OwnWork>(
     ends: &mut Ends,
 ) -> Result<List<PlainTree>, Stop>
     requires once { (n : ℕ) → count_by (λ (r : SeenRequest). r.number == n) (requests_in trees) ≤ 1 }
-    requires can { AllByRecursion (λ (p : Pending). W.can works.old p.block) (joined_trees trees) }
+    requires can { AllByRecursion (λ (p : Pending). IfSome p.block IsWholeTree → W.can works.old p.block) (joined_trees trees) }
     requires claim { has_claim (requests_in trees) ≡ true → length (requests_in trees) ≡ 1 }
-    ensures run { IfOk result (λ left. AreRun W.tells W.runs W.fresh W.given (W.moves (named_places trees)) failmode trees left
+    ensures run { IfOk result (λ left. AreRun W.tells W.runs W.fresh W.given (W.moves (named_in trees)) failmode trees left
         ends.old.finished ends.new.finished ends.old.freed ends.new.freed works.old works.new) }
-    ensures breaks { IfErr result (λ stop. W.breaks (named_places trees) works.old works.new stop) }
+    ensures breaks { IfErr result (λ stop. W.breaks (named_in trees) works.old works.new stop) }
 {
     let mut left = List::new(alloc);
     for tree in trees.into_rest() {
@@ -80,13 +80,13 @@ pub(crate) fn run_trees<W: OwnWork>(
     trees: List<PlainTree>,
 ) -> Result<TreesEnd, Stop>
     requires once { (n : ℕ) → count_by (λ (r : SeenRequest). r.number == n) (requests_in trees) ≤ 1 }
-    requires can { AllByRecursion (λ (p : Pending). W.can works.old p.block) (joined_trees trees) }
+    requires can { AllByRecursion (λ (p : Pending). IfSome p.block IsWholeTree → W.can works.old p.block) (joined_trees trees) }
     requires claim { has_claim (requests_in trees) ≡ true → length (requests_in trees) ≡ 1 }
     requires roots { AllByRecursion (λ (r : SeenRequest). r.under ≡ None) (roots_of trees) }
-    ensures run { IfOk result (λ end. IsTreesRun W.tells W.runs W.fresh W.given (W.moves (named_places trees)) round failmode trees end.left end.finished end.completions end.freed works.old works.new) }
+    ensures run { IfOk result (λ end. IsTreesRun W.tells W.runs W.fresh W.given (W.moves (named_in trees)) round failmode trees end.left end.finished end.completions end.freed works.old works.new) }
     ensures ends { IfOk result (λ end. IsListEnd round trees end.left end.finished end.completions) }
     ensures fits { IfOk result (λ end. AllByRecursion IsWholeTree (made_trees end.finished)) }
-    ensures breaks { IfErr result (λ stop. W.breaks (named_places trees) works.old works.new stop) }
+    ensures breaks { IfErr result (λ stop. W.breaks (named_in trees) works.old works.new stop) }
 {
     let mut ends = Ends {
         finished: List::new(alloc),

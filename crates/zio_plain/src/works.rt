@@ -13,7 +13,7 @@ ghost use Rattle.zio_disks.specs.Whole.{IsWholeTree};
 ghost use Rattle.zio_course.specs.declared.runner.Stop.{Stop as SeenStop};
 ghost use Rattle.zio_course.specs.declared.runner.Stop.TheVariants.{Memory};
 ghost use Rattle.zio_course.specs.Runners.{places_of_block};
-ghost use Rattle.zio_plain.specs.OwnEnds.{AreAsked, AreNamed, IsFor, IsOwnEnd, TellsOwn};
+ghost use Rattle.zio_plain.specs.OwnEnds.{AreAsked, AreNamed, IsFor, IsOwnEnd, Named, TellsOwn};
 ghost use Rattle.zio_plain.specs.Posts.{IsSound};
 ghost use Rattle.zio_plain.specs.Waits.{HasPointer, pending_of, pointers_in};
 
@@ -49,10 +49,10 @@ pub(crate) trait OwnWork {
 
     /// What its calls did from the one to the other, where the blocks that were read or freed have no places but the first
     /// ones; the others came to stay.
-    ghost moves: { List SeenPlace → Self → Self → List SeenPlace → Type 0 };
+    ghost moves: { Named → Self → Self → List SeenPlace → Type 0 };
 
     /// What its calls did up to a stop, where those blocks have no other places.
-    ghost breaks: { List SeenPlace → Self → Self → SeenStop → Type 0 };
+    ghost breaks: { Named → Self → Self → SeenStop → Type 0 };
 
     /// Does the own work of a request, whose children, by number, handed on these pointers.
     fn own_work(
@@ -70,28 +70,28 @@ pub(crate) trait OwnWork {
             (λ journal. own_work journal t attempt (pending_of waiting.now) waiting.now.request.work (pointers_in children.now) images) done.end self.old self.new) }
         ensures end { IfOk result (λ done. IsOwnEnd waiting.now done.end) }
         ensures asked { OnOk result (AreAsked (IsFor waiting.now.request.number attempt) (given self.old) (given self.new)) }
-        ensures moves { IfOk result (λ done. (named : List SeenPlace) → AreNamed named waiting.now.block → moves named self.old self.new done.taken) }
-        ensures made { IfOk result (λ done. done.end.error ≡ None → (named : List SeenPlace) → AreNamed named waiting.now.block → moves named self.old self.new (places_of_block done.end.tree)) }
-        ensures breaks { IfErr result (λ stop. (named : List SeenPlace) → AreNamed named waiting.now.block → breaks named self.old self.new stop) };
+        ensures moves { IfOk result (λ done. (named : Named) → AreNamed named waiting.now.request.work waiting.now.block → moves named self.old self.new done.taken) }
+        ensures made { IfOk result (λ done. done.end.error ≡ None → (named : Named) → AreNamed named waiting.now.request.work waiting.now.block → moves named self.old self.new (places_of_block done.end.tree)) }
+        ensures breaks { IfErr result (λ stop. (named : Named) → AreNamed named waiting.now.request.work waiting.now.block → breaks named self.old self.new stop) };
 
     /// Gives places back that the last own work took.
     fn give_back(&mut self, taken: List<Place>)
-        requires { (named : List SeenPlace) × ((before : Self) × moves named before self.old taken) }
-        ensures moves { (named : List SeenPlace) (before : Self) → moves named before self.old taken → moves named before self.new [] }
+        requires { (named : Named) × ((before : Self) × moves named before self.old taken) }
+        ensures moves { (named : Named) (before : Self) → moves named before self.old taken → moves named before self.new [] }
         ensures images { (images : Images) → tells self.old images → tells self.new images }
         ensures given { given self.new ≡ given self.old };
 
-    ghost moves_itself: { (named : List SeenPlace) (a : Self) → moves named a a [] };
+    ghost moves_itself: { (named : Named) (a : Self) → moves named a a [] };
 
-    ghost moves_then: { (named : List SeenPlace) (a b c : Self) (ps qs : List SeenPlace) → moves named a b ps → moves named b c qs → moves named a c (ps ++ qs) };
+    ghost moves_then: { (named : Named) (a b c : Self) (ps qs : List SeenPlace) → moves named a b ps → moves named b c qs → moves named a c (ps ++ qs) };
 
     /// It stays in its round.
-    ghost moves_runs: { (named : List SeenPlace) (a b : Self) (ps : List SeenPlace) (t : Terms) → moves named a b ps → runs a t → runs b t };
+    ghost moves_runs: { (named : Named) (a b : Self) (ps : List SeenPlace) (t : Terms) → moves named a b ps → runs a t → runs b t };
 
     /// What may be given may be given later.
-    ghost moves_can: { (named : List SeenPlace) (a b : Self) (ps : List SeenPlace) (block : Option SeenTree) → moves named a b ps → can a block → can b block };
+    ghost moves_can: { (named : Named) (a b : Self) (ps : List SeenPlace) (block : Option SeenTree) → moves named a b ps → can a block → can b block };
 
-    ghost memory_breaks: { (named : List SeenPlace) (a : Self) → breaks named a a Memory };
+    ghost memory_breaks: { (named : Named) (a : Self) → breaks named a a Memory };
 
-    ghost moves_breaks: { (named : List SeenPlace) (a b c : Self) (ps : List SeenPlace) (stop : SeenStop) → moves named a b ps → breaks named b c stop → breaks named a c stop };
+    ghost moves_breaks: { (named : Named) (a b c : Self) (ps : List SeenPlace) (stop : SeenStop) → moves named a b ps → breaks named b c stop → breaks named a c stop };
 }

@@ -1,7 +1,7 @@
 -- What stands in clap's matches of a command's words.
 use Rattle.std.proofs.Common.{◌≡◌, ℕ, List, [], ◌∷◌, ◌++◌, Bool, true, false, cond, Option, Some, None, option_map, is_some, unwrap_or, option_and_then, slice_get, ◌||◌, append-nil, append_assoc, refl, sym, ap, ◌∙◌, subst, true≢false}
 use Rattle.std.specs.Prelude.{decimal, codes, bytes_eq, find, fold, IfSome}
-use Rattle.std.specs.List.{AllByRecursion, flat_map}
+use Rattle.std.specs.List.{AllByRecursion}
 use Rattle.std.proofs.lemmas.Slice.Eq.{bytes_eq-Decides}
 use Rattle.clap.specs.Simple.{matches_of}
 use Rattle.clap.specs.Walk.{Row, Text, all_of, at_row, first_of, finished, has_row, idle, more_values, one_of, row_text, settled_rows, stronger, walked, Walk, with_values, without}
@@ -14,7 +14,7 @@ use Rattle.zio_run.specs.declared.options.Asked.TheVariants.{Journal, Bytes, Wor
 use Rattle.zio_run.specs.declared.options.Options.{Options}
 use Rattle.zio_run.specs.declared.options.TheConstants.{WORKERS_MAX}
 use Rattle.zio_run.specs.Parses.{run_app}
-use Rattle.zio_run.specs.Words.{AreImages, AreNames, AreNew, IsImageName, IsOptionOf, IsSplit, IsWithin, none_asked, option_words, with_options}
+use Rattle.zio_run.specs.Words.{AreImages, AreNames, AreNew, IsImageName, IsOptionOf, IsSplit, IsWithin, none_asked, with_options}
 use Rattle.zio_run.proofs.ClapWalks.{counted_out, flagged, imaged, options_met, opted, run_rules, settled_at, stand}
 
 -- ---- the row of an argument

@@ -1,14 +1,13 @@
 -- What clap makes of the words of `gen` and `load`.
-use Rattle.std.proofs.Common.{◌≡◌, ◌<◌, ◌+◌, ◌^◌, min, ℕ, List, [], ◌∷◌, ◌++◌, Bool, true, false, cond, Option, Some, None, option_map, option_and_then, slice_get, refl, sym, ap, ◌∙◌, subst, arith}
-use Rattle.std.specs.Prelude.{decimal, codes, bytes_eq, fold}
+use Rattle.std.proofs.Common.{◌≡◌, ◌<◌, ◌+◌, ◌^◌, min, ℕ, List, [], ◌∷◌, Option, Some, None, option_map, option_and_then, slice_get, refl, sym, ap, ◌∙◌, subst, arith}
+use Rattle.std.specs.Prelude.{decimal, codes, fold}
 use Rattle.clap.specs.Lexer.{usize_max}
 use Rattle.clap.specs.Simple.{App, built, filled, matches_of, new_rule, with_index}
 use Rattle.clap.specs.Walk.{Row, Rule, Text, Walk, all_of, finished, first_of, has_row, idle, settled_rows, walked, with_default}
-use Rattle.clap.proofs.OnLiterals.{clap_on_literals}
 use Rattle.zio_run.specs.Parses.{gen_app, image_rule, load_app}
 use Rattle.zio_run.specs.Words.{AreImages, IsImageName, IsSize}
-use Rattle.zio_run.proofs.ClapRows.{all_imaged, first_given, found, given_row, names_plain, others_imaged, same_either}
-use Rattle.zio_run.proofs.ClapWalks.{TakesOne, TakesRest, hyphen_not, imaged, names_met, numeral_word, one_met, settled_at, stand}
+use Rattle.zio_run.proofs.ClapRows.{all_imaged, first_given, given_row, names_plain, others_imaged, same_either}
+use Rattle.zio_run.proofs.ClapWalks.{TakesOne, hyphen_not, imaged, names_met, numeral_word, one_met, settled_at, stand}
 
 abbrev seed_rule : Rule
 seed_rule = with_index 1 (filled (new_rule (codes "seed")))

@@ -1,14 +1,14 @@
 -- What clap makes of the words of a command, one after another.
-use Rattle.std.proofs.Common.{◌≡◌, ◌≢◌, ◌<◌, ◌^◌, ℕ, zero, suc, List, [], ◌∷◌, ◌++◌, map, get_or, length, Bool, true, false, cond, ◌&&◌, ◌==◌, ◌+◌, min, Option, Some, None, refl, sym, ap, ◌∙◌, arith, inl, inr, ◌≤◌, true≢false}
+use Rattle.std.proofs.Common.{◌≡◌, ◌≢◌, ◌<◌, ◌^◌, ℕ, List, [], ◌∷◌, ◌++◌, length, Bool, true, false, cond, ◌&&◌, ◌==◌, ◌+◌, min, Option, Some, None, refl, ap, ◌∙◌, arith, inl, inr, ◌≤◌, true≢false}
 use Rattle.std.specs.Prelude.{decimal, codes, bytes_eq, fold, option_and_then}
 use Rattle.std.specs.List.{AllByRecursion, flat_map}
 use Rattle.std.specs.Str.Parse.{AllDigits}
 use Rattle.std.proofs.lemmas.Bool.Decides.{eqb_tells}
 use Rattle.std.proofs.lemmas.Fmt.{decimal_is_IsNumeral}
 use Rattle.std.proofs.lemmas.Str.Parse.{digit_from_value}
-use Rattle.clap.specs.Lexer.{usize_max, long_of, long_of_rest, short_of, short_of_rest, strip_byte}
+use Rattle.clap.specs.Lexer.{usize_max, long_of, long_of_rest, short_of_rest, strip_byte}
 use Rattle.clap.specs.Simple.{built, filled, with_index}
-use Rattle.clap.specs.Walk.{Held, Row, Rule, Text, Waiting, Walk, Step, idle, option, positional, value, after_step, arg_by_id, arg_by_index, is_multiple, is_pending, long_or_other, next_position, plain_word, positional_held, pushed, settled, settled_rows, short_or_plain, subcommand_met, subcommand_or_other, takes_several, to_positional, walked, with_values, without, word_met}
+use Rattle.clap.specs.Walk.{Held, Row, Rule, Text, Waiting, Walk, Step, idle, option, positional, value, after_step, arg_by_index, is_multiple, is_pending, long_or_other, next_position, plain_word, positional_held, pushed, settled, settled_rows, short_or_plain, subcommand_or_other, takes_several, to_positional, walked, with_values, without}
 use Rattle.clap.specs.declared.builder.value_parser.Reading.TheVariants.{AsWritten}
 use Rattle.clap.specs.declared.parser.matches.ValueSource.TheVariants.{CommandLine}
 use Rattle.clap.proofs.OnLiterals.{clap_on_literals}

@@ -1,194 +1,269 @@
--- The options of a command, one more at a time, and that a list of words is one command at most.
-use Rattle.std.proofs.Common.{◌≡◌, ℕ, zero, suc, ◌+◌, ◌-◌, ◌<◌, ◌≤◌, List, [], ◌∷◌, ◌++◌, length, get_or, take, drop, map, inl, inr, refl, sym, ap, ◌∙◌, subst, Bool, true, false, ◌||◌, not, bytes_eq, arith}
+-- What follows from how the call of a command ends.
+use Rattle.std.proofs.Common.{◌≡◌, ◌<◌, ◌≤◌, ◌^◌, ℕ, List, [], ◌∷◌, ◌⊎◌, inl, inr, true, false, length, map, refl, sym, subst, arith}
 use Rattle.std.specs.List.{AllByRecursion}
-use Rattle.std.proofs.lemmas.List.{map-append}
-use Rattle.std.proofs.lemmas.List.Folds.{list_any-append}
-use Rattle.std.proofs.lemmas.Slice.Eq.{bytes_eq-Decides}
+use Rattle.zio_types.specs.declared.journal.Journal.{Journal}
+use Rattle.zio_outside.specs.Outside.{Rose}
+use Rattle.zio_script.specs.declared.script.Script.{Script}
+use Rattle.zio_script.specs.Grammar.{IsScriptOf}
+use Rattle.zio_cksum.specs.Images.{Images}
+use Rattle.zio_gen.specs.declared.script.TheConstants.{BLOCKS_MAX}
+use Rattle.zio_gen.specs.Generated.{script_text}
+use Rattle.zio_report.specs.declared.report.RunFault.{RunFault}
+use Rattle.zio_report.specs.declared.report.RunFault.TheVariants.{Device, Sink, Memory}
 use Rattle.zio_report.specs.declared.report.Show.{Show}
-use Rattle.zio_run.specs.Commands.{AreOnce, IsCommand, IsOption, data_option, is_among, journal_option, shown_by}
+use Rattle.zio_run.specs.declared.words.Command.{Command}
+use Rattle.zio_run.specs.declared.words.Command.TheVariants.{Run, Gen, Load}
+use Rattle.zio_run.specs.Causes.{AreUntouched, IsLeafCause}
+use Rattle.zio_run.specs.Codes.{HasRun, RunEnds, ScriptEnds, WasUnbegun}
+use Rattle.zio_run.specs.Codes.RunEnds.{AsScript, Refused, RefusedCut, Wanting}
+use Rattle.zio_run.specs.Codes.ScriptEnds.{Ran, CutShort, NoImage, NoImageCut, Wanting as WantingFirst}
+use Rattle.zio_run.specs.Commands.{CommandEnds, image_names, runs, shown_by, told_by}
+use Rattle.zio_run.specs.Headline.{TellEach}
+use Rattle.zio_run.specs.Outcomes.{HasLawfulSize, IsEnding, IsSerialCode, cut_code}
+use Rattle.zio_run.specs.Seen.{ShelfSeen, SinkSeen, SourceSeen}
+use Rattle.zio_run.specs.Shelves.{IsFirstUnlawful}
+use Rattle.zio_run.specs.Tops.{HaveImages, IsFirstMissing, leaves_of}
+use Rattle.zio_run.specs.Words.{IsCommandOf, IsLawfulCommand}
+use Rattle.zio_run.proofs.EndLemmas.{no_ending}
+use Rattle.zio_run.proofs.ScriptLemmas.{no_script, one_script}
+use Rattle.zio_run.proofs.ShelfLemmas.{StaysHome-refl}
+use Rattle.zio_run.proofs.TopLemmas.{all_front, all_index}
+use Rattle.zio_run.proofs.TripLemmas.{told_length}
 
--- these options are known, each stands once, and this is what they ask for
-pub record IsShown (front : List (List ℕ)) (journal bytes : Bool) : Type 0 where
-  pub each : AllByRecursion IsOption front
-  pub once : AreOnce front
-  pub journal_is : journal ≡ is_among front journal_option
-  pub bytes_is : bytes ≡ is_among front data_option
+-- ---- a leaf without an image
 
-pub shown_start : IsShown [] false false
-shown_start = record { each = tt; once = tt; journal_is = refl; bytes_is = refl }
+unlawful_not : (sizes : List ℕ) (leaf : ℕ) → IsFirstUnlawful sizes leaf → AllByRecursion HasLawfulSize sizes → ⊥
+unlawful_not sizes leaf first all = first.unlawful (all_index HasLawfulSize sizes leaf all first.there)
 
-false_or : (a b : Bool) → (a || b) ≡ false → (a ≡ false) × (b ≡ false)
-false_or false b h = (refl, h)
-false_or true b h = absurd (let no : true ≡ false = h in cc)
+missing_not : (images : ℕ) (leaves : List ℕ) (leaf : ℕ) → IsFirstMissing images leaves leaf → HaveImages images leaves → ⊥
+missing_not images leaves leaf first have =
+    let parts = all_front (λ n. n < images) first.front (leaf ∷ first.behind)
+    (subst (λ (ns : List ℕ). AllByRecursion (λ n. n < images) ns) first.leaves_are have) in
+    let here : leaf < images = parts.1.0 in
+    let none : images ≤ leaf = first.missing in
+    omega arith
 
-or_false : (a b : Bool) → a ≡ false → b ≡ false → (a || b) ≡ false
-or_false a b h k = rw h k
+cause_not : (script : Script) (names : List (List ℕ)) (old new : ShelfSeen) (leaf : ℕ) (images : Images) → IsLeafCause script names old new leaf → old.tells
+    → TellEach old.image names images → AllByRecursion HasLawfulSize (map (length {A = ℕ}) images) → HaveImages (length images) (leaves_of script.tops)
+    → ¬ Rose old.faults new.faults → ⊥
+cause_not script names old new leaf images (inl unfetched) tells each lawful have steady = steady unfetched.rose
+cause_not script names old new leaf images (inr (inl unlawful)) tells each lawful have steady =
+    unlawful_not (map (length {A = ℕ}) images) leaf (unlawful.first images tells each) lawful
+cause_not script names old new leaf images (inr (inr missing)) tells each lawful have steady =
+    missing_not (length names) (leaves_of script.tops) leaf missing.first
+    (subst (λ (n : ℕ). HaveImages n (leaves_of script.tops)) (told_length old.image names images each) have)
 
-differ_back : (a b : List ℕ) → bytes_eq a b ≡ false → (bb : Bool) → bytes_eq b a ≡ bb → bytes_eq b a ≡ false
-differ_back a b h false e = e
-differ_back a b h true e =
-    let same : b ≡ a = (bytes_eq-Decides b a).0 e in
-    let yes : bytes_eq a b ≡ true = (bytes_eq-Decides a b).1 (sym same) in
-    cc
+-- ---- codes
 
-each_more : (front : List (List ℕ)) (word : List ℕ) → AllByRecursion IsOption front → IsOption word → AllByRecursion IsOption (front ++ word ∷ [])
-each_more [] word h is = (is, tt)
-each_more (x ∷ xs) word h is = (h.0, each_more xs word h.1 is)
+pub untouched_itself : (shelf : ShelfSeen) → AreUntouched shelf shelf
+untouched_itself shelf = record { disk_faults = refl; home = λ tells. StaysHome-refl shelf.image shelf.out }
 
-once_more : (front : List (List ℕ)) (word : List ℕ) → AreOnce front → is_among front word ≡ false → AreOnce (front ++ word ∷ [])
-once_more [] word h new = (refl, tt)
-once_more (x ∷ xs) word h new =
-    let parts = false_or (bytes_eq word x) (is_among xs word) new in
-    let differ : bytes_eq x word ≡ false = differ_back word x parts.0 (bytes_eq x word) refl in
-    let last : is_among (word ∷ []) x ≡ false = or_false (bytes_eq x word) false differ refl in (
-      list_any-append (bytes_eq x) xs (word ∷ []) ∙ or_false (is_among xs x) (is_among (word ∷ []) x) h.0 last,
-      once_more xs word h.1 parts.1,
-    )
+-- nothing was begun
+pub wanting : (sink : SinkSeen) (shelf : ShelfSeen) (journal : Journal) → WasUnbegun sink sink shelf shelf journal journal
+wanting sink shelf journal = record { nothing = λ x. (λ h. h, λ h. h); untouched = untouched_itself shelf; unentered = refl }
 
-or_end : (a b c : Bool) → a ≡ b → c ≡ false → (b || (c || false)) ≡ a
-or_end a false false e h = sym e
-or_end a true false e h = sym e
-or_end a b true e h = absurd (let no : true ≡ false = h in cc)
+cut_no_ending : (code : ℕ) (fault : RunFault) → IsEnding code → code ≡ cut_code fault → ⊥
+cut_no_ending code Device e is = no_ending code 7 e is (inr (inr (inr (inr (inr (inl refl))))))
+cut_no_ending code Sink e is = no_ending code 6 e is (inr (inr (inr (inr (inl refl)))))
+cut_no_ending code Memory e is = no_ending code 8 e is (inr (inr (inr (inr (inr (inr refl))))))
 
-or_true : (b : Bool) → (b || (true || false)) ≡ true
-or_true false = refl
-or_true true = refl
+other_code : (code m n : ℕ) → code ≡ m → code ≡ n → (n ≡ 1) ⊎ (n ≡ 2) ⊎ (n ≡ 5) → (m ≡ 3) ⊎ (m ≡ 6) ⊎ (m ≡ 7) ⊎ (m ≡ 8) → ⊥
+other_code code m n a b c d = elim c [
+  | inl one ↦ elim d [ inl p ↦ omega arith | inr (inl p) ↦ omega arith | inr (inr (inl p)) ↦ omega arith | inr (inr (inr p)) ↦ omega arith ]
+  | inr (inl two) ↦ elim d [ inl p ↦ omega arith | inr (inl p) ↦ omega arith | inr (inr (inl p)) ↦ omega arith | inr (inr (inr p)) ↦ omega arith ]
+  | inr (inr five) ↦ elim d [ inl p ↦ omega arith | inr (inl p) ↦ omega arith | inr (inr (inl p)) ↦ omega arith | inr (inr (inr p)) ↦ omega arith ]
+]
 
-pub shown_journal : (front : List (List ℕ)) (bytes : Bool) → IsShown front false bytes → IsShown (front ++ journal_option ∷ []) true bytes
-shown_journal front bytes h = record {
-  each = each_more front journal_option h.each (inl refl);
-  once = once_more front journal_option h.once (sym h.journal_is);
-  journal_is = sym (list_any-append (bytes_eq journal_option) front (journal_option ∷ []) ∙ or_true (is_among front journal_option));
-  bytes_is = sym (list_any-append (bytes_eq data_option) front (journal_option ∷ [])
-      ∙ or_end bytes (is_among front data_option) (bytes_eq data_option journal_option) h.bytes_is refl);
+-- a script's run has no code of the words, of a refused text or of the source
+pub script_never : {show : Show} {script : Script} {names : List (List ℕ)} {old_sink new_sink : SinkSeen} {old new : ShelfSeen} {old_journal journal : Journal} {code : ℕ}
+    → ScriptEnds show script names old_sink new_sink old new old_journal journal code → (n : ℕ) → code ≡ n → (n ≡ 1) ⊎ (n ≡ 2) ⊎ (n ≡ 5) → ⊥
+script_never {code = code} (Ran e ran) n is (inl one) = no_ending code n e is (inl one)
+script_never {code = code} (Ran e ran) n is (inr (inl two)) = no_ending code n e is (inr (inl two))
+script_never {code = code} (Ran e ran) n is (inr (inr five)) = no_ending code n e is (inr (inr (inr (inl five))))
+script_never {code = code} (CutShort Device c cut) n is any = other_code code 7 n c is any (inr (inr (inl refl)))
+script_never {code = code} (CutShort Sink c cut) n is any = other_code code 6 n c is any (inr (inl refl))
+script_never {code = code} (CutShort Memory c cut) n is any = other_code code 8 n c is any (inr (inr (inr refl)))
+script_never {code = code} (NoImage c was) n is any = other_code code 3 n c is any (inl refl)
+script_never {code = code} (NoImageCut leaf c cause cut) n is any = other_code code 6 n c is any (inr (inl refl))
+script_never {code = code} (WantingFirst c was) n is any = other_code code 8 n c is any (inr (inr (inr refl)))
+
+-- a run has no code of the words or of the source
+pub run_never : {told : List ℕ → Type 0} {show : Show} {names : List (List ℕ)} {old_sink new_sink : SinkSeen} {old new : ShelfSeen} {old_journal journal : Journal} {code : ℕ}
+    → RunEnds told show names old_sink new_sink old new old_journal journal code → (n : ℕ) → code ≡ n → (n ≡ 1) ⊎ (n ≡ 5) → ⊥
+run_never (AsScript script is ends) n same (inl one) = script_never ends n same (inl one)
+run_never (AsScript script is ends) n same (inr five) = script_never ends n same (inr (inr five))
+run_never (Refused c was) n is (inl one) = omega arith
+run_never (Refused c was) n is (inr five) = omega arith
+run_never (RefusedCut fault c told cut) n is (inl one) = omega arith
+run_never (RefusedCut fault c told cut) n is (inr five) = omega arith
+run_never (Wanting c was) n is (inl one) = omega arith
+run_never (Wanting c was) n is (inr five) = omega arith
+
+-- ---- the codes 0, 4 and 9
+
+script_ended : {show : Show} {script : Script} {names : List (List ℕ)} {old_sink new_sink : SinkSeen} {old new : ShelfSeen} {old_journal journal : Journal} {code : ℕ}
+    → ScriptEnds show script names old_sink new_sink old new old_journal journal code → IsEnding code → HasRun show script names code old_sink new_sink old new journal
+script_ended (Ran e ran) ending = ran
+script_ended {code = code} (CutShort fault c cut) ending = absurd (cut_no_ending code fault ending c)
+script_ended {code = code} (NoImage c was) ending = absurd (no_ending code 3 ending c (inr (inr (inl refl))))
+script_ended {code = code} (NoImageCut leaf c cause cut) ending = absurd (no_ending code 6 ending c (inr (inr (inr (inr (inl refl))))))
+script_ended {code = code} (WantingFirst c was) ending = absurd (no_ending code 8 ending c (inr (inr (inr (inr (inr (inr refl)))))))
+
+run_ended : {told : List ℕ → Type 0} {show : Show} {names : List (List ℕ)} {old_sink new_sink : SinkSeen} {old new : ShelfSeen} {old_journal journal : Journal} {code : ℕ}
+    → RunEnds told show names old_sink new_sink old new old_journal journal code → IsEnding code
+    → (script : Script) × ((text : List ℕ) → told text → IsScriptOf text script) × HasRun show script names code old_sink new_sink old new journal
+run_ended (AsScript script is ends) ending = (script, is, script_ended ends ending)
+run_ended {code = code} (Refused c was) ending = absurd (no_ending code 2 ending c (inr (inl refl)))
+run_ended {code = code} (RefusedCut fault c is cut) ending = absurd (no_ending code 6 ending c (inr (inr (inr (inr (inl refl))))))
+run_ended {code = code} (Wanting c was) ending = absurd (no_ending code 8 ending c (inr (inr (inr (inr (inr (inr refl)))))))
+
+pub command_ended : (command : Command) (old_source new_source : SourceSeen) (old_sink new_sink : SinkSeen) (old new : ShelfSeen) (old_journal journal : Journal) (code : ℕ)
+    → CommandEnds command old_source new_source old_sink new_sink old new old_journal journal code → runs command ≡ true → IsEnding code
+    → (script : Script) × ((text : List ℕ) → told_by old_source.left command text → IsScriptOf text script)
+    × HasRun (shown_by command) script (image_names command) code old_sink new_sink old new journal
+command_ended (Run workers picks show names) old_source new_source old_sink new_sink old new old_journal journal code (inl unread) r e =
+    absurd (no_ending code 5 e unread.0 (inr (inr (inr (inl refl)))))
+command_ended (Run workers picks show names) old_source new_source old_sink new_sink old new old_journal journal code (inr ends) r e = run_ended ends e
+command_ended (Gen seed n) old_source new_source old_sink new_sink old new old_journal journal code ends r e = let no : false ≡ true = r in cc
+command_ended (Load seed n names) old_source new_source old_sink new_sink old new old_journal journal code (script, accepted, ends) r e =
+    (script, λ text told. subst (λ (t : List ℕ). IsScriptOf t script) (sym told) accepted, script_ended ends e)
+
+-- ---- completeness
+
+script_complete : {show : Show} {script : Script} {names : List (List ℕ)} {old_sink new_sink : SinkSeen} {old new : ShelfSeen} {old_journal journal : Journal} {code : ℕ}
+    → ScriptEnds show script names old_sink new_sink old new old_journal journal code → (images : Images) → old.tells → TellEach old.image names images
+    → AllByRecursion HasLawfulSize (map (length {A = ℕ}) images) → HaveImages (length images) (leaves_of script.tops)
+    → ¬ Rose old_sink.faults new_sink.faults → ¬ Rose old.faults new.faults → ¬ Rose old.disk_faults new.disk_faults → IsEnding code ⊎ (code ≡ 8)
+script_complete (Ran e ran) images tells each lawful have s f d = inl e
+script_complete (CutShort Device c cut) images tells each lawful have s f d = absurd (d cut.cause)
+script_complete (CutShort Sink c cut) images tells each lawful have s f d = absurd (s cut.cause)
+script_complete (CutShort Memory c cut) images tells each lawful have s f d = inr c
+script_complete {script = script} {names = names} {old = old} {new = new} (NoImage c was) images tells each lawful have s f d =
+    absurd (cause_not script names old new was.leaf images was.cause tells each lawful have f)
+script_complete (NoImageCut leaf c cause cut) images tells each lawful have s f d = absurd (s cut.rose)
+script_complete (WantingFirst c was) images tells each lawful have s f d = inr c
+
+-- a script's images are there where those of the same script are
+have_same : (images : ℕ) (text : List ℕ) (script other : Script) → IsScriptOf text script → IsScriptOf text other
+    → HaveImages images (leaves_of script.tops) → HaveImages images (leaves_of other.tops)
+have_same images text script other accepted is have =
+    subst (λ (x : Script). HaveImages images (leaves_of x.tops)) (one_script text script other accepted is) have
+
+run_complete : {told : List ℕ → Type 0} {show : Show} {names : List (List ℕ)} {old_sink new_sink : SinkSeen} {old new : ShelfSeen} {old_journal journal : Journal} {code : ℕ}
+    → RunEnds told show names old_sink new_sink old new old_journal journal code → (text : List ℕ) (script : Script) (images : Images) → told text
+    → IsScriptOf text script → old.tells → TellEach old.image names images → AllByRecursion HasLawfulSize (map (length {A = ℕ}) images)
+    → HaveImages (length images) (leaves_of script.tops) → ¬ Rose old_sink.faults new_sink.faults → ¬ Rose old.faults new.faults → ¬ Rose old.disk_faults new.disk_faults
+    → IsEnding code ⊎ (code ≡ 8)
+run_complete (AsScript other is ends) text script images told accepted tells each lawful have s f d =
+    script_complete ends images tells each lawful (have_same (length images) text script other accepted (is text told) have) s f d
+run_complete (Refused c was) text script images told accepted tells each lawful have s f d = absurd (no_script text script was.fault accepted (was.faulty text told))
+run_complete (RefusedCut fault c is cut) text script images told accepted tells each lawful have s f d = absurd (s cut.rose)
+run_complete (Wanting c was) text script images told accepted tells each lawful have s f d = inr c
+
+pub command_complete : (command : Command) (old_source new_source : SourceSeen) (old_sink new_sink : SinkSeen) (old new : ShelfSeen) (old_journal journal : Journal) (code : ℕ)
+    → CommandEnds command old_source new_source old_sink new_sink old new old_journal journal code → (text : List ℕ) (script : Script) (images : Images)
+    → runs command ≡ true → told_by old_source.left command text → IsScriptOf text script → old.tells → TellEach old.image (image_names command) images
+    → AllByRecursion HasLawfulSize (map (length {A = ℕ}) images) → HaveImages (length images) (leaves_of script.tops)
+    → ¬ Rose old_source.faults new_source.faults → ¬ Rose old_sink.faults new_sink.faults → ¬ Rose old.faults new.faults → ¬ Rose old.disk_faults new.disk_faults
+    → IsEnding code ⊎ (code ≡ 8)
+command_complete (Run workers picks show names) old_source new_source old_sink new_sink old new old_journal journal code (inl unread) text script images r told accepted tells each lawful have p s f d =
+    absurd (p unread.1.rose)
+command_complete (Run workers picks show names) old_source new_source old_sink new_sink old new old_journal journal code (inr ends) text script images r told accepted tells each lawful have p s f d =
+    run_complete ends text script images told accepted tells each lawful have s f d
+command_complete (Gen seed n) old_source new_source old_sink new_sink old new old_journal journal code ends text script images r told accepted tells each lawful have p s f d =
+    absurd told
+command_complete (Load seed n names) old_source new_source old_sink new_sink old new old_journal journal code (other, is, ends) text script images r told accepted tells each lawful have p s f d =
+    script_complete ends images tells each lawful
+    (have_same (length images) text script other accepted (subst (λ (t : List ℕ). IsScriptOf t other) (sym told) is) have) s f d
+
+-- ---- other codes
+
+-- the call of a command has no code of the words
+pub command_never : (command : Command) (old_source new_source : SourceSeen) (old_sink new_sink : SinkSeen) (old new : ShelfSeen) (old_journal journal : Journal) (code : ℕ)
+    → CommandEnds command old_source new_source old_sink new_sink old new old_journal journal code → code ≡ 1 → ⊥
+command_never (Run workers picks show names) old_source new_source old_sink new_sink old new old_journal journal code (inl unread) one = let five = unread.0 in omega arith
+command_never (Run workers picks show names) old_source new_source old_sink new_sink old new old_journal journal code (inr ends) one = run_never ends 1 one (inl refl)
+command_never (Gen seed n) old_source new_source old_sink new_sink old new old_journal journal code ends one = elim ends.codes_are [
+  | inl e ↦ omega arith
+  | inr (inl e) ↦ omega arith
+  | inr (inr e) ↦ omega arith
+]
+command_never (Load seed n names) old_source new_source old_sink new_sink old new old_journal journal code (script, is, ends) one = script_never ends 1 one (inl refl)
+
+-- memory was wanting before anything was done; the text of `load` is a script
+pub command_wanting : ((seed n : ℕ) → seed < 2 ^ 32 → 1 ≤ n → n ≤ BLOCKS_MAX → (script : Script) × IsScriptOf (script_text seed n) script)
+    → (words : List (List ℕ)) (command : Command) (source : SourceSeen) (sink : SinkSeen) (shelf : ShelfSeen) (journal : Journal) → IsCommandOf true words command
+    → CommandEnds command source source sink sink shelf shelf journal journal 8
+command_wanting scripts words (Run workers picks show names) source sink shelf journal is = inr (Wanting refl (wanting sink shelf journal))
+command_wanting scripts words (Gen seed n) source sink shelf journal is = record {
+  codes_are = inr (inr refl);
+  written = λ e. absurd (omega arith);
+  steady = λ e. refl;
+  failed = λ e. absurd (omega arith);
+  front = λ e. absurd (omega arith);
+  nothing = λ e x. (λ h. h, λ h. h);
 }
+command_wanting scripts words (Load seed n names) source sink shelf journal is =
+    let size = is.1.size in
+    let script = scripts seed n size.seed_fits size.blocks.low size.blocks.high in
+    (script.0, script.1, WantingFirst refl (wanting sink shelf journal))
 
-pub shown_data : (front : List (List ℕ)) (journal : Bool) → IsShown front journal false → IsShown (front ++ data_option ∷ []) journal true
-shown_data front journal h = record {
-  each = each_more front data_option h.each (inr refl);
-  once = once_more front data_option h.once (sym h.bytes_is);
-  journal_is = sym (list_any-append (bytes_eq journal_option) front (data_option ∷ [])
-      ∙ or_end journal (is_among front journal_option) (bytes_eq journal_option data_option) h.journal_is refl);
-  bytes_is = sym (list_any-append (bytes_eq data_option) front (data_option ∷ []) ∙ or_true (is_among front data_option));
-}
+-- ---- all codes
 
--- an option that stands once isn't among those before it
-once_apart : (front : List (List ℕ)) (word : List ℕ) (rest : List (List ℕ)) → AreOnce (front ++ word ∷ rest) → is_among front word ≡ false
-once_apart [] word rest h = refl
-once_apart (x ∷ xs) word rest h =
-    let parts = false_or (is_among xs x) (is_among (word ∷ rest) x) (sym (list_any-append (bytes_eq x) xs (word ∷ rest)) ∙ h.0) in
-    let here = false_or (bytes_eq x word) (is_among rest x) parts.1 in
-    or_false (bytes_eq word x) (is_among xs word) (differ_back x word here.0 (bytes_eq word x) refl) (once_apart xs word rest h.1)
+script_code : {show : Show} {script : Script} {names : List (List ℕ)} {old_sink new_sink : SinkSeen} {old new : ShelfSeen} {old_journal journal : Journal} {code : ℕ}
+    → ScriptEnds show script names old_sink new_sink old new old_journal journal code → IsSerialCode code
+script_code (Ran e ran) = inl e
+script_code (CutShort Device c cut) = inr (inr (inr (inr (inr (inr (inl c))))))
+script_code (CutShort Sink c cut) = inr (inr (inr (inr (inr (inl c)))))
+script_code (CutShort Memory c cut) = inr (inr (inr (inr (inr (inr (inr c))))))
+script_code (NoImage c was) = inr (inr (inr (inl c)))
+script_code (NoImageCut leaf c cause cut) = inr (inr (inr (inr (inr (inl c)))))
+script_code (WantingFirst c was) = inr (inr (inr (inr (inr (inr (inr c))))))
 
-known : (front : List (List ℕ)) (word : List ℕ) (rest : List (List ℕ)) → AllByRecursion IsOption (front ++ word ∷ rest) → IsOption word
-known [] word rest h = h.0
-known (x ∷ xs) word rest h = known xs word rest h.1
+run_code : {told : List ℕ → Type 0} {show : Show} {names : List (List ℕ)} {old_sink new_sink : SinkSeen} {old new : ShelfSeen} {old_journal journal : Journal} {code : ℕ}
+    → RunEnds told show names old_sink new_sink old new old_journal journal code → IsSerialCode code
+run_code (AsScript script is ends) = script_code ends
+run_code (Refused c was) = inr (inr (inl c))
+run_code (RefusedCut fault c is cut) = inr (inr (inr (inr (inr (inl c)))))
+run_code (Wanting c was) = inr (inr (inr (inr (inr (inr (inr c))))))
 
--- the options can't go on with this word, since it isn't known or stands among those before
-pub refused : (front : List (List ℕ)) (word : List ℕ) (rest : List (List ℕ)) (journal bytes : Bool) → IsShown front journal bytes
-    → (word ≡ journal_option → journal ≡ true) → (word ≡ data_option → bytes ≡ true)
-    → AllByRecursion IsOption (front ++ word ∷ rest) → AreOnce (front ++ word ∷ rest) → ⊥
-refused front word rest journal bytes h twice_journal twice_data each once =
-    let apart : is_among front word ≡ false = once_apart front word rest once in
-    elim (known front word rest each) [
-      | inl is ↦
-          (let there : is_among front journal_option ≡ true = sym h.journal_is ∙ twice_journal is in
-          let none : is_among front journal_option ≡ false = subst (λ w. is_among front w ≡ false) is apart in
-          let no : true ≡ false = sym there ∙ none in
-          cc)
-      | inr is ↦
-          (let there : is_among front data_option ≡ true = sym h.bytes_is ∙ twice_data is in
-          let none : is_among front data_option ≡ false = subst (λ w. is_among front w ≡ false) is apart in
-          let no : true ≡ false = sym there ∙ none in
-          cc)
+pub command_code : (command : Command) (old_source new_source : SourceSeen) (old_sink new_sink : SinkSeen) (old new : ShelfSeen) (old_journal journal : Journal) (code : ℕ)
+    → CommandEnds command old_source new_source old_sink new_sink old new old_journal journal code → IsSerialCode code
+command_code (Run workers picks show names) old_source new_source old_sink new_sink old new old_journal journal code (inl unread) = inr (inr (inr (inr (inl unread.0))))
+command_code (Run workers picks show names) old_source new_source old_sink new_sink old new old_journal journal code (inr ends) = run_code ends
+command_code (Gen seed n) old_source new_source old_sink new_sink old new old_journal journal code ends = elim ends.codes_are [
+  | inl done ↦ inl (inl done)
+  | inr (inl six) ↦ inr (inr (inr (inr (inr (inl six)))))
+  | inr (inr eight) ↦ inr (inr (inr (inr (inr (inr (inr eight))))))
+]
+command_code (Load seed n names) old_source new_source old_sink new_sink old new old_journal journal code (script, is, ends) = script_code ends
+
+-- ---- counts that stayed
+
+-- the counts of the sink and of the shelf stayed where the run came to its end
+pub command_steady : (command : Command) (old_source new_source : SourceSeen) (old_sink new_sink : SinkSeen) (old new : ShelfSeen) (old_journal journal : Journal) (code : ℕ)
+    → CommandEnds command old_source new_source old_sink new_sink old new old_journal journal code → IsEnding code
+    → (runs command ≡ false → (new.faults ≡ old.faults) × (new.disk_faults ≡ old.disk_faults))
+    → (new_sink.faults ≡ old_sink.faults) × (new.faults ≡ old.faults) × (new.disk_faults ≡ old.disk_faults)
+command_steady (Run workers picks show names) old_source new_source old_sink new_sink old new old_journal journal code ends e still =
+    let ran = (command_ended (Run workers picks show names) old_source new_source old_sink new_sink old new old_journal journal code ends refl e).2 in
+    (ran.sink_steady, ran.fit.measured.steady, ran.disks_steady)
+command_steady (Gen seed n) old_source new_source old_sink new_sink old new old_journal journal code ends e still =
+    let stayed = still refl in
+    elim ends.codes_are [
+      | inl done ↦ (ends.steady done, stayed.0, stayed.1)
+      | inr (inl six) ↦ absurd (no_ending code 6 e six (inr (inr (inr (inr (inl refl))))))
+      | inr (inr eight) ↦ absurd (no_ending code 8 e eight (inr (inr (inr (inr (inr (inr refl)))))))
     ]
+command_steady (Load seed n names) old_source new_source old_sink new_sink old new old_journal journal code ends e still =
+    let ran = (command_ended (Load seed n names) old_source new_source old_sink new_sink old new old_journal journal code ends refl e).2 in
+    (ran.sink_steady, ran.fit.measured.steady, ran.disks_steady)
 
--- a list apart at one of its elements
-apart_at : {A B : Type 0} (f : A → B) (xs : List A) (i : ℕ) (d : A) → i < length xs
-    → map f xs ≡ take i (map f xs) ++ f (get_or xs i d) ∷ drop (suc i) (map f xs)
-apart_at f [] i d h = absurd (omega arith)
-apart_at f (x ∷ xs) zero d h = refl
-apart_at f (x ∷ xs) (suc i) d h = ap (λ ys. f x ∷ ys) (apart_at f xs i d (omega arith))
-
-take_one_more : {A B : Type 0} (f : A → B) (xs : List A) (i : ℕ) (d : A) → i < length xs
-    → take (suc i) (map f xs) ≡ take i (map f xs) ++ f (get_or xs i d) ∷ []
-take_one_more f [] i d h = absurd (omega arith)
-take_one_more f (x ∷ xs) zero d h = refl
-take_one_more f (x ∷ xs) (suc i) d h = ap (λ ys. f x ∷ ys) (take_one_more f xs i d (omega arith))
-
--- the same for an element and its word
-pub apart_word : {A B : Type 0} (f : A → B) (xs : List A) (i : ℕ) (x : A) (word : B) → i < length xs → x ≡ get_or xs i x → word ≡ f x
-    → map f xs ≡ take i (map f xs) ++ word ∷ drop (suc i) (map f xs)
-apart_word f xs i x word low at is =
-    subst (λ w. map f xs ≡ take i (map f xs) ++ w ∷ drop (suc i) (map f xs)) (sym (is ∙ ap f at)) (apart_at f xs i x low)
-
-pub more_word : {A B : Type 0} (f : A → B) (xs : List A) (i : ℕ) (x : A) (word : B) → i < length xs → x ≡ get_or xs i x → word ≡ f x
-    → take (i + 1) (map f xs) ≡ take i (map f xs) ++ word ∷ []
-more_word f xs i x word low at is =
-    let next : suc i ≡ i + 1 = omega arith in
-    subst (λ n. take n (map f xs) ≡ take i (map f xs) ++ word ∷ []) next
-    (subst (λ w. take (suc i) (map f xs) ≡ take i (map f xs) ++ w ∷ []) (sym (is ∙ ap f at)) (take_one_more f xs i x low))
-
--- the last of a list
-ends_with : {A : Type 0} (xs : List A) (n : ℕ) (x : A) → length xs ≡ suc n → x ≡ get_or xs n x → xs ≡ take n xs ++ x ∷ []
-ends_with [] n x len at = absurd (let no : 0 ≡ suc n = len in omega arith)
-ends_with (y ∷ []) zero x len at = ap (λ z. z ∷ []) (sym at)
-ends_with (y ∷ []) (suc n) x len at = absurd (let other : 1 ≡ suc (suc n) = len in omega arith)
-ends_with (y ∷ z ∷ xs) zero x len at = absurd (let other : suc (suc (length xs)) ≡ 1 = len in omega arith)
-ends_with (y ∷ z ∷ xs) (suc n) x len at =
-    let shorter : length (z ∷ xs) ≡ suc n = (let both : suc (length (z ∷ xs)) ≡ suc (suc n) = len in omega arith) in
-    ap (λ ys. y ∷ ys) (ends_with (z ∷ xs) n x shorter at)
-
--- a first word, a last one, and those between
-pub in_three : {A B : Type 0} (f : A → B) (words : List A) (a b : A) → 2 ≤ length words → a ≡ get_or words 0 a
-    → b ≡ get_or words (length words - 1) b → map f words ≡ f a ∷ map f (take (length words - 1 - 1) (drop 1 words)) ++ f b ∷ []
-in_three f [] a b low first last = absurd (omega arith)
-in_three f (x ∷ []) a b low first last = absurd (omega arith)
-in_three f (x ∷ y ∷ ys) a b low first last =
-    let len : length (x ∷ y ∷ ys) - 1 ≡ suc (length ys) = omega arith in
-    let len_less : suc (length ys) - 1 ≡ length ys = omega arith in
-    let at : b ≡ get_or (y ∷ ys) (length ys) b = subst (λ (n : ℕ). b ≡ get_or (x ∷ y ∷ ys) n b) len last in
-    let whole : y ∷ ys ≡ take (length ys) (y ∷ ys) ++ b ∷ [] = ends_with (y ∷ ys) (length ys) b refl at in
-    let index : length (x ∷ y ∷ ys) - 1 - 1 ≡ length ys = omega arith in
-    let rest : map f (y ∷ ys) ≡ map f (take (length ys) (y ∷ ys)) ++ f b ∷ [] =
-    ap (map f) whole ∙ map-append f (take (length ys) (y ∷ ys)) (b ∷ []) in
-    let there : map f (x ∷ y ∷ ys) ≡ f a ∷ map f (take (length ys) (y ∷ ys)) ++ f b ∷ [] =
-    ap (λ z. f z ∷ map f (y ∷ ys)) (sym first) ∙ ap (λ zs. f a ∷ zs) rest in
-    subst (λ (n : ℕ). map f (x ∷ y ∷ ys) ≡ f a ∷ map f (take n (y ∷ ys)) ++ f b ∷ []) (sym index) there
-
-longer : (ys : List (List ℕ)) (y : List ℕ) → 0 ≡ length (ys ++ y ∷ []) → ⊥
-longer [] y e = absurd (let other : 0 ≡ 1 = e in omega arith)
-longer (x ∷ ys) y e = absurd (let other : 0 ≡ suc (length (ys ++ y ∷ [])) = e in omega arith)
-
-same_end : (xs ys : List (List ℕ)) (x y : List ℕ) → xs ++ x ∷ [] ≡ ys ++ y ∷ [] → (xs ≡ ys) × (x ≡ y)
-same_end [] [] x y e = (refl, ap (λ zs. get_or zs 0 []) e)
-same_end [] (b ∷ ys) x y e = absurd (longer ys y (ap length (ap (drop 1) e)))
-same_end (a ∷ xs) [] x y e = absurd (longer xs x (sym (ap length (ap (drop 1) e))))
-same_end (a ∷ xs) (b ∷ ys) x y e =
-    let rest = same_end xs ys x y (ap (drop 1) e) in
-    let head : a ≡ b = ap (λ zs. get_or zs 0 []) e in
-    (cc, rest.1)
-
--- the words are one command at most
-pub one_command : (words : List (List ℕ)) (a b : Show) (x y : List ℕ) → IsCommand words a x → IsCommand words b y → (a ≡ b) × (x ≡ y)
-one_command words a b x y first second =
-    let both = same_end first.options second.options x y (ap (drop 1) (sym first.words_are ∙ second.words_are)) in
-    (first.show_is ∙ (ap shown_by both.0 ∙ sym second.show_is), both.1)
-
--- a word is the text that it was compared with, or isn't
-pub is_text : (word text : List ℕ) (b : Bool) → b ≡ bytes_eq word text → b ≡ true → word ≡ text
-is_text word text b e h = (bytes_eq-Decides word text).0 (sym e ∙ h)
-
-pub isnt_text : (word text : List ℕ) (b : Bool) → b ≡ bytes_eq word text → b ≡ false → word ≡ text → ⊥
-isnt_text word text b e h same =
-    let yes : bytes_eq word text ≡ true = (bytes_eq-Decides word text).1 same in
-    let no : true ≡ false = sym yes ∙ (sym e ∙ h) in
-    cc
-
-same_of : (word text : List ℕ) (b : Bool) → bytes_eq word text ≡ b → not (bytes_eq word text) ≡ false → word ≡ text
-same_of word text true e h = (bytes_eq-Decides word text).0 e
-same_of word text false e h = absurd (let no_more : true ≡ false = ap not (sym e) ∙ h in cc)
-
--- and where it was found not to differ
-pub isnt_other : (word text : List ℕ) (b : Bool) → b ≡ not (bytes_eq word text) → b ≡ false → word ≡ text
-isnt_other word text b e h = same_of word text (bytes_eq word text) refl (sym e ∙ h)
+-- the images of a command that runs a script have a first name
+pub first_name : (command : Command) (sound : List ℕ → Type 0) → IsLawfulCommand command → runs command ≡ true → AllByRecursion sound (image_names command)
+    → (name : List ℕ) × sound name
+first_name (Run workers picks show []) sound lawful r all = absurd (lawful.some refl)
+first_name (Run workers picks show (name ∷ names)) sound lawful r all = (name, all.0)
+first_name (Gen seed n) sound lawful r all = let no : false ≡ true = r in cc
+first_name (Load seed n []) sound lawful r all = absurd (lawful.1.some refl)
+first_name (Load seed n (name ∷ names)) sound lawful r all = (name, all.0)

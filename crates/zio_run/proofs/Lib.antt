@@ -2,12 +2,16 @@ pub mod ClapRows
 pub mod ClapSizes
 pub mod ClapWalks
 pub mod CommandLemmas
-pub mod DiskLemmas
+pub mod CountLemmas
+pub mod EndLemmas
+pub mod GroundLemmas
 pub mod NumberLemmas
 pub mod OptionLemmas
 pub mod PoolLemmas
 pub mod ReadLemmas
+pub mod RoundsLemmas
 pub mod ScriptLemmas
 pub mod ShelfLemmas
 pub mod TopLemmas
+pub mod TripLemmas
 pub mod WordLemmas

@@ -3,6 +3,7 @@ use Rattle.std.proofs.Common.{◌≡◌, ◌<◌, ◌≤◌, ℕ, ◌+◌, ◌-�
 use Rattle.std.proofs.lemmas.Bool.{and_parts, eqb-true, leb-true, leb-false}
 use Rattle.std.proofs.lemmas.List.{length-append}
 use Rattle.std.specs.List.{list_all}
+use Rattle.zio_cksum.proofs.AllLemmas.{all_append}
 use Rattle.zio_types.specs.Places.{is_unit, sector_size}
 use Rattle.zio_faults.specs.declared.table.Row.{Row}
 use Rattle.zio_faults.specs.Hits.{RowFits}
@@ -13,12 +14,11 @@ use Rattle.zio_script.specs.declared.script.ScriptFault.{ScriptFault}
 use Rattle.zio_script.specs.declared.script.TopLine.{TopLine}
 use Rattle.zio_script.specs.declared.why.Why.{Why}
 use Rattle.zio_script.specs.declared.why.Why.TheVariants.{Limit, Order, Pool}
-use Rattle.zio_script.specs.Grammar.{IsScriptIn, after_form, after_line, after_shape, after_words, ended, read_lines, read_on, read_short, script_with, unless_skipped, unless_why}
+use Rattle.zio_script.specs.Grammar.{IsScriptOf, after_line, after_shape, after_words, ended, read_lines, read_on, read_short, script_with, unless_skipped, unless_why}
 use Rattle.zio_script.specs.Lines.{ScriptLine, FailmodeLine, LeavesLine, FaultLine, RequestLine, GoLine, ClearLine, Shape, line_of, shape_of}
 use Rattle.zio_script.specs.Whys.{Before, fits_row, if_so, is_leaf, is_sector, is_within, least_why, nothing_before, whys_at_end, whys_of}
 use Rattle.zio_script.specs.Words.{Word, is_skipped, lines_of, words_of}
 use Rattle.zio_run.specs.Tops.{IsLawfulPool}
-use Rattle.zio_plain.proofs.JournalLemmas.{all_push}
 
 -- ---- one line
 
@@ -74,7 +74,7 @@ line_lawful before (LeavesLine leaves sector) pool none =
     let few : length before.script.tops < TOPS_MAX = leb-false TOPS_MAX (length before.script.tops) parts.1 in
     let len : length (before.script.tops ++ top ∷ []) ≡ length before.script.tops + 1 = length-append before.script.tops (top ∷ []) in
     record {
-      units = all_push (λ (t : TopLine). is_unit t.unit ≡ true) before.script.tops top pool.units (sector_unit sector (not_false (is_sector sector) more.1));
+      units = all_append (λ (t : TopLine). is_unit t.unit ≡ true) before.script.tops (top ∷ []) pool.units (sector_unit sector (not_false (is_sector sector) more.1), tt);
       most = omega arith;
       rows = pool.rows;
     }
@@ -84,7 +84,7 @@ line_lawful before (FaultLine row) pool none =
     record {
       units = pool.units;
       most = pool.most;
-      rows = all_push RowFits before.script.faults row pool.rows (row_fits row (not_false (fits_row row) parts.0));
+      rows = all_append RowFits before.script.faults (row ∷ []) pool.rows (row_fits row (not_false (fits_row row) parts.0), tt);
     }
 line_lawful before (RequestLine asked) pool none = record { units = pool.units; most = pool.most; rows = pool.rows }
 line_lawful before GoLine pool none = record { units = pool.units; most = pool.most; rows = pool.rows }
@@ -106,17 +106,12 @@ after_shape_lawful : (before next : Before) (shape : Option Shape) → IsLawfulP
 after_shape_lawful before next None pool is = let none : ⊥ = cc in absurd none
 after_shape_lawful before next (Some shape) pool is = after_line_lawful before next (line_of shape) pool is
 
-after_form_lawful : (built : Bool) (before next : Before) (words : List Word) → IsLawfulPool before.script → after_form built before words ≡ Ok next
-    → IsLawfulPool next.script
-after_form_lawful false before next words pool is = let none : ⊥ = cc in absurd none
-after_form_lawful true before next words pool is = after_shape_lawful before next (shape_of words) pool is
-
-skipped_lawful : (skipped built : Bool) (before next : Before) (words : List Word) → IsLawfulPool before.script
-    → unless_skipped skipped before (after_form built before words) ≡ Ok next → IsLawfulPool next.script
-skipped_lawful true built before next words pool is =
+skipped_lawful : (skipped : Bool) (before next : Before) (words : List Word) → IsLawfulPool before.script
+    → unless_skipped skipped before (after_shape before (shape_of words)) ≡ Ok next → IsLawfulPool next.script
+skipped_lawful true before next words pool is =
     let same : before ≡ next = cc in
     subst (λ (b : Before). IsLawfulPool b.script) same pool
-skipped_lawful false built before next words pool is = after_form_lawful built before next words pool is
+skipped_lawful false before next words pool is = after_shape_lawful before next (shape_of words) pool is
 
 end_same : (n : ℕ) (why : Option Why) (script made : Script) → ended n why script ≡ Ok made → script ≡ made
 end_same n None script made is = cc
@@ -128,30 +123,30 @@ next_lawful : (n : ℕ) (after : Result Before Why) (script : Script) (rest : Be
 next_lawful n (Err why) script rest pool is more = let none : ⊥ = cc in absurd none
 next_lawful n (Ok next) script rest pool is more = more next (pool next refl) is
 
-end_read : (is_built : List Word → Bool) (n : ℕ) (before : Before) (script : Script) → read_lines is_built n [] before ≡ Ok script → before.script ≡ script
+end_read : (n : ℕ) (before : Before) (script : Script) → read_lines n [] before ≡ Ok script → before.script ≡ script
 unfolding read_lines
-end_read is_built n before script is = end_same n (least_why (whys_at_end before.script)) before.script script is
+end_read n before script is = end_same n (least_why (whys_at_end before.script)) before.script script is
 
-first_on : (is_built : List Word → Bool) (n : ℕ) (line : Word) (lines : List Word) (before : Before) (script : Script)
-    → read_lines is_built n (line ∷ lines) before ≡ Ok script
-    → read_on n (after_words is_built before (words_of line)) (read_lines is_built (n + 1) lines) ≡ Ok script
+first_on : (n : ℕ) (line : Word) (lines : List Word) (before : Before) (script : Script)
+    → read_lines n (line ∷ lines) before ≡ Ok script
+    → read_on n (after_words before (words_of line)) (read_lines (n + 1) lines) ≡ Ok script
 unfolding read_lines
-first_on is_built n line lines before script is = is
+first_on n line lines before script is = is
 
-lines_lawful : (is_built : List Word → Bool) (n : ℕ) (lines : List Word) (before : Before) (script : Script) → IsLawfulPool before.script
-    → read_lines is_built n lines before ≡ Ok script → IsLawfulPool script
-lines_lawful is_built n [] before script pool is = subst IsLawfulPool (end_read is_built n before script is) pool
-lines_lawful is_built n (line ∷ lines) before script pool is =
-    next_lawful n (after_words is_built before (words_of line)) script (read_lines is_built (n + 1) lines)
-    (λ next. skipped_lawful (is_skipped (words_of line)) (is_built (words_of line)) before next (words_of line) pool)
-    (first_on is_built n line lines before script is)
-    (λ next. λ lawful. lines_lawful is_built (n + 1) lines next script lawful)
+lines_lawful : (n : ℕ) (lines : List Word) (before : Before) (script : Script) → IsLawfulPool before.script
+    → read_lines n lines before ≡ Ok script → IsLawfulPool script
+lines_lawful n [] before script pool is = subst IsLawfulPool (end_read n before script is) pool
+lines_lawful n (line ∷ lines) before script pool is =
+    next_lawful n (after_words before (words_of line)) script (read_lines (n + 1) lines)
+    (λ next. skipped_lawful (is_skipped (words_of line)) before next (words_of line) pool)
+    (first_on n line lines before script is)
+    (λ next. λ lawful. lines_lawful (n + 1) lines next script lawful)
 
-short_lawful : (short : Bool) (is_built : List Word → Bool) (text : List ℕ) (script : Script) → read_short short is_built text ≡ Ok script → IsLawfulPool script
-short_lawful false is_built text script is = let none : ⊥ = cc in absurd none
-short_lawful true is_built text script is =
-    lines_lawful is_built 1 (lines_of text) nothing_before script (record { units = tt; most = omega arith; rows = tt }) is
+short_lawful : (short : Bool) (text : List ℕ) (script : Script) → read_short short text ≡ Ok script → IsLawfulPool script
+short_lawful false text script is = let none : ⊥ = cc in absurd none
+short_lawful true text script is =
+    lines_lawful 1 (lines_of text) nothing_before script (record { units = tt; most = omega arith; rows = tt }) is
 
 -- an accepted script's pool is lawful
-pub reading_lawful_pool : (is_built : List Word → Bool) (text : List ℕ) (script : Script) → IsScriptIn is_built text script → IsLawfulPool script
-reading_lawful_pool is_built text script is = short_lawful (nat_le (length text) SCRIPT_LEN_MAX) is_built text script is
+pub reading_lawful_pool : (text : List ℕ) (script : Script) → IsScriptOf text script → IsLawfulPool script
+reading_lawful_pool text script is = short_lawful (nat_le (length text) SCRIPT_LEN_MAX) text script is

@@ -5,8 +5,7 @@ use Rattle.std.proofs.lemmas.Bool.{leb-false, leb-true, lt-leb}
 use Rattle.zio_script.specs.declared.read.TheConstants.{SCRIPT_LEN_MAX}
 use Rattle.zio_script.specs.declared.script.Script.{Script}
 use Rattle.zio_script.specs.declared.script.ScriptFault.{ScriptFault}
-use Rattle.zio_script.specs.Built.{IsFaultOf, IsScriptOf, is_built}
-use Rattle.zio_script.specs.Grammar.{read_short, reading}
+use Rattle.zio_script.specs.Grammar.{IsFaultOf, IsScriptOf, read_short, reading}
 use Rattle.zio_run.specs.Outcomes.{IsReadOf}
 
 read_len : (text bytes : List ℕ) → IsReadOf text bytes → length bytes ≡ min (SCRIPT_LEN_MAX + 1) (length text)
@@ -23,15 +22,15 @@ still_long : (text bytes : List ℕ) → IsReadOf text bytes → SCRIPT_LEN_MAX 
 still_long text bytes read long = let len = read_len text bytes read in omega arith
 
 reading-by : (text bytes : List ℕ) → IsReadOf text bytes → (b : Bool) → nat_le (length bytes) SCRIPT_LEN_MAX ≡ b
-    → reading is_built bytes ≡ reading is_built text
-reading-by text bytes read true short = ap (reading is_built) (whole text bytes read (leb-true (length bytes) SCRIPT_LEN_MAX short))
+    → reading bytes ≡ reading text
+reading-by text bytes read true short = ap reading (whole text bytes read (leb-true (length bytes) SCRIPT_LEN_MAX short))
 reading-by text bytes read false long =
     let more : nat_le (length text) SCRIPT_LEN_MAX ≡ false =
     lt-leb (length text) SCRIPT_LEN_MAX (still_long text bytes read (leb-false (length bytes) SCRIPT_LEN_MAX long)) in
-    ap (λ (b : Bool). read_short b is_built bytes) long ∙ sym (ap (λ (b : Bool). read_short b is_built text) more)
+    ap (λ (b : Bool). read_short b bytes) long ∙ sym (ap (λ (b : Bool). read_short b text) more)
 
 -- what was read of a text is read as the text is
-reading-read : (text bytes : List ℕ) → IsReadOf text bytes → reading is_built bytes ≡ reading is_built text
+reading-read : (text bytes : List ℕ) → IsReadOf text bytes → reading bytes ≡ reading text
 reading-read text bytes read = reading-by text bytes read (nat_le (length bytes) SCRIPT_LEN_MAX) refl
 
 pub IsScriptOf-read : (text bytes : List ℕ) (script : Script) → IsReadOf text bytes → IsScriptOf bytes script → IsScriptOf text script
@@ -46,4 +45,12 @@ ok_differs (Err x) a b h k = let no : Err x ≡ Ok a = h in cc
 
 -- a text is no script where it has a fault
 pub no_script : (text : List ℕ) (script : Script) (fault : ScriptFault) → IsScriptOf text script → IsFaultOf text fault → ⊥
-no_script text script fault is has = ok_differs (reading is_built text) script fault is has
+no_script text script fault is has = ok_differs (reading text) script fault is has
+
+ok_same : {A B : Type 0} (r : Result A B) (a b : A) → r ≡ Ok a → r ≡ Ok b → a ≡ b
+ok_same (Ok x) a b h k = cc
+ok_same (Err x) a b h k = let no : Err x ≡ Ok a = h in cc
+
+-- a text is one script
+pub one_script : (text : List ℕ) (a b : Script) → IsScriptOf text a → IsScriptOf text b → a ≡ b
+one_script text a b h k = ok_same (reading text) a b h k

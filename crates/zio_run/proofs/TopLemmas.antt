@@ -6,7 +6,6 @@ use Rattle.std.proofs.lemmas.List.{take_all}
 use Rattle.zio_types.specs.Places.{sector_size}
 use Rattle.zio_cksum.proofs.AllLemmas.{all_append, all_weaker}
 use Rattle.zio_script.specs.declared.script.TopLine.{TopLine}
-use Rattle.zio_plain.proofs.JournalLemmas.{all_front}
 use Rattle.zio_run.specs.Tops.{HaveImages, IsFirstMissing, leaves_of}
 
 pub all_at : {X : Type 0} (P : X → Type 0) (xs : List X) (k : ℕ) (x : X) → AllByRecursion P xs → k < length xs → x ≡ get_or xs k x → P x
@@ -14,7 +13,16 @@ all_at P [] k x a inside is = let l : k < 0 = inside in absurd (omega arith)
 all_at P (y ∷ xs) zero x a inside is = subst P (sym is) a.0
 all_at P (y ∷ xs) (suc k) x a inside is = all_at P xs k x a.1 (let l : suc k < suc (length xs) = inside in omega arith) is
 
+pub all_index : (P : ℕ → Type 0) (xs : List ℕ) (k : ℕ) → AllByRecursion P xs → k < length xs → P (get_or xs k 0)
+all_index P [] k all inside = let l : k < 0 = inside in absurd (omega arith)
+all_index P (x ∷ xs) zero all inside = all.0
+all_index P (x ∷ xs) (suc k) all inside = all_index P xs k all.1 (let l : suc k < suc (length xs) = inside in omega arith)
+
 -- ---- leaves with images
+
+pub all_front : {X : Type 0} (P : X → Type 0) (xs ys : List X) → AllByRecursion P (xs ++ ys) → AllByRecursion P xs × AllByRecursion P ys
+all_front P [] ys h = (tt, h)
+all_front P (x ∷ xs) ys h = let rest = all_front P xs ys h.1 in ((h.0, rest.0), rest.1)
 
 pub HaveImages-lines : (images : ℕ) (lines : List TopLine) → HaveImages images (leaves_of lines)
     → AllByRecursion (λ (line : TopLine). HaveImages images line.leaves) lines

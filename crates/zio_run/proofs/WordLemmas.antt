@@ -1,5 +1,6 @@
 -- Words that are no command, and that words are one command at most.
-use Rattle.std.proofs.Common.{◌≡◌, ◌≢◌, ◌<◌, ◌≤◌, ◌^◌, ℕ, List, [], ◌∷◌, Bool, true, false, Option, refl, sym, ap, ◌∙◌, subst, arith, bytes_eq}
+use Rattle.std.proofs.Common.{◌≡◌, ◌≢◌, ◌<◌, ◌≤◌, ◌^◌, ℕ, List, [], ◌∷◌, Bool, true, false, Option, None, suc, length, ◌==◌, refl, sym, ap, ◌∙◌, subst, arith, bytes_eq}
+use Rattle.std.proofs.lemmas.Bool.{eqb-true}
 use Rattle.std.specs.Prelude.{decimal, codes}
 use Rattle.std.proofs.lemmas.Fmt.{decimal_injective}
 use Rattle.zio_gen.specs.declared.script.TheConstants.{BLOCKS_MAX}
@@ -7,7 +8,7 @@ use Rattle.zio_report.specs.declared.report.Show.{Show}
 use Rattle.zio_run.specs.declared.options.Options.{Options}
 use Rattle.zio_run.specs.declared.words.Command.{Command}
 use Rattle.zio_run.specs.declared.words.Command.TheVariants.{Run, Gen, Load}
-use Rattle.zio_run.specs.Words.{AreImages, IsCommandOf, IsGenOf, IsLoadOf, IsNoCommandOf, IsRunOf, IsSize, IsSplit, NoSplit, show_of, workers_of}
+use Rattle.zio_run.specs.Words.{AreImages, IsCommandOf, IsGenOf, IsLawfulCommand, IsLoadOf, IsNoCommandOf, IsRunOf, IsSize, IsSplit, NoSplit, show_of, workers_of}
 use Rattle.zio_run.proofs.OptionLemmas.{differ, heads, one_split}
 
 no_true : (b : Bool) → b ≡ false → b ≡ true → ⊥
@@ -113,3 +114,39 @@ one_command_of serial words (Gen seed n) (Load other m names) h k = absurd (verb
 one_command_of serial words (Load seed n images) (Run workers picks show names) h k = absurd (verbs_differ (codes "load") (codes "run") words h.1.rest k.rest refl h.1.words_are k.words_are)
 one_command_of serial words (Load seed n images) (Gen other m) h k = absurd (verbs_differ (codes "load") (codes "gen") words h.1.rest k.1.rest refl h.1.words_are k.1.words_are)
 one_command_of serial words (Load seed n images) (Load other m names) h k = load_same words seed other n m images names h.1 k.1
+
+-- ---- a command
+
+pub is_run : (serial : Bool) (rest : List (List ℕ)) (options : Options) (names : List (List ℕ)) → IsSplit serial rest options names → AreImages names
+    → (command : Command) × IsCommandOf serial (codes "run" ∷ rest) command
+is_run serial rest options names split named = (
+  Run (workers_of serial options) None (show_of options) names,
+  record {
+    rest = rest;
+    options = options;
+    words_are = refl;
+    split = split;
+    workers_are = refl;
+    picks_are = refl;
+    show_is = refl;
+    named = named;
+  },
+)
+
+pub is_gen : (rest : List (List ℕ)) (seed n : ℕ) → IsSize rest seed n [] → (command : Command) × IsCommandOf true (codes "gen" ∷ rest) command
+is_gen rest seed n size = (Gen seed n, (refl, record { rest = rest; words_are = refl; size = size }))
+
+pub is_load : (rest : List (List ℕ)) (seed n : ℕ) (names : List (List ℕ)) → IsSize rest seed n names → AreImages names
+    → (command : Command) × IsCommandOf true (codes "load" ∷ rest) command
+is_load rest seed n names size named = (Load seed n names, (refl, record { rest = rest; words_are = refl; size = size; named = named }))
+
+-- the names and numbers of a command are lawful
+pub lawful_command : (serial : Bool) (words : List (List ℕ)) (command : Command) → IsCommandOf serial words command → IsLawfulCommand command
+lawful_command serial words (Run workers picks show images) h = h.named
+lawful_command serial words (Gen seed n) h = h.1.size.blocks
+lawful_command serial words (Load seed n images) h = (h.1.size.blocks, h.1.named)
+
+-- nothing stands behind
+pub nothing_behind : {X : Type 0} (xs : List X) (b : Bool) → b ≡ (length xs == 0) → b ≡ true → xs ≡ []
+nothing_behind [] b is full = refl
+nothing_behind (x ∷ xs) b is full = let e : suc (length xs) ≡ 0 = eqb-true (suc (length xs)) 0 (sym is ∙ full) in absurd (omega arith)

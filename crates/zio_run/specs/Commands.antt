@@ -1,52 +1,68 @@
--- The words of a command: `run [--journal] [--data] IMAGE`, the options in any order and each at most once.
-use Rattle.std.specs.Prelude.{◌≡◌, ◌≢◌, ℕ, List, [], ◌∷◌, ◌++◌, ◌⊎◌, Bool, false, bytes_eq, codes}
-use Rattle.std.specs.List.{AllByRecursion, list_any}
+-- What a command asks for, and how its call ends.
+use Rattle.std.specs.Prelude.{◌≡◌, ◌⊎◌, ℕ, List, [], Bool, true, false}
+use Rattle.zio_types.specs.declared.journal.Journal.{Journal}
+use Rattle.zio_outside.specs.Outside.{Keeps, Rose}
+use Rattle.zio_script.specs.declared.script.Script.{Script}
+use Rattle.zio_script.specs.Grammar.{IsScriptOf}
 use Rattle.zio_report.specs.declared.report.Show.{Show}
-use Rattle.zio_report.specs.declared.report.Show.TheVariants.{Report}
-use Rattle.zio_run.specs.Words.{IsNoGen}
+use Rattle.zio_report.specs.declared.report.Show.TheVariants.{Summary}
+use Rattle.zio_gen.specs.Generated.{script_text}
+use Rattle.zio_run.specs.declared.words.Command.{Command}
+use Rattle.zio_run.specs.declared.words.Command.TheVariants.{Run, Gen, Load}
+use Rattle.zio_run.specs.Causes.{AreUntouched}
+use Rattle.zio_run.specs.Codes.{RunEnds, ScriptEnds}
+use Rattle.zio_run.specs.Outcomes.{Ends}
+use Rattle.zio_run.specs.Seen.{ShelfSeen, SinkSeen, SourceSeen}
 
--- the report has the journal's entries and the order of completions
-abbrev pub journal_option : List ℕ
-journal_option = codes "--journal"
+-- ---- what a command asks for
 
--- the report has the bytes that reads gave
-abbrev pub data_option : List ℕ
-data_option = codes "--data"
+-- it runs a script over images
+abbrev pub runs : Command → Bool
+runs (Run workers picks show names) = true
+runs (Gen seed n) = false
+runs (Load seed n names) = true
 
-abbrev pub IsOption : List ℕ → Type 0
-IsOption word = (word ≡ journal_option) ⊎ (word ≡ data_option)
+-- it reads the source
+abbrev pub reads : Command → Bool
+reads (Run workers picks show names) = true
+reads (Gen seed n) = false
+reads (Load seed n names) = false
 
--- the word is one of these
-abbrev pub is_among : List (List ℕ) → List ℕ → Bool
-is_among words word = list_any (bytes_eq word) words
+-- the script's text: what the source tells, or what is generated
+abbrev pub told_by : (List ℕ → Type 0) → Command → List ℕ → Type 0
+told_by left (Run workers picks show names) text = left text
+told_by left (Gen seed n) text = ⊥
+told_by left (Load seed n names) text = text ≡ script_text seed n
 
--- no word stands twice
-abbrev pub AreOnce : List (List ℕ) → Type 0
-AreOnce [] = Unit {0}
-AreOnce (word ∷ words) = (is_among words word ≡ false) × AreOnce words
+-- what is shown of the run
+abbrev pub shown_by : Command → Show
+shown_by (Run workers picks show names) = show
+shown_by (Gen seed n) = Summary
+shown_by (Load seed n names) = Summary
 
--- the name of an image isn't empty, and doesn't begin with `-`
-abbrev pub IsImageName : List ℕ → Type 0
-IsImageName [] = ⊥
-IsImageName (first ∷ rest) = first ≢ 45
+-- the names of the images
+abbrev pub image_names : Command → List (List ℕ)
+image_names (Run workers picks show names) = names
+image_names (Gen seed n) = []
+image_names (Load seed n names) = names
 
--- what these options ask to be shown
-abbrev pub shown_by : List (List ℕ) → Show
-shown_by options = Report (is_among options journal_option) (is_among options data_option)
+-- ---- how its call ends
 
--- the word `run`, the options, and the name of one image
-pub record IsCommand (words : List (List ℕ)) (show : Show) (image : List ℕ) : Type 0 where
-  pub options : List (List ℕ)
-  pub words_are : words ≡ codes "run" ∷ options ++ image ∷ []
-  pub each : AllByRecursion IsOption options
-  pub once : AreOnce options
-  pub show_is : show ≡ shown_by options
-  pub named : IsImageName image
+-- the source failed, and nothing was written
+pub record WasUnread (old_source new_source : SourceSeen) (old_sink new_sink : SinkSeen) (old new : ShelfSeen) (old_journal journal : Journal) : Type 0 where
+  pub rose : Rose old_source.faults new_source.faults
+  pub nothing : Keeps old_sink.holds new_sink.holds
+  pub untouched : AreUntouched old new
+  pub unentered : journal ≡ old_journal
 
-abbrev pub IsNoRun : List (List ℕ) → Type 0
-IsNoRun words = (show : Show) (image : List ℕ) → ¬ IsCommand words show image
-
--- neither a run nor `gen`
-pub record IsNoCommand (words : List (List ℕ)) : Type 0 where
-  pub no_run : IsNoRun words
-  pub no_gen : IsNoGen words
+-- How the call of a command ends. A script that is read ends as its run does, or with code 5 where the source failed; `gen`
+-- ends with its text, which is a script; and `load` as the run of that script.
+abbrev pub CommandEnds : Command → SourceSeen → SourceSeen → SinkSeen → SinkSeen → ShelfSeen → ShelfSeen → Journal → Journal → ℕ → Type 0
+CommandEnds (Run workers picks show names) old_source new_source old_sink new_sink old new old_journal journal code =
+    ((code ≡ 5) × WasUnread old_source new_source old_sink new_sink old new old_journal journal)
+    ⊎ RunEnds old_source.left show names old_sink new_sink old new old_journal journal code
+CommandEnds (Gen seed n) old_source new_source old_sink new_sink old new old_journal journal code =
+    Ends 0 (script_text seed n) code old_sink.faults new_sink.faults old_sink.holds new_sink.holds
+CommandEnds (Load seed n names) old_source new_source old_sink new_sink old new old_journal journal code =
+    (script : Script) × IsScriptOf (script_text seed n) script
+    × ScriptEnds Summary script names old_sink new_sink old new old_journal journal code

@@ -4,7 +4,6 @@ use Rattle.std.specs.Prelude.{ℕ, List, [], ◌∷◌}
 use Rattle.zio_types.specs.declared.journal.Journal.{Journal}
 use Rattle.zio_outside.specs.Outside.{Appends}
 use Rattle.zio_script.specs.declared.script.Script.{Script}
-use Rattle.zio_script.specs.Built.{IsScriptOf}
 use Rattle.zio_cksum.specs.Images.{Images}
 use Rattle.zio_report.specs.declared.report.Show.{Show}
 use Rattle.zio_report.specs.Meanings.{IsMeaning}
@@ -16,14 +15,11 @@ TellEach image [] (bytes ∷ images) = ⊥
 TellEach image (name ∷ names) [] = ⊥
 TellEach image (name ∷ names) (bytes ∷ images) = image name bytes × TellEach image names images
 
--- For the text of the script and the images under these names before the run, there are images after it and a printed
--- text such that they are what the script means; the shelf tells these images, and the sink what it held with the text
--- after it.
-pub record Headline (show : Show) (text : List ℕ) (names : List (List ℕ)) (before : Images) (journal : Journal) (image : List ℕ → List ℕ → Type 0) (old new : List ℕ → Type 0) (code : ℕ) : Type 0 where
-  pub script : Script
+-- For the images under these names before the run, there are images after it and a printed text such that they are what
+-- the script means; the shelf tells these images, and the sink what it held with the text after it.
+pub record Headline (show : Show) (script : Script) (names : List (List ℕ)) (before : Images) (journal : Journal) (image : List ℕ → List ℕ → Type 0) (old new : List ℕ → Type 0) (code : ℕ) : Type 0 where
   pub after : Images
   pub printed : List ℕ
-  pub accepted : IsScriptOf text script
   pub meaning : IsMeaning show script before journal after printed code
   pub stored : TellEach image names after
   pub written : Appends old new printed

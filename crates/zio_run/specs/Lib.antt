@@ -1,8 +1,11 @@
+pub mod Causes
 pub mod Codes
 pub mod Commands
+pub mod Grounds
 pub mod Headline
 pub mod Outcomes
 pub mod Parses
+pub mod Seen
 pub mod Shelves
 pub mod Tops
 pub mod Words

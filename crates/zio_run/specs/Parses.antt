@@ -1,5 +1,5 @@
 -- What clap is told of the words of a command.
-use Rattle.std.specs.Prelude.{◌≡◌, ℕ, List, [], ◌∷◌, codes, Some, Bool, true, false, cond}
+use Rattle.std.specs.Prelude.{ℕ, List, codes, Some, Bool, true, false}
 use Rattle.clap.specs.declared.builder.action.ArgAction.TheVariants.{Append, SetTrue}
 use Rattle.clap.specs.Walk.{Rule}
 use Rattle.clap.specs.Simple.{App, new_app, new_rule, on_top, with_rule}

@@ -1,5 +1,5 @@
 -- The images of a command and their shelf: what fetching all of them leaves, and what giving them back leaves.
-use Rattle.std.specs.Prelude.{◌≡◌, ◌<◌, ◌≤◌, ◌↔◌, ◌⊎◌, ℕ, List, [], ◌∷◌, drop, length, map, slice_index_or, take}
+use Rattle.std.specs.Prelude.{◌≡◌, ◌<◌, ◌↔◌, ◌⊎◌, ℕ, List, [], ◌∷◌, drop, length, map, slice_index_or, take}
 use Rattle.std.specs.List.{AllByRecursion, Contains}
 use Rattle.zio_outside.specs.Outside.{count_max}
 use Rattle.zio_cksum.specs.Images.{Images}
@@ -26,13 +26,6 @@ pub record AreFresh {D : Type 0} (bytes faults faults_at_fetch : D → ℕ) (dis
 -- the disks that stand in the second list behind the first
 abbrev pub added : {D : Type 0} → List D → List D → List D
 added old new = drop (length old) new
-
--- no count fell
-abbrev pub AreNoFewer : List ℕ → List ℕ → Type 0
-AreNoFewer [] [] = Unit {0}
-AreNoFewer [] (new ∷ news) = ⊥
-AreNoFewer (old ∷ olds) [] = ⊥
-AreNoFewer (old ∷ olds) (new ∷ news) = (old ≤ new) × AreNoFewer olds news
 
 -- ---- sizes
 

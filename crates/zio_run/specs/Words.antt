@@ -159,9 +159,6 @@ pub record IsGenOf (words : List (List ℕ)) (seed n : ℕ) : Type 0 where
   pub words_are : words ≡ codes "gen" ∷ rest
   pub size : IsSize rest seed n []
 
-abbrev pub IsNoGen : List (List ℕ) → Type 0
-IsNoGen words = (seed n : ℕ) → ¬ IsGenOf words seed n
-
 -- `load`, the same, and images
 pub record IsLoadOf (words : List (List ℕ)) (seed n : ℕ) (images : List (List ℕ)) : Type 0 where
   pub rest : List (List ℕ)
@@ -177,3 +174,9 @@ IsCommandOf serial words (Load seed n images) = (serial ≡ true) × IsLoadOf wo
 
 abbrev pub IsNoCommandOf : Bool → List (List ℕ) → Type 0
 IsNoCommandOf serial words = (command : Command) → ¬ IsCommandOf serial words command
+
+-- what its names and numbers are within
+abbrev pub IsLawfulCommand : Command → Type 0
+IsLawfulCommand (Run workers picks show images) = AreImages images
+IsLawfulCommand (Gen seed n) = IsWithin 1 BLOCKS_MAX n
+IsLawfulCommand (Load seed n images) = IsWithin 1 BLOCKS_MAX n × AreImages images

@@ -1,12 +1,11 @@
-ghost use Rattle.std.specs.Prelude.{ℕ, List, Bool};
+ghost use Rattle.std.specs.Prelude.{ℕ, List};
 ghost use Rattle.zio_script.specs.declared.script.Script.{Script};
-ghost use Rattle.zio_script.specs.Grammar.{IsScriptIn};
-ghost use Rattle.zio_script.specs.Words.{Word};
+ghost use Rattle.zio_script.specs.Grammar.{IsScriptOf};
 ghost use Rattle.zio_run.specs.Tops.{IsLawfulPool};
 
 /// In a script that is accepted each top has one of the units, there are at most 8 tops, and the ranges of the fault rows
 /// fit.
 pub fn accepted_scripts_have_lawful_pools()
-    ensures { (is_built : List Word → Bool) (text : List ℕ) (script : Script) →
-        IsScriptIn is_built text script → IsLawfulPool script }
+    ensures { (text : List ℕ) (script : Script) →
+        IsScriptOf text script → IsLawfulPool script }
 {}

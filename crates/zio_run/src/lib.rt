@@ -1,24 +1,24 @@
 //! The top calls: from the words of a command to its code.
 //!
-//! They stand on all crates below. Read `zio_serial_main` first: each of its codes has its cause and its text in a
-//! clause of its own, and the codes 0 and 9 the meaning of the script, which `specs/Headline` says. `specs/Commands` has
-//! the words of a command.
+//! They stand on all crates below. Read `zio_serial_main` first: `specs/Commands` and `specs/Codes` say how each command ends,
+//! a row for each code, and `specs/Headline` what the codes 0, 4 and 9 mean. `specs/Words` has the words of a command.
 #![tactic(auto)]
 
-mod command;
 mod generated;
+mod ground;
 mod image;
 mod laws;
 mod lines;
 mod names;
 mod number;
 mod options;
+mod outcome;
 mod parse;
+mod rounds;
+mod run;
 mod serial;
 mod shelf;
 mod source;
-#[cfg(test)]
-mod tests;
 mod tops;
 mod words;
 

@@ -1,10 +1,11 @@
 ghost use Rattle.std.specs.Prelude.{◌≡◌, ◌≢◌, IfOk, string_bytes};
 ghost use Rattle.zio_report.specs.Reports.{end_code};
-ghost use Rattle.zio_run.specs.Outcomes.{Ends, images_line, script_line};
+ghost use Rattle.zio_run.specs.Outcomes.{Ends, cut_code, images_line, script_line};
 
 use std::alloc::{AllocError, Global};
 use zio_gang::Ending;
 use zio_outside::Sink;
+use zio_report::RunFault;
 use zio_script::ScriptFault;
 use zio_types::Status;
 
@@ -41,6 +42,17 @@ pub(crate) fn code_of(ending: Ending) -> u8
         Ending::Complete => 0,
         Ending::Panic => 4,
         Ending::Left => 9,
+    }
+}
+
+/// The code of a run that was cut short.
+pub(crate) fn code_for(fault: RunFault) -> u8
+    ensures { result ≡ cut_code fault }
+{
+    match fault {
+        RunFault::Device => CODE_DEVICE,
+        RunFault::Sink => CODE_SINK,
+        RunFault::Memory => CODE_MEMORY,
     }
 }
 

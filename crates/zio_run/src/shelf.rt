@@ -7,7 +7,7 @@ ghost use Rattle.zio_cksum.specs.Images.{Images};
 ghost use Rattle.zio_disks.specs.Disks.{Tell};
 ghost use Rattle.zio_run.specs.Headline.{TellEach};
 ghost use Rattle.zio_run.specs.Outcomes.{HasLawfulSize, IsEachBack, counted_times};
-ghost use Rattle.zio_run.specs.Shelves.{AreFetched, AreFresh, AreNoFewer, AreOut, ComeHome, IsFirstUnlawful, added};
+ghost use Rattle.zio_run.specs.Shelves.{AreFetched, AreFresh, AreOut, ComeHome, IsFirstUnlawful, added};
 ghost use Rattle.zio_run.specs.Words.{AreImages, AreNames};
 
 use crate::image::is_lawful_size;
@@ -209,7 +209,6 @@ where
 
     // The count of the disks' faults rises where one of them failed since its fetch, and only there.
     ensures rose { AllByRecursion (λ n. n < count_max) (map H.Disk.faults_at_fetch disks.items) →
-        AreNoFewer (map H.Disk.faults_at_fetch disks.items) (map H.Disk.faults disks.items) →
         AnyRose (map H.Disk.faults_at_fetch disks.items) (map H.Disk.faults disks.items) →
         Raised (H.disk_faults shelf.old) (H.disk_faults shelf.new) }
     ensures same { map H.Disk.faults_at_fetch disks.items ≡ map H.Disk.faults disks.items →
@@ -236,11 +235,9 @@ where
     ensures tells { H.tells shelf.old ↔ H.tells shelf.new }
     ensures returns { H.returns shelf.new ≡ counted_times (length disks) (H.returns shelf.old) }
     ensures rose { AllByRecursion (λ n. n < count_max) (map H.Disk.faults_at_fetch disks) →
-        AreNoFewer (map H.Disk.faults_at_fetch disks) (map H.Disk.faults disks) →
         AnyRose (map H.Disk.faults_at_fetch disks) (map H.Disk.faults disks) →
         Raised (H.disk_faults shelf.old) (H.disk_faults shelf.new) }
-    ensures kept { AreNoFewer (map H.Disk.faults_at_fetch disks) (map H.Disk.faults disks) →
-        (H.disk_faults shelf.new ≡ H.disk_faults shelf.old) ⊎ Raised (H.disk_faults shelf.old) (H.disk_faults shelf.new) }
+    ensures kept { H.disk_faults shelf.old ≤ H.disk_faults shelf.new }
     ensures same { map H.Disk.faults_at_fetch disks ≡ map H.Disk.faults disks →
         H.disk_faults shelf.new ≡ H.disk_faults shelf.old }
     ensures faults { H.faults shelf.new ≡ H.faults shelf.old }

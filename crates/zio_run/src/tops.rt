@@ -8,6 +8,9 @@ ghost use Rattle.zio_gang.specs.Runs.{least_sectors, top_of};
 ghost use Rattle.zio_gang.specs.Trees.{size_of, sizes_of};
 ghost use Rattle.zio_report.specs.Meanings.{tops_of};
 ghost use Rattle.zio_disks.specs.Trees.{HasSectors};
+ghost use Rattle.zio_run.specs.Outcomes.{HasLawfulSize};
+ghost use Rattle.zio_run.specs.declared.image.TheConstants.{IMAGE_LEN_MAX};
+ghost use Rattle.zio_run.specs.declared.tops.TopsFault.TheVariants.{Memory};
 ghost use Rattle.zio_run.specs.Tops.{HaveImages, HaveUnits, IsFirstMissing, leaves_of};
 
 use std::alloc::Global;
@@ -25,6 +28,14 @@ pub enum TopsFault {
     Memory,
 }
 
+impl From<NoMemory> for TopsFault {
+    ghost from_gives = { λ _ f. f ≡ Memory };
+
+    fn from(_refused: NoMemory) -> TopsFault {
+        TopsFault::Memory
+    }
+}
+
 /// The tops of the script over images of these sizes in bytes. Each has as many sectors as its smallest leaf has whole
 /// ones, rounded down to its unit.
 pub fn tops_over(alloc: Global, script: &Script, sizes: &[u64]) -> Result<List<Top>, TopsFault>
@@ -33,6 +44,8 @@ pub fn tops_over(alloc: Global, script: &Script, sizes: &[u64]) -> Result<List<T
     ensures named { OnOk result (HaveImages (length sizes.now) (leaves_of script.now.tops)) }
     ensures bears { IfOk result (λ tops. AllByRecursion (HasSectors sizes.now) tops) }
     ensures lawful { IfOk result (λ tops. list_all is_lawful_top (sizes_of tops) ≡ true) }
+    ensures count { IfOk result (λ tops. length tops ≡ length script.now.tops) }
+    ensures short { AllByRecursion HasLawfulSize sizes.now → IfOk result (λ tops. AllByRecursion (λ top. top.sectors ≤ IMAGE_LEN_MAX) tops) }
     ensures missing { (leaf : ℕ) → IsErrOf result (TopsFault.Leaf leaf) →
         IsFirstMissing (length sizes.now) (leaves_of script.now.tops) leaf }
 {
@@ -77,6 +90,8 @@ fn tops_of(alloc: Global, lines: &[TopLine], sizes: &[u64]) -> Result<List<Top>,
     ensures ok { IfOk result (λ tops. (images : Images) → map length images ≡ sizes.now → tops ≡ map (top_of images) lines.now) }
     ensures bears { IfOk result (λ tops. AllByRecursion (HasSectors sizes.now) tops) }
     ensures lawful { IfOk result (λ tops. list_all is_lawful_top (sizes_of tops) ≡ true) }
+    ensures count { IfOk result (λ tops. length tops ≡ length lines.now) }
+    ensures short { AllByRecursion HasLawfulSize sizes.now → IfOk result (λ tops. AllByRecursion (λ top. top.sectors ≤ IMAGE_LEN_MAX) tops) }
 {
     let mut tops = List::new(alloc);
     for line in lines {
@@ -92,6 +107,7 @@ fn top_of(alloc: Global, line: &TopLine, sizes: &[u64]) -> Result<Top, NoMemory>
     ensures ok { IfOk result (λ top. (images : Images) → map length images ≡ sizes.now → top ≡ top_of images line.now) }
     ensures bears { IfOk result (HasSectors sizes.now) }
     ensures lawful { IfOk result (λ top. is_lawful_top (size_of top) ≡ true) }
+    ensures short { AllByRecursion HasLawfulSize sizes.now → IfOk result (λ top. top.sectors ≤ IMAGE_LEN_MAX) }
 {
     let mut leaves = List::new(alloc);
     leaves.extend_from_slice(line.leaves.as_slice())?;
@@ -107,6 +123,7 @@ fn top_of(alloc: Global, line: &TopLine, sizes: &[u64]) -> Result<Top, NoMemory>
 fn least_sectors(leaves: &[u32], sizes: &[u64]) -> u64
     requires named { HaveImages (length sizes.now) leaves.now }
     ensures least { (images : Images) → map length images ≡ sizes.now → result ≡ least_sectors images leaves.now }
+    ensures short { AllByRecursion HasLawfulSize sizes.now → result ≤ IMAGE_LEN_MAX }
     ensures fits { AllByRecursion (λ leaf. result * sector_size ≤ slice_index_or sizes.now leaf 0) leaves.now }
 {
     match leaves {

@@ -1,7 +1,8 @@
 //! The words of a command: docs/FORMATS.md, "Words of a command".
 
-ghost use Rattle.std.specs.Prelude.{◌∷◌, true, IfOk, IfSome, IsErrOf, MatchOption, codes, map, string_bytes};
-ghost use Rattle.zio_run.specs.Words.{IsCommandOf, IsGenOf, IsNoCommandOf, IsNoGen, IsSize, IsWithin, NoSize};
+ghost use Rattle.std.specs.Prelude.{◌∷◌, true, IfOk, IsErrOf, MatchOption, codes, map, string_bytes};
+ghost use Rattle.zio_run.specs.declared.words.Command.{Command as Asked};
+ghost use Rattle.zio_run.specs.Words.{IsCommandOf, IsNoCommandOf, IsSize, NoSize};
 
 use crate::names::are_images;
 use crate::number::number_within;
@@ -53,6 +54,7 @@ pub enum WordsError {
 pub fn read_words(alloc: Global, serial: bool, words: &[String]) -> Result<Command, WordsError>
     ensures ok { IfOk result (IsCommandOf serial (map string_bytes words.now)) }
     ensures words { IsErrOf result WordsError.Words → IsNoCommandOf serial (map string_bytes words.now) }
+    ensures memory { IsErrOf result WordsError.Memory → (command : Asked) × IsCommandOf serial (map string_bytes words.now) command }
 {
     let Some((verb, rest)) = first_word(words) else {
         return Err(WordsError::Words);
@@ -72,6 +74,7 @@ pub fn read_words(alloc: Global, serial: bool, words: &[String]) -> Result<Comma
 fn read_run(alloc: Global, serial: bool, words: &[String]) -> Result<Command, WordsError>
     ensures ok { IfOk result (IsCommandOf serial (codes "run" ∷ map string_bytes words.now)) }
     ensures words { IsErrOf result WordsError.Words → IsNoCommandOf serial (codes "run" ∷ map string_bytes words.now) }
+    ensures memory { IsErrOf result WordsError.Memory → (command : Asked) × IsCommandOf serial (codes "run" ∷ map string_bytes words.now) command }
 {
     match options_of(serial, words) {
         Some((_, names)) if are_images(names) => parse_run(alloc, serial, words),
@@ -83,6 +86,7 @@ fn read_run(alloc: Global, serial: bool, words: &[String]) -> Result<Command, Wo
 fn read_gen(alloc: Global, words: &[String]) -> Result<Command, WordsError>
     ensures ok { IfOk result (IsCommandOf true (codes "gen" ∷ map string_bytes words.now)) }
     ensures words { IsErrOf result WordsError.Words → IsNoCommandOf true (codes "gen" ∷ map string_bytes words.now) }
+    ensures memory { IsErrOf result WordsError.Memory → (command : Asked) × IsCommandOf true (codes "gen" ∷ map string_bytes words.now) command }
 {
     match size_of(words) {
         Some((_, _, rest)) if rest.is_empty() => parse_gen(alloc, words),
@@ -94,34 +98,11 @@ fn read_gen(alloc: Global, words: &[String]) -> Result<Command, WordsError>
 fn read_load(alloc: Global, words: &[String]) -> Result<Command, WordsError>
     ensures ok { IfOk result (IsCommandOf true (codes "load" ∷ map string_bytes words.now)) }
     ensures words { IsErrOf result WordsError.Words → IsNoCommandOf true (codes "load" ∷ map string_bytes words.now) }
+    ensures memory { IsErrOf result WordsError.Memory → (command : Asked) × IsCommandOf true (codes "load" ∷ map string_bytes words.now) command }
 {
     match size_of(words) {
         Some((_, _, names)) if are_images(names) => parse_load(alloc, words),
         _ => Err(WordsError::Words),
-    }
-}
-
-/// The seed and the number of blocks of `gen`, none where the words aren't that command.
-pub(crate) fn generated(words: &[String]) -> Option<(u32, u32)>
-    ensures size { MatchOption result (IsNoGen (map string_bytes words.now)) (λ size. IsGenOf (map string_bytes words.now) size.0 size.1) }
-    ensures blocks { IfSome result (λ size. IsWithin 1 BLOCKS_MAX size.1) }
-{
-    let (verb, rest) = first_word(words)?;
-    if verb == "gen" {
-        generated_by(rest)
-    } else {
-        None
-    }
-}
-
-/// The same of the words behind `gen`.
-fn generated_by(words: &[String]) -> Option<(u32, u32)>
-    ensures size { MatchOption result (IsNoGen (codes "gen" ∷ map string_bytes words.now)) (λ size. IsGenOf (codes "gen" ∷ map string_bytes words.now) size.0 size.1) }
-    ensures blocks { IfSome result (λ size. IsWithin 1 BLOCKS_MAX size.1) }
-{
-    match size_of(words) {
-        Some((seed, n, rest)) if rest.is_empty() => Some((seed, n)),
-        _ => None,
     }
 }
 

@@ -17,14 +17,12 @@ use Rattle.zio_script.specs.declared.script.Script.{Script}
 use Rattle.zio_script.specs.declared.why.Why.{Why}
 use Rattle.zio_script.specs.declared.why.Why.TheVariants.{Limit, Order, Name, Conflict, Flag, Parent, Pool}
 use Rattle.zio_script.specs.Accepted.{AreBehindParents, AreOrderly, AreRising, HasParentIn, IsChildOf, IsInRange, IsOrderlyBatch, IsOrderlyScript, NameApart, batches_from, batches_of, sizes_in}
-use Rattle.zio_script.specs.Grammar.{IsScriptIn, after_form, after_line, after_shape, after_words, ended, read_lines, read_on, read_short, script_with, unless_skipped, unless_why}
+use Rattle.zio_script.specs.Grammar.{IsScriptOf, after_line, after_shape, after_words, ended, read_lines, read_on, read_short, script_with, unless_skipped, unless_why}
 use Rattle.zio_script.specs.Lines.{NewRequest, ScriptLine, FailmodeLine, LeavesLine, FaultLine, RequestLine, GoLine, ClearLine, Shape, line_of, shape_of}
 use Rattle.zio_script.specs.Requests.{is_under, is_under_number, kind_of, name_of, requests_of}
 use Rattle.zio_script.specs.Whys.{Before, are_too_large, batch_after, breaks_limit, children_in, clashes, depth_under, falls_back, fits_asked, fits_work, has_bad_parent, if_so, is_claim, is_misnamed, is_number, is_number_if, is_write, least_why, may_have, nothing_before, open_batch, parent_in, refuses_child, request_in, shares_with_claim, size_with, sizes_with, tells_reads_apart, whys_of, writes_under}
 use Rattle.zio_script.specs.Words.{Word, is_empty, is_skipped, lines_of, words_of}
-use Rattle.zio_script.proofs.FrontLemmas.{all_more, none_passes, or_left_false, or_right_false, requests-append}
-use Rattle.zio_script.proofs.KeptLemmas.{three_false}
-use Rattle.zio_script.proofs.SizeLemmas.{counts_none}
+use Rattle.zio_script.proofs.ListLemmas.{all_more, counts_none, none_passes, or_left_false, or_right_false, requests-append, three_false}
 
 -- ---- the whys of a request
 
@@ -314,17 +312,12 @@ after_shape_orderly : (before next : Before) (shape : Option Shape) → IsOrderl
 after_shape_orderly before next None orderly is = let no : ⊥ = cc in absurd no
 after_shape_orderly before next (Some shape) orderly is = after_line_orderly before next (line_of shape) orderly is
 
-after_form_orderly : (built : Bool) (before next : Before) (words : List Word) → IsOrderlyScript before.script → after_form built before words ≡ Ok next
-    → IsOrderlyScript next.script
-after_form_orderly false before next words orderly is = let no : ⊥ = cc in absurd no
-after_form_orderly true before next words orderly is = after_shape_orderly before next (shape_of words) orderly is
-
-skipped_orderly : (skipped built : Bool) (before next : Before) (words : List Word) → IsOrderlyScript before.script
-    → unless_skipped skipped before (after_form built before words) ≡ Ok next → IsOrderlyScript next.script
-skipped_orderly true built before next words orderly is =
+skipped_orderly : (skipped : Bool) (before next : Before) (words : List Word) → IsOrderlyScript before.script
+    → unless_skipped skipped before (after_shape before (shape_of words)) ≡ Ok next → IsOrderlyScript next.script
+skipped_orderly true before next words orderly is =
     let same : before ≡ next = cc in
     subst (λ (b : Before). IsOrderlyScript b.script) same orderly
-skipped_orderly false built before next words orderly is = after_form_orderly built before next words orderly is
+skipped_orderly false before next words orderly is = after_shape_orderly before next (shape_of words) orderly is
 
 -- what a text's end leaves
 record IsWhole (script : Script) : Type 0 where
@@ -341,42 +334,42 @@ end_whole n true b script made is = let no : ⊥ = cc in absurd no
 end_whole n false true script made is = let no : ⊥ = cc in absurd no
 end_whole n false false script made is = (refl, cc)
 
-next_whole : (is_built : List Word → Bool) (n : ℕ) (lines : List Word) (before : Before) (after : Result Before Why) (script : Script)
+next_whole : (n : ℕ) (lines : List Word) (before : Before) (after : Result Before Why) (script : Script)
     → ((next : Before) → after ≡ Ok next → IsOrderlyScript next.script)
-    → read_on n after (read_lines is_built (n + 1) lines) ≡ Ok script
-    → ((next : Before) → IsOrderlyScript next.script → read_lines is_built (n + 1) lines next ≡ Ok script → IsWhole script) → IsWhole script
-next_whole is_built n lines before (Err why) script orderly is rest = let no : ⊥ = cc in absurd no
-next_whole is_built n lines before (Ok next) script orderly is rest = rest next (orderly next refl) is
+    → read_on n after (read_lines (n + 1) lines) ≡ Ok script
+    → ((next : Before) → IsOrderlyScript next.script → read_lines (n + 1) lines next ≡ Ok script → IsWhole script) → IsWhole script
+next_whole n lines before (Err why) script orderly is rest = let no : ⊥ = cc in absurd no
+next_whole n lines before (Ok next) script orderly is rest = rest next (orderly next refl) is
 
-end_read : (is_built : List Word → Bool) (n : ℕ) (before : Before) (script : Script) → IsOrderlyScript before.script
-    → read_lines is_built n [] before ≡ Ok script → IsWhole script
+end_read : (n : ℕ) (before : Before) (script : Script) → IsOrderlyScript before.script
+    → read_lines n [] before ≡ Ok script → IsWhole script
 unfolding read_lines
-end_read is_built n before script orderly is =
+end_read n before script orderly is =
     let parts = end_whole n (not (is_empty (open_batch before.script))) (is_empty before.script.tops) before.script script is in
     subst IsWhole parts.1 (record { orderly = orderly; ended = nothing_open (open_batch before.script) parts.0 })
 
-first_on : (is_built : List Word → Bool) (n : ℕ) (line : Word) (lines : List Word) (before : Before) (script : Script)
-    → read_lines is_built n (line ∷ lines) before ≡ Ok script
-    → read_on n (after_words is_built before (words_of line)) (read_lines is_built (n + 1) lines) ≡ Ok script
+first_on : (n : ℕ) (line : Word) (lines : List Word) (before : Before) (script : Script)
+    → read_lines n (line ∷ lines) before ≡ Ok script
+    → read_on n (after_words before (words_of line)) (read_lines (n + 1) lines) ≡ Ok script
 unfolding read_lines
-first_on is_built n line lines before script is = is
+first_on n line lines before script is = is
 
-lines_whole : (is_built : List Word → Bool) (n : ℕ) (lines : List Word) (before : Before) (script : Script) → IsOrderlyScript before.script
-    → read_lines is_built n lines before ≡ Ok script → IsWhole script
-lines_whole is_built n [] before script orderly is = end_read is_built n before script orderly is
-lines_whole is_built n (line ∷ lines) before script orderly is =
-    next_whole is_built n lines before (after_words is_built before (words_of line)) script
-    (λ next. skipped_orderly (is_skipped (words_of line)) (is_built (words_of line)) before next (words_of line) orderly)
-    (first_on is_built n line lines before script is)
-    (λ next. λ whole. lines_whole is_built (n + 1) lines next script whole)
+lines_whole : (n : ℕ) (lines : List Word) (before : Before) (script : Script) → IsOrderlyScript before.script
+    → read_lines n lines before ≡ Ok script → IsWhole script
+lines_whole n [] before script orderly is = end_read n before script orderly is
+lines_whole n (line ∷ lines) before script orderly is =
+    next_whole n lines before (after_words before (words_of line)) script
+    (λ next. skipped_orderly (is_skipped (words_of line)) before next (words_of line) orderly)
+    (first_on n line lines before script is)
+    (λ next. λ whole. lines_whole (n + 1) lines next script whole)
 
-short_whole : (short : Bool) (is_built : List Word → Bool) (text : List ℕ) (script : Script) → read_short short is_built text ≡ Ok script → IsWhole script
-short_whole false is_built text script is = let no : ⊥ = cc in absurd no
-short_whole true is_built text script is =
-    lines_whole is_built 1 (lines_of text) nothing_before script (record { rising = tt; batches = tt; last = empty_orderly false }) is
+short_whole : (short : Bool) (text : List ℕ) (script : Script) → read_short short text ≡ Ok script → IsWhole script
+short_whole false text script is = let no : ⊥ = cc in absurd no
+short_whole true text script is =
+    lines_whole 1 (lines_of text) nothing_before script (record { rising = tt; batches = tt; last = empty_orderly false }) is
 
-pub reading_orderly : (is_built : List Word → Bool) (text : List ℕ) (script : Script) → IsScriptIn is_built text script → IsOrderlyScript script
-reading_orderly is_built text script is = (short_whole (nat_le (length text) SCRIPT_LEN_MAX) is_built text script is).orderly
+pub reading_orderly : (text : List ℕ) (script : Script) → IsScriptOf text script → IsOrderlyScript script
+reading_orderly text script is = (short_whole (nat_le (length text) SCRIPT_LEN_MAX) text script is).orderly
 
-pub reading_ended : (is_built : List Word → Bool) (text : List ℕ) (script : Script) → IsScriptIn is_built text script → open_batch script ≡ []
-reading_ended is_built text script is = (short_whole (nat_le (length text) SCRIPT_LEN_MAX) is_built text script is).ended
+pub reading_ended : (text : List ℕ) (script : Script) → IsScriptOf text script → open_batch script ≡ []
+reading_ended text script is = (short_whole (nat_le (length text) SCRIPT_LEN_MAX) text script is).ended

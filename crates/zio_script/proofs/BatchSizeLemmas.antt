@@ -19,7 +19,7 @@ use Rattle.zio_script.specs.Accepted.{AreRising, IsInRange, IsOrderlyBatch, size
 use Rattle.zio_script.specs.OpenBatches.{IsBatch, IsParentAt, IsStand, IsStandWithin, mark_at, mark_in, no_mark, size_after, size_under, within, work_len}
 use Rattle.zio_script.specs.Requests.{is_under, is_under_number, kind_of}
 use Rattle.zio_script.specs.Whys.{are_too_large, body_len, children_in, fits_work, is_write, levels, rounded_up, size_with, sizes_with, writes_under}
-use Rattle.zio_script.proofs.FrontLemmas.{any_none}
+use Rattle.zio_script.proofs.ListLemmas.{any_none}
 use Rattle.zio_script.proofs.MarkLemmas.{count_more}
 use Rattle.zio_script.proofs.OpenBatchLemmas.{all_at, index_map}
 use Rattle.zio_script.proofs.StandLemmas.{found_number, none_of_number, under_lost, under_none}

@@ -20,7 +20,7 @@ use Rattle.zio_script.specs.Requests.{requests_of}
 use Rattle.zio_script.specs.declared.script.TopLine.{TopLine as Top}
 use Rattle.zio_script.specs.Whys.{all_leaves, is_among, is_leaf, batch_after, is_clear, tells_reads_apart}
 use Rattle.zio_script.proofs.AcceptedLemmas.{clear_orderly, go_orderly}
-use Rattle.zio_script.proofs.FrontLemmas.{requests-append}
+use Rattle.zio_script.proofs.ListLemmas.{requests-append}
 
 -- ---- the end of a batch
 

@@ -1,10 +1,15 @@
 -- A name's number is that of its bytes, and names with the same number are the same name.
 use Rattle.std.proofs.Common.{◌≡◌, ◌≤◌, ◌+◌, ◌*◌, ◌-◌, ℕ, zero, suc, List, [], ◌∷◌, ◌++◌, length, take, drop, replicate, slice_index, refl, sym, ap, ◌∙◌, Bool, true, false, ◌&&◌, ◌||◌, ◌==◌, nat_le, arith}
 use Rattle.std.proofs.lemmas.Bool.{and_parts, eqb-true, leb-true}
+use Rattle.std.proofs.lemmas.Bool.Decides.{nat_tests, same_from_decides}
 use Rattle.std.proofs.lemmas.List.{drop-replicate}
+use Rattle.std.proofs.lemmas.Slice.Eq.{bytes_eq-Decides}
 use Rattle.std.proofs.Math.Seq.{take-append_seam}
 use Rattle.std.specs.Int.{from_le_bytes, w128}
 use Rattle.std.specs.List.{list_all}
+use Rattle.std.specs.Ordering.{is_eq, nat_cmp}
+use Rattle.std.specs.Prelude.{bytes_eq}
+use Rattle.zio_script.specs.declared.name.TheConstants.{NAME_LEN_MAX}
 use Rattle.zio_script.specs.Keys.{name_key}
 use Rattle.zio_script.specs.Words.{is_name, is_name_char}
 use Rattle.zio_types.specs.Filled.{IsFilled, length-filled}
@@ -94,3 +99,21 @@ same_name (x ∷ xs) (y ∷ ys) all others same =
     let tails : name_key xs ≡ name_key ys = omega arith in
     let rest : xs ≡ ys = same_name xs ys first.1 second.1 tails in
     cc
+
+-- ---- keys
+
+at_key : (a b : ℕ) → is_eq (nat_cmp a b) ≡ true → a ≡ b
+at_key a b is = grind (arith, nat_tests)
+
+key_at : (a b : ℕ) → a ≡ b → is_eq (nat_cmp a b) ≡ true
+key_at a b is = grind (arith, nat_tests)
+
+-- two names are the same by their keys as by their bytes
+chars_of : (name : List ℕ) → is_name name ≡ true → list_all is_name_char name ≡ true
+chars_of name is = (and_parts (nat_le 1 (length name) && nat_le (length name) NAME_LEN_MAX) (list_all is_name_char name) is).1
+
+pub same_key : (name other : List ℕ) → is_name name ≡ true → is_name other ≡ true → is_eq (nat_cmp (name_key name) (name_key other)) ≡ bytes_eq name other
+same_key name other is there =
+    same_from_decides (is_eq (nat_cmp (name_key name) (name_key other))) (bytes_eq name other)
+    (λ at. same_name name other (chars_of name is) (chars_of other there) (at_key (name_key name) (name_key other) at), λ same. key_at (name_key name) (name_key other) (ap name_key same))
+    (bytes_eq-Decides name other)

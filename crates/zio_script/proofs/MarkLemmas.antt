@@ -14,7 +14,7 @@ use Rattle.zio_script.specs.OpenBatches.{AreTidy, mark_in, no_mark, with_child}
 use Rattle.zio_script.specs.Requests.{is_under, is_under_number, kind_of}
 use Rattle.zio_script.specs.Whys.{children_in, depth_under, is_write, levels, parent_in, writes_under}
 use Rattle.zio_script.proofs.AcceptedLemmas.{all_as, not_under}
-use Rattle.zio_script.proofs.FrontLemmas.{all_more}
+use Rattle.zio_script.proofs.ListLemmas.{all_more}
 use Rattle.zio_script.proofs.OpenBatchLemmas.{all_at}
 
 -- ---- no request stands under a later one

@@ -30,10 +30,9 @@ use Rattle.zio_script.specs.Whys.{are_too_large, batch_after, breaks_limit, chil
 use Rattle.zio_script.specs.Words.{is_empty, is_name}
 use Rattle.zio_script.proofs.AcceptedLemmas.{lower, no_child_yet, open_passes, parent_there, request_orderly, rising_more, sizes_same, not_under}
 use Rattle.zio_script.proofs.BatchSizeLemmas.{AreSized, TooLarge, Fit, stand_within}
-use Rattle.zio_script.proofs.FrontLemmas.{all_more, or_left_false, or_right_false, requests-append}
-use Rattle.zio_script.proofs.KeptLemmas.{or_false, or_moved, rises_to, same_key}
+use Rattle.zio_script.proofs.ListLemmas.{all_more, counts_none, or_false, or_left_false, or_moved, or_right_false, requests-append, rises_to}
+use Rattle.zio_script.proofs.KeyLemmas.{same_key}
 use Rattle.zio_script.proofs.MarkLemmas.{NotUnder, depth_stays, none_under_later, tidy_more}
-use Rattle.zio_script.proofs.SizeLemmas.{counts_none}
 use Rattle.zio_script.proofs.StandLemmas.{depth_is, full_is, must_is, others_after}
 
 -- ---- why 3

@@ -1,4 +1,4 @@
--- What holds of every script that is accepted, whichever forms are built.
+-- What holds of every script that is accepted.
 use Rattle.std.specs.Prelude.{◌≡◌, ℕ, ◌<◌, ◌≤◌, List, [], ◌∷◌, ◌++◌, length, map, sum, fold, Bool, true, false, Option, Some, None}
 use Rattle.std.specs.List.{AllByRecursion, list_any}
 use Rattle.zio_types.specs.declared.request.Kind.{Kind}

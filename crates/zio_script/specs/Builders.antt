@@ -3,15 +3,18 @@
 use Rattle.std.specs.Prelude.{◌≡◌, ◌≤◌, ◌<◌, ◌+◌, ℕ, List, length, slice_index_or, Bool, true, false, ◌||◌, Option, Some, None, Ok, Err, nat_le, sum}
 use Rattle.std.specs.Prelude.{count_by}
 use Rattle.zio_script.specs.declared.builder.Builder.{Builder}
-use Rattle.zio_script.specs.declared.draft.Refusal.{Refusal}
-use Rattle.zio_script.specs.declared.draft.Refusal.TheVariants.{Faulty, Memory}
+use Rattle.zio_script.specs.declared.refusal.Refusal.{Refusal}
+use Rattle.zio_script.specs.declared.refusal.Refusal.TheVariants.{Faulty, Memory}
+use Rattle.zio_script.specs.declared.refusal.LineFault.{LineFault}
+use Rattle.zio_script.specs.declared.refusal.LineFault.TheVariants.{NoShape, NoNumber, Memory as WantsMemory}
 use Rattle.zio_script.specs.declared.limits.TheConstants.{CLEARS_MAX}
 use Rattle.zio_script.specs.declared.script.Request.{Request}
 use Rattle.zio_script.specs.declared.script.Script.{Script}
 use Rattle.zio_script.specs.declared.script.ScriptError.{ScriptError}
 use Rattle.zio_script.specs.declared.script.ScriptError.TheVariants.{Fault, Memory as NoMemory}
+use Rattle.zio_script.specs.declared.why.Why.TheVariants.{Word as HasNoShape, Number}
 use Rattle.zio_script.specs.Accepted.{IsOrderlyScript}
-use Rattle.zio_script.specs.Grammar.{IsFaultIn, after_words, all_built, ended, read_lines, script_with}
+use Rattle.zio_script.specs.Grammar.{IsFaultOf, after_words, ended, fault_for, read_lines, script_with}
 use Rattle.zio_script.specs.Lines.{ScriptLine, NewRequest}
 use Rattle.zio_script.specs.OpenBatches.{IsBatch, IsStand, IsStandWithin}
 use Rattle.zio_script.specs.Requests.{name_of}
@@ -60,11 +63,11 @@ IsLineWhy b line Memory = Unit {0}
 
 -- the words make this
 abbrev pub AddsWords : Builder → List Word → Builder → Type 0
-AddsWords old words new = after_words all_built (before_of old) words ≡ Ok (before_of new)
+AddsWords old words new = after_words (before_of old) words ≡ Ok (before_of new)
 
 -- the least why of the words
 abbrev pub IsWordsWhy : Builder → List Word → Refusal → Type 0
-IsWordsWhy b words (Faulty why) = after_words all_built (before_of b) words ≡ Err why
+IsWordsWhy b words (Faulty why) = after_words (before_of b) words ≡ Err why
 IsWordsWhy b words Memory = Unit {0}
 
 -- the whys of a request
@@ -93,12 +96,25 @@ pub record IsNamed (b : Builder) (r : Request) (flag : Option Bool) (stand : Sta
   pub fits : fits_work r.work ≡ true
   pub inside : IsStandWithin b.batch stand
 
+-- ---- refusals
+
+-- a refusal as a reason, at a line
+abbrev pub error_at : ℕ → Refusal → ScriptError
+error_at line (Faulty why) = Fault (fault_for line why)
+error_at line Memory = NoMemory
+
+-- the why of words that are no line
+abbrev pub refusal_of : LineFault → Refusal
+refusal_of NoShape = Faulty HasNoShape
+refusal_of NoNumber = Faulty Number
+refusal_of WantsMemory = Memory
+
 -- ---- the text
 
 -- the lines up to the rest make the script so far
 pub record IsReadTo (text : List ℕ) (line : ℕ) (rest : List ℕ) (b : Builder) : Type 0 where
   pub kept : IsKept b
-  pub same : read_lines all_built 1 (lines_of text) nothing_before ≡ read_lines all_built line (lines_of rest) (before_of b)
+  pub same : read_lines 1 (lines_of text) nothing_before ≡ read_lines line (lines_of rest) (before_of b)
   pub near : line + length rest ≤ 1 + length text
 
 -- what is wrong at the end, at this line
@@ -112,5 +128,5 @@ IsEnd b line script = ended line (least_why (whys_at_end (script_of b))) (script
 
 -- why a text is no script; memory may always be wanting
 abbrev pub IsReason : List ℕ → ScriptError → Type 0
-IsReason text (Fault fault) = IsFaultIn all_built text fault
+IsReason text (Fault fault) = IsFaultOf text fault
 IsReason text NoMemory = Unit {0}

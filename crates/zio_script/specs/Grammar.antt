@@ -7,7 +7,7 @@ use Rattle.zio_script.specs.declared.script.Item.TheVariants.{Request as Request
 use Rattle.zio_script.specs.declared.script.Script.{Script}
 use Rattle.zio_script.specs.declared.script.ScriptFault.{ScriptFault}
 use Rattle.zio_script.specs.declared.why.Why.{Why}
-use Rattle.zio_script.specs.declared.why.Why.TheVariants.{Word as NoShape, Number, Limit, NotYet}
+use Rattle.zio_script.specs.declared.why.Why.TheVariants.{Word as NoShape, Number, Limit}
 use Rattle.zio_types.specs.Places.{sector_size}
 use Rattle.zio_script.specs.Lines.{ScriptLine, FailmodeLine, LeavesLine, FaultLine, RequestLine, GoLine, ClearLine, Shape, shape_of, line_of}
 use Rattle.zio_script.specs.Whys.{Before, nothing_before, open_batch, request_in, why_number, whys_of, whys_at_end, least_why}
@@ -48,19 +48,14 @@ abbrev pub after_shape : Before → Option Shape → Result Before Why
 after_shape before None = Err NoShape
 after_shape before (Some shape) = after_line before (line_of shape)
 
--- NotYet where the form isn't built, and then nothing else of the line is looked at
-abbrev pub after_form : Bool → Before → List Word → Result Before Why
-after_form false before words = Err NotYet
-after_form true before words = after_shape before (shape_of words)
-
 -- a skipped line changes nothing
 abbrev pub unless_skipped : Bool → Before → Result Before Why → Result Before Why
 unless_skipped true before after = Ok before
 unless_skipped false before after = after
 
 -- the script after one more line, or the line's least why
-abbrev pub after_words : (List Word → Bool) → Before → List Word → Result Before Why
-after_words is_built before words = unless_skipped (is_skipped words) before (after_form (is_built words) before words)
+abbrev pub after_words : Before → List Word → Result Before Why
+after_words before words = unless_skipped (is_skipped words) before (after_shape before (shape_of words))
 
 -- ---- texts
 
@@ -83,37 +78,31 @@ ended line None script = Ok script
 ended line (Some why) script = Err (fault_for line why)
 
 -- the lines from this number on, after those before
-unfoldable pub read_lines : (List Word → Bool) → ℕ → List Word → Before → Result Script ScriptFault
-read_lines is_built n [] before = ended n (least_why (whys_at_end before.script)) before.script
-read_lines is_built n (line ∷ lines) before =
-    read_on n (after_words is_built before (words_of line)) (read_lines is_built (n + 1) lines)
+unfoldable pub read_lines : ℕ → List Word → Before → Result Script ScriptFault
+read_lines n [] before = ended n (least_why (whys_at_end before.script)) before.script
+read_lines n (line ∷ lines) before = read_on n (after_words before (words_of line)) (read_lines (n + 1) lines)
 
 -- a text that is too long is Limit at line 0
-abbrev pub read_short : Bool → (List Word → Bool) → List ℕ → Result Script ScriptFault
-read_short false is_built text = Err (fault_for 0 Limit)
-read_short true is_built text = read_lines is_built 1 (lines_of text) nothing_before
+abbrev pub read_short : Bool → List ℕ → Result Script ScriptFault
+read_short false text = Err (fault_for 0 Limit)
+read_short true text = read_lines 1 (lines_of text) nothing_before
 
--- The script that a text is, or its first faulty line with the least why. The test says by the words of a line, whatever
--- they are, whether its form is built.
-abbrev pub reading : (List Word → Bool) → List ℕ → Result Script ScriptFault
-reading is_built text = read_short (nat_le (length text) SCRIPT_LEN_MAX) is_built text
-
--- all forms are built
-abbrev pub all_built : List Word → Bool
-all_built words = true
+-- the script that a text is, or its first faulty line with the least why
+abbrev pub reading : List ℕ → Result Script ScriptFault
+reading text = read_short (nat_le (length text) SCRIPT_LEN_MAX) text
 
 -- the script that a text is, if it has no fault
-abbrev pub script_of : (List Word → Bool) → List ℕ → Option Script
-script_of is_built text = result_ok (reading is_built text)
+abbrev pub script_of : List ℕ → Option Script
+script_of text = result_ok (reading text)
 
 -- the fault of a text, if it is no script
-abbrev pub fault_of : (List Word → Bool) → List ℕ → Option ScriptFault
-fault_of is_built text = result_err (reading is_built text)
+abbrev pub fault_of : List ℕ → Option ScriptFault
+fault_of text = result_err (reading text)
 
 -- the text is this script
-abbrev pub IsScriptIn : (List Word → Bool) → List ℕ → Script → Type 0
-IsScriptIn is_built text script = reading is_built text ≡ Ok script
+abbrev pub IsScriptOf : List ℕ → Script → Type 0
+IsScriptOf text script = reading text ≡ Ok script
 
 -- the text has this first faulty line, with this least why
-abbrev pub IsFaultIn : (List Word → Bool) → List ℕ → ScriptFault → Type 0
-IsFaultIn is_built text fault = reading is_built text ≡ Err fault
+abbrev pub IsFaultOf : List ℕ → ScriptFault → Type 0
+IsFaultOf text fault = reading text ≡ Err fault

@@ -1,16 +1,12 @@
 pub mod Accepted
 pub mod Bodies
 pub mod Builders
-pub mod Built
 pub mod Decisions
-pub mod Drafts
 pub mod Grammar
 pub mod Keys
 pub mod Lines
 pub mod NewLines
 pub mod OpenBatches
-pub mod PlainForm
-pub mod Reading
 pub mod Requests
 pub mod Shapes
 pub mod Whys

@@ -2,8 +2,8 @@
 -- believed.
 use Rattle.std.specs.Prelude.{◌≡◌, ℕ, List, ◌++◌, Bool, Option, Some, None}
 use Rattle.zio_faults.specs.declared.table.Row.{Row}
-use Rattle.zio_script.specs.declared.line.LineFault.{LineFault}
-use Rattle.zio_script.specs.declared.line.LineFault.TheVariants.{NotBuilt, NoShape, NoNumber, Memory}
+use Rattle.zio_script.specs.declared.refusal.LineFault.{LineFault}
+use Rattle.zio_script.specs.declared.refusal.LineFault.TheVariants.{NoShape, NoNumber, Memory}
 use Rattle.zio_script.specs.declared.lines.Line.{Line as NewLine}
 use Rattle.zio_script.specs.declared.lines.Line.TheVariants.{Failmode, Top, Fault, Request, Go, Clear}
 use Rattle.zio_script.specs.declared.lines.NewTop.{NewTop}
@@ -14,18 +14,17 @@ use Rattle.zio_script.specs.declared.lines.NewWork.TheVariants.{Null as NewNull,
 use Rattle.zio_script.specs.declared.lines.NewBody.{NewBody}
 use Rattle.zio_script.specs.declared.lines.NewBody.TheVariants.{Hex as NewHex, Fill as NewFill, Seq as NewSeq}
 use Rattle.zio_script.specs.declared.shape.BodyShape.{BodyShape as BodyWords}
-use Rattle.zio_script.specs.declared.shapes.RequestShape.{RequestShape as RequestWords}
-use Rattle.zio_script.specs.declared.shapes.RowShape.{RowShape as RowWords}
-use Rattle.zio_script.specs.declared.shapes.TopShape.{TopShape as TopFound}
-use Rattle.zio_script.specs.declared.shapes.WorkShape.{WorkShape as WorkWords}
+use Rattle.zio_script.specs.declared.shape.RequestShape.{RequestShape as RequestWords}
+use Rattle.zio_script.specs.declared.shape.RowShape.{RowShape as RowWords}
+use Rattle.zio_script.specs.declared.shape.TopShape.{TopShape as TopFound}
+use Rattle.zio_script.specs.declared.shape.WorkShape.{WorkShape as WorkWords}
 use Rattle.zio_script.specs.declared.script.Body.{Body}
 use Rattle.zio_script.specs.declared.script.Body.TheVariants.{Hex, Fill, Seq}
 use Rattle.zio_script.specs.declared.script.Request.{Request as MadeRequest}
 use Rattle.zio_script.specs.declared.script.Work.{Work}
 use Rattle.zio_script.specs.declared.script.Work.TheVariants.{Null, Read, Write, Free, Claim}
 use Rattle.zio_script.specs.Lines.{ScriptLine, FailmodeLine, LeavesLine, FaultLine, RequestLine, GoLine, ClearLine, NewRequest, Shape, body_of_shape, line_of, new_request_of, numbers, row_of as row_of_words, shape_of, top_of as top_of_words, work_of as work_of_words}
-use Rattle.zio_script.specs.Reading.{body_shape_as}
-use Rattle.zio_script.specs.Shapes.{row_as as row_words, tail_as, top_as as top_words_as, work_as as work_words}
+use Rattle.zio_script.specs.Shapes.{body_shape_as, row_as as row_words, tail_as, top_as as top_words_as, work_as as work_words}
 use Rattle.zio_script.specs.Words.{Word}
 
 -- ---- what was read
@@ -102,6 +101,12 @@ pub record GivesNumbers (words : List Word) (old new : List ℕ) : Type 0 where
   pub are : numbers words ≡ Some more
   pub new_is : new ≡ old ++ more
 
+-- why the words spell nothing; memory may always be wanting
+abbrev pub IsWrong : {X : Type 0} → Option X → LineFault → Type 0
+IsWrong spelled NoShape = ⊥
+IsWrong spelled NoNumber = spelled ≡ None
+IsWrong spelled Memory = Unit {0}
+
 -- ---- lines
 
 -- the words are this line
@@ -118,7 +123,6 @@ pub record LacksNumber (words : List Word) : Type 0 where
 
 -- why the words are no line; memory may always be wanting
 abbrev pub IsNoLine : List Word → LineFault → Type 0
-IsNoLine words NotBuilt = ⊥
 IsNoLine words NoShape = shape_of words ≡ None
 IsNoLine words NoNumber = LacksNumber words
 IsNoLine words Memory = Unit {0}

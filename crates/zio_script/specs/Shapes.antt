@@ -2,18 +2,21 @@
 use Rattle.std.specs.Prelude.{◌≡◌, ◌≤◌, List, [], ◌∷◌, ◌++◌, length, map, true, Option, option_map, codes}
 use Rattle.zio_script.specs.declared.fixed.BodyForm.{BodyForm}
 use Rattle.zio_script.specs.declared.fixed.BodyForm.TheVariants.{Data, Fill, Seq}
-use Rattle.zio_script.specs.declared.shapes.LineShape.{LineShape}
-use Rattle.zio_script.specs.declared.shapes.LineShape.TheVariants.{Failmode, Top, Fault, Request, Go, Clear}
-use Rattle.zio_script.specs.declared.shapes.TopShape.{TopShape as FoundTop}
-use Rattle.zio_script.specs.declared.shapes.RowShape.{RowShape as FoundRow}
-use Rattle.zio_script.specs.declared.shapes.RequestShape.{RequestShape as FoundRequest}
-use Rattle.zio_script.specs.declared.shapes.WorkShape.{WorkShape as FoundWork}
-use Rattle.zio_script.specs.declared.shapes.WorkShape.TheVariants.{Null, Read, Write, Free, Claim}
+use Rattle.zio_script.specs.declared.fixed.FirstWord.{FirstWord}
+use Rattle.zio_script.specs.declared.fixed.FirstWord.TheVariants.{Failmode as FailmodeWord, Top as TopWord, Fault as FaultWord, Go as GoWord, Clear as ClearWord}
+use Rattle.zio_script.specs.declared.shape.BodyShape.{BodyShape as FoundContent}
+use Rattle.zio_script.specs.declared.shape.BodyShape.TheVariants.{Hex as HexWords, Fill as FillWords, Seq as SeqWords}
+use Rattle.zio_script.specs.declared.shape.LineShape.{LineShape}
+use Rattle.zio_script.specs.declared.shape.LineShape.TheVariants.{Failmode, Top, Fault, Request, Go, Clear}
+use Rattle.zio_script.specs.declared.shape.TopShape.{TopShape as FoundTop}
+use Rattle.zio_script.specs.declared.shape.RowShape.{RowShape as FoundRow}
+use Rattle.zio_script.specs.declared.shape.RequestShape.{RequestShape as FoundRequest}
+use Rattle.zio_script.specs.declared.shape.WorkShape.{WorkShape as FoundWork}
+use Rattle.zio_script.specs.declared.shape.WorkShape.TheVariants.{Null, Read, Write, Free, Claim}
 use Rattle.zio_script.specs.declared.shapes.BodyFound.{BodyFound as FoundBody}
-use Rattle.zio_script.specs.declared.shapes.Tail.{Tail as FoundTail}
-use Rattle.zio_script.specs.Lines.{Shape, FailmodeShape, TopShape, FaultShape, RequestShape, GoShape, ClearShape, TopWords, RowShape, WorkShape, NullShape, ReadShape, WriteShape, FreeShape, ClaimShape, BodyFound, Tail, hex_body, fill_body, seq_body}
-use Rattle.zio_script.specs.Reading.{body_shape_as}
-use Rattle.zio_script.specs.Words.{Word, is_word}
+use Rattle.zio_script.specs.declared.shape.Tail.{Tail as FoundTail}
+use Rattle.zio_script.specs.Lines.{Shape, FailmodeShape, TopShape, FaultShape, RequestShape, GoShape, ClearShape, BodyShape, HexShape, FillShape, SeqShape, TopWords, RowShape, WorkShape, NullShape, ReadShape, WriteShape, FreeShape, ClaimShape, BodyFound, Tail, hex_body, fill_body, seq_body, failmode_shape, top_shape, fault_shape, go_shape, clear_shape}
+use Rattle.zio_script.specs.Words.{Entry, Word, is_word}
 
 -- the words of a top
 abbrev pub top_as : FoundTop → TopWords
@@ -35,6 +38,12 @@ row_as row = record {
 -- what stands behind a request
 abbrev pub tail_as : FoundTail → Tail
 tail_as tail = record { under = option_map (λ w. w.now) tail.under; flag = tail.flag }
+
+-- the shape of a body
+abbrev pub body_shape_as : FoundContent → BodyShape
+body_shape_as (HexWords hex) = HexShape hex.now
+body_shape_as (FillWords byte len) = FillShape byte.now len.now
+body_shape_as (SeqWords seed len) = SeqShape seed.now len.now
 
 -- a body, and the words behind it
 abbrev pub body_as : FoundBody → BodyFound
@@ -62,6 +71,30 @@ shape_as Go = GoShape
 shape_as Clear = ClearShape
 
 -- ---- by fixed words
+
+-- what the first word of a line stands for, unless it is a request
+abbrev pub line_words : List (Entry FirstWord)
+line_words =
+    record { word = codes "failmode"; value = FailmodeWord }
+    ∷ record { word = codes "top"; value = TopWord }
+    ∷ record { word = codes "fault"; value = FaultWord }
+    ∷ record { word = codes "go"; value = GoWord }
+    ∷ record { word = codes "clear"; value = ClearWord } ∷ []
+
+-- what the first word of a body stands for
+abbrev pub body_form_words : List (Entry BodyForm)
+body_form_words =
+    record { word = codes "data"; value = Data }
+    ∷ record { word = codes "fill"; value = Fill }
+    ∷ record { word = codes "seq"; value = Seq } ∷ []
+
+-- the shape by the first word and those behind it
+abbrev pub first_shape : FirstWord → List Word → Option Shape
+first_shape FailmodeWord = failmode_shape
+first_shape TopWord = top_shape
+first_shape FaultWord = fault_shape
+first_shape GoWord = go_shape
+first_shape ClearWord = clear_shape
 
 -- a body of this form at the front of these words
 abbrev pub content_found : BodyForm → List Word → Option BodyFound

@@ -1,6 +1,6 @@
 -- What is wrong with a line, after the lines before it, and with the end of a text: docs/FORMATS.md, "Words of a line" and
 -- "Whys".
-use Rattle.std.specs.Prelude.{ℕ, zero, suc, ◌+◌, ◌-◌, ◌*◌, ◌/◌, List, [], ◌∷◌, ◌++◌, length, map, reverse, find, fold, sum, count_by, Bool, true, false, not, ◌&&◌, ◌||◌, ◌==◌, nat_lt, nat_le, Option, Some, None, option_map}
+use Rattle.std.specs.Prelude.{ℕ, zero, suc, ◌+◌, ◌-◌, ◌*◌, List, [], ◌∷◌, ◌++◌, length, map, reverse, find, fold, sum, count_by, Bool, true, false, not, ◌&&◌, ◌||◌, ◌==◌, nat_lt, nat_le, Option, Some, None, option_map}
 use Rattle.std.specs.List.{list_any, list_all, flat_map}
 use Rattle.zio_types.specs.declared.request.Kind.{Kind}
 use Rattle.zio_types.specs.declared.request.Kind.TheVariants.{Null as NullKind, Read as ReadKind, Write as WriteKind, Free as FreeKind, Claim as ClaimKind}
@@ -19,7 +19,7 @@ use Rattle.zio_script.specs.declared.script.Request.{Request}
 use Rattle.zio_script.specs.declared.script.Script.{Script}
 use Rattle.zio_script.specs.declared.script.TopLine.{TopLine as Top}
 use Rattle.zio_script.specs.declared.why.Why.{Why}
-use Rattle.zio_script.specs.declared.why.Why.TheVariants.{Word as NoShape, Number, Limit, Order, Name, Conflict, Flag, Parent, Pool, NotYet}
+use Rattle.zio_script.specs.declared.why.Why.TheVariants.{Word as NoShape, Number, Limit, Order, Name, Conflict, Flag, Parent, Pool}
 use Rattle.zio_script.specs.declared.script.Work.{Work}
 use Rattle.zio_script.specs.declared.script.Work.TheVariants.{Null, Read, Write, Free, Claim}
 use Rattle.zio_script.specs.Lines.{NewRequest, ScriptLine, FailmodeLine, LeavesLine, FaultLine, RequestLine, GoLine, ClearLine}
@@ -311,7 +311,6 @@ why_number Conflict = 6
 why_number Flag = 7
 why_number Parent = 8
 why_number Pool = 9
-why_number NotYet = 10
 
 -- a why, and whether it applies
 pub record Check : Type 0 where

@@ -9,14 +9,15 @@ ghost use Rattle.zio_script.specs.Whys.{is_among, is_leaf, may_fail, parent_in, 
 ghost use Rattle.std.specs.List.{list_all};
 ghost use Rattle.zio_script.specs.declared.script.Failmode.{Failmode};
 
-use crate::draft::{Refusal, is_skipped, refusal_of};
 use crate::limits::{BATCH_LEN_MAX, CLEARS_MAX, FAULTS_MAX, TOPS_MAX};
 use crate::lines::{Line, NewRequest, NewRow, NewTop, line_in};
 use crate::open_batch::{OpenBatch, Stand};
 use crate::ranges::{are_leaves, fits_asked, fits_row, is_sector, work_len};
+use crate::refusal::{Refusal, refusal_of};
 use crate::values::{
     add_leaves, is_claim, is_write, kind_of, may_fail_alone, request_of, row_of, says_canfail,
 };
+use crate::word::is_skipped;
 use crate::{Failmode, Item, Request, Script, ScriptError, TopLine, Why};
 use std::alloc::Global;
 use zio_faults::{FaultKind, Row};

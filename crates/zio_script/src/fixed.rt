@@ -1,7 +1,6 @@
 //! What the fixed words of a line stand for.
-ghost use Rattle.std.specs.Prelude.{◌≡◌, [], ◌∷◌};
-ghost use Rattle.zio_script.specs.Built.{is_built_by, tail_forms};
-ghost use Rattle.zio_script.specs.Reading.{body_form_words, line_words};
+ghost use Rattle.std.specs.Prelude.{◌≡◌};
+ghost use Rattle.zio_script.specs.Shapes.{body_form_words, line_words};
 ghost use Rattle.zio_script.specs.Words.{failmode_words, fault_words, flag_words, is_word, kind_words, operation_words, read_classes, sum_words, value_in, write_classes};
 ghost use Rattle.std.specs.Prelude.{codes};
 
@@ -103,16 +102,6 @@ pub(crate) fn body_form_in(word: &[u8]) -> Option<BodyForm>
         b"fill" => Some(BodyForm::Fill),
         b"seq" => Some(BodyForm::Seq),
         _ => None,
-    }
-}
-
-/// The word begins no tail, so far as tails are read.
-pub(crate) fn begins_no_tail(word: &[u8]) -> bool
-    ensures { result ≡ is_built_by tail_forms (word.now ∷ []) }
-{
-    match word {
-        b"under" | b"must" | b"canfail" => false,
-        _ => true,
     }
 }
 

@@ -2,33 +2,30 @@
 //!
 //! It stands on `zio_types`, `zio_blkptr` and `zio_faults`. Read `Script` first, then `read_script`, then `body_bytes`.
 //! `specs/Grammar` says which texts are scripts, with `specs/Words`, `specs/Lines` and `specs/Whys` below it,
-//! `specs/Built` which forms are read so far, `specs/Accepted` what holds of every script, and `specs/Bodies` what the
-//! bytes of a write's body are; docs/FORMATS.md, "Script", has the language. `specs/Decisions` says how requests go
-//! again by a script's failmode. `specs/Reading`, `specs/Drafts` and
-//! `specs/Keys` are the reader's own, and nothing of them has to be believed.
+//! `specs/Accepted` what holds of every script, and `specs/Bodies` what the bytes of a write's body are;
+//! docs/FORMATS.md, "Script", has the language. `specs/Decisions` says how requests go again by a script's failmode.
+//! `specs/Shapes`, `specs/NewLines`, `specs/Builders`, `specs/OpenBatches` and `specs/Keys` are the reader's own, and
+//! nothing of them has to be believed.
 #![tactic(auto)]
 
 mod body;
 mod builder;
-mod built;
-mod draft;
 mod fixed;
 mod laws;
 mod limits;
-mod line;
 mod lines;
 mod name;
 mod names;
 mod open_batch;
 mod ranges;
 mod read;
+mod refusal;
 mod script;
 mod shape;
 mod shapes;
 #[cfg(test)]
 mod tests;
 mod values;
-mod whole;
 mod why;
 mod word;
 mod work;
@@ -43,5 +40,4 @@ pub use limits::{
 pub use name::{NAME_LEN_MAX, Name};
 pub use read::{SCRIPT_LEN_MAX, read_script};
 pub use script::{Body, Failmode, Item, Request, Script, ScriptError, ScriptFault, TopLine, Work};
-pub use whole::read_whole_script;
 pub use why::Why;

@@ -1,15 +1,14 @@
-//! What a line of any form says by its words: `specs/Lines`, "Numbers and hexadecimal words".
+//! What a line says by its words: `specs/Lines`, "Numbers and hexadecimal words".
 ghost use Rattle.std.specs.Prelude.{◌≡◌, ◌++◌, IfErr, IfOk, OnOk, Some, map, option_map};
 ghost use Rattle.zio_script.specs.Lines.{line_of, numbers, parent_number, sector_number};
-ghost use Rattle.zio_script.specs.NewLines.{GivesNumbers, IsLineIn, IsNoLine, body_as, body_of, line_as, request_as, request_of, row_as, row_of, top_as, top_of, work_as, work_of};
-ghost use Rattle.zio_script.specs.Reading.{IsWrong};
+ghost use Rattle.zio_script.specs.NewLines.{GivesNumbers, IsLineIn, IsNoLine, IsWrong, body_as, body_of, line_as, request_as, request_of, row_as, row_of, top_as, top_of, work_as, work_of};
 ghost use Rattle.zio_script.specs.Shapes.{shape_as};
 ghost use Rattle.zio_script.specs.Words.{byte_of, bytes_of, number};
 
 use crate::Failmode;
-use crate::line::LineFault;
-use crate::shape::BodyShape;
-use crate::shapes::{LineShape, RequestShape, RowShape, TopShape, WorkShape, shape_of};
+use crate::refusal::LineFault;
+use crate::shape::{BodyShape, LineShape, RequestShape, RowShape, TopShape, WorkShape};
+use crate::shapes::shape_of;
 use crate::word::{byte_of, bytes_of, number};
 use std::alloc::Global;
 use zio_blkptr::SumKind;

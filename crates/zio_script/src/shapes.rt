@@ -1,8 +1,7 @@
-//! What a line is by its words alone: `specs/Lines`, "Shapes".
+//! The shape of a line, found by its words.
 ghost use Rattle.std.specs.Prelude.{◌≡◌, MatchOption, map, option_map};
 ghost use Rattle.zio_script.specs.Lines.{body_found, clear_shape, fault_shape, first_of_end, flag_tail, go_shape, kind_shape, failmode_shape, named_shape, request_shape, shape_of, tail_of, top_shape, top_words, under_tail};
-ghost use Rattle.zio_script.specs.Reading.{first_shape};
-ghost use Rattle.zio_script.specs.Shapes.{HasNoSector, HasSector, body_as, content_found, request_as, shape_as, tail_as, top_as};
+ghost use Rattle.zio_script.specs.Shapes.{HasNoSector, HasSector, body_as, content_found, first_shape, request_as, shape_as, tail_as, top_as};
 ghost use Rattle.zio_types.specs.declared.request.Kind.TheVariants.{Null, Read, Write, Free, Claim};
 
 use crate::Failmode;
@@ -10,80 +9,10 @@ use crate::fixed::{
     BodyForm, FirstWord, body_form_in, failmode_in, fault_in, first_in, flag_in, is_first,
     is_sector, is_under, kind_in, operation_in, read_class_in, sum_in, write_class_in,
 };
-use crate::shape::BodyShape;
+use crate::shape::{BodyShape, LineShape, RequestShape, RowShape, Tail, TopShape, WorkShape};
 use zio_blkptr::SumKind;
 use zio_faults::{FaultKind, On};
 use zio_types::{Kind, Prio};
-
-/// What a line is by its words.
-#[derive(Clone, Copy)]
-pub(crate) enum LineShape<'w, 'a> {
-    Failmode(Failmode),
-    Top(TopShape<'w, 'a>),
-    Fault(RowShape<'a>),
-    Request(RequestShape<'a>),
-    Go,
-    Clear,
-}
-
-/// The leaves of a top, and the size of its sectors where the line says it.
-#[derive(Clone, Copy)]
-pub(crate) struct TopShape<'w, 'a> {
-    pub leaves: &'w [&'a [u8]],
-    pub sector: Option<&'a [u8]>,
-}
-
-/// A row of the fault table.
-#[derive(Clone, Copy)]
-pub(crate) struct RowShape<'a> {
-    pub leaf: &'a [u8],
-    pub on: On,
-    pub at: &'a [u8],
-    pub len: &'a [u8],
-    pub from: &'a [u8],
-    pub until: &'a [u8],
-    pub kind: FaultKind,
-    pub first: bool,
-}
-
-/// A request.
-#[derive(Clone, Copy)]
-pub(crate) struct RequestShape<'a> {
-    pub number: &'a [u8],
-    pub work: WorkShape<'a>,
-    pub tail: Tail<'a>,
-}
-
-/// What a request is to do.
-#[derive(Clone, Copy)]
-pub(crate) enum WorkShape<'a> {
-    Null,
-    Read {
-        name: &'a [u8],
-        prio: Prio,
-    },
-    Write {
-        name: &'a [u8],
-        sum: SumKind,
-        copies: &'a [u8],
-        prio: Prio,
-        body: BodyShape<'a>,
-    },
-    Free {
-        name: &'a [u8],
-    },
-    Claim {
-        name: &'a [u8],
-        hex: &'a [u8],
-    },
-}
-
-/// What stands behind a request: its parent, and whether it may fail.
-#[derive(Clone, Copy)]
-pub(crate) struct Tail<'a> {
-    pub under: Option<&'a [u8]>,
-    pub flag: Option<bool>,
-}
 
 /// A body, and the words behind it.
 #[derive(Clone, Copy)]

@@ -22,12 +22,10 @@ pub enum Why {
     Parent,
     /// A leaf stands twice or in no top, or there is no top.
     Pool,
-    /// The form isn't read.
-    NotYet,
 }
 
 impl Why {
-    /// 1 to 10, in this order.
+    /// 1 to 9, in this order.
     pub fn number(self) -> u32
         ensures { result ≡ why_number self }
     {
@@ -41,7 +39,6 @@ impl Why {
             Why::Flag => 7,
             Why::Parent => 8,
             Why::Pool => 9,
-            Why::NotYet => 10,
         }
     }
 }

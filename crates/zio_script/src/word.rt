@@ -1,10 +1,10 @@
 //! The lines of a text, the words of a line, and what words spell.
-ghost use Rattle.std.specs.Prelude.{◌≡◌, ◌∷◌, ◌<◌, ◌≤◌, ◌^◌, ◌&&◌, true, [], IfOk, IfSome, MatchOption, OnOk, length, map, nat_lt};
+ghost use Rattle.std.specs.Prelude.{◌≡◌, ◌∷◌, ◌<◌, ◌≤◌, ◌^◌, true, [], IfOk, IfSome, MatchOption, OnOk, length, map};
 ghost use Rattle.std.specs.List.{list_all};
 ghost use Rattle.std.specs.Bool.{then_some};
 ghost use Rattle.std.specs.Char.{is_digit};
 ghost use Rattle.std.specs.Str.Parse.{digits_value};
-ghost use Rattle.zio_script.specs.Words.{byte_of, bytes_of, has_leading_zero, is_blank, is_comment, is_numeral, lines_of, number, words_of};
+ghost use Rattle.zio_script.specs.Words.{byte_of, bytes_of, has_leading_zero, is_blank, is_comment, is_numeral, is_skipped, lines_of, number, words_of};
 
 use hex::FromHexError;
 use std::alloc::Global;
@@ -46,8 +46,18 @@ fn is_blank(c: u8) -> bool
     matches!(c, b' ' | b'\t' | b'\r')
 }
 
-/// The word begins with `#`.
-pub(crate) fn is_comment(word: &[u8]) -> bool
+/// The line has no word, or is a comment.
+pub(crate) fn is_skipped(words: &[&[u8]]) -> bool
+    ensures { result ≡ is_skipped (map (λ w. w.now) words.now) }
+{
+    match words.first() {
+        None => true,
+        Some(word) => is_comment(word),
+    }
+}
+
+// The word begins with `#`.
+fn is_comment(word: &[u8]) -> bool
     ensures { result ≡ is_comment word.now }
 {
     word.first() == Some(&b'#')
@@ -90,17 +100,6 @@ fn short_digits_value(word: &[u8]) -> Option<u64>
         value = value * 10 + u64::from(*c - b'0');
     }
     Some(value)
-}
-
-/// The word is a numeral, and the number that it spells is above `most`.
-pub(crate) fn is_numeral_above(word: &[u8], most: u64) -> bool
-    ensures { result ≡ is_numeral word.now && nat_lt most (digits_value 10 word.now) }
-{
-    is_numeral(word)
-        && match digits_value(word) {
-            Some(number) => number > most,
-            None => true,
-        }
 }
 
 // Decimal digits, without a leading zero.

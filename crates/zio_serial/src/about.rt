@@ -4,29 +4,34 @@ ghost use Rattle.zio_serial.specs.Questions.{asked_by, asked_by_one, asked_by_tw
 use clap::{Arg, ArgAction, Command};
 use std::alloc::{AllocError, Global};
 
-const ABOUT: &str = "Runs a script of block reads and writes on an image file, on one thread.";
+const ABOUT: &str = "Runs a script of block requests on image files, on one thread.";
 
-pub const USAGE: &str = "zio_serial run [--journal] [--data] IMAGE < SCRIPT
-       zio_serial gen SEED N";
+pub const USAGE: &str = "zio_serial run [--journal] [--data] IMAGE.. < SCRIPT
+       zio_serial gen SEED N
+       zio_serial load SEED N IMAGE..";
 
 const AFTER: &str = "\
-run IMAGE reads a script from standard input, runs it, and writes the report to
-standard output. IMAGE is a file of 64 KiB to 256 MiB that is changed in place.
+run IMAGE.. reads a script from standard input, runs it, and writes the report
+to standard output. There are 1 to 16 images, files of 64 KiB to 256 MiB that
+are changed in place; leaf 0 of the script is the first of them.
   --journal  shows where each round's blocks were placed, and the order in
              which its requests completed
   --data     shows the bytes that each read gave
 
 gen SEED N writes a script of 1 to 20000 blocks on a pool of four images, always
-the same for a SEED below 4294967296.
+the same for a SEED below 4294967296. load SEED N IMAGE.. runs that script and
+writes a summary.
 
 Exit status:
   0  the script was run to its end, and all its requests completed; or written
   1  the words are no command
   2  the script isn't accepted; `script LINE WHY` tells where and why (below)
-  3  the image couldn't be opened, or isn't of 64 KiB to 256 MiB
+  3  an image couldn't be opened or isn't of 64 KiB to 256 MiB, or a top names a
+     leaf without an image; `images LEAF` tells which
+  4  a request was suspended under failmode panic, which ended the run
   5  standard input couldn't be read
   6  standard output couldn't be written
-  7  the image couldn't be read or written
+  7  an image couldn't be read or written
   8  memory was wanted and not given
   9  the script was run to its end, and a request is suspended or held
 
@@ -39,8 +44,7 @@ Of each status but 0 a line on standard error tells more. The whys of status 2:
   6  the batch names this block already
   7  canfail under a request that may not fail
   8  the parent isn't one, or the batch of a claim has another request
-  9  a leaf is in two tops, a fault's leaf in none, or there is no top
-  10 this form isn't built yet";
+  9  a leaf is in two tops, a fault's leaf in none, or there is no top";
 
 /// What a single word asks of the program itself.
 #[derive(Clone, Copy)]

@@ -18,7 +18,6 @@ pub fn why_text(why: u32) -> &'static str {
         7 => "canfail under a request that may not fail",
         8 => "the parent isn't one, or the batch of a claim has another request",
         9 => "a leaf is in two tops, a fault's leaf in none, or there is no top",
-        10 => "this form isn't built yet",
         _ => "no reason is known",
     }
 }
@@ -35,6 +34,9 @@ pub fn line_of<R: Files>(
         1 => format!(in alloc; "usage: {}", crate::about::USAGE),
         2 => script_line(alloc, front),
         3 => image_line(rt, alloc, front, words),
+        4 => format!(in alloc;
+            "a request was suspended under failmode panic; later batches didn't run"
+        ),
         5 => format!(in alloc; "standard input can't be read"),
         6 => format!(in alloc; "standard output can't be written"),
         7 => format!(in alloc;
@@ -67,12 +69,21 @@ fn script_line(alloc: Global, front: &[u8]) -> Result<String, AllocError> {
     }
 }
 
+/// The words behind the command: those of `load` stand behind its two numbers.
+fn behind_command(words: &[String]) -> &[String] {
+    match words {
+        [first, _, _, rest @ ..] if first.as_str() == "load" => rest,
+        [_, rest @ ..] => rest,
+        [] => words,
+    }
+}
+
 /// The word that names the image of this number: those behind the options.
 fn image_name<'a>(words: &'a [String], leaf: u32) -> Option<&'a str> {
     let mut left = leaf;
-    for word in words {
+    for word in behind_command(words) {
         let word = word.as_str();
-        if word == "run" || word.starts_with('-') {
+        if word.starts_with('-') {
             continue;
         }
         if left == 0 {

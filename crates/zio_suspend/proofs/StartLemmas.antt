@@ -1,21 +1,21 @@
 -- Before the first line of a script.
-use Rattle.std.proofs.Common.{◌≡◌, ℕ, ◌+◌, ◌<◌, ◌≤◌, ◌^◌, List, [], ◌∷◌, ◌++◌, length, map, Bool, false, Option, Some, None, refl, sym, ap, ◌∙◌, subst, arith, append_assoc, length-append}
+use Rattle.std.proofs.Common.{◌≡◌, ℕ, ◌+◌, ◌<◌, ◌≤◌, ◌^◌, List, [], ◌∷◌, ◌++◌, length, map, Bool, true, false, Option, Some, None, refl, sym, ap, ◌∙◌, subst, arith, append_assoc, length-append}
 use Rattle.std.specs.Prelude.{◌*◌, ◌==◌, Contains, IfSome}
 use Rattle.std.specs.List.{AllByRecursion}
 use Rattle.std.proofs.lemmas.List.{append-nil}
 use Rattle.zio_types.specs.declared.journal.Completion.{Completion}
 use Rattle.zio_types.specs.declared.journal.Journal.{Journal}
 use Rattle.zio_types.specs.declared.place.Place.{Place}
+use Rattle.zio_types.specs.Places.{are_apart}
 use Rattle.zio_types.specs.Choices.{Choice}
 use Rattle.zio_script.specs.declared.script.Item.{Item}
 use Rattle.zio_script.specs.declared.script.Item.TheVariants.{Request as RequestLine, Go, Clear}
 use Rattle.zio_script.specs.declared.script.Request.{Request}
 use Rattle.zio_script.specs.declared.script.Script.{Script}
 use Rattle.zio_script.specs.Accepted.{AreRising, IsOrderlyBatch, batches_from}
-use Rattle.zio_script.specs.Grammar.{IsScriptIn}
+use Rattle.zio_script.specs.Grammar.{IsScriptOf}
 use Rattle.zio_script.specs.Requests.{requests_of}
 use Rattle.zio_script.specs.Whys.{tells_reads_apart}
-use Rattle.zio_script.specs.Words.{Word}
 use Rattle.zio_cksum.specs.Images.{Images}
 use Rattle.zio_cksum.proofs.AllLemmas.{all_append, all_contained, all_weaker}
 use Rattle.zio_gang.specs.declared.tree.Tree.{Tree}
@@ -104,6 +104,8 @@ live_none live bound none unbound = record {
   there = λ name. subst (λ (o : Option Tree). IfSome o (λ tree. AllByRecursion (Contains live) (tree_places tree))) (sym (unbound name)) tt;
   back = λ p at. absurd (contains_one p [] (subst (λ (ps : List Place). Contains ps p) none at));
   apart = λ n m t u p is other here there. absurd (let no : None ≡ Some t = sym (unbound n) ∙ is in cc);
+  own = λ name. subst (λ (o : Option Tree). IfSome o (λ tree. are_apart (tree_places tree) ≡ true)) (sym (unbound name)) tt;
+  between = λ n m t u p q is other here there met. absurd (let no : None ≡ Some t = sym (unbound n) ∙ is in cc);
 }
 
 waits_none : (apart : Bool) (bound : List (List ℕ × Tree)) → AreSuspended apart bound [] []
@@ -112,6 +114,7 @@ waits_none apart bound = record {
   numbers = record { rising = tt; among = tt; each = λ n. refl };
   each = refl;
   rising = tt;
+  under = tt;
   claims = refl;
 }
 
@@ -127,23 +130,23 @@ start_steady fits s rounds f new live runs last none = record {
   sums = subst (λ (t : Tally). t.read ≤ t.good * 2 ^ 64) (sym new.tally) (omega arith);
 }
 
-pub start_going : (fits : Tree → Type 0) (s : Standing) (rounds : ℕ) (f : SeenFold) (is_built : List Word → Bool) (text : List ℕ) (script : Script) → IsScriptIn is_built text script
+pub start_going : (fits : Tree → Type 0) (s : Standing) (rounds : ℕ) (f : SeenFold) (text : List ℕ) (script : Script) → IsScriptOf text script
     → AreRising (requests_of script.items) → AllByRecursion (IsOrderlyBatch (tells_reads_apart script)) (batches_from [] script.items)
     → IsNew f → s.rows ≡ script.faults → s.live ≡ [] → s.stopped ≡ false → s.last ≡ 0 → rounds ≡ 0
     → IsGoing fits s rounds f [] (batches_from [] script.items) (length script.items)
-start_going fits s rounds f is_built text script is up orderly new rows live runs last none = record {
+start_going fits s rounds f text script is up orderly new rows live runs last none = record {
   steady = start_steady fits s rounds f new live runs last none;
   rising = subst (λ (us : List Request). AreRising (coming us (batches_from [] script.items))) (sym new.unfinished) (rising_batches [] script.items up);
   orderly = subst (λ (rs : List Rattle.zio_faults.specs.declared.table.Row.Row). AllByRecursion (IsOrderlyBatch (rows_tell_apart rs)) (batches_from [] script.items)) (sym rows) orderly;
   numbers = tt;
-  rounds_fit = let h = few_items is_built text script is in omega (arith, none);
+  rounds_fit = let h = few_items text script is in omega (arith, none);
   few = subst (λ (t : Tally). t.good + t.bad + length (coming f.unfinished (batches_from [] script.items)) < 2 ^ 32) (sym new.tally)
       (subst (λ (us : List Request). 0 + 0 + length (coming us (batches_from [] script.items)) < 2 ^ 32) (sym new.unfinished)
-      (let h = few_items is_built text script is in let k = few_requests [] script.items in omega arith));
+      (let h = few_items text script is in let k = few_requests [] script.items in omega arith));
 }
 
-pub start_point : (point : ℕ) (is_built : List Word → Bool) (text : List ℕ) (script : Script) → IsScriptIn is_built text script → point ≡ 0 → point + length script.items < 2 ^ 32
-start_point point is_built text script is none = let h = few_items is_built text script is in omega (arith, none)
+pub start_point : (point : ℕ) (text : List ℕ) (script : Script) → IsScriptOf text script → point ≡ 0 → point + length script.items < 2 ^ 32
+start_point point text script is none = let h = few_items text script is in omega (arith, none)
 
 -- ---- the course
 

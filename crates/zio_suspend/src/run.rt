@@ -1,10 +1,9 @@
 //! The run of a whole script over any runner of rounds.
 
-ghost use Rattle.std.specs.Prelude.{◌≡◌, [], ℕ, List, Bool, IfErr, IfOk, IsErrOf, OnOk, false, length, map};
+ghost use Rattle.std.specs.Prelude.{◌≡◌, [], ℕ, List, IfErr, IfOk, IsErrOf, OnOk, false, length, map};
 ghost use Rattle.zio_outside.specs.Outside.{Appends, Rose};
-ghost use Rattle.zio_script.specs.Grammar.{IsScriptIn};
+ghost use Rattle.zio_script.specs.Grammar.{IsScriptOf};
 ghost use Rattle.zio_script.specs.Requests.{requests_of};
-ghost use Rattle.zio_script.specs.Words.{Word};
 ghost use Rattle.zio_cksum.specs.Images.{Images};
 ghost use Rattle.zio_gang.specs.Runs.{top_of};
 ghost use Rattle.zio_report.specs.Meanings.{IsEmptyJournal};
@@ -38,7 +37,7 @@ pub fn run_script<R: Runner, O: Sink>(
     out: &mut O,
     journal: &mut Journal,
 ) -> Result<Ending, RunFault>
-    requires script { (is_built : List Word → Bool) × (text : List ℕ) × IsScriptIn is_built text script.now }
+    requires script { (text : List ℕ) × IsScriptOf text script.now }
     requires empty { IsEmptyJournal journal.old }
     requires rows { (R.standing runner.old).rows ≡ script.now.faults }
     requires tops { (before : Images) → R.tells runner.old before → (R.standing runner.old).tops ≡ map (top_of before) script.now.tops }
@@ -53,6 +52,7 @@ pub fn run_script<R: Runner, O: Sink>(
         × IsFullText fault show.now (record { tops = length script.now.tops; images = images; requests = length (requests_of script.now.items) }) script.now before journal.new text full
         × R.tells runner.new after × IsCutText fault (O.holds out.old) (O.holds out.new) [] full) }
     ensures last { OnOk result ((R.standing runner.new).last ≡ journal.new.rounds) }
+    ensures runs { OnOk result ((R.standing runner.new).stopped ≡ false) }
     ensures tops { (R.standing runner.new).tops ≡ (R.standing runner.old).tops }
     ensures rows { (R.standing runner.new).rows ≡ (R.standing runner.old).rows }
     ensures faults { OnOk result ((R.standing runner.new).faults ≡ (R.standing runner.old).faults) }

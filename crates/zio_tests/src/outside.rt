@@ -27,6 +27,9 @@ fn numbers(alloc: Global, items: &[u64]) -> Result<List<u64>, NoMemory>
     Ok(list)
 }
 
+/// A disk can be handed to another thread.
+fn goes_to_threads<D: Disk + Send>(_disk: &D) {}
+
 fn text(alloc: Global, name: &str) -> Result<Text, NoMemory>
     ensures { IfOk result (λ text. text ≡ name.now) }
 {
@@ -61,6 +64,7 @@ fn a_piece_without_room_is_not_taken(rt: HostRuntime) -> Result<(), Fail> {
 #[test]
 fn a_listed_write_leaves_the_image(rt: HostRuntime) -> Result<(), Fail> {
     let mut disk = MemDisk::new(bytes(rt.alloc(), b"abcdef")?, numbers(rt.alloc(), &[1])?);
+    goes_to_threads(&disk);
     let mut buffer = [0u8; 2];
     assert_eq!(rt; disk.write_at(1, b"xy"), Ok(()));
     assert_eq!(rt; disk.write_at(2, b"zz"), Err(Failed));
@@ -108,6 +112,7 @@ fn a_file_is_a_disk(rt: HostRuntime) -> Result<(), Fail> {
     fs::write(&rt, path.as_path(), b"abcdef")?;
     let mut shelf = FileShelf::new(&rt);
     let mut disk = shelf.fetch(path.as_str())?;
+    goes_to_threads(&disk);
     assert_eq!(rt; disk.size(), 6);
     let mut buffer = [0u8; 2];
     if disk.size() == 6 {

@@ -3,7 +3,7 @@ use Rattle.std.proofs.lemmas.Bool.{lt-leb}
 use Rattle.hex.specs.Hex.{decode_pairs}
 use Rattle.zio_script.specs.declared.read.TheConstants.{SCRIPT_LEN_MAX}
 use Rattle.zio_script.specs.Grammar.{read_lines}
-use Rattle.zio_worked.specs.ScriptTexts.{TopAloneIsAScript, WholeScriptIsRead, TopsHaveUnits, RootsHaveTheirFlags, ChildrenHaveTheirFlags, BodiesAreRead, BlanksPartWords, EdgesAreAccepted, ReadsMayShareABlock, OthersAreAccepted, WordsHaveToFit, OtherLinesHaveToFit, NumbersAreDecimal, DigitsComeInPairs, SectorMayBeALeaf, LinesMayHaveTwoShapes, NumbersHaveRanges, FaultsHaveRanges, TopsAreCounted, FaultsAreCounted, ClearsAreCounted, RequestsAreCounted, PointersTakeRoom, SizesArePadded, BatchHasALimit, LongTextsAreRefused, LinesHaveAnOrder, NumbersRise, BatchesAreEnded, NamesHaveTheirCharacters, NamesStandOnce, RowsMayTellReadsApart, FlagsFollowParents, OnlyAParentIsWrong, ParentsStandBefore, ClaimsStandAlone, DepthHasALimit, ChildrenAreCounted, TopsAreWanted, LeavesStandOnce, FormsMayBeUnbuilt, UnbuiltFormsAreNamed, SkippedLinesAreCounted, FirstLineCounts, LeastWhyCounts}
+use Rattle.zio_worked.specs.ScriptTexts.{TopAloneIsAScript, WholeScriptIsRead, TopsHaveUnits, RootsHaveTheirFlags, ChildrenHaveTheirFlags, BodiesAreRead, BlanksPartWords, EdgesAreAccepted, ReadsMayShareABlock, OthersAreAccepted, WordsHaveToFit, OtherLinesHaveToFit, NumbersAreDecimal, DigitsComeInPairs, SectorMayBeALeaf, LinesMayHaveTwoShapes, NumbersHaveRanges, FaultsHaveRanges, TopsAreCounted, FaultsAreCounted, ClearsAreCounted, RequestsAreCounted, PointersTakeRoom, SizesArePadded, BatchHasALimit, LongTextsAreRefused, LinesHaveAnOrder, NumbersRise, BatchesAreEnded, NamesHaveTheirCharacters, NamesStandOnce, RowsMayTellReadsApart, FlagsFollowParents, OnlyAParentIsWrong, ParentsStandBefore, ClaimsStandAlone, DepthHasALimit, ChildrenAreCounted, TopsAreWanted, LeavesStandOnce, SkippedLinesAreCounted, FirstLineCounts, LeastWhyCounts}
 
 pub top_alone_is_a_script : TopAloneIsAScript
 unfolding read_lines decode_pairs
@@ -106,7 +106,7 @@ unfolding read_lines decode_pairs
 batch_has_a_limit = refl
 
 pub long_texts_are_refused : LongTextsAreRefused
-long_texts_are_refused is_built text long = rw (lt-leb (length text) SCRIPT_LEN_MAX long) refl
+long_texts_are_refused text long = rw (lt-leb (length text) SCRIPT_LEN_MAX long) refl
 
 pub lines_have_an_order : LinesHaveAnOrder
 unfolding read_lines decode_pairs
@@ -163,14 +163,6 @@ tops_are_wanted = refl
 pub leaves_stand_once : LeavesStandOnce
 unfolding read_lines decode_pairs
 leaves_stand_once = refl
-
-pub forms_may_be_unbuilt : FormsMayBeUnbuilt
-unfolding read_lines decode_pairs
-forms_may_be_unbuilt = refl
-
-pub unbuilt_forms_are_named : UnbuiltFormsAreNamed
-unfolding read_lines decode_pairs
-unbuilt_forms_are_named = refl
 
 pub skipped_lines_are_counted : SkippedLinesAreCounted
 unfolding read_lines decode_pairs

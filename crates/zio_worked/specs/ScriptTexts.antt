@@ -1,6 +1,6 @@
 -- Texts of scripts: what they are, or their first faulty line with the least why.
 use Prim.Native.String.{String}
-use Rattle.std.specs.Prelude.{◌≡◌, ◌<◌, ℕ, List, [], ◌∷◌, ◌++◌, map, length, replicate, option_map, Bool, true, false, not, Option, Some, None, is_some, codes, ◌||◌}
+use Rattle.std.specs.Prelude.{◌≡◌, ◌<◌, ℕ, List, [], ◌∷◌, ◌++◌, map, length, replicate, option_map, Bool, true, false, Option, Some, None, is_some, codes}
 use Rattle.std.specs.List.{flat_map}
 use Rattle.zio_types.specs.declared.request.Kind.TheVariants.{Null as NullKind}
 use Rattle.zio_types.specs.declared.request.Prio.TheVariants.{Scrub, SyncWrite, AsyncWrite}
@@ -18,12 +18,10 @@ use Rattle.zio_script.specs.declared.script.TopLine.{TopLine}
 use Rattle.zio_script.specs.declared.why.Why.{Why}
 use Rattle.zio_script.specs.declared.why.Why.TheVariants.{Limit}
 use Rattle.zio_script.specs.declared.script.Work.TheVariants.{Null, Read, Write, Claim}
-use Rattle.zio_script.specs.Built.{is_built}
-use Rattle.zio_script.specs.Grammar.{IsFaultIn, IsScriptIn, all_built, fault_at, fault_of, script_of, begun_with}
+use Rattle.zio_script.specs.Grammar.{IsFaultOf, IsScriptOf, fault_at, fault_of, script_of, begun_with}
 use Rattle.zio_script.specs.Lines.{NewRequest, FaultLine, ClearLine}
 use Rattle.zio_script.specs.Requests.{requests_of}
 use Rattle.zio_script.specs.Whys.{are_too_large, breaks_limit, least_why, refuses_child, sizes_with, whys_of}
-use Rattle.zio_script.specs.Words.{Word, is_word}
 use Rattle.zio_worked.specs.Scripts.{fault_at as row_at, in_first_pass, lines}
 
 -- ---- words for cases
@@ -44,16 +42,11 @@ faulty texts line why = faulty_text (lines texts) line why
 abbrev pub in_top : List String → ℕ → ℕ → Faulty
 in_top texts line why = faulty ("top 0" ∷ texts) line why
 
--- where these forms are built
-abbrev pub AreFaultyIn : (List Word → Bool) → List Faulty → Type 0
-AreFaultyIn is_built cases =
-    map (λ (c : Faulty). fault_of is_built c.text) cases ≡ map (λ (c : Faulty). Some (fault_at c.line c.why)) cases
-
 abbrev pub AreFaulty : List Faulty → Type 0
-AreFaulty cases = AreFaultyIn all_built cases
+AreFaulty cases = map (λ (c : Faulty). fault_of c.text) cases ≡ map (λ (c : Faulty). Some (fault_at c.line c.why)) cases
 
 abbrev pub are_accepted : List (List ℕ) → List Bool
-are_accepted texts = map (λ text. is_some (script_of all_built text)) texts
+are_accepted texts = map (λ text. is_some (script_of text)) texts
 
 abbrev pub AreAccepted : List (List ℕ) → Type 0
 AreAccepted texts = are_accepted texts ≡ map (λ text. true) texts
@@ -70,7 +63,7 @@ top_of leaves unit = record { leaves = leaves; unit = unit }
 
 abbrev pub TopAloneIsAScript : Type 0
 TopAloneIsAScript =
-    IsScriptIn all_built (codes "top 0") (record { failmode = Wait; tops = top_of (0 ∷ []) 1 ∷ []; faults = []; items = [] })
+    IsScriptOf (codes "top 0") (record { failmode = Wait; tops = top_of (0 ∷ []) 1 ∷ []; faults = []; items = [] })
 
 abbrev pub whole_text : List ℕ
 whole_text =
@@ -89,7 +82,7 @@ whole_text =
 
 -- every line stands in the script, with the flags that a line doesn't say
 abbrev pub WholeScriptIsRead : Type 0
-WholeScriptIsRead = IsScriptIn all_built whole_text (record {
+WholeScriptIsRead = IsScriptOf whole_text (record {
   failmode = Continue;
   tops = top_of (0 ∷ 1 ∷ []) 1 ∷ top_of (2 ∷ []) 8 ∷ [];
   faults = in_first_pass (row_at 1 OnWrite 512 1024 0 3 Flip) ∷ row_at 2 Any 0 268435456 1 65535 Gone ∷ [];
@@ -116,7 +109,7 @@ WholeScriptIsRead = IsScriptIn all_built whole_text (record {
 -- the size of a sector, in sectors of 512 bytes; the words win over leaves
 abbrev pub TopsHaveUnits : Type 0
 TopsHaveUnits =
-    option_map (λ (script : Script). script.tops) (script_of all_built (
+    option_map (λ (script : Script). script.tops) (script_of (
     lines (
     "top 0"
     ∷ "top 1 sector 512"
@@ -144,7 +137,7 @@ flags_of (Some script) = flat_map canfail_of script.items
 -- of roots a read and a claim may fail
 abbrev pub RootsHaveTheirFlags : Type 0
 RootsHaveTheirFlags =
-    flags_of (script_of all_built (
+    flags_of (script_of (
     lines (
     "top 0"
     ∷ "1 null"
@@ -160,7 +153,7 @@ RootsHaveTheirFlags =
 -- no child of a request that may not fail may fail; of the others' children only a read may
 abbrev pub ChildrenHaveTheirFlags : Type 0
 ChildrenHaveTheirFlags =
-    flags_of (script_of all_built (
+    flags_of (script_of (
     lines (
     "top 0"
     ∷ "1 null must"
@@ -177,7 +170,7 @@ ChildrenHaveTheirFlags =
 -- digits of either case, numbers of 64 bits, and every class of a write
 abbrev pub BodiesAreRead : Type 0
 BodiesAreRead =
-    option_map (λ (script : Script). map (λ (r : Request). r.work) (requests_of script.items)) (script_of all_built (
+    option_map (λ (script : Script). map (λ (r : Request). r.work) (requests_of script.items)) (script_of (
     lines (
     "top 0"
     ∷ "1 write a off 1 sync data 00fFAb"
@@ -192,8 +185,8 @@ BodiesAreRead =
 -- any blanks, tabs and carriage returns part words, and no newline has to come last
 abbrev pub BlanksPartWords : Type 0
 BlanksPartWords =
-    script_of all_built (codes "  top\t0 \t1\r\n\t \r\n 1  null\r\ngo")
-    ≡ script_of all_built (lines ("top 0 1" ∷ "1 null" ∷ "go" ∷ []))
+    script_of (codes "  top\t0 \t1\r\n\t \r\n 1  null\r\ngo")
+    ≡ script_of (lines ("top 0 1" ∷ "1 null" ∷ "go" ∷ []))
 
 -- what may stand at the edge of each range
 abbrev pub EdgesAreAccepted : Type 0
@@ -425,7 +418,7 @@ BatchHasALimit =
 -- a text of more than 16 MiB, whatever it is
 abbrev pub LongTextsAreRefused : Type 0
 LongTextsAreRefused =
-    (is_built : List Word → Bool) (text : List ℕ) → SCRIPT_LEN_MAX < length text → IsFaultIn is_built text (fault_at 0 3)
+    (text : List ℕ) → SCRIPT_LEN_MAX < length text → IsFaultOf text (fault_at 0 3)
 
 -- ---- why 4: order
 
@@ -561,50 +554,6 @@ LeavesStandOnce = AreFaulty (
     faulty ("top 0 0" ∷ []) 1 9
     ∷ faulty ("top 0 1" ∷ "top 2 1" ∷ []) 2 9
     ∷ in_top ("fault 1 any 0 1 0 1 eio" ∷ []) 2 9 ∷ [])
-
--- ---- why 10: forms that aren't built
-
--- no line begins with `clear`, and no request is a claim
-abbrev pub some_built : List Word → Bool
-some_built [] = true
-some_built (word ∷ []) = not (is_word (codes "clear") word)
-some_built (word ∷ second ∷ words) = not (is_word (codes "clear") word || is_word (codes "claim") second)
-
--- whatever else is on the line, but after faults of earlier lines
-abbrev pub FormsMayBeUnbuilt : Type 0
-FormsMayBeUnbuilt = AreFaultyIn some_built (
-    in_top ("clear" ∷ []) 2 10
-    ∷ faulty ("clear null and more" ∷ []) 1 10
-    ∷ in_top ("1 claim" ∷ []) 2 10
-    ∷ in_top ("0 claim X 0" ∷ []) 2 10
-    ∷ in_top ("0 null" ∷ "clear" ∷ []) 2 3
-    ∷ in_top ("go" ∷ []) 2 4
-    ∷ in_top ("# clear" ∷ "wri" ∷ []) 3 1 ∷ [])
-
--- the forms that aren't read so far, and lines beside them that are refused for another why
-abbrev pub UnbuiltFormsAreNamed : Type 0
-UnbuiltFormsAreNamed = AreFaultyIn is_built (
-    faulty ("failmode wait" ∷ []) 1 10
-    ∷ faulty ("top" ∷ []) 1 10
-    ∷ faulty ("top 0 1" ∷ []) 1 10
-    ∷ faulty ("top 0 sector 512" ∷ []) 1 10
-    ∷ in_top ("fault" ∷ []) 2 10
-    ∷ in_top ("clear up" ∷ []) 2 10
-    ∷ in_top ("1 null" ∷ []) 2 10
-    ∷ in_top ("go free" ∷ []) 2 10
-    ∷ in_top ("1 claim x zz" ∷ []) 2 10
-    ∷ in_top ("1 write x off 01" ∷ []) 2 10
-    ∷ in_top ("1 write x off" ∷ []) 2 1
-    ∷ in_top ("1 write x off 1 sync fill zz 513" ∷ []) 2 10
-    ∷ in_top ("1 write x off 1 sync fill zz 512" ∷ []) 2 2
-    ∷ in_top ("1 write x off 1 sync fill 00 0600" ∷ []) 2 2
-    ∷ in_top ("1 write x off 1 soon seq a 99999999999999999999" ∷ []) 2 10
-    ∷ in_top ("1 write x off 1 sync data 00 under" ∷ []) 2 10
-    ∷ in_top ("1 read x soon must" ∷ []) 2 10
-    ∷ in_top ("1 read x sync more" ∷ []) 2 1
-    ∷ in_top ("1 read X sync" ∷ "clear" ∷ []) 2 5
-    ∷ in_top ("1 read x sync" ∷ "2 read x sync" ∷ "3 write x off 1 sync fill 00 1" ∷ []) 4 6
-    ∷ in_top ("1 write x off 1 sync fill 00 1048577" ∷ []) 2 10 ∷ [])
 
 -- ---- which fault counts
 

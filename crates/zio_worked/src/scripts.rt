@@ -1,4 +1,4 @@
-ghost use Rattle.zio_worked.specs.ScriptTexts.{TopAloneIsAScript, WholeScriptIsRead, TopsHaveUnits, RootsHaveTheirFlags, ChildrenHaveTheirFlags, BodiesAreRead, BlanksPartWords, EdgesAreAccepted, ReadsMayShareABlock, OthersAreAccepted, WordsHaveToFit, OtherLinesHaveToFit, NumbersAreDecimal, DigitsComeInPairs, SectorMayBeALeaf, LinesMayHaveTwoShapes, NumbersHaveRanges, FaultsHaveRanges, TopsAreCounted, FaultsAreCounted, ClearsAreCounted, RequestsAreCounted, PointersTakeRoom, SizesArePadded, BatchHasALimit, LongTextsAreRefused, LinesHaveAnOrder, NumbersRise, BatchesAreEnded, NamesHaveTheirCharacters, NamesStandOnce, RowsMayTellReadsApart, FlagsFollowParents, OnlyAParentIsWrong, ParentsStandBefore, ClaimsStandAlone, DepthHasALimit, ChildrenAreCounted, TopsAreWanted, LeavesStandOnce, FormsMayBeUnbuilt, UnbuiltFormsAreNamed, SkippedLinesAreCounted, FirstLineCounts, LeastWhyCounts};
+ghost use Rattle.zio_worked.specs.ScriptTexts.{TopAloneIsAScript, WholeScriptIsRead, TopsHaveUnits, RootsHaveTheirFlags, ChildrenHaveTheirFlags, BodiesAreRead, BlanksPartWords, EdgesAreAccepted, ReadsMayShareABlock, OthersAreAccepted, WordsHaveToFit, OtherLinesHaveToFit, NumbersAreDecimal, DigitsComeInPairs, SectorMayBeALeaf, LinesMayHaveTwoShapes, NumbersHaveRanges, FaultsHaveRanges, TopsAreCounted, FaultsAreCounted, ClearsAreCounted, RequestsAreCounted, PointersTakeRoom, SizesArePadded, BatchHasALimit, LongTextsAreRefused, LinesHaveAnOrder, NumbersRise, BatchesAreEnded, NamesHaveTheirCharacters, NamesStandOnce, RowsMayTellReadsApart, FlagsFollowParents, OnlyAParentIsWrong, ParentsStandBefore, ClaimsStandAlone, DepthHasALimit, ChildrenAreCounted, TopsAreWanted, LeavesStandOnce, SkippedLinesAreCounted, FirstLineCounts, LeastWhyCounts};
 
 /// Texts are read as scripts, or refused with their first faulty line and its least why.
 pub fn scripts_are_read()
@@ -42,8 +42,6 @@ pub fn scripts_are_read()
     ensures children_are_counted { ChildrenAreCounted }
     ensures tops_are_wanted { TopsAreWanted }
     ensures leaves_stand_once { LeavesStandOnce }
-    ensures forms_may_be_unbuilt { FormsMayBeUnbuilt }
-    ensures unbuilt_forms_are_named { UnbuiltFormsAreNamed }
     ensures skipped_lines_are_counted { SkippedLinesAreCounted }
     ensures first_line_counts { FirstLineCounts }
     ensures least_why_counts { LeastWhyCounts }

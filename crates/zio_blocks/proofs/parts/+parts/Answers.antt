@@ -1,11 +1,11 @@
-use Rattle.std.proofs.Common.{◌≡◌, ℕ, suc, inl, inr, ◌+◌, ◌-◌, ◌<◌, ◌∷◌, ◌++◌, [], List, None, Some, false, true, refl, sym, ap, subst, ◌∙◌, arith, length, map, drop, get_or, Option}
+use Rattle.std.proofs.Common.{◌≡◌, ℕ, suc, inl, inr, ◌+◌, ◌-◌, ◌<◌, ◌∷◌, ◌++◌, [], List, None, Some, false, true, refl, sym, ap, subst, ◌∙◌, arith, rules, length, map, drop, get_or, Option}
+use Rattle.std.proofs.lemmas.Grind.{common_steps}
 use Rattle.std.proofs.lemmas.Result.{IfOk-weaker}
 use Rattle.zio_types.specs.declared.place.Place.{Place}
 use Rattle.zio_types.specs.Choices.{Choice, no_place}
 use Rattle.zio_cksum.specs.Frames.{spots_of}
 use Rattle.zio_gang.specs.Trees.{sizes_of}
 use Rattle.zio_gang.specs.Writes.{cut, head_ask, place_members, place_part, pointer_to}
-use Rattle.zio_disks.specs.Trees.{BearsTops}
 use Rattle.zio_blkptr.specs.declared.pointer.Bp.{Bp}
 use Rattle.zio_cksum.specs.Blocks.{write_piece}
 use Rattle.zio_blkptr.specs.Pointers.{FitsTypes}
@@ -18,11 +18,12 @@ use Rattle.std.proofs.Math.Seq.{drop-append_seam}
 use Rattle.std.proofs.lemmas.List.{append-nil, drop_all}
 use Rattle.std.proofs.Common.{append_assoc}
 use Rattle.zio_gang.specs.declared.tree.Head.{Head}
+use Rattle.zio_disks.specs.Trees.{BearsTops}
 use Rattle.zio_disks.specs.Disks.{LieOn, Tell}
 use Rattle.zio_disks.proofs.DiskLemmas.{handles_err, handles_none, handles_ok, handles_then}
 use Rattle.zio_blocks.specs.Blocks.{terms_of}
 use Rattle.zio_blocks.specs.Choosers.{given_since, taken_by_all}
-use Rattle.zio_blocks.proofs.AskLemmas.{asks_then, behind_of, first_of, handles_at, handles_found, handles_join, handles_left, handles_right, handles_stop, if_both, none_of, since_same, since_then, stop_is, taken_behind, taken_both, taken_front}
+use Rattle.zio_blocks.proofs.AskLemmas.{asks_then, behind_of, first_of as first_item, handles_at, handles_found, handles_join, handles_left, handles_right, handles_stop, if_both, none_of, since_same, since_then, stop_is, taken_behind, taken_both, taken_front}
 use Rattle.zio_blocks.proofs.FoundLemmas.{entry_lies, first_sector, head_entry, made_pointer, places_of_pointer}
 use Rattle.zio_blocks.proofs.KeyLemmas.{IsBodyOf, below_member, body_and_gang, body_asked, from_body, from_gang, head_and_below, head_asked, member_keys, once_none, once_one, once_then, once_wider}
 use Rattle.zio_blocks.proofs.LaidLemmas.{drop_both, laid_at, laid_body, laid_gang, laid_members, laid_no_members, laid_nowhere}
@@ -71,9 +72,11 @@ pub place_members-returns-in_default-clause-handled : goal.place_members-returns
 place_members-returns-in_default-clause-handled g t c =
     handles_none g.D.Disk.bytes g.D.Disk.faults g.D.Disk.faults_at_fetch g.D.Disk.home g.D.Disk.image g.D.Disk.sound _ _ c.args.disks.now (λ e. cc)
 
-pub place_members-place_members-requires-clause-filled : goal.place_members-place_members-requires-clause-filled
-place_members-place_members-requires-clause-filled g t c κs within =
-    filled_more c.args.n c.args.pointers.now c.in_ok-placed.placed.pointer (length-filled None 3 c.args.n c.args.pointers.now c.requires.filled) (omega arith) c.requires.filled
+pub place_members-place_members-requires : goal.place_members-place_members-requires
+place_members-place_members-requires g t c κs within =
+    let bears : BearsTops c.args.setting.now (map g.D.Disk.bytes c.place_part.new.disks) = subst (BearsTops c.args.setting.now) (sym c.in_ok-placed.ensures.handled.same.sizes) c.requires.bears in
+    let filled = filled_more c.args.n c.args.pointers.now c.in_ok-placed.placed.pointer (length-filled None 3 c.args.n c.args.pointers.now c.requires.filled) (omega arith) c.requires.filled in
+    (first_of (search rules, grind (arith, common_steps)), (search rules, (search rules, (bears, (c.requires.tops, (first_of (search rules, grind (arith, common_steps)), (c.requires.one, (c.requires.three, (c.requires.birth, (first_of (search rules, grind (arith, common_steps)), (first_of (search rules, grind (arith, common_steps)), (first_of (search rules, grind (arith, common_steps)), (first_of (search rules, grind (arith, common_steps)), (filled, (c.requires.depth, first_of (search rules, grind (arith, common_steps)))))))))))))))))
 
 pub place_members-returns-in_err-error-clause-asks : goal.place_members-returns-in_err-error-clause-asks
 place_members-returns-in_err-error-clause-asks g t c = asks_then c.in_ok-placed.ensures.asks c.in_err-error.ensures.asks
@@ -102,7 +105,7 @@ place_members-returns-clause-told g t c = λ images tell.
     (tell_members_at g.D.Disk.image (λ journal. place_part c.args.levels journal w) c.args.path.now c.args.bytes.now c.args.n _ _ images c.in_ok-placed.placed c.in_ok-error.error
     c.args.pointers.now c.place_members.new.pointers c.args.heads.now.items c.place_part.new.heads.items c.place_members.new.heads.items all es fs c.place_part.new.disks c.place_members.new.disks
     c.below-below.result c.split_at.result.0.now c.split_at.result.1.now c.args.sizes.now
-    c.below-below.ensures c.split_at.ensures.front c.split_at.ensures.back (first_of c.args.sizes.now _ c.in-len1-up.len_at_least)
+    c.below-below.ensures c.split_at.ensures.front c.split_at.ensures.back (first_item c.args.sizes.now _ c.in-len1-up.len_at_least)
     (since_then c.in_ok-placed.ensures.asks c.in_ok-error.ensures.asks) (omega (arith, length-filled None 3 c.args.n c.args.pointers.now c.requires.filled)) first rest))
 
 pub place_members-returns-clause-handled : goal.place_members-returns-clause-handled
@@ -183,7 +186,7 @@ write_gang-header_encode-header-requires-clause-sector g t c =
     subst (λ (p : Place). p.sector < 281474976710656) (sym c.first_place.ensures) low
 
 pub write_gang-write_piece-requires-clause-lies : goal.write_gang-write_piece-requires-clause-lies
-write_gang-write_piece-requires-clause-lies g t c κs within =
+write_gang-write_piece-requires-clause-lies g t c =
     let w = terms_of c.args.setting.now c.args.writing.now in
     let whole = head_entry (sizes_of c.args.setting.now.tops) c.requires.lawful.0 w c.args.path.now c.args.entry.now c.requires.lawful.1 c.requires.found c.requires.asked c.requires.one in
     let made = made_pointer c.args.setting.now.tops w c.args.entry.now.places true c.args.bytes.now 512 c.requires.tops whole refl (omega arith) c.requires.whole c.requires.most c.requires.birth (subst FitsTypes (c.pointer_to-pointer.ensures.pointer c.args.setting.now) c.pointer_to-pointer.ensures.types) in
@@ -333,7 +336,7 @@ place_members-returns-clause-laid g t c =
     let size : ℕ = get_or c.args.sizes.now 0 0 in
     laid_members tops c.args.levels c.args.path.now c.args.n size _ c.args.sizes.now c.in_ok-placed.placed c.in_ok-error.error c.worst.result c.args.pointers.now c.place_members.new.pointers
     (drop (length old) middle) (drop (length middle) new) (drop (length old) new) (taken_by_all es) (taken_by_all fs) _
-    (first_of c.args.sizes.now 0 c.in-len1-up.len_at_least) (omega (arith, length-filled None 3 c.args.n c.args.pointers.now c.requires.filled)) c.worst.ensures
+    (first_item c.args.sizes.now 0 c.in-len1-up.len_at_least) (omega (arith, length-filled None 3 c.args.n c.args.pointers.now c.requires.filled)) c.worst.ensures
     (drop_both old middle new (drop (length old) middle) (drop (length middle) new) c.in_ok-placed.ensures.behind c.in_ok-error.ensures.behind)
     (taken_both _ es fs (since_then c.in_ok-placed.ensures.asks c.in_ok-error.ensures.asks))
     (subst (λ p. IsLaid tops c.args.levels p size c.in_ok-placed.placed (drop (length old) middle) (taken_by_all es)) c.below-below.ensures

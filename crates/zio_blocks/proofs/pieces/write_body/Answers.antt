@@ -8,7 +8,7 @@ use Rattle.zio_blocks.proofs.FoundLemmas.{entry_lies, made_pointer, whole_entry}
 use Rattle.zio_blocks.proofs.pieces.write_body.Goals as goal
 
 pub write_piece-requires-clause-lies : goal.write_piece-requires-clause-lies
-write_piece-requires-clause-lies g c κs within =
+write_piece-requires-clause-lies g c =
     let w = terms_of c.args.setting.now c.args.writing.now in
     let whole = whole_entry (sizes_of c.args.setting.now.tops) c.requires.lawful.0 c.args.entry.now (length c.args.bytes.now) c.requires.lawful.1 c.requires.found c.requires.one c.requires.three c.requires.size in
     let made = made_pointer c.args.setting.now.tops w c.args.entry.now.places false c.args.bytes.now (length c.args.bytes.now) c.requires.tops whole refl c.requires.some c.requires.whole c.requires.most c.requires.birth (subst FitsTypes (c.pointer_to-pointer.ensures.pointer c.args.setting.now) c.pointer_to-pointer.ensures.types) in

@@ -1,5 +1,4 @@
-use Rattle.std.proofs.Common.{◌≡◌, ℕ, ◌+◌, List, map, refl, sym, ap, ◌∙◌}
-use Rattle.zio_script.specs.declared.script.Request.{Request}
+use Rattle.std.proofs.Common.{◌+◌, List}
 use Rattle.zio_gang.specs.Runs.{Batch as DefinedBatch}
 use Rattle.zio_course.specs.Folds.{SeenFold, batches_seen, fold_seen}
 use Rattle.zio_course.specs.Runners.{Standing}

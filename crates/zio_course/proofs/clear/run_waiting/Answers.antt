@@ -1,9 +1,7 @@
-use Rattle.std.proofs.Common.{◌≡◌, ℕ, ◌+◌, List, length, map, Bool, Bor, true, false, refl, sym, ap, ◌∙◌, arith, length-append}
+use Rattle.std.proofs.Common.{◌≡◌, Bor, true, false, ap, ◌∙◌, arith}
 use Rattle.zio_script.specs.declared.script.Request.{Request}
 use Rattle.zio_gang.specs.Runs.{has_trees}
-use Rattle.zio_report.specs.declared.report.RunFault.{RunFault}
-use Rattle.zio_course.specs.Folds.{SeenFold, fold_seen, has_items, requests_in_all}
-use Rattle.zio_course.specs.Moves.{requests_held}
+use Rattle.zio_course.specs.Folds.{SeenFold, fold_seen, has_items}
 use Rattle.zio_course.specs.Runners.{Standing}
 use Rattle.zio_course.proofs.MoveLemmas.{going_clear, going_less, not_empty, ok_step, err_step, waiting_cut, waiting_none, waiting_some}
 use Rattle.zio_course.proofs.RoundsLemmas.{len_map, trees_items, when_ok}

@@ -1,4 +1,4 @@
-use Rattle.std.proofs.Common.{◌≡◌, List, ◌++◌, map, length, Bor}
+use Rattle.std.proofs.Common.{◌≡◌, ◌++◌, map, length, Bor}
 use Rattle.zio_script.specs.declared.script.Request.{Request}
 use Rattle.zio_script.specs.Requests.{requests_of}
 use Rattle.zio_course.proofs.fold.requests_in.Given as goal

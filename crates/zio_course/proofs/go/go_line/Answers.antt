@@ -1,15 +1,12 @@
-use Rattle.std.proofs.Common.{◌≡◌, ℕ, ◌+◌, ◌<◌, ◌≤◌, List, [], ◌∷◌, ◌++◌, length, map, Bool, true, false, not, ◌||◌, Bor, refl, sym, ap, subst, ◌∙◌, arith}
+use Rattle.std.proofs.Common.{◌≡◌, ◌+◌, List, [], ◌∷◌, ◌++◌, Bool, true, false, not, ◌||◌, Bor, sym, ap, subst, ◌∙◌, arith}
 use Rattle.zio_script.specs.declared.script.Failmode.{Failmode}
 use Rattle.zio_script.specs.declared.script.Request.{Request}
-use Rattle.zio_script.specs.Requests.{requests_of}
 use Rattle.zio_gang.specs.Runs.{Batch as DefinedBatch, goes_on, has_trees}
-use Rattle.zio_report.specs.declared.report.RunFault.{RunFault}
-use Rattle.zio_report.specs.declared.report.RunFault.TheVariants.{Device, Sink, Memory}
+use Rattle.zio_report.specs.declared.report.RunFault.TheVariants.{Sink, Memory}
 use Rattle.zio_report.specs.Reports.{held_text}
 use Rattle.zio_course.specs.Course.{shown_of}
-use Rattle.zio_course.specs.declared.fold.Batch.{Batch}
-use Rattle.zio_course.specs.Folds.{SeenFold, batch_seen, batches_seen, fold_seen, has_items, requests_in_all}
-use Rattle.zio_course.specs.Moves.{HeldWaits, IsGoing, requests_held}
+use Rattle.zio_course.specs.Folds.{SeenFold, batch_seen, batches_seen, fold_seen, requests_in_all}
+use Rattle.zio_course.specs.Moves.{IsGoing, requests_held}
 use Rattle.zio_course.specs.Runners.{Standing}
 use Rattle.zio_course.specs.SoFar.{IsCourseAt, IsCutText}
 use Rattle.zio_course.proofs.AdmittedLemmas.{not_both}

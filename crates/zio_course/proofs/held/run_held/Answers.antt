@@ -1,12 +1,11 @@
-use Rattle.std.proofs.Common.{◌≡◌, ℕ, suc, ◌+◌, ◌<◌, ◌≤◌, List, [], ◌∷◌, ◌++◌, length, map, Bor, true, false, refl, sym, ap, subst, ◌∙◌, inl, inr, arith, length-append}
+use Rattle.std.proofs.Common.{◌≡◌, ℕ, suc, ◌+◌, List, [], ◌∷◌, ◌++◌, length, map, Bor, false, refl, ap, subst, ◌∙◌, inl, inr, arith}
 use Rattle.zio_script.specs.declared.script.Request.{Request}
 use Rattle.zio_script.specs.Requests.{requests_of}
-use Rattle.zio_gang.specs.Runs.{Batch as DefinedBatch, has_trees}
+use Rattle.zio_gang.specs.Runs.{has_trees}
 use Rattle.zio_course.specs.declared.fold.Batch.{Batch}
 use Rattle.zio_course.specs.Folds.{SeenFold, batch_seen, batches_seen, fold_seen, has_items, requests_in_all}
 use Rattle.zio_course.specs.Moves.{HeldRan, IsGoing, requests_held}
 use Rattle.zio_course.specs.Runners.{Standing}
-use Rattle.zio_course.proofs.JoinLemmas.{rising_both}
 use Rattle.zio_course.proofs.MoveLemmas.{by_same, first_few, first_fits, first_two, going_batch, held_orderly, held_cut, held_more, held_none, held_over, nil_of, not_empty}
 use Rattle.zio_course.proofs.RoundsLemmas.{len_map, trees_items}
 use Rattle.zio_course.proofs.held.run_held.Goals as goal

@@ -1,32 +1,23 @@
-use Rattle.std.proofs.Common.{◌≡◌, ℕ, ◌+◌, ◌<◌, List, [], ◌∷◌, ◌++◌, length, map, drop, reverse, Bool, ◌&&◌, ◌||◌, Err, Bor, Some, refl, sym, ap, subst, ◌∙◌, inl, inr, arith}
-use Rattle.std.specs.Prelude.{OnOk}
+use Rattle.std.proofs.Common.{◌≡◌, ℕ, ◌+◌, List, ◌++◌, length, map, drop, reverse, Bool, ◌&&◌, ◌||◌, Err, Bor, Some, refl, sym, ap, subst, ◌∙◌, arith}
 use Rattle.zio_types.specs.declared.journal.Completion.{Completion}
 use Rattle.zio_types.specs.declared.journal.Journal.{Journal}
 use Rattle.zio_types.specs.Choices.{Choice}
-use Rattle.zio_script.specs.declared.script.Failmode.{Failmode}
 use Rattle.zio_script.specs.declared.script.Item.{Item}
 use Rattle.zio_script.specs.declared.script.Request.{Request}
-use Rattle.zio_script.specs.Accepted.{AreRising}
 use Rattle.zio_script.specs.Requests.{requests_of}
-use Rattle.zio_gang.specs.declared.tree.Tree.{Tree}
-use Rattle.zio_gang.specs.Attempts.{Pending}
-use Rattle.zio_gang.specs.Rounds.{pending_trees, trees_of}
+use Rattle.zio_gang.specs.Rounds.{trees_of}
 use Rattle.zio_gang.specs.Runs.{has_trees, is_panic}
 use Rattle.zio_report.specs.declared.report.Line.{Line}
-use Rattle.zio_report.specs.declared.report.RoundHead.{RoundHead}
-use Rattle.zio_report.specs.declared.report.RunFault.{RunFault}
-use Rattle.zio_report.specs.declared.report.RunFault.TheVariants.{Device, Sink, Memory}
-use Rattle.zio_report.specs.declared.report.Show.{Show}
+use Rattle.zio_report.specs.declared.report.RunFault.TheVariants.{Sink, Memory}
 use Rattle.zio_report.specs.Lines.{round_text}
 use Rattle.zio_course.specs.declared.admission.Rules.{Rules}
 use Rattle.zio_course.specs.Admissions.{IsAdmission, error_in}
 use Rattle.zio_course.specs.Answered.{answered_in}
-use Rattle.zio_course.specs.Folds.{SeenFold, fold_seen, has_items, is_named_by, waiting_of}
-use Rattle.zio_course.specs.Forests.{names_of, running}
+use Rattle.zio_course.specs.Folds.{SeenFold, fold_seen, is_named_by, waiting_of}
 use Rattle.zio_course.specs.Names.{is_name_in, is_some_name}
 use Rattle.zio_course.specs.Runners.{Standing}
 use Rattle.zio_course.specs.SoFar.{IsCutText}
-use Rattle.zio_course.proofs.CutLemmas.{batch_goes_on, by_fault, cut_at, cut_in, not_written, nothing_more, part_written, printed_ends}
+use Rattle.zio_course.proofs.CutLemmas.{by_fault, cut_at, not_written, nothing_more, part_written, printed_ends}
 use Rattle.zio_course.proofs.JoinLemmas.{names_awaited, rising_both}
 use Rattle.zio_course.proofs.ReadyLemmas.{batch_ready}
 use Rattle.zio_course.proofs.RoundsLemmas.{any_fault, batch_cut, batch_short, batch_steady, batch_told, by_stop, drop_own, few_told, len_map, map_two, trees_items, when_ok}
@@ -80,7 +71,7 @@ run_batch-requires-clause-trees g c =
     let admission_is : IsAdmission (has_trees f.suspended) (is_name_in f.awaited) (is_some_name f.bound) (trees_of (requests_of items)) slots rules =
     subst (λ (b : Bool). IsAdmission b (is_name_in f.awaited) (is_some_name f.bound) (trees_of (requests_of items)) slots rules) (sym (trees_items g.R.Runner.pending c.args.fold.now.suspended)) c.in_ok-admission.ensures.ok in
     batch_runnable s _ f.suspended (is_name_in f.awaited) f.bound c.args.batch.now.number items slots rules refl (rising_both _ _ c.requires.rising).1 c.requires.orderly
-    (names_awaited f.suspended f.unfinished (is_name_in f.awaited) c.requires.steady.waits.numbers c.requires.steady.awaited) admission_is c.requires.steady.live.there
+    (names_awaited f.suspended f.unfinished (is_name_in f.awaited) c.requires.steady.waits.numbers c.requires.steady.awaited) admission_is c.requires.steady.live
 
 pub returns-in_err-end-clause-cut : goal.returns-in_err-end-clause-cut
 returns-in_err-end-clause-cut g c =

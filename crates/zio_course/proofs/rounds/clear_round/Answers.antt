@@ -1,29 +1,14 @@
-use Rattle.std.proofs.Common.{◌≡◌, ℕ, ◌+◌, ◌<◌, List, [], ◌∷◌, ◌++◌, length, map, drop, reverse, Bool, ◌&&◌, ◌||◌, Err, Bor, None, refl, sym, ap, subst, ◌∙◌, inl, inr, arith}
-use Rattle.std.specs.Prelude.{OnOk}
+use Rattle.std.proofs.Common.{◌≡◌, ℕ, ◌+◌, List, [], ◌++◌, length, map, drop, Bool, ◌&&◌, ◌||◌, Err, Bor, None, sym, ap, subst, ◌∙◌, arith}
 use Rattle.zio_types.specs.declared.journal.Completion.{Completion}
 use Rattle.zio_types.specs.declared.journal.Journal.{Journal}
 use Rattle.zio_types.specs.Choices.{Choice}
-use Rattle.zio_script.specs.declared.script.Failmode.{Failmode}
-use Rattle.zio_script.specs.declared.script.Item.{Item}
 use Rattle.zio_script.specs.declared.script.Request.{Request}
-use Rattle.zio_script.specs.Accepted.{AreRising}
-use Rattle.zio_script.specs.Requests.{requests_of}
-use Rattle.zio_gang.specs.declared.tree.Tree.{Tree}
 use Rattle.zio_gang.specs.Attempts.{Pending}
-use Rattle.zio_gang.specs.Rounds.{pending_trees, trees_of}
-use Rattle.zio_gang.specs.Runs.{has_trees, is_panic}
+use Rattle.zio_gang.specs.Runs.{is_panic}
 use Rattle.zio_report.specs.declared.report.Line.{Line}
-use Rattle.zio_report.specs.declared.report.RoundHead.{RoundHead}
-use Rattle.zio_report.specs.declared.report.RunFault.{RunFault}
-use Rattle.zio_report.specs.declared.report.RunFault.TheVariants.{Device, Sink, Memory}
-use Rattle.zio_report.specs.declared.report.Show.{Show}
+use Rattle.zio_report.specs.declared.report.RunFault.TheVariants.{Sink, Memory}
 use Rattle.zio_report.specs.Lines.{round_text}
-use Rattle.zio_course.specs.declared.admission.Rules.{Rules}
-use Rattle.zio_course.specs.Admissions.{IsAdmission, error_in}
-use Rattle.zio_course.specs.Answered.{answered_in}
-use Rattle.zio_course.specs.Folds.{SeenFold, fold_seen, has_items, is_named_by, waiting_of}
-use Rattle.zio_course.specs.Forests.{names_of, running}
-use Rattle.zio_course.specs.Names.{is_name_in, is_some_name}
+use Rattle.zio_course.specs.Folds.{SeenFold, fold_seen, is_named_by, waiting_of}
 use Rattle.zio_course.specs.Runners.{AreRunnable, Standing, terms_at}
 use Rattle.zio_course.specs.Entered.{IsCutShort}
 use Rattle.zio_course.specs.SoFar.{IsCutText}

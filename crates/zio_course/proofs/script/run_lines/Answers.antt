@@ -1,4 +1,4 @@
-use Rattle.std.proofs.Common.{◌≡◌, ℕ, suc, ◌+◌, ◌<◌, List, [], ◌∷◌, ◌++◌, length, map, true, false, refl, sym, ap, subst, ◌∙◌, inl, inr, arith, append_assoc}
+use Rattle.std.proofs.Common.{◌≡◌, ℕ, suc, ◌+◌, List, [], ◌∷◌, ◌++◌, length, refl, sym, ap, subst, ◌∙◌, inl, inr, arith, append_assoc}
 use Rattle.std.proofs.lemmas.List.{append-nil}
 use Rattle.zio_types.specs.declared.journal.Journal.{Journal}
 use Rattle.zio_script.specs.declared.script.Failmode.{Failmode}
@@ -10,7 +10,7 @@ use Rattle.zio_script.specs.Requests.{requests_of}
 use Rattle.zio_gang.specs.Runs.{Batch as DefinedBatch}
 use Rattle.zio_report.specs.declared.report.Show.{Show}
 use Rattle.zio_course.specs.Folds.{SeenFold, batches_seen, fold_seen}
-use Rattle.zio_course.specs.Moves.{HeldWaits, IsGoing, LinesRan, requests_held}
+use Rattle.zio_course.specs.Moves.{IsGoing, LinesRan, requests_held}
 use Rattle.zio_course.specs.Runners.{Standing, rows_tell_apart}
 use Rattle.zio_course.proofs.MoveLemmas.{by_same, going_less}
 use Rattle.zio_course.proofs.PlantLemmas.{requests_both}

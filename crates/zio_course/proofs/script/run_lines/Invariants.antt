@@ -1,6 +1,5 @@
-use Rattle.std.proofs.Common.{◌≡◌, ◌++◌, ◌+◌, ◌<◌, ◌^◌, ℕ, List, length, map}
+use Rattle.std.proofs.Common.{◌≡◌, ◌++◌, ◌+◌, ◌<◌, ◌^◌, List, length, map}
 use Rattle.zio_script.specs.declared.script.Item.{Item}
-use Rattle.zio_script.specs.declared.script.Request.{Request}
 use Rattle.zio_script.specs.Accepted.{batches_from}
 use Rattle.zio_script.specs.Requests.{requests_of}
 use Rattle.zio_course.specs.Folds.{batches_seen, fold_seen}

@@ -30,7 +30,7 @@ returns-in_err-bytes-clause-handled g c =
     handles_none g.D.Disk.bytes g.D.Disk.faults g.D.Disk.faults_at_fetch g.D.Disk.home g.D.Disk.image g.D.Disk.sound _ _ c.args.disks.now (λ e. cc)
 
 pub read_block-requires-clause-lies : goal.read_block-requires-clause-lies
-read_block-requires-clause-lies g c κs within =
+read_block-requires-clause-lies g c =
     let bp : Bp = c.args.bp.now in
     let placed : IsPlacedIn (sizes_of c.args.setting.now.tops) bp =
     all_contains (IsPlacedIn (sizes_of c.args.setting.now.tops)) (tree_pointers c.args.tree.now) bp c.requires.placed c.requires.listed.listed in

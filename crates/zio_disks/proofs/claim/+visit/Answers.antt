@@ -90,7 +90,7 @@ visit_gang-visit_members-requires g t c κs within =
     let bears : BearsTops c.args.setting.now (map g.D.Disk.bytes c.read_header.new.disks) = subst (BearsTops c.args.setting.now) (sym c.in_ok-header.ensures.handled.same.sizes) c.requires.bears in
     let valid_all : AllByRecursion (λ (m : Bp). IsTrue (valid m)) c.as_slice.result.now =
     subst (AllByRecursion (λ (m : Bp). IsTrue (valid m))) (sym (c.as_slice.ensures ∙ c.in_ok-members-in-Ok.ensures.ok)) (members_valid c.in-Ok.header) in
-    (falls_by c.args.levels (length c.as_slice.result.now) t few c.decreases, (search rules, (search rules, (bears, (valid_all, (few, c.requires.depth))))))
+    (falls_by c.args.levels (length c.as_slice.result.now) t few c.decreases, (search rules, (bears, (valid_all, (few, c.requires.depth)))))
 
 pub visit_gang-returns-in_ok-members-in-Ok-clause-told : goal.visit_gang-returns-in_ok-members-in-Ok-clause-told
 visit_gang-returns-in_ok-members-in-Ok-clause-told g t c =

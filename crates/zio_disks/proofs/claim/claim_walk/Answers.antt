@@ -11,7 +11,7 @@ use Rattle.zio_disks.proofs.DiskLemmas.{handles_none}
 use Rattle.zio_disks.proofs.claim.claim_walk.Goals as goal
 
 pub claim_pointer-requires-clause-valid : goal.claim_pointer-requires-clause-valid
-claim_pointer-requires-clause-valid g c κs within = (spelling-pointer c.args.pointer.now c.in-Ok.bp c.in-Ok.ensures.pointer).0
+claim_pointer-requires-clause-valid g c = (spelling-pointer c.args.pointer.now c.in-Ok.bp c.in-Ok.ensures.pointer).0
 
 pub returns-in-Ok-clause-told : goal.returns-in-Ok-clause-told
 unfolding claim_walk

@@ -21,7 +21,7 @@ returns-in-Ok-clause-handled g c =
     let spot : Spot = record { leaf = c.spot.inside.leaf; at = c.spot.inside.at; span = c.spot.inside.span } in
     let outside : TellOutside g.D.Disk.image (c.args.spot.now ∷ []) c.args.disks.now (set c.args.disks.now c.spot.inside.leaf c.write_at.new.self) =
     stored_outside g.D.Disk.image g.D.Disk.bytes c.args.disks.now spot c.args.spot.now (length c.args.bytes.now) c.index-disks-leaf.result c.write_at.new.self c.spot.view_is c.if-leaf-disks.false
-    ((g.met.D.Disk g.world.𝓛 g.world.𝓜 g.world.𝓡 (λ s h. h, λ h. h, λ h. h, λ h. h)).has_size (get_or c.args.disks.now c.spot.inside.leaf c.index-disks-leaf.result)) c.requires.whole c.requires.lies (λ content told. (c.args.bytes.now, refl, c.in-Ok.ensures.ok content told)) in
+    (g.met.D.Disk.has_size (get_or c.args.disks.now c.spot.inside.leaf c.index-disks-leaf.result)) c.requires.whole c.requires.lies (λ content told. (c.args.bytes.now, refl, c.in-Ok.ensures.ok content told)) in
     handles_one g.D.Disk.bytes g.D.Disk.faults g.D.Disk.faults_at_fetch g.D.Disk.home g.D.Disk.image g.D.Disk.sound (c.args.spot.now ∷ []) _ c.args.disks.now c.spot.inside.leaf c.index-disks-leaf.result c.write_at.new.self
     c.if-leaf-disks.false c.in-Ok.ensures.bytes c.in-Ok.ensures.at_fetch c.in-Ok.ensures.home (λ content told. (_, c.in-Ok.ensures.ok content told)) c.in-Ok.ensures.sound c.in-Ok.ensures.count.ok (λ e. cc) outside
 
@@ -30,6 +30,6 @@ returns-in-Err-clause-handled g c =
     let spot : Spot = record { leaf = c.spot.inside.leaf; at = c.spot.inside.at; span = c.spot.inside.span } in
     let outside : TellOutside g.D.Disk.image (c.args.spot.now ∷ []) c.args.disks.now (set c.args.disks.now c.spot.inside.leaf c.write_at.new.self) =
     stored_outside g.D.Disk.image g.D.Disk.bytes c.args.disks.now spot c.args.spot.now (length c.args.bytes.now) c.index-disks-leaf.result c.write_at.new.self c.spot.view_is c.if-leaf-disks.false
-    ((g.met.D.Disk g.world.𝓛 g.world.𝓜 g.world.𝓡 (λ s h. h, λ h. h, λ h. h, λ h. h)).has_size (get_or c.args.disks.now c.spot.inside.leaf c.index-disks-leaf.result)) c.requires.whole c.requires.lies c.in-Err.ensures.failed in
+    (g.met.D.Disk.has_size (get_or c.args.disks.now c.spot.inside.leaf c.index-disks-leaf.result)) c.requires.whole c.requires.lies c.in-Err.ensures.failed in
     handles_one g.D.Disk.bytes g.D.Disk.faults g.D.Disk.faults_at_fetch g.D.Disk.home g.D.Disk.image g.D.Disk.sound (c.args.spot.now ∷ []) _ c.args.disks.now c.spot.inside.leaf c.index-disks-leaf.result c.write_at.new.self
     c.if-leaf-disks.false c.in-Err.ensures.bytes c.in-Err.ensures.at_fetch c.in-Err.ensures.home (λ content told. (let torn = c.in-Err.ensures.failed content told in (_, torn.2))) c.in-Err.ensures.sound tt (λ e. c.in-Err.ensures.count.failed) outside

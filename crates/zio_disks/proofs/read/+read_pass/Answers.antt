@@ -1,4 +1,4 @@
-use Rattle.std.proofs.Common.{◌≡◌, ℕ, ◌-◌, Contains, List, Bool, Some, None, get_or, length, map, take, drop, subst, sym}
+use Rattle.std.proofs.Common.{◌≡◌, ℕ, ◌-◌, Contains, List, Bool, Some, None, get_or, length, map, take, drop, subst, sym, rules}
 use Rattle.std.specs.List.{AllByRecursion}
 use Rattle.std.proofs.lemmas.Result.{IfOk-at_ok, MatchResult-at_ok}
 use Rattle.zio_types.specs.declared.error.Errno.{Errno}
@@ -14,7 +14,7 @@ use Rattle.zio_disks.proofs.ReadLemmas.{first_taken, good_behind_among, good_beh
 use Rattle.zio_disks.proofs.read.+read_pass.Goals as goal
 
 pub read_place-requires-clause-lies : goal.read_place-requires-clause-lies
-read_place-requires-clause-lies g t c κs within =
+read_place-requires-clause-lies g t c =
     head_lies c.args.setting.now (map g.D.Disk.bytes c.args.disks.now) (length c.args.buffer.now) c.args.places.now (record { top = 0; sector = 0; sectors = 0 }) c.in-len1-up.len_at_least c.requires.lies
 
 pub returns-in-Ok-clause-among : goal.returns-in-Ok-clause-among
@@ -38,11 +38,25 @@ returns-in-Ok-clause-told g t c images tell =
       told.1,
     )
 
-pub read_pass-requires-clause-lies : goal.read_pass-requires-clause-lies
-read_pass-requires-clause-lies g t c κs within =
-    subst (λ n. LieOn (map g.D.Disk.bytes c.read_place.new.disks) n (spots_of c.args.setting.now (take (length c.args.places.now - 1) (drop 1 c.args.places.now)))) (sym c.read_place.auto.buffer)
-    (rest_lies c.args.setting.now (map g.D.Disk.bytes c.args.disks.now) (map g.D.Disk.bytes c.read_place.new.disks) (length c.args.buffer.now) c.args.places.now
-    c.in-len1-up.len_at_least c.in_ok-read-in-len1-up.ensures.handled.same.sizes c.requires.lies)
+pub read_pass-requires : goal.read_pass-requires
+read_pass-requires g t c κs within = (
+  search rules,
+  (
+    search rules,
+    (
+      c.requires.rows,
+      (
+        search rules,
+        (
+          search rules,
+          subst (λ n. LieOn (map g.D.Disk.bytes c.read_place.new.disks) n (spots_of c.args.setting.now (take (length c.args.places.now - 1) (drop 1 c.args.places.now)))) (sym c.read_place.auto.buffer)
+              (rest_lies c.args.setting.now (map g.D.Disk.bytes c.args.disks.now) (map g.D.Disk.bytes c.read_place.new.disks) (length c.args.buffer.now) c.args.places.now
+              c.in-len1-up.len_at_least c.in_ok-read-in-len1-up.ensures.handled.same.sizes c.requires.lies),
+        ),
+      ),
+    ),
+  ),
+)
 
 pub returns-in_err-others-in-Err-clause-handled : goal.returns-in_err-others-in-Err-clause-handled
 returns-in_err-others-in-Err-clause-handled g t c =

@@ -1,4 +1,4 @@
-use Rattle.std.proofs.Common.{◌-◌, ◌<◌, Contains, List, length, map, get_or, take, drop, subst, sym, arith}
+use Rattle.std.proofs.Common.{◌-◌, ◌<◌, Contains, List, length, map, get_or, take, drop, subst, sym, arith, rules}
 use Rattle.std.specs.List.{AllByRecursion}
 use Rattle.std.proofs.lemmas.Result.{IfOk-weaker}
 use Rattle.zio_types.specs.declared.place.Place.{Place}
@@ -33,7 +33,7 @@ returns-then-before-eq0-clause-told g t c images tell =
     (c.in_ok-write_leaves.ensures.told images tell).1
 
 pub write_leaves-requires-2-clause-lies : goal.write_leaves-requires-2-clause-lies
-write_leaves-requires-2-clause-lies g t c κs within =
+write_leaves-requires-2-clause-lies g t c =
     let no = c.if-before-eq0.false in
     let some : 0 < c.args.before = omega arith in
     let place : Place = get_or c.args.places.now 0 (record { top = 0; sector = 0; sectors = 0 }) in
@@ -41,12 +41,20 @@ write_leaves-requires-2-clause-lies g t c κs within =
     (first_repairs_lie c.args.setting.now (map g.D.Disk.bytes c.args.disks.now) (length c.args.bytes.now) c.args.places.now (record { top = 0; sector = 0; sectors = 0 }) c.args.before c.args.failed.now
     c.in-len1-up.len_at_least some c.requires.lies)
 
-pub repair-requires-clause-lies : goal.repair-requires-clause-lies
-repair-requires-clause-lies g t c κs within =
+pub repair-requires : goal.repair-requires
+repair-requires g t c κs within =
     let no = c.if-before-eq0.false in
-    let some : 0 < c.args.before = omega arith in
-    later_repairs_lie c.args.setting.now (map g.D.Disk.bytes c.args.disks.now) (map g.D.Disk.bytes c.write_leaves-2.new.disks) (length c.args.bytes.now) c.args.places.now
-    (record { top = 0; sector = 0; sectors = 0 }) c.args.before c.args.failed.now c.in-len1-up.len_at_least some c.in_ok-write_leaves-2.ensures.handled.same.sizes c.requires.lies
+    let some : 0 < c.args.before = omega arith in (
+      search rules,
+      (
+        search rules,
+        (
+          c.requires.rows,
+          later_repairs_lie c.args.setting.now (map g.D.Disk.bytes c.args.disks.now) (map g.D.Disk.bytes c.write_leaves-2.new.disks) (length c.args.bytes.now) c.args.places.now
+              (record { top = 0; sector = 0; sectors = 0 }) c.args.before c.args.failed.now c.in-len1-up.len_at_least some c.in_ok-write_leaves-2.ensures.handled.same.sizes c.requires.lies,
+        ),
+      ),
+    )
 
 pub returns-in_err-write_leaves-2-clause-handled : goal.returns-in_err-write_leaves-2-clause-handled
 returns-in_err-write_leaves-2-clause-handled g t c =

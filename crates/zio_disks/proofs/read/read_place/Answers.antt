@@ -21,7 +21,7 @@ returns-in_err-order-clause-handled g c =
     handles_none g.D.Disk.bytes g.D.Disk.faults g.D.Disk.faults_at_fetch g.D.Disk.home g.D.Disk.image g.D.Disk.sound _ _ c.args.disks.now (λ e. cc)
 
 pub first_good-requires-clause-lies : goal.first_good-requires-clause-lies
-first_good-requires-clause-lies g c κs within =
+first_good-requires-clause-lies g c =
     let offset : ℕ = offset_of c.args.place.now in
     let leaves : List ℕ = leaves_of c.args.setting.now c.args.place.now in
     let order : c.as_slice.result.now ≡ read_order offset leaves =

@@ -123,5 +123,5 @@ walk_pointer-walk_members-requires g t c κs within =
     (subst (λ f. IfOk f (λ (ms : List Bp). AllByRecursion (Contains (tree_pointers c.args.tree.now)) ms)) c.in-Ok.is c.in_ok-members.ensures.listed) in
     let bears : BearsTops c.args.setting.now (map g.D.Disk.bytes c.read_members.new.disks) = subst (BearsTops c.args.setting.now) (sym c.in_ok-members.ensures.handled.same.sizes) c.requires.bears in (
       falls_by c.args.levels (length c.as_slice.result.now) t some few c.decreases,
-      (search rules, (search rules, (bears, (c.requires.placed, (listed, (few, (deeper (length c.args.path.now) c.args.levels some c.requires.depth, c.requires.bodies))))))),
+      (search rules, (bears, (c.requires.placed, (listed, (few, (deeper (length c.args.path.now) c.args.levels some c.requires.depth, c.requires.bodies)))))),
     )

@@ -19,7 +19,7 @@ use Rattle.zio_disks.proofs.TreeLemmas.{few_members, good_members, is_kept, poin
 use Rattle.zio_disks.proofs.trees.read_members.Goals as goal
 
 pub read_block-requires-clause-lies : goal.read_block-requires-clause-lies
-read_block-requires-clause-lies g c κs within =
+read_block-requires-clause-lies g c =
     let bp : Bp = c.args.bp.now in
     let placed : IsPlacedIn (sizes_of c.args.setting.now.tops) bp =
     all_contains (IsPlacedIn (sizes_of c.args.setting.now.tops)) (tree_pointers c.args.tree.now) bp c.requires.placed c.requires.listed in

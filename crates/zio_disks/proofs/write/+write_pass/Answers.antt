@@ -1,4 +1,4 @@
-use Rattle.std.proofs.Common.{List, get_or, length, map, subst, sym}
+use Rattle.std.proofs.Common.{List, get_or, length, map, subst, sym, rules}
 use Rattle.std.specs.List.{AllByRecursion}
 use Rattle.std.proofs.Common.{Contains}
 use Rattle.zio_types.specs.declared.place.Place.{Place}
@@ -11,14 +11,22 @@ use Rattle.zio_disks.proofs.DiskLemmas.{handles_none, handles_ok, handles_err, h
 use Rattle.zio_disks.proofs.write.+write_pass.Goals as goal
 
 pub write_leaves-requires-clause-lies : goal.write_leaves-requires-clause-lies
-write_leaves-requires-clause-lies g t c κs within =
+write_leaves-requires-clause-lies g t c =
     subst (λ ls. LieOn (map g.D.Disk.bytes c.args.disks.now) (length c.args.bytes.now) (map (spot_in (get_or c.args.places.now 0 (record { top = 0; sector = 0; sectors = 0 }))) ls)) (sym c.leaves-leaves.ensures)
     (head_lies c.args.setting.now (map g.D.Disk.bytes c.args.disks.now) (length c.args.bytes.now) c.args.places.now (record { top = 0; sector = 0; sectors = 0 }) c.in-len1-up.len_at_least c.requires.lies)
 
-pub write_pass-requires-clause-lies : goal.write_pass-requires-clause-lies
-write_pass-requires-clause-lies g t c κs within =
-    rest_lies c.args.setting.now (map g.D.Disk.bytes c.args.disks.now) (map g.D.Disk.bytes c.write_leaves.new.disks) (length c.args.bytes.now) c.args.places.now
-    c.in-len1-up.len_at_least c.in_ok-error-in-len1-up.ensures.handled.same.sizes c.requires.lies
+pub write_pass-requires : goal.write_pass-requires
+write_pass-requires g t c κs within = (
+  search rules,
+  (
+    search rules,
+    (
+      c.requires.rows,
+      rest_lies c.args.setting.now (map g.D.Disk.bytes c.args.disks.now) (map g.D.Disk.bytes c.write_leaves.new.disks) (length c.args.bytes.now) c.args.places.now
+          c.in-len1-up.len_at_least c.in_ok-error-in-len1-up.ensures.handled.same.sizes c.requires.lies,
+    ),
+  ),
+)
 
 pub returns-in_err-error-in-len1-up-clause-handled :
     goal.returns-in_err-error-in-len1-up-clause-handled

@@ -27,7 +27,7 @@ returns-in_err-whole-clause-handled g c =
     handles_none g.D.Disk.bytes g.D.Disk.faults g.D.Disk.faults_at_fetch g.D.Disk.home g.D.Disk.image g.D.Disk.sound _ _ c.args.disks.now (λ e. cc)
 
 pub write_each-requires-2-clause-lies : goal.write_each-requires-2-clause-lies
-write_each-requires-2-clause-lies g c κs within =
+write_each-requires-2-clause-lies g c =
     let padded : c.as_slice.result.now ≡ padded_to c.span_of-span.result c.args.bytes.now = c.as_slice.ensures ∙ c.in_ok-whole.ensures.ok in
     let whole : length c.as_slice.result.now ≡ c.args.place.now.sectors * sector_size = ap length padded ∙ length-padded_to c.span_of-span.result c.args.bytes.now ∙ c.span_of-span.ensures in
     whole_lies (map g.D.Disk.bytes c.args.disks.now) (length c.args.bytes.now) (length c.as_slice.result.now) c.args.place.now c.args.leaves.now whole c.requires.lies

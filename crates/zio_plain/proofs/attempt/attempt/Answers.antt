@@ -3,11 +3,11 @@ use Rattle.std.proofs.lemmas.List.{length-reverse}
 use Rattle.zio_plain.specs.declared.waiting.Handed.{Handed}
 use Rattle.zio_plain.specs.declared.waiting.Waiting.{Waiting}
 use Rattle.std.specs.List.{AllByRecursion}
-use Rattle.zio_types.specs.declared.place.Place.{Place}
 use Rattle.zio_gang.specs.Attempts.{now_alone, root_bits}
-use Rattle.zio_plain.specs.OwnEnds.{AreNamed}
+use Rattle.zio_plain.specs.OwnEnds.{AreNamed, Named}
 use Rattle.zio_plain.specs.Waits.{return_of}
-use Rattle.zio_plain.proofs.PassLemmas.{IsPassing, all_at, blocks_of, named_all, passing_begins, passing_ends, passing_enough, passing_more, passing_pointers, passing_rising, waits}
+use Rattle.zio_plain.proofs.PassLemmas.{IsPassing, all_at, passing_begins, passing_ends, passing_enough, passing_more, passing_pointers, passing_rising, waits}
+use Rattle.zio_plain.proofs.NamedLemmas.{named_by, named_all}
 use Rattle.zio_plain.proofs.attempt.attempt.Goals as goal
 
 pub loop-waiting-init : goal.loop-waiting-init
@@ -22,8 +22,8 @@ loop-waiting-init g c named at =
 
 pub attempt_request-requires-clause-can : goal.attempt_request-requires-clause-can
 attempt_request-requires-clause-can g c =
-    let named : List Place = blocks_of c.args.tree in
-    let i = c.loop-waiting.invariant named (named_all c.args.tree) in
+    let named : Named = named_by c.args.tree in
+    let i = c.loop-waiting.invariant named (named_all c.args.tree c.requires.claim) in
     g.met.W.OwnWork.moves_can named c.args.works.now c.loop-waiting.works _ c.in-Some.waiting.block i.moved
     (all_at (λ (w : Waiting). g.W.OwnWork.can c.args.works.now w.block) i.fates c.in-Some.waiting c.next.new.self c.args.tree
     (i.split ∙ waits i.fates c.in-Some.ensures.steps) c.requires.can)
@@ -31,12 +31,12 @@ attempt_request-requires-clause-can g c =
 pub attempt_request-requires-clause-enough : goal.attempt_request-requires-clause-enough
 attempt_request-requires-clause-enough g c =
     let m = g.W.OwnWork in
-    let named : List Place = blocks_of c.args.tree in
+    let named : Named = named_by c.args.tree in
     let hs : List Handed = reverse c.loop-waiting.handed.items in
     let i : IsPassing m.tells m.runs m.fresh m.given (m.moves named) c.args.failmode c.args.attempt c.args.tree (c.in-Some.waiting ∷ c.next.new.self) hs c.loop-waiting.again
     c.args.ends.now.finished c.loop-waiting.ends.finished c.args.ends.now.freed c.loop-waiting.ends.freed c.args.works.now c.loop-waiting.works =
     subst (λ (ws : List Waiting). IsPassing m.tells m.runs m.fresh m.given (m.moves named) c.args.failmode c.args.attempt c.args.tree ws hs c.loop-waiting.again
-    c.args.ends.now.finished c.loop-waiting.ends.finished c.args.ends.now.freed c.loop-waiting.ends.freed c.args.works.now c.loop-waiting.works) c.in-Some.ensures.steps (c.loop-waiting.invariant named (named_all c.args.tree)) in
+    c.args.ends.now.finished c.loop-waiting.ends.finished c.args.ends.now.freed c.loop-waiting.ends.freed c.args.works.now c.loop-waiting.works) c.in-Some.ensures.steps (c.loop-waiting.invariant named (named_all c.args.tree c.requires.claim)) in
     let k = c.loop-waiting.handed.ok.0 in
     let n : length hs ≡ length c.loop-waiting.handed.items = length-reverse c.loop-waiting.handed.items in
     let e : c.in-Some.waiting.unfinished ≤ length hs =
@@ -46,30 +46,30 @@ attempt_request-requires-clause-enough g c =
 pub attempt_request-requires-clause-rising : goal.attempt_request-requires-clause-rising
 attempt_request-requires-clause-rising g c =
     let m = g.W.OwnWork in
-    let named : List Place = blocks_of c.args.tree in
+    let named : Named = named_by c.args.tree in
     let hs : List Handed = reverse c.loop-waiting.handed.items in
     passing_rising m.tells m.runs m.fresh m.given (m.moves named) c.args.failmode c.args.attempt c.args.tree c.in-Some.waiting c.next.new.self hs c.loop-waiting.again _ _ _ _ _ _
     (subst (λ (ws : List Waiting). IsPassing m.tells m.runs m.fresh m.given (m.moves named) c.args.failmode c.args.attempt c.args.tree ws hs c.loop-waiting.again
-    c.args.ends.now.finished c.loop-waiting.ends.finished c.args.ends.now.freed c.loop-waiting.ends.freed c.args.works.now c.loop-waiting.works) c.in-Some.ensures.steps (c.loop-waiting.invariant named (named_all c.args.tree)))
+    c.args.ends.now.finished c.loop-waiting.ends.finished c.args.ends.now.freed c.loop-waiting.ends.freed c.args.works.now c.loop-waiting.works) c.in-Some.ensures.steps (c.loop-waiting.invariant named (named_all c.args.tree c.requires.claim)))
 
 pub attempt_request-requires-clause-pointers : goal.attempt_request-requires-clause-pointers
 attempt_request-requires-clause-pointers g c =
     let m = g.W.OwnWork in
-    let named : List Place = blocks_of c.args.tree in
+    let named : Named = named_by c.args.tree in
     let hs : List Handed = reverse c.loop-waiting.handed.items in
     passing_pointers m.tells m.runs m.fresh m.given (m.moves named) c.args.failmode c.args.attempt c.args.tree c.in-Some.waiting c.next.new.self hs c.loop-waiting.again _ _ _ _ _ _
     (subst (λ (ws : List Waiting). IsPassing m.tells m.runs m.fresh m.given (m.moves named) c.args.failmode c.args.attempt c.args.tree ws hs c.loop-waiting.again
-    c.args.ends.now.finished c.loop-waiting.ends.finished c.args.ends.now.freed c.loop-waiting.ends.freed c.args.works.now c.loop-waiting.works) c.in-Some.ensures.steps (c.loop-waiting.invariant named (named_all c.args.tree)))
+    c.args.ends.now.finished c.loop-waiting.ends.finished c.args.ends.now.freed c.loop-waiting.ends.freed c.args.works.now c.loop-waiting.works) c.in-Some.ensures.steps (c.loop-waiting.invariant named (named_all c.args.tree c.requires.claim)))
 
 pub attempt_request-requires-clause-sound : goal.attempt_request-requires-clause-sound
 attempt_request-requires-clause-sound g c =
     let m = g.W.OwnWork in
-    let named : List Place = blocks_of c.args.tree in
+    let named : Named = named_by c.args.tree in
     let hs : List Handed = reverse c.loop-waiting.handed.items in
     let i : IsPassing m.tells m.runs m.fresh m.given (m.moves named) c.args.failmode c.args.attempt c.args.tree (c.in-Some.waiting ∷ c.next.new.self) hs c.loop-waiting.again
     c.args.ends.now.finished c.loop-waiting.ends.finished c.args.ends.now.freed c.loop-waiting.ends.freed c.args.works.now c.loop-waiting.works =
     subst (λ (ws : List Waiting). IsPassing m.tells m.runs m.fresh m.given (m.moves named) c.args.failmode c.args.attempt c.args.tree ws hs c.loop-waiting.again
-    c.args.ends.now.finished c.loop-waiting.ends.finished c.args.ends.now.freed c.loop-waiting.ends.freed c.args.works.now c.loop-waiting.works) c.in-Some.ensures.steps (c.loop-waiting.invariant named (named_all c.args.tree)) in
+    c.args.ends.now.finished c.loop-waiting.ends.finished c.args.ends.now.freed c.loop-waiting.ends.freed c.args.works.now c.loop-waiting.works) c.in-Some.ensures.steps (c.loop-waiting.invariant named (named_all c.args.tree c.requires.claim)) in
     i.sound.0
 
 pub loop-waiting-preserved : goal.loop-waiting-preserved
@@ -83,13 +83,13 @@ loop-waiting-preserved g c named at =
     (g.met.W.OwnWork.moves_then named) (g.met.W.OwnWork.moves_runs named) c.requires.claim c.requires.apart
     (subst (λ (ws : List Waiting). IsPassing m.tells m.runs m.fresh m.given (m.moves named) c.args.failmode c.args.attempt c.args.tree ws hs c.loop-waiting.again
     c.args.ends.now.finished c.loop-waiting.ends.finished c.args.ends.now.freed c.loop-waiting.ends.freed c.args.works.now c.loop-waiting.works) c.in-Some.ensures.steps i)
-    (c.in_ok-attempt_request.ensures.step named (all_at (λ (w : Waiting). AreNamed named w.block) i.fates c.in-Some.waiting c.next.new.self c.args.tree (i.split ∙ waits i.fates c.in-Some.ensures.steps) at))
+    (c.in_ok-attempt_request.ensures.step named (all_at (λ (w : Waiting). AreNamed named w.request.work w.block) i.fates c.in-Some.waiting c.next.new.self c.args.tree (i.split ∙ waits i.fates c.in-Some.ensures.steps) at))
 
 pub returns-in_err-attempt_request-clause-breaks : goal.returns-in_err-attempt_request-clause-breaks
 returns-in_err-attempt_request-clause-breaks g c =
-    let broke = λ (named : List Place) (at : AllByRecursion (λ (w : Waiting). AreNamed named w.block) c.args.tree).
+    let broke = λ (named : Named) (at : AllByRecursion (λ (w : Waiting). AreNamed named w.request.work w.block) c.args.tree).
     (let i = c.loop-waiting.invariant named at in
-    let here : AreNamed named c.in-Some.waiting.block = all_at (λ (w : Waiting). AreNamed named w.block) i.fates c.in-Some.waiting c.next.new.self c.args.tree (i.split ∙ waits i.fates c.in-Some.ensures.steps) at in
+    let here : AreNamed named c.in-Some.waiting.request.work c.in-Some.waiting.block = all_at (λ (w : Waiting). AreNamed named w.request.work w.block) i.fates c.in-Some.waiting c.next.new.self c.args.tree (i.split ∙ waits i.fates c.in-Some.ensures.steps) at in
     g.met.W.OwnWork.moves_breaks named c.args.works.now c.loop-waiting.works c.attempt_request.new.works _ _ i.moved (c.in_err-attempt_request.ensures.breaks named here)) in
     search rules
 

@@ -1,15 +1,13 @@
 use Rattle.std.proofs.Common.{◌≡◌, List, length, reverse, refl, ap, sym, subst, ◌∙◌, rules}
 use Rattle.std.proofs.lemmas.List.{reverse-reverse}
-use Rattle.zio_types.specs.declared.place.Place.{Place}
-use Rattle.zio_cksum.proofs.AllLemmas.{all_contained}
-use Rattle.zio_course.specs.Runners.{places_of_block}
 use Rattle.zio_course.specs.declared.runner.Stop.TheVariants.{Memory}
 use Rattle.zio_plain.specs.declared.judge.Judged.{Judged}
 use Rattle.zio_plain.specs.declared.owns.OwnEnd.{OwnEnd}
 use Rattle.zio_plain.specs.declared.waiting.Handed.{Handed}
-use Rattle.zio_plain.specs.OwnEnds.{AreNamed}
+use Rattle.zio_plain.specs.OwnEnds.{AreNamed, Named}
 use Rattle.zio_plain.specs.Waits.{HasPointer}
 use Rattle.zio_plain.proofs.StepLemmas.{IsRun, IsTop, memory_stop, ok_both, run_of, stack_top, step_again, step_ended}
+use Rattle.zio_plain.proofs.NamedLemmas.{names_itself, naming}
 use Rattle.zio_plain.proofs.FateLemmas.{HaveHanded, all_turned}
 use Rattle.zio_plain.proofs.attempt.attempt_request.Goals as goal
 
@@ -24,7 +22,7 @@ do_own-requires-clause-pointers g c =
 
 pub returns-in_err-note_handed-clause-breaks : goal.returns-in_err-note_handed-clause-breaks
 returns-in_err-note_handed-clause-breaks g c =
-    let h = λ (named : List Place) (at : AreNamed named c.args.waiting.block).
+    let h = λ (named : Named) (at : AreNamed named c.args.waiting.request.work c.args.waiting.block).
     g.met.W.OwnWork.moves_breaks named c.args.works.now c.do_own.new.works c.do_own.new.works c.in_ok-end.field-0.taken Memory (c.in_ok-end.ensures.moves named at) (g.met.W.OwnWork.memory_breaks named c.do_own.new.works) in
     search rules
 
@@ -52,7 +50,7 @@ returns-in-Ends-clause-step g c =
 
 pub returns-in_err-note_again-in-Again-clause-breaks : goal.returns-in_err-note_again-in-Again-clause-breaks
 returns-in_err-note_again-in-Again-clause-breaks g c =
-    let h = λ (named : List Place) (at : AreNamed named c.args.waiting.block).
+    let h = λ (named : Named) (at : AreNamed named c.args.waiting.request.work c.args.waiting.block).
     g.met.W.OwnWork.moves_breaks named c.args.works.now c.give_back.new.self c.give_back.new.self _ Memory (c.give_back.ensures.moves named c.args.works.now (c.in_ok-end.ensures.moves named at)) (g.met.W.OwnWork.memory_breaks named c.give_back.new.self) in
     search rules
 
@@ -79,19 +77,19 @@ returns-clause-step g c named at =
 
 pub end_request-requires : goal.end_request-requires
 end_request-requires g c =
-    let places : List Place = places_of_block c.args.waiting.block in
-    record { taken = (places, (c.args.works.now, c.in_ok-end.ensures.moves places (all_contained places))) }
+    let named : Named = naming c.args.waiting.request.work c.args.waiting.block in
+    record { taken = (named, (c.args.works.now, c.in_ok-end.ensures.moves named (names_itself c.args.waiting.request.work c.args.waiting.block))) }
 
 pub returns-in_err-one-clause-breaks : goal.returns-in_err-one-clause-breaks
 returns-in_err-one-clause-breaks g c =
-    let h = λ (named : List Place) (at : AreNamed named c.args.waiting.block).
+    let h = λ (named : Named) (at : AreNamed named c.args.waiting.request.work c.args.waiting.block).
     g.met.W.OwnWork.moves_breaks named c.args.works.now c.do_own.new.works c.do_own.new.works c.in_ok-end.field-0.taken Memory (c.in_ok-end.ensures.moves named at) (g.met.W.OwnWork.memory_breaks named c.do_own.new.works) in
     search rules
 
 pub returns-in-Ends-clause-breaks : goal.returns-in-Ends-clause-breaks
 returns-in-Ends-clause-breaks g c =
     memory_stop c.end_request.result
-    (λ stop. (named : List Place) → AreNamed named c.args.waiting.block → g.W.OwnWork.breaks named c.args.works.now c.end_request.new.works stop)
+    (λ stop. (named : Named) → AreNamed named c.args.waiting.request.work c.args.waiting.block → g.W.OwnWork.breaks named c.args.works.now c.end_request.new.works stop)
     c.end_request.ensures.err
     (λ named at.
     (let m = c.in_ok-end.ensures.moves named at in
@@ -100,5 +98,5 @@ returns-in-Ends-clause-breaks g c =
 
 pub give_back-requires : goal.give_back-requires
 give_back-requires g c =
-    let places : List Place = places_of_block c.args.waiting.block in
-    (places, (c.args.works.now, c.in_ok-end.ensures.moves places (all_contained places)))
+    let named : Named = naming c.args.waiting.request.work c.args.waiting.block in
+    (named, (c.args.works.now, c.in_ok-end.ensures.moves named (names_itself c.args.waiting.request.work c.args.waiting.block)))

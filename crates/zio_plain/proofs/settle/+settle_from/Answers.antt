@@ -1,21 +1,20 @@
 use Rattle.std.proofs.Common.{◌≡◌, ◌+◌, ◌-◌, List, true, false, ap, sym, subst, ◌∙◌, arith, inl, inr, rules}
 use Rattle.std.specs.List.{AllByRecursion}
-use Rattle.zio_types.specs.declared.place.Place.{Place}
 use Rattle.zio_cksum.proofs.AllLemmas.{all_weaker}
 use Rattle.zio_course.specs.Runners.{has_claim}
 use Rattle.zio_plain.specs.Passes.{AreNumberedApart, ArePasses, waitings_in}
-use Rattle.zio_plain.specs.OwnEnds.{AreNamed}
+use Rattle.zio_plain.specs.OwnEnds.{AreNamed, Named}
 use Rattle.zio_plain.specs.Posts.{requests_in}
 use Rattle.zio_plain.specs.declared.waiting.Waiting.{Waiting}
 use Rattle.zio_plain.proofs.SettleLemmas.{go_on, if_err_all, if_ok_all, left_apart, left_can, named_left, no_claim_left, passes_end}
-use Rattle.zio_plain.proofs.PassLemmas.{blocks_of, named_all}
+use Rattle.zio_plain.proofs.NamedLemmas.{named_by, named_all}
 use Rattle.zio_plain.proofs.settle.+settle_from.Goals as goal
 use Rattle.zio_plain.proofs.settle.+settle_from.Goals.{else-at_once-via-then-at_once+else-more-gt0, else-at_once-via-else-at_once}
 
 pub settle_from-requires : goal.settle_from-requires
 settle_from-requires g t c κs within =
-    let named : List Place = blocks_of c.args.tree in
-    let h = c.in_ok-left.ensures.pass named (named_all c.args.tree) in
+    let named : Named = named_by c.args.tree in
+    let h = c.in_ok-left.ensures.pass named (named_all c.args.tree c.requires.claim) in
     let each = h.each in (
       omega arith,
       (
@@ -42,8 +41,8 @@ settle_from-requires g t c κs within =
 
 pub returns-then-more-gt0-clause-passes : goal.returns-then-more-gt0-clause-passes
 returns-then-more-gt0-clause-passes g t c =
-    if_ok_all c.settle_from.result (λ (named : List Place). AllByRecursion (λ (w : Waiting). AreNamed named w.block) c.in_ok-left.field-0.left)
-    (λ (named : List Place). AllByRecursion (λ (w : Waiting). AreNamed named w.block) c.args.tree)
+    if_ok_all c.settle_from.result (λ (named : Named). AllByRecursion (λ (w : Waiting). AreNamed named w.request.work w.block) c.in_ok-left.field-0.left)
+    (λ (named : Named). AllByRecursion (λ (w : Waiting). AreNamed named w.request.work w.block) c.args.tree)
     (λ named left. ArePasses g.W.OwnWork.tells g.W.OwnWork.runs g.W.OwnWork.fresh g.W.OwnWork.given (g.W.OwnWork.moves named) c.args.failmode (c.args.more - 1) (c.args.number + 1) c.in_ok-left.field-0.left left
     c.attempt.new.ends.finished c.settle_from.new.ends.finished c.attempt.new.ends.freed c.settle_from.new.ends.freed c.attempt.new.works c.settle_from.new.works)
     (λ named left. ArePasses g.W.OwnWork.tells g.W.OwnWork.runs g.W.OwnWork.fresh g.W.OwnWork.given (g.W.OwnWork.moves named) c.args.failmode c.args.more c.args.number c.args.tree left
@@ -62,8 +61,8 @@ returns-then-more-gt0-clause-passes g t c =
 
 pub returns-then-more-gt0-clause-breaks : goal.returns-then-more-gt0-clause-breaks
 returns-then-more-gt0-clause-breaks g t c =
-    if_err_all c.settle_from.result (λ (named : List Place). AllByRecursion (λ (w : Waiting). AreNamed named w.block) c.in_ok-left.field-0.left)
-    (λ (named : List Place). AllByRecursion (λ (w : Waiting). AreNamed named w.block) c.args.tree)
+    if_err_all c.settle_from.result (λ (named : Named). AllByRecursion (λ (w : Waiting). AreNamed named w.request.work w.block) c.in_ok-left.field-0.left)
+    (λ (named : Named). AllByRecursion (λ (w : Waiting). AreNamed named w.request.work w.block) c.args.tree)
     (λ named stop. g.W.OwnWork.breaks named c.attempt.new.works c.settle_from.new.works stop)
     (λ named stop. g.W.OwnWork.breaks named c.args.works.now c.settle_from.new.works stop)
     (λ named at. (let h = c.in_ok-left.ensures.pass named at in named_left named c.args.tree c.in_ok-left.field-0.left h.fates h.whole h.left_are h.each at))

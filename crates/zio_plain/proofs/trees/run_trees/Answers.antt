@@ -1,11 +1,12 @@
-use Rattle.std.proofs.Common.{◌≡◌, ◌+◌, ◌%◌, List, length, map, true, ap, sym, subst, ◌∙◌}
+use Rattle.std.proofs.Common.{◌≡◌, ◌+◌, ◌%◌, List, [], length, map, true, ap, sym, subst, ◌∙◌, rules}
 use Rattle.std.proofs.lemmas.List.Sorted.{IsPermutation-sym}
-use Rattle.std.specs.Prelude.{Contains, IfSome}
+use Rattle.std.specs.Prelude.{Contains, IfSome, IsPermutation}
 use Rattle.std.specs.List.{AllByRecursion}
 use Rattle.zio_types.specs.declared.journal.Completion.{Completion}
 use Rattle.zio_types.specs.Places.{sector_size}
 use Rattle.zio_disks.specs.Whole.{IsWholeTree}
 use Rattle.zio_gang.specs.Attempts.{Pending}
+use Rattle.zio_gang.specs.ByNumber.{merge_by}
 use Rattle.zio_gang.specs.Journals.{CompleteAfterChildren, CompleteOnce}
 use Rattle.zio_course.specs.declared.runner.Finished.{Finished}
 use Rattle.zio_course.specs.Runners.{AreRestsOf, HasReadSize, MakesTree, completion_for, has_claim, numbers_of, requests_in}
@@ -60,3 +61,21 @@ returns-clause-fits g c =
     let is : es ≡ ends_run r.each_run = ends_are es c.new.result r.each_run c.new.ensures r.finished in
     ends_whole fs (all_moved (λ (f : Finished). IfSome f.tree IsWholeTree) es fs c.by_number.ensures.same
     (subst (AllByRecursion (λ (f : Finished). IfSome f.tree IsWholeTree)) (sym is) (runs_ends (λ (f : Finished). IfSome f.tree IsWholeTree) (λ w kids f e. e.whole) r.each_run r.each)))
+
+pub returns-clause-run : goal.returns-clause-run
+returns-clause-run g c =
+    let r = c.in_ok-left.ensures.run in
+    let is : c.settle_trees.new.ends.finished ≡ ends_run r.each_run = ends_are c.settle_trees.new.ends.finished c.new.result r.each_run c.new.ensures r.finished in
+    record {
+      each_run = r.each_run;
+      whole = r.whole;
+      left_are = r.left_are;
+      each = r.each;
+      finished_are = c.by_number.ensures.order ∙ ap (λ (fs : List Finished). merge_by (λ (f : Finished). f.request) fs []) is;
+      same = subst (λ (fs : List Finished). IsPermutation fs c.by_number.result) is c.by_number.ensures.same;
+      completions_are = c.in_ok-completions.ensures ∙ ap (map (completion_for c.args.round)) (c.as_slice.ensures ∙ is);
+      freed_are = search rules;
+      moved = r.moved;
+      asked = r.asked;
+      told = r.told;
+    }

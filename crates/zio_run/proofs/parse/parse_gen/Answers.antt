@@ -1,4 +1,4 @@
-use Rattle.std.proofs.Common.{◌≡◌, ◌∙◌, ◌<◌, ◌^◌, ap, sym, refl, subst, arith, codes, true, map, string_bytes}
+use Rattle.std.proofs.Common.{◌≡◌, ◌∙◌, ap, sym, refl, subst, arith, codes, true, map, string_bytes}
 use Rattle.clap.specs.Matches.{found_of}
 use Rattle.clap.specs.Simple.{is_simple, matches_of}
 use Rattle.clap.specs.Walk.{rows_of}

@@ -1,13 +1,12 @@
-use Rattle.std.proofs.Common.{◌≡◌, ◌∙◌, List, Option, Some, None, ℕ, Bool, true, false, ap, sym, refl, subst, codes, map, string_bytes}
+use Rattle.std.proofs.Common.{◌≡◌, ◌∙◌, Option, Some, None, ℕ, Bool, true, false, ap, sym, refl, subst, codes, map, string_bytes}
 use Rattle.std.specs.Prelude.{decimal, IfSome}
 use Rattle.std.specs.Option.{option_map}
 use Rattle.clap.specs.Matches.{found_of}
-use Rattle.clap.specs.Simple.{app_of, is_simple, matches_of}
-use Rattle.clap.specs.Walk.{Row, Text, rows_of}
+use Rattle.clap.specs.Simple.{is_simple, matches_of}
+use Rattle.clap.specs.Walk.{Text, rows_of}
 use Rattle.clap.proofs.WalkLemmas.{first_value-rows, one_text-rows, raw_values-rows}
 use Rattle.zio_report.specs.declared.report.Show.TheVariants.{Report}
 use Rattle.zio_run.specs.declared.options.TheConstants.{WORKERS_MAX}
-use Rattle.zio_run.specs.declared.words.Command.{Command}
 use Rattle.zio_run.specs.declared.words.Command.TheVariants.{Run}
 use Rattle.zio_run.specs.Parses.{run_app}
 use Rattle.zio_run.specs.Words.{IsWithin, none_asked, or_usual}

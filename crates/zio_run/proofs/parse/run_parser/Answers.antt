@@ -1,6 +1,6 @@
-use Rattle.std.proofs.Common.{rules, ap, ap₂, refl, sym, codes, true, false, List, ℕ, ◌≡◌, ◌∙◌}
-use Rattle.clap.specs.Walk.{Rule, rule_of}
-use Rattle.clap.specs.Simple.{App, app_of, app_of_fields, new_app, with_rule, on_top}
+use Rattle.std.proofs.Common.{rules, ap, ap₂, sym, codes, true, List, ℕ, ◌≡◌, ◌∙◌}
+use Rattle.clap.specs.Walk.{rule_of}
+use Rattle.clap.specs.Simple.{app_of, app_of_fields, new_app, with_rule, on_top}
 use Rattle.clap.specs.declared.builder.command.Command.{Command}
 use Rattle.clap.specs.declared.builder.command.Command.TheViews.{out-Command as fields_of}
 use Rattle.zio_run.specs.Parses.{bare_app, flag_rule, image_rule, run_alone, run_app, workers_rule}

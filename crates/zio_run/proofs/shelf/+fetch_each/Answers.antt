@@ -1,4 +1,5 @@
-use Rattle.std.proofs.Common.{◌≡◌, ◌<◌, ◌∷◌, ℕ, suc, List, length, map, take, drop, ◌-◌, sym, ap, ◌∙◌, subst, refl, arith}
+use Rattle.std.proofs.Common.{◌≡◌, ◌<◌, ◌∷◌, ℕ, suc, List, length, map, take, drop, ◌-◌, sym, ap, ◌∙◌, subst, refl, arith, rules}
+use Rattle.std.proofs.lemmas.Grind.{common_steps}
 use Rattle.std.specs.List.{AllByRecursion}
 use Rattle.zio_cksum.proofs.AllLemmas.{all_weaker}
 use Rattle.zio_cksum.specs.Images.{Images}
@@ -22,22 +23,27 @@ returns-in_err-disk-clause-told g t c tells =
     (g.H.Shelf.image c.args.shelf.now) (g.H.Shelf.image c.fetch_lawful.new.shelf) (g.H.Shelf.out c.args.shelf.now) (g.H.Shelf.out c.fetch_lawful.new.shelf)
     (c.in_err-disk.ensures.stays tells))
 
-pub fetch_each-requires-clause-home : goal.fetch_each-requires-clause-home
-fetch_each-requires-clause-home g t c κs within still =
-    let tells = c.in_ok-disk.ensures.tells.1 still in
-    let out = c.in_ok-disk.ensures.out tells in
+pub fetch_each-requires : goal.fetch_each-requires
+fetch_each-requires g t c κs within =
     let names = c.args.names.now in
     let name = c.as_str.result.now in
     let rest = take (length names - 1) (drop 1 names) in
     let e : names ≡ name ∷ rest = names_split names c.name-item.result name c.in-len1-up.len_at_least c.name-item.is c.as_str.ensures in
+    let are : AreNames (name ∷ rest) = subst AreNames e c.requires.names in
     let old = g.H.Shelf.image c.args.shelf.now in
     let mid = g.H.Shelf.image c.fetch_lawful.new.shelf in
     let old_out = g.H.Shelf.out c.args.shelf.now in
     let mid_out = g.H.Shelf.out c.fetch_lawful.new.shelf in
-    let are : AreNames (name ∷ rest) = subst AreNames e c.requires.names in
-    let home : AllByRecursion (λ (n : List ℕ). ¬ old_out n) (name ∷ rest) =
+    let home : g.H.Shelf.tells c.fetch_lawful.new.shelf → AllByRecursion (λ (n : List ℕ). ¬ mid_out n) rest =
+    λ still.
+    (let tells = c.in_ok-disk.ensures.tells.1 still in
+    let out = c.in_ok-disk.ensures.out tells in
+    let homes : AllByRecursion (λ (n : List ℕ). ¬ old_out n) (name ∷ rest) =
     subst (λ (ns : List (List ℕ)). AllByRecursion (λ (n : List ℕ). ¬ old_out n) ns) e (c.requires.home tells) in
-    home_after name rest old mid old_out mid_out are out home.1
+    home_after name rest old mid old_out mid_out are out homes.1) in (
+      search rules,
+      (search rules, (search rules, (are.2, (first_of (search rules, grind (arith, common_steps)), (first_of (search rules, grind (arith, common_steps)), home))))),
+    )
 
 pub returns-clause-told : goal.returns-clause-told
 returns-clause-told g t c tells =

@@ -9,23 +9,26 @@ use Rattle.zio_run.specs.declared.shelf.ImagesFault.TheVariants.{Size}
 use Rattle.zio_run.proofs.ShelfLemmas.{AreNames-take, AreOut-fetched, StaysHome-after_trips, by_fault, counted_times-first, lawful-all}
 use Rattle.zio_run.proofs.shelf.fetch_images.Goals as goal
 
-pub give_back_images-requires-clause-home : goal.give_back_images-requires-clause-home
-give_back_images-requires-clause-home g c κs within still =
-    let tells = c.fetch_each.ensures.tells.1 still in
-    let news = c.fetch_each.new.disks.items in
-    let z : c.reserve.new.self.items ≡ [] = c.reserve.ensures.items ∙ c.new-disks.ensures.items in
-    let home = g.H.Disk.Disk.home in
-    let image = g.H.Disk.Disk.image in
-    let names = c.args.names.now in
-    let old = g.H.Shelf.image c.args.shelf.now in
-    let mid = g.H.Shelf.image c.fetch_each.new.shelf in
-    let old_out = g.H.Shelf.out c.args.shelf.now in
-    let mid_out = g.H.Shelf.out c.fetch_each.new.shelf in
-    let fetched : AreFetched home image (take (length news) names) news old mid old_out mid_out =
-    subst (λ ds. AreFetched home image (take (length (added ds news)) names) (added ds news) old mid old_out mid_out) z (c.fetch_each.ensures.told tells) in
-    let are = AreOut-fetched home image (take (length news) names) news old mid old_out mid_out
-    (AreNames-take (length news) names c.requires.names.names) fetched in
-    (take (length news) names, fetched.images, are)
+pub give_back_images-requires : goal.give_back_images-requires
+give_back_images-requires g c = record {
+  home = λ still.
+      (
+      let tells = c.fetch_each.ensures.tells.1 still in
+      let news = c.fetch_each.new.disks.items in
+      let z : c.reserve.new.self.items ≡ [] = c.reserve.ensures.items ∙ c.new-disks.ensures.items in
+      let home = g.H.Disk.Disk.home in
+      let image = g.H.Disk.Disk.image in
+      let names = c.args.names.now in
+      let old = g.H.Shelf.image c.args.shelf.now in
+      let mid = g.H.Shelf.image c.fetch_each.new.shelf in
+      let old_out = g.H.Shelf.out c.args.shelf.now in
+      let mid_out = g.H.Shelf.out c.fetch_each.new.shelf in
+      let fetched : AreFetched home image (take (length news) names) news old mid old_out mid_out =
+      subst (λ ds. AreFetched home image (take (length (added ds news)) names) (added ds news) old mid old_out mid_out) z (c.fetch_each.ensures.told tells) in
+      let are = AreOut-fetched home image (take (length news) names) news old mid old_out mid_out
+      (AreNames-take (length news) names c.requires.names.names) fetched in
+      (take (length news) names, fetched.images, are));
+}
 
 pub returns-in-Ok-clause-told : goal.returns-in-Ok-clause-told
 returns-in-Ok-clause-told g c tells =

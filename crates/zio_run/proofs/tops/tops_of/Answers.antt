@@ -9,3 +9,6 @@ top_of-requires-clause-named c =
     let images = length c.args.sizes.now in
     all_at (λ (line : TopLine). HaveImages images line.leaves) c.args.lines.now c.loop-line.line-index c.line-item.result
     (HaveImages-lines images c.args.lines.now c.requires.named) c.loop-line-test.true c.line-item.is
+
+pub returns-clause-short : goal.returns-clause-short
+returns-clause-short c = c.loop-line.invariant.short

@@ -1,5 +1,5 @@
-use Rattle.std.proofs.Common.{◌≡◌, Bool, true, false, ◌↔◌, IsTrue, map, string_bytes, sym, ◌∙◌, true≢false}
-use Rattle.zio_run.proofs.WordLemmas.{no_run, no_run_images}
+use Rattle.std.proofs.Common.{◌≡◌, Bool, false, ◌↔◌, IsTrue, map, string_bytes, sym, ◌∙◌, true≢false}
+use Rattle.zio_run.proofs.WordLemmas.{is_run, no_run, no_run_images}
 use Rattle.zio_run.proofs.words.read_run.Goals.{in_default-via-in-Some+else-are_images, in_default-via-in_default}
 use Rattle.zio_run.proofs.words.read_run.Goals as goal
 
@@ -13,3 +13,8 @@ returns-in_default-clause-words c e = elim c.in_default.branch [
       (not_so w.are_images.result w.if-are_images.false w.are_images.ensures)
   | in_default-via-in_default w ↦ no_run c.args.serial (map string_bytes c.args.words.now) w.in_default.ensures
 ]
+
+pub returns-in-Some-clause-memory : goal.returns-in-Some-clause-memory
+returns-in-Some-clause-memory c e =
+    is_run c.args.serial (map string_bytes c.args.words.now) _ (map string_bytes c.in-Some.names.now) c.in-Some.ensures
+    (c.are_images.ensures.0 c.if-are_images.true)

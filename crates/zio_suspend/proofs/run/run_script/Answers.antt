@@ -35,7 +35,7 @@ returns-in_err-begin-clause-cut g c =
     let f : SeenFold = nothing_yet in
     let new : IsNew f = nothing_is_new in
     let starts : Starts script s f old tells = record {
-      up = c.accepted_scripts_are_orderly.ensures.rising q.0 q.1 script q.2;
+      up = c.accepted_scripts_are_orderly.ensures.rising q.0 script q.1;
       empty = c.requires.empty;
       rows = c.requires.rows;
       tops = c.requires.tops;
@@ -67,13 +67,13 @@ run_lines-requires-clause-going g c =
     let k = c.new-fold.ensures in
     let new : IsNew f = fold_is_new g.R.Runner.pending c.new-fold.result k.bound k.suspended k.unfinished k.awaited k.point k.panicked k.tally in
     subst (λ (items : List Item). IsGoing g.R.Runner.fits s old.rounds f [] (batches_from [] items) (length items)) (sym c.as_slice.ensures)
-    (start_going g.R.Runner.fits s old.rounds f q.0 q.1 script q.2 (c.accepted_scripts_are_orderly.ensures.rising q.0 q.1 script q.2) (c.accepted_scripts_are_orderly.ensures.batches q.0 q.1 script q.2)
+    (start_going g.R.Runner.fits s old.rounds f q.0 script q.1 (c.accepted_scripts_are_orderly.ensures.rising q.0 script q.1) (c.accepted_scripts_are_orderly.ensures.batches q.0 script q.1)
     new c.requires.rows c.requires.live c.requires.runs c.requires.last c.requires.empty.rounds)
 
 pub run_lines-requires-clause-point : goal.run_lines-requires-clause-point
 run_lines-requires-clause-point g c =
     let q = c.requires.script in
-    subst (λ (items : List Item). c.new-fold.result.point + length items < 2 ^ 32) (sym c.as_slice.ensures) (start_point c.new-fold.result.point q.0 q.1 c.args.script.now q.2 c.new-fold.ensures.point)
+    subst (λ (items : List Item). c.new-fold.result.point + length items < 2 ^ 32) (sym c.as_slice.ensures) (start_point c.new-fold.result.point q.0 c.args.script.now q.1 c.new-fold.ensures.point)
 
 pub returns-in_err-run_lines-clause-cut : goal.returns-in_err-run_lines-clause-cut
 returns-in_err-run_lines-clause-cut g c =
@@ -89,7 +89,7 @@ returns-in_err-run_lines-clause-cut g c =
     let k = c.new-fold.ensures in
     let new : IsNew f = fold_is_new g.R.Runner.pending c.new-fold.result k.bound k.suspended k.unfinished k.awaited k.point k.panicked k.tally in
     let starts : Starts script s f old tells = record {
-      up = c.accepted_scripts_are_orderly.ensures.rising q.0 q.1 script q.2;
+      up = c.accepted_scripts_are_orderly.ensures.rising q.0 script q.1;
       empty = c.requires.empty;
       rows = c.requires.rows;
       tops = c.requires.tops;
@@ -121,7 +121,7 @@ returns-in_err-finish-clause-cut g c =
     let k = c.new-fold.ensures in
     let new : IsNew f = fold_is_new g.R.Runner.pending c.new-fold.result k.bound k.suspended k.unfinished k.awaited k.point k.panicked k.tally in
     let starts : Starts script s f old tells = record {
-      up = c.accepted_scripts_are_orderly.ensures.rising q.0 q.1 script q.2;
+      up = c.accepted_scripts_are_orderly.ensures.rising q.0 script q.1;
       empty = c.requires.empty;
       rows = c.requires.rows;
       tops = c.requires.tops;
@@ -168,7 +168,7 @@ returns-clause-whole g c =
     let k = c.new-fold.ensures in
     let new : IsNew f = fold_is_new g.R.Runner.pending c.new-fold.result k.bound k.suspended k.unfinished k.awaited k.point k.panicked k.tally in
     let starts : Starts script s f old tells = record {
-      up = c.accepted_scripts_are_orderly.ensures.rising q.0 q.1 script q.2;
+      up = c.accepted_scripts_are_orderly.ensures.rising q.0 script q.1;
       empty = c.requires.empty;
       rows = c.requires.rows;
       tops = c.requires.tops;

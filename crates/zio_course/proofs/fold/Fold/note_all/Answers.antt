@@ -1,4 +1,4 @@
-use Rattle.std.proofs.Common.{◌≡◌, ℕ, ◌+◌, ◌<◌, List, ◌∷◌, ◌++◌, ◌||◌, Bool, drop, length, map, Bor, refl, sym, ap, ◌∙◌, append_assoc, arith}
+use Rattle.std.proofs.Common.{◌≡◌, ℕ, ◌+◌, List, ◌∷◌, ◌++◌, ◌||◌, Bool, drop, map, Bor, sym, ap, ◌∙◌, append_assoc, arith}
 use Rattle.zio_script.specs.declared.script.Request.{Request}
 use Rattle.zio_report.specs.declared.report.Line.{Line}
 use Rattle.zio_course.specs.declared.fold.Tally.{Tally}

@@ -5,7 +5,7 @@ use Rattle.zio_script.specs.Keys.{AreBegun}
 use Rattle.zio_script.specs.OpenBatches.{is_clash, is_full_at, marks_after, must_at, new_mark}
 use Rattle.zio_script.specs.Requests.{kind_of}
 use Rattle.zio_script.specs.Whys.{is_claim, least_why, request_whys, says_canfail, shares_with_claim}
-use Rattle.zio_script.proofs.FrontLemmas.{or_left_false}
+use Rattle.zio_script.proofs.ListLemmas.{or_left_false}
 use Rattle.zio_script.proofs.RequestLemmas.{AreNamesOf, batch_more, kept_request, named_next, names_more, whys_are}
 use Rattle.zio_script.proofs.builder.Builder.add_named.Goals as goal
 

@@ -1,7 +1,7 @@
 use Rattle.std.proofs.Common.{◌∙◌, sym, map}
 use Rattle.std.proofs.lemmas.Result.{on_ok_weaker}
 use Rattle.zio_script.specs.NewLines.{line_as}
-use Rattle.zio_script.proofs.WholeLemmas.{adds_skipped, adds_words}
+use Rattle.zio_script.proofs.ReadLemmas.{adds_skipped, adds_words}
 use Rattle.zio_script.proofs.builder.Builder.add_words.Goals as goal
 
 pub returns-then-is_skipped-clause-added : goal.returns-then-is_skipped-clause-added

@@ -1,0 +1,49 @@
+-- A round over images that are told is the round by the definitions, with its own entries as the journal.
+use Rattle.std.proofs.Common.{◌≡◌, ℕ, List, [], ◌++◌, sym, ap, ◌∙◌, subst}
+use Rattle.std.specs.Prelude.{Contains}
+use Rattle.std.specs.List.{AllByRecursion}
+use Rattle.std.proofs.lemmas.List.{map-id}
+use Rattle.zio_types.specs.Choices.{Ask, Choice}
+use Rattle.zio_cksum.specs.Images.{Images}
+use Rattle.zio_cksum.proofs.AllLemmas.{all_contained}
+use Rattle.zio_gang.specs.Attempts.{Pending, Terms}
+use Rattle.zio_gang.specs.ByNumber.{merge_by}
+use Rattle.zio_gang.specs.Journals.{AreLawful, HaveDistinctKeys, asks_of}
+use Rattle.zio_gang.specs.Rounds.{settle_each}
+use Rattle.zio_gang.specs.Trees.{sizes_of}
+use Rattle.zio_gang.proofs.JournalLemmas.{each_found}
+use Rattle.zio_blocks.specs.Blocks.{AnswersBy}
+use Rattle.zio_course.specs.declared.runner.Finished.{Finished}
+use Rattle.zio_course.specs.declared.runner.RoundEnd.{RoundEnd}
+use Rattle.zio_course.specs.Runners.{IsRound, ended_seen}
+use Rattle.zio_plain.specs.OwnEnds.{AreAsked}
+use Rattle.zio_plain.specs.Settlings.{IsRan, TellsRan}
+
+-- what was asked of it since it had no entries
+pub asked_distinct : (may : ℕ → ℕ → Type 0) (old new : List Choice) → old ≡ [] → AreAsked may old new → HaveDistinctKeys (asks_of new)
+asked_distinct may old new none h =
+    subst (λ es. HaveDistinctKeys (asks_of es)) (sym (h.is ∙ ap (λ es. es ++ h.more) none)) h.distinct
+
+-- entries whose keys are distinct answer themselves
+answer_themselves : (entries : List Choice) → HaveDistinctKeys (asks_of entries) → AnswersBy entries entries
+answer_themselves entries distinct = each_found entries distinct
+
+pub round_told : {S : Type 0} (tells : S → Images → Type 0) (given : S → List Choice) (t : Terms) (trees : List (List Pending)) (ends : List Finished) (left : List (List Pending)) (before : Images) (end : RoundEnd (List Pending)) (old new : S)
+    → given old ≡ [] → end.entries ≡ given new → HaveDistinctKeys (asks_of (given new)) → AreLawful (sizes_of t.setting.tops) t.used (given new)
+    → end.finished ≡ merge_by (λ (f : Finished). f.request) ends [] → end.left ≡ left
+    → (k : TellsRan tells given (λ journal. settle_each journal t trees before) ends left old new) → IsRound t trees before k.after (ended_seen (λ (tree : List Pending). tree) end)
+round_told tells given t trees ends left before end old new none entries_are distinct lawful finished_are left_are k =
+    let answers : AnswersBy end.entries (given new) = subst (λ es. AnswersBy es (given new)) (sym entries_are) (answer_themselves (given new) distinct) in
+    let r : IsRan (settle_each end.entries t trees before) ends left (given old) (given new) k.after = k.meant end.entries answers in
+    let asks : (settle_each end.entries t trees before).asks ≡ asks_of end.entries =
+    sym (r.asks ∙ ap (λ es. asks_of es ++ (settle_each end.entries t trees before).asks) none) ∙ ap asks_of (sym entries_are) in record {
+      left_is = map-id end.left ∙ left_are ∙ sym r.left_is;
+      finished_is = finished_are ∙ ap (λ fs. merge_by (λ (f : Finished). f.request) fs []) (sym r.ended);
+      images_are = sym r.images;
+      choices = record {
+        distinct = subst (λ es. HaveDistinctKeys (asks_of es)) (sym entries_are) distinct;
+        asked = subst (λ (qs : List Ask). AllByRecursion (Contains qs) (asks_of end.entries)) (sym asks) (all_contained (asks_of end.entries));
+        answered = subst (λ (qs : List Ask). AllByRecursion (Contains (asks_of end.entries)) qs) (sym asks) (all_contained (asks_of end.entries));
+        lawful = subst (AreLawful (sizes_of t.setting.tops) t.used) (sym entries_are) lawful;
+      };
+    }

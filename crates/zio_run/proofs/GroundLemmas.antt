@@ -1,0 +1,61 @@
+-- The setting of a script's run over disks of lawful sizes, and how the run came out.
+use Rattle.std.proofs.Common.{◌≡◌, ◌≤◌, ℕ, List, [], ◌∷◌, true, Result, Ok, Err, inl, length, map, sym, subst, arith, IsTrue, MatchResult}
+use Rattle.std.proofs.lemmas.Bool.{and_parts}
+use Rattle.std.specs.List.{AllByRecursion, list_all}
+use Rattle.std.specs.Prelude.{IfErr, IfOk}
+use Rattle.zio_types.specs.declared.journal.Journal.{Journal}
+use Rattle.zio_types.specs.declared.place.Top.{Top}
+use Rattle.zio_types.specs.Places.{is_lawful_top}
+use Rattle.zio_faults.specs.declared.table.Row.{Row}
+use Rattle.zio_faults.specs.Hits.{RowFits}
+use Rattle.zio_blkptr.specs.declared.pointer.TheConstants.{SECTOR_END}
+use Rattle.zio_script.specs.declared.script.Script.{Script}
+use Rattle.zio_cksum.proofs.AllLemmas.{all_weaker}
+use Rattle.zio_cksum.specs.Images.{Images}
+use Rattle.zio_gang.specs.Trees.{size_of, sizes_of}
+use Rattle.zio_gang.specs.declared.ending.Ending.{Ending}
+use Rattle.zio_disks.specs.Trees.{HasSectors}
+use Rattle.zio_report.specs.declared.report.RunFault.{RunFault}
+use Rattle.zio_report.specs.declared.report.Show.{Show}
+use Rattle.zio_report.specs.Meanings.{tops_of}
+use Rattle.zio_run.specs.declared.image.TheConstants.{IMAGE_LEN_MAX}
+use Rattle.zio_run.specs.Grounds.{CameOutOver, HasRunOver, IsSettingOf, WasCutOver}
+use Rattle.zio_run.specs.Seen.{SinkSeen}
+use Rattle.zio_run.specs.declared.outcome.Outcome.{Outcome}
+use Rattle.zio_run.specs.declared.outcome.Outcome.TheVariants.{Ended, Cut}
+use Rattle.zio_run.specs.Tops.{HaveImages, IsLawfulPool, leaves_of}
+
+lawful_each : (tops : List Top) → list_all is_lawful_top (sizes_of tops) ≡ true → AllByRecursion (λ (top : Top). IsTrue (is_lawful_top (size_of top))) tops
+lawful_each [] all = tt
+lawful_each (top ∷ tops) all =
+    let parts = and_parts (is_lawful_top (size_of top)) (list_all is_lawful_top (sizes_of tops)) all in
+    (parts.0, lawful_each tops parts.1)
+
+-- tops over disks of lawful sizes have few sectors, and there are few of them
+pub setting_of : (script : Script) (sizes : List ℕ) (tops : List Top) (rows : List Row) (point : ℕ) → IsLawfulPool script
+    → ((images : Images) → map (length {A = ℕ}) images ≡ sizes → tops ≡ tops_of script images) → HaveImages (length sizes) (leaves_of script.tops)
+    → AllByRecursion (HasSectors sizes) tops → list_all is_lawful_top (sizes_of tops) ≡ true → AllByRecursion (λ (top : Top). top.sectors ≤ IMAGE_LEN_MAX) tops
+    → length tops ≡ length script.tops → rows ≡ script.faults → IsSettingOf script sizes (record { tops = tops; rows = rows; point = point })
+setting_of script sizes tops rows point pool ok named bears lawful short count same = record {
+  tops = ok;
+  rows = same;
+  bears = record { rows = subst (λ (rs : List Row). AllByRecursion RowFits rs) (sym same) pool.rows; tops = bears };
+  pointers = record {
+    few = (let most = pool.most in omega (arith, count));
+    lawful = lawful_each tops lawful;
+    short = all_weaker (λ (top : Top). top.sectors ≤ IMAGE_LEN_MAX) (λ (top : Top). top.sectors ≤ SECTOR_END) tops (λ top fits. omega arith) short;
+  };
+  leaves = named;
+}
+
+-- rounds that ended or were cut short are the outcome
+pub came_over : {D : Type 0} (faults : D → ℕ) (image : D → List ℕ → Type 0) (show : Show) (script : Script) (old new : List D) (old_sink new_sink : SinkSeen) (old_journal journal : Journal)
+    (ended : Result Ending RunFault) (outcome : Outcome) → HaveImages (length old) (leaves_of script.tops)
+    → IfOk ended (λ ending. HasRunOver faults image show script ending old new old_sink new_sink journal)
+    → IfErr ended (λ fault. WasCutOver faults image show script fault old new old_sink new_sink journal)
+    → MatchResult ended (λ ending. outcome ≡ Ended ending) (λ fault. outcome ≡ Cut fault)
+    → CameOutOver faults image show script old new old_sink new_sink old_journal journal outcome
+came_over faults image show script old new old_sink new_sink old_journal journal (Ok ending) outcome have ran cut is =
+    subst (λ (o : Outcome). CameOutOver faults image show script old new old_sink new_sink old_journal journal o) (sym is) (have, ran)
+came_over faults image show script old new old_sink new_sink old_journal journal (Err fault) outcome have ran cut is =
+    subst (λ (o : Outcome). CameOutOver faults image show script old new old_sink new_sink old_journal journal o) (sym is) (inl (have, cut))

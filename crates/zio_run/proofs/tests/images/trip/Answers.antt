@@ -1,9 +1,0 @@
-use Rattle.std.proofs.Common.{rules}
-use Rattle.zio_run.specs.Words.{AreImages}
-use Rattle.zio_run.proofs.ShelfLemmas.{AreOut-fetched}
-use Rattle.zio_run.proofs.tests.images.trip.Goals as goal
-
-pub give_back_images-requires-clause-home : goal.give_back_images-requires-clause-home
-give_back_images-requires-clause-home c κs tells =
-    let are : AreImages c.as_slice-2.result.now = search rules in
-    let fetched = c.in-Ok.ensures.told tells in (c.as_slice-2.result.now, fetched.images, AreOut-fetched _ _ _ _ _ _ _ _ are.names fetched)

@@ -26,8 +26,6 @@ mod rounds;
 mod runner;
 mod script;
 mod suspended;
-#[cfg(test)]
-mod tests;
 mod texts;
 mod told;
 mod waiting;

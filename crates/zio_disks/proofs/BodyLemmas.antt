@@ -1,5 +1,6 @@
 -- Bodies read one by one and joined.
-use Rattle.std.proofs.Common.{◌≡◌, ℕ, ◌-◌, ◌≤◌, List, [], ◌∷◌, ◌++◌, length, get_or, take, drop, true, Option, Result, Ok, Err, refl, sym, ap, subst, ◌∙◌, arith, append_assoc}
+use Rattle.std.proofs.Common.{◌≡◌, ℕ, ◌-◌, ◌≤◌, List, [], ◌∷◌, ◌++◌, length, get_or, slice_index_or, take, drop, true, Option, Result, Ok, Err, refl, sym, ap, subst, ◌∙◌, arith, append_assoc}
+use Rattle.std.specs.List.{AllByRecursion}
 use Rattle.zio_types.specs.declared.error.Errno.{Errno}
 use Rattle.zio_blkptr.specs.declared.pointer.Bp.{Bp}
 use Rattle.zio_blkptr.specs.Pointers.{places_of}
@@ -55,3 +56,8 @@ headers_bad s w (x ∷ xs) some e = ap (λ es. bodies_unless es s w) (sym e)
 pub headers_good : (s : Setting) (w : Walk) (errors : List (Option Errno)) → errors ≡ [] → w.errors ≡ errors
     → bodies_read (read_bodies s w.bodies w.images) ≡ after_walk s w
 headers_good s w errors none e = ap (λ es. bodies_unless es s w) (sym (e ∙ none))
+
+-- what all have the first has
+pub first_of : (P : Bp → Type 0) (xs : List Bp) (any : Bp) → 1 ≤ length xs → AllByRecursion P xs → P (slice_index_or xs 0 any)
+first_of P [] any some h = absurd (omega arith)
+first_of P (x ∷ xs) any some h = h.0

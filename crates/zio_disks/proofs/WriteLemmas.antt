@@ -148,7 +148,7 @@ pub whole_lies : (sizes : List ℕ) (len all : ℕ) (place : Place) (leaves : Li
 whole_lies sizes len all place [] e h = tt
 whole_lies sizes len all place (leaf ∷ leaves) e h = ((omega arith, h.0.1), whole_lies sizes len all place leaves e h.1)
 
-padded_write : (s : Setting) (retry : Bool) (spot : Spot) (bytes whole : List ℕ) (images : Images) → whole ≡ padded_to spot.span bytes → write_leaf s retry whole images spot ≡ write_leaf s retry bytes images spot
+pub padded_write : (s : Setting) (retry : Bool) (spot : Spot) (bytes whole : List ℕ) (images : Images) → whole ≡ padded_to spot.span bytes → write_leaf s retry whole images spot ≡ write_leaf s retry bytes images spot
 padded_write s retry spot bytes whole images e =
     ap (write_met (met s retry true spot) images spot)
     (ap (padded_to spot.span) e ∙ padded_whole spot.span (padded_to spot.span bytes) (length-padded_to spot.span bytes))

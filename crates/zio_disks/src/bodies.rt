@@ -54,7 +54,7 @@ pub(crate) fn blame(errors: &[Option<Errno>]) -> Errno
     worst_of(errors).unwrap_or(Errno::Nxio)
 }
 
-/// Reads these bodies of a block and joins them.
+/// Reads these bodies of a block and joins them. One alone is handed on as it was read.
 fn join_bodies<D: Disk>(
     alloc: Global,
     setting: &Setting,
@@ -71,6 +71,9 @@ fn join_bodies<D: Disk>(
     ensures length { IfOk result (λ found. IfOk found (λ bytes. length bytes ≡ bytes_of_all bodies.now)) }
     ensures handled { Handles D.bytes D.faults D.faults_at_fetch D.home D.image D.sound (spots_of setting.now (tree_places tree.now)) result disks.old disks.new }
 {
+    if let [bp] = bodies {
+        return read_body(alloc, setting, disks, tree, bp);
+    }
     let mut errors = List::new(alloc);
     let mut bytes = List::new(alloc);
     read_bodies(alloc, setting, disks, tree, bodies, &mut errors, &mut bytes)?;

@@ -163,6 +163,7 @@ pub(crate) fn write_leaf<D: Disk>(
     ensures told { IfOk result (λ error. (images : Images) → Tell D.image disks.old images →
         (error ≡ (write_leaf setting.now retry bytes.now images spot.now).error)
         × Tell D.image disks.new (write_leaf setting.now retry bytes.now images spot.now).images) }
+    ensures answer { IfOk result (λ error. (images : Images) → error ≡ (write_leaf setting.now retry bytes.now images spot.now).error) }
     ensures handled { Handles D.bytes D.faults D.faults_at_fetch D.home D.image D.sound (spot.now ∷ []) result disks.old disks.new }
 {
     match setting.hit(retry, true, spot) {
@@ -185,6 +186,7 @@ fn write_faulty<D: Disk>(
     ensures told { IfOk result (λ error. (images : Images) → Tell D.image disks.old images →
         (error ≡ (faulty_write hit.now.kind hit.now images spot.now bytes.now).error)
         × Tell D.image disks.new (faulty_write hit.now.kind hit.now images spot.now bytes.now).images) }
+    ensures answer { IfOk result (λ error. (images : Images) → error ≡ (faulty_write hit.now.kind hit.now images spot.now bytes.now).error) }
     ensures handled { Handles D.bytes D.faults D.faults_at_fetch D.home D.image D.sound (spot.now ∷ []) result disks.old disks.new }
 {
     match hit.kind {
@@ -218,6 +220,7 @@ fn store<D: Disk>(disks: &mut [D], bytes: &[u8], spot: &Spot) -> Result<Option<E
     requires lies { spot.now.at + length bytes.now ≤ slice_index_or (map D.bytes disks.old) spot.now.leaf 0 }
     ensures told { IfOk result (λ error. (images : Images) → Tell D.image disks.old images →
         (error ≡ None) × Tell D.image disks.new (with_bytes images spot.now bytes.now)) }
+    ensures answer { IfOk result (λ error. error ≡ None) }
     ensures handled { Handles D.bytes D.faults D.faults_at_fetch D.home D.image D.sound (spot.now ∷ []) result disks.old disks.new }
 {
     let leaf = spot.leaf as usize;

@@ -15,8 +15,6 @@ mod fitting;
 mod leaf;
 mod read;
 mod setting;
-#[cfg(test)]
-mod tests;
 mod trees;
 mod write;
 
@@ -26,4 +24,4 @@ pub use copies::GoodCopy;
 pub use read::read_block;
 pub use setting::{Setting, Stop};
 pub use trees::free_tree;
-pub use write::write_piece;
+pub use write::{write_copy, write_piece};

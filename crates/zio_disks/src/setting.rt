@@ -27,7 +27,7 @@ impl Model for Setting {
 
 impl Setting {
     /// The place's leaves, in the order of the top.
-    pub(crate) fn leaves(&self, place: &Place) -> &[u32]
+    pub fn leaves(&self, place: &Place) -> &[u32]
         ensures { result.now ≡ leaves_of self.now place.now }
     {
         match self.tops.as_slice().get(place.top as usize) {

@@ -1,13 +1,13 @@
 // What the writes of a place's leaves and of a piece come to.
 
-ghost use Rattle.std.specs.Prelude.{◌≡◌, ◌*◌, IfOk, List, ℕ, length, map};
+ghost use Rattle.std.specs.Prelude.{◌≡◌, ◌*◌, ◌∷◌, [], IfOk, List, ℕ, length, map};
 ghost use Rattle.std.specs.List.{AllByRecursion};
 ghost use Rattle.zio_types.specs.Places.{sector_size};
 ghost use Rattle.zio_faults.specs.Hits.{RowFits};
 ghost use Rattle.zio_cksum.specs.Blocks.{in_turn, place_written, spot_in, write_pass, write_piece};
 ghost use Rattle.zio_cksum.specs.Frames.{spots_of};
 ghost use Rattle.zio_cksum.specs.Images.{Images, write_leaf};
-ghost use Rattle.zio_disks.specs.Disks.{AreOnDisks, Handles, LieOn, Tell, both_failed};
+ghost use Rattle.zio_disks.specs.Disks.{AreOnDisks, Handles, Lies, LieOn, Tell, both_failed};
 
 use crate::leaf::{padded_to, span_of, spot_in, write_leaf};
 use crate::setting::{Setting, Stop};
@@ -36,6 +36,34 @@ pub fn write_piece<D: Disk>(
         None => Ok(None),
         Some(_) => write_pass(alloc, setting, disks, true, bytes, places),
     }
+}
+
+/// Writes the bytes once to one leaf of a place, and zeros behind them to the place's end. What it answers is the same
+/// whatever the disks hold.
+pub fn write_copy<D: Disk>(
+    alloc: Global,
+    setting: &Setting,
+    disks: &mut [D],
+    retry: bool,
+    bytes: &[u8],
+    place: &Place,
+    leaf: u32,
+) -> Result<Option<Errno>, Stop>
+    requires rows { AllByRecursion RowFits setting.now.rows }
+    requires lies { Lies (map D.bytes disks.old) (length bytes.now) (spot_in place.now leaf) }
+    ensures told { IfOk result (λ error. (images : Images) → Tell D.image disks.old images →
+        (error ≡ (write_leaf setting.now retry bytes.now images (spot_in place.now leaf)).error)
+        × Tell D.image disks.new (write_leaf setting.now retry bytes.now images (spot_in place.now leaf)).images) }
+    ensures answer { IfOk result (λ error. (images : Images) → error ≡ (write_leaf setting.now retry bytes.now images (spot_in place.now leaf)).error) }
+    ensures handled { Handles D.bytes D.faults D.faults_at_fetch D.home D.image D.sound (spot_in place.now leaf ∷ []) result disks.old disks.new }
+{
+    let span = span_of(place);
+    let spot = spot_in(disks, place, leaf);
+    if bytes.len() as u64 == span {
+        return write_leaf(alloc, setting, disks, retry, bytes, &spot);
+    }
+    let whole = padded_to(alloc, bytes, span)?;
+    write_leaf(alloc, setting, disks, retry, whole.as_slice(), &spot)
 }
 
 /// Writes the bytes once to each leaf of each place. The error is the worst of the places'.

@@ -24,10 +24,24 @@ pub(crate) fn content_of(alloc: Global, children: &[Kept], body: &Body) -> Resul
     ensures content { IfOk result (λ bytes. bytes ≡ content_of (pointers_in children.now) (body_of body.now)) }
     ensures size { IfOk result (λ bytes. length bytes ≡ rounded_up (body_len body.now + POINTER_SIZE * length children.now)) }
 {
-    let mut bytes = pointers_of(alloc, children)?;
-    let own = body_bytes(alloc, body)?;
-    bytes.extend_from_slice(own.as_slice())?;
+    let mut bytes = unpadded(alloc, children, body)?;
     pad(&mut bytes)?;
+    Ok(bytes)
+}
+
+/// The pointers of a write's children and the bytes of its body. Where there are no children the body's bytes are handed
+/// on as they were made.
+fn unpadded(alloc: Global, children: &[Kept], body: &Body) -> Result<Bytes, NoMemory>
+    requires { AllByRecursion HasPointer children.now }
+    ensures content { IfOk result (λ bytes. bytes ≡ flat_map member_bytes (pointers_in children.now) ++ body_of body.now) }
+    ensures size { IfOk result (λ bytes. length bytes ≡ body_len body.now + POINTER_SIZE * length children.now) }
+{
+    let own = body_bytes(alloc, body)?;
+    if children.is_empty() {
+        return Ok(own);
+    }
+    let mut bytes = pointers_of(alloc, children)?;
+    bytes.extend_from_slice(own.as_slice())?;
     Ok(bytes)
 }
 

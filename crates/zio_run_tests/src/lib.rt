@@ -1,10 +1,12 @@
-//! Tests of the top call over the objects in memory: reports and images that no clause spells out, each call of the
+//! Tests of the fold over a script, and of the top call over the objects in memory: reports and images that no clause spells out, each call of the
 //! outside that fails alone, and a disk that forgets.
 //!
 //! They stand here and not in `zio_run`, since a crate with tests of its own is proved once more with them. There is
 //! nothing else in it.
 #![tactic(auto)]
 
+#[cfg(test)]
+mod course;
 #[cfg(test)]
 mod failing;
 #[cfg(test)]

@@ -18,6 +18,8 @@ mod header_faults;
 #[cfg(test)]
 mod latches;
 #[cfg(test)]
+mod mirrors;
+#[cfg(test)]
 mod outside;
 #[cfg(test)]
 mod plans;

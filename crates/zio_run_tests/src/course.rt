@@ -1,5 +1,5 @@
-use crate::{Admission, Awaited, Bound, answered_ends, enter_round};
 use std::test::Fail;
+use zio_course::{Admission, Awaited, Bound, answered_ends, enter_round};
 use zio_script::{Item, Name, Request, Work};
 use zio_types::{Completion, Errno, Journal, List, Prio};
 

@@ -3,12 +3,12 @@ ghost use Rattle.std.specs.List.{AllByRecursion};
 ghost use Rattle.zio_faults.specs.Hits.{RowFits};
 ghost use Rattle.zio_outside.specs.Memory.{disk_image};
 
-use crate::{GoodCopy, Setting, read_block, write_piece};
 use std::alloc::Global;
 use std::process::Abort;
 use std::test::Fail;
 use zio_blkptr::{Bp, SumKind, is_valid};
 use zio_cksum::sum;
+use zio_disks::{GoodCopy, Setting, read_block, write_piece};
 use zio_faults::{FaultKind, On, Row, Table};
 use zio_outside::MemDisk;
 use zio_types::{Errno, List, Place, Top};

@@ -6,7 +6,7 @@ use Rattle.zio_trace.specs.Oracles.{Ways, Oracle, IsOracle, heard, asked_in, wei
 use Rattle.zio_trace.specs.Programs.{Program, Ends, Asks, ◌>>=◌}
 use Rattle.zio_trace.specs.Traces.{Mentions, Grounded, Bottom, Above, AsksOnly}
 
-weigh_append : {X : Type 0} (w : X → ℕ) (xs ys : List X) → weigh w (xs ++ ys) ≡ weigh w xs + weigh w ys
+pub weigh_append : {X : Type 0} (w : X → ℕ) (xs ys : List X) → weigh w (xs ++ ys) ≡ weigh w xs + weigh w ys
 weigh_append w [] ys = omega arith
 weigh_append w (x ∷ xs) ys = let e : weigh w (xs ++ ys) ≡ weigh w xs + weigh w ys = weigh_append w xs ys in omega arith
 

@@ -46,7 +46,7 @@ no_back (a ∷ at) n xs (inl h) = omega arith
 no_back (a ∷ at) n xs (inr h) = no_back at n xs h.1
 
 -- a part's place in another is in the whole's, or the whole is that
-part_in : (at xs : List ℕ) (n m : ℕ) (below : List ℕ) → at ++ n ∷ [] ≡ xs ++ m ∷ below → ((rest : List ℕ) × IsIn xs m rest at) ⊎ ((at ≡ xs) × (n ≡ m))
+pub part_in : (at xs : List ℕ) (n m : ℕ) (below : List ℕ) → at ++ n ∷ [] ≡ xs ++ m ∷ below → ((rest : List ℕ) × IsIn xs m rest at) ⊎ ((at ≡ xs) × (n ≡ m))
 part_in [] [] n m below h = let e : n ≡ m = cc in inr (refl, e)
 part_in [] (x ∷ []) n m below h = absurd (cc)
 part_in [] (x ∷ y ∷ xs) n m below h = absurd (cc)
@@ -59,12 +59,12 @@ part_in (a ∷ at) (x ∷ xs) n m below h =
     (λ (k : (at ≡ xs) × (n ≡ m)). inr ((λ i. e i ∷ k.0 i), k.1))
     (part_in at xs n m below f)
 
-no_longer : (at : List ℕ) (n : ℕ) (xs : List ℕ) → at ≡ at ++ n ∷ xs → ⊥
+pub no_longer : (at : List ℕ) (n : ℕ) (xs : List ℕ) → at ≡ at ++ n ∷ xs → ⊥
 no_longer at n xs h = let e : length at ≡ length (at ++ n ∷ xs) = ap length h in omega (arith, e, length-append at (n ∷ xs))
 
 -- ---- pairs
 
-row : {X : Type 0} (R : X → X → Type 0) (a : X) (xs ys : List X) → AllByRecursion (λ (y : X). AllByRecursion (R y) (a ∷ xs)) ys → AllByRecursion (λ (y : X). R y a) ys × AllByRecursion (λ (y : X). AllByRecursion (R y) xs) ys
+pub row : {X : Type 0} (R : X → X → Type 0) (a : X) (xs ys : List X) → AllByRecursion (λ (y : X). AllByRecursion (R y) (a ∷ xs)) ys → AllByRecursion (λ (y : X). R y a) ys × AllByRecursion (λ (y : X). AllByRecursion (R y) xs) ys
 row R a xs [] h = (tt, tt)
 row R a xs (y ∷ ys) h = let k = row R a xs ys h.1 in ((h.0.0, k.0), (h.0.1, k.1))
 
@@ -72,7 +72,7 @@ column : {X : Type 0} (R : X → X → Type 0) (a : X) (xs ys : List X) → AllB
 column R a xs [] h k = tt
 column R a xs (y ∷ ys) h k = ((h.0, k.0), column R a xs ys h.1 k.1)
 
-pairs_cons : {X : Type 0} (R : X → X → Type 0) (a : X) (xs : List X) → R a a → AllByRecursion (R a) xs → AllByRecursion (λ (y : X). R y a) xs → AllPairs R xs → AllPairs R (a ∷ xs)
+pub pairs_cons : {X : Type 0} (R : X → X → Type 0) (a : X) (xs : List X) → R a a → AllByRecursion (R a) xs → AllByRecursion (λ (y : X). R y a) xs → AllPairs R xs → AllPairs R (a ∷ xs)
 pairs_cons R a xs self out into h = ((self, out), column R a xs xs into h)
 
 all_and : {X : Type 0} (P Q S : X → Type 0) (xs : List X) → ((x : X) → P x → Q x → S x) → AllByRecursion P xs → AllByRecursion Q xs → AllByRecursion S xs
@@ -94,19 +94,19 @@ module _ {Op Ans : Type 0} (r : Reach Op) where
   }
 
   -- a node that is one operation does it: it stands in order, and the others stay clear
-  pub clear_of : (ds : List (Deed (Labelled Op) Ans)) (s : Seat Op) (seats : List (Seat Op)) → Clear ds (s ∷ seats) → r.Stays s.op.op s.op.op → AllByRecursion (λ (e : Deed (Labelled Op) Ans). Earlier s.op e.op → r.Apart e.op.op s.op.op) ds
-  clear_of ds s seats h own = all_weaker (λ (e : Deed (Labelled Op) Ans). Earlier s.op e.op → Away r s.op.op e.op.op) (λ (e : Deed (Labelled Op) Ans). Earlier s.op e.op → r.Apart e.op.op s.op.op) ds (λ e k l. k l s.op.op own) h.clear.0
+  pub clear_of : (ds : List (Deed (Labelled Op) Ans)) (s : Seat Op) (seats : List (Seat Op)) → Clear ds (s ∷ seats) → r.Stays s.op s.op → AllByRecursion (λ (e : Deed (Labelled Op) Ans). Earlier s.op e.op → r.Passes e.op s.op) ds
+  clear_of ds s seats h own = all_weaker (λ (e : Deed (Labelled Op) Ans). Earlier s.op e.op → Away r s.op e.op) (λ (e : Deed (Labelled Op) Ans). Earlier s.op e.op → r.Passes e.op s.op) ds (λ e k l. k l s.op own) h.clear.0
 
-  pub clear_does : (ds : List (Deed (Labelled Op) Ans)) (s : Seat Op) (v : Ans) (seats : List (Seat Op)) → Clear ds (s ∷ seats) → r.Stays s.op.op s.op.op → Clear (ds ++ record { op = s.op; answer = v } ∷ []) (s ∷ seats)
+  pub clear_does : (ds : List (Deed (Labelled Op) Ans)) (s : Seat Op) (v : Ans) (seats : List (Seat Op)) → Clear ds (s ∷ seats) → r.Stays s.op s.op → Clear (ds ++ record { op = s.op; answer = v } ∷ []) (s ∷ seats)
   clear_does ds s v seats h own =
       let d : Deed (Labelled Op) Ans = record { op = s.op; answer = v } in
       let free = row (FreeOf r) s seats seats h.free.1 in
       let flying = row (λ (s q : Seat Op). Holds s q.op.at) s seats seats h.flying.1 in
       record {
         clear = (
-          all_append (λ (e : Deed (Labelled Op) Ans). Earlier s.op e.op → Away r s.op.op e.op.op) ds (d ∷ []) h.clear.0 ((λ k. absurd (below_itself s.op.at k)), tt),
-          all_and (λ (q : Seat Op). AllByRecursion (λ (e : Deed (Labelled Op) Ans). Earlier q.op e.op → Away r q.op.op e.op.op) ds) (λ (q : Seat Op). FreeOf r q s) (λ (q : Seat Op). AllByRecursion (λ (e : Deed (Labelled Op) Ans). Earlier q.op e.op → Away r q.op.op e.op.op) (ds ++ d ∷ [])) seats
-              (λ q old f. all_append (λ (e : Deed (Labelled Op) Ans). Earlier q.op e.op → Away r q.op.op e.op.op) ds (d ∷ []) old ((λ k. f k s.op.op own), tt)) h.clear.1 free.0,
+          all_append (λ (e : Deed (Labelled Op) Ans). Earlier s.op e.op → Away r s.op e.op) ds (d ∷ []) h.clear.0 ((λ k. absurd (below_itself s.op.at k)), tt),
+          all_and (λ (q : Seat Op). AllByRecursion (λ (e : Deed (Labelled Op) Ans). Earlier q.op e.op → Away r q.op e.op) ds) (λ (q : Seat Op). FreeOf r q s) (λ (q : Seat Op). AllByRecursion (λ (e : Deed (Labelled Op) Ans). Earlier q.op e.op → Away r q.op e.op) (ds ++ d ∷ [])) seats
+              (λ q old f. all_append (λ (e : Deed (Labelled Op) Ans). Earlier q.op e.op → Away r q.op e.op) ds (d ∷ []) old ((λ k. f k s.op own), tt)) h.clear.1 free.0,
         );
         done = (
           all_append (λ (e : Deed (Labelled Op) Ans). Holds s e.op.at) ds (d ∷ []) h.done.0 (h.flying.0.0, tt),
@@ -120,8 +120,8 @@ module _ {Op Ans : Type 0} (r : Reach Op) where
 
   -- A node hands out its next operation, which stays within its own, and is free of all in flight within it.
   pub clear_grows : (ds : List (Deed (Labelled Op) Ans)) (s : Seat Op) (op : Op) (seats : List (Seat Op)) → Clear ds (s ∷ seats)
-      → ((b : Op) → r.Stays op b → r.Stays s.op.op b)
-      → AllByRecursion (λ (q : Seat Op). (n : ℕ) (below : List ℕ) → IsIn s.op.at n below q.op.at → Free r q.op.op op) seats
+      → ((b : Labelled Op) → r.Stays (record { at = s.op.at ++ s.next ∷ []; op = op }) b → r.Stays s.op b)
+      → AllByRecursion (λ (q : Seat Op). (n : ℕ) (below : List ℕ) → IsIn s.op.at n below q.op.at → Free r q.op (record { at = s.op.at ++ s.next ∷ []; op = op })) seats
       → Clear ds (record { op = record { at = s.op.at ++ s.next ∷ []; op = op }; next = 0 } ∷ record { op = s.op; next = suc s.next } ∷ seats)
   clear_grows ds s op seats h stays within =
       let at : List ℕ = s.op.at ++ s.next ∷ [] in
@@ -129,7 +129,7 @@ module _ {Op Ans : Type 0} (r : Reach Op) where
       let new : Seat Op = record { op = s.op; next = suc s.next } in
       let free = row (FreeOf r) s seats seats h.free.1 in
       let flying = row (λ (s q : Seat Op). Holds s q.op.at) s seats seats h.flying.1 in
-      let narrower : (d : Op) → Away r s.op.op d → Away r op d = λ d k b l. k b (stays b l) in
+      let narrower : (d : Labelled Op) → Away r s.op d → Away r c.op d = λ d k b l. k b (stays b l) in
       let more : (x : List ℕ) → Holds s x → Holds new x = λ x k n below i. let l : n < s.next = k n below i in omega arith in
       let none : (x : List ℕ) → Holds s x → Holds c x = λ x k n below i. let l : s.next < s.next = k s.next (n ∷ below) (i ∙ append_assoc s.op.at (s.next ∷ []) (n ∷ below)) in absurd (omega arith) in
       let behind : (x : List ℕ) → Holds s x → Below at x → Below s.op.at x = λ x k l.
@@ -137,8 +137,8 @@ module _ {Op Ans : Type 0} (r : Reach Op) where
       let place : s.op.at ≡ at → ⊥ = λ e. no_longer s.op.at s.next [] e in
       record {
         clear = (
-          all_and (λ (e : Deed (Labelled Op) Ans). Earlier s.op e.op → Away r s.op.op e.op.op) (λ (e : Deed (Labelled Op) Ans). Holds s e.op.at) (λ (e : Deed (Labelled Op) Ans). Below at e.op.at → Away r op e.op.op) ds
-              (λ e k l b. narrower e.op.op (k (behind e.op.at l b))) h.clear.0 h.done.0,
+          all_and (λ (e : Deed (Labelled Op) Ans). Earlier s.op e.op → Away r s.op e.op) (λ (e : Deed (Labelled Op) Ans). Holds s e.op.at) (λ (e : Deed (Labelled Op) Ans). Below at e.op.at → Away r c.op e.op) ds
+              (λ e k l b. narrower e.op (k (behind e.op.at l b))) h.clear.0 h.done.0,
           h.clear,
         );
         done = (
@@ -149,7 +149,7 @@ module _ {Op Ans : Type 0} (r : Reach Op) where
             (λ k. absurd (below_itself at k))
             ((λ k. absurd (no_back s.op.at s.next [] k)), all_and (FreeOf r s) (λ (q : Seat Op). Holds s q.op.at) (FreeOf r c) seats (λ q f k l d m. narrower d (f (behind q.op.at k l) d m)) h.free.0.1 h.flying.0.1) (
               (λ k. absurd (no_front s.op.at s.next [] k)),
-              all_and (λ (q : Seat Op). FreeOf r q s) (λ (q : Seat Op). (n : ℕ) (below : List ℕ) → IsIn s.op.at n below q.op.at → Free r q.op.op op) (λ (q : Seat Op). FreeOf r q c) seats
+              all_and (λ (q : Seat Op). FreeOf r q s) (λ (q : Seat Op). (n : ℕ) (below : List ℕ) → IsIn s.op.at n below q.op.at → Free r q.op (record { at = s.op.at ++ s.next ∷ []; op = op })) (λ (q : Seat Op). FreeOf r q c) seats
                   (λ q f w l. ⊎_elim (λ (b : Below q.op.at s.op.at). λ d m. f b d (stays d m)) (λ (b : (m : ℕ) × (below : List ℕ) × IsIn s.op.at m below q.op.at). w b.0 b.1 b.2) (before_part q.op.at s.op.at s.next l)) free.0 within,
             )
             (pairs_cons (FreeOf r) new seats h.free.0.0 h.free.0.1 free.0 free.1);

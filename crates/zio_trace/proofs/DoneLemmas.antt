@@ -5,7 +5,7 @@ use Rattle.zio_cksum.specs.Images.{Images}
 use Rattle.zio_cksum.proofs.AllLemmas.{all_append, all_contained, all_contains, all_weaker}
 use Rattle.zio_trace.specs.Footprints.{Stays}
 use Rattle.zio_trace.specs.Labels.{Labelled, labelled, ways_at, means_at, Earlier, same_place}
-use Rattle.zio_trace.specs.Oracles.{Ways, Oracle, IsOracle, asked_in, Agrees, ops_of, AreOnce, Ascends, deeds_as, Shuffled, weigh}
+use Rattle.zio_trace.specs.Oracles.{Ways, Oracle, IsOracle, asked_in, Agrees, ops_of, AreOnce, Ascends, IsTest, deeds_as, Shuffled, weigh}
 use Rattle.zio_trace.specs.Orders.{Commute}
 use Rattle.zio_trace.specs.Programs.{Meaning, Program, run, Deed, Happen, asks_of, Ends, Asks}
 use Rattle.zio_trace.specs.Rules.{Rules, AreLawful, IsDone}
@@ -16,7 +16,7 @@ use Rattle.zio_trace.proofs.OracleExists.{oracle_is, oracle_of, answer_in, oracl
 use Rattle.zio_trace.proofs.OracleLemmas.{program_gave, op_gave}
 use Rattle.zio_trace.proofs.ListLemmas.{contains_first, contains_later}
 
-all_ops : {Op Ans : Type 0} (P : Op → Type 0) (ds : List (Deed Op Ans)) → AllByRecursion P (ops_of ds) → AllByRecursion (λ (d : Deed Op Ans). P d.op) ds
+pub all_ops : {Op Ans : Type 0} (P : Op → Type 0) (ds : List (Deed Op Ans)) → AllByRecursion P (ops_of ds) → AllByRecursion (λ (d : Deed Op Ans). P d.op) ds
 all_ops P [] h = tt
 all_ops P (d ∷ ds) h = (h.0, all_ops P ds h.1)
 
@@ -40,12 +40,12 @@ some_oracle {Op} {Ans} r l ds other once single fit =
 
 -- ---- what an oracle asks is single operations
 
-program_singles : {Op Ans A : Type 0} (single : Op → Bool) (o : Oracle Op Ans) (p : Program Op Ans A) → ((q : Op) → Mentions p q → AllByRecursion (λ (x : Op). single x ≡ true) (o.asked q)) → AllByRecursion (λ (x : Op). single x ≡ true) (asked_in o p)
+pub program_singles : {Op Ans A : Type 0} (single : Op → Bool) (o : Oracle Op Ans) (p : Program Op Ans A) → ((q : Op) → Mentions p q → AllByRecursion (λ (x : Op). single x ≡ true) (o.asked q)) → AllByRecursion (λ (x : Op). single x ≡ true) (asked_in o p)
 program_singles single o (Ends a) h = tt
 program_singles {Op} single o (Asks op more) h =
     all_append (λ (x : Op). single x ≡ true) (o.asked op) (asked_in o (more (o.answer op))) (h op (inl refl)) (program_singles single o (more (o.answer op)) (λ q m. h q (inr (o.answer op, m))))
 
-op_singles : {Op Ans : Type 0} (ways : Ways Op Ans) (o : Oracle Op Ans) → IsOracle ways o → (op : Op) → Grounded ways.plan ways.single op → AllByRecursion (λ (x : Op). ways.single x ≡ true) (o.asked op)
+pub op_singles : {Op Ans : Type 0} (ways : Ways Op Ans) (o : Oracle Op Ans) → IsOracle ways o → (op : Op) → Grounded ways.plan ways.single op → AllByRecursion (λ (x : Op). ways.single x ≡ true) (o.asked op)
 op_singles {Op} ways o is op (Bottom e) = subst (AllByRecursion (λ (x : Op). ways.single x ≡ true)) (sym (is.itself op e)) (e, tt)
 op_singles {Op} ways o is op (Above e below) =
     subst (AllByRecursion (λ (x : Op). ways.single x ≡ true)) (sym (is.asked op e))
@@ -68,6 +68,20 @@ listed_if false x y ys h k n = contains_later y ys x (k (omega arith))
 listed : {Op : Type 0} (x : Labelled Op) (ys : List (Labelled Op)) → AllByRecursion (λ (y : Labelled Op). same_place x y ≡ true → y ≡ x) ys → 1 ≤ weigh (λ (z : Labelled Op). bit (same_place x z)) ys → Contains ys x
 listed x [] h n = absurd (omega arith)
 listed x (y ∷ ys) h n = listed_if (same_place x y) x y ys h.0 (listed x ys h.1) n
+
+-- what is asked was done
+pub asked_back : {Op Ans : Type 0} (ops : List (Labelled Op)) (ds : List (Deed (Labelled Op) Ans)) → IsTest same_place (Contains ops) → Shuffled ops (ops_of ds) → AllByRecursion (Contains ops) (ops_of ds) → AllByRecursion (Contains (ops_of ds)) ops
+asked_back {Op} ops ds test all within =
+    all_weaker (Contains ops) (Contains (ops_of ds)) ops
+    (λ x c.
+    let w : Labelled Op → ℕ = λ z. bit (same_place x z) in
+    let some : w x ≤ weigh w ops = all_contains (λ (y : Labelled Op). w y ≤ weigh w ops) ops x (heavy w ops) c in
+    let one : w x ≡ 1 = ap (λ (b : Bool). bit b) (same_itself x) in
+    let as_often : weigh w ops ≡ weigh w (ops_of ds) = all w in
+    listed x (ops_of ds)
+    (all_weaker (Contains ops) (λ (y : Labelled Op). same_place x y ≡ true → y ≡ x) (ops_of ds) (λ y k e. sym (test.is x y c k e)) within)
+    (omega arith))
+    (all_contained ops)
 
 -- alone, the program asks as often for what was done, and gives this value and these images
 pub record IsAlone {Op Ans A : Type 0} (r : Rules Op Ans) (p : Program Op Ans A) (ds : List (Deed (Labelled Op) Ans)) (value : A) (before after : Images) : Type 0 where
@@ -111,17 +125,7 @@ done_alone {Op} {Ans} {A} r l p ds value before after done sound happen =
       ops = ops;
       all = done.all o is agrees;
       within = done.within o is agrees;
-      back =
-          all_weaker (Contains ops) (Contains (ops_of ds)) ops
-          (λ x c.
-          let w : Labelled Op → ℕ = λ z. bit (same_place x z) in
-          let some : w x ≤ weigh w ops = all_contains (λ (y : Labelled Op). w y ≤ weigh w ops) ops x (heavy w ops) c in
-          let one : w x ≡ 1 = ap (λ (b : Bool). bit b) (same_itself x) in
-          let as_often : weigh w ops ≡ weigh w (ops_of ds) = done.all o is agrees w in
-          listed x (ops_of ds)
-          (all_weaker (Contains ops) (λ (y : Labelled Op). same_place x y ≡ true → y ≡ x) (ops_of ds) (λ y k e. sym (test.is x y c k e)) (done.within o is agrees))
-          (omega arith))
-          (all_contained ops);
+      back = asked_back ops ds test (done.all o is agrees) (done.within o is agrees);
       single = program_singles ways.single o round (λ q m. op_singles ways o is q (ground q));
       gives =
           sym (labelled_run r.means [] 0 p before) ∙ gives

@@ -52,7 +52,7 @@ roots_under j t attempt u (TreeOf p kids others) images h =
 -- ---- the flat list
 
 -- nothing was handed to these before
-abbrev Fresh : List Return → List Pending → Type 0
+abbrev pub Fresh : List Return → List Pending → Type 0
 Fresh rs ps = AllByRecursion (λ (q : Pending). handed_to q.request.number rs ≡ []) ps
 
 -- what a root leaves, as part of the list and as part of the trees
@@ -65,12 +65,32 @@ added_returns before returns k one o i = record {
   images = o.images;
 }
 
-record FlatRun (j : List Choice) (t : Terms) (attempt : ℕ) (f : Forest) (rs : List Return) (images : Images) : Type 0 where
-  returns : List Return
-  is : attempt_each j t attempt (flat f) rs images ≡ attempted_as returns (attempt_forest j t attempt f images)
-  handed : (n : ℕ) → NotIn n (flat f) → handed_to n returns ≡ handed_to n (attempt_forest j t attempt f images).returns ++ handed_to n rs
+pub record FlatRun (j : List Choice) (t : Terms) (attempt : ℕ) (f : Forest) (rs : List Return) (images : Images) : Type 0 where
+  pub returns : List Return
+  pub is : attempt_each j t attempt (flat f) rs images ≡ attempted_as returns (attempt_forest j t attempt f images)
+  pub handed : (n : ℕ) → NotIn n (flat f) → handed_to n returns ≡ handed_to n (attempt_forest j t attempt f images).returns ++ handed_to n rs
 
-flat_run : (j : List Choice) (t : Terms) (attempt : ℕ) (u : Option ℕ) (f : Forest) (rs : List Return) (images : Images) → AreUnder u f → Fresh rs (flat f) → FlatRun j t attempt f rs images
+-- a root hears what its children's trees handed on
+pub root_hears : (j : List Choice) (t : Terms) (attempt own : ℕ) (kids : Forest) (rs : List Return) (images : Images) (k : FlatRun j t attempt kids rs images) → AreUnder (Some own) kids → NotIn own (flat kids) → handed_to own rs ≡ [] → handed_to own k.returns ≡ (attempt_forest j t attempt kids images).returns
+root_hears j t attempt own kids rs images k under notin none =
+    let g : Grown = attempt_forest j t attempt kids images in
+    k.handed own notin ∙ ap (λ (xs : List Return). xs ++ handed_to own rs) (kept_all own g.returns (roots_under j t attempt (Some own) kids images under))
+    ∙ ap (λ (xs : List Return). g.returns ++ xs) none ∙ append-nil g.returns
+
+-- and others don't
+others_hear : (j : List Choice) (t : Terms) (attempt own : ℕ) (kids : Forest) (rs : List Return) (images : Images) (k : FlatRun j t attempt kids rs images) → AreUnder (Some own) kids → (n : ℕ) → own ≢ n → NotIn n (flat kids) → handed_to n k.returns ≡ handed_to n rs
+others_hear j t attempt own kids rs images k under n ne notin =
+    let g : Grown = attempt_forest j t attempt kids images in
+    k.handed n notin ∙ ap (λ (xs : List Return). xs ++ handed_to n rs) (kept_none n (Some own) g.returns (roots_under j t attempt (Some own) kids images under) (λ e. ne (cc)))
+
+pub fresh_behind : (j : List Choice) (t : Terms) (attempt : ℕ) (u : Option ℕ) (p : Pending) (kids others : Forest) (rs : List Return) (images : Images) (k : FlatRun j t attempt kids rs images) → AreUnder u (TreeOf p kids others) → Fresh rs (flat others)
+    → Fresh ((attempt_root j t attempt p kids images).return ∷ k.returns) (flat others)
+fresh_behind j t attempt u p kids others rs images k h fresh =
+    let one : Return = (attempt_root j t attempt p kids images).return in
+    all_lists _ (λ (q : Pending). handed_to q.request.number rs ≡ []) (λ (q : Pending). handed_to q.request.number (one ∷ k.returns) ≡ []) (flat others)
+    (λ q apart none. passed_over q.request.number one k.returns u (one_under j t attempt p (attempt_forest j t attempt kids images).returns (attempt_forest j t attempt kids images).images ∙ h.0) apart.0 ∙ others_hear j t attempt p.request.number kids rs images k h.1 q.request.number apart.1 apart.2 ∙ none) h.4 fresh
+
+pub flat_run : (j : List Choice) (t : Terms) (attempt : ℕ) (u : Option ℕ) (f : Forest) (rs : List Return) (images : Images) → AreUnder u f → Fresh rs (flat f) → FlatRun j t attempt f rs images
 unfolding attempt_each
 flat_run j t attempt u NoTrees rs images h fresh = record { returns = rs; is = refl; handed = λ n notin. refl }
 flat_run j t attempt u (TreeOf p kids others) rs images h fresh =
@@ -78,18 +98,10 @@ flat_run j t attempt u (TreeOf p kids others) rs images h fresh =
     let k : FlatRun j t attempt kids rs images = flat_run j t attempt (Some own) kids rs images h.1 (all_front (λ (q : Pending). handed_to q.request.number rs ≡ []) (flat kids) (p ∷ flat others) fresh) in
     let rest : Fresh rs (p ∷ flat others) = all_rest (λ (q : Pending). handed_to q.request.number rs ≡ []) (flat kids) (p ∷ flat others) fresh in
     let g : Grown = attempt_forest j t attempt kids images in
-    let under : AllByRecursion (λ (r : Return). r.under ≡ Some own) g.returns = roots_under j t attempt (Some own) kids images h.1 in
-    let hear : handed_to own k.returns ≡ g.returns =
-    k.handed own h.3 ∙ ap (λ (xs : List Return). xs ++ handed_to own rs) (kept_all own g.returns under)
-    ∙ ap (λ (xs : List Return). g.returns ++ xs) rest.0 ∙ append-nil g.returns in
+    let hear : handed_to own k.returns ≡ g.returns = root_hears j t attempt own kids rs images k h.1 h.3 rest.0 in
     let one : Attempted = attempt_with j t attempt p g.returns g.images in
-    let one_is : one.return.under ≡ u = one_under j t attempt p g.returns g.images ∙ h.0 in
-    let past : (n : ℕ) → own ≢ n → NotIn n (flat kids) → handed_to n k.returns ≡ handed_to n rs =
-    λ n ne notin. k.handed n notin ∙ ap (λ (xs : List Return). xs ++ handed_to n rs) (kept_none n (Some own) g.returns under (λ e. ne (cc))) in
     let o : FlatRun j t attempt others (one.return ∷ k.returns) one.images =
-    flat_run j t attempt u others (one.return ∷ k.returns) one.images h.2
-    (all_lists _ (λ (q : Pending). handed_to q.request.number rs ≡ []) (λ (q : Pending). handed_to q.request.number (one.return ∷ k.returns) ≡ []) (flat others)
-    (λ q apart none. passed_over q.request.number one.return k.returns u one_is apart.0 ∙ past q.request.number apart.1 apart.2 ∙ none) h.4 rest.1) in
+    flat_run j t attempt u others (one.return ∷ k.returns) one.images h.2 (fresh_behind j t attempt u p kids others rs images k h rest.1) in
     let e : Grown = attempt_forest j t attempt others one.images in
     record {
       returns = o.returns;
@@ -103,12 +115,12 @@ flat_run j t attempt u (TreeOf p kids others) rs images h fresh =
           let back : NotIn n (p ∷ flat others) = all_rest (λ (q : Pending). q.request.number ≢ n) (flat kids) (p ∷ flat others) notin in
           let front : NotIn n (flat kids) = all_front (λ (q : Pending). q.request.number ≢ n) (flat kids) (p ∷ flat others) notin in
           o.handed n back.1
-          ∙ ap (λ (xs : List Return). handed_to n e.returns ++ xs) (filter-append (λ (r : Return). is_under_number r.under n) (one.return ∷ []) k.returns ∙ ap (λ (xs : List Return). handed_to n (one.return ∷ []) ++ xs) (past n back.0 front))
+          ∙ ap (λ (xs : List Return). handed_to n e.returns ++ xs) (filter-append (λ (r : Return). is_under_number r.under n) (one.return ∷ []) k.returns ∙ ap (λ (xs : List Return). handed_to n (one.return ∷ []) ++ xs) (others_hear j t attempt own kids rs images k h.1 n back.0 front))
           ∙ sym (append_assoc (handed_to n e.returns) (handed_to n (one.return ∷ [])) (handed_to n rs))
           ∙ ap (λ (xs : List Return). xs ++ handed_to n rs) (sym (filter-append (λ (r : Return). is_under_number r.under n) e.returns (one.return ∷ [])));
     }
 
-nothing_handed : (ps : List Pending) → Fresh [] ps
+pub nothing_handed : (ps : List Pending) → Fresh [] ps
 nothing_handed [] = tt
 nothing_handed (p ∷ ps) = (refl, nothing_handed ps)
 

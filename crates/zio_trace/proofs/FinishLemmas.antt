@@ -11,7 +11,7 @@ use Rattle.zio_trace.proofs.LabelLemmas.{asked_ascend}
 use Rattle.zio_trace.proofs.StepLemmas.{behind_none}
 use Rattle.zio_trace.proofs.OnceLemmas.{here, at_most_once, none_done, once_more, order_more, here_itself}
 use Rattle.zio_trace.proofs.DoneLemmas.{some_oracle}
-use Rattle.zio_trace.specs.Rules.{Rules, AreLawful, IsDone}
+use Rattle.zio_trace.specs.Rules.{Rules, AreLawful, IsDoneBy}
 
 ops_append : {Op Ans : Type 0} (ds es : List (Deed Op Ans)) → ops_of (ds ++ es) ≡ ops_of ds ++ ops_of es
 ops_append [] es = refl
@@ -29,14 +29,14 @@ all_back : {X : Type 0} (P : X → Type 0) (xs ys : List X) → AllByRecursion P
 all_back P [] ys h = h
 all_back P (x ∷ xs) ys h = all_back P xs ys h.1
 
-module _ {Op Ans A : Type 0} (r : Rules Op Ans) (l : AreLawful r) (p : Program Op Ans A) where
+module _ {Op Ans A : Type 0} (r : Rules Op Ans) (l : AreLawful r) (Passes : Labelled Op → Labelled Op → Type 0) (p : Program Op Ans A) where
   abbrev Going : List (Deed (Labelled Op) Ans) → List (Slot Op Ans) → Program (Labelled Op) Ans A → ℕ → Type 0
-  Going = IsGoing r.ways r.Apart r.Lies r.mend p
+  Going = IsGoing r.ways Passes r.Lies r.mend p
 
   -- A node does an operation at once, of which nothing else that is out knows. It wasn't done before.
   pub going_does : (ds : List (Deed (Labelled Op) Ans)) (s : Slot Op Ans) (slots : List (Slot Op Ans)) (root : Program (Labelled Op) Ans A) (outs : ℕ) (x : Labelled Op) (more : Ans → Program (Labelled Op) Ans Ans) (v : Ans)
       → Going ds (s ∷ slots) root outs → s.outs ≡ 0 → s.rest ≡ Asks x more → r.ways.single x.op ≡ true → r.Lies x.op → r.mend x.op v ≡ v
-      → AllByRecursion (λ (e : Deed (Labelled Op) Ans). Earlier x e.op → r.Apart e.op.op x.op) ds
+      → AllByRecursion (λ (e : Deed (Labelled Op) Ans). Earlier x e.op → Passes e.op x) ds
       → Going (ds ++ record { op = x; answer = v } ∷ []) (record s { rest = more v } ∷ slots) root outs
   going_does ds s slots root outs x more v h none rest single lies fit clear =
       let d : Deed (Labelled Op) Ans = record { op = x; answer = v } in
@@ -78,12 +78,12 @@ module _ {Op Ans A : Type 0} (r : Rules Op Ans) (l : AreLawful r) (p : Program O
         once = once_more d ds h.once not_done;
         single = all_append (λ (e : Deed (Labelled Op) Ans). r.ways.single e.op.op ≡ true) ds (d ∷ []) h.single (single, tt);
         fit = all_append (λ (e : Deed (Labelled Op) Ans). r.mend e.op.op e.answer ≡ e.answer) ds (d ∷ []) h.fit (fit, tt);
-        order = order_more Earlier (λ y z. r.Apart y.op z.op) d ds h.order clear;
+        order = order_more Earlier Passes d ds h.order clear;
         lies = all_append (λ (e : Deed (Labelled Op) Ans). r.Lies e.op.op) ds (d ∷ []) h.lies (lies, tt);
       }
 
   -- nothing is in flight, and the round's program has ended
-  pub going_ends : (ds : List (Deed (Labelled Op) Ans)) (value : A) (outs : ℕ) → Going ds [] (Ends value) outs → IsDone r p ds value
+  pub going_ends : (ds : List (Deed (Labelled Op) Ans)) (value : A) (outs : ℕ) → Going ds [] (Ends value) outs → IsDoneBy r Passes p ds value
   going_ends ds value outs h = record {
     known = λ o is agrees. sym (h.ends o is agrees);
     all = λ o is agrees w. let e : weigh w (asked_in o (labelled [] 0 p)) ≡ weigh w (ops_of ds) + (0 + 0) = h.todo o is agrees w in omega arith;

@@ -9,9 +9,9 @@ use Rattle.zio_trace.specs.Labels.{Labelled, labelled, ways_at}
 use Rattle.zio_trace.specs.Going.{nth_asked, asked_behind, Slot, todo_of, Knows, IsFresh, AskedWithin, weigh_slots, IsGoing}
 use Rattle.zio_trace.proofs.StepLemmas.{behind_none, behind_next, heard_answered, behind_answered}
 
-module _ {Op Ans A : Type 0} (ways : Ways Op Ans) (Apart : Op → Op → Type 0) (Lies : Op → Type 0) (mend : Op → Ans → Ans) (p : Program Op Ans A) where
+module _ {Op Ans A : Type 0} (ways : Ways Op Ans) (Passes : Labelled Op → Labelled Op → Type 0) (Lies : Op → Type 0) (mend : Op → Ans → Ans) (p : Program Op Ans A) where
   abbrev Going : List (Deed (Labelled Op) Ans) → List (Slot Op Ans) → Program (Labelled Op) Ans A → ℕ → Type 0
-  Going = IsGoing ways Apart Lies mend p
+  Going = IsGoing ways Passes Lies mend p
 
   front : (P : Labelled Op → Type 0) (xs ys : List (Labelled Op)) → AllByRecursion P (xs ++ ys) → AllByRecursion P xs
   front P [] ys h = tt

@@ -27,9 +27,10 @@ use Rattle.zio_trace.specs.Labels.{same_number, same_at}
 use Rattle.zio_trace.specs.Leaves.{LeafOp, Answer}
 use Rattle.zio_trace.specs.Plans.{TaskPlan, Kids, bare, by_leaves, plan_members, plan_gang, plan_gang_unless, plan_body, plan_part, plan_write, head_task, plan_below, plan_found, plan_pointer, plan_bodies, plan_after, plan_tree, plan_read, plan_free, plan_taken, plan_claim, plan_own, plan_kids, plan_root, plan_left, plan_again, plan_settle, plan}
 use Rattle.zio_trace.specs.Programs.{Program as ProgramOf, Ends, Asks, ask}
-use Rattle.zio_trace.specs.Rounds.{plan_round}
+use Rattle.zio_trace.specs.Rounds.{plan_round, settles}
 use Rattle.zio_trace.specs.Tasks.{good_by, Look, ByKept, ByClaim, Task, ReadCopies, WriteCopies, WritePart, ReadHeads, ReadTree, Attempt, Settle, Value, Got, Wrote, One, Settled, OwnGot, got, found, StoredAs, nowhere, walked, attempted}
 use Rattle.zio_trace.specs.Traces.{AsksOnly}
+use Rattle.zio_trace.specs.Underway.{plan_each}
 use Rattle.zio_trace.proofs.CapLemmas.{capped-more, capped-then, idle}
 use Rattle.zio_trace.proofs.GroundLemmas.{only-then}
 use Rattle.zio_trace.proofs.PathLemmas.{if_added, if_more, passes, one_of_path, key_bit}
@@ -300,4 +301,14 @@ module _ (k : Key) where
     omega arith,
     λ v fits. capped-more FitsLeft (cap k) FitsNow (count_in k.request others + 0) (count_in k.request others) _ (omega arith)
         (capped-then FitsLeft (cap k) FitsNow FitsNow (count_in k.request others) 0 (plan_round others) _ (round_capped others) (λ o q. tt)),
+  )
+
+  -- and so may its trees as tasks
+  pub settles_capped : (f : Forest) → Caps FitsNow (count_in k.request f) (plan_each (settles f))
+  settles_capped NoTrees = tt
+  settles_capped (TreeOf p kids others) = (
+    count_in k.request others,
+    omega arith,
+    λ v fits. capped-more FitsLeft (cap k) FitsNow (count_in k.request others + 0) (count_in k.request others) _ (omega arith)
+        (capped-then FitsLeft (cap k) FitsNow FitsNow (count_in k.request others) 0 (plan_each (settles others)) _ (settles_capped others) (λ o q. tt)),
   )

@@ -111,7 +111,7 @@ number_is zero (suc n) h = absurd (cc)
 number_is (suc m) zero h = absurd (cc)
 number_is (suc m) (suc n) h = ap suc (number_is m n h)
 
-at_itself : (ns : List ℕ) → same_at ns ns ≡ true
+pub at_itself : (ns : List ℕ) → same_at ns ns ≡ true
 at_itself [] = refl
 at_itself (n ∷ ns) = ap (λ (b : Bool). cond b (same_at ns ns) false) (number_itself n) ∙ at_itself ns
 

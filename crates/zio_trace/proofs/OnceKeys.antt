@@ -2,6 +2,7 @@
 use Rattle.std.proofs.Common.{◌≡◌, ℕ, ◌+◌, ◌≤◌, Bool, true, false, List, [], ◌∷◌, refl, ap, subst, arith}
 use Rattle.std.specs.List.{AllByRecursion}
 use Rattle.zio_types.specs.declared.journal.Key.{Key}
+use Rattle.zio_types.specs.declared.journal.Role.TheVariants.{Body as BodyRole}
 use Rattle.zio_types.specs.Choices.{Ask, Choice, same_key}
 use Rattle.zio_gang.specs.Attempts.{Terms}
 use Rattle.zio_gang.specs.Journals.{asks_of, HaveDistinctKeys}
@@ -10,7 +11,7 @@ use Rattle.zio_trace.specs.Conflicts.{is_single}
 use Rattle.zio_trace.specs.Entries.{Recorded, any_rules, any_ways}
 use Rattle.zio_trace.specs.Families.{Forest}
 use Rattle.zio_trace.specs.Footprints.{Stays}
-use Rattle.zio_trace.specs.Keys.{bit, cap, count_in, FitsLeft, NumbersOnce}
+use Rattle.zio_trace.specs.Keys.{bit, cap, count_in, key_weight, Capped, FitsLeft, NumbersOnce}
 use Rattle.zio_trace.specs.Labels.{Labelled, labelled, ways_at}
 use Rattle.zio_trace.specs.Oracles.{Oracle, IsOracle, asked_in, weigh, ops_of}
 use Rattle.zio_trace.specs.Plans.{plan}
@@ -46,24 +47,31 @@ any_laws t sizes = record {
 
 -- ---- keys
 
-abbrev key_weight : Key → Ask → ℕ
-key_weight k a = bit (same_key a.key k)
-
 deed_capped : (k : Key) (task : Task) (v : Value) → is_single task ≡ true → (weigh (key_weight k) (asked_by task) ≤ cap k task) × FitsLeft task v
 deed_capped k (Leaf act) v e = (omega arith, tt)
 deed_capped k (Find a) v e = (omega arith, tt)
 deed_capped k (TakePlaces tree) v e = (omega arith, tt)
 deed_capped k _ v e = absurd (cc)
 
--- whatever is answered, a round asks for a key as often as its requests have the key's number
-pub asked_once : (t : Terms) (f : Forest) → NumbersOnce f → (k : Key) (o : Oracle (Labelled Task) Value) → IsOracle (ways_at (any_ways t)) o → weigh (λ (x : Labelled Task). weigh (key_weight k) (asked_by x.op)) (asked_in o (labelled [] 0 (plan_round f))) ≤ 1
-asked_once t f numbers k o is =
+-- whatever is answered, an attempt leaves no request that it hadn't
+pub fits_left : (t : Terms) (o : Oracle (Labelled Task) Value) → IsOracle (ways_at (any_ways t)) o → (x : Labelled Task) → FitsLeft x.op (o.answer x)
+fits_left t o is x =
+    let k : Key = record { request = 0; round = 0; attempt = 0; path = []; role = BodyRole } in
+    (op_capped FitsLeft (cap k) (λ (y : Labelled Task). weigh (key_weight k) (asked_by y.op)) o (any_ways t) is (plans_capped k t) (λ y e. deed_capped k y.op (o.answer y) e) x.op (task_ground t x.op) x.at).1
+
+-- whatever is answered, a program that is capped by a round's requests asks for a key once at most
+pub capped_once : {A : Type 0} (t : Terms) (f : Forest) → NumbersOnce f → (k : Key) (p : ProgramOf Task Value A) → Capped FitsLeft (cap k) (λ (a : A). Unit {0}) (count_in k.request f) p → (o : Oracle (Labelled Task) Value) → IsOracle (ways_at (any_ways t)) o → weigh (λ (x : Labelled Task). weigh (key_weight k) (asked_by x.op)) (asked_in o (labelled [] 0 p)) ≤ 1
+capped_once {A} t f numbers k p capped o is =
     let w : Labelled Task → ℕ = λ x. weigh (key_weight k) (asked_by x.op) in
-    let h = program_capped FitsLeft (cap k) w o (λ (a : Round). Unit {0}) [] 0 (count_in k.request f) (plan_round f) (round_capped k f)
+    let h = program_capped FitsLeft (cap k) w o (λ (a : A). Unit {0}) [] 0 (count_in k.request f) p capped
     (λ q m. op_capped FitsLeft (cap k) w o (any_ways t) is (plans_capped k t) (λ x e. deed_capped k x.op (o.answer x) e) q.op (task_ground t q.op) q.at) in
-    let l : weigh w (asked_in o (labelled [] 0 (plan_round f))) ≤ count_in k.request f = h.0 in
+    let l : weigh w (asked_in o (labelled [] 0 p)) ≤ count_in k.request f = h.0 in
     let n : count_in k.request f ≤ 1 = numbers k.request in
     omega arith
+
+-- a round asks for a key as often as its requests have the key's number
+pub asked_once : (t : Terms) (f : Forest) → NumbersOnce f → (k : Key) (o : Oracle (Labelled Task) Value) → IsOracle (ways_at (any_ways t)) o → weigh (λ (x : Labelled Task). weigh (key_weight k) (asked_by x.op)) (asked_in o (labelled [] 0 (plan_round f))) ≤ 1
+asked_once t f numbers k o is = capped_once t f numbers k (plan_round f) (round_capped k f) o is
 
 false_if : (b : Bool) → (b ≡ true → ⊥) → b ≡ false
 false_if true h = absurd (h refl)
@@ -85,7 +93,7 @@ distinct_by_weight [] h = tt
 distinct_by_weight (a ∷ asks) h =
     (no_other a asks h, distinct_by_weight asks (λ k. let z : key_weight k a + weigh (key_weight k) asks ≤ 1 = h k in omega arith))
 
-recorded_distinct : (ds : List (Deed (Labelled Task) Value)) (cs : List Choice) → Recorded ds cs → ((k : Key) → weigh (λ (x : Labelled Task). weigh (key_weight k) (asked_by x.op)) (ops_of ds) ≤ 1) → HaveDistinctKeys (asks_of cs)
+pub recorded_distinct : (ds : List (Deed (Labelled Task) Value)) (cs : List Choice) → Recorded ds cs → ((k : Key) → weigh (λ (x : Labelled Task). weigh (key_weight k) (asked_by x.op)) (ops_of ds) ≤ 1) → HaveDistinctKeys (asks_of cs)
 recorded_distinct ds cs recorded h =
     subst HaveDistinctKeys (asks_recorded ds cs recorded)
     (distinct_by_weight (asks_in (ops_of ds)) (λ k. let e : weigh (key_weight k) (asks_in (ops_of ds)) ≡ weigh (λ (x : Labelled Task). weigh (key_weight k) (asked_by x.op)) (ops_of ds) = weigh_asks (key_weight k) (ops_of ds) in let l : weigh (λ (x : Labelled Task). weigh (key_weight k) (asked_by x.op)) (ops_of ds) ≤ 1 = h k in omega arith))

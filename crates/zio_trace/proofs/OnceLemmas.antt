@@ -6,7 +6,7 @@ use Rattle.zio_trace.specs.Oracles.{weigh, ops_of, AreOnce, Ascends, InOrder}
 use Rattle.zio_trace.specs.Labels.{Labelled, Earlier, same_number, same_at, same_place}
 use Rattle.zio_trace.proofs.LabelLemmas.{same_itself, at_is, below_itself}
 
-abbrev one_if : Bool → ℕ
+abbrev pub one_if : Bool → ℕ
 one_if true = 1
 one_if false = 0
 

@@ -16,13 +16,13 @@ use Rattle.zio_trace.specs.Leaves.{AreApart, AreClear, IsAmong, LeafOp, LiesOn, 
 use Rattle.zio_trace.specs.Separate.{HaveRoomFor, LeavesHold, LeavesOnce, NoneMeet}
 
 -- the places are on different tops, or the one ends before the other begins
-abbrev DontMeet : Place → Place → Type 0
+abbrev pub DontMeet : Place → Place → Type 0
 DontMeet p q = (p.top ≢ q.top) ⊎ ((end_of p ≤ q.sector) ⊎ (end_of q ≤ p.sector))
 
 -- ---- places with sectors
 
 -- a place that is inside has sectors
-below_sectors : (p : Place) (top : Option TopSize) → is_below p top ≡ true → (0 < p.sectors) × IfSome top (λ (x : TopSize). end_of p ≤ x.sectors)
+pub below_sectors : (p : Place) (top : Option TopSize) → is_below p top ≡ true → (0 < p.sectors) × IfSome top (λ (x : TopSize). end_of p ≤ x.sectors)
 below_sectors p None h = absurd (cc)
 below_sectors p (Some top) h =
     let parts = and_parts (nat_lt 0 p.sectors) (nat_le (end_of p) top.sectors) h in
@@ -45,6 +45,11 @@ dont_meet p q h np nq =
     (and_false (p.top == q.top) (nat_lt (max p.sector q.sector) (min (end_of p) (end_of q))) h (eq-eqb p.top q.top is)) np nq))
     (λ (ne : p.top ≢ q.top). inl ne)
     (cases_eq p.top q.top)
+
+-- places inside their tops that don't meet
+pub inside_dont : (s : Setting) (p q : Place) → IsTrue (is_inside (sizes_of s.tops) p) → IsTrue (is_inside (sizes_of s.tops) q) → meets p q ≡ false → DontMeet p q
+inside_dont s p q ip iq h =
+    dont_meet p q h (below_sectors p (slice_get (sizes_of s.tops) p.top) ip).0 (below_sectors q (slice_get (sizes_of s.tops) q.top) iq).0
 
 -- ---- spots
 
@@ -79,7 +84,7 @@ place_clear_all s p (q ∷ qs) once h =
     both (t ∷ ts) a b = (all_append (λ (u : Spot). AreClear t u) (map (spot_in q) (leaves_of s q)) (spots_of s qs) a.0 b.0, both ts a.1 b.1)
 
 -- a place that is inside its top
-abbrev IsInside : Setting → Place → Type 0
+abbrev pub IsInside : Setting → Place → Type 0
 IsInside s p = IsTrue (is_inside (sizes_of s.tops) p)
 
 all_dont : (p : Place) (s : Setting) (qs : List Place) → IsInside s p → AllByRecursion (IsInside s) qs → AllByRecursion (λ (q : Place). meets p q ≡ false) qs → AllByRecursion (DontMeet p) qs
@@ -102,7 +107,7 @@ blocks_apart s ps qs n m a b once ip iq none ha hb =
 -- ---- on their leaves
 
 -- a spot has room for so many bytes, and lies on its leaf
-abbrev SpotLies : (ℕ → ℕ) → ℕ → Spot → Type 0
+abbrev pub SpotLies : (ℕ → ℕ) → ℕ → Spot → Type 0
 SpotLies sizes len t = (len ≤ t.span) × (t.at + t.span ≤ sizes t.leaf)
 
 place_lies : (sizes : ℕ → ℕ) (len : ℕ) (p : Place) (top : Option Top) → is_below p (option_map size_of top) ≡ true → len ≤ p.sectors * sector_size
@@ -112,7 +117,7 @@ place_lies sizes len p (Some x) inside room hold =
     let end : end_of p ≤ x.sectors = (below_sectors p (Some (size_of x)) inside).1 in
     all_weaker (λ (l : ℕ). x.sectors * sector_size ≤ sizes l) (λ (l : ℕ). SpotLies sizes len (spot_in p l)) x.leaves (λ l k. (room, omega arith)) hold
 
-spots_lie : (s : Setting) (sizes : ℕ → ℕ) (len : ℕ) (ps : List Place) → LeavesHold sizes s.tops → AllByRecursion (IsInside s) ps → HaveRoomFor len ps → AllByRecursion (SpotLies sizes len) (spots_of s ps)
+pub spots_lie : (s : Setting) (sizes : ℕ → ℕ) (len : ℕ) (ps : List Place) → LeavesHold sizes s.tops → AllByRecursion (IsInside s) ps → HaveRoomFor len ps → AllByRecursion (SpotLies sizes len) (spots_of s ps)
 spots_lie s sizes len ps hold ip room = all_flat (SpotLies sizes len) (λ p. map (spot_in p) (leaves_of s p)) ps (each ps ip room)
   where
     each : (rs : List Place) → AllByRecursion (IsInside s) rs → HaveRoomFor len rs → AllByRecursion (λ (p : Place). AllByRecursion (SpotLies sizes len) (map (spot_in p) (leaves_of s p))) rs

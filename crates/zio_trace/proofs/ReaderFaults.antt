@@ -44,7 +44,7 @@ find_same s write spot (row ∷ rows) plain =
 pub met_same : (s : Setting) (write : Bool) (spot : Spot) → RowsArePlain s.rows → met s true write spot ≡ met s false write spot
 met_same s write spot plain = find_same s write spot s.rows plain
 
-read_same : (s : Setting) (images : Images) (len : ℕ) (spot : Spot) → RowsArePlain s.rows → read_leaf s true images len spot ≡ read_leaf s false images len spot
+pub read_same : (s : Setting) (images : Images) (len : ℕ) (spot : Spot) → RowsArePlain s.rows → read_leaf s true images len spot ≡ read_leaf s false images len spot
 read_same s images len spot plain = ap (λ (h : Option Hit). read_met h spot.at (bytes_at images spot len)) (met_same s false spot plain)
 
 pub pass_same : (s : Setting) (good : List ℕ → Bool) (images : Images) (len : ℕ) (places : List Place) → RowsArePlain s.rows → read_pass s true good images len places ≡ read_pass s false good images len places

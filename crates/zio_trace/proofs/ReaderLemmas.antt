@@ -124,7 +124,7 @@ module _ (s : Setting) (sizes : ℕ → ℕ) (plain : RowsArePlain s.rows) (spot
       subst (λ (r : Result (List ℕ) Errno). MayBe u (judged good r)) (sym same) old)
       (apart t u (of_mended t c) cu)
 
-  now_put : (t : Spot) (images : Images) → Contains mended t → IsNow images → IsNow (put t images)
+  pub now_put : (t : Spot) (images : Images) → Contains mended t → IsNow images → IsNow (put t images)
   now_put t images c now = record {
     sized = put_sizes s sizes plain bytes t images (lies_of t (of_mended t c)).1 now.sized;
     each = all_put_each spots (all_contained spots) now.each;

@@ -110,7 +110,7 @@ failed_here spots s good images len p h =
     failed_among s spots len good images [] [] (λ (l : ℕ). Contains spots (spot_in p l)) p (read_order (offset_of p) (leaves_of s p))
     (in_order s spots len good images [] [] (λ (l : ℕ). Contains spots (spot_in p l)) p (all_unmap (Contains spots) (spot_in p) (leaves_of s p) h))
 
-pass_among : (spots : List Spot) (s : Setting) (good : List ℕ → Bool) (images : Images) (len : ℕ) (places : List Place) → AllByRecursion (AreAmong spots s) places → AllByRecursion (Contains spots) (read_pass s false good images len places).repairs
+pub pass_among : (spots : List Spot) (s : Setting) (good : List ℕ → Bool) (images : Images) (len : ℕ) (places : List Place) → AllByRecursion (AreAmong spots s) places → AllByRecursion (Contains spots) (read_pass s false good images len places).repairs
 pass_among spots s good images len [] h = tt
 pass_among spots s good images len (p ∷ ps) h =
     let tried : Tried ℕ = read_place s false good images len p in

@@ -67,10 +67,10 @@ own_run j t attempt p (Claim name pointer) pointers images = claim_run j t (poin
 
 -- ---- an attempt
 
-abbrev as_kids : Grown → Done Kids
+abbrev pub as_kids : Grown → Done Kids
 as_kids g = record { value = record { returns = g.returns; ended = g.ended; again = g.again; left = g.left }; asks = g.asks; images = g.images }
 
-kids_run : (j : List Choice) (t : Terms) (attempt : ℕ) (f : Forest) (images : Images) → run (means j t) (plan_kids attempt f) images ≡ as_kids (attempt_forest j t attempt f images)
+pub kids_run : (j : List Choice) (t : Terms) (attempt : ℕ) (f : Forest) (images : Images) → run (means j t) (plan_kids attempt f) images ≡ as_kids (attempt_forest j t attempt f images)
 kids_run j t attempt NoTrees images = refl
 kids_run j t attempt (TreeOf p kids others) images =
     let r : Rooted = attempt_root j t attempt p kids images in

@@ -7,17 +7,17 @@ use Rattle.zio_cksum.specs.Images.{Images}
 use Rattle.zio_cksum.proofs.AllLemmas.{all_append, all_contained, all_contains, all_weaker}
 use Rattle.zio_gang.specs.Attempts.{Terms}
 use Rattle.zio_gang.specs.Journals.{HaveDistinctKeys, asks_of, choices_in}
-use Rattle.zio_trace.specs.Conflicts.{is_single}
+use Rattle.zio_trace.specs.Conflicts.{TasksApart, is_single}
 use Rattle.zio_trace.specs.Entries.{AnsweredBy, AnswersBy, IsSettledByEntries, Pass, PassBy, Recorded, any_rules, any_ways}
 use Rattle.zio_trace.specs.Families.{Forest}
 use Rattle.zio_trace.specs.Keys.{NumbersOnce}
 use Rattle.zio_trace.specs.Labels.{Labelled, means_at, ways_at}
 use Rattle.zio_trace.specs.Leaves.{HaveSizes}
 use Rattle.zio_trace.specs.Oracles.{IsOracle, Oracle, ops_of, weigh}
-use Rattle.zio_trace.specs.Programs.{Deed, Done, Happen}
+use Rattle.zio_trace.specs.Programs.{Deed, Done, Happen, Program}
 use Rattle.zio_trace.specs.RoundRules.{asks_in, mend_task, task_rules, task_ways}
 use Rattle.zio_trace.specs.Rounds.{AreTrees, Round, plan_round}
-use Rattle.zio_trace.specs.Rules.{IsDone}
+use Rattle.zio_trace.specs.Rules.{IsDone, IsDoneBy}
 use Rattle.zio_trace.specs.Tasks.{Find, Leaf, TakePlaces, Task, Value, means}
 use Rattle.zio_trace.specs.Traces.{asked_by}
 use Rattle.zio_trace.proofs.AskLemmas.{asks_recorded}
@@ -30,19 +30,19 @@ use Rattle.zio_trace.proofs.WholeRound.{settles_each}
 -- ---- from any journal to this one
 
 -- an oracle of this journal is one of any
-any_oracle : (j : List Choice) (t : Terms) (o : Oracle (Labelled Task) Value) → IsOracle (ways_at (task_ways j t)) o → IsOracle (ways_at (any_ways t)) o
+pub any_oracle : (j : List Choice) (t : Terms) (o : Oracle (Labelled Task) Value) → IsOracle (ways_at (task_ways j t)) o → IsOracle (ways_at (any_ways t)) o
 any_oracle j t o is = record { fits = λ x. tt; itself = is.itself; answer = is.answer; asked = is.asked }
 
 fit_one : (j : List Choice) (task : Task) (v : Value) → AnswersBy j task v → mend_task j task v ≡ v
 fit_one j (Find x) v a = sym a
 fit_one j _ v a = refl
 
-fit_all : (j : List Choice) (ds : List (Deed (Labelled Task) Value)) → AnsweredBy j ds → AllByRecursion (λ (d : Deed (Labelled Task) Value). mend_task j d.op.op d.answer ≡ d.answer) ds
+pub fit_all : (j : List Choice) (ds : List (Deed (Labelled Task) Value)) → AnsweredBy j ds → AllByRecursion (λ (d : Deed (Labelled Task) Value). mend_task j d.op.op d.answer ≡ d.answer) ds
 fit_all j [] k = tt
 fit_all j (d ∷ ds) k = (fit_one j d.op.op d.answer k.0, fit_all j ds k.1)
 
-done_under : (j : List Choice) (t : Terms) (sizes : ℕ → ℕ) (f : Forest) (history : List (Deed (Labelled Task) Value)) (value : Round) → IsDone (any_rules t sizes) (plan_round f) history value → AnsweredBy j history → IsDone (task_rules j t sizes) (plan_round f) history value
-done_under j t sizes f history value h k = record {
+pub done_under : {A : Type 0} (j : List Choice) (t : Terms) (sizes : ℕ → ℕ) (Passes : Labelled Task → Labelled Task → Type 0) (p : Program Task Value A) (history : List (Deed (Labelled Task) Value)) (value : A) → IsDoneBy (any_rules t sizes) Passes p history value → AnsweredBy j history → IsDoneBy (task_rules j t sizes) Passes p history value
+done_under j t sizes Passes p history value h k = record {
   known = λ o is agrees. h.known o (any_oracle j t o is) agrees;
   all = λ o is agrees. h.all o (any_oracle j t o is) agrees;
   within = λ o is agrees. h.within o (any_oracle j t o is) agrees;
@@ -60,7 +60,7 @@ pass_one j t (Find x) v later now before after e a f h = (sym a, f before h)
 pass_one j t (TakePlaces tree) v later now before after e a f h = (h.0, f _ h.1)
 pass_one j t _ v later now before after e a f h = absurd (cc)
 
-pass_under : (j : List Choice) (t : Terms) (ds : List (Deed (Labelled Task) Value)) (before after : Images) → AllByRecursion (λ (d : Deed (Labelled Task) Value). is_single d.op.op ≡ true) ds → AnsweredBy j ds → Pass t ds before after → Happen (means_at (means j t)) ds before after
+pub pass_under : (j : List Choice) (t : Terms) (ds : List (Deed (Labelled Task) Value)) (before after : Images) → AllByRecursion (λ (d : Deed (Labelled Task) Value). is_single d.op.op ≡ true) ds → AnsweredBy j ds → Pass t ds before after → Happen (means_at (means j t)) ds before after
 pass_under j t [] before after e a h = h
 pass_under j t (d ∷ ds) before after e a h =
     pass_one j t d.op.op d.answer (Pass t ds) (Happen (means_at (means j t)) ds) before after e.0 a.0 (λ images k. pass_under j t ds images after e.1 a.1 k) h
@@ -78,7 +78,7 @@ contained_asks ops x c = all_contains (λ (y : Labelled Task). AllByRecursion (C
           (λ z h. all_weaker (Contains (asks_in ys)) (Contains (asks_in (y ∷ ys))) (asked_by z.op) (λ a k. Contains-append_right (asked_by y.op) (asks_in ys) a k) h) (each ys),
     )
 
-contain_asks : (ops xs : List (Labelled Task)) → AllByRecursion (Contains ops) xs → AllByRecursion (Contains (asks_in ops)) (asks_in xs)
+pub contain_asks : (ops xs : List (Labelled Task)) → AllByRecursion (Contains ops) xs → AllByRecursion (Contains (asks_in ops)) (asks_in xs)
 contain_asks ops [] h = tt
 contain_asks ops (x ∷ xs) h = all_append (Contains (asks_in ops)) (asked_by x.op) (asks_in xs) (contained_asks ops x h.0) (contain_asks ops xs h.1)
 
@@ -91,7 +91,7 @@ settled_by_entries j t sizes f history value before after entries trees numbers 
     let distinct : HaveDistinctKeys (asks_of entries) = done_distinct t sizes f history value entries numbers done recorded in
     let answered : AnsweredBy j history = answered_by_journal t.round j history entries of_round recorded distinct in
     let alone : IsAlone (task_rules j t sizes) (plan_round f) history value before after =
-    done_alone (task_rules j t sizes) (task_laws j t sizes) (plan_round f) history value before after (done_under j t sizes f history value done answered) have (pass_under j t history before after done.single answered pass) in
+    done_alone (task_rules j t sizes) (task_laws j t sizes) (plan_round f) history value before after (done_under j t sizes (λ x y. TasksApart x.op y.op) (plan_round f) history value done answered) have (pass_under j t history before after done.single answered pass) in
     let same : asks_in (ops_of history) ≡ asks_of entries = asks_recorded history entries recorded in
     record {
       asks = asks_in alone.ops;

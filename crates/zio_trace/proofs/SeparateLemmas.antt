@@ -16,19 +16,20 @@ use Rattle.zio_cksum.proofs.AllLemmas.{all_append, all_contained, all_contains, 
 use Rattle.zio_gang.specs.declared.tree.Head.{Head}
 use Rattle.zio_gang.specs.declared.tree.Tree.{Tree}
 use Rattle.zio_gang.specs.Attempts.{Terms, Pending}
-use Rattle.zio_gang.specs.Journals.{AreLawful, choices_in}
 use Rattle.zio_gang.specs.Rounds.{settle_each}
 use Rattle.zio_gang.specs.Pieces.{Parts, Piece, below_piece, head_piece, members_kept, no_parts, parts_from, parts_if, parts_of, parts_of_members, pieces_of}
 use Rattle.zio_gang.specs.Trees.{header_levels_max, kept_at, sizes_of, tree_places, tree_pointers}
 use Rattle.zio_gang.specs.Writes.{chosen}
+use Rattle.zio_trace.specs.BlockCopies.{Copies, copies_of}
 use Rattle.zio_trace.specs.Conflicts.{TaskLies, TasksApart}
-use Rattle.zio_trace.specs.Footprints.{OfBlock, OfPart, OfRequest, OfWork, OnPieces}
+use Rattle.zio_trace.specs.Footprints.{OfBlock, OfPart, OfRequest, OfWork, OnCopies, OnOneOf}
 use Rattle.zio_trace.specs.Leaves.{IsAmong, LeafOp, HaveSizes}
 use Rattle.zio_trace.specs.Separate.{AreOverDifferentBlocks, AreSeparate, BlocksApart, HaveRoomFor, IsNoClaim, IsSoundBlock, IsSoundRequest, LeavesHold, LeavesOnce, NoneMeet, requests_in}
 use Rattle.zio_trace.specs.Tasks.{Find, Leaf, Task}
 use Rattle.zio_trace.specs.TreeOrders.{Pairs, Root, TreeLies, TreesApart, AreAlike, IsTree, flat_root}
-use Rattle.zio_trace.proofs.ChoiceLemmas.{IsPlaced, chosen_apart, chosen_placed}
+use Rattle.zio_trace.proofs.ChoiceLemmas.{Answers, IsPlaced, answers_in_round, chosen_apart, chosen_placed}
 use Rattle.zio_trace.proofs.LeafLemmas.{apart_sym}
+use Rattle.zio_trace.proofs.CopiesLemmas.{copies_follow}
 use Rattle.zio_trace.proofs.ListLemmas.{all_front, all_lists, all_rest, contains_first, contains_later}
 use Rattle.zio_trace.proofs.PlaceLemmas.{blocks_apart, copies_lie}
 use Rattle.zio_trace.proofs.TreeOrderLemmas.{trees_in_any_order}
@@ -71,7 +72,7 @@ module _ (all : List Bp) (heads : List Head) (known : AllByRecursion (λ (h : He
       if_among bp.gang bp (below_piece (head_piece heads path bp) below) c ((c, b.0), b.1)
 
 -- the pointers of a block's pieces are its own and those of members in its headers
-pieces_among : (tree : Tree) → AllByRecursion (λ (x : Piece). Contains (tree_pointers tree) x.pointer) (pieces_of tree)
+pub pieces_among : (tree : Tree) → AllByRecursion (λ (x : Piece). Contains (tree_pointers tree) x.pointer) (pieces_of tree)
 pieces_among tree =
     let members : List Bp = flat_map (λ (h : Head). members_of h.bytes) tree.heads in
     let known : AllByRecursion (λ (h : Head). AllByRecursion (Contains (tree_pointers tree)) (members_of h.bytes)) tree.heads =
@@ -86,58 +87,60 @@ all_unflat P f [] h = tt
 all_unflat P f (x ∷ xs) h = (all_front P (f x) (flat_map f xs) h, all_unflat P f xs (all_rest P (f x) (flat_map f xs) h))
 
 -- what holds of a block's places holds of those of each piece
-piece_places : (P : Place → Type 0) (tree : Tree) (x : Piece) → AllByRecursion P (tree_places tree) → Contains (pieces_of tree) x → AllByRecursion P (places_of x.pointer)
-piece_places P tree x h c =
-    all_contains (λ (b : Bp). AllByRecursion P (places_of b)) (tree_pointers tree) x.pointer (all_unflat P places_of (tree_pointers tree) h)
-    (all_contains (λ (y : Piece). Contains (tree_pointers tree) y.pointer) (pieces_of tree) x (pieces_among tree) c)
+pub copies_places : (P : Place → Type 0) (tree : Tree) (c : Copies) → AllByRecursion P (tree_places tree) → Contains (copies_of tree) c → AllByRecursion P c.places
+copies_places P tree c h is =
+    all_contains (λ (x : Copies). AllByRecursion P x.places) (copies_of tree) c
+    (copies_follow (λ len places. AllByRecursion P places) tree
+    (all_weaker (λ (x : Piece). Contains (tree_pointers tree) x.pointer) (λ (x : Piece). AllByRecursion P (places_of x.pointer)) (pieces_of tree)
+    (λ x k. all_contains (λ (b : Bp). AllByRecursion P (places_of b)) (tree_pointers tree) x.pointer (all_unflat P places_of (tree_pointers tree) h) k) (pieces_among tree))) is
 
 -- ---- what a request touches
 
 module _ (j : List Choice) (t : Terms) where
-  abbrev Inside : Place → Type 0
+  abbrev pub Inside : Place → Type 0
   Inside p = IsTrue (is_inside (sizes_of t.setting.tops) p)
 
   -- the places of its block, or those that the journal has for one of its keys
-  abbrev Origin : Pending → List Place → Type 0
+  abbrev pub Origin : Pending → List Place → Type 0
   Origin p places =
       ((tree : Tree) × (p.block ≡ Some tree) × AllByRecursion (Contains (tree_places tree)) places)
       ⊎ ((a : Ask) × (a.key.round ≡ t.round) × (a.key.request ≡ p.request.number) × (chosen j a ≡ Some places))
 
-  record Touches (p : Pending) (op : LeafOp) : Type 0 where
-    places : List Place
-    len : ℕ
-    among : IsAmong (spots_of t.setting places) len op
-    inside : AllByRecursion Inside places
-    room : HaveRoomFor len places
-    origin : Origin p places
+  pub record Touches (p : Pending) (op : LeafOp) : Type 0 where
+    pub places : List Place
+    pub len : ℕ
+    pub among : IsAmong (spots_of t.setting places) len op
+    pub inside : AllByRecursion Inside places
+    pub room : HaveRoomFor len places
+    pub origin : Origin p places
 
-  abbrev TouchesIn : Pending → Task → Type 0
+  abbrev pub TouchesIn : Pending → Task → Type 0
   TouchesIn p (Leaf op) = Touches p op
   TouchesIn p (Find a) = Unit {0}
   TouchesIn p _ = ⊥
 
-  piece_touches : (p : Pending) (tree : Tree) → p.block ≡ Some tree → IsSoundBlock (sizes_of t.setting.tops) t.used tree → (d : Task) → OnPieces t.setting (pieces_of tree) d → TouchesIn p d
+  piece_touches : (p : Pending) (tree : Tree) → p.block ≡ Some tree → IsSoundBlock (sizes_of t.setting.tops) t.used tree → (d : Task) → OnOneOf (OnCopies t.setting) (copies_of tree) d → TouchesIn p d
   piece_touches p tree is sound (Leaf op) h = record {
-    places = places_of h.0.pointer;
-    len = h.0.size;
+    places = h.0.places;
+    len = h.0.len;
     among = h.2;
-    inside = piece_places Inside tree h.0 sound.inside h.1;
-    room = all_contains (λ (x : Piece). HaveRoomFor x.size (places_of x.pointer)) (pieces_of tree) h.0 sound.room h.1;
-    origin = inl (tree, is, piece_places (Contains (tree_places tree)) tree h.0 (all_contained (tree_places tree)) h.1);
+    inside = copies_places Inside tree h.0 sound.inside h.1;
+    room = all_contains (λ (c : Copies). HaveRoomFor c.len c.places) (copies_of tree) h.0 (copies_follow HaveRoomFor tree sound.room) h.1;
+    origin = inl (tree, is, copies_places (Contains (tree_places tree)) tree h.0 (all_contained (tree_places tree)) h.1);
   }
   piece_touches p tree is sound _ h = absurd h.2
 
-  block_touches : (p : Pending) (block : Option Tree) → p.block ≡ block → IfSome block (λ (tree : Tree). IsSoundBlock (sizes_of t.setting.tops) t.used tree) → (d : Task) → OfBlock t.setting block d → TouchesIn p d
+  block_touches : (p : Pending) (block : Option Tree) → p.block ≡ block → IfSome block (λ (tree : Tree). IsSoundBlock (sizes_of t.setting.tops) t.used tree) → (d : Task) → OfBlock (OnCopies t.setting) block d → TouchesIn p d
   block_touches p None is sound d h = absurd h
   block_touches p (Some tree) is sound d h = piece_touches p tree is sound d h
 
-  abbrev Lawful : Type 0
-  Lawful = AreLawful (sizes_of t.setting.tops) t.used (choices_in t.round j)
+  abbrev pub Lawful : Type 0
+  Lawful = Answers j (sizes_of t.setting.tops) t.used t.round
 
   part_touches : Lawful → (p : Pending) (attempt : ℕ) (d : Task) → OfPart j t p.request.number attempt [] d → TouchesIn p d
   part_touches lawful p attempt (Find a) h = tt
   part_touches lawful p attempt (Leaf op) h =
-      let placed : AllByRecursion (IsPlaced (sizes_of t.setting.tops) t.used) h.1 = chosen_placed j (sizes_of t.setting.tops) t.used t.round h.0 h.1 lawful h.2.now h.3 in
+      let placed : AllByRecursion (IsPlaced (sizes_of t.setting.tops) t.used) h.1 = chosen_placed j (sizes_of t.setting.tops) t.used t.round lawful h.0 h.1 h.2.now h.3 in
       record {
         places = h.1;
         len = 0;
@@ -148,7 +151,7 @@ module _ (j : List Choice) (t : Terms) where
       }
   part_touches lawful p attempt _ h = absurd h
 
-  work_touches : Lawful → (p : Pending) → IfSome p.block (λ (tree : Tree). IsSoundBlock (sizes_of t.setting.tops) t.used tree) → (work : Work) → IsNoClaim work → (d : Task) → OfWork j t p work d → TouchesIn p d
+  work_touches : Lawful → (p : Pending) → IfSome p.block (λ (tree : Tree). IsSoundBlock (sizes_of t.setting.tops) t.used tree) → (work : Work) → IsNoClaim work → (d : Task) → OfWork (OnCopies t.setting) j t p work d → TouchesIn p d
   work_touches lawful p sound Null none d h = absurd h
   work_touches lawful p sound (WorkRead name prio) none d h = block_touches p p.block refl sound d h
   work_touches lawful p sound (Write name sum copies prio body) none d h = part_touches lawful p h.0 d h.1
@@ -180,13 +183,13 @@ module _ (j : List Choice) (t : Terms) where
   origins_apart : Lawful → (p q : Pending) (ps qs : List Place) → IsSoundRequest t p → IsSoundRequest t q → p.request.number ≢ q.request.number → BlocksApart p.block q.block → Origin p ps → Origin q qs → NoneMeet ps qs ⊎ NoneMeet qs ps
   origins_apart lawful p q ps qs sp sq ne blocks (inl x) (inl y) = inl (blocks_meet x.0 y.0 ps qs (apart_blocks p.block q.block x.0 y.0 x.1 y.1 blocks) x.2 y.2)
   origins_apart lawful p q ps qs sp sq ne blocks (inl x) (inr b) =
-      inr (free_meets qs ps (chosen_placed j (sizes_of t.setting.tops) t.used t.round b.0 qs lawful b.1 b.3) (in_use p x.0 ps x.1 sp x.2))
+      inr (free_meets qs ps (chosen_placed j (sizes_of t.setting.tops) t.used t.round lawful b.0 qs b.1 b.3) (in_use p x.0 ps x.1 sp x.2))
   origins_apart lawful p q ps qs sp sq ne blocks (inr a) (inl y) =
-      inl (free_meets ps qs (chosen_placed j (sizes_of t.setting.tops) t.used t.round a.0 ps lawful a.1 a.3) (in_use q y.0 qs y.1 sq y.2))
+      inl (free_meets ps qs (chosen_placed j (sizes_of t.setting.tops) t.used t.round lawful a.0 ps a.1 a.3) (in_use q y.0 qs y.1 sq y.2))
   origins_apart lawful p q ps qs sp sq ne blocks (inr a) (inr b) =
-      chosen_apart j (sizes_of t.setting.tops) t.used t.round a.0 b.0 ps qs lawful a.1 b.1 (λ e. ne (sym a.2 ∙ e ∙ b.2)) a.3 b.3
+      chosen_apart j (sizes_of t.setting.tops) t.used t.round lawful a.0 b.0 ps qs a.1 b.1 (λ e. ne (sym a.2 ∙ e.request ∙ b.2)) a.3 b.3
 
-  touches_apart : Lawful → LeavesOnce t.setting.tops → (p q : Pending) → IsSoundRequest t p → IsSoundRequest t q → p.request.number ≢ q.request.number → BlocksApart p.block q.block → (d e : Task) → TouchesIn p d → TouchesIn q e → TasksApart d e
+  pub touches_apart : Lawful → LeavesOnce t.setting.tops → (p q : Pending) → IsSoundRequest t p → IsSoundRequest t q → p.request.number ≢ q.request.number → BlocksApart p.block q.block → (d e : Task) → TouchesIn p d → TouchesIn q e → TasksApart d e
   touches_apart lawful once p q sp sq ne blocks (Leaf a) (Leaf b) x y =
       ⊎_elim
       (λ (none : NoneMeet x.places y.places). blocks_apart t.setting x.places y.places x.len y.len a b once x.inside y.inside none x.among y.among)
@@ -199,7 +202,7 @@ module _ (j : List Choice) (t : Terms) where
   touches_apart lawful once p q sp sq ne blocks (Find a) _ x y = absurd y
   touches_apart lawful once p q sp sq ne blocks _ _ x y = absurd x
 
-  request_touches : Lawful → (p : Pending) → IsSoundRequest t p → (d : Task) → OfRequest j t p d → TouchesIn p d
+  pub request_touches : Lawful → (p : Pending) → IsSoundRequest t p → (d : Task) → OfRequest j t p d → TouchesIn p d
   request_touches lawful p sound d h = work_touches lawful p sound.block p.request.work sound.no_claim d h
 
   -- ---- two trees
@@ -215,7 +218,7 @@ module _ (j : List Choice) (t : Terms) where
       (all_contains (λ (x : Pending). AllByRecursion (λ (y : Pending). (x.request.number ≢ y.request.number) × BlocksApart x.block y.block) (requests_in b)) (requests_in a) p different hd.1) he.1 in
       touches_apart lawful once p q sp sq two.0 two.1 d e (request_touches lawful p sp d hd.2) (request_touches lawful q sq e he.2)
 
-  touches_lie : (sizes : ℕ → ℕ) → LeavesHold sizes t.setting.tops → (p : Pending) (d : Task) → TouchesIn p d → TaskLies sizes d
+  pub touches_lie : (sizes : ℕ → ℕ) → LeavesHold sizes t.setting.tops → (p : Pending) (d : Task) → TouchesIn p d → TaskLies sizes d
   touches_lie sizes hold p (Leaf op) x = copies_lie t.setting sizes x.len x.places op hold x.inside x.room x.among
   touches_lie sizes hold p (Find a) x = tt
   touches_lie sizes hold p _ x = absurd x
@@ -225,7 +228,7 @@ module _ (j : List Choice) (t : Terms) where
       let sp : IsSoundRequest t hd.0 = all_contains (IsSoundRequest t) (requests_in a) hd.0 sa hd.1 in
       touches_lie sizes hold hd.0 d (request_touches lawful hd.0 sp d hd.2)
 
-all_apart : (j : List Choice) (t : Terms) → AreLawful (sizes_of t.setting.tops) t.used (choices_in t.round j) → LeavesOnce t.setting.tops → (trees : List Root) → AllByRecursion (λ (r : Root). AllByRecursion (IsSoundRequest t) (requests_in r)) trees → Pairs AreOverDifferentBlocks trees → Pairs (TreesApart j t) trees
+all_apart : (j : List Choice) (t : Terms) → Answers j (sizes_of t.setting.tops) t.used t.round → LeavesOnce t.setting.tops → (trees : List Root) → AllByRecursion (λ (r : Root). AllByRecursion (IsSoundRequest t) (requests_in r)) trees → Pairs AreOverDifferentBlocks trees → Pairs (TreesApart j t) trees
 all_apart j t lawful once [] sound different = tt
 all_apart j t lawful once (a ∷ trees) sound different = (
   all_lists (λ (r : Root). AllByRecursion (IsSoundRequest t) (requests_in r)) (AreOverDifferentBlocks a) (TreesApart j t a) trees
@@ -237,5 +240,6 @@ all_apart j t lawful once (a ∷ trees) sound different = (
 pub separate_trees_in_any_order : (j : List Choice) (t : Terms) (sizes : ℕ → ℕ) (trees others : List Root) (images : Images) → IsPermutation trees others → AllByRecursion IsTree trees → AreSeparate j t sizes trees → HaveSizes sizes images
     → AreAlike (settle_each j t (map flat_root trees) images) (settle_each j t (map flat_root others) images)
 separate_trees_in_any_order j t sizes trees others images perm are separate have =
-    trees_in_any_order j t sizes trees others images perm are (all_apart j t separate.lawful separate.once trees separate.sound separate.different)
-    (all_weaker (λ (r : Root). AllByRecursion (IsSoundRequest t) (requests_in r)) (TreeLies j t sizes) trees (λ r sound. separate_lies j t sizes separate.lawful separate.hold r sound) separate.sound) have
+    let lawful : Answers j (sizes_of t.setting.tops) t.used t.round = answers_in_round j (sizes_of t.setting.tops) t.used t.round separate.lawful in
+    trees_in_any_order j t sizes trees others images perm are (all_apart j t lawful separate.once trees separate.sound separate.different)
+    (all_weaker (λ (r : Root). AllByRecursion (IsSoundRequest t) (requests_in r)) (TreeLies j t sizes) trees (λ r sound. separate_lies j t sizes lawful separate.hold r sound) separate.sound) have

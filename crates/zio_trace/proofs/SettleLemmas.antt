@@ -99,7 +99,7 @@ quiet_ends j t attempt (TreeOf p kids others) images h =
 
 -- ---- what goes again, as trees
 
-flat_before : (f g : Forest) → flat (before f g) ≡ flat f ++ flat g
+pub flat_before : (f g : Forest) → flat (before f g) ≡ flat f ++ flat g
 flat_before NoTrees g = refl
 flat_before (TreeOf p kids others) g =
     ap (λ (xs : List Pending). flat kids ++ p ∷ xs) (flat_before others g) ∙ sym (append_assoc (flat kids) (p ∷ flat others) (flat g))
@@ -161,7 +161,7 @@ before_none : (f : Forest) → before f NoTrees ≡ f
 before_none NoTrees = refl
 before_none (TreeOf p kids others) = ap (λ (x : Forest). TreeOf p kids x) (before_none others)
 
-abbrev alone : List Return → Rooted → Attempt
+abbrev pub alone : List Return → Rooted → Attempt
 alone returns r = record { returns = returns; ended = r.ended; again = r.again; asks = r.asks; images = r.images }
 
 none_behind : (returns : List Return) (r : Rooted) → attempted_as returns (add_root r (record { returns = []; ended = []; again = []; left = NoTrees; asks = []; images = r.images })) ≡ alone returns r
@@ -171,6 +171,24 @@ settle_none : (more : ℕ) (j : List Choice) (t : Terms) (attempt : ℕ) (images
 unfolding settle_from attempt_each
 settle_none zero j t attempt images = refl
 settle_none (suc more) j t attempt images = refl
+
+-- an attempt of one tree
+pub alone_attempted : (j : List Choice) (t : Terms) (attempt : ℕ) (p : Pending) (kids : Forest) (images : Images) → AreUnder None (TreeOf p kids NoTrees)
+    → (rest : List Return) × (attempt_each j t attempt (flat kids ++ p ∷ []) [] images ≡ alone ((attempt_root j t attempt p kids images).return ∷ rest) (attempt_root j t attempt p kids images))
+alone_attempted j t attempt p kids images h =
+    let r : Rooted = attempt_root j t attempt p kids images in
+    let run = root_attempted j t attempt p kids images h in
+    (run.0, run.1 ∙ none_behind (r.return ∷ run.0) r)
+
+-- what goes again of it is what is left, and a tree again
+pub root_flat : (j : List Choice) (t : Terms) (attempt : ℕ) (p : Pending) (kids : Forest) (images : Images) → flat (attempt_root j t attempt p kids images).left ≡ (attempt_root j t attempt p kids images).again
+root_flat j t attempt p kids images =
+    let r : Rooted = attempt_root j t attempt p kids images in
+    ap flat (sym (before_none r.left)) ∙ left_flat j t attempt (TreeOf p kids NoTrees) images ∙ append-nil r.again
+
+pub root_under : (j : List Choice) (t : Terms) (attempt : ℕ) (p : Pending) (kids : Forest) (images : Images) → AreUnder None (TreeOf p kids NoTrees) → AreUnder None (attempt_root j t attempt p kids images).left
+root_under j t attempt p kids images h =
+    subst (AreUnder None) (before_none (attempt_root j t attempt p kids images).left) (left_under j t attempt None (TreeOf p kids NoTrees) images h)
 
 -- what goes again is the trees that are left
 again_settles : (j : List Choice) (t : Terms) (r : Rooted) (kids : Forest) (returns : List Return) (on : List Pending → Images → Settled) (settle : Pending → Forest → Images → AllEnded) (xs : List Pending)
@@ -194,17 +212,12 @@ if_settles true j t r kids returns on settle xs none step shape is under =
 
 pub tree_settles : (more : ℕ) (j : List Choice) (t : Terms) (attempt : ℕ) (p : Pending) (kids : Forest) (images : Images) → AreUnder None (TreeOf p kids NoTrees) → settle_from more j t attempt (flat kids ++ p ∷ []) images ≡ settled_all (settle_root more j t attempt p kids images)
 unfolding settle_from
-tree_settles zero j t attempt p kids images h =
-    let r : Rooted = attempt_root j t attempt p kids images in
-    let run = root_attempted j t attempt p kids images h in
-    ap settled_as (run.1 ∙ none_behind (r.return ∷ run.0) r)
+tree_settles zero j t attempt p kids images h = ap settled_as (alone_attempted j t attempt p kids images h).1
 tree_settles (suc more) j t attempt p kids images h =
     let r : Rooted = attempt_root j t attempt p kids images in
-    let run = root_attempted j t attempt p kids images h in
+    let run = alone_attempted j t attempt p kids images h in
     let k : Grown = attempt_forest j t attempt kids images in
     let one : Attempted = attempt_with j t attempt p k.returns k.images in
-    let is : flat r.left ≡ r.again = ap flat (sym (before_none r.left)) ∙ left_flat j t attempt (TreeOf p kids NoTrees) images ∙ append-nil r.again in
-    let under : AreUnder None r.left = subst (AreUnder None) (before_none r.left) (left_under j t attempt None (TreeOf p kids NoTrees) images h) in
-    ap (λ (a : Attempt). settled_by a (settle_from more j t (attempt + 1))) (run.1 ∙ none_behind (r.return ∷ run.0) r)
+    ap (λ (a : Attempt). settled_by a (settle_from more j t (attempt + 1))) run.1
     ∙ if_settles (now_alone r.return.bits) j t r k.left (r.return ∷ run.0) (settle_from more j t (attempt + 1)) (settle_root more j t (attempt + 1)) one.again
-    (settle_none more j t (attempt + 1)) (λ q ks now under. tree_settles more j t (attempt + 1) q ks now under) refl is under
+    (settle_none more j t (attempt + 1)) (λ q ks now under. tree_settles more j t (attempt + 1) q ks now under) refl (root_flat j t attempt p kids images) (root_under j t attempt p kids images h)

@@ -1,18 +1,17 @@
 -- What the definitions do in turn is a history of a round.
-use Rattle.std.proofs.Common.{◌≡◌, ℕ, zero, suc, ◌<◌, Bool, true, false, List, [], ◌∷◌, ◌++◌, Contains, inl, inr, refl, sym, ap, ◌∙◌, subst, append-nil, arith}
+use Rattle.std.proofs.Common.{◌≡◌, ℕ, suc, Bool, true, false, List, [], ◌∷◌, ◌++◌, Contains, inl, inr, refl, sym, ap, ◌∙◌, subst, append-nil, arith}
 use Rattle.std.specs.List.{AllByRecursion}
 use Rattle.zio_types.specs.Choices.{Choice}
 use Rattle.zio_cksum.specs.Images.{Images}
 use Rattle.zio_cksum.proofs.AllLemmas.{all_append, all_contained, all_weaker}
 use Rattle.zio_gang.specs.Attempts.{Terms}
-use Rattle.zio_trace.specs.Conflicts.{TaskLies, is_single}
+use Rattle.zio_trace.specs.Conflicts.{TaskLies}
 use Rattle.zio_trace.specs.Families.{Forest}
 use Rattle.zio_trace.specs.Labels.{Below, Earlier, Labelled, labelled, means_at, same_place, ways_at}
 use Rattle.zio_trace.specs.Oracles.{Agrees, AreOnce, Ascends, InOrder, IsOracle, Oracle, Ways, asked_in, heard, ops_of, weigh}
-use Rattle.zio_trace.specs.Plans.{plan}
 use Rattle.zio_trace.specs.Programs.{Asks, Deed, Done, Ends, Happen, Meaning, Program, run}
 use Rattle.zio_trace.specs.RoundRules.{mend_task, task_rules, task_ways}
-use Rattle.zio_trace.specs.Rounds.{Round, plan_round}
+use Rattle.zio_trace.specs.Rounds.{plan_round}
 use Rattle.zio_trace.specs.Rules.{IsDone}
 use Rattle.zio_trace.specs.Tasks.{Find, Task, Value, means}
 use Rattle.zio_trace.specs.Traces.{Above, Bottom, Grounded, Mentions}

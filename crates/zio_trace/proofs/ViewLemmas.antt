@@ -55,25 +55,25 @@ behind_answer o (suc n) (suc m) v (Asks op more) x h e le = behind_answer o n m 
 
 -- ---- the calls that are out
 
-pub stand_nth : {Op Ans A : Type 0} (o : Oracle (Labelled Op) Ans) (cs : List (Out Op)) (p : Program (Labelled Op) Ans A) (n : ℕ) (c : Out Op) → StandFirst o cs p → nth n cs ≡ Some c → nth_asked o n p ≡ Some c.op
+pub stand_nth : {Op Ans Early A : Type 0} (o : Oracle (Labelled Op) Ans) (cs : List (Out Op Early)) (p : Program (Labelled Op) Ans A) (n : ℕ) (c : Out Op Early) → StandFirst o cs p → nth n cs ≡ Some c → nth_asked o n p ≡ Some c.op
 stand_nth o [] p n c h e = absurd (cc)
 stand_nth o (d ∷ cs) (Ends a) n c h e = absurd h
-stand_nth o (d ∷ cs) (Asks x more) zero c h e = let is : d ≡ c = cc in ap (λ (y : Labelled _). Some y) (h.0 ∙ ap (λ (y : Out _). y.op) is)
+stand_nth o (d ∷ cs) (Asks x more) zero c h e = let is : d ≡ c = cc in ap (λ (y : Labelled _). Some y) (h.0 ∙ ap (λ (y : Out _ _). y.op) is)
 stand_nth o (d ∷ cs) (Asks x more) (suc n) c h e = stand_nth o cs (more (o.answer x)) n c h.1 e
 
 -- one more goes out
-pub stand_more : {Op Ans A : Type 0} (o : Oracle (Labelled Op) Ans) (cs : List (Out Op)) (p : Program (Labelled Op) Ans A) (c : Out Op) → StandFirst o cs p → nth_asked o (length cs) p ≡ Some c.op → StandFirst o (cs ++ c ∷ []) p
+pub stand_more : {Op Ans Early A : Type 0} (o : Oracle (Labelled Op) Ans) (cs : List (Out Op Early)) (p : Program (Labelled Op) Ans A) (c : Out Op Early) → StandFirst o cs p → nth_asked o (length cs) p ≡ Some c.op → StandFirst o (cs ++ c ∷ []) p
 stand_more o [] (Ends a) c h e = absurd (cc)
 stand_more o [] (Asks x more) c h e = let is : x ≡ c.op = cc in (is, tt)
 stand_more o (d ∷ cs) (Ends a) c h e = absurd h
 stand_more o (d ∷ cs) (Asks x more) c h e = (h.0, stand_more o cs (more (o.answer x)) c h.1 e)
 
 -- one is answered
-pub stand_answered : {Op Ans A : Type 0} (o : Oracle (Labelled Op) Ans) (cs : List (Out Op)) (p : Program (Labelled Op) Ans A) (n : ℕ) (c : Out Op) (v : Ans) → StandFirst o cs p → nth n cs ≡ Some c → o.answer c.op ≡ v → StandFirst o (without n cs) (answered_at n v p)
+pub stand_answered : {Op Ans Early A : Type 0} (o : Oracle (Labelled Op) Ans) (cs : List (Out Op Early)) (p : Program (Labelled Op) Ans A) (n : ℕ) (c : Out Op Early) (v : Ans) → StandFirst o cs p → nth n cs ≡ Some c → o.answer c.op ≡ v → StandFirst o (without n cs) (answered_at n v p)
 stand_answered o [] p n c v h e a = tt
 stand_answered o (d ∷ cs) (Ends x) n c v h e a = absurd h
-stand_answered {Op} {Ans} o (d ∷ cs) (Asks x more) zero c v h e a =
+stand_answered {Op} {Ans} {Early} o (d ∷ cs) (Asks x more) zero c v h e a =
     let is : d ≡ c = cc in
-    let value : o.answer x ≡ v = ap (λ (y : Labelled Op). o.answer y) (h.0 ∙ ap (λ (y : Out Op). y.op) is) ∙ a in
+    let value : o.answer x ≡ v = ap (λ (y : Labelled Op). o.answer y) (h.0 ∙ ap (λ (y : Out Op Early). y.op) is) ∙ a in
     subst (λ (w : Ans). StandFirst o cs (more w)) value h.1
 stand_answered o (d ∷ cs) (Asks x more) (suc n) c v h e a = (h.0, stand_answered o cs (more (o.answer x)) n c v h.1 e a)

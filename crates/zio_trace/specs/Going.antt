@@ -44,7 +44,7 @@ weigh_slots o w [] = 0
 weigh_slots o w (s ∷ ss) = weigh w (todo_of o s) + weigh_slots o w ss
 
 -- the round after these deeds, with these nodes in flight and so much left of its own program
-pub record IsGoing {Op Ans A : Type 0} (ways : Ways Op Ans) (Apart : Op → Op → Type 0) (Lies : Op → Type 0) (mend : Op → Ans → Ans) (p : Program Op Ans A) (ds : List (Deed (Labelled Op) Ans)) (slots : List (Slot Op Ans)) (root : Program (Labelled Op) Ans A) (outs : ℕ) : Type 0 where
+pub record IsGoing {Op Ans A : Type 0} (ways : Ways Op Ans) (Passes : Labelled Op → Labelled Op → Type 0) (Lies : Op → Type 0) (mend : Op → Ans → Ans) (p : Program Op Ans A) (ds : List (Deed (Labelled Op) Ans)) (slots : List (Slot Op Ans)) (root : Program (Labelled Op) Ans A) (outs : ℕ) : Type 0 where
   pub knows : AllByRecursion (Knows ways ds) slots
   pub ends : Sure (ways_at ways) ds (λ o. heard o root ≡ heard o (labelled [] 0 p))
   pub todo : Sure (ways_at ways) ds (λ o. (w : Labelled Op → ℕ) → weigh w (asked_in o (labelled [] 0 p)) ≡ weigh w (ops_of ds) + (weigh_slots o w slots + weigh w (asked_behind o outs root)))
@@ -54,5 +54,5 @@ pub record IsGoing {Op Ans A : Type 0} (ways : Ways Op Ans) (Apart : Op → Op �
   pub once : AreOnce same_place ds
   pub single : AllByRecursion (λ (d : Deed (Labelled Op) Ans). ways.single d.op.op ≡ true) ds
   pub fit : AllByRecursion (λ (d : Deed (Labelled Op) Ans). mend d.op.op d.answer ≡ d.answer) ds
-  pub order : InOrder Earlier (λ x y. Apart x.op y.op) ds
+  pub order : InOrder Earlier Passes ds
   pub lies : AllByRecursion (λ (d : Deed (Labelled Op) Ans). Lies d.op.op) ds

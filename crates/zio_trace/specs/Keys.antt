@@ -1,7 +1,7 @@
 -- How often a task may ask for a key.
 use Rattle.std.specs.Prelude.{ℕ, ◌+◌, ◌≤◌, cond, Bool, true, false, List, [], ◌∷◌}
 use Rattle.zio_types.specs.declared.journal.Key.{Key}
-use Rattle.zio_types.specs.Choices.{same_key}
+use Rattle.zio_types.specs.Choices.{Ask, same_key}
 use Rattle.zio_trace.specs.Families.{Forest, NoTrees, TreeOf}
 use Rattle.zio_trace.specs.Labels.{same_number}
 use Rattle.zio_trace.specs.Programs.{Program, Ends, Asks}
@@ -10,6 +10,10 @@ use Rattle.zio_trace.specs.Tasks.{Task, Find, WritePart, Attempt, Settle, Value,
 abbrev pub bit : Bool → ℕ
 bit true = 1
 bit false = 0
+
+-- one where the ask is for the key
+abbrev pub key_weight : Key → Ask → ℕ
+key_weight k a = bit (same_key a.key k)
 
 -- so many where the numbers are the same
 abbrev pub if_same : ℕ → ℕ → ℕ → ℕ

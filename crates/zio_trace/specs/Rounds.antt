@@ -5,7 +5,7 @@ use Rattle.zio_gang.specs.Rounds.{Ran, add_left}
 use Rattle.zio_trace.specs.Families.{Forest, NoTrees, TreeOf, flat, AreUnder}
 use Rattle.zio_trace.specs.Plans.{TaskPlan}
 use Rattle.zio_trace.specs.Programs.{Ends, ◌>>=◌, ask, Done}
-use Rattle.zio_trace.specs.Tasks.{Settled, Settle, settled}
+use Rattle.zio_trace.specs.Tasks.{Settled, Settle, Task, settled}
 
 -- each tree in the order of its attempts
 abbrev pub trees_in : Forest → List (List Pending)
@@ -26,6 +26,11 @@ add_tree s others = record { left = add_left s.again others.left; ended = s.ende
 abbrev pub plan_round : Forest → TaskPlan Round
 plan_round NoTrees = Ends (record { left = []; ended = [] })
 plan_round (TreeOf p kids others) = ask (Settle p kids) >>= λ v. plan_round others >>= λ o. Ends (add_tree (settled v) o)
+
+-- each tree as a task
+abbrev pub settles : Forest → List Task
+settles NoTrees = []
+settles (TreeOf p kids others) = Settle p kids ∷ settles others
 
 -- a round of the definitions, as something done
 abbrev pub as_round : Ran → Done Round

@@ -30,13 +30,17 @@ pub record AreLawful {Op Ans : Type 0} (r : Rules Op Ans) : Type 0 where
   pub mended : (op : Op) (answer : Ans) → r.ways.single op ≡ true → r.ways.Fits op (r.mend op answer)
 
 -- What a whole round did, in the order in which it was done: it ends with the value, and its operations are those that the
--- program asks, each once. Those that aren't apart were done in the order of their places.
-pub record IsDone {Op Ans A : Type 0} (r : Rules Op Ans) (p : Program Op Ans A) (ds : List (Deed (Labelled Op) Ans)) (value : A) : Type 0 where
+-- program asks, each once. Only where one may pass the other weren't two done in the order of their places.
+pub record IsDoneBy {Op Ans A : Type 0} (r : Rules Op Ans) (Passes : Labelled Op → Labelled Op → Type 0) (p : Program Op Ans A) (ds : List (Deed (Labelled Op) Ans)) (value : A) : Type 0 where
   pub known : Sure (ways_at r.ways) ds (λ o. heard o (labelled [] 0 p) ≡ value)
   pub all : Sure (ways_at r.ways) ds (λ o. Shuffled (asked_in o (labelled [] 0 p)) (ops_of ds))
   pub within : Sure (ways_at r.ways) ds (λ o. AllByRecursion (Contains (asked_in o (labelled [] 0 p))) (ops_of ds))
   pub once : AreOnce same_place ds
   pub single : AllByRecursion (λ (d : Deed (Labelled Op) Ans). r.ways.single d.op.op ≡ true) ds
   pub fit : AllByRecursion (λ (d : Deed (Labelled Op) Ans). r.mend d.op.op d.answer ≡ d.answer) ds
-  pub order : InOrder Earlier (λ x y. r.Apart x.op y.op) ds
+  pub order : InOrder Earlier Passes ds
   pub lies : AllByRecursion (λ (d : Deed (Labelled Op) Ans). r.Lies d.op.op) ds
+
+-- those that are apart may pass each other
+abbrev pub IsDone : {Op Ans A : Type 0} → Rules Op Ans → Program Op Ans A → List (Deed (Labelled Op) Ans) → A → Type 0
+IsDone r p ds value = IsDoneBy r (λ x y. r.Apart x.op y.op) p ds value

@@ -20,13 +20,14 @@ left_behind o (suc n) (Asks op more) = left_behind o n (more (o.answer op))
 abbrev pub NumberedFrom : {Op Ans A : Type 0} → List ℕ → ℕ → Program (Labelled Op) Ans A → Type 0
 NumberedFrom {Op} {Ans} {A} at n p = (q : Program Op Ans A) × (p ≡ labelled at n q)
 
--- the calls that are out: the number of each, and its operation
-pub record Out (Op : Type 0) : Type 0 where
+-- the calls that are out: the number of each, its operation, and what it told of its value before it ended
+pub record Out (Op Early : Type 0) : Type 0 where
   pub number : ℕ
   pub op : Labelled Op
+  pub told : Option Early
 
 -- they stand first in the program, in their order
-abbrev pub StandFirst : {Op Ans A : Type 0} → Oracle (Labelled Op) Ans → List (Out Op) → Program (Labelled Op) Ans A → Type 0
+abbrev pub StandFirst : {Op Ans Early A : Type 0} → Oracle (Labelled Op) Ans → List (Out Op Early) → Program (Labelled Op) Ans A → Type 0
 StandFirst o [] p = Unit {0}
 StandFirst o (c ∷ cs) (Ends a) = ⊥
 StandFirst o (c ∷ cs) (Asks x more) = (x ≡ c.op) × StandFirst o cs (more (o.answer x))
@@ -47,3 +48,9 @@ abbrev pub nth : {X : Type 0} → ℕ → List X → Option X
 nth n [] = None
 nth zero (x ∷ xs) = Some x
 nth (suc n) (x ∷ xs) = nth n xs
+
+-- the nth told this
+abbrev pub telling : {Op Early : Type 0} → ℕ → Early → List (Out Op Early) → List (Out Op Early)
+telling n r [] = []
+telling zero r (c ∷ cs) = record { number = c.number; op = c.op; told = Some r } ∷ cs
+telling (suc n) r (c ∷ cs) = c ∷ telling n r cs

@@ -1,4 +1,5 @@
 ghost use Rattle.std.specs.Prelude.{◌∷◌, ◌++◌, ◌≡◌, ◌≤◌, [], List, Option, Some, length, suc, ℕ};
+ghost use Rattle.zio_blkptr.specs.declared.pointer.Bp.{Bp};
 ghost use Rattle.zio_trace.specs.Calls.{NextIs, answered_at};
 ghost use Rattle.zio_trace.specs.Going.{nth_asked};
 ghost use Rattle.zio_trace.specs.Labels.{Labelled, labelled};
@@ -35,13 +36,13 @@ pub fn a_node_shows_the_rest_of_its_program()
 /// The operations of a node that are out stand first in the rest of its program, in their order: so the nth of them is
 /// the nth that is asked, one more stands behind them, and one that is answered leaves the others in their order.
 pub fn operations_that_are_out_stand_first()
-    ensures nth { (o : Oracle (Labelled Task) Value) (outs : List (Out Task)) (p : Program (Labelled Task) Value Value)
-        (n : ℕ) (c : Out Task) → StandFirst o outs p → nth n outs ≡ Some c → nth_asked o n p ≡ Some c.op }
-    ensures more { (o : Oracle (Labelled Task) Value) (outs : List (Out Task)) (p : Program (Labelled Task) Value Value)
-        (c : Out Task) → StandFirst o outs p → nth_asked o (length outs) p ≡ Some c.op →
+    ensures nth { (o : Oracle (Labelled Task) Value) (outs : List (Out Task (Option Bp))) (p : Program (Labelled Task) Value Value)
+        (n : ℕ) (c : Out Task (Option Bp)) → StandFirst o outs p → nth n outs ≡ Some c → nth_asked o n p ≡ Some c.op }
+    ensures more { (o : Oracle (Labelled Task) Value) (outs : List (Out Task (Option Bp))) (p : Program (Labelled Task) Value Value)
+        (c : Out Task (Option Bp)) → StandFirst o outs p → nth_asked o (length outs) p ≡ Some c.op →
         StandFirst o (outs ++ c ∷ []) p }
-    ensures answered { (o : Oracle (Labelled Task) Value) (outs : List (Out Task))
-        (p : Program (Labelled Task) Value Value) (n : ℕ) (c : Out Task) (v : Value) → StandFirst o outs p →
+    ensures answered { (o : Oracle (Labelled Task) Value) (outs : List (Out Task (Option Bp)))
+        (p : Program (Labelled Task) Value Value) (n : ℕ) (c : Out Task (Option Bp)) (v : Value) → StandFirst o outs p →
         nth n outs ≡ Some c → o.answer c.op ≡ v → StandFirst o (without n outs) (answered_at n v p) }
     ensures behind { (o : Oracle (Labelled Task) Value) (n m : ℕ) (v : Value) (p : Program (Labelled Task) Value Value)
         (x : Labelled Task) → nth_asked o n p ≡ Some x → o.answer x ≡ v → n ≤ m →

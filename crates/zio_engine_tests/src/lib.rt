@@ -1,0 +1,17 @@
+//! Tests of the engines' parts: that their calls succeed where memory is ample, what they do step by step, and pieces that
+//! are written by turns.
+//!
+//! They stand here and not in the crates, since a crate with tests of its own is proved once more with them. There is
+//! nothing else in it.
+#![tactic(auto)]
+
+#[cfg(test)]
+mod copies;
+#[cfg(test)]
+mod kids;
+#[cfg(test)]
+mod parts;
+#[cfg(test)]
+mod turns;
+#[cfg(test)]
+mod walks;

@@ -1,0 +1,16 @@
+pub mod AnsweredLemmas
+pub mod FieldLemmas
+pub mod GangLemmas
+pub mod MemberLemmas
+pub mod PartLemmas
+pub mod PartTaskLemmas
+pub mod PlanLemmas
+pub mod ReadLemmas
+pub mod RepairLemmas
+pub mod SlotLemmas
+pub mod SlotMoves
+pub mod TreeReadLemmas
+pub mod WalkLemmas
+pub mod WalkSteps
+pub mod WantedLemmas
+pub mod WriteLemmas

@@ -1,0 +1,16 @@
+pub mod ErrorLemmas
+pub mod FilledLemmas
+pub mod PassLemmas
+pub mod PermLemmas
+pub mod EachLemmas
+pub mod SoundLemmas
+pub mod LinkLemmas
+pub mod QueueLemmas
+pub mod MoveLemmas
+pub mod AnswerLemmas
+pub mod LineLemmas
+pub mod TurnLemmas
+pub mod WriteTurns
+pub mod RunLemmas
+pub mod EndLemmas
+pub mod BeginLemmas

@@ -1,0 +1,4 @@
+pub mod Filled
+pub mod Flights
+pub mod Nodes
+pub mod Running

@@ -3,11 +3,11 @@ use Rattle.std.proofs.Common.{◌≡◌, ◌≢◌, ℕ, zero, suc, ◌+◌, ◌
 use Rattle.std.specs.List.{AllByRecursion, list_all}
 use Rattle.zio_blkptr.specs.declared.pointer.Bp.{Bp}
 use Rattle.zio_children.specs.RequestKids.{AreHanded, FitKids, FitsState, IsDue, IsOutWith, KidsFields, RiseFrom, due_kids, has_ended, has_told, how_many, is_ended, is_told, numbers_of, state_at, state_set}
-use Rattle.zio_stages.specs.Slots.{IsOut, Slot}
+use Rattle.zio_frames.specs.Slots.{IsOut, Slot}
 use Rattle.zio_children.specs.declared.kids.Kid.{Kid}
 use Rattle.zio_children.specs.declared.kids.KidState.{KidState}
 use Rattle.zio_children.specs.declared.kids.KidState.TheVariants.{Due, Out, Told, Ended}
-use Rattle.zio_stages.proofs.SlotMoves.{IsOutAt}
+use Rattle.zio_frames.proofs.SlotMoves.{IsOutAt}
 
 -- ---- states
 

@@ -11,14 +11,14 @@ use Rattle.zio_trace.specs.Plans.{Kids, TaskPlan, add_kid, plan_kids}
 use Rattle.zio_trace.specs.Programs.{Ends, Asks, ◌>>=◌}
 use Rattle.zio_trace.specs.Tasks.{Attempt, AttemptedBy, One, Task, Value, attempted}
 use Rattle.zio_trace.specs.Underway.{early}
-use Rattle.zio_children.specs.Answering.{AsksBehindAnswers}
+use Rattle.zio_frames.specs.Answering.{AsksBehindAnswers}
 use Rattle.zio_children.specs.RequestKids.{FitKids, FitsState, IsTreeAt, bare_child, child_of, has_ended, has_told, is_ended, is_told, kept_as, kids_by, numbers_of, pointer_by, return_by, root_numbers}
-use Rattle.zio_stages.specs.Slots.{AsksBehindSlots, Heard, IsOut, Slot, left_behind_slots, told_in}
+use Rattle.zio_frames.specs.Slots.{AsksBehindSlots, Heard, IsOut, Slot, left_behind_slots, told_in}
 use Rattle.zio_children.specs.declared.kids.Kid.{Kid}
 use Rattle.zio_children.specs.declared.kids.KidState.{KidState}
 use Rattle.zio_children.specs.declared.kids.KidState.TheVariants.{Due, Out, Told, Ended}
-use Rattle.zio_stages.proofs.SlotMoves.{bind_assoc}
-use Rattle.zio_stages.proofs.SlotLemmas.{AsksTasks, asks_then, next_behind_slots}
+use Rattle.zio_frames.proofs.SlotMoves.{bind_assoc}
+use Rattle.zio_frames.proofs.SlotLemmas.{AsksTasks, asks_then, next_behind_slots}
 
 -- ---- the next one
 

@@ -12,7 +12,7 @@ use Rattle.zio_gang.specs.ByNumber.{insert_by, insert_if}
 use Rattle.zio_script.specs.Requests.{kind_of}
 use Rattle.zio_trace.specs.Tasks.{AttemptedBy, One, Value, attempted}
 use Rattle.zio_children.specs.RequestKids.{FitKids, FitsState, bare_child, bits_by, error_by, has_ended, is_ended, kids_by, pointer_by, return_by, seen_return}
-use Rattle.zio_stages.specs.Slots.{Heard, IsOut, Slot}
+use Rattle.zio_frames.specs.Slots.{Heard, IsOut, Slot}
 use Rattle.zio_children.specs.declared.kids.Kid.{Kid}
 use Rattle.zio_children.specs.declared.kids.KidState.{KidState}
 use Rattle.zio_children.specs.declared.kids.KidState.TheVariants.{Due, Out, Told, Ended}

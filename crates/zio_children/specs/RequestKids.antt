@@ -10,7 +10,7 @@ use Rattle.zio_trace.specs.Families.{Forest, NoTrees, TreeOf}
 use Rattle.zio_trace.specs.Plans.{Kids, TaskPlan, add_kid, plan_kids}
 use Rattle.zio_trace.specs.Programs.{◌>>=◌}
 use Rattle.zio_trace.specs.Tasks.{Attempt, AttemptedBy, One, Value, attempted}
-use Rattle.zio_stages.specs.Slots.{AsksBehindSlots, Heard, IsOut, Slot}
+use Rattle.zio_frames.specs.Slots.{AsksBehindSlots, Heard, IsOut, Slot}
 use Rattle.zio_children.specs.declared.kept.KeptChild.{KeptChild}
 use Rattle.zio_children.specs.declared.kids.Kid.{Kid}
 use Rattle.zio_children.specs.declared.kids.KidState.{KidState}

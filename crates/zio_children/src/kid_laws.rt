@@ -7,9 +7,9 @@ ghost use Rattle.zio_gang.specs.Attempts.{Child, Own, Pending, Return, Terms, al
 ghost use Rattle.zio_trace.specs.Families.{Forest};
 ghost use Rattle.zio_trace.specs.Plans.{Kids, TaskPlan};
 ghost use Rattle.zio_trace.specs.Tasks.{Task, Value};
-ghost use Rattle.zio_children.specs.Answering.{AsksBehindAnswers};
+ghost use Rattle.zio_frames.specs.Answering.{AsksBehindAnswers};
 ghost use Rattle.zio_children.specs.RequestKids.{AreRoots, AreToldBy, Fits, KidsUnderWay, child_of, finished_in, is_ended, is_told, kids_by, pointers_of, returns_in, root_numbers, with_kids};
-ghost use Rattle.zio_stages.specs.Slots.{AllHeard, AsksBehindSlots, Slot, left_behind_slots};
+ghost use Rattle.zio_frames.specs.Slots.{AllHeard, AsksBehindSlots, Slot, left_behind_slots};
 
 /// The children of a request are the first operations of its plan, and its own work goes on behind them. What doesn't depend
 /// on them may be asked once they are all out; and what depends on their pointers alone, once they all told these. Once all

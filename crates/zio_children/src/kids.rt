@@ -32,7 +32,7 @@ ghost use Rattle.zio_children.specs.RequestKids.{
   returns_in,
   state_at,
 };
-ghost use Rattle.zio_stages.specs.Slots.{Heard, IsOut, Slot, left_behind_slots, outs_before};
+ghost use Rattle.zio_frames.specs.Slots.{Heard, IsOut, Slot, left_behind_slots, outs_before};
 ghost use Rattle.zio_children.specs.declared.kids.Kid.{Kid as SeenKid};
 
 use crate::kept::{KeptChild, merged, pointers_in, worst_of};
@@ -217,12 +217,20 @@ impl Kids {
     }
 
     /// All children that finished, now and in earlier attempts, by number.
+    pub fn finished(&self, alloc: Global) -> Result<List<KeptChild>, NoMemory>
+        requires { list_all is_ended self.now.kids ≡ true }
+        ensures { IfOk result (λ kept. map child_of kept ≡ finished_in self.now) }
+    {
+        let finished = finished_of(alloc, &self.kids)?;
+        merged(alloc, finished.as_slice(), self.kept.as_slice())
+    }
+
+    /// The same of children that are done with.
     pub fn into_kept(self, alloc: Global) -> Result<List<KeptChild>, NoMemory>
         requires { list_all is_ended self.kids ≡ true }
         ensures { IfOk result (λ kept. map child_of kept ≡ finished_in self) }
     {
-        let finished = finished_of(alloc, &self.kids)?;
-        merged(alloc, finished.as_slice(), self.kept.as_slice())
+        self.finished(alloc)
     }
 }
 

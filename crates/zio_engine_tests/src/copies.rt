@@ -2,7 +2,7 @@ ghost use Rattle.std.specs.Prelude.{◌≡◌, ◌∷◌, [], IfOk};
 
 use std::alloc::Global;
 use std::test::Fail;
-use zio_stages::{CopyRead, CopyWrite, ReadStep, Target, WriteStep};
+use zio_parts::{CopyRead, CopyWrite, ReadStep, Target, WriteStep};
 use zio_types::{Errno, List, Place, Top};
 
 const SECTOR: Place = Place {

@@ -3,7 +3,7 @@ ghost use Rattle.std.specs.Prelude.{◌≡◌, ◌∷◌, [], IfOk};
 use std::alloc::Global;
 use std::test::Fail;
 use zio_blkptr::SumKind;
-use zio_stages::{BlockWrite, PartStep, PartWrite};
+use zio_parts::{BlockWrite, PartStep, PartWrite};
 use zio_types::{Errno, List, Path, Place};
 
 const TOP: Path = Path {

@@ -3,7 +3,7 @@ ghost use Rattle.zio_blkptr.specs.Pointers.{valid};
 
 use std::test::Fail;
 use zio_blkptr::{Bp, SumKind};
-use zio_stages::{HeadWalk, TreeRead, TreeStep, WalkStep};
+use zio_parts::{HeadWalk, TreeRead, TreeStep, WalkStep};
 use zio_types::{Errno, Path, Place};
 
 const NOWHERE: Place = Place {

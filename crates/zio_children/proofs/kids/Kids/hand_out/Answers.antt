@@ -1,9 +1,9 @@
 use Rattle.std.proofs.Common.{◌+◌, ◌<◌, ◌∙◌, sym, ap, subst, length, None, [], ◌∷◌, ◌++◌}
 use Rattle.zio_children.specs.RequestKids.{AreHanded, Fits, KidsFields, KidsUnderWay, kid_handed}
-use Rattle.zio_stages.specs.Slots.{IsOut}
+use Rattle.zio_frames.specs.Slots.{IsOut}
 use Rattle.zio_children.specs.declared.kids.KidState.TheVariants.{Out}
 use Rattle.zio_children.proofs.KidFields.{fit_handed, handed_fields, written}
-use Rattle.zio_stages.proofs.SlotMoves.{slots_more}
+use Rattle.zio_frames.proofs.SlotMoves.{slots_more}
 use Rattle.zio_children.proofs.kids.Kids.hand_out.Goals as goal
 
 pub invariant_of-self : goal.invariant_of-self

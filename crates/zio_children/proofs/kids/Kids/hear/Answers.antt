@@ -1,11 +1,11 @@
 use Rattle.std.proofs.Common.{◌≡◌, ◌+◌, ◌<◌, ◌≤◌, ◌∙◌, refl, sym, ap, subst, length, set, vec_len, arith, cond, rules}
 use Rattle.zio_trace.specs.Tasks.{AttemptedBy}
 use Rattle.zio_children.specs.RequestKids.{Fits, FitsState, IsOutWith, KidsFields, KidsUnderWay, has_told, kid_is, state_at, state_set}
-use Rattle.zio_stages.specs.Slots.{Heard}
+use Rattle.zio_frames.specs.Slots.{Heard}
 use Rattle.zio_children.specs.declared.kids.KidState.{KidState}
 use Rattle.zio_children.specs.declared.kids.KidState.TheVariants.{Due, Ended}
 use Rattle.zio_children.proofs.KidFields.{ended_fields, ended_less, fit_set, heard_here, out_at, out_state, state_within, told_most, untold_is, written}
-use Rattle.zio_stages.proofs.SlotMoves.{slots_heard}
+use Rattle.zio_frames.proofs.SlotMoves.{slots_heard}
 use Rattle.zio_children.proofs.kids.Kids.hear.Goals as goal
 
 pub index-requires : goal.index-requires

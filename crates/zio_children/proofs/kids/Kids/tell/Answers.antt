@@ -1,9 +1,9 @@
 use Rattle.std.proofs.Common.{◌≡◌, ◌+◌, ◌<◌, ◌∙◌, refl, sym, ap, subst, length, set, vec_len, Some, arith, rules}
 use Rattle.zio_children.specs.RequestKids.{Fits, IsOutWith, KidsFields, KidsUnderWay, kid_is, state_at}
-use Rattle.zio_stages.specs.Slots.{IsOut}
+use Rattle.zio_frames.specs.Slots.{IsOut}
 use Rattle.zio_children.specs.declared.kids.KidState.TheVariants.{Due, Out, Told}
 use Rattle.zio_children.proofs.KidFields.{fit_set, out_at, state_within, told_fields, told_less, written}
-use Rattle.zio_stages.proofs.SlotMoves.{slots_told}
+use Rattle.zio_frames.proofs.SlotMoves.{slots_told}
 use Rattle.zio_children.proofs.kids.Kids.tell.Goals as goal
 
 pub index_mut-requires : goal.index_mut-requires

@@ -1,0 +1,14 @@
+pub mod AnsweredLemmas
+pub mod FieldLemmas
+pub mod GangLemmas
+pub mod MemberLemmas
+pub mod PartLemmas
+pub mod PartTaskLemmas
+pub mod PlanLemmas
+pub mod ReadLemmas
+pub mod RepairLemmas
+pub mod TreeReadLemmas
+pub mod WalkLemmas
+pub mod WalkSteps
+pub mod WantedLemmas
+pub mod WriteLemmas

@@ -1,0 +1,34 @@
+use Rattle.std.proofs.Common.{◌≡◌, ◌∙◌, sym, ap, subst, length, slice_get, Some, None, arith}
+use Rattle.zio_parts.specs.TreeReads.{Reading, ShowsRead}
+use Rattle.zio_parts.specs.declared.tree_read.BodyRead.{BodyRead}
+use Rattle.zio_parts.specs.declared.tree_read.TreeStep.TheVariants.{Body, Wait, End}
+use Rattle.zio_parts.proofs.TreeReadLemmas.{body_shown, end_shown, wait_shown}
+use Rattle.zio_parts.proofs.tree_read.TreeRead.next_body.Goals as goal
+
+pub returns-in-Some : goal.returns-in-Some
+returns-in-Some c =
+    let x = c.self.inside in
+    let counted : c.len-n.result ≡ length x.results.items = omega (arith, x.results.ok.0, c.len-n.ensures) in
+    let got : slice_get x.bodies (length x.results.items) ≡ Some c.in-Some.bp =
+    ap (slice_get x.bodies) (sym counted) ∙ ap (λ bs. slice_get bs c.len-n.result) (sym c.as_slice.ensures) ∙ sym c.nth.ensures ∙ c.in-Some.is in
+    let b : BodyRead = record { n = c.len-n.result; bp = c.in-Some.bp } in
+    subst (λ (w : Reading). ShowsRead w (Body b)) c.self.view_is
+    (body_shown x.bp x.phase x.bodies x.results.items x.out b c.self.invariant (rw (← c.self.view_is) at c.requires) c.if-self-eq-BODIES_OUT_MAX.false got (sym counted))
+
+pub returns-then-self-gt0 : goal.returns-then-self-gt0
+returns-then-self-gt0 c =
+    let x = c.self.inside in
+    let counted : c.len-n.result ≡ length x.results.items = omega (arith, x.results.ok.0, c.len-n.ensures) in
+    let past : slice_get x.bodies (length x.results.items) ≡ None =
+    ap (slice_get x.bodies) (sym counted) ∙ ap (λ bs. slice_get bs c.len-n.result) (sym c.as_slice.ensures) ∙ sym c.nth.ensures ∙ c.in-None.is in
+    subst (λ (w : Reading). ShowsRead w Wait) c.self.view_is
+    (wait_shown x.bp x.phase x.bodies x.results.items x.out c.self.invariant (rw (← c.self.view_is) at c.requires) c.if-self-gt0.true past)
+
+pub returns-else-self-gt0 : goal.returns-else-self-gt0
+returns-else-self-gt0 c =
+    let x = c.self.inside in
+    let counted : c.len-n.result ≡ length x.results.items = omega (arith, x.results.ok.0, c.len-n.ensures) in
+    let past : slice_get x.bodies (length x.results.items) ≡ None =
+    ap (slice_get x.bodies) (sym counted) ∙ ap (λ bs. slice_get bs c.len-n.result) (sym c.as_slice.ensures) ∙ sym c.nth.ensures ∙ c.in-None.is in
+    subst (λ (w : Reading). ShowsRead w End) c.self.view_is
+    (end_shown x.bp x.phase x.bodies x.results.items x.out c.self.invariant (rw (← c.self.view_is) at c.requires) c.if-self-gt0.false past)

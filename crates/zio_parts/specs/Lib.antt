@@ -1,0 +1,13 @@
+pub mod Answered
+pub mod Copies
+pub mod CopyReads
+pub mod CopyWrites
+pub mod HeadWalks
+pub mod Joins
+pub mod LeafPlans
+pub mod PartTasks
+pub mod PartWrites
+pub mod Parts
+pub mod ReadFields
+pub mod TreeReads
+pub mod WalkFields

@@ -1,0 +1,168 @@
+// What a walk over headers left.
+
+ghost use Rattle.std.specs.Prelude.{◌≡◌, ◌++◌, ◌∷◌, [], IfOk, Some, Option};
+ghost use Rattle.zio_types.specs.Errors.{worst_of};
+ghost use Rattle.zio_cksum.specs.Blocks.{blame};
+ghost use Rattle.zio_gang.specs.declared.tree.Tree.{Tree};
+ghost use Rattle.zio_trace.specs.Calls.{answered_at};
+ghost use Rattle.zio_trace.specs.Plans.{join_walked, only, plan_claim, plan_free, stopped, under_head};
+ghost use Rattle.zio_trace.specs.Programs.{Ends};
+ghost use Rattle.zio_trace.specs.Tasks.{WalkedBy};
+ghost use Rattle.zio_parts.specs.HeadWalks.{body_of, no_walk, with_member};
+ghost use Rattle.zio_parts.specs.TreeReads.{bodies_or, claiming};
+
+use std::alloc::Global;
+use std::marker::Model;
+use zio_blkptr::Bp;
+use zio_gang::{Head, Tree};
+use zio_mirror::write_result;
+use zio_types::{Errno, List, NoMemory, Path};
+
+/// What a walk over headers left, each in order: its errors, the pointers to bodies that it came to, and the headers that
+/// it read.
+#[derive(Debug, Drop)]
+pub struct Walked {
+    errors: List<Option<Errno>>,
+    bodies: List<Bp>,
+    heads: List<Head>,
+}
+
+impl Model for Walked {
+    ghost use Rattle.zio_trace.specs.Tasks.{Walked as Left};
+
+    ghost Value = { Left };
+
+    ghost view = { λ w. record { errors = w.errors; bodies = w.bodies; heads = w.heads } };
+}
+
+impl Walked {
+    /// A walk that met nothing.
+    pub(crate) fn nothing(alloc: Global) -> Walked
+        ensures { result ≡ no_walk }
+    {
+        Walked {
+            errors: List::new(alloc),
+            bodies: List::new(alloc),
+            heads: List::new(alloc),
+        }
+    }
+
+    /// A walk that ended with this error.
+    pub(crate) fn stopped(alloc: Global, error: Errno) -> Result<Walked, NoMemory>
+        ensures { IfOk result (λ walked. walked ≡ stopped error) }
+    {
+        let mut errors = List::new(alloc);
+        errors.push(Some(error))?;
+        Ok(Walked {
+            errors,
+            bodies: List::new(alloc),
+            heads: List::new(alloc),
+        })
+    }
+
+    /// A walk that came to this body.
+    pub(crate) fn body(alloc: Global, bp: Bp) -> Result<Walked, NoMemory>
+        ensures { IfOk result (λ walked. walked ≡ body_of bp) }
+    {
+        let mut bodies = List::new(alloc);
+        bodies.push(bp)?;
+        Ok(Walked {
+            errors: List::new(alloc),
+            bodies,
+            heads: List::new(alloc),
+        })
+    }
+
+    /// A walk that read this header.
+    pub(crate) fn head(alloc: Global, path: Path, bytes: [u8; 512]) -> Result<Walked, NoMemory>
+        ensures { IfOk result (λ walked. walked ≡ under_head path bytes no_walk) }
+    {
+        let mut heads = List::new(alloc);
+        heads.push(Head { path, bytes })?;
+        Ok(Walked {
+            errors: List::new(alloc),
+            bodies: List::new(alloc),
+            heads,
+        })
+    }
+
+    /// This walk, and what the walk below a member left behind it, where there is one.
+    pub(crate) fn and(self, member: Option<Walked>) -> Result<Walked, NoMemory>
+        ensures { IfOk result (λ walked. walked ≡ with_member self member) }
+    {
+        match member {
+            Some(others) => self.then(others),
+            None => Ok(self),
+        }
+    }
+
+    /// The worst of its errors, or none. A free of the block has this error.
+    pub fn error(&self) -> Option<Errno>
+        ensures worst { result ≡ worst_of self.now.errors }
+        ensures freed { (tree : Tree) → answered_at 0 (WalkedBy self.now) (plan_free (Some tree)) ≡ Ends (only result) }
+    {
+        worst_of(self.errors.as_slice())
+    }
+
+    /// The bodies that it came to, or the worst of its errors.
+    pub(crate) fn into_bodies(self) -> Result<List<Bp>, Errno>
+        ensures { result ≡ bodies_or self }
+    {
+        if self.errors.is_empty() {
+            Ok(self.bodies)
+        } else {
+            Err(blame(self.errors.as_slice()))
+        }
+    }
+
+    /// What a claim of this pointer makes of it: the block whose places are to be taken, or the worst of its errors.
+    pub fn into_claimed(self, bp: Bp) -> Result<Tree, Errno>
+        ensures { answered_at 0 (WalkedBy self) (plan_claim (Some bp)) ≡ claiming result }
+    {
+        if self.errors.is_empty() {
+            Ok(Tree {
+                bp,
+                heads: self.heads,
+            })
+        } else {
+            Err(blame(self.errors.as_slice()))
+        }
+    }
+
+    fn then(self, others: Walked) -> Result<Walked, NoMemory>
+        ensures { IfOk result (λ walked. walked ≡ join_walked self others) }
+    {
+        Ok(Walked {
+            errors: append(self.errors, others.errors)?,
+            bodies: append(self.bodies, others.bodies)?,
+            heads: append(self.heads, others.heads)?,
+        })
+    }
+}
+
+fn worst_of(errors: &[Option<Errno>]) -> Option<Errno>
+    ensures { result ≡ worst_of errors.now }
+{
+    if errors.is_empty() {
+        None
+    } else {
+        write_result(errors, true)
+    }
+}
+
+/// The worst of what failed.
+pub(crate) fn blame(errors: &[Option<Errno>]) -> Errno
+    ensures { result ≡ blame errors.now }
+{
+    worst_of(errors).unwrap_or(Errno::Nxio)
+}
+
+/// The items of both, moved.
+fn append<T: Drop>(front: List<T>, back: List<T>) -> Result<List<T>, NoMemory>
+    ensures { IfOk result (λ items. items ≡ front ++ back) }
+{
+    let mut items = front.into_vec();
+    let mut behind = back.into_vec();
+    items.append(&mut behind)?;
+    Ok(List::from_vec(items))
+}

@@ -1,7 +1,0 @@
-use Rattle.std.proofs.Common.{◌≤◌, ◌*◌, length, arith}
-use Rattle.zio_stages.specs.Copies.{copies_at}
-use Rattle.zio_stages.proofs.WantedLemmas.{copies_few}
-use Rattle.zio_stages.proofs.laws.copies_are_few.Goals as goal
-
-pub returns : goal.returns
-returns c = λ tops places mirrored few. let h : length (copies_at tops places) ≤ 4 * length places = copies_few tops places mirrored in omega arith

@@ -1,5 +1,0 @@
-use Rattle.std.proofs.Common.{length}
-use Rattle.zio_stages.proofs.plans.+plan_at.Given as goal
-
-abbrev pub decreases-plan_at : goal.decreases-plan_at
-decreases-plan_at l = length l.places.now

@@ -1,0 +1,104 @@
+-- A request in an attempt hears of its children.
+use Rattle.std.proofs.Common.{◌≡◌, ℕ, zero, suc, ◌<◌, List, [], ◌∷◌, ◌++◌, length, set, slice_get, Option, Some, None, refl, sym, ap, ◌∙◌, subst, arith}
+use Rattle.std.specs.Prelude.{IfSome, option_map}
+use Rattle.zio_blkptr.specs.declared.pointer.Bp.{Bp}
+use Rattle.zio_gang.specs.Attempts.{Pending, Terms}
+use Rattle.zio_trace.specs.Families.{Forest}
+use Rattle.zio_trace.specs.Tasks.{Attempt, Task}
+use Rattle.zio_children.specs.RequestKids.{IsOutWith, numbers_of, root_numbers, state_at}
+use Rattle.zio_children.proofs.KidFields.{out_at}
+use Rattle.zio_frames.specs.Frames.{Child, OfOuter, Seat, Stack}
+use Rattle.zio_frames.specs.Moves.{set_at, with_children}
+use Rattle.zio_frames.specs.Seats.{asked_at}
+use Rattle.zio_frames.specs.Slots.{Heard, IsOut, Slot}
+use Rattle.zio_frames.proofs.SlotMoves.{IsOutAt}
+use Rattle.zio_stages.specs.KidTrees.{IsKids, KidsHeld}
+use Rattle.zio_stages.specs.RequestNodes.{IsRequestNode, IsSeatOf}
+use Rattle.zio_stages.specs.declared.request_node.RequestNode.{RequestNode}
+use Rattle.zio_stages.proofs.RequestNodeLemmas.{own_still, with_kids}
+use Rattle.zio_stages.proofs.RequestSits.{IsAttemptAt, asked_there}
+
+set_front : {X : Type 0} (xs ys : List X) (n : ℕ) (x : X) → n < length xs → set (xs ++ ys) n x ≡ set xs n x ++ ys
+set_front [] ys n x l = absurd (omega arith)
+set_front (y ∷ xs) ys zero x l = refl
+set_front (y ∷ xs) ys (suc n) x l = ap (λ zs. y ∷ zs) (set_front xs ys n x (omega arith))
+
+out_less : (n : ℕ) (slots : List Slot) → IsOutAt n slots → n < length slots
+out_less n [] h = absurd h
+out_less zero (s ∷ slots) h = omega arith
+out_less (suc n) (s ∷ slots) h = let l : n < length slots = out_less n slots h in omega arith
+
+pub kid_less : (t : Terms) (r : RequestNode) (st : Stack) (place : ℕ) (pointer : Option Bp) (h : IsRequestNode t r st)
+    → IsOutWith pointer (state_at r.kids.kids.kids place) → place < length h.kid_slots
+kid_less t r st place pointer h out = out_less place h.kid_slots (out_at pointer r.kids.kids.kids place h.kid_slots out h.kids.fits)
+
+-- its place is that of the child's seat
+pub seat_is : (family children : List Child) (child place : ℕ) (c : Child) → family ≡ children → IsSeatOf family child place
+    → slice_get children child ≡ Some c → c.seat ≡ OfOuter place
+seat_is family children child place c same seat there =
+    let e : Some c.seat ≡ Some (OfOuter place) =
+    sym (ap (option_map (λ (x : Child). x.seat)) (ap (λ (cs : List Child). slice_get cs child) same ∙ there)) ∙ seat in
+    cc
+
+pub one_place : (family : List Child) (child m n : ℕ) → IsSeatOf family child m → IsSeatOf family child n → m ≡ n
+one_place family child m n a b =
+    let e : Some (OfOuter m) ≡ Some (OfOuter n) = sym a ∙ b in cc
+
+seat_within : (family : List Child) (child place : ℕ) → IsSeatOf family child place → child < length family
+seat_within [] child place e = absurd (cc)
+seat_within (c ∷ cs) zero place e = omega arith
+seat_within (c ∷ cs) (suc child) place e = let l : child < length cs = seat_within cs child place e in omega arith
+
+pub child_within : (family : List Child) (child place : ℕ) → IsSeatOf family child place → child < length family
+child_within = seat_within
+
+pub if_there : {X : Type 0} (o : Option X) (P : X → Type 0) (x : X) → IfSome o P → o ≡ Some x → P x
+if_there None P x h e = absurd (cc)
+if_there (Some y) P x h e = let is : y ≡ x = cc in subst P is h
+
+-- what is asked of it has the child's number
+pub number_there : (t : Terms) (r : RequestNode) (st : Stack) (place : ℕ) (c : Child) (p : Pending) (below : Forest) (h : IsRequestNode t r st)
+    → place < length h.kid_slots → c.seat ≡ OfOuter place → asked_at st c.seat ≡ Some (Attempt r.attempt p below)
+    → slice_get (numbers_of r.kids.kids.kids) place ≡ Some p.request.number
+number_there t r st place c p below h l seat asked =
+    let a : IsAttemptAt r.attempt h.forest place (Attempt r.attempt p below) =
+    asked_there t r st place (Attempt r.attempt p below) h l (ap (asked_at st) (sym seat) ∙ asked) in
+    let same : p ≡ a.root = let both : Attempt r.attempt p below ≡ Attempt r.attempt a.root a.below = a.is in cc in
+    ap (λ (ns : List ℕ). slice_get ns place) (sym h.kids.roots) ∙ a.number ∙ ap (λ (q : Pending). Some q.request.number) (sym same)
+
+-- the operation of the child there is so far now
+pub hears_kid : (t : Terms) (r : RequestNode) (kids : KidsHeld) (family : List Child) (st : Stack) (place : ℕ) (seat : Seat) (slot : Slot) (h : IsRequestNode t r st)
+    → place < length h.kid_slots → seat ≡ OfOuter place → IsKids kids r.attempt h.forest h.kid_asked (set h.kid_slots place slot)
+    → kids.kids.kept ≡ r.kids.kids.kept
+    → IsRequestNode t (with_kids r kids family) (with_children (set_at st seat slot) family)
+hears_kid t r kids family st place seat slot h l at is kept =
+    subst (λ (s : Seat). IsRequestNode t (with_kids r kids family) (with_children (set_at st s slot) family)) (sym at) (record {
+      forest = h.forest;
+      kid_asked = h.kid_asked;
+      kid_slots = set h.kid_slots place slot;
+      own_asked = h.own_asked;
+      own_slots = h.own_slots;
+      op = h.op;
+      asked = h.asked;
+      slots = ap (λ (xs : List Slot). set xs place slot) h.slots ∙ set_front h.kid_slots h.own_slots place slot l;
+      kids = is;
+      kept = kept ∙ h.kept;
+      own = own_still r.own st (with_children (set_at st (OfOuter place) slot) family) h.own_asked h.own_slots h.own refl;
+      family = refl;
+      round = h.round;
+      failmode = h.failmode;
+    })
+
+-- the child, and what is known of it, is so far now
+pub heard_kid : (t : Terms) (r : RequestNode) (kids : KidsHeld) (family : List Child) (st : Stack) (child place : ℕ) (c : Child) (mark : Child → Child) (slot : Slot) (h : IsRequestNode t r st)
+    → place < length h.kid_slots → IsSeatOf r.family child place → slice_get st.children child ≡ Some c
+    → IsKids kids r.attempt h.forest h.kid_asked (set h.kid_slots place slot) → kids.kids.kept ≡ r.kids.kids.kept
+    → IfSome (slice_get r.family child) (λ (x : Child). family ≡ set r.family child (mark x))
+    → IsRequestNode t (with_kids r kids family) (with_children (set_at st c.seat slot) (set st.children child (mark c)))
+heard_kid t r kids family st child place c mark slot h l seat there is kept marked =
+    let mine : slice_get r.family child ≡ Some c = ap (λ (cs : List Child). slice_get cs child) h.family ∙ there in
+    let now : family ≡ set st.children child (mark c) =
+    if_there (slice_get r.family child) (λ (x : Child). family ≡ set r.family child (mark x)) c marked mine
+    ∙ ap (λ (cs : List Child). set cs child (mark c)) h.family in
+    subst (λ (cs : List Child). IsRequestNode t (with_kids r kids family) (with_children (set_at st c.seat slot) cs)) now
+    (hears_kid t r kids family st place c.seat slot h l (seat_is r.family st.children child place c h.family seat there) is kept)

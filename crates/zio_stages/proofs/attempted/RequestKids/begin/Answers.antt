@@ -1,0 +1,19 @@
+use Rattle.std.proofs.Common.{◌≡◌, ◌∷◌, ◌++◌, [], ◌∙◌, sym, ap}
+use Rattle.zio_stages.specs.Wholes.{root_of}
+use Rattle.zio_stages.proofs.KidTreeLemmas.{Begun, begun}
+use Rattle.zio_stages.proofs.WholeLemmas.{root_last}
+use Rattle.zio_stages.proofs.attempted.RequestKids.begin.Goals as goal
+
+pub returns-in-Ok-clause-root : goal.returns-in-Ok-clause-root
+returns-in-Ok-clause-root c =
+    let is : c.args.whole ≡ c.pop.new.self.items ++ c.in-Some.root ∷ [] =
+    sym c.whole.view_is ∙ sym c.into_vec-rest.ensures ∙ c.in-Some.ensures.items in
+    ap root_of is ∙ root_last c.pop.new.self.items c.in-Some.root
+
+pub returns-in-Ok-clause-kids : goal.returns-in-Ok-clause-kids
+returns-in-Ok-clause-kids c = λ attempt p forest h.
+    let is : c.args.whole ≡ c.pop.new.self.items ++ c.in-Some.root ∷ [] =
+    sym c.whole.view_is ∙ sym c.into_vec-rest.ensures ∙ c.in-Some.ensures.items in
+    let b : Begun c.pop.new.self.items c.in-Some.root p forest =
+    begun c.args.whole c.pop.new.self.items c.in-Some.root p forest is h in
+    (b.seen, c.in-Ok.ensures.kids attempt forest b.under)

@@ -1,0 +1,15 @@
+use Rattle.std.proofs.Common.{◌^◌, ◌*◌, ◌-◌, ◌≤◌, ◌++◌, ◌∷◌, [], ◌∙◌, sym, ap, subst, length}
+use Rattle.zio_parts.specs.Parts.{fresh_part, member_bytes}
+use Rattle.zio_stages.specs.declared.part.PartOwn.{PartOwn}
+use Rattle.zio_stages.proofs.PartOwnMoves.{member_handed}
+use Rattle.zio_stages.proofs.part.PartOwn.hand_out_member.Goals as goal
+
+pub returns : goal.returns
+returns c = λ t o asked slots h same.
+    let old = c.args.self.now in
+    let n = c.args.n in
+    let now : PartOwn = record { part = c.hand_out.new.self } in
+    let child : PartOwn = record { part = c.member-part.result } in
+    member_handed t old now child o asked slots n c.requires.next h c.hand_out.ensures.handed c.hand_out.ensures.slots
+    (c.member-part.ensures.fresh ∙ ap (λ bytes. fresh_part old.part.write (old.part.path ++ n ∷ []) (member_bytes bytes n)) (sym same))
+    (subst (λ bytes. length (member_bytes bytes n) ≤ 512 * 3 ^ (7 - length old.part.path)) (sym same) c.member-part.ensures.deep)

@@ -1,0 +1,20 @@
+use Rattle.std.proofs.Common.{◌≡◌, ◌<◌, ◌∙◌, length, slice_get, Some, None, refl, sym, ap, subst}
+use Rattle.zio_trace.specs.Tasks.{AttemptedBy}
+use Rattle.zio_children.specs.RequestKids.{IsOutWith, KidsUnderWay, numbers_of, state_at}
+use Rattle.zio_frames.specs.Moves.{child_ended}
+use Rattle.zio_frames.specs.Slots.{Heard}
+use Rattle.zio_stages.proofs.RequestHears.{heard_kid, kid_less, number_there, one_place, seat_is}
+use Rattle.zio_stages.proofs.request_node.RequestNode.arrive_again.Goals as goal
+
+pub returns : goal.returns
+returns c = λ t st x p below one h there asked by left.
+    let r = c.args.self.now in
+    let place = c.place-place.result in
+    let at = c.requires.out in
+    let same : at.place ≡ place = one_place r.family c.args.child at.place place at.seat c.place-place.ensures in
+    let out : IsOutWith c.args.pointer (state_at r.kids.kids.kids place) = subst (λ n. IsOutWith c.args.pointer (state_at r.kids.kids.kids n)) same at.state in
+    let less : place < length h.kid_slots = kid_less t r st place c.args.pointer h out in
+    let seat = seat_is r.family st.children c.args.child place x h.family c.place-place.ensures there in
+    let number : slice_get (numbers_of r.kids.kids.kids) place ≡ Some p.request.number = number_there t r st place x p below h less seat asked in
+    heard_kid t r c.hear_again.new.self c.end.new.self st c.args.child place x child_ended (Heard (AttemptedBy one)) h less c.place-place.ensures there
+    (c.hear_again.ensures.after r.attempt h.forest h.kid_asked h.kid_slots p.request.number one h.kids number by left) (ap (λ (k : KidsUnderWay). k.kept) c.hear_again.ensures.kids) c.end.ensures

@@ -1,0 +1,26 @@
+use Rattle.std.proofs.Common.{◌≡◌, ◌∷◌, ◌++◌, [], ◌∙◌, List, length, sym, ap, subst, ◌+◌}
+use Rattle.zio_types.specs.declared.request.ChildKind.TheVariants.{Logical}
+use Rattle.zio_children.specs.RequestKids.{KidsUnderWay}
+use Rattle.zio_frames.specs.Frames.{Child, OfOuter}
+use Rattle.zio_stages.specs.NodeChildren.{new_child, seat_of}
+use Rattle.zio_stages.specs.RequestNodes.{HandsKid}
+use Rattle.zio_stages.specs.declared.family.Seat.{Seat}
+use Rattle.zio_stages.specs.declared.family.Seat.TheVariants.{Outer}
+use Rattle.zio_stages.specs.declared.waiting.Waiting.{Waiting}
+use Rattle.zio_stages.proofs.RequestNodeLemmas.{hands_kid, with_kids}
+use Rattle.zio_stages.proofs.request_node.RequestNode.start.Goals as goal
+
+pub returns-clause-child : goal.returns-clause-child
+returns-clause-child c = λ number whole e t st seated h.
+    let r = c.args.self.now in
+    let same : c.in_ok-number.number ≡ number = cc in
+    let tree : c.hand_out-whole.result ≡ whole = cc in
+    let there : c.in_ok-seat.seat ≡ Outer r.kids.kids.handed = c.in_ok-seat.ensures.seat ∙ ap (λ n. Outer n) c.in-Child.ensures.0 in
+    let family : c.add.new.self ≡ r.family ++ new_child (OfOuter r.kids.kids.handed) Logical ∷ [] =
+    c.in_ok-number.ensures.ok ∙ ap (λ (s : Seat). r.family ++ new_child (seat_of s) Logical ∷ []) there in
+    let kept = ap (λ (k : KidsUnderWay). k.kept) c.hand_out-whole.ensures.kids in (
+      sym same ∙ c.in_ok-number.ensures.number ∙ ap (λ (cs : List Child). length cs) h.family,
+      subst (λ (ws : List Waiting). HandsKid t (with_kids r c.hand_out-whole.new.self c.add.new.self) ws st) tree
+          (hands_kid t r c.hand_out-whole.new.self c.add.new.self c.hand_out-whole.result st h
+          (c.hand_out-whole.ensures.asks r.attempt h.forest h.kid_asked h.kid_slots h.kids) kept family),
+    )

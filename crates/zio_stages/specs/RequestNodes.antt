@@ -1,0 +1,110 @@
+-- A request in an attempt as a node: its children stand first, its own work behind them.
+use Rattle.std.specs.Prelude.{◌≡◌, ℕ, List, [], ◌∷◌, ◌++◌, true, Option, Some, None, option_map, slice_get}
+use Rattle.zio_types.specs.declared.error.Errno.{Errno}
+use Rattle.zio_types.specs.declared.request.Bits.{Bits}
+use Rattle.zio_blkptr.specs.declared.pointer.Bp.{Bp}
+use Rattle.zio_gang.specs.Attempts.{Child, Ended, Pending, Terms, has_bits, no_bits, tree_unless}
+use Rattle.zio_trace.specs.Families.{Forest, NoTrees}
+use Rattle.zio_trace.specs.Plans.{plan_own}
+use Rattle.zio_trace.specs.Programs.{Ends}
+use Rattle.zio_trace.specs.Tasks.{Attempt, AttemptedBy, One, OwnGot, Task}
+use Rattle.zio_children.specs.RequestKids.{kids_by, pointers_of, state_at}
+use Rattle.zio_children.specs.declared.kids.KidState.{KidState}
+use Rattle.zio_frames.specs.Frames.{Child as StackChild, OfOuter, Stack, asking}
+use Rattle.zio_frames.specs.Moves.{AsksNext, IsEnded, handed}
+use Rattle.zio_frames.specs.Slots.{AllHeard, Slot, left_behind_slots}
+use Rattle.zio_stages.specs.KidTrees.{IsKids, IsLeft}
+use Rattle.zio_stages.specs.Waits.{pending_of}
+use Rattle.zio_stages.specs.Wholes.{IsTreeOf, root_number}
+use Rattle.zio_stages.specs.declared.request_node.Closed.{Closed}
+use Rattle.zio_stages.specs.declared.request_node.Closed.TheVariants.{Again, Finished}
+use Rattle.zio_stages.specs.declared.request_node.Own.{Own}
+use Rattle.zio_stages.specs.declared.request_node.Own.TheVariants.{Due}
+use Rattle.zio_stages.specs.declared.request_node.OwnFound.{OwnFound}
+use Rattle.zio_stages.specs.declared.request_node.RequestNode.{RequestNode}
+use Rattle.zio_stages.specs.declared.waiting.Waiting.{Waiting}
+
+-- ---- how far it is
+
+-- its own work is so far: these were asked for it
+abbrev pub IsOwnOf : Own → Stack → List Task → List Slot → Type 0
+IsOwnOf Due st asked slots = (asked ≡ []) × (slots ≡ []) × (st.inner ≡ None)
+
+-- It is so far in an attempt of its request.
+pub record IsRequestNode (t : Terms) (r : RequestNode) (st : Stack) : Type 0 where
+  pub forest : Forest
+  pub kid_asked : List Task
+  pub kid_slots : List Slot
+  pub own_asked : List Task
+  pub own_slots : List Slot
+  pub op : st.outer.op ≡ Attempt r.attempt (pending_of r.waiting) forest
+  pub asked : st.outer.asked ≡ kid_asked ++ own_asked
+  pub slots : st.outer.slots ≡ kid_slots ++ own_slots
+  pub kids : IsKids r.kids r.attempt forest kid_asked kid_slots
+  pub kept : r.kids.kids.kept ≡ r.waiting.kept
+  pub own : IsOwnOf r.own st own_asked own_slots
+  pub family : r.family ≡ st.children
+  pub round : t.round ≡ r.round
+  pub failmode : t.failmode ≡ r.failmode
+
+-- ---- its children
+
+-- The attempt of this tree is asked next, and is handed to a child.
+pub record HandsKid (t : Terms) (now : RequestNode) (ws : List Waiting) (st : Stack) : Type 0 where
+  pub root : Pending
+  pub below : Forest
+  pub tree : IsTreeOf ws root below
+  pub asks : AsksNext t (asking st) (Attempt now.attempt root below)
+  pub after : IsRequestNode t now (handed st (Attempt now.attempt root below))
+
+-- the child sits there
+abbrev pub IsSeatOf : List StackChild → ℕ → ℕ → Type 0
+IsSeatOf family child place = option_map (λ (c : StackChild). c.seat) (slice_get family child) ≡ Some (OfOuter place)
+
+-- The child attempts the tree of this place, and is so far.
+pub record IsKidAt (P : Option KidState → Type 0) (r : RequestNode) (child : ℕ) : Type 0 where
+  pub place : ℕ
+  pub seat : IsSeatOf r.family child place
+  pub state : P (state_at r.kids.kids.kids place)
+
+-- ---- what becomes of it
+
+-- what its own work came to
+abbrev pub own_got : OwnFound → OwnGot
+own_got x = record { error = x.error; bytes = x.bytes; tree = x.tree; pointer = x.pointer }
+
+-- what its children told and left is what its own work goes on from, and it came to this
+pub record OwnEnds (t : Terms) (r : RequestNode) (st : Stack) (own : OwnGot) (h : IsRequestNode t r st) : Type 0 where
+  pub alone : st.inner ≡ None
+  pub heard : AllHeard h.own_slots
+  pub value : left_behind_slots h.own_slots (plan_own t r.attempt (pending_of r.waiting) r.waiting.request.work (pointers_of r.kids.kids)) ≡ Ends own
+
+abbrev pub left_child : Waiting → Option Errno → Option Bp → Child
+left_child w error pointer = record { number = w.request.number; error = error; pointer = pointer }
+
+-- It finished with this error or none, behind these that finished among its children's trees.
+pub record IsFinished (w : Waiting) (before : List Ended) (error : Option Errno) (own : OwnGot) (one : One) : Type 0 where
+  pub bits : one.return.bits ≡ no_bits
+  pub child : one.return.child ≡ left_child w error own.pointer
+  pub ended : one.ended ≡ before ++ record { request = w.request; error = error; bytes = own.bytes; tree = tree_unless error own.tree } ∷ []
+  pub again : one.again ≡ []
+  pub left : one.left ≡ NoTrees
+
+-- It goes again with these bits, and this tree is left.
+pub record GoesAgain (w : Waiting) (before : List Ended) (bits : Bits) (ws : List Waiting) (own : OwnGot) (one : One) : Type 0 where
+  pub same : one.return.bits ≡ bits
+  pub some : has_bits bits ≡ true
+  pub child : one.return.child ≡ left_child w None own.pointer
+  pub ended : one.ended ≡ before
+  pub left : IsLeft ws one
+  pub number : root_number ws ≡ Some w.request.number
+
+abbrev pub IsClosedAs : Closed → RequestNode → List Ended → One → Type 0
+IsClosedAs (Finished waiting error own) r before one = (waiting ≡ r.waiting) × IsFinished r.waiting before error (own_got own) one
+IsClosedAs (Again bits whole own) r before one = GoesAgain r.waiting before bits whole (own_got own) one
+
+-- the attempt ends with this
+pub record Closes (t : Terms) (r : RequestNode) (st : Stack) (h : IsRequestNode t r st) (closed : Closed) : Type 0 where
+  pub one : One
+  pub value : IsEnded t st (AttemptedBy one)
+  pub shows : IsClosedAs closed r (kids_by h.kid_slots).ended one

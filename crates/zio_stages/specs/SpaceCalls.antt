@@ -1,0 +1,34 @@
+-- Calls of the space: what a node asked of it, gave back and claimed.
+use Rattle.std.specs.Prelude.{◌≡◌, ℕ, ◌≤◌, List, [], ◌∷◌, ◌++◌, length, map, Bool, true, false, cond, IsTrue}
+use Rattle.std.specs.List.{AllByRecursion, flat_map}
+use Rattle.zio_types.specs.declared.place.Place.{Place}
+use Rattle.zio_types.specs.declared.place.TopSize.{TopSize}
+use Rattle.zio_types.specs.Choices.{Choice}
+use Rattle.zio_types.specs.Places.{fits_size, is_inside}
+use Rattle.zio_gang.specs.Trees.{tree_places}
+use Rattle.zio_frames.specs.Moves.{Chose, Closed, Did, Opened, Took}
+
+-- what was asked with what was found; a place that was given back; and places that were claimed, and whether all were free
+pub data SpaceCall : Type 0 where
+  Placed : Choice → SpaceCall
+  GaveBack : Place → SpaceCall
+  Claimed : List Place → Bool → SpaceCall
+
+abbrev pub call_by : Did → List SpaceCall
+call_by (Opened op) = []
+call_by (Closed v) = []
+call_by (Chose c) = Placed c ∷ []
+call_by (Took tree free) = Claimed (tree_places tree) free ∷ []
+
+-- those of what a node did
+abbrev pub calls_by : List Did → List SpaceCall
+calls_by dids = flat_map call_by dids
+
+abbrev pub calls_back : List Place → List SpaceCall
+calls_back places = map GaveBack places
+
+-- Each place is inside its top and fits the size, and there are no more than copies.
+pub record IsAnswerFor (tops : List TopSize) (c : Choice) : Type 0 where
+  pub few : length c.places ≤ c.asked.copies
+  pub inside : AllByRecursion (λ (p : Place). IsTrue (is_inside tops p)) c.places
+  pub fit : AllByRecursion (λ (p : Place). IsTrue (fits_size tops c.asked.size p)) c.places

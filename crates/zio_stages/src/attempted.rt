@@ -1,0 +1,240 @@
+//! The children of a request in an attempt, with their trees.
+
+ghost use Rattle.std.specs.Prelude.{◌≡◌, ◌<◌, ◌≤◌, ◌∷◌, ℕ, List, [], IfErr, IfOk, None, OnErr, Option, Some, length, replicate, reverse, slice_get, slice_set, true, vec_capacity};
+ghost use Rattle.std.specs.List.{list_all};
+ghost use Rattle.zio_gang.specs.Attempts.{Attempted, Pending, has_bits, no_bits};
+ghost use Rattle.zio_trace.specs.Families.{Forest, NoTrees};
+ghost use Rattle.zio_trace.specs.Plans.{one_of};
+ghost use Rattle.zio_trace.specs.Tasks.{AttemptedBy, One, Task};
+ghost use Rattle.zio_children.specs.RequestKids.{Fits, IsLeftBy, IsOutWith, RiseFrom, ShowsKids, finished_in, fresh_kids, is_ended, kid_handed, kid_is, kids_by, numbers_of, state_at};
+ghost use Rattle.zio_children.specs.declared.kids.KidState.TheVariants.{Ended, Out, Told};
+ghost use Rattle.zio_frames.specs.Slots.{Heard, IsOut, Slot};
+ghost use Rattle.zio_stages.specs.KidTrees.{HandsOut, IsKids, IsLeft, with_kept};
+ghost use Rattle.zio_stages.specs.Splits.{AreSoMany};
+ghost use Rattle.zio_stages.specs.Waits.{pending_of};
+ghost use Rattle.zio_stages.specs.Wholes.{IsForestOf, IsTreeOf, root_number, root_of, roots_in};
+
+use crate::again::{begin_again, grown_again};
+use crate::split::{rejoin, split};
+use crate::waiting::Waiting;
+use crate::whole::Whole;
+use std::alloc::Global;
+use std::marker::Model;
+use zio_blkptr::Bp;
+use zio_children::{KeptChild, KidStep, Kids};
+use zio_types::{Bits, Errno, List, NoMemory, ReqNo};
+
+/// The children of a request in an attempt: those that haven't finished, with the trees that are to be handed out and
+/// what is left of those that go again.
+#[derive(Debug, Drop)]
+pub struct RequestKids {
+    kids: Kids,
+    /// The trees that weren't handed out, the last first.
+    due: Vec<Whole>,
+    /// By the child's place, what is left of each that goes again.
+    again: Vec<Option<Whole>>,
+}
+
+impl Model for RequestKids {
+    ghost use Rattle.std.specs.Prelude.{reverse};
+    ghost use Rattle.zio_stages.specs.KidTrees.{AreHeld, KidsHeld};
+
+    ghost Value = { KidsHeld };
+
+    ghost view = { λ k. record { kids = k.kids; due = reverse k.due.items; again = k.again.items } };
+
+    ghost invariant = { λ k. AreHeld (record { kids = k.kids; due = reverse k.due.items; again = k.again.items }) };
+}
+
+/// There is no memory to begin with this tree.
+#[derive(Debug, Drop)]
+pub struct WholeBack {
+    pub whole: Whole,
+}
+
+/// There is no memory for the tree that goes again.
+#[derive(Debug, Drop)]
+pub struct AgainBack {
+    pub kids: RequestKids,
+    pub waiting: Waiting,
+}
+
+impl RequestKids {
+    /// Splits a tree into its request and its children's trees. It goes over the tree once. Where memory is refused the
+    /// tree comes back.
+    pub fn begin(alloc: Global, whole: Whole) -> Result<(Waiting, RequestKids), WholeBack>
+        ensures root { IfOk result (λ begun. root_of whole ≡ Some begun.0) }
+        ensures kids { IfOk result (λ begun. (attempt : ℕ) (p : Pending) (forest : Forest) → IsTreeOf whole p forest →
+            (pending_of begun.0 ≡ p) × IsKids begun.1 attempt forest [] []) }
+        ensures kept { IfOk result (λ begun. begun.1.kids.kept ≡ begun.0.kept) }
+        ensures back { IfErr result (λ e. e.whole ≡ whole) }
+    {
+        let mut rest = whole.waiting.into_vec();
+        let root = match rest.pop() {
+            Some(root) => root,
+            None => unreachable!(),
+        };
+        match kids_of(alloc, &root, &mut rest) {
+            Ok(kids) => Ok((root, kids)),
+            Err(NoMemory) => {
+                rest.push_reserved(root);
+                Err(WholeBack {
+                    whole: Whole {
+                        waiting: List::from_vec(rest),
+                    },
+                })
+            }
+        }
+    }
+
+    /// What is known of the children.
+    pub fn kids(&self) -> &Kids
+        ensures { result.now ≡ self.now.kids }
+    {
+        &self.kids
+    }
+
+    /// What is to be done next.
+    pub fn next(&self) -> KidStep
+        ensures { ShowsKids self.now.kids result }
+    {
+        self.kids.next()
+    }
+
+    /// The tree of the next child, whose attempt is out then.
+    pub fn hand_out(&mut self) -> Whole
+        requires { self.old.kids.handed < length self.old.kids.kids }
+        ensures kids { self.new.kids ≡ kid_handed self.old.kids }
+        ensures number { root_number result ≡ slice_get (numbers_of self.old.kids.kids) self.old.kids.handed }
+        ensures asks { (attempt : ℕ) (forest : Forest) (asked : List Task) (slots : List Slot) →
+            IsKids self.old attempt forest asked slots → HandsOut result self.old self.new attempt forest asked slots }
+    {
+        self.kids.hand_out();
+        match self.due.pop() {
+            Some(tree) => tree,
+            None => unreachable!(),
+        }
+    }
+
+    /// The nth child told which pointer it will have.
+    pub fn tell(&mut self, n: usize, pointer: Option<Bp>)
+        requires { state_at self.old.kids.kids n ≡ Some Out }
+        ensures kids { self.new.kids ≡ kid_is self.old.kids n (Told pointer) }
+        ensures after { (attempt : ℕ) (forest : Forest) (asked : List Task) (slots : List Slot) →
+            IsKids self.old attempt forest asked slots →
+            IsKids self.new attempt forest asked (slice_set slots n (IsOut (Some pointer))) }
+    {
+        self.kids.tell(n, pointer);
+    }
+
+    /// The nth child finished, with the pointer that it told if it told one.
+    pub fn hear_finished(&mut self, n: usize, error: Option<Errno>, pointer: Option<Bp>)
+        requires { IsOutWith pointer (state_at self.old.kids.kids n) }
+        ensures kids { self.new.kids ≡ kid_is self.old.kids n (Ended no_bits error pointer) }
+        ensures after { (attempt : ℕ) (forest : Forest) (asked : List Task) (slots : List Slot) (number : ℕ) (one : One) →
+            IsKids self.old attempt forest asked slots → slice_get (numbers_of self.old.kids.kids) n ≡ Some number →
+            IsLeftBy one number no_bits error pointer → one.again ≡ [] → one.left ≡ NoTrees →
+            IsKids self.new attempt forest asked (slice_set slots n (Heard (AttemptedBy one))) }
+    {
+        self.kids.hear(n, Bits::NONE, error, pointer);
+    }
+
+    /// The nth child goes again, with the pointer that it told if it told one, and this is left of its tree.
+    pub fn hear_again(&mut self, n: usize, bits: Bits, whole: Whole, pointer: Option<Bp>)
+        requires out { IsOutWith pointer (state_at self.old.kids.kids n) }
+        requires bits { has_bits bits ≡ true }
+        requires root { root_number whole ≡ slice_get (numbers_of self.old.kids.kids) n }
+        ensures kids { self.new.kids ≡ kid_is self.old.kids n (Ended bits None pointer) }
+        ensures after { (attempt : ℕ) (forest : Forest) (asked : List Task) (slots : List Slot) (number : ℕ) (one : One) →
+            IsKids self.old attempt forest asked slots → slice_get (numbers_of self.old.kids.kids) n ≡ Some number →
+            IsLeftBy one number bits None pointer → IsLeft whole one →
+            IsKids self.new attempt forest asked (slice_set slots n (Heard (AttemptedBy one))) }
+    {
+        let _ = &whole.waiting;
+        self.kids.hear(n, bits, None, pointer);
+        self.again[n] = Some(whole);
+    }
+
+    /// The request with its children that finished, over what is left of those that go again: the tree that goes again.
+    /// Where memory is refused both come back.
+    pub fn again(self, alloc: Global, mut waiting: Waiting) -> Result<Whole, AgainBack>
+        requires { list_all is_ended self.kids.kids ≡ true }
+        ensures tree { IfOk result (λ tree. (attempt : ℕ) (forest : Forest) (asked : List Task) (slots : List Slot) (one : Attempted) →
+            IsKids self attempt forest asked slots → one.again ≡ with_kept (pending_of waiting) (finished_in self.kids) ∷ [] →
+            IsLeft tree (one_of (kids_by slots) one)) }
+        ensures number { IfOk result (λ tree. root_number tree ≡ Some waiting.request.number) }
+        ensures back { IfErr result (λ e. (e.kids ≡ self) × (e.waiting ≡ waiting)) }
+    {
+        let begun = begin_again(alloc, &self.kids, &self.again);
+        match begun {
+            Err(NoMemory) => Err(AgainBack {
+                kids: self,
+                waiting,
+            }),
+            Ok((all, kept)) => {
+                let RequestKids { again, .. } = self;
+                waiting.kept = kept;
+                Ok(grown_again(all, again, waiting))
+            }
+        }
+    }
+}
+
+/// The children's trees, of which the list is made. Where memory is refused the list is as before.
+fn kids_of(alloc: Global, root: &Waiting, rest: &mut Vec<Waiting>) -> Result<RequestKids, NoMemory>
+    requires { AreSoMany rest.old.items root.now.unfinished }
+    ensures kids { IfOk result (λ kids. (attempt : ℕ) (forest : Forest) → IsForestOf rest.old.items forest →
+        IsKids kids attempt forest [] []) }
+    ensures kept { IfOk result (λ kids. kids.kids.kept ≡ root.now.kept) }
+    ensures err { OnErr result (rest.new.items ≡ rest.old.items) }
+    ensures capacity { OnErr result (vec_capacity rest.old ≤ vec_capacity rest.new) }
+{
+    let mut due = Vec::with_capacity(alloc, root.unfinished)?;
+    if split(rest, root.unfinished, &mut due).is_ok() {
+        if let Ok((kids, again)) = due_kids(alloc, root.kept.as_slice(), &due) {
+            return Ok(RequestKids { kids, due, again });
+        }
+    }
+    rejoin(rest, due);
+    Err(NoMemory)
+}
+
+/// The children whose trees these are, the last first, beside those that finished; nothing is left of any.
+fn due_kids(
+    alloc: Global,
+    kept: &[KeptChild],
+    due: &[Whole],
+) -> Result<(Kids, Vec<Option<Whole>>), NoMemory>
+    requires { RiseFrom 0 (roots_in (reverse due.now)) }
+    ensures kids { IfOk result (λ made. made.0 ≡ fresh_kids (roots_in (reverse due.now)) kept.now) }
+    ensures fits { IfOk result (λ made. Fits made.0 []) }
+    ensures again { IfOk result (λ made. made.1.items ≡ replicate (length due.now) None) }
+{
+    let mut numbers = numbers_of(alloc, due)?;
+    numbers.reverse();
+    let kept = Vec::from_slice(alloc, kept)?;
+    let again = nothing_left(alloc, due.len())?;
+    let kids = Kids::new(alloc, &numbers, List::from_vec(kept))?;
+    Ok((kids, again))
+}
+
+/// The numbers of their roots.
+fn numbers_of(alloc: Global, trees: &[Whole]) -> Result<Vec<ReqNo>, NoMemory>
+    ensures { IfOk result (λ numbers. numbers.items ≡ roots_in trees.now) }
+{
+    let mut numbers = Vec::new(alloc);
+    for tree in trees {
+        numbers.push(tree.number())?;
+    }
+    Ok(numbers)
+}
+
+fn nothing_left(alloc: Global, count: usize) -> Result<Vec<Option<Whole>>, NoMemory>
+    ensures { IfOk result (λ again. again.items ≡ replicate count None) }
+{
+    let mut again = Vec::new(alloc);
+    for _i in 0..count {
+        again.push(None)?;
+    }
+    Ok(again)
+}

@@ -1,0 +1,182 @@
+// One operation on a leaf under way.
+
+ghost use Rattle.std.specs.Prelude.{◌≡◌, [], ◌∷◌, List, false};
+ghost use Rattle.zio_gang.specs.Attempts.{Terms};
+ghost use Rattle.zio_trace.specs.Leaves.{Answer, Fetch, LeafOp, Store};
+ghost use Rattle.zio_trace.specs.Tasks.{Got, Leaf};
+ghost use Rattle.zio_frames.specs.Frames.{Frame, fresh_frame, with_asked};
+ghost use Rattle.zio_frames.specs.Slots.{Heard};
+ghost use Rattle.zio_parts.specs.Copies.{spot_at};
+ghost use Rattle.zio_stages.specs.LeafWorks.{
+  IsAnswered,
+  IsDue,
+  IsLeafWork,
+  IsOpAt,
+  IsOpFor,
+  IsQueuedAs,
+  IsSpanned,
+  len_of,
+  shown_by,
+};
+
+use crate::named::Named;
+use std::alloc::Global;
+use std::mem::replace;
+use zio_parts::Target;
+use zio_types::{Bytes, Errno, Flags, List, Prio, SECTOR_SIZE};
+use zio_vqueue::Op;
+
+/// What the operation does.
+#[derive(Clone, Copy)]
+enum Act {
+    /// It reads so many bytes from the front of the place.
+    Read { len: usize },
+    /// It writes the place.
+    Write,
+}
+
+/// How far it is.
+#[derive(Drop)]
+enum Stage {
+    /// A write has its bytes, and a read none.
+    Due(Bytes),
+    Out,
+    /// The bytes that were read, none of a write, or an error.
+    Answered(Result<Bytes, Errno>),
+}
+
+/// One operation on a leaf: it is handed out to the leaf once, with the bytes of a write, and answered.
+#[derive(Drop)]
+pub struct LeafWork {
+    leaf: u32,
+    /// As the leaf's queue takes it. Its range is the whole place, however many bytes are read or written.
+    op: Op,
+    act: Act,
+    stage: Stage,
+}
+
+impl LeafWork {
+    /// The read of this copy's first `len` bytes. Without memory.
+    pub fn read(alloc: Global, target: &Target, len: usize, retry: bool, prio: Prio) -> LeafWork
+        requires { IsSpanned target.now.place }
+        ensures fresh { (t : Terms) → IsLeafWork t result (fresh_frame (Leaf (Fetch retry len (spot_at target.now)))) }
+        ensures queued { IsQueuedAs prio false result }
+        ensures due { IsDue result }
+    {
+        LeafWork {
+            leaf: target.leaf,
+            op: op_on(target, false, retry, prio, false),
+            act: Act::Read { len },
+            stage: Stage::Due(List::new(alloc)),
+        }
+    }
+
+    /// The write of these bytes as this copy; `repair` tells whether it rewrites one that was found bad.
+    pub fn write(target: &Target, retry: bool, prio: Prio, repair: bool, bytes: Bytes) -> LeafWork
+        requires { IsSpanned target.now.place }
+        ensures fresh { (t : Terms) → IsLeafWork t result (fresh_frame (Leaf (Store retry bytes (spot_at target.now)))) }
+        ensures queued { IsQueuedAs prio repair result }
+        ensures due { IsDue result }
+    {
+        LeafWork {
+            leaf: target.leaf,
+            op: op_on(target, true, retry, prio, repair),
+            act: Act::Write,
+            stage: Stage::Due(bytes),
+        }
+    }
+
+    /// How many bytes a read asks for; of a write 0.
+    pub fn len(&self) -> usize
+        ensures { result ≡ len_of self.now }
+    {
+        match self.act {
+            Act::Read { len } => len,
+            Act::Write => 0,
+        }
+    }
+
+    /// The label of its node, in the part with this name.
+    pub(crate) fn label(&self, name: &Named) -> u64 {
+        let flags = self.op.flags;
+        name.leaf_label(self.leaf, flags.retry, flags.repair, self.len())
+    }
+
+    /// It goes to its leaf: the operation, whose ticket is 0, the leaf's number, and the bytes of a write, none of a
+    /// read.
+    pub fn hand_out(&mut self) -> (Op, u32, Bytes)
+        requires { IsDue self.old }
+        ensures related { (t : Terms) (x : Frame) → IsLeafWork t self.old x → IsLeafWork t self.new x }
+        ensures handed { (t : Terms) (x : Frame) (act : LeafOp) → IsLeafWork t self.old x → x.op ≡ Leaf act →
+            IsOpFor act result.0 result.1 result.2 }
+        ensures len { len_of self.new ≡ len_of self.old }
+        ensures op { result.0 ≡ self.old.op }
+        ensures out { self.new.stage ≡ Stage.Out }
+    {
+        let Stage::Due(bytes) = replace(&mut self.stage, Stage::Out) else {
+            unreachable!()
+        };
+        (self.op, self.leaf, bytes)
+    }
+
+    /// The leaf answered: an error or none, and the bytes of a read. Those of a write aren't kept.
+    pub fn answer(&mut self, error: Option<Errno>, bytes: Bytes)
+        requires { self.old.stage ≡ Stage.Out }
+        ensures related { (t : Terms) (x : Frame) (a : Answer) → IsLeafWork t self.old x →
+            a ≡ shown_by self.old error bytes → IsLeafWork t self.new (with_asked x x.op (Heard (Got a))) }
+        ensures answered { IsAnswered self.new }
+    {
+        let told = match error {
+            Some(error) => Err(error),
+            None => match self.act {
+                Act::Read { .. } => Ok(bytes),
+                Act::Write => Ok(emptied(bytes)),
+            },
+        };
+        self.stage = Stage::Answered(told);
+    }
+
+    /// What it was answered: the bytes that were read, good or not; of a write no bytes; or the error.
+    pub fn into_found(self) -> Result<Bytes, Errno>
+        requires { IsAnswered self }
+        ensures { (t : Terms) (x : Frame) (a : Answer) → IsLeafWork t self x → x.slots ≡ Heard (Got a) ∷ [] →
+            result ≡ a }
+    {
+        let LeafWork { stage, .. } = self;
+        let Stage::Answered(found) = stage else {
+            unreachable!()
+        };
+        found
+    }
+}
+
+/// The operation on a copy's whole place.
+fn op_on(target: &Target, write: bool, retry: bool, prio: Prio, repair: bool) -> Op
+    requires { IsSpanned target.now.place }
+    ensures at { IsOpAt write retry (spot_at target.now) result target.now.leaf }
+    ensures class { result.prio ≡ prio }
+    ensures mends { result.flags.repair ≡ repair }
+{
+    Op {
+        ticket: 0,
+        write,
+        at: target.place.sector * u64::from(SECTOR_SIZE),
+        len: target.place.sectors * SECTOR_SIZE,
+        prio,
+        flags: Flags {
+            // Whoever asked for it decides what its error means.
+            canfail: true,
+            retry,
+            dont_aggregate: retry,
+            repair,
+        },
+    }
+}
+
+fn emptied(bytes: Bytes) -> Bytes
+    ensures { result ≡ [] }
+{
+    let mut items = bytes.into_vec();
+    items.clear();
+    List::from_vec(items)
+}

@@ -1,0 +1,197 @@
+// The write of a part of a block, as a node's part of the work or as a request's own.
+
+ghost use Rattle.std.specs.Prelude.{◌≡◌, ◌++◌, ◌+◌, ◌-◌, ◌*◌, ◌%◌, ◌^◌, ◌∷◌, ◌<◌, ◌≤◌, ℕ, Contains, IfOk, IfSome, IsTrue, List, None, Option, Some, [], drop, length, slice_get, slice_set, take, true};
+ghost use Rattle.zio_types.specs.Choices.{Ask};
+ghost use Rattle.zio_blkptr.specs.Pointers.{valid};
+ghost use Rattle.zio_gang.specs.Attempts.{Terms, writing_of};
+ghost use Rattle.zio_trace.specs.Programs.{Ends};
+ghost use Rattle.zio_trace.specs.Tasks.{Find, Found, StoredAs, Task, Value, WriteCopies, Wrote};
+ghost use Rattle.zio_trace.specs.Underway.{early};
+ghost use Rattle.zio_frames.specs.Answering.{EndsAnswered};
+ghost use Rattle.zio_frames.specs.Slots.{AllHeard, Heard, IsOut, Slot, left_behind_slots, told_in};
+ghost use Rattle.zio_parts.specs.Parts.{ask_by, is_gang, is_head_due, member_bytes, member_count, places_at, pointer_over, slots_of, writing_by};
+ghost use Rattle.zio_parts.specs.PartWrites.{IsAsk, is_ready, step_of};
+ghost use Rattle.zio_stages.specs.PartOwns.{ForBytes, ForMember, HandsMember, HandsOut, IsOutAs, IsPartOwn, PartAsks, ShowsOwn, WrittenPart, asks_in, part_plan, stored_as};
+
+use std::alloc::Global;
+use std::ops::Range;
+use zio_blkptr::{BLOCK_SIZE_MAX, Bp};
+use zio_parts::{BlockWrite, PartStep, PartWrite, PlaceAsk, StoredPart};
+use zio_types::{Errno, List, NoMemory, Path, Place};
+
+/// The write of a part of a block: of a member by its own node, or of the whole by its request. Whoever holds it holds the
+/// bytes too.
+#[derive(Debug, Drop)]
+pub struct PartOwn {
+    part: PartWrite,
+}
+
+impl PartOwn {
+    /// Nothing of it is asked. The bytes are whole sectors, no more than so many levels of headers below the path can hold.
+    pub fn new(write: BlockWrite, path: Path, bytes: &[u8]) -> PartOwn
+        requires some { 0 < length bytes.now }
+        requires whole { length bytes.now % 512 ≡ 0 }
+        requires most { length bytes.now ≤ BLOCK_SIZE_MAX }
+        requires deep { length bytes.now ≤ 512 * 3 ^ (8 - length path) }
+        requires one { 1 ≤ write.copies }
+        requires three { write.copies ≤ 3 }
+        ensures { (t : Terms) (o : WrittenPart) → writing_by t.setting write ≡ writing_of t o.attempt o.pending o.sum_kind o.copies →
+            o.path ≡ path → o.bytes ≡ bytes.now → length path + o.levels ≡ 8 → IsPartOwn t result o [] [] }
+    {
+        PartOwn {
+            part: PartWrite::new(write, path, bytes),
+        }
+    }
+
+    /// What is to be done next.
+    pub fn next(&self) -> PartStep
+        ensures shows { ShowsOwn self.now result }
+        ensures waits { result ≡ PartStep.Wait → (t : Terms) (o : WrittenPart) (asked : List Task) (slots : List Slot) →
+            IsPartOwn t self.now o asked slots → 0 < length (told_in slots) }
+        ensures waits_ready { result ≡ PartStep.WaitReady → (t : Terms) (o : WrittenPart) (asked : List Task) (slots : List Slot) →
+            IsPartOwn t self.now o asked slots → Contains (told_in slots) None }
+    {
+        self.part.next()
+    }
+
+    /// The ask for places for the part's bytes.
+    pub fn body_ask(&self) -> PlaceAsk
+        requires { ShowsOwn self.now PartStep.AskBody }
+        ensures asks { (t : Terms) (o : WrittenPart) (asked : List Task) (slots : List Slot) → IsPartOwn t self.now o asked slots →
+            PartAsks t o slots (Find (ask_by result)) }
+        ensures some { 0 < result.size }
+        ensures whole { result.size % 512 ≡ 0 }
+        ensures one { 1 ≤ result.copies }
+        ensures three { result.copies ≤ 3 }
+    {
+        self.part.body_ask()
+    }
+
+    /// The ask for places for a header.
+    pub fn head_ask(&self) -> PlaceAsk
+        requires { ShowsOwn self.now PartStep.AskHead }
+        ensures asks { (t : Terms) (o : WrittenPart) (asked : List Task) (slots : List Slot) → IsPartOwn t self.now o asked slots →
+            PartAsks t o slots (Find (ask_by result)) }
+        ensures one { 1 ≤ result.copies }
+        ensures three { result.copies ≤ 3 }
+    {
+        self.part.head_ask()
+    }
+
+    /// The places that were asked for were found, or refused.
+    pub fn hear_places(&mut self, places: Option<List<Place>>)
+        requires asked { IsAsk (step_of self.old.part) }
+        requires valid { IfSome places (λ ps. IsTrue (valid (pointer_over self.old.part (is_head_due self.old.part.placing) ps))) }
+        ensures { (t : Terms) (o : WrittenPart) (asked : List Task) (slots : List Slot) (a : Ask) → IsPartOwn t self.old o asked slots →
+            IsPartOwn t self.new o (asked ++ Find a ∷ []) (slots ++ Heard (Found places) ∷ []) }
+    {
+        self.part.hear_places(places);
+    }
+
+    /// Where the bytes of a member stand in the part's.
+    pub fn member_range(&self, n: usize) -> Range<usize>
+        requires { ShowsOwn self.now (PartStep.Member n) }
+        ensures bytes { (bytes : List ℕ) → length bytes ≡ self.now.part.size → member_bytes bytes n ≡ take (result.end - result.start) (drop result.start bytes) }
+        ensures some { result.start < result.end }
+        ensures within { result.end ≤ self.now.part.size }
+    {
+        self.part.member_range(n)
+    }
+
+    /// The write of the nth member is out, where these are the bytes of the part. Its own bytes are those in the member's range.
+    pub fn hand_out_member(&mut self, n: usize, bytes: &[u8]) -> PartOwn
+        requires next { ShowsOwn self.old (PartStep.Member n) }
+        requires whole { length bytes.now ≡ self.old.part.size }
+        ensures { (t : Terms) (o : WrittenPart) (asked : List Task) (slots : List Slot) → IsPartOwn t self.old o asked slots →
+            o.bytes ≡ bytes.now → HandsMember t self.new result o n asked slots }
+    {
+        let part = self.part.member(n, bytes);
+        self.part.hand_out();
+        PartOwn { part }
+    }
+
+    /// The places that were found, for the part or for its header.
+    pub fn places(&self) -> &[Place]
+        ensures { result.now ≡ places_at self.now.part.placing }
+    {
+        self.part.places()
+    }
+
+    /// The write of the part's bytes to its places is out.
+    pub fn hand_out_body(&mut self)
+        requires { ShowsOwn self.old PartStep.WriteBody }
+        ensures places { places_at self.new.part.placing ≡ places_at self.old.part.placing }
+        ensures out { (t : Terms) (o : WrittenPart) (asked : List Task) (slots : List Slot) → IsPartOwn t self.old o asked slots →
+            HandsOut t self.new o asked slots (WriteCopies o.bytes (places_at self.old.part.placing)) }
+    {
+        self.part.hand_out();
+    }
+
+    /// The write of this header to the header's places is out.
+    pub fn hand_out_header(&mut self) -> [u8; 512]
+        requires { ShowsOwn self.old PartStep.WriteHeader }
+        ensures places { places_at self.new.part.placing ≡ places_at self.old.part.placing }
+        ensures out { (t : Terms) (o : WrittenPart) (asked : List Task) (slots : List Slot) → IsPartOwn t self.old o asked slots →
+            HandsOut t self.new o asked slots (WriteCopies result (places_at self.old.part.placing)) }
+    {
+        let bytes = self.part.header();
+        self.part.hand_out();
+        bytes
+    }
+
+    /// A member, the operation with this number, told which pointer it will have.
+    pub fn hear_told(&mut self, n: u32, pointer: Option<Bp>)
+        requires member { slice_get (asks_in self.old.part) n ≡ Some ForMember }
+        requires out { slice_get (slots_of self.old.part) n ≡ Some (IsOut None) }
+        requires valid { IfSome pointer (λ bp. IsTrue (valid bp)) }
+        ensures { (t : Terms) (o : WrittenPart) (asked : List Task) (slots : List Slot) → IsPartOwn t self.old o asked slots →
+            IsPartOwn t self.new o asked (slice_set slots n (IsOut (Some pointer))) }
+    {
+        self.part.tell((n - 2) as usize, pointer);
+    }
+
+    /// A member, the operation with this number, ended, with the pointer that it told if it told one.
+    pub fn hear_member(&mut self, n: u32, stored: StoredPart)
+        requires member { slice_get (asks_in self.old.part) n ≡ Some ForMember }
+        requires out { IsOutAs stored.pointer (slice_get (slots_of self.old.part) n) }
+        requires valid { IfSome stored.pointer (λ bp. IsTrue (valid bp)) }
+        ensures { (t : Terms) (o : WrittenPart) (asked : List Task) (slots : List Slot) → IsPartOwn t self.old o asked slots →
+            IsPartOwn t self.new o asked (slice_set slots n (Heard (StoredAs (stored_as stored)))) }
+    {
+        self.part.hear_member((n - 2) as usize, stored.error, stored.pointer, stored.heads);
+    }
+
+    /// The body or the header was written.
+    pub fn hear_written(&mut self, error: Option<Errno>)
+        requires { (n : ℕ) × (slice_get (asks_in self.old.part) n ≡ Some ForBytes) × (slice_get (slots_of self.old.part) n ≡ Some (IsOut None)) }
+        ensures { (n : ℕ) → slice_get (asks_in self.old.part) n ≡ Some ForBytes → (t : Terms) (o : WrittenPart) (asked : List Task) (slots : List Slot) →
+            IsPartOwn t self.old o asked slots → IsPartOwn t self.new o asked (slice_set slots n (Heard (Wrote error))) }
+    {
+        self.part.hear_written(error);
+    }
+
+    /// It has its places or none, and each of its members told its pointer: so it can tell its own.
+    pub fn is_ready(&self) -> bool
+        ensures { result ≡ is_ready self.now.part }
+    {
+        self.part.is_ready()
+    }
+
+    /// The pointer that it tells once it is ready, none where it has no place.
+    pub fn pointer(&self) -> Option<Bp>
+        ensures valid { IfSome result (λ bp. IsTrue (valid bp)) }
+        ensures early { is_ready self.now.part ≡ true → (t : Terms) (o : WrittenPart) (asked : List Task) (slots : List Slot) →
+            IsPartOwn t self.now o asked slots → EndsAnswered (λ (v : Value). early v ≡ result) (told_in slots) (left_behind_slots slots (part_plan t o)) }
+    {
+        self.part.pointer()
+    }
+
+    /// What it leaves, once it ended.
+    pub fn into_stored(self, alloc: Global) -> Result<StoredPart, NoMemory>
+        requires { ShowsOwn self PartStep.End }
+        ensures { IfOk result (λ stored. (t : Terms) (o : WrittenPart) (asked : List Task) (slots : List Slot) → IsPartOwn t self o asked slots →
+            AllHeard slots × (left_behind_slots slots (part_plan t o) ≡ Ends (StoredAs (stored_as stored)))) }
+    {
+        self.part.into_stored(alloc)
+    }
+}

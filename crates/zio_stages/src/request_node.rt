@@ -1,0 +1,364 @@
+//! A request in an attempt.
+//!
+//! A request's children are attempted beside each other, all together. Its own work goes on behind them: it may begin once
+//! they all are out, and once each has told the pointer that it will have, or has ended, the request can tell its own.
+
+ghost use Rattle.std.specs.Prelude.{◌≡◌, ◌-◌, ◌^◌, ◌<◌, ℕ, List as Seq, [], IfErr, IfOk, None, OnErr, Ok, Option, Some, length, slice_get, true};
+ghost use Rattle.std.specs.List.{list_all, list_any};
+ghost use Rattle.zio_types.specs.declared.request.Phase.TheVariants.{Done, Ready};
+ghost use Rattle.zio_script.specs.Requests.{kind_of};
+ghost use Rattle.zio_script.specs.declared.script.Work.{Work};
+ghost use Rattle.zio_gang.specs.Attempts.{Pending, Terms, all_bits, bits_of, has_bits, no_bits};
+ghost use Rattle.zio_trace.specs.Families.{Forest, NoTrees};
+ghost use Rattle.zio_trace.specs.Tasks.{Attempt, AttemptedBy, One};
+ghost use Rattle.zio_children.specs.RequestKids.{IsLeftBy, IsOutWith, is_ended, numbers_of, returns_in};
+ghost use Rattle.zio_children.specs.declared.kids.KidState.TheVariants.{Out};
+ghost use Rattle.zio_frames.specs.Frames.{Child, Stack, fresh_stack};
+ghost use Rattle.zio_frames.specs.Moves.{WillHave, heard_early, heard_of};
+ghost use Rattle.zio_frames.specs.Seats.{IsSeated, asked_at};
+ghost use Rattle.zio_stages.specs.KidTrees.{IsLeft};
+ghost use Rattle.zio_stages.specs.NodeChildren.{is_owing};
+ghost use Rattle.zio_stages.specs.RequestNodes.{Closes, HandsKid, IsKidAt, IsRequestNode, IsSeatOf, OwnEnds, own_got};
+ghost use Rattle.zio_stages.specs.declared.waiting.Waiting.{Waiting as SeenWaiting};
+ghost use Rattle.zio_stages.specs.Wholes.{IsTreeOf, root_number, root_of};
+
+use crate::attempted::{AgainBack, RequestKids, WholeBack};
+use crate::family::{Family, Seat};
+use crate::label::{Label, Level};
+use crate::waiting::Waiting;
+use crate::whole::Whole;
+use std::alloc::Global;
+use zio_blkptr::Bp;
+use zio_children::KidStep;
+use zio_counts::all_bits;
+use zio_gang::Tree;
+use zio_script::Failmode;
+use zio_types::{Bits, ChildKind, Errno, List, NoMemory, Path, ReqNo, Role, worst};
+
+/// How far a request's own work is.
+#[derive(Drop)]
+pub(crate) enum Own {
+    /// Nothing of it is asked.
+    Due,
+}
+
+/// A request in an attempt.
+#[derive(Drop)]
+pub struct RequestNode {
+    pub(crate) waiting: Waiting,
+    pub(crate) kids: RequestKids,
+    pub(crate) own: Own,
+    pub(crate) family: Family,
+    pub(crate) round: u32,
+    pub(crate) attempt: u32,
+    pub(crate) failmode: Failmode,
+}
+
+/// What a request's own work came to.
+#[derive(Drop)]
+pub struct OwnFound {
+    pub error: Option<Errno>,
+    /// Of a read.
+    pub bytes: List<u8>,
+    /// The block that it made.
+    pub tree: Option<Tree>,
+    /// Of a write that has a place.
+    pub pointer: Option<Bp>,
+}
+
+/// What comes next of a request's children.
+#[derive(Drop)]
+pub enum Start {
+    /// The attempt of this tree is the child of this number.
+    Child { number: u32, whole: Whole },
+    /// All were handed out.
+    AllOut,
+}
+
+/// Whether a request can tell its pointer.
+#[derive(Drop)]
+pub enum ReadyStep {
+    /// A child of this kind hasn't told its own.
+    Wait(ChildKind),
+    /// It will have this pointer, or none.
+    Tell(Option<Bp>),
+}
+
+/// Whether a request's attempt can end.
+#[derive(Drop)]
+pub enum DoneStep {
+    /// A child of this kind hasn't ended.
+    Wait(ChildKind),
+    Close,
+}
+
+/// What becomes of a request in an attempt.
+#[derive(Drop)]
+pub enum Closed {
+    /// It finished with this error or none. With one, the places of the block that it made are to be given back.
+    Finished {
+        waiting: Waiting,
+        error: Option<Errno>,
+        own: OwnFound,
+    },
+    /// It goes again with these bits, and this tree is left. The places of the block that it made are to be given back.
+    Again {
+        bits: Bits,
+        whole: Whole,
+        own: OwnFound,
+    },
+}
+
+/// There is no memory for the tree that goes again.
+#[derive(Drop)]
+pub struct NodeBack {
+    pub node: RequestNode,
+}
+
+/// The same, with what its own work came to.
+#[derive(Drop)]
+pub(crate) struct CloseBack {
+    node: RequestNode,
+    own: OwnFound,
+}
+
+impl RequestNode {
+    /// Nothing of the attempt is done. Where memory is refused the tree comes back.
+    pub fn begin(
+        alloc: Global,
+        whole: Whole,
+        round: u32,
+        attempt: u32,
+        failmode: Failmode,
+    ) -> Result<RequestNode, WholeBack>
+        ensures root { IfOk result (λ node. root_of whole ≡ Some node.waiting) }
+        ensures fresh { IfOk result (λ node. (t : Terms) (p : Pending) (forest : Forest) → t.round ≡ round → t.failmode ≡ failmode →
+            IsTreeOf whole p forest → IsRequestNode t node (fresh_stack (Attempt attempt p forest))) }
+        ensures back { IfErr result (λ e. e.whole ≡ whole) }
+    {
+        match RequestKids::begin(alloc, whole) {
+            Ok((waiting, kids)) => Ok(RequestNode {
+                waiting,
+                kids,
+                own: Own::Due,
+                family: Family::new(alloc),
+                round,
+                attempt,
+                failmode,
+            }),
+            Err(back) => Err(back),
+        }
+    }
+
+    /// Hands out the next child. Where memory is refused the node is as before.
+    pub fn start(&mut self) -> Result<Start, NoMemory>
+        requires { self.old.attempt < 4 }
+        ensures child { (number : ℕ) (whole : Seq SeenWaiting) → result ≡ Ok (Start.Child number whole) →
+            (t : Terms) (st : Stack) → IsSeated st → IsRequestNode t self.old st → (number ≡ length st.children) × HandsKid t self.new whole st }
+        ensures all_out { result ≡ Ok Start.AllOut → self.new.kids.kids.handed ≡ length self.new.kids.kids.kids }
+        ensures same { result ≡ Ok Start.AllOut → self.new ≡ self.old }
+        ensures err { OnErr result (self.new ≡ self.old) }
+    {
+        let KidStep::Child(place) = self.kids.next() else {
+            return Ok(Start::AllOut);
+        };
+        let label = label_of(self.kids.kids().number(place), self.attempt);
+        let seat = seat_of(&self.family, place)?;
+        let number = self.family.add(ChildKind::Logical, seat, label)?;
+        let whole = self.kids.hand_out();
+        Ok(Start::Child { number, whole })
+    }
+
+    /// Whether a null can tell that it has no pointer, once all its children were handed out.
+    pub fn ready_null(&self) -> ReadyStep
+        requires { self.now.waiting.request.work ≡ Work.Null }
+        ensures wait { (kind : ChildKind) → result ≡ ReadyStep.Wait kind → (t : Terms) (st : Stack) → IsSeated st → IsRequestNode t self.now st →
+            self.now.kids.kids.handed ≡ length self.now.kids.kids.kids → list_any (is_owing kind Ready) st.children ≡ true }
+        ensures tell { (pointer : Option Bp) → result ≡ ReadyStep.Tell pointer → (t : Terms) (st : Stack) → IsRequestNode t self.now st →
+            WillHave t st.outer pointer }
+    {
+        if self.kids.kids().all_told() {
+            ReadyStep::Tell(None)
+        } else {
+            ReadyStep::Wait(ChildKind::Logical)
+        }
+    }
+
+    /// Whether the attempt of a null can end, once all its children were handed out.
+    pub fn done_null(&self) -> DoneStep
+        ensures wait { (kind : ChildKind) → result ≡ DoneStep.Wait kind → (t : Terms) (st : Stack) → IsSeated st → IsRequestNode t self.now st →
+            self.now.kids.kids.handed ≡ length self.now.kids.kids.kids → list_any (is_owing kind Done) st.children ≡ true }
+        ensures close { result ≡ DoneStep.Close → list_all is_ended self.now.kids.kids.kids ≡ true }
+    {
+        if self.kids.kids().all_ended() {
+            DoneStep::Close
+        } else {
+            DoneStep::Wait(ChildKind::Logical)
+        }
+    }
+
+    /// What becomes of a null whose children all ended. Where memory is refused the node comes back.
+    pub fn close_null(self, alloc: Global) -> Result<Closed, NodeBack>
+        requires null { self.waiting.request.work ≡ Work.Null }
+        requires ended { list_all is_ended self.kids.kids.kids ≡ true }
+        ensures closes { IfOk result (λ closed. (t : Terms) (st : Stack) (h : IsRequestNode t self st) → Closes t self st h closed) }
+        ensures back { IfErr result (λ e. e.node ≡ self) }
+    {
+        let own = OwnFound {
+            error: None,
+            bytes: List::new(alloc),
+            tree: None,
+            pointer: None,
+        };
+        match self.close(alloc, own) {
+            Ok(closed) => Ok(closed),
+            Err(back) => Err(NodeBack { node: back.node }),
+        }
+    }
+
+    /// The decision, where its own work came to this: with bits of its own or of a child it goes again, and else it finishes
+    /// with the worst error of all. Where memory is refused both come back.
+    pub(crate) fn close(self, alloc: Global, own: OwnFound) -> Result<Closed, CloseBack>
+        requires { list_all is_ended self.kids.kids.kids ≡ true }
+        ensures closes { IfOk result (λ closed. (t : Terms) (st : Stack) (h : IsRequestNode t self st) → OwnEnds t self st (own_got own) h →
+            Closes t self st h closed) }
+        ensures back { IfErr result (λ e. (e.node ≡ self) × (e.own ≡ own)) }
+    {
+        let bits = self.bits(own.error);
+        if !bits.go_again() {
+            let error = worst(own.error, self.kids.kids().worst());
+            let RequestNode { waiting, .. } = self;
+            return Ok(Closed::Finished {
+                waiting,
+                error,
+                own,
+            });
+        }
+        let RequestNode {
+            waiting,
+            kids,
+            own: begun,
+            family,
+            round,
+            attempt,
+            failmode,
+        } = self;
+        match kids.again(alloc, waiting) {
+            Ok(whole) => Ok(Closed::Again { bits, whole, own }),
+            Err(AgainBack { kids, waiting }) => {
+                let node = RequestNode {
+                    waiting,
+                    kids,
+                    own: begun,
+                    family,
+                    round,
+                    attempt,
+                    failmode,
+                };
+                Err(CloseBack { node, own })
+            }
+        }
+    }
+
+    /// All bits of the request, where its own work came to this error.
+    fn bits(&self, error: Option<Errno>) -> Bits
+        requires { list_all is_ended self.now.kids.kids.kids ≡ true }
+        ensures { result ≡ all_bits (kind_of self.now.waiting.request.work) error self.now.waiting.request.canfail self.now.failmode
+            (bits_of (returns_in self.now.kids.kids)) }
+    {
+        let request = &self.waiting.request;
+        let kind = request.work.kind();
+        all_bits(
+            kind,
+            error,
+            request.canfail,
+            self.failmode,
+            self.kids.kids().bits(),
+        )
+    }
+
+    /// The child, an attempt, told which pointer it will have.
+    pub fn arrive_ready(&mut self, child: u32, pointer: Option<Bp>)
+        requires { IsKidAt (λ state. state ≡ Some Out) self.old child }
+        ensures { (t : Terms) (st : Stack) (c : Child) → IsRequestNode t self.old st → slice_get st.children child ≡ Some c →
+            IsRequestNode t self.new (heard_early st child c pointer) }
+    {
+        let place = self.place(child);
+        self.kids.tell(place as usize, pointer);
+        self.family.tell(child);
+    }
+
+    /// The child, an attempt, finished, with the pointer that it told if it told one.
+    pub fn arrive_finished(&mut self, child: u32, error: Option<Errno>, pointer: Option<Bp>)
+        requires { IsKidAt (IsOutWith pointer) self.old child }
+        ensures { (t : Terms) (st : Stack) (c : Child) (p : Pending) (below : Forest) (one : One) → IsRequestNode t self.old st →
+            slice_get st.children child ≡ Some c → asked_at st c.seat ≡ Some (Attempt self.old.attempt p below) →
+            IsLeftBy one p.request.number no_bits error pointer → one.again ≡ [] → one.left ≡ NoTrees →
+            IsRequestNode t self.new (heard_of st child c (AttemptedBy one)) }
+    {
+        let place = self.place(child);
+        self.kids.hear_finished(place as usize, error, pointer);
+        self.family.end(child);
+    }
+
+    /// The child, an attempt, goes again, with the pointer that it told if it told one, and this is left of its tree.
+    pub fn arrive_again(&mut self, child: u32, bits: Bits, whole: Whole, pointer: Option<Bp>)
+        requires out { IsKidAt (IsOutWith pointer) self.old child }
+        requires bits { has_bits bits ≡ true }
+        requires root { (place : ℕ) → IsSeatOf self.old.family child place → root_number whole ≡ slice_get (numbers_of self.old.kids.kids.kids) place }
+        ensures { (t : Terms) (st : Stack) (c : Child) (p : Pending) (below : Forest) (one : One) → IsRequestNode t self.old st →
+            slice_get st.children child ≡ Some c → asked_at st c.seat ≡ Some (Attempt self.old.attempt p below) →
+            IsLeftBy one p.request.number bits None pointer → IsLeft whole one →
+            IsRequestNode t self.new (heard_of st child c (AttemptedBy one)) }
+    {
+        let place = self.place(child);
+        self.kids.hear_again(place as usize, bits, whole, pointer);
+        self.family.end(child);
+    }
+
+    /// The place of the tree that the child attempts.
+    fn place(&self, child: u32) -> u32
+        requires { (place : ℕ) × IsSeatOf self.now.family child place }
+        ensures { IsSeatOf self.now.family child result }
+    {
+        match self.family.seat(child) {
+            Seat::Outer(place) => place,
+            Seat::Inner(_) => unreachable!(),
+        }
+    }
+}
+
+/// The label of an attempt of the request with this number.
+fn label_of(number: ReqNo, attempt: u32) -> u64
+    requires { attempt < 4 }
+{
+    let path = Path {
+        len: 0,
+        steps: [0; 8],
+    };
+    let label = Label {
+        // No number of a script is higher.
+        request: number % 65_536,
+        path,
+        role: Role::Body,
+        place: 0,
+        image: 0,
+        level: Level::Part,
+        attempt,
+        retry: false,
+        repair: false,
+        sectors: 0,
+    };
+    label.pack()
+}
+
+/// Where the child of this place sits, if so many children can be counted.
+fn seat_of(family: &Family, place: usize) -> Result<Seat, NoMemory>
+    ensures seat { IfOk result (λ seat. seat ≡ Seat.Outer place) }
+    ensures room { IfOk result (λ seat. length family.now < 2 ^ 32 - 1) }
+{
+    if family.len() == u32::MAX || place > u32::MAX as usize {
+        return Err(NoMemory);
+    }
+    Ok(Seat::Outer(place as u32))
+}

@@ -1,0 +1,85 @@
+// The read of a block, as a part of what a request does itself.
+
+ghost use Rattle.std.specs.Prelude.{◌≡◌, ◌<◌, IfOk, List, None, OnErr, OnOk, Some, [], length, slice_get, slice_set};
+ghost use Rattle.zio_gang.specs.declared.tree.Tree.{Tree};
+ghost use Rattle.zio_trace.specs.Plans.{plan_tree};
+ghost use Rattle.zio_trace.specs.Programs.{Ends};
+ghost use Rattle.zio_trace.specs.Tasks.{Got, Task, Walked as Left, WalkedBy};
+ghost use Rattle.zio_frames.specs.Slots.{AllHeard, Heard, IsOut, Slot, left_behind_slots, told_in};
+ghost use Rattle.zio_parts.specs.TreeReads.{ShowsRead};
+ghost use Rattle.zio_stages.specs.TreeWorks.{HandsRead, IsTreeWork, body_task, heads_task, slots_with};
+
+use std::alloc::Global;
+use zio_blkptr::Bp;
+use zio_parts::{BodyRead, TreeRead, TreeStep, Walked};
+use zio_types::{Bytes, Errno, NoMemory};
+
+/// The read of a block: the walk over its headers, which is a child's, and then its bodies, each a child's.
+#[derive(Debug, Drop)]
+pub struct TreeWork {
+    read: TreeRead,
+}
+
+impl TreeWork {
+    /// Nothing of it is read.
+    pub fn new(alloc: Global, bp: Bp) -> TreeWork
+        ensures { (tree : Tree) → tree.bp ≡ bp → IsTreeWork result tree [] [] }
+    {
+        TreeWork {
+            read: TreeRead::new(alloc, bp),
+        }
+    }
+
+    /// What is to be done next.
+    pub fn next(&self) -> TreeStep
+        ensures shows { ShowsRead self.now.read result }
+        ensures waits { result ≡ TreeStep.Wait → (tree : Tree) (asked : List Task) (slots : List Slot) → IsTreeWork self.now tree asked slots → 0 < length (told_in slots) }
+    {
+        self.read.next()
+    }
+
+    /// The walk over the headers is out, from the block's pointer down.
+    pub fn hand_out_walk(&mut self)
+        requires { ShowsRead self.old.read TreeStep.Walk }
+        ensures { (tree : Tree) (asked : List Task) (slots : List Slot) → IsTreeWork self.old tree asked slots → HandsRead self.new tree asked slots (heads_task tree) }
+    {
+        self.read.hand_out_walk();
+    }
+
+    /// The read of this body is out. Where memory is refused nothing is.
+    pub fn hand_out_body(&mut self, body: BodyRead) -> Result<(), NoMemory>
+        requires { ShowsRead self.old.read (TreeStep.Body body) }
+        ensures out { OnOk result ((tree : Tree) (asked : List Task) (slots : List Slot) → IsTreeWork self.old tree asked slots → HandsRead self.new tree asked slots (body_task body.bp)) }
+        ensures err { OnErr result (self.new ≡ self.old) }
+    {
+        self.read.hand_out_body()
+    }
+
+    /// The walk over the headers ended, and left this.
+    pub fn hear_walk(&mut self, walked: Walked)
+        requires { (left : Left) × (slice_get (slots_with left self.old.read) 0 ≡ Some (IsOut None)) }
+        ensures { (tree : Tree) (asked : List Task) (slots : List Slot) → IsTreeWork self.old tree asked slots →
+            IsTreeWork self.new tree asked (slice_set slots 0 (Heard (WalkedBy walked))) }
+    {
+        self.read.hear_walk(walked);
+    }
+
+    /// A body, the operation with this number, was read, or failed.
+    pub fn hear_body(&mut self, n: u32, found: Result<Bytes, Errno>)
+        requires behind { 0 < n }
+        requires out { (left : Left) × (slice_get (slots_with left self.old.read) n ≡ Some (IsOut None)) }
+        ensures { (tree : Tree) (asked : List Task) (slots : List Slot) → IsTreeWork self.old tree asked slots →
+            IsTreeWork self.new tree asked (slice_set slots n (Heard (Got found))) }
+    {
+        self.read.hear_body((n - 1) as usize, found);
+    }
+
+    /// The block's bytes or its error, where it ended. A block of one body is that body's bytes, moved.
+    pub fn into_found(self, alloc: Global) -> Result<Result<Bytes, Errno>, NoMemory>
+        requires { ShowsRead self.read TreeStep.End }
+        ensures { IfOk result (λ found. (tree : Tree) (asked : List Task) (slots : List Slot) → IsTreeWork self tree asked slots →
+            AllHeard slots × (left_behind_slots slots (plan_tree tree) ≡ Ends (Got found))) }
+    {
+        self.read.into_found(alloc)
+    }
+}

@@ -1,0 +1,4 @@
+pub mod Engine
+pub mod Entries
+pub mod Found
+pub mod Parts

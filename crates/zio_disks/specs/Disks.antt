@@ -86,6 +86,11 @@ abbrev pub found_with : Option Errno → List ℕ → Result (List ℕ) Errno
 found_with None bytes = Ok bytes
 found_with (Some e) bytes = Err e
 
+-- the error in place of a read's bytes, if any
+abbrev pub read_error : Result (List ℕ) Errno → Option Errno
+read_error (Ok bytes) = None
+read_error (Err e) = Some e
+
 abbrev pub found_if : Bool → List ℕ → Option (List ℕ)
 found_if true bytes = Some bytes
 found_if false bytes = None

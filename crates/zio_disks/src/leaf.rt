@@ -1,13 +1,13 @@
 // What one operation on a leaf answers and leaves.
 
-ghost use Rattle.std.specs.Prelude.{◌≡◌, ◌∷◌, [], ◌+◌, ◌*◌, ◌≤◌, ◌<◌, ◌^◌, IfErr, IfOk, None, ℕ, length, map, slice_index_or};
+ghost use Rattle.std.specs.Prelude.{◌≡◌, ◌∷◌, [], ◌+◌, ◌*◌, ◌≤◌, ◌<◌, ◌^◌, IfErr, IfOk, List, None, ℕ, length, map, slice_index_or};
 ghost use Rattle.std.specs.List.{AllByRecursion};
 ghost use Rattle.zio_types.specs.Places.{sector_size};
 ghost use Rattle.zio_faults.specs.Hits.{RowFits, flipped};
 ghost use Rattle.zio_cksum.specs.Blocks.{spot_in};
 ghost use Rattle.zio_cksum.specs.Headers.{offset_of};
 ghost use Rattle.zio_cksum.specs.Images.{Images, bytes_at, faulty_read, faulty_write, met, padded_to, read_leaf, with_bytes, write_leaf};
-ghost use Rattle.zio_disks.specs.Disks.{Handles, Tell, found_with};
+ghost use Rattle.zio_disks.specs.Disks.{Handles, Tell, found_with, read_error};
 
 use crate::setting::{Setting, Spot, Stop};
 use std::alloc::Global;
@@ -47,7 +47,7 @@ pub(crate) fn spot_in<D: Disk>(disks: &[D], place: &Place, leaf: u32) -> Spot
 
 /// Reads the first bytes of a place from a leaf into the buffer, as its disk or the row that the read meets says. After
 /// an error the buffer may hold anything.
-pub(crate) fn read_leaf<D: Disk>(
+pub fn read_leaf<D: Disk>(
     setting: &Setting,
     disks: &mut [D],
     retry: bool,
@@ -61,6 +61,7 @@ pub(crate) fn read_leaf<D: Disk>(
     requires lies { spot.now.at + spot.now.span ≤ slice_index_or (map D.bytes disks.old) spot.now.leaf 0 }
     ensures told { IfOk result (λ error. (images : Images) → Tell D.image disks.old images →
         (found_with error buffer.new ≡ read_leaf setting.now retry images (length buffer.old) spot.now) × Tell D.image disks.new images) }
+    ensures answer { IfOk result (λ error. (images : Images) → error ≡ read_error (read_leaf setting.now retry images (length buffer.old) spot.now)) }
     ensures handled { Handles D.bytes D.faults D.faults_at_fetch D.home D.image D.sound [] result disks.old disks.new }
 {
     match setting.hit(retry, false, spot) {
@@ -84,6 +85,7 @@ fn read_faulty<D: Disk>(
     ensures told { IfOk result (λ error. (images : Images) → Tell D.image disks.old images →
         (found_with error buffer.new ≡ faulty_read hit.now.kind hit.now spot.now.at (bytes_at images spot.now (length buffer.old)))
         × Tell D.image disks.new images) }
+    ensures answer { IfOk result (λ error. (bytes : List ℕ) → error ≡ read_error (faulty_read hit.now.kind hit.now spot.now.at bytes)) }
     ensures handled { Handles D.bytes D.faults D.faults_at_fetch D.home D.image D.sound [] result disks.old disks.new }
 {
     match hit.kind {
@@ -117,7 +119,7 @@ fn turn(bytes: &mut [u8], at: u64, hit: &Hit)
 }
 
 /// The bytes that the disk of a leaf has there.
-fn fetch<D: Disk>(disks: &mut [D], spot: &Spot, buffer: &mut [u8]) -> Result<(), Stop>
+pub fn fetch<D: Disk>(disks: &mut [D], spot: &Spot, buffer: &mut [u8]) -> Result<(), Stop>
     requires some { 0 < length buffer.old }
     requires lies { spot.now.at + length buffer.old ≤ slice_index_or (map D.bytes disks.old) spot.now.leaf 0 }
     ensures told { IfOk result (λ _. (images : Images) → Tell D.image disks.old images →
@@ -132,7 +134,7 @@ fn fetch<D: Disk>(disks: &mut [D], spot: &Spot, buffer: &mut [u8]) -> Result<(),
 }
 
 /// The bytes, and zeros behind them to so many.
-pub(crate) fn padded_to(alloc: Global, bytes: &[u8], span: u64) -> Result<Bytes, Stop>
+pub fn padded_to(alloc: Global, bytes: &[u8], span: u64) -> Result<Bytes, Stop>
     requires { length bytes.now ≤ span }
     ensures ok { IfOk result (λ whole. whole ≡ padded_to span bytes.now) }
     ensures err { IfErr result (λ stop. stop ≡ Stop.Memory) }
@@ -148,7 +150,7 @@ pub(crate) fn padded_to(alloc: Global, bytes: &[u8], span: u64) -> Result<Bytes,
 }
 
 /// Writes all bytes of a place to a leaf, as its disk or the row that the write meets says.
-pub(crate) fn write_leaf<D: Disk>(
+pub fn write_leaf<D: Disk>(
     alloc: Global,
     setting: &Setting,
     disks: &mut [D],
@@ -215,7 +217,7 @@ fn turned(alloc: Global, bytes: &[u8], at: u64, hit: &Hit) -> Result<Bytes, Stop
 }
 
 /// Stores the bytes, which fill the place. Where the leaf isn't there they are none.
-fn store<D: Disk>(disks: &mut [D], bytes: &[u8], spot: &Spot) -> Result<Option<Errno>, Stop>
+pub fn store<D: Disk>(disks: &mut [D], bytes: &[u8], spot: &Spot) -> Result<Option<Errno>, Stop>
     requires whole { length bytes.now ≡ spot.now.span }
     requires lies { spot.now.at + length bytes.now ≤ slice_index_or (map D.bytes disks.old) spot.now.leaf 0 }
     ensures told { IfOk result (λ error. (images : Images) → Tell D.image disks.old images →

@@ -49,10 +49,12 @@ impl Setting {
 
 /// Where an operation goes: a leaf, a byte of it, and how many bytes its place has from there on.
 #[derive(Debug, Drop)]
-pub(crate) struct Spot {
-    pub(crate) leaf: u32,
-    pub(crate) at: u64,
-    pub(crate) span: u64,
+pub struct Spot {
+    pub leaf: u32,
+    /// In bytes.
+    pub at: u64,
+    /// In bytes.
+    pub span: u64,
 }
 
 impl Model for Spot {

@@ -202,7 +202,7 @@ apart-put_before r o (p ∷ ps) h e = go (nat_le (r o) (r p)) (apart-put_before 
     go true k = (e, h)
     go false k = (any-put (λ x. x.ticket == p.ticket) r o ps ∙ rw (equal_flip o.ticket p.ticket, (neither (p.ticket == o.ticket) (is_queued o.ticket ps) e).0, h.0) refl, k)
 
-apart-arranged : (r : Op → ℕ) (os : List Op) → AreApart os → AreApart (arranged r os)
+pub apart-arranged : (r : Op → ℕ) (os : List Op) → AreApart os → AreApart (arranged r os)
 apart-arranged r [] h = tt
 apart-arranged r (o ∷ os) h = apart-put_before r o (arranged r os) (apart-arranged r os h.1) (any-arranged_by (λ x. x.ticket == o.ticket) r os ∙ h.0)
 
@@ -212,7 +212,7 @@ queued_parts t (x ∷ xs) ys h =
     let n = neither (x.ticket == t) (is_queued t (xs ++ ys)) h in
     rw (n.0, queued_parts t xs ys n.1) refl
 
-apart_parts : (xs ys : List Op) → AreApart (xs ++ ys) → AreApart xs × AreApart ys
+pub apart_parts : (xs ys : List Op) → AreApart (xs ++ ys) → AreApart xs × AreApart ys
 apart_parts [] ys h = (tt, h)
 apart_parts (x ∷ xs) ys h = let r = apart_parts xs ys h.1 in ((queued_parts x.ticket xs ys h.0, r.0), r.1)
 

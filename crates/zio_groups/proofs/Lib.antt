@@ -1,0 +1,7 @@
+pub mod ByteLemmas
+pub mod CoverLemmas
+pub mod GroupLemmas
+pub mod IssueLemmas
+pub mod QueueLemmas
+pub mod SpanLemmas
+pub mod TakeLemmas

@@ -1,0 +1,28 @@
+use Rattle.std.proofs.Common.{◌≡◌, ap, ◌∙◌}
+use Rattle.std.proofs.lemmas.Result.{IfOk-weaker, err_from_is_err_and}
+use Rattle.zio_cksum.specs.Images.{Images, Spot, Written, padded_to, write_leaf}
+use Rattle.zio_disks.proofs.DiskLemmas.{handles_none}
+use Rattle.zio_disks.proofs.WriteLemmas.{padded_write}
+use Rattle.zio_groups.specs.Issued.{spot_of}
+use Rattle.zio_groups.proofs.single.write_one.Goals as goal
+
+pub returns-in_err-whole-clause-handled : goal.returns-in_err-whole-clause-handled
+returns-in_err-whole-clause-handled g c =
+    let p = err_from_is_err_and c.from_residual.result c.from_residual.ensures.1 in
+    let is = p.1 in
+    let same = p.2 in
+    let memory = c.in_err-whole.ensures.err in
+    handles_none g.D.Disk.bytes g.D.Disk.faults g.D.Disk.faults_at_fetch g.D.Disk.home g.D.Disk.image g.D.Disk.sound _ _ c.args.disks.now (λ e. cc)
+
+pub returns-clause-answer : goal.returns-clause-answer
+returns-clause-answer g c =
+    let spot : Spot = spot_of c.args.leaf c.args.op.now in
+    let padded : c.as_slice.result.now ≡ padded_to spot.span c.args.bytes.now = c.as_slice.ensures ∙ c.in_ok-whole.ensures.ok ∙ ap (λ span. padded_to span c.args.bytes.now) c.from-span.ensures in
+    IfOk-weaker c.write_leaf-2.result
+    (λ error. (images : Images) → error ≡ (write_leaf c.args.setting.now c.args.op.now.flags.retry c.as_slice.result.now images c.spot_of-spot.result).error)
+    (λ error. (images : Images) → error ≡ (write_leaf c.args.setting.now c.args.op.now.flags.retry c.args.bytes.now images spot).error)
+    (λ error h images.
+    h images
+    ∙ ap (λ (at : Spot). (write_leaf c.args.setting.now c.args.op.now.flags.retry c.as_slice.result.now images at).error) c.spot_of-spot.ensures
+    ∙ ap (λ (w : Written). w.error) (padded_write c.args.setting.now c.args.op.now.flags.retry spot c.args.bytes.now c.as_slice.result.now images padded))
+    c.write_leaf-2.ensures.answer

@@ -1,0 +1,165 @@
+// A group whose span is one call of the device.
+
+ghost use Rattle.std.specs.Prelude.{◌≡◌, ◌∷◌, ◌+◌, ◌-◌, ◌≤◌, ◌++◌, Err, IfOk, OnErr, OnOk, [], length, map, slice_index_or, take, drop, true};
+ghost use Rattle.std.specs.List.{AllByRecursion};
+ghost use Rattle.zio_vqueue.specs.Members.{LiesIn};
+ghost use Rattle.zio_cksum.specs.Images.{Images, bytes_at, padded_to, with_bytes};
+ghost use Rattle.zio_disks.specs.Disks.{Handles, Tell};
+ghost use Rattle.zio_groups.specs.Issued.{IsFit};
+ghost use Rattle.zio_groups.specs.LeafQueues.{AreMembers, ops_of};
+ghost use Rattle.zio_groups.specs.Spans.{AreParts, joined, part_answered, span_spot, stored_answered};
+
+use crate::single::zeros;
+use crate::waiting::{Answered, Waiting, add};
+use std::alloc::Global;
+use zio_disks::{Spot, Stop, fetch, store};
+use zio_outside::Disk;
+use zio_types::{Bytes, List};
+use zio_vqueue::{Group, Op};
+
+fn span_spot(leaf: u32, group: &Group) -> Spot
+    ensures { result ≡ span_spot leaf group.now }
+{
+    Spot {
+        leaf,
+        at: group.at,
+        span: group.len,
+    }
+}
+
+/// An operation's bytes of those of its group's span.
+fn part_of(alloc: Global, group: &Group, op: &Op, span: &[u8]) -> Result<Bytes, Stop>
+    requires inside { LiesIn group.now op.now }
+    requires span { length span.now ≡ group.now.len }
+    ensures ok { IfOk result (λ bytes. bytes ≡ take op.now.len (drop (op.now.at - group.now.at) span.now)) }
+    ensures err { OnErr result (result ≡ Err Stop.Memory) }
+{
+    let start = (op.at - group.at) as usize;
+    let mut bytes = Bytes::new(alloc);
+    match bytes.extend_from_slice(&span[start..start + op.len as usize]) {
+        Ok(()) => Ok(bytes),
+        Err(_) => Err(Stop::Memory),
+    }
+}
+
+/// Each member's answer from the bytes of the span.
+fn parts_of(
+    alloc: Global,
+    group: &Group,
+    members: &[Waiting],
+    span: &[u8],
+) -> Result<List<Answered>, Stop>
+    requires inside { AllByRecursion (LiesIn group.now) (ops_of members.now) }
+    requires span { length span.now ≡ group.now.len }
+    ensures ok { IfOk result (λ answers. answers ≡ map (part_answered group.now.at span.now) members.now) }
+    ensures err { OnErr result (result ≡ Err Stop.Memory) }
+{
+    let mut answers = List::new(alloc);
+    for member in members {
+        let answer = Answered {
+            ticket: member.op.ticket,
+            error: None,
+            bytes: part_of(alloc, group, &member.op, span)?,
+        };
+        add(&mut answers, answer)?;
+    }
+    Ok(answers)
+}
+
+/// The bytes that the disk of a leaf has there. Where they are none the leaf may not be there.
+fn fetch_any<D: Disk>(disks: &mut [D], spot: &Spot, buffer: &mut [u8]) -> Result<(), Stop>
+    requires { spot.now.at + length buffer.old ≤ slice_index_or (map D.bytes disks.old) spot.now.leaf 0 }
+    ensures told { IfOk result (λ _. (images : Images) → Tell D.image disks.old images →
+        (buffer.new ≡ bytes_at images spot.now (length buffer.old)) × Tell D.image disks.new images) }
+    ensures handled { Handles D.bytes D.faults D.faults_at_fetch D.home D.image D.sound [] result disks.old disks.new }
+{
+    if buffer.is_empty() {
+        return Ok(());
+    }
+    fetch(disks, spot, buffer)
+}
+
+/// Reads the whole span, and gives each member its bytes.
+pub(crate) fn read_span<D: Disk>(
+    alloc: Global,
+    disks: &mut [D],
+    leaf: u32,
+    group: &Group,
+    members: &[Waiting],
+) -> Result<List<Answered>, Stop>
+    requires inside { AllByRecursion (LiesIn group.now) (ops_of members.now) }
+    requires lies { group.now.at + group.now.len ≤ slice_index_or (map D.bytes disks.old) leaf 0 }
+    ensures parts { IfOk result (AreParts D.image leaf group.now members.now disks.old disks.new) }
+    ensures handled { Handles D.bytes D.faults D.faults_at_fetch D.home D.image D.sound [] result disks.old disks.new }
+{
+    let mut span = zeros(alloc, group.len as usize)?;
+    fetch_any(disks, &span_spot(leaf, group), span.as_mut_slice())?;
+    parts_of(alloc, group, members, span.as_slice())
+}
+
+/// Puts bytes at the end, and zeros behind them to so many.
+fn join(whole: &mut Vec<u8>, bytes: &[u8], len: u32) -> Result<(), Stop>
+    requires { length bytes.now ≤ len }
+    ensures ok { OnOk result (whole.new.items ≡ whole.old.items ++ padded_to len bytes.now) }
+    ensures err { OnErr result (result ≡ Err Stop.Memory) }
+{
+    let end = whole.len() + len as usize;
+    if whole.extend_from_slice(bytes).is_err() {
+        return Err(Stop::Memory);
+    }
+    match whole.resize(end, 0) {
+        Ok(()) => Ok(()),
+        Err(_) => Err(Stop::Memory),
+    }
+}
+
+/// What the members write on the span.
+fn joined(alloc: Global, members: &[Waiting]) -> Result<Vec<u8>, Stop>
+    requires { AllByRecursion IsFit members.now }
+    ensures ok { IfOk result (λ whole. whole.items ≡ joined members.now) }
+    ensures err { OnErr result (result ≡ Err Stop.Memory) }
+{
+    let mut whole = Vec::new(alloc);
+    for member in members {
+        join(&mut whole, member.bytes.as_slice(), member.op.len)?;
+    }
+    Ok(whole)
+}
+
+/// The members' answers once all are stored.
+fn stored(alloc: Global, members: &[Waiting]) -> Result<List<Answered>, Stop>
+    ensures ok { IfOk result (λ answers. answers ≡ map stored_answered members.now) }
+    ensures err { OnErr result (result ≡ Err Stop.Memory) }
+{
+    let mut answers = List::new(alloc);
+    for member in members {
+        let answer = Answered {
+            ticket: member.op.ticket,
+            error: None,
+            bytes: Bytes::new(alloc),
+        };
+        add(&mut answers, answer)?;
+    }
+    Ok(answers)
+}
+
+/// Writes the members' bytes, which touch, on the whole span.
+pub(crate) fn write_span<D: Disk>(
+    alloc: Global,
+    disks: &mut [D],
+    leaf: u32,
+    group: &Group,
+    members: &[Waiting],
+) -> Result<List<Answered>, Stop>
+    requires fit { AllByRecursion IsFit members.now }
+    requires members { AreMembers group.now true members.now }
+    requires lies { group.now.at + group.now.len ≤ slice_index_or (map D.bytes disks.old) leaf 0 }
+    ensures told { IfOk result (λ answers. (images : Images) → Tell D.image disks.old images →
+        Tell D.image disks.new (with_bytes images (span_spot leaf group.now) (joined members.now))) }
+    ensures answers { IfOk result (λ answers. answers ≡ map stored_answered members.now) }
+    ensures handled { Handles D.bytes D.faults D.faults_at_fetch D.home D.image D.sound (span_spot leaf group.now ∷ []) result disks.old disks.new }
+{
+    let whole = joined(alloc, members)?;
+    store(disks, whole.as_slice(), &span_spot(leaf, group))?;
+    stored(alloc, members)
+}

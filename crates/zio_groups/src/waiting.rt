@@ -1,0 +1,33 @@
+ghost use Rattle.std.specs.Prelude.{◌≡◌, ◌++◌, ◌∷◌, [], Err, OnErr, OnOk};
+
+use zio_disks::Stop;
+use zio_types::{Bytes, Errno, List};
+use zio_vqueue::Op;
+
+/// A queued operation.
+#[derive(Debug, Drop)]
+pub struct Waiting {
+    pub op: Op,
+    /// What it writes; zeros follow to its end. Of a read none.
+    pub bytes: Bytes,
+}
+
+/// What an operation came to.
+#[derive(Debug, Drop)]
+pub struct Answered {
+    pub ticket: u32,
+    pub error: Option<Errno>,
+    /// All bytes of a read; none of a write, or after an error.
+    pub bytes: Bytes,
+}
+
+/// Adds an item at the end.
+pub(crate) fn add<T: Drop>(items: &mut List<T>, item: T) -> Result<(), Stop>
+    ensures ok { OnOk result (items.new ≡ items.old ++ item ∷ []) }
+    ensures err { OnErr result (result ≡ Err Stop.Memory) }
+{
+    match items.push(item) {
+        Ok(()) => Ok(()),
+        Err(_) => Err(Stop::Memory),
+    }
+}

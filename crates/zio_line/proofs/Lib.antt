@@ -1,0 +1,4 @@
+pub mod ClimbLemmas
+pub mod PlaceLemmas
+pub mod SumLemmas
+pub mod TableLemmas

@@ -100,7 +100,7 @@ frees_clash : (apart : Bool) (name : List ℕ) → clashes apart (Free name) (Fr
 frees_clash apart name = ap (λ (b : Bool). b && not (may_share apart (Free name) (Free name))) (same_bytes name) ∙ ap (λ (b : Bool). true && not b) (not_shared apart false)
 
 module _ (live : List Place) (bound : List (List ℕ × Tree)) (known : IsLive live bound) where
-  block_apart : (block : Option Tree) → IfSome block (λ tree. are_apart (tree_places tree) ≡ true) → are_apart (places_of_block block) ≡ true
+  pub block_apart : (block : Option Tree) → IfSome block (λ tree. are_apart (tree_places tree) ≡ true) → are_apart (places_of_block block) ≡ true
   block_apart None h = refl
   block_apart (Some tree) h = ap are_apart (append-nil (tree_places tree)) ∙ h
 

@@ -10,10 +10,12 @@ use Rattle.zio_gang.specs.Attempts.{Pending}
 use Rattle.zio_course.specs.declared.runner.RoundEnd.{RoundEnd}
 use Rattle.zio_course.specs.Runners.{AreRestsOf, AreRisingFrom, AreRunnable, IsRestOf, IsRoundEnd, IsSamePending, Standing, StandsAfter, has_claim, is_numbered, joined_trees, named_places, numbers_of, requests_in, root_of, roots_of, rows_tell_apart}
 use Rattle.zio_course.proofs.AdmittedLemmas.{not_both}
+use Rattle.zio_course.proofs.BlockLemmas.{AreBetween, IsOwnApart, still_between, still_own}
+use Rattle.zio_course.proofs.DoneLemmas.{contains_one, one_contains}
 use Rattle.zio_course.proofs.EndLemmas.{times, times_is}
 use Rattle.zio_course.proofs.FreedLemmas.{left_freed}
 use Rattle.zio_course.proofs.RunnableLemmas.{apart_of, counted_by}
-use Rattle.zio_course.proofs.SortLemmas.{IsOneOf, counted, one_left, one_map, one_right}
+use Rattle.zio_course.proofs.SortLemmas.{IsOneOf, counted, one_all, one_left, one_map, one_right}
 use Rattle.zio_course.proofs.ClearLemmas.{times_tally}
 
 -- ---- rests
@@ -174,6 +176,16 @@ left_times q (p ∷ ps) (inr at) = go (eqb p.request.number q.request.number) (l
     go true h = omega arith
     go false h = h
 
+-- ---- blocks
+
+left_between : (ps qs : List Pending) → AllByRecursion (RestIn ps) qs → AreBetween ps → AreBetween qs
+left_between ps qs rests between p q at here differ =
+    let a = one_all (RestIn ps) p qs rests (contains_one p qs at) in
+    let b = one_all (RestIn ps) q qs rests (contains_one q qs here) in
+    still_between a.old p b.old q a.same b.same
+    (between a.old b.old (one_contains a.old ps a.at) (one_contains b.old ps b.at)
+    (λ same. differ (ap (λ (r : Request). r.number) a.same.request ∙ (same ∙ ap (λ (r : Request). r.number) (sym b.same.request)))))
+
 -- ---- all together
 
 pub left_runnable : (s new : Standing) (round : ℕ) (trees : List (List Pending)) (end : RoundEnd (List Pending))
@@ -200,4 +212,7 @@ left_runnable s new round trees end runs over stands live =
       live = live;
       under = rests_roots (λ (r : Request). r.under ≡ None) trees end.left (roots_there trees runs.each) over.rests runs.under;
       freed = left_freed trees end.left over.rests runs.freed;
+      own = all_weaker (RestIn (joined_trees trees)) IsOwnApart (joined_trees end.left)
+          (λ q r. still_own r.old q r.same (one_all IsOwnApart r.old (joined_trees trees) runs.own r.at)) rests;
+      between = left_between (joined_trees trees) (joined_trees end.left) rests runs.between;
     }

@@ -3,6 +3,7 @@ pub mod AdmittedLemmas
 pub mod AnsweredLemmas
 pub mod ApartLemmas
 pub mod BatchLemmas
+pub mod BlockLemmas
 pub mod ClearLemmas
 pub mod CompleteLemmas
 pub mod CourseLemmas

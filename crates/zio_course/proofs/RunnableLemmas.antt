@@ -26,6 +26,7 @@ use Rattle.zio_course.specs.Live.{IsLive}
 use Rattle.zio_course.specs.Names.{is_some_name, named_in}
 use Rattle.zio_course.specs.Runners.{AreRisingFrom, AreRunnable, Standing, joined_trees, named_places, numbers_of, places_of_block, requests_in, roots_of, rows_tell_apart}
 use Rattle.zio_course.proofs.AdmittedLemmas.{rising_kept, trees_admitted}
+use Rattle.zio_course.proofs.BlockLemmas.{named_between, named_own}
 use Rattle.zio_course.proofs.ClearLemmas.{times_if}
 use Rattle.zio_course.proofs.CourseLemmas.{once_counted, trees_all}
 use Rattle.zio_course.proofs.EndLemmas.{all_in_trees}
@@ -244,6 +245,8 @@ batch_runnable s apart suspended awaited bound number items slots rules rows ris
       under = subst (λ (ts : List (List Request)). AllByRecursion (λ (r : Request). r.under ≡ None) (roots_of (pending_trees names number ts))) under
           (subst (AllByRecursion (λ (r : Request). r.under ≡ None)) (sym (roots_are names number rs None)) (all_under_none rs));
       freed = named_freed s.live bound apart trees live names_apart (batch_blocks bound number (trees_of rs));
+      own = named_own s.live bound live (joined_trees trees) (batch_blocks bound number (trees_of rs));
+      between = named_between s.live bound live (joined_trees trees) (batch_blocks bound number (trees_of rs));
     }
 
 -- what holds of each request that has no error holds of those that are kept for having none

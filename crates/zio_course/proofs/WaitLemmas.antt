@@ -25,6 +25,7 @@ use Rattle.zio_course.specs.Names.{is_some_name, named_in}
 use Rattle.zio_course.specs.Runners.{AreRunnable, IsRoundEnd, Standing, has_claim, is_numbered, joined_trees, numbers_of, places_of_block, requests_in, rows_tell_apart}
 use Rattle.zio_course.specs.Told.{ended_as, ended_told, finish_of, line_by, line_told, no_error}
 use Rattle.zio_course.proofs.AdmittedLemmas.{not_both, rising_kept}
+use Rattle.zio_course.proofs.BlockLemmas.{named_between, named_own}
 use Rattle.zio_course.proofs.CourseLemmas.{once_counted}
 use Rattle.zio_course.proofs.DoneLemmas.{contains_one, one_contains}
 use Rattle.zio_course.proofs.EndLemmas.{times, times_is}
@@ -68,6 +69,8 @@ suspended_runnable s bound suspended unfinished w live =
           (λ p is. subst (λ (o : Option Tree). AllByRecursion (Contains s.live) (places_of_block o)) (sym is) (block_live s.live bound (needs_block p.request.work) (name_of p.request.work) live.there)) w.over.blocks);
       under = w.under;
       freed = named_freed s.live bound (rows_tell_apart s.rows) suspended live names w.over.blocks;
+      own = named_own s.live bound live (joined_trees suspended) w.over.blocks;
+      between = named_between s.live bound live (joined_trees suspended) w.over.blocks;
     }
 
 -- ---- which requests wait

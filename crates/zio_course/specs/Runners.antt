@@ -1,12 +1,12 @@
 -- What a round is to whatever runs it.
-use Rattle.std.specs.Prelude.{◌≡◌, ℕ, ◌+◌, ◌/◌, ◌%◌, ◌<◌, ◌≤◌, List, [], ◌∷◌, ◌++◌, length, map, filter, count_by, Bool, true, false, ◌&&◌, ◌||◌, Option, Some, None, is_some, is_none, IsTrue, ◌==◌, nat_lt, nat_le, ◌⊎◌, ◌↔◌, slice_get, Contains, option_to_list}
+use Rattle.std.specs.Prelude.{◌≡◌, ◌≢◌, ℕ, ◌+◌, ◌/◌, ◌%◌, ◌<◌, ◌≤◌, List, [], ◌∷◌, ◌++◌, length, map, filter, count_by, Bool, true, false, ◌&&◌, ◌||◌, Option, Some, None, is_some, is_none, IsTrue, ◌==◌, nat_lt, nat_le, ◌⊎◌, ◌↔◌, slice_get, Contains, option_to_list}
 use Rattle.std.specs.List.{AllByRecursion, flat_map, list_all, list_any}
 pub use Rattle.zio_outside.specs.Outside.{AnyRose}
 use Rattle.zio_types.specs.declared.journal.Completion.{Completion}
 use Rattle.zio_types.specs.declared.place.Place.{Place}
 use Rattle.zio_types.specs.declared.place.Top.{Top}
 use Rattle.zio_types.specs.Choices.{Choice}
-use Rattle.zio_types.specs.Places.{are_apart, are_open, end_of, is_inside, sector_size}
+use Rattle.zio_types.specs.Places.{are_apart, are_open, end_of, is_inside, meets, sector_size}
 use Rattle.zio_faults.specs.declared.table.Row.{Row}
 use Rattle.zio_blkptr.specs.declared.pointer.TheConstants.{BLOCK_SIZE_MAX}
 use Rattle.zio_script.specs.declared.limits.TheConstants.{CHILDREN_MAX}
@@ -15,7 +15,7 @@ use Rattle.zio_script.specs.declared.script.Request.{Request}
 use Rattle.zio_script.specs.declared.script.Work.{Work}
 use Rattle.zio_script.specs.declared.script.Work.TheVariants.{Null, Read, Write, Free, Claim}
 use Rattle.zio_script.specs.Accepted.{IsInRange, NameApart}
-use Rattle.zio_script.specs.Requests.{kind_of, makes_block, needs_block}
+use Rattle.zio_script.specs.Requests.{kind_of, makes_block, name_of, names_it, needs_block}
 use Rattle.zio_script.specs.Whys.{is_claim, is_flip, is_write, may_have, size_with}
 use Rattle.zio_cksum.specs.Images.{Images, image_of}
 use Rattle.zio_gang.specs.declared.tree.Tree.{Tree}
@@ -120,9 +120,23 @@ rows_tell_apart rows = list_any (λ (row : Row). row.first || is_flip row.kind) 
 abbrev pub has_claim : List Request → Bool
 has_claim requests = list_any (λ (r : Request). is_claim (kind_of r.work)) requests
 
+-- no place of the one meets one of the other
+abbrev pub NoneMeet : List Place → List Place → Type 0
+NoneMeet ps qs = AllByRecursion (λ (p : Place). AllByRecursion (λ (q : Place). meets p q ≡ false) qs) ps
+
+-- both requests name one block, and were given the same
+pub record NameOneBlock (p q : Pending) : Type 0 where
+  pub names : names_it (name_of p.request.work) (name_of q.request.work) ≡ true
+  pub same : p.block ≡ q.block
+
+-- the blocks that two requests were given are the one that both name, or no place of the one meets one of the other
+abbrev pub AreOneOrApart : Pending → Pending → Type 0
+AreOneOrApart p q = NameOneBlock p q ⊎ NoneMeet (places_of_block p.block) (places_of_block q.block)
+
 -- Which trees a round may have: none is empty, their roots stand under no request, the roots' numbers rise, no number stands
 -- twice, no two requests name one block but for reads that no row tells apart, a claim is alone, what reads and frees were
--- given is in use, and no two places of the blocks that are to be freed meet.
+-- given is in use, no two places of the blocks that are to be freed meet, nor do two of a block that a request was given, and
+-- two such blocks are one or have no places that meet.
 pub record AreRunnable (s : Standing) (trees : List (List Pending)) : Type 0 where
   pub each : length (roots_of trees) ≡ length trees
   pub rising : AreRisingFrom 0 (numbers_of (roots_of trees))
@@ -132,6 +146,11 @@ pub record AreRunnable (s : Standing) (trees : List (List Pending)) : Type 0 whe
   pub live : AllByRecursion (Contains s.live) (named_places trees)
   pub under : AllByRecursion (λ (r : Request). r.under ≡ None) (roots_of trees)
   pub freed : are_apart (places_to_free trees) ≡ true
+  -- no two of a block's own places meet
+  pub own : AllByRecursion (λ (p : Pending). are_apart (places_of_block p.block) ≡ true) (joined_trees trees)
+  -- so requests over different blocks may be under way together
+  pub between : (p q : Pending) → Contains (joined_trees trees) p → Contains (joined_trees trees) q →
+      p.request.number ≢ q.request.number → AreOneOrApart p q
 
 -- ---- what a round gives
 

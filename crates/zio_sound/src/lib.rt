@@ -1,0 +1,34 @@
+//! From what a fold says of a round to what an engine needs of it.
+//!
+//! It stands on `zio_course`, whose fold gives trees to a runner, and on `zio_trace`, which says which rounds may be run
+//! with all their trees under way together. The one call is a law: its contract is the statement, and its body is empty.
+#![tactic(auto)]
+
+ghost use Rattle.std.specs.Prelude.{◌≡◌, IfSome, IsTrue, List, ℕ};
+ghost use Rattle.std.specs.List.{AllByRecursion};
+ghost use Rattle.zio_types.specs.declared.place.Place.{Place};
+ghost use Rattle.zio_types.specs.Places.{is_inside};
+ghost use Rattle.zio_blkptr.specs.declared.pointer.Bp.{Bp};
+ghost use Rattle.zio_blkptr.specs.Pointers.{valid};
+ghost use Rattle.zio_script.specs.declared.script.Failmode.{Failmode};
+ghost use Rattle.zio_gang.specs.declared.tree.Tree.{Tree};
+ghost use Rattle.zio_gang.specs.Attempts.{Pending};
+ghost use Rattle.zio_gang.specs.Trees.{sizes_of, tree_pointers};
+ghost use Rattle.zio_trace.specs.Families.{Forest};
+ghost use Rattle.zio_trace.specs.Rounds.{AreTrees, trees_in};
+ghost use Rattle.zio_trace.specs.Separate.{LeavesHold, LeavesOnce};
+ghost use Rattle.zio_trace.specs.SoundRounds.{IsSoundRound, LeavesDiffer};
+ghost use Rattle.zio_course.specs.Runners.{AreRunnable, Standing, joined_trees, terms_at};
+
+/// A round that a runner may be given is sound, so all its trees may be under way together: where the tops hold their
+/// leaves, which stand once, the places in use lie inside the tops, and the blocks that requests were given have valid
+/// pointers.
+pub fn runnable_rounds_are_sound()
+    ensures { (s : Standing) (failmode : Failmode) (round point : ℕ) (sizes : ℕ → ℕ) (trees : List (List Pending))
+        (f : Forest) → trees_in f ≡ trees → AreTrees f → AreRunnable s trees →
+        LeavesOnce s.tops → LeavesDiffer s.tops → LeavesHold sizes s.tops →
+        AllByRecursion (λ (p : Pending). IfSome p.block (λ (tree : Tree).
+        AllByRecursion (λ (bp : Bp). IsTrue (valid bp)) (tree_pointers tree))) (joined_trees trees) →
+        AllByRecursion (λ (p : Place). IsTrue (is_inside (sizes_of s.tops) p)) s.live →
+        IsSoundRound (terms_at s failmode round point) sizes f }
+{}

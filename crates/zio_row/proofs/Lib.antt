@@ -1,0 +1,6 @@
+pub mod RowBlock
+pub mod RowEnds
+pub mod RowPlaces
+pub mod RowReport
+pub mod RowRun
+pub mod RowScript

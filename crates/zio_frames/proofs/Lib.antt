@@ -1,6 +1,7 @@
 pub mod Codes
 pub mod FrameLemmas
 pub mod GetLemmas
+pub mod HeardParts
 pub mod KnownLemmas
 pub mod LinkedPlaces
 pub mod MoveChildren

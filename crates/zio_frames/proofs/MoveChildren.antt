@@ -48,7 +48,7 @@ fits_slot slot told v e h = subst (λ (x : Option Slot). FitsSlot x v) (sym e) (
     by None h = tt
     by (Some pointer) h = h
 
-module _ (t : Terms) (sizes : ℕ → ℕ) (f : Forest) (before : Images) (trees : List Slot) (others : List Flying) (s : State) where
+module _ (t : Terms) (sizes : ℕ → ℕ) (f : Forest) (before : Option Images) (trees : List Slot) (others : List Flying) (s : State) where
   abbrev pub Runs : List Flying → Type 0
   Runs nodes = IsRunning t sizes f before trees nodes s
 

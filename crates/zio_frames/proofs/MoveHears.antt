@@ -54,7 +54,7 @@ told_true o zero (d ∷ outs) (Asks x more) c first told e =
     (subst (λ (y : Labelled Task). FitsEarly early d.told (o.answer y)) first.0 told.0)
 told_true o (suc k) (d ∷ outs) (Asks x more) c first told e = told_true o k outs (more (o.answer x)) c first.1 told.1 e
 
-module _ (t : Terms) (sizes : ℕ → ℕ) (f : Forest) (before : Images) (s : State) where
+module _ (t : Terms) (sizes : ℕ → ℕ) (f : Forest) (before : Option Images) (s : State) where
   abbrev work : Work
   work = work_of t sizes f
 
@@ -110,7 +110,7 @@ module _ (t : Terms) (sizes : ℕ → ℕ) (f : Forest) (before : Images) (s : S
   -- ---- it ended
 
   -- what is known of its value
-  known_value : (x : Flight) (v : Value) (rest : List Flight) → Flies (x ∷ rest) → x.rest ≡ Ends v
+  pub known_value : (x : Flight) (v : Value) (rest : List Flight) → Flies (x ∷ rest) → x.rest ≡ Ends v
       → (o : Oracle (Labelled Task) Value) → IsOracle (ways_at (any_ways t)) o → Agrees o s.deeds → o.answer x.op ≡ v
   known_value x v rest h ended o ways agrees = sym (h.going.knows.0 o ways agrees) ∙ ap (heard o) ended
 

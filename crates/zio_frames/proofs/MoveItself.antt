@@ -11,9 +11,9 @@ use Rattle.zio_gang.specs.Attempts.{Terms}
 use Rattle.zio_gang.specs.Journals.{AreLawful, HaveDistinctKeys, asks_of}
 use Rattle.zio_gang.specs.Trees.{sizes_of, tree_places}
 use Rattle.zio_trace.specs.Conflicts.{is_single}
-use Rattle.zio_trace.specs.Entries.{answer_to}
+use Rattle.zio_trace.specs.Entries.{AnswersOnLeaf, answer_to}
 use Rattle.zio_trace.specs.Families.{Forest}
-use Rattle.zio_trace.specs.Leaves.{LeafOp, on_leaf}
+use Rattle.zio_trace.specs.Leaves.{Answer, LeafOp}
 use Rattle.zio_trace.specs.SoundRounds.{IsSoundRound, work_of}
 use Rattle.zio_trace.specs.Tasks.{Find, Got, Leaf, TakePlaces, Taken, Task, Value}
 use Rattle.zio_trace.specs.Underway.{Flight, State, flying_now}
@@ -39,7 +39,7 @@ use Rattle.zio_frames.proofs.SingleLemmas.{asks_whole, single_kind, single_left}
 abbrev pub flying : List ℕ → Frame → Option Inner → List Child → Flying
 flying at o inner cs = record { at = at; stack = node o inner cs }
 
-module _ (t : Terms) (sizes : ℕ → ℕ) (f : Forest) (before : Images) (trees : List Slot) (others : List Flying) (s : State)
+module _ (t : Terms) (sizes : ℕ → ℕ) (f : Forest) (before : Option Images) (trees : List Slot) (others : List Flying) (s : State)
     (sound : IsSoundRound t sizes f) where
   abbrev pub Runs : List Flying → Type 0
   Runs nodes = IsRunning t sizes f before trees nodes s
@@ -137,18 +137,14 @@ module _ (t : Terms) (sizes : ℕ → ℕ) (f : Forest) (before : Images) (trees
       (λ x fs h is fresh. work_takes (work_of t sizes f) before s x fs tree (round_sound t sizes f sound) h is fresh)
       (λ st k. k) r asks
 
-  pub leaf_node : (at : List ℕ) (act : LeafOp) → Runs (record { at = at; stack = fresh_stack (Leaf act) } ∷ others)
+  pub leaf_node : (at : List ℕ) (act : LeafOp) (a : Answer) (after : Images)
+      → Runs (record { at = at; stack = fresh_stack (Leaf act) } ∷ others) → AnswersOnLeaf t before act s.images a after
       → Later t sizes f before trees
-      (record {
-        at = at;
-        stack = done_at_once (fresh_stack (Leaf act)) (Leaf act)
-            (Got (on_leaf t.setting act s.images).value);
-      } ∷ others)
-      s.entries (on_leaf t.setting act s.images).images
-  leaf_node at act r =
-      done_node at (fresh_frame (Leaf act)) [] (Leaf act) (Got (on_leaf t.setting act s.images).value) s.entries
-      (on_leaf t.setting act s.images).images refl
-      (λ x fs h is fresh. work_on_leaf (work_of t sizes f) before s x fs act (round_sound t sizes f sound) h is fresh)
+      (record { at = at; stack = done_at_once (fresh_stack (Leaf act)) (Leaf act) (Got a) } ∷ others) s.entries after
+  leaf_node at act a after r answers =
+      done_node at (fresh_frame (Leaf act)) [] (Leaf act) (Got a) s.entries after refl
+      (λ x fs h is fresh. work_on_leaf (work_of t sizes f) before s x fs act a after
+      (round_sound t sizes f sound) h is fresh answers)
       (λ st k. k) r (record { next = refl; beside = tt })
 
   -- ---- an operation is handed to a child

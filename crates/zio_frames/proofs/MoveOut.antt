@@ -1,5 +1,5 @@
 -- A part hands out what it asks next, or does it at once.
-use Rattle.std.proofs.Common.{◌≡◌, ℕ, ◌+◌, List, [], ◌∷◌, ◌++◌, length, slice_get, Bool, true, false, cond, Some, None, refl, sym, ap, ◌∙◌, subst, arith}
+use Rattle.std.proofs.Common.{◌≡◌, ℕ, ◌+◌, List, [], ◌∷◌, ◌++◌, length, slice_get, Bool, true, false, cond, Option, Some, None, refl, sym, ap, ◌∙◌, subst, arith}
 use Rattle.std.specs.List.{AllByRecursion}
 use Rattle.zio_types.specs.Choices.{Choice}
 use Rattle.zio_cksum.specs.Images.{Images}
@@ -34,7 +34,7 @@ use Rattle.zio_frames.proofs.OutLemmas.{out_at, out_of, out_there, told_outs}
 use Rattle.zio_frames.proofs.SingleLemmas.{single_asks}
 use Rattle.zio_frames.proofs.SlotMoves.{set_end}
 
-module _ (t : Terms) (sizes : ℕ → ℕ) (f : Forest) (before : Images) (s : State) (sound : IsSoundRound t sizes f) where
+module _ (t : Terms) (sizes : ℕ → ℕ) (f : Forest) (before : Option Images) (s : State) (sound : IsSoundRound t sizes f) where
   abbrev work : Work
   work = work_of t sizes f
 

@@ -1,5 +1,5 @@
 -- A round begins, one of its trees settles, and once no node is left the round is settled.
-use Rattle.std.proofs.Common.{◌≡◌, ℕ, suc, ◌+◌, List, [], ◌∷◌, ◌++◌, length, slice_get, slice_set, Option, Some, None, inl, inr, IsPermutation, refl, sym, ap, ◌∙◌, subst, arith, append-nil, append_assoc, length-append}
+use Rattle.std.proofs.Common.{◌≡◌, ℕ, suc, ◌+◌, List, [], ◌∷◌, ◌++◌, length, slice_get, slice_set, Option, Some, None, IfSome, inl, inr, IsPermutation, refl, sym, ap, ◌∙◌, subst, arith, append-nil, append_assoc, length-append}
 use Rattle.std.specs.List.{AllByRecursion, flat_map}
 use Rattle.std.proofs.lemmas.Grind.{flat_map-append}
 use Rattle.std.proofs.lemmas.List.{length-set}
@@ -18,16 +18,17 @@ use Rattle.zio_trace.specs.Labels.{Labelled, labelled}
 use Rattle.zio_trace.specs.Leaves.{HaveSizes}
 use Rattle.zio_trace.specs.Oracles.{Oracle}
 use Rattle.zio_trace.specs.Programs.{Ends, Program}
+use Rattle.zio_trace.specs.RoundRules.{task_ways}
 use Rattle.zio_trace.specs.Rounds.{settles}
 use Rattle.zio_trace.specs.SoundRounds.{IsSoundRound, work_of}
 use Rattle.zio_trace.specs.Tasks.{Task, Value}
 use Rattle.zio_trace.specs.Together.{round_of}
-use Rattle.zio_trace.specs.Underway.{Call, Flight, IsUnderway, State, WasHandedOut, Work, after_task, at_start, call_of, flight_of, flying_now, part_of, plan_each, root_out}
+use Rattle.zio_trace.specs.Underway.{AreAnswered, Call, Flight, IsUnderway, State, WasHandedOut, Work, after_task, at_start, call_of, flight_of, flying_now, part_of, plan_each, root_out}
 use Rattle.zio_trace.specs.Views.{nth, without}
 use Rattle.zio_trace.proofs.SoundRoundLemmas.{round_sound}
 use Rattle.zio_trace.proofs.UnderwayHears.{work_task_ends}
 use Rattle.zio_trace.proofs.UnderwayOut.{work_begins, work_next, work_permuted}
-use Rattle.zio_trace.proofs.WentOn.{went_on_settled}
+use Rattle.zio_trace.proofs.WentOn.{went_on_by_journal, went_on_settled}
 use Rattle.zio_frames.specs.Frames.{Child, Flying, Frame, flight_at, flights_of, fresh_frame, fresh_stack, left_of, outs_from}
 use Rattle.zio_frames.specs.OfRound.{IsOfRound, IsTaskOf}
 use Rattle.zio_frames.specs.Running.{IsRunning, Later, all_heard, all_out, settling_from}
@@ -79,7 +80,7 @@ tree_out tasks trees x flights next n outs e below handed at (inr (k, c, out, is
       is = ap (λ i. part_of [] (0 + i) h.1) (sym number) ∙ ap (λ (d : Call). d.op) (sym h.5) ∙ is;
     }
 
-module _ (t : Terms) (sizes : ℕ → ℕ) (f : Forest) (before : Images) where
+module _ (t : Terms) (sizes : ℕ → ℕ) (f : Forest) (before : Option Images) where
   abbrev work : Work
   work = work_of t sizes f
 
@@ -124,7 +125,7 @@ module _ (t : Terms) (sizes : ℕ → ℕ) (f : Forest) (before : Images) where
   -- ---- the round begins
 
   -- the first tasks are handed out
-  pub record Begun (done : List Task) : Type 0 where
+  pub record Begun (images : Images) (done : List Task) : Type 0 where
     pub state : State
     pub underway : IsUnderway work before state
     pub flights_are : state.flights ≡ flat_map (flights_of t) (settling_from 0 done)
@@ -132,12 +133,12 @@ module _ (t : Terms) (sizes : ℕ → ℕ) (f : Forest) (before : Images) where
     pub outs : state.outs ≡ outs_from [] 0 done (all_out done)
     pub next : state.next ≡ length done
     pub entries_are : state.entries ≡ []
-    pub images_are : state.images ≡ before
+    pub images_are : state.images ≡ images
 
-  none_begun : Begun []
-  none_begun = record {
-    state = at_start work before;
-    underway = work_begins work before;
+  none_begun : (images : Images) → IfSome before (λ (b : Images). b ≡ images) → Begun images []
+  none_begun images is = record {
+    state = at_start work images;
+    underway = work_begins work before images is;
     flights_are = refl;
     root = refl;
     outs = refl;
@@ -146,9 +147,9 @@ module _ (t : Terms) (sizes : ℕ → ℕ) (f : Forest) (before : Images) where
     images_are = refl;
   }
 
-  one_begun : (done rest : List Task) (q : Task) → IsSoundRound t sizes f → done ++ q ∷ rest ≡ settles f → Begun done
-      → Begun (done ++ q ∷ [])
-  one_begun done rest q sound all b =
+  one_begun : (images : Images) (done rest : List Task) (q : Task) → IsSoundRound t sizes f → done ++ q ∷ rest ≡ settles f
+      → Begun images done → Begun images (done ++ q ∷ [])
+  one_begun images done rest q sound all b =
       let s : State = b.state in
       let fs : List Flight = flat_map (flights_of t) (settling_from 0 done) in
       let new : Flight = flight_at t (length done ∷ []) (fresh_frame q) in
@@ -197,10 +198,12 @@ module _ (t : Terms) (sizes : ℕ → ℕ) (f : Forest) (before : Images) where
       longer : (n : ℕ) → length (done ++ q ∷ []) ≡ n + 1 → suc n ≡ length (done ++ q ∷ [])
       longer n e = omega arith
 
-  all_begun : (done rest : List Task) → IsSoundRound t sizes f → done ++ rest ≡ settles f → Begun done → Begun (settles f)
-  all_begun done [] sound all b = subst Begun (sym (append-nil done) ∙ all) b
-  all_begun done (q ∷ rest) sound all b =
-      all_begun (done ++ q ∷ []) rest sound (append_assoc done (q ∷ []) rest ∙ all) (one_begun done rest q sound all b)
+  all_begun : (images : Images) (done rest : List Task) → IsSoundRound t sizes f → done ++ rest ≡ settles f → Begun images done
+      → Begun images (settles f)
+  all_begun images done [] sound all b = subst (Begun images) (sym (append-nil done) ∙ all) b
+  all_begun images done (q ∷ rest) sound all b =
+      all_begun images (done ++ q ∷ []) rest sound (append_assoc done (q ∷ []) rest ∙ all)
+      (one_begun images done rest q sound all b)
 
   of_round_from : (n : ℕ) (entries : List Choice) (tasks : List Task) → AllByRecursion (IsTaskOf t f entries) tasks
       → AllByRecursion (λ (x : Flying). IsOfRound t f entries x.stack) (settling_from n tasks)
@@ -208,10 +211,10 @@ module _ (t : Terms) (sizes : ℕ → ℕ) (f : Forest) (before : Images) where
   of_round_from n entries (q ∷ tasks) h =
       (record { outer = fresh_of_round t f entries q h.0; inner = tt }, of_round_from (suc n) entries tasks h.1)
 
-  pub round_begins : IsSoundRound t sizes f
-      → Later t sizes f before (all_out (settles f)) (settling_from 0 (settles f)) [] before
-  round_begins sound =
-      let b : Begun (settles f) = all_begun [] (settles f) sound refl none_begun in
+  pub round_begins : (images : Images) → IsSoundRound t sizes f → IfSome before (λ (b : Images). b ≡ images)
+      → Later t sizes f before (all_out (settles f)) (settling_from 0 (settles f)) [] images
+  round_begins images sound is =
+      let b : Begun images (settles f) = all_begun images [] (settles f) sound refl (none_begun images is) in
       record {
         state = b.state;
         running = record {
@@ -228,12 +231,20 @@ module _ (t : Terms) (sizes : ℕ → ℕ) (f : Forest) (before : Images) where
         images_are = b.images_are;
       }
 
-  -- ---- the round ends
+-- ---- the round ends
 
-  pub round_ends : (journal : List Choice) (values : List Value) (s : State) → IsSoundRound t sizes f → HaveSizes sizes before
-      → IsRunning t sizes f before (all_heard values) [] s → choices_in t.round journal ≡ s.entries
-      → (settled : IsSettledByEntries journal t f s.entries (round_of values) before s.images)
-      × AreChoicesOf (sizes_of t.setting.tops) t.used settled.asks s.entries
-  round_ends journal values s sound have r of_round =
-      went_on_settled t sizes f journal before s values sound have r.underway r.flights
-      (r.root ∙ each_heard [] 0 (settles f) values r.each_tree) of_round
+pub round_ends : (t : Terms) (sizes : ℕ → ℕ) (f : Forest) (before : Images) (journal : List Choice) (values : List Value)
+    (s : State) → IsSoundRound t sizes f → HaveSizes sizes before → IsRunning t sizes f (Some before) (all_heard values) [] s
+    → choices_in t.round journal ≡ s.entries
+    → (settled : IsSettledByEntries journal t f s.entries (round_of values) before s.images)
+    × AreChoicesOf (sizes_of t.setting.tops) t.used settled.asks s.entries
+round_ends t sizes f before journal values s sound have r of_round =
+    went_on_settled t sizes f journal before s values sound have r.underway r.flights
+    (r.root ∙ each_heard [] 0 (settles f) values r.each_tree) of_round
+
+pub round_answered : (t : Terms) (sizes : ℕ → ℕ) (f : Forest) (before : Option Images) (journal : List Choice)
+    (values : List Value) (s : State) → IsRunning t sizes f before (all_heard values) [] s
+    → choices_in t.round journal ≡ s.entries → AreAnswered (task_ways journal t) (settles f) s.deeds values
+round_answered t sizes f before journal values s r of_round =
+    went_on_by_journal (work_of t sizes f) before s journal values r.underway r.flights
+    (r.root ∙ each_heard [] 0 (settles f) values r.each_tree) of_round

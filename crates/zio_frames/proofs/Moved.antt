@@ -1,5 +1,5 @@
 -- A round goes on where its nodes in flight moved.
-use Rattle.std.proofs.Common.{◌≡◌, ℕ, List, IsPermutation, refl, sym, ◌∙◌, subst}
+use Rattle.std.proofs.Common.{◌≡◌, ℕ, List, Option, IsPermutation, refl, sym, ◌∙◌, subst}
 use Rattle.std.specs.List.{AllByRecursion, flat_map}
 use Rattle.std.proofs.lemmas.List.Sorted.{IsPermutation-refl}
 use Rattle.zio_types.specs.Choices.{Choice}
@@ -18,7 +18,7 @@ use Rattle.zio_frames.specs.Slots.{Slot}
 use Rattle.zio_frames.proofs.PermLemmas.{flat_permuted}
 
 -- from the state these are in flight, with these entries and images; the work itself asked and heard nothing
-pub record Moved (t : Terms) (sizes : ℕ → ℕ) (f : Forest) (before : Images) (s : State) (flights : List Flight)
+pub record Moved (t : Terms) (sizes : ℕ → ℕ) (f : Forest) (before : Option Images) (s : State) (flights : List Flight)
     (entries : List Choice) (images : Images) : Type 0 where
   pub state : State
   pub underway : IsUnderway (work_of t sizes f) before state
@@ -29,7 +29,7 @@ pub record Moved (t : Terms) (sizes : ℕ → ℕ) (f : Forest) (before : Images
   pub entries_are : state.entries ≡ entries
   pub images_are : state.images ≡ images
 
-module _ (t : Terms) (sizes : ℕ → ℕ) (f : Forest) (before : Images) where
+module _ (t : Terms) (sizes : ℕ → ℕ) (f : Forest) (before : Option Images) where
   abbrev pub Goes : State → Type 0
   Goes s = IsUnderway (work_of t sizes f) before s
 

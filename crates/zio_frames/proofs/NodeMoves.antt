@@ -19,7 +19,7 @@ use Rattle.zio_frames.proofs.MoveChildren.{arrive_node, close_node}
 use Rattle.zio_frames.proofs.MoveItself.{choose_node, flying, open_node, take_node}
 use Rattle.zio_frames.proofs.MoveTrees.{settle_node}
 
-module _ (t : Terms) (sizes : ℕ → ℕ) (f : Forest) (before : Images) (trees : List Slot) where
+module _ (t : Terms) (sizes : ℕ → ℕ) (f : Forest) (before : Option Images) (trees : List Slot) where
   -- with this part within
   pub with_inner : (x : Flying) (inner : Option Inner) (others : List Flying) (s : State) → x.stack.inner ≡ inner
       → IsRunning t sizes f before trees (x ∷ others) s

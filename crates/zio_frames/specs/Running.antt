@@ -15,8 +15,9 @@ use Rattle.zio_frames.specs.OfRound.{IsOfRound}
 use Rattle.zio_frames.specs.Seats.{IsSeated, slot_at}
 use Rattle.zio_frames.specs.Slots.{Heard, IsOut, Slot, left_behind_slots}
 
--- The round's trees, as far as each is settled, and the nodes in flight, each of which does a part of the round's work.
-pub record IsRunning (t : Terms) (sizes : ℕ → ℕ) (f : Forest) (before : Images) (trees : List Slot) (nodes : List Flying) (s : State) : Type 0 where
+-- The round's trees, as far as each is settled, and the nodes in flight, each of which does a part of the round's work; the
+-- images before may be told or not.
+pub record IsRunning (t : Terms) (sizes : ℕ → ℕ) (f : Forest) (before : Option Images) (trees : List Slot) (nodes : List Flying) (s : State) : Type 0 where
   pub underway : IsUnderway (work_of t sizes f) before s
   pub flights : s.flights ≡ flat_map (flights_of t) nodes
   pub root : s.root ≡ left_behind_slots trees (labelled [] 0 (plan_each (settles f)))
@@ -39,7 +40,7 @@ abbrev pub all_heard : List Value → List Slot
 all_heard values = map (λ (v : Value). Heard v) values
 
 -- the round goes on: with these trees and nodes, the entries that were made, and the images as they are
-pub record Later (t : Terms) (sizes : ℕ → ℕ) (f : Forest) (before : Images) (trees : List Slot) (nodes : List Flying) (entries : List Choice) (images : Images) : Type 0 where
+pub record Later (t : Terms) (sizes : ℕ → ℕ) (f : Forest) (before : Option Images) (trees : List Slot) (nodes : List Flying) (entries : List Choice) (images : Images) : Type 0 where
   pub state : State
   pub running : IsRunning t sizes f before trees nodes state
   pub entries_are : state.entries ≡ entries

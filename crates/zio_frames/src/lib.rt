@@ -7,4 +7,4 @@
 
 mod laws;
 
-pub use laws::{nodes_go_on, nodes_settle_the_round};
+pub use laws::{nodes_go_on, nodes_hear_what_fits, nodes_settle_the_round};

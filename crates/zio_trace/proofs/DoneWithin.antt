@@ -1,5 +1,5 @@
 -- What was done by work under way is what its tasks may do.
-use Rattle.std.proofs.Common.{◌≡◌, ℕ, List, [], ◌∷◌, cond, Bool, true, false, Contains, refl, ap, ◌∙◌, eq-eqb}
+use Rattle.std.proofs.Common.{◌≡◌, ℕ, List, [], ◌∷◌, cond, Bool, true, false, Option, Contains, refl, ap, ◌∙◌, eq-eqb}
 use Rattle.std.specs.List.{AllByRecursion}
 use Rattle.zio_types.specs.declared.place.Place.{Place}
 use Rattle.zio_types.specs.Choices.{Choice, is_refused, taken_by}
@@ -27,7 +27,7 @@ use Rattle.zio_trace.proofs.TaskReach.{tasks_reach}
 use Rattle.zio_trace.proofs.UnderwayDone.{own_within}
 
 -- Each deed is one that some task may do.
-pub deeds_within : (w : Work) (before : Images) (s : State) (j : List Choice) → IsUnderway w before s → Comes w s.entries j → AllByRecursion (λ (d : Deed (Labelled Task) Value). IsOfTasks j w d.op.op) s.deeds
+pub deeds_within : (w : Work) (before : Option Images) (s : State) (j : List Choice) → IsUnderway w before s → Comes w s.entries j → AllByRecursion (λ (d : Deed (Labelled Task) Value). IsOfTasks j w d.op.op) s.deeds
 deeds_within w before s j under comes =
     let some = some_under w s.deeds s.entries j under.going.once under.going.single under.recorded comes in
     let asked : List (Labelled Task) = asked_in some.0 (labelled [] 0 (plan_each w.tasks)) in
@@ -45,7 +45,7 @@ taken_if P true places p h c = absurd (all_contains (λ (q : Place). ⊥) [] p t
 taken_if P false places p h c = all_contains P places p h c
 
 -- they are inside their tops, and free beside those in use
-pub taken_placed : (w : Work) (before : Images) (s : State) (p : Place) → IsUnderway w before s → Contains (places_taken s.entries) p → IsPlaced (sizes_of w.terms.setting.tops) w.terms.used p
+pub taken_placed : (w : Work) (before : Option Images) (s : State) (p : Place) → IsUnderway w before s → Contains (places_taken s.entries) p → IsPlaced (sizes_of w.terms.setting.tops) w.terms.used p
 taken_placed w before s p under c =
     let one : (x : Choice) × Contains s.entries x × Contains (taken_by x) p = contains_flat taken_by s.entries p c in
     taken_if (IsPlaced (sizes_of w.terms.setting.tops) w.terms.used) (is_refused one.0) one.0.places p

@@ -7,6 +7,7 @@ pub mod BlockPieces
 pub mod ByteLemmas
 pub mod CapLemmas
 pub mod ChoiceLemmas
+pub mod ClaimAlone
 pub mod ClearLemmas
 pub mod ClearTasks
 pub mod CopiesLemmas

@@ -1,5 +1,5 @@
 -- One more deed: its entries, the images that it leaves, and that no key is asked for twice.
-use Rattle.std.proofs.Common.{◌≡◌, ℕ, ◌+◌, ◌≤◌, true, List, [], ◌∷◌, ◌++◌, refl, sym, ◌∙◌, subst, append_assoc, arith}
+use Rattle.std.proofs.Common.{◌≡◌, ℕ, ◌+◌, ◌≤◌, true, List, [], ◌∷◌, ◌++◌, Option, Some, None, IfSome, refl, sym, ap, ◌∙◌, subst, append_assoc, arith}
 use Rattle.std.specs.List.{AllByRecursion}
 use Rattle.zio_types.specs.declared.journal.Key.{Key}
 use Rattle.zio_types.specs.Choices.{Choice}
@@ -9,14 +9,15 @@ use Rattle.zio_gang.specs.Attempts.{Terms}
 use Rattle.zio_gang.specs.Journals.{HaveDistinctKeys, asks_of}
 use Rattle.zio_gang.specs.Trees.{sizes_of}
 use Rattle.zio_trace.specs.Conflicts.{TaskLies, is_single}
-use Rattle.zio_trace.specs.Entries.{Pass, PassBy, Recorded, RecordedBy, any_rules, any_ways}
+use Rattle.zio_trace.specs.Entries.{AnswersOnLeaf, Pass, PassBy, PassIf, Recorded, RecordedBy, any_rules, any_ways}
 use Rattle.zio_trace.specs.Going.{IsGoing, Slot, asked_behind, weigh_slots}
 use Rattle.zio_trace.specs.Keys.{key_weight}
 use Rattle.zio_trace.specs.Labels.{Labelled, labelled, same_place, ways_at}
 use Rattle.zio_trace.specs.Oracles.{AreOnce, Agrees, IsOracle, Oracle, asked_in, ops_of, weigh}
 use Rattle.zio_trace.specs.Programs.{Deed, Program}
 use Rattle.zio_trace.specs.RoundRules.{task_rules, task_ways}
-use Rattle.zio_trace.specs.Tasks.{Find, Taken, Task, Value}
+use Rattle.zio_trace.specs.Leaves.{Answer, LeafOp}
+use Rattle.zio_trace.specs.Tasks.{Find, Got, Leaf, Taken, Task, Value}
 use Rattle.zio_trace.specs.Traces.{asked_by}
 use Rattle.zio_trace.specs.Underway.{Comes, Work, plan_each}
 use Rattle.zio_trace.proofs.DoneLemmas.{some_oracle}
@@ -48,6 +49,29 @@ pass_by t _ u later now before mid after f h = (h.0, f _ h.1)
 pub pass_more : (t : Terms) (ds : Deeds) (d : Deed (Labelled Task) Value) (before mid after : Images) → Pass t ds before mid → PassBy t d.op.op d.answer (λ i k. i ≡ k) mid after → Pass t (ds ++ d ∷ []) before after
 pass_more t [] d before mid after h k = subst (λ (i : Images). PassBy t d.op.op d.answer (Pass t []) i after) (sym h) k
 pass_more t (e ∷ ds) d before mid after h k = pass_by t e.op.op e.answer (Pass t ds) (Pass t (ds ++ d ∷ [])) before mid after (λ images l. pass_more t ds d images mid after l k) h
+
+-- the images before are those at the start, where they are told
+pub starts_at : (t : Terms) (before : Option Images) (images : Images) → IfSome before (λ (b : Images). b ≡ images) → PassIf t [] before images
+starts_at t None images h = tt
+starts_at t (Some b) images h = h
+
+-- one deed leads from these images to those, where any are told
+abbrev pub PassByIf : Terms → Option Images → Task → Value → Images → Images → Type 0
+PassByIf t None task v mid after = Unit {0}
+PassByIf t (Some before) task v mid after = PassBy t task v (λ i k. i ≡ k) mid after
+
+pub pass_more_if : (t : Terms) (ds : Deeds) (d : Deed (Labelled Task) Value) (before : Option Images) (mid after : Images) → PassIf t ds before mid → PassByIf t before d.op.op d.answer mid after → PassIf t (ds ++ d ∷ []) before after
+pass_more_if t ds d None mid after h k = tt
+pass_more_if t ds d (Some before) mid after h k = pass_more t ds d before mid after h k
+
+-- what leads there whichever images are told
+pub pass_by_any : (t : Terms) (before : Option Images) (task : Task) (v : Value) (mid after : Images) → PassBy t task v (λ i k. i ≡ k) mid after → PassByIf t before task v mid after
+pass_by_any t None task v mid after h = tt
+pass_by_any t (Some before) task v mid after h = h
+
+pub pass_on_leaf : (t : Terms) (before : Option Images) (act : LeafOp) (images : Images) (a : Answer) (after : Images) → AnswersOnLeaf t before act images a after → PassByIf t before (Leaf act) (Got a) images after
+pass_on_leaf t None act images a after h = tt
+pass_on_leaf t (Some before) act images a after h = (ap Got (sym h.0), sym h.1)
 
 -- ---- oracles
 

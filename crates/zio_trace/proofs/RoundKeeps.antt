@@ -31,7 +31,7 @@ not_in_both t u leaf at clear tl tf tb ul uf ub =
     ⊎_elim (λ (a : t.at + t.span ≤ u.at). absurd (omega arith)) (λ (a : u.at + u.span ≤ t.at). absurd (omega arith)) far)
     clear
 
-module _ (t : Terms) (sizes : ℕ → ℕ) (f : Forest) (before : Images) (s : State) (round : IsSoundRound t sizes f) (have : HaveSizes sizes before) (under : IsUnderway (work_of t sizes f) before s) where
+module _ (t : Terms) (sizes : ℕ → ℕ) (f : Forest) (before : Images) (s : State) (round : IsSoundRound t sizes f) (have : HaveSizes sizes before) (under : IsUnderway (work_of t sizes f) (Some before) s) where
   abbrev Inside : Place → Type 0
   Inside p = IsTrue (is_inside (sizes_of t.setting.tops) p)
 
@@ -56,7 +56,7 @@ module _ (t : Terms) (sizes : ℕ → ℕ) (f : Forest) (before : Images) (s : S
           ⊎_elim
           (λ (c : Contains (places_named f) q). inside_dont t.setting p q inside (named_inside q c) (none q c))
           (λ (c : Contains (places_taken s.entries) q).
-          let placed : IsPlaced (sizes_of t.setting.tops) t.used q = taken_placed (work_of t sizes f) before s q under c in
+          let placed : IsPlaced (sizes_of t.setting.tops) t.used q = taken_placed (work_of t sizes f) (Some before) s q under c in
           dont_turned q p (inside_dont t.setting q p placed.1 inside (all_contains (λ (r : Place). meets q r ≡ false) t.used p placed.0 used)))
           there
 

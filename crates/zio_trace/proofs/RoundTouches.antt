@@ -148,21 +148,21 @@ module _ (t : Terms) (sizes : ℕ → ℕ) (f : Forest) (entries : List Choice) 
 
 -- ---- a round that was stopped
 
-module _ (t : Terms) (sizes : ℕ → ℕ) (f : Forest) (before : Images) (s : State) (under : IsUnderway (work_of t sizes f) before s) where
+module _ (t : Terms) (sizes : ℕ → ℕ) (f : Forest) (before : Option Images) (s : State) (under : IsUnderway (work_of t sizes f) before s) where
   deeds_keep : AllByRecursion (λ (d : Deed (Labelled Task) Value). Keeps t sizes f s.entries d.op.op) s.deeds
   deeds_keep =
       all_weaker (λ (d : Deed (Labelled Task) Value). IsOfTasks s.entries (work_of t sizes f) d.op.op) (λ (d : Deed (Labelled Task) Value). Keeps t sizes f s.entries d.op.op) s.deeds
       (λ d k. all_contains (λ (q : Task). (d : Task) → Within s.entries t q d → Keeps t sizes f s.entries d) (settles f) k.0 (tasks_keep t sizes f s.entries f (λ q c. c)) k.1 d.op.op k.2)
       (deeds_within (work_of t sizes f) before s s.entries under (entries_may_come (sizes_of t.setting.tops) t.used s.entries under.distinct under.lawful))
 
-  -- It has changed its images only at places of blocks that its requests name, and at places that were found for it.
-  pub changed_within : HaveSizes sizes before → SameOutside (spots_touched t f s.entries) before s.images
-  changed_within have =
-      pass_same t sizes (spots_touched t f s.entries) s.deeds before s.images have under.going.lies
-      (all_weaker (λ (d : Deed (Labelled Task) Value). Keeps t sizes f s.entries d.op.op) (λ (d : Deed (Labelled Task) Value). WritesAt (spots_touched t f s.entries) d.op.op) s.deeds (λ d k. k.0) deeds_keep) under.pass
-
   -- All entries are of its round.
   pub entries_of_round : choices_in t.round s.entries ≡ s.entries
   entries_of_round =
       entries_in_round t.round s.deeds s.entries
       (all_weaker (λ (d : Deed (Labelled Task) Value). Keeps t sizes f s.entries d.op.op) (λ (d : Deed (Labelled Task) Value). AsksIn t.round d.op.op) s.deeds (λ d k. k.1) deeds_keep) under.recorded
+
+-- It has changed its images only at places of blocks that its requests name, and at places that were found for it.
+pub changed_within : (t : Terms) (sizes : ℕ → ℕ) (f : Forest) (before : Images) (s : State) → IsUnderway (work_of t sizes f) (Some before) s → HaveSizes sizes before → SameOutside (spots_touched t f s.entries) before s.images
+changed_within t sizes f before s under have =
+    pass_same t sizes (spots_touched t f s.entries) s.deeds before s.images have under.going.lies
+    (all_weaker (λ (d : Deed (Labelled Task) Value). Keeps t sizes f s.entries d.op.op) (λ (d : Deed (Labelled Task) Value). WritesAt (spots_touched t f s.entries) d.op.op) s.deeds (λ d k. k.0) (deeds_keep t sizes f (Some before) s under)) under.pass

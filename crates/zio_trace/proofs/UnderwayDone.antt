@@ -1,5 +1,5 @@
 -- A single operation is done: on its leaf, or by the space.
-use Rattle.std.proofs.Common.{◌≡◌, ℕ, true, List, [], ◌∷◌, ◌++◌, length, map, Contains, refl, sym, ap, ◌∙◌, subst, append-nil}
+use Rattle.std.proofs.Common.{◌≡◌, ℕ, true, List, [], ◌∷◌, ◌++◌, length, map, Option, Contains, refl, sym, ap, ◌∙◌, subst, append-nil}
 use Rattle.zio_types.specs.Choices.{Ask, Choice}
 use Rattle.zio_types.specs.Places.{are_open}
 use Rattle.zio_cksum.specs.Images.{Images}
@@ -9,10 +9,10 @@ use Rattle.zio_gang.specs.Journals.{AreLawful}
 use Rattle.zio_gang.specs.Trees.{sizes_of, tree_places}
 use Rattle.zio_trace.specs.Conflicts.{TaskLies, is_single}
 use Rattle.zio_trace.specs.Engines.{reach_in}
-use Rattle.zio_trace.specs.Entries.{PassBy, Recorded, RecordedBy, answer_to, any_rules, any_ways}
+use Rattle.zio_trace.specs.Entries.{AnswersOnLeaf, Recorded, RecordedBy, answer_to, any_rules, any_ways}
 use Rattle.zio_trace.specs.Footprints.{Within}
 use Rattle.zio_trace.specs.Labels.{Labelled, ways_at}
-use Rattle.zio_trace.specs.Leaves.{LeafOp, on_leaf}
+use Rattle.zio_trace.specs.Leaves.{Answer, LeafOp}
 use Rattle.zio_trace.specs.Passing.{Passes}
 use Rattle.zio_trace.specs.Programs.{Asks, Deed, Ends}
 use Rattle.zio_trace.specs.Tasks.{Find, Got, Leaf, TakePlaces, Taken, Task, Value}
@@ -23,7 +23,7 @@ use Rattle.zio_trace.proofs.EntryLemmas.{entries_may_come}
 use Rattle.zio_trace.proofs.FinishLemmas.{going_does}
 use Rattle.zio_trace.proofs.FlightLemmas.{flying_did, flying_more, plan_single}
 use Rattle.zio_trace.proofs.LinkLemmas.{linked_same}
-use Rattle.zio_trace.proofs.MoreDone.{comes_at_all, comes_sooner, going_distinct, pass_more, recorded_more}
+use Rattle.zio_trace.proofs.MoreDone.{PassByIf, comes_at_all, comes_sooner, going_distinct, pass_by_any, pass_more_if, pass_on_leaf, recorded_more}
 use Rattle.zio_trace.proofs.NestLemmas.{nested_same}
 use Rattle.zio_trace.proofs.OnceKeys.{any_laws}
 use Rattle.zio_trace.proofs.OracleLemmas.{sure_more}
@@ -37,16 +37,16 @@ own_within w j (Find a) e = refl
 own_within w j (TakePlaces tree) e = refl
 own_within w j _ e = absurd (cc)
 
-module _ (w : Work) (before : Images) where
+module _ (w : Work) (before : Option Images) where
   -- it lies on its leaf
-  op_lies : (j : List Choice) (x : Flight) → IsSound w → Comes w [] j → is_single x.op.op ≡ true → StandsInTask j w x → TaskLies w.sizes x.op.op
+  pub op_lies : (j : List Choice) (x : Flight) → IsSound w → Comes w [] j → is_single x.op.op ≡ true → StandsInTask j w x → TaskLies w.sizes x.op.op
   op_lies j x sound comes e h =
       all_nth (λ (q : Task). (d : Task) → is_single d ≡ true → Within j w.terms q d → TaskLies w.sizes d) w.tasks h.0 h.2 (sound.lies j comes) h.4 x.op.op e
       (h.5 x.op (own_reach j w.terms x.op (own_within w j x.op.op e))).within
 
   work_did : (s : State) (x : Flight) (others : List Flight) (v : Value) (more : List Choice) (after : Images) → IsSound w → IsUnderway w before (flying_now s (x ∷ others))
       → is_single x.op.op ≡ true → x.rest ≡ plan_at w.terms x.op → RecordedBy x.op.op v (λ cs. cs ≡ []) more
-      → AreLawful (sizes_of w.terms.setting.tops) w.terms.used (s.entries ++ more) → PassBy w.terms x.op.op v (λ i k. i ≡ k) s.images after
+      → AreLawful (sizes_of w.terms.setting.tops) w.terms.used (s.entries ++ more) → PassByIf w.terms before x.op.op v s.images after
       → IsUnderway w before (after_deed s x others v (s.entries ++ more) after)
   work_did s x others v more after sound h single fresh recorded lawful pass =
       let d : Deed (Labelled Task) Value = record { op = x.op; answer = v } in
@@ -78,26 +78,26 @@ module _ (w : Work) (before : Images) where
         recorded = recorded_now;
         lawful = lawful;
         distinct = going_distinct w (Passes w.terms.setting w.shared) (s.deeds ++ d ∷ []) (slot_of now ∷ map slot_of others) s.root (length s.outs) (s.entries ++ more) sound.once going recorded_now;
-        pass = pass_more w.terms s.deeds d before s.images after h.pass pass;
+        pass = pass_more_if w.terms s.deeds d before s.images after h.pass pass;
       }
 
   -- without a new entry
   work_did_alone : (s : State) (x : Flight) (others : List Flight) (v : Value) (after : Images) → IsSound w → IsUnderway w before (flying_now s (x ∷ others))
       → is_single x.op.op ≡ true → x.rest ≡ plan_at w.terms x.op → RecordedBy x.op.op v (λ cs. cs ≡ []) []
-      → PassBy w.terms x.op.op v (λ i k. i ≡ k) s.images after → IsUnderway w before (after_deed s x others v s.entries after)
+      → PassByIf w.terms before x.op.op v s.images after → IsUnderway w before (after_deed s x others v s.entries after)
   work_did_alone s x others v after sound h single fresh recorded pass =
       let same : s.entries ++ [] ≡ s.entries = append-nil s.entries in
       subst (λ (cs : List Choice). IsUnderway w before (after_deed s x others v cs after)) same
       (work_did s x others v [] after sound h single fresh recorded (subst (AreLawful (sizes_of w.terms.setting.tops) w.terms.used) (sym same) h.lawful) pass)
 
-  pub work_on_leaf : (s : State) (x : Flight) (others : List Flight) (act : LeafOp) → IsSound w → IsUnderway w before (flying_now s (x ∷ others)) → x.op.op ≡ Leaf act → x.rest ≡ plan_at w.terms x.op
-      → IsUnderway w before (after_deed s x others (Got (on_leaf w.terms.setting act s.images).value) s.entries (on_leaf w.terms.setting act s.images).images)
-  work_on_leaf s x others act sound h is fresh =
-      let v : Value = Got (on_leaf w.terms.setting act s.images).value in
-      let after : Images = (on_leaf w.terms.setting act s.images).images in
+  pub work_on_leaf : (s : State) (x : Flight) (others : List Flight) (act : LeafOp) (a : Answer) (after : Images) → IsSound w → IsUnderway w before (flying_now s (x ∷ others)) → x.op.op ≡ Leaf act
+      → x.rest ≡ plan_at w.terms x.op → AnswersOnLeaf w.terms before act s.images a after
+      → IsUnderway w before (after_deed s x others (Got a) s.entries after)
+  work_on_leaf s x others act a after sound h is fresh answers =
+      let v : Value = Got a in
       work_did_alone s x others v after sound h (ap is_single is) fresh
       (subst (λ (task : Task). RecordedBy task v (λ cs. cs ≡ []) []) (sym is) refl)
-      (subst (λ (task : Task). PassBy w.terms task v (λ i k. i ≡ k) s.images after) (sym is) (refl, refl))
+      (subst (λ (task : Task). PassByIf w.terms before task v s.images after) (sym is) (pass_on_leaf w.terms before act s.images a after answers))
 
   pub work_takes : (s : State) (x : Flight) (others : List Flight) (tree : Tree) → IsSound w → IsUnderway w before (flying_now s (x ∷ others)) → x.op.op ≡ TakePlaces tree → x.rest ≡ plan_at w.terms x.op
       → IsUnderway w before (after_deed s x others (Taken (are_open w.terms.used (tree_places tree))) s.entries s.images)
@@ -105,7 +105,7 @@ module _ (w : Work) (before : Images) where
       let v : Value = Taken (are_open w.terms.used (tree_places tree)) in
       work_did_alone s x others v s.images sound h (ap is_single is) fresh
       (subst (λ (task : Task). RecordedBy task v (λ cs. cs ≡ []) []) (sym is) refl)
-      (subst (λ (task : Task). PassBy w.terms task v (λ i k. i ≡ k) s.images s.images) (sym is) (refl, refl))
+      (subst (λ (task : Task). PassByIf w.terms before task v s.images s.images) (sym is) (pass_by_any w.terms before (TakePlaces tree) v s.images s.images (refl, refl)))
 
   pub work_finds : (s : State) (x : Flight) (others : List Flight) (a : Ask) (c : Choice) → IsSound w → IsUnderway w before (flying_now s (x ∷ others)) → x.op.op ≡ Find a → x.rest ≡ plan_at w.terms x.op
       → c.asked ≡ a → AreLawful (sizes_of w.terms.setting.tops) w.terms.used (s.entries ++ c ∷ []) → IsUnderway w before (after_deed s x others (answer_to c) (s.entries ++ c ∷ []) s.images)
@@ -113,4 +113,4 @@ module _ (w : Work) (before : Images) where
       work_did s x others (answer_to c) (c ∷ []) s.images sound h (ap is_single is) fresh
       (subst (λ (task : Task). RecordedBy task (answer_to c) (λ cs. cs ≡ []) (c ∷ [])) (sym is) (asked, refl, refl))
       lawful
-      (subst (λ (task : Task). PassBy w.terms task (answer_to c) (λ i k. i ≡ k) s.images s.images) (sym is) refl)
+      (subst (λ (task : Task). PassByIf w.terms before task (answer_to c) s.images s.images) (sym is) (pass_by_any w.terms before (Find a) (answer_to c) s.images s.images refl))

@@ -29,7 +29,7 @@ use Rattle.zio_trace.proofs.OnceKeys.{any_laws}
 use Rattle.zio_trace.proofs.UnderwayOut.{Going, whole, work_permuted}
 use Rattle.zio_trace.proofs.ViewLemmas.{stand_nth}
 
-module _ (w : Work) (before : Images) where
+module _ (w : Work) (before : Option Images) where
   -- ---- what is told early
 
   told_first : (s : State) (q : Flight) (others : List Flight) (n : ℕ) (c : Call) (r : Option Bp) → IsUnderway w before (flying_now s (q ∷ others)) → nth n q.outs ≡ Some c → Known w s (λ o. early (o.answer c.op) ≡ r)

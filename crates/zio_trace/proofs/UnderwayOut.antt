@@ -1,5 +1,5 @@
 -- The work begins, tasks and operations are handed out, and those in flight are listed anew.
-use Rattle.std.proofs.Common.{◌≡◌, ℕ, suc, ◌≤◌, false, List, [], ◌∷◌, ◌++◌, length, map, Some, Contains, IsPermutation, refl, sym, ap, ◌∙◌, subst, arith}
+use Rattle.std.proofs.Common.{◌≡◌, ℕ, suc, ◌≤◌, false, List, [], ◌∷◌, ◌++◌, length, map, Option, Some, IfSome, Contains, IsPermutation, refl, sym, ap, ◌∙◌, subst, arith}
 use Rattle.std.proofs.lemmas.List.Sorted.{IsPermutation-map}
 use Rattle.std.specs.List.{AllByRecursion}
 use Rattle.zio_types.specs.Choices.{Choice}
@@ -28,25 +28,25 @@ use Rattle.zio_trace.proofs.GoingLemmas.{going_begins, going_grows, going_roots}
 use Rattle.zio_trace.proofs.LeftLemmas.{asked_call, calls_stay, left_begins, left_next, left_out, one_longer}
 use Rattle.zio_trace.proofs.LinkLemmas.{linked_out, linked_permuted, linked_task}
 use Rattle.zio_trace.proofs.ListLemmas.{all_lists}
-use Rattle.zio_trace.proofs.MoreDone.{comes_at_all, some_any, some_under}
+use Rattle.zio_trace.proofs.MoreDone.{comes_at_all, some_any, some_under, starts_at}
 use Rattle.zio_trace.proofs.NestLemmas.{nested_out, nested_permuted, nested_task, same_head}
 use Rattle.zio_trace.proofs.ReachLemmas.{reach_below}
 use Rattle.zio_trace.proofs.RequestFootprints.{tasks_stay}
 use Rattle.zio_trace.proofs.RoundEnds.{any_oracle}
 
 -- these are in flight
-pub with_flights : (w : Work) (before : Images) (s : State) (flights : List Flight) → IsUnderway w before s → s.flights ≡ flights → IsUnderway w before (flying_now s flights)
+pub with_flights : (w : Work) (before : Option Images) (s : State) (flights : List Flight) → IsUnderway w before s → s.flights ≡ flights → IsUnderway w before (flying_now s flights)
 with_flights w before s flights h e = subst (λ (xs : List Flight). IsUnderway w before (flying_now s xs)) e h
 
-module _ (w : Work) (before : Images) where
+module _ (w : Work) (before : Option Images) where
   abbrev pub Going : Deeds → List (Slot Task Value) → Program (Labelled Task) Value (List Value) → ℕ → Type 0
   Going = IsGoing (any_ways w.terms) (Passes w.terms.setting w.shared) (TaskLies w.sizes) (λ op v. v) (plan_each w.tasks)
 
   abbrev pub whole : Program (Labelled Task) Value (List Value)
   whole = labelled [] 0 (plan_each w.tasks)
 
-  pub work_begins : IsUnderway w before (at_start w before)
-  work_begins = record {
+  pub work_begins : (images : Images) → IfSome before (λ (b : Images). b ≡ images) → IsUnderway w before (at_start w images)
+  work_begins images is = record {
     going = going_begins (any_ways w.terms) (Passes w.terms.setting w.shared) (TaskLies w.sizes) (λ op v. v) (plan_each w.tasks);
     flying = tt;
     root = λ o is agrees. left_begins o [] (plan_each w.tasks);
@@ -57,7 +57,7 @@ module _ (w : Work) (before : Images) where
     recorded = refl;
     lawful = tt;
     distinct = tt;
-    pass = refl;
+    pass = starts_at w.terms before images is;
   }
 
   -- ---- in any order

@@ -1,5 +1,5 @@
 -- A node that ended has a value that fits its task.
-use Rattle.std.proofs.Common.{◌≡◌, List, ◌∷◌, map, sym, ap, ◌∙◌, subst}
+use Rattle.std.proofs.Common.{◌≡◌, List, ◌∷◌, map, Option, sym, ap, ◌∙◌, subst}
 use Rattle.std.specs.List.{AllByRecursion}
 use Rattle.zio_types.specs.Choices.{Choice}
 use Rattle.zio_cksum.specs.Images.{Images}
@@ -16,7 +16,7 @@ use Rattle.zio_trace.proofs.MoreDone.{some_any, some_under}
 use Rattle.zio_trace.proofs.OnceKeys.{fits_left}
 use Rattle.zio_trace.proofs.RoundEnds.{any_oracle}
 
-module _ (w : Work) (before : Images) (s : State) (x : Flight) (others : List Flight) (v : Value) (under : IsUnderway w before s) (is : s.flights ≡ x ∷ others) (ended : x.rest ≡ Ends v) where
+module _ (w : Work) (before : Option Images) (s : State) (x : Flight) (others : List Flight) (v : Value) (under : IsUnderway w before s) (is : s.flights ≡ x ∷ others) (ended : x.rest ≡ Ends v) where
   -- whatever may still be answered, it has this value
   known : (o : Oracle (Labelled Task) Value) → IsOracle (ways_at (any_ways w.terms)) o → Agrees o s.deeds → o.answer x.op ≡ v
   known o ways agrees =

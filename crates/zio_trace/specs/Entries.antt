@@ -1,5 +1,5 @@
 -- A round whose journal isn't known yet: an ask may have any answer, and the answers are recorded as entries.
-use Rattle.std.specs.Prelude.{◌≡◌, ℕ, List, [], ◌∷◌, ◌++◌, Some}
+use Rattle.std.specs.Prelude.{◌≡◌, ℕ, List, [], ◌∷◌, ◌++◌, Option, Some, None}
 use Rattle.std.specs.List.{AllByRecursion}
 use Rattle.zio_types.specs.declared.place.Place.{Place}
 use Rattle.zio_types.specs.declared.place.TopSize.{TopSize}
@@ -13,7 +13,7 @@ use Rattle.zio_gang.specs.Writes.{chosen, places_chosen}
 use Rattle.zio_trace.specs.Conflicts.{TaskLies, TasksApart, is_single}
 use Rattle.zio_trace.specs.Families.{Forest}
 use Rattle.zio_trace.specs.Labels.{Labelled}
-use Rattle.zio_trace.specs.Leaves.{HaveSizes}
+use Rattle.zio_trace.specs.Leaves.{Answer, HaveSizes, LeafOp, on_leaf}
 use Rattle.zio_trace.specs.Oracles.{Shuffled, Ways}
 use Rattle.zio_trace.specs.Plans.{plan}
 use Rattle.zio_trace.specs.Programs.{Deed}
@@ -46,6 +46,17 @@ PassBy t task v later before after = ((means [] t task before).value ≡ v) × l
 abbrev pub Pass : Terms → List (Deed (Labelled Task) Value) → Images → Images → Type 0
 Pass t [] before after = before ≡ after
 Pass t (d ∷ ds) before after = PassBy t d.op.op d.answer (Pass t ds) before after
+
+-- the same where the images before are told; where they aren't, any may be now
+abbrev pub PassIf : Terms → List (Deed (Labelled Task) Value) → Option Images → Images → Type 0
+PassIf t ds None after = Unit {0}
+PassIf t ds (Some before) after = Pass t ds before after
+
+-- a leaf gives this answer and leaves these images: as on the images as they are, and where none are told whatever comes
+abbrev pub AnswersOnLeaf : Terms → Option Images → LeafOp → Images → Answer → Images → Type 0
+AnswersOnLeaf t None act images a after = Unit {0}
+AnswersOnLeaf t (Some before) act images a after =
+    (a ≡ (on_leaf t.setting act images).value) × (after ≡ (on_leaf t.setting act images).images)
 
 -- ---- entries
 

@@ -73,6 +73,10 @@ pub record IsSoundRound (t : Terms) (sizes : ℕ → ℕ) (f : Forest) : Type 0 
       BlocksApart p.block q.block ⊎ ReadOneBlock t p q
   pub claims : AllByRecursion (λ (p : Pending). IsNoClaim p.request.work) (flat f) ⊎ ((p : Pending) × (f ≡ TreeOf p NoTrees NoTrees))
 
+-- one of its requests is a claim
+abbrev pub HasClaim : Forest → Type 0
+HasClaim f = (p : Pending) × Contains (flat f) p × (IsNoClaim p.request.work → ⊥)
+
 -- a block of one of the round's requests
 abbrev pub IsBlockIn : Forest → Tree → Type 0
 IsBlockIn f tree = (p : Pending) × Contains (flat f) p × (p.block ≡ Some tree)

@@ -12,12 +12,12 @@ use Rattle.zio_trace.specs.Calls.{answered_at}
 use Rattle.zio_trace.specs.Clearings.{AllPairs, Free, Seat}
 use Rattle.zio_trace.specs.Conflicts.{TaskLies, is_single}
 use Rattle.zio_trace.specs.Engines.{Clear, MayDo, reach_in}
-use Rattle.zio_trace.specs.Entries.{MayCome, Pass, Recorded, any_ways}
+use Rattle.zio_trace.specs.Entries.{MayCome, PassIf, Recorded, any_ways}
 use Rattle.zio_trace.specs.Footprints.{Within}
 use Rattle.zio_trace.specs.Going.{IsGoing, Slot}
 use Rattle.zio_trace.specs.Keys.{key_weight}
 use Rattle.zio_trace.specs.Labels.{IsIn, Labelled, labelled, ways_at}
-use Rattle.zio_trace.specs.Oracles.{IsOracle, Oracle, Shuffled, Sure, asked_in, weigh}
+use Rattle.zio_trace.specs.Oracles.{Agrees, IsOracle, Oracle, Shuffled, Sure, Ways, asked_in, heard, weigh}
 use Rattle.zio_trace.specs.Passing.{Copies, Passes}
 use Rattle.zio_trace.specs.Plans.{TaskPlan, plan}
 use Rattle.zio_trace.specs.Programs.{Asks, Deed, Ends, Program, ◌>>=◌, ask}
@@ -203,8 +203,9 @@ pub record IsClear (w : Work) (ds : List (Deed (Labelled Task) Value)) (flights 
   pub clear : Clear journal w.terms w.shared ds (map seat_of flights)
   pub nested : AreNested journal w flights
 
--- The work is under way. The entries are a lawful journal, and what was done led from the images before to those now.
-pub record IsUnderway (w : Work) (before : Images) (s : State) : Type 0 where
+-- The work is under way. The entries are a lawful journal, and what was done led from the images before, where they are told,
+-- to those now.
+pub record IsUnderway (w : Work) (before : Option Images) (s : State) : Type 0 where
   pub going : IsGoing (any_ways w.terms) (Passes w.terms.setting w.shared) (TaskLies w.sizes) (λ op v. v) (plan_each w.tasks) s.deeds (map slot_of s.flights) s.root (length s.outs)
   pub flying : AllByRecursion (IsFlying w.terms s.deeds) s.flights
   pub root : Known w s (λ o. IsLeft o [] (labelled [] 0 (plan_each w.tasks)) s.root s.outs s.next)
@@ -215,7 +216,14 @@ pub record IsUnderway (w : Work) (before : Images) (s : State) : Type 0 where
   pub recorded : Recorded s.deeds s.entries
   pub lawful : AreLawful (sizes_of w.terms.setting.tops) w.terms.used s.entries
   pub distinct : HaveDistinctKeys (asks_of s.entries)
-  pub pass : Pass w.terms s.deeds before s.images
+  pub pass : PassIf w.terms s.deeds before s.images
+
+-- Some oracle of these ways agrees with all that was done, and by it the tasks have these values.
+pub record AreAnswered (ways : Ways Task Value) (tasks : List Task) (ds : List (Deed (Labelled Task) Value)) (values : List Value) : Type 0 where
+  pub oracle : Oracle (Labelled Task) Value
+  pub is : IsOracle (ways_at ways) oracle
+  pub agrees : Agrees oracle ds
+  pub values_are : heard oracle (labelled [] 0 (plan_each tasks)) ≡ values
 
 -- ---- what a move leaves
 

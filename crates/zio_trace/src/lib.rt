@@ -54,7 +54,8 @@ pub use soundness::{
 };
 pub use stopped::what_was_done_stays_within;
 pub use together::{
-    rounds_are_settled_as_in_turn, rounds_that_went_on_are_settled, work_is_done_as_in_turn,
+    rounds_are_settled_as_in_turn, rounds_that_went_on_are_settled, what_ended_is_answered,
+    work_is_done_as_in_turn,
 };
 pub use trees::{trees_over_different_blocks_in_any_order, trees_that_dont_conflict_in_any_order};
 pub use underway::{what_is_asked_next_is_known, work_goes_on};

@@ -9,6 +9,7 @@ ghost use Rattle.std.specs.Prelude.{
   false,
   IsTrue,
   List,
+  Option,
   Some,
   map,
   ℕ,
@@ -94,10 +95,10 @@ pub fn sound_rounds_are_shared_well()
 /// that were read are good, a walk over kept headers came to bodies of the block, and to all of them where
 /// nothing failed, and what is left of an attempt are requests that were attempted, each no more often.
 pub fn values_fit_whichever_journal_comes()
-    ensures fits { (w : Work) (before : Images) (s : State) (x : Flight) (others : List Flight) (v : Value)
+    ensures fits { (w : Work) (before : Option Images) (s : State) (x : Flight) (others : List Flight) (v : Value)
         (journal : List Choice) → IsUnderway w before s → s.flights ≡ x ∷ others → x.rest ≡ Ends v →
         Comes w s.entries journal → FitsTask journal w.terms x.op.op v }
-    ensures left { (w : Work) (before : Images) (s : State) (x : Flight) (others : List Flight) (v : Value) →
+    ensures left { (w : Work) (before : Option Images) (s : State) (x : Flight) (others : List Flight) (v : Value) →
         IsUnderway w before s → s.flights ≡ x ∷ others → x.rest ≡ Ends v → FitsLeft x.op.op v }
 {}
 

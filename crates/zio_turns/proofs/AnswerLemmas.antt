@@ -80,13 +80,13 @@ module _ (s : Setting) (sizes : ℕ → ℕ) (pieces : List PieceToWrite) (befor
       let first : Goes s sizes pieces before (state_with pieces rs n (flight_of (terms_of s) did ∷ fs) deeds now) =
       subst (λ (p : PieceToWrite). Goes s sizes pieces before (state_with pieces rs n (flight_of (terms_of s) (write_in s p l) ∷ fs) deeds now)) q.piece h in
       let deed : Goes s sizes pieces before (state_with pieces rs n (done ∷ fs) later w.images) =
-      work_on_leaf (work_of s sizes pieces) before (state_with pieces rs n (flight_of (terms_of s) did ∷ fs) deeds now) (flight_of (terms_of s) did) fs (Store l.retry x.piece.bytes spot) sound first refl refl in
+      work_on_leaf (work_of s sizes pieces) (Some before) (state_with pieces rs n (flight_of (terms_of s) did ∷ fs) deeds now) (flight_of (terms_of s) did) fs (Store l.retry x.piece.bytes spot) (answer_of w.error) w.images sound first refl refl (refl, refl) in
       let two : Goes s sizes pieces before (state_with pieces rs n (done ∷ f ∷ (qs ++ os)) later w.images) =
       in_order s sizes pieces before rs n (done ∷ fs) (done ∷ f ∷ (qs ++ os)) later w.images deed (IsPermutation-cons done fs (f ∷ (qs ++ os)) (piece_apart s pieces nodes l.piece x queue q.there q.goes)) in
       let none : slice_get held l.number ≡ Some None = get_map answer_in x.answers l.number None q.missing in
       let is : slice_get (pass_ops s x.retry x.piece) l.number ≡ Some op = next_op s sizes pieces before x.retry x.piece.bytes (copies_of s x) l.number spot q.listed in
       let heard_of : Goes s sizes pieces before (state_with pieces rs n (with_answer f (out_before l.number held) v ∷ (qs ++ os)) later w.images) =
-      work_arrives (work_of s sizes pieces) before (state_with pieces rs n (done ∷ f ∷ (qs ++ os)) later w.images) done f (qs ++ os) (out_before l.number held) c v two refl
+      work_arrives (work_of s sizes pieces) (Some before) (state_with pieces rs n (done ∷ f ∷ (qs ++ os)) later w.images) done f (qs ++ os) (out_before l.number held) c v two refl
       (out_there (l.piece ∷ []) (first_number s x.retry x.piece) l.number held (pass_ops s x.retry x.piece) op none is)
       (ap (λ b. part_of (l.piece ∷ []) (first_number s b x.piece + l.number) (Leaf (Store b x.piece.bytes spot))) q.retry) in
       let one : Goes s sizes pieces before (state_with pieces rs n (node_flight s l.piece y ∷ (qs ++ os)) later w.images) =
@@ -121,7 +121,7 @@ module _ (s : Setting) (sizes : ℕ → ℕ) (pieces : List PieceToWrite) (befor
       ap (λ (ps : List PieceToWrite). slice_get (map task_of ps) i) (sym same) ∙ get_map task_of (map (λ (z : Node). z.piece) nodes) i x.piece (get_map (λ (z : Node). z.piece) nodes i x there) in
       let number : 0 + i ≡ i = omega arith in
       let ended : Goes s sizes pieces before _ =
-      work_task_ends (work_of s sizes pieces) before (state_with pieces rs (length nodes) (f ∷ (qs ++ os)) deeds now) f (qs ++ os) (out_before i rs) (call_of [] (0 + i) op) v front ends
+      work_task_ends (work_of s sizes pieces) (Some before) (state_with pieces rs (length nodes) (f ∷ (qs ++ os)) deeds now) f (qs ++ os) (out_before i rs) (call_of [] (0 + i) op) v front ends
       (out_there [] 0 i rs tasks op none is) (ap (λ k. part_of [] k op) number) in
       let set : slice_set rs i (Some v) ≡ results after = sym (map-set (λ (z : Node). result_in z.ended) nodes i y) in
       let root : _ ≡ filled (results after) (labelled [] 0 (plan_each tasks)) =

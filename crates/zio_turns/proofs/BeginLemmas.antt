@@ -104,7 +104,7 @@ abbrev begun_state : Setting → List PieceToWrite → List PieceToWrite → Ima
 begun_state s pieces done before = state_with pieces (results (map fresh done)) (length (map fresh done)) (node_flights s 0 (map fresh done)) [] before
 
 one_out : (s : Setting) (sizes : ℕ → ℕ) (pieces done rest : List PieceToWrite) (p : PieceToWrite) (before : Images) → IsSound (work_of s sizes pieces) → done ++ p ∷ rest ≡ pieces
-    → IsUnderway (work_of s sizes pieces) before (begun_state s pieces done before) → IsUnderway (work_of s sizes pieces) before (begun_state s pieces (done ++ p ∷ []) before)
+    → IsUnderway (work_of s sizes pieces) (Some before) (begun_state s pieces done before) → IsUnderway (work_of s sizes pieces) (Some before) (begun_state s pieces (done ++ p ∷ []) before)
 one_out s sizes pieces done rest p before sound all h =
     let rs : List (Option Value) = results (map fresh done) in
     let n : ℕ = length (map fresh done) in
@@ -115,10 +115,10 @@ one_out s sizes pieces done rest p before sound all h =
     let f : Flight = node_flight s n (fresh p) in
     let more : List PieceToWrite = done ++ p ∷ [] in
     let listed : slice_get tasks (length rs) ≡ Some op = ap (λ (ps : List PieceToWrite). slice_get (map task_of ps) (length rs)) (sym all) ∙ next_task done rest p in
-    let out : IsUnderway (work_of s sizes pieces) before (root_out (work_of s sizes pieces) (begun_state s pieces done before) op) =
-    work_next (work_of s sizes pieces) before (begun_state s pieces done before) op sound h (λ o is agrees. (_, filled_next o [] 0 rs tasks op root (root_first tasks) listed, refl)) in
-    let behind : IsUnderway (work_of s sizes pieces) before (flying_now (root_out (work_of s sizes pieces) (begun_state s pieces done before) op) (fs ++ f ∷ [])) =
-    work_permuted (work_of s sizes pieces) before (root_out (work_of s sizes pieces) (begun_state s pieces done before) op) (fs ++ f ∷ []) out (IsPermutation-sym (fs ++ f ∷ []) (f ∷ fs) (IsPermutation-to_front fs f)) in
+    let out : IsUnderway (work_of s sizes pieces) (Some before) (root_out (work_of s sizes pieces) (begun_state s pieces done before) op) =
+    work_next (work_of s sizes pieces) (Some before) (begun_state s pieces done before) op sound h (λ o is agrees. (_, filled_next o [] 0 rs tasks op root (root_first tasks) listed, refl)) in
+    let behind : IsUnderway (work_of s sizes pieces) (Some before) (flying_now (root_out (work_of s sizes pieces) (begun_state s pieces done before) op) (fs ++ f ∷ [])) =
+    work_permuted (work_of s sizes pieces) (Some before) (root_out (work_of s sizes pieces) (begun_state s pieces done before) op) (fs ++ f ∷ []) out (IsPermutation-sym (fs ++ f ∷ []) (f ∷ fs) (IsPermutation-to_front fs f)) in
     let nodes : map fresh more ≡ map fresh done ++ fresh p ∷ [] = map-append fresh done (p ∷ []) in
     let results_are : results (map fresh more) ≡ rs ++ None ∷ [] = ap results nodes ∙ map-append (λ (x : Node). result_in x.ended) (map fresh done) (fresh p ∷ []) in
     let longer : length (map fresh done ++ fresh p ∷ []) ≡ n + 1 = length-append (map fresh done) (fresh p ∷ []) in
@@ -128,12 +128,12 @@ one_out s sizes pieces done rest p before sound all h =
     let root_is : filled rs root ≡ filled (results (map fresh more)) root = sym (filled_more rs root) ∙ ap (λ (r : List (Option Value)). filled r root) (sym results_are) in
     let outs_are : outs_of [] 0 rs tasks ++ call_of [] n op ∷ [] ≡ outs_of [] 0 (results (map fresh more)) tasks =
     ap (λ k. outs_of [] 0 rs tasks ++ call_of [] k op ∷ []) (sym number) ∙ sym (outs_more [] 0 rs tasks op listed) ∙ ap (λ (r : List (Option Value)). outs_of [] 0 r tasks) (sym results_are) in
-    subst (λ (st : State). IsUnderway (work_of s sizes pieces) before st)
+    subst (λ (st : State). IsUnderway (work_of s sizes pieces) (Some before) st)
     (λ j. record { deeds = []; entries = []; flights = flights_are j; root = root_is j; outs = outs_are j; next = count j; images = before }) behind
 
 all_out : (s : Setting) (sizes : ℕ → ℕ) (pieces done rest : List PieceToWrite) (before : Images) → IsSound (work_of s sizes pieces) → done ++ rest ≡ pieces
-    → IsUnderway (work_of s sizes pieces) before (begun_state s pieces done before) → IsUnderway (work_of s sizes pieces) before (begun_state s pieces pieces before)
-all_out s sizes pieces done [] before sound all h = subst (λ (ps : List PieceToWrite). IsUnderway (work_of s sizes pieces) before (begun_state s pieces ps before)) (sym (append-nil done) ∙ all) h
+    → IsUnderway (work_of s sizes pieces) (Some before) (begun_state s pieces done before) → IsUnderway (work_of s sizes pieces) (Some before) (begun_state s pieces pieces before)
+all_out s sizes pieces done [] before sound all h = subst (λ (ps : List PieceToWrite). IsUnderway (work_of s sizes pieces) (Some before) (begun_state s pieces ps before)) (sym (append-nil done) ∙ all) h
 all_out s sizes pieces done (p ∷ rest) before sound all h =
     all_out s sizes pieces (done ++ p ∷ []) rest before sound (append_assoc done (p ∷ []) rest ∙ all) (one_out s sizes pieces done rest p before sound all h)
 
@@ -152,9 +152,9 @@ goes_begin s sizes pieces before sound = record {
   each = all_fresh s pieces;
   in_line = λ k. lined_up 0 k k pieces (omega arith);
   deeds = [];
-  underway = subst (λ (fs : List Flight). IsUnderway (work_of s (size_in sizes) pieces) before (state_with pieces (results (map fresh pieces)) (length (map fresh pieces)) (fs ++ node_flights s 0 (map fresh pieces)) [] before))
+  underway = subst (λ (fs : List Flight). IsUnderway (work_of s (size_in sizes) pieces) (Some before) (state_with pieces (results (map fresh pieces)) (length (map fresh pieces)) (fs ++ node_flights s 0 (map fresh pieces)) [] before))
       (sym (no_writes s pieces 0 (map fresh pieces)))
-      (all_out s (size_in sizes) pieces [] pieces before (sound_work s sizes pieces sound) refl (work_begins (work_of s (size_in sizes) pieces) before));
+      (all_out s (size_in sizes) pieces [] pieces before (sound_work s sizes pieces sound) refl (work_begins (work_of s (size_in sizes) pieces) (Some before) before refl));
 }
 
 -- ---- as the code begins

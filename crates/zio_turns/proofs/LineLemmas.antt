@@ -87,7 +87,7 @@ all_at P (y ∷ xs) (suc i) x h e = all_at P xs i x h.1 e
 -- what goes on with one piece changed
 pub goes_set : (s : Setting) (sizes : List ℕ) (pieces : List PieceToWrite) (before now after : Images) (nodes : List Node) (turn : Turn) (queue extra : List Turn) (i : ℕ) (x y : Node) (deeds : List (Deed (Labelled Task) Value))
     → Goes s sizes pieces before nodes (turn ∷ queue) now → slice_get nodes i ≡ Some x → y.piece ≡ x.piece → IsNode s y → IsLinedUp turn i x y extra
-    → IsUnderway (work_of s (size_in sizes) pieces) before (state_of s pieces (slice_set nodes i y) (queue ++ extra) deeds after) → Goes s sizes pieces before (slice_set nodes i y) (queue ++ extra) after
+    → IsUnderway (work_of s (size_in sizes) pieces) (Some before) (state_of s pieces (slice_set nodes i y) (queue ++ extra) deeds after) → Goes s sizes pieces before (slice_set nodes i y) (queue ++ extra) after
 goes_set s sizes pieces before now after nodes turn queue extra i x y deeds h there piece node line under = record {
   sound = h.sound;
   same = map-set_same (λ (z : Node). z.piece) nodes i y x (piece ∙ ap (λ (z : Node). z.piece) (sym (get_or_from_slice_get nodes i x x there))) ∙ h.same;

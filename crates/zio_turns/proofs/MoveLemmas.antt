@@ -47,14 +47,14 @@ state_with pieces rs n fs deeds now = record {
 
 module _ (s : Setting) (sizes : ℕ → ℕ) (pieces : List PieceToWrite) (before : Images) where
   abbrev pub Goes : State → Type 0
-  Goes state = IsUnderway (work_of s sizes pieces) before state
+  Goes state = IsUnderway (work_of s sizes pieces) (Some before) state
 
   abbrev pub writes : List Turn → List Flight
   writes queue = flat_map (turn_flights s pieces) queue
 
   -- in another order
   pub in_order : (rs : List (Option Value)) (n : ℕ) (fs gs : List Flight) (deeds : Deeds) (now : Images) → Goes (state_with pieces rs n fs deeds now) → IsPermutation fs gs → Goes (state_with pieces rs n gs deeds now)
-  in_order rs n fs gs deeds now h p = work_permuted (work_of s sizes pieces) before (state_with pieces rs n fs deeds now) gs h p
+  in_order rs n fs gs deeds now h p = work_permuted (work_of s sizes pieces) (Some before) (state_with pieces rs n fs deeds now) gs h p
 
   -- a piece that goes on has the results that it had
   pub as_before : (nodes : List Node) (i : ℕ) (x y : Node) (fs : List Flight) (deeds : Deeds) (now : Images) → slice_get nodes i ≡ Some x → y.ended ≡ x.ended
@@ -121,7 +121,7 @@ module _ (s : Setting) (sizes : ℕ → ℕ) (pieces : List PieceToWrite) (befor
       let nth_copy : slice_get (copies_of s x) (length (map answer_in x.answers)) ≡ Some spot = ap (slice_get (copies_of s x)) (length_map answer_in x.answers) ∙ next in
       let listed : slice_get (pass_ops s x.retry x.piece) (length (map answer_in x.answers)) ≡ Some op = next_op x.retry x.piece.bytes (copies_of s x) (length (map answer_in x.answers)) spot nth_copy in
       let out : Goes (state_with pieces rs (length nodes) (write ∷ with_out f op ∷ (writes queue ++ os)) deeds now) =
-      work_out (work_of s sizes pieces) before (state_with pieces rs (length nodes) (f ∷ (writes queue ++ os)) deeds now) f (writes queue ++ os) op front refl
+      work_out (work_of s sizes pieces) (Some before) (state_with pieces rs (length nodes) (f ∷ (writes queue ++ os)) deeds now) f (writes queue ++ os) op front refl
       (λ o is agrees. (_, filled_next o (i ∷ []) (first_number s x.retry x.piece) (map answer_in x.answers) (pass_ops s x.retry x.piece) op (labelled (i ∷ []) (first_number s x.retry x.piece) (pass_plan s x.retry x.piece)) (pass_first s x.retry x.piece (i ∷ []) (first_number s x.retry x.piece)) listed, refl))
       (λ j comes. all_weaker (λ (c : Call). (u : Spot) × (c.op.op ≡ Leaf (Store x.retry x.piece.bytes u)) × AreClear u spot) (λ (c : Call). Free (reach_in j (terms_of s) []) c.op (part_of (i ∷ []) f.next op)) f.outs
       (λ c k. stores_free s j x.retry x.piece.bytes c.op (part_of (i ∷ []) f.next op) k.0 spot k.1 refl k.2)

@@ -102,13 +102,13 @@ flights_same s i m (z ∷ xs) (suc k) x y there n e f = ap (λ (fs : List Flight
 
 -- turns of pieces that are queued are no flights
 stays_underway : (s : Setting) (sizes : ℕ → ℕ) (pieces : List PieceToWrite) (before now : Images) (nodes : List Node) (queue extra : List Turn) (i : ℕ) (x y : Node) (deeds : Deeds) → slice_get nodes i ≡ Some x → y.ended ≡ x.ended
-    → node_flight s i y ≡ node_flight s i x → flat_map (turn_flights s pieces) (queue ++ extra) ≡ flat_map (turn_flights s pieces) queue → IsUnderway (work_of s sizes pieces) before (state_of s pieces nodes (Piece i ∷ queue) deeds now)
-    → IsUnderway (work_of s sizes pieces) before (state_of s pieces (slice_set nodes i y) (queue ++ extra) deeds now)
+    → node_flight s i y ≡ node_flight s i x → flat_map (turn_flights s pieces) (queue ++ extra) ≡ flat_map (turn_flights s pieces) queue → IsUnderway (work_of s sizes pieces) (Some before) (state_of s pieces nodes (Piece i ∷ queue) deeds now)
+    → IsUnderway (work_of s sizes pieces) (Some before) (state_of s pieces (slice_set nodes i y) (queue ++ extra) deeds now)
 stays_underway s sizes pieces before now nodes queue extra i x y deeds there e f q h =
     let after : List Node = slice_set nodes i y in
     let fs : flights s pieces nodes queue ≡ flights s pieces after (queue ++ extra) =
     ap (λ (g : List Flight). flat_map (turn_flights s pieces) queue ++ g) (sym (flights_same s 0 i nodes i x y there (omega arith) e f)) ∙ ap (λ (w : List Flight). w ++ node_flights s 0 after) (sym q) in
-    subst (λ (g : List Flight). IsUnderway (work_of s sizes pieces) before (state_with pieces (results after) (length after) g deeds now)) fs
+    subst (λ (g : List Flight). IsUnderway (work_of s sizes pieces) (Some before) (state_with pieces (results after) (length after) g deeds now)) fs
     (as_before s sizes pieces before nodes i x y (flights s pieces nodes queue) deeds now there e h)
 
 -- ---- turns of a piece
@@ -140,7 +140,7 @@ turn_wait s nodes queue i x there miss sizes pieces before now h =
     let node : IsNode s x = all_at (IsNode s) nodes i x h.each there in
     let y : Node = waiting x in
     let none : queue ++ [] ≡ queue = append-nil queue in
-    let under : IsUnderway (work_of s (size_in sizes) pieces) before (state_of s pieces (slice_set nodes i y) (queue ++ []) h.deeds now) =
+    let under : IsUnderway (work_of s (size_in sizes) pieces) (Some before) (state_of s pieces (slice_set nodes i y) (queue ++ []) h.deeds now) =
     stays_underway s (size_in sizes) pieces before now nodes queue [] i x y h.deeds there refl refl (ap (flat_map (turn_flights s pieces)) none) h.underway in
     subst (λ (q : List Turn). Goes s sizes pieces before (slice_set nodes i y) q now × (weight s (slice_set nodes i y) q < weight s nodes (Piece i ∷ queue))) none (
       goes_set s sizes pieces before now now nodes (Piece i) queue [] i x y h.deeds h there refl (record { few = node.few; waits = λ w. miss }) (goes_away i x y (ready_runs x goes awake) (ap (λ o. runs_if o true) goes)) under,
@@ -174,13 +174,13 @@ turn_end s nodes queue i x there all last sizes pieces before now h =
     let goes : x.ended ≡ None = ap (λ (y : Node). y.ended) (sym is) ∙ r.goes in
     let awake : x.waits ≡ false = ap (λ (y : Node). y.waits) (sym is) ∙ r.awake in
     let node : IsNode s x = all_at (IsNode s) nodes i x h.each there in
-    let under : IsUnderway (work_of s (size_in sizes) pieces) before (state_of s pieces (slice_set nodes i (ended_by (error_of s x) x)) queue h.deeds now) =
+    let under : IsUnderway (work_of s (size_in sizes) pieces) (Some before) (state_of s pieces (slice_set nodes i (ended_by (error_of s x) x)) queue h.deeds now) =
     piece_ended s (size_in sizes) pieces before nodes queue h.deeds now i x (error_of s x) there goes h.same (node_ends s i x node.few all last) h.underway in
     let y : Node = ended_by (error_of s x) x in
     let none : queue ++ [] ≡ queue = append-nil queue in
     subst (λ (q : List Turn). Goes s sizes pieces before (slice_set nodes i y) q now × (weight s (slice_set nodes i y) q < weight s nodes (Piece i ∷ queue))) none (
       goes_set s sizes pieces before now now nodes (Piece i) queue [] i x y h.deeds h there refl (record { few = node.few; waits = node.waits }) (goes_away i x y (ready_runs x goes awake) refl)
-          (subst (λ (q : List Turn). IsUnderway (work_of s (size_in sizes) pieces) before (state_of s pieces (slice_set nodes i y) q h.deeds now)) (sym none) under),
+          (subst (λ (q : List Turn). IsUnderway (work_of s (size_in sizes) pieces) (Some before) (state_of s pieces (slice_set nodes i y) q h.deeds now)) (sym none) under),
       weight_less s nodes (Piece i) queue [] i x y there (omega arith),
     )
 

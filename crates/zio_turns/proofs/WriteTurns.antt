@@ -72,8 +72,8 @@ turn_write s nodes queue l x error there answer sizes pieces before now h =
     flat_map-append (turn_flights s pieces) queue extra ∙ ap (λ (fs : List Flight). flat_map (turn_flights s pieces) queue ++ fs) (queued_writes s pieces (woken x l.number error) l.piece) ∙ append-nil (flat_map (turn_flights s pieces) queue) in
     let done = write_done s (size_in sizes) pieces before nodes queue (queue ++ extra) h.deeds now l error (sound_work s sizes pieces h.sound) q
     (answer now ∙ ap (λ (z : Node). (write_leaf s l.retry z.piece.bytes now spot).error) (sym is)) none h.underway in
-    let under : IsUnderway (work_of s (size_in sizes) pieces) before (state_of s pieces (slice_set nodes l.piece y) (queue ++ extra) done.0 (write_leaf s l.retry x.piece.bytes now spot).images) =
-    subst (λ (z : Node). IsUnderway (work_of s (size_in sizes) pieces) before (state_of s pieces (slice_set nodes l.piece (heard z l.number error)) (queue ++ extra) done.0 (write_leaf s l.retry z.piece.bytes now spot).images)) is done.1 in
+    let under : IsUnderway (work_of s (size_in sizes) pieces) (Some before) (state_of s pieces (slice_set nodes l.piece y) (queue ++ extra) done.0 (write_leaf s l.retry x.piece.bytes now spot).images) =
+    subst (λ (z : Node). IsUnderway (work_of s (size_in sizes) pieces) (Some before) (state_of s pieces (slice_set nodes l.piece (heard z l.number error)) (queue ++ extra) done.0 (write_leaf s l.retry z.piece.bytes now spot).images)) is done.1 in
     let bytes : (written s nodes l now).images ≡ (write_leaf s l.retry x.piece.bytes now spot).images =
     ap (λ (z : Node). (write_leaf s l.retry z.piece.bytes now spot).images) (get_or_from_slice_get nodes l.piece x (fresh no_piece) there) in
     let light : sum_by weight_of extra ≤ 1 = queued_weighs (woken x l.number error) l.piece in

@@ -71,7 +71,7 @@ pub record Goes (s : Setting) (sizes : List ℕ) (pieces : List PieceToWrite) (b
   pub each : AllByRecursion (IsNode s) nodes
   pub in_line : (i : ℕ) → sum_by (is_turn_of i) queue ≡ runs (slice_get nodes i)
   pub deeds : List (Deed (Labelled Task) Value)
-  pub underway : IsUnderway (work_of s (size_in sizes) pieces) before (state_of s pieces nodes queue deeds now)
+  pub underway : IsUnderway (work_of s (size_in sizes) pieces) (Some before) (state_of s pieces nodes queue deeds now)
 
 -- ---- the beginning
 

@@ -7,14 +7,14 @@ use Rattle.zio_frames.proofs.laws.nodes_go_on.Goals as goal
 
 pub returns : goal.returns
 returns c = record {
-  begins = λ t sizes f before sound. round_begins t sizes f before sound;
+  begins = λ t sizes f before images sound is. round_begins t sizes f before images sound is;
   opens = λ t sizes f before trees x others s op st sound r does. node_opens t sizes f before trees x others s op st sound r does;
   closes = λ t sizes f before trees x others s v st sound r does. node_closes t sizes f before trees x others s v st r does;
   chooses = λ t sizes f before trees x others s c st sound r does lawful. node_chooses t sizes f before trees x others s c st sound r does lawful;
   takes = λ t sizes f before trees x others s tree free st sound r does is. node_takes t sizes f before trees x others s tree free st sound r does is;
   hands_out = λ t sizes f before trees x others s op sound r many asks.
       hand_node t sizes f before trees others s sound x.at x.stack.outer x.stack.inner x.stack.children op r many asks;
-  on_leaf = λ t sizes f before trees at others s act sound r. leaf_node t sizes f before trees others s sound at act r;
+  on_leaf = λ t sizes f before trees at others s act a after sound r answers. leaf_node t sizes f before trees others s sound at act a after r answers;
   tells = λ t sizes f before trees x q others s n c pointer sound r will there nothing goes is.
       tell_node t sizes f before trees others s x.at q.at x.stack.outer q.stack.outer x.stack.inner q.stack.inner x.stack.children q.stack.children n c pointer
       r will there nothing goes is;

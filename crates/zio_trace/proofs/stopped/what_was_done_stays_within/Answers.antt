@@ -2,6 +2,7 @@ use Rattle.zio_types.specs.Places.{meets}
 use Rattle.std.specs.Prelude.{◌≡◌, false}
 use Rattle.zio_types.specs.declared.place.Place.{Place}
 use Rattle.zio_cksum.proofs.AllLemmas.{all_contains}
+use Rattle.zio_trace.proofs.ClaimAlone.{claim_makes_none}
 use Rattle.zio_trace.proofs.DoneWithin.{deeds_within, taken_placed}
 use Rattle.zio_trace.proofs.RoundKeeps.{stays_as_it_was}
 use Rattle.zio_trace.proofs.RoundTouches.{changed_within}
@@ -21,3 +22,6 @@ returns-clause-free c = λ w before s p q under there used. all_contains (λ (r 
 
 pub returns-clause-kept : goal.returns-clause-kept
 returns-clause-kept c = λ t sizes f before s p leaf at round have under. stays_as_it_was t sizes f before s round have under p leaf at
+
+pub returns-clause-claim : goal.returns-clause-claim
+returns-clause-claim c = claim_makes_none

@@ -1,6 +1,7 @@
 pub mod AnsweredLemmas
 pub mod FieldLemmas
 pub mod GangLemmas
+pub mod GatherLemmas
 pub mod MemberLemmas
 pub mod PartLemmas
 pub mod PartTaskLemmas

@@ -1,5 +1,5 @@
 -- The members of a part that is written, as an array whose front is used, and what stays true where one tells or ends.
-use Rattle.std.proofs.Common.{◌≡◌, ℕ, zero, suc, ◌+◌, ◌-◌, ◌<◌, List, [], ◌∷◌, ◌++◌, length, map, set, take, slice_get, replicate, true, Option, None, IfSome, IsTrue, refl, sym, ap, subst, ◌∙◌, arith, append_assoc, append-nil, length-append, length-set}
+use Rattle.std.proofs.Common.{◌≡◌, ℕ, zero, suc, ◌+◌, ◌-◌, ◌<◌, List, [], ◌∷◌, ◌++◌, length, map, set, take, slice_get, replicate, true, Option, Some, None, IfSome, IsTrue, refl, sym, ap, subst, ◌∙◌, arith, append_assoc, append-nil, length-append, length-set}
 use Rattle.std.specs.List.{AllByRecursion, flat_map, list_all}
 use Rattle.std.proofs.Math.Seq.{take-append_seam}
 use Rattle.std.proofs.lemmas.Bool.{and_from, and_parts}
@@ -11,7 +11,7 @@ use Rattle.zio_blkptr.specs.Pointers.{valid}
 use Rattle.zio_parts.specs.Parts.{PartWriting, IsOutWith, heads_in, is_told, pointer_in}
 use Rattle.zio_parts.specs.PartWrites.{IsGang, IsPartWriting, IsPlacedWell, IsSpelled, with_members}
 use Rattle.zio_parts.specs.declared.members.Member.{Member}
-use Rattle.zio_parts.specs.declared.members.Member.TheVariants.{Out as MemberOut}
+use Rattle.zio_parts.specs.declared.members.Member.TheVariants.{Out as MemberOut, Told, Ended as MemberEnded}
 use Rattle.zio_parts.specs.declared.parts.Placing.{Placing}
 use Rattle.zio_parts.specs.declared.parts.Placing.TheVariants.{Body, Head as HeadDue, Whole, Gang, Nowhere}
 use Rattle.zio_parts.proofs.AnsweredLemmas.{take_set_in}
@@ -106,9 +106,19 @@ member_is x n pointer m is out t spelled = record {
   deep = is.deep;
   one = is.one;
   three = is.three;
+  born = is.born;
   placed = placed_set x.placing x n pointer m out t is.placed;
   spelled = all_set IsSpelled x.members n m is.spelled spelled;
 }
+
+-- the pointer that a member has which was out: it told it, or it is this one
+pub spelled_there : (ms : List Member) (n : ℕ) (pointer : Option Bp) → AllByRecursion IsSpelled ms → IsOutWith pointer (slice_get ms n)
+    → (slice_get ms n ≡ Some MemberOut → IfSome pointer (λ bp. IsTrue (valid bp))) → IfSome pointer (λ bp. IsTrue (valid bp))
+spelled_there [] n pointer h out new = absurd out
+spelled_there (MemberOut ∷ ms) zero pointer h out new = new refl
+spelled_there (Told told ∷ ms) zero pointer h out new = subst (λ (p : Option Bp). IfSome p (λ bp. IsTrue (valid bp))) out h.0
+spelled_there (MemberEnded error old heads ∷ ms) zero pointer h out new = absurd out
+spelled_there (m ∷ ms) (suc n) pointer h out new = spelled_there ms n pointer h.1 out new
 
 -- ---- all three of the array
 

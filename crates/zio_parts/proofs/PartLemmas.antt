@@ -1,5 +1,5 @@
 -- The write of a part under way: what its calls change of the operations that were asked.
-use Rattle.std.proofs.Common.{◌≡◌, ℕ, zero, suc, ◌-◌, ◌<◌, ◌≤◌, List, [], ◌∷◌, ◌++◌, length, map, set, slice_get, Bool, true, false, cond, Option, Some, None, nat_lt, refl, sym, ap, subst, ◌∙◌, arith, append-nil, length-append, ltb-true, ltb-false}
+use Rattle.std.proofs.Common.{◌≡◌, ℕ, zero, suc, ◌-◌, ◌<◌, ◌≤◌, List, [], ◌∷◌, ◌++◌, length, map, set, slice_get, Bool, true, false, cond, Option, Some, None, nat_lt, refl, sym, ap, subst, ◌∙◌, arith, append-nil, length-append, le-ltb, ltb-true, ltb-false}
 use Rattle.std.specs.List.{AllByRecursion, list_all}
 use Rattle.std.proofs.lemmas.List.{map-append}
 use Rattle.zio_types.specs.declared.error.Errno.{Errno}
@@ -11,7 +11,7 @@ use Rattle.zio_trace.specs.Calls.{answered_at}
 use Rattle.zio_trace.specs.Tasks.{Task, Found, StoredAs, Wrote}
 use Rattle.zio_frames.specs.Slots.{Slot, IsOut, Heard, left_behind_slots, outs_before}
 use Rattle.zio_parts.specs.Parts.{PartWriting, IsOutWith, is_ended, is_told, left_of_part, member_count, member_slot, own_slots, slots_at, slots_of, whole_plan}
-use Rattle.zio_parts.specs.PartWrites.{IsGang, IsHandedOut, IsPartWriting, IsPlacedWell, IsSpelled, handed_by, headed_step, is_due, member_at, member_heard, member_step, member_told, own_at, own_heard, own_step, part_handed, step_at, step_of, with_members, with_own}
+use Rattle.zio_parts.specs.PartWrites.{IsGang, IsHandedOut, IsLast, IsPartWriting, IsPlacedWell, IsSpelled, handed_by, headed_step, is_due, member_at, member_heard, member_step, member_told, own_at, own_heard, own_step, part_handed, step_at, step_of, with_members, with_own}
 use Rattle.zio_parts.specs.declared.members.Member.{Member}
 use Rattle.zio_parts.specs.declared.members.Member.TheVariants.{Out as MemberOut, Told, Ended as MemberEnded}
 use Rattle.zio_parts.specs.declared.parts.OwnWrite.{OwnWrite}
@@ -178,6 +178,41 @@ step_member (Whole places) x n e = absurd (not_own x.own n WriteBody End (λ f. 
 step_member (Gang places) x n e = (places, refl, next_if (nat_lt (length x.members) (member_count x)) x.members x.own n (member_count x) refl e)
 step_member Nowhere x n e = absurd (cc)
 
+-- ---- what is left of a gang whose header isn't due
+
+last_if : (b : Bool) → IsLast (cond b End Wait)
+last_if true = tt
+last_if false = tt
+
+last_own : (own : OwnWrite) (b : Bool) → is_due own ≡ false → IsLast (own_step own WriteHeader (cond b End Wait))
+last_own Due b e = absurd (cc)
+last_own OwnOut b e = tt
+last_own (OwnEnded error) b e = last_if b
+
+abbrev member_step_by : Bool → Bool → List Member → OwnWrite → PartStep
+member_step_by true told ms own = MemberStep (length ms)
+member_step_by false told ms own = headed_step told ms own
+
+by_told : (b : Bool) (ms : List Member) (own : OwnWrite) → member_step b ms own ≡ member_step_by b (list_all is_told ms) ms own
+by_told true ms own = refl
+by_told false ms own = refl
+
+last_headed : (b t : Bool) (ms : List Member) (own : OwnWrite) → b ≡ false → t ≡ true → is_due own ≡ false → IsLast (member_step_by b t ms own)
+last_headed true t ms own e f due = absurd (cc)
+last_headed false false ms own e f due = absurd (cc)
+last_headed false true ms own e f due = last_own own (list_all is_ended ms) due
+
+pub gang_last : (x : PartWriting) (places : List Place) → IsGang x places → is_due x.own ≡ false → IsLast (step_at (Gang places) x)
+gang_last x places is due =
+    let h = is.headed due in
+    let all : member_count x ≤ length x.members = omega (arith, h.0) in
+    let at = last_headed (nat_lt (length x.members) (member_count x)) (list_all is_told x.members) x.members x.own (le-ltb (length x.members) (member_count x) all) h.1 due in
+    subst IsLast (sym (by_told (nat_lt (length x.members) (member_count x)) x.members x.own)) at
+
+-- and before a member is handed out its own write isn't
+pub gang_due : (x : PartWriting) (places : List Place) (n : ℕ) → IsGang x places → MemberStep n ≡ step_at (Gang places) x → x.own ≡ Due
+gang_due x places n is e = own_is_due x places is (step_member (Gang places) x n e).2.less
+
 -- the step is for its own write
 abbrev pub IsOwn : PartStep → Type 0
 IsOwn WriteBody = Unit {0}
@@ -278,6 +313,7 @@ member_handed x n is e =
         deep = is.deep;
         one = is.one;
         three = is.three;
+        born = is.born;
         placed = placed_more x.placing x r.0 r.1 r.2.less is.placed;
         spelled = all_more x.members is.spelled;
       };
@@ -314,6 +350,7 @@ own_handed x is h = record {
     deep = is.deep;
     one = is.one;
     three = is.three;
+    born = is.born;
     placed = placed_own x.placing x h is.placed;
     spelled = is.spelled;
   };

@@ -137,11 +137,11 @@ head_asked None true zero look path bp f = absurd (cc)
 head_asked None true (suc levels) look path bp f = refl
 
 -- the walks below these members
-abbrev walks_below : (List ℕ → Bp → Task) → List ℕ → ℕ → List Bp → List Task
+abbrev pub walks_below : (List ℕ → Bp → Task) → List ℕ → ℕ → List Bp → List Task
 walks_below down path n [] = []
 walks_below down path n (m ∷ ms) = down (path ++ n ∷ []) m ∷ walks_below down path (n + 1) ms
 
-below_asks : (down : List ℕ → Bp → Task) (path : List ℕ) (n : ℕ) (ms : List Bp) → AsksTasks (walks_below down path n ms) (plan_below down path n ms)
+pub below_asks : (down : List ℕ → Bp → Task) (path : List ℕ) (n : ℕ) (ms : List Bp) → AsksTasks (walks_below down path n ms) (plan_below down path n ms)
 below_asks down path n [] = tt
 below_asks down path n (m ∷ ms) = (refl, λ v. asks_then (walks_below down path (n + 1) ms) (plan_below down path (n + 1) ms) (λ others. Ends (join_walked (walked v) others)) (below_asks down path (n + 1) ms))
 

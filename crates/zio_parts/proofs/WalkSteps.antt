@@ -74,6 +74,7 @@ member_shown claim levels path bp judged header members handed left m h got numb
       below,
       omega arith,
       member_valid header handed m.bp named,
+      ap (slice_get (named_by header)) number ∙ named,
       λ heads. subst (λ p. AsksBehindSlots (walk_slots header (take handed left)) (walking_from heads (walking claim levels path bp judged header handed left)) (ReadHeads (look_of claim heads) m.levels p m.bp)) same
           (member_asked judged bp.gang levels m.levels (look_of claim heads) path bp m.bp header (take handed left) h.asked below here),
     )

@@ -1,5 +1,5 @@
 -- The walk over headers under way: which program of tasks is left of it, and what each call shows of that.
-use Rattle.std.specs.Prelude.{◌≡◌, ℕ, zero, suc, ◌+◌, ◌<◌, ◌≤◌, ◌⊎◌, List, [], ◌∷◌, ◌++◌, length, map, Bool, true, false, Option, Some, None, Ok, Err, IsTrue}
+use Rattle.std.specs.Prelude.{◌≡◌, ℕ, zero, suc, ◌+◌, ◌<◌, ◌≤◌, ◌⊎◌, List, [], ◌∷◌, ◌++◌, length, map, Bool, true, false, Option, Some, None, Ok, Err, IsTrue, slice_get}
 use Rattle.zio_types.specs.declared.error.Errno.{Errno}
 use Rattle.zio_types.specs.declared.error.Errno.TheVariants.{Cksum}
 use Rattle.zio_blkptr.specs.declared.pointer.Bp.{Bp}
@@ -171,7 +171,7 @@ ShowsWalk x ReadHead =
     × ((heads : List Head) → AsksBehindSlots (slots_of x) (walking_from heads x) (head_task (look_of x.claim heads) x.path x.bp))
 ShowsWalk x (Member m) =
     (length x.members < length (named_by x.header)) × (length x.members ≡ m.n) × (m.path ≡ x.path ++ m.n ∷ []) × (m.levels + 1 ≡ x.levels)
-    × (length m.path + m.levels ≤ 8) × IsTrue (valid m.bp)
+    × (length m.path + m.levels ≤ 8) × IsTrue (valid m.bp) × (slice_get (named_by x.header) m.n ≡ Some m.bp)
     × ((heads : List Head) → AsksBehindSlots (slots_of x) (walking_from heads x) (ReadHeads (look_of x.claim heads) m.levels m.path m.bp))
 ShowsWalk x Wait = (0 < length (told_in (slots_of x))) × ((x.header ≡ Out) ⊎ (length x.members ≡ length (named_by x.header)))
 ShowsWalk x End = AllHeard (slots_of x) × ((heads : List Head) → left_of_walk heads x ≡ Ends (WalkedBy (walk_left x)))

@@ -2,6 +2,7 @@ pub mod Answered
 pub mod Copies
 pub mod CopyReads
 pub mod CopyWrites
+pub mod Gathers
 pub mod HeadWalks
 pub mod Joins
 pub mod LeafPlans

@@ -78,6 +78,12 @@ IsAsk AskBody = Unit {0}
 IsAsk AskHead = Unit {0}
 IsAsk _ = ⊥
 
+-- nothing of it is left but what is out
+abbrev pub IsLast : PartStep → Type 0
+IsLast Wait = Unit {0}
+IsLast End = Unit {0}
+IsLast _ = ⊥
+
 -- ---- what calls change
 
 -- where a body is refused a header is asked for, unless the part is one sector
@@ -193,6 +199,7 @@ pub record IsPartWriting (x : PartWriting) : Type 0 where
   pub deep : x.size ≤ 512 * 3 ^ (8 - length x.path)
   pub one : 1 ≤ x.write.copies
   pub three : x.write.copies ≤ 3
+  pub born : 1 ≤ x.write.birth
   pub placed : IsPlacedWell x.placing x
   pub spelled : AllByRecursion IsSpelled x.members
 

@@ -1,17 +1,21 @@
 // The walk over headers from a pointer down, under way.
 
-ghost use Rattle.std.specs.Prelude.{◌≡◌, ◌++◌, ◌+◌, ◌<◌, ◌≤◌, ◌∷◌, [], List, None, Ok, Err, OnErr, OnOk, IfOk, IsTrue, Option, Some, drop, false, length, map, replicate, slice_get, slice_set, take, true};
-ghost use Rattle.zio_blkptr.specs.Pointers.{valid};
+ghost use Rattle.std.specs.Prelude.{◌≡◌, ◌≢◌, ◌++◌, ◌+◌, ◌<◌, ◌≤◌, ◌∷◌, ℕ, [], List as Seq, None, Ok, Err, IfErr, OnErr, OnOk, IfOk, IsTrue, Option, Some, drop, false, length, map, replicate, slice_get, slice_set, take, true};
+ghost use Rattle.std.specs.List.{list_all};
+ghost use Rattle.zio_blkptr.specs.Pointers.{places_of, valid};
 ghost use Rattle.zio_gang.specs.declared.tree.Head.{Head};
 ghost use Rattle.zio_gang.specs.Attempts.{Terms};
+ghost use Rattle.zio_gang.specs.Trees.{inval_unless, is_claimable, piece_size, sizes_of};
 ghost use Rattle.zio_trace.specs.Calls.{answered_at};
 ghost use Rattle.zio_trace.specs.Plans.{plan};
 ghost use Rattle.zio_trace.specs.Tasks.{ByClaim, ByKept, Got, ReadHeads, WalkedBy};
 ghost use Rattle.zio_parts.specs.HeadWalks.{Follows, ShowsWalk, fresh_walk, header_by, is_any_out, is_followed, joined_behind, left_of_walk, named_by, slots_of, walk_left, with_header, with_members};
 ghost use Rattle.zio_frames.specs.Slots.{Heard, IsOut, outs_before};
+ghost use Rattle.zio_parts.specs.Gathers.{FitsIn, gathered};
 ghost use Rattle.zio_parts.specs.WalkFields.{IsRead};
 
 use crate::fitting::is_fitting;
+use crate::gathered::Gathered;
 use crate::walked::Walked;
 use std::alloc::Global;
 use std::marker::Model;
@@ -92,7 +96,7 @@ impl HeadWalk {
     pub fn kept(alloc: Global, levels: u32, path: Path, bp: Bp) -> HeadWalk
         requires depth { length path + levels ≤ 8 }
         ensures fresh { result ≡ fresh_walk false levels path bp None }
-        ensures left { (t : Terms) (heads : List Head) → left_of_walk heads result ≡ plan t (ReadHeads (ByKept heads) levels path bp) }
+        ensures left { (t : Terms) (heads : Seq Head) → left_of_walk heads result ≡ plan t (ReadHeads (ByKept heads) levels path bp) }
     {
         HeadWalk::fresh(alloc, false, levels, path, bp, None)
     }
@@ -101,9 +105,10 @@ impl HeadWalk {
     pub fn claimed(alloc: Global, tops: &[Top], levels: u32, path: Path, bp: Bp) -> HeadWalk
         requires depth { length path + levels ≤ 8 }
         requires valid { IsTrue (valid bp) }
-        ensures left { (t : Terms) (heads : List Head) → t.setting.tops ≡ tops.now → left_of_walk heads result ≡ plan t (ReadHeads ByClaim levels path bp) }
+        ensures left { (t : Terms) (heads : Seq Head) → t.setting.tops ≡ tops.now → left_of_walk heads result ≡ plan t (ReadHeads ByClaim levels path bp) }
         ensures none { slots_of result ≡ [] }
         ensures fresh { result ≡ fresh_walk true levels path bp result.judged }
+        ensures judged { result.judged ≡ inval_unless (list_all (is_claimable (sizes_of tops.now) (piece_size bp)) (places_of bp)) }
     {
         let judged = if is_fitting(tops, &bp) {
             None
@@ -207,7 +212,7 @@ impl HeadWalk {
         requires follows { Follows self.old }
         ensures handed { self.new ≡ with_header self.old Header.Out }
         ensures slots { slots_of self.new ≡ slots_of self.old ++ IsOut None ∷ [] }
-        ensures left { (heads : List Head) → left_of_walk heads self.new ≡ left_of_walk heads self.old }
+        ensures left { (heads : Seq Head) → left_of_walk heads self.new ≡ left_of_walk heads self.old }
     {
         self.header = Header::Out;
     }
@@ -217,7 +222,7 @@ impl HeadWalk {
         requires { length self.old.members < length (named_by self.old.header) }
         ensures handed { self.new ≡ with_members self.old (self.old.members ++ None ∷ []) }
         ensures slots { slots_of self.new ≡ slots_of self.old ++ IsOut None ∷ [] }
-        ensures left { (heads : List Head) → left_of_walk heads self.new ≡ left_of_walk heads self.old }
+        ensures left { (heads : Seq Head) → left_of_walk heads self.new ≡ left_of_walk heads self.old }
     {
         self.handed += 1;
     }
@@ -231,7 +236,7 @@ impl HeadWalk {
         requires { self.old.header ≡ Header.Out }
         ensures heard { OnOk result (self.new ≡ with_header self.old (header_by found)) }
         ensures slots { OnOk result (slots_of self.new ≡ slice_set (slots_of self.old) 0 (Heard (Got found))) }
-        ensures left { OnOk result ((heads : List Head) → left_of_walk heads self.new ≡ answered_at 0 (Got found) (left_of_walk heads self.old)) }
+        ensures left { OnOk result ((heads : Seq Head) → left_of_walk heads self.new ≡ answered_at 0 (Got found) (left_of_walk heads self.old)) }
         ensures err { OnErr result (self.new ≡ self.old) }
     {
         match found {
@@ -249,15 +254,33 @@ impl HeadWalk {
         requires { slice_get self.old.members n ≡ Some None }
         ensures heard { self.new ≡ with_members self.old (slice_set self.old.members n (Some walked)) }
         ensures slots { slots_of self.new ≡ slice_set (slots_of self.old) (n + 1) (Heard (WalkedBy walked)) }
-        ensures left { (heads : List Head) → left_of_walk heads self.new ≡ answered_at (outs_before (n + 1) (slots_of self.old)) (WalkedBy walked) (left_of_walk heads self.old) }
+        ensures left { (heads : Seq Head) → left_of_walk heads self.new ≡ answered_at (outs_before (n + 1) (slots_of self.old)) (WalkedBy walked) (left_of_walk heads self.old) }
     {
         let left = &mut self.left;
         left[n] = Some(walked);
     }
 
-    /// What it left, where it ended.
-    pub fn into_walked(self, alloc: Global) -> Result<Walked, NoMemory>
-        ensures { IfOk result (λ walked. walked ≡ walk_left self) }
+    /// What it left, where it ended. Where memory is refused it comes back.
+    pub fn into_walked(self, alloc: Global) -> Result<Walked, HeadWalk>
+        ensures left { IfOk result (λ walked. walked ≡ walk_left self) }
+        ensures back { IfErr result (λ walk. walk ≡ self) }
+    {
+        if let Header::Read(bytes) = self.header {
+            return match Gathered::head(alloc, self.path, bytes, &self.left) {
+                Ok(head) => Ok(join(head, self.left)),
+                Err(NoMemory) => Err(self),
+            };
+        }
+        match self.walked_alone(alloc) {
+            Ok(walked) => Ok(walked),
+            Err(NoMemory) => Err(self),
+        }
+    }
+
+    /// What it left, where it read no header.
+    fn walked_alone(&self, alloc: Global) -> Result<Walked, NoMemory>
+        requires { (bytes : Seq ℕ) → self.now.header ≢ Header.Read bytes }
+        ensures { IfOk result (λ walked. walked ≡ walk_left self.now) }
     {
         if let Some(error) = self.judged {
             return Walked::stopped(alloc, error);
@@ -269,22 +292,24 @@ impl HeadWalk {
             return Walked::stopped(alloc, Errno::Cksum);
         }
         match self.header {
-            Header::Read(bytes) => { join(Walked::head(alloc, self.path, bytes)?, self.left) }
             Header::Failed(error) => Walked::stopped(alloc, error),
             Header::Unread | Header::Out => Ok(Walked::nothing(alloc)),
+            Header::Read(_) => unreachable!(),
         }
     }
 }
 
-/// This walk, and those of the members behind it.
-fn join(head: Walked, members: [Option<Walked>; 3]) -> Result<Walked, NoMemory>
-    ensures { IfOk result (λ walked. walked ≡ joined_behind head members) }
+/// This walk, and those of the members behind it, for which there is room.
+fn join(head: Gathered, members: [Option<Walked>; 3]) -> Walked
+    requires { FitsIn (joined_behind (gathered head) members) head }
+    ensures { result ≡ joined_behind (gathered head) members }
 {
-    let mut walked = head;
-    for member in members {
-        walked = walked.and(member)?;
-    }
-    Ok(walked)
+    let [first, second, third] = members;
+    let mut all = head;
+    all.put(first);
+    all.put(second);
+    all.put(third);
+    all.into_walked()
 }
 
 /// The nth of these pointers.

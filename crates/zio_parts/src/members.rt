@@ -1,6 +1,6 @@
 // The members of a gang that is written.
 
-ghost use Rattle.std.specs.Prelude.{◌≡◌, ◌+◌, ◌-◌, ◌*◌, ◌/◌, ◌%◌, ◌^◌, ◌<◌, ◌≤◌, ◌++◌, ℕ, List, OnOk, drop, length, map, slice_set, take};
+ghost use Rattle.std.specs.Prelude.{◌≡◌, ◌+◌, ◌-◌, ◌*◌, ◌/◌, ◌%◌, ◌^◌, ◌<◌, ◌≤◌, ◌++◌, ◌∷◌, ℕ, IfSome, List, [], drop, length, map, slice_set, take, vec_capacity, vec_len};
 ghost use Rattle.std.specs.List.{flat_map, list_all};
 ghost use Rattle.zio_types.specs.Errors.{worst_of};
 ghost use Rattle.zio_cksum.specs.Headers.{split_sizes};
@@ -8,11 +8,12 @@ ghost use Rattle.zio_parts.specs.Parts.{error_in, heads_in, is_ended, is_told, m
 ghost use Rattle.zio_parts.specs.PartWrites.{gang_step_of};
 
 use crate::parts::{OwnWrite, PartStep};
+use std::alloc::Global;
 use std::mem::replace;
 use std::ops::Range;
 use zio_blkptr::Bp;
 use zio_gang::{Head, split};
-use zio_types::{Errno, List, NoMemory, worst};
+use zio_types::{Errno, List, worst};
 
 /// A member that was handed out.
 #[derive(Debug, Drop)]
@@ -140,25 +141,67 @@ fn error_in(member: &Member) -> Option<Errno>
     }
 }
 
-/// Adds the headers under them, one member's after another's.
-pub(crate) fn add_heads_of(heads: &mut Vec<Head>, members: &mut [Member; 3]) -> Result<(), NoMemory>
-    ensures { OnOk result (heads.new.items ≡ heads.old.items ++ flat_map heads_in members.old) }
+/// Room for a header and all those under the members, if there is so much.
+pub(crate) fn room_of(alloc: Global, members: &[Member; 3]) -> Option<Vec<Head>>
+    ensures none { IfSome result (λ room. room.items ≡ []) }
+    ensures room { IfSome result (λ room. 1 + length (flat_map heads_in members.now) ≤ vec_capacity room) }
 {
-    add_heads(heads, replace(&mut members[0], Member::Out))?;
-    add_heads(heads, replace(&mut members[1], Member::Out))?;
-    add_heads(heads, replace(&mut members[2], Member::Out))
+    let [first, second, third] = members;
+    let room = 1usize
+        .checked_add(heads_len(first))?
+        .checked_add(heads_len(second))?
+        .checked_add(heads_len(third))?;
+    Vec::with_capacity(alloc, room).ok()
 }
 
-fn add_heads(heads: &mut Vec<Head>, member: Member) -> Result<(), NoMemory>
-    ensures { OnOk result (heads.new.items ≡ heads.old.items ++ heads_in member) }
+fn heads_len(member: &Member) -> usize
+    ensures { result ≡ length (heads_in member.now) }
 {
     match member {
-        Member::Out => Ok(()),
-        Member::Told(_) => Ok(()),
+        Member::Out => 0,
+        Member::Told(_) => 0,
+        Member::Ended { heads, .. } => heads.len(),
+    }
+}
+
+/// The header, and behind it those under the members, one member's after another's.
+pub(crate) fn heads_over(room: Vec<Head>, first: Head, members: [Member; 3]) -> Vec<Head>
+    requires none { room.items ≡ [] }
+    requires room { 1 + length (flat_map heads_in members) ≤ vec_capacity room }
+    ensures { result.items ≡ first ∷ flat_map heads_in members }
+{
+    let mut heads = room;
+    let mut members = members;
+    add_head(&mut heads, first);
+    add_heads(&mut heads, replace(&mut members[0], Member::Out));
+    add_heads(&mut heads, replace(&mut members[1], Member::Out));
+    add_heads(&mut heads, replace(&mut members[2], Member::Out));
+    heads
+}
+
+fn add_head(heads: &mut Vec<Head>, head: Head)
+    requires { vec_len heads.old < vec_capacity heads.old }
+    ensures items { heads.new.items ≡ heads.old.items ++ head ∷ [] }
+    ensures room { vec_capacity heads.old ≤ vec_capacity heads.new }
+{
+    if heads.push(head).is_err() {
+        unreachable!();
+    }
+}
+
+fn add_heads(heads: &mut Vec<Head>, member: Member)
+    requires { vec_len heads.old + length (heads_in member) ≤ vec_capacity heads.old }
+    ensures items { heads.new.items ≡ heads.old.items ++ heads_in member }
+    ensures room { vec_capacity heads.old ≤ vec_capacity heads.new }
+{
+    match member {
+        Member::Out => {}
+        Member::Told(_) => {}
         Member::Ended { heads: more, .. } => {
             let mut more = more.into_vec();
-            heads.append(&mut more)?;
-            Ok(())
+            if heads.append(&mut more).is_err() {
+                unreachable!();
+            }
         }
     }
 }

@@ -1,6 +1,6 @@
 // What the write of a part as a value has to do with tasks.
 
-ghost use Rattle.std.specs.Prelude.{◌≡◌, ◌∷◌, ◌≤◌, ℕ, suc, false, List, Some, length};
+ghost use Rattle.std.specs.Prelude.{◌≡◌, ◌∷◌, ◌≤◌, ℕ, suc, false, List, Option, Some, length};
 ghost use Rattle.zio_blkptr.specs.declared.pointer.SumKind.{SumKind};
 ghost use Rattle.zio_cksum.specs.Images.{Images};
 ghost use Rattle.zio_gang.specs.Attempts.{Pending, Terms, writing_of};
@@ -30,7 +30,7 @@ pub fn parts_are_written_by_their_plans()
 /// What a node asks behind parts that are out, whatever parts with the pointers that they told come of these, is known to be
 /// what it asks next.
 pub fn what_is_asked_behind_parts_is_known()
-    ensures { (w : Work) (before : Images) (s : State) (x : Flight) (others : List Flight) (op : Task) →
+    ensures { (w : Work) (before : Option Images) (s : State) (x : Flight) (others : List Flight) (op : Task) →
         IsUnderway w before s → s.flights ≡ x ∷ others → is_single x.op.op ≡ false → AreToldByParts x.outs →
         NextIs stored_pointer (told_of x.outs) (bare x.rest) op →
         Known w s (λ o. (y : Labelled Task) × (nth_asked o (length x.outs) x.rest ≡ Some y) × (y.op ≡ op)) }

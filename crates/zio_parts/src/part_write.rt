@@ -1,6 +1,6 @@
 // The write of a part of a block under way.
 
-ghost use Rattle.std.specs.Prelude.{◌≡◌, ◌+◌, ◌*◌, ◌-◌, ◌%◌, ◌^◌, ◌<◌, ◌≤◌, ◌++◌, ◌∷◌, ℕ, List, All, IfOk, IfSome, IsTrue, None, OnOk, Option, Some, [], drop, length, map, slice_get, slice_set, take, true};
+ghost use Rattle.std.specs.Prelude.{◌≡◌, ◌+◌, ◌*◌, ◌-◌, ◌%◌, ◌^◌, ◌<◌, ◌≤◌, ◌++◌, ◌∷◌, ℕ, List, All, IfErr, IfOk, IfSome, IsTrue, None, OnOk, Option, Some, [], drop, false, length, map, slice_get, slice_set, take, true};
 ghost use Rattle.std.specs.List.{flat_map, list_all};
 ghost use Rattle.zio_types.specs.Choices.{no_place};
 ghost use Rattle.zio_types.specs.Filled.{IsFilled, filled_to};
@@ -13,11 +13,11 @@ ghost use Rattle.zio_trace.specs.Calls.{answered_at};
 ghost use Rattle.zio_trace.specs.Tasks.{Found, StoredAs, Task, Value, Wrote};
 ghost use Rattle.zio_trace.specs.Underway.{early};
 ghost use Rattle.zio_parts.specs.Parts.{IsOfBytes, IsOutWith, ask_by, fresh_part, header_by, is_gang, is_head_due, left_of_part, member_bytes, member_count, places_at, pointer_in, pointer_over, slots_of, stored_by, whole_plan, writing_by};
-ghost use Rattle.zio_parts.specs.PartWrites.{EndsAlways, IsAsk, IsHandedOut, ShowsPart, is_ready, member_at, member_heard, member_told, own_heard, own_at, part_handed, places_heard, step_of};
+ghost use Rattle.zio_parts.specs.PartWrites.{EndsAlways, IsAsk, IsHandedOut, IsLast, ShowsPart, is_due, is_ready, member_at, member_heard, member_told, own_heard, own_at, part_handed, places_heard, step_of};
 ghost use Rattle.zio_frames.specs.Slots.{Heard, IsOut, outs_before};
 
 use crate::members::{
-    Member, add_heads_of, are_told, gang_step, member_count, member_range, pointers_of, put,
+    Member, are_told, gang_step, heads_over, member_count, member_range, pointers_of, put, room_of,
     worst_in,
 };
 use crate::parts::{
@@ -64,6 +64,12 @@ impl Model for PartWrite {
     } };
 }
 
+/// There is no memory for what the part leaves.
+#[derive(Debug, Drop)]
+pub struct PartBack {
+    pub part: PartWrite,
+}
+
 impl PartWrite {
     /// Nothing of it is asked. The bytes are whole sectors, no more than so many levels of headers below the path can hold.
     pub fn new(write: BlockWrite, path: Path, bytes: &[u8]) -> PartWrite
@@ -73,6 +79,7 @@ impl PartWrite {
         requires deep { length bytes.now ≤ 512 * 3 ^ (8 - length path) }
         requires one { 1 ≤ write.copies }
         requires three { write.copies ≤ 3 }
+        requires born { 1 ≤ write.birth }
         ensures fresh { result ≡ fresh_part write path bytes.now }
         ensures holds { IsOfBytes result bytes.now }
         ensures slots { slots_of result ≡ [] }
@@ -93,6 +100,8 @@ impl PartWrite {
     pub fn next(&self) -> PartStep
         ensures step { result ≡ step_of self.now }
         ensures shows { (s : Setting) (member : List ℕ → List ℕ → Task) (bytes : List ℕ) → IsOfBytes self.now bytes → ShowsPart s member bytes self.now result }
+        ensures due { (n : ℕ) → result ≡ PartStep.Member n → self.now.own ≡ OwnWrite.Due }
+        ensures written { is_due self.now.own ≡ false → IsLast result }
     {
         match &self.placing {
             Placing::Body => PartStep::AskBody,
@@ -133,6 +142,9 @@ impl PartWrite {
         ensures ask { (s : Setting) (bytes : List ℕ) → length bytes ≡ self.now.size → ask_by result ≡ body_ask (writing_by s self.now.write) self.now.path bytes }
         ensures some { 0 < result.size }
         ensures whole { result.size % 512 ≡ 0 }
+        ensures size { result.size ≡ self.now.size }
+        ensures most { self.now.size ≤ BLOCK_SIZE_MAX }
+        ensures born { 1 ≤ self.now.write.birth }
         ensures one { 1 ≤ result.copies }
         ensures three { result.copies ≤ 3 }
     {
@@ -148,6 +160,11 @@ impl PartWrite {
     /// The ask for a header: one copy more than the part's, 3 at most.
     pub fn head_ask(&self) -> PlaceAsk
         ensures ask { (s : Setting) → ask_by result ≡ head_ask (writing_by s self.now.write) self.now.path }
+        ensures size { result.size ≡ 512 }
+        ensures some { 0 < self.now.size }
+        ensures whole { self.now.size % 512 ≡ 0 }
+        ensures most { self.now.size ≤ BLOCK_SIZE_MAX }
+        ensures born { 1 ≤ self.now.write.birth }
         ensures one { 1 ≤ result.copies }
         ensures three { result.copies ≤ 3 }
     {
@@ -297,7 +314,7 @@ impl PartWrite {
         heads: List<Head>,
     )
         requires out { IsOutWith pointer (slice_get self.old.members n) }
-        requires valid { IfSome pointer (λ bp. IsTrue (valid bp)) }
+        requires valid { slice_get self.old.members n ≡ Some Member.Out → IfSome pointer (λ bp. IsTrue (valid bp)) }
         ensures heard { self.new ≡ member_heard self.old n error pointer heads }
         ensures slots { slots_of self.new ≡ slice_set (slots_of self.old) (member_at n) (Heard (StoredAs (record { error = error; pointer = pointer; heads = heads }))) }
         ensures left { (s : Setting) (member : List ℕ → List ℕ → Task) (bytes : List ℕ) →
@@ -324,11 +341,12 @@ impl PartWrite {
         self.own = OwnWrite::Ended(error);
     }
 
-    /// What it leaves, once it ended.
-    pub fn into_stored(self, alloc: Global) -> Result<StoredPart, NoMemory>
+    /// What it leaves, once it ended. Where memory is refused it comes back.
+    pub fn into_stored(self, alloc: Global) -> Result<StoredPart, PartBack>
         ensures error { IfOk result (λ part. part.error ≡ (stored_by self).error) }
         ensures pointer { IfOk result (λ part. part.pointer ≡ (stored_by self).pointer) }
         ensures heads { IfOk result (λ part. part.heads ≡ (stored_by self).heads) }
+        ensures back { IfErr result (λ e. e.part ≡ self) }
     {
         let pointer = self.pointer();
         match &self.placing {
@@ -338,13 +356,13 @@ impl PartWrite {
                 heads: List::new(alloc),
             }),
             Placing::Gang(_) => {
+                let Some(room) = room_of(alloc, &self.members) else {
+                    return Err(PartBack { part: self });
+                };
                 let error = worst(worst_in(&self.members[..self.handed]), own_error(self.own));
                 let bytes = self.header();
-                let mut heads = Vec::new(alloc);
                 let path = self.path;
-                heads.push(Head { path, bytes })?;
-                let mut members = self.members;
-                add_heads_of(&mut heads, &mut members)?;
+                let heads = heads_over(room, Head { path, bytes }, self.members);
                 Ok(StoredPart {
                     error,
                     pointer,

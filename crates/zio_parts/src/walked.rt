@@ -1,14 +1,14 @@
 // What a walk over headers left.
 
-ghost use Rattle.std.specs.Prelude.{◌≡◌, ◌++◌, ◌∷◌, [], IfOk, Some, Option};
+ghost use Rattle.std.specs.Prelude.{◌≡◌, ◌+◌, ◌∷◌, [], IfOk, IfSome, Some, Option, length};
 ghost use Rattle.zio_types.specs.Errors.{worst_of};
 ghost use Rattle.zio_cksum.specs.Blocks.{blame};
 ghost use Rattle.zio_gang.specs.declared.tree.Tree.{Tree};
 ghost use Rattle.zio_trace.specs.Calls.{answered_at};
-ghost use Rattle.zio_trace.specs.Plans.{join_walked, only, plan_claim, plan_free, stopped, under_head};
+ghost use Rattle.zio_trace.specs.Plans.{only, plan_claim, plan_free, stopped};
 ghost use Rattle.zio_trace.specs.Programs.{Ends};
 ghost use Rattle.zio_trace.specs.Tasks.{WalkedBy};
-ghost use Rattle.zio_parts.specs.HeadWalks.{body_of, no_walk, with_member};
+ghost use Rattle.zio_parts.specs.HeadWalks.{body_of, no_walk};
 ghost use Rattle.zio_parts.specs.TreeReads.{bodies_or, claiming};
 
 use std::alloc::Global;
@@ -16,7 +16,7 @@ use std::marker::Model;
 use zio_blkptr::Bp;
 use zio_gang::{Head, Tree};
 use zio_mirror::write_result;
-use zio_types::{Errno, List, NoMemory, Path};
+use zio_types::{Errno, List, NoMemory};
 
 /// What a walk over headers left, each in order: its errors, the pointers to bodies that it came to, and the headers that
 /// it read.
@@ -25,6 +25,28 @@ pub struct Walked {
     errors: List<Option<Errno>>,
     bodies: List<Bp>,
     heads: List<Head>,
+}
+
+/// How many items of each kind a walk left.
+#[derive(Clone, Copy, Debug)]
+pub(crate) struct Counts {
+    pub(crate) errors: usize,
+    pub(crate) bodies: usize,
+    pub(crate) heads: usize,
+}
+
+impl Counts {
+    /// As many as both, if they can be counted.
+    pub(crate) fn and(self, others: Counts) -> Option<Counts>
+        ensures { IfSome result (λ all. (all.errors ≡ self.errors + others.errors) × (all.bodies ≡ self.bodies + others.bodies)
+            × (all.heads ≡ self.heads + others.heads)) }
+    {
+        Some(Counts {
+            errors: self.errors.checked_add(others.errors)?,
+            bodies: self.bodies.checked_add(others.bodies)?,
+            heads: self.heads.checked_add(others.heads)?,
+        })
+    }
 }
 
 impl Model for Walked {
@@ -73,26 +95,40 @@ impl Walked {
         })
     }
 
-    /// A walk that read this header.
-    pub(crate) fn head(alloc: Global, path: Path, bytes: [u8; 512]) -> Result<Walked, NoMemory>
-        ensures { IfOk result (λ walked. walked ≡ under_head path bytes no_walk) }
+    /// A walk that left these.
+    pub(crate) fn of(errors: List<Option<Errno>>, bodies: List<Bp>, heads: List<Head>) -> Walked
+        ensures { result ≡ record { errors = errors; bodies = bodies; heads = heads } }
     {
-        let mut heads = List::new(alloc);
-        heads.push(Head { path, bytes })?;
-        Ok(Walked {
-            errors: List::new(alloc),
-            bodies: List::new(alloc),
+        Walked {
+            errors,
+            bodies,
             heads,
-        })
+        }
     }
 
-    /// This walk, and what the walk below a member left behind it, where there is one.
-    pub(crate) fn and(self, member: Option<Walked>) -> Result<Walked, NoMemory>
-        ensures { IfOk result (λ walked. walked ≡ with_member self member) }
+    /// Its errors, its bodies and its headers.
+    pub(crate) fn into_parts(self) -> (Vec<Option<Errno>>, Vec<Bp>, Vec<Head>)
+        ensures errors { result.0.items ≡ self.errors }
+        ensures bodies { result.1.items ≡ self.bodies }
+        ensures heads { result.2.items ≡ self.heads }
     {
-        match member {
-            Some(others) => self.then(others),
-            None => Ok(self),
+        (
+            self.errors.into_vec(),
+            self.bodies.into_vec(),
+            self.heads.into_vec(),
+        )
+    }
+
+    /// How many it left of each.
+    pub(crate) fn counts(&self) -> Counts
+        ensures errors { result.errors ≡ length self.now.errors }
+        ensures bodies { result.bodies ≡ length self.now.bodies }
+        ensures heads { result.heads ≡ length self.now.heads }
+    {
+        Counts {
+            errors: self.errors.len(),
+            bodies: self.bodies.len(),
+            heads: self.heads.len(),
         }
     }
 
@@ -128,16 +164,6 @@ impl Walked {
             Err(blame(self.errors.as_slice()))
         }
     }
-
-    fn then(self, others: Walked) -> Result<Walked, NoMemory>
-        ensures { IfOk result (λ walked. walked ≡ join_walked self others) }
-    {
-        Ok(Walked {
-            errors: append(self.errors, others.errors)?,
-            bodies: append(self.bodies, others.bodies)?,
-            heads: append(self.heads, others.heads)?,
-        })
-    }
 }
 
 fn worst_of(errors: &[Option<Errno>]) -> Option<Errno>
@@ -155,14 +181,4 @@ pub(crate) fn blame(errors: &[Option<Errno>]) -> Errno
     ensures { result ≡ blame errors.now }
 {
     worst_of(errors).unwrap_or(Errno::Nxio)
-}
-
-/// The items of both, moved.
-fn append<T: Drop>(front: List<T>, back: List<T>) -> Result<List<T>, NoMemory>
-    ensures { IfOk result (λ items. items ≡ front ++ back) }
-{
-    let mut items = front.into_vec();
-    let mut behind = back.into_vec();
-    items.append(&mut behind)?;
-    Ok(List::from_vec(items))
 }

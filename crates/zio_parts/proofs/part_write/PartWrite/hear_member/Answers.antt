@@ -4,7 +4,7 @@ use Rattle.zio_parts.specs.Parts.{IsOutWith, PartWriting, left_of_part, slots_of
 use Rattle.zio_parts.specs.PartWrites.{IsPartWriting, member_heard}
 use Rattle.zio_parts.specs.declared.members.Member.TheVariants.{Out, Ended}
 use Rattle.zio_parts.proofs.AnsweredLemmas.{take_set_in}
-use Rattle.zio_parts.proofs.MemberLemmas.{filled_set, member_is}
+use Rattle.zio_parts.proofs.MemberLemmas.{filled_set, member_is, spelled_there}
 use Rattle.zio_parts.proofs.PartLemmas.{out_within, ended_left, ended_slots}
 use Rattle.zio_parts.proofs.part_write.PartWrite.hear_member.Goals as goal
 
@@ -27,7 +27,8 @@ invariant_of-self c =
           (filled_set Out 3 x.handed x.members c.args.n (Ended c.args.error c.args.pointer c.args.heads) f (omega (arith, within, length-take-filled Out 3 x.handed x.members f)));
       is = subst (λ ms. IsPartWriting (record { write = x.write; path = x.path; size = x.size; words = x.words; placing = x.placing; members = ms; own = x.own })) (sym front)
           (member_is (record { write = x.write; path = x.path; size = x.size; words = x.words; placing = x.placing; members = take x.handed x.members; own = x.own })
-          c.args.n c.args.pointer (Ended c.args.error c.args.pointer c.args.heads) c.self.invariant.is out refl c.requires.valid);
+          c.args.n c.args.pointer (Ended c.args.error c.args.pointer c.args.heads) c.self.invariant.is out refl
+          (spelled_there (take x.handed x.members) c.args.n c.args.pointer c.self.invariant.is.spelled out (rw (← c.self.view_is) at c.requires.valid)));
     }
 
 pub returns-clause-heard : goal.returns-clause-heard

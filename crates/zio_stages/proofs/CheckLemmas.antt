@@ -126,7 +126,7 @@ kept_long (Some a) None (Some c) place birth at_x at_y at_z = three_long (Some a
 kept_long (Some a) (Some b) None place birth at_x at_y at_z = three_long (Some a) (Some b) None place birth at_x at_y refl
 kept_long (Some a) (Some b) (Some c) place birth at_x at_y at_z = three_long (Some a) (Some b) (Some c) place birth at_x at_y at_z
 
-header_long : (bytes : List ℕ) (place : Place) (birth : ℕ) → length (header_of (filled_to None members_max (map Some (members_of bytes))) place birth) ≡ 512
+pub header_long : (bytes : List ℕ) (place : Place) (birth : ℕ) → length (header_of (filled_to None members_max (map Some (members_of bytes))) place birth) ≡ 512
 header_long bytes place birth =
     let first : List ℕ = take 128 bytes in
     let second : List ℕ = take 128 (drop 128 bytes) in

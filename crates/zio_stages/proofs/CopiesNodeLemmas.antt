@@ -25,7 +25,7 @@ outs_few (Some bytes) is_out mends h = h
 pub asked_few : (tops : List Top) (w : ReadIo) → IsReadOver tops w → w.asked ≤ 36
 asked_few tops w h = omega (arith, h.counted, h.tried, outs_few w.read.good w.read.is_out w.read.mends h.mends)
 
-own_frame : (outer : Frame) (inner : Option Inner) → IsAsking Own inner → (inner ≡ None) × (asking_in outer inner ≡ outer)
+pub own_frame : (outer : Frame) (inner : Option Inner) → IsAsking Own inner → (inner ≡ None) × (asking_in outer inner ≡ outer)
 own_frame outer None h = (refl, refl)
 own_frame outer (Some i) h = absurd h
 

@@ -37,9 +37,14 @@ pub so_then : {A B : Type 0} (P : B → Type 0) (p : TaskPlan A) (k : A → Task
 so_then P (Ends a) k h = h a
 so_then P (Asks op more) k h = λ v. so_then P (more v) k h
 
+-- what holds of the end holds of what is made of it
+pub so_turned : {A B : Type 0} (P : A → Type 0) (Q : B → Type 0) (p : TaskPlan A) (f : A → B) → ((a : A) → P a → Q (f a)) → EndsSo P p → EndsSo Q (p >>= λ a. Ends (f a))
+so_turned P Q (Ends a) f h e = h a e
+so_turned P Q (Asks op more) f h e = λ v. so_turned P Q (more v) f h (e v)
+
 -- ---- a null has no pointer
 
-pointer_closed : (b : Bool) (p : Pending) (own : Own) (bits : Bits) (kept : List Child) → (closed_if b p own bits kept).return.child.pointer ≡ own.pointer
+pub pointer_closed : (b : Bool) (p : Pending) (own : Own) (bits : Bits) (kept : List Child) → (closed_if b p own bits kept).return.child.pointer ≡ own.pointer
 pointer_closed true p own bits kept = refl
 pointer_closed false p own bits kept = refl
 

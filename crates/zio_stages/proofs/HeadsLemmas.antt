@@ -1,6 +1,7 @@
 -- The walk over headers as a node's part: it begins, hands out, and hears.
-use Rattle.std.proofs.Common.{◌≡◌, ℕ, zero, suc, ◌+◌, List, [], ◌∷◌, ◌++◌, length, map, set, slice_get, Bool, Option, Some, None, refl, sym, ap, subst, ◌∙◌, length-append, length-set}
+use Rattle.std.proofs.Common.{◌≡◌, ℕ, zero, suc, ◌+◌, ◌<◌, ◌⊎◌, inl, inr, arith, List, [], ◌∷◌, ◌++◌, length, map, set, slice_get, Bool, Option, Some, None, refl, sym, ap, subst, ◌∙◌, length-append, length-set}
 use Rattle.std.specs.Prelude.{filter, not}
+use Rattle.std.proofs.lemmas.List.{length-map}
 use Rattle.zio_types.specs.declared.error.Errno.{Errno}
 use Rattle.zio_blkptr.specs.declared.pointer.Bp.{Bp}
 use Rattle.zio_gang.specs.declared.tree.Head.{Head}
@@ -13,12 +14,13 @@ use Rattle.zio_frames.specs.Frames.{Frame, fresh_frame, with_asked, with_slot}
 use Rattle.zio_frames.specs.Moves.{AsksNext}
 use Rattle.zio_frames.specs.Seats.{IsFull}
 use Rattle.zio_frames.specs.Slots.{Heard, IsOut, left_behind_slots}
-use Rattle.zio_parts.specs.HeadWalks.{ShowsWalk, Walking, fresh_walk, header_by, left_of_walk, look_of, member_slot, slots_of, walk_slots, walking_from, with_header, with_members}
+use Rattle.zio_frames.proofs.GetLemmas.{get_either}
+use Rattle.zio_parts.specs.HeadWalks.{ShowsWalk, Walking, fresh_walk, header_by, left_of_walk, look_of, member_slot, named_by, slots_of, walk_slots, walking_from, with_header, with_members}
 use Rattle.zio_parts.specs.declared.head_walk.Header.{Header}
 use Rattle.zio_parts.specs.declared.head_walk.Header.TheVariants.{Unread, Out, Failed, Read}
 use Rattle.zio_parts.specs.declared.head_walk.MemberWalk.{MemberWalk}
 use Rattle.zio_parts.specs.declared.head_walk.WalkStep.TheVariants.{ReadHead, Member}
-use Rattle.zio_stages.specs.HeadsWorks.{AreKeptFor, HandsBelow, HandsHead, IsHeadsWork, IsReadOf, is_under, read_task, walk_task}
+use Rattle.zio_stages.specs.HeadsWorks.{AreKeptFor, HandsBelow, HandsHead, HasAsked, IsAskedOf, IsHeadsWork, IsReadOf, IsWalkBelow, is_under, read_task, walk_task}
 use Rattle.zio_stages.specs.PartsOut.{ArePartsOut, IsPartOp}
 use Rattle.zio_stages.specs.declared.heads.HeadRead.{HeadRead}
 use Rattle.zio_stages.specs.declared.heads.HeadRead.TheVariants.{Kept, Claimed}
@@ -41,6 +43,7 @@ fresh_heads t w claim levels path bp judged heads is left kept =
       plan = sym (ap (λ s. left_behind_slots s (walking_from heads w.walk)) none) ∙ left;
       full = record { lengths = refl };
       out = tt;
+      asked = λ n op e. absurd (cc);
       kept = subst (λ (k : Walking). AreKeptFor w.heads.items heads k.path (length k.members)) (sym is) kept;
     }
 
@@ -53,23 +56,57 @@ none_kept mine path n e = record {
 -- ---- it goes on
 
 -- the walk with this header and these members
-abbrev turned : Walking → Header → List (Option Walked) → Walking
+abbrev pub turned : Walking → Header → List (Option Walked) → Walking
 turned w header members = record { claim = w.claim; levels = w.levels; path = w.path; bp = w.bp; judged = w.judged; header = header; members = members }
 
-moved : (t : Terms) (old new : HeadsWork) (x y : Frame) (header : Header) (members : List (Option Walked)) → IsHeadsWork t old x
+moved : (t : Terms) (old new : HeadsWork) (x y : Frame) (header : Header) (members : List (Option Walked)) (h : IsHeadsWork t old x)
     → new.walk ≡ turned old.walk header members → y.op ≡ x.op
     → y.slots ≡ slots_of new.walk → IsFull y → ArePartsOut y.asked y.slots
+    → HasAsked (look_of old.walk.claim h.heads) old.walk.path old.walk.bp (named_by header) y.asked
     → ((heads : List Head) → AreKeptFor old.heads.items heads old.walk.path (length old.walk.members) → AreKeptFor new.heads.items heads old.walk.path (length members))
     → IsHeadsWork t new y
-moved t old new x y header members h is op slots full out kept = record {
+moved t old new x y header members h is op slots full out asked kept = record {
   heads = h.heads;
   op = op ∙ h.op ∙ ap (λ (k : Walking). ReadHeads (look_of k.claim h.heads) k.levels k.path k.bp) (sym is);
   slots = slots;
   plan = ap (walking_from h.heads) is ∙ h.plan ∙ ap (plan t) (sym op);
   full = full;
   out = out;
+  asked = subst (λ (k : Walking). HasAsked (look_of k.claim h.heads) k.path k.bp (named_by k.header) y.asked) (sym is) asked;
   kept = subst (λ (k : Walking). AreKeptFor new.heads.items h.heads k.path (length k.members)) (sym is) (kept h.heads h.kept);
 }
+
+-- nothing is asked before the header's read
+none_asked : (x : Frame) (header : Header) (members : List (Option Walked)) → header ≡ Unread → x.slots ≡ walk_slots header members → length x.asked ≡ length x.slots → length x.asked ≡ 0
+none_asked x header members unread slots full = full ∙ ap length slots ∙ ap (λ h. length (walk_slots h members)) unread
+
+first_asked : (look : Look) (path : List ℕ) (bp : Bp) (members : List Bp) (asked : List Task) (op : Task) → length asked ≡ 0 → op ≡ head_task look path bp
+    → HasAsked look path bp members (asked ++ op ∷ [])
+first_asked look path bp members [] op none is zero q e = let same : op ≡ q = cc in sym same ∙ is
+first_asked look path bp members [] op none is (suc n) q e = absurd (cc)
+first_asked look path bp members (x ∷ asked) op none is n q e = absurd (omega (arith, none))
+
+-- behind the header's read so many walks are asked as members were handed out
+many_asked : (x : Frame) (header : Header) (members : List (Option Walked)) → 0 < length (named_by header) → x.slots ≡ walk_slots header members → length x.asked ≡ length x.slots
+    → length x.asked ≡ suc (length members)
+many_asked x Unread members some slots full = absurd (omega arith)
+many_asked x Out members some slots full = absurd (omega arith)
+many_asked x (Failed f) members some slots full = absurd (omega arith)
+many_asked x (Read bytes) members some slots full = full ∙ ap length slots ∙ ap suc (length-map members member_slot)
+
+more_asked : (look : Look) (path : List ℕ) (bp : Bp) (members : List Bp) (asked : List Task) (k : ℕ) (op : Task) → length asked ≡ suc k → IsWalkBelow look path members k op
+    → HasAsked look path bp members asked → HasAsked look path bp members (asked ++ op ∷ [])
+more_asked look path bp members asked k op many below h n q e = by (get_either asked op q n e) where
+  by : (slice_get asked n ≡ Some q) ⊎ ((n ≡ length asked) × (op ≡ q)) → IsAskedOf look path bp members n q
+  by (inl old) = h n q old
+  by (inr new) = subst (λ m. IsAskedOf look path bp members m q) (sym (new.0 ∙ many)) (subst (IsWalkBelow look path members k) new.1 below)
+
+-- with the header's read alone what it names doesn't matter
+only_head : (look : Look) (path : List ℕ) (bp : Bp) (old new : List Bp) (asked : List Task) → length asked ≡ 1 → HasAsked look path bp old asked → HasAsked look path bp new asked
+only_head look path bp old new [] one h n q e = absurd (omega (arith, one))
+only_head look path bp old new (x ∷ []) one h zero q e = h zero q e
+only_head look path bp old new (x ∷ []) one h (suc n) q e = absurd (cc)
+only_head look path bp old new (x ∷ y ∷ asked) one h n q e = absurd (omega (arith, one))
 
 pub head_handed : (t : Terms) (old new : HeadsWork) (read : HeadRead) (x : Frame) → ShowsWalk old.walk ReadHead → IsReadOf old read
     → new.walk ≡ with_header old.walk Out
@@ -82,6 +119,7 @@ head_handed t old new read x shows reads is slots same h =
           (ap (λ s. s ++ IsOut None ∷ []) h.slots ∙ sym slots)
           (record { lengths = more_full x.asked x.slots op (IsOut None) h.full.lengths })
           (part_out op None x.asked x.slots h.full.lengths (is_part read) h.out)
+          (first_asked (look_of old.walk.claim h.heads) old.walk.path old.walk.bp [] x.asked op (none_asked x old.walk.header old.walk.members shows.0 h.slots h.full.lengths) named)
           (λ heads k. subst (λ hs. AreKeptFor hs heads old.walk.path (length old.walk.members)) (sym (ap (λ v. v.items) same)) k),
     ) where
       is_part : (r : HeadRead) → IsPartOp (read_task r)
@@ -105,13 +143,21 @@ below_handed t old new child m judged x shows is slots rest child_is left under 
     subst (λ hs. AreKeptFor hs h.heads m.path 0) (sym under) (subst (λ p. AreKeptFor (filter (is_under p) old.heads.items) h.heads p 0) (sym at) (kept_below old.heads.items h.heads old.walk.path (length old.walk.members) h.kept)) in
     record {
       look = look;
-      asks = subst (AsksNext t x) (sym named) (asks_work t x (slots_of old.walk) (walking_from h.heads old.walk) (ReadHeads look m.levels m.path m.bp) h.slots h.plan h.out (shows.6 h.heads));
+      asks = subst (AsksNext t x) (sym named) (asks_work t x (slots_of old.walk) (walking_from h.heads old.walk) (ReadHeads look m.levels m.path m.bp) h.slots h.plan h.out (shows.7 h.heads));
       below = subst (λ q. IsHeadsWork t child (fresh_frame q)) (sym named) (fresh_heads t child old.walk.claim m.levels m.path m.bp judged h.heads child_is (left h.heads) theirs);
       after =
           moved t old new x (with_asked x op (IsOut None)) old.walk.header (old.walk.members ++ None ∷ []) h is refl
           (ap (λ s. s ++ IsOut None ∷ []) h.slots ∙ sym slots)
           (record { lengths = more_full x.asked x.slots op (IsOut None) h.full.lengths })
           (part_out op None x.asked x.slots h.full.lengths tt h.out)
+          (more_asked look old.walk.path old.walk.bp (named_by old.walk.header) x.asked (length old.walk.members) op
+          (many_asked x old.walk.header old.walk.members (omega (arith, shows.0)) h.slots h.full.lengths)
+          (record {
+            member = m.bp;
+            levels = m.levels;
+            named = ap (slice_get (named_by old.walk.header)) number ∙ shows.6;
+            is = named ∙ ap (λ p. ReadHeads look m.levels p m.bp) at;
+          }) h.asked)
           (λ heads k. subst (λ n. AreKeptFor new.heads.items heads old.walk.path n) (sym more)
           (subst (λ hs. AreKeptFor hs heads old.walk.path (length old.walk.members + 1)) (sym rest)
           (subst (λ p. AreKeptFor (filter (λ h. not (is_under p h)) old.heads.items) heads old.walk.path (length old.walk.members + 1)) (sym at)
@@ -140,14 +186,16 @@ out_member Out members n e = absurd (cc)
 out_member (Failed f) members n e = absurd (cc)
 out_member (Read bytes) members n e = out_at members n e
 
-pub head_heard : (t : Terms) (old new : HeadsWork) (found : Answer) (x : Frame) → new.walk ≡ with_header old.walk (header_by found)
+pub head_heard : (t : Terms) (old new : HeadsWork) (found : Answer) (x : Frame) → old.walk.header ≡ Out → new.walk ≡ with_header old.walk (header_by found)
     → slots_of new.walk ≡ set (slots_of old.walk) 0 (Heard (Got found))
     → new.heads ≡ old.heads → IsHeadsWork t old x → IsHeadsWork t new (with_slot x 0 (Heard (Got found)))
-head_heard t old new found x is slots same h =
+head_heard t old new found x out is slots same h =
+    let one : length x.asked ≡ 1 = h.full.lengths ∙ ap length h.slots ∙ ap (λ k. length (walk_slots k old.walk.members)) out in
     moved t old new x (with_slot x 0 (Heard (Got found))) (header_by found) old.walk.members h is refl
     (ap (λ s. set s 0 (Heard (Got found))) h.slots ∙ sym slots)
     (record { lengths = set_full x.asked x.slots 0 (Heard (Got found)) h.full.lengths })
     (part_heard 0 (Got found) x.asked x.slots h.out)
+    (only_head (look_of old.walk.claim h.heads) old.walk.path old.walk.bp (named_by old.walk.header) (named_by (header_by found)) x.asked one h.asked)
     (λ heads k. subst (λ hs. AreKeptFor hs heads old.walk.path (length old.walk.members)) (sym (ap (λ v. v.items) same)) k)
 
 pub below_heard : (t : Terms) (old new : HeadsWork) (k n : ℕ) (walked : Walked) (x : Frame) → k + 1 ≡ n
@@ -159,5 +207,6 @@ below_heard t old new k n walked x number is slots same h =
     (ap (λ s. set s n (Heard (WalkedBy walked))) h.slots ∙ ap (λ i. set (slots_of old.walk) i (Heard (WalkedBy walked))) (sym number) ∙ sym slots)
     (record { lengths = set_full x.asked x.slots n (Heard (WalkedBy walked)) h.full.lengths })
     (part_heard n (WalkedBy walked) x.asked x.slots h.out)
+    h.asked
     (λ heads kept. subst (AreKeptFor new.heads.items heads old.walk.path) (sym (length-set old.walk.members k (Some walked)))
     (subst (λ hs. AreKeptFor hs heads old.walk.path (length old.walk.members)) (sym (ap (λ v. v.items) same)) kept))

@@ -1,5 +1,5 @@
 -- What may be asked while a request's children are out.
-use Rattle.std.proofs.Common.{◌≡◌, ℕ, zero, suc, ◌+◌, ◌≤◌, List, [], ◌∷◌, ◌++◌, length, take, refl, sym, ap, ◌∙◌, subst, arith}
+use Rattle.std.proofs.Common.{◌≡◌, ℕ, zero, suc, ◌≤◌, List, [], ◌∷◌, ◌++◌, length, take, refl, sym, ap, ◌∙◌, subst, arith}
 use Rattle.zio_gang.specs.Attempts.{Pending, Terms}
 use Rattle.zio_trace.specs.Families.{Forest, NoTrees, TreeOf}
 use Rattle.zio_trace.specs.Plans.{plan_root}
@@ -10,6 +10,7 @@ use Rattle.zio_frames.specs.Moves.{AsksNext, GoesBesideAll}
 use Rattle.zio_frames.specs.Slots.{Heard, IsOut, Slot}
 use Rattle.zio_stages.specs.declared.waiting.Waiting.{Waiting}
 use Rattle.zio_stages.specs.KidTrees.{HandsOut, IsKids, KidsHeld, attempts_of}
+use Rattle.zio_stages.specs.PartsOut.{ArePartsOut}
 use Rattle.zio_stages.proofs.Asking.{asks_next}
 use Rattle.zio_stages.proofs.KidMoves.{numbers_count}
 
@@ -26,6 +27,19 @@ pub kids_beside : (x : KidsHeld) (attempt : ℕ) (forest : Forest) (asked : List
     → IsKids x attempt forest asked slots → GoesBesideAll op asked slots
 kids_beside x attempt forest asked slots op is =
     subst (λ (ops : List Task). GoesBesideAll op ops slots) (sym is.ops) (attempts_beside op x.kids.handed attempt forest slots)
+
+-- those that are out are parts of the work
+attempts_out : (n attempt : ℕ) (forest : Forest) (slots : List Slot) → ArePartsOut (take n (attempts_of attempt forest)) slots
+attempts_out zero attempt forest slots = tt
+attempts_out (suc n) attempt NoTrees slots = tt
+attempts_out (suc n) attempt (TreeOf p below others) [] = tt
+attempts_out (suc n) attempt (TreeOf p below others) (Heard v ∷ slots) = attempts_out n attempt others slots
+attempts_out (suc n) attempt (TreeOf p below others) (IsOut told ∷ slots) = (tt, attempts_out n attempt others slots)
+
+pub kids_out : (x : KidsHeld) (attempt : ℕ) (forest : Forest) (asked : List Task) (slots : List Slot)
+    → IsKids x attempt forest asked slots → ArePartsOut asked slots
+kids_out x attempt forest asked slots is =
+    subst (λ (ops : List Task). ArePartsOut ops slots) (sym is.ops) (attempts_out x.kids.handed attempt forest slots)
 
 -- own work behind them
 pub beside_then : (op : Task) (asked more : List Task) (slots own : List Slot) → length asked ≡ length slots

@@ -133,7 +133,7 @@ write_hears_of t bytes layer w v family more st k n c a h seat e after =
 
 -- ---- a child is missing
 
-some_out : (slots : List Slot) → 0 < length (told_in slots) → (n : ℕ) × (told : Option (Option Bp)) × (slice_get slots n ≡ Some (IsOut told))
+pub some_out : (slots : List Slot) → 0 < length (told_in slots) → (n : ℕ) × (told : Option (Option Bp)) × (slice_get slots n ≡ Some (IsOut told))
 some_out [] h = absurd (omega arith)
 some_out (IsOut told ∷ slots) h = (0, told, refl)
 some_out (Heard v ∷ slots) h =

@@ -22,7 +22,7 @@ out_slot (false ∷ outs) (IsOut told ∷ slots) m h e = absurd h
 out_slot (false ∷ outs) (Heard v ∷ slots) zero h e = absurd (cc)
 out_slot (false ∷ outs) (Heard v ∷ slots) (suc m) h e = out_slot outs slots m h e
 
-get_behind : {X : Type 0} (front xs : List X) (n m : ℕ) → n ≡ length front + m → slice_get (front ++ xs) n ≡ slice_get xs m
+pub get_behind : {X : Type 0} (front xs : List X) (n m : ℕ) → n ≡ length front + m → slice_get (front ++ xs) n ≡ slice_get xs m
 get_behind [] xs n m e = let same : n ≡ m = omega arith in ap (slice_get xs) same
 get_behind (x ∷ front) xs zero m e = absurd (omega arith)
 get_behind (x ∷ front) xs (suc n) m e = get_behind front xs n m (omega arith)

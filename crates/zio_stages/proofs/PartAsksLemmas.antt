@@ -219,6 +219,26 @@ member_untold (Gang places) x (suc (suc n)) a e =
     ap (slice_get x.members) (sym same) ∙ untold_at x.members x.own n a e
 member_untold Nowhere x n a e = absurd (refused_places (nat_le x.size sector_size) n a)
 
+slot_at_members : (members : List Member) (own : OwnWrite) (n : ℕ) → slice_get members n ≡ Some MemberOut → slice_get (map member_slot members ++ own_slots own) n ≡ Some (IsOut None)
+slot_at_members [] own n e = absurd (cc)
+slot_at_members (m ∷ members) own zero e = let is : m ≡ MemberOut = cc in ap (λ x. Some (member_slot x)) is
+slot_at_members (m ∷ members) own (suc n) e = slot_at_members members own n e
+
+-- and its slot
+pub untold_slot : (placing : Placing) (x : PartWriting) (n : ℕ) → slice_get (asks_at placing x) n ≡ Some ForMember
+    → slice_get x.members (n - 2) ≡ Some MemberOut → slice_get (slots_at placing x) n ≡ Some (IsOut None)
+untold_slot Body x n a e = absurd (cc)
+untold_slot HeadDue x zero a e = absurd (cc)
+untold_slot HeadDue x (suc n) a e = absurd (cc)
+untold_slot (Whole places) x zero a e = absurd (cc)
+untold_slot (Whole places) x (suc n) a e = absurd (in_own x.own n a)
+untold_slot (Gang places) x zero a e = absurd (cc)
+untold_slot (Gang places) x (suc zero) a e = absurd (cc)
+untold_slot (Gang places) x (suc (suc n)) a e =
+    let same : suc (suc n) - 2 ≡ n = omega arith in
+    slot_at_members x.members x.own n (ap (slice_get x.members) (sym same) ∙ e)
+untold_slot Nowhere x n a e = absurd (refused_places (nat_le x.size sector_size) n a)
+
 refused_bytes : (b : Bool) (n : ℕ) → slice_get (refused_asks b) n ≡ Some ForBytes → ⊥
 refused_bytes true zero e = absurd (cc)
 refused_bytes true (suc n) e = absurd (cc)
@@ -226,30 +246,30 @@ refused_bytes false zero e = absurd (cc)
 refused_bytes false (suc zero) e = absurd (cc)
 refused_bytes false (suc (suc n)) e = absurd (cc)
 
-own_goes : (own : OwnWrite) (n : ℕ) → slice_get (own_asks own) n ≡ Some ForBytes → slice_get (own_slots own) n ≡ Some (IsOut None) → own ≡ OwnOut
-own_goes Due n a e = absurd (cc)
-own_goes OwnOut n a e = refl
-own_goes (OwnEnded error) zero a e = absurd (cc)
-own_goes (OwnEnded error) (suc n) a e = absurd (cc)
+own_goes : (own : OwnWrite) (n : ℕ) (told : Option (Option Bp)) → slice_get (own_asks own) n ≡ Some ForBytes → slice_get (own_slots own) n ≡ Some (IsOut told) → own ≡ OwnOut
+own_goes Due n told a e = absurd (cc)
+own_goes OwnOut n told a e = refl
+own_goes (OwnEnded error) zero told a e = absurd (cc)
+own_goes (OwnEnded error) (suc n) told a e = absurd (cc)
 
-own_behind : (members : List Member) (own : OwnWrite) (n : ℕ) → slice_get (member_asks members ++ own_asks own) n ≡ Some ForBytes
-    → slice_get (map member_slot members ++ own_slots own) n ≡ Some (IsOut None) → own ≡ OwnOut
-own_behind [] own n a e = own_goes own n a e
-own_behind (m ∷ members) own zero a e = absurd (cc)
-own_behind (m ∷ members) own (suc n) a e = own_behind members own n a e
+own_behind : (members : List Member) (own : OwnWrite) (n : ℕ) (told : Option (Option Bp)) → slice_get (member_asks members ++ own_asks own) n ≡ Some ForBytes
+    → slice_get (map member_slot members ++ own_slots own) n ≡ Some (IsOut told) → own ≡ OwnOut
+own_behind [] own n told a e = own_goes own n told a e
+own_behind (m ∷ members) own zero told a e = absurd (cc)
+own_behind (m ∷ members) own (suc n) told a e = own_behind members own n told a e
 
 -- its body or header is being written, where that operation is out
-pub own_is_out : (placing : Placing) (x : PartWriting) (n : ℕ) → slice_get (asks_at placing x) n ≡ Some ForBytes
-    → slice_get (slots_at placing x) n ≡ Some (IsOut None) → x.own ≡ OwnOut
-own_is_out Body x n a e = absurd (cc)
-own_is_out HeadDue x zero a e = absurd (cc)
-own_is_out HeadDue x (suc n) a e = absurd (cc)
-own_is_out (Whole places) x zero a e = absurd (cc)
-own_is_out (Whole places) x (suc n) a e = own_goes x.own n a e
-own_is_out (Gang places) x zero a e = absurd (cc)
-own_is_out (Gang places) x (suc zero) a e = absurd (cc)
-own_is_out (Gang places) x (suc (suc n)) a e = own_behind x.members x.own n a e
-own_is_out Nowhere x n a e = absurd (refused_bytes (nat_le x.size sector_size) n a)
+pub own_is_out : (placing : Placing) (x : PartWriting) (n : ℕ) (told : Option (Option Bp)) → slice_get (asks_at placing x) n ≡ Some ForBytes
+    → slice_get (slots_at placing x) n ≡ Some (IsOut told) → x.own ≡ OwnOut
+own_is_out Body x n told a e = absurd (cc)
+own_is_out HeadDue x zero told a e = absurd (cc)
+own_is_out HeadDue x (suc n) told a e = absurd (cc)
+own_is_out (Whole places) x zero told a e = absurd (cc)
+own_is_out (Whole places) x (suc n) told a e = own_goes x.own n told a e
+own_is_out (Gang places) x zero told a e = absurd (cc)
+own_is_out (Gang places) x (suc zero) told a e = absurd (cc)
+own_is_out (Gang places) x (suc (suc n)) told a e = own_behind x.members x.own n told a e
+own_is_out Nowhere x n told a e = absurd (refused_bytes (nat_le x.size sector_size) n a)
 
 own_last : (own : OwnWrite) (n : ℕ) → own ≡ OwnOut → slice_get (own_asks own) n ≡ Some ForBytes → suc n ≡ length (own_slots own)
 own_last Due n out a = absurd (cc)

@@ -1,6 +1,5 @@
 -- The write of a part as a node's part: what it hands out, and what it hears.
-use Rattle.std.proofs.Common.{◌≡◌, ℕ, zero, suc, ◌+◌, ◌-◌, ◌*◌, ◌^◌, ◌<◌, ◌≤◌, List, [], ◌∷◌, ◌++◌, length, set, slice_get, true, false, Option, Some, None, Result, Ok, Err, refl, sym, ap, subst, ◌∙◌, arith, length-append, length-set}
-use Rattle.std.specs.Prelude.{IfOk}
+use Rattle.std.proofs.Common.{◌≡◌, ℕ, zero, suc, ◌+◌, ◌-◌, ◌*◌, ◌^◌, ◌<◌, ◌≤◌, List, [], ◌∷◌, ◌++◌, length, set, slice_get, true, false, Option, Some, None, refl, sym, ap, subst, ◌∙◌, arith, length-append, length-set}
 use Rattle.std.proofs.lemmas.Bool.{false≢true}
 use Rattle.zio_types.specs.declared.error.Errno.{Errno}
 use Rattle.zio_types.specs.declared.place.Place.{Place}
@@ -203,13 +202,10 @@ written t old new o asked slots n error h out number is more =
 
 -- ---- its end
 
-pub left_behind : {E : Type 0} (x : Stored) (r : Result StoredPart E) (P : Stored → Type 0) → P x → IfOk r (λ p. p.error ≡ x.error)
-    → IfOk r (λ p. p.pointer ≡ x.pointer) → IfOk r (λ p. p.heads ≡ x.heads)
-    → IfOk r (λ p. P (stored_as p))
-left_behind x (Ok p) P h error pointer heads =
+pub left_behind_of : (x : Stored) (p : StoredPart) (P : Stored → Type 0) → P x → p.error ≡ x.error → p.pointer ≡ x.pointer → p.heads ≡ x.heads → P (stored_as p)
+left_behind_of x p P h error pointer heads =
     let same : stored_as p ≡ x = λ i. record { error = error i; pointer = pointer i; heads = heads i } in
     subst P (sym same) h
-left_behind x (Err e) P h error pointer heads = tt
 
 pub own_ended : (t : Terms) (w : PartOwn) (o : WrittenPart) (asked : List Task) (slots : List Slot) → ShowsOwn w End → IsPartOwn t w o asked slots
     → AllHeard slots × (left_behind_slots slots (part_plan t o) ≡ Ends (StoredAs (stored_by w.part)))

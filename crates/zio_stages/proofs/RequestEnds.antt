@@ -1,7 +1,6 @@
 -- A request in an attempt ends: by its children and its own work it finishes, or goes again.
-use Rattle.std.proofs.Common.{◌≡◌, ℕ, List, [], ◌∷◌, ◌++◌, length, map, reverse, Bool, true, false, ◌||◌, Option, Some, None, is_some, refl, sym, ap, ◌∙◌, subst, arith, append-nil}
+use Rattle.std.proofs.Common.{◌≡◌, List, [], ◌∷◌, ◌++◌, map, Bool, true, false, ◌||◌, Option, Some, None, refl, sym, ap, ◌∙◌, subst, append-nil}
 use Rattle.std.specs.List.{list_all}
-use Rattle.std.proofs.lemmas.Bool.{and_parts}
 use Rattle.zio_types.specs.declared.error.Errno.{Errno}
 use Rattle.zio_types.specs.declared.request.Bits.{Bits}
 use Rattle.zio_types.specs.declared.request.Kind.{Kind}
@@ -9,34 +8,27 @@ use Rattle.zio_types.specs.Errors.{worst_error, worst_of}
 use Rattle.zio_types.specs.Bits.{has_bits, joined_bits, no_bits}
 use Rattle.zio_blkptr.specs.declared.pointer.Bp.{Bp}
 use Rattle.zio_script.specs.declared.script.Failmode.{Failmode}
-use Rattle.zio_script.specs.declared.script.Work.TheVariants.{Null}
 use Rattle.zio_script.specs.Decisions.{all_bits, kind_bits, may_fail, suspend_unless}
 use Rattle.zio_script.specs.Requests.{kind_of}
-use Rattle.zio_gang.specs.Attempts.{Attempted, Child, Ended, Own, Pending, Return, Terms, bits_of, children_of, closed, closed_if, ended_with, goes_again, insert_children, judged_own, tree_unless}
-use Rattle.zio_trace.specs.Families.{Forest, NoTrees, before}
-use Rattle.zio_trace.specs.Plans.{Kids, TaskPlan, bare, one_of, only, plan, plan_own, plan_root}
+use Rattle.zio_gang.specs.Attempts.{Attempted, Child, Pending, Return, Terms, bits_of, children_of, closed, closed_if, ended_with, goes_again, insert_children, judged_own}
+use Rattle.zio_trace.specs.Plans.{Kids, TaskPlan, bare, one_of, plan, plan_own, plan_root}
 use Rattle.zio_trace.specs.Programs.{Ends, Asks, ◌>>=◌}
-use Rattle.zio_trace.specs.Tasks.{Attempt, AttemptedBy, One, OwnGot, Task, Value, attempted}
-use Rattle.zio_children.specs.RequestKids.{FitKids, FitsState, bare_child, child_of, finished_in, has_ended, is_ended, kids_by, pointers_of, return_by, returns_in, seen_return}
+use Rattle.zio_trace.specs.Tasks.{AttemptedBy, OwnGot, Value, attempted}
+use Rattle.zio_children.specs.RequestKids.{bare_child, child_of, finished_in, is_ended, kids_by, pointers_of, returns_in, seen_return}
 use Rattle.zio_children.specs.declared.kept.KeptChild.{KeptChild}
-use Rattle.zio_children.specs.declared.kids.Kid.{Kid}
-use Rattle.zio_children.specs.declared.kids.KidState.{KidState}
-use Rattle.zio_children.specs.declared.kids.KidState.TheVariants.{Due, Out, Told, Ended as EndedState}
-use Rattle.zio_children.proofs.KidPlans.{all_heard, kids_ended, not_out}
+use Rattle.zio_children.proofs.KidPlans.{all_heard, kids_ended}
 use Rattle.zio_children.proofs.KidReturns.{judged_seen, returns_heard, same_pointers, seen_children}
-use Rattle.zio_frames.specs.Frames.{Stack, left_of}
+use Rattle.zio_frames.specs.Frames.{Stack}
 use Rattle.zio_frames.specs.Moves.{IsEnded}
-use Rattle.zio_frames.specs.Slots.{AllHeard, Heard, IsOut, Slot, left_behind_slots, told_in}
-use Rattle.zio_stages.specs.KidTrees.{AreLeft, IsKids, IsLeft, IsLeftIf, IsLeftIn}
-use Rattle.zio_stages.specs.RequestNodes.{Closes, GoesAgain, IsClosedAs, IsFinished, IsRequestNode, OwnEnds, left_child, own_got}
+use Rattle.zio_frames.specs.Slots.{Heard, IsOut, Slot, left_behind_slots, told_in}
+use Rattle.zio_stages.specs.KidTrees.{AreLeft, IsLeft, IsLeftIn}
+use Rattle.zio_stages.specs.RequestNodes.{Closes, GoesAgain, IsFinished, IsRequestNode, OwnEnds, own_got}
 use Rattle.zio_stages.specs.Waits.{pending_of}
 use Rattle.zio_stages.specs.Wholes.{root_number}
-use Rattle.zio_stages.specs.declared.request_node.Closed.{Closed}
 use Rattle.zio_stages.specs.declared.request_node.Closed.TheVariants.{Again, Finished}
 use Rattle.zio_stages.specs.declared.request_node.OwnFound.{OwnFound}
 use Rattle.zio_stages.specs.declared.request_node.RequestNode.{RequestNode}
 use Rattle.zio_stages.specs.declared.waiting.Waiting.{Waiting}
-use Rattle.zio_stages.proofs.RequestNodeLemmas.{own_none}
 
 -- ---- the end of its plan
 
@@ -227,15 +219,3 @@ closes_again t r st h own ws bits e o all some left number = record {
   value = ends_by t r st h (own_got own) e o;
   shows = goes t r st h (own_got own) ws bits all some left number;
 }
-
--- a null has no work of its own
-pub null_ends : (t : Terms) (r : RequestNode) (st : Stack) (h : IsRequestNode t r st) (own : OwnGot) → r.waiting.request.work ≡ Null
-    → own ≡ only None → OwnEnds t r st own h
-null_ends t r st h own null is =
-    let none = own_none r.own st h.own_asked h.own_slots h.own in
-    record {
-      alone = none.2;
-      heard = ap told_in none.1;
-      value = (λ i. left_behind_slots (none.1 i) (plan_own t r.attempt (pending_of r.waiting) (null i) (pointers_of r.kids.kids)))
-          ∙ ap (λ (o : OwnGot). Ends o) (sym is);
-    }

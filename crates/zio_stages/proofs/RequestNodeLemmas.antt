@@ -1,18 +1,21 @@
 -- A request in an attempt as a node: it begins, and hands out its children.
-use Rattle.std.proofs.Common.{◌≡◌, ℕ, List, [], ◌∷◌, ◌++◌, length, Option, Some, None, refl, sym, ap, ◌∙◌, subst, arith, append-nil, length-append}
+use Rattle.std.proofs.Common.{◌≡◌, ◌<◌, List, [], ◌∷◌, ◌++◌, length, None, refl, sym, ap, ◌∙◌, subst, arith, append-nil}
 use Rattle.zio_types.specs.declared.request.ChildKind.TheVariants.{Logical}
 use Rattle.zio_gang.specs.Attempts.{Pending, Terms}
 use Rattle.zio_trace.specs.Families.{Forest}
 use Rattle.zio_trace.specs.Tasks.{Attempt, Task}
+use Rattle.zio_children.specs.RequestKids.{KidsUnderWay}
 use Rattle.zio_frames.specs.Frames.{Child, Frame, OfOuter, Stack, fresh_stack}
 use Rattle.zio_frames.specs.Moves.{AsksNext, handed}
 use Rattle.zio_frames.specs.Slots.{IsOut, Slot}
 use Rattle.zio_stages.specs.KidTrees.{HandsOut, IsKids, KidsHeld}
 use Rattle.zio_stages.specs.NodeChildren.{new_child}
-use Rattle.zio_stages.specs.RequestNodes.{HandsKid, IsOwnOf, IsRequestNode}
+use Rattle.zio_stages.specs.WrittenBlocks.{HaveAllTold}
+use Rattle.zio_stages.specs.PartWorks.{Front}
+use Rattle.zio_stages.specs.RequestNodes.{HandsKid, IsOwnOf, IsRequestNode, front_by}
 use Rattle.zio_stages.specs.Waits.{pending_of}
 use Rattle.zio_stages.specs.declared.request_node.Own.{Own}
-use Rattle.zio_stages.specs.declared.request_node.Own.TheVariants.{Due}
+use Rattle.zio_stages.specs.declared.request_node.Own.TheVariants.{Due, Over, Stored, Write}
 use Rattle.zio_stages.specs.declared.request_node.RequestNode.{RequestNode}
 use Rattle.zio_stages.specs.declared.waiting.Waiting.{Waiting}
 use Rattle.zio_stages.proofs.KidAsking.{asks_kid}
@@ -33,7 +36,7 @@ fresh_request t r p forest is kept due none round failmode = record {
   slots = refl;
   kids = is.1;
   kept = kept;
-  own = subst (λ (o : Own). IsOwnOf o (fresh_stack (Attempt r.attempt p forest)) [] []) (sym due) (refl, refl, refl);
+  own = subst (λ (o : Own). IsOwnOf t r r.kids.kids (front_by r forest [] []) o (fresh_stack (Attempt r.attempt p forest)) [] []) (sym due) (refl, refl, refl);
   family = none;
   round = round;
   failmode = failmode;
@@ -60,20 +63,32 @@ flat outer children = record { outer = outer; inner = None; children = children 
 flat_is : (st : Stack) → st.inner ≡ None → flat st.outer st.children ≡ st
 flat_is st e = λ i. record { outer = st.outer; inner = sym e i; children = st.children }
 
-pub own_none : (own : Own) (st : Stack) (asked : List Task) (slots : List Slot) → IsOwnOf own st asked slots
-    → (asked ≡ []) × (slots ≡ []) × (st.inner ≡ None)
-own_none Due st asked slots h = h
+-- before all its children are out nothing of its own work is asked
+pub own_idle : (t : Terms) (r : RequestNode) (x : KidsUnderWay) (f : Front) (own : Own) (st : Stack) (asked : List Task) (slots : List Slot)
+    → IsOwnOf t r x f own st asked slots → (HaveAllTold x → ⊥) → (asked ≡ []) × (slots ≡ []) × (st.inner ≡ None)
+own_idle t r x f Due st asked slots h not = h
+own_idle t r x f (Write w) st asked slots h not = absurd (not h.told)
+own_idle t r x f (Stored b) st asked slots h not = absurd (not h.told)
+own_idle t r x f Over st asked slots h not = absurd (not h.told)
 
-pub own_still : (own : Own) (a b : Stack) (asked : List Task) (slots : List Slot) → IsOwnOf own a asked slots → b.inner ≡ a.inner
-    → IsOwnOf own b asked slots
-own_still Due a b asked slots h e = (h.0, h.1, e ∙ h.2)
+-- and it is still due
+own_due : (t : Terms) (r s : RequestNode) (x y : KidsUnderWay) (f g : Front) (own : Own) (a b : Stack) (asked : List Task) (slots : List Slot)
+    → IsOwnOf t r x f own a asked slots → (HaveAllTold x → ⊥) → b.inner ≡ a.inner → IsOwnOf t s y g own b [] []
+own_due t r s x y f g Due a b asked slots h not e = (refl, refl, e ∙ h.2)
+own_due t r s x y f g (Write w) a b asked slots h not e = absurd (not h.told)
+own_due t r s x y f g (Stored v) a b asked slots h not e = absurd (not h.told)
+own_due t r s x y f g Over a b asked slots h not e = absurd (not h.told)
+
+not_all : (x : KidsUnderWay) → x.handed < length x.kids → HaveAllTold x → ⊥
+not_all x less told = omega (arith, less, told.all)
 
 hands_flat : (t : Terms) (r : RequestNode) (kids : KidsHeld) (family : List Child) (ws : List Waiting) (o : Frame) (cs : List Child) (h : IsRequestNode t r (flat o cs))
-    → HandsOut ws r.kids kids r.attempt h.forest h.kid_asked h.kid_slots → kids.kids.kept ≡ r.kids.kids.kept
+    → r.kids.kids.handed < length r.kids.kids.kids → HandsOut ws r.kids kids r.attempt h.forest h.kid_asked h.kid_slots → kids.kids.kept ≡ r.kids.kids.kept
     → family ≡ r.family ++ new_child (OfOuter r.kids.kids.handed) Logical ∷ []
     → HandsKid t (with_kids r kids family) ws (flat o cs)
-hands_flat t r kids family ws o cs h out kept more =
-    let own = own_none r.own (flat o cs) h.own_asked h.own_slots h.own in
+hands_flat t r kids family ws o cs h less out kept more =
+    let not = not_all r.kids.kids less in
+    let own = own_idle t r r.kids.kids (front_by r h.forest h.kid_asked h.kid_slots) r.own (flat o cs) h.own_asked h.own_slots h.own not in
     let op : Task = Attempt r.attempt out.root out.below in
     let asked : o.asked ≡ h.kid_asked = h.asked ∙ ap (λ (xs : List Task). h.kid_asked ++ xs) own.0 ∙ append-nil h.kid_asked in
     let slots : o.slots ≡ h.kid_slots = h.slots ∙ ap (λ (xs : List Slot). h.kid_slots ++ xs) own.1 ∙ append-nil h.kid_slots in
@@ -96,7 +111,8 @@ hands_flat t r kids family ws o cs h out kept more =
         slots = ap (λ (xs : List Slot). xs ++ IsOut None ∷ []) slots ∙ sym (append-nil (h.kid_slots ++ IsOut None ∷ []));
         kids = out.after;
         kept = kept ∙ h.kept;
-        own = own_still r.own (flat o cs) (handed (flat o cs) op) [] [] (subst (λ (xs : List Task). IsOwnOf r.own (flat o cs) xs []) own.0 (subst (λ (xs : List Slot). IsOwnOf r.own (flat o cs) h.own_asked xs) own.1 h.own)) refl;
+        own = own_due t r (with_kids r kids family) r.kids.kids kids.kids (front_by r h.forest h.kid_asked h.kid_slots)
+            (front_by r h.forest (h.kid_asked ++ op ∷ []) (h.kid_slots ++ IsOut None ∷ [])) r.own (flat o cs) (handed (flat o cs) op) h.own_asked h.own_slots h.own not refl;
         family = more ∙ ap (λ (xs : List Child). xs ++ new_child (OfOuter r.kids.kids.handed) Logical ∷ []) h.family
             ∙ ap (λ n. cs ++ new_child (OfOuter n) Logical ∷ []) (sym count);
         round = h.round;
@@ -105,11 +121,11 @@ hands_flat t r kids family ws o cs h out kept more =
     }
 
 pub hands_kid : (t : Terms) (r : RequestNode) (kids : KidsHeld) (family : List Child) (ws : List Waiting) (st : Stack) (h : IsRequestNode t r st)
-    → HandsOut ws r.kids kids r.attempt h.forest h.kid_asked h.kid_slots → kids.kids.kept ≡ r.kids.kids.kept
+    → r.kids.kids.handed < length r.kids.kids.kids → HandsOut ws r.kids kids r.attempt h.forest h.kid_asked h.kid_slots → kids.kids.kept ≡ r.kids.kids.kept
     → family ≡ r.family ++ new_child (OfOuter r.kids.kids.handed) Logical ∷ []
     → HandsKid t (with_kids r kids family) ws st
-hands_kid t r kids family ws st h out kept more =
-    let own = own_none r.own st h.own_asked h.own_slots h.own in
+hands_kid t r kids family ws st h less out kept more =
+    let own = own_idle t r r.kids.kids (front_by r h.forest h.kid_asked h.kid_slots) r.own st h.own_asked h.own_slots h.own (not_all r.kids.kids less) in
     let same : flat st.outer st.children ≡ st = flat_is st own.2 in
     subst (λ (s : Stack). HandsKid t (with_kids r kids family) ws s) same (hands_flat t r kids family ws st.outer st.children (record {
       forest = h.forest;
@@ -122,8 +138,8 @@ hands_kid t r kids family ws st h out kept more =
       slots = h.slots;
       kids = h.kids;
       kept = h.kept;
-      own = subst (λ (s : Stack). IsOwnOf r.own s h.own_asked h.own_slots) (sym same) h.own;
+      own = subst (λ (s : Stack). IsOwnOf t r r.kids.kids (front_by r h.forest h.kid_asked h.kid_slots) r.own s h.own_asked h.own_slots) (sym same) h.own;
       family = h.family;
       round = h.round;
       failmode = h.failmode;
-    }) out kept more)
+    }) less out kept more)

@@ -1,26 +1,29 @@
 -- Where the children of a request sit, and which of them are missing.
-use Rattle.std.proofs.Common.{◌≡◌, ℕ, zero, suc, ◌<◌, ◌≤◌, List, [], ◌∷◌, ◌++◌, length, take, slice_get, Bool, true, false, ◌&&◌, ◌||◌, not, Option, Some, None, ◌⊎◌, inl, inr, refl, sym, ap, ◌∙◌, subst, arith}
+use Rattle.std.proofs.Common.{◌≡◌, ℕ, zero, suc, ◌<◌, List, [], ◌∷◌, ◌++◌, length, take, slice_get, Bool, true, false, ◌&&◌, ◌||◌, not, Option, Some, None, ◌⊎◌, inl, inr, refl, sym, ap, ◌∙◌, subst, arith}
 use Rattle.std.specs.List.{list_all, list_any}
 use Rattle.zio_types.specs.declared.request.ChildKind.{ChildKind}
 use Rattle.zio_types.specs.declared.request.ChildKind.TheVariants.{Logical}
-use Rattle.zio_types.specs.declared.request.Phase.{Phase}
 use Rattle.zio_types.specs.declared.request.Phase.TheVariants.{Ready, Done}
 use Rattle.zio_types.specs.Machine.{same_kind}
 use Rattle.zio_blkptr.specs.declared.pointer.Bp.{Bp}
 use Rattle.zio_gang.specs.Attempts.{Pending, Terms}
 use Rattle.zio_trace.specs.Families.{Forest, NoTrees, TreeOf}
 use Rattle.zio_trace.specs.Tasks.{Attempt, Task}
-use Rattle.zio_children.specs.RequestKids.{FitKids, FitsState, has_ended, has_told, is_ended, is_told, root_numbers}
+use Rattle.zio_children.specs.RequestKids.{FitKids, FitsState, KidsUnderWay, has_ended, has_told, is_ended, is_told, root_numbers}
 use Rattle.zio_children.specs.declared.kids.Kid.{Kid}
 use Rattle.zio_children.specs.declared.kids.KidState.{KidState}
 use Rattle.zio_children.specs.declared.kids.KidState.TheVariants.{Due, Out, Told, Ended}
 use Rattle.zio_frames.specs.Frames.{Child, Inner, OfOuter, Seat, Stack, kind_of_task, needs_none}
 use Rattle.zio_frames.specs.Seats.{HasSeat, IsInnerSeat, IsSatAt, IsSeated, ShowsTold, SitsAt, asked_at, slot_at}
-use Rattle.zio_frames.specs.Slots.{Heard, IsOut, Slot}
+use Rattle.zio_frames.specs.Slots.{IsOut, Slot}
 use Rattle.zio_frames.proofs.GetLemmas.{all_at}
-use Rattle.zio_stages.specs.KidTrees.{IsKids, attempts_of}
-use Rattle.zio_stages.specs.NodeChildren.{is_owing, owes}
-use Rattle.zio_stages.specs.RequestNodes.{IsOwnOf, IsRequestNode}
+use Rattle.zio_stages.specs.KidTrees.{attempts_of}
+use Rattle.zio_stages.specs.NodeChildren.{is_owing}
+use Rattle.zio_stages.specs.PartWorks.{Front, IsPartWithin}
+use Rattle.zio_stages.specs.RequestNodes.{IsOwnOf, IsRequestNode, front_by}
+use Rattle.zio_stages.specs.declared.request_node.Own.{Own}
+use Rattle.zio_stages.specs.declared.request_node.Own.TheVariants.{Due as OwnDue, Over, Stored, Write}
+use Rattle.zio_stages.specs.declared.write_io.WriteIo.{WriteIo}
 use Rattle.zio_stages.specs.declared.request_node.RequestNode.{RequestNode}
 use Rattle.zio_stages.proofs.KidAsking.{kids_full}
 
@@ -198,10 +201,27 @@ waits_ready t r st h seated alone all not_all =
     let out : IsOutThere h.kid_slots None = untold_slot r.kids.kids.kids h.kid_slots h.kids.fits (h.kids.all ∙ all) not_all in
     owing_ready st (kid_sits t r st out.place None h seated (not_within st.inner (OfOuter out.place) alone) out.slot)
 
+-- a part within is none of its children's
+inner_apart : (t : Terms) (r : RequestNode) (x : KidsUnderWay) (f : Front) (own : Own) (st : Stack) (asked : List Task) (slots : List Slot) (n : ℕ)
+    → IsOwnOf t r x f own st asked slots → n < length f.slots → IsInnerSeat st.inner (OfOuter n) → ⊥
+inner_apart t r x f OwnDue st asked slots n h l i = not_within st.inner (OfOuter n) h.2 i
+inner_apart t r x f (Write w) st asked slots n h l i = behind w.work.io h.is.within
+  where
+    behind : (io : Option WriteIo) → IsPartWithin t w.work.bytes w.work.own.part (length f.slots) io st.inner → ⊥
+    behind None none = not_within st.inner (OfOuter n) none.0 i
+    behind (Some io) k =
+        let seat : OfOuter n ≡ OfOuter k.inside.number = subst (λ (o : Option Inner). IsInnerSeat o (OfOuter n)) k.is i in
+        let at : n ≡ k.inside.number = cc in
+        omega (arith, k.at)
+inner_apart t r x f (Stored b) st asked slots n h l i = not_within st.inner (OfOuter n) h.alone i
+inner_apart t r x f Over st asked slots n h l i = not_within st.inner (OfOuter n) h.alone i
+
 -- a child's attempt hasn't ended
-pub waits_done : (t : Terms) (r : RequestNode) (st : Stack) (h : IsRequestNode t r st) → IsSeated st → st.inner ≡ None
+pub waits_done : (t : Terms) (r : RequestNode) (st : Stack) (h : IsRequestNode t r st) → IsSeated st
     → r.kids.kids.handed ≡ length r.kids.kids.kids → list_all is_ended r.kids.kids.kids ≡ false
     → list_any (is_owing Logical Done) st.children ≡ true
-waits_done t r st h seated alone all not_all =
+waits_done t r st h seated all not_all =
     let out : IsOutSomewhere h.kid_slots = going_slot r.kids.kids.kids h.kid_slots h.kids.fits (h.kids.all ∙ all) not_all in
-    owing_done st out.told (kid_sits t r st out.is.place out.told h seated (not_within st.inner (OfOuter out.is.place) alone) out.is.slot)
+    owing_done st out.told (kid_sits t r st out.is.place out.told h seated
+    (inner_apart t r r.kids.kids (front_by r h.forest h.kid_asked h.kid_slots) r.own st h.own_asked h.own_slots out.is.place h.own
+    (get_within h.kid_slots out.is.place (IsOut out.told) out.is.slot)) out.is.slot)

@@ -1,5 +1,6 @@
 -- The read of a block as a part of a larger plan: it begins, hands out, and hears.
-use Rattle.std.proofs.Common.{◌≡◌, ℕ, zero, suc, List, [], ◌∷◌, ◌++◌, length, map, set, slice_get, Option, Some, None, Result, Ok, Err, refl, sym, ap, subst, ◌∙◌, append_assoc}
+use Rattle.std.proofs.Common.{◌≡◌, ℕ, zero, suc, List, [], ◌∷◌, ◌++◌, length, map, set, slice_get, Option, Some, None, Result, Ok, Err, ◌+◌, refl, sym, ap, subst, ◌∙◌, append_assoc, arith}
+use Rattle.std.proofs.lemmas.List.{length-map}
 use Rattle.zio_types.specs.declared.error.Errno.{Errno}
 use Rattle.zio_blkptr.specs.declared.pointer.Bp.{Bp}
 use Rattle.zio_gang.specs.declared.tree.Tree.{Tree}
@@ -17,7 +18,7 @@ use Rattle.zio_parts.specs.declared.tree_read.Phase.{Phase}
 use Rattle.zio_parts.specs.declared.tree_read.Phase.TheVariants.{Unread, Out, Failed, Found}
 use Rattle.zio_parts.specs.declared.tree_read.TreeStep.TheVariants.{Walk, Body}
 use Rattle.zio_stages.specs.PartsOut.{ArePartsOut}
-use Rattle.zio_stages.specs.TreeWorks.{HandsRead, IsTreeWork, TreeAsks, body_task, heads_task, slots_with, walk_before}
+use Rattle.zio_stages.specs.TreeWorks.{HandsRead, IsTreeWork, TreeAsks, WalksRead, body_task, heads_task, slots_with, walk_before}
 use Rattle.zio_stages.specs.declared.tree.TreeWork.{TreeWork}
 use Rattle.zio_stages.proofs.Asking.{next_answered}
 use Rattle.zio_stages.proofs.PartsOutLemmas.{more_full, part_heard, part_out, set_full}
@@ -221,3 +222,62 @@ tree_walked old new tree asked slots walked phase is none left h =
       bp_of : (bodies : Result (List Bp) Errno) → new.read ≡ walk_heard old.read bodies → new.read.bp ≡ old.read.bp
       bp_of (Ok bodies) e = ap (λ (r : Reading). r.bp) e
       bp_of (Err error) e = ap (λ (r : Reading). r.bp) e
+
+-- ---- the walk at once
+
+unread_none : (w : TreeWork) (tree : Tree) (asked : List Task) (slots : List Slot) → w.read.phase ≡ Unread → IsTreeWork w tree asked slots → slots ≡ []
+unread_none w tree asked slots e h = h.shown ∙ ap (λ p. walk_before p h.walked ++ slots_in p w.read.results) e
+
+none_asked : {X Y : Type 0} (xs : List X) (ys : List Y) → length xs ≡ length ys → ys ≡ [] → xs ≡ []
+none_asked [] ys l e = refl
+none_asked (x ∷ xs) ys l e = let none : length ys ≡ 0 = ap length e in absurd (omega (arith, l))
+
+-- where the walk is to be made nothing was asked
+pub walk_first : (w : TreeWork) (tree : Tree) (asked : List Task) (slots : List Slot) → ShowsRead w.read Walk → IsTreeWork w tree asked slots → (asked ≡ []) × (slots ≡ [])
+walk_first w tree asked slots shows h =
+    let none : slots ≡ [] = unread_none w tree asked slots shows.0 h in
+    (none_asked asked slots h.full none, none)
+
+set_only : (slots : List Slot) (x y : Slot) → slots ≡ [] → set (slots ++ x ∷ []) 0 y ≡ slots ++ y ∷ []
+set_only slots x y e = ap (λ (xs : List Slot). set (xs ++ x ∷ []) 0 y) e ∙ sym (ap (λ (xs : List Slot). xs ++ y ∷ []) e)
+
+pub walked_at_once : (old mid new : TreeWork) (tree : Tree) (asked : List Task) (slots : List Slot) (walked : Walked) → ShowsRead old.read Walk
+    → mid.read ≡ with_phase old.read Out → slots_of mid.read ≡ slots_of old.read ++ IsOut None ∷ []
+    → new.read ≡ walk_heard mid.read (bodies_or walked) → slots_of new.read ≡ []
+    → left_of_read tree.heads new.read ≡ answered_at 0 (WalkedBy walked) (left_of_read tree.heads mid.read) → IsTreeWork old tree asked slots
+    → WalksRead new tree asked slots walked
+walked_at_once old mid new tree asked slots walked shows is more heard empty left h =
+    let op : Task = heads_task tree in
+    let out : HandsRead mid tree asked slots op = walk_handed old mid tree asked slots shows is more h in
+    let none : (asked ≡ []) × (slots ≡ []) = walk_first old tree asked slots shows h in
+    record {
+      first = none.0;
+      asks = out.0;
+      after = subst (IsTreeWork new tree (asked ++ op ∷ [])) (set_only slots (IsOut None) (Heard (WalkedBy walked)) none.1)
+          (tree_walked mid new tree (asked ++ op ∷ []) (slots ++ IsOut None ∷ []) walked (ap (λ (r : Reading). r.phase) is) heard empty left out.1);
+    }
+
+-- ---- where a body's read stands
+
+last_body : (results : List (Option Answer)) → slice_get (map body_slot (results ++ None ∷ [])) (length results) ≡ Some (IsOut None)
+last_body [] = refl
+last_body (r ∷ results) = last_body results
+
+pub body_there : (old new : TreeWork) (body : BodyRead) (left : Walked) → ShowsRead old.read (Body body)
+    → new.read ≡ with_results old.read (old.read.results ++ None ∷ []) → slice_get (slots_with left new.read) (body.n + 1) ≡ Some (IsOut None)
+body_there old new body left shows is =
+    let more : List (Option Answer) = old.read.results ++ None ∷ [] in
+    let at : body.n + 1 ≡ suc (length old.read.results) = omega (arith, shows.1) in
+    ap (λ (r : Reading). slice_get (slots_with left r) (body.n + 1)) is
+    ∙ ap (λ p. slice_get (walk_before p left ++ slots_in p more) (body.n + 1)) shows.0
+    ∙ ap (λ k. slice_get (Heard (WalkedBy left) ∷ map body_slot more) k) at
+    ∙ last_body old.read.results
+
+-- behind the walk stand as many as bodies were handed out
+pub found_length : (w : TreeWork) (tree : Tree) (asked : List Task) (slots : List Slot) (n : ℕ) → w.read.phase ≡ Found → length w.read.results ≡ n
+    → IsTreeWork w tree asked slots → length slots ≡ n + 1
+found_length w tree asked slots n found few h =
+    let same : length slots ≡ length (Heard (WalkedBy h.walked) ∷ map body_slot w.read.results) =
+    ap length h.shown ∙ ap (λ p. length (walk_before p h.walked ++ slots_in p w.read.results)) found in
+    let mapped : length (map body_slot w.read.results) ≡ length w.read.results = length-map w.read.results body_slot in
+    omega (arith, same, mapped, few)

@@ -8,27 +8,47 @@ use Rattle.zio_trace.specs.Families.{Forest, NoTrees}
 use Rattle.zio_trace.specs.Plans.{plan_own}
 use Rattle.zio_trace.specs.Programs.{Ends}
 use Rattle.zio_trace.specs.Tasks.{Attempt, AttemptedBy, One, OwnGot, Task}
-use Rattle.zio_children.specs.RequestKids.{kids_by, pointers_of, state_at}
+use Rattle.zio_children.specs.RequestKids.{KidsUnderWay, kids_by, pointers_of, state_at}
 use Rattle.zio_children.specs.declared.kids.KidState.{KidState}
 use Rattle.zio_frames.specs.Frames.{Child as StackChild, OfOuter, Stack, asking}
 use Rattle.zio_frames.specs.Moves.{AsksNext, IsEnded, handed}
 use Rattle.zio_frames.specs.Slots.{AllHeard, Slot, left_behind_slots}
 use Rattle.zio_stages.specs.KidTrees.{IsKids, IsLeft}
+pub use Rattle.zio_stages.specs.OwnFounds.{own_got}
+use Rattle.zio_stages.specs.NodeIos.{NoneSits}
+use Rattle.zio_stages.specs.OwnWrites.{IsWriteOwn}
+use Rattle.zio_stages.specs.PartWorks.{Front, IsPartOver}
+use Rattle.zio_stages.specs.StoredBlocks.{IsGoingBack, IsStoredOwn}
+use Rattle.zio_types.specs.declared.place.Top.{Top}
+use Rattle.zio_stages.specs.declared.family.Layer.TheVariants.{Within}
 use Rattle.zio_stages.specs.Waits.{pending_of}
 use Rattle.zio_stages.specs.Wholes.{IsTreeOf, root_number}
+use Rattle.zio_stages.specs.WrittenBlocks.{HaveAllTold}
 use Rattle.zio_stages.specs.declared.request_node.Closed.{Closed}
 use Rattle.zio_stages.specs.declared.request_node.Closed.TheVariants.{Again, Finished}
 use Rattle.zio_stages.specs.declared.request_node.Own.{Own}
-use Rattle.zio_stages.specs.declared.request_node.Own.TheVariants.{Due}
-use Rattle.zio_stages.specs.declared.request_node.OwnFound.{OwnFound}
+use Rattle.zio_stages.specs.declared.request_node.Own.TheVariants.{Due, Over, Stored, Write}
 use Rattle.zio_stages.specs.declared.request_node.RequestNode.{RequestNode}
 use Rattle.zio_stages.specs.declared.waiting.Waiting.{Waiting}
 
 -- ---- how far it is
 
--- its own work is so far: these were asked for it
-abbrev pub IsOwnOf : Own → Stack → List Task → List Slot → Type 0
-IsOwnOf Due st asked slots = (asked ≡ []) × (slots ≡ []) × (st.inner ≡ None)
+-- the attempt, in which the operations for its children stand in front of its own work
+abbrev pub front_by : RequestNode → Forest → List Task → List Slot → Front
+front_by r forest asked slots = record { part = Attempt r.attempt (pending_of r.waiting) forest; asked = asked; slots = slots }
+
+-- All of its own work is heard, and what it came to is no longer here.
+pub record IsOver (x : KidsUnderWay) (slots : List Slot) (st : Stack) : Type 0 where
+  pub told : HaveAllTold x
+  pub alone : st.inner ≡ None
+  pub heard : AllHeard slots
+
+-- behind these children its own work is so far: these were asked for it
+abbrev pub IsOwnOf : Terms → RequestNode → KidsUnderWay → Front → Own → Stack → List Task → List Slot → Type 0
+IsOwnOf t r x f Due st asked slots = (asked ≡ []) × (slots ≡ []) × (st.inner ≡ None)
+IsOwnOf t r x f (Write w) st asked slots = IsWriteOwn t w f r.attempt (pending_of r.waiting) x asked slots st
+IsOwnOf t r x f (Stored b) st asked slots = IsStoredOwn t (own_got b.own) r.attempt (pending_of r.waiting) x asked slots st
+IsOwnOf t r x f Over st asked slots = IsOver x slots st
 
 -- It is so far in an attempt of its request.
 pub record IsRequestNode (t : Terms) (r : RequestNode) (st : Stack) : Type 0 where
@@ -42,7 +62,7 @@ pub record IsRequestNode (t : Terms) (r : RequestNode) (st : Stack) : Type 0 whe
   pub slots : st.outer.slots ≡ kid_slots ++ own_slots
   pub kids : IsKids r.kids r.attempt forest kid_asked kid_slots
   pub kept : r.kids.kids.kept ≡ r.waiting.kept
-  pub own : IsOwnOf r.own st own_asked own_slots
+  pub own : IsOwnOf t r r.kids.kids (front_by r forest kid_asked kid_slots) r.own st own_asked own_slots
   pub family : r.family ≡ st.children
   pub round : t.round ≡ r.round
   pub failmode : t.failmode ≡ r.failmode
@@ -68,10 +88,6 @@ pub record IsKidAt (P : Option KidState → Type 0) (r : RequestNode) (child : �
   pub state : P (state_at r.kids.kids.kids place)
 
 -- ---- what becomes of it
-
--- what its own work came to
-abbrev pub own_got : OwnFound → OwnGot
-own_got x = record { error = x.error; bytes = x.bytes; tree = x.tree; pointer = x.pointer }
 
 -- what its children told and left is what its own work goes on from, and it came to this
 pub record OwnEnds (t : Terms) (r : RequestNode) (st : Stack) (own : OwnGot) (h : IsRequestNode t r st) : Type 0 where
@@ -108,3 +124,12 @@ pub record Closes (t : Terms) (r : RequestNode) (st : Stack) (h : IsRequestNode 
   pub one : One
   pub value : IsEnded t st (AttemptedBy one)
   pub shows : IsClosedAs closed r (kids_by h.kid_slots).ended one
+
+-- ---- what its fields owe
+
+-- its own work to the tops and to its children
+abbrev pub IsOwnOver : List Top → Own → List StackChild → Type 0
+IsOwnOver tops Due family = NoneSits Within family
+IsOwnOver tops (Write w) family = IsPartOver tops w.work family
+IsOwnOver tops (Stored b) family = NoneSits Within family × IsGoingBack b
+IsOwnOver tops Over family = NoneSits Within family

@@ -1,10 +1,10 @@
 -- Calls of the space: what a node asked of it, gave back and claimed.
-use Rattle.std.specs.Prelude.{◌≡◌, ℕ, ◌≤◌, List, [], ◌∷◌, ◌++◌, length, map, Bool, true, false, cond, IsTrue}
+use Rattle.std.specs.Prelude.{◌≡◌, ℕ, ◌≤◌, List, [], ◌∷◌, ◌++◌, length, map, take, Bool, true, false, cond, IsTrue}
 use Rattle.std.specs.List.{AllByRecursion, flat_map}
 use Rattle.zio_types.specs.declared.place.Place.{Place}
 use Rattle.zio_types.specs.declared.place.TopSize.{TopSize}
 use Rattle.zio_types.specs.Choices.{Choice}
-use Rattle.zio_types.specs.Places.{fits_size, is_inside}
+use Rattle.zio_types.specs.Places.{fits_size, is_aligned, is_inside}
 use Rattle.zio_gang.specs.Trees.{tree_places}
 use Rattle.zio_frames.specs.Moves.{Chose, Closed, Did, Opened, Took}
 
@@ -27,8 +27,18 @@ calls_by dids = flat_map call_by dids
 abbrev pub calls_back : List Place → List SpaceCall
 calls_back places = map GaveBack places
 
+-- Of these places the first so many were given back before, and now some more are.
+pub record GivesBack {S : Type 0} (made : S → List SpaceCall → S → Type 0) (places : List Place) (old new : ℕ) (a b : S) : Type 0 where
+  pub gone : List Place
+  pub are : take old places ++ gone ≡ take new places
+  pub calls : made a (calls_back gone) b
+
 -- Each place is inside its top and fits the size, and there are no more than copies.
 pub record IsAnswerFor (tops : List TopSize) (c : Choice) : Type 0 where
   pub few : length c.places ≤ c.asked.copies
   pub inside : AllByRecursion (λ (p : Place). IsTrue (is_inside tops p)) c.places
   pub fit : AllByRecursion (λ (p : Place). IsTrue (fits_size tops c.asked.size p)) c.places
+
+-- each place lies inside its top, on whole units
+abbrev pub LieOnTops : List TopSize → List Place → Type 0
+LieOnTops tops places = AllByRecursion (λ (p : Place). IsTrue (is_inside tops p) × IsTrue (is_aligned tops p)) places

@@ -48,3 +48,9 @@ TreeAsks tree slots op = NextAnswered (told_in slots) (left_behind_slots slots (
 -- the operation is asked next, and is out then
 abbrev pub HandsRead : TreeWork → Tree → List Task → List Slot → Task → Type 0
 HandsRead now tree asked slots op = TreeAsks tree slots op × IsTreeWork now tree (asked ++ op ∷ []) (slots ++ IsOut None ∷ [])
+
+-- the walk is asked next, first of all, and left this at once
+pub record WalksRead (now : TreeWork) (tree : Tree) (asked : List Task) (slots : List Slot) (walked : Walked) : Type 0 where
+  pub first : asked ≡ []
+  pub asks : TreeAsks tree slots (heads_task tree)
+  pub after : IsTreeWork now tree (asked ++ heads_task tree ∷ []) (slots ++ Heard (WalkedBy walked) ∷ [])

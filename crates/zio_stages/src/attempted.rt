@@ -94,6 +94,13 @@ impl RequestKids {
         &self.kids
     }
 
+    /// How many children there are.
+    pub fn len(&self) -> usize
+        ensures { result ≡ length self.now.kids.kids }
+    {
+        self.again.len()
+    }
+
     /// What is to be done next.
     pub fn next(&self) -> KidStep
         ensures { ShowsKids self.now.kids result }

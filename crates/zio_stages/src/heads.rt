@@ -1,6 +1,6 @@
 // The walk over headers from a pointer down, as a node's part of the work.
 
-ghost use Rattle.std.specs.Prelude.{◌≡◌, ◌++◌, ◌+◌, ◌∷◌, ◌<◌, ◌≤◌, IfOk, IsTrue, List, None, OnErr, OnOk, Option, Some, bytes_eq, filter, length, not, slice_get};
+ghost use Rattle.std.specs.Prelude.{◌≡◌, ◌++◌, ◌+◌, ◌-◌, ◌∷◌, ◌<◌, ◌≤◌, [], IfErr, IfOk, IsTrue, List as Seq, None, OnErr, OnOk, Option, Some, bytes_eq, false, filter, length, not, slice_get, slice_set, true};
 ghost use Rattle.zio_blkptr.specs.Pointers.{valid};
 ghost use Rattle.zio_gang.specs.declared.tree.Head.{Head};
 ghost use Rattle.zio_gang.specs.Attempts.{Terms};
@@ -10,8 +10,9 @@ ghost use Rattle.zio_trace.specs.Programs.{Ends};
 ghost use Rattle.zio_trace.specs.Tasks.{ByClaim, ByKept, Got, ReadHeads, WalkedBy};
 ghost use Rattle.zio_frames.specs.Frames.{Frame, fresh_frame, left_of, with_slot};
 ghost use Rattle.zio_frames.specs.Slots.{AllHeard, Heard, IsOut, told_in};
-ghost use Rattle.zio_parts.specs.HeadWalks.{ShowsWalk, fresh_walk, left_of_walk, look_of, slots_of};
-ghost use Rattle.zio_stages.specs.HeadsWorks.{HandsBelow, HandsHead, IsHeadsWork, IsReadOf, is_under};
+ghost use Rattle.zio_parts.specs.HeadWalks.{ShowsWalk, fresh_walk, header_by, left_of_walk, look_of, slots_of, walk_left, with_header, with_members};
+ghost use Rattle.zio_parts.specs.declared.head_walk.Header.{Header};
+ghost use Rattle.zio_stages.specs.HeadsWorks.{HandsBelow, HandsHead, IsHeadsWork, IsReadFor, IsReadOf, claim_error, is_under};
 
 use std::alloc::Global;
 use zio_blkptr::Bp;
@@ -41,7 +42,9 @@ impl HeadsWork {
     /// The walk of a block, of which these headers are kept.
     pub fn kept(alloc: Global, levels: u32, path: Path, bp: Bp, heads: List<Head>) -> HeadsWork
         requires { length path + levels ≤ 8 }
-        ensures { (t : Terms) → IsHeadsWork t result (fresh_frame (ReadHeads (ByKept heads) levels path bp)) }
+        ensures fresh { (t : Terms) → IsHeadsWork t result (fresh_frame (ReadHeads (ByKept heads) levels path bp)) }
+        ensures walk { result.walk ≡ fresh_walk false levels path bp None }
+        ensures heads { result.heads.items ≡ heads }
     {
         HeadsWork {
             walk: HeadWalk::kept(alloc, levels, path, bp),
@@ -53,12 +56,21 @@ impl HeadsWork {
     pub fn claimed(alloc: Global, tops: &[Top], levels: u32, path: Path, bp: Bp) -> HeadsWork
         requires depth { length path + levels ≤ 8 }
         requires valid { IsTrue (valid bp) }
-        ensures { (t : Terms) → t.setting.tops ≡ tops.now → IsHeadsWork t result (fresh_frame (ReadHeads ByClaim levels path bp)) }
+        ensures fresh { (t : Terms) → t.setting.tops ≡ tops.now → IsHeadsWork t result (fresh_frame (ReadHeads ByClaim levels path bp)) }
+        ensures walk { result.walk ≡ fresh_walk true levels path bp result.walk.judged }
+        ensures judged { result.walk.judged ≡ claim_error tops.now bp }
     {
         HeadsWork {
             walk: HeadWalk::claimed(alloc, tops, levels, path, bp),
             heads: Vec::new(alloc),
         }
+    }
+
+    /// The pointer that it begins at.
+    pub(crate) fn pointer(&self) -> Bp
+        ensures { result ≡ self.now.walk.bp }
+    {
+        self.walk.pointer()
     }
 
     /// What is to be done next.
@@ -72,7 +84,12 @@ impl HeadsWork {
     /// The read of the header is out.
     pub fn hand_out_head(&mut self) -> HeadRead
         requires { ShowsWalk self.old.walk WalkStep.ReadHead }
-        ensures { (t : Terms) (x : Frame) → IsHeadsWork t self.old x → HandsHead t self.new result x }
+        ensures hands { (t : Terms) (x : Frame) → IsHeadsWork t self.old x → HandsHead t self.new result x }
+        ensures walk { self.new.walk ≡ with_header self.old.walk Header.Out }
+        ensures slots { slots_of self.new.walk ≡ slots_of self.old.walk ++ IsOut None ∷ [] }
+        ensures heads { self.new.heads ≡ self.old.heads }
+        ensures read { IsReadFor self.old.walk result }
+        ensures of { IsReadOf self.old result }
     {
         let read = self.head_read();
         self.walk.hand_out_head();
@@ -81,7 +98,8 @@ impl HeadsWork {
 
     /// The read of the header.
     fn head_read(&self) -> HeadRead
-        ensures { IsReadOf self.now result }
+        ensures of { IsReadOf self.now result }
+        ensures at { IsReadFor self.now.walk result }
     {
         let bp = self.walk.pointer();
         if self.walk.is_claim() {
@@ -94,22 +112,35 @@ impl HeadsWork {
         }
     }
 
-    /// The walk below a member is out, which takes the headers there. Where memory is refused nothing is.
+    /// The headers that go with the walk below a member, at this path.
+    pub fn heads_below(&self, alloc: Global, path: &Path) -> Result<Vec<Head>, NoMemory>
+        ensures { IfOk result (λ under. under.items ≡ filter (is_under path.now) self.now.heads.items) }
+    {
+        heads_under(alloc, self.heads.as_slice(), path)
+    }
+
+    /// The walk below a member is out, which takes the headers there.
     pub fn hand_out_below(
         &mut self,
         alloc: Global,
         tops: &[Top],
         member: MemberWalk,
-    ) -> Result<HeadsWork, NoMemory>
-        requires { ShowsWalk self.old.walk (WalkStep.Member member) }
-        ensures ok { IfOk result (λ below. (t : Terms) (x : Frame) → t.setting.tops ≡ tops.now → IsHeadsWork t self.old x → HandsBelow t self.new below x) }
-        ensures err { OnErr result (self.new ≡ self.old) }
+        heads: Vec<Head>,
+    ) -> HeadsWork
+        requires step { ShowsWalk self.old.walk (WalkStep.Member member) }
+        requires under { heads.items ≡ filter (is_under member.path) self.old.heads.items }
+        ensures hands { (t : Terms) (x : Frame) → t.setting.tops ≡ tops.now → IsHeadsWork t self.old x → HandsBelow t self.new result x }
+        ensures walk { self.new.walk ≡ with_members self.old.walk (self.old.walk.members ++ None ∷ []) }
+        ensures slots { slots_of self.new.walk ≡ slots_of self.old.walk ++ IsOut None ∷ [] }
+        ensures heads { self.new.heads.items ≡ filter (λ h. not (is_under member.path h)) self.old.heads.items }
+        ensures below { result.walk ≡ fresh_walk self.old.walk.claim member.levels member.path member.bp result.walk.judged }
+        ensures below_heads { result.heads ≡ heads }
+        ensures judged { self.old.walk.claim ≡ true → result.walk.judged ≡ claim_error tops.now member.bp }
     {
-        let heads = heads_under(alloc, self.heads.as_slice(), &member.path)?;
         let walk = walk_below(alloc, tops, self.walk.is_claim(), member);
         drop_under(&mut self.heads, &member.path);
         self.walk.hand_out_member();
-        Ok(HeadsWork { walk, heads })
+        HeadsWork { walk, heads }
     }
 
     /// The header was read, or failed. Where memory is refused the walk is as it was.
@@ -120,6 +151,9 @@ impl HeadsWork {
     ) -> Result<(), NoMemory>
         requires { slice_get (slots_of self.old.walk) 0 ≡ Some (IsOut None) }
         ensures heard { OnOk result ((t : Terms) (x : Frame) → IsHeadsWork t self.old x → IsHeadsWork t self.new (with_slot x 0 (Heard (Got found)))) }
+        ensures walk { OnOk result (self.new.walk ≡ with_header self.old.walk (header_by found)) }
+        ensures slots { OnOk result (slots_of self.new.walk ≡ slice_set (slots_of self.old.walk) 0 (Heard (Got found))) }
+        ensures heads { self.new.heads ≡ self.old.heads }
         ensures err { OnErr result (self.new ≡ self.old) }
     {
         self.walk.hear_head(alloc, found)
@@ -129,17 +163,26 @@ impl HeadsWork {
     pub fn hear_below(&mut self, n: u32, walked: Walked)
         requires behind { 0 < n }
         requires out { slice_get (slots_of self.old.walk) n ≡ Some (IsOut None) }
-        ensures { (t : Terms) (x : Frame) → IsHeadsWork t self.old x → IsHeadsWork t self.new (with_slot x n (Heard (WalkedBy walked))) }
+        ensures heard { (t : Terms) (x : Frame) → IsHeadsWork t self.old x → IsHeadsWork t self.new (with_slot x n (Heard (WalkedBy walked))) }
+        ensures walk { self.new.walk ≡ with_members self.old.walk (slice_set self.old.walk.members (n - 1) (Some walked)) }
+        ensures slots { slots_of self.new.walk ≡ slice_set (slots_of self.old.walk) ((n - 1) + 1) (Heard (WalkedBy walked)) }
+        ensures heads { self.new.heads ≡ self.old.heads }
     {
         self.walk.hear_member((n - 1) as usize, walked);
     }
 
-    /// What the walk left, where it ended.
-    pub fn into_walked(self, alloc: Global) -> Result<Walked, NoMemory>
+    /// What the walk left, where it ended. Where memory is refused it comes back.
+    pub fn into_walked(self, alloc: Global) -> Result<Walked, HeadsWork>
         requires { ShowsWalk self.walk WalkStep.End }
-        ensures { IfOk result (λ walked. (t : Terms) (x : Frame) → IsHeadsWork t self x → AllHeard x.slots × (left_of t x ≡ Ends (WalkedBy walked))) }
+        ensures walked { IfOk result (λ walked. (t : Terms) (x : Frame) → IsHeadsWork t self x → AllHeard x.slots × (left_of t x ≡ Ends (WalkedBy walked))) }
+        ensures left { IfOk result (λ walked. walked ≡ walk_left self.walk) }
+        ensures back { IfErr result (λ work. work ≡ self) }
     {
-        self.walk.into_walked(alloc)
+        let HeadsWork { walk, heads } = self;
+        match walk.into_walked(alloc) {
+            Ok(walked) => Ok(walked),
+            Err(walk) => Err(HeadsWork { walk, heads }),
+        }
     }
 }
 
@@ -148,8 +191,9 @@ fn walk_below(alloc: Global, tops: &[Top], claim: bool, member: MemberWalk) -> H
     requires depth { length member.path + member.levels ≤ 8 }
     requires valid { IsTrue (valid member.bp) }
     ensures fresh { result ≡ fresh_walk claim member.levels member.path member.bp result.judged }
-    ensures left { (t : Terms) (heads : List Head) → t.setting.tops ≡ tops.now →
+    ensures left { (t : Terms) (heads : Seq Head) → t.setting.tops ≡ tops.now →
         left_of_walk heads result ≡ plan t (ReadHeads (look_of claim heads) member.levels member.path member.bp) }
+    ensures judged { claim ≡ true → result.judged ≡ claim_error tops.now member.bp }
 {
     if claim {
         HeadWalk::claimed(alloc, tops, member.levels, member.path, member.bp)

@@ -2,37 +2,65 @@
 #![tactic(auto)]
 
 mod again;
+mod at_once;
 mod attempted;
 mod check;
 mod copies_node;
 mod family;
+mod give_back;
 mod heads;
+mod heads_node;
 mod io_laws;
 mod label;
 mod leaf;
 mod named;
 mod node_io;
+mod outcome;
+mod own_claim;
+mod own_free;
+mod own_gang;
+mod own_laws;
+mod own_read;
+mod own_write;
 mod part;
+mod part_io;
+mod part_members;
+mod part_node;
+mod part_work;
+mod pointer_laws;
+mod pointer_places;
 mod read_io;
 mod request;
 mod request_node;
+mod request_stored;
+mod request_write;
 mod services;
 mod split;
+mod stored_block;
 mod tree;
 mod waiting;
 mod whole;
 mod write_io;
+mod write_laws;
 
 pub use attempted::{AgainBack, RequestKids, WholeBack};
 pub use check::Check;
 pub use copies_node::CopiesNode;
 pub use family::{Family, Layer, Seat};
 pub use heads::{HeadRead, HeadsWork};
+pub use heads_node::{HeadsBack, HeadsNode, WalkStage};
 pub use io_laws::reads_and_writes_of_copies_ask_leaves;
 pub use leaf::LeafWork;
 pub use named::Named;
 pub use node_io::IoNext;
-pub use part::PartOwn;
+pub use outcome::{Finished, Outcome};
+pub use own_laws::{
+    own_work_stands_behind_children, own_work_stays_while_children_go_on,
+    what_is_no_write_has_no_pointer,
+};
+pub use part::{OwnBack, PartOwn};
+pub use part_node::{Allocated, PartNode, PartNodeBack};
+pub use pointer_laws::reads_tell_no_pointer;
 pub use read_io::ReadIo;
 pub use request_node::{RequestNode, Start};
 pub use services::{Services, Unclaimed};
@@ -40,3 +68,4 @@ pub use tree::TreeWork;
 pub use waiting::Waiting;
 pub use whole::{ChildrenBack, Whole};
 pub use write_io::{IoStep, WriteIo};
+pub use write_laws::{a_write_is_that_of_its_block, children_that_told_settle_the_content};

@@ -33,6 +33,36 @@ impl Named {
         }
     }
 
+    /// Another part of the same request's work.
+    pub(crate) fn at(&self, path: Path, role: Role) -> Named
+        requires { (k step : ℕ) → slice_get path k ≡ Some step → step < 4 }
+        ensures { result.path ≡ path }
+    {
+        Named {
+            request: self.request,
+            path,
+            role,
+            attempt: self.attempt,
+        }
+    }
+
+    /// The label of a node that does the whole part.
+    pub(crate) fn part_label(&self) -> u64 {
+        let label = Label {
+            request: self.request,
+            path: self.path,
+            role: self.role,
+            place: 0,
+            image: 0,
+            level: Level::Part,
+            attempt: self.attempt,
+            retry: false,
+            repair: false,
+            sectors: 0,
+        };
+        label.pack()
+    }
+
     /// The label of an operation on this leaf that moves so many bytes. Which of the part's places it is on isn't told.
     pub(crate) fn leaf_label(&self, leaf: u32, retry: bool, repair: bool, bytes: usize) -> u64 {
         let label = Label {
@@ -48,5 +78,31 @@ impl Named {
             sectors: (bytes / 512 % 4096) as u32,
         };
         label.pack()
+    }
+
+    /// The same part's body or header.
+    pub(crate) fn with_role(&self, role: Role) -> Named {
+        Named {
+            request: self.request,
+            path: self.path,
+            role,
+            attempt: self.attempt,
+        }
+    }
+
+    /// The body of a member of the gang here, or of the part itself where no more steps can be named.
+    pub(crate) fn member(&self, n: u8) -> Named
+        requires { n < 3 }
+    {
+        let path = self.path;
+        let Some(path) = path.child(n) else {
+            return *self;
+        };
+        Named {
+            request: self.request,
+            path,
+            role: Role::Body,
+            attempt: self.attempt,
+        }
     }
 }

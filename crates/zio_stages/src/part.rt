@@ -1,6 +1,6 @@
 // The write of a part of a block, as a node's part of the work or as a request's own.
 
-ghost use Rattle.std.specs.Prelude.{◌≡◌, ◌++◌, ◌+◌, ◌-◌, ◌*◌, ◌%◌, ◌^◌, ◌∷◌, ◌<◌, ◌≤◌, ℕ, Contains, IfOk, IfSome, IsTrue, List, None, Option, Some, [], drop, length, slice_get, slice_set, take, true};
+ghost use Rattle.std.specs.Prelude.{◌≡◌, ◌++◌, ◌+◌, ◌-◌, ◌*◌, ◌%◌, ◌^◌, ◌∷◌, ◌<◌, ◌≤◌, ℕ, Contains, IfErr, IfOk, IfSome, IsTrue, List, None, Option, Some, [], drop, false, length, slice_get, slice_set, take, true};
 ghost use Rattle.zio_types.specs.Choices.{Ask};
 ghost use Rattle.zio_blkptr.specs.Pointers.{valid};
 ghost use Rattle.zio_gang.specs.Attempts.{Terms, writing_of};
@@ -9,21 +9,29 @@ ghost use Rattle.zio_trace.specs.Tasks.{Find, Found, StoredAs, Task, Value, Writ
 ghost use Rattle.zio_trace.specs.Underway.{early};
 ghost use Rattle.zio_frames.specs.Answering.{EndsAnswered};
 ghost use Rattle.zio_frames.specs.Slots.{AllHeard, Heard, IsOut, Slot, left_behind_slots, told_in};
-ghost use Rattle.zio_parts.specs.Parts.{ask_by, is_gang, is_head_due, member_bytes, member_count, places_at, pointer_over, slots_of, writing_by};
-ghost use Rattle.zio_parts.specs.PartWrites.{IsAsk, is_ready, step_of};
+ghost use Rattle.zio_parts.specs.Parts.{ask_by, fresh_part, is_gang, is_head_due, member_bytes, member_count, places_at, pointer_over, slots_of, writing_by};
+ghost use Rattle.zio_parts.specs.PartWrites.{IsAsk, IsLast, is_due, is_ready, member_heard, member_told, own_heard, part_handed, places_heard, step_of};
+ghost use Rattle.zio_parts.specs.declared.parts.OwnWrite.TheVariants.{Due, Out as OwnOut};
+ghost use Rattle.zio_parts.specs.declared.parts.Placing.TheVariants.{Body};
 ghost use Rattle.zio_stages.specs.PartOwns.{ForBytes, ForMember, HandsMember, HandsOut, IsOutAs, IsPartOwn, PartAsks, ShowsOwn, WrittenPart, asks_in, part_plan, stored_as};
 
 use std::alloc::Global;
 use std::ops::Range;
 use zio_blkptr::{BLOCK_SIZE_MAX, Bp};
-use zio_parts::{BlockWrite, PartStep, PartWrite, PlaceAsk, StoredPart};
-use zio_types::{Errno, List, NoMemory, Path, Place};
+use zio_parts::{BlockWrite, PartBack, PartStep, PartWrite, PlaceAsk, StoredPart};
+use zio_types::{Errno, List, Path, Place};
 
 /// The write of a part of a block: of a member by its own node, or of the whole by its request. Whoever holds it holds the
 /// bytes too.
 #[derive(Debug, Drop)]
 pub struct PartOwn {
     part: PartWrite,
+}
+
+/// There is no memory for what the part leaves.
+#[derive(Debug, Drop)]
+pub struct OwnBack {
+    pub own: PartOwn,
 }
 
 impl PartOwn {
@@ -35,7 +43,9 @@ impl PartOwn {
         requires deep { length bytes.now ≤ 512 * 3 ^ (8 - length path) }
         requires one { 1 ≤ write.copies }
         requires three { write.copies ≤ 3 }
-        ensures { (t : Terms) (o : WrittenPart) → writing_by t.setting write ≡ writing_of t o.attempt o.pending o.sum_kind o.copies →
+        requires born { 1 ≤ write.birth }
+        ensures fresh { result.part ≡ fresh_part write path bytes.now }
+        ensures is { (t : Terms) (o : WrittenPart) → writing_by t.setting write ≡ writing_of t o.attempt o.pending o.sum_kind o.copies →
             o.path ≡ path → o.bytes ≡ bytes.now → length path + o.levels ≡ 8 → IsPartOwn t result o [] [] }
     {
         PartOwn {
@@ -50,6 +60,8 @@ impl PartOwn {
             IsPartOwn t self.now o asked slots → 0 < length (told_in slots) }
         ensures waits_ready { result ≡ PartStep.WaitReady → (t : Terms) (o : WrittenPart) (asked : List Task) (slots : List Slot) →
             IsPartOwn t self.now o asked slots → Contains (told_in slots) None }
+        ensures due { (n : ℕ) → result ≡ PartStep.Member n → self.now.part.own ≡ Due }
+        ensures written { is_due self.now.part.own ≡ false → IsLast result }
     {
         self.part.next()
     }
@@ -61,6 +73,9 @@ impl PartOwn {
             PartAsks t o slots (Find (ask_by result)) }
         ensures some { 0 < result.size }
         ensures whole { result.size % 512 ≡ 0 }
+        ensures size { result.size ≡ self.now.part.size }
+        ensures most { self.now.part.size ≤ BLOCK_SIZE_MAX }
+        ensures born { 1 ≤ self.now.part.write.birth }
         ensures one { 1 ≤ result.copies }
         ensures three { result.copies ≤ 3 }
     {
@@ -72,6 +87,11 @@ impl PartOwn {
         requires { ShowsOwn self.now PartStep.AskHead }
         ensures asks { (t : Terms) (o : WrittenPart) (asked : List Task) (slots : List Slot) → IsPartOwn t self.now o asked slots →
             PartAsks t o slots (Find (ask_by result)) }
+        ensures size { result.size ≡ 512 }
+        ensures some { 0 < self.now.part.size }
+        ensures whole { self.now.part.size % 512 ≡ 0 }
+        ensures most { self.now.part.size ≤ BLOCK_SIZE_MAX }
+        ensures born { 1 ≤ self.now.part.write.birth }
         ensures one { 1 ≤ result.copies }
         ensures three { result.copies ≤ 3 }
     {
@@ -82,7 +102,8 @@ impl PartOwn {
     pub fn hear_places(&mut self, places: Option<List<Place>>)
         requires asked { IsAsk (step_of self.old.part) }
         requires valid { IfSome places (λ ps. IsTrue (valid (pointer_over self.old.part (is_head_due self.old.part.placing) ps))) }
-        ensures { (t : Terms) (o : WrittenPart) (asked : List Task) (slots : List Slot) (a : Ask) → IsPartOwn t self.old o asked slots →
+        ensures exact { self.new.part ≡ places_heard self.old.part places }
+        ensures heard { (t : Terms) (o : WrittenPart) (asked : List Task) (slots : List Slot) (a : Ask) → IsPartOwn t self.old o asked slots →
             IsPartOwn t self.new o (asked ++ Find a ∷ []) (slots ++ Heard (Found places) ∷ []) }
     {
         self.part.hear_places(places);
@@ -102,7 +123,10 @@ impl PartOwn {
     pub fn hand_out_member(&mut self, n: usize, bytes: &[u8]) -> PartOwn
         requires next { ShowsOwn self.old (PartStep.Member n) }
         requires whole { length bytes.now ≡ self.old.part.size }
-        ensures { (t : Terms) (o : WrittenPart) (asked : List Task) (slots : List Slot) → IsPartOwn t self.old o asked slots →
+        ensures exact { self.new.part ≡ part_handed self.old.part }
+        ensures size { result.part.size ≡ length (member_bytes bytes.now n) }
+        ensures fresh { (result.part.placing ≡ Body) × (result.part.own ≡ Due) }
+        ensures handed { (t : Terms) (o : WrittenPart) (asked : List Task) (slots : List Slot) → IsPartOwn t self.old o asked slots →
             o.bytes ≡ bytes.now → HandsMember t self.new result o n asked slots }
     {
         let part = self.part.member(n, bytes);
@@ -121,6 +145,7 @@ impl PartOwn {
     pub fn hand_out_body(&mut self)
         requires { ShowsOwn self.old PartStep.WriteBody }
         ensures places { places_at self.new.part.placing ≡ places_at self.old.part.placing }
+        ensures exact { self.new.part ≡ part_handed self.old.part }
         ensures out { (t : Terms) (o : WrittenPart) (asked : List Task) (slots : List Slot) → IsPartOwn t self.old o asked slots →
             HandsOut t self.new o asked slots (WriteCopies o.bytes (places_at self.old.part.placing)) }
     {
@@ -131,6 +156,7 @@ impl PartOwn {
     pub fn hand_out_header(&mut self) -> [u8; 512]
         requires { ShowsOwn self.old PartStep.WriteHeader }
         ensures places { places_at self.new.part.placing ≡ places_at self.old.part.placing }
+        ensures exact { self.new.part ≡ part_handed self.old.part }
         ensures out { (t : Terms) (o : WrittenPart) (asked : List Task) (slots : List Slot) → IsPartOwn t self.old o asked slots →
             HandsOut t self.new o asked slots (WriteCopies result (places_at self.old.part.placing)) }
     {
@@ -144,7 +170,8 @@ impl PartOwn {
         requires member { slice_get (asks_in self.old.part) n ≡ Some ForMember }
         requires out { slice_get (slots_of self.old.part) n ≡ Some (IsOut None) }
         requires valid { IfSome pointer (λ bp. IsTrue (valid bp)) }
-        ensures { (t : Terms) (o : WrittenPart) (asked : List Task) (slots : List Slot) → IsPartOwn t self.old o asked slots →
+        ensures exact { self.new.part ≡ member_told self.old.part (n - 2) pointer }
+        ensures told { (t : Terms) (o : WrittenPart) (asked : List Task) (slots : List Slot) → IsPartOwn t self.old o asked slots →
             IsPartOwn t self.new o asked (slice_set slots n (IsOut (Some pointer))) }
     {
         self.part.tell((n - 2) as usize, pointer);
@@ -154,8 +181,9 @@ impl PartOwn {
     pub fn hear_member(&mut self, n: u32, stored: StoredPart)
         requires member { slice_get (asks_in self.old.part) n ≡ Some ForMember }
         requires out { IsOutAs stored.pointer (slice_get (slots_of self.old.part) n) }
-        requires valid { IfSome stored.pointer (λ bp. IsTrue (valid bp)) }
-        ensures { (t : Terms) (o : WrittenPart) (asked : List Task) (slots : List Slot) → IsPartOwn t self.old o asked slots →
+        requires valid { slice_get (slots_of self.old.part) n ≡ Some (IsOut None) → IfSome stored.pointer (λ bp. IsTrue (valid bp)) }
+        ensures exact { self.new.part ≡ member_heard self.old.part (n - 2) stored.error stored.pointer stored.heads }
+        ensures heard { (t : Terms) (o : WrittenPart) (asked : List Task) (slots : List Slot) → IsPartOwn t self.old o asked slots →
             IsPartOwn t self.new o asked (slice_set slots n (Heard (StoredAs (stored_as stored)))) }
     {
         self.part.hear_member((n - 2) as usize, stored.error, stored.pointer, stored.heads);
@@ -163,8 +191,9 @@ impl PartOwn {
 
     /// The body or the header was written.
     pub fn hear_written(&mut self, error: Option<Errno>)
-        requires { (n : ℕ) × (slice_get (asks_in self.old.part) n ≡ Some ForBytes) × (slice_get (slots_of self.old.part) n ≡ Some (IsOut None)) }
-        ensures { (n : ℕ) → slice_get (asks_in self.old.part) n ≡ Some ForBytes → (t : Terms) (o : WrittenPart) (asked : List Task) (slots : List Slot) →
+        requires { self.old.part.own ≡ OwnOut }
+        ensures exact { self.new.part ≡ own_heard self.old.part error }
+        ensures heard { (n : ℕ) → slice_get (asks_in self.old.part) n ≡ Some ForBytes → (t : Terms) (o : WrittenPart) (asked : List Task) (slots : List Slot) →
             IsPartOwn t self.old o asked slots → IsPartOwn t self.new o asked (slice_set slots n (Heard (Wrote error))) }
     {
         self.part.hear_written(error);
@@ -186,12 +215,21 @@ impl PartOwn {
         self.part.pointer()
     }
 
-    /// What it leaves, once it ended.
-    pub fn into_stored(self, alloc: Global) -> Result<StoredPart, NoMemory>
+    /// What it leaves, once it ended. Where memory is refused it comes back.
+    pub fn into_stored(self, alloc: Global) -> Result<StoredPart, OwnBack>
         requires { ShowsOwn self PartStep.End }
-        ensures { IfOk result (λ stored. (t : Terms) (o : WrittenPart) (asked : List Task) (slots : List Slot) → IsPartOwn t self o asked slots →
+        ensures valid { IfOk result (λ stored. IfSome stored.pointer (λ bp. IsTrue (valid bp))) }
+        ensures back { IfErr result (λ e. e.own ≡ self) }
+        ensures ended { IfOk result (λ stored. (t : Terms) (o : WrittenPart) (asked : List Task) (slots : List Slot) → IsPartOwn t self o asked slots →
             AllHeard slots × (left_behind_slots slots (part_plan t o) ≡ Ends (StoredAs (stored_as stored)))) }
     {
-        self.part.into_stored(alloc)
+        // Its clause says that the pointer is valid.
+        let _told = self.part.pointer();
+        match self.part.into_stored(alloc) {
+            Ok(stored) => Ok(stored),
+            Err(PartBack { part }) => Err(OwnBack {
+                own: PartOwn { part },
+            }),
+        }
     }
 }

@@ -19,12 +19,15 @@ ghost use Rattle.zio_frames.specs.Seats.{IsSeated, asked_at};
 ghost use Rattle.zio_stages.specs.KidTrees.{IsLeft};
 ghost use Rattle.zio_stages.specs.NodeChildren.{is_owing};
 ghost use Rattle.zio_stages.specs.RequestNodes.{Closes, HandsKid, IsKidAt, IsRequestNode, IsSeatOf, OwnEnds, own_got};
+ghost use Rattle.zio_stages.specs.RequestStoreds.{is_well, keeps_block, own_in};
 ghost use Rattle.zio_stages.specs.declared.waiting.Waiting.{Waiting as SeenWaiting};
 ghost use Rattle.zio_stages.specs.Wholes.{IsTreeOf, root_number, root_of};
 
 use crate::attempted::{AgainBack, RequestKids, WholeBack};
 use crate::family::{Family, Seat};
 use crate::label::{Label, Level};
+use crate::own_write::OwnWrite;
+use crate::stored_block::StoredBlock;
 use crate::waiting::Waiting;
 use crate::whole::Whole;
 use std::alloc::Global;
@@ -40,6 +43,12 @@ use zio_types::{Bits, ChildKind, Errno, List, NoMemory, Path, ReqNo, Role, worst
 pub(crate) enum Own {
     /// Nothing of it is asked.
     Due,
+    /// The block of a write is written.
+    Write(OwnWrite),
+    /// It was.
+    Stored(StoredBlock),
+    /// All of it ended, and what it came to is elsewhere.
+    Over,
 }
 
 /// A request in an attempt.
@@ -118,8 +127,8 @@ pub struct NodeBack {
 /// The same, with what its own work came to.
 #[derive(Drop)]
 pub(crate) struct CloseBack {
-    node: RequestNode,
-    own: OwnFound,
+    pub(crate) node: RequestNode,
+    pub(crate) own: OwnFound,
 }
 
 impl RequestNode {
@@ -222,6 +231,8 @@ impl RequestNode {
         requires { list_all is_ended self.kids.kids.kids ≡ true }
         ensures closes { IfOk result (λ closed. (t : Terms) (st : Stack) (h : IsRequestNode t self st) → OwnEnds t self st (own_got own) h →
             Closes t self st h closed) }
+        ensures decides { IfOk result (λ closed. keeps_block closed ≡ is_well self own.error) }
+        ensures kept { IfOk result (λ closed. own_in closed ≡ own) }
         ensures back { IfErr result (λ e. (e.node ≡ self) × (e.own ≡ own)) }
     {
         let bits = self.bits(own.error);
@@ -261,7 +272,7 @@ impl RequestNode {
     }
 
     /// All bits of the request, where its own work came to this error.
-    fn bits(&self, error: Option<Errno>) -> Bits
+    pub(crate) fn bits(&self, error: Option<Errno>) -> Bits
         requires { list_all is_ended self.now.kids.kids.kids ≡ true }
         ensures { result ≡ all_bits (kind_of self.now.waiting.request.work) error self.now.waiting.request.canfail self.now.failmode
             (bits_of (returns_in self.now.kids.kids)) }

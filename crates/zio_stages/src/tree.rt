@@ -1,13 +1,13 @@
 // The read of a block, as a part of what a request does itself.
 
-ghost use Rattle.std.specs.Prelude.{◌≡◌, ◌<◌, IfOk, List, None, OnErr, OnOk, Some, [], length, slice_get, slice_set};
+ghost use Rattle.std.specs.Prelude.{◌≡◌, ◌+◌, ◌<◌, IfOk, List, None, OnErr, OnOk, Some, [], length, slice_get, slice_set};
 ghost use Rattle.zio_gang.specs.declared.tree.Tree.{Tree};
 ghost use Rattle.zio_trace.specs.Plans.{plan_tree};
 ghost use Rattle.zio_trace.specs.Programs.{Ends};
 ghost use Rattle.zio_trace.specs.Tasks.{Got, Task, Walked as Left, WalkedBy};
 ghost use Rattle.zio_frames.specs.Slots.{AllHeard, Heard, IsOut, Slot, left_behind_slots, told_in};
 ghost use Rattle.zio_parts.specs.TreeReads.{ShowsRead};
-ghost use Rattle.zio_stages.specs.TreeWorks.{HandsRead, IsTreeWork, body_task, heads_task, slots_with};
+ghost use Rattle.zio_stages.specs.TreeWorks.{HandsRead, IsTreeWork, WalksRead, body_task, heads_task, slots_with};
 
 use std::alloc::Global;
 use zio_blkptr::Bp;
@@ -46,9 +46,19 @@ impl TreeWork {
         self.read.hand_out_walk();
     }
 
+    /// The walk over the headers is made at once, and left this.
+    pub fn walk_at_once(&mut self, walked: Walked)
+        requires { ShowsRead self.old.read TreeStep.Walk }
+        ensures { (tree : Tree) (asked : List Task) (slots : List Slot) → IsTreeWork self.old tree asked slots → WalksRead self.new tree asked slots walked }
+    {
+        self.read.hand_out_walk();
+        self.read.hear_walk(walked);
+    }
+
     /// The read of this body is out. Where memory is refused nothing is.
     pub fn hand_out_body(&mut self, body: BodyRead) -> Result<(), NoMemory>
         requires { ShowsRead self.old.read (TreeStep.Body body) }
+        ensures there { OnOk result ((left : Left) → slice_get (slots_with left self.new.read) (body.n + 1) ≡ Some (IsOut None)) }
         ensures out { OnOk result ((tree : Tree) (asked : List Task) (slots : List Slot) → IsTreeWork self.old tree asked slots → HandsRead self.new tree asked slots (body_task body.bp)) }
         ensures err { OnErr result (self.new ≡ self.old) }
     {

@@ -1,11 +1,11 @@
 use Rattle.std.proofs.Common.{◌^◌, ◌*◌, ◌-◌, ◌≤◌, ◌++◌, ◌∷◌, [], ◌∙◌, sym, ap, subst, length}
-use Rattle.zio_parts.specs.Parts.{fresh_part, member_bytes}
+use Rattle.zio_parts.specs.Parts.{PartWriting, fresh_part, member_bytes}
 use Rattle.zio_stages.specs.declared.part.PartOwn.{PartOwn}
 use Rattle.zio_stages.proofs.PartOwnMoves.{member_handed}
 use Rattle.zio_stages.proofs.part.PartOwn.hand_out_member.Goals as goal
 
-pub returns : goal.returns
-returns c = λ t o asked slots h same.
+pub returns-clause-handed : goal.returns-clause-handed
+returns-clause-handed c = λ t o asked slots h same.
     let old = c.args.self.now in
     let n = c.args.n in
     let now : PartOwn = record { part = c.hand_out.new.self } in
@@ -13,3 +13,9 @@ returns c = λ t o asked slots h same.
     member_handed t old now child o asked slots n c.requires.next h c.hand_out.ensures.handed c.hand_out.ensures.slots
     (c.member-part.ensures.fresh ∙ ap (λ bytes. fresh_part old.part.write (old.part.path ++ n ∷ []) (member_bytes bytes n)) (sym same))
     (subst (λ bytes. length (member_bytes bytes n) ≤ 512 * 3 ^ (7 - length old.part.path)) (sym same) c.member-part.ensures.deep)
+
+pub returns-clause-size : goal.returns-clause-size
+returns-clause-size c = ap (λ (x : PartWriting). x.size) c.member-part.ensures.fresh
+
+pub returns-clause-fresh : goal.returns-clause-fresh
+returns-clause-fresh c = (ap (λ (x : PartWriting). x.placing) c.member-part.ensures.fresh, ap (λ (x : PartWriting). x.own) c.member-part.ensures.fresh)

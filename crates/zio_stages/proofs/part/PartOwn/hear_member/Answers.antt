@@ -1,6 +1,6 @@
 use Rattle.std.proofs.Common.{◌-◌, refl}
 use Rattle.zio_stages.specs.declared.part.PartOwn.{PartOwn}
-use Rattle.zio_stages.proofs.PartAsksLemmas.{MemberIs, member_is_out}
+use Rattle.zio_stages.proofs.PartAsksLemmas.{MemberIs, member_is_out, untold_slot}
 use Rattle.zio_stages.proofs.PartOwnMoves.{member_ended}
 use Rattle.zio_stages.proofs.part.PartOwn.hear_member.Goals as goal
 
@@ -10,8 +10,13 @@ hear_member-requires-clause-out c =
     let is : MemberIs x c.args.stored.pointer c.args.n = member_is_out x.placing x c.args.stored.pointer c.args.n c.requires.member c.requires.out in
     is.out
 
-pub returns : goal.returns
-returns c = λ t o asked slots h.
+pub hear_member-requires-clause-valid : goal.hear_member-requires-clause-valid
+hear_member-requires-clause-valid c = λ out.
+    let x = c.args.self.now.part in
+    c.requires.valid (untold_slot x.placing x c.args.n c.requires.member out)
+
+pub returns-clause-heard : goal.returns-clause-heard
+returns-clause-heard c = λ t o asked slots h.
     let old = c.args.self.now in
     let s = c.args.stored in
     let now : PartOwn = record { part = c.hear_member.new.self } in

@@ -10,8 +10,8 @@ tell-requires-clause-out c =
     let x = c.args.self.now.part in
     member_untold x.placing x c.args.n c.requires.member c.requires.out
 
-pub returns : goal.returns
-returns c = λ t o asked slots h.
+pub returns-clause-told : goal.returns-clause-told
+returns-clause-told c = λ t o asked slots h.
     let old = c.args.self.now in
     let now : PartOwn = record { part = c.tell.new.self } in
     let is : MemberIs old.part None c.args.n = member_is_out old.part.placing old.part None c.args.n c.requires.member (subst (IsOutAs None) (sym c.requires.out) tt) in

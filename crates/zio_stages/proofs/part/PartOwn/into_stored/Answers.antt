@@ -1,17 +1,24 @@
-use Rattle.std.proofs.Common.{◌≡◌, List}
+use Rattle.std.proofs.Common.{◌≡◌, List, Option, sym, subst, ◌∙◌}
+use Rattle.std.specs.Prelude.{IfSome, IsTrue}
+use Rattle.zio_blkptr.specs.declared.pointer.Bp.{Bp}
+use Rattle.zio_blkptr.specs.Pointers.{valid}
 use Rattle.zio_gang.specs.Attempts.{Terms}
 use Rattle.zio_trace.specs.Programs.{Ends}
 use Rattle.zio_trace.specs.Tasks.{Stored, StoredAs, Task}
 use Rattle.zio_frames.specs.Slots.{AllHeard, Slot, left_behind_slots}
 use Rattle.zio_parts.specs.Parts.{stored_by}
 use Rattle.zio_stages.specs.PartOwns.{IsPartOwn, WrittenPart, part_plan}
-use Rattle.zio_stages.proofs.PartOwnMoves.{left_behind, own_ended}
+use Rattle.zio_stages.proofs.PartOwnMoves.{left_behind_of, own_ended}
 use Rattle.zio_stages.proofs.part.PartOwn.into_stored.Goals as goal
 
-pub returns : goal.returns
-returns c =
+pub returns-in-Ok-clause-ended : goal.returns-in-Ok-clause-ended
+returns-in-Ok-clause-ended c =
     let w = c.args.self in
     let Left : Stored → Type 0 = λ x. (t : Terms) (o : WrittenPart) (asked : List Task) (slots : List Slot) → IsPartOwn t w o asked slots →
     AllHeard slots × (left_behind_slots slots (part_plan t o) ≡ Ends (StoredAs x)) in
-    left_behind (stored_by w.part) c.into_stored.result Left (λ t o asked slots h. own_ended t w o asked slots c.requires h)
-    c.into_stored.ensures.error c.into_stored.ensures.pointer c.into_stored.ensures.heads
+    left_behind_of (stored_by w.part) c.in-Ok.stored Left (λ t o asked slots h. own_ended t w o asked slots c.requires h)
+    c.in-Ok.ensures.error c.in-Ok.ensures.pointer c.in-Ok.ensures.heads
+
+pub returns-in-Ok-clause-valid : goal.returns-in-Ok-clause-valid
+returns-in-Ok-clause-valid c =
+    subst (λ (p : Option Bp). IfSome p (λ bp. IsTrue (valid bp))) (c.pointer-told.ensures.stored ∙ sym c.in-Ok.ensures.pointer) c.pointer-told.ensures.valid

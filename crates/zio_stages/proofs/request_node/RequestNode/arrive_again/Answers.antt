@@ -1,8 +1,10 @@
-use Rattle.std.proofs.Common.{◌≡◌, ◌<◌, ◌∙◌, length, slice_get, Some, None, refl, sym, ap, subst}
+use Rattle.std.proofs.Common.{◌≡◌, ◌<◌, length, slice_get, Some, None, sym, ap, subst}
 use Rattle.zio_trace.specs.Tasks.{AttemptedBy}
-use Rattle.zio_children.specs.RequestKids.{IsOutWith, KidsUnderWay, numbers_of, state_at}
+use Rattle.zio_children.specs.RequestKids.{IsOutWith, KidsUnderWay, numbers_of, pointers_of, state_at}
 use Rattle.zio_frames.specs.Moves.{child_ended}
 use Rattle.zio_frames.specs.Slots.{Heard}
+use Rattle.zio_stages.specs.WrittenBlocks.{HaveAllTold}
+use Rattle.zio_stages.proofs.KidPointerLemmas.{told_still}
 use Rattle.zio_stages.proofs.RequestHears.{heard_kid, kid_less, number_there, one_place, seat_is}
 use Rattle.zio_stages.proofs.request_node.RequestNode.arrive_again.Goals as goal
 
@@ -17,4 +19,5 @@ returns c = λ t st x p below one h there asked by left.
     let seat = seat_is r.family st.children c.args.child place x h.family c.place-place.ensures there in
     let number : slice_get (numbers_of r.kids.kids.kids) place ≡ Some p.request.number = number_there t r st place x p below h less seat asked in
     heard_kid t r c.hear_again.new.self c.end.new.self st c.args.child place x child_ended (Heard (AttemptedBy one)) h less c.place-place.ensures there
-    (c.hear_again.ensures.after r.attempt h.forest h.kid_asked h.kid_slots p.request.number one h.kids number by left) (ap (λ (k : KidsUnderWay). k.kept) c.hear_again.ensures.kids) c.end.ensures
+    (c.hear_again.ensures.after r.attempt h.forest h.kid_asked h.kid_slots p.request.number one h.kids number by left) (ap (λ (k : KidsUnderWay). k.kept) c.hear_again.ensures.kids)
+    (λ told. subst (λ (y : KidsUnderWay). HaveAllTold y × (pointers_of y ≡ pointers_of r.kids.kids)) (sym c.hear_again.ensures.kids) (told_still r.kids.kids place c.args.bits None c.args.pointer told out)) c.end.ensures

@@ -1,7 +1,7 @@
 use Rattle.std.proofs.Common.{◌≡◌, None}
 use Rattle.zio_trace.specs.Tasks.{OwnGot}
 use Rattle.zio_trace.specs.Plans.{only}
-use Rattle.zio_stages.proofs.RequestEnds.{null_ends}
+use Rattle.zio_stages.proofs.NullEnds.{null_ends}
 use Rattle.zio_stages.proofs.request_node.RequestNode.close_null.Goals as goal
 
 pub returns-in-Ok-clause-closes : goal.returns-in-Ok-clause-closes

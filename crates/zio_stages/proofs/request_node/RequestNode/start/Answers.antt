@@ -1,4 +1,4 @@
-use Rattle.std.proofs.Common.{◌≡◌, ◌∷◌, ◌++◌, [], ◌∙◌, List, length, sym, ap, subst, ◌+◌}
+use Rattle.std.proofs.Common.{◌≡◌, ◌<◌, ◌∷◌, ◌++◌, [], ◌∙◌, List, length, sym, ap, subst}
 use Rattle.zio_types.specs.declared.request.ChildKind.TheVariants.{Logical}
 use Rattle.zio_children.specs.RequestKids.{KidsUnderWay}
 use Rattle.zio_frames.specs.Frames.{Child, OfOuter}
@@ -22,5 +22,6 @@ returns-clause-child c = λ number whole e t st seated h.
       sym same ∙ c.in_ok-number.ensures.number ∙ ap (λ (cs : List Child). length cs) h.family,
       subst (λ (ws : List Waiting). HandsKid t (with_kids r c.hand_out-whole.new.self c.add.new.self) ws st) tree
           (hands_kid t r c.hand_out-whole.new.self c.add.new.self c.hand_out-whole.result st h
+          (subst (λ n. n < length r.kids.kids.kids) c.in-Child.ensures.0 c.in-Child.ensures.1)
           (c.hand_out-whole.ensures.asks r.attempt h.forest h.kid_asked h.kid_slots h.kids) kept family),
     )

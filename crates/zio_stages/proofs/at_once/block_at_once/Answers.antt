@@ -1,0 +1,12 @@
+use Rattle.std.proofs.Common.{◌≡◌, [], ap, sym, ◌∙◌}
+use Rattle.std.proofs.lemmas.Result.{IfOk-weaker}
+use Rattle.zio_gang.specs.Trees.{header_levels_max}
+use Rattle.zio_trace.specs.Plans.{plan}
+use Rattle.zio_trace.specs.Tasks.{ByKept, ReadHeads}
+use Rattle.zio_stages.proofs.AtOnce.{if_some_then}
+use Rattle.zio_stages.proofs.at_once.block_at_once.Goals as goal
+
+pub returns : goal.returns
+returns c =
+    IfOk-weaker c.left_at_once.result _ _ (λ left h. if_some_then left _ _ (λ walked ends t heads.
+    ap (λ path. plan t (ReadHeads (ByKept heads) header_levels_max path c.args.bp)) (sym c.root.ensures) ∙ sym (c.kept-walk.ensures.left t heads) ∙ ends heads) h) c.left_at_once.ensures

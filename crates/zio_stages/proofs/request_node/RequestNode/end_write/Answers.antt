@@ -1,0 +1,24 @@
+use Rattle.std.proofs.Common.{sym, subst, ◌∙◌}
+use Rattle.zio_stages.specs.RequestNodes.{IsOwnOver}
+use Rattle.zio_stages.specs.RequestWrites.{IsEndOf}
+use Rattle.zio_stages.specs.declared.request_node.Own.{Own}
+use Rattle.zio_stages.proofs.RequestWriteLemmas.{stored_at, stored_over, write_in}
+use Rattle.zio_stages.proofs.request_node.RequestNode.end_write.Goals as goal
+
+pub into_stored-requires : goal.into_stored-requires
+into_stored-requires c = record { end = (subst IsEndOf (sym c.replace.ensures.value ∙ c.in-Write.is) c.requires).0 }
+
+pub returns-in-Ok-clause-ends : goal.returns-in-Ok-clause-ends
+returns-in-Ok-clause-ends c = λ t st h.
+    let r = c.args.self.now in
+    let is = sym c.replace.ensures.value ∙ c.in-Write.is in
+    let end = subst IsEndOf is c.requires in
+    let own = write_in t r st _ h is in
+    stored_at t r st _ c.of.result _ h own end.1 (c.in-Ok.ensures.ended t own.part h.own_asked h.own_slots own.is.own) c.of.ensures.own
+
+pub returns-in-Ok-clause-over : goal.returns-in-Ok-clause-over
+returns-in-Ok-clause-over c = λ tops over.
+    let is = sym c.replace.ensures.value ∙ c.in-Write.is in
+    let end = subst IsEndOf is c.requires in
+    let family = c.args.self.now.family in
+    (stored_over tops c.in-Write.field-0 family end.1 (subst (λ (o : Own). IsOwnOver tops o family) is over), c.of.ensures.going)

@@ -1,0 +1,302 @@
+//! The walk over a block's headers, or over a claim's, as a node: a gang child that works by children alone.
+//!
+//! A header is read by a child, and each member that it names is walked by another, which does the same one level down. So
+//! the headers of a level are read beside each other, and no node keeps more than its own.
+
+ghost use Rattle.std.specs.Prelude.{◌≡◌, ◌+◌, ◌<◌, ◌≤◌, IfErr, IfOk, IsTrue, List as Seq, Ok, OnErr, OnOk, length};
+ghost use Rattle.std.specs.List.{AllByRecursion};
+ghost use Rattle.zio_types.specs.declared.place.Top.{Top as SeenTop};
+ghost use Rattle.zio_types.specs.declared.request.ChildKind.TheVariants.{Gang};
+ghost use Rattle.zio_blkptr.specs.Pointers.{places_of, valid};
+ghost use Rattle.zio_gang.specs.Attempts.{Terms};
+ghost use Rattle.zio_trace.specs.Tasks.{ByClaim, ByKept, ReadHeads, Task, Value, WalkedBy};
+ghost use Rattle.zio_frames.specs.Frames.{Child, Stack, fresh_stack};
+ghost use Rattle.zio_frames.specs.Moves.{IsEnded, heard_of};
+ghost use Rattle.zio_parts.specs.HeadWalks.{ShowsWalk};
+ghost use Rattle.zio_stages.specs.CopiesNodes.{IsCopiesNode, IsCopiesOver};
+ghost use Rattle.zio_stages.specs.HeadsNodes.{
+  HearsBelow,
+  HearsHead,
+  HearsSomeBelow,
+  HearsSomeHead,
+  IsHeadOn,
+  IsHeadsNode,
+  IsHeadsOver,
+  IsStageOver,
+  IsWalkStage,
+  LiesOn,
+};
+ghost use Rattle.zio_stages.specs.HeadsWorks.{pointer_in, read_task};
+ghost use Rattle.zio_stages.specs.Outcomes.{ClaimsInside};
+ghost use Rattle.zio_stages.specs.OwnParts.{HandsTo};
+ghost use Rattle.zio_stages.specs.Tops.{AreTops};
+ghost use Rattle.zio_stages.specs.WriteIos.{AreIoPlaces};
+
+use crate::check::Check;
+use crate::copies_node::CopiesNode;
+use crate::family::{Family, Seat};
+use crate::heads::{HeadRead, HeadsWork};
+use crate::named::Named;
+use crate::pointer_places::places_of;
+use std::alloc::Global;
+use zio_blkptr::Bp;
+use zio_gang::Head;
+use zio_parts::{MemberWalk, WalkStep, Walked};
+use zio_types::{
+    Bytes, ChildKind, Errno, List, NoMemory, Path, Place, Prio, Role, SECTOR_SIZE, Top,
+};
+
+/// The walk over a block's headers, or over a claim's, from a pointer down.
+#[derive(Drop)]
+pub struct HeadsNode {
+    work: HeadsWork,
+    family: Family,
+    name: Named,
+    /// The class of the headers' reads.
+    prio: Prio,
+}
+
+/// What comes next of a walk.
+#[derive(Drop)]
+pub enum WalkStage {
+    /// This child reads its header.
+    Head(CopiesNode),
+    /// This child walks below a member.
+    Below(HeadsNode),
+    /// A gang child has to end first.
+    Wait,
+    /// The walk has ended.
+    On,
+}
+
+/// There is no memory for what the walk left.
+#[derive(Drop)]
+pub struct HeadsBack {
+    pub node: HeadsNode,
+}
+
+impl HeadsNode {
+    /// The walk of a block, of which these headers are kept. Without memory; its children's is from `alloc`.
+    pub fn kept(
+        alloc: Global,
+        levels: u32,
+        path: Path,
+        bp: Bp,
+        heads: List<Head>,
+        prio: Prio,
+        name: Named,
+    ) -> HeadsNode
+        requires depth { length path + levels ≤ 8 }
+        requires valid { IsTrue (valid bp) }
+        requires named { name.path ≡ path }
+        ensures fresh { (t : Terms) → IsHeadsNode t result (fresh_stack (ReadHeads (ByKept heads) levels path bp)) }
+        ensures over { (tops : Seq SeenTop) → LiesOn tops bp → AllByRecursion (IsHeadOn tops) heads → IsHeadsOver tops result }
+    {
+        HeadsNode {
+            work: HeadsWork::kept(alloc, levels, path, bp, heads),
+            family: Family::new(alloc),
+            name,
+            prio,
+        }
+    }
+
+    /// The walk of a claim.
+    pub fn claimed(
+        alloc: Global,
+        tops: &[Top],
+        levels: u32,
+        path: Path,
+        bp: Bp,
+        prio: Prio,
+        name: Named,
+    ) -> HeadsNode
+        requires depth { length path + levels ≤ 8 }
+        requires valid { IsTrue (valid bp) }
+        requires named { name.path ≡ path }
+        requires tops { AreTops tops.now }
+        ensures fresh { (t : Terms) → t.setting.tops ≡ tops.now →
+            IsHeadsNode t result (fresh_stack (ReadHeads ByClaim levels path bp)) }
+        ensures over { IsHeadsOver tops.now result }
+    {
+        HeadsNode {
+            work: HeadsWork::claimed(alloc, tops, levels, path, bp),
+            family: Family::new(alloc),
+            name,
+            prio,
+        }
+    }
+
+    /// Hands the read of the header, or the walk below the next member, to a child. Where memory is refused the node is as
+    /// before.
+    pub fn gang_assemble(&mut self, alloc: Global, tops: &[Top]) -> Result<WalkStage, NoMemory>
+        requires { IsHeadsOver tops.now self.old }
+        ensures stage { IfOk result (λ stage. (t : Terms) (st : Stack) → t.setting.tops ≡ tops.now → IsHeadsNode t self.old st →
+            IsWalkStage t self.new st stage) }
+        ensures wait { result ≡ Ok WalkStage.Wait → self.new ≡ self.old }
+        ensures on { result ≡ Ok WalkStage.On → (self.new ≡ self.old) × ShowsWalk self.new.work.walk WalkStep.End }
+        ensures over { IsHeadsOver tops.now self.new }
+        ensures child_over { IfOk result (IsStageOver tops.now) }
+        ensures err { OnErr result (self.new ≡ self.old) }
+    {
+        match self.work.next() {
+            WalkStep::ReadHead => {
+                let child = self.hand_out_head(alloc, tops)?;
+                Ok(WalkStage::Head(child))
+            }
+            WalkStep::Member(member) => {
+                let child = self.hand_out_below(alloc, tops, member)?;
+                Ok(WalkStage::Below(child))
+            }
+            WalkStep::Wait => Ok(WalkStage::Wait),
+            WalkStep::End => Ok(WalkStage::On),
+        }
+    }
+
+    /// Hands the read of the header to a child. Where memory is refused the node is as before.
+    fn hand_out_head(&mut self, alloc: Global, tops: &[Top]) -> Result<CopiesNode, NoMemory>
+        requires over { IsHeadsOver tops.now self.old }
+        requires step { ShowsWalk self.old.work.walk WalkStep.ReadHead }
+        ensures hands { IfOk result (λ child. (t : Terms) (st : Stack) → t.setting.tops ≡ tops.now → IsHeadsNode t self.old st →
+            HandsTo t Gang (λ op. IsCopiesNode t child (fresh_stack op)) (IsHeadsNode t self.new) st) }
+        ensures over { IsHeadsOver tops.now self.new }
+        ensures child_over { IfOk result (IsCopiesOver tops.now) }
+        ensures err { OnErr result (self.new ≡ self.old) }
+    {
+        let places = places_of(alloc, &self.work.pointer())?;
+        let name = self.name.at(self.name.path, Role::Head);
+        self.family
+            .add(ChildKind::Gang, Seat::Outer(0), name.part_label())?;
+        let read = self.work.hand_out_head();
+        Ok(reading(alloc, tops, read, places, self.prio, name))
+    }
+
+    /// Hands the walk below a member to a child. Where memory is refused the node is as before.
+    fn hand_out_below(
+        &mut self,
+        alloc: Global,
+        tops: &[Top],
+        member: MemberWalk,
+    ) -> Result<HeadsNode, NoMemory>
+        requires over { IsHeadsOver tops.now self.old }
+        requires step { ShowsWalk self.old.work.walk (WalkStep.Member member) }
+        ensures hands { IfOk result (λ child. (t : Terms) (st : Stack) → t.setting.tops ≡ tops.now → IsHeadsNode t self.old st →
+            HandsTo t Gang (λ op. IsHeadsNode t child (fresh_stack op)) (IsHeadsNode t self.new) st) }
+        ensures over { IsHeadsOver tops.now self.new }
+        ensures child_over { IfOk result (IsHeadsOver tops.now) }
+        ensures err { OnErr result (self.new ≡ self.old) }
+    {
+        let heads = self.work.heads_below(alloc, &member.path)?;
+        let name = self.name.at(member.path, Role::Body);
+        let seat = Seat::Outer(u32::from(member.n) + 1);
+        self.family.add(ChildKind::Gang, seat, name.part_label())?;
+        let work = self.work.hand_out_below(alloc, tops, member, heads);
+        Ok(HeadsNode {
+            work,
+            family: Family::new(alloc),
+            name,
+            prio: self.prio,
+        })
+    }
+
+    /// The child that reads the header ended: with the header's bytes, or with an error. Where memory is refused the node is
+    /// as before.
+    pub fn arrive_head(
+        &mut self,
+        alloc: Global,
+        tops: &[Top],
+        child: u32,
+        found: Result<Bytes, Errno>,
+    ) -> Result<(), NoMemory>
+        requires over { IsHeadsOver tops.now self.old }
+        requires awaited { HearsSomeHead tops.now self.old child found }
+        ensures heard { OnOk result ((t : Terms) (st : Stack) (c : Child) (op : Task) (v : Value) →
+            HearsHead t tops.now self.old st child c op v found → IsHeadsNode t self.new (heard_of st child c v)) }
+        ensures over { IsHeadsOver tops.now self.new }
+        ensures err { OnErr result (self.new ≡ self.old) }
+    {
+        self.work.hear_head(alloc, header_of(found))?;
+        self.family.end(child);
+        Ok(())
+    }
+
+    /// The child that walks below a member ended, and left this.
+    pub fn arrive_below(&mut self, tops: &[Top], child: u32, walked: Walked)
+        requires over { IsHeadsOver tops.now self.old }
+        requires awaited { HearsSomeBelow tops.now self.old child walked }
+        ensures heard { (t : Terms) (st : Stack) (c : Child) (op : Task) (v : Value) →
+            HearsBelow t tops.now self.old st child c op v walked → IsHeadsNode t self.new (heard_of st child c v) }
+        ensures over { IsHeadsOver tops.now self.new }
+    {
+        let n = self.family.seat(child).number();
+        self.work.hear_below(n, walked);
+        self.family.end(child);
+    }
+
+    /// What the walk left, where it ended. Where memory is refused the node comes back.
+    pub fn into_walked(self, alloc: Global) -> Result<Walked, HeadsBack>
+        requires { ShowsWalk self.work.walk WalkStep.End }
+        ensures walked { IfOk result (λ walked. (t : Terms) (st : Stack) → IsHeadsNode t self st →
+            IsEnded t st (WalkedBy walked) × ClaimsInside t st.outer.op walked) }
+        ensures back { IfErr result (λ e. e.node ≡ self) }
+    {
+        let HeadsNode {
+            work,
+            family,
+            name,
+            prio,
+        } = self;
+        match work.into_walked(alloc) {
+            Ok(walked) => Ok(walked),
+            Err(work) => {
+                let node = HeadsNode {
+                    work,
+                    family,
+                    name,
+                    prio,
+                };
+                Err(HeadsBack { node })
+            }
+        }
+    }
+}
+
+/// The node that reads a header at these places.
+fn reading(
+    alloc: Global,
+    tops: &[Top],
+    read: HeadRead,
+    places: List<Place>,
+    prio: Prio,
+    name: Named,
+) -> CopiesNode
+    requires io { AreIoPlaces tops.now places }
+    requires some { 0 < length places }
+    requires valid { IsTrue (valid (pointer_in read)) }
+    requires at { places ≡ places_of (pointer_in read) }
+    ensures fresh { (t : Terms) → t.setting.tops ≡ tops.now → IsCopiesNode t result (fresh_stack (read_task read)) }
+    ensures over { IsCopiesOver tops.now result }
+{
+    let len = SECTOR_SIZE as usize;
+    match read {
+        HeadRead::Kept { bytes, .. } => {
+            let check = Check::kept(bytes);
+            CopiesNode::new(alloc, tops, places, len, true, check, prio, name)
+        }
+        HeadRead::Claimed { bp } => {
+            let check = Check::claimed(bp);
+            CopiesNode::new(alloc, tops, places, len, false, check, prio, name)
+        }
+    }
+}
+
+/// What was read of a header, which has 512 bytes.
+fn header_of(found: Result<Bytes, Errno>) -> Result<[u8; 512], Errno>
+    requires { IfOk found (λ bytes. length bytes ≡ 512) }
+    ensures { result ≡ found }
+{
+    let bytes = found?;
+    match bytes.as_slice().first_chunk::<512>() {
+        Some(header) => Ok(*header),
+        None => unreachable!(),
+    }
+}

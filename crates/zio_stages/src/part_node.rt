@@ -1,0 +1,250 @@
+//! A gang's member that is written, as a node.
+
+ghost use Rattle.std.specs.Prelude.{◌≡◌, ◌∷◌, ◌*◌, ◌%◌, ◌+◌, ◌-◌, ◌^◌, ◌<◌, ◌≤◌, IfErr, IfOk, IfSome, IsTrue, List as Seq, None, OnErr, Ok, Option, Some, [], false, length, slice_get};
+ghost use Rattle.zio_types.specs.declared.place.Top.{Top as SeenTop};
+ghost use Rattle.zio_types.specs.declared.request.ChildKind.TheVariants.{Vdev};
+ghost use Rattle.zio_types.specs.declared.request.Phase.TheVariants.{Done, Ready};
+ghost use Rattle.zio_blkptr.specs.Pointers.{valid};
+ghost use Rattle.zio_gang.specs.Attempts.{Terms, writing_of};
+ghost use Rattle.zio_trace.specs.Leaves.{Answer, error_of};
+ghost use Rattle.zio_trace.specs.Tasks.{Got, StoredAs};
+ghost use Rattle.zio_frames.specs.Frames.{Child, Stack, fresh_stack};
+ghost use Rattle.zio_frames.specs.Moves.{IsEnded, WillHave, heard_early, heard_of};
+ghost use Rattle.zio_frames.specs.Seats.{IsSeated};
+ghost use Rattle.zio_parts.specs.Parts.{writing_by};
+ghost use Rattle.zio_parts.specs.PartWrites.{is_due, step_of};
+ghost use Rattle.zio_parts.specs.declared.parts.OwnWrite.TheVariants.{Due};
+ghost use Rattle.zio_parts.specs.declared.parts.Placing.TheVariants.{Body};
+ghost use Rattle.zio_stages.specs.LeafWorks.{IsDue};
+ghost use Rattle.zio_stages.specs.NodeChildren.{first_owing};
+ghost use Rattle.zio_stages.specs.NodeIos.{IsWriteDue, StartsBy};
+ghost use Rattle.zio_stages.specs.OwnParts.{DoesThen, IsOwed};
+ghost use Rattle.zio_stages.specs.PartNodes.{ComesTo, HearsEarlyAt, HearsValueAt, IsAllocatedOver, IsAnsweredBy, IsPartNode, IsPartNodeOver, IsStoredBy};
+ghost use Rattle.zio_stages.specs.PartOwns.{IsPartOwn, ShowsOwn, WrittenPart, part_task, stored_as};
+ghost use Rattle.zio_stages.specs.PartWorks.{HaveUnits, IsPlaced, IsWritten};
+ghost use Rattle.zio_stages.specs.SpaceCalls.{SpaceCall};
+ghost use Rattle.zio_stages.specs.Tops.{AreTops};
+
+use crate::family::Family;
+use crate::leaf::LeafWork;
+use crate::named::Named;
+use crate::node_io::IoNext;
+use crate::part::PartOwn;
+use crate::part_members::WorkBack;
+use crate::part_work::PartWork;
+use crate::request_node::{DoneStep, ReadyStep};
+use crate::services::Services;
+use std::alloc::Global;
+use zio_blkptr::{BLOCK_SIZE_MAX, Bp};
+use zio_parts::{BlockWrite, PartStep, StoredPart};
+use zio_types::{Bytes, ChildKind, Errno, NoMemory, Path, Prio, Role, Top};
+
+/// The write of a gang's member, which may become a gang itself.
+#[derive(Drop)]
+pub struct PartNode {
+    pub(crate) work: PartWork,
+    pub(crate) family: Family,
+    pub(crate) name: Named,
+}
+
+/// What a stage that asks for places comes to.
+#[derive(Drop)]
+pub enum Allocated {
+    /// The part is a gang, and this is its next member.
+    Member(PartNode),
+    /// Its places were asked for, and its members handed out.
+    Placed,
+}
+
+/// There is no memory for what the part leaves.
+#[derive(Drop)]
+pub struct PartNodeBack {
+    pub node: PartNode,
+}
+
+impl PartNode {
+    /// Nothing of it is done. Its children's memory is from `alloc`.
+    pub(crate) fn of(alloc: Global, own: PartOwn, bytes: Bytes, prio: Prio, name: Named) -> PartNode
+        requires size { length bytes ≡ own.part.size }
+        requires body { own.part.placing ≡ Body }
+        requires due { own.part.own ≡ Due }
+        ensures fresh { (t : Terms) (o : WrittenPart) → IsPartOwn t own o [] [] → o.bytes ≡ bytes → IsPartNode t result (fresh_stack (part_task o)) }
+        ensures over { (tops : Seq SeenTop) → IsPartNodeOver tops result }
+    {
+        PartNode {
+            work: PartWork {
+                own,
+                bytes,
+                io: None,
+                prio,
+                role: Role::Body,
+            },
+            family: Family::new(alloc),
+            name,
+        }
+    }
+
+    /// Nothing of it is done. The bytes are whole sectors, no more than so many levels of headers below the path can hold. Its
+    /// children's memory is from `alloc`.
+    pub fn new(
+        alloc: Global,
+        write: BlockWrite,
+        path: Path,
+        bytes: Bytes,
+        prio: Prio,
+        name: Named,
+    ) -> PartNode
+        requires some { 0 < length bytes }
+        requires whole { length bytes % 512 ≡ 0 }
+        requires most { length bytes ≤ BLOCK_SIZE_MAX }
+        requires deep { length bytes ≤ 512 * 3 ^ (8 - length path) }
+        requires one { 1 ≤ write.copies }
+        requires three { write.copies ≤ 3 }
+        requires born { 1 ≤ write.birth }
+        ensures fresh { (t : Terms) (o : WrittenPart) → writing_by t.setting write ≡ writing_of t o.attempt o.pending o.sum_kind o.copies →
+            o.path ≡ path → o.bytes ≡ bytes → length path + o.levels ≡ 8 → IsPartNode t result (fresh_stack (part_task o)) }
+        ensures over { (tops : Seq SeenTop) → IsPartNodeOver tops result }
+    {
+        let own = PartOwn::new(write, path, bytes.as_slice());
+        PartNode::of(alloc, own, bytes, prio, name)
+    }
+
+    /// Asks the space for the part's places, for a header's where these are refused, and hands out the gang's next member.
+    /// Where memory is refused what was done before stays.
+    pub fn dva_allocate<S: Services>(
+        &mut self,
+        alloc: Global,
+        services: &mut S,
+    ) -> Result<Allocated, NoMemory>
+        requires over { IsPartNodeOver (S.tops services.old) self.old }
+        requires tops { AreTops (S.tops services.old) }
+        requires units { HaveUnits (S.tops services.old) }
+        ensures does { (calls : Seq SpaceCall) × S.made services.old calls services.new ×
+            ((t : Terms) (st : Stack) → IsPartNode t self.old st → DoesThen t st calls (ComesTo t result (IsPartNode t self.new))) }
+        ensures over { IsPartNodeOver (S.tops services.old) self.new }
+        ensures tops { S.tops services.new ≡ S.tops services.old }
+        ensures child { IfOk result IsAllocatedOver }
+        ensures placed { result ≡ Ok Allocated.Placed → IsPlaced (step_of self.new.work.own.part) }
+    {
+        self.work
+            .dva_allocate(alloc, services, &mut self.family, &self.name, 0)
+    }
+
+    /// Whether it can tell its pointer, once its members were handed out.
+    pub fn ready(&self) -> ReadyStep
+        requires placed { IsPlaced (step_of self.now.work.own.part) }
+        requires none { self.now.work.io ≡ None }
+        ensures wait { (kind : ChildKind) → result ≡ ReadyStep.Wait kind → (t : Terms) (st : Stack) → IsSeated st → IsPartNode t self.now st →
+            IsOwed kind Ready st }
+        ensures tell { (pointer : Option Bp) → result ≡ ReadyStep.Tell pointer → (t : Terms) (st : Stack) → IsPartNode t self.now st →
+            WillHave t st.outer pointer }
+        ensures valid { (pointer : Option Bp) → result ≡ ReadyStep.Tell pointer → IfSome pointer (λ bp. IsTrue (valid bp)) }
+    {
+        self.work.ready()
+    }
+
+    /// The next operation on a leaf of its own write, which begins if it is due; none where none is due now. Where memory is
+    /// refused its own write may have begun.
+    pub fn vdev_io_start(
+        &mut self,
+        alloc: Global,
+        tops: &[Top],
+    ) -> Result<Option<LeafWork>, NoMemory>
+        requires over { IsPartNodeOver tops.now self.old }
+        ensures starts { IfOk result (λ leaf. (t : Terms) (st : Stack) → t.setting.tops ≡ tops.now → IsPartNode t self.old st →
+            DoesThen t st [] (λ mid. StartsBy t mid leaf (IsPartNode t self.new))) }
+        ensures err { OnErr result ((t : Terms) (st : Stack) → IsPartNode t self.old st → DoesThen t st [] (IsPartNode t self.new)) }
+        ensures over { IsPartNodeOver tops.now self.new }
+        ensures due { IfOk result (λ leaf. IfSome leaf IsDue) }
+    {
+        self.work
+            .vdev_io_start(&mut self.family, &self.name, alloc, tops)
+    }
+
+    /// What is to be done once no operation on a leaf is due.
+    pub fn vdev_io_done(&self, tops: &[Top]) -> IoNext
+        requires { IsPartNodeOver tops.now self.now }
+        ensures waits { result ≡ IoNext.Wait → (t : Terms) (st : Stack) → t.setting.tops ≡ tops.now → IsSeated st → IsPartNode t self.now st →
+            first_owing (Vdev ∷ []) Done st.children ≡ Some Vdev }
+        ensures due { result ≡ IoNext.On → IfSome self.now.work.io (IsWriteDue tops.now) }
+    {
+        self.work.vdev_io_done(&self.family, tops)
+    }
+
+    /// The second pass of its own write begins if it is due, and this is true; else that has ended.
+    pub fn vdev_io_assess(&mut self, tops: &[Top]) -> bool
+        requires over { IsPartNodeOver tops.now self.old }
+        requires due { IfSome self.old.work.io (IsWriteDue tops.now) }
+        ensures does { (t : Terms) (st : Stack) → t.setting.tops ≡ tops.now → IsPartNode t self.old st → DoesThen t st [] (IsPartNode t self.new) }
+        ensures over { IsPartNodeOver tops.now self.new }
+        ensures none { result ≡ false → self.new.work.io ≡ None }
+        ensures written { is_due self.old.work.own.part.own ≡ false → is_due self.new.work.own.part.own ≡ false }
+        ensures placing { self.new.work.own.part.placing ≡ self.old.work.own.part.placing }
+    {
+        self.work.vdev_io_assess(&self.family, tops)
+    }
+
+    /// Whether it has ended, once its own write has or it has no place.
+    pub fn done(&self) -> DoneStep
+        requires { IsWritten self.now.work }
+        ensures wait { (kind : ChildKind) → result ≡ DoneStep.Wait kind → (t : Terms) (st : Stack) → IsSeated st → IsPartNode t self.now st →
+            IsOwed kind Done st }
+        ensures close { result ≡ DoneStep.Close → ShowsOwn self.now.work.own PartStep.End }
+    {
+        self.work.done()
+    }
+
+    /// What it leaves, once it ended. Where memory is refused it comes back.
+    pub fn into_stored(self, alloc: Global) -> Result<StoredPart, PartNodeBack>
+        requires end { ShowsOwn self.work.own PartStep.End }
+        requires none { self.work.io ≡ None }
+        ensures ended { IfOk result (λ stored. (t : Terms) (st : Stack) → IsPartNode t self st → IsEnded t st (StoredAs (stored_as stored))) }
+        ensures back { IfErr result (λ e. e.node ≡ self) }
+    {
+        let PartNode { work, family, name } = self;
+        match work.into_stored(alloc) {
+            Ok(stored) => Ok(stored),
+            Err(WorkBack { work }) => Err(PartNodeBack {
+                node: PartNode { work, family, name },
+            }),
+        }
+    }
+
+    /// A member told which pointer it will have.
+    pub fn arrive_ready(&mut self, child: u32, pointer: Option<Bp>)
+        requires hears { HearsEarlyAt self.old child }
+        requires valid { IfSome pointer (λ bp. IsTrue (valid bp)) }
+        ensures told { (t : Terms) (st : Stack) (c : Child) → IsPartNode t self.old st → slice_get st.children child ≡ Some c →
+            IsPartNode t self.new (heard_early st child c pointer) }
+        ensures over { (tops : Seq SeenTop) → IsPartNodeOver tops self.old → IsPartNodeOver tops self.new }
+        ensures io { self.new.work.io ≡ self.old.work.io }
+        ensures own { self.new.work.own.part.own ≡ self.old.work.own.part.own }
+        ensures placing { self.new.work.own.part.placing ≡ self.old.work.own.part.placing }
+    {
+        self.work.arrive_ready(&mut self.family, 0, child, pointer);
+    }
+
+    /// A member ended.
+    pub fn arrive_stored(&mut self, child: u32, stored: StoredPart)
+        requires { HearsValueAt (IsStoredBy stored) self.old child }
+        ensures heard { (t : Terms) (st : Stack) (c : Child) → IsPartNode t self.old st → slice_get st.children child ≡ Some c →
+            IsPartNode t self.new (heard_of st child c (StoredAs (stored_as stored))) }
+        ensures over { (tops : Seq SeenTop) → IsPartNodeOver tops self.old → IsPartNodeOver tops self.new }
+        ensures io { self.new.work.io ≡ self.old.work.io }
+        ensures own { self.new.work.own.part.own ≡ self.old.work.own.part.own }
+        ensures placing { self.new.work.own.part.placing ≡ self.old.work.own.part.placing }
+    {
+        self.work.arrive_stored(&mut self.family, 0, child, stored);
+    }
+
+    /// A child of its own write has ended, with this error or none.
+    pub fn arrive_leaf(&mut self, child: u32, error: Option<Errno>)
+        requires over { (tops : Seq SeenTop) × IsPartNodeOver tops self.old }
+        requires hears { HearsValueAt (IsAnsweredBy error) self.old child }
+        ensures heard { (t : Terms) (st : Stack) (c : Child) (a : Answer) → error_of a ≡ error → slice_get st.children child ≡ Some c →
+            IsPartNode t self.old st → IsPartNode t self.new (heard_of st child c (Got a)) }
+        ensures over { (tops : Seq SeenTop) → IsPartNodeOver tops self.old → IsPartNodeOver tops self.new }
+    {
+        self.work.arrive_leaf(&mut self.family, child, error);
+    }
+}

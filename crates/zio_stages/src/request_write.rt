@@ -1,0 +1,126 @@
+//! A write in an attempt.
+//!
+//! A write's content begins with its children's pointers, so its own work waits until each of them told its own. Then its
+//! block is written as one part, behind the operations for the children.
+
+ghost use Rattle.std.specs.Prelude.{◌≡◌, ◌+◌, IfErr, IfOk, IfSome, IsTrue, List as Seq, Ok, OnErr, OnOk, Option, Some, length, false, true};
+ghost use Rattle.std.specs.List.{list_all};
+ghost use Rattle.zio_types.specs.declared.place.Top.{Top as SeenTop};
+ghost use Rattle.zio_types.specs.declared.request.Phase.TheVariants.{Done, Ready};
+ghost use Rattle.zio_blkptr.specs.Pointers.{valid};
+ghost use Rattle.zio_blkptr.specs.declared.pointer.Bp.{Bp};
+ghost use Rattle.zio_gang.specs.Attempts.{Terms};
+ghost use Rattle.zio_children.specs.RequestKids.{is_ended};
+ghost use Rattle.zio_frames.specs.Frames.{Stack};
+ghost use Rattle.zio_frames.specs.Moves.{WillHave};
+ghost use Rattle.zio_frames.specs.Seats.{IsSeated};
+ghost use Rattle.zio_stages.specs.KidPointers.{HaveValidPointers};
+ghost use Rattle.zio_stages.specs.OwnParts.{IsOwed};
+ghost use Rattle.zio_stages.specs.WrittenBlocks.{IsSoundWrite};
+ghost use Rattle.zio_stages.specs.RequestNodes.{IsOwnOver, IsRequestNode};
+ghost use Rattle.zio_stages.specs.RequestWrites.{IsEndOf, IsPlacedWrite, IsWrittenWrite};
+ghost use Rattle.zio_stages.specs.RequestStoreds.{IsStoredWith, given_by};
+ghost use Rattle.zio_stages.specs.StoredBlocks.{IsGoingBack};
+
+use crate::own_write::{OwnWrite, block_of};
+use crate::part_members::WorkBack;
+use crate::request_node::{DoneStep, Own, ReadyStep, RequestNode};
+use crate::stored_block::StoredBlock;
+use std::alloc::Global;
+use std::mem::replace;
+use zio_types::{ChildKind, NoMemory};
+
+/// Whether a write's content could be set.
+#[derive(Clone, Copy, Debug, PartialEq, Eq)]
+pub enum Content {
+    /// A child of this kind hasn't told its pointer.
+    Wait(ChildKind),
+    Set,
+}
+
+impl RequestNode {
+    /// Sets the content of a write whose children were all handed out, once each told its pointer. Where memory is refused all
+    /// is as before.
+    pub fn write_compress(&mut self, alloc: Global) -> Result<Content, NoMemory>
+        requires due { self.old.own ≡ Own.Due }
+        requires handed { self.old.kids.kids.handed ≡ length self.old.kids.kids.kids }
+        requires sound { IsSoundWrite (length self.old.kids.kids.kids + length self.old.kids.kids.kept) self.old.waiting }
+        requires valid { HaveValidPointers self.old.kids.kids }
+        ensures wait { (kind : ChildKind) → result ≡ Ok (Content.Wait kind) → (t : Terms) (st : Stack) → IsSeated st → IsRequestNode t self.old st →
+            IsOwed kind Ready st }
+        ensures waits { (kind : ChildKind) → result ≡ Ok (Content.Wait kind) → self.new ≡ self.old }
+        ensures set { result ≡ Ok Content.Set → (t : Terms) (st : Stack) → IsRequestNode t self.old st → IsRequestNode t self.new st }
+        ensures over { (tops : Seq SeenTop) → IsOwnOver tops self.old.own self.old.family → IsOwnOver tops self.new.own self.new.family }
+        ensures err { OnErr result (self.new ≡ self.old) }
+    {
+        let kids = self.kids.kids();
+        if !kids.all_told() {
+            return Ok(Content::Wait(ChildKind::Logical));
+        }
+        let front = self.kids.len();
+        if front > u32::MAX as usize {
+            return Err(NoMemory);
+        }
+        let work = block_of(alloc, &self.waiting, kids, self.round, self.attempt)?;
+        self.own = Own::Write(OwnWrite {
+            work,
+            front: front as u32,
+        });
+        Ok(Content::Set)
+    }
+
+    /// Whether a write can tell its pointer, once its block's places were asked for and its members handed out.
+    pub fn ready_write(&self) -> ReadyStep
+        requires { IsPlacedWrite self.now.own }
+        ensures wait { (kind : ChildKind) → result ≡ ReadyStep.Wait kind → (t : Terms) (st : Stack) → IsSeated st → IsRequestNode t self.now st →
+            IsOwed kind Ready st }
+        ensures tell { (pointer : Option Bp) → result ≡ ReadyStep.Tell pointer → (t : Terms) (st : Stack) → IsRequestNode t self.now st →
+            WillHave t st.outer pointer }
+        ensures valid { (pointer : Option Bp) → result ≡ ReadyStep.Tell pointer → IfSome pointer (λ bp. IsTrue (valid bp)) }
+    {
+        let Own::Write(own) = &self.own else {
+            unreachable!()
+        };
+        own.work.ready()
+    }
+
+    /// Whether all that a write asked has ended, once the copies of its block or its header have.
+    pub fn done_write(&self) -> DoneStep
+        requires { IsWrittenWrite self.now.own }
+        ensures wait { (kind : ChildKind) → result ≡ DoneStep.Wait kind → (t : Terms) (st : Stack) → IsSeated st → IsRequestNode t self.now st →
+            self.now.kids.kids.handed ≡ length self.now.kids.kids.kids → IsOwed kind Done st }
+        ensures close { result ≡ DoneStep.Close → IsEndOf self.now.own × (list_all is_ended self.now.kids.kids.kids ≡ true) }
+    {
+        let Own::Write(own) = &self.own else {
+            unreachable!()
+        };
+        match own.work.done() {
+            DoneStep::Wait(kind) => DoneStep::Wait(kind),
+            DoneStep::Close => self.done_null(),
+        }
+    }
+
+    /// What the write of its block came to takes the place of that. Where memory is refused all is as before.
+    pub fn end_write(&mut self, alloc: Global) -> Result<(), NoMemory>
+        requires { IsEndOf self.old.own }
+        ensures ends { OnOk result ((t : Terms) (st : Stack) → IsRequestNode t self.old st → IsRequestNode t self.new st) }
+        ensures stored { OnOk result (IsStoredWith IsGoingBack self.new.own) }
+        ensures none { OnOk result (given_by self.new.own ≡ 0) }
+        ensures over { OnOk result ((tops : Seq SeenTop) → IsOwnOver tops self.old.own self.old.family → IsOwnOver tops self.new.own self.new.family) }
+        ensures err { OnErr result (self.new ≡ self.old) }
+    {
+        match replace(&mut self.own, Own::Over) {
+            Own::Write(OwnWrite { work, front }) => match work.into_stored(alloc) {
+                Ok(stored) => {
+                    self.own = Own::Stored(StoredBlock::of(alloc, stored));
+                    Ok(())
+                }
+                Err(WorkBack { work }) => {
+                    self.own = Own::Write(OwnWrite { work, front });
+                    Err(NoMemory)
+                }
+            },
+            Own::Due | Own::Stored(_) | Own::Over => unreachable!(),
+        }
+    }
+}

@@ -18,7 +18,7 @@ use Rattle.zio_graph.proofs.Lives.{Fronted, first_at, other_at, to_front}
 use Rattle.zio_graph.proofs.MoveOne.{more_some}
 use Rattle.zio_graph.proofs.Seated.{place_longer}
 
-module _ {N : Type 0} (nodes : Nodes N) (t : Terms) (sizes : ℕ → ℕ) (f : Forest) (before : Images) (trees : List Slot)
+module _ {N : Type 0} (nodes : Nodes N) (t : Terms) (sizes : ℕ → ℕ) (f : Forest) (before : Option Images) (trees : List Slot)
     (tops : List (Option Flying))
     (shelf : Shelf N) (queue leaves : List ℕ) (s : State) where
   pub node_found : (lives : List Live) (key : ℕ) (h : Held N)

@@ -50,7 +50,7 @@ two_back tops x y xs =
 map_flying : (xs ys : List Live) → IsPermutation xs ys → IsPermutation (map flying_of xs) (map flying_of ys)
 map_flying xs ys p = IsPermutation-map flying_of xs ys p
 
-module _ (t : Terms) (sizes : ℕ → ℕ) (f : Forest) (before : Images) (trees : List Slot) where
+module _ (t : Terms) (sizes : ℕ → ℕ) (f : Forest) (before : Option Images) (trees : List Slot) where
   -- the nodes in another order
   pub later_as : (xs ys : List Flying) (entries : List Choice) (images : Images)
       → Later t sizes f before trees xs entries images

@@ -38,7 +38,7 @@ owes_end c e = by c.ended e
     by true e = absurd (cc)
     by false e = refl
 
-module _ {N : Type 0} (nodes : Nodes N) (t : Terms) (sizes : ℕ → ℕ) (f : Forest) (before : Images) (trees : List Slot)
+module _ {N : Type 0} (nodes : Nodes N) (t : Terms) (sizes : ℕ → ℕ) (f : Forest) (before : Option Images) (trees : List Slot)
     (tops : List (Option Flying))
     (shelf : Shelf N) (queue leaves : List ℕ) (s : State) where
   -- its value fits what it told, and the parent has it
@@ -66,14 +66,14 @@ module _ {N : Type 0} (nodes : Nodes N) (t : Terms) (sizes : ℕ → ℕ) (f : F
   KeptTwo key above x q others =
       IsKept {N = N} nodes t sizes f before trees tops (live_of key x ∷ live_of above q ∷ others) shelf queue leaves s
 
-  two_running : (key above : ℕ) (x q : Flying) (others : List Live) → KeptTwo key above x q others
+  pub two_running : (key above : ℕ) (x q : Flying) (others : List Live) → KeptTwo key above x q others
       → Later t sizes f before trees (x ∷ q ∷ all_flying tops others) s.entries s.images
   two_running key above x q others k =
       running_as t sizes f before trees (all_flying tops (live_of key x ∷ live_of above q ∷ others))
       (x ∷ q ∷ all_flying tops others) s k.running
       (two_forward tops (live_of key x) (live_of above q) others)
 
-  two_child : (key above : ℕ) (x q : Flying) (others : List Live) (h : Held N) (n : ℕ) (c : Child)
+  pub two_child : (key above : ℕ) (x q : Flying) (others : List Live) (h : Held N) (n : ℕ) (c : Child)
       → KeptTwo key above x q others
       → shelf key ≡ Some h → h.parent ≡ OfNode above n → slice_get q.stack.children n ≡ Some c
       → IsChild h.kind (nodes.told h.node) x.at q n c

@@ -34,13 +34,13 @@ use Rattle.zio_graph.proofs.Tops.{stand_at, stand_ended, stand_moved, with_top}
 zero_more : (n : ℕ) → 0 + n ≡ n
 zero_more n = omega arith
 
-module _ {N : Type 0} (nodes : Nodes N) (t : Terms) (sizes : ℕ → ℕ) (f : Forest) (before : Images) (trees : List Slot)
+module _ {N : Type 0} (nodes : Nodes N) (t : Terms) (sizes : ℕ → ℕ) (f : Forest) (before : Option Images) (trees : List Slot)
     (tops : List (Option Flying))
     (shelf : Shelf N) (queue leaves : List ℕ) (s : State) where
   abbrev KeptOne : ℕ → Flying → List Live → Type 0
   KeptOne key x others = IsKept {N = N} nodes t sizes f before trees tops (live_of key x ∷ others) shelf queue leaves s
 
-  tree_child : (key tree : ℕ) (x q : Flying) (others : List Live) (h : Held N) (n : ℕ) (c : Child) → KeptOne key x others
+  pub tree_child : (key tree : ℕ) (x q : Flying) (others : List Live) (h : Held N) (n : ℕ) (c : Child) → KeptOne key x others
       → shelf key ≡ Some h → h.parent ≡ OfTree tree n → top_at tops tree ≡ Some q → slice_get q.stack.children n ≡ Some c
       → IsChild h.kind (nodes.told h.node) x.at q n c
   tree_child key tree x q others h n c k e parent eq there =
@@ -49,7 +49,7 @@ module _ {N : Type 0} (nodes : Nodes N) (t : Terms) (sizes : ℕ → ℕ) (f : F
       child_is h.kind (nodes.told h.node) x.at q n c
       (does_here a.tops a.lives h.kind (nodes.told h.node) x.at h.parent (OfTree tree n) q was.parent parent eq) there
 
-  tree_running : (key tree : ℕ) (x q : Flying) (others : List Live) → KeptOne key x others → top_at tops tree ≡ Some q
+  pub tree_running : (key tree : ℕ) (x q : Flying) (others : List Live) → KeptOne key x others → top_at tops tree ≡ Some q
       → Later t sizes f before trees (x ∷ q ∷ all_flying (slice_set tops tree None) others) s.entries s.images
   tree_running key tree x q others k eq =
       let gone : List (Option Flying) = slice_set tops tree None in

@@ -1,31 +1,37 @@
 -- A round begins; a node of an engine, or a tree, hands out an operation.
-use Rattle.std.proofs.Common.{◌≡◌, ◌≢◌, ℕ, zero, suc, ◌<◌, List, [], ◌∷◌, length, map, slice_get, slice_set, false, Option, Some, None, IsPermutation, refl, sym, ap, ◌∙◌, subst, append-nil}
+use Rattle.std.proofs.Common.{◌≡◌, ◌≢◌, ℕ, zero, suc, ◌<◌, List, [], ◌∷◌, ◌++◌, length, map, slice_get, slice_set, false, Option, Some, None, IfSome, IsPermutation, refl, sym, ap, ◌∙◌, subst, append-nil}
 use Rattle.std.proofs.lemmas.List.Sorted.{IsPermutation-cons, IsPermutation-trans, IsPermutation-append_left}
+use Rattle.std.specs.List.{AllByRecursion}
+use Rattle.zio_types.specs.Choices.{Choice}
 use Rattle.zio_types.specs.declared.request.Phase.TheVariants.{Ready}
 use Rattle.zio_counts.specs.Tallies.{count_end, counted}
 use Rattle.zio_cksum.specs.Images.{Images}
 use Rattle.zio_gang.specs.Attempts.{Terms}
+use Rattle.zio_gang.specs.Journals.{AreLawful}
+use Rattle.zio_gang.specs.Trees.{sizes_of}
 use Rattle.zio_trace.specs.Conflicts.{is_single}
 use Rattle.zio_trace.specs.Families.{Forest}
 use Rattle.zio_trace.specs.Rounds.{settles}
 use Rattle.zio_trace.specs.SoundRounds.{IsSoundRound}
 use Rattle.zio_trace.specs.Tasks.{Task}
 use Rattle.zio_trace.specs.Underway.{State}
-use Rattle.zio_frames.specs.Frames.{Child, Flying, asking, fresh_stack, kind_of_task, needs_none}
-use Rattle.zio_frames.specs.Moves.{AsksNext, handed}
+use Rattle.zio_frames.specs.Frames.{Child, Flying, Stack, asking, fresh_stack, kind_of_task, needs_none}
+use Rattle.zio_frames.specs.Moves.{AsksNext, Did, DoesAll, choices_of, handed}
 use Rattle.zio_frames.specs.Running.{Later, all_out, settling_from}
 use Rattle.zio_frames.specs.Slots.{Slot}
 use Rattle.zio_frames.proofs.MoveItself.{hand_node}
 use Rattle.zio_frames.proofs.MoveTrees.{round_begins}
-use Rattle.zio_graph.specs.Engine.{IsKept, StillKept}
-use Rattle.zio_graph.specs.Entries.{AreWith, Held, IsWith, Live, OfNode, OfTree, OneMore, Shelf, all_tops, flying_at, flying_of, grown, handed_on, live_of, new_flying, new_held, standing, top_at}
+use Rattle.zio_graph.specs.Engine.{IsKept, IsRight, StillKept}
+use Rattle.zio_graph.specs.Entries.{AreWith, Held, IsWith, Live, OfNode, OfTree, OneMore, Shelf, all_tops, flying_at, flying_of, grown, handed_on, live_of, new_flying, new_held, standing, top_at, with_stack}
 use Rattle.zio_graph.specs.Parts.{Nodes}
+use Rattle.zio_graph.proofs.DoesLemmas.{does_all, same_children}
 use Rattle.zio_graph.proofs.Kept.{all_flying, kept_now, later_as, one_back, running_as, two_back, world}
 use Rattle.zio_graph.proofs.Links.{Linked, World, free_there}
 use Rattle.zio_graph.proofs.LinksBegin.{tree_grows}
 use Rattle.zio_graph.proofs.LinksGrow.{node_grows}
 use Rattle.zio_graph.proofs.Lives.{first_at, other_at, with_first_more, with_more}
 use Rattle.zio_graph.proofs.MoveOne.{queued_now, running_first}
+use Rattle.zio_graph.proofs.Seated.{keeps_with}
 use Rattle.zio_graph.proofs.Tops.{stand_first, stand_moved, standing_all, standing_in, standing_out, with_top}
 
 -- ---- the round begins
@@ -43,7 +49,7 @@ fresh_tops k (q ∷ qs) (suc n) top m c e is = fresh_tops (suc k) qs n top m c e
 abbrev pub no_shelf : {N : Type 0} → Shelf N
 no_shelf key = None
 
-module _ {N : Type 0} (nodes : Nodes N) (t : Terms) (sizes : ℕ → ℕ) (f : Forest) (before : Images) where
+module _ {N : Type 0} (nodes : Nodes N) (t : Terms) (sizes : ℕ → ℕ) (f : Forest) (before : Option Images) where
   linked_first : Linked nodes t (world {N = N} (all_tops (settling_from 0 (settles f))) [] (no_shelf {N = N}) [] [])
   linked_first = record {
     each = λ key. (refl, refl);
@@ -54,21 +60,21 @@ module _ {N : Type 0} (nodes : Nodes N) (t : Terms) (sizes : ℕ → ℕ) (f : F
       clash : (h : Held N) → None ≡ Some h → ⊥
       clash h e = cc
 
-  pub all_begins : IsSoundRound t sizes f
+  pub all_begins : (images : Images) → IsSoundRound t sizes f → IfSome before (λ (b : Images). b ≡ images)
       → StillKept {N = N} nodes t sizes f before (all_out (settles f)) (all_tops (settling_from 0 (settles f))) []
-      (no_shelf {N = N}) [] [] [] before
-  all_begins sound =
+      (no_shelf {N = N}) [] [] [] images
+  all_begins images sound is =
       let nodes_are : settling_from 0 (settles f) ≡ all_flying (all_tops (settling_from 0 (settles f))) [] =
       sym (append-nil (standing (all_tops (settling_from 0 (settles f)))) ∙ standing_all (settling_from 0 (settles f))) in
       kept_now t sizes f before (all_out (settles f)) nodes (all_tops (settling_from 0 (settles f))) []
-      (no_shelf {N = N}) [] [] [] before
-      (subst (λ (xs : List Flying). Later t sizes f before (all_out (settles f)) xs [] before) nodes_are
-      (round_begins t sizes f before sound))
+      (no_shelf {N = N}) [] [] [] images
+      (subst (λ (xs : List Flying). Later t sizes f before (all_out (settles f)) xs [] images) nodes_are
+      (round_begins t sizes f before images sound is))
       (stand_first 0 (settles f)) tt linked_first
 
 -- ---- one more
 
-module _ {N : Type 0} (nodes : Nodes N) (t : Terms) (sizes : ℕ → ℕ) (f : Forest) (before : Images) (trees : List Slot)
+module _ {N : Type 0} (nodes : Nodes N) (t : Terms) (sizes : ℕ → ℕ) (f : Forest) (before : Option Images) (trees : List Slot)
     (tops : List (Option Flying))
     (shelf : Shelf N) (queue leaves : List ℕ) (s : State) where
   -- what is free has another key
@@ -78,11 +84,11 @@ module _ {N : Type 0} (nodes : Nodes N) (t : Terms) (sizes : ℕ → ℕ) (f : F
       clash : None ≡ Some h → ⊥
       clash k = cc
 
-  hands : (x : Flying) (rest : List Flying) (op : Task) → IsSoundRound t sizes f
-      → Later t sizes f before trees (x ∷ rest) s.entries s.images → is_single (asking x.stack).op ≡ false
+  hands : (x : Flying) (rest : List Flying) (op : Task) (entries : List Choice) (images : Images) → IsSoundRound t sizes f
+      → Later t sizes f before trees (x ∷ rest) entries images → is_single (asking x.stack).op ≡ false
       → AsksNext t (asking x.stack) op → Later t sizes f before trees
-      (new_flying x op ∷ handed_on x op ∷ rest) s.entries s.images
-  hands x rest op sound r many asks =
+      (new_flying x op ∷ handed_on x op ∷ rest) entries images
+  hands x rest op entries images sound r many asks =
       let done : Later t sizes f before trees (new_flying x op ∷ handed_on x op ∷ rest) r.state.entries r.state.images =
       hand_node t sizes f before trees rest r.state sound x.at x.stack.outer x.stack.inner x.stack.children op r.running many
       asks in
@@ -94,47 +100,72 @@ module _ {N : Type 0} (nodes : Nodes N) (t : Terms) (sizes : ℕ → ℕ) (f : F
         images_are = done.images_are ∙ r.images_are;
       }
 
+  -- under the number that the parent's next child has
+  numbered : (key child : ℕ) (op : Task) (h : Held N) (node c : N) (shelf_now : Shelf N) (n m : ℕ) → n ≡ m
+      → AreWith shelf key (Some (grown {N = N} h node op)) child (Some (new_held {N = N} c op (OfNode key n))) shelf_now
+      → AreWith shelf key (Some (grown {N = N} h node op)) child (Some (new_held {N = N} c op (OfNode key m))) shelf_now
+  numbered key child op h node c shelf_now n m e with_both =
+      subst (λ (i : ℕ). AreWith shelf key (Some (grown {N = N} h node op)) child
+      (Some (new_held {N = N} c op (OfNode key i))) shelf_now) e with_both
+
+  -- it does several things itself, and what it asks next then is handed out
   pub one_grows : (key child : ℕ) (x : Flying) (others : List Live) (h : Held N) → IsSoundRound t sizes f
       → IsKept {N = N} nodes t sizes f before trees tops (live_of key x ∷ others) shelf queue leaves s → shelf key ≡ Some h
-      → (rest : List ℕ) → OneMore key rest queue → (op : Task) → is_single (asking x.stack).op ≡ false
-      → AsksNext t (asking x.stack) op
-      → counted (kind_of_task op) Ready h.tally < count_end → (node c : N) → nodes.Is t node (handed x.stack op)
+      → (rest : List ℕ) → OneMore key rest queue → (dids : List Did) (mid : Stack) → DoesAll t dids x.stack mid
+      → AllByRecursion (IsRight t) dids → AreLawful (sizes_of t.setting.tops) t.used (s.entries ++ choices_of dids)
+      → (op : Task) → is_single (asking mid).op ≡ false → AsksNext t (asking mid) op
+      → counted (kind_of_task op) Ready h.tally < count_end → (node c : N) → nodes.Is t node (handed mid op)
       → nodes.told node ≡ nodes.told h.node
       → nodes.Is t c (fresh_stack op) → (needs_none (kind_of_task op) ≡ false → nodes.told c ≡ false) → shelf child ≡ None
       → (shelf_now : Shelf N) → AreWith shelf key (Some (grown {N = N} h node op)) child
       (Some (new_held {N = N} c op (OfNode key (length x.stack.children)))) shelf_now
       → (queue_now : List ℕ) → OneMore child queue queue_now
       → StillKept {N = N} nodes t sizes f before trees tops
-      (live_of child (new_flying x op) ∷ live_of key (handed_on x op) ∷ others) shelf_now queue_now leaves
-      s.entries s.images
-  one_grows key child x others h sound k e rest more op many asks room node c is told is_new told_new free shelf_now with_both
-      queue_now more_queue =
+      (live_of child (new_flying (with_stack x mid) op) ∷ live_of key (handed_on (with_stack x mid) op) ∷ others)
+      shelf_now queue_now leaves (s.entries ++ choices_of dids) s.images
+  one_grows key child x others h sound k e rest more dids mid does right lawful op many asks room node c is told is_new told_new
+      free shelf_now with_both queue_now more_queue =
       let waits = queued_now nodes t sizes f before trees tops key x others shelf queue leaves s h rest k e more in
       let other : child ≢ key = free_other key child h e free in
       let r : Later t sizes f before trees (x ∷ all_flying tops others) s.entries s.images
       = running_first nodes t sizes f before trees tops key x others shelf queue leaves s h k in
-      let lives : List Live = live_of child (new_flying x op) ∷ live_of key (handed_on x op) ∷ others in
+      let entries : List Choice = s.entries ++ choices_of dids in
+      let y : Flying = with_stack x mid in
+      let done = does_all t sizes f before trees x.at (all_flying tops others) sound dids x.stack mid r.state r.running does right
+      (subst (λ (cs : List Choice). AreLawful (sizes_of t.setting.tops) t.used (cs ++ choices_of dids))
+      (sym r.entries_are) lawful) in
+      let now : Later t sizes f before trees (y ∷ all_flying tops others) entries s.images =
+      record {
+        state = done.later.state;
+        running = done.later.running;
+        entries_are = done.later.entries_are ∙ ap (λ (cs : List Choice). cs ++ choices_of dids) r.entries_are;
+        images_are = done.later.images_are ∙ r.images_are;
+      } in
+      let lives : List Live = live_of child (new_flying y op) ∷ live_of key (handed_on y op) ∷ others in
       let a : World N = world {N = N} tops (live_of key x ∷ others) shelf queue leaves in
       let none : flying_at (live_of key x ∷ others) child ≡ None = (free_there nodes t a child k.linked free).0 in
-      kept_now t sizes f before trees nodes tops lives shelf_now queue_now leaves s.entries s.images
-      (later_as t sizes f before trees (new_flying x op ∷ handed_on x op ∷ all_flying tops others)
-      (all_flying tops lives) s.entries s.images
-      (hands x (all_flying tops others) op sound r many asks)
-      (two_back tops (live_of child (new_flying x op)) (live_of key (handed_on x op)) others))
+      kept_now t sizes f before trees nodes tops lives shelf_now queue_now leaves entries s.images
+      (later_as t sizes f before trees (new_flying y op ∷ handed_on y op ∷ all_flying tops others)
+      (all_flying tops lives) entries s.images
+      (hands y (all_flying tops others) op entries s.images sound now many asks)
+      (two_back tops (live_of child (new_flying y op)) (live_of key (handed_on y op)) others))
       k.stand (
-        other_at (live_of key (handed_on x op)) others child other ∙ sym (other_at (live_of key x) others child other)
+        other_at (live_of key (handed_on y op)) others child other ∙ sym (other_at (live_of key x) others child other)
             ∙ none,
         k.differ,
       )
-      (node_grows nodes t a (world {N = N} tops lives shelf_now queue_now leaves) key child x op h node c
+      (node_grows nodes t a (world {N = N} tops lives shelf_now queue_now leaves) key child x mid op h node c
       (record {
         flies = first_at (live_of key x) others;
         held = e;
         free = free;
         other = other;
+        children = done.children;
+        keeps = λ n. keeps_with x.at x.stack mid n done.places (λ d g goes. same_children x.stack mid n d done.children g);
         tops = λ n. refl;
-        lives = with_first_more key child x (handed_on x op) (new_flying x op) others other;
-        shelf = with_both;
+        lives = with_first_more key child x (handed_on y op) (new_flying y op) others other;
+        shelf = numbered key child op h node c shelf_now (length x.stack.children) (length mid.children)
+            (sym (ap (λ (cs : List Child). length cs) done.children)) with_both;
         queue = more_queue;
         leaves = refl;
       }) told is room waits.0 waits.1 waits.2 is_new told_new k.linked)
@@ -184,7 +215,7 @@ module _ {N : Type 0} (nodes : Nodes N) (t : Terms) (sizes : ℕ → ℕ) (f : F
       (live_of child (new_flying top op) ∷ lives) shelf_now queue_now leaves s.entries s.images
       (later_as t sizes f before trees (new_flying top op ∷ handed_on top op ∷ all_flying gone lives)
       (all_flying now (live_of child (new_flying top op) ∷ lives)) s.entries s.images
-      (hands top (all_flying gone lives) op sound r many asks) back)
+      (hands top (all_flying gone lives) op s.entries s.images sound r many asks) back)
       (stand_moved 0 tops trees n top (handed_on top op) k.stand e refl) (none, k.differ)
       (tree_grows nodes t a (world {N = N} now
       (live_of child (new_flying top op) ∷ lives) shelf_now queue_now leaves) n child top op c

@@ -71,7 +71,7 @@ less_one n m a b = omega arith
 pub more_one : (n m : ℕ) → m ≡ 0 → n ≡ m + 1 → n ≡ 1
 more_one n m a b = omega arith
 
-module _ {N : Type 0} (nodes : Nodes N) (t : Terms) (sizes : ℕ → ℕ) (f : Forest) (before : Images) (trees : List Slot)
+module _ {N : Type 0} (nodes : Nodes N) (t : Terms) (sizes : ℕ → ℕ) (f : Forest) (before : Option Images) (trees : List Slot)
     (tops : List (Option Flying))
     (key : ℕ) (x : Flying) (others : List Live) (shelf : Shelf N) (queue leaves : List ℕ) (s : State) (h : Held N) where
   abbrev Kept : Type 0

@@ -41,7 +41,7 @@ owes_now c t e = by c.told c.ended t e
     by false true t e = absurd (cc)
     by false false t e = refl
 
-module _ {N : Type 0} (nodes : Nodes N) (t : Terms) (sizes : ℕ → ℕ) (f : Forest) (before : Images) (trees : List Slot)
+module _ {N : Type 0} (nodes : Nodes N) (t : Terms) (sizes : ℕ → ℕ) (f : Forest) (before : Option Images) (trees : List Slot)
     (tops : List (Option Flying))
     (shelf : Shelf N) (queue leaves : List ℕ) (s : State) where
   tells_on : (x q : Flying) (rest : List Flying) (n : ℕ) (c : Child) (pointer : Option Bp)

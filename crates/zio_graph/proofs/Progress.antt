@@ -10,14 +10,16 @@ use Rattle.zio_gang.specs.Trees.{sizes_of}
 use Rattle.zio_trace.specs.Entries.{IsSettledByEntries}
 use Rattle.zio_trace.specs.Families.{Forest}
 use Rattle.zio_trace.specs.Leaves.{HaveSizes}
+use Rattle.zio_trace.specs.RoundRules.{task_ways}
+use Rattle.zio_trace.specs.Rounds.{settles}
 use Rattle.zio_trace.specs.SoundRounds.{IsSoundRound}
 use Rattle.zio_trace.specs.Tasks.{Value}
 use Rattle.zio_trace.specs.Together.{round_of}
-use Rattle.zio_trace.specs.Underway.{State}
+use Rattle.zio_trace.specs.Underway.{AreAnswered, State}
 use Rattle.zio_frames.specs.Frames.{Flying, Seat, Stack, place_of}
 use Rattle.zio_frames.specs.Running.{IsRunning, all_heard}
 use Rattle.zio_frames.specs.Slots.{Slot}
-use Rattle.zio_frames.proofs.MoveTrees.{round_ends}
+use Rattle.zio_frames.proofs.MoveTrees.{round_answered, round_ends}
 use Rattle.zio_graph.specs.Engine.{IsHeldFor, IsKept, Rests, Queued, AtLeaf, Stalls}
 use Rattle.zio_graph.specs.Entries.{Held, Live, OfNode, Shelf, flying_at, flying_of, standing, times_in}
 use Rattle.zio_graph.specs.Parts.{Nodes}
@@ -104,7 +106,7 @@ module _ {N : Type 0} (nodes : Nodes N) (t : Terms) (w : World N) where
       let so_far : n ≤ length y.1.at = y.3 in
       (z.key, z.node, z.flies, omega arith)
 
-module _ {N : Type 0} (nodes : Nodes N) (t : Terms) (sizes : ℕ → ℕ) (f : Forest) (before : Images) (trees : List Slot)
+module _ {N : Type 0} (nodes : Nodes N) (t : Terms) (sizes : ℕ → ℕ) (f : Forest) (before : Option Images) (trees : List Slot)
     (tops : List (Option Flying))
     (shelf : Shelf N) (s : State) where
   pub none_left : (lives : List Live) (queue leaves : List ℕ)
@@ -118,17 +120,37 @@ module _ {N : Type 0} (nodes : Nodes N) (t : Terms) (sizes : ℕ → ℕ) (f : F
       let long : longest (x ∷ xs) ≤ length far.1.at = far.3 in
       absurd (omega arith)
 
-  -- with no node and no tree left the round is settled
-  pub all_settles : (journal : List Choice) (queue leaves : List ℕ) → IsSoundRound t sizes f → HaveSizes sizes before
+  -- with no node and no tree left each tree has its value
+  pub all_ended : (queue leaves : List ℕ) → IsKept {N = N} nodes t sizes f before trees tops [] shelf queue leaves s
+      → standing tops ≡ []
+      → (values : List Value) × (trees ≡ all_heard values) × IsRunning t sizes f before (all_heard values) [] s
+  all_ended queue leaves k none =
+      let last = stand_last 0 tops trees k.stand none in (
+        last.0,
+        last.1,
+        subst (λ (xs : List Slot). IsRunning t sizes f before xs [] s) last.1
+            (subst (λ (xs : List Flying). IsRunning t sizes f before trees xs s)
+            (ap (λ (xs : List Flying). xs ++ []) none) k.running),
+      )
+
+  -- an oracle gives them
+  pub all_answers : (journal : List Choice) (queue leaves : List ℕ)
       → IsKept {N = N} nodes t sizes f before trees tops [] shelf queue leaves s → standing tops ≡ []
       → choices_in t.round journal ≡ s.entries
-      → (values : List Value) × ((trees ≡ all_heard values)
-      × ((settled : IsSettledByEntries journal t f s.entries (round_of values) before s.images)
-      × AreChoicesOf (sizes_of t.setting.tops) t.used settled.asks s.entries))
-  all_settles journal queue leaves sound have k none of_round =
-      let last = stand_last 0 tops trees k.stand none in
-      let r : IsRunning t sizes f before (all_heard last.0) [] s =
-      subst (λ (xs : List Slot). IsRunning t sizes f before xs [] s) last.1
-      (subst (λ (xs : List Flying). IsRunning t sizes f before trees xs s)
-      (ap (λ (xs : List Flying). xs ++ []) none) k.running) in
-      (last.0, (last.1, round_ends t sizes f before journal last.0 s sound have r of_round))
+      → (values : List Value) × ((trees ≡ all_heard values) × AreAnswered (task_ways journal t) (settles f) s.deeds values)
+  all_answers journal queue leaves k none of_round =
+      let last = all_ended queue leaves k none in
+      (last.0, (last.1, round_answered t sizes f before journal last.0 s last.2 of_round))
+
+-- and the round is settled
+pub all_settles : {N : Type 0} (nodes : Nodes N) (t : Terms) (sizes : ℕ → ℕ) (f : Forest) (before : Images)
+    (trees : List Slot) (tops : List (Option Flying)) (shelf : Shelf N) (s : State) (journal : List Choice)
+    (queue leaves : List ℕ) → IsSoundRound t sizes f → HaveSizes sizes before
+    → IsKept {N = N} nodes t sizes f (Some before) trees tops [] shelf queue leaves s → standing tops ≡ []
+    → choices_in t.round journal ≡ s.entries
+    → (values : List Value) × ((trees ≡ all_heard values)
+    × ((settled : IsSettledByEntries journal t f s.entries (round_of values) before s.images)
+    × AreChoicesOf (sizes_of t.setting.tops) t.used settled.asks s.entries))
+all_settles {N = N} nodes t sizes f before trees tops shelf s journal queue leaves sound have k none of_round =
+    let last = all_ended {N = N} nodes t sizes f (Some before) trees tops shelf s queue leaves k none in
+    (last.0, (last.1, round_ends t sizes f before journal last.0 s sound have last.2 of_round))

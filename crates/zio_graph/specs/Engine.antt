@@ -115,9 +115,9 @@ TreesStand n (Some top ∷ tops) (IsOut told ∷ trees) = (top.at ≡ n ∷ []) 
 TreesStand n (None ∷ tops) (Heard v ∷ trees) = TreesStand (suc n) tops trees
 TreesStand n _ _ = ⊥
 
--- The trees, as far as each is settled, and the nodes: each is under its key, and no other is there; what is queued or at a
+-- The images before, where they are told, the trees, as far as each is settled, and the nodes: each is under its key, and no other is there; what is queued or at a
 -- leaf is a node's; and the round is running with all of them.
-pub record IsKept {N : Type 0} (nodes : Nodes N) (t : Terms) (sizes : ℕ → ℕ) (f : Forest) (before : Images) (trees : List Slot)
+pub record IsKept {N : Type 0} (nodes : Nodes N) (t : Terms) (sizes : ℕ → ℕ) (f : Forest) (before : Option Images) (trees : List Slot)
     (tops : List (Option Flying)) (lives : List Live) (shelf : Shelf N) (queue leaves : List ℕ) (s : State) : Type 0 where
   pub running : IsRunning t sizes f before trees (standing tops ++ map flying_of lives) s
   pub stand : TreesStand 0 tops trees
@@ -125,7 +125,7 @@ pub record IsKept {N : Type 0} (nodes : Nodes N) (t : Terms) (sizes : ℕ → �
   pub linked : AreLinked {N = N} nodes t (top_at tops) (flying_at lives) shelf queue leaves
 
 -- it is kept in some state with these entries and images
-pub record StillKept {N : Type 0} (nodes : Nodes N) (t : Terms) (sizes : ℕ → ℕ) (f : Forest) (before : Images)
+pub record StillKept {N : Type 0} (nodes : Nodes N) (t : Terms) (sizes : ℕ → ℕ) (f : Forest) (before : Option Images)
     (trees : List Slot)
     (tops : List (Option Flying)) (lives : List Live) (shelf : Shelf N) (queue leaves : List ℕ) (entries : List Choice)
     (images : Images) : Type 0 where

@@ -50,6 +50,10 @@ flying_of x = record { at = x.at; stack = x.stack }
 abbrev pub live_of : ℕ → Flying → Live
 live_of key x = record { key = key; at = x.at; stack = x.stack }
 
+-- the node is so far now
+abbrev pub with_stack : Flying → Stack → Flying
+with_stack x st = record { at = x.at; stack = st }
+
 -- what is in flight under a key, and for a tree
 abbrev pub flying_at : List Live → ℕ → Option Flying
 flying_at [] key = None

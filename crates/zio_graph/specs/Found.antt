@@ -4,7 +4,8 @@ use Rattle.zio_types.specs.Choices.{Choice}
 use Rattle.zio_cksum.specs.Images.{Images}
 use Rattle.zio_gang.specs.Attempts.{Terms}
 use Rattle.zio_trace.specs.Families.{Forest}
-use Rattle.zio_frames.specs.Frames.{Child, Flying, place_of}
+use Rattle.zio_frames.specs.Frames.{Child, Flying, kind_of_task, place_of}
+use Rattle.zio_frames.specs.Seats.{asked_at}
 use Rattle.zio_frames.specs.Slots.{Slot}
 use Rattle.zio_graph.specs.Engine.{StillKept, counts_as_told}
 use Rattle.zio_graph.specs.Entries.{CountsAre, Held, Live, Shelf, live_of, top_at}
@@ -16,7 +17,7 @@ pub record IsSoFar {N : Type 0} (nodes : Nodes N) (t : Terms) (h : Held N) (x : 
   pub counts : CountsAre h.tally x.stack.children
 
 -- the node under a key comes first
-pub record IsFound {N : Type 0} (nodes : Nodes N) (t : Terms) (sizes : ℕ → ℕ) (f : Forest) (before : Images) (trees : List Slot)
+pub record IsFound {N : Type 0} (nodes : Nodes N) (t : Terms) (sizes : ℕ → ℕ) (f : Forest) (before : Option Images) (trees : List Slot)
     (tops : List (Option Flying)) (shelf : Shelf N) (queue leaves : List ℕ) (key : ℕ) (h : Held N) (entries : List Choice)
     (images : Images) : Type 0 where
   pub node : Flying
@@ -33,8 +34,14 @@ pub record IsChildOf {N : Type 0} (nodes : Nodes N) (h : Held N) (at : List ℕ)
   pub of_kind : c.kind ≡ h.kind
   pub heard : c.told ≡ counts_as_told h.kind (nodes.told h.node)
 
+-- it does the operation that was asked for that child, and is of its kind
+pub record DoesAsked {N : Type 0} (h : Held N) (x parent : Flying) (c : Child) : Type 0 where
+  pub asked : asked_at parent.stack c.seat ≡ Some x.stack.outer.op
+  pub kind : h.kind ≡ kind_of_task x.stack.outer.op
+  pub child_kind : c.kind ≡ kind_of_task x.stack.outer.op
+
 -- and its parent comes next
-pub record IsParentFound {N : Type 0} (nodes : Nodes N) (t : Terms) (sizes : ℕ → ℕ) (f : Forest) (before : Images)
+pub record IsParentFound {N : Type 0} (nodes : Nodes N) (t : Terms) (sizes : ℕ → ℕ) (f : Forest) (before : Option Images)
     (trees : List Slot)
     (tops : List (Option Flying)) (shelf : Shelf N) (queue leaves : List ℕ) (key above n : ℕ) (x : Flying) (h : Held N)
     (entries : List Choice)

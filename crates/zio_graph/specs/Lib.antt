@@ -1,4 +1,12 @@
+pub mod Acts
+pub mod AtLeaves
+pub mod DeskLaws
+pub mod Desks
 pub mod Engine
 pub mod Entries
 pub mod Found
+pub mod Grounds
 pub mod Parts
+pub mod Rounds
+pub mod Slabs
+pub mod Stages

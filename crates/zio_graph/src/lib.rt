@@ -1,10 +1,22 @@
 //! The one-thread engine: a round's nodes under keys, queued, at leaves, or waiting for children.
 #![tactic(auto)]
 
+mod desk;
+mod entry;
+mod grounds;
+mod hear;
 mod laws;
+pub mod leaf_queues;
 pub mod node;
+mod shelf;
+pub mod staged;
+pub mod step;
+pub mod turns;
 
+pub use desk::{Desk, desks_serve_rounds};
+pub use grounds::{DisksBack, Grounds};
 pub use laws::{
     engines_find_nodes, engines_hear_of_nodes, engines_keep_rounds, engines_settle_rounds,
 };
 pub use node::Node;
+pub use staged::{BothBack, Move, Staged};

@@ -1,5 +1,7 @@
 use Rattle.zio_counts.specs.Tallies.{counted}
 use Rattle.zio_types.specs.declared.request.Phase.TheVariants.{Done, Ready}
+use Rattle.zio_frames.proofs.HeardParts.{fits_each}
+use Rattle.zio_graph.proofs.FoundFits.{one_asked, one_value, tree_asked, tree_value}
 use Rattle.zio_graph.proofs.HearLemmas.{some_more}
 use Rattle.zio_graph.proofs.MoveEnd.{one_counts, one_ends, one_fits}
 use Rattle.zio_graph.proofs.MoveEndTree.{one_ends_tree, tree_ends, tree_fits}
@@ -60,3 +62,26 @@ returns-clause-tree_fits g c = λ t sizes f before trees tops others shelf queue
 pub returns-clause-tree_ends : goal.returns-clause-tree_ends
 returns-clause-tree_ends g c = λ t sizes f before trees tops lives shelf queue leaves s n top v k e ended.
     tree_ends g.N.Node.nodes t sizes f before trees tops shelf queue leaves s n top lives v k e ended
+
+pub returns-clause-does_asked : goal.returns-clause-does_asked
+returns-clause-does_asked g c = λ t sizes f before trees tops others shelf queue leaves s key above x q h n child k e parent
+    there.
+    one_asked g.N.Node.nodes t sizes f before trees tops shelf queue leaves s key above x q others h n child k e parent there
+
+pub returns-clause-tree_asked : goal.returns-clause-tree_asked
+returns-clause-tree_asked g c = λ t sizes f before trees tops others shelf queue leaves s key tree x q h n child k e parent eq
+    there.
+    tree_asked g.N.Node.nodes t sizes f before trees tops shelf queue leaves s key tree x q others h n child k e parent eq there
+
+pub returns-clause-value_fits : goal.returns-clause-value_fits
+returns-clause-value_fits g c = λ t sizes f before trees tops others shelf queue leaves s key x v k ended.
+    one_value g.N.Node.nodes t sizes f before trees tops shelf queue leaves s key x others v k ended
+
+pub returns-clause-each_journal : goal.returns-clause-each_journal
+returns-clause-each_journal g c = λ t sizes f before trees tops others shelf queue leaves s key x v journal k ended none.
+    fits_each t s.entries x.stack.outer.op v none
+    (one_value g.N.Node.nodes t sizes f before trees tops shelf queue leaves s key x others v k ended) journal
+
+pub returns-clause-tree_value_fits : goal.returns-clause-tree_value_fits
+returns-clause-tree_value_fits g c = λ t sizes f before trees tops lives shelf queue leaves s n top v k e ended.
+    tree_value g.N.Node.nodes t sizes f before trees tops shelf queue leaves s n top lives v k e ended

@@ -9,8 +9,6 @@ mod line;
 mod picks;
 mod sums;
 mod table;
-#[cfg(test)]
-mod tests;
 
 pub use line::Line;
 pub use picks::{FirstPicks, Picks, SeedPicks, from_seed};

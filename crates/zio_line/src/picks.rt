@@ -70,27 +70,3 @@ fn next_state(state: u64) -> u64
 {
     state.wrapping_mul(MULTIPLIER).wrapping_add(INCREMENT)
 }
-
-#[cfg(test)]
-mod tests {
-    use super::*;
-
-    #[test]
-    fn the_first_value_from_seed_0(rt: HostRuntime) {
-        assert_eq!(rt; next_state(0), 1_442_695_040_888_963_407);
-    }
-
-    /// The figures are those of a program in another language.
-    #[test]
-    fn picks_among_a_thousand_from_seed_0(rt: HostRuntime) {
-        let mut picks = from_seed(0);
-        for want in [407, 466, 793, 940, 283] {
-            assert_eq!(rt; picks.pick(1_000), want);
-        }
-    }
-
-    #[test]
-    fn the_first_is_picked(rt: HostRuntime) {
-        assert_eq!(rt; FirstPicks.pick(9), 0);
-    }
-}

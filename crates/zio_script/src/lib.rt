@@ -23,8 +23,6 @@ mod refusal;
 mod script;
 mod shape;
 mod shapes;
-#[cfg(test)]
-mod tests;
 mod values;
 mod why;
 mod word;

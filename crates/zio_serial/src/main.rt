@@ -6,8 +6,6 @@
 #![tactic(auto)]
 
 mod about;
-#[cfg(test)]
-mod tests;
 mod told;
 mod watched;
 

@@ -1,1 +1,2 @@
+pub mod SettledRounds
 pub mod SoundRounds

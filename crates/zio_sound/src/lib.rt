@@ -1,7 +1,8 @@
-//! From what a fold says of a round to what an engine needs of it.
+//! Between what a fold says of a round and what an engine does with it.
 //!
 //! It stands on `zio_course`, whose fold gives trees to a runner, and on `zio_trace`, which says which rounds may be run
-//! with all their trees under way together. The one call is a law: its contract is the statement, and its body is empty.
+//! with all their trees under way together, and what such a round comes to. Each call is a law: its contract is the
+//! statement, and its body is empty.
 #![tactic(auto)]
 
 ghost use Rattle.std.specs.Prelude.{◌≡◌, IfSome, IsTrue, List, ℕ};
@@ -12,13 +13,19 @@ ghost use Rattle.zio_blkptr.specs.declared.pointer.Bp.{Bp};
 ghost use Rattle.zio_blkptr.specs.Pointers.{valid};
 ghost use Rattle.zio_script.specs.declared.script.Failmode.{Failmode};
 ghost use Rattle.zio_gang.specs.declared.tree.Tree.{Tree};
-ghost use Rattle.zio_gang.specs.Attempts.{Pending};
+ghost use Rattle.zio_cksum.specs.Images.{Images};
+ghost use Rattle.zio_gang.specs.Attempts.{Pending, Terms};
+ghost use Rattle.zio_gang.specs.Journals.{AreLawful};
 ghost use Rattle.zio_gang.specs.Trees.{sizes_of, tree_pointers};
+ghost use Rattle.zio_trace.specs.Entries.{IsSettledByEntries};
 ghost use Rattle.zio_trace.specs.Families.{Forest};
 ghost use Rattle.zio_trace.specs.Rounds.{AreTrees, trees_in};
 ghost use Rattle.zio_trace.specs.Separate.{LeavesHold, LeavesOnce};
 ghost use Rattle.zio_trace.specs.SoundRounds.{IsSoundRound, LeavesDiffer};
-ghost use Rattle.zio_course.specs.Runners.{AreRunnable, Standing, joined_trees, terms_at};
+ghost use Rattle.zio_trace.specs.Tasks.{Value};
+ghost use Rattle.zio_trace.specs.Together.{round_of};
+ghost use Rattle.zio_course.specs.Runners.{AreRunnable, IsRound, Standing, finished_by_number, joined_trees, terms_at};
+ghost use Rattle.zio_course.specs.declared.runner.RoundEnd.{RoundEnd};
 
 /// A round that a runner may be given is sound, so all its trees may be under way together: where the tops hold their
 /// leaves, which stand once, the places in use lie inside the tops, and the blocks that requests were given have valid
@@ -31,4 +38,15 @@ pub fn runnable_rounds_are_sound()
         AllByRecursion (λ (bp : Bp). IsTrue (valid bp)) (tree_pointers tree))) (joined_trees trees) →
         AllByRecursion (λ (p : Place). IsTrue (is_inside (sizes_of s.tops) p)) s.live →
         IsSoundRound (terms_at s failmode round point) sizes f }
+{}
+
+/// A round whose trees came to these values, as they do under the entries that the space made for it, is the round by the
+/// definitions, if what it gives is what these values leave and what finished in them, by number.
+pub fn settled_rounds_are_rounds()
+    ensures { (t : Terms) (f : Forest) (trees : List (List Pending)) (values : List Value) (before after : Images)
+        (end : RoundEnd (List Pending)) → trees_in f ≡ trees →
+        IsSettledByEntries end.entries t f end.entries (round_of values) before after →
+        AreLawful (sizes_of t.setting.tops) t.used end.entries →
+        end.left ≡ (round_of values).left → end.finished ≡ finished_by_number (round_of values).ended →
+        IsRound t trees before after end }
 {}

@@ -32,6 +32,8 @@ mod queues;
 #[cfg(test)]
 mod report;
 #[cfg(test)]
+mod scripts;
+#[cfg(test)]
 mod sizes;
 #[cfg(test)]
 mod space;

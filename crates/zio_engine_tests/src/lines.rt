@@ -1,8 +1,8 @@
-//! A line against a plain list, in a fixed order of picks.
+//! A line against a plain list, in a fixed order of picks, and the picks.
 
-use crate::{Line, Picks, SeedPicks, from_seed};
 use std::process::Abort;
 use std::test::Fail;
+use zio_line::{FirstPicks, Line, Picks, SeedPicks, from_seed};
 use zio_types::NoMemory;
 
 /// Adds a value to both.
@@ -45,4 +45,18 @@ fn values_are_those_of_a_plain_list(rt: HostRuntime) -> Result<(), Fail> {
     assert_eq!(rt; line.len(), 0);
     assert_eq!(rt; plain.len(), 0);
     Ok(())
+}
+
+/// The figures are those of a program in another language.
+#[test]
+fn picks_among_a_thousand_from_seed_0(rt: HostRuntime) {
+    let mut picks = from_seed(0);
+    for want in [407, 466, 793, 940, 283] {
+        assert_eq!(rt; picks.pick(1_000), want);
+    }
+}
+
+#[test]
+fn the_first_is_picked(rt: HostRuntime) {
+    assert_eq!(rt; FirstPicks.pick(9), 0);
 }

@@ -1,11 +1,11 @@
 //! The reader on texts whose answers were worked out by hand, and the generator's first value.
 
-use crate::{
-    Body, Item, SCRIPT_LEN_MAX, Script, ScriptError, ScriptFault, body_bytes, read_script,
-};
 use std::alloc::Global;
 use std::process::Abort;
 use std::test::Fail;
+use zio_script::{
+    Body, Item, SCRIPT_LEN_MAX, Script, ScriptError, ScriptFault, body_bytes, read_script,
+};
 
 /// Texts, each with its first faulty line and the least why.
 const FAULTY: &[(&[u8], u32, u32)] = &[

@@ -1,2 +1,4 @@
+pub mod Leaving
+pub mod Oracled
 pub mod SettledRounds
 pub mod SoundRounds

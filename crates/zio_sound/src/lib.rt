@@ -5,12 +5,16 @@
 //! statement, and its body is empty.
 #![tactic(auto)]
 
-ghost use Rattle.std.specs.Prelude.{◌≡◌, IfSome, IsTrue, List, ℕ};
+ghost use Rattle.std.specs.Prelude.{◌≡◌, IfSome, IsTrue, List, [], ℕ, false, true};
 ghost use Rattle.std.specs.List.{AllByRecursion};
 ghost use Rattle.zio_types.specs.declared.place.Place.{Place};
+ghost use Rattle.zio_types.specs.Choices.{Choice};
 ghost use Rattle.zio_types.specs.Places.{is_inside};
 ghost use Rattle.zio_blkptr.specs.declared.pointer.Bp.{Bp};
 ghost use Rattle.zio_blkptr.specs.Pointers.{valid};
+ghost use Rattle.zio_types.specs.Bits.{has_bits};
+ghost use Rattle.zio_script.specs.Requests.{kind_of};
+ghost use Rattle.zio_script.specs.Whys.{is_claim};
 ghost use Rattle.zio_script.specs.declared.script.Failmode.{Failmode};
 ghost use Rattle.zio_gang.specs.declared.tree.Tree.{Tree};
 ghost use Rattle.zio_cksum.specs.Images.{Images};
@@ -18,14 +22,20 @@ ghost use Rattle.zio_gang.specs.Attempts.{Pending, Terms};
 ghost use Rattle.zio_gang.specs.Journals.{AreLawful};
 ghost use Rattle.zio_gang.specs.Trees.{sizes_of, tree_pointers};
 ghost use Rattle.zio_trace.specs.Entries.{IsSettledByEntries};
-ghost use Rattle.zio_trace.specs.Families.{Forest};
-ghost use Rattle.zio_trace.specs.Rounds.{AreTrees, trees_in};
+ghost use Rattle.zio_trace.specs.Families.{Forest, NoTrees};
+ghost use Rattle.zio_trace.specs.Labels.{Labelled, ways_at};
+ghost use Rattle.zio_trace.specs.Oracles.{IsOracle, Oracle};
+ghost use Rattle.zio_trace.specs.Programs.{Deed};
+ghost use Rattle.zio_trace.specs.RoundRules.{task_ways};
+ghost use Rattle.zio_trace.specs.Rounds.{AreTrees, settles, trees_in};
 ghost use Rattle.zio_trace.specs.Separate.{LeavesHold, LeavesOnce};
 ghost use Rattle.zio_trace.specs.SoundRounds.{IsSoundRound, LeavesDiffer};
-ghost use Rattle.zio_trace.specs.Tasks.{Value};
+ghost use Rattle.zio_trace.specs.Tasks.{Attempt, Task, Value, attempted};
 ghost use Rattle.zio_trace.specs.Together.{round_of};
+ghost use Rattle.zio_trace.specs.Underway.{AreAnswered};
 ghost use Rattle.zio_course.specs.Runners.{AreRunnable, IsRound, Standing, finished_by_number, joined_trees, terms_at};
 ghost use Rattle.zio_course.specs.declared.runner.RoundEnd.{RoundEnd};
+ghost use Rattle.zio_sound.specs.Leaving.{LeavesTrees};
 
 /// A round that a runner may be given is sound, so all its trees may be under way together: where the tops hold their
 /// leaves, which stand once, the places in use lie inside the tops, and the blocks that requests were given have valid
@@ -49,4 +59,19 @@ pub fn settled_rounds_are_rounds()
         AreLawful (sizes_of t.setting.tops) t.used end.entries →
         end.left ≡ (round_of values).left → end.finished ≡ finished_by_number (round_of values).ended →
         IsRound t trees before after end }
+{}
+
+/// What trees of a round leave whose values come of an oracle, that is, whatever their operations were answered: each request
+/// finished or is left, what is left are rests of the trees, and writes and claims alone made blocks, without error.
+pub fn answered_rounds_leave_rests()
+    ensures { (journal : List Choice) (t : Terms) (f : Forest) (ds : List (Deed (Labelled Task) Value)) (values : List Value) →
+        AreAnswered (task_ways journal t) (settles f) ds values → LeavesTrees (trees_in f) (round_of values) }
+{}
+
+/// A claim never goes again, whatever its operations are answered: it may always fail.
+pub fn claims_never_go_again()
+    ensures { (journal : List Choice) (t : Terms) (o : Oracle (Labelled Task) Value) (at : List ℕ) (attempt : ℕ) (p : Pending) →
+        IsOracle (ways_at (task_ways journal t)) o → is_claim (kind_of p.request.work) ≡ true →
+        let one = attempted (o.answer (record { at = at; op = Attempt attempt p NoTrees })) in
+        (one.again ≡ []) × (has_bits one.return.bits ≡ false) }
 {}

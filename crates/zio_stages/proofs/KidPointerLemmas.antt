@@ -1,5 +1,5 @@
 -- The pointers that a write's content begins with: how many they are, that they are valid, and that they stay once told.
-use Rattle.std.proofs.Common.{◌≡◌, ℕ, zero, suc, ◌+◌, List, [], ◌∷◌, ◌++◌, length, map, reverse, Bool, true, false, ◌&&◌, nat_le, Option, Some, None, refl, sym, ap, ◌∙◌, arith}
+use Rattle.std.proofs.Common.{◌≡◌, ℕ, zero, suc, ◌+◌, List, [], ◌∷◌, ◌++◌, length, map, reverse, Bool, true, false, ◌&&◌, nat_le, Option, Some, None, refl, sym, ap, subst, ◌∙◌, arith}
 use Rattle.std.specs.List.{AllByRecursion, list_all}
 use Rattle.std.proofs.lemmas.Bool.{false≢true}
 use Rattle.std.proofs.lemmas.List.{length-map, length-reverse, map-append}
@@ -198,3 +198,9 @@ due_valid (n ∷ numbers) = (tt, due_valid numbers)
 
 pub valid_fresh : (numbers : List ℕ) (kept : List KeptChild) → AllByRecursion HasValid kept → HaveValidPointers (fresh_kids numbers kept)
 valid_fresh numbers kept h = record { told = due_valid numbers; kept = h }
+
+-- what a child told is valid
+pub valid_at : (kids : List Kid) (n : ℕ) (state : KidState) → AllByRecursion HasToldValid kids → state_at kids n ≡ Some state → IsNoneOrValid (pointer_by state)
+valid_at [] n state h e = absurd (cc)
+valid_at (k ∷ kids) zero state h e = let same : k.state ≡ state = cc in subst (λ s. IsNoneOrValid (pointer_by s)) same h.0
+valid_at (k ∷ kids) (suc n) state h e = valid_at kids n state h.1 e

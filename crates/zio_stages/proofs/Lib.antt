@@ -44,6 +44,7 @@ pub mod OwnReadLemmas
 pub mod OwnWriteBlock
 pub mod OwnWriteLemmas
 pub mod PartAsksLemmas
+pub mod PartFar
 pub mod PartHeader
 pub mod PartHears
 pub mod PartIos
@@ -65,6 +66,8 @@ pub mod ReadIoMoves
 pub mod RequestEnds
 pub mod RequestHears
 pub mod RequestNodeLemmas
+pub mod RequestOver
+pub mod RequestOwnLemmas
 pub mod RequestSits
 pub mod RequestStoredLemmas
 pub mod RequestWriteLemmas

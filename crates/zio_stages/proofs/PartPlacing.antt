@@ -109,7 +109,7 @@ own_placed OwnOut b = tt
 own_placed (OwnEnded error) true = tt
 own_placed (OwnEnded error) false = tt
 
-headed_placed : (b : Bool) (members : List Member) (own : OwnWrite) → IsPlaced (headed_step b members own)
+pub headed_placed : (b : Bool) (members : List Member) (own : OwnWrite) → IsPlaced (headed_step b members own)
 headed_placed true members own = own_placed own (list_all is_ended members)
 headed_placed false members own = tt
 
@@ -117,7 +117,7 @@ members_placed : (b : Bool) (members : List Member) (own : OwnWrite) → (member
 members_placed true members own never = absurd (never refl)
 members_placed false members own never = headed_placed (list_all is_told members) members own
 
-whole_placed : (own : OwnWrite) → IsPlaced (own_step own WriteBody End)
+pub whole_placed : (own : OwnWrite) → IsPlaced (own_step own WriteBody End)
 whole_placed Due = tt
 whole_placed OwnOut = tt
 whole_placed (OwnEnded error) = tt

@@ -83,7 +83,7 @@ own_seat t w family f o st c op told h sits never = by c.seat refl
     by (OfOuter m) e = (m, e)
     by (OfInner m) e = absurd (never (leaf m w.io st.inner h.work.within (ap (asked_at st) (sym e) ∙ sits.asked)))
 
-reading_own : (op : Task) → IsReading op → IsPartOp op → (ask_of op ≡ ForOther → ⊥) → ⊥
+pub reading_own : (op : Task) → IsReading op → IsPartOp op → (ask_of op ≡ ForOther → ⊥) → ⊥
 reading_own (Leaf act) h is never = is
 reading_own (ReadCopies repair test len places) h is never = never refl
 reading_own (Find a) h is never = h
@@ -106,7 +106,7 @@ leaf_seat t w family f o st c op told h none sits reads = by c.seat refl
         let own = own_out t w family f o st m m op told h (omega (arith, none)) (ap (asked_at st) (sym e) ∙ sits.asked) (ap (slot_at st) (sym e) ∙ sits.slot) in
         absurd (reading_own op reads own.part own.known)
 
-part_leaf : (op : Task) → IsPart op → IsLeafTask op → ⊥
+pub part_leaf : (op : Task) → IsPart op → IsLeafTask op → ⊥
 part_leaf (Leaf act) h l = h
 part_leaf (Find a) h l = h
 part_leaf (ReadCopies repair test len places) h l = h
@@ -131,7 +131,7 @@ leaf_tells (TakePlaces tree) kind told out k never shows l = l
 leaf_tells (Attempt attempt p kids) kind told out k never shows l = l
 leaf_tells (Settle p kids) kind told out k never shows l = l
 
-own_kind : (op : Task) → IsPart op → (k : ChildKind) → k ≡ kind_of_task op → needs_none k ≡ false
+pub own_kind : (op : Task) → IsPart op → (k : ChildKind) → k ≡ kind_of_task op → needs_none k ≡ false
 own_kind (WritePart attempt p sum copies levels path bytes) h k e = ap needs_none e
 own_kind (Leaf act) h k e = absurd h
 own_kind (Find a) h k e = absurd h
@@ -143,13 +143,13 @@ own_kind (TakePlaces tree) h k e = absurd h
 own_kind (Attempt attempt p kids) h k e = absurd h
 own_kind (Settle p kids) h k e = absurd h
 
-not_told : (b : Bool) (told : Bool) (out : Option (Option Bp)) → b ≡ false → told ≡ false → ShowsTold b told out → out ≡ None
+pub not_told : (b : Bool) (told : Bool) (out : Option (Option Bp)) → b ≡ false → told ≡ false → ShowsTold b told out → out ≡ None
 not_told true told out e never h = absurd (false≢true (sym e))
 not_told false true out e never h = absurd (false≢true (sym never))
 not_told false false None e never h = refl
 not_told false false (Some p) e never h = absurd h
 
-has_told : (b : Bool) (told : Bool) (out : Option (Option Bp)) → b ≡ false → told ≡ true → ShowsTold b told out → out ≡ None → ⊥
+pub has_told : (b : Bool) (told : Bool) (out : Option (Option Bp)) → b ≡ false → told ≡ true → ShowsTold b told out → out ≡ None → ⊥
 has_told true told out e is h none = false≢true (sym e)
 has_told false false out e is h none = false≢true is
 has_told false true None e is h none = h
@@ -177,7 +177,7 @@ member_early node k h =
       by true e = absurd (subst (λ (x : Bool). ShowsTold true x out) never (subst (λ (x : Bool). ShowsTold x told out) e shows))
       by false e = not_told (needs_none kind) told out e never shows
 
-told_as : (o : Option Slot) (told : Option (Option Bp)) (stored : StoredPart) → o ≡ Some (IsOut told) → FitsSlot o (StoredAs (stored_as stored)) → IsToldAs stored.pointer told
+pub told_as : (o : Option Slot) (told : Option (Option Bp)) (stored : StoredPart) → o ≡ Some (IsOut told) → FitsSlot o (StoredAs (stored_as stored)) → IsToldAs stored.pointer told
 told_as o None stored e fits = tt
 told_as o (Some p) stored e fits = sym (subst (λ (s : Option Slot). FitsSlot s (StoredAs (stored_as stored))) e fits)
 
@@ -186,13 +186,13 @@ out_as pointer None o e h = subst (IsOutAs pointer) (sym e) tt
 out_as pointer (Some p) o e h = subst (IsOutAs pointer) (sym e) h
 
 -- what a member's write that ended has in its slot
-pub record HearsMember (node : PartNode) (k : ℕ) (stored : StoredPart) : Type 0 where
+pub record HearsMember (w : PartWork) (family : List Child) (front k : ℕ) (stored : StoredPart) : Type 0 where
   pub told : Option (Option Bp)
-  pub at : IsMemberAt node.work node.family 0 k told
+  pub at : IsMemberAt w family front k told
   pub told_is : IsToldAs stored.pointer told
   pub some : told ≡ None → ⊥
 
-pub member_ended_at : (node : PartNode) (k : ℕ) (stored : StoredPart) → HearsValueAt (IsStoredBy stored) node k → HearsMember node k stored
+pub member_ended_at : (node : PartNode) (k : ℕ) (stored : StoredPart) → HearsValueAt (IsStoredBy stored) node k → HearsMember node.work node.family 0 k stored
 member_ended_at node k stored x =
     let h = x.hears in
     let sits = all_at (HasSeat x.stack) x.stack.children k x.child h.seated.each h.there h.goes in

@@ -13,6 +13,7 @@ use Rattle.zio_stages.specs.NodeChildren.{new_child}
 use Rattle.zio_stages.specs.WrittenBlocks.{HaveAllTold}
 use Rattle.zio_stages.specs.PartWorks.{Front}
 use Rattle.zio_stages.specs.RequestNodes.{HandsKid, IsOwnOf, IsRequestNode, front_by}
+pub use Rattle.zio_stages.specs.RequestStages.{with_kids}
 use Rattle.zio_stages.specs.Waits.{pending_of}
 use Rattle.zio_stages.specs.declared.request_node.Own.{Own}
 use Rattle.zio_stages.specs.declared.request_node.Own.TheVariants.{Due, Over, Stored, Write}
@@ -43,18 +44,6 @@ fresh_request t r p forest is kept due none round failmode = record {
 }
 
 -- ---- it hands out a child
-
--- with these children
-abbrev pub with_kids : RequestNode → KidsHeld → List Child → RequestNode
-with_kids r kids family = record {
-  waiting = r.waiting;
-  kids = kids;
-  own = r.own;
-  family = family;
-  round = r.round;
-  attempt = r.attempt;
-  failmode = r.failmode;
-}
 
 -- nothing within
 abbrev flat : Frame → List Child → Stack

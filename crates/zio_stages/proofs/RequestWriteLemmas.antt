@@ -21,6 +21,7 @@ use Rattle.zio_stages.specs.WrittenBlocks.{HaveAllTold, IsBlockOf}
 use Rattle.zio_stages.specs.PartOwns.{WrittenPart, part_plan}
 use Rattle.zio_stages.specs.PartWorks.{Front, IsFront, IsIoOver, IsPartAt, IsPartOver, IsPartWithin}
 use Rattle.zio_stages.specs.RequestNodes.{IsOwnOf, IsRequestNode, front_by, own_got}
+pub use Rattle.zio_stages.specs.RequestStages.{with_own}
 use Rattle.zio_stages.specs.RequestWrites.{IsWriteWith}
 use Rattle.zio_stages.specs.Waits.{pending_of}
 use Rattle.zio_types.specs.declared.place.Top.{Top}
@@ -73,18 +74,6 @@ pub part_at : (t : Terms) (r : RequestNode) (st : Stack) (w : OwnWrite) (h : IsR
     (own : IsWriteOwn t w (front_in t r st h) r.attempt (pending_of r.waiting) r.kids.kids h.own_asked h.own_slots st)
     → IsPartAt t w.work r.family (front_in t r st h) own.part st
 part_at t r st w h own = record { asked = h.own_asked; slots = h.own_slots; op = h.op; work = own.is; children = h.family }
-
--- with this as its own work, and these children
-abbrev pub with_own : RequestNode → Own → List Child → RequestNode
-with_own r own family = record {
-  waiting = r.waiting;
-  kids = r.kids;
-  own = own;
-  family = family;
-  round = r.round;
-  attempt = r.attempt;
-  failmode = r.failmode;
-}
 
 -- so far in its block, it is so far
 pub node_at : (t : Terms) (r : RequestNode) (a b : Stack) (v : OwnWrite) (w : OwnWrite) (family : List Child) (h : IsRequestNode t r a)

@@ -21,7 +21,9 @@ pub mod PartOwns
 pub mod PartWorks
 pub mod PartsOut
 pub mod ReadIos
+pub mod RequestHearings
 pub mod RequestNodes
+pub mod RequestStages
 pub mod RequestStoreds
 pub mod RequestWrites
 pub mod SpaceCalls

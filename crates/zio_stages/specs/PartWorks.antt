@@ -10,7 +10,7 @@ use Rattle.zio_frames.specs.Frames.{Child, Inner, OfOuter, Stack}
 use Rattle.zio_frames.specs.Slots.{IsOut, Slot}
 use Rattle.zio_blkptr.specs.declared.pointer.Bp.{Bp}
 use Rattle.zio_parts.specs.Parts.{PartWriting, places_at, slots_of}
-use Rattle.zio_parts.specs.PartWrites.{is_due}
+use Rattle.zio_parts.specs.PartWrites.{is_due, is_ready, step_of}
 use Rattle.zio_parts.specs.declared.parts.OwnWrite.{OwnWrite}
 use Rattle.zio_parts.specs.declared.parts.OwnWrite.TheVariants.{Due, Out as OwnOut, Ended as OwnEnded}
 use Rattle.zio_parts.specs.declared.parts.PartStep.{PartStep}
@@ -112,9 +112,19 @@ IsPlaced AskHead = ⊥
 IsPlaced (MemberStep n) = ⊥
 IsPlaced _ = Unit {0}
 
+-- its own write went out, or it has no place
+abbrev pub IsIssued : PartWriting → Type 0
+IsIssued x = (x.placing ≡ Nowhere) ⊎ (is_due x.own ≡ false)
+
 -- its own write has ended, or it has no place
 abbrev pub IsWritten : PartWork → Type 0
 IsWritten w = (w.io ≡ None) × ((w.own.part.placing ≡ Nowhere) ⊎ (is_due w.own.part.own ≡ false))
+
+-- the second is no less far than the first: its members stay handed out, its pointer known, and its own write issued
+pub record IsNoLessFar (x y : PartWriting) : Type 0 where
+  pub placed : IsPlaced (step_of x) → IsPlaced (step_of y)
+  pub ready : is_ready x ≡ true → is_ready y ≡ true
+  pub issued : IsIssued x → IsIssued y
 
 -- ---- its members
 

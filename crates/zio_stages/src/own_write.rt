@@ -1,6 +1,6 @@
 // A write's own work: its content is set once its children told their pointers, and its block is written as one part.
 
-ghost use Rattle.std.specs.Prelude.{◌≡◌, ◌+◌, IfOk, List as Seq, length, true};
+ghost use Rattle.std.specs.Prelude.{◌≡◌, ◌+◌, IfOk, List as Seq, None, length, true};
 ghost use Rattle.std.specs.List.{list_all};
 ghost use Rattle.zio_types.specs.declared.place.Top.{Top as SeenTop};
 ghost use Rattle.zio_gang.specs.Attempts.{Terms};
@@ -46,6 +46,7 @@ pub(crate) fn block_of(
     ensures fresh { IfOk result (λ work. (t : Terms) (f : Front) (family : Seq Child) (st : Stack) → t.round ≡ round → IsIdleAt family f st →
         IsBlockAt t work family f attempt (pending_of waiting.now) (pointers_of kids.now) st) }
     ensures over { IfOk result (λ work. (tops : Seq SeenTop) (family : Seq Child) → NoneSits Within family → IsPartOver tops work family) }
+    ensures io { IfOk result (λ work. work.io ≡ None) }
 {
     let Work::Write {
         sum,

@@ -1,6 +1,6 @@
 // The own write of a part that is written: of its body or its header, by operations on leaves.
 
-ghost use Rattle.std.specs.Prelude.{◌≡◌, ◌∷◌, ℕ, IfOk, IfSome, List as Seq, None, OnErr, Some, [], false, slice_get};
+ghost use Rattle.std.specs.Prelude.{◌≡◌, ◌∷◌, ℕ, IfOk, IfSome, List as Seq, None, OnErr, OnOk, Some, [], false, slice_get, true};
 ghost use Rattle.zio_types.specs.declared.place.Top.{Top as SeenTop};
 ghost use Rattle.zio_types.specs.declared.request.ChildKind.TheVariants.{Vdev};
 ghost use Rattle.zio_types.specs.declared.request.Phase.TheVariants.{Done};
@@ -10,13 +10,13 @@ ghost use Rattle.zio_trace.specs.Tasks.{Got};
 ghost use Rattle.zio_frames.specs.Frames.{Child, Stack};
 ghost use Rattle.zio_frames.specs.Moves.{heard_of};
 ghost use Rattle.zio_frames.specs.Seats.{IsSeated};
-ghost use Rattle.zio_parts.specs.PartWrites.{is_due};
+ghost use Rattle.zio_parts.specs.PartWrites.{is_due, is_ready};
 ghost use Rattle.zio_stages.specs.LeafWorks.{IsDue};
 ghost use Rattle.zio_stages.specs.NodeChildren.{first_owing};
 ghost use Rattle.zio_stages.specs.NodeIos.{IsAwaitedAt, IsWriteDue, StartsBy};
 ghost use Rattle.zio_stages.specs.OwnParts.{DoesThen};
 ghost use Rattle.zio_stages.specs.PartOwns.{ShowsOwn, WrittenPart};
-ghost use Rattle.zio_stages.specs.PartWorks.{Front, IsFront, IsPartAt, IsPartOver};
+ghost use Rattle.zio_stages.specs.PartWorks.{Front, IsFront, IsIssued, IsNoLessFar, IsPartAt, IsPartOver};
 ghost use Rattle.zio_stages.specs.declared.family.Layer.TheVariants.{Within};
 
 use crate::family::{Family, Layer};
@@ -47,6 +47,8 @@ impl PartWork {
             IsPartAt t self.old family.old f o st → DoesThen t st [] (IsPartAt t self.new family.new f o)) }
         ensures over { IsPartOver tops.now self.new family.new }
         ensures due { IfOk result (λ leaf. IfSome leaf IsDue) }
+        ensures far { IsNoLessFar self.old.own.part self.new.own.part }
+        ensures issued { OnOk result (is_ready self.old.own.part ≡ true → IsIssued self.new.own.part) }
     {
         self.begin(alloc)?;
         self.next_leaf(family, name, alloc, tops)
@@ -57,6 +59,9 @@ impl PartWork {
         ensures does { (t : Terms) (f : Front) (o : WrittenPart) (front : ℕ) (family : Seq Child) (st : Stack) → IsFront t f o front →
             IsPartAt t self.old family f o st → DoesThen t st [] (IsPartAt t self.new family f o) }
         ensures over { (tops : Seq SeenTop) (family : Seq Child) → IsPartOver tops self.old family → IsPartOver tops self.new family }
+        ensures far { IsNoLessFar self.old.own.part self.new.own.part }
+        ensures issued { OnOk result ((tops : Seq SeenTop) (family : Seq Child) → IsPartOver tops self.old family → is_ready self.old.own.part ≡ true →
+            IsIssued self.new.own.part) }
     {
         if self.io.is_some() {
             return Ok(());
@@ -74,6 +79,8 @@ impl PartWork {
         ensures does { (t : Terms) (f : Front) (o : WrittenPart) (front : ℕ) (family : Seq Child) (st : Stack) → IsFront t f o front →
             IsPartAt t self.old family f o st → DoesThen t st [] (IsPartAt t self.new family f o) }
         ensures over { (tops : Seq SeenTop) (family : Seq Child) → IsPartOver tops self.old family → IsPartOver tops self.new family }
+        ensures far { IsNoLessFar self.old.own.part self.new.own.part }
+        ensures issued { OnOk result (IsIssued self.new.own.part) }
     {
         let places = Vec::from_slice(alloc, self.own.places())?;
         self.own.hand_out_body();
@@ -87,6 +94,8 @@ impl PartWork {
         ensures does { (t : Terms) (f : Front) (o : WrittenPart) (front : ℕ) (family : Seq Child) (st : Stack) → IsFront t f o front →
             IsPartAt t self.old family f o st → DoesThen t st [] (IsPartAt t self.new family f o) }
         ensures over { (tops : Seq SeenTop) (family : Seq Child) → IsPartOver tops self.old family → IsPartOver tops self.new family }
+        ensures far { IsNoLessFar self.old.own.part self.new.own.part }
+        ensures issued { OnOk result (IsIssued self.new.own.part) }
     {
         let places = Vec::from_slice(alloc, self.own.places())?;
         let room = Vec::with_capacity(alloc, 512)?;
@@ -112,6 +121,7 @@ impl PartWork {
             IsPartAt t self.old family.old f o st → IsPartAt t self.new family.new f o st) }
         ensures over { IsPartOver tops.now self.new family.new }
         ensures due { IfOk result (λ leaf. IfSome leaf IsDue) }
+        ensures own { self.new.own ≡ self.old.own }
     {
         if family.len() == u32::MAX {
             return Err(NoMemory);
@@ -156,6 +166,7 @@ impl PartWork {
         ensures none { result ≡ false → self.new.io ≡ None }
         ensures written { is_due self.old.own.part.own ≡ false → is_due self.new.own.part.own ≡ false }
         ensures placing { self.new.own.part.placing ≡ self.old.own.part.placing }
+        ensures far { IsNoLessFar self.old.own.part self.new.own.part }
     {
         let Some(mut io) = self.io.take() else {
             return false;
@@ -177,6 +188,8 @@ impl PartWork {
             slice_get st.children child ≡ Some c → IsPartAt t self.old family.old f o st →
             IsPartAt t self.new family.new f o (heard_of st child c (Got a)) }
         ensures over { (tops : Seq SeenTop) → IsPartOver tops self.old family.old → IsPartOver tops self.new family.new }
+        ensures own { self.new.own ≡ self.old.own }
+        ensures out { (tops : Seq SeenTop) → IfSome self.old.io (IsWriteDue tops) → ⊥ }
     {
         let Some(mut io) = self.io.take() else {
             unreachable!()

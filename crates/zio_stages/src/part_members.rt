@@ -14,11 +14,11 @@ ghost use Rattle.zio_frames.specs.Frames.{Child, Stack};
 ghost use Rattle.zio_frames.specs.Moves.{heard_early, heard_of};
 ghost use Rattle.zio_frames.specs.Seats.{IsSeated};
 ghost use Rattle.zio_frames.specs.Slots.{AllHeard, Slot, left_behind_slots, told_in};
-ghost use Rattle.zio_parts.specs.PartWrites.{is_due, step_of};
+ghost use Rattle.zio_parts.specs.PartWrites.{is_due, is_ready, step_of};
 ghost use Rattle.zio_stages.specs.OwnParts.{DoesThen, IsOwed};
 ghost use Rattle.zio_stages.specs.PartNodes.{ComesTo, HandsMemberOf, IsAllocatedOver, IsPartNodeOver};
 ghost use Rattle.zio_stages.specs.PartOwns.{IsPartOwn, ShowsOwn, WrittenPart, part_plan, stored_as};
-ghost use Rattle.zio_stages.specs.PartWorks.{Front, HaveUnits, IsFront, IsMemberAt, IsPartAt, IsPartOver, IsPlaced, IsToldAs, IsWritten, asks_left};
+ghost use Rattle.zio_stages.specs.PartWorks.{Front, HaveUnits, IsFront, IsMemberAt, IsNoLessFar, IsPartAt, IsPartOver, IsPlaced, IsToldAs, IsWritten, asks_left};
 ghost use Rattle.zio_stages.specs.SpaceCalls.{SpaceCall};
 ghost use Rattle.zio_stages.specs.Tops.{AreTops};
 
@@ -59,6 +59,7 @@ impl PartWork {
             IsFront t f o front → IsPartAt t self.old family.old f o st → DoesThen t st calls (ComesTo t result (IsPartAt t self.new family.new f o))) }
         ensures over { IsPartOver (S.tops services.old) self.new family.new }
         ensures tops { S.tops services.new ≡ S.tops services.old }
+        ensures io { self.new.io ≡ self.old.io }
         ensures child { IfOk result IsAllocatedOver }
         ensures placed { result ≡ Ok Allocated.Placed → IsPlaced (step_of self.new.own.part) }
     {
@@ -89,6 +90,7 @@ impl PartWork {
             IsPartAt t self.old family.old f o st → HandsMemberOf t child (IsPartAt t self.new family.new f o) st) }
         ensures over { (tops : Seq SeenTop) → IsPartOver tops self.old family.old → IsPartOver tops self.new family.new }
         ensures child { IfOk result (λ child. IfSome child (λ node. (tops : Seq SeenTop) → IsPartNodeOver tops node)) }
+        ensures io { self.new.io ≡ self.old.io }
         ensures placed { result ≡ Ok None → asks_left self.old.own.part.placing ≡ 0 → IsPlaced (step_of self.new.own.part) }
         ensures self_err { OnErr result (self.new ≡ self.old) }
         ensures family_err { OnErr result (family.new ≡ family.old) }
@@ -115,6 +117,7 @@ impl PartWork {
             (t : Terms) (o : WrittenPart) (asked : Seq Task) (slots : Seq Slot) → IsPartOwn t self.now.own o asked slots →
             EndsAnswered (λ (v : Value). early v ≡ pointer) (told_in slots) (left_behind_slots slots (part_plan t o)) }
         ensures valid { (pointer : Option Bp) → result ≡ ReadyStep.Tell pointer → IfSome pointer (λ bp. IsTrue (valid bp)) }
+        ensures ready { (pointer : Option Bp) → result ≡ ReadyStep.Tell pointer → is_ready self.now.own.part ≡ true }
     {
         match self.own.next() {
             PartStep::WaitReady => ReadyStep::Wait(ChildKind::Gang),
@@ -182,6 +185,7 @@ impl PartWork {
         ensures io { self.new.io ≡ self.old.io }
         ensures own { self.new.own.part.own ≡ self.old.own.part.own }
         ensures placing { self.new.own.part.placing ≡ self.old.own.part.placing }
+        ensures far { IsNoLessFar self.old.own.part self.new.own.part }
     {
         let n = family.seat(child).number() - front;
         self.own.hear_told(n, pointer);
@@ -205,6 +209,7 @@ impl PartWork {
         ensures io { self.new.io ≡ self.old.io }
         ensures own { self.new.own.part.own ≡ self.old.own.part.own }
         ensures placing { self.new.own.part.placing ≡ self.old.own.part.placing }
+        ensures far { IsNoLessFar self.old.own.part self.new.own.part }
     {
         let n = family.seat(child).number() - front;
         self.own.hear_member(n, stored);

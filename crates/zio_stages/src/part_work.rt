@@ -56,6 +56,7 @@ impl PartWork {
             length path + o.levels ≡ 8 → st.outer.op ≡ f.part → st.inner ≡ None → IsBehind f.asked f.slots [] [] st → family ≡ st.children →
             IsPartAt t result family f o st }
         ensures over { (tops : Seq SeenTop) (family : Seq Child) → NoneSits Within family → IsPartOver tops result family }
+        ensures io { result.io ≡ None }
     {
         PartWork {
             own: PartOwn::new(write, path, bytes.as_slice()),

@@ -3,12 +3,14 @@
 //! Where the request fails or goes again, the places of its block go back to the space before the attempt closes, so that what
 //! closes keeps a block exactly where it finished without error.
 
-ghost use Rattle.std.specs.Prelude.{◌≡◌, IfErr, IfOk, OnOk, Some, length, false, true};
+ghost use Rattle.std.specs.Prelude.{◌≡◌, IfErr, IfOk, List as Seq, OnOk, Some, length, false, true};
 ghost use Rattle.std.specs.List.{list_all};
+ghost use Rattle.zio_types.specs.declared.place.Top.{Top as SeenTop};
 ghost use Rattle.zio_gang.specs.Attempts.{Terms};
 ghost use Rattle.zio_children.specs.RequestKids.{is_ended};
 ghost use Rattle.zio_frames.specs.Frames.{Stack};
-ghost use Rattle.zio_stages.specs.RequestNodes.{Closes, IsRequestNode};
+ghost use Rattle.zio_stages.specs.RequestNodes.{Closes, IsOwnOver, IsRequestNode};
+ghost use Rattle.zio_stages.specs.RequestStages.{with_own};
 ghost use Rattle.zio_stages.specs.RequestStoreds.{IsStoredWith, error_by, found_by, given_by, is_well, keeps_block, made_by, own_in};
 ghost use Rattle.zio_stages.specs.SpaceCalls.{GivesBack};
 ghost use Rattle.zio_stages.specs.StoredBlocks.{IsGoingBack};
@@ -47,6 +49,8 @@ impl RequestNode {
         ensures stored { IsStoredWith IsGoingBack self.new.own }
         ensures same { (t : Terms) (st : Stack) → IsRequestNode t self.old st → IsRequestNode t self.new st }
         ensures family { self.new.family ≡ self.old.family }
+        ensures rest { self.new ≡ with_own self.old self.new.own self.old.family }
+        ensures over { (tops : Seq SeenTop) → IsOwnOver tops self.old.own self.old.family → IsOwnOver tops self.new.own self.new.family }
         ensures tops { S.tops services.new ≡ S.tops services.old }
     {
         let error = error_of(&self.own);

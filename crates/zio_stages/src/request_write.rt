@@ -18,7 +18,8 @@ ghost use Rattle.zio_stages.specs.KidPointers.{HaveValidPointers};
 ghost use Rattle.zio_stages.specs.OwnParts.{IsOwed};
 ghost use Rattle.zio_stages.specs.WrittenBlocks.{IsSoundWrite};
 ghost use Rattle.zio_stages.specs.RequestNodes.{IsOwnOver, IsRequestNode};
-ghost use Rattle.zio_stages.specs.RequestWrites.{IsEndOf, IsPlacedWrite, IsWrittenWrite};
+ghost use Rattle.zio_stages.specs.RequestStages.{with_own};
+ghost use Rattle.zio_stages.specs.RequestWrites.{IsBegunWrite, IsEndOf, IsPlacedWrite, IsReadyWrite, IsWrittenWrite};
 ghost use Rattle.zio_stages.specs.RequestStoreds.{IsStoredWith, given_by};
 ghost use Rattle.zio_stages.specs.StoredBlocks.{IsGoingBack};
 
@@ -51,6 +52,8 @@ impl RequestNode {
         ensures waits { (kind : ChildKind) → result ≡ Ok (Content.Wait kind) → self.new ≡ self.old }
         ensures set { result ≡ Ok Content.Set → (t : Terms) (st : Stack) → IsRequestNode t self.old st → IsRequestNode t self.new st }
         ensures over { (tops : Seq SeenTop) → IsOwnOver tops self.old.own self.old.family → IsOwnOver tops self.new.own self.new.family }
+        ensures begun { result ≡ Ok Content.Set → IsBegunWrite self.new.own }
+        ensures rest { self.new ≡ with_own self.old self.new.own self.old.family }
         ensures err { OnErr result (self.new ≡ self.old) }
     {
         let kids = self.kids.kids();
@@ -77,6 +80,7 @@ impl RequestNode {
         ensures tell { (pointer : Option Bp) → result ≡ ReadyStep.Tell pointer → (t : Terms) (st : Stack) → IsRequestNode t self.now st →
             WillHave t st.outer pointer }
         ensures valid { (pointer : Option Bp) → result ≡ ReadyStep.Tell pointer → IfSome pointer (λ bp. IsTrue (valid bp)) }
+        ensures ready { (pointer : Option Bp) → result ≡ ReadyStep.Tell pointer → IsReadyWrite self.now.own }
     {
         let Own::Write(own) = &self.own else {
             unreachable!()
@@ -107,6 +111,7 @@ impl RequestNode {
         ensures stored { OnOk result (IsStoredWith IsGoingBack self.new.own) }
         ensures none { OnOk result (given_by self.new.own ≡ 0) }
         ensures over { OnOk result ((tops : Seq SeenTop) → IsOwnOver tops self.old.own self.old.family → IsOwnOver tops self.new.own self.new.family) }
+        ensures rest { self.new ≡ with_own self.old self.new.own self.old.family }
         ensures err { OnErr result (self.new ≡ self.old) }
     {
         match replace(&mut self.own, Own::Over) {

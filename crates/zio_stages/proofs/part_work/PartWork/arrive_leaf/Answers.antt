@@ -1,6 +1,10 @@
-use Rattle.std.proofs.Common.{◌≡◌, ◌∙◌, Some, ap, refl, sym}
+use Rattle.std.proofs.Common.{◌≡◌, ◌∙◌, Option, Some, ap, refl, subst, sym}
+use Rattle.std.specs.Prelude.{IfSome}
 use Rattle.zio_frames.specs.Frames.{Child}
+use Rattle.zio_stages.specs.NodeIos.{IsWriteDue}
+use Rattle.zio_stages.specs.declared.write_io.WriteIo.{WriteIo}
 use Rattle.zio_stages.proofs.NodeIoLemmas.{same_child}
+use Rattle.zio_stages.proofs.OutMoves.{write_idle}
 use Rattle.zio_stages.proofs.PartIos.{awaited_some, hears_at, io_over, over_goes}
 use Rattle.zio_stages.proofs.PartMoves.{write_at}
 use Rattle.zio_stages.proofs.part_work.PartWork.arrive_leaf.Goals as goal
@@ -32,3 +36,12 @@ returns-clause-over c = λ tops h.
     let e : w.io ≡ Some c.in-Some.io = sym c.take.ensures.value ∙ c.in-Some.is in
     let i = io_over tops w.own.part w.io c.in-Some.io c.args.family.now e h.io in
     over_goes tops w _ c.args.family.now c.hear_write.new.family c.in-Some.io c.hear_write.new.io e h refl refl refl (c.hear_write.ensures.over tops i.1) c.hear_write.ensures.sits
+
+pub returns-clause-out : goal.returns-clause-out
+returns-clause-out c = λ tops due.
+    let w = c.args.self.now in
+    let e : w.io ≡ Some c.in-Some.io = sym c.take.ensures.value ∙ c.in-Some.is in
+    let k = c.requires.awaited in
+    let sits = (io_over c.requires.over.0 w.own.part w.io c.in-Some.io c.args.family.now e c.requires.over.1.io).2 in
+    write_idle tops c.in-Some.io (subst (λ (io : Option WriteIo). IfSome io (IsWriteDue tops)) e due) k.number
+    (sits.outs c.args.child k.number k.child k.is k.goes k.seat)

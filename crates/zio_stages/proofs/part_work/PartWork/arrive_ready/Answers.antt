@@ -4,10 +4,12 @@ use Rattle.zio_frames.specs.Frames.{Child, OfOuter}
 use Rattle.zio_frames.specs.Moves.{child_told}
 use Rattle.zio_frames.specs.Slots.{IsOut}
 use Rattle.zio_parts.specs.Parts.{PartWriting, slots_of}
+use Rattle.zio_parts.specs.declared.members.Member.TheVariants.{Told}
 use Rattle.zio_stages.specs.PartOwns.{ForMember, IsPartOwn, asks_in}
-use Rattle.zio_stages.specs.PartWorks.{IsIoOver}
+use Rattle.zio_stages.specs.PartWorks.{IsIoOver, IsNoLessFar}
 use Rattle.zio_stages.specs.declared.family.Layer.TheVariants.{Own}
 use Rattle.zio_stages.proofs.NodeIoLemmas.{same_child, seat_there}
+use Rattle.zio_stages.proofs.PartFar.{far_member}
 use Rattle.zio_stages.proofs.PartHears.{member_goes}
 use Rattle.zio_stages.proofs.PartMembers.{io_changed, over_with}
 use Rattle.zio_stages.proofs.RequestHears.{if_there}
@@ -70,3 +72,8 @@ returns-clause-own c = ap (λ (y : PartWriting). y.own) c.hear_told.ensures.exac
 
 pub returns-clause-placing : goal.returns-clause-placing
 returns-clause-placing c = ap (λ (y : PartWriting). y.placing) c.hear_told.ensures.exact
+
+pub returns-clause-far : goal.returns-clause-far
+returns-clause-far c =
+    let x = c.args.self.now.own.part in
+    subst (IsNoLessFar x) (sym c.hear_told.ensures.exact) (far_member x (c.number.result - c.args.front - 2) (Told c.args.pointer) refl)

@@ -4,10 +4,12 @@ use Rattle.zio_frames.specs.Frames.{Child, OfOuter}
 use Rattle.zio_frames.specs.Moves.{child_ended}
 use Rattle.zio_frames.specs.Slots.{IsOut, Heard}
 use Rattle.zio_parts.specs.Parts.{PartWriting, slots_of}
+use Rattle.zio_parts.specs.declared.members.Member.TheVariants.{Ended as MemberEnded}
 use Rattle.zio_stages.specs.PartOwns.{ForMember, IsOutAs, IsPartOwn, asks_in, stored_as}
-use Rattle.zio_stages.specs.PartWorks.{IsIoOver}
+use Rattle.zio_stages.specs.PartWorks.{IsIoOver, IsNoLessFar}
 use Rattle.zio_stages.specs.declared.family.Layer.TheVariants.{Own}
 use Rattle.zio_stages.proofs.NodeIoLemmas.{same_child, seat_there}
+use Rattle.zio_stages.proofs.PartFar.{far_member}
 use Rattle.zio_stages.proofs.PartHears.{member_goes}
 use Rattle.zio_stages.proofs.PartMembers.{io_changed, over_with}
 use Rattle.zio_stages.proofs.RequestHears.{if_there}
@@ -82,3 +84,8 @@ returns-clause-own c = ap (λ (y : PartWriting). y.own) c.hear_member.ensures.ex
 
 pub returns-clause-placing : goal.returns-clause-placing
 returns-clause-placing c = ap (λ (y : PartWriting). y.placing) c.hear_member.ensures.exact
+
+pub returns-clause-far : goal.returns-clause-far
+returns-clause-far c =
+    let x = c.args.self.now.own.part in
+    subst (IsNoLessFar x) (sym c.hear_member.ensures.exact) (far_member x (c.number.result - c.args.front - 2) (MemberEnded c.args.stored.error c.args.stored.pointer c.args.stored.heads) refl)

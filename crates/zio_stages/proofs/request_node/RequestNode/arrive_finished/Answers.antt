@@ -1,16 +1,19 @@
-use Rattle.std.proofs.Common.{◌≡◌, ◌<◌, length, slice_get, Some, sym, ap, subst}
+use Rattle.std.proofs.Common.{◌≡◌, ◌<◌, ◌∙◌, length, slice_get, Some, refl, sym, ap, subst}
 use Rattle.zio_gang.specs.Attempts.{no_bits}
 use Rattle.zio_trace.specs.Tasks.{AttemptedBy}
-use Rattle.zio_children.specs.RequestKids.{IsOutWith, KidsUnderWay, numbers_of, pointers_of, state_at}
+use Rattle.zio_children.specs.RequestKids.{IsOutWith, KidsUnderWay, kid_is, numbers_of, pointers_of, state_at}
+use Rattle.zio_children.specs.declared.kids.KidState.TheVariants.{Ended}
 use Rattle.zio_frames.specs.Moves.{child_ended}
 use Rattle.zio_frames.specs.Slots.{Heard}
+use Rattle.zio_stages.specs.KidPointers.{HaveValidPointers}
 use Rattle.zio_stages.specs.WrittenBlocks.{HaveAllTold}
-use Rattle.zio_stages.proofs.KidPointerLemmas.{told_still}
+use Rattle.zio_stages.proofs.KidPointerLemmas.{told_still, valid_then}
 use Rattle.zio_stages.proofs.RequestHears.{heard_kid, kid_less, number_there, one_place, seat_is}
+use Rattle.zio_stages.proofs.RequestOver.{own_same, same_marked, told_valid}
 use Rattle.zio_stages.proofs.request_node.RequestNode.arrive_finished.Goals as goal
 
-pub returns : goal.returns
-returns c = λ t st x p below one h there asked by none gone.
+pub returns-clause-heard : goal.returns-clause-heard
+returns-clause-heard c = λ t st x p below one h there asked by none gone.
     let r = c.args.self.now in
     let place = c.place-place.result in
     let at = c.requires in
@@ -22,3 +25,20 @@ returns c = λ t st x p below one h there asked by none gone.
     heard_kid t r c.hear_finished.new.self c.end.new.self st c.args.child place x child_ended (Heard (AttemptedBy one)) h less c.place-place.ensures there
     (c.hear_finished.ensures.after r.attempt h.forest h.kid_asked h.kid_slots p.request.number one h.kids number by none gone) (ap (λ (k : KidsUnderWay). k.kept) c.hear_finished.ensures.kids)
     (λ told. subst (λ (y : KidsUnderWay). HaveAllTold y × (pointers_of y ≡ pointers_of r.kids.kids)) (sym c.hear_finished.ensures.kids) (told_still r.kids.kids place no_bits c.args.error c.args.pointer told out)) c.end.ensures
+
+pub returns-clause-kids : goal.returns-clause-kids
+returns-clause-kids c = λ place seat.
+    let r = c.args.self.now in
+    let same : place ≡ c.place-place.result = one_place r.family c.args.child place c.place-place.result seat c.place-place.ensures in
+    c.hear_finished.ensures.kids ∙ ap (λ n. kid_is r.kids.kids n (Ended no_bits c.args.error c.args.pointer)) (sym same)
+
+pub returns-clause-over : goal.returns-clause-over
+returns-clause-over c = λ tops over.
+    let r = c.args.self.now in
+    own_same tops r.own r.family c.end.new.self
+    (same_marked r.family c.end.new.self c.args.child c.place-place.result child_ended c.place-place.ensures (λ x. refl) c.end.ensures) over
+
+pub returns-clause-valid : goal.returns-clause-valid
+returns-clause-valid c = λ ok h.
+    subst HaveValidPointers (sym c.hear_finished.ensures.kids)
+    (valid_then c.args.self.now.kids.kids c.place-place.result (Ended no_bits c.args.error c.args.pointer) h (told_valid c.args.self.now c.args.child c.args.pointer h ok))

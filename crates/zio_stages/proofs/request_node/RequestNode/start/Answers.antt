@@ -2,12 +2,15 @@ use Rattle.std.proofs.Common.{◌≡◌, ◌<◌, ◌∷◌, ◌++◌, [], ◌�
 use Rattle.zio_types.specs.declared.request.ChildKind.TheVariants.{Logical}
 use Rattle.zio_children.specs.RequestKids.{KidsUnderWay}
 use Rattle.zio_frames.specs.Frames.{Child, OfOuter}
+use Rattle.zio_stages.specs.KidPointers.{HaveValidPointers}
 use Rattle.zio_stages.specs.NodeChildren.{new_child, seat_of}
 use Rattle.zio_stages.specs.RequestNodes.{HandsKid}
 use Rattle.zio_stages.specs.declared.family.Seat.{Seat}
 use Rattle.zio_stages.specs.declared.family.Seat.TheVariants.{Outer}
 use Rattle.zio_stages.specs.declared.waiting.Waiting.{Waiting}
+use Rattle.zio_stages.proofs.KidPointerLemmas.{valid_handed}
 use Rattle.zio_stages.proofs.RequestNodeLemmas.{hands_kid, with_kids}
+use Rattle.zio_stages.proofs.RequestOver.{SameWithin, own_same, same_added}
 use Rattle.zio_stages.proofs.request_node.RequestNode.start.Goals as goal
 
 pub returns-clause-child : goal.returns-clause-child
@@ -25,3 +28,14 @@ returns-clause-child c = λ number whole e t st seated h.
           (subst (λ n. n < length r.kids.kids.kids) c.in-Child.ensures.0 c.in-Child.ensures.1)
           (c.hand_out-whole.ensures.asks r.attempt h.forest h.kid_asked h.kid_slots h.kids) kept family),
     )
+
+pub returns-clause-over : goal.returns-clause-over
+returns-clause-over c = λ tops over.
+    let r = c.args.self.now in
+    let there : c.in_ok-seat.seat ≡ Outer r.kids.kids.handed = c.in_ok-seat.ensures.seat ∙ ap (λ n. Outer n) c.in-Child.ensures.0 in
+    let family : c.add.new.self ≡ r.family ++ new_child (OfOuter r.kids.kids.handed) Logical ∷ [] =
+    c.in_ok-number.ensures.ok ∙ ap (λ (s : Seat). r.family ++ new_child (seat_of s) Logical ∷ []) there in
+    own_same tops r.own r.family c.add.new.self (subst (SameWithin r.family) (sym family) (same_added r.family r.kids.kids.handed Logical)) over
+
+pub returns-clause-valid : goal.returns-clause-valid
+returns-clause-valid c = λ h. subst HaveValidPointers (sym c.hand_out-whole.ensures.kids) (valid_handed c.args.self.now.kids.kids h)

@@ -52,3 +52,6 @@ pub returns-clause-over : goal.returns-clause-over
 returns-clause-over c = λ tops over.
     let r = c.args.self.now in
     c.in_ok-work.ensures.over tops r.family (subst (λ (o : Own). IsOwnOver tops o r.family) c.requires.due over)
+
+pub returns-clause-begun : goal.returns-clause-begun
+returns-clause-begun c = λ e. c.in_ok-work.ensures.io

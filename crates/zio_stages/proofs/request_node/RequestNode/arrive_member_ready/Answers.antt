@@ -1,0 +1,24 @@
+use Rattle.std.proofs.Common.{refl, subst}
+use Rattle.zio_stages.specs.RequestNodes.{IsOwnOver}
+use Rattle.zio_stages.specs.declared.request_node.Own.{Own}
+use Rattle.zio_stages.proofs.RequestOwnLemmas.{keeps_same, own_early}
+use Rattle.zio_stages.proofs.RequestWriteLemmas.{front_in, node_at, part_at, write_in}
+use Rattle.zio_stages.proofs.request_node.RequestNode.arrive_member_ready.Goals as goal
+
+pub arrive_ready-requires-clause-member : goal.arrive_ready-requires-clause-member
+arrive_ready-requires-clause-member c = own_early c.args.self.now c.in-Write.field-0 c.args.child c.in-Write.is c.requires.hears
+
+pub returns-clause-told : goal.returns-clause-told
+returns-clause-told c = λ t st d h there.
+    let r = c.args.self.now in
+    let w = c.in-Write.field-0 in
+    let own = write_in t r st w h c.in-Write.is in
+    node_at t r st _ w _ c.arrive_ready.new.family h own refl
+    (c.arrive_ready.ensures.told t (front_in t r st h) own.part st d own.front (part_at t r st w h own) there)
+
+pub returns-clause-over : goal.returns-clause-over
+returns-clause-over c = λ tops over.
+    c.arrive_ready.ensures.over tops (subst (λ (o : Own). IsOwnOver tops o c.args.self.now.family) c.in-Write.is over)
+
+pub returns-clause-keeps : goal.returns-clause-keeps
+returns-clause-keeps c = keeps_same c.args.self.now.own c.in-Write.field-0 _ c.in-Write.is c.arrive_ready.ensures.far c.arrive_ready.ensures.io

@@ -1,0 +1,26 @@
+use Rattle.std.proofs.Common.{refl, subst}
+use Rattle.zio_stages.specs.RequestNodes.{IsOwnOver}
+use Rattle.zio_stages.specs.declared.request_node.Own.{Own}
+use Rattle.zio_stages.proofs.RequestOwnLemmas.{keeps_same, own_ended}
+use Rattle.zio_stages.proofs.RequestWriteLemmas.{front_in, node_at, part_at, write_in}
+use Rattle.zio_stages.proofs.request_node.RequestNode.arrive_stored.Goals as goal
+
+pub arrive_stored-requires : goal.arrive_stored-requires
+arrive_stored-requires c =
+    let m = own_ended c.args.self.now c.in-Write.field-0 c.args.child c.args.stored c.in-Write.is c.requires.hears in
+    record { member = (m.told, m.at, m.told_is, λ none. absurd (m.some none)) }
+
+pub returns-clause-heard : goal.returns-clause-heard
+returns-clause-heard c = λ t st d h there.
+    let r = c.args.self.now in
+    let w = c.in-Write.field-0 in
+    let own = write_in t r st w h c.in-Write.is in
+    node_at t r st _ w _ c.arrive_stored.new.family h own refl
+    (c.arrive_stored.ensures.heard t (front_in t r st h) own.part st d own.front (part_at t r st w h own) there)
+
+pub returns-clause-over : goal.returns-clause-over
+returns-clause-over c = λ tops over.
+    c.arrive_stored.ensures.over tops (subst (λ (o : Own). IsOwnOver tops o c.args.self.now.family) c.in-Write.is over)
+
+pub returns-clause-keeps : goal.returns-clause-keeps
+returns-clause-keeps c = keeps_same c.args.self.now.own c.in-Write.field-0 _ c.in-Write.is c.arrive_stored.ensures.far c.arrive_stored.ensures.io

@@ -22,6 +22,8 @@ pub mod PartWorks
 pub mod PartsOut
 pub mod ReadIos
 pub mod RequestNodes
+pub mod RequestOwns
+pub mod RequestReads
 pub mod RequestStoreds
 pub mod RequestWrites
 pub mod SpaceCalls

@@ -1,5 +1,5 @@
 -- How much walks leave that are joined.
-use Rattle.std.proofs.Common.{◌≡◌, ◌≤◌, ◌+◌, ℕ, List, [], ◌∷◌, ◌++◌, length, Option, Some, None, get_or, sym, subst, vec_capacity, arith, length-append}
+use Rattle.std.proofs.Common.{◌≡◌, ◌≤◌, ◌+◌, ℕ, List, [], ◌∷◌, length, Option, Some, None, get_or, sym, subst, vec_capacity, arith, length-append}
 use Rattle.zio_trace.specs.Plans.{join_walked, under_head}
 use Rattle.zio_trace.specs.Tasks.{Walked}
 use Rattle.zio_parts.specs.Gathers.{FitsIn, IsRoomFor, KeepsRoom, gathered}

@@ -1,5 +1,5 @@
 -- The read of a block under way: what its fields show, what is left by each call, and what each step shows.
-use Rattle.std.proofs.Common.{◌≡◌, ℕ, zero, suc, ◌+◌, ◌-◌, ◌<◌, ◌≤◌, List, [], ◌∷◌, ◌++◌, length, map, set, slice_get, true, Option, Some, None, Ok, Err, refl, sym, ap, ◌∙◌, subst, inr, arith, append_assoc, append-nil, length-append, length-set}
+use Rattle.std.proofs.Common.{◌≡◌, ℕ, zero, suc, ◌+◌, ◌-◌, ◌<◌, ◌≤◌, List, [], ◌∷◌, ◌++◌, length, map, set, take, slice_get, true, Option, Some, None, Ok, Err, refl, sym, ap, ◌∙◌, subst, inr, arith, append_assoc, append-nil, length-append, length-set}
 use Rattle.std.proofs.lemmas.List.{map-append, map-set, length-map}
 use Rattle.zio_blkptr.specs.declared.pointer.Bp.{Bp}
 use Rattle.zio_blkptr.specs.Pointers.{places_of}
@@ -62,6 +62,42 @@ more_fields phase bodies results more out h is found room few =
       counted = omega arith;
       few = omega arith;
     }
+
+unread_none : (phase : Phase) (results : List (Option Answer)) → IsIdle phase (results ++ None ∷ []) → phase ≡ Found
+unread_none Unread results idle = absurd (let e : length (results ++ None ∷ []) ≡ 0 = ap length idle in omega (arith, e, length-append results (None ∷ [])))
+unread_none Out results idle = absurd (let e : length (results ++ None ∷ []) ≡ 0 = ap length idle in omega (arith, e, length-append results (None ∷ [])))
+unread_none (Failed f) results idle = absurd (let e : length (results ++ None ∷ []) ≡ 0 = ap length idle in omega (arith, e, length-append results (None ∷ [])))
+unread_none Found results idle = refl
+
+-- the last body that was handed out, which is out, isn't
+pub less_fields : (phase : Phase) (bodies : List Bp) (results less : List (Option Answer)) (out : ℕ) → ReadFields phase bodies results out → results ≡ less ++ None ∷ []
+    → (1 ≤ out) × ReadFields phase bodies less (out - 1)
+less_fields phase bodies results less out h is =
+    let counted = h.counted in
+    let within = h.within in
+    let most = h.few in
+    let found : phase ≡ Found = unread_none phase less (subst (IsIdle phase) is h.idle) in
+    let longer : length results ≡ length less + 1 = ap length is ∙ length-append less (None ∷ []) in
+    let outs : outs_in results ≡ outs_in less + 1 = ap outs_in is ∙ outs_more less in (
+      omega arith,
+      record {
+        idle = subst (λ p. IsIdle p less) (sym found) tt;
+        within = omega arith;
+        counted = omega arith;
+        few = omega arith;
+      },
+    )
+
+take_front : {X : Type 0} (xs ys : List X) → take (length xs) (xs ++ ys) ≡ xs
+take_front [] ys = refl
+take_front (x ∷ xs) ys = ap (λ zs. x ∷ zs) (take_front xs ys)
+
+-- all but the last
+pub but_last : {X : Type 0} (items now less : List X) (x : X) (n : ℕ) → items ≡ less ++ x ∷ [] → now ≡ take (n - 1) items → n ≡ length items → now ≡ less
+but_last items now less x n is rest count =
+    let long : length items ≡ length less + 1 = ap length is ∙ length-append less (x ∷ []) in
+    let k : n - 1 ≡ length less = omega arith in
+    rest ∙ ap (λ m. take m items) k ∙ ap (take (length less)) is ∙ take_front less (x ∷ [])
 
 pub heard_fields : (phase : Phase) (bodies : List Bp) (results : List (Option Answer)) (out n : ℕ) (found : Answer) → ReadFields phase bodies results out → slice_get results n ≡ Some None
     → ReadFields phase bodies (set results n (Some found)) (out - 1)

@@ -1,6 +1,6 @@
 // The bodies of a block, joined.
 
-ghost use Rattle.std.specs.Prelude.{◌≡◌, ◌++◌, IfOk, Option};
+ghost use Rattle.std.specs.Prelude.{◌≡◌, ◌++◌, IfErr, IfOk, Option};
 ghost use Rattle.zio_parts.specs.Joins.{no_bodies, then_got};
 ghost use Rattle.zio_parts.specs.TreeReads.{bodies_in, bytes_or};
 
@@ -35,17 +35,21 @@ impl Joined {
     }
 
     /// These, and what was read of the next body, if it was.
-    fn and(self, found: Option<Result<Bytes, Errno>>) -> Result<Joined, NoMemory>
-        ensures { IfOk result (λ joined. joined ≡ then_got self found) }
+    fn and(self, found: &Option<Result<Bytes, Errno>>) -> Result<Joined, NoMemory>
+        ensures { IfOk result (λ joined. joined ≡ then_got self found.now) }
     {
         match found {
-            Some(Ok(part)) => Ok(Joined {
-                errors: self.errors,
-                bytes: append(self.bytes, part)?,
-            }),
+            Some(Ok(part)) => {
+                let mut bytes = self.bytes;
+                bytes.extend_from_slice(part.as_slice())?;
+                Ok(Joined {
+                    errors: self.errors,
+                    bytes,
+                })
+            }
             Some(Err(error)) => {
                 let mut errors = self.errors;
-                errors.push(Some(error))?;
+                errors.push(Some(*error))?;
                 Ok(Joined {
                     errors,
                     bytes: self.bytes,
@@ -67,28 +71,39 @@ impl Joined {
     }
 }
 
-/// What was read of these bodies, joined, or the worst of their errors. The bytes of a first body are moved.
+/// What was read of these bodies, joined, or the worst of their errors. The bytes of a body that is alone are moved. Where
+/// memory is refused the results come back.
 pub(crate) fn join(
     alloc: Global,
     results: Vec<Option<Result<Bytes, Errno>>>,
+) -> Result<Result<Bytes, Errno>, Vec<Option<Result<Bytes, Errno>>>>
+    ensures found { IfOk result (λ found. found ≡ bytes_or (bodies_in results.items)) }
+    ensures back { IfErr result (λ back. back.items ≡ results.items) }
+{
+    let mut rest = results;
+    if rest.len() == 1 {
+        match rest.pop() {
+            Some(Some(found)) => return Ok(found),
+            Some(None) => return Ok(Ok(List::new(alloc))),
+            None => unreachable!(),
+        }
+    }
+    match join_all(alloc, &rest) {
+        Ok(found) => Ok(found),
+        Err(NoMemory) => Err(rest),
+    }
+}
+
+/// What was read of these bodies, joined, or the worst of their errors.
+fn join_all(
+    alloc: Global,
+    results: &[Option<Result<Bytes, Errno>>],
 ) -> Result<Result<Bytes, Errno>, NoMemory>
-    ensures { IfOk result (λ found. found ≡ bytes_or (bodies_in results.items)) }
+    ensures { IfOk result (λ found. found ≡ bytes_or (bodies_in results.now)) }
 {
     let mut joined = Joined::nothing(alloc);
     for found in results {
         joined = joined.and(found)?;
     }
     Ok(joined.into_found())
-}
-
-/// Both, joined. The second is moved where the first is empty.
-fn append(front: Bytes, back: Bytes) -> Result<Bytes, NoMemory>
-    ensures { IfOk result (λ bytes. bytes ≡ front ++ back) }
-{
-    if front.is_empty() {
-        return Ok(back);
-    }
-    let mut bytes = front;
-    bytes.extend_from_slice(back.as_slice())?;
-    Ok(bytes)
 }

@@ -1,6 +1,6 @@
 // The read of a block under way.
 
-ghost use Rattle.std.specs.Prelude.{◌≡◌, ◌++◌, ◌+◌, ◌<◌, ◌≤◌, ◌∷◌, [], IfOk, List, None, OnErr, OnOk, Option, Some, length, slice_get, slice_set};
+ghost use Rattle.std.specs.Prelude.{◌≡◌, ◌++◌, ◌+◌, ◌<◌, ◌≤◌, ◌∷◌, [], IfErr, IfOk, List, None, OnErr, OnOk, Option, Some, length, slice_get, slice_set};
 ghost use Rattle.zio_gang.specs.declared.tree.Head.{Head};
 ghost use Rattle.zio_gang.specs.Attempts.{Terms};
 ghost use Rattle.zio_trace.specs.Calls.{answered_at};
@@ -8,7 +8,7 @@ ghost use Rattle.zio_trace.specs.Plans.{plan};
 ghost use Rattle.zio_trace.specs.Tasks.{Got, ReadTree, WalkedBy};
 ghost use Rattle.zio_parts.specs.ReadFields.{ReadFields};
 ghost use Rattle.zio_frames.specs.Slots.{Heard, IsOut, outs_before, told_in};
-ghost use Rattle.zio_parts.specs.TreeReads.{ShowsRead, bodies_or, found_of, fresh_read, left_of_read, slots_of, walk_heard, with_phase, with_results};
+ghost use Rattle.zio_parts.specs.TreeReads.{Reading, ShowsRead, bodies_or, found_of, fresh_read, left_of_read, slots_of, walk_heard, with_phase, with_results};
 
 use crate::bodies::join;
 use crate::head_walk::nth;
@@ -93,7 +93,8 @@ impl TreeRead {
 
     /// What is to be done next.
     pub fn next(&self) -> TreeStep
-        ensures { ShowsRead self.now result }
+        ensures shows { ShowsRead self.now result }
+        ensures body { (body : BodyRead) → result ≡ TreeStep.Body body → slice_get self.now.bodies body.n ≡ Some body.bp }
     {
         match self.phase {
             Phase::Unread => TreeStep::Walk,
@@ -106,7 +107,8 @@ impl TreeRead {
     /// What is to be done next behind a walk without errors.
     fn next_body(&self) -> TreeStep
         requires { self.now.phase ≡ Phase.Found }
-        ensures { ShowsRead self.now result }
+        ensures shows { ShowsRead self.now result }
+        ensures body { (body : BodyRead) → result ≡ TreeStep.Body body → slice_get self.now.bodies body.n ≡ Some body.bp }
     {
         let n = self.results.len();
         if self.out == BODIES_OUT_MAX {
@@ -149,6 +151,15 @@ impl TreeRead {
         Ok(())
     }
 
+    /// The read of the body that was handed out last isn't out: all is as before that.
+    pub fn take_back_body(&mut self)
+        requires { (before : Reading) × (self.old ≡ with_results before (before.results ++ None ∷ [])) }
+        ensures { (before : Reading) → self.old ≡ with_results before (before.results ++ None ∷ []) → self.new ≡ before }
+    {
+        self.results.pop();
+        self.out -= 1;
+    }
+
     /// The walk over the headers ended, and left this.
     pub fn hear_walk(&mut self, walked: Walked)
         requires { self.old.phase ≡ Phase.Out }
@@ -177,12 +188,30 @@ impl TreeRead {
         self.out -= 1;
     }
 
-    /// The block's bytes or its error, where it ended. A block of one body is that body's bytes, moved.
-    pub fn into_found(self, alloc: Global) -> Result<Result<Bytes, Errno>, NoMemory>
-        ensures { IfOk result (λ found. found ≡ found_of self) }
+    /// The block's bytes or its error, where it ended. A block of one body is that body's bytes, moved. Where memory is
+    /// refused the read comes back.
+    pub fn into_found(self, alloc: Global) -> Result<Result<Bytes, Errno>, TreeRead>
+        ensures found { IfOk result (λ found. found ≡ found_of self) }
+        ensures back { IfErr result (λ read. read ≡ self) }
     {
-        match self.phase {
-            Phase::Found => join(alloc, self.results),
+        let TreeRead {
+            bp,
+            phase,
+            bodies,
+            results,
+            out,
+        } = self;
+        match phase {
+            Phase::Found => match join(alloc, results) {
+                Ok(found) => Ok(found),
+                Err(results) => Err(TreeRead {
+                    bp,
+                    phase,
+                    bodies,
+                    results,
+                    out,
+                }),
+            },
             Phase::Failed(error) => Ok(Err(error)),
             Phase::Unread | Phase::Out => Ok(Err(Errno::Io)),
         }

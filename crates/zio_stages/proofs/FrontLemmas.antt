@@ -16,14 +16,11 @@ use Rattle.zio_stages.specs.declared.own_free.FreeWalk.{FreeWalk}
 use Rattle.zio_stages.specs.declared.own_read.BodyIo.{BodyIo}
 use Rattle.zio_stages.specs.declared.own_read.OwnRead.{OwnRead}
 use Rattle.zio_stages.proofs.BehindLemmas.{behind_front}
+use Rattle.zio_stages.proofs.RequestOwnLemmas.{body_still}
 
 -- the node, where the operation there is so far now
 abbrev now_at : Stack → ℕ → Slot → List Child → Stack
 now_at st place slot more = with_children (set_at st (OfOuter place) slot) more
-
-body_still : (t : Terms) (o : Option BodyIo) (m n : ℕ) (a b : Stack) → m ≡ n → b.inner ≡ a.inner → IsBodyIn t o m a → IsBodyIn t o n b
-body_still t None m n a b same e h = e ∙ h
-body_still t (Some x) m n a b same e h = record { inner = h.inner; is = e ∙ h.is; number = h.number ∙ ap (λ (k : ℕ). k + x.number) same; part = h.part }
 
 pub read_front : (t : Terms) (w : OwnRead) (family more : List Child) (tree : Tree) (front_asked : List Task) (front : List Slot) (st : Stack) (place : ℕ) (slot : Slot) → place < length front
     → ArePartsOut front_asked (set front place slot) → IsOwnRead t w family tree front_asked front st → IsOwnRead t w more tree front_asked (set front place slot) (now_at st place slot more)

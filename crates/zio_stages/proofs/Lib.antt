@@ -64,10 +64,14 @@ pub mod ReadIoHeard
 pub mod ReadIoLemmas
 pub mod ReadIoMoves
 pub mod RequestEnds
+pub mod RequestFoundLemmas
 pub mod RequestHears
+pub mod RequestMembers
 pub mod RequestNodeLemmas
 pub mod RequestOver
 pub mod RequestOwnLemmas
+pub mod RequestOwnMoves
+pub mod RequestReadLemmas
 pub mod RequestSits
 pub mod RequestStoredLemmas
 pub mod RequestWriteLemmas

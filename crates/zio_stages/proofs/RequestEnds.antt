@@ -37,7 +37,7 @@ heard_both [] ys a b = b
 heard_both (Heard v ∷ xs) ys a b = heard_both xs ys a b
 heard_both (IsOut told ∷ xs) ys a b = absurd (cc)
 
-left_ends : {A B : Type 0} (g : A → B) (slots : List Slot) (q : TaskPlan A) (a : A) → told_in slots ≡ [] → left_behind_slots slots q ≡ Ends a
+pub left_ends : {A B : Type 0} (g : A → B) (slots : List Slot) (q : TaskPlan A) (a : A) → told_in slots ≡ [] → left_behind_slots slots q ≡ Ends a
     → left_behind_slots slots (q >>= λ x. Ends (g x)) ≡ Ends (g a)
 left_ends g [] q a h e = ap (λ p. p >>= λ x. Ends (g x)) e
 left_ends g (s ∷ slots) (Ends b) a h e = ap (λ p. p >>= λ x. Ends (g x)) e

@@ -7,6 +7,7 @@ use Rattle.zio_trace.specs.Families.{Forest}
 use Rattle.zio_trace.specs.Tasks.{Attempt, Task}
 use Rattle.zio_children.specs.RequestKids.{IsOutWith, KidsUnderWay, numbers_of, pointers_of, state_at}
 use Rattle.zio_children.proofs.KidFields.{out_at}
+use Rattle.zio_children.proofs.KidPlans.{numbers_length}
 use Rattle.zio_frames.specs.Frames.{Child, Inner, OfOuter, Seat, Stack}
 use Rattle.zio_frames.specs.Moves.{set_at, with_children}
 use Rattle.zio_frames.specs.Seats.{asked_at}
@@ -18,12 +19,13 @@ use Rattle.zio_stages.specs.KidTrees.{IsKids, KidsHeld}
 use Rattle.zio_stages.specs.OwnParts.{IsBehind}
 use Rattle.zio_stages.specs.WrittenBlocks.{HaveAllTold, IsBlockOf}
 use Rattle.zio_stages.specs.PartWorks.{Front, IsPartWithin}
-use Rattle.zio_stages.specs.RequestNodes.{IsOwnOf, IsRequestNode, IsSeatOf, front_by}
+use Rattle.zio_stages.specs.RequestNodes.{IsOwnOf, IsRequestNode, IsSeatOf, front_by, own_got}
 use Rattle.zio_stages.specs.Waits.{pending_of}
 use Rattle.zio_stages.specs.declared.request_node.Own.{Own}
-use Rattle.zio_stages.specs.declared.request_node.Own.TheVariants.{Due, Over, Stored, Write}
+use Rattle.zio_stages.specs.declared.request_node.Own.TheVariants.{Claim, Due, Found, Free, Over, Read, Stored, Write}
 use Rattle.zio_stages.specs.declared.request_node.RequestNode.{RequestNode}
 use Rattle.zio_stages.proofs.RequestNodeLemmas.{with_kids}
+use Rattle.zio_stages.proofs.RequestOwnLemmas.{StayOut, claim_still, found_still, free_still, read_still}
 use Rattle.zio_stages.proofs.KidAsking.{kids_full, kids_out}
 use Rattle.zio_stages.proofs.RequestSits.{IsAttemptAt, asked_there}
 
@@ -87,10 +89,10 @@ within_still t bytes w m n io i j e f h =
     subst (λ k. IsPartWithin t bytes w k io j) e (subst (λ (k : Option Inner). IsPartWithin t bytes w m io k) (sym f) h)
 
 own_still : (t : Terms) (r s : RequestNode) (x y : KidsUnderWay) (f g : Front) (own : Own) (a b : Stack) (asked : List Task) (slots : List Slot)
-    → IsOwnOf t r x f own a asked slots → s.attempt ≡ r.attempt → pending_of s.waiting ≡ pending_of r.waiting → TellTheSame x y
+    → IsOwnOf t r x f own a asked slots → s.attempt ≡ r.attempt → pending_of s.waiting ≡ pending_of r.waiting → TellTheSame x y → StayOut x y
     → length g.slots ≡ length f.slots → IsBehind g.asked g.slots asked slots b → b.inner ≡ a.inner → IsOwnOf t s y g own b asked slots
-own_still t r s x y f g Due a b asked slots h n p same l behind e = (h.0, h.1, e ∙ h.2)
-own_still t r s x y f g (Write w) a b asked slots h n p same l behind e =
+own_still t r s x y f g Due a b asked slots h n p same out l behind e = (h.0, h.1, e ∙ h.2)
+own_still t r s x y f g (Write w) a b asked slots h n p same out l behind e =
     let k = same h.told in
     record {
       told = k.0;
@@ -105,7 +107,7 @@ own_still t r s x y f g (Write w) a b asked slots h n p same l behind e =
         within = within_still t w.work.bytes w.work.own.part (length f.slots) (length g.slots) w.work.io a.inner b.inner (sym l) e h.is.within;
       };
     }
-own_still t r s x y f g (Stored v) a b asked slots h n p same l behind e =
+own_still t r s x y f g (Stored v) a b asked slots h n p same out l behind e =
     let k = same h.told in
     record {
       told = k.0;
@@ -120,7 +122,24 @@ own_still t r s x y f g (Stored v) a b asked slots h n p same l behind e =
       value = h.value;
       came_to = h.came_to;
     }
-own_still t r s x y f g Over a b asked slots h n p same l behind e = record { told = (same h.told).0; alone = e ∙ h.alone; heard = h.heard }
+own_still t r s x y f g (Read w) a b asked slots h n p same out l behind e =
+    read_still t w f g (pending_of r.waiting) (pending_of s.waiting) x y a b asked slots h p out l behind e
+own_still t r s x y f g (Free w) a b asked slots h n p same out l behind e =
+    free_still w f g (pending_of r.waiting) (pending_of s.waiting) x y a b asked slots h p out behind e
+own_still t r s x y f g (Claim w) a b asked slots h n p same out l behind e =
+    claim_still w f g (pending_of r.waiting) (pending_of s.waiting) x y a b asked slots h p out behind e
+own_still t r s x y f g (Found v) a b asked slots h n p same out l behind e =
+    found_still t (own_got v) r.attempt s.attempt (pending_of r.waiting) (pending_of s.waiting) x y a b slots h n p out e
+own_still t r s x y f g Over a b asked slots h n p same out l behind e = record { told = (same h.told).0; alone = e ∙ h.alone; heard = h.heard }
+
+-- as many were handed out, and there are as many
+stay_out : (x y : KidsHeld) (attempt : ℕ) (forest : Forest) (asked : List Task) (slots : List Slot) (place : ℕ) (slot : Slot) → IsKids x attempt forest asked slots
+    → IsKids y attempt forest asked (set slots place slot) → StayOut x.kids y.kids
+stay_out x y attempt forest asked slots place slot h k = λ all.
+    let as_many : length slots ≡ x.kids.handed = h.all in
+    let still : length (set slots place slot) ≡ y.kids.handed = k.all in
+    let numbers : length (numbers_of x.kids.kids) ≡ length (numbers_of y.kids.kids) = ap length (sym h.roots ∙ k.roots) in
+    omega (arith, all, as_many, still, length-set slots place slot, numbers, numbers_length x.kids.kids, numbers_length y.kids.kids)
 
 -- the operation of the child there is so far now
 pub hears_kid : (t : Terms) (r : RequestNode) (kids : KidsHeld) (family : List Child) (st : Stack) (place : ℕ) (seat : Seat) (slot : Slot) (h : IsRequestNode t r st)
@@ -143,7 +162,7 @@ hears_kid t r kids family st place seat slot h l at is kept same =
       kept = kept ∙ h.kept;
       own = own_still t r (with_kids r kids family) r.kids.kids kids.kids (front_by r h.forest h.kid_asked h.kid_slots)
           (front_by r h.forest h.kid_asked (set h.kid_slots place slot)) r.own st (with_children (set_at st (OfOuter place) slot) family) h.own_asked h.own_slots
-          h.own refl refl same (length-set h.kid_slots place slot)
+          h.own refl refl same (stay_out r.kids kids r.attempt h.forest h.kid_asked h.kid_slots place slot h.kids is) (length-set h.kid_slots place slot)
           (record {
             asked_are = h.asked;
             slots_are = slots;

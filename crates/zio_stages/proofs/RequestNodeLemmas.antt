@@ -10,13 +10,12 @@ use Rattle.zio_frames.specs.Moves.{AsksNext, handed}
 use Rattle.zio_frames.specs.Slots.{IsOut, Slot}
 use Rattle.zio_stages.specs.KidTrees.{HandsOut, IsKids, KidsHeld}
 use Rattle.zio_stages.specs.NodeChildren.{new_child}
-use Rattle.zio_stages.specs.WrittenBlocks.{HaveAllTold}
 use Rattle.zio_stages.specs.PartWorks.{Front}
 use Rattle.zio_stages.specs.RequestNodes.{HandsKid, IsOwnOf, IsRequestNode, front_by}
 pub use Rattle.zio_stages.specs.RequestStages.{with_kids}
 use Rattle.zio_stages.specs.Waits.{pending_of}
 use Rattle.zio_stages.specs.declared.request_node.Own.{Own}
-use Rattle.zio_stages.specs.declared.request_node.Own.TheVariants.{Due, Over, Stored, Write}
+use Rattle.zio_stages.specs.declared.request_node.Own.TheVariants.{Claim, Due, Found, Free, Over, Read, Stored, Write}
 use Rattle.zio_stages.specs.declared.request_node.RequestNode.{RequestNode}
 use Rattle.zio_stages.specs.declared.waiting.Waiting.{Waiting}
 use Rattle.zio_stages.proofs.KidAsking.{asks_kid}
@@ -54,22 +53,30 @@ flat_is st e = λ i. record { outer = st.outer; inner = sym e i; children = st.c
 
 -- before all its children are out nothing of its own work is asked
 pub own_idle : (t : Terms) (r : RequestNode) (x : KidsUnderWay) (f : Front) (own : Own) (st : Stack) (asked : List Task) (slots : List Slot)
-    → IsOwnOf t r x f own st asked slots → (HaveAllTold x → ⊥) → (asked ≡ []) × (slots ≡ []) × (st.inner ≡ None)
+    → IsOwnOf t r x f own st asked slots → (x.handed ≡ length x.kids → ⊥) → (asked ≡ []) × (slots ≡ []) × (st.inner ≡ None)
 own_idle t r x f Due st asked slots h not = h
-own_idle t r x f (Write w) st asked slots h not = absurd (not h.told)
-own_idle t r x f (Stored b) st asked slots h not = absurd (not h.told)
-own_idle t r x f Over st asked slots h not = absurd (not h.told)
+own_idle t r x f (Write w) st asked slots h not = absurd (not h.told.all)
+own_idle t r x f (Stored b) st asked slots h not = absurd (not h.told.all)
+own_idle t r x f (Read w) st asked slots h not = absurd (not h.all)
+own_idle t r x f (Free w) st asked slots h not = absurd (not h.all)
+own_idle t r x f (Claim w) st asked slots h not = absurd (not h.all)
+own_idle t r x f (Found own) st asked slots h not = absurd (not h.all)
+own_idle t r x f Over st asked slots h not = absurd (not h.told.all)
 
 -- and it is still due
 own_due : (t : Terms) (r s : RequestNode) (x y : KidsUnderWay) (f g : Front) (own : Own) (a b : Stack) (asked : List Task) (slots : List Slot)
-    → IsOwnOf t r x f own a asked slots → (HaveAllTold x → ⊥) → b.inner ≡ a.inner → IsOwnOf t s y g own b [] []
+    → IsOwnOf t r x f own a asked slots → (x.handed ≡ length x.kids → ⊥) → b.inner ≡ a.inner → IsOwnOf t s y g own b [] []
 own_due t r s x y f g Due a b asked slots h not e = (refl, refl, e ∙ h.2)
-own_due t r s x y f g (Write w) a b asked slots h not e = absurd (not h.told)
-own_due t r s x y f g (Stored v) a b asked slots h not e = absurd (not h.told)
-own_due t r s x y f g Over a b asked slots h not e = absurd (not h.told)
+own_due t r s x y f g (Write w) a b asked slots h not e = absurd (not h.told.all)
+own_due t r s x y f g (Stored v) a b asked slots h not e = absurd (not h.told.all)
+own_due t r s x y f g (Read w) a b asked slots h not e = absurd (not h.all)
+own_due t r s x y f g (Free w) a b asked slots h not e = absurd (not h.all)
+own_due t r s x y f g (Claim w) a b asked slots h not e = absurd (not h.all)
+own_due t r s x y f g (Found v) a b asked slots h not e = absurd (not h.all)
+own_due t r s x y f g Over a b asked slots h not e = absurd (not h.told.all)
 
-not_all : (x : KidsUnderWay) → x.handed < length x.kids → HaveAllTold x → ⊥
-not_all x less told = omega (arith, less, told.all)
+not_all : (x : KidsUnderWay) → x.handed < length x.kids → x.handed ≡ length x.kids → ⊥
+not_all x less all = omega (arith, less, all)
 
 hands_flat : (t : Terms) (r : RequestNode) (kids : KidsHeld) (family : List Child) (ws : List Waiting) (o : Frame) (cs : List Child) (h : IsRequestNode t r (flat o cs))
     → r.kids.kids.handed < length r.kids.kids.kids → HandsOut ws r.kids kids r.attempt h.forest h.kid_asked h.kid_slots → kids.kids.kept ≡ r.kids.kids.kept

@@ -19,10 +19,12 @@ use Rattle.zio_frames.specs.Slots.{IsOut, Slot}
 use Rattle.zio_frames.proofs.GetLemmas.{all_at}
 use Rattle.zio_stages.specs.KidTrees.{attempts_of}
 use Rattle.zio_stages.specs.NodeChildren.{is_owing}
+use Rattle.zio_stages.specs.OwnReads.{IsBodyIn}
 use Rattle.zio_stages.specs.PartWorks.{Front, IsPartWithin}
 use Rattle.zio_stages.specs.RequestNodes.{IsOwnOf, IsRequestNode, front_by}
 use Rattle.zio_stages.specs.declared.request_node.Own.{Own}
-use Rattle.zio_stages.specs.declared.request_node.Own.TheVariants.{Due as OwnDue, Over, Stored, Write}
+use Rattle.zio_stages.specs.declared.request_node.Own.TheVariants.{Claim, Due as OwnDue, Found, Free, Over, Read, Stored, Write}
+use Rattle.zio_stages.specs.declared.own_read.BodyIo.{BodyIo}
 use Rattle.zio_stages.specs.declared.write_io.WriteIo.{WriteIo}
 use Rattle.zio_stages.specs.declared.request_node.RequestNode.{RequestNode}
 use Rattle.zio_stages.proofs.KidAsking.{kids_full}
@@ -131,7 +133,7 @@ not_told child kind shows = by child.told (subst (λ (k : ChildKind). ShowsTold 
     by true h = absurd h
     by false h = refl
 
-owing_ready : (st : Stack) → SitsLogical st None → list_any (is_owing Logical Ready) st.children ≡ true
+pub owing_ready : (st : Stack) → SitsLogical st None → list_any (is_owing Logical Ready) st.children ≡ true
 owing_ready st s =
     any_at (is_owing Logical Ready) st.children s.number s.child s.there
     ((λ i. same_kind (s.kind i) Logical && not (not_told s.child s.kind s.shows i)))
@@ -202,7 +204,7 @@ waits_ready t r st h seated alone all not_all =
     owing_ready st (kid_sits t r st out.place None h seated (not_within st.inner (OfOuter out.place) alone) out.slot)
 
 -- a part within is none of its children's
-inner_apart : (t : Terms) (r : RequestNode) (x : KidsUnderWay) (f : Front) (own : Own) (st : Stack) (asked : List Task) (slots : List Slot) (n : ℕ)
+pub inner_apart : (t : Terms) (r : RequestNode) (x : KidsUnderWay) (f : Front) (own : Own) (st : Stack) (asked : List Task) (slots : List Slot) (n : ℕ)
     → IsOwnOf t r x f own st asked slots → n < length f.slots → IsInnerSeat st.inner (OfOuter n) → ⊥
 inner_apart t r x f OwnDue st asked slots n h l i = not_within st.inner (OfOuter n) h.2 i
 inner_apart t r x f (Write w) st asked slots n h l i = behind w.work.io h.is.within
@@ -214,6 +216,17 @@ inner_apart t r x f (Write w) st asked slots n h l i = behind w.work.io h.is.wit
         let at : n ≡ k.inside.number = cc in
         omega (arith, k.at)
 inner_apart t r x f (Stored b) st asked slots n h l i = not_within st.inner (OfOuter n) h.alone i
+inner_apart t r x f (Read w) st asked slots n h l i = behind w.body h.is.body
+  where
+    behind : (o : Option BodyIo) → IsBodyIn t o (length f.slots) st → ⊥
+    behind None none = not_within st.inner (OfOuter n) none i
+    behind (Some b) k =
+        let seat : OfOuter n ≡ OfOuter k.inner.number = subst (λ (o : Option Inner). IsInnerSeat o (OfOuter n)) k.is i in
+        let at : n ≡ k.inner.number = cc in
+        omega (arith, k.number)
+inner_apart t r x f (Free w) st asked slots n h l i = not_within st.inner (OfOuter n) h.is.alone i
+inner_apart t r x f (Claim w) st asked slots n h l i = not_within st.inner (OfOuter n) h.is.alone i
+inner_apart t r x f (Found v) st asked slots n h l i = not_within st.inner (OfOuter n) h.alone i
 inner_apart t r x f Over st asked slots n h l i = not_within st.inner (OfOuter n) h.alone i
 
 -- a child's attempt hasn't ended

@@ -14,7 +14,7 @@ use Rattle.zio_stages.specs.Waits.{pending_of}
 use Rattle.zio_stages.specs.declared.request_node.Closed.{Closed}
 use Rattle.zio_stages.specs.declared.request_node.Closed.TheVariants.{Again, Finished}
 use Rattle.zio_stages.specs.declared.request_node.Own.{Own}
-use Rattle.zio_stages.specs.declared.request_node.Own.TheVariants.{Due, Over, Stored, Write}
+use Rattle.zio_stages.specs.declared.request_node.Own.TheVariants.{Claim, Due, Found, Free, Over, Read, Stored, Write}
 use Rattle.zio_stages.specs.declared.request_node.RequestNode.{RequestNode}
 use Rattle.zio_stages.specs.declared.stored_block.StoredBlock.{StoredBlock}
 use Rattle.zio_stages.proofs.OwnWriteLemmas.{own_is_stored}
@@ -35,21 +35,29 @@ pub stored_only : (P : StoredBlock → Type 0) (own : Own) → IsStoredWith P ow
 stored_only P Due h not = h
 stored_only P (Write w) h not = h
 stored_only P (Stored b) h not = not b refl
+stored_only P (Read w) h not = h
+stored_only P (Free w) h not = h
+stored_only P (Claim w) h not = h
+stored_only P (Found own) h not = h
 stored_only P Over h not = h
 
 pub stored_in : (t : Terms) (r : RequestNode) (st : Stack) (b : StoredBlock) (h : IsRequestNode t r st) → r.own ≡ Stored b
     → IsStoredOwn t (own_got b.own) r.attempt (pending_of r.waiting) r.kids.kids h.own_asked h.own_slots st
 stored_in t r st b h is = subst (λ (o : Own). IsOwnOf t r r.kids.kids (front_by r h.forest h.kid_asked h.kid_slots) o st h.own_asked h.own_slots) is h.own
 
-own_with : (t : Terms) (r : RequestNode) (x : KidsUnderWay) (f : Front) (own o : Own) (st : Stack) (asked : List Task) (slots : List Slot)
+pub own_with : (t : Terms) (r : RequestNode) (x : KidsUnderWay) (f : Front) (own o : Own) (st : Stack) (asked : List Task) (slots : List Slot)
     → IsOwnOf t r x f o st asked slots → IsOwnOf t (with_own r own) x f o st asked slots
 own_with t r x f own Due st asked slots h = h
 own_with t r x f own (Write w) st asked slots h = h
 own_with t r x f own (Stored b) st asked slots h = h
+own_with t r x f own (Read w) st asked slots h = h
+own_with t r x f own (Free w) st asked slots h = h
+own_with t r x f own (Claim w) st asked slots h = h
+own_with t r x f own (Found v) st asked slots h = h
 own_with t r x f own Over st asked slots h = h
 
 -- it is so far with this in place of its own work
-abbrev with_own_at : (t : Terms) (r : RequestNode) (st : Stack) (own : Own) (h : IsRequestNode t r st)
+abbrev pub with_own_at : (t : Terms) (r : RequestNode) (st : Stack) (own : Own) (h : IsRequestNode t r st)
     → IsOwnOf t r r.kids.kids (front_by r h.forest h.kid_asked h.kid_slots) own st h.own_asked h.own_slots → IsRequestNode t (with_own r own) st
 with_own_at t r st own h is = record {
   forest = h.forest;
@@ -103,7 +111,7 @@ abbrev over_at : (t : Terms) (r : RequestNode) (st : Stack) (b : StoredBlock) (h
     → IsStoredOwn t (own_got b.own) r.attempt (pending_of r.waiting) r.kids.kids h.own_asked h.own_slots st → IsRequestNode t (with_own r Over) st
 over_at t r st b h own = with_own_at t r st Over h (record { told = own.told; alone = own.alone; heard = own.heard })
 
-shown_still : (closed : Closed) (r : RequestNode) (own : Own) (ended : List Ended) (one : One) → IsClosedAs closed (with_own r own) ended one
+pub shown_still : (closed : Closed) (r : RequestNode) (own : Own) (ended : List Ended) (one : One) → IsClosedAs closed (with_own r own) ended one
     → IsClosedAs closed r ended one
 shown_still (Finished waiting error found) r own ended one h = h
 shown_still (Again bits whole found) r own ended one h = h

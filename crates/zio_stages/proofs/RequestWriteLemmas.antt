@@ -30,7 +30,7 @@ use Rattle.zio_stages.specs.declared.own_write.OwnWrite.{OwnWrite}
 use Rattle.zio_stages.specs.declared.stored_block.StoredBlock.{StoredBlock}
 use Rattle.zio_stages.specs.declared.family.Layer.TheVariants.{Within}
 use Rattle.zio_stages.specs.declared.request_node.Own.{Own}
-use Rattle.zio_stages.specs.declared.request_node.Own.TheVariants.{Due, Over, Stored, Write}
+use Rattle.zio_stages.specs.declared.request_node.Own.TheVariants.{Claim, Due, Found, Free, Over, Read, Stored, Write}
 use Rattle.zio_stages.specs.declared.request_node.RequestNode.{RequestNode}
 use Rattle.zio_stages.proofs.KidAsking.{kids_full, kids_out}
 use Rattle.zio_stages.proofs.OwnAsks.{follows, foretells}
@@ -155,6 +155,10 @@ pub writes_only : (P : OwnWrite → Type 0) (own : Own) → IsWriteWith P own �
 writes_only P Due h not = h
 writes_only P (Write w) h not = not w refl
 writes_only P (Stored b) h not = h
+writes_only P (Read w) h not = h
+writes_only P (Free w) h not = h
+writes_only P (Claim w) h not = h
+writes_only P (Found own) h not = h
 writes_only P Over h not = h
 
 -- what it came to takes the place of its block's write

@@ -23,6 +23,8 @@ pub mod PartsOut
 pub mod ReadIos
 pub mod RequestHearings
 pub mod RequestNodes
+pub mod RequestOwns
+pub mod RequestReads
 pub mod RequestStages
 pub mod RequestStoreds
 pub mod RequestWrites

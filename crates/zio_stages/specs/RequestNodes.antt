@@ -16,8 +16,10 @@ use Rattle.zio_frames.specs.Slots.{AllHeard, Slot, left_behind_slots}
 use Rattle.zio_stages.specs.KidTrees.{IsKids, IsLeft}
 pub use Rattle.zio_stages.specs.OwnFounds.{own_got}
 use Rattle.zio_stages.specs.NodeIos.{NoneSits}
+use Rattle.zio_stages.specs.OwnClaims.{IsClaimOver}
 use Rattle.zio_stages.specs.OwnWrites.{IsWriteOwn}
 use Rattle.zio_stages.specs.PartWorks.{Front, IsPartOver}
+use Rattle.zio_stages.specs.RequestOwns.{IsClaimOwn, IsFoundOwn, IsFreeOwn, IsReadOwn, IsReadingOver}
 use Rattle.zio_stages.specs.StoredBlocks.{IsGoingBack, IsStoredOwn}
 use Rattle.zio_types.specs.declared.place.Top.{Top}
 use Rattle.zio_stages.specs.declared.family.Layer.TheVariants.{Within}
@@ -27,7 +29,7 @@ use Rattle.zio_stages.specs.WrittenBlocks.{HaveAllTold}
 use Rattle.zio_stages.specs.declared.request_node.Closed.{Closed}
 use Rattle.zio_stages.specs.declared.request_node.Closed.TheVariants.{Again, Finished}
 use Rattle.zio_stages.specs.declared.request_node.Own.{Own}
-use Rattle.zio_stages.specs.declared.request_node.Own.TheVariants.{Due, Over, Stored, Write}
+use Rattle.zio_stages.specs.declared.request_node.Own.TheVariants.{Claim, Due, Found, Free, Over, Read, Stored, Write}
 use Rattle.zio_stages.specs.declared.request_node.RequestNode.{RequestNode}
 use Rattle.zio_stages.specs.declared.waiting.Waiting.{Waiting}
 
@@ -48,6 +50,10 @@ abbrev pub IsOwnOf : Terms → RequestNode → KidsUnderWay → Front → Own �
 IsOwnOf t r x f Due st asked slots = (asked ≡ []) × (slots ≡ []) × (st.inner ≡ None)
 IsOwnOf t r x f (Write w) st asked slots = IsWriteOwn t w f r.attempt (pending_of r.waiting) x asked slots st
 IsOwnOf t r x f (Stored b) st asked slots = IsStoredOwn t (own_got b.own) r.attempt (pending_of r.waiting) x asked slots st
+IsOwnOf t r x f (Read w) st asked slots = IsReadOwn t w f (pending_of r.waiting) x asked slots st
+IsOwnOf t r x f (Free w) st asked slots = IsFreeOwn w f (pending_of r.waiting) x asked slots st
+IsOwnOf t r x f (Claim w) st asked slots = IsClaimOwn w f (pending_of r.waiting) x asked slots st
+IsOwnOf t r x f (Found own) st asked slots = IsFoundOwn t (own_got own) r.attempt (pending_of r.waiting) x slots st
 IsOwnOf t r x f Over st asked slots = IsOver x slots st
 
 -- It is so far in an attempt of its request.
@@ -132,4 +138,8 @@ abbrev pub IsOwnOver : List Top → Own → List StackChild → Type 0
 IsOwnOver tops Due family = NoneSits Within family
 IsOwnOver tops (Write w) family = IsPartOver tops w.work family
 IsOwnOver tops (Stored b) family = NoneSits Within family × IsGoingBack b
+IsOwnOver tops (Read w) family = IsReadingOver tops w family
+IsOwnOver tops (Free w) family = NoneSits Within family
+IsOwnOver tops (Claim w) family = NoneSits Within family × IsClaimOver tops w
+IsOwnOver tops (Found own) family = NoneSits Within family
 IsOwnOver tops Over family = NoneSits Within family

@@ -11,7 +11,7 @@ use Rattle.zio_stages.specs.declared.stored_block.StoredBlock.{StoredBlock}
 use Rattle.zio_stages.specs.declared.request_node.Closed.{Closed}
 use Rattle.zio_stages.specs.declared.request_node.Closed.TheVariants.{Again, Finished}
 use Rattle.zio_stages.specs.declared.request_node.Own.{Own}
-use Rattle.zio_stages.specs.declared.request_node.Own.TheVariants.{Due, Over, Stored, Write}
+use Rattle.zio_stages.specs.declared.request_node.Own.TheVariants.{Claim, Due, Found, Free, Over, Read, Stored, Write}
 use Rattle.zio_stages.specs.declared.request_node.OwnFound.{OwnFound}
 use Rattle.zio_stages.specs.declared.request_node.RequestNode.{RequestNode}
 
@@ -22,18 +22,30 @@ abbrev pub IsStoredWith : (StoredBlock → Type 0) → Own → Type 0
 IsStoredWith P Due = ⊥
 IsStoredWith P (Write w) = ⊥
 IsStoredWith P (Stored b) = P b
+IsStoredWith P (Read w) = ⊥
+IsStoredWith P (Free w) = ⊥
+IsStoredWith P (Claim w) = ⊥
+IsStoredWith P (Found own) = ⊥
 IsStoredWith P Over = ⊥
 
 abbrev pub found_by : Own → Option OwnFound
 found_by Due = None
 found_by (Write w) = None
 found_by (Stored b) = Some b.own
+found_by (Read w) = None
+found_by (Free w) = None
+found_by (Claim w) = None
+found_by (Found own) = None
 found_by Over = None
 
 abbrev pub error_by : Own → Option Errno
 error_by Due = None
 error_by (Write w) = None
 error_by (Stored b) = b.own.error
+error_by (Read w) = None
+error_by (Free w) = None
+error_by (Claim w) = None
+error_by (Found own) = None
 error_by Over = None
 
 -- the places of its block
@@ -41,6 +53,10 @@ abbrev pub made_by : Own → List Place
 made_by Due = []
 made_by (Write w) = []
 made_by (Stored b) = block_places b.own.tree
+made_by (Read w) = []
+made_by (Free w) = []
+made_by (Claim w) = []
+made_by (Found own) = []
 made_by Over = []
 
 -- how many of these went back
@@ -48,6 +64,10 @@ abbrev pub given_by : Own → ℕ
 given_by Due = 0
 given_by (Write w) = 0
 given_by (Stored b) = b.given
+given_by (Read w) = 0
+given_by (Free w) = 0
+given_by (Claim w) = 0
+given_by (Found own) = 0
 given_by Over = 0
 
 -- ---- its block

@@ -8,7 +8,7 @@ use Rattle.zio_stages.specs.NodeIos.{IsWriteDue}
 use Rattle.zio_stages.specs.PartWorks.{IsIssued, IsPlaced, IsWritten}
 use Rattle.zio_stages.specs.declared.own_write.OwnWrite.{OwnWrite}
 use Rattle.zio_stages.specs.declared.request_node.Own.{Own}
-use Rattle.zio_stages.specs.declared.request_node.Own.TheVariants.{Due, Over, Stored, Write}
+use Rattle.zio_stages.specs.declared.request_node.Own.TheVariants.{Claim, Due, Found, Free, Over, Read, Stored, Write}
 
 -- ---- its stages
 
@@ -17,6 +17,10 @@ abbrev pub IsWriteWith : (OwnWrite → Type 0) → Own → Type 0
 IsWriteWith P Due = ⊥
 IsWriteWith P (Write w) = P w
 IsWriteWith P (Stored b) = ⊥
+IsWriteWith P (Read w) = ⊥
+IsWriteWith P (Free w) = ⊥
+IsWriteWith P (Claim w) = ⊥
+IsWriteWith P (Found own) = ⊥
 IsWriteWith P Over = ⊥
 
 abbrev pub IsWrite : Own → Type 0

@@ -1,5 +1,6 @@
 -- The read of a block as a part of a larger plan: the walk over its headers, and then its bodies.
-use Rattle.std.specs.Prelude.{◌≡◌, List, [], ◌∷◌, ◌++◌, length, true, None}
+use Rattle.std.specs.Prelude.{◌≡◌, List, [], ◌∷◌, ◌++◌, length, true, None, Result, Ok, Err}
+use Rattle.zio_types.specs.declared.error.Errno.{Errno}
 use Rattle.zio_blkptr.specs.declared.pointer.Bp.{Bp}
 use Rattle.zio_blkptr.specs.Pointers.{places_of}
 use Rattle.zio_gang.specs.declared.tree.Tree.{Tree}
@@ -8,7 +9,7 @@ use Rattle.zio_trace.specs.Plans.{plan_tree}
 use Rattle.zio_trace.specs.Tasks.{BodyOf, ByKept, ReadCopies, ReadHeads, Task, Walked, WalkedBy}
 use Rattle.zio_frames.specs.Answering.{NextAnswered}
 use Rattle.zio_frames.specs.Slots.{Heard, IsOut, Slot, left_behind_slots, told_in}
-use Rattle.zio_parts.specs.TreeReads.{Reading, reading_from, slots_of}
+use Rattle.zio_parts.specs.TreeReads.{Reading, bodies_or, reading_from, slots_of}
 use Rattle.zio_parts.specs.declared.tree_read.Phase.{Phase}
 use Rattle.zio_parts.specs.declared.tree_read.Phase.TheVariants.{Unread, Out, Failed, Found}
 use Rattle.zio_stages.specs.PartsOut.{ArePartsOut}
@@ -27,6 +28,14 @@ walk_before Unread walked = []
 walk_before Out walked = []
 walk_before (Failed error) walked = Heard (WalkedBy walked) ∷ []
 walk_before Found walked = Heard (WalkedBy walked) ∷ []
+
+-- the bodies that it knows of once a walk left this
+abbrev pub bodies_if : Result (List Bp) Errno → List Bp → List Bp
+bodies_if (Ok bodies) before = bodies
+bodies_if (Err e) before = before
+
+abbrev pub bodies_after : List Bp → Walked → List Bp
+bodies_after before walked = bodies_if (bodies_or walked) before
 
 -- all that its plan asked, where the walk left this if it was heard
 abbrev pub slots_with : Walked → Reading → List Slot

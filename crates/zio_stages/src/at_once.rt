@@ -1,6 +1,6 @@
 // Walks over headers that ask nothing.
 
-ghost use Rattle.std.specs.Prelude.{◌≡◌, IfOk, IfSome, IsTrue, List, []};
+ghost use Rattle.std.specs.Prelude.{◌≡◌, IfOk, IfSome, IsTrue, List, [], false};
 ghost use Rattle.zio_blkptr.specs.Pointers.{valid};
 ghost use Rattle.zio_gang.specs.declared.tree.Head.{Head};
 ghost use Rattle.zio_gang.specs.Attempts.{Terms};
@@ -8,16 +8,18 @@ ghost use Rattle.zio_gang.specs.Trees.{header_levels_max};
 ghost use Rattle.zio_trace.specs.Plans.{plan};
 ghost use Rattle.zio_trace.specs.Programs.{Ends};
 ghost use Rattle.zio_trace.specs.Tasks.{ByClaim, ByKept, ReadHeads, WalkedBy};
-ghost use Rattle.zio_parts.specs.HeadWalks.{left_of_walk};
+ghost use Rattle.zio_parts.specs.HeadWalks.{body_of, left_of_walk};
 
 use std::alloc::Global;
 use zio_blkptr::Bp;
 use zio_parts::{HeadWalk, LEVELS_MAX, WalkStep, Walked};
 use zio_types::{NoMemory, Path, Top};
 
-/// What the walk over a block's headers leaves, where it asks nothing: where the block is no gang. None where it asks.
+/// What the walk over a block's headers leaves, where it asks nothing: its body, where the block is no gang. None where it
+/// asks.
 pub(crate) fn block_at_once(alloc: Global, bp: Bp) -> Result<Option<Walked>, NoMemory>
-    ensures { IfOk result (λ left. IfSome left (λ walked. (t : Terms) (heads : List Head) →
+    ensures body { IfOk result (λ left. IfSome left (λ walked. (walked ≡ body_of bp) × (bp.gang ≡ false))) }
+    ensures ends { IfOk result (λ left. IfSome left (λ walked. (t : Terms) (heads : List Head) →
         plan t (ReadHeads (ByKept heads) header_levels_max [] bp) ≡ Ends (WalkedBy walked))) }
 {
     let walk = HeadWalk::kept(alloc, LEVELS_MAX, root(), bp);

@@ -24,6 +24,7 @@ impl Named {
         requires few { request < 65536 }
         requires steps { AllByRecursion (λ step. step < 4) path }
         requires attempts { attempt < 4 }
+        ensures { result.path ≡ path }
     {
         Named {
             request,

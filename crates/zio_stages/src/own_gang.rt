@@ -14,14 +14,14 @@ ghost use Rattle.zio_frames.specs.Moves.{heard_early, heard_of};
 ghost use Rattle.zio_frames.specs.Seats.{IsSeated};
 ghost use Rattle.zio_frames.specs.Slots.{Slot};
 ghost use Rattle.zio_parts.specs.TreeReads.{ShowsRead};
-ghost use Rattle.zio_parts.specs.declared.tree_read.TreeStep.TheVariants.{Walk};
+ghost use Rattle.zio_parts.specs.declared.tree_read.TreeStep.TheVariants.{Body, Walk};
 ghost use Rattle.zio_stages.specs.OwnParts.{GoesOnAs, HandsTo};
 ghost use Rattle.zio_stages.specs.OwnReads.{IsBodyOut, IsOwnRead, IsWalkOut};
-ghost use Rattle.zio_stages.specs.TreeWorks.{heads_task};
+ghost use Rattle.zio_stages.specs.TreeWorks.{bodies_after, body_task, heads_task};
 
 use crate::family::{Family, Seat};
-use crate::own_read::OwnRead;
-use zio_parts::Walked;
+use crate::own_read::{OwnRead, number_of};
+use zio_parts::{BodyRead, Walked};
 use zio_types::{Bytes, ChildKind, Errno, NoMemory};
 
 impl OwnRead {
@@ -40,12 +40,47 @@ impl OwnRead {
             GoesOnAs t tops (plan_tree tree) before st → IsOwnRead t self.old family.old tree front_asked before st →
             HandsTo t Gang (λ op. op ≡ heads_task tree) (IsOwnRead t self.new family.new tree front_asked before) st) }
         ensures alone { self.new.body ≡ None }
+        ensures bodies { self.new.tree.read.bodies ≡ self.old.tree.read.bodies }
         ensures err { OnErr result (self.new ≡ self.old) }
         ensures family_err { OnErr result (family.new ≡ family.old) }
     {
         family.add(ChildKind::Gang, Seat::Outer(front), label)?;
         self.tree.hand_out_walk();
         Ok(())
+    }
+
+    /// The read of this body is a child's, which is added, behind so many operations of the node's part. Where memory is
+    /// refused nothing is.
+    pub(crate) fn gang_issue(
+        &mut self,
+        family: &mut Family,
+        front: u32,
+        body: BodyRead,
+        label: u64,
+    ) -> Result<(), NoMemory>
+        requires next { ShowsRead self.old.tree.read (Body body) }
+        requires alone { self.old.body ≡ None }
+        requires room { length family.old < 2 ^ 32 - 1 }
+        ensures hands { OnOk result ((t : Terms) (tops : List SeenTop) (tree : Tree) (front_asked : List Task) (before : List Slot) (st : Stack) → length before ≡ front →
+            GoesOnAs t tops (plan_tree tree) before st → IsOwnRead t self.old family.old tree front_asked before st →
+            HandsTo t Gang (λ op. op ≡ body_task body.bp) (IsOwnRead t self.new family.new tree front_asked before) st) }
+        ensures bodies { self.new.tree.read.bodies ≡ self.old.tree.read.bodies }
+        ensures alone { self.new.body ≡ None }
+        ensures err { OnErr result (self.new ≡ self.old) }
+        ensures family_err { OnErr result (family.new ≡ family.old) }
+    {
+        let number = number_of(&body)?;
+        if front > u32::MAX - number {
+            return Err(NoMemory);
+        }
+        self.tree.hand_out_body(body)?;
+        match family.add(ChildKind::Gang, Seat::Outer(front + number), label) {
+            Ok(_) => Ok(()),
+            Err(NoMemory) => {
+                self.tree.take_back_body();
+                Err(NoMemory)
+            }
+        }
     }
 
     /// The child told that it has no pointer.
@@ -68,6 +103,7 @@ impl OwnRead {
             slice_get st.children child ≡ Some c → c.seat ≡ OfOuter (length before) →
             IsOwnRead t self.old family.old tree front_asked before st →
             IsOwnRead t self.new family.new tree front_asked before (heard_of st child c (WalkedBy walked)) }
+        ensures bodies { self.new.tree.read.bodies ≡ bodies_after self.old.tree.read.bodies walked }
         ensures alone { self.new.body ≡ None }
     {
         self.tree.hear_walk(walked);
@@ -89,6 +125,7 @@ impl OwnRead {
             slice_get st.children child ≡ Some c → c.seat ≡ OfOuter (length before + n) →
             IsOwnRead t self.old family.old tree front_asked before st →
             IsOwnRead t self.new family.new tree front_asked before (heard_of st child c (Got a)) }
+        ensures bodies { self.new.tree.read.bodies ≡ self.old.tree.read.bodies }
         ensures alone { self.new.body ≡ None }
     {
         self.tree.hear_body(n, found);

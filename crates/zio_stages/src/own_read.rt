@@ -1,6 +1,7 @@
 // A read's own work behind other operations of its node's part.
 
-ghost use Rattle.std.specs.Prelude.{◌≡◌, ◌+◌, ◌-◌, ◌^◌, ◌<◌, ℕ, List, None, Ok, Some, [], false, true, IfOk, IfSome, IsTrue, OnErr, OnOk, length, slice_get};
+ghost use Rattle.std.specs.Prelude.{◌≡◌, ◌+◌, ◌-◌, ◌^◌, ◌<◌, ℕ, List, None, Ok, Some, [], false, true, IfErr, IfOk, IfSome, IsTrue, OnErr, OnOk, length, slice_get};
+ghost use Rattle.std.specs.List.{AllByRecursion};
 ghost use Rattle.zio_types.specs.declared.place.Top.{Top as SeenTop};
 ghost use Rattle.zio_types.specs.declared.request.ChildKind.TheVariants.{Gang, Vdev};
 ghost use Rattle.zio_types.specs.declared.request.Phase.TheVariants.{Done};
@@ -56,6 +57,9 @@ impl OwnRead {
         ensures fresh { (t : Terms) (family : List Child) (tree : Tree) (front_asked : List Task) (front : List Slot) (st : Stack) → tree.bp ≡ bp →
             family ≡ st.children → IsBehind front_asked front [] [] st → st.inner ≡ None → IsOwnRead t result family tree front_asked front st }
         ensures over { (tops : List SeenTop) (family : List Child) → NoneSits Within family → IsOwnReadOver tops result family }
+        ensures walk { ShowsRead result.tree.read TreeStep.Walk }
+        ensures alone { result.body ≡ None }
+        ensures bodies { result.tree.read.bodies ≡ [] }
     {
         OwnRead {
             tree: TreeWork::new(alloc, bp),
@@ -66,6 +70,7 @@ impl OwnRead {
     /// What is to be done next.
     pub(crate) fn next(&self) -> TreeStep
         ensures shows { ShowsRead self.now.tree.read result }
+        ensures body { (body : BodyRead) → result ≡ TreeStep.Body body → slice_get self.now.tree.read.bodies body.n ≡ Some body.bp }
         ensures waits { result ≡ TreeStep.Wait → self.now.body ≡ None → (t : Terms) (family : List Child) (tree : Tree) (front_asked : List Task) (front : List Slot) (st : Stack) →
             IsSeated st → IsOwnRead t self.now family tree front_asked front st → IsOwed Gang Done st }
     {
@@ -80,6 +85,8 @@ impl OwnRead {
             tree.bp ≡ bp → GoesOnAs t tops (plan_tree tree) front st → IsOwnRead t self.old family tree front_asked front st →
             DoesThen t st [] (IsOwnRead t self.new family tree front_asked front) }
         ensures gang { result ≡ Ok false → self.new ≡ self.old }
+        ensures on { (tops : List SeenTop) → (bp.gang ≡ false → IsBodyOn tops bp) → AllByRecursion (IsBodyOn tops) self.old.tree.read.bodies →
+            AllByRecursion (IsBodyOn tops) self.new.tree.read.bodies }
         ensures alone { self.new.body ≡ None }
         ensures err { OnErr result (self.new ≡ self.old) }
     {
@@ -105,6 +112,7 @@ impl OwnRead {
             GoesOnAs t tops.now (plan_tree tree) front st → IsOwnRead t self.old family tree front_asked front st →
             DoesThen t st [] (IsOwnRead t self.new family tree front_asked front)) }
         ensures over { OnOk result ((family : List Child) → NoneSits Within family → IsOwnReadOver tops.now self.new family) }
+        ensures bodies { OnOk result (self.new.tree.read.bodies ≡ self.old.tree.read.bodies) }
         ensures err { OnErr result (self.new ≡ self.old) }
     {
         let number = number_of(&body)?;
@@ -132,6 +140,7 @@ impl OwnRead {
             StartsBy t st leaf (IsOwnRead t self.new family.new tree front_asked front)) }
         ensures due { IfOk result (λ leaf. IfSome leaf IsDue) }
         ensures over { IsOwnReadOver tops.now self.new family.new }
+        ensures tree { self.new.tree ≡ self.old.tree }
         ensures err { OnErr result (self.new ≡ self.old) }
         ensures family_err { OnErr result (family.new ≡ family.old) }
     {
@@ -167,6 +176,7 @@ impl OwnRead {
             DoesThen t st [] (IsOwnRead t self.new family.now tree front_asked front) }
         ensures alone { result ≡ false → self.new.body ≡ None }
         ensures over { IsOwnReadOver tops.now self.new family.now }
+        ensures bodies { self.new.tree.read.bodies ≡ self.old.tree.read.bodies }
     {
         let Some(mut body) = self.body.take() else {
             return false;
@@ -195,6 +205,7 @@ impl OwnRead {
             t.setting.tops ≡ tops.now → found ≡ a → slice_get st.children child ≡ Some c → IsOwnRead t self.old family.old tree front_asked front st →
             IsOwnRead t self.new family.new tree front_asked front (heard_of st child c (Got a)) }
         ensures over { IsOwnReadOver tops.now self.new family.new }
+        ensures tree { self.new.tree ≡ self.old.tree }
     {
         match self.body.take() {
             Some(mut body) => {
@@ -205,15 +216,19 @@ impl OwnRead {
         }
     }
 
-    /// The block's bytes or its error, where it ended.
-    pub(crate) fn into_found(self, alloc: Global) -> Result<Result<Bytes, Errno>, NoMemory>
+    /// The block's bytes or its error, where it ended. Where memory is refused it comes back.
+    pub(crate) fn into_found(self, alloc: Global) -> Result<Result<Bytes, Errno>, OwnRead>
         requires { ShowsRead self.tree.read TreeStep.End }
-        ensures { IfOk result (λ found. (t : Terms) (family : List Child) (tree : Tree) (front_asked : List Task) (front : List Slot) (st : Stack)
+        ensures back { IfErr result (λ own. own ≡ self) }
+        ensures found { IfOk result (λ found. (t : Terms) (family : List Child) (tree : Tree) (front_asked : List Task) (front : List Slot) (st : Stack)
             (h : IsOwnRead t self family tree front_asked front st) →
             AllHeard h.slots × (left_behind_slots h.slots (plan_tree tree) ≡ Ends (Got found))) }
     {
-        let OwnRead { tree, .. } = self;
-        tree.into_found(alloc)
+        let OwnRead { tree, body } = self;
+        match tree.into_found(alloc) {
+            Ok(found) => Ok(found),
+            Err(tree) => Err(OwnRead { tree, body }),
+        }
     }
 }
 

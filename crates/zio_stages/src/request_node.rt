@@ -30,6 +30,9 @@ ghost use Rattle.zio_stages.specs.Wholes.{IsTreeOf, root_number, root_of};
 use crate::attempted::{AgainBack, RequestKids, WholeBack};
 use crate::family::{Family, Seat};
 use crate::label::{Label, Level};
+use crate::own_claim::OwnClaim;
+use crate::own_free::OwnFree;
+use crate::own_read::OwnRead;
 use crate::own_write::OwnWrite;
 use crate::stored_block::StoredBlock;
 use crate::waiting::Waiting;
@@ -51,6 +54,14 @@ pub(crate) enum Own {
     Write(OwnWrite),
     /// It was.
     Stored(StoredBlock),
+    /// The block of a read is read.
+    Read(OwnRead),
+    /// The block of a free is walked over, and its places go back.
+    Free(OwnFree),
+    /// The block that a claim points to is walked over, and its places are taken.
+    Claim(OwnClaim),
+    /// All of a read, a free or a claim ended, and came to this.
+    Found(OwnFound),
     /// All of it ended, and what it came to is elsewhere.
     Over,
 }

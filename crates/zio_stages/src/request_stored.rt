@@ -82,7 +82,13 @@ impl RequestNode {
                     Err(NodeBack { node })
                 }
             },
-            Own::Due | Own::Write(_) | Own::Over => unreachable!(),
+            Own::Due
+            | Own::Write(_)
+            | Own::Read(_)
+            | Own::Free(_)
+            | Own::Claim(_)
+            | Own::Found(_)
+            | Own::Over => unreachable!(),
         }
     }
 }
@@ -93,6 +99,12 @@ fn error_of(own: &Own) -> Option<Errno>
 {
     match own {
         Own::Stored(stored) => stored.own.error,
-        Own::Due | Own::Write(_) | Own::Over => None,
+        Own::Due
+        | Own::Write(_)
+        | Own::Read(_)
+        | Own::Free(_)
+        | Own::Claim(_)
+        | Own::Found(_)
+        | Own::Over => None,
     }
 }

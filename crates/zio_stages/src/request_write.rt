@@ -125,7 +125,13 @@ impl RequestNode {
                     Err(NoMemory)
                 }
             },
-            Own::Due | Own::Stored(_) | Own::Over => unreachable!(),
+            Own::Due
+            | Own::Stored(_)
+            | Own::Read(_)
+            | Own::Free(_)
+            | Own::Claim(_)
+            | Own::Found(_)
+            | Own::Over => unreachable!(),
         }
     }
 }

@@ -1,5 +1,4 @@
-use Rattle.std.proofs.Common.{◌≡◌, [], ◌∷◌, List, Option, subst, rules}
-use Rattle.zio_parts.specs.declared.walked.Walked.{Walked}
+use Rattle.std.proofs.Common.{◌≡◌, [], ◌∷◌, subst, rules}
 use Rattle.zio_parts.specs.Gathers.{FitsIn, gathered}
 use Rattle.zio_parts.specs.HeadWalks.{joined_behind, with_member}
 use Rattle.zio_parts.proofs.GatherLemmas.{fits_less, fits_next, three_are}

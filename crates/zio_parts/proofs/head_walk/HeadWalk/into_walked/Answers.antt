@@ -1,4 +1,4 @@
-use Rattle.std.proofs.Common.{◌≡◌, ◌∙◌, ap, sym}
+use Rattle.std.proofs.Common.{◌∙◌, ap}
 use Rattle.zio_parts.specs.Gathers.{gathered}
 use Rattle.zio_parts.specs.HeadWalks.{Walking, walk_left}
 use Rattle.zio_parts.proofs.WalkLemmas.{walked_read}

@@ -1,4 +1,4 @@
-use Rattle.std.proofs.Common.{◌≡◌, ◌∙◌, ap, sym}
+use Rattle.std.proofs.Common.{◌∙◌, ap, sym}
 use Rattle.zio_parts.specs.HeadWalks.{Walking}
 use Rattle.zio_parts.proofs.head_walk.HeadWalk.walked_alone.Goals as goal
 

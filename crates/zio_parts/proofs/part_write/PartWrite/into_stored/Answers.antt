@@ -1,4 +1,4 @@
-use Rattle.std.proofs.Common.{◌≡◌, List, [], ◌∷◌, ◌++◌, ◌∙◌, sym, ap, take}
+use Rattle.std.proofs.Common.{◌≡◌, ◌∷◌, ◌∙◌, sym, ap, take}
 use Rattle.std.specs.List.{flat_map}
 use Rattle.zio_gang.specs.declared.tree.Head.{Head}
 use Rattle.zio_parts.specs.Parts.{PartWriting, header_by, heads_in, places_at, stored_by}

@@ -5,8 +5,8 @@ use Rattle.zio_parts.specs.declared.tree_read.TreeStep.TheVariants.{Body, Wait, 
 use Rattle.zio_parts.proofs.TreeReadLemmas.{body_shown, end_shown, wait_shown}
 use Rattle.zio_parts.proofs.tree_read.TreeRead.next_body.Goals as goal
 
-pub returns-in-Some : goal.returns-in-Some
-returns-in-Some c =
+pub returns-in-Some-clause-shows : goal.returns-in-Some-clause-shows
+returns-in-Some-clause-shows c =
     let x = c.self.inside in
     let counted : c.len-n.result ≡ length x.results.items = omega (arith, x.results.ok.0, c.len-n.ensures) in
     let got : slice_get x.bodies (length x.results.items) ≡ Some c.in-Some.bp =
@@ -15,8 +15,8 @@ returns-in-Some c =
     subst (λ (w : Reading). ShowsRead w (Body b)) c.self.view_is
     (body_shown x.bp x.phase x.bodies x.results.items x.out b c.self.invariant (rw (← c.self.view_is) at c.requires) c.if-self-eq-BODIES_OUT_MAX.false got (sym counted))
 
-pub returns-then-self-gt0 : goal.returns-then-self-gt0
-returns-then-self-gt0 c =
+pub returns-then-self-gt0-clause-shows : goal.returns-then-self-gt0-clause-shows
+returns-then-self-gt0-clause-shows c =
     let x = c.self.inside in
     let counted : c.len-n.result ≡ length x.results.items = omega (arith, x.results.ok.0, c.len-n.ensures) in
     let past : slice_get x.bodies (length x.results.items) ≡ None =
@@ -24,8 +24,8 @@ returns-then-self-gt0 c =
     subst (λ (w : Reading). ShowsRead w Wait) c.self.view_is
     (wait_shown x.bp x.phase x.bodies x.results.items x.out c.self.invariant (rw (← c.self.view_is) at c.requires) c.if-self-gt0.true past)
 
-pub returns-else-self-gt0 : goal.returns-else-self-gt0
-returns-else-self-gt0 c =
+pub returns-else-self-gt0-clause-shows : goal.returns-else-self-gt0-clause-shows
+returns-else-self-gt0-clause-shows c =
     let x = c.self.inside in
     let counted : c.len-n.result ≡ length x.results.items = omega (arith, x.results.ok.0, c.len-n.ensures) in
     let past : slice_get x.bodies (length x.results.items) ≡ None =

@@ -17,5 +17,5 @@ returns-clause-walks c = λ _ t tops family tree front_asked front st same goes 
     let walked = c.in-Some.walked in
     let P : Walked → Type 0 = λ w. (t : Terms) (heads : List Head) → plan t (ReadHeads (ByKept heads) header_levels_max [] c.args.bp) ≡ Ends (WalkedBy w) in
     let whole : plan t (heads_task tree) ≡ Ends (WalkedBy walked) =
-    ap (λ (b : Bp). plan t (ReadHeads (ByKept tree.heads) header_levels_max [] b)) same ∙ if_there c.in_ok-walked.field-0 P walked c.in_ok-walked.ensures c.in-Some.is t tree.heads in
+    ap (λ (b : Bp). plan t (ReadHeads (ByKept tree.heads) header_levels_max [] b)) same ∙ if_there c.in_ok-walked.field-0 P walked c.in_ok-walked.ensures.ends c.in-Some.is t tree.heads in
     free_walks t tops c.args.self.now.walk (Ended c.error.result) family tree front_asked front st walked c.requires (ap (λ e. Ended e) c.error.ensures.worst) whole goes h

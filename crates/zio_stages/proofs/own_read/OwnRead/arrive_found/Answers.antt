@@ -24,4 +24,4 @@ returns-clause-heard c = λ t tree front_asked before st x a found there seat h.
     let mine : slice_get family c.args.child ≡ Some x = ap (λ (cs : List Child). slice_get cs c.args.child) h.children ∙ there in
     hears_read t old new family c.end.new.self tree front_asked before st c.args.child c.args.n x (Got a) c.requires.alone c.requires.alone there seat
     (ended_is family c.end.new.self c.args.child x mine c.end.ensures) h
-    (subst (λ (r : Answer). IsTreeWork new.tree tree h.asked (set h.begun c.args.n (Heard (Got r)))) found (c.hear_body.ensures tree h.asked h.begun h.work))
+    (subst (λ (r : Answer). IsTreeWork new.tree tree h.asked (set h.begun c.args.n (Heard (Got r)))) found (c.hear_body.ensures.heard tree h.asked h.begun h.work))

@@ -18,4 +18,4 @@ returns-clause-heard c = λ t tree front_asked before st x there seat h.
     let mine : slice_get family c.args.child ≡ Some x = ap (λ (cs : List Child). slice_get cs c.args.child) h.children ∙ there in
     let at : length before ≡ length before + 0 = omega arith in
     hears_read t old new family c.end.new.self tree front_asked before st c.args.child 0 x (WalkedBy c.args.walked) c.requires.alone c.requires.alone there (seat ∙ ap (λ n. OfOuter n) at)
-    (ended_is family c.end.new.self c.args.child x mine c.end.ensures) h (c.hear_walk.ensures tree h.asked h.begun h.work)
+    (ended_is family c.end.new.self c.args.child x mine c.end.ensures) h (c.hear_walk.ensures.heard tree h.asked h.begun h.work)

@@ -13,4 +13,4 @@ returns-clause-hands c = λ t tops tree front_asked before st count goes h.
     let none = walk_first old.tree tree h.asked h.begun c.requires.walk h.work in
     let empty : length h.begun ≡ 0 = ap length none.1 in
     hands_read t tops old new c.args.family.now c.add.new.self tree front_asked before st (heads_task tree) c.args.front (λ op. op ≡ heads_task tree)
-    c.requires.alone c.requires.alone goes h (c.hand_out_walk.ensures tree h.asked h.begun h.work) (first_read tree h.asked none.0) refl refl (omega (arith, count, empty)) c.in_ok-add.ensures.ok
+    c.requires.alone c.requires.alone goes h (c.hand_out_walk.ensures.out tree h.asked h.begun h.work) (first_read tree h.asked none.0) refl refl (omega (arith, count, empty)) c.in_ok-add.ensures.ok

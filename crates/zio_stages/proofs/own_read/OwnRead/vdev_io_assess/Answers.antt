@@ -39,7 +39,7 @@ returns-clause-closes c = λ _ t tree front_asked front st tops h.
     let new : OwnRead = record { tree = c.hear_body.new.self; body = c.take.new.self } in
     closes_body t c.args.tops.now old new b c.assess_read.new.io family tree front_asked front st c.into_found.result is c.take.ensures.after
     (c.assess_read.ensures.same t st tops (read_at t old b family tree front_asked front st is h)) (c.assess_read.ensures.ended c.if-assess_read.false)
-    (λ x r. c.into_found.ensures t x tops r) (λ asked begun w. c.hear_body.ensures tree asked begun w) h
+    (λ x r. c.into_found.ensures t x tops r) (λ asked begun w. c.hear_body.ensures.heard tree asked begun w) h
 
 pub returns-clause-over : goal.returns-clause-over
 returns-clause-over c =

@@ -5,7 +5,7 @@ use Rattle.zio_stages.specs.RequestNodes.{IsOwnOver}
 use Rattle.zio_stages.specs.declared.request_node.Own.{Own}
 use Rattle.zio_stages.specs.declared.write_io.WriteIo.{WriteIo}
 use Rattle.zio_stages.proofs.PartFar.{far_work}
-use Rattle.zio_stages.proofs.RequestOwnLemmas.{keeps_write, own_leaf}
+use Rattle.zio_stages.proofs.RequestMembers.{keeps_write, own_leaf}
 use Rattle.zio_stages.proofs.RequestWriteLemmas.{front_in, node_at, part_at, write_in}
 use Rattle.zio_stages.proofs.request_node.RequestNode.arrive_leaf_write.Goals as goal
 

@@ -1,7 +1,7 @@
 use Rattle.std.proofs.Common.{refl, subst}
 use Rattle.zio_stages.specs.RequestNodes.{IsOwnOver}
 use Rattle.zio_stages.specs.declared.request_node.Own.{Own}
-use Rattle.zio_stages.proofs.RequestOwnLemmas.{keeps_same, own_ended}
+use Rattle.zio_stages.proofs.RequestMembers.{keeps_same, own_ended}
 use Rattle.zio_stages.proofs.RequestWriteLemmas.{front_in, node_at, part_at, write_in}
 use Rattle.zio_stages.proofs.request_node.RequestNode.arrive_stored.Goals as goal
 

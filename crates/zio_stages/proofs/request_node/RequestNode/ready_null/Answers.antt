@@ -9,9 +9,8 @@ use Rattle.zio_frames.specs.Moves.{WillHave}
 use Rattle.zio_stages.specs.NodeChildren.{is_owing}
 use Rattle.zio_stages.specs.Waits.{pending_of}
 use Rattle.zio_stages.proofs.EndsWhatever.{null_has_none}
-use Rattle.zio_stages.proofs.RequestNodeLemmas.{own_idle}
+use Rattle.zio_stages.proofs.NullEnds.{all_heard}
 use Rattle.zio_stages.specs.RequestNodes.{front_by}
-use Rattle.std.proofs.lemmas.Bool.{false≢true}
 use Rattle.zio_stages.proofs.RequestSits.{waits_ready}
 use Rattle.zio_stages.proofs.request_node.RequestNode.ready_null.Goals as goal
 
@@ -28,5 +27,4 @@ returns-else-all_told-clause-wait c = λ kind e t st seated h all.
     let none : list_all is_told r.kids.kids.kids ≡ false =
     ap (λ (k : KidsUnderWay). list_all is_told k.kids) (sym c.kids.ensures) ∙ sym c.all_told.ensures ∙ c.if-all_told.false in
     subst (λ (k : ChildKind). list_any (is_owing k Ready) st.children ≡ true) is
-    (waits_ready t r st h seated (own_idle t r r.kids.kids (front_by r h.forest h.kid_asked h.kid_slots) r.own st h.own_asked h.own_slots h.own
-    (λ told. false≢true (sym none ∙ told.told))).2 all none)
+    (waits_ready t r st h seated (all_heard t r r.kids.kids (front_by r h.forest h.kid_asked h.kid_slots) r.own st h.own_asked h.own_slots h.own c.requires).0 all none)

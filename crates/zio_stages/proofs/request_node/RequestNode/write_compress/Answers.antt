@@ -1,5 +1,4 @@
 use Rattle.std.proofs.Common.{◌≡◌, ◌+◌, length, true, false, sym, ap, subst, ◌∙◌}
-use Rattle.std.proofs.lemmas.Bool.{false≢true}
 use Rattle.std.specs.List.{list_all, list_any}
 use Rattle.zio_types.specs.declared.request.ChildKind.{ChildKind}
 use Rattle.zio_types.specs.declared.request.ChildKind.TheVariants.{Logical}
@@ -9,10 +8,9 @@ use Rattle.zio_stages.specs.KidPointers.{HaveValidPointers}
 use Rattle.zio_stages.specs.NodeChildren.{is_owing}
 use Rattle.zio_stages.specs.OwnWrites.{IsBlockAt}
 use Rattle.zio_stages.specs.WrittenBlocks.{HaveAllTold, IsSoundWrite}
-use Rattle.zio_stages.specs.RequestNodes.{IsOwnOver, front_by}
+use Rattle.zio_stages.specs.RequestNodes.{IsOwnOver}
 use Rattle.zio_stages.specs.Waits.{pending_of}
 use Rattle.zio_stages.specs.declared.request_node.Own.{Own}
-use Rattle.zio_stages.proofs.RequestNodeLemmas.{own_idle}
 use Rattle.zio_stages.proofs.RequestSits.{waits_ready}
 use Rattle.zio_stages.proofs.RequestWriteLemmas.{content_set, front_in, idle_at}
 use Rattle.zio_stages.proofs.request_node.RequestNode.write_compress.Goals as goal
@@ -34,8 +32,7 @@ returns-then-not-all_told-clause-wait c = λ kind e t st seated h.
     let none : list_all is_told r.kids.kids.kids ≡ false =
     ap (λ (k : KidsUnderWay). list_all is_told k.kids) (sym c.kids-kids.ensures) ∙ sym c.all_told.ensures ∙ c.if-not-all_told.true in
     subst (λ (k : ChildKind). list_any (is_owing k Ready) st.children ≡ true) is
-    (waits_ready t r st h seated (own_idle t r r.kids.kids (front_by r h.forest h.kid_asked h.kid_slots) r.own st h.own_asked h.own_slots h.own
-    (λ told. false≢true (sym none ∙ told.told))).2 c.requires.handed none)
+    (waits_ready t r st h seated (idle_at t r st h c.requires.due).alone c.requires.handed none)
 
 pub returns-clause-set : goal.returns-clause-set
 returns-clause-set c = λ e t st h.

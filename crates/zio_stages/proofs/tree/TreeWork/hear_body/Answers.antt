@@ -5,8 +5,8 @@ use Rattle.zio_stages.specs.declared.tree.TreeWork.{TreeWork}
 use Rattle.zio_stages.proofs.TreeLemmas.{body_heard, out_body}
 use Rattle.zio_stages.proofs.tree.TreeWork.hear_body.Goals as goal
 
-pub returns : goal.returns
-returns c = λ tree asked slots h.
+pub returns-clause-heard : goal.returns-clause-heard
+returns-clause-heard c = λ tree asked slots h.
     let old = c.args.self.now in
     let now : TreeWork = record { read = c.hear_body.new.self } in
     let number : c.args.n ≡ suc (c.args.n - 1) = omega arith in

@@ -1,0 +1,77 @@
+-- A read, a free or a claim whose own work came to something: it is so far then, and closes.
+use Rattle.std.proofs.Common.{◌≡◌, List, [], ◌∷◌, length, Bool, true, false, ◌&&◌, Option, None, refl, ◌∙◌, subst}
+use Rattle.std.specs.List.{list_all, list_any}
+use Rattle.zio_types.specs.declared.request.ChildKind.TheVariants.{Logical}
+use Rattle.zio_types.specs.declared.request.Phase.TheVariants.{Ready}
+use Rattle.zio_blkptr.specs.declared.pointer.Bp.{Bp}
+use Rattle.zio_gang.specs.Attempts.{Terms}
+use Rattle.zio_trace.specs.Plans.{plan_own}
+use Rattle.zio_trace.specs.Programs.{Ends}
+use Rattle.zio_children.specs.RequestKids.{has_ended, has_told, is_ended, is_told, kids_by, pointers_of}
+use Rattle.zio_children.specs.declared.kids.Kid.{Kid}
+use Rattle.zio_children.specs.declared.kids.KidState.{KidState}
+use Rattle.zio_children.specs.declared.kids.KidState.TheVariants.{Due as KidDue, Out, Told, Ended}
+use Rattle.zio_frames.specs.Frames.{Stack}
+use Rattle.zio_frames.specs.Seats.{IsSeated}
+use Rattle.zio_frames.specs.Slots.{AllHeard, IsOut, left_behind_slots}
+use Rattle.zio_stages.specs.NodeChildren.{is_owing}
+use Rattle.zio_stages.specs.OwnParts.{IsNoWrite}
+use Rattle.zio_stages.specs.RequestNodes.{Closes, IsOwnOf, IsRequestNode, OwnEnds, front_by, own_got}
+use Rattle.zio_stages.specs.RequestOwns.{IsFoundOwn}
+use Rattle.zio_stages.specs.Waits.{pending_of}
+use Rattle.zio_stages.specs.declared.request_node.Closed.{Closed}
+use Rattle.zio_stages.specs.declared.request_node.Own.{Own}
+use Rattle.zio_stages.specs.declared.request_node.Own.TheVariants.{Found, Over}
+use Rattle.zio_stages.specs.declared.request_node.OwnFound.{OwnFound}
+use Rattle.zio_stages.specs.declared.request_node.RequestNode.{RequestNode}
+use Rattle.zio_stages.proofs.RequestSits.{get_within, inner_apart, kid_sits, owing_ready, untold_slot}
+use Rattle.zio_stages.proofs.RequestStoredLemmas.{shown_still, with_own, with_own_at}
+
+-- ---- it came to something
+
+pub found_at : (t : Terms) (r : RequestNode) (st : Stack) (own : OwnFound) (h : IsRequestNode t r st) → r.kids.kids.handed ≡ length r.kids.kids.kids → IsNoWrite r.waiting.request.work → st.inner ≡ None
+    → AllHeard h.own_slots
+    → ((pointers : List (Option Bp)) → left_behind_slots h.own_slots (plan_own t r.attempt (pending_of r.waiting) r.waiting.request.work pointers) ≡ Ends (own_got own))
+    → IsRequestNode t (with_own r (Found own)) st
+found_at t r st own h all other alone heard value = with_own_at t r st (Found own) h (record { all = all; other = other; alone = alone; heard = heard; value = value })
+
+pub found_in : (t : Terms) (r : RequestNode) (st : Stack) (own : OwnFound) (h : IsRequestNode t r st) → r.own ≡ Found own
+    → IsFoundOwn t (own_got own) r.attempt (pending_of r.waiting) r.kids.kids h.own_slots st
+found_in t r st own h is = subst (λ (o : Own). IsOwnOf t r r.kids.kids (front_by r h.forest h.kid_asked h.kid_slots) o st h.own_asked h.own_slots) is h.own
+
+-- ---- it waits for children that haven't told
+
+pub waits_beside : (t : Terms) (r : RequestNode) (st : Stack) (h : IsRequestNode t r st) → IsSeated st → r.kids.kids.handed ≡ length r.kids.kids.kids → list_all is_told r.kids.kids.kids ≡ false
+    → list_any (is_owing Logical Ready) st.children ≡ true
+waits_beside t r st h seated all not_all =
+    let out = untold_slot r.kids.kids.kids h.kid_slots h.kids.fits (h.kids.all ∙ all) not_all in
+    owing_ready st (kid_sits t r st out.place None h seated
+    (inner_apart t r r.kids.kids (front_by r h.forest h.kid_asked h.kid_slots) r.own st h.own_asked h.own_slots out.place h.own (get_within h.kid_slots out.place (IsOut None) out.slot)) out.slot)
+
+-- ---- it closes
+
+ended_state : (s : KidState) → has_ended s ≡ true → has_told s ≡ true
+ended_state KidDue e = absurd (cc)
+ended_state Out e = absurd (cc)
+ended_state (Told pointer) e = refl
+ended_state (Ended bits error pointer) e = refl
+
+both_true : (a b : Bool) → a && b ≡ true → (a ≡ true) × (b ≡ true)
+both_true true b e = (refl, e)
+both_true false b e = absurd (cc)
+
+pub ended_told : (kids : List Kid) → list_all is_ended kids ≡ true → list_all is_told kids ≡ true
+ended_told [] e = refl
+ended_told (k ∷ kids) e =
+    let both = both_true (has_ended k.state) (list_all is_ended kids) e in
+    λ i. ended_state k.state both.0 i && ended_told kids both.1 i
+
+pub closes_found : (t : Terms) (r : RequestNode) (st : Stack) (own : OwnFound) (closed : Closed) (h : IsRequestNode t r st) → r.own ≡ Found own → list_all is_ended r.kids.kids.kids ≡ true
+    → ((g : IsRequestNode t (with_own r Over) st) → OwnEnds t (with_own r Over) st (own_got own) g → Closes t (with_own r Over) st g closed)
+    → Closes t r st h closed
+closes_found t r st own closed h is ended closes =
+    let f = found_in t r st own h is in
+    let g : IsRequestNode t (with_own r Over) st =
+    with_own_at t r st Over h (record { told = record { all = f.all; told = ended_told r.kids.kids.kids ended }; alone = f.alone; heard = f.heard }) in
+    let c : Closes t (with_own r Over) st g closed = closes g (record { alone = f.alone; heard = f.heard; value = f.value (pointers_of r.kids.kids) }) in
+    record { one = c.one; value = c.value; shows = shown_still closed r Over (kids_by h.kid_slots).ended c.one c.shows }

@@ -1,0 +1,92 @@
+-- A read in an attempt: which stage it may be in, and what each comes to.
+use Rattle.std.specs.Prelude.{◌≡◌, List, Option, Some, None, IfSome}
+use Rattle.zio_types.specs.declared.place.Top.{Top}
+use Rattle.zio_types.specs.declared.request.ChildKind.TheVariants.{Gang}
+use Rattle.zio_types.specs.declared.request.Phase.TheVariants.{Done}
+use Rattle.zio_script.specs.declared.script.Work.{Work}
+use Rattle.zio_script.specs.declared.script.Work.TheVariants.{Null as NullWork, Read as ReadWork, Write as WriteWork, Free as FreeWork, Claim as ClaimWork}
+use Rattle.zio_gang.specs.Attempts.{Terms}
+use Rattle.zio_frames.specs.Frames.{Stack, fresh_stack}
+use Rattle.zio_frames.specs.Seats.{IsSeated}
+use Rattle.zio_parts.specs.TreeReads.{ShowsRead}
+use Rattle.zio_parts.specs.declared.tree_read.TreeStep.TheVariants.{End}
+use Rattle.zio_stages.specs.CopiesNodes.{IsCopiesNode, IsCopiesOver}
+use Rattle.zio_stages.specs.HeadsNodes.{IsHeadsNode, IsHeadsOver}
+use Rattle.zio_stages.specs.NodeIos.{IsReadDue}
+use Rattle.zio_stages.specs.OwnParts.{HandsTo, IsOwed}
+use Rattle.zio_stages.specs.declared.copies_node.CopiesNode.{CopiesNode}
+use Rattle.zio_stages.specs.declared.heads_node.HeadsNode.{HeadsNode}
+use Rattle.zio_stages.specs.declared.own_read.BodyIo.{BodyIo}
+use Rattle.zio_stages.specs.declared.own_read.OwnRead.{OwnRead}
+use Rattle.zio_stages.specs.declared.request_node.Own.{Own}
+use Rattle.zio_stages.specs.declared.request_node.Own.TheVariants.{Claim, Due, Found, Free, Over, Read, Stored, Write}
+use Rattle.zio_stages.specs.declared.request_node.OwnFound.{OwnFound}
+use Rattle.zio_stages.specs.declared.request_read.BodyStage.{BodyStage}
+use Rattle.zio_stages.specs.declared.request_read.BodyStage.TheVariants.{Body, On, Wait}
+
+-- ---- its stages
+
+abbrev pub IsReadWork : Work → Type 0
+IsReadWork NullWork = ⊥
+IsReadWork (ReadWork name prio) = Unit {0}
+IsReadWork (WriteWork name sum copies prio body) = ⊥
+IsReadWork (FreeWork name) = ⊥
+IsReadWork (ClaimWork name pointer) = ⊥
+
+-- its block is read, and this holds of that; or it came to its end
+abbrev pub IsReadWith : (OwnRead → Type 0) → Own → Type 0
+IsReadWith P Due = ⊥
+IsReadWith P (Write w) = ⊥
+IsReadWith P (Stored b) = ⊥
+IsReadWith P (Read w) = P w
+IsReadWith P (Free w) = ⊥
+IsReadWith P (Claim w) = ⊥
+IsReadWith P (Found own) = Unit {0}
+IsReadWith P Over = ⊥
+
+-- no body is read by the node itself
+abbrev pub IsAlone : OwnRead → Type 0
+IsAlone w = w.body ≡ None
+
+-- nothing of the pass is out, and nothing can be handed out in it
+abbrev pub IsBodyDue : List Top → OwnRead → Type 0
+IsBodyDue tops w = IfSome w.body (λ (b : BodyIo). IsReadDue tops b.io)
+
+-- all of it ended
+abbrev pub HasReadEnded : OwnRead → Type 0
+HasReadEnded w = ShowsRead w.tree.read End × IsAlone w
+
+-- what it came to, once it is told
+abbrev pub found_of : Own → Option OwnFound
+found_of Due = None
+found_of (Write w) = None
+found_of (Stored b) = None
+found_of (Read w) = None
+found_of (Free w) = None
+found_of (Claim w) = None
+found_of (Found own) = Some own
+found_of Over = None
+
+abbrev pub HasFound : Own → Type 0
+HasFound own = (found : OwnFound) × (own ≡ Found found)
+
+-- ---- what they come to
+
+-- the walk over the block's headers was handed out, if it was due
+abbrev pub HandsWalk : Terms → Option HeadsNode → (Stack → Type 0) → Stack → Type 0
+HandsWalk t None IsAfter st = IsAfter st
+HandsWalk t (Some child) IsAfter st = HandsTo t Gang (λ op. IsHeadsNode t child (fresh_stack op)) IsAfter st
+
+abbrev pub IsWalkOver : List Top → Option HeadsNode → Type 0
+IsWalkOver tops child = IfSome child (IsHeadsOver tops)
+
+-- the next body was handed out, or a gang child is waited for, or there is none to be handed out
+abbrev pub HandsBody : Terms → BodyStage → (Stack → Type 0) → Stack → Type 0
+HandsBody t (Body child) IsAfter st = HandsTo t Gang (λ op. IsCopiesNode t child (fresh_stack op)) IsAfter st
+HandsBody t Wait IsAfter st = IsAfter st × (IsSeated st → IsOwed Gang Done st)
+HandsBody t On IsAfter st = IsAfter st
+
+abbrev pub IsBodyStageOver : List Top → BodyStage → Type 0
+IsBodyStageOver tops (Body child) = IsCopiesOver tops child
+IsBodyStageOver tops Wait = Unit {0}
+IsBodyStageOver tops On = Unit {0}

@@ -67,6 +67,21 @@ pub read_quiet : (tops : List Top) (w : ReadIo) → IsReadDue tops w → out_cou
 read_quiet tops w (inl h) = read_quiet_from tops w.read h.step (inl h.is) h.shows
 read_quiet tops w (inr h) = read_quiet_from tops w.read h.step (inr h.is) h.shows
 
+-- a read has one step
+pub read_one_step : (tops : List Top) (w : ReadIo) (io : IoStep) → IsReadStep tops w io → IsReadStep tops w Child → io ≡ Child
+read_one_step tops w io h k = h.is ∙ sym (read_child_again tops w h.step k h.shows)
+
+read_first_from : (tops : List Top) (x : Reading) (step : ReadStep) → Retry ≡ io_of_read step → ReadShown tops x step → x.retry ≡ false
+read_first_from tops x (FetchStep target) e h = absurd (cc)
+read_first_from tops x (Repair target) e h = absurd (cc)
+read_first_from tops x WaitReadStep e h = absurd (cc)
+read_first_from tops x RetryReadStep e h = (h (setting_over tops) all_good refl).1
+read_first_from tops x (EndReadStep end) e h = absurd (cc)
+
+-- the second pass begins in the first
+pub read_first_pass : (tops : List Top) (w : ReadIo) → IsReadStep tops w Retry → w.read.retry ≡ false
+read_first_pass tops w h = read_first_from tops w.read h.step h.is h.shows
+
 -- nothing is out where the pass ended
 pub read_idle : (tops : List Top) (w : ReadIo) → IsReadDue tops w → (n : ℕ) → IsReadOutIn w n → ⊥
 read_idle tops w h n out = none_in (outs_of_read w) (n - w.base) (read_counted w ∙ read_quiet tops w h) out.1

@@ -1,5 +1,5 @@
 -- A node that reads or writes a block's copies, as its own part or as the part within that, and its children on leaves.
-use Rattle.std.specs.Prelude.{◌≡◌, ℕ, List, [], ◌∷◌, ◌++◌, slice_get, false, Option, Some, None, ◌⊎◌}
+use Rattle.std.specs.Prelude.{◌≡◌, ℕ, ◌+◌, List, [], ◌∷◌, ◌++◌, slice_get, false, Option, Some, None, ◌⊎◌}
 use Rattle.zio_types.specs.declared.place.Top.{Top}
 use Rattle.zio_types.specs.declared.request.ChildKind.TheVariants.{Vdev}
 use Rattle.zio_gang.specs.Attempts.{Terms}
@@ -74,6 +74,11 @@ pub record IsWriteAt (t : Terms) (bytes : List ℕ) (layer : Layer) (w : WriteIo
 abbrev pub with_leaf : Layer → ℕ → Option LeafWork → List Child → List Child
 with_leaf layer n None family = family
 with_leaf layer n (Some child) family = family ++ new_child (layer_seat layer n) Vdev ∷ []
+
+-- that many operations, with this one if there is one
+abbrev pub with_one : Option LeafWork → ℕ → ℕ
+with_one None n = n
+with_one (Some child) n = n + 1
 
 -- the child does what the node asks next, and behind that this holds of the node
 pub record HandsLeaf (t : Terms) (st : Stack) (child : LeafWork) (IsAfter : Stack → Type 0) : Type 0 where

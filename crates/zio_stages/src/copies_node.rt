@@ -1,6 +1,6 @@
 //! A node that reads a block's copies.
 
-ghost use Rattle.std.specs.Prelude.{◌≡◌, ◌<◌, ◌∷◌, Some, [], false, IfOk, IfSome, OnErr, length, slice_get};
+ghost use Rattle.std.specs.Prelude.{◌≡◌, ◌<◌, ◌∷◌, None, Ok, Some, [], false, true, IfOk, IfSome, OnErr, length, slice_get};
 ghost use Rattle.zio_types.specs.declared.request.ChildKind.TheVariants.{Vdev};
 ghost use Rattle.zio_types.specs.declared.request.Phase.TheVariants.{Done};
 ghost use Rattle.zio_gang.specs.Attempts.{Terms};
@@ -12,7 +12,7 @@ ghost use Rattle.zio_frames.specs.Seats.{IsSeated};
 ghost use Rattle.zio_stages.specs.CopiesNodes.{IsCopiesNode, IsCopiesOver};
 ghost use Rattle.zio_stages.specs.LeafWorks.{IsDue};
 ghost use Rattle.zio_stages.specs.NodeChildren.{first_owing};
-ghost use Rattle.zio_stages.specs.NodeIos.{IsAwaitedAt, IsReadDue, StartsBy};
+ghost use Rattle.zio_stages.specs.NodeIos.{IsAwaitedAt, IsReadDue, StartsBy, with_one};
 ghost use Rattle.zio_stages.specs.ReadIos.{IsReadStep};
 ghost use Rattle.zio_stages.specs.WriteIos.{AreIoPlaces};
 
@@ -52,6 +52,7 @@ impl CopiesNode {
         ensures fresh { (t : Terms) → t.setting.tops ≡ tops.now →
             IsCopiesNode t result (fresh_stack (ReadCopies repair check len places)) }
         ensures over { IsCopiesOver tops.now result }
+        ensures count { result.io.asked ≡ 0 }
     {
         CopiesNode {
             io: ReadIo::new(tops, places, len, repair, check, prio),
@@ -71,6 +72,9 @@ impl CopiesNode {
         ensures starts { IfOk result (λ leaf. (t : Terms) (st : Stack) → t.setting.tops ≡ tops.now →
             IsCopiesNode t self.old st → StartsBy t st leaf (IsCopiesNode t self.new)) }
         ensures due { IfOk result (λ leaf. IfSome leaf IsDue) }
+        ensures count { IfOk result (λ leaf. self.new.io.asked ≡ with_one leaf self.old.io.asked) }
+        ensures pass { self.new.io.read.retry ≡ self.old.io.read.retry }
+        ensures none { result ≡ Ok None → IsReadStep tops.now self.new.io IoStep.Child → ⊥ }
         ensures over { IsCopiesOver tops.now self.new }
         ensures err { OnErr result (self.new ≡ self.old) }
     {
@@ -90,6 +94,7 @@ impl CopiesNode {
         ensures waits { result ≡ IoNext.Wait → (t : Terms) (st : Stack) → t.setting.tops ≡ tops.now → IsSeated st →
             IsCopiesNode t self.now st → first_owing (Vdev ∷ []) Done st.children ≡ Some Vdev }
         ensures due { result ≡ IoNext.On → IsReadDue tops.now self.now.io }
+        ensures more { result ≡ IoNext.More → IsReadStep tops.now self.now.io IoStep.Child }
     {
         read_next(&self.io, tops)
     }
@@ -102,6 +107,9 @@ impl CopiesNode {
             IsCopiesNode t self.new st }
         ensures over { IsCopiesOver tops.now self.new }
         ensures ended { result ≡ false → IsReadStep tops.now self.new.io IoStep.End }
+        ensures count { self.new.io.asked ≡ self.old.io.asked }
+        ensures again { result ≡ true → (self.old.io.read.retry ≡ false) × (self.new.io.read.retry ≡ true) }
+        ensures over_now { result ≡ false → self.new.io ≡ self.old.io }
     {
         assess_read(&mut self.io, Layer::Own, &self.family, tops)
     }
@@ -114,6 +122,8 @@ impl CopiesNode {
             slice_get st.children child ≡ Some c → IsCopiesNode t self.old st →
             IsCopiesNode t self.new (heard_of st child c (Got a)) }
         ensures over { IsCopiesOver tops.now self.new }
+        ensures count { self.new.io.asked ≡ self.old.io.asked }
+        ensures pass { self.new.io.read.retry ≡ self.old.io.read.retry }
     {
         hear_read(
             &mut self.io,

@@ -1,6 +1,6 @@
 // The operations on leaves of a node that reads or writes a block's copies, as its own part or as the part within that.
 
-ghost use Rattle.std.specs.Prelude.{◌≡◌, ◌+◌, ◌-◌, ◌^◌, ◌<◌, ◌∷◌, ℕ, List, Some, [], false, IfOk, IfSome, OnErr, length, slice_get, slice_set};
+ghost use Rattle.std.specs.Prelude.{◌≡◌, ◌+◌, ◌-◌, ◌^◌, ◌<◌, ◌∷◌, ℕ, List, None, Ok, Some, [], false, true, IfOk, IfSome, OnErr, length, slice_get, slice_set};
 ghost use Rattle.zio_types.specs.declared.place.Top.{Top as SeenTop};
 ghost use Rattle.zio_types.specs.declared.request.ChildKind.TheVariants.{Vdev};
 ghost use Rattle.zio_types.specs.declared.request.Phase.TheVariants.{Done};
@@ -64,6 +64,8 @@ pub(crate) fn start_read(
     ensures due { IfOk result (λ leaf. IfSome leaf IsDue) }
     ensures children { IfOk result (λ leaf. family.new ≡ with_leaf layer io.old.asked leaf family.old) }
     ensures count { length family.new + io.old.asked ≡ length family.old + io.new.asked }
+    ensures pass { io.new.read.retry ≡ io.old.read.retry }
+    ensures none { result ≡ Ok None → IsReadStep tops.now io.new IoStep.Child → ⊥ }
     ensures io_err { OnErr result (io.new ≡ io.old) }
     ensures family_err { OnErr result (family.new ≡ family.old) }
 {
@@ -84,6 +86,7 @@ pub(crate) fn read_next(io: &ReadIo, tops: &[Top]) -> IoNext
         t.setting.tops ≡ tops.now → IsSeated st → IsReadAt t layer io.now family st →
         first_owing (Vdev ∷ []) Done family ≡ Some Vdev }
     ensures due { result ≡ IoNext.On → IsReadDue tops.now io.now }
+    ensures more { result ≡ IoNext.More → IsReadStep tops.now io.now IoStep.Child }
 {
     match io.next(tops) {
         IoStep::Child => IoNext::More,
@@ -104,6 +107,8 @@ pub(crate) fn assess_read(io: &mut ReadIo, layer: Layer, family: &Family, tops: 
     ensures sits { SitsOn layer (IsReadOutIn io.new) family.now }
     ensures ended { result ≡ false → IsReadStep tops.now io.new IoStep.End }
     ensures count { io.new.asked ≡ io.old.asked }
+    ensures again { result ≡ true → (io.old.read.retry ≡ false) × (io.new.read.retry ≡ true) }
+    ensures over_now { result ≡ false → io.new ≡ io.old }
 {
     match io.next(tops) {
         IoStep::Retry => {
@@ -134,6 +139,7 @@ pub(crate) fn hear_read(
     ensures sits { SitsOn layer (IsReadOutIn io.new) family.new }
     ensures children { IfSome (slice_get family.old child) (λ (c : Child). family.new ≡ slice_set family.old child (child_ended c)) }
     ensures count { io.new.asked ≡ io.old.asked }
+    ensures pass { io.new.read.retry ≡ io.old.read.retry }
 {
     let n = family.seat(child).number();
     io.hear(tops, n, found);

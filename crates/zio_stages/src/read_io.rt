@@ -1,6 +1,6 @@
 // The read of a block's copies by operations on leaves.
 
-ghost use Rattle.std.specs.Prelude.{◌≡◌, ◌≢◌, ◌+◌, ◌++◌, ◌∷◌, ◌<◌, ℕ, IfOk, None, [], length, true};
+ghost use Rattle.std.specs.Prelude.{◌≡◌, ◌≢◌, ◌+◌, ◌++◌, ◌∷◌, ◌<◌, ℕ, IfOk, None, [], false, length, true};
 ghost use Rattle.zio_gang.specs.Attempts.{Terms};
 ghost use Rattle.zio_trace.specs.Leaves.{Answer};
 ghost use Rattle.zio_trace.specs.Programs.{Ends};
@@ -113,6 +113,7 @@ impl ReadIo {
         ensures outs { outs_of_read self.new ≡ outs_of_read self.old ++ true ∷ [] }
         ensures base { self.new.base ≡ self.old.base }
         ensures count { self.new.asked ≡ self.old.asked + 1 }
+        ensures pass { self.new.read.retry ≡ self.old.read.retry }
         ensures check { self.new.check ≡ self.old.check }
         ensures class { self.new.prio ≡ self.old.prio }
     {
@@ -140,6 +141,7 @@ impl ReadIo {
         ensures over { IsReadOver tops.now self.new }
         ensures others { (m : ℕ) → m ≢ n → IsReadOutIn self.old m → IsReadOutIn self.new m }
         ensures count { self.new.asked ≡ self.old.asked }
+        ensures pass { self.new.read.retry ≡ self.old.read.retry }
         ensures check { self.new.check ≡ self.old.check }
         ensures class { self.new.prio ≡ self.old.prio }
     {
@@ -162,6 +164,8 @@ impl ReadIo {
             IsReadIo t self.new x }
         ensures over { IsReadOver tops.now self.new }
         ensures count { self.new.asked ≡ self.old.asked }
+        ensures first { self.old.read.retry ≡ false }
+        ensures second { self.new.read.retry ≡ true }
         ensures check { self.new.check ≡ self.old.check }
         ensures class { self.new.prio ≡ self.old.prio }
     {

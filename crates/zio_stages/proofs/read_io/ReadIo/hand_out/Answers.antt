@@ -69,3 +69,17 @@ returns-in-Repair-clause-outs c =
     let bytes : List ℕ = shown.0 in
     let handed : c.hand_out-in-Repair.new.self ≡ handed_with (Some bytes) w.read = c.hand_out-in-Repair.ensures.handed ∙ ap (λ (g : Option (List ℕ)). handed_with g w.read) shown.1 in
     ap (λ (y : Reading). outs_when y.good y.is_out y.mends) handed ∙ repair_one_more w.read bytes shown.1
+
+pub returns-in-Fetch-clause-pass : goal.returns-in-Fetch-clause-pass
+returns-in-Fetch-clause-pass c =
+    let w = c.args.self.now in
+    let handed : c.hand_out.new.self ≡ handed_with None w.read = c.hand_out.ensures.handed ∙ ap (λ (g : Option (List ℕ)). handed_with g w.read) c.in-Fetch.ensures.allows.1 in
+    ap (λ (y : Reading). y.retry) handed
+
+pub returns-in-Repair-clause-pass : goal.returns-in-Repair-clause-pass
+returns-in-Repair-clause-pass c =
+    let w = c.args.self.now in
+    let shown = c.in-Repair.ensures.shows (setting_over c.args.tops.now) all_good refl in
+    let bytes : List ℕ = shown.0 in
+    let handed : c.hand_out-in-Repair.new.self ≡ handed_with (Some bytes) w.read = c.hand_out-in-Repair.ensures.handed ∙ ap (λ (g : Option (List ℕ)). handed_with g w.read) shown.1 in
+    ap (λ (y : Reading). y.retry) handed

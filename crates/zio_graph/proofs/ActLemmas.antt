@@ -7,13 +7,15 @@ use Rattle.zio_types.specs.declared.request.ChildKind.{ChildKind}
 use Rattle.zio_types.specs.declared.request.Phase.{Phase}
 use Rattle.zio_types.specs.declared.request.Phase.TheVariants.{Done}
 use Rattle.zio_counts.specs.Tallies.{Tally, count_end, counted, first_counted, is_last, notified, raised, stalled}
+use Rattle.zio_stages.specs.declared.waiting.Waiting.{Waiting}
 use Rattle.slab.specs.Slab.{Slab, Updates, get}
-use Rattle.zio_graph.specs.Acts.{HasCounted, HasGrown, HasHeard, HasWaited, counting, new_ties, with_ties}
+use Rattle.zio_graph.specs.Acts.{HasCounted, HasGrown, HasHeard, HasWaited, StepIn, counting, new_ties, step_told, with_ties}
 use Rattle.zio_graph.specs.Entries.{OneMore, OneMoreIf}
 use Rattle.zio_graph.specs.Parts.{Nodes}
 use Rattle.zio_graph.specs.Stages.{heard_max}
 use Rattle.zio_graph.specs.declared.entry.Entry.{Entry}
-use Rattle.zio_graph.specs.declared.entry.Parent.TheVariants.{Node}
+use Rattle.zio_graph.specs.declared.entry.Parent.{Parent as Above}
+use Rattle.zio_graph.specs.declared.entry.Parent.TheVariants.{Node, Tree}
 use Rattle.zio_graph.specs.declared.entry.Ties.{Ties}
 use Rattle.zio_graph.proofs.Queues.{queued_last}
 use Rattle.zio_graph.proofs.Shelves.{exchanged}
@@ -25,6 +27,11 @@ ok_as {X} r x y e f = subst (λ (z : X). r ≡ Ok z) f e
 pub if_ok_both : {X E : Type 0} (r : Result X E) (P Q R : X → Type 0) → ((x : X) → P x → Q x → R x) → IfOk r P → IfOk r Q → IfOk r R
 if_ok_both (Ok x) P Q R f p q = f x p q
 if_ok_both (Err e) P Q R f p q = tt
+
+-- a pointer that is told is no tree that goes again
+pub told_in : (Q : List Waiting → Type 0) (parent : Above) → StepIn Q (step_told parent)
+told_in Q (Tree tree child) = tt
+told_in Q (Node key child) = tt
 
 pub waited : {N : Type 0} (slab slab_now : Slab (Entry N)) (line line_now : List ℕ) (key : ℕ) (e : Entry N) (kind : ChildKind)
     (phase : Phase) (tally : Tally) (stalls : Bool) → tally ≡ stalled (first_counted (kind ∷ []) phase e.ties.counts) e.ties.counts

@@ -1,5 +1,5 @@
 -- A leaf answers, in each round that is kept.
-use Rattle.std.proofs.Common.{◌≡◌, ℕ, List, [], ◌∷◌, ◌++◌, Option, Some, sym, subst}
+use Rattle.std.proofs.Common.{◌≡◌, ℕ, ◌<◌, List, [], ◌∷◌, ◌++◌, Option, Some, sym, subst, arith}
 use Rattle.zio_types.specs.declared.error.Errno.{Errno}
 use Rattle.zio_types.specs.declared.place.Place.{Place}
 use Rattle.zio_gang.specs.Attempts.{Terms}
@@ -9,12 +9,14 @@ use Rattle.zio_frames.specs.Frames.{Stack, fresh_stack}
 use Rattle.zio_frames.specs.Moves.{done_at_once}
 use Rattle.slab.specs.Slab.{Slab, Updates, get}
 use Rattle.zio_graph.specs.Acts.{with_ties}
+use Rattle.zio_graph.specs.Entries.{live_of, times_in}
 use Rattle.zio_graph.specs.Parts.{Nodes}
 use Rattle.zio_graph.specs.Rounds.{ComesBack, IsAtLeaf, KeepsRound, with_images}
 use Rattle.zio_graph.specs.Slabs.{held_of, shelf_of}
 use Rattle.zio_graph.specs.Stages.{ShowsAnswer}
 use Rattle.zio_graph.specs.declared.entry.Entry.{Entry}
 use Rattle.zio_graph.proofs.Finds.{leaf_held}
+use Rattle.zio_graph.proofs.Lives.{first_at}
 use Rattle.zio_graph.proofs.MoveOne.{leaf_now}
 use Rattle.zio_graph.proofs.Queues.{queued_last}
 use Rattle.zio_graph.proofs.RoundMoves.{round_comes_back}
@@ -46,15 +48,14 @@ module _ {N : Type 0} (nodes : Nodes N) (slab : Slab (Entry N)) (line : List ℕ
       → nodes.Is t node (done_at_once (fresh_stack (Leaf act)) (Leaf act) (Got a)))
       → nodes.told node ≡ nodes.told e.node → Updates slab slab_now key (Some (with_ties {N = N} node e.ties))
       → line_now ≡ line ++ key ∷ [] → ComesBack {N = N} nodes slab line slab_now line_now key error bytes
-  answer_comes_back gave slab_now line_now error bytes e node is heard told put queued = λ t sizes f before s leaves others sound more k.
+  answer_comes_back gave slab_now line_now error bytes e node is heard told put queued =
+      λ t sizes f before s leaves others sound more k a after shows answers.
       let r = it_is_there nodes t sizes f before s slab line leaves key e k is in
       let now = leaf_now nodes t sizes f before s.trees s.tops key r.node r.others (shelf_of {N = N} slab) line leaves r.state
       (held_of {N = N} e) others r.kept r.held more in
-      record {
-        act = now.0;
-        keeps = λ a after shows answers.
-            subst (λ (q : List ℕ). KeepsRound {N = N} nodes t sizes f before (with_images s after) slab_now q others) (sym queued)
-            (round_comes_back nodes gave t sizes f before s slab slab_now line leaves key e sound r others more now.0 now.4 a after
-            answers node (heard t now.0 a (subst (λ (st : Stack). nodes.Is t e.node st) now.4 r.is) shows) told put
-            (line ++ key ∷ []) (queued_last key line));
-      }
+      let at : 0 < times_in key leaves = omega (arith, now.2) in
+      let fresh : r.node.stack ≡ fresh_stack (Leaf (s.ops key)) = r.theirs key r.node (first_at (live_of key r.node) r.others) at in
+      subst (λ (q : List ℕ). KeepsRound {N = N} nodes t sizes f before (with_images s after) slab_now q others) (sym queued)
+      (round_comes_back nodes gave t sizes f before s slab slab_now line leaves key e sound r others more (s.ops key) fresh a after
+      answers node (heard t (s.ops key) a (subst (λ (st : Stack). nodes.Is t e.node st) fresh r.is) shows) told put
+      (line ++ key ∷ []) (queued_last key line))

@@ -1,5 +1,5 @@
 -- What an engine knows of a node before its parent hears of it.
-use Rattle.std.proofs.Common.{◌≡◌, ℕ, List, ◌∷◌, ◌++◌, slice_get, slice_set, Bool, Option, Some, None, Contains, sym, ◌∙◌, subst}
+use Rattle.std.proofs.Common.{◌≡◌, ℕ, ◌<◌, List, ◌∷◌, ◌++◌, slice_get, slice_set, Bool, Option, Some, None, Contains, sym, ◌∙◌, subst}
 use Rattle.zio_types.specs.Choices.{Choice}
 use Rattle.zio_cksum.specs.Images.{Images}
 use Rattle.zio_gang.specs.declared.tree.Tree.{Tree}
@@ -7,7 +7,7 @@ use Rattle.zio_gang.specs.Attempts.{Terms}
 use Rattle.zio_gang.specs.Journals.{AreLawful}
 use Rattle.zio_gang.specs.Trees.{sizes_of}
 use Rattle.zio_trace.specs.Families.{Forest}
-use Rattle.zio_trace.specs.Leaves.{LeafOp, LiesOn}
+use Rattle.zio_trace.specs.Leaves.{LeafOp, LiesOn, spot_of}
 use Rattle.zio_trace.specs.SoundRounds.{HasClaim, IsSoundRound}
 use Rattle.zio_trace.specs.Tasks.{Leaf, Value}
 use Rattle.zio_trace.specs.Underway.{State}
@@ -27,6 +27,7 @@ use Rattle.zio_graph.proofs.Kept.{all_flying, one_forward, running_as}
 use Rattle.zio_graph.proofs.MoveEnd.{two_child, two_running}
 use Rattle.zio_graph.proofs.MoveEndTree.{tree_child, tree_running}
 use Rattle.zio_graph.proofs.MoveGrow.{top_forward}
+use Rattle.zio_graph.proofs.Spans.{spans_at}
 
 module _ {N : Type 0} (nodes : Nodes N) (t : Terms) (sizes : ℕ → ℕ) (f : Forest) (before : Option Images) (trees : List Slot)
     (tops : List (Option Flying))
@@ -93,6 +94,14 @@ module _ {N : Type 0} (nodes : Nodes N) (t : Terms) (sizes : ℕ → ℕ) (f : F
   one_lies key x others act sound k is =
       let r = first_running key x others k in
       lies_at t sizes f before trees (all_flying tops others) r.state x.at act sound
+      (subst (λ (st : Stack). IsRunning t sizes f before trees (record { at = x.at; stack = st } ∷ all_flying tops others) r.state)
+      is r.running)
+
+  pub one_spans : (key : ℕ) (x : Flying) (others : List Live) (act : LeafOp) → IsSoundRound t sizes f
+      → KeptOf (live_of key x ∷ others) → x.stack ≡ fresh_stack (Leaf act) → 0 < (spot_of act).span
+  one_spans key x others act sound k is =
+      let r = first_running key x others k in
+      spans_at t sizes f before trees (all_flying tops others) r.state x.at act sound
       (subst (λ (st : Stack). IsRunning t sizes f before trees (record { at = x.at; stack = st } ∷ all_flying tops others) r.state)
       is r.running)
 

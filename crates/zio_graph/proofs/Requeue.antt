@@ -25,6 +25,9 @@ use Rattle.zio_graph.specs.Slabs.{AreAll, held_if, left_in, left_over, load, she
 use Rattle.zio_graph.specs.declared.entry.Entry.{Entry}
 use Rattle.zio_graph.specs.declared.entry.Parent.TheVariants.{Tree}
 use Rattle.zio_graph.specs.declared.entry.Ties.{Ties}
+use Rattle.zio_graph.proofs.Kept.{world}
+use Rattle.zio_graph.proofs.LeafOps.{theirs_with}
+use Rattle.zio_graph.proofs.Links.{free_there}
 use Rattle.zio_graph.proofs.Lives.{with_more}
 use Rattle.zio_graph.proofs.Loads.{left_new}
 use Rattle.zio_graph.proofs.MoveGrow.{all_begins, tree_begins}
@@ -81,6 +84,7 @@ module _ {N : Type 0} (nodes : Nodes N) (t : Terms) where
       images_are = k.still.images_are;
     };
     numbered = k.numbered;
+    theirs = k.theirs;
   }
 
   -- ---- the beginning
@@ -96,6 +100,7 @@ module _ {N : Type 0} (nodes : Nodes N) (t : Terms) where
             (subst (λ (g : Shelf N). StillKept {N = N} nodes t sizes f before (all_out (settles f))
             (all_tops (settling_from 0 (settles f))) [] g [] [] [] images) (sym bare) (all_begins nodes t sizes f before images sound is));
         numbered = λ key e x there flies. absurd (none_flies key x flies);
+        theirs = λ key x flies. absurd (none_flies key x flies);
       }
     where
       none_flies : (key : ℕ) (x : Flying) → flying_at [] key ≡ Some x → ⊥
@@ -128,6 +133,11 @@ module _ {N : Type 0} (nodes : Nodes N) (t : Terms) where
             k.still.entries_are k.still.images_are;
         numbered = numbered_with slab slab_now key now (flying_at k.lives) (flying_at lives) (new_flying top op) put
             (with_more key (new_flying top op) k.lives) refl k.numbered;
+        theirs = theirs_with (flying_at k.lives) (flying_at lives) leaves s.ops key (Some (new_flying top op))
+            (with_more key (new_flying top op) k.lives)
+            (free_there nodes t (world {N = N} s.tops k.lives (shelf_of {N = N} slab) line leaves) key k.still.kept.linked
+            (ap (held_if {N = N}) free)).2
+            k.theirs;
       }
 
 -- with one node more

@@ -34,7 +34,8 @@ use Rattle.zio_graph.proofs.MoveEndTree.{one_ends_tree, tree_fits}
 use Rattle.zio_graph.proofs.RoundNodes.{IsThere, still_as, without_first}
 use Rattle.zio_graph.proofs.RoundParents.{HasAbove, IsAbove, has_above, is_above}
 use Rattle.zio_graph.proofs.RoundTells.{length_set}
-use Rattle.zio_graph.proofs.Lives.{with_first}
+use Rattle.zio_graph.proofs.LeafOps.{theirs_parent, theirs_without}
+use Rattle.zio_graph.proofs.Lives.{first_at, with_first}
 use Rattle.zio_graph.proofs.Shelves.{numbered_with, numbered_without, shelf_two, shelf_without}
 
 module _ {N : Type 0} (nodes : Nodes N) (gave : N → List Place) (over : List Top → N → Type 0) (t : Terms) (sizes : ℕ → ℕ) (f : Forest)
@@ -153,6 +154,10 @@ module _ {N : Type 0} (nodes : Nodes N) (gave : N → List Place) (over : List T
               (a.given ∙ sym (length_set p.parent.stack.children n (child_ended p.child)))
               (numbered_without slab out key (flying_at (live_of key r.node ∷ second)) (flying_at second) taken
               (without_first key r.node second a.kept.differ) a.numbered);
+          theirs = theirs_parent (flying_at second) (flying_at (live_of above y ∷ a.others)) leaves s.ops above p.parent (Some y) n
+              p.child (with_first above p.parent y a.others) (first_at (live_of above p.parent) a.others) p.does.is
+              (theirs_without (flying_at (live_of key r.node ∷ second)) (flying_at second) leaves s.ops key
+              (without_first key r.node second a.kept.differ) a.theirs);
         }
 
   -- ---- a tree
@@ -190,5 +195,7 @@ module _ {N : Type 0} (nodes : Nodes N) (gave : N → List Place) (over : List T
               (r.entries_are ∙ same_entries) r.images_are;
           numbered = numbered_without slab out key (flying_at (live_of key r.node ∷ r.others)) (flying_at r.others) taken
               (without_first key r.node r.others r.kept.differ) r.numbered;
+          theirs = theirs_without (flying_at (live_of key r.node ∷ r.others)) (flying_at r.others) leaves s.ops key
+              (without_first key r.node r.others r.kept.differ) r.theirs;
         };
       }

@@ -26,8 +26,12 @@ use Rattle.zio_graph.specs.declared.entry.Entry.{Entry}
 use Rattle.zio_graph.specs.declared.entry.Parent.TheVariants.{Node}
 use Rattle.zio_graph.proofs.Callings.{WereRight, were_right}
 use Rattle.zio_graph.proofs.DoesLemmas.{append_none}
+use Rattle.zio_graph.proofs.Kept.{world}
+use Rattle.zio_graph.proofs.LeafOps.{theirs_with}
+use Rattle.zio_graph.proofs.Links.{free_there}
 use Rattle.zio_graph.proofs.Lives.{with_first, with_more}
 use Rattle.zio_graph.proofs.MoveGrow.{one_grows}
+use Rattle.zio_graph.proofs.MoveOne.{queued_now}
 use Rattle.zio_graph.proofs.Queues.{queued_first, queued_last}
 use Rattle.zio_graph.proofs.RoundNodes.{IsThere, does_children, still_as}
 use Rattle.zio_graph.proofs.Shelves.{exchanged, none_some, numbered_with, shelf_two}
@@ -122,4 +126,13 @@ module _ {N : Type 0} (nodes : Nodes N) (gave : N → List Place) (t : Terms) (s
             (flying_at (live_of has.at z ∷ live_of key y ∷ r.others)) z has.added (with_more has.at z (live_of key y ∷ r.others)) refl
             (numbered_with slab has.mid key parent_now (flying_at (live_of key r.node ∷ r.others))
             (flying_at (live_of key y ∷ r.others)) y put (with_first key r.node y r.others) numbers r.numbered);
+        theirs = theirs_with (flying_at (live_of key y ∷ r.others)) (flying_at (live_of has.at z ∷ live_of key y ∷ r.others)) leaves
+            s.ops has.at (Some z) (with_more has.at z (live_of key y ∷ r.others))
+            (free_there nodes t (world {N = N} s.tops (live_of key r.node ∷ r.others) (shelf_of {N = N} slab) (key ∷ line) leaves)
+            has.at r.kept.linked (ap (held_if {N = N}) free)).2
+            (theirs_with (flying_at (live_of key r.node ∷ r.others)) (flying_at (live_of key y ∷ r.others)) leaves s.ops key (Some y)
+            (with_first key r.node y r.others)
+            (queued_now nodes t sizes f before s.trees s.tops key r.node r.others (shelf_of {N = N} slab) (key ∷ line) leaves r.state
+            h line r.kept r.held (queued_first key line)).1
+            r.theirs);
       }

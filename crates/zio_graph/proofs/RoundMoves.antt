@@ -26,14 +26,15 @@ use Rattle.zio_graph.specs.Acts.{counting, with_ties}
 use Rattle.zio_graph.specs.Engine.{IsKept, StillKept}
 use Rattle.zio_graph.specs.Entries.{CountsAre, OneMore, count_owing, flying_at, live_of}
 use Rattle.zio_graph.specs.Parts.{Nodes}
-use Rattle.zio_graph.specs.Rounds.{AreRight, Before, KeepsRound, SoFar, choices_in, with_entries, with_images}
+use Rattle.zio_graph.specs.Rounds.{AreRight, Before, KeepsRound, SoFar, choices_in, with_entries, with_images, with_op}
 use Rattle.zio_graph.specs.Slabs.{held_of, shelf_of}
 use Rattle.zio_graph.specs.Stages.{GoesOn, Stays}
 use Rattle.zio_graph.specs.declared.entry.Entry.{Entry}
 use Rattle.zio_graph.proofs.Callings.{WereRight, none_made, were_right}
-use Rattle.zio_graph.proofs.Lives.{with_first}
+use Rattle.zio_graph.proofs.LeafOps.{theirs_back, theirs_out, theirs_with}
+use Rattle.zio_graph.proofs.Lives.{first_at, with_first}
 use Rattle.zio_graph.proofs.MoveLeaf.{one_comes_back}
-use Rattle.zio_graph.proofs.MoveOne.{one_goes_on, one_goes_to_leaf, one_waits}
+use Rattle.zio_graph.proofs.MoveOne.{leaf_now, one_goes_on, one_goes_to_leaf, one_waits, queued_now}
 use Rattle.zio_graph.proofs.RoundNodes.{IsThere, does_children, still_as}
 use Rattle.zio_graph.proofs.Shelves.{numbered_with, shelf_with}
 use Rattle.zio_graph.proofs.DoesLemmas.{append_none}
@@ -90,6 +91,11 @@ module _ {N : Type 0} (nodes : Nodes N) (gave : N → List Place) (t : Terms) (s
         numbered = numbered_with slab slab_now key (with_ties {N = N} node e.ties) (flying_at (live_of key r.node ∷ r.others))
             (flying_at (live_of key y ∷ r.others)) y put (with_first key r.node y r.others)
             (r.given ∙ ap (λ (cs : List Child). length cs) (sym (does_children t g.dids r.node.stack g.stack g.does))) r.numbered;
+        theirs = theirs_with (flying_at (live_of key r.node ∷ r.others)) (flying_at (live_of key y ∷ r.others)) leaves s.ops key
+            (Some y) (with_first key r.node y r.others)
+            (queued_now nodes t sizes f before s.trees s.tops key r.node r.others (shelf_of {N = N} slab) queue leaves
+            r.state (held_of {N = N} e) rest r.kept r.held more).1
+            r.theirs;
       }
 
   -- it stalls on a count that isn't 0
@@ -118,6 +124,7 @@ module _ {N : Type 0} (nodes : Nodes N) (gave : N → List Place) (t : Terms) (s
             (r.entries_are ∙ none_made s.entries calls stays.no_calls) r.images_are;
         numbered = numbered_with slab slab_now key now (flying_at (live_of key r.node ∷ r.others))
             (flying_at (live_of key r.node ∷ r.others)) r.node put_now (with_first key r.node r.node r.others) r.given r.numbered;
+        theirs = r.theirs;
       }
 
   -- its operation goes to a leaf
@@ -125,7 +132,7 @@ module _ {N : Type 0} (nodes : Nodes N) (gave : N → List Place) (t : Terms) (s
       → AreRight t s.entries calls → (act : LeafOp) → r.node.stack ≡ fresh_stack (Leaf act) → (node : N)
       → Stays {N = N} nodes gave t e.node r.node.stack calls node
       → Updates slab slab_now key (Some (with_ties {N = N} node e.ties)) → (leaves_now : List ℕ) → OneMore key leaves leaves_now
-      → Now (with_entries s (choices_in calls)) rest leaves_now
+      → Now (with_op (with_entries s (choices_in calls)) key act) rest leaves_now
   round_goes_to_leaf sound r rest more calls right act fresh node stays put leaves_now more_leaves =
       let lawful : AreLawful (sizes_of t.setting.tops) t.used (r.state.entries ++ []) =
       subst (λ (cs : List Choice). AreLawful (sizes_of t.setting.tops) t.used cs)
@@ -148,6 +155,8 @@ module _ {N : Type 0} (nodes : Nodes N) (gave : N → List Place) (t : Terms) (s
             (first.images_are ∙ r.images_are);
         numbered = numbered_with slab slab_now key now (flying_at (live_of key r.node ∷ r.others))
             (flying_at (live_of key r.node ∷ r.others)) r.node put (with_first key r.node r.node r.others) r.given r.numbered;
+        theirs = theirs_out (flying_at (live_of key r.node ∷ r.others)) leaves leaves_now s.ops key r.node act
+            (first_at (live_of key r.node) r.others) fresh more_leaves r.theirs;
       }
 
   -- the leaf answered
@@ -176,4 +185,9 @@ module _ {N : Type 0} (nodes : Nodes N) (gave : N → List Place) (t : Terms) (s
         numbered = numbered_with slab slab_now key now (flying_at (live_of key r.node ∷ r.others))
             (flying_at (live_of key y ∷ r.others)) y put (with_first key r.node y r.others)
             (r.given ∙ ap (λ (st : Stack). length st.children) fresh) r.numbered;
+        theirs = theirs_back (flying_at (live_of key r.node ∷ r.others)) (flying_at (live_of key y ∷ r.others)) leaves rest s.ops key
+            (Some y) (with_first key r.node y r.others) more
+            (leaf_now nodes t sizes f before s.trees s.tops key r.node r.others (shelf_of {N = N} slab) queue leaves r.state
+            (held_of {N = N} e) rest r.kept r.held more).2
+            r.theirs;
       }

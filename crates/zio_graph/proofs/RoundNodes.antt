@@ -14,7 +14,7 @@ use Rattle.slab.specs.Slab.{Slab, get}
 use Rattle.zio_graph.specs.Engine.{IsKept, StillKept}
 use Rattle.zio_graph.specs.Entries.{CountsAre, IsWith, KeysDiffer, Live, Shelf, flying_at, flying_of, live_of}
 use Rattle.zio_graph.specs.Parts.{Nodes}
-use Rattle.zio_graph.specs.Rounds.{Before, KeepsRound, SoFar}
+use Rattle.zio_graph.specs.Rounds.{Before, DoTheirs, KeepsRound, SoFar}
 use Rattle.zio_graph.specs.Slabs.{AreNumbered, held_if, held_of, shelf_of}
 use Rattle.zio_graph.specs.declared.entry.Entry.{Entry}
 use Rattle.zio_graph.proofs.Kept.{all_flying, kept_fronted, one_forward, running_as, world}
@@ -57,6 +57,7 @@ module _ {N : Type 0} (nodes : Nodes N) (t : Terms) (sizes : ℕ → ℕ) (f : F
     pub seated : IsSeated node.stack
     pub given : e.ties.children ≡ length node.stack.children
     pub numbered : AreNumbered {N = N} slab (flying_at (live_of key node ∷ others))
+    pub theirs : DoTheirs (flying_at (live_of key node ∷ others)) leaves s.ops
 
   first_seated : (tops : List (Option Flying)) (x : Live) (others : List Live) (state : State)
       → IsKept {N = N} nodes t sizes f before s.trees tops (x ∷ others) (shelf_of {N = N} slab) queue leaves state
@@ -91,6 +92,7 @@ module _ {N : Type 0} (nodes : Nodes N) (t : Terms) (sizes : ℕ → ℕ) (f : F
         seated = first_seated s.tops (live_of key found.0) front.others now.state now.kept;
         given = k.numbered key e found.0 is found.1;
         numbered = λ i g x there flies. k.numbered i g x there (sym (front.same i) ∙ flies);
+        theirs = λ i x flies. k.theirs i x (sym (front.same i) ∙ flies);
       }
 
 -- a key that waits has a node

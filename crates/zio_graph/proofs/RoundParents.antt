@@ -14,7 +14,7 @@ use Rattle.zio_graph.specs.Engine.{HasParent, IsKept, StillKept}
 use Rattle.zio_graph.specs.Entries.{CountsAre, Held, Live, OfNode, Parent, flying_at, flying_of, live_of, standing, top_at}
 use Rattle.zio_graph.specs.Found.{IsChildOf}
 use Rattle.zio_graph.specs.Parts.{Nodes}
-use Rattle.zio_graph.specs.Rounds.{Before, SoFar}
+use Rattle.zio_graph.specs.Rounds.{Before, DoTheirs, SoFar}
 use Rattle.zio_graph.specs.Slabs.{AreNumbered, held_if, held_of, shelf_of}
 use Rattle.zio_graph.specs.declared.entry.Entry.{Entry}
 use Rattle.zio_graph.proofs.Kept.{all_flying, kept_now, linked_as, running_as, two_forward, world}
@@ -94,6 +94,8 @@ module _ {N : Type 0} (nodes : Nodes N) (t : Terms) (sizes : ℕ → ℕ) (f : F
     pub seated : IsSeated q.stack
     pub given : g.ties.children ≡ length q.stack.children
     pub numbered : AreNumbered {N = N} slab (flying_at (live_of key r.node ∷ live_of above q ∷ others))
+    pub theirs : DoTheirs (flying_at (live_of key r.node ∷ live_of above q ∷ others)) leaves s.ops
+    pub flies : flying_at (live_of key r.node ∷ live_of above q ∷ others) above ≡ Some q
 
   second_seated : (x y : Live) (others : List Live) (state : State)
       → IsKept {N = N} nodes t sizes f before s.trees s.tops (x ∷ y ∷ others) (shelf_of {N = N} slab) queue leaves state
@@ -140,4 +142,6 @@ module _ {N : Type 0} (nodes : Nodes N) (t : Terms) (sizes : ℕ → ℕ) (f : F
         seated = second_seated (live_of key r.node) (live_of above p.parent) front.others now.state now.kept;
         given = numbered above g p.parent is (second_at (live_of key r.node) (live_of above p.parent) front.others now.kept.differ);
         numbered = numbered;
+        theirs = λ k x flies. r.theirs k x (sym (same k) ∙ flies);
+        flies = second_at (live_of key r.node) (live_of above p.parent) front.others now.kept.differ;
       }

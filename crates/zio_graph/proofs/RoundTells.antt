@@ -27,6 +27,7 @@ use Rattle.zio_graph.proofs.Callings.{none_made}
 use Rattle.zio_graph.proofs.Finds.{tree_found}
 use Rattle.zio_graph.proofs.FoundFits.{one_asked, tree_asked}
 use Rattle.zio_graph.proofs.HearLemmas.{some_more, told_not}
+use Rattle.zio_graph.proofs.LeafOps.{theirs_parent}
 use Rattle.zio_graph.proofs.Lives.{first_at, other_at, with_first}
 use Rattle.zio_graph.proofs.MoveTell.{one_tells, one_tells_tree, one_untold}
 use Rattle.zio_graph.proofs.RoundNodes.{IsThere, still_as}
@@ -146,6 +147,9 @@ module _ {N : Type 0} (nodes : Nodes N) (gave : N → List Place) (over : List T
               (flying_at (live_of key r.node ∷ live_of above p.parent ∷ a.others))
               (flying_at (live_of key r.node ∷ live_of above p.parent ∷ a.others)) r.node put
               (with_first key r.node r.node (live_of above p.parent ∷ a.others)) r.given a.numbered);
+          theirs = theirs_parent (flying_at (live_of key r.node ∷ live_of above p.parent ∷ a.others))
+              (flying_at (live_of key r.node ∷ live_of above y ∷ a.others)) leaves s.ops above p.parent (Some y) n p.child
+              (with_second (live_of key r.node) above p.parent y a.others p.other) a.flies p.does.is a.theirs;
         }
 
   -- ---- a tree
@@ -181,5 +185,6 @@ module _ {N : Type 0} (nodes : Nodes N) (gave : N → List Place) (over : List T
               (r.entries_are ∙ none_made s.entries calls tells.no_calls) r.images_are;
           numbered = numbered_with slab mid key (with_ties {N = N} node e.ties) (flying_at (live_of key r.node ∷ r.others))
               (flying_at (live_of key r.node ∷ r.others)) r.node put (with_first key r.node r.node r.others) r.given r.numbered;
+          theirs = r.theirs;
         };
       }

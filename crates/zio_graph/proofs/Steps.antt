@@ -17,7 +17,7 @@ use Rattle.zio_stages.specs.declared.outcome.Outcome.{Outcome}
 use Rattle.slab.specs.Slab.{Slab, Updates, get}
 use Rattle.zio_graph.specs.Acts.{CanEnd, CanTell, HasEnded, HasGrown, HasTold, HasWaited, step_told, with_ties}
 use Rattle.zio_graph.specs.Parts.{Nodes}
-use Rattle.zio_graph.specs.Rounds.{IsTurn, KeepsRound, SoFar, StepsOn, TreeHears, TreeHearsEarly, choices_in, with_entries}
+use Rattle.zio_graph.specs.Rounds.{IsTurn, KeepsRound, SoFar, StepsOn, TreeHears, TreeHearsEarly, choices_in, with_entries, with_op}
 use Rattle.zio_graph.specs.Slabs.{parent_of, shelf_of}
 use Rattle.zio_graph.specs.Stages.{Ends, GoesOn, GoesToLeaf, Grows, IsNow, Tells, Waits}
 use Rattle.zio_graph.specs.declared.entry.Entry.{Entry}
@@ -26,7 +26,7 @@ use Rattle.zio_graph.specs.declared.entry.Parent.TheVariants.{Node, Tree}
 use Rattle.zio_graph.specs.declared.step.Step.{Step}
 use Rattle.zio_graph.specs.declared.step.Step.TheVariants.{Goes, Leaf as ToLeaf, Rests}
 use Rattle.zio_graph.proofs.Finds.{queued_held}
-use Rattle.zio_graph.proofs.FoundFits.{one_lies}
+use Rattle.zio_graph.proofs.FoundFits.{one_lies, one_spans}
 use Rattle.zio_graph.proofs.Queues.{queued_first}
 use Rattle.zio_graph.proofs.RoundEnds.{can_end, ends_as, round_ends, round_ends_tree}
 use Rattle.zio_graph.proofs.RoundGrows.{round_grows}
@@ -75,9 +75,11 @@ module _ {N : Type 0} (nodes : Nodes N) (gave : N → List Place) (over : List T
         record {
           lies = one_lies nodes t sizes f before s.trees s.tops (shelf_of {N = N} slab) (key ∷ line) leaves r.state key r.node r.others
               g.act sound r.kept g.fresh;
+          spans = one_spans nodes t sizes f before s.trees s.tops (shelf_of {N = N} slab) (key ∷ line) leaves r.state key r.node r.others
+              g.act sound r.kept g.fresh;
           keeps = λ leaves_now more.
-              subst (λ (q : List ℕ). KeepsRound {N = N} nodes t sizes f before (with_entries s (choices_in calls)) slab_now q
-              leaves_now) (sym same)
+              subst (λ (q : List ℕ). KeepsRound {N = N} nodes t sizes f before (with_op (with_entries s (choices_in calls)) key g.act)
+              slab_now q leaves_now) (sym same)
               (round_goes_to_leaf nodes gave t sizes f before s slab slab_now (key ∷ line) leaves key e sound r line
               (queued_first key line) calls right g.act g.fresh node g.stays
               (exchanged slab out slab_now key (with_ties {N = N} node e.ties) taken put) leaves_now more);

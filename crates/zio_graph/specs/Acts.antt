@@ -16,9 +16,10 @@ use Rattle.zio_frames.specs.Moves.{heard_early, heard_of}
 use Rattle.zio_stages.specs.declared.outcome.Finished.{Finished}
 use Rattle.zio_stages.specs.declared.outcome.Outcome.{Outcome}
 use Rattle.zio_stages.specs.declared.outcome.Outcome.TheVariants.{Finished as HasFinished}
+use Rattle.zio_stages.specs.declared.waiting.Waiting.{Waiting}
 use Rattle.slab.specs.Slab.{Slab, Updates, get}
 use Rattle.zio_graph.specs.Parts.{Nodes}
-use Rattle.zio_graph.specs.Stages.{Hears, HearsEarly, HearsSome, HearsSomeEarly, heard_max}
+use Rattle.zio_graph.specs.Stages.{Hears, HearsEarly, HearsSome, HearsSomeEarly, OutcomeIn, heard_max}
 use Rattle.zio_graph.specs.declared.entry.Entry.{Entry}
 use Rattle.zio_graph.specs.declared.entry.Parent.{Parent as Above}
 use Rattle.zio_graph.specs.declared.entry.Parent.TheVariants.{Tree, Node}
@@ -152,6 +153,11 @@ load_of Rests = 0
 load_of (ToLeaf op leaf bytes) = 2
 load_of (Ended finished) = 0
 load_of (Root tree outcome) = 0
+
+-- of a tree that goes again, of which a tree of the round hears
+abbrev pub StepIn : (List Waiting → Type 0) → Step → Type 0
+StepIn Q (Root tree outcome) = OutcomeIn Q outcome
+StepIn Q _ = Unit {0}
 
 -- a request that finished is handed on, and nothing else
 abbrev pub IsHandedOn : Outcome → Option Finished → Type 0

@@ -11,6 +11,8 @@ use Rattle.zio_gang.specs.Attempts.{Terms}
 use Rattle.zio_gang.specs.Journals.{AreLawful}
 use Rattle.zio_gang.specs.Trees.{sizes_of}
 use Rattle.zio_stages.specs.SpaceCalls.{Claimed, GaveBack, Placed, SpaceCall}
+use Rattle.zio_graph.specs.declared.desk.Asked.{Asked}
+use Rattle.zio_graph.specs.declared.desk.Asked.TheVariants.{Blocks, Claim, Nothing}
 
 -- ---- one call
 
@@ -140,3 +142,42 @@ pub data MayAsk (entries : List Choice) (claimed : List Place) (calls : List Spa
   Places : claimed ≡ [] → claims_asked calls ≡ 0 → MayAsk entries claimed calls
   Claims : entries ≡ [] → claimed ≡ [] → choices_in calls ≡ [] → claims_asked calls ≤ 1 → MayAsk entries claimed calls
   Backs : choices_in calls ≡ [] → claims_asked calls ≡ 0 → MayAsk entries claimed calls
+
+-- ---- what was asked of it in the round
+
+-- a claim is for a space of which nothing was asked, and behind one that took places nothing is asked
+abbrev pub MayCall : SpaceCall → Asked → Type 0
+MayCall (Placed c) Nothing = Unit {0}
+MayCall (Placed c) Blocks = Unit {0}
+MayCall (Placed c) Claim = ⊥
+MayCall (GaveBack place) asked = Unit {0}
+MayCall (Claimed places free) Nothing = Unit {0}
+MayCall (Claimed places free) Blocks = ⊥
+MayCall (Claimed places free) Claim = ⊥
+
+abbrev pub asked_after : SpaceCall → Asked → Asked
+asked_after (Placed c) asked = Blocks
+asked_after (GaveBack place) asked = asked
+asked_after (Claimed places free) asked = cond free Claim asked
+
+-- each may be made after those before it
+abbrev pub AreAllowed : Asked → List SpaceCall → Asked → Type 0
+AreAllowed asked [] now = now ≡ asked
+AreAllowed asked (call ∷ calls) now = MayCall call asked × AreAllowed (asked_after call asked) calls now
+
+-- the calls were made, and each was allowed
+pub record AreServed (calls : List SpaceCall) (old new : SpaceState) (before after : Asked) : Type 0 where
+  pub made : AreMade calls old new
+  pub allowed : AreAllowed before calls after
+
+-- what was asked tells of the entries and of the places that were claimed
+abbrev pub Tells : Asked → List Choice → List Place → Type 0
+Tells Nothing entries claimed = (entries ≡ []) × (claimed ≡ [])
+Tells Blocks entries claimed = claimed ≡ []
+Tells Claim entries claimed = Unit {0}
+
+-- a round's space, with what was asked of it
+pub record IsDeskAt (t : Terms) (entries : List Choice) (tops : List Top) (st : SpaceState) (asked : Asked) : Type 0 where
+  pub claimed : List Place
+  pub desk : IsDeskOf t entries claimed tops st
+  pub tells : Tells asked entries claimed

@@ -10,3 +10,4 @@ pub mod Parts
 pub mod Rounds
 pub mod Slabs
 pub mod Stages
+pub mod UnderTurns

@@ -1,21 +1,22 @@
 -- A round that an engine's values keep, and what its calls leave of it.
-use Rattle.std.specs.Prelude.{◌≡◌, ℕ, List, [], ◌∷◌, ◌++◌, length, slice_get, slice_set, Bool, false, Option, Some, Contains, IfSome}
+use Rattle.std.specs.Prelude.{◌≡◌, ℕ, ◌<◌, List, [], ◌∷◌, ◌++◌, length, slice_get, slice_set, Bool, false, cond, Option, Some, Contains, IfSome}
 use Rattle.zio_types.specs.declared.error.Errno.{Errno}
 use Rattle.zio_types.specs.declared.place.Place.{Place}
 use Rattle.zio_types.specs.declared.place.Top.{Top}
 use Rattle.zio_types.specs.declared.request.ChildKind.TheVariants.{Logical}
 use Rattle.zio_types.specs.Choices.{Choice}
-use Rattle.zio_cksum.specs.Images.{Images}
+use Rattle.zio_cksum.specs.Images.{Images, Spot}
 use Rattle.zio_gang.specs.Attempts.{Ended, Terms}
 use Rattle.zio_gang.specs.Journals.{AreLawful}
 use Rattle.zio_gang.specs.Trees.{sizes_of}
 use Rattle.zio_trace.specs.Families.{Forest}
 use Rattle.zio_trace.specs.Entries.{AnswersOnLeaf}
-use Rattle.zio_trace.specs.Leaves.{Answer, LeafOp, LiesOn}
+use Rattle.zio_trace.specs.Labels.{same_number}
+use Rattle.zio_trace.specs.Leaves.{Answer, Fetch, LeafOp, LiesOn, spot_of}
 use Rattle.zio_trace.specs.Conflicts.{is_single}
 use Rattle.zio_trace.specs.Rounds.{settles}
 use Rattle.zio_trace.specs.SoundRounds.{HasClaim, IsSoundRound}
-use Rattle.zio_trace.specs.Tasks.{Task, Value}
+use Rattle.zio_trace.specs.Tasks.{Leaf, Task, Value}
 use Rattle.zio_frames.specs.Frames.{Child, Flying, Stack, asking, fresh_stack, kind_of_task}
 use Rattle.zio_frames.specs.Moves.{AsksNext, IsEnded, heard_early, heard_of}
 use Rattle.zio_frames.specs.Running.{FitsTold, all_out, settling_from}
@@ -30,7 +31,7 @@ use Rattle.zio_stages.specs.declared.outcome.Outcome.{Outcome}
 use Rattle.slab.specs.Slab.{Slab}
 pub use Rattle.zio_graph.specs.Desks.{AreRight, choices_in}
 use Rattle.zio_graph.specs.Engine.{StillKept}
-use Rattle.zio_graph.specs.Entries.{Live, OneMore, all_tops, flying_at, handed_on, top_at}
+use Rattle.zio_graph.specs.Entries.{Live, OneMore, all_tops, flying_at, handed_on, times_in, top_at}
 use Rattle.zio_graph.specs.Acts.{IsHandedOn}
 use Rattle.zio_graph.specs.Parts.{Nodes, ended_by, ended_in}
 use Rattle.zio_graph.specs.Slabs.{AreAll, AreNumbered, shelf_of}
@@ -45,21 +46,40 @@ use Rattle.zio_graph.specs.declared.step.Step.TheVariants.{Ended as HasEnded, Go
 abbrev pub Before : Type 0
 Before = Option Images
 
--- a round so far: how far its trees are settled, what is in flight for each, the entries made, and the images
+-- A round so far: how far its trees are settled, what is in flight for each, the entries made, the images, and of each key at a
+-- leaf its operation there.
 pub record SoFar : Type 0 where
   pub trees : List Slot
   pub tops : List (Option Flying)
   pub entries : List Choice
   pub images : Images
+  pub ops : ℕ → LeafOp
 
 abbrev pub with_entries : SoFar → List Choice → SoFar
-with_entries s more = record { trees = s.trees; tops = s.tops; entries = s.entries ++ more; images = s.images }
+with_entries s more = record { trees = s.trees; tops = s.tops; entries = s.entries ++ more; images = s.images; ops = s.ops }
 
 abbrev pub with_images : SoFar → Images → SoFar
-with_images s images = record { trees = s.trees; tops = s.tops; entries = s.entries; images = images }
+with_images s images = record { trees = s.trees; tops = s.tops; entries = s.entries; images = images; ops = s.ops }
 
 abbrev pub with_tree : SoFar → ℕ → Flying → SoFar
-with_tree s n top = record { trees = s.trees; tops = slice_set s.tops n (Some top); entries = s.entries; images = s.images }
+with_tree s n top = record {
+  trees = s.trees;
+  tops = slice_set s.tops n (Some top);
+  entries = s.entries;
+  images = s.images;
+  ops = s.ops;
+}
+
+-- this is the key's operation at its leaf
+abbrev pub op_set : (ℕ → LeafOp) → ℕ → LeafOp → ℕ → LeafOp
+op_set ops key op k = cond (same_number key k) op (ops k)
+
+abbrev pub with_op : SoFar → ℕ → LeafOp → SoFar
+with_op s key op = record { trees = s.trees; tops = s.tops; entries = s.entries; images = s.images; ops = op_set s.ops key op }
+
+-- of a key that is at no leaf
+abbrev pub no_op : LeafOp
+no_op = Fetch false 0 (record { leaf = 0; at = 0; span = 0 })
 
 -- nothing is done
 abbrev pub first_of : Forest → Images → SoFar
@@ -68,7 +88,13 @@ first_of f images = record {
   tops = all_tops (settling_from 0 (settles f));
   entries = [];
   images = images;
+  ops = λ key. no_op;
 }
+
+-- what is in flight under a key at a leaf does its operation there
+abbrev pub DoTheirs : (ℕ → Option Flying) → List ℕ → (ℕ → LeafOp) → Type 0
+DoTheirs lives leaves ops = (key : ℕ) (x : Flying) → lives key ≡ Some x → 0 < times_in key leaves →
+    x.stack ≡ fresh_stack (Leaf (ops key))
 
 -- the round is so far, with these nodes, of which these keys are queued and these at the leaves
 pub record KeepsRound {N : Type 0} (nodes : Nodes N) (t : Terms) (sizes : ℕ → ℕ) (f : Forest) (before : Before) (s : SoFar)
@@ -76,6 +102,7 @@ pub record KeepsRound {N : Type 0} (nodes : Nodes N) (t : Terms) (sizes : ℕ �
   pub lives : List Live
   pub still : StillKept {N = N} nodes t sizes f before s.trees s.tops lives (shelf_of {N = N} slab) queue leaves s.entries s.images
   pub numbered : AreNumbered {N = N} slab (flying_at lives)
+  pub theirs : DoTheirs (flying_at lives) leaves s.ops
 
 -- a sound round over these tops is kept
 pub record KeepsSome {N : Type 0} (nodes : Nodes N) (tops : List Top) (slab : Slab (Entry N)) (queue leaves : List ℕ) : Type 0 where
@@ -115,12 +142,13 @@ ClaimsAlone {N = N} nodes tops calls slab line key =
 
 -- ---- what a stage leaves
 
--- its operation goes to a leaf
+-- its operation goes to a leaf, and is on some of it
 pub record GoesOut {N : Type 0} (nodes : Nodes N) (t : Terms) (sizes : ℕ → ℕ) (f : Forest) (before : Before) (s : SoFar)
     (slab : Slab (Entry N)) (line leaves : List ℕ) (key : ℕ) (act : LeafOp) : Type 0 where
   pub lies : LiesOn sizes act
+  pub spans : 0 < (spot_of act).span
   pub keeps : (leaves_now : List ℕ) → OneMore key leaves leaves_now →
-      KeepsRound {N = N} nodes t sizes f before s slab line leaves_now
+      KeepsRound {N = N} nodes t sizes f before (with_op s key act) slab line leaves_now
 
 -- the nth child of what is in flight for a tree told a pointer, and it goes on
 pub record TreeHearsEarly {N : Type 0} (nodes : Nodes N) (t : Terms) (sizes : ℕ → ℕ) (f : Forest) (before : Before) (s : SoFar)
@@ -201,20 +229,14 @@ StepsOn {N = N} nodes tops calls slab line slab_now line_now key step =
 
 -- ---- what an answer leaves
 
--- its operation is this one, and with each answer to it that is shown the round goes on
-pub record ComesBackIn {N : Type 0} (nodes : Nodes N) (t : Terms) (sizes : ℕ → ℕ) (f : Forest) (before : Before) (s : SoFar)
-    (slab : Slab (Entry N)) (line others : List ℕ) (error : Option Errno) (bytes : List ℕ) : Type 0 where
-  pub act : LeafOp
-  pub keeps : (a : Answer) (after : Images) → ShowsAnswer act error bytes a → AnswersOnLeaf t before act s.images a after →
-      KeepsRound {N = N} nodes t sizes f before (with_images s after) slab line others
-
--- each round in which the key is at a leaf goes on so
+-- each round in which the key is at a leaf goes on with each answer to its operation that is shown
 abbrev pub ComesBack : {N : Type 0} → Nodes N → Slab (Entry N) → List ℕ → Slab (Entry N) → List ℕ → ℕ → Option Errno → List ℕ
     → Type 0
 ComesBack {N = N} nodes slab line slab_now line_now key error bytes =
     (t : Terms) (sizes : ℕ → ℕ) (f : Forest) (before : Before) (s : SoFar) (leaves others : List ℕ) → IsSoundRound t sizes f →
-    OneMore key others leaves → KeepsRound {N = N} nodes t sizes f before s slab line leaves →
-    ComesBackIn {N = N} nodes t sizes f before s slab_now line_now others error bytes
+    OneMore key others leaves → KeepsRound {N = N} nodes t sizes f before s slab line leaves → (a : Answer) (after : Images) →
+    ShowsAnswer (s.ops key) error bytes a → AnswersOnLeaf t before (s.ops key) s.images a after →
+    KeepsRound {N = N} nodes t sizes f before (with_images s after) slab_now line_now others
 
 -- ---- the beginning, and whose turn it is
 

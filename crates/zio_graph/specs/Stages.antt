@@ -22,6 +22,8 @@ use Rattle.zio_stages.specs.LeafWorks.{IsOpFor}
 use Rattle.zio_stages.specs.Outcomes.{AreEndedAs, IsOutcome, freed_by, held_by, made_by, stored_in}
 use Rattle.zio_stages.specs.SpaceCalls.{SpaceCall, calls_back, calls_by}
 use Rattle.zio_stages.specs.declared.outcome.Outcome.{Outcome}
+use Rattle.zio_stages.specs.declared.outcome.Outcome.TheVariants.{Again}
+use Rattle.zio_stages.specs.declared.waiting.Waiting.{Waiting}
 use Rattle.zio_graph.specs.Entries.{count_owing}
 use Rattle.zio_graph.specs.Parts.{Nodes, ended_by, ended_in}
 use Rattle.zio_graph.specs.declared.staged.Move.{Move}
@@ -125,14 +127,19 @@ IsMove {N = N} nodes gave t node st calls (End outcome) = Ends {N = N} nodes gav
 
 -- ---- what holds of each node
 
--- of the nodes that the move hands out
-abbrev pub EachIn : {N : Type 0} → (N → Type 0) → Move N → Type 0
-EachIn P (Next after) = P after
-EachIn P (Wait after kind phase) = P after
-EachIn P (Grow after child kind) = P after × P child
-EachIn P (ToLeaf after op leaf bytes) = P after
-EachIn P (Ready after pointer) = P after
-EachIn P (End outcome) = Unit {0}
+-- of a tree that goes again
+abbrev pub OutcomeIn : (List Waiting → Type 0) → Outcome → Type 0
+OutcomeIn Q (Again whole bits pointer) = Q whole
+OutcomeIn Q _ = Unit {0}
+
+-- of the nodes that the move hands out, and of a tree that goes again
+abbrev pub EachIn : {N : Type 0} → (N → Type 0) → (List Waiting → Type 0) → Move N → Type 0
+EachIn P Q (Next after) = P after
+EachIn P Q (Wait after kind phase) = P after
+EachIn P Q (Grow after child kind) = P after × P child
+EachIn P Q (ToLeaf after op leaf bytes) = P after
+EachIn P Q (Ready after pointer) = P after
+EachIn P Q (End outcome) = OutcomeIn Q outcome
 
 -- a pointer that is told is valid
 abbrev pub TellsValid : {N : Type 0} → Move N → Type 0

@@ -11,6 +11,7 @@ ghost use Rattle.zio_groups.specs.Issued.{written_spots};
 ghost use Rattle.zio_graph.specs.AtLeaves.{AreInOrder, AreIssued, IsPut, eligible_at, eligible_leaves, keys_at, no_waits, put_as, waiting_at};
 ghost use Rattle.zio_graph.specs.Entries.{times_in};
 ghost use Rattle.zio_graph.specs.Grounds.{AreReady};
+ghost use Rattle.zio_graph.specs.declared.desk.Asked.TheVariants.{Nothing};
 
 use crate::desk::Desk;
 use crate::leaf_queues::Queues;
@@ -57,6 +58,7 @@ impl<D: Disk + Drop> Grounds<D> {
         ensures tops { IfOk result (λ grounds. grounds.desk.tops ≡ tops) }
         ensures space { IfOk result (λ grounds. grounds.desk.space ≡
             record { sizes = sizes_of tops; live = []; pending = []; entries = []; spare = 0 }) }
+        ensures asked { IfOk result (λ grounds. grounds.desk.asked ≡ Nothing) }
         ensures leaves { IfOk result (λ grounds. grounds.queues.leaves.items ≡ replicate (length disks.items) no_waits) }
         ensures ready { IfOk result (λ grounds.
             AreReady grounds.setting.rows (map D.bytes grounds.disks.items) grounds.queues.leaves.items) }
@@ -137,6 +139,7 @@ impl<D: Disk + Drop> Grounds<D> {
         ensures entries { result ≡ self.old.desk.space.entries }
         ensures space { self.new.desk.space ≡
             record self.old.desk.space { pending = []; entries = []; spare = 0 } }
+        ensures asked { self.new.desk.asked ≡ Nothing }
         ensures tops { self.new.desk.tops ≡ self.old.desk.tops }
         ensures setting { self.new.setting ≡ self.old.setting }
         ensures disks { self.new.disks.items ≡ self.old.disks.items }

@@ -4,7 +4,8 @@ ghost use Rattle.std.specs.Prelude.{◌≡◌, ◌<◌, IfOk, IfSome, IsTrue, On
 ghost use Rattle.slab.specs.Slab.{HasRoomFor};
 ghost use Rattle.zio_counts.specs.Tallies.{counted};
 ghost use Rattle.zio_blkptr.specs.Pointers.{valid};
-ghost use Rattle.zio_graph.specs.Acts.{AwaitsEnd, AwaitsReady, CanEnd, CanTell, HasCounted, HasEnded, HasTold, IsHandedOn, NodeHeard, NodeTold, step_told};
+ghost use Rattle.zio_graph.specs.Acts.{AwaitsEnd, AwaitsReady, CanEnd, CanTell, HasCounted, HasEnded, HasTold, IsHandedOn, NodeHeard, NodeTold, StepIn, step_told};
+ghost use Rattle.zio_graph.specs.Stages.{OutcomeIn};
 
 use crate::entry::{Entry, Parent, Ties};
 use crate::shelf::{put_back, queue_up};
@@ -12,10 +13,9 @@ use crate::staged::Staged;
 use crate::step::Step;
 use slab::Slab;
 use zio_blkptr::Bp;
-use zio_disks::Stop;
 use zio_line::Line;
 use zio_stages::{Finished, Outcome};
-use zio_types::{Bits, ChildKind, Errno, Phase, Top};
+use zio_types::{Bits, ChildKind, Errno, NoMemory, Phase, Top};
 
 /// What a parent counts of a child that became ready or done.
 #[derive(Clone, Copy)]
@@ -33,7 +33,7 @@ fn count<N>(
     key: u32,
     entry: Entry<N>,
     mark: Mark,
-) -> Result<(), Stop>
+) -> Result<(), NoMemory>
     requires room { HasRoomFor nodes.old 1 }
     requires free { nodes.old.vacant_key ≡ key }
     requires owed { 0 < counted mark.kind mark.phase entry.ties.counts }
@@ -59,7 +59,7 @@ fn tell_node<N: Staged>(
     key: u32,
     child: u32,
     pointer: Option<Bp>,
-) -> Result<(), Stop>
+) -> Result<(), NoMemory>
     requires valid { IfSome pointer (λ bp. IsTrue (valid bp)) }
     requires can { AwaitsReady N.nodes nodes.old kind key child }
     ensures { OnOk result (NodeTold N.nodes N.over nodes.old line.old nodes.new line.new kind key child pointer) }
@@ -82,7 +82,7 @@ pub(crate) fn tell<N: Staged>(
     kind: ChildKind,
     parent: Parent,
     pointer: Option<Bp>,
-) -> Result<Step, Stop>
+) -> Result<Step, NoMemory>
     requires valid { IfSome pointer (λ bp. IsTrue (valid bp)) }
     requires can { CanTell N.nodes nodes.old kind parent }
     ensures told { OnOk result (HasTold N.nodes N.over nodes.old line.old nodes.new line.new kind parent pointer) }
@@ -123,8 +123,9 @@ fn end_node<N: Staged>(
     key: u32,
     child: u32,
     outcome: Outcome,
-) -> Result<Option<Finished>, Stop>
-    requires { AwaitsEnd N.nodes N.over tops.now nodes.old kind key child outcome }
+) -> Result<Option<Finished>, NoMemory>
+    requires can { AwaitsEnd N.nodes N.over tops.now nodes.old kind key child outcome }
+    requires inside { OutcomeIn (N.tree_over tops.now) outcome }
     ensures heard { OnOk result (NodeHeard N.nodes N.over tops.now nodes.old line.old nodes.new line.new kind key child outcome) }
     ensures finished { IfOk result (IsHandedOn outcome) }
 {
@@ -136,7 +137,7 @@ fn end_node<N: Staged>(
     };
     let Entry { node, ties } = nodes.remove(key as usize);
     let Ok((node, finished)) = node.arrive(tops, child, outcome) else {
-        return Err(Stop::Memory);
+        return Err(NoMemory);
     };
     count(nodes, line, key, Entry { node, ties }, mark)?;
     Ok(finished)
@@ -149,9 +150,11 @@ pub(crate) fn end<N: Staged>(
     tops: &[Top],
     ties: &Ties,
     outcome: Outcome,
-) -> Result<Step, Stop>
-    requires { CanEnd N.nodes N.over tops.now nodes.old ties.now.kind ties.now.parent outcome }
-    ensures { IfOk result (HasEnded N.nodes N.over tops.now nodes.old line.old nodes.new line.new ties.now.kind ties.now.parent outcome) }
+) -> Result<Step, NoMemory>
+    requires can { CanEnd N.nodes N.over tops.now nodes.old ties.now.kind ties.now.parent outcome }
+    requires inside { OutcomeIn (N.tree_over tops.now) outcome }
+    ensures ended { IfOk result (HasEnded N.nodes N.over tops.now nodes.old line.old nodes.new line.new ties.now.kind ties.now.parent outcome) }
+    ensures inside { IfOk result (StepIn (N.tree_over tops.now)) }
 {
     match ties.parent {
         Parent::Tree { tree, .. } => Ok(Step::Root(tree, outcome)),

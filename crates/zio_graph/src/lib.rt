@@ -2,8 +2,10 @@
 #![tactic(auto)]
 
 mod desk;
+mod drive;
 mod entry;
 mod grounds;
+mod group;
 mod hear;
 mod laws;
 pub mod leaf_queues;
@@ -11,12 +13,17 @@ pub mod node;
 mod shelf;
 pub mod staged;
 pub mod step;
+pub mod turn;
 pub mod turns;
 
 pub use desk::{Desk, desks_serve_rounds};
+pub use drive::run_on;
 pub use grounds::{DisksBack, Grounds};
+pub use group::issue_group;
 pub use laws::{
     engines_find_nodes, engines_hear_of_nodes, engines_keep_rounds, engines_settle_rounds,
 };
 pub use node::Node;
 pub use staged::{BothBack, Move, Staged};
+pub use turn::{Turned, run_turn};
+pub use turns::Turns;

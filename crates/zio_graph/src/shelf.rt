@@ -7,9 +7,8 @@ ghost use Rattle.zio_graph.specs.Acts.{HasGrown, HasWaited, new_ties};
 use crate::entry::{Entry, Parent, Ties};
 use slab::Slab;
 use zio_counts::{Counts, OPEN_CHILDREN_MAX};
-use zio_disks::Stop;
 use zio_line::Line;
-use zio_types::{ChildKind, Phase};
+use zio_types::{ChildKind, NoMemory, Phase};
 
 /// The ties of a node that handed out nothing yet.
 pub(crate) fn new_ties(kind: ChildKind, parent: Parent) -> Ties
@@ -24,16 +23,13 @@ pub(crate) fn new_ties(kind: ChildKind, parent: Parent) -> Ties
 }
 
 /// Queues the key behind the others.
-pub(crate) fn queue_up(line: &mut Line, key: u32) -> Result<(), Stop>
+pub(crate) fn queue_up(line: &mut Line, key: u32) -> Result<(), NoMemory>
     ensures { OnOk result (line.new ≡ line.old ++ key ∷ []) }
 {
     if line.len() == u32::MAX {
-        return Err(Stop::Memory);
+        return Err(NoMemory);
     }
-    match line.push(key) {
-        Ok(()) => Ok(()),
-        Err(_) => Err(Stop::Memory),
-    }
+    line.push(key)
 }
 
 /// Puts a node back under the key that was freed last.
@@ -46,22 +42,22 @@ pub(crate) fn put_back<N>(nodes: &mut Slab<Entry<N>>, key: u32, entry: Entry<N>)
 }
 
 /// The key as a number of 32 bits.
-fn narrow(key: usize) -> Result<u32, Stop>
+fn narrow(key: usize) -> Result<u32, NoMemory>
     ensures { IfOk result (λ k. k ≡ key) }
 {
     if key > u32::MAX as usize {
-        return Err(Stop::Memory);
+        return Err(NoMemory);
     }
     Ok(key as u32)
 }
 
 /// Gives a node a key.
-pub(crate) fn add<N: Drop>(nodes: &mut Slab<Entry<N>>, entry: Entry<N>) -> Result<u32, Stop>
+pub(crate) fn add<N: Drop>(nodes: &mut Slab<Entry<N>>, entry: Entry<N>) -> Result<u32, NoMemory>
     ensures free { IfOk result (λ key. get nodes.old key ≡ None) }
     ensures added { IfOk result (λ key. Updates nodes.old nodes.new key (Some entry)) }
 {
     let Ok(key) = nodes.insert(entry) else {
-        return Err(Stop::Memory);
+        return Err(NoMemory);
     };
     narrow(key)
 }
@@ -74,7 +70,7 @@ pub(crate) fn wait<N: Drop>(
     entry: Entry<N>,
     kind: ChildKind,
     phase: Phase,
-) -> Result<(), Stop>
+) -> Result<(), NoMemory>
     requires room { HasRoomFor nodes.old 1 }
     requires free { nodes.old.vacant_key ≡ key }
     ensures { OnOk result (HasWaited nodes.old line.old nodes.new line.new key entry kind phase) }
@@ -97,7 +93,7 @@ pub(crate) fn grow<N: Drop>(
     entry: Entry<N>,
     child: N,
     kind: ChildKind,
-) -> Result<(), Stop>
+) -> Result<(), NoMemory>
     requires room { HasRoomFor nodes.old 1 }
     requires free { nodes.old.vacant_key ≡ key }
     ensures { OnOk result (HasGrown nodes.old line.old nodes.new line.new key entry child kind) }
@@ -106,10 +102,10 @@ pub(crate) fn grow<N: Drop>(
     let mut ties = ties;
     let number = ties.children;
     if number == u32::MAX {
-        return Err(Stop::Memory);
+        return Err(NoMemory);
     }
     if ties.counts.count(kind, Phase::Done) >= OPEN_CHILDREN_MAX {
-        return Err(Stop::Memory);
+        return Err(NoMemory);
     }
     ties.counts.add(kind);
     ties.children = number + 1;

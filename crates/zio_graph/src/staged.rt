@@ -15,7 +15,7 @@ ghost use Rattle.zio_stages.specs.SpaceCalls.{SpaceCall};
 ghost use Rattle.zio_stages.specs.Wholes.{IsTreeOf};
 ghost use Rattle.zio_stages.specs.declared.outcome.Outcome.{Outcome as SeenOutcome};
 ghost use Rattle.zio_stages.specs.declared.waiting.Waiting.{Waiting};
-ghost use Rattle.zio_graph.specs.Stages.{EachIn, GoesOn, Hears, HearsEarly, HearsSome, HearsSomeEarly, IsMove, IsNow, Lessens, ShowsAnswer, TellsValid, heard_max};
+ghost use Rattle.zio_graph.specs.Stages.{EachIn, GoesOn, Hears, HearsEarly, HearsSome, HearsSomeEarly, IsMove, IsNow, Lessens, OutcomeIn, ShowsAnswer, TellsValid, heard_max};
 
 use crate::node::Node;
 use std::alloc::Global;
@@ -80,7 +80,7 @@ pub trait Staged: Node + Drop {
         requires { over (S.tops services.old) self }
         ensures moves { (move : Move Self) → result ≡ Ok move → (calls : Seq SpaceCall) × S.made services.old calls services.new
             × ((t : Terms) (st : Stack) → IsNow Self.nodes (S.tops services.old) t self st → IsMove Self.nodes gave t self st calls move) }
-        ensures over { IfOk result (EachIn (over (S.tops services.old))) }
+        ensures over { IfOk result (EachIn (over (S.tops services.old)) (tree_over (S.tops services.old))) }
         ensures valid { IfOk result TellsValid }
         ensures left { IfOk result (Lessens Self.nodes.left self) }
         ensures refused { (node : Self) → result ≡ Err node → (calls : Seq SpaceCall) × S.made services.old calls services.new
@@ -107,6 +107,7 @@ pub trait Staged: Node + Drop {
     ) -> Result<(Self, Option<Finished>), BothBack<Self>>
         requires over { over tops.now self }
         requires awaited { HearsSome Self.nodes tops.now self child outcome }
+        requires inside { OutcomeIn (tree_over tops.now) outcome }
         ensures heard { IfOk result (λ both. (t : Terms) (st : Stack) (c : Child) (op : Task) (v : Value) →
             Hears Self.nodes tops.now t self st child c op outcome v → Self.nodes.Is t both.0 (heard_of st child c v)) }
         ensures finished { IfOk result (λ both. IfSome both.1 (λ f. outcome ≡ SeenOutcome.Finished f)) }

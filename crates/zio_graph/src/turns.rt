@@ -3,7 +3,7 @@
 ghost use Rattle.std.specs.Prelude.{◌≡◌, ◌+◌, ◌*◌, ◌<◌, List as Seq, IfOk, OnOk, length};
 ghost use Rattle.zio_types.specs.declared.place.Top.{Top as SeenTop};
 ghost use Rattle.zio_stages.specs.SpaceCalls.{SpaceCall};
-ghost use Rattle.zio_graph.specs.Acts.{load_of};
+ghost use Rattle.zio_graph.specs.Acts.{StepIn, load_of};
 ghost use Rattle.zio_graph.specs.Rounds.{Begins, ClaimsAlone, ComesBack, HandsOut, HasTurn, IsAtLeaf, IsTurn, StepsOn};
 ghost use Rattle.zio_graph.specs.Slabs.{AreAll, load};
 
@@ -14,10 +14,9 @@ use crate::staged::{Move, Staged};
 use crate::step::Step;
 use slab::Slab;
 use std::alloc::Global;
-use zio_disks::Stop;
 use zio_line::Line;
 use zio_stages::Services;
-use zio_types::{Bytes, ChildKind, Errno};
+use zio_types::{Bytes, ChildKind, Errno, NoMemory};
 
 /// The nodes of a round under their keys, and the queue of those whose turn it may be.
 #[derive(Drop)]
@@ -47,7 +46,7 @@ impl<N: Staged> Turns<N> {
     }
 
     /// A node for the next operation of the tree with this number, whose child of this number it is. It is queued.
-    pub fn add_root(&mut self, tree: u32, child: u32, node: N) -> Result<(), Stop>
+    pub fn add_root(&mut self, tree: u32, child: u32, node: N) -> Result<(), NoMemory>
         ensures hands { OnOk result (HandsOut N.nodes self.old.nodes self.old.line self.new.nodes self.new.line tree child node) }
         ensures over { (tops : Seq SeenTop) → AreAll (N.over tops) self.old.nodes → N.over tops node →
             OnOk result (AreAll (N.over tops) self.new.nodes) }
@@ -75,7 +74,7 @@ impl<N: Staged> Turns<N> {
         alloc: Global,
         services: &mut S,
         key: u32,
-    ) -> Result<Step, Stop>
+    ) -> Result<Step, NoMemory>
         requires { IsTurn N.nodes N.over (S.tops services.old) self.old.nodes self.old.line key }
         ensures steps { IfOk result (λ step. (calls : Seq SpaceCall) × S.made services.old calls services.new
             × ClaimsAlone N.nodes (S.tops services.old) calls self.old.nodes self.old.line key
@@ -84,11 +83,12 @@ impl<N: Staged> Turns<N> {
         ensures less { IfOk result (λ step. load N.nodes.left self.new.nodes self.new.line + load_of step
             < load N.nodes.left self.old.nodes self.old.line + 1) }
         ensures tops { S.tops services.new ≡ S.tops services.old }
+        ensures inside { IfOk result (StepIn (N.tree_over (S.tops services.old))) }
     {
         let Turns { nodes, line } = self;
         let Entry { node, ties } = nodes.remove(key as usize);
         let Ok(moved) = node.run_stage(alloc, services) else {
-            return Err(Stop::Memory);
+            return Err(NoMemory);
         };
         match moved {
             Move::Next(node) => {
@@ -118,7 +118,7 @@ impl<N: Staged> Turns<N> {
     }
 
     /// The leaf answered the operation of the node under the key: an error or none, and the bytes of a read.
-    pub fn answered(&mut self, key: u32, error: Option<Errno>, bytes: Bytes) -> Result<(), Stop>
+    pub fn answered(&mut self, key: u32, error: Option<Errno>, bytes: Bytes) -> Result<(), NoMemory>
         requires { IsAtLeaf N.nodes self.old.nodes self.old.line key }
         ensures comes_back { OnOk result (ComesBack N.nodes self.old.nodes self.old.line self.new.nodes self.new.line key error bytes) }
         ensures over { (tops : Seq SeenTop) → AreAll (N.over tops) self.old.nodes → OnOk result (AreAll (N.over tops) self.new.nodes) }

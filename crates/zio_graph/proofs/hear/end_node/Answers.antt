@@ -8,22 +8,22 @@ use Rattle.zio_graph.proofs.Links.{some_is}
 use Rattle.zio_graph.proofs.hear.end_node.Goals as goal
 
 pub remove-node-requires : goal.remove-node-requires
-remove-node-requires g c = ap is_some c.requires.there
+remove-node-requires g c = ap is_some c.requires.can.there
 
 pub arrive-requires-clause-over : goal.arrive-requires-clause-over
 arrive-requires-clause-over g c =
     subst (λ (e : Entry _). g.N.Staged.over c.args.tops.now e.node)
-    (some_is c.requires.entry c.remove-node.result (sym c.requires.there ∙ c.remove-node.ensures.value)) c.requires.inside
+    (some_is c.requires.can.entry c.remove-node.result (sym c.requires.can.there ∙ c.remove-node.ensures.value)) c.requires.can.inside
 
 pub arrive-requires-clause-awaited : goal.arrive-requires-clause-awaited
 arrive-requires-clause-awaited g c =
     subst (λ (e : Entry _). HearsSome g.N.Node.nodes c.args.tops.now e.node c.args.child c.args.outcome)
-    (some_is c.requires.entry c.remove-node.result (sym c.requires.there ∙ c.remove-node.ensures.value)) c.requires.hears
+    (some_is c.requires.can.entry c.remove-node.result (sym c.requires.can.there ∙ c.remove-node.ensures.value)) c.requires.can.hears
 
 pub count-requires-clause-owed : goal.count-requires-clause-owed
 count-requires-clause-owed g c =
     subst (λ (e : Entry _). 0 < counted c.args.kind Done e.ties.counts)
-    (some_is c.requires.entry c.remove-node.result (sym c.requires.there ∙ c.remove-node.ensures.value)) c.requires.owed
+    (some_is c.requires.can.entry c.remove-node.result (sym c.requires.can.there ∙ c.remove-node.ensures.value)) c.requires.can.owed
 
 pub returns-clause-heard : goal.returns-clause-heard
 returns-clause-heard g c =

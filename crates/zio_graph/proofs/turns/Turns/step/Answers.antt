@@ -1,10 +1,13 @@
-use Rattle.std.proofs.Common.{◌+◌, ◌<◌, ap, is_some, ◌∙◌, sym, subst, refl, arith}
+use Rattle.std.specs.Prelude.{IfOk}
+use Rattle.std.proofs.Common.{List, ◌+◌, ◌<◌, ap, is_some, ◌∙◌, sym, subst, refl, arith}
 use Rattle.std.proofs.lemmas.Result.{IfOk-weaker, on_ok_weaker}
-use Rattle.zio_graph.specs.Acts.{CanEnd, HasEnded, load_of, with_ties}
+use Rattle.zio_types.specs.declared.place.Top.{Top}
+use Rattle.zio_graph.specs.Acts.{CanEnd, HasEnded, StepIn, load_of, with_ties}
+use Rattle.zio_graph.specs.Stages.{OutcomeIn}
 use Rattle.zio_graph.specs.Slabs.{load}
 use Rattle.zio_graph.specs.declared.step.Step.{Step}
 use Rattle.zio_graph.specs.declared.staged.Move.TheVariants.{End, Grow, Leaf as ToLeaf, Next, Ready, Wait}
-use Rattle.zio_graph.proofs.ActLemmas.{if_ok_both, ok_as}
+use Rattle.zio_graph.proofs.ActLemmas.{if_ok_both, ok_as, told_in}
 use Rattle.zio_graph.proofs.ClaimCalls.{steps_claim}
 use Rattle.zio_graph.proofs.Insides.{all_ended, all_grown, all_put, all_told, all_waited}
 use Rattle.zio_graph.proofs.Loads.{less_ended, less_grown, less_put, less_told, less_waited}
@@ -201,8 +204,8 @@ returns-in-Ready-clause-less g c =
 
 -- ---- it ends
 
-pub end-requires : goal.end-requires
-end-requires g c =
+pub end-requires-clause-can : goal.end-requires-clause-can
+end-requires-clause-can g c =
     let m = c.run_stage.ensures.moves (End c.in-End.outcome)
     (ok_as c.run_stage.result c.in-Ok.moved (End c.in-End.outcome) c.in-Ok.is c.in-End.is) in
     subst (λ (tops : _). CanEnd g.N.Node.nodes g.N.Staged.over tops c.remove-node.new.self c.remove-node.result.ties.kind
@@ -231,7 +234,7 @@ returns-in-End-clause-steps g c =
           c.end.new.nodes c.end.new.line c.remove-node.result.ties.kind c.remove-node.result.ties.parent c.in-End.outcome step)
           (c.tops.ensures ∙ c.run_stage.ensures.tops) has),
     ))
-    c.end.ensures
+    c.end.ensures.ended
 
 pub returns-in-End-clause-over : goal.returns-in-End-clause-over
 returns-in-End-clause-over g c =
@@ -244,7 +247,7 @@ returns-in-End-clause-over g c =
     (subst (λ (tops : _). HasEnded g.N.Node.nodes g.N.Staged.over tops c.remove-node.new.self c.args.self.now.line
     c.end.new.nodes c.end.new.line c.remove-node.result.ties.kind c.remove-node.result.ties.parent c.in-End.outcome step)
     (c.tops.ensures ∙ c.run_stage.ensures.tops) has))
-    c.end.ensures
+    c.end.ensures.ended
 
 pub returns-in-End-clause-less : goal.returns-in-End-clause-less
 returns-in-End-clause-less g c =
@@ -252,4 +255,21 @@ returns-in-End-clause-less g c =
     (λ step has. less_ended g.N.Node.nodes g.N.Staged.over c.args.self.now.nodes c.remove-node.new.self c.end.new.nodes c.args.self.now.line
     c.end.new.line c.args.key c.remove-node.result c.remove-node.ensures.value c.tops.result.now c.remove-node.result.ties.parent
     c.remove-node.result.ties.kind c.in-End.outcome step c.remove-node.ensures.updates has (rw c.in-End.is at c.in-Ok.ensures.left))
-    c.end.ensures
+    c.end.ensures.ended
+
+pub end-requires-clause-inside : goal.end-requires-clause-inside
+end-requires-clause-inside g c =
+    subst (λ (tops : List Top). OutcomeIn (g.N.Staged.tree_over tops) c.in-End.outcome)
+    (sym (c.tops.ensures ∙ c.run_stage.ensures.tops)) (rw c.in-End.is at c.in-Ok.ensures.over)
+
+pub returns-in-End-clause-inside : goal.returns-in-End-clause-inside
+returns-in-End-clause-inside g c =
+    subst (λ (tops : List Top). IfOk c.end.result (StepIn (g.N.Staged.tree_over tops))) (c.tops.ensures ∙ c.run_stage.ensures.tops)
+    c.end.ensures.inside
+
+pub returns-in-Ready-clause-inside : goal.returns-in-Ready-clause-inside
+returns-in-Ready-clause-inside g c =
+    IfOk-weaker c.tell.result _ _
+    (λ step same. subst (StepIn (g.N.Staged.tree_over (g.S.Services.tops c.args.services.now))) (sym same)
+    (told_in (g.N.Staged.tree_over (g.S.Services.tops c.args.services.now)) c.remove-node.result.ties.parent))
+    c.tell.ensures.step

@@ -12,13 +12,16 @@ use Rattle.zio_parts.specs.Parts.{PartWriting}
 use Rattle.zio_stages.specs.KidPointers.{HaveValidPointers}
 use Rattle.zio_stages.specs.NodeChildren.{new_child}
 use Rattle.zio_stages.specs.NodeIos.{NoneSits, SitsOn}
+use Rattle.zio_stages.specs.OwnReads.{IsOwnOver as IsBodyPartOver}
 use Rattle.zio_stages.specs.PartWorks.{IsIoOver}
 use Rattle.zio_stages.specs.RequestNodes.{IsOwnOver, IsSeatOf}
 use Rattle.zio_stages.specs.RequestStages.{HasToldIn}
 use Rattle.zio_stages.specs.declared.family.Layer.TheVariants.{Within}
+use Rattle.zio_stages.specs.declared.own_read.BodyIo.{BodyIo}
 use Rattle.zio_stages.specs.declared.request_node.Own.{Own}
-use Rattle.zio_stages.specs.declared.request_node.Own.TheVariants.{Due, Over, Stored, Write}
+use Rattle.zio_stages.specs.declared.request_node.Own.TheVariants.{Claim, Due, Found, Free, Over, Read, Stored, Write}
 use Rattle.zio_stages.specs.declared.request_node.RequestNode.{RequestNode}
+use Rattle.zio_stages.specs.declared.tree.TreeWork.{TreeWork}
 use Rattle.zio_stages.specs.declared.write_io.WriteIo.{WriteIo}
 use Rattle.zio_stages.proofs.KidPointerLemmas.{valid_at}
 use Rattle.zio_stages.proofs.RequestHears.{if_there}
@@ -43,11 +46,20 @@ io_same : (tops : List Top) (x : PartWriting) (io : Option WriteIo) (family more
 io_same tops x None family more same h = none_same family more same h
 io_same tops x (Some io) family more same h = (h.0, h.1, sits_same _ family more same h.2)
 
+body_same : (tops : List Top) (w : TreeWork) (body : Option BodyIo) (family more : List Child) → SameWithin family more
+    → IsBodyPartOver tops w body family → IsBodyPartOver tops w body more
+body_same tops w None family more same h = none_same family more same h
+body_same tops w (Some b) family more same h = record { over = h.over; sits = sits_same _ family more same h.sits; out = h.out }
+
 pub own_same : (tops : List Top) (own : Own) (family more : List Child) → SameWithin family more → IsOwnOver tops own family → IsOwnOver tops own more
 own_same tops Due family more same h = none_same family more same h
 own_same tops (Write w) family more same h =
     record { places = h.places; bytes = h.bytes; io = io_same tops w.work.own.part w.work.io family more same h.io }
 own_same tops (Stored b) family more same h = (none_same family more same h.0, h.1)
+own_same tops (Read w) family more same h = (body_same tops w.tree w.body family more same h.0, h.1)
+own_same tops (Free w) family more same h = none_same family more same h
+own_same tops (Claim w) family more same h = (none_same family more same h.0, h.1)
+own_same tops (Found own) family more same h = none_same family more same h
 own_same tops Over family more same h = none_same family more same h
 
 -- ---- a child of the node's own part

@@ -154,6 +154,16 @@ seat_there (c ∷ cs) [] n s h e = absurd h
 seat_there (c ∷ cs) (t ∷ ss) zero s h e = let is : t ≡ s = same_some t s e in ap (λ (x : Sitting). Some (seat_of x.seat)) is
 seat_there (c ∷ cs) (t ∷ ss) (suc n) s h e = seat_there cs ss n s h.1 e
 
+pub kind_there : {R V : Type 0} (cs : List (Kept R V)) (ss : List Sitting) (n : ℕ) (s : Sitting) → AreBeside cs ss
+    → slice_get ss n ≡ Some s
+    → option_map (λ (c : Child). c.kind) (slice_get (children_by cs ss) n) ≡ Some s.kind
+kind_there [] [] n s h e = absurd (cc)
+kind_there [] (t ∷ ss) n s h e = absurd h
+kind_there (c ∷ cs) [] n s h e = absurd h
+kind_there (c ∷ cs) (t ∷ ss) zero s h e =
+    let is : t ≡ s = same_some t s e in ap (λ k. Some k) (h.0 ∙ ap (λ (x : Sitting). x.kind) is)
+kind_there (c ∷ cs) (t ∷ ss) (suc n) s h e = kind_there cs ss n s h.1 e
+
 -- ---- one that told or ended before
 
 pub of_kind_there : {R V : Type 0} (kind : ChildKind) (o : Option (Kept R V)) → IsOfKind kind o

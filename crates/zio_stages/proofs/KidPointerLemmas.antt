@@ -200,7 +200,8 @@ pub valid_fresh : (numbers : List ℕ) (kept : List KeptChild) → AllByRecursio
 valid_fresh numbers kept h = record { told = due_valid numbers; kept = h }
 
 -- what a child told is valid
-pub valid_at : (kids : List Kid) (n : ℕ) (state : KidState) → AllByRecursion HasToldValid kids → state_at kids n ≡ Some state → IsNoneOrValid (pointer_by state)
+pub valid_at : (kids : List Kid) (n : ℕ) (state : KidState) → AllByRecursion HasToldValid kids → state_at kids n ≡ Some state
+    → IsNoneOrValid (pointer_by state)
 valid_at [] n state h e = absurd (cc)
 valid_at (k ∷ kids) zero state h e = let same : k.state ≡ state = cc in subst (λ s. IsNoneOrValid (pointer_by s)) same h.0
 valid_at (k ∷ kids) (suc n) state h e = valid_at kids n state h.1 e

@@ -23,6 +23,7 @@ pub mod HeadsTops
 pub mod KidAsking
 pub mod KidMoves
 pub mod KidPointerLemmas
+pub mod KidSeats
 pub mod KidTreeLemmas
 pub mod KidsBefore
 pub mod LabelLemmas

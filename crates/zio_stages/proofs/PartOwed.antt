@@ -74,7 +74,7 @@ get_asks [] n op e = absurd (cc)
 get_asks (q ∷ asked) zero op e = let same : q ≡ op = cc in ap (λ x. Some (ask_of x)) same
 get_asks (q ∷ asked) (suc n) op e = get_asks asked n op e
 
-gang_kind : (op : Task) → IsPartOp op → (ask_of op ≡ ForOther → ⊥) → kind_of_task op ≡ GangKind
+pub gang_kind : (op : Task) → IsPartOp op → (ask_of op ≡ ForOther → ⊥) → kind_of_task op ≡ GangKind
 gang_kind (Leaf act) is never = absurd is
 gang_kind (Find a) is never = absurd is
 gang_kind (ReadCopies repair test len places) is never = absurd (never refl)

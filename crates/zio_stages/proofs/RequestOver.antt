@@ -36,13 +36,16 @@ SameWithin family more =
 pub none_same : (family more : List Child) → SameWithin family more → NoneSits Within family → NoneSits Within more
 none_same family more same h = λ k n c e goes at. h k n c (same k n c e goes at) goes at
 
-pub sits_same : (IsNow : ℕ → Type 0) (family more : List Child) → SameWithin family more → SitsOn Within IsNow family → SitsOn Within IsNow more
+pub sits_same : (IsNow : ℕ → Type 0) (family more : List Child) → SameWithin family more → SitsOn Within IsNow family
+    → SitsOn Within IsNow more
 sits_same IsNow family more same h = record {
   outs = λ k n c e goes at. h.outs k n c (same k n c e goes at) goes at;
-  apart = λ k m n c d e f goes went at there. h.apart k m n c d (same k n c e goes at) (same m n d f went there) goes went at there;
+  apart = λ k m n c d e f goes went at there.
+      h.apart k m n c d (same k n c e goes at) (same m n d f went there) goes went at there;
 }
 
-io_same : (tops : List Top) (x : PartWriting) (io : Option WriteIo) (family more : List Child) → SameWithin family more → IsIoOver tops x io family → IsIoOver tops x io more
+io_same : (tops : List Top) (x : PartWriting) (io : Option WriteIo) (family more : List Child) → SameWithin family more
+    → IsIoOver tops x io family → IsIoOver tops x io more
 io_same tops x None family more same h = none_same family more same h
 io_same tops x (Some io) family more same h = (h.0, h.1, sits_same _ family more same h.2)
 
@@ -51,7 +54,8 @@ body_same : (tops : List Top) (w : TreeWork) (body : Option BodyIo) (family more
 body_same tops w None family more same h = none_same family more same h
 body_same tops w (Some b) family more same h = record { over = h.over; sits = sits_same _ family more same h.sits; out = h.out }
 
-pub own_same : (tops : List Top) (own : Own) (family more : List Child) → SameWithin family more → IsOwnOver tops own family → IsOwnOver tops own more
+pub own_same : (tops : List Top) (own : Own) (family more : List Child) → SameWithin family more → IsOwnOver tops own family
+    → IsOwnOver tops own more
 own_same tops Due family more same h = none_same family more same h
 own_same tops (Write w) family more same h =
     record { places = h.places; bytes = h.bytes; io = io_same tops w.work.own.part w.work.io family more same h.io }
@@ -65,9 +69,12 @@ own_same tops Over family more same h = none_same family more same h
 -- ---- a child of the node's own part
 
 -- one more
-pub same_added : (family : List Child) (place : ℕ) (kind : ChildKind) → SameWithin family (family ++ new_child (OfOuter place) kind ∷ [])
+pub same_added : (family : List Child) (place : ℕ) (kind : ChildKind)
+    → SameWithin family (family ++ new_child (OfOuter place) kind ∷ [])
 same_added family place kind = λ k n c e goes at. by k n c at (get_either family (new_child (OfOuter place) kind) c k e) where
-  by : (k n : ℕ) (c : Child) → c.seat ≡ OfInner n → (slice_get family k ≡ Some c) ⊎ ((k ≡ length family) × (new_child (OfOuter place) kind ≡ c)) → slice_get family k ≡ Some c
+  by : (k n : ℕ) (c : Child) → c.seat ≡ OfInner n
+      → (slice_get family k ≡ Some c) ⊎ ((k ≡ length family) × (new_child (OfOuter place) kind ≡ c))
+      → slice_get family k ≡ Some c
   by k n c at (inl e) = e
   by k n c at (inr e) =
       let never : OfOuter place ≡ OfInner n = ap (λ (x : Child). x.seat) e.1 ∙ at in
@@ -76,7 +83,8 @@ same_added family place kind = λ k n c e goes at. by k n c at (get_either famil
 -- one that goes on
 same_set : (family : List Child) (child place : ℕ) (d : Child) → d.seat ≡ OfOuter place → SameWithin family (set family child d)
 same_set family child place d seat = λ k n c e goes at. by k n c at (get_exchanged family child k d c e) where
-  by : (k n : ℕ) (c : Child) → c.seat ≡ OfInner n → ((k ≡ child) × (d ≡ c)) ⊎ ((k ≢ child) × (slice_get family k ≡ Some c)) → slice_get family k ≡ Some c
+  by : (k n : ℕ) (c : Child) → c.seat ≡ OfInner n → ((k ≡ child) × (d ≡ c)) ⊎ ((k ≢ child) × (slice_get family k ≡ Some c))
+      → slice_get family k ≡ Some c
   by k n c at (inl e) =
       let never : OfOuter place ≡ OfInner n = sym seat ∙ ap (λ (x : Child). x.seat) e.1 ∙ at in
       absurd (cc)
@@ -90,20 +98,24 @@ pub record IsThere (family : List Child) (child place : ℕ) : Type 0 where
 
 pub seat_there_is : (family : List Child) (child place : ℕ) → IsSeatOf family child place → IsThere family child place
 seat_there_is family child place h = by (slice_get family child) refl h where
-  by : (o : Option Child) → slice_get family child ≡ o → option_map (λ (c : Child). c.seat) o ≡ Some (OfOuter place) → IsThere family child place
+  by : (o : Option Child) → slice_get family child ≡ o → option_map (λ (c : Child). c.seat) o ≡ Some (OfOuter place)
+      → IsThere family child place
   by None e s = absurd (cc)
   by (Some c) e s = record { now = c; is = e; seat = cc }
 
-pub same_marked : (family more : List Child) (child place : ℕ) (mark : Child → Child) → IsSeatOf family child place → ((c : Child) → (mark c).seat ≡ c.seat)
+pub same_marked : (family more : List Child) (child place : ℕ) (mark : Child → Child) → IsSeatOf family child place
+    → ((c : Child) → (mark c).seat ≡ c.seat)
     → IfSome (slice_get family child) (λ (c : Child). more ≡ set family child (mark c)) → SameWithin family more
 same_marked family more child place mark seat kept marked =
     let c = seat_there_is family child place seat in
-    subst (SameWithin family) (sym (if_there (slice_get family child) (λ (x : Child). more ≡ set family child (mark x)) c.now marked c.is))
+    subst (SameWithin family)
+    (sym (if_there (slice_get family child) (λ (x : Child). more ≡ set family child (mark x)) c.now marked c.is))
     (same_set family child place (mark c.now) (kept c.now ∙ c.seat))
 
 -- ---- pointers
 
 -- what a child hands on is valid where it is, or where the child told it
-pub told_valid : (r : RequestNode) (child : ℕ) (pointer : Option Bp) → HaveValidPointers r.kids.kids → IsNoneOrValid pointer ⊎ HasToldIn r child pointer → IsNoneOrValid pointer
+pub told_valid : (r : RequestNode) (child : ℕ) (pointer : Option Bp) → HaveValidPointers r.kids.kids
+    → IsNoneOrValid pointer ⊎ HasToldIn r child pointer → IsNoneOrValid pointer
 told_valid r child pointer h (inl ok) = ok
 told_valid r child pointer h (inr told) = valid_at r.kids.kids.kids told.place (Told pointer) h.told told.state

@@ -1,7 +1,7 @@
 //! The children of a request in an attempt, with their trees.
 
 ghost use Rattle.std.specs.Prelude.{◌≡◌, ◌<◌, ◌≤◌, ◌∷◌, ℕ, List, [], IfErr, IfOk, None, OnErr, Option, Some, length, replicate, reverse, slice_get, slice_set, true, vec_capacity};
-ghost use Rattle.std.specs.List.{list_all};
+ghost use Rattle.std.specs.List.{AllByRecursion, list_all};
 ghost use Rattle.zio_gang.specs.Attempts.{Attempted, Pending, has_bits, no_bits};
 ghost use Rattle.zio_trace.specs.Families.{Forest, NoTrees};
 ghost use Rattle.zio_trace.specs.Plans.{one_of};
@@ -9,6 +9,7 @@ ghost use Rattle.zio_trace.specs.Tasks.{AttemptedBy, One, Task};
 ghost use Rattle.zio_children.specs.RequestKids.{Fits, IsLeftBy, IsOutWith, RiseFrom, ShowsKids, finished_in, fresh_kids, is_ended, kid_handed, kid_is, kids_by, numbers_of, state_at};
 ghost use Rattle.zio_children.specs.declared.kids.KidState.TheVariants.{Ended, Out, Told};
 ghost use Rattle.zio_frames.specs.Slots.{Heard, IsOut, Slot};
+ghost use Rattle.zio_stages.specs.KidPointers.{HasValid, HaveValidPointers};
 ghost use Rattle.zio_stages.specs.KidTrees.{HandsOut, IsKids, IsLeft, with_kept};
 ghost use Rattle.zio_stages.specs.Splits.{AreSoMany};
 ghost use Rattle.zio_stages.specs.Waits.{pending_of};
@@ -67,6 +68,7 @@ impl RequestKids {
         ensures kids { IfOk result (λ begun. (attempt : ℕ) (p : Pending) (forest : Forest) → IsTreeOf whole p forest →
             (pending_of begun.0 ≡ p) × IsKids begun.1 attempt forest [] []) }
         ensures kept { IfOk result (λ begun. begun.1.kids.kept ≡ begun.0.kept) }
+        ensures valid { IfOk result (λ begun. AllByRecursion HasValid begun.0.kept → HaveValidPointers begun.1.kids) }
         ensures back { IfErr result (λ e. e.whole ≡ whole) }
     {
         let mut rest = whole.waiting.into_vec();
@@ -193,6 +195,7 @@ fn kids_of(alloc: Global, root: &Waiting, rest: &mut Vec<Waiting>) -> Result<Req
     ensures kids { IfOk result (λ kids. (attempt : ℕ) (forest : Forest) → IsForestOf rest.old.items forest →
         IsKids kids attempt forest [] []) }
     ensures kept { IfOk result (λ kids. kids.kids.kept ≡ root.now.kept) }
+    ensures valid { IfOk result (λ kids. AllByRecursion HasValid root.now.kept → HaveValidPointers kids.kids) }
     ensures err { OnErr result (rest.new.items ≡ rest.old.items) }
     ensures capacity { OnErr result (vec_capacity rest.old ≤ vec_capacity rest.new) }
 {

@@ -124,6 +124,14 @@ impl Family {
         self.sittings[child as usize].seat
     }
 
+    /// Of which kind the child is.
+    pub fn kind(&self, child: u32) -> ChildKind
+        requires { child < length self.now }
+        ensures { Some result ≡ option_map (λ (c : Child). c.kind) (slice_get self.now child) }
+    {
+        self.sittings[child as usize].kind
+    }
+
     /// The child told its pointer.
     pub fn tell(&mut self, child: u32)
         requires { child < length self.old }

@@ -60,8 +60,8 @@ impl PartWork {
             IsPartAt t self.old family f o st → DoesThen t st [] (IsPartAt t self.new family f o) }
         ensures over { (tops : Seq SeenTop) (family : Seq Child) → IsPartOver tops self.old family → IsPartOver tops self.new family }
         ensures far { IsNoLessFar self.old.own.part self.new.own.part }
-        ensures issued { OnOk result ((tops : Seq SeenTop) (family : Seq Child) → IsPartOver tops self.old family → is_ready self.old.own.part ≡ true →
-            IsIssued self.new.own.part) }
+        ensures issued { OnOk result ((tops : Seq SeenTop) (family : Seq Child) → IsPartOver tops self.old family →
+            is_ready self.old.own.part ≡ true → IsIssued self.new.own.part) }
     {
         if self.io.is_some() {
             return Ok(());

@@ -2,6 +2,7 @@
 
 ghost use Rattle.std.specs.Prelude.{◌≡◌, IfSome, IsTrue, List as Seq, Option, Some, slice_get};
 ghost use Rattle.zio_types.specs.declared.place.Top.{Top as SeenTop};
+ghost use Rattle.zio_types.specs.declared.request.ChildKind.TheVariants.{Gang};
 ghost use Rattle.zio_blkptr.specs.Pointers.{valid};
 ghost use Rattle.zio_gang.specs.Attempts.{Terms};
 ghost use Rattle.zio_trace.specs.Leaves.{Answer, error_of};
@@ -10,7 +11,7 @@ ghost use Rattle.zio_frames.specs.Frames.{Child, Stack};
 ghost use Rattle.zio_frames.specs.Moves.{heard_early, heard_of};
 ghost use Rattle.zio_stages.specs.PartNodes.{IsAnsweredBy, IsStoredBy};
 ghost use Rattle.zio_stages.specs.PartOwns.{stored_as};
-ghost use Rattle.zio_stages.specs.RequestHearings.{HearsOwnEarly, HearsOwnValue};
+ghost use Rattle.zio_stages.specs.RequestHearings.{HearsEarlyOf, HearsValueOf};
 ghost use Rattle.zio_stages.specs.RequestNodes.{IsOwnOver, IsRequestNode};
 ghost use Rattle.zio_stages.specs.RequestStages.{with_own};
 ghost use Rattle.zio_stages.specs.RequestWrites.{IsWrite, KeepsStages};
@@ -25,11 +26,12 @@ impl RequestNode {
     /// A member of its block told which pointer it will have.
     pub fn arrive_member_ready(&mut self, child: u32, pointer: Option<Bp>)
         requires write { IsWrite self.old.own }
-        requires hears { HearsOwnEarly self.old child }
+        requires hears { HearsEarlyOf Gang self.old child }
         requires valid { IfSome pointer (λ bp. IsTrue (valid bp)) }
-        ensures told { (t : Terms) (st : Stack) (c : Child) → IsRequestNode t self.old st → slice_get st.children child ≡ Some c →
-            IsRequestNode t self.new (heard_early st child c pointer) }
-        ensures over { (tops : Seq SeenTop) → IsOwnOver tops self.old.own self.old.family → IsOwnOver tops self.new.own self.new.family }
+        ensures told { (t : Terms) (st : Stack) (c : Child) → IsRequestNode t self.old st →
+            slice_get st.children child ≡ Some c → IsRequestNode t self.new (heard_early st child c pointer) }
+        ensures over { (tops : Seq SeenTop) → IsOwnOver tops self.old.own self.old.family →
+            IsOwnOver tops self.new.own self.new.family }
         ensures keeps { KeepsStages self.old.own self.new.own }
         ensures rest { self.new ≡ with_own self.old self.new.own self.new.family }
     {
@@ -42,10 +44,11 @@ impl RequestNode {
     /// A member of its block ended.
     pub fn arrive_stored(&mut self, child: u32, stored: StoredPart)
         requires write { IsWrite self.old.own }
-        requires hears { HearsOwnValue (IsStoredBy stored) self.old child }
-        ensures heard { (t : Terms) (st : Stack) (c : Child) → IsRequestNode t self.old st → slice_get st.children child ≡ Some c →
-            IsRequestNode t self.new (heard_of st child c (StoredAs (stored_as stored))) }
-        ensures over { (tops : Seq SeenTop) → IsOwnOver tops self.old.own self.old.family → IsOwnOver tops self.new.own self.new.family }
+        requires hears { HearsValueOf (IsStoredBy stored) self.old child }
+        ensures heard { (t : Terms) (st : Stack) (c : Child) → IsRequestNode t self.old st →
+            slice_get st.children child ≡ Some c → IsRequestNode t self.new (heard_of st child c (StoredAs (stored_as stored))) }
+        ensures over { (tops : Seq SeenTop) → IsOwnOver tops self.old.own self.old.family →
+            IsOwnOver tops self.new.own self.new.family }
         ensures keeps { KeepsStages self.old.own self.new.own }
         ensures rest { self.new ≡ with_own self.old self.new.own self.new.family }
     {
@@ -59,10 +62,12 @@ impl RequestNode {
     pub fn arrive_leaf_write(&mut self, child: u32, error: Option<Errno>)
         requires write { IsWrite self.old.own }
         requires over { (tops : Seq SeenTop) × IsOwnOver tops self.old.own self.old.family }
-        requires hears { HearsOwnValue (IsAnsweredBy error) self.old child }
-        ensures heard { (t : Terms) (st : Stack) (c : Child) (a : Answer) → error_of a ≡ error → slice_get st.children child ≡ Some c →
-            IsRequestNode t self.old st → IsRequestNode t self.new (heard_of st child c (Got a)) }
-        ensures over { (tops : Seq SeenTop) → IsOwnOver tops self.old.own self.old.family → IsOwnOver tops self.new.own self.new.family }
+        requires hears { HearsValueOf (IsAnsweredBy error) self.old child }
+        ensures heard { (t : Terms) (st : Stack) (c : Child) (a : Answer) → error_of a ≡ error →
+            slice_get st.children child ≡ Some c → IsRequestNode t self.old st →
+            IsRequestNode t self.new (heard_of st child c (Got a)) }
+        ensures over { (tops : Seq SeenTop) → IsOwnOver tops self.old.own self.old.family →
+            IsOwnOver tops self.new.own self.new.family }
         ensures keeps { KeepsStages self.old.own self.new.own }
         ensures rest { self.new ≡ with_own self.old self.new.own self.new.family }
     {

@@ -3,8 +3,8 @@
 //! A request's children are attempted beside each other, all together. Its own work goes on behind them: it may begin once
 //! they all are out, and once each has told the pointer that it will have, or has ended, the request can tell its own.
 
-ghost use Rattle.std.specs.Prelude.{◌≡◌, ◌-◌, ◌^◌, ◌<◌, ◌⊎◌, ℕ, List as Seq, [], IfErr, IfOk, None, OnErr, Ok, Option, Some, length, slice_get, true};
-ghost use Rattle.std.specs.List.{list_all, list_any};
+ghost use Rattle.std.specs.Prelude.{◌≡◌, ◌-◌, ◌^◌, ◌<◌, ◌⊎◌, ℕ, List as Seq, [], IfErr, IfOk, None, OnErr, Ok, Option, Some, length, option_map, slice_get, true};
+ghost use Rattle.std.specs.List.{AllByRecursion, list_all, list_any};
 ghost use Rattle.zio_types.specs.declared.place.Top.{Top as SeenTop};
 ghost use Rattle.zio_types.specs.declared.request.Phase.TheVariants.{Done, Ready};
 ghost use Rattle.zio_script.specs.Requests.{kind_of};
@@ -18,7 +18,7 @@ ghost use Rattle.zio_content.specs.Pointers.{IsNoneOrValid};
 ghost use Rattle.zio_frames.specs.Frames.{Child, Stack, fresh_stack};
 ghost use Rattle.zio_frames.specs.Moves.{WillHave, heard_early, heard_of};
 ghost use Rattle.zio_frames.specs.Seats.{IsSeated, asked_at};
-ghost use Rattle.zio_stages.specs.KidPointers.{HaveValidPointers};
+ghost use Rattle.zio_stages.specs.KidPointers.{HasValid, HaveValidPointers};
 ghost use Rattle.zio_stages.specs.KidTrees.{IsLeft};
 ghost use Rattle.zio_stages.specs.NodeChildren.{is_owing};
 ghost use Rattle.zio_stages.specs.RequestNodes.{Closes, HandsKid, IsKidAt, IsOwnOver, IsRequestNode, IsSeatOf, OwnEnds, own_got};
@@ -158,6 +158,10 @@ impl RequestNode {
         ensures root { IfOk result (λ node. root_of whole ≡ Some node.waiting) }
         ensures fresh { IfOk result (λ node. (t : Terms) (p : Pending) (forest : Forest) → t.round ≡ round → t.failmode ≡ failmode →
             IsTreeOf whole p forest → IsRequestNode t node (fresh_stack (Attempt attempt p forest))) }
+        ensures attempt { IfOk result (λ node. node.attempt ≡ attempt) }
+        ensures due { IfOk result (λ node. node.own ≡ Own.Due) }
+        ensures over { IfOk result (λ node. (tops : Seq SeenTop) → IsOwnOver tops node.own node.family) }
+        ensures valid { IfOk result (λ node. AllByRecursion HasValid node.waiting.kept → HaveValidPointers node.kids.kids) }
         ensures back { IfErr result (λ e. e.whole ≡ whole) }
     {
         match RequestKids::begin(alloc, whole) {
@@ -179,8 +183,10 @@ impl RequestNode {
         requires { self.old.attempt < 4 }
         ensures child { (number : ℕ) (whole : Seq SeenWaiting) → result ≡ Ok (Start.Child number whole) →
             (t : Terms) (st : Stack) → IsSeated st → IsRequestNode t self.old st → (number ≡ length st.children) × HandsKid t self.new whole st }
-        ensures handed { (number : ℕ) (whole : Seq SeenWaiting) → result ≡ Ok (Start.Child number whole) → self.new.kids.kids ≡ kid_handed self.old.kids.kids }
-        ensures over { (tops : Seq SeenTop) → IsOwnOver tops self.old.own self.old.family → IsOwnOver tops self.new.own self.new.family }
+        ensures handed { (number : ℕ) (whole : Seq SeenWaiting) → result ≡ Ok (Start.Child number whole) →
+            self.new.kids.kids ≡ kid_handed self.old.kids.kids }
+        ensures over { (tops : Seq SeenTop) → IsOwnOver tops self.old.own self.old.family →
+            IsOwnOver tops self.new.own self.new.family }
         ensures valid { HaveValidPointers self.old.kids.kids → HaveValidPointers self.new.kids.kids }
         ensures rest { self.new ≡ with_kids self.old self.new.kids self.new.family }
         ensures all_out { result ≡ Ok Start.AllOut → self.new.kids.kids.handed ≡ length self.new.kids.kids.kids }
@@ -307,13 +313,23 @@ impl RequestNode {
         )
     }
 
+    /// Of which kind the child is: logical if it is the attempt of one of its children's trees.
+    pub fn kind_of_child(&self, child: u32) -> ChildKind
+        requires { child < length self.now.family }
+        ensures { Some result ≡ option_map (λ (c : Child). c.kind) (slice_get self.now.family child) }
+    {
+        self.family.kind(child)
+    }
+
     /// The child, an attempt, told which pointer it will have.
     pub fn arrive_ready(&mut self, child: u32, pointer: Option<Bp>)
         requires { IsKidAt (λ state. state ≡ Some Out) self.old child }
         ensures told { (t : Terms) (st : Stack) (c : Child) → IsRequestNode t self.old st → slice_get st.children child ≡ Some c →
             IsRequestNode t self.new (heard_early st child c pointer) }
-        ensures kids { (place : ℕ) → IsSeatOf self.old.family child place → self.new.kids.kids ≡ kid_is self.old.kids.kids place (Told pointer) }
-        ensures over { (tops : Seq SeenTop) → IsOwnOver tops self.old.own self.old.family → IsOwnOver tops self.new.own self.new.family }
+        ensures kids { (place : ℕ) → IsSeatOf self.old.family child place →
+            self.new.kids.kids ≡ kid_is self.old.kids.kids place (Told pointer) }
+        ensures over { (tops : Seq SeenTop) → IsOwnOver tops self.old.own self.old.family →
+            IsOwnOver tops self.new.own self.new.family }
         ensures valid { IsNoneOrValid pointer → HaveValidPointers self.old.kids.kids → HaveValidPointers self.new.kids.kids }
         ensures rest { self.new ≡ with_kids self.old self.new.kids self.new.family }
     {
@@ -325,13 +341,14 @@ impl RequestNode {
     /// The child, an attempt, finished, with the pointer that it told if it told one.
     pub fn arrive_finished(&mut self, child: u32, error: Option<Errno>, pointer: Option<Bp>)
         requires { IsKidAt (IsOutWith pointer) self.old child }
-        ensures heard { (t : Terms) (st : Stack) (c : Child) (p : Pending) (below : Forest) (one : One) → IsRequestNode t self.old st →
-            slice_get st.children child ≡ Some c → asked_at st c.seat ≡ Some (Attempt self.old.attempt p below) →
+        ensures heard { (t : Terms) (st : Stack) (c : Child) (p : Pending) (below : Forest) (one : One) →
+            IsRequestNode t self.old st → slice_get st.children child ≡ Some c → asked_at st c.seat ≡ Some (Attempt self.old.attempt p below) →
             IsLeftBy one p.request.number no_bits error pointer → one.again ≡ [] → one.left ≡ NoTrees →
             IsRequestNode t self.new (heard_of st child c (AttemptedBy one)) }
         ensures kids { (place : ℕ) → IsSeatOf self.old.family child place →
             self.new.kids.kids ≡ kid_is self.old.kids.kids place (Ended no_bits error pointer) }
-        ensures over { (tops : Seq SeenTop) → IsOwnOver tops self.old.own self.old.family → IsOwnOver tops self.new.own self.new.family }
+        ensures over { (tops : Seq SeenTop) → IsOwnOver tops self.old.own self.old.family →
+            IsOwnOver tops self.new.own self.new.family }
         ensures valid { IsNoneOrValid pointer ⊎ HasToldIn self.old child pointer → HaveValidPointers self.old.kids.kids →
             HaveValidPointers self.new.kids.kids }
         ensures rest { self.new ≡ with_kids self.old self.new.kids self.new.family }
@@ -346,13 +363,14 @@ impl RequestNode {
         requires out { IsKidAt (IsOutWith pointer) self.old child }
         requires bits { has_bits bits ≡ true }
         requires root { (place : ℕ) → IsSeatOf self.old.family child place → root_number whole ≡ slice_get (numbers_of self.old.kids.kids.kids) place }
-        ensures heard { (t : Terms) (st : Stack) (c : Child) (p : Pending) (below : Forest) (one : One) → IsRequestNode t self.old st →
-            slice_get st.children child ≡ Some c → asked_at st c.seat ≡ Some (Attempt self.old.attempt p below) →
+        ensures heard { (t : Terms) (st : Stack) (c : Child) (p : Pending) (below : Forest) (one : One) →
+            IsRequestNode t self.old st → slice_get st.children child ≡ Some c → asked_at st c.seat ≡ Some (Attempt self.old.attempt p below) →
             IsLeftBy one p.request.number bits None pointer → IsLeft whole one →
             IsRequestNode t self.new (heard_of st child c (AttemptedBy one)) }
         ensures kids { (place : ℕ) → IsSeatOf self.old.family child place →
             self.new.kids.kids ≡ kid_is self.old.kids.kids place (Ended bits None pointer) }
-        ensures over { (tops : Seq SeenTop) → IsOwnOver tops self.old.own self.old.family → IsOwnOver tops self.new.own self.new.family }
+        ensures over { (tops : Seq SeenTop) → IsOwnOver tops self.old.own self.old.family →
+            IsOwnOver tops self.new.own self.new.family }
         ensures valid { IsNoneOrValid pointer ⊎ HasToldIn self.old child pointer → HaveValidPointers self.old.kids.kids →
             HaveValidPointers self.new.kids.kids }
         ensures rest { self.new ≡ with_kids self.old self.new.kids self.new.family }

@@ -16,7 +16,14 @@ ghost use Rattle.zio_stages.specs.PartNodes.{ComesTo, IsAllocatedOver};
 ghost use Rattle.zio_stages.specs.PartWorks.{HaveUnits};
 ghost use Rattle.zio_stages.specs.RequestNodes.{IsOwnOver, IsRequestNode};
 ghost use Rattle.zio_stages.specs.RequestStages.{with_own};
-ghost use Rattle.zio_stages.specs.RequestWrites.{IsBegunWrite, IsDueWrite, IsIssuedWrite, IsPlacedWrite, IsReadyWrite, IsWrittenWrite};
+ghost use Rattle.zio_stages.specs.RequestWrites.{
+  IsBegunWrite,
+  IsDueWrite,
+  IsIssuedWrite,
+  IsPlacedWrite,
+  IsReadyWrite,
+  IsWrittenWrite,
+};
 ghost use Rattle.zio_stages.specs.SpaceCalls.{SpaceCall};
 ghost use Rattle.zio_stages.specs.Tops.{AreTops};
 
@@ -57,7 +64,8 @@ impl RequestNode {
         requires tops { AreTops (S.tops services.old) }
         requires units { HaveUnits (S.tops services.old) }
         ensures does { (calls : Seq SpaceCall) × S.made services.old calls services.new ×
-            ((t : Terms) (st : Stack) → IsRequestNode t self.old st → DoesThen t st calls (ComesTo t result (IsRequestNode t self.new))) }
+            ((t : Terms) (st : Stack) → IsRequestNode t self.old st →
+            DoesThen t st calls (ComesTo t result (IsRequestNode t self.new))) }
         ensures over { IsOwnOver (S.tops services.old) self.new.own self.new.family }
         ensures tops { S.tops services.new ≡ S.tops services.old }
         ensures child { IfOk result IsAllocatedOver }
@@ -84,7 +92,8 @@ impl RequestNode {
         requires over { IsOwnOver tops.now self.old.own self.old.family }
         ensures starts { IfOk result (λ leaf. (t : Terms) (st : Stack) → t.setting.tops ≡ tops.now → IsRequestNode t self.old st →
             DoesThen t st [] (λ mid. StartsBy t mid leaf (IsRequestNode t self.new))) }
-        ensures err { OnErr result ((t : Terms) (st : Stack) → IsRequestNode t self.old st → DoesThen t st [] (IsRequestNode t self.new)) }
+        ensures err { OnErr result ((t : Terms) (st : Stack) → IsRequestNode t self.old st →
+            DoesThen t st [] (IsRequestNode t self.new)) }
         ensures over { IsOwnOver tops.now self.new.own self.new.family }
         ensures due { IfOk result (λ leaf. IfSome leaf IsDue) }
         ensures ready { IsReadyWrite self.new.own }
@@ -102,8 +111,8 @@ impl RequestNode {
     pub fn vdev_io_done_write(&self, tops: &[Top]) -> IoNext
         requires issued { IsIssuedWrite self.now.own }
         requires over { IsOwnOver tops.now self.now.own self.now.family }
-        ensures waits { result ≡ IoNext.Wait → (t : Terms) (st : Stack) → t.setting.tops ≡ tops.now → IsSeated st → IsRequestNode t self.now st →
-            first_owing (Vdev ∷ []) Done st.children ≡ Some Vdev }
+        ensures waits { result ≡ IoNext.Wait → (t : Terms) (st : Stack) → t.setting.tops ≡ tops.now → IsSeated st →
+            IsRequestNode t self.now st → first_owing (Vdev ∷ []) Done st.children ≡ Some Vdev }
         ensures due { result ≡ IoNext.On → IsDueWrite tops.now self.now.own }
     {
         let Own::Write(own) = &self.own else {
@@ -117,7 +126,8 @@ impl RequestNode {
         requires issued { IsIssuedWrite self.old.own }
         requires due { IsDueWrite tops.now self.old.own }
         requires over { IsOwnOver tops.now self.old.own self.old.family }
-        ensures does { (t : Terms) (st : Stack) → t.setting.tops ≡ tops.now → IsRequestNode t self.old st → DoesThen t st [] (IsRequestNode t self.new) }
+        ensures does { (t : Terms) (st : Stack) → t.setting.tops ≡ tops.now → IsRequestNode t self.old st →
+            DoesThen t st [] (IsRequestNode t self.new) }
         ensures over { IsOwnOver tops.now self.new.own self.new.family }
         ensures ready { IsReadyWrite self.old.own → IsReadyWrite self.new.own }
         ensures issued { IsIssuedWrite self.new.own }

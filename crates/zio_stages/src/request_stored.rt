@@ -50,7 +50,8 @@ impl RequestNode {
         ensures same { (t : Terms) (st : Stack) → IsRequestNode t self.old st → IsRequestNode t self.new st }
         ensures family { self.new.family ≡ self.old.family }
         ensures rest { self.new ≡ with_own self.old self.new.own self.old.family }
-        ensures over { (tops : Seq SeenTop) → IsOwnOver tops self.old.own self.old.family → IsOwnOver tops self.new.own self.new.family }
+        ensures over { (tops : Seq SeenTop) → IsOwnOver tops self.old.own self.old.family →
+            IsOwnOver tops self.new.own self.new.family }
         ensures tops { S.tops services.new ≡ S.tops services.old }
     {
         let error = error_of(&self.own);

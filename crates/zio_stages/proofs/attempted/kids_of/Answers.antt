@@ -1,7 +1,10 @@
 use Rattle.std.proofs.Common.{◌≡◌, ◌∙◌, [], List, length, sym, ap, subst, reverse, replicate, None}
+use Rattle.std.specs.List.{AllByRecursion}
 use Rattle.zio_children.specs.RequestKids.{RiseFrom, fresh_kids}
 use Rattle.zio_stages.specs.declared.waiting.Waiting.{Waiting}
 use Rattle.zio_stages.specs.Wholes.{roots_in}
+use Rattle.zio_stages.specs.KidPointers.{HasValid, HaveValidPointers}
+use Rattle.zio_stages.proofs.KidPointerLemmas.{valid_fresh}
 use Rattle.zio_stages.proofs.KidTreeLemmas.{begun_held, begun_kids, due_rise, when_ok}
 use Rattle.zio_stages.proofs.attempted.kids_of.Goals as goal
 
@@ -32,3 +35,8 @@ returns-in-Ok-clause-kids c = λ attempt forest of.
     (c.in-Ok.ensures.kids ∙ ap (λ (ds : List (List Waiting)). fresh_kids (roots_in (reverse ds)) c.as_slice.result.now) c.deref.ensures.value)
     (c.in-Ok.ensures.again ∙ ap (λ (ds : List (List Waiting)). replicate (length ds) None) c.deref.ensures.value)
     c.in-Ok.ensures.fits of
+
+pub returns-in-Ok-clause-valid : goal.returns-in-Ok-clause-valid
+returns-in-Ok-clause-valid c = λ h.
+    subst HaveValidPointers (sym c.in-Ok.ensures.kids)
+    (valid_fresh _ c.as_slice.result.now (subst (AllByRecursion HasValid) (sym c.as_slice.ensures) h))

@@ -76,4 +76,5 @@ returns-clause-placing c = ap (λ (y : PartWriting). y.placing) c.hear_told.ensu
 pub returns-clause-far : goal.returns-clause-far
 returns-clause-far c =
     let x = c.args.self.now.own.part in
-    subst (IsNoLessFar x) (sym c.hear_told.ensures.exact) (far_member x (c.number.result - c.args.front - 2) (Told c.args.pointer) refl)
+    subst (IsNoLessFar x) (sym c.hear_told.ensures.exact)
+    (far_member x (c.number.result - c.args.front - 2) (Told c.args.pointer) refl)

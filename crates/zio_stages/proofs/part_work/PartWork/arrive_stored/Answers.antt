@@ -88,4 +88,6 @@ returns-clause-placing c = ap (λ (y : PartWriting). y.placing) c.hear_member.en
 pub returns-clause-far : goal.returns-clause-far
 returns-clause-far c =
     let x = c.args.self.now.own.part in
-    subst (IsNoLessFar x) (sym c.hear_member.ensures.exact) (far_member x (c.number.result - c.args.front - 2) (MemberEnded c.args.stored.error c.args.stored.pointer c.args.stored.heads) refl)
+    subst (IsNoLessFar x) (sym c.hear_member.ensures.exact)
+    (far_member x (c.number.result - c.args.front - 2)
+    (MemberEnded c.args.stored.error c.args.stored.pointer c.args.stored.heads) refl)

@@ -29,16 +29,19 @@ returns-clause-heard c = λ t st x p below one h there asked by none gone.
 pub returns-clause-kids : goal.returns-clause-kids
 returns-clause-kids c = λ place seat.
     let r = c.args.self.now in
-    let same : place ≡ c.place-place.result = one_place r.family c.args.child place c.place-place.result seat c.place-place.ensures in
+    let same : place ≡ c.place-place.result =
+    one_place r.family c.args.child place c.place-place.result seat c.place-place.ensures in
     c.hear_finished.ensures.kids ∙ ap (λ n. kid_is r.kids.kids n (Ended no_bits c.args.error c.args.pointer)) (sym same)
 
 pub returns-clause-over : goal.returns-clause-over
 returns-clause-over c = λ tops over.
     let r = c.args.self.now in
     own_same tops r.own r.family c.end.new.self
-    (same_marked r.family c.end.new.self c.args.child c.place-place.result child_ended c.place-place.ensures (λ x. refl) c.end.ensures) over
+    (same_marked r.family c.end.new.self c.args.child c.place-place.result child_ended c.place-place.ensures (λ x. refl)
+    c.end.ensures) over
 
 pub returns-clause-valid : goal.returns-clause-valid
 returns-clause-valid c = λ ok h.
     subst HaveValidPointers (sym c.hear_finished.ensures.kids)
-    (valid_then c.args.self.now.kids.kids c.place-place.result (Ended no_bits c.args.error c.args.pointer) h (told_valid c.args.self.now c.args.child c.args.pointer h ok))
+    (valid_then c.args.self.now.kids.kids c.place-place.result (Ended no_bits c.args.error c.args.pointer) h
+    (told_valid c.args.self.now c.args.child c.args.pointer h ok))

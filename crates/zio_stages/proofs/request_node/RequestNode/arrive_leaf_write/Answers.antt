@@ -14,7 +14,8 @@ arrive_leaf-requires-clause-over c =
     (c.requires.over.0, subst (λ (o : Own). IsOwnOver c.requires.over.0 o c.args.self.now.family) c.in-Write.is c.requires.over.1)
 
 pub arrive_leaf-requires-clause-awaited : goal.arrive_leaf-requires-clause-awaited
-arrive_leaf-requires-clause-awaited c = own_leaf c.args.self.now c.in-Write.field-0 c.args.child c.args.error c.in-Write.is c.requires.hears
+arrive_leaf-requires-clause-awaited c =
+    own_leaf c.args.self.now c.in-Write.field-0 c.args.child c.args.error c.in-Write.is c.requires.hears
 
 pub returns-clause-heard : goal.returns-clause-heard
 returns-clause-heard c = λ t st d a error there h.

@@ -23,15 +23,18 @@ returns-clause-told c = λ t st x h there.
 pub returns-clause-kids : goal.returns-clause-kids
 returns-clause-kids c = λ place seat.
     let r = c.args.self.now in
-    let same : place ≡ c.place-place.result = one_place r.family c.args.child place c.place-place.result seat c.place-place.ensures in
+    let same : place ≡ c.place-place.result =
+    one_place r.family c.args.child place c.place-place.result seat c.place-place.ensures in
     c.tell.ensures.kids ∙ ap (λ n. kid_is r.kids.kids n (Told c.args.pointer)) (sym same)
 
 pub returns-clause-over : goal.returns-clause-over
 returns-clause-over c = λ tops over.
     let r = c.args.self.now in
     own_same tops r.own r.family c.tell-2.new.self
-    (same_marked r.family c.tell-2.new.self c.args.child c.place-place.result child_told c.place-place.ensures (λ x. refl) c.tell-2.ensures) over
+    (same_marked r.family c.tell-2.new.self c.args.child c.place-place.result child_told c.place-place.ensures
+    (λ x. refl) c.tell-2.ensures) over
 
 pub returns-clause-valid : goal.returns-clause-valid
 returns-clause-valid c = λ ok h.
-    subst HaveValidPointers (sym c.tell.ensures.kids) (valid_then c.args.self.now.kids.kids c.place-place.result (Told c.args.pointer) h ok)
+    subst HaveValidPointers (sym c.tell.ensures.kids)
+    (valid_then c.args.self.now.kids.kids c.place-place.result (Told c.args.pointer) h ok)

@@ -23,4 +23,5 @@ returns-clause-over c = λ tops over.
     c.arrive_stored.ensures.over tops (subst (λ (o : Own). IsOwnOver tops o c.args.self.now.family) c.in-Write.is over)
 
 pub returns-clause-keeps : goal.returns-clause-keeps
-returns-clause-keeps c = keeps_same c.args.self.now.own c.in-Write.field-0 _ c.in-Write.is c.arrive_stored.ensures.far c.arrive_stored.ensures.io
+returns-clause-keeps c =
+    keeps_same c.args.self.now.own c.in-Write.field-0 _ c.in-Write.is c.arrive_stored.ensures.far c.arrive_stored.ensures.io

@@ -24,7 +24,8 @@ returns-clause-does g c =
       λ t st h.
           let own = write_in t r st w h c.in-Write.is in
           does_map t st d.0 _ _
-          (λ mid k. comes_map t c.dva_allocate.result _ _ mid (λ next at. node_at t r st next w _ c.dva_allocate.new.family h own refl at) k)
+          (λ mid k. comes_map t c.dva_allocate.result _ _ mid
+          (λ next at. node_at t r st next w _ c.dva_allocate.new.family h own refl at) k)
           (d.2 t (front_in t r st h) own.part st (is_front t r st w h own) (part_at t r st w h own)),
     )
 
@@ -32,4 +33,5 @@ pub returns-clause-begun : goal.returns-clause-begun
 returns-clause-begun g c = c.dva_allocate.ensures.io ∙ subst IsBegunWrite c.in-Write.is c.requires.begun
 
 pub returns-clause-placed : goal.returns-clause-placed
-returns-clause-placed g c = λ e. (c.dva_allocate.ensures.placed e, c.dva_allocate.ensures.io ∙ subst IsBegunWrite c.in-Write.is c.requires.begun)
+returns-clause-placed g c =
+    λ e. (c.dva_allocate.ensures.placed e, c.dva_allocate.ensures.io ∙ subst IsBegunWrite c.in-Write.is c.requires.begun)

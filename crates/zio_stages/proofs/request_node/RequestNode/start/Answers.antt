@@ -35,7 +35,9 @@ returns-clause-over c = λ tops over.
     let there : c.in_ok-seat.seat ≡ Outer r.kids.kids.handed = c.in_ok-seat.ensures.seat ∙ ap (λ n. Outer n) c.in-Child.ensures.0 in
     let family : c.add.new.self ≡ r.family ++ new_child (OfOuter r.kids.kids.handed) Logical ∷ [] =
     c.in_ok-number.ensures.ok ∙ ap (λ (s : Seat). r.family ++ new_child (seat_of s) Logical ∷ []) there in
-    own_same tops r.own r.family c.add.new.self (subst (SameWithin r.family) (sym family) (same_added r.family r.kids.kids.handed Logical)) over
+    own_same tops r.own r.family c.add.new.self
+    (subst (SameWithin r.family) (sym family) (same_added r.family r.kids.kids.handed Logical)) over
 
 pub returns-clause-valid : goal.returns-clause-valid
-returns-clause-valid c = λ h. subst HaveValidPointers (sym c.hand_out-whole.ensures.kids) (valid_handed c.args.self.now.kids.kids h)
+returns-clause-valid c = λ h.
+    subst HaveValidPointers (sym c.hand_out-whole.ensures.kids) (valid_handed c.args.self.now.kids.kids h)

@@ -10,7 +10,8 @@ pub unreachable-requires : goal.unreachable-requires
 unreachable-requires c = writes_only _ c.args.self.now.own c.requires.issued c.in_default.not-Write
 
 pub vdev_io_assess-requires-clause-over : goal.vdev_io_assess-requires-clause-over
-vdev_io_assess-requires-clause-over c = subst (λ (o : Own). IsOwnOver c.args.tops.now o c.args.self.now.family) c.in-Write.is c.requires.over
+vdev_io_assess-requires-clause-over c =
+    subst (λ (o : Own). IsOwnOver c.args.tops.now o c.args.self.now.family) c.in-Write.is c.requires.over
 
 pub vdev_io_assess-requires-clause-due : goal.vdev_io_assess-requires-clause-due
 vdev_io_assess-requires-clause-due c = subst (IsDueWrite c.args.tops.now) c.in-Write.is c.requires.due
@@ -30,4 +31,8 @@ pub returns-clause-issued : goal.returns-clause-issued
 returns-clause-issued c = c.vdev_io_assess.ensures.far.issued (subst IsIssuedWrite c.in-Write.is c.requires.issued)
 
 pub returns-clause-written : goal.returns-clause-written
-returns-clause-written c = λ no. (c.vdev_io_assess.ensures.none no, c.vdev_io_assess.ensures.far.issued (subst IsIssuedWrite c.in-Write.is c.requires.issued))
+returns-clause-written c =
+    λ no. (
+      c.vdev_io_assess.ensures.none no,
+      c.vdev_io_assess.ensures.far.issued (subst IsIssuedWrite c.in-Write.is c.requires.issued),
+    )

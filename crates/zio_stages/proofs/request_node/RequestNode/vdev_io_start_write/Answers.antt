@@ -12,7 +12,8 @@ pub unreachable-requires : goal.unreachable-requires
 unreachable-requires c = writes_only _ c.args.self.now.own c.requires.ready c.in_default.not-Write
 
 pub vdev_io_start-requires : goal.vdev_io_start-requires
-vdev_io_start-requires c = record { over = subst (λ (o : Own). IsOwnOver c.args.tops.now o c.args.self.now.family) c.in-Write.is c.requires.over }
+vdev_io_start-requires c =
+    record { over = subst (λ (o : Own). IsOwnOver c.args.tops.now o c.args.self.now.family) c.in-Write.is c.requires.over }
 
 pub returns-clause-starts : goal.returns-clause-starts
 returns-clause-starts c =
@@ -41,4 +42,6 @@ pub returns-clause-ready : goal.returns-clause-ready
 returns-clause-ready c = c.vdev_io_start.ensures.far.ready (subst IsReadyWrite c.in-Write.is c.requires.ready)
 
 pub returns-clause-issued : goal.returns-clause-issued
-returns-clause-issued c = on_ok_weaker c.vdev_io_start.result (λ f. f (subst IsReadyWrite c.in-Write.is c.requires.ready)) c.vdev_io_start.ensures.issued
+returns-clause-issued c =
+    on_ok_weaker c.vdev_io_start.result (λ f. f (subst IsReadyWrite c.in-Write.is c.requires.ready))
+    c.vdev_io_start.ensures.issued

@@ -1,5 +1,5 @@
 -- Turns and groups one after another, in each round that goes on.
-use Rattle.std.proofs.Common.{◌≡◌, ℕ, ◌+◌, ◌<◌, ◌≤◌, List, [], ◌∷◌, length, refl, sym, ap, ◌∙◌, subst, arith}
+use Rattle.std.proofs.Common.{◌≡◌, ℕ, ◌+◌, ◌<◌, ◌≤◌, List, [], ◌∷◌, length, map, refl, sym, ap, ◌∙◌, subst, arith}
 use Rattle.std.proofs.lemmas.List.{append-nil}
 use Rattle.zio_types.specs.declared.place.Top.{Top}
 use Rattle.zio_cksum.specs.Images.{Images}
@@ -31,7 +31,7 @@ done_told line leaves Nothing other = absurd (other refl)
 done_told line leaves (HasEnded finished) other = tt
 done_told line leaves (Root tree outcome) other = tt
 
-module _ {N D : Type 0} (nodes : Nodes N) (bytes : D → ℕ) (image : D → List ℕ → Type 0) where
+module _ {N D : Type 0} (nodes : Nodes N) (bytes faults : D → ℕ) (image : D → List ℕ → Type 0) where
   abbrev Going : Terms → (ℕ → ℕ) → Forest → Before → SoFar → Slab (Entry N) → List ℕ → Grounds D → Type 0
   Going t sizes f before s slab line g = IsGoingOn {N = N} {D = D} nodes bytes image t sizes f before s slab line g
 
@@ -83,13 +83,13 @@ module _ {N D : Type 0} (nodes : Nodes N) (bytes : D → ℕ) (image : D → Lis
           going = so_far.going;
         }
 
-    then_turned : (t : Terms) (sizes : ℕ → ℕ) (f : Forest) (before : Before) (s mid : SoFar) (slab : Slab (Entry N)) (line : List ℕ)
+    pub then_turned : (t : Terms) (sizes : ℕ → ℕ) (f : Forest) (before : Before) (s mid : SoFar) (slab : Slab (Entry N)) (line : List ℕ)
         (g : Grounds D) → HasGoneOn s mid → HasTurned {N = N} {D = D} nodes bytes image t sizes f before mid slab line g
         → HasTurned {N = N} {D = D} nodes bytes image t sizes f before s slab line g
     then_turned t sizes f before s mid slab line g h k =
         record { now = k.now; gone = gone_then s mid k.now h k.gone; going = k.going }
 
-    then_any : (t : Terms) (sizes : ℕ → ℕ) (f : Forest) (before : Before) (s mid : SoFar) (slab : Slab (Entry N)) (line : List ℕ)
+    pub then_any : (t : Terms) (sizes : ℕ → ℕ) (f : Forest) (before : Before) (s mid : SoFar) (slab : Slab (Entry N)) (line : List ℕ)
         (g : Grounds D) (turned : Turned) → HasGoneOn s mid
         → AfterTurn {N = N} {D = D} nodes bytes image t sizes f before mid slab line g turned
         → AfterTurn {N = N} {D = D} nodes bytes image t sizes f before s slab line g turned
@@ -155,6 +155,7 @@ module _ {N D : Type 0} (nodes : Nodes N) (bytes : D → ℕ) (image : D → Lis
     pub over_all : AreAll {N = N} (over g.desk.tops) slab
     pub tops_same : g.desk.tops ≡ lent.desk.tops
     pub setting_same : g.setting ≡ lent.setting
+    pub steady : map faults g.disks.items ≡ map faults lent.disks.items
     pub less : work_left {N = N} {D = D} nodes.left slab line g ≤ work_left {N = N} {D = D} nodes.left first first_line lent
 
   module _ (over : List Top → N → Type 0) (first : Slab (Entry N)) (first_line : List ℕ) (lent : Grounds D) where
@@ -167,6 +168,7 @@ module _ {N D : Type 0} (nodes : Nodes N) (bytes : D → ℕ) (image : D → Lis
       over_all = all;
       tops_same = refl;
       setting_same = refl;
+      steady = refl;
       less = omega arith;
     }
 
@@ -198,6 +200,7 @@ module _ {N D : Type 0} (nodes : Nodes N) (bytes : D → ℕ) (image : D → Lis
         over_all = all;
         tops_same = same.tops_same ∙ h.tops_same;
         setting_same = same.setting_same ∙ h.setting_same;
+        steady = ap (λ (ds : List D). map faults ds) same.disks_same ∙ h.steady;
         less = omega (arith, less, h.less);
       }
 
@@ -210,12 +213,14 @@ module _ {N D : Type 0} (nodes : Nodes N) (bytes : D → ℕ) (image : D → Lis
     pub drive_issued : (slab slab_now : Slab (Entry N)) (line line_now : List ℕ) (g now : Grounds D) → Driving slab line g
         → IssuesOn {N = N} {D = D} nodes bytes image slab line g slab_now line_now now
         → AreAll {N = N} (over now.desk.tops) slab_now → now.desk ≡ g.desk → now.setting ≡ g.setting
+        → map faults now.disks.items ≡ map faults g.disks.items
         → work_left {N = N} {D = D} nodes.left slab_now line_now now < work_left {N = N} {D = D} nodes.left slab line g
         → Driving slab_now line_now now
-    drive_issued slab slab_now line line_now g now h issues all desk setting less = record {
+    drive_issued slab slab_now line line_now g now h issues all desk setting steady less = record {
       gone = run_issued first first_line lent slab slab_now line line_now g now h.gone issues;
       over_all = all;
       tops_same = ap (λ (d : Desk). d.tops) desk ∙ h.tops_same;
       setting_same = setting ∙ h.setting_same;
+      steady = steady ∙ h.steady;
       less = omega (arith, less, h.less);
     }

@@ -17,6 +17,7 @@ pub mod GroupMoves
 pub mod GroupsDone
 pub mod HandedLemmas
 pub mod HearLemmas
+pub mod HearingMoves
 pub mod Insides
 pub mod Kept
 pub mod KeyLengths

@@ -1,5 +1,6 @@
 -- What the one-thread engine keeps from turn to turn: the round with its nodes, and what it lends to them.
 use Rattle.std.specs.Prelude.{◌≡◌, ℕ, ◌+◌, ◌*◌, ◌≤◌, ◌^◌, List, [], ◌∷◌, ◌++◌, length, map, slice_get, slice_index_or, slice_set, false, Option, Some, None}
+use Rattle.std.specs.List.{AllByRecursion}
 use Rattle.zio_types.specs.declared.place.Top.{Top}
 use Rattle.zio_types.specs.Choices.{Choice}
 use Rattle.zio_blkptr.specs.declared.pointer.Bp.{Bp}
@@ -31,6 +32,7 @@ use Rattle.zio_graph.specs.Slabs.{load}
 use Rattle.zio_graph.specs.Stages.{OutcomeIn, ShowsAnswer}
 use Rattle.zio_graph.specs.declared.entry.Entry.{Entry}
 use Rattle.zio_graph.specs.declared.grounds.Grounds.{Grounds}
+use Rattle.zio_graph.specs.declared.hearing.Hearing.{Hearing}
 use Rattle.zio_graph.specs.declared.turn.Turned.{Turned}
 use Rattle.zio_graph.specs.declared.turn.Turned.TheVariants.{Nothing, Ended as HasEnded, Root}
 
@@ -223,3 +225,24 @@ RunsOn {N = N} {D = D} nodes bytes image slab line g slab_now line_now g_now tur
 abbrev pub IsDone : List ℕ → List ℕ → Turned → Type 0
 IsDone line leaves Nothing = (line ≡ []) × (leaves ≡ [])
 IsDone line leaves _ = Unit {0}
+
+-- each sound round goes on until a tree hears, or there is nothing to do, and these requests finished meanwhile
+abbrev pub AfterRun : {N D : Type 0} → Nodes N → (D → ℕ) → (D → List ℕ → Type 0) → Terms → (ℕ → ℕ) → Forest → Before → SoFar
+    → Slab (Entry N) → List ℕ → Grounds D → Option Hearing → Type 0
+AfterRun {N = N} {D = D} nodes bytes image t sizes f before s slab line g None =
+    HasTurned {N = N} {D = D} nodes bytes image t sizes f before s slab line g
+AfterRun {N = N} {D = D} nodes bytes image t sizes f before s slab line g (Some heard) =
+    HasEndedFor {N = N} {D = D} nodes bytes image t sizes f before s slab line g heard.tree heard.outcome
+
+abbrev pub RunsToTree : {N D : Type 0} → Nodes N → (D → ℕ) → (D → List ℕ → Type 0) → Slab (Entry N) → List ℕ → Grounds D
+    → List Finished → Slab (Entry N) → List ℕ → Grounds D → List Finished → Option Hearing → Type 0
+RunsToTree {N = N} {D = D} nodes bytes image slab line g ended slab_now line_now g_now ended_now heard =
+    (t : Terms) (sizes : ℕ → ℕ) (f : Forest) (before : Before) (s : SoFar) → IsSoundRound t sizes f →
+    IsGoingOn {N = N} {D = D} nodes bytes image t sizes f before s slab line g →
+    AfterRun {N = N} {D = D} nodes bytes image t sizes f before s slab_now line_now g_now heard
+    × ((more : List Finished) × (ended_now ≡ ended ++ more) × AllByRecursion (EndsFinished t) more)
+
+-- where no tree hears no key is queued, and none is at a leaf
+abbrev pub IsDoneUnless : List ℕ → List ℕ → Option Hearing → Type 0
+IsDoneUnless line leaves None = (line ≡ []) × (leaves ≡ [])
+IsDoneUnless line leaves (Some heard) = Unit {0}

@@ -1,9 +1,11 @@
 //! Turns and groups, in whatever order is picked.
 
-ghost use Rattle.std.specs.Prelude.{◌≡◌, ◌<◌, ◌≤◌, [], IfOk, OnOk};
+ghost use Rattle.std.specs.Prelude.{◌≡◌, ◌≢◌, ◌<◌, ◌≤◌, [], Err, IfOk, OnOk, map};
+ghost use Rattle.zio_disks.specs.Disks.{AnyRose};
 ghost use Rattle.zio_graph.specs.AtLeaves.{keys_at};
 ghost use Rattle.zio_graph.specs.Slabs.{AreAll};
 ghost use Rattle.zio_graph.specs.UnderTurns.{GoesOnSome, IsDone, RunsOn, TurnedIn, work_left};
+ghost use Rattle.zio_graph.specs.declared.turn.Turned.TheVariants.{Nothing};
 
 use crate::grounds::Grounds;
 use crate::group::issue_group;
@@ -16,7 +18,7 @@ use zio_outside::Disk;
 
 /// Runs until a turn has something to tell, or no key is queued and nothing waits at the leaves. The choices are the queued
 /// keys in their order, then each leaf that has a group to issue, in order of the leaves. Each sound round that goes on
-/// goes on, whatever is picked.
+/// goes on, whatever is picked. It is stopped by a device only where a disk's count of faults rose.
 pub fn run_on<N: Staged, D: Disk + Drop, P: Picks>(
     turns: &mut Turns<N>,
     grounds: &mut Grounds<D>,
@@ -30,6 +32,11 @@ pub fn run_on<N: Staged, D: Disk + Drop, P: Picks>(
     ensures over { OnOk result (AreAll (N.over grounds.new.desk.tops) turns.new.nodes) }
     ensures less { OnOk result (work_left N.nodes.left turns.new.nodes turns.new.line grounds.new
         ≤ work_left N.nodes.left turns.old.nodes turns.old.line grounds.old) }
+    ensures fewer { IfOk result (λ turned. turned ≢ Nothing → work_left N.nodes.left turns.new.nodes turns.new.line grounds.new
+        < work_left N.nodes.left turns.old.nodes turns.old.line grounds.old) }
+    ensures steady { OnOk result (map D.faults grounds.new.disks.items ≡ map D.faults grounds.old.disks.items) }
+    ensures device { result ≡ Err Stop.Device →
+        AnyRose (map D.faults grounds.old.disks.items) (map D.faults grounds.new.disks.items) }
     ensures inside { IfOk result (TurnedIn (N.tree_over grounds.old.desk.tops)) }
     ensures tops { grounds.new.desk.tops ≡ grounds.old.desk.tops }
     ensures setting { grounds.new.setting ≡ grounds.old.setting }

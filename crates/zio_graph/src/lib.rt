@@ -7,6 +7,7 @@ mod entry;
 mod grounds;
 mod group;
 mod hear;
+mod hearing;
 mod laws;
 pub mod leaf_queues;
 pub mod node;
@@ -20,6 +21,7 @@ pub use desk::{Desk, desks_serve_rounds};
 pub use drive::run_on;
 pub use grounds::{DisksBack, Grounds};
 pub use group::issue_group;
+pub use hearing::{Hearing, run_to_tree};
 pub use laws::{
     engines_find_nodes, engines_hear_of_nodes, engines_keep_rounds, engines_settle_rounds,
 };

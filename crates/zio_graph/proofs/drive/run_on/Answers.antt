@@ -5,12 +5,12 @@ use Rattle.zio_graph.proofs.DriveMoves.{done_told, drive_begins, drive_issued, d
 use Rattle.zio_graph.proofs.drive.run_on.Goals as goal
 
 pub picks-init : goal.picks-init
-picks-init g c = drive_begins g.N.Node.nodes g.D.Disk.bytes g.D.Disk.image g.N.Staged.over c.args.turns.now.nodes c.args.turns.now.line
+picks-init g c = drive_begins g.N.Node.nodes g.D.Disk.bytes g.D.Disk.faults g.D.Disk.image g.N.Staged.over c.args.turns.now.nodes c.args.turns.now.line
     c.args.grounds.now c.requires.over
 
 pub returns-then-choices-eq0-clause-done : goal.returns-then-choices-eq0-clause-done
 returns-then-choices-eq0-clause-done g c =
-    let some = run_some g.N.Node.nodes g.D.Disk.bytes g.D.Disk.image c.args.turns.now.nodes c.args.turns.now.line c.args.grounds.now
+    let some = run_some g.N.Node.nodes g.D.Disk.bytes g.D.Disk.faults g.D.Disk.image c.args.turns.now.nodes c.args.turns.now.line c.args.grounds.now
     c.picks.turns.nodes c.picks.turns.line c.picks.grounds c.picks.invariant.gone c.requires.going in (
       no_line c.picks.turns.line (omega (arith, c.saturating_add-choices.ensures, c.if-choices-eq0.true, c.len-keys.ensures)),
       c.eligible.ensures.none some.going.lent.ready.order
@@ -19,26 +19,26 @@ returns-then-choices-eq0-clause-done g c =
 
 pub run_turn-requires-clause-going : goal.run_turn-requires-clause-going
 run_turn-requires-clause-going g c =
-    drive_taken g.N.Node.nodes g.D.Disk.bytes g.D.Disk.image g.N.Staged.over c.args.turns.now.nodes c.args.turns.now.line
+    drive_taken g.N.Node.nodes g.D.Disk.bytes g.D.Disk.faults g.D.Disk.image g.N.Staged.over c.args.turns.now.nodes c.args.turns.now.line
     c.args.grounds.now c.picks.turns.nodes c.take-key.new.self.nodes c.picks.turns.nodes c.picks.turns.line
     c.take-key.new.self.line c.picks.turns.line c.picks.grounds c.picks.grounds c.picks.invariant c.take-key.result
     c.take-key.ensures.turn c.requires.going
 
 pub picks-preserved-in-Nothing : goal.picks-preserved-in-Nothing
 picks-preserved-in-Nothing g c =
-    drive_turned g.N.Node.nodes g.D.Disk.bytes g.D.Disk.image g.N.Staged.over c.args.turns.now.nodes c.args.turns.now.line
+    drive_turned g.N.Node.nodes g.D.Disk.bytes g.D.Disk.faults g.D.Disk.image g.N.Staged.over c.args.turns.now.nodes c.args.turns.now.line
     c.args.grounds.now c.picks.turns.nodes c.take-key.new.self.nodes c.run_turn.new.turns.nodes c.picks.turns.line c.take-key.new.self.line
     c.run_turn.new.turns.line c.picks.grounds c.run_turn.new.grounds c.picks.invariant
     c.take-key.result c.in_ok-told.told c.take-key.ensures.turn c.in_ok-told.ensures.turns c.in-Nothing.is
     c.in_ok-told.ensures.over c.run_turn.ensures.same
-    (taken_less g.N.Node.nodes g.D.Disk.bytes g.D.Disk.image g.N.Staged.over c.args.turns.now.nodes c.args.turns.now.line
+    (taken_less g.N.Node.nodes g.D.Disk.bytes g.D.Disk.faults g.D.Disk.image g.N.Staged.over c.args.turns.now.nodes c.args.turns.now.line
     c.args.grounds.now c.picks.turns.nodes c.take-key.new.self.nodes c.run_turn.new.turns.nodes c.picks.turns.line c.take-key.new.self.line
     c.run_turn.new.turns.line c.picks.grounds c.run_turn.new.grounds c.picks.invariant
     c.take-key.ensures.nodes c.take-key.ensures.len c.in_ok-told.ensures.less)
 
 pub returns-in_default-clause-runs : goal.returns-in_default-clause-runs
 returns-in_default-clause-runs g c =
-    drive_tells g.N.Node.nodes g.D.Disk.bytes g.D.Disk.image g.N.Staged.over c.args.turns.now.nodes c.args.turns.now.line
+    drive_tells g.N.Node.nodes g.D.Disk.bytes g.D.Disk.faults g.D.Disk.image g.N.Staged.over c.args.turns.now.nodes c.args.turns.now.line
     c.args.grounds.now c.picks.turns.nodes c.take-key.new.self.nodes c.run_turn.new.turns.nodes c.picks.turns.line c.take-key.new.self.line
     c.run_turn.new.turns.line c.picks.grounds c.run_turn.new.grounds c.picks.invariant
     c.take-key.result c.in_ok-told.told c.take-key.ensures.turn c.in_ok-told.ensures.turns
@@ -48,9 +48,17 @@ returns-in_default-clause-done g c = done_told _ _ c.in_ok-told.told c.in_defaul
 
 pub returns-in_default-clause-less : goal.returns-in_default-clause-less
 returns-in_default-clause-less g c =
-    let less = taken_less g.N.Node.nodes g.D.Disk.bytes g.D.Disk.image g.N.Staged.over c.args.turns.now.nodes c.args.turns.now.line
+    let less = taken_less g.N.Node.nodes g.D.Disk.bytes g.D.Disk.faults g.D.Disk.image g.N.Staged.over c.args.turns.now.nodes c.args.turns.now.line
     c.args.grounds.now c.picks.turns.nodes c.take-key.new.self.nodes c.run_turn.new.turns.nodes c.picks.turns.line c.take-key.new.self.line
     c.run_turn.new.turns.line c.picks.grounds c.run_turn.new.grounds c.picks.invariant
+    c.take-key.ensures.nodes c.take-key.ensures.len c.in_ok-told.ensures.less in
+    omega (arith, less, c.picks.invariant.less)
+
+pub returns-in_default-clause-fewer : goal.returns-in_default-clause-fewer
+returns-in_default-clause-fewer g c = λ tells.
+    let less = taken_less g.N.Node.nodes g.D.Disk.bytes g.D.Disk.faults g.D.Disk.image g.N.Staged.over c.args.turns.now.nodes
+    c.args.turns.now.line c.args.grounds.now c.picks.turns.nodes c.take-key.new.self.nodes c.run_turn.new.turns.nodes
+    c.picks.turns.line c.take-key.new.self.line c.run_turn.new.turns.line c.picks.grounds c.run_turn.new.grounds c.picks.invariant
     c.take-key.ensures.nodes c.take-key.ensures.len c.in_ok-told.ensures.less in
     omega (arith, less, c.picks.invariant.less)
 
@@ -67,12 +75,13 @@ returns-in_default-clause-setting g c = c.run_turn.ensures.same.setting_same ∙
 
 pub issue_group-requires-clause-going : goal.issue_group-requires-clause-going
 issue_group-requires-clause-going g c =
-    run_some g.N.Node.nodes g.D.Disk.bytes g.D.Disk.image c.args.turns.now.nodes c.args.turns.now.line c.args.grounds.now
+    run_some g.N.Node.nodes g.D.Disk.bytes g.D.Disk.faults g.D.Disk.image c.args.turns.now.nodes c.args.turns.now.line c.args.grounds.now
     c.picks.turns.nodes c.picks.turns.line c.picks.grounds c.picks.invariant.gone c.requires.going
 
 pub picks-preserved : goal.picks-preserved
 picks-preserved g c =
-    drive_issued g.N.Node.nodes g.D.Disk.bytes g.D.Disk.image g.N.Staged.over c.args.turns.now.nodes c.args.turns.now.line
+    drive_issued g.N.Node.nodes g.D.Disk.bytes g.D.Disk.faults g.D.Disk.image g.N.Staged.over c.args.turns.now.nodes c.args.turns.now.line
     c.args.grounds.now c.picks.turns.nodes c.issue_group.new.turns.nodes c.picks.turns.line c.issue_group.new.turns.line
     c.picks.grounds c.issue_group.new.grounds c.picks.invariant c.in_ok-issue_group.ensures.issues
-    c.in_ok-issue_group.ensures.over c.issue_group.ensures.desk c.issue_group.ensures.setting c.in_ok-issue_group.ensures.less
+    c.in_ok-issue_group.ensures.over c.issue_group.ensures.desk c.issue_group.ensures.setting
+    c.in_ok-issue_group.ensures.handled.steady c.in_ok-issue_group.ensures.less

@@ -4,7 +4,7 @@ use Rattle.zio_graph.proofs.drive.run_on.Given as goal
 
 abbrev pub invariant-picks : goal.invariant-picks
 invariant-picks g l =
-    IsDriving g.N.Node.nodes g.D.Disk.bytes g.D.Disk.image g.N.Staged.over l.initial.turns.nodes l.initial.turns.line
+    IsDriving g.N.Node.nodes g.D.Disk.bytes g.D.Disk.faults g.D.Disk.image g.N.Staged.over l.initial.turns.nodes l.initial.turns.line
     l.initial.grounds l.turns.nodes l.turns.line l.grounds
 
 abbrev pub decreases-picks : goal.decreases-picks

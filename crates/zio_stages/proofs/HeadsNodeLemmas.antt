@@ -10,27 +10,29 @@ use Rattle.zio_blkptr.specs.declared.pointer.Bp.{Bp}
 use Rattle.zio_gang.specs.Attempts.{Terms}
 use Rattle.zio_trace.specs.Conflicts.{is_single}
 use Rattle.zio_trace.specs.Leaves.{Answer}
-use Rattle.zio_trace.specs.Plans.{head_task}
+use Rattle.zio_trace.specs.Plans.{TaskPlan, head_task, plan}
 use Rattle.zio_trace.specs.Tasks.{ByClaim, ByKept, Look, Task, Value, Walked}
-use Rattle.zio_frames.specs.Frames.{Child, Frame, Inner, OfInner, OfOuter, Seat as SeatOf, Stack, kind_of_task, with_asked, with_slot}
-use Rattle.zio_frames.specs.Moves.{AsksNext, child_ended, heard_of, set_at}
-use Rattle.zio_frames.specs.Seats.{HasSeat, IsInnerSeat, IsSatAt, IsSeated, SitsAt, asked_at, slot_at}
+use Rattle.zio_frames.specs.Answering.{NextAnswered}
+use Rattle.zio_frames.specs.Frames.{Child, Frame, Inner, OfInner, OfOuter, Seat as SeatOf, Stack, kind_of_task, left_of, needs_none, with_asked, with_slot}
+use Rattle.zio_frames.specs.Moves.{AsksNext, GoesBesideAll, child_ended, child_told, heard_early, heard_of, set_at}
+use Rattle.zio_frames.specs.Seats.{HasSeat, IsInnerSeat, IsSatAt, IsSeated, ShowsTold, SitsAt, asked_at, slot_at}
 use Rattle.zio_frames.specs.Slots.{Heard, IsOut, Slot, told_in}
 use Rattle.zio_frames.proofs.GetLemmas.{all_at, get_either, get_exchanged}
 use Rattle.zio_parts.specs.HeadWalks.{look_of, member_slot, named_by, slots_of, walk_slots}
 use Rattle.zio_parts.specs.declared.head_walk.Header.{Header}
 use Rattle.zio_parts.specs.declared.head_walk.Header.TheVariants.{Unread, Out, Failed, Read}
-use Rattle.zio_stages.specs.HeadsNodes.{HearsBelow, HearsHead, IsHeadsNode}
+use Rattle.zio_stages.specs.HeadsNodes.{HearsBelow, HearsHead, IsHeadsNode, with_slots}
 use Rattle.zio_stages.specs.HeadsWorks.{IsAskedOf, IsHeadsWork, read_task, walk_task}
 use Rattle.zio_stages.specs.NodeChildren.{is_owing, new_child}
 use Rattle.zio_stages.specs.Outcomes.{ClaimsInside, IsReading, IsWalk}
-use Rattle.zio_stages.specs.OwnParts.{HandsTo, HearsValue, IsOwed}
+use Rattle.zio_stages.specs.OwnParts.{HandsTo, HearsValue, IsOwed, ToldSince}
 use Rattle.zio_stages.specs.declared.heads.HeadRead.{HeadRead}
 use Rattle.zio_stages.specs.declared.heads.HeadRead.TheVariants.{Kept, Claimed}
 use Rattle.zio_stages.specs.declared.heads.HeadsWork.{HeadsWork}
 use Rattle.zio_stages.specs.declared.heads_node.HeadsNode.{HeadsNode}
 use Rattle.zio_stages.proofs.NodeIoMoves.{any_at, some_out}
 use Rattle.zio_stages.proofs.RequestSits.{get_within}
+use Rattle.zio_stages.proofs.ToldLemmas.{next_since, none_since, since_count, since_left, since_length, since_out, since_set, since_told}
 
 -- ---- it hands out
 
@@ -44,36 +46,59 @@ flat_is st e = λ i. record { outer = st.outer; inner = sym e i; children = st.c
 single_walk : (look : Look) (w : HeadsWork) (op : Task) → op ≡ walk_task look w → is_single op ≡ false
 single_walk look w op e = ap is_single e
 
+beside_since : (op : Task) (asked : List Task) (xs ys : List Slot) → ToldSince xs ys → GoesBesideAll op asked xs → GoesBesideAll op asked ys
+beside_since op [] xs ys h b = tt
+beside_since op (q ∷ asked) [] [] h b = tt
+beside_since op (q ∷ asked) [] (y ∷ ys) h b = absurd h
+beside_since op (q ∷ asked) (x ∷ xs) [] h b = absurd h
+beside_since op (q ∷ asked) (Heard v ∷ xs) (Heard w ∷ ys) h b = beside_since op asked xs ys h.1 b
+beside_since op (q ∷ asked) (Heard v ∷ xs) (IsOut told ∷ ys) h b = absurd h
+beside_since op (q ∷ asked) (IsOut out ∷ xs) (Heard w ∷ ys) h b = absurd h
+beside_since op (q ∷ asked) (IsOut None ∷ xs) (IsOut told ∷ ys) h b = (b.0, beside_since op asked xs ys h b.1)
+beside_since op (q ∷ asked) (IsOut (Some pointer) ∷ xs) (IsOut told ∷ ys) h b = (b.0, beside_since op asked xs ys h.1 b.1)
+
+-- what is asked next is so too where some told since
+asks_told : (t : Terms) (x : Frame) (begun : List Slot) (op : Task) → ToldSince begun x.slots → AsksNext t (with_slots x begun) op → AsksNext t x op
+asks_told t x begun op since asks = record {
+  next = subst (λ (p : TaskPlan Value). NextAnswered (told_in x.slots) p op) (sym (since_left begun x.slots (plan t x.op) since))
+      (next_since begun x.slots (left_of t (with_slots x begun)) op since asks.next);
+  beside = beside_since op x.asked begun x.slots since asks.beside;
+}
+
 -- what it is of a walk, where one more is handed out
 hands_flat : (t : Terms) (old new : HeadsNode) (IsChild : Task → Type 0) (op : Task) (o : Frame) (cs : List Child) (h : IsHeadsNode t old (flat o cs))
-    → AsksNext t o op → kind_of_task op ≡ Gang → IsChild op → IsHeadsWork t new.work (with_asked o op (IsOut None))
-    → new.family ≡ old.family ++ new_child (OfOuter (length o.slots)) Gang ∷ []
+    → AsksNext t (with_slots o h.begun) op → kind_of_task op ≡ Gang → IsChild op → IsHeadsWork t new.work (with_asked (with_slots o h.begun) op (IsOut None))
+    → new.family ≡ old.family ++ new_child (OfOuter (length h.begun)) Gang ∷ []
     → ((n : ℕ) (q : Task) (left : Walked) → slice_get (o.asked ++ op ∷ []) (suc n) ≡ Some q → slice_get new.work.walk.members n ≡ Some (Some left) → ClaimsInside t q left)
     → HandsTo t Gang IsChild (IsHeadsNode t new) (flat o cs)
 hands_flat t old new IsChild op o cs h asks kind child part family inside = record {
   op = op;
   part = single_walk (look_of old.work.walk.claim h.part.heads) old.work o.op h.part.op;
-  asks = asks;
+  asks = asks_told t o h.begun op h.since asks;
   of_kind = kind;
   child_is = child;
   after = record {
-    children = family ∙ ap (λ (xs : List Child). xs ++ new_child (OfOuter (length o.slots)) Gang ∷ []) h.children
+    children = family ∙ ap (λ (xs : List Child). xs ++ new_child (OfOuter (length h.begun)) Gang ∷ []) h.children
+        ∙ ap (λ (n : ℕ). cs ++ new_child (OfOuter n) Gang ∷ []) (since_length h.begun o.slots h.since)
         ∙ ap (λ (k : ChildKind). cs ++ new_child (OfOuter (length o.slots)) k ∷ []) (sym kind);
     alone = refl;
+    begun = h.begun ++ IsOut None ∷ [];
+    since = since_out h.begun o.slots h.since;
     part = part;
     inside = inside;
   };
 }
 
 pub hands : (t : Terms) (old new : HeadsNode) (IsChild : Task → Type 0) (op : Task) (st : Stack) (h : IsHeadsNode t old st)
-    → AsksNext t st.outer op → kind_of_task op ≡ Gang → IsChild op → IsHeadsWork t new.work (with_asked st.outer op (IsOut None))
-    → new.family ≡ old.family ++ new_child (OfOuter (length st.outer.slots)) Gang ∷ []
+    → AsksNext t (with_slots st.outer h.begun) op → kind_of_task op ≡ Gang → IsChild op → IsHeadsWork t new.work (with_asked (with_slots st.outer h.begun) op (IsOut None))
+    → new.family ≡ old.family ++ new_child (OfOuter (length h.begun)) Gang ∷ []
     → ((n : ℕ) (q : Task) (left : Walked) → slice_get (st.outer.asked ++ op ∷ []) (suc n) ≡ Some q → slice_get new.work.walk.members n ≡ Some (Some left) → ClaimsInside t q left)
     → HandsTo t Gang IsChild (IsHeadsNode t new) st
 hands t old new IsChild op st h asks kind child part family inside =
     let same : flat st.outer st.children ≡ st = flat_is st h.alone in
     subst (λ (s : Stack). HandsTo t Gang IsChild (IsHeadsNode t new) s) same
-    (hands_flat t old new IsChild op st.outer st.children (subst (λ (s : Stack). IsHeadsNode t old s) (sym same) h) asks kind child part family inside)
+    (hands_flat t old new IsChild op st.outer st.children
+    (record { children = h.children; alone = refl; begun = h.begun; since = h.since; part = h.part; inside = h.inside }) asks kind child part family inside)
 
 -- nothing stands before the header's read
 pub inside_first : (t : Terms) (asked : List Task) (op : Task) (members : List (Option Walked)) → length asked ≡ 0
@@ -109,11 +134,11 @@ owes_done kind ended e f = ap (λ (k : ChildKind). same_kind k Gang && not ended
 not_within : (inner : Option Inner) (seat : SeatOf) → inner ≡ None → IsInnerSeat inner seat → ⊥
 not_within inner seat e h = subst (λ (i : Option Inner). IsInnerSeat i seat) e h
 
-pub gang_owed : (t : Terms) (node : HeadsNode) (st : Stack) → IsHeadsNode t node st → IsSeated st → 0 < length (told_in st.outer.slots) → IsOwed Gang Done st
+pub gang_owed : (t : Terms) (node : HeadsNode) (st : Stack) → (h : IsHeadsNode t node st) → IsSeated st → 0 < length (told_in h.begun) → IsOwed Gang Done st
 gang_owed t node st h seated some = by (seated.all (OfOuter out.0) out.1 out.2)
   where
     out : (n : ℕ) × (told : Option (Option Bp)) × (slice_get st.outer.slots n ≡ Some (IsOut told))
-    out = some_out st.outer.slots some
+    out = some_out st.outer.slots (omega (arith, some, since_count h.begun st.outer.slots h.since))
 
     by : IsInnerSeat st.inner (OfOuter out.0) ⊎ IsSatAt st (OfOuter out.0) → IsOwed Gang Done st
     by (inl i) = absurd (not_within st.inner (OfOuter out.0) h.alone i)
@@ -143,6 +168,21 @@ out_none (Read bytes) members (suc k) told e = below members k e
     below (Some w ∷ ms) zero e = absurd (cc)
     below (x ∷ ms) (suc n) e = below ms n e
 
+-- what is out now was out before
+out_since : (xs ys : List Slot) (n : ℕ) (told : Option (Option Bp)) → ToldSince xs ys → slice_get ys n ≡ Some (IsOut told)
+    → (before : Option (Option Bp)) × (slice_get xs n ≡ Some (IsOut before))
+out_since [] [] n told h e = absurd (cc)
+out_since [] (y ∷ ys) n told h e = absurd h
+out_since (x ∷ xs) [] n told h e = absurd h
+out_since (Heard v ∷ xs) (Heard w ∷ ys) zero told h e = absurd (cc)
+out_since (Heard v ∷ xs) (Heard w ∷ ys) (suc n) told h e = out_since xs ys n told h.1 e
+out_since (Heard v ∷ xs) (IsOut now ∷ ys) n told h e = absurd h
+out_since (IsOut out ∷ xs) (Heard w ∷ ys) n told h e = absurd h
+out_since (IsOut None ∷ xs) (IsOut now ∷ ys) zero told h e = (None, refl)
+out_since (IsOut None ∷ xs) (IsOut now ∷ ys) (suc n) told h e = out_since xs ys n told h e
+out_since (IsOut (Some pointer) ∷ xs) (IsOut now ∷ ys) zero told h e = (Some pointer, refl)
+out_since (IsOut (Some pointer) ∷ xs) (IsOut now ∷ ys) (suc n) told h e = out_since xs ys n told h.1 e
+
 -- where its child sits, which has that operation
 pub record Sits (node : HeadsNode) (st : Stack) (c : Child) (op : Task) : Type 0 where
   pub number : ℕ
@@ -164,7 +204,8 @@ sits t tops node st n c op v h hears = by (all_at (HasSeat st) st.children n c h
     sit (OfOuter k) told e slot asked = record {
       number = k;
       seat = e;
-      out = out_none node.work.walk.header node.work.walk.members k told (ap (λ (xs : List Slot). slice_get xs k) (sym h.part.slots) ∙ slot);
+      out = let before = out_since h.begun st.outer.slots k told h.since slot in
+          out_none node.work.walk.header node.work.walk.members k before.0 (ap (λ (xs : List Slot). slice_get xs k) (sym h.part.slots) ∙ before.1);
       asked = asked;
     }
 
@@ -218,7 +259,7 @@ sits_later t tops node st n c op v left h =
 
 -- its operation is heard
 pub heard_at : (t : Terms) (old new : HeadsNode) (st : Stack) (child k : ℕ) (c : Child) (v : Value) (h : IsHeadsNode t old st) → c.seat ≡ OfOuter k
-    → new.family ≡ slice_set old.family child (child_ended c) → IsHeadsWork t new.work (with_slot st.outer k (Heard v))
+    → new.family ≡ slice_set old.family child (child_ended c) → IsHeadsWork t new.work (with_slot (with_slots st.outer h.begun) k (Heard v))
     → ((n : ℕ) (op : Task) (left : Walked) → slice_get st.outer.asked (suc n) ≡ Some op → slice_get new.work.walk.members n ≡ Some (Some left) → ClaimsInside t op left)
     → IsHeadsNode t new (heard_of st child c v)
 heard_at t old new st child k c v h seat family part inside =
@@ -226,9 +267,49 @@ heard_at t old new st child k c v h seat family part inside =
     subst P (sym seat) (record {
       children = family ∙ ap (λ (cs : List Child). slice_set cs child (child_ended c)) h.children;
       alone = h.alone;
+      begun = slice_set h.begun k (Heard v);
+      since = since_set h.begun st.outer.slots k v h.since;
       part = part;
       inside = inside;
     })
+
+-- its child told, and nothing else of it changed
+pub told_at : (t : Terms) (old new : HeadsNode) (st : Stack) (child k : ℕ) (c : Child) (pointer : Option Bp) (h : IsHeadsNode t old st) → c.seat ≡ OfOuter k
+    → slice_get st.outer.slots k ≡ Some (IsOut None) → new.work ≡ old.work → new.family ≡ slice_set old.family child (child_told c)
+    → IsHeadsNode t new (heard_early st child c pointer)
+told_at t old new st child k c pointer h seat out work family =
+    let P : SeatOf → Type 0 = λ s. IsHeadsNode t new (record { outer = (set_at st s (IsOut (Some pointer))).outer; inner = (set_at st s (IsOut (Some pointer))).inner; children = slice_set st.children child (child_told c) }) in
+    subst P (sym seat) (record {
+      children = family ∙ ap (λ (cs : List Child). slice_set cs child (child_told c)) h.children;
+      alone = h.alone;
+      begun = h.begun;
+      since = since_told h.begun st.outer.slots k pointer (none_since h.begun st.outer.slots k h.since out) h.since;
+      part = subst (λ (w : HeadsWork). IsHeadsWork t w (with_slots st.outer h.begun)) (sym work) h.part;
+      inside = subst (λ (w : HeadsWork). (n : ℕ) (op : Task) (left : Walked) → slice_get st.outer.asked (suc n) ≡ Some op → slice_get w.walk.members n ≡ Some (Some left) → ClaimsInside t op left) (sym work) h.inside;
+    })
+
+-- where a child sits that told nothing
+pub record SitsUntold (st : Stack) (c : Child) : Type 0 where
+  pub number : ℕ
+  pub seat : c.seat ≡ OfOuter number
+  pub out : slice_get st.outer.slots number ≡ Some (IsOut None)
+
+untold_none : (told : Option (Option Bp)) (needs : Bool) → ShowsTold needs false told → told ≡ None
+untold_none None needs h = refl
+untold_none (Some pointer) true h = absurd h
+untold_none (Some pointer) false h = absurd h
+
+pub sits_untold : (t : Terms) (node : HeadsNode) (st : Stack) (n : ℕ) (c : Child) → IsHeadsNode t node st → IsSeated st → slice_get st.children n ≡ Some c
+    → c.ended ≡ false → c.told ≡ false → SitsUntold st c
+sits_untold t node st n c h seated there goes untold = by (all_at (HasSeat st) st.children n c seated.each there goes)
+  where
+    sit : (seat : SeatOf) (told : Option (Option Bp)) → c.seat ≡ seat → slot_at st seat ≡ Some (IsOut told) → told ≡ None → SitsUntold st c
+    sit (OfInner k) told e slot none = absurd (no_inner st k told h.alone slot)
+    sit (OfOuter k) told e slot none = record { number = k; seat = e; out = slot ∙ ap (λ (o : Option (Option Bp)). Some (IsOut o)) none }
+
+    by : (q : Task) × (told : Option (Option Bp)) × SitsAt st c q told → SitsUntold st c
+    by (q, told, s) =
+        sit c.seat told refl s.slot (untold_none told (needs_none c.kind) (subst (λ (b : Bool). ShowsTold (needs_none c.kind) b told) untold s.shows))
 
 -- the walk below a member is, with what it left
 pub inside_heard : (t : Terms) (asked : List Task) (members : List (Option Walked)) (k : ℕ) (op : Task) (walked : Walked) → slice_get asked (suc k) ≡ Some op → ClaimsInside t op walked

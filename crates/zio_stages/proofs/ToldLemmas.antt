@@ -62,7 +62,7 @@ since_all_heard (IsOut out ∷ xs) ys h none = absurd (cc)
 -- ---- what is asked behind them
 
 -- what one more told is known then too
-next_since : {A : Type 0} (xs ys : List Slot) (p : TaskPlan A) (op : Task) → ToldSince xs ys → NextAnswered (told_in xs) p op → NextAnswered (told_in ys) p op
+pub next_since : {A : Type 0} (xs ys : List Slot) (p : TaskPlan A) (op : Task) → ToldSince xs ys → NextAnswered (told_in xs) p op → NextAnswered (told_in ys) p op
 next_since [] [] p op h n = n
 next_since [] (y ∷ ys) p op h n = absurd h
 next_since (x ∷ xs) [] p op h n = absurd h

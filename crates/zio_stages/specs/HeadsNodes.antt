@@ -1,5 +1,5 @@
 -- The walk over a block's headers, or over a claim's, as a node that does all of it by children.
-use Rattle.std.specs.Prelude.{◌≡◌, ℕ, suc, ◌≤◌, List, length, slice_get, Bool, true, false, Option, Some, None, IfSome, IsTrue}
+use Rattle.std.specs.Prelude.{◌≡◌, ℕ, suc, ◌+◌, ◌≤◌, List, length, slice_get, Bool, true, false, Option, Some, None, IfSome, IsTrue}
 use Rattle.std.specs.List.{AllByRecursion}
 use Rattle.zio_types.specs.declared.place.Place.{Place}
 use Rattle.zio_types.specs.declared.place.Top.{Top}
@@ -14,8 +14,9 @@ use Rattle.zio_gang.specs.Attempts.{Terms}
 use Rattle.zio_gang.specs.Trees.{kept_at}
 use Rattle.zio_trace.specs.Leaves.{Answer}
 use Rattle.zio_trace.specs.Tasks.{Got, Task, Value, Walked, WalkedBy}
-use Rattle.zio_frames.specs.Frames.{Child, Stack, fresh_stack}
+use Rattle.zio_frames.specs.Frames.{Child, Frame, Stack, fresh_stack}
 use Rattle.zio_frames.specs.Seats.{IsSeated}
+use Rattle.zio_frames.specs.Slots.{Slot}
 use Rattle.zio_parts.specs.Copies.{leaves_at}
 use Rattle.zio_parts.specs.HeadWalks.{named_by, slots_of}
 use Rattle.zio_parts.specs.declared.head_walk.Header.{Header}
@@ -23,7 +24,7 @@ use Rattle.zio_parts.specs.declared.head_walk.Header.TheVariants.{Unread}
 use Rattle.zio_stages.specs.CopiesNodes.{IsCopiesNode, IsCopiesOver}
 use Rattle.zio_stages.specs.HeadsWorks.{IsHeadsWork, claim_error}
 use Rattle.zio_stages.specs.Outcomes.{ClaimsInside, IsReading, IsWalk}
-use Rattle.zio_stages.specs.OwnParts.{HandsTo, HearsValue, IsOwed}
+use Rattle.zio_stages.specs.OwnParts.{HandsTo, HearsValue, IsOwed, ToldSince}
 use Rattle.zio_stages.specs.Tops.{AreTops}
 use Rattle.zio_stages.specs.declared.heads.HeadsWork.{HeadsWork}
 use Rattle.zio_stages.specs.declared.heads_node.HeadsNode.{HeadsNode}
@@ -32,12 +33,18 @@ use Rattle.zio_stages.specs.declared.heads_node.WalkStage.TheVariants.{Head as T
 
 -- ---- as a node
 
--- The node's own part is the walk, nothing is within it, and its children do what it asked. Of a walk below a member that
--- was heard all places lie inside the tops, where it is a claim's and met no error.
+-- the part, where these are its slots
+abbrev pub with_slots : Frame → List Slot → Frame
+with_slots x slots = record { op = x.op; asked = x.asked; slots = slots }
+
+-- The node's own part is the walk, nothing is within it, and its children do what it asked, some of which told since that they
+-- have no pointer. Of a walk below a member that was heard all places lie inside the tops, where it is a claim's and met no error.
 pub record IsHeadsNode (t : Terms) (node : HeadsNode) (st : Stack) : Type 0 where
   pub children : node.family ≡ st.children
   pub alone : st.inner ≡ None
-  pub part : IsHeadsWork t node.work st.outer
+  pub begun : List Slot
+  pub since : ToldSince begun st.outer.slots
+  pub part : IsHeadsWork t node.work (with_slots st.outer begun)
   pub inside : (n : ℕ) (op : Task) (left : Walked) → slice_get st.outer.asked (suc n) ≡ Some op →
       slice_get node.work.walk.members n ≡ Some (Some left) → ClaimsInside t op left
 
@@ -100,6 +107,31 @@ IsStageOver tops (Below child) = IsHeadsOver tops child
 IsStageOver tops Wait = Unit {0}
 IsStageOver tops On = Unit {0}
 
+-- so many children, with this one if it is one
+abbrev pub with_kid : WalkStage → ℕ → ℕ
+with_kid (ToHead child) n = n + 1
+with_kid (Below child) n = n + 1
+with_kid Wait n = n
+with_kid On n = n
+
+-- a walk below a member is one level lower, and nothing of it is done
+abbrev pub IsLevelBelow : ℕ → WalkStage → Type 0
+IsLevelBelow levels (ToHead child) = child.io.asked ≡ 0
+IsLevelBelow levels (Below child) = (child.work.walk.levels + 1 ≡ levels) × (length child.family ≡ 0)
+IsLevelBelow levels Wait = Unit {0}
+IsLevelBelow levels On = Unit {0}
+
+-- its header's read, and a walk below each of three members
+abbrev pub walk_kids_max : ℕ
+walk_kids_max = 4
+
+-- a child that is handed out is one of these
+abbrev pub IsFewWith : WalkStage → ℕ → Type 0
+IsFewWith (ToHead child) n = n ≤ walk_kids_max
+IsFewWith (Below child) n = n ≤ walk_kids_max
+IsFewWith Wait n = Unit {0}
+IsFewWith On n = Unit {0}
+
 -- ---- what it hears
 
 -- The child of this number, whose operation is a read of copies, ended with these bytes, or with an error.
@@ -116,6 +148,17 @@ pub record HearsBelow (t : Terms) (tops : List Top) (node : HeadsNode) (st : Sta
   pub of_op : IsWalk op
   pub value_is : v ≡ WalkedBy left
   pub inside : ClaimsInside t op left
+
+-- some walk that it may be, whose child of this number hasn't told
+pub record HearsSomeUntold (node : HeadsNode) (n : ℕ) : Type 0 where
+  pub terms : Terms
+  pub stack : Stack
+  pub child : Child
+  pub is : IsHeadsNode terms node stack
+  pub seated : IsSeated stack
+  pub there : slice_get stack.children n ≡ Some child
+  pub goes : child.ended ≡ false
+  pub untold : child.told ≡ false
 
 pub record HearsSomeHead (tops : List Top) (node : HeadsNode) (n : ℕ) (found : Answer) : Type 0 where
   pub terms : Terms

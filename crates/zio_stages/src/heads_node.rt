@@ -3,15 +3,17 @@
 //! A header is read by a child, and each member that it names is walked by another, which does the same one level down. So
 //! the headers of a level are read beside each other, and no node keeps more than its own.
 
-ghost use Rattle.std.specs.Prelude.{◌≡◌, ◌+◌, ◌<◌, ◌≤◌, IfErr, IfOk, IsTrue, List as Seq, Ok, OnErr, OnOk, length};
+ghost use Rattle.std.specs.Prelude.{◌≡◌, ◌+◌, ◌<◌, ◌≤◌, IfErr, IfOk, IsTrue, List as Seq, Ok, OnErr, OnOk, Option, Some, false, length, slice_get};
 ghost use Rattle.std.specs.List.{AllByRecursion};
 ghost use Rattle.zio_types.specs.declared.place.Top.{Top as SeenTop};
 ghost use Rattle.zio_types.specs.declared.request.ChildKind.TheVariants.{Gang};
+ghost use Rattle.zio_blkptr.specs.declared.pointer.Bp.{Bp as SeenBp};
 ghost use Rattle.zio_blkptr.specs.Pointers.{places_of, valid};
 ghost use Rattle.zio_gang.specs.Attempts.{Terms};
 ghost use Rattle.zio_trace.specs.Tasks.{ByClaim, ByKept, ReadHeads, Task, Value, WalkedBy};
 ghost use Rattle.zio_frames.specs.Frames.{Child, Stack, fresh_stack};
-ghost use Rattle.zio_frames.specs.Moves.{IsEnded, heard_of};
+ghost use Rattle.zio_frames.specs.Moves.{IsEnded, heard_early, heard_of};
+ghost use Rattle.zio_frames.specs.Seats.{IsSeated};
 ghost use Rattle.zio_parts.specs.HeadWalks.{ShowsWalk};
 ghost use Rattle.zio_stages.specs.CopiesNodes.{IsCopiesNode, IsCopiesOver};
 ghost use Rattle.zio_stages.specs.HeadsNodes.{
@@ -19,12 +21,17 @@ ghost use Rattle.zio_stages.specs.HeadsNodes.{
   HearsHead,
   HearsSomeBelow,
   HearsSomeHead,
+  HearsSomeUntold,
+  IsFewWith,
   IsHeadOn,
   IsHeadsNode,
   IsHeadsOver,
+  IsLevelBelow,
   IsStageOver,
   IsWalkStage,
   LiesOn,
+  walk_kids_max,
+  with_kid,
 };
 ghost use Rattle.zio_stages.specs.HeadsWorks.{pointer_in, read_task};
 ghost use Rattle.zio_stages.specs.Outcomes.{ClaimsInside};
@@ -91,6 +98,8 @@ impl HeadsNode {
         requires named { name.path ≡ path }
         ensures fresh { (t : Terms) → IsHeadsNode t result (fresh_stack (ReadHeads (ByKept heads) levels path bp)) }
         ensures over { (tops : Seq SeenTop) → LiesOn tops bp → AllByRecursion (IsHeadOn tops) heads → IsHeadsOver tops result }
+        ensures levels { result.work.walk.levels ≡ levels }
+        ensures count { length result.family ≡ 0 }
     {
         HeadsNode {
             work: HeadsWork::kept(alloc, levels, path, bp, heads),
@@ -117,6 +126,8 @@ impl HeadsNode {
         ensures fresh { (t : Terms) → t.setting.tops ≡ tops.now →
             IsHeadsNode t result (fresh_stack (ReadHeads ByClaim levels path bp)) }
         ensures over { IsHeadsOver tops.now result }
+        ensures levels { result.work.walk.levels ≡ levels }
+        ensures count { length result.family ≡ 0 }
     {
         HeadsNode {
             work: HeadsWork::claimed(alloc, tops, levels, path, bp),
@@ -136,6 +147,10 @@ impl HeadsNode {
         ensures on { result ≡ Ok WalkStage.On → (self.new ≡ self.old) × ShowsWalk self.new.work.walk WalkStep.End }
         ensures over { IsHeadsOver tops.now self.new }
         ensures child_over { IfOk result (IsStageOver tops.now) }
+        ensures count { IfOk result (λ stage. length self.new.family ≡ with_kid stage (length self.old.family)) }
+        ensures few { IfOk result (λ stage. IsFewWith stage (length self.new.family)) }
+        ensures levels { self.new.work.walk.levels ≡ self.old.work.walk.levels }
+        ensures below { IfOk result (IsLevelBelow self.old.work.walk.levels) }
         ensures err { OnErr result (self.new ≡ self.old) }
     {
         match self.work.next() {
@@ -160,6 +175,10 @@ impl HeadsNode {
             HandsTo t Gang (λ op. IsCopiesNode t child (fresh_stack op)) (IsHeadsNode t self.new) st) }
         ensures over { IsHeadsOver tops.now self.new }
         ensures child_over { IfOk result (IsCopiesOver tops.now) }
+        ensures count { OnOk result (length self.new.family ≡ length self.old.family + 1) }
+        ensures few { OnOk result (length self.new.family ≤ walk_kids_max) }
+        ensures levels { self.new.work.walk.levels ≡ self.old.work.walk.levels }
+        ensures fresh { IfOk result (λ child. child.io.asked ≡ 0) }
         ensures err { OnErr result (self.new ≡ self.old) }
     {
         let places = places_of(alloc, &self.work.pointer())?;
@@ -183,6 +202,11 @@ impl HeadsNode {
             HandsTo t Gang (λ op. IsHeadsNode t child (fresh_stack op)) (IsHeadsNode t self.new) st) }
         ensures over { IsHeadsOver tops.now self.new }
         ensures child_over { IfOk result (IsHeadsOver tops.now) }
+        ensures count { OnOk result (length self.new.family ≡ length self.old.family + 1) }
+        ensures few { OnOk result (length self.new.family ≤ walk_kids_max) }
+        ensures levels { self.new.work.walk.levels ≡ self.old.work.walk.levels }
+        ensures below { IfOk result (λ child. child.work.walk.levels + 1 ≡ self.old.work.walk.levels) }
+        ensures fresh { IfOk result (λ child. length child.family ≡ 0) }
         ensures err { OnErr result (self.new ≡ self.old) }
     {
         let heads = self.work.heads_below(alloc, &member.path)?;
@@ -198,6 +222,19 @@ impl HeadsNode {
         })
     }
 
+    /// A child told that its value has no pointer.
+    pub fn arrive_ready(&mut self, child: u32)
+        requires { HearsSomeUntold self.old child }
+        ensures told { (t : Terms) (st : Stack) (c : Child) (pointer : Option SeenBp) → IsHeadsNode t self.old st → IsSeated st →
+            slice_get st.children child ≡ Some c → c.ended ≡ false → c.told ≡ false →
+            IsHeadsNode t self.new (heard_early st child c pointer) }
+        ensures over { (tops : Seq SeenTop) → IsHeadsOver tops self.old → IsHeadsOver tops self.new }
+        ensures count { length self.new.family ≡ length self.old.family }
+        ensures levels { self.new.work.walk.levels ≡ self.old.work.walk.levels }
+    {
+        self.family.tell(child);
+    }
+
     /// The child that reads the header ended: with the header's bytes, or with an error. Where memory is refused the node is
     /// as before.
     pub fn arrive_head(
@@ -205,13 +242,15 @@ impl HeadsNode {
         alloc: Global,
         tops: &[Top],
         child: u32,
-        found: Result<Bytes, Errno>,
+        found: &Result<Bytes, Errno>,
     ) -> Result<(), NoMemory>
         requires over { IsHeadsOver tops.now self.old }
-        requires awaited { HearsSomeHead tops.now self.old child found }
+        requires awaited { HearsSomeHead tops.now self.old child found.now }
         ensures heard { OnOk result ((t : Terms) (st : Stack) (c : Child) (op : Task) (v : Value) →
-            HearsHead t tops.now self.old st child c op v found → IsHeadsNode t self.new (heard_of st child c v)) }
+            HearsHead t tops.now self.old st child c op v found.now → IsHeadsNode t self.new (heard_of st child c v)) }
         ensures over { IsHeadsOver tops.now self.new }
+        ensures count { length self.new.family ≡ length self.old.family }
+        ensures levels { self.new.work.walk.levels ≡ self.old.work.walk.levels }
         ensures err { OnErr result (self.new ≡ self.old) }
     {
         self.work.hear_head(alloc, header_of(found))?;
@@ -226,6 +265,8 @@ impl HeadsNode {
         ensures heard { (t : Terms) (st : Stack) (c : Child) (op : Task) (v : Value) →
             HearsBelow t tops.now self.old st child c op v walked → IsHeadsNode t self.new (heard_of st child c v) }
         ensures over { IsHeadsOver tops.now self.new }
+        ensures count { length self.new.family ≡ length self.old.family }
+        ensures levels { self.new.work.walk.levels ≡ self.old.work.walk.levels }
     {
         let n = self.family.seat(child).number();
         self.work.hear_below(n, walked);
@@ -275,6 +316,7 @@ fn reading(
     requires at { places ≡ places_of (pointer_in read) }
     ensures fresh { (t : Terms) → t.setting.tops ≡ tops.now → IsCopiesNode t result (fresh_stack (read_task read)) }
     ensures over { IsCopiesOver tops.now result }
+    ensures count { result.io.asked ≡ 0 }
 {
     let len = SECTOR_SIZE as usize;
     match read {
@@ -290,13 +332,15 @@ fn reading(
 }
 
 /// What was read of a header, which has 512 bytes.
-fn header_of(found: Result<Bytes, Errno>) -> Result<[u8; 512], Errno>
-    requires { IfOk found (λ bytes. length bytes ≡ 512) }
-    ensures { result ≡ found }
+fn header_of(found: &Result<Bytes, Errno>) -> Result<[u8; 512], Errno>
+    requires { IfOk found.now (λ bytes. length bytes ≡ 512) }
+    ensures { result ≡ found.now }
 {
-    let bytes = found?;
-    match bytes.as_slice().first_chunk::<512>() {
-        Some(header) => Ok(*header),
-        None => unreachable!(),
+    match found {
+        Ok(bytes) => match bytes.as_slice().first_chunk::<512>() {
+            Some(header) => Ok(*header),
+            None => unreachable!(),
+        },
+        Err(error) => Err(*error),
     }
 }

@@ -4,6 +4,7 @@ use Rattle.zio_frames.specs.Frames.{OfOuter, with_slot}
 use Rattle.zio_frames.specs.Moves.{child_ended}
 use Rattle.zio_frames.specs.Slots.{Heard}
 use Rattle.zio_parts.specs.HeadWalks.{Walking, slots_of}
+use Rattle.zio_stages.specs.HeadsNodes.{with_slots}
 use Rattle.zio_stages.specs.HeadsWorks.{IsHeadsWork}
 use Rattle.zio_stages.specs.NodeChildren.{seat_of}
 use Rattle.zio_stages.specs.declared.family.Layer.TheVariants.{Own}
@@ -55,7 +56,7 @@ returns-clause-heard c = λ t st x op v h.
     let before : suc (n - 1) ≡ s.sits.number = omega (arith, s.later, number) in
     let members = ap (λ (k : Walking). k.members) c.hear_below.ensures.walk in
     heard_at t old new st c.args.child n x v h.node_is (s.sits.seat ∙ ap OfOuter (sym number)) (ended_is old.family new.family c.args.child x there c.end.ensures)
-    (subst (λ (y : Value). IsHeadsWork t new.work (with_slot st.outer n (Heard y))) (sym h.value_is) (c.hear_below.ensures.heard t st.outer h.node_is.part))
+    (subst (λ (y : Value). IsHeadsWork t new.work (with_slot (with_slots st.outer h.node_is.begun) n (Heard y))) (sym h.value_is) (c.hear_below.ensures.heard t (with_slots st.outer h.node_is.begun) h.node_is.part))
     (λ m q left e is. inside_heard t st.outer.asked old.work.walk.members (n - 1) op c.args.walked (ap (λ k. slice_get st.outer.asked k) before ∙ s.sits.asked) h.inside h.node_is.inside m q left e (ap (λ ms. slice_get ms m) (sym members) ∙ is))
 
 pub returns-clause-over : goal.returns-clause-over

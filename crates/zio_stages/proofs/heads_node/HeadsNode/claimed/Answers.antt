@@ -1,10 +1,10 @@
-use Rattle.std.proofs.Common.{true, refl}
+use Rattle.std.proofs.Common.{[], true, refl}
 use Rattle.zio_stages.specs.declared.heads_node.HeadsNode.{HeadsNode}
 use Rattle.zio_stages.proofs.HeadsOver.{claim_fresh, fresh_over}
 use Rattle.zio_stages.proofs.heads_node.HeadsNode.claimed.Goals as goal
 
 pub returns-clause-fresh : goal.returns-clause-fresh
-returns-clause-fresh c = λ t tops. record { children = c.new.ensures; alone = refl; part = c.claimed.ensures.fresh t tops; inside = λ n op left e is. absurd (cc) }
+returns-clause-fresh c = λ t tops. record { children = c.new.ensures; alone = refl; begun = []; since = tt; part = c.claimed.ensures.fresh t tops; inside = λ n op left e is. absurd (cc) }
 
 pub returns-clause-over : goal.returns-clause-over
 returns-clause-over c =

@@ -7,6 +7,7 @@ use Rattle.zio_frames.specs.Frames.{OfOuter, fresh_stack}
 use Rattle.zio_frames.specs.Slots.{Slot}
 use Rattle.zio_parts.specs.HeadWalks.{slots_of, walk_slots}
 use Rattle.zio_stages.specs.CopiesNodes.{IsCopiesNode}
+use Rattle.zio_stages.specs.HeadsNodes.{with_slots}
 use Rattle.zio_stages.specs.HeadsWorks.{read_task}
 use Rattle.zio_stages.specs.NodeChildren.{new_child}
 use Rattle.zio_stages.specs.WriteIos.{AreIoPlaces}
@@ -54,9 +55,9 @@ returns-clause-hands c = λ t st tops h.
     let old = c.args.self.now in
     let read = c.hand_out_head-read.result in
     let new : HeadsNode = record { work = c.hand_out_head-read.new.self; family = c.add.new.self; name = old.name; prio = old.prio } in
-    let parts = c.hand_out_head-read.ensures.hands t st.outer h.part in
-    let none : length st.outer.slots ≡ 0 = ap (λ (xs : List Slot). length xs) h.part.slots ∙ ap (λ k. length (walk_slots k old.work.walk.members)) c.requires.step.0 in
-    let family : c.add.new.self ≡ old.family ++ new_child (OfOuter (length st.outer.slots)) Gang ∷ [] =
+    let parts = c.hand_out_head-read.ensures.hands t (with_slots st.outer h.begun) h.part in
+    let none : length h.begun ≡ 0 = ap (λ (xs : List Slot). length xs) h.part.slots ∙ ap (λ k. length (walk_slots k old.work.walk.members)) c.requires.step.0 in
+    let family : c.add.new.self ≡ old.family ++ new_child (OfOuter (length h.begun)) Gang ∷ [] =
     c.in_ok-add.ensures.ok ∙ ap (λ n. old.family ++ new_child (OfOuter n) Gang ∷ []) (sym none) in
     hands t old new (λ op. IsCopiesNode t c.reading.result (fresh_stack op)) (read_task read) st h parts.0 (read_kind read) (c.reading.ensures.fresh t tops) parts.1 family
     (inside_first t st.outer.asked (read_task read) new.work.walk.members (h.part.full.lengths ∙ none))

@@ -1,0 +1,5 @@
+pub mod BoundLemmas
+pub mod CopiesLemmas
+pub mod LeafLemmas
+pub mod NodeLemmas
+pub mod StageLemmas

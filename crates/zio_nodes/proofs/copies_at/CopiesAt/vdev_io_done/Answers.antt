@@ -1,0 +1,24 @@
+use Rattle.std.proofs.Common.{ap, false, refl, subst, sym, ◌∙◌}
+use Rattle.zio_masks.specs.declared.stage.Stage.{Stage}
+use Rattle.zio_nodes.specs.CopiesAts.{ReadStands}
+use Rattle.zio_nodes.specs.Told.{is_told}
+use Rattle.zio_nodes.proofs.BoundLemmas.{vdev_counts}
+use Rattle.zio_nodes.proofs.CopiesLemmas.{copies_go}
+use Rattle.zio_nodes.proofs.StageLemmas.{read_done}
+use Rattle.zio_nodes.proofs.copies_at.CopiesAt.vdev_io_done.Goals as goal
+
+pub returns-in-Wait-clause-moves : goal.returns-in-Wait-clause-moves
+returns-in-Wait-clause-moves c = λ t st now. record {
+  stays = record { is = now.is; told = refl; gave_same = refl; no_calls = refl };
+  owing = vdev_counts st.children (c.vdev_io_done.ensures.waits c.in-Wait.is t st now.tops_are now.seated now.is.read);
+}
+
+pub returns-in-On-clause-moves : goal.returns-in-On-clause-moves
+returns-in-On-clause-moves c = λ t st now.
+    copies_go t st c.args.self _ now.is.read now.is.answers (ap is_told (read_done c.next.result c.next.ensures) ∙ sym (ap is_told c.requires.stage))
+
+pub returns-in-On-clause-over : goal.returns-in-On-clause-over
+returns-in-On-clause-over c = record {
+  over = c.requires.over.over;
+  stands = subst (λ (s : Stage). ReadStands c.args.tops.now s false c.args.self.node.io) (sym (read_done c.next.result c.next.ensures)) (c.vdev_io_done.ensures.due c.in-On.is);
+}

@@ -1,0 +1,18 @@
+use Rattle.std.proofs.Common.{◌≡◌, subst, sym, ◌∙◌}
+use Rattle.zio_stages.specs.declared.outcome.Outcome.TheVariants.{Finished, Found}
+use Rattle.zio_graph.specs.Stages.{Hears, HearsSome}
+use Rattle.zio_nodes.specs.Nodes.{nodes}
+use Rattle.zio_nodes.specs.declared.node.Node.{Node}
+use Rattle.zio_nodes.proofs.CopiesLemmas.{hears_answer}
+use Rattle.zio_nodes.proofs.node.Node.arrive.Goals as goal
+
+pub returns-clause-heard : goal.returns-clause-heard
+returns-clause-heard c = λ t st d op v h.
+    c.arrive.ensures.heard t st d op v (subst (λ (n : Node). Hears {N = Node} nodes c.args.tops.now t n st c.args.child d op c.args.outcome v) c.in-Copies.is h)
+
+pub returns-clause-kept : goal.returns-clause-kept
+returns-clause-kept c = λ f is.
+    let k = subst (λ (n : Node). HearsSome {N = Node} nodes c.args.tops.now n c.args.child c.args.outcome) c.in-Copies.is c.requires.awaited in
+    let a = hears_answer k.terms c.args.tops.now c.in-Copies.at k.stack c.args.child k.child k.op c.args.outcome k.value k.hears in
+    let no : Finished f ≡ Found a.0 = sym is ∙ a.1 in
+    absurd (cc)

@@ -1,0 +1,43 @@
+use Rattle.std.proofs.Common.{[], refl}
+use Rattle.zio_nodes.proofs.NodeLemmas.{moved_bare, stayed_bare}
+use Rattle.zio_nodes.proofs.node.Node.run_stage.Goals as goal
+use Rattle.zio_nodes.specs.declared.node.Node.TheVariants.{Copies, Leaf}
+
+pub returns-in-Leaf-clause-moves : goal.returns-in-Leaf-clause-moves
+returns-in-Leaf-clause-moves g c =
+    let tops = g.S.Services.tops c.args.services.now in
+    λ move is. (
+      [],
+      g.met.S.Services.made_none c.args.services.now,
+      moved_bare tops tops c.args.self (Leaf c.in-Leaf.at) c.run_stage.result move c.in-Leaf.is refl is (c.run_stage.ensures.moves tops),
+    )
+
+pub returns-in-Leaf-clause-over : goal.returns-in-Leaf-clause-over
+returns-in-Leaf-clause-over g c = c.run_stage.ensures.over (g.S.Services.tops c.args.services.now)
+
+pub returns-in-Leaf-clause-refused : goal.returns-in-Leaf-clause-refused
+returns-in-Leaf-clause-refused g c =
+    let tops = g.S.Services.tops c.args.services.now in
+    λ node is. (
+      [],
+      g.met.S.Services.made_none c.args.services.now,
+      stayed_bare tops tops c.args.self (Leaf c.in-Leaf.at) c.run_stage.result node c.in-Leaf.is refl is (c.run_stage.ensures.refused tops),
+    )
+
+pub returns-in-Copies-clause-moves : goal.returns-in-Copies-clause-moves
+returns-in-Copies-clause-moves g c =
+    let tops = g.S.Services.tops c.args.services.now in
+    λ move is. (
+      [],
+      g.met.S.Services.made_none c.args.services.now,
+      moved_bare tops c.tops.result.now c.args.self (Copies c.in-Copies.at) c.run_stage-in-Copies.result move c.in-Copies.is c.tops.ensures is c.run_stage-in-Copies.ensures.moves,
+    )
+
+pub returns-in-Copies-clause-refused : goal.returns-in-Copies-clause-refused
+returns-in-Copies-clause-refused g c =
+    let tops = g.S.Services.tops c.args.services.now in
+    λ node is. (
+      [],
+      g.met.S.Services.made_none c.args.services.now,
+      stayed_bare tops c.tops.result.now c.args.self (Copies c.in-Copies.at) c.run_stage-in-Copies.result node c.in-Copies.is c.tops.ensures is c.run_stage-in-Copies.ensures.refused,
+    )

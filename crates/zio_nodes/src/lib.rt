@@ -1,0 +1,16 @@
+//! The nodes of a round, each at a stage of its pipeline: one call runs the stage where a node stands.
+//!
+//! It stands on `zio_stages`, which has the work of the stages, and on `zio_graph`, whose engine runs nodes and says what a
+//! stage may come to. Read `Node` first, then `run_stage` of each kind. Contracts see how far a node is, whether it told its
+//! pointer, and how often it runs at most (`specs/Nodes`).
+#![tactic(auto)]
+
+mod copies_at;
+mod laws;
+mod leaf_at;
+mod node;
+
+pub use copies_at::CopiesAt;
+pub use laws::{no_node_asks_for_places, operations_on_leaves_tell_nothing};
+pub use leaf_at::LeafAt;
+pub use node::Node;

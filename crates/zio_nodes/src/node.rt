@@ -1,0 +1,91 @@
+//! A node of any kind: its stages, and what it hears.
+
+ghost use Rattle.std.specs.Prelude.{◌≡◌, ◌+◌, ◌≤◌, Err, IfOk, IfSome, List as Seq, Ok, Some};
+ghost use Rattle.zio_types.specs.declared.place.Top.{Top as SeenTop};
+ghost use Rattle.zio_gang.specs.Attempts.{Terms};
+ghost use Rattle.zio_trace.specs.Leaves.{Answer, LeafOp};
+ghost use Rattle.zio_trace.specs.Tasks.{Got, Leaf, Task, Value};
+ghost use Rattle.zio_frames.specs.Frames.{Child, Stack, fresh_stack};
+ghost use Rattle.zio_frames.specs.Moves.{done_at_once, heard_of};
+ghost use Rattle.zio_stages.specs.SpaceCalls.{SpaceCall};
+ghost use Rattle.zio_stages.specs.declared.outcome.Outcome.{Outcome as SeenOutcome};
+ghost use Rattle.zio_graph.specs.Stages.{EachIn, GoesOn, Hears, HearsSome, IsMove, IsNow, Lessens, ShowsAnswer, TellsValid, heard_max};
+ghost use Rattle.zio_nodes.specs.Nodes.{IsNode, IsNodeOver, gave_of, left_of, nodes, told_of};
+
+use crate::copies_at::CopiesAt;
+use crate::leaf_at::LeafAt;
+use std::alloc::Global;
+use zio_graph::{BothBack, Move};
+use zio_stages::{Finished, Outcome, Services};
+use zio_types::{Bytes, Errno, Top};
+
+/// A node of a round.
+#[derive(Drop)]
+pub enum Node {
+    /// An operation on a leaf.
+    Leaf(LeafAt),
+    /// The read of a block's copies.
+    Copies(CopiesAt),
+}
+
+impl Node {
+    /// Runs one stage. Where memory is refused the node comes back, the stage is to be repeated, and what it did of it stays.
+    /// An operation that its leaf has comes back as it is.
+    pub fn run_stage<S: Services>(self, alloc: Global, services: &mut S) -> Result<Move<Node>, Node>
+        requires { IsNodeOver (S.tops services.old) self }
+        ensures moves { (move : Move Node) → result ≡ Ok move → (calls : Seq SpaceCall) × S.made services.old calls services.new
+            × ((t : Terms) (st : Stack) → IsNow nodes (S.tops services.old) t self st → IsMove nodes gave_of t self st calls move) }
+        ensures over { IfOk result (EachIn (IsNodeOver (S.tops services.old))) }
+        ensures valid { IfOk result TellsValid }
+        ensures left { IfOk result (Lessens left_of self) }
+        ensures refused { (node : Node) → result ≡ Err node → (calls : Seq SpaceCall) × S.made services.old calls services.new
+            × ((t : Terms) (st : Stack) → IsNow nodes (S.tops services.old) t self st → GoesOn nodes gave_of t self st calls node) }
+        ensures tops { S.tops services.new ≡ S.tops services.old }
+    {
+        match self {
+            Node::Leaf(at) => at.run_stage(),
+            Node::Copies(at) => at.run_stage(alloc, services.tops()),
+        }
+    }
+
+    /// The child of this number ended. Of a request that finished this comes back. Where memory is refused both come back.
+    pub fn arrive(
+        self,
+        tops: &[Top],
+        child: u32,
+        outcome: Outcome,
+    ) -> Result<(Node, Option<Finished>), BothBack<Node>>
+        requires over { IsNodeOver tops.now self }
+        requires awaited { HearsSome nodes tops.now self child outcome }
+        ensures heard { IfOk result (λ both. (t : Terms) (st : Stack) (c : Child) (op : Task) (v : Value) →
+            Hears nodes tops.now t self st child c op outcome v → IsNode t both.0 (heard_of st child c v)) }
+        ensures finished { IfOk result (λ both. IfSome both.1 (λ f. outcome ≡ SeenOutcome.Finished f)) }
+        ensures kept { IfOk result (λ both. (f : _) → outcome ≡ SeenOutcome.Finished f → both.1 ≡ Some f) }
+        ensures told { IfOk result (λ both. told_of both.0 ≡ told_of self) }
+        ensures gave { IfOk result (λ both. gave_of both.0 ≡ gave_of self) }
+        ensures over_still { IfOk result (λ both. IsNodeOver tops.now both.0) }
+        ensures left { IfOk result (λ both. left_of both.0 ≤ left_of self + heard_max) }
+    {
+        match self {
+            Node::Leaf(_) => unreachable!(),
+            Node::Copies(at) => Ok((Node::Copies(at.arrive(tops, child, outcome)), None)),
+        }
+    }
+
+    /// The leaf answered: an error or none, and the bytes of a read.
+    pub fn answered(self, error: Option<Errno>, bytes: Bytes) -> Node
+        requires { (t : Terms) × (act : LeafOp) × IsNode t self (fresh_stack (Leaf act)) }
+        ensures heard { (t : Terms) (act : LeafOp) (a : Answer) → IsNode t self (fresh_stack (Leaf act)) →
+            ShowsAnswer act error bytes a →
+            IsNode t result (done_at_once (fresh_stack (Leaf act)) (Leaf act) (Got a)) }
+        ensures told { told_of result ≡ told_of self }
+        ensures gave { gave_of result ≡ gave_of self }
+        ensures over { (tops : Seq SeenTop) → IsNodeOver tops self → IsNodeOver tops result }
+        ensures left { left_of result ≤ left_of self }
+    {
+        match self {
+            Node::Leaf(at) => Node::Leaf(at.answered(error, bytes)),
+            Node::Copies(_) => unreachable!(),
+        }
+    }
+}

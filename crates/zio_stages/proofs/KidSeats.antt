@@ -18,15 +18,19 @@ use Rattle.zio_frames.specs.Slots.{AllHeard, Heard, IsOut, Slot}
 use Rattle.zio_frames.proofs.GetLemmas.{all_at}
 use Rattle.zio_stages.specs.LeavesOut.{IsLeafTask}
 use Rattle.zio_stages.specs.Outcomes.{IsAttempt}
+use Rattle.zio_blkptr.specs.Pointers.{pointer_of}
+use Rattle.zio_stages.specs.OwnReads.{IsBodyIn}
 use Rattle.zio_stages.specs.PartWorks.{IsPartWithin}
+use Rattle.zio_stages.specs.declared.own_read.BodyIo.{BodyIo}
 use Rattle.zio_stages.specs.RequestHearings.{HearsEarlyOf, HearsValueOf, IsAttemptedBy, IsKidTold}
 use Rattle.zio_stages.specs.RequestNodes.{IsKidAt, IsOwnOf, IsRequestNode, IsSeatOf}
 use Rattle.zio_stages.specs.declared.request_node.Own.{Own}
-use Rattle.zio_stages.specs.declared.request_node.Own.TheVariants.{Due as OwnDue, Over, Stored, Write}
+use Rattle.zio_stages.specs.declared.request_node.Own.TheVariants.{Claim, Due as OwnDue, Found, Free, Over, Read, Stored, Write}
 use Rattle.zio_stages.specs.declared.request_node.RequestNode.{RequestNode}
 use Rattle.zio_stages.specs.declared.write_io.WriteIo.{WriteIo}
 use Rattle.zio_stages.proofs.KidAsking.{kids_full}
-use Rattle.zio_stages.proofs.OutPlaces.{get_behind, write_asks}
+use Rattle.zio_stages.proofs.OutPlaces.{get_behind, read_asks, write_asks}
+use Rattle.zio_stages.proofs.OwnKinds.{claims_gang, frees_gang, reads_gang}
 use Rattle.zio_stages.proofs.PartOwed.{gang_kind, own_out}
 use Rattle.zio_stages.proofs.PartSeats.{not_told}
 use Rattle.zio_stages.proofs.RequestSits.{IsAttemptAt, asked_there, get_front}
@@ -88,6 +92,32 @@ outer_logical t r st (Write w) m op told h is at l asked slot logical =
 outer_logical t r st (Stored b) m op told h is at l asked slot logical =
     let own = own_in t r st _ h is in
     out_some h.own_slots (m - length h.kid_slots) told own.heard at.slot_is
+outer_logical t r st (Read w) m op told h is at l asked slot logical =
+    let own = own_in t r st _ h is in
+    let there : slice_get own.is.asked (m - length h.kid_slots) ≡ Some op =
+        ap (λ (xs : List Task). slice_get xs (m - length h.kid_slots)) own.asked_are ∙ at.asked_is in
+    let gang : kind_of_task op ≡ Gang = reads_gang own.tree own.is.asked (m - length h.kid_slots) op own.is.reads there in
+    let both : Logical ≡ Gang = sym logical ∙ gang in
+    cc
+outer_logical t r st (Free w) m op told h is at l asked slot logical =
+    let own = own_in t r st _ h is in
+    let there : slice_get own.is.asked (m - length h.kid_slots) ≡ Some op =
+        ap (λ (xs : List Task). slice_get xs (m - length h.kid_slots)) own.asked_are ∙ at.asked_is in
+    let gang : kind_of_task op ≡ Gang =
+        frees_gang own.tree w.walk own.is.asked own.is.slots (m - length h.kid_slots) op own.is.walk there in
+    let both : Logical ≡ Gang = sym logical ∙ gang in
+    cc
+outer_logical t r st (Claim w) m op told h is at l asked slot logical =
+    let own = own_in t r st _ h is in
+    let there : slice_get own.is.asked (m - length h.kid_slots) ≡ Some op =
+        ap (λ (xs : List Task). slice_get xs (m - length h.kid_slots)) own.asked_are ∙ at.asked_is in
+    let gang : kind_of_task op ≡ Gang =
+        claims_gang (pointer_of own.bytes) w.block w.step own.is.asked own.is.slots (m - length h.kid_slots) op own.is.claim there in
+    let both : Logical ≡ Gang = sym logical ∙ gang in
+    cc
+outer_logical t r st (Found b) m op told h is at l asked slot logical =
+    let own = own_in t r st _ h is in
+    out_some h.own_slots (m - length h.kid_slots) told own.heard at.slot_is
 outer_logical t r st Over m op told h is at l asked slot logical =
     let own = own_in t r st _ h is in
     out_some h.own_slots (m - length h.kid_slots) told own.heard at.slot_is
@@ -111,6 +141,22 @@ inner_logical t r st (Write w) m op h is asked logical = by w.work.io (write_in 
       all_at IsLeafTask k.inside.frame.asked m op (write_asks t w.work.bytes io k.inside.frame k.writes).leaves there in
       leaf_logical op leaf logical
 inner_logical t r st (Stored b) m op h is asked logical =
+    let own = own_in t r st _ h is in
+    asked_none st.inner m op own.alone asked
+inner_logical t r st (Read w) m op h is asked logical = by w.body (own_in t r st _ h is).is.body where
+  by : (body : Option BodyIo) → IsBodyIn t body (length h.kid_slots) st → ⊥
+  by None k = asked_none st.inner m op k asked
+  by (Some b) k =
+      let there : slice_get k.inner.frame.asked m ≡ Some op = sym (ap (λ (i : Option Inner). asked_in_inner i m) k.is) ∙ asked in
+      let leaf = all_at IsLeafTask k.inner.frame.asked m op (read_asks t b.io k.inner.frame k.part).leaves there in
+      leaf_logical op leaf logical
+inner_logical t r st (Free w) m op h is asked logical =
+    let own = own_in t r st _ h is in
+    asked_none st.inner m op own.is.alone asked
+inner_logical t r st (Claim w) m op h is asked logical =
+    let own = own_in t r st _ h is in
+    asked_none st.inner m op own.is.alone asked
+inner_logical t r st (Found b) m op h is asked logical =
     let own = own_in t r st _ h is in
     asked_none st.inner m op own.alone asked
 inner_logical t r st Over m op h is asked logical =

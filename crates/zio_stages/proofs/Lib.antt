@@ -44,6 +44,7 @@ pub mod OwnGangLemmas
 pub mod OwnReadLemmas
 pub mod OwnWriteBlock
 pub mod OwnWriteLemmas
+pub mod OwnKinds
 pub mod PartAsksLemmas
 pub mod PartFar
 pub mod PartHeader

@@ -21,7 +21,7 @@ use Rattle.zio_stages.proofs.SplitLemmas.{all_reversed, reverse_first}
 
 -- ---- children at their places
 
-abbrev IsValidIn : Child → Type 0
+abbrev pub IsValidIn : Child → Type 0
 IsValidIn c = IsNoneOrValid c.pointer
 
 inserted_if : (b : Bool) (x y : Child) (ys zs : List Child) → IsValidIn x → AllByRecursion IsValidIn (y ∷ ys) → AllByRecursion IsValidIn zs
@@ -33,7 +33,7 @@ inserted : (x : Child) (ys : List Child) → IsValidIn x → AllByRecursion IsVa
 inserted x [] p h = (p, tt)
 inserted x (y ∷ ys) p h = inserted_if (nat_le x.number y.number) x y ys (insert_by (λ (c : Child). c.number) x ys) p h (inserted x ys p h.1)
 
-merged_valid : (new kept : List Child) → AllByRecursion IsValidIn new → AllByRecursion IsValidIn kept → AllByRecursion IsValidIn (insert_children new kept)
+pub merged_valid : (new kept : List Child) → AllByRecursion IsValidIn new → AllByRecursion IsValidIn kept → AllByRecursion IsValidIn (insert_children new kept)
 merged_valid [] kept h k = k
 merged_valid (x ∷ new) kept h k = inserted x (insert_children new kept) h.0 (merged_valid new kept h.1 k)
 
@@ -41,18 +41,18 @@ pointers_valid : (cs : List Child) → AllByRecursion IsValidIn cs → AllByRecu
 pointers_valid [] h = tt
 pointers_valid (c ∷ cs) h = (h.0, pointers_valid cs h.1)
 
-abbrev IsValidReturn : Return → Type 0
+abbrev pub IsValidReturn : Return → Type 0
 IsValidReturn r = IsValidIn r.child
 
-children_valid : (rs : List Return) → AllByRecursion IsValidReturn rs → AllByRecursion IsValidIn (children_of rs)
+pub children_valid : (rs : List Return) → AllByRecursion IsValidReturn rs → AllByRecursion IsValidIn (children_of rs)
 children_valid [] h = tt
 children_valid (r ∷ rs) h = (h.0, children_valid rs h.1)
 
-returns_valid : (kids : List Kid) → AllByRecursion HasToldValid kids → AllByRecursion IsValidReturn (map return_by kids)
+pub returns_valid : (kids : List Kid) → AllByRecursion HasToldValid kids → AllByRecursion IsValidReturn (map return_by kids)
 returns_valid [] h = tt
 returns_valid (k ∷ kids) h = (h.0, returns_valid kids h.1)
 
-kept_valid : (kept : List KeptChild) → AllByRecursion HasValid kept → AllByRecursion IsValidIn (map child_of kept)
+pub kept_valid : (kept : List KeptChild) → AllByRecursion HasValid kept → AllByRecursion IsValidIn (map child_of kept)
 kept_valid [] h = tt
 kept_valid (k ∷ kept) h = (h.0, kept_valid kept h.1)
 

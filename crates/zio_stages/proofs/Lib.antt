@@ -21,6 +21,7 @@ pub mod HeadsNodeLemmas
 pub mod HeadsOver
 pub mod HeadsTops
 pub mod KidAsking
+pub mod KidListLemmas
 pub mod KidMoves
 pub mod KidPointerLemmas
 pub mod KidSeats

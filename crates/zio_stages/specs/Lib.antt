@@ -2,6 +2,7 @@ pub mod Checks
 pub mod CopiesNodes
 pub mod HeadsNodes
 pub mod HeadsWorks
+pub mod KidLists
 pub mod KidPointers
 pub mod KidTrees
 pub mod Labels

@@ -58,6 +58,17 @@ pub record IsWhole (ws : List Waiting) : Type 0 where
 abbrev pub joined : List (List Waiting) → List Waiting
 joined trees = flat_map (λ (ws : List Waiting). ws) trees
 
+-- the request, with these counts
+abbrev pub counted : Waiting → ℕ → ℕ → Waiting
+counted w unfinished below = record {
+  request = w.request;
+  birth = w.birth;
+  block = w.block;
+  kept = w.kept;
+  unfinished = unfinished;
+  below = below;
+}
+
 -- the request that is attempted last
 abbrev pub root_of : List Waiting → Option Waiting
 root_of [] = None

@@ -1,12 +1,12 @@
 //! The tree that goes again: a request over what is left of its children.
 
-ghost use Rattle.std.specs.Prelude.{◌≡◌, ◌+◌, ◌≤◌, ◌∷◌, ◌++◌, [], IfOk, IfSome, Some, length, map, true, vec_capacity};
+ghost use Rattle.std.specs.Prelude.{◌≡◌, ◌+◌, ◌≤◌, ◌∷◌, ◌++◌, [], ℕ, IfOk, IfSome, Some, length, map, true, vec_capacity};
 ghost use Rattle.std.specs.List.{AllByRecursion, list_all};
 ghost use Rattle.zio_trace.specs.Families.{Forest};
 ghost use Rattle.zio_children.specs.RequestKids.{RiseFrom, child_of, finished_in, is_ended};
 ghost use Rattle.zio_stages.specs.KidTrees.{trees_left};
 ghost use Rattle.zio_stages.specs.Waits.{pending_of};
-ghost use Rattle.zio_stages.specs.Wholes.{AreTrees, IsTreeOf, IsWhole, joined, root_number, roots_in};
+ghost use Rattle.zio_stages.specs.Wholes.{AreTrees, IsTreeOf, IsWhole, counted, joined, root_number, roots_in};
 
 use crate::waiting::Waiting;
 use crate::whole::{Whole, put_reserved};
@@ -66,6 +66,7 @@ pub(crate) fn grown_again(
     requires rising { RiseFrom 0 (roots_in (trees_left again.items)) }
     ensures tree { (forest : Forest) → AreTrees (trees_left again.items) forest → IsTreeOf result (pending_of root) forest }
     ensures number { root_number result ≡ Some root.request.number }
+    ensures list { (unfinished below : ℕ) × (result ≡ joined (trees_left again.items) ++ counted root unfinished below ∷ []) }
 {
     let mut unfinished = 0;
     for left in List::from_vec(again).into_rest() {

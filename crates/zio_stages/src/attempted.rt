@@ -9,11 +9,12 @@ ghost use Rattle.zio_trace.specs.Tasks.{AttemptedBy, One, Task};
 ghost use Rattle.zio_children.specs.RequestKids.{Fits, IsLeftBy, IsOutWith, RiseFrom, ShowsKids, finished_in, fresh_kids, is_ended, kid_handed, kid_is, kids_by, numbers_of, state_at};
 ghost use Rattle.zio_children.specs.declared.kids.KidState.TheVariants.{Ended, Out, Told};
 ghost use Rattle.zio_frames.specs.Slots.{Heard, IsOut, Slot};
+ghost use Rattle.zio_stages.specs.KidLists.{HoldTheSame, HoldsBut, IsLeftList, IsListOf};
 ghost use Rattle.zio_stages.specs.KidPointers.{HasValid, HaveValidPointers};
-ghost use Rattle.zio_stages.specs.KidTrees.{HandsOut, IsKids, IsLeft, with_kept};
+ghost use Rattle.zio_stages.specs.KidTrees.{HandsOut, IsKids, IsLeft, trees_left, with_kept};
 ghost use Rattle.zio_stages.specs.Splits.{AreSoMany};
 ghost use Rattle.zio_stages.specs.Waits.{pending_of};
-ghost use Rattle.zio_stages.specs.Wholes.{IsForestOf, IsTreeOf, root_number, root_of, roots_in};
+ghost use Rattle.zio_stages.specs.Wholes.{IsForestOf, IsTreeOf, joined, root_number, root_of, roots_in};
 
 use crate::again::{begin_again, grown_again};
 use crate::split::{rejoin, split};
@@ -69,6 +70,7 @@ impl RequestKids {
             (pending_of begun.0 ≡ p) × IsKids begun.1 attempt forest [] []) }
         ensures kept { IfOk result (λ begun. begun.1.kids.kept ≡ begun.0.kept) }
         ensures valid { IfOk result (λ begun. AllByRecursion HasValid begun.0.kept → HaveValidPointers begun.1.kids) }
+        ensures list { IfOk result (λ begun. IsListOf whole begun.0 begun.1) }
         ensures back { IfErr result (λ e. e.whole ≡ whole) }
     {
         let mut rest = whole.waiting.into_vec();
@@ -115,6 +117,7 @@ impl RequestKids {
         requires { self.old.kids.handed < length self.old.kids.kids }
         ensures kids { self.new.kids ≡ kid_handed self.old.kids }
         ensures number { root_number result ≡ slice_get (numbers_of self.old.kids.kids) self.old.kids.handed }
+        ensures holds { HoldsBut result self.old self.new }
         ensures asks { (attempt : ℕ) (forest : Forest) (asked : List Task) (slots : List Slot) →
             IsKids self.old attempt forest asked slots → HandsOut result self.old self.new attempt forest asked slots }
     {
@@ -129,6 +132,7 @@ impl RequestKids {
     pub fn tell(&mut self, n: usize, pointer: Option<Bp>)
         requires { state_at self.old.kids.kids n ≡ Some Out }
         ensures kids { self.new.kids ≡ kid_is self.old.kids n (Told pointer) }
+        ensures holds { HoldTheSame self.old self.new }
         ensures after { (attempt : ℕ) (forest : Forest) (asked : List Task) (slots : List Slot) →
             IsKids self.old attempt forest asked slots →
             IsKids self.new attempt forest asked (slice_set slots n (IsOut (Some pointer))) }
@@ -140,6 +144,7 @@ impl RequestKids {
     pub fn hear_finished(&mut self, n: usize, error: Option<Errno>, pointer: Option<Bp>)
         requires { IsOutWith pointer (state_at self.old.kids.kids n) }
         ensures kids { self.new.kids ≡ kid_is self.old.kids n (Ended no_bits error pointer) }
+        ensures holds { HoldTheSame self.old self.new }
         ensures after { (attempt : ℕ) (forest : Forest) (asked : List Task) (slots : List Slot) (number : ℕ) (one : One) →
             IsKids self.old attempt forest asked slots → slice_get (numbers_of self.old.kids.kids) n ≡ Some number →
             IsLeftBy one number no_bits error pointer → one.again ≡ [] → one.left ≡ NoTrees →
@@ -154,6 +159,8 @@ impl RequestKids {
         requires bits { has_bits bits ≡ true }
         requires root { root_number whole ≡ slice_get (numbers_of self.old.kids.kids) n }
         ensures kids { self.new.kids ≡ kid_is self.old.kids n (Ended bits None pointer) }
+        ensures due { self.new.due ≡ self.old.due }
+        ensures left { self.new.again ≡ slice_set self.old.again n (Some whole) }
         ensures after { (attempt : ℕ) (forest : Forest) (asked : List Task) (slots : List Slot) (number : ℕ) (one : One) →
             IsKids self.old attempt forest asked slots → slice_get (numbers_of self.old.kids.kids) n ≡ Some number →
             IsLeftBy one number bits None pointer → IsLeft whole one →
@@ -172,6 +179,7 @@ impl RequestKids {
             IsKids self attempt forest asked slots → one.again ≡ with_kept (pending_of waiting) (finished_in self.kids) ∷ [] →
             IsLeft tree (one_of (kids_by slots) one)) }
         ensures number { IfOk result (λ tree. root_number tree ≡ Some waiting.request.number) }
+        ensures list { IfOk result (λ tree. IsLeftList tree waiting self) }
         ensures back { IfErr result (λ e. (e.kids ≡ self) × (e.waiting ≡ waiting)) }
     {
         let begun = begin_again(alloc, &self.kids, &self.again);
@@ -196,6 +204,8 @@ fn kids_of(alloc: Global, root: &Waiting, rest: &mut Vec<Waiting>) -> Result<Req
         IsKids kids attempt forest [] []) }
     ensures kept { IfOk result (λ kids. kids.kids.kept ≡ root.now.kept) }
     ensures valid { IfOk result (λ kids. AllByRecursion HasValid root.now.kept → HaveValidPointers kids.kids) }
+    ensures list { IfOk result (λ kids. joined kids.due ≡ rest.old.items) }
+    ensures none { IfOk result (λ kids. trees_left kids.again ≡ []) }
     ensures err { OnErr result (rest.new.items ≡ rest.old.items) }
     ensures capacity { OnErr result (vec_capacity rest.old ≤ vec_capacity rest.new) }
 {

@@ -12,7 +12,8 @@ ghost use Rattle.zio_stages.specs.declared.request_node.RequestNode.{RequestNode
 /// A logical child of a request that hasn't told is out for one of the request's children. One that ended as an attempt did the
 /// attempt of the tree at its place, and told the pointer that its value has.
 pub fn logical_children_are_attempts()
-    ensures early { (r : RequestNode) (n : ℕ) → HearsEarlyOf Logical r n → IsKidAt (λ (state : Option KidState). state ≡ Some Out) r n }
+    ensures early { (r : RequestNode) (n : ℕ) → HearsEarlyOf Logical r n →
+        IsKidAt (λ (state : Option KidState). state ≡ Some Out) r n }
     ensures told { (r : RequestNode) (n : ℕ) (one : One) (x : HearsValueOf (IsAttemptedBy one) r n) →
         IsKidTold r n x.op one.return.child.pointer }
 {}

@@ -3,7 +3,7 @@
 //! A request's children are attempted beside each other, all together. Its own work goes on behind them: it may begin once
 //! they all are out, and once each has told the pointer that it will have, or has ended, the request can tell its own.
 
-ghost use Rattle.std.specs.Prelude.{◌≡◌, ◌-◌, ◌^◌, ◌<◌, ◌⊎◌, ℕ, List as Seq, [], IfErr, IfOk, None, OnErr, Ok, Option, Some, length, option_map, slice_get, true};
+ghost use Rattle.std.specs.Prelude.{◌≡◌, ◌-◌, ◌^◌, ◌<◌, ◌⊎◌, ℕ, List as Seq, [], IfErr, IfOk, None, OnErr, Ok, Option, Some, length, option_map, slice_get, slice_set, true};
 ghost use Rattle.std.specs.List.{AllByRecursion, list_all, list_any};
 ghost use Rattle.zio_types.specs.declared.place.Top.{Top as SeenTop};
 ghost use Rattle.zio_types.specs.declared.request.Phase.TheVariants.{Done, Ready};
@@ -18,6 +18,7 @@ ghost use Rattle.zio_content.specs.Pointers.{IsNoneOrValid};
 ghost use Rattle.zio_frames.specs.Frames.{Child, Stack, fresh_stack};
 ghost use Rattle.zio_frames.specs.Moves.{WillHave, heard_early, heard_of};
 ghost use Rattle.zio_frames.specs.Seats.{IsSeated, asked_at};
+ghost use Rattle.zio_stages.specs.KidLists.{HoldTheSame, HoldsBut, IsListOf, LeavesList};
 ghost use Rattle.zio_stages.specs.KidPointers.{HasValid, HaveValidPointers};
 ghost use Rattle.zio_stages.specs.KidTrees.{IsLeft};
 ghost use Rattle.zio_stages.specs.NodeChildren.{is_owing};
@@ -162,6 +163,7 @@ impl RequestNode {
         ensures due { IfOk result (λ node. node.own ≡ Own.Due) }
         ensures over { IfOk result (λ node. (tops : Seq SeenTop) → IsOwnOver tops node.own node.family) }
         ensures valid { IfOk result (λ node. AllByRecursion HasValid node.waiting.kept → HaveValidPointers node.kids.kids) }
+        ensures list { IfOk result (λ node. IsListOf whole node.waiting node.kids) }
         ensures back { IfErr result (λ e. e.whole ≡ whole) }
     {
         match RequestKids::begin(alloc, whole) {
@@ -185,6 +187,8 @@ impl RequestNode {
             (t : Terms) (st : Stack) → IsSeated st → IsRequestNode t self.old st → (number ≡ length st.children) × HandsKid t self.new whole st }
         ensures handed { (number : ℕ) (whole : Seq SeenWaiting) → result ≡ Ok (Start.Child number whole) →
             self.new.kids.kids ≡ kid_handed self.old.kids.kids }
+        ensures holds { (number : ℕ) (whole : Seq SeenWaiting) → result ≡ Ok (Start.Child number whole) →
+            HoldsBut whole self.old.kids self.new.kids }
         ensures over { (tops : Seq SeenTop) → IsOwnOver tops self.old.own self.old.family →
             IsOwnOver tops self.new.own self.new.family }
         ensures valid { HaveValidPointers self.old.kids.kids → HaveValidPointers self.new.kids.kids }
@@ -236,6 +240,7 @@ impl RequestNode {
         requires null { self.waiting.request.work ≡ Work.Null }
         requires ended { list_all is_ended self.kids.kids.kids ≡ true }
         ensures closes { IfOk result (λ closed. (t : Terms) (st : Stack) (h : IsRequestNode t self st) → Closes t self st h closed) }
+        ensures list { IfOk result (LeavesList self) }
         ensures back { IfErr result (λ e. e.node ≡ self) }
     {
         let own = OwnFound {
@@ -258,6 +263,7 @@ impl RequestNode {
             Closes t self st h closed) }
         ensures decides { IfOk result (λ closed. keeps_block closed ≡ is_well self own.error) }
         ensures kept { IfOk result (λ closed. own_in closed ≡ own) }
+        ensures list { IfOk result (LeavesList self) }
         ensures back { IfErr result (λ e. (e.node ≡ self) × (e.own ≡ own)) }
     {
         let bits = self.bits(own.error);
@@ -328,6 +334,7 @@ impl RequestNode {
             IsRequestNode t self.new (heard_early st child c pointer) }
         ensures kids { (place : ℕ) → IsSeatOf self.old.family child place →
             self.new.kids.kids ≡ kid_is self.old.kids.kids place (Told pointer) }
+        ensures holds { HoldTheSame self.old.kids self.new.kids }
         ensures over { (tops : Seq SeenTop) → IsOwnOver tops self.old.own self.old.family →
             IsOwnOver tops self.new.own self.new.family }
         ensures valid { IsNoneOrValid pointer → HaveValidPointers self.old.kids.kids → HaveValidPointers self.new.kids.kids }
@@ -342,11 +349,13 @@ impl RequestNode {
     pub fn arrive_finished(&mut self, child: u32, error: Option<Errno>, pointer: Option<Bp>)
         requires { IsKidAt (IsOutWith pointer) self.old child }
         ensures heard { (t : Terms) (st : Stack) (c : Child) (p : Pending) (below : Forest) (one : One) →
-            IsRequestNode t self.old st → slice_get st.children child ≡ Some c → asked_at st c.seat ≡ Some (Attempt self.old.attempt p below) →
+            IsRequestNode t self.old st → slice_get st.children child ≡ Some c →
+            asked_at st c.seat ≡ Some (Attempt self.old.attempt p below) →
             IsLeftBy one p.request.number no_bits error pointer → one.again ≡ [] → one.left ≡ NoTrees →
             IsRequestNode t self.new (heard_of st child c (AttemptedBy one)) }
         ensures kids { (place : ℕ) → IsSeatOf self.old.family child place →
             self.new.kids.kids ≡ kid_is self.old.kids.kids place (Ended no_bits error pointer) }
+        ensures holds { HoldTheSame self.old.kids self.new.kids }
         ensures over { (tops : Seq SeenTop) → IsOwnOver tops self.old.own self.old.family →
             IsOwnOver tops self.new.own self.new.family }
         ensures valid { IsNoneOrValid pointer ⊎ HasToldIn self.old child pointer → HaveValidPointers self.old.kids.kids →
@@ -364,11 +373,15 @@ impl RequestNode {
         requires bits { has_bits bits ≡ true }
         requires root { (place : ℕ) → IsSeatOf self.old.family child place → root_number whole ≡ slice_get (numbers_of self.old.kids.kids.kids) place }
         ensures heard { (t : Terms) (st : Stack) (c : Child) (p : Pending) (below : Forest) (one : One) →
-            IsRequestNode t self.old st → slice_get st.children child ≡ Some c → asked_at st c.seat ≡ Some (Attempt self.old.attempt p below) →
+            IsRequestNode t self.old st → slice_get st.children child ≡ Some c →
+            asked_at st c.seat ≡ Some (Attempt self.old.attempt p below) →
             IsLeftBy one p.request.number bits None pointer → IsLeft whole one →
             IsRequestNode t self.new (heard_of st child c (AttemptedBy one)) }
         ensures kids { (place : ℕ) → IsSeatOf self.old.family child place →
             self.new.kids.kids ≡ kid_is self.old.kids.kids place (Ended bits None pointer) }
+        ensures due { self.new.kids.due ≡ self.old.kids.due }
+        ensures left { (place : ℕ) → IsSeatOf self.old.family child place →
+            self.new.kids.again ≡ slice_set self.old.kids.again place (Some whole) }
         ensures over { (tops : Seq SeenTop) → IsOwnOver tops self.old.own self.old.family →
             IsOwnOver tops self.new.own self.new.family }
         ensures valid { IsNoneOrValid pointer ⊎ HasToldIn self.old child pointer → HaveValidPointers self.old.kids.kids →

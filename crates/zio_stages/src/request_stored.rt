@@ -9,6 +9,7 @@ ghost use Rattle.zio_types.specs.declared.place.Top.{Top as SeenTop};
 ghost use Rattle.zio_gang.specs.Attempts.{Terms};
 ghost use Rattle.zio_children.specs.RequestKids.{is_ended};
 ghost use Rattle.zio_frames.specs.Frames.{Stack};
+ghost use Rattle.zio_stages.specs.KidLists.{LeavesList};
 ghost use Rattle.zio_stages.specs.RequestNodes.{Closes, IsOwnOver, IsRequestNode};
 ghost use Rattle.zio_stages.specs.RequestStages.{with_own};
 ghost use Rattle.zio_stages.specs.RequestStoreds.{IsStoredWith, error_by, found_by, given_by, is_well, keeps_block, made_by, own_in};
@@ -72,6 +73,7 @@ impl RequestNode {
         ensures closes { IfOk result (λ closed. (t : Terms) (st : Stack) (h : IsRequestNode t self st) → Closes t self st h closed) }
         ensures decides { IfOk result (λ closed. keeps_block closed ≡ is_well self (error_by self.own)) }
         ensures own { IfOk result (λ closed. Some (own_in closed) ≡ found_by self.own) }
+        ensures list { IfOk result (LeavesList self) }
         ensures back { IfErr result (λ e. e.node ≡ self) }
     {
         let mut node = self;

@@ -1,7 +1,7 @@
 use Rattle.std.proofs.Common.{◌≡◌, ◌+◌, ◌≤◌, ◌<◌, ◌^◌, refl, length, arith, rules}
 use Rattle.zio_stages.specs.declared.waiting.Waiting.{Waiting}
 use Rattle.zio_stages.specs.KidTrees.{trees_left}
-use Rattle.zio_stages.specs.Wholes.{joined}
+use Rattle.zio_stages.specs.Wholes.{counted, joined}
 use Rattle.zio_stages.proofs.AgainLemmas.{again_all, again_count, again_counts, again_next, number_last}
 use Rattle.zio_stages.proofs.WholeLemmas.{length_built, list_built, tree_over, whole_over}
 use Rattle.zio_stages.proofs.again.grown_again.Goals as goal
@@ -61,3 +61,17 @@ returns-clause-number c =
     record { request = r.request; birth = r.birth; block = r.block; kept = r.kept; unfinished = c.loop-left.unfinished; below = c.len.result } in
     number_last c.loop-left.all.items c.from_vec-2.result w
     (list_built c.from_vec-2.result c.push_reserved.new.self.items c.loop-left.all.items c.loop-left.all.items w c.from_vec-2.ensures c.push_reserved.ensures.items refl)
+
+pub returns-clause-list : goal.returns-clause-list
+returns-clause-list c =
+    let r = c.args.root in
+    let trees = trees_left c.args.again.items in
+    let w : Waiting = counted r c.loop-left.unfinished c.len.result in
+    let all : c.loop-left.all.items ≡ joined trees =
+    again_all c.args.again.items c.loop-left.left-iterator c.loop-left.all.items _ c.loop-left.unfinished c.loop-left.invariant
+    c.in-None.ensures.steps.0 in (
+      c.loop-left.unfinished,
+      c.len.result,
+      list_built c.from_vec-2.result c.push_reserved.new.self.items c.loop-left.all.items (joined trees) w c.from_vec-2.ensures
+          c.push_reserved.ensures.items all,
+    )

@@ -5,7 +5,9 @@ use Rattle.zio_stages.specs.declared.waiting.Waiting.{Waiting}
 use Rattle.zio_stages.specs.Wholes.{roots_in}
 use Rattle.zio_stages.specs.KidPointers.{HasValid, HaveValidPointers}
 use Rattle.zio_stages.proofs.KidPointerLemmas.{valid_fresh}
-use Rattle.zio_stages.proofs.KidTreeLemmas.{begun_held, begun_kids, due_rise, when_ok}
+use Rattle.zio_stages.specs.KidTrees.{trees_left}
+use Rattle.zio_stages.proofs.KidListLemmas.{none_left_of}
+use Rattle.zio_stages.proofs.KidTreeLemmas.{begun_held, begun_kids, due_rise, taken_all, when_ok}
 use Rattle.zio_stages.proofs.attempted.kids_of.Goals as goal
 
 pub due_kids-requires : goal.due_kids-requires
@@ -40,3 +42,14 @@ pub returns-in-Ok-clause-valid : goal.returns-in-Ok-clause-valid
 returns-in-Ok-clause-valid c = λ h.
     subst HaveValidPointers (sym c.in-Ok.ensures.kids)
     (valid_fresh _ c.as_slice.result.now (subst (AllByRecursion HasValid) (sym c.as_slice.ensures) h))
+
+pub returns-in-Ok-clause-list : goal.returns-in-Ok-clause-list
+returns-in-Ok-clause-list c =
+    let none : c.split.new.rest.items ≡ [] =
+    when_ok c.split.result c.is_ok.result c.is_ok.ensures.value c.if-is_ok.true c.split.ensures.all in
+    taken_all c.args.rest.now.items c.split.new.rest.items c.split.new.due.items c.split.ensures.taken none
+
+pub returns-in-Ok-clause-none : goal.returns-in-Ok-clause-none
+returns-in-Ok-clause-none c =
+    ap trees_left (c.in-Ok.ensures.again ∙ ap (λ (ds : List (List Waiting)). replicate (length ds) None) c.deref.ensures.value)
+    ∙ none_left_of (length c.split.new.due.items)

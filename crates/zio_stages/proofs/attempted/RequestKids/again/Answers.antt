@@ -2,9 +2,11 @@ use Rattle.std.proofs.Common.{◌≡◌, ◌∷◌, [], ◌∙◌, List, reverse
 use Rattle.std.specs.List.{AllByRecursion}
 use Rattle.zio_gang.specs.Attempts.{Child, Pending}
 use Rattle.zio_children.specs.RequestKids.{finished_in, kids_by, numbers_of}
+use Rattle.zio_stages.specs.KidLists.{IsLeftList}
 use Rattle.zio_stages.specs.KidTrees.{IsKids, KidsHeld, trees_left, with_kept}
 use Rattle.zio_stages.specs.Waits.{pending_of}
 use Rattle.zio_stages.specs.Wholes.{IsTreeOf, IsWhole}
+use Rattle.zio_stages.proofs.KidListLemmas.{left_list}
 use Rattle.zio_stages.proofs.AgainLemmas.{LeftBy, all_left, left_by, left_of_one, rise_left}
 use Rattle.zio_stages.proofs.attempted.RequestKids.again.Goals as goal
 
@@ -31,3 +33,10 @@ returns-in-Ok-clause-tree c = λ attempt forest asked slots one is gone.
     subst (λ (cs : List Child). IsTreeOf c.grown_again.result (with_kept (pending_of c.args.waiting) cs) (kids_by slots).left)
     c.in-Ok.ensures.kept (c.grown_again.ensures.tree (kids_by slots).left left.are) in
     left_of_one (kids_by slots) one p c.grown_again.result root tree left.list
+
+pub returns-in-Ok-clause-list : goal.returns-in-Ok-clause-list
+returns-in-Ok-clause-list c =
+    let f = c.self.inside in
+    let x : KidsHeld = record { kids = f.kids; due = reverse f.due.items; again = f.again.items } in
+    subst (λ (z : KidsHeld). IsLeftList c.grown_again.result c.args.waiting z) c.self.view_is
+    (left_list c.grown_again.result c.args.waiting x c.in-Ok.kept c.in-Ok.ensures.kept c.grown_again.ensures.list)

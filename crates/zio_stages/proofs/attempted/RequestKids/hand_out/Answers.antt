@@ -43,3 +43,10 @@ returns-clause-asks c = λ attempt forest asked slots is.
     subst (λ (z : KidsHeld). HandsOut c.in-Some.tree z y attempt forest asked slots) c.self.view_is
     (hands_out x c.in-Some.tree (reverse c.pop.new.self.items) c.hand_out.new.self attempt forest asked slots c.self.invariant less first c.hand_out.ensures.handed (c.hand_out.ensures.fits slots)
     (subst (λ (z : KidsHeld). IsKids z attempt forest asked slots) (sym c.self.view_is) is))
+
+pub returns-clause-holds : goal.returns-clause-holds
+returns-clause-holds c = record {
+  due = ap (λ (x : KidsHeld). x.due) (sym c.self.view_is)
+      ∙ ap reverse c.in-Some.ensures.items ∙ reverse_last c.in-Some.tree c.pop.new.self.items;
+  again = ap (λ (x : KidsHeld). x.again) c.self.view_is;
+}

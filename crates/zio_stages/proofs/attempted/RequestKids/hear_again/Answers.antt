@@ -1,4 +1,4 @@
-use Rattle.std.proofs.Common.{◌≡◌, ◌∙◌, reverse, None, Some, sym, ap, subst, slice_get, arith}
+use Rattle.std.proofs.Common.{◌≡◌, ◌∙◌, reverse, None, Some, sym, ap, subst, slice_get, set, arith}
 use Rattle.zio_types.specs.declared.request.Bits.{Bits}
 use Rattle.zio_gang.specs.Attempts.{has_bits}
 use Rattle.zio_trace.specs.Tasks.{AttemptedBy}
@@ -40,3 +40,9 @@ returns-clause-after c = λ attempt forest asked slots number one is at by left.
     (λ fit. c.hear.ensures.fits slots number one fit here by)
     (ap (λ (b : Bits). has_bits b) by.same_bits ∙ c.requires.bits, left)
     (subst (λ (z : KidsHeld). IsKids z attempt forest asked slots) (sym c.self.view_is) is)
+
+pub returns-clause-due : goal.returns-clause-due
+returns-clause-due c = ap (λ (x : KidsHeld). x.due) c.self.view_is
+
+pub returns-clause-left : goal.returns-clause-left
+returns-clause-left c = ap (λ (x : KidsHeld). set x.again c.args.n (Some c.args.whole)) c.self.view_is

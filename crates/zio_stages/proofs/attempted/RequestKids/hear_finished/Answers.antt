@@ -27,3 +27,9 @@ returns-clause-after c = λ attempt forest asked slots number one is at by none 
     attempt forest asked slots there c.hear.ensures.heard
     (λ fit. c.hear.ensures.fits slots number one fit here by) (ap (λ (b : Bits). has_bits b) by.same_bits, (none, gone))
     (subst (λ (z : KidsHeld). IsKids z attempt forest asked slots) (sym c.self.view_is) is)
+
+pub returns-clause-holds : goal.returns-clause-holds
+returns-clause-holds c = record {
+  due = ap (λ (x : KidsHeld). x.due) c.self.view_is;
+  again = ap (λ (x : KidsHeld). x.again) c.self.view_is;
+}

@@ -1,4 +1,4 @@
-use Rattle.std.proofs.Common.{◌≡◌, reverse, Some, sym, refl, subst}
+use Rattle.std.proofs.Common.{◌≡◌, reverse, Some, sym, refl, ap, subst}
 use Rattle.zio_children.specs.RequestKids.{IsOutWith, state_at}
 use Rattle.zio_children.specs.declared.kids.KidState.TheVariants.{Out, Told}
 use Rattle.zio_frames.specs.Slots.{IsOut}
@@ -22,3 +22,9 @@ returns-clause-after c = λ attempt forest asked slots is.
     slots (subst (IsOutWith c.args.pointer) (sym there) tt)
     c.tell.ensures.told (c.tell.ensures.fits slots) refl
     (subst (λ (z : KidsHeld). IsKids z attempt forest asked slots) (sym c.self.view_is) is)
+
+pub returns-clause-holds : goal.returns-clause-holds
+returns-clause-holds c = record {
+  due = ap (λ (x : KidsHeld). x.due) c.self.view_is;
+  again = ap (λ (x : KidsHeld). x.again) c.self.view_is;
+}

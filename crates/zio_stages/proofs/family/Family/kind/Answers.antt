@@ -28,5 +28,6 @@ returns c =
       length_children f.brood f.sittings.items c.self.invariant,
       length_seats f.brood f.sittings.items c.self.invariant,
     ) in
-    sym (kind_there f.brood f.sittings.items c.args.child c.index.result.now c.self.invariant (slice_get_read f.sittings.items (vec_len f.sittings) c.args.child c.index.result.now all within c.index.ensures))
+    sym (kind_there f.brood f.sittings.items c.args.child c.index.result.now c.self.invariant
+    (slice_get_read f.sittings.items (vec_len f.sittings) c.args.child c.index.result.now all within c.index.ensures))
     ∙ ap (λ xs. option_map (λ (x : Child). x.kind) (slice_get xs c.args.child)) c.self.view_is

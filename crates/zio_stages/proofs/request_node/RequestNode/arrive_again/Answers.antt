@@ -1,4 +1,4 @@
-use Rattle.std.proofs.Common.{◌≡◌, ◌<◌, ◌∙◌, length, slice_get, Some, None, refl, sym, ap, subst}
+use Rattle.std.proofs.Common.{◌≡◌, ◌<◌, ◌∙◌, length, set, slice_get, Some, None, refl, sym, ap, subst}
 use Rattle.zio_trace.specs.Tasks.{AttemptedBy}
 use Rattle.zio_children.specs.RequestKids.{IsOutWith, KidsUnderWay, kid_is, numbers_of, pointers_of, state_at}
 use Rattle.zio_children.specs.declared.kids.KidState.TheVariants.{Ended}
@@ -44,3 +44,10 @@ returns-clause-valid c = λ ok h.
     subst HaveValidPointers (sym c.hear_again.ensures.kids)
     (valid_then c.args.self.now.kids.kids c.place-place.result (Ended c.args.bits None c.args.pointer) h
     (told_valid c.args.self.now c.args.child c.args.pointer h ok))
+
+pub returns-clause-left : goal.returns-clause-left
+returns-clause-left c = λ place seat.
+    let r = c.args.self.now in
+    let same : place ≡ c.place-place.result =
+    one_place r.family c.args.child place c.place-place.result seat c.place-place.ensures in
+    c.hear_again.ensures.left ∙ ap (λ n. set r.kids.again n (Some c.args.whole)) (sym same)

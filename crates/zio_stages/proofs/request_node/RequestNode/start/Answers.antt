@@ -2,6 +2,7 @@ use Rattle.std.proofs.Common.{◌≡◌, ◌<◌, ◌∷◌, ◌++◌, [], ◌�
 use Rattle.zio_types.specs.declared.request.ChildKind.TheVariants.{Logical}
 use Rattle.zio_children.specs.RequestKids.{KidsUnderWay}
 use Rattle.zio_frames.specs.Frames.{Child, OfOuter}
+use Rattle.zio_stages.specs.KidLists.{HoldsBut}
 use Rattle.zio_stages.specs.KidPointers.{HaveValidPointers}
 use Rattle.zio_stages.specs.NodeChildren.{new_child, seat_of}
 use Rattle.zio_stages.specs.RequestNodes.{HandsKid}
@@ -32,7 +33,8 @@ returns-clause-child c = λ number whole e t st seated h.
 pub returns-clause-over : goal.returns-clause-over
 returns-clause-over c = λ tops over.
     let r = c.args.self.now in
-    let there : c.in_ok-seat.seat ≡ Outer r.kids.kids.handed = c.in_ok-seat.ensures.seat ∙ ap (λ n. Outer n) c.in-Child.ensures.0 in
+    let there : c.in_ok-seat.seat ≡ Outer r.kids.kids.handed =
+    c.in_ok-seat.ensures.seat ∙ ap (λ n. Outer n) c.in-Child.ensures.0 in
     let family : c.add.new.self ≡ r.family ++ new_child (OfOuter r.kids.kids.handed) Logical ∷ [] =
     c.in_ok-number.ensures.ok ∙ ap (λ (s : Seat). r.family ++ new_child (seat_of s) Logical ∷ []) there in
     own_same tops r.own r.family c.add.new.self
@@ -41,3 +43,8 @@ returns-clause-over c = λ tops over.
 pub returns-clause-valid : goal.returns-clause-valid
 returns-clause-valid c = λ h.
     subst HaveValidPointers (sym c.hand_out-whole.ensures.kids) (valid_handed c.args.self.now.kids.kids h)
+
+pub returns-clause-holds : goal.returns-clause-holds
+returns-clause-holds c = λ number whole e.
+    let tree : c.hand_out-whole.result ≡ whole = cc in
+    subst (λ (ws : List Waiting). HoldsBut ws c.args.self.now.kids c.hand_out-whole.new.self) tree c.hand_out-whole.ensures.holds

@@ -1,0 +1,41 @@
+-- The requests of a tree by list, as a request's children's trees are split off it and what is left of them is put together.
+use Rattle.std.specs.Prelude.{◌≡◌, List, [], ◌∷◌, ◌++◌, map}
+use Rattle.std.specs.List.{AllByRecursion}
+use Rattle.zio_children.specs.RequestKids.{child_of, finished_in}
+use Rattle.zio_stages.specs.KidPointers.{HasValid, HaveValidPointers}
+use Rattle.zio_stages.specs.KidTrees.{KidsHeld, trees_left}
+use Rattle.zio_stages.specs.Wholes.{joined}
+use Rattle.zio_stages.specs.declared.request_node.Closed.{Closed}
+use Rattle.zio_stages.specs.declared.request_node.Closed.TheVariants.{Again, Finished}
+use Rattle.zio_stages.specs.declared.request_node.RequestNode.{RequestNode}
+use Rattle.zio_stages.specs.declared.waiting.Waiting.{Waiting}
+
+-- the list is the trees that are due, and the request behind them, and nothing is left of any
+pub record IsListOf (ws : List Waiting) (w : Waiting) (x : KidsHeld) : Type 0 where
+  pub list : ws ≡ joined x.due ++ w ∷ []
+  pub none : trees_left x.again ≡ []
+
+-- both hold the same trees
+pub record HoldTheSame (x y : KidsHeld) : Type 0 where
+  pub due : y.due ≡ x.due
+  pub again : y.again ≡ x.again
+
+-- the first of the trees that are due is this one, which is held no longer
+pub record HoldsBut (ws : List Waiting) (x y : KidsHeld) : Type 0 where
+  pub due : x.due ≡ ws ∷ y.due
+  pub again : y.again ≡ x.again
+
+-- The list is what is left of the children's trees, and the same request behind them, with the children that finished. Where
+-- these have valid pointers it keeps valid ones.
+pub record IsLeftList (ws : List Waiting) (w : Waiting) (x : KidsHeld) : Type 0 where
+  pub root : Waiting
+  pub list : ws ≡ joined (trees_left x.again) ++ root ∷ []
+  pub request : root.request ≡ w.request
+  pub birth : root.birth ≡ w.birth
+  pub block : root.block ≡ w.block
+  pub kept : map child_of root.kept ≡ finished_in x.kids
+  pub valid : HaveValidPointers x.kids → AllByRecursion HasValid root.kept
+
+abbrev pub LeavesList : RequestNode → Closed → Type 0
+LeavesList r (Finished waiting error own) = waiting ≡ r.waiting
+LeavesList r (Again bits whole own) = IsLeftList whole r.waiting r.kids

@@ -69,6 +69,7 @@ pub mod RequestNodeLemmas
 pub mod RequestOwnLemmas
 pub mod RequestOwnMoves
 pub mod RequestReadLemmas
+pub mod RequestReadMoves
 pub mod RequestSits
 pub mod RequestStoredLemmas
 pub mod RequestWriteLemmas

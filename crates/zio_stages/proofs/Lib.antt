@@ -75,6 +75,7 @@ pub mod RequestOver
 pub mod RequestOwnLemmas
 pub mod RequestOwnMoves
 pub mod RequestReadLemmas
+pub mod RequestReadMoves
 pub mod RequestSits
 pub mod RequestStoredLemmas
 pub mod RequestWriteLemmas

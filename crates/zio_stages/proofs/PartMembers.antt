@@ -102,7 +102,7 @@ hands_member t w v family more f o front n st child begun is h none hands many g
 
 -- ---- what its fields owe
 
-none_beside : (family : List Child) (k : ℕ) → NoneSits Within family → NoneSits Within (family ++ new_child (OfOuter k) GangKind ∷ [])
+pub none_beside : (family : List Child) (k : ℕ) → NoneSits Within family → NoneSits Within (family ++ new_child (OfOuter k) GangKind ∷ [])
 none_beside family k h = λ j n d e goes at. by j n d goes at (get_either family (new_child (OfOuter k) GangKind) d j e) where
   by : (j n : ℕ) (d : Child) → d.ended ≡ false → d.seat ≡ OfInner n → (slice_get family j ≡ Some d) ⊎ ((j ≡ length family) × (new_child (OfOuter k) GangKind ≡ d)) → ⊥
   by j n d goes at (inl e) = h j n d e goes at
@@ -128,6 +128,13 @@ over_with tops w v family more h placing own size bytes io kids = record {
 }
 
 -- one that changed, and sits where it sat or ended
+pub none_changed : (family : List Child) (k : ℕ) (c d : Child) → slice_get family k ≡ Some c → d.seat ≡ c.seat → (d.ended ≡ false → c.ended ≡ false) → NoneSits Within family
+    → NoneSits Within (slice_set family k d)
+none_changed family k c d is seat goes h = λ j n e at going there. by j n e going there (get_exchanged family k j d e at) where
+  by : (j n : ℕ) (e : Child) → e.ended ≡ false → e.seat ≡ OfInner n → ((j ≡ k) × (d ≡ e)) ⊎ ((j ≢ k) × (slice_get family j ≡ Some e)) → ⊥
+  by j n e going there (inl same) = h k n c is (goes (ap (λ (x : Child). x.ended) same.1 ∙ going)) (sym seat ∙ ap (λ (x : Child). x.seat) same.1 ∙ there)
+  by j n e going there (inr other) = h j n e other.1 going there
+
 pub io_changed : (tops : List Top) (x : PartWriting) (io : Option WriteIo) (family : List Child) (k : ℕ) (c d : Child) → slice_get family k ≡ Some c → d.seat ≡ c.seat → (d.ended ≡ false → c.ended ≡ false)
     → IsIoOver tops x io family → IsIoOver tops x io (slice_set family k d)
 io_changed tops x None family k c d is seat goes h = λ j n e at going there. by j n e going there (get_exchanged family k j d e at) where

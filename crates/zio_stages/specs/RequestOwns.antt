@@ -1,6 +1,6 @@
 -- A read's, a free's and a claim's own work in an attempt: it stands behind the operations for the request's children, once these
 -- were all handed out.
-use Rattle.std.specs.Prelude.{◌≡◌, ℕ, List, length, false, Option, Some, None, IfSome, IsTrue}
+use Rattle.std.specs.Prelude.{◌≡◌, ℕ, ◌+◌, List, length, slice_get, false, Option, Some, None, IfSome, IsTrue, option_map}
 use Rattle.std.specs.List.{AllByRecursion}
 use Rattle.zio_types.specs.declared.place.Top.{Top}
 use Rattle.zio_types.specs.declared.request.Prio.{Prio}
@@ -14,7 +14,7 @@ use Rattle.zio_trace.specs.Plans.{plan_own}
 use Rattle.zio_trace.specs.Programs.{Ends}
 use Rattle.zio_trace.specs.Tasks.{OwnGot, Task}
 use Rattle.zio_children.specs.RequestKids.{KidsUnderWay}
-use Rattle.zio_frames.specs.Frames.{Child, Stack}
+use Rattle.zio_frames.specs.Frames.{Child, OfOuter, Stack}
 use Rattle.zio_frames.specs.Slots.{AllHeard, Slot, left_behind_slots}
 use Rattle.zio_stages.specs.HeadsNodes.{IsHeadOn, LiesOn}
 use Rattle.zio_stages.specs.OwnClaims.{IsOwnClaim}
@@ -25,6 +25,7 @@ use Rattle.zio_stages.specs.PartWorks.{Front}
 use Rattle.zio_stages.specs.declared.own_claim.OwnClaim.{OwnClaim}
 use Rattle.zio_stages.specs.declared.own_free.OwnFree.{OwnFree}
 use Rattle.zio_stages.specs.declared.own_read.OwnRead.{OwnRead}
+use Rattle.zio_stages.specs.declared.request_node.RequestNode.{RequestNode}
 use Rattle.zio_stages.specs.declared.waiting.Waiting.{Waiting}
 
 -- ---- how far it is
@@ -69,6 +70,12 @@ pub record IsFoundOwn (t : Terms) (own : OwnGot) (attempt : ℕ) (p : Pending) (
   pub alone : st.inner ≡ None
   pub heard : AllHeard slots
   pub value : (pointers : List (Option Bp)) → left_behind_slots slots (plan_own t attempt p p.request.work pointers) ≡ Ends own
+
+-- ---- its children
+
+-- the child sits at the own work's operation of this number, behind those for the request's children
+abbrev pub IsOwnSeat : RequestNode → ℕ → ℕ → Type 0
+IsOwnSeat r child n = option_map (λ (c : Child). c.seat) (slice_get r.family child) ≡ Some (OfOuter (length r.kids.kids.kids + n))
 
 -- ---- what its fields owe
 

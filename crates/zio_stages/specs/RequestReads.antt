@@ -1,5 +1,5 @@
 -- A read in an attempt: which stage it may be in, and what each comes to.
-use Rattle.std.specs.Prelude.{◌≡◌, List, Option, Some, None, IfSome}
+use Rattle.std.specs.Prelude.{◌≡◌, ℕ, List, Option, Some, None, IfSome}
 use Rattle.zio_types.specs.declared.place.Top.{Top}
 use Rattle.zio_types.specs.declared.request.ChildKind.TheVariants.{Gang}
 use Rattle.zio_types.specs.declared.request.Phase.TheVariants.{Done}
@@ -14,6 +14,7 @@ use Rattle.zio_stages.specs.CopiesNodes.{IsCopiesNode, IsCopiesOver}
 use Rattle.zio_stages.specs.HeadsNodes.{IsHeadsNode, IsHeadsOver}
 use Rattle.zio_stages.specs.NodeIos.{IsReadDue}
 use Rattle.zio_stages.specs.OwnParts.{HandsTo, IsOwed}
+use Rattle.zio_stages.specs.OwnReads.{IsBodyOut, IsWalkOut}
 use Rattle.zio_stages.specs.declared.copies_node.CopiesNode.{CopiesNode}
 use Rattle.zio_stages.specs.declared.heads_node.HeadsNode.{HeadsNode}
 use Rattle.zio_stages.specs.declared.own_read.BodyIo.{BodyIo}
@@ -44,9 +45,28 @@ IsReadWith P (Claim w) = ⊥
 IsReadWith P (Found own) = Unit {0}
 IsReadWith P Over = ⊥
 
+-- its block is read, and this holds of that
+abbrev pub IsReadingWith : (OwnRead → Type 0) → Own → Type 0
+IsReadingWith P Due = ⊥
+IsReadingWith P (Write w) = ⊥
+IsReadingWith P (Stored b) = ⊥
+IsReadingWith P (Read w) = P w
+IsReadingWith P (Free w) = ⊥
+IsReadingWith P (Claim w) = ⊥
+IsReadingWith P (Found own) = ⊥
+IsReadingWith P Over = ⊥
+
 -- no body is read by the node itself
 abbrev pub IsAlone : OwnRead → Type 0
 IsAlone w = w.body ≡ None
+
+-- a gang child walks over the headers
+abbrev pub IsWalkAlone : OwnRead → Type 0
+IsWalkAlone w = IsAlone w × IsWalkOut w.tree
+
+-- a gang child reads a body, the operation of this number
+abbrev pub IsBodyAlone : ℕ → OwnRead → Type 0
+IsBodyAlone n w = IsAlone w × IsBodyOut w.tree n
 
 -- nothing of the pass is out, and nothing can be handed out in it
 abbrev pub IsBodyDue : List Top → OwnRead → Type 0

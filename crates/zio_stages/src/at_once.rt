@@ -50,7 +50,7 @@ fn left_at_once(alloc: Global, walk: HeadWalk) -> Result<Option<Walked>, NoMemor
 }
 
 /// The path of a whole block.
-fn root() -> Path
+pub(crate) fn root() -> Path
     ensures { result ≡ [] }
 {
     Path {

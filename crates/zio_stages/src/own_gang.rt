@@ -15,9 +15,11 @@ ghost use Rattle.zio_frames.specs.Seats.{IsSeated};
 ghost use Rattle.zio_frames.specs.Slots.{Slot};
 ghost use Rattle.zio_parts.specs.TreeReads.{ShowsRead};
 ghost use Rattle.zio_parts.specs.declared.tree_read.TreeStep.TheVariants.{Body, Walk};
+ghost use Rattle.zio_stages.specs.NodeIos.{NoneSits};
 ghost use Rattle.zio_stages.specs.OwnParts.{GoesOnAs, HandsTo};
 ghost use Rattle.zio_stages.specs.OwnReads.{IsBodyOut, IsOwnRead, IsWalkOut};
 ghost use Rattle.zio_stages.specs.TreeWorks.{bodies_after, body_task, heads_task};
+ghost use Rattle.zio_stages.specs.declared.family.Layer.TheVariants.{Within};
 
 use crate::family::{Family, Seat};
 use crate::own_read::{OwnRead, number_of};
@@ -41,6 +43,7 @@ impl OwnRead {
             HandsTo t Gang (λ op. op ≡ heads_task tree) (IsOwnRead t self.new family.new tree front_asked before) st) }
         ensures alone { self.new.body ≡ None }
         ensures bodies { self.new.tree.read.bodies ≡ self.old.tree.read.bodies }
+        ensures sits { OnOk result (NoneSits Within family.old → NoneSits Within family.new) }
         ensures err { OnErr result (self.new ≡ self.old) }
         ensures family_err { OnErr result (family.new ≡ family.old) }
     {
@@ -65,6 +68,7 @@ impl OwnRead {
             GoesOnAs t tops (plan_tree tree) before st → IsOwnRead t self.old family.old tree front_asked before st →
             HandsTo t Gang (λ op. op ≡ body_task body.bp) (IsOwnRead t self.new family.new tree front_asked before) st) }
         ensures bodies { self.new.tree.read.bodies ≡ self.old.tree.read.bodies }
+        ensures sits { OnOk result (NoneSits Within family.old → NoneSits Within family.new) }
         ensures alone { self.new.body ≡ None }
         ensures err { OnErr result (self.new ≡ self.old) }
         ensures family_err { OnErr result (family.new ≡ family.old) }
@@ -87,7 +91,8 @@ impl OwnRead {
     pub(crate) fn arrive_ready(&self, family: &mut Family, child: u32)
         requires child { child < length family.old }
         requires alone { self.now.body ≡ None }
-        ensures { (t : Terms) (tree : Tree) (front_asked : List Task) (before : List Slot) (st : Stack) (c : Child) (n : ℕ) (pointer : Option SeenBp) →
+        ensures sits { NoneSits Within family.old → NoneSits Within family.new }
+        ensures told { (t : Terms) (tree : Tree) (front_asked : List Task) (before : List Slot) (st : Stack) (c : Child) (n : ℕ) (pointer : Option SeenBp) →
             slice_get st.children child ≡ Some c → c.seat ≡ OfOuter (length before + n) → IsSeated st → c.ended ≡ false → c.told ≡ false →
             IsOwnRead t self.now family.old tree front_asked before st → IsOwnRead t self.now family.new tree front_asked before (heard_early st child c pointer) }
     {
@@ -104,6 +109,7 @@ impl OwnRead {
             IsOwnRead t self.old family.old tree front_asked before st →
             IsOwnRead t self.new family.new tree front_asked before (heard_of st child c (WalkedBy walked)) }
         ensures bodies { self.new.tree.read.bodies ≡ bodies_after self.old.tree.read.bodies walked }
+        ensures sits { NoneSits Within family.old → NoneSits Within family.new }
         ensures alone { self.new.body ≡ None }
     {
         self.tree.hear_walk(walked);
@@ -125,6 +131,7 @@ impl OwnRead {
             slice_get st.children child ≡ Some c → c.seat ≡ OfOuter (length before + n) →
             IsOwnRead t self.old family.old tree front_asked before st →
             IsOwnRead t self.new family.new tree front_asked before (heard_of st child c (Got a)) }
+        ensures sits { NoneSits Within family.old → NoneSits Within family.new }
         ensures bodies { self.new.tree.read.bodies ≡ self.old.tree.read.bodies }
         ensures alone { self.new.body ≡ None }
     {

@@ -124,6 +124,29 @@ impl OwnRead {
         Ok(())
     }
 
+    /// The read of the next body begins as the part within, if it is due and none is there. Where memory is refused nothing does.
+    pub(crate) fn begin_next(
+        &mut self,
+        alloc: Global,
+        tops: &[Top],
+        prio: Prio,
+    ) -> Result<(), NoMemory>
+        requires { AllByRecursion (IsBodyOn tops.now) self.old.tree.read.bodies }
+        ensures begins { (t : Terms) (family : List Child) (tree : Tree) (front_asked : List Task) (front : List Slot) (st : Stack) →
+            GoesOnAs t tops.now (plan_tree tree) front st → IsOwnRead t self.old family tree front_asked front st →
+            DoesThen t st [] (IsOwnRead t self.new family tree front_asked front) }
+        ensures over { (family : List Child) → IsOwnReadOver tops.now self.old family → IsOwnReadOver tops.now self.new family }
+        ensures bodies { self.new.tree.read.bodies ≡ self.old.tree.read.bodies }
+    {
+        if self.body.is_some() {
+            return Ok(());
+        }
+        match self.next() {
+            TreeStep::Body(body) => self.begin_body(alloc, tops, body, prio),
+            TreeStep::Walk | TreeStep::Wait | TreeStep::End => Ok(()),
+        }
+    }
+
     /// The next operation on a leaf of the part within, whose child was added, or none where none is due now. Where memory is
     /// refused all is as before.
     pub(crate) fn vdev_io_start(

@@ -3,44 +3,62 @@
 //! Once its children were all handed out, the block that it names is read: the walk over its headers, and then its bodies. Of a
 //! block that is no gang the node does both itself, as parts within its own; a gang's headers and bodies are its children's.
 
-ghost use Rattle.std.specs.Prelude.{◌≡◌, ◌^◌, ◌-◌, ◌<◌, [], IfErr, IfOk, IfSome, List as Seq, None, Ok, OnErr, OnOk, Some, false, length, true};
+ghost use Rattle.std.specs.Prelude.{◌≡◌, ◌^◌, ◌-◌, ◌<◌, ℕ, [], IfErr, IfOk, IfSome, List as Seq, None, Ok, OnErr, OnOk, Option, Some, false, length, slice_get, true};
 ghost use Rattle.std.specs.List.{AllByRecursion, list_all};
 ghost use Rattle.zio_types.specs.declared.place.Top.{Top as SeenTop};
 ghost use Rattle.zio_types.specs.declared.request.ChildKind.TheVariants.{Vdev};
 ghost use Rattle.zio_types.specs.declared.request.Phase.TheVariants.{Done};
+ghost use Rattle.zio_blkptr.specs.declared.pointer.Bp.{Bp};
 ghost use Rattle.zio_gang.specs.Attempts.{Terms};
+ghost use Rattle.zio_trace.specs.Leaves.{Answer};
 ghost use Rattle.zio_trace.specs.Plans.{own_read_by};
+ghost use Rattle.zio_trace.specs.Tasks.{Got, WalkedBy};
 ghost use Rattle.zio_children.specs.RequestKids.{is_ended};
-ghost use Rattle.zio_frames.specs.Frames.{Stack};
+ghost use Rattle.zio_frames.specs.Frames.{Child, Stack};
+ghost use Rattle.zio_frames.specs.Moves.{heard_early, heard_of};
 ghost use Rattle.zio_frames.specs.Seats.{IsSeated};
-ghost use Rattle.zio_parts.specs.TreeReads.{ShowsRead};
-ghost use Rattle.zio_stages.specs.CopiesNodes.{IsCopiesOver};
 ghost use Rattle.zio_stages.specs.LeafWorks.{IsDue};
-ghost use Rattle.zio_stages.specs.NodeIos.{StartsBy};
+ghost use Rattle.zio_stages.specs.NodeIos.{IsAwaitedAt, StartsBy};
 ghost use Rattle.zio_stages.specs.OwnFounds.{own_got};
 ghost use Rattle.zio_stages.specs.OwnParts.{DoesThen, IsOwed};
+ghost use Rattle.zio_stages.specs.OwnReads.{IsBodyOn};
 ghost use Rattle.zio_stages.specs.RequestNodes.{IsOwnOver, IsRequestNode};
-ghost use Rattle.zio_stages.specs.RequestOwns.{IsWaitingOver};
+ghost use Rattle.zio_stages.specs.RequestOwns.{IsOwnSeat, IsWaitingOver};
 ghost use Rattle.zio_stages.specs.RequestReads.{
   HandsBody,
   HandsWalk,
   HasFound,
   HasReadEnded,
   IsAlone,
+  IsBodyAlone,
   IsBodyDue,
   IsBodyStageOver,
   IsReadWith,
   IsReadWork,
+  IsReadingWith,
+  IsWalkAlone,
   IsWalkOver,
 };
+ghost use Rattle.zio_stages.specs.declared.family.Layer.TheVariants.{Within};
 
+use crate::at_once::root;
+use crate::attempted::RequestKids;
+use crate::check::Check;
 use crate::copies_node::CopiesNode;
+use crate::family::Family;
+use crate::heads_node::HeadsNode;
+use crate::leaf::LeafWork;
+use crate::named::Named;
+use crate::node_io::IoNext;
 use crate::own_read::OwnRead;
+use crate::pointer_places::places_of;
 use crate::request_node::{DoneStep, Own, OwnFound, RequestNode};
 use std::alloc::Global;
 use std::mem::replace;
-use zio_parts::TreeStep;
-use zio_types::{Bytes, ChildKind, Errno, List, NoMemory};
+use zio_gang::Head;
+use zio_parts::{LEVELS_MAX, TreeStep, Walked};
+use zio_script::Work;
+use zio_types::{Bytes, ChildKind, Errno, List, NoMemory, Prio, ReqNo, Role, Top};
 
 /// What a read of a gang hands out next.
 #[derive(Drop)]
@@ -88,6 +106,145 @@ impl RequestNode {
         own.read_bp_init(alloc, bp)?;
         self.own = Own::Read(own);
         Ok(())
+    }
+
+    /// Hands the walk over a gang's headers to a child, if it is due. Where memory is refused all is as before.
+    pub fn gang_assemble_read(&mut self, alloc: Global) -> Result<Option<HeadsNode>, NoMemory>
+        requires reads { IsReadWith IsAlone self.old.own }
+        requires attempt { self.old.attempt < 4 }
+        requires on { (tops : Seq SeenTop) × IsWaitingOver tops self.old.waiting }
+        ensures hands { IfOk result (λ child. (t : Terms) (st : Stack) → IsRequestNode t self.old st → HandsWalk t child (IsRequestNode t self.new) st) }
+        ensures child_over { IfOk result (λ child. (tops : Seq SeenTop) → IsWaitingOver tops self.old.waiting → IsWalkOver tops child) }
+        ensures over { (tops : Seq SeenTop) → IsOwnOver tops self.old.own self.old.family → IsOwnOver tops self.new.own self.new.family }
+        ensures reads { IsReadWith IsAlone self.new.own }
+        ensures waiting { self.new.waiting ≡ self.old.waiting }
+        ensures err { OnErr result (self.new ≡ self.old) }
+    {
+        let Own::Read(own) = &mut self.own else {
+            return Ok(None);
+        };
+        let TreeStep::Walk = own.next() else {
+            return Ok(None);
+        };
+        let Some(tree) = &self.waiting.block else {
+            return Ok(None);
+        };
+        let front = front_of(&self.kids, &self.family)?;
+        let heads = heads_again(alloc, tree.heads.as_slice())?;
+        let name = name_of(self.waiting.request.number, self.attempt);
+        own.gang_assemble(&mut self.family, front, name.part_label())?;
+        let prio = prio_of(&self.waiting.request.work);
+        Ok(Some(HeadsNode::kept(alloc, LEVELS_MAX, name.path, tree.bp, heads, prio, name)))
+    }
+
+    /// Hands the read of a gang's next body to a child. Where memory is refused all is as before.
+    pub fn gang_issue_read(&mut self, alloc: Global, tops: &[Top]) -> Result<BodyStage, NoMemory>
+        requires reads { IsReadWith IsAlone self.old.own }
+        requires attempt { self.old.attempt < 4 }
+        requires over { IsOwnOver tops.now self.old.own self.old.family }
+        ensures hands { IfOk result (λ stage. (t : Terms) (st : Stack) → t.setting.tops ≡ tops.now → IsRequestNode t self.old st →
+            HandsBody t stage (IsRequestNode t self.new) st) }
+        ensures child_over { IfOk result (IsBodyStageOver tops.now) }
+        ensures over { IsOwnOver tops.now self.new.own self.new.family }
+        ensures reads { IsReadWith IsAlone self.new.own }
+        ensures waiting { self.new.waiting ≡ self.old.waiting }
+        ensures err { OnErr result (self.new ≡ self.old) }
+    {
+        let gang = self.is_gang();
+        let Own::Read(own) = &mut self.own else {
+            return Ok(BodyStage::On);
+        };
+        if !gang {
+            return Ok(BodyStage::On);
+        }
+        match own.next() {
+            TreeStep::Body(body) => {
+                let front = front_of(&self.kids, &self.family)?;
+                let places = places_of(alloc, &body.bp)?;
+                let name = name_of(self.waiting.request.number, self.attempt);
+                own.gang_issue(&mut self.family, front, body, name.part_label())?;
+                let prio = prio_of(&self.waiting.request.work);
+                let len = body.bp.size as usize;
+                let check = Check::body(body.bp);
+                Ok(BodyStage::Body(CopiesNode::new(
+                    alloc, tops, places, len, true, check, prio, name,
+                )))
+            }
+            TreeStep::Wait => Ok(BodyStage::Wait),
+            TreeStep::Walk | TreeStep::End => Ok(BodyStage::On),
+        }
+    }
+
+    /// Whether the block that the request names is a gang.
+    fn is_gang(&self) -> bool {
+        match &self.waiting.block {
+            Some(tree) => tree.bp.gang,
+            None => false,
+        }
+    }
+
+    /// The next operation on a leaf of a body that the node reads itself, whose read begins if it is due. None is there where none
+    /// is due now. Where memory is refused the body's read may have begun.
+    pub fn vdev_io_start_read(
+        &mut self,
+        alloc: Global,
+        tops: &[Top],
+    ) -> Result<Option<LeafWork>, NoMemory>
+        requires attempt { self.old.attempt < 4 }
+        requires over { IsOwnOver tops.now self.old.own self.old.family }
+        ensures starts { IfOk result (λ leaf. (t : Terms) (st : Stack) → t.setting.tops ≡ tops.now → IsRequestNode t self.old st →
+            DoesThen t st [] (λ mid. StartsBy t mid leaf (IsRequestNode t self.new))) }
+        ensures err { OnErr result ((t : Terms) (st : Stack) → t.setting.tops ≡ tops.now → IsRequestNode t self.old st →
+            DoesThen t st [] (IsRequestNode t self.new)) }
+        ensures over { IsOwnOver tops.now self.new.own self.new.family }
+        ensures due { IfOk result (λ leaf. IfSome leaf IsDue) }
+        ensures waiting { self.new.waiting ≡ self.old.waiting }
+    {
+        let prio = prio_of(&self.waiting.request.work);
+        let name = name_of(self.waiting.request.number, self.attempt);
+        let Own::Read(own) = &mut self.own else {
+            return Ok(None);
+        };
+        if self.family.len() == u32::MAX {
+            return Err(NoMemory);
+        }
+        own.begin_next(alloc, tops, prio)?;
+        match own.vdev_io_start(&mut self.family, &name, alloc, tops) {
+            Ok(leaf) => Ok(leaf),
+            Err(NoMemory) => Err(NoMemory),
+        }
+    }
+
+    /// What is to be done once no operation on a leaf is due.
+    pub fn vdev_io_done_read(&self, tops: &[Top]) -> IoNext
+        requires reads { IsReadWith (λ w. Unit {0}) self.now.own }
+        requires over { IsOwnOver tops.now self.now.own self.now.family }
+        ensures waits { result ≡ IoNext.Wait → (t : Terms) (st : Stack) → t.setting.tops ≡ tops.now → IsSeated st → IsRequestNode t self.now st →
+            IsOwed Vdev Done st }
+        ensures due { result ≡ IoNext.On → IsReadWith (IsBodyDue tops.now) self.now.own }
+    {
+        match &self.own {
+            Own::Read(own) => own.vdev_io_done(tops),
+            _ => IoNext::On,
+        }
+    }
+
+    /// The second pass over the body that the node reads itself begins if it is due, and this is true; else its read closes, if there
+    /// is one.
+    pub fn vdev_io_assess_read(&mut self, tops: &[Top]) -> bool
+        requires due { IsReadWith (IsBodyDue tops.now) self.old.own }
+        requires over { IsOwnOver tops.now self.old.own self.old.family }
+        ensures does { (t : Terms) (st : Stack) → t.setting.tops ≡ tops.now → IsRequestNode t self.old st →
+            DoesThen t st [] (IsRequestNode t self.new) }
+        ensures alone { result ≡ false → IsReadWith IsAlone self.new.own }
+        ensures over { IsOwnOver tops.now self.new.own self.new.family }
+        ensures reads { IsReadWith (λ w. Unit {0}) self.new.own }
+        ensures waiting { self.new.waiting ≡ self.old.waiting }
+    {
+        match &mut self.own {
+            Own::Read(own) => own.vdev_io_assess(&self.family, tops),
+            _ => false,
+        }
     }
 
     /// Whether all that a read asked has ended, once no body is read by the node itself.
@@ -139,6 +296,116 @@ impl RequestNode {
             Own::Due | Own::Write(_) | Own::Stored(_) | Own::Free(_) | Own::Claim(_) | Own::Over =>
                 unreachable!(),
         }
+    }
+
+    /// An operation on a leaf of the body that the node reads itself has ended: with the bytes of its read, with none of a repair, or
+    /// with an error.
+    pub fn arrive_leaf_read(&mut self, tops: &[Top], child: u32, found: Result<Bytes, Errno>)
+        requires reads { IsReadingWith (λ w. Unit {0}) self.old.own }
+        requires over { IsOwnOver tops.now self.old.own self.old.family }
+        requires awaited { IsAwaitedAt Within self.old.family child }
+        ensures heard { (t : Terms) (st : Stack) (c : Child) (a : Answer) → t.setting.tops ≡ tops.now → found ≡ a →
+            slice_get st.children child ≡ Some c → IsRequestNode t self.old st → IsRequestNode t self.new (heard_of st child c (Got a)) }
+        ensures over { IsOwnOver tops.now self.new.own self.new.family }
+        ensures waiting { self.new.waiting ≡ self.old.waiting }
+    {
+        match &mut self.own {
+            Own::Read(own) => own.arrive_leaf(&mut self.family, tops, child, found),
+            _ => unreachable!(),
+        }
+    }
+
+    /// The gang child that walked over the block's headers has ended, and left this.
+    pub fn arrive_walked_read(&mut self, tops: &[Top], child: u32, walked: Walked)
+        requires seat { IsOwnSeat self.old child 0 }
+        requires out { IsReadingWith IsWalkAlone self.old.own }
+        requires on { AllByRecursion (IsBodyOn tops.now) walked.bodies }
+        requires over { IsOwnOver tops.now self.old.own self.old.family }
+        ensures heard { (t : Terms) (st : Stack) (c : Child) → slice_get st.children child ≡ Some c → IsRequestNode t self.old st →
+            IsRequestNode t self.new (heard_of st child c (WalkedBy walked)) }
+        ensures over { IsOwnOver tops.now self.new.own self.new.family }
+        ensures reads { IsReadWith IsAlone self.new.own }
+        ensures waiting { self.new.waiting ≡ self.old.waiting }
+    {
+        match &mut self.own {
+            Own::Read(own) => own.arrive_walked(&mut self.family, child, walked),
+            _ => unreachable!(),
+        }
+    }
+
+    /// The gang child that read a body, the own work's operation of this number, has ended: with the body's bytes, or with an error.
+    pub fn arrive_body(&mut self, tops: &[Top], child: u32, n: u32, found: Result<Bytes, Errno>)
+        requires seat { IsOwnSeat self.old child n }
+        requires out { IsReadingWith (IsBodyAlone n) self.old.own }
+        requires over { IsOwnOver tops.now self.old.own self.old.family }
+        ensures heard { (t : Terms) (st : Stack) (c : Child) (a : Answer) → found ≡ a → slice_get st.children child ≡ Some c →
+            IsRequestNode t self.old st → IsRequestNode t self.new (heard_of st child c (Got a)) }
+        ensures over { IsOwnOver tops.now self.new.own self.new.family }
+        ensures reads { IsReadWith IsAlone self.new.own }
+        ensures waiting { self.new.waiting ≡ self.old.waiting }
+    {
+        match &mut self.own {
+            Own::Read(own) => own.arrive_found(&mut self.family, child, n, found),
+            _ => unreachable!(),
+        }
+    }
+
+    /// A gang child of its own work told that it has no pointer.
+    pub fn arrive_ready_read(&mut self, child: u32)
+        requires seat { (n : ℕ) × IsOwnSeat self.old child n }
+        requires alone { IsReadingWith IsAlone self.old.own }
+        ensures told { (t : Terms) (st : Stack) (c : Child) (pointer : Option Bp) → IsSeated st → slice_get st.children child ≡ Some c →
+            c.ended ≡ false → c.told ≡ false → IsRequestNode t self.old st → IsRequestNode t self.new (heard_early st child c pointer) }
+        ensures over { (tops : Seq SeenTop) → IsOwnOver tops self.old.own self.old.family → IsOwnOver tops self.new.own self.new.family }
+        ensures own { self.new.own ≡ self.old.own }
+        ensures waiting { self.new.waiting ≡ self.old.waiting }
+    {
+        match &self.own {
+            Own::Read(own) => own.arrive_ready(&mut self.family, child),
+            _ => unreachable!(),
+        }
+    }
+}
+
+/// How many operations for its children stand before its own work, if one more child can be counted.
+pub(crate) fn front_of(kids: &RequestKids, family: &Family) -> Result<u32, NoMemory>
+    ensures front { IfOk result (λ front. front ≡ length kids.now.kids.kids) }
+    ensures room { IfOk result (λ front. length family.now < 2 ^ 32 - 1) }
+{
+    if family.len() == u32::MAX || kids.len() > u32::MAX as usize {
+        return Err(NoMemory);
+    }
+    Ok(kids.len() as u32)
+}
+
+/// The name of the whole block's work of the request with this number.
+pub(crate) fn name_of(number: ReqNo, attempt: u32) -> Named
+    requires { attempt < 4 }
+    ensures { result.path ≡ [] }
+{
+    // No number of a script is higher.
+    Named::new(number % 65_536, root(), Role::Body, attempt)
+}
+
+/// The same headers once more.
+pub(crate) fn heads_again(alloc: Global, heads: &[Head]) -> Result<List<Head>, NoMemory>
+    ensures { IfOk result (λ copy. copy ≡ heads.now) }
+{
+    let mut copy = Vec::new(alloc);
+    for head in heads {
+        copy.push(Head {
+            path: head.path,
+            bytes: head.bytes,
+        })?;
+    }
+    Ok(List::from_vec(copy))
+}
+
+/// The class of a read's operations on leaves.
+fn prio_of(work: &Work) -> Prio {
+    match work {
+        Work::Read { prio, .. } => *prio,
+        _ => Prio::SyncRead,
     }
 }
 

@@ -8,6 +8,7 @@ use Rattle.zio_stages.specs.TreeWorks.{IsTreeWork}
 use Rattle.zio_stages.specs.declared.own_read.OwnRead.{OwnRead}
 use Rattle.zio_stages.proofs.NodeIoLemmas.{ended_is}
 use Rattle.zio_stages.proofs.OwnGangLemmas.{hears_read}
+use Rattle.zio_stages.proofs.RequestReadMoves.{none_ended}
 use Rattle.zio_stages.proofs.own_read.OwnRead.arrive_found.Goals as goal
 
 pub hear_body-requires-clause-behind : goal.hear_body-requires-clause-behind
@@ -25,3 +26,6 @@ returns-clause-heard c = λ t tree front_asked before st x a found there seat h.
     hears_read t old new family c.end.new.self tree front_asked before st c.args.child c.args.n x (Got a) c.requires.alone c.requires.alone there seat
     (ended_is family c.end.new.self c.args.child x mine c.end.ensures) h
     (subst (λ (r : Answer). IsTreeWork new.tree tree h.asked (set h.begun c.args.n (Heard (Got r)))) found (c.hear_body.ensures.heard tree h.asked h.begun h.work))
+
+pub returns-clause-sits : goal.returns-clause-sits
+returns-clause-sits c = λ none. none_ended c.args.family.now c.end.new.self c.args.child c.requires.child c.end.ensures none

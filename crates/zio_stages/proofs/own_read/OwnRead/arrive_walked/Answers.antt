@@ -5,6 +5,7 @@ use Rattle.zio_parts.specs.HeadWalks.{no_walk}
 use Rattle.zio_stages.specs.declared.own_read.OwnRead.{OwnRead}
 use Rattle.zio_stages.proofs.NodeIoLemmas.{ended_is}
 use Rattle.zio_stages.proofs.OwnGangLemmas.{hears_read}
+use Rattle.zio_stages.proofs.RequestReadMoves.{none_ended}
 use Rattle.zio_stages.proofs.own_read.OwnRead.arrive_walked.Goals as goal
 
 pub hear_walk-requires : goal.hear_walk-requires
@@ -19,3 +20,6 @@ returns-clause-heard c = λ t tree front_asked before st x there seat h.
     let at : length before ≡ length before + 0 = omega arith in
     hears_read t old new family c.end.new.self tree front_asked before st c.args.child 0 x (WalkedBy c.args.walked) c.requires.alone c.requires.alone there (seat ∙ ap (λ n. OfOuter n) at)
     (ended_is family c.end.new.self c.args.child x mine c.end.ensures) h (c.hear_walk.ensures.heard tree h.asked h.begun h.work)
+
+pub returns-clause-sits : goal.returns-clause-sits
+returns-clause-sits c = λ none. none_ended c.args.family.now c.end.new.self c.args.child c.requires.child c.end.ensures none

@@ -1,9 +1,12 @@
-use Rattle.std.proofs.Common.{◌≡◌, ◌+◌, ◌<◌, None, refl, length, arith}
+use Rattle.std.proofs.Common.{◌≡◌, ◌+◌, ◌<◌, None, refl, length, arith, sym, subst}
 use Rattle.zio_stages.specs.TreeWorks.{body_task}
 use Rattle.zio_stages.specs.declared.own_read.OwnRead.{OwnRead}
 use Rattle.zio_stages.specs.declared.tree.TreeWork.{TreeWork}
 use Rattle.zio_stages.proofs.OwnGangLemmas.{hands_read}
 use Rattle.zio_stages.proofs.OwnReadLemmas.{asked_before, reads_more}
+use Rattle.zio_stages.specs.NodeIos.{NoneSits}
+use Rattle.zio_stages.specs.declared.family.Layer.TheVariants.{Within}
+use Rattle.zio_stages.proofs.PartMembers.{none_beside}
 use Rattle.zio_stages.proofs.own_read.OwnRead.gang_issue.Goals as goal
 
 pub take_back_body-requires : goal.take_back_body-requires
@@ -23,3 +26,6 @@ returns-in-Ok-clause-hands c = λ t tops tree front_asked before st count goes h
 
 pub returns-in-Err-clause-err : goal.returns-in-Err-clause-err
 returns-in-Err-clause-err c = λ i. record { tree = record { read = c.take_back_body.ensures c.args.self.now.tree.read c.in_ok-hand_out_body.ensures.handed i }; body = c.args.self.now.body }
+
+pub returns-in-Ok-clause-sits : goal.returns-in-Ok-clause-sits
+returns-in-Ok-clause-sits c = λ none. subst (NoneSits Within) (sym c.in-Ok.ensures.ok) (none_beside c.args.family.now (c.args.front + c.in_ok-number.number) none)

@@ -1,0 +1,59 @@
+use Rattle.std.proofs.Common.{◌≡◌, ◌+◌, ◌≤◌, List, [], length, Some, IsTrue, refl, sym, ap, subst, ◌∙◌, arith}
+use Rattle.std.specs.Prelude.{IfSome, Option}
+use Rattle.std.specs.List.{AllByRecursion}
+use Rattle.zio_blkptr.specs.Pointers.{valid}
+use Rattle.zio_gang.specs.declared.tree.Head.{Head}
+use Rattle.zio_gang.specs.declared.tree.Tree.{Tree}
+use Rattle.zio_gang.specs.Trees.{header_levels_max}
+use Rattle.zio_trace.specs.Tasks.{ByKept, ReadHeads, Task}
+use Rattle.zio_frames.specs.Frames.{fresh_stack}
+use Rattle.zio_parts.specs.TreeReads.{ShowsRead}
+use Rattle.zio_stages.specs.HeadsNodes.{IsHeadOn, IsHeadsNode, LiesOn}
+use Rattle.zio_stages.specs.OwnReads.{IsBodyOn}
+use Rattle.zio_stages.specs.RequestNodes.{IsOwnOver}
+use Rattle.zio_stages.specs.RequestOwns.{IsBlockOn}
+use Rattle.zio_stages.specs.RequestReads.{IsAlone, IsReadWith}
+use Rattle.zio_stages.specs.TreeWorks.{heads_task}
+use Rattle.zio_stages.specs.declared.request_node.Own.{Own}
+use Rattle.zio_stages.proofs.RequestOwnMoves.{own_read, read_goes_on, read_in, reads_block}
+use Rattle.zio_stages.proofs.RequestReadMoves.{count_front, hands_own, over_alone, same_block}
+use Rattle.zio_stages.proofs.request_node.RequestNode.gang_assemble_read.Goals as goal
+
+pub gang_assemble-requires : goal.gang_assemble-requires
+gang_assemble-requires c = record {
+  walk = subst (ShowsRead c.in-Read.own.tree.read) c.in-Walk.is c.next.ensures.shows;
+  alone = subst (IsReadWith IsAlone) c.in-Read.is c.requires.reads;
+  room = c.in_ok-front.ensures.room;
+}
+
+pub kept-requires-clause-depth : goal.kept-requires-clause-depth
+kept-requires-clause-depth c = let e : length c.name_of-name.result.path ≡ 0 = ap length c.name_of-name.ensures in omega (arith, e)
+
+pub kept-requires-clause-valid : goal.kept-requires-clause-valid
+kept-requires-clause-valid c = (subst (λ (o : Option Tree). IfSome o (IsBlockOn c.requires.on.0)) c.in-Some.is c.requires.on.1).of_valid
+
+pub returns-clause-hands : goal.returns-clause-hands
+returns-clause-hands c = λ t st h.
+    let r = c.args.self.now in
+    let w = c.in-Read.own in
+    let own = read_in t r st w h c.in-Read.is in
+    let tree = c.in-Some.tree in
+    let same : tree ≡ own.tree = same_block r.waiting.block tree own.tree c.in-Some.is own.block in
+    let heads = c.in_ok-heads.ensures ∙ c.as_slice.ensures in
+    let op : ReadHeads (ByKept c.in_ok-heads.heads) 8 c.name_of-name.result.path tree.bp ≡ heads_task own.tree =
+    (λ i. ReadHeads (ByKept (heads i)) 8 (c.name_of-name.ensures i) tree.bp) ∙ ap heads_task same in
+    hands_own t r st w c.gang_assemble.new.self c.gang_assemble.new.family (λ o. o ≡ heads_task own.tree) (λ o. IsHeadsNode t c.kept.result (fresh_stack o)) h own
+    (λ o is. subst (λ (q : Task). IsHeadsNode t c.kept.result (fresh_stack q)) (op ∙ sym is) (c.kept.ensures.fresh t))
+    (c.in_ok-gang_assemble.ensures.hands t t.setting.tops own.tree h.kid_asked h.kid_slots st (count_front t r st h own.all ∙ sym c.in_ok-front.ensures.front)
+    (read_goes_on t t.setting.tops r st own.tree h refl (reads_block t r st w h own)) (own_read t r st w h own))
+
+pub returns-clause-child_over : goal.returns-clause-child_over
+returns-clause-child_over c = λ tops on.
+    let lies = subst (λ (o : Option Tree). IfSome o (IsBlockOn tops)) c.in-Some.is on in
+    c.kept.ensures.over tops lies.lies (subst (λ (hs : List Head). AllByRecursion (IsHeadOn tops) hs) (sym (c.in_ok-heads.ensures ∙ c.as_slice.ensures)) lies.heads)
+
+pub returns-clause-over : goal.returns-clause-over
+returns-clause-over c = λ tops over.
+    let r = c.args.self.now in
+    over_alone tops c.in-Read.own c.gang_assemble.new.self r.family c.gang_assemble.new.family (subst (IsReadWith IsAlone) c.in-Read.is c.requires.reads) c.in_ok-gang_assemble.ensures.alone
+    (subst (AllByRecursion (IsBodyOn tops)) (sym c.in_ok-gang_assemble.ensures.bodies)) c.in_ok-gang_assemble.ensures.sits (subst (λ (o : Own). IsOwnOver tops o r.family) c.in-Read.is over)

@@ -1,6 +1,7 @@
 pub mod ActLemmas
 pub mod Allowed
 pub mod Answered
+pub mod AttemptMoves
 pub mod Callings
 pub mod ClaimCalls
 pub mod ClaimsLast
@@ -58,6 +59,7 @@ pub mod Spans
 pub mod Steps
 pub mod TakenKeys
 pub mod Tops
+pub mod TreeMoves
 pub mod TurnLoops
 pub mod TurnMoves
 pub mod Waits

@@ -1,5 +1,6 @@
 pub mod Acts
 pub mod AtLeaves
+pub mod Attempting
 pub mod DeskLaws
 pub mod Desks
 pub mod Engine
@@ -10,4 +11,5 @@ pub mod Parts
 pub mod Rounds
 pub mod Slabs
 pub mod Stages
+pub mod UnderTrees
 pub mod UnderTurns

@@ -14,6 +14,7 @@ pub mod node;
 mod shelf;
 pub mod staged;
 pub mod step;
+mod trees;
 pub mod turn;
 pub mod turns;
 
@@ -27,5 +28,6 @@ pub use laws::{
 };
 pub use node::Node;
 pub use staged::{BothBack, Move, Staged};
+pub use trees::{TreeEnd, begin_attempt, hear_tree};
 pub use turn::{Turned, run_turn};
 pub use turns::Turns;

@@ -3,7 +3,7 @@ use Rattle.std.proofs.Common.{◌≡◌, ℕ, zero, suc, ◌-◌, ◌<◌, ◌�
 use Rattle.std.specs.Prelude.{option_map}
 use Rattle.zio_types.specs.declared.request.ChildKind.TheVariants.{Gang, Logical}
 use Rattle.zio_blkptr.specs.declared.pointer.Bp.{Bp}
-use Rattle.zio_gang.specs.Attempts.{Terms}
+use Rattle.zio_gang.specs.Attempts.{Pending, Terms}
 use Rattle.zio_trace.specs.Families.{Forest}
 use Rattle.zio_trace.specs.Tasks.{Attempt, AttemptedBy, Leaf, One, Task}
 use Rattle.zio_trace.specs.Underway.{early}
@@ -22,7 +22,7 @@ use Rattle.zio_blkptr.specs.Pointers.{pointer_of}
 use Rattle.zio_stages.specs.OwnReads.{IsBodyIn}
 use Rattle.zio_stages.specs.PartWorks.{IsPartWithin}
 use Rattle.zio_stages.specs.declared.own_read.BodyIo.{BodyIo}
-use Rattle.zio_stages.specs.RequestHearings.{HearsEarlyOf, HearsValueOf, IsAttemptedBy, IsKidTold}
+use Rattle.zio_stages.specs.RequestHearings.{HearsEarlyOf, HearsValueOf, IsAttemptedBy, IsKidTold, IsNoAttempt, IsUnderWay}
 use Rattle.zio_stages.specs.RequestNodes.{IsKidAt, IsOwnOf, IsRequestNode, IsSeatOf}
 use Rattle.zio_stages.specs.declared.request_node.Own.{Own}
 use Rattle.zio_stages.specs.declared.request_node.Own.TheVariants.{Claim, Due as OwnDue, Found, Free, Over, Read, Stored, Write}
@@ -33,10 +33,11 @@ use Rattle.zio_stages.proofs.OutPlaces.{get_behind, read_asks, write_asks}
 use Rattle.zio_stages.proofs.OwnKinds.{claims_gang, frees_gang, reads_gang}
 use Rattle.zio_stages.proofs.PartOwed.{gang_kind, own_out}
 use Rattle.zio_stages.proofs.PartSeats.{not_told}
+use Rattle.zio_stages.proofs.RequestMembers.{gang_attempt, own_place}
 use Rattle.zio_stages.proofs.RequestSits.{IsAttemptAt, asked_there, get_front}
 use Rattle.zio_stages.proofs.RequestWriteLemmas.{front_in, part_at, write_in}
 
--- ---- none of its own work is an attempt
+-- ---- what of its own work is out
 
 out_some : (slots : List Slot) (n : ℕ) (told : Option (Option Bp)) → AllHeard slots → slice_get slots n ≡ Some (IsOut told) → ⊥
 out_some [] n told h e = cc
@@ -67,6 +68,66 @@ own_there t r st m op told h full l asked slot = record {
       ∙ ap (λ (xs : List Slot). slice_get xs m) (sym h.slots) ∙ slot;
 }
 
+asked_none : (inner : Option Inner) (m : ℕ) (op : Task) → inner ≡ None → asked_in_inner inner m ≡ Some op → ⊥
+asked_none inner m op none e =
+    let both : None ≡ Some op = ap (λ (i : Option Inner). asked_in_inner i m) (sym none) ∙ e in cc
+
+-- ---- where some of its own work is out, it is under way
+
+outer_under : (t : Terms) (r : RequestNode) (st : Stack) (own : Own) (n : ℕ) (op : Task) (told : Option (Option Bp))
+    (h : IsRequestNode t r st) → r.own ≡ own → IsOwnAt h.own_asked h.own_slots n op told → IsUnderWay own
+outer_under t r st OwnDue n op told h is at =
+    let own = own_in t r st _ h is in
+    let none : slice_get h.own_slots n ≡ None = ap (λ (xs : List Slot). slice_get xs n) own.1 in
+    let both : None ≡ Some (IsOut told) = sym none ∙ at.slot_is in
+    cc
+outer_under t r st (Write w) n op told h is at = tt
+outer_under t r st (Stored b) n op told h is at = out_some h.own_slots n told (own_in t r st _ h is).heard at.slot_is
+outer_under t r st Over n op told h is at = out_some h.own_slots n told (own_in t r st _ h is).heard at.slot_is
+
+inner_under : (t : Terms) (r : RequestNode) (st : Stack) (own : Own) (m : ℕ) (op : Task) (h : IsRequestNode t r st) → r.own ≡ own
+    → asked_in_inner st.inner m ≡ Some op → IsUnderWay own
+inner_under t r st OwnDue m op h is asked = asked_none st.inner m op (own_in t r st _ h is).2 asked
+inner_under t r st (Write w) m op h is asked = tt
+inner_under t r st (Stored b) m op h is asked = asked_none st.inner m op (own_in t r st _ h is).alone asked
+inner_under t r st Over m op h is asked = asked_none st.inner m op (own_in t r st _ h is).alone asked
+
+under_way : (t : Terms) (r : RequestNode) (st : Stack) (c : Child) (op : Task) (told : Option (Option Bp))
+    → IsRequestNode t r st → SitsAt st c op told → ((attempt : ℕ) (p : Pending) (below : Forest) → op ≡ Attempt attempt p below → ⊥) → IsUnderWay r.own
+under_way t r st c op told h sits never = by c.seat refl where
+  full : length h.kid_asked ≡ length h.kid_slots
+  full = kids_full r.kids r.attempt h.forest h.kid_asked h.kid_slots h.kids
+
+  by : (seat : SeatOf) → c.seat ≡ seat → IsUnderWay r.own
+  by (OfOuter m) e =
+      let asked : slice_get st.outer.asked m ≡ Some op = ap (asked_at st) (sym e) ∙ sits.asked in
+      let slot : slice_get st.outer.slots m ≡ Some (IsOut told) = ap (slot_at st) (sym e) ∙ sits.slot in
+      let place = own_place t r st m op h asked never in
+      let l : length h.kid_slots ≤ m = omega (arith, place.1) in
+      outer_under t r st r.own (m - length h.kid_slots) op told h refl (own_there t r st m op told h full l asked slot)
+  by (OfInner m) e = inner_under t r st r.own m op h refl (ap (asked_at st) (sym e) ∙ sits.asked)
+
+-- a gang child that hasn't told shows it
+pub early_under : (r : RequestNode) (n : ℕ) → HearsEarlyOf Gang r n → IsUnderWay r.own
+early_under r n h =
+    let sits = all_at (HasSeat h.stack) h.stack.children n h.child h.seated.each h.there h.goes in
+    under_way h.terms r h.stack h.child sits.0 sits.1 h.is sits.2 (gang_attempt sits.0 (sym sits.2.kind ∙ h.of_kind))
+
+no_attempt : (op : Task) → (IsAttempt op → ⊥)
+    → (attempt : ℕ) (p : Pending) (below : Forest) → op ≡ Attempt attempt p below → ⊥
+no_attempt op never attempt p below is = never (subst IsAttempt (sym is) tt)
+
+-- and so does a child that ended and was no attempt
+pub value_under : (r : RequestNode) (n : ℕ) → HearsValueOf IsNoAttempt r n → IsUnderWay r.own
+value_under r n x =
+    let h = x.hears in
+    let sits = all_at (HasSeat x.stack) x.stack.children n x.child h.seated.each h.there h.goes in
+    let both : Some sits.0 ≡ Some x.op = sym sits.2.asked ∙ h.asked in
+    let same : sits.0 ≡ x.op = cc in
+    under_way x.terms r x.stack x.child sits.0 sits.1 x.is sits.2 (no_attempt sits.0 (λ a. x.heard (subst IsAttempt same a)))
+
+-- ---- none of it is an attempt
+
 leaf_logical : (op : Task) → IsLeafTask op → kind_of_task op ≡ Logical → ⊥
 leaf_logical (Leaf act) h e = cc
 leaf_logical _ h e = h
@@ -76,12 +137,7 @@ outer_logical : (t : Terms) (r : RequestNode) (st : Stack) (own : Own) (m : ℕ)
     → r.own ≡ own
     → IsOwnAt h.own_asked h.own_slots (m - length h.kid_slots) op told → length h.kid_slots ≤ m
     → slice_get st.outer.asked m ≡ Some op → slice_get st.outer.slots m ≡ Some (IsOut told) → kind_of_task op ≡ Logical → ⊥
-outer_logical t r st OwnDue m op told h is at l asked slot logical =
-    let own = own_in t r st _ h is in
-    let none : slice_get h.own_slots (m - length h.kid_slots) ≡ None =
-    ap (λ (xs : List Slot). slice_get xs (m - length h.kid_slots)) own.1 in
-    let both : None ≡ Some (IsOut told) = sym none ∙ at.slot_is in
-    cc
+outer_logical t r st OwnDue m op told h is at l asked slot logical = outer_under t r st OwnDue _ op told h is at
 outer_logical t r st (Write w) m op told h is at l asked slot logical =
     let own = write_in t r st w h is in
     let out =
@@ -89,9 +145,6 @@ outer_logical t r st (Write w) m op told h is at l asked slot logical =
     (part_at t r st w h own) (omega (arith, l)) asked slot in
     let both : Logical ≡ Gang = sym logical ∙ gang_kind op out.part out.known in
     cc
-outer_logical t r st (Stored b) m op told h is at l asked slot logical =
-    let own = own_in t r st _ h is in
-    out_some h.own_slots (m - length h.kid_slots) told own.heard at.slot_is
 outer_logical t r st (Read w) m op told h is at l asked slot logical =
     let own = own_in t r st _ h is in
     let there : slice_get own.is.asked (m - length h.kid_slots) ≡ Some op =
@@ -118,20 +171,13 @@ outer_logical t r st (Claim w) m op told h is at l asked slot logical =
 outer_logical t r st (Found b) m op told h is at l asked slot logical =
     let own = own_in t r st _ h is in
     out_some h.own_slots (m - length h.kid_slots) told own.heard at.slot_is
-outer_logical t r st Over m op told h is at l asked slot logical =
-    let own = own_in t r st _ h is in
-    out_some h.own_slots (m - length h.kid_slots) told own.heard at.slot_is
-
-asked_none : (inner : Option Inner) (m : ℕ) (op : Task) → inner ≡ None → asked_in_inner inner m ≡ Some op → ⊥
-asked_none inner m op none e =
-    let both : None ≡ Some op = ap (λ (i : Option Inner). asked_in_inner i m) (sym none) ∙ e in cc
+outer_logical t r st (Stored b) m op told h is at l asked slot logical = outer_under t r st (Stored b) _ op told h is at
+outer_logical t r st Over m op told h is at l asked slot logical = outer_under t r st Over _ op told h is at
 
 inner_logical : (t : Terms) (r : RequestNode) (st : Stack) (own : Own) (m : ℕ) (op : Task) (h : IsRequestNode t r st)
     → r.own ≡ own
     → asked_in_inner st.inner m ≡ Some op → kind_of_task op ≡ Logical → ⊥
-inner_logical t r st OwnDue m op h is asked logical =
-    let own = own_in t r st _ h is in
-    asked_none st.inner m op own.2 asked
+inner_logical t r st OwnDue m op h is asked logical = inner_under t r st OwnDue m op h is asked
 inner_logical t r st (Write w) m op h is asked logical = by w.work.io (write_in t r st w h is).is.within where
   by : (io : Option WriteIo) → IsPartWithin t w.work.bytes w.work.own.part (length h.kid_slots) io st.inner → ⊥
   by None k = asked_none st.inner m op k.0 asked
@@ -140,9 +186,6 @@ inner_logical t r st (Write w) m op h is asked logical = by w.work.io (write_in 
       let leaf =
       all_at IsLeafTask k.inside.frame.asked m op (write_asks t w.work.bytes io k.inside.frame k.writes).leaves there in
       leaf_logical op leaf logical
-inner_logical t r st (Stored b) m op h is asked logical =
-    let own = own_in t r st _ h is in
-    asked_none st.inner m op own.alone asked
 inner_logical t r st (Read w) m op h is asked logical = by w.body (own_in t r st _ h is).is.body where
   by : (body : Option BodyIo) → IsBodyIn t body (length h.kid_slots) st → ⊥
   by None k = asked_none st.inner m op k asked
@@ -159,9 +202,8 @@ inner_logical t r st (Claim w) m op h is asked logical =
 inner_logical t r st (Found b) m op h is asked logical =
     let own = own_in t r st _ h is in
     asked_none st.inner m op own.alone asked
-inner_logical t r st Over m op h is asked logical =
-    let own = own_in t r st _ h is in
-    asked_none st.inner m op own.alone asked
+inner_logical t r st (Stored b) m op h is asked logical = inner_under t r st (Stored b) m op h is asked
+inner_logical t r st Over m op h is asked logical = inner_under t r st Over m op h is asked
 
 -- ---- where an attempt sits
 

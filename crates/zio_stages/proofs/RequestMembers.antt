@@ -36,7 +36,7 @@ use Rattle.zio_stages.proofs.RequestWriteLemmas.{front_in, part_at, write_in}
 -- ---- behind the operations for its children
 
 -- what isn't an attempt is one of its own
-own_place : (t : Terms) (r : RequestNode) (st : Stack) (m : ℕ) (op : Task) (h : IsRequestNode t r st)
+pub own_place : (t : Terms) (r : RequestNode) (st : Stack) (m : ℕ) (op : Task) (h : IsRequestNode t r st)
     → slice_get st.outer.asked m ≡ Some op
     → ((attempt : ℕ) (p : Pending) (below : Forest) → op ≡ Attempt attempt p below → ⊥) → (n : ℕ) × (m ≡ length h.kid_slots + n)
 own_place t r st m op h asked never = by (nat_lt m (length h.kid_slots)) refl where
@@ -48,7 +48,7 @@ own_place t r st m op h asked never = by (nat_lt m (length h.kid_slots)) refl wh
       let l : length h.kid_slots ≤ m = ltb-false m (length h.kid_slots) e in
       (m - length h.kid_slots, omega (arith, l))
 
-gang_attempt : (op : Task) → kind_of_task op ≡ Gang → (attempt : ℕ) (p : Pending) (below : Forest)
+pub gang_attempt : (op : Task) → kind_of_task op ≡ Gang → (attempt : ℕ) (p : Pending) (below : Forest)
     → op ≡ Attempt attempt p below → ⊥
 gang_attempt op gang attempt p below is =
     let both : Gang ≡ Logical = sym gang ∙ ap kind_of_task is in cc

@@ -13,6 +13,8 @@ use Rattle.zio_frames.specs.Seats.{IsSeated}
 use Rattle.zio_stages.specs.Outcomes.{IsAttempt}
 use Rattle.zio_stages.specs.OwnParts.{HearsValue}
 use Rattle.zio_stages.specs.RequestNodes.{IsRequestNode, IsSeatOf}
+use Rattle.zio_stages.specs.declared.request_node.Own.{Own}
+use Rattle.zio_stages.specs.declared.request_node.Own.TheVariants.{Due, Over, Stored, Write}
 use Rattle.zio_stages.specs.declared.request_node.RequestNode.{RequestNode}
 
 -- some attempt that it may be in, in which its child of this number, which is of this kind, hasn't told
@@ -38,6 +40,17 @@ pub record HearsValueOf (IsHeard : Task → Value → Type 0) (r : RequestNode) 
   pub is : IsRequestNode terms r stack
   pub hears : HearsValue terms tops stack n child op value
   pub heard : IsHeard op value
+
+-- it isn't an attempt of a child's tree
+abbrev pub IsNoAttempt : Task → Value → Type 0
+IsNoAttempt op v = IsAttempt op → ⊥
+
+-- some of its own work was begun and isn't over
+abbrev pub IsUnderWay : Own → Type 0
+IsUnderWay Due = ⊥
+IsUnderWay (Write w) = Unit {0}
+IsUnderWay (Stored b) = ⊥
+IsUnderWay Over = ⊥
 
 -- an attempt ended with what it left
 abbrev pub IsAttemptedBy : One → Task → Value → Type 0

@@ -55,7 +55,7 @@ pub use family::{Family, Layer, Seat};
 pub use heads::{HeadRead, HeadsWork};
 pub use heads_node::{HeadsBack, HeadsNode, WalkStage};
 pub use io_laws::reads_and_writes_of_copies_ask_leaves;
-pub use kid_laws::logical_children_are_attempts;
+pub use kid_laws::{logical_children_are_attempts, other_children_show_own_work};
 pub use leaf::LeafWork;
 pub use named::Named;
 pub use node_io::IoNext;

@@ -64,6 +64,7 @@ pub mod ReadIoLemmas
 pub mod ReadIoMoves
 pub mod RequestEnds
 pub mod RequestFoundLemmas
+pub mod RequestFreeMoves
 pub mod RequestHears
 pub mod RequestNodeLemmas
 pub mod RequestOwnLemmas

@@ -32,6 +32,7 @@ mod pointer_places;
 mod read_io;
 mod request;
 mod request_found;
+mod request_free;
 mod request_node;
 mod request_read;
 mod request_stored;

@@ -68,6 +68,7 @@ pub mod ReadIoLemmas
 pub mod ReadIoMoves
 pub mod RequestEnds
 pub mod RequestFoundLemmas
+pub mod RequestFreeMoves
 pub mod RequestHears
 pub mod RequestMembers
 pub mod RequestNodeLemmas

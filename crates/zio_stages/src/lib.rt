@@ -33,6 +33,7 @@ mod pointer_places;
 mod read_io;
 mod request;
 mod request_found;
+mod request_free;
 mod request_heard;
 mod request_node;
 mod request_placed;

@@ -13,10 +13,12 @@ ghost use Rattle.zio_trace.specs.Tasks.{Task, WalkedBy};
 ghost use Rattle.zio_frames.specs.Frames.{Child, OfOuter, Stack};
 ghost use Rattle.zio_frames.specs.Moves.{heard_early, heard_of};
 ghost use Rattle.zio_frames.specs.Slots.{AllHeard, Slot, left_behind_slots};
+ghost use Rattle.zio_stages.specs.NodeIos.{NoneSits};
 ghost use Rattle.zio_stages.specs.OwnFrees.{IsOwnFree};
 ghost use Rattle.zio_stages.specs.OwnParts.{DoesThen, GoesOnAs, HandsTo, IsBehind};
 ghost use Rattle.zio_stages.specs.SpaceCalls.{GivesBack};
 ghost use Rattle.zio_stages.specs.TreeWorks.{heads_task};
+ghost use Rattle.zio_stages.specs.declared.family.Layer.TheVariants.{Within};
 
 use crate::at_once::block_at_once;
 use crate::family::{Family, Seat};
@@ -39,7 +41,7 @@ pub(crate) enum FreeWalk {
 /// The free of a block: the walk over its headers, and then its places are given back one by one, where no header failed.
 #[derive(Drop)]
 pub(crate) struct OwnFree {
-    walk: FreeWalk,
+    pub(crate) walk: FreeWalk,
     /// How many of the block's places were given back.
     given: usize,
 }
@@ -50,6 +52,7 @@ impl OwnFree {
         ensures fresh { (family : List Child) (tree : Tree) (front_asked : List Task) (front : List Slot) (st : Stack) →
             family ≡ st.children → IsBehind front_asked front [] [] st → st.inner ≡ None → IsOwnFree result.walk family tree front_asked front st }
         ensures given { result.given ≡ 0 }
+        ensures due { result.walk ≡ FreeWalk.Due }
     {
         OwnFree {
             walk: FreeWalk::Due,
@@ -88,6 +91,7 @@ impl OwnFree {
             GoesOnAs t tops (plan_free (Some tree)) before st → IsOwnFree self.old.walk family.old tree front_asked before st →
             HandsTo t Gang (λ op. op ≡ heads_task tree) (IsOwnFree self.new.walk family.new tree front_asked before) st) }
         ensures given { self.new.given ≡ self.old.given }
+        ensures sits { OnOk result (NoneSits Within family.old → NoneSits Within family.new) }
         ensures err { OnErr result (self.new ≡ self.old) }
         ensures family_err { OnErr result (family.new ≡ family.old) }
     {
@@ -100,7 +104,8 @@ impl OwnFree {
     pub(crate) fn arrive_ready(&self, family: &mut Family, child: u32)
         requires child { child < length family.old }
         requires out { self.now.walk ≡ FreeWalk.Out }
-        ensures { (tree : Tree) (front_asked : List Task) (before : List Slot) (st : Stack) (c : Child) (pointer : Option SeenBp) →
+        ensures sits { NoneSits Within family.old → NoneSits Within family.new }
+        ensures told { (tree : Tree) (front_asked : List Task) (before : List Slot) (st : Stack) (c : Child) (pointer : Option SeenBp) →
             slice_get st.children child ≡ Some c → c.seat ≡ OfOuter (length before) → IsOwnFree self.now.walk family.old tree front_asked before st →
             IsOwnFree self.now.walk family.new tree front_asked before (heard_early st child c pointer) }
     {
@@ -114,6 +119,7 @@ impl OwnFree {
         ensures heard { (tree : Tree) (front_asked : List Task) (before : List Slot) (st : Stack) (c : Child) →
             slice_get st.children child ≡ Some c → c.seat ≡ OfOuter (length before) → IsOwnFree self.old.walk family.old tree front_asked before st →
             IsOwnFree self.new.walk family.new tree front_asked before (heard_of st child c (WalkedBy walked)) }
+        ensures sits { NoneSits Within family.old → NoneSits Within family.new }
         ensures given { self.new.given ≡ self.old.given }
     {
         self.walk = FreeWalk::Ended(walked.error());

@@ -98,7 +98,7 @@ fn tree_of(pointer: Option<Bp>, heads: List<Head>) -> Option<Tree>
     }
 }
 
-fn places_of(alloc: Global, tree: &Option<Tree>) -> Result<List<Place>, NoMemory>
+pub(crate) fn places_of(alloc: Global, tree: &Option<Tree>) -> Result<List<Place>, NoMemory>
     requires { IfSome tree.now (λ tree. IsTrue (valid tree.bp)) }
     ensures { IfOk result (λ places. places ≡ block_places tree.now) }
 {

@@ -1,5 +1,5 @@
 -- How often nodes run, from stage to stage, and which of their children are missing.
-use Rattle.std.proofs.Common.{◌≡◌, ℕ, ◌+◌, ◌<◌, List, [], ◌∷◌, Bool, true, false, cond, ◌&&◌, ◌||◌, not, Some, None, refl, arith}
+use Rattle.std.proofs.Common.{◌≡◌, ℕ, zero, suc, mul-suc, ap, ◌∙◌, ◌-◌, ◌*◌, ◌≤◌, ◌+◌, ◌<◌, List, [], ◌∷◌, Bool, true, false, cond, ◌&&◌, ◌||◌, not, Some, None, refl, arith}
 use Rattle.std.specs.List.{list_any}
 use Rattle.zio_types.specs.declared.request.ChildKind.{ChildKind}
 use Rattle.zio_types.specs.declared.request.ChildKind.TheVariants.{Vdev}
@@ -8,7 +8,10 @@ use Rattle.zio_types.specs.Machine.{same_kind}
 use Rattle.zio_trace.specs.Keys.{bit}
 use Rattle.zio_frames.specs.Frames.{Child}
 use Rattle.zio_stages.specs.NodeChildren.{first_owing, is_owing}
+use Rattle.zio_stages.specs.HeadsNodes.{walk_kids_max}
 use Rattle.zio_graph.specs.Entries.{count_owing}
+use Rattle.zio_graph.specs.Stages.{told_cost}
+use Rattle.zio_nodes.specs.Bounds.{copies_max, kid_share, walk_max}
 
 -- ---- a child that is missing counts
 
@@ -22,7 +25,7 @@ either_counts : (b rest : Bool) (n m : ℕ) → b || rest ≡ true → (b ≡ tr
 either_counts true rest n m h one more = let is : n ≡ 1 = one refl in omega (arith, is)
 either_counts false rest n m h one more = let some : 0 < m = more h in omega (arith, some)
 
-any_counts : (kind : ChildKind) (cs : List Child) → list_any (is_owing kind Done) cs ≡ true → 0 < count_owing kind Done cs
+pub any_counts : (kind : ChildKind) (cs : List Child) → list_any (is_owing kind Done) cs ≡ true → 0 < count_owing kind Done cs
 any_counts kind [] h = cc
 any_counts kind (c ∷ cs) h =
     either_counts (is_owing kind Done c) (list_any (is_owing kind Done) cs) _ _ h (one_counts (same_kind c.kind kind) c.ended) (any_counts kind cs)
@@ -33,3 +36,25 @@ is_chosen false h = absurd (cc)
 
 pub vdev_counts : (cs : List Child) → first_owing (Vdev ∷ []) Done cs ≡ Some Vdev → 0 < count_owing Vdev Done cs
 vdev_counts cs h = any_counts Vdev cs (is_chosen (list_any (is_owing Vdev Done) cs) h)
+
+-- ---- a walk over headers
+
+pub kid_least : (levels : ℕ) → copies_max + 1 ≤ kid_share levels
+kid_least zero = omega arith
+kid_least (suc levels) = omega arith
+
+pub kid_below : (levels below : ℕ) → below + 1 ≡ levels → walk_max below + 1 ≤ kid_share levels
+kid_below zero below e = absurd (omega (arith, e))
+kid_below (suc levels) below e =
+    let is : below ≡ levels = omega (arith, e) in
+    omega (arith, ap walk_max is)
+
+-- one child more is one share less
+pub walk_grows : (old new many more child stages : ℕ) → new ≡ old → more ≡ many + 1 → more ≤ walk_kids_max → child + 1 ≤ kid_share old → stages ≡ told_cost + 8
+    → kid_share new * (walk_kids_max - more) + (told_cost + 8) + child < kid_share old * (walk_kids_max - many) + stages
+walk_grows old new many more child stages same one few least at =
+    let m : ℕ = walk_kids_max - more in
+    let left : walk_kids_max - many ≡ suc m = omega (arith, one, few) in
+    let share : kid_share new * m ≡ kid_share old * m = ap (λ (l : ℕ). kid_share l * m) same in
+    let whole : kid_share old * (walk_kids_max - many) ≡ kid_share old * m + kid_share old = ap (λ (k : ℕ). kid_share old * k) left ∙ mul-suc (kid_share old) m in
+    omega (arith, share, whole, least, at)

@@ -1,5 +1,5 @@
 -- An operation on a leaf as a node: how far it is, and its end.
-use Rattle.std.proofs.Common.{◌≡◌, ℕ, List, [], ◌∷◌, ◌++◌, Option, Some, None, Ok, take, refl, sym, ap, subst, ◌∙◌}
+use Rattle.std.proofs.Common.{◌≡◌, ℕ, List, [], ◌∷◌, ◌++◌, Option, Some, None, Ok, slice_get, take, refl, sym, ap, subst, ◌∙◌}
 use Rattle.std.specs.List.{flat_map}
 use Rattle.std.specs.Prelude.{IsPermutation}
 use Rattle.std.proofs.lemmas.List.Sorted.{IsPermutation-refl}
@@ -11,7 +11,7 @@ use Rattle.zio_trace.specs.Leaves.{Answer, Fetch, LeafOp, Store}
 use Rattle.zio_trace.specs.Plans.{plan}
 use Rattle.zio_trace.specs.Programs.{Ends as EndsWith}
 use Rattle.zio_trace.specs.Tasks.{Got, Leaf as OnLeaf, Task}
-use Rattle.zio_frames.specs.Frames.{Frame, Stack, fresh_frame, fresh_stack, left_of}
+use Rattle.zio_frames.specs.Frames.{Child, Frame, Stack, fresh_frame, fresh_stack, left_of}
 use Rattle.zio_frames.specs.Slots.{Heard, Slot, left_behind_slots, told_in}
 use Rattle.zio_stages.specs.LeafWorks.{IsAnswered, IsAnsweredAt, IsDoneBy, IsDue, IsDueAt, IsHeardAs, IsLeafWork, len_in, len_of, shown_by, shown_in}
 use Rattle.zio_stages.specs.Outcomes.{IsReading, places_in}
@@ -110,3 +110,11 @@ answer_shown t work act error bytes cut a part shows is =
     let op : OnLeaf act ≡ OnLeaf part.act = part.op in
     let same : act ≡ part.act = cc in
     shown_answer work.act act error bytes a (subst (IsDoneBy work.act) (sym same) part.done) shows ∙ ap (shown_in work.act error) (sym is)
+
+-- ---- it has no children
+
+none_there : (n : ℕ) (c : Child) → slice_get [] n ≡ Some c → ⊥
+none_there n c e = cc
+
+pub no_child : (t : Terms) (at : LeafAt) (st : Stack) (n : ℕ) (c : Child) → IsLeafAt t at st → slice_get st.children n ≡ Some c → ⊥
+no_child t at st n c h there = let P : List Child → Type 0 = λ cs. slice_get cs n ≡ Some c in none_there n c (subst P h.childless there)

@@ -1,5 +1,6 @@
 pub mod BoundLemmas
 pub mod CopiesLemmas
+pub mod HeadsLemmas
 pub mod LeafLemmas
 pub mod NodeLemmas
 pub mod StageLemmas

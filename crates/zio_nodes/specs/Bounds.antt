@@ -1,9 +1,11 @@
 -- How often a node of each kind runs at most, from where it stands.
-use Rattle.std.specs.Prelude.{ℕ, ◌+◌, ◌-◌, ◌*◌, Bool, true, false}
+use Rattle.std.specs.Prelude.{ℕ, zero, suc, ◌+◌, ◌-◌, ◌*◌, length, Bool, true, false}
 use Rattle.zio_masks.specs.declared.stage.Stage.{Stage}
-use Rattle.zio_masks.specs.declared.stage.Stage.TheVariants.{Start, ReadBpInit, Ready, VdevIoStart, VdevIoDone, VdevIoAssess, ChecksumVerify, Done}
+use Rattle.zio_masks.specs.declared.stage.Stage.TheVariants.{Start, ReadBpInit, GangAssemble, GangIssue, Ready, VdevIoStart, VdevIoDone, VdevIoAssess, ChecksumVerify, Done}
+use Rattle.zio_stages.specs.HeadsNodes.{walk_kids_max}
 use Rattle.zio_graph.specs.Stages.{told_cost}
 use Rattle.zio_nodes.specs.declared.copies_at.CopiesAt.{CopiesAt}
+use Rattle.zio_nodes.specs.declared.heads_at.HeadsAt.{HeadsAt}
 
 -- ---- an operation on a leaf
 
@@ -58,3 +60,27 @@ copies_left at =
 -- one of which nothing is done
 abbrev pub copies_max : ℕ
 copies_max = 381
+
+-- ---- a walk over headers
+
+-- its stages
+abbrev pub walk_stages : Stage → ℕ
+walk_stages Start = told_cost + 9
+walk_stages GangAssemble = told_cost + 8
+walk_stages GangIssue = told_cost + 7
+walk_stages Ready = told_cost + 6
+walk_stages Done = told_cost
+walk_stages _ = 0
+
+-- one of so many levels of which nothing is done
+abbrev pub walk_max : (levels : ℕ) → ℕ
+walk_max zero = (copies_max + 1) * walk_kids_max + 15
+walk_max (suc levels) = (copies_max + walk_max levels + 1) * walk_kids_max + 15
+
+-- the child that it hands out next, be it the read of the header or the walk below a member, and that stage itself
+abbrev pub kid_share : (levels : ℕ) → ℕ
+kid_share zero = copies_max + 1
+kid_share (suc levels) = copies_max + walk_max levels + 1
+
+abbrev pub heads_left : HeadsAt → ℕ
+heads_left at = kid_share at.node.work.walk.levels * (walk_kids_max - length at.node.family) + walk_stages at.stage

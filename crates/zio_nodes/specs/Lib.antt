@@ -1,5 +1,6 @@
 pub mod Bounds
 pub mod CopiesAts
+pub mod HeadsAts
 pub mod LeafAts
 pub mod Nodes
 pub mod Told

@@ -11,6 +11,7 @@ ghost use Rattle.zio_graph.specs.Stages.{EachIn, Hears, HearsSome, Lessens, Tell
 ghost use Rattle.zio_nodes.specs.Bounds.{copies_left, copies_max};
 ghost use Rattle.zio_nodes.specs.CopiesAts.{IsCopiesAt, IsCopiesAtOver};
 ghost use Rattle.zio_nodes.specs.Nodes.{IsNodeOver, MovesBare, StaysBare, left_of, nodes};
+ghost use Rattle.zio_nodes.specs.Told.{is_told};
 
 use crate::leaf_at::LeafAt;
 use crate::node::Node;
@@ -34,6 +35,7 @@ impl CopiesAt {
     pub fn new(node: CopiesNode) -> CopiesAt
         ensures fresh { (t : Terms) (op : Task) → IsCopiesNode t node (fresh_stack op) → IsCopiesAt t result (fresh_stack op) }
         ensures over { (tops : Seq SeenTop) → IsCopiesOver tops node → IsCopiesAtOver tops result }
+        ensures told { is_told result.stage ≡ false }
         ensures left { copies_left result ≤ copies_max }
     {
         CopiesAt {

@@ -6,11 +6,13 @@
 #![tactic(auto)]
 
 mod copies_at;
+mod heads_at;
 mod laws;
 mod leaf_at;
 mod node;
 
 pub use copies_at::CopiesAt;
+pub use heads_at::{HeadsAt, HeadsHeard};
 pub use laws::{no_node_asks_for_places, operations_on_leaves_tell_nothing};
 pub use leaf_at::LeafAt;
 pub use node::Node;

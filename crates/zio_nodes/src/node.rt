@@ -1,20 +1,23 @@
 //! A node of any kind: its stages, and what it hears.
 
-ghost use Rattle.std.specs.Prelude.{◌≡◌, ◌+◌, ◌≤◌, Err, IfOk, IfSome, List as Seq, Ok, Some};
+ghost use Rattle.std.specs.Prelude.{◌≡◌, ◌+◌, ◌≤◌, Err, IfOk, IfSome, IsTrue, List as Seq, Ok, Some};
 ghost use Rattle.zio_types.specs.declared.place.Top.{Top as SeenTop};
+ghost use Rattle.zio_blkptr.specs.Pointers.{valid};
 ghost use Rattle.zio_gang.specs.Attempts.{Terms};
 ghost use Rattle.zio_trace.specs.Leaves.{Answer, LeafOp};
 ghost use Rattle.zio_trace.specs.Tasks.{Got, Leaf, Task, Value};
 ghost use Rattle.zio_frames.specs.Frames.{Child, Stack, fresh_stack};
-ghost use Rattle.zio_frames.specs.Moves.{done_at_once, heard_of};
+ghost use Rattle.zio_frames.specs.Moves.{done_at_once, heard_early, heard_of};
 ghost use Rattle.zio_stages.specs.SpaceCalls.{SpaceCall};
 ghost use Rattle.zio_stages.specs.declared.outcome.Outcome.{Outcome as SeenOutcome};
-ghost use Rattle.zio_graph.specs.Stages.{EachIn, GoesOn, Hears, HearsSome, IsMove, IsNow, Lessens, ShowsAnswer, TellsValid, heard_max};
+ghost use Rattle.zio_graph.specs.Stages.{EachIn, GoesOn, Hears, HearsEarly, HearsSome, HearsSomeEarly, IsMove, IsNow, Lessens, ShowsAnswer, TellsValid, heard_max};
 ghost use Rattle.zio_nodes.specs.Nodes.{IsNode, IsNodeOver, gave_of, left_of, nodes, told_of};
 
 use crate::copies_at::CopiesAt;
+use crate::heads_at::{HeadsAt, HeadsHeard};
 use crate::leaf_at::LeafAt;
 use std::alloc::Global;
+use zio_blkptr::Bp;
 use zio_graph::{BothBack, Move};
 use zio_stages::{Finished, Outcome, Services};
 use zio_types::{Bytes, Errno, Top};
@@ -26,6 +29,8 @@ pub enum Node {
     Leaf(LeafAt),
     /// The read of a block's copies.
     Copies(CopiesAt),
+    /// The walk over a block's headers, or over a claim's.
+    Heads(HeadsAt),
 }
 
 impl Node {
@@ -45,6 +50,28 @@ impl Node {
         match self {
             Node::Leaf(at) => at.run_stage(),
             Node::Copies(at) => at.run_stage(alloc, services.tops()),
+            Node::Heads(at) => at.run_stage(alloc, services.tops()),
+        }
+    }
+
+    /// The child of this number told which pointer its value will have, or that it has none.
+    pub fn arrive_ready(self, child: u32, pointer: Option<Bp>) -> Node
+        requires awaited { HearsSomeEarly nodes self child }
+        requires valid { IfSome pointer (λ bp. IsTrue (valid bp)) }
+        ensures heard { (t : Terms) (st : Stack) (c : Child) → HearsEarly nodes t self st child c →
+            IsNode t result (heard_early st child c pointer) }
+        ensures told { told_of result ≡ told_of self }
+        ensures gave { gave_of result ≡ gave_of self }
+        ensures over { (tops : Seq SeenTop) → IsNodeOver tops self → IsNodeOver tops result }
+        ensures left { left_of result ≤ left_of self + heard_max }
+    {
+        match self {
+            Node::Leaf(_) | Node::Copies(_) => unreachable!(),
+            // What it reads or walks has no pointer, whatever is told.
+            Node::Heads(at) => {
+                let _nothing = pointer;
+                Node::Heads(at.arrive_ready(child))
+            }
         }
     }
 
@@ -69,6 +96,13 @@ impl Node {
         match self {
             Node::Leaf(_) => unreachable!(),
             Node::Copies(at) => Ok((Node::Copies(at.arrive(tops, child, outcome)), None)),
+            Node::Heads(at) => match at.arrive(tops, child, outcome) {
+                Ok(at) => Ok((Node::Heads(at), None)),
+                Err(HeadsHeard { at, outcome }) => Err(BothBack {
+                    node: Node::Heads(at),
+                    outcome,
+                }),
+            },
         }
     }
 
@@ -85,7 +119,7 @@ impl Node {
     {
         match self {
             Node::Leaf(at) => Node::Leaf(at.answered(error, bytes)),
-            Node::Copies(_) => unreachable!(),
+            Node::Copies(_) | Node::Heads(_) => unreachable!(),
         }
     }
 }

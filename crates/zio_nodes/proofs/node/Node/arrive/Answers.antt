@@ -4,15 +4,21 @@ use Rattle.zio_graph.specs.Stages.{Hears, HearsSome}
 use Rattle.zio_nodes.specs.Nodes.{nodes}
 use Rattle.zio_nodes.specs.declared.node.Node.{Node}
 use Rattle.zio_nodes.proofs.CopiesLemmas.{hears_answer}
+use Rattle.zio_nodes.proofs.HeadsLemmas.{IsHeardOutcome, hears_read_or_walk}
 use Rattle.zio_nodes.proofs.node.Node.arrive.Goals as goal
 
-pub returns-clause-heard : goal.returns-clause-heard
-returns-clause-heard c = λ t st d op v h.
+pub returns-in-Copies-clause-heard : goal.returns-in-Copies-clause-heard
+returns-in-Copies-clause-heard c = λ t st d op v h.
     c.arrive.ensures.heard t st d op v (subst (λ (n : Node). Hears {N = Node} nodes c.args.tops.now t n st c.args.child d op c.args.outcome v) c.in-Copies.is h)
 
-pub returns-clause-kept : goal.returns-clause-kept
-returns-clause-kept c = λ f is.
+pub returns-in-Copies-clause-kept : goal.returns-in-Copies-clause-kept
+returns-in-Copies-clause-kept c = λ f is.
     let k = subst (λ (n : Node). HearsSome {N = Node} nodes c.args.tops.now n c.args.child c.args.outcome) c.in-Copies.is c.requires.awaited in
     let a = hears_answer k.terms c.args.tops.now c.in-Copies.at k.stack c.args.child k.child k.op c.args.outcome k.value k.hears in
     let no : Finished f ≡ Found a.0 = sym is ∙ a.1 in
     absurd (cc)
+
+pub returns-in-Ok-clause-kept : goal.returns-in-Ok-clause-kept
+returns-in-Ok-clause-kept c = λ f is.
+    let awaited = subst (λ (n : Node). HearsSome {N = Node} nodes c.args.tops.now n c.args.child c.args.outcome) c.in-Heads.is c.requires.awaited in
+    absurd (subst IsHeardOutcome is (hears_read_or_walk c.args.tops.now c.in-Heads.at c.args.child c.args.outcome awaited))

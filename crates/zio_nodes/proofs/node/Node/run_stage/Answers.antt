@@ -1,7 +1,7 @@
 use Rattle.std.proofs.Common.{[], refl}
 use Rattle.zio_nodes.proofs.NodeLemmas.{moved_bare, stayed_bare}
 use Rattle.zio_nodes.proofs.node.Node.run_stage.Goals as goal
-use Rattle.zio_nodes.specs.declared.node.Node.TheVariants.{Copies, Leaf}
+use Rattle.zio_nodes.specs.declared.node.Node.TheVariants.{Copies, Heads, Leaf}
 
 pub returns-in-Leaf-clause-moves : goal.returns-in-Leaf-clause-moves
 returns-in-Leaf-clause-moves g c =
@@ -40,4 +40,22 @@ returns-in-Copies-clause-refused g c =
       [],
       g.met.S.Services.made_none c.args.services.now,
       stayed_bare tops c.tops.result.now c.args.self (Copies c.in-Copies.at) c.run_stage-in-Copies.result node c.in-Copies.is c.tops.ensures is c.run_stage-in-Copies.ensures.refused,
+    )
+
+pub returns-in-Heads-clause-moves : goal.returns-in-Heads-clause-moves
+returns-in-Heads-clause-moves g c =
+    let tops = g.S.Services.tops c.args.services.now in
+    λ move is. (
+      [],
+      g.met.S.Services.made_none c.args.services.now,
+      moved_bare tops c.tops-in-Heads.result.now c.args.self (Heads c.in-Heads.at) c.run_stage-in-Heads.result move c.in-Heads.is c.tops-in-Heads.ensures is c.run_stage-in-Heads.ensures.moves,
+    )
+
+pub returns-in-Heads-clause-refused : goal.returns-in-Heads-clause-refused
+returns-in-Heads-clause-refused g c =
+    let tops = g.S.Services.tops c.args.services.now in
+    λ node is. (
+      [],
+      g.met.S.Services.made_none c.args.services.now,
+      stayed_bare tops c.tops-in-Heads.result.now c.args.self (Heads c.in-Heads.at) c.run_stage-in-Heads.result node c.in-Heads.is c.tops-in-Heads.ensures is c.run_stage-in-Heads.ensures.refused,
     )

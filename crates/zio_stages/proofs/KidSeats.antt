@@ -83,6 +83,10 @@ outer_under t r st OwnDue n op told h is at =
     cc
 outer_under t r st (Write w) n op told h is at = tt
 outer_under t r st (Stored b) n op told h is at = out_some h.own_slots n told (own_in t r st _ h is).heard at.slot_is
+outer_under t r st (Read w) n op told h is at = tt
+outer_under t r st (Free w) n op told h is at = tt
+outer_under t r st (Claim w) n op told h is at = tt
+outer_under t r st (Found b) n op told h is at = out_some h.own_slots n told (own_in t r st _ h is).heard at.slot_is
 outer_under t r st Over n op told h is at = out_some h.own_slots n told (own_in t r st _ h is).heard at.slot_is
 
 inner_under : (t : Terms) (r : RequestNode) (st : Stack) (own : Own) (m : ℕ) (op : Task) (h : IsRequestNode t r st) → r.own ≡ own
@@ -90,6 +94,10 @@ inner_under : (t : Terms) (r : RequestNode) (st : Stack) (own : Own) (m : ℕ) (
 inner_under t r st OwnDue m op h is asked = asked_none st.inner m op (own_in t r st _ h is).2 asked
 inner_under t r st (Write w) m op h is asked = tt
 inner_under t r st (Stored b) m op h is asked = asked_none st.inner m op (own_in t r st _ h is).alone asked
+inner_under t r st (Read w) m op h is asked = tt
+inner_under t r st (Free w) m op h is asked = tt
+inner_under t r st (Claim w) m op h is asked = tt
+inner_under t r st (Found b) m op h is asked = asked_none st.inner m op (own_in t r st _ h is).alone asked
 inner_under t r st Over m op h is asked = asked_none st.inner m op (own_in t r st _ h is).alone asked
 
 under_way : (t : Terms) (r : RequestNode) (st : Stack) (c : Child) (op : Task) (told : Option (Option Bp))

@@ -14,7 +14,7 @@ use Rattle.zio_stages.specs.Outcomes.{IsAttempt}
 use Rattle.zio_stages.specs.OwnParts.{HearsValue}
 use Rattle.zio_stages.specs.RequestNodes.{IsRequestNode, IsSeatOf}
 use Rattle.zio_stages.specs.declared.request_node.Own.{Own}
-use Rattle.zio_stages.specs.declared.request_node.Own.TheVariants.{Due, Over, Stored, Write}
+use Rattle.zio_stages.specs.declared.request_node.Own.TheVariants.{Claim, Due, Found, Free, Over, Read, Stored, Write}
 use Rattle.zio_stages.specs.declared.request_node.RequestNode.{RequestNode}
 
 -- some attempt that it may be in, in which its child of this number, which is of this kind, hasn't told
@@ -50,6 +50,10 @@ abbrev pub IsUnderWay : Own → Type 0
 IsUnderWay Due = ⊥
 IsUnderWay (Write w) = Unit {0}
 IsUnderWay (Stored b) = ⊥
+IsUnderWay (Read w) = Unit {0}
+IsUnderWay (Free w) = Unit {0}
+IsUnderWay (Claim w) = Unit {0}
+IsUnderWay (Found own) = ⊥
 IsUnderWay Over = ⊥
 
 -- an attempt ended with what it left

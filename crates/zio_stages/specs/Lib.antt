@@ -21,6 +21,7 @@ pub mod PartOwns
 pub mod PartWorks
 pub mod PartsOut
 pub mod ReadIos
+pub mod RequestClaims
 pub mod RequestFrees
 pub mod RequestNodes
 pub mod RequestOwns

@@ -66,6 +66,7 @@ pub mod ReadIoEnds
 pub mod ReadIoHeard
 pub mod ReadIoLemmas
 pub mod ReadIoMoves
+pub mod RequestClaimMoves
 pub mod RequestEnds
 pub mod RequestFoundLemmas
 pub mod RequestFreeMoves

@@ -62,7 +62,7 @@ free_work (ClaimWork name pointer) h = absurd h
 other_free : (w : Work) → IsFreeOf w → IsNoWrite w
 other_free w h = subst IsNoWrite (sym h.is) tt
 
-then_same : (q : TaskPlan OwnGot) → (q >>= λ x. Ends x) ≡ q
+pub then_same : (q : TaskPlan OwnGot) → (q >>= λ x. Ends x) ≡ q
 then_same (Ends a) = refl
 then_same (Asks op more) = ap (λ k. Asks op k) (λ i v. then_same (more v) i)
 

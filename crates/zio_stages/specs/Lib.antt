@@ -22,6 +22,7 @@ pub mod PartOwns
 pub mod PartWorks
 pub mod PartsOut
 pub mod ReadIos
+pub mod RequestClaims
 pub mod RequestFrees
 pub mod RequestHearings
 pub mod RequestNodes

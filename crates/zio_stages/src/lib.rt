@@ -32,6 +32,7 @@ mod pointer_laws;
 mod pointer_places;
 mod read_io;
 mod request;
+mod request_claim;
 mod request_found;
 mod request_free;
 mod request_heard;

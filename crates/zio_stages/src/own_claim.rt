@@ -1,6 +1,6 @@
 // A claim's own work behind other operations of its node's part.
 
-ghost use Rattle.std.specs.Prelude.{◌≡◌, ◌-◌, ◌^◌, ◌<◌, List, None, Ok, Option, Some, [], true, false, IsSome, OnErr, OnOk, length, slice_get};
+ghost use Rattle.std.specs.Prelude.{◌≡◌, ◌-◌, ◌^◌, ◌<◌, List, None, Ok, Option, Some, [], true, false, IfSome, IsSome, OnErr, OnOk, length, slice_get};
 ghost use Rattle.zio_types.specs.declared.place.Top.{Top as SeenTop};
 ghost use Rattle.zio_types.specs.declared.request.ChildKind.TheVariants.{Gang};
 ghost use Rattle.zio_blkptr.specs.declared.pointer.Bp.{Bp as SeenBp};
@@ -13,15 +13,18 @@ ghost use Rattle.zio_trace.specs.Tasks.{Task, WalkedBy};
 ghost use Rattle.zio_frames.specs.Frames.{Child, OfOuter, Stack};
 ghost use Rattle.zio_frames.specs.Moves.{heard_early, heard_of};
 ghost use Rattle.zio_frames.specs.Slots.{AllHeard, Slot, left_behind_slots};
+ghost use Rattle.zio_stages.specs.NodeIos.{NoneSits};
 ghost use Rattle.zio_stages.specs.OwnClaims.{HasClaimEnded, IsBlockOf, IsClaimOver, IsOwnClaim, LiesWalked, claim_task, own_claimed};
 ghost use Rattle.zio_stages.specs.OwnParts.{DoesThen, GoesOnAs, HandsTo, IsBehind};
+ghost use Rattle.zio_stages.specs.RequestClaims.{IsPastWalk};
 ghost use Rattle.zio_stages.specs.SpaceCalls.{SpaceCall};
+ghost use Rattle.zio_stages.specs.declared.family.Layer.TheVariants.{Within};
 
 use crate::at_once::claim_at_once;
 use crate::family::{Family, Seat};
 use crate::services::{Services, Unclaimed};
 use std::alloc::Global;
-use zio_blkptr::decode;
+use zio_blkptr::{Bp, decode};
 use zio_gang::Tree;
 use zio_parts::Walked;
 use zio_types::{ChildKind, Errno, NoMemory, Top};
@@ -45,8 +48,8 @@ pub(crate) enum ClaimStep {
 #[derive(Drop)]
 pub(crate) struct OwnClaim {
     /// The block of the pointer, with its headers once the walk ended without error; none where the bytes are no pointer.
-    block: Option<Tree>,
-    step: ClaimStep,
+    pub(crate) block: Option<Tree>,
+    pub(crate) step: ClaimStep,
 }
 
 impl OwnClaim {
@@ -56,6 +59,7 @@ impl OwnClaim {
             family ≡ st.children → IsBehind front_asked front [] [] st → st.inner ≡ None →
             IsOwnClaim result family (pointer_of bytes.now) front_asked front st }
         ensures over { (tops : List SeenTop) → IsClaimOver tops result }
+        ensures due { result.step ≡ ClaimStep.Due }
     {
         OwnClaim {
             block: block_of(alloc, bytes),
@@ -95,6 +99,23 @@ impl OwnClaim {
         }
     }
 
+    /// The pointer whose walk is due, if one is.
+    pub(crate) fn due_pointer(&self) -> Option<Bp>
+        ensures { IfSome result (λ bp. (self.now.step ≡ ClaimStep.Due) × ((tree : SeenTree) × (self.now.block ≡ Some tree) × (tree.bp ≡ bp))) }
+    {
+        match self.step {
+            ClaimStep::Due => match &self.block {
+                Some(tree) => Some(tree.bp),
+                None => None,
+            },
+            ClaimStep::Out
+            | ClaimStep::Failed(_)
+            | ClaimStep::Found
+            | ClaimStep::Taken
+            | ClaimStep::Refused => None,
+        }
+    }
+
     /// The walk is a gang child's, which is added, behind so many operations of the node's part. Where memory is refused
     /// nothing is.
     pub(crate) fn gang_assemble(
@@ -110,6 +131,7 @@ impl OwnClaim {
             GoesOnAs t tops (plan_claim (Some bp)) before st → IsOwnClaim self.old family.old (Some bp) front_asked before st →
             HandsTo t Gang (λ op. op ≡ claim_task bp) (IsOwnClaim self.new family.new (Some bp) front_asked before) st) }
         ensures over { (tops : List SeenTop) → IsClaimOver tops self.old → IsClaimOver tops self.new }
+        ensures sits { OnOk result (NoneSits Within family.old → NoneSits Within family.new) }
         ensures err { OnErr result (self.new ≡ self.old) }
         ensures family_err { OnErr result (family.new ≡ family.old) }
     {
@@ -122,7 +144,8 @@ impl OwnClaim {
     pub(crate) fn arrive_ready(&self, family: &mut Family, child: u32)
         requires child { child < length family.old }
         requires out { self.now.step ≡ ClaimStep.Out }
-        ensures { (bp : SeenBp) (front_asked : List Task) (before : List Slot) (st : Stack) (c : Child) (pointer : Option SeenBp) →
+        ensures sits { NoneSits Within family.old → NoneSits Within family.new }
+        ensures told { (bp : SeenBp) (front_asked : List Task) (before : List Slot) (st : Stack) (c : Child) (pointer : Option SeenBp) →
             slice_get st.children child ≡ Some c → c.seat ≡ OfOuter (length before) → IsOwnClaim self.now family.old (Some bp) front_asked before st →
             IsOwnClaim self.now family.new (Some bp) front_asked before (heard_early st child c pointer) }
     {
@@ -145,6 +168,7 @@ impl OwnClaim {
             slice_get st.children child ≡ Some c → c.seat ≡ OfOuter (length before) → IsOwnClaim self.old family.old (Some bp) front_asked before st →
             IsOwnClaim self.new family.new (Some bp) front_asked before (heard_of st child c (WalkedBy walked)) }
         ensures over { IsClaimOver tops.now self.new }
+        ensures sits { NoneSits Within family.old → NoneSits Within family.new }
     {
         family.end(child);
         let bp = match &self.block {
@@ -172,6 +196,7 @@ impl OwnClaim {
             GoesOnAs t tops (plan_claim pointer) front st → IsOwnClaim self.old family pointer front_asked front st →
             DoesThen t st calls (IsOwnClaim self.new family pointer front_asked front)) }
         ensures over { IsClaimOver (S.tops services.old) self.new }
+        ensures ended { OnOk result (IsPastWalk self.old.block self.old.step → HasClaimEnded self.new.block self.new.step) }
         ensures tops { S.tops services.new ≡ S.tops services.old }
     {
         let ClaimStep::Found = self.step else {

@@ -8,6 +8,7 @@ use Rattle.zio_stages.specs.declared.own_claim.OwnClaim.{OwnClaim}
 use Rattle.zio_stages.proofs.NodeIoLemmas.{ended_is}
 use Rattle.zio_stages.proofs.OwnClaimLemmas.{claim_hears, lies_of, walked_over}
 use Rattle.zio_stages.proofs.RequestHears.{if_there}
+use Rattle.zio_stages.proofs.RequestReadMoves.{none_ended}
 use Rattle.zio_stages.proofs.own_claim.OwnClaim.arrive_walked.Goals as goal
 
 pub returns-in-Ok-clause-heard : goal.returns-in-Ok-clause-heard
@@ -35,3 +36,9 @@ returns-in-Ok-clause-over c =
     let same : Some c.requires.lies.0 ≡ Some block = sym c.requires.lies.1 ∙ c.in-Some.is in
     walked_over c.args.tops.now block.bp c.args.walked c.in-Ok.tree (lies_of c.args.tops.now c.requires.lies.0 block c.args.walked same c.requires.lies.2)
     (if_there c.args.self.now.block Q block c.requires.over c.in-Some.is).0 c.in-Ok.ensures
+
+pub returns-in-Ok-clause-sits : goal.returns-in-Ok-clause-sits
+returns-in-Ok-clause-sits c = λ none. none_ended c.args.family.now c.end.new.self c.args.child c.requires.child c.end.ensures none
+
+pub returns-in-Err-clause-sits : goal.returns-in-Err-clause-sits
+returns-in-Err-clause-sits c = λ none. none_ended c.args.family.now c.end.new.self c.args.child c.requires.child c.end.ensures none

@@ -1,0 +1,26 @@
+use Rattle.std.proofs.Common.{◌≡◌, Ok, refl, sym, ap, subst}
+use Rattle.zio_script.specs.declared.script.Work.{Work}
+use Rattle.zio_stages.specs.RequestClaims.{IsClaimWork}
+use Rattle.zio_stages.specs.RequestNodes.{IsOwnOver}
+use Rattle.zio_stages.specs.declared.request_node.Own.{Own}
+use Rattle.zio_stages.proofs.RequestClaimMoves.{ClaimsBytes, claim_begins, claim_goes_on}
+use Rattle.zio_stages.proofs.RequestWriteLemmas.{idle_at}
+use Rattle.zio_stages.proofs.request_node.RequestNode.claim_init.Goals as goal
+
+pub claim_init-requires : goal.claim_init-requires
+claim_init-requires c = record { due = c.new-own.ensures.due; over = c.new-own.ensures.over c.args.tops.now }
+
+pub returns-clause-does : goal.returns-clause-does
+returns-clause-does c = λ t st tops h.
+    let r = c.args.self.now in
+    let bytes = c.in-Claim.pointer in
+    let k : ClaimsBytes r bytes = record { all = c.requires.handed; name = c.in-Claim.name; work = c.in-Claim.is } in
+    let idle = idle_at t r st h c.requires.due in
+    let b = c.in_ok-claim_init.field-0 in
+    let begun = c.new-own.ensures.fresh r.family h.kid_asked h.kid_slots st idle.children idle.behind idle.alone in
+    claim_begins t r st c.new-own.result c.claim_init.new.self bytes b h k begun
+    (λ e. c.in_ok-claim_init.ensures.walks (ap (λ x. Ok x) e) t r.family _ h.kid_asked h.kid_slots st (claim_goes_on t c.args.tops.now r st bytes h tops k) begun)
+    (λ e. c.in_ok-claim_init.ensures.gang (ap (λ x. Ok x) e))
+
+pub returns-clause-over : goal.returns-clause-over
+returns-clause-over c = λ over. (subst (λ (o : Own). IsOwnOver c.args.tops.now o c.args.self.now.family) c.requires.due over, c.in_ok-claim_init.ensures.over)

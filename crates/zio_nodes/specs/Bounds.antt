@@ -9,7 +9,7 @@ use Rattle.zio_nodes.specs.declared.heads_at.HeadsAt.{HeadsAt}
 
 -- ---- an operation on a leaf
 
--- at each stage; what it ends with costs what is told
+-- at each stage; its end pays for what its parent hears
 abbrev pub leaf_left : Stage → ℕ
 leaf_left VdevIoStart = told_cost + 3
 leaf_left VdevIoDone = told_cost + 2

@@ -67,11 +67,8 @@ impl Node {
     {
         match self {
             Node::Leaf(_) | Node::Copies(_) => unreachable!(),
-            // What it reads or walks has no pointer, whatever is told.
-            Node::Heads(at) => {
-                let _nothing = pointer;
-                Node::Heads(at.arrive_ready(child))
-            }
+            // Whatever it told: a read or a walk has no pointer, and its parent keeps none.
+            Node::Heads(at) => Node::Heads(at.arrive_ready(child)),
         }
     }
 

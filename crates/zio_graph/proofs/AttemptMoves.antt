@@ -14,7 +14,7 @@ use Rattle.zio_frames.specs.Frames.{Child, Frame, Inner, OfOuter, Seat, Stack, a
 use Rattle.zio_frames.specs.Moves.{AsksNext, GoesBesideAll, IsEnded, child_ended, child_for, child_told, handed, heard_early, heard_of, set_at, with_children}
 use Rattle.zio_frames.specs.Seats.{asked_at}
 use Rattle.zio_frames.specs.Slots.{AllHeard, Heard, IsOut, Slot, left_behind_slots, told_in}
-use Rattle.zio_frames.proofs.GetLemmas.{get_either, get_exchanged, get_last}
+use Rattle.zio_frames.proofs.GetLemmas.{get_either, get_exchanged, get_last, get_set}
 use Rattle.zio_graph.specs.Attempting.{Course, IsAttempting, IsBetween, IsSettle, again_with, attempt_of, course_of, rest_from, rest_of, settled_behind, settled_with}
 use Rattle.zio_graph.proofs.Links.{some_is}
 
@@ -136,6 +136,10 @@ module _ (t : Terms) where
       asked = ap (slice_get (o.asked ++ attempt_of c ∷ [])) (sym h.full) ∙ get_last o.asked (attempt_of c);
       rest = h.rest;
       number = length-append cs (child_for (OfOuter (length o.slots)) (attempt_of c) ∷ []) ∙ ap (λ (n : ℕ). n + 1) h.number;
+      child = child_for (OfOuter (length o.slots)) (attempt_of c);
+      there = ap (slice_get (cs ++ child_for (OfOuter (length o.slots)) (attempt_of c) ∷ [])) (sym h.number)
+          ∙ get_last cs (child_for (OfOuter (length o.slots)) (attempt_of c));
+      going = refl;
       one = λ n child is goes. last n child goes (get_either cs (child_for (OfOuter (length o.slots)) (attempt_of c)) child n is);
     }
       where
@@ -174,6 +178,10 @@ module _ (t : Terms) where
         asked = h.asked;
         rest = h.rest;
         number = length-set st.children n (child_told child) ∙ h.number;
+        child = child_told child;
+        there = ap (slice_get (slice_set st.children n (child_told child))) (sym (h.one n child is goes).0)
+            ∙ get_set st.children n child (child_told child) is;
+        going = goes;
         one = λ k x there going. still k x going (get_exchanged st.children n k (child_told child) x there);
       }
         where

@@ -59,6 +59,7 @@ pub mod Spans
 pub mod Steps
 pub mod TakenKeys
 pub mod Tops
+pub mod TreeLoops
 pub mod TreeMoves
 pub mod TurnLoops
 pub mod TurnMoves

@@ -58,6 +58,9 @@ pub record IsAttempting (t : Terms) (c : Course) (st : Stack) : Type 0 where
   pub asked : slice_get st.outer.asked (length before) ≡ Some (attempt_of c)
   pub rest : left_behind_slots before (plan t st.outer.op) ≡ rest_of c
   pub number : length st.children ≡ c.attempt + 1
+  pub child : Child
+  pub there : slice_get st.children c.attempt ≡ Some child
+  pub going : child.ended ≡ false
   pub one : (n : ℕ) (child : Child) → slice_get st.children n ≡ Some child → child.ended ≡ false
       → (n ≡ c.attempt) × (child.seat ≡ OfOuter (length before))
 

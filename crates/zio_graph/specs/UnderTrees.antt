@@ -1,5 +1,7 @@
 -- What an engine keeps of its round where a tree begins an attempt, and hears of one.
-use Rattle.std.specs.Prelude.{◌≡◌, ℕ, ◌+◌, List, [], ◌∷◌, Option, Some, None, slice_set}
+use Rattle.std.specs.Prelude.{◌≡◌, ℕ, ◌+◌, ◌-◌, List, [], ◌∷◌, ◌++◌, Option, Some, None, slice_get, slice_set}
+use Rattle.std.specs.List.{AllByRecursion}
+use Rattle.zio_types.specs.Choices.{Choice}
 use Rattle.zio_types.specs.declared.request.Bits.{Bits}
 use Rattle.zio_blkptr.specs.declared.pointer.Bp.{Bp}
 use Rattle.zio_script.specs.declared.script.Failmode.{Failmode}
@@ -8,22 +10,30 @@ use Rattle.zio_trace.specs.Families.{Forest}
 use Rattle.zio_trace.specs.Programs.{Ends}
 use Rattle.zio_trace.specs.SoundRounds.{IsSoundRound}
 use Rattle.zio_trace.specs.Tasks.{AttemptedBy, One, Value}
+use Rattle.zio_trace.specs.Underway.{State}
 use Rattle.zio_frames.specs.Frames.{Flying, Stack}
 use Rattle.zio_frames.specs.Moves.{IsEnded, handed}
 use Rattle.zio_frames.specs.Slots.{Heard, left_behind_slots}
 use Rattle.zio_stages.specs.Outcomes.{IsFinishedAs, IsLeftAs, IsOutcome}
 use Rattle.zio_stages.specs.Wholes.{IsTreeOf}
+use Rattle.zio_stages.specs.declared.outcome.Finished.{Finished}
 use Rattle.zio_stages.specs.declared.outcome.Outcome.{Outcome}
 use Rattle.zio_stages.specs.declared.outcome.Outcome.TheVariants.{Again, Finished as HasFinished}
 use Rattle.zio_stages.specs.declared.waiting.Waiting.{Waiting}
 use Rattle.slab.specs.Slab.{Slab}
 use Rattle.zio_graph.specs.Attempting.{Course, IsAttempting, IsBetween, attempt_of, rest_of, settled_with}
-use Rattle.zio_graph.specs.Entries.{handed_on, top_at}
+use Rattle.zio_graph.specs.Engine.{IsKept}
+use Rattle.zio_graph.specs.Entries.{handed_on, standing, top_at}
 use Rattle.zio_graph.specs.Parts.{Nodes}
 use Rattle.zio_graph.specs.Rounds.{Before, KeepsRound, SoFar, with_tree}
+use Rattle.zio_graph.specs.Slabs.{shelf_of}
+use Rattle.zio_graph.specs.UnderTurns.{EndsFinished, IsGoingOn}
 use Rattle.zio_graph.specs.declared.entry.Entry.{Entry}
+use Rattle.zio_graph.specs.declared.grounds.Grounds.{Grounds}
 use Rattle.zio_graph.specs.declared.trees.TreeEnd.{TreeEnd}
 use Rattle.zio_graph.specs.declared.trees.TreeEnd.TheVariants.{Finished as RootFinished, Suspended}
+use Rattle.zio_graph.specs.declared.trees.TreeState.{TreeState}
+use Rattle.zio_graph.specs.declared.trees.TreeState.TheVariants.{Settled, UnderWay}
 
 -- ---- an attempt begins
 
@@ -103,3 +113,74 @@ TreeGoesOn {N = N} nodes slab line slab_now line_now round failmode tree attempt
     KeepsRound {N = N} nodes t sizes f before s slab line leaves → top_at s.tops tree ≡ Some top → c.attempt ≡ attempt →
     c.more + c.attempt ≡ reexecutions_max → HasHeardOf t c outcome one top.stack →
     AfterHearing {N = N} nodes t sizes f before s slab_now line_now leaves tree top c one end
+
+-- ---- all trees
+
+-- what is in flight for a tree: its attempt of this number, or nothing where it is settled
+abbrev pub IsInState : Terms → Option Flying → Option TreeState → Type 0
+IsInState t (Some top) (Some (UnderWay attempt)) =
+    (c : Course) × IsAttempting t c top.stack × (c.attempt ≡ attempt) × (c.more + c.attempt ≡ reexecutions_max)
+IsInState t (Some top) (Some (Settled end)) = ⊥
+IsInState t (Some top) None = ⊥
+IsInState t None (Some (UnderWay attempt)) = ⊥
+IsInState t None (Some (Settled end)) = Unit {0}
+IsInState t None None = Unit {0}
+
+-- each tree is so far
+abbrev pub AreInStates : Terms → List (Option Flying) → List TreeState → Type 0
+AreInStates t tops states = (n : ℕ) → IsInState t (top_at tops n) (slice_get states n)
+
+-- Each tree is so far, and the round is kept over what is lent; these are its terms where they say so.
+pub record RunsTrees {N D : Type 0} (nodes : Nodes N) (bytes : D → ℕ) (image : D → List ℕ → Type 0) (t : Terms) (sizes : ℕ → ℕ)
+    (f : Forest) (before : Before) (s : SoFar) (slab : Slab (Entry N)) (line : List ℕ) (g : Grounds D) (round : ℕ)
+    (failmode : Failmode) (states : List TreeState) : Type 0 where
+  pub sound : IsSoundRound t sizes f
+  pub round_is : t.round ≡ round
+  pub failmode_is : t.failmode ≡ failmode
+  pub going : IsGoingOn {N = N} {D = D} nodes bytes image t sizes f before s slab line g
+  pub each : AreInStates t s.tops states
+
+-- some round is
+pub record RunsSome {N D : Type 0} (nodes : Nodes N) (bytes : D → ℕ) (image : D → List ℕ → Type 0) (slab : Slab (Entry N))
+    (line : List ℕ) (g : Grounds D) (round : ℕ) (failmode : Failmode) (states : List TreeState) : Type 0 where
+  pub terms : Terms
+  pub sizes : ℕ → ℕ
+  pub forest : Forest
+  pub before : Before
+  pub so_far : SoFar
+  pub runs : RunsTrees {N = N} {D = D} nodes bytes image terms sizes forest before so_far slab line g round failmode states
+
+-- it went on to this, and these requests finished meanwhile
+pub record HasRun {N D : Type 0} (nodes : Nodes N) (bytes : D → ℕ) (image : D → List ℕ → Type 0) (t : Terms) (sizes : ℕ → ℕ)
+    (f : Forest) (before : Before) (s : SoFar) (slab : Slab (Entry N)) (line : List ℕ) (g : Grounds D) (round : ℕ)
+    (failmode : Failmode) (states : List TreeState) (ended ended_now : List Finished) : Type 0 where
+  pub now : SoFar
+  pub runs : RunsTrees {N = N} {D = D} nodes bytes image t sizes f before now slab line g round failmode states
+  pub more : List Choice
+  pub entries_are : now.entries ≡ s.entries ++ more
+  pub others : List Finished
+  pub ended_are : ended_now ≡ ended ++ others
+  pub are : AllByRecursion (EndsFinished t) others
+
+-- No node is left, and no tree stands: the laws of a round's end say what it came to.
+pub record IsOver {N : Type 0} (nodes : Nodes N) (t : Terms) (sizes : ℕ → ℕ) (f : Forest) (before : Before) (s : SoFar)
+    (slab : Slab (Entry N)) : Type 0 where
+  pub state : State
+  pub kept : IsKept {N = N} nodes t sizes f before s.trees s.tops [] (shelf_of {N = N} slab) [] [] state
+  pub standing_none : standing s.tops ≡ []
+  pub entries_are : state.entries ≡ s.entries
+  pub images_are : state.images ≡ s.images
+
+-- each sound round of these terms goes on until it is over
+abbrev pub RunsToEnd : {N D : Type 0} → Nodes N → (D → ℕ) → (D → List ℕ → Type 0) → Slab (Entry N) → List ℕ → Grounds D
+    → List TreeState → List Finished → Slab (Entry N) → List ℕ → Grounds D → List TreeState → List Finished → ℕ → Failmode → Type 0
+RunsToEnd {N = N} {D = D} nodes bytes image slab line g states ended slab_now line_now g_now states_now ended_now round failmode =
+    (t : Terms) (sizes : ℕ → ℕ) (f : Forest) (before : Before) (s : SoFar) →
+    RunsTrees {N = N} {D = D} nodes bytes image t sizes f before s slab line g round failmode states →
+    (r : HasRun {N = N} {D = D} nodes bytes image t sizes f before s slab_now line_now g_now round failmode states_now ended ended_now)
+    × IsOver {N = N} nodes t sizes f before r.now slab_now
+
+-- how many attempts there may be still
+abbrev pub attempts_left : TreeState → ℕ
+attempts_left (UnderWay attempt) = 4 - attempt
+attempts_left (Settled end) = 0

@@ -1,6 +1,7 @@
 //! The one-thread engine: a round's nodes under keys, queued, at leaves, or waiting for children.
 #![tactic(auto)]
 
+mod all_trees;
 mod desk;
 mod drive;
 mod entry;
@@ -18,6 +19,7 @@ mod trees;
 pub mod turn;
 pub mod turns;
 
+pub use all_trees::run_trees;
 pub use desk::{Desk, desks_serve_rounds};
 pub use drive::run_on;
 pub use grounds::{DisksBack, Grounds};
@@ -28,6 +30,6 @@ pub use laws::{
 };
 pub use node::Node;
 pub use staged::{BothBack, Move, Staged};
-pub use trees::{TreeEnd, begin_attempt, hear_tree};
+pub use trees::{TreeEnd, TreeState, begin_attempt, hear_tree};
 pub use turn::{Turned, run_turn};
 pub use turns::Turns;

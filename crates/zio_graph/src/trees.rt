@@ -27,6 +27,14 @@ pub enum TreeEnd {
     Suspended(Whole),
 }
 
+/// How far a tree of a round is.
+#[derive(Drop)]
+pub enum TreeState {
+    /// The attempt of this number is under way.
+    UnderWay(u32),
+    Settled(TreeEnd),
+}
+
 /// The attempt of this number of the tree of this number is handed to a node, which is queued.
 pub fn begin_attempt<N: Staged>(
     turns: &mut Turns<N>,

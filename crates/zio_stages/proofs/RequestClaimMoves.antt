@@ -7,7 +7,7 @@ use Rattle.zio_types.specs.declared.request.Phase.TheVariants.{Done}
 use Rattle.zio_blkptr.specs.declared.pointer.Bp.{Bp}
 use Rattle.zio_blkptr.specs.Pointers.{pointer_of}
 use Rattle.zio_script.specs.declared.script.Work.{Work}
-use Rattle.zio_script.specs.declared.script.Work.TheVariants.{Null as NullWork, Read as ReadWork, Write as WriteWork, Free as FreeWork, Claim as ClaimWork}
+use Rattle.zio_script.specs.declared.script.Work.TheVariants.{Claim as ClaimWork}
 use Rattle.zio_gang.specs.declared.tree.Tree.{Tree}
 use Rattle.zio_gang.specs.Attempts.{Pending, Terms}
 use Rattle.zio_trace.specs.Plans.{plan_claim, plan_own}
@@ -20,7 +20,6 @@ use Rattle.zio_frames.specs.Seats.{IsSeated}
 use Rattle.zio_frames.specs.Slots.{AllHeard, Heard, IsOut, Slot, left_behind_slots, told_in}
 use Rattle.zio_stages.specs.OwnClaims.{IsClaimOf, IsOwnClaim, claim_task}
 use Rattle.zio_stages.specs.OwnParts.{DoesThen, GoesOnAs, HandsTo, IsNoWrite, IsOwed}
-use Rattle.zio_stages.specs.RequestClaims.{IsClaimWork}
 use Rattle.zio_stages.specs.RequestNodes.{IsOwnOf, IsRequestNode, own_got}
 use Rattle.zio_stages.specs.RequestOwns.{IsClaimOwn}
 use Rattle.zio_stages.specs.SpaceCalls.{SpaceCall}

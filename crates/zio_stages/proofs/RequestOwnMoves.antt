@@ -1,11 +1,10 @@
 -- A request's own work in an attempt: what it does, hands out and hears behind its children, the attempt does, hands out and hears.
-use Rattle.std.proofs.Common.{◌≡◌, ℕ, List, [], ◌∷◌, length, map, false, Option, Some, None, refl, sym, ap, subst, ◌∙◌}
+use Rattle.std.proofs.Common.{◌≡◌, ℕ, List, [], ◌∷◌, length, map, Option, Some, None, refl, sym, ap, subst, ◌∙◌}
 use Rattle.zio_types.specs.declared.place.Top.{Top}
 use Rattle.zio_types.specs.declared.request.ChildKind.{ChildKind}
 use Rattle.zio_types.specs.declared.request.Prio.{Prio}
 use Rattle.zio_script.specs.declared.script.Work.{Work}
 use Rattle.zio_script.specs.declared.script.Work.TheVariants.{Null as NullWork, Read as ReadWork, Write as WriteWork, Free as FreeWork, Claim as ClaimWork}
-use Rattle.zio_blkptr.specs.declared.pointer.Bp.{Bp}
 use Rattle.zio_gang.specs.declared.tree.Tree.{Tree}
 use Rattle.zio_gang.specs.Attempts.{Pending, Terms}
 use Rattle.zio_trace.specs.Conflicts.{is_single}

@@ -1,28 +1,22 @@
 -- A read in an attempt: its block's read begins, goes on and ends.
-use Rattle.std.proofs.Common.{◌≡◌, ℕ, suc, List, [], ◌∷◌, ◌++◌, length, Bool, true, false, Option, Some, None, Ok, Err, refl, sym, ap, subst, ◌∙◌, ◌⊎◌, inl, inr}
-use Rattle.std.specs.Prelude.{IfSome}
-use Rattle.std.specs.List.{AllByRecursion}
-use Rattle.zio_types.specs.declared.error.Errno.{Errno}
+use Rattle.std.proofs.Common.{◌≡◌, List, [], length, Bool, true, false, Option, Some, None, Err, refl, sym, ap, subst, ◌∙◌}
 use Rattle.zio_types.specs.declared.error.Errno.TheVariants.{Noent}
 use Rattle.zio_types.specs.declared.place.Top.{Top}
-use Rattle.zio_types.specs.declared.request.ChildKind.TheVariants.{Gang}
 use Rattle.zio_blkptr.specs.declared.pointer.Bp.{Bp}
 use Rattle.zio_script.specs.declared.script.Work.{Work}
 use Rattle.zio_gang.specs.declared.tree.Tree.{Tree}
 use Rattle.zio_gang.specs.Attempts.{Pending, Terms}
-use Rattle.zio_trace.specs.BlockCopies.{groups_of}
 use Rattle.zio_trace.specs.Leaves.{Answer}
 use Rattle.zio_trace.specs.Plans.{own_read_by, plan_own, plan_read, plan_tree}
 use Rattle.zio_trace.specs.Programs.{Ends}
-use Rattle.zio_trace.specs.Tasks.{Got, OwnGot, Task, Value, got}
-use Rattle.zio_frames.specs.Frames.{Child, OfOuter, Stack}
+use Rattle.zio_trace.specs.Tasks.{Got, OwnGot, Value, got}
+use Rattle.zio_frames.specs.Frames.{Child, Stack}
 use Rattle.zio_frames.specs.Slots.{AllHeard, Slot, left_behind_slots, told_in}
-use Rattle.zio_stages.specs.NodeChildren.{new_child}
 use Rattle.zio_stages.specs.NodeIos.{NoneSits}
 use Rattle.zio_stages.specs.OwnParts.{DoesThen, IsNoWrite}
-use Rattle.zio_stages.specs.OwnReads.{IsBodyIn, IsBodyOn, IsOwnOver, IsOwnRead, IsOwnReadOver}
+use Rattle.zio_stages.specs.OwnReads.{IsOwnOver, IsOwnRead, IsOwnReadOver}
 use Rattle.zio_stages.specs.RequestNodes.{IsOwnOf, IsRequestNode, own_got}
-use Rattle.zio_stages.specs.RequestOwns.{IsBlockOn, IsPieceOn, IsReadOwn}
+use Rattle.zio_stages.specs.RequestOwns.{IsReadOwn}
 use Rattle.zio_stages.specs.RequestReads.{IsReadWith, IsReadWork}
 use Rattle.zio_stages.specs.Waits.{pending_of}
 use Rattle.zio_stages.specs.declared.family.Layer.TheVariants.{Within}

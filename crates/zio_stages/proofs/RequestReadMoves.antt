@@ -31,7 +31,7 @@ use Rattle.zio_stages.specs.declared.request_node.RequestNode.{RequestNode}
 use Rattle.zio_stages.proofs.BehindLemmas.{does_nothing}
 use Rattle.zio_stages.proofs.PartMembers.{none_changed}
 use Rattle.zio_stages.proofs.RequestHears.{seat_is}
-use Rattle.zio_stages.proofs.RequestOwnMoves.{ReadsBlock, own_read, read_goes_on, read_node, reads_block, set_op, then_does, then_hands, then_starts}
+use Rattle.zio_stages.proofs.RequestOwnMoves.{read_goes_on, read_node, reads_block, set_op, then_does, then_hands, then_starts}
 use Rattle.zio_stages.proofs.RequestWriteLemmas.{front_in, with_own}
 
 -- ---- behind its children

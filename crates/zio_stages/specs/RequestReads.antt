@@ -15,7 +15,6 @@ use Rattle.zio_stages.specs.HeadsNodes.{IsHeadsNode, IsHeadsOver}
 use Rattle.zio_stages.specs.NodeIos.{IsReadDue}
 use Rattle.zio_stages.specs.OwnParts.{HandsTo, IsOwed}
 use Rattle.zio_stages.specs.OwnReads.{IsBodyOut, IsWalkOut}
-use Rattle.zio_stages.specs.declared.copies_node.CopiesNode.{CopiesNode}
 use Rattle.zio_stages.specs.declared.heads_node.HeadsNode.{HeadsNode}
 use Rattle.zio_stages.specs.declared.own_read.BodyIo.{BodyIo}
 use Rattle.zio_stages.specs.declared.own_read.OwnRead.{OwnRead}

@@ -63,14 +63,15 @@ pub use named::Named;
 pub use node_io::IoNext;
 pub use outcome::{Finished, Outcome};
 pub use own_laws::{
-    own_work_stands_behind_children, own_work_stays_while_children_go_on,
-    what_is_no_write_has_no_pointer,
+    bodies_of_a_walk_lie_on_the_tops, own_work_stands_behind_children,
+    own_work_stays_while_children_go_on, what_is_no_write_has_no_pointer,
 };
 pub use part::{OwnBack, PartOwn};
 pub use part_node::{Allocated, PartNode, PartNodeBack};
 pub use pointer_laws::reads_tell_no_pointer;
 pub use read_io::ReadIo;
 pub use request_node::{RequestNode, Start};
+pub use request_read::{BodyStage, ReadDone};
 pub use services::{Services, Unclaimed};
 pub use tree::TreeWork;
 pub use waiting::Waiting;

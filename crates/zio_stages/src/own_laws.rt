@@ -1,12 +1,16 @@
 // A request's own work behind its children's attempts.
 
 ghost use Rattle.std.specs.Prelude.{◌≡◌, ◌<◌, ℕ, List, None, Option, length, slice_set};
+ghost use Rattle.std.specs.List.{AllByRecursion};
+ghost use Rattle.zio_types.specs.declared.place.Top.{Top};
+ghost use Rattle.zio_types.specs.Choices.{Choice};
 ghost use Rattle.zio_blkptr.specs.declared.pointer.Bp.{Bp};
 ghost use Rattle.zio_gang.specs.declared.tree.Tree.{Tree};
 ghost use Rattle.zio_gang.specs.Attempts.{Pending, Terms};
 ghost use Rattle.zio_trace.specs.Families.{Forest};
 ghost use Rattle.zio_trace.specs.Plans.{plan_own};
-ghost use Rattle.zio_trace.specs.Tasks.{Attempt, OwnGot, Task};
+ghost use Rattle.zio_trace.specs.Footprints.{FitsTask};
+ghost use Rattle.zio_trace.specs.Tasks.{Attempt, OwnGot, Task, Walked, WalkedBy};
 ghost use Rattle.zio_children.specs.RequestKids.{pointers_of};
 ghost use Rattle.zio_frames.specs.Frames.{Child, Frame, OfOuter, Stack};
 ghost use Rattle.zio_frames.specs.Moves.{WillHave, set_at, with_children};
@@ -14,8 +18,10 @@ ghost use Rattle.zio_frames.specs.Slots.{Slot};
 ghost use Rattle.zio_stages.specs.KidTrees.{KidsHeld};
 ghost use Rattle.zio_stages.specs.OwnClaims.{IsOwnClaim};
 ghost use Rattle.zio_stages.specs.OwnFrees.{IsOwnFree};
-ghost use Rattle.zio_stages.specs.OwnReads.{IsOwnRead};
+ghost use Rattle.zio_stages.specs.OwnReads.{IsBodyOn, IsOwnRead};
 ghost use Rattle.zio_stages.specs.PartsOut.{ArePartsOut};
+ghost use Rattle.zio_stages.specs.RequestOwns.{IsBlockOn};
+ghost use Rattle.zio_stages.specs.TreeWorks.{heads_task};
 ghost use Rattle.zio_stages.specs.declared.own_claim.OwnClaim.{OwnClaim};
 ghost use Rattle.zio_stages.specs.declared.own_free.FreeWalk.{FreeWalk};
 ghost use Rattle.zio_stages.specs.declared.own_read.OwnRead.{OwnRead};
@@ -52,4 +58,10 @@ pub fn own_work_stays_while_children_go_on()
 pub fn what_is_no_write_has_no_pointer()
     ensures { (t : Terms) (x : Frame) (attempt : ℕ) (p : Pending) (forest : Forest) → x.op ≡ Attempt attempt p forest →
         IsNoWrite p.request.work → WillHave t x None }
+{}
+
+/// The bodies that the walk over a block's headers came to lie on the tops, where the block and all that it may come to do.
+pub fn bodies_of_a_walk_lie_on_the_tops()
+    ensures { (t : Terms) (tops : List Top) (journal : List Choice) (tree : Tree) (left : Walked) → IsBlockOn tops tree →
+        FitsTask journal t (heads_task tree) (WalkedBy left) → AllByRecursion (IsBodyOn tops) left.bodies }
 {}

@@ -1,7 +1,6 @@
-use Rattle.std.proofs.Common.{◌≡◌, ◌+◌, ◌<◌, None, refl, length, arith, sym, subst}
+use Rattle.std.proofs.Common.{◌≡◌, ◌+◌, refl, length, arith, sym, subst}
 use Rattle.zio_stages.specs.TreeWorks.{body_task}
 use Rattle.zio_stages.specs.declared.own_read.OwnRead.{OwnRead}
-use Rattle.zio_stages.specs.declared.tree.TreeWork.{TreeWork}
 use Rattle.zio_stages.proofs.OwnGangLemmas.{hands_read}
 use Rattle.zio_stages.proofs.OwnReadLemmas.{asked_before, reads_more}
 use Rattle.zio_stages.specs.NodeIos.{NoneSits}

@@ -1,4 +1,4 @@
-use Rattle.std.proofs.Common.{◌≡◌, ◌+◌, length, sym, subst}
+use Rattle.std.proofs.Common.{◌+◌, length, sym, subst}
 use Rattle.std.specs.List.{AllByRecursion}
 use Rattle.zio_trace.specs.Tasks.{Got}
 use Rattle.zio_stages.specs.OwnReads.{IsBodyOn}

@@ -1,4 +1,4 @@
-use Rattle.std.proofs.Common.{◌≡◌, ◌+◌, length, sym, subst}
+use Rattle.std.proofs.Common.{◌+◌, length, sym, subst}
 use Rattle.zio_frames.specs.Moves.{heard_early}
 use Rattle.zio_stages.specs.RequestNodes.{IsOwnOver, IsRequestNode}
 use Rattle.zio_stages.specs.RequestReads.{IsAlone, IsReadingWith}

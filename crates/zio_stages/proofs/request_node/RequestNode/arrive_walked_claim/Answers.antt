@@ -1,6 +1,4 @@
-use Rattle.std.proofs.Common.{◌≡◌, ◌+◌, length, Some, sym, ap, subst, ◌∙◌}
-use Rattle.std.specs.Prelude.{Option}
-use Rattle.zio_blkptr.specs.declared.pointer.Bp.{Bp}
+use Rattle.std.proofs.Common.{◌≡◌, ◌+◌, length, Some, subst}
 use Rattle.zio_blkptr.specs.Pointers.{pointer_of}
 use Rattle.zio_gang.specs.declared.tree.Tree.{Tree}
 use Rattle.zio_trace.specs.Tasks.{WalkedBy}

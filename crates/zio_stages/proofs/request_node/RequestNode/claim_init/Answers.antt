@@ -1,6 +1,4 @@
-use Rattle.std.proofs.Common.{◌≡◌, Ok, refl, sym, ap, subst}
-use Rattle.zio_script.specs.declared.script.Work.{Work}
-use Rattle.zio_stages.specs.RequestClaims.{IsClaimWork}
+use Rattle.std.proofs.Common.{Ok, ap, subst}
 use Rattle.zio_stages.specs.RequestNodes.{IsOwnOver}
 use Rattle.zio_stages.specs.declared.request_node.Own.{Own}
 use Rattle.zio_stages.proofs.RequestClaimMoves.{ClaimsBytes, claim_begins, claim_goes_on}

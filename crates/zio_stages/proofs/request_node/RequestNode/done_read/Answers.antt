@@ -1,9 +1,9 @@
-use Rattle.std.proofs.Common.{◌≡◌, refl, sym, ap, subst, ◌∙◌}
+use Rattle.std.proofs.Common.{◌≡◌, subst}
 use Rattle.zio_types.specs.declared.request.ChildKind.{ChildKind}
 use Rattle.zio_types.specs.declared.request.ChildKind.TheVariants.{Gang}
 use Rattle.zio_types.specs.declared.request.Phase.TheVariants.{Done}
 use Rattle.zio_stages.specs.OwnParts.{IsOwed}
-use Rattle.zio_stages.specs.RequestReads.{HasReadEnded, IsAlone, IsReadWith}
+use Rattle.zio_stages.specs.RequestReads.{IsAlone, IsReadWith}
 use Rattle.zio_stages.proofs.RequestOwnMoves.{own_read, read_in}
 use Rattle.zio_stages.proofs.request_node.RequestNode.done_read.Goals as goal
 

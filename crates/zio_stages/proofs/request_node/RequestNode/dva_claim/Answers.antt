@@ -1,4 +1,4 @@
-use Rattle.std.proofs.Common.{◌≡◌, [], refl, subst}
+use Rattle.std.proofs.Common.{[], refl, subst}
 use Rattle.zio_blkptr.specs.Pointers.{pointer_of}
 use Rattle.zio_stages.specs.RequestNodes.{IsOwnOver, IsRequestNode}
 use Rattle.zio_stages.specs.declared.request_node.Own.{Own}

@@ -1,5 +1,5 @@
-use Rattle.std.proofs.Common.{◌≡◌, ◌≤◌, length, None, sym, ap, subst, ◌∙◌, refl}
-use Rattle.zio_stages.specs.RequestFrees.{IsFreeWith, IsFreeing, freed_by}
+use Rattle.std.proofs.Common.{sym, subst, refl}
+use Rattle.zio_stages.specs.RequestFrees.{freed_by}
 use Rattle.zio_stages.specs.StoredBlocks.{block_places}
 use Rattle.zio_stages.specs.OwnFrees.{IsOwnFree}
 use Rattle.zio_stages.specs.declared.own_free.FreeWalk.{FreeWalk}

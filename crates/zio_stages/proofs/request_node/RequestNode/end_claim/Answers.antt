@@ -1,9 +1,7 @@
-use Rattle.std.proofs.Common.{◌≡◌, sym, subst, ◌∙◌}
+use Rattle.std.proofs.Common.{sym, subst, ◌∙◌}
 use Rattle.zio_blkptr.specs.Pointers.{pointer_of}
 use Rattle.zio_stages.specs.OwnClaims.{own_claimed}
 use Rattle.zio_stages.specs.RequestClaims.{HasEndedClaim, IsClaimWith}
-use Rattle.zio_stages.specs.RequestNodes.{IsOwnOver}
-use Rattle.zio_stages.specs.declared.request_node.Own.{Own}
 use Rattle.zio_stages.proofs.RequestClaimMoves.{claim_found, claim_in}
 use Rattle.zio_stages.proofs.request_node.RequestNode.end_claim.Goals as goal
 

@@ -1,12 +1,9 @@
-use Rattle.std.proofs.Common.{◌≡◌, Some, refl, sym, ap, subst, ◌∙◌}
-use Rattle.zio_frames.specs.Frames.{Stack}
-use Rattle.zio_gang.specs.Attempts.{Terms}
-use Rattle.zio_stages.specs.RequestNodes.{IsOwnOver, IsRequestNode}
+use Rattle.std.proofs.Common.{sym, subst, ◌∙◌}
+use Rattle.zio_stages.specs.RequestNodes.{IsOwnOver}
 use Rattle.zio_stages.specs.RequestReads.{HasReadEnded, IsReadWith}
 use Rattle.zio_stages.specs.declared.request_node.Own.{Own}
 use Rattle.zio_stages.proofs.RequestOwnMoves.{read_in}
 use Rattle.zio_stages.proofs.RequestReadLemmas.{ended_over, read_found}
-use Rattle.zio_stages.proofs.RequestWriteLemmas.{with_own}
 use Rattle.zio_stages.proofs.request_node.RequestNode.end_read.Goals as goal
 
 pub into_found-requires : goal.into_found-requires

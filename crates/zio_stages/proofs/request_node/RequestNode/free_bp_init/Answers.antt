@@ -1,6 +1,5 @@
-use Rattle.std.proofs.Common.{◌≡◌, ◌≤◌, None, Ok, length, refl, sym, ap, subst, ◌∙◌, arith}
+use Rattle.std.proofs.Common.{◌≡◌, None, Ok, refl, ap, subst, arith}
 use Rattle.zio_stages.specs.RequestNodes.{IsOwnOver, IsRequestNode}
-use Rattle.zio_stages.specs.StoredBlocks.{block_places}
 use Rattle.zio_stages.specs.declared.request_node.Own.{Own}
 use Rattle.zio_stages.specs.declared.request_node.Own.TheVariants.{Found}
 use Rattle.zio_stages.proofs.BehindLemmas.{does_nothing}

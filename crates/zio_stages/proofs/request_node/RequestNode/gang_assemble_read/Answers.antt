@@ -1,14 +1,12 @@
-use Rattle.std.proofs.Common.{◌≡◌, ◌+◌, ◌≤◌, List, [], length, Some, IsTrue, refl, sym, ap, subst, ◌∙◌, arith}
+use Rattle.std.proofs.Common.{◌≡◌, List, length, refl, sym, ap, subst, ◌∙◌, arith}
 use Rattle.std.specs.Prelude.{IfSome, Option}
 use Rattle.std.specs.List.{AllByRecursion}
-use Rattle.zio_blkptr.specs.Pointers.{valid}
 use Rattle.zio_gang.specs.declared.tree.Head.{Head}
 use Rattle.zio_gang.specs.declared.tree.Tree.{Tree}
-use Rattle.zio_gang.specs.Trees.{header_levels_max}
 use Rattle.zio_trace.specs.Tasks.{ByKept, ReadHeads, Task}
 use Rattle.zio_frames.specs.Frames.{fresh_stack}
 use Rattle.zio_parts.specs.TreeReads.{ShowsRead}
-use Rattle.zio_stages.specs.HeadsNodes.{IsHeadOn, IsHeadsNode, LiesOn}
+use Rattle.zio_stages.specs.HeadsNodes.{IsHeadOn, IsHeadsNode}
 use Rattle.zio_stages.specs.OwnReads.{IsBodyOn}
 use Rattle.zio_stages.specs.RequestNodes.{IsOwnOver}
 use Rattle.zio_stages.specs.RequestOwns.{IsBlockOn}

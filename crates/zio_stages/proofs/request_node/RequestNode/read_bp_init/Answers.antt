@@ -1,6 +1,5 @@
-use Rattle.std.proofs.Common.{◌≡◌, Some, None, Ok, true, false, refl, sym, ap, subst}
+use Rattle.std.proofs.Common.{◌≡◌, None, Ok, refl, sym, ap, subst}
 use Rattle.std.specs.List.{AllByRecursion}
-use Rattle.zio_blkptr.specs.declared.pointer.Bp.{Bp}
 use Rattle.zio_stages.specs.OwnReads.{IsBodyOn, IsOwnOver}
 use Rattle.zio_stages.specs.RequestNodes.{IsOwnOver as IsNodeOver, IsRequestNode}
 use Rattle.zio_stages.specs.declared.own_read.BodyIo.{BodyIo}

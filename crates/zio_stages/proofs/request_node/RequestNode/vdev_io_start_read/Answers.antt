@@ -1,10 +1,9 @@
-use Rattle.std.proofs.Common.{◌≡◌, List, [], Result, Ok, Err, refl, sym, subst}
+use Rattle.std.proofs.Common.{List, [], Result, Ok, Err, refl, sym, subst}
 use Rattle.std.specs.Prelude.{OnErr}
 use Rattle.zio_frames.specs.Frames.{Child}
 use Rattle.zio_stages.specs.OwnParts.{DoesThen}
-use Rattle.zio_stages.specs.RequestNodes.{IsOwnOver, IsRequestNode}
+use Rattle.zio_stages.specs.RequestNodes.{IsRequestNode}
 use Rattle.zio_stages.specs.declared.own_read.OwnRead.{OwnRead}
-use Rattle.zio_stages.specs.declared.request_node.Own.{Own}
 use Rattle.zio_stages.specs.declared.request_node.Own.TheVariants.{Read}
 use Rattle.zio_stages.proofs.BehindLemmas.{does_nothing}
 use Rattle.zio_stages.proofs.RequestOwnMoves.{own_read, read_goes_on, read_in, read_node, reads_block}

@@ -2,6 +2,9 @@
 use Rattle.std.specs.Prelude.{ℕ, List, [], Bool}
 use Rattle.zio_types.specs.declared.place.Place.{Place}
 use Rattle.zio_types.specs.declared.place.Top.{Top}
+use Rattle.std.specs.List.{AllByRecursion}
+use Rattle.zio_stages.specs.RequestOwns.{IsWaitingOver}
+use Rattle.zio_stages.specs.declared.waiting.Waiting.{Waiting}
 use Rattle.zio_gang.specs.Attempts.{Terms}
 use Rattle.zio_frames.specs.Frames.{Stack}
 use Rattle.zio_stages.specs.HeadsNodes.{IsHeadsNode}
@@ -27,6 +30,10 @@ abbrev pub IsNodeOver : List Top → Node → Type 0
 IsNodeOver tops (Leaf at) = LeafStands at.stage at.is_out at.work
 IsNodeOver tops (Copies at) = IsCopiesAtOver tops at
 IsNodeOver tops (Heads at) = IsHeadsAtOver tops at
+
+-- the blocks that a tree of requests names lie inside them
+abbrev pub IsTreeOver : List Top → List Waiting → Type 0
+IsTreeOver tops ws = AllByRecursion (IsWaitingOver tops) ws
 
 -- it told its pointer
 abbrev pub told_of : Node → Bool

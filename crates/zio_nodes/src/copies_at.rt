@@ -10,7 +10,7 @@ ghost use Rattle.zio_stages.specs.CopiesNodes.{IsCopiesNode, IsCopiesOver};
 ghost use Rattle.zio_graph.specs.Stages.{EachIn, Hears, HearsSome, Lessens, TellsValid, heard_max};
 ghost use Rattle.zio_nodes.specs.Bounds.{copies_left, copies_max};
 ghost use Rattle.zio_nodes.specs.CopiesAts.{IsCopiesAt, IsCopiesAtOver};
-ghost use Rattle.zio_nodes.specs.Nodes.{IsNodeOver, MovesBare, StaysBare, left_of, nodes};
+ghost use Rattle.zio_nodes.specs.Nodes.{IsNodeOver, IsTreeOver, MovesBare, StaysBare, left_of, nodes};
 ghost use Rattle.zio_nodes.specs.Told.{is_told};
 
 use crate::leaf_at::LeafAt;
@@ -49,7 +49,7 @@ impl CopiesAt {
     pub fn run_stage(self, alloc: Global, tops: &[Top]) -> Result<Move<Node>, Node>
         requires { IsCopiesAtOver tops.now self }
         ensures moves { IfOk result (MovesBare tops.now (Node.Copies self)) }
-        ensures over { IfOk result (EachIn (IsNodeOver tops.now)) }
+        ensures over { IfOk result (EachIn (IsNodeOver tops.now) (IsTreeOver tops.now)) }
         ensures valid { IfOk result TellsValid }
         ensures left { IfOk result (Lessens left_of (Node.Copies self)) }
         ensures refused { IfErr result (StaysBare tops.now (Node.Copies self)) }
@@ -71,7 +71,7 @@ impl CopiesAt {
     fn start(self) -> Move<Node>
         requires stage { self.stage ≡ Stage.Start }
         ensures moves { (tops : Seq SeenTop) → MovesBare tops (Node.Copies self) result }
-        ensures over { (tops : Seq SeenTop) → IsCopiesAtOver tops self → EachIn (IsNodeOver tops) result }
+        ensures over { (tops : Seq SeenTop) → IsCopiesAtOver tops self → EachIn (IsNodeOver tops) (IsTreeOver tops) result }
         ensures valid { TellsValid result }
         ensures left { Lessens left_of (Node.Copies self) result }
     {
@@ -88,7 +88,7 @@ impl CopiesAt {
     fn read_bp_init(self) -> Move<Node>
         requires stage { self.stage ≡ Stage.ReadBpInit }
         ensures moves { (tops : Seq SeenTop) → MovesBare tops (Node.Copies self) result }
-        ensures over { (tops : Seq SeenTop) → IsCopiesAtOver tops self → EachIn (IsNodeOver tops) result }
+        ensures over { (tops : Seq SeenTop) → IsCopiesAtOver tops self → EachIn (IsNodeOver tops) (IsTreeOver tops) result }
         ensures valid { TellsValid result }
         ensures left { Lessens left_of (Node.Copies self) result }
     {
@@ -105,7 +105,7 @@ impl CopiesAt {
     fn ready(self) -> Move<Node>
         requires stage { self.stage ≡ Stage.Ready }
         ensures moves { (tops : Seq SeenTop) → MovesBare tops (Node.Copies self) result }
-        ensures over { (tops : Seq SeenTop) → IsCopiesAtOver tops self → EachIn (IsNodeOver tops) result }
+        ensures over { (tops : Seq SeenTop) → IsCopiesAtOver tops self → EachIn (IsNodeOver tops) (IsTreeOver tops) result }
         ensures valid { TellsValid result }
         ensures left { Lessens left_of (Node.Copies self) result }
     {
@@ -124,7 +124,7 @@ impl CopiesAt {
         requires over { IsCopiesAtOver tops.now self }
         requires stage { self.stage ≡ Stage.VdevIoStart }
         ensures moves { IfOk result (MovesBare tops.now (Node.Copies self)) }
-        ensures over { IfOk result (EachIn (IsNodeOver tops.now)) }
+        ensures over { IfOk result (EachIn (IsNodeOver tops.now) (IsTreeOver tops.now)) }
         ensures valid { IfOk result TellsValid }
         ensures left { IfOk result (Lessens left_of (Node.Copies self)) }
         ensures refused { IfErr result (StaysBare tops.now (Node.Copies self)) }
@@ -165,7 +165,7 @@ impl CopiesAt {
         requires over { IsCopiesAtOver tops.now self }
         requires stage { self.stage ≡ Stage.VdevIoDone }
         ensures moves { MovesBare tops.now (Node.Copies self) result }
-        ensures over { EachIn (IsNodeOver tops.now) result }
+        ensures over { EachIn (IsNodeOver tops.now) (IsTreeOver tops.now) result }
         ensures valid { TellsValid result }
         ensures left { Lessens left_of (Node.Copies self) result }
     {
@@ -197,7 +197,7 @@ impl CopiesAt {
         requires over { IsCopiesAtOver tops.now self }
         requires stage { self.stage ≡ Stage.VdevIoAssess }
         ensures moves { MovesBare tops.now (Node.Copies self) result }
-        ensures over { EachIn (IsNodeOver tops.now) result }
+        ensures over { EachIn (IsNodeOver tops.now) (IsTreeOver tops.now) result }
         ensures valid { TellsValid result }
         ensures left { Lessens left_of (Node.Copies self) result }
     {
@@ -225,7 +225,7 @@ impl CopiesAt {
         requires over { IsCopiesAtOver tops.now self }
         requires stage { self.stage ≡ Stage.ChecksumVerify }
         ensures moves { MovesBare tops.now (Node.Copies self) result }
-        ensures over { EachIn (IsNodeOver tops.now) result }
+        ensures over { EachIn (IsNodeOver tops.now) (IsTreeOver tops.now) result }
         ensures valid { TellsValid result }
         ensures left { Lessens left_of (Node.Copies self) result }
     {
@@ -243,7 +243,7 @@ impl CopiesAt {
         requires over { IsCopiesAtOver tops.now self }
         requires stage { self.stage ≡ Stage.Done }
         ensures moves { MovesBare tops.now (Node.Copies self) result }
-        ensures over { EachIn (IsNodeOver tops.now) result }
+        ensures over { EachIn (IsNodeOver tops.now) (IsTreeOver tops.now) result }
         ensures valid { TellsValid result }
         ensures left { Lessens left_of (Node.Copies self) result }
     {

@@ -11,7 +11,7 @@ ghost use Rattle.zio_stages.specs.HeadsNodes.{IsHeadsNode, IsHeadsOver};
 ghost use Rattle.zio_graph.specs.Stages.{EachIn, Hears, HearsEarly, HearsSome, HearsSomeEarly, Lessens, TellsValid};
 ghost use Rattle.zio_nodes.specs.Bounds.{heads_left, walk_max};
 ghost use Rattle.zio_nodes.specs.HeadsAts.{IsHeadsAtOver};
-ghost use Rattle.zio_nodes.specs.Nodes.{IsNodeOver, MovesBare, StaysBare, left_of, nodes};
+ghost use Rattle.zio_nodes.specs.Nodes.{IsNodeOver, IsTreeOver, MovesBare, StaysBare, left_of, nodes};
 ghost use Rattle.zio_nodes.specs.Told.{is_told};
 
 use crate::copies_at::CopiesAt;
@@ -58,7 +58,7 @@ impl HeadsAt {
     pub fn run_stage(self, alloc: Global, tops: &[Top]) -> Result<Move<Node>, Node>
         requires { IsHeadsAtOver tops.now self }
         ensures moves { IfOk result (MovesBare tops.now (Node.Heads self)) }
-        ensures over { IfOk result (EachIn (IsNodeOver tops.now)) }
+        ensures over { IfOk result (EachIn (IsNodeOver tops.now) (IsTreeOver tops.now)) }
         ensures valid { IfOk result TellsValid }
         ensures left { IfOk result (Lessens left_of (Node.Heads self)) }
         ensures refused { IfErr result (StaysBare tops.now (Node.Heads self)) }
@@ -77,7 +77,7 @@ impl HeadsAt {
     fn start(self) -> Move<Node>
         requires stage { self.stage ≡ Stage.Start }
         ensures moves { (tops : Seq SeenTop) → MovesBare tops (Node.Heads self) result }
-        ensures over { (tops : Seq SeenTop) → IsHeadsAtOver tops self → EachIn (IsNodeOver tops) result }
+        ensures over { (tops : Seq SeenTop) → IsHeadsAtOver tops self → EachIn (IsNodeOver tops) (IsTreeOver tops) result }
         ensures valid { TellsValid result }
         ensures left { Lessens left_of (Node.Heads self) result }
     {
@@ -96,7 +96,7 @@ impl HeadsAt {
         requires over { IsHeadsAtOver tops.now self }
         requires stage { self.stage ≡ Stage.GangAssemble }
         ensures moves { IfOk result (MovesBare tops.now (Node.Heads self)) }
-        ensures over { IfOk result (EachIn (IsNodeOver tops.now)) }
+        ensures over { IfOk result (EachIn (IsNodeOver tops.now) (IsTreeOver tops.now)) }
         ensures valid { IfOk result TellsValid }
         ensures left { IfOk result (Lessens left_of (Node.Heads self)) }
         ensures refused { IfErr result (StaysBare tops.now (Node.Heads self)) }
@@ -153,7 +153,7 @@ impl HeadsAt {
     fn gang_issue(self) -> Move<Node>
         requires stage { self.stage ≡ Stage.GangIssue }
         ensures moves { (tops : Seq SeenTop) → MovesBare tops (Node.Heads self) result }
-        ensures over { (tops : Seq SeenTop) → IsHeadsAtOver tops self → EachIn (IsNodeOver tops) result }
+        ensures over { (tops : Seq SeenTop) → IsHeadsAtOver tops self → EachIn (IsNodeOver tops) (IsTreeOver tops) result }
         ensures valid { TellsValid result }
         ensures left { Lessens left_of (Node.Heads self) result }
     {
@@ -170,7 +170,7 @@ impl HeadsAt {
     fn ready(self) -> Move<Node>
         requires stage { self.stage ≡ Stage.Ready }
         ensures moves { (tops : Seq SeenTop) → MovesBare tops (Node.Heads self) result }
-        ensures over { (tops : Seq SeenTop) → IsHeadsAtOver tops self → EachIn (IsNodeOver tops) result }
+        ensures over { (tops : Seq SeenTop) → IsHeadsAtOver tops self → EachIn (IsNodeOver tops) (IsTreeOver tops) result }
         ensures valid { TellsValid result }
         ensures left { Lessens left_of (Node.Heads self) result }
     {
@@ -189,7 +189,7 @@ impl HeadsAt {
         requires over { IsHeadsAtOver tops.now self }
         requires stage { self.stage ≡ Stage.Done }
         ensures moves { IfOk result (MovesBare tops.now (Node.Heads self)) }
-        ensures over { IfOk result (EachIn (IsNodeOver tops.now)) }
+        ensures over { IfOk result (EachIn (IsNodeOver tops.now) (IsTreeOver tops.now)) }
         ensures valid { IfOk result TellsValid }
         ensures left { IfOk result (Lessens left_of (Node.Heads self)) }
         ensures refused { IfErr result (StaysBare tops.now (Node.Heads self)) }

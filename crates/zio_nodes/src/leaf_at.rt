@@ -11,7 +11,7 @@ ghost use Rattle.zio_stages.specs.LeafWorks.{IsDue, IsLeafWork};
 ghost use Rattle.zio_graph.specs.Stages.{EachIn, Lessens, ShowsAnswer, TellsValid};
 ghost use Rattle.zio_nodes.specs.Bounds.{leaf_left, leaf_max};
 ghost use Rattle.zio_nodes.specs.LeafAts.{IsLeafAt, LeafStands};
-ghost use Rattle.zio_nodes.specs.Nodes.{IsNodeOver, MovesBare, StaysBare, left_of};
+ghost use Rattle.zio_nodes.specs.Nodes.{IsNodeOver, IsTreeOver, MovesBare, StaysBare, left_of};
 ghost use Rattle.zio_nodes.specs.Told.{is_told};
 
 use crate::node::Node;
@@ -49,7 +49,7 @@ impl LeafAt {
     pub fn run_stage(self) -> Result<Move<Node>, Node>
         requires { LeafStands self.stage self.is_out self.work }
         ensures moves { (tops : Seq SeenTop) → IfOk result (MovesBare tops (Node.Leaf self)) }
-        ensures over { (tops : Seq SeenTop) → IfOk result (EachIn (IsNodeOver tops)) }
+        ensures over { (tops : Seq SeenTop) → IfOk result (EachIn (IsNodeOver tops) (IsTreeOver tops)) }
         ensures valid { IfOk result TellsValid }
         ensures left { IfOk result (Lessens left_of (Node.Leaf self)) }
         ensures refused { (tops : Seq SeenTop) → IfErr result (StaysBare tops (Node.Leaf self)) }
@@ -68,7 +68,7 @@ impl LeafAt {
         requires stands { LeafStands self.stage self.is_out self.work }
         requires stage { self.stage ≡ Stage.VdevIoStart }
         ensures moves { (tops : Seq SeenTop) → MovesBare tops (Node.Leaf self) result }
-        ensures over { (tops : Seq SeenTop) → EachIn (IsNodeOver tops) result }
+        ensures over { (tops : Seq SeenTop) → EachIn (IsNodeOver tops) (IsTreeOver tops) result }
         ensures valid { TellsValid result }
         ensures left { Lessens left_of (Node.Leaf self) result }
     {
@@ -88,7 +88,7 @@ impl LeafAt {
         requires stands { LeafStands self.stage self.is_out self.work }
         requires stage { self.stage ≡ Stage.VdevIoDone }
         ensures moves { (tops : Seq SeenTop) → IfOk result (MovesBare tops (Node.Leaf self)) }
-        ensures over { (tops : Seq SeenTop) → IfOk result (EachIn (IsNodeOver tops)) }
+        ensures over { (tops : Seq SeenTop) → IfOk result (EachIn (IsNodeOver tops) (IsTreeOver tops)) }
         ensures valid { IfOk result TellsValid }
         ensures left { IfOk result (Lessens left_of (Node.Leaf self)) }
         ensures refused { (tops : Seq SeenTop) → IfErr result (StaysBare tops (Node.Leaf self)) }
@@ -110,7 +110,7 @@ impl LeafAt {
         requires stands { LeafStands self.stage self.is_out self.work }
         requires stage { self.stage ≡ Stage.VdevIoAssess }
         ensures moves { (tops : Seq SeenTop) → MovesBare tops (Node.Leaf self) result }
-        ensures over { (tops : Seq SeenTop) → EachIn (IsNodeOver tops) result }
+        ensures over { (tops : Seq SeenTop) → EachIn (IsNodeOver tops) (IsTreeOver tops) result }
         ensures valid { TellsValid result }
         ensures left { Lessens left_of (Node.Leaf self) result }
     {
@@ -128,7 +128,7 @@ impl LeafAt {
         requires stands { LeafStands self.stage self.is_out self.work }
         requires stage { self.stage ≡ Stage.Done }
         ensures moves { (tops : Seq SeenTop) → MovesBare tops (Node.Leaf self) result }
-        ensures over { (tops : Seq SeenTop) → EachIn (IsNodeOver tops) result }
+        ensures over { (tops : Seq SeenTop) → EachIn (IsNodeOver tops) (IsTreeOver tops) result }
         ensures valid { TellsValid result }
         ensures left { Lessens left_of (Node.Leaf self) result }
     {

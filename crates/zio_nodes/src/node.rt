@@ -11,7 +11,7 @@ ghost use Rattle.zio_frames.specs.Moves.{done_at_once, heard_early, heard_of};
 ghost use Rattle.zio_stages.specs.SpaceCalls.{SpaceCall};
 ghost use Rattle.zio_stages.specs.declared.outcome.Outcome.{Outcome as SeenOutcome};
 ghost use Rattle.zio_graph.specs.Stages.{EachIn, GoesOn, Hears, HearsEarly, HearsSome, HearsSomeEarly, IsMove, IsNow, Lessens, ShowsAnswer, TellsValid, heard_max};
-ghost use Rattle.zio_nodes.specs.Nodes.{IsNode, IsNodeOver, gave_of, left_of, nodes, told_of};
+ghost use Rattle.zio_nodes.specs.Nodes.{IsNode, IsNodeOver, IsTreeOver, gave_of, left_of, nodes, told_of};
 
 use crate::copies_at::CopiesAt;
 use crate::heads_at::{HeadsAt, HeadsHeard};
@@ -40,7 +40,7 @@ impl Node {
         requires { IsNodeOver (S.tops services.old) self }
         ensures moves { (move : Move Node) → result ≡ Ok move → (calls : Seq SpaceCall) × S.made services.old calls services.new
             × ((t : Terms) (st : Stack) → IsNow nodes (S.tops services.old) t self st → IsMove nodes gave_of t self st calls move) }
-        ensures over { IfOk result (EachIn (IsNodeOver (S.tops services.old))) }
+        ensures over { IfOk result (EachIn (IsNodeOver (S.tops services.old)) (IsTreeOver (S.tops services.old))) }
         ensures valid { IfOk result TellsValid }
         ensures left { IfOk result (Lessens left_of self) }
         ensures refused { (node : Node) → result ≡ Err node → (calls : Seq SpaceCall) × S.made services.old calls services.new

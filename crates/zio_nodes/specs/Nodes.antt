@@ -60,8 +60,10 @@ nodes = record { Is = IsNode; told = told_of; left = left_of }
 
 -- what a stage comes to, from wherever the node is, over these tops
 abbrev pub MovesBare : List Top → Node → Move Node → Type 0
-MovesBare tops node move = (t : Terms) (st : Stack) → IsNow {N = Node} nodes tops t node st → IsMove {N = Node} nodes gave_of t node st [] move
+MovesBare tops node move =
+    (t : Terms) (st : Stack) → IsNow {N = Node} nodes tops t node st → IsMove {N = Node} nodes gave_of t node st [] move
 
 -- what it comes back as
 abbrev pub StaysBare : List Top → Node → Node → Type 0
-StaysBare tops node after = (t : Terms) (st : Stack) → IsNow {N = Node} nodes tops t node st → GoesOn {N = Node} nodes gave_of t node st [] after
+StaysBare tops node after =
+    (t : Terms) (st : Stack) → IsNow {N = Node} nodes tops t node st → GoesOn {N = Node} nodes gave_of t node st [] after

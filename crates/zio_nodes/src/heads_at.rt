@@ -211,8 +211,8 @@ impl HeadsAt {
     /// A child told that its value has no pointer: it reads, or walks.
     pub fn arrive_ready(self, child: u32) -> HeadsAt
         requires { HearsSomeEarly nodes (Node.Heads self) child }
-        ensures heard { (t : Terms) (st : Stack) (c : Child) (pointer : Option SeenBp) → HearsEarly nodes t (Node.Heads self) st child c →
-            IsHeadsNode t result.node (heard_early st child c pointer) }
+        ensures heard { (t : Terms) (st : Stack) (c : Child) (pointer : Option SeenBp) →
+            HearsEarly nodes t (Node.Heads self) st child c → IsHeadsNode t result.node (heard_early st child c pointer) }
         ensures stage { result.stage ≡ self.stage }
         ensures over { (tops : Seq SeenTop) → IsHeadsAtOver tops self → IsHeadsAtOver tops result }
         ensures left { heads_left result ≡ heads_left self }

@@ -18,7 +18,8 @@ ghost use Rattle.zio_nodes.specs.declared.node.Node.TheVariants.{Copies, Leaf};
 pub fn operations_on_leaves_tell_nothing()
     ensures copies { (t : Terms) (at : CopiesAt) (st : Stack) (n : ℕ) (c : Child) → HearsEarly nodes t (Copies at) st n c → ⊥ }
     ensures leaf { (t : Terms) (at : LeafAt) (st : Stack) (n : ℕ) (c : Child) → HearsEarly nodes t (Leaf at) st n c → ⊥ }
-    ensures childless { (tops : Seq SeenTop) (at : LeafAt) (n : ℕ) (outcome : SeenOutcome) → HearsSome nodes tops (Leaf at) n outcome → ⊥ }
+    ensures childless { (tops : Seq SeenTop) (at : LeafAt) (n : ℕ) (outcome : SeenOutcome) →
+        HearsSome nodes tops (Leaf at) n outcome → ⊥ }
 {}
 
 /// A node does a part of the round's work, or an operation on a leaf, and no ask of the space.

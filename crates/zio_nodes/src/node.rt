@@ -38,13 +38,17 @@ impl Node {
     /// An operation that its leaf has comes back as it is.
     pub fn run_stage<S: Services>(self, alloc: Global, services: &mut S) -> Result<Move<Node>, Node>
         requires { IsNodeOver (S.tops services.old) self }
-        ensures moves { (move : Move Node) → result ≡ Ok move → (calls : Seq SpaceCall) × S.made services.old calls services.new
-            × ((t : Terms) (st : Stack) → IsNow nodes (S.tops services.old) t self st → IsMove nodes gave_of t self st calls move) }
+        ensures moves { (move : Move Node) → result ≡ Ok move →
+            (calls : Seq SpaceCall) × S.made services.old calls services.new
+            × ((t : Terms) (st : Stack) → IsNow nodes (S.tops services.old) t self st →
+            IsMove nodes gave_of t self st calls move) }
         ensures over { IfOk result (EachIn (IsNodeOver (S.tops services.old)) (IsTreeOver (S.tops services.old))) }
         ensures valid { IfOk result TellsValid }
         ensures left { IfOk result (Lessens left_of self) }
-        ensures refused { (node : Node) → result ≡ Err node → (calls : Seq SpaceCall) × S.made services.old calls services.new
-            × ((t : Terms) (st : Stack) → IsNow nodes (S.tops services.old) t self st → GoesOn nodes gave_of t self st calls node) }
+        ensures refused { (node : Node) → result ≡ Err node →
+            (calls : Seq SpaceCall) × S.made services.old calls services.new
+            × ((t : Terms) (st : Stack) → IsNow nodes (S.tops services.old) t self st →
+            GoesOn nodes gave_of t self st calls node) }
         ensures tops { S.tops services.new ≡ S.tops services.old }
     {
         match self {

@@ -160,6 +160,20 @@ pub write_idle : (tops : List Top) (w : WriteIo) → IsWriteDue tops w → (n : 
 write_idle tops w h n out =
     none_in (outs_in w.write.answers) (n - w.base) (outs_counted w.write.answers ∙ write_quiet tops w h) (outs_get w.write.answers (n - w.base) out.1)
 
+-- a write has one step
+pub write_one_step : (tops : List Top) (w : WriteIo) (io : IoStep) → IsWriteStep tops w io → IsWriteStep tops w Child → io ≡ Child
+write_one_step tops w io h k = h.is ∙ sym (child_again tops w h.step k h.shows)
+
+write_first_from : (tops : List Top) (x : Writing) (step : WriteStep) → Retry ≡ io_of step → Shown tops x step → x.retry ≡ false
+write_first_from tops x (StoreStep target) e h = absurd (cc)
+write_first_from tops x WaitStep e h = absurd (cc)
+write_first_from tops x RetryStep e h = (h (setting_over tops) [] refl).1
+write_first_from tops x (EndStep error) e h = absurd (cc)
+
+-- the second pass begins in the first
+pub write_first_pass : (tops : List Top) (w : WriteIo) → IsWriteStep tops w Retry → w.write.retry ≡ false
+write_first_pass tops w h = write_first_from tops w.write h.step h.is h.shows
+
 write_wait_some : (tops : List Top) (x : Writing) (step : WriteStep) → Wait ≡ io_of step → Shown tops x step → 0 < out_count (writes_of x)
 write_wait_some tops x (StoreStep target) e h = absurd (cc)
 write_wait_some tops x WaitStep e h = (h (setting_over tops) [] refl).0

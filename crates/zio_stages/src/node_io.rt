@@ -167,6 +167,8 @@ pub(crate) fn start_write(
     ensures due { IfOk result (λ leaf. IfSome leaf IsDue) }
     ensures children { IfOk result (λ leaf. family.new ≡ with_leaf layer io.old.asked leaf family.old) }
     ensures count { length family.new + io.old.asked ≡ length family.old + io.new.asked }
+    ensures pass { io.new.write.retry ≡ io.old.write.retry }
+    ensures none { result ≡ Ok None → IsWriteStep tops.now io.new IoStep.Child → ⊥ }
     ensures io_err { OnErr result (io.new ≡ io.old) }
     ensures family_err { OnErr result (family.new ≡ family.old) }
 {
@@ -187,6 +189,7 @@ pub(crate) fn write_next(io: &WriteIo, tops: &[Top]) -> IoNext
         t.setting.tops ≡ tops.now → IsSeated st → IsWriteAt t bytes layer io.now family st →
         first_owing (Vdev ∷ []) Done family ≡ Some Vdev }
     ensures due { result ≡ IoNext.On → IsWriteDue tops.now io.now }
+    ensures more { result ≡ IoNext.More → IsWriteStep tops.now io.now IoStep.Child }
 {
     match io.next(tops) {
         IoStep::Child => IoNext::More,
@@ -207,6 +210,8 @@ pub(crate) fn assess_write(io: &mut WriteIo, layer: Layer, family: &Family, tops
     ensures sits { SitsOn layer (IsOutIn io.new) family.now }
     ensures ended { result ≡ false → IsWriteStep tops.now io.new IoStep.End }
     ensures count { io.new.asked ≡ io.old.asked }
+    ensures again { result ≡ true → (io.old.write.retry ≡ false) × (io.new.write.retry ≡ true) }
+    ensures over_now { result ≡ false → io.new ≡ io.old }
 {
     match io.next(tops) {
         IoStep::Retry => {
@@ -235,6 +240,7 @@ pub(crate) fn hear_write(
     ensures sits { SitsOn layer (IsOutIn io.new) family.new }
     ensures children { IfSome (slice_get family.old child) (λ (c : Child). family.new ≡ slice_set family.old child (child_ended c)) }
     ensures count { io.new.asked ≡ io.old.asked }
+    ensures pass { io.new.write.retry ≡ io.old.write.retry }
 {
     let n = family.seat(child).number();
     io.hear(n, error);

@@ -1,6 +1,6 @@
 // The write of a block's copies by operations on leaves.
 
-ghost use Rattle.std.specs.Prelude.{◌≡◌, ◌≢◌, ◌+◌, ◌++◌, ◌∷◌, [], IfOk, List, None, Some, ℕ};
+ghost use Rattle.std.specs.Prelude.{◌≡◌, ◌≢◌, ◌+◌, ◌++◌, ◌∷◌, [], IfOk, List, None, Some, false, true, ℕ};
 ghost use Rattle.zio_types.specs.declared.place.Top.{Top as SeenTop};
 ghost use Rattle.zio_gang.specs.Attempts.{Terms};
 ghost use Rattle.zio_trace.specs.Leaves.{Answer, error_of};
@@ -57,6 +57,7 @@ impl WriteIo {
         ensures fresh { (t : Terms) (bytes : List ℕ) → IsWriteIo t bytes result (fresh_frame (WriteCopies bytes places)) }
         ensures over { (tops : List SeenTop) → AreIoPlaces tops places → IsWriteOver tops result }
         ensures class { result.prio ≡ prio }
+        ensures count { result.asked ≡ 0 }
     {
         WriteIo {
             write: CopyWrite::new(places),
@@ -109,6 +110,7 @@ impl WriteIo {
         ensures outs { self.new.write.answers ≡ self.old.write.answers ++ None ∷ [] }
         ensures base { self.new.base ≡ self.old.base }
         ensures count { self.new.asked ≡ self.old.asked + 1 }
+        ensures pass { self.new.write.retry ≡ self.old.write.retry }
         ensures class { self.new.prio ≡ self.old.prio }
     {
         self.write.hand_out();
@@ -123,6 +125,7 @@ impl WriteIo {
         ensures over { (tops : List SeenTop) → IsWriteOver tops self.old → IsWriteOver tops self.new }
         ensures others { (m : ℕ) → m ≢ n → IsOutIn self.old m → IsOutIn self.new m }
         ensures count { self.new.asked ≡ self.old.asked }
+        ensures pass { self.new.write.retry ≡ self.old.write.retry }
         ensures class { self.new.prio ≡ self.old.prio }
     {
         let place = (n - self.base) as usize;
@@ -137,6 +140,8 @@ impl WriteIo {
             IsWriteIo t bytes self.old x → IsWriteIo t bytes self.new x }
         ensures over { IsWriteOver tops.now self.new }
         ensures count { self.new.asked ≡ self.old.asked }
+        ensures first { self.old.write.retry ≡ false }
+        ensures second { self.new.write.retry ≡ true }
         ensures class { self.new.prio ≡ self.old.prio }
     {
         self.write.begin_retry();

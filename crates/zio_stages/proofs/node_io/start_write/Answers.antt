@@ -6,7 +6,7 @@ use Rattle.zio_stages.specs.NodeIos.{SitsOn}
 use Rattle.zio_stages.specs.WriteIos.{IsOutIn}
 use Rattle.zio_stages.proofs.NodeIoLemmas.{sits_more}
 use Rattle.zio_stages.proofs.NodeIoMoves.{write_starts}
-use Rattle.zio_stages.proofs.OutMoves.{below_in, grown_in, newest_in}
+use Rattle.zio_stages.proofs.OutMoves.{below_in, grown_in, newest_in, write_one_step}
 use Rattle.zio_stages.proofs.node_io.start_write.Goals as goal
 
 pub returns-clause-starts : goal.returns-clause-starts
@@ -33,3 +33,7 @@ returns-clause-sits c =
     (newest_in w.base v.base w.asked (w.write.answers) (v.write.answers) None c.hand_out.ensures.base c.hand_out.ensures.outs c.requires.over.counted)
     (below_in w.base w.asked (w.write.answers) None c.requires.over.counted)
     (λ i. layer_seat layer w.asked) c.requires.sits)
+
+pub returns-in_default-clause-none : goal.returns-in_default-clause-none
+returns-in_default-clause-none c = λ e k.
+    absurd (c.in_default.not-Child (write_one_step c.args.tops.now c.args.io.now c.next.result c.next.ensures.step k))

@@ -2,6 +2,7 @@ pub mod ActLemmas
 pub mod Allowed
 pub mod Answered
 pub mod AttemptMoves
+pub mod BeginMoves
 pub mod Callings
 pub mod ClaimCalls
 pub mod ClaimsLast

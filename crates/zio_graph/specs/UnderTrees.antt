@@ -1,11 +1,12 @@
 -- What an engine keeps of its round where a tree begins an attempt, and hears of one.
-use Rattle.std.specs.Prelude.{◌≡◌, ℕ, ◌+◌, ◌-◌, List, [], ◌∷◌, ◌++◌, Option, Some, None, slice_get, slice_set}
+use Rattle.std.specs.Prelude.{◌≡◌, ℕ, ◌+◌, ◌-◌, List, [], ◌∷◌, ◌++◌, Option, Some, None, IfSome, ◌<◌, ◌≤◌, length, slice_get, slice_set}
 use Rattle.std.specs.List.{AllByRecursion}
 use Rattle.zio_types.specs.Choices.{Choice}
 use Rattle.zio_types.specs.declared.request.Bits.{Bits}
 use Rattle.zio_blkptr.specs.declared.pointer.Bp.{Bp}
 use Rattle.zio_script.specs.declared.script.Failmode.{Failmode}
-use Rattle.zio_gang.specs.Attempts.{Terms, reexecutions_max}
+use Rattle.zio_cksum.specs.Images.{Images}
+use Rattle.zio_gang.specs.Attempts.{Pending, Terms, reexecutions_max}
 use Rattle.zio_trace.specs.Families.{Forest}
 use Rattle.zio_trace.specs.Programs.{Ends}
 use Rattle.zio_trace.specs.SoundRounds.{IsSoundRound}
@@ -15,13 +16,13 @@ use Rattle.zio_frames.specs.Frames.{Flying, Stack}
 use Rattle.zio_frames.specs.Moves.{IsEnded, handed}
 use Rattle.zio_frames.specs.Slots.{Heard, left_behind_slots}
 use Rattle.zio_stages.specs.Outcomes.{IsFinishedAs, IsLeftAs, IsOutcome}
-use Rattle.zio_stages.specs.Wholes.{IsTreeOf}
+use Rattle.zio_stages.specs.Wholes.{AreTrees, IsTreeOf}
 use Rattle.zio_stages.specs.declared.outcome.Finished.{Finished}
 use Rattle.zio_stages.specs.declared.outcome.Outcome.{Outcome}
 use Rattle.zio_stages.specs.declared.outcome.Outcome.TheVariants.{Again, Finished as HasFinished}
 use Rattle.zio_stages.specs.declared.waiting.Waiting.{Waiting}
 use Rattle.slab.specs.Slab.{Slab}
-use Rattle.zio_graph.specs.Attempting.{Course, IsAttempting, IsBetween, attempt_of, rest_of, settled_with}
+use Rattle.zio_graph.specs.Attempting.{Course, IsAttempting, IsBetween, attempt_of, course_of, rest_of, settled_with}
 use Rattle.zio_graph.specs.Engine.{IsKept}
 use Rattle.zio_graph.specs.Entries.{handed_on, standing, top_at}
 use Rattle.zio_graph.specs.Parts.{Nodes}
@@ -184,3 +185,39 @@ RunsToEnd {N = N} {D = D} nodes bytes image slab line g states ended slab_now li
 abbrev pub attempts_left : TreeState → ℕ
 attempts_left (UnderWay attempt) = 4 - attempt
 attempts_left (Settled end) = 0
+
+-- ---- the beginning
+
+-- nothing of this tree is done
+pub record IsFreshFor (t : Terms) (top : Flying) (whole : List Waiting) : Type 0 where
+  pub request : Pending
+  pub kids : Forest
+  pub between : IsBetween t (course_of request kids) top.stack
+  pub is : IsTreeOf whole request kids
+
+abbrev pub FreshAt : Terms → Option Flying → List Waiting → Type 0
+FreshAt t None whole = ⊥
+FreshAt t (Some top) whole = IsFreshFor t top whole
+
+-- the first trees are so far, of those behind them nothing is done, and there are no others
+pub record HaveBegun (t : Terms) (tops : List (Option Flying)) (states : List TreeState) (rest : List (List Waiting)) : Type 0 where
+  pub begun : (n : ℕ) → n < length states → IsInState t (top_at tops n) (slice_get states n)
+  pub fresh : (n : ℕ) (whole : List Waiting) → slice_get rest n ≡ Some whole → FreshAt t (top_at tops (length states + n)) whole
+  pub past : (n : ℕ) → length states + length rest ≤ n → top_at tops n ≡ None
+
+-- a round of these trees, in which nothing is done, has begun so
+pub record BeginsSo {N : Type 0} (nodes : Nodes N) (t : Terms) (sizes : ℕ → ℕ) (f : Forest) (before : Before) (images : Images)
+    (slab : Slab (Entry N)) (line : List ℕ) (states : List TreeState) (rest : List (List Waiting)) : Type 0 where
+  pub now : SoFar
+  pub keeps : KeepsRound {N = N} nodes t sizes f before now slab line []
+  pub entries_are : now.entries ≡ []
+  pub images_are : now.images ≡ images
+  pub begun : HaveBegun t now.tops states rest
+
+-- each sound round of these trees begins so
+abbrev pub TreesBegin : {N : Type 0} → Nodes N → Slab (Entry N) → List ℕ → ℕ → Failmode → List (List Waiting) → List TreeState
+    → List (List Waiting) → Type 0
+TreesBegin {N = N} nodes slab line round failmode wholes states rest =
+    (t : Terms) (sizes : ℕ → ℕ) (f : Forest) (before : Before) (images : Images) → IsSoundRound t sizes f → t.round ≡ round →
+    t.failmode ≡ failmode → IfSome before (λ b. b ≡ images) → AreTrees wholes f →
+    BeginsSo {N = N} nodes t sizes f before images slab line states rest

@@ -2,6 +2,7 @@
 #![tactic(auto)]
 
 mod all_trees;
+mod begin;
 mod desk;
 mod drive;
 mod entry;
@@ -20,6 +21,7 @@ pub mod turn;
 pub mod turns;
 
 pub use all_trees::run_trees;
+pub use begin::begin_trees;
 pub use desk::{Desk, desks_serve_rounds};
 pub use drive::run_on;
 pub use grounds::{DisksBack, Grounds};

@@ -156,24 +156,24 @@ outer_logical t r st (Write w) m op told h is at l asked slot logical =
 outer_logical t r st (Read w) m op told h is at l asked slot logical =
     let own = own_in t r st _ h is in
     let there : slice_get own.is.asked (m - length h.kid_slots) ≡ Some op =
-        ap (λ (xs : List Task). slice_get xs (m - length h.kid_slots)) own.asked_are ∙ at.asked_is in
+    ap (λ (xs : List Task). slice_get xs (m - length h.kid_slots)) own.asked_are ∙ at.asked_is in
     let gang : kind_of_task op ≡ Gang = reads_gang own.tree own.is.asked (m - length h.kid_slots) op own.is.reads there in
     let both : Logical ≡ Gang = sym logical ∙ gang in
     cc
 outer_logical t r st (Free w) m op told h is at l asked slot logical =
     let own = own_in t r st _ h is in
     let there : slice_get own.is.asked (m - length h.kid_slots) ≡ Some op =
-        ap (λ (xs : List Task). slice_get xs (m - length h.kid_slots)) own.asked_are ∙ at.asked_is in
+    ap (λ (xs : List Task). slice_get xs (m - length h.kid_slots)) own.asked_are ∙ at.asked_is in
     let gang : kind_of_task op ≡ Gang =
-        frees_gang own.tree w.walk own.is.asked own.is.slots (m - length h.kid_slots) op own.is.walk there in
+    frees_gang own.tree w.walk own.is.asked own.is.slots (m - length h.kid_slots) op own.is.walk there in
     let both : Logical ≡ Gang = sym logical ∙ gang in
     cc
 outer_logical t r st (Claim w) m op told h is at l asked slot logical =
     let own = own_in t r st _ h is in
     let there : slice_get own.is.asked (m - length h.kid_slots) ≡ Some op =
-        ap (λ (xs : List Task). slice_get xs (m - length h.kid_slots)) own.asked_are ∙ at.asked_is in
+    ap (λ (xs : List Task). slice_get xs (m - length h.kid_slots)) own.asked_are ∙ at.asked_is in
     let gang : kind_of_task op ≡ Gang =
-        claims_gang (pointer_of own.bytes) w.block w.step own.is.asked own.is.slots (m - length h.kid_slots) op own.is.claim there in
+    claims_gang (pointer_of own.bytes) w.block w.step own.is.asked own.is.slots (m - length h.kid_slots) op own.is.claim there in
     let both : Logical ≡ Gang = sym logical ∙ gang in
     cc
 outer_logical t r st (Found b) m op told h is at l asked slot logical =

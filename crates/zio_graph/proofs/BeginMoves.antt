@@ -1,5 +1,6 @@
 -- The trees of a round begin, one after another.
-use Rattle.std.proofs.Common.{◌≡◌, ◌≢◌, ℕ, zero, suc, ◌+◌, ◌<◌, ◌≤◌, List, [], ◌∷◌, ◌++◌, length, length-append, slice_get, slice_set, Option, Some, None, IfSome, ◌⊎◌, inl, inr, refl, sym, ap, ◌∙◌, subst, arith}
+use Rattle.std.proofs.Common.{◌≡◌, ◌≢◌, ℕ, zero, suc, ◌+◌, ◌<◌, ◌≤◌, List, [], ◌∷◌, ◌++◌, length, length-append, replicate, slice_get, slice_set, Option, Some, None, IfSome, ◌⊎◌, inl, inr, refl, sym, ap, ◌∙◌, subst, arith}
+use Rattle.std.proofs.lemmas.List.{replicate-append-replicate}
 use Rattle.std.specs.List.{AllByRecursion}
 use Rattle.zio_types.specs.declared.place.Top.{Top}
 use Rattle.zio_cksum.specs.Images.{Images}
@@ -57,6 +58,7 @@ module _ {N : Type 0} (nodes : Nodes N) (over : List Top → N → Type 0) (tree
     pub inside : (tops : List Top) → AllByRecursion (tree_over tops) wholes → AreAll {N = N} (over tops) slab
         × AllByRecursion (tree_over tops) rest
     pub count : length states + length rest ≡ length wholes
+    pub are : states ≡ replicate (length states) (UnderWay 0)
 
   pub none_begun : (slab : Slab (Entry N)) (line : List ℕ) (rest : List (List Waiting)) → slab.slots ≡ [] → line ≡ [] → rest ≡ wholes
       → AreBeginning slab line [] rest
@@ -66,6 +68,7 @@ module _ {N : Type 0} (nodes : Nodes N) (over : List Top → N → Type 0) (tree
       keeps = round_first nodes t sizes f before images slab line sound is none empty;
       entries_are = refl;
       images_are = refl;
+      ops_are = refl;
       begun = record {
         begun = λ n h. absurd (omega arith);
         fresh = λ n whole e. fresh_at t f trees n whole e;
@@ -74,6 +77,7 @@ module _ {N : Type 0} (nodes : Nodes N) (over : List Top → N → Type 0) (tree
     };
     inside = λ tops all. (none_held {N = N} (over tops) slab none, all);
     count = omega arith;
+    are = refl;
   })
     where
       fresh_at : (t : Terms) (f : Forest) → AreTrees wholes f → (n : ℕ) (whole : List Waiting) → slice_get wholes n ≡ Some whole
@@ -146,6 +150,7 @@ module _ {N : Type 0} (nodes : Nodes N) (over : List Top → N → Type 0) (tree
                 keeps = x.keeps;
                 entries_are = b.entries_are;
                 images_are = b.images_are;
+                ops_are = b.ops_are;
                 begun = begun_more t b.now.tops found.0 (handed_on found.0 (attempt_of c)) begun found.1 (c, x.out, refl, refl);
               };
           inside = λ tops all.
@@ -156,4 +161,9 @@ module _ {N : Type 0} (nodes : Nodes N) (over : List Top → N → Type 0) (tree
               let m : length (states ++ UnderWay 0 ∷ []) ≡ length states + 1 = length-append states (UnderWay 0 ∷ []) in
               let n : length rest ≡ length (whole ∷ later) = ap (λ (ws : List (List Waiting)). length ws) is in
               omega (arith, m, n, h.count);
+          are =
+              let m : length (states ++ UnderWay 0 ∷ []) ≡ length states + 1 = length-append states (UnderWay 0 ∷ []) in
+              ap (λ (xs : List TreeState). xs ++ UnderWay 0 ∷ []) h.are
+              ∙ (replicate-append-replicate (length states) 1 (UnderWay 0)
+              ∙ ap (λ (k : ℕ). replicate k (UnderWay 0)) (sym m));
         })

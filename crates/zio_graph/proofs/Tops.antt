@@ -1,5 +1,5 @@
 -- The trees that are under way, by number.
-use Rattle.std.proofs.Common.{◌≡◌, ◌≢◌, ℕ, zero, suc, ◌+◌, List, [], ◌∷◌, slice_set, Option, Some, None, IsPermutation, refl, sym, ap, ◌∙◌, subst, arith}
+use Rattle.std.proofs.Common.{◌≡◌, ◌≢◌, ℕ, zero, suc, ◌+◌, List, [], ◌∷◌, slice_get, slice_set, Option, Some, None, IsPermutation, refl, sym, ap, ◌∙◌, subst, arith}
 use Rattle.std.proofs.lemmas.List.Sorted.{IsPermutation-refl, IsPermutation-trans, IsPermutation-cons}
 use Rattle.zio_trace.specs.Tasks.{Task, Value}
 use Rattle.zio_frames.specs.Frames.{Flying}
@@ -114,6 +114,18 @@ stand_ended k (Some z ∷ tops) (IsOut told ∷ trees) (suc n) x v s e = (s.0, s
 pub standing_all : (xs : List Flying) → standing (all_tops xs) ≡ xs
 standing_all [] = refl
 standing_all (x ∷ xs) = ap (λ (ys : List Flying). x ∷ ys) (standing_all xs)
+
+pub stand_slot : (k : ℕ) (tops : List (Option Flying)) (trees : List Slot) (n : ℕ) (x : Flying) → TreesStand k tops trees
+    → top_at tops n ≡ Some x → (slot : Slot) × (slice_get trees n ≡ Some slot)
+stand_slot k [] trees n x s e = absurd (clash x e)
+stand_slot k (None ∷ tops) [] n x s e = absurd s
+stand_slot k (Some z ∷ tops) [] n x s e = absurd s
+stand_slot k (None ∷ tops) (IsOut told ∷ trees) n x s e = absurd s
+stand_slot k (Some z ∷ tops) (Heard v ∷ trees) n x s e = absurd s
+stand_slot k (None ∷ tops) (Heard v ∷ trees) zero x s e = absurd (clash x e)
+stand_slot k (Some z ∷ tops) (IsOut told ∷ trees) zero x s e = (IsOut told, refl)
+stand_slot k (None ∷ tops) (Heard v ∷ trees) (suc n) x s e = stand_slot (suc k) tops trees n x s e
+stand_slot k (Some z ∷ tops) (IsOut told ∷ trees) (suc n) x s e = stand_slot (suc k) tops trees n x s.1 e
 
 pub stand_first : (n : ℕ) (qs : List Task) → TreesStand n (all_tops (settling_from n qs)) (all_out qs)
 stand_first n [] = tt

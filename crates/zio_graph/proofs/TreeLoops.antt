@@ -15,7 +15,7 @@ use Rattle.zio_trace.specs.Tasks.{Attempt, AttemptedBy, One, Task, Value}
 use Rattle.zio_frames.specs.Frames.{Child, Flying, Stack}
 use Rattle.zio_frames.specs.Moves.{heard_early, heard_of}
 use Rattle.zio_frames.specs.Seats.{asked_at}
-use Rattle.zio_frames.specs.Slots.{Heard, left_behind_slots}
+use Rattle.zio_frames.specs.Slots.{Heard, Slot, left_behind_slots}
 use Rattle.zio_frames.proofs.GetLemmas.{get_other, get_set, same_or_not}
 use Rattle.zio_stages.specs.Outcomes.{IsOutcome}
 use Rattle.zio_stages.specs.declared.outcome.Finished.{Finished}
@@ -29,7 +29,7 @@ use Rattle.zio_graph.specs.Entries.{Live, flying_at, handed_on, standing, top_at
 use Rattle.zio_graph.specs.Parts.{Nodes}
 use Rattle.zio_graph.specs.Rounds.{Before, EndsAs, SoFar, with_tree}
 use Rattle.zio_graph.specs.Slabs.{AreAll, shelf_of}
-use Rattle.zio_graph.specs.UnderTrees.{AfterHearing, AreInStates, HasHeardOf, HasRun, IsInState, IsOfAttempt, IsOver, RunsSome, RunsToEnd, RunsTrees, TreeGoesOn, attempts_left, with_value}
+use Rattle.zio_graph.specs.UnderTrees.{AfterHearing, AreInStates, AreSettledWith, HasHeardOf, HasRun, IsInState, IsLeftOf, IsOfAttempt, IsOver, IsSettledWith, RunsSome, RunsToEnd, RunsTrees, TreeGoesOn, attempts_left, with_value}
 use Rattle.zio_graph.specs.UnderTurns.{AreTold, EndsFinished, GoesOnSome, HasEndedFor, IsTelling, RunsToTree, Telling, with_telling}
 use Rattle.zio_graph.specs.declared.entry.Entry.{Entry}
 use Rattle.zio_graph.specs.declared.grounds.Grounds.{Grounds}
@@ -41,7 +41,7 @@ use Rattle.zio_graph.proofs.AttemptMoves.{course_asked, course_ends, course_goes
 use Rattle.zio_graph.proofs.Kept.{world}
 use Rattle.zio_graph.proofs.Links.{in_flight_there, some_is}
 use Rattle.zio_graph.proofs.Progress.{none_left}
-use Rattle.zio_graph.proofs.Tops.{top_other, top_set}
+use Rattle.zio_graph.proofs.Tops.{stand_slot, top_other, top_set}
 
 -- with the value of the nth child
 abbrev heard_top : Flying → ℕ → Child → Value → Flying
@@ -162,6 +162,64 @@ states_set t tops states tree x y z was state all there old now = λ n. by n (sa
         (sym (top_other (slice_set tops tree (Some y)) tree n z m ∙ top_other tops tree n (Some y) m))
         (subst (IsInState t (top_at tops n)) (sym (get_other states tree n state m)) (all n))
 
+-- ---- what settled trees have
+
+still_settled : (trees now : List Slot) (states : List TreeState) → now ≡ trees → AreSettledWith trees states
+    → AreSettledWith now states
+still_settled trees now states same all = subst (λ (xs : List Slot). AreSettledWith xs states) (sym same) all
+
+ends_again : (trees : List Slot) (states : List TreeState) (tree attempt : ℕ) (was : TreeState) → slice_get states tree ≡ Some was
+    → AreSettledWith trees states → AreSettledWith trees (slice_set states tree (UnderWay attempt))
+ends_again trees states tree attempt was old all = λ n end is. by n end is (same_or_not n tree)
+  where
+    by : (n : ℕ) (end : TreeEnd) → slice_get (slice_set states tree (UnderWay attempt)) n ≡ Some (Settled end)
+        → (n ≡ tree) ⊎ (n ≢ tree) → IsSettledWith trees n end
+    by n end is (inl i) =
+        let set : slice_get (slice_set states tree (UnderWay attempt)) tree ≡ Some (UnderWay attempt) =
+        get_set states tree was (UnderWay attempt) old in
+        let here : slice_get (slice_set states tree (UnderWay attempt)) tree ≡ Some (Settled end) =
+        ap (λ (m : ℕ). slice_get (slice_set states tree (UnderWay attempt)) m) (sym i) ∙ is in
+        absurd (cc)
+    by n end is (inr m) = all n end (sym (get_other states tree n (UnderWay attempt) m) ∙ is)
+
+same_end : (a b : TreeEnd) → Some (Settled a) ≡ Some (Settled b) → a ≡ b
+same_end a b e = cc
+
+ends_settled : (trees : List Slot) (states : List TreeState) (tree : ℕ) (slot : Slot) (was : TreeState) (c : Course) (one : One)
+    (end : TreeEnd) → slice_get trees tree ≡ Some slot → slice_get states tree ≡ Some was → IsLeftOf end one
+    → AreSettledWith trees states
+    → AreSettledWith (slice_set trees tree (Heard (settled_with c one))) (slice_set states tree (Settled end))
+ends_settled trees states tree slot was c one end there old left all = λ n other is. by n other is (same_or_not n tree)
+  where
+    now : List Slot
+    now = slice_set trees tree (Heard (settled_with c one))
+
+    here : IsSettledWith now tree end
+    here = record {
+      course = c;
+      one = one;
+      value = get_set trees tree slot (Heard (settled_with c one)) there;
+      left = left;
+    }
+
+    by : (n : ℕ) (other : TreeEnd) → slice_get (slice_set states tree (Settled end)) n ≡ Some (Settled other)
+        → (n ≡ tree) ⊎ (n ≢ tree) → IsSettledWith now n other
+    by n other is (inl i) =
+        let set : slice_get (slice_set states tree (Settled end)) tree ≡ Some (Settled end) =
+        get_set states tree was (Settled end) old in
+        let same : slice_get (slice_set states tree (Settled end)) tree ≡ Some (Settled other) =
+        ap (λ (m : ℕ). slice_get (slice_set states tree (Settled end)) m) (sym i) ∙ is in
+        let ends : end ≡ other = same_end end other (sym set ∙ same) in
+        subst (λ (m : ℕ). IsSettledWith now m other) (sym i) (subst (IsSettledWith now tree) ends here)
+    by n other is (inr m) =
+        let h = all n other (sym (get_other states tree n (Settled end) m) ∙ is) in
+        record {
+          course = h.course;
+          one = h.one;
+          value = get_other trees tree n (Heard (settled_with c one)) m ∙ h.value;
+          left = h.left;
+        }
+
 pub sum_set : {A : Type 0} (w : A → ℕ) (xs : List A) (n : ℕ) (x y : A) → slice_get xs n ≡ Some x
     → sum_by w (slice_set xs n y) + w x ≡ sum_by w xs + w y
 sum_set w [] n x y h = absurd (cc)
@@ -277,6 +335,7 @@ module _ {N D : Type 0} (nodes : Nodes N) (over : List Top → N → Type 0) (by
       pub record HearsNow (t : Terms) (sizes : ℕ → ℕ) (f : Forest) (before : Before) (mid : SoFar) : Type 0 where
         pub ended_for : HasEndedFor {N = N} {D = D} nodes bytes image t sizes f before mid slab_mid line_mid g_now heard.tree heard.outcome
         pub each : AreInStates t ended_for.now.tops states
+        pub ends : AreSettledWith ended_for.now.trees states
         pub under : IsUnder t ended_for.top states heard.tree
         pub hears : Hears t under.course heard.outcome (heard_of ended_for.top.stack ended_for.number ended_for.child ended_for.value)
 
@@ -289,6 +348,7 @@ module _ {N D : Type 0} (nodes : Nodes N) (over : List Top → N → Type 0) (by
           record {
             ended_for = e;
             each = each;
+            ends = still_settled mid.trees e.now.trees states e.gone.trees_are runs.ends;
             under = under;
             hears = tree_heard t under.course e.top e.number e.child e.op heard.outcome e.value under.out e.is e.goes e.asked e.how;
           }
@@ -360,6 +420,7 @@ module _ {N D : Type 0} (nodes : Nodes N) (over : List Top → N → Type 0) (by
                 going = record { keeps = again.begins.keeps; lent = e.going.lent };
                 each = states_set t e.now.tops states heard.tree e.top y (Some z) (UnderWay attempt) (UnderWay (attempt + 1)) n.each
                     e.there state (again.next, again.begins.out, number, again.few);
+                ends = ends_again e.now.trees states heard.tree (attempt + 1) (UnderWay attempt) state n.ends;
               });
           over_all = all;
           steady = steady ∙ h.steady;
@@ -376,6 +437,8 @@ module _ {N D : Type 0} (nodes : Nodes N) (over : List Top → N → Type 0) (by
               let done = after_hearing (Some end) goes_on t sizes f before r.now r.runs n in
               let e = n.ended_for in
               let y : Flying = heard_top e.top e.number e.child e.value in
+              let slot = stand_slot 0 (slice_set e.now.tops heard.tree (Some y)) e.now.trees heard.tree y e.going.keeps.still.kept.stand
+              (top_set e.now.tops heard.tree e.top (Some y) e.there) in
               let last : SoFar = with_value (with_tree e.now heard.tree y) heard.tree (settled_with n.under.course n.hears.one) in
               ran_to t sizes f before s r n last refl (slice_set states heard.tree (Settled end)) (record {
                 sound = r.runs.sound;
@@ -383,6 +446,8 @@ module _ {N D : Type 0} (nodes : Nodes N) (over : List Top → N → Type 0) (by
                 failmode_is = r.runs.failmode_is;
                 going = record { keeps = done.keeps; lent = e.going.lent };
                 each = states_set t e.now.tops states heard.tree e.top y None (UnderWay attempt) (Settled end) n.each e.there state tt;
+                ends = ends_settled e.now.trees states heard.tree slot.0 (UnderWay attempt) n.under.course n.hears.one end slot.1 state
+                    done.left n.ends;
               });
           over_all = all;
           steady = steady ∙ h.steady;
@@ -430,6 +495,7 @@ module _ {N D : Type 0} (nodes : Nodes N) (over : List Top → N → Type 0) (by
           failmode_is = r.runs.failmode_is;
           going = a.0.going;
           each = states_told t a.0.gone.tellings r.now.tops last.tops states a.0.gone.told r.runs.each;
+          ends = still_settled r.now.trees last.trees states a.0.gone.trees_are r.runs.ends;
         } in (
           record {
             now = last;

@@ -14,7 +14,7 @@ use Rattle.zio_trace.specs.Tasks.{AttemptedBy, One, Value}
 use Rattle.zio_trace.specs.Underway.{State}
 use Rattle.zio_frames.specs.Frames.{Flying, Stack}
 use Rattle.zio_frames.specs.Moves.{IsEnded, handed}
-use Rattle.zio_frames.specs.Slots.{Heard, left_behind_slots}
+use Rattle.zio_frames.specs.Slots.{Heard, Slot, left_behind_slots}
 use Rattle.zio_stages.specs.Outcomes.{IsFinishedAs, IsLeftAs, IsOutcome}
 use Rattle.zio_stages.specs.Wholes.{AreTrees, IsTreeOf}
 use Rattle.zio_stages.specs.declared.outcome.Finished.{Finished}
@@ -26,7 +26,7 @@ use Rattle.zio_graph.specs.Attempting.{Course, IsAttempting, IsBetween, attempt_
 use Rattle.zio_graph.specs.Engine.{IsKept}
 use Rattle.zio_graph.specs.Entries.{handed_on, standing, top_at}
 use Rattle.zio_graph.specs.Parts.{Nodes}
-use Rattle.zio_graph.specs.Rounds.{Before, KeepsRound, SoFar, with_tree}
+use Rattle.zio_graph.specs.Rounds.{Before, KeepsRound, SoFar, no_op, with_tree}
 use Rattle.zio_graph.specs.Slabs.{shelf_of}
 use Rattle.zio_graph.specs.UnderTurns.{EndsFinished, IsGoingOn}
 use Rattle.zio_graph.specs.declared.entry.Entry.{Entry}
@@ -131,6 +131,17 @@ IsInState t None None = Unit {0}
 abbrev pub AreInStates : Terms → List (Option Flying) → List TreeState → Type 0
 AreInStates t tops states = (n : ℕ) → IsInState t (top_at tops n) (slice_get states n)
 
+-- the tree of this number has the value that its last attempt gave it, and it is settled with what that attempt came to
+pub record IsSettledWith (trees : List Slot) (n : ℕ) (end : TreeEnd) : Type 0 where
+  pub course : Course
+  pub one : One
+  pub value : slice_get trees n ≡ Some (Heard (settled_with course one))
+  pub left : IsLeftOf end one
+
+-- each tree that is settled is
+abbrev pub AreSettledWith : List Slot → List TreeState → Type 0
+AreSettledWith trees states = (n : ℕ) (end : TreeEnd) → slice_get states n ≡ Some (Settled end) → IsSettledWith trees n end
+
 -- Each tree is so far, and the round is kept over what is lent; these are its terms where they say so.
 pub record RunsTrees {N D : Type 0} (nodes : Nodes N) (bytes : D → ℕ) (image : D → List ℕ → Type 0) (t : Terms) (sizes : ℕ → ℕ)
     (f : Forest) (before : Before) (s : SoFar) (slab : Slab (Entry N)) (line : List ℕ) (g : Grounds D) (round : ℕ)
@@ -140,6 +151,7 @@ pub record RunsTrees {N D : Type 0} (nodes : Nodes N) (bytes : D → ℕ) (image
   pub failmode_is : t.failmode ≡ failmode
   pub going : IsGoingOn {N = N} {D = D} nodes bytes image t sizes f before s slab line g
   pub each : AreInStates t s.tops states
+  pub ends : AreSettledWith s.trees states
 
 -- some round is
 pub record RunsSome {N D : Type 0} (nodes : Nodes N) (bytes : D → ℕ) (image : D → List ℕ → Type 0) (slab : Slab (Entry N))
@@ -212,6 +224,7 @@ pub record BeginsSo {N : Type 0} (nodes : Nodes N) (t : Terms) (sizes : ℕ → 
   pub keeps : KeepsRound {N = N} nodes t sizes f before now slab line []
   pub entries_are : now.entries ≡ []
   pub images_are : now.images ≡ images
+  pub ops_are : now.ops ≡ (λ key. no_op)
   pub begun : HaveBegun t now.tops states rest
 
 -- each sound round of these trees begins so

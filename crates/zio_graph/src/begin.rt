@@ -1,10 +1,11 @@
 //! The beginning of a round: each tree's first attempt.
 
-ghost use Rattle.std.specs.Prelude.{◌≡◌, ◌<◌, ◌^◌, [], IfOk, List as Seq, OnOk, length};
+ghost use Rattle.std.specs.Prelude.{◌≡◌, ◌<◌, ◌^◌, [], IfOk, List as Seq, OnOk, length, replicate};
 ghost use Rattle.std.specs.List.{AllByRecursion};
 ghost use Rattle.zio_types.specs.declared.place.Top.{Top as SeenTop};
 ghost use Rattle.zio_graph.specs.Slabs.{AreAll};
 ghost use Rattle.zio_graph.specs.UnderTrees.{TreesBegin};
+ghost use Rattle.zio_graph.specs.declared.trees.TreeState.TheVariants.{UnderWay};
 
 use crate::staged::Staged;
 use crate::trees::{TreeState, begin_attempt};
@@ -26,6 +27,7 @@ pub fn begin_trees<N: Staged>(
     requires empty { turns.old.nodes.slots ≡ [] }
     requires idle { turns.old.line ≡ [] }
     ensures begins { IfOk result (λ trees. TreesBegin N.nodes turns.new.nodes turns.new.line round failmode wholes trees.items []) }
+    ensures states { IfOk result (λ trees. trees.items ≡ replicate (length wholes) (UnderWay 0)) }
     ensures over { (tops : Seq SeenTop) → AllByRecursion (N.tree_over tops) wholes → OnOk result (AreAll (N.over tops) turns.new.nodes) }
 {
     let mut trees = Vec::new(alloc);

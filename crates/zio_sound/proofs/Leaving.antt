@@ -108,7 +108,7 @@ closed_so false p own bits children kept makes e none =
     Ends (record { request = p.request; error = error; bytes = own.bytes; tree = tree_unless error own.tree }) refl refl refl
     (record { well = unless_well error own; makes = λ some. makes (unless_some error own some) }) refl (none refl)
 
-judged_so : (t : Terms) (p : Pending) (returns : List Return) (own : OwnGot) → OwnMakes p.request.work own
+pub judged_so : (t : Terms) (p : Pending) (returns : List Return) (own : OwnGot) → OwnMakes p.request.work own
     → Judged p (bits_of returns) (judged_own t p returns (bare own))
 judged_so t p returns own makes =
     let bits : Bits = all_bits (kind_of p.request.work) own.error p.request.canfail t.failmode (bits_of returns) in

@@ -24,7 +24,7 @@ use Rattle.zio_gang.specs.declared.tree.Tree.{Tree}
 use Rattle.zio_gang.specs.Attempts.{Pending, Terms}
 use Rattle.zio_gang.specs.Trees.{sizes_of, tree_places, tree_pointers}
 use Rattle.zio_trace.specs.Families.{Forest, NoTrees, TreeOf, flat}
-use Rattle.zio_trace.specs.Keys.{bit, count_in}
+use Rattle.zio_trace.specs.Keys.{NumbersOnce, bit, count_in}
 use Rattle.zio_trace.specs.Labels.{same_number}
 use Rattle.zio_trace.specs.Readers.{RowsArePlain, TurnsNoBytes}
 use Rattle.zio_trace.specs.Rounds.{AreTrees, trees_in}
@@ -265,6 +265,14 @@ given s trees runs pointers = record {
   between = runs.between;
   pointers = pointers;
 }
+
+-- no number stands twice in the forest
+pub runnable_once : (s : Standing) (trees : List (List Pending)) (f : Forest) → trees_in f ≡ trees → AreRunnable s trees → NumbersOnce f
+runnable_once s trees f is runs n =
+    let all : times n (joined_trees trees) ≤ 1 = subst (λ (k : ℕ). k ≤ 1) (counted_by n (requests_in trees)) (runs.once n) in
+    let few : times n (flat f) ≤ 1 =
+    subst (λ (ps : List Pending). times n ps ≤ 1) (sym (ap joined_trees is) ∙ joined_flat f) all in
+    let same = count_times n f in omega arith
 
 pub runnable_sound : (s : Standing) (failmode : Failmode) (round point : ℕ) (sizes : ℕ → ℕ) (trees : List (List Pending)) (f : Forest)
     → trees_in f ≡ trees → AreTrees f → AreRunnable s trees

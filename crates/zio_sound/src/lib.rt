@@ -5,7 +5,7 @@
 //! statement, and its body is empty.
 #![tactic(auto)]
 
-ghost use Rattle.std.specs.Prelude.{◌≡◌, IfSome, IsTrue, List, [], ℕ, false, true};
+ghost use Rattle.std.specs.Prelude.{◌≡◌, IfSome, IsTrue, List, [], None, Option, ℕ, false, true};
 ghost use Rattle.std.specs.List.{AllByRecursion};
 ghost use Rattle.zio_types.specs.declared.place.Place.{Place};
 ghost use Rattle.zio_types.specs.Choices.{Choice};
@@ -36,6 +36,7 @@ ghost use Rattle.zio_trace.specs.Underway.{AreAnswered};
 ghost use Rattle.zio_course.specs.Runners.{AreRunnable, IsRound, Standing, finished_by_number, joined_trees, terms_at};
 ghost use Rattle.zio_course.specs.declared.runner.RoundEnd.{RoundEnd};
 ghost use Rattle.zio_sound.specs.Leaving.{LeavesTrees};
+ghost use Rattle.zio_sound.specs.Linked.{AreLinked, LeaveLinked};
 
 /// A round that a runner may be given is sound, so all its trees may be under way together: where the tops hold their
 /// leaves, which stand once, the places in use lie inside the tops, and the blocks that requests were given have valid
@@ -66,6 +67,18 @@ pub fn settled_rounds_are_rounds()
 pub fn answered_rounds_leave_rests()
     ensures { (journal : List Choice) (t : Terms) (f : Forest) (ds : List (Deed (Labelled Task) Value)) (values : List Value) →
         AreAnswered (task_ways journal t) (settles f) ds values → LeavesTrees (trees_in f) (round_of values) }
+{}
+
+/// What is left of trees whose requests stand under their parents stands so, whatever their operations were answered.
+pub fn what_is_left_is_linked()
+    ensures { (journal : List Choice) (t : Terms) (f : Forest) (ds : List (Deed (Labelled Task) Value)) (values : List Value)
+        (under : Option ℕ) → AreAnswered (task_ways journal t) (settles f) ds values → AreLinked under f → LeaveLinked under values }
+{}
+
+/// The trees of a round that a runner may be given are families, where their requests stand under their parents.
+pub fn runnable_trees_are_families()
+    ensures { (s : Standing) (trees : List (List Pending)) (f : Forest) → trees_in f ≡ trees → AreRunnable s trees →
+        AreLinked None f → AreTrees f }
 {}
 
 /// A claim never goes again, whatever its operations are answered: it may always fail.

@@ -1,5 +1,5 @@
 -- What is left of a request's children by list, and the pointers that it keeps.
-use Rattle.std.proofs.Common.{◌≡◌, ℕ, zero, suc, List, [], ◌∷◌, ◌++◌, map, replicate, cond, not, Bool, true, false, None, refl, sym, subst}
+use Rattle.std.proofs.Common.{◌≡◌, ℕ, zero, suc, List, [], ◌∷◌, ◌++◌, length, map, replicate, cond, not, Bool, true, false, None, refl, sym, subst}
 use Rattle.std.specs.List.{AllByRecursion}
 use Rattle.zio_gang.specs.Attempts.{Return, children_of, finished_of, has_bits}
 use Rattle.zio_children.specs.RequestKids.{KidsUnderWay, child_of, finished_in, return_by, returns_in}
@@ -41,14 +41,15 @@ finished_valid x h =
 -- ---- what goes again
 
 pub left_list : (ws : List Waiting) (w : Waiting) (x : KidsHeld) (kept : List KeptChild) → map child_of kept ≡ finished_in x.kids
-    → (unfinished below : ℕ) × (ws ≡ joined (trees_left x.again) ++ counted (record w { kept = kept }) unfinished below ∷ [])
+    → (below : ℕ) × (ws ≡ joined (trees_left x.again) ++ counted (record w { kept = kept }) (length (trees_left x.again)) below ∷ [])
     → IsLeftList ws w x
 left_list ws w x kept same list = record {
-  root = counted (record w { kept = kept }) list.0 list.1;
-  list = list.2;
+  root = counted (record w { kept = kept }) (length (trees_left x.again)) list.0;
+  list = list.1;
   request = refl;
   birth = refl;
   block = refl;
+  unfinished = refl;
   kept = same;
   valid = λ h. valid_back kept (subst (AllByRecursion IsValidIn) (sym same) (finished_valid x.kids h));
 }

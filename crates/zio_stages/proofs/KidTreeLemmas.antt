@@ -1,12 +1,13 @@
 -- The children of a request as an attempt begins: their trees, and the numbers of the roots.
 use Rattle.std.proofs.Common.{◌≡◌, ℕ, zero, suc, ◌+◌, ◌<◌, List, [], ◌∷◌, ◌++◌, length, map, get_or, take, reverse, replicate, Option, Some, None, refl, sym, ap, ◌∙◌, subst, arith, append-nil, Bool, true, false, Result, Ok, Err, is_ok, OnOk}
 use Rattle.std.specs.List.{AllByRecursion}
-use Rattle.std.proofs.lemmas.List.{length-reverse, map-append, same_from_push, take_more}
+use Rattle.std.proofs.lemmas.List.{length-map, length-reverse, map-append, same_from_push, take_more}
 use Rattle.zio_gang.specs.Attempts.{Pending}
-use Rattle.zio_trace.specs.Families.{Forest, flat}
-use Rattle.zio_children.specs.RequestKids.{Fits, KidsUnderWay, RiseFrom, due_kids, fresh_kids, numbers_of}
+use Rattle.zio_trace.specs.Families.{Forest, NoTrees, TreeOf, flat}
+use Rattle.zio_children.specs.RequestKids.{Fits, IsDue, KidsUnderWay, RiseFrom, due_kids, fresh_kids, numbers_of}
 use Rattle.zio_children.specs.declared.kept.KeptChild.{KeptChild}
 use Rattle.zio_stages.specs.declared.waiting.Waiting.{Waiting}
+use Rattle.zio_stages.specs.KidLists.{AreBegun, AreMarked}
 use Rattle.zio_stages.specs.KidTrees.{AreHeld, AreLeft, AreNumbered, IsKids, KidsHeld}
 use Rattle.zio_stages.specs.Splits.{AreSoMany, AreTaken}
 use Rattle.zio_stages.specs.Waits.{pending_of}
@@ -152,6 +153,38 @@ pub begun_kids : (ws new : List Waiting) (due : List (List Waiting)) (kept : Lis
 begun_kids ws new due kept kids again attempt forest t none ek ea fits of =
     subst (λ (x : KidsHeld). IsKids x attempt forest [] []) (held_is due kept kids again ek ea)
     (first_is_kids (reverse due) kept attempt forest (trees_are (reverse due) ws forest (all_reversed IsWhole due t.whole) (taken_all ws new due t none) of) (subst (λ (x : KidsUnderWay). Fits x []) ek fits))
+
+fresh_marked : (ns : List ℕ) (n : ℕ) → length ns ≡ n → AreMarked (due_kids ns) (replicate n None)
+fresh_marked [] zero e = tt
+fresh_marked [] (suc n) e = absurd (omega (arith, e))
+fresh_marked (m ∷ ns) zero e = absurd (omega (arith, e))
+fresh_marked (m ∷ ns) (suc n) e = (refl, fresh_marked ns n (omega (arith, e)))
+
+fresh_due : (ns : List ℕ) → AllByRecursion IsDue (due_kids ns)
+fresh_due [] = tt
+fresh_due (n ∷ ns) = (refl, fresh_due ns)
+
+trees_count : (trees : List (List Waiting)) (f : Forest) → AreTrees trees f → length trees ≡ trees_in f
+trees_count [] NoTrees h = refl
+trees_count [] (TreeOf p below others) h = absurd h
+trees_count (ws ∷ trees) NoTrees h = absurd h
+trees_count (ws ∷ trees) (TreeOf p below others) h = ap suc (trees_count trees others h.1)
+
+first_begun : (w : Waiting) (trees : List (List Waiting)) (kept : List KeptChild) → AllByRecursion IsWhole trees → length trees ≡ w.unfinished
+    → AreBegun w (first_held trees kept)
+first_begun w trees kept h count =
+    let same : length (due_kids (roots_in trees)) ≡ length (roots_in trees) = length-map (roots_in trees) _ in
+    record { count = same ∙ roots_count trees h ∙ count; marked = fresh_marked (roots_in trees) (length trees) (roots_count trees h); handed = fresh_due (roots_in trees) }
+
+pub are_begun : (w : Waiting) (ws new : List Waiting) (due : List (List Waiting)) (kept : List KeptChild) (kids : KidsUnderWay)
+    (again : List (Option (List Waiting)))
+    → AreSoMany ws w.unfinished → AreTaken ws new due → new ≡ []
+    → kids ≡ fresh_kids (roots_in (reverse due)) kept → again ≡ replicate (length due) None
+    → AreBegun w (record { kids = kids; due = reverse due; again = again })
+are_begun w ws new due kept kids again h t none ek ea =
+    let each : AllByRecursion IsWhole (reverse due) = all_reversed IsWhole due t.whole in
+    let are : AreTrees (reverse due) h.forest = trees_are (reverse due) ws h.forest each (taken_all ws new due t none) h.is in
+    subst (AreBegun w) (held_is due kept kids again ek ea) (first_begun w (reverse due) kept each (trees_count (reverse due) h.forest are ∙ sym h.count))
 
 pub when_ok : {T E P : Type 0} (r : Result T E) (b : Bool) → b ≡ is_ok r → b ≡ true → OnOk r P → P
 when_ok (Ok x) b e t h = h

@@ -48,17 +48,23 @@ issued_own x own over (inr e) = inr over
 -- its own write went out, or ended
 pub far_own : (x : PartWriting) (own : OwnWrite) → is_due own ≡ false → IsNoLessFar x (with_own x own)
 far_own x own over =
-    record { placed = placed_own x.placing x own; ready = ready_own x.placing x own; issued = issued_own x own over }
+    record { placed = placed_own x.placing x own; ready = ready_own x.placing x own; issued = issued_own x own over; many = refl; path = refl }
 
 pub far_same : (x y : PartWriting) → y ≡ x → IsNoLessFar x y
-far_same x y e = subst (IsNoLessFar x) (sym e) (record { placed = λ h. h; ready = λ h. h; issued = λ h. h })
+far_same x y e = subst (IsNoLessFar x) (sym e) (record { placed = λ h. h; ready = λ h. h; issued = λ h. h; many = refl; path = refl })
 
 pub far_work : (w v : PartOwn) → v ≡ w → IsNoLessFar w.part v.part
 far_work w v e = far_same w.part v.part (ap (λ (x : PartOwn). x.part) e)
 
 pub far_then : (x y z : PartWriting) → IsNoLessFar x y → IsNoLessFar y z → IsNoLessFar x z
 far_then x y z h k =
-    record { placed = λ p. k.placed (h.placed p); ready = λ p. k.ready (h.ready p); issued = λ p. k.issued (h.issued p) }
+    record {
+      placed = λ p. k.placed (h.placed p);
+      ready = λ p. k.ready (h.ready p);
+      issued = λ p. k.issued (h.issued p);
+      many = k.many ∙ h.many;
+      path = k.path ∙ h.path;
+    }
 
 -- ---- a member told, or ended
 
@@ -94,7 +100,13 @@ ready_member Nowhere x n m told h = h
 
 pub far_member : (x : PartWriting) (n : ℕ) (m : Member) → is_told m ≡ true → IsNoLessFar x (with_members x (set x.members n m))
 far_member x n m told =
-    record { placed = placed_member x.placing x n m; ready = ready_member x.placing x n m told; issued = λ h. h }
+    record {
+      placed = placed_member x.placing x n m;
+      ready = ready_member x.placing x n m told;
+      issued = λ h. h;
+      many = length-set x.members n m;
+      path = refl;
+    }
 
 -- ---- it begins
 

@@ -1,9 +1,10 @@
 -- The members of a part that is written: they are handed out, and what its fields owe.
-use Rattle.std.proofs.Common.{◌≡◌, ◌≢◌, ℕ, ◌+◌, List, [], ◌∷◌, ◌++◌, length, map, slice_get, slice_set, true, false, Option, Some, None, ◌⊎◌, inl, inr, refl, sym, ap, subst, ◌∙◌, arith, length-append}
+use Rattle.std.proofs.Common.{◌≡◌, ◌≢◌, ℕ, ◌+◌, ◌<◌, List, [], ◌∷◌, ◌++◌, length, map, slice_get, slice_set, true, false, Option, Some, None, ◌⊎◌, inl, inr, refl, sym, ap, subst, ◌∙◌, arith, length-append}
 use Rattle.std.proofs.lemmas.List.{length-map}
 use Rattle.std.proofs.lemmas.Bool.{false≢true}
 use Rattle.zio_types.specs.declared.place.Top.{Top}
 use Rattle.zio_types.specs.declared.request.ChildKind.TheVariants.{Gang as GangKind}
+use Rattle.zio_cksum.proofs.SplitLemmas.{few_law}
 use Rattle.zio_gang.specs.Attempts.{Terms}
 use Rattle.zio_trace.specs.Conflicts.{is_single}
 use Rattle.zio_trace.specs.Tasks.{Task}
@@ -13,6 +14,7 @@ use Rattle.zio_frames.specs.Slots.{IsOut}
 use Rattle.zio_frames.proofs.GetLemmas.{get_either, get_exchanged}
 use Rattle.zio_parts.specs.Parts.{PartWriting, is_gang, member_bytes, member_slot, own_slots, places_at, slots_at, slots_of}
 use Rattle.zio_parts.specs.PartWrites.{is_due, step_of}
+use Rattle.zio_parts.specs.declared.members.Member.TheVariants.{Out as MemberOut}
 use Rattle.zio_parts.specs.declared.parts.OwnWrite.{OwnWrite}
 use Rattle.zio_parts.specs.declared.parts.OwnWrite.TheVariants.{Due}
 use Rattle.zio_parts.specs.declared.parts.PartStep.TheVariants.{Member as MemberStep}
@@ -21,7 +23,7 @@ use Rattle.zio_parts.specs.declared.parts.Placing.TheVariants.{Body, Head as Hea
 use Rattle.zio_stages.specs.NodeChildren.{new_child}
 use Rattle.zio_stages.specs.NodeIos.{NoneSits}
 use Rattle.zio_stages.specs.OwnParts.{HandsTo}
-use Rattle.zio_stages.specs.PartNodes.{IsFreshPart}
+use Rattle.zio_stages.specs.PartNodes.{IsFreshPart, IsMemberUnder}
 use Rattle.zio_stages.specs.PartOwns.{HandsMember, WrittenPart, member_of, part_task}
 use Rattle.zio_stages.specs.PartWorks.{Front, IsFront, IsIdle, IsIoOver, IsPartAt, IsPartOver}
 use Rattle.zio_stages.specs.WriteIos.{AreIoPlaces, IsOutIn}
@@ -98,6 +100,20 @@ hands_member t w v family more f o front n st child begun is h none hands many g
         children = grown ∙ ap (λ (cs : List Child). cs ++ new_child (OfOuter (front + 2 + n)) GangKind ∷ []) h.children
             ∙ ap (λ k. st.children ++ new_child (OfOuter k) GangKind ∷ []) seat ∙ sym e.children_are;
       };
+    }
+
+-- nothing of it is done, and it is one level below
+pub member_under : (x y : PartWriting) (n : ℕ) (child : PartNode) → MemberStep n ≡ step_of x → y.members ≡ x.members ++ MemberOut ∷ [] → y.path ≡ x.path
+    → child.work.own.part.path ≡ x.path ++ n ∷ [] → length x.path < 8 → child.work.own.part.members ≡ [] → child.work.io ≡ None → IsMemberUnder y child
+member_under x y n child is members path at deep begun none =
+    let next = (gang_member x.placing x n is).next in
+    let same : length y.path ≡ length x.path = ap length path in
+    record {
+      below = omega (arith, ap length at, length-append x.path (n ∷ []), same);
+      deep = omega (arith, same, deep);
+      few = omega (arith, ap length members, length-append x.members (MemberOut ∷ []), next.less, few_law x.size);
+      begun = begun;
+      none = none;
     }
 
 -- ---- what its fields owe

@@ -13,6 +13,7 @@ use Rattle.zio_frames.specs.Frames.{Stack}
 use Rattle.zio_frames.specs.Moves.{IsEnded, WillHave}
 use Rattle.zio_frames.specs.Slots.{AllHeard, Slot, left_behind_slots, told_in}
 use Rattle.zio_stages.specs.NodeIos.{StartsBy}
+use Rattle.zio_stages.specs.Outcomes.{held_by, places_in}
 use Rattle.zio_stages.specs.OwnParts.{DoesThen, HandsTo}
 use Rattle.zio_stages.specs.PartNodes.{ComesTo, IsPartNode, no_front}
 use Rattle.zio_stages.specs.PartOwns.{WrittenPart, part_plan, part_task}
@@ -64,6 +65,11 @@ ends_node t node st v none h ends =
       heard = ap told_in slots ∙ ends.0;
       value = ap (λ (q : Task). left_behind_slots st.outer.slots (plan t q)) h.at.op ∙ ap (λ (xs : List Slot). left_behind_slots xs (plan t (part_task h.part))) slots ∙ ends.1;
     }
+
+-- what it came to is what its part came to
+pub holds_node : (t : Terms) (node : PartNode) (st : Stack) (h : IsPartNode t node st) → held_by st ≡ places_in h.at.asked h.at.slots
+holds_node t node st h =
+    ap (λ (qs : List Task). places_in qs st.outer.slots) h.at.work.behind.asked_are ∙ ap (places_in h.at.asked) h.at.work.behind.slots_are
 
 -- ---- where there was no memory
 

@@ -19,7 +19,7 @@ use Rattle.zio_parts.specs.declared.parts.OwnWrite.{OwnWrite}
 use Rattle.zio_parts.specs.declared.parts.OwnWrite.TheVariants.{Due, Out as OwnOut, Ended as OwnEnded}
 use Rattle.zio_parts.specs.declared.parts.Placing.{Placing}
 use Rattle.zio_parts.specs.declared.parts.Placing.TheVariants.{Body, Head as HeadDue, Whole, Gang, Nowhere}
-use Rattle.zio_stages.specs.NodeChildren.{is_owing}
+use Rattle.zio_stages.specs.NodeChildren.{is_awaited, is_owing}
 use Rattle.zio_stages.specs.OwnParts.{IsOwed}
 use Rattle.zio_stages.specs.PartOwns.{ForBytes, ForMember, ForOther, PartAsk, WrittenPart, ask_of, asks_at, asks_in, member_asks, own_asks, refused_asks}
 use Rattle.zio_stages.specs.PartsOut.{ArePartsOut, IsPartOp}
@@ -180,10 +180,11 @@ untold : (told : Bool) → ShowsTold false told None → told ≡ false
 untold true h = absurd h
 untold false h = refl
 
-owes_ready : (kind : ChildKind) (told : Bool) → kind ≡ GangKind → ShowsTold (needs_none kind) told None → same_kind kind GangKind && not told ≡ true
-owes_ready kind told e h =
+owes_ready : (kind : ChildKind) (told ended : Bool) → kind ≡ GangKind → ShowsTold (needs_none kind) told None → ended ≡ false
+    → (same_kind kind GangKind && not told) && not ended ≡ true
+owes_ready kind told ended e h goes =
     let never : told ≡ false = untold told (subst (λ k. ShowsTold (needs_none k) told None) e h) in
-    ap (λ k. same_kind k GangKind && not told) e ∙ ap (λ b. not b) never
+    (λ i. (same_kind (e i) GangKind && not (never i)) && not (goes i))
 
 owes_done : (kind : ChildKind) (ended : Bool) → kind ≡ GangKind → ended ≡ false → same_kind kind GangKind && not ended ≡ true
 owes_done kind ended e never = ap (λ k. same_kind k GangKind && not ended) e ∙ ap (λ b. not b) never
@@ -193,7 +194,7 @@ owed_ready t w family f o st none seated h some =
     let idle = none_within t w.bytes w.own.part (length f.slots) w.io st.inner none h.work.within in
     let n = none_in h.slots some in
     let c = owing t w family f o st n.0 None seated h idle.0 n.1 in
-    any_at (is_owing GangKind Ready) st.children c.number c.child c.is (owes_ready c.child.kind c.child.told c.gang c.shows)
+    any_at (is_awaited GangKind Ready) st.children c.number c.child c.is (owes_ready c.child.kind c.child.told c.child.ended c.gang c.shows c.goes)
 
 pub owed_done : (t : Terms) (w : PartWork) (family : List Child) (f : Front) (o : WrittenPart) (st : Stack) → w.io ≡ None → IsSeated st → (h : IsPartAt t w family f o st) → 0 < length (told_in h.slots) → IsOwed GangKind Done st
 owed_done t w family f o st none seated h some =

@@ -1,5 +1,6 @@
 -- The write of a part as a node's part: it begins, asks, hands out, and hears.
 use Rattle.std.proofs.Common.{◌≡◌, ℕ, zero, suc, ◌*◌, ◌^◌, ◌≤◌, List, [], ◌∷◌, ◌++◌, length, map, true, false, refl, sym, ap, subst, ◌∙◌}
+use Rattle.std.specs.List.{AllByRecursion}
 use Rattle.std.proofs.lemmas.List.{map-append}
 use Rattle.zio_blkptr.specs.declared.pointer.SumKind.{SumKind}
 use Rattle.zio_gang.specs.Attempts.{Pending, Terms, writing_of}
@@ -14,7 +15,7 @@ use Rattle.zio_parts.specs.declared.members.Member.{Member}
 use Rattle.zio_parts.specs.declared.parts.OwnWrite.{OwnWrite}
 use Rattle.zio_parts.specs.declared.parts.Placing.{Placing}
 use Rattle.zio_parts.proofs.PartTaskLemmas.{part_sector}
-use Rattle.zio_stages.specs.PartOwns.{IsPartOwn, PartAsks, WrittenPart, ask_of, asks_in, level_below, member_of, part_plan, part_task}
+use Rattle.zio_stages.specs.PartOwns.{IsKeptMember, IsPartOwn, PartAsks, WrittenPart, ask_of, asks_in, level_below, member_of, part_plan, part_task}
 use Rattle.zio_stages.specs.PartsOut.{ArePartsOut}
 use Rattle.zio_stages.specs.declared.part.PartOwn.{PartOwn}
 use Rattle.zio_stages.proofs.Asking.{next_answered}
@@ -59,8 +60,8 @@ pub part_moved : (t : Terms) (old new : PartOwn) (o : WrittenPart) (asked more :
     → new.part ≡ turned_part old.part placing members own → after ≡ slots_of new.part → map ask_of more ≡ asks_in new.part → length more ≡ length after
     → ArePartsOut more after
     → length members ≤ member_count old.part → (is_due own ≡ false → is_gang placing ≡ true → member_count old.part ≤ length members)
-    → IsPartOwn t new o more after
-part_moved t old new o asked more slots after placing members own h is shown asks full out few headed = record {
+    → AllByRecursion IsKeptMember members → IsPartOwn t new o more after
+part_moved t old new o asked more slots after placing members own h is shown asks full out few headed kept = record {
   writing = ap (λ (x : PartWriting). writing_by t.setting x.write) is ∙ h.writing;
   path = ap (λ (x : PartWriting). x.path) is ∙ h.path;
   of_bytes = subst (λ (x : PartWriting). IsOfBytes x o.bytes) (sym is) (record { size = h.of_bytes.size; words = h.of_bytes.words });
@@ -72,6 +73,7 @@ part_moved t old new o asked more slots after placing members own h is shown ask
   deep = h.deep;
   few = subst (λ (x : PartWriting). length x.members ≤ member_count x) (sym is) few;
   headed = subst (λ (x : PartWriting). is_due x.own ≡ false → is_gang x.placing ≡ true → member_count x ≤ length x.members) (sym is) headed;
+  kept = subst (λ (x : PartWriting). AllByRecursion IsKeptMember x.members) (sym is) kept;
 }
 
 -- one more is asked

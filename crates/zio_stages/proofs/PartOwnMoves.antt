@@ -1,10 +1,12 @@
 -- The write of a part as a node's part: what it hands out, and what it hears.
 use Rattle.std.proofs.Common.{◌≡◌, ℕ, zero, suc, ◌+◌, ◌-◌, ◌*◌, ◌^◌, ◌<◌, ◌≤◌, List, [], ◌∷◌, ◌++◌, length, set, slice_get, true, false, Option, Some, None, refl, sym, ap, subst, ◌∙◌, arith, length-append, length-set}
+use Rattle.std.specs.List.{AllByRecursion}
 use Rattle.std.proofs.lemmas.Bool.{false≢true}
 use Rattle.zio_types.specs.declared.error.Errno.{Errno}
 use Rattle.zio_types.specs.declared.place.Place.{Place}
 use Rattle.zio_types.specs.Choices.{Ask}
 use Rattle.zio_blkptr.specs.declared.pointer.Bp.{Bp}
+use Rattle.zio_cksum.proofs.AllLemmas.{all_append}
 use Rattle.zio_gang.specs.declared.tree.Head.{Head}
 use Rattle.zio_gang.specs.Attempts.{Terms}
 use Rattle.zio_trace.specs.Calls.{NextIs}
@@ -19,7 +21,7 @@ use Rattle.zio_parts.specs.declared.members.Member.TheVariants.{Out as MemberOut
 use Rattle.zio_parts.specs.declared.parts.OwnWrite.TheVariants.{Due, Out as OwnOut, Ended as OwnEnded}
 use Rattle.zio_parts.specs.declared.parts.PartStep.TheVariants.{WriteBody, WriteHeader, Member as MemberStep, End}
 use Rattle.zio_parts.specs.declared.parts.StoredPart.{StoredPart}
-use Rattle.zio_stages.specs.PartOwns.{ForBytes, HandsMember, HandsOut, IsPartOwn, PartAsks, ShowsOwn, WrittenPart, asks_in, level_below, member_of, part_plan, part_task, stored_as}
+use Rattle.zio_stages.specs.PartOwns.{ForBytes, HandsMember, HandsOut, IsKept, IsKeptMember, IsPartOwn, PartAsks, ShowsOwn, WrittenPart, asks_in, level_below, member_of, part_plan, part_task, stored_as}
 use Rattle.zio_stages.specs.PartsOut.{ArePartsOut}
 use Rattle.zio_stages.specs.declared.part.PartOwn.{PartOwn}
 use Rattle.zio_stages.proofs.PartAsksLemmas.{header_asked, member_asked, member_set, own_set, placed_asks, placed_due}
@@ -29,6 +31,11 @@ use Rattle.zio_stages.proofs.PartSteps.{body_next, due_own, gang_header, gang_me
 use Rattle.zio_stages.proofs.PartsOutLemmas.{more_full, one_had, part_heard, part_out, part_told, set_full}
 
 -- ---- a member
+
+all_set : {X : Type 0} (P : X → Type 0) (xs : List X) (n : ℕ) (x : X) → AllByRecursion P xs → P x → AllByRecursion P (set xs n x)
+all_set P [] n x h p = tt
+all_set P (y ∷ xs) zero x h p = (p, h.1)
+all_set P (y ∷ xs) (suc n) x h p = (h.0, all_set P xs n x h.1 p)
 
 level_down : (levels k : ℕ) → k + levels ≡ 8 → (levels ≡ 0 → ⊥) → (k + 1 + level_below levels ≡ 8) × (7 - k ≡ level_below levels)
 level_down zero k e some = absurd (some refl)
@@ -64,6 +71,7 @@ member_fresh t w child o asked slots n next h is deep =
       deep = subst (λ l. length (member_bytes o.bytes n) ≤ 512 * 3 ^ l) (ap (λ k. 7 - k) there ∙ down.1) deep;
       few = subst (λ (x : PartWriting). length x.members ≤ member_count x) (sym is) (omega arith);
       headed = subst (λ (x : PartWriting). is_due x.own ≡ false → is_gang x.placing ≡ true → member_count x ≤ length x.members) (sym is) (λ no. absurd (false≢true (sym no)));
+      kept = subst (λ (x : PartWriting). AllByRecursion IsKeptMember x.members) (sym is) tt;
     }
 
 pub member_handed : (t : Terms) (old new child : PartOwn) (o : WrittenPart) (asked : List Task) (slots : List Slot) (n : ℕ)
@@ -90,7 +98,8 @@ member_handed t old new child o asked slots n next h is more child_is deep =
             (more_full asked slots op (IsOut None) h.full)
             (part_out op None asked slots h.full tt h.out)
             (omega arith)
-            (λ no g. absurd (false≢true (sym no ∙ ap is_due due))),
+            (λ no g. absurd (false≢true (sym no ∙ ap is_due due)))
+            (all_append IsKeptMember old.part.members (MemberOut ∷ []) h.kept (tt, tt)),
       );
       member = member_fresh t old child o asked slots n next h child_is deep;
     }
@@ -110,6 +119,7 @@ own_handed t old new o asked slots bytes places h is more asks all =
     (part_out (WriteCopies bytes places) None asked slots h.full tt h.out)
     h.few
     (λ no. all)
+    h.kept
 
 pub body_handed : (t : Terms) (old new : PartOwn) (o : WrittenPart) (asked : List Task) (slots : List Slot) → ShowsOwn old WriteBody
     → IsPartOwn t old o asked slots
@@ -151,13 +161,14 @@ placed t old new o asked slots a places ask h is more =
     (one_had (Find a) (Found places) asked slots h.full h.out)
     h.few
     (λ no g. absurd (false≢true (sym no ∙ ap is_due (placed_due old.part.placing old.part places ask (sym (ap slots_of is) ∙ more) g))))
+    h.kept
 
 member_goes : (t : Terms) (old new : PartOwn) (o : WrittenPart) (asked : List Task) (slots : List Slot) (n k : ℕ) (m : Member) (slot : Slot)
     → IsPartOwn t old o asked slots → 2 ≤ n → k ≡ n - 2
     → new.part ≡ with_members old.part (set old.part.members k m) → slots_of new.part ≡ set (slots_of old.part) (member_at k) slot
-    → ArePartsOut asked (set slots n slot)
+    → ArePartsOut asked (set slots n slot) → IsKeptMember m
     → IsPartOwn t new o asked (set slots n slot)
-member_goes t old new o asked slots n k m slot h behind number is more out =
+member_goes t old new o asked slots n k m slot h behind number is more out kept =
     let at : n ≡ member_at k = omega arith in
     let same : length (set old.part.members k m) ≡ length old.part.members = length-set old.part.members k m in
     let few = h.few in
@@ -168,6 +179,7 @@ member_goes t old new o asked slots n k m slot h behind number is more out =
     out
     (omega arith)
     (λ no g. let most : member_count old.part ≤ length old.part.members = h.headed no g in omega arith)
+    (all_set IsKeptMember old.part.members k m h.kept kept)
 
 pub told : (t : Terms) (old new : PartOwn) (o : WrittenPart) (asked : List Task) (slots : List Slot) (n k : ℕ) (pointer : Option Bp)
     → IsPartOwn t old o asked slots → 2 ≤ n → k ≡ n - 2
@@ -176,16 +188,17 @@ pub told : (t : Terms) (old new : PartOwn) (o : WrittenPart) (asked : List Task)
     → IsPartOwn t new o asked (set slots n (IsOut (Some pointer)))
 told t old new o asked slots n k pointer h behind number there is more =
     member_goes t old new o asked slots n k (Told pointer) (IsOut (Some pointer)) h behind number is more
-    (part_told n (Some pointer) None asked slots (ap (λ s. slice_get s n) h.shown ∙ there) h.out)
+    (part_told n (Some pointer) None asked slots (ap (λ s. slice_get s n) h.shown ∙ there) h.out) tt
 
 pub member_ended : (t : Terms) (old new : PartOwn) (o : WrittenPart) (asked : List Task) (slots : List Slot) (n k : ℕ) (error : Option Errno) (pointer : Option Bp) (heads : List Head)
     → IsPartOwn t old o asked slots → 2 ≤ n → k ≡ n - 2
     → new.part ≡ member_heard old.part k error pointer heads
     → slots_of new.part ≡ set (slots_of old.part) (member_at k) (Heard (StoredAs (record { error = error; pointer = pointer; heads = heads })))
+    → IsKept pointer heads
     → IsPartOwn t new o asked (set slots n (Heard (StoredAs (record { error = error; pointer = pointer; heads = heads }))))
-member_ended t old new o asked slots n k error pointer heads h behind number is more =
+member_ended t old new o asked slots n k error pointer heads h behind number is more kept =
     member_goes t old new o asked slots n k (MemberEnded error pointer heads) (Heard (StoredAs (record { error = error; pointer = pointer; heads = heads }))) h behind number is more
-    (part_heard n (StoredAs (record { error = error; pointer = pointer; heads = heads })) asked slots h.out)
+    (part_heard n (StoredAs (record { error = error; pointer = pointer; heads = heads })) asked slots h.out) kept
 
 pub written : (t : Terms) (old new : PartOwn) (o : WrittenPart) (asked : List Task) (slots : List Slot) (n : ℕ) (error : Option Errno)
     → IsPartOwn t old o asked slots → old.part.own ≡ OwnOut → n ≡ own_at old.part
@@ -199,6 +212,7 @@ written t old new o asked slots n error h out number is more =
     (part_heard n (Wrote error) asked slots h.out)
     h.few
     (λ no. h.headed (ap is_due out))
+    h.kept
 
 -- ---- its end
 

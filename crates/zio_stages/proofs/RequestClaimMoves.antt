@@ -1,6 +1,7 @@
 -- A claim in an attempt: its walk is made, handed out and heard behind the request's children, its places are taken, and it ends.
-use Rattle.std.proofs.Common.{◌≡◌, ℕ, List, [], ◌∷◌, length, Bool, true, false, Option, Some, None, refl, sym, ap, subst, ◌∙◌, arith}
+use Rattle.std.proofs.Common.{◌≡◌, ℕ, List, [], ◌∷◌, length, Bool, true, false, Option, Some, None, Result, Ok, Err, refl, sym, ap, subst, ◌∙◌, arith}
 use Rattle.std.specs.List.{AllByRecursion}
+use Rattle.zio_types.specs.declared.error.Errno.{Errno}
 use Rattle.zio_types.specs.declared.place.Top.{Top}
 use Rattle.zio_types.specs.declared.request.ChildKind.TheVariants.{Gang}
 use Rattle.zio_types.specs.declared.request.Phase.TheVariants.{Done}
@@ -18,11 +19,13 @@ use Rattle.zio_frames.specs.Frames.{Child, Stack, kind_of_task}
 use Rattle.zio_frames.specs.Moves.{heard_early, heard_of}
 use Rattle.zio_frames.specs.Seats.{IsSeated}
 use Rattle.zio_frames.specs.Slots.{AllHeard, Heard, IsOut, Slot, left_behind_slots, told_in}
-use Rattle.zio_stages.specs.OwnClaims.{IsClaimOf, IsOwnClaim, claim_task}
+use Rattle.zio_stages.specs.Outcomes.{IsNoAttemptIn, places_in}
+use Rattle.zio_stages.specs.OwnClaims.{IsClaimOf, IsOwnClaim, claim_task, own_claimed, taken_by}
 use Rattle.zio_stages.specs.OwnParts.{DoesThen, GoesOnAs, HandsTo, IsNoWrite, IsOwed}
 use Rattle.zio_stages.specs.RequestNodes.{IsOwnOf, IsRequestNode, own_got}
-use Rattle.zio_stages.specs.RequestOwns.{IsClaimOwn}
+use Rattle.zio_stages.specs.RequestOwns.{IsClaimOwn, IsNoneAfter, MakesBlock}
 use Rattle.zio_stages.specs.SpaceCalls.{SpaceCall}
+use Rattle.zio_stages.specs.StoredBlocks.{block_places}
 use Rattle.zio_stages.specs.Waits.{pending_of}
 use Rattle.zio_stages.specs.declared.own_claim.ClaimStep.{ClaimStep}
 use Rattle.zio_stages.specs.declared.own_claim.ClaimStep.TheVariants.{Out}
@@ -32,6 +35,7 @@ use Rattle.zio_stages.specs.declared.request_node.Own.TheVariants.{Claim, Found}
 use Rattle.zio_stages.specs.declared.request_node.OwnFound.{OwnFound}
 use Rattle.zio_stages.specs.declared.request_node.RequestNode.{RequestNode}
 use Rattle.zio_stages.proofs.BehindLemmas.{does_nothing, owed_behind}
+use Rattle.zio_stages.proofs.OwnHolds.{claim_holds, claim_quiet}
 use Rattle.zio_stages.proofs.RequestFoundLemmas.{found_at}
 use Rattle.zio_stages.proofs.RequestFreeMoves.{then_same}
 use Rattle.zio_stages.proofs.RequestOwnMoves.{goes_on, set_op, then_does, then_hands}
@@ -170,12 +174,20 @@ claim_owed t r st w tree h is out block seated =
 
 -- ---- it ends
 
+pub claimed_none : (found : Result Tree Errno) → IsNoneAfter (own_claimed found).error (own_claimed found).tree
+claimed_none (Ok tree) = tt
+claimed_none (Err e) = refl
+
 pub claim_found : (t : Terms) (r : RequestNode) (st : Stack) (w : OwnClaim) (found : OwnFound) (came : OwnGot) (h : IsRequestNode t r st)
     (own : IsClaimOwn w (front_in t r st h) (pending_of r.waiting) r.kids.kids h.own_asked h.own_slots st)
-    → AllHeard own.is.slots × (left_behind_slots own.is.slots (plan_claim (pointer_of own.bytes)) ≡ Ends came) → own_got found ≡ came → IsRequestNode t (with_own r (Found found) r.family) st
-claim_found t r st w found came h own e is =
+    → AllHeard own.is.slots × (left_behind_slots own.is.slots (plan_claim (pointer_of own.bytes)) ≡ Ends came) → taken_by w.block w.step ≡ block_places came.tree → IsNoneAfter came.error came.tree → own_got found ≡ came → IsRequestNode t (with_own r (Found found) r.family) st
+claim_found t r st w found came h own e took fails is =
     let p : Pending = pending_of r.waiting in
     found_at t r st found h own.all (other_claim r own.bytes (claims_bytes t r st w h own)) own.is.alone (subst AllHeard own.slots_are e.0)
+    (subst (AllByRecursion IsNoAttemptIn) own.slots_are (claim_quiet (pointer_of own.bytes) w.block w.step own.is.asked own.is.slots own.is.claim))
+    ((λ i. places_in (sym own.asked_are i) (sym own.slots_are i)) ∙ claim_holds (pointer_of own.bytes) w.block w.step own.is.asked own.is.slots own.is.claim
+    ∙ took ∙ ap (λ (o : OwnGot). block_places o.tree) (sym is))
+    (subst (λ (k : Work). MakesBlock k (own_got found)) (sym own.work) (subst (λ (o : OwnGot). IsNoneAfter o.error o.tree) (sym is) fails))
     (λ pointers.
     ap (λ (x : Work). left_behind_slots h.own_slots (plan_own t r.attempt p x pointers)) own.work
     ∙ subst (λ (slots : List Slot). left_behind_slots slots (plan_claim (pointer_of own.bytes)) ≡ Ends came) own.slots_are e.1

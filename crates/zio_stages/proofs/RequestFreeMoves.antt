@@ -19,12 +19,14 @@ use Rattle.zio_frames.specs.Frames.{Child, Stack, kind_of_task}
 use Rattle.zio_frames.specs.Moves.{heard_early, heard_of}
 use Rattle.zio_frames.specs.Seats.{IsSeated}
 use Rattle.zio_frames.specs.Slots.{AllHeard, Heard, IsOut, Slot, left_behind_slots, told_in}
+use Rattle.zio_stages.specs.Outcomes.{IsNoAttemptIn, places_in}
 use Rattle.zio_stages.specs.OwnFrees.{IsFreeWalk, IsOwnFree}
 use Rattle.zio_stages.specs.OwnParts.{DoesThen, GoesOnAs, HandsTo, IsNoWrite, IsOwed}
 use Rattle.zio_stages.specs.RequestFrees.{IsFreeWith, IsFreeWork}
 use Rattle.zio_stages.specs.RequestNodes.{IsOwnOf, IsRequestNode, own_got}
 use Rattle.zio_stages.specs.RequestOwns.{IsFreeOwn}
 use Rattle.zio_stages.specs.RequestReads.{HasFound}
+use Rattle.zio_stages.specs.StoredBlocks.{block_places}
 use Rattle.zio_stages.specs.Waits.{pending_of}
 use Rattle.zio_stages.specs.declared.own_free.FreeWalk.{FreeWalk}
 use Rattle.zio_stages.specs.declared.own_free.FreeWalk.TheVariants.{Out}
@@ -34,7 +36,8 @@ use Rattle.zio_stages.specs.declared.request_node.Own.TheVariants.{Claim, Due, F
 use Rattle.zio_stages.specs.declared.request_node.OwnFound.{OwnFound}
 use Rattle.zio_stages.specs.declared.request_node.RequestNode.{RequestNode}
 use Rattle.zio_stages.proofs.BehindLemmas.{does_nothing, owed_behind}
-use Rattle.zio_stages.proofs.RequestFoundLemmas.{found_at}
+use Rattle.zio_stages.proofs.OwnHolds.{free_holds, free_quiet}
+use Rattle.zio_stages.proofs.RequestFoundLemmas.{found_at, makes_none}
 use Rattle.zio_stages.proofs.RequestOwnMoves.{goes_on, set_op, then_does, then_hands}
 use Rattle.zio_stages.proofs.RequestReadLemmas.{found_due}
 use Rattle.zio_stages.proofs.RequestWriteLemmas.{front_in, with_own}
@@ -133,7 +136,7 @@ pub frees_none : (t : Terms) (r : RequestNode) (st : Stack) (own : OwnFound) (h 
     → r.waiting.block ≡ None → own_got own ≡ only (Some Noent) → IsRequestNode t (with_own r (Found own) r.family) st
 frees_none t r st own h due all work none is =
     let w = free_work r.waiting.request.work work in
-    found_due t r st own h due all (other_free r.waiting.request.work w)
+    found_due t r st own h due all (other_free r.waiting.request.work w) (ap (λ (o : OwnGot). o.tree) is)
     (λ pointers. ap (λ (x : Work). plan_own t r.attempt (pending_of r.waiting) x pointers) w.is ∙ ap plan_free none ∙ ap (λ (o : OwnGot). Ends o) (sym is))
 
 -- ---- it goes on
@@ -175,6 +178,9 @@ pub free_found : (t : Terms) (r : RequestNode) (st : Stack) (w : OwnFree) (found
 free_found t r st w found error h own e is =
     let p : Pending = pending_of r.waiting in
     found_at t r st found h own.all (other_free r.waiting.request.work (record { name = own.name; is = own.work })) own.is.alone (subst AllHeard own.slots_are e.0)
+    (subst (AllByRecursion IsNoAttemptIn) own.slots_are (free_quiet own.tree w.walk own.is.asked own.is.slots own.is.walk))
+    ((λ i. places_in (sym own.asked_are i) (sym own.slots_are i)) ∙ free_holds own.tree w.walk own.is.asked own.is.slots own.is.walk ∙ ap block_places (sym (ap (λ (o : OwnGot). o.tree) is)))
+    (makes_none r.waiting.request.work (own_got found) (ap (λ (o : OwnGot). o.tree) is))
     (λ pointers.
     ap (λ (x : Work). left_behind_slots h.own_slots (plan_own t r.attempt p x pointers)) own.work
     ∙ ap (λ (b : Option Tree). left_behind_slots h.own_slots (plan_free b)) own.block

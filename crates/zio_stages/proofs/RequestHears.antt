@@ -121,6 +121,7 @@ own_still t r s x y f g (Stored v) a b asked slots h n p same out l behind e =
       left = h.left;
       value = h.value;
       came_to = h.came_to;
+      places = h.places;
     }
 own_still t r s x y f g (Read w) a b asked slots h n p same out l behind e =
     read_still t w f g (pending_of r.waiting) (pending_of s.waiting) x y a b asked slots h p out l behind e
@@ -129,7 +130,7 @@ own_still t r s x y f g (Free w) a b asked slots h n p same out l behind e =
 own_still t r s x y f g (Claim w) a b asked slots h n p same out l behind e =
     claim_still w f g (pending_of r.waiting) (pending_of s.waiting) x y a b asked slots h p out behind e
 own_still t r s x y f g (Found v) a b asked slots h n p same out l behind e =
-    found_still t (own_got v) r.attempt s.attempt (pending_of r.waiting) (pending_of s.waiting) x y a b slots h n p out e
+    found_still t (own_got v) r.attempt s.attempt (pending_of r.waiting) (pending_of s.waiting) x y a b asked slots h n p out e
 own_still t r s x y f g Over a b asked slots h n p same out l behind e = record { told = (same h.told).0; alone = e ∙ h.alone; heard = h.heard }
 
 -- as many were handed out, and there are as many

@@ -10,7 +10,7 @@ use Rattle.zio_frames.specs.Slots.{Slot, left_behind_slots}
 use Rattle.zio_stages.specs.OwnParts.{IsBehind, IsNoWrite}
 use Rattle.zio_stages.specs.OwnReads.{IsBodyIn}
 use Rattle.zio_stages.specs.PartWorks.{Front}
-use Rattle.zio_stages.specs.RequestOwns.{IsClaimOwn, IsFoundOwn, IsFreeOwn, IsReadOwn}
+use Rattle.zio_stages.specs.RequestOwns.{IsClaimOwn, IsFoundOwn, IsFreeOwn, IsReadOwn, MakesBlock}
 use Rattle.zio_stages.specs.declared.own_claim.OwnClaim.{OwnClaim}
 use Rattle.zio_stages.specs.declared.own_free.OwnFree.{OwnFree}
 use Rattle.zio_stages.specs.declared.own_read.BodyIo.{BodyIo}
@@ -98,13 +98,16 @@ claim_still w f g p q x y a b asked slots h same out behind e = record {
   slots_are = h.slots_are;
 }
 
-pub found_still : (t : Terms) (own : OwnGot) (m n : ℕ) (p q : Pending) (x y : KidsUnderWay) (a b : Stack) (slots : List Slot)
-    → IsFoundOwn t own m p x slots a → n ≡ m → q ≡ p → StayOut x y → b.inner ≡ a.inner → IsFoundOwn t own n q y slots b
-found_still t own m n p q x y a b slots h same_attempt same out e = record {
+pub found_still : (t : Terms) (own : OwnGot) (m n : ℕ) (p q : Pending) (x y : KidsUnderWay) (a b : Stack) (asked : List Task) (slots : List Slot)
+    → IsFoundOwn t own m p x asked slots a → n ≡ m → q ≡ p → StayOut x y → b.inner ≡ a.inner → IsFoundOwn t own n q y asked slots b
+found_still t own m n p q x y a b asked slots h same_attempt same out e = record {
   all = out h.all;
   other = subst (λ (k : Pending). IsNoWrite k.request.work) (sym same) h.other;
   alone = e ∙ h.alone;
   heard = h.heard;
+  quiet = h.quiet;
+  places = h.places;
+  block = subst (λ (k : Pending). MakesBlock k.request.work own) (sym same) h.block;
   value = λ pointers.
       subst (λ k. left_behind_slots slots (plan_own t k q q.request.work pointers) ≡ Ends own) (sym same_attempt)
       (subst (λ (k : Pending). left_behind_slots slots (plan_own t m k k.request.work pointers) ≡ Ends own) (sym same) (h.value pointers));

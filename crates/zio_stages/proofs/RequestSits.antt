@@ -18,7 +18,8 @@ use Rattle.zio_frames.specs.Seats.{HasSeat, IsInnerSeat, IsSatAt, IsSeated, Show
 use Rattle.zio_frames.specs.Slots.{IsOut, Slot}
 use Rattle.zio_frames.proofs.GetLemmas.{all_at}
 use Rattle.zio_stages.specs.KidTrees.{attempts_of}
-use Rattle.zio_stages.specs.NodeChildren.{is_owing}
+use Rattle.zio_stages.specs.NodeChildren.{is_awaited, is_owing}
+use Rattle.zio_stages.specs.OwnParts.{IsOwed}
 use Rattle.zio_stages.specs.OwnReads.{IsBodyIn}
 use Rattle.zio_stages.specs.PartWorks.{Front, IsPartWithin}
 use Rattle.zio_stages.specs.RequestNodes.{IsOwnOf, IsRequestNode, front_by}
@@ -133,10 +134,10 @@ not_told child kind shows = by child.told (subst (λ (k : ChildKind). ShowsTold 
     by true h = absurd h
     by false h = refl
 
-pub owing_ready : (st : Stack) → SitsLogical st None → list_any (is_owing Logical Ready) st.children ≡ true
+pub owing_ready : (st : Stack) → SitsLogical st None → IsOwed Logical Ready st
 owing_ready st s =
-    any_at (is_owing Logical Ready) st.children s.number s.child s.there
-    ((λ i. same_kind (s.kind i) Logical && not (not_told s.child s.kind s.shows i)))
+    any_at (is_awaited Logical Ready) st.children s.number s.child s.there
+    ((λ i. (same_kind (s.kind i) Logical && not (not_told s.child s.kind s.shows i)) && not (s.goes i)))
 
 owing_done : (st : Stack) (told : Option (Option Bp)) → SitsLogical st told → list_any (is_owing Logical Done) st.children ≡ true
 owing_done st told s =
@@ -198,7 +199,7 @@ going_slot (k ∷ kids) (s ∷ slots) f l e =
 -- a child hasn't told its pointer
 pub waits_ready : (t : Terms) (r : RequestNode) (st : Stack) (h : IsRequestNode t r st) → IsSeated st → st.inner ≡ None
     → r.kids.kids.handed ≡ length r.kids.kids.kids → list_all is_told r.kids.kids.kids ≡ false
-    → list_any (is_owing Logical Ready) st.children ≡ true
+    → IsOwed Logical Ready st
 waits_ready t r st h seated alone all not_all =
     let out : IsOutThere h.kid_slots None = untold_slot r.kids.kids.kids h.kid_slots h.kids.fits (h.kids.all ∙ all) not_all in
     owing_ready st (kid_sits t r st out.place None h seated (not_within st.inner (OfOuter out.place) alone) out.slot)

@@ -92,6 +92,7 @@ stored_still t r st b now is same h =
       left = own.left;
       value = own.value;
       came_to = ap own_got same ∙ own.came_to;
+      places = own.places;
     })
 
 -- ---- it closes

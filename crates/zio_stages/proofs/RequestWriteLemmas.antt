@@ -1,5 +1,6 @@
 -- A write in an attempt: its children stand in front, and its block behind them.
 use Rattle.std.proofs.Common.{◌≡◌, List, ◌++◌, length, map, Option, None, refl, sym, ap, ◌∙◌, subst}
+use Rattle.std.specs.Prelude.{IsPermutation}
 use Rattle.zio_blkptr.specs.declared.pointer.Bp.{Bp}
 use Rattle.zio_script.specs.declared.script.Work.{Work}
 use Rattle.zio_gang.specs.Attempts.{Pending, Terms}
@@ -18,6 +19,7 @@ use Rattle.zio_stages.specs.OwnParts.{AllowsOwn, MayBegin}
 use Rattle.zio_stages.specs.OwnWrites.{IsBlockAt, IsIdleAt, IsWriteOwn}
 use Rattle.zio_stages.specs.StoredBlocks.{IsStoredOwn}
 use Rattle.zio_stages.specs.WrittenBlocks.{HaveAllTold, IsBlockOf}
+use Rattle.zio_stages.specs.Outcomes.{places_in, stored_places}
 use Rattle.zio_stages.specs.PartOwns.{WrittenPart, part_plan}
 use Rattle.zio_stages.specs.PartWorks.{Front, IsFront, IsIoOver, IsPartAt, IsPartOver, IsPartWithin}
 use Rattle.zio_stages.specs.RequestNodes.{IsOwnOf, IsRequestNode, front_by, own_got}
@@ -165,8 +167,8 @@ writes_only P Over h not = h
 pub stored_at : (t : Terms) (r : RequestNode) (st : Stack) (w : OwnWrite) (b : StoredBlock) (left : Left) (h : IsRequestNode t r st)
     (own : IsWriteOwn t w (front_in t r st h) r.attempt (pending_of r.waiting) r.kids.kids h.own_asked h.own_slots st) → w.work.io ≡ None
     → AllHeard h.own_slots × (left_behind_slots h.own_slots (part_plan t own.part) ≡ Ends (StoredAs left)) → own_got b.own ≡ own_stored left
-    → IsRequestNode t (with_own r (Stored b) r.family) st
-stored_at t r st w b left h own none ended came_to = record {
+    → IsPermutation (places_in h.own_asked h.own_slots) (stored_places left) → IsRequestNode t (with_own r (Stored b) r.family) st
+stored_at t r st w b left h own none ended came_to places = record {
   forest = h.forest;
   kid_asked = h.kid_asked;
   kid_slots = h.kid_slots;
@@ -188,6 +190,7 @@ stored_at t r st w b left h own none ended came_to = record {
     left = left;
     value = ended.1;
     came_to = came_to;
+    places = places;
   };
   family = h.family;
   round = h.round;

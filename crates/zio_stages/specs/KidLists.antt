@@ -1,7 +1,9 @@
 -- The requests of a tree by list, as a request's children's trees are split off it and what is left of them is put together.
-use Rattle.std.specs.Prelude.{◌≡◌, List, [], ◌∷◌, ◌++◌, map}
+use Rattle.std.specs.Prelude.{◌≡◌, List, [], ◌∷◌, ◌++◌, length, map, Option, is_some}
 use Rattle.std.specs.List.{AllByRecursion}
-use Rattle.zio_children.specs.RequestKids.{child_of, finished_in}
+use Rattle.zio_gang.specs.Attempts.{has_bits}
+use Rattle.zio_children.specs.RequestKids.{AreHanded, bits_by, child_of, finished_in}
+use Rattle.zio_children.specs.declared.kids.Kid.{Kid}
 use Rattle.zio_stages.specs.KidPointers.{HasValid, HaveValidPointers}
 use Rattle.zio_stages.specs.KidTrees.{KidsHeld, trees_left}
 use Rattle.zio_stages.specs.Wholes.{joined}
@@ -14,6 +16,19 @@ use Rattle.zio_stages.specs.declared.waiting.Waiting.{Waiting}
 pub record IsListOf (ws : List Waiting) (w : Waiting) (x : KidsHeld) : Type 0 where
   pub list : ws ≡ joined x.due ++ w ∷ []
   pub none : trees_left x.again ≡ []
+
+-- a tree is left of each child that goes again, and of no other
+abbrev pub AreMarked : List Kid → List (Option (List Waiting)) → Type 0
+AreMarked [] [] = Unit {0}
+AreMarked [] (a ∷ again) = ⊥
+AreMarked (k ∷ kids) [] = ⊥
+AreMarked (k ∷ kids) (a ∷ again) = (has_bits (bits_by k.state) ≡ is_some a) × AreMarked kids again
+
+-- as many children as the request counts haven't finished, none of them goes again, and those that were handed out are
+pub record AreBegun (w : Waiting) (x : KidsHeld) : Type 0 where
+  pub count : length x.kids.kids ≡ w.unfinished
+  pub marked : AreMarked x.kids.kids x.again
+  pub handed : AreHanded x.kids.handed x.kids.kids
 
 -- both hold the same trees
 pub record HoldTheSame (x y : KidsHeld) : Type 0 where
@@ -33,6 +48,7 @@ pub record IsLeftList (ws : List Waiting) (w : Waiting) (x : KidsHeld) : Type 0 
   pub request : root.request ≡ w.request
   pub birth : root.birth ≡ w.birth
   pub block : root.block ≡ w.block
+  pub unfinished : root.unfinished ≡ length (trees_left x.again)
   pub kept : map child_of root.kept ≡ finished_in x.kids
   pub valid : HaveValidPointers x.kids → AllByRecursion HasValid root.kept
 

@@ -1,4 +1,5 @@
 pub mod Checks
+pub mod Closings
 pub mod CopiesNodes
 pub mod HeadsNodes
 pub mod HeadsWorks
@@ -21,10 +22,13 @@ pub mod PartNodes
 pub mod PartOwns
 pub mod PartWorks
 pub mod PartsOut
+pub mod ReadCounts
 pub mod ReadIos
 pub mod RequestClaims
+pub mod RequestCounts
 pub mod RequestFrees
 pub mod RequestHearings
+pub mod RequestKinds
 pub mod RequestNodes
 pub mod RequestOwns
 pub mod RequestReads

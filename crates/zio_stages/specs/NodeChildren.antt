@@ -37,6 +37,11 @@ owes Done c = not c.ended
 abbrev pub is_owing : ChildKind → Phase → Child → Bool
 is_owing kind phase c = same_kind c.kind kind && owes phase c
 
+-- it is missing there, and hasn't ended
+abbrev pub is_awaited : ChildKind → Phase → Child → Bool
+is_awaited kind Ready c = is_owing kind Ready c && not c.ended
+is_awaited kind Done c = is_owing kind Done c
+
 abbrev pub kind_or : ChildKind → List ChildKind → Phase → List Child → Option ChildKind → Option ChildKind
 kind_or kind kinds phase children others =
     cond (list_any (same_kind kind) kinds && list_any (is_owing kind phase) children) (Some kind) others

@@ -16,7 +16,7 @@ use Rattle.zio_children.specs.RequestKids.{IsLeftBy}
 use Rattle.zio_frames.specs.Frames.{Stack}
 use Rattle.zio_frames.specs.Slots.{Heard, IsOut, Slot}
 use Rattle.zio_stages.specs.KidTrees.{IsLeft}
-use Rattle.zio_stages.specs.PartOwns.{stored_as}
+use Rattle.zio_stages.specs.PartOwns.{IsKept, stored_as}
 use Rattle.zio_stages.specs.SpaceCalls.{LieOnTops}
 use Rattle.zio_stages.specs.Wholes.{root_number}
 use Rattle.zio_stages.specs.declared.outcome.Finished.{Finished}
@@ -70,7 +70,7 @@ IsOutcome t op (HasFinished f) v = IsAttempt op × ((one : One) × (v ≡ Attemp
 IsOutcome t op (Again whole bits pointer) v = IsAttempt op × ((one : One) × (v ≡ AttemptedBy one) × IsLeftAs whole bits pointer one)
 IsOutcome t op (Found answer) v = IsReading op × (v ≡ Got answer)
 IsOutcome t op (Walked walked) v = IsWalk op × (v ≡ WalkedBy walked) × ClaimsInside t op walked
-IsOutcome t op (Stored part) v = IsPart op × (v ≡ StoredAs (stored_as part))
+IsOutcome t op (Stored part) v = IsPart op × (v ≡ StoredAs (stored_as part)) × IsKept part.pointer part.heads
 
 -- ---- the requests in it
 
@@ -126,6 +126,12 @@ places_in (op ∷ asked) (slot ∷ slots) = places_with op slot ++ places_in ask
 -- those that a node's part came to so far
 abbrev pub held_by : Stack → List Place
 held_by st = places_in st.outer.asked st.outer.slots
+
+-- it heard of no attempt
+abbrev pub IsNoAttemptIn : Slot → Type 0
+IsNoAttemptIn (Heard (AttemptedBy one)) = ⊥
+IsNoAttemptIn (Heard v) = Unit {0}
+IsNoAttemptIn (IsOut told) = Unit {0}
 
 -- those of the block that the request made
 abbrev pub made_by : Outcome → List Place

@@ -1,6 +1,7 @@
 -- A claim's own work behind other operations of its node's part: the walk over the block's headers, and then its places are taken.
 use Rattle.std.specs.Prelude.{◌≡◌, List, [], ◌∷◌, true, false, Option, Some, None, Result, Ok, Err, IfSome, IsTrue}
 use Rattle.zio_types.specs.declared.error.Errno.{Errno}
+use Rattle.zio_types.specs.declared.place.Place.{Place}
 use Rattle.zio_types.specs.declared.place.Top.{Top}
 use Rattle.zio_blkptr.specs.declared.pointer.Bp.{Bp}
 use Rattle.zio_blkptr.specs.Pointers.{valid}
@@ -13,6 +14,7 @@ use Rattle.zio_frames.specs.Slots.{Heard, IsOut, Slot}
 use Rattle.zio_parts.specs.TreeReads.{claiming}
 use Rattle.zio_stages.specs.OwnParts.{IsBehind}
 use Rattle.zio_stages.specs.SpaceCalls.{LieOnTops}
+use Rattle.zio_stages.specs.StoredBlocks.{block_places}
 use Rattle.zio_stages.specs.declared.own_claim.ClaimStep.{ClaimStep}
 use Rattle.zio_stages.specs.declared.own_claim.ClaimStep.TheVariants.{Due, Failed, Found, Out, Refused, Taken as TakenStep}
 use Rattle.zio_stages.specs.declared.own_claim.OwnClaim.{OwnClaim}
@@ -87,6 +89,12 @@ HasClaimEnded (Some tree) Due = ⊥
 HasClaimEnded (Some tree) Out = ⊥
 HasClaimEnded (Some tree) Found = ⊥
 HasClaimEnded (Some tree) _ = Unit {0}
+
+-- the places of its block, where they were taken
+abbrev pub taken_by : Option Tree → ClaimStep → List Place
+taken_by None step = []
+taken_by (Some tree) TakenStep = block_places (Some tree)
+taken_by (Some tree) _ = []
 
 abbrev pub own_claimed : Result Tree Errno → OwnGot
 own_claimed (Ok tree) = own_taken true tree

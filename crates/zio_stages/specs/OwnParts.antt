@@ -1,6 +1,6 @@
 -- Work of a node that stands behind other operations of its part, as a request's own behind its children: which of the
 -- part's operations are its own, and what the part asks next.
-use Rattle.std.specs.Prelude.{◌≡◌, ℕ, ◌+◌, List, [], ◌∷◌, ◌++◌, length, map, slice_get, true, false, Option, Some, None}
+use Rattle.std.specs.Prelude.{◌≡◌, ℕ, List, [], ◌∷◌, ◌++◌, length, map, slice_get, true, false, Option, Some, None}
 use Rattle.std.specs.List.{list_all, list_any}
 use Rattle.zio_types.specs.declared.place.Top.{Top}
 use Rattle.zio_types.specs.declared.request.ChildKind.{ChildKind}
@@ -24,9 +24,9 @@ use Rattle.zio_frames.specs.Running.{FitsTold}
 use Rattle.zio_frames.specs.Seats.{IsSeated, asked_at}
 use Rattle.zio_frames.specs.Slots.{Heard, IsOut, Slot, left_behind_slots, told_in}
 use Rattle.zio_stages.specs.KidTrees.{IsKids, KidsHeld}
-use Rattle.zio_stages.specs.NodeChildren.{is_owing}
+use Rattle.zio_stages.specs.NodeChildren.{is_awaited}
 use Rattle.zio_stages.specs.PartsOut.{ArePartsOut}
-use Rattle.zio_stages.specs.SpaceCalls.{SpaceCall, calls_back, calls_by}
+use Rattle.zio_stages.specs.SpaceCalls.{SpaceCall, calls_by}
 
 -- ---- behind others
 
@@ -103,9 +103,9 @@ pub record HandsTo (t : Terms) (kind : ChildKind) (IsChild : Task → Type 0) (I
   pub child_is : IsChild op
   pub after : IsAfter (handed st op)
 
--- a child of the kind owes the phase
+-- a child of the kind owes the phase, and hasn't ended
 abbrev pub IsOwed : ChildKind → Phase → Stack → Type 0
-IsOwed kind phase st = list_any (is_owing kind phase) st.children ≡ true
+IsOwed kind phase st = list_any (is_awaited kind phase) st.children ≡ true
 
 -- ---- what a node hears
 

@@ -1,5 +1,5 @@
 -- A gang's member that is written, as a node.
-use Rattle.std.specs.Prelude.{◌≡◌, ℕ, List, [], Option, Some, None, Result, Ok, Err, false, slice_get}
+use Rattle.std.specs.Prelude.{◌≡◌, ℕ, ◌+◌, ◌<◌, ◌≤◌, List, [], ◌∷◌, ◌++◌, length, Option, Some, None, Result, Ok, Err, false, slice_get}
 use Rattle.zio_types.specs.declared.error.Errno.{Errno}
 use Rattle.zio_types.specs.declared.place.Top.{Top}
 use Rattle.zio_types.specs.declared.request.ChildKind.TheVariants.{Gang}
@@ -8,10 +8,13 @@ use Rattle.zio_trace.specs.Leaves.{Answer, error_of}
 use Rattle.zio_trace.specs.Tasks.{Got, StoredAs, Task, Value}
 use Rattle.zio_frames.specs.Frames.{Child, Stack, fresh_stack}
 use Rattle.zio_frames.specs.Seats.{IsSeated}
+use Rattle.zio_parts.specs.Parts.{PartWriting}
+use Rattle.zio_parts.specs.declared.members.Member.{Member as MemberNow}
+use Rattle.zio_parts.specs.declared.members.Member.TheVariants.{Out as MemberOut}
 use Rattle.zio_parts.specs.declared.parts.StoredPart.{StoredPart}
 use Rattle.zio_stages.specs.Outcomes.{IsPart, IsReading}
 use Rattle.zio_stages.specs.OwnParts.{HandsTo, HearsValue}
-use Rattle.zio_stages.specs.PartOwns.{WrittenPart, part_task, stored_as}
+use Rattle.zio_stages.specs.PartOwns.{IsKept, WrittenPart, part_task, stored_as}
 use Rattle.zio_stages.specs.PartWorks.{Front, IsPartAt, IsPartOver}
 use Rattle.zio_stages.specs.declared.part_node.Allocated.{Allocated}
 use Rattle.zio_stages.specs.declared.part_node.Allocated.TheVariants.{Member, Placed}
@@ -44,6 +47,24 @@ HandsMemberOf t (Some child) IsAfter st = HandsTo t Gang (IsFreshPart t child) I
 abbrev pub AllocatesThen : Terms → Allocated → (Stack → Type 0) → Stack → Type 0
 AllocatesThen t (Member child) IsAfter st = HandsTo t Gang (IsFreshPart t child) IsAfter st
 AllocatesThen t Placed IsAfter st = IsAfter st
+
+-- the member that is handed out, if there is one
+abbrev pub member_in : Allocated → Option PartNode
+member_in (Member child) = Some child
+member_in Placed = None
+
+-- the part's members with that one
+abbrev pub with_member : Option PartNode → List MemberNow → List MemberNow
+with_member None members = members
+with_member (Some child) members = members ++ MemberOut ∷ []
+
+-- nothing is done of a member of this part, which is one level below, and the part has three at most
+pub record IsMemberUnder (x : PartWriting) (child : PartNode) : Type 0 where
+  pub below : length child.work.own.part.path ≡ length x.path + 1
+  pub deep : length x.path < 8
+  pub few : length x.members ≤ 3
+  pub begun : child.work.own.part.members ≡ []
+  pub none : child.work.io ≡ None
 
 -- the fields of a member that is handed out owe nothing more, whatever the tops
 abbrev pub IsAllocatedOver : Allocated → Type 0
@@ -82,7 +103,7 @@ pub record HearsValueAt (IsHeard : Task → Value → Type 0) (node : PartNode) 
 
 -- a part's write ended with what this is
 abbrev pub IsStoredBy : StoredPart → Task → Value → Type 0
-IsStoredBy stored op v = IsPart op × (v ≡ StoredAs (stored_as stored))
+IsStoredBy stored op v = IsPart op × (v ≡ StoredAs (stored_as stored)) × IsKept stored.pointer stored.heads
 
 -- an operation on a leaf ended with this error or none
 abbrev pub IsAnsweredBy : Option Errno → Task → Value → Type 0

@@ -1,10 +1,13 @@
 -- The write of a part of a block as a node's part of the work, or as a request's own within an attempt.
-use Rattle.std.specs.Prelude.{◌≡◌, ℕ, zero, suc, ◌+◌, ◌*◌, ◌^◌, ◌≤◌, List, [], ◌∷◌, ◌++◌, length, map, Bool, true, false, Option, Some, None, nat_le}
+use Rattle.std.specs.Prelude.{◌≡◌, ℕ, zero, suc, ◌+◌, ◌*◌, ◌^◌, ◌≤◌, List, [], ◌∷◌, ◌++◌, length, map, Bool, true, false, Option, Some, None, IsTrue, nat_le}
+use Rattle.std.specs.List.{AllByRecursion}
 use Rattle.zio_types.specs.Paths.{path_steps_max}
 use Rattle.zio_types.specs.Places.{sector_size}
 use Rattle.zio_blkptr.specs.declared.pointer.Bp.{Bp}
 use Rattle.zio_blkptr.specs.declared.pointer.SumKind.{SumKind}
+use Rattle.zio_blkptr.specs.Pointers.{FitsTypes, valid}
 use Rattle.zio_cksum.specs.Images.{Setting}
+use Rattle.zio_gang.specs.declared.tree.Head.{Head}
 use Rattle.zio_gang.specs.Attempts.{Pending, Terms, writing_of}
 use Rattle.zio_trace.specs.Plans.{TaskPlan, plan_write}
 use Rattle.zio_trace.specs.Tasks.{Find, Stored, Task, Value, WriteCopies, WritePart}
@@ -13,6 +16,7 @@ use Rattle.zio_frames.specs.Slots.{IsOut, Slot, left_behind_slots, told_in}
 use Rattle.zio_parts.specs.Parts.{IsOfBytes, PartWriting, is_gang, member_bytes, member_count, slots_of, writing_by}
 use Rattle.zio_parts.specs.PartWrites.{ShowsPart, is_due, step_of}
 use Rattle.zio_parts.specs.declared.members.Member.{Member}
+use Rattle.zio_parts.specs.declared.members.Member.TheVariants.{Out as MemberOut, Told, Ended as MemberEnded}
 use Rattle.zio_parts.specs.declared.parts.OwnWrite.{OwnWrite}
 use Rattle.zio_parts.specs.declared.parts.OwnWrite.TheVariants.{Due, Out as OwnOut, Ended as OwnEnded}
 use Rattle.zio_parts.specs.declared.parts.PartStep.{PartStep}
@@ -94,6 +98,19 @@ asks_at Nowhere x = refused_asks (nat_le x.size sector_size)
 abbrev pub asks_in : PartWriting → List PartAsk
 asks_in x = asks_at x.placing x
 
+-- ---- what it leaves
+
+-- the pointer of a part that was written is one that a header can name, and where there is none there are no headers
+abbrev pub IsKept : Option Bp → List Head → Type 0
+IsKept None heads = heads ≡ []
+IsKept (Some bp) heads = FitsTypes bp × IsTrue (valid bp)
+
+-- of a member that ended
+abbrev pub IsKeptMember : Member → Type 0
+IsKeptMember MemberOut = Unit {0}
+IsKeptMember (Told pointer) = Unit {0}
+IsKeptMember (MemberEnded error pointer heads) = IsKept pointer heads
+
 -- ---- how far it is
 
 -- It is so far in the write of this part, whose plan asked these so far.
@@ -109,6 +126,7 @@ pub record IsPartOwn (t : Terms) (w : PartOwn) (o : WrittenPart) (asked : List T
   pub deep : length o.bytes ≤ 512 * 3 ^ o.levels
   pub few : length w.part.members ≤ member_count w.part
   pub headed : is_due w.part.own ≡ false → is_gang w.part.placing ≡ true → member_count w.part ≤ length w.part.members
+  pub kept : AllByRecursion IsKeptMember w.part.members
 
 -- the step is next, which shows what its plan asks
 pub record ShowsOwn (w : PartOwn) (step : PartStep) : Type 0 where

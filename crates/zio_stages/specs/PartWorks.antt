@@ -1,5 +1,5 @@
 -- The write of a part with its bytes and its own writes on leaves, as a node's part or behind other operations of that.
-use Rattle.std.specs.Prelude.{◌≡◌, ℕ, ◌+◌, List, length, slice_get, true, false, Option, Some, None, IsTrue, ◌⊎◌}
+use Rattle.std.specs.Prelude.{◌≡◌, ℕ, ◌+◌, List, length, slice_get, Bool, true, false, Option, Some, None, IsTrue, ◌⊎◌}
 use Rattle.std.specs.List.{AllByRecursion}
 use Rattle.zio_types.specs.declared.place.Top.{Top}
 use Rattle.zio_types.specs.Places.{is_unit}
@@ -20,9 +20,10 @@ use Rattle.zio_parts.specs.declared.parts.Placing.TheVariants.{Body, Head as Hea
 use Rattle.zio_stages.specs.NodeIos.{NoneSits, SitsOn}
 use Rattle.zio_stages.specs.OwnParts.{Follows, IsBehind}
 use Rattle.zio_stages.specs.PartOwns.{ForBytes, ForMember, IsPartOwn, WrittenPart, asks_in, part_plan}
-use Rattle.zio_stages.specs.WriteIos.{AreIoPlaces, IsOutIn, IsWriteIo, IsWriteOver}
+use Rattle.zio_stages.specs.WriteIos.{AreIoPlaces, IsOutIn, IsWriteIo, IsWriteOver, IsWriteStep}
 use Rattle.zio_stages.specs.declared.family.Layer.TheVariants.{Within}
 use Rattle.zio_stages.specs.declared.part_work.PartWork.{PartWork}
+use Rattle.zio_stages.specs.declared.write_io.IoStep.TheVariants.{Child as ChildStep}
 use Rattle.zio_stages.specs.declared.write_io.WriteIo.{WriteIo}
 
 -- each top's unit is one that a pointer's place can have
@@ -116,15 +117,33 @@ IsPlaced _ = Unit {0}
 abbrev pub IsIssued : PartWriting → Type 0
 IsIssued x = (x.placing ≡ Nowhere) ⊎ (is_due x.own ≡ false)
 
+-- how many operations on leaves its own write asked, none before it begins
+abbrev pub asked_by : Option WriteIo → ℕ
+asked_by None = 0
+asked_by (Some io) = io.asked
+
+-- that is in its second pass
+abbrev pub is_second : Option WriteIo → Bool
+is_second None = false
+is_second (Some io) = io.write.retry
+
+-- another operation on a leaf is due for it
+abbrev pub IsMoreDue : List Top → Option WriteIo → Type 0
+IsMoreDue tops None = ⊥
+IsMoreDue tops (Some io) = IsWriteStep tops io ChildStep
+
 -- its own write has ended, or it has no place
 abbrev pub IsWritten : PartWork → Type 0
 IsWritten w = (w.io ≡ None) × ((w.own.part.placing ≡ Nowhere) ⊎ (is_due w.own.part.own ≡ false))
 
--- the second is no less far than the first: its members stay handed out, its pointer known, and its own write issued
+-- the second is no less far than the first: its members stay handed out, its pointer known, and its own write issued; and it
+-- has as many members, at the same path
 pub record IsNoLessFar (x y : PartWriting) : Type 0 where
   pub placed : IsPlaced (step_of x) → IsPlaced (step_of y)
   pub ready : is_ready x ≡ true → is_ready y ≡ true
   pub issued : IsIssued x → IsIssued y
+  pub many : length y.members ≡ length x.members
+  pub path : y.path ≡ x.path
 
 -- ---- its members
 

@@ -39,6 +39,23 @@ IsClaimingWith P (Claim w) = P w
 IsClaimingWith P (Found own) = ⊥
 IsClaimingWith P Over = ⊥
 
+-- nothing of it is asked, or its block is claimed, or it came to its end
+abbrev pub IsDueOrClaim : Own → Type 0
+IsDueOrClaim Due = Unit {0}
+IsDueOrClaim (Write w) = ⊥
+IsDueOrClaim (Stored b) = ⊥
+IsDueOrClaim (Read w) = ⊥
+IsDueOrClaim (Free w) = ⊥
+IsDueOrClaim (Claim w) = Unit {0}
+IsDueOrClaim (Found own) = Unit {0}
+IsDueOrClaim Over = ⊥
+
+-- the walk is due
+abbrev pub IsWalkDue : Option Tree → ClaimStep → Type 0
+IsWalkDue None step = ⊥
+IsWalkDue (Some tree) StepDue = Unit {0}
+IsWalkDue (Some tree) _ = ⊥
+
 -- the walk ended, or bytes that are no pointer have none
 abbrev pub IsPastWalk : Option Tree → ClaimStep → Type 0
 IsPastWalk None step = Unit {0}

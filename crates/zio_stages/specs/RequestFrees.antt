@@ -1,5 +1,5 @@
 -- A free in an attempt: which stage it may be in.
-use Rattle.std.specs.Prelude.{◌≡◌, ℕ, ◌≤◌, length, Option, None}
+use Rattle.std.specs.Prelude.{◌≡◌, ℕ, ◌≤◌, length, Option, Some, None}
 use Rattle.zio_types.specs.declared.error.Errno.{Errno}
 use Rattle.zio_script.specs.declared.script.Work.{Work}
 use Rattle.zio_script.specs.declared.script.Work.TheVariants.{Null as NullWork, Read as ReadWork, Write as WriteWork, Free as FreeWork, Claim as ClaimWork}
@@ -40,6 +40,12 @@ IsFreeingWith P (Claim w) = ⊥
 IsFreeingWith P (Found own) = ⊥
 IsFreeingWith P Over = ⊥
 
+-- its walk is as far as before; whatever else its own work is stays as it is
+abbrev pub FreesOn : Own → Own → Type 0
+FreesOn (Free v) (Free w) = w.walk ≡ v.walk
+FreesOn (Free v) _ = ⊥
+FreesOn own now = now ≡ own
+
 -- how many places of its block went back
 abbrev pub freed_by : Own → ℕ
 freed_by Due = 0
@@ -64,6 +70,10 @@ HasBegun (WalkEnded e) = Unit {0}
 -- it ended
 abbrev pub HasWalked : OwnFree → Type 0
 HasWalked w = (e : Option Errno) × (w.walk ≡ WalkEnded e)
+
+-- where one failed none of them did
+abbrev pub HasKeptFailed : OwnFree → Type 0
+HasKeptFailed w = (e : Errno) → w.walk ≡ WalkEnded (Some e) → w.given ≡ 0
 
 -- where no header failed all its places went back
 abbrev pub HasFreed : Option Tree → OwnFree → Type 0

@@ -53,7 +53,7 @@ IsOwnOf t r x f (Stored b) st asked slots = IsStoredOwn t (own_got b.own) r.atte
 IsOwnOf t r x f (Read w) st asked slots = IsReadOwn t w f (pending_of r.waiting) x asked slots st
 IsOwnOf t r x f (Free w) st asked slots = IsFreeOwn w f (pending_of r.waiting) x asked slots st
 IsOwnOf t r x f (Claim w) st asked slots = IsClaimOwn w f (pending_of r.waiting) x asked slots st
-IsOwnOf t r x f (Found own) st asked slots = IsFoundOwn t (own_got own) r.attempt (pending_of r.waiting) x slots st
+IsOwnOf t r x f (Found own) st asked slots = IsFoundOwn t (own_got own) r.attempt (pending_of r.waiting) x asked slots st
 IsOwnOf t r x f Over st asked slots = IsOver x slots st
 
 -- It is so far in an attempt of its request.

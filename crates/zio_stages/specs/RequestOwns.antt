@@ -2,10 +2,12 @@
 -- were all handed out.
 use Rattle.std.specs.Prelude.{◌≡◌, ℕ, ◌+◌, List, length, slice_get, false, Option, Some, None, IfSome, IsTrue, option_map}
 use Rattle.std.specs.List.{AllByRecursion}
+use Rattle.zio_types.specs.declared.error.Errno.{Errno}
 use Rattle.zio_types.specs.declared.place.Top.{Top}
 use Rattle.zio_types.specs.declared.request.Prio.{Prio}
 use Rattle.zio_blkptr.specs.declared.pointer.Bp.{Bp}
 use Rattle.zio_blkptr.specs.Pointers.{pointer_of, valid}
+use Rattle.zio_script.specs.declared.script.Work.{Work}
 use Rattle.zio_script.specs.declared.script.Work.TheVariants.{Read, Free, Claim}
 use Rattle.zio_gang.specs.declared.tree.Tree.{Tree}
 use Rattle.zio_gang.specs.Attempts.{Pending, Terms}
@@ -17,11 +19,13 @@ use Rattle.zio_children.specs.RequestKids.{KidsUnderWay}
 use Rattle.zio_frames.specs.Frames.{Child, OfOuter, Stack}
 use Rattle.zio_frames.specs.Slots.{AllHeard, Slot, left_behind_slots}
 use Rattle.zio_stages.specs.HeadsNodes.{IsHeadOn, LiesOn}
+use Rattle.zio_stages.specs.Outcomes.{IsNoAttemptIn, places_in}
 use Rattle.zio_stages.specs.OwnClaims.{IsOwnClaim}
 use Rattle.zio_stages.specs.OwnFrees.{IsOwnFree}
 use Rattle.zio_stages.specs.OwnParts.{IsNoWrite}
 use Rattle.zio_stages.specs.OwnReads.{IsBodyOn, IsOwnRead, IsOwnReadOver}
 use Rattle.zio_stages.specs.PartWorks.{Front}
+use Rattle.zio_stages.specs.StoredBlocks.{block_places}
 use Rattle.zio_stages.specs.declared.own_claim.OwnClaim.{OwnClaim}
 use Rattle.zio_stages.specs.declared.own_free.OwnFree.{OwnFree}
 use Rattle.zio_stages.specs.declared.own_read.OwnRead.{OwnRead}
@@ -63,12 +67,27 @@ pub record IsClaimOwn (w : OwnClaim) (f : Front) (p : Pending) (x : KidsUnderWay
   pub asked_are : is.asked ≡ asked
   pub slots_are : is.slots ≡ slots
 
--- All of it is heard, and it came to this, whichever pointers its children told.
-pub record IsFoundOwn (t : Terms) (own : OwnGot) (attempt : ℕ) (p : Pending) (x : KidsUnderWay) (slots : List Slot) (st : Stack) : Type 0 where
+-- where it failed there is none
+abbrev pub IsNoneAfter : Option Errno → Option Tree → Type 0
+IsNoneAfter None tree = Unit {0}
+IsNoneAfter (Some e) tree = tree ≡ None
+
+-- a claim alone makes a block, where it doesn't fail
+abbrev pub MakesBlock : Work → OwnGot → Type 0
+MakesBlock (Claim name bytes) own = IsNoneAfter own.error own.tree
+MakesBlock _ own = own.tree ≡ None
+
+-- All of it is heard, and it came to this, whichever pointers its children told. It heard of no attempt, and the places that it took
+-- are those of its block.
+pub record IsFoundOwn (t : Terms) (own : OwnGot) (attempt : ℕ) (p : Pending) (x : KidsUnderWay) (asked : List Task) (slots : List Slot)
+    (st : Stack) : Type 0 where
   pub all : x.handed ≡ length x.kids
   pub other : IsNoWrite p.request.work
   pub alone : st.inner ≡ None
   pub heard : AllHeard slots
+  pub quiet : AllByRecursion IsNoAttemptIn slots
+  pub places : places_in asked slots ≡ block_places own.tree
+  pub block : MakesBlock p.request.work own
   pub value : (pointers : List (Option Bp)) → left_behind_slots slots (plan_own t attempt p p.request.work pointers) ≡ Ends own
 
 -- ---- its children

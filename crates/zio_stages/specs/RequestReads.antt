@@ -1,11 +1,13 @@
 -- A read in an attempt: which stage it may be in, and what each comes to.
-use Rattle.std.specs.Prelude.{◌≡◌, ℕ, List, Option, Some, None, IfSome}
+use Rattle.std.specs.Prelude.{◌≡◌, ℕ, List, length, Option, Some, None, IfSome}
+use Rattle.zio_types.specs.declared.error.Errno.{Errno}
 use Rattle.zio_types.specs.declared.place.Top.{Top}
 use Rattle.zio_types.specs.declared.request.ChildKind.TheVariants.{Gang}
 use Rattle.zio_types.specs.declared.request.Phase.TheVariants.{Done}
 use Rattle.zio_script.specs.declared.script.Work.{Work}
 use Rattle.zio_script.specs.declared.script.Work.TheVariants.{Null as NullWork, Read as ReadWork, Write as WriteWork, Free as FreeWork, Claim as ClaimWork}
 use Rattle.zio_gang.specs.Attempts.{Terms}
+use Rattle.zio_gang.specs.Trees.{header_levels_max}
 use Rattle.zio_frames.specs.Frames.{Stack, fresh_stack}
 use Rattle.zio_frames.specs.Seats.{IsSeated}
 use Rattle.zio_parts.specs.TreeReads.{ShowsRead}
@@ -15,6 +17,7 @@ use Rattle.zio_stages.specs.HeadsNodes.{IsHeadsNode, IsHeadsOver}
 use Rattle.zio_stages.specs.NodeIos.{IsReadDue}
 use Rattle.zio_stages.specs.OwnParts.{HandsTo, IsOwed}
 use Rattle.zio_stages.specs.OwnReads.{IsBodyOut, IsWalkOut}
+use Rattle.zio_stages.specs.ReadCounts.{HandsOutBody}
 use Rattle.zio_stages.specs.declared.heads_node.HeadsNode.{HeadsNode}
 use Rattle.zio_stages.specs.declared.own_read.BodyIo.{BodyIo}
 use Rattle.zio_stages.specs.declared.own_read.OwnRead.{OwnRead}
@@ -55,6 +58,12 @@ IsReadingWith P (Claim w) = ⊥
 IsReadingWith P (Found own) = ⊥
 IsReadingWith P Over = ⊥
 
+-- its block's read goes on so; whatever else its own work is stays as it is
+abbrev pub ReadsOn : (OwnRead → OwnRead → Type 0) → Own → Own → Type 0
+ReadsOn P (Read v) (Read w) = P v w
+ReadsOn P (Read v) _ = ⊥
+ReadsOn P own now = now ≡ own
+
 -- no body is read by the node itself
 abbrev pub IsAlone : OwnRead → Type 0
 IsAlone w = w.body ≡ None
@@ -86,10 +95,25 @@ found_of (Claim w) = None
 found_of (Found own) = Some own
 found_of Over = None
 
+-- with this error, or none
+abbrev pub found_error : Own → Option Errno
+found_error Due = None
+found_error (Write w) = None
+found_error (Stored b) = None
+found_error (Read w) = None
+found_error (Free w) = None
+found_error (Claim w) = None
+found_error (Found own) = own.error
+found_error Over = None
+
 abbrev pub HasFound : Own → Type 0
 HasFound own = (found : OwnFound) × (own ≡ Found found)
 
 -- ---- what they come to
+
+-- a walk over headers is one of a whole block, of which nothing is done
+abbrev pub IsWholeWalk : HeadsNode → Type 0
+IsWholeWalk child = (length child.family ≡ 0) × (child.work.walk.levels ≡ header_levels_max)
 
 -- the walk over the block's headers was handed out, if it was due
 abbrev pub HandsWalk : Terms → Option HeadsNode → (Stack → Type 0) → Stack → Type 0
@@ -104,6 +128,12 @@ abbrev pub HandsBody : Terms → BodyStage → (Stack → Type 0) → Stack → 
 HandsBody t (Body child) IsAfter st = HandsTo t Gang (λ op. IsCopiesNode t child (fresh_stack op)) IsAfter st
 HandsBody t Wait IsAfter st = IsAfter st × (IsSeated st → IsOwed Gang Done st)
 HandsBody t On IsAfter st = IsAfter st
+
+-- what that changes of the read
+abbrev pub IssuesBody : BodyStage → Own → Own → Type 0
+IssuesBody (Body child) own now = ReadsOn HandsOutBody own now
+IssuesBody Wait own now = now ≡ own
+IssuesBody On own now = now ≡ own
 
 abbrev pub IsBodyStageOver : List Top → BodyStage → Type 0
 IsBodyStageOver tops (Body child) = IsCopiesOver tops child

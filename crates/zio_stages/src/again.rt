@@ -66,7 +66,7 @@ pub(crate) fn grown_again(
     requires rising { RiseFrom 0 (roots_in (trees_left again.items)) }
     ensures tree { (forest : Forest) → AreTrees (trees_left again.items) forest → IsTreeOf result (pending_of root) forest }
     ensures number { root_number result ≡ Some root.request.number }
-    ensures list { (unfinished below : ℕ) × (result ≡ joined (trees_left again.items) ++ counted root unfinished below ∷ []) }
+    ensures list { (below : ℕ) × (result ≡ joined (trees_left again.items) ++ counted root (length (trees_left again.items)) below ∷ []) }
 {
     let mut unfinished = 0;
     for left in List::from_vec(again).into_rest() {

@@ -1,6 +1,6 @@
 // Walks over headers that ask nothing.
 
-ghost use Rattle.std.specs.Prelude.{◌≡◌, IfOk, IfSome, IsTrue, List, [], false};
+ghost use Rattle.std.specs.Prelude.{◌≡◌, IfOk, IfSome, IsTrue, List, None, Ok, [], false, true};
 ghost use Rattle.zio_blkptr.specs.Pointers.{valid};
 ghost use Rattle.zio_gang.specs.declared.tree.Head.{Head};
 ghost use Rattle.zio_gang.specs.Attempts.{Terms};
@@ -8,7 +8,8 @@ ghost use Rattle.zio_gang.specs.Trees.{header_levels_max};
 ghost use Rattle.zio_trace.specs.Plans.{plan};
 ghost use Rattle.zio_trace.specs.Programs.{Ends};
 ghost use Rattle.zio_trace.specs.Tasks.{ByClaim, ByKept, ReadHeads, WalkedBy};
-ghost use Rattle.zio_parts.specs.HeadWalks.{body_of, left_of_walk};
+ghost use Rattle.zio_parts.specs.HeadWalks.{Follows, body_of, left_of_walk};
+ghost use Rattle.zio_parts.specs.declared.head_walk.Header.TheVariants.{Unread};
 
 use std::alloc::Global;
 use zio_blkptr::Bp;
@@ -21,6 +22,7 @@ pub(crate) fn block_at_once(alloc: Global, bp: Bp) -> Result<Option<Walked>, NoM
     ensures body { IfOk result (λ left. IfSome left (λ walked. (walked ≡ body_of bp) × (bp.gang ≡ false))) }
     ensures ends { IfOk result (λ left. IfSome left (λ walked. (t : Terms) (heads : List Head) →
         plan t (ReadHeads (ByKept heads) header_levels_max [] bp) ≡ Ends (WalkedBy walked))) }
+    ensures gang { result ≡ Ok None → bp.gang ≡ true }
 {
     let walk = HeadWalk::kept(alloc, LEVELS_MAX, root(), bp);
     left_at_once(alloc, walk)
@@ -29,8 +31,9 @@ pub(crate) fn block_at_once(alloc: Global, bp: Bp) -> Result<Option<Walked>, NoM
 /// The same of a claim: also where a place of the pointer isn't inside its top, or doesn't fit what it holds.
 pub(crate) fn claim_at_once(alloc: Global, tops: &[Top], bp: Bp) -> Result<Option<Walked>, NoMemory>
     requires { IsTrue (valid bp) }
-    ensures { IfOk result (λ left. IfSome left (λ walked. (t : Terms) → t.setting.tops ≡ tops.now →
+    ensures ends { IfOk result (λ left. IfSome left (λ walked. (t : Terms) → t.setting.tops ≡ tops.now →
         plan t (ReadHeads ByClaim header_levels_max [] bp) ≡ Ends (WalkedBy walked))) }
+    ensures gang { result ≡ Ok None → bp.gang ≡ true }
 {
     let walk = HeadWalk::claimed(alloc, tops, LEVELS_MAX, root(), bp);
     left_at_once(alloc, walk)
@@ -38,7 +41,8 @@ pub(crate) fn claim_at_once(alloc: Global, tops: &[Top], bp: Bp) -> Result<Optio
 
 /// What the walk leaves, where it asks nothing.
 fn left_at_once(alloc: Global, walk: HeadWalk) -> Result<Option<Walked>, NoMemory>
-    ensures { IfOk result (λ left. IfSome left (λ walked. (heads : List Head) → left_of_walk heads walk ≡ Ends (WalkedBy walked))) }
+    ensures ends { IfOk result (λ left. IfSome left (λ walked. (heads : List Head) → left_of_walk heads walk ≡ Ends (WalkedBy walked))) }
+    ensures asks { result ≡ Ok None → walk.header ≡ Unread → walk.members ≡ [] → Follows walk }
 {
     match walk.next() {
         WalkStep::End => match walk.into_walked(alloc) {

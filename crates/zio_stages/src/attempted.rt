@@ -9,7 +9,7 @@ ghost use Rattle.zio_trace.specs.Tasks.{AttemptedBy, One, Task};
 ghost use Rattle.zio_children.specs.RequestKids.{Fits, IsLeftBy, IsOutWith, RiseFrom, ShowsKids, finished_in, fresh_kids, is_ended, kid_handed, kid_is, kids_by, numbers_of, state_at};
 ghost use Rattle.zio_children.specs.declared.kids.KidState.TheVariants.{Ended, Out, Told};
 ghost use Rattle.zio_frames.specs.Slots.{Heard, IsOut, Slot};
-ghost use Rattle.zio_stages.specs.KidLists.{HoldTheSame, HoldsBut, IsLeftList, IsListOf};
+ghost use Rattle.zio_stages.specs.KidLists.{AreBegun, HoldTheSame, HoldsBut, IsLeftList, IsListOf};
 ghost use Rattle.zio_stages.specs.KidPointers.{HasValid, HaveValidPointers};
 ghost use Rattle.zio_stages.specs.KidTrees.{HandsOut, IsKids, IsLeft, trees_left, with_kept};
 ghost use Rattle.zio_stages.specs.Splits.{AreSoMany};
@@ -71,6 +71,7 @@ impl RequestKids {
         ensures kept { IfOk result (λ begun. begun.1.kids.kept ≡ begun.0.kept) }
         ensures valid { IfOk result (λ begun. AllByRecursion HasValid begun.0.kept → HaveValidPointers begun.1.kids) }
         ensures list { IfOk result (λ begun. IsListOf whole begun.0 begun.1) }
+        ensures begun { IfOk result (λ begun. AreBegun begun.0 begun.1) }
         ensures back { IfErr result (λ e. e.whole ≡ whole) }
     {
         let mut rest = whole.waiting.into_vec();
@@ -206,6 +207,7 @@ fn kids_of(alloc: Global, root: &Waiting, rest: &mut Vec<Waiting>) -> Result<Req
     ensures valid { IfOk result (λ kids. AllByRecursion HasValid root.now.kept → HaveValidPointers kids.kids) }
     ensures list { IfOk result (λ kids. joined kids.due ≡ rest.old.items) }
     ensures none { IfOk result (λ kids. trees_left kids.again ≡ []) }
+    ensures begun { IfOk result (λ kids. AreBegun root.now kids) }
     ensures err { OnErr result (rest.new.items ≡ rest.old.items) }
     ensures capacity { OnErr result (vec_capacity rest.old ≤ vec_capacity rest.new) }
 {

@@ -14,10 +14,11 @@ ghost use Rattle.zio_frames.specs.Frames.{Child, OfOuter, Stack};
 ghost use Rattle.zio_frames.specs.Moves.{heard_early, heard_of};
 ghost use Rattle.zio_frames.specs.Slots.{AllHeard, Slot, left_behind_slots};
 ghost use Rattle.zio_stages.specs.NodeIos.{NoneSits};
-ghost use Rattle.zio_stages.specs.OwnClaims.{HasClaimEnded, IsBlockOf, IsClaimOver, IsOwnClaim, LiesWalked, claim_task, own_claimed};
+ghost use Rattle.zio_stages.specs.OwnClaims.{HasClaimEnded, IsBlockOf, IsClaimOver, IsOwnClaim, LiesWalked, claim_task, own_claimed, taken_by};
 ghost use Rattle.zio_stages.specs.OwnParts.{DoesThen, GoesOnAs, HandsTo, IsBehind};
-ghost use Rattle.zio_stages.specs.RequestClaims.{IsPastWalk};
+ghost use Rattle.zio_stages.specs.RequestClaims.{IsPastDue, IsPastWalk};
 ghost use Rattle.zio_stages.specs.SpaceCalls.{SpaceCall};
+ghost use Rattle.zio_stages.specs.StoredBlocks.{block_places};
 ghost use Rattle.zio_stages.specs.declared.family.Layer.TheVariants.{Within};
 
 use crate::at_once::claim_at_once;
@@ -60,6 +61,7 @@ impl OwnClaim {
             IsOwnClaim result family (pointer_of bytes.now) front_asked front st }
         ensures over { (tops : List SeenTop) → IsClaimOver tops result }
         ensures due { result.step ≡ ClaimStep.Due }
+        ensures block { IsBlockOf (pointer_of bytes.now) result.block }
     {
         OwnClaim {
             block: block_of(alloc, bytes),
@@ -76,6 +78,8 @@ impl OwnClaim {
             GoesOnAs t tops.now (plan_claim pointer) front st → IsOwnClaim self.old family pointer front_asked front st →
             DoesThen t st [] (IsOwnClaim self.new family pointer front_asked front) }
         ensures gang { result ≡ Ok false → self.new ≡ self.old }
+        ensures asks { result ≡ Ok false → IfSome self.old.block (λ tree. tree.bp.gang ≡ true) }
+        ensures past { result ≡ Ok true → IsPastWalk self.new.block self.new.step }
         ensures over { IsClaimOver tops.now self.new }
         ensures err { OnErr result (self.new ≡ self.old) }
     {
@@ -101,7 +105,8 @@ impl OwnClaim {
 
     /// The pointer whose walk is due, if one is.
     pub(crate) fn due_pointer(&self) -> Option<Bp>
-        ensures { IfSome result (λ bp. (self.now.step ≡ ClaimStep.Due) × ((tree : SeenTree) × (self.now.block ≡ Some tree) × (tree.bp ≡ bp))) }
+        ensures due { IfSome result (λ bp. (self.now.step ≡ ClaimStep.Due) × ((tree : SeenTree) × (self.now.block ≡ Some tree) × (tree.bp ≡ bp))) }
+        ensures none { result ≡ None → IsPastDue self.now.block self.now.step }
     {
         match self.step {
             ClaimStep::Due => match &self.block {
@@ -131,6 +136,7 @@ impl OwnClaim {
             GoesOnAs t tops (plan_claim (Some bp)) before st → IsOwnClaim self.old family.old (Some bp) front_asked before st →
             HandsTo t Gang (λ op. op ≡ claim_task bp) (IsOwnClaim self.new family.new (Some bp) front_asked before) st) }
         ensures over { (tops : List SeenTop) → IsClaimOver tops self.old → IsClaimOver tops self.new }
+        ensures out { OnOk result ((self.new.step ≡ ClaimStep.Out) × (self.new.block ≡ self.old.block)) }
         ensures sits { OnOk result (NoneSits Within family.old → NoneSits Within family.new) }
         ensures err { OnErr result (self.new ≡ self.old) }
         ensures family_err { OnErr result (family.new ≡ family.old) }
@@ -168,6 +174,7 @@ impl OwnClaim {
             slice_get st.children child ≡ Some c → c.seat ≡ OfOuter (length before) → IsOwnClaim self.old family.old (Some bp) front_asked before st →
             IsOwnClaim self.new family.new (Some bp) front_asked before (heard_of st child c (WalkedBy walked)) }
         ensures over { IsClaimOver tops.now self.new }
+        ensures past { IsPastWalk self.new.block self.new.step }
         ensures sits { NoneSits Within family.old → NoneSits Within family.new }
     {
         family.end(child);
@@ -222,7 +229,8 @@ impl OwnClaim {
     /// The block whose places were taken, or its error, where it ended.
     pub(crate) fn into_claimed(self) -> Result<Tree, Errno>
         requires { HasClaimEnded self.block self.step }
-        ensures { (family : List Child) (pointer : Option SeenBp) (front_asked : List Task) (front : List Slot) (st : Stack)
+        ensures took { taken_by self.block self.step ≡ block_places (own_claimed result).tree }
+        ensures ends { (family : List Child) (pointer : Option SeenBp) (front_asked : List Task) (front : List Slot) (st : Stack)
             (h : IsOwnClaim self family pointer front_asked front st) →
             AllHeard h.slots × (left_behind_slots h.slots (plan_claim pointer) ≡ Ends (own_claimed result)) }
     {

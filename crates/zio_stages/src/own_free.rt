@@ -67,6 +67,8 @@ impl OwnFree {
             tree.bp ≡ bp → GoesOnAs t tops (plan_free (Some tree)) front st → IsOwnFree self.old.walk family tree front_asked front st →
             DoesThen t st [] (IsOwnFree self.new.walk family tree front_asked front) }
         ensures gang { result ≡ Ok false → self.new ≡ self.old }
+        ensures asks { result ≡ Ok false → bp.gang ≡ true }
+        ensures walked { result ≡ Ok true → (e : Option SeenErrno) × (self.new.walk ≡ FreeWalk.Ended e) }
         ensures given { self.new.given ≡ self.old.given }
         ensures err { OnErr result (self.new ≡ self.old) }
     {
@@ -91,6 +93,7 @@ impl OwnFree {
             GoesOnAs t tops (plan_free (Some tree)) before st → IsOwnFree self.old.walk family.old tree front_asked before st →
             HandsTo t Gang (λ op. op ≡ heads_task tree) (IsOwnFree self.new.walk family.new tree front_asked before) st) }
         ensures given { self.new.given ≡ self.old.given }
+        ensures out { OnOk result (self.new.walk ≡ FreeWalk.Out) }
         ensures sits { OnOk result (NoneSits Within family.old → NoneSits Within family.new) }
         ensures err { OnErr result (self.new ≡ self.old) }
         ensures family_err { OnErr result (family.new ≡ family.old) }
@@ -120,6 +123,7 @@ impl OwnFree {
             slice_get st.children child ≡ Some c → c.seat ≡ OfOuter (length before) → IsOwnFree self.old.walk family.old tree front_asked before st →
             IsOwnFree self.new.walk family.new tree front_asked before (heard_of st child c (WalkedBy walked)) }
         ensures sits { NoneSits Within family.old → NoneSits Within family.new }
+        ensures walked { (e : Option SeenErrno) × (self.new.walk ≡ FreeWalk.Ended e) }
         ensures given { self.new.given ≡ self.old.given }
     {
         self.walk = FreeWalk::Ended(walked.error());
@@ -150,7 +154,8 @@ impl OwnFree {
     /// The worst of the walk's errors, where it ended.
     pub(crate) fn error(&self) -> Option<Errno>
         requires { (e : Option SeenErrno) × (self.now.walk ≡ FreeWalk.Ended e) }
-        ensures { (family : List Child) (tree : Tree) (front_asked : List Task) (front : List Slot) (st : Stack) (h : IsOwnFree self.now.walk family tree front_asked front st) →
+        ensures was { self.now.walk ≡ FreeWalk.Ended result }
+        ensures ends { (family : List Child) (tree : Tree) (front_asked : List Task) (front : List Slot) (st : Stack) (h : IsOwnFree self.now.walk family tree front_asked front st) →
             AllHeard h.slots × (left_behind_slots h.slots (plan_free (Some tree)) ≡ Ends (only result)) }
     {
         match self.walk {

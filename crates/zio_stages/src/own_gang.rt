@@ -13,11 +13,12 @@ ghost use Rattle.zio_frames.specs.Frames.{Child, OfOuter, Stack};
 ghost use Rattle.zio_frames.specs.Moves.{heard_early, heard_of};
 ghost use Rattle.zio_frames.specs.Seats.{IsSeated};
 ghost use Rattle.zio_frames.specs.Slots.{Slot};
-ghost use Rattle.zio_parts.specs.TreeReads.{ShowsRead};
+ghost use Rattle.zio_parts.specs.TreeReads.{ShowsRead, bodies_or, walk_heard};
 ghost use Rattle.zio_parts.specs.declared.tree_read.TreeStep.TheVariants.{Body, Walk};
 ghost use Rattle.zio_stages.specs.NodeIos.{NoneSits};
 ghost use Rattle.zio_stages.specs.OwnParts.{GoesOnAs, HandsTo};
 ghost use Rattle.zio_stages.specs.OwnReads.{IsBodyOut, IsOwnRead, IsWalkOut};
+ghost use Rattle.zio_stages.specs.ReadCounts.{CountsTheSame, HandsOutBody, HandsOutWalk};
 ghost use Rattle.zio_stages.specs.TreeWorks.{bodies_after, body_task, heads_task};
 ghost use Rattle.zio_stages.specs.declared.family.Layer.TheVariants.{Within};
 
@@ -41,6 +42,7 @@ impl OwnRead {
         ensures hands { OnOk result ((t : Terms) (tops : List SeenTop) (tree : Tree) (front_asked : List Task) (before : List Slot) (st : Stack) → length before ≡ front →
             GoesOnAs t tops (plan_tree tree) before st → IsOwnRead t self.old family.old tree front_asked before st →
             HandsTo t Gang (λ op. op ≡ heads_task tree) (IsOwnRead t self.new family.new tree front_asked before) st) }
+        ensures counts { OnOk result (HandsOutWalk self.old self.new) }
         ensures alone { self.new.body ≡ None }
         ensures bodies { self.new.tree.read.bodies ≡ self.old.tree.read.bodies }
         ensures sits { OnOk result (NoneSits Within family.old → NoneSits Within family.new) }
@@ -67,6 +69,7 @@ impl OwnRead {
         ensures hands { OnOk result ((t : Terms) (tops : List SeenTop) (tree : Tree) (front_asked : List Task) (before : List Slot) (st : Stack) → length before ≡ front →
             GoesOnAs t tops (plan_tree tree) before st → IsOwnRead t self.old family.old tree front_asked before st →
             HandsTo t Gang (λ op. op ≡ body_task body.bp) (IsOwnRead t self.new family.new tree front_asked before) st) }
+        ensures counts { OnOk result (HandsOutBody self.old self.new) }
         ensures bodies { self.new.tree.read.bodies ≡ self.old.tree.read.bodies }
         ensures sits { OnOk result (NoneSits Within family.old → NoneSits Within family.new) }
         ensures alone { self.new.body ≡ None }
@@ -108,6 +111,7 @@ impl OwnRead {
             slice_get st.children child ≡ Some c → c.seat ≡ OfOuter (length before) →
             IsOwnRead t self.old family.old tree front_asked before st →
             IsOwnRead t self.new family.new tree front_asked before (heard_of st child c (WalkedBy walked)) }
+        ensures read { self.new.tree.read ≡ walk_heard self.old.tree.read (bodies_or walked) }
         ensures bodies { self.new.tree.read.bodies ≡ bodies_after self.old.tree.read.bodies walked }
         ensures sits { NoneSits Within family.old → NoneSits Within family.new }
         ensures alone { self.new.body ≡ None }
@@ -133,6 +137,7 @@ impl OwnRead {
             IsOwnRead t self.new family.new tree front_asked before (heard_of st child c (Got a)) }
         ensures sits { NoneSits Within family.old → NoneSits Within family.new }
         ensures bodies { self.new.tree.read.bodies ≡ self.old.tree.read.bodies }
+        ensures counts { CountsTheSame self.old self.new }
         ensures alone { self.new.body ≡ None }
     {
         self.tree.hear_body(n, found);

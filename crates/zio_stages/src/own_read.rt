@@ -21,6 +21,9 @@ ghost use Rattle.zio_stages.specs.LeafWorks.{IsDue};
 ghost use Rattle.zio_stages.specs.NodeIos.{IsAwaitedAt, IsReadDue, NoneSits, StartsBy};
 ghost use Rattle.zio_stages.specs.OwnParts.{DoesThen, GoesOnAs, IsBehind, IsOwed};
 ghost use Rattle.zio_stages.specs.OwnReads.{IsBodyOn, IsOwnRead, IsOwnReadOver};
+ghost use Rattle.zio_stages.specs.ReadCounts.{AsksMore, AssessesBody, BeginsBody, HasOneBody, IsNoBody, IsOneDue, IsUnread, MayBegin};
+ghost use Rattle.zio_stages.specs.ReadIos.{IsReadStep};
+ghost use Rattle.zio_stages.specs.declared.write_io.IoStep.TheVariants.{Child as ChildStep};
 ghost use Rattle.zio_stages.specs.declared.family.Layer.TheVariants.{Within};
 
 use crate::at_once::block_at_once;
@@ -59,6 +62,7 @@ impl OwnRead {
         ensures over { (tops : List SeenTop) (family : List Child) → NoneSits Within family → IsOwnReadOver tops result family }
         ensures walk { ShowsRead result.tree.read TreeStep.Walk }
         ensures alone { result.body ≡ None }
+        ensures unread { IsUnread result }
         ensures bodies { result.tree.read.bodies ≡ [] }
     {
         OwnRead {
@@ -85,6 +89,8 @@ impl OwnRead {
             tree.bp ≡ bp → GoesOnAs t tops (plan_tree tree) front st → IsOwnRead t self.old family tree front_asked front st →
             DoesThen t st [] (IsOwnRead t self.new family tree front_asked front) }
         ensures gang { result ≡ Ok false → self.new ≡ self.old }
+        ensures asks { result ≡ Ok false → bp.gang ≡ true }
+        ensures one { result ≡ Ok true → (bp.gang ≡ false) × (self.old.tree.read.results ≡ [] → HasOneBody self.new) }
         ensures on { (tops : List SeenTop) → (bp.gang ≡ false → IsBodyOn tops bp) → AllByRecursion (IsBodyOn tops) self.old.tree.read.bodies →
             AllByRecursion (IsBodyOn tops) self.new.tree.read.bodies }
         ensures alone { self.new.body ≡ None }
@@ -113,6 +119,7 @@ impl OwnRead {
             DoesThen t st [] (IsOwnRead t self.new family tree front_asked front)) }
         ensures over { OnOk result ((family : List Child) → NoneSits Within family → IsOwnReadOver tops.now self.new family) }
         ensures bodies { OnOk result (self.new.tree.read.bodies ≡ self.old.tree.read.bodies) }
+        ensures counts { OnOk result (BeginsBody self.old self.new) }
         ensures err { OnErr result (self.new ≡ self.old) }
     {
         let number = number_of(&body)?;
@@ -137,6 +144,8 @@ impl OwnRead {
             DoesThen t st [] (IsOwnRead t self.new family tree front_asked front) }
         ensures over { (family : List Child) → IsOwnReadOver tops.now self.old family → IsOwnReadOver tops.now self.new family }
         ensures bodies { self.new.tree.read.bodies ≡ self.old.tree.read.bodies }
+        ensures counts { MayBegin self.old self.new }
+        ensures none { OnOk result (self.new.body ≡ None → (step : TreeStep) × IsNoBody step × ShowsRead self.new.tree.read step) }
     {
         if self.body.is_some() {
             return Ok(());
@@ -164,6 +173,8 @@ impl OwnRead {
         ensures due { IfOk result (λ leaf. IfSome leaf IsDue) }
         ensures over { IsOwnReadOver tops.now self.new family.new }
         ensures tree { self.new.tree ≡ self.old.tree }
+        ensures counts { IfOk result (λ leaf. AsksMore leaf self.old self.new) }
+        ensures none { result ≡ Ok None → IfSome self.new.body (λ body. IsReadStep tops.now body.io ChildStep → ⊥) }
         ensures err { OnErr result (self.new ≡ self.old) }
         ensures family_err { OnErr result (family.new ≡ family.old) }
     {
@@ -181,6 +192,7 @@ impl OwnRead {
         ensures waits { result ≡ IoNext.Wait → (t : Terms) (family : List Child) (tree : Tree) (front_asked : List Task) (front : List Slot) (st : Stack) →
             t.setting.tops ≡ tops.now → IsSeated st → IsOwnRead t self.now family tree front_asked front st → IsOwed Vdev Done st }
         ensures due { result ≡ IoNext.On → IfSome self.now.body (λ body. IsReadDue tops.now body.io) }
+        ensures more { result ≡ IoNext.More → IsOneDue tops.now self.now }
     {
         match &self.body {
             Some(body) => read_next(&body.io, tops),
@@ -200,6 +212,7 @@ impl OwnRead {
         ensures alone { result ≡ false → self.new.body ≡ None }
         ensures over { IsOwnReadOver tops.now self.new family.now }
         ensures bodies { self.new.tree.read.bodies ≡ self.old.tree.read.bodies }
+        ensures counts { AssessesBody result self.old self.new }
     {
         let Some(mut body) = self.body.take() else {
             return false;
@@ -229,6 +242,7 @@ impl OwnRead {
             IsOwnRead t self.new family.new tree front_asked front (heard_of st child c (Got a)) }
         ensures over { IsOwnReadOver tops.now self.new family.new }
         ensures tree { self.new.tree ≡ self.old.tree }
+        ensures counts { AsksMore None self.old self.new }
     {
         match self.body.take() {
             Some(mut body) => {

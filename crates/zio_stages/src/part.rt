@@ -2,18 +2,18 @@
 
 ghost use Rattle.std.specs.Prelude.{◌≡◌, ◌++◌, ◌+◌, ◌-◌, ◌*◌, ◌%◌, ◌^◌, ◌∷◌, ◌<◌, ◌≤◌, ℕ, Contains, IfErr, IfOk, IfSome, IsTrue, List, None, Option, Some, [], drop, false, length, slice_get, slice_set, take, true};
 ghost use Rattle.zio_types.specs.Choices.{Ask};
-ghost use Rattle.zio_blkptr.specs.Pointers.{valid};
+ghost use Rattle.zio_blkptr.specs.Pointers.{FitsTypes, valid};
 ghost use Rattle.zio_gang.specs.Attempts.{Terms, writing_of};
 ghost use Rattle.zio_trace.specs.Programs.{Ends};
 ghost use Rattle.zio_trace.specs.Tasks.{Find, Found, StoredAs, Task, Value, WriteCopies, Wrote};
 ghost use Rattle.zio_trace.specs.Underway.{early};
 ghost use Rattle.zio_frames.specs.Answering.{EndsAnswered};
 ghost use Rattle.zio_frames.specs.Slots.{AllHeard, Heard, IsOut, Slot, left_behind_slots, told_in};
-ghost use Rattle.zio_parts.specs.Parts.{ask_by, fresh_part, is_gang, is_head_due, member_bytes, member_count, places_at, pointer_over, slots_of, writing_by};
+ghost use Rattle.zio_parts.specs.Parts.{ask_by, fresh_part, is_gang, is_head_due, member_bytes, member_count, places_at, pointer_over, slots_of, stored_by, writing_by};
 ghost use Rattle.zio_parts.specs.PartWrites.{IsAsk, IsLast, is_due, is_ready, member_heard, member_told, own_heard, part_handed, places_heard, step_of};
 ghost use Rattle.zio_parts.specs.declared.parts.OwnWrite.TheVariants.{Due, Out as OwnOut};
 ghost use Rattle.zio_parts.specs.declared.parts.Placing.TheVariants.{Body};
-ghost use Rattle.zio_stages.specs.PartOwns.{ForBytes, ForMember, HandsMember, HandsOut, IsOutAs, IsPartOwn, PartAsks, ShowsOwn, WrittenPart, asks_in, part_plan, stored_as};
+ghost use Rattle.zio_stages.specs.PartOwns.{ForBytes, ForMember, HandsMember, HandsOut, IsKept, IsOutAs, IsPartOwn, PartAsks, ShowsOwn, WrittenPart, asks_in, part_plan, stored_as};
 
 use std::alloc::Global;
 use std::ops::Range;
@@ -126,9 +126,14 @@ impl PartOwn {
         ensures exact { self.new.part ≡ part_handed self.old.part }
         ensures size { result.part.size ≡ length (member_bytes bytes.now n) }
         ensures fresh { (result.part.placing ≡ Body) × (result.part.own ≡ Due) }
+        ensures begun { result.part.members ≡ [] }
+        ensures path { result.part.path ≡ self.old.part.path ++ n ∷ [] }
+        ensures deep { length self.old.part.path < 8 }
         ensures handed { (t : Terms) (o : WrittenPart) (asked : List Task) (slots : List Slot) → IsPartOwn t self.old o asked slots →
             o.bytes ≡ bytes.now → HandsMember t self.new result o n asked slots }
     {
+        // A path has at most eight steps.
+        let _steps = steps_of(&self.part.member_path(n));
         let part = self.part.member(n, bytes);
         self.part.hand_out();
         PartOwn { part }
@@ -182,6 +187,7 @@ impl PartOwn {
         requires member { slice_get (asks_in self.old.part) n ≡ Some ForMember }
         requires out { IsOutAs stored.pointer (slice_get (slots_of self.old.part) n) }
         requires valid { slice_get (slots_of self.old.part) n ≡ Some (IsOut None) → IfSome stored.pointer (λ bp. IsTrue (valid bp)) }
+        requires kept { IsKept stored.pointer stored.heads }
         ensures exact { self.new.part ≡ member_heard self.old.part (n - 2) stored.error stored.pointer stored.heads }
         ensures heard { (t : Terms) (o : WrittenPart) (asked : List Task) (slots : List Slot) → IsPartOwn t self.old o asked slots →
             IsPartOwn t self.new o asked (slice_set slots n (Heard (StoredAs (stored_as stored)))) }
@@ -219,17 +225,39 @@ impl PartOwn {
     pub fn into_stored(self, alloc: Global) -> Result<StoredPart, OwnBack>
         requires { ShowsOwn self PartStep.End }
         ensures valid { IfOk result (λ stored. IfSome stored.pointer (λ bp. IsTrue (valid bp))) }
+        ensures kept { IfOk result (λ stored. IsKept stored.pointer stored.heads) }
+        ensures exact { IfOk result (λ stored. stored_as stored ≡ stored_by self.part) }
         ensures back { IfErr result (λ e. e.own ≡ self) }
         ensures ended { IfOk result (λ stored. (t : Terms) (o : WrittenPart) (asked : List Task) (slots : List Slot) → IsPartOwn t self o asked slots →
             AllHeard slots × (left_behind_slots slots (part_plan t o) ≡ Ends (StoredAs (stored_as stored)))) }
     {
-        // Its clause says that the pointer is valid.
-        let _told = self.part.pointer();
+        // The clauses say that the pointer is valid, and fits its types.
+        let told = self.part.pointer();
+        fits_types(&told);
         match self.part.into_stored(alloc) {
             Ok(stored) => Ok(stored),
             Err(PartBack { part }) => Err(OwnBack {
                 own: PartOwn { part },
             }),
         }
+    }
+}
+
+/// How many steps a path has.
+fn steps_of(path: &Path) -> u32
+    ensures many { result ≡ length path.now }
+    ensures most { result ≤ 8 }
+{
+    path.len
+}
+
+/// What the types of a pointer's fields say of it.
+fn fits_types(pointer: &Option<Bp>)
+    ensures { IfSome pointer.now FitsTypes }
+{
+    if let Some(bp) = pointer {
+        let _birth = bp.birth;
+        // Word by word, since the proof knows the range of a number and not of an array's items.
+        let [_first, _second, _third, _fourth] = bp.words;
     }
 }

@@ -1,6 +1,6 @@
 // The own write of a part that is written: of its body or its header, by operations on leaves.
 
-ghost use Rattle.std.specs.Prelude.{◌≡◌, ◌∷◌, ℕ, IfOk, IfSome, List as Seq, None, OnErr, OnOk, Some, [], false, slice_get, true};
+ghost use Rattle.std.specs.Prelude.{◌≡◌, ◌∷◌, ℕ, IfOk, IfSome, List as Seq, None, Ok, OnErr, OnOk, Some, [], false, slice_get, true};
 ghost use Rattle.zio_types.specs.declared.place.Top.{Top as SeenTop};
 ghost use Rattle.zio_types.specs.declared.request.ChildKind.TheVariants.{Vdev};
 ghost use Rattle.zio_types.specs.declared.request.Phase.TheVariants.{Done};
@@ -13,10 +13,10 @@ ghost use Rattle.zio_frames.specs.Seats.{IsSeated};
 ghost use Rattle.zio_parts.specs.PartWrites.{is_due, is_ready};
 ghost use Rattle.zio_stages.specs.LeafWorks.{IsDue};
 ghost use Rattle.zio_stages.specs.NodeChildren.{first_owing};
-ghost use Rattle.zio_stages.specs.NodeIos.{IsAwaitedAt, IsWriteDue, StartsBy};
+ghost use Rattle.zio_stages.specs.NodeIos.{IsAwaitedAt, IsWriteDue, StartsBy, with_one};
 ghost use Rattle.zio_stages.specs.OwnParts.{DoesThen};
 ghost use Rattle.zio_stages.specs.PartOwns.{ShowsOwn, WrittenPart};
-ghost use Rattle.zio_stages.specs.PartWorks.{Front, IsFront, IsIssued, IsNoLessFar, IsPartAt, IsPartOver};
+ghost use Rattle.zio_stages.specs.PartWorks.{Front, IsFront, IsIssued, IsMoreDue, IsNoLessFar, IsPartAt, IsPartOver, asked_by, is_second};
 ghost use Rattle.zio_stages.specs.declared.family.Layer.TheVariants.{Within};
 
 use crate::family::{Family, Layer};
@@ -49,6 +49,9 @@ impl PartWork {
         ensures due { IfOk result (λ leaf. IfSome leaf IsDue) }
         ensures far { IsNoLessFar self.old.own.part self.new.own.part }
         ensures issued { OnOk result (is_ready self.old.own.part ≡ true → IsIssued self.new.own.part) }
+        ensures count { IfOk result (λ leaf. asked_by self.new.io ≡ with_one leaf (asked_by self.old.io)) }
+        ensures pass { is_second self.new.io ≡ is_second self.old.io }
+        ensures none { result ≡ Ok None → IsMoreDue tops.now self.new.io → ⊥ }
     {
         self.begin(alloc)?;
         self.next_leaf(family, name, alloc, tops)
@@ -62,6 +65,8 @@ impl PartWork {
         ensures far { IsNoLessFar self.old.own.part self.new.own.part }
         ensures issued { OnOk result ((tops : Seq SeenTop) (family : Seq Child) → IsPartOver tops self.old family →
             is_ready self.old.own.part ≡ true → IsIssued self.new.own.part) }
+        ensures count { asked_by self.new.io ≡ asked_by self.old.io }
+        ensures pass { is_second self.new.io ≡ is_second self.old.io }
     {
         if self.io.is_some() {
             return Ok(());
@@ -81,6 +86,8 @@ impl PartWork {
         ensures over { (tops : Seq SeenTop) (family : Seq Child) → IsPartOver tops self.old family → IsPartOver tops self.new family }
         ensures far { IsNoLessFar self.old.own.part self.new.own.part }
         ensures issued { OnOk result (IsIssued self.new.own.part) }
+        ensures count { asked_by self.new.io ≡ 0 }
+        ensures pass { is_second self.new.io ≡ false }
     {
         let places = Vec::from_slice(alloc, self.own.places())?;
         self.own.hand_out_body();
@@ -96,6 +103,8 @@ impl PartWork {
         ensures over { (tops : Seq SeenTop) (family : Seq Child) → IsPartOver tops self.old family → IsPartOver tops self.new family }
         ensures far { IsNoLessFar self.old.own.part self.new.own.part }
         ensures issued { OnOk result (IsIssued self.new.own.part) }
+        ensures count { asked_by self.new.io ≡ 0 }
+        ensures pass { is_second self.new.io ≡ false }
     {
         let places = Vec::from_slice(alloc, self.own.places())?;
         let room = Vec::with_capacity(alloc, 512)?;
@@ -122,6 +131,9 @@ impl PartWork {
         ensures over { IsPartOver tops.now self.new family.new }
         ensures due { IfOk result (λ leaf. IfSome leaf IsDue) }
         ensures own { self.new.own ≡ self.old.own }
+        ensures count { IfOk result (λ leaf. asked_by self.new.io ≡ with_one leaf (asked_by self.old.io)) }
+        ensures pass { is_second self.new.io ≡ is_second self.old.io }
+        ensures none { result ≡ Ok None → IsMoreDue tops.now self.new.io → ⊥ }
     {
         if family.len() == u32::MAX {
             return Err(NoMemory);
@@ -149,6 +161,7 @@ impl PartWork {
         ensures waits { result ≡ IoNext.Wait → (t : Terms) (f : Front) (o : WrittenPart) (st : Stack) → t.setting.tops ≡ tops.now → IsSeated st →
             IsPartAt t self.now family.now f o st → first_owing (Vdev ∷ []) Done st.children ≡ Some Vdev }
         ensures due { result ≡ IoNext.On → IfSome self.now.io (IsWriteDue tops.now) }
+        ensures more { result ≡ IoNext.More → IsMoreDue tops.now self.now.io }
     {
         match &self.io {
             Some(io) => write_next(io, tops),
@@ -167,6 +180,8 @@ impl PartWork {
         ensures written { is_due self.old.own.part.own ≡ false → is_due self.new.own.part.own ≡ false }
         ensures placing { self.new.own.part.placing ≡ self.old.own.part.placing }
         ensures far { IsNoLessFar self.old.own.part self.new.own.part }
+        ensures count { result ≡ true → asked_by self.new.io ≡ asked_by self.old.io }
+        ensures again { result ≡ true → (is_second self.old.io ≡ false) × (is_second self.new.io ≡ true) }
     {
         let Some(mut io) = self.io.take() else {
             return false;
@@ -190,6 +205,8 @@ impl PartWork {
         ensures over { (tops : Seq SeenTop) → IsPartOver tops self.old family.old → IsPartOver tops self.new family.new }
         ensures own { self.new.own ≡ self.old.own }
         ensures out { (tops : Seq SeenTop) → IfSome self.old.io (IsWriteDue tops) → ⊥ }
+        ensures count { asked_by self.new.io ≡ asked_by self.old.io }
+        ensures pass { is_second self.new.io ≡ is_second self.old.io }
     {
         let Some(mut io) = self.io.take() else {
             unreachable!()

@@ -14,10 +14,11 @@ ghost use Rattle.zio_frames.specs.Frames.{Child, Stack};
 ghost use Rattle.zio_frames.specs.Moves.{heard_early, heard_of};
 ghost use Rattle.zio_frames.specs.Seats.{IsSeated};
 ghost use Rattle.zio_frames.specs.Slots.{AllHeard, Slot, left_behind_slots, told_in};
+ghost use Rattle.zio_parts.specs.Parts.{stored_by};
 ghost use Rattle.zio_parts.specs.PartWrites.{is_due, is_ready, step_of};
 ghost use Rattle.zio_stages.specs.OwnParts.{DoesThen, IsOwed};
-ghost use Rattle.zio_stages.specs.PartNodes.{ComesTo, HandsMemberOf, IsAllocatedOver, IsPartNodeOver};
-ghost use Rattle.zio_stages.specs.PartOwns.{IsPartOwn, ShowsOwn, WrittenPart, part_plan, stored_as};
+ghost use Rattle.zio_stages.specs.PartNodes.{ComesTo, HandsMemberOf, IsAllocatedOver, IsMemberUnder, IsPartNodeOver, member_in, with_member};
+ghost use Rattle.zio_stages.specs.PartOwns.{IsKept, IsPartOwn, ShowsOwn, WrittenPart, part_plan, stored_as};
 ghost use Rattle.zio_stages.specs.PartWorks.{Front, HaveUnits, IsFront, IsMemberAt, IsNoLessFar, IsPartAt, IsPartOver, IsPlaced, IsToldAs, IsWritten, asks_left};
 ghost use Rattle.zio_stages.specs.SpaceCalls.{SpaceCall};
 ghost use Rattle.zio_stages.specs.Tops.{AreTops};
@@ -62,6 +63,10 @@ impl PartWork {
         ensures io { self.new.io ≡ self.old.io }
         ensures child { IfOk result IsAllocatedOver }
         ensures placed { result ≡ Ok Allocated.Placed → IsPlaced (step_of self.new.own.part) }
+        ensures members { IfOk result (λ allocated.
+            self.new.own.part.members ≡ with_member (member_in allocated) self.old.own.part.members) }
+        ensures next { IfOk result (λ allocated. IfSome (member_in allocated) (IsMemberUnder self.new.own.part)) }
+        ensures path { self.new.own.part.path ≡ self.old.own.part.path }
     {
         let Ok(()) = self.place(alloc, services) else {
             return Err(NoMemory);
@@ -92,6 +97,9 @@ impl PartWork {
         ensures child { IfOk result (λ child. IfSome child (λ node. (tops : Seq SeenTop) → IsPartNodeOver tops node)) }
         ensures io { self.new.io ≡ self.old.io }
         ensures placed { result ≡ Ok None → asks_left self.old.own.part.placing ≡ 0 → IsPlaced (step_of self.new.own.part) }
+        ensures members { IfOk result (λ child. self.new.own.part.members ≡ with_member child self.old.own.part.members) }
+        ensures next { IfOk result (λ child. IfSome child (IsMemberUnder self.new.own.part)) }
+        ensures path { self.new.own.part.path ≡ self.old.own.part.path }
         ensures self_err { OnErr result (self.new ≡ self.old) }
         ensures family_err { OnErr result (family.new ≡ family.old) }
     {
@@ -143,6 +151,8 @@ impl PartWork {
     pub(crate) fn into_stored(self, alloc: Global) -> Result<StoredPart, WorkBack>
         requires end { ShowsOwn self.own PartStep.End }
         ensures valid { IfOk result (λ stored. IfSome stored.pointer (λ bp. IsTrue (valid bp))) }
+        ensures kept { IfOk result (λ stored. IsKept stored.pointer stored.heads) }
+        ensures exact { IfOk result (λ stored. stored_as stored ≡ stored_by self.own.part) }
         ensures ended { IfOk result (λ stored. (t : Terms) (o : WrittenPart) (asked : Seq Task) (slots : Seq Slot) → IsPartOwn t self.own o asked slots →
             AllHeard slots × (left_behind_slots slots (part_plan t o) ≡ Ends (StoredAs (stored_as stored)))) }
         ensures back { IfErr result (λ e. e.work ≡ self) }
@@ -202,6 +212,7 @@ impl PartWork {
     )
         requires member { (told : Option (Option Bp)) × IsMemberAt self.old family.old front child told × IsToldAs stored.pointer told ×
             (told ≡ None → IfSome stored.pointer (λ bp. IsTrue (valid bp))) }
+        requires kept { IsKept stored.pointer stored.heads }
         ensures heard { (t : Terms) (f : Front) (o : WrittenPart) (st : Stack) (c : Child) → length f.slots ≡ front →
             IsPartAt t self.old family.old f o st → slice_get st.children child ≡ Some c →
             IsPartAt t self.new family.new f o (heard_of st child c (StoredAs (stored_as stored))) }

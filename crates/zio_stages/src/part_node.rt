@@ -1,6 +1,6 @@
 //! A gang's member that is written, as a node.
 
-ghost use Rattle.std.specs.Prelude.{◌≡◌, ◌∷◌, ◌*◌, ◌%◌, ◌+◌, ◌-◌, ◌^◌, ◌<◌, ◌≤◌, IfErr, IfOk, IfSome, IsTrue, List as Seq, None, OnErr, Ok, Option, Some, [], false, length, slice_get};
+ghost use Rattle.std.specs.Prelude.{◌≡◌, ◌∷◌, ◌*◌, ◌%◌, ◌+◌, ◌-◌, ◌^◌, ◌<◌, ◌≤◌, IfErr, IfOk, IfSome, IsPermutation, IsTrue, List as Seq, None, OnErr, OnOk, Ok, Option, Some, [], false, length, slice_get, true};
 ghost use Rattle.zio_types.specs.declared.place.Top.{Top as SeenTop};
 ghost use Rattle.zio_types.specs.declared.request.ChildKind.TheVariants.{Vdev};
 ghost use Rattle.zio_types.specs.declared.request.Phase.TheVariants.{Done, Ready};
@@ -11,17 +11,18 @@ ghost use Rattle.zio_trace.specs.Tasks.{Got, StoredAs};
 ghost use Rattle.zio_frames.specs.Frames.{Child, Stack, fresh_stack};
 ghost use Rattle.zio_frames.specs.Moves.{IsEnded, WillHave, heard_early, heard_of};
 ghost use Rattle.zio_frames.specs.Seats.{IsSeated};
-ghost use Rattle.zio_parts.specs.Parts.{writing_by};
-ghost use Rattle.zio_parts.specs.PartWrites.{is_due, step_of};
+ghost use Rattle.zio_parts.specs.Parts.{fresh_part, writing_by};
+ghost use Rattle.zio_parts.specs.PartWrites.{is_due, is_ready, step_of};
 ghost use Rattle.zio_parts.specs.declared.parts.OwnWrite.TheVariants.{Due};
 ghost use Rattle.zio_parts.specs.declared.parts.Placing.TheVariants.{Body};
 ghost use Rattle.zio_stages.specs.LeafWorks.{IsDue};
 ghost use Rattle.zio_stages.specs.NodeChildren.{first_owing};
-ghost use Rattle.zio_stages.specs.NodeIos.{IsWriteDue, StartsBy};
+ghost use Rattle.zio_stages.specs.NodeIos.{IsWriteDue, StartsBy, with_one};
+ghost use Rattle.zio_stages.specs.Outcomes.{held_by, stored_in};
 ghost use Rattle.zio_stages.specs.OwnParts.{DoesThen, IsOwed};
-ghost use Rattle.zio_stages.specs.PartNodes.{ComesTo, HearsEarlyAt, HearsValueAt, IsAllocatedOver, IsAnsweredBy, IsPartNode, IsPartNodeOver, IsStoredBy};
-ghost use Rattle.zio_stages.specs.PartOwns.{IsPartOwn, ShowsOwn, WrittenPart, part_task, stored_as};
-ghost use Rattle.zio_stages.specs.PartWorks.{HaveUnits, IsPlaced, IsWritten};
+ghost use Rattle.zio_stages.specs.PartNodes.{ComesTo, HearsEarlyAt, HearsValueAt, IsAllocatedOver, IsAnsweredBy, IsMemberUnder, IsPartNode, IsPartNodeOver, IsStoredBy, member_in, with_member};
+ghost use Rattle.zio_stages.specs.PartOwns.{IsKept, IsPartOwn, ShowsOwn, WrittenPart, part_task, stored_as};
+ghost use Rattle.zio_stages.specs.PartWorks.{HaveUnits, IsIssued, IsMoreDue, IsNoLessFar, IsPlaced, IsWritten, asked_by, is_second};
 ghost use Rattle.zio_stages.specs.SpaceCalls.{SpaceCall};
 ghost use Rattle.zio_stages.specs.Tops.{AreTops};
 
@@ -70,6 +71,8 @@ impl PartNode {
         requires due { own.part.own ≡ Due }
         ensures fresh { (t : Terms) (o : WrittenPart) → IsPartOwn t own o [] [] → o.bytes ≡ bytes → IsPartNode t result (fresh_stack (part_task o)) }
         ensures over { (tops : Seq SeenTop) → IsPartNodeOver tops result }
+        ensures own { result.work.own ≡ own }
+        ensures none { result.work.io ≡ None }
     {
         PartNode {
             work: PartWork {
@@ -104,6 +107,8 @@ impl PartNode {
         ensures fresh { (t : Terms) (o : WrittenPart) → writing_by t.setting write ≡ writing_of t o.attempt o.pending o.sum_kind o.copies →
             o.path ≡ path → o.bytes ≡ bytes → length path + o.levels ≡ 8 → IsPartNode t result (fresh_stack (part_task o)) }
         ensures over { (tops : Seq SeenTop) → IsPartNodeOver tops result }
+        ensures begun { result.work.own.part ≡ fresh_part write path bytes }
+        ensures none { result.work.io ≡ None }
     {
         let own = PartOwn::new(write, path, bytes.as_slice());
         PartNode::of(alloc, own, bytes, prio, name)
@@ -125,6 +130,11 @@ impl PartNode {
         ensures tops { S.tops services.new ≡ S.tops services.old }
         ensures child { IfOk result IsAllocatedOver }
         ensures placed { result ≡ Ok Allocated.Placed → IsPlaced (step_of self.new.work.own.part) }
+        ensures members { IfOk result (λ allocated.
+            self.new.work.own.part.members ≡ with_member (member_in allocated) self.old.work.own.part.members) }
+        ensures next { IfOk result (λ allocated. IfSome (member_in allocated) (IsMemberUnder self.new.work.own.part)) }
+        ensures path { self.new.work.own.part.path ≡ self.old.work.own.part.path }
+        ensures io { self.new.work.io ≡ self.old.work.io }
     {
         self.work
             .dva_allocate(alloc, services, &mut self.family, &self.name, 0)
@@ -139,6 +149,7 @@ impl PartNode {
         ensures tell { (pointer : Option Bp) → result ≡ ReadyStep.Tell pointer → (t : Terms) (st : Stack) → IsPartNode t self.now st →
             WillHave t st.outer pointer }
         ensures valid { (pointer : Option Bp) → result ≡ ReadyStep.Tell pointer → IfSome pointer (λ bp. IsTrue (valid bp)) }
+        ensures ready { (pointer : Option Bp) → result ≡ ReadyStep.Tell pointer → is_ready self.now.work.own.part ≡ true }
     {
         self.work.ready()
     }
@@ -156,6 +167,11 @@ impl PartNode {
         ensures err { OnErr result ((t : Terms) (st : Stack) → IsPartNode t self.old st → DoesThen t st [] (IsPartNode t self.new)) }
         ensures over { IsPartNodeOver tops.now self.new }
         ensures due { IfOk result (λ leaf. IfSome leaf IsDue) }
+        ensures far { IsNoLessFar self.old.work.own.part self.new.work.own.part }
+        ensures issued { OnOk result (is_ready self.old.work.own.part ≡ true → IsIssued self.new.work.own.part) }
+        ensures count { IfOk result (λ leaf. asked_by self.new.work.io ≡ with_one leaf (asked_by self.old.work.io)) }
+        ensures pass { is_second self.new.work.io ≡ is_second self.old.work.io }
+        ensures none { result ≡ Ok None → IsMoreDue tops.now self.new.work.io → ⊥ }
     {
         self.work
             .vdev_io_start(&mut self.family, &self.name, alloc, tops)
@@ -167,6 +183,7 @@ impl PartNode {
         ensures waits { result ≡ IoNext.Wait → (t : Terms) (st : Stack) → t.setting.tops ≡ tops.now → IsSeated st → IsPartNode t self.now st →
             first_owing (Vdev ∷ []) Done st.children ≡ Some Vdev }
         ensures due { result ≡ IoNext.On → IfSome self.now.work.io (IsWriteDue tops.now) }
+        ensures more { result ≡ IoNext.More → IsMoreDue tops.now self.now.work.io }
     {
         self.work.vdev_io_done(&self.family, tops)
     }
@@ -180,6 +197,9 @@ impl PartNode {
         ensures none { result ≡ false → self.new.work.io ≡ None }
         ensures written { is_due self.old.work.own.part.own ≡ false → is_due self.new.work.own.part.own ≡ false }
         ensures placing { self.new.work.own.part.placing ≡ self.old.work.own.part.placing }
+        ensures far { IsNoLessFar self.old.work.own.part self.new.work.own.part }
+        ensures count { result ≡ true → asked_by self.new.work.io ≡ asked_by self.old.work.io }
+        ensures again { result ≡ true → (is_second self.old.work.io ≡ false) × (is_second self.new.work.io ≡ true) }
     {
         self.work.vdev_io_assess(&self.family, tops)
     }
@@ -199,6 +219,9 @@ impl PartNode {
         requires end { ShowsOwn self.work.own PartStep.End }
         requires none { self.work.io ≡ None }
         ensures ended { IfOk result (λ stored. (t : Terms) (st : Stack) → IsPartNode t self st → IsEnded t st (StoredAs (stored_as stored))) }
+        ensures kept { IfOk result (λ stored. IsKept stored.pointer stored.heads) }
+        ensures places { IfOk result (λ stored. (t : Terms) (st : Stack) → IsPartNode t self st →
+            IsPermutation (held_by st) (stored_in (StoredAs (stored_as stored)))) }
         ensures back { IfErr result (λ e. e.node ≡ self) }
     {
         let PartNode { work, family, name } = self;
@@ -220,6 +243,7 @@ impl PartNode {
         ensures io { self.new.work.io ≡ self.old.work.io }
         ensures own { self.new.work.own.part.own ≡ self.old.work.own.part.own }
         ensures placing { self.new.work.own.part.placing ≡ self.old.work.own.part.placing }
+        ensures far { IsNoLessFar self.old.work.own.part self.new.work.own.part }
     {
         self.work.arrive_ready(&mut self.family, 0, child, pointer);
     }
@@ -233,6 +257,7 @@ impl PartNode {
         ensures io { self.new.work.io ≡ self.old.work.io }
         ensures own { self.new.work.own.part.own ≡ self.old.work.own.part.own }
         ensures placing { self.new.work.own.part.placing ≡ self.old.work.own.part.placing }
+        ensures far { IsNoLessFar self.old.work.own.part self.new.work.own.part }
     {
         self.work.arrive_stored(&mut self.family, 0, child, stored);
     }
@@ -244,6 +269,10 @@ impl PartNode {
         ensures heard { (t : Terms) (st : Stack) (c : Child) (a : Answer) → error_of a ≡ error → slice_get st.children child ≡ Some c →
             IsPartNode t self.old st → IsPartNode t self.new (heard_of st child c (Got a)) }
         ensures over { (tops : Seq SeenTop) → IsPartNodeOver tops self.old → IsPartNodeOver tops self.new }
+        ensures own { self.new.work.own ≡ self.old.work.own }
+        ensures out { (tops : Seq SeenTop) → IfSome self.old.work.io (IsWriteDue tops) → ⊥ }
+        ensures count { asked_by self.new.work.io ≡ asked_by self.old.work.io }
+        ensures pass { is_second self.new.work.io ≡ is_second self.old.work.io }
     {
         self.work.arrive_leaf(&mut self.family, child, error);
     }

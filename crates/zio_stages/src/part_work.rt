@@ -106,6 +106,8 @@ impl PartWork {
         ensures tops { S.tops services.new ≡ S.tops services.old }
         ensures io { self.new.io ≡ self.old.io }
         ensures left { OnOk result (asks_left self.new.own.part.placing ≤ asks_left self.old.own.part.placing - 1) }
+        ensures members { self.new.own.part.members ≡ self.old.own.part.members }
+        ensures path { self.new.own.part.path ≡ self.old.own.part.path }
     {
         let Some(ask) = self.ask() else {
             return Ok(());

@@ -52,6 +52,7 @@ impl ReadIo {
         ensures check { result.check ≡ check }
         ensures class { result.prio ≡ prio }
         ensures count { result.asked ≡ 0 }
+        ensures pass { result.read.retry ≡ false }
     {
         ReadIo {
             read: CopyRead::new(tops, places, len, repair),

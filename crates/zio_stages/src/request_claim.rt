@@ -3,7 +3,7 @@
 //! Once its children were all handed out, the node walks over the headers of the block that its bytes point to. Where no header
 //! failed the block's places are taken, all together or none.
 
-ghost use Rattle.std.specs.Prelude.{◌≡◌, ◌<◌, [], IfOk, List as Seq, None, OnErr, OnOk, Option, Some, length, slice_get};
+ghost use Rattle.std.specs.Prelude.{◌≡◌, ◌<◌, [], IfOk, IfSome, Ok, List as Seq, None, OnErr, OnOk, Option, Some, length, slice_get};
 ghost use Rattle.zio_types.specs.declared.place.Top.{Top as SeenTop};
 ghost use Rattle.zio_types.specs.declared.request.Phase.TheVariants.{Done};
 ghost use Rattle.zio_blkptr.specs.declared.pointer.Bp.{Bp};
@@ -16,10 +16,11 @@ ghost use Rattle.zio_frames.specs.Seats.{IsSeated};
 ghost use Rattle.zio_stages.specs.OwnClaims.{LiesWalked, own_claimed};
 ghost use Rattle.zio_stages.specs.OwnFounds.{own_got};
 ghost use Rattle.zio_stages.specs.OwnParts.{DoesThen, IsOwed};
-ghost use Rattle.zio_stages.specs.RequestClaims.{HasEndedClaim, IsClaimWith, IsClaimWork, IsClaimingWith, IsPastDue, IsPastWalk};
+ghost use Rattle.zio_stages.specs.RequestClaims.{HasEndedClaim, IsClaimWith, IsClaimWork, IsClaimingWith, IsDueOrClaim, IsPastDue, IsPastWalk, IsWalkDue};
 ghost use Rattle.zio_stages.specs.RequestNodes.{IsOwnOver, IsRequestNode};
 ghost use Rattle.zio_stages.specs.RequestOwns.{IsOwnSeat};
-ghost use Rattle.zio_stages.specs.RequestReads.{HandsWalk, HasFound, IsWalkOver};
+ghost use Rattle.zio_stages.specs.RequestReads.{HandsWalk, HasFound, IsWalkOver, IsWholeWalk};
+ghost use Rattle.zio_stages.specs.RequestStages.{with_own};
 ghost use Rattle.zio_stages.specs.SpaceCalls.{SpaceCall};
 ghost use Rattle.zio_stages.specs.Tops.{AreTops};
 ghost use Rattle.zio_stages.specs.declared.own_claim.ClaimStep.{ClaimStep as SeenStep};
@@ -50,6 +51,7 @@ impl RequestNode {
         ensures over { IsOwnOver tops.now self.old.own self.old.family → IsOwnOver tops.now self.new.own self.new.family }
         ensures claims { OnOk result (IsClaimingWith (λ w. Unit {0}) self.new.own) }
         ensures waiting { self.new.waiting ≡ self.old.waiting }
+        ensures rest { self.new ≡ with_own self.old self.new.own self.new.family }
         ensures err { OnErr result (self.new ≡ self.old) }
     {
         let Work::Claim { pointer, .. } = &self.waiting.request.work else {
@@ -59,6 +61,25 @@ impl RequestNode {
         own.claim_init(alloc, tops)?;
         self.own = Own::Claim(own);
         Ok(())
+    }
+
+    /// Begins the claim, if it hasn't begun. Where memory is refused all is as before.
+    pub fn begin_claim(&mut self, alloc: Global, tops: &[Top]) -> Result<(), NoMemory>
+        requires begun { IsDueOrClaim self.old.own }
+        requires handed { self.old.kids.kids.handed ≡ length self.old.kids.kids.kids }
+        requires claim { IsClaimWork self.old.waiting.request.work }
+        ensures does { OnOk result ((t : Terms) (st : Stack) → t.setting.tops ≡ tops.now → IsRequestNode t self.old st →
+            DoesThen t st [] (IsRequestNode t self.new)) }
+        ensures over { IsOwnOver tops.now self.old.own self.old.family → IsOwnOver tops.now self.new.own self.new.family }
+        ensures claims { OnOk result (IsClaimWith (λ w. Unit {0}) self.new.own) }
+        ensures still { IsClaimWith (λ w. Unit {0}) self.old.own → self.new ≡ self.old }
+        ensures rest { self.new ≡ with_own self.old self.new.own self.new.family }
+        ensures err { OnErr result (self.new ≡ self.old) }
+    {
+        match &self.own {
+            Own::Due => self.claim_init(alloc, tops),
+            _ => Ok(()),
+        }
     }
 
     /// Hands the walk over a gang's headers to a child, if it is due. Where memory is refused all is as before.
@@ -74,8 +95,15 @@ impl RequestNode {
         ensures hands { IfOk result (λ child. (t : Terms) (st : Stack) → t.setting.tops ≡ tops.now → IsRequestNode t self.old st →
             HandsWalk t child (IsRequestNode t self.new) st) }
         ensures child_over { IfOk result (IsWalkOver tops.now) }
+        ensures whole { IfOk result (λ child. IfSome child IsWholeWalk) }
+        ensures goes { IfOk result (λ child. IfSome child (λ child. IsClaimingWith (λ w. IsWalkDue w.block w.step) self.old.own ×
+            IsClaimingWith (λ w. IsPastDue w.block w.step) self.new.own)) }
+        ensures still { result ≡ Ok None → self.new ≡ self.old }
+        ensures begun { result ≡ Ok None → IsClaimWith (λ w. IsPastDue w.block w.step) self.new.own }
+        ensures claims { IsClaimWith (λ w. Unit {0}) self.new.own }
         ensures over { IsOwnOver tops.now self.new.own self.new.family }
         ensures waiting { self.new.waiting ≡ self.old.waiting }
+        ensures rest { self.new ≡ with_own self.old self.new.own self.new.family }
         ensures err { OnErr result (self.new ≡ self.old) }
     {
         let Own::Claim(own) = &mut self.own else {
@@ -125,6 +153,7 @@ impl RequestNode {
         ensures ended { OnOk result (IsClaimWith (λ w. IsPastWalk w.block w.step) self.old.own → IsClaimWith HasEndedClaim self.new.own) }
         ensures over { IsOwnOver (S.tops services.old) self.new.own self.new.family }
         ensures waiting { self.new.waiting ≡ self.old.waiting }
+        ensures rest { self.new ≡ with_own self.old self.new.own self.new.family }
         ensures tops { S.tops services.new ≡ S.tops services.old }
     {
         let Own::Claim(own) = &mut self.own else {
@@ -140,6 +169,7 @@ impl RequestNode {
         ensures found { HasFound self.new.own }
         ensures over { (tops : Seq SeenTop) → IsOwnOver tops self.old.own self.old.family → IsOwnOver tops self.new.own self.new.family }
         ensures kids { self.new.kids ≡ self.old.kids }
+        ensures rest { self.new ≡ with_own self.old self.new.own self.new.family }
     {
         match replace(&mut self.own, Own::Over) {
             Own::Claim(own) => {
@@ -161,8 +191,10 @@ impl RequestNode {
         requires lies { IsClaimingWith (λ w. (tree : SeenTree) × (w.block ≡ Some tree) × LiesWalked tops.now tree.bp walked) self.old.own }
         ensures heard { (t : Terms) (st : Stack) (c : Child) → slice_get st.children child ≡ Some c → IsRequestNode t self.old st →
             IsRequestNode t self.new (heard_of st child c (WalkedBy walked)) }
+        ensures past { IsClaimingWith (λ w. IsPastWalk w.block w.step) self.new.own }
         ensures over { IsOwnOver tops.now self.new.own self.new.family }
         ensures waiting { self.new.waiting ≡ self.old.waiting }
+        ensures rest { self.new ≡ with_own self.old self.new.own self.new.family }
     {
         match &mut self.own {
             Own::Claim(own) => own.arrive_walked(&mut self.family, tops, child, walked),
@@ -180,6 +212,7 @@ impl RequestNode {
         ensures over { (tops : Seq SeenTop) → IsOwnOver tops self.old.own self.old.family → IsOwnOver tops self.new.own self.new.family }
         ensures own { self.new.own ≡ self.old.own }
         ensures waiting { self.new.waiting ≡ self.old.waiting }
+        ensures rest { self.new ≡ with_own self.old self.new.own self.new.family }
     {
         match &self.own {
             Own::Claim(own) => own.arrive_ready(&mut self.family, child),

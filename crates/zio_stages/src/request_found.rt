@@ -1,6 +1,6 @@
 //! A read, a free or a claim in an attempt: it tells that it has no pointer, and closes once its own work came to something.
 
-ghost use Rattle.std.specs.Prelude.{◌≡◌, IfErr, IfOk, Option, Some, length, true};
+ghost use Rattle.std.specs.Prelude.{◌≡◌, IfErr, IfOk, IfSome, None, Option, Some, length, true};
 ghost use Rattle.std.specs.List.{list_all};
 ghost use Rattle.zio_types.specs.declared.request.Phase.TheVariants.{Ready};
 ghost use Rattle.zio_blkptr.specs.declared.pointer.Bp.{Bp};
@@ -9,10 +9,11 @@ ghost use Rattle.zio_children.specs.RequestKids.{is_ended};
 ghost use Rattle.zio_frames.specs.Frames.{Stack};
 ghost use Rattle.zio_frames.specs.Moves.{WillHave};
 ghost use Rattle.zio_frames.specs.Seats.{IsSeated};
+ghost use Rattle.zio_stages.specs.KidLists.{LeavesList};
 ghost use Rattle.zio_stages.specs.OwnParts.{IsNoWrite, IsOwed};
 ghost use Rattle.zio_stages.specs.RequestNodes.{Closes, IsRequestNode};
 ghost use Rattle.zio_stages.specs.RequestReads.{HasFound, found_of};
-ghost use Rattle.zio_stages.specs.RequestStoreds.{own_in};
+ghost use Rattle.zio_stages.specs.RequestStoreds.{is_well, keeps_block, own_in};
 
 use crate::request_node::{CloseBack, Closed, NodeBack, Own, ReadyStep, RequestNode};
 use std::alloc::Global;
@@ -28,6 +29,7 @@ impl RequestNode {
             IsOwed kind Ready st }
         ensures tell { (pointer : Option Bp) → result ≡ ReadyStep.Tell pointer → (t : Terms) (st : Stack) → IsRequestNode t self.now st →
             WillHave t st.outer pointer }
+        ensures none { (pointer : Option Bp) → result ≡ ReadyStep.Tell pointer → pointer ≡ None }
     {
         if self.kids.kids().all_told() {
             ReadyStep::Tell(None)
@@ -41,7 +43,9 @@ impl RequestNode {
         requires found { HasFound self.own }
         requires ended { list_all is_ended self.kids.kids.kids ≡ true }
         ensures closes { IfOk result (λ closed. (t : Terms) (st : Stack) (h : IsRequestNode t self st) → Closes t self st h closed) }
+        ensures decides { IfOk result (λ closed. IfSome (found_of self.own) (λ own. keeps_block closed ≡ is_well self own.error)) }
         ensures own { IfOk result (λ closed. Some (own_in closed) ≡ found_of self.own) }
+        ensures list { IfOk result (LeavesList self) }
         ensures back { IfErr result (λ e. e.node ≡ self) }
     {
         let mut node = self;

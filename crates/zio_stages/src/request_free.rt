@@ -3,7 +3,8 @@
 //! Once its children were all handed out, the node walks over the headers of the block that it names. Where no header failed the
 //! block's places go back one by one.
 
-ghost use Rattle.std.specs.Prelude.{◌≡◌, ◌<◌, [], IfOk, List as Seq, None, Ok, OnErr, OnOk, Option, Some, false, length, slice_get, true};
+ghost use Rattle.std.specs.Prelude.{◌≡◌, ◌<◌, [], IfOk, IfSome, List as Seq, None, Ok, OnErr, OnOk, Option, Some, false, length, slice_get, true};
+ghost use Rattle.zio_types.specs.declared.error.Errno.{Errno as SeenErrno};
 ghost use Rattle.zio_types.specs.declared.place.Top.{Top as SeenTop};
 ghost use Rattle.zio_types.specs.declared.request.ChildKind.TheVariants.{Gang};
 ghost use Rattle.zio_types.specs.declared.request.Phase.TheVariants.{Done};
@@ -16,10 +17,12 @@ ghost use Rattle.zio_frames.specs.Moves.{heard_early, heard_of};
 ghost use Rattle.zio_frames.specs.Seats.{IsSeated};
 ghost use Rattle.zio_stages.specs.OwnFounds.{own_got};
 ghost use Rattle.zio_stages.specs.OwnParts.{DoesThen, IsOwed};
-ghost use Rattle.zio_stages.specs.RequestFrees.{HasBegun, HasFreed, HasWalked, IsFreeWith, IsFreeWork, IsFreeing, IsFreeingWith, freed_by};
+ghost use Rattle.zio_stages.specs.RequestFrees.{FreesOn, HasBegun, HasFreed, HasKeptFailed, HasWalked, IsFreeWith, IsFreeWork, IsFreeing, IsFreeingWith, freed_by};
+ghost use Rattle.zio_stages.specs.RequestKinds.{is_gang_tree};
 ghost use Rattle.zio_stages.specs.RequestNodes.{IsOwnOver, IsRequestNode};
 ghost use Rattle.zio_stages.specs.RequestOwns.{IsOwnSeat, IsWaitingOver};
-ghost use Rattle.zio_stages.specs.RequestReads.{HandsWalk, HasFound, IsWalkOver};
+ghost use Rattle.zio_stages.specs.RequestReads.{HandsWalk, HasFound, IsWalkOver, IsWholeWalk, found_error};
+ghost use Rattle.zio_stages.specs.RequestStages.{with_own};
 ghost use Rattle.zio_stages.specs.SpaceCalls.{GivesBack};
 ghost use Rattle.zio_stages.specs.StoredBlocks.{block_places};
 ghost use Rattle.zio_stages.specs.declared.own_free.FreeWalk.{FreeWalk as SeenWalk};
@@ -46,7 +49,10 @@ impl RequestNode {
         ensures over { (tops : Seq SeenTop) → IsOwnOver tops self.old.own self.old.family → IsOwnOver tops self.new.own self.new.family }
         ensures frees { OnOk result (IsFreeWith (IsFreeing self.new.waiting.block) self.new.own) }
         ensures none { OnOk result (freed_by self.new.own ≡ 0) }
+        ensures missing { OnOk result (HasFound self.new.own → found_error self.new.own ≡ Some Errno.Noent) }
+        ensures plain { OnOk result (is_gang_tree self.old.waiting.block ≡ false → IsFreeWith HasWalked self.new.own) }
         ensures waiting { self.new.waiting ≡ self.old.waiting }
+        ensures rest { self.new ≡ with_own self.old self.new.own self.new.family }
         ensures err { OnErr result (self.new ≡ self.old) }
     {
         let Some(tree) = &self.waiting.block else {
@@ -69,8 +75,14 @@ impl RequestNode {
         ensures child_over { IfOk result (λ child. (tops : Seq SeenTop) → IsWaitingOver tops self.old.waiting → IsWalkOver tops child) }
         ensures over { (tops : Seq SeenTop) → IsOwnOver tops self.old.own self.old.family → IsOwnOver tops self.new.own self.new.family }
         ensures frees { IsFreeWith (IsFreeing self.new.waiting.block) self.new.own }
+        ensures whole { IfOk result (λ child. IfSome child IsWholeWalk) }
+        ensures goes { IfOk result (λ child. IfSome child (λ child. IsFreeingWith (λ w. w.walk ≡ SeenWalk.Due) self.old.own ×
+            IsFreeingWith (λ w. w.walk ≡ SeenWalk.Out) self.new.own)) }
+        ensures still { result ≡ Ok None → self.new ≡ self.old }
+        ensures begun { result ≡ Ok None → is_gang_tree self.old.waiting.block ≡ true → IsFreeWith (λ w. HasBegun w.walk) self.new.own }
         ensures given { freed_by self.new.own ≡ freed_by self.old.own }
         ensures waiting { self.new.waiting ≡ self.old.waiting }
+        ensures rest { self.new ≡ with_own self.old self.new.own self.new.family }
         ensures err { OnErr result (self.new ≡ self.old) }
     {
         let Own::Free(own) = &mut self.own else {
@@ -120,10 +132,13 @@ impl RequestNode {
         requires on { (tops : Seq SeenTop) × IsWaitingOver tops self.old.waiting }
         ensures gives { GivesBack S.made (block_places self.old.waiting.block) (freed_by self.old.own) (freed_by self.new.own) services.old services.new }
         ensures freed { OnOk result (IsFreeWith (HasFreed self.new.waiting.block) self.new.own) }
+        ensures goes { FreesOn self.old.own self.new.own }
+        ensures failed { IsFreeWith HasKeptFailed self.old.own → IsFreeWith HasKeptFailed self.new.own }
         ensures frees { IsFreeWith (IsFreeing self.new.waiting.block) self.new.own }
         ensures same { (t : Terms) (st : Stack) → IsRequestNode t self.old st → IsRequestNode t self.new st }
         ensures over { (tops : Seq SeenTop) → IsOwnOver tops self.old.own self.old.family → IsOwnOver tops self.new.own self.new.family }
         ensures waiting { self.new.waiting ≡ self.old.waiting }
+        ensures rest { self.new ≡ with_own self.old self.new.own self.new.family }
         ensures tops { S.tops services.new ≡ S.tops services.old }
     {
         let Own::Free(own) = &mut self.own else {
@@ -138,8 +153,11 @@ impl RequestNode {
         requires { IsFreeWith (HasFreed self.old.waiting.block) self.old.own }
         ensures ends { (t : Terms) (st : Stack) → IsRequestNode t self.old st → IsRequestNode t self.new st }
         ensures found { HasFound self.new.own }
+        ensures error { IsFreeWith (λ w. (e : Option SeenErrno) → w.walk ≡ SeenWalk.Ended e → found_error self.new.own ≡ e) self.old.own }
+        ensures still { HasFound self.old.own → self.new ≡ self.old }
         ensures over { (tops : Seq SeenTop) → IsOwnOver tops self.old.own self.old.family → IsOwnOver tops self.new.own self.new.family }
         ensures kids { self.new.kids ≡ self.old.kids }
+        ensures rest { self.new ≡ with_own self.old self.new.own self.new.family }
     {
         let Own::Free(own) = &self.own else {
             return;
@@ -154,9 +172,11 @@ impl RequestNode {
         requires out { IsFreeingWith (λ w. w.walk ≡ SeenWalk.Out) self.old.own }
         ensures heard { (t : Terms) (st : Stack) (c : Child) → slice_get st.children child ≡ Some c → IsRequestNode t self.old st →
             IsRequestNode t self.new (heard_of st child c (WalkedBy walked)) }
+        ensures walked { IsFreeingWith HasWalked self.new.own }
         ensures over { (tops : Seq SeenTop) → IsOwnOver tops self.old.own self.old.family → IsOwnOver tops self.new.own self.new.family }
         ensures given { freed_by self.new.own ≡ freed_by self.old.own }
         ensures waiting { self.new.waiting ≡ self.old.waiting }
+        ensures rest { self.new ≡ with_own self.old self.new.own self.new.family }
     {
         match &mut self.own {
             Own::Free(own) => own.arrive_walked(&mut self.family, child, walked),
@@ -173,6 +193,7 @@ impl RequestNode {
         ensures over { (tops : Seq SeenTop) → IsOwnOver tops self.old.own self.old.family → IsOwnOver tops self.new.own self.new.family }
         ensures own { self.new.own ≡ self.old.own }
         ensures waiting { self.new.waiting ≡ self.old.waiting }
+        ensures rest { self.new ≡ with_own self.old self.new.own self.new.family }
     {
         match &self.own {
             Own::Free(own) => own.arrive_ready(&mut self.family, child),

@@ -11,6 +11,7 @@ ghost use Rattle.zio_frames.specs.Frames.{Child, Stack};
 ghost use Rattle.zio_frames.specs.Moves.{heard_early, heard_of};
 ghost use Rattle.zio_stages.specs.PartNodes.{IsAnsweredBy, IsStoredBy};
 ghost use Rattle.zio_stages.specs.PartOwns.{stored_as};
+ghost use Rattle.zio_stages.specs.RequestCounts.{AsksTheSame, IsMoreDueWrite};
 ghost use Rattle.zio_stages.specs.RequestHearings.{HearsEarlyOf, HearsValueOf};
 ghost use Rattle.zio_stages.specs.RequestNodes.{IsOwnOver, IsRequestNode};
 ghost use Rattle.zio_stages.specs.RequestStages.{with_own};
@@ -33,6 +34,9 @@ impl RequestNode {
         ensures over { (tops : Seq SeenTop) → IsOwnOver tops self.old.own self.old.family →
             IsOwnOver tops self.new.own self.new.family }
         ensures keeps { KeepsStages self.old.own self.new.own }
+        ensures write { IsWrite self.new.own }
+        ensures same { AsksTheSame self.old.own self.new.own }
+        ensures more { (tops : Seq SeenTop) → IsMoreDueWrite tops self.new.own → IsMoreDueWrite tops self.old.own }
         ensures rest { self.new ≡ with_own self.old self.new.own self.new.family }
     {
         let Own::Write(OwnWrite { work, front }) = &mut self.own else {
@@ -50,6 +54,9 @@ impl RequestNode {
         ensures over { (tops : Seq SeenTop) → IsOwnOver tops self.old.own self.old.family →
             IsOwnOver tops self.new.own self.new.family }
         ensures keeps { KeepsStages self.old.own self.new.own }
+        ensures write { IsWrite self.new.own }
+        ensures same { AsksTheSame self.old.own self.new.own }
+        ensures more { (tops : Seq SeenTop) → IsMoreDueWrite tops self.new.own → IsMoreDueWrite tops self.old.own }
         ensures rest { self.new ≡ with_own self.old self.new.own self.new.family }
     {
         let Own::Write(OwnWrite { work, front }) = &mut self.own else {
@@ -69,6 +76,8 @@ impl RequestNode {
         ensures over { (tops : Seq SeenTop) → IsOwnOver tops self.old.own self.old.family →
             IsOwnOver tops self.new.own self.new.family }
         ensures keeps { KeepsStages self.old.own self.new.own }
+        ensures write { IsWrite self.new.own }
+        ensures same { AsksTheSame self.old.own self.new.own }
         ensures rest { self.new ≡ with_own self.old self.new.own self.new.family }
     {
         let Own::Write(OwnWrite { work, .. }) = &mut self.own else {

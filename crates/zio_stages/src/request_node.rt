@@ -18,10 +18,11 @@ ghost use Rattle.zio_content.specs.Pointers.{IsNoneOrValid};
 ghost use Rattle.zio_frames.specs.Frames.{Child, Stack, fresh_stack};
 ghost use Rattle.zio_frames.specs.Moves.{WillHave, heard_early, heard_of};
 ghost use Rattle.zio_frames.specs.Seats.{IsSeated, asked_at};
-ghost use Rattle.zio_stages.specs.KidLists.{HoldTheSame, HoldsBut, IsListOf, LeavesList};
+ghost use Rattle.zio_stages.specs.KidLists.{AreBegun, HoldTheSame, HoldsBut, IsListOf, LeavesList};
 ghost use Rattle.zio_stages.specs.KidPointers.{HasValid, HaveValidPointers};
 ghost use Rattle.zio_stages.specs.KidTrees.{IsLeft};
 ghost use Rattle.zio_stages.specs.NodeChildren.{is_owing};
+ghost use Rattle.zio_stages.specs.OwnParts.{IsOwed};
 ghost use Rattle.zio_stages.specs.RequestNodes.{Closes, HandsKid, IsKidAt, IsOwnOver, IsRequestNode, IsSeatOf, OwnEnds, own_got};
 ghost use Rattle.zio_stages.specs.RequestStages.{HasToldIn, with_kids};
 ghost use Rattle.zio_stages.specs.RequestStoreds.{is_well, keeps_block, own_in};
@@ -164,6 +165,8 @@ impl RequestNode {
         ensures over { IfOk result (λ node. (tops : Seq SeenTop) → IsOwnOver tops node.own node.family) }
         ensures valid { IfOk result (λ node. AllByRecursion HasValid node.waiting.kept → HaveValidPointers node.kids.kids) }
         ensures list { IfOk result (λ node. IsListOf whole node.waiting node.kids) }
+        ensures begun { IfOk result (λ node. AreBegun node.waiting node.kids) }
+        ensures kept { IfOk result (λ node. node.kids.kids.kept ≡ node.waiting.kept) }
         ensures back { IfErr result (λ e. e.whole ≡ whole) }
     {
         match RequestKids::begin(alloc, whole) {
@@ -187,6 +190,8 @@ impl RequestNode {
             (t : Terms) (st : Stack) → IsSeated st → IsRequestNode t self.old st → (number ≡ length st.children) × HandsKid t self.new whole st }
         ensures handed { (number : ℕ) (whole : Seq SeenWaiting) → result ≡ Ok (Start.Child number whole) →
             self.new.kids.kids ≡ kid_handed self.old.kids.kids }
+        ensures less { (number : ℕ) (whole : Seq SeenWaiting) → result ≡ Ok (Start.Child number whole) →
+            self.old.kids.kids.handed < length self.old.kids.kids.kids }
         ensures holds { (number : ℕ) (whole : Seq SeenWaiting) → result ≡ Ok (Start.Child number whole) →
             HoldsBut whole self.old.kids self.new.kids }
         ensures over { (tops : Seq SeenTop) → IsOwnOver tops self.old.own self.old.family →
@@ -211,7 +216,7 @@ impl RequestNode {
     pub fn ready_null(&self) -> ReadyStep
         requires { self.now.waiting.request.work ≡ Work.Null }
         ensures wait { (kind : ChildKind) → result ≡ ReadyStep.Wait kind → (t : Terms) (st : Stack) → IsSeated st → IsRequestNode t self.now st →
-            self.now.kids.kids.handed ≡ length self.now.kids.kids.kids → list_any (is_owing kind Ready) st.children ≡ true }
+            self.now.kids.kids.handed ≡ length self.now.kids.kids.kids → IsOwed kind Ready st }
         ensures tell { (pointer : Option Bp) → result ≡ ReadyStep.Tell pointer → (t : Terms) (st : Stack) → IsRequestNode t self.now st →
             WillHave t st.outer pointer }
     {
@@ -240,6 +245,7 @@ impl RequestNode {
         requires null { self.waiting.request.work ≡ Work.Null }
         requires ended { list_all is_ended self.kids.kids.kids ≡ true }
         ensures closes { IfOk result (λ closed. (t : Terms) (st : Stack) (h : IsRequestNode t self st) → Closes t self st h closed) }
+        ensures none { IfOk result (λ closed. (own_in closed).tree ≡ None) }
         ensures list { IfOk result (LeavesList self) }
         ensures back { IfErr result (λ e. e.node ≡ self) }
     {
@@ -406,7 +412,7 @@ impl RequestNode {
 }
 
 /// The label of an attempt of the request with this number.
-fn label_of(number: ReqNo, attempt: u32) -> u64
+pub(crate) fn label_of(number: ReqNo, attempt: u32) -> u64
     requires { attempt < 4 }
 {
     let path = Path {

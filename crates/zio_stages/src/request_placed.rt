@@ -2,7 +2,7 @@
 //!
 //! Its block is written as a gang's member is, but behind the operations for the request's children.
 
-ghost use Rattle.std.specs.Prelude.{◌≡◌, ◌∷◌, ◌<◌, IfOk, IfSome, List as Seq, Ok, OnErr, OnOk, Some, [], false};
+ghost use Rattle.std.specs.Prelude.{◌≡◌, ◌∷◌, ◌<◌, IfOk, IfSome, List as Seq, None, Ok, OnErr, OnOk, Some, [], false, true};
 ghost use Rattle.zio_types.specs.declared.request.ChildKind.TheVariants.{Vdev};
 ghost use Rattle.zio_types.specs.declared.request.Phase.TheVariants.{Done};
 ghost use Rattle.zio_gang.specs.Attempts.{Terms};
@@ -10,10 +10,11 @@ ghost use Rattle.zio_frames.specs.Frames.{Stack};
 ghost use Rattle.zio_frames.specs.Seats.{IsSeated};
 ghost use Rattle.zio_stages.specs.LeafWorks.{IsDue};
 ghost use Rattle.zio_stages.specs.NodeChildren.{first_owing};
-ghost use Rattle.zio_stages.specs.NodeIos.{StartsBy};
+ghost use Rattle.zio_stages.specs.NodeIos.{StartsBy, with_one};
 ghost use Rattle.zio_stages.specs.OwnParts.{DoesThen};
 ghost use Rattle.zio_stages.specs.PartNodes.{ComesTo, IsAllocatedOver};
 ghost use Rattle.zio_stages.specs.PartWorks.{HaveUnits};
+ghost use Rattle.zio_stages.specs.RequestCounts.{HasNextMember, IsMoreDueWrite, asked_of, second_of};
 ghost use Rattle.zio_stages.specs.RequestNodes.{IsOwnOver, IsRequestNode};
 ghost use Rattle.zio_stages.specs.RequestStages.{with_own};
 ghost use Rattle.zio_stages.specs.RequestWrites.{
@@ -26,6 +27,7 @@ ghost use Rattle.zio_stages.specs.RequestWrites.{
 };
 ghost use Rattle.zio_stages.specs.SpaceCalls.{SpaceCall};
 ghost use Rattle.zio_stages.specs.Tops.{AreTops};
+ghost use Rattle.zio_stages.specs.declared.part_node.PartNode.{PartNode as SeenPart};
 
 use crate::leaf::LeafWork;
 use crate::named::Named;
@@ -70,6 +72,7 @@ impl RequestNode {
         ensures tops { S.tops services.new ≡ S.tops services.old }
         ensures child { IfOk result IsAllocatedOver }
         ensures begun { IsBegunWrite self.new.own }
+        ensures next { (child : SeenPart) → result ≡ Ok (Allocated.Member child) → HasNextMember child self.old.own self.new.own }
         ensures placed { result ≡ Ok Allocated.Placed → IsPlacedWrite self.new.own }
         ensures rest { self.new ≡ with_own self.old self.new.own self.new.family }
     {
@@ -97,6 +100,9 @@ impl RequestNode {
         ensures over { IsOwnOver tops.now self.new.own self.new.family }
         ensures due { IfOk result (λ leaf. IfSome leaf IsDue) }
         ensures ready { IsReadyWrite self.new.own }
+        ensures count { IfOk result (λ leaf. asked_of self.new.own ≡ with_one leaf (asked_of self.old.own)) }
+        ensures pass { second_of self.new.own ≡ second_of self.old.own }
+        ensures none { result ≡ Ok None → IsMoreDueWrite tops.now self.new.own → ⊥ }
         ensures issued { OnOk result (IsIssuedWrite self.new.own) }
         ensures rest { self.new ≡ with_own self.old self.new.own self.new.family }
     {
@@ -114,6 +120,7 @@ impl RequestNode {
         ensures waits { result ≡ IoNext.Wait → (t : Terms) (st : Stack) → t.setting.tops ≡ tops.now → IsSeated st →
             IsRequestNode t self.now st → first_owing (Vdev ∷ []) Done st.children ≡ Some Vdev }
         ensures due { result ≡ IoNext.On → IsDueWrite tops.now self.now.own }
+        ensures more { result ≡ IoNext.More → IsMoreDueWrite tops.now self.now.own }
     {
         let Own::Write(own) = &self.own else {
             unreachable!()
@@ -132,6 +139,8 @@ impl RequestNode {
         ensures ready { IsReadyWrite self.old.own → IsReadyWrite self.new.own }
         ensures issued { IsIssuedWrite self.new.own }
         ensures written { result ≡ false → IsWrittenWrite self.new.own }
+        ensures count { result ≡ true → asked_of self.new.own ≡ asked_of self.old.own }
+        ensures again { result ≡ true → (second_of self.old.own ≡ false) × (second_of self.new.own ≡ true) }
         ensures rest { self.new ≡ with_own self.old self.new.own self.old.family }
     {
         let Own::Write(OwnWrite { work, .. }) = &mut self.own else {

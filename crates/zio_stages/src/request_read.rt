@@ -22,6 +22,7 @@ ghost use Rattle.zio_stages.specs.NodeIos.{IsAwaitedAt, StartsBy};
 ghost use Rattle.zio_stages.specs.OwnFounds.{own_got};
 ghost use Rattle.zio_stages.specs.OwnParts.{DoesThen, IsOwed};
 ghost use Rattle.zio_stages.specs.OwnReads.{IsBodyOn};
+ghost use Rattle.zio_stages.specs.RequestKinds.{is_gang_tree};
 ghost use Rattle.zio_stages.specs.RequestNodes.{IsOwnOver, IsRequestNode};
 ghost use Rattle.zio_stages.specs.RequestOwns.{IsOwnSeat, IsWaitingOver};
 ghost use Rattle.zio_stages.specs.RequestReads.{
@@ -38,7 +39,27 @@ ghost use Rattle.zio_stages.specs.RequestReads.{
   IsReadingWith,
   IsWalkAlone,
   IsWalkOver,
+  IsWholeWalk,
+  IssuesBody,
+  ReadsOn,
 };
+ghost use Rattle.zio_stages.specs.ReadCounts.{
+  AsksMore,
+  AssessesBody,
+  CountsTheSame,
+  HandsOutWalk,
+  HasHandedAll,
+  HasOneBody,
+  HasWalkBegun,
+  IsMoreToRead,
+  IsNoneDue,
+  IsOneDue,
+  IsUnread,
+  StartsBody,
+};
+ghost use Rattle.zio_stages.specs.RequestStages.{with_own};
+ghost use Rattle.zio_stages.specs.declared.copies_node.CopiesNode.{CopiesNode as SeenCopies};
+ghost use Rattle.zio_parts.specs.TreeReads.{bodies_or, walk_heard};
 ghost use Rattle.zio_stages.specs.declared.family.Layer.TheVariants.{Within};
 
 use crate::at_once::root;
@@ -52,6 +73,7 @@ use crate::named::Named;
 use crate::node_io::IoNext;
 use crate::own_read::OwnRead;
 use crate::pointer_places::places_of;
+use crate::request_kind::is_gang_tree;
 use crate::request_node::{DoneStep, Own, OwnFound, RequestNode};
 use std::alloc::Global;
 use std::mem::replace;
@@ -94,7 +116,10 @@ impl RequestNode {
         ensures over { (tops : Seq SeenTop) → IsWaitingOver tops self.old.waiting → IsOwnOver tops self.old.own self.old.family →
             IsOwnOver tops self.new.own self.new.family }
         ensures reads { OnOk result (IsReadWith IsAlone self.new.own) }
+        ensures plain { OnOk result (is_gang_tree self.old.waiting.block ≡ false → IsReadWith HasOneBody self.new.own) }
+        ensures gang { OnOk result (is_gang_tree self.old.waiting.block ≡ true → IsReadWith IsUnread self.new.own) }
         ensures waiting { self.new.waiting ≡ self.old.waiting }
+        ensures rest { self.new ≡ with_own self.old self.new.own self.new.family }
         ensures err { OnErr result (self.new ≡ self.old) }
     {
         let Some(tree) = &self.waiting.block else {
@@ -115,9 +140,15 @@ impl RequestNode {
         requires on { (tops : Seq SeenTop) × IsWaitingOver tops self.old.waiting }
         ensures hands { IfOk result (λ child. (t : Terms) (st : Stack) → IsRequestNode t self.old st → HandsWalk t child (IsRequestNode t self.new) st) }
         ensures child_over { IfOk result (λ child. (tops : Seq SeenTop) → IsWaitingOver tops self.old.waiting → IsWalkOver tops child) }
+        ensures whole { IfOk result (λ child. IfSome child IsWholeWalk) }
+        ensures goes { IfOk result (λ child. IfSome child (λ child. ReadsOn HandsOutWalk self.old.own self.new.own)) }
+        ensures reading { IfOk result (λ child. IfSome child (λ child. IsReadingWith (λ w. Unit {0}) self.old.own)) }
+        ensures none { result ≡ Ok None → self.new ≡ self.old }
+        ensures begun { result ≡ Ok None → is_gang_tree self.old.waiting.block ≡ true → IsReadWith HasWalkBegun self.new.own }
         ensures over { (tops : Seq SeenTop) → IsOwnOver tops self.old.own self.old.family → IsOwnOver tops self.new.own self.new.family }
         ensures reads { IsReadWith IsAlone self.new.own }
         ensures waiting { self.new.waiting ≡ self.old.waiting }
+        ensures rest { self.new ≡ with_own self.old self.new.own self.new.family }
         ensures err { OnErr result (self.new ≡ self.old) }
     {
         let Own::Read(own) = &mut self.own else {
@@ -145,12 +176,19 @@ impl RequestNode {
         ensures hands { IfOk result (λ stage. (t : Terms) (st : Stack) → t.setting.tops ≡ tops.now → IsRequestNode t self.old st →
             HandsBody t stage (IsRequestNode t self.new) st) }
         ensures child_over { IfOk result (IsBodyStageOver tops.now) }
+        ensures goes { IfOk result (λ stage. IssuesBody stage self.old.own self.new.own) }
+        ensures reading { (child : SeenCopies) → result ≡ Ok (BodyStage.Body child) → IsReadingWith (λ w. Unit {0}) self.old.own }
+        ensures wait { result ≡ Ok BodyStage.Wait → self.new ≡ self.old }
+        ensures on { result ≡ Ok BodyStage.On → self.new ≡ self.old }
+        ensures ended { result ≡ Ok BodyStage.On → is_gang_tree self.old.waiting.block ≡ true →
+            IsReadWith (λ w. HasWalkBegun w → HasHandedAll w) self.new.own }
         ensures over { IsOwnOver tops.now self.new.own self.new.family }
         ensures reads { IsReadWith IsAlone self.new.own }
         ensures waiting { self.new.waiting ≡ self.old.waiting }
+        ensures rest { self.new ≡ with_own self.old self.new.own self.new.family }
         ensures err { OnErr result (self.new ≡ self.old) }
     {
-        let gang = self.is_gang();
+        let gang = is_gang_tree(&self.waiting.block);
         let Own::Read(own) = &mut self.own else {
             return Ok(BodyStage::On);
         };
@@ -175,14 +213,6 @@ impl RequestNode {
         }
     }
 
-    /// Whether the block that the request names is a gang.
-    fn is_gang(&self) -> bool {
-        match &self.waiting.block {
-            Some(tree) => tree.bp.gang,
-            None => false,
-        }
-    }
-
     /// The next operation on a leaf of a body that the node reads itself, whose read begins if it is due. None is there where none
     /// is due now. Where memory is refused the body's read may have begun.
     pub fn vdev_io_start_read(
@@ -198,7 +228,11 @@ impl RequestNode {
             DoesThen t st [] (IsRequestNode t self.new)) }
         ensures over { IsOwnOver tops.now self.new.own self.new.family }
         ensures due { IfOk result (λ leaf. IfSome leaf IsDue) }
+        ensures goes { IfOk result (λ leaf. ReadsOn (StartsBody leaf) self.old.own self.new.own) }
+        ensures reading { IfOk result (λ leaf. IfSome leaf (λ leaf. IsReadingWith (λ w. Unit {0}) self.old.own)) }
+        ensures none { result ≡ Ok None → IsReadWith (λ w. Unit {0}) self.old.own → IsReadWith (IsNoneDue tops.now) self.new.own }
         ensures waiting { self.new.waiting ≡ self.old.waiting }
+        ensures rest { self.new ≡ with_own self.old self.new.own self.new.family }
     {
         let prio = prio_of(&self.waiting.request.work);
         let name = name_of(self.waiting.request.number, self.attempt);
@@ -222,6 +256,7 @@ impl RequestNode {
         ensures waits { result ≡ IoNext.Wait → (t : Terms) (st : Stack) → t.setting.tops ≡ tops.now → IsSeated st → IsRequestNode t self.now st →
             IsOwed Vdev Done st }
         ensures due { result ≡ IoNext.On → IsReadWith (IsBodyDue tops.now) self.now.own }
+        ensures more { result ≡ IoNext.More → IsReadingWith (IsOneDue tops.now) self.now.own }
     {
         match &self.own {
             Own::Read(own) => own.vdev_io_done(tops),
@@ -239,7 +274,10 @@ impl RequestNode {
         ensures alone { result ≡ false → IsReadWith IsAlone self.new.own }
         ensures over { IsOwnOver tops.now self.new.own self.new.family }
         ensures reads { IsReadWith (λ w. Unit {0}) self.new.own }
+        ensures goes { ReadsOn (AssessesBody result) self.old.own self.new.own }
+        ensures reading { result ≡ true → IsReadingWith (λ w. Unit {0}) self.old.own }
         ensures waiting { self.new.waiting ≡ self.old.waiting }
+        ensures rest { self.new ≡ with_own self.old self.new.own self.new.family }
     {
         match &mut self.own {
             Own::Read(own) => own.vdev_io_assess(&self.family, tops),
@@ -253,6 +291,7 @@ impl RequestNode {
         requires handed { self.now.kids.kids.handed ≡ length self.now.kids.kids.kids }
         ensures wait { (kind : ChildKind) → result ≡ ReadDone.Wait kind → (t : Terms) (st : Stack) → IsSeated st → IsRequestNode t self.now st →
             IsOwed kind Done st }
+        ensures more { result ≡ ReadDone.More → IsReadingWith IsMoreToRead self.now.own }
         ensures close { result ≡ ReadDone.Close → IsReadWith HasReadEnded self.now.own × (list_all is_ended self.now.kids.kids.kids ≡ true) }
     {
         match &self.own {
@@ -276,6 +315,7 @@ impl RequestNode {
         ensures found { OnOk result (HasFound self.new.own) }
         ensures over { (tops : Seq SeenTop) → IsOwnOver tops self.old.own self.old.family → IsOwnOver tops self.new.own self.new.family }
         ensures kids { self.new.kids ≡ self.old.kids }
+        ensures rest { self.new ≡ with_own self.old self.new.own self.new.family }
         ensures err { OnErr result (self.new ≡ self.old) }
     {
         match replace(&mut self.own, Own::Over) {
@@ -306,8 +346,10 @@ impl RequestNode {
         requires awaited { IsAwaitedAt Within self.old.family child }
         ensures heard { (t : Terms) (st : Stack) (c : Child) (a : Answer) → t.setting.tops ≡ tops.now → found ≡ a →
             slice_get st.children child ≡ Some c → IsRequestNode t self.old st → IsRequestNode t self.new (heard_of st child c (Got a)) }
+        ensures goes { ReadsOn (AsksMore None) self.old.own self.new.own }
         ensures over { IsOwnOver tops.now self.new.own self.new.family }
         ensures waiting { self.new.waiting ≡ self.old.waiting }
+        ensures rest { self.new ≡ with_own self.old self.new.own self.new.family }
     {
         match &mut self.own {
             Own::Read(own) => own.arrive_leaf(&mut self.family, tops, child, found),
@@ -323,9 +365,11 @@ impl RequestNode {
         requires over { IsOwnOver tops.now self.old.own self.old.family }
         ensures heard { (t : Terms) (st : Stack) (c : Child) → slice_get st.children child ≡ Some c → IsRequestNode t self.old st →
             IsRequestNode t self.new (heard_of st child c (WalkedBy walked)) }
+        ensures goes { ReadsOn (λ v w. w.tree.read ≡ walk_heard v.tree.read (bodies_or walked)) self.old.own self.new.own }
         ensures over { IsOwnOver tops.now self.new.own self.new.family }
         ensures reads { IsReadWith IsAlone self.new.own }
         ensures waiting { self.new.waiting ≡ self.old.waiting }
+        ensures rest { self.new ≡ with_own self.old self.new.own self.new.family }
     {
         match &mut self.own {
             Own::Read(own) => own.arrive_walked(&mut self.family, child, walked),
@@ -340,9 +384,11 @@ impl RequestNode {
         requires over { IsOwnOver tops.now self.old.own self.old.family }
         ensures heard { (t : Terms) (st : Stack) (c : Child) (a : Answer) → found ≡ a → slice_get st.children child ≡ Some c →
             IsRequestNode t self.old st → IsRequestNode t self.new (heard_of st child c (Got a)) }
+        ensures goes { ReadsOn CountsTheSame self.old.own self.new.own }
         ensures over { IsOwnOver tops.now self.new.own self.new.family }
         ensures reads { IsReadWith IsAlone self.new.own }
         ensures waiting { self.new.waiting ≡ self.old.waiting }
+        ensures rest { self.new ≡ with_own self.old self.new.own self.new.family }
     {
         match &mut self.own {
             Own::Read(own) => own.arrive_found(&mut self.family, child, n, found),
@@ -359,6 +405,7 @@ impl RequestNode {
         ensures over { (tops : Seq SeenTop) → IsOwnOver tops self.old.own self.old.family → IsOwnOver tops self.new.own self.new.family }
         ensures own { self.new.own ≡ self.old.own }
         ensures waiting { self.new.waiting ≡ self.old.waiting }
+        ensures rest { self.new ≡ with_own self.old self.new.own self.new.family }
     {
         match &self.own {
             Own::Read(own) => own.arrive_ready(&mut self.family, child),

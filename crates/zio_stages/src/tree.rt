@@ -1,12 +1,13 @@
 // The read of a block, as a part of what a request does itself.
 
-ghost use Rattle.std.specs.Prelude.{◌≡◌, ◌+◌, ◌++◌, ◌∷◌, ◌<◌, IfErr, IfOk, List, None, OnErr, OnOk, Some, [], length, slice_get, slice_set};
+ghost use Rattle.std.specs.Prelude.{◌≡◌, ◌-◌, ◌+◌, ◌++◌, ◌∷◌, ◌<◌, IfErr, IfOk, List, None, OnErr, OnOk, Some, [], length, slice_get, slice_set};
 ghost use Rattle.zio_gang.specs.declared.tree.Tree.{Tree};
 ghost use Rattle.zio_trace.specs.Plans.{plan_tree};
 ghost use Rattle.zio_trace.specs.Programs.{Ends};
 ghost use Rattle.zio_trace.specs.Tasks.{Got, Task, Walked as Left, WalkedBy};
 ghost use Rattle.zio_frames.specs.Slots.{AllHeard, Heard, IsOut, Slot, left_behind_slots, told_in};
-ghost use Rattle.zio_parts.specs.TreeReads.{Reading, ShowsRead, with_results};
+ghost use Rattle.zio_parts.specs.TreeReads.{Reading, ShowsRead, bodies_or, fresh_read, walk_heard, with_phase, with_results};
+ghost use Rattle.zio_parts.specs.declared.tree_read.Phase.TheVariants.{Out};
 ghost use Rattle.zio_stages.specs.TreeWorks.{HandsRead, IsTreeWork, WalksRead, bodies_after, body_task, heads_task, slots_with};
 
 use std::alloc::Global;
@@ -25,6 +26,7 @@ impl TreeWork {
     pub fn new(alloc: Global, bp: Bp) -> TreeWork
         ensures fresh { (tree : Tree) → tree.bp ≡ bp → IsTreeWork result tree [] [] }
         ensures walk { ShowsRead result.read TreeStep.Walk }
+        ensures none { result.read ≡ fresh_read bp }
         ensures bodies { result.read.bodies ≡ [] }
     {
         TreeWork {
@@ -45,6 +47,7 @@ impl TreeWork {
     pub fn hand_out_walk(&mut self)
         requires { ShowsRead self.old.read TreeStep.Walk }
         ensures out { (tree : Tree) (asked : List Task) (slots : List Slot) → IsTreeWork self.old tree asked slots → HandsRead self.new tree asked slots (heads_task tree) }
+        ensures read { self.new.read ≡ with_phase self.old.read Out }
         ensures bodies { self.new.read.bodies ≡ self.old.read.bodies }
     {
         self.read.hand_out_walk();
@@ -54,6 +57,7 @@ impl TreeWork {
     pub fn walk_at_once(&mut self, walked: Walked)
         requires { ShowsRead self.old.read TreeStep.Walk }
         ensures walks { (tree : Tree) (asked : List Task) (slots : List Slot) → IsTreeWork self.old tree asked slots → WalksRead self.new tree asked slots walked }
+        ensures read { self.new.read ≡ walk_heard (with_phase self.old.read Out) (bodies_or walked) }
         ensures bodies { self.new.read.bodies ≡ bodies_after self.old.read.bodies walked }
     {
         self.read.hand_out_walk();
@@ -84,6 +88,7 @@ impl TreeWork {
         requires { (left : Left) × (slice_get (slots_with left self.old.read) 0 ≡ Some (IsOut None)) }
         ensures heard { (tree : Tree) (asked : List Task) (slots : List Slot) → IsTreeWork self.old tree asked slots →
             IsTreeWork self.new tree asked (slice_set slots 0 (Heard (WalkedBy walked))) }
+        ensures read { self.new.read ≡ walk_heard self.old.read (bodies_or walked) }
         ensures bodies { self.new.read.bodies ≡ bodies_after self.old.read.bodies walked }
     {
         self.read.hear_walk(walked);
@@ -95,6 +100,7 @@ impl TreeWork {
         requires out { (left : Left) × (slice_get (slots_with left self.old.read) n ≡ Some (IsOut None)) }
         ensures heard { (tree : Tree) (asked : List Task) (slots : List Slot) → IsTreeWork self.old tree asked slots →
             IsTreeWork self.new tree asked (slice_set slots n (Heard (Got found))) }
+        ensures read { self.new.read ≡ with_results self.old.read (slice_set self.old.read.results (n - 1) (Some found)) }
         ensures bodies { self.new.read.bodies ≡ self.old.read.bodies }
     {
         self.read.hear_body((n - 1) as usize, found);

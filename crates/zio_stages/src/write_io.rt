@@ -58,6 +58,7 @@ impl WriteIo {
         ensures over { (tops : List SeenTop) → AreIoPlaces tops places → IsWriteOver tops result }
         ensures class { result.prio ≡ prio }
         ensures count { result.asked ≡ 0 }
+        ensures pass { result.write.retry ≡ false }
     {
         WriteIo {
             write: CopyWrite::new(places),

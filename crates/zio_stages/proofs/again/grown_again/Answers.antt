@@ -1,4 +1,4 @@
-use Rattle.std.proofs.Common.{◌≡◌, ◌+◌, ◌≤◌, ◌<◌, ◌^◌, refl, length, arith, rules}
+use Rattle.std.proofs.Common.{◌≡◌, ◌∙◌, ◌+◌, ◌++◌, ◌∷◌, [], ◌≤◌, ◌<◌, ◌^◌, ap, refl, length, arith, rules}
 use Rattle.zio_stages.specs.declared.waiting.Waiting.{Waiting}
 use Rattle.zio_stages.specs.KidTrees.{trees_left}
 use Rattle.zio_stages.specs.Wholes.{counted, joined}
@@ -69,9 +69,11 @@ returns-clause-list c =
     let w : Waiting = counted r c.loop-left.unfinished c.len.result in
     let all : c.loop-left.all.items ≡ joined trees =
     again_all c.args.again.items c.loop-left.left-iterator c.loop-left.all.items _ c.loop-left.unfinished c.loop-left.invariant
-    c.in-None.ensures.steps.0 in (
-      c.loop-left.unfinished,
+    c.in-None.ensures.steps.0 in
+    let count : c.loop-left.unfinished ≡ length trees =
+    again_count c.args.again.items c.loop-left.left-iterator c.loop-left.all.items _ c.loop-left.unfinished
+    c.loop-left.invariant c.in-None.ensures.steps.0 in (
       c.len.result,
       list_built c.from_vec-2.result c.push_reserved.new.self.items c.loop-left.all.items (joined trees) w c.from_vec-2.ensures
-          c.push_reserved.ensures.items all,
+          c.push_reserved.ensures.items all ∙ ap (λ n. joined trees ++ counted r n c.len.result ∷ []) count,
     )

@@ -7,7 +7,7 @@ use Rattle.zio_stages.specs.KidPointers.{HasValid, HaveValidPointers}
 use Rattle.zio_stages.proofs.KidPointerLemmas.{valid_fresh}
 use Rattle.zio_stages.specs.KidTrees.{trees_left}
 use Rattle.zio_stages.proofs.KidListLemmas.{none_left_of}
-use Rattle.zio_stages.proofs.KidTreeLemmas.{begun_held, begun_kids, due_rise, taken_all, when_ok}
+use Rattle.zio_stages.proofs.KidTreeLemmas.{are_begun, begun_held, begun_kids, due_rise, taken_all, when_ok}
 use Rattle.zio_stages.proofs.attempted.kids_of.Goals as goal
 
 pub due_kids-requires : goal.due_kids-requires
@@ -53,3 +53,13 @@ pub returns-in-Ok-clause-none : goal.returns-in-Ok-clause-none
 returns-in-Ok-clause-none c =
     ap trees_left (c.in-Ok.ensures.again ∙ ap (λ (ds : List (List Waiting)). replicate (length ds) None) c.deref.ensures.value)
     ∙ none_left_of (length c.split.new.due.items)
+
+pub returns-in-Ok-clause-begun : goal.returns-in-Ok-clause-begun
+returns-in-Ok-clause-begun c =
+    let none : c.split.new.rest.items ≡ [] =
+    when_ok c.split.result c.is_ok.result c.is_ok.ensures.value c.if-is_ok.true c.split.ensures.all in
+    let due = c.split.new.due.items in
+    are_begun c.args.root.now c.args.rest.now.items c.split.new.rest.items due c.as_slice.result.now c.in-Ok.kids c.in-Ok.again.items c.requires
+    c.split.ensures.taken none
+    (c.in-Ok.ensures.kids ∙ ap (λ (ds : List (List Waiting)). fresh_kids (roots_in (reverse ds)) c.as_slice.result.now) c.deref.ensures.value)
+    (c.in-Ok.ensures.again ∙ ap (λ (ds : List (List Waiting)). replicate (length ds) None) c.deref.ensures.value)

@@ -1,4 +1,4 @@
-use Rattle.std.proofs.Common.{◌^◌, ◌*◌, ◌-◌, ◌≤◌, ◌++◌, ◌∷◌, [], ◌∙◌, sym, ap, subst, length}
+use Rattle.std.proofs.Common.{◌≡◌, ◌+◌, ◌^◌, ◌*◌, ◌-◌, ◌≤◌, ◌++◌, ◌∷◌, [], ◌∙◌, sym, ap, subst, length, length-append, arith}
 use Rattle.zio_parts.specs.Parts.{PartWriting, fresh_part, member_bytes}
 use Rattle.zio_stages.specs.declared.part.PartOwn.{PartOwn}
 use Rattle.zio_stages.proofs.PartOwnMoves.{member_handed}
@@ -19,3 +19,15 @@ returns-clause-size c = ap (λ (x : PartWriting). x.size) c.member-part.ensures.
 
 pub returns-clause-fresh : goal.returns-clause-fresh
 returns-clause-fresh c = (ap (λ (x : PartWriting). x.placing) c.member-part.ensures.fresh, ap (λ (x : PartWriting). x.own) c.member-part.ensures.fresh)
+
+pub returns-clause-begun : goal.returns-clause-begun
+returns-clause-begun c = ap (λ (x : PartWriting). x.members) c.member-part.ensures.fresh
+
+pub returns-clause-path : goal.returns-clause-path
+returns-clause-path c = ap (λ (x : PartWriting). x.path) c.member-part.ensures.fresh
+
+pub returns-clause-deep : goal.returns-clause-deep
+returns-clause-deep c =
+    let path = c.args.self.now.part.path in
+    let longer : length c.member_path.result ≡ length path + 1 = ap length c.member_path.ensures ∙ length-append path (c.args.n ∷ []) in
+    omega (arith, longer, c.steps_of-steps.ensures.many, c.steps_of-steps.ensures.most)

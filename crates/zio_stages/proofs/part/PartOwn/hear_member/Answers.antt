@@ -21,4 +21,4 @@ returns-clause-heard c = λ t o asked slots h.
     let s = c.args.stored in
     let now : PartOwn = record { part = c.hear_member.new.self } in
     let is : MemberIs old.part s.pointer c.args.n = member_is_out old.part.placing old.part s.pointer c.args.n c.requires.member c.requires.out in
-    member_ended t old now o asked slots c.args.n (c.args.n - 2) s.error s.pointer s.heads h is.behind refl c.hear_member.ensures.heard c.hear_member.ensures.slots
+    member_ended t old now o asked slots c.args.n (c.args.n - 2) s.error s.pointer s.heads h is.behind refl c.hear_member.ensures.heard c.hear_member.ensures.slots c.requires.kept

@@ -8,7 +8,8 @@ use Rattle.zio_parts.specs.declared.parts.PartStep.TheVariants.{Member}
 use Rattle.zio_stages.specs.NodeChildren.{new_child, seat_of}
 use Rattle.zio_stages.specs.PartOwns.{member_of}
 use Rattle.zio_stages.proofs.PartIos.{no_io}
-use Rattle.zio_stages.proofs.PartMembers.{hands_member, member_number, over_more}
+use Rattle.zio_stages.specs.declared.part.PartOwn.{PartOwn}
+use Rattle.zio_stages.proofs.PartMembers.{hands_member, member_number, member_under, over_more}
 use Rattle.zio_stages.proofs.part_work.PartWork.member.Goals as goal
 
 pub returns-clause-hands : goal.returns-clause-hands
@@ -41,3 +42,24 @@ returns-clause-over c = λ tops h.
     let grown : c.add.new.self ≡ family ++ new_child (OfOuter (c.args.front + 2 + n)) Gang ∷ [] = c.in_ok-add.ensures.ok ∙ ap (λ (s : SeatOf). family ++ new_child s Gang ∷ []) (ap seat_of c.in_ok-seat.ensures.seat) in
     let now = c.hand_out_member-own.ensures.exact ∙ ap (λ s. handed_by s x) (sym step) in
     over_more tops w _ family c.add.new.self (c.args.front + 2 + n) h (ap (λ (y : PartWriting). y.placing) now) (ap (λ (y : PartWriting). y.own) now) (ap (λ (y : PartWriting). y.size) now) refl refl grown
+
+pub returns-clause-members : goal.returns-clause-members
+returns-clause-members c =
+    let x = c.args.self.now.own.part in
+    let step : Member c.in-Member.n ≡ step_of x = sym c.in-Member.is ∙ c.next.ensures.shows.is in
+    ap (λ (y : PartWriting). y.members) (c.hand_out_member-own.ensures.exact ∙ ap (λ s. handed_by s x) (sym step))
+
+pub returns-clause-path : goal.returns-clause-path
+returns-clause-path c =
+    let x = c.args.self.now.own.part in
+    let step : Member c.in-Member.n ≡ step_of x = sym c.in-Member.is ∙ c.next.ensures.shows.is in
+    ap (λ (y : PartWriting). y.path) (c.hand_out_member-own.ensures.exact ∙ ap (λ s. handed_by s x) (sym step))
+
+pub returns-clause-next : goal.returns-clause-next
+returns-clause-next c =
+    let x = c.args.self.now.own.part in
+    let n = c.in-Member.n in
+    let step : Member n ≡ step_of x = sym c.in-Member.is ∙ c.next.ensures.shows.is in
+    member_under x c.hand_out_member-own.new.self.part n c.of.result step (returns-clause-members c) (returns-clause-path c)
+    (ap (λ (w : PartOwn). w.part.path) c.of.ensures.own ∙ c.hand_out_member-own.ensures.path) c.hand_out_member-own.ensures.deep
+    (ap (λ (w : PartOwn). w.part.members) c.of.ensures.own ∙ c.hand_out_member-own.ensures.begun) c.of.ensures.none

@@ -1,4 +1,6 @@
-use Rattle.std.proofs.Common.{[], Option, refl, subst, sym}
+use Rattle.std.proofs.Common.{[], Option, ap, length, refl, subst, sym, ◌∙◌}
+use Rattle.zio_stages.specs.RequestCounts.{asked_of, members_of, path_of, second_of}
+use Rattle.zio_stages.specs.declared.part.PartOwn.{PartOwn}
 use Rattle.std.specs.Prelude.{IfSome}
 use Rattle.zio_stages.specs.NodeIos.{IsWriteDue}
 use Rattle.zio_stages.specs.RequestNodes.{IsOwnOver}
@@ -35,3 +37,11 @@ returns-clause-keeps c =
     keeps_write c.args.self.now.own w _ c.in-Write.is (far_work w.work.own c.arrive_leaf.new.self.own c.arrive_leaf.ensures.own)
     (λ none. absurd (c.arrive_leaf.ensures.out [] (subst (λ (io : Option WriteIo). IfSome io (IsWriteDue [])) (sym none) tt)))
     (λ tops due. absurd (c.arrive_leaf.ensures.out tops due))
+
+pub returns-clause-same : goal.returns-clause-same
+returns-clause-same c = record {
+  asked = c.arrive_leaf.ensures.count ∙ ap asked_of (sym c.in-Write.is);
+  second = c.arrive_leaf.ensures.pass ∙ ap second_of (sym c.in-Write.is);
+  many = ap (λ (own : PartOwn). length own.part.members) c.arrive_leaf.ensures.own ∙ ap (λ (own : Own). length (members_of own)) (sym c.in-Write.is);
+  path = ap (λ (own : PartOwn). own.part.path) c.arrive_leaf.ensures.own ∙ ap path_of (sym c.in-Write.is);
+}

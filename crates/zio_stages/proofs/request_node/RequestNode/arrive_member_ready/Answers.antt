@@ -1,4 +1,6 @@
-use Rattle.std.proofs.Common.{refl, subst}
+use Rattle.std.proofs.Common.{ap, length, refl, subst, sym, ◌∙◌}
+use Rattle.zio_stages.specs.PartWorks.{IsMoreDue, asked_by, is_second}
+use Rattle.zio_stages.specs.RequestCounts.{IsMoreDueWrite, asked_of, members_of, path_of, second_of}
 use Rattle.zio_stages.specs.RequestNodes.{IsOwnOver}
 use Rattle.zio_stages.specs.declared.request_node.Own.{Own}
 use Rattle.zio_stages.proofs.RequestMembers.{keeps_same, own_early}
@@ -23,3 +25,15 @@ returns-clause-over c = λ tops over.
 pub returns-clause-keeps : goal.returns-clause-keeps
 returns-clause-keeps c =
     keeps_same c.args.self.now.own c.in-Write.field-0 _ c.in-Write.is c.arrive_ready.ensures.far c.arrive_ready.ensures.io
+
+pub returns-clause-same : goal.returns-clause-same
+returns-clause-same c = record {
+  asked = ap asked_by c.arrive_ready.ensures.io ∙ ap asked_of (sym c.in-Write.is);
+  second = ap is_second c.arrive_ready.ensures.io ∙ ap second_of (sym c.in-Write.is);
+  many = c.arrive_ready.ensures.far.many ∙ ap (λ (own : Own). length (members_of own)) (sym c.in-Write.is);
+  path = c.arrive_ready.ensures.far.path ∙ ap path_of (sym c.in-Write.is);
+}
+
+pub returns-clause-more : goal.returns-clause-more
+returns-clause-more c = λ tops h.
+    subst (IsMoreDueWrite tops) (sym c.in-Write.is) (subst (IsMoreDue tops) c.arrive_ready.ensures.io h)

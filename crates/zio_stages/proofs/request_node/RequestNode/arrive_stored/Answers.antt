@@ -1,4 +1,6 @@
-use Rattle.std.proofs.Common.{refl, subst}
+use Rattle.std.proofs.Common.{ap, length, refl, subst, sym, ◌∙◌}
+use Rattle.zio_stages.specs.PartWorks.{IsMoreDue, asked_by, is_second}
+use Rattle.zio_stages.specs.RequestCounts.{IsMoreDueWrite, asked_of, members_of, path_of, second_of}
 use Rattle.zio_stages.specs.RequestNodes.{IsOwnOver}
 use Rattle.zio_stages.specs.declared.request_node.Own.{Own}
 use Rattle.zio_stages.proofs.RequestMembers.{keeps_same, own_ended}
@@ -8,7 +10,7 @@ use Rattle.zio_stages.proofs.request_node.RequestNode.arrive_stored.Goals as goa
 pub arrive_stored-requires : goal.arrive_stored-requires
 arrive_stored-requires c =
     let m = own_ended c.args.self.now c.in-Write.field-0 c.args.child c.args.stored c.in-Write.is c.requires.hears in
-    record { member = (m.told, m.at, m.told_is, λ none. absurd (m.some none)) }
+    record { member = (m.told, m.at, m.told_is, λ none. absurd (m.some none)); kept = c.requires.hears.heard.2 }
 
 pub returns-clause-heard : goal.returns-clause-heard
 returns-clause-heard c = λ t st d h there.
@@ -25,3 +27,15 @@ returns-clause-over c = λ tops over.
 pub returns-clause-keeps : goal.returns-clause-keeps
 returns-clause-keeps c =
     keeps_same c.args.self.now.own c.in-Write.field-0 _ c.in-Write.is c.arrive_stored.ensures.far c.arrive_stored.ensures.io
+
+pub returns-clause-same : goal.returns-clause-same
+returns-clause-same c = record {
+  asked = ap asked_by c.arrive_stored.ensures.io ∙ ap asked_of (sym c.in-Write.is);
+  second = ap is_second c.arrive_stored.ensures.io ∙ ap second_of (sym c.in-Write.is);
+  many = c.arrive_stored.ensures.far.many ∙ ap (λ (own : Own). length (members_of own)) (sym c.in-Write.is);
+  path = c.arrive_stored.ensures.far.path ∙ ap path_of (sym c.in-Write.is);
+}
+
+pub returns-clause-more : goal.returns-clause-more
+returns-clause-more c = λ tops h.
+    subst (IsMoreDueWrite tops) (sym c.in-Write.is) (subst (IsMoreDue tops) c.arrive_stored.ensures.io h)

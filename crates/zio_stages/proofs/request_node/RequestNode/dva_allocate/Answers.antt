@@ -1,4 +1,7 @@
-use Rattle.std.proofs.Common.{refl, subst, ◌∙◌}
+use Rattle.std.proofs.Common.{◌≡◌, Some, ap, refl, subst, sym, ◌∙◌}
+use Rattle.std.specs.Prelude.{IfOk, IfSome}
+use Rattle.zio_stages.specs.PartNodes.{IsMemberUnder, member_in, with_member}
+use Rattle.zio_stages.specs.RequestCounts.{members_of, path_of}
 use Rattle.zio_stages.specs.RequestNodes.{IsOwnOver}
 use Rattle.zio_stages.specs.RequestWrites.{IsBegunWrite}
 use Rattle.zio_stages.specs.declared.request_node.Own.{Own}
@@ -35,3 +38,14 @@ returns-clause-begun g c = c.dva_allocate.ensures.io ∙ subst IsBegunWrite c.in
 pub returns-clause-placed : goal.returns-clause-placed
 returns-clause-placed g c =
     λ e. (c.dva_allocate.ensures.placed e, c.dva_allocate.ensures.io ∙ subst IsBegunWrite c.in-Write.is c.requires.begun)
+
+pub returns-clause-next : goal.returns-clause-next
+returns-clause-next g c = λ child e.
+    let w = c.in-Write.field-0 in
+    let members = subst (λ r. IfOk r (λ allocated. c.dva_allocate.new.self.own.part.members ≡ with_member (member_in allocated) w.work.own.part.members)) e c.dva_allocate.ensures.members in
+    let under = subst (λ r. IfOk r (λ allocated. IfSome (member_in allocated) (IsMemberUnder c.dva_allocate.new.self.own.part))) e c.dva_allocate.ensures.next in
+    record {
+      members = members ∙ ap (λ (own : Own). with_member (Some child) (members_of own)) (sym c.in-Write.is);
+      path = c.dva_allocate.ensures.path ∙ ap path_of (sym c.in-Write.is);
+      under = under;
+    }

@@ -2,7 +2,7 @@ use Rattle.std.proofs.Common.{sym, subst, ◌∙◌}
 use Rattle.zio_blkptr.specs.Pointers.{pointer_of}
 use Rattle.zio_stages.specs.OwnClaims.{own_claimed}
 use Rattle.zio_stages.specs.RequestClaims.{HasEndedClaim, IsClaimWith}
-use Rattle.zio_stages.proofs.RequestClaimMoves.{claim_found, claim_in}
+use Rattle.zio_stages.proofs.RequestClaimMoves.{claim_found, claim_in, claimed_none}
 use Rattle.zio_stages.proofs.request_node.RequestNode.end_claim.Goals as goal
 
 pub into_claimed-found-requires : goal.into_claimed-found-requires
@@ -14,4 +14,4 @@ returns-in-Claim-clause-ends c = λ t st h.
     let w = c.in-Claim.own in
     let own = claim_in t r st w h (sym c.replace.ensures.value ∙ c.in-Claim.is) in
     claim_found t r st w c.claimed.result (own_claimed c.into_claimed-found.result) h own
-    (c.into_claimed-found.ensures st.children (pointer_of own.bytes) h.kid_asked h.kid_slots st own.is) c.claimed.ensures
+    (c.into_claimed-found.ensures.ends st.children (pointer_of own.bytes) h.kid_asked h.kid_slots st own.is) c.into_claimed-found.ensures.took (claimed_none c.into_claimed-found.result) c.claimed.ensures

@@ -16,7 +16,7 @@ returns-clause-ends c = λ t st h.
     let r = c.args.self.now in
     let w = c.in-Free.own in
     let own = free_in t r st w h c.in-Free.is in
-    free_found t r st w c.failed.result c.error-error.result h own (c.error-error.ensures st.children own.tree h.kid_asked h.kid_slots st own.is) c.failed.ensures
+    free_found t r st w c.failed.result c.error-error.result h own (c.error-error.ensures.ends st.children own.tree h.kid_asked h.kid_slots st own.is) c.failed.ensures
 
 pub returns-clause-over : goal.returns-clause-over
 returns-clause-over c = λ tops over. subst (λ (o : Own). IsOwnOver tops o c.args.self.now.family) c.in-Free.is over

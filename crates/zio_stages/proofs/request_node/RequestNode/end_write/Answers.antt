@@ -1,7 +1,11 @@
 use Rattle.std.proofs.Common.{sym, subst, ◌∙◌}
+use Rattle.std.specs.Prelude.{IsPermutation}
+use Rattle.zio_trace.specs.Tasks.{Stored}
+use Rattle.zio_stages.specs.Outcomes.{places_in, stored_places}
 use Rattle.zio_stages.specs.RequestNodes.{IsOwnOver}
 use Rattle.zio_stages.specs.RequestWrites.{IsEndOf}
 use Rattle.zio_stages.specs.declared.request_node.Own.{Own}
+use Rattle.zio_stages.proofs.PartPlaces.{part_places}
 use Rattle.zio_stages.proofs.RequestWriteLemmas.{stored_at, stored_over, write_in}
 use Rattle.zio_stages.proofs.request_node.RequestNode.end_write.Goals as goal
 
@@ -15,6 +19,8 @@ returns-in-Ok-clause-ends c = λ t st h.
     let end = subst IsEndOf is c.requires in
     let own = write_in t r st _ h is in
     stored_at t r st _ c.of.result _ h own end.1 (c.in-Ok.ensures.ended t own.part h.own_asked h.own_slots own.is.own) c.of.ensures.own
+    (subst (λ (left : Stored). IsPermutation (places_in h.own_asked h.own_slots) (stored_places left)) (sym c.in-Ok.ensures.exact)
+    (part_places t c.in-Write.field-0.work.own own.part h.own_asked h.own_slots end.0 own.is.own))
 
 pub returns-in-Ok-clause-over : goal.returns-in-Ok-clause-over
 returns-in-Ok-clause-over c = λ tops over.

@@ -17,7 +17,7 @@ use Rattle.zio_stages.proofs.request_node.RequestNode.gang_assemble_claim.Goals 
 
 pub gang_assemble-requires : goal.gang_assemble-requires
 gang_assemble-requires c =
-    let d = c.in-Some.ensures in
+    let d = c.in-Some.ensures.due in
     record { due = d.0; some = subst (λ (b : Option Tree). IsSome b) (sym d.1.1) refl; room = c.in_ok-front.ensures.room }
 
 pub claimed-requires-clause-depth : goal.claimed-requires-clause-depth
@@ -26,7 +26,7 @@ claimed-requires-clause-depth c = let e : length c.name_of-name.result.path ≡ 
 pub claimed-requires-clause-valid : goal.claimed-requires-clause-valid
 claimed-requires-clause-valid c =
     let over = subst (λ (o : Own). IsOwnOver c.args.tops.now o c.args.self.now.family) c.in-Claim.is c.requires.over in
-    let d = c.in-Some.ensures in
+    let d = c.in-Some.ensures.due in
     subst (λ (b : Bp). IsTrue (valid b)) d.1.2
     (subst (λ (b : Option Tree). IfSome b (λ tree. IsTrue (valid tree.bp) × LiesFound c.args.tops.now tree c.in-Claim.own.step)) d.1.1 over.1).0
 
@@ -36,7 +36,7 @@ returns-clause-hands c = λ t st tops h.
     let w = c.in-Claim.own in
     let own = claim_in t r st w h c.in-Claim.is in
     let bp = c.in-Some.bp in
-    let d = c.in-Some.ensures in
+    let d = c.in-Some.ensures.due in
     let pointer = pointer_is (pointer_of own.bytes) w.block d.1.0 w.step own.is.asked own.is.slots d.1.1 own.is.claim ∙ ap (λ (b : Bp). Some b) d.1.2 in
     let op : ReadHeads ByClaim 8 c.name_of-name.result.path bp ≡ claim_task bp = λ i. ReadHeads ByClaim 8 (c.name_of-name.ensures i) bp in
     hands_claim t r st w c.gang_assemble.new.self c.gang_assemble.new.family bp (λ o. o ≡ claim_task bp) (λ o. IsHeadsNode t c.claimed.result (fresh_stack o)) h own pointer

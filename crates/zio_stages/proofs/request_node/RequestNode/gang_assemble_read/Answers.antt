@@ -15,6 +15,7 @@ use Rattle.zio_stages.specs.TreeWorks.{heads_task}
 use Rattle.zio_stages.specs.declared.request_node.Own.{Own}
 use Rattle.zio_stages.proofs.RequestOwnMoves.{own_read, read_goes_on, read_in, reads_block}
 use Rattle.zio_stages.proofs.RequestReadMoves.{count_front, hands_own, over_alone, same_block}
+use Rattle.zio_stages.proofs.ReadCountLemmas.{begun_by}
 use Rattle.zio_stages.proofs.request_node.RequestNode.gang_assemble_read.Goals as goal
 
 pub gang_assemble-requires : goal.gang_assemble-requires
@@ -55,3 +56,6 @@ returns-clause-over c = λ tops over.
     let r = c.args.self.now in
     over_alone tops c.in-Read.own c.gang_assemble.new.self r.family c.gang_assemble.new.family (subst (IsReadWith IsAlone) c.in-Read.is c.requires.reads) c.in_ok-gang_assemble.ensures.alone
     (subst (AllByRecursion (IsBodyOn tops)) (sym c.in_ok-gang_assemble.ensures.bodies)) c.in_ok-gang_assemble.ensures.sits (subst (λ (o : Own). IsOwnOver tops o r.family) c.in-Read.is over)
+
+pub returns-in_default-next-clause-begun : goal.returns-in_default-next-clause-begun
+returns-in_default-next-clause-begun c = λ e gang. begun_by c.in-Read.own.tree.read c.next.result c.next.ensures.shows c.in_default-next.not-Walk

@@ -13,6 +13,7 @@ use Rattle.zio_stages.specs.WriteIos.{AreIoPlaces}
 use Rattle.zio_stages.specs.declared.request_node.Own.{Own}
 use Rattle.zio_stages.proofs.RequestOwnMoves.{own_read, read_goes_on, read_in, read_node, reads_block}
 use Rattle.zio_stages.proofs.RequestReadMoves.{count_front, hands_own, over_alone}
+use Rattle.zio_stages.proofs.ReadCountLemmas.{handed_by}
 use Rattle.zio_stages.proofs.request_node.RequestNode.gang_issue_read.Goals as goal
 
 pub places_of-requires : goal.places_of-requires
@@ -61,3 +62,6 @@ returns-in-Wait-clause-hands c = λ t st tops h.
       read_node t r st st w r.family own.tree h (reads_block t r st w h own) refl is,
       λ seated. c.next.ensures.waits c.in-Wait.is (subst (IsReadWith IsAlone) c.in-Read.is c.requires.reads) t r.family own.tree h.kid_asked h.kid_slots st seated is,
     )
+
+pub returns-in-Walk-clause-ended : goal.returns-in-Walk-clause-ended
+returns-in-Walk-clause-ended c = λ e gang begun. handed_by c.in-Read.own.tree.read c.next.result c.next.ensures.shows c.in-Walk.is begun

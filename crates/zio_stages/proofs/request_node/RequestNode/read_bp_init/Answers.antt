@@ -12,6 +12,9 @@ use Rattle.zio_stages.proofs.RequestOwnMoves.{ReadsBlock, read_goes_on, read_wor
 use Rattle.zio_stages.proofs.RequestReadLemmas.{nothing, read_begins, reads_none}
 use Rattle.zio_stages.proofs.RequestWriteLemmas.{idle_at, with_own}
 use Rattle.zio_stages.proofs.BehindLemmas.{does_nothing}
+use Rattle.std.proofs.Common.{true, false}
+use Rattle.zio_stages.specs.RequestKinds.{is_gang_tree}
+use Rattle.zio_stages.proofs.ReadCountLemmas.{none_walked, one_body}
 use Rattle.zio_stages.proofs.request_node.RequestNode.read_bp_init.Goals as goal
 
 pub returns-in_default-clause-does : goal.returns-in_default-clause-does
@@ -43,3 +46,17 @@ returns-clause-over c = λ tops on over.
       subst (λ (o : Option BodyIo). IsOwnOver tops c.read_bp_init.new.self.tree o r.family) (sym c.in_ok-read_bp_init.ensures.alone) none,
       c.in_ok-read_bp_init.ensures.on tops lies.plain (subst (AllByRecursion (IsBodyOn tops)) (sym c.new-own.ensures.bodies) tt),
     )
+
+pub returns-clause-plain : goal.returns-clause-plain
+returns-clause-plain c = λ names.
+    let tree = c.in-Some.tree in
+    let plain : tree.bp.gang ≡ false = subst (λ (o : Option Tree). is_gang_tree o ≡ false) c.in-Some.is names in
+    one_body c.in_ok-read_bp_init.field-0 tree.bp.gang c.new-own.result c.read_bp_init.new.self (λ e. c.in_ok-read_bp_init.ensures.one (ap (λ x. Ok x) e))
+    (λ e. c.in_ok-read_bp_init.ensures.asks (ap (λ x. Ok x) e)) plain c.new-own.ensures.unread
+
+pub returns-clause-gang : goal.returns-clause-gang
+returns-clause-gang c = λ names.
+    let tree = c.in-Some.tree in
+    let is : tree.bp.gang ≡ true = subst (λ (o : Option Tree). is_gang_tree o ≡ true) c.in-Some.is names in
+    none_walked c.in_ok-read_bp_init.field-0 tree.bp.gang c.new-own.result c.read_bp_init.new.self (λ e. c.in_ok-read_bp_init.ensures.one (ap (λ x. Ok x) e))
+    (λ e. c.in_ok-read_bp_init.ensures.gang (ap (λ x. Ok x) e)) is c.new-own.ensures.unread

@@ -1,12 +1,12 @@
 use Rattle.std.proofs.Common.{◌≡◌, ◌∙◌, false, true, Option, None, sym, ap, subst}
-use Rattle.std.specs.List.{list_all, list_any}
+use Rattle.std.specs.List.{list_all}
 use Rattle.zio_types.specs.declared.request.ChildKind.{ChildKind}
 use Rattle.zio_types.specs.declared.request.ChildKind.TheVariants.{Logical}
 use Rattle.zio_types.specs.declared.request.Phase.TheVariants.{Ready}
 use Rattle.zio_blkptr.specs.declared.pointer.Bp.{Bp}
 use Rattle.zio_children.specs.RequestKids.{KidsUnderWay, is_told}
 use Rattle.zio_frames.specs.Moves.{WillHave}
-use Rattle.zio_stages.specs.NodeChildren.{is_owing}
+use Rattle.zio_stages.specs.OwnParts.{IsOwed}
 use Rattle.zio_stages.specs.Waits.{pending_of}
 use Rattle.zio_stages.proofs.EndsWhatever.{null_has_none}
 use Rattle.zio_stages.proofs.NullEnds.{all_heard}
@@ -26,5 +26,5 @@ returns-else-all_told-clause-wait c = λ kind e t st seated h all.
     let is : Logical ≡ kind = cc in
     let none : list_all is_told r.kids.kids.kids ≡ false =
     ap (λ (k : KidsUnderWay). list_all is_told k.kids) (sym c.kids.ensures) ∙ sym c.all_told.ensures ∙ c.if-all_told.false in
-    subst (λ (k : ChildKind). list_any (is_owing k Ready) st.children ≡ true) is
+    subst (λ (k : ChildKind). IsOwed k Ready st) is
     (waits_ready t r st h seated (all_heard t r r.kids.kids (front_by r h.forest h.kid_asked h.kid_slots) r.own st h.own_asked h.own_slots h.own c.requires).0 all none)

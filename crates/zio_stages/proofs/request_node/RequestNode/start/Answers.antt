@@ -48,3 +48,7 @@ pub returns-clause-holds : goal.returns-clause-holds
 returns-clause-holds c = λ number whole e.
     let tree : c.hand_out-whole.result ≡ whole = cc in
     subst (λ (ws : List Waiting). HoldsBut ws c.args.self.now.kids c.hand_out-whole.new.self) tree c.hand_out-whole.ensures.holds
+
+pub returns-clause-less : goal.returns-clause-less
+returns-clause-less c = λ number whole e.
+    subst (λ n. n < length c.args.self.now.kids.kids.kids) c.in-Child.ensures.0 c.in-Child.ensures.1

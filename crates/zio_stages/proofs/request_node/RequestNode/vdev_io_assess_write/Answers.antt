@@ -1,4 +1,5 @@
-use Rattle.std.proofs.Common.{[], refl, subst}
+use Rattle.std.proofs.Common.{[], ap, refl, subst, sym, ◌∙◌}
+use Rattle.zio_stages.specs.RequestCounts.{asked_of, second_of}
 use Rattle.zio_stages.specs.RequestNodes.{IsOwnOver}
 use Rattle.zio_stages.specs.RequestWrites.{IsDueWrite, IsIssuedWrite, IsReadyWrite}
 use Rattle.zio_stages.specs.declared.request_node.Own.{Own}
@@ -36,3 +37,10 @@ returns-clause-written c =
       c.vdev_io_assess.ensures.none no,
       c.vdev_io_assess.ensures.far.issued (subst IsIssuedWrite c.in-Write.is c.requires.issued),
     )
+
+pub returns-clause-count : goal.returns-clause-count
+returns-clause-count c = λ yes. c.vdev_io_assess.ensures.count yes ∙ ap asked_of (sym c.in-Write.is)
+
+pub returns-clause-again : goal.returns-clause-again
+returns-clause-again c = λ yes.
+    let again = c.vdev_io_assess.ensures.again yes in (ap second_of c.in-Write.is ∙ again.0, again.1)

@@ -1,4 +1,5 @@
 use Rattle.std.proofs.Common.{subst, sym}
+use Rattle.zio_stages.specs.RequestCounts.{IsMoreDueWrite}
 use Rattle.zio_stages.specs.RequestNodes.{IsOwnOver}
 use Rattle.zio_stages.specs.RequestWrites.{IsDueWrite}
 use Rattle.zio_stages.specs.declared.request_node.Own.{Own}
@@ -20,3 +21,6 @@ returns-clause-waits c = λ wait t st e seated h.
 
 pub returns-clause-due : goal.returns-clause-due
 returns-clause-due c = λ on. subst (IsDueWrite c.args.tops.now) (sym c.in-Write.is) (c.vdev_io_done.ensures.due on)
+
+pub returns-clause-more : goal.returns-clause-more
+returns-clause-more c = λ on. subst (IsMoreDueWrite c.args.tops.now) (sym c.in-Write.is) (c.vdev_io_done.ensures.more on)

@@ -1,4 +1,6 @@
-use Rattle.std.proofs.Common.{[], refl, subst}
+use Rattle.std.proofs.Common.{[], ap, refl, subst, sym, ◌∙◌}
+use Rattle.zio_stages.specs.NodeIos.{with_one}
+use Rattle.zio_stages.specs.RequestCounts.{asked_of, second_of}
 use Rattle.std.proofs.lemmas.Result.{IfOk-weaker, on_err_weaker, on_ok_weaker}
 use Rattle.zio_stages.specs.RequestNodes.{IsOwnOver}
 use Rattle.zio_stages.specs.RequestWrites.{IsReadyWrite}
@@ -45,3 +47,10 @@ pub returns-clause-issued : goal.returns-clause-issued
 returns-clause-issued c =
     on_ok_weaker c.vdev_io_start.result (λ f. f (subst IsReadyWrite c.in-Write.is c.requires.ready))
     c.vdev_io_start.ensures.issued
+
+pub returns-clause-count : goal.returns-clause-count
+returns-clause-count c =
+    IfOk-weaker c.vdev_io_start.result _ _ (λ leaf e. e ∙ ap (λ (own : Own). with_one leaf (asked_of own)) (sym c.in-Write.is)) c.vdev_io_start.ensures.count
+
+pub returns-clause-pass : goal.returns-clause-pass
+returns-clause-pass c = c.vdev_io_start.ensures.pass ∙ ap second_of (sym c.in-Write.is)

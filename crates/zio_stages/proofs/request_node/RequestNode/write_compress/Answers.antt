@@ -1,11 +1,11 @@
 use Rattle.std.proofs.Common.{◌≡◌, ◌+◌, length, true, false, sym, ap, subst, ◌∙◌}
-use Rattle.std.specs.List.{list_all, list_any}
+use Rattle.std.specs.List.{list_all}
 use Rattle.zio_types.specs.declared.request.ChildKind.{ChildKind}
 use Rattle.zio_types.specs.declared.request.ChildKind.TheVariants.{Logical}
 use Rattle.zio_types.specs.declared.request.Phase.TheVariants.{Ready}
 use Rattle.zio_children.specs.RequestKids.{KidsUnderWay, is_told, pointers_of}
 use Rattle.zio_stages.specs.KidPointers.{HaveValidPointers}
-use Rattle.zio_stages.specs.NodeChildren.{is_owing}
+use Rattle.zio_stages.specs.OwnParts.{IsOwed}
 use Rattle.zio_stages.specs.OwnWrites.{IsBlockAt}
 use Rattle.zio_stages.specs.WrittenBlocks.{HaveAllTold, IsSoundWrite}
 use Rattle.zio_stages.specs.RequestNodes.{IsOwnOver}
@@ -31,7 +31,7 @@ returns-then-not-all_told-clause-wait c = λ kind e t st seated h.
     let is : Logical ≡ kind = cc in
     let none : list_all is_told r.kids.kids.kids ≡ false =
     ap (λ (k : KidsUnderWay). list_all is_told k.kids) (sym c.kids-kids.ensures) ∙ sym c.all_told.ensures ∙ c.if-not-all_told.true in
-    subst (λ (k : ChildKind). list_any (is_owing k Ready) st.children ≡ true) is
+    subst (λ (k : ChildKind). IsOwed k Ready st) is
     (waits_ready t r st h seated (idle_at t r st h c.requires.due).alone c.requires.handed none)
 
 pub returns-clause-set : goal.returns-clause-set

@@ -1,0 +1,92 @@
+//! What a request in an attempt is to do, and in which attempt of which round.
+
+ghost use Rattle.std.specs.Prelude.{◌≡◌, ℕ};
+ghost use Rattle.zio_script.specs.Requests.{kind_of};
+ghost use Rattle.zio_stages.specs.RequestKinds.{has_gang_stages, is_gang_tree, is_stored};
+ghost use Rattle.zio_stages.specs.RequestOwns.{IsOwnSeat};
+
+use crate::family::Seat;
+use crate::request_node::{Own, RequestNode};
+use zio_gang::Tree;
+use zio_script::{Failmode, Work};
+use zio_types::Kind;
+
+impl RequestNode {
+    /// The kind of the request.
+    pub fn kind(&self) -> Kind
+        ensures { result ≡ kind_of self.now.waiting.request.work }
+    {
+        self.waiting.request.work.kind()
+    }
+
+    /// Whether its pipeline has the gang stages: those of a read or a free of a gang do, and of every claim.
+    pub fn has_gang_stages(&self) -> bool
+        ensures { result ≡ has_gang_stages self.now.waiting.request.work self.now.waiting.block }
+    {
+        match &self.waiting.request.work {
+            Work::Null => false,
+            Work::Read { .. } => is_gang_tree(&self.waiting.block),
+            Work::Write { .. } => false,
+            Work::Free { .. } => is_gang_tree(&self.waiting.block),
+            Work::Claim { .. } => true,
+        }
+    }
+
+    /// Whether the block of a write was written.
+    pub fn is_stored(&self) -> bool
+        ensures { result ≡ is_stored self.now.own }
+    {
+        match &self.own {
+            Own::Stored(_) => true,
+            Own::Due
+            | Own::Write(_)
+            | Own::Read(_)
+            | Own::Free(_)
+            | Own::Claim(_)
+            | Own::Found(_)
+            | Own::Over => false,
+        }
+    }
+
+    /// Which operation of its own work the child does: these stand behind those for the request's children.
+    pub fn own_number(&self, child: u32) -> u32
+        requires { (n : ℕ) × IsOwnSeat self.now child n }
+        ensures { IsOwnSeat self.now child result }
+    {
+        let Seat::Outer(place) = self.family.seat(child) else {
+            unreachable!()
+        };
+        place - self.kids.len() as u32
+    }
+
+    /// The number of its round.
+    pub fn round(&self) -> u32
+        ensures { result ≡ self.now.round }
+    {
+        self.round
+    }
+
+    /// The number of its attempt in that round.
+    pub fn attempt(&self) -> u32
+        ensures { result ≡ self.now.attempt }
+    {
+        self.attempt
+    }
+
+    /// How the script decides failures.
+    pub fn failmode(&self) -> Failmode
+        ensures { result ≡ self.now.failmode }
+    {
+        self.failmode
+    }
+}
+
+/// Whether the block is a gang.
+pub(crate) fn is_gang_tree(tree: &Option<Tree>) -> bool
+    ensures { result ≡ is_gang_tree tree.now }
+{
+    match tree {
+        Some(tree) => tree.bp.gang,
+        None => false,
+    }
+}

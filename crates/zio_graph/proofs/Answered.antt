@@ -1,7 +1,6 @@
 -- A leaf answers, in each round that is kept.
 use Rattle.std.proofs.Common.{◌≡◌, ℕ, ◌<◌, List, [], ◌∷◌, ◌++◌, Option, Some, sym, subst, arith}
 use Rattle.zio_types.specs.declared.error.Errno.{Errno}
-use Rattle.zio_types.specs.declared.place.Place.{Place}
 use Rattle.zio_gang.specs.Attempts.{Terms}
 use Rattle.zio_trace.specs.Leaves.{Answer, LeafOp}
 use Rattle.zio_trace.specs.Tasks.{Got, Leaf}
@@ -42,13 +41,13 @@ module _ {N : Type 0} (nodes : Nodes N) (slab : Slab (Entry N)) (line : List ℕ
       (shelf_of {N = N} slab) line at.leaves r.state (held_of {N = N} e) at.others r.kept r.held at.there in
       (some.terms, now.0, subst (λ (st : Stack). nodes.Is some.terms e.node st) now.4 r.is)
 
-  pub answer_comes_back : (gave : N → List Place) (slab_now : Slab (Entry N)) (line_now : List ℕ) (error : Option Errno)
+  pub answer_comes_back : (slab_now : Slab (Entry N)) (line_now : List ℕ) (error : Option Errno)
       (bytes : List ℕ) (e : Entry N) (node : N) → get slab key ≡ Some e
       → ((t : Terms) (act : LeafOp) (a : Answer) → nodes.Is t e.node (fresh_stack (Leaf act)) → ShowsAnswer act error bytes a
       → nodes.Is t node (done_at_once (fresh_stack (Leaf act)) (Leaf act) (Got a)))
-      → nodes.told node ≡ nodes.told e.node → Updates slab slab_now key (Some (with_ties {N = N} node e.ties))
+      → nodes.told node ≡ nodes.told e.node → nodes.gave node ≡ nodes.gave e.node → Updates slab slab_now key (Some (with_ties {N = N} node e.ties))
       → line_now ≡ line ++ key ∷ [] → ComesBack {N = N} nodes slab line slab_now line_now key error bytes
-  answer_comes_back gave slab_now line_now error bytes e node is heard told put queued =
+  answer_comes_back slab_now line_now error bytes e node is heard told gave put queued =
       λ t sizes f before s leaves others sound more k a after shows answers.
       let r = it_is_there nodes t sizes f before s slab line leaves key e k is in
       let now = leaf_now nodes t sizes f before s.trees s.tops key r.node r.others (shelf_of {N = N} slab) line leaves r.state
@@ -56,6 +55,6 @@ module _ {N : Type 0} (nodes : Nodes N) (slab : Slab (Entry N)) (line : List ℕ
       let at : 0 < times_in key leaves = omega (arith, now.2) in
       let fresh : r.node.stack ≡ fresh_stack (Leaf (s.ops key)) = r.theirs key r.node (first_at (live_of key r.node) r.others) at in
       subst (λ (q : List ℕ). KeepsRound {N = N} nodes t sizes f before (with_images s after) slab_now q others) (sym queued)
-      (round_comes_back nodes gave t sizes f before s slab slab_now line leaves key e sound r others more (s.ops key) fresh a after
-      answers node (heard t (s.ops key) a (subst (λ (st : Stack). nodes.Is t e.node st) fresh r.is) shows) told put
+      (round_comes_back nodes t sizes f before s slab slab_now line leaves key e sound r others more (s.ops key) fresh a after
+      answers node (heard t (s.ops key) a (subst (λ (st : Stack). nodes.Is t e.node st) fresh r.is) shows) told gave put
       (line ++ key ∷ []) (queued_last key line))

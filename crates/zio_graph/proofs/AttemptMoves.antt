@@ -1,21 +1,25 @@
 -- A tree of a round from one attempt to the next, and to its end.
-use Rattle.std.proofs.Common.{◌≡◌, ◌≢◌, ℕ, zero, suc, ◌+◌, List, [], ◌∷◌, ◌++◌, length, length-append, slice_get, slice_set, Bool, true, false, Option, Some, None, ◌⊎◌, inl, inr, refl, sym, ap, ◌∙◌, subst, arith}
+use Rattle.std.proofs.Common.{◌≡◌, ◌≢◌, ℕ, zero, suc, ◌+◌, List, [], ◌∷◌, ◌++◌, length, length-append, slice_get, slice_set, Bool, true, false, Option, Some, None, ◌⊎◌, inl, inr, refl, sym, ap, ◌∙◌, subst}
 use Rattle.std.proofs.Common.{append_assoc}
+use Rattle.std.specs.List.{flat_map}
 use Rattle.std.proofs.lemmas.Bool.{false≢true}
+use Rattle.std.proofs.lemmas.List.{append-nil}
+use Rattle.std.proofs.lemmas.List.Concat.{flat_map-append}
 use Rattle.std.proofs.lemmas.List.{length-set}
 use Rattle.zio_blkptr.specs.declared.pointer.Bp.{Bp}
 use Rattle.zio_gang.specs.Attempts.{Ended, Pending, Terms, now_alone}
-use Rattle.zio_trace.specs.Families.{Forest, NoTrees, TreeOf}
-use Rattle.zio_trace.specs.Plans.{TaskPlan, add_settled, plan, plan_again, plan_left, plan_settle, settled_one}
+use Rattle.zio_trace.specs.Families.{Forest, TreeOf}
+use Rattle.zio_trace.specs.Plans.{TaskPlan, add_settled, plan, plan_again, plan_left, plan_settle}
 use Rattle.zio_trace.specs.Programs.{Asks, Ends, Program, ◌>>=◌}
-use Rattle.zio_trace.specs.Tasks.{Attempt, AttemptedBy, One, Settle, Settled, SettledBy, Task, Value}
+use Rattle.zio_trace.specs.Tasks.{Attempt, AttemptedBy, One, Settle, SettledBy, Task, Value}
 use Rattle.zio_frames.specs.Answering.{NextAnswered}
-use Rattle.zio_frames.specs.Frames.{Child, Frame, Inner, OfOuter, Seat, Stack, asking, fresh_stack, left_of, with_asked, with_slot}
+use Rattle.zio_frames.specs.Frames.{Child, Frame, OfOuter, Seat, Stack, asking, fresh_stack, left_of, with_slot}
 use Rattle.zio_frames.specs.Moves.{AsksNext, GoesBesideAll, IsEnded, child_ended, child_for, child_told, handed, heard_early, heard_of, set_at, with_children}
 use Rattle.zio_frames.specs.Seats.{asked_at}
 use Rattle.zio_frames.specs.Slots.{AllHeard, Heard, IsOut, Slot, left_behind_slots, told_in}
 use Rattle.zio_frames.proofs.GetLemmas.{get_either, get_exchanged, get_last, get_set}
-use Rattle.zio_graph.specs.Attempting.{Course, IsAttempting, IsBetween, IsSettle, again_with, attempt_of, course_of, rest_from, rest_of, settled_behind, settled_with}
+use Rattle.zio_graph.specs.Attempting.{Course, IsAttempting, IsBetween, again_with, attempt_of, course_of, rest_from, rest_of, settled_behind, settled_with}
+use Rattle.zio_graph.specs.Parts.{ended_by, ended_in, ended_in_slot}
 use Rattle.zio_graph.proofs.Links.{some_is}
 
 -- ---- programs
@@ -115,6 +119,7 @@ module _ (t : Terms) where
     rest = refl;
     number = refl;
     none = λ n child is goes. absurd (cc);
+    ended_are = refl;
   }
 
   module _ (c : Course) (st : Stack) where
@@ -141,6 +146,7 @@ module _ (t : Terms) where
           ∙ get_last cs (child_for (OfOuter (length o.slots)) (attempt_of c));
       going = refl;
       one = λ n child is goes. last n child goes (get_either cs (child_for (OfOuter (length o.slots)) (attempt_of c)) child n is);
+      ended_are = h.ended_are;
     }
       where
         last : (n : ℕ) (child : Child) → child.ended ≡ false
@@ -183,6 +189,7 @@ module _ (t : Terms) where
             ∙ get_set st.children n child (child_told child) is;
         going = goes;
         one = λ k x there going. still k x going (get_exchanged st.children n k (child_told child) x there);
+        ended_are = h.ended_are;
       }
         where
           still : (k : ℕ) (x : Child) → x.ended ≡ false
@@ -219,9 +226,21 @@ module _ (t : Terms) where
       course_ends v u left =
           subst (λ (seat : Seat). IsEnded t (After v seat) u) (sym (h.one n child is goes).1) (ended_at v u left)
 
+      -- the requests that it heard of are those before and the attempt's
+      ended_at_last : (v : Value)
+          → flat_map ended_in_slot (slice_set st.outer.slots (length h.before) (Heard v)) ≡ c.ended ++ ended_by v
+      ended_at_last v =
+          ap (flat_map ended_in_slot) (now_slots (Heard v))
+          ∙ (flat_map-append ended_in_slot h.before (Heard v ∷ [])
+          ∙ (ap (λ (es : List Ended). es ++ (ended_by v ++ [])) h.ended_are ∙ ap (λ (es : List Ended). c.ended ++ es) (append-nil (ended_by v))))
+
+      pub course_ended : (v : Value) → ended_in (heard_of st n child v) ≡ c.ended ++ ended_by v
+      course_ended v =
+          subst (λ (seat : Seat). ended_in (After v seat) ≡ c.ended ++ ended_by v) (sym (h.one n child is goes).1) (ended_at_last v)
+
       between_at : (v : Value) (d : Course) → left_behind_slots (Heard v ∷ []) (rest_of c) ≡ rest_of d → d.attempt ≡ c.attempt + 1
-          → IsBetween t d (After v (OfOuter (length h.before)))
-      between_at v d left next = record {
+          → d.ended ≡ c.ended ++ ended_by v → IsBetween t d (After v (OfOuter (length h.before)))
+      between_at v d left next ended = record {
         settles = h.settles;
         alone = h.alone;
         heard = heard_now v;
@@ -229,6 +248,7 @@ module _ (t : Terms) where
         rest = left_then v ∙ left;
         number = length-set st.children n (child_ended child) ∙ (h.number ∙ sym next);
         none = λ k x there going. no_other k x going (get_exchanged st.children n k (child_ended child) x there);
+        ended_are = ended_at_last v ∙ sym ended;
       }
         where
           no_other : (k : ℕ) (x : Child) → x.ended ≡ false
@@ -237,9 +257,9 @@ module _ (t : Terms) where
           no_other k x going (inr e) = e.0 ((h.one k x e.1 going).0 ∙ sym (h.one n child is goes).0)
 
       pub course_goes_again : (v : Value) (d : Course) → left_behind_slots (Heard v ∷ []) (rest_of c) ≡ rest_of d
-          → d.attempt ≡ c.attempt + 1 → IsBetween t d (heard_of st n child v)
-      course_goes_again v d left next =
-          subst (λ (seat : Seat). IsBetween t d (After v seat)) (sym (h.one n child is goes).1) (between_at v d left next)
+          → d.attempt ≡ c.attempt + 1 → d.ended ≡ c.ended ++ ended_by v → IsBetween t d (heard_of st n child v)
+      course_goes_again v d left next ended =
+          subst (λ (seat : Seat). IsBetween t d (After v seat)) (sym (h.one n child is goes).1) (between_at v d left next ended)
 
       -- its operation is the attempt
       pub course_asked : (op : Task) → asked_at st child.seat ≡ Some op → op ≡ attempt_of c

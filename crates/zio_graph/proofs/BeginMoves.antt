@@ -1,26 +1,24 @@
 -- The trees of a round begin, one after another.
-use Rattle.std.proofs.Common.{◌≡◌, ◌≢◌, ℕ, zero, suc, ◌+◌, ◌<◌, ◌≤◌, List, [], ◌∷◌, ◌++◌, length, length-append, replicate, slice_get, slice_set, Option, Some, None, IfSome, ◌⊎◌, inl, inr, refl, sym, ap, ◌∙◌, subst, arith}
+use Rattle.std.proofs.Common.{◌≡◌, ◌≢◌, ℕ, zero, suc, ◌+◌, ◌<◌, ◌≤◌, List, [], ◌∷◌, ◌++◌, length, length-append, replicate, slice_get, slice_set, Option, Some, None, ◌⊎◌, inl, inr, refl, sym, ap, ◌∙◌, subst, arith}
 use Rattle.std.proofs.lemmas.List.{replicate-append-replicate}
 use Rattle.std.specs.List.{AllByRecursion}
 use Rattle.zio_types.specs.declared.place.Top.{Top}
-use Rattle.zio_cksum.specs.Images.{Images}
 use Rattle.zio_script.specs.declared.script.Failmode.{Failmode}
 use Rattle.zio_gang.specs.Attempts.{Terms}
 use Rattle.zio_trace.specs.Families.{Forest, NoTrees, TreeOf}
 use Rattle.zio_trace.specs.Rounds.{settles}
-use Rattle.zio_trace.specs.SoundRounds.{IsSoundRound}
 use Rattle.zio_frames.specs.Frames.{Flying}
 use Rattle.zio_frames.specs.Running.{settling_from}
-use Rattle.zio_frames.proofs.GetLemmas.{get_last, get_more, same_or_not}
+use Rattle.zio_frames.proofs.GetLemmas.{get_last, same_or_not}
 use Rattle.zio_stages.specs.Wholes.{AreTrees, IsTreeOf}
 use Rattle.zio_stages.specs.declared.waiting.Waiting.{Waiting}
 use Rattle.slab.specs.Slab.{Slab}
 use Rattle.zio_graph.specs.Attempting.{Course, attempt_of, course_of}
 use Rattle.zio_graph.specs.Entries.{all_tops, handed_on, top_at}
 use Rattle.zio_graph.specs.Parts.{Nodes}
-use Rattle.zio_graph.specs.Rounds.{Before, SoFar, first_of, with_tree}
+use Rattle.zio_graph.specs.Rounds.{first_of, with_tree}
 use Rattle.zio_graph.specs.Slabs.{AreAll}
-use Rattle.zio_graph.specs.UnderTrees.{AreInStates, BeginsOn, BeginsSo, FreshAt, HaveBegun, IsFreshFor, IsInState, TreesBegin}
+use Rattle.zio_graph.specs.UnderTrees.{BeginsOn, FreshAt, HaveBegun, IsFreshFor, IsInState, TreesBegin}
 use Rattle.zio_graph.specs.declared.entry.Entry.{Entry}
 use Rattle.zio_graph.specs.declared.trees.TreeState.{TreeState}
 use Rattle.zio_graph.specs.declared.trees.TreeState.TheVariants.{UnderWay}
@@ -69,6 +67,7 @@ module _ {N : Type 0} (nodes : Nodes N) (over : List Top → N → Type 0) (tree
       entries_are = refl;
       images_are = refl;
       ops_are = refl;
+      books_are = refl;
       begun = record {
         begun = λ n h. absurd (omega arith);
         fresh = λ n whole e. fresh_at t f trees n whole e;
@@ -151,6 +150,7 @@ module _ {N : Type 0} (nodes : Nodes N) (over : List Top → N → Type 0) (tree
                 entries_are = b.entries_are;
                 images_are = b.images_are;
                 ops_are = b.ops_are;
+                books_are = b.books_are;
                 begun = begun_more t b.now.tops found.0 (handed_on found.0 (attempt_of c)) begun found.1 (c, x.out, refl, refl);
               };
           inside = λ tops all.

@@ -1,5 +1,5 @@
 -- Which calls of the space a node makes by a claim.
-use Rattle.std.proofs.Common.{◌≡◌, ℕ, zero, suc, List, [], ◌∷◌, ◌++◌, Bool, Some, Contains, ap, sym, ◌∙◌, subst, arith}
+use Rattle.std.proofs.Common.{◌≡◌, ℕ, zero, suc, List, [], ◌∷◌, ◌++◌, Bool, Some, Contains, ap, sym, ◌∙◌, subst, arith, refl}
 use Rattle.zio_types.specs.declared.place.Place.{Place}
 use Rattle.zio_gang.specs.declared.tree.Tree.{Tree}
 use Rattle.zio_types.specs.declared.place.Top.{Top}
@@ -15,7 +15,7 @@ use Rattle.zio_frames.specs.Moves.{Chose, Closed, Did, DoesAll, Opened, Took, ch
 use Rattle.zio_stages.specs.SpaceCalls.{Claimed, SpaceCall, calls_back, calls_by}
 use Rattle.slab.specs.Slab.{Slab, get}
 use Rattle.zio_graph.specs.Parts.{Nodes}
-use Rattle.zio_graph.specs.Rounds.{Before, ClaimsAlone, SoFar, choices_in}
+use Rattle.zio_graph.specs.Rounds.{Before, ClaimsAlone, SoFar, choices_in, IsTurn}
 use Rattle.zio_graph.specs.Slabs.{shelf_of}
 use Rattle.zio_graph.specs.Stages.{IsMove, IsNow}
 use Rattle.zio_graph.specs.declared.entry.Entry.{Entry}
@@ -25,6 +25,7 @@ use Rattle.zio_graph.proofs.Callings.{choices_did}
 use Rattle.zio_graph.proofs.DoesLemmas.{append_none}
 use Rattle.zio_graph.proofs.FoundFits.{one_takes}
 use Rattle.zio_graph.proofs.RoundNodes.{IsThere, it_is_there}
+use Rattle.zio_graph.specs.Desks.{GivesLast, backs_in}
 
 -- what is given back is no claim
 none_claimed : (gone : List Place) (places : List Place) (free : Bool) → Contains (calls_back gone) (Claimed places free) → ⊥
@@ -55,7 +56,7 @@ claimed_took (Took tree own ∷ dids) gone places free (suc k, within, is) =
     let later = claimed_took dids gone places free (k, omega arith, is) in
     (later.0, behind (Took later.0 free) (Took tree own) dids later.1)
 
-module _ {N : Type 0} (nodes : Nodes N) (gave : N → List Place) (t : Terms) (sizes : ℕ → ℕ) (f : Forest) (before : Before)
+module _ {N : Type 0} (nodes : Nodes N) (t : Terms) (sizes : ℕ → ℕ) (f : Forest) (before : Before)
     (s : SoFar) (slab : Slab (Entry N)) (queue leaves : List ℕ) (key : ℕ) (e : Entry N) (calls : List SpaceCall) where
   -- a node that did these took places for a claim
   by_claim : IsSoundRound t sizes f → (r : IsThere {N = N} nodes t sizes f before s slab queue leaves key e)
@@ -80,7 +81,7 @@ module _ {N : Type 0} (nodes : Nodes N) (gave : N → List Place) (t : Terms) (s
       none_claimed [] places free (subst (λ (cs : List SpaceCall). Contains cs (Claimed places free)) none there)
 
   by_move : IsSoundRound t sizes f → (r : IsThere {N = N} nodes t sizes f before s slab queue leaves key e) → (move : Move N)
-      → IsMove {N = N} nodes gave t e.node r.node.stack calls move
+      → IsMove {N = N} nodes nodes.gave t e.node r.node.stack calls move
       → AreLawful (sizes_of t.setting.tops) t.used (s.entries ++ choices_in calls) → (places : List Place) (free : Bool)
       → Contains calls (Claimed places free) → HasClaim f × (s.entries ≡ [])
   by_move sound r (Next after) m lawful places free there =
@@ -94,12 +95,45 @@ module _ {N : Type 0} (nodes : Nodes N) (gave : N → List Place) (t : Terms) (s
       absurd (none_claimed m.gone places free
       (subst (λ (cs : List SpaceCall). Contains cs (Claimed places free)) m.calls_are there))
 
-pub steps_claim : {N : Type 0} (nodes : Nodes N) (gave : N → List Place) (tops : List Top) (slab : Slab (Entry N)) (line : List ℕ)
+pub steps_claim : {N : Type 0} (nodes : Nodes N) (tops : List Top) (slab : Slab (Entry N)) (line : List ℕ)
     (key : ℕ) (e : Entry N) (calls : List SpaceCall) (move : Move N) → get slab key ≡ Some e
-    → ((t : Terms) (st : Stack) → IsNow {N = N} nodes tops t e.node st → IsMove {N = N} nodes gave t e.node st calls move)
+    → ((t : Terms) (st : Stack) → IsNow {N = N} nodes tops t e.node st → IsMove {N = N} nodes nodes.gave t e.node st calls move)
     → ClaimsAlone {N = N} nodes tops calls slab line key
-steps_claim {N} nodes gave tops slab line key e calls move is moves =
+steps_claim {N} nodes tops slab line key e calls move is moves =
     λ t sizes f before s leaves sound tops_are k lawful places free there.
     let r = it_is_there nodes t sizes f before s slab (key ∷ line) leaves key e k is in
-    by_move nodes gave t sizes f before s slab (key ∷ line) leaves key e calls sound r move
+    by_move nodes t sizes f before s slab (key ∷ line) leaves key e calls sound r move
     (moves t r.node.stack (record { tops_are = tops_are; is = r.is; seated = r.seated })) lawful places free there
+
+-- ---- what is given back comes last
+
+none_back : (dids : List Did) → backs_in (calls_by dids) ≡ []
+none_back [] = refl
+none_back (Opened op ∷ dids) = none_back dids
+none_back (Closed v ∷ dids) = none_back dids
+none_back (Chose c ∷ dids) = none_back dids
+none_back (Took tree free ∷ dids) = none_back dids
+
+nothing_last : (calls : List SpaceCall) → calls ≡ [] → GivesLast calls
+nothing_last calls none = record { first = []; gone = []; are = none; none = refl }
+
+last_by : {N : Type 0} (nodes : Nodes N) (t : Terms) (node : N) (st : Stack) (calls : List SpaceCall) (move : Move N)
+    → IsMove {N = N} nodes nodes.gave t node st calls move → GivesLast calls
+last_by nodes t node st calls (Next after) m =
+    record { first = calls_by m.dids; gone = m.gone; are = m.calls_are; none = none_back m.dids }
+last_by nodes t node st calls (Wait after kind phase) m = nothing_last calls m.stays.no_calls
+last_by nodes t node st calls (Grow after child kind) m =
+    record { first = calls_by m.dids; gone = []; are = m.calls_are ∙ sym (append_none (calls_by m.dids)); none = none_back m.dids }
+last_by nodes t node st calls (ToLeaf after op leaf bytes) m = nothing_last calls m.stays.no_calls
+last_by nodes t node st calls (Ready after pointer) m = nothing_last calls m.no_calls
+last_by nodes t node st calls (End outcome) m = record { first = []; gone = m.gone; are = m.calls_are; none = refl }
+
+pub steps_last : {N : Type 0} (nodes : Nodes N) (over : List Top → N → Type 0) (tops : List Top) (slab : Slab (Entry N)) (line : List ℕ)
+    (key : ℕ) (e : Entry N) (calls : List SpaceCall) (move : Move N) → get slab key ≡ Some e
+    → ((t : Terms) (st : Stack) → IsNow {N = N} nodes tops t e.node st → IsMove {N = N} nodes nodes.gave t e.node st calls move)
+    → IsTurn {N = N} nodes over tops slab line key → GivesLast calls
+steps_last {N} nodes over tops slab line key e calls move is moves turn =
+    let some = turn.keeps in
+    let r = it_is_there nodes some.terms some.sizes some.forest some.before some.so_far slab (key ∷ line) turn.leaves key e some.keeps is in
+    last_by nodes some.terms e.node r.node.stack calls move
+    (moves some.terms r.node.stack (record { tops_are = some.tops_are; is = r.is; seated = r.seated }))

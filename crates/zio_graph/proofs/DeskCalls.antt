@@ -119,12 +119,12 @@ all_on_tops sizes (p ∷ ps) h =
     (all_on_tops sizes ps h.1)
 
 pub claimed_made : (old new : SpaceState) (places : List Place) → new ≡ record old { live = all_placed_in places old.live }
-    → are_open (used old) places ≡ true → AreMade (Claimed places true ∷ []) old new
-claimed_made old new places is are = record { answered = (sym are, tt); made = ap bare is }
+    → are_open (used old) places ≡ true → LieOnTops old.sizes places → AreMade (Claimed places true ∷ []) old new
+claimed_made old new places is are on = record { answered = ((sym are, on), tt); made = ap bare is }
 
 pub taken_made : (old new : SpaceState) (places : List Place) → new ≡ old → are_open (used old) places ≡ false
-    → AreMade (Claimed places false ∷ []) old new
-taken_made old new places is are = record { answered = (sym are, tt); made = ap bare is }
+    → LieOnTops old.sizes places → AreMade (Claimed places false ∷ []) old new
+taken_made old new places is are on = record { answered = ((sym are, on), tt); made = ap bare is }
 
 -- what isn't refused was free
 pub open_unless : (b : Bool) → (b ≡ false → ⊥) → b ≡ true

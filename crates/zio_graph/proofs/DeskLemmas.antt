@@ -106,7 +106,7 @@ live_did f (Took tree true) st = omega (
 )
 live_did f (Took tree false) st = omega arith
 
-found_both : (f : Place → ℕ) (first second : List SpaceCall) → total f (found_in (first ++ second)) ≡ total f
+pub found_both : (f : Place → ℕ) (first second : List SpaceCall) → total f (found_in (first ++ second)) ≡ total f
     (found_in first) + total f (found_in second)
 found_both f [] second = omega arith
 found_both f (call ∷ first) second =

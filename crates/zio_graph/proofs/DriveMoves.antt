@@ -1,8 +1,7 @@
 -- Turns and groups one after another, in each round that goes on.
-use Rattle.std.proofs.Common.{◌≡◌, ℕ, ◌+◌, ◌<◌, ◌≤◌, List, [], ◌∷◌, length, map, refl, sym, ap, ◌∙◌, subst, arith}
+use Rattle.std.proofs.Common.{◌≡◌, ℕ, ◌+◌, ◌<◌, ◌≤◌, List, [], ◌∷◌, ◌++◌, length, map, refl, sym, ap, ◌∙◌, subst, arith}
 use Rattle.std.proofs.lemmas.List.{append-nil}
 use Rattle.zio_types.specs.declared.place.Top.{Top}
-use Rattle.zio_cksum.specs.Images.{Images}
 use Rattle.zio_gang.specs.Attempts.{Terms}
 use Rattle.zio_trace.specs.Families.{Forest}
 use Rattle.zio_trace.specs.SoundRounds.{IsSoundRound}
@@ -63,7 +62,7 @@ module _ {N D : Type 0} (nodes : Nodes N) (bytes faults : D → ℕ) (image : D 
     HaveRun slab line g =
         (t : Terms) (sizes : ℕ → ℕ) (f : Forest) (before : Before) (s : SoFar) → IsSoundRound t sizes f
         → Going t sizes f before s first first_line lent
-        → HasTurned {N = N} {D = D} nodes bytes image t sizes f before s slab line g
+        → HasTurned {N = N} {D = D} nodes bytes image t sizes f before s [] slab line g
 
     pub run_begins : HaveRun first first_line lent
     run_begins = λ t sizes f before s sound h. record { now = s; gone = gone_nowhere s; going = h }
@@ -83,21 +82,20 @@ module _ {N D : Type 0} (nodes : Nodes N) (bytes faults : D → ℕ) (image : D 
           going = so_far.going;
         }
 
-    pub then_turned : (t : Terms) (sizes : ℕ → ℕ) (f : Forest) (before : Before) (s mid : SoFar) (slab : Slab (Entry N)) (line : List ℕ)
-        (g : Grounds D) → HasGoneOn s mid → HasTurned {N = N} {D = D} nodes bytes image t sizes f before mid slab line g
-        → HasTurned {N = N} {D = D} nodes bytes image t sizes f before s slab line g
-    then_turned t sizes f before s mid slab line g h k =
-        record { now = k.now; gone = gone_then s mid k.now h k.gone; going = k.going }
+    pub then_turned : (t : Terms) (sizes : ℕ → ℕ) (f : Forest) (before : Before) (s mid : SoFar) (xs ys : List Finished)
+        (slab : Slab (Entry N)) (line : List ℕ) (g : Grounds D) → HasGoneOn s mid xs
+        → HasTurned {N = N} {D = D} nodes bytes image t sizes f before mid ys slab line g
+        → HasTurned {N = N} {D = D} nodes bytes image t sizes f before s (xs ++ ys) slab line g
+    then_turned t sizes f before s mid xs ys slab line g h k =
+        record { now = k.now; gone = gone_then s mid k.now xs ys h k.gone; going = k.going }
 
-    pub then_any : (t : Terms) (sizes : ℕ → ℕ) (f : Forest) (before : Before) (s mid : SoFar) (slab : Slab (Entry N)) (line : List ℕ)
-        (g : Grounds D) (turned : Turned) → HasGoneOn s mid
-        → AfterTurn {N = N} {D = D} nodes bytes image t sizes f before mid slab line g turned
-        → AfterTurn {N = N} {D = D} nodes bytes image t sizes f before s slab line g turned
-    then_any t sizes f before s mid slab line g Nothing h k = then_turned t sizes f before s mid slab line g h k
-    then_any t sizes f before s mid slab line g (HasEnded finished) h k = (k.0, then_turned t sizes f before s mid slab line g h k.1)
-    then_any t sizes f before s mid slab line g (Root tree outcome) h k = record {
+    pub then_ended : (t : Terms) (sizes : ℕ → ℕ) (f : Forest) (before : Before) (s mid : SoFar) (xs ys : List Finished)
+        (slab : Slab (Entry N)) (line : List ℕ) (g : Grounds D) (tree : ℕ) (outcome : Outcome) → HasGoneOn s mid xs
+        → HasEndedFor {N = N} {D = D} nodes bytes image t sizes f before mid ys slab line g tree outcome
+        → HasEndedFor {N = N} {D = D} nodes bytes image t sizes f before s (xs ++ ys) slab line g tree outcome
+    then_ended t sizes f before s mid xs ys slab line g tree outcome h k = record {
       now = k.now;
-      gone = gone_then s mid k.now h k.gone;
+      gone = gone_then s mid k.now xs ys h k.gone;
       top = k.top;
       number = k.number;
       child = k.child;
@@ -109,8 +107,20 @@ module _ {N D : Type 0} (nodes : Nodes N) (bytes faults : D → ℕ) (image : D 
       asked = k.asked;
       fits = k.fits;
       how = k.how;
+      more = k.more;
+      told = k.told;
       going = k.going;
     }
+
+    pub then_any : (t : Terms) (sizes : ℕ → ℕ) (f : Forest) (before : Before) (s mid : SoFar) (slab : Slab (Entry N)) (line : List ℕ)
+        (g : Grounds D) (turned : Turned) → HasGoneOn s mid []
+        → AfterTurn {N = N} {D = D} nodes bytes image t sizes f before mid slab line g turned
+        → AfterTurn {N = N} {D = D} nodes bytes image t sizes f before s slab line g turned
+    then_any t sizes f before s mid slab line g Nothing h k = then_turned t sizes f before s mid [] [] slab line g h k
+    then_any t sizes f before s mid slab line g (HasEnded finished) h k =
+        (k.0, then_turned t sizes f before s mid [] (finished ∷ []) slab line g h k.1)
+    then_any t sizes f before s mid slab line g (Root tree outcome) h k =
+        then_ended t sizes f before s mid [] [] slab line g tree outcome h k
 
     module _ (slab slab_mid slab_now : Slab (Entry N)) (line line_mid line_now : List ℕ) (g now : Grounds D) (h : HaveRun slab line g) where
       -- a turn more
@@ -137,12 +147,15 @@ module _ {N D : Type 0} (nodes : Nodes N) (bytes faults : D → ℕ) (image : D 
         let after = issues t sizes f before so_far.now sound so_far.going in
         record {
           now = with_images so_far.now after.0;
-          gone = gone_then s so_far.now (with_images so_far.now after.0) so_far.gone (record {
+          gone = gone_then s so_far.now (with_images so_far.now after.0) [] [] so_far.gone (record {
             tellings = [];
             told = refl;
             more = [];
             entries_are = sym (append-nil so_far.now.entries);
             trees_are = refl;
+            done = [];
+            done_are = sym (append-nil so_far.now.books.done);
+            done_told = tt;
           });
           going = after.1;
         }

@@ -15,6 +15,7 @@ use Rattle.zio_frames.specs.Frames.{Child, Flying, Stack, fresh_stack}
 use Rattle.zio_frames.specs.Moves.{Did, DoesAll, IsEnded, Took, choices_of}
 use Rattle.zio_frames.specs.OfRound.{FitsWhichever}
 use Rattle.zio_frames.specs.Running.{IsRunning, Later}
+use Rattle.zio_frames.specs.Seats.{IsSeated}
 use Rattle.zio_frames.specs.Slots.{Slot}
 use Rattle.zio_frames.proofs.HeardParts.{child_does, lies_at, value_of_node}
 use Rattle.zio_graph.specs.Engine.{IsKept}
@@ -86,6 +87,15 @@ module _ {N : Type 0} (nodes : Nodes N) (t : Terms) (sizes : ℕ → ℕ) (f : F
       fits_first top rest v
       (running_as t sizes f before trees (all_flying tops lives) (top ∷ rest) s k.running
       (top_forward {N = N} nodes t sizes f before trees tops shelf queue leaves s n top lives e)) ended
+
+  -- what is in flight for a tree
+  pub tree_seated : (n : ℕ) (top : Flying) (lives : List Live) → KeptOf lives → top_at tops n ≡ Some top → IsSeated top.stack
+  tree_seated n top lives k e =
+      let rest : List Flying = all_flying (slice_set tops n None) lives in
+      let r : Later t sizes f before trees (top ∷ rest) s.entries s.images =
+      running_as t sizes f before trees (all_flying tops lives) (top ∷ rest) s k.running
+      (top_forward {N = N} nodes t sizes f before trees tops shelf queue leaves s n top lives e) in
+      r.running.seated.0
 
   -- ---- at its leaf
 

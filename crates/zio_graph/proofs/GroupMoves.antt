@@ -2,18 +2,16 @@
 use Rattle.std.proofs.Common.{◌≡◌, ◌≢◌, ℕ, ◌+◌, ◌*◌, ◌<◌, ◌≤◌, List, [], ◌∷◌, ◌++◌, length, map, Option, Some, None, Contains, ◌⊎◌, inl, inr, refl, sym, ap, ◌∙◌, subst, arith}
 use Rattle.std.specs.List.{AllByRecursion}
 use Rattle.zio_types.specs.declared.place.Top.{Top}
+use Rattle.zio_types.specs.declared.place.Place.{Place}
 use Rattle.zio_types.specs.Choices.{Choice}
 use Rattle.std.proofs.lemmas.List.{length-map}
 use Rattle.zio_cksum.specs.Images.{Images, Setting}
 use Rattle.zio_cksum.proofs.AllLemmas.{all_contains, all_weaker}
-use Rattle.zio_disks.specs.Disks.{Tell}
 use Rattle.zio_gang.specs.Attempts.{Terms}
 use Rattle.zio_groups.specs.declared.waiting.Answered.{Answered}
 use Rattle.zio_groups.specs.declared.waiting.Waiting.{Waiting}
-use Rattle.zio_groups.specs.LeafQueues.{Waits}
-use Rattle.zio_trace.specs.Entries.{AnswersOnLeaf}
 use Rattle.zio_trace.specs.Families.{Forest}
-use Rattle.zio_trace.specs.Leaves.{Answer, LeafOp, on_leaf}
+use Rattle.zio_trace.specs.Leaves.{LeafOp, on_leaf}
 use Rattle.zio_trace.specs.SoundRounds.{IsSoundRound}
 use Rattle.zio_frames.specs.Frames.{Flying}
 use Rattle.zio_frames.proofs.GetLemmas.{same_or_not}
@@ -27,7 +25,7 @@ use Rattle.zio_graph.specs.Parts.{Nodes}
 use Rattle.zio_graph.specs.Rounds.{Before, ComesBack, IsAtLeaf, KeepsRound, SoFar, with_images}
 use Rattle.zio_graph.specs.Slabs.{AreAll, load, shelf_of}
 use Rattle.zio_graph.specs.Stages.{ShowsAnswer}
-use Rattle.zio_graph.specs.UnderTurns.{AreAtLeaves, AreLent, ComeBack, FitDisks, GiveAnswers, GoesOnSome, IsGoingOn, IssuesOn, TellNow, keys_answered}
+use Rattle.zio_graph.specs.UnderTurns.{AreAtLeaves, AreLent, ComeBack, FitDisks, GiveAnswers, GoesOnSome, IssuesOn, TellNow, keys_answered}
 use Rattle.zio_graph.specs.declared.desk.Desk.{Desk}
 use Rattle.zio_graph.specs.declared.entry.Entry.{Entry}
 use Rattle.zio_graph.specs.declared.grounds.Grounds.{Grounds}
@@ -76,6 +74,7 @@ module _ {N : Type 0} (nodes : Nodes N) (t : Terms) where
     };
     numbered = k.numbered;
     theirs = λ key x flies at. let e = same key in k.theirs key x flies (omega (arith, at, e));
+    ledger = k.ledger;
   }
 
 -- ---- what the leaves answered
@@ -219,14 +218,14 @@ module _ {N D : Type 0} (nodes : Nodes N) (bytes : D → ℕ) (image : D → Lis
   same_count sizes =
       sym (length-map now.disks.items bytes) ∙ ap (λ (ns : List ℕ). length ns) sizes ∙ length-map g.disks.items bytes
 
-  pub group_lent : (t : Terms) (sizes : ℕ → ℕ) (before : Before) (entries : List Choice) (images left : Images) (ops : ℕ → LeafOp)
-      → AreLent {D = D} bytes image t sizes before entries images ops g → TellNow {D = D} image before now.disks.items left
+  pub group_lent : (t : Terms) (sizes : ℕ → ℕ) (before : Before) (entries : List Choice) (claimed back : List Place) (images left : Images)
+      (ops : ℕ → LeafOp) → AreLent {D = D} bytes image t sizes before entries claimed back images ops g → TellNow {D = D} image before now.disks.items left
       → map bytes now.disks.items ≡ map bytes g.disks.items
       → AreReady now.setting.rows (map bytes now.disks.items) now.queues.leaves.items → now.setting ≡ g.setting
-      → now.desk ≡ g.desk → AreLent {D = D} bytes image t sizes before entries left ops now
-  group_lent t sizes before entries images left ops h tell disks ready setting desk = record {
+      → now.desk ≡ g.desk → AreLent {D = D} bytes image t sizes before entries claimed back left ops now
+  group_lent t sizes before entries claimed back images left ops h tell disks ready setting desk = record {
     setting_is = h.setting_is ∙ sym setting;
-    desk = subst (λ (d : Desk). IsDeskAt t entries d.tops d.space d.asked) (sym desk) h.desk;
+    desk = subst (λ (d : Desk). IsDeskAt t entries claimed back d.tops d.space d.asked) (sym desk) h.desk;
     waits = waits_left ops h.waits;
     ready = ready;
     fit = subst (λ (ns : List ℕ). FitDisks sizes ns) (sym disks) h.fit;
@@ -265,7 +264,7 @@ module _ {N D : Type 0} (nodes : Nodes N) (bytes : D → ℕ) (image : D → Lis
         gives.0,
         record {
           keeps = back t sizes f before s (keys_at now.queues.leaves.items) sound (group_keeps t sizes f before s h.keeps) gives.0 gives.1;
-          lent = group_lent t sizes before s.entries s.images gives.0 s.ops h.lent gives.2 disks ready setting desk;
+          lent = group_lent t sizes before s.entries s.books.claimed s.books.back s.images gives.0 s.ops h.lent gives.2 disks ready setting desk;
         },
       )
 

@@ -1,5 +1,5 @@
 -- Turns and groups until a tree hears, in each round that goes on.
-use Rattle.std.proofs.Common.{◌≡◌, ℕ, ◌<◌, ◌≤◌, List, [], ◌∷◌, ◌++◌, map, Some, None, refl, sym, ap, ◌∙◌, subst, arith}
+use Rattle.std.proofs.Common.{◌≡◌, ℕ, List, [], ◌∷◌, ◌++◌, map, Some, None, refl, sym, ap, ◌∙◌, subst}
 use Rattle.std.proofs.Common.{append_assoc}
 use Rattle.std.specs.List.{AllByRecursion}
 use Rattle.std.proofs.lemmas.List.{append-nil}
@@ -14,26 +14,19 @@ use Rattle.slab.specs.Slab.{Slab}
 use Rattle.zio_graph.specs.Parts.{Nodes}
 use Rattle.zio_graph.specs.Rounds.{Before, SoFar}
 use Rattle.zio_graph.specs.Slabs.{AreAll}
-use Rattle.zio_graph.specs.UnderTurns.{EndsFinished, GoesOnSome, HasTurned, IsGoingOn, RunsOn, RunsToTree, work_left}
+use Rattle.zio_graph.specs.UnderTurns.{EndsFinished, GoesOnSome, HasEndedFor, HasTurned, IsGoingOn, RunsOn, RunsToTree}
 use Rattle.zio_graph.specs.declared.entry.Entry.{Entry}
 use Rattle.zio_graph.specs.declared.grounds.Grounds.{Grounds}
 use Rattle.zio_graph.specs.declared.turn.Turned.TheVariants.{Nothing, Ended as HasEnded, Root}
-use Rattle.zio_graph.proofs.DriveMoves.{then_any, then_turned}
+use Rattle.zio_graph.proofs.DriveMoves.{then_ended, then_turned}
 use Rattle.zio_graph.proofs.TurnMoves.{gone_nowhere}
 
--- these requests finished since, in each round
-abbrev pub Ended : Terms → List Finished → List Finished → Type 0
-Ended t before now = (more : List Finished) × (now ≡ before ++ more) × AllByRecursion (EndsFinished t) more
-
-ended_none : (t : Terms) (xs : List Finished) → Ended t xs xs
-ended_none t xs = ([], sym (append-nil xs), tt)
-
-ended_one : (t : Terms) (first xs now : List Finished) (x : Finished) → Ended t first xs → now ≡ xs ++ x ∷ [] → EndsFinished t x
-    → Ended t first now
-ended_one t first xs now x h is ends = (
-  h.0 ++ x ∷ [],
-  is ∙ ap (λ (ys : List Finished). ys ++ x ∷ []) h.1 ∙ append_assoc first h.0 (x ∷ []),
-  all_append (EndsFinished t) h.0 (x ∷ []) h.2 (ends, tt),
+finished_one : (t : Terms) (first xs more now : List Finished) (x : Finished) → xs ≡ first ++ more
+    → AllByRecursion (EndsFinished t) more → now ≡ xs ++ x ∷ [] → EndsFinished t x
+    → (now ≡ first ++ (more ++ x ∷ [])) × AllByRecursion (EndsFinished t) (more ++ x ∷ [])
+finished_one t first xs more now x are each is ends = (
+  is ∙ ap (λ (ys : List Finished). ys ++ x ∷ []) are ∙ append_assoc first more (x ∷ []),
+  all_append (EndsFinished t) more (x ∷ []) each (ends, tt),
 )
 
 module _ {N D : Type 0} (nodes : Nodes N) (over : List Top → N → Type 0) (bytes faults : D → ℕ) (image : D → List ℕ → Type 0)
@@ -41,7 +34,8 @@ module _ {N D : Type 0} (nodes : Nodes N) (over : List Top → N → Type 0) (by
   pub record IsHearing (slab : Slab (Entry N)) (line : List ℕ) (g : Grounds D) (now : List Finished) : Type 0 where
     pub gone : (t : Terms) (sizes : ℕ → ℕ) (f : Forest) (before : Before) (s : SoFar) → IsSoundRound t sizes f
         → IsGoingOn {N = N} {D = D} nodes bytes image t sizes f before s first first_line lent
-        → HasTurned {N = N} {D = D} nodes bytes image t sizes f before s slab line g × Ended t ended now
+        → (more : List Finished) × (now ≡ ended ++ more) × AllByRecursion (EndsFinished t) more
+        × HasTurned {N = N} {D = D} nodes bytes image t sizes f before s more slab line g
     pub over_all : AreAll {N = N} (over g.desk.tops) slab
     pub tops_same : g.desk.tops ≡ lent.desk.tops
     pub setting_same : g.setting ≡ lent.setting
@@ -49,7 +43,7 @@ module _ {N D : Type 0} (nodes : Nodes N) (over : List Top → N → Type 0) (by
 
   pub hearing_begins : AreAll {N = N} (over lent.desk.tops) first → IsHearing first first_line lent ended
   hearing_begins all = record {
-    gone = λ t sizes f before s sound h. (record { now = s; gone = gone_nowhere s; going = h }, ended_none t ended);
+    gone = λ t sizes f before s sound h. ([], sym (append-nil ended), tt, record { now = s; gone = gone_nowhere s; going = h });
     over_all = all;
     tops_same = refl;
     setting_same = refl;
@@ -61,7 +55,7 @@ module _ {N D : Type 0} (nodes : Nodes N) (over : List Top → N → Type 0) (by
     pub hearing_some : GoesOnSome {N = N} {D = D} nodes bytes image first first_line lent
         → GoesOnSome {N = N} {D = D} nodes bytes image slab line g
     hearing_some some =
-        let so_far = (h.gone some.terms some.sizes some.forest some.before some.so_far some.sound some.going).0 in
+        let so_far = (h.gone some.terms some.sizes some.forest some.before some.so_far some.sound some.going).3 in
         record {
           terms = some.terms;
           sizes = some.sizes;
@@ -76,9 +70,13 @@ module _ {N D : Type 0} (nodes : Nodes N) (over : List Top → N → Type 0) (by
         → RunsToTree {N = N} {D = D} nodes bytes image first first_line lent ended slab_now line_now g_now now None
     hearing_nothing runs = λ t sizes f before s sound k.
         let so_far = h.gone t sizes f before s sound k in (
-          then_turned nodes bytes faults image first first_line lent t sizes f before s so_far.0.now slab_now line_now g_now so_far.0.gone
-              (runs t sizes f before so_far.0.now sound so_far.0.going),
+          so_far.0,
           so_far.1,
+          so_far.2,
+          subst (λ (xs : List Finished). HasTurned {N = N} {D = D} nodes bytes image t sizes f before s xs slab_now line_now g_now)
+              (append-nil so_far.0)
+              (then_turned nodes bytes faults image first first_line lent t sizes f before s so_far.3.now so_far.0 [] slab_now line_now g_now
+              so_far.3.gone (runs t sizes f before so_far.3.now sound so_far.3.going)),
         )
 
     pub hearing_root : (tree : ℕ) (outcome : Outcome)
@@ -87,9 +85,13 @@ module _ {N D : Type 0} (nodes : Nodes N) (over : List Top → N → Type 0) (by
         (Some (record { tree = tree; outcome = outcome }))
     hearing_root tree outcome runs = λ t sizes f before s sound k.
         let so_far = h.gone t sizes f before s sound k in (
-          then_any nodes bytes faults image first first_line lent t sizes f before s so_far.0.now slab_now line_now g_now
-              (Root tree outcome) so_far.0.gone (runs t sizes f before so_far.0.now sound so_far.0.going),
+          so_far.0,
           so_far.1,
+          so_far.2,
+          subst (λ (xs : List Finished). HasEndedFor {N = N} {D = D} nodes bytes image t sizes f before s xs slab_now line_now g_now tree outcome)
+              (append-nil so_far.0)
+              (then_ended nodes bytes faults image first first_line lent t sizes f before s so_far.3.now so_far.0 [] slab_now line_now g_now
+              tree outcome so_far.3.gone (runs t sizes f before so_far.3.now sound so_far.3.going)),
         )
 
     pub hearing_goes : (x : Finished) (later : List Finished)
@@ -99,10 +101,13 @@ module _ {N D : Type 0} (nodes : Nodes N) (over : List Top → N → Type 0) (by
     hearing_goes x later runs is all tops setting steady = record {
       gone = λ t sizes f before s sound k.
           let so_far = h.gone t sizes f before s sound k in
-          let after = runs t sizes f before so_far.0.now sound so_far.0.going in (
-            then_turned nodes bytes faults image first first_line lent t sizes f before s so_far.0.now slab_now line_now g_now
-                so_far.0.gone after.1,
-            ended_one t ended now later x so_far.1 is after.0,
+          let after = runs t sizes f before so_far.3.now sound so_far.3.going in
+          let one = finished_one t ended now so_far.0 later x so_far.1 so_far.2 is after.0 in (
+            so_far.0 ++ x ∷ [],
+            one.0,
+            one.1,
+            then_turned nodes bytes faults image first first_line lent t sizes f before s so_far.3.now so_far.0 (x ∷ []) slab_now line_now
+                g_now so_far.3.gone after.1,
           );
       over_all = all;
       tops_same = tops ∙ h.tops_same;

@@ -1,5 +1,5 @@
 -- Lists in which each key stands as often are as long.
-use Rattle.std.proofs.Common.{◌≡◌, ℕ, zero, suc, ◌+◌, ◌<◌, List, [], ◌∷◌, ◌++◌, length, length-append, Bool, true, false, refl, sym, ap, ◌∙◌, subst, arith}
+use Rattle.std.proofs.Common.{◌≡◌, ℕ, suc, ◌+◌, ◌<◌, List, [], ◌∷◌, ◌++◌, length, length-append, Bool, true, false, refl, sym, ap, ◌∙◌, arith}
 use Rattle.zio_trace.specs.Keys.{bit}
 use Rattle.zio_trace.specs.Labels.{same_number}
 use Rattle.zio_trace.proofs.LabelLemmas.{number_is, number_itself}

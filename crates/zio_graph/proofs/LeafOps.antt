@@ -1,5 +1,5 @@
 -- What is in flight under the keys at the leaves does their operations there, where one of them moves.
-use Rattle.std.proofs.Common.{◌≡◌, ◌≢◌, ℕ, ◌+◌, ◌<◌, List, [], slice_get, Bool, cond, Option, Some, None, ◌⊎◌, inl, inr, refl, sym, ap, ◌∙◌, subst, arith}
+use Rattle.std.proofs.Common.{◌≡◌, ◌≢◌, ℕ, ◌+◌, ◌<◌, List, [], slice_get, Bool, cond, Option, Some, None, ◌⊎◌, inl, inr, sym, ap, ◌∙◌, arith}
 use Rattle.zio_trace.specs.Labels.{same_number}
 use Rattle.zio_trace.specs.Leaves.{LeafOp}
 use Rattle.zio_trace.proofs.LabelLemmas.{number_itself}

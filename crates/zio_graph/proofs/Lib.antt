@@ -9,6 +9,7 @@ pub mod ClaimsLast
 pub mod Counts
 pub mod DeskCalls
 pub mod DeskLemmas
+pub mod DeskLive
 pub mod DoesLemmas
 pub mod DriveMoves
 pub mod EligibleLemmas
@@ -26,6 +27,14 @@ pub mod KeyLengths
 pub mod KeyTimes
 pub mod LeafCalls
 pub mod LeafOps
+pub mod LedgerDids
+pub mod LedgerEnds
+pub mod LedgerHears
+pub mod LedgerMoves
+pub mod LedgerOwns
+pub mod LedgerPerms
+pub mod LedgerSlabs
+pub mod LedgerTrees
 pub mod Links
 pub mod LinksBegin
 pub mod LinksGrow
@@ -41,6 +50,7 @@ pub mod MoveGrow
 pub mod MoveLeaf
 pub mod MoveOne
 pub mod MoveTell
+pub mod OpenCounts
 pub mod PlaceTotals
 pub mod PlansOnly
 pub mod Progress
@@ -52,12 +62,15 @@ pub mod RoundEnds
 pub mod RoundGrows
 pub mod RoundMoves
 pub mod RoundNodes
+pub mod RoundOver
 pub mod RoundParents
 pub mod RoundTells
 pub mod Seated
 pub mod Shelves
 pub mod Spans
 pub mod Steps
+pub mod StopLemmas
+pub mod StopSpots
 pub mod TakenKeys
 pub mod Tops
 pub mod TreeLoops
@@ -65,3 +78,4 @@ pub mod TreeMoves
 pub mod TurnLoops
 pub mod TurnMoves
 pub mod Waits
+pub mod Withins

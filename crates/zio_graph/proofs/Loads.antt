@@ -32,7 +32,7 @@ one_longer b line line_now key e =
 
 module _ {N : Type 0} (left : N → ℕ) (slab slab_now : Slab (Entry N)) (key : ℕ) (e : Entry N) (is : get slab key ≡ Some e) where
   -- one exchanged
-  left_put : (g : Entry N) → Updates slab slab_now key (Some g)
+  pub left_put : (g : Entry N) → Updates slab slab_now key (Some g)
       → left_over {N = N} left slab_now + left e.node ≡ left_over {N = N} left slab + left g.node
   left_put g put =
       let k = left_with left slab slab_now key (Some g) put in
@@ -40,7 +40,7 @@ module _ {N : Type 0} (left : N → ℕ) (slab slab_now : Slab (Entry N)) (key :
       omega arith
 
   -- one gone
-  left_gone : Updates slab slab_now key None → left_over {N = N} left slab_now + left e.node ≡ left_over {N = N} left slab
+  pub left_gone : Updates slab slab_now key None → left_over {N = N} left slab_now + left e.node ≡ left_over {N = N} left slab
   left_gone gone =
       let k = left_with left slab slab_now key None gone in
       let same : left_in {N = N} left (get slab key) ≡ left e.node = ap (left_in {N = N} left) is in

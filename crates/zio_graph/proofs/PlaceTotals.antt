@@ -1,5 +1,5 @@
 -- Lists of places that sum to the same are the same in another order.
-use Rattle.std.proofs.Common.{◌≡◌, ℕ, ◌+◌, List, [], ◌∷◌, ◌||◌, inl, inr, refl, sym, ap, subst, ◌∙◌, arith}
+use Rattle.std.proofs.Common.{◌≡◌, ℕ, ◌+◌, List, [], ◌∷◌, ◌||◌, inl, inr, refl, sym, ap, subst, ◌∙◌, arith, ◌<◌, ◌≤◌}
 use Rattle.std.specs.Prelude.{Bool, true, false, cond, Contains, IsPermutation}
 use Rattle.std.specs.List.{list_any, sum_by}
 use Rattle.std.proofs.lemmas.Bool.{false≢true}
@@ -8,9 +8,9 @@ use Rattle.std.proofs.lemmas.List.Sums.{sum_by-cons}
 use Rattle.zio_types.specs.declared.place.Place.{Place}
 use Rattle.zio_types.specs.Places.{SamePlaces}
 use Rattle.zio_places.specs.Ordered.{is_same_place, without}
-use Rattle.zio_places.specs.Tables.{total}
+use Rattle.zio_places.specs.Tables.{total, one_if}
 use Rattle.zio_places.proofs.OrderLemmas.{total-without}
-use Rattle.zio_places.proofs.PlaceLemmas.{Contains-cases, Contains-head, Contains-nothing, contains-same, is_same_place-refl, is_same_place-true}
+use Rattle.zio_places.proofs.PlaceLemmas.{Contains-cases, Contains-head, Contains-nothing, contains-same, is_same_place-refl, is_same_place-true, contains-place_count, place_count, place_count-contains}
 use Rattle.zio_frames.proofs.PermLemmas.{swap_two}
 use Rattle.zio_graph.specs.Desks.{live_again}
 
@@ -27,6 +27,13 @@ sum_is f (x ∷ xs) = sum_by-cons f x xs ∙ ap (λ n. f x + n) (sum_is f xs)
 pub totals_moved : (xs ys : List Place) → IsPermutation xs ys → SameTotals xs ys
 totals_moved xs ys p f = sym (sum_is f xs) ∙ (sym (sum_by-IsPermutation f xs ys p) ∙ sum_is f ys)
 
+-- a place stands in a list that has it as often at least
+pub contained : (xs ys : List Place) → ((w : Place → ℕ) → total w xs ≤ total w ys) → (p : Place) → Contains xs p → Contains ys p
+contained xs ys h p c =
+    let one : 0 < place_count p xs = place_count-contains p xs c in
+    let more = h (λ (q : Place). one_if (is_same_place p q)) in
+    contains-place_count p ys (omega arith)
+
 -- ---- a place taken out
 
 out_by : (p q : Place) (ys : List Place) (t : Bool) → is_same_place p q ≡ t → Contains (q ∷ ys) p
@@ -41,7 +48,7 @@ out_by p q ys false same there go =
     IsPermutation-trans (p ∷ q ∷ without p ys) (q ∷ p ∷ without p ys) (q ∷ ys) (swap_two p q (without p ys))
     (IsPermutation-cons q (p ∷ without p ys) ys (go later))
 
-without_moved : (p : Place) (ys : List Place) → Contains ys p → IsPermutation (p ∷ without p ys) ys
+pub without_moved : (p : Place) (ys : List Place) → Contains ys p → IsPermutation (p ∷ without p ys) ys
 without_moved p [] there = absurd (Contains-nothing p there)
 without_moved p (q ∷ ys) there = out_by p q ys (is_same_place p q) refl there (without_moved p ys)
 

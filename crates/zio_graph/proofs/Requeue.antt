@@ -27,6 +27,10 @@ use Rattle.zio_graph.specs.declared.entry.Parent.TheVariants.{Tree}
 use Rattle.zio_graph.specs.declared.entry.Ties.{Ties}
 use Rattle.zio_graph.proofs.Kept.{world}
 use Rattle.zio_graph.proofs.LeafOps.{theirs_with}
+use Rattle.zio_graph.proofs.LedgerHears.{handed_ended}
+use Rattle.zio_graph.proofs.LedgerMoves.{ledger_child, ledger_first, ledger_tree}
+use Rattle.zio_graph.proofs.LedgerSlabs.{gave_new}
+use Rattle.zio_graph.proofs.LedgerTrees.{handed_tree, top_slice}
 use Rattle.zio_graph.proofs.Links.{free_there}
 use Rattle.zio_graph.proofs.Lives.{with_more}
 use Rattle.zio_graph.proofs.Loads.{left_new}
@@ -85,6 +89,7 @@ module _ {N : Type 0} (nodes : Nodes N) (t : Terms) where
     };
     numbered = k.numbered;
     theirs = k.theirs;
+    ledger = k.ledger;
   }
 
   -- ---- the beginning
@@ -101,6 +106,7 @@ module _ {N : Type 0} (nodes : Nodes N) (t : Terms) where
             (all_tops (settling_from 0 (settles f))) [] g [] [] [] images) (sym bare) (all_begins nodes t sizes f before images sound is));
         numbered = λ key e x there flies. absurd (none_flies key x flies);
         theirs = λ key x flies. absurd (none_flies key x flies);
+        ledger = ledger_first nodes t f slab none;
       }
     where
       none_flies : (key : ℕ) (x : Flying) → flying_at [] key ≡ Some x → ⊥
@@ -112,9 +118,9 @@ module _ {N : Type 0} (nodes : Nodes N) (t : Terms) where
       → get slab key ≡ None → Updates slab slab_now key (Some (with_ties {N = N} node (new_ties Logical (Tree tree child))))
       → (top : Flying) (op : Task) → top_at s.tops tree ≡ Some top → is_single (asking top.stack).op ≡ false
       → AsksNext t (asking top.stack) op → kind_of_task op ≡ Logical → nodes.Is t node (fresh_stack op) → nodes.told node ≡ false
-      → child ≡ length top.stack.children
+      → nodes.gave node ≡ [] → child ≡ length top.stack.children
       → KeepsRound {N = N} nodes t sizes f before (with_tree s tree (handed_on top op)) slab_now (line ++ key ∷ []) leaves
-  round_root sizes f before s slab slab_now line leaves key tree child node sound k free put top op there many asks kind is told number =
+  round_root sizes f before s slab slab_now line leaves key tree child node sound k free put top op there many asks kind is told gave number =
       let now : Entry N = with_ties {N = N} node (new_ties Logical (Tree tree child)) in
       let with_it = shelf_with slab slab_now key now put in
       let with_kind = subst (λ (c : ChildKind). IsWith (shelf_of {N = N} slab) key
@@ -138,6 +144,10 @@ module _ {N : Type 0} (nodes : Nodes N) (t : Terms) where
             (free_there nodes t (world {N = N} s.tops k.lives (shelf_of {N = N} slab) line leaves) key k.still.kept.linked
             (ap (held_if {N = N}) free)).2
             k.theirs;
+        ledger = ledger_tree nodes t f s.books s.entries s.tops s.trees slab_now slab_now tree top (handed_on top op) lives
+            (ledger_child nodes t f s.books s.entries s.tops s.trees slab slab_now key top op k.lives k.ledger
+            (λ w. gave_new nodes slab slab_now key w now free put gave))
+            (top_slice s.tops tree top there) (handed_ended top.stack op) (handed_tree top.stack op kind) (λ w. refl);
       }
 
 -- with one node more
@@ -166,9 +176,9 @@ pub root_handed : {N : Type 0} (nodes : Nodes N) (slab slab_now : Slab (Entry N)
     → ties ≡ new_ties Logical (Tree tree child) → line_now ≡ line ++ key ∷ []
     → HandsOut {N = N} nodes slab line slab_now line_now tree child node
 root_handed {N} nodes slab slab_now line line_now key tree child node ties free put are queued =
-    λ t sizes f before s leaves top op sound k there many asks kind is told number.
+    λ t sizes f before s leaves top op sound k there many asks kind is told gave number.
     subst (λ (q : List ℕ). KeepsRound {N = N} nodes t sizes f before (with_tree s tree (handed_on top op)) slab_now q leaves)
     (sym queued)
     (round_root nodes t sizes f before s slab slab_now line leaves key tree child node sound k free
     (subst (λ (x : Ties). Updates slab slab_now key (Some (with_ties {N = N} node x))) are put) top op there many asks kind is told
-    number)
+    gave number)

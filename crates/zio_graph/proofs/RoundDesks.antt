@@ -199,7 +199,7 @@ claims_right t (GaveBack p ∷ calls) st h same none few = (
       (omega arith),
 )
 claims_right t (Claimed places free ∷ calls) st h same none few =
-    (h.0 ∙ open_same (used st) t.used places same, none_asked t calls (omega arith))
+    (h.0.0 ∙ open_same (used st) t.used places same, none_asked t calls (omega arith))
 
 -- ---- calls are right
 

@@ -1,11 +1,11 @@
 -- A round that an engine keeps, where a node hands out a child.
-use Rattle.std.proofs.Common.{◌≡◌, ◌≢◌, ℕ, ◌+◌, ◌<◌, ◌≤◌, List, [], ◌∷◌, ◌++◌, length, length-append, Bool, true, false, cond, Some, None, refl, sym, ap, ◌∙◌, subst, arith}
-use Rattle.zio_types.specs.declared.place.Place.{Place}
+use Rattle.std.proofs.Common.{◌≡◌, ◌≢◌, ℕ, ◌+◌, ◌<◌, ◌≤◌, List, [], ◌∷◌, ◌++◌, length, length-append, Bool, true, false, cond, Some, None, refl, sym, ap, ◌∙◌, subst, arith, ◌⊎◌}
 use Rattle.zio_types.specs.declared.request.ChildKind.{ChildKind}
 use Rattle.zio_types.specs.declared.request.Phase.TheVariants.{Done, Ready}
 use Rattle.zio_types.specs.Choices.{Choice}
 use Rattle.zio_types.specs.Machine.{fresh, same_kind}
 use Rattle.zio_counts.specs.Tallies.{Tally, count_end, counted, raised, tally_of}
+use Rattle.zio_places.specs.Tables.{total}
 use Rattle.zio_gang.specs.Attempts.{Terms}
 use Rattle.zio_gang.specs.Journals.{AreLawful}
 use Rattle.zio_gang.specs.Trees.{sizes_of}
@@ -13,13 +13,16 @@ use Rattle.zio_trace.specs.Families.{Forest}
 use Rattle.zio_trace.specs.Keys.{bit}
 use Rattle.zio_trace.specs.SoundRounds.{IsSoundRound}
 use Rattle.zio_frames.specs.Frames.{Child, Flying, kind_of_task}
-use Rattle.zio_frames.specs.Moves.{child_for, choices_of, next_seat}
+use Rattle.zio_frames.specs.Moves.{child_for, choices_of, handed, next_seat}
+use Rattle.zio_stages.specs.Outcomes.{held_by}
 use Rattle.zio_stages.specs.SpaceCalls.{SpaceCall, calls_by}
 use Rattle.slab.specs.Slab.{Slab, Updates, get}
 use Rattle.zio_graph.specs.Acts.{HasGrown, new_ties, one_more, with_ties}
 use Rattle.zio_graph.specs.Entries.{AreWith, CountsAre, Held, OfNode, OneMore, count_owing, flying_at, grown, handed_on, live_of, new_flying, new_held, owing, with_both, with_stack}
+use Rattle.zio_graph.specs.Desks.{backs_in, found_in}
+use Rattle.zio_graph.specs.Ledgers.{IsLedger, gave_over}
 use Rattle.zio_graph.specs.Parts.{Nodes}
-use Rattle.zio_graph.specs.Rounds.{AreRight, Before, KeepsRound, SoFar, choices_in, with_entries}
+use Rattle.zio_graph.specs.Rounds.{AreRight, Before, KeepsRound, SoFar, choices_in, with_calls}
 use Rattle.zio_graph.specs.Slabs.{held_if, held_of, shelf_of}
 use Rattle.zio_graph.specs.Stages.{Grows}
 use Rattle.zio_graph.specs.declared.entry.Entry.{Entry}
@@ -28,6 +31,10 @@ use Rattle.zio_graph.proofs.Callings.{WereRight, were_right}
 use Rattle.zio_graph.proofs.DoesLemmas.{append_none}
 use Rattle.zio_graph.proofs.Kept.{world}
 use Rattle.zio_graph.proofs.LeafOps.{theirs_with}
+use Rattle.zio_graph.proofs.LedgerDids.{Hands, HasDone, seats_after}
+use Rattle.zio_graph.proofs.LedgerHears.{does_before, handed_ended, handed_held, handed_seats}
+use Rattle.zio_graph.proofs.LedgerMoves.{backs_did, booked, ledger_child, ledger_moves, backs_are}
+use Rattle.zio_graph.proofs.LedgerSlabs.{gave_more, gave_new}
 use Rattle.zio_graph.proofs.Links.{free_there}
 use Rattle.zio_graph.proofs.Lives.{with_first, with_more}
 use Rattle.zio_graph.proofs.MoveGrow.{one_grows}
@@ -35,6 +42,9 @@ use Rattle.zio_graph.proofs.MoveOne.{queued_now}
 use Rattle.zio_graph.proofs.Queues.{queued_first, queued_last}
 use Rattle.zio_graph.proofs.RoundNodes.{IsThere, does_children, still_as}
 use Rattle.zio_graph.proofs.Shelves.{exchanged, none_some, numbered_with, shelf_two}
+use Rattle.std.specs.List.{AllByRecursion}
+use Rattle.std.specs.Prelude.{Contains}
+use Rattle.zio_types.specs.declared.place.Place.{Place}
 
 -- one that isn't ready hasn't ended
 owes_less : (kind : ChildKind) (c : Child) → owing kind Ready c ≤ owing kind Done c
@@ -71,15 +81,15 @@ both_queued key child line = record {
       omega arith;
 }
 
-module _ {N : Type 0} (nodes : Nodes N) (gave : N → List Place) (t : Terms) (sizes : ℕ → ℕ) (f : Forest) (before : Before)
+module _ {N : Type 0} (nodes : Nodes N) (t : Terms) (sizes : ℕ → ℕ) (f : Forest) (before : Before)
     (s : SoFar) (slab out slab_now : Slab (Entry N)) (line line_now leaves : List ℕ) (key : ℕ) (e : Entry N)
     (calls : List SpaceCall) (node child : N) (kind : ChildKind) where
-  pub round_grows : IsSoundRound t sizes f → (r : IsThere {N = N} nodes t sizes f before s slab (key ∷ line) leaves key e)
-      → AreRight t s.entries calls → Grows {N = N} nodes gave t e.node r.node.stack calls node child kind
+  pub round_grows : Hands {N = N} nodes → IsSoundRound t sizes f → (r : IsThere {N = N} nodes t sizes f before s slab (key ∷ line) leaves key e)
+      → AreRight t s.entries calls → Grows {N = N} nodes nodes.gave t e.node r.node.stack calls node child kind
       → Updates slab out key None
       → HasGrown {N = N} out line slab_now line_now key (with_ties {N = N} node e.ties) child kind
-      → KeepsRound {N = N} nodes t sizes f before (with_entries s (choices_in calls)) slab_now line_now leaves
-  round_grows sound r right g taken has =
+      → KeepsRound {N = N} nodes t sizes f before (with_calls s calls) slab_now line_now leaves
+  round_grows hands sound r right g taken has =
       let were : WereRight t s.entries calls g.dids =
       were_right t s.entries calls g.dids [] (g.calls_are ∙ sym (append_none (calls_by g.dids))) right in
       let lawful = subst (λ (cs : List Choice). AreLawful (sizes_of t.setting.tops) t.used (cs ++ choices_of g.dids))
@@ -110,6 +120,22 @@ module _ {N : Type 0} (nodes : Nodes N) (gave : N → List Place) (t : Terms) (s
       ap (λ (n : ℕ). n + 1)
       (r.given ∙ ap (λ (cs : List Child). length cs) (sym (does_children t g.dids r.node.stack g.stack g.does)))
       ∙ sym one_more_child in
+      let done : HasDone r.node.stack g.stack (calls_by g.dids) =
+      does_before g.stack g.op t g.dids r.node.stack g.does r.seated (hands t e.node r.node.stack r.is) r.ledger.seats.0
+      (hands t node (handed g.stack g.op) g.is) (does_children t g.dids r.node.stack g.stack g.does) in
+      let grown_by : IsLedger {N = N} nodes t f (booked s.books calls) (s.entries ++ choices_in calls) s.tops s.trees
+      (live_of key y ∷ r.others) has.mid =
+      ledger_moves nodes t f s.books s.entries s.tops s.trees slab has.mid calls key r.node y r.others r.ledger
+      (handed_ended g.stack g.op ∙ done.ended)
+      (λ w. handed_held g.stack g.op w done.stands ∙ done.held w ∙ ap (λ (n : ℕ). total w (held_by r.node.stack) + n)
+      (sym (ap (λ (cs : List SpaceCall). total w (found_in cs)) g.calls_are)))
+      (handed_seats g.stack g.op (seats_after r.node.stack g.stack done.children done.longer r.ledger.seats.0))
+      (subst (AllByRecursion (λ (p : Place). Contains (held_by y.stack) p ⊎ Contains t.used p))
+      (sym (ap backs_in (g.calls_are ∙ sym (append_none (calls_by g.dids))) ∙ backs_are g.dids [])) tt)
+      (λ w. gave_more nodes slab has.mid key w e parent_now [] r.there put (g.gave_same ∙ sym (append_none (nodes.gave e.node)))
+      ∙ ap (λ (n : ℕ). gave_over {N = N} nodes w slab + n)
+      (sym (ap (λ (cs : List SpaceCall). total w (backs_in cs)) (g.calls_are ∙ sym (append_none (calls_by g.dids)))
+      ∙ backs_did w g.dids []))) in
       record {
         lives = live_of has.at z ∷ live_of key y ∷ r.others;
         still = still_as nodes t sizes f before s.trees s.tops (live_of has.at z ∷ live_of key y ∷ r.others)
@@ -135,4 +161,7 @@ module _ {N : Type 0} (nodes : Nodes N) (gave : N → List Place) (t : Terms) (s
             (queued_now nodes t sizes f before s.trees s.tops key r.node r.others (shelf_of {N = N} slab) (key ∷ line) leaves r.state
             h line r.kept r.held (queued_first key line)).1
             r.theirs);
+        ledger = ledger_child nodes t f (booked s.books calls) (s.entries ++ choices_in calls) s.tops s.trees has.mid slab_now has.at
+            (with_stack r.node g.stack) g.op (live_of key y ∷ r.others) grown_by
+            (λ w. gave_new nodes has.mid slab_now has.at w child_now has.free has.added g.child_gave);
       }

@@ -1,6 +1,5 @@
 -- A round that an engine keeps, where one node goes on, waits, or goes to a leaf and comes back.
-use Rattle.std.proofs.Common.{◌≡◌, ◌≢◌, ℕ, ◌<◌, List, [], ◌∷◌, ◌++◌, length, Bool, true, false, Option, Some, None, ◌==◌, ◌&&◌, not, refl, sym, ap, ◌∙◌, subst, arith}
-use Rattle.zio_types.specs.declared.place.Place.{Place}
+use Rattle.std.proofs.Common.{◌≡◌, ◌≢◌, ℕ, ◌+◌, ◌<◌, List, [], ◌∷◌, ◌++◌, length, Bool, true, false, Option, Some, None, ◌==◌, ◌&&◌, not, refl, sym, ap, ◌∙◌, subst, arith, ◌⊎◌}
 use Rattle.zio_types.specs.declared.request.ChildKind.{ChildKind}
 use Rattle.zio_types.specs.declared.request.ChildKind.TheVariants.{Vdev, Gang, Logical}
 use Rattle.zio_types.specs.declared.request.Phase.{Phase}
@@ -9,6 +8,7 @@ use Rattle.zio_types.specs.Choices.{Choice}
 use Rattle.std.proofs.lemmas.Bool.Decides.{nat_tests}
 use Rattle.zio_types.specs.Machine.{Count, first_if}
 use Rattle.zio_counts.specs.Tallies.{Tally, counted, first_counted, stalled}
+use Rattle.zio_places.specs.Tables.{total}
 use Rattle.zio_cksum.specs.Images.{Images}
 use Rattle.zio_gang.specs.Attempts.{Terms}
 use Rattle.zio_trace.specs.Families.{Forest}
@@ -20,17 +20,23 @@ use Rattle.zio_gang.specs.Journals.{AreLawful}
 use Rattle.zio_gang.specs.Trees.{sizes_of}
 use Rattle.zio_frames.specs.Frames.{Child, Flying, Stack, fresh_stack}
 use Rattle.zio_frames.specs.Moves.{choices_of, done_at_once}
-use Rattle.zio_stages.specs.SpaceCalls.{SpaceCall}
+use Rattle.zio_stages.specs.Outcomes.{held_by}
+use Rattle.zio_stages.specs.SpaceCalls.{SpaceCall, calls_by}
 use Rattle.slab.specs.Slab.{Slab, Updates}
 use Rattle.zio_graph.specs.Acts.{counting, with_ties}
 use Rattle.zio_graph.specs.Engine.{IsKept, StillKept}
 use Rattle.zio_graph.specs.Entries.{CountsAre, OneMore, count_owing, flying_at, live_of}
-use Rattle.zio_graph.specs.Parts.{Nodes}
-use Rattle.zio_graph.specs.Rounds.{AreRight, Before, KeepsRound, SoFar, choices_in, with_entries, with_images, with_op}
+use Rattle.zio_graph.specs.Desks.{backs_in, found_in}
+use Rattle.zio_graph.specs.Ledgers.{gave_over}
+use Rattle.zio_graph.specs.Parts.{Nodes, ended_in}
+use Rattle.zio_graph.specs.Rounds.{AreRight, Before, KeepsRound, SoFar, choices_in, with_calls, with_images, with_op}
 use Rattle.zio_graph.specs.Slabs.{held_of, shelf_of}
-use Rattle.zio_graph.specs.Stages.{GoesOn, Stays}
+use Rattle.zio_graph.specs.Stages.{GoesOn, Stays, AreItsOwn}
 use Rattle.zio_graph.specs.declared.entry.Entry.{Entry}
 use Rattle.zio_graph.proofs.Callings.{WereRight, none_made, were_right}
+use Rattle.zio_graph.proofs.LedgerDids.{Hands, HasDone, does_itself, seats_after, does_ops}
+use Rattle.zio_graph.proofs.LedgerMoves.{backs_did, found_did, ledger_changes, ledger_moves, ledger_stays, backs_are}
+use Rattle.zio_graph.proofs.LedgerSlabs.{gave_more, gave_put}
 use Rattle.zio_graph.proofs.LeafOps.{theirs_back, theirs_out, theirs_with}
 use Rattle.zio_graph.proofs.Lives.{first_at, with_first}
 use Rattle.zio_graph.proofs.MoveLeaf.{one_comes_back}
@@ -38,6 +44,11 @@ use Rattle.zio_graph.proofs.MoveOne.{leaf_now, one_goes_on, one_goes_to_leaf, on
 use Rattle.zio_graph.proofs.RoundNodes.{IsThere, does_children, still_as}
 use Rattle.zio_graph.proofs.Shelves.{numbered_with, shelf_with}
 use Rattle.zio_graph.proofs.DoesLemmas.{append_none}
+use Rattle.zio_graph.proofs.LedgerOwns.{GivesOwn, gone_own}
+use Rattle.zio_frames.specs.OfRound.{IsTaskOf}
+use Rattle.std.specs.List.{AllByRecursion}
+use Rattle.std.specs.Prelude.{Contains}
+use Rattle.zio_types.specs.declared.place.Place.{Place}
 
 not_zero : (n : ℕ) → n ≢ 0 → (n == 0) ≡ false
 not_zero n h = grind (arith, nat_tests)
@@ -61,7 +72,7 @@ some_owing kind phase x cs are owing z =
     let same : counted kind phase x ≡ count_owing kind phase cs = are kind phase in
     absurd (omega arith)
 
-module _ {N : Type 0} (nodes : Nodes N) (gave : N → List Place) (t : Terms) (sizes : ℕ → ℕ) (f : Forest) (before : Before)
+module _ {N : Type 0} (nodes : Nodes N) (t : Terms) (sizes : ℕ → ℕ) (f : Forest) (before : Before)
     (s : SoFar) (slab slab_now : Slab (Entry N)) (queue leaves : List ℕ) (key : ℕ) (e : Entry N) where
   abbrev There : Type 0
   There = IsThere {N = N} nodes t sizes f before s slab queue leaves key e
@@ -70,14 +81,18 @@ module _ {N : Type 0} (nodes : Nodes N) (gave : N → List Place) (t : Terms) (s
   Now s_now queue_now leaves_now = KeepsRound {N = N} nodes t sizes f before s_now slab_now queue_now leaves_now
 
   -- it does several things itself
-  pub round_goes_on : IsSoundRound t sizes f → (r : There) → (rest : List ℕ) → OneMore key rest queue → (calls : List SpaceCall)
-      → AreRight t s.entries calls → (node : N) → GoesOn {N = N} nodes gave t e.node r.node.stack calls node
-      → Updates slab slab_now key (Some (with_ties {N = N} node e.ties)) → Now (with_entries s (choices_in calls)) queue leaves
-  round_goes_on sound r rest more calls right node g put =
+  pub round_goes_on : Hands {N = N} nodes → GivesOwn {N = N} nodes → IsSoundRound t sizes f → (r : There) → (rest : List ℕ) → OneMore key rest queue → (calls : List SpaceCall)
+      → AreRight t s.entries calls → (node : N) → GoesOn {N = N} nodes nodes.gave t e.node r.node.stack calls node
+      → Updates slab slab_now key (Some (with_ties {N = N} node e.ties)) → Now (with_calls s calls) queue leaves
+  round_goes_on hands owns sound r rest more calls right node g put =
       let were : WereRight t s.entries calls g.dids = were_right t s.entries calls g.dids g.gone g.calls_are right in
       let lawful = subst (λ (cs : List Choice). AreLawful (sizes_of t.setting.tops) t.used (cs ++ choices_of g.dids))
       (sym r.entries_are) were.lawful in
       let y : Flying = record { at = r.node.at; stack = g.stack } in
+      let same = does_children t g.dids r.node.stack g.stack g.does in
+      let done : HasDone r.node.stack g.stack (calls_by g.dids) =
+      does_itself t g.dids r.node.stack g.stack g.does r.seated (hands t e.node r.node.stack r.is) r.ledger.seats.0
+      (hands t node g.stack g.is) same in
       record {
         lives = live_of key y ∷ r.others;
         still = still_as nodes t sizes f before s.trees s.tops (live_of key y ∷ r.others) (shelf_of {N = N} slab_now) queue leaves
@@ -96,15 +111,27 @@ module _ {N : Type 0} (nodes : Nodes N) (gave : N → List Place) (t : Terms) (s
             (queued_now nodes t sizes f before s.trees s.tops key r.node r.others (shelf_of {N = N} slab) queue leaves
             r.state (held_of {N = N} e) rest r.kept r.held more).1
             r.theirs;
+        ledger = ledger_moves nodes t f s.books s.entries s.tops s.trees slab slab_now calls key r.node y r.others r.ledger done.ended
+            (λ w. done.held w ∙ ap (λ (n : ℕ). total w (held_by r.node.stack) + n)
+            (sym (ap (λ (cs : List SpaceCall). total w (found_in cs)) g.calls_are ∙ found_did w g.dids g.gone)))
+            (seats_after r.node.stack g.stack done.children done.longer r.ledger.seats.0)
+            (subst (AllByRecursion (λ (p : Place). Contains (held_by g.stack) p ⊎ Contains t.used p))
+            (sym (ap backs_in g.calls_are ∙ backs_are g.dids g.gone))
+            (gone_own t sizes f r.seen g.stack (nodes.gave e.node) g.gone sound
+            (subst (IsTaskOf t f r.seen) (sym (does_ops t g.dids r.node.stack g.stack g.does)) r.of_round.outer.task)
+            (subst (λ (ps : List Place). AreItsOwn ps g.stack) g.gave_more (owns t node g.stack g.is))))
+            (λ w. gave_more nodes slab slab_now key w e (with_ties {N = N} node e.ties) g.gone r.there put g.gave_more
+            ∙ ap (λ (n : ℕ). gave_over {N = N} nodes w slab + n)
+            (sym (ap (λ (cs : List SpaceCall). total w (backs_in cs)) g.calls_are ∙ backs_did w g.dids g.gone)));
       }
 
   -- it stalls on a count that isn't 0
   pub round_waits : (r : There) → (rest : List ℕ) → OneMore key rest queue → (calls : List SpaceCall) (kind : ChildKind)
       (phase : Phase) → 0 < count_owing kind phase r.node.stack.children → (node : N)
-      → Stays {N = N} nodes gave t e.node r.node.stack calls node
+      → Stays {N = N} nodes nodes.gave t e.node r.node.stack calls node
       → Updates slab slab_now key (Some (with_ties {N = N} node
       (counting e.ties (stalled (first_counted (kind ∷ []) phase e.ties.counts) e.ties.counts))))
-      → Now (with_entries s (choices_in calls)) rest leaves
+      → Now (with_calls s calls) rest leaves
   round_waits r rest more calls kind phase owing node stays put =
       let count : Count = record { kind = kind; phase = phase } in
       let some : counted kind phase e.ties.counts ≢ 0 =
@@ -125,14 +152,16 @@ module _ {N : Type 0} (nodes : Nodes N) (gave : N → List Place) (t : Terms) (s
         numbered = numbered_with slab slab_now key now (flying_at (live_of key r.node ∷ r.others))
             (flying_at (live_of key r.node ∷ r.others)) r.node put_now (with_first key r.node r.node r.others) r.given r.numbered;
         theirs = r.theirs;
+        ledger = ledger_stays nodes t f s.books s.entries s.tops s.trees slab slab_now calls (live_of key r.node ∷ r.others) r.ledger
+            stays.no_calls (λ w. gave_put nodes slab slab_now key w e now r.there put_now stays.gave_same);
       }
 
   -- its operation goes to a leaf
   pub round_goes_to_leaf : IsSoundRound t sizes f → (r : There) → (rest : List ℕ) → OneMore key rest queue → (calls : List SpaceCall)
       → AreRight t s.entries calls → (act : LeafOp) → r.node.stack ≡ fresh_stack (Leaf act) → (node : N)
-      → Stays {N = N} nodes gave t e.node r.node.stack calls node
+      → Stays {N = N} nodes nodes.gave t e.node r.node.stack calls node
       → Updates slab slab_now key (Some (with_ties {N = N} node e.ties)) → (leaves_now : List ℕ) → OneMore key leaves leaves_now
-      → Now (with_op (with_entries s (choices_in calls)) key act) rest leaves_now
+      → Now (with_op (with_calls s calls) key act) rest leaves_now
   round_goes_to_leaf sound r rest more calls right act fresh node stays put leaves_now more_leaves =
       let lawful : AreLawful (sizes_of t.setting.tops) t.used (r.state.entries ++ []) =
       subst (λ (cs : List Choice). AreLawful (sizes_of t.setting.tops) t.used cs)
@@ -157,15 +186,17 @@ module _ {N : Type 0} (nodes : Nodes N) (gave : N → List Place) (t : Terms) (s
             (flying_at (live_of key r.node ∷ r.others)) r.node put (with_first key r.node r.node r.others) r.given r.numbered;
         theirs = theirs_out (flying_at (live_of key r.node ∷ r.others)) leaves leaves_now s.ops key r.node act
             (first_at (live_of key r.node) r.others) fresh more_leaves r.theirs;
+        ledger = ledger_stays nodes t f s.books s.entries s.tops s.trees slab slab_now calls (live_of key r.node ∷ r.others) r.ledger
+            stays.no_calls (λ w. gave_put nodes slab slab_now key w e now r.there put stays.gave_same);
       }
 
   -- the leaf answered
   pub round_comes_back : IsSoundRound t sizes f → (r : There) → (rest : List ℕ) → OneMore key rest leaves → (act : LeafOp)
       → r.node.stack ≡ fresh_stack (Leaf act) → (a : Answer) (after : Images) → AnswersOnLeaf t before act s.images a after
       → (node : N) → nodes.Is t node (done_at_once (fresh_stack (Leaf act)) (Leaf act) (Got a))
-      → nodes.told node ≡ nodes.told e.node → Updates slab slab_now key (Some (with_ties {N = N} node e.ties))
-      → (queue_now : List ℕ) → OneMore key queue queue_now → Now (with_images s after) queue_now rest
-  round_comes_back sound r rest more act fresh a after answers node is told put queue_now more_queue =
+      → nodes.told node ≡ nodes.told e.node → nodes.gave node ≡ nodes.gave e.node
+      → Updates slab slab_now key (Some (with_ties {N = N} node e.ties)) → (queue_now : List ℕ) → OneMore key queue queue_now → Now (with_images s after) queue_now rest
+  round_comes_back sound r rest more act fresh a after answers node is told gave put queue_now more_queue =
       let x : Flying = record { at = r.node.at; stack = fresh_stack (Leaf act) } in
       let is_x : r.node ≡ x = λ i. record { at = r.node.at; stack = fresh i } in
       let now : Entry N = with_ties {N = N} node e.ties in
@@ -190,4 +221,7 @@ module _ {N : Type 0} (nodes : Nodes N) (gave : N → List Place) (t : Terms) (s
             (leaf_now nodes t sizes f before s.trees s.tops key r.node r.others (shelf_of {N = N} slab) queue leaves r.state
             (held_of {N = N} e) rest r.kept r.held more).2
             r.theirs;
+        ledger = ledger_changes nodes t f s.books s.entries s.tops s.trees slab slab_now key r.node y r.others r.ledger
+            (sym (ap ended_in fresh)) (sym (ap held_by fresh)) (λ k c n there seat. absurd (cc))
+            (λ w. gave_put nodes slab slab_now key w e now r.there put gave);
       }

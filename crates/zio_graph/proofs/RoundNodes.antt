@@ -7,17 +7,20 @@ use Rattle.zio_trace.specs.Families.{Forest}
 use Rattle.zio_trace.specs.Underway.{State}
 use Rattle.zio_frames.specs.Frames.{Flying, Stack}
 use Rattle.zio_frames.specs.Moves.{Did, DoesAll}
+use Rattle.zio_frames.specs.OfRound.{IsOfRound}
 use Rattle.zio_frames.specs.Running.{Later}
 use Rattle.zio_frames.specs.Seats.{IsSeated}
 use Rattle.zio_frames.specs.Slots.{Slot}
 use Rattle.slab.specs.Slab.{Slab, get}
 use Rattle.zio_graph.specs.Engine.{IsKept, StillKept}
 use Rattle.zio_graph.specs.Entries.{CountsAre, IsWith, KeysDiffer, Live, Shelf, flying_at, flying_of, live_of}
+use Rattle.zio_graph.specs.Ledgers.{IsLedger}
 use Rattle.zio_graph.specs.Parts.{Nodes}
 use Rattle.zio_graph.specs.Rounds.{Before, DoTheirs, KeepsRound, SoFar}
 use Rattle.zio_graph.specs.Slabs.{AreNumbered, held_if, held_of, shelf_of}
 use Rattle.zio_graph.specs.declared.entry.Entry.{Entry}
 use Rattle.zio_graph.proofs.Kept.{all_flying, kept_fronted, one_forward, running_as, world}
+use Rattle.zio_graph.proofs.LedgerMoves.{ledger_order}
 use Rattle.zio_graph.proofs.Links.{in_flight_there}
 use Rattle.zio_graph.proofs.Lives.{Fronted, other_at, to_front}
 use Rattle.zio_graph.proofs.Seated.{children_does}
@@ -58,6 +61,10 @@ module _ {N : Type 0} (nodes : Nodes N) (t : Terms) (sizes : ℕ → ℕ) (f : F
     pub given : e.ties.children ≡ length node.stack.children
     pub numbered : AreNumbered {N = N} slab (flying_at (live_of key node ∷ others))
     pub theirs : DoTheirs (flying_at (live_of key node ∷ others)) leaves s.ops
+    pub there : get slab key ≡ Some e
+    pub ledger : IsLedger {N = N} nodes t f s.books s.entries s.tops s.trees (live_of key node ∷ others) slab
+    pub seen : List Choice
+    pub of_round : IsOfRound t f seen node.stack
 
   first_seated : (tops : List (Option Flying)) (x : Live) (others : List Live) (state : State)
       → IsKept {N = N} nodes t sizes f before s.trees tops (x ∷ others) (shelf_of {N = N} slab) queue leaves state
@@ -67,6 +74,15 @@ module _ {N : Type 0} (nodes : Nodes N) (t : Terms) (sizes : ℕ → ℕ) (f : F
       running_as t sizes f before s.trees (all_flying tops (x ∷ others)) (flying_of x ∷ all_flying tops others) state k.running
       (one_forward tops x others) in
       r.running.seated.0
+
+  first_of_round : (tops : List (Option Flying)) (x : Live) (others : List Live) (state : State)
+      → IsKept {N = N} nodes t sizes f before s.trees tops (x ∷ others) (shelf_of {N = N} slab) queue leaves state
+      → (seen : List Choice) × IsOfRound t f seen x.stack
+  first_of_round tops x others state k =
+      let r : Later t sizes f before s.trees (flying_of x ∷ all_flying tops others) state.entries state.images =
+      running_as t sizes f before s.trees (all_flying tops (x ∷ others)) (flying_of x ∷ all_flying tops others) state k.running
+      (one_forward tops x others) in
+      (r.state.entries, r.running.of_round.0)
 
   pub it_is_there : (key : ℕ) (e : Entry N) → KeepsRound {N = N} nodes t sizes f before s slab queue leaves
       → get slab key ≡ Some e → IsThere key e
@@ -79,6 +95,7 @@ module _ {N : Type 0} (nodes : Nodes N) (t : Terms) (sizes : ℕ → ℕ) (f : F
       (shelf_of {N = N} slab) queue leaves k.still.state.entries k.still.state.images =
       kept_fronted t sizes f before s.trees nodes s.tops k.lives (shelf_of {N = N} slab) queue leaves k.still.state key found.0
       k.still.kept front in
+      let of_round = first_of_round s.tops (live_of key found.0) front.others now.state now.kept in
       record {
         node = found.0;
         others = front.others;
@@ -93,6 +110,11 @@ module _ {N : Type 0} (nodes : Nodes N) (t : Terms) (sizes : ℕ → ℕ) (f : F
         given = k.numbered key e found.0 is found.1;
         numbered = λ i g x there flies. k.numbered i g x there (sym (front.same i) ∙ flies);
         theirs = λ i x flies. k.theirs i x (sym (front.same i) ∙ flies);
+        there = is;
+        ledger = ledger_order nodes t f s.books s.entries s.tops s.trees slab slab k.lives (live_of key found.0 ∷ front.others) front.order
+            k.ledger;
+        seen = of_round.0;
+        of_round = of_round.1;
       }
 
 -- a key that waits has a node

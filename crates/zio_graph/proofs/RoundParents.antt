@@ -2,22 +2,26 @@
 use Rattle.std.proofs.Common.{◌≡◌, ◌≢◌, ℕ, ◌<◌, List, ◌∷◌, length, cond, Option, Some, None, refl, sym, ap, ◌∙◌, subst, arith}
 use Rattle.std.proofs.lemmas.List.Sorted.{IsPermutation-append_right, IsPermutation-cons, IsPermutation-map}
 use Rattle.std.proofs.Common.{map}
+use Rattle.zio_types.specs.Choices.{Choice}
 use Rattle.zio_gang.specs.Attempts.{Terms}
 use Rattle.zio_trace.specs.Families.{Forest}
 use Rattle.zio_trace.specs.Labels.{same_number}
 use Rattle.zio_trace.specs.Underway.{State}
 use Rattle.zio_frames.specs.Frames.{Child, Flying, place_of}
+use Rattle.zio_frames.specs.OfRound.{IsOfRound}
 use Rattle.zio_frames.specs.Running.{Later}
 use Rattle.zio_frames.specs.Seats.{IsSeated}
 use Rattle.slab.specs.Slab.{Slab, get}
 use Rattle.zio_graph.specs.Engine.{HasParent, IsKept, StillKept}
 use Rattle.zio_graph.specs.Entries.{CountsAre, Held, Live, OfNode, Parent, flying_at, flying_of, live_of, standing, top_at}
 use Rattle.zio_graph.specs.Found.{IsChildOf}
+use Rattle.zio_graph.specs.Ledgers.{IsLedger}
 use Rattle.zio_graph.specs.Parts.{Nodes}
 use Rattle.zio_graph.specs.Rounds.{Before, DoTheirs, SoFar}
 use Rattle.zio_graph.specs.Slabs.{AreNumbered, held_if, held_of, shelf_of}
 use Rattle.zio_graph.specs.declared.entry.Entry.{Entry}
 use Rattle.zio_graph.proofs.Kept.{all_flying, kept_now, linked_as, running_as, two_forward, world}
+use Rattle.zio_graph.proofs.LedgerMoves.{ledger_order}
 use Rattle.zio_graph.proofs.Links.{HeldIn, held_there, on_shelf_there, some_is}
 use Rattle.zio_graph.proofs.Lives.{Fronted, first_at, other_at, second_at, to_front}
 use Rattle.zio_graph.proofs.RoundNodes.{IsThere}
@@ -96,6 +100,9 @@ module _ {N : Type 0} (nodes : Nodes N) (t : Terms) (sizes : ℕ → ℕ) (f : F
     pub numbered : AreNumbered {N = N} slab (flying_at (live_of key r.node ∷ live_of above q ∷ others))
     pub theirs : DoTheirs (flying_at (live_of key r.node ∷ live_of above q ∷ others)) leaves s.ops
     pub flies : flying_at (live_of key r.node ∷ live_of above q ∷ others) above ≡ Some q
+    pub ledger : IsLedger {N = N} nodes t f s.books s.entries s.tops s.trees (live_of key r.node ∷ live_of above q ∷ others) slab
+    pub seen : List Choice
+    pub of_round : IsOfRound t f seen q.stack
 
   second_seated : (x y : Live) (others : List Live) (state : State)
       → IsKept {N = N} nodes t sizes f before s.trees s.tops (x ∷ y ∷ others) (shelf_of {N = N} slab) queue leaves state
@@ -105,6 +112,15 @@ module _ {N : Type 0} (nodes : Nodes N) (t : Terms) (sizes : ℕ → ℕ) (f : F
       running_as t sizes f before s.trees (all_flying s.tops (x ∷ y ∷ others)) (flying_of x ∷ flying_of y ∷ all_flying s.tops others)
       state k.running (two_forward s.tops x y others) in
       r.running.seated.1.0
+
+  second_of_round : (x y : Live) (others : List Live) (state : State)
+      → IsKept {N = N} nodes t sizes f before s.trees s.tops (x ∷ y ∷ others) (shelf_of {N = N} slab) queue leaves state
+      → (seen : List Choice) × IsOfRound t f seen y.stack
+  second_of_round x y others state k =
+      let r : Later t sizes f before s.trees (flying_of x ∷ flying_of y ∷ all_flying s.tops others) state.entries state.images =
+      running_as t sizes f before s.trees (all_flying s.tops (x ∷ y ∷ others)) (flying_of x ∷ flying_of y ∷ all_flying s.tops others)
+      state k.running (two_forward s.tops x y others) in
+      (r.state.entries, r.running.of_round.1.0)
 
   pub is_above : (r : There) (above n : ℕ) (p : HasAbove r above n) (g : Entry N) → get slab above ≡ Some g
       → IsAbove r above n p.parent g
@@ -130,6 +146,7 @@ module _ {N : Type 0} (nodes : Nodes N) (t : Terms) (sizes : ℕ → ℕ) (f : F
       now.kept.linked (second_at (live_of key r.node) (live_of above p.parent) front.others now.kept.differ) held in
       let numbered : AreNumbered {N = N} slab (flying_at lives) =
       λ k h x there flies. r.numbered k h x there (sym (same k) ∙ flies) in
+      let of_round = second_of_round (live_of key r.node) (live_of above p.parent) front.others now.state now.kept in
       record {
         others = front.others;
         state = now.state;
@@ -144,4 +161,8 @@ module _ {N : Type 0} (nodes : Nodes N) (t : Terms) (sizes : ℕ → ℕ) (f : F
         numbered = numbered;
         theirs = λ k x flies. r.theirs k x (sym (same k) ∙ flies);
         flies = second_at (live_of key r.node) (live_of above p.parent) front.others now.kept.differ;
+        ledger = ledger_order nodes t f s.books s.entries s.tops s.trees slab slab (live_of key r.node ∷ r.others) lives
+            (IsPermutation-cons (live_of key r.node) r.others (live_of above p.parent ∷ front.others) front.order) r.ledger;
+        seen = of_round.0;
+        of_round = of_round.1;
       }

@@ -1,6 +1,5 @@
 -- A round that an engine keeps, where a node tells which pointer its value will have.
 use Rattle.std.proofs.Common.{◌≡◌, ◌≢◌, ℕ, zero, suc, List, [], ◌∷◌, ◌++◌, length, slice_set, false, Option, Some, ◌⊎◌, inl, inr, refl, sym, ap, ◌∙◌}
-use Rattle.zio_types.specs.declared.place.Place.{Place}
 use Rattle.zio_types.specs.declared.place.Top.{Top}
 use Rattle.zio_types.specs.declared.request.Phase.TheVariants.{Ready}
 use Rattle.zio_blkptr.specs.declared.pointer.Bp.{Bp}
@@ -17,7 +16,7 @@ use Rattle.zio_graph.specs.Engine.{counts_as_told}
 use Rattle.zio_graph.specs.Entries.{IsWith, Live, OfNode, OfTree, flying_at, live_of}
 use Rattle.zio_graph.specs.Found.{DoesAsked, IsChildOf, IsTreeFound}
 use Rattle.zio_graph.specs.Parts.{Nodes}
-use Rattle.zio_graph.specs.Rounds.{Before, KeepsRound, SoFar, TreeHearsEarly, choices_in, with_entries}
+use Rattle.zio_graph.specs.Rounds.{Before, KeepsRound, SoFar, TreeHearsEarly, choices_in, with_calls}
 use Rattle.zio_graph.specs.Slabs.{held_of, shelf_of}
 use Rattle.zio_graph.specs.Stages.{Tells}
 use Rattle.zio_graph.specs.declared.entry.Entry.{Entry}
@@ -25,9 +24,13 @@ use Rattle.zio_frames.proofs.GetLemmas.{same_or_not}
 use Rattle.zio_graph.proofs.ActLemmas.{woken_behind}
 use Rattle.zio_graph.proofs.Callings.{none_made}
 use Rattle.zio_graph.proofs.Finds.{tree_found}
-use Rattle.zio_graph.proofs.FoundFits.{one_asked, tree_asked}
+use Rattle.zio_graph.proofs.FoundFits.{one_asked, tree_asked, tree_seated}
 use Rattle.zio_graph.proofs.HearLemmas.{some_more, told_not}
 use Rattle.zio_graph.proofs.LeafOps.{theirs_parent}
+use Rattle.zio_graph.proofs.LedgerHears.{hears_early}
+use Rattle.zio_graph.proofs.LedgerMoves.{booked, ledger_stays, ledger_tells, ledger_tree}
+use Rattle.zio_graph.proofs.LedgerSlabs.{gave_put}
+use Rattle.zio_graph.proofs.LedgerTrees.{told_tree, top_slice}
 use Rattle.zio_graph.proofs.Lives.{first_at, other_at, with_first}
 use Rattle.zio_graph.proofs.MoveTell.{one_tells, one_tells_tree, one_untold}
 use Rattle.zio_graph.proofs.RoundNodes.{IsThere, still_as}
@@ -56,11 +59,11 @@ length_set [] n x = refl
 length_set (y ∷ xs) zero x = refl
 length_set (y ∷ xs) (suc n) x = ap (λ (k : ℕ). suc k) (length_set xs n x)
 
-module _ {N : Type 0} (nodes : Nodes N) (gave : N → List Place) (over : List Top → N → Type 0) (t : Terms) (sizes : ℕ → ℕ) (f : Forest)
+module _ {N : Type 0} (nodes : Nodes N) (over : List Top → N → Type 0) (t : Terms) (sizes : ℕ → ℕ) (f : Forest)
     (before : Before) (s : SoFar) (slab mid : Slab (Entry N)) (line leaves : List ℕ) (key : ℕ) (e : Entry N) (calls : List SpaceCall)
     (node : N) (pointer : Option Bp)
     (r : IsThere {N = N} nodes t sizes f before s slab (key ∷ line) leaves key e)
-    (tells : Tells {N = N} nodes gave t e.node r.node.stack calls node pointer)
+    (tells : Tells {N = N} nodes nodes.gave t e.node r.node.stack calls node pointer)
     (put : Updates slab mid key (Some (with_ties {N = N} node e.ties))) where
   -- what its parent can hear
   needs_it : (x q : Flying) (c : Child) → x.stack.outer.op ≡ r.node.stack.outer.op → DoesAsked {N = N} (held_of {N = N} e) x q c
@@ -107,7 +110,7 @@ module _ {N : Type 0} (nodes : Nodes N) (gave : N → List Place) (over : List T
 
     pub round_tells : (slab_now : Slab (Entry N)) (line_now : List ℕ)
         → NodeTold {N = N} nodes over mid line slab_now line_now e.ties.kind above n pointer
-        → KeepsRound {N = N} nodes t sizes f before (with_entries s (choices_in calls)) slab_now (key ∷ line_now) leaves
+        → KeepsRound {N = N} nodes t sizes f before (with_calls s calls) slab_now (key ∷ line_now) leaves
     round_tells slab_now line_now told =
         let p : HasAbove {N = N} nodes t sizes f before s slab (key ∷ line) leaves key e r above n =
         has_above {N = N} nodes t sizes f before s slab (key ∷ line) leaves key e r above n parent in
@@ -150,12 +153,18 @@ module _ {N : Type 0} (nodes : Nodes N) (gave : N → List Place) (over : List T
           theirs = theirs_parent (flying_at (live_of key r.node ∷ live_of above p.parent ∷ a.others))
               (flying_at (live_of key r.node ∷ live_of above y ∷ a.others)) leaves s.ops above p.parent (Some y) n p.child
               (with_second (live_of key r.node) above p.parent y a.others p.other) a.flies p.does.is a.theirs;
+          ledger = ledger_tells nodes t f (booked s.books calls) (s.entries ++ choices_in calls) s.tops s.trees mid slab_now
+              (live_of key r.node) above p.parent y a.others
+              (ledger_stays nodes t f s.books s.entries s.tops s.trees slab mid calls (live_of key r.node ∷ live_of above p.parent ∷ a.others)
+              a.ledger tells.no_calls (λ w. gave_put nodes slab mid key w e (with_ties {N = N} node e.ties) r.there put tells.gave_same))
+              (hears_early p.parent.stack n p.child pointer a.seated p.does.is p.does.goes)
+              (λ w. gave_put nodes mid slab_now above w told.was up_now told.heard.there told.heard.put told.heard.gave);
         }
 
   -- ---- a tree
 
   pub round_tells_tree : (tree n : ℕ) → (held_of {N = N} e).parent ≡ OfTree tree n
-      → TreeHearsEarly {N = N} nodes t sizes f before (with_entries s (choices_in calls)) mid (key ∷ line) leaves tree
+      → TreeHearsEarly {N = N} nodes t sizes f before (with_calls s calls) mid (key ∷ line) leaves tree
   round_tells_tree tree n parent =
       let found : IsTreeFound {N = N} nodes s.tops tree n r.node (held_of {N = N} e) =
       tree_found nodes t sizes f before s.trees s.tops (shelf_of {N = N} slab) (key ∷ line) leaves r.state key tree n r.node r.others
@@ -186,5 +195,14 @@ module _ {N : Type 0} (nodes : Nodes N) (gave : N → List Place) (over : List T
           numbered = numbered_with slab mid key (with_ties {N = N} node e.ties) (flying_at (live_of key r.node ∷ r.others))
               (flying_at (live_of key r.node ∷ r.others)) r.node put (with_first key r.node r.node r.others) r.given r.numbered;
           theirs = r.theirs;
+          ledger = ledger_tree nodes t f (booked s.books calls) (s.entries ++ choices_in calls) s.tops s.trees mid mid tree found.top
+              (record { at = found.top.at; stack = heard_early found.top.stack n found.child pointer }) (live_of key r.node ∷ r.others)
+              (ledger_stays nodes t f s.books s.entries s.tops s.trees slab mid calls (live_of key r.node ∷ r.others) r.ledger
+              tells.no_calls (λ w. gave_put nodes slab mid key w e (with_ties {N = N} node e.ties) r.there put tells.gave_same))
+              (top_slice s.tops tree found.top found.there)
+              (hears_early found.top.stack n found.child pointer
+              (tree_seated nodes t sizes f before s.trees s.tops (shelf_of {N = N} slab) (key ∷ line) leaves r.state tree found.top
+              (live_of key r.node ∷ r.others) r.kept found.there) found.does.is found.does.goes).ended
+              (told_tree found.top.stack n found.child pointer) (λ w. refl);
         };
       }

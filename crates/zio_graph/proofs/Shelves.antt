@@ -18,7 +18,7 @@ suc_other k n h e = h (omega arith)
 
 -- sums over what stands at each place, where a place behind the last counts nothing
 module _ {A : Type 0} (w : Option A → ℕ) (none : w None ≡ 0) where
-  sum_none : (xs : List (Option A)) → ((k : ℕ) → get_or xs k None ≡ None) → sum_by w xs ≡ 0
+  pub sum_none : (xs : List (Option A)) → ((k : ℕ) → get_or xs k None ≡ None) → sum_by w xs ≡ 0
   sum_none [] h = refl
   sum_none (x ∷ xs) h =
       let e : w x ≡ w None = ap w (h 0) in

@@ -1,5 +1,5 @@
 -- An operation at a leaf is on a place that has sectors.
-use Rattle.std.proofs.Common.{◌≡◌, ℕ, ◌*◌, ◌<◌, List, [], ◌∷◌, map, slice_get, true, sym, Option, Some, None, IfSome, IsTrue, Contains, inl, refl, ap, subst, arith}
+use Rattle.std.proofs.Common.{◌≡◌, ℕ, ◌<◌, List, [], ◌∷◌, map, slice_get, true, sym, Option, Some, None, IfSome, IsTrue, Contains, inl, refl, subst, arith}
 use Rattle.std.specs.List.{AllByRecursion, flat_map}
 use Rattle.std.proofs.lemmas.List.Sorted.{IsPermutation-refl}
 use Rattle.zio_types.specs.declared.place.Place.{Place}
@@ -19,10 +19,10 @@ use Rattle.zio_trace.specs.Families.{Forest, NoTrees, TreeOf, flat}
 use Rattle.zio_trace.specs.Footprints.{OfClaim, OfRequest, OfWork, OnCopies, Within}
 use Rattle.zio_trace.specs.Leaves.{IsAmong, LeafOp, spot_of}
 use Rattle.zio_trace.specs.Rounds.{settles}
-use Rattle.zio_trace.specs.Separate.{IsNoClaim, IsSoundBlock, IsSoundRequest}
+use Rattle.zio_trace.specs.Separate.{IsNoClaim, IsSoundBlock}
 use Rattle.zio_trace.specs.SoundRounds.{IsOwnBlock, IsSoundRound, work_of}
 use Rattle.zio_trace.specs.Tasks.{Leaf, Task}
-use Rattle.zio_trace.specs.Underway.{Comes, Flight, IsClear, State, StandsInTask, Work, flying_now}
+use Rattle.zio_trace.specs.Underway.{Comes, Flight, IsClear, State, Work, flying_now}
 use Rattle.zio_trace.proofs.ChoiceLemmas.{Answers, answers_in_all}
 use Rattle.zio_trace.proofs.ClearTasks.{all_nth}
 use Rattle.zio_trace.proofs.EntryLemmas.{entries_may_come}
@@ -32,7 +32,7 @@ use Rattle.zio_trace.proofs.SeparateLemmas.{request_touches}
 use Rattle.zio_trace.proofs.SoundLemmas.{block_of}
 use Rattle.zio_trace.proofs.SoundRoundLemmas.{first_tree, other_trees}
 use Rattle.zio_trace.proofs.UnderwayDone.{own_within}
-use Rattle.zio_frames.specs.Frames.{Flying, Stack, flight_at, flights_of, fresh_frame, fresh_stack}
+use Rattle.zio_frames.specs.Frames.{Flying, flight_at, flights_of, fresh_frame, fresh_stack}
 use Rattle.zio_frames.specs.Running.{IsRunning}
 use Rattle.zio_frames.specs.Slots.{Slot}
 use Rattle.zio_frames.proofs.Moved.{Goes, in_flight}

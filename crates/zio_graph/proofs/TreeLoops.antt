@@ -1,5 +1,5 @@
 -- All trees of a round, from one hearing to the next, and at its end.
-use Rattle.std.proofs.Common.{◌≡◌, ◌≢◌, ℕ, zero, suc, ◌+◌, ◌-◌, ◌<◌, ◌≤◌, List, [], ◌∷◌, ◌++◌, length, map, slice_get, slice_set, Bool, true, false, Option, Some, None, ◌⊎◌, inl, inr, refl, sym, ap, ◌∙◌, subst, arith}
+use Rattle.std.proofs.Common.{◌≡◌, ◌≢◌, ℕ, zero, suc, ◌+◌, ◌<◌, ◌≤◌, List, [], ◌∷◌, ◌++◌, length, map, slice_get, slice_set, false, Option, Some, None, ◌⊎◌, inl, inr, refl, sym, ap, ◌∙◌, subst, arith}
 use Rattle.std.proofs.Common.{append_assoc}
 use Rattle.std.specs.List.{AllByRecursion, sum_by}
 use Rattle.std.proofs.lemmas.List.Sums.{sum_by-cons}
@@ -10,8 +10,7 @@ use Rattle.zio_cksum.proofs.AllLemmas.{all_append}
 use Rattle.zio_script.specs.declared.script.Failmode.{Failmode}
 use Rattle.zio_gang.specs.Attempts.{Terms, reexecutions_max}
 use Rattle.zio_trace.specs.Families.{Forest}
-use Rattle.zio_trace.specs.SoundRounds.{IsSoundRound}
-use Rattle.zio_trace.specs.Tasks.{Attempt, AttemptedBy, One, Task, Value}
+use Rattle.zio_trace.specs.Tasks.{AttemptedBy, One, Task, Value}
 use Rattle.zio_frames.specs.Frames.{Child, Flying, Stack}
 use Rattle.zio_frames.specs.Moves.{heard_early, heard_of}
 use Rattle.zio_frames.specs.Seats.{asked_at}
@@ -20,16 +19,18 @@ use Rattle.zio_frames.proofs.GetLemmas.{get_other, get_set, same_or_not}
 use Rattle.zio_stages.specs.Outcomes.{IsOutcome}
 use Rattle.zio_stages.specs.declared.outcome.Finished.{Finished}
 use Rattle.zio_stages.specs.declared.outcome.Outcome.{Outcome}
+use Rattle.zio_stages.specs.declared.waiting.Waiting.{Waiting}
 use Rattle.zio_stages.specs.declared.outcome.Outcome.TheVariants.{Again, Finished as HasFinished, Found, Stored, Walked}
 use Rattle.slab.specs.Slab.{Slab}
 use Rattle.zio_graph.specs.Attempting.{Course, IsAttempting, attempt_of, rest_of, settled_with}
 use Rattle.zio_graph.specs.AtLeaves.{keys_at}
 use Rattle.zio_graph.specs.Engine.{IsKept}
 use Rattle.zio_graph.specs.Entries.{Live, flying_at, handed_on, standing, top_at}
-use Rattle.zio_graph.specs.Parts.{Nodes}
-use Rattle.zio_graph.specs.Rounds.{Before, EndsAs, SoFar, with_tree}
+use Rattle.zio_graph.specs.Ledgers.{Ending, IsLedger}
+use Rattle.zio_graph.specs.Parts.{Nodes, ended_by}
+use Rattle.zio_graph.specs.Rounds.{Before, EndsAs, SoFar, finished_in, with_done, with_tree}
 use Rattle.zio_graph.specs.Slabs.{AreAll, shelf_of}
-use Rattle.zio_graph.specs.UnderTrees.{AfterHearing, AreInStates, AreSettledWith, HasHeardOf, HasRun, IsInState, IsLeftOf, IsOfAttempt, IsOver, IsSettledWith, RunsSome, RunsToEnd, RunsTrees, TreeGoesOn, attempts_left, with_value}
+use Rattle.zio_graph.specs.UnderTrees.{AfterHearing, AreInStates, AreSettledWith, HasHeardOf, HasRun, IsInState, IsLeftOf, IsOfAttempt, IsOver, IsSettledWith, RunsSome, RunsToEnd, RunsTrees, StateIn, TreeGoesOn, attempts_left, with_value}
 use Rattle.zio_graph.specs.UnderTurns.{AreTold, EndsFinished, GoesOnSome, HasEndedFor, IsTelling, RunsToTree, Telling, with_telling}
 use Rattle.zio_graph.specs.declared.entry.Entry.{Entry}
 use Rattle.zio_graph.specs.declared.grounds.Grounds.{Grounds}
@@ -37,11 +38,19 @@ use Rattle.zio_graph.specs.declared.hearing.Hearing.{Hearing}
 use Rattle.zio_graph.specs.declared.trees.TreeEnd.{TreeEnd}
 use Rattle.zio_graph.specs.declared.trees.TreeState.{TreeState}
 use Rattle.zio_graph.specs.declared.trees.TreeState.TheVariants.{Settled, UnderWay}
-use Rattle.zio_graph.proofs.AttemptMoves.{course_asked, course_ends, course_goes_again, course_told}
+use Rattle.zio_graph.proofs.AttemptMoves.{course_asked, course_ended, course_ends, course_goes_again, course_told}
 use Rattle.zio_graph.proofs.Kept.{world}
 use Rattle.zio_graph.proofs.Links.{in_flight_there, some_is}
 use Rattle.zio_graph.proofs.Progress.{none_left}
 use Rattle.zio_graph.proofs.Tops.{stand_slot, top_other, top_set}
+use Rattle.zio_graph.proofs.TurnMoves.{told_append}
+
+-- what is suspended of one more tree is so
+pub all_in : (Q : List Waiting → Type 0) (states : List TreeState) (n : ℕ) (x : TreeState) → StateIn Q x
+    → AllByRecursion (StateIn Q) states → AllByRecursion (StateIn Q) (slice_set states n x)
+all_in Q [] n x is all = tt
+all_in Q (y ∷ ys) zero x is all = (is, all.1)
+all_in Q (y ∷ ys) (suc n) x is all = (all.0, all_in Q ys n x is all.1)
 
 -- with the value of the nth child
 abbrev heard_top : Flying → ℕ → Child → Value → Flying
@@ -134,10 +143,18 @@ tree_heard t c top n child op outcome v out is goes asked how =
         shows = subst (IsOutcome t (attempt_of c) outcome) value shows;
         ends = λ u left. course_ends t c top.stack out n child is goes v u
             (ap (λ (w : Value). left_behind_slots (Heard w ∷ []) (rest_of c)) value ∙ left);
-        goes = λ d left next. course_goes_again t c top.stack out n child is goes v d
-            (ap (λ (w : Value). left_behind_slots (Heard w ∷ []) (rest_of c)) value ∙ left) next;
+        goes = λ d left next ended. course_goes_again t c top.stack out n child is goes v d
+            (ap (λ (w : Value). left_behind_slots (Heard w ∷ []) (rest_of c)) value ∙ left) next
+            (ended ∙ ap (λ (w : Value). c.ended ++ ended_by w) (sym value));
+        ended_are = course_ended t c top.stack out n child is goes v ∙ ap (λ (w : Value). c.ended ++ ended_by w) value;
       };
     }
+
+-- a root that finished
+root_finished : (t : Terms) (op : Task) (outcome : Outcome) (v : Value) → EndsAs t op outcome v
+    → AllByRecursion (EndsFinished t) (finished_in outcome)
+root_finished t op (HasFinished f) v how = (record { op = op; value = v; how = how }, tt)
+root_finished t op _ v how = tt
 
 -- ---- one tree's state changes
 
@@ -295,6 +312,8 @@ module _ {N D : Type 0} (nodes : Nodes N) (over : List Top → N → Type 0) (by
         → Runs t sizes f before s first first_line lent begun → Ran t sizes f before s slab line g states now
     pub over_all : AreAll {N = N} (over g.desk.tops) slab
     pub steady : map faults g.disks.items ≡ map faults lent.disks.items
+    pub tops_same : g.desk.tops ≡ lent.desk.tops
+    pub setting_same : g.setting ≡ lent.setting
 
   pub trees_begin : AreAll {N = N} (over lent.desk.tops) first → IsRunningTrees first first_line lent begun ended
   trees_begin all = record {
@@ -306,9 +325,14 @@ module _ {N D : Type 0} (nodes : Nodes N) (over : List Top → N → Type 0) (by
       others = [];
       ended_are = sym (append-nil ended);
       are = tt;
+      done = [];
+      done_are = sym (append-nil s.books.done);
+      done_told = tt;
     };
     over_all = all;
     steady = refl;
+    tops_same = refl;
+    setting_same = refl;
   }
 
   module _ (slab slab_mid slab_now : Slab (Entry N)) (line line_mid line_now : List ℕ) (g g_now : Grounds D) (states : List TreeState)
@@ -333,7 +357,11 @@ module _ {N D : Type 0} (nodes : Nodes N) (over : List Top → N → Type 0) (by
         (Some heard)) where
       -- in one round
       pub record HearsNow (t : Terms) (sizes : ℕ → ℕ) (f : Forest) (before : Before) (mid : SoFar) : Type 0 where
-        pub ended_for : HasEndedFor {N = N} {D = D} nodes bytes image t sizes f before mid slab_mid line_mid g_now heard.tree heard.outcome
+        pub finished : List Finished
+        pub finished_are : later ≡ now ++ finished
+        pub finished_so : AllByRecursion (EndsFinished t) finished
+        pub ended_for : HasEndedFor {N = N} {D = D} nodes bytes image t sizes f before mid finished slab_mid line_mid g_now heard.tree
+            heard.outcome
         pub each : AreInStates t ended_for.now.tops states
         pub ends : AreSettledWith ended_for.now.trees states
         pub under : IsUnder t ended_for.top states heard.tree
@@ -342,10 +370,14 @@ module _ {N D : Type 0} (nodes : Nodes N) (over : List Top → N → Type 0) (by
       pub hears_now : (t : Terms) (sizes : ℕ → ℕ) (f : Forest) (before : Before) (mid : SoFar) → Runs t sizes f before mid slab line g states
           → HearsNow t sizes f before mid
       hears_now t sizes f before mid runs =
-          let e = (to_tree t sizes f before mid runs.sound runs.going).0 in
+          let a = to_tree t sizes f before mid runs.sound runs.going in
+          let e = a.3 in
           let each : AreInStates t e.now.tops states = states_told t e.gone.tellings mid.tops e.now.tops states e.gone.told runs.each in
           let under : IsUnder t e.top states heard.tree = under_there t e.top e.now.tops states heard.tree each e.there in
           record {
+            finished = a.0;
+            finished_are = a.1;
+            finished_so = a.2;
             ended_for = e;
             each = each;
             ends = still_settled mid.trees e.now.trees states e.gone.trees_are runs.ends;
@@ -365,44 +397,61 @@ module _ {N D : Type 0} (nodes : Nodes N) (over : List Top → N → Type 0) (by
           let n = (hears_some some).5 in
           (n.under.course.attempt, n.under.state, omega (arith, n.under.few), n.hears.of)
 
-      module _ (attempt : ℕ) (state : slice_get states heard.tree ≡ Some (UnderWay attempt)) where
+      module _ (attempt : ℕ) (state : slice_get states heard.tree ≡ Some (UnderWay attempt)) (pushed : List Finished)
+          (is_pushed : pushed ≡ later ++ finished_in heard.outcome) where
         -- what the tree's hearing leaves of a round
         after_hearing : (end : Option TreeEnd)
             → TreeGoesOn {N = N} nodes slab_mid line_mid slab_now line_now round failmode heard.tree attempt heard.outcome end
             → (t : Terms) (sizes : ℕ → ℕ) (f : Forest) (before : Before) (mid : SoFar) → Runs t sizes f before mid slab line g states
             → (n : HearsNow t sizes f before mid)
             → AfterHearing {N = N} nodes t sizes f before
-            (with_tree n.ended_for.now heard.tree (heard_top n.ended_for.top n.ended_for.number n.ended_for.child n.ended_for.value))
+            (with_done (with_tree n.ended_for.now heard.tree
+            (heard_top n.ended_for.top n.ended_for.number n.ended_for.child n.ended_for.value)) n.ended_for.more)
             slab_now line_now (keys_at g_now.queues.leaves.items) heard.tree
             (heard_top n.ended_for.top n.ended_for.number n.ended_for.child n.ended_for.value) n.under.course n.hears.one end
         after_hearing end goes_on t sizes f before mid runs n =
             let e = n.ended_for in
             let y : Flying = heard_top e.top e.number e.child e.value in
-            goes_on t sizes f before (with_tree e.now heard.tree y) (keys_at g_now.queues.leaves.items) y n.under.course n.hears.one
+            goes_on t sizes f before (with_done (with_tree e.now heard.tree y) e.more) (keys_at g_now.queues.leaves.items) y n.under.course n.hears.one
             runs.sound runs.round_is runs.failmode_is e.going.keeps (top_set e.now.tops heard.tree e.top (Some y) e.there)
             (same_attempt n.under.course.attempt attempt (sym n.under.state ∙ state)) n.under.few n.hears.heard
 
         ran_to : (t : Terms) (sizes : ℕ → ℕ) (f : Forest) (before : Before) (s : SoFar)
             → (r : Ran t sizes f before s slab line g states now) → (n : HearsNow t sizes f before r.now) → (last : SoFar)
-            → last.entries ≡ n.ended_for.now.entries → (states_now : List TreeState)
-            → Runs t sizes f before last slab_now line_now g_now states_now → Ran t sizes f before s slab_now line_now g_now states_now later
-        ran_to t sizes f before s r n last same states_now runs_now =
-            let a = (to_tree t sizes f before r.now r.runs.sound r.runs.going).1 in
+            → last.entries ≡ n.ended_for.now.entries → last.books.done ≡ n.ended_for.now.books.done ++ n.ended_for.more
+            → (states_now : List TreeState) → Runs t sizes f before last slab_now line_now g_now states_now
+            → Ran t sizes f before s slab_now line_now g_now states_now pushed
+        ran_to t sizes f before s r n last same same_done states_now runs_now =
+            let e = n.ended_for in
+            let new : List Finished = n.finished ++ finished_in heard.outcome in
+            let enrolled : last.books.done ≡ (r.now.books.done ++ e.gone.done) ++ e.more =
+            same_done ∙ ap (λ (xs : List Ending). xs ++ e.more) e.gone.done_are in
             record {
               now = last;
               runs = runs_now;
               more = r.more ++ n.ended_for.gone.more;
               entries_are = same ∙ (n.ended_for.gone.entries_are ∙ (ap (λ (es : List Choice). es ++ n.ended_for.gone.more) r.entries_are
                   ∙ append_assoc s.entries r.more n.ended_for.gone.more));
-              others = r.others ++ a.0;
-              ended_are = a.1 ∙ (ap (λ (xs : List Finished). xs ++ a.0) r.ended_are ∙ append_assoc ended r.others a.0);
-              are = all_append (EndsFinished t) r.others a.0 r.are a.2;
+              others = r.others ++ new;
+              ended_are = is_pushed ∙ (ap (λ (xs : List Finished). xs ++ finished_in heard.outcome) n.finished_are
+                  ∙ (append_assoc now n.finished (finished_in heard.outcome)
+                  ∙ (ap (λ (xs : List Finished). xs ++ new) r.ended_are ∙ append_assoc ended r.others new)));
+              are = all_append (EndsFinished t) r.others new r.are
+                  (all_append (EndsFinished t) n.finished (finished_in heard.outcome) n.finished_so
+                  (root_finished t e.op heard.outcome e.value e.how));
+              done = r.done ++ (e.gone.done ++ e.more);
+              done_are = enrolled ∙ (append_assoc r.now.books.done e.gone.done e.more
+                  ∙ (ap (λ (xs : List Ending). xs ++ (e.gone.done ++ e.more)) r.done_are
+                  ∙ append_assoc s.books.done r.done (e.gone.done ++ e.more)));
+              done_told = told_append r.others new r.done (e.gone.done ++ e.more) r.done_told
+                  (told_append n.finished (finished_in heard.outcome) e.gone.done e.more e.gone.done_told e.told);
             }
 
         pub trees_again : TreeGoesOn {N = N} nodes slab_mid line_mid slab_now line_now round failmode heard.tree attempt heard.outcome None
             → AreAll {N = N} (over g_now.desk.tops) slab_now → map faults g_now.disks.items ≡ map faults g.disks.items
-            → IsRunningTrees slab_now line_now g_now (slice_set states heard.tree (UnderWay (attempt + 1))) later
-        trees_again goes_on all steady = record {
+            → g_now.desk.tops ≡ g.desk.tops → g_now.setting ≡ g.setting
+            → IsRunningTrees slab_now line_now g_now (slice_set states heard.tree (UnderWay (attempt + 1))) pushed
+        trees_again goes_on all steady tops setting = record {
           gone = λ t sizes f before s runs.
               let r = h.gone t sizes f before s runs in
               let n = hears_now t sizes f before r.now r.runs in
@@ -410,10 +459,10 @@ module _ {N D : Type 0} (nodes : Nodes N) (over : List Top → N → Type 0) (by
               let e = n.ended_for in
               let y : Flying = heard_top e.top e.number e.child e.value in
               let z : Flying = handed_on y (attempt_of again.next) in
-              let last : SoFar = with_tree (with_tree e.now heard.tree y) heard.tree z in
+              let last : SoFar = with_tree (with_done (with_tree e.now heard.tree y) e.more) heard.tree z in
               let number : again.next.attempt ≡ attempt + 1 =
               again.number ∙ ap (λ (k : ℕ). k + 1) (same_attempt n.under.course.attempt attempt (sym n.under.state ∙ state)) in
-              ran_to t sizes f before s r n last refl (slice_set states heard.tree (UnderWay (attempt + 1))) (record {
+              ran_to t sizes f before s r n last refl refl (slice_set states heard.tree (UnderWay (attempt + 1))) (record {
                 sound = r.runs.sound;
                 round_is = r.runs.round_is;
                 failmode_is = r.runs.failmode_is;
@@ -424,13 +473,16 @@ module _ {N D : Type 0} (nodes : Nodes N) (over : List Top → N → Type 0) (by
               });
           over_all = all;
           steady = steady ∙ h.steady;
+          tops_same = tops ∙ h.tops_same;
+          setting_same = setting ∙ h.setting_same;
         }
 
         pub trees_settle : (end : TreeEnd)
             → TreeGoesOn {N = N} nodes slab_mid line_mid slab_now line_now round failmode heard.tree attempt heard.outcome (Some end)
             → AreAll {N = N} (over g_now.desk.tops) slab_now → map faults g_now.disks.items ≡ map faults g.disks.items
-            → IsRunningTrees slab_now line_now g_now (slice_set states heard.tree (Settled end)) later
-        trees_settle end goes_on all steady = record {
+            → g_now.desk.tops ≡ g.desk.tops → g_now.setting ≡ g.setting
+            → IsRunningTrees slab_now line_now g_now (slice_set states heard.tree (Settled end)) pushed
+        trees_settle end goes_on all steady tops setting = record {
           gone = λ t sizes f before s runs.
               let r = h.gone t sizes f before s runs in
               let n = hears_now t sizes f before r.now r.runs in
@@ -439,8 +491,8 @@ module _ {N D : Type 0} (nodes : Nodes N) (over : List Top → N → Type 0) (by
               let y : Flying = heard_top e.top e.number e.child e.value in
               let slot = stand_slot 0 (slice_set e.now.tops heard.tree (Some y)) e.now.trees heard.tree y e.going.keeps.still.kept.stand
               (top_set e.now.tops heard.tree e.top (Some y) e.there) in
-              let last : SoFar = with_value (with_tree e.now heard.tree y) heard.tree (settled_with n.under.course n.hears.one) in
-              ran_to t sizes f before s r n last refl (slice_set states heard.tree (Settled end)) (record {
+              let last : SoFar = with_value (with_done (with_tree e.now heard.tree y) e.more) heard.tree (settled_with n.under.course n.hears.one) in
+              ran_to t sizes f before s r n last refl refl (slice_set states heard.tree (Settled end)) (record {
                 sound = r.runs.sound;
                 round_is = r.runs.round_is;
                 failmode_is = r.runs.failmode_is;
@@ -451,6 +503,8 @@ module _ {N D : Type 0} (nodes : Nodes N) (over : List Top → N → Type 0) (by
               });
           over_all = all;
           steady = steady ∙ h.steady;
+          tops_same = tops ∙ h.tops_same;
+          setting_same = setting ∙ h.setting_same;
         }
 
     -- ---- the end
@@ -480,6 +534,7 @@ module _ {N D : Type 0} (nodes : Nodes N) (over : List Top → N → Type 0) (by
               nothing_flies held.key flies.0 flies.1);
           entries_are = k.still.entries_are;
           images_are = k.still.images_are;
+          ledger = subst (λ (lives : List Live). IsLedger {N = N} nodes t f s.books s.entries s.tops s.trees lives slab_mid) none k.ledger;
         }
 
     pub trees_end : RunsToTree {N = N} {D = D} nodes bytes image slab line g now slab_mid line_mid g_now later None
@@ -488,24 +543,28 @@ module _ {N D : Type 0} (nodes : Nodes N) (over : List Top → N → Type 0) (by
     trees_end to_tree no_keys none_waits = λ t sizes f before s runs.
         let r = h.gone t sizes f before s runs in
         let a = to_tree t sizes f before r.now r.runs.sound r.runs.going in
-        let last : SoFar = a.0.now in
+        let last : SoFar = a.3.now in
         let runs_now : Runs t sizes f before last slab_mid line_mid g_now states = record {
           sound = r.runs.sound;
           round_is = r.runs.round_is;
           failmode_is = r.runs.failmode_is;
-          going = a.0.going;
-          each = states_told t a.0.gone.tellings r.now.tops last.tops states a.0.gone.told r.runs.each;
-          ends = still_settled r.now.trees last.trees states a.0.gone.trees_are r.runs.ends;
+          going = a.3.going;
+          each = states_told t a.3.gone.tellings r.now.tops last.tops states a.3.gone.told r.runs.each;
+          ends = still_settled r.now.trees last.trees states a.3.gone.trees_are r.runs.ends;
         } in (
           record {
             now = last;
             runs = runs_now;
-            more = r.more ++ a.0.gone.more;
-            entries_are = a.0.gone.entries_are ∙ (ap (λ (es : List Choice). es ++ a.0.gone.more) r.entries_are
-                ∙ append_assoc s.entries r.more a.0.gone.more);
-            others = r.others ++ a.1.0;
-            ended_are = a.1.1 ∙ (ap (λ (xs : List Finished). xs ++ a.1.0) r.ended_are ∙ append_assoc ended r.others a.1.0);
-            are = all_append (EndsFinished t) r.others a.1.0 r.are a.1.2;
+            more = r.more ++ a.3.gone.more;
+            entries_are = a.3.gone.entries_are ∙ (ap (λ (es : List Choice). es ++ a.3.gone.more) r.entries_are
+                ∙ append_assoc s.entries r.more a.3.gone.more);
+            others = r.others ++ a.0;
+            ended_are = a.1 ∙ (ap (λ (xs : List Finished). xs ++ a.0) r.ended_are ∙ append_assoc ended r.others a.0);
+            are = all_append (EndsFinished t) r.others a.0 r.are a.2;
+            done = r.done ++ a.3.gone.done;
+            done_are = a.3.gone.done_are ∙ (ap (λ (xs : List Ending). xs ++ a.3.gone.done) r.done_are
+                ∙ append_assoc s.books.done r.done a.3.gone.done);
+            done_told = told_append r.others a.0 r.done a.3.gone.done r.done_told a.3.gone.done_told;
           },
           over_now t sizes f before last runs_now no_keys none_waits,
         )

@@ -1,13 +1,12 @@
 -- A round that an engine keeps, where a tree begins an attempt, and hears of one.
-use Rattle.std.proofs.Common.{◌≡◌, ℕ, zero, suc, ◌+◌, ◌<◌, ◌≤◌, List, Bool, true, false, Option, Some, None, refl, sym, ap, ◌∙◌, subst, arith}
+use Rattle.std.proofs.Common.{◌≡◌, ℕ, zero, suc, ◌+◌, ◌<◌, ◌≤◌, List, [], true, false, Option, Some, None, refl, sym, ap, ◌∙◌, subst, arith}
 use Rattle.zio_types.specs.declared.request.Bits.{Bits}
 use Rattle.zio_blkptr.specs.declared.pointer.Bp.{Bp}
 use Rattle.zio_script.specs.declared.script.Failmode.{Failmode}
-use Rattle.zio_gang.specs.Attempts.{Pending, Terms, now_alone, reexecutions_max}
+use Rattle.zio_gang.specs.Attempts.{Pending, Terms, now_alone}
 use Rattle.zio_trace.specs.Conflicts.{is_single}
 use Rattle.zio_trace.specs.Families.{Forest, NoTrees, TreeOf}
-use Rattle.zio_trace.specs.SoundRounds.{IsSoundRound}
-use Rattle.zio_trace.specs.Tasks.{Attempt, AttemptedBy, One, Settle, Task, Value}
+use Rattle.zio_trace.specs.Tasks.{Attempt, AttemptedBy, One, Settle, Task, Value, settled}
 use Rattle.zio_frames.specs.Frames.{Flying, Inner, Stack, asking, asking_in, fresh_stack}
 use Rattle.zio_frames.specs.Moves.{IsEnded}
 use Rattle.zio_stages.specs.Outcomes.{IsFinishedAs, IsLeftAs, IsOutcome}
@@ -17,15 +16,17 @@ use Rattle.zio_stages.specs.declared.outcome.Outcome.TheVariants.{Again, Finishe
 use Rattle.zio_stages.specs.declared.waiting.Waiting.{Waiting}
 use Rattle.zio_stages.proofs.ForestLemmas.{one_forest}
 use Rattle.slab.specs.Slab.{Slab}
-use Rattle.zio_graph.specs.Attempting.{Course, IsBetween, IsSettle, again_with, attempt_of, settled_with}
+use Rattle.zio_graph.specs.Attempting.{Course, IsSettle, again_with, attempt_of, settled_with}
 use Rattle.zio_graph.specs.Entries.{top_at}
-use Rattle.zio_graph.specs.Parts.{Nodes}
+use Rattle.zio_graph.specs.Parts.{Nodes, ended_in}
 use Rattle.zio_graph.specs.Rounds.{Before, HandsOut, KeepsRound, SoFar}
 use Rattle.zio_graph.specs.Slabs.{shelf_of}
-use Rattle.zio_graph.specs.UnderTrees.{BeginsIn, BeginsOn, GoesAgain, HasHeardOf, IsSettled, TreeGoesOn, with_value}
+use Rattle.zio_graph.specs.UnderTrees.{BeginsOn, TreeGoesOn, with_value}
 use Rattle.zio_graph.specs.declared.entry.Entry.{Entry}
 use Rattle.zio_graph.specs.declared.trees.TreeEnd.TheVariants.{Finished as RootFinished, Suspended}
 use Rattle.zio_graph.proofs.AttemptMoves.{course_asks, course_handed, goes_again, settled_last, settled_now}
+use Rattle.zio_graph.proofs.LedgerMoves.{ledger_settles}
+use Rattle.zio_graph.proofs.LedgerTrees.{stand_out, top_slice}
 use Rattle.zio_graph.proofs.MoveEndTree.{tree_ends}
 use Rattle.zio_graph.proofs.RoundNodes.{still_as}
 
@@ -48,14 +49,14 @@ module _ {N : Type 0} (nodes : Nodes N) (slab slab_now : Slab (Entry N)) (line l
     (tree attempt : ℕ) where
   pub attempt_begins : (whole : List Waiting) (node : N) → HandsOut {N = N} nodes slab line slab_now line_now tree attempt node
       → ((t : Terms) (p : Pending) (forest : Forest) → t.round ≡ round → t.failmode ≡ failmode → IsTreeOf whole p forest
-      → nodes.Is t node (fresh_stack (Attempt attempt p forest))) → nodes.told node ≡ false
+      → nodes.Is t node (fresh_stack (Attempt attempt p forest))) → nodes.told node ≡ false → nodes.gave node ≡ []
       → BeginsOn {N = N} nodes slab line slab_now line_now round failmode tree attempt whole
-  attempt_begins whole node hands fresh told = λ t sizes f before s leaves top c sound same_round same_mode k there between number is.
+  attempt_begins whole node hands fresh told gave = λ t sizes f before s leaves top c sound same_round same_mode k there between number is.
       record {
         keeps = hands t sizes f before s leaves top (attempt_of c) sound k there (asking_many top.stack between.settles between.alone)
             (course_asks t c top.stack between) refl
             (subst (λ (n : ℕ). nodes.Is t node (fresh_stack (Attempt n c.request c.kids))) (sym number)
-            (fresh t c.request c.kids same_round same_mode is)) told (sym (between.number ∙ number));
+            (fresh t c.request c.kids same_round same_mode is)) told gave (sym (between.number ∙ number));
         out = course_handed t c top.stack between;
       }
 
@@ -63,9 +64,11 @@ module _ {N : Type 0} (nodes : Nodes N) (slab slab_now : Slab (Entry N)) (line l
 
   pub tree_settles : (t : Terms) (sizes : ℕ → ℕ) (f : Forest) (before : Before) (s : SoFar) (leaves : List ℕ) (top : Flying)
       (v : Value) → KeepsRound {N = N} nodes t sizes f before s slab line leaves → top_at s.tops tree ≡ Some top
-      → IsEnded t top.stack v → KeepsRound {N = N} nodes t sizes f before (with_value s tree v) slab line leaves
-  tree_settles t sizes f before s leaves top v k there ended =
+      → IsEnded t top.stack v → ended_in top.stack ≡ (settled v).ended
+      → KeepsRound {N = N} nodes t sizes f before (with_value s tree v) slab line leaves
+  tree_settles t sizes f before s leaves top v k there ended same =
       let now : SoFar = with_value s tree v in
+      let out = stand_out 0 s.tops s.trees tree top k.still.kept.stand there in
       record {
         lives = k.lives;
         still = still_as nodes t sizes f before now.trees now.tops k.lives (shelf_of {N = N} slab) line leaves k.still.state.entries
@@ -75,17 +78,19 @@ module _ {N : Type 0} (nodes : Nodes N) (slab slab_now : Slab (Entry N)) (line l
             k.still.entries_are k.still.images_are;
         numbered = k.numbered;
         theirs = k.theirs;
+        ledger = ledger_settles nodes t f s.books s.entries s.tops s.trees slab slab tree top out.0 v k.lives k.ledger
+            (top_slice s.tops tree top there) out.1 same (λ w. refl);
       }
 
   pub tree_finishes : (finished : Finished)
-      → TreeGoesOn {N = N} nodes slab line slab line round failmode tree attempt (HasFinished finished) (Some (RootFinished finished))
+      → TreeGoesOn {N = N} nodes slab line slab line round failmode tree attempt (HasFinished finished) (Some RootFinished)
   tree_finishes finished = λ t sizes f before s leaves top c one sound same_round same_mode k there number few h.
       let is : one ≡ h.shows.1.0 = same_one one h.shows.1.0 h.shows.1.1 in
       let as_one : IsFinishedAs finished one = subst (IsFinishedAs finished) (sym is) h.shows.1.2 in
       record {
-        left = as_one;
+        left = (finished, as_one);
         keeps = tree_settles t sizes f before s leaves top (settled_with c one) k there
-            (h.ends (settled_with c one) (settled_now c one (ap now_alone as_one.by.same_bits)));
+            (h.ends (settled_with c one) (settled_now c one (ap now_alone as_one.by.same_bits))) h.ended_are;
       }
 
   left_one : (t : Terms) (c : Course) (whole : List Waiting) (bits : Bits) (pointer : Option Bp) (one : One)
@@ -101,7 +106,7 @@ module _ {N : Type 0} (nodes : Nodes N) (slab slab_now : Slab (Entry N)) (line l
       record {
         left = (bits, pointer, left);
         keeps = tree_settles t sizes f before s leaves top (settled_with c one) k there
-            (h.ends (settled_with c one) (settled_now c one (ap now_alone left.by.same_bits ∙ alone)));
+            (h.ends (settled_with c one) (settled_now c one (ap now_alone left.by.same_bits ∙ alone))) h.ended_are;
       }
 
   -- it went again as often as it may
@@ -113,7 +118,7 @@ module _ {N : Type 0} (nodes : Nodes N) (slab slab_now : Slab (Entry N)) (line l
       record {
         left = (bits, pointer, left);
         keeps = tree_settles t sizes f before s leaves top (settled_with c one) k there
-            (h.ends (settled_with c one) (settled_last c one last));
+            (h.ends (settled_with c one) (settled_last c one last)) h.ended_are;
       }
 
   -- its next attempt begins
@@ -132,6 +137,6 @@ module _ {N : Type 0} (nodes : Nodes N) (slab slab_now : Slab (Entry N)) (line l
         next = d;
         number = refl;
         few = let e = more.1 in omega (arith, few, e);
-        begins = begins t sizes f before s leaves top d sound same_round same_mode k there (h.goes d behind refl)
+        begins = begins t sizes f before s leaves top d sound same_round same_mode k there (h.goes d behind refl refl)
             (ap (λ (n : ℕ). n + 1) number) w.is;
       }

@@ -1,5 +1,5 @@
 -- A turn and its stages: what stands before each of them.
-use Rattle.std.proofs.Common.{◌≡◌, ℕ, ◌+◌, ◌*◌, ◌<◌, ◌≤◌, List, [], ◌∷◌, length, map, Option, Some, refl, sym, ap, ◌∙◌, subst, arith}
+use Rattle.std.proofs.Common.{◌≡◌, ℕ, ◌+◌, ◌<◌, ◌≤◌, List, [], ◌∷◌, length, map, Some, None, refl, sym, ap, ◌∙◌, subst, arith}
 use Rattle.std.specs.Prelude.{slice_index_or}
 use Rattle.zio_types.specs.declared.place.Top.{Top}
 use Rattle.zio_gang.specs.Attempts.{Terms}
@@ -13,11 +13,11 @@ use Rattle.zio_stages.specs.declared.outcome.Outcome.{Outcome}
 use Rattle.slab.specs.Slab.{Slab}
 use Rattle.zio_graph.specs.Acts.{load_of}
 use Rattle.zio_graph.specs.AtLeaves.{IsPut, keys_at, put_as}
-use Rattle.zio_graph.specs.Desks.{AreServed}
+use Rattle.zio_graph.specs.Desks.{AreServed, GivesLast}
 use Rattle.zio_graph.specs.Entries.{times_in}
 use Rattle.zio_graph.specs.Grounds.{AreReady}
 use Rattle.zio_graph.specs.Parts.{Nodes}
-use Rattle.zio_graph.specs.Rounds.{Before, ClaimsAlone, IsTurn, SoFar, StepsOn}
+use Rattle.zio_graph.specs.Rounds.{Before, IsTurn, SoFar, StepsOn}
 use Rattle.zio_graph.specs.Slabs.{AreAll, load}
 use Rattle.zio_graph.specs.UnderTurns.{AreSameGrounds, GoesOnSome, HasTurned, IsGoingOn, TurnsOn, work_left}
 use Rattle.zio_graph.specs.declared.desk.Desk.{Desk}
@@ -35,7 +35,7 @@ module _ {N D : Type 0} (nodes : Nodes N) (over : List Top → N → Type 0) (by
   pub record IsTurning (slab : Slab (Entry N)) (line : List ℕ) (g : Grounds D) : Type 0 where
     pub gone : (t : Terms) (sizes : ℕ → ℕ) (f : Forest) (before : Before) (s : SoFar) → IsSoundRound t sizes f
         → IsGoingOn {N = N} {D = D} nodes bytes image t sizes f before s first (key ∷ first_line) lent
-        → HasTurned {N = N} {D = D} nodes bytes image t sizes f before s slab (key ∷ line) g
+        → HasTurned {N = N} {D = D} nodes bytes image t sizes f before s [] slab (key ∷ line) g
     pub over_all : AreAll {N = N} (over g.desk.tops) slab
     pub same : AreSameGrounds {D = D} lent g
     pub leaves_same : g.queues.leaves.items ≡ lent.queues.leaves.items
@@ -52,7 +52,7 @@ module _ {N D : Type 0} (nodes : Nodes N) (over : List Top → N → Type 0) (by
 
   module _ (slab : Slab (Entry N)) (line : List ℕ) (g : Grounds D) (h : IsTurning slab line g)
       (some : GoesOnSome {N = N} {D = D} nodes bytes image first (key ∷ first_line) lent) where
-    abbrev so_far : HasTurned {N = N} {D = D} nodes bytes image some.terms some.sizes some.forest some.before some.so_far slab
+    abbrev so_far : HasTurned {N = N} {D = D} nodes bytes image some.terms some.sizes some.forest some.before some.so_far [] slab
         (key ∷ line) g
     so_far = h.gone some.terms some.sizes some.forest some.before some.so_far some.sound some.going
 
@@ -73,7 +73,7 @@ module _ {N D : Type 0} (nodes : Nodes N) (over : List Top → N → Type 0) (by
     }
 
     module _ (slab_now : Slab (Entry N)) (line_now : List ℕ) (d : Desk) (calls : List SpaceCall)
-        (served : AreServed calls g.desk.space d.space g.desk.asked d.asked) (tops_same : d.tops ≡ g.desk.tops) where
+        (served : AreServed calls g.desk.space d.space g.desk.asked d.asked) (last : GivesLast calls) (tops_same : d.tops ≡ g.desk.tops) where
       abbrev On : Step → Type 0
       On step = StepsOn {N = N} nodes g.desk.tops calls slab line slab_now line_now key step
 
@@ -94,7 +94,7 @@ module _ {N D : Type 0} (nodes : Nodes N) (over : List Top → N → Type 0) (by
           → load {N = N} nodes.left slab_now line_now + 1 < load {N = N} nodes.left slab line + 1 → IsTurning slab_now line_now With
       turning_goes steps all less = record {
         gone = λ t sizes f before s sound k. turn_goes nodes bytes image t sizes f before s slab slab_now line line_now key g d calls
-            sound (h.gone t sizes f before s sound k) served tops_same steps;
+            sound (h.gone t sizes f before s sound k) served last tops_same steps;
         over_all = over_now all;
         same = same_now;
         leaves_same = h.leaves_same;
@@ -105,7 +105,7 @@ module _ {N D : Type 0} (nodes : Nodes N) (over : List Top → N → Type 0) (by
           → load {N = N} nodes.left slab_now line_now + 1 < load {N = N} nodes.left slab line + 1 → IsTurning slab_now line_now With
       turning_told tree steps all less = record {
         gone = λ t sizes f before s sound k. turn_told nodes bytes image t sizes f before s slab slab_now line line_now key g d calls
-            sound (h.gone t sizes f before s sound k) served tops_same tree steps;
+            sound (h.gone t sizes f before s sound k) served last tops_same tree steps;
         over_all = over_now all;
         same = same_now;
         leaves_same = h.leaves_same;
@@ -116,28 +116,28 @@ module _ {N D : Type 0} (nodes : Nodes N) (over : List Top → N → Type 0) (by
           → TurnsOn {N = N} {D = D} nodes bytes image first first_line lent slab_now line_now With key Nothing
       turning_rests steps = λ t sizes f before s sound k.
           turn_rests nodes bytes image t sizes f before s slab slab_now line line_now key g d calls sound
-          (h.gone t sizes f before s sound k) served tops_same steps
+          (h.gone t sizes f before s sound k) served last tops_same steps
 
-      pub turning_ends : (finished : Option Finished) → On (Ended finished)
+      pub turning_ends : On (Ended None)
           → TurnsOn {N = N} {D = D} nodes bytes image first first_line lent slab_now line_now With key Nothing
-      turning_ends finished steps = λ t sizes f before s sound k.
+      turning_ends steps = λ t sizes f before s sound k.
           turn_ends nodes bytes image t sizes f before s slab slab_now line line_now key g d calls sound
-          (h.gone t sizes f before s sound k) served tops_same finished steps
+          (h.gone t sizes f before s sound k) served last tops_same None steps
 
       pub turning_finishes : (finished : Finished) → On (Ended (Some finished))
           → TurnsOn {N = N} {D = D} nodes bytes image first first_line lent slab_now line_now With key (HasEnded finished)
       turning_finishes finished steps = λ t sizes f before s sound k. (
         turn_finishes nodes bytes image t sizes f before s slab slab_now line line_now key g d calls sound
-            (h.gone t sizes f before s sound k) served tops_same finished steps,
+            (h.gone t sizes f before s sound k) served last tops_same finished steps,
         turn_ends nodes bytes image t sizes f before s slab slab_now line line_now key g d calls sound
-            (h.gone t sizes f before s sound k) served tops_same (Some finished) steps,
+            (h.gone t sizes f before s sound k) served last tops_same (Some finished) steps,
       )
 
       pub turning_roots : (tree : ℕ) (outcome : Outcome) → On (Root tree outcome)
           → TurnsOn {N = N} {D = D} nodes bytes image first first_line lent slab_now line_now With key (ToRoot tree outcome)
       turning_roots tree outcome steps = λ t sizes f before s sound k.
           turn_roots nodes bytes image t sizes f before s slab slab_now line line_now key g d calls sound
-          (h.gone t sizes f before s sound k) served tops_same tree outcome steps
+          (h.gone t sizes f before s sound k) served last tops_same tree outcome steps
 
       -- how much is left
       pub turning_less : (step : Step) → load {N = N} nodes.left slab_now line_now + load_of step < load {N = N} nodes.left slab line + 1
@@ -155,14 +155,14 @@ module _ {N D : Type 0} (nodes : Nodes N) (over : List Top → N → Type 0) (by
             × (times_in key (keys_at g.queues.leaves.items) ≡ 0)
         turning_takes =
             let takes : TakesIt {N = N} {D = D} nodes bytes image some.terms some.sizes some.forest some.before some.so_far slab slab_now
-            line line_now key g d calls some.sound so_far served tops_same op leaf =
+            line line_now key g d calls some.sound so_far served last tops_same op leaf =
             leaf_takes nodes bytes image some.terms some.sizes some.forest some.before some.so_far slab slab_now line line_now key g d
-            calls some.sound so_far served tops_same op leaf stored steps in (
+            calls some.sound so_far served last tops_same op leaf stored steps in (
               takes.there,
               takes.fits,
               takes.ends,
               none_waits nodes bytes image some.terms some.sizes some.forest some.before some.so_far slab slab_now line line_now key g d
-                  calls some.sound so_far served tops_same,
+                  calls some.sound so_far served last tops_same,
             )
 
         module _ (now : Grounds D) (put : IsPut leaf (put_as key op stored) g.queues.leaves.items now.queues.leaves.items)
@@ -172,7 +172,7 @@ module _ {N D : Type 0} (nodes : Nodes N) (over : List Top → N → Type 0) (by
           pub turning_leaves : TurnsOn {N = N} {D = D} nodes bytes image first first_line lent slab_now line_now now key Nothing
           turning_leaves = λ t sizes f before s sound k.
               turn_leaves nodes bytes image t sizes f before s slab slab_now line line_now key g d calls sound
-              (h.gone t sizes f before s sound k) served tops_same op leaf stored steps now put ready setting disks desk
+              (h.gone t sizes f before s sound k) served last tops_same op leaf stored steps now put ready setting disks desk
 
           pub turning_leaves_less : load {N = N} nodes.left slab_now line_now + 2 < load {N = N} nodes.left slab line + 1
               → work_left {N = N} {D = D} nodes.left slab_now line_now now

@@ -1,12 +1,12 @@
 -- A turn over what an engine lends, step by step, in each round that goes on.
-use Rattle.std.proofs.Common.{◌≡◌, ◌≢◌, ℕ, zero, suc, ◌+◌, ◌<◌, ◌≤◌, List, [], ◌∷◌, ◌++◌, length, Bool, false, cond, Option, Some, None, ◌⊎◌, inl, inr, refl, sym, ap, ◌∙◌, subst, arith}
+use Rattle.std.proofs.Common.{◌≡◌, ◌≢◌, ℕ, zero, suc, ◌<◌, ◌≤◌, List, [], ◌∷◌, ◌++◌, length, Bool, cond, Option, Some, ◌⊎◌, inl, inr, refl, sym, ap, ◌∙◌, subst, arith}
 use Rattle.std.proofs.Common.{append_assoc, map}
-use Rattle.std.specs.Prelude.{slice_index_or}
+use Rattle.std.specs.Prelude.{option_to_list, slice_index_or, Contains}
 use Rattle.std.specs.List.{AllByRecursion}
 use Rattle.std.proofs.lemmas.List.{append-nil}
+use Rattle.zio_types.specs.declared.place.Place.{Place}
 use Rattle.zio_types.specs.declared.place.Top.{Top}
 use Rattle.zio_types.specs.Choices.{Choice}
-use Rattle.zio_places.specs.Spaces.{SpaceState}
 use Rattle.zio_cksum.specs.Images.{Images}
 use Rattle.zio_gang.specs.Attempts.{Terms}
 use Rattle.zio_trace.specs.Families.{Forest}
@@ -31,13 +31,14 @@ use Rattle.zio_stages.specs.declared.outcome.Outcome.TheVariants.{Finished as Ha
 use Rattle.slab.specs.Slab.{Slab, get}
 use Rattle.zio_graph.specs.Acts.{IsHandedOn}
 use Rattle.zio_graph.specs.AtLeaves.{AllWait, IsPut, WaitsFor, key_of, keys_at, keys_in, put_as, waiting_at}
-use Rattle.zio_graph.specs.Desks.{AreServed, IsDeskAt, choices_in}
+use Rattle.zio_graph.specs.Desks.{AreServed, IsDeskAt, choices_in, GivesLast}
 use Rattle.zio_graph.specs.Entries.{times_in}
 use Rattle.zio_graph.specs.Grounds.{AreReady}
+use Rattle.zio_graph.specs.Ledgers.{AreToldAs, Ending, found_so_far}
 use Rattle.zio_graph.specs.Parts.{Nodes}
-use Rattle.zio_graph.specs.Rounds.{AfterStep, Before, EndsAs, GoesOut, KeepsRound, NodeEnds, SoFar, StepsOn, TreeHears, TreeHearsEarly, op_set, with_entries, with_op, with_tree}
+use Rattle.zio_graph.specs.Rounds.{AfterStep, Before, EndsAs, SoFar, StepsOn, finished_in, op_set, with_calls, with_done, with_op, with_tree}
 use Rattle.zio_graph.specs.Slabs.{held_of, shelf_of}
-use Rattle.zio_graph.specs.UnderTurns.{AreLent, AreSameGrounds, AreTold, EndsFinished, FitDisks, GoesOnSome, HasEndedFor, HasGoneOn, HasTurned, IsGoingOn, IsTelling, Telling, TellNow, with_telling}
+use Rattle.zio_graph.specs.UnderTurns.{AreLent, AreTold, EndsFinished, FitDisks, HasEndedFor, HasGoneOn, HasTurned, IsTelling, Telling, TellNow, with_telling}
 use Rattle.zio_graph.specs.declared.desk.Desk.{Desk}
 use Rattle.zio_graph.specs.declared.entry.Entry.{Entry}
 use Rattle.zio_graph.specs.declared.grounds.Grounds.{Grounds}
@@ -67,50 +68,94 @@ told_both (x ∷ xs) ys a b c h k = (h.0, told_both xs ys (with_telling x a) b c
 
 -- ---- so far
 
-pub gone_nowhere : (s : SoFar) → HasGoneOn s s
+pub told_append : (xs ys : List Finished) (a b : List Ending) → AreToldAs xs a → AreToldAs ys b → AreToldAs (xs ++ ys) (a ++ b)
+told_append [] ys [] b h k = k
+told_append [] ys (x ∷ a) b h k = absurd h
+told_append (f ∷ xs) ys [] b h k = absurd h
+told_append (f ∷ xs) ys (x ∷ a) b h k = (h.0, told_append xs ys a b h.1 k)
+
+pub gone_nowhere : (s : SoFar) → HasGoneOn s s []
 gone_nowhere s = record {
   tellings = [];
   told = refl;
   more = [];
   entries_are = sym (append-nil s.entries);
   trees_are = refl;
+  done = [];
+  done_are = sym (append-nil s.books.done);
+  done_told = tt;
 }
 
-pub gone_entries : (s now : SoFar) (cs : List Choice) → HasGoneOn s now → HasGoneOn s (with_entries now cs)
-gone_entries s now cs h = record {
+pub gone_calls : (s now : SoFar) (finished : List Finished) (calls : List SpaceCall) → HasGoneOn s now finished
+    → HasGoneOn s (with_calls now calls) finished
+gone_calls s now finished calls h = record {
   tellings = h.tellings;
   told = h.told;
-  more = h.more ++ cs;
-  entries_are = ap (λ (es : List Choice). es ++ cs) h.entries_are ∙ append_assoc s.entries h.more cs;
+  more = h.more ++ choices_in calls;
+  entries_are = ap (λ (es : List Choice). es ++ choices_in calls) h.entries_are ∙ append_assoc s.entries h.more (choices_in calls);
   trees_are = h.trees_are;
+  done = h.done;
+  done_are = h.done_are;
+  done_told = h.done_told;
 }
 
-pub gone_telling : (s now : SoFar) (x : Telling) → IsTelling x now.tops → HasGoneOn s now
-    → HasGoneOn s (record { trees = now.trees; tops = with_telling x now.tops; entries = now.entries; images = now.images; ops = now.ops })
-gone_telling s now x is h = record {
+pub gone_telling : (s now : SoFar) (finished : List Finished) (x : Telling) → IsTelling x now.tops → HasGoneOn s now finished
+    → HasGoneOn s (record {
+      trees = now.trees;
+      tops = with_telling x now.tops;
+      entries = now.entries;
+      images = now.images;
+      ops = now.ops;
+      books = now.books;
+    }) finished
+gone_telling s now finished x is h = record {
   tellings = h.tellings ++ x ∷ [];
   told = told_behind h.tellings x s.tops now.tops h.told is;
   more = h.more;
   entries_are = h.entries_are;
   trees_are = h.trees_are;
+  done = h.done;
+  done_are = h.done_are;
+  done_told = h.done_told;
 }
 
-pub gone_then : (a b c : SoFar) → HasGoneOn a b → HasGoneOn b c → HasGoneOn a c
-gone_then a b c h k = record {
+pub gone_then : (a b c : SoFar) (xs ys : List Finished) → HasGoneOn a b xs → HasGoneOn b c ys → HasGoneOn a c (xs ++ ys)
+gone_then a b c xs ys h k = record {
   tellings = h.tellings ++ k.tellings;
   told = told_both h.tellings k.tellings a.tops b.tops c.tops h.told k.told;
   more = h.more ++ k.more;
   entries_are = k.entries_are ∙ ap (λ (es : List Choice). es ++ k.more) h.entries_are ∙ append_assoc a.entries h.more k.more;
   trees_are = k.trees_are ∙ h.trees_are;
+  done = h.done ++ k.done;
+  done_are = k.done_are ∙ ap (λ (es : List Ending). es ++ k.done) h.done_are ∙ append_assoc a.books.done h.done k.done;
+  done_told = told_append xs ys h.done k.done h.done_told k.done_told;
 }
 
-pub gone_op : (s now : SoFar) (key : ℕ) (act : LeafOp) → HasGoneOn s now → HasGoneOn s (with_op now key act)
-gone_op s now key act h = record {
+pub gone_op : (s now : SoFar) (finished : List Finished) (key : ℕ) (act : LeafOp) → HasGoneOn s now finished
+    → HasGoneOn s (with_op now key act) finished
+gone_op s now finished key act h = record {
   tellings = h.tellings;
   told = h.told;
   more = h.more;
   entries_are = h.entries_are;
   trees_are = h.trees_are;
+  done = h.done;
+  done_are = h.done_are;
+  done_told = h.done_told;
+}
+
+-- these requests finished
+gone_done : (s now : SoFar) (xs ys : List Finished) (more : List Ending) → AreToldAs ys more → HasGoneOn s now xs
+    → HasGoneOn s (with_done now more) (xs ++ ys)
+gone_done s now xs ys more told h = record {
+  tellings = h.tellings;
+  told = h.told;
+  more = h.more;
+  entries_are = h.entries_are;
+  trees_are = h.trees_are;
+  done = h.done ++ more;
+  done_are = ap (λ (es : List Ending). es ++ more) h.done_are ∙ append_assoc s.books.done h.done more;
+  done_told = told_append xs ys h.done more h.done_told told;
 }
 
 -- ---- what is lent
@@ -159,14 +204,14 @@ waits_put key leaf act ops w old new put own none waits all = λ at. by at (same
         (sym (put.others at n)) (kept at)
 
 module _ {D : Type 0} (bytes : D → ℕ) (image : D → List ℕ → Type 0) (t : Terms) (sizes : ℕ → ℕ) (before : Before)
-    (entries : List Choice) (images : Images) (ops : ℕ → LeafOp) (g : Grounds D) where
-  abbrev Lent : List Choice → (ℕ → LeafOp) → Grounds D → Type 0
-  Lent es os now = AreLent {D = D} bytes image t sizes before es images os now
+    (entries : List Choice) (claimed back : List Place) (images : Images) (ops : ℕ → LeafOp) (g : Grounds D) where
+  abbrev Lent : List Choice → List Place → List Place → (ℕ → LeafOp) → Grounds D → Type 0
+  Lent es cs bs os now = AreLent {D = D} bytes image t sizes before es cs bs images os now
 
   -- only the space changed
-  pub lent_desk : (more : List Choice) (d : Desk) → Lent entries ops g → IsDeskAt t more d.tops d.space d.asked
-      → Lent more ops (record g { desk = d })
-  lent_desk more d h desk = record {
+  pub lent_desk : (more : List Choice) (claims backs : List Place) (d : Desk) → Lent entries claimed back ops g
+      → IsDeskAt t more claims backs d.tops d.space d.asked → Lent more claims backs ops (record g { desk = d })
+  lent_desk more claims backs d h desk = record {
     setting_is = h.setting_is;
     desk = desk;
     waits = h.waits;
@@ -177,14 +222,14 @@ module _ {D : Type 0} (bytes : D → ℕ) (image : D → List ℕ → Type 0) (t
   }
 
   -- one operation more is at a leaf
-  pub lent_put : (now : Grounds D) (key leaf : ℕ) (act : LeafOp) (w : Waiting) → Lent entries ops g
+  pub lent_put : (now : Grounds D) (key leaf : ℕ) (act : LeafOp) (w : Waiting) → Lent entries claimed back ops g
       → IsPut leaf w g.queues.leaves.items now.queues.leaves.items → key_of w ≡ key
       → times_in key (keys_at g.queues.leaves.items) ≡ 0 → WaitsFor leaf act w
       → AreReady now.setting.rows (map bytes now.disks.items) now.queues.leaves.items → now.setting ≡ g.setting
-      → now.disks.items ≡ g.disks.items → now.desk ≡ g.desk → Lent entries (op_set ops key act) now
+      → now.disks.items ≡ g.disks.items → now.desk ≡ g.desk → Lent entries claimed back (op_set ops key act) now
   lent_put now key leaf act w h put own none waits ready setting disks desk = record {
     setting_is = h.setting_is ∙ sym setting;
-    desk = subst (λ (d : Desk). IsDeskAt t entries d.tops d.space d.asked) (sym desk) h.desk;
+    desk = subst (λ (d : Desk). IsDeskAt t entries claimed back d.tops d.space d.asked) (sym desk) h.desk;
     waits = waits_put key leaf act ops w g.queues.leaves.items now.queues.leaves.items put own none waits h.waits;
     ready = ready;
     fit = subst (λ (ds : List D). FitDisks sizes (map bytes ds)) (sym disks) h.fit;
@@ -197,6 +242,10 @@ module _ {D : Type 0} (bytes : D → ℕ) (image : D → List ℕ → Type 0) (t
 handed_finished : (outcome : Outcome) (finished : Finished) → IsHandedOn outcome (Some finished) → outcome ≡ HasFinished finished
 handed_finished (HasFinished f) finished h = ap (λ (x : Finished). HasFinished x) (sym (some_is finished f h))
 handed_finished _ finished h = absurd (cc)
+
+handed_in : (outcome : Outcome) (finished : Option Finished) → IsHandedOn outcome finished → finished_in outcome ≡ option_to_list finished
+handed_in (HasFinished f) finished h = sym (ap (λ (o : Option Finished). option_to_list o) h)
+handed_in _ finished h = sym (ap (λ (o : Option Finished). option_to_list o) h)
 
 -- ---- its leaf
 
@@ -216,26 +265,31 @@ on_some_disk bytes (d ∷ ds) (suc leaf) h same = let rest : leaf < length ds = 
 module _ {N D : Type 0} (nodes : Nodes N) (bytes : D → ℕ) (image : D → List ℕ → Type 0) (t : Terms) (sizes : ℕ → ℕ) (f : Forest)
     (before : Before) (was : SoFar) (slab slab_now : Slab (Entry N)) (line line_now : List ℕ) (key : ℕ) (g : Grounds D) (d : Desk)
     (calls : List SpaceCall) (sound : IsSoundRound t sizes f)
-    (h : HasTurned {N = N} {D = D} nodes bytes image t sizes f before was slab (key ∷ line) g)
-    (served : AreServed calls g.desk.space d.space g.desk.asked d.asked) (tops_same : d.tops ≡ g.desk.tops) where
+    (h : HasTurned {N = N} {D = D} nodes bytes image t sizes f before was [] slab (key ∷ line) g)
+    (served : AreServed calls g.desk.space d.space g.desk.asked d.asked) (last : GivesLast calls) (tops_same : d.tops ≡ g.desk.tops) where
   abbrev Now : SoFar
-  Now = with_entries h.now (choices_in calls)
+  Now = with_calls h.now calls
 
   abbrev With : Grounds D
   With = record g { desk = d }
 
   abbrev Turned : Slab (Entry N) → List ℕ → Grounds D → Type 0
-  Turned slab_then line_then g_then = HasTurned {N = N} {D = D} nodes bytes image t sizes f before was slab_then line_then g_then
+  Turned slab_then line_then g_then = HasTurned {N = N} {D = D} nodes bytes image t sizes f before was [] slab_then line_then g_then
 
-  serves : ServesOn t h.now.entries g.desk.tops d.space calls d.asked
-  serves = desk_serves t h.now.entries g.desk.tops g.desk.space d.space calls g.desk.asked d.asked h.going.lent.desk served
+  serves : ServesOn t h.now.entries h.now.books.claimed h.now.books.back g.desk.tops d.space calls d.asked
+  serves =
+      desk_serves t h.now.entries h.now.books.claimed h.now.books.back g.desk.tops g.desk.space d.space calls g.desk.asked d.asked
+      h.going.lent.desk served last
 
-  lent : AreLent {D = D} bytes image t sizes before Now.entries Now.images Now.ops With
-  lent = lent_desk bytes image t sizes before h.now.entries h.now.images h.now.ops g Now.entries d h.going.lent
-      (subst (λ (ts : List Top). IsDeskAt t Now.entries ts d.space d.asked) (sym tops_same) serves.desk)
+  lent : AllByRecursion (Contains (t.used ++ found_so_far Now.entries Now.books.claimed)) Now.books.back
+      → AreLent {D = D} bytes image t sizes before Now.entries Now.books.claimed Now.books.back Now.images Now.ops With
+  lent backs = lent_desk bytes image t sizes before h.now.entries h.now.books.claimed h.now.books.back h.now.images h.now.ops g Now.entries
+      Now.books.claimed Now.books.back d h.going.lent
+      (subst (λ (ts : List Top). IsDeskAt t Now.entries Now.books.claimed Now.books.back ts d.space d.asked) (sym tops_same)
+      (serves.desk backs))
 
-  gone : HasGoneOn was Now
-  gone = gone_entries was h.now (choices_in calls) h.gone
+  gone : HasGoneOn was Now []
+  gone = gone_calls was h.now [] calls h.gone
 
   after_it : (step : Step) → StepsOn {N = N} nodes g.desk.tops calls slab line slab_now line_now key step
       → AfterStep {N = N} nodes t sizes f before Now slab_now line_now (keys_at g.queues.leaves.items) key step
@@ -245,7 +299,9 @@ module _ {N D : Type 0} (nodes : Nodes N) (bytes : D → ℕ) (image : D → Lis
 
   pub turn_goes : StepsOn {N = N} nodes g.desk.tops calls slab line slab_now line_now key Goes
       → Turned slab_now (key ∷ line_now) With
-  turn_goes steps = record { now = Now; gone = gone; going = record { keeps = after_it Goes steps; lent = lent } }
+  turn_goes steps =
+      let keeps = after_it Goes steps in
+      record { now = Now; gone = gone; going = record { keeps = keeps; lent = lent keeps.ledger.backs } }
 
   pub turn_told : (tree : ℕ) → StepsOn {N = N} nodes g.desk.tops calls slab line slab_now line_now key (Told tree)
       → Turned slab_now (key ∷ line_now) With
@@ -257,19 +313,27 @@ module _ {N D : Type 0} (nodes : Nodes N) (bytes : D → ℕ) (image : D → Lis
           at = told.top.at;
           stack = heard_early told.top.stack told.number told.child told.pointer;
         });
-        gone = gone_telling was Now x
+        gone = gone_telling was Now [] x
             (record { there = told.there; is = told.is; goes = told.goes; untold = told.untold }) gone;
-        going = record { keeps = told.keeps; lent = lent };
+        going = record { keeps = told.keeps; lent = lent told.keeps.ledger.backs };
       }
 
   pub turn_rests : StepsOn {N = N} nodes g.desk.tops calls slab line slab_now line_now key Rests → Turned slab_now line_now With
-  turn_rests steps = record { now = Now; gone = gone; going = record { keeps = after_it Rests steps; lent = lent } }
+  turn_rests steps =
+      let keeps = after_it Rests steps in
+      record { now = Now; gone = gone; going = record { keeps = keeps; lent = lent keeps.ledger.backs } }
 
   pub turn_ends : (finished : Option Finished)
-      → StepsOn {N = N} nodes g.desk.tops calls slab line slab_now line_now key (Ended finished) → Turned slab_now line_now With
+      → StepsOn {N = N} nodes g.desk.tops calls slab line slab_now line_now key (Ended finished)
+      → HasTurned {N = N} {D = D} nodes bytes image t sizes f before was (option_to_list finished) slab_now line_now With
   turn_ends finished steps =
       let ends = after_it (Ended finished) steps in
-      record { now = Now; gone = gone; going = record { keeps = ends.keeps; lent = lent } }
+      record {
+        now = with_done Now ends.more;
+        gone = gone_done was Now [] (option_to_list finished) ends.more
+            (subst (λ (fs : List Finished). AreToldAs fs ends.more) (handed_in ends.outcome finished ends.handed) ends.told) gone;
+        going = record { keeps = ends.keeps; lent = lent ends.keeps.ledger.backs };
+      }
 
   pub turn_finishes : (finished : Finished)
       → StepsOn {N = N} nodes g.desk.tops calls slab line slab_now line_now key (Ended (Some finished)) → EndsFinished t finished
@@ -284,7 +348,7 @@ module _ {N D : Type 0} (nodes : Nodes N) (bytes : D → ℕ) (image : D → Lis
 
   pub turn_roots : (tree : ℕ) (outcome : Outcome)
       → StepsOn {N = N} nodes g.desk.tops calls slab line slab_now line_now key (Root tree outcome)
-      → HasEndedFor {N = N} {D = D} nodes bytes image t sizes f before was slab_now line_now With tree outcome
+      → HasEndedFor {N = N} {D = D} nodes bytes image t sizes f before was [] slab_now line_now With tree outcome
   turn_roots tree outcome steps =
       let hears = after_it (Root tree outcome) steps in
       record {
@@ -301,7 +365,9 @@ module _ {N D : Type 0} (nodes : Nodes N) (bytes : D → ℕ) (image : D → Lis
         asked = hears.asked;
         fits = hears.fits;
         how = hears.how;
-        going = record { keeps = hears.keeps; lent = lent };
+        more = hears.more;
+        told = hears.told;
+        going = record { keeps = hears.keeps; lent = lent hears.keeps.ledger.backs };
       }
 
   -- ---- its operation goes to a leaf
@@ -345,12 +411,14 @@ module _ {N D : Type 0} (nodes : Nodes N) (bytes : D → ℕ) (image : D → Lis
       → now.disks.items ≡ g.disks.items → now.desk ≡ d → Turned slab_now line_now now
   turn_leaves op leaf stored steps now put ready setting disks desk =
       let out = after_it (ToLeaf op leaf stored) steps in
+      let keeps = out.2.keeps (keys_at now.queues.leaves.items) put.keys in
       record {
         now = with_op Now key out.0;
-        gone = gone_op was Now key out.0 gone;
+        gone = gone_op was Now [] key out.0 gone;
         going = record {
-          keeps = out.2.keeps (keys_at now.queues.leaves.items) put.keys;
-          lent = lent_put bytes image t sizes before Now.entries Now.images Now.ops With now key leaf out.0 (put_as key op stored) lent put
+          keeps = keeps;
+          lent = lent_put bytes image t sizes before Now.entries Now.books.claimed Now.books.back Now.images Now.ops With now key leaf out.0 (put_as key op stored)
+              (lent keeps.ledger.backs) put
               refl none_waits (waits_under sizes out.0 op leaf key stored out.1 out.2.lies) (ready h.going.lent.ready) setting disks desk;
         };
       }

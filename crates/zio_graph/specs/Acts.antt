@@ -104,6 +104,7 @@ pub record HasHeard {N : Type 0} (nodes : Nodes N) (slab : Slab (Entry N)) (line
   pub queued : line_now ≡ cond (is_last kind phase was.ties.counts) (line ++ key ∷ []) line
   pub told : nodes.told up ≡ nodes.told was.node
   pub left : nodes.left up ≤ nodes.left was.node + heard_max
+  pub gave : nodes.gave up ≡ nodes.gave was.node
 
 -- its parent heard which pointer its value will have
 pub record NodeTold {N : Type 0} (nodes : Nodes N) (over : List Top → N → Type 0) (slab : Slab (Entry N)) (line : List ℕ)

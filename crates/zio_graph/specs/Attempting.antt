@@ -1,13 +1,15 @@
 -- What is in flight for a tree of a round: its attempts one after another, as the plan of settling a tree asks them.
-use Rattle.std.specs.Prelude.{◌≡◌, ℕ, ◌+◌, List, [], ◌∷◌, ◌++◌, length, slice_get, Bool, true, false, Option, Some, None, ◌&&◌}
-use Rattle.zio_gang.specs.Attempts.{Ended, Pending, Terms, now_alone, reexecutions_max}
+use Rattle.std.specs.Prelude.{◌≡◌, ℕ, ◌+◌, List, [], ◌∷◌, ◌++◌, length, slice_get, false, Option, Some, None}
+use Rattle.std.specs.List.{flat_map}
+use Rattle.zio_gang.specs.Attempts.{Ended, Pending, Terms, reexecutions_max}
 use Rattle.zio_blkptr.specs.declared.pointer.Bp.{Bp}
-use Rattle.zio_trace.specs.Families.{Forest, NoTrees, TreeOf}
+use Rattle.zio_trace.specs.Families.{Forest}
 use Rattle.zio_trace.specs.Plans.{TaskPlan, plan, plan_settle}
 use Rattle.zio_trace.specs.Programs.{Ends, ◌>>=◌}
 use Rattle.zio_trace.specs.Tasks.{Attempt, One, Settle, Settled, SettledBy, Task, Value}
-use Rattle.zio_frames.specs.Frames.{Child, Frame, OfOuter, Seat, Stack, left_of}
+use Rattle.zio_frames.specs.Frames.{Child, OfOuter, Stack, left_of}
 use Rattle.zio_frames.specs.Slots.{AllHeard, IsOut, Slot, left_behind_slots}
+use Rattle.zio_graph.specs.Parts.{ended_in, ended_in_slot}
 
 -- with these requests ended before
 abbrev pub settled_behind : List Ended → Settled → Value
@@ -45,6 +47,7 @@ pub record IsBetween (t : Terms) (c : Course) (st : Stack) : Type 0 where
   pub rest : left_of t st.outer ≡ rest_of c
   pub number : length st.children ≡ c.attempt
   pub none : (n : ℕ) (child : Child) → slice_get st.children n ≡ Some child → child.ended ≡ false → ⊥
+  pub ended_are : ended_in st ≡ c.ended
 
 -- the course's attempt is out, and its last child does it
 pub record IsAttempting (t : Terms) (c : Course) (st : Stack) : Type 0 where
@@ -63,6 +66,7 @@ pub record IsAttempting (t : Terms) (c : Course) (st : Stack) : Type 0 where
   pub going : child.ended ≡ false
   pub one : (n : ℕ) (child : Child) → slice_get st.children n ≡ Some child → child.ended ≡ false
       → (n ≡ c.attempt) × (child.seat ≡ OfOuter (length before))
+  pub ended_are : flat_map ended_in_slot before ≡ c.ended
 
 -- ---- behind an attempt
 

@@ -1,5 +1,5 @@
 -- What calls make of a space, one after another, and what a space holds in a round.
-use Rattle.std.specs.Prelude.{◌≡◌, ℕ, ◌+◌, ◌≤◌, List, [], ◌∷◌, ◌++◌, cond}
+use Rattle.std.specs.Prelude.{◌≡◌, ℕ, ◌+◌, ◌≤◌, List, [], ◌∷◌, ◌++◌, true, cond, IsPermutation}
 use Rattle.std.specs.List.{AllByRecursion, flat_map, list_any}
 use Rattle.zio_types.specs.declared.place.Place.{Place}
 use Rattle.zio_types.specs.declared.place.Top.{Top}
@@ -10,7 +10,7 @@ use Rattle.zio_places.specs.Spaces.{SpaceState, used}
 use Rattle.zio_gang.specs.Attempts.{Terms}
 use Rattle.zio_gang.specs.Journals.{AreLawful}
 use Rattle.zio_gang.specs.Trees.{sizes_of}
-use Rattle.zio_stages.specs.SpaceCalls.{Claimed, GaveBack, Placed, SpaceCall}
+use Rattle.zio_stages.specs.SpaceCalls.{Claimed, GaveBack, LieOnTops, Placed, SpaceCall, calls_back}
 use Rattle.zio_graph.specs.declared.desk.Asked.{Asked}
 use Rattle.zio_graph.specs.declared.desk.Asked.TheVariants.{Blocks, Claim, Nothing}
 
@@ -48,11 +48,11 @@ after_call (Claimed places free) st = record {
   spare = st.spare;
 }
 
--- what was found is lawful beside the places in use, and whether places were free is answered as it is
+-- what was found is lawful beside the places in use; whether places were free is answered as it is, and they lie on the tops
 abbrev pub IsAnswered : SpaceCall → SpaceState → Type 0
 IsAnswered (Placed c) st = IsLawfulChoice st.sizes (used st) c
 IsAnswered (GaveBack p) st = Unit {0}
-IsAnswered (Claimed places free) st = free ≡ are_open (used st) places
+IsAnswered (Claimed places free) st = (free ≡ are_open (used st) places) × LieOnTops st.sizes places
 
 -- ---- calls one after another
 
@@ -94,6 +94,22 @@ abbrev pub claim_asked : SpaceCall → ℕ
 claim_asked (Placed c) = 0
 claim_asked (GaveBack place) = 0
 claim_asked (Claimed places free) = 1
+
+abbrev pub backs_by : SpaceCall → List Place
+backs_by (Placed c) = []
+backs_by (GaveBack place) = place ∷ []
+backs_by (Claimed places free) = []
+
+-- the places that were given back
+abbrev pub backs_in : List SpaceCall → List Place
+backs_in calls = flat_map backs_by calls
+
+-- what is given back comes behind all else
+pub record GivesLast (calls : List SpaceCall) : Type 0 where
+  pub first : List SpaceCall
+  pub gone : List Place
+  pub are : calls ≡ first ++ calls_back gone
+  pub none : backs_in first ≡ []
 
 -- how often places were to be claimed, free or not
 abbrev pub claims_asked : List SpaceCall → ℕ
@@ -170,14 +186,23 @@ pub record AreServed (calls : List SpaceCall) (old new : SpaceState) (before aft
   pub made : AreMade calls old new
   pub allowed : AreAllowed before calls after
 
--- what was asked tells of the entries and of the places that were claimed
+-- what was asked tells of the entries and of the places that were claimed: only one of the two are any
 abbrev pub Tells : Asked → List Choice → List Place → Type 0
 Tells Nothing entries claimed = (entries ≡ []) × (claimed ≡ [])
 Tells Blocks entries claimed = claimed ≡ []
-Tells Claim entries claimed = Unit {0}
+Tells Claim entries claimed = entries ≡ []
 
--- a round's space, with what was asked of it
-pub record IsDeskAt (t : Terms) (entries : List Choice) (tops : List Top) (st : SpaceState) (asked : Asked) : Type 0 where
-  pub claimed : List Place
+-- places that were claimed were open beside those in use at the round's start, and lie on the tops
+pub record IsClaim (t : Terms) (claimed : List Place) : Type 0 where
+  pub free : are_open t.used claimed ≡ true
+  pub inside : LieOnTops (sizes_of t.setting.tops) claimed
+
+-- A round's space, with what was asked of it. Live or pending are the places that were in use at the round's start, those that the
+-- entries took and those that were claimed, each as often; pending are those that were given back.
+pub record IsDeskAt (t : Terms) (entries : List Choice) (claimed back : List Place) (tops : List Top) (st : SpaceState)
+    (asked : Asked) : Type 0 where
   pub desk : IsDeskOf t entries claimed tops st
   pub tells : Tells asked entries claimed
+  pub claim : IsClaim t claimed
+  pub live : IsPermutation (st.live ++ st.pending) (t.used ++ (claimed ++ taken_by_all entries))
+  pub pending_are : SamePlaces st.pending back

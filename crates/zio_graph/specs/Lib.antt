@@ -7,9 +7,11 @@ pub mod Engine
 pub mod Entries
 pub mod Found
 pub mod Grounds
+pub mod Ledgers
 pub mod Parts
 pub mod Rounds
 pub mod Slabs
 pub mod Stages
+pub mod Stops
 pub mod UnderTrees
 pub mod UnderTurns

@@ -5,7 +5,7 @@ use Rattle.zio_types.specs.declared.place.Place.{Place}
 use Rattle.zio_types.specs.declared.place.Top.{Top}
 use Rattle.zio_types.specs.declared.request.ChildKind.TheVariants.{Logical}
 use Rattle.zio_types.specs.Choices.{Choice}
-use Rattle.zio_cksum.specs.Images.{Images, Spot}
+use Rattle.zio_cksum.specs.Images.{Images}
 use Rattle.zio_gang.specs.Attempts.{Ended, Terms}
 use Rattle.zio_gang.specs.Journals.{AreLawful}
 use Rattle.zio_gang.specs.Trees.{sizes_of}
@@ -28,11 +28,14 @@ use Rattle.zio_stages.specs.Outcomes.{AreEndedAs, IsOutcome}
 use Rattle.zio_stages.specs.SpaceCalls.{Claimed, SpaceCall}
 use Rattle.zio_stages.specs.declared.outcome.Finished.{Finished}
 use Rattle.zio_stages.specs.declared.outcome.Outcome.{Outcome}
+use Rattle.zio_stages.specs.declared.outcome.Outcome.TheVariants.{Finished as HasFinished}
 use Rattle.slab.specs.Slab.{Slab}
 pub use Rattle.zio_graph.specs.Desks.{AreRight, choices_in}
+use Rattle.zio_graph.specs.Desks.{backs_in, claims_in}
 use Rattle.zio_graph.specs.Engine.{StillKept}
 use Rattle.zio_graph.specs.Entries.{Live, OneMore, all_tops, flying_at, handed_on, times_in, top_at}
 use Rattle.zio_graph.specs.Acts.{IsHandedOn}
+use Rattle.zio_graph.specs.Ledgers.{AreToldAs, Books, Ending, IsLedger, no_books}
 use Rattle.zio_graph.specs.Parts.{Nodes, ended_by, ended_in}
 use Rattle.zio_graph.specs.Slabs.{AreAll, AreNumbered, shelf_of}
 use Rattle.zio_graph.specs.Stages.{ShowsAnswer}
@@ -46,20 +49,30 @@ use Rattle.zio_graph.specs.declared.step.Step.TheVariants.{Ended as HasEnded, Go
 abbrev pub Before : Type 0
 Before = Option Images
 
--- A round so far: how far its trees are settled, what is in flight for each, the entries made, the images, and of each key at a
--- leaf its operation there.
+-- A round so far: how far its trees are settled, what is in flight for each, the entries made, the images, of each key at a leaf its
+-- operation there, and the books.
 pub record SoFar : Type 0 where
   pub trees : List Slot
   pub tops : List (Option Flying)
   pub entries : List Choice
   pub images : Images
   pub ops : ℕ → LeafOp
+  pub books : Books
 
-abbrev pub with_entries : SoFar → List Choice → SoFar
-with_entries s more = record { trees = s.trees; tops = s.tops; entries = s.entries ++ more; images = s.images; ops = s.ops }
+-- these calls of the space were made
+abbrev pub with_calls : SoFar → List SpaceCall → SoFar
+with_calls s calls = record {
+  trees = s.trees;
+  tops = s.tops;
+  entries = s.entries ++ choices_in calls;
+  images = s.images;
+  ops = s.ops;
+  books = record { done = s.books.done; claimed = s.books.claimed ++ claims_in calls; back = s.books.back ++ backs_in calls };
+}
 
 abbrev pub with_images : SoFar → Images → SoFar
-with_images s images = record { trees = s.trees; tops = s.tops; entries = s.entries; images = images; ops = s.ops }
+with_images s images =
+    record { trees = s.trees; tops = s.tops; entries = s.entries; images = images; ops = s.ops; books = s.books }
 
 abbrev pub with_tree : SoFar → ℕ → Flying → SoFar
 with_tree s n top = record {
@@ -68,6 +81,18 @@ with_tree s n top = record {
   entries = s.entries;
   images = s.images;
   ops = s.ops;
+  books = s.books;
+}
+
+-- these requests finished
+abbrev pub with_done : SoFar → List Ending → SoFar
+with_done s more = record {
+  trees = s.trees;
+  tops = s.tops;
+  entries = s.entries;
+  images = s.images;
+  ops = s.ops;
+  books = record { done = s.books.done ++ more; claimed = s.books.claimed; back = s.books.back };
 }
 
 -- this is the key's operation at its leaf
@@ -75,7 +100,14 @@ abbrev pub op_set : (ℕ → LeafOp) → ℕ → LeafOp → ℕ → LeafOp
 op_set ops key op k = cond (same_number key k) op (ops k)
 
 abbrev pub with_op : SoFar → ℕ → LeafOp → SoFar
-with_op s key op = record { trees = s.trees; tops = s.tops; entries = s.entries; images = s.images; ops = op_set s.ops key op }
+with_op s key op = record {
+  trees = s.trees;
+  tops = s.tops;
+  entries = s.entries;
+  images = s.images;
+  ops = op_set s.ops key op;
+  books = s.books;
+}
 
 -- of a key that is at no leaf
 abbrev pub no_op : LeafOp
@@ -89,6 +121,7 @@ first_of f images = record {
   entries = [];
   images = images;
   ops = λ key. no_op;
+  books = no_books;
 }
 
 -- what is in flight under a key at a leaf does its operation there
@@ -103,6 +136,7 @@ pub record KeepsRound {N : Type 0} (nodes : Nodes N) (t : Terms) (sizes : ℕ �
   pub still : StillKept {N = N} nodes t sizes f before s.trees s.tops lives (shelf_of {N = N} slab) queue leaves s.entries s.images
   pub numbered : AreNumbered {N = N} slab (flying_at lives)
   pub theirs : DoTheirs (flying_at lives) leaves s.ops
+  pub ledger : IsLedger {N = N} nodes t f s.books s.entries s.tops s.trees lives slab
 
 -- a sound round over these tops is kept
 pub record KeepsSome {N : Type 0} (nodes : Nodes N) (tops : List Top) (slab : Slab (Entry N)) (queue leaves : List ℕ) : Type 0 where
@@ -175,7 +209,12 @@ pub record EndsAs (t : Terms) (op : Task) (outcome : Outcome) (value : Value) : 
   pub requests : ended_by value ≡ ended_in stack ++ ended
   pub requests_are : AreEndedAs outcome ended
 
--- a node ended, its parent heard of it, and this is the request that finished by that, if one did
+-- the request that finished, if one did
+abbrev pub finished_in : Outcome → List Finished
+finished_in (HasFinished f) = f ∷ []
+finished_in _ = []
+
+-- a node ended, its parent heard of it, and this is the request that finished by that, if one did; it is in the books
 pub record NodeEnds {N : Type 0} (nodes : Nodes N) (t : Terms) (sizes : ℕ → ℕ) (f : Forest) (before : Before) (s : SoFar)
     (slab : Slab (Entry N)) (line leaves : List ℕ) (finished : Option Finished) : Type 0 where
   pub op : Task
@@ -183,10 +222,12 @@ pub record NodeEnds {N : Type 0} (nodes : Nodes N) (t : Terms) (sizes : ℕ → 
   pub value : Value
   pub how : EndsAs t op outcome value
   pub handed : IsHandedOn outcome finished
-  pub keeps : KeepsRound {N = N} nodes t sizes f before s slab line leaves
+  pub more : List Ending
+  pub told : AreToldAs (finished_in outcome) more
+  pub keeps : KeepsRound {N = N} nodes t sizes f before (with_done s more) slab line leaves
 
 -- The nth child of what is in flight for a tree ended with this outcome, which is this value of its operation, and the tree has
--- it.
+-- it. Where it is a request that finished, it is in the books.
 pub record TreeHears {N : Type 0} (nodes : Nodes N) (t : Terms) (sizes : ℕ → ℕ) (f : Forest) (before : Before) (s : SoFar)
     (slab : Slab (Entry N)) (line leaves : List ℕ) (tree : ℕ) (outcome : Outcome) : Type 0 where
   pub top : Flying
@@ -200,8 +241,10 @@ pub record TreeHears {N : Type 0} (nodes : Nodes N) (t : Terms) (sizes : ℕ →
   pub asked : asked_at top.stack child.seat ≡ Some op
   pub fits : FitsTold top.stack child value
   pub how : EndsAs t op outcome value
+  pub more : List Ending
+  pub told : AreToldAs (finished_in outcome) more
   pub keeps : KeepsRound {N = N} nodes t sizes f before
-      (with_tree s tree (record { at = top.at; stack = heard_of top.stack number child value })) slab line leaves
+      (with_done (with_tree s tree (record { at = top.at; stack = heard_of top.stack number child value })) more) slab line leaves
 
 -- with these calls made the round goes on so
 abbrev pub AfterStep : {N : Type 0} → Nodes N → Terms → (ℕ → ℕ) → Forest → Before → SoFar → Slab (Entry N) → List ℕ → List ℕ → ℕ
@@ -225,7 +268,7 @@ abbrev pub StepsOn : {N : Type 0} → Nodes N → List Top → List SpaceCall �
 StepsOn {N = N} nodes tops calls slab line slab_now line_now key step =
     (t : Terms) (sizes : ℕ → ℕ) (f : Forest) (before : Before) (s : SoFar) (leaves : List ℕ) → IsSoundRound t sizes f →
     t.setting.tops ≡ tops → AreRight t s.entries calls → KeepsRound {N = N} nodes t sizes f before s slab (key ∷ line) leaves →
-    AfterStep {N = N} nodes t sizes f before (with_entries s (choices_in calls)) slab_now line_now leaves key step
+    AfterStep {N = N} nodes t sizes f before (with_calls s calls) slab_now line_now leaves key step
 
 -- ---- what an answer leaves
 
@@ -251,7 +294,7 @@ HandsOut {N = N} nodes slab line slab_now line_now tree child node =
     (t : Terms) (sizes : ℕ → ℕ) (f : Forest) (before : Before) (s : SoFar) (leaves : List ℕ) (top : Flying) (op : Task) →
     IsSoundRound t sizes f → KeepsRound {N = N} nodes t sizes f before s slab line leaves → top_at s.tops tree ≡ Some top →
     is_single (asking top.stack).op ≡ false → AsksNext t (asking top.stack) op → kind_of_task op ≡ Logical →
-    nodes.Is t node (fresh_stack op) → nodes.told node ≡ false → child ≡ length top.stack.children →
+    nodes.Is t node (fresh_stack op) → nodes.told node ≡ false → nodes.gave node ≡ [] → child ≡ length top.stack.children →
     KeepsRound {N = N} nodes t sizes f before (with_tree s tree (handed_on top op)) slab_now line_now leaves
 
 -- the round goes on with the key in front

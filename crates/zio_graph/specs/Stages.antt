@@ -1,5 +1,6 @@
 -- What a stage of a node comes to, whatever the node is.
-use Rattle.std.specs.Prelude.{◌≡◌, ℕ, ◌+◌, ◌<◌, ◌≤◌, List, [], ◌++◌, slice_get, take, true, false, Option, Some, None, Ok, Err, IfSome, IsPermutation, IsTrue}
+use Rattle.std.specs.List.{AllByRecursion}
+use Rattle.std.specs.Prelude.{◌≡◌, ℕ, ◌+◌, ◌<◌, ◌≤◌, List, [], ◌++◌, slice_get, take, true, false, Option, Some, None, Ok, Err, IfSome, IsPermutation, IsTrue, Contains}
 use Rattle.zio_types.specs.declared.error.Errno.{Errno}
 use Rattle.zio_types.specs.declared.place.Place.{Place}
 use Rattle.zio_types.specs.declared.place.Top.{Top}
@@ -13,13 +14,14 @@ use Rattle.zio_vqueue.specs.declared.op.Op.{Op}
 use Rattle.zio_trace.specs.Conflicts.{is_single}
 use Rattle.zio_trace.specs.Footprints.{FitsTask}
 use Rattle.zio_trace.specs.Leaves.{Answer, Fetch, LeafOp, Store, answer_of}
-use Rattle.zio_trace.specs.Tasks.{Leaf, Task, Value}
-use Rattle.zio_frames.specs.Frames.{Child, Stack, asking, fresh_stack, kind_of_task, needs_none}
+use Rattle.zio_trace.specs.Tasks.{Attempt, Leaf, ReadCopies, ReadHeads, ReadTree, Settle, Task, Value, WriteCopies, WritePart}
+use Rattle.zio_frames.specs.Answering.{IsAnswerTo}
+use Rattle.zio_frames.specs.Frames.{Child, Inner, OfOuter, Stack, asking, fresh_stack, kind_of_task, needs_none}
 use Rattle.zio_frames.specs.Moves.{AsksNext, Did, DoesAll, IsEnded, WillHave, handed}
 use Rattle.zio_frames.specs.Running.{FitsTold}
 use Rattle.zio_frames.specs.Seats.{IsSeated, asked_at}
 use Rattle.zio_stages.specs.LeafWorks.{IsOpFor}
-use Rattle.zio_stages.specs.Outcomes.{AreEndedAs, IsOutcome, freed_by, held_by, made_by, stored_in}
+use Rattle.zio_stages.specs.Outcomes.{AreEndedAs, IsOutcome, freed_by, held_by, made_by, stored_in, freed_of}
 use Rattle.zio_stages.specs.SpaceCalls.{SpaceCall, calls_back, calls_by}
 use Rattle.zio_stages.specs.declared.outcome.Outcome.{Outcome}
 use Rattle.zio_stages.specs.declared.outcome.Outcome.TheVariants.{Again}
@@ -36,6 +38,45 @@ pub record IsNow {N : Type 0} (nodes : Nodes N) (tops : List Top) (t : Terms) (n
   pub tops_are : t.setting.tops ≡ tops
   pub is : nodes.Is t node st
   pub seated : IsSeated st
+
+-- ---- who does what it asks
+
+-- what it hands to a child: another request of its tree, or a part
+abbrev pub IsHandedOut : Task → Type 0
+IsHandedOut (Attempt attempt p kids) = Unit {0}
+IsHandedOut (Settle p kids) = Unit {0}
+IsHandedOut (WritePart attempt p sum copies levels path bytes) = Unit {0}
+IsHandedOut _ = ⊥
+
+-- what it may do within its own part
+abbrev pub IsWithin : Task → Type 0
+IsWithin (ReadCopies repair test len places) = Unit {0}
+IsWithin (WriteCopies bytes places) = Unit {0}
+IsWithin (ReadHeads look levels path bp) = Unit {0}
+IsWithin (ReadTree tree) = Unit {0}
+IsWithin _ = ⊥
+
+-- a child sits there, or sat there
+abbrev pub IsChildsSeat : List Child → ℕ → Type 0
+IsChildsSeat children n = (k : ℕ) × (c : Child) × (slice_get children k ≡ Some c) × (c.seat ≡ OfOuter n)
+
+-- Of an attempt or of a part that is written, a child does each request and each part that is asked. And what is done within is none
+-- of these.
+pub record AreHandedOut (st : Stack) : Type 0 where
+  pub by_child : IsHandedOut st.outer.op → (n : ℕ) (op : Task) → slice_get st.outer.asked n ≡ Some op → IsHandedOut op
+      → IsChildsSeat st.children n
+  pub within : (i : Inner) → st.inner ≡ Some i → IsWithin i.frame.op
+
+-- ---- what it gives back
+
+-- the places of the block that a request frees
+abbrev pub may_free : Task → List Place
+may_free (Attempt attempt p kids) = freed_of p.request.work p.block
+may_free _ = []
+
+-- it holds these places, or they are of the block that it frees
+abbrev pub AreItsOwn : List Place → Stack → Type 0
+AreItsOwn places st = AllByRecursion (Contains (held_by st ++ may_free st.outer.op)) places
 
 -- ---- its moves
 
@@ -167,8 +208,8 @@ Lessens left node (End outcome) = told_cost ≤ left node
 
 -- ---- what it hears
 
--- The child of this number, whose operation this is, ended with this value, which it can have, and which has the pointer that it
--- told.
+-- The child of this number, whose operation this is, ended with this value, which it can have, which is of the operation's kind,
+-- and which has the pointer that it told.
 pub record Hears {N : Type 0} (nodes : Nodes N) (tops : List Top) (t : Terms) (node : N) (st : Stack) (n : ℕ) (c : Child) (op : Task)
     (outcome : Outcome) (v : Value) : Type 0 where
   pub now : IsNow {N = N} nodes tops t node st
@@ -178,6 +219,7 @@ pub record Hears {N : Type 0} (nodes : Nodes N) (tops : List Top) (t : Terms) (n
   pub asked : asked_at st c.seat ≡ Some op
   pub fits_told : FitsTold st c v
   pub fits : (journal : List Choice) → FitsTask journal t op v
+  pub in_kind : IsAnswerTo op v
   pub shows : IsOutcome t op outcome v
 
 pub record HearsSome {N : Type 0} (nodes : Nodes N) (tops : List Top) (node : N) (n : ℕ) (outcome : Outcome) : Type 0 where

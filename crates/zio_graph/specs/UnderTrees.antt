@@ -25,7 +25,8 @@ use Rattle.slab.specs.Slab.{Slab}
 use Rattle.zio_graph.specs.Attempting.{Course, IsAttempting, IsBetween, attempt_of, course_of, rest_of, settled_with}
 use Rattle.zio_graph.specs.Engine.{IsKept}
 use Rattle.zio_graph.specs.Entries.{handed_on, standing, top_at}
-use Rattle.zio_graph.specs.Parts.{Nodes}
+use Rattle.zio_graph.specs.Ledgers.{AreToldAs, Ending, IsLedger, no_books}
+use Rattle.zio_graph.specs.Parts.{Nodes, ended_in}
 use Rattle.zio_graph.specs.Rounds.{Before, KeepsRound, SoFar, no_op, with_tree}
 use Rattle.zio_graph.specs.Slabs.{shelf_of}
 use Rattle.zio_graph.specs.UnderTurns.{EndsFinished, IsGoingOn}
@@ -61,7 +62,8 @@ pub record HasHeardOf (t : Terms) (c : Course) (outcome : Outcome) (one : One) (
   pub shows : IsOutcome t (attempt_of c) outcome (AttemptedBy one)
   pub ends : (v : Value) → left_behind_slots (Heard (AttemptedBy one) ∷ []) (rest_of c) ≡ Ends v → IsEnded t st v
   pub goes : (d : Course) → left_behind_slots (Heard (AttemptedBy one) ∷ []) (rest_of c) ≡ rest_of d
-      → d.attempt ≡ c.attempt + 1 → IsBetween t d st
+      → d.attempt ≡ c.attempt + 1 → d.ended ≡ c.ended ++ one.ended → IsBetween t d st
+  pub ended_are : ended_in st ≡ c.ended ++ one.ended
 
 -- an attempt can end with it
 abbrev pub IsOfAttempt : Outcome → Type 0
@@ -71,7 +73,7 @@ IsOfAttempt _ = ⊥
 
 -- the tree's root finished, and nothing is left; or this is left, which is suspended
 abbrev pub IsLeftOf : TreeEnd → One → Type 0
-IsLeftOf (RootFinished f) one = IsFinishedAs f one
+IsLeftOf RootFinished one = (f : Finished) × IsFinishedAs f one
 IsLeftOf (Suspended whole) one = (bits : Bits) × (pointer : Option Bp) × IsLeftAs whole bits pointer one
 
 -- the tree of this number has this value, and nothing is in flight for it
@@ -82,6 +84,7 @@ with_value s n v = record {
   entries = s.entries;
   images = s.images;
   ops = s.ops;
+  books = s.books;
 }
 
 -- its next attempt is under way
@@ -174,8 +177,12 @@ pub record HasRun {N D : Type 0} (nodes : Nodes N) (bytes : D → ℕ) (image : 
   pub others : List Finished
   pub ended_are : ended_now ≡ ended ++ others
   pub are : AllByRecursion (EndsFinished t) others
+  pub done : List Ending
+  pub done_are : now.books.done ≡ s.books.done ++ done
+  pub done_told : AreToldAs others done
 
--- No node is left, and no tree stands: the laws of a round's end say what it came to.
+-- No node is left, and no tree stands: the laws of a round's end say what it came to, and the books what finished and what became of
+-- the places.
 pub record IsOver {N : Type 0} (nodes : Nodes N) (t : Terms) (sizes : ℕ → ℕ) (f : Forest) (before : Before) (s : SoFar)
     (slab : Slab (Entry N)) : Type 0 where
   pub state : State
@@ -183,6 +190,7 @@ pub record IsOver {N : Type 0} (nodes : Nodes N) (t : Terms) (sizes : ℕ → �
   pub standing_none : standing s.tops ≡ []
   pub entries_are : state.entries ≡ s.entries
   pub images_are : state.images ≡ s.images
+  pub ledger : IsLedger {N = N} nodes t f s.books s.entries s.tops s.trees [] slab
 
 -- each sound round of these terms goes on until it is over
 abbrev pub RunsToEnd : {N D : Type 0} → Nodes N → (D → ℕ) → (D → List ℕ → Type 0) → Slab (Entry N) → List ℕ → Grounds D
@@ -197,6 +205,15 @@ RunsToEnd {N = N} {D = D} nodes bytes image slab line g states ended slab_now li
 abbrev pub attempts_left : TreeState → ℕ
 attempts_left (UnderWay attempt) = 4 - attempt
 attempts_left (Settled end) = 0
+
+-- of what is suspended of a tree
+abbrev pub EndIn : (List Waiting → Type 0) → TreeEnd → Type 0
+EndIn Q RootFinished = Unit {0}
+EndIn Q (Suspended whole) = Q whole
+
+abbrev pub StateIn : (List Waiting → Type 0) → TreeState → Type 0
+StateIn Q (UnderWay attempt) = Unit {0}
+StateIn Q (Settled end) = EndIn Q end
 
 -- ---- the beginning
 
@@ -225,6 +242,7 @@ pub record BeginsSo {N : Type 0} (nodes : Nodes N) (t : Terms) (sizes : ℕ → 
   pub entries_are : now.entries ≡ []
   pub images_are : now.images ≡ images
   pub ops_are : now.ops ≡ (λ key. no_op)
+  pub books_are : now.books ≡ no_books
   pub begun : HaveBegun t now.tops states rest
 
 -- each sound round of these trees begins so

@@ -1,6 +1,7 @@
 -- What the one-thread engine keeps from turn to turn: the round with its nodes, and what it lends to them.
 use Rattle.std.specs.Prelude.{◌≡◌, ℕ, ◌+◌, ◌*◌, ◌≤◌, ◌^◌, List, [], ◌∷◌, ◌++◌, length, map, slice_get, slice_index_or, slice_set, false, Option, Some, None}
 use Rattle.std.specs.List.{AllByRecursion}
+use Rattle.zio_types.specs.declared.place.Place.{Place}
 use Rattle.zio_types.specs.declared.place.Top.{Top}
 use Rattle.zio_types.specs.Choices.{Choice}
 use Rattle.zio_blkptr.specs.declared.pointer.Bp.{Bp}
@@ -26,8 +27,9 @@ use Rattle.zio_graph.specs.AtLeaves.{AllWait, WaitsFor, key_of, keys_at}
 use Rattle.zio_graph.specs.Desks.{IsDeskAt}
 use Rattle.zio_graph.specs.Entries.{top_at}
 use Rattle.zio_graph.specs.Grounds.{AreReady}
+use Rattle.zio_graph.specs.Ledgers.{AreToldAs, Ending}
 use Rattle.zio_graph.specs.Parts.{Nodes}
-use Rattle.zio_graph.specs.Rounds.{Before, EndsAs, KeepsRound, KeepsSome, SoFar, with_images, with_tree}
+use Rattle.zio_graph.specs.Rounds.{Before, EndsAs, KeepsRound, KeepsSome, SoFar, finished_in, with_done, with_images, with_tree}
 use Rattle.zio_graph.specs.Slabs.{load}
 use Rattle.zio_graph.specs.Stages.{OutcomeIn, ShowsAnswer}
 use Rattle.zio_graph.specs.declared.entry.Entry.{Entry}
@@ -47,12 +49,12 @@ TellNow image (Some before) disks images = Tell image disks images
 abbrev pub FitDisks : (ℕ → ℕ) → List ℕ → Type 0
 FitDisks sizes disks = (leaf : ℕ) → (sizes leaf ≤ slice_index_or disks leaf 0) × (sizes leaf ≤ 2 ^ 28)
 
--- What is lent is the round's: its space, with these entries; at the leaves the operations of the round, by their keys; and the
--- disks, which tell these images.
+-- What is lent is the round's: its space, with these entries, and with these places claimed and given back; at the leaves the
+-- operations of the round, by their keys; and the disks, which tell these images.
 pub record AreLent {D : Type 0} (bytes : D → ℕ) (image : D → List ℕ → Type 0) (t : Terms) (sizes : ℕ → ℕ) (before : Before)
-    (entries : List Choice) (images : Images) (ops : ℕ → LeafOp) (g : Grounds D) : Type 0 where
+    (entries : List Choice) (claimed back : List Place) (images : Images) (ops : ℕ → LeafOp) (g : Grounds D) : Type 0 where
   pub setting_is : t.setting ≡ g.setting
-  pub desk : IsDeskAt t entries g.desk.tops g.desk.space g.desk.asked
+  pub desk : IsDeskAt t entries claimed back g.desk.tops g.desk.space g.desk.asked
   pub waits : AllWait (λ leaf w. WaitsFor leaf (ops (key_of w)) w) g.queues.leaves.items
   pub ready : AreReady g.setting.rows (map bytes g.disks.items) g.queues.leaves.items
   pub fit : FitDisks sizes (map bytes g.disks.items)
@@ -63,7 +65,7 @@ pub record AreLent {D : Type 0} (bytes : D → ℕ) (image : D → List ℕ → 
 pub record IsGoingOn {N D : Type 0} (nodes : Nodes N) (bytes : D → ℕ) (image : D → List ℕ → Type 0) (t : Terms) (sizes : ℕ → ℕ)
     (f : Forest) (before : Before) (s : SoFar) (slab : Slab (Entry N)) (line : List ℕ) (g : Grounds D) : Type 0 where
   pub keeps : KeepsRound {N = N} nodes t sizes f before s slab line (keys_at g.queues.leaves.items)
-  pub lent : AreLent {D = D} bytes image t sizes before s.entries s.images s.ops g
+  pub lent : AreLent {D = D} bytes image t sizes before s.entries s.books.claimed s.books.back s.images s.ops g
 
 -- a sound round is
 pub record GoesOnSome {N D : Type 0} (nodes : Nodes N) (bytes : D → ℕ) (image : D → List ℕ → Type 0) (slab : Slab (Entry N))
@@ -112,19 +114,23 @@ abbrev pub AreTold : List Telling → List (Option Flying) → List (Option Flyi
 AreTold [] tops now = now ≡ tops
 AreTold (x ∷ xs) tops now = IsTelling x tops × AreTold xs (with_telling x tops) now
 
--- Entries came behind the others, and what is in flight for the trees told pointers, and did nothing else.
-pub record HasGoneOn (s now : SoFar) : Type 0 where
+-- Entries came behind the others, these requests finished, and what is in flight for the trees told pointers, and did nothing else.
+pub record HasGoneOn (s now : SoFar) (finished : List Finished) : Type 0 where
   pub tellings : List Telling
   pub told : AreTold tellings s.tops now.tops
   pub more : List Choice
   pub entries_are : now.entries ≡ s.entries ++ more
   pub trees_are : now.trees ≡ s.trees
+  pub done : List Ending
+  pub done_are : now.books.done ≡ s.books.done ++ done
+  pub done_told : AreToldAs finished done
 
--- the round went on to this
+-- the round went on to this, and these requests finished
 pub record HasTurned {N D : Type 0} (nodes : Nodes N) (bytes : D → ℕ) (image : D → List ℕ → Type 0) (t : Terms) (sizes : ℕ → ℕ)
-    (f : Forest) (before : Before) (s : SoFar) (slab : Slab (Entry N)) (line : List ℕ) (g : Grounds D) : Type 0 where
+    (f : Forest) (before : Before) (s : SoFar) (finished : List Finished) (slab : Slab (Entry N)) (line : List ℕ)
+    (g : Grounds D) : Type 0 where
   pub now : SoFar
-  pub gone : HasGoneOn s now
+  pub gone : HasGoneOn s now finished
   pub going : IsGoingOn {N = N} {D = D} nodes bytes image t sizes f before now slab line g
 
 -- a node ended as a request that finished
@@ -133,12 +139,13 @@ pub record EndsFinished (t : Terms) (finished : Finished) : Type 0 where
   pub value : Value
   pub how : EndsAs t op (HasFinished finished) value
 
--- The round went on to this, where the tree of this number has with what its nth child ended: this value of its operation.
+-- The round went on to this, where the tree of this number has with what its nth child ended: this value of its operation. Before these
+-- requests finished, and with that the child, where it did.
 pub record HasEndedFor {N D : Type 0} (nodes : Nodes N) (bytes : D → ℕ) (image : D → List ℕ → Type 0) (t : Terms) (sizes : ℕ → ℕ)
-    (f : Forest) (before : Before) (s : SoFar) (slab : Slab (Entry N)) (line : List ℕ) (g : Grounds D) (tree : ℕ)
-    (outcome : Outcome) : Type 0 where
+    (f : Forest) (before : Before) (s : SoFar) (finished : List Finished) (slab : Slab (Entry N)) (line : List ℕ) (g : Grounds D)
+    (tree : ℕ) (outcome : Outcome) : Type 0 where
   pub now : SoFar
-  pub gone : HasGoneOn s now
+  pub gone : HasGoneOn s now finished
   pub top : Flying
   pub number : ℕ
   pub child : Child
@@ -150,17 +157,19 @@ pub record HasEndedFor {N D : Type 0} (nodes : Nodes N) (bytes : D → ℕ) (ima
   pub asked : asked_at top.stack child.seat ≡ Some op
   pub fits : FitsTold top.stack child value
   pub how : EndsAs t op outcome value
+  pub more : List Ending
+  pub told : AreToldAs (finished_in outcome) more
   pub going : IsGoingOn {N = N} {D = D} nodes bytes image t sizes f before
-      (with_tree now tree (record { at = top.at; stack = heard_of top.stack number child value })) slab line g
+      (with_done (with_tree now tree (record { at = top.at; stack = heard_of top.stack number child value })) more) slab line g
 
 abbrev pub AfterTurn : {N D : Type 0} → Nodes N → (D → ℕ) → (D → List ℕ → Type 0) → Terms → (ℕ → ℕ) → Forest → Before → SoFar
     → Slab (Entry N) → List ℕ → Grounds D → Turned → Type 0
 AfterTurn {N = N} {D = D} nodes bytes image t sizes f before s slab line g Nothing =
-    HasTurned {N = N} {D = D} nodes bytes image t sizes f before s slab line g
+    HasTurned {N = N} {D = D} nodes bytes image t sizes f before s [] slab line g
 AfterTurn {N = N} {D = D} nodes bytes image t sizes f before s slab line g (HasEnded finished) =
-    EndsFinished t finished × HasTurned {N = N} {D = D} nodes bytes image t sizes f before s slab line g
+    EndsFinished t finished × HasTurned {N = N} {D = D} nodes bytes image t sizes f before s (finished ∷ []) slab line g
 AfterTurn {N = N} {D = D} nodes bytes image t sizes f before s slab line g (Root tree outcome) =
-    HasEndedFor {N = N} {D = D} nodes bytes image t sizes f before s slab line g tree outcome
+    HasEndedFor {N = N} {D = D} nodes bytes image t sizes f before s [] slab line g tree outcome
 
 -- of a tree that goes again
 abbrev pub TurnedIn : (List Waiting → Type 0) → Turned → Type 0
@@ -228,19 +237,19 @@ IsDone line leaves _ = Unit {0}
 
 -- each sound round goes on until a tree hears, or there is nothing to do, and these requests finished meanwhile
 abbrev pub AfterRun : {N D : Type 0} → Nodes N → (D → ℕ) → (D → List ℕ → Type 0) → Terms → (ℕ → ℕ) → Forest → Before → SoFar
-    → Slab (Entry N) → List ℕ → Grounds D → Option Hearing → Type 0
-AfterRun {N = N} {D = D} nodes bytes image t sizes f before s slab line g None =
-    HasTurned {N = N} {D = D} nodes bytes image t sizes f before s slab line g
-AfterRun {N = N} {D = D} nodes bytes image t sizes f before s slab line g (Some heard) =
-    HasEndedFor {N = N} {D = D} nodes bytes image t sizes f before s slab line g heard.tree heard.outcome
+    → List Finished → Slab (Entry N) → List ℕ → Grounds D → Option Hearing → Type 0
+AfterRun {N = N} {D = D} nodes bytes image t sizes f before s finished slab line g None =
+    HasTurned {N = N} {D = D} nodes bytes image t sizes f before s finished slab line g
+AfterRun {N = N} {D = D} nodes bytes image t sizes f before s finished slab line g (Some heard) =
+    HasEndedFor {N = N} {D = D} nodes bytes image t sizes f before s finished slab line g heard.tree heard.outcome
 
 abbrev pub RunsToTree : {N D : Type 0} → Nodes N → (D → ℕ) → (D → List ℕ → Type 0) → Slab (Entry N) → List ℕ → Grounds D
     → List Finished → Slab (Entry N) → List ℕ → Grounds D → List Finished → Option Hearing → Type 0
 RunsToTree {N = N} {D = D} nodes bytes image slab line g ended slab_now line_now g_now ended_now heard =
     (t : Terms) (sizes : ℕ → ℕ) (f : Forest) (before : Before) (s : SoFar) → IsSoundRound t sizes f →
     IsGoingOn {N = N} {D = D} nodes bytes image t sizes f before s slab line g →
-    AfterRun {N = N} {D = D} nodes bytes image t sizes f before s slab_now line_now g_now heard
-    × ((more : List Finished) × (ended_now ≡ ended ++ more) × AllByRecursion (EndsFinished t) more)
+    (more : List Finished) × (ended_now ≡ ended ++ more) × AllByRecursion (EndsFinished t) more
+    × AfterRun {N = N} {D = D} nodes bytes image t sizes f before s more slab_now line_now g_now heard
 
 -- where no tree hears no key is queued, and none is at a leaf
 abbrev pub IsDoneUnless : List ℕ → List ℕ → Option Hearing → Type 0

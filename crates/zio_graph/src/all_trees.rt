@@ -1,10 +1,12 @@
 //! All trees of a round, until each is settled.
 
-ghost use Rattle.std.specs.Prelude.{◌≡◌, ◌<◌, ℕ, Err, OnOk, Some, length, map, slice_get, slice_set};
+ghost use Rattle.std.specs.Prelude.{◌≡◌, ◌<◌, ℕ, Err, OnErr, OnOk, Some, length, map, slice_get, slice_set};
+ghost use Rattle.std.specs.List.{AllByRecursion};
 ghost use Rattle.zio_graph.specs.declared.trees.TreeState.TheVariants.{UnderWay};
-ghost use Rattle.zio_disks.specs.Disks.{AnyRose};
+ghost use Rattle.zio_disks.specs.Disks.{AnyRose, AreSameDisks};
 ghost use Rattle.zio_graph.specs.Slabs.{AreAll};
-ghost use Rattle.zio_graph.specs.UnderTrees.{RunsSome, RunsToEnd};
+ghost use Rattle.zio_graph.specs.Stops.{TreesStopWith};
+ghost use Rattle.zio_graph.specs.UnderTrees.{RunsSome, RunsToEnd, StateIn};
 
 use crate::grounds::Grounds;
 use crate::hearing::run_to_tree;
@@ -19,8 +21,8 @@ use zio_stages::Finished;
 
 /// Runs the trees of a round, whose first attempts are handed out, until each is settled. Each sound round of these terms
 /// goes on until it is over, whatever is picked: then no node is left, and no tree is under way. The requests that finish
-/// below the trees' roots are added in order of their completion; the roots themselves are in the trees' ends. It is stopped by
-/// a device only where a disk's count of faults rose.
+/// are added in order of their completion, a child's before its parent's. It is stopped by a device only where a disk's count of
+/// faults rose, and then the images differ only where the round's requests write.
 pub fn run_trees<N: Staged, D: Disk + Drop, P: Picks>(
     turns: &mut Turns<N>,
     grounds: &mut Grounds<D>,
@@ -34,9 +36,16 @@ pub fn run_trees<N: Staged, D: Disk + Drop, P: Picks>(
     requires over { AreAll (N.over grounds.old.desk.tops) turns.old.nodes }
     ensures runs { OnOk result (RunsToEnd N.nodes D.bytes D.image turns.old.nodes turns.old.line grounds.old trees.old.items
         ended.old.items turns.new.nodes turns.new.line grounds.new trees.new.items ended.new.items round failmode) }
+    ensures inside { AllByRecursion (StateIn (N.tree_over grounds.old.desk.tops)) trees.old.items →
+        OnOk result (AllByRecursion (StateIn (N.tree_over grounds.old.desk.tops)) trees.new.items) }
+    ensures same { AreSameDisks D.bytes D.faults D.faults_at_fetch D.home D.image D.sound grounds.old.disks.items grounds.new.disks.items }
     ensures steady { OnOk result (map D.faults grounds.new.disks.items ≡ map D.faults grounds.old.disks.items) }
     ensures device { result ≡ Err Stop.Device →
         AnyRose (map D.faults grounds.old.disks.items) (map D.faults grounds.new.disks.items) }
+    ensures stopped { OnErr result (TreesStopWith N.nodes D.bytes D.image turns.old.nodes turns.old.line grounds.old round failmode
+        trees.old.items grounds.new.disks.items) }
+    ensures tops { grounds.new.desk.tops ≡ grounds.old.desk.tops }
+    ensures setting { grounds.new.setting ≡ grounds.old.setting }
 {
     'trees: loop {
         let Some(heard) = run_to_tree(turns, grounds, picks, ended)? else {
@@ -52,6 +61,7 @@ pub fn run_trees<N: Staged, D: Disk + Drop, P: Picks>(
             tree,
             attempt,
             heard.outcome,
+            ended,
         ) else {
             return Err(Stop::Memory);
         };

@@ -1,9 +1,10 @@
 //! Turns and groups, in whatever order is picked.
 
-ghost use Rattle.std.specs.Prelude.{◌≡◌, ◌≢◌, ◌<◌, ◌≤◌, [], Err, IfOk, OnOk, map};
-ghost use Rattle.zio_disks.specs.Disks.{AnyRose};
+ghost use Rattle.std.specs.Prelude.{◌≡◌, ◌≢◌, ◌<◌, ◌≤◌, [], Err, IfOk, OnErr, OnOk, map};
+ghost use Rattle.zio_disks.specs.Disks.{AnyRose, AreSameDisks};
 ghost use Rattle.zio_graph.specs.AtLeaves.{keys_at};
 ghost use Rattle.zio_graph.specs.Slabs.{AreAll};
+ghost use Rattle.zio_graph.specs.Stops.{StopsWith};
 ghost use Rattle.zio_graph.specs.UnderTurns.{GoesOnSome, IsDone, RunsOn, TurnedIn, work_left};
 ghost use Rattle.zio_graph.specs.declared.turn.Turned.TheVariants.{Nothing};
 
@@ -34,9 +35,11 @@ pub fn run_on<N: Staged, D: Disk + Drop, P: Picks>(
         ≤ work_left N.nodes.left turns.old.nodes turns.old.line grounds.old) }
     ensures fewer { IfOk result (λ turned. turned ≢ Nothing → work_left N.nodes.left turns.new.nodes turns.new.line grounds.new
         < work_left N.nodes.left turns.old.nodes turns.old.line grounds.old) }
+    ensures same { AreSameDisks D.bytes D.faults D.faults_at_fetch D.home D.image D.sound grounds.old.disks.items grounds.new.disks.items }
     ensures steady { OnOk result (map D.faults grounds.new.disks.items ≡ map D.faults grounds.old.disks.items) }
     ensures device { result ≡ Err Stop.Device →
         AnyRose (map D.faults grounds.old.disks.items) (map D.faults grounds.new.disks.items) }
+    ensures stopped { OnErr result (StopsWith N.nodes D.bytes D.image turns.old.nodes turns.old.line grounds.old grounds.new.disks.items) }
     ensures inside { IfOk result (TurnedIn (N.tree_over grounds.old.desk.tops)) }
     ensures tops { grounds.new.desk.tops ≡ grounds.old.desk.tops }
     ensures setting { grounds.new.setting ≡ grounds.old.setting }

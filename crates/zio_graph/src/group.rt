@@ -1,11 +1,12 @@
 //! One leaf's next group, and its answers to the nodes.
 
-ghost use Rattle.std.specs.Prelude.{◌≡◌, ◌+◌, ◌<◌, ◌≤◌, List as Seq, length, OnOk};
+ghost use Rattle.std.specs.Prelude.{◌≡◌, ◌+◌, ◌<◌, ◌≤◌, List as Seq, length, OnErr, OnOk};
 ghost use Rattle.zio_types.specs.declared.place.Top.{Top as SeenTop};
 ghost use Rattle.zio_disks.specs.Disks.{Handles};
 ghost use Rattle.zio_groups.specs.Issued.{written_spots};
 ghost use Rattle.zio_graph.specs.AtLeaves.{eligible_at, eligible_leaves, waiting_at};
 ghost use Rattle.zio_graph.specs.Slabs.{AreAll, load};
+ghost use Rattle.zio_graph.specs.Stops.{StopsWith};
 ghost use Rattle.zio_graph.specs.UnderTurns.{AreAtLeaves, ComeBack, GoesOnSome, IssuesOn, work_left};
 
 use crate::grounds::Grounds;
@@ -35,6 +36,7 @@ pub fn issue_group<N: Staged, D: Disk + Drop>(
         (written_spots (eligible_at grounds.old.queues.leaves.items k)
         (waiting_at grounds.old.queues.leaves.items (eligible_at grounds.old.queues.leaves.items k)))
         result grounds.old.disks.items grounds.new.disks.items }
+    ensures stopped { OnErr result (StopsWith N.nodes D.bytes D.image turns.old.nodes turns.old.line grounds.old grounds.new.disks.items) }
     ensures desk { grounds.new.desk ≡ grounds.old.desk }
     ensures setting { grounds.new.setting ≡ grounds.old.setting }
 {

@@ -1,9 +1,10 @@
 //! Turns and groups until a tree of the round hears of its attempt.
 
-ghost use Rattle.std.specs.Prelude.{◌≡◌, ◌<◌, ◌≤◌, Err, IfOk, IfSome, OnOk, map};
-ghost use Rattle.zio_disks.specs.Disks.{AnyRose};
+ghost use Rattle.std.specs.Prelude.{◌≡◌, ◌<◌, ◌≤◌, Err, IfOk, IfSome, OnErr, OnOk, map};
+ghost use Rattle.zio_disks.specs.Disks.{AnyRose, AreSameDisks};
 ghost use Rattle.zio_graph.specs.AtLeaves.{keys_at};
 ghost use Rattle.zio_graph.specs.Slabs.{AreAll};
+ghost use Rattle.zio_graph.specs.Stops.{StopsWith};
 ghost use Rattle.zio_graph.specs.Stages.{OutcomeIn};
 ghost use Rattle.zio_graph.specs.UnderTurns.{GoesOnSome, IsDoneUnless, RunsToTree, work_left};
 
@@ -41,9 +42,11 @@ pub fn run_to_tree<N: Staged, D: Disk + Drop, P: Picks>(
     ensures done { IfOk result (IsDoneUnless turns.new.line (keys_at grounds.new.queues.leaves.items)) }
     ensures over { OnOk result (AreAll (N.over grounds.new.desk.tops) turns.new.nodes) }
     ensures inside { IfOk result (λ heard. IfSome heard (λ h. OutcomeIn (N.tree_over grounds.old.desk.tops) h.outcome)) }
+    ensures same { AreSameDisks D.bytes D.faults D.faults_at_fetch D.home D.image D.sound grounds.old.disks.items grounds.new.disks.items }
     ensures steady { OnOk result (map D.faults grounds.new.disks.items ≡ map D.faults grounds.old.disks.items) }
     ensures device { result ≡ Err Stop.Device →
         AnyRose (map D.faults grounds.old.disks.items) (map D.faults grounds.new.disks.items) }
+    ensures stopped { OnErr result (StopsWith N.nodes D.bytes D.image turns.old.nodes turns.old.line grounds.old grounds.new.disks.items) }
     ensures tops { grounds.new.desk.tops ≡ grounds.old.desk.tops }
     ensures setting { grounds.new.setting ≡ grounds.old.setting }
 {

@@ -2,7 +2,6 @@
 
 ghost use Rattle.std.specs.Prelude.{◌≡◌, ◌≢◌, ◌+◌, ◌<◌, ◌≤◌, List as Seq, [], IfErr, IfOk, IfSome, IsTrue, Ok, Err, Some, false};
 ghost use Rattle.zio_types.specs.Choices.{Ask};
-ghost use Rattle.zio_types.specs.declared.place.Place.{Place as SeenPlace};
 ghost use Rattle.zio_types.specs.declared.place.Top.{Top as SeenTop};
 ghost use Rattle.zio_blkptr.specs.Pointers.{valid};
 ghost use Rattle.zio_gang.specs.Attempts.{Pending, Terms};
@@ -15,7 +14,7 @@ ghost use Rattle.zio_stages.specs.SpaceCalls.{SpaceCall};
 ghost use Rattle.zio_stages.specs.Wholes.{IsTreeOf};
 ghost use Rattle.zio_stages.specs.declared.outcome.Outcome.{Outcome as SeenOutcome};
 ghost use Rattle.zio_stages.specs.declared.waiting.Waiting.{Waiting};
-ghost use Rattle.zio_graph.specs.Stages.{EachIn, GoesOn, Hears, HearsEarly, HearsSome, HearsSomeEarly, IsMove, IsNow, Lessens, OutcomeIn, ShowsAnswer, TellsValid, heard_max};
+ghost use Rattle.zio_graph.specs.Stages.{AreHandedOut, AreItsOwn, EachIn, GoesOn, Hears, HearsEarly, HearsSome, HearsSomeEarly, IsMove, IsNow, Lessens, OutcomeIn, ShowsAnswer, TellsValid, heard_max};
 
 use crate::node::Node;
 use std::alloc::Global;
@@ -56,9 +55,6 @@ pub trait Staged: Node + Drop {
     /// What a tree of requests names lies inside them.
     ghost tree_over: { Seq SeenTop → Seq Waiting → Type 0 };
 
-    /// The places of a block that it freed.
-    ghost gave: { Self → Seq SeenPlace };
-
     /// Nothing of this attempt of a tree is done. Where memory is refused the tree comes back.
     fn start(
         alloc: Global,
@@ -71,7 +67,7 @@ pub trait Staged: Node + Drop {
         ensures fresh { IfOk result (λ node. (t : Terms) (p : Pending) (forest : Forest) → t.round ≡ round → t.failmode ≡ failmode →
             IsTreeOf whole p forest → Self.nodes.Is t node (fresh_stack (Attempt attempt p forest))) }
         ensures told { IfOk result (λ node. Self.nodes.told node ≡ false) }
-        ensures gave { IfOk result (λ node. gave node ≡ []) }
+        ensures gave { IfOk result (λ node. Self.nodes.gave node ≡ []) }
         ensures over { (tops : Seq SeenTop) → tree_over tops whole → IfOk result (over tops) }
         ensures back { IfErr result (λ e. e.whole ≡ whole) };
 
@@ -79,12 +75,12 @@ pub trait Staged: Node + Drop {
     fn run_stage<S: Services>(self, alloc: Global, services: &mut S) -> Result<Move<Self>, Self>
         requires { over (S.tops services.old) self }
         ensures moves { (move : Move Self) → result ≡ Ok move → (calls : Seq SpaceCall) × S.made services.old calls services.new
-            × ((t : Terms) (st : Stack) → IsNow Self.nodes (S.tops services.old) t self st → IsMove Self.nodes gave t self st calls move) }
+            × ((t : Terms) (st : Stack) → IsNow Self.nodes (S.tops services.old) t self st → IsMove Self.nodes Self.nodes.gave t self st calls move) }
         ensures over { IfOk result (EachIn (over (S.tops services.old)) (tree_over (S.tops services.old))) }
         ensures valid { IfOk result TellsValid }
         ensures left { IfOk result (Lessens Self.nodes.left self) }
         ensures refused { (node : Self) → result ≡ Err node → (calls : Seq SpaceCall) × S.made services.old calls services.new
-            × ((t : Terms) (st : Stack) → IsNow Self.nodes (S.tops services.old) t self st → GoesOn Self.nodes gave t self st calls node) }
+            × ((t : Terms) (st : Stack) → IsNow Self.nodes (S.tops services.old) t self st → GoesOn Self.nodes Self.nodes.gave t self st calls node) }
         ensures tops { S.tops services.new ≡ S.tops services.old };
 
     /// The child of this number told which pointer its value will have, or that it has none.
@@ -94,7 +90,7 @@ pub trait Staged: Node + Drop {
         ensures heard { (t : Terms) (st : Stack) (c : Child) → HearsEarly Self.nodes t self st child c →
             Self.nodes.Is t result (heard_early st child c pointer) }
         ensures told { Self.nodes.told result ≡ Self.nodes.told self }
-        ensures gave { gave result ≡ gave self }
+        ensures gave { Self.nodes.gave result ≡ Self.nodes.gave self }
         ensures over { (tops : Seq SeenTop) → over tops self → over tops result }
         ensures left { Self.nodes.left result ≤ Self.nodes.left self + heard_max };
 
@@ -113,7 +109,7 @@ pub trait Staged: Node + Drop {
         ensures finished { IfOk result (λ both. IfSome both.1 (λ f. outcome ≡ SeenOutcome.Finished f)) }
         ensures kept { IfOk result (λ both. (f : _) → outcome ≡ SeenOutcome.Finished f → both.1 ≡ Some f) }
         ensures told { IfOk result (λ both. Self.nodes.told both.0 ≡ Self.nodes.told self) }
-        ensures gave { IfOk result (λ both. gave both.0 ≡ gave self) }
+        ensures gave { IfOk result (λ both. Self.nodes.gave both.0 ≡ Self.nodes.gave self) }
         ensures over_still { IfOk result (λ both. over tops.now both.0) }
         ensures left { IfOk result (λ both. Self.nodes.left both.0 ≤ Self.nodes.left self + heard_max) };
 
@@ -124,10 +120,16 @@ pub trait Staged: Node + Drop {
             ShowsAnswer act error bytes a →
             Self.nodes.Is t result (done_at_once (fresh_stack (Leaf act)) (Leaf act) (Got a)) }
         ensures told { Self.nodes.told result ≡ Self.nodes.told self }
-        ensures gave { gave result ≡ gave self }
+        ensures gave { Self.nodes.gave result ≡ Self.nodes.gave self }
         ensures over { (tops : Seq SeenTop) → over tops self → over tops result }
         ensures left { Self.nodes.left result ≤ Self.nodes.left self };
 
     /// A node is a part of the work, or an operation on a leaf, and no ask of the space.
     ghost never_finds: { (t : Terms) (node : Self) (st : Stack) (a : Ask) → Self.nodes.Is t node st → st.outer.op ≢ Find a };
+
+    /// Each request and each part that it asks is done by a child, and none within.
+    ghost hands_out: { (t : Terms) (node : Self) (st : Stack) → Self.nodes.Is t node st → AreHandedOut st };
+
+    /// It gave back only places that it holds, or those of the block that it frees.
+    ghost gives_own: { (t : Terms) (node : Self) (st : Stack) → Self.nodes.Is t node st → AreItsOwn (Self.nodes.gave node) st };
 }

@@ -1,12 +1,13 @@
 //! A tree of a round, from one attempt to the next.
 
-ghost use Rattle.std.specs.Prelude.{◌≡◌, ◌<◌, ◌≤◌, List as Seq, IfOk, OnOk};
+ghost use Rattle.std.specs.Prelude.{◌≡◌, ◌++◌, ◌<◌, ◌≤◌, List as Seq, IfOk, IfSome, OnOk};
 ghost use Rattle.zio_types.specs.declared.place.Top.{Top as SeenTop};
 ghost use Rattle.zio_gang.specs.Attempts.{now_alone};
 ghost use Rattle.zio_stages.specs.Wholes.{IsWhole};
+ghost use Rattle.zio_graph.specs.Rounds.{finished_in};
 ghost use Rattle.zio_graph.specs.Slabs.{AreAll};
 ghost use Rattle.zio_graph.specs.Stages.{OutcomeIn};
-ghost use Rattle.zio_graph.specs.UnderTrees.{BeginsOn, IsOfAttempt, TreeGoesOn};
+ghost use Rattle.zio_graph.specs.UnderTrees.{BeginsOn, EndIn, IsOfAttempt, TreeGoesOn};
 
 use crate::staged::Staged;
 use crate::turns::Turns;
@@ -22,7 +23,7 @@ const REEXECUTIONS_MAX: u32 = 3;
 #[derive(Drop)]
 pub enum TreeEnd {
     /// Its root finished, and nothing is left of it.
-    Finished(Finished),
+    Finished,
     /// This is left of it, and is suspended.
     Suspended(Whole),
 }
@@ -72,7 +73,8 @@ fn now_alone(bits: Bits) -> bool
 }
 
 /// The tree of this number hears with what its attempt of this number ended: it is settled, or its next attempt is handed
-/// out, where its root is to go again at once and no more than three attempts were made again.
+/// out, where its root is to go again at once and no more than three attempts were made again. A root that finished is added to
+/// those that ended.
 pub fn hear_tree<N: Staged>(
     turns: &mut Turns<N>,
     alloc: Global,
@@ -81,6 +83,7 @@ pub fn hear_tree<N: Staged>(
     tree: u32,
     attempt: u32,
     outcome: Outcome,
+    ended: &mut Vec<Finished>,
 ) -> Result<Option<TreeEnd>, NoMemory>
     requires attempt { attempt ≤ 3 }
     requires outcome { IsOfAttempt outcome }
@@ -88,9 +91,15 @@ pub fn hear_tree<N: Staged>(
         tree attempt outcome) }
     ensures over { (tops : Seq SeenTop) → AreAll (N.over tops) turns.old.nodes → OutcomeIn (N.tree_over tops) outcome →
         OnOk result (AreAll (N.over tops) turns.new.nodes) }
+    ensures inside { (tops : Seq SeenTop) → OutcomeIn (N.tree_over tops) outcome →
+        IfOk result (λ end. IfSome end (EndIn (N.tree_over tops))) }
+    ensures ended { OnOk result (ended.new.items ≡ ended.old.items ++ finished_in outcome) }
 {
     match outcome {
-        Outcome::Finished(finished) => Ok(Some(TreeEnd::Finished(finished))),
+        Outcome::Finished(finished) => {
+            ended.push(finished)?;
+            Ok(Some(TreeEnd::Finished))
+        }
         Outcome::Again { whole, bits, .. } => {
             if !now_alone(bits) {
                 return Ok(Some(TreeEnd::Suspended(whole)));

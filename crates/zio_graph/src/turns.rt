@@ -4,6 +4,7 @@ ghost use Rattle.std.specs.Prelude.{◌≡◌, ◌+◌, ◌*◌, ◌<◌, List a
 ghost use Rattle.zio_types.specs.declared.place.Top.{Top as SeenTop};
 ghost use Rattle.zio_stages.specs.SpaceCalls.{SpaceCall};
 ghost use Rattle.zio_graph.specs.Acts.{StepIn, load_of};
+ghost use Rattle.zio_graph.specs.Desks.{GivesLast};
 ghost use Rattle.zio_graph.specs.Rounds.{Begins, ClaimsAlone, ComesBack, HandsOut, HasTurn, IsAtLeaf, IsTurn, StepsOn};
 ghost use Rattle.zio_graph.specs.Slabs.{AreAll, load};
 
@@ -77,7 +78,7 @@ impl<N: Staged> Turns<N> {
     ) -> Result<Step, NoMemory>
         requires { IsTurn N.nodes N.over (S.tops services.old) self.old.nodes self.old.line key }
         ensures steps { IfOk result (λ step. (calls : Seq SpaceCall) × S.made services.old calls services.new
-            × ClaimsAlone N.nodes (S.tops services.old) calls self.old.nodes self.old.line key
+            × ClaimsAlone N.nodes (S.tops services.old) calls self.old.nodes self.old.line key × GivesLast calls
             × StepsOn N.nodes (S.tops services.old) calls self.old.nodes self.old.line self.new.nodes self.new.line key step) }
         ensures over { OnOk result (AreAll (N.over (S.tops services.old)) self.new.nodes) }
         ensures less { IfOk result (λ step. load N.nodes.left self.new.nodes self.new.line + load_of step

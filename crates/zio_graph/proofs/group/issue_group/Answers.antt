@@ -1,6 +1,7 @@
 use Rattle.zio_graph.specs.AtLeaves.{eligible_at}
 use Rattle.zio_graph.specs.Slabs.{load}
 use Rattle.zio_graph.proofs.GroupMoves.{group_awaited, group_issues, group_less}
+use Rattle.zio_graph.proofs.StopLemmas.{leaf_stops, on_err}
 use Rattle.zio_graph.proofs.group.issue_group.Goals as goal
 
 pub tell_answers-requires : goal.tell_answers-requires
@@ -23,3 +24,13 @@ returns-in-Ok-clause-less g c =
     c.in_ok-answers.ensures.issued
     (load g.N.Node.nodes.left c.args.turns.now.nodes c.args.turns.now.line)
     (load g.N.Node.nodes.left c.tell_answers.new.turns.nodes c.tell_answers.new.turns.line) c.in-Ok.ensures.less
+
+pub returns-in_err-answers-clause-stopped : goal.returns-in_err-answers-clause-stopped
+returns-in_err-answers-clause-stopped g c = on_err c.from_residual.result
+    (leaf_stops g.N.Node.nodes g.D.Disk.bytes g.D.Disk.image c.args.turns.now.nodes c.args.turns.now.line c.args.grounds.now
+    c.issue.new.self.disks.items (eligible_at c.args.grounds.now.queues.leaves.items c.args.k) c.issue.ensures.handled.outside)
+
+pub returns-in-Err-clause-stopped : goal.returns-in-Err-clause-stopped
+returns-in-Err-clause-stopped g c =
+    leaf_stops g.N.Node.nodes g.D.Disk.bytes g.D.Disk.image c.args.turns.now.nodes c.args.turns.now.line c.args.grounds.now
+    c.issue.new.self.disks.items (eligible_at c.args.grounds.now.queues.leaves.items c.args.k) c.issue.ensures.handled.outside

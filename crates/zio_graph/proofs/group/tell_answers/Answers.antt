@@ -1,5 +1,4 @@
-use Rattle.std.proofs.Common.{◌∙◌, sym}
-use Rattle.zio_graph.proofs.GroupMoves.{all_came, next_at_leaf, telling_begins, telling_goes}
+use Rattle.zio_graph.proofs.GroupMoves.{next_at_leaf, telling_goes}
 use Rattle.zio_graph.proofs.group.tell_answers.Goals as goal
 
 pub answered-requires : goal.answered-requires

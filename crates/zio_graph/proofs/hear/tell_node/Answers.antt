@@ -31,7 +31,8 @@ returns g c =
       bits = record { now = false; suspend = false };
       heard = has_heard g.N.Node.nodes c.args.nodes.now c.remove-node.new.self c.count.new.nodes c.args.line.now c.count.new.line
           c.args.kind Ready None (record { now = false; suspend = false }) c.args.key c.remove-node.result c.arrive_ready-node.result
-          c.remove-node.ensures.value c.remove-node.ensures.updates has c.arrive_ready-node.ensures.told c.arrive_ready-node.ensures.left;
+          c.remove-node.ensures.value c.remove-node.ensures.updates has c.arrive_ready-node.ensures.told c.arrive_ready-node.ensures.left
+          c.arrive_ready-node.ensures.gave;
       is = c.arrive_ready-node.ensures.heard;
       over_still = c.arrive_ready-node.ensures.over;
     })

@@ -1,14 +1,14 @@
-use Rattle.std.proofs.Common.{Some, None, sym, subst, ◌∙◌, arith}
+use Rattle.std.proofs.Common.{Some, None, sym, subst, ◌∙◌}
 use Rattle.zio_stages.specs.declared.outcome.Outcome.{Outcome}
 use Rattle.zio_graph.specs.UnderTrees.{TreeGoesOn}
 use Rattle.zio_graph.specs.declared.trees.TreeEnd.TheVariants.{Finished, Suspended}
 use Rattle.zio_graph.proofs.TreeMoves.{tree_again, tree_finishes, tree_waits, tree_went}
 use Rattle.zio_graph.proofs.trees.hear_tree.Goals as goal
 
-pub returns-in-Finished-clause-goes_on : goal.returns-in-Finished-clause-goes_on
-returns-in-Finished-clause-goes_on g c =
+pub returns-in_ok-push-in-Finished-clause-goes_on : goal.returns-in_ok-push-in-Finished-clause-goes_on
+returns-in_ok-push-in-Finished-clause-goes_on g c =
     subst (λ (o : Outcome). TreeGoesOn g.N.Node.nodes c.args.turns.now.nodes c.args.turns.now.line c.args.turns.now.nodes
-    c.args.turns.now.line c.args.round c.args.failmode c.args.tree c.args.attempt o (Some (Finished c.in-Finished.finished))) (sym c.in-Finished.is)
+    c.args.turns.now.line c.args.round c.args.failmode c.args.tree c.args.attempt o (Some Finished)) (sym c.in-Finished.is)
     (tree_finishes g.N.Node.nodes c.args.turns.now.nodes c.args.turns.now.nodes c.args.turns.now.line c.args.turns.now.line
     c.args.round c.args.failmode c.args.tree c.args.attempt c.in-Finished.finished)
 

@@ -18,9 +18,9 @@ answered-node-requires g c =
 pub returns-clause-comes_back : goal.returns-clause-comes_back
 returns-clause-comes_back g c =
     on_ok_weaker c.queue_up.result
-    (λ q. answer_comes_back g.N.Node.nodes c.args.self.now.nodes c.args.self.now.line c.args.key g.N.Staged.gave
+    (λ q. answer_comes_back g.N.Node.nodes c.args.self.now.nodes c.args.self.now.line c.args.key
     c.put_back.new.nodes c.queue_up.new.line c.args.error c.args.bytes c.remove-node.result c.answered-node.result
-    c.remove-node.ensures.value c.answered-node.ensures.heard c.answered-node.ensures.told
+    c.remove-node.ensures.value c.answered-node.ensures.heard c.answered-node.ensures.told c.answered-node.ensures.gave
     (exchanged c.args.self.now.nodes c.remove-node.new.self c.put_back.new.nodes c.args.key
     (with_ties c.answered-node.result c.remove-node.result.ties) c.remove-node.ensures.updates c.put_back.ensures) q)
     c.queue_up.ensures

@@ -2,14 +2,15 @@
 use Rattle.std.proofs.Common.{◌≡◌, ℕ, zero, suc, mul-suc, ap, ◌∙◌, ◌-◌, ◌*◌, ◌≤◌, ◌+◌, ◌<◌, List, [], ◌∷◌, Bool, true, false, cond, ◌&&◌, ◌||◌, not, Some, None, refl, arith}
 use Rattle.std.specs.List.{list_any}
 use Rattle.zio_types.specs.declared.request.ChildKind.{ChildKind}
-use Rattle.zio_types.specs.declared.request.ChildKind.TheVariants.{Vdev}
-use Rattle.zio_types.specs.declared.request.Phase.TheVariants.{Done}
+use Rattle.zio_types.specs.declared.request.ChildKind.TheVariants.{Gang, Logical, Vdev}
+use Rattle.zio_types.specs.declared.request.Phase.{Phase}
+use Rattle.zio_types.specs.declared.request.Phase.TheVariants.{Done, Ready}
 use Rattle.zio_types.specs.Machine.{same_kind}
 use Rattle.zio_trace.specs.Keys.{bit}
 use Rattle.zio_frames.specs.Frames.{Child}
-use Rattle.zio_stages.specs.NodeChildren.{first_owing, is_owing}
+use Rattle.zio_stages.specs.NodeChildren.{first_owing, is_awaited, is_owing}
 use Rattle.zio_stages.specs.HeadsNodes.{walk_kids_max}
-use Rattle.zio_graph.specs.Entries.{count_owing}
+use Rattle.zio_graph.specs.Entries.{count_owing, owing}
 use Rattle.zio_graph.specs.Stages.{told_cost}
 use Rattle.zio_nodes.specs.Bounds.{copies_max, kid_share, walk_max}
 
@@ -25,10 +26,22 @@ either_counts : (b rest : Bool) (n m : ℕ) → b || rest ≡ true → (b ≡ tr
 either_counts true rest n m h one more = let is : n ≡ 1 = one refl in omega (arith, is)
 either_counts false rest n m h one more = let some : 0 < m = more h in omega (arith, some)
 
+one_untold : (s told ended : Bool) → (s && not told) && not ended ≡ true → cond s (bit (cond told false (cond ended false true))) 0 ≡ 1
+one_untold true false false h = refl
+one_untold true false true h = absurd (cc)
+one_untold true true ended h = absurd (cc)
+one_untold false told ended h = absurd (cc)
+
+pub owed_counts : (kind : ChildKind) (phase : Phase) (cs : List Child) → list_any (is_awaited kind phase) cs ≡ true → 0 < count_owing kind phase cs
+owed_counts kind phase [] h = absurd (cc)
+owed_counts kind phase (c ∷ cs) h =
+    either_counts (is_awaited kind phase c) (list_any (is_awaited kind phase) cs) _ _ h (one phase) (owed_counts kind phase cs) where
+      one : (p : Phase) → is_awaited kind p c ≡ true → owing kind p c ≡ 1
+      one Ready e = one_untold (same_kind c.kind kind) c.told c.ended e
+      one Done e = one_counts (same_kind c.kind kind) c.ended e
+
 pub any_counts : (kind : ChildKind) (cs : List Child) → list_any (is_owing kind Done) cs ≡ true → 0 < count_owing kind Done cs
-any_counts kind [] h = cc
-any_counts kind (c ∷ cs) h =
-    either_counts (is_owing kind Done c) (list_any (is_owing kind Done) cs) _ _ h (one_counts (same_kind c.kind kind) c.ended) (any_counts kind cs)
+any_counts kind cs h = owed_counts kind Done cs h
 
 is_chosen : (b : Bool) → cond b (Some Vdev) None ≡ Some Vdev → b ≡ true
 is_chosen true h = refl

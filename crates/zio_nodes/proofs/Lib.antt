@@ -3,4 +3,8 @@ pub mod CopiesLemmas
 pub mod HeadsLemmas
 pub mod LeafLemmas
 pub mod NodeLemmas
+pub mod OwnLemmas
+pub mod PartBounds
+pub mod PartHearing
+pub mod PartLemmas
 pub mod StageLemmas

@@ -3,7 +3,7 @@ use Rattle.std.proofs.Common.{◌≡◌, ◌<◌, slice_get, Bool, true, false, 
 use Rattle.std.specs.List.{list_any}
 use Rattle.std.proofs.lemmas.Bool.{cases_lt}
 use Rattle.zio_masks.specs.declared.pipeline.Pipeline.{Pipeline}
-use Rattle.zio_masks.specs.declared.pipeline.TheConstants.{INTERLOCK, READ, VDEV_CHILD}
+use Rattle.zio_masks.specs.declared.pipeline.TheConstants.{INTERLOCK, READ, VDEV_CHILD, WRITE}
 use Rattle.zio_masks.specs.declared.stage.Stage.{Stage}
 use Rattle.zio_masks.specs.declared.stage.Stage.TheVariants.{Start, ReadBpInit, WriteBpInit, FreeBpInit, IssueAsync, WriteCompress, ChecksumGenerate, GangAssemble, GangIssue, DvaAllocate, DvaFree, DvaClaim, Ready, VdevIoStart, VdevIoDone, VdevIoAssess, ChecksumVerify, Done}
 use Rattle.zio_masks.specs.Stages.{IsNext, all_stages, has, is_gang_stage, number_of}
@@ -112,3 +112,35 @@ walk_issued mask next same h = next_is is_walked mask GangIssue Ready next same 
 
 pub walk_ready : (mask : Pipeline) (next : Stage) → ((s : Stage) → has mask s ≡ is_walked s) → IsNext mask Ready next → next ≡ Done
 walk_ready mask next same h = next_is is_walked mask Ready Done next same h refl (lit< tt) refl
+
+-- ---- of a write
+
+pub write_start : (next : Stage) → IsNext WRITE Start next → next ≡ WriteBpInit
+write_start next h = next_is (has WRITE) WRITE Start WriteBpInit next (λ s. refl) h refl (lit< tt) refl
+
+pub write_init : (next : Stage) → IsNext WRITE WriteBpInit next → next ≡ IssueAsync
+write_init next h = next_is (has WRITE) WRITE WriteBpInit IssueAsync next (λ s. refl) h refl (lit< tt) refl
+
+pub write_issued : (next : Stage) → IsNext WRITE IssueAsync next → next ≡ WriteCompress
+write_issued next h = next_is (has WRITE) WRITE IssueAsync WriteCompress next (λ s. refl) h refl (lit< tt) refl
+
+pub write_set : (next : Stage) → IsNext WRITE WriteCompress next → next ≡ ChecksumGenerate
+write_set next h = next_is (has WRITE) WRITE WriteCompress ChecksumGenerate next (λ s. refl) h refl (lit< tt) refl
+
+pub write_summed : (next : Stage) → IsNext WRITE ChecksumGenerate next → next ≡ DvaAllocate
+write_summed next h = next_is (has WRITE) WRITE ChecksumGenerate DvaAllocate next (λ s. refl) h refl (lit< tt) refl
+
+pub write_placed : (next : Stage) → IsNext WRITE DvaAllocate next → next ≡ Ready
+write_placed next h = next_is (has WRITE) WRITE DvaAllocate Ready next (λ s. refl) h refl (lit< tt) refl
+
+pub write_ready : (next : Stage) → IsNext WRITE Ready next → next ≡ VdevIoStart
+write_ready next h = next_is (has WRITE) WRITE Ready VdevIoStart next (λ s. refl) h refl (lit< tt) refl
+
+pub write_out : (next : Stage) → IsNext WRITE VdevIoStart next → next ≡ VdevIoDone
+write_out next h = next_is (has WRITE) WRITE VdevIoStart VdevIoDone next (λ s. refl) h refl (lit< tt) refl
+
+pub write_done : (next : Stage) → IsNext WRITE VdevIoDone next → next ≡ VdevIoAssess
+write_done next h = next_is (has WRITE) WRITE VdevIoDone VdevIoAssess next (λ s. refl) h refl (lit< tt) refl
+
+pub write_assessed : (next : Stage) → IsNext WRITE VdevIoAssess next → next ≡ Done
+write_assessed next h = next_is (has WRITE) WRITE VdevIoAssess Done next (λ s. refl) h refl (lit< tt) refl

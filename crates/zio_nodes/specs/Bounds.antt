@@ -1,11 +1,14 @@
 -- How often a node of each kind runs at most, from where it stands.
-use Rattle.std.specs.Prelude.{ℕ, zero, suc, ◌+◌, ◌-◌, ◌*◌, length, Bool, true, false}
+use Rattle.std.specs.Prelude.{ℕ, zero, suc, ◌+◌, ◌-◌, ◌*◌, length, Bool, true, false, Option}
 use Rattle.zio_masks.specs.declared.stage.Stage.{Stage}
-use Rattle.zio_masks.specs.declared.stage.Stage.TheVariants.{Start, ReadBpInit, GangAssemble, GangIssue, Ready, VdevIoStart, VdevIoDone, VdevIoAssess, ChecksumVerify, Done}
+use Rattle.zio_masks.specs.declared.stage.Stage.TheVariants.{Start, ReadBpInit, WriteBpInit, IssueAsync, WriteCompress, ChecksumGenerate, GangAssemble, GangIssue, DvaAllocate, Ready, VdevIoStart, VdevIoDone, VdevIoAssess, ChecksumVerify, Done}
 use Rattle.zio_stages.specs.HeadsNodes.{walk_kids_max}
 use Rattle.zio_graph.specs.Stages.{told_cost}
 use Rattle.zio_nodes.specs.declared.copies_at.CopiesAt.{CopiesAt}
+use Rattle.zio_stages.specs.PartWorks.{asked_by, is_second}
+use Rattle.zio_stages.specs.declared.write_io.WriteIo.{WriteIo}
 use Rattle.zio_nodes.specs.declared.heads_at.HeadsAt.{HeadsAt}
+use Rattle.zio_nodes.specs.declared.part_at.PartAt.{PartAt}
 
 -- ---- an operation on a leaf
 
@@ -84,3 +87,49 @@ kid_share (suc levels) = copies_max + walk_max levels + 1
 
 abbrev pub heads_left : HeadsAt → ℕ
 heads_left at = kid_share at.node.work.walk.levels * (walk_kids_max - length at.node.family) + walk_stages at.stage
+
+-- ---- a gang's member that is written
+
+-- two passes over twelve copies
+abbrev pub write_asks_max : ℕ
+write_asks_max = 24
+
+-- the writes of copies that are left, until they are over
+abbrev pub write_left : Stage → Option WriteIo → ℕ
+write_left Done io = 0
+write_left _ io = leaf_share * (write_asks_max - asked_by io) + pass_left (is_second io)
+
+-- the stages that are left, beside those to which it goes back
+abbrev pub part_stages : Stage → ℕ
+part_stages Start = told_cost + 14
+part_stages WriteBpInit = told_cost + 13
+part_stages IssueAsync = told_cost + 12
+part_stages WriteCompress = told_cost + 11
+part_stages ChecksumGenerate = told_cost + 10
+part_stages DvaAllocate = told_cost + 9
+part_stages Ready = told_cost + 8
+part_stages VdevIoStart = told_cost + 2
+part_stages VdevIoDone = told_cost + 3
+part_stages VdevIoAssess = told_cost + 2
+part_stages Done = told_cost
+part_stages _ = 0
+
+-- how many members a gang hands out at most
+abbrev pub members_max : ℕ
+members_max = 3
+
+-- one with so many levels below it of which nothing is done: its members, which are one level lower, and its own work
+abbrev pub part_max : (levels : ℕ) → ℕ
+part_max zero = 265
+part_max (suc levels) = (part_max levels + 1) * members_max + 265
+
+-- the member that it hands out next, and that stage itself
+abbrev pub member_share : (levels : ℕ) → ℕ
+member_share zero = 0
+member_share (suc levels) = part_max levels + 1
+
+-- a path has eight steps at most
+abbrev pub part_left : PartAt → ℕ
+part_left at =
+    member_share (8 - length at.node.work.own.part.path) * (members_max - length at.node.work.own.part.members)
+    + write_left at.stage at.node.work.io + due_left at.is_due + part_stages at.stage

@@ -3,4 +3,5 @@ pub mod CopiesAts
 pub mod HeadsAts
 pub mod LeafAts
 pub mod Nodes
+pub mod PartAts
 pub mod Told

@@ -1,4 +1,4 @@
--- A node of any kind: how far it is, whether it told its pointer, and how often it runs at most.
+-- A node of any kind: how far it is, whether it told its pointer, how often it runs at most, and what it gave back.
 use Rattle.std.specs.Prelude.{ℕ, List, [], Bool}
 use Rattle.zio_types.specs.declared.place.Place.{Place}
 use Rattle.zio_types.specs.declared.place.Top.{Top}
@@ -8,28 +8,32 @@ use Rattle.zio_stages.specs.declared.waiting.Waiting.{Waiting}
 use Rattle.zio_gang.specs.Attempts.{Terms}
 use Rattle.zio_frames.specs.Frames.{Stack}
 use Rattle.zio_stages.specs.HeadsNodes.{IsHeadsNode}
+use Rattle.zio_stages.specs.PartNodes.{IsPartNode}
 use Rattle.zio_graph.specs.Parts.{Nodes}
 use Rattle.zio_graph.specs.Stages.{GoesOn, IsMove, IsNow}
 use Rattle.zio_graph.specs.declared.staged.Move.{Move}
-use Rattle.zio_nodes.specs.Bounds.{copies_left, heads_left, leaf_left}
+use Rattle.zio_nodes.specs.Bounds.{copies_left, heads_left, leaf_left, part_left}
 use Rattle.zio_nodes.specs.CopiesAts.{IsCopiesAt, IsCopiesAtOver}
 use Rattle.zio_nodes.specs.HeadsAts.{IsHeadsAtOver}
 use Rattle.zio_nodes.specs.LeafAts.{IsLeafAt, LeafStands}
+use Rattle.zio_nodes.specs.PartAts.{IsPartAtOver}
 use Rattle.zio_nodes.specs.Told.{is_told}
 use Rattle.zio_nodes.specs.declared.node.Node.{Node}
-use Rattle.zio_nodes.specs.declared.node.Node.TheVariants.{Copies, Heads, Leaf}
+use Rattle.zio_nodes.specs.declared.node.Node.TheVariants.{Copies, Heads, Leaf, Part}
 
 -- it is so far in its part of the round's work
 abbrev pub IsNode : Terms → Node → Stack → Type 0
 IsNode t (Leaf at) st = IsLeafAt t at st
 IsNode t (Copies at) st = IsCopiesAt t at st
 IsNode t (Heads at) st = IsHeadsNode t at.node st
+IsNode t (Part at) st = IsPartNode t at.node st
 
 -- what it is to read, write or free lies inside these tops, and its work is as far as its stage says
 abbrev pub IsNodeOver : List Top → Node → Type 0
 IsNodeOver tops (Leaf at) = LeafStands at.stage at.is_out at.work
 IsNodeOver tops (Copies at) = IsCopiesAtOver tops at
 IsNodeOver tops (Heads at) = IsHeadsAtOver tops at
+IsNodeOver tops (Part at) = IsPartAtOver tops at
 
 -- the blocks that a tree of requests names lie inside them
 abbrev pub IsTreeOver : List Top → List Waiting → Type 0
@@ -40,21 +44,24 @@ abbrev pub told_of : Node → Bool
 told_of (Leaf at) = is_told at.stage
 told_of (Copies at) = is_told at.stage
 told_of (Heads at) = is_told at.stage
+told_of (Part at) = is_told at.stage
 
 -- how often it runs at most
 abbrev pub left_of : Node → ℕ
 left_of (Leaf at) = leaf_left at.stage
 left_of (Copies at) = copies_left at
 left_of (Heads at) = heads_left at
+left_of (Part at) = part_left at
 
 -- the places of a block that it freed: only a request frees
 abbrev pub gave_of : Node → List Place
 gave_of (Leaf at) = []
 gave_of (Copies at) = []
 gave_of (Heads at) = []
+gave_of (Part at) = []
 
 abbrev pub nodes : Nodes Node
-nodes = record { Is = IsNode; told = told_of; left = left_of }
+nodes = record { Is = IsNode; told = told_of; left = left_of; gave = gave_of }
 
 -- ---- stages that ask nothing of the space
 

@@ -1,18 +1,21 @@
-//! What nodes never hear.
+//! What nodes hear, and what they never hear or do.
 
-ghost use Rattle.std.specs.Prelude.{◌≢◌, ℕ, List as Seq};
+ghost use Rattle.std.specs.Prelude.{◌≡◌, ◌≢◌, ℕ, List as Seq};
 ghost use Rattle.zio_types.specs.declared.place.Top.{Top as SeenTop};
+ghost use Rattle.zio_types.specs.declared.request.ChildKind.TheVariants.{Gang};
 ghost use Rattle.zio_types.specs.Choices.{Ask};
 ghost use Rattle.zio_gang.specs.Attempts.{Terms};
 ghost use Rattle.zio_trace.specs.Tasks.{Find};
 ghost use Rattle.zio_frames.specs.Frames.{Child, Stack};
 ghost use Rattle.zio_stages.specs.declared.outcome.Outcome.{Outcome as SeenOutcome};
-ghost use Rattle.zio_graph.specs.Stages.{HearsEarly, HearsSome};
-ghost use Rattle.zio_nodes.specs.Nodes.{IsNode, nodes};
+ghost use Rattle.zio_graph.specs.Stages.{AreHandedOut, AreItsOwn, HearsEarly, HearsSome};
+ghost use Rattle.zio_nodes.specs.Nodes.{IsNode, gave_of, nodes};
 ghost use Rattle.zio_nodes.specs.declared.copies_at.CopiesAt.{CopiesAt};
+ghost use Rattle.zio_nodes.specs.declared.heads_at.HeadsAt.{HeadsAt};
 ghost use Rattle.zio_nodes.specs.declared.leaf_at.LeafAt.{LeafAt};
 ghost use Rattle.zio_nodes.specs.declared.node.Node.{Node};
-ghost use Rattle.zio_nodes.specs.declared.node.Node.TheVariants.{Copies, Leaf};
+ghost use Rattle.zio_nodes.specs.declared.node.Node.TheVariants.{Copies, Heads, Leaf, Part};
+ghost use Rattle.zio_nodes.specs.declared.part_at.PartAt.{PartAt};
 
 /// An operation on a leaf has no children, and those of a read of copies are operations on leaves, which tell no pointer.
 pub fn operations_on_leaves_tell_nothing()
@@ -22,7 +25,21 @@ pub fn operations_on_leaves_tell_nothing()
         HearsSome nodes tops (Leaf at) n outcome → ⊥ }
 {}
 
+/// Of the children of a member that is written its own members tell pointers, and none of the writes of its copies.
+pub fn members_alone_tell_pointers()
+    ensures { (t : Terms) (at : PartAt) (st : Stack) (n : ℕ) (c : Child) → HearsEarly nodes t (Part at) st n c → c.kind ≡ Gang }
+{}
+
 /// A node does a part of the round's work, or an operation on a leaf, and no ask of the space.
 pub fn no_node_asks_for_places()
     ensures { (t : Terms) (node : Node) (st : Stack) (a : Ask) → IsNode t node st → st.outer.op ≢ Find a }
+{}
+
+/// An operation on a leaf, a read of copies and a walk over headers do no request or part of one within, and ask for none that no
+/// child does; and no node gives places back but its own.
+pub fn nodes_do_their_own()
+    ensures leaf { (t : Terms) (at : LeafAt) (st : Stack) → IsNode t (Leaf at) st → AreHandedOut st }
+    ensures copies { (t : Terms) (at : CopiesAt) (st : Stack) → IsNode t (Copies at) st → AreHandedOut st }
+    ensures heads { (t : Terms) (at : HeadsAt) (st : Stack) → IsNode t (Heads at) st → AreHandedOut st }
+    ensures gives_own { (t : Terms) (node : Node) (st : Stack) → IsNode t node st → AreItsOwn (gave_of node) st }
 {}

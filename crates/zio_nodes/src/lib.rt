@@ -10,9 +10,15 @@ mod heads_at;
 mod laws;
 mod leaf_at;
 mod node;
+mod part_at;
+mod part_stages;
 
 pub use copies_at::CopiesAt;
 pub use heads_at::{HeadsAt, HeadsHeard};
-pub use laws::{no_node_asks_for_places, operations_on_leaves_tell_nothing};
+pub use laws::{
+    members_alone_tell_pointers, no_node_asks_for_places, nodes_do_their_own,
+    operations_on_leaves_tell_nothing,
+};
 pub use leaf_at::LeafAt;
 pub use node::Node;
+pub use part_at::PartAt;

@@ -16,6 +16,7 @@ ghost use Rattle.zio_nodes.specs.Nodes.{IsNode, IsNodeOver, IsTreeOver, gave_of,
 use crate::copies_at::CopiesAt;
 use crate::heads_at::{HeadsAt, HeadsHeard};
 use crate::leaf_at::LeafAt;
+use crate::part_at::PartAt;
 use std::alloc::Global;
 use zio_blkptr::Bp;
 use zio_graph::{BothBack, Move};
@@ -31,6 +32,8 @@ pub enum Node {
     Copies(CopiesAt),
     /// The walk over a block's headers, or over a claim's.
     Heads(HeadsAt),
+    /// The write of a gang's member.
+    Part(PartAt),
 }
 
 impl Node {
@@ -55,6 +58,7 @@ impl Node {
             Node::Leaf(at) => at.run_stage(),
             Node::Copies(at) => at.run_stage(alloc, services.tops()),
             Node::Heads(at) => at.run_stage(alloc, services.tops()),
+            Node::Part(at) => at.run_stage(alloc, services),
         }
     }
 
@@ -73,6 +77,7 @@ impl Node {
             Node::Leaf(_) | Node::Copies(_) => unreachable!(),
             // Whatever it told: a read or a walk has no pointer, and its parent keeps none.
             Node::Heads(at) => Node::Heads(at.arrive_ready(child)),
+            Node::Part(at) => Node::Part(at.arrive_ready(child, pointer)),
         }
     }
 
@@ -104,6 +109,7 @@ impl Node {
                     outcome,
                 }),
             },
+            Node::Part(at) => Ok((Node::Part(at.arrive(tops, child, outcome)), None)),
         }
     }
 
@@ -120,7 +126,7 @@ impl Node {
     {
         match self {
             Node::Leaf(at) => Node::Leaf(at.answered(error, bytes)),
-            Node::Copies(_) | Node::Heads(_) => unreachable!(),
+            Node::Copies(_) | Node::Heads(_) | Node::Part(_) => unreachable!(),
         }
     }
 }

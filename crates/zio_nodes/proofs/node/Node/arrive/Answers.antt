@@ -5,6 +5,7 @@ use Rattle.zio_nodes.specs.Nodes.{nodes}
 use Rattle.zio_nodes.specs.declared.node.Node.{Node}
 use Rattle.zio_nodes.proofs.CopiesLemmas.{hears_answer}
 use Rattle.zio_nodes.proofs.HeadsLemmas.{IsHeardOutcome, hears_read_or_walk}
+use Rattle.zio_nodes.proofs.PartHearing.{IsHeardPart, hears_leaf_or_member}
 use Rattle.zio_nodes.proofs.node.Node.arrive.Goals as goal
 
 pub returns-in-Copies-clause-heard : goal.returns-in-Copies-clause-heard
@@ -22,3 +23,8 @@ pub returns-in-Ok-clause-kept : goal.returns-in-Ok-clause-kept
 returns-in-Ok-clause-kept c = λ f is.
     let awaited = subst (λ (n : Node). HearsSome {N = Node} nodes c.args.tops.now n c.args.child c.args.outcome) c.in-Heads.is c.requires.awaited in
     absurd (subst IsHeardOutcome is (hears_read_or_walk c.args.tops.now c.in-Heads.at c.args.child c.args.outcome awaited))
+
+pub returns-in-Part-clause-kept : goal.returns-in-Part-clause-kept
+returns-in-Part-clause-kept c = λ f is.
+    let awaited = subst (λ (n : Node). HearsSome {N = Node} nodes c.args.tops.now n c.args.child c.args.outcome) c.in-Part.is c.requires.awaited in
+    absurd (subst IsHeardPart is (hears_leaf_or_member c.args.tops.now c.in-Part.at c.args.child c.args.outcome awaited))

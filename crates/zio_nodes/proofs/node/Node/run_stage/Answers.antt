@@ -1,4 +1,9 @@
-use Rattle.std.proofs.Common.{[], refl}
+use Rattle.std.proofs.Common.{[], refl, subst, sym}
+use Rattle.zio_gang.specs.Attempts.{Terms}
+use Rattle.zio_frames.specs.Frames.{Stack}
+use Rattle.zio_graph.specs.Stages.{GoesOn, IsMove, IsNow}
+use Rattle.zio_nodes.specs.Nodes.{gave_of, nodes}
+use Rattle.zio_nodes.specs.declared.node.Node.{Node}
 use Rattle.zio_nodes.proofs.NodeLemmas.{moved_bare, stayed_bare}
 use Rattle.zio_nodes.proofs.node.Node.run_stage.Goals as goal
 use Rattle.zio_nodes.specs.declared.node.Node.TheVariants.{Copies, Heads, Leaf}
@@ -58,4 +63,26 @@ returns-in-Heads-clause-refused g c =
       [],
       g.met.S.Services.made_none c.args.services.now,
       stayed_bare tops c.tops-in-Heads.result.now c.args.self (Heads c.in-Heads.at) c.run_stage-in-Heads.result node c.in-Heads.is c.tops-in-Heads.ensures is c.run_stage-in-Heads.ensures.refused,
+    )
+
+pub returns-in-Part-clause-moves : goal.returns-in-Part-clause-moves
+returns-in-Part-clause-moves g c =
+    let tops = g.S.Services.tops c.args.services.now in
+    λ move is.
+    let moves = c.run_stage-in-Part.ensures.moves move is in (
+      moves.0,
+      moves.1,
+      subst (λ (n : Node). (t : Terms) (st : Stack) → IsNow {N = Node} nodes tops t n st → IsMove {N = Node} nodes gave_of t n st moves.0 move)
+          (sym c.in-Part.is) moves.2,
+    )
+
+pub returns-in-Part-clause-refused : goal.returns-in-Part-clause-refused
+returns-in-Part-clause-refused g c =
+    let tops = g.S.Services.tops c.args.services.now in
+    λ node is.
+    let stays = c.run_stage-in-Part.ensures.refused node is in (
+      stays.0,
+      stays.1,
+      subst (λ (n : Node). (t : Terms) (st : Stack) → IsNow {N = Node} nodes tops t n st → GoesOn {N = Node} nodes gave_of t n st stays.0 node)
+          (sym c.in-Part.is) stays.2,
     )

@@ -1,0 +1,66 @@
+use Rattle.std.proofs.Common.{◌∙◌, [], ap, arith, false, refl, subst, sym}
+use Rattle.zio_masks.specs.declared.stage.Stage.{Stage}
+use Rattle.zio_nodes.specs.Bounds.{part_stages, pass_left, write_left}
+use Rattle.zio_nodes.specs.PartAts.{PartStands}
+use Rattle.zio_nodes.specs.Told.{is_told}
+use Rattle.zio_nodes.proofs.PartBounds.{same_share}
+use Rattle.zio_nodes.proofs.PartLemmas.{part_goes}
+use Rattle.zio_nodes.proofs.StageLemmas.{write_assessed}
+use Rattle.zio_nodes.proofs.part_at.PartAt.vdev_io_assess.Goals as goal
+
+pub vdev_io_assess-goes_again-requires-clause-due : goal.vdev_io_assess-goes_again-requires-clause-due
+vdev_io_assess-goes_again-requires-clause-due c =
+    let at = c.args.self in
+    (subst (λ (s : Stage). PartStands c.args.tops.now s at.is_due at.node.work) c.requires.stage c.requires.over.stands).2
+
+pub returns-then-goes_again-clause-moves : goal.returns-then-goes_again-clause-moves
+returns-then-goes_again-clause-moves c = λ t st now.
+    part_goes t st c.args.self _ [] (c.vdev_io_assess-goes_again.ensures.does t st now.tops_are now.is) (sym (ap is_told c.requires.stage))
+
+pub returns-clause-moves : goal.returns-clause-moves
+returns-clause-moves c = λ t st now.
+    part_goes t st c.args.self _ [] (c.vdev_io_assess-goes_again.ensures.does t st now.tops_are now.is)
+    (ap is_told (write_assessed c.next.result c.next.ensures) ∙ sym (ap is_told c.requires.stage))
+
+pub returns-then-goes_again-clause-over : goal.returns-then-goes_again-clause-over
+returns-then-goes_again-clause-over c =
+    let at = c.args.self in
+    let h = c.requires.over in
+    let e = c.vdev_io_assess-goes_again.ensures in
+    let stands = subst (λ (s : Stage). PartStands c.args.tops.now s at.is_due at.node.work) c.requires.stage h.stands in
+    record { tops_are = h.tops_are; units = h.units; over = e.over; stands = (refl, e.far.ready stands.0) }
+
+pub returns-clause-over : goal.returns-clause-over
+returns-clause-over c =
+    let at = c.args.self in
+    let h = c.requires.over in
+    let e = c.vdev_io_assess-goes_again.ensures in
+    let new = c.vdev_io_assess-goes_again.new.self in
+    let stands = subst (λ (s : Stage). PartStands c.args.tops.now s at.is_due at.node.work) c.requires.stage h.stands in
+    record {
+      tops_are = h.tops_are;
+      units = h.units;
+      over = e.over;
+      stands = subst (λ (s : Stage). PartStands c.args.tops.now s false new.work) (sym (write_assessed c.next.result c.next.ensures))
+          (e.none c.if-goes_again.false, e.far.issued stands.1);
+    }
+
+pub returns-then-goes_again-clause-left : goal.returns-then-goes_again-clause-left
+returns-then-goes_again-clause-left c =
+    let at = c.args.self in
+    let e = c.vdev_io_assess-goes_again.ensures in
+    let new = c.vdev_io_assess-goes_again.new.self in
+    let share = same_share at.node.work.own.part new.work.own.part e.far.many e.far.path in
+    let again = e.again c.if-goes_again.true in
+    let was = ap (λ (s : Stage). write_left s at.node.work.io) c.requires.stage in
+    omega (arith, share, e.count c.if-goes_again.true, was, ap pass_left again.0, ap pass_left again.1, ap part_stages c.requires.stage)
+
+pub returns-clause-left : goal.returns-clause-left
+returns-clause-left c =
+    let at = c.args.self in
+    let e = c.vdev_io_assess-goes_again.ensures in
+    let new = c.vdev_io_assess-goes_again.new.self in
+    let on = write_assessed c.next.result c.next.ensures in
+    let share = same_share at.node.work.own.part new.work.own.part e.far.many e.far.path in
+    let now = ap (λ (s : Stage). write_left s new.work.io) on in
+    omega (arith, share, now, ap part_stages on, ap part_stages c.requires.stage)

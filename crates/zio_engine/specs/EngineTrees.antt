@@ -1,0 +1,37 @@
+-- Trees of requests as the engine keeps them between rounds.
+use Rattle.std.specs.Prelude.{◌≡◌, ℕ, ◌+◌, ◌≤◌, List, length, Some, IfSome, is_some}
+use Rattle.std.specs.List.{AllByRecursion}
+use Rattle.zio_blkptr.specs.declared.pointer.TheConstants.{BLOCK_SIZE_MAX}
+use Rattle.zio_script.specs.Accepted.{IsInRange}
+use Rattle.zio_script.specs.Requests.{needs_block}
+use Rattle.zio_script.specs.Whys.{size_with}
+use Rattle.zio_gang.specs.Attempts.{Child, Pending}
+use Rattle.zio_content.specs.Pointers.{IsNoneOrValid}
+use Rattle.zio_trace.specs.Families.{Forest, NoTrees, TreeOf}
+use Rattle.zio_disks.specs.Whole.{IsWholeTree}
+use Rattle.zio_sound.specs.Linked.{AreLinked}
+use Rattle.zio_stages.specs.Wholes.{IsTreeOf, trees_in}
+use Rattle.zio_stages.specs.declared.waiting.Waiting.{Waiting}
+
+-- A request within its ranges and limits, under which so many trees stand: its block is there exactly where it is a read or a
+-- free, and is whole, and the children that it keeps have valid pointers.
+pub record IsSoundPending (unfinished : ℕ) (p : Pending) : Type 0 where
+  pub range : IsInRange p.request
+  pub some : 1 ≤ p.birth
+  pub block_is : is_some p.block ≡ needs_block p.request.work
+  pub whole : IfSome p.block IsWholeTree
+  pub size : size_with (unfinished + length p.kept) p.request.work ≤ BLOCK_SIZE_MAX
+  pub pointers : AllByRecursion (λ (c : Child). IsNoneOrValid c.pointer) p.kept
+
+-- so is each request of these trees
+abbrev pub AreSound : Forest → Type 0
+AreSound NoTrees = Unit {0}
+AreSound (TreeOf p kids others) = IsSoundPending (trees_in kids) p × AreSound kids × AreSound others
+
+-- The list is one tree, whose requests are sound and stand under their parents.
+pub record IsEngineTree (ws : List Waiting) : Type 0 where
+  pub root : Pending
+  pub kids : Forest
+  pub is : IsTreeOf ws root kids
+  pub linked : AreLinked (Some root.request.number) kids
+  pub sound : AreSound (TreeOf root kids NoTrees)

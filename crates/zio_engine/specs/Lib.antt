@@ -1,0 +1,4 @@
+pub mod EngineTrees
+pub mod InUse
+pub mod Jobs
+pub mod RoundEnds

@@ -1,0 +1,74 @@
+// Between a round as a script's run gives it to a runner and a round as the engine runs it.
+
+ghost use Rattle.std.specs.Prelude.{◌≡◌, ◌⊎◌, ◌↔◌, ℕ, Contains, IsPermutation, IsTrue, List, Option, length, map, true};
+ghost use Rattle.std.specs.List.{AllByRecursion};
+ghost use Rattle.zio_types.specs.declared.place.Place.{Place};
+ghost use Rattle.zio_types.specs.Choices.{Choice};
+ghost use Rattle.zio_types.specs.Places.{are_open, is_inside};
+ghost use Rattle.zio_script.specs.declared.script.Failmode.{Failmode};
+ghost use Rattle.zio_cksum.specs.Images.{Images};
+ghost use Rattle.zio_gang.specs.Attempts.{Ended, Pending, Terms};
+ghost use Rattle.zio_gang.specs.Trees.{sizes_of};
+ghost use Rattle.zio_trace.specs.Families.{Forest};
+ghost use Rattle.zio_trace.specs.Rounds.{Round, trees_in};
+ghost use Rattle.zio_trace.specs.Separate.{LeavesOnce};
+ghost use Rattle.zio_trace.specs.SoundRounds.{IsSoundRound, LeavesDiffer};
+ghost use Rattle.zio_disks.specs.Trees.{HasSectors};
+ghost use Rattle.zio_course.specs.declared.runner.Finished.{Finished};
+ghost use Rattle.zio_course.specs.Runners.{AreRunnable, DiffersInRound, Standing, terms_at};
+ghost use Rattle.zio_sound.specs.Leaving.{LeavesTrees};
+ghost use Rattle.zio_stages.specs.Waits.{pendings};
+ghost use Rattle.zio_stages.specs.declared.waiting.Waiting.{Waiting};
+ghost use Rattle.zio_graph.specs.Ledgers.{Ending, IsEnding, all_ended, freed_in, made_in};
+ghost use Rattle.slab.specs.Slab.{Slab};
+ghost use Rattle.zio_graph.specs.Rounds.{SoFar};
+ghost use Rattle.zio_graph.specs.Stops.{IsStopped};
+ghost use Rattle.zio_graph.specs.UnderTrees.{IsOver};
+ghost use Rattle.zio_graph.specs.declared.entry.Entry.{Entry as SeenEntry};
+ghost use Rattle.zio_engine.specs.EngineTrees.{IsEngineTree};
+ghost use Rattle.zio_engine.specs.InUse.{LeavesInUse};
+ghost use Rattle.zio_engine.specs.Jobs.{IsSoundJob, size_at};
+ghost use Rattle.zio_engine.specs.RoundEnds.{IsByNumber, TellsRound};
+
+use zio_graph::Node;
+
+/// Trees that a runner may be given are a sound round, all of them under way together: where the tops hold their leaves, which
+/// stand once and lie on disks of these sizes, and the places in use lie inside the tops.
+pub fn jobs_are_sound_rounds()
+    ensures { (s : Standing) (failmode : Failmode) (round point : ℕ) (bytes : List ℕ) (trees : List (List Waiting)) →
+        AllByRecursion IsEngineTree trees → AreRunnable s (map pendings trees) → LeavesOnce s.tops → LeavesDiffer s.tops →
+        AllByRecursion (HasSectors bytes) s.tops → AllByRecursion (λ (p : Place). IsTrue (is_inside (sizes_of s.tops) p)) s.live →
+        IsSoundJob (terms_at s failmode round point) (size_at bytes) trees }
+{}
+
+/// A sound round, wherever it is stopped, has changed the images only where nothing in use lies, and at places of blocks that its
+/// requests name.
+pub fn stopped_rounds_change_what_is_loose()
+    ensures { (s : Standing) (failmode : Failmode) (round point : ℕ) (sizes : ℕ → ℕ) (trees : List (List Pending)) (f : Forest)
+        (before after : Images) → trees_in f ≡ trees → length after ≡ length before →
+        IsSoundRound (terms_at s failmode round point) sizes f → IsStopped (terms_at s failmode round point) f before after →
+        DiffersInRound s trees before after }
+{}
+
+/// In whatever order a round's requests finished, what is told of them by number is what the round tells.
+pub fn rounds_tell_their_requests()
+    ensures { (s : Standing) (round : ℕ) (trees : List (List Pending)) (r : Round) (ended : List Ended) (finished : List Finished) →
+        AreRunnable s trees → LeavesTrees trees r → IsPermutation ended r.ended → IsByNumber ended finished →
+        TellsRound round trees r ended finished }
+{}
+
+/// Where places are in use after a round that were and that no finished request freed, or that are of blocks which finished requests
+/// made, and these met nothing in use, they are those that a runner tells.
+pub fn rounds_leave_places_in_use()
+    ensures { (s : Standing) (t : Terms) (f : Forest) (trees : List (List Pending)) (done : List Ending) (finished : List Finished)
+        (live : List Place) → trees_in f ≡ trees → AreRunnable s trees → AllByRecursion (IsEnding t f) done →
+        IsByNumber (all_ended done) finished → AllByRecursion (λ (p : Place). IsTrue (is_inside (sizes_of s.tops) p)) (made_in done) →
+        are_open s.live (made_in done) ≡ true → ((p : Place) → Contains live p
+        ↔ ((Contains s.live p × ¬ Contains (freed_in done) p) ⊎ Contains (made_in done) p)) → LeavesInUse s trees finished live }
+{}
+
+/// What a round that is over asked of the space it asked under its own number.
+pub fn rounds_ask_under_their_number<N: Node>()
+    ensures { (t : Terms) (sizes : ℕ → ℕ) (f : Forest) (before : Option Images) (s : SoFar) (slab : Slab (SeenEntry N)) →
+        IsOver N.nodes t sizes f before s slab → AllByRecursion (λ (c : Choice). c.asked.key.round ≡ t.round) s.entries }
+{}

@@ -1,0 +1,14 @@
+//! The engine on one thread, as a runner of rounds.
+//!
+//! It stands on `zio_graph`, which runs the trees of a round over any nodes, on `zio_nodes`, whose nodes go from stage to
+//! stage, and on `zio_sound`, which says what such a round is to a script.
+#![tactic(auto)]
+
+mod laws;
+mod tree;
+
+pub use laws::{
+    jobs_are_sound_rounds, rounds_ask_under_their_number, rounds_leave_places_in_use,
+    rounds_tell_their_requests, stopped_rounds_change_what_is_loose,
+};
+pub use tree::EngineTree;

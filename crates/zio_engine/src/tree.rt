@@ -1,0 +1,67 @@
+//! Trees of requests between rounds.
+
+ghost use Rattle.std.specs.Prelude.{◌≡◌, IfOk, IfSome, List as Seq, map};
+ghost use Rattle.std.specs.List.{AllByRecursion};
+ghost use Rattle.zio_gang.specs.Attempts.{Pending};
+ghost use Rattle.zio_disks.specs.Whole.{IsWholeTree};
+ghost use Rattle.zio_course.specs.Runners.{IsNewTree, fresh, tree_over};
+ghost use Rattle.zio_stages.specs.Waits.{pendings};
+ghost use Rattle.zio_engine.specs.EngineTrees.{IsEngineTree};
+
+use std::alloc::Global;
+use std::marker::Model;
+use zio_gang::Tree;
+use zio_script::Request;
+use zio_stages::Whole;
+use zio_types::{List, NoMemory};
+
+/// A tree of requests that haven't finished: each child's tree by number, then the request itself.
+#[derive(Debug, Drop)]
+pub struct EngineTree {
+    pub(crate) whole: Whole,
+}
+
+impl Model for EngineTree {
+    ghost use Rattle.std.specs.Prelude.{List};
+    ghost use Rattle.zio_gang.specs.Attempts.{Pending};
+    ghost use Rattle.zio_stages.specs.Waits.{pendings};
+
+    ghost Value = { List Pending };
+
+    ghost view = { λ t. pendings t.whole };
+
+    ghost use Rattle.zio_engine.specs.EngineTrees.{IsEngineTree};
+
+    ghost invariant = { λ t. IsEngineTree t.whole };
+}
+
+/// Makes a tree of a request and its children's trees.
+pub(crate) fn tree_over(
+    alloc: Global,
+    request: &Request,
+    birth: u32,
+    block: Option<Tree>,
+    children: List<EngineTree>,
+) -> Result<EngineTree, NoMemory>
+    requires whole { IsNewTree request.now birth block children }
+    requires fits { IfSome block IsWholeTree }
+    ensures { IfOk result (λ tree. tree ≡ tree_over children (fresh request.now birth block)) }
+{
+    let wholes = wholes_of(alloc, children)?;
+    match Whole::over(alloc, request, birth, block, wholes) {
+        Ok(whole) => Ok(EngineTree { whole }),
+        Err(_) => Err(NoMemory),
+    }
+}
+
+/// The trees as nodes are made of.
+pub(crate) fn wholes_of(alloc: Global, trees: List<EngineTree>) -> Result<List<Whole>, NoMemory>
+    ensures same { IfOk result (λ wholes. map pendings wholes ≡ trees) }
+    ensures each { IfOk result (AllByRecursion IsEngineTree) }
+{
+    let mut wholes = Vec::new(alloc);
+    for tree in trees.into_rest() {
+        wholes.push(tree.whole)?;
+    }
+    Ok(List::from_vec(wholes))
+}

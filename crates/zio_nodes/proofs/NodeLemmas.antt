@@ -6,7 +6,8 @@ use Rattle.zio_gang.specs.Attempts.{Terms}
 use Rattle.zio_frames.specs.Frames.{Stack}
 use Rattle.zio_graph.specs.Stages.{GoesOn, IsMove, IsNow}
 use Rattle.zio_graph.specs.declared.staged.Move.{Move}
-use Rattle.zio_nodes.specs.Nodes.{MovesBare, StaysBare, gave_of, nodes}
+use Rattle.zio_stages.specs.SpaceCalls.{SpaceCall}
+use Rattle.zio_nodes.specs.Nodes.{MovesBare, MovesWith, StaysBare, StaysWith, gave_of, nodes}
 use Rattle.zio_nodes.specs.declared.node.Node.{Node}
 
 pub moved_bare : (tops lent : List Top) (self node : Node) (r : Result (Move Node) Node) (move : Move Node) → self ≡ node → lent ≡ tops → r ≡ Ok move
@@ -24,3 +25,41 @@ stayed_bare tops lent self node r after same is err h =
     let at : StaysBare lent node after = subst P err h in
     let over : StaysBare tops node after = subst (λ (ts : List Top). StaysBare ts node after) is at in
     subst (λ (n : Node). StaysBare tops n after) (sym same) over
+
+-- ---- stages that call the space
+
+pub moved_with : {S : Type 0} (made : S → List SpaceCall → S → Type 0) (tops : List Top) (a b : S) (self node : Node) (r : Result (Move Node) Node) (move : Move Node)
+    → self ≡ node → r ≡ Ok move → IfOk r (MovesWith made tops a b node)
+    → (calls : List SpaceCall) × made a calls b × ((t : Terms) (st : Stack) → IsNow {N = Node} nodes tops t self st → IsMove {N = Node} nodes gave_of t self st calls move)
+moved_with made tops a b self node r move same ok h =
+    let P : Result (Move Node) Node → Type 0 = λ x. IfOk x (MovesWith made tops a b node) in
+    let at : MovesWith made tops a b node move = subst P ok h in
+    let over : MovesWith made tops a b self move = subst (λ (n : Node). MovesWith made tops a b n move) (sym same) at in
+    (over.calls, over.were_made, over.moves)
+
+pub stayed_with : {S : Type 0} (made : S → List SpaceCall → S → Type 0) (tops : List Top) (a b : S) (self node : Node) (r : Result (Move Node) Node) (after : Node)
+    → self ≡ node → r ≡ Err after → IfErr r (StaysWith made tops a b node)
+    → (calls : List SpaceCall) × made a calls b × ((t : Terms) (st : Stack) → IsNow {N = Node} nodes tops t self st → GoesOn {N = Node} nodes gave_of t self st calls after)
+stayed_with made tops a b self node r after same err h =
+    let P : Result (Move Node) Node → Type 0 = λ x. IfErr x (StaysWith made tops a b node) in
+    let at : StaysWith made tops a b node after = subst P err h in
+    let over : StaysWith made tops a b self after = subst (λ (n : Node). StaysWith made tops a b n after) (sym same) at in
+    (over.calls, over.were_made, over.goes)
+
+-- a stage that makes none
+pub bare_moves : {S : Type 0} (made : S → List SpaceCall → S → Type 0) (tops lent : List Top) (a : S) (node : Node) (r : Result (Move Node) Node) → lent ≡ tops → made a [] a
+    → IfOk r (MovesBare lent node) → IfOk r (MovesWith made tops a a node)
+bare_moves made tops lent a node (Ok move) same none h =
+    record { calls = []; were_made = none; moves = subst (λ (ts : List Top). MovesBare ts node move) same h }
+bare_moves made tops lent a node (Err after) same none h = tt
+
+pub bare_stays : {S : Type 0} (made : S → List SpaceCall → S → Type 0) (tops lent : List Top) (a : S) (node : Node) (r : Result (Move Node) Node) → lent ≡ tops → made a [] a
+    → IfErr r (StaysBare lent node) → IfErr r (StaysWith made tops a a node)
+bare_stays made tops lent a node (Ok move) same none h = tt
+bare_stays made tops lent a node (Err after) same none h =
+    record { calls = []; were_made = none; goes = subst (λ (ts : List Top). StaysBare ts node after) same h }
+
+pub bare_move : {S : Type 0} (made : S → List SpaceCall → S → Type 0) (tops lent : List Top) (a : S) (node : Node) (move : Move Node) → lent ≡ tops → made a [] a
+    → MovesBare lent node move → MovesWith made tops a a node move
+bare_move made tops lent a node move same none h =
+    record { calls = []; were_made = none; moves = subst (λ (ts : List Top). MovesBare ts node move) same h }

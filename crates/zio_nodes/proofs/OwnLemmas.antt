@@ -1,17 +1,17 @@
--- What a node asks of others, and what it gives back.
+-- What a node asks of others.
 use Rattle.std.proofs.Common.{◌≡◌, Option, Some, None, refl, sym, ap, ◌∙◌, subst}
 use Rattle.zio_gang.specs.Attempts.{Terms}
 use Rattle.zio_trace.specs.Tasks.{Task}
 use Rattle.zio_frames.specs.Frames.{Frame, Inner, Stack, asking_in}
 use Rattle.zio_stages.specs.NodeIos.{IsAsking}
 use Rattle.zio_stages.specs.declared.family.Layer.TheVariants.{Own}
-use Rattle.zio_graph.specs.Stages.{AreHandedOut, AreItsOwn, IsHandedOut}
-use Rattle.zio_nodes.specs.Nodes.{IsNode, gave_of}
+use Rattle.zio_graph.specs.Stages.{AreHandedOut, IsHandedOut}
+use Rattle.zio_nodes.specs.Nodes.{IsNode}
 use Rattle.zio_nodes.specs.declared.copies_at.CopiesAt.{CopiesAt}
 use Rattle.zio_nodes.specs.declared.heads_at.HeadsAt.{HeadsAt}
 use Rattle.zio_nodes.specs.declared.leaf_at.LeafAt.{LeafAt}
 use Rattle.zio_nodes.specs.declared.node.Node.{Node}
-use Rattle.zio_nodes.specs.declared.node.Node.TheVariants.{Copies, Heads, Leaf, Part}
+use Rattle.zio_nodes.specs.declared.node.Node.TheVariants.{Copies, Heads, Leaf}
 
 -- a part that is no request and no written part, with nothing within
 quiet_alone : (st : Stack) (op : Task) → st.outer.op ≡ op → (IsHandedOut op → ⊥) → st.inner ≡ None → AreHandedOut st
@@ -38,9 +38,3 @@ copies_hand_out t at st h =
 
 pub heads_hand_out : (t : Terms) (at : HeadsAt) (st : Stack) → IsNode t (Heads at) st → AreHandedOut st
 heads_hand_out t at st h = quiet_alone st _ h.part.op (λ out. out) h.alone
-
-pub each_gives_own : (t : Terms) (node : Node) (st : Stack) → IsNode t node st → AreItsOwn (gave_of node) st
-each_gives_own t (Leaf at) st h = tt
-each_gives_own t (Copies at) st h = tt
-each_gives_own t (Heads at) st h = tt
-each_gives_own t (Part at) st h = tt

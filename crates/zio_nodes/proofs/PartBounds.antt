@@ -72,7 +72,7 @@ share_fresh (suc levels) = refl
 
 -- ---- its own write
 
-io_few : (tops : List Top) (x : PartWriting) (io : Option WriteIo) (family : List Child) → IsIoOver tops x io family → asked_by io ≤ 24
+pub io_few : (tops : List Top) (x : PartWriting) (io : Option WriteIo) (family : List Child) → IsIoOver tops x io family → asked_by io ≤ 24
 io_few tops x None family h = omega arith
 io_few tops x (Some io) family h =
     omega (arith, h.1.counted, h.1.passes, h.1.within, h.1.places.few, copies_few tops io.write.places h.1.places.mirrored)

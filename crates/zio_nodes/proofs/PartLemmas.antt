@@ -82,12 +82,12 @@ part_grows t st at after child calls IsChild does fresh untold told =
     }
 
 -- the part that asks stays the same while it hands something out
-same_asker : (outer : Frame) (inner : Option Inner) (kids : List Child) (op : Task)
+pub same_asker : (outer : Frame) (inner : Option Inner) (kids : List Child) (op : Task)
     → (asking (handed (record { outer = outer; inner = inner; children = kids }) op)).op ≡ (asking_in outer inner).op
 same_asker outer None kids op = refl
 same_asker outer (Some i) kids op = refl
 
-within_asks : (t : Terms) (bytes : List ℕ) (x : PartWriting) (front : ℕ) (io : Option WriteIo) (outer : Frame) (inner : Option Inner)
+pub within_asks : (t : Terms) (bytes : List ℕ) (x : PartWriting) (front : ℕ) (io : Option WriteIo) (outer : Frame) (inner : Option Inner)
     → is_single outer.op ≡ false → IsPartWithin t bytes x front io inner → is_single (asking_in outer inner).op ≡ false
 within_asks t bytes x front None outer inner part h = ap (λ (i : Option Inner). is_single (asking_in outer i).op) h.0 ∙ part
 within_asks t bytes x front (Some io) outer inner part h =
@@ -155,7 +155,7 @@ members_ended (Told pointer ∷ ms) own = members_ended ms own
 members_ended (MemberEnded error pointer heads ∷ ms) own = members_ended ms own
 
 -- none of its operations is an attempt of a request
-none_ended : (placing : Placing) (x : PartWriting) → flat_map ended_in_slot (slots_at placing x) ≡ []
+pub none_ended : (placing : Placing) (x : PartWriting) → flat_map ended_in_slot (slots_at placing x) ≡ []
 none_ended Body x = refl
 none_ended HeadDue x = refl
 none_ended (Whole places) x = own_ended x.own

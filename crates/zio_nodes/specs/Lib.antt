@@ -3,5 +3,13 @@ pub mod CopiesAts
 pub mod HeadsAts
 pub mod LeafAts
 pub mod Nodes
+pub mod OwnAts
+pub mod OwnBounds
 pub mod PartAts
+pub mod ReadBounds
+pub mod RequestAts
+pub mod RequestBounds
+pub mod RequestHears
 pub mod Told
+pub mod TreeAts
+pub mod WriteBounds

@@ -1,14 +1,13 @@
 -- A node of any kind: how far it is, whether it told its pointer, how often it runs at most, and what it gave back.
-use Rattle.std.specs.Prelude.{ℕ, List, [], Bool}
+use Rattle.std.specs.Prelude.{ℕ, List, [], Bool, false}
 use Rattle.zio_types.specs.declared.place.Place.{Place}
 use Rattle.zio_types.specs.declared.place.Top.{Top}
-use Rattle.std.specs.List.{AllByRecursion}
-use Rattle.zio_stages.specs.RequestOwns.{IsWaitingOver}
-use Rattle.zio_stages.specs.declared.waiting.Waiting.{Waiting}
 use Rattle.zio_gang.specs.Attempts.{Terms}
 use Rattle.zio_frames.specs.Frames.{Stack}
 use Rattle.zio_stages.specs.HeadsNodes.{IsHeadsNode}
 use Rattle.zio_stages.specs.PartNodes.{IsPartNode}
+use Rattle.zio_stages.specs.RequestNodes.{IsRequestNode}
+use Rattle.zio_stages.specs.SpaceCalls.{SpaceCall}
 use Rattle.zio_graph.specs.Parts.{Nodes}
 use Rattle.zio_graph.specs.Stages.{GoesOn, IsMove, IsNow}
 use Rattle.zio_graph.specs.declared.staged.Move.{Move}
@@ -17,9 +16,13 @@ use Rattle.zio_nodes.specs.CopiesAts.{IsCopiesAt, IsCopiesAtOver}
 use Rattle.zio_nodes.specs.HeadsAts.{IsHeadsAtOver}
 use Rattle.zio_nodes.specs.LeafAts.{IsLeafAt, LeafStands}
 use Rattle.zio_nodes.specs.PartAts.{IsPartAtOver}
+use Rattle.zio_nodes.specs.RequestAts.{IsRequestAtOver, gave_by}
+use Rattle.zio_nodes.specs.RequestBounds.{request_left, tree_left}
 use Rattle.zio_nodes.specs.Told.{is_told}
+use Rattle.zio_nodes.specs.TreeAts.{IsTreeAt, IsTreeAtOver}
+pub use Rattle.zio_nodes.specs.TreeAts.{IsTreeOver}
 use Rattle.zio_nodes.specs.declared.node.Node.{Node}
-use Rattle.zio_nodes.specs.declared.node.Node.TheVariants.{Copies, Heads, Leaf, Part}
+use Rattle.zio_nodes.specs.declared.node.Node.TheVariants.{Copies, Heads, Leaf, Part, Request, Tree}
 
 -- it is so far in its part of the round's work
 abbrev pub IsNode : Terms → Node → Stack → Type 0
@@ -27,6 +30,8 @@ IsNode t (Leaf at) st = IsLeafAt t at st
 IsNode t (Copies at) st = IsCopiesAt t at st
 IsNode t (Heads at) st = IsHeadsNode t at.node st
 IsNode t (Part at) st = IsPartNode t at.node st
+IsNode t (Tree at) st = IsTreeAt t at st
+IsNode t (Request at) st = IsRequestNode t at.node st
 
 -- what it is to read, write or free lies inside these tops, and its work is as far as its stage says
 abbrev pub IsNodeOver : List Top → Node → Type 0
@@ -34,10 +39,8 @@ IsNodeOver tops (Leaf at) = LeafStands at.stage at.is_out at.work
 IsNodeOver tops (Copies at) = IsCopiesAtOver tops at
 IsNodeOver tops (Heads at) = IsHeadsAtOver tops at
 IsNodeOver tops (Part at) = IsPartAtOver tops at
-
--- the blocks that a tree of requests names lie inside them
-abbrev pub IsTreeOver : List Top → List Waiting → Type 0
-IsTreeOver tops ws = AllByRecursion (IsWaitingOver tops) ws
+IsNodeOver tops (Tree at) = IsTreeAtOver tops at
+IsNodeOver tops (Request at) = IsRequestAtOver tops at
 
 -- it told its pointer
 abbrev pub told_of : Node → Bool
@@ -45,6 +48,8 @@ told_of (Leaf at) = is_told at.stage
 told_of (Copies at) = is_told at.stage
 told_of (Heads at) = is_told at.stage
 told_of (Part at) = is_told at.stage
+told_of (Tree at) = false
+told_of (Request at) = is_told at.stage
 
 -- how often it runs at most
 abbrev pub left_of : Node → ℕ
@@ -52,13 +57,17 @@ left_of (Leaf at) = leaf_left at.stage
 left_of (Copies at) = copies_left at
 left_of (Heads at) = heads_left at
 left_of (Part at) = part_left at
+left_of (Tree at) = tree_left at
+left_of (Request at) = request_left at
 
--- the places of a block that it freed: only a request frees
+-- the places of a block that went back: only a request gives places back
 abbrev pub gave_of : Node → List Place
 gave_of (Leaf at) = []
 gave_of (Copies at) = []
 gave_of (Heads at) = []
 gave_of (Part at) = []
+gave_of (Tree at) = []
+gave_of (Request at) = gave_by at.node.waiting.request.work at.node
 
 abbrev pub nodes : Nodes Node
 nodes = record { Is = IsNode; told = told_of; left = left_of; gave = gave_of }
@@ -74,3 +83,16 @@ MovesBare tops node move =
 abbrev pub StaysBare : List Top → Node → Node → Type 0
 StaysBare tops node after =
     (t : Terms) (st : Stack) → IsNow {N = Node} nodes tops t node st → GoesOn {N = Node} nodes gave_of t node st [] after
+
+-- ---- stages that call the space
+
+-- the same, where these calls were made from the one to the other
+pub record MovesWith {S : Type 0} (made : S → List SpaceCall → S → Type 0) (tops : List Top) (a b : S) (node : Node) (move : Move Node) : Type 0 where
+  pub calls : List SpaceCall
+  pub were_made : made a calls b
+  pub moves : (t : Terms) (st : Stack) → IsNow {N = Node} nodes tops t node st → IsMove {N = Node} nodes gave_of t node st calls move
+
+pub record StaysWith {S : Type 0} (made : S → List SpaceCall → S → Type 0) (tops : List Top) (a b : S) (node after : Node) : Type 0 where
+  pub calls : List SpaceCall
+  pub were_made : made a calls b
+  pub goes : (t : Terms) (st : Stack) → IsNow {N = Node} nodes tops t node st → GoesOn {N = Node} nodes gave_of t node st calls after

@@ -8,8 +8,8 @@ ghost use Rattle.zio_gang.specs.Attempts.{Terms};
 ghost use Rattle.zio_trace.specs.Tasks.{Find};
 ghost use Rattle.zio_frames.specs.Frames.{Child, Stack};
 ghost use Rattle.zio_stages.specs.declared.outcome.Outcome.{Outcome as SeenOutcome};
-ghost use Rattle.zio_graph.specs.Stages.{AreHandedOut, AreItsOwn, HearsEarly, HearsSome};
-ghost use Rattle.zio_nodes.specs.Nodes.{IsNode, gave_of, nodes};
+ghost use Rattle.zio_graph.specs.Stages.{AreHandedOut, HearsEarly, HearsSome};
+ghost use Rattle.zio_nodes.specs.Nodes.{IsNode, nodes};
 ghost use Rattle.zio_nodes.specs.declared.copies_at.CopiesAt.{CopiesAt};
 ghost use Rattle.zio_nodes.specs.declared.heads_at.HeadsAt.{HeadsAt};
 ghost use Rattle.zio_nodes.specs.declared.leaf_at.LeafAt.{LeafAt};
@@ -36,10 +36,9 @@ pub fn no_node_asks_for_places()
 {}
 
 /// An operation on a leaf, a read of copies and a walk over headers do no request or part of one within, and ask for none that no
-/// child does; and no node gives places back but its own.
+/// child does.
 pub fn nodes_do_their_own()
     ensures leaf { (t : Terms) (at : LeafAt) (st : Stack) → IsNode t (Leaf at) st → AreHandedOut st }
     ensures copies { (t : Terms) (at : CopiesAt) (st : Stack) → IsNode t (Copies at) st → AreHandedOut st }
     ensures heads { (t : Terms) (at : HeadsAt) (st : Stack) → IsNode t (Heads at) st → AreHandedOut st }
-    ensures gives_own { (t : Terms) (node : Node) (st : Stack) → IsNode t node st → AreItsOwn (gave_of node) st }
 {}

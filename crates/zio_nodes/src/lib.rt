@@ -5,13 +5,24 @@
 //! pointer, and how often it runs at most (`specs/Nodes`).
 #![tactic(auto)]
 
+mod claim_at;
 mod copies_at;
+mod found_at;
+mod free_at;
 mod heads_at;
 mod laws;
 mod leaf_at;
 mod node;
+mod null_at;
 mod part_at;
 mod part_stages;
+mod read_at;
+mod read_io_at;
+mod request_at;
+mod request_hear;
+mod tree_at;
+mod write_at;
+mod write_hear;
 
 pub use copies_at::CopiesAt;
 pub use heads_at::{HeadsAt, HeadsHeard};
@@ -22,3 +33,5 @@ pub use laws::{
 pub use leaf_at::LeafAt;
 pub use node::Node;
 pub use part_at::PartAt;
+pub use request_at::RequestAt;
+pub use tree_at::TreeAt;

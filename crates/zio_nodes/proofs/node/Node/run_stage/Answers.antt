@@ -4,9 +4,9 @@ use Rattle.zio_frames.specs.Frames.{Stack}
 use Rattle.zio_graph.specs.Stages.{GoesOn, IsMove, IsNow}
 use Rattle.zio_nodes.specs.Nodes.{gave_of, nodes}
 use Rattle.zio_nodes.specs.declared.node.Node.{Node}
-use Rattle.zio_nodes.proofs.NodeLemmas.{moved_bare, stayed_bare}
+use Rattle.zio_nodes.proofs.NodeLemmas.{moved_bare, moved_with, stayed_bare, stayed_with}
 use Rattle.zio_nodes.proofs.node.Node.run_stage.Goals as goal
-use Rattle.zio_nodes.specs.declared.node.Node.TheVariants.{Copies, Heads, Leaf}
+use Rattle.zio_nodes.specs.declared.node.Node.TheVariants.{Copies, Heads, Leaf, Request, Tree}
 
 pub returns-in-Leaf-clause-moves : goal.returns-in-Leaf-clause-moves
 returns-in-Leaf-clause-moves g c =
@@ -64,6 +64,34 @@ returns-in-Heads-clause-refused g c =
       g.met.S.Services.made_none c.args.services.now,
       stayed_bare tops c.tops-in-Heads.result.now c.args.self (Heads c.in-Heads.at) c.run_stage-in-Heads.result node c.in-Heads.is c.tops-in-Heads.ensures is c.run_stage-in-Heads.ensures.refused,
     )
+
+pub returns-in-Tree-clause-moves : goal.returns-in-Tree-clause-moves
+returns-in-Tree-clause-moves g c =
+    let tops = g.S.Services.tops c.args.services.now in
+    λ move is. (
+      [],
+      g.met.S.Services.made_none c.args.services.now,
+      moved_bare tops tops c.args.self (Tree c.in-Tree.at) c.run_stage-in-Tree.result move c.in-Tree.is refl is (c.run_stage-in-Tree.ensures.moves tops),
+    )
+
+pub returns-in-Tree-clause-refused : goal.returns-in-Tree-clause-refused
+returns-in-Tree-clause-refused g c =
+    let tops = g.S.Services.tops c.args.services.now in
+    λ node is. (
+      [],
+      g.met.S.Services.made_none c.args.services.now,
+      stayed_bare tops tops c.args.self (Tree c.in-Tree.at) c.run_stage-in-Tree.result node c.in-Tree.is refl is (c.run_stage-in-Tree.ensures.refused tops),
+    )
+
+pub returns-in-Request-clause-moves : goal.returns-in-Request-clause-moves
+returns-in-Request-clause-moves g c = λ move is.
+    moved_with g.S.Services.made (g.S.Services.tops c.args.services.now) c.args.services.now c.run_stage-in-Request.new.services c.args.self (Request c.in-Request.at)
+    c.run_stage-in-Request.result move c.in-Request.is is c.run_stage-in-Request.ensures.moves
+
+pub returns-in-Request-clause-refused : goal.returns-in-Request-clause-refused
+returns-in-Request-clause-refused g c = λ node is.
+    stayed_with g.S.Services.made (g.S.Services.tops c.args.services.now) c.args.services.now c.run_stage-in-Request.new.services c.args.self (Request c.in-Request.at)
+    c.run_stage-in-Request.result node c.in-Request.is is c.run_stage-in-Request.ensures.refused
 
 pub returns-in-Part-clause-moves : goal.returns-in-Part-clause-moves
 returns-in-Part-clause-moves g c =

@@ -1,0 +1,145 @@
+-- A request's moves: it goes on, waits, hands out a child, tells its pointer, or ends.
+use Rattle.std.proofs.Common.{◌≡◌, ℕ, ◌+◌, ◌<◌, List, [], ◌∷◌, ◌++◌, Bool, true, false, ◌&&◌, not, cond, Option, Some, None, refl, sym, ap, subst, ◌∙◌, append-nil, arith}
+use Rattle.std.specs.List.{flat_map}
+use Rattle.std.specs.Prelude.{IsPermutation}
+use Rattle.zio_types.specs.declared.place.Place.{Place}
+use Rattle.zio_types.specs.declared.request.ChildKind.{ChildKind}
+use Rattle.zio_types.specs.declared.request.Phase.{Phase}
+use Rattle.zio_blkptr.specs.declared.pointer.Bp.{Bp}
+use Rattle.zio_gang.specs.Attempts.{Ended, Terms}
+use Rattle.zio_trace.specs.Conflicts.{is_single}
+use Rattle.zio_trace.specs.Tasks.{Attempt, AttemptedBy, Task}
+use Rattle.zio_frames.specs.Frames.{Child, Frame, Inner, Stack, asking, asking_in, fresh_stack, kind_of_task, needs_none}
+use Rattle.zio_frames.specs.Moves.{WillHave}
+use Rattle.zio_children.specs.RequestKids.{kids_by}
+use Rattle.zio_stages.specs.Closings.{outcome_of}
+use Rattle.zio_stages.specs.Outcomes.{freed_by, held_by, made_by}
+use Rattle.zio_stages.specs.OwnParts.{DoesThen, HandsTo, IsOwed}
+use Rattle.zio_stages.specs.RequestNodes.{Closes, IsRequestNode}
+use Rattle.zio_stages.specs.SpaceCalls.{SpaceCall, calls_back, calls_by}
+use Rattle.zio_stages.specs.declared.request_node.Closed.{Closed}
+use Rattle.zio_stages.specs.declared.request_node.RequestNode.{RequestNode}
+use Rattle.zio_graph.specs.Parts.{ended_in, ended_in_slot}
+use Rattle.zio_graph.specs.Stages.{Ends, GoesOn, Grows, Tells, Waits}
+use Rattle.zio_nodes.specs.Nodes.{IsNode, gave_of, nodes, told_of}
+use Rattle.zio_nodes.specs.Told.{is_told}
+use Rattle.zio_nodes.specs.declared.node.Node.{Node}
+use Rattle.zio_nodes.specs.declared.node.Node.TheVariants.{Request}
+use Rattle.zio_nodes.specs.declared.request_at.RequestAt.{RequestAt}
+use Rattle.zio_nodes.proofs.BoundLemmas.{owed_counts}
+use Rattle.zio_nodes.proofs.RequestEndings.{ended_as, ended_before, ended_behind, ended_of, is_attempt, shows_outcome}
+
+-- ---- it goes on
+
+pub request_goes : (t : Terms) (st : Stack) (at after : RequestAt) → IsRequestNode t after.node st → is_told after.stage ≡ is_told at.stage
+    → gave_of (Request after) ≡ gave_of (Request at) → GoesOn {N = Node} nodes gave_of t (Request at) st [] (Request after)
+request_goes t st at after is told gave = record {
+  dids = [];
+  gone = [];
+  stack = st;
+  does = refl;
+  calls_are = refl;
+  is = is;
+  told = told;
+  gave_more = gave ∙ sym (append-nil (gave_of (Request at)));
+}
+
+-- it did some of its part itself
+pub request_does : (t : Terms) (st : Stack) (at after : RequestAt) (calls : List SpaceCall) → DoesThen t st calls (IsRequestNode t after.node)
+    → is_told after.stage ≡ is_told at.stage → gave_of (Request after) ≡ gave_of (Request at) → GoesOn {N = Node} nodes gave_of t (Request at) st calls (Request after)
+request_does t st at after calls h told gave = record {
+  dids = h.dids;
+  gone = [];
+  stack = h.stack;
+  does = h.does;
+  calls_are = h.calls_are ∙ sym (append-nil (calls_by h.dids));
+  is = h.after;
+  told = told;
+  gave_more = gave ∙ sym (append-nil (gave_of (Request at)));
+}
+
+-- ---- it waits
+
+pub request_waits : (t : Terms) (st : Stack) (at after : RequestAt) (kind : ChildKind) (phase : Phase) → IsRequestNode t after.node st
+    → is_told after.stage ≡ is_told at.stage → gave_of (Request after) ≡ gave_of (Request at) → IsOwed kind phase st
+    → Waits {N = Node} nodes gave_of t (Request at) st [] (Request after) kind phase
+request_waits t st at after kind phase is told gave owed = record {
+  stays = record { is = is; told = told; gave_same = gave; no_calls = refl };
+  owing = owed_counts kind phase st.children owed;
+}
+
+-- ---- it hands out a child
+
+pub request_grows : (t : Terms) (st : Stack) (at after : RequestAt) (child : Node) (kind : ChildKind) (IsChild : Task → Type 0) (calls : List SpaceCall)
+    → DoesThen t st calls (HandsTo t kind IsChild (IsRequestNode t after.node)) → ((op : Task) → IsChild op → IsNode t child (fresh_stack op))
+    → (needs_none kind ≡ false → told_of child ≡ false) → gave_of child ≡ [] → is_told after.stage ≡ is_told at.stage → gave_of (Request after) ≡ gave_of (Request at)
+    → Grows {N = Node} nodes gave_of t (Request at) st calls (Request after) child kind
+request_grows t st at after child kind IsChild calls h fresh untold none told gave = record {
+  dids = h.dids;
+  stack = h.stack;
+  does = h.does;
+  calls_are = h.calls_are;
+  op = h.after.op;
+  part = h.after.part;
+  asks = h.after.asks;
+  is = h.after.after;
+  told = told;
+  gave_same = gave;
+  child_is = fresh h.after.op h.after.child_is;
+  child_told = λ needs. untold (ap needs_none (sym h.after.of_kind) ∙ needs);
+  child_gave = none;
+  of_kind = sym h.after.of_kind;
+}
+
+-- ---- it tells its pointer
+
+attempts_tell : (t : Terms) (at : RequestAt) (st : Stack) → IsRequestNode t at.node st → needs_none (kind_of_task st.outer.op) ≡ false
+attempts_tell t at st h = ap (λ (op : Task). needs_none (kind_of_task op)) h.op
+
+pub request_tells : (t : Terms) (st : Stack) (at after : RequestAt) (pointer : Option Bp) → IsRequestNode t at.node st → IsRequestNode t after.node st
+    → WillHave t st.outer pointer → is_told at.stage ≡ false → is_told after.stage ≡ true → gave_of (Request after) ≡ gave_of (Request at)
+    → Tells {N = Node} nodes gave_of t (Request at) st [] (Request after) pointer
+request_tells t st at after pointer was is will before told gave = record {
+  will = will;
+  needs = attempts_tell t at st was;
+  before = before;
+  is = is;
+  told = told;
+  gave_same = gave;
+  no_calls = refl;
+}
+
+-- ---- it ends
+
+pub request_ends : (t : Terms) (st : Stack) (at : RequestAt) (r : RequestNode) (closed : Closed) (label : ℕ) (gone : List Place) (h : IsRequestNode t r st)
+    → Closes t r st h closed → is_told at.stage ≡ true → flat_map ended_in_slot h.own_slots ≡ []
+    → IsPermutation (held_by st ++ freed_by st.outer.op (outcome_of label closed)) (gave_of (Request at) ++ gone ++ made_by (outcome_of label closed) ++ [])
+    → Ends {N = Node} nodes gave_of t (Request at) st (calls_back gone) (outcome_of label closed)
+request_ends t st at r closed label gone h x told none places = record {
+  value = AttemptedBy x.one;
+  gone = gone;
+  ended = ended_of closed r;
+  ends = x.value;
+  told = λ no. told;
+  shows = shows_outcome t st.outer.op label closed r (kids_by h.kid_slots).ended x.one (is_attempt t r st h) x.shows;
+  requests = ended_behind closed r (kids_by h.kid_slots).ended x.one x.shows
+      ∙ ap (λ es. es ++ ended_of closed r) (ended_before t r st h none);
+  requests_are = ended_as label closed r (kids_by h.kid_slots).ended x.one x.shows;
+  calls_are = refl;
+  places = places;
+}
+
+-- ---- it gives places back
+
+pub request_gives : (t : Terms) (st : Stack) (at after : RequestAt) (gone : List Place) → IsRequestNode t after.node st → is_told after.stage ≡ is_told at.stage
+    → gave_of (Request after) ≡ gave_of (Request at) ++ gone → GoesOn {N = Node} nodes gave_of t (Request at) st (calls_back gone) (Request after)
+request_gives t st at after gone is told gave = record {
+  dids = [];
+  gone = gone;
+  stack = st;
+  does = refl;
+  calls_are = refl;
+  is = is;
+  told = told;
+  gave_more = gave;
+}

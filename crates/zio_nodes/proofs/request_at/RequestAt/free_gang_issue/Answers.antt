@@ -1,0 +1,46 @@
+use Rattle.std.proofs.Common.{◌≡◌, ◌+◌, None, Some, refl, sym, ap, subst, ◌∙◌, arith}
+use Rattle.zio_masks.specs.declared.stage.Stage.{Stage}
+use Rattle.zio_masks.specs.declared.stage.Stage.TheVariants.{GangIssue, DvaFree}
+use Rattle.zio_types.specs.declared.request.Phase.TheVariants.{Done}
+use Rattle.zio_graph.specs.Stages.{told_cost}
+use Rattle.zio_stages.proofs.RequestReadLemmas.{nothing}
+use Rattle.zio_nodes.specs.OwnAts.{IsFreeAtStage}
+use Rattle.zio_nodes.specs.OwnBounds.{free_stages}
+use Rattle.zio_nodes.specs.Told.{is_told}
+use Rattle.zio_nodes.proofs.OwnLefts.{free_less}
+use Rattle.zio_nodes.proofs.OwnOver.{free_over, free_stands, is_free, not_start}
+use Rattle.zio_nodes.proofs.OwnStages.{free_walked}
+use Rattle.zio_nodes.proofs.OwnBare.{still_bare, waits_bare}
+use Rattle.zio_nodes.proofs.FreeLemmas.{kept_failed, may_give, stage_less}
+use Rattle.zio_nodes.proofs.request_at.RequestAt.free_gang_issue.Goals as goal
+
+pub returns-in-Some-clause-moves : goal.returns-in-Some-clause-moves
+returns-in-Some-clause-moves c = λ tops. waits_bare tops c.args.self c.in-Some.kind Done (λ t st same seated is. c.gang_issue_free.ensures.wait c.in-Some.kind c.in-Some.is t st seated is)
+
+pub returns-clause-moves : goal.returns-clause-moves
+returns-clause-moves c = λ tops. still_bare tops c.args.self c.next.result c.args.self.is_due (ap is_told (free_walked c.with_gang.result c.next.result c.with_gang.ensures.stages c.next.ensures) ∙ sym (ap is_told c.requires.stage))
+
+pub returns-clause-over : goal.returns-clause-over
+returns-clause-over c = λ tops h.
+    let at = c.args.self in
+    let r = at.node in
+    let work = is_free r.waiting.request.work c.requires.kind in
+    let behind = not_start at.stage GangIssue c.requires.stage (λ e. cc) in
+    let now = free_stands tops at GangIssue work h c.requires.stage (λ e. cc) in
+    let walked = c.gang_issue_free.ensures.walked (nothing c.gang_issue_free.result c.in_default.not-Some) now.1 in
+    free_over tops at r c.next.result at.is_due work h behind refl h.over.own
+    (subst (λ (s : Stage). IsFreeAtStage s at.is_due r.own r.waiting.block) (sym (free_walked c.with_gang.result c.next.result c.with_gang.ensures.stages c.next.ensures))
+    (may_give r.waiting.block r.own now.0, walked, kept_failed r.own now.0))
+
+pub returns-clause-left : goal.returns-clause-left
+returns-clause-left c =
+    let at = c.args.self in
+    let r = at.node in
+    let work = is_free r.waiting.request.work c.requires.kind in
+    let behind = not_start at.stage GangIssue c.requires.stage (λ e. cc) in
+    let is = free_walked c.with_gang.result c.next.result c.with_gang.ensures.stages c.next.ensures in
+    omega (
+      arith,
+      free_less at r c.next.result at.is_due 1 work behind (not_start c.next.result DvaFree is (λ e. cc)) refl
+          (stage_less r.own at.stage c.next.result (told_cost + told_cost + 2) (told_cost + told_cost + 1) (ap free_stages c.requires.stage) (ap free_stages is) (omega arith)),
+    )

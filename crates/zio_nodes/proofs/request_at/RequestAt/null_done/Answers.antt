@@ -1,0 +1,42 @@
+use Rattle.std.proofs.Common.{◌≡◌, [], ap, refl, subst, sym, ◌∙◌}
+use Rattle.zio_masks.specs.declared.stage.Stage.{Stage}
+use Rattle.zio_graph.specs.Stages.{Ends, OutcomeIn}
+use Rattle.zio_stages.specs.RequestNodes.{IsRequestNode}
+use Rattle.zio_stages.specs.declared.outcome.Outcome.{Outcome}
+use Rattle.zio_stages.specs.declared.request_node.RequestNode.{RequestNode}
+use Rattle.zio_nodes.specs.Nodes.{gave_of, nodes}
+use Rattle.zio_nodes.specs.RequestAts.{AreOutBehind}
+use Rattle.zio_nodes.specs.Told.{is_told}
+use Rattle.zio_nodes.specs.TreeAts.{IsTreeOver}
+use Rattle.zio_nodes.specs.declared.node.Node.{Node}
+use Rattle.zio_nodes.specs.declared.node.Node.TheVariants.{Request}
+use Rattle.zio_nodes.proofs.LeftLemmas.{left_over}
+use Rattle.zio_nodes.proofs.NullLemmas.{null_done_due, null_none_ended, null_places}
+use Rattle.zio_nodes.proofs.RequestMoves.{request_ends, request_goes, request_waits}
+use Rattle.zio_nodes.proofs.WriteLemmas.{same_gave}
+use Rattle.zio_nodes.proofs.request_at.RequestAt.null_done.Goals as goal
+
+pub returns-in-Wait-clause-moves : goal.returns-in-Wait-clause-moves
+returns-in-Wait-clause-moves c = λ tops t st now.
+    let out = subst (λ (s : Stage). AreOutBehind s c.args.self.node.kids.kids) c.requires.stage c.requires.over.1.stands.out in
+    request_waits t st c.args.self c.args.self c.in-Wait.kind _ now.is refl refl (c.done_null.ensures.wait c.in-Wait.kind c.in-Wait.is t st now.seated now.is out)
+
+pub returns-in-Ok-clause-moves : goal.returns-in-Ok-clause-moves
+returns-in-Ok-clause-moves c = λ tops t st now.
+    let at = c.args.self in
+    let due = null_done_due c.requires.over.0 at.stage at.is_due at.node c.requires.kind c.requires.stage c.requires.over.1.stands in
+    let is = c.into_outcome.ensures in
+    subst (λ (o : Outcome). Ends {N = Node} nodes gave_of t (Request at) st [] o) (sym is.1)
+    (request_ends t st at at.node c.in-Ok.closed is.0 [] now.is (c.in-Ok.ensures.closes t st now.is) (ap is_told c.requires.stage) (null_none_ended t at.node st now.is due)
+    (null_places t at.node st is.0 c.in-Ok.closed now.is c.requires.kind due c.in-Ok.ensures.none))
+
+pub returns-in-Ok-clause-over : goal.returns-in-Ok-clause-over
+returns-in-Ok-clause-over c = λ tops h.
+    let is = c.into_outcome.ensures in
+    subst (λ (o : Outcome). OutcomeIn (IsTreeOver tops) o) (sym is.1) (left_over tops c.args.self.node c.in-Ok.closed is.0 h.over c.in-Ok.ensures.list)
+
+pub returns-in-Err-clause-refused : goal.returns-in-Err-clause-refused
+returns-in-Err-clause-refused c = λ tops t st now.
+    let same = c.in-Err.ensures.back in
+    request_goes t st c.args.self _ (subst (λ (r : RequestNode). IsRequestNode t r st) (sym same) now.is) (sym (ap is_told c.requires.stage))
+    (same_gave c.args.self.node c.in-Err.field-0.node same)

@@ -1,0 +1,78 @@
+//! A read, a free or a claim in an attempt: it tells that it has no pointer, and ends once its own work came to something.
+
+ghost use Rattle.std.specs.Prelude.{◌≡◌, ◌+◌, ◌≤◌, IfErr, IfOk, List as Seq, false, length, true};
+ghost use Rattle.std.specs.List.{list_all};
+ghost use Rattle.zio_types.specs.declared.place.Top.{Top as SeenTop};
+ghost use Rattle.zio_children.specs.RequestKids.{is_ended};
+ghost use Rattle.zio_stages.specs.OwnParts.{IsNoWrite};
+ghost use Rattle.zio_stages.specs.RequestReads.{HasFound};
+ghost use Rattle.zio_graph.specs.Stages.{EachIn, Lessens, TellsValid, told_cost};
+ghost use Rattle.zio_nodes.specs.Nodes.{IsNodeOver, IsTreeOver, MovesBare, StaysBare, left_of};
+ghost use Rattle.zio_nodes.specs.RequestAts.{IsRequestAtOver};
+ghost use Rattle.zio_nodes.specs.Told.{is_told};
+
+use crate::node::Node;
+use crate::request_at::RequestAt;
+use std::alloc::Global;
+use zio_graph::Move;
+use zio_masks::Stage;
+use zio_stages::{NodeBack, ReadyStep};
+use zio_types::Phase;
+
+impl RequestAt {
+    /// Tells that it has no pointer, once each child told its own, and goes on to this stage.
+    pub(crate) fn tell_none(self, to: Stage) -> Move<Node>
+        requires other { IsNoWrite self.node.waiting.request.work }
+        requires handed { self.node.kids.kids.handed ≡ length self.node.kids.kids.kids }
+        requires before { is_told self.stage ≡ false }
+        requires behind { is_told to ≡ true }
+        ensures moves { (tops : Seq SeenTop) → MovesBare tops (Node.Request self) result }
+        ensures over { (tops : Seq SeenTop) → IsRequestAtOver tops self → IsRequestAtOver tops (record { node = self.node; stage = to; is_due = true }) →
+            EachIn (IsNodeOver tops) (IsTreeOver tops) result }
+        ensures valid { TellsValid result }
+        ensures left { left_of (Node.Request (record { node = self.node; stage = to; is_due = true })) + told_cost ≤ left_of (Node.Request self) →
+            Lessens left_of (Node.Request self) result }
+    {
+        match self.node.ready_none() {
+            ReadyStep::Wait(kind) => Move::Wait(Node::Request(self), kind, Phase::Ready),
+            ReadyStep::Tell(_) => {
+                let RequestAt { node, .. } = self;
+                let at = RequestAt {
+                    node,
+                    stage: to,
+                    is_due: true,
+                };
+                Move::Ready(Node::Request(at), None)
+            }
+        }
+    }
+
+    /// Ends, where its own work came to something and its children ended. Where memory is refused it comes back as it was.
+    pub(crate) fn end_found(self, alloc: Global) -> Result<Move<Node>, Node>
+        requires found { HasFound self.node.own }
+        requires ended { list_all is_ended self.node.kids.kids.kids ≡ true }
+        requires other { IsNoWrite self.node.waiting.request.work }
+        requires over { (tops : Seq SeenTop) × IsRequestAtOver tops self }
+        requires stage { self.stage ≡ Stage.Done }
+        ensures moves { (tops : Seq SeenTop) → IfOk result (MovesBare tops (Node.Request self)) }
+        ensures over { (tops : Seq SeenTop) → IsRequestAtOver tops self → IfOk result (EachIn (IsNodeOver tops) (IsTreeOver tops)) }
+        ensures valid { IfOk result TellsValid }
+        ensures left { told_cost ≤ left_of (Node.Request self) → IfOk result (Lessens left_of (Node.Request self)) }
+        ensures refused { (tops : Seq SeenTop) → IfErr result (StaysBare tops (Node.Request self)) }
+    {
+        let RequestAt {
+            node,
+            stage,
+            is_due,
+        } = self;
+        let attempt = node.attempt();
+        match node.close_found(alloc) {
+            Ok(closed) => Ok(Move::End(closed.into_outcome(attempt))),
+            Err(NodeBack { node }) => Err(Node::Request(RequestAt {
+                node,
+                stage,
+                is_due,
+            })),
+        }
+    }
+}

@@ -1,0 +1,108 @@
+//! What a request hears of the attempts of its children's trees.
+
+ghost use Rattle.std.specs.Prelude.{◌≡◌, IfSome, IsTrue, List as Seq};
+ghost use Rattle.zio_types.specs.declared.place.Top.{Top as SeenTop};
+ghost use Rattle.zio_types.specs.declared.request.ChildKind.TheVariants.{Logical};
+ghost use Rattle.zio_blkptr.specs.Pointers.{valid};
+ghost use Rattle.zio_gang.specs.Attempts.{Terms};
+ghost use Rattle.zio_trace.specs.Tasks.{Task, Value};
+ghost use Rattle.zio_frames.specs.Frames.{Child, Stack};
+ghost use Rattle.zio_frames.specs.Moves.{heard_early, heard_of};
+ghost use Rattle.zio_stages.specs.RequestHearings.{HearsEarlyOf};
+ghost use Rattle.zio_stages.specs.RequestNodes.{IsRequestNode};
+ghost use Rattle.zio_stages.specs.declared.outcome.Outcome.{Outcome as SeenOutcome};
+ghost use Rattle.zio_graph.specs.Stages.{Hears, HearsEarly, HearsSome};
+ghost use Rattle.zio_nodes.specs.Nodes.{IsTreeOver, gave_of, left_of, nodes};
+ghost use Rattle.zio_nodes.specs.RequestAts.{IsRequestAtOver};
+
+use crate::node::Node;
+use crate::request_at::RequestAt;
+use zio_blkptr::Bp;
+use zio_stages::{Finished, Whole, logical_children_are_attempts};
+use zio_types::Bits;
+
+impl RequestAt {
+    /// The attempt of a child's tree told which pointer the child will have.
+    pub fn arrive_attempt_ready(self, child: u32, pointer: Option<Bp>) -> RequestAt
+        requires logical { HearsEarlyOf Logical self.node child }
+        requires valid { IfSome pointer (λ bp. IsTrue (valid bp)) }
+        ensures heard { (t : Terms) (st : Stack) (c : Child) → HearsEarly nodes t (Node.Request self) st child c →
+            IsRequestNode t result.node (heard_early st child c pointer) }
+        ensures stage { result.stage ≡ self.stage }
+        ensures gave { gave_of (Node.Request result) ≡ gave_of (Node.Request self) }
+        ensures over { (tops : Seq SeenTop) → IsRequestAtOver tops self → IsRequestAtOver tops result }
+        ensures left { left_of (Node.Request result) ≡ left_of (Node.Request self) }
+    {
+        logical_children_are_attempts();
+        let RequestAt {
+            node,
+            stage,
+            is_due,
+        } = self;
+        let mut node = node;
+        node.arrive_ready(child, pointer);
+        RequestAt {
+            node,
+            stage,
+            is_due,
+        }
+    }
+
+    /// The attempt of a child's tree ended, and the child finished.
+    pub fn arrive_finished(self, child: u32, finished: &Finished) -> RequestAt
+        requires { (tops : Seq SeenTop) × HearsSome nodes tops (Node.Request self) child (SeenOutcome.Finished finished.now) }
+        ensures heard { (tops : Seq SeenTop) (t : Terms) (st : Stack) (c : Child) (op : Task) (v : Value) →
+            Hears nodes tops t (Node.Request self) st child c op (SeenOutcome.Finished finished.now) v →
+            IsRequestNode t result.node (heard_of st child c v) }
+        ensures stage { result.stage ≡ self.stage }
+        ensures gave { gave_of (Node.Request result) ≡ gave_of (Node.Request self) }
+        ensures over { (tops : Seq SeenTop) → IsRequestAtOver tops self → IsRequestAtOver tops result }
+        ensures left { left_of (Node.Request result) ≡ left_of (Node.Request self) }
+    {
+        logical_children_are_attempts();
+        let RequestAt {
+            node,
+            stage,
+            is_due,
+        } = self;
+        let mut node = node;
+        node.arrive_finished(child, finished.error(), finished.pointer());
+        RequestAt {
+            node,
+            stage,
+            is_due,
+        }
+    }
+
+    /// The attempt of a child's tree ended, and this is left of it, which goes again.
+    pub fn arrive_again(
+        self,
+        child: u32,
+        whole: Whole,
+        bits: Bits,
+        pointer: Option<Bp>,
+    ) -> RequestAt
+        requires { (tops : Seq SeenTop) × HearsSome nodes tops (Node.Request self) child (SeenOutcome.Again whole bits pointer) }
+        ensures heard { (tops : Seq SeenTop) (t : Terms) (st : Stack) (c : Child) (op : Task) (v : Value) →
+            Hears nodes tops t (Node.Request self) st child c op (SeenOutcome.Again whole bits pointer) v →
+            IsRequestNode t result.node (heard_of st child c v) }
+        ensures stage { result.stage ≡ self.stage }
+        ensures gave { gave_of (Node.Request result) ≡ gave_of (Node.Request self) }
+        ensures over { (tops : Seq SeenTop) → IsTreeOver tops whole → IsRequestAtOver tops self → IsRequestAtOver tops result }
+        ensures left { left_of (Node.Request result) ≡ left_of (Node.Request self) }
+    {
+        logical_children_are_attempts();
+        let RequestAt {
+            node,
+            stage,
+            is_due,
+        } = self;
+        let mut node = node;
+        node.arrive_again(child, bits, whole, pointer);
+        RequestAt {
+            node,
+            stage,
+            is_due,
+        }
+    }
+}

@@ -57,8 +57,8 @@ pub fn rounds_tell_their_requests()
         TellsRound round trees r ended finished }
 {}
 
-/// Where places are in use after a round that were and that no finished request freed, or that are of blocks which finished requests
-/// made, and these met nothing in use, they are those that a runner tells.
+/// If in use after a round are the places that were and that no finished request freed, and those of the blocks that finished
+/// requests made, which lie inside the tops and met nothing in use, these are the places that a runner tells.
 pub fn rounds_leave_places_in_use()
     ensures { (s : Standing) (t : Terms) (f : Forest) (trees : List (List Pending)) (done : List Ending) (finished : List Finished)
         (live : List Place) → trees_in f ≡ trees → AreRunnable s trees → AllByRecursion (IsEnding t f) done →

@@ -1,7 +1,8 @@
-//! The engine on one thread, as a runner of rounds.
+//! What the engine on one thread needs to be a runner of rounds: its trees between rounds, and laws from a round as it runs to
+//! what a runner says of one. The runner itself isn't built yet.
 //!
-//! It stands on `zio_graph`, which runs the trees of a round over any nodes, on `zio_nodes`, whose nodes go from stage to
-//! stage, and on `zio_sound`, which says what such a round is to a script.
+//! It stands on `zio_graph`, which runs the trees of a round over any nodes, and on `zio_sound`, which says what such a round is
+//! to a script.
 #![tactic(auto)]
 
 mod laws;

@@ -44,13 +44,13 @@ made_told (x ∷ xs) =
 -- ---- the blocks that were freed, as they are told
 
 -- the request of the trees which finished so
-record IsOwner (trees : List (List Pending)) (x : Ending) : Type 0 where
-  owner : Pending
-  at : IsOneOf owner (joined_trees trees)
-  request : owner.request ≡ x.request.request
-  block : owner.block ≡ x.request.block
+pub record IsOwner (trees : List (List Pending)) (x : Ending) : Type 0 where
+  pub owner : Pending
+  pub at : IsOneOf owner (joined_trees trees)
+  pub request : owner.request ≡ x.request.request
+  pub block : owner.block ≡ x.request.block
 
-owner_of : (t : Terms) (f : Forest) (trees : List (List Pending)) (x : Ending) → trees_in f ≡ trees → IsEnding t f x → IsOwner trees x
+pub owner_of : (t : Terms) (f : Forest) (trees : List (List Pending)) (x : Ending) → trees_in f ≡ trees → IsEnding t f x → IsOwner trees x
 owner_of t f trees x are ending =
     let first = ending.from.from.0 in record {
       owner = first.0;
@@ -88,16 +88,17 @@ pending_numbers : (ps : List Pending) → numbers_of (map (λ (p : Pending). p.r
 pending_numbers [] = refl
 pending_numbers (p ∷ ps) = ap (λ (ns : List ℕ). p.request.number ∷ ns) (pending_numbers ps)
 
+pub pendings_once : (s : Standing) (trees : List (List Pending)) → AreRunnable s trees
+    → (n : ℕ) → counted n (map (λ (p : Pending). p.request.number) (joined_trees trees)) ≤ 1
+pendings_once s trees runs n =
+    subst (λ (ns : List ℕ). counted n ns ≤ 1) (pending_numbers (joined_trees trees))
+    (subst (λ (m : ℕ). m ≤ 1) (sym (requests_counted n (requests_in trees))) (runs.once n))
+
 module _ (s : Standing) (t : Terms) (f : Forest) (trees : List (List Pending)) (done : List Ending) (finished : List Finished)
     (are : trees_in f ≡ trees) (runs : AreRunnable s trees) (each : AllByRecursion (IsEnding t f) done)
     (by : IsByNumber (all_ended done) finished) where
   moved_to : (g : Finished) → IsOneOf g (map finished_of (all_ended done)) → IsOneOf g finished
   moved_to g at = one_moved g (map finished_of (all_ended done)) finished by.same at
-
-  pendings_once : (n : ℕ) → counted n (map (λ (p : Pending). p.request.number) (joined_trees trees)) ≤ 1
-  pendings_once n =
-      subst (λ (ns : List ℕ). counted n ns ≤ 1) (pending_numbers (joined_trees trees))
-      (subst (λ (m : ℕ). m ≤ 1) (sym (requests_counted n (requests_in trees))) (runs.once n))
 
   told : (p : Place) → IsOneOf p (freed_in done) → IsOneOf p (freed_places trees finished)
   told p at =
@@ -131,7 +132,7 @@ module _ (s : Standing) (t : Terms) (f : Forest) (trees : List (List Pending)) (
       let o : IsOwner trees x = owner_of t f trees x are ending in
       let same : finished_of x.ended ≡ good.one = ap finished_of ended.is ∙ told.is in
       let one : o.owner ≡ part.of =
-      one_numbered (λ (y : Pending). y.request.number) o.owner part.of (joined_trees trees) pendings_once o.at q.0
+      one_numbered (λ (y : Pending). y.request.number) o.owner part.of (joined_trees trees) (pendings_once s trees runs) o.at q.0
       (ap (λ (r : Request). r.number) o.request ∙ (sym ending.number ∙ (ap (λ (g : Finished). g.request) same
       ∙ eqb-true good.one.request part.of.request.number parts.0))) in
       of_part freed_for done x p ended.at

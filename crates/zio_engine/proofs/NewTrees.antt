@@ -22,7 +22,8 @@ use Rattle.zio_stages.specs.Waits.{fresh, pending_of, pendings}
 use Rattle.zio_stages.specs.Wholes.{AreTrees, IsTreeOf, joined, number_or, roots_in, trees_in}
 use Rattle.zio_stages.specs.declared.waiting.Waiting.{Waiting}
 use Rattle.zio_stages.proofs.WholeLemmas.{root_number_is, trees_count}
-use Rattle.zio_engine.specs.EngineTrees.{IsEngineTree}
+use Rattle.zio_nodes.specs.TreeAts.{is_childless}
+use Rattle.zio_engine.specs.EngineTrees.{HasThree, IsEngineTree}
 use Rattle.zio_engine.proofs.Forests.{AreEngineForest, forest_of, roots_by, tree_root}
 
 -- ---- how large it is
@@ -58,6 +59,19 @@ sized (Write name sum copies prio body) writes children h e =
 sized (Free name) writes children h e = omega arith
 sized (Claim name pointer) writes children h e = omega arith
 
+-- ---- children
+
+never_under : (kind child : Kind) → is_childless kind ≡ true → may_have kind child ≡ true → ⊥
+never_under NullKind child e h = absurd (cc)
+never_under ReadKind child e h = absurd (cc)
+never_under WriteKind child e h = absurd (cc)
+never_under FreeKind child e h = absurd (cc)
+never_under ClaimKind child e h = absurd (cc)
+
+none_under : (r : Request) (rs : List Request) → is_childless (kind_of r.work) ≡ true → AllByRecursion (IsChild r) rs → length rs ≡ 0
+none_under r [] e h = refl
+none_under r (q ∷ qs) e h = absurd (never_under (kind_of r.work) (kind_of q.work) e h.0.may)
+
 -- ---- the roots' numbers
 
 pub roots_are : (trees : List (List Waiting)) → AllByRecursion IsEngineTree trees → roots_in trees ≡ numbers_of (roots_of (map pendings trees))
@@ -82,8 +96,8 @@ over_rises trees wholes same each rising =
 
 pub new_tree : (r : Request) (birth : ℕ) (block : Option Tree) (children : List (List Waiting)) (tree : List Waiting)
     → IsNewTree r birth block (map pendings children) → AllByRecursion IsEngineTree children → IfSome block IsWholeTree
-    → ((forest : Forest) → AreTrees children forest → IsTreeOf tree (fresh r birth block) forest) → IsEngineTree tree
-new_tree r birth block children tree new each whole is =
+    → IfSome block (λ (x : Tree). HasThree x.bp) → ((forest : Forest) → AreTrees children forest → IsTreeOf tree (fresh r birth block) forest) → IsEngineTree tree
+new_tree r birth block children tree new each whole three is =
     let kids : AreEngineForest (Some r.number) children =
     forest_of (Some r.number) children each
     (all_weaker (IsChild r) (λ (q : Request). q.under ≡ Some r.number) (roots_of (map pendings children)) (λ q c. c.under) new.kinds) in
@@ -99,9 +113,13 @@ new_tree r birth block children tree new each whole is =
           some = new.some;
           block_is = new.block_is;
           whole = whole;
+          three = three;
           size = sized r.work (count_by (λ (q : Request). is_write (kind_of q.work)) (roots_of (map pendings children))) (trees_in kids.forest + 0) new.size
               (λ write. (let all = all_writes r (roots_of (map pendings children)) write new.kinds in let roots = new.each in
               let same = length-map children pendings in omega arith));
+          alone = λ childless.
+              (let none = none_under r (roots_of (map pendings children)) childless new.kinds in let roots = new.each in
+              let same = length-map children pendings in omega arith);
           pointers = tt;
         },
         kids.sound,

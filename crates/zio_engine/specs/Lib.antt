@@ -1,4 +1,7 @@
 pub mod EngineTrees
+pub mod Ends
 pub mod InUse
 pub mod Jobs
 pub mod RoundEnds
+pub mod SteadyGrounds
+pub mod WholeRounds

@@ -1,13 +1,14 @@
 // Between a round as a script's run gives it to a runner and a round as the engine runs it.
 
-ghost use Rattle.std.specs.Prelude.{◌≡◌, ◌⊎◌, ◌↔◌, ℕ, Contains, IsPermutation, IsTrue, List, Option, length, map, true};
+ghost use Rattle.std.specs.Prelude.{◌≡◌, ◌⊎◌, ◌↔◌, ◌%◌, ℕ, Contains, IsPermutation, IsTrue, List, [], Option, length, map, true};
 ghost use Rattle.std.specs.List.{AllByRecursion};
 ghost use Rattle.zio_types.specs.declared.place.Place.{Place};
 ghost use Rattle.zio_types.specs.Choices.{Choice};
-ghost use Rattle.zio_types.specs.Places.{are_open, is_inside};
+ghost use Rattle.zio_types.specs.Places.{are_open, is_inside, sector_size};
 ghost use Rattle.zio_script.specs.declared.script.Failmode.{Failmode};
 ghost use Rattle.zio_cksum.specs.Images.{Images};
 ghost use Rattle.zio_gang.specs.Attempts.{Ended, Pending, Terms};
+ghost use Rattle.zio_gang.specs.Journals.{CompleteAfterChildren, CompleteOnce};
 ghost use Rattle.zio_gang.specs.Trees.{sizes_of};
 ghost use Rattle.zio_trace.specs.Families.{Forest};
 ghost use Rattle.zio_trace.specs.Rounds.{Round, trees_in};
@@ -15,20 +16,24 @@ ghost use Rattle.zio_trace.specs.Separate.{LeavesOnce};
 ghost use Rattle.zio_trace.specs.SoundRounds.{IsSoundRound, LeavesDiffer};
 ghost use Rattle.zio_disks.specs.Trees.{HasSectors};
 ghost use Rattle.zio_course.specs.declared.runner.Finished.{Finished};
-ghost use Rattle.zio_course.specs.Runners.{AreRunnable, DiffersInRound, Standing, terms_at};
+ghost use Rattle.zio_course.specs.Runners.{AreRunnable, DiffersInRound, HasReadSize, Standing, requests_in, terms_at};
 ghost use Rattle.zio_sound.specs.Leaving.{LeavesTrees};
+ghost use Rattle.zio_stages.specs.PartWorks.{HaveUnits};
+ghost use Rattle.zio_stages.specs.Tops.{AreTops};
 ghost use Rattle.zio_stages.specs.Waits.{pendings};
 ghost use Rattle.zio_stages.specs.declared.waiting.Waiting.{Waiting};
-ghost use Rattle.zio_graph.specs.Ledgers.{Ending, IsEnding, all_ended, freed_in, made_in};
+ghost use Rattle.zio_graph.specs.Ledgers.{AreBehindChildren, Ending, IsEnding, all_ended, freed_in, made_in};
 ghost use Rattle.slab.specs.Slab.{Slab};
 ghost use Rattle.zio_graph.specs.Rounds.{SoFar};
+ghost use Rattle.zio_graph.specs.Sizes.{FitsBodies};
 ghost use Rattle.zio_graph.specs.Stops.{IsStopped};
 ghost use Rattle.zio_graph.specs.UnderTrees.{IsOver};
 ghost use Rattle.zio_graph.specs.declared.entry.Entry.{Entry as SeenEntry};
-ghost use Rattle.zio_engine.specs.EngineTrees.{IsEngineTree};
+ghost use Rattle.zio_nodes.specs.TreeAts.{IsTreeOver};
+ghost use Rattle.zio_engine.specs.EngineTrees.{AreSound, IsEngineTree};
 ghost use Rattle.zio_engine.specs.InUse.{LeavesInUse};
 ghost use Rattle.zio_engine.specs.Jobs.{IsSoundJob, size_at};
-ghost use Rattle.zio_engine.specs.RoundEnds.{IsByNumber, TellsRound};
+ghost use Rattle.zio_engine.specs.RoundEnds.{IsByNumber, TellsRound, completions_of};
 
 use zio_graph::Node;
 
@@ -57,6 +62,27 @@ pub fn rounds_tell_their_requests()
         TellsRound round trees r ended finished }
 {}
 
+/// Where no request completes twice, and each finished behind all requests of the round that stand under it, no child completes
+/// after its parent.
+pub fn rounds_complete_children_first()
+    ensures { (round : ℕ) (trees : List (List Pending)) (f : Forest) (done : List Ending) → trees_in f ≡ trees →
+        CompleteOnce (completions_of round (all_ended done)) → AreBehindChildren f [] done →
+        CompleteAfterChildren (requests_in trees) (completions_of round (all_ended done)) }
+{}
+
+/// Where each request that finished has no bytes or those of its block's bodies, and each block that a request names is whole, each
+/// read without error is told with as many bytes as its block has, and all that is told is whole sectors.
+pub fn rounds_read_whole_blocks()
+    ensures reads { (s : Standing) (t : Terms) (f : Forest) (trees : List (List Pending)) (done : List Ending)
+        (finished : List Finished) → trees_in f ≡ trees → AreSound f → AreRunnable s trees → AllByRecursion (IsEnding t f) done →
+        AllByRecursion (λ (x : Ending). FitsBodies x.request x.ended) done → IsByNumber (all_ended done) finished →
+        AllByRecursion (HasReadSize trees) finished }
+    ensures sectors { (t : Terms) (f : Forest) (trees : List (List Pending)) (done : List Ending) (finished : List Finished) →
+        trees_in f ≡ trees → AreSound f → AllByRecursion (IsEnding t f) done →
+        AllByRecursion (λ (x : Ending). FitsBodies x.request x.ended) done → IsByNumber (all_ended done) finished →
+        AllByRecursion (λ (g : Finished). length g.bytes % sector_size ≡ 0) finished }
+{}
+
 /// If in use after a round are the places that were and that no finished request freed, and those of the blocks that finished
 /// requests made, which lie inside the tops and met nothing in use, these are the places that a runner tells.
 pub fn rounds_leave_places_in_use()
@@ -71,4 +97,12 @@ pub fn rounds_leave_places_in_use()
 pub fn rounds_ask_under_their_number<N: Node>()
     ensures { (t : Terms) (sizes : ℕ → ℕ) (f : Forest) (before : Option Images) (s : SoFar) (slab : Slab (SeenEntry N)) →
         IsOver N.nodes t sizes f before s slab → AllByRecursion (λ (c : Choice). c.asked.key.round ≡ t.round) s.entries }
+{}
+
+/// Trees that a runner may be given lie on the tops, so that nodes of theirs may be run: where each place in use lies inside the
+/// tops.
+pub fn runnable_trees_lie_on_the_tops()
+    ensures { (s : Standing) (trees : List (List Waiting)) → AllByRecursion IsEngineTree trees → AreRunnable s (map pendings trees) →
+        AreTops s.tops → HaveUnits s.tops → AllByRecursion (λ (p : Place). IsTrue (is_inside (sizes_of s.tops) p)) s.live →
+        AllByRecursion (IsTreeOver s.tops) trees }
 {}

@@ -6,14 +6,16 @@ ghost use Rattle.zio_gang.specs.Attempts.{Pending};
 ghost use Rattle.zio_disks.specs.Whole.{IsWholeTree};
 ghost use Rattle.zio_course.specs.Runners.{IsNewTree, fresh, tree_over};
 ghost use Rattle.zio_stages.specs.Waits.{pendings};
-ghost use Rattle.zio_engine.specs.EngineTrees.{IsEngineTree};
+ghost use Rattle.zio_gang.specs.declared.tree.Tree.{Tree as SeenTree};
+ghost use Rattle.zio_engine.specs.EngineTrees.{HasThree, IsEngineTree};
 
 use std::alloc::Global;
 use std::marker::Model;
+use zio_blkptr::Bp;
 use zio_gang::Tree;
 use zio_script::Request;
 use zio_stages::Whole;
-use zio_types::{List, NoMemory};
+use zio_types::{List, NoMemory, Place};
 
 /// A tree of requests that haven't finished: each child's tree by number, then the request itself.
 #[derive(Debug, Drop)]
@@ -48,10 +50,27 @@ pub(crate) fn tree_over(
     ensures { IfOk result (λ tree. tree ≡ tree_over children (fresh request.now birth block)) }
 {
     let wholes = wholes_of(alloc, children)?;
+    block_has_three_places(&block);
     match Whole::over(alloc, request, birth, block, wholes) {
         Ok(whole) => Ok(EngineTree { whole }),
         Err(_) => Err(NoMemory),
     }
+}
+
+/// The pointer of a block has room for three places, as its type says.
+fn block_has_three_places(block: &Option<Tree>)
+    ensures { IfSome block.now (λ (tree : SeenTree). HasThree tree.bp) }
+{
+    if let Some(tree) = block {
+        has_three_places(&tree.bp);
+    }
+}
+
+/// So has each pointer.
+fn has_three_places(bp: &Bp)
+    ensures { HasThree bp.now }
+{
+    let _all: &[Place] = &bp.places;
 }
 
 /// The trees as nodes are made of.

@@ -48,7 +48,7 @@ module _ {N : Type 0} (nodes : Nodes N) (slab : Slab (Entry N)) (line : List ℕ
       → nodes.told node ≡ nodes.told e.node → nodes.gave node ≡ nodes.gave e.node → Updates slab slab_now key (Some (with_ties {N = N} node e.ties))
       → line_now ≡ line ++ key ∷ [] → ComesBack {N = N} nodes slab line slab_now line_now key error bytes
   answer_comes_back slab_now line_now error bytes e node is heard told gave put queued =
-      λ t sizes f before s leaves others sound more k a after shows answers.
+      λ t sizes f before s leaves others sound more k a after shows full answers.
       let r = it_is_there nodes t sizes f before s slab line leaves key e k is in
       let now = leaf_now nodes t sizes f before s.trees s.tops key r.node r.others (shelf_of {N = N} slab) line leaves r.state
       (held_of {N = N} e) others r.kept r.held more in
@@ -56,5 +56,5 @@ module _ {N : Type 0} (nodes : Nodes N) (slab : Slab (Entry N)) (line : List ℕ
       let fresh : r.node.stack ≡ fresh_stack (Leaf (s.ops key)) = r.theirs key r.node (first_at (live_of key r.node) r.others) at in
       subst (λ (q : List ℕ). KeepsRound {N = N} nodes t sizes f before (with_images s after) slab_now q others) (sym queued)
       (round_comes_back nodes t sizes f before s slab slab_now line leaves key e sound r others more (s.ops key) fresh a after
-      answers node (heard t (s.ops key) a (subst (λ (st : Stack). nodes.Is t e.node st) fresh r.is) shows) told gave put
+      full answers node (heard t (s.ops key) a (subst (λ (st : Stack). nodes.Is t e.node st) fresh r.is) shows) told gave put
       (line ++ key ∷ []) (queued_last key line))

@@ -21,12 +21,12 @@ use Rattle.zio_stages.specs.SpaceCalls.{SpaceCall, calls_back, calls_by}
 use Rattle.zio_graph.specs.Desks.{choices_by, choices_in, claim_asked, claims_asked}
 use Rattle.zio_graph.proofs.PlansOnly.{IsOver, NoFind, NoTake, TakesLast, TakesNone, takes, task_kinds}
 
-stands_early : (op : Task) (told : Option (Option Bp)) → FitsEarly early told (stand_in op told)
+pub stands_early : (op : Task) (told : Option (Option Bp)) → FitsEarly early told (stand_in op told)
 stands_early op None = tt
 stands_early (Attempt attempt p kids) (Some pointer) = refl
 stands_early _ (Some pointer) = refl
 
-stands_kind : (op : Task) (told : Option (Option Bp)) → IsAnswerTo op (stand_in op told)
+pub stands_kind : (op : Task) (told : Option (Option Bp)) → IsAnswerTo op (stand_in op told)
 stands_kind (Attempt attempt p kids) told = (_, refl, refl)
 stands_kind (WritePart attempt p sum copies levels path bytes) told = (_, refl)
 stands_kind _ told = tt

@@ -13,7 +13,7 @@ use Rattle.zio_trace.specs.Tasks.{Leaf, Value}
 use Rattle.zio_trace.specs.Underway.{State}
 use Rattle.zio_frames.specs.Frames.{Child, Flying, Stack, fresh_stack}
 use Rattle.zio_frames.specs.Moves.{Did, DoesAll, IsEnded, Took, choices_of}
-use Rattle.zio_frames.specs.OfRound.{FitsWhichever}
+use Rattle.zio_frames.specs.OfRound.{FitsWhichever, IsOfRound}
 use Rattle.zio_frames.specs.Running.{IsRunning, Later}
 use Rattle.zio_frames.specs.Seats.{IsSeated}
 use Rattle.zio_frames.specs.Slots.{Slot}
@@ -96,6 +96,15 @@ module _ {N : Type 0} (nodes : Nodes N) (t : Terms) (sizes : ℕ → ℕ) (f : F
       running_as t sizes f before trees (all_flying tops lives) (top ∷ rest) s k.running
       (top_forward {N = N} nodes t sizes f before trees tops shelf queue leaves s n top lives e) in
       r.running.seated.0
+
+  pub tree_of_round : (n : ℕ) (top : Flying) (lives : List Live) → KeptOf lives → top_at tops n ≡ Some top
+      → (seen : List Choice) × IsOfRound t f seen top.stack
+  tree_of_round n top lives k e =
+      let rest : List Flying = all_flying (slice_set tops n None) lives in
+      let r : Later t sizes f before trees (top ∷ rest) s.entries s.images =
+      running_as t sizes f before trees (all_flying tops lives) (top ∷ rest) s k.running
+      (top_forward {N = N} nodes t sizes f before trees tops shelf queue leaves s n top lives e) in
+      (r.state.entries, r.running.of_round.0)
 
   -- ---- at its leaf
 

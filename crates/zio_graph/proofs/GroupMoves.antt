@@ -10,6 +10,7 @@ use Rattle.zio_cksum.proofs.AllLemmas.{all_contains, all_weaker}
 use Rattle.zio_gang.specs.Attempts.{Terms}
 use Rattle.zio_groups.specs.declared.waiting.Answered.{Answered}
 use Rattle.zio_groups.specs.declared.waiting.Waiting.{Waiting}
+use Rattle.zio_groups.specs.Issued.{AreWhole}
 use Rattle.zio_trace.specs.Families.{Forest}
 use Rattle.zio_trace.specs.Leaves.{LeafOp, on_leaf}
 use Rattle.zio_trace.specs.SoundRounds.{IsSoundRound}
@@ -23,6 +24,7 @@ use Rattle.zio_graph.specs.Entries.{Held, Shelf, flying_at, times_in, top_at}
 use Rattle.zio_graph.specs.Grounds.{AreReady}
 use Rattle.zio_graph.specs.Parts.{Nodes}
 use Rattle.zio_graph.specs.Rounds.{Before, ComesBack, IsAtLeaf, KeepsRound, SoFar, with_images}
+use Rattle.zio_graph.specs.Sizes.{HasAskedSize}
 use Rattle.zio_graph.specs.Slabs.{AreAll, load, shelf_of}
 use Rattle.zio_graph.specs.Stages.{ShowsAnswer}
 use Rattle.zio_graph.specs.UnderTurns.{AreAtLeaves, AreLent, ComeBack, FitDisks, GiveAnswers, GoesOnSome, IssuesOn, TellNow, keys_answered}
@@ -33,6 +35,7 @@ use Rattle.zio_graph.proofs.HandedLemmas.{shows_some}
 use Rattle.zio_graph.proofs.KeyLengths.{length_leave}
 use Rattle.zio_graph.proofs.KeyTimes.{times_append}
 use Rattle.zio_graph.proofs.Queues.{queued_first}
+use Rattle.zio_graph.proofs.SizeMoves.{answers_full}
 
 -- ---- the leaves' keys in another order
 
@@ -94,27 +97,43 @@ other_keys : (k m : ℕ) (ks ms : List ℕ) → k ∷ ks ≡ m ∷ ms → ks ≡
 other_keys k m ks ms e = cc
 
 give_done : (t : Terms) (before : Images) (ops : ℕ → LeafOp) (ws : List Waiting) (bs : List Answered) (images left : Images)
+    → (leaf : ℕ) → AllByRecursion (λ (w : Waiting). WaitsFor leaf (ops (key_of w)) w) ws → AreWhole ws bs
     → keys_answered bs ≡ keys_in ws → AreDone t.setting (ops_for ops ws) bs images left
     → GiveAnswers t (Some before) ops bs images left
-give_done t before ops [] [] images left keys h = h
-give_done t before ops [] (b ∷ bs) images left keys h = absurd h
-give_done t before ops (w ∷ ws) [] images left keys h = absurd h
-give_done t before ops (w ∷ ws) (b ∷ bs) images left keys h =
+give_done t before ops [] [] images left leaf waits whole keys h = h
+give_done t before ops [] (b ∷ bs) images left leaf waits whole keys h = absurd h
+give_done t before ops (w ∷ ws) [] images left leaf waits whole keys h = absurd h
+give_done t before ops (w ∷ ws) (b ∷ bs) images left leaf waits whole keys h =
     let op : ops (key_of w) ≡ ops b.ticket = ap ops (sym (first_key b.ticket (key_of w) (keys_answered bs) (keys_in ws) keys)) in
     let act : LeafOp = ops b.ticket in (
       (on_leaf t.setting act images).value,
       (on_leaf t.setting act images).images,
       subst (λ (a : LeafOp). ShowsAnswer a b.error b.bytes (on_leaf t.setting a images).value) op h.0,
+      subst (λ (a : LeafOp). HasAskedSize a (on_leaf t.setting a images).value) op
+          (answers_full leaf (ops (key_of w)) w b (on_leaf t.setting (ops (key_of w)) images).value waits.0 whole.0 h.0),
       (refl, refl),
-      give_done t before ops ws bs (on_leaf t.setting act images).images left
+      give_done t before ops ws bs (on_leaf t.setting act images).images left leaf waits.1 whole.1
           (other_keys b.ticket (key_of w) (keys_answered bs) (keys_in ws) keys)
           (subst (λ (a : LeafOp). AreDone t.setting (ops_for ops ws) bs (on_leaf t.setting a images).images left) op h.1),
     )
 
-give_any : (t : Terms) (ops : ℕ → LeafOp) (bs : List Answered) (images : Images) → GiveAnswers t None ops bs images images
-give_any t ops [] images = refl
-give_any t ops (b ∷ bs) images =
-    let a = shows_some (ops b.ticket) b.error b.bytes in (a.0, images, a.1, tt, give_any t ops bs images)
+give_any : (t : Terms) (ops : ℕ → LeafOp) (ws : List Waiting) (bs : List Answered) (images : Images) (leaf : ℕ)
+    → AllByRecursion (λ (w : Waiting). WaitsFor leaf (ops (key_of w)) w) ws → AreWhole ws bs → keys_answered bs ≡ keys_in ws
+    → GiveAnswers t None ops bs images images
+give_any t ops [] [] images leaf waits whole keys = refl
+give_any t ops [] (b ∷ bs) images leaf waits whole keys = absurd whole
+give_any t ops (w ∷ ws) [] images leaf waits whole keys = absurd whole
+give_any t ops (w ∷ ws) (b ∷ bs) images leaf waits whole keys =
+    let op : ops b.ticket ≡ ops (key_of w) = ap ops (first_key b.ticket (key_of w) (keys_answered bs) (keys_in ws) keys) in
+    let a = shows_some (ops b.ticket) b.error b.bytes in
+    let waits_it : WaitsFor leaf (ops b.ticket) w = subst (λ (act : LeafOp). WaitsFor leaf act w) (sym op) waits.0 in (
+      a.0,
+      images,
+      a.1,
+      answers_full leaf (ops b.ticket) w b a.0 waits_it whole.0 a.1,
+      tt,
+      give_any t ops ws bs images leaf waits.1 whole.1 (other_keys b.ticket (key_of w) (keys_answered bs) (keys_in ws) keys),
+    )
 
 -- ---- one answer after another
 
@@ -141,8 +160,8 @@ module _ {N : Type 0} (nodes : Nodes N) (slab : Slab (Entry N)) (line : List ℕ
       let a = so.2 in (
         a.1,
         back t sizes f before (with_images s so.0) (b.ticket ∷ (keys_answered rest ++ others)) (keys_answered rest ++ others) sound
-            (queued_first b.ticket (keys_answered rest ++ others)) so.1 a.0 a.1 a.2 a.3,
-        a.4,
+            (queued_first b.ticket (keys_answered rest ++ others)) so.1 a.0 a.1 a.2 a.3 a.4,
+        a.5,
       )
 
   pub all_came : (slab_now : Slab (Entry N)) (line_now : List ℕ) (bs : List Answered) → HaveCome slab_now line_now bs → bs ≡ []
@@ -204,12 +223,16 @@ module _ {N D : Type 0} (nodes : Nodes N) (bytes : D → ℕ) (image : D → Lis
   pub group_gives : (t : Terms) (before : Before) (ops : ℕ → LeafOp) (images : Images) → t.setting ≡ g.setting
       → AllWait (λ at w. WaitsFor at (ops (key_of w)) w) g.queues.leaves.items → TellNow {D = D} image before g.disks.items images
       → (left : Images) × GiveAnswers t before ops answers images left × TellNow {D = D} image before now.disks.items left
-  group_gives t None ops images setting waits tell = (images, give_any t ops answers images, tt)
+  group_gives t None ops images setting waits tell = (
+    images,
+    give_any t ops issued.members answers images leaf (members_wait ops waits) issued.whole issued.keys,
+    tt,
+  )
   group_gives t (Some told) ops images setting waits tell =
       let done = issued.done (ops_for ops issued.members) images
       (wait_for_theirs leaf ops issued.members (members_wait ops waits)) tell in (
         done.0,
-        give_done t told ops issued.members answers images done.0 issued.keys
+        give_done t told ops issued.members answers images done.0 leaf (members_wait ops waits) issued.whole issued.keys
             (subst (λ (x : Setting). AreDone x (ops_for ops issued.members) answers images done.0) (sym setting) done.1),
         done.2,
       )

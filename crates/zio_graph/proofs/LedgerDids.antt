@@ -1,6 +1,6 @@
 -- What a node does itself adds what it found to what it holds, and nothing to the requests that it heard of.
-use Rattle.std.proofs.Common.{◌≡◌, ℕ, zero, suc, ◌+◌, ◌<◌, ◌≤◌, List, [], ◌∷◌, ◌++◌, length, length-append, slice_get, slice_set, Bool, true, false, cond, Option, Some, None, refl, sym, ap, ◌∙◌, subst, arith, ◌⊎◌, inl, inr}
-use Rattle.std.specs.List.{flat_map}
+use Rattle.std.proofs.Common.{◌≡◌, ℕ, zero, suc, ◌+◌, List, [], ◌∷◌, ◌++◌, length, length-append, slice_get, slice_set, Bool, true, false, cond, Option, Some, None, refl, sym, ap, ◌∙◌, subst, arith}
+use Rattle.std.specs.List.{AllByRecursion, flat_map}
 use Rattle.std.proofs.lemmas.List.{append-nil, length-set}
 use Rattle.std.proofs.lemmas.List.Concat.{flat_map-append}
 use Rattle.zio_types.specs.declared.place.Place.{Place}
@@ -11,25 +11,27 @@ use Rattle.zio_gang.specs.declared.tree.Tree.{Tree}
 use Rattle.zio_gang.specs.Attempts.{Ended, Terms}
 use Rattle.zio_gang.specs.Trees.{tree_places}
 use Rattle.zio_gang.specs.Writes.{places_unless}
-use Rattle.zio_trace.specs.Conflicts.{is_single}
+use Rattle.zio_trace.specs.Families.{Forest}
 use Rattle.zio_trace.specs.Entries.{answer_to}
 use Rattle.zio_trace.specs.Programs.{Ends}
 use Rattle.zio_trace.specs.Tasks.{Find, Found, TakePlaces, Taken, Task, Value}
-use Rattle.zio_frames.specs.Frames.{Child, Inner, Stack, left_of}
+use Rattle.zio_frames.specs.Frames.{Inner, Stack, left_of}
 use Rattle.zio_frames.specs.Moves.{Chose, Closed, Did, Does, DoesAll, Opened, Took, closed, done_at_once, opened}
 use Rattle.zio_frames.specs.Seats.{InnerFits, IsSeated}
 use Rattle.zio_frames.specs.Slots.{Heard, IsOut, Slot}
-use Rattle.zio_frames.proofs.GetLemmas.{get_last, get_more}
+use Rattle.zio_frames.proofs.GetLemmas.{get_last}
 use Rattle.zio_stages.specs.Outcomes.{found_in as found_by_value, held_by, places_by, places_in, places_with, taken_in}
+use Rattle.zio_stages.specs.OwnParts.{IsDoneWithin, OpensWithin}
 use Rattle.zio_stages.specs.SpaceCalls.{SpaceCall, call_by, calls_by}
 use Rattle.zio_graph.specs.Desks.{found_in}
-use Rattle.zio_graph.specs.Ledgers.{SeatsBelow}
-use Rattle.zio_graph.specs.Parts.{Nodes, ended_by, ended_in, ended_in_slot}
-use Rattle.zio_graph.specs.Stages.{AreHandedOut, IsHandedOut, IsWithin}
+use Rattle.zio_graph.specs.Parts.{ended_by, ended_in, ended_in_slot}
+use Rattle.zio_graph.specs.Rests.{HasRests}
+use Rattle.zio_graph.specs.Stages.{AreHandedOut}
 use Rattle.zio_graph.proofs.DeskLemmas.{found_both}
 use Rattle.zio_graph.proofs.LedgerPerms.{set_same}
 use Rattle.zio_graph.proofs.Links.{some_is}
-use Rattle.zio_graph.proofs.Withins.{value_within, within_part, within_places, IsQuiet, asks_quiet, handed_or_quiet, not_quiet}
+use Rattle.zio_graph.proofs.RestLemmas.{quiet_rests, slots_asked, slots_quiet}
+use Rattle.zio_graph.proofs.Withins.{IsQuiet, value_within, within_places, within_quiet}
 
 -- ---- places by operations
 
@@ -92,10 +94,11 @@ ended_more slots slot none =
 
 -- ---- what stands before a node does something itself
 
-abbrev InnerStands : Stack → Option Inner → Type 0
+abbrev pub InnerStands : Stack → Option Inner → Type 0
 InnerStands st None = Unit {0}
 InnerStands st (Some i) =
-    (slice_get st.outer.slots i.number ≡ Some (IsOut None)) × (slice_get st.outer.asked i.number ≡ Some i.frame.op) × IsWithin i.frame.op
+    (slice_get st.outer.slots i.number ≡ Some (IsOut None)) × (slice_get st.outer.asked i.number ≡ Some i.frame.op)
+    × IsDoneWithin i.frame.op
 
 pub record Stands (st : Stack) : Type 0 where
   pub full : length st.outer.asked ≡ length st.outer.slots
@@ -108,29 +111,17 @@ inner_by st (Some i) e fits out = (fits.1, fits.2, out.within i e)
 pub stands : (st : Stack) → IsSeated st → AreHandedOut st → Stands st
 stands st seated out = record { full = seated.outer.lengths; inner = inner_by st st.inner refl seated.inner out }
 
--- a node hands each request and each part out
-abbrev pub Hands : {N : Type 0} → Nodes N → Type 0
-Hands {N = N} nodes = (t : Terms) (node : N) (st : Stack) → nodes.Is t node st → AreHandedOut st
-
 -- ---- one thing
 
 pub record HasDone (a b : Stack) (calls : List SpaceCall) : Type 0 where
   pub ended : ended_in b ≡ ended_in a
   pub held : (w : Place → ℕ) → total w (held_by b) ≡ total w (held_by a) + total w (found_in calls)
-  pub children : b.children ≡ a.children
-  pub longer : length a.outer.slots ≤ length b.outer.slots
   pub stands : Stands b
-
-abbrev NewWithin : Did → Type 0
-NewWithin (Opened op) = IsHandedOut op → ⊥
-NewWithin _ = Unit {0}
+  pub rests : (f : Forest) (ended : List ℕ) → HasRests f ended a → HasRests f ended b
 
 more_long : {X Y : Type 0} (xs : List X) (ys : List Y) (x : X) (y : Y) → length xs ≡ length ys
     → length (xs ++ x ∷ []) ≡ length (ys ++ y ∷ [])
 more_long xs ys x y e = let a = length-append xs (x ∷ []) in let b = length-append ys (y ∷ []) in omega arith
-
-more_longer : {X : Type 0} (xs : List X) (x : X) → length xs ≤ length (xs ++ x ∷ [])
-more_longer xs x = let a = length-append xs (x ∷ []) in omega arith
 
 found_chosen : (w : Place → ℕ) (b : Bool) (c : Choice) → total w (found_by_value (Found (places_unless b c))) ≡ total w (cond b [] c.places)
 found_chosen w true c = refl
@@ -141,29 +132,33 @@ taken_free w tree true = refl
 taken_free w tree false = refl
 
 -- a single operation of its own
-does_single : (a : Stack) (op : Task) (v : Value) (calls : List SpaceCall) → Stands a → ended_by v ≡ []
+does_single : (a : Stack) (op : Task) (v : Value) (calls : List SpaceCall) → Stands a → IsQuiet op → ended_by v ≡ []
     → ((w : Place → ℕ) → total w (places_by op v) ≡ total w (found_in calls)) → HasDone a (done_at_once a op v) calls
-does_single a op v calls s none found = record {
+does_single a op v calls s quiet none found = record {
   ended = ended_more a.outer.slots (Heard v) none;
   held = λ w. omega (arith, places_more w a.outer.asked a.outer.slots op (Heard v) s.full, found w);
-  children = refl;
-  longer = more_longer a.outer.slots (Heard v);
   stands = record { full = more_long a.outer.asked a.outer.slots op (Heard v) s.full; inner = tt };
+  rests = λ f ended h. record {
+    own = h.own;
+    heard = slots_asked f ended a.outer.asked a.outer.slots op (Heard v) s.full h.heard (quiet_rests f ended op v quiet);
+  };
 }
 
-does_open : (a : Stack) (op : Task) → Stands a → is_single op ≡ false → (IsHandedOut op → ⊥) → HasDone a (opened a op) []
-does_open a op s part not = record {
+does_open : (a : Stack) (op : Task) → Stands a → IsDoneWithin op → HasDone a (opened a op) []
+does_open a op s within = record {
   ended = ended_more a.outer.slots (IsOut None) refl;
   held = λ w. omega (arith, places_more w a.outer.asked a.outer.slots op (IsOut None) s.full);
-  children = refl;
-  longer = more_longer a.outer.slots (IsOut None);
   stands = record {
     full = more_long a.outer.asked a.outer.slots op (IsOut None) s.full;
     inner = (
       get_last a.outer.slots (IsOut None),
       ap (slice_get (a.outer.asked ++ op ∷ [])) (sym s.full) ∙ get_last a.outer.asked op,
-      within_part op part not,
+      within,
     );
+  };
+  rests = λ f ended h. record {
+    own = h.own;
+    heard = slots_asked f ended a.outer.asked a.outer.slots op (IsOut None) s.full h.heard tt;
   };
 }
 
@@ -175,80 +170,53 @@ does_close t a i v s h left = record {
   held = λ w.
       let none : total w (places_by i.frame.op v) ≡ 0 = ap (total w) (within_places i.frame.op v h.2) in
       omega (arith, none, places_heard w a.outer.asked a.outer.slots i.number i.frame.op None v h.1 h.0);
-  children = refl;
-  longer = let e = length-set a.outer.slots i.number (Heard v) in omega arith;
   stands = record { full = s.full ∙ sym (length-set a.outer.slots i.number (Heard v)); inner = tt };
+  rests = λ f ended k. record {
+    own = k.own;
+    heard = slots_quiet f ended a.outer.asked a.outer.slots i.number i.frame.op v h.1 (within_quiet i.frame.op h.2) k.heard;
+  };
 }
 
-does_one : (t : Terms) (did : Did) (a b : Stack) → Does t did a b → Stands a → NewWithin did → HasDone a b (call_by did)
-does_one t (Opened op) a b h s new = subst (λ (x : Stack). HasDone a x []) (sym h.3) (does_open a op s h.1 new)
-does_one t (Closed v) a b h s new =
+does_one : (t : Terms) (did : Did) (a b : Stack) → Does t did a b → Stands a → OpensWithin did → HasDone a b (call_by did)
+does_one t (Opened op) a b h s within = subst (λ (x : Stack). HasDone a x []) (sym h.3) (does_open a op s within)
+does_one t (Closed v) a b h s within =
     subst (λ (x : Stack). HasDone a x []) (sym h.4)
     (does_close t a h.0 v s (subst (InnerStands a) h.1 s.inner) h.3)
-does_one t (Chose c) a b h s new =
+does_one t (Chose c) a b h s within =
     subst (λ (x : Stack). HasDone a x (call_by (Chose c))) (sym h.2)
-    (does_single a (Find c.asked) (answer_to c) (call_by (Chose c)) s refl
+    (does_single a (Find c.asked) (answer_to c) (call_by (Chose c)) s tt refl
     (λ w. omega (arith, found_chosen w (is_refused c) c, total-append w (taken_by c) [])))
-does_one t (Took tree free) a b h s new =
+does_one t (Took tree free) a b h s within =
     subst (λ (x : Stack). HasDone a x (call_by (Took tree free))) (sym h.2)
-    (does_single a (TakePlaces tree) (Taken free) (call_by (Took tree free)) s refl
+    (does_single a (TakePlaces tree) (Taken free) (call_by (Took tree free)) s tt refl
     (λ w. omega (arith, taken_free w tree free, total-append w (cond free (tree_places tree) []) [])))
 
 -- ---- several
 
-longer_one : (t : Terms) (did : Did) (a b : Stack) → Does t did a b → length a.outer.slots ≤ length b.outer.slots
-longer_one t (Opened op) a b h =
-    subst (λ (x : Stack). length a.outer.slots ≤ length x.outer.slots) (sym h.3) (more_longer a.outer.slots (IsOut None))
-longer_one t (Closed v) a b h =
-    subst (λ (x : Stack). length a.outer.slots ≤ length x.outer.slots) (sym h.4)
-    (let e = length-set a.outer.slots h.0.number (Heard v) in omega arith)
-longer_one t (Chose c) a b h =
-    subst (λ (x : Stack). length a.outer.slots ≤ length x.outer.slots) (sym h.2) (more_longer a.outer.slots (Heard (answer_to c)))
-longer_one t (Took tree free) a b h =
-    subst (λ (x : Stack). length a.outer.slots ≤ length x.outer.slots) (sym h.2) (more_longer a.outer.slots (Heard (Taken free)))
+does_many : (t : Terms) (dids : List Did) (a b : Stack) → DoesAll t dids a b → AllByRecursion OpensWithin dids → Stands a
+    → HasDone a b (calls_by dids)
+does_many t [] a b h opens s = subst (λ (x : Stack). HasDone a x []) (sym h) (record {
+  ended = refl;
+  held = λ w. omega arith;
+  stands = s;
+  rests = λ f ended k. k;
+})
+does_many t (did ∷ dids) a b h opens s =
+    let mid : Stack = h.0 in
+    let one : HasDone a mid (call_by did) = does_one t did a mid h.1 s opens.0 in
+    let rest : HasDone mid b (calls_by dids) = does_many t dids mid b h.2 opens.1 one.stands in
+    record {
+      ended = rest.ended ∙ one.ended;
+      held = λ w. omega (arith, one.held w, rest.held w, found_both w (call_by did) (calls_by dids));
+      stands = rest.stands;
+      rests = λ f ended k. rest.rests f ended (one.rests f ended k);
+    }
 
-longer_all : (t : Terms) (dids : List Did) (a b : Stack) → DoesAll t dids a b → length a.outer.slots ≤ length b.outer.slots
-longer_all t [] a b h = subst (λ (x : Stack). length a.outer.slots ≤ length x.outer.slots) (sym h) (omega arith)
-longer_all t (did ∷ dids) a b h =
-    let one = longer_one t did a h.0 h.1 in let rest = longer_all t dids h.0 b h.2 in omega arith
+pub does_itself : (t : Terms) (dids : List Did) (a b : Stack) → DoesAll t dids a b → AllByRecursion OpensWithin dids → IsSeated a
+    → AreHandedOut a → HasDone a b (calls_by dids)
+does_itself t dids a b h opens seated hands = does_many t dids a b h opens (stands a seated hands)
 
-kept_one : (t : Terms) (did : Did) (a b : Stack) (n : ℕ) (op : Task) → Does t did a b → slice_get a.outer.asked n ≡ Some op
-    → slice_get b.outer.asked n ≡ Some op
-kept_one t (Opened new) a b n op h e =
-    subst (λ (x : Stack). slice_get x.outer.asked n ≡ Some op) (sym h.3) (get_more a.outer.asked new op n e)
-kept_one t (Closed v) a b n op h e = subst (λ (x : Stack). slice_get x.outer.asked n ≡ Some op) (sym h.4) e
-kept_one t (Chose c) a b n op h e =
-    subst (λ (x : Stack). slice_get x.outer.asked n ≡ Some op) (sym h.2) (get_more a.outer.asked (Find c.asked) op n e)
-kept_one t (Took tree free) a b n op h e =
-    subst (λ (x : Stack). slice_get x.outer.asked n ≡ Some op) (sym h.2) (get_more a.outer.asked (TakePlaces tree) op n e)
-
-kept_all : (t : Terms) (dids : List Did) (a b : Stack) (n : ℕ) (op : Task) → DoesAll t dids a b
-    → slice_get a.outer.asked n ≡ Some op → slice_get b.outer.asked n ≡ Some op
-kept_all t [] a b n op h e = subst (λ (x : Stack). slice_get x.outer.asked n ≡ Some op) (sym h) e
-kept_all t (did ∷ dids) a b n op h e = kept_all t dids h.0 b n op h.2 (kept_one t did a h.0 n op h.1 e)
-
--- of what comes behind these many nothing is handed out
-abbrev pub NoneBehind : ℕ → Stack → Type 0
-NoneBehind k b = (n : ℕ) (op : Task) → k ≤ n → n < length b.outer.slots → slice_get b.outer.asked n ≡ Some op → IsHandedOut op → ⊥
-
--- or nothing that it asks may be handed out
-abbrev pub IsPlain : ℕ → Stack → Stack → Type 0
-IsPlain k a b = NoneBehind k b ⊎ IsQuiet a.outer.op
-
-new_within : (t : Terms) (did : Did) (dids : List Did) (a mid b : Stack) → Does t did a mid → DoesAll t dids mid b → Stands a
-    → IsPlain (length a.outer.slots) a b → NewWithin did
-new_within t (Opened op) dids a mid b h rest s (inr quiet) = not_quiet op (asks_quiet t a.outer op quiet h.2)
-new_within t (Opened op) dids a mid b h rest s (inl none) = λ out.
-    let asked : slice_get mid.outer.asked (length a.outer.slots) ≡ Some op =
-    ap (λ (x : Stack). slice_get x.outer.asked (length a.outer.slots)) h.3
-    ∙ (ap (slice_get (a.outer.asked ++ op ∷ [])) (sym s.full) ∙ get_last a.outer.asked op) in
-    let one : length mid.outer.slots ≡ length (a.outer.slots ++ IsOut None ∷ []) = ap (λ (x : Stack). length x.outer.slots) h.3 in
-    let two = length-append a.outer.slots (IsOut None ∷ []) in
-    let three : length mid.outer.slots ≤ length b.outer.slots = longer_all t dids mid b rest in
-    none (length a.outer.slots) op (omega arith) (omega arith) (kept_all t dids mid b (length a.outer.slots) op rest asked) out
-new_within t (Closed v) dids a mid b h rest s plain = tt
-new_within t (Chose c) dids a mid b h rest s plain = tt
-new_within t (Took tree free) dids a mid b h rest s plain = tt
+-- ---- its part stays
 
 op_one : (t : Terms) (did : Did) (a b : Stack) → Does t did a b → b.outer.op ≡ a.outer.op
 op_one t (Opened op) a b h = ap (λ (x : Stack). x.outer.op) h.3
@@ -256,52 +224,6 @@ op_one t (Closed v) a b h = ap (λ (x : Stack). x.outer.op) h.4
 op_one t (Chose c) a b h = ap (λ (x : Stack). x.outer.op) h.2
 op_one t (Took tree free) a b h = ap (λ (x : Stack). x.outer.op) h.2
 
-still_plain : (t : Terms) (did : Did) (a mid b : Stack) → Does t did a mid → length a.outer.slots ≤ length mid.outer.slots
-    → IsPlain (length a.outer.slots) a b → IsPlain (length mid.outer.slots) mid b
-still_plain t did a mid b h longer (inl none) = inl (λ n op far. none n op (omega arith))
-still_plain t did a mid b h longer (inr quiet) = inr (subst IsQuiet (sym (op_one t did a mid h)) quiet)
-
-pub does_many : (t : Terms) (dids : List Did) (a b : Stack) → DoesAll t dids a b → Stands a → IsPlain (length a.outer.slots) a b
-    → HasDone a b (calls_by dids)
-does_many t [] a b h s plain = subst (λ (x : Stack). HasDone a x []) (sym h) (record {
-  ended = refl;
-  held = λ w. omega arith;
-  children = refl;
-  longer = omega arith;
-  stands = s;
-})
-does_many t (did ∷ dids) a b h s plain =
-    let mid : Stack = h.0 in
-    let one : HasDone a mid (call_by did) = does_one t did a mid h.1 s (new_within t did dids a mid b h.1 h.2 s plain) in
-    let rest : HasDone mid b (calls_by dids) =
-    does_many t dids mid b h.2 one.stands (still_plain t did a mid b h.1 one.longer plain) in
-    record {
-      ended = rest.ended ∙ one.ended;
-      held = λ w. omega (arith, one.held w, rest.held w, found_both w (call_by did) (calls_by dids));
-      children = rest.children ∙ one.children;
-      longer = let l = one.longer in let m = rest.longer in omega arith;
-      stands = rest.stands;
-    }
-
--- ---- where its children sit
-
-pub seats_after : (a b : Stack) → b.children ≡ a.children → length a.outer.slots ≤ length b.outer.slots → SeatsBelow a → SeatsBelow b
-seats_after a b same longer seats = λ k c n is seat.
-    let less = seats k c n (ap (λ (cs : List Child). slice_get cs k) (sym same) ∙ is) seat in omega arith
-
--- its part stays
 pub does_ops : (t : Terms) (dids : List Did) (a b : Stack) → DoesAll t dids a b → b.outer.op ≡ a.outer.op
 does_ops t [] a b h = ap (λ (x : Stack). x.outer.op) h
 does_ops t (did ∷ dids) a b h = does_ops t dids h.0 b h.2 ∙ op_one t did a h.0 h.1
-
--- what it does where a child does each part of it
-pub does_itself : (t : Terms) (dids : List Did) (a b : Stack) → DoesAll t dids a b → IsSeated a → AreHandedOut a → SeatsBelow a
-    → AreHandedOut b → b.children ≡ a.children → HasDone a b (calls_by dids)
-does_itself t dids a b h seated before seats after same = does_many t dids a b h (stands a seated before) (plain (handed_or_quiet a.outer.op))
-  where
-    plain : IsHandedOut a.outer.op ⊎ IsQuiet a.outer.op → IsPlain (length a.outer.slots) a b
-    plain (inr quiet) = inr quiet
-    plain (inl big) = inl (λ n op far near asked out.
-        let at = after.by_child (subst IsHandedOut (sym (does_ops t dids a b h)) big) n op asked out in
-        let less = seats at.0 at.1 n (ap (λ (cs : List Child). slice_get cs at.0) (sym same) ∙ at.2) at.3 in
-        absurd (omega arith))

@@ -167,6 +167,7 @@ pub record IsMore (t : Terms) (f : Forest) (st : Stack) (outcome : Outcome) (end
   pub told : AreToldAs (finished_in outcome) more
   pub are : all_ended more ≡ ended
   pub each : AllByRecursion (IsEnding t f) more
+  pub by : AllByRecursion (λ (x : Ending). (h : IsEnding t f x) × (h.stack ≡ st)) more
   pub behind : (front : List Ended) → AllByRecursion (Contains front) (ended_in st) → AreBehind front more
   pub freed : (w : Place → ℕ) → total w (freed_in more) ≡ total w (freed_by st.outer.op outcome)
   pub made : (w : Place → ℕ) → total w (made_in more) ≡ total w (made_by outcome)
@@ -179,6 +180,7 @@ none_more t f st outcome ended none no_ended no_freed no_made = record {
   told = subst (λ (fs : List Finished). AreToldAs fs []) (sym none) tt;
   are = sym no_ended;
   each = tt;
+  by = tt;
   behind = λ front h. tt;
   freed = λ w. sym (ap (total w) no_freed);
   made = λ w. sym (ap (total w) no_made);
@@ -218,26 +220,25 @@ module _ (t : Terms) (f : Forest) (entries : List Choice) (st : Stack) (v : Valu
       ap (λ (o : Option Errno). freed_if (is_none o) (freed_of p.request.work p.block)) is.error in
       let made : flat_map tree_places (option_to_list e.tree) ≡ made_by (HasFinished x) =
       ap (λ (o : Option Tree). flat_map tree_places (option_to_list o)) is.tree in
+      let it : IsEnding t f new = record {
+        attempt = attempt;
+        kids = kids;
+        one = one;
+        stack = st;
+        from = task;
+        does = does;
+        ends = now;
+        none_again = fits.again;
+        none_left = fits.left;
+        ended_are = own;
+        number = number;
+      } in
       record {
         more = new ∷ [];
         told = (is, tt);
         are = sym only;
-        each = (
-          record {
-            attempt = attempt;
-            kids = kids;
-            one = one;
-            stack = st;
-            from = task;
-            does = does;
-            ends = now;
-            none_again = fits.again;
-            none_left = fits.left;
-            ended_are = own;
-            number = number;
-          },
-          tt,
-        );
+        each = (it, tt);
+        by = ((it, refl), tt);
         behind = λ front h. (h, tt);
         freed = λ w. ap (total w) (append-nil (freed_if (is_none e.error) (freed_of p.request.work p.block)) ∙ (error ∙ sym freed));
         made = λ w. ap (total w) (append-nil (flat_map tree_places (option_to_list e.tree)) ∙ made);

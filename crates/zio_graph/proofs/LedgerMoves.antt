@@ -1,5 +1,5 @@
 -- The books of a round, move by move.
-use Rattle.std.proofs.Common.{◌≡◌, ℕ, zero, suc, ◌+◌, List, [], ◌∷◌, ◌++◌, slice_get, slice_set, Option, Some, None, ◌⊎◌, ◌≢◌, inl, inr, refl, sym, ap, ◌∙◌, subst, arith, append_assoc, ◌≤◌}
+use Rattle.std.proofs.Common.{◌≡◌, ℕ, zero, suc, ◌+◌, List, [], ◌∷◌, ◌++◌, slice_get, slice_set, Option, Some, None, ◌⊎◌, inl, inr, refl, sym, ap, ◌∙◌, subst, arith, append_assoc, ◌≤◌}
 use Rattle.std.specs.Prelude.{Contains, IsPermutation}
 use Rattle.std.specs.List.{AllByRecursion, flat_map, sum_by}
 use Rattle.std.proofs.lemmas.List.{append-nil}
@@ -14,14 +14,14 @@ use Rattle.zio_places.proofs.PlaceLemmas.{total-append}
 use Rattle.zio_cksum.proofs.AllLemmas.{all_append, all_contained, all_weaker}
 use Rattle.zio_gang.specs.Attempts.{Ended, Terms}
 use Rattle.zio_trace.specs.Families.{Forest}
-use Rattle.zio_trace.specs.Rounds.{settles}
+use Rattle.zio_trace.specs.Keys.{NumbersOnce}
+use Rattle.zio_trace.specs.Rounds.{AreTrees, settles}
 use Rattle.zio_trace.specs.Tasks.{Task, Value, settled}
 use Rattle.zio_trace.proofs.AnyOrder.{all_permuted}
 use Rattle.zio_frames.specs.Frames.{Flying, fresh_stack}
 use Rattle.zio_frames.specs.Moves.{Chose, Closed, Did, Opened, Took}
 use Rattle.zio_frames.specs.Running.{all_out, settling_from}
 use Rattle.zio_frames.specs.Slots.{Heard, IsOut, Slot}
-use Rattle.zio_frames.proofs.GetLemmas.{get_exchanged}
 use Rattle.zio_frames.proofs.PermLemmas.{swap_fronts}
 use Rattle.zio_stages.specs.Outcomes.{held_by, places_by}
 use Rattle.zio_stages.specs.SpaceCalls.{SpaceCall, calls_back, calls_by}
@@ -29,16 +29,23 @@ use Rattle.zio_stages.specs.declared.outcome.Outcome.{Outcome}
 use Rattle.slab.specs.Slab.{Slab}
 use Rattle.zio_graph.specs.Desks.{backs_in, choices_in, claims_in, found_in, taken_by_all}
 use Rattle.zio_graph.specs.Entries.{Live, all_tops, live_of, new_flying}
-use Rattle.zio_graph.specs.Ledgers.{AreBehind, Books, Ending, IsEnding, IsLedger, IsOfTree, SeatsBelow, all_ended, ended_of_top, ended_of_tree, ended_of_trees, ended_with, found_so_far, freed_for, freed_in, gave_over, held_over, made_for, made_in, no_books}
+use Rattle.zio_graph.specs.Ledgers.{AreBehind, Books, Ending, IsEnding, IsLedger, IsOfTree, all_ended, ended_of_top, ended_of_tree, ended_of_trees, ended_with, found_so_far, freed_for, freed_in, gave_over, held_over, made_for, made_in, no_books}
 use Rattle.zio_graph.specs.Parts.{Nodes, ended_by, ended_in}
+use Rattle.zio_graph.specs.Rests.{HasRests, HasRestsIn, numbers_ended}
+use Rattle.zio_graph.specs.Sizes.{FitsBodies, HasSizes}
 use Rattle.zio_graph.specs.Slabs.{left_in}
+use Rattle.zio_graph.specs.Stages.{AreHandedOut}
 use Rattle.zio_graph.specs.declared.entry.Entry.{Entry}
 use Rattle.zio_graph.proofs.DeskLemmas.{found_both, split_in}
+use Rattle.zio_graph.proofs.LedgerChildren.{children_begin, children_end, children_first, children_new, children_no_top, children_order, children_root_end, children_second, children_top, ended_both, numbers_among, tops_set}
 use Rattle.zio_graph.proofs.LedgerEnds.{IsMore, PlacesEnd}
+use Rattle.zio_graph.proofs.LedgerHands.{hands_fresh}
 use Rattle.zio_graph.proofs.LedgerHears.{HasHeardEarly, HasHeardIt}
 use Rattle.zio_graph.proofs.LedgerPerms.{books_more, same_moved, set_less, set_more, set_same, with_heard, with_order, with_same}
 use Rattle.zio_graph.proofs.Links.{some_is}
 use Rattle.zio_graph.proofs.PlaceTotals.{contained}
+use Rattle.zio_graph.proofs.RestLemmas.{EndLeaves, IsAmong}
+use Rattle.zio_graph.proofs.SizeLemmas.{EndSizes}
 
 -- ---- calls
 
@@ -131,10 +138,6 @@ made_both w done more = ap (total w) (flat_map-append made_for done more) ∙ to
 
 -- ---- behind those below
 
-ended_both : (done more : List Ending) → all_ended (done ++ more) ≡ all_ended done ++ all_ended more
-ended_both [] more = refl
-ended_both (x ∷ done) more = ap (λ (es : List Ended). x.ended ∷ es) (ended_both done more)
-
 behind_both : (front : List Ended) (done more : List Ending) → AreBehind front done → AreBehind (front ++ all_ended done) more
     → AreBehind front (done ++ more)
 behind_both front [] more h k = subst (λ (es : List Ended). AreBehind es more) (append-nil front) k
@@ -156,11 +159,7 @@ trees_set : (tops : List (Option Flying)) (n : ℕ) (now : Option Flying)
     → ((k : ℕ) (top : Flying) → slice_get tops k ≡ Some (Some top) → IsOfTree top.stack)
     → ((top : Flying) → now ≡ Some top → IsOfTree top.stack)
     → (k : ℕ) (top : Flying) → slice_get (slice_set tops n now) k ≡ Some (Some top) → IsOfTree top.stack
-trees_set tops n now all own k top e = by (get_exchanged tops n k now (Some top) e)
-  where
-    by : ((k ≡ n) × (now ≡ Some top)) ⊎ ((k ≢ n) × (slice_get tops k ≡ Some (Some top))) → IsOfTree top.stack
-    by (inl is) = own top is.1
-    by (inr other) = all k top other.1
+trees_set tops n now = tops_set (λ (x : Flying). IsOfTree x.stack) tops n now
 
 of_same : (b top : Flying) → Some b ≡ Some top → IsOfTree b.stack → IsOfTree top.stack
 of_same b top e h = subst (λ (x : Flying). IsOfTree x.stack) (some_is b top e) h
@@ -187,18 +186,23 @@ module _ {N : Type 0} (nodes : Nodes N) (t : Terms) (f : Forest) (books : Books)
         places = λ w. omega (arith, l.places w, same w);
         made = λ w. omega (arith, l.made w, same w);
         backs = l.backs;
-        seats = all_permuted (λ (x : Live). SeatsBelow x.stack) lives now p l.seats;
+        hands = all_permuted (λ (x : Live). AreHandedOut x.stack) lives now p l.hands;
         of_trees = l.of_trees;
+        rests = children_order f books.done tops lives now p l.rests;
+        sizes = all_permuted (λ (x : Live). HasSizes x.stack) lives now p l.sizes;
+        sized = l.sized;
       }
 
   -- the first goes on, with these calls
   pub ledger_moves : (calls : List SpaceCall) (key : ℕ) (x y : Flying) (others : List Live) → Before (live_of key x ∷ others)
       → ended_in y.stack ≡ ended_in x.stack
       → ((w : Place → ℕ) → total w (held_by y.stack) ≡ total w (held_by x.stack) + total w (found_in calls))
-      → SeatsBelow y.stack → AllByRecursion (λ (p : Place). Contains (held_by y.stack) p ⊎ Contains t.used p) (backs_in calls)
+      → AreHandedOut y.stack → HasSizes y.stack
+      → AllByRecursion (λ (p : Place). Contains (held_by y.stack) p ⊎ Contains t.used p) (backs_in calls)
       → ((w : Place → ℕ) → gave_over {N = N} nodes w slab_now ≡ gave_over {N = N} nodes w slab + total w (backs_in calls))
+      → ((ended : List ℕ) → HasRests f ended x.stack → HasRests f ended y.stack)
       → Later (booked books calls) (entries ++ choices_in calls) tops trees (live_of key y ∷ others)
-  ledger_moves calls key x y others l ended held seats own gave = record {
+  ledger_moves calls key x y others l ended held hands sizes own gave rests = record {
     requests = subst (λ (es : List Ended). IsPermutation (all_ended books.done) (es ++ ended_with (ended_of_trees tops trees) others))
         (sym ended) l.requests;
     each = l.each;
@@ -230,8 +234,11 @@ module _ {N : Type 0} (nodes : Nodes N) (t : Terms) (f : Forest) (books : Books)
         let two = held w in
         let three = l.made w in
         omega arith)) own);
-    seats = (seats, l.seats.1);
+    hands = (hands, l.hands.1);
     of_trees = l.of_trees;
+    rests = children_first f books.done tops (live_of key x) (live_of key y) others rests l.rests;
+    sizes = (sizes, l.sizes.1);
+    sized = l.sized;
   }
 
   -- no call was made
@@ -258,8 +265,11 @@ module _ {N : Type 0} (nodes : Nodes N) (t : Terms) (f : Forest) (books : Books)
         backs = backs_more t.used entries books.claimed books.back calls l.backs
             (subst (AllByRecursion (Contains (t.used ++ found_so_far (entries ++ choices_in calls) (books.claimed ++ claims_in calls))))
             (sym (ap backs_in none)) tt);
-        seats = l.seats;
+        hands = l.hands;
         of_trees = l.of_trees;
+        rests = l.rests;
+        sizes = l.sizes;
+        sized = l.sized;
       }
 
   -- it is as before, with other nodes that gave the same back
@@ -272,16 +282,20 @@ module _ {N : Type 0} (nodes : Nodes N) (t : Terms) (f : Forest) (books : Books)
     places = λ w. omega (arith, l.places w, gave w);
     made = l.made;
     backs = l.backs;
-    seats = l.seats;
+    hands = l.hands;
     of_trees = l.of_trees;
+    rests = l.rests;
+    sizes = l.sizes;
+    sized = l.sized;
   }
 
   -- the first is so far now, and no call was made
   pub ledger_changes : (key : ℕ) (x y : Flying) (others : List Live) → Before (live_of key x ∷ others)
-      → ended_in y.stack ≡ ended_in x.stack → held_by y.stack ≡ held_by x.stack → SeatsBelow y.stack
+      → ended_in y.stack ≡ ended_in x.stack → held_by y.stack ≡ held_by x.stack → AreHandedOut y.stack → HasSizes y.stack
       → ((w : Place → ℕ) → gave_over {N = N} nodes w slab_now ≡ gave_over {N = N} nodes w slab)
+      → ((ended : List ℕ) → HasRests f ended x.stack → HasRests f ended y.stack)
       → Later books entries tops trees (live_of key y ∷ others)
-  ledger_changes key x y others l ended held seats gave =
+  ledger_changes key x y others l ended held hands sizes gave rests =
       let same : (w : Place → ℕ) → held_over w (live_of key y ∷ others) ≡ held_over w (live_of key x ∷ others) =
       λ w. omega (arith, ap (total w) held, held_first w (live_of key x) others, held_first w (live_of key y) others) in
       record {
@@ -292,31 +306,39 @@ module _ {N : Type 0} (nodes : Nodes N) (t : Terms) (f : Forest) (books : Books)
         places = λ w. omega (arith, l.places w, gave w, same w);
         made = λ w. omega (arith, l.made w, same w);
         backs = l.backs;
-        seats = (seats, l.seats.1);
+        hands = (hands, l.hands.1);
         of_trees = l.of_trees;
+        rests = children_first f books.done tops (live_of key x) (live_of key y) others rests l.rests;
+        sizes = (sizes, l.sizes.1);
+        sized = l.sized;
       }
 
   -- one more, of which nothing is done
   pub ledger_child : (key : ℕ) (x : Flying) (op : Task) (lives : List Live) → Before lives
       → ((w : Place → ℕ) → gave_over {N = N} nodes w slab_now ≡ gave_over {N = N} nodes w slab)
+      → HasRestsIn f (numbers_ended (all_ended books.done)) op
       → Later books entries tops trees (live_of key (new_flying x op) ∷ lives)
-  ledger_child key x op lives l gave = record {
+  ledger_child key x op lives l gave own = record {
     requests = l.requests;
     each = l.each;
     behind = l.behind;
     places = λ w. omega (arith, l.places w, gave w, held_first w (live_of key (new_flying x op)) lives);
     made = λ w. omega (arith, l.made w, held_first w (live_of key (new_flying x op)) lives);
     backs = l.backs;
-    seats = ((λ k c n is seat. absurd (cc)), l.seats);
+    hands = (hands_fresh op, l.hands);
     of_trees = l.of_trees;
+    rests = children_new f books.done tops key x op lives own l.rests;
+    sizes = (record { outer = tt; inner = tt }, l.sizes);
+    sized = l.sized;
   }
 
   -- what is in flight for a tree is so far now, and heard of the same
   pub ledger_tree : (n : ℕ) (a b : Flying) (lives : List Live) → Before lives → slice_get tops n ≡ Some (Some a)
       → ended_in b.stack ≡ ended_in a.stack → (IsOfTree a.stack → IsOfTree b.stack)
       → ((w : Place → ℕ) → gave_over {N = N} nodes w slab_now ≡ gave_over {N = N} nodes w slab)
+      → ((ended : List ℕ) → HasRests f ended a.stack → HasRests f ended b.stack)
       → Later books entries (slice_set tops n (Some b)) trees lives
-  ledger_tree n a b lives l there same of gave =
+  ledger_tree n a b lives l there same of gave rests =
       let all : flat_map ended_of_top (slice_set tops n (Some b)) ≡ flat_map ended_of_top tops =
       set_same ended_of_top tops n (Some a) (Some b) there same in
       record {
@@ -327,8 +349,11 @@ module _ {N : Type 0} (nodes : Nodes N) (t : Terms) (f : Forest) (books : Books)
         places = λ w. omega (arith, l.places w, gave w);
         made = l.made;
         backs = l.backs;
-        seats = l.seats;
+        hands = l.hands;
         of_trees = trees_set tops n (Some b) l.of_trees (λ top is. of_same b top is (of (l.of_trees n a there)));
+        rests = children_top f books.done tops n a b lives there rests l.rests;
+        sizes = l.sizes;
+        sized = l.sized;
       }
 
   -- the tree has its value, with the requests that it heard of
@@ -364,8 +389,11 @@ module _ {N : Type 0} (nodes : Nodes N) (t : Terms) (f : Forest) (books : Books)
         places = λ w. omega (arith, l.places w, gave w);
         made = l.made;
         backs = l.backs;
-        seats = l.seats;
+        hands = l.hands;
         of_trees = trees_set tops n None l.of_trees (λ top is. absurd (cc));
+        rests = children_no_top f books.done tops n lives l.rests;
+        sizes = l.sizes;
+        sized = l.sized;
       }
 
   -- the second heard of a pointer
@@ -392,8 +420,11 @@ module _ {N : Type 0} (nodes : Nodes N) (t : Terms) (f : Forest) (books : Books)
         places = λ w. omega (arith, l.places w, gave w, held w);
         made = λ w. omega (arith, l.made w, held w);
         backs = l.backs;
-        seats = (l.seats.0, (h.seats l.seats.1.0, l.seats.1.1));
+        hands = (l.hands.0, (h.hands l.hands.1.0, l.hands.1.1));
         of_trees = l.of_trees;
+        rests = children_second f books.done tops x (live_of above q) (live_of above y) others (λ es. h.rests f es) l.rests;
+        sizes = (l.sizes.0, (h.sizes l.sizes.1.0, l.sizes.1.1));
+        sized = l.sized;
       }
 
   -- ---- it ends
@@ -402,7 +433,8 @@ module _ {N : Type 0} (nodes : Nodes N) (t : Terms) (f : Forest) (books : Books)
       (node : N) (are : calls ≡ calls_back gone) (m : IsMore t f x.stack outcome ended)
       (requests : ended_by v ≡ ended_in x.stack ++ ended) (ends : (w : Place → ℕ) → PlacesEnd {N = N} nodes node x.stack outcome v gone w)
       (gave : (w : Place → ℕ) → gave_over {N = N} nodes w slab_now + total w (nodes.gave node) ≡ gave_over {N = N} nodes w slab)
-      (own : AllByRecursion (λ (p : Place). Contains (held_by x.stack) p ⊎ Contains t.used p) gone) where
+      (own : AllByRecursion (λ (p : Place). Contains (held_by x.stack) p ⊎ Contains t.used p) gone)
+      (leaves : EndLeaves t f x.stack v) (sizes : EndSizes t f x.stack v) where
     none_found : (w : Place → ℕ) → total w (found_in calls) ≡ 0
     none_found w = ap (λ (cs : List SpaceCall). total w (found_in cs)) are ∙ found_back w gone
 
@@ -416,6 +448,29 @@ module _ {N : Type 0} (nodes : Nodes N) (t : Terms) (f : Forest) (books : Books)
         → AreBehind [] (books.done ++ m.more)
     behind_now rest p h =
         behind_both [] books.done m.more h (m.behind (all_ended books.done) (heard_before (ended_in x.stack) (all_ended books.done) rest p))
+
+    -- the requests in its value finished
+    ended_now : (rest : List Ended) → IsPermutation (all_ended books.done) (ended_in x.stack ++ rest)
+        → IsAmong (numbers_ended (ended_by v)) (numbers_ended (all_ended (books.done ++ m.more)))
+    ended_now rest p =
+        let was : List Ended = all_ended books.done in
+        let more : List Ended = all_ended m.more in
+        numbers_among (ended_by v) (all_ended (books.done ++ m.more))
+        (subst (λ (es : List Ended). AllByRecursion (Contains es) (ended_by v)) (sym (ended_both books.done m.more))
+        (subst (AllByRecursion (Contains (was ++ more))) (sym value_ended)
+        (all_append (Contains (was ++ more)) (ended_in x.stack) more
+        (all_weaker (Contains was) (Contains (was ++ more)) (ended_in x.stack) (λ e c. Contains-append_left was more e c)
+        (heard_before (ended_in x.stack) was rest p))
+        (all_weaker (Contains more) (Contains (was ++ more)) more (λ e c. Contains-append_right was more e c)
+        (all_contained more)))))
+
+    -- and each read that did has the size of its block's bodies
+    sized_now : HasSizes x.stack → AllByRecursion (λ (y : Ending). FitsBodies y.request y.ended) books.done
+        → AllByRecursion (λ (y : Ending). FitsBodies y.request y.ended) (books.done ++ m.more)
+    sized_now has h =
+        all_append (λ (y : Ending). FitsBodies y.request y.ended) books.done m.more h
+        (all_weaker (λ (y : Ending). (h : IsEnding t f y) × (h.stack ≡ x.stack))
+        (λ (y : Ending). FitsBodies y.request y.ended) m.more (λ y k. sizes.last has y k.0 k.1) m.by)
 
     -- what it gave back was found or in use
     backs_now : ((w : Place → ℕ) → total w (held_by x.stack) ≤ total w (found_so_far entries books.claimed))
@@ -435,9 +490,9 @@ module _ {N : Type 0} (nodes : Nodes N) (t : Terms) (f : Forest) (books : Books)
 
     -- and its parent, which comes second, heard of it
     pub ledger_ends : (above : ℕ) (q y : Flying) (others : List Live) → Before (live_of key x ∷ live_of above q ∷ others)
-        → HasHeardIt q.stack x.stack.outer.op v y.stack → SeatsBelow y.stack
+        → HasHeardIt q.stack x.stack.outer.op v y.stack → AreHandedOut y.stack
         → Later (enrolled books calls m.more) (entries ++ choices_in calls) tops trees (live_of above y ∷ others)
-    ledger_ends above q y others l h seats =
+    ledger_ends above q y others l h hands =
         let rest : List Ended = ended_with (ended_of_trees tops trees) others in
         let up : IsPermutation (ended_in y.stack) ((ended_in x.stack ++ all_ended m.more) ++ ended_in q.stack) =
         subst (λ (es : List Ended). IsPermutation (ended_in y.stack) (es ++ ended_in q.stack)) value_ended h.ended in
@@ -482,8 +537,12 @@ module _ {N : Type 0} (nodes : Nodes N) (t : Terms) (f : Forest) (books : Books)
             found_more w entries books.claimed calls,
           );
           backs = backs_now (λ w. omega (arith, l.made w, held_first w (live_of key x) (live_of above q ∷ others))) l.backs;
-          seats = (seats, l.seats.1.1);
+          hands = (hands, l.hands.1.1);
           of_trees = l.of_trees;
+          rests = children_end t f books.done m.more x.stack v leaves m.by (ended_now (ended_in q.stack ++ rest) l.requests) tops
+              (live_of key x) (live_of above q) (live_of above y) others refl (λ es. h.rests f es) l.rests;
+          sizes = (h.sizes (sizes.value l.sizes.0) l.sizes.1.0, l.sizes.1.1);
+          sized = sized_now l.sizes.0 l.sized;
         }
 
     -- and the tree heard of it; its value has no places
@@ -539,8 +598,12 @@ module _ {N : Type 0} (nodes : Nodes N) (t : Terms) (f : Forest) (books : Books)
             found_more w entries books.claimed calls,
           );
           backs = backs_now (λ w. omega (arith, l.made w, held_first w (live_of key x) others)) l.backs;
-          seats = l.seats.1;
+          hands = l.hands.1;
           of_trees = trees_set tops n (Some y) l.of_trees (λ top is. of_same y top is (of (l.of_trees n q there)));
+          rests = children_root_end t f books.done m.more x.stack v leaves m.by (ended_now (ended_with was others) l.requests)
+              tops n (live_of key x) q y others refl there (λ es. h.rests f es) l.rests;
+          sizes = l.sizes.1;
+          sized = sized_now l.sizes.0 l.sized;
         }
 
 -- ---- the beginning
@@ -560,9 +623,10 @@ fresh_of_trees k (q ∷ tasks) zero top e =
     of_same (record { at = k ∷ []; stack = fresh_stack q }) top (some_is _ _ e) (record { alone = refl; attempts = λ m op is. absurd (cc) })
 fresh_of_trees k (q ∷ tasks) (suc n) top e = fresh_of_trees (suc k) tasks n top e
 
-pub ledger_first : {N : Type 0} (nodes : Nodes N) (t : Terms) (f : Forest) (slab : Slab (Entry N)) → slab.slots ≡ []
+pub ledger_first : {N : Type 0} (nodes : Nodes N) (t : Terms) (f : Forest) (slab : Slab (Entry N)) → slab.slots ≡ [] → AreTrees f
+    → NumbersOnce f
     → IsLedger {N = N} nodes t f no_books [] (all_tops (settling_from 0 (settles f))) (all_out (settles f)) [] slab
-ledger_first {N} nodes t f slab none =
+ledger_first {N} nodes t f slab none trees once =
     let gave : (w : Place → ℕ) → gave_over {N = N} nodes w slab ≡ 0 =
     λ w. ap (λ (xs : List (Option (Entry N))). sum_by (left_in {N = N} (λ (n : N). total w (nodes.gave n))) xs) none in
     let heard : [] ≡ ended_of_trees (all_tops (settling_from 0 (settles f))) (all_out (settles f)) =
@@ -574,6 +638,9 @@ ledger_first {N} nodes t f slab none =
       places = λ w. omega (arith, gave w);
       made = λ w. omega arith;
       backs = tt;
-      seats = tt;
+      hands = tt;
       of_trees = fresh_of_trees 0 (settles f);
+      rests = children_begin f trees once;
+      sizes = tt;
+      sized = tt;
     }

@@ -27,8 +27,10 @@ pub mod KeyLengths
 pub mod KeyTimes
 pub mod LeafCalls
 pub mod LeafOps
+pub mod LedgerChildren
 pub mod LedgerDids
 pub mod LedgerEnds
+pub mod LedgerHands
 pub mod LedgerHears
 pub mod LedgerMoves
 pub mod LedgerOwns
@@ -57,6 +59,7 @@ pub mod Progress
 pub mod Queues
 pub mod ReadyLemmas
 pub mod Requeue
+pub mod RestLemmas
 pub mod RoundDesks
 pub mod RoundEnds
 pub mod RoundGrows
@@ -67,6 +70,8 @@ pub mod RoundParents
 pub mod RoundTells
 pub mod Seated
 pub mod Shelves
+pub mod SizeLemmas
+pub mod SizeMoves
 pub mod Spans
 pub mod Steps
 pub mod StopLemmas

@@ -33,9 +33,15 @@ abbrev pub finds : Task → Bool
 finds (Find a) = true
 finds _ = false
 
--- neither
+-- of a request and its children
+abbrev pub tries : Task → Bool
+tries (Attempt attempt p kids) = true
+tries (Settle p kids) = true
+tries _ = false
+
+-- none of these
 abbrev pub IsOther : Task → Type 0
-IsOther op = (takes op ≡ false) × (finds op ≡ false)
+IsOther op = (takes op ≡ false) × (finds op ≡ false) × (tries op ≡ false)
 
 abbrev pub claims : Work → Bool
 claims (Claim name pointer) = true
@@ -44,13 +50,13 @@ claims _ = false
 module _ (P : Task → Type 0) (other : (op : Task) → IsOther op → P op) (t : Terms) where
   leaves_only : {A : Type 0} (p : ProgramOf LeafOp Answer A) → AsksOnly P (by_leaves p)
   leaves_only (Ends a) = tt
-  leaves_only (Asks act more) = (other (Leaf act) (refl, refl), λ v. leaves_only (more (got v)))
+  leaves_only (Asks act more) = (other (Leaf act) (refl, refl, refl), λ v. leaves_only (more (got v)))
 
   below_only : (look : Look) (levels : ℕ) (path : List ℕ) (n : ℕ) (ms : List Bp) → AsksOnly P
       (plan_below (ReadHeads look levels) path n ms)
   below_only look levels path n [] = tt
   below_only look levels path n (m ∷ ms) = (
-    other (ReadHeads look levels (path ++ n ∷ []) m) (refl, refl),
+    other (ReadHeads look levels (path ++ n ∷ []) m) (refl, refl, refl),
     λ v. only-then P (plan_below (ReadHeads look levels) path (n + 1) ms) _ (below_only look levels path (n + 1) ms)
         (λ others. tt),
   )
@@ -69,8 +75,8 @@ module _ (P : Task → Type 0) (other : (op : Task) → IsOther op → P op) (t 
   pointer_only None true bp follow h = h
 
   head_only : (look : Look) (path : List ℕ) (bp : Bp) → P (head_task look path bp)
-  head_only (ByKept heads) path bp = other _ (refl, refl)
-  head_only ByClaim path bp = other _ (refl, refl)
+  head_only (ByKept heads) path bp = other _ (refl, refl, refl)
+  head_only ByClaim path bp = other _ (refl, refl, refl)
 
   heads_only : (look : Look) (levels : ℕ) (path : List ℕ) (bp : Bp) → AsksOnly P (plan t (ReadHeads look levels path bp))
   heads_only look zero path bp = pointer_only ((visit_of t.setting look).judge bp) bp.gang bp _ tt
@@ -80,39 +86,40 @@ module _ (P : Task → Type 0) (other : (op : Task) → IsOther op → P op) (t 
 
   bodies_only : (bps : List Bp) → AsksOnly P (plan_bodies bps)
   bodies_only [] = tt
-  bodies_only (bp ∷ bps) = (other _ (refl, refl), λ v. only-then P (plan_bodies bps) _ (bodies_only bps) (λ others. tt))
+  bodies_only (bp ∷ bps) = (other _ (refl, refl, refl), λ v. only-then P (plan_bodies bps) _ (bodies_only bps) (λ others. tt))
 
   after_only : (errors : List (Option Errno)) (bodies : List Bp) → AsksOnly P (plan_after errors bodies)
   after_only [] bodies = only-then P (plan_bodies bodies) _ (bodies_only bodies) (λ b. tt)
   after_only (e ∷ errors) bodies = tt
 
   tree_only : (tree : Tree) → AsksOnly P (plan_tree tree)
-  tree_only tree = (other _ (refl, refl), λ v. after_only (walked v).errors (walked v).bodies)
+  tree_only tree = (other _ (refl, refl, refl), λ v. after_only (walked v).errors (walked v).bodies)
 
-  kids_only : (attempt : ℕ) (kids : Forest) → AsksOnly P (plan_kids attempt kids)
-  kids_only attempt NoTrees = tt
-  kids_only attempt (TreeOf p kids others) =
-      (other _ (refl, refl), λ v. only-then P (plan_kids attempt others) _ (kids_only attempt others) (λ o. tt))
+  module _ (attempts : (attempt : ℕ) (p : Pending) (kids : Forest) → P (Attempt attempt p kids)) where
+    kids_only : (attempt : ℕ) (kids : Forest) → AsksOnly P (plan_kids attempt kids)
+    kids_only attempt NoTrees = tt
+    kids_only attempt (TreeOf p kids others) =
+        (attempts attempt p kids, λ v. only-then P (plan_kids attempt others) _ (kids_only attempt others) (λ o. tt))
 
-  left_only : (one : One) (left : Forest) (again : Pending → Forest → TaskPlan Settled) →
-      ((p : Pending) (kids : Forest) → AsksOnly P (again p kids))
-      → AsksOnly P (plan_left one left again)
-  left_only one NoTrees again h = tt
-  left_only one (TreeOf p kids others) again h = only-then P (again p kids) _ (h p kids) (λ later. tt)
+    left_only : (one : One) (left : Forest) (again : Pending → Forest → TaskPlan Settled) →
+        ((p : Pending) (kids : Forest) → AsksOnly P (again p kids))
+        → AsksOnly P (plan_left one left again)
+    left_only one NoTrees again h = tt
+    left_only one (TreeOf p kids others) again h = only-then P (again p kids) _ (h p kids) (λ later. tt)
 
-  again_only : (now : Bool) (one : One) (again : Pending → Forest → TaskPlan Settled) →
-      ((p : Pending) (kids : Forest) → AsksOnly P (again p kids))
-      → AsksOnly P (plan_again now one again)
-  again_only true one again h = left_only one one.left again h
-  again_only false one again h = tt
+    again_only : (now : Bool) (one : One) (again : Pending → Forest → TaskPlan Settled) →
+        ((p : Pending) (kids : Forest) → AsksOnly P (again p kids))
+        → AsksOnly P (plan_again now one again)
+    again_only true one again h = left_only one one.left again h
+    again_only false one again h = tt
 
-  settle_only : (more attempt : ℕ) (p : Pending) (kids : Forest) → AsksOnly P (plan_settle more attempt p kids)
-  settle_only zero attempt p kids = (other _ (refl, refl), λ v. tt)
-  settle_only (suc more) attempt p kids = (
-    other _ (refl, refl),
-    λ v. again_only (now_alone (attempted v).return.bits) (attempted v) (plan_settle more (attempt + 1))
-        (settle_only more (attempt + 1)),
-  )
+    settle_only : (more attempt : ℕ) (p : Pending) (kids : Forest) → AsksOnly P (plan_settle more attempt p kids)
+    settle_only zero attempt p kids = (attempts attempt p kids, λ v. tt)
+    settle_only (suc more) attempt p kids = (
+      attempts attempt p kids,
+      λ v. again_only (now_alone (attempted v).return.bits) (attempted v) (plan_settle more (attempt + 1))
+          (settle_only more (attempt + 1)),
+    )
 
   -- ---- what asks for places for a block
 
@@ -130,7 +137,7 @@ module _ (P : Task → Type 0) (other : (op : Task) → IsOther op → P op) (t 
       gang_only (Some places) w path bytes =
           only-then P (plan_members below path 0 (cut (split_sizes (length bytes)) bytes)) _
           (members_only path 0 (cut (split_sizes (length bytes)) bytes))
-          (λ m. (other _ (refl, refl), λ v. tt))
+          (λ m. (other _ (refl, refl, refl), λ v. tt))
 
       unless_only : (small : Bool) (w : Writing) (path bytes : List ℕ) → AsksOnly P (plan_gang_unless small w below path bytes)
       unless_only true w path bytes = tt
@@ -138,7 +145,7 @@ module _ (P : Task → Type 0) (other : (op : Task) → IsOther op → P op) (t 
 
       body_only : (places : Option (List Place)) (w : Writing) (path bytes : List ℕ) → AsksOnly P
           (plan_body places w below path bytes)
-      body_only (Some places) w path bytes = (other _ (refl, refl), λ v. tt)
+      body_only (Some places) w path bytes = (other _ (refl, refl, refl), λ v. tt)
       body_only None w path bytes = unless_only (nat_le (length bytes) sector_size) w path bytes
 
       part_only : (w : Writing) (path bytes : List ℕ) → AsksOnly P (plan_part w below path bytes)
@@ -150,7 +157,7 @@ module _ (P : Task → Type 0) (other : (op : Task) → IsOther op → P op) (t 
         part_only (λ below part. Ends (StoredAs nowhere)) (λ below part. tt) (writing_of t attempt p sum copies) path bytes
     write_only attempt p sum copies (suc levels) path bytes =
         part_only (λ below part. ask (WritePart attempt p sum copies levels below part))
-        (λ below part. (other _ (refl, refl), λ v. tt)) (writing_of t attempt p sum copies) path bytes
+        (λ below part. (other _ (refl, refl, refl), λ v. tt)) (writing_of t attempt p sum copies) path bytes
 
     -- ---- all that a request does but a claim
 
@@ -160,7 +167,7 @@ module _ (P : Task → Type 0) (other : (op : Task) → IsOther op → P op) (t 
 
     free_only : (block : Option Tree) → AsksOnly P (plan_free block)
     free_only None = tt
-    free_only (Some tree) = (other _ (refl, refl), λ v. tt)
+    free_only (Some tree) = (other _ (refl, refl, refl), λ v. tt)
 
     own_only : (attempt : ℕ) (p : Pending) (work : Work) (pointers : List (Option Bp)) → claims work ≡ false → AsksOnly P
         (plan_own t attempt p work pointers)
@@ -172,10 +179,10 @@ module _ (P : Task → Type 0) (other : (op : Task) → IsOther op → P op) (t 
     own_only attempt p (Free name) pointers e = free_only p.block
     own_only attempt p (Claim name pointer) pointers e = absurd (false≢true (sym e))
 
-    pub attempt_only : (attempt : ℕ) (p : Pending) (kids : Forest) → claims p.request.work ≡ false → AsksOnly P
-        (plan t (Attempt attempt p kids))
-    attempt_only attempt p kids e =
-        only-then P (plan_kids attempt kids) _ (kids_only attempt kids)
+    attempt_only : ((attempt : ℕ) (p : Pending) (kids : Forest) → P (Attempt attempt p kids)) → (attempt : ℕ) (p : Pending)
+        (kids : Forest) → claims p.request.work ≡ false → AsksOnly P (plan t (Attempt attempt p kids))
+    attempt_only attempts attempt p kids e =
+        only-then P (plan_kids attempt kids) _ (kids_only attempts attempt kids)
         (λ k. only-then P (plan_own t attempt p p.request.work _) _ (own_only attempt p p.request.work _ e) (λ own. tt))
 
 -- ---- what takes places
@@ -253,12 +260,13 @@ own_claims t attempt p (Free name) pointers e = absurd (false≢true e)
 
 attempt_kinds : (t : Terms) (attempt : ℕ) (p : Pending) (kids : Forest) (b : Bool) → claims p.request.work ≡ b
     → TakesNone (plan t (Attempt attempt p kids)) ⊎ ChoosesNone (plan t (Attempt attempt p kids))
-attempt_kinds t attempt p kids false e = inl (attempt_only NoTake (λ op h. h.0) t (λ a. refl) attempt p kids e)
+attempt_kinds t attempt p kids false e =
+    inl (attempt_only NoTake (λ op h. h.0) t (λ a. refl) (λ n q under. refl) attempt p kids e)
 attempt_kinds t attempt p kids true e = inr (record {
-  no_find = only-then NoFind (plan_kids attempt kids) _ (kids_only NoFind (λ op h. h.1) t attempt kids)
+  no_find = only-then NoFind (plan_kids attempt kids) _ (kids_only NoFind (λ op h. h.1) t (λ n q under. refl) attempt kids)
       (λ k. only-then NoFind (plan_own t attempt p p.request.work _) _ (own_claims t attempt p p.request.work _ e).no_find
       (λ own. tt));
-  last = last_then (plan_kids attempt kids) _ (kids_only NoTake (λ op h. h.0) t attempt kids)
+  last = last_then (plan_kids attempt kids) _ (kids_only NoTake (λ op h. h.0) t (λ n q under. refl) attempt kids)
       (λ k. last_ends (plan_own t attempt p p.request.work _) _ (own_claims t attempt p p.request.work _ e).last (λ own. tt));
 })
 
@@ -279,4 +287,49 @@ task_kinds t (ReadTree tree) = inl (tree_only NoTake (λ op h. h.0) t tree)
 task_kinds t (Attempt attempt p kids) = attempt_kinds t attempt p kids (claims p.request.work) refl
 task_kinds t (Settle p kids) =
     inl (only-then NoTake (plan_settle reexecutions_max 0 p kids) (λ x. Ends (SettledBy x))
-    (settle_only NoTake (λ op h. h.0) t reexecutions_max 0 p kids) (λ x. tt))
+    (settle_only NoTake (λ op h. h.0) t (λ n q under. refl) reexecutions_max 0 p kids) (λ x. tt))
+
+-- ---- what attempts no request
+
+abbrev pub NoTry : Task → Type 0
+NoTry op = tries op ≡ false
+
+other_tries : (op : Task) → IsOther op → NoTry op
+other_tries op h = h.2
+
+taken_no_try : (errors : List (Option Errno)) (tree : Tree) → AsksOnly NoTry (plan_taken errors tree)
+taken_no_try [] tree = (refl, λ v. tt)
+taken_no_try (e ∷ errors) tree = tt
+
+claim_no_try : (pointer : Option Bp) → AsksOnly NoTry (plan_claim pointer)
+claim_no_try None = tt
+claim_no_try (Some bp) = (refl, λ v. taken_no_try (walked v).errors _)
+
+-- a request's own work
+pub own_no_try : (t : Terms) (attempt : ℕ) (p : Pending) (work : Work) (pointers : List (Option Bp))
+    → AsksOnly NoTry (plan_own t attempt p work pointers)
+own_no_try t attempt p (Claim name pointer) pointers = claim_no_try (pointer_of pointer)
+own_no_try t attempt p Null pointers = tt
+own_no_try t attempt p (WorkRead name prio) pointers =
+    own_only NoTry other_tries t (λ a. refl) attempt p (WorkRead name prio) pointers refl
+own_no_try t attempt p (Write name sum copies prio body) pointers =
+    own_only NoTry other_tries t (λ a. refl) attempt p (Write name sum copies prio body) pointers refl
+own_no_try t attempt p (Free name) pointers = own_only NoTry other_tries t (λ a. refl) attempt p (Free name) pointers refl
+
+-- and whatever is no attempt itself
+pub task_no_try : (t : Terms) (op : Task) → NoTry op → AsksOnly NoTry (plan t op)
+task_no_try t (Leaf a) h = (refl, λ v. tt)
+task_no_try t (Find a) h = (refl, λ v. tt)
+task_no_try t (TakePlaces tree) h = (refl, λ v. tt)
+task_no_try t (ReadCopies repair test len places) h =
+    only-then NoTry (by_leaves (block_reading t.setting repair (good_by test) len places)) (λ a. Ends (Got a))
+    (leaves_only NoTry other_tries t (block_reading t.setting repair (good_by test) len places)) (λ a. tt)
+task_no_try t (WriteCopies bytes places) h =
+    only-then NoTry (by_leaves (piece_writing t.setting bytes places)) (λ e. Ends (Wrote e))
+    (leaves_only NoTry other_tries t (piece_writing t.setting bytes places)) (λ e. tt)
+task_no_try t (WritePart attempt p sum copies levels path bytes) h =
+    write_only NoTry other_tries t (λ a. refl) attempt p sum copies levels path bytes
+task_no_try t (ReadHeads look levels path bp) h = heads_only NoTry other_tries t look levels path bp
+task_no_try t (ReadTree tree) h = tree_only NoTry other_tries t tree
+task_no_try t (Attempt attempt p kids) h = absurd (false≢true (sym h))
+task_no_try t (Settle p kids) h = absurd (false≢true (sym h))

@@ -4,6 +4,7 @@ use Rattle.zio_types.specs.declared.request.ChildKind.{ChildKind}
 use Rattle.zio_types.specs.declared.request.ChildKind.TheVariants.{Logical}
 use Rattle.zio_types.specs.Machine.{fresh}
 use Rattle.zio_counts.specs.Tallies.{tally_of}
+use Rattle.zio_types.specs.Choices.{Choice}
 use Rattle.zio_cksum.specs.Images.{Images}
 use Rattle.zio_gang.specs.Attempts.{Terms}
 use Rattle.zio_trace.specs.Conflicts.{is_single}
@@ -13,21 +14,26 @@ use Rattle.zio_trace.specs.SoundRounds.{IsSoundRound}
 use Rattle.zio_trace.specs.Tasks.{Task}
 use Rattle.zio_frames.specs.Frames.{Flying, asking, fresh_stack, kind_of_task}
 use Rattle.zio_frames.specs.Moves.{AsksNext}
+use Rattle.zio_frames.specs.OfRound.{IsOfRound}
 use Rattle.zio_frames.specs.Running.{all_out, settling_from}
 use Rattle.slab.specs.Slab.{Slab, Updates, get}
 use Rattle.zio_graph.specs.Acts.{new_ties, with_ties}
 use Rattle.zio_graph.specs.Engine.{Matches, Rests, StillKept}
 use Rattle.zio_graph.specs.Entries.{Held, IsWith, Live, OfTree, Shelf, all_tops, flying_at, handed_on, live_of, new_flying, new_held, times_in, top_at}
+use Rattle.zio_graph.specs.Ledgers.{all_ended}
 use Rattle.zio_graph.specs.Parts.{Nodes}
+use Rattle.zio_graph.specs.Rests.{numbers_ended}
 use Rattle.zio_graph.specs.Rounds.{Before, HandsOut, KeepsRound, SoFar, first_of, with_tree}
 use Rattle.std.specs.List.{sum_by}
 use Rattle.zio_graph.specs.Slabs.{AreAll, held_if, left_in, left_over, load, shelf_of}
 use Rattle.zio_graph.specs.declared.entry.Entry.{Entry}
 use Rattle.zio_graph.specs.declared.entry.Parent.TheVariants.{Tree}
 use Rattle.zio_graph.specs.declared.entry.Ties.{Ties}
+use Rattle.zio_graph.proofs.FoundFits.{tree_of_round, tree_seated}
 use Rattle.zio_graph.proofs.Kept.{world}
 use Rattle.zio_graph.proofs.LeafOps.{theirs_with}
-use Rattle.zio_graph.proofs.LedgerHears.{handed_ended}
+use Rattle.zio_graph.proofs.LedgerDids.{InnerStands, Stands}
+use Rattle.zio_graph.proofs.LedgerHears.{handed_ended, handed_of_round, handed_op_rests, handed_rests}
 use Rattle.zio_graph.proofs.LedgerMoves.{ledger_child, ledger_first, ledger_tree}
 use Rattle.zio_graph.proofs.LedgerSlabs.{gave_new}
 use Rattle.zio_graph.proofs.LedgerTrees.{handed_tree, top_slice}
@@ -106,7 +112,7 @@ module _ {N : Type 0} (nodes : Nodes N) (t : Terms) where
             (all_tops (settling_from 0 (settles f))) [] g [] [] [] images) (sym bare) (all_begins nodes t sizes f before images sound is));
         numbered = λ key e x there flies. absurd (none_flies key x flies);
         theirs = λ key x flies. absurd (none_flies key x flies);
-        ledger = ledger_first nodes t f slab none;
+        ledger = ledger_first nodes t f slab none sound.trees sound.numbers;
       }
     where
       none_flies : (key : ℕ) (x : Flying) → flying_at [] key ≡ Some x → ⊥
@@ -129,6 +135,14 @@ module _ {N : Type 0} (nodes : Nodes N) (t : Terms) where
       let with_new = subst (λ (n : ℕ). IsWith (shelf_of {N = N} slab) key (Some (new_held {N = N} node op (OfTree tree n)))
       (shelf_of {N = N} slab_now)) number with_kind in
       let lives : List Live = live_of key (new_flying top op) ∷ k.lives in
+      let stands : Stands top.stack = record {
+        full = (tree_seated nodes t sizes f before s.trees s.tops (shelf_of {N = N} slab) line leaves k.still.state tree top
+            k.lives k.still.kept there).outer.lengths;
+        inner = subst (InnerStands top.stack) (sym (k.ledger.of_trees tree top (top_slice s.tops tree top there)).alone) tt;
+      } in
+      let of_round : (seen : List Choice) × IsOfRound t f seen top.stack =
+      tree_of_round nodes t sizes f before s.trees s.tops (shelf_of {N = N} slab) line leaves k.still.state tree top k.lives
+      k.still.kept there in
       record {
         lives = lives;
         still = still_as nodes t sizes f before s.trees (slice_set s.tops tree (Some (handed_on top op))) lives
@@ -146,8 +160,12 @@ module _ {N : Type 0} (nodes : Nodes N) (t : Terms) where
             k.theirs;
         ledger = ledger_tree nodes t f s.books s.entries s.tops s.trees slab_now slab_now tree top (handed_on top op) lives
             (ledger_child nodes t f s.books s.entries s.tops s.trees slab slab_now key top op k.lives k.ledger
-            (λ w. gave_new nodes slab slab_now key w now free put gave))
-            (top_slice s.tops tree top there) (handed_ended top.stack op) (handed_tree top.stack op kind) (λ w. refl);
+            (λ w. gave_new nodes slab slab_now key w now free put gave)
+            (handed_op_rests top.stack op t f of_round.0 (numbers_ended (all_ended s.books.done)) stands
+            (k.ledger.rests.trees tree top (top_slice s.tops tree top there)) asks
+            (handed_of_round top.stack op t f of_round.0 stands asks of_round.1)))
+            (top_slice s.tops tree top there) (handed_ended top.stack op) (handed_tree top.stack op kind) (λ w. refl)
+            (λ ended. handed_rests top.stack op f ended stands);
       }
 
 -- with one node more

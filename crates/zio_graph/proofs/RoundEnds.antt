@@ -38,21 +38,23 @@ use Rattle.zio_graph.proofs.RoundNodes.{IsThere, still_as, without_first}
 use Rattle.zio_graph.proofs.RoundParents.{HasAbove, IsAbove, has_above, is_above}
 use Rattle.zio_graph.proofs.RoundTells.{length_set}
 use Rattle.zio_graph.proofs.LeafOps.{theirs_parent, theirs_without}
-use Rattle.zio_graph.proofs.LedgerDids.{Hands}
 use Rattle.zio_graph.proofs.LedgerEnds.{IsMore, PlacesEnd, more_ended, places_end}
-use Rattle.zio_graph.proofs.LedgerHears.{heard_seats, heard_within, hears_it as hears_value}
+use Rattle.zio_graph.proofs.LedgerHands.{hands_heard}
+use Rattle.zio_graph.proofs.LedgerHears.{heard_within, hears_it as hears_value}
 use Rattle.zio_graph.proofs.LedgerMoves.{ledger_ends, ledger_root_ends}
 use Rattle.zio_graph.proofs.LedgerSlabs.{gave_gone, gave_put}
 use Rattle.zio_graph.proofs.LedgerTrees.{heard_tree, none_within, top_slice, tree_places_none}
 use Rattle.zio_graph.proofs.Lives.{first_at, with_first}
+use Rattle.zio_graph.proofs.RestLemmas.{EndLeaves, end_leaves}
 use Rattle.zio_graph.proofs.Shelves.{numbered_with, numbered_without, shelf_two, shelf_without}
+use Rattle.zio_graph.proofs.SizeLemmas.{EndSizes, end_sizes}
 use Rattle.zio_graph.proofs.LedgerOwns.{end_own}
 use Rattle.std.specs.List.{AllByRecursion}
 use Rattle.std.specs.Prelude.{Contains}
 use Rattle.zio_stages.specs.Outcomes.{held_by}
 use Rattle.zio_trace.specs.SoundRounds.{IsSoundRound}
 
-module _ {N : Type 0} (nodes : Nodes N) (hands : Hands {N = N} nodes) (over : List Top → N → Type 0) (t : Terms) (sizes : ℕ → ℕ) (f : Forest)
+module _ {N : Type 0} (nodes : Nodes N) (over : List Top → N → Type 0) (t : Terms) (sizes : ℕ → ℕ) (f : Forest)
     (before : Before) (s : SoFar) (slab out : Slab (Entry N)) (queue leaves : List ℕ) (key : ℕ) (e : Entry N) (calls : List SpaceCall)
     (outcome : Outcome)
     (r : IsThere {N = N} nodes t sizes f before s slab queue leaves key e)
@@ -98,6 +100,13 @@ module _ {N : Type 0} (nodes : Nodes N) (hands : Hands {N = N} nodes) (over : Li
   more =
       more_ended t f r.seen r.node.stack outcome ends.value ends.ended ends.ends ends.shows ends.requests ends.requests_are
       r.of_round.outer.task value_fits.kind
+
+  its_rests : EndLeaves t f r.node.stack ends.value
+  its_rests = end_leaves t f r.node.stack ends.value r.of_round.outer.asked r.seated.outer.lengths ends.ends
+
+  its_sizes : EndSizes t f r.node.stack ends.value
+  its_sizes =
+      end_sizes t f r.seen r.node.stack ends.value r.of_round.outer.asked r.of_round.outer.slots r.seated.outer.lengths ends.ends
 
   its_places : (w : Place → ℕ) → PlacesEnd {N = N} nodes e.node r.node.stack outcome ends.value ends.gone w
   its_places = places_end nodes t f e.node r.node.stack outcome ends.value ends.gone ends.ended ends.places ends.shows more
@@ -193,12 +202,12 @@ module _ {N : Type 0} (nodes : Nodes N) (hands : Hands {N = N} nodes) (over : Li
               ends.ended e.node ends.calls_are more ends.requests its_places
               (λ w. ap (λ (n : ℕ). n + total w (nodes.gave e.node))
               (gave_put nodes out slab_now above w told.was up_now told.heard.there told.heard.put told.heard.gave)
-              ∙ gave_gone nodes slab out key w e r.there taken) (its_own sound)
+              ∙ gave_gone nodes slab out key w e r.there taken) (its_own sound) its_rests its_sizes
               above p.parent y a.others a.ledger
               (hears_value p.parent.stack n p.child r.node.stack.outer.op ends.value a.seated p.does.is p.does.goes asked.asked
               (heard_within t f a.seen p.parent.stack n p.child r.node.stack.outer.op outcome ends.value a.seated p.does.is p.does.goes
-              asked.asked a.of_round.inner (hands t told.was.node p.parent.stack a.is) ends.shows))
-              (heard_seats p.parent.stack n p.child ends.value p.does.is a.ledger.seats.1.0);
+              asked.asked a.of_round.inner a.ledger.hands.1.0 ends.shows))
+              (hands_heard p.parent.stack n p.child ends.value p.does.is a.ledger.hands.1.0);
         }
 
   -- ---- a tree
@@ -243,7 +252,7 @@ module _ {N : Type 0} (nodes : Nodes N) (hands : Hands {N = N} nodes) (over : Li
               (without_first key r.node r.others r.kept.differ) r.theirs;
           ledger = ledger_root_ends nodes t f s.books s.entries s.tops s.trees slab out key r.node outcome ends.value ends.gone calls
               ends.ended e.node ends.calls_are more ends.requests its_places (λ w. gave_gone nodes slab out key w e r.there taken)
-              (its_own sound) tree
+              (its_own sound) its_rests its_sizes tree
               found.top (record { at = found.top.at; stack = heard_of found.top.stack n found.child ends.value }) r.others r.ledger
               (top_slice s.tops tree found.top found.there)
               (hears_value found.top.stack n found.child r.node.stack.outer.op ends.value

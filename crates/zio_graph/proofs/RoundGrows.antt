@@ -14,14 +14,17 @@ use Rattle.zio_trace.specs.Keys.{bit}
 use Rattle.zio_trace.specs.SoundRounds.{IsSoundRound}
 use Rattle.zio_frames.specs.Frames.{Child, Flying, kind_of_task}
 use Rattle.zio_frames.specs.Moves.{child_for, choices_of, handed, next_seat}
+use Rattle.zio_frames.specs.OfRound.{IsOfRound}
 use Rattle.zio_stages.specs.Outcomes.{held_by}
 use Rattle.zio_stages.specs.SpaceCalls.{SpaceCall, calls_by}
 use Rattle.slab.specs.Slab.{Slab, Updates, get}
 use Rattle.zio_graph.specs.Acts.{HasGrown, new_ties, one_more, with_ties}
 use Rattle.zio_graph.specs.Entries.{AreWith, CountsAre, Held, OfNode, OneMore, count_owing, flying_at, grown, handed_on, live_of, new_flying, new_held, owing, with_both, with_stack}
 use Rattle.zio_graph.specs.Desks.{backs_in, found_in}
-use Rattle.zio_graph.specs.Ledgers.{IsLedger, gave_over}
+use Rattle.zio_graph.specs.Engine.{StillKept}
+use Rattle.zio_graph.specs.Ledgers.{IsLedger, all_ended, gave_over}
 use Rattle.zio_graph.specs.Parts.{Nodes}
+use Rattle.zio_graph.specs.Rests.{numbers_ended}
 use Rattle.zio_graph.specs.Rounds.{AreRight, Before, KeepsRound, SoFar, choices_in, with_calls}
 use Rattle.zio_graph.specs.Slabs.{held_if, held_of, shelf_of}
 use Rattle.zio_graph.specs.Stages.{Grows}
@@ -31,8 +34,9 @@ use Rattle.zio_graph.proofs.Callings.{WereRight, were_right}
 use Rattle.zio_graph.proofs.DoesLemmas.{append_none}
 use Rattle.zio_graph.proofs.Kept.{world}
 use Rattle.zio_graph.proofs.LeafOps.{theirs_with}
-use Rattle.zio_graph.proofs.LedgerDids.{Hands, HasDone, seats_after}
-use Rattle.zio_graph.proofs.LedgerHears.{does_before, handed_ended, handed_held, handed_seats}
+use Rattle.zio_graph.proofs.LedgerDids.{HasDone, does_itself}
+use Rattle.zio_graph.proofs.LedgerHands.{hands_does, hands_handed}
+use Rattle.zio_graph.proofs.LedgerHears.{handed_ended, handed_held, handed_op_rests, handed_rests}
 use Rattle.zio_graph.proofs.LedgerMoves.{backs_did, booked, ledger_child, ledger_moves, backs_are}
 use Rattle.zio_graph.proofs.LedgerSlabs.{gave_more, gave_new}
 use Rattle.zio_graph.proofs.Links.{free_there}
@@ -41,7 +45,9 @@ use Rattle.zio_graph.proofs.MoveGrow.{one_grows}
 use Rattle.zio_graph.proofs.MoveOne.{queued_now}
 use Rattle.zio_graph.proofs.Queues.{queued_first, queued_last}
 use Rattle.zio_graph.proofs.RoundNodes.{IsThere, does_children, still_as}
+use Rattle.zio_graph.proofs.RoundParents.{second_of_round}
 use Rattle.zio_graph.proofs.Shelves.{exchanged, none_some, numbered_with, shelf_two}
+use Rattle.zio_graph.proofs.SizeMoves.{handed_sizes, measured, measured_all}
 use Rattle.std.specs.List.{AllByRecursion}
 use Rattle.std.specs.Prelude.{Contains}
 use Rattle.zio_types.specs.declared.place.Place.{Place}
@@ -84,12 +90,12 @@ both_queued key child line = record {
 module _ {N : Type 0} (nodes : Nodes N) (t : Terms) (sizes : ℕ → ℕ) (f : Forest) (before : Before)
     (s : SoFar) (slab out slab_now : Slab (Entry N)) (line line_now leaves : List ℕ) (key : ℕ) (e : Entry N)
     (calls : List SpaceCall) (node child : N) (kind : ChildKind) where
-  pub round_grows : Hands {N = N} nodes → IsSoundRound t sizes f → (r : IsThere {N = N} nodes t sizes f before s slab (key ∷ line) leaves key e)
+  pub round_grows : IsSoundRound t sizes f → (r : IsThere {N = N} nodes t sizes f before s slab (key ∷ line) leaves key e)
       → AreRight t s.entries calls → Grows {N = N} nodes nodes.gave t e.node r.node.stack calls node child kind
       → Updates slab out key None
       → HasGrown {N = N} out line slab_now line_now key (with_ties {N = N} node e.ties) child kind
       → KeepsRound {N = N} nodes t sizes f before (with_calls s calls) slab_now line_now leaves
-  round_grows hands sound r right g taken has =
+  round_grows sound r right g taken has =
       let were : WereRight t s.entries calls g.dids =
       were_right t s.entries calls g.dids [] (g.calls_are ∙ sym (append_none (calls_by g.dids))) right in
       let lawful = subst (λ (cs : List Choice). AreLawful (sizes_of t.setting.tops) t.used (cs ++ choices_of g.dids))
@@ -121,30 +127,37 @@ module _ {N : Type 0} (nodes : Nodes N) (t : Terms) (sizes : ℕ → ℕ) (f : F
       (r.given ∙ ap (λ (cs : List Child). length cs) (sym (does_children t g.dids r.node.stack g.stack g.does)))
       ∙ sym one_more_child in
       let done : HasDone r.node.stack g.stack (calls_by g.dids) =
-      does_before g.stack g.op t g.dids r.node.stack g.does r.seated (hands t e.node r.node.stack r.is) r.ledger.seats.0
-      (hands t node (handed g.stack g.op) g.is) (does_children t g.dids r.node.stack g.stack g.does) in
+      does_itself t g.dids r.node.stack g.stack g.does g.opens r.seated r.ledger.hands.0 in
       let grown_by : IsLedger {N = N} nodes t f (booked s.books calls) (s.entries ++ choices_in calls) s.tops s.trees
       (live_of key y ∷ r.others) has.mid =
       ledger_moves nodes t f s.books s.entries s.tops s.trees slab has.mid calls key r.node y r.others r.ledger
       (handed_ended g.stack g.op ∙ done.ended)
       (λ w. handed_held g.stack g.op w done.stands ∙ done.held w ∙ ap (λ (n : ℕ). total w (held_by r.node.stack) + n)
       (sym (ap (λ (cs : List SpaceCall). total w (found_in cs)) g.calls_are)))
-      (handed_seats g.stack g.op (seats_after r.node.stack g.stack done.children done.longer r.ledger.seats.0))
+      (hands_handed g.stack g.op done.stands.full (hands_does t g.dids r.node.stack g.stack g.does g.opens r.ledger.hands.0))
+      (handed_sizes t r.seen g.stack g.op (measured_all t r.seen g.dids r.node.stack g.stack g.does
+      (measured t f r.seen r.node.stack r.seated r.of_round r.ledger.sizes.0)))
       (subst (AllByRecursion (λ (p : Place). Contains (held_by y.stack) p ⊎ Contains t.used p))
       (sym (ap backs_in (g.calls_are ∙ sym (append_none (calls_by g.dids))) ∙ backs_are g.dids [])) tt)
       (λ w. gave_more nodes slab has.mid key w e parent_now [] r.there put (g.gave_same ∙ sym (append_none (nodes.gave e.node)))
       ∙ ap (λ (n : ℕ). gave_over {N = N} nodes w slab + n)
       (sym (ap (λ (cs : List SpaceCall). total w (backs_in cs)) (g.calls_are ∙ sym (append_none (calls_by g.dids)))
-      ∙ backs_did w g.dids []))) in
+      ∙ backs_did w g.dids [])))
+      (λ ended k. handed_rests g.stack g.op f ended done.stands (done.rests f ended k)) in
+      let grows : StillKept {N = N} nodes t sizes f before s.trees s.tops (live_of has.at z ∷ live_of key y ∷ r.others)
+      (shelf_of {N = N} slab_now) line_now leaves (r.state.entries ++ choices_of g.dids) r.state.images =
+      one_grows nodes t sizes f before s.trees s.tops (shelf_of {N = N} slab) (key ∷ line) leaves r.state key has.at r.node
+      r.others h sound r.kept r.held line (queued_first key line) g.dids g.stack g.does were.claims lawful g.op g.part g.asks
+      room node child g.is g.told g.child_is g.child_told (ap (held_if {N = N}) free) (shelf_of {N = N} slab_now) both_now
+      line_now (subst (λ (q : List ℕ). OneMore has.at (key ∷ line) q) (sym has.queued) (both_queued key has.at line)) in
+      let of_round : (seen : List Choice) × IsOfRound t f seen y.stack =
+      second_of_round nodes t sizes f before s slab_now line_now leaves key e (live_of has.at z) (live_of key y) r.others
+      grows.state grows.kept in
       record {
         lives = live_of has.at z ∷ live_of key y ∷ r.others;
         still = still_as nodes t sizes f before s.trees s.tops (live_of has.at z ∷ live_of key y ∷ r.others)
             (shelf_of {N = N} slab_now) line_now leaves (r.state.entries ++ choices_of g.dids) (s.entries ++ choices_in calls)
-            r.state.images s.images
-            (one_grows nodes t sizes f before s.trees s.tops (shelf_of {N = N} slab) (key ∷ line) leaves r.state key has.at r.node
-            r.others h sound r.kept r.held line (queued_first key line) g.dids g.stack g.does were.claims lawful g.op g.part g.asks
-            room node child g.is g.told g.child_is g.child_told (ap (held_if {N = N}) free) (shelf_of {N = N} slab_now) both_now
-            line_now (subst (λ (q : List ℕ). OneMore has.at (key ∷ line) q) (sym has.queued) (both_queued key has.at line)))
+            r.state.images s.images grows
             (ap (λ (cs : List Choice). cs ++ choices_of g.dids) r.entries_are
             ∙ ap (λ (cs : List Choice). s.entries ++ cs) (sym were.same))
             r.images_are;
@@ -163,5 +176,7 @@ module _ {N : Type 0} (nodes : Nodes N) (t : Terms) (sizes : ℕ → ℕ) (f : F
             r.theirs);
         ledger = ledger_child nodes t f (booked s.books calls) (s.entries ++ choices_in calls) s.tops s.trees has.mid slab_now has.at
             (with_stack r.node g.stack) g.op (live_of key y ∷ r.others) grown_by
-            (λ w. gave_new nodes has.mid slab_now has.at w child_now has.free has.added g.child_gave);
+            (λ w. gave_new nodes has.mid slab_now has.at w child_now has.free has.added g.child_gave)
+            (handed_op_rests g.stack g.op t f of_round.0 (numbers_ended (all_ended s.books.done)) done.stands
+            (done.rests f (numbers_ended (all_ended s.books.done)) r.ledger.rests.nodes.0) g.asks of_round.1.outer);
       }

@@ -30,11 +30,13 @@ use Rattle.zio_graph.specs.Desks.{backs_in, found_in}
 use Rattle.zio_graph.specs.Ledgers.{gave_over}
 use Rattle.zio_graph.specs.Parts.{Nodes, ended_in}
 use Rattle.zio_graph.specs.Rounds.{AreRight, Before, KeepsRound, SoFar, choices_in, with_calls, with_images, with_op}
+use Rattle.zio_graph.specs.Sizes.{HasAskedSize}
 use Rattle.zio_graph.specs.Slabs.{held_of, shelf_of}
 use Rattle.zio_graph.specs.Stages.{GoesOn, Stays, AreItsOwn}
 use Rattle.zio_graph.specs.declared.entry.Entry.{Entry}
 use Rattle.zio_graph.proofs.Callings.{WereRight, none_made, were_right}
-use Rattle.zio_graph.proofs.LedgerDids.{Hands, HasDone, does_itself, seats_after, does_ops}
+use Rattle.zio_graph.proofs.LedgerDids.{HasDone, does_itself, does_ops}
+use Rattle.zio_graph.proofs.LedgerHands.{hands_does, hands_leaf}
 use Rattle.zio_graph.proofs.LedgerMoves.{backs_did, found_did, ledger_changes, ledger_moves, ledger_stays, backs_are}
 use Rattle.zio_graph.proofs.LedgerSlabs.{gave_more, gave_put}
 use Rattle.zio_graph.proofs.LeafOps.{theirs_back, theirs_out, theirs_with}
@@ -43,6 +45,7 @@ use Rattle.zio_graph.proofs.MoveLeaf.{one_comes_back}
 use Rattle.zio_graph.proofs.MoveOne.{leaf_now, one_goes_on, one_goes_to_leaf, one_waits, queued_now}
 use Rattle.zio_graph.proofs.RoundNodes.{IsThere, does_children, still_as}
 use Rattle.zio_graph.proofs.Shelves.{numbered_with, shelf_with}
+use Rattle.zio_graph.proofs.SizeMoves.{answered_sizes, measured, measured_all}
 use Rattle.zio_graph.proofs.DoesLemmas.{append_none}
 use Rattle.zio_graph.proofs.LedgerOwns.{GivesOwn, gone_own}
 use Rattle.zio_frames.specs.OfRound.{IsTaskOf}
@@ -81,18 +84,17 @@ module _ {N : Type 0} (nodes : Nodes N) (t : Terms) (sizes : ℕ → ℕ) (f : F
   Now s_now queue_now leaves_now = KeepsRound {N = N} nodes t sizes f before s_now slab_now queue_now leaves_now
 
   -- it does several things itself
-  pub round_goes_on : Hands {N = N} nodes → GivesOwn {N = N} nodes → IsSoundRound t sizes f → (r : There) → (rest : List ℕ) → OneMore key rest queue → (calls : List SpaceCall)
+  pub round_goes_on : GivesOwn {N = N} nodes → IsSoundRound t sizes f → (r : There) → (rest : List ℕ) → OneMore key rest queue
+      → (calls : List SpaceCall)
       → AreRight t s.entries calls → (node : N) → GoesOn {N = N} nodes nodes.gave t e.node r.node.stack calls node
       → Updates slab slab_now key (Some (with_ties {N = N} node e.ties)) → Now (with_calls s calls) queue leaves
-  round_goes_on hands owns sound r rest more calls right node g put =
+  round_goes_on owns sound r rest more calls right node g put =
       let were : WereRight t s.entries calls g.dids = were_right t s.entries calls g.dids g.gone g.calls_are right in
       let lawful = subst (λ (cs : List Choice). AreLawful (sizes_of t.setting.tops) t.used (cs ++ choices_of g.dids))
       (sym r.entries_are) were.lawful in
       let y : Flying = record { at = r.node.at; stack = g.stack } in
-      let same = does_children t g.dids r.node.stack g.stack g.does in
       let done : HasDone r.node.stack g.stack (calls_by g.dids) =
-      does_itself t g.dids r.node.stack g.stack g.does r.seated (hands t e.node r.node.stack r.is) r.ledger.seats.0
-      (hands t node g.stack g.is) same in
+      does_itself t g.dids r.node.stack g.stack g.does g.opens r.seated r.ledger.hands.0 in
       record {
         lives = live_of key y ∷ r.others;
         still = still_as nodes t sizes f before s.trees s.tops (live_of key y ∷ r.others) (shelf_of {N = N} slab_now) queue leaves
@@ -114,7 +116,9 @@ module _ {N : Type 0} (nodes : Nodes N) (t : Terms) (sizes : ℕ → ℕ) (f : F
         ledger = ledger_moves nodes t f s.books s.entries s.tops s.trees slab slab_now calls key r.node y r.others r.ledger done.ended
             (λ w. done.held w ∙ ap (λ (n : ℕ). total w (held_by r.node.stack) + n)
             (sym (ap (λ (cs : List SpaceCall). total w (found_in cs)) g.calls_are ∙ found_did w g.dids g.gone)))
-            (seats_after r.node.stack g.stack done.children done.longer r.ledger.seats.0)
+            (hands_does t g.dids r.node.stack g.stack g.does g.opens r.ledger.hands.0)
+            (measured_all t r.seen g.dids r.node.stack g.stack g.does
+            (measured t f r.seen r.node.stack r.seated r.of_round r.ledger.sizes.0)).sizes
             (subst (AllByRecursion (λ (p : Place). Contains (held_by g.stack) p ⊎ Contains t.used p))
             (sym (ap backs_in g.calls_are ∙ backs_are g.dids g.gone))
             (gone_own t sizes f r.seen g.stack (nodes.gave e.node) g.gone sound
@@ -122,7 +126,8 @@ module _ {N : Type 0} (nodes : Nodes N) (t : Terms) (sizes : ℕ → ℕ) (f : F
             (subst (λ (ps : List Place). AreItsOwn ps g.stack) g.gave_more (owns t node g.stack g.is))))
             (λ w. gave_more nodes slab slab_now key w e (with_ties {N = N} node e.ties) g.gone r.there put g.gave_more
             ∙ ap (λ (n : ℕ). gave_over {N = N} nodes w slab + n)
-            (sym (ap (λ (cs : List SpaceCall). total w (backs_in cs)) g.calls_are ∙ backs_did w g.dids g.gone)));
+            (sym (ap (λ (cs : List SpaceCall). total w (backs_in cs)) g.calls_are ∙ backs_did w g.dids g.gone)))
+            (λ ended. done.rests f ended);
       }
 
   -- it stalls on a count that isn't 0
@@ -192,11 +197,12 @@ module _ {N : Type 0} (nodes : Nodes N) (t : Terms) (sizes : ℕ → ℕ) (f : F
 
   -- the leaf answered
   pub round_comes_back : IsSoundRound t sizes f → (r : There) → (rest : List ℕ) → OneMore key rest leaves → (act : LeafOp)
-      → r.node.stack ≡ fresh_stack (Leaf act) → (a : Answer) (after : Images) → AnswersOnLeaf t before act s.images a after
+      → r.node.stack ≡ fresh_stack (Leaf act) → (a : Answer) (after : Images) → HasAskedSize act a
+      → AnswersOnLeaf t before act s.images a after
       → (node : N) → nodes.Is t node (done_at_once (fresh_stack (Leaf act)) (Leaf act) (Got a))
       → nodes.told node ≡ nodes.told e.node → nodes.gave node ≡ nodes.gave e.node
       → Updates slab slab_now key (Some (with_ties {N = N} node e.ties)) → (queue_now : List ℕ) → OneMore key queue queue_now → Now (with_images s after) queue_now rest
-  round_comes_back sound r rest more act fresh a after answers node is told gave put queue_now more_queue =
+  round_comes_back sound r rest more act fresh a after full answers node is told gave put queue_now more_queue =
       let x : Flying = record { at = r.node.at; stack = fresh_stack (Leaf act) } in
       let is_x : r.node ≡ x = λ i. record { at = r.node.at; stack = fresh i } in
       let now : Entry N = with_ties {N = N} node e.ties in
@@ -222,6 +228,6 @@ module _ {N : Type 0} (nodes : Nodes N) (t : Terms) (sizes : ℕ → ℕ) (f : F
             (held_of {N = N} e) rest r.kept r.held more).2
             r.theirs;
         ledger = ledger_changes nodes t f s.books s.entries s.tops s.trees slab slab_now key r.node y r.others r.ledger
-            (sym (ap ended_in fresh)) (sym (ap held_by fresh)) (λ k c n there seat. absurd (cc))
-            (λ w. gave_put nodes slab slab_now key w e now r.there put gave);
+            (sym (ap ended_in fresh)) (sym (ap held_by fresh)) (hands_leaf act (Got a)) (answered_sizes act a full)
+            (λ w. gave_put nodes slab slab_now key w e now r.there put gave) (λ ended h. record { own = tt; heard = (tt, tt) });
       }

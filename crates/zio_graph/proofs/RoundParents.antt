@@ -113,7 +113,7 @@ module _ {N : Type 0} (nodes : Nodes N) (t : Terms) (sizes : ℕ → ℕ) (f : F
       state k.running (two_forward s.tops x y others) in
       r.running.seated.1.0
 
-  second_of_round : (x y : Live) (others : List Live) (state : State)
+  pub second_of_round : (x y : Live) (others : List Live) (state : State)
       → IsKept {N = N} nodes t sizes f before s.trees s.tops (x ∷ y ∷ others) (shelf_of {N = N} slab) queue leaves state
       → (seen : List Choice) × IsOfRound t f seen y.stack
   second_of_round x y others state k =

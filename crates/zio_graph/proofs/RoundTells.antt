@@ -27,7 +27,7 @@ use Rattle.zio_graph.proofs.Finds.{tree_found}
 use Rattle.zio_graph.proofs.FoundFits.{one_asked, tree_asked, tree_seated}
 use Rattle.zio_graph.proofs.HearLemmas.{some_more, told_not}
 use Rattle.zio_graph.proofs.LeafOps.{theirs_parent}
-use Rattle.zio_graph.proofs.LedgerHears.{hears_early}
+use Rattle.zio_graph.proofs.LedgerHears.{HasHeardEarly, hears_early}
 use Rattle.zio_graph.proofs.LedgerMoves.{booked, ledger_stays, ledger_tells, ledger_tree}
 use Rattle.zio_graph.proofs.LedgerSlabs.{gave_put}
 use Rattle.zio_graph.proofs.LedgerTrees.{told_tree, top_slice}
@@ -174,6 +174,10 @@ module _ {N : Type 0} (nodes : Nodes N) (over : List Top → N → Type 0) (t : 
       let needs : needs_none e.ties.kind ≡ false = needs_it r.node found.top found.child refl asked in
       let tops : List (Option Flying) =
       slice_set s.tops tree (Some (record { at = found.top.at; stack = heard_early found.top.stack n found.child pointer })) in
+      let early : HasHeardEarly found.top.stack (heard_early found.top.stack n found.child pointer) =
+      hears_early found.top.stack n found.child pointer
+      (tree_seated nodes t sizes f before s.trees s.tops (shelf_of {N = N} slab) (key ∷ line) leaves r.state tree found.top
+      (live_of key r.node ∷ r.others) r.kept found.there) found.does.is found.does.goes in
       record {
         top = found.top;
         number = n;
@@ -200,9 +204,8 @@ module _ {N : Type 0} (nodes : Nodes N) (over : List Top → N → Type 0) (t : 
               (ledger_stays nodes t f s.books s.entries s.tops s.trees slab mid calls (live_of key r.node ∷ r.others) r.ledger
               tells.no_calls (λ w. gave_put nodes slab mid key w e (with_ties {N = N} node e.ties) r.there put tells.gave_same))
               (top_slice s.tops tree found.top found.there)
-              (hears_early found.top.stack n found.child pointer
-              (tree_seated nodes t sizes f before s.trees s.tops (shelf_of {N = N} slab) (key ∷ line) leaves r.state tree found.top
-              (live_of key r.node ∷ r.others) r.kept found.there) found.does.is found.does.goes).ended
-              (told_tree found.top.stack n found.child pointer) (λ w. refl);
+              early.ended
+              (told_tree found.top.stack n found.child pointer) (λ w. refl)
+              (λ ended. early.rests f ended);
         };
       }

@@ -27,7 +27,6 @@ use Rattle.zio_graph.specs.declared.step.Step.TheVariants.{Goes, Leaf as ToLeaf,
 use Rattle.zio_graph.proofs.Finds.{queued_held}
 use Rattle.zio_graph.proofs.FoundFits.{one_lies, one_spans}
 use Rattle.zio_graph.proofs.Queues.{queued_first}
-use Rattle.zio_graph.proofs.LedgerDids.{Hands}
 use Rattle.zio_graph.proofs.RoundEnds.{can_end, ends_as, more, round_ends, round_ends_tree}
 use Rattle.zio_graph.proofs.RoundGrows.{round_grows}
 use Rattle.zio_graph.proofs.RoundMoves.{one_counted, round_goes_on, round_goes_to_leaf, round_waits, some_owing}
@@ -48,7 +47,7 @@ module _ {N : Type 0} (nodes : Nodes N) (tops : List Top) (slab : Slab (Entry N)
       (queued_first key line) in
       from_held {N = N} (get slab key) held.0 held.1
 
-module _ {N : Type 0} (nodes : Nodes N) (hands : Hands {N = N} nodes) (owns : GivesOwn {N = N} nodes) (over : List Top → N → Type 0) (tops : List Top)
+module _ {N : Type 0} (nodes : Nodes N) (owns : GivesOwn {N = N} nodes) (over : List Top → N → Type 0) (tops : List Top)
     (slab out slab_now : Slab (Entry N)) (line line_now : List ℕ) (key : ℕ) (e : Entry N) (calls : List SpaceCall)
     (is : get slab key ≡ Some e) (taken : Updates slab out key None) where
   abbrev On : Step → Type 0
@@ -61,7 +60,7 @@ module _ {N : Type 0} (nodes : Nodes N) (hands : Hands {N = N} nodes) (owns : Gi
       let r = it_is_there nodes t sizes f before s slab (key ∷ line) leaves key e k is in
       subst (λ (q : List ℕ). KeepsRound {N = N} nodes t sizes f before (with_calls s calls) slab_now (key ∷ q) leaves)
       (sym same)
-      (round_goes_on nodes t sizes f before s slab slab_now (key ∷ line) leaves key e hands owns sound r line (queued_first key line) calls
+      (round_goes_on nodes t sizes f before s slab slab_now (key ∷ line) leaves key e owns sound r line (queued_first key line) calls
       right node (moves t r.node.stack (record { tops_are = tops_are; is = r.is; seated = r.seated }))
       (exchanged slab out slab_now key (with_ties {N = N} node e.ties) taken put))
 
@@ -119,7 +118,7 @@ module _ {N : Type 0} (nodes : Nodes N) (hands : Hands {N = N} nodes) (owns : Gi
       → HasGrown {N = N} out line slab_now line_now key (with_ties {N = N} node e.ties) child kind → On Rests
   steps_grow node child kind moves has = λ t sizes f before s leaves sound tops_are right k.
       let r = it_is_there nodes t sizes f before s slab (key ∷ line) leaves key e k is in
-      round_grows nodes t sizes f before s slab out slab_now line line_now leaves key e calls node child kind hands sound r right
+      round_grows nodes t sizes f before s slab out slab_now line line_now leaves key e calls node child kind sound r right
       (moves t r.node.stack (record { tops_are = tops_are; is = r.is; seated = r.seated })) taken has
 
   -- ---- it tells
@@ -175,7 +174,7 @@ module _ {N : Type 0} (nodes : Nodes N) (hands : Hands {N = N} nodes) (owns : Gi
         let r = it_is_there nodes t sizes f before s slab (key ∷ line) leaves key e k is in
         let now : SoFar = with_calls s calls in
         let heard : TreeHears {N = N} nodes t sizes f before now out line leaves tree outcome =
-        round_ends_tree nodes hands over t sizes f before s slab out (key ∷ line) leaves key e calls outcome r
+        round_ends_tree nodes over t sizes f before s slab out (key ∷ line) leaves key e calls outcome r
         (moves t r.node.stack (record { tops_are = tops_are; is = r.is; seated = r.seated }))
         (λ a. finds t r.node.stack a r.is) taken sound line (queued_first key line) tree n (ap parent_of above) in
         subst (λ (b : Slab (Entry N)). TreeHears {N = N} nodes t sizes f before now b line_now leaves tree outcome)
@@ -184,18 +183,18 @@ module _ {N : Type 0} (nodes : Nodes N) (hands : Hands {N = N} nodes) (owns : Gi
     ends_by (Node upper n) above step has = subst On (sym has.1.1) (λ t sizes f before s leaves sound tops_are right k.
         let r = it_is_there nodes t sizes f before s slab (key ∷ line) leaves key e k is in
         let ends = moves t r.node.stack (record { tops_are = tops_are; is = r.is; seated = r.seated }) in
-        let into = more nodes hands over t sizes f before s slab out (key ∷ line) leaves key e calls outcome r ends
+        let into = more nodes over t sizes f before s slab out (key ∷ line) leaves key e calls outcome r ends
         (λ a. finds t r.node.stack a r.is) taken in
         record {
           op = r.node.stack.outer.op;
           outcome = outcome;
           value = ends.value;
-          how = ends_as nodes hands over t sizes f before s slab out (key ∷ line) leaves key e calls outcome r ends
+          how = ends_as nodes over t sizes f before s slab out (key ∷ line) leaves key e calls outcome r ends
               (λ a. finds t r.node.stack a r.is) taken;
           handed = has.1.2;
           more = into.more;
           told = into.told;
-          keeps = round_ends nodes hands over t sizes f before s slab out (key ∷ line) leaves key e calls outcome r ends
+          keeps = round_ends nodes over t sizes f before s slab out (key ∷ line) leaves key e calls outcome r ends
               (λ a. finds t r.node.stack a r.is) taken upper n (ap parent_of above) sound tops tops_are line (queued_first key line)
               slab_now line_now has.0;
         })
@@ -211,7 +210,7 @@ module _ {N : Type 0} (nodes : Nodes N) (hands : Hands {N = N} nodes) (owns : Gi
         let some = turn.keeps in
         let r = it_is_there nodes some.terms some.sizes some.forest some.before some.so_far slab (key ∷ line) turn.leaves key e
         some.keeps is in
-        can_end nodes hands over some.terms some.sizes some.forest some.before some.so_far slab out (key ∷ line) turn.leaves key e
+        can_end nodes over some.terms some.sizes some.forest some.before some.so_far slab out (key ∷ line) turn.leaves key e
         calls outcome r (moves some.terms r.node.stack (record { tops_are = some.tops_are; is = r.is; seated = r.seated }))
         (λ a. finds some.terms r.node.stack a r.is) taken upper n (ap parent_of above) tops some.tops_are turn.over_all
 

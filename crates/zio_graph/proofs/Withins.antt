@@ -1,12 +1,11 @@
 -- What a node does within its own part asks for no request and no part, and has none in its value.
-use Rattle.std.proofs.Common.{◌≡◌, ℕ, zero, suc, ◌+◌, List, [], ◌∷◌, slice_get, Bool, true, false, Option, Some, None, Ok, Err, refl, sym, ◌∙◌, subst, ◌⊎◌, inl, inr}
+use Rattle.std.proofs.Common.{◌≡◌, ℕ, zero, suc, ◌+◌, List, [], ◌∷◌, slice_get, Bool, true, false, Option, Some, None, Ok, Err, refl, sym, ◌∙◌, subst}
 use Rattle.zio_types.specs.declared.error.Errno.{Errno}
 use Rattle.zio_types.specs.declared.error.Errno.TheVariants.{Io}
 use Rattle.zio_blkptr.specs.declared.pointer.Bp.{Bp}
 use Rattle.zio_cksum.specs.Headers.{members_of}
 use Rattle.zio_gang.specs.Attempts.{Terms}
 use Rattle.zio_trace.specs.Calls.{FitsEarly}
-use Rattle.zio_trace.specs.Conflicts.{is_single}
 use Rattle.zio_trace.specs.CopyPrograms.{block_reading, piece_writing}
 use Rattle.zio_trace.specs.Leaves.{Answer, LeafOp}
 use Rattle.zio_trace.specs.Plans.{TaskPlan, by_leaves, head_task, join_walked, plan, plan_after, plan_below, plan_bodies, plan_found, plan_pointer, under_head}
@@ -14,15 +13,15 @@ use Rattle.zio_trace.specs.Programs.{Asks, Ends, Program, ◌>>=◌, ask}
 use Rattle.zio_trace.specs.Tasks.{Attempt, ByClaim, ByKept, Find, Got, Leaf, Look, ReadCopies, ReadHeads, ReadTree, Settle, StoredAs, TakePlaces, Task, Value, WalkedBy, WriteCopies, WritePart, Wrote, got, good_by, visit_of, walked}
 use Rattle.zio_trace.specs.Underway.{early}
 use Rattle.zio_frames.specs.Answering.{IsAnswerTo, NextAnswered}
+use Rattle.zio_frames.specs.Frames.{Frame, left_of}
+use Rattle.zio_frames.specs.Moves.{AsksNext}
 use Rattle.zio_frames.specs.OfRound.{AreAsked}
 use Rattle.zio_frames.specs.Slots.{Heard, IsOut, Slot, left_behind_slots, told_in}
 use Rattle.zio_frames.proofs.KnownLemmas.{AlwaysEnds, ends_then}
 use Rattle.zio_stages.specs.Outcomes.{places_by}
+use Rattle.zio_stages.specs.OwnParts.{IsDoneWithin}
 use Rattle.zio_graph.specs.Parts.{ended_by}
-use Rattle.zio_graph.specs.Stages.{IsHandedOut, IsWithin}
 use Rattle.zio_graph.proofs.Links.{some_is}
-use Rattle.zio_frames.specs.Frames.{Frame, left_of}
-use Rattle.zio_frames.specs.Moves.{AsksNext}
 
 -- ---- which they are
 
@@ -33,32 +32,13 @@ IsQuiet (Settle p kids) = ⊥
 IsQuiet (WritePart attempt p sum copies levels path bytes) = ⊥
 IsQuiet _ = Unit {0}
 
-pub handed_or_quiet : (op : Task) → IsHandedOut op ⊎ IsQuiet op
-handed_or_quiet (Attempt attempt p kids) = inl tt
-handed_or_quiet (Settle p kids) = inl tt
-handed_or_quiet (WritePart attempt p sum copies levels path bytes) = inl tt
-handed_or_quiet _ = inr tt
-
-within_quiet : (op : Task) → IsWithin op → IsQuiet op
+pub within_quiet : (op : Task) → IsDoneWithin op → IsQuiet op
 within_quiet (Attempt attempt p kids) h = h
 within_quiet (Settle p kids) h = h
 within_quiet (WritePart attempt p sum copies levels path bytes) h = h
 within_quiet _ h = tt
 
--- a part that isn't handed out
-pub within_part : (op : Task) → is_single op ≡ false → (IsHandedOut op → ⊥) → IsWithin op
-within_part (Leaf act) part not = absurd (cc)
-within_part (Find a) part not = absurd (cc)
-within_part (ReadCopies repair test len places) part not = tt
-within_part (WriteCopies bytes places) part not = tt
-within_part (WritePart attempt p sum copies levels path bytes) part not = absurd (not tt)
-within_part (ReadHeads look levels path bp) part not = tt
-within_part (ReadTree tree) part not = tt
-within_part (TakePlaces tree) part not = absurd (cc)
-within_part (Attempt attempt p kids) part not = absurd (not tt)
-within_part (Settle p kids) part not = absurd (not tt)
-
-pub within_places : (op : Task) (v : Value) → IsWithin op → places_by op v ≡ []
+pub within_places : (op : Task) (v : Value) → IsDoneWithin op → places_by op v ≡ []
 within_places (ReadCopies repair test len places) v h = refl
 within_places (WriteCopies bytes places) v h = refl
 within_places (ReadHeads look levels path bp) v h = refl
@@ -69,18 +49,6 @@ within_places (WritePart attempt p sum copies levels path bytes) v h = absurd h
 within_places (TakePlaces tree) v h = absurd h
 within_places (Attempt attempt p kids) v h = absurd h
 within_places (Settle p kids) v h = absurd h
-
-pub not_quiet : (op : Task) → IsQuiet op → IsHandedOut op → ⊥
-not_quiet (Attempt attempt p kids) q h = q
-not_quiet (Settle p kids) q h = q
-not_quiet (WritePart attempt p sum copies levels path bytes) q h = q
-not_quiet (Leaf act) q h = h
-not_quiet (Find a) q h = h
-not_quiet (ReadCopies repair test len places) q h = h
-not_quiet (WriteCopies bytes places) q h = h
-not_quiet (ReadHeads look levels path bp) q h = h
-not_quiet (ReadTree tree) q h = h
-not_quiet (TakePlaces tree) q h = h
 
 -- ---- what it asks
 
@@ -176,7 +144,7 @@ all_quiet (q ∷ asked) (IsOut told ∷ slots) (Asks next more) h are (suc n) op
     all_quiet asked slots (more some.0) (h.1 some.0) (are.1 some.0 (answers_quiet next some.0 h.0) some.1) n op slot e s
 
 -- an operation that a part within asked
-pub asked_within : (t : Terms) (part : Task) (asked : List Task) (slots : List Slot) → IsWithin part
+pub asked_within : (t : Terms) (part : Task) (asked : List Task) (slots : List Slot) → IsDoneWithin part
     → AreAsked asked slots (plan t part) → (n : ℕ) (op : Task) (slot : Slot) → slice_get asked n ≡ Some op
     → slice_get slots n ≡ Some slot → IsQuiet op
 asked_within t part asked slots h are n op slot e s = all_quiet asked slots (plan t part) (asks_quietly t part (within_quiet part h)) are n op slot e s
@@ -221,7 +189,7 @@ ends_after : (errors : List (Option Errno)) (bodies : List Bp) → AlwaysEnds No
 ends_after [] bodies = ends_then NoEnded (plan_bodies bodies) _ (λ b. refl)
 ends_after (e ∷ errors) bodies = refl
 
-ends_quietly : (t : Terms) (op : Task) → IsWithin op → AlwaysEnds NoEnded (plan t op)
+ends_quietly : (t : Terms) (op : Task) → IsDoneWithin op → AlwaysEnds NoEnded (plan t op)
 ends_quietly t (ReadCopies repair test len places) h =
     ends_then NoEnded (by_leaves (block_reading t.setting repair (good_by test) len places)) (λ a. Ends (Got a)) (λ a. refl)
 ends_quietly t (WriteCopies bytes places) h =
@@ -240,10 +208,10 @@ ends_quietly t (TakePlaces tree) h = absurd h
 ends_quietly t (Attempt attempt p kids) h = absurd h
 ends_quietly t (Settle p kids) h = absurd h
 
-asks_no_end : {A : Type 0} (op : Task) (more : Value → TaskPlan A) (a : A) → ◌≡◌ {A = TaskPlan A} (Asks op more) (Ends a) → ⊥
+pub asks_no_end : {A : Type 0} (op : Task) (more : Value → TaskPlan A) (a : A) → ◌≡◌ {A = TaskPlan A} (Asks op more) (Ends a) → ⊥
 asks_no_end op more a e = cc
 
-same_end : {A : Type 0} (a b : A) → ◌≡◌ {A = TaskPlan A} (Ends a) (Ends b) → a ≡ b
+pub same_end : {A : Type 0} (a b : A) → ◌≡◌ {A = TaskPlan A} (Ends a) (Ends b) → a ≡ b
 same_end a b e = cc
 
 -- what holds of each end of a plan holds of what is left of it
@@ -255,6 +223,6 @@ ends_left P (x ∷ slots) (Ends b) a h e = subst P (same_end b a e) h
 ends_left P (Heard v ∷ slots) (Asks op more) a h e = ends_left P slots (more v) a (h v) e
 ends_left P (IsOut told ∷ slots) (Asks op more) a h e = absurd (asks_no_end op (λ v. left_behind_slots slots (more v)) a e)
 
-pub value_within : (t : Terms) (op : Task) (slots : List Slot) (v : Value) → IsWithin op
+pub value_within : (t : Terms) (op : Task) (slots : List Slot) (v : Value) → IsDoneWithin op
     → left_behind_slots slots (plan t op) ≡ Ends v → ended_by v ≡ []
 value_within t op slots v h e = ends_left NoEnded slots (plan t op) v (ends_quietly t op h) e

@@ -1,5 +1,5 @@
 -- The books of a round: each request that finished, and what became of each place.
-use Rattle.std.specs.Prelude.{◌≡◌, ℕ, ◌+◌, ◌<◌, ◌≤◌, List, [], ◌∷◌, ◌++◌, length, map, slice_get, Option, Some, None, Contains, IsPermutation, is_none, option_to_list}
+use Rattle.std.specs.Prelude.{◌≡◌, ℕ, ◌+◌, ◌≤◌, List, [], ◌∷◌, ◌++◌, map, slice_get, Option, Some, None, Contains, IsPermutation, is_none, option_to_list}
 use Rattle.std.specs.List.{AllByRecursion, flat_map, sum_by}
 use Rattle.zio_types.specs.declared.place.Place.{Place}
 use Rattle.zio_types.specs.Choices.{Choice}
@@ -10,7 +10,7 @@ use Rattle.zio_gang.specs.Trees.{tree_places}
 use Rattle.zio_trace.specs.Families.{Forest, NoTrees}
 use Rattle.zio_types.specs.declared.request.ChildKind.TheVariants.{Logical}
 use Rattle.zio_trace.specs.Tasks.{Attempt, AttemptedBy, One, Task, settled}
-use Rattle.zio_frames.specs.Frames.{Child, Flying, OfOuter, Stack, kind_of_task}
+use Rattle.zio_frames.specs.Frames.{Flying, Stack, kind_of_task}
 use Rattle.zio_frames.specs.Moves.{IsEnded}
 use Rattle.zio_frames.specs.OfRound.{IsTreeOf}
 use Rattle.zio_frames.specs.Slots.{Heard, IsOut, Slot}
@@ -20,7 +20,10 @@ use Rattle.slab.specs.Slab.{Slab}
 use Rattle.zio_graph.specs.Desks.{taken_by_all}
 use Rattle.zio_graph.specs.Entries.{Live}
 use Rattle.zio_graph.specs.Parts.{Nodes, ended_in}
+use Rattle.zio_graph.specs.Rests.{ChildrenAmong, HasRests, numbers_ended}
+use Rattle.zio_graph.specs.Sizes.{FitsBodies, HasSizes}
 use Rattle.zio_graph.specs.Slabs.{left_over}
+use Rattle.zio_graph.specs.Stages.{AreHandedOut}
 use Rattle.zio_graph.specs.declared.entry.Entry.{Entry}
 
 -- ---- the books
@@ -64,6 +67,12 @@ pub record IsEnding (t : Terms) (f : Forest) (x : Ending) : Type 0 where
 abbrev pub AreBehind : List Ended → List Ending → Type 0
 AreBehind front [] = Unit {0}
 AreBehind front (x ∷ xs) = AllByRecursion (Contains front) x.below × AreBehind (front ++ x.ended ∷ []) xs
+
+-- each finished behind all requests of the round that stand under it
+abbrev pub AreBehindChildren : Forest → List ℕ → List Ending → Type 0
+AreBehindChildren f front [] = Unit {0}
+AreBehindChildren f front (x ∷ xs) =
+    ChildrenAmong f x.ended.request.number front × AreBehindChildren f (front ++ x.ended.request.number ∷ []) xs
 
 -- these are told of them, one by one
 abbrev pub AreToldAs : List Finished → List Ending → Type 0
@@ -122,18 +131,22 @@ AreOnce places = (p : Place) → total (λ q. one_if (is_same_place p q)) places
 
 -- ---- all of it
 
--- a child's operation is one of those asked
-abbrev pub SeatsBelow : Stack → Type 0
-SeatsBelow st = (k : ℕ) (c : Child) (n : ℕ) → slice_get st.children k ≡ Some c → c.seat ≡ OfOuter n → n < length st.outer.slots
-
 -- a tree does nothing within, and asks for attempts alone
 pub record IsOfTree (st : Stack) : Type 0 where
   pub alone : st.inner ≡ None
   pub attempts : (n : ℕ) (op : Task) → slice_get st.outer.asked n ≡ Some op → kind_of_task op ≡ Logical
 
+-- Whatever finished is behind its children; and whatever stands under a request that a node or a tree attempts is left under it,
+-- or finished.
+pub record KeepsChildren (f : Forest) (done : List Ending) (tops : List (Option Flying)) (lives : List Live) : Type 0 where
+  pub children : AreBehindChildren f [] done
+  pub nodes : AllByRecursion (λ (x : Live). HasRests f (numbers_ended (all_ended done)) x.stack) lives
+  pub trees : (n : ℕ) (top : Flying) → slice_get tops n ≡ Some (Some top) → HasRests f (numbers_ended (all_ended done)) top.stack
+
 -- The requests that finished are those that somebody heard of. Each place is found or freed or given back as often as it is held,
 -- was given back or is in a block that was made; and what is held or made was found. What was given back was found, or in use at the
--- round's start.
+-- round's start. Each node hands out the requests and the parts that it asks; what it heard has the sizes that were asked for, and
+-- each read that finished that of its block's bodies.
 pub record IsLedger {N : Type 0} (nodes : Nodes N) (t : Terms) (f : Forest) (books : Books) (entries : List Choice)
     (tops : List (Option Flying)) (trees : List Slot) (lives : List Live) (slab : Slab (Entry N)) : Type 0 where
   pub requests : IsPermutation (all_ended books.done) (ended_with (ended_of_trees tops trees) lives)
@@ -144,5 +157,8 @@ pub record IsLedger {N : Type 0} (nodes : Nodes N) (t : Terms) (f : Forest) (boo
       ≡ held_over w lives + total w books.back + total w (made_in books.done)
   pub made : (w : Place → ℕ) → total w (made_in books.done) + held_over w lives ≤ total w (found_so_far entries books.claimed)
   pub backs : AllByRecursion (Contains (t.used ++ found_so_far entries books.claimed)) books.back
-  pub seats : AllByRecursion (λ (x : Live). SeatsBelow x.stack) lives
+  pub hands : AllByRecursion (λ (x : Live). AreHandedOut x.stack) lives
   pub of_trees : (n : ℕ) (top : Flying) → slice_get tops n ≡ Some (Some top) → IsOfTree top.stack
+  pub rests : KeepsChildren f books.done tops lives
+  pub sizes : AllByRecursion (λ (x : Live). HasSizes x.stack) lives
+  pub sized : AllByRecursion (λ (x : Ending). FitsBodies x.request x.ended) books.done

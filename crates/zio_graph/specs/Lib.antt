@@ -9,7 +9,9 @@ pub mod Found
 pub mod Grounds
 pub mod Ledgers
 pub mod Parts
+pub mod Rests
 pub mod Rounds
+pub mod Sizes
 pub mod Slabs
 pub mod Stages
 pub mod Stops

@@ -37,6 +37,7 @@ use Rattle.zio_graph.specs.Entries.{Live, OneMore, all_tops, flying_at, handed_o
 use Rattle.zio_graph.specs.Acts.{IsHandedOn}
 use Rattle.zio_graph.specs.Ledgers.{AreToldAs, Books, Ending, IsLedger, no_books}
 use Rattle.zio_graph.specs.Parts.{Nodes, ended_by, ended_in}
+use Rattle.zio_graph.specs.Sizes.{HasAskedSize}
 use Rattle.zio_graph.specs.Slabs.{AreAll, AreNumbered, shelf_of}
 use Rattle.zio_graph.specs.Stages.{ShowsAnswer}
 use Rattle.zio_graph.specs.declared.entry.Entry.{Entry}
@@ -272,13 +273,13 @@ StepsOn {N = N} nodes tops calls slab line slab_now line_now key step =
 
 -- ---- what an answer leaves
 
--- each round in which the key is at a leaf goes on with each answer to its operation that is shown
+-- each round in which the key is at a leaf goes on with each answer to its operation that is shown, and has the size asked for
 abbrev pub ComesBack : {N : Type 0} → Nodes N → Slab (Entry N) → List ℕ → Slab (Entry N) → List ℕ → ℕ → Option Errno → List ℕ
     → Type 0
 ComesBack {N = N} nodes slab line slab_now line_now key error bytes =
     (t : Terms) (sizes : ℕ → ℕ) (f : Forest) (before : Before) (s : SoFar) (leaves others : List ℕ) → IsSoundRound t sizes f →
     OneMore key others leaves → KeepsRound {N = N} nodes t sizes f before s slab line leaves → (a : Answer) (after : Images) →
-    ShowsAnswer (s.ops key) error bytes a → AnswersOnLeaf t before (s.ops key) s.images a after →
+    ShowsAnswer (s.ops key) error bytes a → HasAskedSize (s.ops key) a → AnswersOnLeaf t before (s.ops key) s.images a after →
     KeepsRound {N = N} nodes t sizes f before (with_images s after) slab_now line_now others
 
 -- ---- the beginning, and whose turn it is

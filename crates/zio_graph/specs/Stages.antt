@@ -14,13 +14,14 @@ use Rattle.zio_vqueue.specs.declared.op.Op.{Op}
 use Rattle.zio_trace.specs.Conflicts.{is_single}
 use Rattle.zio_trace.specs.Footprints.{FitsTask}
 use Rattle.zio_trace.specs.Leaves.{Answer, Fetch, LeafOp, Store, answer_of}
-use Rattle.zio_trace.specs.Tasks.{Attempt, Leaf, ReadCopies, ReadHeads, ReadTree, Settle, Task, Value, WriteCopies, WritePart}
+use Rattle.zio_trace.specs.Tasks.{Attempt, Leaf, Settle, Task, Value, WritePart}
 use Rattle.zio_frames.specs.Answering.{IsAnswerTo}
 use Rattle.zio_frames.specs.Frames.{Child, Inner, OfOuter, Stack, asking, fresh_stack, kind_of_task, needs_none}
 use Rattle.zio_frames.specs.Moves.{AsksNext, Did, DoesAll, IsEnded, WillHave, handed}
 use Rattle.zio_frames.specs.Running.{FitsTold}
 use Rattle.zio_frames.specs.Seats.{IsSeated, asked_at}
 use Rattle.zio_stages.specs.LeafWorks.{IsOpFor}
+use Rattle.zio_stages.specs.OwnParts.{IsDoneWithin, OpensWithin}
 use Rattle.zio_stages.specs.Outcomes.{AreEndedAs, IsOutcome, freed_by, held_by, made_by, stored_in, freed_of}
 use Rattle.zio_stages.specs.SpaceCalls.{SpaceCall, calls_back, calls_by}
 use Rattle.zio_stages.specs.declared.outcome.Outcome.{Outcome}
@@ -48,14 +49,6 @@ IsHandedOut (Settle p kids) = Unit {0}
 IsHandedOut (WritePart attempt p sum copies levels path bytes) = Unit {0}
 IsHandedOut _ = ⊥
 
--- what it may do within its own part
-abbrev pub IsWithin : Task → Type 0
-IsWithin (ReadCopies repair test len places) = Unit {0}
-IsWithin (WriteCopies bytes places) = Unit {0}
-IsWithin (ReadHeads look levels path bp) = Unit {0}
-IsWithin (ReadTree tree) = Unit {0}
-IsWithin _ = ⊥
-
 -- a child sits there, or sat there
 abbrev pub IsChildsSeat : List Child → ℕ → Type 0
 IsChildsSeat children n = (k : ℕ) × (c : Child) × (slice_get children k ≡ Some c) × (c.seat ≡ OfOuter n)
@@ -65,7 +58,7 @@ IsChildsSeat children n = (k : ℕ) × (c : Child) × (slice_get children k ≡ 
 pub record AreHandedOut (st : Stack) : Type 0 where
   pub by_child : IsHandedOut st.outer.op → (n : ℕ) (op : Task) → slice_get st.outer.asked n ≡ Some op → IsHandedOut op
       → IsChildsSeat st.children n
-  pub within : (i : Inner) → st.inner ≡ Some i → IsWithin i.frame.op
+  pub within : (i : Inner) → st.inner ≡ Some i → IsDoneWithin i.frame.op
 
 -- ---- what it gives back
 
@@ -87,6 +80,7 @@ pub record GoesOn {N : Type 0} (nodes : Nodes N) (gave : N → List Place) (t : 
   pub gone : List Place
   pub stack : Stack
   pub does : DoesAll t dids st stack
+  pub opens : AllByRecursion OpensWithin dids
   pub calls_are : calls ≡ calls_by dids ++ calls_back gone
   pub is : nodes.Is t after stack
   pub told : nodes.told after ≡ nodes.told node
@@ -112,6 +106,7 @@ pub record Grows {N : Type 0} (nodes : Nodes N) (gave : N → List Place) (t : T
   pub dids : List Did
   pub stack : Stack
   pub does : DoesAll t dids st stack
+  pub opens : AllByRecursion OpensWithin dids
   pub calls_are : calls ≡ calls_by dids
   pub op : Task
   pub part : is_single (asking stack).op ≡ false

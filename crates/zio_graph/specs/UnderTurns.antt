@@ -30,6 +30,7 @@ use Rattle.zio_graph.specs.Grounds.{AreReady}
 use Rattle.zio_graph.specs.Ledgers.{AreToldAs, Ending}
 use Rattle.zio_graph.specs.Parts.{Nodes}
 use Rattle.zio_graph.specs.Rounds.{Before, EndsAs, KeepsRound, KeepsSome, SoFar, finished_in, with_done, with_images, with_tree}
+use Rattle.zio_graph.specs.Sizes.{HasAskedSize}
 use Rattle.zio_graph.specs.Slabs.{load}
 use Rattle.zio_graph.specs.Stages.{OutcomeIn, ShowsAnswer}
 use Rattle.zio_graph.specs.declared.entry.Entry.{Entry}
@@ -187,11 +188,11 @@ TurnsOn {N = N} {D = D} nodes bytes image slab line g slab_now line_now g_now ke
 -- ---- what a group leaves
 
 -- The leaves' answers to the operations of these keys, one after another from the images to those left: where images are told as
--- the operations give, and where none are told whatever came.
+-- the operations give, and where none are told whatever came; each of the size that was asked for.
 abbrev pub GiveAnswers : Terms → Before → (ℕ → LeafOp) → List Answered → Images → Images → Type 0
 GiveAnswers t before ops [] images left = left ≡ images
 GiveAnswers t before ops (b ∷ bs) images left = (a : Answer) × (mid : Images) × ShowsAnswer (ops b.ticket) b.error b.bytes a
-    × AnswersOnLeaf t before (ops b.ticket) images a mid × GiveAnswers t before ops bs mid left
+    × HasAskedSize (ops b.ticket) a × AnswersOnLeaf t before (ops b.ticket) images a mid × GiveAnswers t before ops bs mid left
 
 abbrev pub keys_answered : List Answered → List ℕ
 keys_answered bs = map (λ (b : Answered). b.ticket) bs

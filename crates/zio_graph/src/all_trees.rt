@@ -22,7 +22,8 @@ use zio_stages::Finished;
 /// Runs the trees of a round, whose first attempts are handed out, until each is settled. Each sound round of these terms
 /// goes on until it is over, whatever is picked: then no node is left, and no tree is under way. The requests that finish
 /// are added in order of their completion, a child's before its parent's. It is stopped by a device only where a disk's count of
-/// faults rose, and then the images differ only where the round's requests write.
+/// faults rose. Wherever it is stopped, the images have changed only in blocks that the round's requests name, and at places that
+/// met none in use.
 pub fn run_trees<N: Staged, D: Disk + Drop, P: Picks>(
     turns: &mut Turns<N>,
     grounds: &mut Grounds<D>,
@@ -36,6 +37,7 @@ pub fn run_trees<N: Staged, D: Disk + Drop, P: Picks>(
     requires over { AreAll (N.over grounds.old.desk.tops) turns.old.nodes }
     ensures runs { OnOk result (RunsToEnd N.nodes D.bytes D.image turns.old.nodes turns.old.line grounds.old trees.old.items
         ended.old.items turns.new.nodes turns.new.line grounds.new trees.new.items ended.new.items round failmode) }
+    ensures count { OnOk result (length trees.new.items ≡ length trees.old.items) }
     ensures inside { AllByRecursion (StateIn (N.tree_over grounds.old.desk.tops)) trees.old.items →
         OnOk result (AllByRecursion (StateIn (N.tree_over grounds.old.desk.tops)) trees.new.items) }
     ensures same { AreSameDisks D.bytes D.faults D.faults_at_fetch D.home D.image D.sound grounds.old.disks.items grounds.new.disks.items }

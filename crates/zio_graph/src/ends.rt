@@ -1,6 +1,6 @@
 //! What a round's books tell once it is over.
 
-ghost use Rattle.std.specs.Prelude.{◌≡◌, ◌++◌, ◌⊎◌, ◌↔◌, ℕ, List as Seq, true, Contains, IsPermutation, IsTrue, Option};
+ghost use Rattle.std.specs.Prelude.{◌≡◌, ◌++◌, ◌⊎◌, ◌↔◌, ℕ, List as Seq, [], true, Contains, IsPermutation, IsTrue, Option};
 ghost use Rattle.std.specs.List.{AllByRecursion};
 ghost use Rattle.zio_types.specs.declared.place.Place.{Place as SeenPlace};
 ghost use Rattle.zio_types.specs.declared.place.Top.{Top as SeenTop};
@@ -16,8 +16,9 @@ ghost use Rattle.zio_trace.specs.Together.{round_of};
 ghost use Rattle.zio_frames.specs.Running.{all_heard};
 ghost use Rattle.slab.specs.Slab.{Slab};
 ghost use Rattle.zio_graph.specs.Desks.{IsDeskAt};
-ghost use Rattle.zio_graph.specs.Ledgers.{AreOnce, all_ended, found_so_far, freed_in, made_in};
+ghost use Rattle.zio_graph.specs.Ledgers.{AreBehindChildren, AreOnce, Ending, all_ended, found_so_far, freed_in, made_in};
 ghost use Rattle.zio_graph.specs.Rounds.{SoFar};
+ghost use Rattle.zio_graph.specs.Sizes.{FitsBodies};
 ghost use Rattle.zio_graph.specs.UnderTrees.{IsOver};
 ghost use Rattle.zio_graph.specs.declared.desk.Asked.{Asked as SeenAsked};
 ghost use Rattle.zio_graph.specs.declared.entry.Entry.{Entry as SeenEntry};
@@ -27,11 +28,18 @@ use crate::node::Node;
 /// The requests that finished in a round that is over are those of its trees' values. Each place that was found, or is of a block
 /// that a free named, was given back or is in a block that was made, and these were found: they lie inside the tops, are free beside
 /// the places in use at the round's start, and no two of them meet. So live are then, where none of the places in use stands twice
-/// among these, those in use that are in no block that was freed, and those of the blocks that were made.
+/// among these, those in use that are in no block that was freed, and those of the blocks that were made. Each request that
+/// finished did so behind all requests of the round that stand under it. It has no bytes, or it reads a block and has as many as
+/// all bodies of that are together; where it reads a block and has no error, it has these.
 pub fn books_tell_the_end<N: Node>()
     ensures requests { (t : Terms) (sizes : ℕ → ℕ) (f : Forest) (before : Option Images) (s : SoFar) (slab : Slab (SeenEntry N))
         (values : Seq Value) → IsOver N.nodes t sizes f before s slab → s.trees ≡ all_heard values →
         IsPermutation (all_ended s.books.done) (round_of values).ended }
+    ensures children { (t : Terms) (sizes : ℕ → ℕ) (f : Forest) (before : Option Images) (s : SoFar) (slab : Slab (SeenEntry N)) →
+        IsOver N.nodes t sizes f before s slab → AreBehindChildren f [] s.books.done }
+    ensures sizes { (t : Terms) (sizes : ℕ → ℕ) (f : Forest) (before : Option Images) (s : SoFar) (slab : Slab (SeenEntry N)) →
+        IsOver N.nodes t sizes f before s slab →
+        AllByRecursion (λ (x : Ending). FitsBodies x.request x.ended) s.books.done }
     ensures places { (t : Terms) (sizes : ℕ → ℕ) (f : Forest) (before : Option Images) (s : SoFar) (slab : Slab (SeenEntry N)) →
         IsOver N.nodes t sizes f before s slab →
         IsPermutation (found_so_far s.entries s.books.claimed ++ freed_in s.books.done) (s.books.back ++ made_in s.books.done) }

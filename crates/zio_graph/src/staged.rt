@@ -14,7 +14,7 @@ ghost use Rattle.zio_stages.specs.SpaceCalls.{SpaceCall};
 ghost use Rattle.zio_stages.specs.Wholes.{IsTreeOf};
 ghost use Rattle.zio_stages.specs.declared.outcome.Outcome.{Outcome as SeenOutcome};
 ghost use Rattle.zio_stages.specs.declared.waiting.Waiting.{Waiting};
-ghost use Rattle.zio_graph.specs.Stages.{AreHandedOut, AreItsOwn, EachIn, GoesOn, Hears, HearsEarly, HearsSome, HearsSomeEarly, IsMove, IsNow, Lessens, OutcomeIn, ShowsAnswer, TellsValid, heard_max};
+ghost use Rattle.zio_graph.specs.Stages.{AreItsOwn, EachIn, GoesOn, Hears, HearsEarly, HearsSome, HearsSomeEarly, IsMove, IsNow, Lessens, OutcomeIn, ShowsAnswer, TellsValid, heard_max};
 
 use crate::node::Node;
 use std::alloc::Global;
@@ -124,12 +124,9 @@ pub trait Staged: Node + Drop {
         ensures over { (tops : Seq SeenTop) → over tops self → over tops result }
         ensures left { Self.nodes.left result ≤ Self.nodes.left self };
 
-    /// A node is a part of the work, or an operation on a leaf, and no ask of the space.
-    ghost never_finds: { (t : Terms) (node : Self) (st : Stack) (a : Ask) → Self.nodes.Is t node st → st.outer.op ≢ Find a };
-
-    /// Each request and each part that it asks is done by a child, and none within.
-    ghost hands_out: { (t : Terms) (node : Self) (st : Stack) → Self.nodes.Is t node st → AreHandedOut st };
-
-    /// It gave back only places that it holds, or those of the block that it frees.
-    ghost gives_own: { (t : Terms) (node : Self) (st : Stack) → Self.nodes.Is t node st → AreItsOwn (Self.nodes.gave node) st };
+    /// What holds of each node, wherever it stands: it is a part of the work, or an operation on a leaf, and no ask of the space;
+    /// and it gave back only places that it holds, or those of the block that it frees. It does nothing.
+    fn does_its_part()
+        ensures never_finds { (t : Terms) (node : Self) (st : Stack) (a : Ask) → Self.nodes.Is t node st → st.outer.op ≢ Find a }
+        ensures gives_own { (t : Terms) (node : Self) (st : Stack) → Self.nodes.Is t node st → AreItsOwn (Self.nodes.gave node) st };
 }

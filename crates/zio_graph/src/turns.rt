@@ -1,6 +1,6 @@
 //! Turns of the nodes that an engine holds.
 
-ghost use Rattle.std.specs.Prelude.{◌≡◌, ◌+◌, ◌*◌, ◌<◌, List as Seq, IfOk, OnOk, length};
+ghost use Rattle.std.specs.Prelude.{◌≡◌, ◌+◌, ◌*◌, ◌<◌, List as Seq, [], IfOk, OnOk, length};
 ghost use Rattle.zio_types.specs.declared.place.Top.{Top as SeenTop};
 ghost use Rattle.zio_stages.specs.SpaceCalls.{SpaceCall};
 ghost use Rattle.zio_graph.specs.Acts.{StepIn, load_of};
@@ -30,6 +30,8 @@ impl<N: Staged> Turns<N> {
     /// No node. Without memory; the nodes' is from `alloc`.
     pub fn new(alloc: Global) -> Turns<N>
         ensures begins { Begins N.nodes result.nodes result.line }
+        ensures empty { result.nodes.slots ≡ [] }
+        ensures idle { result.line ≡ [] }
         ensures load { load N.nodes.left result.nodes result.line ≡ 0 }
         ensures over { (tops : Seq SeenTop) → AreAll (N.over tops) result.nodes }
     {
@@ -86,6 +88,7 @@ impl<N: Staged> Turns<N> {
         ensures tops { S.tops services.new ≡ S.tops services.old }
         ensures inside { IfOk result (StepIn (N.tree_over (S.tops services.old))) }
     {
+        N::does_its_part();
         let Turns { nodes, line } = self;
         let Entry { node, ties } = nodes.remove(key as usize);
         let Ok(moved) = node.run_stage(alloc, services) else {

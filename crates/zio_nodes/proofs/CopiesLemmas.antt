@@ -200,6 +200,7 @@ copies_go t st at after read answers told = record {
   gone = [];
   stack = st;
   does = refl;
+  opens = tt;
   calls_are = refl;
   is = record { read = read; answers = answers };
   told = told;

@@ -1,11 +1,10 @@
 -- Moves of a request whose own work went on, without a call of the space.
-use Rattle.std.proofs.Common.{◌≡◌, ℕ, List, [], ◌++◌, Bool, true, false, Option, Some, None, refl, sym, ap, subst, ◌∙◌}
+use Rattle.std.proofs.Common.{◌≡◌, List, [], ◌++◌, Bool, true, false, None, refl, sym, ap, subst}
 use Rattle.zio_types.specs.declared.place.Place.{Place}
 use Rattle.zio_types.specs.declared.place.Top.{Top}
 use Rattle.zio_types.specs.declared.request.ChildKind.{ChildKind}
 use Rattle.zio_types.specs.declared.request.Phase.{Phase}
 use Rattle.zio_masks.specs.declared.stage.Stage.{Stage}
-use Rattle.zio_blkptr.specs.declared.pointer.Bp.{Bp}
 use Rattle.zio_gang.specs.Attempts.{Terms}
 use Rattle.zio_trace.specs.Tasks.{Task}
 use Rattle.zio_frames.specs.Frames.{Stack, fresh_stack, needs_none}
@@ -15,17 +14,15 @@ use Rattle.zio_stages.specs.OwnParts.{DoesThen, HandsTo, IsOwed}
 use Rattle.zio_stages.specs.RequestNodes.{IsRequestNode}
 use Rattle.zio_stages.specs.SpaceCalls.{SpaceCall, calls_back}
 use Rattle.zio_stages.specs.declared.request_node.RequestNode.{RequestNode}
-use Rattle.zio_stages.proofs.BehindLemmas.{does_nothing}
-use Rattle.zio_graph.specs.Stages.{GoesOn, IsMove, IsNow}
 use Rattle.zio_graph.specs.declared.staged.Move.{Move}
 use Rattle.zio_graph.specs.declared.staged.Move.TheVariants.{Grow, Next, Ready, Wait}
-use Rattle.zio_nodes.specs.Nodes.{IsNode, MovesBare, MovesWith, StaysBare, StaysWith, gave_of, nodes, told_of}
+use Rattle.zio_nodes.specs.Nodes.{IsNode, MovesBare, MovesWith, StaysBare, StaysWith, gave_of, told_of}
 use Rattle.zio_nodes.specs.RequestAts.{gave_by}
 use Rattle.zio_nodes.specs.Told.{is_told}
 use Rattle.zio_nodes.specs.declared.node.Node.{Node}
 use Rattle.zio_nodes.specs.declared.node.Node.TheVariants.{Request}
 use Rattle.zio_nodes.specs.declared.request_at.RequestAt.{RequestAt}
-use Rattle.zio_nodes.proofs.RequestMoves.{request_does, request_goes, request_grows, request_tells, request_waits}
+use Rattle.zio_nodes.proofs.RequestMoves.{request_does, request_gives, request_goes, request_grows, request_tells, request_waits}
 
 abbrev at_stage : RequestNode → Stage → Bool → RequestAt
 at_stage now stage due = record { node = now; stage = stage; is_due = due }
@@ -99,31 +96,17 @@ next_same tops at now stage due same told =
 
 -- ---- places go back
 
--- and it stays as far as it was
-goes_back : (t : Terms) (st : Stack) (at after : RequestAt) (gone : List Place) → IsRequestNode t after.node st → is_told after.stage ≡ is_told at.stage
-    → gave_of (Request after) ≡ gave_of (Request at) ++ gone → GoesOn {N = Node} nodes gave_of t (Request at) st (calls_back gone) (Request after)
-goes_back t st at after gone is told gave = record {
-  dids = [];
-  gone = gone;
-  stack = st;
-  does = refl;
-  calls_are = refl;
-  is = is;
-  told = told;
-  gave_more = gave;
-}
-
 pub gives_back : {S : Type 0} (made : S → List SpaceCall → S → Type 0) (tops : List Top) (a b : S) (at : RequestAt) (now : RequestNode) (stage : Stage) (due : Bool) (gone : List Place)
     → made a (calls_back gone) b → ((t : Terms) (st : Stack) → IsRequestNode t at.node st → IsRequestNode t now st) → is_told stage ≡ is_told at.stage
     → gave_in now ≡ gave_in at.node ++ gone → MovesWith made tops a b (Request at) (Next (Request (at_stage now stage due)))
 gives_back made tops a b at now stage due gone were same told gave =
-    record { calls = calls_back gone; were_made = were; moves = λ t st n. goes_back t st at (at_stage now stage due) gone (same t st n.is) told gave }
+    record { calls = calls_back gone; were_made = were; moves = λ t st n. request_gives t st at (at_stage now stage due) gone (same t st n.is) told gave }
 
 pub gives_back_refused : {S : Type 0} (made : S → List SpaceCall → S → Type 0) (tops : List Top) (a b : S) (at : RequestAt) (now : RequestNode) (stage : Stage) (due : Bool) (gone : List Place)
     → made a (calls_back gone) b → ((t : Terms) (st : Stack) → IsRequestNode t at.node st → IsRequestNode t now st) → at.stage ≡ stage
     → gave_in now ≡ gave_in at.node ++ gone → StaysWith made tops a b (Request at) (Request (at_stage now stage due))
 gives_back_refused made tops a b at now stage due gone were same is gave =
-    record { calls = calls_back gone; were_made = were; goes = λ t st n. goes_back t st at (at_stage now stage due) gone (same t st n.is) (ap is_told (sym is)) gave }
+    record { calls = calls_back gone; were_made = were; goes = λ t st n. request_gives t st at (at_stage now stage due) gone (same t st n.is) (ap is_told (sym is)) gave }
 
 -- ---- it does some of its part itself with calls of the space
 
@@ -142,4 +125,5 @@ does_with_refused made tops a b at now stage due calls were does is gave =
 -- ---- one after the other
 
 pub does_more : (t : Terms) (st : Stack) (IsMid IsAfter : Stack → Type 0) → DoesThen t st [] IsMid → ((mid : Stack) → IsMid mid → IsAfter mid) → DoesThen t st [] IsAfter
-does_more t st IsMid IsAfter h then = record { dids = h.dids; stack = h.stack; does = h.does; calls_are = h.calls_are; after = then h.stack h.after }
+does_more t st IsMid IsAfter h then =
+    record { dids = h.dids; stack = h.stack; does = h.does; opens = h.opens; calls_are = h.calls_are; after = then h.stack h.after }

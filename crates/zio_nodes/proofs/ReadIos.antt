@@ -85,6 +85,7 @@ read_starts t st at after work child does fresh reading told gave =
       dids = does.dids;
       stack = does.stack;
       does = does.does;
+      opens = does.opens;
       calls_are = does.calls_are;
       op = OnLeaf hands.act;
       part = asked_read t after.node does.stack (OnLeaf hands.act) reading hands.after;

@@ -43,6 +43,7 @@ kid_grows t st r now child ws h due hands fresh = record {
   dids = [];
   stack = st;
   does = refl;
+  opens = tt;
   calls_are = refl;
   after = record {
     op = Attempt now.attempt hands.root hands.below;

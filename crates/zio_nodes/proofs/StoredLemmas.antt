@@ -1,21 +1,14 @@
 -- A write whose block was written: whether it keeps that, and the places that go back.
-use Rattle.std.proofs.Common.{◌≡◌, ℕ, zero, suc, ◌≤◌, ◌<◌, List, [], ◌∷◌, ◌++◌, length, take, map, Bool, true, false, ◌&&◌, not, ◌⊎◌, inl, inr, Option, Some, None, refl, sym, ap, subst, ◌∙◌, arith, append-nil}
-use Rattle.std.specs.List.{flat_map, list_all}
-use Rattle.std.specs.Prelude.{IsPermutation, is_none}
-use Rattle.std.proofs.lemmas.List.Sorted.{IsPermutation-refl}
-use Rattle.zio_types.specs.declared.error.Errno.{Errno}
+use Rattle.std.proofs.Common.{◌≡◌, ℕ, List, [], ◌∷◌, ◌++◌, length, take, Bool, true, false, ◌⊎◌, inl, inr, Option, Some, None, refl, sym, ap, subst, ◌∙◌, append-nil}
+use Rattle.std.specs.List.{flat_map}
+use Rattle.std.specs.Prelude.{IsPermutation}
 use Rattle.zio_types.specs.declared.place.Place.{Place}
 use Rattle.zio_types.specs.declared.request.Kind.TheVariants.{Write as WriteKind}
 use Rattle.zio_script.specs.Requests.{kind_of}
 use Rattle.zio_script.specs.declared.script.Work.{Work}
 use Rattle.zio_gang.specs.declared.tree.Tree.{Tree}
-use Rattle.zio_gang.specs.Attempts.{Terms, tree_unless}
-use Rattle.zio_trace.specs.Tasks.{Stored as Left}
-use Rattle.zio_trace.specs.Plans.{own_stored}
-use Rattle.zio_parts.specs.Parts.{PartWriting}
-use Rattle.zio_children.specs.RequestKids.{is_ended}
+use Rattle.zio_gang.specs.Attempts.{Terms}
 use Rattle.zio_frames.specs.Frames.{Stack}
-use Rattle.zio_frames.specs.Slots.{Slot}
 use Rattle.zio_stages.specs.Closings.{outcome_of}
 use Rattle.zio_stages.specs.Outcomes.{freed_by, freed_of, held_by, made_by as made_in, places_in, stored_places}
 use Rattle.zio_stages.specs.RequestKinds.{is_stored}
@@ -117,13 +110,17 @@ stored_ended t r st h k =
     ap (flat_map ended_in_slot) own.is.shown ∙ none_ended own.was.part.placing own.was.part
 
 -- the places that its attempt came to are those of its block
-pub stored_held : (t : Terms) (r : RequestNode) (st : Stack) (h : IsRequestNode t r st) → IsStoredWith IsGoingBack r.own → IsPermutation (held_by st) (made_by r.own)
-stored_held t r st h k =
-    let b = stored_block IsGoingBack r.own k in
-    let own = stored_own t r st h b.0 b.1 in
-    let made : stored_places own.left ≡ made_by r.own = ap (λ o. block_places o.tree) (sym own.came_to) ∙ ap made_by (sym b.1) in
+pub block_held : (t : Terms) (r : RequestNode) (st : Stack) (h : IsRequestNode t r st) (b : StoredBlock) → r.own ≡ Stored b
+    → IsPermutation (held_by st) (made_by r.own)
+block_held t r st h b is =
+    let own = stored_own t r st h b is in
+    let made : stored_places own.left ≡ made_by r.own = ap (λ o. block_places o.tree) (sym own.came_to) ∙ ap made_by (sym is) in
     subst (λ (ps : List Place). IsPermutation ps (made_by r.own)) (sym (held_by_own t r st h (kids_full r.kids r.attempt h.forest h.kid_asked h.kid_slots h.kids)))
     (subst (λ (ps : List Place). IsPermutation (places_in h.own_asked h.own_slots) ps) made own.places)
+
+pub stored_held : (t : Terms) (r : RequestNode) (st : Stack) → IsRequestNode t r st → IsStoredWith IsGoingBack r.own
+    → IsPermutation (held_by st) (made_by r.own)
+stored_held t r st h k = let b = stored_block IsGoingBack r.own k in block_held t r st h b.0 b.1
 
 -- ---- it closes
 

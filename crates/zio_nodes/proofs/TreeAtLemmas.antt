@@ -81,6 +81,7 @@ begins t st at r h due is = record {
   gone = [];
   stack = st;
   does = refl;
+  opens = tt;
   calls_are = refl;
   is = is;
   told = refl;

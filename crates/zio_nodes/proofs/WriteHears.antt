@@ -108,7 +108,7 @@ part_no : (op : Task) → IsPart op → IsAttempt op → ⊥
 part_no (Attempt attempt p kids) r a = r
 part_no op r a = a
 
-own_no_attempt : (t : Terms) (op : Task) (outcome : Outcome) (v : Value) → IsOwnOutcome outcome → IsOutcome t op outcome v → IsAttempt op → ⊥
+pub own_no_attempt : (t : Terms) (op : Task) (outcome : Outcome) (v : Value) → IsOwnOutcome outcome → IsOutcome t op outcome v → IsAttempt op → ⊥
 own_no_attempt t op (Finished f) v own h a = own
 own_no_attempt t op (Again whole bits pointer) v own h a = own
 own_no_attempt t op (HasFound answer) v own h a = reading_no op h.0 a
@@ -137,7 +137,7 @@ hears_stored tops at n outcome stored is k =
 
 -- ---- a write walks over no headers
 
-walk_leaf : (op : Task) → IsWalk op → IsLeafTask op → ⊥
+pub walk_leaf : (op : Task) → IsWalk op → IsLeafTask op → ⊥
 walk_leaf (ReadHeads look levels path bp) h l = l
 walk_leaf op h l = h
 
@@ -145,7 +145,7 @@ walk_other : (op : Task) → IsWalk op → ask_of op ≡ ForOther
 walk_other (ReadHeads look levels path bp) h = refl
 walk_other op h = absurd h
 
-walk_attempt : (op : Task) → IsWalk op → (attempt : ℕ) (p : Pending) (below : Forest) → op ≡ Attempt attempt p below → ⊥
+pub walk_attempt : (op : Task) → IsWalk op → (attempt : ℕ) (p : Pending) (below : Forest) → op ≡ Attempt attempt p below → ⊥
 walk_attempt op walk attempt p below is = subst IsWalk is walk
 
 written_by : (own : Own) → IsWrite own → (w : OwnWrite) × (own ≡ WriteOwn w)
@@ -259,7 +259,7 @@ members_same a b h = λ i. member_share (8 - length (h.path i)) * (members_max -
 io_same : (a b : Own) → AsksTheSame a b → io_left b ≡ io_left a
 io_same a b h = λ i. leaf_share * (write_asks_max - h.asked i) + pass_left (h.second i)
 
-due_few : (a b : Bool) → due_left b ≤ due_left a + 2
+pub due_few : (a b : Bool) → due_left b ≤ due_left a + 2
 due_few true true = omega arith
 due_few true false = omega arith
 due_few false true = omega arith

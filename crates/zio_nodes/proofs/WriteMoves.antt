@@ -75,6 +75,7 @@ write_starts t st at after work child does fresh ready told gave =
       dids = does.dids;
       stack = does.stack;
       does = does.does;
+      opens = does.opens;
       calls_are = does.calls_are;
       op = OnLeaf hands.act;
       part = asked_write t after.node does.stack (OnLeaf hands.act) _ ready hands.after;

@@ -8,13 +8,12 @@ ghost use Rattle.zio_gang.specs.Attempts.{Terms};
 ghost use Rattle.zio_trace.specs.Tasks.{Find};
 ghost use Rattle.zio_frames.specs.Frames.{Child, Stack};
 ghost use Rattle.zio_stages.specs.declared.outcome.Outcome.{Outcome as SeenOutcome};
-ghost use Rattle.zio_graph.specs.Stages.{AreHandedOut, HearsEarly, HearsSome};
-ghost use Rattle.zio_nodes.specs.Nodes.{IsNode, nodes};
+ghost use Rattle.zio_graph.specs.Stages.{AreItsOwn, HearsEarly, HearsSome};
+ghost use Rattle.zio_nodes.specs.Nodes.{IsNode, gave_of, nodes};
 ghost use Rattle.zio_nodes.specs.declared.copies_at.CopiesAt.{CopiesAt};
-ghost use Rattle.zio_nodes.specs.declared.heads_at.HeadsAt.{HeadsAt};
 ghost use Rattle.zio_nodes.specs.declared.leaf_at.LeafAt.{LeafAt};
 ghost use Rattle.zio_nodes.specs.declared.node.Node.{Node};
-ghost use Rattle.zio_nodes.specs.declared.node.Node.TheVariants.{Copies, Heads, Leaf, Part};
+ghost use Rattle.zio_nodes.specs.declared.node.Node.TheVariants.{Copies, Leaf, Part};
 ghost use Rattle.zio_nodes.specs.declared.part_at.PartAt.{PartAt};
 
 /// An operation on a leaf has no children, and those of a read of copies are operations on leaves, which tell no pointer.
@@ -35,10 +34,7 @@ pub fn no_node_asks_for_places()
     ensures { (t : Terms) (node : Node) (st : Stack) (a : Ask) → IsNode t node st → st.outer.op ≢ Find a }
 {}
 
-/// An operation on a leaf, a read of copies and a walk over headers do no request or part of one within, and ask for none that no
-/// child does.
-pub fn nodes_do_their_own()
-    ensures leaf { (t : Terms) (at : LeafAt) (st : Stack) → IsNode t (Leaf at) st → AreHandedOut st }
-    ensures copies { (t : Terms) (at : CopiesAt) (st : Stack) → IsNode t (Copies at) st → AreHandedOut st }
-    ensures heads { (t : Terms) (at : HeadsAt) (st : Stack) → IsNode t (Heads at) st → AreHandedOut st }
+/// A node gives back only places that it holds, or of the block that it frees.
+pub fn nodes_give_their_own()
+    ensures { (t : Terms) (node : Node) (st : Stack) → IsNode t node st → AreItsOwn (gave_of node) st }
 {}

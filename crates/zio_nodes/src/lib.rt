@@ -14,12 +14,14 @@ mod laws;
 mod leaf_at;
 mod node;
 mod null_at;
+mod own_hear;
 mod part_at;
 mod part_stages;
 mod read_at;
 mod read_io_at;
 mod request_at;
 mod request_hear;
+mod staged;
 mod tree_at;
 mod write_at;
 mod write_hear;
@@ -27,7 +29,7 @@ mod write_hear;
 pub use copies_at::CopiesAt;
 pub use heads_at::{HeadsAt, HeadsHeard};
 pub use laws::{
-    members_alone_tell_pointers, no_node_asks_for_places, nodes_do_their_own,
+    members_alone_tell_pointers, no_node_asks_for_places, nodes_give_their_own,
     operations_on_leaves_tell_nothing,
 };
 pub use leaf_at::LeafAt;

@@ -1,29 +1,46 @@
 //! A node of any kind: its stages, and what it hears.
 
-ghost use Rattle.std.specs.Prelude.{◌≡◌, ◌<◌, ◌≤◌, [], Err, IfOk, List as Seq, Ok, false};
+ghost use Rattle.std.specs.Prelude.{◌≡◌, ◌+◌, ◌<◌, ◌≤◌, [], Err, IfOk, IfSome, IsTrue, List as Seq, Ok, Some, false};
 ghost use Rattle.zio_types.specs.declared.place.Top.{Top as SeenTop};
+ghost use Rattle.zio_blkptr.specs.Pointers.{valid};
 ghost use Rattle.zio_gang.specs.Attempts.{Pending, Terms};
 ghost use Rattle.zio_trace.specs.Families.{Forest};
 ghost use Rattle.zio_trace.specs.Leaves.{Answer, LeafOp};
-ghost use Rattle.zio_trace.specs.Tasks.{Attempt, Got, Leaf};
-ghost use Rattle.zio_frames.specs.Frames.{Stack, fresh_stack};
-ghost use Rattle.zio_frames.specs.Moves.{done_at_once};
+ghost use Rattle.zio_trace.specs.Tasks.{Attempt, Got, Leaf, Task, Value};
+ghost use Rattle.zio_frames.specs.Frames.{Child, Stack, fresh_stack};
+ghost use Rattle.zio_frames.specs.Moves.{done_at_once, heard_early, heard_of};
 ghost use Rattle.zio_stages.specs.SpaceCalls.{SpaceCall};
 ghost use Rattle.zio_stages.specs.Wholes.{IsTreeOf};
-ghost use Rattle.zio_graph.specs.Stages.{EachIn, GoesOn, IsMove, IsNow, Lessens, ShowsAnswer, TellsValid};
+ghost use Rattle.zio_stages.specs.declared.outcome.Outcome.{Outcome as SeenOutcome};
+ghost use Rattle.zio_graph.specs.Stages.{
+  EachIn,
+  GoesOn,
+  Hears,
+  HearsEarly,
+  HearsSome,
+  HearsSomeEarly,
+  IsMove,
+  IsNow,
+  Lessens,
+  OutcomeIn,
+  ShowsAnswer,
+  TellsValid,
+  heard_max,
+};
 ghost use Rattle.zio_nodes.specs.Nodes.{IsNode, IsNodeOver, IsTreeOver, gave_of, left_of, nodes, told_of};
 
 use crate::copies_at::CopiesAt;
-use crate::heads_at::HeadsAt;
+use crate::heads_at::{HeadsAt, HeadsHeard};
 use crate::leaf_at::LeafAt;
 use crate::part_at::PartAt;
 use crate::request_at::RequestAt;
 use crate::tree_at::TreeAt;
 use std::alloc::Global;
-use zio_graph::Move;
+use zio_blkptr::Bp;
+use zio_graph::{BothBack, Move};
 use zio_script::Failmode;
-use zio_stages::{Services, Whole};
-use zio_types::{Bytes, Errno};
+use zio_stages::{Finished, Outcome, Services, Whole};
+use zio_types::{Bytes, Errno, Top};
 
 /// A node of a round.
 #[derive(Drop)]
@@ -79,6 +96,63 @@ impl Node {
             Node::Part(at) => at.run_stage(alloc, services),
             Node::Tree(at) => at.run_stage(alloc),
             Node::Request(at) => at.run_stage(alloc, services),
+        }
+    }
+
+    /// The child of this number told which pointer its value will have, or that it has none.
+    pub fn arrive_ready(self, child: u32, pointer: Option<Bp>) -> Node
+        requires awaited { HearsSomeEarly nodes self child }
+        requires valid { IfSome pointer (λ bp. IsTrue (valid bp)) }
+        ensures heard { (t : Terms) (st : Stack) (c : Child) → HearsEarly nodes t self st child c →
+            IsNode t result (heard_early st child c pointer) }
+        ensures told { told_of result ≡ told_of self }
+        ensures gave { gave_of result ≡ gave_of self }
+        ensures over { (tops : Seq SeenTop) → IsNodeOver tops self → IsNodeOver tops result }
+        ensures left { left_of result ≤ left_of self + heard_max }
+    {
+        match self {
+            Node::Leaf(_) | Node::Copies(_) | Node::Tree(_) => unreachable!(),
+            // Whatever it told: a read or a walk has no pointer, and its parent keeps none.
+            Node::Heads(at) => Node::Heads(at.arrive_ready(child)),
+            Node::Part(at) => Node::Part(at.arrive_ready(child, pointer)),
+            Node::Request(at) => Node::Request(at.arrive_ready(child, pointer)),
+        }
+    }
+
+    /// The child of this number ended. Of a request that finished this comes back. Where memory is refused both come back.
+    pub fn arrive(
+        self,
+        tops: &[Top],
+        child: u32,
+        outcome: Outcome,
+    ) -> Result<(Node, Option<Finished>), BothBack<Node>>
+        requires over { IsNodeOver tops.now self }
+        requires awaited { HearsSome nodes tops.now self child outcome }
+        requires inside { OutcomeIn (IsTreeOver tops.now) outcome }
+        ensures heard { IfOk result (λ both. (t : Terms) (st : Stack) (c : Child) (op : Task) (v : Value) →
+            Hears nodes tops.now t self st child c op outcome v → IsNode t both.0 (heard_of st child c v)) }
+        ensures finished { IfOk result (λ both. IfSome both.1 (λ f. outcome ≡ SeenOutcome.Finished f)) }
+        ensures kept { IfOk result (λ both. (f : _) → outcome ≡ SeenOutcome.Finished f → both.1 ≡ Some f) }
+        ensures told { IfOk result (λ both. told_of both.0 ≡ told_of self) }
+        ensures gave { IfOk result (λ both. gave_of both.0 ≡ gave_of self) }
+        ensures over_still { IfOk result (λ both. IsNodeOver tops.now both.0) }
+        ensures left { IfOk result (λ both. left_of both.0 ≤ left_of self + heard_max) }
+    {
+        match self {
+            Node::Leaf(_) | Node::Tree(_) => unreachable!(),
+            Node::Copies(at) => Ok((Node::Copies(at.arrive(tops, child, outcome)), None)),
+            Node::Heads(at) => match at.arrive(tops, child, outcome) {
+                Ok(at) => Ok((Node::Heads(at), None)),
+                Err(HeadsHeard { at, outcome }) => Err(BothBack {
+                    node: Node::Heads(at),
+                    outcome,
+                }),
+            },
+            Node::Part(at) => Ok((Node::Part(at.arrive(tops, child, outcome)), None)),
+            Node::Request(at) => {
+                let (at, finished) = at.arrive(tops, child, outcome);
+                Ok((Node::Request(at), finished))
+            }
         }
     }
 

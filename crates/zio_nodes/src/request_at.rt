@@ -1,25 +1,54 @@
-//! A request in an attempt, from stage to stage.
+//! A request in an attempt, from stage to stage, and what it hears.
 //!
-//! Every kind hands its children out at Start, all of them, and goes on with the stages of its own pipeline: `null_at`, `write_at`,
-//! `read_at`, `free_at` and `claim_at` have these, a function for each stage.
+//! Every kind hands its children out at Start, all of them, and goes on with the stages of its own pipeline: `null_at`,
+//! `write_at`, `read_at`, `free_at` and `claim_at` have these, a function for each stage. `request_hear` has what it hears of
+//! attempts, `write_hear` and `own_hear` what it hears of its own work.
 
-ghost use Rattle.std.specs.Prelude.{◌≡◌, ◌≢◌, ◌||◌, ◌&&◌, IfErr, IfOk, List as Seq, true};
+ghost use Rattle.std.specs.Prelude.{◌≡◌, ◌≢◌, ◌+◌, ◌≤◌, ◌||◌, ◌&&◌, IfErr, IfOk, IfSome, IsTrue, List as Seq, Some, true};
 ghost use Rattle.zio_types.specs.declared.place.Top.{Top as SeenTop};
 ghost use Rattle.zio_masks.specs.Stages.{has, is_gang_stage};
 ghost use Rattle.zio_masks.specs.declared.stage.Stage.{Stage as SeenStage};
+ghost use Rattle.zio_blkptr.specs.Pointers.{valid};
 ghost use Rattle.zio_script.specs.Requests.{kind_of};
+ghost use Rattle.zio_gang.specs.Attempts.{Terms};
+ghost use Rattle.zio_trace.specs.Tasks.{Task, Value};
+ghost use Rattle.zio_frames.specs.Frames.{Child, Stack};
+ghost use Rattle.zio_frames.specs.Moves.{heard_early, heard_of};
 ghost use Rattle.zio_stages.specs.RequestKinds.{has_gang_stages};
-ghost use Rattle.zio_graph.specs.Stages.{EachIn, Lessens, TellsValid};
-ghost use Rattle.zio_nodes.specs.Nodes.{IsNodeOver, IsTreeOver, MovesBare, MovesWith, StaysBare, StaysWith, left_of};
+ghost use Rattle.zio_stages.specs.RequestNodes.{IsRequestNode};
+ghost use Rattle.zio_stages.specs.declared.outcome.Outcome.{Outcome as SeenOutcome};
+ghost use Rattle.zio_graph.specs.Stages.{
+  EachIn,
+  Hears,
+  HearsEarly,
+  HearsSome,
+  HearsSomeEarly,
+  Lessens,
+  OutcomeIn,
+  TellsValid,
+  heard_max,
+};
+ghost use Rattle.zio_nodes.specs.Nodes.{
+  IsNodeOver,
+  IsTreeOver,
+  MovesBare,
+  MovesWith,
+  StaysBare,
+  StaysWith,
+  gave_of,
+  left_of,
+  nodes,
+};
 ghost use Rattle.zio_nodes.specs.RequestAts.{IsRequestAtOver, takes};
 
 use crate::node::Node;
 use crate::tree_at::TreeAt;
 use std::alloc::Global;
+use zio_blkptr::Bp;
 use zio_graph::Move;
 use zio_masks::{CLAIM, FREE, NULL, Pipeline, READ, Stage, WRITE, next, with_gang};
-use zio_stages::{RequestNode, Services, Start};
-use zio_types::{ChildKind, Kind, NoMemory};
+use zio_stages::{Finished, Outcome, RequestNode, Services, Start};
+use zio_types::{ChildKind, Kind, NoMemory, Top};
 
 /// A request in an attempt at a stage of its pipeline.
 #[derive(Drop)]
@@ -50,6 +79,61 @@ impl RequestAt {
             Kind::Write => self.write_stage(alloc, services),
             Kind::Free => self.free_stage(alloc, services),
             Kind::Claim => self.claim_stage(alloc, services),
+        }
+    }
+
+    /// The child of this number told which pointer its value will have, or that it has none.
+    pub fn arrive_ready(self, child: u32, pointer: Option<Bp>) -> RequestAt
+        requires awaited { HearsSomeEarly nodes (Node.Request self) child }
+        requires valid { IfSome pointer (λ bp. IsTrue (valid bp)) }
+        ensures heard { (t : Terms) (st : Stack) (c : Child) → HearsEarly nodes t (Node.Request self) st child c →
+            IsRequestNode t result.node (heard_early st child c pointer) }
+        ensures stage { result.stage ≡ self.stage }
+        ensures gave { gave_of (Node.Request result) ≡ gave_of (Node.Request self) }
+        ensures over { (tops : Seq SeenTop) → IsRequestAtOver tops self → IsRequestAtOver tops result }
+        ensures left { left_of (Node.Request result) ≤ left_of (Node.Request self) + heard_max }
+    {
+        match self.node.kind_of_child(child) {
+            ChildKind::Logical => self.arrive_attempt_ready(child, pointer),
+            ChildKind::Gang => match self.node.kind() {
+                Kind::Write => self.arrive_member_ready(child, pointer),
+                Kind::Null | Kind::Read | Kind::Free | Kind::Claim => self.arrive_own_ready(child),
+            },
+            ChildKind::Vdev => unreachable!(),
+        }
+    }
+
+    /// The child of this number ended. Of a request that finished this comes back.
+    pub fn arrive(self, tops: &[Top], child: u32, outcome: Outcome) -> (RequestAt, Option<Finished>)
+        requires over { IsRequestAtOver tops.now self }
+        requires awaited { HearsSome nodes tops.now (Node.Request self) child outcome }
+        requires inside { OutcomeIn (IsTreeOver tops.now) outcome }
+        ensures heard { (t : Terms) (st : Stack) (c : Child) (op : Task) (v : Value) →
+            Hears nodes tops.now t (Node.Request self) st child c op outcome v →
+            IsRequestNode t result.0.node (heard_of st child c v) }
+        ensures finished { IfSome result.1 (λ f. outcome ≡ SeenOutcome.Finished f) }
+        ensures kept { (f : _) → outcome ≡ SeenOutcome.Finished f → result.1 ≡ Some f }
+        ensures stage { result.0.stage ≡ self.stage }
+        ensures gave { gave_of (Node.Request result.0) ≡ gave_of (Node.Request self) }
+        ensures over_still { IsRequestAtOver tops.now result.0 }
+        ensures left { left_of (Node.Request result.0) ≤ left_of (Node.Request self) + heard_max }
+    {
+        match outcome {
+            Outcome::Finished(finished) => {
+                let at = self.arrive_finished(child, &finished);
+                (at, Some(finished))
+            }
+            Outcome::Again {
+                whole,
+                bits,
+                pointer,
+            } => (self.arrive_again(child, whole, bits, pointer), None),
+            own => match self.node.kind() {
+                Kind::Write => (self.arrive_written(tops, child, own), None),
+                Kind::Null | Kind::Read | Kind::Free | Kind::Claim => {
+                    (self.arrive_own(tops, child, own), None)
+                }
+            },
         }
     }
 

@@ -20,7 +20,7 @@ use Rattle.zio_frames.specs.Slots.{Heard, IsOut, Slot, left_behind_slots, told_i
 use Rattle.zio_frames.proofs.GetLemmas.{all_at}
 use Rattle.zio_frames.proofs.SlotMoves.{set_end}
 use Rattle.zio_stages.specs.NodeChildren.{is_owing}
-use Rattle.zio_stages.specs.OwnParts.{DoesThen, Follows, GoesOnAs, HandsTo, IsBehind, IsOwed}
+use Rattle.zio_stages.specs.OwnParts.{DoesThen, Follows, GoesOnAs, HandsTo, IsBehind, IsDoneWithin, IsOwed}
 use Rattle.zio_stages.specs.PartsOut.{ArePartsOut}
 use Rattle.zio_stages.proofs.KidAsking.{beside_then}
 use Rattle.zio_stages.proofs.NodeIoMoves.{any_at}
@@ -117,22 +117,24 @@ does_at_once t st op v alone part asks ends =
 
 -- the first operation of its own, that the part does within and at once
 pub first_at_once : {A : Type 0} (t : Terms) (tops : List Top) (own : TaskPlan A) (front_asked : List Task) (front : List Slot) (st : Stack) (op : Task) (v : Value) (IsAfter : Stack → Type 0)
-    → GoesOnAs t tops own front st → IsBehind front_asked front [] [] st → st.inner ≡ None → is_single op ≡ false → NextAnswered [] own op → plan t op ≡ Ends v
+    → GoesOnAs t tops own front st → IsBehind front_asked front [] [] st → st.inner ≡ None → is_single op ≡ false
+    → IsDoneWithin op → NextAnswered [] own op → plan t op ≡ Ends v
     → ((b : Stack) → IsBehind front_asked front (op ∷ []) (Heard v ∷ []) b → b.inner ≡ None → b.children ≡ st.children → IsAfter b)
     → DoesThen t st [] IsAfter
-first_at_once t tops own front_asked front st op v IsAfter goes behind alone part next ends after =
+first_at_once t tops own front_asked front st op v IsAfter goes behind alone part within next ends after =
     let asks : AsksNext t st.outer op = asks_behind t front_asked front [] [] st own op behind tt goes.follows next in
     record {
       dids = Opened op ∷ Closed v ∷ [];
       stack = done_at_once st op v;
       does = does_at_once t st op v alone part asks ends;
+      opens = (within, (tt, tt));
       calls_are = refl;
       after = after (done_at_once st op v) (behind_more front_asked front [] [] st (done_at_once st op v) op (Heard v) behind refl) refl refl;
     }
 
 -- nothing was done
 pub does_nothing : (t : Terms) (st : Stack) (IsAfter : Stack → Type 0) → IsAfter st → DoesThen t st [] IsAfter
-does_nothing t st IsAfter h = record { dids = []; stack = st; does = refl; calls_are = refl; after = h }
+does_nothing t st IsAfter h = record { dids = []; stack = st; does = refl; opens = tt; calls_are = refl; after = h }
 
 -- ---- what it hands out
 

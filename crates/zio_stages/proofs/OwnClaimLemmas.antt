@@ -121,7 +121,7 @@ claim_walks t tops old new block family pointer front_asked front st walked foun
         let fresh : IsBehind front_asked front [] [] st =
         subst (λ (xs : List Task). IsBehind front_asked front xs [] st) c.1.0 (subst (λ (ys : List Slot). IsBehind front_asked front h.asked ys st) c.1.1 behind) in
         let whole : plan t (claim_task bp) ≡ Ends (WalkedBy walked) = ap (λ (b : Bp). plan t (claim_task b)) (sym c.0) ∙ ends in
-        first_at_once t tops (plan_claim (Some bp)) front_asked front st (claim_task bp) (WalkedBy walked) (IsOwnClaim new family (Some bp) front_asked front) goes fresh h.alone refl refl whole
+        first_at_once t tops (plan_claim (Some bp)) front_asked front st (claim_task bp) (WalkedBy walked) (IsOwnClaim new family (Some bp) front_asked front) goes fresh h.alone refl tt refl whole
         (λ b is alone children. record {
           asked = claim_task bp ∷ [];
           slots = Heard (WalkedBy walked) ∷ [];
@@ -179,6 +179,7 @@ claim_takes t tops old new tree family pointer front_asked front st free is foun
           dids = Took tree free ∷ [];
           stack = after;
           does = (after, (h.alone, asks, refl), refl);
+          opens = (tt, tt);
           calls_are = refl;
           after = record {
             asked = h.asked ++ op ∷ [];

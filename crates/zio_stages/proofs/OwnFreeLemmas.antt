@@ -30,7 +30,7 @@ free_walks t tops old new family tree front_asked front st walked due ended ends
     let none : (h.asked ≡ []) × (h.slots ≡ []) = subst (λ (w : FreeWalk). IsFreeWalk tree w h.asked h.slots) due h.walk in
     let behind : IsBehind front_asked front [] [] st =
     subst (λ (xs : List Task). IsBehind front_asked front xs [] st) none.0 (subst (λ (ys : List Slot). IsBehind front_asked front h.asked ys st) none.1 h.behind) in
-    first_at_once t tops (plan_free (Some tree)) front_asked front st (heads_task tree) (WalkedBy walked) (IsOwnFree new family tree front_asked front) goes behind h.alone refl refl ends
+    first_at_once t tops (plan_free (Some tree)) front_asked front st (heads_task tree) (WalkedBy walked) (IsOwnFree new family tree front_asked front) goes behind h.alone refl tt refl ends
     (λ b is alone children. record {
       asked = heads_task tree ∷ [];
       slots = Heard (WalkedBy walked) ∷ [];

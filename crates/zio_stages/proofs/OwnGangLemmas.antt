@@ -1,5 +1,5 @@
 -- A gang's read behind other operations: its walk and its bodies are handed out, told of and heard.
-use Rattle.std.proofs.Common.{◌≡◌, ℕ, zero, suc, ◌+◌, ◌<◌, List, [], ◌∷◌, ◌++◌, length, set, slice_get, Bool, true, false, Option, Some, None, refl, sym, ap, subst, ◌∙◌, arith, length-append}
+use Rattle.std.proofs.Common.{◌≡◌, ◌≢◌, ℕ, zero, suc, ◌+◌, ◌-◌, ◌<◌, List, [], ◌∷◌, ◌++◌, length, map, set, slice_get, Bool, true, false, Option, Some, None, refl, sym, ap, subst, ◌∙◌, arith, length-append}
 use Rattle.std.specs.Prelude.{IfSome}
 use Rattle.std.specs.List.{AllByRecursion}
 use Rattle.zio_types.specs.declared.place.Top.{Top}
@@ -9,20 +9,27 @@ use Rattle.zio_types.specs.declared.request.Phase.TheVariants.{Done}
 use Rattle.zio_blkptr.specs.declared.pointer.Bp.{Bp}
 use Rattle.zio_gang.specs.declared.tree.Tree.{Tree}
 use Rattle.zio_gang.specs.Attempts.{Terms}
+use Rattle.zio_trace.specs.Leaves.{Answer}
 use Rattle.zio_trace.specs.Plans.{plan_tree}
-use Rattle.zio_trace.specs.Tasks.{Task, Value}
+use Rattle.zio_trace.specs.Tasks.{Task, Value, Walked}
 use Rattle.zio_frames.specs.Frames.{Child, OfOuter, Seat, Stack, kind_of_task, needs_none, with_slot}
 use Rattle.zio_frames.specs.Moves.{AsksNext, child_ended, child_told, handed, heard_early, heard_of, set_at}
 use Rattle.zio_frames.specs.Seats.{HasSeat, IsSeated, ShowsTold, SitsAt, slot_at}
 use Rattle.zio_frames.specs.Slots.{Heard, IsOut, Slot, told_in}
 use Rattle.zio_frames.proofs.GetLemmas.{all_at}
+use Rattle.zio_parts.specs.TreeReads.{Reading, body_slot, slots_in, with_results}
+use Rattle.zio_parts.specs.declared.tree_read.Phase.{Phase}
+use Rattle.zio_parts.specs.declared.tree_read.Phase.TheVariants.{Unread, Out, Failed, Found}
 use Rattle.zio_stages.specs.NodeChildren.{new_child}
 use Rattle.zio_stages.specs.OwnParts.{GoesOnAs, HandsTo, IsOwed}
-use Rattle.zio_stages.specs.OwnReads.{AreReads, IsBodyIn, IsBodyTask, IsOwnRead}
-use Rattle.zio_stages.specs.TreeWorks.{HandsRead, IsTreeWork, heads_task}
+use Rattle.zio_stages.specs.OwnReads.{AreReads, IsBodyIn, IsBodyOut, IsBodyTask, IsOwnRead}
+use Rattle.zio_stages.specs.TreeWorks.{HandsRead, IsTreeWork, heads_task, slots_with, walk_before}
+use Rattle.zio_stages.specs.declared.own_read.BodyIo.{BodyIo}
 use Rattle.zio_stages.specs.declared.own_read.OwnRead.{OwnRead}
+use Rattle.zio_stages.specs.declared.tree.TreeWork.{TreeWork}
 use Rattle.zio_stages.proofs.BehindLemmas.{behind_more, behind_set, get_past_front, handed_children, handed_inner, handed_outer, hands_to, heard_inner, heard_outer, next_number, owed_behind}
 use Rattle.zio_stages.proofs.OwnReadLemmas.{alone_in, none_in}
+use Rattle.zio_stages.proofs.RequestOwnLemmas.{body_still}
 use Rattle.zio_stages.proofs.ToldLemmas.{asks_since, none_since, since_count, since_length, since_out, since_set, since_told}
 
 -- ---- what it hands out
@@ -78,10 +85,10 @@ read_owed t w family tree front_asked front st alone seated h some =
 -- ---- what it hears
 
 pub hears_read : (t : Terms) (old new : OwnRead) (family more : List Child) (tree : Tree) (front_asked : List Task) (front : List Slot) (st : Stack) (k n : ℕ) (c : Child) (v : Value)
-    → old.body ≡ None → new.body ≡ None → slice_get st.children k ≡ Some c → c.seat ≡ OfOuter (length front + n) → more ≡ set family k (child_ended c)
+    → new.body ≡ old.body → slice_get st.children k ≡ Some c → c.seat ≡ OfOuter (length front + n) → more ≡ set family k (child_ended c)
     → (h : IsOwnRead t old family tree front_asked front st) → IsTreeWork new.tree tree h.asked (set h.begun n (Heard v))
     → IsOwnRead t new more tree front_asked front (heard_of st k c v)
-hears_read t old new family more tree front_asked front st k n c v alone none there seat ended h work = record {
+hears_read t old new family more tree front_asked front st k n c v same there seat ended h work = record {
   asked = h.asked;
   slots = set h.slots n (Heard v);
   begun = set h.begun n (Heard v);
@@ -90,14 +97,15 @@ hears_read t old new family more tree front_asked front st k n c v alone none th
   work = work;
   told = since_set h.begun h.slots n v h.told;
   reads = h.reads;
-  body = none_in t new.body (length front) (heard_of st k c v) none (heard_inner st k (length front + n) c v seat ∙ alone_in t old.body (length front) st alone h.body);
+  body = subst (λ (o : Option BodyIo). IsBodyIn t o (length front) (heard_of st k c v)) (sym same)
+      (body_still t old.body (length front) (length front) st (heard_of st k c v) refl (heard_inner st k (length front + n) c v seat) h.body);
 }
 
 -- the child told, and nothing changes for its read
 pub tells_read : (t : Terms) (w : OwnRead) (family more : List Child) (tree : Tree) (front_asked : List Task) (front : List Slot) (st : Stack) (k n : ℕ) (c : Child) (pointer : Option Bp)
-    → w.body ≡ None → IsSeated st → c.ended ≡ false → c.told ≡ false → slice_get st.children k ≡ Some c → c.seat ≡ OfOuter (length front + n) → more ≡ set family k (child_told c)
+    → IsSeated st → c.ended ≡ false → c.told ≡ false → slice_get st.children k ≡ Some c → c.seat ≡ OfOuter (length front + n) → more ≡ set family k (child_told c)
     → (h : IsOwnRead t w family tree front_asked front st) → IsOwnRead t w more tree front_asked front (heard_early st k c pointer)
-tells_read t w family more tree front_asked front st k n c pointer alone seated goes untold there seat told h = record {
+tells_read t w family more tree front_asked front st k n c pointer seated goes untold there seat told h = record {
   asked = h.asked;
   slots = set h.slots n (IsOut (Some pointer));
   begun = h.begun;
@@ -107,7 +115,7 @@ tells_read t w family more tree front_asked front st k n c pointer alone seated 
   work = h.work;
   told = since_told h.begun h.slots n pointer (none_since h.begun h.slots n h.told out) h.told;
   reads = h.reads;
-  body = none_in t w.body (length front) (heard_early st k c pointer) alone (ap (λ (s : Seat). (set_at st s (IsOut (Some pointer))).inner) seat ∙ alone_in t w.body (length front) st alone h.body);
+  body = body_still t w.body (length front) (length front) st (heard_early st k c pointer) refl (ap (λ (s : Seat). (set_at st s (IsOut (Some pointer))).inner) seat) h.body;
 }
   where
     sits : (op : Task) × (out : Option (Option Bp)) × SitsAt st c op out
@@ -128,3 +136,30 @@ tells_read t w family more tree front_asked front st k n c pointer alone seated 
 
 pub told_is : (family more : List Child) (k : ℕ) (c : Child) → slice_get family k ≡ Some c → IfSome (slice_get family k) (λ (x : Child). more ≡ set family k (child_told x)) → more ≡ set family k (child_told c)
 told_is family more k c is h = let P : Option Child → Type 0 = λ o. IfSome o (λ (x : Child). more ≡ set family k (child_told x)) in subst P is h
+
+-- ---- another body is still out
+
+other_result : (results : List (Option Answer)) (k j : ℕ) (x : Option Answer) → j ≢ k → slice_get (map body_slot (set results k x)) j ≡ slice_get (map body_slot results) j
+other_result [] k j x ne = refl
+other_result (r ∷ results) zero zero x ne = absurd (ne refl)
+other_result (r ∷ results) zero (suc j) x ne = refl
+other_result (r ∷ results) (suc k) zero x ne = refl
+other_result (r ∷ results) (suc k) (suc j) x ne = other_result results k j x (λ e. ne (ap suc e))
+
+other_slot : (phase : Phase) (left : Walked) (results : List (Option Answer)) (k m : ℕ) (x : Option Answer) → m ≢ suc k
+    → slice_get (walk_before phase left ++ slots_in phase (set results k x)) m ≡ slice_get (walk_before phase left ++ slots_in phase results) m
+other_slot Unread left results k m x ne = refl
+other_slot Out left results k m x ne = refl
+other_slot (Failed e) left results k m x ne = refl
+other_slot Found left results k zero x ne = refl
+other_slot Found left results k (suc j) x ne = other_result results k j x (λ e. ne (ap suc e))
+
+pub still_out : (w v : TreeWork) (n m : ℕ) (found : Answer) → 0 < n → m ≢ n → v.read ≡ with_results w.read (set w.read.results (n - 1) (Some found)) → IsBodyOut w m → IsBodyOut v m
+still_out w v n m found some ne is h =
+    let ne_suc : m ≢ suc (n - 1) = λ e. ne (omega (arith, e, some)) in
+    record {
+      behind = h.behind;
+      out = λ left.
+          ap (λ (r : Reading). slice_get (slots_with left r) m) is
+          ∙ other_slot w.read.phase left w.read.results (n - 1) m (Some found) ne_suc ∙ h.out left;
+    }

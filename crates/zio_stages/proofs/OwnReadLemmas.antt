@@ -60,6 +60,7 @@ walks t tops old new family tree front_asked front st walked alone none step end
       dids = Opened op ∷ Closed v ∷ [];
       stack = done_at_once st op v;
       does = does_at_once t st op v (alone_in t old.body (length front) st alone h.body) refl asks ends;
+      opens = (tt, (tt, tt));
       calls_are = refl;
       after = record {
         asked = h.asked ++ op ∷ [];
@@ -109,6 +110,7 @@ begins t tops old new b body family tree front_asked front st alone some number 
       dids = Opened op ∷ [];
       stack = opened st op;
       does = (opened st op, (inner, refl, asks, refl), refl);
+      opens = (tt, tt);
       calls_are = refl;
       after = record {
         asked = h.asked ++ op ∷ [];
@@ -227,6 +229,7 @@ closes_body t tops old new b io family tree front_asked front st a was none read
       dids = Closed (Got a) ∷ [];
       stack = after;
       does = (after, read_closes t tops io family st i a within.is read end (ends (asking st) read.part), refl);
+      opens = (tt, tt);
       calls_are = refl;
       after = record {
         asked = h.asked;

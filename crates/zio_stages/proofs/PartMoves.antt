@@ -7,6 +7,7 @@ use Rattle.zio_types.specs.declared.error.Errno.{Errno}
 use Rattle.zio_types.specs.declared.place.Place.{Place}
 use Rattle.zio_types.specs.declared.place.Top.{Top}
 use Rattle.zio_types.specs.Choices.{Choice}
+use Rattle.zio_cksum.proofs.AllLemmas.{all_append}
 use Rattle.zio_gang.specs.Attempts.{Terms}
 use Rattle.zio_gang.specs.Writes.{places_chosen}
 use Rattle.zio_trace.specs.Entries.{answer_to}
@@ -21,7 +22,7 @@ use Rattle.zio_parts.specs.Parts.{PartWriting}
 use Rattle.zio_parts.specs.PartWrites.{is_due}
 use Rattle.zio_parts.specs.declared.parts.OwnWrite.TheVariants.{Ended as OwnEnded}
 use Rattle.zio_stages.specs.NodeIos.{IsWriteAt}
-use Rattle.zio_stages.specs.OwnParts.{DoesThen, IsBehind}
+use Rattle.zio_stages.specs.OwnParts.{DoesThen, IsBehind, OpensWithin}
 use Rattle.zio_stages.specs.PartOwns.{ForBytes, HandsOut, IsPartOwn, PartAsk, PartAsks, WrittenPart, ask_of, asks_in}
 use Rattle.zio_stages.specs.PartsOut.{ArePartsOut}
 use Rattle.zio_stages.specs.PartWorks.{Front, IsFront, IsIdle, IsPartAt, IsPartWithin, IsWithin}
@@ -38,10 +39,10 @@ use Rattle.zio_stages.proofs.PartsOutLemmas.{asks_beside}
 -- ---- moves that a node makes itself
 
 pub does_nothing : (t : Terms) (st : Stack) (P : Stack → Type 0) → P st → DoesThen t st [] P
-does_nothing t st P h = record { dids = []; stack = st; does = refl; calls_are = refl; after = h }
+does_nothing t st P h = record { dids = []; stack = st; does = refl; opens = tt; calls_are = refl; after = h }
 
 pub does_map : (t : Terms) (st : Stack) (calls : List SpaceCall) (P Q : Stack → Type 0) → ((mid : Stack) → P mid → Q mid) → DoesThen t st calls P → DoesThen t st calls Q
-does_map t st calls P Q f h = record { dids = h.dids; stack = h.stack; does = h.does; calls_are = h.calls_are; after = f h.stack h.after }
+does_map t st calls P Q f h = record { dids = h.dids; stack = h.stack; does = h.does; opens = h.opens; calls_are = h.calls_are; after = f h.stack h.after }
 
 all_then : (t : Terms) (first second : List Did) (a b c : Stack) → DoesAll t first a b → DoesAll t second b c → DoesAll t (first ++ second) a c
 all_then t [] second a b c h k = subst (λ x. DoesAll t second x c) h k
@@ -53,6 +54,7 @@ does_then t st first second P h = record {
   dids = h.dids ++ h.after.dids;
   stack = h.after.stack;
   does = all_then t h.dids h.after.dids st h.stack h.after.stack h.does h.after.does;
+  opens = all_append OpensWithin h.dids h.after.dids h.opens h.after.opens;
   calls_are = ap (λ cs. cs ++ second) h.calls_are ∙ ap (λ cs. calls_by h.dids ++ cs) h.after.calls_are ∙ sym (flat_map-append call_by h.dids h.after.dids);
   after = h.after.after;
 }
@@ -160,6 +162,7 @@ chose_at t w v family f o front st entry places is h none asks chosen own bytes 
       dids = Chose entry ∷ [];
       stack = next;
       does = (next, (idle.0, asks_behind t w family f o front st op is h asks, refl), refl);
+      opens = (tt, tt);
       calls_are = refl;
       after = record {
         asked = h.asked ++ op ∷ [];
@@ -199,6 +202,7 @@ begins_at t w v family f o front st bytes places io is h none out held now over 
       dids = Opened op ∷ [];
       stack = next;
       does = (next, (idle.0, refl, asks_behind t w family f o front st op is h out.0, refl), refl);
+      opens = (tt, tt);
       calls_are = refl;
       after = record {
         asked = h.asked ++ op ∷ [];
@@ -234,6 +238,7 @@ closes_at t tops w v family f o st io error e h end left heard none over =
       dids = Closed (Wrote error) ∷ [];
       stack = next;
       does = (next, write_closes t w.bytes tops io family st i.inside error i.is at end (left _ at.part), refl);
+      opens = (tt, tt);
       calls_are = refl;
       after = record {
         asked = h.asked;

@@ -63,7 +63,14 @@ set_op st (OfInner n) slot = inner_op st st.inner n slot
 -- ---- what holds behind it holds as this makes it
 
 pub then_does : (t : Terms) (st : Stack) (calls : List SpaceCall) (P Q : Stack → Type 0) → ((b : Stack) → b.outer.op ≡ st.outer.op → P b → Q b) → DoesThen t st calls P → DoesThen t st calls Q
-then_does t st calls P Q f h = record { dids = h.dids; stack = h.stack; does = h.does; calls_are = h.calls_are; after = f h.stack (all_op t h.dids st h.stack h.does) h.after }
+then_does t st calls P Q f h = record {
+  dids = h.dids;
+  stack = h.stack;
+  does = h.does;
+  opens = h.opens;
+  calls_are = h.calls_are;
+  after = f h.stack (all_op t h.dids st h.stack h.does) h.after;
+}
 
 pub then_hands : (t : Terms) (kind : ChildKind) (C D : Task → Type 0) (P Q : Stack → Type 0) (st : Stack) → ((op : Task) → C op → D op) → ((b : Stack) → b.outer.op ≡ st.outer.op → P b → Q b)
     → HandsTo t kind C P st → HandsTo t kind D Q st

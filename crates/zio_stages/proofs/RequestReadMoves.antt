@@ -15,9 +15,10 @@ use Rattle.zio_trace.specs.Tasks.{Task, Value, Walked}
 use Rattle.zio_frames.specs.Frames.{Child, OfOuter, Stack}
 use Rattle.zio_frames.specs.Moves.{child_ended, child_told, heard_early, heard_of}
 use Rattle.zio_frames.specs.Slots.{Heard, IsOut, Slot}
-use Rattle.zio_stages.specs.NodeIos.{NoneSits, StartsBy}
+use Rattle.zio_stages.specs.NodeIos.{NoneSits, SitsOn, StartsBy}
 use Rattle.zio_stages.specs.OwnParts.{DoesThen, Follows, GoesOnAs, HandsTo}
-use Rattle.zio_stages.specs.OwnReads.{IsBodyOn, IsOwnOver, IsOwnRead, IsOwnReadOver}
+use Rattle.zio_stages.specs.OwnReads.{IsBodyOn, IsBodyOut, IsOwnOver, IsOwnRead, IsOwnReadOver}
+use Rattle.zio_stages.specs.ReadIos.{IsReadOutIn}
 use Rattle.zio_stages.specs.RequestNodes.{IsRequestNode}
 use Rattle.zio_stages.specs.RequestOwns.{IsOwnSeat, IsReadOwn, IsReadingOver}
 use Rattle.zio_stages.specs.TreeWorks.{bodies_after, bodies_if}
@@ -26,9 +27,11 @@ use Rattle.zio_stages.specs.declared.family.Layer.TheVariants.{Within}
 use Rattle.zio_stages.specs.declared.leaf.LeafWork.{LeafWork}
 use Rattle.zio_stages.specs.declared.own_read.BodyIo.{BodyIo}
 use Rattle.zio_stages.specs.declared.own_read.OwnRead.{OwnRead}
+use Rattle.zio_stages.specs.declared.tree.TreeWork.{TreeWork}
 use Rattle.zio_stages.specs.declared.request_node.Own.TheVariants.{Read}
 use Rattle.zio_stages.specs.declared.request_node.RequestNode.{RequestNode}
 use Rattle.zio_stages.proofs.BehindLemmas.{does_nothing}
+use Rattle.zio_stages.proofs.NodeIoLemmas.{sits_changed}
 use Rattle.zio_stages.proofs.PartMembers.{none_changed}
 use Rattle.zio_stages.proofs.RequestHears.{seat_is}
 use Rattle.zio_stages.proofs.RequestOwnMoves.{read_goes_on, read_node, reads_block, set_op, then_does, then_hands, then_starts}
@@ -132,6 +135,21 @@ none_marked family more child mark seat goes less marked none =
     let c = some_below family child less in
     let now : more ≡ set family child (mark c.0) = subst (λ (o : Option Child). IfSome o (λ (x : Child). more ≡ set family child (mark x))) c.1 marked in
     subst (NoneSits Within) (sym now) (none_changed family child c.0 (mark c.0) c.1 (seat c.0) (goes c.0) none)
+
+-- whatever part is within, if it is out still
+pub own_over_marked : (tops : List Top) (w v : TreeWork) (o : Option BodyIo) (family more : List Child) (child : ℕ) (mark : Child → Child) → ((c : Child) → (mark c).seat ≡ c.seat)
+    → ((c : Child) → (mark c).ended ≡ false → c.ended ≡ false) → child < length family → IfSome (slice_get family child) (λ (c : Child). more ≡ set family child (mark c))
+    → ((b : BodyIo) → o ≡ Some b → IsBodyOut w b.number → IsBodyOut v b.number) → IsOwnOver tops w o family → IsOwnOver tops v o more
+own_over_marked tops w v None family more child mark seat goes less marked still over = none_marked family more child mark seat goes less marked over
+own_over_marked tops w v (Some b) family more child mark seat goes less marked still over =
+    let c = some_below family child less in
+    let now : more ≡ set family child (mark c.0) = subst (λ (o : Option Child). IfSome o (λ (x : Child). more ≡ set family child (mark x))) c.1 marked in
+    record {
+      over = over.over;
+      sits = subst (SitsOn Within (IsReadOutIn b.io)) (sym now)
+          (sits_changed Within (IsReadOutIn b.io) family child c.0 (mark c.0) c.1 (seat c.0) (goes c.0) over.sits);
+      out = still b refl over.out;
+    }
 
 pub none_ended : (family more : List Child) (child : ℕ) → child < length family → IfSome (slice_get family child) (λ (c : Child). more ≡ set family child (child_ended c)) → NoneSits Within family → NoneSits Within more
 none_ended family more child less marked none = none_marked family more child child_ended (λ c. refl) (λ c e. absurd (cc)) less marked none

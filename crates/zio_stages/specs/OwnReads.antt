@@ -1,5 +1,5 @@
 -- A read's own work behind other operations of its node's part: the walk over the block's headers, and then its bodies.
-use Rattle.std.specs.Prelude.{◌≡◌, ℕ, ◌+◌, ◌<◌, List, [], ◌∷◌, length, slice_get, Option, Some, None, IsTrue}
+use Rattle.std.specs.Prelude.{◌≡◌, ◌≢◌, ℕ, ◌+◌, ◌<◌, List, [], ◌∷◌, length, slice_get, Option, Some, None, IsTrue}
 use Rattle.std.specs.List.{AllByRecursion}
 use Rattle.zio_types.specs.declared.place.Top.{Top}
 use Rattle.zio_blkptr.specs.declared.pointer.Bp.{Bp}
@@ -72,6 +72,11 @@ IsWalkOut w = (left : Walked) → slice_get (slots_with left w.read) 0 ≡ Some 
 pub record IsBodyOut (w : TreeWork) (n : ℕ) : Type 0 where
   pub behind : 0 < n
   pub out : (left : Walked) → slice_get (slots_with left w.read) n ≡ Some (IsOut None)
+
+-- the operation of this number isn't the read of the body within
+abbrev pub IsBeside : ℕ → Option BodyIo → Type 0
+IsBeside n None = Unit {0}
+IsBeside n (Some b) = b.number ≢ n
 
 -- the part within to the tops, to the node's children and to the tree's read
 pub record IsBodyOver (tops : List Top) (w : TreeWork) (b : BodyIo) (family : List Child) : Type 0 where

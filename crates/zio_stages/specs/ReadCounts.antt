@@ -93,6 +93,11 @@ pub record CountsTheSame (v w : OwnRead) : Type 0 where
   pub bodies : w.tree.read.bodies ≡ v.tree.read.bodies
   pub handed : length w.tree.read.results ≡ length v.tree.read.results
 
+-- a child read one of them
+pub record HearsBody (v w : OwnRead) : Type 0 where
+  pub counts : CountsTheSame v w
+  pub body : w.body ≡ v.body
+
 -- the walk, which was due, is out
 pub record HandsOutWalk (v w : OwnRead) : Type 0 where
   pub due : v.tree.read.phase ≡ Unread

@@ -16,7 +16,7 @@ use Rattle.zio_stages.specs.CopiesNodes.{IsCopiesNode, IsCopiesOver}
 use Rattle.zio_stages.specs.HeadsNodes.{IsHeadsNode, IsHeadsOver}
 use Rattle.zio_stages.specs.NodeIos.{IsReadDue}
 use Rattle.zio_stages.specs.OwnParts.{HandsTo, IsOwed}
-use Rattle.zio_stages.specs.OwnReads.{IsBodyOut, IsWalkOut}
+use Rattle.zio_stages.specs.OwnReads.{IsBeside, IsBodyOut, IsWalkOut}
 use Rattle.zio_stages.specs.ReadCounts.{HandsOutBody}
 use Rattle.zio_stages.specs.declared.heads_node.HeadsNode.{HeadsNode}
 use Rattle.zio_stages.specs.declared.own_read.BodyIo.{BodyIo}
@@ -72,9 +72,9 @@ IsAlone w = w.body ≡ None
 abbrev pub IsWalkAlone : OwnRead → Type 0
 IsWalkAlone w = IsAlone w × IsWalkOut w.tree
 
--- a gang child reads a body, the operation of this number
-abbrev pub IsBodyAlone : ℕ → OwnRead → Type 0
-IsBodyAlone n w = IsAlone w × IsBodyOut w.tree n
+-- a gang child reads a body, the operation of this number, and the node itself reads another or none
+abbrev pub IsBodyBeside : ℕ → OwnRead → Type 0
+IsBodyBeside n w = IsBodyOut w.tree n × IsBeside n w.body
 
 -- nothing of the pass is out, and nothing can be handed out in it
 abbrev pub IsBodyDue : List Top → OwnRead → Type 0

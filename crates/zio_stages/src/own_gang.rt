@@ -17,8 +17,8 @@ ghost use Rattle.zio_parts.specs.TreeReads.{ShowsRead, bodies_or, walk_heard};
 ghost use Rattle.zio_parts.specs.declared.tree_read.TreeStep.TheVariants.{Body, Walk};
 ghost use Rattle.zio_stages.specs.NodeIos.{NoneSits};
 ghost use Rattle.zio_stages.specs.OwnParts.{GoesOnAs, HandsTo};
-ghost use Rattle.zio_stages.specs.OwnReads.{IsBodyOut, IsOwnRead, IsWalkOut};
-ghost use Rattle.zio_stages.specs.ReadCounts.{CountsTheSame, HandsOutBody, HandsOutWalk};
+ghost use Rattle.zio_stages.specs.OwnReads.{IsBeside, IsBodyOut, IsOwnRead, IsOwnReadOver, IsWalkOut};
+ghost use Rattle.zio_stages.specs.ReadCounts.{HandsOutBody, HandsOutWalk, HearsBody};
 ghost use Rattle.zio_stages.specs.TreeWorks.{bodies_after, body_task, heads_task};
 ghost use Rattle.zio_stages.specs.declared.family.Layer.TheVariants.{Within};
 
@@ -93,8 +93,7 @@ impl OwnRead {
     /// The child told that it has no pointer.
     pub(crate) fn arrive_ready(&self, family: &mut Family, child: u32)
         requires child { child < length family.old }
-        requires alone { self.now.body ≡ None }
-        ensures sits { NoneSits Within family.old → NoneSits Within family.new }
+        ensures over { (tops : List SeenTop) → IsOwnReadOver tops self.now family.old → IsOwnReadOver tops self.now family.new }
         ensures told { (t : Terms) (tree : Tree) (front_asked : List Task) (before : List Slot) (st : Stack) (c : Child) (n : ℕ) (pointer : Option SeenBp) →
             slice_get st.children child ≡ Some c → c.seat ≡ OfOuter (length before + n) → IsSeated st → c.ended ≡ false → c.told ≡ false →
             IsOwnRead t self.now family.old tree front_asked before st → IsOwnRead t self.now family.new tree front_asked before (heard_early st child c pointer) }
@@ -120,7 +119,7 @@ impl OwnRead {
         family.end(child);
     }
 
-    /// A body, the operation with this number, was read, or failed.
+    /// A body, the operation with this number, was read, or failed. It isn't the one that the node reads itself.
     pub(crate) fn arrive_found(
         &mut self,
         family: &mut Family,
@@ -130,15 +129,14 @@ impl OwnRead {
     )
         requires child { child < length family.old }
         requires out { IsBodyOut self.old.tree n }
-        requires alone { self.old.body ≡ None }
+        requires beside { IsBeside n self.old.body }
         ensures heard { (t : Terms) (tree : Tree) (front_asked : List Task) (before : List Slot) (st : Stack) (c : Child) (a : Answer) → found ≡ a →
             slice_get st.children child ≡ Some c → c.seat ≡ OfOuter (length before + n) →
             IsOwnRead t self.old family.old tree front_asked before st →
             IsOwnRead t self.new family.new tree front_asked before (heard_of st child c (Got a)) }
-        ensures sits { NoneSits Within family.old → NoneSits Within family.new }
+        ensures over { (tops : List SeenTop) → IsOwnReadOver tops self.old family.old → IsOwnReadOver tops self.new family.new }
         ensures bodies { self.new.tree.read.bodies ≡ self.old.tree.read.bodies }
-        ensures counts { CountsTheSame self.old self.new }
-        ensures alone { self.new.body ≡ None }
+        ensures counts { HearsBody self.old self.new }
     {
         self.tree.hear_body(n, found);
         family.end(child);

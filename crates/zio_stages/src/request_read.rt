@@ -31,7 +31,7 @@ ghost use Rattle.zio_stages.specs.RequestReads.{
   HasFound,
   HasReadEnded,
   IsAlone,
-  IsBodyAlone,
+  IsBodyBeside,
   IsBodyDue,
   IsBodyStageOver,
   IsReadWith,
@@ -46,11 +46,11 @@ ghost use Rattle.zio_stages.specs.RequestReads.{
 ghost use Rattle.zio_stages.specs.ReadCounts.{
   AsksMore,
   AssessesBody,
-  CountsTheSame,
   HandsOutWalk,
   HasHandedAll,
   HasOneBody,
   HasWalkBegun,
+  HearsBody,
   IsMoreToRead,
   IsNoneDue,
   IsOneDue,
@@ -380,13 +380,12 @@ impl RequestNode {
     /// The gang child that read a body, the own work's operation of this number, has ended: with the body's bytes, or with an error.
     pub fn arrive_body(&mut self, tops: &[Top], child: u32, n: u32, found: Result<Bytes, Errno>)
         requires seat { IsOwnSeat self.old child n }
-        requires out { IsReadingWith (IsBodyAlone n) self.old.own }
+        requires out { IsReadingWith (IsBodyBeside n) self.old.own }
         requires over { IsOwnOver tops.now self.old.own self.old.family }
         ensures heard { (t : Terms) (st : Stack) (c : Child) (a : Answer) → found ≡ a → slice_get st.children child ≡ Some c →
             IsRequestNode t self.old st → IsRequestNode t self.new (heard_of st child c (Got a)) }
-        ensures goes { ReadsOn CountsTheSame self.old.own self.new.own }
+        ensures goes { ReadsOn HearsBody self.old.own self.new.own }
         ensures over { IsOwnOver tops.now self.new.own self.new.family }
-        ensures reads { IsReadWith IsAlone self.new.own }
         ensures waiting { self.new.waiting ≡ self.old.waiting }
         ensures rest { self.new ≡ with_own self.old self.new.own self.new.family }
     {
@@ -399,7 +398,7 @@ impl RequestNode {
     /// A gang child of its own work told that it has no pointer.
     pub fn arrive_ready_read(&mut self, child: u32)
         requires seat { (n : ℕ) × IsOwnSeat self.old child n }
-        requires alone { IsReadingWith IsAlone self.old.own }
+        requires reads { IsReadingWith (λ w. Unit {0}) self.old.own }
         ensures told { (t : Terms) (st : Stack) (c : Child) (pointer : Option Bp) → IsSeated st → slice_get st.children child ≡ Some c →
             c.ended ≡ false → c.told ≡ false → IsRequestNode t self.old st → IsRequestNode t self.new (heard_early st child c pointer) }
         ensures over { (tops : Seq SeenTop) → IsOwnOver tops self.old.own self.old.family → IsOwnOver tops self.new.own self.new.family }

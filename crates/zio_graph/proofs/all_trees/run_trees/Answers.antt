@@ -1,4 +1,5 @@
-use Rattle.std.proofs.Common.{◌≤◌, ◌+◌, List, slice_get, arith, ap, sym, subst, ◌∙◌}
+use Rattle.std.proofs.Common.{◌≤◌, ◌+◌, List, length, slice_get, arith, refl, ap, sym, subst, ◌∙◌}
+use Rattle.std.proofs.lemmas.List.{length-set}
 use Rattle.zio_types.specs.declared.place.Top.{Top}
 use Rattle.zio_disks.proofs.DiskLemmas.{same_itself, same_then}
 use Rattle.zio_graph.specs.Stages.{OutcomeIn}
@@ -16,6 +17,7 @@ trees-init g c = (
   same_itself g.D.Disk.bytes g.D.Disk.faults g.D.Disk.faults_at_fetch g.D.Disk.home g.D.Disk.image g.D.Disk.sound c.args.grounds.now.disks.items,
   trees_begin g.N.Node.nodes g.N.Staged.over g.D.Disk.bytes g.D.Disk.faults g.D.Disk.image c.args.turns.now.nodes
       c.args.turns.now.line c.args.grounds.now c.args.round c.args.failmode c.args.trees.now.items c.args.ended.now.items c.requires.over,
+  refl,
 )
 
 pub run_to_tree-requires-clause-going : goal.run_to_tree-requires-clause-going
@@ -99,6 +101,8 @@ trees-preserved-in-None g c = (
       (subst (λ (tops : List Top). OutcomeIn (g.N.Staged.tree_over tops) c.in-Some.heard.outcome) (sym c.run_to_tree.ensures.tops)
       (rw c.in-Some.is at c.in_ok-heard.ensures.inside))) c.in_ok-heard.ensures.steady
       c.run_to_tree.ensures.tops c.run_to_tree.ensures.setting),
+  ap (λ (xs : List TreeState). length xs) c.set_state.ensures
+      ∙ (length-set c.trees.trees.items c.in-Some.heard.tree (UnderWay (c.under_way-attempt.result + 1)) ∙ c.trees.invariant.3),
 )
 
 pub trees-preserved : goal.trees-preserved
@@ -123,6 +127,8 @@ trees-preserved g c = (
       (subst (λ (tops : List Top). OutcomeIn (g.N.Staged.tree_over tops) c.in-Some.heard.outcome) (sym c.run_to_tree.ensures.tops)
       (rw c.in-Some.is at c.in_ok-heard.ensures.inside))) c.in_ok-heard.ensures.steady
       c.run_to_tree.ensures.tops c.run_to_tree.ensures.setting),
+  ap (λ (xs : List TreeState). length xs) c.set_state-in-Some-end.ensures
+      ∙ (length-set c.trees.trees.items c.in-Some.heard.tree (Settled c.in-Some-end.end) ∙ c.trees.invariant.3),
 )
 
 pub trees-smaller-in-None : goal.trees-smaller-in-None

@@ -1,3 +1,4 @@
+use Rattle.std.proofs.Common.{◌≡◌, length}
 use Rattle.zio_disks.specs.Disks.{AreSameDisks}
 use Rattle.std.specs.List.{AllByRecursion, sum_by}
 use Rattle.zio_graph.specs.UnderTrees.{StateIn, attempts_left}
@@ -12,6 +13,7 @@ invariant-trees g l =
     × IsRunningTrees g.N.Node.nodes g.N.Staged.over g.D.Disk.bytes g.D.Disk.faults g.D.Disk.image l.initial.turns.nodes
     l.initial.turns.line l.initial.grounds l.round l.failmode l.initial.trees.items l.initial.ended.items l.turns.nodes l.turns.line
     l.grounds l.trees.items l.ended.items
+    × (length l.trees.items ≡ length l.initial.trees.items)
 
 abbrev pub decreases-trees : goal.decreases-trees
 decreases-trees g l = sum_by attempts_left l.trees.items

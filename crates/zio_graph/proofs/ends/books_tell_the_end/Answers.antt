@@ -4,6 +4,8 @@ use Rattle.zio_graph.proofs.ends.books_tell_the_end.Goals as goal
 pub returns : goal.returns
 returns g c = record {
   requests = λ t sizes f before s slab values over heard. requests_are g.N.Node.nodes t f s slab values over.ledger heard over.standing_none;
+  children = λ t sizes f before s slab over. over.ledger.rests.children;
+  sizes = λ t sizes f before s slab over. over.ledger.sized;
   places = λ t sizes f before s slab over.
       found_are g.N.Node.nodes t sizes f before s slab over.state over.kept over.ledger;
   made = λ t sizes f before s slab over. made_found g.N.Node.nodes t f s slab over.ledger;

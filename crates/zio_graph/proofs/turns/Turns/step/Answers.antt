@@ -38,7 +38,7 @@ returns-in-Next-clause-steps g c =
       steps_last g.N.Node.nodes g.N.Staged.over (g.S.Services.tops c.args.services.now) c.args.self.now.nodes
           c.args.self.now.line c.args.key c.remove-node.result m.0 (Next c.in-Next.node)
           c.remove-node.ensures.value m.2 c.requires,
-      steps_next g.N.Node.nodes g.met.N.Staged.hands_out g.met.N.Staged.gives_own g.N.Staged.over (g.S.Services.tops c.args.services.now) c.args.self.now.nodes
+      steps_next g.N.Node.nodes c.does_its_part.ensures.gives_own g.N.Staged.over (g.S.Services.tops c.args.services.now) c.args.self.now.nodes
           c.remove-node.new.self c.put_back.new.nodes c.args.self.now.line c.args.self.now.line c.args.key c.remove-node.result m.0
           c.remove-node.ensures.value c.remove-node.ensures.updates c.in-Next.node m.2 c.put_back.ensures refl,
     )
@@ -69,7 +69,7 @@ returns-in_ok-wait-in-Wait-clause-steps g c =
       steps_last g.N.Node.nodes g.N.Staged.over (g.S.Services.tops c.args.services.now) c.args.self.now.nodes
           c.args.self.now.line c.args.key c.remove-node.result m.0 (Wait c.in-Wait.node c.in-Wait.kind c.in-Wait.phase)
           c.remove-node.ensures.value m.2 c.requires,
-      steps_wait g.N.Node.nodes g.met.N.Staged.hands_out g.met.N.Staged.gives_own g.N.Staged.over (g.S.Services.tops c.args.services.now) c.args.self.now.nodes
+      steps_wait g.N.Node.nodes c.does_its_part.ensures.gives_own g.N.Staged.over (g.S.Services.tops c.args.services.now) c.args.self.now.nodes
           c.remove-node.new.self c.wait.new.nodes c.args.self.now.line c.wait.new.line c.args.key c.remove-node.result m.0
           c.remove-node.ensures.value c.remove-node.ensures.updates c.in-Wait.node c.in-Wait.kind c.in-Wait.phase m.2
           c.in_ok-wait-in-Wait.ensures,
@@ -89,7 +89,7 @@ returns-in_ok-wait-in-Wait-clause-less g c =
     less_waited g.N.Node.nodes.left c.args.self.now.nodes c.remove-node.new.self c.wait.new.nodes c.args.self.now.line
     c.wait.new.line c.args.key c.remove-node.result c.remove-node.ensures.value c.remove-node.ensures.updates c.in-Wait.node
     c.in-Wait.kind c.in-Wait.phase c.in_ok-wait-in-Wait.ensures (rw c.in-Wait.is at c.in-Ok.ensures.left)
-    (steps_first g.N.Node.nodes g.met.N.Staged.hands_out g.met.N.Staged.gives_own g.N.Staged.over (g.S.Services.tops c.args.services.now) c.args.self.now.nodes
+    (steps_first g.N.Node.nodes c.does_its_part.ensures.gives_own g.N.Staged.over (g.S.Services.tops c.args.services.now) c.args.self.now.nodes
     c.remove-node.new.self c.wait.new.nodes c.args.self.now.line c.wait.new.line c.args.key c.remove-node.result m.0
     c.remove-node.ensures.value c.remove-node.ensures.updates c.in-Wait.node c.in-Wait.kind c.in-Wait.phase m.2 c.requires)
 
@@ -107,7 +107,7 @@ returns-in_ok-grow-in-Grow-clause-steps g c =
       steps_last g.N.Node.nodes g.N.Staged.over (g.S.Services.tops c.args.services.now) c.args.self.now.nodes
           c.args.self.now.line c.args.key c.remove-node.result m.0 (Grow c.in-Grow.node c.in-Grow.child c.in-Grow.kind)
           c.remove-node.ensures.value m.2 c.requires,
-      steps_grow g.N.Node.nodes g.met.N.Staged.hands_out g.met.N.Staged.gives_own g.N.Staged.over (g.S.Services.tops c.args.services.now) c.args.self.now.nodes
+      steps_grow g.N.Node.nodes c.does_its_part.ensures.gives_own g.N.Staged.over (g.S.Services.tops c.args.services.now) c.args.self.now.nodes
           c.remove-node.new.self c.grow.new.nodes c.args.self.now.line c.grow.new.line c.args.key c.remove-node.result m.0
           c.remove-node.ensures.value c.remove-node.ensures.updates c.in-Grow.node c.in-Grow.child c.in-Grow.kind m.2
           c.in_ok-grow-in-Grow.ensures,
@@ -140,7 +140,7 @@ returns-in-Leaf-clause-steps g c =
       steps_last g.N.Node.nodes g.N.Staged.over (g.S.Services.tops c.args.services.now) c.args.self.now.nodes
           c.args.self.now.line c.args.key c.remove-node.result m.0 (ToLeaf c.in-Leaf.node c.in-Leaf.op c.in-Leaf.leaf c.in-Leaf.bytes)
           c.remove-node.ensures.value m.2 c.requires,
-      steps_leaf g.N.Node.nodes g.met.N.Staged.hands_out g.met.N.Staged.gives_own g.N.Staged.over (g.S.Services.tops c.args.services.now) c.args.self.now.nodes
+      steps_leaf g.N.Node.nodes c.does_its_part.ensures.gives_own g.N.Staged.over (g.S.Services.tops c.args.services.now) c.args.self.now.nodes
           c.remove-node.new.self c.put_back-in-Leaf.new.nodes c.args.self.now.line c.args.self.now.line c.args.key c.remove-node.result m.0
           c.remove-node.ensures.value c.remove-node.ensures.updates c.in-Leaf.node c.in-Leaf.op c.in-Leaf.leaf c.in-Leaf.bytes
           m.2 c.put_back-in-Leaf.ensures refl,
@@ -167,7 +167,7 @@ pub tell-requires-clause-can : goal.tell-requires-clause-can
 tell-requires-clause-can g c =
     let m = c.run_stage.ensures.moves (Ready c.in-Ready.node c.in-Ready.pointer)
     (ok_as c.run_stage.result c.in-Ok.moved (Ready c.in-Ready.node c.in-Ready.pointer) c.in-Ok.is c.in-Ready.is) in
-    steps_can_tell g.N.Node.nodes g.met.N.Staged.hands_out g.met.N.Staged.gives_own g.N.Staged.over (g.S.Services.tops c.args.services.now) c.args.self.now.nodes
+    steps_can_tell g.N.Node.nodes c.does_its_part.ensures.gives_own g.N.Staged.over (g.S.Services.tops c.args.services.now) c.args.self.now.nodes
     c.remove-node.new.self c.put_back-in-Ready.new.nodes c.args.self.now.line c.args.self.now.line c.args.key c.remove-node.result m.0
     c.remove-node.ensures.value c.remove-node.ensures.updates c.in-Ready.node c.in-Ready.pointer m.2 c.put_back-in-Ready.new.nodes
     c.put_back-in-Ready.ensures c.requires
@@ -186,7 +186,7 @@ returns-in-Ready-clause-steps g c =
       steps_last g.N.Node.nodes g.N.Staged.over (g.S.Services.tops c.args.services.now) c.args.self.now.nodes
           c.args.self.now.line c.args.key c.remove-node.result m.0 (Ready c.in-Ready.node c.in-Ready.pointer)
           c.remove-node.ensures.value m.2 c.requires,
-      steps_ready g.N.Node.nodes g.met.N.Staged.hands_out g.met.N.Staged.gives_own g.N.Staged.over (g.S.Services.tops c.args.services.now) c.args.self.now.nodes
+      steps_ready g.N.Node.nodes c.does_its_part.ensures.gives_own g.N.Staged.over (g.S.Services.tops c.args.services.now) c.args.self.now.nodes
           c.remove-node.new.self c.tell.new.nodes c.args.self.now.line c.tell.new.line c.args.key c.remove-node.result m.0
           c.remove-node.ensures.value c.remove-node.ensures.updates c.in-Ready.node c.in-Ready.pointer m.2 c.put_back-in-Ready.new.nodes
           c.put_back-in-Ready.ensures step has same,
@@ -225,10 +225,10 @@ end-requires-clause-can g c =
     (ok_as c.run_stage.result c.in-Ok.moved (End c.in-End.outcome) c.in-Ok.is c.in-End.is) in
     subst (λ (tops : _). CanEnd g.N.Node.nodes g.N.Staged.over tops c.remove-node.new.self c.remove-node.result.ties.kind
     c.remove-node.result.ties.parent c.in-End.outcome) (sym (c.tops.ensures ∙ c.run_stage.ensures.tops))
-    (steps_can_end g.N.Node.nodes g.met.N.Staged.hands_out g.met.N.Staged.gives_own g.N.Staged.over (g.S.Services.tops c.args.services.now) c.args.self.now.nodes
+    (steps_can_end g.N.Node.nodes c.does_its_part.ensures.gives_own g.N.Staged.over (g.S.Services.tops c.args.services.now) c.args.self.now.nodes
     c.remove-node.new.self c.remove-node.new.self c.args.self.now.line c.args.self.now.line c.args.key c.remove-node.result m.0
     c.remove-node.ensures.value c.remove-node.ensures.updates c.in-End.outcome m.2
-    (λ t st a is. g.met.N.Staged.never_finds t c.remove-node.result.node st a is) c.requires)
+    (λ t st a is. c.does_its_part.ensures.never_finds t c.remove-node.result.node st a is) c.requires)
 
 pub returns-in-End-clause-steps : goal.returns-in-End-clause-steps
 returns-in-End-clause-steps g c =
@@ -244,10 +244,10 @@ returns-in-End-clause-steps g c =
       steps_last g.N.Node.nodes g.N.Staged.over (g.S.Services.tops c.args.services.now) c.args.self.now.nodes
           c.args.self.now.line c.args.key c.remove-node.result m.0 (End c.in-End.outcome)
           c.remove-node.ensures.value m.2 c.requires,
-      steps_end g.N.Node.nodes g.met.N.Staged.hands_out g.met.N.Staged.gives_own g.N.Staged.over (g.S.Services.tops c.args.services.now) c.args.self.now.nodes
+      steps_end g.N.Node.nodes c.does_its_part.ensures.gives_own g.N.Staged.over (g.S.Services.tops c.args.services.now) c.args.self.now.nodes
           c.remove-node.new.self c.end.new.nodes c.args.self.now.line c.end.new.line c.args.key c.remove-node.result m.0
           c.remove-node.ensures.value c.remove-node.ensures.updates c.in-End.outcome m.2
-          (λ t st a is. g.met.N.Staged.never_finds t c.remove-node.result.node st a is) step
+          (λ t st a is. c.does_its_part.ensures.never_finds t c.remove-node.result.node st a is) step
           (subst (λ (tops : _). HasEnded g.N.Node.nodes g.N.Staged.over tops c.remove-node.new.self c.args.self.now.line
           c.end.new.nodes c.end.new.line c.remove-node.result.ties.kind c.remove-node.result.ties.parent c.in-End.outcome step)
           (c.tops.ensures ∙ c.run_stage.ensures.tops) has),

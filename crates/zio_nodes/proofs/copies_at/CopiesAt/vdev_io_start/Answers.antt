@@ -19,6 +19,7 @@ returns-in-Ok-Some-clause-moves c = λ t st now.
       dids = [];
       stack = st;
       does = refl;
+      opens = tt;
       calls_are = refl;
       op = Leaf hands.act;
       part = asks_as_read t c.args.self st now.is;

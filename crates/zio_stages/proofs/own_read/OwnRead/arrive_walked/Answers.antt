@@ -1,4 +1,4 @@
-use Rattle.std.proofs.Common.{◌≡◌, ◌+◌, Some, slice_get, ap, ◌∙◌, List, length, arith}
+use Rattle.std.proofs.Common.{◌≡◌, ◌+◌, Some, slice_get, ap, refl, ◌∙◌, List, length, arith}
 use Rattle.zio_trace.specs.Tasks.{WalkedBy}
 use Rattle.zio_frames.specs.Frames.{Child, OfOuter}
 use Rattle.zio_parts.specs.HeadWalks.{no_walk}
@@ -18,7 +18,7 @@ returns-clause-heard c = λ t tree front_asked before st x there seat h.
     let new : OwnRead = record { tree = c.hear_walk.new.self; body = old.body } in
     let mine : slice_get family c.args.child ≡ Some x = ap (λ (cs : List Child). slice_get cs c.args.child) h.children ∙ there in
     let at : length before ≡ length before + 0 = omega arith in
-    hears_read t old new family c.end.new.self tree front_asked before st c.args.child 0 x (WalkedBy c.args.walked) c.requires.alone c.requires.alone there (seat ∙ ap (λ n. OfOuter n) at)
+    hears_read t old new family c.end.new.self tree front_asked before st c.args.child 0 x (WalkedBy c.args.walked) refl there (seat ∙ ap (λ n. OfOuter n) at)
     (ended_is family c.end.new.self c.args.child x mine c.end.ensures) h (c.hear_walk.ensures.heard tree h.asked h.begun h.work)
 
 pub returns-clause-sits : goal.returns-clause-sits

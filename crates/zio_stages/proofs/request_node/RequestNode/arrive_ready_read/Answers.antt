@@ -1,18 +1,17 @@
 use Rattle.std.proofs.Common.{◌+◌, length, sym, subst}
 use Rattle.zio_frames.specs.Moves.{heard_early}
 use Rattle.zio_stages.specs.RequestNodes.{IsOwnOver, IsRequestNode}
-use Rattle.zio_stages.specs.RequestReads.{IsAlone, IsReadingWith}
 use Rattle.zio_stages.specs.declared.request_node.Own.{Own}
 use Rattle.zio_stages.proofs.RequestHears.{child_within}
 use Rattle.zio_stages.proofs.RequestOwnMoves.{own_read, read_in}
-use Rattle.zio_stages.proofs.RequestReadMoves.{over_alone, own_seat, tells_own}
+use Rattle.zio_stages.proofs.RequestReadMoves.{own_seat, tells_own}
 use Rattle.zio_stages.proofs.RequestWriteLemmas.{with_own}
 use Rattle.zio_stages.proofs.request_node.RequestNode.arrive_ready_read.Goals as goal
 
 pub arrive_ready-requires : goal.arrive_ready-requires
 arrive_ready-requires c =
     let r = c.args.self.now in
-    record { child = child_within r.family c.args.child (length r.kids.kids.kids + c.requires.seat.0) c.requires.seat.1; alone = subst (IsReadingWith IsAlone) c.in-Read.is c.requires.alone }
+    record { child = child_within r.family c.args.child (length r.kids.kids.kids + c.requires.seat.0) c.requires.seat.1 }
 
 pub returns-clause-told : goal.returns-clause-told
 returns-clause-told c = λ t st x pointer seated there goes untold h.
@@ -26,7 +25,5 @@ returns-clause-told c = λ t st x pointer seated there goes untold h.
 
 pub returns-clause-over : goal.returns-clause-over
 returns-clause-over c = λ tops over.
-    let r = c.args.self.now in
-    let alone = subst (IsReadingWith IsAlone) c.in-Read.is c.requires.alone in
-    subst (λ (o : Own). IsOwnOver tops o c.arrive_ready.new.family) (sym c.in-Read.is)
-    (over_alone tops c.in-Read.own c.in-Read.own r.family c.arrive_ready.new.family alone alone (λ on. on) c.arrive_ready.ensures.sits (subst (λ (o : Own). IsOwnOver tops o r.family) c.in-Read.is over))
+    let mine = subst (λ (o : Own). IsOwnOver tops o c.args.self.now.family) c.in-Read.is over in
+    subst (λ (o : Own). IsOwnOver tops o c.arrive_ready.new.family) (sym c.in-Read.is) (c.arrive_ready.ensures.over tops mine.0, mine.1)

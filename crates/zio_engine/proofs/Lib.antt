@@ -3,6 +3,7 @@ pub mod Completions
 pub mod EndedRounds
 pub mod FewTrees
 pub mod Forests
+pub mod Grounds
 pub mod InUse
 pub mod LeftTrees
 pub mod Lefts
@@ -14,6 +15,8 @@ pub mod ReadSizes
 pub mod RoundEnds
 pub mod RoundKeys
 pub mod Sounds
+pub mod Standings
 pub mod Still
 pub mod TreeLemmas
 pub mod UsedUp
+pub mod Wrapped

@@ -1,5 +1,6 @@
 pub mod EngineTrees
 pub mod Ends
+pub mod Graphs
 pub mod InUse
 pub mod Jobs
 pub mod RoundEnds

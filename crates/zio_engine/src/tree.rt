@@ -84,3 +84,15 @@ pub(crate) fn wholes_of(alloc: Global, trees: List<EngineTree>) -> Result<List<W
     }
     Ok(List::from_vec(wholes))
 }
+
+/// Trees of a round, as they stand between rounds.
+pub(crate) fn trees_of(alloc: Global, wholes: List<Whole>) -> Result<List<EngineTree>, NoMemory>
+    requires { AllByRecursion IsEngineTree wholes }
+    ensures { IfOk result (λ trees. trees ≡ map pendings wholes) }
+{
+    let mut trees = Vec::new(alloc);
+    for whole in wholes.into_rest() {
+        trees.push(EngineTree { whole })?;
+    }
+    Ok(List::from_vec(trees))
+}

@@ -1,5 +1,5 @@
 -- What stands in clap's matches of a command's words.
-use Rattle.std.proofs.Common.{◌≡◌, ℕ, List, [], ◌∷◌, ◌++◌, Bool, true, false, cond, Option, Some, None, option_map, is_some, unwrap_or, option_and_then, slice_get, ◌||◌, append-nil, append_assoc, refl, sym, ap, ◌∙◌, subst, true≢false}
+use Rattle.std.proofs.Common.{◌≡◌, ◌<◌, ◌^◌, ℕ, List, [], ◌∷◌, ◌++◌, Bool, true, false, cond, Option, Some, None, option_map, is_some, unwrap_or, option_and_then, slice_get, ◌||◌, append-nil, append_assoc, refl, sym, ap, ◌∙◌, subst, true≢false}
 use Rattle.std.specs.Prelude.{decimal, codes, bytes_eq, find, fold, IfSome}
 use Rattle.std.specs.List.{AllByRecursion}
 use Rattle.std.proofs.lemmas.Slice.Eq.{bytes_eq-Decides}
@@ -10,12 +10,12 @@ use Rattle.clap.specs.declared.builder.value_parser.Reading.TheVariants.{AsWritt
 use Rattle.clap.specs.declared.parser.matches.ValueSource.{ValueSource}
 use Rattle.clap.specs.declared.parser.matches.ValueSource.TheVariants.{CommandLine, DefaultValue}
 use Rattle.zio_run.specs.declared.options.Asked.{Asked}
-use Rattle.zio_run.specs.declared.options.Asked.TheVariants.{Journal, Bytes, Workers}
+use Rattle.zio_run.specs.declared.options.Asked.TheVariants.{Journal, Bytes, Picks, Workers}
 use Rattle.zio_run.specs.declared.options.Options.{Options}
 use Rattle.zio_run.specs.declared.options.TheConstants.{WORKERS_MAX}
 use Rattle.zio_run.specs.Parses.{run_app}
 use Rattle.zio_run.specs.Words.{AreImages, AreNames, AreNew, IsImageName, IsOptionOf, IsSplit, IsWithin, none_asked, with_options}
-use Rattle.zio_run.proofs.ClapWalks.{counted_out, flagged, imaged, options_met, opted, run_rules, settled_at, stand}
+use Rattle.zio_run.proofs.ClapWalks.{flagged, imaged, options_met, opted, run_rules, settled_at, stand, valued}
 
 -- ---- the row of an argument
 
@@ -93,6 +93,7 @@ more_given id values more (r ∷ rs) is = go (bytes_eq r.id id) refl is (more_gi
 pub record IsFound (options : Options) (rows : List Row) : Type 0 where
   pub journal : found (codes "journal") rows ≡ cond options.journal (Some (given_row (codes "journal") (codes "true" ∷ []))) None
   pub bytes : found (codes "data") rows ≡ cond options.bytes (Some (given_row (codes "data") (codes "true" ∷ []))) None
+  pub picks : found (codes "picks") rows ≡ option_map (λ n. given_row (codes "picks") (decimal n ∷ [])) options.picks
   pub workers : found (codes "workers") rows ≡ option_map (λ n. given_row (codes "workers") (decimal n ∷ [])) options.workers
   pub images : found (codes "image") rows ≡ None
 
@@ -103,9 +104,9 @@ others_given id other apart values rows = others_with id other apart AsWritten C
 not_asked : (b : Bool) (r : Row) → b ≡ false → cond b (Some r) None ≡ None
 not_asked b r h = ap (λ (x : Bool). cond x (Some r) None) h
 
-no_workers : (o : Option ℕ) (f : ℕ → Row) → is_some o ≡ false → option_map f o ≡ None
-no_workers None f h = refl
-no_workers (Some n) f h = absurd (true≢false h)
+no_value : (o : Option ℕ) (f : ℕ → Row) → is_some o ≡ false → option_map f o ≡ None
+no_value None f h = refl
+no_value (Some n) f h = absurd (true≢false h)
 
 options_found : (asked : List Asked) (options : Options) (rows : List Row) → AreNew options asked → IsFound options rows → IsFound (with_options options asked) (opted asked rows)
 options_found [] options rows new h = h
@@ -113,6 +114,7 @@ options_found (Journal ∷ asked) options rows new h =
     options_found asked (record options { journal = true }) (flagged (codes "journal") rows) new.1 (record {
       journal = new_given (codes "journal") (codes "true" ∷ []) rows (h.journal ∙ not_asked options.journal _ new.0);
       bytes = others_given (codes "journal") (codes "data") refl (codes "true" ∷ []) rows ∙ h.bytes;
+      picks = others_given (codes "journal") (codes "picks") refl (codes "true" ∷ []) rows ∙ h.picks;
       workers = others_given (codes "journal") (codes "workers") refl (codes "true" ∷ []) rows ∙ h.workers;
       images = others_given (codes "journal") (codes "image") refl (codes "true" ∷ []) rows ∙ h.images;
     })
@@ -120,14 +122,24 @@ options_found (Bytes ∷ asked) options rows new h =
     options_found asked (record options { bytes = true }) (flagged (codes "data") rows) new.1 (record {
       journal = others_given (codes "data") (codes "journal") refl (codes "true" ∷ []) rows ∙ h.journal;
       bytes = new_given (codes "data") (codes "true" ∷ []) rows (h.bytes ∙ not_asked options.bytes _ new.0);
+      picks = others_given (codes "data") (codes "picks") refl (codes "true" ∷ []) rows ∙ h.picks;
       workers = others_given (codes "data") (codes "workers") refl (codes "true" ∷ []) rows ∙ h.workers;
       images = others_given (codes "data") (codes "image") refl (codes "true" ∷ []) rows ∙ h.images;
     })
+options_found (Picks n ∷ asked) options rows new h =
+    options_found asked (record options { picks = Some n }) (valued (codes "picks") (decimal n) rows) new.1 (record {
+      journal = others_given (codes "picks") (codes "journal") refl (decimal n ∷ []) rows ∙ h.journal;
+      bytes = others_given (codes "picks") (codes "data") refl (decimal n ∷ []) rows ∙ h.bytes;
+      picks = new_given (codes "picks") (decimal n ∷ []) rows (h.picks ∙ no_value options.picks _ new.0);
+      workers = others_given (codes "picks") (codes "workers") refl (decimal n ∷ []) rows ∙ h.workers;
+      images = others_given (codes "picks") (codes "image") refl (decimal n ∷ []) rows ∙ h.images;
+    })
 options_found (Workers n ∷ asked) options rows new h =
-    options_found asked (record options { workers = Some n }) (counted_out (decimal n) rows) new.1 (record {
+    options_found asked (record options { workers = Some n }) (valued (codes "workers") (decimal n) rows) new.1 (record {
       journal = others_given (codes "workers") (codes "journal") refl (decimal n ∷ []) rows ∙ h.journal;
       bytes = others_given (codes "workers") (codes "data") refl (decimal n ∷ []) rows ∙ h.bytes;
-      workers = new_given (codes "workers") (decimal n ∷ []) rows (h.workers ∙ no_workers options.workers _ new.0);
+      picks = others_given (codes "workers") (codes "picks") refl (decimal n ∷ []) rows ∙ h.picks;
+      workers = new_given (codes "workers") (decimal n ∷ []) rows (h.workers ∙ no_value options.workers _ new.0);
       images = others_given (codes "workers") (codes "image") refl (decimal n ∷ []) rows ∙ h.images;
     })
 
@@ -185,6 +197,7 @@ flag_read id false rows is =
 pub record Says (options : Options) (names : List Text) (rows : List Row) : Type 0 where
   pub journal : one_of (codes "journal") rows ≡ Some (flag_text options.journal)
   pub bytes : one_of (codes "data") rows ≡ Some (flag_text options.bytes)
+  pub picks : first_of (codes "picks") rows ≡ option_map decimal options.picks
   pub workers : first_of (codes "workers") rows ≡ option_map decimal options.workers
   pub images : all_of (codes "image") rows ≡ Some names
 
@@ -193,13 +206,13 @@ same_either true rows = refl
 same_either false rows = refl
 
 finished_run : (serial : Bool) (w : Walk) → finished (run_rules serial) w.held ≡ or_default (codes "data") (or_default (codes "journal") (settled_at (run_rules serial) w))
-finished_run true w = same_either _ _
+finished_run true w = same_either _ _ ∙ same_either _ _
 finished_run false w = same_either _ _ ∙ same_either _ _
 
-first_numeral : (o : Option ℕ) (rows : List Row) → found (codes "workers") rows ≡ option_map (λ n. given_row (codes "workers") (decimal n ∷ [])) o
-    → first_of (codes "workers") rows ≡ option_map decimal o
-first_numeral None rows is = ap (option_and_then (λ (r : Row). slice_get r.values 0)) is
-first_numeral (Some n) rows is = ap (option_and_then (λ (r : Row). slice_get r.values 0)) is
+first_numeral : (id : Text) (o : Option ℕ) (rows : List Row) → found id rows ≡ option_map (λ n. given_row id (decimal n ∷ [])) o
+    → first_of id rows ≡ option_map decimal o
+first_numeral id None rows is = ap (option_and_then (λ (r : Row). slice_get r.values 0)) is
+first_numeral id (Some n) rows is = ap (option_and_then (λ (r : Row). slice_get r.values 0)) is
 
 pub names_plain : (words : List Text) → AreNames words → AllByRecursion IsImageName words
 names_plain [] h = tt
@@ -214,14 +227,16 @@ found_all options name names rows h =
       journal = ap (option_and_then row_text) (others_default (codes "data") (codes "journal") refl flags)
           ∙ flag_read (codes "journal") options.journal all (others_imaged (codes "journal") refl (name ∷ names) rows ∙ h.journal);
       bytes = flag_read (codes "data") options.bytes flags (others_default (codes "journal") (codes "data") refl all ∙ others_imaged (codes "data") refl (name ∷ names) rows ∙ h.bytes);
-      workers = first_numeral options.workers (or_default (codes "data") flags) (others_default (codes "data") (codes "workers") refl flags ∙ others_default (codes "journal") (codes "workers") refl all
+      picks = first_numeral (codes "picks") options.picks (or_default (codes "data") flags) (others_default (codes "data") (codes "picks") refl flags ∙ others_default (codes "journal") (codes "picks") refl all
+          ∙ others_imaged (codes "picks") refl (name ∷ names) rows ∙ h.picks);
+      workers = first_numeral (codes "workers") options.workers (or_default (codes "data") flags) (others_default (codes "data") (codes "workers") refl flags ∙ others_default (codes "journal") (codes "workers") refl all
           ∙ others_imaged (codes "workers") refl (name ∷ names) rows ∙ h.workers);
       images = ap (option_map (λ (r : Row). r.values)) (others_default (codes "data") (codes "image") refl flags ∙ others_default (codes "journal") (codes "image") refl all
           ∙ all_imaged names (name ∷ []) (imaged rows name) (first_given (codes "image") (name ∷ []) rows h.images));
     }
 
 nothing_found : IsFound none_asked []
-nothing_found = record { journal = refl; bytes = refl; workers = refl; images = refl }
+nothing_found = record { journal = refl; bytes = refl; picks = refl; workers = refl; images = refl }
 
 abbrev matched : Bool → List Text → List Row
 matched serial words = finished (run_rules serial) (fold (walked (run_rules serial) []) (stand [] None idle 1) words).held
@@ -254,4 +269,14 @@ pub workers_within : (serial : Bool) (asked : List Asked) (options : Options) �
 workers_within serial [] options known within = within
 workers_within serial (Journal ∷ asked) options known within = workers_within serial asked (record options { journal = true }) known.1 within
 workers_within serial (Bytes ∷ asked) options known within = workers_within serial asked (record options { bytes = true }) known.1 within
+workers_within serial (Picks seed ∷ asked) options known within = workers_within serial asked (record options { picks = Some seed }) known.1 within
 workers_within serial (Workers n ∷ asked) options known within = workers_within serial asked (record options { workers = Some n }) known.1 known.0.1
+
+-- and the seed of the picks
+pub picks_within : (serial : Bool) (asked : List Asked) (options : Options) → AllByRecursion (IsOptionOf serial) asked → IfSome options.picks (λ n. n < 2 ^ 64)
+    → IfSome (with_options options asked).picks (λ n. n < 2 ^ 64)
+picks_within serial [] options known within = within
+picks_within serial (Journal ∷ asked) options known within = picks_within serial asked (record options { journal = true }) known.1 within
+picks_within serial (Bytes ∷ asked) options known within = picks_within serial asked (record options { bytes = true }) known.1 within
+picks_within serial (Picks seed ∷ asked) options known within = picks_within serial asked (record options { picks = Some seed }) known.1 known.0.1
+picks_within serial (Workers n ∷ asked) options known within = picks_within serial asked (record options { workers = Some n }) known.1 within

@@ -19,7 +19,7 @@ abbrev rules_of : App → List Rule
 rules_of app = (built app).top.rules
 
 -- a numeral that a positional takes
-numeral_met : (c : List Rule) (a : Rule) (position : ℕ) (takes : TakesOne c a position) (next : min (position + 1) usize_max ≡ position + 1) (rows : List Row) (p : Option (Text × List Text)) (n : ℕ) → n < 2 ^ 32
+numeral_met : (c : List Rule) (a : Rule) (position : ℕ) (takes : TakesOne c a position) (next : min (position + 1) usize_max ≡ position + 1) (rows : List Row) (p : Option (Text × List Text)) (n : ℕ) → n < 2 ^ 64
     → walked c [] (stand rows p idle position) (decimal n) ≡ stand (settled_rows c p rows) (Some (a.id, decimal n ∷ [])) idle (position + 1)
 numeral_met c a position takes next rows p n fits = go (decimal n) (numeral_word n fits)
   where
@@ -39,10 +39,11 @@ pub record SaysSize (seed n : ℕ) (rows : List Row) : Type 0 where
 pub gen_said : (words : List Text) (seed n : ℕ) → IsSize words seed n [] → SaysSize seed n (matches_of gen_app words)
 gen_said words seed n size =
     let c = rules_of gen_app in
-    let fits : n < 2 ^ 32 = let high = size.blocks.high in omega arith in
+    let seed_fits : seed < 2 ^ 64 = let low = size.seed_fits in omega arith in
+    let fits : n < 2 ^ 64 = let high = size.blocks.high in omega arith in
     let walk : fold (walked c []) (stand [] None idle 1) words ≡ stand (settled_rows c (Some (codes "seed", decimal seed ∷ [])) []) (Some (codes "n", decimal n ∷ [])) idle 3 =
     ap (fold (walked c []) (stand [] None idle 1)) size.words_are
-    ∙ ap (λ (w : Walk). walked c [] w (decimal n)) (numeral_met c seed_rule 1 (record { at = refl; one = refl; single = refl; var = refl }) refl [] None seed size.seed_fits)
+    ∙ ap (λ (w : Walk). walked c [] w (decimal n)) (numeral_met c seed_rule 1 (record { at = refl; one = refl; single = refl; var = refl }) refl [] None seed seed_fits)
     ∙ numeral_met c n_rule 2 (record { at = refl; one = refl; single = refl; var = refl }) refl [] (Some (codes "seed", decimal seed ∷ [])) n fits in
     let is : matches_of gen_app words ≡ sized seed n = ap (λ (w : Walk). finished c w.held) walk in
     subst (SaysSize seed n) (sym is) (record { seed_is = refl; n_is = refl })
@@ -76,11 +77,12 @@ pub load_said : (words : List Text) (seed n : ℕ) (names : List Text) → IsSiz
 load_said words seed n [] size images = absurd (images.some refl)
 load_said words seed n (name ∷ names) size images =
     let c = rules_of load_app in
-    let fits : n < 2 ^ 32 = let high = size.blocks.high in omega arith in
+    let seed_fits : seed < 2 ^ 64 = let low = size.seed_fits in omega arith in
+    let fits : n < 2 ^ 64 = let high = size.blocks.high in omega arith in
     let rest = name ∷ names in
     let walk : settled_at c (fold (walked c []) (stand [] None idle 1) words) ≡ fold imaged (sized seed n) rest =
     ap (λ (ws : List Text). settled_at c (fold (walked c []) (stand [] None idle 1) ws)) size.words_are
-    ∙ ap (λ (w : Walk). settled_at c (fold (walked c []) (walked c [] w (decimal n)) rest)) (numeral_met c seed_rule 1 (record { at = refl; one = refl; single = refl; var = refl }) refl [] None seed size.seed_fits)
+    ∙ ap (λ (w : Walk). settled_at c (fold (walked c []) (walked c [] w (decimal n)) rest)) (numeral_met c seed_rule 1 (record { at = refl; one = refl; single = refl; var = refl }) refl [] None seed seed_fits)
     ∙ ap (λ (w : Walk). settled_at c (fold (walked c []) w rest)) (numeral_met c n_rule 2 (record { at = refl; one = refl; single = refl; var = refl }) refl [] (Some (codes "seed", decimal seed ∷ [])) n fits)
     ∙ names_met c image_third 3 (record { at = refl; one = refl; more = refl; var = refl }) rest (settled_rows c (Some (codes "seed", decimal seed ∷ [])) []) (Some (codes "n", decimal n ∷ [])) idle tt (names_plain rest images.names) in
     let is : matches_of load_app words ≡ fold imaged (sized seed n) rest = finished_load (fold (walked c []) (stand [] None idle 1) words) ∙ walk in

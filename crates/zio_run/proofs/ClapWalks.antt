@@ -1,5 +1,5 @@
 -- What clap makes of the words of a command, one after another.
-use Rattle.std.proofs.Common.{◌≡◌, ◌≢◌, ◌<◌, ◌^◌, ℕ, List, [], ◌∷◌, ◌++◌, length, Bool, true, false, cond, ◌&&◌, ◌==◌, ◌+◌, min, Option, Some, None, refl, ap, ◌∙◌, arith, inl, inr, ◌≤◌, true≢false}
+use Rattle.std.proofs.Common.{◌≡◌, ◌≢◌, ◌<◌, ◌^◌, ℕ, List, [], ◌∷◌, ◌++◌, length, Bool, true, false, cond, ◌&&◌, ◌==◌, ◌+◌, min, Option, Some, None, refl, sym, ap, ◌∙◌, arith, inl, inr, ◌≤◌, true≢false}
 use Rattle.std.specs.Prelude.{decimal, codes, bytes_eq, fold, option_and_then}
 use Rattle.std.specs.List.{AllByRecursion, flat_map}
 use Rattle.std.specs.Str.Parse.{AllDigits}
@@ -13,7 +13,7 @@ use Rattle.clap.specs.declared.builder.value_parser.Reading.TheVariants.{AsWritt
 use Rattle.clap.specs.declared.parser.matches.ValueSource.TheVariants.{CommandLine}
 use Rattle.clap.proofs.OnLiterals.{clap_on_literals}
 use Rattle.zio_run.specs.declared.options.Asked.{Asked}
-use Rattle.zio_run.specs.declared.options.Asked.TheVariants.{Journal, Bytes, Workers}
+use Rattle.zio_run.specs.declared.options.Asked.TheVariants.{Journal, Bytes, Picks, Workers}
 use Rattle.zio_run.specs.Parses.{image_rule, run_app}
 use Rattle.zio_run.specs.Words.{IsImageName, IsOptionOf, option_words}
 
@@ -149,15 +149,25 @@ run_rules serial = (built (run_app serial)).top.rules
 abbrev pub flagged : Text → List Row → List Row
 flagged id rows = with_values id AsWritten CommandLine (codes "true" ∷ []) (without id rows)
 
--- the number of workers was given
-abbrev pub counted_out : Text → List Row → List Row
-counted_out word rows = with_values (codes "workers") AsWritten CommandLine (word ∷ []) (without (codes "workers") rows)
+-- the option with a value was given with this one
+abbrev pub valued : Text → Text → List Row → List Row
+valued id word rows = with_values id AsWritten CommandLine (word ∷ []) (without id rows)
 
 abbrev pub opted : List Asked → List Row → List Row
 opted [] rows = rows
 opted (Journal ∷ asked) rows = opted asked (flagged (codes "journal") rows)
 opted (Bytes ∷ asked) rows = opted asked (flagged (codes "data") rows)
-opted (Workers n ∷ asked) rows = opted asked (counted_out (decimal n) rows)
+opted (Picks seed ∷ asked) rows = opted asked (valued (codes "picks") (decimal seed) rows)
+opted (Workers n ∷ asked) rows = opted asked (valued (codes "workers") (decimal n) rows)
+
+-- the option with a value that each program has
+abbrev valued_name : Bool → Text
+valued_name true = codes "picks"
+valued_name false = codes "workers"
+
+abbrev valued_word : Bool → Text
+valued_word true = codes "--picks"
+valued_word false = codes "--workers"
 
 journal_met : (serial : Bool) (rows : List Row) (p : Option (Text × List Text))
     → walked (run_rules serial) [] (stand rows p idle 1) (codes "--journal") ≡ stand (flagged (codes "journal") (settled_rows (run_rules serial) p rows)) None idle 1
@@ -171,15 +181,22 @@ unfolding clap_on_literals
 data_met true rows p = refl
 data_met false rows p = refl
 
-workers_met : (rows : List Row) (p : Option (Text × List Text))
-    → walked (run_rules false) [] (stand rows p idle 1) (codes "--workers") ≡ stand (settled_rows (run_rules false) p rows) (Some (codes "workers", [])) (option (codes "workers")) 1
+option_met : (serial : Bool) (rows : List Row) (p : Option (Text × List Text))
+    → walked (run_rules serial) [] (stand rows p idle 1) (valued_word serial)
+    ≡ stand (settled_rows (run_rules serial) p rows) (Some (valued_name serial, [])) (option (valued_name serial)) 1
 unfolding clap_on_literals
-workers_met rows p = refl
+option_met true rows p = refl
+option_met false rows p = refl
 
-value_met : (rows : List Row) (x : ℕ) (xs : Text) → (x == 45) ≡ false
-    → walked (run_rules false) [] (stand rows (Some (codes "workers", [])) (option (codes "workers")) 1) (x ∷ xs) ≡ stand rows (Some (codes "workers", (x ∷ xs) ∷ [])) idle 1
+value_met : (serial : Bool) (rows : List Row) (x : ℕ) (xs : Text) → (x == 45) ≡ false
+    → walked (run_rules serial) [] (stand rows (Some (valued_name serial, [])) (option (valued_name serial)) 1) (x ∷ xs)
+    ≡ stand rows (Some (valued_name serial, (x ∷ xs) ∷ [])) idle 1
 unfolding walked
-value_met rows x xs plain =
+value_met true rows x xs plain =
+    let h : Held = record { rows = rows; pending = Some (codes "picks", []); skip = 0 } in
+    ap (λ (m : Held × Step). after_step (run_rules true) (x ∷ xs) (stand rows (Some (codes "picks", [])) (option (codes "picks")) 1) m.0 m.1)
+    (other_word (run_rules true) x xs h plain (option (codes "picks")) 1)
+value_met false rows x xs plain =
     let h : Held = record { rows = rows; pending = Some (codes "workers", []); skip = 0 } in
     ap (λ (m : Held × Step). after_step (run_rules false) (x ∷ xs) (stand rows (Some (codes "workers", [])) (option (codes "workers")) 1) m.0 m.1)
     (other_word (run_rules false) x xs h plain (option (codes "workers")) 1)
@@ -193,23 +210,23 @@ abbrev pub imaged : List Row → Text → List Row
 imaged rows word = with_values (codes "image") AsWritten CommandLine (word ∷ []) rows
 
 -- a numeral is a word without a hyphen
-pub numeral_word : (n : ℕ) → n < 2 ^ 32 → IsImageName (decimal n)
-numeral_word n fits = first (decimal n) (decimal_is_IsNumeral n (omega arith)).0
+pub numeral_word : (n : ℕ) → n < 2 ^ 64 → IsImageName (decimal n)
+numeral_word n fits = first (decimal n) (decimal_is_IsNumeral n fits).0
   where
     first : (ds : List ℕ) → (0 < length ds) × AllDigits 10 ds → IsImageName ds
     first [] h = absurd (omega arith)
     first (d ∷ ds) h = let range = digit_from_value d h.1.0 in omega arith
 
-number_met : (rows : List Row) (p : Option (Text × List Text)) (n : ℕ) → n < 2 ^ 32
-    → walked (run_rules false) [] (walked (run_rules false) [] (stand rows p idle 1) (codes "--workers")) (decimal n)
-    ≡ stand (settled_rows (run_rules false) p rows) (Some (codes "workers", decimal n ∷ [])) idle 1
-number_met rows p n fits = ap (λ (w : Walk). walked (run_rules false) [] w (decimal n)) (workers_met rows p) ∙ go (decimal n) (numeral_word n fits)
+number_met : (serial : Bool) (rows : List Row) (p : Option (Text × List Text)) (n : ℕ) → n < 2 ^ 64
+    → walked (run_rules serial) [] (walked (run_rules serial) [] (stand rows p idle 1) (valued_word serial)) (decimal n)
+    ≡ stand (settled_rows (run_rules serial) p rows) (Some (valued_name serial, decimal n ∷ [])) idle 1
+number_met serial rows p n fits = ap (λ (w : Walk). walked (run_rules serial) [] w (decimal n)) (option_met serial rows p) ∙ go (decimal n) (numeral_word n fits)
   where
     go : (word : Text) → IsImageName word
-        → walked (run_rules false) [] (stand (settled_rows (run_rules false) p rows) (Some (codes "workers", [])) (option (codes "workers")) 1) word
-        ≡ stand (settled_rows (run_rules false) p rows) (Some (codes "workers", word ∷ [])) idle 1
+        → walked (run_rules serial) [] (stand (settled_rows (run_rules serial) p rows) (Some (valued_name serial, [])) (option (valued_name serial)) 1) word
+        ≡ stand (settled_rows (run_rules serial) p rows) (Some (valued_name serial, word ∷ [])) idle 1
     go [] name = absurd name
-    go (x ∷ xs) name = value_met (settled_rows (run_rules false) p rows) x xs (hyphen_not x name)
+    go (x ∷ xs) name = value_met serial (settled_rows (run_rules serial) p rows) x xs (hyphen_not x name)
 
 pub options_met : (serial : Bool) (asked : List Asked) (names : List Text) (rows : List Row) (p : Option (Text × List Text)) → AllByRecursion (IsOptionOf serial) asked → AllPlain names
     → settled_at (run_rules serial) (fold (walked (run_rules serial) []) (stand rows p idle 1) (flat_map option_words asked ++ names))
@@ -224,9 +241,14 @@ options_met serial (Bytes ∷ asked) names rows p known plain =
     let c = run_rules serial in
     ap (λ (w : Walk). settled_at c (fold (walked c []) w (flat_map option_words asked ++ names))) (data_met serial rows p)
     ∙ options_met serial asked names (flagged (codes "data") (settled_rows c p rows)) None known.1 plain
+options_met true (Picks seed ∷ asked) names rows p known plain =
+    let c = run_rules true in
+    ap (λ (w : Walk). settled_at c (fold (walked c []) w (flat_map option_words asked ++ names))) (number_met true rows p seed known.0.1)
+    ∙ options_met true asked names (settled_rows c p rows) (Some (codes "picks", decimal seed ∷ [])) known.1 plain
+options_met false (Picks seed ∷ asked) names rows p known plain = absurd (true≢false (sym known.0.0))
 options_met true (Workers n ∷ asked) names rows p known plain = absurd (true≢false known.0.0)
 options_met false (Workers n ∷ asked) names rows p known plain =
     let c = run_rules false in
     let low : n ≤ 16 = known.0.1.high in
-    ap (λ (w : Walk). settled_at c (fold (walked c []) w (flat_map option_words asked ++ names))) (number_met rows p n (omega arith))
+    ap (λ (w : Walk). settled_at c (fold (walked c []) w (flat_map option_words asked ++ names))) (number_met false rows p n (omega arith))
     ∙ options_met false asked names (settled_rows c p rows) (Some (codes "workers", decimal n ∷ [])) known.1 plain

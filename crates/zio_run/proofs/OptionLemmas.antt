@@ -6,7 +6,7 @@ use Rattle.std.proofs.lemmas.List.{append-nil}
 use Rattle.std.proofs.lemmas.Slice.Eq.{bytes_eq-Decides}
 use Rattle.std.proofs.lemmas.Fmt.{decimal_injective}
 use Rattle.zio_run.specs.declared.options.Asked.{Asked}
-use Rattle.zio_run.specs.declared.options.Asked.TheVariants.{Journal, Bytes, Workers}
+use Rattle.zio_run.specs.declared.options.Asked.TheVariants.{Journal, Bytes, Picks, Workers}
 use Rattle.zio_run.specs.declared.options.Options.{Options}
 use Rattle.zio_run.specs.declared.options.TheConstants.{WORKERS_MAX}
 use Rattle.zio_run.specs.Words.{AreNew, IsNext, IsOptionOf, IsSplit, NoNext, NoSplit, begins_option, is_asked, none_asked, option_words, with_option, with_options}
@@ -88,12 +88,21 @@ pub same_option : (serial : Bool) (a b : Asked) (xs ys : List (List ℕ)) → Is
     → option_words a ++ xs ≡ option_words b ++ ys → (a ≡ b) × (xs ≡ ys)
 same_option serial Journal Journal xs ys p q e = (refl, (heads _ _ xs ys e).1)
 same_option serial Journal Bytes xs ys p q e = absurd (differ (codes "--journal") (codes "--data") refl (heads _ _ xs ys e).0)
+same_option serial Journal (Picks n) xs ys p q e = absurd (differ (codes "--journal") (codes "--picks") refl (heads _ _ xs (decimal n ∷ ys) e).0)
 same_option serial Journal (Workers n) xs ys p q e = absurd (differ (codes "--journal") (codes "--workers") refl (heads _ _ xs (decimal n ∷ ys) e).0)
 same_option serial Bytes Journal xs ys p q e = absurd (differ (codes "--data") (codes "--journal") refl (heads _ _ xs ys e).0)
 same_option serial Bytes Bytes xs ys p q e = (refl, (heads _ _ xs ys e).1)
+same_option serial Bytes (Picks n) xs ys p q e = absurd (differ (codes "--data") (codes "--picks") refl (heads _ _ xs (decimal n ∷ ys) e).0)
 same_option serial Bytes (Workers n) xs ys p q e = absurd (differ (codes "--data") (codes "--workers") refl (heads _ _ xs (decimal n ∷ ys) e).0)
+same_option serial (Picks m) Journal xs ys p q e = absurd (differ (codes "--picks") (codes "--journal") refl (heads _ _ (decimal m ∷ xs) ys e).0)
+same_option serial (Picks m) Bytes xs ys p q e = absurd (differ (codes "--picks") (codes "--data") refl (heads _ _ (decimal m ∷ xs) ys e).0)
+same_option serial (Picks m) (Picks n) xs ys p q e =
+    let behind = heads _ _ xs ys (heads _ _ (decimal m ∷ xs) (decimal n ∷ ys) e).1 in
+    (ap Picks (decimal_injective m n p.1 q.1 behind.0), behind.1)
+same_option serial (Picks m) (Workers n) xs ys p q e = absurd (differ (codes "--picks") (codes "--workers") refl (heads _ _ (decimal m ∷ xs) (decimal n ∷ ys) e).0)
 same_option serial (Workers m) Journal xs ys p q e = absurd (differ (codes "--workers") (codes "--journal") refl (heads _ _ (decimal m ∷ xs) ys e).0)
 same_option serial (Workers m) Bytes xs ys p q e = absurd (differ (codes "--workers") (codes "--data") refl (heads _ _ (decimal m ∷ xs) ys e).0)
+same_option serial (Workers m) (Picks n) xs ys p q e = absurd (differ (codes "--workers") (codes "--picks") refl (heads _ _ (decimal m ∷ xs) (decimal n ∷ ys) e).0)
 same_option serial (Workers m) (Workers n) xs ys p q e =
     let behind = heads _ _ xs ys (heads _ _ (decimal m ∷ xs) (decimal n ∷ ys) e).1 in
     let low : m ≤ WORKERS_MAX = p.1.high in
@@ -104,6 +113,7 @@ same_option serial (Workers m) (Workers n) xs ys p q e =
 begins : (a : Asked) (xs : List (List ℕ)) → begins_option (option_words a ++ xs) ≡ true
 begins Journal xs = refl
 begins Bytes xs = refl
+begins (Picks n) xs = refl
 begins (Workers n) xs = refl
 
 no_end : (a : Asked) (xs rest : List (List ℕ)) → option_words a ++ xs ≡ rest → begins_option rest ≡ false → ⊥

@@ -1,5 +1,5 @@
 -- Words that are no command, and that words are one command at most.
-use Rattle.std.proofs.Common.{◌≡◌, ◌≢◌, ◌<◌, ◌≤◌, ◌^◌, ℕ, List, [], ◌∷◌, Bool, true, false, Option, None, suc, length, ◌==◌, refl, sym, ap, ◌∙◌, subst, arith, bytes_eq}
+use Rattle.std.proofs.Common.{◌≡◌, ◌≢◌, ◌<◌, ◌≤◌, ◌^◌, ℕ, List, [], ◌∷◌, Bool, true, false, Option, suc, length, ◌==◌, refl, sym, ap, ◌∙◌, subst, arith, bytes_eq}
 use Rattle.std.proofs.lemmas.Bool.{eqb-true}
 use Rattle.std.specs.Prelude.{decimal, codes}
 use Rattle.std.proofs.lemmas.Fmt.{decimal_injective}
@@ -77,7 +77,7 @@ run_same serial words workers others picks more show shown images names h k =
     let split : IsSplit serial k.rest h.options images = subst (λ (ws : List (List ℕ)). IsSplit serial ws h.options images) rest h.split in
     let one = one_split serial k.rest h.options k.options images names split k.split in
     let both : workers ≡ others = h.workers_are ∙ (ap (workers_of serial) one.0 ∙ sym k.workers_are) in
-    let none : picks ≡ more = h.picks_are ∙ sym k.picks_are in
+    let seed : picks ≡ more = h.picks_are ∙ (ap (λ (o : Options). o.picks) one.0 ∙ sym k.picks_are) in
     let seen : show ≡ shown = h.show_is ∙ (ap show_of one.0 ∙ sym k.show_is) in
     let there : images ≡ names = one.1 in
     cc
@@ -120,7 +120,7 @@ one_command_of serial words (Load seed n images) (Load other m names) h k = load
 pub is_run : (serial : Bool) (rest : List (List ℕ)) (options : Options) (names : List (List ℕ)) → IsSplit serial rest options names → AreImages names
     → (command : Command) × IsCommandOf serial (codes "run" ∷ rest) command
 is_run serial rest options names split named = (
-  Run (workers_of serial options) None (show_of options) names,
+  Run (workers_of serial options) options.picks (show_of options) names,
   record {
     rest = rest;
     options = options;

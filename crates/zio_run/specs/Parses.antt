@@ -10,20 +10,22 @@ flag_rule name = record (new_rule name) { long = Some name; action = Some SetTru
 abbrev pub image_rule : Rule
 image_rule = record (new_rule (codes "image")) { action = Some Append }
 
-abbrev pub workers_rule : Rule
-workers_rule = record (new_rule (codes "workers")) { long = Some (codes "workers") }
+-- an option with a value
+abbrev pub value_rule : List ℕ → Rule
+value_rule name = record (new_rule name) { long = Some name }
 
 -- without help, and with the words alone
 abbrev pub bare_app : List ℕ → App
 bare_app name = on_top (λ s. record s { disable_help_flag = true; no_binary_name = true }) (new_app name)
 
--- the options and the images
+-- the options of both programs, and the images
 abbrev pub run_alone : App
 run_alone = with_rule (with_rule (with_rule (bare_app (codes "run")) (flag_rule (codes "journal"))) (flag_rule (codes "data"))) image_rule
 
+-- beside them the option of each alone
 abbrev pub run_app : Bool → App
-run_app true = run_alone
-run_app false = with_rule run_alone workers_rule
+run_app true = with_rule run_alone (value_rule (codes "picks"))
+run_app false = with_rule run_alone (value_rule (codes "workers"))
 
 -- a seed and a number of blocks
 abbrev pub size_app : List ℕ → App

@@ -7,7 +7,7 @@ use Rattle.zio_gen.specs.declared.script.TheConstants.{BLOCKS_MAX}
 use Rattle.zio_run.specs.declared.names.TheConstants.{IMAGES_MAX}
 use Rattle.zio_run.specs.declared.options.TheConstants.{WORKERS_MAX, WORKERS_USUAL}
 use Rattle.zio_run.specs.declared.options.Asked.{Asked}
-use Rattle.zio_run.specs.declared.options.Asked.TheVariants.{Journal, Bytes, Workers}
+use Rattle.zio_run.specs.declared.options.Asked.TheVariants.{Journal, Bytes, Picks, Workers}
 use Rattle.zio_run.specs.declared.options.Options.{Options}
 use Rattle.zio_run.specs.declared.words.Command.{Command}
 use Rattle.zio_run.specs.declared.words.Command.TheVariants.{Run, Gen, Load}
@@ -51,25 +51,29 @@ pub record AreImages (words : List (List ℕ)) : Type 0 where
 abbrev pub option_words : Asked → List (List ℕ)
 option_words Journal = codes "--journal" ∷ []
 option_words Bytes = codes "--data" ∷ []
+option_words (Picks seed) = codes "--picks" ∷ decimal seed ∷ []
 option_words (Workers n) = codes "--workers" ∷ decimal n ∷ []
 
--- both programs have the options of the report, and the one with workers their number
+-- both programs have the options of the report, the one on one thread the seed of its picks, and the one with workers their number
 abbrev pub IsOptionOf : Bool → Asked → Type 0
 IsOptionOf serial Journal = Unit {0}
 IsOptionOf serial Bytes = Unit {0}
+IsOptionOf serial (Picks seed) = (serial ≡ true) × (seed < 2 ^ 64)
 IsOptionOf serial (Workers n) = (serial ≡ false) × IsWithin 1 WORKERS_MAX n
 
 abbrev pub none_asked : Options
-none_asked = record { journal = false; bytes = false; workers = None }
+none_asked = record { journal = false; bytes = false; picks = None; workers = None }
 
 abbrev pub is_asked : Options → Asked → Bool
 is_asked options Journal = options.journal
 is_asked options Bytes = options.bytes
+is_asked options (Picks seed) = is_some options.picks
 is_asked options (Workers n) = is_some options.workers
 
 abbrev pub with_option : Options → Asked → Options
 with_option options Journal = record options { journal = true }
 with_option options Bytes = record options { bytes = true }
+with_option options (Picks seed) = record options { picks = Some seed }
 with_option options (Workers n) = record options { workers = Some n }
 
 -- what some options ask for beside these
@@ -111,7 +115,14 @@ pub record IsNext (serial : Bool) (words : List (List ℕ)) (asked : Asked) (res
 abbrev pub NoNext : Bool → List (List ℕ) → Type 0
 NoNext serial words = (asked : Asked) (rest : List (List ℕ)) → ¬ IsNext serial words asked rest
 
--- the same of the words behind `--workers`
+-- the same of the words behind `--picks`
+abbrev pub ArePicks : List (List ℕ) → Asked → List (List ℕ) → Type 0
+ArePicks words asked rest = IsNext true (codes "--picks" ∷ words) asked rest
+
+abbrev pub NoPicks : List (List ℕ) → Type 0
+NoPicks words = NoNext true (codes "--picks" ∷ words)
+
+-- and of those behind `--workers`
 abbrev pub AreWorkers : List (List ℕ) → Asked → List (List ℕ) → Type 0
 AreWorkers words asked rest = IsNext false (codes "--workers" ∷ words) asked rest
 
@@ -140,7 +151,7 @@ pub record IsRunOf (serial : Bool) (words : List (List ℕ)) (workers : ℕ) (pi
   pub words_are : words ≡ codes "run" ∷ rest
   pub split : IsSplit serial rest options images
   pub workers_are : workers ≡ workers_of serial options
-  pub picks_are : picks ≡ None
+  pub picks_are : picks ≡ options.picks
   pub show_is : show ≡ show_of options
   pub named : AreImages images
 

@@ -9,21 +9,21 @@ pub(crate) fn number_within(word: &str, least: u32, most: u32) -> Option<u32>
         (λ n. (word.now ≡ decimal n) × IsWithin least most n) }
 {
     let n = number(word)?;
-    if least <= n && n <= most {
-        Some(n)
+    if u64::from(least) <= n && n <= u64::from(most) {
+        Some(n as u32)
     } else {
         None
     }
 }
 
-/// The number that the word spells in decimal digits, without a sign or a leading zero.
-fn number(word: &str) -> Option<u32>
-    ensures { MatchOption result ((n : ℕ) → n < 2 ^ 32 → word.now ≢ decimal n) (λ n. (word.now ≡ decimal n) × (n < 2 ^ 32)) }
+/// The number below 2^64 that the word spells in decimal digits, without a sign or a leading zero.
+pub(crate) fn number(word: &str) -> Option<u64>
+    ensures { MatchOption result ((n : ℕ) → n < 2 ^ 64 → word.now ≢ decimal n) (λ n. (word.now ≡ decimal n) × (n < 2 ^ 64)) }
 {
     if word == "0" {
         Some(0)
     } else if begins_with_digit(word) {
-        word.parse::<u32>().ok()
+        word.parse::<u64>().ok()
     } else {
         None
     }

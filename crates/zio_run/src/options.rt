@@ -1,9 +1,9 @@
 //! The options of `run`: docs/FORMATS.md, "Words of a command".
 
 ghost use Rattle.std.specs.Prelude.{◌≡◌, ◌∷◌, [], false, true, MatchOption, map, string_bytes};
-ghost use Rattle.zio_run.specs.Words.{AreWorkers, IsNext, IsSplit, NoNext, NoSplit, NoWorkers, begins_option, begins_with_dash, is_asked, none_asked, show_of, with_option, workers_of};
+ghost use Rattle.zio_run.specs.Words.{ArePicks, AreWorkers, IsNext, IsSplit, NoNext, NoPicks, NoSplit, NoWorkers, begins_option, begins_with_dash, is_asked, none_asked, show_of, with_option, workers_of};
 
-use crate::number::number_within;
+use crate::number::{number, number_within};
 use zio_report::Show;
 
 /// The most workers that may be asked for.
@@ -19,6 +19,8 @@ pub(crate) enum Asked {
     Journal,
     /// The report has the bytes that reads gave.
     Bytes,
+    /// The picks are made from this seed.
+    Picks(u64),
     /// So many workers run the rounds.
     Workers(u32),
 }
@@ -28,6 +30,7 @@ pub(crate) enum Asked {
 pub(crate) struct Options {
     journal: bool,
     bytes: bool,
+    picks: Option<u64>,
     workers: Option<u32>,
 }
 
@@ -38,6 +41,7 @@ impl Options {
         Options {
             journal: false,
             bytes: false,
+            picks: None,
             workers: None,
         }
     }
@@ -48,6 +52,7 @@ impl Options {
         match asked {
             Asked::Journal => self.journal,
             Asked::Bytes => self.bytes,
+            Asked::Picks(_) => self.picks.is_some(),
             Asked::Workers(_) => self.workers.is_some(),
         }
     }
@@ -63,6 +68,7 @@ impl Options {
         match asked {
             Asked::Journal => self.journal = true,
             Asked::Bytes => self.bytes = true,
+            Asked::Picks(seed) => self.picks = Some(seed),
             Asked::Workers(n) => self.workers = Some(n),
         }
         Some(self)
@@ -134,11 +140,23 @@ fn next_option(serial: bool, words: &[String]) -> Option<(Asked, &[String])>
         Some((Asked::Journal, rest))
     } else if word == "--data" {
         Some((Asked::Bytes, rest))
+    } else if word == "--picks" && serial {
+        picks_asked(rest)
     } else if word == "--workers" && !serial {
         workers_asked(rest)
     } else {
         None
     }
+}
+
+/// The seed of the picks with which the words begin, and the words behind it.
+fn picks_asked(words: &[String]) -> Option<(Asked, &[String])>
+    ensures { MatchOption result (NoPicks (map string_bytes words.now))
+        (λ next. ArePicks (map string_bytes words.now) next.0 (map string_bytes next.1.now)) }
+{
+    let (word, rest) = first_word(words)?;
+    let seed = number(word)?;
+    Some((Asked::Picks(seed), rest))
 }
 
 /// The number of workers with which the words begin, and the words behind it.

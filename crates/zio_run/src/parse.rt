@@ -1,6 +1,6 @@
 //! The words of a command as clap reads them, once they are known to be one: docs/FORMATS.md, "Words of a command".
 
-ghost use Rattle.std.specs.Prelude.{◌≡◌, [], IfOk, IsErrOf, List, None, Some, ℕ, codes, decimal, map, string_bytes};
+ghost use Rattle.std.specs.Prelude.{◌≡◌, ◌<◌, ◌^◌, [], IfOk, IsErrOf, List, None, Some, ℕ, codes, decimal, map, string_bytes};
 ghost use Rattle.clap.specs.Matches.{first_value, found_of, matched_of, one_text, raw_values};
 ghost use Rattle.clap.specs.Simple.{app_of};
 ghost use Rattle.std.specs.Option.{option_map};
@@ -9,7 +9,7 @@ ghost use Rattle.zio_run.specs.declared.words.Command.TheVariants.{Gen, Load, Ru
 ghost use Rattle.zio_run.specs.Parses.{load_app, run_app, size_app};
 ghost use Rattle.zio_run.specs.Words.{AreImages, IsSize, IsSplit, IsWithin, or_usual, show_of, workers_of};
 
-use crate::number::number_within;
+use crate::number::{number, number_within};
 use crate::options::{WORKERS_MAX, WORKERS_USUAL};
 use crate::words::{Command, WordsError};
 use clap::{Arg, ArgAction, ArgMatches, Command as Parser, Error};
@@ -25,7 +25,7 @@ pub(crate) fn parse_run(
     words: &[String],
 ) -> Result<Command, WordsError>
     ensures ok { IfOk result (λ command. (options : Options) (names : List (List ℕ)) → IsSplit serial (map string_bytes words.now) options names → AreImages names
-        → command ≡ Run (workers_of serial options) None (show_of options) names) }
+        → command ≡ Run (workers_of serial options) options.picks (show_of options) names) }
     ensures memory { ¬ IsErrOf result WordsError.Words }
 {
     let Ok(parser) = run_parser(alloc, serial) else {
@@ -35,6 +35,7 @@ pub(crate) fn parse_run(
         return Err(WordsError::Memory);
     };
     let workers = workers_in(serial, &matches);
+    let picks = picks_in(&matches);
     let show = Show::Report {
         journal: matches.get_flag("journal"),
         bytes: matches.get_flag("data"),
@@ -42,7 +43,7 @@ pub(crate) fn parse_run(
     let images = images_in(alloc, &matches)?;
     Ok(Command::Run {
         workers,
-        picks: None,
+        picks,
         show,
         images,
     })
@@ -101,11 +102,9 @@ fn run_parser<'a>(alloc: Global, serial: bool) -> Result<Parser<'a>, Error>
         .arg(journal)?
         .arg(data)?
         .arg(image)?;
-    if serial {
-        return Ok(parser);
-    }
-    let workers = Arg::new(alloc, "workers").long("workers");
-    Ok(parser.arg(workers)?)
+    let name = if serial { "picks" } else { "workers" };
+    let value = Arg::new(alloc, name).long(name);
+    Ok(parser.arg(value)?)
 }
 
 /// What clap is told of a command with a seed and a number of blocks.
@@ -155,6 +154,17 @@ fn workers_in(serial: bool, matches: &ArgMatches) -> u32
         },
         None if serial => 1,
         None => WORKERS_USUAL,
+    }
+}
+
+/// The seed of the picks, where one was asked for.
+fn picks_in(matches: &ArgMatches) -> Option<u64>
+    ensures none { first_value (found_of matches.now) (codes "picks") ≡ None → result ≡ None }
+    ensures given { (seed : ℕ) → seed < 2 ^ 64 → first_value (found_of matches.now) (codes "picks") ≡ Some (decimal seed) → result ≡ Some seed }
+{
+    match matches.get_str("picks") {
+        Some(word) => number(word),
+        None => None,
     }
 }
 

@@ -50,7 +50,7 @@ pub enum WordsError {
 /// The command of these words, which stand behind the program's name: of the program on one thread, or of that with
 /// workers.
 ///
-/// Both have `run`, and the first `gen` and `load` too. The option `--picks` isn't read yet.
+/// Both have `run`, and the first `gen` and `load` too.
 pub fn read_words(alloc: Global, serial: bool, words: &[String]) -> Result<Command, WordsError>
     ensures ok { IfOk result (IsCommandOf serial (map string_bytes words.now)) }
     ensures words { IsErrOf result WordsError.Words → IsNoCommandOf serial (map string_bytes words.now) }

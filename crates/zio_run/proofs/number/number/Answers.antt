@@ -8,7 +8,7 @@ returns-then-eq c = zero_word c.args.word.now c.eq.result c.eq.ensures c.if-eq.t
 
 pub returns-then-begins_with_digit : goal.returns-then-begins_with_digit
 returns-then-begins_with_digit c =
-    subst (λ (o : Option ℕ). MatchOption o ((n : ℕ) → n < 2 ^ 32 → c.args.word.now ≢ decimal n) (λ n. (c.args.word.now ≡ decimal n) × (n < 2 ^ 32))) (sym c.ok.ensures.value)
+    subst (λ (o : Option ℕ). MatchOption o ((n : ℕ) → n < 2 ^ 64 → c.args.word.now ≢ decimal n) (λ n. (c.args.word.now ≡ decimal n) × (n < 2 ^ 64))) (sym c.ok.ensures.value)
     (read_number c.args.word.now c.parse.result (sym c.begins_with_digit.ensures ∙ c.if-begins_with_digit.true) c.parse.ensures.value.0)
 
 pub returns-else-begins_with_digit : goal.returns-else-begins_with_digit

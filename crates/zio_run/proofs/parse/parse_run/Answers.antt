@@ -1,4 +1,4 @@
-use Rattle.std.proofs.Common.{◌≡◌, ◌∙◌, Option, Some, None, ℕ, Bool, true, false, ap, sym, refl, subst, codes, map, string_bytes}
+use Rattle.std.proofs.Common.{◌≡◌, ◌<◌, ◌^◌, ◌∙◌, Option, Some, None, ℕ, Bool, true, false, ap, sym, refl, subst, codes, map, string_bytes}
 use Rattle.std.specs.Prelude.{decimal, IfSome}
 use Rattle.std.specs.Option.{option_map}
 use Rattle.clap.specs.Matches.{found_of}
@@ -10,7 +10,7 @@ use Rattle.zio_run.specs.declared.options.TheConstants.{WORKERS_MAX}
 use Rattle.zio_run.specs.declared.words.Command.TheVariants.{Run}
 use Rattle.zio_run.specs.Parses.{run_app}
 use Rattle.zio_run.specs.Words.{IsWithin, none_asked, or_usual}
-use Rattle.zio_run.proofs.ClapRows.{Says, flag_text, run_said, workers_within}
+use Rattle.zio_run.proofs.ClapRows.{Says, flag_text, picks_within, run_said, workers_within}
 use Rattle.zio_run.proofs.parse.parse_run.Goals as goal
 
 is_simple_run : (serial : Bool) → is_simple (run_app serial) ≡ true
@@ -28,6 +28,11 @@ workers_are serial None first result is within usual given = usual is
 workers_are true (Some n) first result is within usual given = given n within is
 workers_are false (Some n) first result is within usual given = given n within is
 
+picks_are : (o : Option ℕ) (first : Option Text) (result : Option ℕ) → first ≡ option_map decimal o → IfSome o (λ n. n < 2 ^ 64)
+    → (first ≡ None → result ≡ None) → ((seed : ℕ) → seed < 2 ^ 64 → first ≡ Some (decimal seed) → result ≡ Some seed) → result ≡ o
+picks_are None first result is within none given = none is
+picks_are (Some seed) first result is within none given = given seed within is
+
 pub returns-clause-ok : goal.returns-clause-ok
 returns-clause-ok c options names split images =
     let app = c.in-Ok.ensures in
@@ -39,7 +44,10 @@ returns-clause-ok c options names split images =
     let workers = workers_are c.args.serial options.workers _ _ (first_value-rows found (codes "workers") ∙ says.workers)
     (subst (λ o. IfSome o.workers (IsWithin 1 WORKERS_MAX)) (sym split.options_are) (workers_within c.args.serial split.asked none_asked split.known tt))
     c.workers_in-workers.ensures.usual c.workers_in-workers.ensures.given in
+    let picks = picks_are options.picks _ _ (first_value-rows found (codes "picks") ∙ says.picks)
+    (subst (λ o. IfSome o.picks (λ n. n < 2 ^ 64)) (sym split.options_are) (picks_within c.args.serial split.asked none_asked split.known tt))
+    c.picks_in-picks.ensures.none c.picks_in-picks.ensures.given in
     let journal = flag_is _ options.journal _ (one_text-rows found (codes "journal") ∙ says.journal) c.get_flag.ensures.value c.get_flag.ensures.other in
     let bytes = flag_is _ options.bytes _ (one_text-rows found (codes "data") ∙ says.bytes) c.get_flag-2.ensures.value c.get_flag-2.ensures.other in
     let named = c.in_ok-images.ensures.ok names (raw_values-rows found (codes "image") ∙ says.images) in
-    λ i. Run (workers i) None (Report (journal i) (bytes i)) (named i)
+    λ i. Run (workers i) (picks i) (Report (journal i) (bytes i)) (named i)

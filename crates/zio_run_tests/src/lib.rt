@@ -1,4 +1,4 @@
-//! Tests of the fold over a script, and of the top call over the objects in memory: reports and images that no clause spells out, each call of the
+//! Tests of the fold over a script, and of the top call over the objects in memory: the words of `run`, reports and images that no clause spells out, each call of the
 //! outside that fails alone, and a disk that forgets.
 //!
 //! They stand here and not in `zio_run`, since a crate with tests of its own is proved once more with them. There is
@@ -17,3 +17,5 @@ mod images;
 mod reports;
 #[cfg(test)]
 mod runs;
+#[cfg(test)]
+mod words;

@@ -73,6 +73,22 @@ fn bodies_of_every_form(rt: HostRuntime) -> Result<(), Fail> {
     check(&rt, rt.alloc(), &case, 0, output, 0, 3)
 }
 
+/// The order of tasks doesn't change this report.
+#[test]
+fn smallest_and_largest_picks_agree(rt: HostRuntime) -> Result<(), Fail> {
+    let output = b"pool 1 1\nround 1 batch 1 point 0\n1 write x ok 512\nround 2 batch 2 point 0\n\
+        2 read x ok 512 20a0a0a080:83878787040:16439b9b85580:2d92628254f020\nend 0\n";
+    for seed in ["0", "18446744073709551615"] {
+        let case = Case {
+            words: &["run", "--picks", seed, "a"],
+            script: b"top 0\n1 write x sha256 1 sync fill 41 512\ngo\n2 read x sync\ngo\n",
+            ..SHORTEST
+        };
+        check(&rt, rt.alloc(), &case, 0, output, 1, 0)?;
+    }
+    Ok(())
+}
+
 /// The text is the one that docs/FORMATS.md has.
 #[test]
 fn script_of_one_block_is_generated(rt: HostRuntime) -> Result<(), Fail> {

@@ -6,7 +6,7 @@ use std::alloc::{AllocError, Global};
 
 const ABOUT: &str = "Runs a script of block requests on image files, on one thread.";
 
-pub const USAGE: &str = "zio_serial run [--journal] [--data] IMAGE.. < SCRIPT
+pub const USAGE: &str = "zio_serial run [--picks SEED] [--journal] [--data] IMAGE.. < SCRIPT
        zio_serial gen SEED N
        zio_serial load SEED N IMAGE..";
 
@@ -14,9 +14,11 @@ const AFTER: &str = "\
 run IMAGE.. reads a script from standard input, runs it, and writes the report
 to standard output. There are 1 to 16 images, files of 64 KiB to 256 MiB that
 are changed in place; leaf 0 of the script is the first of them.
-  --journal  shows where each round's blocks were placed, and the order in
-             which its requests completed
-  --data     shows the bytes that each read gave
+  --picks SEED  takes up what waits in an order made from SEED, the same each
+                time; SEED is 0 to 18446744073709551615
+  --journal     shows where each round's blocks were placed, and the order in
+                which its requests completed
+  --data        shows the bytes that each read gave
 
 gen SEED N writes a script of 1 to 20000 blocks on a pool of four images, always
 the same for a SEED below 4294967296. load SEED N IMAGE.. runs that script and

@@ -78,12 +78,14 @@ fn behind_command(words: &[String]) -> &[String] {
     }
 }
 
-/// The word that names the image of this number: those behind the options.
+/// The word that names the image of this number: those behind the options, of which `--picks` has a word for its value.
 fn image_name<'a>(words: &'a [String], leaf: u32) -> Option<&'a str> {
     let mut left = leaf;
+    let mut is_value = false;
     for word in behind_command(words) {
         let word = word.as_str();
-        if word.starts_with('-') {
+        if is_value || word.starts_with('-') {
+            is_value = word == "--picks";
             continue;
         }
         if left == 0 {

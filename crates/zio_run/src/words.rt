@@ -20,7 +20,7 @@ pub enum Command {
     Run {
         /// 1 to 16; 1 on one thread.
         workers: u32,
-        /// The seed of the picks, where it is asked for.
+        /// The seed of the picks, where it is asked for; none with workers.
         picks: Option<u64>,
         show: Show,
         images: List<Text>,

@@ -7,6 +7,7 @@
 mod ends;
 mod graph;
 mod laws;
+mod runner;
 mod tree;
 mod wholes;
 

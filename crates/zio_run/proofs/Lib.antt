@@ -5,6 +5,7 @@ pub mod CommandLemmas
 pub mod CountLemmas
 pub mod EndLemmas
 pub mod GroundLemmas
+pub mod LeafLemmas
 pub mod NumberLemmas
 pub mod OptionLemmas
 pub mod PoolLemmas

@@ -4,6 +4,7 @@ pub mod ClapWalks
 pub mod CommandLemmas
 pub mod CountLemmas
 pub mod EndLemmas
+pub mod EngineLemmas
 pub mod GroundLemmas
 pub mod LeafLemmas
 pub mod NumberLemmas

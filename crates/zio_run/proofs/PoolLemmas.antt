@@ -103,9 +103,9 @@ line_lawful before (LeavesLine leaves sector) counted pool none =
       units = all_append (λ (t : TopLine). is_unit t.unit ≡ true) before.script.tops (top ∷ []) pool.units (sector_unit sector (not_false (is_sector sector) more.1), tt);
       most = omega arith;
       leaves = all_append HasLeaves before.script.tops (top ∷ []) pool.leaves
-      (record { some = counted.0; few = counted.1; each = in_range leaves (not_false (list_all is_leaf leaves) more.0) }, tt);
+          (record { some = counted.0; few = counted.1; each = in_range leaves (not_false (list_all is_leaf leaves) more.0) }, tt);
       once = subst AllDiffer (sym (leaves_behind before.script.tops top))
-      (differ_all (leaves_of before.script.tops) leaves pool.once new.0 new.1);
+          (differ_all (leaves_of before.script.tops) leaves pool.once new.0 new.1);
       rows = pool.rows;
     }
 line_lawful before (FaultLine row) few pool none =

@@ -83,7 +83,6 @@ fn run_by_picks<O: Sink, D: Disk + Drop, P: Picks + Drop>(
 ) -> (Outcome, Vec<D>)
     requires script { (text : Seq ℕ) × IsScriptOf text script.now }
     requires setting { IsSettingOf script.now (map D.bytes disks.items) setting }
-    requires start { setting.point ≡ 0 }
     requires tops { tops ≡ setting.tops }
     requires few { length disks.items ≤ 16 }
     requires empty { IsEmptyJournal journal.old }

@@ -29,7 +29,6 @@ pub(crate) fn run_rounds<O: Sink, D: Disk + Drop, P: Picks + Drop>(
 ) -> (Result<Ending, RunFault>, Vec<D>)
     requires script { (text : Seq ℕ) × IsScriptOf text script.now }
     requires setting { IsSettingOf script.now (map D.bytes engine.disks) engine.setting }
-    requires start { engine.setting.point ≡ 0 }
     requires live { engine.live ≡ [] }
     requires last { engine.last ≡ 0 }
     requires runs { engine.stopped ≡ false }

@@ -1,4 +1,5 @@
-//! The engine on one thread: `Graph` makes trees of requests and runs rounds of them, in whatever order is picked.
+//! The engine on one thread: `Graph` makes trees of requests and runs rounds of them, in whatever order is picked. It is a
+//! `Runner` of `zio_course`, so scripts run on it.
 //!
 //! It stands on `zio_graph`, which runs the trees of a round over any nodes, on `zio_nodes`, whose nodes these are, and on
 //! `zio_sound`, which says what such a round is to a script.
@@ -7,6 +8,7 @@
 mod ends;
 mod graph;
 mod laws;
+mod runner;
 mod tree;
 mod wholes;
 

@@ -1,6 +1,7 @@
 -- The setting of a script's run over disks of lawful sizes, and how the run came out.
-use Rattle.std.proofs.Common.{◌≡◌, ◌≤◌, ℕ, List, [], ◌∷◌, true, Result, Ok, Err, inl, length, map, sym, subst, arith, IsTrue, MatchResult}
+use Rattle.std.proofs.Common.{◌≡◌, ◌≤◌, ◌^◌, ℕ, List, [], ◌∷◌, true, Result, Ok, Err, inl, length, map, refl, replicate, sym, subst, arith, IsTrue, MatchResult}
 use Rattle.std.proofs.lemmas.Bool.{and_parts}
+use Rattle.std.proofs.lemmas.List.{length-replicate}
 use Rattle.std.specs.List.{AllByRecursion, list_all}
 use Rattle.std.specs.Prelude.{IfErr, IfOk}
 use Rattle.zio_types.specs.declared.journal.Journal.{Journal}
@@ -14,16 +15,21 @@ use Rattle.zio_cksum.proofs.AllLemmas.{all_weaker}
 use Rattle.zio_cksum.specs.Images.{Images}
 use Rattle.zio_gang.specs.Trees.{size_of, sizes_of}
 use Rattle.zio_gang.specs.declared.ending.Ending.{Ending}
+use Rattle.zio_trace.specs.Separate.{LeavesOnce}
+use Rattle.zio_trace.specs.SoundRounds.{LeavesDiffer}
 use Rattle.zio_disks.specs.Trees.{HasSectors}
+use Rattle.zio_stages.specs.Tops.{IsTop}
 use Rattle.zio_report.specs.declared.report.RunFault.{RunFault}
 use Rattle.zio_report.specs.declared.report.Show.{Show}
 use Rattle.zio_report.specs.Meanings.{tops_of}
 use Rattle.zio_run.specs.declared.image.TheConstants.{IMAGE_LEN_MAX}
 use Rattle.zio_run.specs.Grounds.{CameOutOver, HasRunOver, IsSettingOf, WasCutOver}
+use Rattle.zio_run.specs.Outcomes.{HasLawfulSize}
 use Rattle.zio_run.specs.Seen.{SinkSeen}
 use Rattle.zio_run.specs.declared.outcome.Outcome.{Outcome}
 use Rattle.zio_run.specs.declared.outcome.Outcome.TheVariants.{Ended, Cut}
 use Rattle.zio_run.specs.Tops.{HaveImages, IsLawfulPool, leaves_of}
+use Rattle.zio_run.proofs.EngineLemmas.{lines_differ, lines_once, tops_each}
 
 lawful_each : (tops : List Top) → list_all is_lawful_top (sizes_of tops) ≡ true → AllByRecursion (λ (top : Top). IsTrue (is_lawful_top (size_of top))) tops
 lawful_each [] all = tt
@@ -31,22 +37,47 @@ lawful_each (top ∷ tops) all =
     let parts = and_parts (is_lawful_top (size_of top)) (list_all is_lawful_top (sizes_of tops)) all in
     (parts.0, lawful_each tops parts.1)
 
--- tops over disks of lawful sizes have few sectors, and there are few of them
+-- images of any sizes
+images_of : List ℕ → Images
+images_of sizes = map (λ n. replicate n 0) sizes
+
+images_sized : (sizes : List ℕ) → map (length {A = ℕ}) (images_of sizes) ≡ sizes
+images_sized [] = refl
+images_sized (size ∷ sizes) =
+    let first : length (replicate size 0) ≡ size = length-replicate size 0 in
+    let rest : map (length {A = ℕ}) (images_of sizes) ≡ sizes = images_sized sizes in
+    cc
+
+-- tops over disks of lawful sizes have few sectors, there are few of them, and no leaf stands twice
 pub setting_of : (script : Script) (sizes : List ℕ) (tops : List Top) (rows : List Row) (point : ℕ) → IsLawfulPool script
     → ((images : Images) → map (length {A = ℕ}) images ≡ sizes → tops ≡ tops_of script images) → HaveImages (length sizes) (leaves_of script.tops)
     → AllByRecursion (HasSectors sizes) tops → list_all is_lawful_top (sizes_of tops) ≡ true → AllByRecursion (λ (top : Top). top.sectors ≤ IMAGE_LEN_MAX) tops
-    → length tops ≡ length script.tops → rows ≡ script.faults → IsSettingOf script sizes (record { tops = tops; rows = rows; point = point })
-setting_of script sizes tops rows point pool ok named bears lawful short count same = record {
-  tops = ok;
-  rows = same;
-  bears = record { rows = subst (λ (rs : List Row). AllByRecursion RowFits rs) (sym same) pool.rows; tops = bears };
-  pointers = record {
-    few = (let most = pool.most in omega (arith, count));
-    lawful = lawful_each tops lawful;
-    short = all_weaker (λ (top : Top). top.sectors ≤ IMAGE_LEN_MAX) (λ (top : Top). top.sectors ≤ SECTOR_END) tops (λ top fits. omega arith) short;
-  };
-  leaves = named;
-}
+    → length tops ≡ length script.tops → rows ≡ script.faults → AllByRecursion HasLawfulSize sizes → IsSettingOf script sizes (record { tops = tops; rows = rows; point = point })
+setting_of script sizes tops rows point pool ok named bears lawful short count same measured =
+    let images = images_of sizes in
+    let made : tops ≡ tops_of script images = ok images (images_sized sizes) in
+    record {
+      tops = ok;
+      rows = same;
+      can = record {
+        bears = record { rows = subst (λ (rs : List Row). AllByRecursion RowFits rs) (sym same) pool.rows; tops = bears };
+        small = all_weaker HasLawfulSize (λ n. n ≤ 2 ^ 28) sizes (λ n fits. fits.high) measured;
+        pointers = record {
+          few = (let most = pool.most in omega (arith, count));
+          lawful = lawful_each tops lawful;
+          short = all_weaker (λ (top : Top). top.sectors ≤ IMAGE_LEN_MAX) (λ (top : Top). top.sectors ≤ SECTOR_END) tops (λ top fits. omega arith) short;
+        };
+        tops = record {
+          few = (let most = pool.most in omega (arith, count));
+          each = subst (λ (ts : List Top). AllByRecursion IsTop ts) (sym made)
+              (tops_each images script.tops IMAGE_LEN_MAX (omega arith) pool.leaves
+              (subst (λ (ts : List Top). AllByRecursion (λ (top : Top). top.sectors ≤ IMAGE_LEN_MAX) ts) made short));
+        };
+        leaves_once = subst LeavesOnce (sym made) (lines_once images script.tops pool.once);
+        leaves_differ = subst LeavesDiffer (sym made) (lines_differ images script.tops pool.once);
+      };
+      leaves = named;
+    }
 
 -- rounds that ended or were cut short are the outcome
 pub came_over : {D : Type 0} (faults : D → ℕ) (image : D → List ℕ → Type 0) (show : Show) (script : Script) (old new : List D) (old_sink new_sink : SinkSeen) (old_journal journal : Journal)

@@ -4,7 +4,9 @@ pub mod ClapWalks
 pub mod CommandLemmas
 pub mod CountLemmas
 pub mod EndLemmas
+pub mod EngineLemmas
 pub mod GroundLemmas
+pub mod LeafLemmas
 pub mod NumberLemmas
 pub mod OptionLemmas
 pub mod PoolLemmas

@@ -1,8 +1,8 @@
 -- What the `top` and `fault` lines of an accepted script have, by its lines one after another.
-use Rattle.std.proofs.Common.{◌≡◌, ◌<◌, ◌≤◌, ℕ, ◌+◌, ◌-◌, ◌/◌, List, [], ◌∷◌, ◌++◌, length, Bool, true, false, not, ◌&&◌, ◌||◌, ◌==◌, nat_le, nat_lt, Option, Some, None, Result, Ok, Err, refl, sym, subst, arith}
+use Rattle.std.proofs.Common.{◌≡◌, ◌<◌, ◌≤◌, ℕ, ◌+◌, ◌-◌, ◌/◌, List, [], ◌∷◌, ◌++◌, length, Bool, true, false, not, ◌&&◌, ◌||◌, ◌==◌, nat_le, nat_lt, Option, Some, None, Result, Ok, Err, refl, sym, ap, ◌∙◌, subst, arith, append_assoc, append-nil, IfSome}
 use Rattle.std.proofs.lemmas.Bool.{and_parts, eqb-true, leb-true, leb-false}
 use Rattle.std.proofs.lemmas.List.{length-append}
-use Rattle.std.specs.List.{list_all}
+use Rattle.std.specs.List.{AllByRecursion, list_all}
 use Rattle.zio_cksum.proofs.AllLemmas.{all_append}
 use Rattle.zio_types.specs.Places.{is_unit, sector_size}
 use Rattle.zio_faults.specs.declared.table.Row.{Row}
@@ -16,9 +16,10 @@ use Rattle.zio_script.specs.declared.why.Why.{Why}
 use Rattle.zio_script.specs.declared.why.Why.TheVariants.{Limit, Order, Pool}
 use Rattle.zio_script.specs.Grammar.{IsScriptOf, after_line, after_shape, after_words, ended, read_lines, read_on, read_short, script_with, unless_skipped, unless_why}
 use Rattle.zio_script.specs.Lines.{ScriptLine, FailmodeLine, LeavesLine, FaultLine, RequestLine, GoLine, ClearLine, Shape, line_of, shape_of}
-use Rattle.zio_script.specs.Whys.{Before, fits_row, if_so, is_leaf, is_sector, is_within, least_why, nothing_before, whys_at_end, whys_of}
-use Rattle.zio_script.specs.Words.{Word, is_skipped, lines_of, words_of}
-use Rattle.zio_run.specs.Tops.{IsLawfulPool}
+use Rattle.zio_script.specs.Whys.{Before, all_leaves, fits_row, if_so, is_leaf, is_sector, is_within, least_why, nothing_before, repeats_leaf, whys_at_end, whys_of}
+use Rattle.zio_script.specs.Words.{Word, is_empty, is_skipped, lines_of, words_of}
+use Rattle.zio_run.specs.Tops.{AllDiffer, HasLeaves, HaveUnits, IsLawfulPool, leaves_of}
+use Rattle.zio_run.proofs.LeafLemmas.{HasFewLeaves, HasFewWords, differ_all, in_range, line_fits, new_leaves, shape_fits}
 
 -- ---- one line
 
@@ -33,6 +34,17 @@ not_false false h = absurd (let differ : true ≡ false = h in cc)
 limit_kept : (a b c : Bool) → least_why (if_so Limit a ∷ if_so Order b ∷ if_so Pool c ∷ []) ≡ None → a ≡ false
 limit_kept true b c none = absurd (let differ : Some Limit ≡ None = none in cc)
 limit_kept false b c none = refl
+
+pool_kept : (a b c : Bool) → least_why (if_so Limit a ∷ if_so Order b ∷ if_so Pool c ∷ []) ≡ None → c ≡ false
+pool_kept true b c none = absurd (let differ : Some Limit ≡ None = none in cc)
+pool_kept false true c none = absurd (let differ : Some Order ≡ None = none in cc)
+pool_kept false false true none = absurd (let differ : Some Pool ≡ None = none in cc)
+pool_kept false false false none = refl
+
+-- the leaves of the tops and one more
+leaves_behind : (tops : List TopLine) (top : TopLine) → leaves_of (tops ++ top ∷ []) ≡ leaves_of tops ++ top.leaves
+leaves_behind [] top = simp append-nil
+leaves_behind (line ∷ tops) top = ap (λ (ls : List ℕ). line.leaves ++ ls) (leaves_behind tops top) ∙ sym (simp append_assoc)
 
 sector_unit : (n : ℕ) → is_sector n ≡ true → is_unit (n / sector_size) ≡ true
 sector_unit n is = by (n == 512) (n == 1024) (n == 2048) (n == 4096) refl refl refl refl is where
@@ -62,12 +74,26 @@ row_fits row fits =
     let len_most : row.len ≤ FAULT_RANGE_MAX = leb-true row.len FAULT_RANGE_MAX len_in.1 in
     omega arith
 
-line_lawful : (before : Before) (line : ScriptLine) → IsLawfulPool before.script → least_why (whys_of before line) ≡ None
+-- a line that changes no top and no row
+kept_pool : (script made : Script) → IsLawfulPool script → made.tops ≡ script.tops → made.faults ≡ script.faults → IsLawfulPool made
+kept_pool script made pool tops rows = record {
+  units = subst HaveUnits (sym tops) pool.units;
+  most = subst (λ (ts : List TopLine). length ts ≤ TOPS_MAX) (sym tops) pool.most;
+  leaves = subst (λ (ts : List TopLine). AllByRecursion HasLeaves ts) (sym tops) pool.leaves;
+  once = subst (λ (ts : List TopLine). AllDiffer (leaves_of ts)) (sym tops) pool.once;
+  rows = subst (λ (rs : List Row). AllByRecursion RowFits rs) (sym rows) pool.rows;
+}
+
+line_lawful : (before : Before) (line : ScriptLine) → HasFewLeaves line → IsLawfulPool before.script → least_why (whys_of before line) ≡ None
     → IsLawfulPool (script_with before.script line).script
-line_lawful before (FailmodeLine mode) pool none = record { units = pool.units; most = pool.most; rows = pool.rows }
-line_lawful before (LeavesLine leaves sector) pool none =
+line_lawful before (FailmodeLine mode) few pool none = kept_pool before.script _ pool refl refl
+line_lawful before (LeavesLine leaves sector) counted pool none =
     let full = nat_le TOPS_MAX (length before.script.tops) in
-    let limit = limit_kept (not (list_all is_leaf leaves) || not (is_sector sector) || full) _ _ none in
+    let order = not (is_empty before.script.faults) || not (is_empty before.script.items) in
+    let again = repeats_leaf (all_leaves before.script) leaves in
+    let limit = limit_kept (not (list_all is_leaf leaves) || not (is_sector sector) || full) order again none in
+    let fresh = pool_kept (not (list_all is_leaf leaves) || not (is_sector sector) || full) order again none in
+    let new = new_leaves (leaves_of before.script.tops) leaves fresh in
     let parts = or_false (not (list_all is_leaf leaves) || not (is_sector sector)) full limit in
     let more = or_false (not (list_all is_leaf leaves)) (not (is_sector sector)) parts.0 in
     let top : TopLine = record { leaves = leaves; unit = sector / sector_size } in
@@ -76,19 +102,25 @@ line_lawful before (LeavesLine leaves sector) pool none =
     record {
       units = all_append (λ (t : TopLine). is_unit t.unit ≡ true) before.script.tops (top ∷ []) pool.units (sector_unit sector (not_false (is_sector sector) more.1), tt);
       most = omega arith;
+      leaves = all_append HasLeaves before.script.tops (top ∷ []) pool.leaves
+          (record { some = counted.0; few = counted.1; each = in_range leaves (not_false (list_all is_leaf leaves) more.0) }, tt);
+      once = subst AllDiffer (sym (leaves_behind before.script.tops top))
+          (differ_all (leaves_of before.script.tops) leaves pool.once new.0 new.1);
       rows = pool.rows;
     }
-line_lawful before (FaultLine row) pool none =
+line_lawful before (FaultLine row) few pool none =
     let limit = limit_kept (not (fits_row row) || nat_le FAULTS_MAX (length before.script.faults)) _ _ none in
     let parts = or_false (not (fits_row row)) (nat_le FAULTS_MAX (length before.script.faults)) limit in
     record {
       units = pool.units;
       most = pool.most;
+      leaves = pool.leaves;
+      once = pool.once;
       rows = all_append RowFits before.script.faults (row ∷ []) pool.rows (row_fits row (not_false (fits_row row) parts.0), tt);
     }
-line_lawful before (RequestLine asked) pool none = record { units = pool.units; most = pool.most; rows = pool.rows }
-line_lawful before GoLine pool none = record { units = pool.units; most = pool.most; rows = pool.rows }
-line_lawful before ClearLine pool none = record { units = pool.units; most = pool.most; rows = pool.rows }
+line_lawful before (RequestLine asked) few pool none = kept_pool before.script _ pool refl refl
+line_lawful before GoLine few pool none = kept_pool before.script _ pool refl refl
+line_lawful before ClearLine few pool none = kept_pool before.script _ pool refl refl
 
 -- ---- the text
 
@@ -96,22 +128,24 @@ no_why : (why : Option Why) (made next : Before) → unless_why why made ≡ Ok 
 no_why None made next is = (refl, cc)
 no_why (Some why) made next is = absurd (let differ : Err why ≡ Ok next = is in cc)
 
-after_line_lawful : (before next : Before) (line : Option ScriptLine) → IsLawfulPool before.script → after_line before line ≡ Ok next → IsLawfulPool next.script
-after_line_lawful before next None pool is = let none : ⊥ = cc in absurd none
-after_line_lawful before next (Some line) pool is =
+after_line_lawful : (before next : Before) (line : Option ScriptLine) → IfSome line HasFewLeaves → IsLawfulPool before.script → after_line before line ≡ Ok next
+    → IsLawfulPool next.script
+after_line_lawful before next None few pool is = let none : ⊥ = cc in absurd none
+after_line_lawful before next (Some line) few pool is =
     let parts = no_why (least_why (whys_of before line)) (script_with before.script line) next is in
-    subst (λ (b : Before). IsLawfulPool b.script) parts.1 (line_lawful before line pool parts.0)
+    subst (λ (b : Before). IsLawfulPool b.script) parts.1 (line_lawful before line few pool parts.0)
 
-after_shape_lawful : (before next : Before) (shape : Option Shape) → IsLawfulPool before.script → after_shape before shape ≡ Ok next → IsLawfulPool next.script
-after_shape_lawful before next None pool is = let none : ⊥ = cc in absurd none
-after_shape_lawful before next (Some shape) pool is = after_line_lawful before next (line_of shape) pool is
+after_shape_lawful : (before next : Before) (shape : Option Shape) → IfSome shape HasFewWords → IsLawfulPool before.script → after_shape before shape ≡ Ok next
+    → IsLawfulPool next.script
+after_shape_lawful before next None few pool is = let none : ⊥ = cc in absurd none
+after_shape_lawful before next (Some shape) few pool is = after_line_lawful before next (line_of shape) (line_fits shape few) pool is
 
 skipped_lawful : (skipped : Bool) (before next : Before) (words : List Word) → IsLawfulPool before.script
     → unless_skipped skipped before (after_shape before (shape_of words)) ≡ Ok next → IsLawfulPool next.script
 skipped_lawful true before next words pool is =
     let same : before ≡ next = cc in
     subst (λ (b : Before). IsLawfulPool b.script) same pool
-skipped_lawful false before next words pool is = after_shape_lawful before next (shape_of words) pool is
+skipped_lawful false before next words pool is = after_shape_lawful before next (shape_of words) (shape_fits words) pool is
 
 end_same : (n : ℕ) (why : Option Why) (script made : Script) → ended n why script ≡ Ok made → script ≡ made
 end_same n None script made is = cc
@@ -145,7 +179,7 @@ lines_lawful n (line ∷ lines) before script pool is =
 short_lawful : (short : Bool) (text : List ℕ) (script : Script) → read_short short text ≡ Ok script → IsLawfulPool script
 short_lawful false text script is = let none : ⊥ = cc in absurd none
 short_lawful true text script is =
-    lines_lawful 1 (lines_of text) nothing_before script (record { units = tt; most = omega arith; rows = tt }) is
+    lines_lawful 1 (lines_of text) nothing_before script (record { units = tt; most = omega arith; leaves = tt; once = tt; rows = tt }) is
 
 -- an accepted script's pool is lawful
 pub reading_lawful_pool : (text : List ℕ) (script : Script) → IsScriptOf text script → IsLawfulPool script

@@ -9,21 +9,20 @@ use Rattle.zio_report.specs.declared.report.RunFault.{RunFault}
 use Rattle.zio_report.specs.declared.report.RunFault.TheVariants.{Device, Sink, Memory}
 use Rattle.zio_report.specs.declared.report.Show.{Show}
 use Rattle.zio_report.specs.Meanings.{run_size_of, tops_of}
-use Rattle.zio_blocks.specs.Blocks.{HavePointers}
 use Rattle.zio_course.specs.SoFar.{IsCut, IsCutText, IsFullText, IsWholeRun}
 use Rattle.zio_disks.specs.Disks.{AnyRose, Tell}
-use Rattle.zio_disks.specs.Trees.{BearsTops}
+use Rattle.zio_engine.specs.Graphs.{CanRun}
 use Rattle.zio_run.specs.declared.outcome.Outcome.{Outcome}
 use Rattle.zio_run.specs.declared.outcome.Outcome.TheVariants.{Ended, Unfit, Cut}
 use Rattle.zio_run.specs.Seen.{SinkSeen}
 use Rattle.zio_run.specs.Tops.{HaveImages, IsFirstMissing, leaves_of}
 
--- the setting of a script's run over disks of these sizes: the tops that it has over images of these sizes, and its rows
+-- The setting of a script's run over disks of these sizes: the tops that it has over images of these sizes, and its rows. An
+-- engine can run over it.
 pub record IsSettingOf (script : Script) (sizes : List ℕ) (s : Setting) : Type 0 where
   pub tops : (images : Images) → map length images ≡ sizes → s.tops ≡ tops_of script images
   pub rows : s.rows ≡ script.faults
-  pub bears : BearsTops s sizes
-  pub pointers : HavePointers s.tops
+  pub can : CanRun s sizes
   pub leaves : HaveImages (length sizes) (leaves_of script.tops)
 
 -- what a script means over the images that the disks told: they tell the images after it, and the sink the text behind

@@ -1,11 +1,12 @@
 -- The tops of a script over images of known sizes.
-use Rattle.std.specs.Prelude.{◌≡◌, ◌<◌, ◌≤◌, ℕ, List, ◌∷◌, ◌++◌, length, true}
+use Rattle.std.specs.Prelude.{◌≡◌, ◌≢◌, ◌<◌, ◌≤◌, ℕ, List, ◌∷◌, ◌++◌, length, true}
 use Rattle.std.specs.List.{AllByRecursion, flat_map}
 use Rattle.zio_types.specs.Places.{is_unit}
 use Rattle.zio_faults.specs.Hits.{RowFits}
-use Rattle.zio_script.specs.declared.limits.TheConstants.{TOPS_MAX}
+use Rattle.zio_script.specs.declared.limits.TheConstants.{LEAF_MAX, TOPS_MAX, TOP_LEAVES_MAX}
 use Rattle.zio_script.specs.declared.script.Script.{Script}
 use Rattle.zio_script.specs.declared.script.TopLine.{TopLine}
+use Rattle.zio_trace.specs.TreeOrders.{Pairs}
 
 -- the leaves of these tops, in the script's order
 abbrev pub leaves_of : List TopLine → List ℕ
@@ -27,8 +28,21 @@ pub record IsFirstMissing (images : ℕ) (leaves : List ℕ) (leaf : ℕ) : Type
 abbrev pub HaveUnits : List TopLine → Type 0
 HaveUnits tops = AllByRecursion (λ (top : TopLine). is_unit top.unit ≡ true) tops
 
--- what a script's `top` and `fault` lines have: units, not too many tops, and rows whose ranges fit
+-- a `top` has one to four leaves, whose numbers are in range
+pub record HasLeaves (top : TopLine) : Type 0 where
+  pub some : 1 ≤ length top.leaves
+  pub few : length top.leaves ≤ TOP_LEAVES_MAX
+  pub each : AllByRecursion (λ leaf. leaf ≤ LEAF_MAX) top.leaves
+
+-- no two are the same
+abbrev pub AllDiffer : List ℕ → Type 0
+AllDiffer leaves = Pairs (λ (l m : ℕ). l ≢ m) leaves
+
+-- What a script's `top` and `fault` lines have: units, not too many tops, one to four leaves each, no leaf twice, and rows
+-- whose ranges fit.
 pub record IsLawfulPool (script : Script) : Type 0 where
   pub units : HaveUnits script.tops
   pub most : length script.tops ≤ TOPS_MAX
+  pub leaves : AllByRecursion HasLeaves script.tops
+  pub once : AllDiffer (leaves_of script.tops)
   pub rows : AllByRecursion RowFits script.faults

@@ -66,6 +66,7 @@ where
             alloc,
             text.as_str().as_bytes(),
             &Show::Summary,
+            None,
             names,
             shelf,
             out,

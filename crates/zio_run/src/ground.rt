@@ -1,9 +1,8 @@
-//! The run of a script over the images that were fetched: its tops and their space, and then its rounds.
+//! The run of a script over the images that were fetched: its tops and the engine over them, and then its rounds.
 
-ghost use Rattle.std.specs.Prelude.{◌≡◌, ◌≤◌, ◌⊎◌, [], ℕ, List as Seq, IfOk, IsErrOf, MatchResult, length, map};
+ghost use Rattle.std.specs.Prelude.{◌≡◌, ◌≤◌, ◌⊎◌, ℕ, List as Seq, IfOk, IsErrOf, MatchResult, length, map};
 ghost use Rattle.std.specs.List.{AllByRecursion};
 ghost use Rattle.zio_script.specs.Grammar.{IsScriptOf};
-ghost use Rattle.zio_gang.specs.Trees.{sizes_of};
 ghost use Rattle.zio_disks.specs.Disks.{AreSameDisks};
 ghost use Rattle.zio_report.specs.Meanings.{IsEmptyJournal};
 ghost use Rattle.zio_run.specs.Grounds.{CameOutOver, IsSettingOf};
@@ -14,22 +13,26 @@ ghost use Rattle.zio_run.specs.Tops.{IsFirstMissing, leaves_of};
 use crate::accepted_scripts_have_lawful_pools;
 use crate::outcome::Outcome;
 use crate::rounds::run_rounds;
-use crate::tops::{TopsFault, sizes_of_disks, space_of, tops_over};
+use crate::tops::{TopsFault, copy_of, sizes_of_disks, tops_over};
 use std::alloc::Global;
 use zio_disks::Setting;
+use zio_engine::Graph;
 use zio_faults::Table;
 use zio_gang::Ending;
+use zio_graph::DisksBack;
+use zio_line::{FirstPicks, Picks, from_seed};
 use zio_outside::{Disk, Sink};
-use zio_places::Space;
 use zio_report::{RunFault, Show};
 use zio_script::Script;
-use zio_types::{Journal, List, NoMemory};
+use zio_types::{Journal, List, NoMemory, Top};
 
-/// Runs the script over disks whose sizes were measured, and hands them back.
+/// Runs the script over disks whose sizes were measured, and hands them back. The turns are picked from a seed, or the
+/// first is always picked where there is none.
 pub(crate) fn run_on_disks<O: Sink, D: Disk + Drop>(
     alloc: Global,
     script: &Script,
     show: &Show,
+    picks: Option<u64>,
     disks: Vec<D>,
     out: &mut O,
     journal: &mut Journal,
@@ -45,14 +48,57 @@ pub(crate) fn run_on_disks<O: Sink, D: Disk + Drop>(
     ensures same { AreSameDisks D.bytes D.faults D.faults_at_fetch D.home D.image D.sound disks.items result.1.items }
 {
     match pool_over(alloc, script, disks.as_slice()) {
-        Ok((setting, space)) => {
-            let (ended, disks) = run_rounds(
-                alloc, script, show, setting, space, disks, out, journal,
-            );
-            (outcome_of(ended), disks)
-        }
+        Ok((setting, tops)) => match picks {
+            Some(seed) => run_by_picks(
+                alloc,
+                script,
+                show,
+                setting,
+                tops,
+                from_seed(seed),
+                disks,
+                out,
+                journal,
+            ),
+            None => run_by_picks(
+                alloc, script, show, setting, tops, FirstPicks, disks, out, journal,
+            ),
+        },
         Err(TopsFault::Leaf(leaf)) => (Outcome::Unfit(leaf), disks),
         Err(TopsFault::Memory) => (Outcome::Cut(RunFault::Memory), disks),
+    }
+}
+
+/// Runs the script by these picks.
+fn run_by_picks<O: Sink, D: Disk + Drop, P: Picks + Drop>(
+    alloc: Global,
+    script: &Script,
+    show: &Show,
+    setting: Setting,
+    tops: List<Top>,
+    picks: P,
+    disks: Vec<D>,
+    out: &mut O,
+    journal: &mut Journal,
+) -> (Outcome, Vec<D>)
+    requires script { (text : Seq ℕ) × IsScriptOf text script.now }
+    requires setting { IsSettingOf script.now (map D.bytes disks.items) setting }
+    requires tops { tops ≡ setting.tops }
+    requires few { length disks.items ≤ 16 }
+    requires empty { IsEmptyJournal journal.old }
+    ensures outcome { let seen = sink_by O.holds O.faults in
+        CameOutOver D.faults D.image show.now script.now disks.items result.1.items (seen out.old) (seen out.new)
+        journal.old journal.new result.0 }
+    ensures unwritten { (leaf : ℕ) → result.0 ≡ Outcome.Unfit leaf → out.new ≡ out.old }
+    ensures same { AreSameDisks D.bytes D.faults D.faults_at_fetch D.home D.image D.sound disks.items result.1.items }
+{
+    let images = disks.len() as u32;
+    match Graph::new(alloc, setting, disks, tops, picks) {
+        Ok(engine) => {
+            let (ended, disks) = run_rounds(alloc, script, show, images, engine, out, journal);
+            (outcome_of(ended), disks)
+        }
+        Err(DisksBack { disks }) => (Outcome::Cut(RunFault::Memory), disks),
     }
 }
 
@@ -65,25 +111,24 @@ fn outcome_of(ended: Result<Ending, RunFault>) -> Outcome
     }
 }
 
-/// The script's tops over the disks with its fault rows, and the space of the tops, all of it free.
+/// The script's tops over the disks with its fault rows, and the tops once more.
 fn pool_over<D: Disk>(
     alloc: Global,
     script: &Script,
     disks: &[D],
-) -> Result<(Setting, Space), TopsFault>
+) -> Result<(Setting, List<Top>), TopsFault>
     requires script { (text : Seq ℕ) × IsScriptOf text script.now }
     requires measured { AllByRecursion HasLawfulSize (map D.bytes disks.now) }
     ensures setting { IfOk result (λ pool. IsSettingOf script.now (map D.bytes disks.now) pool.0) }
     ensures start { IfOk result (λ pool. pool.0.point ≡ 0) }
-    ensures space { IfOk result (λ pool. pool.1 ≡
-        record { sizes = sizes_of pool.0.tops; live = []; pending = []; entries = []; spare = 0 }) }
+    ensures tops { IfOk result (λ pool. pool.1 ≡ pool.0.tops) }
     ensures missing { (leaf : ℕ) → IsErrOf result (TopsFault.Leaf leaf) →
         IsFirstMissing (length disks.now) (leaves_of script.now.tops) leaf }
 {
     accepted_scripts_have_lawful_pools();
     let sizes = sizes_of_disks(alloc, disks)?;
     let tops = tops_over(alloc, script, sizes.as_slice())?;
-    let space = space_of(alloc, tops.as_slice())?;
+    let same = copy_of(alloc, tops.as_slice())?;
     let mut rows = List::new(alloc);
     rows.extend_from_slice(script.faults.as_slice())?;
     let table = Table { rows };
@@ -93,6 +138,6 @@ fn pool_over<D: Disk>(
             table,
             point: 0,
         },
-        space,
+        same,
     ))
 }

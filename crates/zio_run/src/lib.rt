@@ -28,5 +28,5 @@ pub use names::IMAGES_MAX;
 pub use options::{WORKERS_MAX, WORKERS_USUAL};
 pub use serial::zio_serial_main;
 pub use shelf::{ImagesFault, fetch_images, give_back_images};
-pub use tops::{TopsFault, sizes_of_disks, space_of, tops_over};
+pub use tops::{TopsFault, sizes_of_disks, tops_over};
 pub use words::{Command, WordsError, read_words};

@@ -20,12 +20,14 @@ use zio_report::{RunFault, Show};
 use zio_script::{Script, ScriptError, read_script};
 use zio_types::{Journal, Status, Text};
 
-/// Runs the script that a text is over the images of these names, and ends with its code: 2 where the text is no script, 3
+/// Runs the script that a text is over the images of these names, by the picks of a seed or by the first at each turn, and
+/// ends with its code: 2 where the text is no script, 3
 /// where a leaf has no image of a lawful size.
 pub(crate) fn run_text<O: Sink, H: Shelf>(
     alloc: Global,
     text: &[u8],
     show: &Show,
+    picks: Option<u64>,
     names: &[Text],
     shelf: &mut H,
     out: &mut O,
@@ -49,7 +51,7 @@ where
         × ((name : Seq ℕ) → H.sound shelf.old name → H.sound shelf.new name) }
 {
     match read_script(alloc, text) {
-        Ok(script) => run_script_on(alloc, &script, show, names, shelf, out, journal),
+        Ok(script) => run_script_on(alloc, &script, show, picks, names, shelf, out, journal),
         Err(ScriptError::Fault(fault)) => refuse_script(alloc, out, fault),
         Err(ScriptError::Memory) => Status { code: CODE_MEMORY },
     }
@@ -60,6 +62,7 @@ fn run_script_on<O: Sink, H: Shelf>(
     alloc: Global,
     script: &Script,
     show: &Show,
+    picks: Option<u64>,
     names: &[Text],
     shelf: &mut H,
     out: &mut O,
@@ -82,7 +85,7 @@ where
         (H.faults shelf.new ≡ H.faults shelf.old) × (H.disk_faults shelf.new ≡ H.disk_faults shelf.old)
         × ((name : Seq ℕ) → H.sound shelf.old name → H.sound shelf.new name) }
 {
-    match run_on_shelf(alloc, script, show, names, shelf, out, journal) {
+    match run_on_shelf(alloc, script, show, picks, names, shelf, out, journal) {
         Outcome::Ended(ending) => Status {
             code: code_of(ending),
         },
@@ -98,6 +101,7 @@ fn run_on_shelf<O: Sink, H: Shelf>(
     alloc: Global,
     script: &Script,
     show: &Show,
+    picks: Option<u64>,
     names: &[Text],
     shelf: &mut H,
     out: &mut O,
@@ -123,7 +127,7 @@ where
 {
     match fetch_images(alloc, names, shelf) {
         Ok(disks) => {
-            let (outcome, disks) = run_on_disks(alloc, script, show, disks, out, journal);
+            let (outcome, disks) = run_on_disks(alloc, script, show, picks, disks, out, journal);
             give_back_images(disks, shelf);
             outcome
         }

@@ -147,10 +147,16 @@ where
     ensures generated { runs command ≡ false → (shelf.new ≡ shelf.old) × (journal.new ≡ journal.old) }
 {
     match command {
-        Command::Run { show, images, .. } => run_source(
+        Command::Run {
+            show,
+            picks,
+            images,
+            ..
+        } => run_source(
             alloc,
             script,
             &show,
+            picks,
             images.as_slice(),
             shelf,
             out,
@@ -168,6 +174,7 @@ fn run_source<S: Source, O: Sink, H: Shelf>(
     alloc: Global,
     script: &mut S,
     show: &Show,
+    picks: Option<u64>,
     names: &[Text],
     shelf: &mut H,
     out: &mut O,
@@ -194,7 +201,16 @@ where
     ensures unfetched { (result.code ≡ 2) ⊎ (result.code ≡ 5) → shelf.new ≡ shelf.old }
 {
     match read_all(alloc, script) {
-        Ok(bytes) => run_text(alloc, bytes.as_slice(), show, names, shelf, out, journal),
+        Ok(bytes) => run_text(
+            alloc,
+            bytes.as_slice(),
+            show,
+            picks,
+            names,
+            shelf,
+            out,
+            journal,
+        ),
         Err(ReadFault::Failed) => Status { code: CODE_SOURCE },
         Err(ReadFault::Memory) => Status { code: CODE_MEMORY },
     }

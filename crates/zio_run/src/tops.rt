@@ -1,6 +1,6 @@
-//! The tops of a script over images of known sizes, and the space of their sectors.
+//! The tops of a script over images of known sizes.
 
-ghost use Rattle.std.specs.Prelude.{◌≡◌, ◌<◌, ◌≤◌, ◌*◌, ◌/◌, ◌^◌, [], ℕ, true, IfOk, IsErrOf, MatchOption, OnOk, length, map, slice_index_or};
+ghost use Rattle.std.specs.Prelude.{◌≡◌, ◌<◌, ◌≤◌, ◌*◌, ◌/◌, ◌^◌, ℕ, true, IfOk, IsErrOf, MatchOption, OnOk, length, map, slice_index_or};
 ghost use Rattle.std.specs.List.{AllByRecursion, list_all};
 ghost use Rattle.zio_types.specs.Places.{is_lawful_top, is_unit, sector_size};
 ghost use Rattle.zio_cksum.specs.Images.{Images};
@@ -15,9 +15,8 @@ ghost use Rattle.zio_run.specs.Tops.{HaveImages, HaveUnits, IsFirstMissing, leav
 
 use std::alloc::Global;
 use zio_outside::Disk;
-use zio_places::Space;
 use zio_script::{Script, TopLine};
-use zio_types::{List, NoMemory, SECTOR_SIZE, Top, TopSize};
+use zio_types::{List, NoMemory, SECTOR_SIZE, Top};
 
 /// Why a script has no tops over some images.
 #[derive(Clone, Copy, Debug, PartialEq, Eq)]
@@ -151,19 +150,25 @@ pub fn sizes_of_disks<D: Disk>(alloc: Global, disks: &[D]) -> Result<List<u64>, 
     Ok(sizes)
 }
 
-/// The space of these tops, all of it free.
-pub fn space_of(alloc: Global, tops: &[Top]) -> Result<Space, NoMemory>
-    requires few { length tops.now < 2 ^ 32 }
-    requires lawful { list_all is_lawful_top (sizes_of tops.now) ≡ true }
-    ensures { IfOk result (λ space. space ≡
-        record { sizes = sizes_of tops.now; live = []; pending = []; entries = []; spare = 0 }) }
+/// The same tops once more.
+pub(crate) fn copy_of(alloc: Global, tops: &[Top]) -> Result<List<Top>, NoMemory>
+    ensures { IfOk result (λ copy. copy ≡ tops.now) }
 {
-    let mut sizes = Vec::new(alloc);
+    let mut copy = List::new(alloc);
     for top in tops {
-        sizes.push(TopSize {
-            sectors: top.sectors,
-            unit: top.unit,
-        })?;
+        copy.push(same_top(alloc, top)?)?;
     }
-    Space::new(alloc, sizes.as_slice())
+    Ok(copy)
+}
+
+fn same_top(alloc: Global, top: &Top) -> Result<Top, NoMemory>
+    ensures { IfOk result (λ same. same ≡ top.now) }
+{
+    let mut leaves = List::new(alloc);
+    leaves.extend_from_slice(top.leaves.as_slice())?;
+    Ok(Top {
+        leaves,
+        sectors: top.sectors,
+        unit: top.unit,
+    })
 }

@@ -1,6 +1,7 @@
 //! The engine on one thread.
 
 ghost use Rattle.std.specs.Prelude.{◌≡◌, ◌<◌, ◌^◌, IfErr, IfOk, IfSome, IsErrOf, List as Seq, OnErr, [], false, length, map};
+ghost use Rattle.std.specs.List.{AllByRecursion};
 ghost use Rattle.zio_cksum.specs.Images.{Images};
 ghost use Rattle.zio_gang.specs.Attempts.{Pending};
 ghost use Rattle.zio_disks.specs.Disks.{AreSameDisks, Tell};
@@ -17,6 +18,7 @@ ghost use Rattle.zio_course.specs.Runners.{
   StoppedAfter,
   ended_seen,
   fresh,
+  made_trees,
   terms_at,
   tree_over,
 };
@@ -120,6 +122,7 @@ impl<D: Disk + Drop, P: Picks + Drop> Graph<D, P> {
             × DiffersInRound (standing_of D.faults self.old) (map (λ (tree : Seq Pending). tree) job.trees) before after) }
         ensures end { IfOk result (λ end. IsRoundEnd (standing_of D.faults self.old) job.round
             (map (λ (tree : Seq Pending). tree) job.trees) (ended_seen (λ (tree : Seq Pending). tree) end)) }
+        ensures fits { IfOk result (λ end. AllByRecursion IsWholeTree (made_trees end.finished)) }
         ensures stands { IfOk result (λ end. StandsAfter (standing_of D.faults self.old) (standing_of D.faults self.new) job.round
             (map (λ (tree : Seq Pending). tree) job.trees) (ended_seen (λ (tree : Seq Pending). tree) end)) }
         ensures stopped { OnErr result

@@ -8,6 +8,7 @@ use Rattle.zio_types.specs.Choices.{Choice}
 use Rattle.zio_script.specs.declared.script.Failmode.{Failmode}
 use Rattle.zio_cksum.specs.Images.{Images}
 use Rattle.zio_disks.specs.Disks.{Tell}
+use Rattle.zio_disks.specs.Whole.{IsWholeTree}
 use Rattle.zio_gang.specs.Attempts.{Pending, Terms}
 use Rattle.zio_gang.specs.Journals.{AreLawful, CompleteAfterChildren, CompleteOnce, choices_in}
 use Rattle.zio_gang.specs.Trees.{sizes_of}
@@ -18,7 +19,7 @@ use Rattle.zio_trace.proofs.RoundTouches.{entries_of_round}
 use Rattle.zio_frames.specs.Running.{all_heard}
 use Rattle.zio_frames.specs.Slots.{Slot}
 use Rattle.zio_course.specs.declared.runner.Finished.{Finished as Told}
-use Rattle.zio_course.specs.Runners.{AreRestsOf, AreRunnable, DiffersInRound, IsRound, IsRoundEnd, completion_for, finished_of, has_claim, is_numbered, joined_trees, numbers_of, requests_in}
+use Rattle.zio_course.specs.Runners.{AreRestsOf, AreRunnable, DiffersInRound, IsRound, IsRoundEnd, completion_for, finished_of, has_claim, is_numbered, joined_trees, made_trees, numbers_of, requests_in}
 use Rattle.zio_sound.specs.Leaving.{AreSettled, LeavesTrees}
 use Rattle.zio_sound.proofs.Leaving.{round_left}
 use Rattle.zio_sound.proofs.Linked.{round_linked}
@@ -50,10 +51,12 @@ use Rattle.zio_engine.proofs.Lefts.{AllSettled, all_settled, as_many, left_is, l
 use Rattle.zio_engine.proofs.LeftTrees.{IsSoundRequest, engine_trees, requests_sound, rests_sound}
 use Rattle.zio_engine.proofs.Overs.{differs_over, sizes_told}
 use Rattle.zio_engine.proofs.ReadSizes.{reads_told, sectors_told}
+use Rattle.zio_engine.proofs.RoundBlocks.{EndsWhole, KeepsSpelled}
 use Rattle.zio_engine.proofs.RoundEnds.{tells_round}
 use Rattle.zio_engine.proofs.RoundKeys.{keys_of_round}
 use Rattle.zio_engine.proofs.Sounds.{joined_flat}
 use Rattle.zio_engine.proofs.Still.{HasClosed, still_steady}
+use Rattle.zio_engine.proofs.WholeBlocks.{sound_whole, told_whole}
 
 -- ---- what is told
 
@@ -111,6 +114,22 @@ module _ {N D : Type 0} (nodes : Nodes N) (bytes faults : D → ℕ) (image : D 
         subst (AreSettled t job.forest) (heard_once a.0 values (sym a.1.0 ∙ heard))
         (answered_settled h.over.state.entries t job.forest h.over.state.deeds a.0 a.1.1)
 
+    -- the blocks that they made are whole, and what is left keeps pointers that bytes spell
+    blocks_so : (values : List Value) → h.now.trees ≡ all_heard values → AllByRecursion EndsWhole (round_of values).ended
+        × AllByRecursion (AllByRecursion KeepsSpelled) (round_of values).left
+    blocks_so values heard =
+        let t : Terms = terms_on g failmode round in
+        let entries : List Choice = h.over.state.entries in
+        let a = all_answers {N = N} nodes t (size_at (map bytes g.disks.items)) job.forest before h.now.trees h.now.tops
+        (shelf_of {N = N} h.slab) h.over.state entries [] [] h.over.kept h.over.standing_none of_round in
+        let lawful : AreLawful (sizes_of g.setting.tops) g.desk.space.live entries =
+        subst (AreLawful (sizes_of g.setting.tops) g.desk.space.live) (sym h.over.entries_are) h.runs.going.lent.desk.desk.lawful in
+        subst
+        (λ (vs : List Value). AllByRecursion EndsWhole (round_of vs).ended
+        × AllByRecursion (AllByRecursion KeepsSpelled) (round_of vs).left)
+        (heard_once a.0 values (sym a.1.0 ∙ heard))
+        (sound_whole entries t job.forest h.over.state.deeds a.0 steady.pointers lawful job.sound a.1.1)
+
     some_values : (values : List Value) × (h.now.trees ≡ all_heard values)
     some_values =
         let a = all_answers {N = N} nodes (terms_on g failmode round)
@@ -151,6 +170,11 @@ module _ {N D : Type 0} (nodes : Nodes N) (bytes faults : D → ℕ) (image : D 
         tells = tells_round (standing_on faults g) round (map pendings wholes) (round_of values)
             (all_ended h.now.books.done) finished runs leaves
             moved by_number
+
+        made_whole : AllByRecursion IsWholeTree (made_trees finished)
+        made_whole =
+            told_whole (all_ended h.now.books.done) (round_of values).ended finished moved by_number.same
+            (blocks_so values heard).0
 
         in_use : LeavesInUse (standing_on faults g) (map pendings wholes) finished now.desk.space.live
         in_use =
@@ -243,6 +267,7 @@ module _ {N D : Type 0} (nodes : Nodes N) (bytes faults : D → ℕ) (image : D 
           (rests_sound (map pendings wholes) (map pendings (left_in states))
           (subst (AreRestsOf (map pendings wholes)) (sym left_are) leaves.rests) sound_requests)
           limits
+          (subst (AllByRecursion (AllByRecursion KeepsSpelled)) (sym left_are) (blocks_so values heard).1)
 
   -- ---- where each round of these trees ended so
 
@@ -257,6 +282,10 @@ module _ {N D : Type 0} (nodes : Nodes N) (bytes faults : D → ℕ) (image : D 
         → IsNonDecreasingBy (λ (f : Told). f.request) finished
         → LeavesInUse (standing_on faults g) (map pendings wholes) finished now.desk.space.live
     stands finished told order = in_use None silent came_to.0 came_to.1 finished told order
+
+    pub fits : (finished : List Told) → IsPermutation (map told_of ended) finished
+        → IsNonDecreasingBy (λ (f : Told). f.request) finished → AllByRecursion IsWholeTree (made_trees finished)
+    fits finished told order = made_whole None silent came_to.0 came_to.1 finished told order
 
     pub trees_left : AllByRecursion IsWhole (left_in states) → AllByRecursion (AllByRecursion IsWithinLimits) (left_in states)
         → AllByRecursion IsEngineTree (left_in states)

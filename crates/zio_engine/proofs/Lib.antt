@@ -1,4 +1,5 @@
 pub mod Begun
+pub mod ClaimedBlocks
 pub mod Completions
 pub mod EndedRounds
 pub mod FewTrees
@@ -11,12 +12,17 @@ pub mod Loose
 pub mod NewTrees
 pub mod OverTops
 pub mod Overs
+pub mod OwnBlocks
 pub mod ReadSizes
+pub mod RoundBlocks
 pub mod RoundEnds
 pub mod RoundKeys
 pub mod Sounds
 pub mod Standings
 pub mod Still
+pub mod SumWords
 pub mod TreeLemmas
 pub mod UsedUp
+pub mod WholeBlocks
 pub mod Wrapped
+pub mod WrittenBlocks

@@ -1,5 +1,5 @@
 -- A request over its children's trees is a tree again.
-use Rattle.std.proofs.Common.{◌≡◌, ℕ, ◌+◌, ◌≤◌, List, [], ◌∷◌, ◌++◌, length, map, count_by, cond, Bool, true, Option, Some, IfSome, refl, sym, ap, ◌∙◌, subst, arith}
+use Rattle.std.proofs.Common.{◌≡◌, ℕ, ◌+◌, ◌^◌, ◌<◌, ◌≤◌, List, [], ◌∷◌, ◌++◌, length, map, count_by, cond, Bool, true, Option, Some, IfSome, refl, sym, ap, ◌∙◌, subst, arith}
 use Rattle.std.specs.List.{AllByRecursion}
 use Rattle.std.proofs.lemmas.List.{length-map, map-append}
 use Rattle.std.proofs.lemmas.List.Sums.{sum_by-cons}
@@ -96,8 +96,9 @@ over_rises trees wholes same each rising =
 
 pub new_tree : (r : Request) (birth : ℕ) (block : Option Tree) (children : List (List Waiting)) (tree : List Waiting)
     → IsNewTree r birth block (map pendings children) → AllByRecursion IsEngineTree children → IfSome block IsWholeTree
-    → IfSome block (λ (x : Tree). HasThree x.bp) → ((forest : Forest) → AreTrees children forest → IsTreeOf tree (fresh r birth block) forest) → IsEngineTree tree
-new_tree r birth block children tree new each whole three is =
+    → IfSome block (λ (x : Tree). HasThree x.bp) → birth < 2 ^ 32
+    → ((forest : Forest) → AreTrees children forest → IsTreeOf tree (fresh r birth block) forest) → IsEngineTree tree
+new_tree r birth block children tree new each whole three born is =
     let kids : AreEngineForest (Some r.number) children =
     forest_of (Some r.number) children each
     (all_weaker (IsChild r) (λ (q : Request). q.under ≡ Some r.number) (roots_of (map pendings children)) (λ q c. c.under) new.kinds) in
@@ -111,6 +112,7 @@ new_tree r birth block children tree new each whole three is =
         record {
           range = new.range;
           some = new.some;
+          born = born;
           block_is = new.block_is;
           whole = whole;
           three = three;
@@ -121,6 +123,7 @@ new_tree r birth block children tree new each whole three is =
               (let none = none_under r (roots_of (map pendings children)) childless new.kinds in let roots = new.each in
               let same = length-map children pendings in omega arith);
           pointers = tt;
+          types = tt;
         },
         kids.sound,
         tt,

@@ -1,6 +1,6 @@
 // Between a round as a script's run gives it to a runner and a round as the engine runs it.
 
-ghost use Rattle.std.specs.Prelude.{◌≡◌, ◌⊎◌, ◌↔◌, ◌%◌, ℕ, Contains, IsPermutation, IsTrue, List, [], Option, length, map, true};
+ghost use Rattle.std.specs.Prelude.{◌≡◌, ◌⊎◌, ◌↔◌, ◌%◌, ℕ, Contains, IfSome, IsPermutation, IsTrue, List, [], Option, length, map, true};
 ghost use Rattle.std.specs.List.{AllByRecursion};
 ghost use Rattle.zio_types.specs.declared.place.Place.{Place};
 ghost use Rattle.zio_types.specs.Choices.{Choice};
@@ -8,13 +8,21 @@ ghost use Rattle.zio_types.specs.Places.{are_open, is_inside, sector_size};
 ghost use Rattle.zio_script.specs.declared.script.Failmode.{Failmode};
 ghost use Rattle.zio_cksum.specs.Images.{Images};
 ghost use Rattle.zio_gang.specs.Attempts.{Ended, Pending, Terms};
-ghost use Rattle.zio_gang.specs.Journals.{CompleteAfterChildren, CompleteOnce};
+ghost use Rattle.zio_gang.specs.Journals.{AreLawful, CompleteAfterChildren, CompleteOnce};
 ghost use Rattle.zio_gang.specs.Trees.{sizes_of};
 ghost use Rattle.zio_trace.specs.Families.{Forest};
-ghost use Rattle.zio_trace.specs.Rounds.{Round, trees_in};
+ghost use Rattle.zio_trace.specs.Labels.{Labelled};
+ghost use Rattle.zio_trace.specs.Programs.{Deed};
+ghost use Rattle.zio_trace.specs.RoundRules.{task_ways};
+ghost use Rattle.zio_trace.specs.Rounds.{Round, settles, trees_in};
 ghost use Rattle.zio_trace.specs.Separate.{LeavesOnce};
 ghost use Rattle.zio_trace.specs.SoundRounds.{IsSoundRound, LeavesDiffer};
+ghost use Rattle.zio_trace.specs.Tasks.{Task, Value};
+ghost use Rattle.zio_trace.specs.Together.{round_of};
+ghost use Rattle.zio_trace.specs.Underway.{AreAnswered};
 ghost use Rattle.zio_disks.specs.Trees.{HasSectors};
+ghost use Rattle.zio_disks.specs.Whole.{IsWholeTree};
+ghost use Rattle.zio_blocks.specs.Blocks.{HavePointers};
 ghost use Rattle.zio_course.specs.declared.runner.Finished.{Finished};
 ghost use Rattle.zio_course.specs.Runners.{AreRunnable, DiffersInRound, HasReadSize, Standing, requests_in, terms_at};
 ghost use Rattle.zio_sound.specs.Leaving.{LeavesTrees};
@@ -81,6 +89,15 @@ pub fn rounds_read_whole_blocks()
         trees_in f ≡ trees → AreSound f → AllByRecursion (IsEnding t f) done →
         AllByRecursion (λ (x : Ending). FitsBodies x.request x.ended) done → IsByNumber (all_ended done) finished →
         AllByRecursion (λ (g : Finished). length g.bytes % sector_size ≡ 0) finished }
+{}
+
+/// The blocks that a round's requests made are whole, whatever their operations were answered: where all that a lawful journal has
+/// for its asks lies on tops whose places stand in pointers.
+pub fn rounds_make_whole_blocks()
+    ensures { (journal : List Choice) (t : Terms) (f : Forest) (ds : List (Deed (Labelled Task) Value)) (values : List Value) →
+        HavePointers t.setting.tops → AreLawful (sizes_of t.setting.tops) t.used journal → AreSound f →
+        AreAnswered (task_ways journal t) (settles f) ds values →
+        AllByRecursion (λ (e : Ended). IfSome e.tree IsWholeTree) (round_of values).ended }
 {}
 
 /// If in use after a round are the places that were and that no finished request freed, and those of the blocks that finished

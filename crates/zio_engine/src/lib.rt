@@ -15,7 +15,8 @@ mod wholes;
 pub use graph::Graph;
 pub use laws::{
     jobs_are_sound_rounds, rounds_ask_under_their_number, rounds_complete_children_first,
-    rounds_leave_places_in_use, rounds_read_whole_blocks, rounds_tell_their_requests,
-    runnable_trees_lie_on_the_tops, stopped_rounds_change_what_is_loose,
+    rounds_leave_places_in_use, rounds_make_whole_blocks, rounds_read_whole_blocks,
+    rounds_tell_their_requests, runnable_trees_lie_on_the_tops,
+    stopped_rounds_change_what_is_loose,
 };
 pub use tree::EngineTree;

@@ -4,8 +4,9 @@ ghost use Rattle.std.specs.Prelude.{◌≡◌, IfOk, IsErrOf, List as Seq, OnErr
 ghost use Rattle.std.specs.List.{AllByRecursion};
 ghost use Rattle.zio_cksum.specs.Images.{Images};
 ghost use Rattle.zio_disks.specs.Disks.{AnyRose, AreSameDisks, Tell};
+ghost use Rattle.zio_disks.specs.Whole.{IsWholeTree};
 ghost use Rattle.zio_course.specs.declared.runner.Stop.TheVariants.{Device};
-ghost use Rattle.zio_course.specs.Runners.{AreRunnable, DiffersInRound, IsRound, IsRoundEnd, ended_seen, terms_at};
+ghost use Rattle.zio_course.specs.Runners.{AreRunnable, DiffersInRound, IsRound, IsRoundEnd, ended_seen, made_trees, terms_at};
 ghost use Rattle.zio_plain.specs.Works.{stop_of};
 ghost use Rattle.zio_stages.specs.Waits.{pendings};
 ghost use Rattle.zio_stages.specs.declared.waiting.Waiting.{Waiting};
@@ -47,6 +48,7 @@ pub(crate) fn run_wholes<N: Staged, D: Disk + Drop, P: Picks>(
         × DiffersInRound (standing_on D.faults grounds.old) (map pendings wholes) before after) }
     ensures end { IfOk result (λ end. IsRoundEnd (standing_on D.faults grounds.old) round (map pendings wholes)
         (ended_seen pendings end)) }
+    ensures fits { IfOk result (λ end. AllByRecursion IsWholeTree (made_trees end.finished)) }
     ensures stands { IfOk result (λ end. LeavesInUse (standing_on D.faults grounds.old) (map pendings wholes) end.finished
         grounds.new.desk.space.live) }
     ensures left { ((whole : Seq Waiting) → N.tree_over grounds.old.setting.tops whole → AllByRecursion IsWithinLimits whole) →

@@ -21,15 +21,15 @@ use Rattle.zio_sound.specs.Leaving.{AreAttempted, AreSettled, IsAttempted, IsSet
 
 -- ---- what is heard of a program behind another
 
-abbrev at_place : List ℕ → ℕ → Task → Labelled Task
+abbrev pub at_place : List ℕ → ℕ → Task → Labelled Task
 at_place at n op = record { at = at ++ n ∷ []; op = op }
 
-then_at : {A B : Type 0} (o : Oracle (Labelled Task) Value) (at : List ℕ) (n : ℕ) (p : TaskPlan A) (next : A → TaskPlan B)
+pub then_at : {A B : Type 0} (o : Oracle (Labelled Task) Value) (at : List ℕ) (n : ℕ) (p : TaskPlan A) (next : A → TaskPlan B)
     → (m : ℕ) × (heard o (labelled at n (p >>= next)) ≡ heard o (labelled at m (next (heard o (labelled at n p)))))
 then_at o at n (Ends a) next = (n, refl)
 then_at o at n (Asks op more) next = then_at o at (suc n) (more (o.answer (at_place at n op))) next
 
-map_at : {A B : Type 0} (o : Oracle (Labelled Task) Value) (at : List ℕ) (n : ℕ) (p : TaskPlan A) (g : A → B)
+pub map_at : {A B : Type 0} (o : Oracle (Labelled Task) Value) (at : List ℕ) (n : ℕ) (p : TaskPlan A) (g : A → B)
     → heard o (labelled at n (p >>= λ a. Ends (g a))) ≡ g (heard o (labelled at n p))
 map_at o at n p g = (then_at o at n p (λ a. Ends (g a))).1
 

@@ -14,7 +14,7 @@ use Rattle.zio_engine.specs.Ends.{completion_of, left_in}
 use Rattle.zio_engine.specs.InUse.{LeavesInUse}
 use Rattle.zio_engine.specs.Jobs.{IsSoundJob, size_at}
 use Rattle.zio_engine.specs.SteadyGrounds.{standing_on, terms_on}
-use Rattle.zio_engine.proofs.EndedRounds.{ends_so, is_so, stands, still, trees_left}
+use Rattle.zio_engine.proofs.EndedRounds.{ends_so, fits, is_so, stands, still, trees_left}
 use Rattle.zio_engine.proofs.Lefts.{left_within}
 use Rattle.zio_engine.proofs.Overs.{loose_then, steady_job}
 use Rattle.zio_engine.proofs.wholes.run_wholes.Goals as goal
@@ -63,6 +63,18 @@ returns-clause-stands g c =
     c.args.wholes c.requires.runs job c.run_to_end.new.grounds c.in_ok-trees.field-0.trees.items
     c.in_ok-trees.field-0.ended.items c.in_ok-trees.ensures.count c.in_ok-trees.ensures.ends c.in_ok-finished.finished
     c.in_ok-finished.ensures.same c.in_ok-finished.ensures.order)
+
+pub returns-clause-fits : goal.returns-clause-fits
+returns-clause-fits g c =
+    let m = g.D.Disk in
+    let job : IsSoundJob (terms_on c.args.grounds.now c.args.failmode c.args.round)
+    (size_at (map m.bytes c.args.grounds.now.disks.items)) c.args.wholes =
+    steady_job m.bytes m.faults c.args.grounds.now c.args.round c.args.failmode c.requires.steady c.args.wholes c.requires.trees
+    c.requires.runs in
+    fits g.N.Node.nodes m.bytes m.faults m.image c.args.grounds.now c.args.round c.args.failmode c.requires.steady c.args.wholes
+    c.requires.runs job c.run_to_end.new.grounds c.in_ok-trees.field-0.trees.items c.in_ok-trees.field-0.ended.items
+    c.in_ok-trees.ensures.count c.in_ok-trees.ensures.ends c.in_ok-finished.finished c.in_ok-finished.ensures.same
+    c.in_ok-finished.ensures.order
 
 pub returns-clause-left : goal.returns-clause-left
 returns-clause-left g c = λ limits.

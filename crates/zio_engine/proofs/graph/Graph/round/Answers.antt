@@ -107,6 +107,9 @@ returns-clause-end g c =
     c.args.job.trees c.in_ok-wholes.wholes c.in_ok-wholes.ensures.same e end seen
     c.args.job.round c.in_ok-finished.ensures.end
 
+pub returns-clause-fits : goal.returns-clause-fits
+returns-clause-fits g c = c.in_ok-finished.ensures.fits
+
 pub returns-clause-stands : goal.returns-clause-stands
 returns-clause-stands g c =
     let m = g.D.Disk in

@@ -8,6 +8,8 @@
 #[cfg(test)]
 mod course;
 #[cfg(test)]
+mod device_calls;
+#[cfg(test)]
 mod failing;
 #[cfg(test)]
 mod forgetful_shelf;

@@ -174,7 +174,8 @@ record AreLaidOn (tops : List TopSize) (levels : ℕ) (path : List ℕ) (n : ℕ
 laid_at_none : (tops : List TopSize) (levels : ℕ) (path : List ℕ) (len : ℕ) → IsLaidOn tops levels path len nowhere
 laid_at_none tops levels path len = record {
   taken = [];
-  laid = laid_nowhere tops levels path len (record { error = nowhere.error; pointer = nowhere.pointer }) [] [] refl refl refl refl;
+  laid = laid_nowhere tops levels path len (record { error = nowhere.error; pointer = nowhere.pointer }) [] []
+      refl refl refl refl;
 }
 
 -- no members are left

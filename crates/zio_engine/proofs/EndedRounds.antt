@@ -123,7 +123,8 @@ module _ {N D : Type 0} (nodes : Nodes N) (bytes faults : D → ℕ) (image : D 
         let a = all_answers {N = N} nodes t (size_at (map bytes g.disks.items)) job.forest before h.now.trees h.now.tops
         (shelf_of {N = N} h.slab) h.over.state entries [] [] h.over.kept h.over.standing_none of_round in
         let lawful : AreLawful (sizes_of g.setting.tops) g.desk.space.live entries =
-        subst (AreLawful (sizes_of g.setting.tops) g.desk.space.live) (sym h.over.entries_are) h.runs.going.lent.desk.desk.lawful in
+        subst (AreLawful (sizes_of g.setting.tops) g.desk.space.live) (sym h.over.entries_are)
+        h.runs.going.lent.desk.desk.lawful in
         subst
         (λ (vs : List Value). AllByRecursion EndsWhole (round_of vs).ended
         × AllByRecursion (AllByRecursion KeepsSpelled) (round_of vs).left)

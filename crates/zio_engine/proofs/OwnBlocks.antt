@@ -80,7 +80,8 @@ member_long : (pointer : Option Bp) → MaySpell pointer → length (member_byte
 member_long None h = refl
 member_long (Some bp) h = length-spelling bp h.types h.ok
 
-members_long : (pointers : List (Option Bp)) → AllByRecursion MaySpell pointers → length (flat_map member_bytes pointers) ≡ POINTER_SIZE * length pointers
+members_long : (pointers : List (Option Bp)) → AllByRecursion MaySpell pointers
+    → length (flat_map member_bytes pointers) ≡ POINTER_SIZE * length pointers
 members_long [] h = refl
 members_long (pointer ∷ pointers) h =
     let first = member_long pointer h.0 in
@@ -92,7 +93,8 @@ content_long : (pointers : List (Option Bp)) (body : Body) → AllByRecursion Ma
 content_long pointers body h =
     let joined : List ℕ = flat_map member_bytes pointers ++ body_of body in
     length-padded joined
-    ∙ ap rounded_up (joined_size joined (flat_map member_bytes pointers) (body_of body) body (length pointers) refl (members_long pointers h) refl)
+    ∙ ap rounded_up (joined_size joined (flat_map member_bytes pointers) (body_of body) body (length pointers) refl
+    (members_long pointers h) refl)
 
 -- ---- a block that was written
 
@@ -132,16 +134,20 @@ module _ (journal : List Choice) (t : Terms) (o : Oracle (Labelled Task) Value) 
   claim_made (Some bp) at n h =
       let x = at_place at n (ReadHeads ByClaim header_levels_max [] bp) in
       let w : Walked = walked (o.answer x) in
-      claimed_made w.errors (record { bp = bp; heads = w.heads }) at (suc n) (claimed_at journal t o is header_levels_max [] bp x.at h)
+      claimed_made w.errors (record { bp = bp; heads = w.heads }) at (suc n)
+      (claimed_at journal t o is header_levels_max [] bp x.at h)
 
-  spelled_valid : (bytes : List ℕ) (pointer : Option Bp) → pointer_of bytes ≡ pointer → IfSome pointer (λ (bp : Bp). IsTrue (valid bp))
+  spelled_valid : (bytes : List ℕ) (pointer : Option Bp) → pointer_of bytes ≡ pointer
+      → IfSome pointer (λ (bp : Bp). IsTrue (valid bp))
   spelled_valid bytes None e = tt
   spelled_valid bytes (Some bp) e = (spelling-pointer bytes bp e).0
 
   -- ---- by the kind of work
 
-  write_made : (attempt : ℕ) (p : Pending) (name : List ℕ) (sum : SumKind) (copies : ℕ) (prio : Prio) (body : Body) (pointers : List (Option Bp)) (at : List ℕ) (n : ℕ)
-      → p.request.work ≡ Write name sum copies prio body → MayMake (length pointers) (record p { kept = [] }) → AllByRecursion MaySpell pointers
+  write_made : (attempt : ℕ) (p : Pending) (name : List ℕ) (sum : SumKind) (copies : ℕ) (prio : Prio) (body : Body)
+      (pointers : List (Option Bp)) (at : List ℕ) (n : ℕ)
+      → p.request.work ≡ Write name sum copies prio body → MayMake (length pointers) (record p { kept = [] })
+      → AllByRecursion MaySpell pointers
       → MakesWhole (heard o (labelled at n (plan_own t attempt p (Write name sum copies prio body) pointers)))
   write_made attempt p name sum copies prio body pointers at n work may spelled =
       let bytes : List ℕ = content_of pointers (body_of body) in
@@ -167,7 +173,8 @@ module _ (journal : List Choice) (t : Terms) (o : Oracle (Labelled Task) Value) 
   free_at (Some tree) at n = none_made _
 
   -- with so many pointers of children
-  pub own_made : (attempt : ℕ) (p : Pending) (work : Work) (pointers : List (Option Bp)) (at : List ℕ) (n : ℕ) → p.request.work ≡ work
+  pub own_made : (attempt : ℕ) (p : Pending) (work : Work) (pointers : List (Option Bp)) (at : List ℕ) (n : ℕ)
+      → p.request.work ≡ work
       → MayMake (length pointers) (record p { kept = [] }) → AllByRecursion MaySpell pointers
       → MakesWhole (heard o (labelled at n (plan_own t attempt p work pointers)))
   own_made attempt p Null pointers at n e may spelled = none_made None

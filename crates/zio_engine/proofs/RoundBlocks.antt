@@ -16,15 +16,14 @@ use Rattle.zio_script.specs.Whys.{size_with}
 use Rattle.zio_cksum.proofs.AllLemmas.{all_append, all_filter, all_map, all_weaker}
 use Rattle.zio_gang.specs.declared.tree.Tree.{Tree}
 use Rattle.zio_gang.specs.Attempts.{Child, Ended, Pending, Return, Terms, all_bits, bits_of, children_of, closed_if, finished_of, has_bits, insert_children, judged_own, now_alone, reexecutions_max, tree_unless}
-use Rattle.zio_gang.specs.ByNumber.{insert_by, insert_if, merge_by}
+use Rattle.zio_gang.specs.ByNumber.{insert_by, insert_if}
 use Rattle.zio_gang.specs.Journals.{AreLawful}
 use Rattle.zio_gang.specs.Rounds.{add_left}
 use Rattle.zio_gang.specs.Trees.{sizes_of}
 use Rattle.zio_trace.specs.Families.{Forest, NoTrees, TreeOf, before}
 use Rattle.zio_trace.specs.Labels.{Labelled, labelled, ways_at}
 use Rattle.zio_trace.specs.Oracles.{IsOracle, Oracle, heard}
-use Rattle.zio_trace.specs.Plans.{Kids, TaskPlan, add_kid, add_settled, bare, one_of, plan, plan_again, plan_kids, plan_left, plan_own, plan_root, plan_settle}
-use Rattle.zio_trace.specs.Programs.{Ends, ◌>>=◌}
+use Rattle.zio_trace.specs.Plans.{Kids, TaskPlan, add_kid, add_settled, bare, one_of, plan_again, plan_kids, plan_left, plan_own, plan_root, plan_settle}
 use Rattle.zio_trace.specs.RoundRules.{task_ways}
 use Rattle.zio_trace.specs.Rounds.{settles}
 use Rattle.zio_trace.specs.Tasks.{Attempt, AttemptedBy, One, OwnGot, Settle, Settled, SettledBy, Task, Value, attempted, settled}
@@ -75,7 +74,8 @@ record SettledWhole (s : Settled) : Type 0 where
 
 -- ---- children at their places
 
-insert_if_long : (b : Bool) (c d : Child) (cs inserted : List Child) → length inserted ≡ suc (length cs) → length (insert_if b c d cs inserted) ≡ suc (suc (length cs))
+insert_if_long : (b : Bool) (c d : Child) (cs inserted : List Child) → length inserted ≡ suc (length cs)
+    → length (insert_if b c d cs inserted) ≡ suc (suc (length cs))
 insert_if_long true c d cs inserted e = refl
 insert_if_long false c d cs inserted e = ap suc e
 
@@ -91,17 +91,21 @@ merged_long (c ∷ new) kept =
     insert_long c (insert_children new kept) ∙ omega arith
 
 module _ (P : Child → Type 0) where
-  insert_if_all : (b : Bool) (c d : Child) (cs inserted : List Child) → P c → AllByRecursion P (d ∷ cs) → AllByRecursion P inserted
+  insert_if_all : (b : Bool) (c d : Child) (cs inserted : List Child) → P c → AllByRecursion P (d ∷ cs)
+      → AllByRecursion P inserted
       → AllByRecursion P (insert_if b c d cs inserted)
   insert_if_all true c d cs inserted own all more = (own, all)
   insert_if_all false c d cs inserted own all more = (all.0, more)
 
-  insert_all : (c : Child) (cs : List Child) → P c → AllByRecursion P cs → AllByRecursion P (insert_by (λ (x : Child). x.number) c cs)
+  insert_all : (c : Child) (cs : List Child) → P c → AllByRecursion P cs
+      → AllByRecursion P (insert_by (λ (x : Child). x.number) c cs)
   insert_all c [] own all = (own, tt)
   insert_all c (d ∷ cs) own all =
-      insert_if_all (nat_le c.number d.number) c d cs (insert_by (λ (x : Child). x.number) c cs) own all (insert_all c cs own all.1)
+      insert_if_all (nat_le c.number d.number) c d cs (insert_by (λ (x : Child). x.number) c cs) own all
+      (insert_all c cs own all.1)
 
-  merged_all : (new kept : List Child) → AllByRecursion P new → AllByRecursion P kept → AllByRecursion P (insert_children new kept)
+  merged_all : (new kept : List Child) → AllByRecursion P new → AllByRecursion P kept
+      → AllByRecursion P (insert_children new kept)
   merged_all [] kept all more = more
   merged_all (c ∷ new) kept all more = insert_all c (insert_children new kept) all.0 (merged_all new kept all.1 more)
 
@@ -127,7 +131,8 @@ none_make : KidsMake NoTrees (record { returns = []; ended = []; again = []; lef
 none_make = record { count = refl; left_count = refl; spelled = tt; whole = tt; left = tt; again = tt }
 
 -- one tree, and those behind it
-kids_make : (p : Pending) (kids others : Forest) (one : One) (k : Kids) → OneMakes one → KidsMake others k → KidsMake (TreeOf p kids others) (add_kid one k)
+kids_make : (p : Pending) (kids others : Forest) (one : One) (k : Kids) → OneMakes one → KidsMake others k
+    → KidsMake (TreeOf p kids others) (add_kid one k)
 kids_make p kids others one k h rest = record {
   count = (let count = rest.count in length-append k.returns (one.return ∷ []) ∙ omega arith);
   left_count =
@@ -149,11 +154,13 @@ first_none a b e =
     let r : rank (worst_error a b) ≡ 0 = ap rank e in
     same_rank a None (omega (arith, rank-worst_error a b))
 
-unless_whole : (error : Option Errno) (tree : Option Tree) → (error ≡ None → IfSome tree IsWholeTree) → IfSome (tree_unless error tree) IsWholeTree
+unless_whole : (error : Option Errno) (tree : Option Tree) → (error ≡ None → IfSome tree IsWholeTree)
+    → IfSome (tree_unless error tree) IsWholeTree
 unless_whole None tree h = h refl
 unless_whole (Some e) tree h = tt
 
-closed_makes : (b : Bool) (p : Pending) (f : Forest) (k : Kids) (own : OwnGot) (bits : Bits) (kept : List Child) → has_bits bits ≡ b → MakesWhole own → KidsMake f k
+closed_makes : (b : Bool) (p : Pending) (f : Forest) (k : Kids) (own : OwnGot) (bits : Bits) (kept : List Child)
+    → has_bits bits ≡ b → MakesWhole own → KidsMake f k
     → MayMake (trees_in k.left) (record p { kept = kept }) → OneMakes (one_of k (closed_if b p (bare own) bits kept))
 closed_makes true p f k own bits kept e makes kids may = record {
   left_count = (let none = finished_if (closed_if true p (bare own) bits kept).return true e in omega arith);
@@ -180,7 +187,8 @@ may_again p kids k may h =
     let new : List Child = children_of (finished_of k.returns) in
     let many : length (insert_children new p.kept) ≡ length (finished_of k.returns) + length p.kept =
     merged_long new p.kept ∙ ap (λ (n : ℕ). n + length p.kept) (length-map (finished_of k.returns) (λ (r : Return). r.child)) in
-    let same : trees_in k.left + length (insert_children new p.kept) ≡ trees_in kids + length p.kept = (let left = h.left_count in omega arith) in
+    let same : trees_in k.left + length (insert_children new p.kept) ≡ trees_in kids + length p.kept =
+    (let left = h.left_count in omega arith) in
     record {
       fits = may.fits;
       some = may.some;
@@ -189,19 +197,23 @@ may_again p kids k may h =
       kept = merged_all (λ (c : Child). MaySpell c.pointer) new p.kept
           (all_map (λ (c : Child). MaySpell c.pointer) (λ (r : Return). r.child) (finished_of k.returns)
           (all_filter (λ (r : Return). MaySpell r.child.pointer) (λ (r : Return). not (has_bits r.bits)) k.returns
-          (all_weaker (λ (r : Return). MaySpell r.child.pointer) (λ (r : Return). not (has_bits r.bits) ≡ true → MaySpell r.child.pointer) k.returns
+          (all_weaker (λ (r : Return). MaySpell r.child.pointer)
+          (λ (r : Return). not (has_bits r.bits) ≡ true → MaySpell r.child.pointer) k.returns
           (λ r spelled going. spelled) h.spelled))) may.kept;
     }
 
 module _ (journal : List Choice) (t : Terms) (o : Oracle (Labelled Task) Value) (is : IsOracle (ways_at (task_ways journal t)) o)
     (have : HavePointers t.setting.tops) (lawful : AreLawful (sizes_of t.setting.tops) t.used journal) where
-  judged_makes : (p : Pending) (kids : Forest) (k : Kids) (own : OwnGot) → MayMake (trees_in kids) p → KidsMake kids k → MakesWhole own
+  judged_makes : (p : Pending) (kids : Forest) (k : Kids) (own : OwnGot) → MayMake (trees_in kids) p → KidsMake kids k
+      → MakesWhole own
       → OneMakes (one_of k (judged_own t p k.returns (bare own)))
   judged_makes p kids k own may h makes =
       let bits : Bits = all_bits (kind_of p.request.work) own.error p.request.canfail t.failmode (bits_of k.returns) in
-      closed_makes (has_bits bits) p kids k own bits (insert_children (children_of (finished_of k.returns)) p.kept) refl makes h (may_again p kids k may h)
+      closed_makes (has_bits bits) p kids k own bits (insert_children (children_of (finished_of k.returns)) p.kept) refl makes h
+      (may_again p kids k may h)
 
-  root_makes : (attempt : ℕ) (p : Pending) (kids : Forest) (k : Kids) (at : List ℕ) (n : ℕ) → MayMake (trees_in kids) p → KidsMake kids k
+  root_makes : (attempt : ℕ) (p : Pending) (kids : Forest) (k : Kids) (at : List ℕ) (n : ℕ) → MayMake (trees_in kids) p
+      → KidsMake kids k
       → OneMakes (attempted (heard o (labelled at n (plan_root t attempt p k))))
   root_makes attempt p kids k at n may h =
       let children : List Child = insert_children (children_of k.returns) p.kept in
@@ -229,7 +241,8 @@ module _ (journal : List Choice) (t : Terms) (o : Oracle (Labelled Task) Value) 
       (sym (map_at o at n work (λ (x : OwnGot). AttemptedBy (one_of k (judged_own t p k.returns (bare x))))))
       (judged_makes p kids k own may h makes)
 
-  kids_at : (attempt : ℕ) (f : Forest) (at : List ℕ) (n : ℕ) → AreMaking f → KidsMake f (heard o (labelled at n (plan_kids attempt f)))
+  kids_at : (attempt : ℕ) (f : Forest) (at : List ℕ) (n : ℕ) → AreMaking f
+      → KidsMake f (heard o (labelled at n (plan_kids attempt f)))
   kids_at attempt NoTrees at n h = none_make
   kids_at attempt (TreeOf p kids others) at n h =
       let x = at_place at n (Attempt attempt p kids) in
@@ -240,7 +253,8 @@ module _ (journal : List Choice) (t : Terms) (o : Oracle (Labelled Task) Value) 
       (root_makes attempt p kids under x.at behind.0 h.0 (kids_at attempt kids x.at 0 h.1)) in
       subst (KidsMake (TreeOf p kids others))
       (sym (map_at o at (suc n) (plan_kids attempt others) (λ (k : Kids). add_kid one k)))
-      (kids_make p kids others one (heard o (labelled at (suc n) (plan_kids attempt others))) makes (kids_at attempt others at (suc n) h.2))
+      (kids_make p kids others one (heard o (labelled at (suc n) (plan_kids attempt others))) makes
+      (kids_at attempt others at (suc n) h.2))
 
   attempt_at : (attempt : ℕ) (p : Pending) (kids : Forest) (at : List ℕ) → MayMake (trees_in kids) p → AreMaking kids
       → OneMakes (attempted (o.answer (record { at = at; op = Attempt attempt p kids })))
@@ -256,8 +270,10 @@ module _ (journal : List Choice) (t : Terms) (o : Oracle (Labelled Task) Value) 
   one_settled : (one : One) → OneMakes one → SettledWhole (record { ended = one.ended; again = one.again; left = one.left })
   one_settled one h = record { whole = h.whole; again = h.again }
 
-  left_at : (one : One) (left : Forest) (at : List ℕ) (n : ℕ) (again : Pending → Forest → TaskPlan Settled) → OneMakes one → AreMaking left
-      → ((q : Pending) (below : Forest) → MayMake (trees_in below) q → AreMaking below → SettledWhole (heard o (labelled at n (again q below))))
+  left_at : (one : One) (left : Forest) (at : List ℕ) (n : ℕ) (again : Pending → Forest → TaskPlan Settled) → OneMakes one
+      → AreMaking left
+      → ((q : Pending) (below : Forest) → MayMake (trees_in below) q → AreMaking below
+      → SettledWhole (heard o (labelled at n (again q below))))
       → SettledWhole (heard o (labelled at n (plan_left one left again)))
   left_at one NoTrees at n again h making goes = one_settled one h
   left_at one (TreeOf q below others) at n again h making goes =
@@ -267,7 +283,8 @@ module _ (journal : List Choice) (t : Terms) (o : Oracle (Labelled Task) Value) 
       (record { whole = all_append EndsWhole one.ended later.ended h.whole whole.whole; again = whole.again })
 
   again_at : (b : Bool) (one : One) (at : List ℕ) (n : ℕ) (again : Pending → Forest → TaskPlan Settled) → OneMakes one
-      → ((q : Pending) (below : Forest) → MayMake (trees_in below) q → AreMaking below → SettledWhole (heard o (labelled at n (again q below))))
+      → ((q : Pending) (below : Forest) → MayMake (trees_in below) q → AreMaking below
+      → SettledWhole (heard o (labelled at n (again q below))))
       → SettledWhole (heard o (labelled at n (plan_again b one again)))
   again_at true one at n again h goes = left_at one one.left at n again h h.left goes
   again_at false one at n again h goes = one_settled one h
@@ -275,7 +292,8 @@ module _ (journal : List Choice) (t : Terms) (o : Oracle (Labelled Task) Value) 
   settle_at : (more attempt : ℕ) (p : Pending) (kids : Forest) (at : List ℕ) (n : ℕ) → MayMake (trees_in kids) p → AreMaking kids
       → SettledWhole (heard o (labelled at n (plan_settle more attempt p kids)))
   settle_at zero attempt p kids at n may h =
-      let x = at_place at n (Attempt attempt p kids) in one_settled (attempted (o.answer x)) (attempt_at attempt p kids x.at may h)
+      let x = at_place at n (Attempt attempt p kids) in one_settled (attempted (o.answer x))
+      (attempt_at attempt p kids x.at may h)
   settle_at (suc more) attempt p kids at n may h =
       let x = at_place at n (Attempt attempt p kids) in
       let one : One = attempted (o.answer x) in
@@ -287,7 +305,8 @@ module _ (journal : List Choice) (t : Terms) (o : Oracle (Labelled Task) Value) 
   abbrev RoundWhole : List Value → Type 0
   RoundWhole vs = AllByRecursion EndsWhole (round_of vs).ended × AllByRecursion (AllByRecursion KeepsSpelled) (round_of vs).left
 
-  left_spelled : (again : List Pending) (left : List (List Pending)) → AllByRecursion KeepsSpelled again → AllByRecursion (AllByRecursion KeepsSpelled) left
+  left_spelled : (again : List Pending) (left : List (List Pending)) → AllByRecursion KeepsSpelled again
+      → AllByRecursion (AllByRecursion KeepsSpelled) left
       → AllByRecursion (AllByRecursion KeepsSpelled) (add_left again left)
   left_spelled [] left h k = k
   left_spelled (p ∷ again) left h k = (h, k)
@@ -303,14 +322,16 @@ module _ (journal : List Choice) (t : Terms) (o : Oracle (Labelled Task) Value) 
       subst (λ (v : Value). SettledWhole (settled v)) (sym value) (settle_at reexecutions_max 0 p kids x.at 0 h.0 h.1) in
       let vs : List Value = heard o (labelled at (suc n) (plan_each (settles others))) in
       let rest : RoundWhole vs = each_at others at (suc n) h.2 in
-      subst RoundWhole (sym (map_at o at (suc n) (plan_each (settles others)) (λ (us : List Value). o.answer x ∷ us)))
-      (all_append EndsWhole (settled (o.answer x)).ended (round_of vs).ended first.whole rest.0,
-      left_spelled (settled (o.answer x)).again (round_of vs).left first.again rest.1)
+      subst RoundWhole (sym (map_at o at (suc n) (plan_each (settles others)) (λ (us : List Value). o.answer x ∷ us))) (
+        all_append EndsWhole (settled (o.answer x)).ended (round_of vs).ended first.whole rest.0,
+        left_spelled (settled (o.answer x)).again (round_of vs).left first.again rest.1,
+      )
 
 -- the blocks are whole, and what is left keeps pointers that bytes spell
 pub round_whole : (journal : List Choice) (t : Terms) (f : Forest) (ds : _) (values : List Value) → HavePointers t.setting.tops
     → AreLawful (sizes_of t.setting.tops) t.used journal → AreMaking f → AreAnswered (task_ways journal t) (settles f) ds values
     → AllByRecursion EndsWhole (round_of values).ended × AllByRecursion (AllByRecursion KeepsSpelled) (round_of values).left
 round_whole journal t f ds values have lawful making h =
-    subst (λ (vs : List Value). AllByRecursion EndsWhole (round_of vs).ended × AllByRecursion (AllByRecursion KeepsSpelled) (round_of vs).left) h.values_are
+    subst (λ (vs : List Value). AllByRecursion EndsWhole (round_of vs).ended × AllByRecursion (AllByRecursion KeepsSpelled)
+    (round_of vs).left) h.values_are
     (each_at journal t h.oracle h.is have lawful f [] 0 making)

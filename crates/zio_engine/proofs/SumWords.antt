@@ -1,6 +1,6 @@
 -- Each word of a checksum fits in 64 bits.
-use Rattle.std.proofs.Common.{◌≡◌, ℕ, zero, suc, ◌+◌, ◌*◌, ◌^◌, ◌<◌, ◌≤◌, ◌%◌, List, [], ◌∷◌, ◌++◌, length, take, drop, get_or, refl, sym, ap, subst, arith}
-use Rattle.std.specs.Int.{bytes_high_first, from_le_bytes, to_be_bytes, w32}
+use Rattle.std.proofs.Common.{◌≡◌, ℕ, zero, suc, ◌+◌, ◌*◌, ◌^◌, ◌<◌, List, [], ◌∷◌, length, take, drop, get_or, refl, arith}
+use Rattle.std.specs.Int.{from_le_bytes, to_be_bytes, w32}
 use Rattle.std.specs.List.{AllByRecursion}
 use Rattle.sha2.specs.Sha256.{digest_bytes, final_hash, initial_hash_256, sha256}
 use Rattle.zio_blkptr.specs.declared.pointer.SumKind.{SumKind}
@@ -29,13 +29,15 @@ digest_small h (suc n) = all_append IsByte (digest_bytes h n) _ (digest_small h 
 
 sha_small : (bytes : List ℕ) (i : ℕ) → get_or (sha256 bytes) i 0 < 2 ^ 8
 unfolding sha256
-sha_small bytes = all_small (digest_bytes (final_hash initial_hash_256 bytes) 8) (digest_small (final_hash initial_hash_256 bytes) 8)
+sha_small bytes = all_small (digest_bytes (final_hash initial_hash_256 bytes) 8)
+    (digest_small (final_hash initial_hash_256 bytes) 8)
 
 -- ---- words
 
 -- eight bytes make a number of 64 bits
 eight_fit : (a b c d e f g h : ℕ) → a < 256 → b < 256 → c < 256 → d < 256 → e < 256 → f < 256 → g < 256 → h < 256
-    → a * 72057594037927936 + b * 281474976710656 + c * 1099511627776 + d * 4294967296 + e * 16777216 + f * 65536 + g * 256 + h < 2 ^ 64
+    → a * 72057594037927936 + b * 281474976710656 + c * 1099511627776 + d * 4294967296 + e * 16777216
+    + f * 65536 + g * 256 + h < 2 ^ 64
 eight_fit a b c d e f g h at_a at_b at_c at_d at_e at_f at_g at_h = omega arith
 
 digest_fit : (digest : List ℕ) → ((i : ℕ) → get_or digest i 0 < 2 ^ 8) → AllFit (digest_words digest)

@@ -70,7 +70,8 @@ told_trees (f ∷ finished) h =
     all_append IsWholeTree (option_to_list f.tree) (made_trees finished) (option_all f.tree h.0) (told_trees finished h.1)
 
 -- in whatever order the requests finished
-pub told_whole : (done ended : List Ended) (finished : List Finished) → IsPermutation done ended → IsPermutation (map finished_of done) finished
+pub told_whole : (done ended : List Ended) (finished : List Finished) → IsPermutation done ended
+    → IsPermutation (map finished_of done) finished
     → AllByRecursion EndsWhole ended → AllByRecursion IsWholeTree (made_trees finished)
 told_whole done ended finished moved told h =
     told_trees finished

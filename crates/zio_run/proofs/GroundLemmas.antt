@@ -38,7 +38,7 @@ lawful_each (top ∷ tops) all =
     (parts.0, lawful_each tops parts.1)
 
 -- images of any sizes
-images_of : List ℕ → Images
+abbrev images_of : List ℕ → Images
 images_of sizes = map (λ n. replicate n 0) sizes
 
 images_sized : (sizes : List ℕ) → map (length {A = ℕ}) (images_of sizes) ≡ sizes

@@ -5,12 +5,12 @@ use Rattle.zio_run.specs.Grounds.{IsSettingOf}
 use Rattle.zio_run.specs.Tops.{IsFirstMissing, leaves_of}
 use Rattle.zio_run.proofs.ground.run_on_disks.Goals as goal
 
-pub run_by_picks-in-Some-requires-clause-setting : goal.run_by_picks-in-Some-requires-clause-setting
-run_by_picks-in-Some-requires-clause-setting g c =
+pub run_by_picks-requires-clause-setting : goal.run_by_picks-requires-clause-setting
+run_by_picks-requires-clause-setting g c =
     subst (λ ds. IsSettingOf c.args.script.now (map g.D.Disk.bytes ds) c.in-Ok.setting) c.as_slice.ensures.value c.in-Ok.ensures.setting
 
-pub run_by_picks-in-None-requires-clause-setting : goal.run_by_picks-in-None-requires-clause-setting
-run_by_picks-in-None-requires-clause-setting g c =
+pub run_by_picks-requires-in-None-clause-setting : goal.run_by_picks-requires-in-None-clause-setting
+run_by_picks-requires-in-None-clause-setting g c =
     subst (λ ds. IsSettingOf c.args.script.now (map g.D.Disk.bytes ds) c.in-Ok.setting) c.as_slice.ensures.value c.in-Ok.ensures.setting
 
 pub returns-in-Err-Leaf-clause-outcome : goal.returns-in-Err-Leaf-clause-outcome

@@ -1,4 +1,4 @@
-//! How many calls of a disk a run makes, whatever the order of its work.
+//! What the order of the work changes and what it does not: the order of completions, and how many calls of a disk a run makes.
 
 use crate::runs::{Case, Ran, STEADY, run};
 use std::alloc::Global;
@@ -78,5 +78,38 @@ fn a_fault_hits_one_member_of_a_group(rt: HostRuntime) -> Result<(), Fail> {
         let ran = run_words(alloc, &["run", "--picks", seed, "a"], head)?;
         check(&rt, &ran, 8, Some(121))?;
     }
+    Ok(())
+}
+
+/// The report of two writes in a batch, with the journal, by these picks.
+fn two_writes(alloc: Global, seed: &str) -> Result<Ran, Fail> {
+    let case = Case {
+        words: &["run", "--journal", "--picks", seed, "a"],
+        script: b"top 0\n1 write x off 1 sync fill 41 512\n2 write y off 1 sync fill 42 512\ngo\n",
+        first_len: 65536,
+        second_len: 0,
+    };
+    run(alloc, &case, &STEADY)
+}
+
+/// Some seeds have the second of two writes done first. A seed gives the same report each time.
+#[test]
+fn a_seed_chooses_the_order(rt: HostRuntime) -> Result<(), Fail> {
+    let alloc = rt.alloc();
+    let (mut forward, mut backward) = (0u32, 0u32);
+    for seed in SEEDS {
+        let ran = two_writes(alloc, seed)?;
+        assert_eq!(rt; ran.code, 0);
+        let held = ran.sink.held();
+        assert_eq!(rt; held, two_writes(alloc, seed)?.sink.held());
+        if held.ends_with(b"\norder 1 2\nend 0\n") {
+            forward = forward.saturating_add(1);
+        }
+        if held.ends_with(b"\norder 2 1\nend 0\n") {
+            backward = backward.saturating_add(1);
+        }
+    }
+    assert_eq!(rt; forward.saturating_add(backward), 21);
+    assert!(rt; forward > 0 && backward > 0, "each order comes");
     Ok(())
 }

@@ -6,18 +6,21 @@ use std::process::Abort;
 use std::test::Fail;
 
 /// Claims the sectors 0 to 119 of 128, and then writes eight blocks of a sector in one batch.
-const EIGHT_WRITES: &str = "1 claim f 2800000000000000000000000000000028000000000000002800000000000000280000000000000050000000000000002700270002020080000000000000000000000000000000000000000000000000010000000000000001000000000000000000000000000000000000000000000000000000000000000000000000000000\ngo\n\
+const EIGHT_WRITES: &str =
+    "1 claim f 2800000000000000000000000000000028000000000000002800000000000000280000000000000050000000000000002700270002020080000000000000000000000000000000000000000000000000010000000000000001000000000000000000000000000000000000000000000000000000000000000000000000000000\ngo\n\
     2 write w1 off 1 async fill 41 512\n3 write w2 off 1 async fill 41 512\n4 write w3 off 1 async fill 41 512\n\
     5 write w4 off 1 async fill 41 512\n6 write w5 off 1 async fill 41 512\n7 write w6 off 1 async fill 41 512\n\
     8 write w7 off 1 async fill 41 512\n9 write w8 off 1 async fill 41 512\ngo\n";
 
-const ALL_DONE: &[u8] = b"pool 1 1\nround 1 batch 1 point 0\n1 claim f ok\nround 2 batch 2 point 0\n2 write w1 ok 512\n\
+const ALL_DONE: &[u8] =
+    b"pool 1 1\nround 1 batch 1 point 0\n1 claim f ok\nround 2 batch 2 point 0\n2 write w1 ok 512\n\
     3 write w2 ok 512\n4 write w3 ok 512\n5 write w4 ok 512\n6 write w5 ok 512\n7 write w6 ok 512\n8 write w7 ok 512\n\
     9 write w8 ok 512\nend 0\n";
 
 /// The picks of these seeds are tried beside the first of all.
 const SEEDS: [&str; 21] = [
-    "0", "1", "2", "3", "4", "5", "6", "7", "8", "9", "10", "11", "12", "13", "14", "15", "16", "17", "18", "19", "20",
+    "0", "1", "2", "3", "4", "5", "6", "7", "8", "9", "10", "11", "12", "13", "14", "15", "16",
+    "17", "18", "19", "20",
 ];
 
 /// Runs the script behind this head over one image of 64 KiB.

@@ -8,13 +8,13 @@
 #[cfg(test)]
 mod course;
 #[cfg(test)]
-mod device_calls;
-#[cfg(test)]
 mod failing;
 #[cfg(test)]
 mod forgetful_shelf;
 #[cfg(test)]
 mod images;
+#[cfg(test)]
+mod orders;
 #[cfg(test)]
 mod reports;
 #[cfg(test)]

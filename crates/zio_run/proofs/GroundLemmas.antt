@@ -1,5 +1,5 @@
 -- The setting of a script's run over disks of lawful sizes, and how the run came out.
-use Rattle.std.proofs.Common.{◌≡◌, ◌≤◌, ◌^◌, ℕ, List, [], ◌∷◌, true, Result, Ok, Err, inl, length, map, refl, replicate, sym, subst, arith, IsTrue, MatchResult}
+use Rattle.std.proofs.Common.{◌≡◌, ◌≤◌, ◌^◌, ℕ, List, [], ◌∷◌, true, Result, Ok, Err, inl, length, map, refl, replicate, sym, ap, ◌∙◌, subst, arith, IsTrue, MatchResult}
 use Rattle.std.proofs.lemmas.Bool.{and_parts}
 use Rattle.std.proofs.lemmas.List.{length-replicate}
 use Rattle.std.specs.List.{AllByRecursion, list_all}
@@ -44,9 +44,7 @@ images_of sizes = map (λ n. replicate n 0) sizes
 images_sized : (sizes : List ℕ) → map (length {A = ℕ}) (images_of sizes) ≡ sizes
 images_sized [] = refl
 images_sized (size ∷ sizes) =
-    let first : length (replicate size 0) ≡ size = length-replicate size 0 in
-    let rest : map (length {A = ℕ}) (images_of sizes) ≡ sizes = images_sized sizes in
-    cc
+    ap (λ (n : ℕ). n ∷ map (length {A = ℕ}) (images_of sizes)) (length-replicate size 0) ∙ ap (λ (ns : List ℕ). size ∷ ns) (images_sized sizes)
 
 -- tops over disks of lawful sizes have few sectors, there are few of them, and no leaf stands twice
 pub setting_of : (script : Script) (sizes : List ℕ) (tops : List Top) (rows : List Row) (point : ℕ) → IsLawfulPool script

@@ -1,5 +1,5 @@
 -- The leaves of an accepted script's tops: one to four each, and none twice.
-use Rattle.std.proofs.Common.{◌≡◌, ◌≢◌, ◌≤◌, ℕ, List, [], ◌∷◌, ◌++◌, length, Bool, true, false, ◌||◌, ◌==◌, cond, Option, Some, None, option_map, codes, refl, sym, arith, ◌∙◌, IfSome, nat_le}
+use Rattle.std.proofs.Common.{◌≡◌, ◌≢◌, ◌≤◌, ℕ, List, [], ◌∷◌, ◌++◌, length, Bool, true, false, ◌||◌, ◌==◌, cond, Option, Some, None, option_map, codes, refl, arith, IfSome, nat_le}
 use Rattle.std.proofs.lemmas.Bool.{and_parts, eqb-false, leb-true}
 use Rattle.std.specs.Bool.{then_some}
 use Rattle.std.specs.List.{AllByRecursion, list_all}
@@ -9,10 +9,9 @@ use Rattle.zio_types.specs.declared.request.Kind.TheVariants.{Null as NullKind, 
 use Rattle.zio_cksum.proofs.AllLemmas.{all_append, all_weaker}
 use Rattle.zio_script.specs.declared.limits.TheConstants.{LEAF_MAX, TOP_LEAVES_MAX}
 use Rattle.zio_script.specs.declared.script.Failmode.{Failmode}
-use Rattle.zio_script.specs.Lines.{◌>>=◌, BodyFound, Shape, FailmodeShape, TopShape, FaultShape, RequestShape, GoShape, ClearShape, ScriptLine, FailmodeLine, LeavesLine, FaultLine, RequestLine, GoLine, ClearLine, Tail, TopWords, body_found, clear_shape, failmode_shape, fault_shape, first_of_end, go_shape, has_leaves, kind_shape, line_of, named_shape, new_request_of, numbers, request_shape, row_of, sector_number, shape_of, tail_of, top_of, top_shape, top_words}
+use Rattle.zio_script.specs.Lines.{◌>>=◌, Shape, FailmodeShape, TopShape, FaultShape, RequestShape, GoShape, ClearShape, ScriptLine, FailmodeLine, LeavesLine, FaultLine, RequestLine, GoLine, ClearLine, TopWords, body_found, clear_shape, failmode_shape, fault_shape, first_of_end, go_shape, has_leaves, kind_shape, line_of, named_shape, new_request_of, numbers, request_shape, row_of, sector_number, shape_of, tail_of, top_shape, top_words}
 use Rattle.zio_script.specs.Whys.{is_among, is_leaf, repeats_leaf}
 use Rattle.zio_script.specs.Words.{Word, fault_words, is_word, kind_words, number, operation_words, read_classes, sum_words, value_in, write_classes}
-use Rattle.zio_trace.specs.TreeOrders.{Pairs}
 use Rattle.zio_run.specs.Tops.{AllDiffer}
 
 -- ---- shapes

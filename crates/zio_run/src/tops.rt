@@ -1,6 +1,6 @@
 //! The tops of a script over images of known sizes.
 
-ghost use Rattle.std.specs.Prelude.{◌≡◌, ◌<◌, ◌≤◌, ◌*◌, ◌/◌, ◌^◌, ℕ, true, IfOk, IsErrOf, MatchOption, OnOk, length, map, slice_index_or};
+ghost use Rattle.std.specs.Prelude.{◌≡◌, ◌<◌, ◌≤◌, ◌*◌, ◌/◌, ℕ, true, IfOk, IsErrOf, MatchOption, OnOk, length, map, slice_index_or};
 ghost use Rattle.std.specs.List.{AllByRecursion, list_all};
 ghost use Rattle.zio_types.specs.Places.{is_lawful_top, is_unit, sector_size};
 ghost use Rattle.zio_cksum.specs.Images.{Images};

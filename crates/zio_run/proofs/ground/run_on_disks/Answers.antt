@@ -1,4 +1,4 @@
-use Rattle.std.proofs.Common.{◌≡◌, Err, inr, length, map, refl, ap, subst}
+use Rattle.std.proofs.Common.{Err, inr, length, map, refl, ap, subst}
 use Rattle.zio_disks.proofs.DiskLemmas.{same_itself}
 use Rattle.zio_run.specs.declared.tops.TopsFault.{TopsFault}
 use Rattle.zio_run.specs.Grounds.{IsSettingOf}

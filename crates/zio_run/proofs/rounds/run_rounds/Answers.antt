@@ -1,4 +1,4 @@
-use Rattle.std.proofs.Common.{◌≡◌, length, sym, subst}
+use Rattle.std.proofs.Common.{◌≡◌, sym, subst}
 use Rattle.std.specs.Prelude.{IfErr, IfOk}
 use Rattle.zio_cksum.specs.Images.{Images}
 use Rattle.zio_disks.specs.Disks.{AreSameDisks, Tell}

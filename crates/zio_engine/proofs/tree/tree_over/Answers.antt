@@ -11,7 +11,7 @@ pub invariant_of-result : goal.invariant_of-result
 invariant_of-result c =
     new_tree c.args.request.now c.args.birth c.args.block c.in_ok-wholes.wholes c.in-Ok.whole
     (subst (λ (trees : List (List Pending)). IsNewTree c.args.request.now c.args.birth c.args.block trees) (sym c.in_ok-wholes.ensures.same) c.requires.whole)
-    c.in_ok-wholes.ensures.each c.requires.fits c.block_has_three_places.ensures c.ranges.birth c.in-Ok.ensures.tree
+    c.in_ok-wholes.ensures.each c.requires.fits c.block_has_three_places.ensures c.ranges.birth.fits c.in-Ok.ensures.tree
 
 pub returns-in-Ok : goal.returns-in-Ok
 returns-in-Ok c =

@@ -1,4 +1,4 @@
-use Rattle.std.proofs.Common.{◌≡◌, ap, ◌∙◌, subst}
+use Rattle.std.proofs.Common.{ap, ◌∙◌, subst}
 use Rattle.zio_disks.specs.Disks.{Tell}
 use Rattle.zio_plain.specs.Plains.{SeenPlain}
 use Rattle.zio_run.proofs.RoundsLemmas.{told_sizes}

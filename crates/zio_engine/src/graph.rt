@@ -33,7 +33,7 @@ use zio_disks::Setting;
 use zio_gang::Tree;
 use zio_graph::{DisksBack, Grounds};
 use zio_line::Picks;
-use zio_nodes::Node;
+use zio_nodes::NodeBox;
 use zio_outside::Disk;
 use zio_script::Request;
 use zio_types::{List, NoMemory, Top};
@@ -149,7 +149,13 @@ impl<D: Disk + Drop, P: Picks + Drop> Graph<D, P> {
             left,
             completions,
             entries,
-        } = run_wholes::<Node, D, P>(&mut self.grounds, &mut self.picks, round, failmode, wholes)?;
+        } = run_wholes::<NodeBox, D, P>(
+            &mut self.grounds,
+            &mut self.picks,
+            round,
+            failmode,
+            wholes,
+        )?;
         let rests = trees_of(alloc, left)?;
         self.stopped = false;
         Ok(RoundEnd {

@@ -11,7 +11,6 @@ use Rattle.zio_frames.specs.Frames.{Child}
 use Rattle.zio_stages.specs.NodeChildren.{first_owing, is_awaited, is_owing}
 use Rattle.zio_stages.specs.HeadsNodes.{walk_kids_max}
 use Rattle.zio_graph.specs.Entries.{count_owing, owing}
-use Rattle.zio_graph.specs.Stages.{told_cost}
 use Rattle.zio_nodes.specs.Bounds.{copies_max, kid_share, walk_max}
 
 -- ---- a child that is missing counts
@@ -63,11 +62,11 @@ kid_below (suc levels) below e =
     omega (arith, ap walk_max is)
 
 -- one child more is one share less
-pub walk_grows : (old new many more child stages : ℕ) → new ≡ old → more ≡ many + 1 → more ≤ walk_kids_max → child + 1 ≤ kid_share old → stages ≡ told_cost + 8
-    → kid_share new * (walk_kids_max - more) + (told_cost + 8) + child < kid_share old * (walk_kids_max - many) + stages
-walk_grows old new many more child stages same one few least at =
+pub walk_grows : (old new many more child stages : ℕ) → new ≡ old → more ≡ many + 1 → more ≤ walk_kids_max → child + 1 ≤ kid_share old
+    → kid_share new * (walk_kids_max - more) + stages + child < kid_share old * (walk_kids_max - many) + stages
+walk_grows old new many more child stages same one few least =
     let m : ℕ = walk_kids_max - more in
     let left : walk_kids_max - many ≡ suc m = omega (arith, one, few) in
     let share : kid_share new * m ≡ kid_share old * m = ap (λ (l : ℕ). kid_share l * m) same in
     let whole : kid_share old * (walk_kids_max - many) ≡ kid_share old * m + kid_share old = ap (λ (k : ℕ). kid_share old * k) left ∙ mul-suc (kid_share old) m in
-    omega (arith, share, whole, least, at)
+    omega (arith, share, whole, least)

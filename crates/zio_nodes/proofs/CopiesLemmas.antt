@@ -27,14 +27,18 @@ use Rattle.zio_stages.proofs.CopiesNodeLemmas.{own_frame}
 use Rattle.zio_stages.proofs.OutPlaces.{read_asks}
 use Rattle.zio_graph.specs.Parts.{ended_in_slot}
 use Rattle.zio_graph.specs.Stages.{Ends, GoesOn, Hears}
+use Rattle.zio_masks.specs.Stages.{IsNext}
+use Rattle.zio_masks.specs.declared.pipeline.TheConstants.{READ}
 use Rattle.zio_masks.specs.declared.stage.Stage.{Stage}
 use Rattle.zio_masks.specs.declared.stage.Stage.TheVariants.{ChecksumVerify, Done, ReadBpInit, Ready, Start, VdevIoAssess, VdevIoDone, VdevIoStart}
 use Rattle.zio_nodes.specs.CopiesAts.{IsAnswerIn, IsCopiesAt, ReadStands}
 use Rattle.zio_nodes.specs.Nodes.{gave_of, nodes}
+use Rattle.zio_nodes.specs.StageMoves.{IsNextOf, takes_stage}
 use Rattle.zio_nodes.specs.Told.{is_told}
 use Rattle.zio_nodes.specs.declared.copies_at.CopiesAt.{CopiesAt}
 use Rattle.zio_nodes.specs.declared.node.Node.{Node}
 use Rattle.zio_nodes.specs.declared.node.Node.TheVariants.{Copies}
+use Rattle.zio_nodes.proofs.StageLeads.{next_of}
 
 -- ---- its children
 
@@ -206,6 +210,10 @@ copies_go t st at after read answers told = record {
   told = told;
   gave_more = refl;
 }
+
+-- its next stage is the next of a read
+pub copies_lead : (at : CopiesAt) (stage next : Stage) → at.stage ≡ stage → IsNext READ stage next → IsNextOf (takes_stage (Copies at)) at.stage next
+copies_lead at stage next stands h = next_of READ (takes_stage (Copies at)) at.stage stage next stands (λ s lt. refl) h
 
 -- what one that hears may be at: not where its read is due
 pub heard_stands : (tops : List Top) (stage : Stage) (due : Bool) (old new : ReadIo) → ReadStands tops stage due old → (IsReadDue tops old → ⊥)

@@ -22,7 +22,7 @@ use Rattle.zio_graph.specs.Stages.{AreItsOwn, may_free}
 use Rattle.zio_nodes.specs.Nodes.{IsNode, gave_of}
 use Rattle.zio_nodes.specs.RequestAts.{freed_so_far, gave_by}
 use Rattle.zio_nodes.specs.declared.node.Node.{Node}
-use Rattle.zio_nodes.specs.declared.node.Node.TheVariants.{Copies, Heads, Leaf, Part, Request, Tree as Root}
+use Rattle.zio_nodes.specs.declared.node.Node.TheVariants.{Copies, Heads, Leaf, Part, Request, Tree as Root, Empty}
 use Rattle.zio_nodes.proofs.StoredLemmas.{block_held}
 
 -- the first of some places are among them
@@ -95,3 +95,4 @@ gives_own t (Copies at) st h = tt
 gives_own t (Heads at) st h = tt
 gives_own t (Part at) st h = tt
 gives_own t (Root at) st h = tt
+gives_own t Empty st h = absurd h

@@ -29,14 +29,19 @@ use Rattle.zio_stages.proofs.HeadsNodeLemmas.{Sits, SitsUntold, sits, sits_untol
 use Rattle.zio_stages.proofs.ToldLemmas.{IsOutNone, none_since}
 use Rattle.zio_graph.specs.Parts.{ended_in_slot}
 use Rattle.zio_graph.specs.Stages.{Ends, GoesOn, Grows, Hears, HearsSome, HearsSomeEarly, Tells}
+use Rattle.zio_masks.specs.Stages.{IsNext, has}
+use Rattle.zio_masks.specs.declared.pipeline.Pipeline.{Pipeline}
 use Rattle.zio_masks.specs.declared.stage.Stage.{Stage}
 use Rattle.zio_masks.specs.declared.stage.Stage.TheVariants.{Done, GangAssemble, GangIssue, Ready, Start}
 use Rattle.zio_nodes.specs.HeadsAts.{WalkStands}
 use Rattle.zio_nodes.specs.Nodes.{IsNode, gave_of, nodes, told_of}
+use Rattle.zio_nodes.specs.StageMoves.{IsNextOf, takes_stage}
 use Rattle.zio_nodes.specs.Told.{is_told}
 use Rattle.zio_nodes.specs.declared.heads_at.HeadsAt.{HeadsAt}
 use Rattle.zio_nodes.specs.declared.node.Node.{Node}
 use Rattle.zio_nodes.specs.declared.node.Node.TheVariants.{Heads}
+use Rattle.zio_nodes.proofs.StageLeads.{next_of}
+use Rattle.zio_nodes.proofs.StageLemmas.{is_walked}
 
 -- ---- what it hears
 
@@ -264,6 +269,11 @@ walk_goes t st at after is told = record {
   told = told;
   gave_more = refl;
 }
+
+-- its next stage is the next of a mask with the gang stages
+pub walk_leads : (at : HeadsAt) (mask : Pipeline) (stage next : Stage) → at.stage ≡ stage → ((s : Stage) → has mask s ≡ is_walked s) → IsNext mask stage next
+    → IsNextOf (takes_stage (Heads at)) at.stage next
+walk_leads at mask stage next stands same h = next_of mask (takes_stage (Heads at)) at.stage stage next stands (λ s lt. same s) h
 
 -- what is next is handed to a child of which nothing is done
 pub walk_grows_by : (t : Terms) (st : Stack) (at after : HeadsAt) (child : Node) (IsChild : Task → Type 0) → HandsTo t Gang IsChild (IsHeadsNode t after.node) st

@@ -1,11 +1,12 @@
 -- An operation on a leaf as a node: how far it is, and its end.
-use Rattle.std.proofs.Common.{◌≡◌, ℕ, List, [], ◌∷◌, ◌++◌, Option, Some, None, Ok, slice_get, take, refl, sym, ap, subst, ◌∙◌}
+use Rattle.std.proofs.Common.{◌≡◌, ◌≤◌, ℕ, arith, true, false, List, [], ◌∷◌, ◌++◌, Bool, Option, Some, None, Ok, slice_get, take, refl, sym, ap, subst, ◌∙◌}
 use Rattle.std.specs.List.{flat_map}
 use Rattle.std.specs.Prelude.{IsPermutation}
 use Rattle.std.proofs.lemmas.List.Sorted.{IsPermutation-refl}
 use Rattle.zio_types.specs.declared.error.Errno.{Errno}
 use Rattle.zio_types.specs.declared.place.Place.{Place}
-use Rattle.zio_masks.specs.declared.stage.Stage.TheVariants.{Done}
+use Rattle.zio_masks.specs.declared.stage.Stage.{Stage}
+use Rattle.zio_masks.specs.declared.stage.Stage.TheVariants.{Done, VdevIoAssess, VdevIoDone, VdevIoStart}
 use Rattle.zio_gang.specs.Attempts.{Terms}
 use Rattle.zio_trace.specs.Leaves.{Answer, Fetch, LeafOp, Store}
 use Rattle.zio_trace.specs.Plans.{plan}
@@ -23,7 +24,8 @@ use Rattle.zio_stages.specs.declared.leaf.Stage.TheVariants.{Answered, Due, Out}
 use Rattle.zio_stages.specs.declared.outcome.Outcome.TheVariants.{Found}
 use Rattle.zio_graph.specs.Parts.{ended_in_slot}
 use Rattle.zio_graph.specs.Stages.{Ends, ShowsAnswer}
-use Rattle.zio_nodes.specs.LeafAts.{IsLeafAt}
+use Rattle.zio_nodes.specs.Bounds.{leaf_left}
+use Rattle.zio_nodes.specs.LeafAts.{IsAskedOrDue, IsLeafAt, LeafStands}
 use Rattle.zio_nodes.specs.Nodes.{gave_of, nodes}
 use Rattle.zio_nodes.specs.Told.{is_told}
 use Rattle.zio_nodes.specs.declared.leaf_at.LeafAt.{LeafAt}
@@ -65,6 +67,19 @@ leaf_heard t at st h done = answered_from at.work.stage at.work h.part.bytes h.p
 -- a node that has its leaf's answer isn't fresh
 pub leaf_not_fresh : (t : Terms) (at : LeafAt) (act : LeafOp) → IsLeafAt t at (fresh_stack (OnLeaf act)) → IsAnswered at.work → ⊥
 leaf_not_fresh t at act h done = let heard = leaf_heard t at (fresh_stack (OnLeaf act)) h done in let no : [] ≡ Heard (Got heard.answer) ∷ [] = heard.slots in cc
+
+unanswered_stands : (stage : Stage) (is_out : Bool) (work : LeafWork) → LeafStands stage is_out work → (IsAnswered work → ⊥)
+    → (stage ≡ VdevIoStart) × IsAskedOrDue is_out work
+unanswered_stands VdevIoStart is_out work h none = (refl, h)
+unanswered_stands VdevIoDone is_out work h none = absurd (none h)
+unanswered_stands VdevIoAssess is_out work h none = absurd (none h)
+unanswered_stands Done is_out work h none = absurd (none h)
+unanswered_stands stage is_out work h none = absurd h
+
+-- so one of which nothing is heard goes to its leaf, or its leaf has it
+pub unheard_stands : (t : Terms) (at : LeafAt) (act : LeafOp) → IsLeafAt t at (fresh_stack (OnLeaf act))
+    → (at.stage ≡ VdevIoStart) × IsAskedOrDue at.is_out at.work
+unheard_stands t at act h = unanswered_stands at.stage at.is_out at.work h.stands (leaf_not_fresh t at act h)
 
 left_heard : (t : Terms) (x : Frame) (act : LeafOp) (a : Answer) → x.op ≡ OnLeaf act → x.slots ≡ Heard (Got a) ∷ [] → left_of t x ≡ EndsWith (Got a)
 left_heard t x act a op slots =
@@ -118,3 +133,14 @@ none_there n c e = cc
 
 pub no_child : (t : Terms) (at : LeafAt) (st : Stack) (n : ℕ) (c : Child) → IsLeafAt t at st → slice_get st.children n ≡ Some c → ⊥
 no_child t at st n c h there = let P : List Child → Type 0 = λ cs. slice_get cs n ≡ Some c in none_there n c (subst P h.childless there)
+
+-- ---- how often it runs
+
+out_least : (is_out : Bool) → leaf_left VdevIoDone false ≤ leaf_left VdevIoStart is_out
+out_least true = omega arith
+out_least false = omega arith
+
+-- its answer makes up for nothing, and costs nothing
+pub answered_left : (stage next : Stage) (is_out : Bool) → stage ≡ VdevIoStart → next ≡ VdevIoDone → leaf_left next false ≤ leaf_left stage is_out
+answered_left stage next is_out from to =
+    omega (arith, ap (λ (s : Stage). leaf_left s false) to, ap (λ (s : Stage). leaf_left s is_out) from, out_least is_out)

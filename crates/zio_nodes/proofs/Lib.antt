@@ -1,6 +1,7 @@
 pub mod AttemptHears
 pub mod BodyCounts
 pub mod BoundLemmas
+pub mod Boxes
 pub mod ClaimLemmas
 pub mod CopiesLemmas
 pub mod FirstStages
@@ -31,14 +32,18 @@ pub mod ReadHeard
 pub mod ReadIos
 pub mod ReadLemmas
 pub mod ReadStages
+pub mod Refused
 pub mod RequestBoundLemmas
 pub mod RequestEndings
 pub mod RequestMoves
 pub mod RequestStill
+pub mod Settles
+pub mod StageLeads
 pub mod StageLemmas
 pub mod StartLemmas
 pub mod StoredLemmas
 pub mod TreeAtLemmas
+pub mod WriteEnds
 pub mod WriteHears
 pub mod WriteLemmas
 pub mod WriteMoves

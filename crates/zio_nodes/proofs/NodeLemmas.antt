@@ -1,14 +1,15 @@
 -- Stages of a node that ask nothing of the space.
 use Rattle.std.proofs.Common.{◌≡◌, List, [], Result, Ok, Err, sym, subst}
-use Rattle.std.specs.Prelude.{IfErr, IfOk}
+use Rattle.std.specs.Prelude.{IfErr, IfOk, OnErr}
 use Rattle.zio_types.specs.declared.place.Top.{Top}
 use Rattle.zio_gang.specs.Attempts.{Terms}
 use Rattle.zio_frames.specs.Frames.{Stack}
 use Rattle.zio_graph.specs.Stages.{GoesOn, IsMove, IsNow}
 use Rattle.zio_graph.specs.declared.staged.Move.{Move}
 use Rattle.zio_stages.specs.SpaceCalls.{SpaceCall}
-use Rattle.zio_nodes.specs.Nodes.{MovesBare, MovesWith, StaysBare, StaysWith, gave_of, nodes}
+use Rattle.zio_nodes.specs.Nodes.{MovesBare, MovesWith, StaysBare, StaysWith, gave_of, moved, nodes}
 use Rattle.zio_nodes.specs.declared.node.Node.{Node}
+use Rattle.zio_nodes.specs.declared.turn.Turn.{Turn}
 
 pub moved_bare : (tops lent : List Top) (self node : Node) (r : Result (Move Node) Node) (move : Move Node) → self ≡ node → lent ≡ tops → r ≡ Ok move
     → IfOk r (MovesBare lent node) → (t : Terms) (st : Stack) → IsNow {N = Node} nodes tops t self st → IsMove {N = Node} nodes gave_of t self st [] move
@@ -63,3 +64,16 @@ pub bare_move : {S : Type 0} (made : S → List SpaceCall → S → Type 0) (top
     → MovesBare lent node move → MovesWith made tops a a node move
 bare_move made tops lent a node move same none h =
     record { calls = []; were_made = none; moves = subst (λ (ts : List Top). MovesBare ts node move) same h }
+
+-- ---- in its place
+
+pub turn_moves : {S E : Type 0} (made : S → List SpaceCall → S → Type 0) (tops lent : List Top) (a : S) (node after : Node) (r : Result Turn E) → lent ≡ tops → made a [] a
+    → IfOk r (λ turn. MovesBare lent node (moved after turn)) → IfOk r (λ turn. MovesWith made tops a a node (moved after turn))
+turn_moves made tops lent a node after (Ok turn) same none h = bare_move made tops lent a node (moved after turn) same none h
+turn_moves made tops lent a node after (Err e) same none h = tt
+
+pub turn_stays : {S E : Type 0} (made : S → List SpaceCall → S → Type 0) (tops lent : List Top) (a : S) (node after : Node) (r : Result Turn E) → lent ≡ tops → made a [] a
+    → OnErr r (StaysBare lent node after) → OnErr r (StaysWith made tops a a node after)
+turn_stays made tops lent a node after (Ok turn) same none h = tt
+turn_stays made tops lent a node after (Err e) same none h =
+    record { calls = []; were_made = none; goes = subst (λ (ts : List Top). StaysBare ts node after) same h }

@@ -8,7 +8,7 @@ use Rattle.zio_types.specs.declared.place.Top.{Top}
 use Rattle.zio_types.specs.declared.error.Errno.{Errno}
 use Rattle.zio_types.specs.declared.request.Kind.TheVariants.{Null as NullKind}
 use Rattle.zio_masks.specs.declared.stage.Stage.{Stage}
-use Rattle.zio_masks.specs.declared.stage.Stage.TheVariants.{Done, Ready}
+use Rattle.zio_masks.specs.declared.stage.Stage.TheVariants.{Done, Ready, Start}
 use Rattle.zio_script.specs.Requests.{kind_of}
 use Rattle.zio_script.specs.declared.script.Work.{Work}
 use Rattle.zio_script.specs.declared.script.Work.TheVariants.{Null, Read, Write, Free, Claim}
@@ -132,6 +132,19 @@ null_done_due tops stage due r kind is h =
     let at : StandsAt Null tops Done due r =
     subst (λ (w : Work). StandsAt w tops Done due r) (null_work r.waiting.request.work kind) (subst (λ (s : Stage). StandsAt r.waiting.request.work tops s due r) is h.own) in
     at
+
+at_ready : (tops : List Top) (stage : Stage) (due : Bool) (r : RequestNode) → (stage ≡ Start → ⊥) → (stage ≡ Done → ⊥)
+    → StandsAt Null tops stage due r → stage ≡ Ready
+at_ready tops Start due r behind before h = absurd (behind refl)
+at_ready tops Ready due r behind before h = refl
+at_ready tops Done due r behind before h = absurd (before refl)
+at_ready tops stage due r behind before h = absurd h
+
+-- between Start and Done it stands at Ready
+pub null_is_ready : (tops : List Top) (stage : Stage) (due : Bool) (r : RequestNode) → kind_of r.waiting.request.work ≡ NullKind → (stage ≡ Start → ⊥)
+    → (stage ≡ Done → ⊥) → RequestStands tops stage due r → stage ≡ Ready
+null_is_ready tops stage due r kind behind before h =
+    at_ready tops stage due r behind before (subst (λ (w : Work). StandsAt w tops stage due r) (null_work r.waiting.request.work kind) h.own)
 
 -- from Ready to Done
 pub null_goes : (tops : List Top) (stage next : Stage) (due : Bool) (r : RequestNode) → kind_of r.waiting.request.work ≡ NullKind → stage ≡ Ready → next ≡ Done

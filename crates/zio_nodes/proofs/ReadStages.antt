@@ -256,9 +256,3 @@ ended_pays own stage due is = omega (arith, ap (λ s. read_stages s due) is)
 
 pub any_read : (P : OwnRead → Type 0) (own : Own) → IsReadWith P own → IsReadWith (λ w. Unit {0}) own
 any_read P own h = with_map P (λ w. Unit {0}) own (λ w p. tt) h
-
-pub start_stage_less : (old new : Own) (was : Stage) (due : Bool) (n : ℕ) → reading_left new + n ≤ reading_left old → was ≡ VdevIoStart → due ≡ true
-    → reading_left new + read_stages VdevIoStart true + n ≤ reading_left old + read_stages was due
-start_stage_less old new was due n less is told =
-    let same : read_stages was due ≡ read_stages VdevIoStart true = λ i. read_stages (is i) (told i) in
-    omega (arith, less, same)

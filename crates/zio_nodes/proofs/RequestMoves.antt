@@ -1,8 +1,9 @@
 -- A request's moves: it goes on, waits, hands out a child, tells its pointer, or ends.
-use Rattle.std.proofs.Common.{◌≡◌, ℕ, ◌+◌, ◌<◌, List, [], ◌∷◌, ◌++◌, Bool, true, false, ◌&&◌, not, cond, Option, Some, None, refl, sym, ap, subst, ◌∙◌, append-nil, arith}
+use Rattle.std.proofs.Common.{◌≡◌, ℕ, ◌+◌, ◌<◌, List, [], ◌∷◌, ◌++◌, Bool, true, false, ◌&&◌, not, cond, Option, Some, None, Result, Ok, Err, refl, sym, ap, subst, ◌∙◌, append-nil, arith}
 use Rattle.std.specs.List.{flat_map}
-use Rattle.std.specs.Prelude.{IsPermutation}
+use Rattle.std.specs.Prelude.{IsPermutation, OnErr}
 use Rattle.zio_types.specs.declared.place.Place.{Place}
+use Rattle.zio_types.specs.declared.place.Top.{Top}
 use Rattle.zio_types.specs.declared.request.ChildKind.{ChildKind}
 use Rattle.zio_types.specs.declared.request.Phase.{Phase}
 use Rattle.zio_blkptr.specs.declared.pointer.Bp.{Bp}
@@ -13,15 +14,16 @@ use Rattle.zio_frames.specs.Frames.{Child, Frame, Inner, Stack, asking, asking_i
 use Rattle.zio_frames.specs.Moves.{WillHave}
 use Rattle.zio_children.specs.RequestKids.{kids_by}
 use Rattle.zio_stages.specs.Closings.{outcome_of}
-use Rattle.zio_stages.specs.Outcomes.{freed_by, held_by, made_by}
+use Rattle.zio_stages.specs.Outcomes.{freed_by, held_by, made_by, stored_in}
 use Rattle.zio_stages.specs.OwnParts.{DoesThen, HandsTo, IsOwed}
 use Rattle.zio_stages.specs.RequestNodes.{Closes, IsRequestNode}
 use Rattle.zio_stages.specs.SpaceCalls.{SpaceCall, calls_back, calls_by}
+use Rattle.zio_stages.specs.declared.outcome.Outcome.{Outcome}
 use Rattle.zio_stages.specs.declared.request_node.Closed.{Closed}
 use Rattle.zio_stages.specs.declared.request_node.RequestNode.{RequestNode}
 use Rattle.zio_graph.specs.Parts.{ended_in, ended_in_slot}
 use Rattle.zio_graph.specs.Stages.{Ends, GoesOn, Grows, Tells, Waits}
-use Rattle.zio_nodes.specs.Nodes.{IsNode, gave_of, nodes, told_of}
+use Rattle.zio_nodes.specs.Nodes.{IsNode, StaysBare, StaysWith, gave_of, nodes, told_of}
 use Rattle.zio_nodes.specs.Told.{is_told}
 use Rattle.zio_nodes.specs.declared.node.Node.{Node}
 use Rattle.zio_nodes.specs.declared.node.Node.TheVariants.{Request}
@@ -44,6 +46,17 @@ request_goes t st at after is told gave = record {
   told = told;
   gave_more = gave ∙ sym (append-nil (gave_of (Request at)));
 }
+
+-- with no room for a child it stays as it was
+pub no_room : {T E : Type 0} (tops : List Top) (at : RequestAt) (r : Result T E) → OnErr r (StaysBare tops (Request at) (Request at))
+no_room tops at (Ok x) = tt
+no_room tops at (Err e) = λ t st now. request_goes t st at at now.is refl refl
+
+pub no_room_with : {S T E : Type 0} (made : S → List SpaceCall → S → Type 0) (tops : List Top) (a : S) (at : RequestAt) (r : Result T E)
+    → made a [] a → OnErr r (StaysWith made tops a a (Request at) (Request at))
+no_room_with made tops a at (Ok x) none = tt
+no_room_with made tops a at (Err e) none =
+    record { calls = []; were_made = none; goes = λ t st now. request_goes t st at at now.is refl refl }
 
 -- it did some of its part itself
 pub request_does : (t : Terms) (st : Stack) (at after : RequestAt) (calls : List SpaceCall) → DoesThen t st calls (IsRequestNode t after.node)
@@ -146,4 +159,36 @@ request_gives t st at after gone is told gave = record {
   is = is;
   told = told;
   gave_more = gave;
+}
+
+-- ---- what stands where another stood
+
+-- from a request that told as much and gave as much back
+pub goes_from : (t : Terms) (st : Stack) (at mid : RequestAt) (calls : List SpaceCall) (after : Node) → is_told mid.stage ≡ is_told at.stage
+    → gave_of (Request mid) ≡ gave_of (Request at) → GoesOn {N = Node} nodes gave_of t (Request mid) st calls after → GoesOn {N = Node} nodes gave_of t (Request at) st calls after
+goes_from t st at mid calls after told gave h = record {
+  dids = h.dids;
+  gone = h.gone;
+  stack = h.stack;
+  does = h.does;
+  opens = h.opens;
+  calls_are = h.calls_are;
+  is = h.is;
+  told = h.told ∙ told;
+  gave_more = h.gave_more ∙ ap (λ (ps : List Place). ps ++ h.gone) gave;
+}
+
+pub ends_from : (t : Terms) (st : Stack) (at mid : RequestAt) (calls : List SpaceCall) (outcome : Outcome) → is_told mid.stage ≡ is_told at.stage
+    → gave_of (Request mid) ≡ gave_of (Request at) → Ends {N = Node} nodes gave_of t (Request mid) st calls outcome → Ends {N = Node} nodes gave_of t (Request at) st calls outcome
+ends_from t st at mid calls outcome told gave h = record {
+  value = h.value;
+  gone = h.gone;
+  ended = h.ended;
+  ends = h.ends;
+  told = λ needs. sym told ∙ h.told needs;
+  shows = h.shows;
+  requests = h.requests;
+  requests_are = h.requests_are;
+  calls_are = h.calls_are;
+  places = subst (λ (ps : List Place). IsPermutation (held_by st ++ freed_by st.outer.op outcome) (ps ++ h.gone ++ made_by outcome ++ stored_in h.value)) gave h.places;
 }

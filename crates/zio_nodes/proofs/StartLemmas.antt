@@ -65,6 +65,17 @@ start_due tops stage due r is h =
     let at : StandsAt r.waiting.request.work tops Start due r = subst (λ (s : Stage). StandsAt r.waiting.request.work tops s due r) is h.own in
     at.0
 
+-- it stays there while the next child's tree is handed out
+pub start_stays : (tops : List Top) (stage : Stage) (due : Bool) (r now : RequestNode) → stage ≡ Start → now.own ≡ r.own → RequestStands tops stage due r
+    → RequestStands tops stage due now
+start_stays tops stage due r now is same h =
+    let at : StandsAt r.waiting.request.work tops Start due r = subst (λ (s : Stage). StandsAt r.waiting.request.work tops s due r) is h.own in
+    let own : StandsAt now.waiting.request.work tops Start due now = (same ∙ at.0, at.1) in
+    record {
+      out = subst (λ (s : Stage). AreOutBehind s now.kids.kids) (sym is) tt;
+      own = subst (λ (s : Stage). StandsAt now.waiting.request.work tops s due now) (sym is) own;
+    }
+
 -- ---- its own stages begin
 
 pub first_told : (work : Work) → is_told (first_of work) ≡ false

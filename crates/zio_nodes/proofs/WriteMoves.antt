@@ -95,13 +95,13 @@ write_starts t st at after work child does fresh ready told gave =
 pub io_grows : (at : RequestAt) (now : RequestNode) (child : ℕ) → kind_of at.node.waiting.request.work ≡ WriteKind → kind_of now.waiting.request.work ≡ WriteKind
     → at.stage ≡ VdevIoStart → at.is_due ≡ true → now ≡ with_own at.node now.own now.family → asked_of now.own ≡ asked_of at.node.own + 1 → asked_of now.own ≤ 24
     → second_of now.own ≡ second_of at.node.own → child ≡ leaf_max
-    → request_left (record { node = now; stage = VdevIoStart; is_due = true }) + child < request_left at
+    → request_left (record { node = now; stage = at.stage; is_due = at.is_due }) + child < request_left at
 io_grows at now child kind same is due rest asked few second leaf =
-    let after : RequestAt = record { node = now; stage = VdevIoStart; is_due = true } in
+    let after : RequestAt = record { node = now; stage = at.stage; is_due = at.is_due } in
     omega (
       arith,
       left_in at VdevIoStart kind is tt,
-      left_in after VdevIoStart same refl tt,
+      left_in after VdevIoStart same is tt,
       ap due_left due,
       ap pass_left second,
       asked,
@@ -129,13 +129,13 @@ io_stays at now next kind same is to due rest asked second =
 pub member_grows : (at : RequestAt) (now : RequestNode) (left : ℕ) (child : PartNode) → kind_of at.node.waiting.request.work ≡ WriteKind
     → kind_of now.waiting.request.work ≡ WriteKind → at.stage ≡ DvaAllocate → now ≡ with_own at.node now.own now.family → HasNextMember child at.node.own now.own
     → left ≡ part_max (8 - length child.work.own.part.path)
-    → request_left (record { node = now; stage = DvaAllocate; is_due = at.is_due }) + left < request_left at
+    → request_left (record { node = now; stage = at.stage; is_due = at.is_due }) + left < request_left at
 member_grows at now left child kind same is rest next most =
-    let after : RequestAt = record { node = now; stage = DvaAllocate; is_due = at.is_due } in
+    let after : RequestAt = record { node = now; stage = at.stage; is_due = at.is_due } in
     omega (
       arith,
       left_in at DvaAllocate kind is tt,
-      left_in after DvaAllocate same refl tt,
+      left_in after DvaAllocate same is tt,
       next_grows child at.node.own now.own next,
       most,
       ap (λ (r : RequestNode). length (joined r.kids.due) * request_share) rest,

@@ -12,13 +12,14 @@ use Rattle.zio_nodes.specs.declared.part_at.PartAt.{PartAt}
 
 -- ---- an operation on a leaf
 
--- at each stage; its end pays for what its parent hears
-abbrev pub leaf_left : Stage → ℕ
-leaf_left VdevIoStart = told_cost + 3
-leaf_left VdevIoDone = told_cost + 2
-leaf_left VdevIoAssess = told_cost + 1
-leaf_left Done = told_cost
-leaf_left _ = 0
+-- at each stage, while its leaf has it or not; its end pays for what its parent hears
+abbrev pub leaf_left : Stage → Bool → ℕ
+leaf_left VdevIoStart false = told_cost + 3
+leaf_left VdevIoStart true = told_cost + 2
+leaf_left VdevIoDone is_out = told_cost + 2
+leaf_left VdevIoAssess is_out = told_cost + 1
+leaf_left Done is_out = told_cost
+leaf_left _ is_out = 0
 
 -- one of which nothing is done
 abbrev pub leaf_max : ℕ

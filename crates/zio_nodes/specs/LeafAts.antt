@@ -9,15 +9,15 @@ use Rattle.zio_stages.specs.declared.leaf.LeafWork.{LeafWork}
 use Rattle.zio_stages.specs.declared.leaf.Stage.TheVariants.{Out}
 use Rattle.zio_nodes.specs.declared.leaf_at.LeafAt.{LeafAt}
 
--- what is done of it where it waits: its leaf has it, or answered
-abbrev pub IsAskedOrAnswered : Bool → LeafWork → Type 0
-IsAskedOrAnswered true work = work.stage ≡ Out
-IsAskedOrAnswered false work = IsAnswered work
+-- what is done of it where it goes to its leaf: its leaf has it, or nothing
+abbrev pub IsAskedOrDue : Bool → LeafWork → Type 0
+IsAskedOrDue true work = work.stage ≡ Out
+IsAskedOrDue false work = IsDue work
 
 -- What is done of it at each stage, and whether its leaf has it. It stands at no other stage.
 abbrev pub LeafStands : Stage → Bool → LeafWork → Type 0
-LeafStands VdevIoStart is_out work = (is_out ≡ false) × IsDue work
-LeafStands VdevIoDone is_out work = IsAskedOrAnswered is_out work
+LeafStands VdevIoStart is_out work = IsAskedOrDue is_out work
+LeafStands VdevIoDone is_out work = IsAnswered work
 LeafStands VdevIoAssess is_out work = IsAnswered work
 LeafStands Done is_out work = IsAnswered work
 LeafStands _ is_out work = ⊥

@@ -10,6 +10,7 @@ pub mod ReadBounds
 pub mod RequestAts
 pub mod RequestBounds
 pub mod RequestHears
+pub mod StageMoves
 pub mod Told
 pub mod TreeAts
 pub mod WriteBounds

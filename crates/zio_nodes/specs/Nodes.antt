@@ -1,5 +1,5 @@
 -- A node of any kind: how far it is, whether it told its pointer, how often it runs at most, and what it gave back.
-use Rattle.std.specs.Prelude.{ℕ, List, [], Bool, false}
+use Rattle.std.specs.Prelude.{ℕ, List, [], Bool, true, false}
 use Rattle.zio_types.specs.declared.place.Place.{Place}
 use Rattle.zio_types.specs.declared.place.Top.{Top}
 use Rattle.zio_gang.specs.Attempts.{Terms}
@@ -11,6 +11,7 @@ use Rattle.zio_stages.specs.SpaceCalls.{SpaceCall}
 use Rattle.zio_graph.specs.Parts.{Nodes}
 use Rattle.zio_graph.specs.Stages.{GoesOn, IsMove, IsNow}
 use Rattle.zio_graph.specs.declared.staged.Move.{Move}
+use Rattle.zio_graph.specs.declared.staged.Move.TheVariants.{End, Grow, Leaf as ToLeaf, Next, Ready, Wait}
 use Rattle.zio_nodes.specs.Bounds.{copies_left, heads_left, leaf_left, part_left}
 use Rattle.zio_nodes.specs.CopiesAts.{IsCopiesAt, IsCopiesAtOver}
 use Rattle.zio_nodes.specs.HeadsAts.{IsHeadsAtOver}
@@ -22,7 +23,10 @@ use Rattle.zio_nodes.specs.Told.{is_told}
 use Rattle.zio_nodes.specs.TreeAts.{IsTreeAt, IsTreeAtOver}
 pub use Rattle.zio_nodes.specs.TreeAts.{IsTreeOver}
 use Rattle.zio_nodes.specs.declared.node.Node.{Node}
-use Rattle.zio_nodes.specs.declared.node.Node.TheVariants.{Copies, Heads, Leaf, Part, Request, Tree}
+use Rattle.zio_nodes.specs.declared.node.Node.TheVariants.{Copies, Empty, Heads, Leaf, Part, Request, Tree}
+use Rattle.zio_nodes.specs.declared.node_box.NodeBox.{NodeBox}
+use Rattle.zio_nodes.specs.declared.turn.Turn.{Turn}
+use Rattle.zio_nodes.specs.declared.turn.Turn.TheVariants.{End as Ended, Grow as Grown, Leaf as Handed, Next as On, Ready as Told, Wait as Waiting}
 
 -- it is so far in its part of the round's work
 abbrev pub IsNode : Terms → Node → Stack → Type 0
@@ -32,6 +36,7 @@ IsNode t (Heads at) st = IsHeadsNode t at.node st
 IsNode t (Part at) st = IsPartNode t at.node st
 IsNode t (Tree at) st = IsTreeAt t at st
 IsNode t (Request at) st = IsRequestNode t at.node st
+IsNode t Empty st = ⊥
 
 -- what it is to read, write or free lies inside these tops, and its work is as far as its stage says
 abbrev pub IsNodeOver : List Top → Node → Type 0
@@ -41,6 +46,7 @@ IsNodeOver tops (Heads at) = IsHeadsAtOver tops at
 IsNodeOver tops (Part at) = IsPartAtOver tops at
 IsNodeOver tops (Tree at) = IsTreeAtOver tops at
 IsNodeOver tops (Request at) = IsRequestAtOver tops at
+IsNodeOver tops Empty = ⊥
 
 -- it told its pointer
 abbrev pub told_of : Node → Bool
@@ -50,15 +56,17 @@ told_of (Heads at) = is_told at.stage
 told_of (Part at) = is_told at.stage
 told_of (Tree at) = false
 told_of (Request at) = is_told at.stage
+told_of Empty = false
 
 -- how often it runs at most
 abbrev pub left_of : Node → ℕ
-left_of (Leaf at) = leaf_left at.stage
+left_of (Leaf at) = leaf_left at.stage at.is_out
 left_of (Copies at) = copies_left at
 left_of (Heads at) = heads_left at
 left_of (Part at) = part_left at
 left_of (Tree at) = tree_left at
 left_of (Request at) = request_left at
+left_of Empty = 0
 
 -- the places of a block that went back: only a request gives places back
 abbrev pub gave_of : Node → List Place
@@ -68,9 +76,44 @@ gave_of (Heads at) = []
 gave_of (Part at) = []
 gave_of (Tree at) = []
 gave_of (Request at) = gave_by at.node.waiting.request.work at.node
+gave_of Empty = []
 
 abbrev pub nodes : Nodes Node
 nodes = record { Is = IsNode; told = told_of; left = left_of; gave = gave_of }
+
+-- ---- a node in its place
+
+-- the move of a node that is this one now
+abbrev pub moved : Node → Turn → Move Node
+moved node On = Next node
+moved node (Waiting kind phase) = Wait node kind phase
+moved node (Grown child kind) = Grow node child.value kind
+moved node (Handed op leaf bytes) = ToLeaf node op leaf bytes
+moved node (Told pointer) = Ready node pointer
+moved node (Ended outcome) = End outcome
+
+-- the node is as the move leaves it, and nothing new stands beside it
+abbrev pub IsInPlace : Move Node → Type 0
+IsInPlace (Next after) = Unit {0}
+IsInPlace (Wait after kind phase) = Unit {0}
+IsInPlace (End outcome) = Unit {0}
+IsInPlace _ = ⊥
+
+abbrev pub is_tree : Node → Bool
+is_tree (Tree at) = true
+is_tree _ = false
+
+-- the same of nodes in boxes
+abbrev pub boxed_nodes : Nodes NodeBox
+boxed_nodes = record {
+  Is = λ t x st. IsNode t x.node.value st;
+  told = λ x. told_of x.node.value;
+  left = λ x. left_of x.node.value;
+  gave = λ x. gave_of x.node.value;
+}
+
+abbrev pub IsBoxOver : List Top → NodeBox → Type 0
+IsBoxOver tops x = IsNodeOver tops x.node.value
 
 -- ---- stages that ask nothing of the space
 

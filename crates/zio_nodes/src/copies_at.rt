@@ -1,6 +1,6 @@
 //! The read of a block's copies, from stage to stage: it hands its operations to children, and ends with the good bytes.
 
-ghost use Rattle.std.specs.Prelude.{◌≡◌, ◌+◌, ◌≤◌, IfErr, IfOk, List as Seq, false, true};
+ghost use Rattle.std.specs.Prelude.{◌≡◌, ◌≢◌, ◌+◌, ◌≤◌, IfOk, List as Seq, false, true, OnErr};
 ghost use Rattle.zio_types.specs.declared.place.Top.{Top as SeenTop};
 ghost use Rattle.zio_gang.specs.Attempts.{Terms};
 ghost use Rattle.zio_trace.specs.Tasks.{Task, Value};
@@ -10,11 +10,13 @@ ghost use Rattle.zio_stages.specs.CopiesNodes.{IsCopiesNode, IsCopiesOver};
 ghost use Rattle.zio_graph.specs.Stages.{EachIn, Hears, HearsSome, Lessens, TellsValid, heard_max};
 ghost use Rattle.zio_nodes.specs.Bounds.{copies_left, copies_max};
 ghost use Rattle.zio_nodes.specs.CopiesAts.{IsCopiesAt, IsCopiesAtOver};
-ghost use Rattle.zio_nodes.specs.Nodes.{IsNodeOver, IsTreeOver, MovesBare, StaysBare, left_of, nodes};
+ghost use Rattle.zio_nodes.specs.StageMoves.{IsLastMove, IsStageMove};
+ghost use Rattle.zio_nodes.specs.Nodes.{IsNodeOver, IsTreeOver, MovesBare, StaysBare, left_of, nodes, moved};
 ghost use Rattle.zio_nodes.specs.Told.{is_told};
 
 use crate::leaf_at::LeafAt;
 use crate::node::Node;
+use crate::turn::{Turn, new_room};
 use std::alloc::Global;
 use zio_graph::Move;
 use zio_masks::{READ, Stage, next};
@@ -45,14 +47,23 @@ impl CopiesAt {
         }
     }
 
+    /// The stage where it stands.
+    pub(crate) fn stage(&self) -> Stage
+        ensures { result ≡ self.now.stage }
+    {
+        self.stage
+    }
+
     /// Runs one stage. Where memory is refused it comes back as it was.
-    pub fn run_stage(self, alloc: Global, tops: &[Top]) -> Result<Move<Node>, Node>
-        requires { IsCopiesAtOver tops.now self }
-        ensures moves { IfOk result (MovesBare tops.now (Node.Copies self)) }
-        ensures over { IfOk result (EachIn (IsNodeOver tops.now) (IsTreeOver tops.now)) }
-        ensures valid { IfOk result TellsValid }
-        ensures left { IfOk result (Lessens left_of (Node.Copies self)) }
-        ensures refused { IfErr result (StaysBare tops.now (Node.Copies self)) }
+    pub fn run_stage(&mut self, alloc: Global, tops: &[Top]) -> Result<Turn, NoMemory>
+        requires over { IsCopiesAtOver tops.now self.old }
+        requires before { self.old.stage ≢ Stage.Done }
+        ensures moves { IfOk result (λ turn. MovesBare tops.now (Node.Copies self.old) (moved (Node.Copies self.new) turn)) }
+        ensures over { IfOk result (λ turn. EachIn (IsNodeOver tops.now) (IsTreeOver tops.now) (moved (Node.Copies self.new) turn)) }
+        ensures valid { IfOk result (λ turn. TellsValid (moved (Node.Copies self.new) turn)) }
+        ensures left { IfOk result (λ turn. Lessens left_of (Node.Copies self.old) (moved (Node.Copies self.new) turn)) }
+        ensures refused { OnErr result (StaysBare tops.now (Node.Copies self.old) (Node.Copies self.new)) }
+        ensures stages { IfOk result (λ turn. IsStageMove (Node.Copies self.old) (moved (Node.Copies self.new) turn)) }
     {
         match self.stage {
             Stage::Start => Ok(self.start()),
@@ -62,189 +73,146 @@ impl CopiesAt {
             Stage::VdevIoDone => Ok(self.vdev_io_done(tops)),
             Stage::VdevIoAssess => Ok(self.vdev_io_assess(tops)),
             Stage::ChecksumVerify => Ok(self.checksum_verify(tops)),
-            Stage::Done => Ok(self.done(tops)),
             _ => unreachable!(),
         }
     }
 
     /// The request was made.
-    fn start(self) -> Move<Node>
-        requires stage { self.stage ≡ Stage.Start }
-        ensures moves { (tops : Seq SeenTop) → MovesBare tops (Node.Copies self) result }
-        ensures over { (tops : Seq SeenTop) → IsCopiesAtOver tops self → EachIn (IsNodeOver tops) (IsTreeOver tops) result }
-        ensures valid { TellsValid result }
-        ensures left { Lessens left_of (Node.Copies self) result }
+    fn start(&mut self) -> Turn
+        requires stage { self.old.stage ≡ Stage.Start }
+        ensures moves { (tops : Seq SeenTop) → MovesBare tops (Node.Copies self.old) (moved (Node.Copies self.new) result) }
+        ensures over { (tops : Seq SeenTop) → IsCopiesAtOver tops self.old → EachIn (IsNodeOver tops) (IsTreeOver tops) (moved (Node.Copies self.new) result) }
+        ensures valid { TellsValid (moved (Node.Copies self.new) result) }
+        ensures left { Lessens left_of (Node.Copies self.old) (moved (Node.Copies self.new) result) }
+        ensures stages { IsStageMove (Node.Copies self.old) (moved (Node.Copies self.new) result) }
     {
-        let CopiesAt { node, is_due, .. } = self;
-        let at = CopiesAt {
-            node,
-            stage: next(Stage::Start, READ),
-            is_due,
-        };
-        Move::Next(Node::Copies(at))
+        self.stage = next(Stage::Start, READ);
+        Turn::Next
     }
 
     /// Its places are no gang's: there are no gang stages to add.
-    fn read_bp_init(self) -> Move<Node>
-        requires stage { self.stage ≡ Stage.ReadBpInit }
-        ensures moves { (tops : Seq SeenTop) → MovesBare tops (Node.Copies self) result }
-        ensures over { (tops : Seq SeenTop) → IsCopiesAtOver tops self → EachIn (IsNodeOver tops) (IsTreeOver tops) result }
-        ensures valid { TellsValid result }
-        ensures left { Lessens left_of (Node.Copies self) result }
+    fn read_bp_init(&mut self) -> Turn
+        requires stage { self.old.stage ≡ Stage.ReadBpInit }
+        ensures moves { (tops : Seq SeenTop) → MovesBare tops (Node.Copies self.old) (moved (Node.Copies self.new) result) }
+        ensures over { (tops : Seq SeenTop) → IsCopiesAtOver tops self.old → EachIn (IsNodeOver tops) (IsTreeOver tops) (moved (Node.Copies self.new) result) }
+        ensures valid { TellsValid (moved (Node.Copies self.new) result) }
+        ensures left { Lessens left_of (Node.Copies self.old) (moved (Node.Copies self.new) result) }
+        ensures stages { IsStageMove (Node.Copies self.old) (moved (Node.Copies self.new) result) }
     {
-        let CopiesAt { node, is_due, .. } = self;
-        let at = CopiesAt {
-            node,
-            stage: next(Stage::ReadBpInit, READ),
-            is_due,
-        };
-        Move::Next(Node::Copies(at))
+        self.stage = next(Stage::ReadBpInit, READ);
+        Turn::Next
     }
 
     /// A read makes no block, and tells no pointer.
-    fn ready(self) -> Move<Node>
-        requires stage { self.stage ≡ Stage.Ready }
-        ensures moves { (tops : Seq SeenTop) → MovesBare tops (Node.Copies self) result }
-        ensures over { (tops : Seq SeenTop) → IsCopiesAtOver tops self → EachIn (IsNodeOver tops) (IsTreeOver tops) result }
-        ensures valid { TellsValid result }
-        ensures left { Lessens left_of (Node.Copies self) result }
+    fn ready(&mut self) -> Turn
+        requires stage { self.old.stage ≡ Stage.Ready }
+        ensures moves { (tops : Seq SeenTop) → MovesBare tops (Node.Copies self.old) (moved (Node.Copies self.new) result) }
+        ensures over { (tops : Seq SeenTop) → IsCopiesAtOver tops self.old → EachIn (IsNodeOver tops) (IsTreeOver tops) (moved (Node.Copies self.new) result) }
+        ensures valid { TellsValid (moved (Node.Copies self.new) result) }
+        ensures left { Lessens left_of (Node.Copies self.old) (moved (Node.Copies self.new) result) }
+        ensures stages { IsStageMove (Node.Copies self.old) (moved (Node.Copies self.new) result) }
     {
         reads_tell_no_pointer();
-        let CopiesAt { node, is_due, .. } = self;
-        let at = CopiesAt {
-            node,
-            stage: next(Stage::Ready, READ),
-            is_due,
-        };
-        Move::Ready(Node::Copies(at), None)
+        self.stage = next(Stage::Ready, READ);
+        Turn::Ready(None)
     }
 
     /// Hands the next operation to a child, or goes on where none is due now. Where memory is refused it comes back as it was.
-    fn vdev_io_start(self, alloc: Global, tops: &[Top]) -> Result<Move<Node>, Node>
-        requires over { IsCopiesAtOver tops.now self }
-        requires stage { self.stage ≡ Stage.VdevIoStart }
-        ensures moves { IfOk result (MovesBare tops.now (Node.Copies self)) }
-        ensures over { IfOk result (EachIn (IsNodeOver tops.now) (IsTreeOver tops.now)) }
-        ensures valid { IfOk result TellsValid }
-        ensures left { IfOk result (Lessens left_of (Node.Copies self)) }
-        ensures refused { IfErr result (StaysBare tops.now (Node.Copies self)) }
+    fn vdev_io_start(&mut self, alloc: Global, tops: &[Top]) -> Result<Turn, NoMemory>
+        requires over { IsCopiesAtOver tops.now self.old }
+        requires stage { self.old.stage ≡ Stage.VdevIoStart }
+        ensures moves { IfOk result (λ turn. MovesBare tops.now (Node.Copies self.old) (moved (Node.Copies self.new) turn)) }
+        ensures over { IfOk result (λ turn. EachIn (IsNodeOver tops.now) (IsTreeOver tops.now) (moved (Node.Copies self.new) turn)) }
+        ensures valid { IfOk result (λ turn. TellsValid (moved (Node.Copies self.new) turn)) }
+        ensures left { IfOk result (λ turn. Lessens left_of (Node.Copies self.old) (moved (Node.Copies self.new) turn)) }
+        ensures refused { OnErr result (StaysBare tops.now (Node.Copies self.old) (Node.Copies self.new)) }
+        ensures stages { IfOk result (λ turn. IsStageMove (Node.Copies self.old) (moved (Node.Copies self.new) turn)) }
     {
-        let CopiesAt { node, .. } = self;
-        let mut node = node;
-        match node.vdev_io_start(alloc, tops) {
+        let mut room = new_room(alloc)?;
+        match self.node.vdev_io_start(alloc, tops) {
             Ok(Some(work)) => {
                 let child = LeafAt::new(work);
-                let at = CopiesAt {
-                    node,
-                    stage: Stage::VdevIoStart,
-                    is_due: true,
-                };
-                Ok(Move::Grow(Node::Copies(at), Node::Leaf(child), ChildKind::Vdev))
+                *room = Node::Leaf(child);
+                Ok(Turn::Grow(room, ChildKind::Vdev))
             }
             Ok(None) => {
-                let at = CopiesAt {
-                    node,
-                    stage: next(Stage::VdevIoStart, READ),
-                    is_due: false,
-                };
-                Ok(Move::Next(Node::Copies(at)))
+                self.stage = next(Stage::VdevIoStart, READ);
+                self.is_due = false;
+                Ok(Turn::Next)
             }
-            Err(NoMemory) => {
-                let at = CopiesAt {
-                    node,
-                    stage: Stage::VdevIoStart,
-                    is_due: true,
-                };
-                Err(Node::Copies(at))
-            }
+            Err(NoMemory) => Err(NoMemory),
         }
     }
 
     /// Waits for its children. It goes back where one that ended has made another operation due: the next copy, or a repair.
-    fn vdev_io_done(self, tops: &[Top]) -> Move<Node>
-        requires over { IsCopiesAtOver tops.now self }
-        requires stage { self.stage ≡ Stage.VdevIoDone }
-        ensures moves { MovesBare tops.now (Node.Copies self) result }
-        ensures over { EachIn (IsNodeOver tops.now) (IsTreeOver tops.now) result }
-        ensures valid { TellsValid result }
-        ensures left { Lessens left_of (Node.Copies self) result }
+    fn vdev_io_done(&mut self, tops: &[Top]) -> Turn
+        requires over { IsCopiesAtOver tops.now self.old }
+        requires stage { self.old.stage ≡ Stage.VdevIoDone }
+        ensures moves { MovesBare tops.now (Node.Copies self.old) (moved (Node.Copies self.new) result) }
+        ensures over { EachIn (IsNodeOver tops.now) (IsTreeOver tops.now) (moved (Node.Copies self.new) result) }
+        ensures valid { TellsValid (moved (Node.Copies self.new) result) }
+        ensures left { Lessens left_of (Node.Copies self.old) (moved (Node.Copies self.new) result) }
+        ensures stages { IsStageMove (Node.Copies self.old) (moved (Node.Copies self.new) result) }
     {
         match self.node.vdev_io_done(tops) {
-            IoNext::Wait => Move::Wait(Node::Copies(self), ChildKind::Vdev, Phase::Done),
+            IoNext::Wait => Turn::Wait(ChildKind::Vdev, Phase::Done),
             IoNext::More => {
-                let CopiesAt { node, .. } = self;
-                let at = CopiesAt {
-                    node,
-                    stage: Stage::VdevIoStart,
-                    is_due: true,
-                };
-                Move::Next(Node::Copies(at))
+                self.stage = Stage::VdevIoStart;
+                self.is_due = true;
+                Turn::Next
             }
             IoNext::On => {
-                let CopiesAt { node, .. } = self;
-                let at = CopiesAt {
-                    node,
-                    stage: next(Stage::VdevIoDone, READ),
-                    is_due: false,
-                };
-                Move::Next(Node::Copies(at))
+                self.stage = next(Stage::VdevIoDone, READ);
+                self.is_due = false;
+                Turn::Next
             }
         }
     }
 
     /// Goes back for a second pass, once, where no copy was good.
-    fn vdev_io_assess(self, tops: &[Top]) -> Move<Node>
-        requires over { IsCopiesAtOver tops.now self }
-        requires stage { self.stage ≡ Stage.VdevIoAssess }
-        ensures moves { MovesBare tops.now (Node.Copies self) result }
-        ensures over { EachIn (IsNodeOver tops.now) (IsTreeOver tops.now) result }
-        ensures valid { TellsValid result }
-        ensures left { Lessens left_of (Node.Copies self) result }
+    fn vdev_io_assess(&mut self, tops: &[Top]) -> Turn
+        requires over { IsCopiesAtOver tops.now self.old }
+        requires stage { self.old.stage ≡ Stage.VdevIoAssess }
+        ensures moves { MovesBare tops.now (Node.Copies self.old) (moved (Node.Copies self.new) result) }
+        ensures over { EachIn (IsNodeOver tops.now) (IsTreeOver tops.now) (moved (Node.Copies self.new) result) }
+        ensures valid { TellsValid (moved (Node.Copies self.new) result) }
+        ensures left { Lessens left_of (Node.Copies self.old) (moved (Node.Copies self.new) result) }
+        ensures stages { IsStageMove (Node.Copies self.old) (moved (Node.Copies self.new) result) }
     {
-        let CopiesAt { node, .. } = self;
-        let mut node = node;
-        let goes_again = node.vdev_io_assess(tops);
+        let goes_again = self.node.vdev_io_assess(tops);
         if goes_again {
-            let at = CopiesAt {
-                node,
-                stage: Stage::VdevIoStart,
-                is_due: true,
-            };
-            return Move::Next(Node::Copies(at));
+            self.stage = Stage::VdevIoStart;
+            self.is_due = true;
+            return Turn::Next;
         }
-        let at = CopiesAt {
-            node,
-            stage: next(Stage::VdevIoAssess, READ),
-            is_due: false,
-        };
-        Move::Next(Node::Copies(at))
+        self.stage = next(Stage::VdevIoAssess, READ);
+        self.is_due = false;
+        Turn::Next
     }
 
     /// Each copy was verified as it came, so nothing is left to verify.
-    fn checksum_verify(self, tops: &[Top]) -> Move<Node>
-        requires over { IsCopiesAtOver tops.now self }
-        requires stage { self.stage ≡ Stage.ChecksumVerify }
-        ensures moves { MovesBare tops.now (Node.Copies self) result }
-        ensures over { EachIn (IsNodeOver tops.now) (IsTreeOver tops.now) result }
-        ensures valid { TellsValid result }
-        ensures left { Lessens left_of (Node.Copies self) result }
+    fn checksum_verify(&mut self, tops: &[Top]) -> Turn
+        requires over { IsCopiesAtOver tops.now self.old }
+        requires stage { self.old.stage ≡ Stage.ChecksumVerify }
+        ensures moves { MovesBare tops.now (Node.Copies self.old) (moved (Node.Copies self.new) result) }
+        ensures over { EachIn (IsNodeOver tops.now) (IsTreeOver tops.now) (moved (Node.Copies self.new) result) }
+        ensures valid { TellsValid (moved (Node.Copies self.new) result) }
+        ensures left { Lessens left_of (Node.Copies self.old) (moved (Node.Copies self.new) result) }
+        ensures stages { IsStageMove (Node.Copies self.old) (moved (Node.Copies self.new) result) }
     {
-        let CopiesAt { node, .. } = self;
-        let at = CopiesAt {
-            node,
-            stage: next(Stage::ChecksumVerify, READ),
-            is_due: false,
-        };
-        Move::Next(Node::Copies(at))
+        self.stage = next(Stage::ChecksumVerify, READ);
+        self.is_due = false;
+        Turn::Next
     }
 
     /// Ends with the good bytes, or the error where no copy was good.
-    fn done(self, tops: &[Top]) -> Move<Node>
+    pub(crate) fn done(self, tops: &[Top]) -> Move<Node>
         requires over { IsCopiesAtOver tops.now self }
         requires stage { self.stage ≡ Stage.Done }
         ensures moves { MovesBare tops.now (Node.Copies self) result }
         ensures over { EachIn (IsNodeOver tops.now) (IsTreeOver tops.now) result }
         ensures valid { TellsValid result }
+        ensures last { IsLastMove result }
         ensures left { Lessens left_of (Node.Copies self) result }
     {
         let CopiesAt { node, .. } = self;
@@ -252,25 +220,19 @@ impl CopiesAt {
     }
 
     /// A child ended: an operation on a leaf, with the bytes of its read, with none of a repair, or with an error.
-    pub fn arrive(self, tops: &[Top], child: u32, outcome: Outcome) -> CopiesAt
-        requires over { IsCopiesAtOver tops.now self }
-        requires awaited { HearsSome nodes tops.now (Node.Copies self) child outcome }
+    pub fn arrive(&mut self, tops: &[Top], child: u32, outcome: Outcome)
+        requires over { IsCopiesAtOver tops.now self.old }
+        requires awaited { HearsSome nodes tops.now (Node.Copies self.old) child outcome }
         ensures heard { (t : Terms) (st : Stack) (c : Child) (op : Task) (v : Value) →
-            Hears nodes tops.now t (Node.Copies self) st child c op outcome v → IsCopiesAt t result (heard_of st child c v) }
-        ensures stage { result.stage ≡ self.stage }
-        ensures over { IsCopiesAtOver tops.now result }
-        ensures left { copies_left result ≤ copies_left self + heard_max }
+            Hears nodes tops.now t (Node.Copies self.old) st child c op outcome v → IsCopiesAt t self.new (heard_of st child c v) }
+        ensures stage { self.new.stage ≡ self.old.stage }
+        ensures over { IsCopiesAtOver tops.now self.new }
+        ensures left { copies_left self.new ≤ copies_left self.old + heard_max }
     {
         let Outcome::Found(found) = outcome else {
             unreachable!()
         };
-        let CopiesAt { node, stage, .. } = self;
-        let mut node = node;
-        node.arrive(tops, child, found);
-        CopiesAt {
-            node,
-            stage,
-            is_due: true,
-        }
+        self.node.arrive(tops, child, found);
+        self.is_due = true;
     }
 }

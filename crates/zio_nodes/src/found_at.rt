@@ -7,12 +7,14 @@ ghost use Rattle.zio_children.specs.RequestKids.{is_ended};
 ghost use Rattle.zio_stages.specs.OwnParts.{IsNoWrite};
 ghost use Rattle.zio_stages.specs.RequestReads.{HasFound};
 ghost use Rattle.zio_graph.specs.Stages.{EachIn, Lessens, TellsValid, told_cost};
-ghost use Rattle.zio_nodes.specs.Nodes.{IsNodeOver, IsTreeOver, MovesBare, StaysBare, left_of};
+ghost use Rattle.zio_nodes.specs.StageMoves.{IsLastMove, IsNextOf, IsStageMove, takes_stage};
+ghost use Rattle.zio_nodes.specs.Nodes.{IsNodeOver, IsTreeOver, MovesBare, StaysBare, left_of, moved};
 ghost use Rattle.zio_nodes.specs.RequestAts.{IsRequestAtOver};
 ghost use Rattle.zio_nodes.specs.Told.{is_told};
 
 use crate::node::Node;
 use crate::request_at::RequestAt;
+use crate::turn::Turn;
 use std::alloc::Global;
 use zio_graph::Move;
 use zio_masks::Stage;
@@ -21,28 +23,26 @@ use zio_types::Phase;
 
 impl RequestAt {
     /// Tells that it has no pointer, once each child told its own, and goes on to this stage.
-    pub(crate) fn tell_none(self, to: Stage) -> Move<Node>
-        requires other { IsNoWrite self.node.waiting.request.work }
-        requires handed { self.node.kids.kids.handed ≡ length self.node.kids.kids.kids }
-        requires before { is_told self.stage ≡ false }
+    pub(crate) fn tell_none(&mut self, to: Stage) -> Turn
+        requires other { IsNoWrite self.old.node.waiting.request.work }
+        requires handed { self.old.node.kids.kids.handed ≡ length self.old.node.kids.kids.kids }
+        requires stage { self.old.stage ≡ Stage.Ready }
+        requires leads { IsNextOf (takes_stage (Node.Request self.old)) self.old.stage to }
         requires behind { is_told to ≡ true }
-        ensures moves { (tops : Seq SeenTop) → MovesBare tops (Node.Request self) result }
-        ensures over { (tops : Seq SeenTop) → IsRequestAtOver tops self → IsRequestAtOver tops (record { node = self.node; stage = to; is_due = true }) →
-            EachIn (IsNodeOver tops) (IsTreeOver tops) result }
-        ensures valid { TellsValid result }
-        ensures left { left_of (Node.Request (record { node = self.node; stage = to; is_due = true })) + told_cost ≤ left_of (Node.Request self) →
-            Lessens left_of (Node.Request self) result }
+        ensures moves { (tops : Seq SeenTop) → MovesBare tops (Node.Request self.old) (moved (Node.Request self.new) result) }
+        ensures over { (tops : Seq SeenTop) → IsRequestAtOver tops self.old → IsRequestAtOver tops (record { node = self.old.node; stage = to; is_due = true }) →
+            EachIn (IsNodeOver tops) (IsTreeOver tops) (moved (Node.Request self.new) result) }
+        ensures valid { TellsValid (moved (Node.Request self.new) result) }
+        ensures left { left_of (Node.Request (record { node = self.old.node; stage = to; is_due = true })) + told_cost ≤ left_of (Node.Request self.old) →
+            Lessens left_of (Node.Request self.old) (moved (Node.Request self.new) result) }
+        ensures stages { IsStageMove (Node.Request self.old) (moved (Node.Request self.new) result) }
     {
         match self.node.ready_none() {
-            ReadyStep::Wait(kind) => Move::Wait(Node::Request(self), kind, Phase::Ready),
+            ReadyStep::Wait(kind) => Turn::Wait(kind, Phase::Ready),
             ReadyStep::Tell(_) => {
-                let RequestAt { node, .. } = self;
-                let at = RequestAt {
-                    node,
-                    stage: to,
-                    is_due: true,
-                };
-                Move::Ready(Node::Request(at), None)
+                self.stage = to;
+                self.is_due = true;
+                Turn::Ready(None)
             }
         }
     }
@@ -57,6 +57,7 @@ impl RequestAt {
         ensures moves { (tops : Seq SeenTop) → IfOk result (MovesBare tops (Node.Request self)) }
         ensures over { (tops : Seq SeenTop) → IsRequestAtOver tops self → IfOk result (EachIn (IsNodeOver tops) (IsTreeOver tops)) }
         ensures valid { IfOk result TellsValid }
+        ensures last { IfOk result IsLastMove }
         ensures left { told_cost ≤ left_of (Node.Request self) → IfOk result (Lessens left_of (Node.Request self)) }
         ensures refused { (tops : Seq SeenTop) → IfErr result (StaysBare tops (Node.Request self)) }
     {

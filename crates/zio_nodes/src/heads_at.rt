@@ -1,6 +1,6 @@
 //! The walk over headers, from stage to stage: its children read the header and walk below the members that it names.
 
-ghost use Rattle.std.specs.Prelude.{◌≡◌, ◌≤◌, IfErr, IfOk, List as Seq, Option, false, length};
+ghost use Rattle.std.specs.Prelude.{◌≡◌, ◌≢◌, ◌≤◌, IfErr, IfOk, List as Seq, OnErr, OnOk, Option, false, length};
 ghost use Rattle.zio_types.specs.declared.place.Top.{Top as SeenTop};
 ghost use Rattle.zio_blkptr.specs.declared.pointer.Bp.{Bp as SeenBp};
 ghost use Rattle.zio_gang.specs.Attempts.{Terms};
@@ -11,11 +11,13 @@ ghost use Rattle.zio_stages.specs.HeadsNodes.{IsHeadsNode, IsHeadsOver};
 ghost use Rattle.zio_graph.specs.Stages.{EachIn, Hears, HearsEarly, HearsSome, HearsSomeEarly, Lessens, TellsValid};
 ghost use Rattle.zio_nodes.specs.Bounds.{heads_left, walk_max};
 ghost use Rattle.zio_nodes.specs.HeadsAts.{IsHeadsAtOver};
-ghost use Rattle.zio_nodes.specs.Nodes.{IsNodeOver, IsTreeOver, MovesBare, StaysBare, left_of, nodes};
+ghost use Rattle.zio_nodes.specs.StageMoves.{IsLastMove, IsStageMove};
+ghost use Rattle.zio_nodes.specs.Nodes.{IsNodeOver, IsTreeOver, MovesBare, StaysBare, left_of, nodes, moved};
 ghost use Rattle.zio_nodes.specs.Told.{is_told};
 
 use crate::copies_at::CopiesAt;
 use crate::node::Node;
+use crate::turn::{Turn, new_room};
 use std::alloc::Global;
 use zio_graph::Move;
 use zio_masks::{INTERLOCK, Stage, next, with_gang};
@@ -29,13 +31,6 @@ pub struct HeadsAt {
     stage: Stage,
     /// For the header that it hears of.
     alloc: Global,
-}
-
-/// There is no memory for what a walk heard.
-#[derive(Drop)]
-pub struct HeadsHeard {
-    pub at: HeadsAt,
-    pub outcome: Outcome,
 }
 
 impl HeadsAt {
@@ -54,143 +49,114 @@ impl HeadsAt {
         }
     }
 
+    /// The stage where it stands.
+    pub(crate) fn stage(&self) -> Stage
+        ensures { result ≡ self.now.stage }
+    {
+        self.stage
+    }
+
     /// Runs one stage. Where memory is refused it comes back as it was.
-    pub fn run_stage(self, alloc: Global, tops: &[Top]) -> Result<Move<Node>, Node>
-        requires { IsHeadsAtOver tops.now self }
-        ensures moves { IfOk result (MovesBare tops.now (Node.Heads self)) }
-        ensures over { IfOk result (EachIn (IsNodeOver tops.now) (IsTreeOver tops.now)) }
-        ensures valid { IfOk result TellsValid }
-        ensures left { IfOk result (Lessens left_of (Node.Heads self)) }
-        ensures refused { IfErr result (StaysBare tops.now (Node.Heads self)) }
+    pub fn run_stage(&mut self, alloc: Global, tops: &[Top]) -> Result<Turn, NoMemory>
+        requires over { IsHeadsAtOver tops.now self.old }
+        requires before { self.old.stage ≢ Stage.Done }
+        ensures moves { IfOk result (λ turn. MovesBare tops.now (Node.Heads self.old) (moved (Node.Heads self.new) turn)) }
+        ensures over { IfOk result (λ turn. EachIn (IsNodeOver tops.now) (IsTreeOver tops.now) (moved (Node.Heads self.new) turn)) }
+        ensures valid { IfOk result (λ turn. TellsValid (moved (Node.Heads self.new) turn)) }
+        ensures left { IfOk result (λ turn. Lessens left_of (Node.Heads self.old) (moved (Node.Heads self.new) turn)) }
+        ensures refused { OnErr result (StaysBare tops.now (Node.Heads self.old) (Node.Heads self.new)) }
+        ensures stages { IfOk result (λ turn. IsStageMove (Node.Heads self.old) (moved (Node.Heads self.new) turn)) }
     {
         match self.stage {
             Stage::Start => Ok(self.start()),
             Stage::GangAssemble => self.gang_assemble(alloc, tops),
             Stage::GangIssue => Ok(self.gang_issue()),
             Stage::Ready => Ok(self.ready()),
-            Stage::Done => self.done(alloc, tops),
             _ => unreachable!(),
         }
     }
 
     /// The request was made.
-    fn start(self) -> Move<Node>
-        requires stage { self.stage ≡ Stage.Start }
-        ensures moves { (tops : Seq SeenTop) → MovesBare tops (Node.Heads self) result }
-        ensures over { (tops : Seq SeenTop) → IsHeadsAtOver tops self → EachIn (IsNodeOver tops) (IsTreeOver tops) result }
-        ensures valid { TellsValid result }
-        ensures left { Lessens left_of (Node.Heads self) result }
+    fn start(&mut self) -> Turn
+        requires stage { self.old.stage ≡ Stage.Start }
+        ensures moves { (tops : Seq SeenTop) → MovesBare tops (Node.Heads self.old) (moved (Node.Heads self.new) result) }
+        ensures over { (tops : Seq SeenTop) → IsHeadsAtOver tops self.old → EachIn (IsNodeOver tops) (IsTreeOver tops) (moved (Node.Heads self.new) result) }
+        ensures valid { TellsValid (moved (Node.Heads self.new) result) }
+        ensures left { Lessens left_of (Node.Heads self.old) (moved (Node.Heads self.new) result) }
+        ensures stages { IsStageMove (Node.Heads self.old) (moved (Node.Heads self.new) result) }
     {
-        let HeadsAt { node, alloc, .. } = self;
-        let at = HeadsAt {
-            node,
-            stage: next(Stage::Start, with_gang(INTERLOCK)),
-            alloc,
-        };
-        Move::Next(Node::Heads(at))
+        self.stage = next(Stage::Start, with_gang(INTERLOCK));
+        Turn::Next
     }
 
     /// Hands the read of the header to a child, and then the walk below each member that it names; waits for them, and goes on
     /// once all have ended. Where memory is refused it comes back as it was.
-    fn gang_assemble(self, alloc: Global, tops: &[Top]) -> Result<Move<Node>, Node>
-        requires over { IsHeadsAtOver tops.now self }
-        requires stage { self.stage ≡ Stage.GangAssemble }
-        ensures moves { IfOk result (MovesBare tops.now (Node.Heads self)) }
-        ensures over { IfOk result (EachIn (IsNodeOver tops.now) (IsTreeOver tops.now)) }
-        ensures valid { IfOk result TellsValid }
-        ensures left { IfOk result (Lessens left_of (Node.Heads self)) }
-        ensures refused { IfErr result (StaysBare tops.now (Node.Heads self)) }
+    fn gang_assemble(&mut self, alloc: Global, tops: &[Top]) -> Result<Turn, NoMemory>
+        requires over { IsHeadsAtOver tops.now self.old }
+        requires stage { self.old.stage ≡ Stage.GangAssemble }
+        ensures moves { IfOk result (λ turn. MovesBare tops.now (Node.Heads self.old) (moved (Node.Heads self.new) turn)) }
+        ensures over { IfOk result (λ turn. EachIn (IsNodeOver tops.now) (IsTreeOver tops.now) (moved (Node.Heads self.new) turn)) }
+        ensures valid { IfOk result (λ turn. TellsValid (moved (Node.Heads self.new) turn)) }
+        ensures left { IfOk result (λ turn. Lessens left_of (Node.Heads self.old) (moved (Node.Heads self.new) turn)) }
+        ensures refused { OnErr result (StaysBare tops.now (Node.Heads self.old) (Node.Heads self.new)) }
+        ensures stages { IfOk result (λ turn. IsStageMove (Node.Heads self.old) (moved (Node.Heads self.new) turn)) }
     {
-        let HeadsAt { node, .. } = self;
-        let mut node = node;
-        match node.gang_assemble(alloc, tops) {
+        let mut room = new_room(alloc)?;
+        match self.node.gang_assemble(alloc, tops) {
             Ok(WalkStage::Head(child)) => {
                 let child = CopiesAt::new(child);
-                let at = HeadsAt {
-                    node,
-                    stage: Stage::GangAssemble,
-                    alloc,
-                };
-                Ok(Move::Grow(Node::Heads(at), Node::Copies(child), ChildKind::Gang))
+                *room = Node::Copies(child);
+                Ok(Turn::Grow(room, ChildKind::Gang))
             }
             Ok(WalkStage::Below(child)) => {
                 let child = HeadsAt::new(alloc, child);
-                let at = HeadsAt {
-                    node,
-                    stage: Stage::GangAssemble,
-                    alloc,
-                };
-                Ok(Move::Grow(Node::Heads(at), Node::Heads(child), ChildKind::Gang))
+                *room = Node::Heads(child);
+                Ok(Turn::Grow(room, ChildKind::Gang))
             }
-            Ok(WalkStage::Wait) => {
-                let at = HeadsAt {
-                    node,
-                    stage: Stage::GangAssemble,
-                    alloc,
-                };
-                Ok(Move::Wait(Node::Heads(at), ChildKind::Gang, Phase::Done))
-            }
+            Ok(WalkStage::Wait) => { Ok(Turn::Wait(ChildKind::Gang, Phase::Done)) }
             Ok(WalkStage::On) => {
-                let at = HeadsAt {
-                    node,
-                    stage: next(Stage::GangAssemble, with_gang(INTERLOCK)),
-                    alloc,
-                };
-                Ok(Move::Next(Node::Heads(at)))
+                self.stage = next(Stage::GangAssemble, with_gang(INTERLOCK));
+                Ok(Turn::Next)
             }
-            Err(NoMemory) => {
-                let at = HeadsAt {
-                    node,
-                    stage: Stage::GangAssemble,
-                    alloc,
-                };
-                Err(Node::Heads(at))
-            }
+            Err(NoMemory) => Err(NoMemory),
         }
     }
 
     /// The members' bodies are read by whoever asked for the walk.
-    fn gang_issue(self) -> Move<Node>
-        requires stage { self.stage ≡ Stage.GangIssue }
-        ensures moves { (tops : Seq SeenTop) → MovesBare tops (Node.Heads self) result }
-        ensures over { (tops : Seq SeenTop) → IsHeadsAtOver tops self → EachIn (IsNodeOver tops) (IsTreeOver tops) result }
-        ensures valid { TellsValid result }
-        ensures left { Lessens left_of (Node.Heads self) result }
+    fn gang_issue(&mut self) -> Turn
+        requires stage { self.old.stage ≡ Stage.GangIssue }
+        ensures moves { (tops : Seq SeenTop) → MovesBare tops (Node.Heads self.old) (moved (Node.Heads self.new) result) }
+        ensures over { (tops : Seq SeenTop) → IsHeadsAtOver tops self.old → EachIn (IsNodeOver tops) (IsTreeOver tops) (moved (Node.Heads self.new) result) }
+        ensures valid { TellsValid (moved (Node.Heads self.new) result) }
+        ensures left { Lessens left_of (Node.Heads self.old) (moved (Node.Heads self.new) result) }
+        ensures stages { IsStageMove (Node.Heads self.old) (moved (Node.Heads self.new) result) }
     {
-        let HeadsAt { node, alloc, .. } = self;
-        let at = HeadsAt {
-            node,
-            stage: next(Stage::GangIssue, with_gang(INTERLOCK)),
-            alloc,
-        };
-        Move::Next(Node::Heads(at))
+        self.stage = next(Stage::GangIssue, with_gang(INTERLOCK));
+        Turn::Next
     }
 
     /// A walk makes no block, and tells no pointer.
-    fn ready(self) -> Move<Node>
-        requires stage { self.stage ≡ Stage.Ready }
-        ensures moves { (tops : Seq SeenTop) → MovesBare tops (Node.Heads self) result }
-        ensures over { (tops : Seq SeenTop) → IsHeadsAtOver tops self → EachIn (IsNodeOver tops) (IsTreeOver tops) result }
-        ensures valid { TellsValid result }
-        ensures left { Lessens left_of (Node.Heads self) result }
+    fn ready(&mut self) -> Turn
+        requires stage { self.old.stage ≡ Stage.Ready }
+        ensures moves { (tops : Seq SeenTop) → MovesBare tops (Node.Heads self.old) (moved (Node.Heads self.new) result) }
+        ensures over { (tops : Seq SeenTop) → IsHeadsAtOver tops self.old → EachIn (IsNodeOver tops) (IsTreeOver tops) (moved (Node.Heads self.new) result) }
+        ensures valid { TellsValid (moved (Node.Heads self.new) result) }
+        ensures left { Lessens left_of (Node.Heads self.old) (moved (Node.Heads self.new) result) }
+        ensures stages { IsStageMove (Node.Heads self.old) (moved (Node.Heads self.new) result) }
     {
         reads_tell_no_pointer();
-        let HeadsAt { node, alloc, .. } = self;
-        let at = HeadsAt {
-            node,
-            stage: next(Stage::Ready, with_gang(INTERLOCK)),
-            alloc,
-        };
-        Move::Ready(Node::Heads(at), None)
+        self.stage = next(Stage::Ready, with_gang(INTERLOCK));
+        Turn::Ready(None)
     }
 
     /// Ends with what the walk left. Where memory is refused it comes back as it was.
-    fn done(self, alloc: Global, tops: &[Top]) -> Result<Move<Node>, Node>
+    pub(crate) fn done(self, alloc: Global, tops: &[Top]) -> Result<Move<Node>, Node>
         requires over { IsHeadsAtOver tops.now self }
         requires stage { self.stage ≡ Stage.Done }
         ensures moves { IfOk result (MovesBare tops.now (Node.Heads self)) }
         ensures over { IfOk result (EachIn (IsNodeOver tops.now) (IsTreeOver tops.now)) }
         ensures valid { IfOk result TellsValid }
+        ensures last { IfOk result IsLastMove }
         ensures left { IfOk result (Lessens left_of (Node.Heads self)) }
         ensures refused { IfErr result (StaysBare tops.now (Node.Heads self)) }
     {
@@ -209,45 +175,39 @@ impl HeadsAt {
     }
 
     /// A child told that its value has no pointer: it reads, or walks.
-    pub fn arrive_ready(self, child: u32) -> HeadsAt
-        requires { HearsSomeEarly nodes (Node.Heads self) child }
+    pub fn arrive_ready(&mut self, child: u32)
+        requires { HearsSomeEarly nodes (Node.Heads self.old) child }
         ensures heard { (t : Terms) (st : Stack) (c : Child) (pointer : Option SeenBp) →
-            HearsEarly nodes t (Node.Heads self) st child c → IsHeadsNode t result.node (heard_early st child c pointer) }
-        ensures stage { result.stage ≡ self.stage }
-        ensures over { (tops : Seq SeenTop) → IsHeadsAtOver tops self → IsHeadsAtOver tops result }
-        ensures left { heads_left result ≡ heads_left self }
+            HearsEarly nodes t (Node.Heads self.old) st child c → IsHeadsNode t self.new.node (heard_early st child c pointer) }
+        ensures stage { self.new.stage ≡ self.old.stage }
+        ensures over { (tops : Seq SeenTop) → IsHeadsAtOver tops self.old → IsHeadsAtOver tops self.new }
+        ensures left { heads_left self.new ≡ heads_left self.old }
     {
-        let HeadsAt { node, stage, alloc } = self;
-        let mut node = node;
-        node.arrive_ready(child);
-        HeadsAt { node, stage, alloc }
+        self.node.arrive_ready(child);
     }
 
-    /// A child ended: the read of the header, or the walk below a member. Where memory is refused both come back.
-    pub fn arrive(self, tops: &[Top], child: u32, outcome: Outcome) -> Result<HeadsAt, HeadsHeard>
-        requires over { IsHeadsAtOver tops.now self }
-        requires awaited { HearsSome nodes tops.now (Node.Heads self) child outcome }
-        ensures heard { IfOk result (λ at. (t : Terms) (st : Stack) (c : Child) (op : Task) (v : Value) →
-            Hears nodes tops.now t (Node.Heads self) st child c op outcome v → IsHeadsNode t at.node (heard_of st child c v)) }
-        ensures stage { IfOk result (λ at. at.stage ≡ self.stage) }
-        ensures over { IfOk result (IsHeadsAtOver tops.now) }
-        ensures left { IfOk result (λ at. heads_left at ≡ heads_left self) }
-        ensures back { IfErr result (λ e. (e.at ≡ self) × (e.outcome ≡ outcome)) }
+    /// A child ended: the read of the header, or the walk below a member. Where memory is refused the outcome comes back, and the walk is as it was.
+    pub fn arrive(&mut self, tops: &[Top], child: u32, outcome: Outcome) -> Result<(), Outcome>
+        requires over { IsHeadsAtOver tops.now self.old }
+        requires awaited { HearsSome nodes tops.now (Node.Heads self.old) child outcome }
+        ensures heard { OnOk result ((t : Terms) (st : Stack) (c : Child) (op : Task) (v : Value) →
+            Hears nodes tops.now t (Node.Heads self.old) st child c op outcome v → IsHeadsNode t self.new.node (heard_of st child c v)) }
+        ensures stage { OnOk result (self.new.stage ≡ self.old.stage) }
+        ensures over { OnOk result (IsHeadsAtOver tops.now self.new) }
+        ensures left { OnOk result (heads_left self.new ≡ heads_left self.old) }
+        ensures same { OnErr result (self.new ≡ self.old) }
+        ensures back { IfErr result (λ e. e ≡ outcome) }
     {
-        let HeadsAt { node, stage, alloc } = self;
-        let mut node = node;
         match outcome {
             Outcome::Found(found) => {
-                let Ok(()) = node.arrive_head(alloc, tops, child, &found) else {
-                    let at = HeadsAt { node, stage, alloc };
-                    let outcome = Outcome::Found(found);
-                    return Err(HeadsHeard { at, outcome });
+                let Ok(()) = self.node.arrive_head(self.alloc, tops, child, &found) else {
+                    return Err(Outcome::Found(found));
                 };
-                Ok(HeadsAt { node, stage, alloc })
+                Ok(())
             }
             Outcome::Walked(walked) => {
-                node.arrive_below(tops, child, walked);
-                Ok(HeadsAt { node, stage, alloc })
+                self.node.arrive_below(tops, child, walked);
+                Ok(())
             }
             Outcome::Finished(_) | Outcome::Again { .. } | Outcome::Stored(_) => unreachable!(),
         }

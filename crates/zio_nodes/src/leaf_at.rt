@@ -1,6 +1,6 @@
 //! An operation on a leaf, from stage to stage: it is handed to its leaf, and ends with what that answers.
 
-ghost use Rattle.std.specs.Prelude.{◌≡◌, ◌≤◌, IfErr, IfOk, List as Seq, false};
+ghost use Rattle.std.specs.Prelude.{◌≡◌, ◌≢◌, ◌≤◌, IfOk, List as Seq, false, OnErr};
 ghost use Rattle.zio_types.specs.declared.place.Top.{Top as SeenTop};
 ghost use Rattle.zio_gang.specs.Attempts.{Terms};
 ghost use Rattle.zio_trace.specs.Leaves.{Answer, LeafOp};
@@ -11,14 +11,16 @@ ghost use Rattle.zio_stages.specs.LeafWorks.{IsDue, IsLeafWork};
 ghost use Rattle.zio_graph.specs.Stages.{EachIn, Lessens, ShowsAnswer, TellsValid};
 ghost use Rattle.zio_nodes.specs.Bounds.{leaf_left, leaf_max};
 ghost use Rattle.zio_nodes.specs.LeafAts.{IsLeafAt, LeafStands};
-ghost use Rattle.zio_nodes.specs.Nodes.{IsNodeOver, IsTreeOver, MovesBare, StaysBare, left_of};
+ghost use Rattle.zio_nodes.specs.StageMoves.{IsLastMove, IsStageMove};
+ghost use Rattle.zio_nodes.specs.Nodes.{IsNodeOver, IsTreeOver, MovesBare, StaysBare, left_of, moved};
 ghost use Rattle.zio_nodes.specs.Told.{is_told};
 
 use crate::node::Node;
+use crate::turn::Turn;
 use zio_graph::Move;
 use zio_masks::{Stage, VDEV_CHILD, next};
 use zio_stages::{LeafWork, Outcome};
-use zio_types::{Bytes, Errno, List};
+use zio_types::{Bytes, Errno, List, NoMemory};
 
 /// An operation on a leaf at a stage of its pipeline.
 #[derive(Drop)]
@@ -36,7 +38,7 @@ impl LeafAt {
         ensures fresh { (t : Terms) (act : LeafOp) → IsLeafWork t work (fresh_frame (Leaf act)) →
             IsLeafAt t result (fresh_stack (Leaf act)) }
         ensures stands { LeafStands result.stage result.is_out result.work }
-        ensures left { leaf_left result.stage ≡ leaf_max }
+        ensures left { leaf_left result.stage result.is_out ≡ leaf_max }
     {
         LeafAt {
             work,
@@ -45,91 +47,87 @@ impl LeafAt {
         }
     }
 
-    /// Runs one stage. While its leaf has it nothing can be done, and it comes back.
-    pub fn run_stage(self) -> Result<Move<Node>, Node>
-        requires { LeafStands self.stage self.is_out self.work }
-        ensures moves { (tops : Seq SeenTop) → IfOk result (MovesBare tops (Node.Leaf self)) }
-        ensures over { (tops : Seq SeenTop) → IfOk result (EachIn (IsNodeOver tops) (IsTreeOver tops)) }
-        ensures valid { IfOk result TellsValid }
-        ensures left { IfOk result (Lessens left_of (Node.Leaf self)) }
-        ensures refused { (tops : Seq SeenTop) → IfErr result (StaysBare tops (Node.Leaf self)) }
+    /// The stage where it stands.
+    pub(crate) fn stage(&self) -> Stage
+        ensures { result ≡ self.now.stage }
+    {
+        self.stage
+    }
+
+    /// Runs one stage before its last. While its leaf has it nothing can be done, and it comes back.
+    pub fn run_stage(&mut self) -> Result<Turn, NoMemory>
+        requires stands { LeafStands self.old.stage self.old.is_out self.old.work }
+        requires before { self.old.stage ≢ Stage.Done }
+        ensures moves { (tops : Seq SeenTop) → IfOk result (λ turn. MovesBare tops (Node.Leaf self.old) (moved (Node.Leaf self.new) turn)) }
+        ensures over { (tops : Seq SeenTop) → IfOk result (λ turn. EachIn (IsNodeOver tops) (IsTreeOver tops) (moved (Node.Leaf self.new) turn)) }
+        ensures valid { IfOk result (λ turn. TellsValid (moved (Node.Leaf self.new) turn)) }
+        ensures left { IfOk result (λ turn. Lessens left_of (Node.Leaf self.old) (moved (Node.Leaf self.new) turn)) }
+        ensures refused { (tops : Seq SeenTop) → OnErr result (StaysBare tops (Node.Leaf self.old) (Node.Leaf self.new)) }
+        ensures stages { IfOk result (λ turn. IsStageMove (Node.Leaf self.old) (moved (Node.Leaf self.new) turn)) }
     {
         match self.stage {
-            Stage::VdevIoStart => Ok(self.vdev_io_start()),
-            Stage::VdevIoDone => self.vdev_io_done(),
+            Stage::VdevIoStart => self.vdev_io_start(),
+            Stage::VdevIoDone => Ok(self.vdev_io_done()),
             Stage::VdevIoAssess => Ok(self.vdev_io_assess()),
-            Stage::Done => Ok(self.done()),
             _ => unreachable!(),
         }
     }
 
-    /// Hands the operation to its leaf.
-    fn vdev_io_start(self) -> Move<Node>
-        requires stands { LeafStands self.stage self.is_out self.work }
-        requires stage { self.stage ≡ Stage.VdevIoStart }
-        ensures moves { (tops : Seq SeenTop) → MovesBare tops (Node.Leaf self) result }
-        ensures over { (tops : Seq SeenTop) → EachIn (IsNodeOver tops) (IsTreeOver tops) result }
-        ensures valid { TellsValid result }
-        ensures left { Lessens left_of (Node.Leaf self) result }
-    {
-        let LeafAt { work, .. } = self;
-        let mut work = work;
-        let (op, leaf, bytes) = work.hand_out();
-        let node = LeafAt {
-            work,
-            stage: next(Stage::VdevIoStart, VDEV_CHILD),
-            is_out: true,
-        };
-        Move::Leaf(Node::Leaf(node), op, leaf, bytes)
-    }
-
-    /// Goes on once its leaf answered.
-    fn vdev_io_done(self) -> Result<Move<Node>, Node>
-        requires stands { LeafStands self.stage self.is_out self.work }
-        requires stage { self.stage ≡ Stage.VdevIoDone }
-        ensures moves { (tops : Seq SeenTop) → IfOk result (MovesBare tops (Node.Leaf self)) }
-        ensures over { (tops : Seq SeenTop) → IfOk result (EachIn (IsNodeOver tops) (IsTreeOver tops)) }
-        ensures valid { IfOk result TellsValid }
-        ensures left { IfOk result (Lessens left_of (Node.Leaf self)) }
-        ensures refused { (tops : Seq SeenTop) → IfErr result (StaysBare tops (Node.Leaf self)) }
+    /// Hands the operation to its leaf, once.
+    fn vdev_io_start(&mut self) -> Result<Turn, NoMemory>
+        requires stands { LeafStands self.old.stage self.old.is_out self.old.work }
+        requires stage { self.old.stage ≡ Stage.VdevIoStart }
+        ensures moves { (tops : Seq SeenTop) → IfOk result (λ turn. MovesBare tops (Node.Leaf self.old) (moved (Node.Leaf self.new) turn)) }
+        ensures over { (tops : Seq SeenTop) → IfOk result (λ turn. EachIn (IsNodeOver tops) (IsTreeOver tops) (moved (Node.Leaf self.new) turn)) }
+        ensures valid { IfOk result (λ turn. TellsValid (moved (Node.Leaf self.new) turn)) }
+        ensures left { IfOk result (λ turn. Lessens left_of (Node.Leaf self.old) (moved (Node.Leaf self.new) turn)) }
+        ensures refused { (tops : Seq SeenTop) → OnErr result (StaysBare tops (Node.Leaf self.old) (Node.Leaf self.new)) }
+        ensures stages { IfOk result (λ turn. IsStageMove (Node.Leaf self.old) (moved (Node.Leaf self.new) turn)) }
     {
         if self.is_out {
-            return Err(Node::Leaf(self));
+            return Err(NoMemory);
         }
-        let LeafAt { work, .. } = self;
-        let node = LeafAt {
-            work,
-            stage: next(Stage::VdevIoDone, VDEV_CHILD),
-            is_out: false,
-        };
-        Ok(Move::Next(Node::Leaf(node)))
+        let (op, leaf, bytes) = self.work.hand_out();
+        self.is_out = true;
+        Ok(Turn::Leaf(op, leaf, bytes))
+    }
+
+    /// Its leaf answered, so it goes on.
+    fn vdev_io_done(&mut self) -> Turn
+        requires stands { LeafStands self.old.stage self.old.is_out self.old.work }
+        requires stage { self.old.stage ≡ Stage.VdevIoDone }
+        ensures moves { (tops : Seq SeenTop) → MovesBare tops (Node.Leaf self.old) (moved (Node.Leaf self.new) result) }
+        ensures over { (tops : Seq SeenTop) → EachIn (IsNodeOver tops) (IsTreeOver tops) (moved (Node.Leaf self.new) result) }
+        ensures valid { TellsValid (moved (Node.Leaf self.new) result) }
+        ensures left { Lessens left_of (Node.Leaf self.old) (moved (Node.Leaf self.new) result) }
+        ensures stages { IsStageMove (Node.Leaf self.old) (moved (Node.Leaf self.new) result) }
+    {
+        self.stage = next(Stage::VdevIoDone, VDEV_CHILD);
+        Turn::Next
     }
 
     /// Whoever asked for the operation decides what its error means, so it goes on with it.
-    fn vdev_io_assess(self) -> Move<Node>
-        requires stands { LeafStands self.stage self.is_out self.work }
-        requires stage { self.stage ≡ Stage.VdevIoAssess }
-        ensures moves { (tops : Seq SeenTop) → MovesBare tops (Node.Leaf self) result }
-        ensures over { (tops : Seq SeenTop) → EachIn (IsNodeOver tops) (IsTreeOver tops) result }
-        ensures valid { TellsValid result }
-        ensures left { Lessens left_of (Node.Leaf self) result }
+    fn vdev_io_assess(&mut self) -> Turn
+        requires stands { LeafStands self.old.stage self.old.is_out self.old.work }
+        requires stage { self.old.stage ≡ Stage.VdevIoAssess }
+        ensures moves { (tops : Seq SeenTop) → MovesBare tops (Node.Leaf self.old) (moved (Node.Leaf self.new) result) }
+        ensures over { (tops : Seq SeenTop) → EachIn (IsNodeOver tops) (IsTreeOver tops) (moved (Node.Leaf self.new) result) }
+        ensures valid { TellsValid (moved (Node.Leaf self.new) result) }
+        ensures left { Lessens left_of (Node.Leaf self.old) (moved (Node.Leaf self.new) result) }
+        ensures stages { IsStageMove (Node.Leaf self.old) (moved (Node.Leaf self.new) result) }
     {
-        let LeafAt { work, .. } = self;
-        let node = LeafAt {
-            work,
-            stage: next(Stage::VdevIoAssess, VDEV_CHILD),
-            is_out: false,
-        };
-        Move::Next(Node::Leaf(node))
+        self.stage = next(Stage::VdevIoAssess, VDEV_CHILD);
+        Turn::Next
     }
 
     /// Ends with what the leaf answered.
-    fn done(self) -> Move<Node>
+    pub(crate) fn done(self) -> Move<Node>
         requires stands { LeafStands self.stage self.is_out self.work }
         requires stage { self.stage ≡ Stage.Done }
         ensures moves { (tops : Seq SeenTop) → MovesBare tops (Node.Leaf self) result }
         ensures over { (tops : Seq SeenTop) → EachIn (IsNodeOver tops) (IsTreeOver tops) result }
         ensures valid { TellsValid result }
+        ensures last { IsLastMove result }
         ensures left { Lessens left_of (Node.Leaf self) result }
     {
         let LeafAt { work, .. } = self;
@@ -138,28 +136,23 @@ impl LeafAt {
 
     /// The leaf answered: an error or none, and of a read the bytes of its place, of which the first are kept that were
     /// asked for.
-    pub fn answered(self, error: Option<Errno>, bytes: Bytes) -> LeafAt
-        requires { (t : Terms) × (act : LeafOp) × IsLeafAt t self (fresh_stack (Leaf act)) }
-        ensures heard { (t : Terms) (act : LeafOp) (a : Answer) → IsLeafAt t self (fresh_stack (Leaf act)) →
+    pub fn answered(&mut self, error: Option<Errno>, bytes: Bytes)
+        requires { (t : Terms) × (act : LeafOp) × IsLeafAt t self.old (fresh_stack (Leaf act)) }
+        ensures heard { (t : Terms) (act : LeafOp) (a : Answer) → IsLeafAt t self.old (fresh_stack (Leaf act)) →
             ShowsAnswer act error bytes a →
-            IsLeafAt t result (done_at_once (fresh_stack (Leaf act)) (Leaf act) (Got a)) }
-        ensures told { is_told result.stage ≡ is_told self.stage }
-        ensures stands { LeafStands result.stage result.is_out result.work }
-        ensures left { leaf_left result.stage ≤ leaf_left self.stage }
+            IsLeafAt t self.new (done_at_once (fresh_stack (Leaf act)) (Leaf act) (Got a)) }
+        ensures told { is_told self.new.stage ≡ is_told self.old.stage }
+        ensures stands { LeafStands self.new.stage self.new.is_out self.new.work }
+        ensures left { leaf_left self.new.stage self.new.is_out ≤ leaf_left self.old.stage self.old.is_out }
     {
-        let LeafAt { work, is_out, .. } = self;
-        let mut work = work;
-        if !is_out {
-            work.hand_out();
+        if !self.is_out {
+            self.work.hand_out();
         }
-        let len = work.len();
+        let len = self.work.len();
         let mut items = bytes.into_vec();
         items.truncate(len);
-        work.answer(error, List::from_vec(items));
-        LeafAt {
-            work,
-            stage: next(Stage::VdevIoStart, VDEV_CHILD),
-            is_out: false,
-        }
+        self.work.answer(error, List::from_vec(items));
+        self.stage = next(Stage::VdevIoStart, VDEV_CHILD);
+        self.is_out = false;
     }
 }

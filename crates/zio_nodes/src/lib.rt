@@ -13,6 +13,7 @@ mod heads_at;
 mod laws;
 mod leaf_at;
 mod node;
+mod node_box;
 mod null_at;
 mod own_hear;
 mod part_at;
@@ -21,19 +22,21 @@ mod read_at;
 mod read_io_at;
 mod request_at;
 mod request_hear;
-mod staged;
 mod tree_at;
+mod turn;
 mod write_at;
 mod write_hear;
 
 pub use copies_at::CopiesAt;
-pub use heads_at::{HeadsAt, HeadsHeard};
+pub use heads_at::HeadsAt;
 pub use laws::{
     members_alone_tell_pointers, no_node_asks_for_places, nodes_give_their_own,
     operations_on_leaves_tell_nothing,
 };
 pub use leaf_at::LeafAt;
 pub use node::Node;
+pub use node_box::NodeBox;
 pub use part_at::PartAt;
 pub use request_at::RequestAt;
 pub use tree_at::TreeAt;
+pub use turn::Turn;

@@ -1,6 +1,6 @@
 //! A node of any kind: its stages, and what it hears.
 
-ghost use Rattle.std.specs.Prelude.{◌≡◌, ◌+◌, ◌<◌, ◌≤◌, [], Err, IfOk, IfSome, IsTrue, List as Seq, Ok, Some, false};
+ghost use Rattle.std.specs.Prelude.{◌≡◌, ◌+◌, ◌<◌, ◌≤◌, [], IfErr, IfOk, IfSome, IsTrue, List as Seq, OnErr, OnOk, Some, false, is_ok, true};
 ghost use Rattle.zio_types.specs.declared.place.Top.{Top as SeenTop};
 ghost use Rattle.zio_blkptr.specs.Pointers.{valid};
 ghost use Rattle.zio_gang.specs.Attempts.{Pending, Terms};
@@ -9,38 +9,54 @@ ghost use Rattle.zio_trace.specs.Leaves.{Answer, LeafOp};
 ghost use Rattle.zio_trace.specs.Tasks.{Attempt, Got, Leaf, Task, Value};
 ghost use Rattle.zio_frames.specs.Frames.{Child, Stack, fresh_stack};
 ghost use Rattle.zio_frames.specs.Moves.{done_at_once, heard_early, heard_of};
-ghost use Rattle.zio_stages.specs.SpaceCalls.{SpaceCall};
 ghost use Rattle.zio_stages.specs.Wholes.{IsTreeOf};
 ghost use Rattle.zio_stages.specs.declared.outcome.Outcome.{Outcome as SeenOutcome};
 ghost use Rattle.zio_graph.specs.Stages.{
   EachIn,
-  GoesOn,
   Hears,
   HearsEarly,
   HearsSome,
   HearsSomeEarly,
-  IsMove,
-  IsNow,
   Lessens,
   OutcomeIn,
   ShowsAnswer,
   TellsValid,
   heard_max,
 };
-ghost use Rattle.zio_nodes.specs.Nodes.{IsNode, IsNodeOver, IsTreeOver, gave_of, left_of, nodes, told_of};
+ghost use Rattle.zio_nodes.specs.Nodes.{
+  IsInPlace,
+  IsNode,
+  IsNodeOver,
+  IsTreeOver,
+  MovesBare,
+  MovesWith,
+  StaysBare,
+  StaysWith,
+  gave_of,
+  is_tree,
+  left_of,
+  moved,
+  moved as moved_to,
+  nodes,
+  told_of,
+};
+ghost use Rattle.zio_nodes.specs.StageMoves.{IsLastMove, IsStageMove, stage_of};
 
 use crate::copies_at::CopiesAt;
-use crate::heads_at::{HeadsAt, HeadsHeard};
+use crate::heads_at::HeadsAt;
 use crate::leaf_at::LeafAt;
 use crate::part_at::PartAt;
 use crate::request_at::RequestAt;
 use crate::tree_at::TreeAt;
+use crate::turn::Turn;
 use std::alloc::Global;
+use std::mem::replace;
 use zio_blkptr::Bp;
-use zio_graph::{BothBack, Move};
+use zio_graph::Move;
+use zio_masks::Stage;
 use zio_script::Failmode;
 use zio_stages::{Finished, Outcome, Services, Whole};
-use zio_types::{Bytes, Errno, Top};
+use zio_types::{Bytes, Errno, NoMemory, Top};
 
 /// A node of a round.
 #[derive(Drop)]
@@ -57,6 +73,8 @@ pub enum Node {
     Tree(TreeAt),
     /// A request in an attempt.
     Request(RequestAt),
+    /// Nothing: the place of a node that is to come, or that ended.
+    Empty,
 }
 
 impl Node {
@@ -72,105 +90,243 @@ impl Node {
         Node::Tree(TreeAt::new(whole, round, attempt, failmode))
     }
 
-    /// Runs one stage. Where memory is refused the node comes back, the stage is to be repeated, and what it did of it stays.
-    /// An operation that its leaf has comes back as it is.
-    pub fn run_stage<S: Services>(self, alloc: Global, services: &mut S) -> Result<Move<Node>, Node>
-        requires { IsNodeOver (S.tops services.old) self }
-        ensures moves { (move : Move Node) → result ≡ Ok move →
-            (calls : Seq SpaceCall) × S.made services.old calls services.new
-            × ((t : Terms) (st : Stack) → IsNow nodes (S.tops services.old) t self st →
-            IsMove nodes gave_of t self st calls move) }
-        ensures over { IfOk result (EachIn (IsNodeOver (S.tops services.old)) (IsTreeOver (S.tops services.old))) }
-        ensures valid { IfOk result TellsValid }
-        ensures left { IfOk result (Lessens left_of self) }
-        ensures refused { (node : Node) → result ≡ Err node →
-            (calls : Seq SpaceCall) × S.made services.old calls services.new
-            × ((t : Terms) (st : Stack) → IsNow nodes (S.tops services.old) t self st →
-            GoesOn nodes gave_of t self st calls node) }
+    /// The stage where it stands.
+    pub fn stage(&self) -> Stage
+        ensures { result ≡ stage_of self.now }
+    {
+        match self {
+            Node::Leaf(at) => at.stage(),
+            Node::Copies(at) => at.stage(),
+            Node::Heads(at) => at.stage(),
+            Node::Part(at) => at.stage,
+            Node::Request(at) => at.stage,
+            Node::Tree(_) | Node::Empty => Stage::Start,
+        }
+    }
+
+    /// Runs one stage. Where memory is refused the stage is to be repeated, and what it did of it stays. An operation that its
+    /// leaf has stays as it is.
+    pub fn run_stage<S: Services>(
+        &mut self,
+        alloc: Global,
+        services: &mut S,
+    ) -> Result<Turn, NoMemory>
+        requires { IsNodeOver (S.tops services.old) self.old }
+        ensures moves { IfOk result (λ turn. MovesWith S.made (S.tops services.old) services.old services.new self.old (moved self.new turn)) }
+        ensures over { IfOk result (λ turn. EachIn (IsNodeOver (S.tops services.old)) (IsTreeOver (S.tops services.old)) (moved self.new turn)) }
+        ensures valid { IfOk result (λ turn. TellsValid (moved self.new turn)) }
+        ensures left { IfOk result (λ turn. Lessens left_of self.old (moved self.new turn)) }
+        ensures stages { IfOk result (λ turn. IsStageMove self.old (moved self.new turn)) }
+        ensures refused { OnErr result (StaysWith S.made (S.tops services.old) services.old services.new self.old self.new) }
         ensures tops { S.tops services.new ≡ S.tops services.old }
     {
+        if self.is_tree() {
+            return self.start_tree(alloc);
+        }
+        if self.stage() == Stage::Done {
+            return self.run_last(alloc, services);
+        }
         match self {
             Node::Leaf(at) => at.run_stage(),
             Node::Copies(at) => at.run_stage(alloc, services.tops()),
             Node::Heads(at) => at.run_stage(alloc, services.tops()),
             Node::Part(at) => at.run_stage(alloc, services),
-            Node::Tree(at) => at.run_stage(alloc),
             Node::Request(at) => at.run_stage(alloc, services),
+            Node::Tree(_) | Node::Empty => unreachable!(),
         }
     }
 
-    /// The child of this number told which pointer its value will have, or that it has none.
-    pub fn arrive_ready(self, child: u32, pointer: Option<Bp>) -> Node
-        requires awaited { HearsSomeEarly nodes self child }
-        requires valid { IfSome pointer (λ bp. IsTrue (valid bp)) }
-        ensures heard { (t : Terms) (st : Stack) (c : Child) → HearsEarly nodes t self st child c →
-            IsNode t result (heard_early st child c pointer) }
-        ensures told { told_of result ≡ told_of self }
-        ensures gave { gave_of result ≡ gave_of self }
-        ensures over { (tops : Seq SeenTop) → IsNodeOver tops self → IsNodeOver tops result }
-        ensures left { left_of result ≤ left_of self + heard_max }
+    /// Whether it is a tree that is to start.
+    fn is_tree(&self) -> bool
+        ensures { result ≡ is_tree self.now }
     {
         match self {
-            Node::Leaf(_) | Node::Copies(_) | Node::Tree(_) => unreachable!(),
-            // Whatever it told: a read or a walk has no pointer, and its parent keeps none.
-            Node::Heads(at) => Node::Heads(at.arrive_ready(child)),
-            Node::Part(at) => Node::Part(at.arrive_ready(child, pointer)),
-            Node::Request(at) => Node::Request(at.arrive_ready(child, pointer)),
+            Node::Tree(_) => true,
+            Node::Leaf(_)
+            | Node::Copies(_)
+            | Node::Heads(_)
+            | Node::Part(_)
+            | Node::Request(_)
+            | Node::Empty => false,
         }
     }
 
-    /// The child of this number ended. Of a request that finished this comes back. Where memory is refused both come back.
-    pub fn arrive(
-        self,
-        tops: &[Top],
-        child: u32,
-        outcome: Outcome,
-    ) -> Result<(Node, Option<Finished>), BothBack<Node>>
-        requires over { IsNodeOver tops.now self }
-        requires awaited { HearsSome nodes tops.now self child outcome }
-        requires inside { OutcomeIn (IsTreeOver tops.now) outcome }
-        ensures heard { IfOk result (λ both. (t : Terms) (st : Stack) (c : Child) (op : Task) (v : Value) →
-            Hears nodes tops.now t self st child c op outcome v → IsNode t both.0 (heard_of st child c v)) }
-        ensures finished { IfOk result (λ both. IfSome both.1 (λ f. outcome ≡ SeenOutcome.Finished f)) }
-        ensures kept { IfOk result (λ both. (f : _) → outcome ≡ SeenOutcome.Finished f → both.1 ≡ Some f) }
-        ensures told { IfOk result (λ both. told_of both.0 ≡ told_of self) }
-        ensures gave { IfOk result (λ both. gave_of both.0 ≡ gave_of self) }
-        ensures over_still { IfOk result (λ both. IsNodeOver tops.now both.0) }
-        ensures left { IfOk result (λ both. left_of both.0 ≤ left_of self + heard_max) }
+    /// Splits the tree, and is its request. Where memory is refused it is as it was.
+    fn start_tree(&mut self, alloc: Global) -> Result<Turn, NoMemory>
+        requires tree { is_tree self.old ≡ true }
+        ensures moves { (tops : Seq SeenTop) → IfOk result (λ turn. MovesBare tops self.old (moved self.new turn)) }
+        ensures over { (tops : Seq SeenTop) → IsNodeOver tops self.old →
+            IfOk result (λ turn. EachIn (IsNodeOver tops) (IsTreeOver tops) (moved self.new turn)) }
+        ensures valid { IfOk result (λ turn. TellsValid (moved self.new turn)) }
+        ensures left { IfOk result (λ turn. Lessens left_of self.old (moved self.new turn)) }
+        ensures stages { IfOk result (λ turn. IsStageMove self.old (moved self.new turn)) }
+        ensures refused { (tops : Seq SeenTop) → OnErr result (StaysBare tops self.old self.new) }
+    {
+        match replace(self, Node::Empty) {
+            Node::Tree(at) => {
+                let started = at.run_stage(alloc);
+                self.settle(started)
+            }
+            Node::Leaf(_)
+            | Node::Copies(_)
+            | Node::Heads(_)
+            | Node::Part(_)
+            | Node::Request(_)
+            | Node::Empty => unreachable!(),
+        }
+    }
+
+    /// Runs the stage where it ends, which takes it apart. Where memory is refused what it did of the stage stays.
+    fn run_last<S: Services>(&mut self, alloc: Global, services: &mut S) -> Result<Turn, NoMemory>
+        requires over { IsNodeOver (S.tops services.old) self.old }
+        requires at_last { stage_of self.old ≡ Stage.Done }
+        ensures moves { IfOk result (λ turn. MovesWith S.made (S.tops services.old) services.old services.new self.old (moved self.new turn)) }
+        ensures over { IfOk result (λ turn. EachIn (IsNodeOver (S.tops services.old)) (IsTreeOver (S.tops services.old)) (moved self.new turn)) }
+        ensures valid { IfOk result (λ turn. TellsValid (moved self.new turn)) }
+        ensures left { IfOk result (λ turn. Lessens left_of self.old (moved self.new turn)) }
+        ensures stages { IfOk result (λ turn. IsStageMove self.old (moved self.new turn)) }
+        ensures refused { OnErr result (StaysWith S.made (S.tops services.old) services.old services.new self.old self.new) }
+        ensures tops { S.tops services.new ≡ S.tops services.old }
+    {
+        let last = replace(self, Node::Empty).last_move(alloc, services);
+        self.settle(last)
+    }
+
+    /// The same of a node that isn't in a place.
+    fn last_move<S: Services>(self, alloc: Global, services: &mut S) -> Result<Move<Node>, Node>
+        requires over { IsNodeOver (S.tops services.old) self }
+        requires at_last { stage_of self ≡ Stage.Done }
+        ensures moves { IfOk result (MovesWith S.made (S.tops services.old) services.old services.new self) }
+        ensures over { IfOk result (EachIn (IsNodeOver (S.tops services.old)) (IsTreeOver (S.tops services.old))) }
+        ensures valid { IfOk result TellsValid }
+        ensures last { IfOk result IsLastMove }
+        ensures left { IfOk result (Lessens left_of self) }
+        ensures refused { IfErr result (StaysWith S.made (S.tops services.old) services.old services.new self) }
+        ensures tops { S.tops services.new ≡ S.tops services.old }
     {
         match self {
-            Node::Leaf(_) | Node::Tree(_) => unreachable!(),
-            Node::Copies(at) => Ok((Node::Copies(at.arrive(tops, child, outcome)), None)),
-            Node::Heads(at) => match at.arrive(tops, child, outcome) {
-                Ok(at) => Ok((Node::Heads(at), None)),
-                Err(HeadsHeard { at, outcome }) => Err(BothBack {
-                    node: Node::Heads(at),
-                    outcome,
-                }),
-            },
-            Node::Part(at) => Ok((Node::Part(at.arrive(tops, child, outcome)), None)),
-            Node::Request(at) => {
-                let (at, finished) = at.arrive(tops, child, outcome);
-                Ok((Node::Request(at), finished))
+            Node::Leaf(at) => Ok(at.done()),
+            Node::Copies(at) => Ok(at.done(services.tops())),
+            Node::Heads(at) => at.done(alloc, services.tops()),
+            Node::Part(at) => at.done(alloc),
+            Node::Request(at) => at.done(alloc, services),
+            Node::Tree(_) | Node::Empty => unreachable!(),
+        }
+    }
+
+    /// What a stage came to that took the node apart: the node is in its place again, unless it ended.
+    fn settle(&mut self, moved: Result<Move<Node>, Node>) -> Result<Turn, NoMemory>
+        requires { IfOk moved IsInPlace }
+        ensures ok { IfOk moved (λ move. IfOk result (λ turn. moved_to self.new turn ≡ move)) }
+        ensures stays { IfErr moved (λ node. self.new ≡ node) }
+        ensures same { is_ok result ≡ is_ok moved }
+    {
+        match moved {
+            Ok(Move::Next(node)) => {
+                self.put(node);
+                Ok(Turn::Next)
+            }
+            Ok(Move::Wait(node, kind, phase)) => {
+                self.put(node);
+                Ok(Turn::Wait(kind, phase))
+            }
+            Ok(Move::End(outcome)) => Ok(Turn::End(outcome)),
+            Ok(Move::Grow(_, _, _)) => unreachable!(),
+            Ok(Move::Leaf(_, _, _, _)) => unreachable!(),
+            Ok(Move::Ready(_, _)) => unreachable!(),
+            Err(node) => {
+                self.put(node);
+                Err(NoMemory)
             }
         }
     }
 
-    /// The leaf answered: an error or none, and the bytes of a read.
-    pub fn answered(self, error: Option<Errno>, bytes: Bytes) -> Node
-        requires { (t : Terms) × (act : LeafOp) × IsNode t self (fresh_stack (Leaf act)) }
-        ensures heard { (t : Terms) (act : LeafOp) (a : Answer) → IsNode t self (fresh_stack (Leaf act)) →
-            ShowsAnswer act error bytes a →
-            IsNode t result (done_at_once (fresh_stack (Leaf act)) (Leaf act) (Got a)) }
-        ensures told { told_of result ≡ told_of self }
-        ensures gave { gave_of result ≡ gave_of self }
-        ensures over { (tops : Seq SeenTop) → IsNodeOver tops self → IsNodeOver tops result }
-        ensures left { left_of result ≤ left_of self }
+    /// This node is in the place.
+    fn put(&mut self, node: Node)
+        ensures { self.new ≡ node }
+    {
+        *self = node;
+    }
+
+    /// The child of this number told which pointer its value will have, or that it has none.
+    pub fn arrive_ready(&mut self, child: u32, pointer: Option<Bp>)
+        requires awaited { HearsSomeEarly nodes self.old child }
+        requires valid { IfSome pointer (λ bp. IsTrue (valid bp)) }
+        ensures heard { (t : Terms) (st : Stack) (c : Child) → HearsEarly nodes t self.old st child c →
+            IsNode t self.new (heard_early st child c pointer) }
+        ensures told { told_of self.new ≡ told_of self.old }
+        ensures gave { gave_of self.new ≡ gave_of self.old }
+        ensures over { (tops : Seq SeenTop) → IsNodeOver tops self.old → IsNodeOver tops self.new }
+        ensures left { left_of self.new ≤ left_of self.old + heard_max }
     {
         match self {
-            Node::Leaf(at) => Node::Leaf(at.answered(error, bytes)),
-            Node::Copies(_) | Node::Heads(_) | Node::Part(_) | Node::Tree(_) | Node::Request(_) =>
-                unreachable!(),
+            Node::Leaf(_) | Node::Copies(_) | Node::Tree(_) | Node::Empty => unreachable!(),
+            // Whatever it told: a read or a walk has no pointer, and its parent keeps none.
+            Node::Heads(at) => at.arrive_ready(child),
+            Node::Part(at) => at.arrive_ready(child, pointer),
+            Node::Request(at) => at.arrive_ready(child, pointer),
+        }
+    }
+
+    /// The child of this number ended. Of a request that finished this comes back. Where memory is refused the outcome comes
+    /// back, and the node is as it was.
+    pub fn arrive(
+        &mut self,
+        tops: &[Top],
+        child: u32,
+        outcome: Outcome,
+    ) -> Result<Option<Finished>, Outcome>
+        requires over { IsNodeOver tops.now self.old }
+        requires awaited { HearsSome nodes tops.now self.old child outcome }
+        requires inside { OutcomeIn (IsTreeOver tops.now) outcome }
+        ensures heard { OnOk result ((t : Terms) (st : Stack) (c : Child) (op : Task) (v : Value) →
+            Hears nodes tops.now t self.old st child c op outcome v → IsNode t self.new (heard_of st child c v)) }
+        ensures finished { IfOk result (λ finished. IfSome finished (λ f. outcome ≡ SeenOutcome.Finished f)) }
+        ensures kept { IfOk result (λ finished. (f : _) → outcome ≡ SeenOutcome.Finished f → finished ≡ Some f) }
+        ensures told { OnOk result (told_of self.new ≡ told_of self.old) }
+        ensures gave { OnOk result (gave_of self.new ≡ gave_of self.old) }
+        ensures over_still { OnOk result (IsNodeOver tops.now self.new) }
+        ensures left { OnOk result (left_of self.new ≤ left_of self.old + heard_max) }
+        ensures same { OnErr result (self.new ≡ self.old) }
+        ensures back { IfErr result (λ e. e ≡ outcome) }
+    {
+        match self {
+            Node::Leaf(_) | Node::Tree(_) | Node::Empty => unreachable!(),
+            Node::Copies(at) => {
+                at.arrive(tops, child, outcome);
+                Ok(None)
+            }
+            Node::Heads(at) => match at.arrive(tops, child, outcome) {
+                Ok(()) => Ok(None),
+                Err(outcome) => Err(outcome),
+            },
+            Node::Part(at) => {
+                at.arrive(tops, child, outcome);
+                Ok(None)
+            }
+            Node::Request(at) => Ok(at.arrive(tops, child, outcome)),
+        }
+    }
+
+    /// The leaf answered: an error or none, and the bytes of a read.
+    pub fn answered(&mut self, error: Option<Errno>, bytes: Bytes)
+        requires { (t : Terms) × (act : LeafOp) × IsNode t self.old (fresh_stack (Leaf act)) }
+        ensures heard { (t : Terms) (act : LeafOp) (a : Answer) → IsNode t self.old (fresh_stack (Leaf act)) →
+            ShowsAnswer act error bytes a →
+            IsNode t self.new (done_at_once (fresh_stack (Leaf act)) (Leaf act) (Got a)) }
+        ensures told { told_of self.new ≡ told_of self.old }
+        ensures gave { gave_of self.new ≡ gave_of self.old }
+        ensures over { (tops : Seq SeenTop) → IsNodeOver tops self.old → IsNodeOver tops self.new }
+        ensures left { left_of self.new ≤ left_of self.old }
+    {
+        match self {
+            Node::Leaf(at) => at.answered(error, bytes),
+            Node::Copies(_)
+            | Node::Heads(_)
+            | Node::Part(_)
+            | Node::Tree(_)
+            | Node::Request(_)
+            | Node::Empty => unreachable!(),
         }
     }
 }

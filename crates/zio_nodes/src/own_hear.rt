@@ -24,65 +24,44 @@ use zio_types::{ChildKind, Kind, Top};
 
 impl RequestAt {
     /// A gang child of its own work told. Whatever that was: a walk or a read has no pointer, and the request keeps none.
-    pub fn arrive_own_ready(self, child: u32) -> RequestAt
-        requires gang { HearsEarlyOf Gang self.node child }
-        requires kind { kind_of self.node.waiting.request.work ≢ Kind.Write }
+    pub fn arrive_own_ready(&mut self, child: u32)
+        requires gang { HearsEarlyOf Gang self.old.node child }
+        requires kind { kind_of self.old.node.waiting.request.work ≢ Kind.Write }
         ensures heard { (t : Terms) (st : Stack) (c : Child) (pointer : Option Bp) →
-            HearsEarly nodes t (Node.Request self) st child c → IsRequestNode t result.node (heard_early st child c pointer) }
-        ensures stage { result.stage ≡ self.stage }
-        ensures gave { gave_of (Node.Request result) ≡ gave_of (Node.Request self) }
-        ensures over { (tops : Seq SeenTop) → IsRequestAtOver tops self → IsRequestAtOver tops result }
-        ensures left { left_of (Node.Request result) ≡ left_of (Node.Request self) }
+            HearsEarly nodes t (Node.Request self.old) st child c → IsRequestNode t self.new.node (heard_early st child c pointer) }
+        ensures stage { self.new.stage ≡ self.old.stage }
+        ensures gave { gave_of (Node.Request self.new) ≡ gave_of (Node.Request self.old) }
+        ensures over { (tops : Seq SeenTop) → IsRequestAtOver tops self.old → IsRequestAtOver tops self.new }
+        ensures left { left_of (Node.Request self.new) ≡ left_of (Node.Request self.old) }
     {
         other_children_show_own_work();
-        let RequestAt {
-            node,
-            stage,
-            is_due,
-        } = self;
-        let mut node = node;
-        match node.kind() {
+        match self.node.kind() {
             Kind::Read => {
-                node.arrive_ready_read(child);
-                RequestAt {
-                    node,
-                    stage,
-                    is_due,
-                }
+                self.node.arrive_ready_read(child);
             }
             Kind::Free => {
-                node.arrive_ready_free(child);
-                RequestAt {
-                    node,
-                    stage,
-                    is_due,
-                }
+                self.node.arrive_ready_free(child);
             }
             Kind::Claim => {
-                node.arrive_ready_claim(child);
-                RequestAt {
-                    node,
-                    stage,
-                    is_due,
-                }
+                self.node.arrive_ready_claim(child);
             }
             Kind::Null | Kind::Write => unreachable!(),
         }
     }
 
     /// A child of its own work ended: the walk over the block's headers, the read of a body, or an operation on a leaf.
-    pub fn arrive_own(self, tops: &[Top], child: u32, outcome: Outcome) -> RequestAt
-        requires over { IsRequestAtOver tops.now self }
-        requires awaited { HearsSome nodes tops.now (Node.Request self) child outcome }
+    pub fn arrive_own(&mut self, tops: &[Top], child: u32, outcome: Outcome)
+        requires over { IsRequestAtOver tops.now self.old }
+        requires awaited { HearsSome nodes tops.now (Node.Request self.old) child outcome }
         requires own { IsOwnOutcome outcome }
-        requires kind { kind_of self.node.waiting.request.work ≢ Kind.Write }
+        requires kind { kind_of self.old.node.waiting.request.work ≢ Kind.Write }
         ensures heard { (t : Terms) (st : Stack) (c : Child) (op : Task) (v : Value) →
-            Hears nodes tops.now t (Node.Request self) st child c op outcome v →
-            IsRequestNode t result.node (heard_of st child c v) }
-        ensures stage { result.stage ≡ self.stage }
-        ensures gave { gave_of (Node.Request result) ≡ gave_of (Node.Request self) }
-        ensures over_still { IsRequestAtOver tops.now result }
-        ensures left { left_of (Node.Request result) ≤ left_of (Node.Request self) + heard_max }
+            Hears nodes tops.now t (Node.Request self.old) st child c op outcome v →
+            IsRequestNode t self.new.node (heard_of st child c v) }
+        ensures stage { self.new.stage ≡ self.old.stage }
+        ensures gave { gave_of (Node.Request self.new) ≡ gave_of (Node.Request self.old) }
+        ensures over_still { IsRequestAtOver tops.now self.new }
+        ensures left { left_of (Node.Request self.new) ≤ left_of (Node.Request self.old) + heard_max }
     {
         other_children_show_own_work();
         match self.node.kind() {
@@ -94,53 +73,33 @@ impl RequestAt {
     }
 
     /// Of a read.
-    fn arrive_read(self, tops: &[Top], child: u32, outcome: Outcome) -> RequestAt
-        requires over { IsRequestAtOver tops.now self }
-        requires awaited { HearsSome nodes tops.now (Node.Request self) child outcome }
+    fn arrive_read(&mut self, tops: &[Top], child: u32, outcome: Outcome)
+        requires over { IsRequestAtOver tops.now self.old }
+        requires awaited { HearsSome nodes tops.now (Node.Request self.old) child outcome }
         requires own { IsOwnOutcome outcome }
-        requires kind { kind_of self.node.waiting.request.work ≡ Kind.Read }
+        requires kind { kind_of self.old.node.waiting.request.work ≡ Kind.Read }
         ensures heard { (t : Terms) (st : Stack) (c : Child) (op : Task) (v : Value) →
-            Hears nodes tops.now t (Node.Request self) st child c op outcome v →
-            IsRequestNode t result.node (heard_of st child c v) }
-        ensures stage { result.stage ≡ self.stage }
-        ensures gave { gave_of (Node.Request result) ≡ gave_of (Node.Request self) }
-        ensures over_still { IsRequestAtOver tops.now result }
-        ensures left { left_of (Node.Request result) ≤ left_of (Node.Request self) + heard_max }
+            Hears nodes tops.now t (Node.Request self.old) st child c op outcome v →
+            IsRequestNode t self.new.node (heard_of st child c v) }
+        ensures stage { self.new.stage ≡ self.old.stage }
+        ensures gave { gave_of (Node.Request self.new) ≡ gave_of (Node.Request self.old) }
+        ensures over_still { IsRequestAtOver tops.now self.new }
+        ensures left { left_of (Node.Request self.new) ≤ left_of (Node.Request self.old) + heard_max }
     {
         other_children_show_own_work();
         bodies_of_a_walk_lie_on_the_tops();
-        let RequestAt {
-            node,
-            stage,
-            is_due,
-        } = self;
-        let mut node = node;
         match outcome {
             Outcome::Walked(walked) => {
-                node.arrive_walked_read(tops, child, walked);
-                RequestAt {
-                    node,
-                    stage,
-                    is_due,
-                }
+                self.node.arrive_walked_read(tops, child, walked);
             }
-            Outcome::Found(found) => match node.kind_of_child(child) {
+            Outcome::Found(found) => match self.node.kind_of_child(child) {
                 ChildKind::Vdev => {
-                    node.arrive_leaf_read(tops, child, found);
-                    RequestAt {
-                        node,
-                        stage,
-                        is_due: true,
-                    }
+                    self.node.arrive_leaf_read(tops, child, found);
+                    self.is_due = true;
                 }
                 ChildKind::Gang => {
-                    let n = node.own_number(child);
-                    node.arrive_body(tops, child, n, found);
-                    RequestAt {
-                        node,
-                        stage,
-                        is_due,
-                    }
+                    let n = self.node.own_number(child);
+                    self.node.arrive_body(tops, child, n, found);
                 }
                 ChildKind::Logical => unreachable!(),
             },
@@ -149,65 +108,43 @@ impl RequestAt {
     }
 
     /// Of a free.
-    fn arrive_free(self, child: u32, outcome: Outcome) -> RequestAt
-        requires over { (tops : Seq SeenTop) × IsRequestAtOver tops self }
-        requires awaited { (tops : Seq SeenTop) × HearsSome nodes tops (Node.Request self) child outcome }
+    fn arrive_free(&mut self, child: u32, outcome: Outcome)
+        requires over { (tops : Seq SeenTop) × IsRequestAtOver tops self.old }
+        requires awaited { (tops : Seq SeenTop) × HearsSome nodes tops (Node.Request self.old) child outcome }
         requires own { IsOwnOutcome outcome }
-        requires kind { kind_of self.node.waiting.request.work ≡ Kind.Free }
+        requires kind { kind_of self.old.node.waiting.request.work ≡ Kind.Free }
         ensures heard { (tops : Seq SeenTop) (t : Terms) (st : Stack) (c : Child) (op : Task) (v : Value) →
-            Hears nodes tops t (Node.Request self) st child c op outcome v → IsRequestNode t result.node (heard_of st child c v) }
-        ensures stage { result.stage ≡ self.stage }
-        ensures gave { gave_of (Node.Request result) ≡ gave_of (Node.Request self) }
-        ensures over { (tops : Seq SeenTop) → IsRequestAtOver tops self → IsRequestAtOver tops result }
-        ensures left { left_of (Node.Request result) ≤ left_of (Node.Request self) + heard_max }
+            Hears nodes tops t (Node.Request self.old) st child c op outcome v → IsRequestNode t self.new.node (heard_of st child c v) }
+        ensures stage { self.new.stage ≡ self.old.stage }
+        ensures gave { gave_of (Node.Request self.new) ≡ gave_of (Node.Request self.old) }
+        ensures over { (tops : Seq SeenTop) → IsRequestAtOver tops self.old → IsRequestAtOver tops self.new }
+        ensures left { left_of (Node.Request self.new) ≤ left_of (Node.Request self.old) + heard_max }
     {
         other_children_show_own_work();
-        let RequestAt {
-            node,
-            stage,
-            is_due,
-        } = self;
-        let mut node = node;
         let Outcome::Walked(walked) = outcome else {
             unreachable!()
         };
-        node.arrive_walked_free(child, walked);
-        RequestAt {
-            node,
-            stage,
-            is_due,
-        }
+        self.node.arrive_walked_free(child, walked);
     }
 
     /// Of a claim.
-    fn arrive_claim(self, tops: &[Top], child: u32, outcome: Outcome) -> RequestAt
-        requires over { IsRequestAtOver tops.now self }
-        requires awaited { HearsSome nodes tops.now (Node.Request self) child outcome }
+    fn arrive_claim(&mut self, tops: &[Top], child: u32, outcome: Outcome)
+        requires over { IsRequestAtOver tops.now self.old }
+        requires awaited { HearsSome nodes tops.now (Node.Request self.old) child outcome }
         requires own { IsOwnOutcome outcome }
-        requires kind { kind_of self.node.waiting.request.work ≡ Kind.Claim }
+        requires kind { kind_of self.old.node.waiting.request.work ≡ Kind.Claim }
         ensures heard { (t : Terms) (st : Stack) (c : Child) (op : Task) (v : Value) →
-            Hears nodes tops.now t (Node.Request self) st child c op outcome v →
-            IsRequestNode t result.node (heard_of st child c v) }
-        ensures stage { result.stage ≡ self.stage }
-        ensures gave { gave_of (Node.Request result) ≡ gave_of (Node.Request self) }
-        ensures over_still { IsRequestAtOver tops.now result }
-        ensures left { left_of (Node.Request result) ≤ left_of (Node.Request self) + heard_max }
+            Hears nodes tops.now t (Node.Request self.old) st child c op outcome v →
+            IsRequestNode t self.new.node (heard_of st child c v) }
+        ensures stage { self.new.stage ≡ self.old.stage }
+        ensures gave { gave_of (Node.Request self.new) ≡ gave_of (Node.Request self.old) }
+        ensures over_still { IsRequestAtOver tops.now self.new }
+        ensures left { left_of (Node.Request self.new) ≤ left_of (Node.Request self.old) + heard_max }
     {
         other_children_show_own_work();
-        let RequestAt {
-            node,
-            stage,
-            is_due,
-        } = self;
-        let mut node = node;
         let Outcome::Walked(walked) = outcome else {
             unreachable!()
         };
-        node.arrive_walked_claim(tops, child, walked);
-        RequestAt {
-            node,
-            stage,
-            is_due,
-        }
+        self.node.arrive_walked_claim(tops, child, walked);
     }
 }

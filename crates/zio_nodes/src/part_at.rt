@@ -1,7 +1,7 @@
 //! The write of a gang's member, from stage to stage: it asks for places, hands out the members of a gang, tells its pointer,
 //! writes its own copies, and ends with what it stored.
 
-ghost use Rattle.std.specs.Prelude.{◌≡◌, ◌-◌, ◌+◌, ◌≤◌, Err, IfErr, IfOk, IfSome, IsTrue, List as Seq, None, Ok, Option, [], false, length};
+ghost use Rattle.std.specs.Prelude.{◌≡◌, ◌≢◌, ◌-◌, ◌+◌, ◌≤◌, Err, IfOk, IfSome, IsTrue, List as Seq, None, Ok, Option, [], false, length, OnErr};
 ghost use Rattle.zio_types.specs.declared.place.Top.{Top as SeenTop};
 ghost use Rattle.zio_blkptr.specs.Pointers.{valid};
 ghost use Rattle.zio_gang.specs.Attempts.{Terms};
@@ -15,17 +15,18 @@ ghost use Rattle.zio_stages.specs.SpaceCalls.{SpaceCall};
 ghost use Rattle.zio_stages.specs.Tops.{AreTops};
 ghost use Rattle.zio_graph.specs.Stages.{EachIn, GoesOn, Hears, HearsEarly, HearsSome, HearsSomeEarly, IsMove, IsNow, Lessens, TellsValid, heard_max};
 ghost use Rattle.zio_nodes.specs.Bounds.{part_left, part_max};
-ghost use Rattle.zio_nodes.specs.Nodes.{IsNodeOver, IsTreeOver, MovesBare, StaysBare, gave_of, left_of, nodes};
+ghost use Rattle.zio_nodes.specs.StageMoves.{IsStageMove};
+ghost use Rattle.zio_nodes.specs.Nodes.{IsNodeOver, IsTreeOver, MovesBare, MovesWith, StaysBare, StaysWith, left_of, nodes, moved};
 ghost use Rattle.zio_nodes.specs.PartAts.{IsBeforePlaces, IsPartAtOver};
 ghost use Rattle.zio_nodes.specs.Told.{is_told};
 
 use crate::node::Node;
+use crate::turn::Turn;
 use std::alloc::Global;
 use zio_blkptr::Bp;
-use zio_graph::Move;
 use zio_masks::{Stage, WRITE, next};
 use zio_stages::{Outcome, PartNode, Services};
-use zio_types::{Bytes, Errno, Top};
+use zio_types::{Bytes, Errno, NoMemory, Top};
 
 /// The write of a gang's member at a stage of its pipeline.
 #[derive(Drop)]
@@ -54,20 +55,20 @@ impl PartAt {
     }
 
     /// Runs one stage. Where memory is refused it comes back, and what it did of the stage stays.
-    pub fn run_stage<S: Services>(self, alloc: Global, services: &mut S) -> Result<Move<Node>, Node>
-        requires { IsPartAtOver (S.tops services.old) self }
-        ensures moves { (move : Move Node) → result ≡ Ok move →
-            (calls : Seq SpaceCall) × S.made services.old calls services.new
-            × ((t : Terms) (st : Stack) → IsNow nodes (S.tops services.old) t (Node.Part self) st →
-            IsMove nodes gave_of t (Node.Part self) st calls move) }
-        ensures over { IfOk result (EachIn (IsNodeOver (S.tops services.old)) (IsTreeOver (S.tops services.old))) }
-        ensures valid { IfOk result TellsValid }
-        ensures left { IfOk result (Lessens left_of (Node.Part self)) }
-        ensures refused { (node : Node) → result ≡ Err node →
-            (calls : Seq SpaceCall) × S.made services.old calls services.new
-            × ((t : Terms) (st : Stack) → IsNow nodes (S.tops services.old) t (Node.Part self) st →
-            GoesOn nodes gave_of t (Node.Part self) st calls node) }
+    pub fn run_stage<S: Services>(
+        &mut self,
+        alloc: Global,
+        services: &mut S,
+    ) -> Result<Turn, NoMemory>
+        requires over { IsPartAtOver (S.tops services.old) self.old }
+        requires before { self.old.stage ≢ Stage.Done }
+        ensures moves { IfOk result (λ turn. MovesWith S.made (S.tops services.old) services.old services.new (Node.Part self.old) (moved (Node.Part self.new) turn)) }
+        ensures over { IfOk result (λ turn. EachIn (IsNodeOver (S.tops services.old)) (IsTreeOver (S.tops services.old)) (moved (Node.Part self.new) turn)) }
+        ensures valid { IfOk result (λ turn. TellsValid (moved (Node.Part self.new) turn)) }
+        ensures left { IfOk result (λ turn. Lessens left_of (Node.Part self.old) (moved (Node.Part self.new) turn)) }
+        ensures refused { OnErr result (StaysWith S.made (S.tops services.old) services.old services.new (Node.Part self.old) (Node.Part self.new)) }
         ensures tops { S.tops services.new ≡ S.tops services.old }
+        ensures stages { IfOk result (λ turn. IsStageMove (Node.Part self.old) (moved (Node.Part self.new) turn)) }
     {
         match self.stage {
             Stage::DvaAllocate => self.dva_allocate(alloc, services),
@@ -76,14 +77,16 @@ impl PartAt {
     }
 
     /// Runs a stage that asks nothing of the space.
-    fn run_bare(self, alloc: Global, tops: &[Top]) -> Result<Move<Node>, Node>
-        requires over { IsPartAtOver tops.now self }
-        requires stage { self.stage ≡ Stage.DvaAllocate → ⊥ }
-        ensures moves { IfOk result (MovesBare tops.now (Node.Part self)) }
-        ensures over { IfOk result (EachIn (IsNodeOver tops.now) (IsTreeOver tops.now)) }
-        ensures valid { IfOk result TellsValid }
-        ensures left { IfOk result (Lessens left_of (Node.Part self)) }
-        ensures refused { IfErr result (StaysBare tops.now (Node.Part self)) }
+    fn run_bare(&mut self, alloc: Global, tops: &[Top]) -> Result<Turn, NoMemory>
+        requires over { IsPartAtOver tops.now self.old }
+        requires stage { self.old.stage ≡ Stage.DvaAllocate → ⊥ }
+        requires before { self.old.stage ≢ Stage.Done }
+        ensures moves { IfOk result (λ turn. MovesBare tops.now (Node.Part self.old) (moved (Node.Part self.new) turn)) }
+        ensures over { IfOk result (λ turn. EachIn (IsNodeOver tops.now) (IsTreeOver tops.now) (moved (Node.Part self.new) turn)) }
+        ensures valid { IfOk result (λ turn. TellsValid (moved (Node.Part self.new) turn)) }
+        ensures left { IfOk result (λ turn. Lessens left_of (Node.Part self.old) (moved (Node.Part self.new) turn)) }
+        ensures refused { OnErr result (StaysBare tops.now (Node.Part self.old) (Node.Part self.new)) }
+        ensures stages { IfOk result (λ turn. IsStageMove (Node.Part self.old) (moved (Node.Part self.new) turn)) }
     {
         match self.stage {
             // Its bytes and their checksum stand since its parent handed it out.
@@ -96,88 +99,53 @@ impl PartAt {
             Stage::VdevIoStart => self.vdev_io_start(alloc, tops),
             Stage::VdevIoDone => Ok(self.vdev_io_done(tops)),
             Stage::VdevIoAssess => Ok(self.vdev_io_assess(tops)),
-            Stage::Done => self.done(alloc),
             _ => unreachable!(),
         }
     }
 
     /// A stage in front of DvaAllocate, where nothing is to be done for a member.
-    fn go_on(self) -> Move<Node>
-        requires stage { IsBeforePlaces self.stage }
-        ensures moves { (tops : Seq SeenTop) → MovesBare tops (Node.Part self) result }
-        ensures over { (tops : Seq SeenTop) → IsPartAtOver tops self → EachIn (IsNodeOver tops) (IsTreeOver tops) result }
-        ensures valid { TellsValid result }
-        ensures left { Lessens left_of (Node.Part self) result }
+    fn go_on(&mut self) -> Turn
+        requires stage { IsBeforePlaces self.old.stage }
+        ensures moves { (tops : Seq SeenTop) → MovesBare tops (Node.Part self.old) (moved (Node.Part self.new) result) }
+        ensures over { (tops : Seq SeenTop) → IsPartAtOver tops self.old → EachIn (IsNodeOver tops) (IsTreeOver tops) (moved (Node.Part self.new) result) }
+        ensures valid { TellsValid (moved (Node.Part self.new) result) }
+        ensures left { Lessens left_of (Node.Part self.old) (moved (Node.Part self.new) result) }
+        ensures stages { IsStageMove (Node.Part self.old) (moved (Node.Part self.new) result) }
     {
-        let PartAt {
-            node,
-            stage,
-            is_due,
-        } = self;
-        let at = PartAt {
-            node,
-            stage: next(stage, WRITE),
-            is_due,
-        };
-        Move::Next(Node::Part(at))
+        self.stage = next(self.stage, WRITE);
+        Turn::Next
     }
 
     /// A member told which pointer it will have.
-    pub fn arrive_ready(self, child: u32, pointer: Option<Bp>) -> PartAt
-        requires awaited { HearsSomeEarly nodes (Node.Part self) child }
+    pub fn arrive_ready(&mut self, child: u32, pointer: Option<Bp>)
+        requires awaited { HearsSomeEarly nodes (Node.Part self.old) child }
         requires valid { IfSome pointer (λ bp. IsTrue (valid bp)) }
-        ensures heard { (t : Terms) (st : Stack) (c : Child) → HearsEarly nodes t (Node.Part self) st child c →
-            IsPartNode t result.node (heard_early st child c pointer) }
-        ensures stage { result.stage ≡ self.stage }
-        ensures over { (tops : Seq SeenTop) → IsPartAtOver tops self → IsPartAtOver tops result }
-        ensures left { part_left result ≡ part_left self }
+        ensures heard { (t : Terms) (st : Stack) (c : Child) → HearsEarly nodes t (Node.Part self.old) st child c →
+            IsPartNode t self.new.node (heard_early st child c pointer) }
+        ensures stage { self.new.stage ≡ self.old.stage }
+        ensures over { (tops : Seq SeenTop) → IsPartAtOver tops self.old → IsPartAtOver tops self.new }
+        ensures left { part_left self.new ≡ part_left self.old }
     {
-        let PartAt {
-            node,
-            stage,
-            is_due,
-        } = self;
-        let mut node = node;
-        node.arrive_ready(child, pointer);
-        PartAt {
-            node,
-            stage,
-            is_due,
-        }
+        self.node.arrive_ready(child, pointer);
     }
 
     /// A child ended: the write of a copy, or a member.
-    pub fn arrive(self, tops: &[Top], child: u32, outcome: Outcome) -> PartAt
-        requires over { IsPartAtOver tops.now self }
-        requires awaited { HearsSome nodes tops.now (Node.Part self) child outcome }
+    pub fn arrive(&mut self, tops: &[Top], child: u32, outcome: Outcome)
+        requires over { IsPartAtOver tops.now self.old }
+        requires awaited { HearsSome nodes tops.now (Node.Part self.old) child outcome }
         ensures heard { (t : Terms) (st : Stack) (c : Child) (op : Task) (v : Value) →
-            Hears nodes tops.now t (Node.Part self) st child c op outcome v → IsPartNode t result.node (heard_of st child c v) }
-        ensures stage { result.stage ≡ self.stage }
-        ensures over { IsPartAtOver tops.now result }
-        ensures left { part_left result ≤ part_left self + heard_max }
+            Hears nodes tops.now t (Node.Part self.old) st child c op outcome v → IsPartNode t self.new.node (heard_of st child c v) }
+        ensures stage { self.new.stage ≡ self.old.stage }
+        ensures over { IsPartAtOver tops.now self.new }
+        ensures left { part_left self.new ≤ part_left self.old + heard_max }
     {
-        let PartAt {
-            node,
-            stage,
-            is_due,
-        } = self;
-        let mut node = node;
         match outcome {
             Outcome::Found(found) => {
-                node.arrive_leaf(child, error_of(&found));
-                PartAt {
-                    node,
-                    stage,
-                    is_due: true,
-                }
+                self.node.arrive_leaf(child, error_of(&found));
+                self.is_due = true;
             }
             Outcome::Stored(stored) => {
-                node.arrive_stored(child, stored);
-                PartAt {
-                    node,
-                    stage,
-                    is_due,
-                }
+                self.node.arrive_stored(child, stored);
             }
             Outcome::Finished(_) | Outcome::Again { .. } | Outcome::Walked(_) => unreachable!(),
         }

@@ -1,17 +1,19 @@
 // The stages of a gang's member that is written: its places and members, its pointer, its own copies, and its end.
 
-ghost use Rattle.std.specs.Prelude.{◌≡◌, Err, IfErr, IfOk, List as Seq, Ok};
+ghost use Rattle.std.specs.Prelude.{◌≡◌, Err, IfErr, IfOk, List as Seq, Ok, OnErr};
 ghost use Rattle.zio_types.specs.declared.place.Top.{Top as SeenTop};
 ghost use Rattle.zio_gang.specs.Attempts.{Terms};
 ghost use Rattle.zio_frames.specs.Frames.{Stack};
 ghost use Rattle.zio_stages.specs.SpaceCalls.{SpaceCall};
 ghost use Rattle.zio_graph.specs.Stages.{EachIn, GoesOn, IsMove, IsNow, Lessens, TellsValid};
-ghost use Rattle.zio_nodes.specs.Nodes.{IsNodeOver, IsTreeOver, MovesBare, StaysBare, gave_of, left_of, nodes};
+ghost use Rattle.zio_nodes.specs.StageMoves.{IsLastMove, IsStageMove};
+ghost use Rattle.zio_nodes.specs.Nodes.{IsNodeOver, IsTreeOver, MovesBare, MovesWith, StaysBare, StaysWith, left_of, moved};
 ghost use Rattle.zio_nodes.specs.PartAts.{IsPartAtOver};
 
 use crate::leaf_at::LeafAt;
 use crate::node::Node;
 use crate::part_at::PartAt;
+use crate::turn::{Turn, new_room};
 use std::alloc::Global;
 use zio_graph::Move;
 use zio_masks::{Stage, WRITE, next};
@@ -22,179 +24,128 @@ impl PartAt {
     /// Asks for the part's places, for a header's where these are refused, and hands the gang's next member to a child; goes on
     /// once all are out. Where memory is refused what was done before stays.
     pub(crate) fn dva_allocate<S: Services>(
-        self,
+        &mut self,
         alloc: Global,
         services: &mut S,
-    ) -> Result<Move<Node>, Node>
-        requires over { IsPartAtOver (S.tops services.old) self }
-        requires stage { self.stage ≡ Stage.DvaAllocate }
-        ensures moves { (move : Move Node) → result ≡ Ok move →
-            (calls : Seq SpaceCall) × S.made services.old calls services.new
-            × ((t : Terms) (st : Stack) → IsNow nodes (S.tops services.old) t (Node.Part self) st →
-            IsMove nodes gave_of t (Node.Part self) st calls move) }
-        ensures over { IfOk result (EachIn (IsNodeOver (S.tops services.old)) (IsTreeOver (S.tops services.old))) }
-        ensures valid { IfOk result TellsValid }
-        ensures left { IfOk result (Lessens left_of (Node.Part self)) }
-        ensures refused { (node : Node) → result ≡ Err node →
-            (calls : Seq SpaceCall) × S.made services.old calls services.new
-            × ((t : Terms) (st : Stack) → IsNow nodes (S.tops services.old) t (Node.Part self) st →
-            GoesOn nodes gave_of t (Node.Part self) st calls node) }
+    ) -> Result<Turn, NoMemory>
+        requires over { IsPartAtOver (S.tops services.old) self.old }
+        requires stage { self.old.stage ≡ Stage.DvaAllocate }
+        ensures moves { IfOk result (λ turn. MovesWith S.made (S.tops services.old) services.old services.new (Node.Part self.old) (moved (Node.Part self.new) turn)) }
+        ensures over { IfOk result (λ turn. EachIn (IsNodeOver (S.tops services.old)) (IsTreeOver (S.tops services.old)) (moved (Node.Part self.new) turn)) }
+        ensures valid { IfOk result (λ turn. TellsValid (moved (Node.Part self.new) turn)) }
+        ensures left { IfOk result (λ turn. Lessens left_of (Node.Part self.old) (moved (Node.Part self.new) turn)) }
+        ensures refused { OnErr result (StaysWith S.made (S.tops services.old) services.old services.new (Node.Part self.old) (Node.Part self.new)) }
         ensures tops { S.tops services.new ≡ S.tops services.old }
+        ensures stages { IfOk result (λ turn. IsStageMove (Node.Part self.old) (moved (Node.Part self.new) turn)) }
     {
-        let PartAt { node, .. } = self;
-        let mut node = node;
-        match node.dva_allocate(alloc, services) {
+        let mut room = new_room(alloc)?;
+        match self.node.dva_allocate(alloc, services) {
             Ok(Allocated::Member(child)) => {
                 let child = PartAt::new(child);
-                let at = PartAt {
-                    node,
-                    stage: Stage::DvaAllocate,
-                    is_due: true,
-                };
-                Ok(Move::Grow(Node::Part(at), Node::Part(child), ChildKind::Gang))
+                *room = Node::Part(child);
+                Ok(Turn::Grow(room, ChildKind::Gang))
             }
             Ok(Allocated::Placed) => {
-                let at = PartAt {
-                    node,
-                    stage: next(Stage::DvaAllocate, WRITE),
-                    is_due: true,
-                };
-                Ok(Move::Next(Node::Part(at)))
+                self.stage = next(Stage::DvaAllocate, WRITE);
+                self.is_due = true;
+                Ok(Turn::Next)
             }
-            Err(NoMemory) => {
-                let at = PartAt {
-                    node,
-                    stage: Stage::DvaAllocate,
-                    is_due: true,
-                };
-                Err(Node::Part(at))
-            }
+            Err(NoMemory) => Err(NoMemory),
         }
     }
 
     /// Waits until each member told its pointer, and tells its own.
-    pub(crate) fn ready(self) -> Move<Node>
-        requires over { (tops : Seq SeenTop) × IsPartAtOver tops self }
-        requires stage { self.stage ≡ Stage.Ready }
-        ensures moves { (tops : Seq SeenTop) → MovesBare tops (Node.Part self) result }
-        ensures over { (tops : Seq SeenTop) → IsPartAtOver tops self → EachIn (IsNodeOver tops) (IsTreeOver tops) result }
-        ensures valid { TellsValid result }
-        ensures left { Lessens left_of (Node.Part self) result }
+    pub(crate) fn ready(&mut self) -> Turn
+        requires over { (tops : Seq SeenTop) × IsPartAtOver tops self.old }
+        requires stage { self.old.stage ≡ Stage.Ready }
+        ensures moves { (tops : Seq SeenTop) → MovesBare tops (Node.Part self.old) (moved (Node.Part self.new) result) }
+        ensures over { (tops : Seq SeenTop) → IsPartAtOver tops self.old → EachIn (IsNodeOver tops) (IsTreeOver tops) (moved (Node.Part self.new) result) }
+        ensures valid { TellsValid (moved (Node.Part self.new) result) }
+        ensures left { Lessens left_of (Node.Part self.old) (moved (Node.Part self.new) result) }
+        ensures stages { IsStageMove (Node.Part self.old) (moved (Node.Part self.new) result) }
     {
         match self.node.ready() {
-            ReadyStep::Wait(kind) => Move::Wait(Node::Part(self), kind, Phase::Ready),
+            ReadyStep::Wait(kind) => Turn::Wait(kind, Phase::Ready),
             ReadyStep::Tell(pointer) => {
-                let PartAt { node, .. } = self;
-                let at = PartAt {
-                    node,
-                    stage: next(Stage::Ready, WRITE),
-                    is_due: true,
-                };
-                Move::Ready(Node::Part(at), pointer)
+                self.stage = next(Stage::Ready, WRITE);
+                self.is_due = true;
+                Turn::Ready(pointer)
             }
         }
     }
 
     /// Hands the next write of a copy to a child, or goes on where none is due now. Where memory is refused its own write may have
     /// begun.
-    pub(crate) fn vdev_io_start(self, alloc: Global, tops: &[Top]) -> Result<Move<Node>, Node>
-        requires over { IsPartAtOver tops.now self }
-        requires stage { self.stage ≡ Stage.VdevIoStart }
-        ensures moves { IfOk result (MovesBare tops.now (Node.Part self)) }
-        ensures over { IfOk result (EachIn (IsNodeOver tops.now) (IsTreeOver tops.now)) }
-        ensures valid { IfOk result TellsValid }
-        ensures left { IfOk result (Lessens left_of (Node.Part self)) }
-        ensures refused { IfErr result (StaysBare tops.now (Node.Part self)) }
+    pub(crate) fn vdev_io_start(&mut self, alloc: Global, tops: &[Top]) -> Result<Turn, NoMemory>
+        requires over { IsPartAtOver tops.now self.old }
+        requires stage { self.old.stage ≡ Stage.VdevIoStart }
+        ensures moves { IfOk result (λ turn. MovesBare tops.now (Node.Part self.old) (moved (Node.Part self.new) turn)) }
+        ensures over { IfOk result (λ turn. EachIn (IsNodeOver tops.now) (IsTreeOver tops.now) (moved (Node.Part self.new) turn)) }
+        ensures valid { IfOk result (λ turn. TellsValid (moved (Node.Part self.new) turn)) }
+        ensures left { IfOk result (λ turn. Lessens left_of (Node.Part self.old) (moved (Node.Part self.new) turn)) }
+        ensures refused { OnErr result (StaysBare tops.now (Node.Part self.old) (Node.Part self.new)) }
+        ensures stages { IfOk result (λ turn. IsStageMove (Node.Part self.old) (moved (Node.Part self.new) turn)) }
     {
-        let PartAt { node, .. } = self;
-        let mut node = node;
-        match node.vdev_io_start(alloc, tops) {
+        let mut room = new_room(alloc)?;
+        match self.node.vdev_io_start(alloc, tops) {
             Ok(Some(work)) => {
                 let child = LeafAt::new(work);
-                let at = PartAt {
-                    node,
-                    stage: Stage::VdevIoStart,
-                    is_due: true,
-                };
-                Ok(Move::Grow(Node::Part(at), Node::Leaf(child), ChildKind::Vdev))
+                *room = Node::Leaf(child);
+                Ok(Turn::Grow(room, ChildKind::Vdev))
             }
             Ok(None) => {
-                let at = PartAt {
-                    node,
-                    stage: next(Stage::VdevIoStart, WRITE),
-                    is_due: false,
-                };
-                Ok(Move::Next(Node::Part(at)))
+                self.stage = next(Stage::VdevIoStart, WRITE);
+                self.is_due = false;
+                Ok(Turn::Next)
             }
-            Err(NoMemory) => {
-                let at = PartAt {
-                    node,
-                    stage: Stage::VdevIoStart,
-                    is_due: true,
-                };
-                Err(Node::Part(at))
-            }
+            Err(NoMemory) => Err(NoMemory),
         }
     }
 
     /// Waits for the writes of this pass. It goes back where one that ended has made another due.
-    pub(crate) fn vdev_io_done(self, tops: &[Top]) -> Move<Node>
-        requires over { IsPartAtOver tops.now self }
-        requires stage { self.stage ≡ Stage.VdevIoDone }
-        ensures moves { MovesBare tops.now (Node.Part self) result }
-        ensures over { EachIn (IsNodeOver tops.now) (IsTreeOver tops.now) result }
-        ensures valid { TellsValid result }
-        ensures left { Lessens left_of (Node.Part self) result }
+    pub(crate) fn vdev_io_done(&mut self, tops: &[Top]) -> Turn
+        requires over { IsPartAtOver tops.now self.old }
+        requires stage { self.old.stage ≡ Stage.VdevIoDone }
+        ensures moves { MovesBare tops.now (Node.Part self.old) (moved (Node.Part self.new) result) }
+        ensures over { EachIn (IsNodeOver tops.now) (IsTreeOver tops.now) (moved (Node.Part self.new) result) }
+        ensures valid { TellsValid (moved (Node.Part self.new) result) }
+        ensures left { Lessens left_of (Node.Part self.old) (moved (Node.Part self.new) result) }
+        ensures stages { IsStageMove (Node.Part self.old) (moved (Node.Part self.new) result) }
     {
         match self.node.vdev_io_done(tops) {
-            IoNext::Wait => Move::Wait(Node::Part(self), ChildKind::Vdev, Phase::Done),
+            IoNext::Wait => Turn::Wait(ChildKind::Vdev, Phase::Done),
             IoNext::More => {
-                let PartAt { node, .. } = self;
-                let at = PartAt {
-                    node,
-                    stage: Stage::VdevIoStart,
-                    is_due: true,
-                };
-                Move::Next(Node::Part(at))
+                self.stage = Stage::VdevIoStart;
+                self.is_due = true;
+                Turn::Next
             }
             IoNext::On => {
-                let PartAt { node, .. } = self;
-                let at = PartAt {
-                    node,
-                    stage: next(Stage::VdevIoDone, WRITE),
-                    is_due: false,
-                };
-                Move::Next(Node::Part(at))
+                self.stage = next(Stage::VdevIoDone, WRITE);
+                self.is_due = false;
+                Turn::Next
             }
         }
     }
 
     /// Goes back for a second pass, once, where a copy wasn't written.
-    pub(crate) fn vdev_io_assess(self, tops: &[Top]) -> Move<Node>
-        requires over { IsPartAtOver tops.now self }
-        requires stage { self.stage ≡ Stage.VdevIoAssess }
-        ensures moves { MovesBare tops.now (Node.Part self) result }
-        ensures over { EachIn (IsNodeOver tops.now) (IsTreeOver tops.now) result }
-        ensures valid { TellsValid result }
-        ensures left { Lessens left_of (Node.Part self) result }
+    pub(crate) fn vdev_io_assess(&mut self, tops: &[Top]) -> Turn
+        requires over { IsPartAtOver tops.now self.old }
+        requires stage { self.old.stage ≡ Stage.VdevIoAssess }
+        ensures moves { MovesBare tops.now (Node.Part self.old) (moved (Node.Part self.new) result) }
+        ensures over { EachIn (IsNodeOver tops.now) (IsTreeOver tops.now) (moved (Node.Part self.new) result) }
+        ensures valid { TellsValid (moved (Node.Part self.new) result) }
+        ensures left { Lessens left_of (Node.Part self.old) (moved (Node.Part self.new) result) }
+        ensures stages { IsStageMove (Node.Part self.old) (moved (Node.Part self.new) result) }
     {
-        let PartAt { node, .. } = self;
-        let mut node = node;
-        let goes_again = node.vdev_io_assess(tops);
+        let goes_again = self.node.vdev_io_assess(tops);
         if goes_again {
-            let at = PartAt {
-                node,
-                stage: Stage::VdevIoStart,
-                is_due: true,
-            };
-            return Move::Next(Node::Part(at));
+            self.stage = Stage::VdevIoStart;
+            self.is_due = true;
+            return Turn::Next;
         }
-        let at = PartAt {
-            node,
-            stage: next(Stage::VdevIoAssess, WRITE),
-            is_due: false,
-        };
-        Move::Next(Node::Part(at))
+        self.stage = next(Stage::VdevIoAssess, WRITE);
+        self.is_due = false;
+        Turn::Next
     }
 
     /// Waits for its members, and ends with what was stored. Where memory is refused it comes back as it was.
@@ -204,6 +155,7 @@ impl PartAt {
         ensures moves { (tops : Seq SeenTop) → IfOk result (MovesBare tops (Node.Part self)) }
         ensures over { (tops : Seq SeenTop) → IsPartAtOver tops self → IfOk result (EachIn (IsNodeOver tops) (IsTreeOver tops)) }
         ensures valid { IfOk result TellsValid }
+        ensures last { IfOk result IsLastMove }
         ensures left { IfOk result (Lessens left_of (Node.Part self)) }
         ensures refused { (tops : Seq SeenTop) → IfErr result (StaysBare tops (Node.Part self)) }
     {

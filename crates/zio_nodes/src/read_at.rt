@@ -2,17 +2,19 @@
 //!
 //! It walks over the headers of its block first, and reads the bodies then: a gang's by children, and else the one body by itself.
 
-ghost use Rattle.std.specs.Prelude.{◌≡◌, ◌≢◌, IfErr, IfOk, List as Seq};
+ghost use Rattle.std.specs.Prelude.{◌≡◌, ◌≢◌, IfErr, IfOk, List as Seq, OnErr};
 ghost use Rattle.zio_types.specs.declared.place.Top.{Top as SeenTop};
 ghost use Rattle.zio_script.specs.Requests.{kind_of};
 ghost use Rattle.zio_graph.specs.Stages.{EachIn, Lessens, TellsValid};
-ghost use Rattle.zio_nodes.specs.Nodes.{IsNodeOver, IsTreeOver, MovesBare, MovesWith, StaysBare, StaysWith, left_of};
+ghost use Rattle.zio_nodes.specs.StageMoves.{IsLastMove, IsStageMove};
+ghost use Rattle.zio_nodes.specs.Nodes.{IsNodeOver, IsTreeOver, MovesBare, MovesWith, StaysBare, StaysWith, left_of, moved};
 ghost use Rattle.zio_nodes.specs.RequestAts.{IsRequestAtOver};
 
 use crate::copies_at::CopiesAt;
 use crate::heads_at::HeadsAt;
 use crate::node::Node;
 use crate::request_at::RequestAt;
+use crate::turn::{Turn, new_room};
 use std::alloc::Global;
 use zio_graph::Move;
 use zio_masks::{READ, Stage, next, with_gang};
@@ -22,33 +24,37 @@ use zio_types::{ChildKind, Kind, NoMemory, Phase, Top};
 impl RequestAt {
     /// Runs one stage behind Start. Where memory is refused it comes back, and what it did of the stage stays.
     pub(crate) fn read_stage<S: Services>(
-        self,
+        &mut self,
         alloc: Global,
         services: &mut S,
-    ) -> Result<Move<Node>, Node>
-        requires over { IsRequestAtOver (S.tops services.old) self }
-        requires kind { kind_of self.node.waiting.request.work ≡ Kind.Read }
-        requires behind { self.stage ≢ Stage.Start }
-        ensures moves { IfOk result (MovesWith S.made (S.tops services.old) services.old services.new (Node.Request self)) }
-        ensures over { IfOk result (EachIn (IsNodeOver (S.tops services.old)) (IsTreeOver (S.tops services.old))) }
-        ensures valid { IfOk result TellsValid }
-        ensures left { IfOk result (Lessens left_of (Node.Request self)) }
-        ensures refused { IfErr result (StaysWith S.made (S.tops services.old) services.old services.new (Node.Request self)) }
+    ) -> Result<Turn, NoMemory>
+        requires over { IsRequestAtOver (S.tops services.old) self.old }
+        requires kind { kind_of self.old.node.waiting.request.work ≡ Kind.Read }
+        requires behind { self.old.stage ≢ Stage.Start }
+        requires before { self.old.stage ≢ Stage.Done }
+        ensures moves { IfOk result (λ turn. MovesWith S.made (S.tops services.old) services.old services.new (Node.Request self.old) (moved (Node.Request self.new) turn)) }
+        ensures over { IfOk result (λ turn. EachIn (IsNodeOver (S.tops services.old)) (IsTreeOver (S.tops services.old)) (moved (Node.Request self.new) turn)) }
+        ensures valid { IfOk result (λ turn. TellsValid (moved (Node.Request self.new) turn)) }
+        ensures left { IfOk result (λ turn. Lessens left_of (Node.Request self.old) (moved (Node.Request self.new) turn)) }
+        ensures refused { OnErr result (StaysWith S.made (S.tops services.old) services.old services.new (Node.Request self.old) (Node.Request self.new)) }
         ensures tops { S.tops services.new ≡ S.tops services.old }
+        ensures stages { IfOk result (λ turn. IsStageMove (Node.Request self.old) (moved (Node.Request self.new) turn)) }
     {
         self.read_bare(alloc, services.tops())
     }
 
     /// None of its stages asks the space for anything. Where memory is refused it comes back, and what it began stays.
-    fn read_bare(self, alloc: Global, tops: &[Top]) -> Result<Move<Node>, Node>
-        requires over { IsRequestAtOver tops.now self }
-        requires kind { kind_of self.node.waiting.request.work ≡ Kind.Read }
-        requires behind { self.stage ≢ Stage.Start }
-        ensures moves { IfOk result (MovesBare tops.now (Node.Request self)) }
-        ensures over { IfOk result (EachIn (IsNodeOver tops.now) (IsTreeOver tops.now)) }
-        ensures valid { IfOk result TellsValid }
-        ensures left { IfOk result (Lessens left_of (Node.Request self)) }
-        ensures refused { IfErr result (StaysBare tops.now (Node.Request self)) }
+    fn read_bare(&mut self, alloc: Global, tops: &[Top]) -> Result<Turn, NoMemory>
+        requires over { IsRequestAtOver tops.now self.old }
+        requires kind { kind_of self.old.node.waiting.request.work ≡ Kind.Read }
+        requires behind { self.old.stage ≢ Stage.Start }
+        requires before { self.old.stage ≢ Stage.Done }
+        ensures moves { IfOk result (λ turn. MovesBare tops.now (Node.Request self.old) (moved (Node.Request self.new) turn)) }
+        ensures over { IfOk result (λ turn. EachIn (IsNodeOver tops.now) (IsTreeOver tops.now) (moved (Node.Request self.new) turn)) }
+        ensures valid { IfOk result (λ turn. TellsValid (moved (Node.Request self.new) turn)) }
+        ensures left { IfOk result (λ turn. Lessens left_of (Node.Request self.old) (moved (Node.Request self.new) turn)) }
+        ensures refused { OnErr result (StaysBare tops.now (Node.Request self.old) (Node.Request self.new)) }
+        ensures stages { IfOk result (λ turn. IsStageMove (Node.Request self.old) (moved (Node.Request self.new) turn)) }
     {
         match self.stage {
             Stage::ReadBpInit => self.read_bp_init(alloc),
@@ -59,173 +65,126 @@ impl RequestAt {
             Stage::VdevIoDone => Ok(self.read_io_done(tops)),
             Stage::VdevIoAssess => Ok(self.read_io_assess(tops)),
             Stage::ChecksumVerify => Ok(self.read_checksum_verify()),
-            Stage::Done => self.read_done(alloc),
             _ => unreachable!(),
         }
     }
 
     /// Begins the read of its block. Where memory is refused it comes back as it was.
-    fn read_bp_init(self, alloc: Global) -> Result<Move<Node>, Node>
-        requires over { (tops : Seq SeenTop) × IsRequestAtOver tops self }
-        requires kind { kind_of self.node.waiting.request.work ≡ Kind.Read }
-        requires stage { self.stage ≡ Stage.ReadBpInit }
-        ensures moves { (tops : Seq SeenTop) → IfOk result (MovesBare tops (Node.Request self)) }
-        ensures over { (tops : Seq SeenTop) → IsRequestAtOver tops self → IfOk result (EachIn (IsNodeOver tops) (IsTreeOver tops)) }
-        ensures valid { IfOk result TellsValid }
-        ensures left { IfOk result (Lessens left_of (Node.Request self)) }
-        ensures refused { (tops : Seq SeenTop) → IfErr result (StaysBare tops (Node.Request self)) }
+    fn read_bp_init(&mut self, alloc: Global) -> Result<Turn, NoMemory>
+        requires over { (tops : Seq SeenTop) × IsRequestAtOver tops self.old }
+        requires kind { kind_of self.old.node.waiting.request.work ≡ Kind.Read }
+        requires stage { self.old.stage ≡ Stage.ReadBpInit }
+        ensures moves { (tops : Seq SeenTop) → IfOk result (λ turn. MovesBare tops (Node.Request self.old) (moved (Node.Request self.new) turn)) }
+        ensures over { (tops : Seq SeenTop) → IsRequestAtOver tops self.old → IfOk result (λ turn. EachIn (IsNodeOver tops) (IsTreeOver tops) (moved (Node.Request self.new) turn)) }
+        ensures valid { IfOk result (λ turn. TellsValid (moved (Node.Request self.new) turn)) }
+        ensures left { IfOk result (λ turn. Lessens left_of (Node.Request self.old) (moved (Node.Request self.new) turn)) }
+        ensures refused { (tops : Seq SeenTop) → OnErr result (StaysBare tops (Node.Request self.old) (Node.Request self.new)) }
+        ensures stages { IfOk result (λ turn. IsStageMove (Node.Request self.old) (moved (Node.Request self.new) turn)) }
     {
         let mask = self.mask();
-        let RequestAt { node, is_due, .. } = self;
-        let mut node = node;
-        match node.read_bp_init(alloc) {
+        match self.node.read_bp_init(alloc) {
             Ok(()) => {
-                let at = RequestAt {
-                    node,
-                    stage: next(Stage::ReadBpInit, mask),
-                    is_due,
-                };
-                Ok(Move::Next(Node::Request(at)))
+                self.stage = next(Stage::ReadBpInit, mask);
+                Ok(Turn::Next)
             }
-            Err(NoMemory) => Err(Node::Request(RequestAt {
-                node,
-                stage: Stage::ReadBpInit,
-                is_due,
-            })),
+            Err(NoMemory) => Err(NoMemory),
         }
     }
 
     /// Hands the walk over a gang's headers to a child, and goes on. Where memory is refused it comes back as it was.
-    fn read_gang_assemble(self, alloc: Global) -> Result<Move<Node>, Node>
-        requires over { (tops : Seq SeenTop) × IsRequestAtOver tops self }
-        requires kind { kind_of self.node.waiting.request.work ≡ Kind.Read }
-        requires stage { self.stage ≡ Stage.GangAssemble }
-        ensures moves { (tops : Seq SeenTop) → IfOk result (MovesBare tops (Node.Request self)) }
-        ensures over { (tops : Seq SeenTop) → IsRequestAtOver tops self → IfOk result (EachIn (IsNodeOver tops) (IsTreeOver tops)) }
-        ensures valid { IfOk result TellsValid }
-        ensures left { IfOk result (Lessens left_of (Node.Request self)) }
-        ensures refused { (tops : Seq SeenTop) → IfErr result (StaysBare tops (Node.Request self)) }
+    fn read_gang_assemble(&mut self, alloc: Global) -> Result<Turn, NoMemory>
+        requires over { (tops : Seq SeenTop) × IsRequestAtOver tops self.old }
+        requires kind { kind_of self.old.node.waiting.request.work ≡ Kind.Read }
+        requires stage { self.old.stage ≡ Stage.GangAssemble }
+        ensures moves { (tops : Seq SeenTop) → IfOk result (λ turn. MovesBare tops (Node.Request self.old) (moved (Node.Request self.new) turn)) }
+        ensures over { (tops : Seq SeenTop) → IsRequestAtOver tops self.old → IfOk result (λ turn. EachIn (IsNodeOver tops) (IsTreeOver tops) (moved (Node.Request self.new) turn)) }
+        ensures valid { IfOk result (λ turn. TellsValid (moved (Node.Request self.new) turn)) }
+        ensures left { IfOk result (λ turn. Lessens left_of (Node.Request self.old) (moved (Node.Request self.new) turn)) }
+        ensures refused { (tops : Seq SeenTop) → OnErr result (StaysBare tops (Node.Request self.old) (Node.Request self.new)) }
+        ensures stages { IfOk result (λ turn. IsStageMove (Node.Request self.old) (moved (Node.Request self.new) turn)) }
     {
-        let RequestAt { node, is_due, .. } = self;
-        let mut node = node;
-        match node.gang_assemble_read(alloc) {
+        let mut room = new_room(alloc)?;
+        match self.node.gang_assemble_read(alloc) {
             Ok(Some(walk)) => {
                 let child = HeadsAt::new(alloc, walk);
-                let at = RequestAt {
-                    node,
-                    stage: Stage::GangAssemble,
-                    is_due,
-                };
-                Ok(Move::Grow(Node::Request(at), Node::Heads(child), ChildKind::Gang))
+                *room = Node::Heads(child);
+                Ok(Turn::Grow(room, ChildKind::Gang))
             }
             Ok(None) => {
-                let at = RequestAt {
-                    node,
-                    stage: next(Stage::GangAssemble, with_gang(READ)),
-                    is_due,
-                };
-                Ok(Move::Next(Node::Request(at)))
+                self.stage = next(Stage::GangAssemble, with_gang(READ));
+                Ok(Turn::Next)
             }
-            Err(NoMemory) => Err(Node::Request(RequestAt {
-                node,
-                stage: Stage::GangAssemble,
-                is_due,
-            })),
+            Err(NoMemory) => Err(NoMemory),
         }
     }
 
     /// Waits for the walk, hands the reads of the bodies to children, and waits for them. Where memory is refused it comes back as it was.
-    fn read_gang_issue(self, alloc: Global, tops: &[Top]) -> Result<Move<Node>, Node>
-        requires over { IsRequestAtOver tops.now self }
-        requires kind { kind_of self.node.waiting.request.work ≡ Kind.Read }
-        requires stage { self.stage ≡ Stage.GangIssue }
-        ensures moves { IfOk result (MovesBare tops.now (Node.Request self)) }
-        ensures over { IfOk result (EachIn (IsNodeOver tops.now) (IsTreeOver tops.now)) }
-        ensures valid { IfOk result TellsValid }
-        ensures left { IfOk result (Lessens left_of (Node.Request self)) }
-        ensures refused { IfErr result (StaysBare tops.now (Node.Request self)) }
+    fn read_gang_issue(&mut self, alloc: Global, tops: &[Top]) -> Result<Turn, NoMemory>
+        requires over { IsRequestAtOver tops.now self.old }
+        requires kind { kind_of self.old.node.waiting.request.work ≡ Kind.Read }
+        requires stage { self.old.stage ≡ Stage.GangIssue }
+        ensures moves { IfOk result (λ turn. MovesBare tops.now (Node.Request self.old) (moved (Node.Request self.new) turn)) }
+        ensures over { IfOk result (λ turn. EachIn (IsNodeOver tops.now) (IsTreeOver tops.now) (moved (Node.Request self.new) turn)) }
+        ensures valid { IfOk result (λ turn. TellsValid (moved (Node.Request self.new) turn)) }
+        ensures left { IfOk result (λ turn. Lessens left_of (Node.Request self.old) (moved (Node.Request self.new) turn)) }
+        ensures refused { OnErr result (StaysBare tops.now (Node.Request self.old) (Node.Request self.new)) }
+        ensures stages { IfOk result (λ turn. IsStageMove (Node.Request self.old) (moved (Node.Request self.new) turn)) }
     {
-        let RequestAt {
-            node,
-            stage,
-            is_due,
-        } = self;
-        let mut node = node;
-        match node.gang_issue_read(alloc, tops) {
+        let mut room = new_room(alloc)?;
+        match self.node.gang_issue_read(alloc, tops) {
             Ok(BodyStage::Body(body)) => {
                 let child = CopiesAt::new(body);
-                let at = RequestAt {
-                    node,
-                    stage,
-                    is_due,
-                };
-                Ok(Move::Grow(Node::Request(at), Node::Copies(child), ChildKind::Gang))
+                *room = Node::Copies(child);
+                Ok(Turn::Grow(room, ChildKind::Gang))
             }
-            Ok(BodyStage::Wait) => {
-                let at = RequestAt {
-                    node,
-                    stage,
-                    is_due,
-                };
-                Ok(Move::Wait(Node::Request(at), ChildKind::Gang, Phase::Done))
-            }
+            Ok(BodyStage::Wait) => { Ok(Turn::Wait(ChildKind::Gang, Phase::Done)) }
             Ok(BodyStage::On) => {
-                let at = RequestAt {
-                    node,
-                    stage: next(Stage::GangIssue, with_gang(READ)),
-                    is_due,
-                };
-                Ok(Move::Next(Node::Request(at)))
+                self.stage = next(Stage::GangIssue, with_gang(READ));
+                Ok(Turn::Next)
             }
-            Err(NoMemory) => Err(Node::Request(RequestAt {
-                node,
-                stage,
-                is_due,
-            })),
+            Err(NoMemory) => Err(NoMemory),
         }
     }
 
     /// A read makes no block, and tells no pointer.
-    fn read_ready(self) -> Move<Node>
-        requires over { (tops : Seq SeenTop) × IsRequestAtOver tops self }
-        requires kind { kind_of self.node.waiting.request.work ≡ Kind.Read }
-        requires stage { self.stage ≡ Stage.Ready }
-        ensures moves { (tops : Seq SeenTop) → MovesBare tops (Node.Request self) result }
-        ensures over { (tops : Seq SeenTop) → IsRequestAtOver tops self → EachIn (IsNodeOver tops) (IsTreeOver tops) result }
-        ensures valid { TellsValid result }
-        ensures left { Lessens left_of (Node.Request self) result }
+    fn read_ready(&mut self) -> Turn
+        requires over { (tops : Seq SeenTop) × IsRequestAtOver tops self.old }
+        requires kind { kind_of self.old.node.waiting.request.work ≡ Kind.Read }
+        requires stage { self.old.stage ≡ Stage.Ready }
+        ensures moves { (tops : Seq SeenTop) → MovesBare tops (Node.Request self.old) (moved (Node.Request self.new) result) }
+        ensures over { (tops : Seq SeenTop) → IsRequestAtOver tops self.old → EachIn (IsNodeOver tops) (IsTreeOver tops) (moved (Node.Request self.new) result) }
+        ensures valid { TellsValid (moved (Node.Request self.new) result) }
+        ensures left { Lessens left_of (Node.Request self.old) (moved (Node.Request self.new) result) }
+        ensures stages { IsStageMove (Node.Request self.old) (moved (Node.Request self.new) result) }
     {
         let to = next(Stage::Ready, READ);
         self.tell_none(to)
     }
 
     /// Each copy was verified as it came, so nothing is left to verify.
-    fn read_checksum_verify(self) -> Move<Node>
-        requires over { (tops : Seq SeenTop) × IsRequestAtOver tops self }
-        requires kind { kind_of self.node.waiting.request.work ≡ Kind.Read }
-        requires stage { self.stage ≡ Stage.ChecksumVerify }
-        ensures moves { (tops : Seq SeenTop) → MovesBare tops (Node.Request self) result }
-        ensures over { (tops : Seq SeenTop) → IsRequestAtOver tops self → EachIn (IsNodeOver tops) (IsTreeOver tops) result }
-        ensures valid { TellsValid result }
-        ensures left { Lessens left_of (Node.Request self) result }
+    fn read_checksum_verify(&mut self) -> Turn
+        requires over { (tops : Seq SeenTop) × IsRequestAtOver tops self.old }
+        requires kind { kind_of self.old.node.waiting.request.work ≡ Kind.Read }
+        requires stage { self.old.stage ≡ Stage.ChecksumVerify }
+        ensures moves { (tops : Seq SeenTop) → MovesBare tops (Node.Request self.old) (moved (Node.Request self.new) result) }
+        ensures over { (tops : Seq SeenTop) → IsRequestAtOver tops self.old → EachIn (IsNodeOver tops) (IsTreeOver tops) (moved (Node.Request self.new) result) }
+        ensures valid { TellsValid (moved (Node.Request self.new) result) }
+        ensures left { Lessens left_of (Node.Request self.old) (moved (Node.Request self.new) result) }
+        ensures stages { IsStageMove (Node.Request self.old) (moved (Node.Request self.new) result) }
     {
-        let RequestAt { node, is_due, .. } = self;
-        let at = RequestAt {
-            node,
-            stage: next(Stage::ChecksumVerify, READ),
-            is_due,
-        };
-        Move::Next(Node::Request(at))
+        self.stage = next(Stage::ChecksumVerify, READ);
+        Turn::Next
     }
 
     /// Ends once its children have. Where memory is refused it comes back, and what it came to stays.
-    fn read_done(self, alloc: Global) -> Result<Move<Node>, Node>
+    pub(crate) fn read_done(self, alloc: Global) -> Result<Move<Node>, Node>
         requires over { (tops : Seq SeenTop) × IsRequestAtOver tops self }
         requires kind { kind_of self.node.waiting.request.work ≡ Kind.Read }
         requires stage { self.stage ≡ Stage.Done }
         ensures moves { (tops : Seq SeenTop) → IfOk result (MovesBare tops (Node.Request self)) }
         ensures over { (tops : Seq SeenTop) → IsRequestAtOver tops self → IfOk result (EachIn (IsNodeOver tops) (IsTreeOver tops)) }
         ensures valid { IfOk result TellsValid }
+        ensures last { IfOk result IsLastMove }
         ensures left { IfOk result (Lessens left_of (Node.Request self)) }
         ensures refused { (tops : Seq SeenTop) → IfErr result (StaysBare tops (Node.Request self)) }
     {

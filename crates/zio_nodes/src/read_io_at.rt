@@ -1,16 +1,17 @@
 //! A read in an attempt that reads its body itself: the operations on leaves.
 
-ghost use Rattle.std.specs.Prelude.{◌≡◌, IfErr, IfOk};
+ghost use Rattle.std.specs.Prelude.{◌≡◌, IfOk, OnErr};
 ghost use Rattle.zio_script.specs.Requests.{kind_of};
 ghost use Rattle.zio_graph.specs.Stages.{EachIn, Lessens, TellsValid};
-ghost use Rattle.zio_nodes.specs.Nodes.{IsNodeOver, IsTreeOver, MovesBare, StaysBare, left_of};
+ghost use Rattle.zio_nodes.specs.StageMoves.{IsStageMove};
+ghost use Rattle.zio_nodes.specs.Nodes.{IsNodeOver, IsTreeOver, MovesBare, StaysBare, left_of, moved};
 ghost use Rattle.zio_nodes.specs.RequestAts.{IsRequestAtOver};
 
 use crate::leaf_at::LeafAt;
 use crate::node::Node;
 use crate::request_at::RequestAt;
+use crate::turn::{Turn, new_room};
 use std::alloc::Global;
-use zio_graph::Move;
 use zio_masks::{READ, Stage, next};
 use zio_stages::IoNext;
 use zio_types::{ChildKind, Kind, NoMemory, Phase, Top};
@@ -18,102 +19,77 @@ use zio_types::{ChildKind, Kind, NoMemory, Phase, Top};
 impl RequestAt {
     /// Hands the next operation on a leaf to a child, where it reads a body itself, or goes on where none is due now. Where memory is
     /// refused the body's read may have begun.
-    pub(crate) fn read_io_start(self, alloc: Global, tops: &[Top]) -> Result<Move<Node>, Node>
-        requires over { IsRequestAtOver tops.now self }
-        requires kind { kind_of self.node.waiting.request.work ≡ Kind.Read }
-        requires stage { self.stage ≡ Stage.VdevIoStart }
-        ensures moves { IfOk result (MovesBare tops.now (Node.Request self)) }
-        ensures over { IfOk result (EachIn (IsNodeOver tops.now) (IsTreeOver tops.now)) }
-        ensures valid { IfOk result TellsValid }
-        ensures left { IfOk result (Lessens left_of (Node.Request self)) }
-        ensures refused { IfErr result (StaysBare tops.now (Node.Request self)) }
+    pub(crate) fn read_io_start(&mut self, alloc: Global, tops: &[Top]) -> Result<Turn, NoMemory>
+        requires over { IsRequestAtOver tops.now self.old }
+        requires kind { kind_of self.old.node.waiting.request.work ≡ Kind.Read }
+        requires stage { self.old.stage ≡ Stage.VdevIoStart }
+        ensures moves { IfOk result (λ turn. MovesBare tops.now (Node.Request self.old) (moved (Node.Request self.new) turn)) }
+        ensures over { IfOk result (λ turn. EachIn (IsNodeOver tops.now) (IsTreeOver tops.now) (moved (Node.Request self.new) turn)) }
+        ensures valid { IfOk result (λ turn. TellsValid (moved (Node.Request self.new) turn)) }
+        ensures left { IfOk result (λ turn. Lessens left_of (Node.Request self.old) (moved (Node.Request self.new) turn)) }
+        ensures refused { OnErr result (StaysBare tops.now (Node.Request self.old) (Node.Request self.new)) }
+        ensures stages { IfOk result (λ turn. IsStageMove (Node.Request self.old) (moved (Node.Request self.new) turn)) }
     {
-        let RequestAt { node, .. } = self;
-        let mut node = node;
-        match node.vdev_io_start_read(alloc, tops) {
+        let mut room = new_room(alloc)?;
+        match self.node.vdev_io_start_read(alloc, tops) {
             Ok(Some(work)) => {
                 let child = LeafAt::new(work);
-                let at = RequestAt {
-                    node,
-                    stage: Stage::VdevIoStart,
-                    is_due: true,
-                };
-                Ok(Move::Grow(Node::Request(at), Node::Leaf(child), ChildKind::Vdev))
+                *room = Node::Leaf(child);
+                Ok(Turn::Grow(room, ChildKind::Vdev))
             }
             Ok(None) => {
-                let at = RequestAt {
-                    node,
-                    stage: next(Stage::VdevIoStart, READ),
-                    is_due: false,
-                };
-                Ok(Move::Next(Node::Request(at)))
+                self.stage = next(Stage::VdevIoStart, READ);
+                self.is_due = false;
+                Ok(Turn::Next)
             }
-            Err(NoMemory) => Err(Node::Request(RequestAt {
-                node,
-                stage: Stage::VdevIoStart,
-                is_due: true,
-            })),
+            Err(NoMemory) => Err(NoMemory),
         }
     }
 
     /// Waits for its children on leaves. It goes back where one that ended has made another operation due.
-    pub(crate) fn read_io_done(self, tops: &[Top]) -> Move<Node>
-        requires over { IsRequestAtOver tops.now self }
-        requires kind { kind_of self.node.waiting.request.work ≡ Kind.Read }
-        requires stage { self.stage ≡ Stage.VdevIoDone }
-        ensures moves { MovesBare tops.now (Node.Request self) result }
-        ensures over { EachIn (IsNodeOver tops.now) (IsTreeOver tops.now) result }
-        ensures valid { TellsValid result }
-        ensures left { Lessens left_of (Node.Request self) result }
+    pub(crate) fn read_io_done(&mut self, tops: &[Top]) -> Turn
+        requires over { IsRequestAtOver tops.now self.old }
+        requires kind { kind_of self.old.node.waiting.request.work ≡ Kind.Read }
+        requires stage { self.old.stage ≡ Stage.VdevIoDone }
+        ensures moves { MovesBare tops.now (Node.Request self.old) (moved (Node.Request self.new) result) }
+        ensures over { EachIn (IsNodeOver tops.now) (IsTreeOver tops.now) (moved (Node.Request self.new) result) }
+        ensures valid { TellsValid (moved (Node.Request self.new) result) }
+        ensures left { Lessens left_of (Node.Request self.old) (moved (Node.Request self.new) result) }
+        ensures stages { IsStageMove (Node.Request self.old) (moved (Node.Request self.new) result) }
     {
         match self.node.vdev_io_done_read(tops) {
-            IoNext::Wait => Move::Wait(Node::Request(self), ChildKind::Vdev, Phase::Done),
+            IoNext::Wait => Turn::Wait(ChildKind::Vdev, Phase::Done),
             IoNext::More => {
-                let RequestAt { node, .. } = self;
-                let at = RequestAt {
-                    node,
-                    stage: Stage::VdevIoStart,
-                    is_due: true,
-                };
-                Move::Next(Node::Request(at))
+                self.stage = Stage::VdevIoStart;
+                self.is_due = true;
+                Turn::Next
             }
             IoNext::On => {
-                let RequestAt { node, .. } = self;
-                let at = RequestAt {
-                    node,
-                    stage: next(Stage::VdevIoDone, READ),
-                    is_due: false,
-                };
-                Move::Next(Node::Request(at))
+                self.stage = next(Stage::VdevIoDone, READ);
+                self.is_due = false;
+                Turn::Next
             }
         }
     }
 
     /// Goes back for a second pass, once, where no copy was good; else the body's read closes.
-    pub(crate) fn read_io_assess(self, tops: &[Top]) -> Move<Node>
-        requires over { IsRequestAtOver tops.now self }
-        requires kind { kind_of self.node.waiting.request.work ≡ Kind.Read }
-        requires stage { self.stage ≡ Stage.VdevIoAssess }
-        ensures moves { MovesBare tops.now (Node.Request self) result }
-        ensures over { EachIn (IsNodeOver tops.now) (IsTreeOver tops.now) result }
-        ensures valid { TellsValid result }
-        ensures left { Lessens left_of (Node.Request self) result }
+    pub(crate) fn read_io_assess(&mut self, tops: &[Top]) -> Turn
+        requires over { IsRequestAtOver tops.now self.old }
+        requires kind { kind_of self.old.node.waiting.request.work ≡ Kind.Read }
+        requires stage { self.old.stage ≡ Stage.VdevIoAssess }
+        ensures moves { MovesBare tops.now (Node.Request self.old) (moved (Node.Request self.new) result) }
+        ensures over { EachIn (IsNodeOver tops.now) (IsTreeOver tops.now) (moved (Node.Request self.new) result) }
+        ensures valid { TellsValid (moved (Node.Request self.new) result) }
+        ensures left { Lessens left_of (Node.Request self.old) (moved (Node.Request self.new) result) }
+        ensures stages { IsStageMove (Node.Request self.old) (moved (Node.Request self.new) result) }
     {
-        let RequestAt { node, .. } = self;
-        let mut node = node;
-        if node.vdev_io_assess_read(tops) {
-            let at = RequestAt {
-                node,
-                stage: Stage::VdevIoStart,
-                is_due: true,
-            };
-            return Move::Next(Node::Request(at));
+        if self.node.vdev_io_assess_read(tops) {
+            self.stage = Stage::VdevIoStart;
+            self.is_due = true;
+            return Turn::Next;
         }
-        let at = RequestAt {
-            node,
-            stage: next(Stage::VdevIoAssess, READ),
-            is_due: false,
-        };
-        Move::Next(Node::Request(at))
+        self.stage = next(Stage::VdevIoAssess, READ);
+        self.is_due = false;
+        Turn::Next
     }
 }

@@ -4,7 +4,7 @@
 //! `write_at`, `read_at`, `free_at` and `claim_at` have these, a function for each stage. `request_hear` has what it hears of
 //! attempts, `write_hear` and `own_hear` what it hears of its own work.
 
-ghost use Rattle.std.specs.Prelude.{◌≡◌, ◌≢◌, ◌+◌, ◌≤◌, ◌||◌, ◌&&◌, IfErr, IfOk, IfSome, IsTrue, List as Seq, Some, true};
+ghost use Rattle.std.specs.Prelude.{◌≡◌, ◌≢◌, ◌+◌, ◌≤◌, ◌||◌, ◌&&◌, IfErr, IfOk, IfSome, IsTrue, List as Seq, Some, true, OnErr};
 ghost use Rattle.zio_types.specs.declared.place.Top.{Top as SeenTop};
 ghost use Rattle.zio_masks.specs.Stages.{has, is_gang_stage};
 ghost use Rattle.zio_masks.specs.declared.stage.Stage.{Stage as SeenStage};
@@ -28,6 +28,7 @@ ghost use Rattle.zio_graph.specs.Stages.{
   TellsValid,
   heard_max,
 };
+ghost use Rattle.zio_nodes.specs.StageMoves.{IsLastMove, IsStageMove};
 ghost use Rattle.zio_nodes.specs.Nodes.{
   IsNodeOver,
   IsTreeOver,
@@ -38,11 +39,13 @@ ghost use Rattle.zio_nodes.specs.Nodes.{
   gave_of,
   left_of,
   nodes,
+  moved,
 };
 ghost use Rattle.zio_nodes.specs.RequestAts.{IsRequestAtOver, takes};
 
 use crate::node::Node;
 use crate::tree_at::TreeAt;
+use crate::turn::{Turn, new_room};
 use std::alloc::Global;
 use zio_blkptr::Bp;
 use zio_graph::Move;
@@ -61,20 +64,26 @@ pub struct RequestAt {
 
 impl RequestAt {
     /// Runs one stage. Where memory is refused it comes back, and what it did of the stage stays.
-    pub fn run_stage<S: Services>(self, alloc: Global, services: &mut S) -> Result<Move<Node>, Node>
-        requires { IsRequestAtOver (S.tops services.old) self }
-        ensures moves { IfOk result (MovesWith S.made (S.tops services.old) services.old services.new (Node.Request self)) }
-        ensures over { IfOk result (EachIn (IsNodeOver (S.tops services.old)) (IsTreeOver (S.tops services.old))) }
-        ensures valid { IfOk result TellsValid }
-        ensures left { IfOk result (Lessens left_of (Node.Request self)) }
-        ensures refused { IfErr result (StaysWith S.made (S.tops services.old) services.old services.new (Node.Request self)) }
+    pub fn run_stage<S: Services>(
+        &mut self,
+        alloc: Global,
+        services: &mut S,
+    ) -> Result<Turn, NoMemory>
+        requires over { IsRequestAtOver (S.tops services.old) self.old }
+        requires before { self.old.stage ≢ Stage.Done }
+        ensures moves { IfOk result (λ turn. MovesWith S.made (S.tops services.old) services.old services.new (Node.Request self.old) (moved (Node.Request self.new) turn)) }
+        ensures over { IfOk result (λ turn. EachIn (IsNodeOver (S.tops services.old)) (IsTreeOver (S.tops services.old)) (moved (Node.Request self.new) turn)) }
+        ensures valid { IfOk result (λ turn. TellsValid (moved (Node.Request self.new) turn)) }
+        ensures left { IfOk result (λ turn. Lessens left_of (Node.Request self.old) (moved (Node.Request self.new) turn)) }
+        ensures refused { OnErr result (StaysWith S.made (S.tops services.old) services.old services.new (Node.Request self.old) (Node.Request self.new)) }
         ensures tops { S.tops services.new ≡ S.tops services.old }
+        ensures stages { IfOk result (λ turn. IsStageMove (Node.Request self.old) (moved (Node.Request self.new) turn)) }
     {
         if self.stage == Stage::Start {
-            return self.start();
+            return self.start(alloc);
         }
         match self.node.kind() {
-            Kind::Null => self.null_stage(alloc),
+            Kind::Null => Ok(self.null_ready()),
             Kind::Read => self.read_stage(alloc, services),
             Kind::Write => self.write_stage(alloc, services),
             Kind::Free => self.free_stage(alloc, services),
@@ -82,16 +91,41 @@ impl RequestAt {
         }
     }
 
+    /// Runs the stage where it ends. Where memory is refused it comes back, and what it did of the stage stays.
+    pub(crate) fn done<S: Services>(
+        self,
+        alloc: Global,
+        services: &mut S,
+    ) -> Result<Move<Node>, Node>
+        requires over { IsRequestAtOver (S.tops services.old) self }
+        requires stage { self.stage ≡ Stage.Done }
+        ensures moves { IfOk result (MovesWith S.made (S.tops services.old) services.old services.new (Node.Request self)) }
+        ensures over { IfOk result (EachIn (IsNodeOver (S.tops services.old)) (IsTreeOver (S.tops services.old))) }
+        ensures valid { IfOk result TellsValid }
+        ensures last { IfOk result IsLastMove }
+        ensures left { IfOk result (Lessens left_of (Node.Request self)) }
+        ensures refused { IfErr result (StaysWith S.made (S.tops services.old) services.old services.new (Node.Request self)) }
+        ensures tops { S.tops services.new ≡ S.tops services.old }
+    {
+        match self.node.kind() {
+            Kind::Null => self.null_done(alloc),
+            Kind::Read => self.read_done(alloc),
+            Kind::Write => self.write_done(alloc, services),
+            Kind::Free => self.free_done(alloc),
+            Kind::Claim => self.claim_done(alloc),
+        }
+    }
+
     /// The child of this number told which pointer its value will have, or that it has none.
-    pub fn arrive_ready(self, child: u32, pointer: Option<Bp>) -> RequestAt
-        requires awaited { HearsSomeEarly nodes (Node.Request self) child }
+    pub fn arrive_ready(&mut self, child: u32, pointer: Option<Bp>)
+        requires awaited { HearsSomeEarly nodes (Node.Request self.old) child }
         requires valid { IfSome pointer (λ bp. IsTrue (valid bp)) }
-        ensures heard { (t : Terms) (st : Stack) (c : Child) → HearsEarly nodes t (Node.Request self) st child c →
-            IsRequestNode t result.node (heard_early st child c pointer) }
-        ensures stage { result.stage ≡ self.stage }
-        ensures gave { gave_of (Node.Request result) ≡ gave_of (Node.Request self) }
-        ensures over { (tops : Seq SeenTop) → IsRequestAtOver tops self → IsRequestAtOver tops result }
-        ensures left { left_of (Node.Request result) ≤ left_of (Node.Request self) + heard_max }
+        ensures heard { (t : Terms) (st : Stack) (c : Child) → HearsEarly nodes t (Node.Request self.old) st child c →
+            IsRequestNode t self.new.node (heard_early st child c pointer) }
+        ensures stage { self.new.stage ≡ self.old.stage }
+        ensures gave { gave_of (Node.Request self.new) ≡ gave_of (Node.Request self.old) }
+        ensures over { (tops : Seq SeenTop) → IsRequestAtOver tops self.old → IsRequestAtOver tops self.new }
+        ensures left { left_of (Node.Request self.new) ≤ left_of (Node.Request self.old) + heard_max }
     {
         match self.node.kind_of_child(child) {
             ChildKind::Logical => self.arrive_attempt_ready(child, pointer),
@@ -104,77 +138,78 @@ impl RequestAt {
     }
 
     /// The child of this number ended. Of a request that finished this comes back.
-    pub fn arrive(self, tops: &[Top], child: u32, outcome: Outcome) -> (RequestAt, Option<Finished>)
-        requires over { IsRequestAtOver tops.now self }
-        requires awaited { HearsSome nodes tops.now (Node.Request self) child outcome }
+    pub fn arrive(&mut self, tops: &[Top], child: u32, outcome: Outcome) -> Option<Finished>
+        requires over { IsRequestAtOver tops.now self.old }
+        requires awaited { HearsSome nodes tops.now (Node.Request self.old) child outcome }
         requires inside { OutcomeIn (IsTreeOver tops.now) outcome }
         ensures heard { (t : Terms) (st : Stack) (c : Child) (op : Task) (v : Value) →
-            Hears nodes tops.now t (Node.Request self) st child c op outcome v →
-            IsRequestNode t result.0.node (heard_of st child c v) }
-        ensures finished { IfSome result.1 (λ f. outcome ≡ SeenOutcome.Finished f) }
-        ensures kept { (f : _) → outcome ≡ SeenOutcome.Finished f → result.1 ≡ Some f }
-        ensures stage { result.0.stage ≡ self.stage }
-        ensures gave { gave_of (Node.Request result.0) ≡ gave_of (Node.Request self) }
-        ensures over_still { IsRequestAtOver tops.now result.0 }
-        ensures left { left_of (Node.Request result.0) ≤ left_of (Node.Request self) + heard_max }
+            Hears nodes tops.now t (Node.Request self.old) st child c op outcome v →
+            IsRequestNode t self.new.node (heard_of st child c v) }
+        ensures finished { IfSome result (λ f. outcome ≡ SeenOutcome.Finished f) }
+        ensures kept { (f : _) → outcome ≡ SeenOutcome.Finished f → result ≡ Some f }
+        ensures stage { self.new.stage ≡ self.old.stage }
+        ensures gave { gave_of (Node.Request self.new) ≡ gave_of (Node.Request self.old) }
+        ensures over_still { IsRequestAtOver tops.now self.new }
+        ensures left { left_of (Node.Request self.new) ≤ left_of (Node.Request self.old) + heard_max }
     {
         match outcome {
             Outcome::Finished(finished) => {
-                let at = self.arrive_finished(child, &finished);
-                (at, Some(finished))
+                self.arrive_finished(child, &finished);
+                Some(finished)
             }
             Outcome::Again {
                 whole,
                 bits,
                 pointer,
-            } => (self.arrive_again(child, whole, bits, pointer), None),
+            } => {
+                self.arrive_again(child, whole, bits, pointer);
+                None
+            }
             own => match self.node.kind() {
-                Kind::Write => (self.arrive_written(tops, child, own), None),
+                Kind::Write => {
+                    self.arrive_written(tops, child, own);
+                    None
+                }
                 Kind::Null | Kind::Read | Kind::Free | Kind::Claim => {
-                    (self.arrive_own(tops, child, own), None)
+                    self.arrive_own(tops, child, own);
+                    None
                 }
             },
         }
     }
 
     /// Hands its children's trees out, one by one, and goes on once all are out. Where memory is refused it comes back as it was.
-    fn start(self) -> Result<Move<Node>, Node>
-        requires stage { self.stage ≡ Stage.Start }
-        requires over { (tops : Seq SeenTop) × IsRequestAtOver tops self }
-        ensures moves { (tops : Seq SeenTop) → IfOk result (MovesBare tops (Node.Request self)) }
-        ensures over { (tops : Seq SeenTop) → IsRequestAtOver tops self → IfOk result (EachIn (IsNodeOver tops) (IsTreeOver tops)) }
-        ensures valid { IfOk result TellsValid }
-        ensures left { IfOk result (Lessens left_of (Node.Request self)) }
-        ensures refused { (tops : Seq SeenTop) → IfErr result (StaysBare tops (Node.Request self)) }
+    fn start(&mut self, alloc: Global) -> Result<Turn, NoMemory>
+        requires stage { self.old.stage ≡ Stage.Start }
+        requires over { (tops : Seq SeenTop) × IsRequestAtOver tops self.old }
+        ensures moves { (tops : Seq SeenTop) → IfOk result (λ turn. MovesBare tops (Node.Request self.old) (moved (Node.Request self.new) turn)) }
+        ensures over { (tops : Seq SeenTop) → IsRequestAtOver tops self.old → IfOk result (λ turn. EachIn (IsNodeOver tops) (IsTreeOver tops) (moved (Node.Request self.new) turn)) }
+        ensures valid { IfOk result (λ turn. TellsValid (moved (Node.Request self.new) turn)) }
+        ensures left { IfOk result (λ turn. Lessens left_of (Node.Request self.old) (moved (Node.Request self.new) turn)) }
+        ensures refused { (tops : Seq SeenTop) → OnErr result (StaysBare tops (Node.Request self.old) (Node.Request self.new)) }
+        ensures stages { IfOk result (λ turn. IsStageMove (Node.Request self.old) (moved (Node.Request self.new) turn)) }
     {
+        let mut room = new_room(alloc)?;
         let mask = self.mask();
-        let RequestAt { node, .. } = self;
-        let mut node = node;
-        match node.start() {
+        match self.node.start() {
             Ok(Start::Child { whole, .. }) => {
                 // A tree has a request at least.
                 let _root = whole.root();
-                let child = TreeAt::new(whole, node.round(), node.attempt(), node.failmode());
-                let at = RequestAt {
-                    node,
-                    stage: Stage::Start,
-                    is_due: true,
-                };
-                Ok(Move::Grow(Node::Request(at), Node::Tree(child), ChildKind::Logical))
+                let child = TreeAt::new(
+                    whole,
+                    self.node.round(),
+                    self.node.attempt(),
+                    self.node.failmode(),
+                );
+                *room = Node::Tree(child);
+                Ok(Turn::Grow(room, ChildKind::Logical))
             }
             Ok(Start::AllOut) => {
-                let at = RequestAt {
-                    node,
-                    stage: next(Stage::Start, mask),
-                    is_due: true,
-                };
-                Ok(Move::Next(Node::Request(at)))
+                self.stage = next(Stage::Start, mask);
+                self.is_due = true;
+                Ok(Turn::Next)
             }
-            Err(NoMemory) => Err(Node::Request(RequestAt {
-                node,
-                stage: Stage::Start,
-                is_due: true,
-            })),
+            Err(NoMemory) => Err(NoMemory),
         }
     }
 

@@ -23,86 +23,48 @@ use zio_types::Bits;
 
 impl RequestAt {
     /// The attempt of a child's tree told which pointer the child will have.
-    pub fn arrive_attempt_ready(self, child: u32, pointer: Option<Bp>) -> RequestAt
-        requires logical { HearsEarlyOf Logical self.node child }
+    pub fn arrive_attempt_ready(&mut self, child: u32, pointer: Option<Bp>)
+        requires logical { HearsEarlyOf Logical self.old.node child }
         requires valid { IfSome pointer (λ bp. IsTrue (valid bp)) }
-        ensures heard { (t : Terms) (st : Stack) (c : Child) → HearsEarly nodes t (Node.Request self) st child c →
-            IsRequestNode t result.node (heard_early st child c pointer) }
-        ensures stage { result.stage ≡ self.stage }
-        ensures gave { gave_of (Node.Request result) ≡ gave_of (Node.Request self) }
-        ensures over { (tops : Seq SeenTop) → IsRequestAtOver tops self → IsRequestAtOver tops result }
-        ensures left { left_of (Node.Request result) ≡ left_of (Node.Request self) }
+        ensures heard { (t : Terms) (st : Stack) (c : Child) → HearsEarly nodes t (Node.Request self.old) st child c →
+            IsRequestNode t self.new.node (heard_early st child c pointer) }
+        ensures stage { self.new.stage ≡ self.old.stage }
+        ensures gave { gave_of (Node.Request self.new) ≡ gave_of (Node.Request self.old) }
+        ensures over { (tops : Seq SeenTop) → IsRequestAtOver tops self.old → IsRequestAtOver tops self.new }
+        ensures left { left_of (Node.Request self.new) ≡ left_of (Node.Request self.old) }
     {
         logical_children_are_attempts();
-        let RequestAt {
-            node,
-            stage,
-            is_due,
-        } = self;
-        let mut node = node;
-        node.arrive_ready(child, pointer);
-        RequestAt {
-            node,
-            stage,
-            is_due,
-        }
+        self.node.arrive_ready(child, pointer);
     }
 
     /// The attempt of a child's tree ended, and the child finished.
-    pub fn arrive_finished(self, child: u32, finished: &Finished) -> RequestAt
-        requires { (tops : Seq SeenTop) × HearsSome nodes tops (Node.Request self) child (SeenOutcome.Finished finished.now) }
+    pub fn arrive_finished(&mut self, child: u32, finished: &Finished)
+        requires { (tops : Seq SeenTop) × HearsSome nodes tops (Node.Request self.old) child (SeenOutcome.Finished finished.now) }
         ensures heard { (tops : Seq SeenTop) (t : Terms) (st : Stack) (c : Child) (op : Task) (v : Value) →
-            Hears nodes tops t (Node.Request self) st child c op (SeenOutcome.Finished finished.now) v →
-            IsRequestNode t result.node (heard_of st child c v) }
-        ensures stage { result.stage ≡ self.stage }
-        ensures gave { gave_of (Node.Request result) ≡ gave_of (Node.Request self) }
-        ensures over { (tops : Seq SeenTop) → IsRequestAtOver tops self → IsRequestAtOver tops result }
-        ensures left { left_of (Node.Request result) ≡ left_of (Node.Request self) }
+            Hears nodes tops t (Node.Request self.old) st child c op (SeenOutcome.Finished finished.now) v →
+            IsRequestNode t self.new.node (heard_of st child c v) }
+        ensures stage { self.new.stage ≡ self.old.stage }
+        ensures gave { gave_of (Node.Request self.new) ≡ gave_of (Node.Request self.old) }
+        ensures over { (tops : Seq SeenTop) → IsRequestAtOver tops self.old → IsRequestAtOver tops self.new }
+        ensures left { left_of (Node.Request self.new) ≡ left_of (Node.Request self.old) }
     {
         logical_children_are_attempts();
-        let RequestAt {
-            node,
-            stage,
-            is_due,
-        } = self;
-        let mut node = node;
-        node.arrive_finished(child, finished.error(), finished.pointer());
-        RequestAt {
-            node,
-            stage,
-            is_due,
-        }
+        self.node
+            .arrive_finished(child, finished.error(), finished.pointer());
     }
 
     /// The attempt of a child's tree ended, and this is left of it, which goes again.
-    pub fn arrive_again(
-        self,
-        child: u32,
-        whole: Whole,
-        bits: Bits,
-        pointer: Option<Bp>,
-    ) -> RequestAt
-        requires { (tops : Seq SeenTop) × HearsSome nodes tops (Node.Request self) child (SeenOutcome.Again whole bits pointer) }
+    pub fn arrive_again(&mut self, child: u32, whole: Whole, bits: Bits, pointer: Option<Bp>)
+        requires { (tops : Seq SeenTop) × HearsSome nodes tops (Node.Request self.old) child (SeenOutcome.Again whole bits pointer) }
         ensures heard { (tops : Seq SeenTop) (t : Terms) (st : Stack) (c : Child) (op : Task) (v : Value) →
-            Hears nodes tops t (Node.Request self) st child c op (SeenOutcome.Again whole bits pointer) v →
-            IsRequestNode t result.node (heard_of st child c v) }
-        ensures stage { result.stage ≡ self.stage }
-        ensures gave { gave_of (Node.Request result) ≡ gave_of (Node.Request self) }
-        ensures over { (tops : Seq SeenTop) → IsTreeOver tops whole → IsRequestAtOver tops self → IsRequestAtOver tops result }
-        ensures left { left_of (Node.Request result) ≡ left_of (Node.Request self) }
+            Hears nodes tops t (Node.Request self.old) st child c op (SeenOutcome.Again whole bits pointer) v →
+            IsRequestNode t self.new.node (heard_of st child c v) }
+        ensures stage { self.new.stage ≡ self.old.stage }
+        ensures gave { gave_of (Node.Request self.new) ≡ gave_of (Node.Request self.old) }
+        ensures over { (tops : Seq SeenTop) → IsTreeOver tops whole → IsRequestAtOver tops self.old → IsRequestAtOver tops self.new }
+        ensures left { left_of (Node.Request self.new) ≡ left_of (Node.Request self.old) }
     {
         logical_children_are_attempts();
-        let RequestAt {
-            node,
-            stage,
-            is_due,
-        } = self;
-        let mut node = node;
-        node.arrive_again(child, bits, whole, pointer);
-        RequestAt {
-            node,
-            stage,
-            is_due,
-        }
+        self.node.arrive_again(child, bits, whole, pointer);
     }
 }

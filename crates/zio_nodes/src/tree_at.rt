@@ -9,6 +9,7 @@ ghost use Rattle.zio_frames.specs.Frames.{fresh_stack};
 ghost use Rattle.zio_stages.specs.Wholes.{IsTreeOf};
 ghost use Rattle.zio_graph.specs.Stages.{EachIn, Lessens, TellsValid};
 ghost use Rattle.zio_nodes.specs.Nodes.{IsNodeOver, IsTreeOver, MovesBare, StaysBare, left_of};
+ghost use Rattle.zio_nodes.specs.StageMoves.{IsStart};
 ghost use Rattle.zio_nodes.specs.TreeAts.{IsTreeAt, IsTreeAtOver};
 
 use crate::node::Node;
@@ -52,6 +53,7 @@ impl TreeAt {
         ensures over { (tops : Seq SeenTop) → IsTreeAtOver tops self → IfOk result (EachIn (IsNodeOver tops) (IsTreeOver tops)) }
         ensures valid { IfOk result TellsValid }
         ensures left { IfOk result (Lessens left_of (Node.Tree self)) }
+        ensures starts { IfOk result IsStart }
         ensures refused { (tops : Seq SeenTop) → IfErr result (StaysBare tops (Node.Tree self)) }
     {
         let TreeAt {

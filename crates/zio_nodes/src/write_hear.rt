@@ -24,69 +24,43 @@ use zio_types::{Kind, Top};
 
 impl RequestAt {
     /// A member of its block told which pointer it will have.
-    pub fn arrive_member_ready(self, child: u32, pointer: Option<Bp>) -> RequestAt
-        requires awaited { HearsSomeEarly nodes (Node.Request self) child }
-        requires gang { HearsEarlyOf Gang self.node child }
-        requires kind { kind_of self.node.waiting.request.work ≡ Kind.Write }
+    pub fn arrive_member_ready(&mut self, child: u32, pointer: Option<Bp>)
+        requires awaited { HearsSomeEarly nodes (Node.Request self.old) child }
+        requires gang { HearsEarlyOf Gang self.old.node child }
+        requires kind { kind_of self.old.node.waiting.request.work ≡ Kind.Write }
         requires valid { IfSome pointer (λ bp. IsTrue (valid bp)) }
-        ensures heard { (t : Terms) (st : Stack) (c : Child) → HearsEarly nodes t (Node.Request self) st child c →
-            IsRequestNode t result.node (heard_early st child c pointer) }
-        ensures stage { result.stage ≡ self.stage }
-        ensures gave { gave_of (Node.Request result) ≡ gave_of (Node.Request self) }
-        ensures over { (tops : Seq SeenTop) → IsRequestAtOver tops self → IsRequestAtOver tops result }
-        ensures left { left_of (Node.Request result) ≤ left_of (Node.Request self) + heard_max }
+        ensures heard { (t : Terms) (st : Stack) (c : Child) → HearsEarly nodes t (Node.Request self.old) st child c →
+            IsRequestNode t self.new.node (heard_early st child c pointer) }
+        ensures stage { self.new.stage ≡ self.old.stage }
+        ensures gave { gave_of (Node.Request self.new) ≡ gave_of (Node.Request self.old) }
+        ensures over { (tops : Seq SeenTop) → IsRequestAtOver tops self.old → IsRequestAtOver tops self.new }
+        ensures left { left_of (Node.Request self.new) ≤ left_of (Node.Request self.old) + heard_max }
     {
         other_children_show_own_work();
-        let RequestAt {
-            node,
-            stage,
-            is_due,
-        } = self;
-        let mut node = node;
-        node.arrive_member_ready(child, pointer);
-        RequestAt {
-            node,
-            stage,
-            is_due,
-        }
+        self.node.arrive_member_ready(child, pointer);
     }
 
     /// A member of its block ended, or an operation on a leaf for its own copies.
-    pub fn arrive_written(self, tops: &[Top], child: u32, outcome: Outcome) -> RequestAt
-        requires over { IsRequestAtOver tops.now self }
-        requires awaited { HearsSome nodes tops.now (Node.Request self) child outcome }
+    pub fn arrive_written(&mut self, tops: &[Top], child: u32, outcome: Outcome)
+        requires over { IsRequestAtOver tops.now self.old }
+        requires awaited { HearsSome nodes tops.now (Node.Request self.old) child outcome }
         requires own { IsOwnOutcome outcome }
-        requires kind { kind_of self.node.waiting.request.work ≡ Kind.Write }
+        requires kind { kind_of self.old.node.waiting.request.work ≡ Kind.Write }
         ensures heard { (t : Terms) (st : Stack) (c : Child) (op : Task) (v : Value) →
-            Hears nodes tops.now t (Node.Request self) st child c op outcome v → IsRequestNode t result.node (heard_of st child c v) }
-        ensures stage { result.stage ≡ self.stage }
-        ensures gave { gave_of (Node.Request result) ≡ gave_of (Node.Request self) }
-        ensures over_still { IsRequestAtOver tops.now result }
-        ensures left { left_of (Node.Request result) ≤ left_of (Node.Request self) + heard_max }
+            Hears nodes tops.now t (Node.Request self.old) st child c op outcome v → IsRequestNode t self.new.node (heard_of st child c v) }
+        ensures stage { self.new.stage ≡ self.old.stage }
+        ensures gave { gave_of (Node.Request self.new) ≡ gave_of (Node.Request self.old) }
+        ensures over_still { IsRequestAtOver tops.now self.new }
+        ensures left { left_of (Node.Request self.new) ≤ left_of (Node.Request self.old) + heard_max }
     {
         other_children_show_own_work();
-        let RequestAt {
-            node,
-            stage,
-            is_due,
-        } = self;
-        let mut node = node;
         match outcome {
             Outcome::Stored(stored) => {
-                node.arrive_stored(child, stored);
-                RequestAt {
-                    node,
-                    stage,
-                    is_due,
-                }
+                self.node.arrive_stored(child, stored);
             }
             Outcome::Found(found) => {
-                node.arrive_leaf_write(child, found.err());
-                RequestAt {
-                    node,
-                    stage,
-                    is_due: true,
-                }
+                self.node.arrive_leaf_write(child, found.err());
+                self.is_due = true;
             }
             Outcome::Finished(_) | Outcome::Again { .. } | Outcome::Walked(_) => unreachable!(),
         }

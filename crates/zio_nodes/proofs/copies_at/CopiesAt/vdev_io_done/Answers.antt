@@ -1,10 +1,12 @@
-use Rattle.std.proofs.Common.{ap, false, refl, subst, sym, ◌∙◌}
+use Rattle.std.proofs.Common.{ap, false, refl, subst, sym, ◌∙◌, inl, inr}
 use Rattle.zio_masks.specs.declared.stage.Stage.{Stage}
 use Rattle.zio_nodes.specs.CopiesAts.{ReadStands}
 use Rattle.zio_nodes.specs.Told.{is_told}
 use Rattle.zio_nodes.proofs.BoundLemmas.{vdev_counts}
-use Rattle.zio_nodes.proofs.CopiesLemmas.{copies_go}
+use Rattle.zio_nodes.proofs.CopiesLemmas.{copies_go, copies_lead}
 use Rattle.zio_nodes.proofs.StageLemmas.{read_done}
+use Rattle.zio_masks.specs.declared.stage.Stage.TheVariants.{VdevIoDone}
+use Rattle.zio_nodes.specs.StageMoves.{MayGoBack}
 use Rattle.zio_nodes.proofs.copies_at.CopiesAt.vdev_io_done.Goals as goal
 
 pub returns-in-Wait-clause-moves : goal.returns-in-Wait-clause-moves
@@ -15,10 +17,18 @@ returns-in-Wait-clause-moves c = λ t st now. record {
 
 pub returns-in-On-clause-moves : goal.returns-in-On-clause-moves
 returns-in-On-clause-moves c = λ t st now.
-    copies_go t st c.args.self _ now.is.read now.is.answers (ap is_told (read_done c.next.result c.next.ensures) ∙ sym (ap is_told c.requires.stage))
+    copies_go t st c.args.self.now _ now.is.read now.is.answers
+    (ap is_told (read_done c.next-self.result c.next-self.ensures) ∙ sym (ap is_told c.requires.stage))
 
 pub returns-in-On-clause-over : goal.returns-in-On-clause-over
 returns-in-On-clause-over c = record {
   over = c.requires.over.over;
-  stands = subst (λ (s : Stage). ReadStands c.args.tops.now s false c.args.self.node.io) (sym (read_done c.next.result c.next.ensures)) (c.vdev_io_done.ensures.due c.in-On.is);
+  stands = subst (λ (s : Stage). ReadStands c.args.tops.now s false c.args.self.now.node.io)
+      (sym (read_done c.next-self.result c.next-self.ensures)) (c.vdev_io_done.ensures.due c.in-On.is);
 }
+
+pub returns-in-More-clause-stages : goal.returns-in-More-clause-stages
+returns-in-More-clause-stages c = inr (subst MayGoBack (sym c.requires.stage) tt, refl)
+
+pub returns-in-On-clause-stages : goal.returns-in-On-clause-stages
+returns-in-On-clause-stages c = inl (copies_lead c.args.self.now VdevIoDone c.next-self.result c.requires.stage c.next-self.ensures)

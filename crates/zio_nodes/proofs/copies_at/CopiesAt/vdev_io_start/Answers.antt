@@ -1,4 +1,4 @@
-use Rattle.std.proofs.Common.{[], None, Ok, Option, Some, ap, false, refl, subst, sym, ◌∙◌}
+use Rattle.std.proofs.Common.{[], None, Ok, Option, Some, ap, false, refl, subst, sym, ◌∙◌, inl}
 use Rattle.zio_masks.specs.declared.stage.Stage.{Stage}
 use Rattle.zio_trace.specs.Tasks.{Leaf}
 use Rattle.zio_stages.specs.CopiesNodes.{IsCopiesNode}
@@ -6,8 +6,9 @@ use Rattle.zio_stages.specs.NodeIos.{StartsBy}
 use Rattle.zio_stages.specs.declared.leaf.LeafWork.{LeafWork}
 use Rattle.zio_nodes.specs.CopiesAts.{ReadStands}
 use Rattle.zio_nodes.specs.Told.{is_told}
-use Rattle.zio_nodes.proofs.CopiesLemmas.{answers_handed, asks_as_read, copies_go}
+use Rattle.zio_nodes.proofs.CopiesLemmas.{answers_handed, asks_as_read, copies_go, copies_lead}
 use Rattle.zio_nodes.proofs.StageLemmas.{read_out}
+use Rattle.zio_masks.specs.declared.stage.Stage.TheVariants.{VdevIoStart}
 use Rattle.zio_nodes.proofs.copies_at.CopiesAt.vdev_io_start.Goals as goal
 
 pub returns-in-Ok-Some-clause-moves : goal.returns-in-Ok-Some-clause-moves
@@ -22,10 +23,10 @@ returns-in-Ok-Some-clause-moves c = λ t st now.
       opens = tt;
       calls_are = refl;
       op = Leaf hands.act;
-      part = asks_as_read t c.args.self st now.is;
+      part = asks_as_read t c.args.self.now st now.is;
       asks = hands.next;
       is = record { read = hands.after; answers = answers_handed st (Leaf hands.act) now.is.answers };
-      told = sym (ap is_told c.requires.stage);
+      told = refl;
       gave_same = refl;
       child_is = c.new-child.ensures.fresh t hands.act hands.child_is;
       child_told = λ no. absurd (cc);
@@ -38,12 +39,15 @@ returns-in-Ok-None-clause-moves c = λ t st now.
     let stays : StartsBy t st None (IsCopiesNode t c.vdev_io_start.new.self) =
     subst (λ (o : Option LeafWork). StartsBy t st o (IsCopiesNode t c.vdev_io_start.new.self)) c.in-Ok-None.field-0-is
     (c.in-Ok-None.ensures.starts t st now.tops_are now.is.read) in
-    copies_go t st c.args.self _ stays now.is.answers
-    (ap is_told (read_out c.next.result c.next.ensures) ∙ sym (ap is_told c.requires.stage))
+    copies_go t st c.args.self.now _ stays now.is.answers
+    (ap is_told (read_out c.next-self.result c.next-self.ensures) ∙ sym (ap is_told c.requires.stage))
 
 pub returns-in-Ok-None-clause-over : goal.returns-in-Ok-None-clause-over
 returns-in-Ok-None-clause-over c = record {
   over = c.vdev_io_start.ensures.over;
-  stands = subst (λ (s : Stage). ReadStands c.args.tops.now s false c.vdev_io_start.new.self.io) (sym (read_out c.next.result c.next.ensures))
+  stands = subst (λ (s : Stage). ReadStands c.args.tops.now s false c.vdev_io_start.new.self.io) (sym (read_out c.next-self.result c.next-self.ensures))
       (λ is. c.vdev_io_start.ensures.none (c.in-Ok-None.is ∙ ap (λ (o : Option LeafWork). Ok o) c.in-Ok-None.field-0-is));
 }
+
+pub returns-in-Ok-None-clause-stages : goal.returns-in-Ok-None-clause-stages
+returns-in-Ok-None-clause-stages c = inl (copies_lead c.args.self.now VdevIoStart c.next-self.result c.requires.stage c.next-self.ensures)

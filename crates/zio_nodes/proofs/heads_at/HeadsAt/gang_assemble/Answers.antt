@@ -1,4 +1,4 @@
-use Rattle.std.proofs.Common.{◌≡◌, ◌+◌, ◌≤◌, ap, arith, length, refl, subst, sym, ◌∙◌}
+use Rattle.std.proofs.Common.{◌≡◌, ◌+◌, ◌≤◌, ap, arith, length, refl, subst, sym, ◌∙◌, inl}
 use Rattle.zio_types.specs.declared.request.ChildKind.TheVariants.{Gang}
 use Rattle.zio_frames.specs.Frames.{fresh_stack}
 use Rattle.zio_stages.specs.CopiesNodes.{IsCopiesNode}
@@ -9,50 +9,54 @@ use Rattle.zio_nodes.specs.Bounds.{copies_left, heads_left, walk_stages}
 use Rattle.zio_nodes.specs.Told.{is_told}
 use Rattle.zio_nodes.specs.declared.node.Node.TheVariants.{Copies, Heads}
 use Rattle.zio_nodes.proofs.BoundLemmas.{any_counts, kid_below, kid_least, walk_grows}
-use Rattle.zio_nodes.proofs.HeadsLemmas.{walk_goes, walk_grows_by}
+use Rattle.zio_nodes.proofs.HeadsLemmas.{walk_goes, walk_grows_by, walk_leads}
 use Rattle.zio_nodes.proofs.StageLemmas.{walk_assembled}
+use Rattle.zio_masks.specs.declared.stage.Stage.TheVariants.{GangAssemble}
 use Rattle.zio_nodes.proofs.heads_at.HeadsAt.gang_assemble.Goals as goal
 
 pub returns-in-Ok-Head-clause-moves : goal.returns-in-Ok-Head-clause-moves
 returns-in-Ok-Head-clause-moves c = λ t st now.
     let new = c.gang_assemble.new.self in
     let hands : IsWalkStage t new st (Head c.in-Ok-Head.child) = subst (IsWalkStage t new st) c.in-Ok-Head.field-0-is (c.in-Ok-Head.ensures.stage t st now.tops_are now.is) in
-    walk_grows_by t st c.args.self _ (Copies c.new-child.result) (λ op. IsCopiesNode t c.in-Ok-Head.child (fresh_stack op)) hands
-    (λ op is. c.new-child.ensures.fresh t op is) c.new-child.ensures.told refl (sym (ap is_told c.requires.stage))
+    walk_grows_by t st c.args.self.now _ (Copies c.new-child.result) (λ op. IsCopiesNode t c.in-Ok-Head.child (fresh_stack op)) hands
+    (λ op is. c.new-child.ensures.fresh t op is) c.new-child.ensures.told refl refl
 
 pub returns-in-Ok-Head-clause-left : goal.returns-in-Ok-Head-clause-left
 returns-in-Ok-Head-clause-left c =
-    let old = c.args.self.node in
+    let old = c.args.self.now.node in
     let new = c.gang_assemble.new.self in
     let count : length new.family ≡ length old.family + 1 = subst (λ (s : WalkStage). length new.family ≡ with_kid s (length old.family)) c.in-Ok-Head.field-0-is c.in-Ok-Head.ensures.count in
     let few : length new.family ≤ walk_kids_max = subst (λ (s : WalkStage). IsFewWith s (length new.family)) c.in-Ok-Head.field-0-is c.in-Ok-Head.ensures.few in
-    walk_grows old.work.walk.levels new.work.walk.levels (length old.family) (length new.family) (copies_left c.new-child.result) (walk_stages c.args.self.stage)
-    c.gang_assemble.ensures.levels count few (omega (arith, c.new-child.ensures.left, kid_least old.work.walk.levels)) (ap walk_stages c.requires.stage)
+    walk_grows old.work.walk.levels new.work.walk.levels (length old.family) (length new.family) (copies_left c.new-child.result)
+    (walk_stages c.args.self.now.stage)
+    c.gang_assemble.ensures.levels count few (omega (arith, c.new-child.ensures.left, kid_least old.work.walk.levels))
 
 pub returns-in-Ok-Below-clause-moves : goal.returns-in-Ok-Below-clause-moves
 returns-in-Ok-Below-clause-moves c = λ t st now.
     let new = c.gang_assemble.new.self in
     let hands : IsWalkStage t new st (Below c.in-Ok-Below.child) = subst (IsWalkStage t new st) c.in-Ok-Below.field-0-is (c.in-Ok-Below.ensures.stage t st now.tops_are now.is) in
-    walk_grows_by t st c.args.self _ (Heads c.new-child-in-Ok-Below.result) (λ op. IsHeadsNode t c.in-Ok-Below.child (fresh_stack op)) hands
-    (λ op is. c.new-child-in-Ok-Below.ensures.fresh t (fresh_stack op) is) c.new-child-in-Ok-Below.ensures.told refl (sym (ap is_told c.requires.stage))
+    walk_grows_by t st c.args.self.now _ (Heads c.new-child-in-Ok-Below.result) (λ op. IsHeadsNode t c.in-Ok-Below.child (fresh_stack op)) hands
+    (λ op is. c.new-child-in-Ok-Below.ensures.fresh t (fresh_stack op) is) c.new-child-in-Ok-Below.ensures.told refl refl
 
 pub returns-in-Ok-Below-clause-left : goal.returns-in-Ok-Below-clause-left
 returns-in-Ok-Below-clause-left c =
-    let old = c.args.self.node in
+    let old = c.args.self.now.node in
     let new = c.gang_assemble.new.self in
     let child = c.in-Ok-Below.child in
     let count : length new.family ≡ length old.family + 1 = subst (λ (s : WalkStage). length new.family ≡ with_kid s (length old.family)) c.in-Ok-Below.field-0-is c.in-Ok-Below.ensures.count in
     let few : length new.family ≤ walk_kids_max = subst (λ (s : WalkStage). IsFewWith s (length new.family)) c.in-Ok-Below.field-0-is c.in-Ok-Below.ensures.few in
     let below : IsLevelBelow old.work.walk.levels (Below child) = subst (IsLevelBelow old.work.walk.levels) c.in-Ok-Below.field-0-is c.in-Ok-Below.ensures.below in
-    walk_grows old.work.walk.levels new.work.walk.levels (length old.family) (length new.family) (heads_left c.new-child-in-Ok-Below.result) (walk_stages c.args.self.stage)
-    c.gang_assemble.ensures.levels count few (omega (arith, c.new-child-in-Ok-Below.ensures.left, kid_below old.work.walk.levels child.work.walk.levels below.0)) (ap walk_stages c.requires.stage)
+    walk_grows old.work.walk.levels new.work.walk.levels (length old.family) (length new.family) (heads_left c.new-child-in-Ok-Below.result)
+    (walk_stages c.args.self.now.stage)
+    c.gang_assemble.ensures.levels count few
+    (omega (arith, c.new-child-in-Ok-Below.ensures.left, kid_below old.work.walk.levels child.work.walk.levels below.0))
 
 pub returns-in-Ok-Wait-clause-moves : goal.returns-in-Ok-Wait-clause-moves
 returns-in-Ok-Wait-clause-moves c = λ t st now.
     let new = c.gang_assemble.new.self in
     let waits : IsWalkStage t new st Wait = subst (IsWalkStage t new st) c.in-Ok-Wait.field-0-is (c.in-Ok-Wait.ensures.stage t st now.tops_are now.is) in
     record {
-      stays = record { is = waits.0; told = sym (ap is_told c.requires.stage); gave_same = refl; no_calls = refl };
+      stays = record { is = waits.0; told = refl; gave_same = refl; no_calls = refl };
       owing = any_counts Gang st.children (waits.1 now.seated);
     }
 
@@ -60,4 +64,9 @@ pub returns-in-Ok-On-clause-moves : goal.returns-in-Ok-On-clause-moves
 returns-in-Ok-On-clause-moves c = λ t st now.
     let new = c.gang_assemble.new.self in
     let goes : IsWalkStage t new st On = subst (IsWalkStage t new st) c.in-Ok-On.field-0-is (c.in-Ok-On.ensures.stage t st now.tops_are now.is) in
-    walk_goes t st c.args.self _ goes (ap is_told (walk_assembled c.with_gang.result c.next.result c.with_gang.ensures.stages c.next.ensures) ∙ sym (ap is_told c.requires.stage))
+    walk_goes t st c.args.self.now _ goes
+    (ap is_told (walk_assembled c.with_gang.result c.next-self.result c.with_gang.ensures.stages c.next-self.ensures) ∙ sym (ap is_told c.requires.stage))
+
+pub returns-in-Ok-On-clause-stages : goal.returns-in-Ok-On-clause-stages
+returns-in-Ok-On-clause-stages c =
+    inl (walk_leads c.args.self.now c.with_gang.result GangAssemble c.next-self.result c.requires.stage c.with_gang.ensures.stages c.next-self.ensures)

@@ -1,7 +1,7 @@
 use Rattle.std.proofs.Common.{◌≡◌, inl, inr, subst, sym, ◌∙◌}
 use Rattle.zio_stages.specs.declared.outcome.Outcome.TheVariants.{Finished, Found}
 use Rattle.zio_graph.specs.Stages.{Hears, HearsSome}
-use Rattle.zio_nodes.specs.Nodes.{nodes}
+use Rattle.zio_nodes.specs.Nodes.{IsNode, nodes}
 use Rattle.zio_nodes.specs.declared.node.Node.{Node}
 use Rattle.zio_nodes.proofs.CopiesLemmas.{hears_answer}
 use Rattle.zio_nodes.proofs.HeadsLemmas.{IsHeardOutcome, hears_read_or_walk}
@@ -13,13 +13,17 @@ use Rattle.zio_nodes.proofs.node.Node.arrive.Goals as goal
 pub unreachable-requires : goal.unreachable-requires
 unreachable-requires c =
     let k = c.requires.awaited in
+    let P : Node → Type 0 = λ n. Hears {N = Node} nodes c.args.tops.now k.terms n k.stack c.args.child k.child k.op c.args.outcome k.value in
     elim c.in-Leaf.is [
       | inl at ↦
-          let h = subst (λ (n : Node). Hears {N = Node} nodes c.args.tops.now k.terms n k.stack c.args.child k.child k.op c.args.outcome k.value) at.1 k.hears in
+          let h = subst P at.1 k.hears in
           no_child k.terms at.0 k.stack c.args.child k.child h.now.is h.there
-      | inr at ↦
-          let h = subst (λ (n : Node). Hears {N = Node} nodes c.args.tops.now k.terms n k.stack c.args.child k.child k.op c.args.outcome k.value) at.1 k.hears in
-          no_tree_child k.terms at.0 k.stack c.args.child k.child h.now.is h.there
+      | inr rest ↦ elim rest [
+        | inl at ↦
+            let h = subst P at.1 k.hears in
+            no_tree_child k.terms at.0 k.stack c.args.child k.child h.now.is h.there
+        | inr none ↦ subst (λ (n : Node). IsNode k.terms n k.stack) none k.hears.now.is
+      ]
     ]
 
 pub returns-in-Copies-clause-heard : goal.returns-in-Copies-clause-heard

@@ -14,7 +14,7 @@ use Rattle.zio_nodes.proofs.part_at.PartAt.arrive.Goals as goal
 
 pub unreachable-requires : goal.unreachable-requires
 unreachable-requires c =
-    let heard : IsHeardPart c.args.outcome = hears_leaf_or_member c.args.tops.now c.args.self c.args.child c.args.outcome c.requires.awaited in
+    let heard : IsHeardPart c.args.outcome = hears_leaf_or_member c.args.tops.now c.args.self.now c.args.child c.args.outcome c.requires.awaited in
     elim c.in-Finished.is [
       | inl f ↦ subst IsHeardPart f.1 heard
       | inr r ↦ elim r [ inl a ↦ subst IsHeardPart a.3 heard | inr w ↦ subst IsHeardPart w.1 heard ]
@@ -22,11 +22,11 @@ unreachable-requires c =
 
 pub arrive_leaf-requires-clause-hears : goal.arrive_leaf-requires-clause-hears
 arrive_leaf-requires-clause-hears c =
-    subst (λ (e : Option Errno). HearsValueAt (IsAnsweredBy e) c.args.self.node c.args.child) (sym c.error_of.ensures)
-    (hears_found c.args.tops.now c.args.self c.args.child c.args.outcome c.in-Found.found c.in-Found.is c.requires.awaited)
+    subst (λ (e : Option Errno). HearsValueAt (IsAnsweredBy e) c.args.self.now.node c.args.child) (sym c.error_of.ensures)
+    (hears_found c.args.tops.now c.args.self.now c.args.child c.args.outcome c.in-Found.found c.in-Found.is c.requires.awaited)
 
 pub arrive_stored-requires : goal.arrive_stored-requires
-arrive_stored-requires c = hears_stored c.args.tops.now c.args.self c.args.child c.args.outcome c.in-Stored.stored c.in-Stored.is c.requires.awaited
+arrive_stored-requires c = hears_stored c.args.tops.now c.args.self.now c.args.child c.args.outcome c.in-Stored.stored c.in-Stored.is c.requires.awaited
 
 pub returns-in-Found-clause-heard : goal.returns-in-Found-clause-heard
 returns-in-Found-clause-heard c = λ t st d op v h.
@@ -42,7 +42,7 @@ returns-in-Stored-clause-heard c = λ t st d op v h.
 
 pub returns-in-Found-clause-over : goal.returns-in-Found-clause-over
 returns-in-Found-clause-over c =
-    let at = c.args.self in
+    let at = c.args.self.now in
     let h = c.requires.over in
     let e = c.arrive_leaf.ensures in
     record {
@@ -54,7 +54,7 @@ returns-in-Found-clause-over c =
 
 pub returns-in-Stored-clause-over : goal.returns-in-Stored-clause-over
 returns-in-Stored-clause-over c =
-    let at = c.args.self in
+    let at = c.args.self.now in
     let h = c.requires.over in
     let e = c.arrive_stored.ensures in
     record {
@@ -66,7 +66,7 @@ returns-in-Stored-clause-over c =
 
 pub returns-in-Found-clause-left : goal.returns-in-Found-clause-left
 returns-in-Found-clause-left c =
-    let at = c.args.self in
+    let at = c.args.self.now in
     let e = c.arrive_leaf.ensures in
     let new = c.arrive_leaf.new.self in
     let own = ap (λ (o : PartOwn). part_share o.part) e.own in
@@ -75,7 +75,7 @@ returns-in-Found-clause-left c =
 
 pub returns-in-Stored-clause-left : goal.returns-in-Stored-clause-left
 returns-in-Stored-clause-left c =
-    let at = c.args.self in
+    let at = c.args.self.now in
     let e = c.arrive_stored.ensures in
     let share = same_share at.node.work.own.part c.arrive_stored.new.self.work.own.part e.far.many e.far.path in
     let io = ap (λ (i : Option WriteIo). write_left at.stage i) e.io in

@@ -6,14 +6,14 @@ use Rattle.zio_nodes.proofs.PartHearing.{hears_early, member_stands}
 use Rattle.zio_nodes.proofs.part_at.PartAt.arrive_ready.Goals as goal
 
 pub arrive_ready-requires-clause-hears : goal.arrive_ready-requires-clause-hears
-arrive_ready-requires-clause-hears c = hears_early c.args.self c.args.child c.requires.awaited
+arrive_ready-requires-clause-hears c = hears_early c.args.self.now c.args.child c.requires.awaited
 
 pub returns-clause-heard : goal.returns-clause-heard
 returns-clause-heard c = λ t st d h. c.arrive_ready.ensures.told t st d h.is h.there
 
 pub returns-clause-over : goal.returns-clause-over
 returns-clause-over c = λ tops h.
-    let at = c.args.self in
+    let at = c.args.self.now in
     record {
       tops_are = h.tops_are;
       units = h.units;
@@ -23,8 +23,8 @@ returns-clause-over c = λ tops h.
 
 pub returns-clause-left : goal.returns-clause-left
 returns-clause-left c =
-    let w = c.args.self.node.work in
+    let w = c.args.self.now.node.work in
     let new = c.arrive_ready.new.self.work in
     let share = same_share w.own.part new.own.part c.arrive_ready.ensures.far.many c.arrive_ready.ensures.far.path in
-    let io = ap (λ (i : Option WriteIo). write_left c.args.self.stage i) c.arrive_ready.ensures.io in
+    let io = ap (λ (i : Option WriteIo). write_left c.args.self.now.stage i) c.arrive_ready.ensures.io in
     omega (arith, share, io)

@@ -17,7 +17,8 @@ into_stored-requires-clause-none c =
 
 pub returns-in-Ok-clause-moves : goal.returns-in-Ok-clause-moves
 returns-in-Ok-clause-moves c = λ tops t st now.
-    part_ends t c.args.self st c.in-Ok.stored now.is c.requires.stage (c.in-Ok.ensures.ended t st now.is) c.in-Ok.ensures.kept (c.in-Ok.ensures.places t st now.is)
+    part_ends t c.args.self st c.in-Ok.stored now.is c.requires.stage (c.in-Ok.ensures.ended t st now.is) c.in-Ok.ensures.kept
+    (c.in-Ok.ensures.places t st now.is)
 
 pub returns-in-Wait-clause-moves : goal.returns-in-Wait-clause-moves
 returns-in-Wait-clause-moves c = λ tops t st now. record {

@@ -1,6 +1,5 @@
-use Rattle.std.proofs.Common.{◌≡◌, ◌∙◌, List, Ok, Option, ap, arith, length, refl, subst, sym, true}
+use Rattle.std.proofs.Common.{◌≡◌, ◌∙◌, List, [], Ok, Option, ap, arith, length, refl, subst, sym, true, inl}
 use Rattle.std.specs.Prelude.{IfSome}
-use Rattle.zio_types.specs.declared.request.ChildKind.TheVariants.{Gang}
 use Rattle.zio_masks.specs.declared.stage.Stage.{Stage}
 use Rattle.zio_masks.specs.declared.stage.Stage.TheVariants.{DvaAllocate, Ready}
 use Rattle.zio_parts.specs.declared.members.Member.{Member as MemberNow}
@@ -10,75 +9,70 @@ use Rattle.zio_stages.specs.declared.part_node.Allocated.{Allocated}
 use Rattle.zio_stages.specs.declared.part_node.Allocated.TheVariants.{Member, Placed}
 use Rattle.zio_stages.specs.declared.part_node.PartNode.{PartNode}
 use Rattle.zio_stages.specs.declared.write_io.WriteIo.{WriteIo}
-use Rattle.zio_graph.specs.Stages.{GoesOn, IsMove}
-use Rattle.zio_graph.specs.declared.staged.Move.{Move}
-use Rattle.zio_graph.specs.declared.staged.Move.TheVariants.{Grow, Next}
 use Rattle.zio_nodes.specs.Bounds.{due_left, part_stages, write_left}
-use Rattle.zio_nodes.specs.Nodes.{gave_of, nodes}
 use Rattle.zio_nodes.specs.PartAts.{PartStands}
 use Rattle.zio_nodes.specs.Told.{is_told}
-use Rattle.zio_nodes.specs.declared.node.Node.{Node}
-use Rattle.zio_nodes.specs.declared.node.Node.TheVariants.{Part}
 use Rattle.zio_nodes.specs.declared.part_at.PartAt.{PartAt}
 use Rattle.zio_nodes.proofs.PartBounds.{same_share, share_grows}
 use Rattle.zio_nodes.proofs.PartLemmas.{part_goes, part_grows}
 use Rattle.zio_nodes.proofs.StageLemmas.{write_placed}
+use Rattle.zio_nodes.proofs.StageLeads.{next_of}
+use Rattle.zio_masks.specs.declared.pipeline.TheConstants.{WRITE}
+use Rattle.zio_masks.specs.Stages.{has}
+use Rattle.zio_stages.proofs.PartMoves.{does_nothing}
+use Rattle.zio_nodes.proofs.Refused.{on_err}
 use Rattle.zio_nodes.proofs.part_at.PartAt.dva_allocate.Goals as goal
 
 pub returns-in-Ok-Member-clause-moves : goal.returns-in-Ok-Member-clause-moves
 returns-in-Ok-Member-clause-moves g c =
     let d = c.in-Ok-Member.ensures.does in
+    let was = c.args.self.now in
     let child : PartNode = c.in-Ok-Member.child in
-    let at : PartAt = record { node = c.dva_allocate.new.self; stage = DvaAllocate; is_due = true } in
-    let grow : Move Node = Grow (Part at) (Part c.new-child.result) Gang in
-    λ move is. (
-      d.0,
-      d.1,
-      λ t st now.
+    let at : PartAt = record { node = c.dva_allocate.new.self; stage = was.stage; is_due = was.is_due } in
+    record {
+      calls = d.0;
+      were_made = d.1;
+      moves = λ t st now.
           let hands : DoesThen t st d.0 (AllocatesThen t (Member child) (IsPartNode t at.node)) =
           subst (λ (a : Allocated). DoesThen t st d.0 (AllocatesThen t a (IsPartNode t at.node))) c.in-Ok-Member.field-0-is (d.2 t st now.is) in
-          let same : grow ≡ move = cc in
-          subst (IsMove {N = Node} nodes gave_of t (Part c.args.self) st d.0) same
-          (part_grows t st c.args.self at c.new-child.result d.0 (IsFreshPart t child) hands (λ op k. c.new-child.ensures.fresh t _ k)
-          c.new-child.ensures.told (sym (ap is_told c.requires.stage))),
-    )
+          part_grows t st was at c.new-child.result d.0 (IsFreshPart t child) hands (λ op k. c.new-child.ensures.fresh t _ k)
+          c.new-child.ensures.told refl;
+    }
 
 pub returns-in-Ok-Placed-clause-moves : goal.returns-in-Ok-Placed-clause-moves
 returns-in-Ok-Placed-clause-moves g c =
     let d = c.in-Ok-Placed.ensures.does in
-    let at : PartAt = record { node = c.dva_allocate.new.self; stage = c.next.result; is_due = true } in
-    let on : Move Node = Next (Part at) in
-    λ move is. (
-      d.0,
-      d.1,
-      λ t st now.
+    let at : PartAt = record { node = c.dva_allocate.new.self; stage = c.next-self.result; is_due = true } in
+    record {
+      calls = d.0;
+      were_made = d.1;
+      moves = λ t st now.
           let does : DoesThen t st d.0 (AllocatesThen t Placed (IsPartNode t at.node)) =
           subst (λ (a : Allocated). DoesThen t st d.0 (AllocatesThen t a (IsPartNode t at.node))) c.in-Ok-Placed.field-0-is (d.2 t st now.is) in
-          let same : on ≡ move = cc in
-          subst (IsMove {N = Node} nodes gave_of t (Part c.args.self) st d.0) same
-          (part_goes t st c.args.self at d.0 does (ap is_told (write_placed c.next.result c.next.ensures) ∙ sym (ap is_told c.requires.stage))),
-    )
+          part_goes t st c.args.self.now at d.0 does (ap is_told (write_placed c.next-self.result c.next-self.ensures) ∙ sym (ap is_told c.requires.stage));
+    }
 
 pub returns-in-Err-clause-refused : goal.returns-in-Err-clause-refused
 returns-in-Err-clause-refused g c =
     let d = c.in-Err.ensures.does in
-    let at : PartAt = record { node = c.dva_allocate.new.self; stage = DvaAllocate; is_due = true } in
-    λ node is. (
-      d.0,
-      d.1,
-      λ t st now.
-          let same : Part at ≡ node = cc in
-          subst (GoesOn {N = Node} nodes gave_of t (Part c.args.self) st d.0) same
-          (part_goes t st c.args.self at d.0 (d.2 t st now.is) (sym (ap is_told c.requires.stage))),
-    )
+    let was = c.args.self.now in
+    let at : PartAt = record { node = c.dva_allocate.new.self; stage = was.stage; is_due = was.is_due } in
+    record { calls = d.0; were_made = d.1; goes = λ t st now. part_goes t st was at d.0 (d.2 t st now.is) refl }
 
 pub returns-in-Ok-Member-clause-over : goal.returns-in-Ok-Member-clause-over
 returns-in-Ok-Member-clause-over g c =
     let h = c.requires.over in
+    let was = c.args.self.now in
     let tops = g.S.Services.tops c.args.services.now in
     let child : IsAllocatedOver (Member c.in-Ok-Member.child) = subst IsAllocatedOver c.in-Ok-Member.field-0-is c.in-Ok-Member.ensures.child in
-    let stands = subst (λ (s : Stage). PartStands tops s c.args.self.is_due c.args.self.node.work) c.requires.stage h.stands in (
-      record { tops_are = h.tops_are; units = h.units; over = c.in-Ok-Member.ensures.over; stands = (refl, c.in-Ok-Member.ensures.io ∙ stands.1) },
+    let stands = subst (λ (s : Stage). PartStands tops s was.is_due was.node.work) c.requires.stage h.stands in (
+      record {
+        tops_are = h.tops_are;
+        units = h.units;
+        over = c.in-Ok-Member.ensures.over;
+        stands = subst (λ (s : Stage). PartStands tops s was.is_due c.dva_allocate.new.self.work) (sym c.requires.stage)
+            (stands.0, c.in-Ok-Member.ensures.io ∙ stands.1);
+      },
       c.new-child.ensures.over tops h.tops_are h.units (child tops),
     )
 
@@ -86,36 +80,34 @@ pub returns-in-Ok-Placed-clause-over : goal.returns-in-Ok-Placed-clause-over
 returns-in-Ok-Placed-clause-over g c =
     let h = c.requires.over in
     let tops = g.S.Services.tops c.args.services.now in
-    let stands = subst (λ (s : Stage). PartStands tops s c.args.self.is_due c.args.self.node.work) c.requires.stage h.stands in
+    let stands = subst (λ (s : Stage). PartStands tops s c.args.self.now.is_due c.args.self.now.node.work) c.requires.stage h.stands in
     record {
       tops_are = h.tops_are;
       units = h.units;
       over = c.in-Ok-Placed.ensures.over;
-      stands = subst (λ (s : Stage). PartStands tops s true c.dva_allocate.new.self.work) (sym (write_placed c.next.result c.next.ensures))
+      stands = subst (λ (s : Stage). PartStands tops s true c.dva_allocate.new.self.work) (sym (write_placed c.next-self.result c.next-self.ensures))
           (refl, c.in-Ok-Placed.ensures.io ∙ stands.1, c.in-Ok-Placed.ensures.placed (ap (λ (a : Allocated). Ok a) c.in-Ok-Placed.field-0-is));
     }
 
 pub returns-in-Ok-Member-clause-left : goal.returns-in-Ok-Member-clause-left
 returns-in-Ok-Member-clause-left g c =
-    let at = c.args.self in
+    let at = c.args.self.now in
     let x = at.node.work.own.part in
     let y = c.dva_allocate.new.self.work.own.part in
     let child : PartNode = c.in-Ok-Member.child in
     let members = subst (λ (a : Allocated). y.members ≡ with_member (member_in a) x.members) c.in-Ok-Member.field-0-is c.in-Ok-Member.ensures.members in
-    let under : IsMemberUnder y child = subst (λ (a : Allocated). IfSome (member_in a) (IsMemberUnder y)) c.in-Ok-Member.field-0-is c.in-Ok-Member.ensures.next in
+    let under : IsMemberUnder y child =
+    subst (λ (a : Allocated). IfSome (member_in a) (IsMemberUnder y)) c.in-Ok-Member.field-0-is c.in-Ok-Member.ensures.next in
     let share = share_grows x y child members c.in-Ok-Member.ensures.path under in
-    let io = ap (λ (i : Option WriteIo). write_left DvaAllocate i) c.in-Ok-Member.ensures.io in
-    let was = ap (λ (s : Stage). write_left s at.node.work.io) c.requires.stage in
-    let tops = g.S.Services.tops c.args.services.now in
-    let stands = subst (λ (s : Stage). PartStands tops s at.is_due at.node.work) c.requires.stage c.requires.over.stands in
-    omega (arith, share, io, was, ap part_stages c.requires.stage, ap due_left stands.0, c.new-child.ensures.left)
+    let io = ap (λ (i : Option WriteIo). write_left at.stage i) c.in-Ok-Member.ensures.io in
+    omega (arith, share, io, c.new-child.ensures.left)
 
 pub returns-in-Ok-Placed-clause-left : goal.returns-in-Ok-Placed-clause-left
 returns-in-Ok-Placed-clause-left g c =
-    let at = c.args.self in
+    let at = c.args.self.now in
     let x = at.node.work.own.part in
     let y = c.dva_allocate.new.self.work.own.part in
-    let on = write_placed c.next.result c.next.ensures in
+    let on = write_placed c.next-self.result c.next-self.ensures in
     let tops = g.S.Services.tops c.args.services.now in
     let stands = subst (λ (s : Stage). PartStands tops s at.is_due at.node.work) c.requires.stage c.requires.over.stands in
     let members = subst (λ (a : Allocated). y.members ≡ with_member (member_in a) x.members) c.in-Ok-Placed.field-0-is c.in-Ok-Placed.ensures.members in
@@ -124,3 +116,16 @@ returns-in-Ok-Placed-clause-left g c =
     let now = ap (λ (s : Stage). write_left s c.dva_allocate.new.self.work.io) on in
     let was = ap (λ (s : Stage). write_left s at.node.work.io) c.requires.stage in
     omega (arith, share, io, now, was, ap part_stages on, ap part_stages c.requires.stage, ap due_left stands.0)
+
+pub returns-in-Ok-Placed-clause-stages : goal.returns-in-Ok-Placed-clause-stages
+returns-in-Ok-Placed-clause-stages g c =
+    inl (next_of WRITE (has WRITE) c.args.self.now.stage DvaAllocate c.next-self.result c.requires.stage (λ s lt. refl) c.next-self.ensures)
+
+pub returns-in_err-room-clause-refused : goal.returns-in_err-room-clause-refused
+returns-in_err-room-clause-refused g c =
+    let at = c.args.self.now in
+    on_err c.from_residual.result (record {
+      calls = [];
+      were_made = g.met.S.Services.made_none c.args.services.now;
+      goes = λ t st now. part_goes t st at at [] (does_nothing t st _ now.is) refl;
+    })

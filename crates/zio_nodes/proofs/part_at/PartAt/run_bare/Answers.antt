@@ -1,8 +1,5 @@
 use Rattle.zio_nodes.proofs.part_at.PartAt.run_bare.Goals as goal
 
-pub returns-in-Done-clause-moves : goal.returns-in-Done-clause-moves
-returns-in-Done-clause-moves c = c.done.ensures.moves c.args.tops.now
-
 pub returns-in-Ready-clause-moves : goal.returns-in-Ready-clause-moves
 returns-in-Ready-clause-moves c = c.ready.ensures.moves c.args.tops.now
 

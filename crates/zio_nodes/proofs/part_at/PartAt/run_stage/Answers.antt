@@ -1,22 +1,15 @@
-use Rattle.std.proofs.Common.{[], refl}
 use Rattle.zio_nodes.specs.declared.node.Node.TheVariants.{Part}
-use Rattle.zio_nodes.proofs.NodeLemmas.{moved_bare, stayed_bare}
+use Rattle.zio_nodes.proofs.NodeLemmas.{turn_moves, turn_stays}
 use Rattle.zio_nodes.proofs.part_at.PartAt.run_stage.Goals as goal
 
 pub returns-in_default-clause-moves : goal.returns-in_default-clause-moves
 returns-in_default-clause-moves g c =
-    let tops = g.S.Services.tops c.args.services.now in
-    λ move is. (
-      [],
-      g.met.S.Services.made_none c.args.services.now,
-      moved_bare tops c.tops.result.now (Part c.args.self) (Part c.args.self) c.run_bare.result move refl c.tops.ensures is c.run_bare.ensures.moves,
-    )
+    let s = c.args.services.now in
+    turn_moves g.S.Services.made (g.S.Services.tops s) c.tops.result.now s (Part c.args.self.now) (Part c.run_bare.new.self) c.run_bare.result c.tops.ensures
+    (g.met.S.Services.made_none s) c.run_bare.ensures.moves
 
 pub returns-in_default-clause-refused : goal.returns-in_default-clause-refused
 returns-in_default-clause-refused g c =
-    let tops = g.S.Services.tops c.args.services.now in
-    λ node is. (
-      [],
-      g.met.S.Services.made_none c.args.services.now,
-      stayed_bare tops c.tops.result.now (Part c.args.self) (Part c.args.self) c.run_bare.result node refl c.tops.ensures is c.run_bare.ensures.refused,
-    )
+    let s = c.args.services.now in
+    turn_stays g.S.Services.made (g.S.Services.tops s) c.tops.result.now s (Part c.args.self.now) (Part c.run_bare.new.self) c.run_bare.result c.tops.ensures
+    (g.met.S.Services.made_none s) c.run_bare.ensures.refused

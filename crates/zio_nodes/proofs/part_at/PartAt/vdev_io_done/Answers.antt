@@ -1,4 +1,4 @@
-use Rattle.std.proofs.Common.{◌≡◌, ◌∙◌, Bool, ap, arith, false, refl, subst, sym, true}
+use Rattle.std.proofs.Common.{◌≡◌, ◌∙◌, Bool, ap, arith, false, refl, subst, sym, true, inl, inr}
 use Rattle.zio_masks.specs.declared.stage.Stage.{Stage}
 use Rattle.zio_stages.proofs.PartMoves.{does_nothing}
 use Rattle.zio_nodes.specs.Bounds.{due_left, part_stages, write_left}
@@ -7,6 +7,11 @@ use Rattle.zio_nodes.specs.Told.{is_told}
 use Rattle.zio_nodes.proofs.BoundLemmas.{vdev_counts}
 use Rattle.zio_nodes.proofs.PartLemmas.{part_goes}
 use Rattle.zio_nodes.proofs.StageLemmas.{write_done}
+use Rattle.zio_masks.specs.declared.stage.Stage.TheVariants.{VdevIoDone}
+use Rattle.zio_nodes.proofs.StageLeads.{next_of}
+use Rattle.zio_masks.specs.declared.pipeline.TheConstants.{WRITE}
+use Rattle.zio_masks.specs.Stages.{has}
+use Rattle.zio_nodes.specs.StageMoves.{MayGoBack}
 use Rattle.zio_nodes.proofs.part_at.PartAt.vdev_io_done.Goals as goal
 
 pub returns-in-Wait-clause-moves : goal.returns-in-Wait-clause-moves
@@ -16,29 +21,30 @@ returns-in-Wait-clause-moves c = λ t st now. record {
 }
 
 pub returns-in-More-clause-moves : goal.returns-in-More-clause-moves
-returns-in-More-clause-moves c = λ t st now. part_goes t st c.args.self _ _ (does_nothing t st _ now.is) (sym (ap is_told c.requires.stage))
+returns-in-More-clause-moves c = λ t st now. part_goes t st c.args.self.now _ _ (does_nothing t st _ now.is) (sym (ap is_told c.requires.stage))
 
 pub returns-in-On-clause-moves : goal.returns-in-On-clause-moves
 returns-in-On-clause-moves c = λ t st now.
-    part_goes t st c.args.self _ _ (does_nothing t st _ now.is) (ap is_told (write_done c.next.result c.next.ensures) ∙ sym (ap is_told c.requires.stage))
+    part_goes t st c.args.self.now _ _ (does_nothing t st _ now.is)
+    (ap is_told (write_done c.next-self.result c.next-self.ensures) ∙ sym (ap is_told c.requires.stage))
 
 pub returns-in-More-clause-over : goal.returns-in-More-clause-over
 returns-in-More-clause-over c =
-    let at = c.args.self in
+    let at = c.args.self.now in
     let h = c.requires.over in
     let stands = subst (λ (s : Stage). PartStands c.args.tops.now s at.is_due at.node.work) c.requires.stage h.stands in
     record { tops_are = h.tops_are; units = h.units; over = h.over; stands = (refl, stands.0) }
 
 pub returns-in-On-clause-over : goal.returns-in-On-clause-over
 returns-in-On-clause-over c =
-    let at = c.args.self in
+    let at = c.args.self.now in
     let h = c.requires.over in
     let stands = subst (λ (s : Stage). PartStands c.args.tops.now s at.is_due at.node.work) c.requires.stage h.stands in
     record {
       tops_are = h.tops_are;
       units = h.units;
       over = h.over;
-      stands = subst (λ (s : Stage). PartStands c.args.tops.now s false at.node.work) (sym (write_done c.next.result c.next.ensures))
+      stands = subst (λ (s : Stage). PartStands c.args.tops.now s false at.node.work) (sym (write_done c.next-self.result c.next-self.ensures))
           (stands.0, stands.1, c.vdev_io_done.ensures.due c.in-On.is);
     }
 
@@ -49,7 +55,7 @@ due_noted false never = absurd (never refl)
 
 pub returns-in-More-clause-left : goal.returns-in-More-clause-left
 returns-in-More-clause-left c =
-    let at = c.args.self in
+    let at = c.args.self.now in
     let stands = subst (λ (s : Stage). PartStands c.args.tops.now s at.is_due at.node.work) c.requires.stage c.requires.over.stands in
     let due : at.is_due ≡ true = due_noted at.is_due (λ no. stands.2 no (c.vdev_io_done.ensures.more c.in-More.is)) in
     let was = ap (λ (s : Stage). write_left s at.node.work.io) c.requires.stage in
@@ -57,8 +63,15 @@ returns-in-More-clause-left c =
 
 pub returns-in-On-clause-left : goal.returns-in-On-clause-left
 returns-in-On-clause-left c =
-    let at = c.args.self in
-    let on = write_done c.next.result c.next.ensures in
+    let at = c.args.self.now in
+    let on = write_done c.next-self.result c.next-self.ensures in
     let now = ap (λ (s : Stage). write_left s at.node.work.io) on in
     let was = ap (λ (s : Stage). write_left s at.node.work.io) c.requires.stage in
     omega (arith, now, was, ap part_stages on, ap part_stages c.requires.stage)
+
+pub returns-in-More-clause-stages : goal.returns-in-More-clause-stages
+returns-in-More-clause-stages c = inr (subst MayGoBack (sym c.requires.stage) tt, refl)
+
+pub returns-in-On-clause-stages : goal.returns-in-On-clause-stages
+returns-in-On-clause-stages c =
+    inl (next_of WRITE (has WRITE) c.args.self.now.stage VdevIoDone c.next-self.result c.requires.stage (λ s lt. refl) c.next-self.ensures)

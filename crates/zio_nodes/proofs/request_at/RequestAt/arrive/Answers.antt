@@ -10,13 +10,17 @@ use Rattle.zio_nodes.proofs.OwnHears.{other_kind}
 use Rattle.zio_nodes.proofs.WriteHears.{own_outcome}
 use Rattle.zio_nodes.proofs.request_at.RequestAt.arrive.Goals as goal
 
-pub arrive_finished-at-requires : goal.arrive_finished-at-requires
-arrive_finished-at-requires c =
-    (c.args.tops.now, subst (λ (o : Outcome). HearsSome {N = Node} nodes c.args.tops.now (Request c.args.self) c.args.child o) c.in-Finished.is c.requires.awaited)
+pub arrive_finished-requires : goal.arrive_finished-requires
+arrive_finished-requires c = (
+  c.args.tops.now,
+  subst (λ (o : Outcome). HearsSome {N = Node} nodes c.args.tops.now (Request c.args.self.now) c.args.child o) c.in-Finished.is c.requires.awaited,
+)
 
 pub arrive_again-requires : goal.arrive_again-requires
-arrive_again-requires c =
-    (c.args.tops.now, subst (λ (o : Outcome). HearsSome {N = Node} nodes c.args.tops.now (Request c.args.self) c.args.child o) c.in-Again.is c.requires.awaited)
+arrive_again-requires c = (
+  c.args.tops.now,
+  subst (λ (o : Outcome). HearsSome {N = Node} nodes c.args.tops.now (Request c.args.self.now) c.args.child o) c.in-Again.is c.requires.awaited,
+)
 
 pub arrive_written-requires : goal.arrive_written-requires
 arrive_written-requires c = record {
@@ -36,8 +40,8 @@ arrive_own-requires c = record {
 
 pub returns-in-Finished-clause-heard : goal.returns-in-Finished-clause-heard
 returns-in-Finished-clause-heard c = λ t st d op v h.
-    c.arrive_finished-at.ensures.heard c.args.tops.now t st d op v
-    (subst (λ (o : Outcome). Hears {N = Node} nodes c.args.tops.now t (Request c.args.self) st c.args.child d op o v) c.in-Finished.is h)
+    c.arrive_finished.ensures.heard c.args.tops.now t st d op v
+    (subst (λ (o : Outcome). Hears {N = Node} nodes c.args.tops.now t (Request c.args.self.now) st c.args.child d op o v) c.in-Finished.is h)
 
 pub returns-in-Finished-clause-kept : goal.returns-in-Finished-clause-kept
 returns-in-Finished-clause-kept c = λ f e.
@@ -46,15 +50,15 @@ returns-in-Finished-clause-kept c = λ f e.
     ap (λ x. Some x) same
 
 pub returns-in-Finished-clause-over_still : goal.returns-in-Finished-clause-over_still
-returns-in-Finished-clause-over_still c = c.arrive_finished-at.ensures.over c.args.tops.now c.requires.over
+returns-in-Finished-clause-over_still c = c.arrive_finished.ensures.over c.args.tops.now c.requires.over
 
 pub returns-in-Finished-clause-left : goal.returns-in-Finished-clause-left
-returns-in-Finished-clause-left c = omega (arith, c.arrive_finished-at.ensures.left)
+returns-in-Finished-clause-left c = omega (arith, c.arrive_finished.ensures.left)
 
 pub returns-in-Again-clause-heard : goal.returns-in-Again-clause-heard
 returns-in-Again-clause-heard c = λ t st d op v h.
     c.arrive_again.ensures.heard c.args.tops.now t st d op v
-    (subst (λ (o : Outcome). Hears {N = Node} nodes c.args.tops.now t (Request c.args.self) st c.args.child d op o v) c.in-Again.is h)
+    (subst (λ (o : Outcome). Hears {N = Node} nodes c.args.tops.now t (Request c.args.self.now) st c.args.child d op o v) c.in-Again.is h)
 
 pub returns-in-Again-clause-kept : goal.returns-in-Again-clause-kept
 returns-in-Again-clause-kept c = λ f e.

@@ -16,40 +16,41 @@ use Rattle.zio_nodes.proofs.request_at.RequestAt.arrive_again.Goals as goal
 pub arrive_again-requires-clause-out : goal.arrive_again-requires-clause-out
 arrive_again-requires-clause-out c =
     let k = c.requires.1 in
-    let x = hears_again k.terms c.requires.0 c.args.self k.stack c.args.child k.child k.op c.args.whole c.args.bits c.args.pointer k.value
-    (c.logical_children_are_attempts.ensures.told c.args.self.node c.args.child) k.hears in
-    kid_out c.args.self.node c.args.child k.op c.args.pointer x.one.return.child.pointer x.same x.told
+    let x = hears_again k.terms c.requires.0 c.args.self.now k.stack c.args.child k.child k.op c.args.whole c.args.bits c.args.pointer k.value
+    (c.logical_children_are_attempts.ensures.told c.args.self.now.node c.args.child) k.hears in
+    kid_out c.args.self.now.node c.args.child k.op c.args.pointer x.one.return.child.pointer x.same x.told
 
 pub arrive_again-requires-clause-bits : goal.arrive_again-requires-clause-bits
 arrive_again-requires-clause-bits c =
     let k = c.requires.1 in
-    let x = hears_again k.terms c.requires.0 c.args.self k.stack c.args.child k.child k.op c.args.whole c.args.bits c.args.pointer k.value
-    (c.logical_children_are_attempts.ensures.told c.args.self.node c.args.child) k.hears in
+    let x = hears_again k.terms c.requires.0 c.args.self.now k.stack c.args.child k.child k.op c.args.whole c.args.bits c.args.pointer k.value
+    (c.logical_children_are_attempts.ensures.told c.args.self.now.node c.args.child) k.hears in
     x.left.some
 
 pub arrive_again-requires-clause-root : goal.arrive_again-requires-clause-root
 arrive_again-requires-clause-root c = λ place seat.
     let k = c.requires.1 in
-    let x = hears_again k.terms c.requires.0 c.args.self k.stack c.args.child k.child k.op c.args.whole c.args.bits c.args.pointer k.value
-    (c.logical_children_are_attempts.ensures.told c.args.self.node c.args.child) k.hears in
-    left_root c.args.self.node c.args.child k.op x.one c.args.whole c.args.bits c.args.pointer x.one.return.child.pointer x.told x.number x.left place seat
+    let x = hears_again k.terms c.requires.0 c.args.self.now k.stack c.args.child k.child k.op c.args.whole c.args.bits c.args.pointer k.value
+    (c.logical_children_are_attempts.ensures.told c.args.self.now.node c.args.child) k.hears in
+    left_root c.args.self.now.node c.args.child k.op x.one c.args.whole c.args.bits c.args.pointer x.one.return.child.pointer x.told x.number x.left place seat
 
 pub returns-clause-heard : goal.returns-clause-heard
 returns-clause-heard c = λ tops t st d op v h.
-    let r = c.args.self.node in
-    let x = hears_again t tops c.args.self st c.args.child d op c.args.whole c.args.bits c.args.pointer v (c.logical_children_are_attempts.ensures.told r c.args.child) h in
+    let r = c.args.self.now.node in
+    let x = hears_again t tops c.args.self.now st c.args.child d op c.args.whole c.args.bits c.args.pointer v
+    (c.logical_children_are_attempts.ensures.told r c.args.child) h in
     subst (λ (u : Value). IsRequestNode t c.arrive_again.new.self (heard_of st c.args.child d u)) (sym x.value)
     (c.arrive_again.ensures.heard t st d x.told.root x.told.below x.one h.now.is h.there (h.asked ∙ ap (λ (q : Task). Some q) x.told.is) x.by x.left.left)
 
 pub returns-clause-gave : goal.returns-clause-gave
-returns-clause-gave c = gave_still c.args.self.node c.arrive_again.new.self c.arrive_again.ensures.rest
+returns-clause-gave c = gave_still c.args.self.now.node c.arrive_again.new.self c.arrive_again.ensures.rest
 
 pub returns-clause-over : goal.returns-clause-over
 returns-clause-over c = λ tops inside h.
-    let r = c.args.self.node in
+    let r = c.args.self.now.node in
     let now = c.arrive_again.new.self in
     let k = c.requires.1 in
-    let x = hears_again k.terms c.requires.0 c.args.self k.stack c.args.child k.child k.op c.args.whole c.args.bits c.args.pointer k.value
+    let x = hears_again k.terms c.requires.0 c.args.self.now k.stack c.args.child k.child k.op c.args.whole c.args.bits c.args.pointer k.value
     (c.logical_children_are_attempts.ensures.told r c.args.child) k.hears in
     let place = x.told.place in
     let kids = c.arrive_again.ensures.kids place x.told.seat in
@@ -59,15 +60,16 @@ returns-clause-over c = λ tops inside h.
       over = over_heard tops r now place (Told x.one.return.child.pointer) (Ended c.args.bits None c.args.pointer) c.arrive_again.ensures.rest h.over
           (c.arrive_again.ensures.over tops h.over.own) kids x.told.state (λ e. absurd (cc)) (λ e. absurd (cc))
           (subst (AllByRecursion (IsTreeOver tops)) (sym c.arrive_again.ensures.due) h.over.due)
-          (subst (λ again. AllByRecursion (IsTreeOver tops) (trees_left again)) (sym left) (all_left_set (IsTreeOver tops) r.kids.again place c.args.whole inside h.over.again))
+          (subst (λ again. AllByRecursion (IsTreeOver tops) (trees_left again)) (sym left)
+          (all_left_set (IsTreeOver tops) r.kids.again place c.args.whole inside h.over.again))
           (subst (λ again. AreMarked (state_set r.kids.kids.kids place (Ended c.args.bits None c.args.pointer)) again) (sym left)
           (marked_left r.kids.kids.kids r.kids.again place (Ended c.args.bits None c.args.pointer) c.args.whole x.left.some h.over.marked))
           (c.arrive_again.ensures.valid (inr out) h.over.pointers);
-      stands = stands_still tops c.args.self.stage c.args.self.is_due r now c.arrive_again.ensures.rest (ap (λ (y : KidsUnderWay). y.handed) kids)
+      stands = stands_still tops c.args.self.now.stage c.args.self.now.is_due r now c.arrive_again.ensures.rest (ap (λ (y : KidsUnderWay). y.handed) kids)
           (ap (λ (y : KidsUnderWay). length y.kids) kids ∙ count_set r.kids.kids.kids place (Ended c.args.bits None c.args.pointer))
           (still_going r.kids.kids.kids place (Told x.one.return.child.pointer) x.told.state refl) h.stands;
     }
 
 pub returns-clause-left : goal.returns-clause-left
 returns-clause-left c =
-    left_still c.args.self.stage c.args.self.is_due c.args.self.node c.arrive_again.new.self c.arrive_again.ensures.rest c.arrive_again.ensures.due
+    left_still c.args.self.now.stage c.args.self.now.is_due c.args.self.now.node c.arrive_again.new.self c.arrive_again.ensures.rest c.arrive_again.ensures.due

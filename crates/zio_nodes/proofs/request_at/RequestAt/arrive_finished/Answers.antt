@@ -1,4 +1,4 @@
-use Rattle.std.proofs.Common.{◌≡◌, Some, ap, inr, length, refl, subst, sym, ◌∙◌}
+use Rattle.std.proofs.Common.{Some, ap, inr, length, refl, subst, sym, ◌∙◌}
 use Rattle.std.specs.List.{AllByRecursion}
 use Rattle.zio_gang.specs.Attempts.{no_bits}
 use Rattle.zio_trace.specs.Tasks.{Task, Value}
@@ -17,28 +17,28 @@ use Rattle.zio_nodes.proofs.request_at.RequestAt.arrive_finished.Goals as goal
 pub arrive_finished-requires : goal.arrive_finished-requires
 arrive_finished-requires c =
     let k = c.requires.1 in
-    let x = hears_finished k.terms c.requires.0 c.args.self k.stack c.args.child k.child k.op c.args.finished.now k.value
-    (c.logical_children_are_attempts.ensures.told c.args.self.node c.args.child) k.hears in
-    kid_out c.args.self.node c.args.child k.op c.pointer.result x.one.return.child.pointer (x.pointer ∙ sym c.pointer.ensures) x.told
+    let x = hears_finished k.terms c.requires.0 c.args.self.now k.stack c.args.child k.child k.op c.args.finished.now k.value
+    (c.logical_children_are_attempts.ensures.told c.args.self.now.node c.args.child) k.hears in
+    kid_out c.args.self.now.node c.args.child k.op c.pointer.result x.one.return.child.pointer (x.pointer ∙ sym c.pointer.ensures) x.told
 
 pub returns-clause-heard : goal.returns-clause-heard
 returns-clause-heard c = λ tops t st d op v h.
-    let r = c.args.self.node in
-    let x = hears_finished t tops c.args.self st c.args.child d op c.args.finished.now v (c.logical_children_are_attempts.ensures.told r c.args.child) h in
+    let r = c.args.self.now.node in
+    let x = hears_finished t tops c.args.self.now st c.args.child d op c.args.finished.now v (c.logical_children_are_attempts.ensures.told r c.args.child) h in
     subst (λ (u : Value). IsRequestNode t c.arrive_finished.new.self (heard_of st c.args.child d u)) (sym x.value)
     (c.arrive_finished.ensures.heard t st d x.told.root x.told.below x.one h.now.is h.there (h.asked ∙ ap (λ (q : Task). Some q) x.told.is)
     (subst (λ e. IsLeftBy x.one x.told.root.request.number no_bits e c.pointer.result) (sym c.error.ensures)
     (subst (IsLeftBy x.one x.told.root.request.number no_bits c.args.finished.now.error) (sym c.pointer.ensures) x.by)) x.left.again x.left.left)
 
 pub returns-clause-gave : goal.returns-clause-gave
-returns-clause-gave c = gave_still c.args.self.node c.arrive_finished.new.self c.arrive_finished.ensures.rest
+returns-clause-gave c = gave_still c.args.self.now.node c.arrive_finished.new.self c.arrive_finished.ensures.rest
 
 pub returns-clause-over : goal.returns-clause-over
 returns-clause-over c = λ tops h.
-    let r = c.args.self.node in
+    let r = c.args.self.now.node in
     let now = c.arrive_finished.new.self in
     let k = c.requires.1 in
-    let x = hears_finished k.terms c.requires.0 c.args.self k.stack c.args.child k.child k.op c.args.finished.now k.value
+    let x = hears_finished k.terms c.requires.0 c.args.self.now k.stack c.args.child k.child k.op c.args.finished.now k.value
     (c.logical_children_are_attempts.ensures.told r c.args.child) k.hears in
     let place = x.told.place in
     let kids = c.arrive_finished.ensures.kids place x.told.seat in
@@ -50,13 +50,15 @@ returns-clause-over c = λ tops h.
           (subst (AllByRecursion (IsTreeOver tops)) (sym holds.due) h.over.due)
           (subst (λ again. AllByRecursion (IsTreeOver tops) (trees_left again)) (sym holds.again) h.over.again)
           (subst (λ again. AreMarked (state_set r.kids.kids.kids place (Ended no_bits c.error.result c.pointer.result)) again) (sym holds.again)
-          (marked_same r.kids.kids.kids r.kids.again place (Told x.one.return.child.pointer) (Ended no_bits c.error.result c.pointer.result) x.told.state refl h.over.marked))
+          (marked_same r.kids.kids.kids r.kids.again place (Told x.one.return.child.pointer) (Ended no_bits c.error.result c.pointer.result) x.told.state refl
+          h.over.marked))
           (c.arrive_finished.ensures.valid (inr out) h.over.pointers);
-      stands = stands_still tops c.args.self.stage c.args.self.is_due r now c.arrive_finished.ensures.rest (ap (λ (y : KidsUnderWay). y.handed) kids)
+      stands = stands_still tops c.args.self.now.stage c.args.self.now.is_due r now c.arrive_finished.ensures.rest (ap (λ (y : KidsUnderWay). y.handed) kids)
           (ap (λ (y : KidsUnderWay). length y.kids) kids ∙ count_set r.kids.kids.kids place (Ended no_bits c.error.result c.pointer.result))
           (still_going r.kids.kids.kids place (Told x.one.return.child.pointer) x.told.state refl) h.stands;
     }
 
 pub returns-clause-left : goal.returns-clause-left
 returns-clause-left c =
-    left_still c.args.self.stage c.args.self.is_due c.args.self.node c.arrive_finished.new.self c.arrive_finished.ensures.rest c.arrive_finished.ensures.holds.due
+    left_still c.args.self.now.stage c.args.self.now.is_due c.args.self.now.node c.arrive_finished.new.self c.arrive_finished.ensures.rest
+    c.arrive_finished.ensures.holds.due

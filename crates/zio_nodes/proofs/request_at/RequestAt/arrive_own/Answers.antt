@@ -18,8 +18,8 @@ arrive_claim-requires-clause-kind c = sym c.kind.ensures ∙ c.in-Claim.is
 
 pub unreachable-requires : goal.unreachable-requires
 unreachable-requires c =
-    let r = c.args.self.node in
-    let k = hears_own c.args.tops.now c.args.self c.args.child c.args.outcome c.requires.own c.requires.awaited in
+    let r = c.args.self.now.node in
+    let k = hears_own c.args.tops.now c.args.self.now c.args.child c.args.outcome c.requires.own c.requires.awaited in
     elim c.in-Null.is [
       | inl null ↦ null_idle k.terms r k.stack k.is (sym c.kind.ensures ∙ null) (c.other_children_show_own_work.ensures.value r c.args.child k)
       | inr write ↦ c.requires.kind (sym c.kind.ensures ∙ write)

@@ -20,17 +20,18 @@ use Rattle.zio_nodes.proofs.request_at.RequestAt.arrive_read.Goals as goal
 
 pub kind_of_child-requires : goal.kind_of_child-requires
 kind_of_child-requires c =
-    let r = c.args.self.node in
+    let r = c.args.self.now.node in
     let k = c.requires.awaited in
     get_within r.family c.args.child k.child (ap (λ (cs : List Child). slice_get cs c.args.child) k.hears.now.is.family ∙ k.hears.there)
 
 pub arrive_walked_read-requires : goal.arrive_walked_read-requires
 arrive_walked_read-requires c =
-    let at = c.args.self in
+    let at = c.args.self.now in
     let r = at.node in
     let tops = c.args.tops.now in
     let under = c.other_children_show_own_work.ensures.value r c.args.child (hears_own tops at c.args.child c.args.outcome c.requires.own c.requires.awaited) in
-    let x = hears_walk tops at c.args.child c.args.outcome c.in-Walked.walked c.bodies_of_a_walk_lie_on_the_tops.ensures c.in-Walked.is c.requires.kind under c.requires.over c.requires.awaited in
+    let x = hears_walk tops at c.args.child c.args.outcome c.in-Walked.walked c.bodies_of_a_walk_lie_on_the_tops.ensures c.in-Walked.is c.requires.kind under
+    c.requires.over c.requires.awaited in
     record {
       seat = x.seat;
       out = subst (IsReadingWith IsWalkAlone) (sym x.is) (x.alone, walk_is_out x.own.tree x.out);
@@ -40,7 +41,7 @@ arrive_walked_read-requires c =
 
 pub arrive_leaf_read-requires : goal.arrive_leaf_read-requires
 arrive_leaf_read-requires c =
-    let at = c.args.self in
+    let at = c.args.self.now in
     let r = at.node in
     let tops = c.args.tops.now in
     let under = c.other_children_show_own_work.ensures.value r c.args.child (hears_own tops at c.args.child c.args.outcome c.requires.own c.requires.awaited) in
@@ -50,7 +51,7 @@ arrive_leaf_read-requires c =
 
 pub own_number-n-requires : goal.own_number-n-requires
 own_number-n-requires c =
-    let at = c.args.self in
+    let at = c.args.self.now in
     let r = at.node in
     let tops = c.args.tops.now in
     let under = c.other_children_show_own_work.ensures.value r c.args.child (hears_own tops at c.args.child c.args.outcome c.requires.own c.requires.awaited) in
@@ -60,7 +61,7 @@ own_number-n-requires c =
 
 pub arrive_body-requires : goal.arrive_body-requires
 arrive_body-requires c =
-    let at = c.args.self in
+    let at = c.args.self.now in
     let r = at.node in
     let tops = c.args.tops.now in
     let under = c.other_children_show_own_work.ensures.value r c.args.child (hears_own tops at c.args.child c.args.outcome c.requires.own c.requires.awaited) in
@@ -77,11 +78,11 @@ arrive_body-requires c =
 pub unreachable-requires : goal.unreachable-requires
 unreachable-requires c =
     let of = sym (ap (λ (kind : ChildKind). Some kind) c.in-Logical.is) ∙ c.kind_of_child.ensures in
-    hears_logical c.args.tops.now c.args.self c.args.child c.args.outcome c.in-Found.found c.in-Found.is of c.requires.awaited
+    hears_logical c.args.tops.now c.args.self.now c.args.child c.args.outcome c.in-Found.found c.in-Found.is of c.requires.awaited
 
 pub unreachable-requires-in-Finished : goal.unreachable-requires-in-Finished
 unreachable-requires-in-Finished c =
-    let at = c.args.self in
+    let at = c.args.self.now in
     let r = at.node in
     let tops = c.args.tops.now in
     let under = c.other_children_show_own_work.ensures.value r c.args.child (hears_own tops at c.args.child c.args.outcome c.requires.own c.requires.awaited) in
@@ -96,50 +97,56 @@ unreachable-requires-in-Finished c =
 pub returns-in-Walked-clause-heard : goal.returns-in-Walked-clause-heard
 returns-in-Walked-clause-heard c = λ t st d op v h.
     let shows = subst (λ (o : Outcome). IsOutcome t op o v) c.in-Walked.is h.shows in
-    subst (λ (u : Value). IsRequestNode t c.arrive_walked_read.new.self (heard_of st c.args.child d u)) (sym shows.1) (c.arrive_walked_read.ensures.heard t st d h.there h.now.is)
+    subst (λ (u : Value). IsRequestNode t c.arrive_walked_read.new.self (heard_of st c.args.child d u)) (sym shows.1)
+    (c.arrive_walked_read.ensures.heard t st d h.there h.now.is)
 
 pub returns-in-Walked-clause-gave : goal.returns-in-Walked-clause-gave
 returns-in-Walked-clause-gave c =
-    let r = c.args.self.node in
+    let r = c.args.self.now.node in
     read_gave_same r c.arrive_walked_read.new.self (is_read r.waiting.request.work c.requires.kind) c.arrive_walked_read.ensures.rest
 
 pub returns-in-Walked-clause-over_still : goal.returns-in-Walked-clause-over_still
 returns-in-Walked-clause-over_still c =
-    let at = c.args.self in
+    let at = c.args.self.now in
     let r = at.node in
     let tops = c.args.tops.now in
     let under = c.other_children_show_own_work.ensures.value r c.args.child (hears_own tops at c.args.child c.args.outcome c.requires.own c.requires.awaited) in
-    let x = hears_walk tops at c.args.child c.args.outcome c.in-Walked.walked c.bodies_of_a_walk_lie_on_the_tops.ensures c.in-Walked.is c.requires.kind under c.requires.over c.requires.awaited in
+    let x = hears_walk tops at c.args.child c.args.outcome c.in-Walked.walked c.bodies_of_a_walk_lie_on_the_tops.ensures c.in-Walked.is c.requires.kind under
+    c.requires.over c.requires.awaited in
     let work = is_read r.waiting.request.work c.requires.kind in
     let behind = behind_start tops at c.requires.over under in
     let now = c.arrive_walked_read.new.self in
-    walk_over tops at c.args.child now c.in-Walked.walked x work c.requires.over behind c.arrive_walked_read.ensures.rest c.arrive_walked_read.ensures.waiting c.arrive_walked_read.ensures.over c.arrive_walked_read.ensures.goes c.arrive_walked_read.ensures.reads
+    walk_over tops at c.args.child now c.in-Walked.walked x work c.requires.over behind c.arrive_walked_read.ensures.rest c.arrive_walked_read.ensures.waiting
+    c.arrive_walked_read.ensures.over c.arrive_walked_read.ensures.goes c.arrive_walked_read.ensures.reads
 
 pub returns-in-Walked-clause-left : goal.returns-in-Walked-clause-left
 returns-in-Walked-clause-left c =
-    let at = c.args.self in
+    let at = c.args.self.now in
     let r = at.node in
     let tops = c.args.tops.now in
     let under = c.other_children_show_own_work.ensures.value r c.args.child (hears_own tops at c.args.child c.args.outcome c.requires.own c.requires.awaited) in
-    let x = hears_walk tops at c.args.child c.args.outcome c.in-Walked.walked c.bodies_of_a_walk_lie_on_the_tops.ensures c.in-Walked.is c.requires.kind under c.requires.over c.requires.awaited in
+    let x = hears_walk tops at c.args.child c.args.outcome c.in-Walked.walked c.bodies_of_a_walk_lie_on_the_tops.ensures c.in-Walked.is c.requires.kind under
+    c.requires.over c.requires.awaited in
     let work = is_read r.waiting.request.work c.requires.kind in
     let behind = behind_start tops at c.requires.over under in
     let now = c.arrive_walked_read.new.self in
-    walk_left_then tops at c.args.child now c.in-Walked.walked x work behind c.arrive_walked_read.ensures.rest c.arrive_walked_read.ensures.goes c.arrive_walked_read.ensures.reads
+    walk_left_then tops at c.args.child now c.in-Walked.walked x work behind c.arrive_walked_read.ensures.rest c.arrive_walked_read.ensures.goes
+    c.arrive_walked_read.ensures.reads
 
 pub returns-in-Vdev-clause-heard : goal.returns-in-Vdev-clause-heard
 returns-in-Vdev-clause-heard c = λ t st d op v h.
     let shows = subst (λ (o : Outcome). IsOutcome t op o v) c.in-Found.is h.shows in
-    subst (λ (u : Value). IsRequestNode t c.arrive_leaf_read.new.self (heard_of st c.args.child d u)) (sym shows.1) (c.arrive_leaf_read.ensures.heard t st d c.in-Found.found h.now.tops_are refl h.there h.now.is)
+    subst (λ (u : Value). IsRequestNode t c.arrive_leaf_read.new.self (heard_of st c.args.child d u)) (sym shows.1)
+    (c.arrive_leaf_read.ensures.heard t st d c.in-Found.found h.now.tops_are refl h.there h.now.is)
 
 pub returns-in-Vdev-clause-gave : goal.returns-in-Vdev-clause-gave
 returns-in-Vdev-clause-gave c =
-    let r = c.args.self.node in
+    let r = c.args.self.now.node in
     read_gave_same r c.arrive_leaf_read.new.self (is_read r.waiting.request.work c.requires.kind) c.arrive_leaf_read.ensures.rest
 
 pub returns-in-Vdev-clause-over_still : goal.returns-in-Vdev-clause-over_still
 returns-in-Vdev-clause-over_still c =
-    let at = c.args.self in
+    let at = c.args.self.now in
     let r = at.node in
     let tops = c.args.tops.now in
     let under = c.other_children_show_own_work.ensures.value r c.args.child (hears_own tops at c.args.child c.args.outcome c.requires.own c.requires.awaited) in
@@ -148,11 +155,12 @@ returns-in-Vdev-clause-over_still c =
     let work = is_read r.waiting.request.work c.requires.kind in
     let behind = behind_start tops at c.requires.over under in
     let now = c.arrive_leaf_read.new.self in
-    leaf_over tops at c.args.child now x work c.requires.over behind c.arrive_leaf_read.ensures.rest c.arrive_leaf_read.ensures.waiting c.arrive_leaf_read.ensures.over c.arrive_leaf_read.ensures.goes
+    leaf_over tops at c.args.child now x work c.requires.over behind c.arrive_leaf_read.ensures.rest c.arrive_leaf_read.ensures.waiting
+    c.arrive_leaf_read.ensures.over c.arrive_leaf_read.ensures.goes
 
 pub returns-in-Vdev-clause-left : goal.returns-in-Vdev-clause-left
 returns-in-Vdev-clause-left c =
-    let at = c.args.self in
+    let at = c.args.self.now in
     let r = at.node in
     let tops = c.args.tops.now in
     let under = c.other_children_show_own_work.ensures.value r c.args.child (hears_own tops at c.args.child c.args.outcome c.requires.own c.requires.awaited) in
@@ -166,16 +174,17 @@ returns-in-Vdev-clause-left c =
 pub returns-in-Gang-clause-heard : goal.returns-in-Gang-clause-heard
 returns-in-Gang-clause-heard c = λ t st d op v h.
     let shows = subst (λ (o : Outcome). IsOutcome t op o v) c.in-Found.is h.shows in
-    subst (λ (u : Value). IsRequestNode t c.arrive_body.new.self (heard_of st c.args.child d u)) (sym shows.1) (c.arrive_body.ensures.heard t st d c.in-Found.found refl h.there h.now.is)
+    subst (λ (u : Value). IsRequestNode t c.arrive_body.new.self (heard_of st c.args.child d u)) (sym shows.1)
+    (c.arrive_body.ensures.heard t st d c.in-Found.found refl h.there h.now.is)
 
 pub returns-in-Gang-clause-gave : goal.returns-in-Gang-clause-gave
 returns-in-Gang-clause-gave c =
-    let r = c.args.self.node in
+    let r = c.args.self.now.node in
     read_gave_same r c.arrive_body.new.self (is_read r.waiting.request.work c.requires.kind) c.arrive_body.ensures.rest
 
 pub returns-in-Gang-clause-over_still : goal.returns-in-Gang-clause-over_still
 returns-in-Gang-clause-over_still c =
-    let at = c.args.self in
+    let at = c.args.self.now in
     let r = at.node in
     let tops = c.args.tops.now in
     let under = c.other_children_show_own_work.ensures.value r c.args.child (hears_own tops at c.args.child c.args.outcome c.requires.own c.requires.awaited) in
@@ -184,11 +193,12 @@ returns-in-Gang-clause-over_still c =
     let work = is_read r.waiting.request.work c.requires.kind in
     let behind = behind_start tops at c.requires.over under in
     let now = c.arrive_body.new.self in
-    gang_over tops at c.args.child now x work c.requires.over behind c.arrive_body.ensures.rest c.arrive_body.ensures.waiting c.arrive_body.ensures.over c.arrive_body.ensures.goes
+    gang_over tops at c.args.child now x work c.requires.over behind c.arrive_body.ensures.rest c.arrive_body.ensures.waiting c.arrive_body.ensures.over
+    c.arrive_body.ensures.goes
 
 pub returns-in-Gang-clause-left : goal.returns-in-Gang-clause-left
 returns-in-Gang-clause-left c =
-    let at = c.args.self in
+    let at = c.args.self.now in
     let r = at.node in
     let tops = c.args.tops.now in
     let under = c.other_children_show_own_work.ensures.value r c.args.child (hears_own tops at c.args.child c.args.outcome c.requires.own c.requires.awaited) in

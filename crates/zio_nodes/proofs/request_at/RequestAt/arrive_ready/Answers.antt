@@ -10,7 +10,7 @@ use Rattle.zio_nodes.proofs.request_at.RequestAt.arrive_ready.Goals as goal
 
 pub kind_of_child-requires : goal.kind_of_child-requires
 kind_of_child-requires c =
-    let r = c.args.self.node in
+    let r = c.args.self.now.node in
     let k = c.requires.awaited in
     get_within r.family c.args.child k.child (ap (λ (cs : List Child). slice_get cs c.args.child) k.hears.is.family ∙ k.hears.there)
 
@@ -18,17 +18,17 @@ pub arrive_attempt_ready-requires : goal.arrive_attempt_ready-requires
 arrive_attempt_ready-requires c =
     let k = c.requires.awaited in
     let of = sym (ap (λ (kind : ChildKind). Some kind) c.in-Logical.is) ∙ c.kind_of_child.ensures in
-    let kind : k.child.kind ≡ Logical = child_kind c.args.self c.args.child Logical k of in
-    record { logical = early_of Logical k.terms c.args.self k.stack c.args.child k.child k.hears kind; valid = c.requires.valid }
+    let kind : k.child.kind ≡ Logical = child_kind c.args.self.now c.args.child Logical k of in
+    record { logical = early_of Logical k.terms c.args.self.now k.stack c.args.child k.child k.hears kind; valid = c.requires.valid }
 
 pub arrive_member_ready-requires : goal.arrive_member_ready-requires
 arrive_member_ready-requires c =
     let k = c.requires.awaited in
     let of = sym (ap (λ (kind : ChildKind). Some kind) c.in-Gang.is) ∙ c.kind_of_child.ensures in
-    let kind : k.child.kind ≡ Gang = child_kind c.args.self c.args.child Gang k of in
+    let kind : k.child.kind ≡ Gang = child_kind c.args.self.now c.args.child Gang k of in
     record {
       awaited = k;
-      gang = early_of Gang k.terms c.args.self k.stack c.args.child k.child k.hears kind;
+      gang = early_of Gang k.terms c.args.self.now k.stack c.args.child k.child k.hears kind;
       kind = sym c.kind.ensures ∙ c.in-Write.is;
       valid = c.requires.valid;
     }
@@ -37,9 +37,9 @@ pub arrive_own_ready-requires : goal.arrive_own_ready-requires
 arrive_own_ready-requires c =
     let k = c.requires.awaited in
     let of = sym (ap (λ (kind : ChildKind). Some kind) c.in-Gang.is) ∙ c.kind_of_child.ensures in
-    let kind : k.child.kind ≡ Gang = child_kind c.args.self c.args.child Gang k of in
+    let kind : k.child.kind ≡ Gang = child_kind c.args.self.now c.args.child Gang k of in
     record {
-      gang = early_of Gang k.terms c.args.self k.stack c.args.child k.child k.hears kind;
+      gang = early_of Gang k.terms c.args.self.now k.stack c.args.child k.child k.hears kind;
       kind = other_kind c.kind.result _ c.in-Null.is c.kind.ensures;
     }
 
@@ -47,8 +47,8 @@ pub unreachable-requires : goal.unreachable-requires
 unreachable-requires c =
     let k = c.requires.awaited in
     let of = sym (ap (λ (kind : ChildKind). Some kind) c.in-Vdev.is) ∙ c.kind_of_child.ensures in
-    let kind : k.child.kind ≡ Vdev = child_kind c.args.self c.args.child Vdev k of in
-    leaf_told c.args.self c.args.child k kind
+    let kind : k.child.kind ≡ Vdev = child_kind c.args.self.now c.args.child Vdev k of in
+    leaf_told c.args.self.now c.args.child k kind
 
 pub returns-in-Logical-clause-left : goal.returns-in-Logical-clause-left
 returns-in-Logical-clause-left c = omega (arith, c.arrive_attempt_ready.ensures.left)

@@ -1,15 +1,15 @@
-use Rattle.std.proofs.Common.{◌≡◌, refl}
+use Rattle.std.proofs.Common.{refl}
 use Rattle.zio_nodes.proofs.OwnOver.{claim_stands, is_claim}
 use Rattle.zio_nodes.proofs.ClaimLemmas.{claim_known}
 use Rattle.zio_nodes.proofs.request_at.RequestAt.claim_bare.Goals as goal
 
 pub unreachable-requires : goal.unreachable-requires
 unreachable-requires c =
-    let at = c.args.self in
+    let at = c.args.self.now in
     let work = is_claim at.node.waiting.request.work c.requires.kind in
     let d = c.in_default in
     claim_known at.stage at.is_due at.node.own (claim_stands c.args.tops.now at at.stage work c.requires.over refl c.requires.behind)
-    d.not-GangAssemble d.not-GangIssue c.requires.other d.not-Ready d.not-Done
+    d.not-GangAssemble d.not-GangIssue c.requires.other d.not-Ready c.requires.before
 
 pub returns-in-GangIssue-clause-moves : goal.returns-in-GangIssue-clause-moves
 returns-in-GangIssue-clause-moves c = c.claim_gang_issue.ensures.moves c.args.tops.now

@@ -1,11 +1,10 @@
-use Rattle.std.proofs.Common.{◌≡◌, ◌≤◌, ◌<◌, ◌+◌, inr, [], None, Ok, Option, Some, refl, sym, ap, subst, ◌∙◌, arith}
+use Rattle.std.proofs.Common.{◌≤◌, ◌<◌, ◌+◌, inr, Ok, Option, refl, sym, ap, subst, ◌∙◌, arith, inl}
 use Rattle.std.specs.Prelude.{IfSome}
 use Rattle.zio_masks.specs.declared.stage.Stage.{Stage}
 use Rattle.zio_masks.specs.declared.stage.Stage.TheVariants.{GangAssemble, GangIssue}
 use Rattle.zio_types.specs.declared.request.ChildKind.TheVariants.{Gang}
-use Rattle.zio_gang.specs.Attempts.{Terms}
 use Rattle.zio_graph.specs.Stages.{told_cost}
-use Rattle.zio_frames.specs.Frames.{Stack, fresh_stack}
+use Rattle.zio_frames.specs.Frames.{fresh_stack}
 use Rattle.zio_stages.specs.HeadsNodes.{IsHeadsNode}
 use Rattle.zio_stages.specs.RequestClaims.{IsClaimingWith, IsPastDue, IsWalkDue}
 use Rattle.zio_stages.specs.RequestNodes.{IsRequestNode}
@@ -13,7 +12,7 @@ use Rattle.zio_stages.specs.RequestReads.{HandsWalk, IsWalkOver, IsWholeWalk}
 use Rattle.zio_stages.specs.declared.heads_node.HeadsNode.{HeadsNode}
 use Rattle.zio_stages.specs.declared.request_node.RequestNode.{RequestNode}
 use Rattle.zio_nodes.specs.Bounds.{walk_max}
-use Rattle.zio_nodes.specs.OwnAts.{IsAnyClaim, IsClaimAtStage}
+use Rattle.zio_nodes.specs.OwnAts.{IsClaimAtStage}
 use Rattle.zio_nodes.specs.OwnBounds.{claim_stages, claiming_left}
 use Rattle.zio_nodes.specs.declared.node.Node.TheVariants.{Heads}
 use Rattle.zio_nodes.specs.Told.{is_told}
@@ -21,12 +20,21 @@ use Rattle.zio_nodes.proofs.OwnLefts.{claim_gave_same, claim_less}
 use Rattle.zio_nodes.proofs.OwnOver.{claim_over, claim_stands, claim_work, handed_at, is_claim, not_start}
 use Rattle.zio_nodes.proofs.OwnStages.{claim_assembled}
 use Rattle.zio_nodes.proofs.OwnBare.{begun_bare, does_more, grows_bare, next_bare, refused_bare}
-use Rattle.zio_nodes.proofs.ClaimLemmas.{any_claim, begins_most, begun_claim, rest_then, stage_less, walk_less}
+use Rattle.zio_nodes.proofs.ClaimLemmas.{begins_most, begun_claim, rest_then, stage_less, walk_less}
+use Rattle.zio_masks.specs.declared.pipeline.TheConstants.{CLAIM}
+use Rattle.zio_types.specs.declared.request.Kind.TheVariants.{Claim as ClaimKind}
+use Rattle.zio_nodes.proofs.StageLeads.{gang_leads, gang_of_claim}
+use Rattle.zio_nodes.proofs.Refused.{on_err}
 use Rattle.zio_nodes.proofs.request_at.RequestAt.claim_gang_assemble.Goals as goal
+
+pub returns-in_err-room-clause-refused : goal.returns-in_err-room-clause-refused
+returns-in_err-room-clause-refused c =
+    let at = c.args.self.now in
+    on_err c.from_residual.result (refused_bare c.args.tops.now at at.node at.stage at.is_due refl refl)
 
 pub begin_claim-requires : goal.begin_claim-requires
 begin_claim-requires c =
-    let at = c.args.self in
+    let at = c.args.self.now in
     let r = at.node in
     let work = is_claim r.waiting.request.work c.requires.kind in
     let behind = not_start at.stage GangAssemble c.requires.stage (λ e. cc) in
@@ -51,11 +59,11 @@ pub new-child-requires : goal.new-child-requires
 new-child-requires c = (subst (λ (o : Option HeadsNode). IfSome o IsWholeWalk) c.in-Ok-Some.field-0-is c.in-Ok-Some.ensures.whole).0
 
 pub returns-in_default-clause-refused : goal.returns-in_default-clause-refused
-returns-in_default-clause-refused c = refused_bare c.args.tops.now c.args.self _ c.args.self.stage c.args.self.is_due c.in_default.ensures.err refl
+returns-in_default-clause-refused c = refused_bare c.args.tops.now c.args.self.now _ c.args.self.now.stage c.args.self.now.is_due c.in_default.ensures.err refl
 
 pub returns-in-Ok-Some-clause-moves : goal.returns-in-Ok-Some-clause-moves
 returns-in-Ok-Some-clause-moves c =
-    let at = c.args.self in
+    let at = c.args.self.now in
     let r = at.node in
     let work = is_claim r.waiting.request.work c.requires.kind in
     let behind = not_start at.stage GangAssemble c.requires.stage (λ e. cc) in
@@ -74,7 +82,7 @@ returns-in-Ok-Some-clause-moves c =
 
 pub returns-in-Ok-Some-clause-over : goal.returns-in-Ok-Some-clause-over
 returns-in-Ok-Some-clause-over c =
-    let at = c.args.self in
+    let at = c.args.self.now in
     let r = at.node in
     let work = is_claim r.waiting.request.work c.requires.kind in
     let behind = not_start at.stage GangAssemble c.requires.stage (λ e. cc) in
@@ -91,7 +99,7 @@ returns-in-Ok-Some-clause-over c =
 
 pub returns-in-Ok-Some-clause-left : goal.returns-in-Ok-Some-clause-left
 returns-in-Ok-Some-clause-left c =
-    let at = c.args.self in
+    let at = c.args.self.now in
     let r = at.node in
     let work = is_claim r.waiting.request.work c.requires.kind in
     let behind = not_start at.stage GangAssemble c.requires.stage (λ e. cc) in
@@ -107,7 +115,7 @@ returns-in-Ok-Some-clause-left c =
 
 pub returns-in-Ok-None-clause-moves : goal.returns-in-Ok-None-clause-moves
 returns-in-Ok-None-clause-moves c =
-    let at = c.args.self in
+    let at = c.args.self.now in
     let r = at.node in
     let work = is_claim r.waiting.request.work c.requires.kind in
     let behind = not_start at.stage GangAssemble c.requires.stage (λ e. cc) in
@@ -119,14 +127,14 @@ returns-in-Ok-None-clause-moves c =
     let most = begins_most at.is_due r mid was c.begin_claim.ensures.still in
     let none = c.in-Ok-None.is ∙ ap (λ (o : Option HeadsNode). Ok o) c.in-Ok-None.field-0-is in
     let same = c.gang_assemble_claim.ensures.still none in
-    next_bare tops at new c.next.result at.is_due
+    next_bare tops at new c.next-self.result at.is_due
     (λ t st on is. does_more t st (IsRequestNode t mid) _ (c.in-Ok.ensures.does t st on is) (λ after begun. subst (λ (x : RequestNode). IsRequestNode t x after) (sym same) begun))
-    (ap is_told (claim_assembled c.with_gang.result c.next.result c.with_gang.ensures.stages c.next.ensures) ∙ sym (ap is_told c.requires.stage))
+    (ap is_told (claim_assembled c.with_gang.result c.next-self.result c.with_gang.ensures.stages c.next-self.ensures) ∙ sym (ap is_told c.requires.stage))
     (claim_gave_same r new work rest)
 
 pub returns-in-Ok-None-clause-over : goal.returns-in-Ok-None-clause-over
 returns-in-Ok-None-clause-over c =
-    let at = c.args.self in
+    let at = c.args.self.now in
     let r = at.node in
     let work = is_claim r.waiting.request.work c.requires.kind in
     let behind = not_start at.stage GangAssemble c.requires.stage (λ e. cc) in
@@ -138,12 +146,13 @@ returns-in-Ok-None-clause-over c =
     let most = begins_most at.is_due r mid was c.begin_claim.ensures.still in
     let none = c.in-Ok-None.is ∙ ap (λ (o : Option HeadsNode). Ok o) c.in-Ok-None.field-0-is in
     let same = c.gang_assemble_claim.ensures.still none in
-    claim_over tops at new c.next.result at.is_due work c.requires.over behind rest c.gang_assemble_claim.ensures.over
-    (subst (λ (s : Stage). IsClaimAtStage s at.is_due new.own) (sym (claim_assembled c.with_gang.result c.next.result c.with_gang.ensures.stages c.next.ensures)) (c.gang_assemble_claim.ensures.begun none))
+    claim_over tops at new c.next-self.result at.is_due work c.requires.over behind rest c.gang_assemble_claim.ensures.over
+    (subst (λ (s : Stage). IsClaimAtStage s at.is_due new.own)
+    (sym (claim_assembled c.with_gang.result c.next-self.result c.with_gang.ensures.stages c.next-self.ensures)) (c.gang_assemble_claim.ensures.begun none))
 
 pub returns-in-Ok-None-clause-left : goal.returns-in-Ok-None-clause-left
 returns-in-Ok-None-clause-left c =
-    let at = c.args.self in
+    let at = c.args.self.now in
     let r = at.node in
     let work = is_claim r.waiting.request.work c.requires.kind in
     let behind = not_start at.stage GangAssemble c.requires.stage (λ e. cc) in
@@ -155,16 +164,18 @@ returns-in-Ok-None-clause-left c =
     let most = begins_most at.is_due r mid was c.begin_claim.ensures.still in
     let none = c.in-Ok-None.is ∙ ap (λ (o : Option HeadsNode). Ok o) c.in-Ok-None.field-0-is in
     let same = c.gang_assemble_claim.ensures.still none in
-    let is = claim_assembled c.with_gang.result c.next.result c.with_gang.ensures.stages c.next.ensures in
+    let is = claim_assembled c.with_gang.result c.next-self.result c.with_gang.ensures.stages c.next-self.ensures in
     omega (
       arith,
-      claim_less at new c.next.result at.is_due 1 work behind (not_start c.next.result GangIssue is (λ e. cc)) rest
-          (stage_less r.own new.own at.stage c.next.result (told_cost + told_cost + 3) (told_cost + told_cost + 2) (subst (λ (x : RequestNode). claiming_left x.own ≤ claiming_left r.own) (sym same) most) (ap claim_stages c.requires.stage) (ap claim_stages is) (omega arith)),
+      claim_less at new c.next-self.result at.is_due 1 work behind (not_start c.next-self.result GangIssue is (λ e. cc)) rest
+          (stage_less r.own new.own at.stage c.next-self.result (told_cost + told_cost + 3) (told_cost + told_cost + 2)
+          (subst (λ (x : RequestNode). claiming_left x.own ≤ claiming_left r.own) (sym same) most) (ap claim_stages c.requires.stage) (ap claim_stages is)
+          (omega arith)),
     )
 
 pub returns-in-Err-clause-refused : goal.returns-in-Err-clause-refused
 returns-in-Err-clause-refused c =
-    let at = c.args.self in
+    let at = c.args.self.now in
     let r = at.node in
     let work = is_claim r.waiting.request.work c.requires.kind in
     let behind = not_start at.stage GangAssemble c.requires.stage (λ e. cc) in
@@ -177,3 +188,10 @@ returns-in-Err-clause-refused c =
     begun_bare tops at new at.stage at.is_due
     (λ t st on is. does_more t st (IsRequestNode t mid) _ (c.in-Ok.ensures.does t st on is) (λ after begun. subst (λ (x : RequestNode). IsRequestNode t x after) (sym c.in-Err.ensures.err) begun)) refl
     (claim_gave_same r new work rest)
+
+pub returns-in-Ok-None-clause-stages : goal.returns-in-Ok-None-clause-stages
+returns-in-Ok-None-clause-stages c =
+    let at = c.args.self.now in
+    let r = at.node in
+    inl (gang_leads at ClaimKind CLAIM c.with_gang.result GangAssemble c.next-self.result c.requires.kind c.requires.stage
+    (gang_of_claim r.waiting.request.work r.waiting.block c.requires.kind) (λ s. refl) c.with_gang.ensures.stages c.next-self.ensures)

@@ -1,4 +1,4 @@
-use Rattle.std.proofs.Common.{◌≡◌, true, false, refl, sym, ap, subst, ◌∙◌, arith}
+use Rattle.std.proofs.Common.{true, refl, sym, ap, subst, lit≤}
 use Rattle.zio_masks.specs.declared.stage.Stage.{Stage}
 use Rattle.zio_masks.specs.declared.stage.Stage.TheVariants.{Ready, Done}
 use Rattle.zio_graph.specs.Stages.{told_cost}
@@ -9,24 +9,26 @@ use Rattle.zio_nodes.proofs.OwnLefts.{claim_less}
 use Rattle.zio_nodes.proofs.OwnOver.{claim_no_write, claim_over, claim_stands, handed_at, is_claim, not_start}
 use Rattle.zio_nodes.proofs.OwnStages.{claim_told}
 use Rattle.zio_nodes.proofs.ClaimLemmas.{told_less}
+use Rattle.zio_nodes.proofs.StageLeads.{claim_leads}
 use Rattle.zio_nodes.proofs.request_at.RequestAt.claim_ready.Goals as goal
 
 pub tell_none-requires : goal.tell_none-requires
 tell_none-requires c =
-    let at = c.args.self in
+    let at = c.args.self.now in
     let r = at.node in
     let work = is_claim r.waiting.request.work c.requires.kind in
     let behind = not_start at.stage Ready c.requires.stage (λ e. cc) in
     record {
       other = claim_no_write r.waiting.request.work work;
       handed = handed_at c.requires.over.0 at c.requires.over.1 behind;
-      before = ap is_told c.requires.stage;
+      stage = c.requires.stage;
+      leads = claim_leads at Ready c.next-to.result c.requires.kind c.requires.stage (lit≤ tt) c.next-to.ensures;
       behind = ap is_told (claim_told c.next-to.result c.next-to.ensures);
     }
 
 pub returns-clause-over : goal.returns-clause-over
 returns-clause-over c = λ tops h.
-    let at = c.args.self in
+    let at = c.args.self.now in
     let r = at.node in
     let work = is_claim r.waiting.request.work c.requires.kind in
     let behind = not_start at.stage Ready c.requires.stage (λ e. cc) in
@@ -36,7 +38,7 @@ returns-clause-over c = λ tops h.
 
 pub returns-clause-left : goal.returns-clause-left
 returns-clause-left c =
-    let at = c.args.self in
+    let at = c.args.self.now in
     let r = at.node in
     let work = is_claim r.waiting.request.work c.requires.kind in
     let behind = not_start at.stage Ready c.requires.stage (λ e. cc) in

@@ -1,4 +1,4 @@
-use Rattle.std.proofs.Common.{◌≡◌, Ok, Result, ap, arith, length, refl, subst, sym, ◌∙◌}
+use Rattle.std.proofs.Common.{◌≡◌, Ok, Result, ap, arith, length, refl, subst, sym, ◌∙◌, inl}
 use Rattle.std.specs.Prelude.{IfOk}
 use Rattle.zio_types.specs.declared.error.NoMemory.{NoMemory}
 use Rattle.zio_types.specs.declared.request.ChildKind.TheVariants.{Gang}
@@ -18,15 +18,16 @@ use Rattle.zio_nodes.specs.Told.{is_told}
 use Rattle.zio_nodes.specs.declared.node.Node.TheVariants.{Part}
 use Rattle.zio_nodes.specs.declared.request_at.RequestAt.{RequestAt}
 use Rattle.zio_nodes.proofs.KidMarks.{over_own}
-use Rattle.zio_nodes.proofs.RequestMoves.{request_does, request_grows}
+use Rattle.zio_nodes.proofs.RequestMoves.{no_room_with, request_does, request_grows}
 use Rattle.zio_nodes.proofs.StageLemmas.{write_placed}
 use Rattle.zio_nodes.proofs.WriteLemmas.{all_out, next_begun, none_gave, stands_in, stands_to, write_less, written_unstored}
 use Rattle.zio_nodes.proofs.WriteMoves.{member_grows}
+use Rattle.zio_nodes.proofs.StageLeads.{write_leads}
 use Rattle.zio_nodes.proofs.request_at.RequestAt.dva_allocate.Goals as goal
 
 pub dva_allocate-requires-clause-begun : goal.dva_allocate-requires-clause-begun
 dva_allocate-requires-clause-begun g c =
-    let at = c.args.self in
+    let at = c.args.self.now in
     stands_in (g.S.Services.tops c.args.services.now) at.stage DvaAllocate at.is_due at.node c.requires.kind c.requires.stage tt c.requires.over.stands
 
 pub new-child-requires : goal.new-child-requires
@@ -38,7 +39,7 @@ new-child-requires g c =
 
 pub returns-in-Ok-Member-clause-moves : goal.returns-in-Ok-Member-clause-moves
 returns-in-Ok-Member-clause-moves g c =
-    let at = c.args.self in
+    let at = c.args.self.now in
     let tops = g.S.Services.tops c.args.services.now in
     let new = c.dva_allocate.new.self in
     let ok : c.dva_allocate.result ≡ Ok (Member c.in-Ok-Member.child) = c.in-Ok-Member.is ∙ ap (λ (a : Allocated). Ok a) c.in-Ok-Member.field-0-is in
@@ -52,12 +53,12 @@ returns-in-Ok-Member-clause-moves g c =
       moves = λ t st now.
           request_grows t st at _ (Part c.new-child.result) Gang (IsFreshPart t c.in-Ok-Member.child) does.0
           (subst (λ (r : Result Allocated NoMemory). DoesThen t st does.0 (ComesTo t r (IsRequestNode t new))) ok (does.2 t st now.is))
-          (λ op is. c.new-child.ensures.fresh t (fresh_stack op) is) (λ needs. c.new-child.ensures.told) refl (sym (ap is_told c.requires.stage)) gave;
+          (λ op is. c.new-child.ensures.fresh t (fresh_stack op) is) (λ needs. c.new-child.ensures.told) refl refl gave;
     }
 
 pub returns-in-Ok-Member-clause-over : goal.returns-in-Ok-Member-clause-over
 returns-in-Ok-Member-clause-over g c =
-    let at = c.args.self in
+    let at = c.args.self.now in
     let tops = g.S.Services.tops c.args.services.now in
     let new = c.dva_allocate.new.self in
     let rest = c.dva_allocate.ensures.rest in
@@ -67,7 +68,7 @@ returns-in-Ok-Member-clause-over g c =
     let child = subst (λ (r : Result Allocated NoMemory). IfOk r IsAllocatedOver) ok c.dva_allocate.ensures.child in (
       record {
         over = over_own tops at.node new new.family rest c.requires.over.over c.dva_allocate.ensures.over;
-        stands = stands_to tops DvaAllocate DvaAllocate at.is_due new kind refl tt
+        stands = stands_to tops at.stage DvaAllocate at.is_due new kind c.requires.stage tt
             (subst (λ (k : KidsHeld). k.kids.handed ≡ length k.kids.kids) (sym (ap (λ (r : RequestNode). r.kids) rest)) out) c.dva_allocate.ensures.begun;
       },
       c.new-child.ensures.over tops c.requires.over.over.tops_are c.requires.over.over.units (child tops),
@@ -75,7 +76,7 @@ returns-in-Ok-Member-clause-over g c =
 
 pub returns-in-Ok-Member-clause-left : goal.returns-in-Ok-Member-clause-left
 returns-in-Ok-Member-clause-left g c =
-    let at = c.args.self in
+    let at = c.args.self.now in
     let new = c.dva_allocate.new.self in
     let rest = c.dva_allocate.ensures.rest in
     let ok : c.dva_allocate.result ≡ Ok (Member c.in-Ok-Member.child) = c.in-Ok-Member.is ∙ ap (λ (a : Allocated). Ok a) c.in-Ok-Member.field-0-is in
@@ -85,7 +86,7 @@ returns-in-Ok-Member-clause-left g c =
 
 pub returns-in-Ok-Placed-clause-moves : goal.returns-in-Ok-Placed-clause-moves
 returns-in-Ok-Placed-clause-moves g c =
-    let at = c.args.self in
+    let at = c.args.self.now in
     let tops = g.S.Services.tops c.args.services.now in
     let new = c.dva_allocate.new.self in
     let ok : c.dva_allocate.result ≡ Ok Placed = c.in-Ok-Placed.is ∙ ap (λ (a : Allocated). Ok a) c.in-Ok-Placed.field-0-is in
@@ -98,12 +99,12 @@ returns-in-Ok-Placed-clause-moves g c =
       were_made = does.1;
       moves = λ t st now.
           request_does t st at _ does.0 (subst (λ (r : Result Allocated NoMemory). DoesThen t st does.0 (ComesTo t r (IsRequestNode t new))) ok (does.2 t st now.is))
-          (ap is_told (write_placed c.next.result c.next.ensures) ∙ sym (ap is_told c.requires.stage)) gave;
+          (ap is_told (write_placed c.next-self.result c.next-self.ensures) ∙ sym (ap is_told c.requires.stage)) gave;
     }
 
 pub returns-in-Ok-Placed-clause-over : goal.returns-in-Ok-Placed-clause-over
 returns-in-Ok-Placed-clause-over g c =
-    let at = c.args.self in
+    let at = c.args.self.now in
     let tops = g.S.Services.tops c.args.services.now in
     let new = c.dva_allocate.new.self in
     let rest = c.dva_allocate.ensures.rest in
@@ -112,22 +113,22 @@ returns-in-Ok-Placed-clause-over g c =
     let out = all_out tops at.stage DvaAllocate at.is_due at.node c.requires.stage tt c.requires.over.stands in
     record {
       over = over_own tops at.node new new.family rest c.requires.over.over c.dva_allocate.ensures.over;
-      stands = stands_to tops c.next.result Ready at.is_due new kind (write_placed c.next.result c.next.ensures) tt
+      stands = stands_to tops c.next-self.result Ready at.is_due new kind (write_placed c.next-self.result c.next-self.ensures) tt
           (subst (λ (k : KidsHeld). k.kids.handed ≡ length k.kids.kids) (sym (ap (λ (r : RequestNode). r.kids) rest)) out) (c.dva_allocate.ensures.placed ok);
     }
 
 pub returns-in-Ok-Placed-clause-left : goal.returns-in-Ok-Placed-clause-left
 returns-in-Ok-Placed-clause-left g c =
-    let at = c.args.self in
+    let at = c.args.self.now in
     let new = c.dva_allocate.new.self in
     let rest = c.dva_allocate.ensures.rest in
-    let after : RequestAt = record { node = new; stage = c.next.result; is_due = at.is_due } in
+    let after : RequestAt = record { node = new; stage = c.next-self.result; is_due = at.is_due } in
     write_less at after DvaAllocate Ready c.requires.kind (ap (λ (r : RequestNode). kind_of r.waiting.request.work) rest ∙ c.requires.kind) c.requires.stage
-    (write_placed c.next.result c.next.ensures) tt tt (ap (λ (r : RequestNode). r.kids.due) rest) (omega arith)
+    (write_placed c.next-self.result c.next-self.ensures) tt tt (ap (λ (r : RequestNode). r.kids.due) rest) (omega arith)
 
 pub returns-in-Err-clause-refused : goal.returns-in-Err-clause-refused
 returns-in-Err-clause-refused g c =
-    let at = c.args.self in
+    let at = c.args.self.now in
     let tops = g.S.Services.tops c.args.services.now in
     let new = c.dva_allocate.new.self in
     let does = c.dva_allocate.ensures.does in
@@ -139,5 +140,13 @@ returns-in-Err-clause-refused g c =
       were_made = does.1;
       goes = λ t st now.
           request_does t st at _ does.0 (subst (λ (r : Result Allocated NoMemory). DoesThen t st does.0 (ComesTo t r (IsRequestNode t new))) c.in-Err.is (does.2 t st now.is))
-          (sym (ap is_told c.requires.stage)) gave;
+          refl gave;
     }
+
+pub returns-in-Ok-Placed-clause-stages : goal.returns-in-Ok-Placed-clause-stages
+returns-in-Ok-Placed-clause-stages g c = inl (write_leads c.args.self.now DvaAllocate c.next-self.result c.requires.kind c.requires.stage c.next-self.ensures)
+
+pub returns-in_err-room-clause-refused : goal.returns-in_err-room-clause-refused
+returns-in_err-room-clause-refused g c =
+    no_room_with g.S.Services.made (g.S.Services.tops c.args.services.now) c.args.services.now c.args.self.now c.from_residual.result
+    (g.met.S.Services.made_none c.args.services.now)

@@ -1,4 +1,4 @@
-use Rattle.std.proofs.Common.{◌≡◌, [], true, refl, sym, ap, subst, ◌∙◌, arith}
+use Rattle.std.proofs.Common.{refl, sym, ap, subst, ◌∙◌, arith}
 use Rattle.std.specs.List.{list_all}
 use Rattle.zio_masks.specs.declared.stage.Stage.{Stage}
 use Rattle.zio_masks.specs.declared.stage.Stage.TheVariants.{Done}
@@ -7,7 +7,6 @@ use Rattle.zio_children.specs.RequestKids.{is_ended}
 use Rattle.zio_stages.specs.RequestFrees.{HasFreed, HasKeptFailed}
 use Rattle.zio_graph.specs.Stages.{told_cost}
 use Rattle.zio_nodes.specs.OwnAts.{IsFreeAtStage}
-use Rattle.zio_nodes.specs.OwnBounds.{free_stages}
 use Rattle.zio_nodes.specs.declared.node.Node.TheVariants.{Request}
 use Rattle.zio_nodes.specs.declared.request_at.RequestAt.{RequestAt}
 use Rattle.zio_nodes.proofs.OwnBare.{waits_bare}
@@ -63,7 +62,8 @@ returns-clause-moves c = λ tops.
       is = c.end_free.ensures.ends;
       told = refl;
       gave = free_gave_same r new work c.end_free.ensures.rest
-          (ended_same r.own new.own r.waiting.block now.0 now.1 c.end_free.ensures.error c.end_free.ensures.found (λ f. ap (λ x. x.own) (c.end_free.ensures.still f)));
+          (ended_same r.own new.own r.waiting.block now.0 now.1 c.end_free.ensures.error c.end_free.ensures.found
+          (λ f. ap (λ x. x.own) (c.end_free.ensures.still f)));
     } in
     ok_map c.end_found.result (moves_from tops at b same) (c.end_found.ensures.moves tops)
 
@@ -102,6 +102,7 @@ returns-clause-refused c = λ tops.
       is = c.end_free.ensures.ends;
       told = refl;
       gave = free_gave_same r new work c.end_free.ensures.rest
-          (ended_same r.own new.own r.waiting.block now.0 now.1 c.end_free.ensures.error c.end_free.ensures.found (λ f. ap (λ x. x.own) (c.end_free.ensures.still f)));
+          (ended_same r.own new.own r.waiting.block now.0 now.1 c.end_free.ensures.error c.end_free.ensures.found
+          (λ f. ap (λ x. x.own) (c.end_free.ensures.still f)));
     } in
     err_map c.end_found.result (stays_from tops at b same) (c.end_found.ensures.refused tops)

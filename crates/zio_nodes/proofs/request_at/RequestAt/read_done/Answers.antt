@@ -1,4 +1,4 @@
-use Rattle.std.proofs.Common.{◌≡◌, [], true, refl, sym, ap, subst, ◌∙◌, arith}
+use Rattle.std.proofs.Common.{refl, sym, ap, subst, ◌∙◌, arith}
 use Rattle.std.specs.List.{list_all}
 use Rattle.zio_masks.specs.declared.stage.Stage.{Stage}
 use Rattle.zio_masks.specs.declared.stage.Stage.TheVariants.{Done}
@@ -7,7 +7,6 @@ use Rattle.zio_children.specs.RequestKids.{is_ended}
 use Rattle.zio_stages.specs.RequestReads.{IsAlone}
 use Rattle.zio_graph.specs.Stages.{told_cost}
 use Rattle.zio_nodes.specs.OwnAts.{HasReadAll, IsReadAtStage}
-use Rattle.zio_nodes.specs.OwnBounds.{read_stages}
 use Rattle.zio_nodes.specs.declared.node.Node.TheVariants.{Request}
 use Rattle.zio_nodes.specs.declared.request_at.RequestAt.{RequestAt}
 use Rattle.zio_nodes.proofs.OwnBare.{refused_bare, waits_bare}

@@ -1,9 +1,9 @@
-use Rattle.std.proofs.Common.{◌≡◌, ◌+◌, ◌≤◌, [], None, Ok, Option, Some, refl, sym, ap, subst, ◌∙◌, arith, true, false}
+use Rattle.std.proofs.Common.{◌+◌, Ok, Option, refl, sym, ap, subst, ◌∙◌, arith, inl}
 use Rattle.std.specs.Prelude.{IfSome}
 use Rattle.zio_masks.specs.declared.stage.Stage.{Stage}
 use Rattle.zio_masks.specs.declared.stage.Stage.TheVariants.{GangAssemble, GangIssue}
 use Rattle.zio_types.specs.declared.request.ChildKind.TheVariants.{Gang}
-use Rattle.zio_frames.specs.Frames.{Stack, fresh_stack}
+use Rattle.zio_frames.specs.Frames.{fresh_stack}
 use Rattle.zio_graph.specs.Stages.{told_cost}
 use Rattle.zio_stages.specs.HeadsNodes.{IsHeadsNode}
 use Rattle.zio_stages.specs.ReadCounts.{HandsOutWalk, HasWalkBegun}
@@ -24,11 +24,20 @@ use Rattle.zio_nodes.proofs.OwnOver.{is_read, not_start, read_over, read_stands}
 use Rattle.zio_nodes.proofs.OwnStages.{read_assembled}
 use Rattle.zio_nodes.proofs.ReadLemmas.{read_both}
 use Rattle.zio_nodes.proofs.ReadStages.{same_less, stage_less, walking_less, walks_still, with_map}
+use Rattle.zio_masks.specs.declared.pipeline.TheConstants.{READ}
+use Rattle.zio_types.specs.declared.request.Kind.TheVariants.{Read as ReadKind}
+use Rattle.zio_nodes.proofs.StageLeads.{gang_leads, gang_of_read}
+use Rattle.zio_nodes.proofs.Refused.{on_err}
 use Rattle.zio_nodes.proofs.request_at.RequestAt.read_gang_assemble.Goals as goal
+
+pub returns-in_err-room-clause-refused : goal.returns-in_err-room-clause-refused
+returns-in_err-room-clause-refused c = λ tops.
+    let at = c.args.self.now in
+    on_err c.from_residual.result (refused_bare tops at at.node at.stage at.is_due refl refl)
 
 pub gang_assemble_read-requires : goal.gang_assemble_read-requires
 gang_assemble_read-requires c =
-    let at = c.args.self in
+    let at = c.args.self.now in
     let r = at.node in
     let work = is_read r.waiting.request.work c.requires.kind in
     let over = c.requires.over in
@@ -40,20 +49,20 @@ new-child-requires c = (subst (λ (o : Option HeadsNode). IfSome o IsWholeWalk) 
 
 pub returns-in-Ok-Some-clause-moves : goal.returns-in-Ok-Some-clause-moves
 returns-in-Ok-Some-clause-moves c = λ tops.
-    let at = c.args.self in
+    let at = c.args.self.now in
     let r = at.node in
     let work = is_read r.waiting.request.work c.requires.kind in
     let behind = not_start at.stage GangAssemble c.requires.stage (λ e. cc) in
     let new = c.gang_assemble_read.new.self in
     let walk = c.in-Ok-Some.walk in
-    grows_bare tops at new GangAssemble at.is_due (Heads c.new-child.result) Gang (λ t op. IsHeadsNode t walk (fresh_stack op))
+    grows_bare tops at new at.stage at.is_due (Heads c.new-child.result) Gang (λ t op. IsHeadsNode t walk (fresh_stack op))
     (λ t st same is. does_nothing t st _ (subst (λ (o : Option HeadsNode). HandsWalk t o (IsRequestNode t new) st) c.in-Ok-Some.field-0-is (c.in-Ok-Some.ensures.hands t st is)))
-    (λ t op fresh. c.new-child.ensures.fresh t (fresh_stack op) fresh) (λ gang. c.new-child.ensures.told) refl c.requires.stage
+    (λ t op fresh. c.new-child.ensures.fresh t (fresh_stack op) fresh) (λ gang. c.new-child.ensures.told) refl refl
     (read_gave_same r new work c.gang_assemble_read.ensures.rest)
 
 pub returns-in-Ok-Some-clause-over : goal.returns-in-Ok-Some-clause-over
 returns-in-Ok-Some-clause-over c = λ tops h.
-    let at = c.args.self in
+    let at = c.args.self.now in
     let r = at.node in
     let work = is_read r.waiting.request.work c.requires.kind in
     let behind = not_start at.stage GangAssemble c.requires.stage (λ e. cc) in
@@ -61,14 +70,15 @@ returns-in-Ok-Some-clause-over c = λ tops h.
     let goes = subst (λ (o : Option HeadsNode). IfSome o (λ w. ReadsOn HandsOutWalk r.own new.own)) c.in-Ok-Some.field-0-is c.in-Ok-Some.ensures.goes in
     let now = read_stands tops at GangAssemble work h c.requires.stage (λ e. cc) in
     let block = ap (λ x. is_gang_tree x.block) c.gang_assemble_read.ensures.waiting in (
-      read_over tops at new GangAssemble at.is_due work h behind c.gang_assemble_read.ensures.rest (c.gang_assemble_read.ensures.over tops h.over.own)
-          (block ∙ now.0, walks_still r.own new.own now.1 c.gang_assemble_read.ensures.reads goes),
+      read_over tops at new at.stage at.is_due work h behind c.gang_assemble_read.ensures.rest (c.gang_assemble_read.ensures.over tops h.over.own)
+          (subst (λ (s : Stage). IsReadAtStage tops s at.is_due new.own new.waiting.block) (sym c.requires.stage)
+          (block ∙ now.0, walks_still r.own new.own now.1 c.gang_assemble_read.ensures.reads goes)),
       c.new-child.ensures.over tops (subst (λ (o : Option HeadsNode). IsWalkOver tops o) c.in-Ok-Some.field-0-is (c.in-Ok-Some.ensures.child_over tops h.over.waiting)),
     )
 
 pub returns-in-Ok-Some-clause-left : goal.returns-in-Ok-Some-clause-left
 returns-in-Ok-Some-clause-left c =
-    let at = c.args.self in
+    let at = c.args.self.now in
     let r = at.node in
     let work = is_read r.waiting.request.work c.requires.kind in
     let behind = not_start at.stage GangAssemble c.requires.stage (λ e. cc) in
@@ -79,56 +89,67 @@ returns-in-Ok-Some-clause-left c =
     let less = walking_less r.own new.own (λ w. Unit {0}) reading c.gang_assemble_read.ensures.reads goes in
     omega (
       arith,
-      read_less at new GangAssemble at.is_due (walk_max 8 + 1) work behind (λ e. cc) c.gang_assemble_read.ensures.rest
-          (same_less r.own new.own GangAssemble at.stage at.is_due (walk_max 8 + 1) less c.requires.stage),
+      read_less at new at.stage at.is_due (walk_max 8 + 1) work behind behind c.gang_assemble_read.ensures.rest
+          (same_less r.own new.own at.stage at.stage at.is_due (walk_max 8 + 1) less refl),
       c.new-child.ensures.left ∙ ap walk_max whole.1,
     )
 
 pub returns-in-Ok-None-clause-moves : goal.returns-in-Ok-None-clause-moves
 returns-in-Ok-None-clause-moves c = λ tops.
-    let at = c.args.self in
+    let at = c.args.self.now in
     let r = at.node in
     let work = is_read r.waiting.request.work c.requires.kind in
     let behind = not_start at.stage GangAssemble c.requires.stage (λ e. cc) in
     let new = c.gang_assemble_read.new.self in
     let none = c.in-Ok-None.is ∙ ap (λ (o : Option HeadsNode). Ok o) c.in-Ok-None.field-0-is in
     let same = c.gang_assemble_read.ensures.none none in
-    let is = read_assembled c.with_gang.result c.next.result c.with_gang.ensures.stages c.next.ensures in
-    next_same tops at new c.next.result at.is_due same (ap is_told is ∙ sym (ap is_told c.requires.stage))
+    let is = read_assembled c.with_gang.result c.next-self.result c.with_gang.ensures.stages c.next-self.ensures in
+    next_same tops at new c.next-self.result at.is_due same (ap is_told is ∙ sym (ap is_told c.requires.stage))
 
 pub returns-in-Ok-None-clause-over : goal.returns-in-Ok-None-clause-over
 returns-in-Ok-None-clause-over c = λ tops h.
-    let at = c.args.self in
+    let at = c.args.self.now in
     let r = at.node in
     let work = is_read r.waiting.request.work c.requires.kind in
     let behind = not_start at.stage GangAssemble c.requires.stage (λ e. cc) in
     let new = c.gang_assemble_read.new.self in
     let none = c.in-Ok-None.is ∙ ap (λ (o : Option HeadsNode). Ok o) c.in-Ok-None.field-0-is in
     let same = c.gang_assemble_read.ensures.none none in
-    let is = read_assembled c.with_gang.result c.next.result c.with_gang.ensures.stages c.next.ensures in
+    let is = read_assembled c.with_gang.result c.next-self.result c.with_gang.ensures.stages c.next-self.ensures in
     let now = read_stands tops at GangAssemble work h c.requires.stage (λ e. cc) in
     let block = ap (λ x. is_gang_tree x.block) c.gang_assemble_read.ensures.waiting in
     let walking = subst (λ (x : RequestNode). IsReadWith IsWalking x.own) (sym same) now.1 in
-    read_over tops at new c.next.result at.is_due work h behind c.gang_assemble_read.ensures.rest (c.gang_assemble_read.ensures.over tops h.over.own)
+    read_over tops at new c.next-self.result at.is_due work h behind c.gang_assemble_read.ensures.rest (c.gang_assemble_read.ensures.over tops h.over.own)
     (subst (λ (s : Stage). IsReadAtStage tops s at.is_due new.own new.waiting.block) (sym is)
     (block ∙ now.0, read_both IsWalking HasWalkBegun IsIssuing new.own (λ w a b. (a.0, a.1, b)) walking (c.gang_assemble_read.ensures.begun none now.0)))
 
 pub returns-in-Ok-None-clause-left : goal.returns-in-Ok-None-clause-left
 returns-in-Ok-None-clause-left c =
-    let at = c.args.self in
+    let at = c.args.self.now in
     let r = at.node in
     let work = is_read r.waiting.request.work c.requires.kind in
     let behind = not_start at.stage GangAssemble c.requires.stage (λ e. cc) in
     let new = c.gang_assemble_read.new.self in
     let none = c.in-Ok-None.is ∙ ap (λ (o : Option HeadsNode). Ok o) c.in-Ok-None.field-0-is in
     let same = c.gang_assemble_read.ensures.none none in
-    let is = read_assembled c.with_gang.result c.next.result c.with_gang.ensures.stages c.next.ensures in
+    let is = read_assembled c.with_gang.result c.next-self.result c.with_gang.ensures.stages c.next-self.ensures in
     omega (
       arith,
-      read_less at new c.next.result at.is_due 1 work behind (not_start c.next.result GangIssue is (λ e. cc)) c.gang_assemble_read.ensures.rest
-          (stage_less r.own new.own at.stage c.next.result at.is_due at.is_due 1 (told_cost + told_cost + 6) (told_cost + told_cost + 5) (omega (arith, ap (λ x. reading_left x.own) same))
+      read_less at new c.next-self.result at.is_due 1 work behind (not_start c.next-self.result GangIssue is (λ e. cc)) c.gang_assemble_read.ensures.rest
+          (stage_less r.own new.own at.stage c.next-self.result at.is_due at.is_due 1 (told_cost + told_cost + 6) (told_cost + told_cost + 5)
+          (omega (arith, ap (λ x. reading_left x.own) same))
           (ap (λ s. read_stages s at.is_due) c.requires.stage) (ap (λ s. read_stages s at.is_due) is) (omega arith)),
     )
 
 pub returns-in-Err-clause-refused : goal.returns-in-Err-clause-refused
-returns-in-Err-clause-refused c = λ tops. refused_bare tops c.args.self c.gang_assemble_read.new.self GangAssemble c.args.self.is_due c.in-Err.ensures.err c.requires.stage
+returns-in-Err-clause-refused c = λ tops.
+    refused_bare tops c.args.self.now c.gang_assemble_read.new.self c.args.self.now.stage c.args.self.now.is_due c.in-Err.ensures.err refl
+
+pub returns-in-Ok-None-clause-stages : goal.returns-in-Ok-None-clause-stages
+returns-in-Ok-None-clause-stages c =
+    let at = c.args.self.now in
+    let r = at.node in
+    inl (gang_leads at ReadKind READ c.with_gang.result GangAssemble c.next-self.result c.requires.kind c.requires.stage
+    (gang_of_read r.waiting.request.work r.waiting.block c.requires.kind
+    ∙ (read_stands c.requires.over.0 at GangAssemble (is_read r.waiting.request.work c.requires.kind) c.requires.over.1 c.requires.stage (λ e. cc)).0)
+    (λ s. refl) c.with_gang.ensures.stages c.next-self.ensures)

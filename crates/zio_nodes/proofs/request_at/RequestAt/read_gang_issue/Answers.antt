@@ -1,9 +1,9 @@
-use Rattle.std.proofs.Common.{◌≡◌, ◌+◌, ◌≤◌, [], Ok, inl, refl, sym, ap, subst, ◌∙◌, arith, true}
+use Rattle.std.proofs.Common.{◌+◌, Ok, inl, refl, sym, ap, subst, ◌∙◌, arith, lit≤}
 use Rattle.zio_masks.specs.declared.stage.Stage.{Stage}
 use Rattle.zio_masks.specs.declared.stage.Stage.TheVariants.{GangIssue, Ready}
 use Rattle.zio_types.specs.declared.request.ChildKind.TheVariants.{Gang}
 use Rattle.zio_types.specs.declared.request.Phase.TheVariants.{Done}
-use Rattle.zio_frames.specs.Frames.{Stack, fresh_stack}
+use Rattle.zio_frames.specs.Frames.{fresh_stack}
 use Rattle.zio_graph.specs.Stages.{told_cost}
 use Rattle.zio_graph.specs.declared.staged.Move.TheVariants.{Wait}
 use Rattle.zio_stages.specs.CopiesNodes.{IsCopiesNode}
@@ -19,7 +19,6 @@ use Rattle.zio_nodes.specs.Nodes.{MovesBare}
 use Rattle.zio_nodes.specs.OwnAts.{IsIssuing, IsReadAtStage, MayReadOne}
 use Rattle.zio_nodes.specs.OwnBounds.{read_stages, reading_left}
 use Rattle.zio_nodes.specs.declared.node.Node.TheVariants.{Copies, Request}
-use Rattle.zio_nodes.specs.declared.request_at.RequestAt.{RequestAt}
 use Rattle.zio_nodes.specs.Told.{is_told}
 use Rattle.zio_nodes.proofs.OwnBare.{grows_bare, next_same, refused_bare, waits_bare}
 use Rattle.zio_nodes.proofs.OwnLefts.{read_gave_same, read_less}
@@ -27,11 +26,20 @@ use Rattle.zio_nodes.proofs.OwnOver.{is_read, not_start, read_over, read_stands}
 use Rattle.zio_nodes.proofs.OwnStages.{read_issued}
 use Rattle.zio_nodes.proofs.ReadLemmas.{read_both}
 use Rattle.zio_nodes.proofs.ReadStages.{issues_still, issuing_less, same_less, stage_less, with_map}
+use Rattle.zio_masks.specs.declared.pipeline.TheConstants.{READ}
+use Rattle.zio_types.specs.declared.request.Kind.TheVariants.{Read as ReadKind}
+use Rattle.zio_nodes.proofs.StageLeads.{past_leads}
+use Rattle.zio_nodes.proofs.Refused.{on_err}
 use Rattle.zio_nodes.proofs.request_at.RequestAt.read_gang_issue.Goals as goal
+
+pub returns-in_err-room-clause-refused : goal.returns-in_err-room-clause-refused
+returns-in_err-room-clause-refused c =
+    let at = c.args.self.now in
+    on_err c.from_residual.result (refused_bare c.args.tops.now at at.node at.stage at.is_due refl refl)
 
 pub gang_issue_read-requires : goal.gang_issue_read-requires
 gang_issue_read-requires c =
-    let at = c.args.self in
+    let at = c.args.self.now in
     let r = at.node in
     let work = is_read r.waiting.request.work c.requires.kind in
     let over = c.requires.over in
@@ -40,7 +48,7 @@ gang_issue_read-requires c =
 
 pub returns-in-Ok-Body-clause-moves : goal.returns-in-Ok-Body-clause-moves
 returns-in-Ok-Body-clause-moves c =
-    let at = c.args.self in
+    let at = c.args.self.now in
     let r = at.node in
     let tops = c.args.tops.now in
     let work = is_read r.waiting.request.work c.requires.kind in
@@ -55,7 +63,7 @@ returns-in-Ok-Body-clause-moves c =
 
 pub returns-in-Ok-Body-clause-over : goal.returns-in-Ok-Body-clause-over
 returns-in-Ok-Body-clause-over c =
-    let at = c.args.self in
+    let at = c.args.self.now in
     let r = at.node in
     let tops = c.args.tops.now in
     let work = is_read r.waiting.request.work c.requires.kind in
@@ -72,7 +80,7 @@ returns-in-Ok-Body-clause-over c =
 
 pub returns-in-Ok-Body-clause-left : goal.returns-in-Ok-Body-clause-left
 returns-in-Ok-Body-clause-left c =
-    let at = c.args.self in
+    let at = c.args.self.now in
     let r = at.node in
     let tops = c.args.tops.now in
     let work = is_read r.waiting.request.work c.requires.kind in
@@ -91,7 +99,7 @@ returns-in-Ok-Body-clause-left c =
 
 pub returns-in-Ok-Wait-clause-moves : goal.returns-in-Ok-Wait-clause-moves
 returns-in-Ok-Wait-clause-moves c =
-    let at = c.args.self in
+    let at = c.args.self.now in
     let r = at.node in
     let tops = c.args.tops.now in
     let work = is_read r.waiting.request.work c.requires.kind in
@@ -105,7 +113,7 @@ returns-in-Ok-Wait-clause-moves c =
 
 pub returns-in-Ok-On-clause-moves : goal.returns-in-Ok-On-clause-moves
 returns-in-Ok-On-clause-moves c =
-    let at = c.args.self in
+    let at = c.args.self.now in
     let r = at.node in
     let tops = c.args.tops.now in
     let work = is_read r.waiting.request.work c.requires.kind in
@@ -114,12 +122,12 @@ returns-in-Ok-On-clause-moves c =
     let now = read_stands tops at GangIssue work c.requires.over c.requires.stage (λ e. cc) in
     let on = c.in-Ok-On.is ∙ ap (λ (s : BodyStage). Ok s) c.in-Ok-On.field-0-is in
     let same = c.gang_issue_read.ensures.on on in
-    let is = read_issued c.with_gang.result c.next.result c.with_gang.ensures.stages c.next.ensures in
-    next_same tops at new c.next.result at.is_due same (ap is_told is ∙ sym (ap is_told c.requires.stage))
+    let is = read_issued c.with_gang.result c.next-self.result c.with_gang.ensures.stages c.next-self.ensures in
+    next_same tops at new c.next-self.result at.is_due same (ap is_told is ∙ sym (ap is_told c.requires.stage))
 
 pub returns-in-Ok-On-clause-over : goal.returns-in-Ok-On-clause-over
 returns-in-Ok-On-clause-over c =
-    let at = c.args.self in
+    let at = c.args.self.now in
     let r = at.node in
     let tops = c.args.tops.now in
     let work = is_read r.waiting.request.work c.requires.kind in
@@ -128,15 +136,15 @@ returns-in-Ok-On-clause-over c =
     let now = read_stands tops at GangIssue work c.requires.over c.requires.stage (λ e. cc) in
     let on = c.in-Ok-On.is ∙ ap (λ (s : BodyStage). Ok s) c.in-Ok-On.field-0-is in
     let same = c.gang_issue_read.ensures.on on in
-    let is = read_issued c.with_gang.result c.next.result c.with_gang.ensures.stages c.next.ensures in
+    let is = read_issued c.with_gang.result c.next-self.result c.with_gang.ensures.stages c.next-self.ensures in
     let issuing = subst (λ (x : RequestNode). IsReadWith IsIssuing x.own) (sym same) now.1 in
-    read_over tops at new c.next.result at.is_due work c.requires.over behind c.gang_issue_read.ensures.rest c.gang_issue_read.ensures.over
+    read_over tops at new c.next-self.result at.is_due work c.requires.over behind c.gang_issue_read.ensures.rest c.gang_issue_read.ensures.over
     (subst (λ (s : Stage). IsReadAtStage tops s at.is_due new.own new.waiting.block) (sym is)
     (read_both IsIssuing (λ w. HasWalkBegun w → HasHandedAll w) MayReadOne new.own (λ w a b. inl (b a.2)) issuing (c.gang_issue_read.ensures.ended on now.0)))
 
 pub returns-in-Ok-On-clause-left : goal.returns-in-Ok-On-clause-left
 returns-in-Ok-On-clause-left c =
-    let at = c.args.self in
+    let at = c.args.self.now in
     let r = at.node in
     let tops = c.args.tops.now in
     let work = is_read r.waiting.request.work c.requires.kind in
@@ -145,13 +153,19 @@ returns-in-Ok-On-clause-left c =
     let now = read_stands tops at GangIssue work c.requires.over c.requires.stage (λ e. cc) in
     let on = c.in-Ok-On.is ∙ ap (λ (s : BodyStage). Ok s) c.in-Ok-On.field-0-is in
     let same = c.gang_issue_read.ensures.on on in
-    let is = read_issued c.with_gang.result c.next.result c.with_gang.ensures.stages c.next.ensures in
+    let is = read_issued c.with_gang.result c.next-self.result c.with_gang.ensures.stages c.next-self.ensures in
     omega (
       arith,
-      read_less at new c.next.result at.is_due 1 work behind (not_start c.next.result Ready is (λ e. cc)) c.gang_issue_read.ensures.rest
-          (stage_less r.own new.own at.stage c.next.result at.is_due at.is_due 1 (told_cost + told_cost + 5) (told_cost + told_cost + 4) (omega (arith, ap (λ x. reading_left x.own) same))
+      read_less at new c.next-self.result at.is_due 1 work behind (not_start c.next-self.result Ready is (λ e. cc)) c.gang_issue_read.ensures.rest
+          (stage_less r.own new.own at.stage c.next-self.result at.is_due at.is_due 1 (told_cost + told_cost + 5) (told_cost + told_cost + 4)
+          (omega (arith, ap (λ x. reading_left x.own) same))
           (ap (λ s. read_stages s at.is_due) c.requires.stage) (ap (λ s. read_stages s at.is_due) is) (omega arith)),
     )
 
 pub returns-in-Err-clause-refused : goal.returns-in-Err-clause-refused
-returns-in-Err-clause-refused c = refused_bare c.args.tops.now c.args.self c.gang_issue_read.new.self c.args.self.stage c.args.self.is_due c.in-Err.ensures.err refl
+returns-in-Err-clause-refused c = refused_bare c.args.tops.now c.args.self.now c.gang_issue_read.new.self c.args.self.now.stage c.args.self.now.is_due c.in-Err.ensures.err refl
+
+pub returns-in-Ok-On-clause-stages : goal.returns-in-Ok-On-clause-stages
+returns-in-Ok-On-clause-stages c =
+    inl (past_leads c.args.self.now ReadKind READ c.with_gang.result GangIssue c.next-self.result c.requires.kind c.requires.stage (lit≤ tt) (λ s. refl)
+    c.with_gang.ensures.stages c.next-self.ensures)

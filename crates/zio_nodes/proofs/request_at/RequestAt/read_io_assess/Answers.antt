@@ -1,4 +1,4 @@
-use Rattle.std.proofs.Common.{◌≡◌, ◌+◌, ◌≤◌, Bool, true, false, inl, refl, sym, ap, subst, ◌∙◌, arith}
+use Rattle.std.proofs.Common.{◌+◌, Bool, true, false, inl, refl, sym, ap, subst, ◌∙◌, arith, inr, lit≤}
 use Rattle.zio_masks.specs.declared.stage.Stage.{Stage}
 use Rattle.zio_masks.specs.declared.stage.Stage.TheVariants.{ChecksumVerify, VdevIoAssess, VdevIoStart}
 use Rattle.zio_graph.specs.Stages.{told_cost}
@@ -12,18 +12,20 @@ use Rattle.zio_nodes.proofs.OwnLefts.{read_gave_same, read_less}
 use Rattle.zio_nodes.proofs.OwnOver.{is_read, not_start, read_over, read_stands}
 use Rattle.zio_nodes.proofs.ReadLemmas.{closes_less, counts_all, read_map, reading_less, second_less, tree_all}
 use Rattle.zio_nodes.proofs.ReadStages.{again_less_by, read_assessed, reading_most, stage_less}
+use Rattle.zio_nodes.proofs.StageLeads.{read_leads}
+use Rattle.zio_nodes.specs.StageMoves.{MayGoBack}
 use Rattle.zio_nodes.proofs.request_at.RequestAt.read_io_assess.Goals as goal
 
 pub vdev_io_assess_read-requires : goal.vdev_io_assess_read-requires
 vdev_io_assess_read-requires c =
-    let at = c.args.self in
+    let at = c.args.self.now in
     let work = is_read at.node.waiting.request.work c.requires.kind in
     let now = read_stands c.args.tops.now at VdevIoAssess work c.requires.over c.requires.stage (λ e. cc) in
     record { due = now.1; over = c.requires.over.over.own }
 
 pub returns-then-vdev_io_assess_read-clause-moves : goal.returns-then-vdev_io_assess_read-clause-moves
 returns-then-vdev_io_assess_read-clause-moves c =
-    let at = c.args.self in
+    let at = c.args.self.now in
     let r = at.node in
     let tops = c.args.tops.now in
     let work = is_read r.waiting.request.work c.requires.kind in
@@ -35,7 +37,7 @@ returns-then-vdev_io_assess_read-clause-moves c =
 
 pub returns-then-vdev_io_assess_read-clause-over : goal.returns-then-vdev_io_assess_read-clause-over
 returns-then-vdev_io_assess_read-clause-over c =
-    let at = c.args.self in
+    let at = c.args.self.now in
     let r = at.node in
     let tops = c.args.tops.now in
     let work = is_read r.waiting.request.work c.requires.kind in
@@ -49,7 +51,7 @@ returns-then-vdev_io_assess_read-clause-over c =
 
 pub returns-then-vdev_io_assess_read-clause-left : goal.returns-then-vdev_io_assess_read-clause-left
 returns-then-vdev_io_assess_read-clause-left c =
-    let at = c.args.self in
+    let at = c.args.self.now in
     let r = at.node in
     let tops = c.args.tops.now in
     let work = is_read r.waiting.request.work c.requires.kind in
@@ -63,7 +65,7 @@ returns-then-vdev_io_assess_read-clause-left c =
 
 pub returns-clause-moves : goal.returns-clause-moves
 returns-clause-moves c =
-    let at = c.args.self in
+    let at = c.args.self.now in
     let r = at.node in
     let tops = c.args.tops.now in
     let work = is_read r.waiting.request.work c.requires.kind in
@@ -71,12 +73,12 @@ returns-clause-moves c =
     let new = c.vdev_io_assess_read.new.self in
     let rest = c.vdev_io_assess_read.ensures.rest in
     let now = read_stands tops at VdevIoAssess work c.requires.over c.requires.stage (λ e. cc) in
-    next_bare tops at new c.next.result false (λ t st same is. c.vdev_io_assess_read.ensures.does t st same is)
-    (ap is_told (read_assessed c.next.result c.next.ensures) ∙ sym (ap is_told c.requires.stage)) (read_gave_same r new work rest)
+    next_bare tops at new c.next-self.result false (λ t st same is. c.vdev_io_assess_read.ensures.does t st same is)
+    (ap is_told (read_assessed c.next-self.result c.next-self.ensures) ∙ sym (ap is_told c.requires.stage)) (read_gave_same r new work rest)
 
 pub returns-clause-over : goal.returns-clause-over
 returns-clause-over c =
-    let at = c.args.self in
+    let at = c.args.self.now in
     let r = at.node in
     let tops = c.args.tops.now in
     let work = is_read r.waiting.request.work c.requires.kind in
@@ -85,14 +87,14 @@ returns-clause-over c =
     let rest = c.vdev_io_assess_read.ensures.rest in
     let now = read_stands tops at VdevIoAssess work c.requires.over c.requires.stage (λ e. cc) in
     let goes = subst (λ (b : Bool). ReadsOn (AssessesBody b) r.own new.own) c.if-vdev_io_assess_read.false c.vdev_io_assess_read.ensures.goes in
-    let is = read_assessed c.next.result c.next.ensures in
-    read_over tops at new c.next.result false work c.requires.over behind rest c.vdev_io_assess_read.ensures.over
+    let is = read_assessed c.next-self.result c.next-self.ensures in
+    read_over tops at new c.next-self.result false work c.requires.over behind rest c.vdev_io_assess_read.ensures.over
     (subst (λ (s : Stage). IsReadAtStage tops s false new.own new.waiting.block) (sym is)
     (read_map HasHandedAll HasReadAll (AssessesBody false) r.own new.own (λ v w all b. (counts_all v w all b.counts, b.alone)) now.0 goes))
 
 pub returns-clause-left : goal.returns-clause-left
 returns-clause-left c =
-    let at = c.args.self in
+    let at = c.args.self.now in
     let r = at.node in
     let tops = c.args.tops.now in
     let work = is_read r.waiting.request.work c.requires.kind in
@@ -101,11 +103,17 @@ returns-clause-left c =
     let rest = c.vdev_io_assess_read.ensures.rest in
     let now = read_stands tops at VdevIoAssess work c.requires.over c.requires.stage (λ e. cc) in
     let goes = subst (λ (b : Bool). ReadsOn (AssessesBody b) r.own new.own) c.if-vdev_io_assess_read.false c.vdev_io_assess_read.ensures.goes in
-    let is = read_assessed c.next.result c.next.ensures in
+    let is = read_assessed c.next-self.result c.next-self.ensures in
     let most = reading_most (AssessesBody false) HasHandedAll r.own new.own (λ v w p b. closes_less v w b) now.0 goes in
     omega (
       arith,
-      read_less at new c.next.result false 1 work behind (not_start c.next.result ChecksumVerify is (λ e. cc)) rest
-          (stage_less r.own new.own at.stage c.next.result at.is_due false 1 (told_cost + 2) (told_cost + 1) most
+      read_less at new c.next-self.result false 1 work behind (not_start c.next-self.result ChecksumVerify is (λ e. cc)) rest
+          (stage_less r.own new.own at.stage c.next-self.result at.is_due false 1 (told_cost + 2) (told_cost + 1) most
           (ap (λ s. read_stages s at.is_due) c.requires.stage) (ap (λ s. read_stages s false) is) (omega arith)),
     )
+
+pub returns-then-vdev_io_assess_read-clause-stages : goal.returns-then-vdev_io_assess_read-clause-stages
+returns-then-vdev_io_assess_read-clause-stages c = inr (subst MayGoBack (sym c.requires.stage) tt, refl)
+
+pub returns-clause-stages : goal.returns-clause-stages
+returns-clause-stages c = inl (read_leads c.args.self.now VdevIoAssess c.next-self.result c.requires.kind c.requires.stage (lit≤ tt) c.next-self.ensures)

@@ -1,4 +1,4 @@
-use Rattle.std.proofs.Common.{◌≡◌, ◌+◌, true, refl, sym, ap, subst, ◌∙◌, arith}
+use Rattle.std.proofs.Common.{◌+◌, true, refl, sym, ap, subst, arith, lit≤}
 use Rattle.zio_masks.specs.declared.stage.Stage.{Stage}
 use Rattle.zio_masks.specs.declared.stage.Stage.TheVariants.{Ready, VdevIoStart}
 use Rattle.zio_graph.specs.Stages.{told_cost}
@@ -8,24 +8,26 @@ use Rattle.zio_nodes.specs.Told.{is_told}
 use Rattle.zio_nodes.proofs.OwnLefts.{read_less}
 use Rattle.zio_nodes.proofs.OwnOver.{handed_at, is_read, not_start, read_no_write, read_over, read_stands}
 use Rattle.zio_nodes.proofs.ReadStages.{read_told, stage_less}
+use Rattle.zio_nodes.proofs.StageLeads.{read_leads}
 use Rattle.zio_nodes.proofs.request_at.RequestAt.read_ready.Goals as goal
 
 pub tell_none-requires : goal.tell_none-requires
 tell_none-requires c =
-    let at = c.args.self in
+    let at = c.args.self.now in
     let r = at.node in
     let work = is_read r.waiting.request.work c.requires.kind in
     let behind = not_start at.stage Ready c.requires.stage (λ e. cc) in
     record {
       other = read_no_write r.waiting.request.work work;
       handed = handed_at c.requires.over.0 at c.requires.over.1 behind;
-      before = ap is_told c.requires.stage;
+      stage = c.requires.stage;
+      leads = read_leads at Ready c.next-to.result c.requires.kind c.requires.stage (lit≤ tt) c.next-to.ensures;
       behind = ap is_told (read_told c.next-to.result c.next-to.ensures);
     }
 
 pub returns-clause-over : goal.returns-clause-over
 returns-clause-over c = λ tops h.
-    let at = c.args.self in
+    let at = c.args.self.now in
     let r = at.node in
     let work = is_read r.waiting.request.work c.requires.kind in
     let behind = not_start at.stage Ready c.requires.stage (λ e. cc) in
@@ -35,7 +37,7 @@ returns-clause-over c = λ tops h.
 
 pub returns-clause-left : goal.returns-clause-left
 returns-clause-left c =
-    let at = c.args.self in
+    let at = c.args.self.now in
     let r = at.node in
     let work = is_read r.waiting.request.work c.requires.kind in
     let behind = not_start at.stage Ready c.requires.stage (λ e. cc) in

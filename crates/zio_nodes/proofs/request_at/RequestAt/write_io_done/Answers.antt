@@ -1,4 +1,4 @@
-use Rattle.std.proofs.Common.{◌≡◌, Bool, ap, arith, false, refl, subst, sym, true, ◌∙◌}
+use Rattle.std.proofs.Common.{◌≡◌, Bool, ap, arith, false, refl, subst, sym, true, ◌∙◌, inl, inr}
 use Rattle.zio_masks.specs.declared.stage.Stage.TheVariants.{VdevIoAssess, VdevIoDone, VdevIoStart}
 use Rattle.zio_nodes.specs.Bounds.{due_left}
 use Rattle.zio_nodes.specs.Told.{is_told}
@@ -7,11 +7,13 @@ use Rattle.zio_nodes.proofs.BoundLemmas.{vdev_counts}
 use Rattle.zio_nodes.proofs.RequestMoves.{request_goes}
 use Rattle.zio_nodes.proofs.StageLemmas.{write_done}
 use Rattle.zio_nodes.proofs.WriteLemmas.{all_out, is_due_now, stands_in, stands_to, write_less}
+use Rattle.zio_nodes.proofs.StageLeads.{write_leads}
+use Rattle.zio_nodes.specs.StageMoves.{MayGoBack}
 use Rattle.zio_nodes.proofs.request_at.RequestAt.write_io_done.Goals as goal
 
 pub vdev_io_done_write-requires-clause-issued : goal.vdev_io_done_write-requires-clause-issued
 vdev_io_done_write-requires-clause-issued c =
-    let at = c.args.self in
+    let at = c.args.self.now in
     (stands_in c.args.tops.now at.stage VdevIoDone at.is_due at.node c.requires.kind c.requires.stage tt c.requires.over.stands).1
 
 pub returns-in-Wait-clause-moves : goal.returns-in-Wait-clause-moves
@@ -21,11 +23,11 @@ returns-in-Wait-clause-moves c = λ t st now. record {
 }
 
 pub returns-in-More-clause-moves : goal.returns-in-More-clause-moves
-returns-in-More-clause-moves c = λ t st now. request_goes t st c.args.self _ now.is (sym (ap is_told c.requires.stage)) refl
+returns-in-More-clause-moves c = λ t st now. request_goes t st c.args.self.now _ now.is (sym (ap is_told c.requires.stage)) refl
 
 pub returns-in-More-clause-over : goal.returns-in-More-clause-over
 returns-in-More-clause-over c =
-    let at = c.args.self in
+    let at = c.args.self.now in
     let tops = c.args.tops.now in
     let h = stands_in tops at.stage VdevIoDone at.is_due at.node c.requires.kind c.requires.stage tt c.requires.over.stands in
     record {
@@ -36,7 +38,7 @@ returns-in-More-clause-over c =
 
 pub returns-in-More-clause-left : goal.returns-in-More-clause-left
 returns-in-More-clause-left c =
-    let at = c.args.self in
+    let at = c.args.self.now in
     let tops = c.args.tops.now in
     let h = stands_in tops at.stage VdevIoDone at.is_due at.node c.requires.kind c.requires.stage tt c.requires.over.stands in
     let after : RequestAt = record { node = at.node; stage = VdevIoStart; is_due = true } in
@@ -45,21 +47,27 @@ returns-in-More-clause-left c =
 
 pub returns-in-On-clause-moves : goal.returns-in-On-clause-moves
 returns-in-On-clause-moves c = λ t st now.
-    request_goes t st c.args.self _ now.is (ap is_told (write_done c.next.result c.next.ensures) ∙ sym (ap is_told c.requires.stage)) refl
+    request_goes t st c.args.self.now _ now.is (ap is_told (write_done c.next-self.result c.next-self.ensures) ∙ sym (ap is_told c.requires.stage)) refl
 
 pub returns-in-On-clause-over : goal.returns-in-On-clause-over
 returns-in-On-clause-over c =
-    let at = c.args.self in
+    let at = c.args.self.now in
     let tops = c.args.tops.now in
     let h = stands_in tops at.stage VdevIoDone at.is_due at.node c.requires.kind c.requires.stage tt c.requires.over.stands in
     record {
       over = c.requires.over.over;
-      stands = stands_to tops c.next.result VdevIoAssess false at.node c.requires.kind (write_done c.next.result c.next.ensures) tt
+      stands = stands_to tops c.next-self.result VdevIoAssess false at.node c.requires.kind (write_done c.next-self.result c.next-self.ensures) tt
           (all_out tops at.stage VdevIoDone at.is_due at.node c.requires.stage tt c.requires.over.stands) (h.0, h.1, c.vdev_io_done_write.ensures.due c.in-On.is);
     }
 
 pub returns-in-On-clause-left : goal.returns-in-On-clause-left
 returns-in-On-clause-left c =
-    let at = c.args.self in
-    let after : RequestAt = record { node = at.node; stage = c.next.result; is_due = false } in
-    write_less at after VdevIoDone VdevIoAssess c.requires.kind c.requires.kind c.requires.stage (write_done c.next.result c.next.ensures) tt tt refl (omega arith)
+    let at = c.args.self.now in
+    let after : RequestAt = record { node = at.node; stage = c.next-self.result; is_due = false } in
+    write_less at after VdevIoDone VdevIoAssess c.requires.kind c.requires.kind c.requires.stage (write_done c.next-self.result c.next-self.ensures) tt tt refl (omega arith)
+
+pub returns-in-More-clause-stages : goal.returns-in-More-clause-stages
+returns-in-More-clause-stages c = inr (subst MayGoBack (sym c.requires.stage) tt, refl)
+
+pub returns-in-On-clause-stages : goal.returns-in-On-clause-stages
+returns-in-On-clause-stages c = inl (write_leads c.args.self.now VdevIoDone c.next-self.result c.requires.kind c.requires.stage c.next-self.ensures)

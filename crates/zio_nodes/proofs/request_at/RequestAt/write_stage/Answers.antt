@@ -1,64 +1,55 @@
 use Rattle.std.proofs.Common.{refl}
+use Rattle.zio_nodes.specs.Nodes.{moved}
 use Rattle.zio_nodes.specs.declared.node.Node.TheVariants.{Request}
-use Rattle.zio_nodes.proofs.NodeLemmas.{bare_move, bare_moves, bare_stays}
+use Rattle.zio_nodes.proofs.NodeLemmas.{bare_move, turn_moves, turn_stays}
 use Rattle.zio_nodes.proofs.request_at.RequestAt.write_stage.Goals as goal
 
 pub returns-in-WriteBpInit-clause-moves : goal.returns-in-WriteBpInit-clause-moves
 returns-in-WriteBpInit-clause-moves g c =
     let tops = g.S.Services.tops c.args.services.now in
-    bare_move g.S.Services.made tops tops c.args.services.now (Request c.args.self) c.write_bp_init.result refl (g.met.S.Services.made_none c.args.services.now) (c.write_bp_init.ensures.moves tops)
+    bare_move g.S.Services.made tops tops c.args.services.now (Request c.args.self.now) (moved (Request c.write_bp_init.new.self) c.write_bp_init.result) refl (g.met.S.Services.made_none c.args.services.now) (c.write_bp_init.ensures.moves tops)
 
 pub returns-in-IssueAsync-clause-moves : goal.returns-in-IssueAsync-clause-moves
 returns-in-IssueAsync-clause-moves g c =
     let tops = g.S.Services.tops c.args.services.now in
-    bare_move g.S.Services.made tops tops c.args.services.now (Request c.args.self) c.issue_async.result refl (g.met.S.Services.made_none c.args.services.now) (c.issue_async.ensures.moves tops)
+    bare_move g.S.Services.made tops tops c.args.services.now (Request c.args.self.now) (moved (Request c.issue_async.new.self) c.issue_async.result) refl (g.met.S.Services.made_none c.args.services.now) (c.issue_async.ensures.moves tops)
 
 pub returns-in-ChecksumGenerate-clause-moves : goal.returns-in-ChecksumGenerate-clause-moves
 returns-in-ChecksumGenerate-clause-moves g c =
     let tops = g.S.Services.tops c.args.services.now in
-    bare_move g.S.Services.made tops tops c.args.services.now (Request c.args.self) c.checksum_generate.result refl (g.met.S.Services.made_none c.args.services.now) (c.checksum_generate.ensures.moves tops)
+    bare_move g.S.Services.made tops tops c.args.services.now (Request c.args.self.now) (moved (Request c.checksum_generate.new.self) c.checksum_generate.result) refl (g.met.S.Services.made_none c.args.services.now) (c.checksum_generate.ensures.moves tops)
 
 pub returns-in-Ready-clause-moves : goal.returns-in-Ready-clause-moves
 returns-in-Ready-clause-moves g c =
     let tops = g.S.Services.tops c.args.services.now in
-    bare_move g.S.Services.made tops tops c.args.services.now (Request c.args.self) c.write_ready.result refl (g.met.S.Services.made_none c.args.services.now) (c.write_ready.ensures.moves tops)
+    bare_move g.S.Services.made tops tops c.args.services.now (Request c.args.self.now) (moved (Request c.write_ready.new.self) c.write_ready.result) refl (g.met.S.Services.made_none c.args.services.now) (c.write_ready.ensures.moves tops)
 
 pub returns-in-WriteCompress-clause-moves : goal.returns-in-WriteCompress-clause-moves
 returns-in-WriteCompress-clause-moves g c =
     let tops = g.S.Services.tops c.args.services.now in
-    bare_moves g.S.Services.made tops tops c.args.services.now (Request c.args.self) c.write_compress.result refl (g.met.S.Services.made_none c.args.services.now) (c.write_compress.ensures.moves tops)
+    turn_moves g.S.Services.made tops tops c.args.services.now (Request c.args.self.now) (Request c.write_compress.new.self) c.write_compress.result refl (g.met.S.Services.made_none c.args.services.now) (c.write_compress.ensures.moves tops)
 
 pub returns-in-WriteCompress-clause-refused : goal.returns-in-WriteCompress-clause-refused
 returns-in-WriteCompress-clause-refused g c =
     let tops = g.S.Services.tops c.args.services.now in
-    bare_stays g.S.Services.made tops tops c.args.services.now (Request c.args.self) c.write_compress.result refl (g.met.S.Services.made_none c.args.services.now) (c.write_compress.ensures.refused tops)
-
-pub returns-in-Done-2-clause-moves : goal.returns-in-Done-2-clause-moves
-returns-in-Done-2-clause-moves g c =
-    let tops = g.S.Services.tops c.args.services.now in
-    bare_moves g.S.Services.made tops tops c.args.services.now (Request c.args.self) c.write_done.result refl (g.met.S.Services.made_none c.args.services.now) (c.write_done.ensures.moves tops)
-
-pub returns-in-Done-2-clause-refused : goal.returns-in-Done-2-clause-refused
-returns-in-Done-2-clause-refused g c =
-    let tops = g.S.Services.tops c.args.services.now in
-    bare_stays g.S.Services.made tops tops c.args.services.now (Request c.args.self) c.write_done.result refl (g.met.S.Services.made_none c.args.services.now) (c.write_done.ensures.refused tops)
+    turn_stays g.S.Services.made tops tops c.args.services.now (Request c.args.self.now) (Request c.write_compress.new.self) c.write_compress.result refl (g.met.S.Services.made_none c.args.services.now) (c.write_compress.ensures.refused tops)
 
 pub returns-in-VdevIoStart-clause-moves : goal.returns-in-VdevIoStart-clause-moves
 returns-in-VdevIoStart-clause-moves g c =
-    bare_moves g.S.Services.made (g.S.Services.tops c.args.services.now) c.tops.result.now c.args.services.now (Request c.args.self) c.write_io_start.result c.tops.ensures
+    turn_moves g.S.Services.made (g.S.Services.tops c.args.services.now) c.tops.result.now c.args.services.now (Request c.args.self.now) (Request c.write_io_start.new.self) c.write_io_start.result c.tops.ensures
     (g.met.S.Services.made_none c.args.services.now) c.write_io_start.ensures.moves
 
 pub returns-in-VdevIoStart-clause-refused : goal.returns-in-VdevIoStart-clause-refused
 returns-in-VdevIoStart-clause-refused g c =
-    bare_stays g.S.Services.made (g.S.Services.tops c.args.services.now) c.tops.result.now c.args.services.now (Request c.args.self) c.write_io_start.result c.tops.ensures
+    turn_stays g.S.Services.made (g.S.Services.tops c.args.services.now) c.tops.result.now c.args.services.now (Request c.args.self.now) (Request c.write_io_start.new.self) c.write_io_start.result c.tops.ensures
     (g.met.S.Services.made_none c.args.services.now) c.write_io_start.ensures.refused
 
 pub returns-in-VdevIoDone-clause-moves : goal.returns-in-VdevIoDone-clause-moves
 returns-in-VdevIoDone-clause-moves g c =
-    bare_move g.S.Services.made (g.S.Services.tops c.args.services.now) c.tops-in-VdevIoDone.result.now c.args.services.now (Request c.args.self) c.write_io_done.result
+    bare_move g.S.Services.made (g.S.Services.tops c.args.services.now) c.tops-in-VdevIoDone.result.now c.args.services.now (Request c.args.self.now) (moved (Request c.write_io_done.new.self) c.write_io_done.result)
     c.tops-in-VdevIoDone.ensures (g.met.S.Services.made_none c.args.services.now) c.write_io_done.ensures.moves
 
 pub returns-in-VdevIoAssess-clause-moves : goal.returns-in-VdevIoAssess-clause-moves
 returns-in-VdevIoAssess-clause-moves g c =
-    bare_move g.S.Services.made (g.S.Services.tops c.args.services.now) c.tops-in-VdevIoAssess.result.now c.args.services.now (Request c.args.self) c.write_io_assess.result
+    bare_move g.S.Services.made (g.S.Services.tops c.args.services.now) c.tops-in-VdevIoAssess.result.now c.args.services.now (Request c.args.self.now) (moved (Request c.write_io_assess.new.self) c.write_io_assess.result)
     c.tops-in-VdevIoAssess.ensures (g.met.S.Services.made_none c.args.services.now) c.write_io_assess.ensures.moves

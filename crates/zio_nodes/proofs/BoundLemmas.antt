@@ -2,7 +2,7 @@
 use Rattle.std.proofs.Common.{◌≡◌, ℕ, zero, suc, mul-suc, ap, ◌∙◌, ◌-◌, ◌*◌, ◌≤◌, ◌+◌, ◌<◌, List, [], ◌∷◌, Bool, true, false, cond, ◌&&◌, ◌||◌, not, Some, None, refl, arith}
 use Rattle.std.specs.List.{list_any}
 use Rattle.zio_types.specs.declared.request.ChildKind.{ChildKind}
-use Rattle.zio_types.specs.declared.request.ChildKind.TheVariants.{Gang, Logical, Vdev}
+use Rattle.zio_types.specs.declared.request.ChildKind.TheVariants.{Vdev}
 use Rattle.zio_types.specs.declared.request.Phase.{Phase}
 use Rattle.zio_types.specs.declared.request.Phase.TheVariants.{Done, Ready}
 use Rattle.zio_types.specs.Machine.{same_kind}

@@ -1,11 +1,11 @@
 -- A claim as a node at a stage: how far it is, and how often it runs.
-use Rattle.std.proofs.Common.{◌≡◌, ℕ, ◌+◌, ◌≤◌, ◌⊎◌, inl, inr, Bool, Option, Some, None, refl, sym, ap, subst, ◌∙◌, arith}
+use Rattle.std.proofs.Common.{◌≡◌, ℕ, ◌+◌, ◌≤◌, inl, inr, Bool, Option, Some, None, refl, sym, ap, subst, ◌∙◌, arith}
 use Rattle.zio_masks.specs.declared.stage.Stage.{Stage}
 use Rattle.zio_masks.specs.declared.stage.Stage.TheVariants.{DvaClaim, Done, GangAssemble, GangIssue, Ready}
 use Rattle.zio_gang.specs.declared.tree.Tree.{Tree}
 use Rattle.zio_graph.specs.Stages.{told_cost}
 use Rattle.zio_stages.specs.OwnClaims.{HasClaimEnded}
-use Rattle.zio_stages.specs.RequestClaims.{HasEndedClaim, IsClaimWith, IsClaimingWith, IsDueOrClaim, IsPastDue, IsPastWalk, IsWalkDue}
+use Rattle.zio_stages.specs.RequestClaims.{HasEndedClaim, IsClaimWith, IsClaimingWith, IsDueOrClaim, IsPastDue, IsWalkDue}
 use Rattle.zio_stages.specs.RequestReads.{HasFound}
 use Rattle.zio_stages.specs.RequestStages.{with_own}
 use Rattle.zio_stages.specs.declared.request_node.RequestNode.{RequestNode}
@@ -15,7 +15,7 @@ use Rattle.zio_stages.specs.declared.own_claim.OwnClaim.{OwnClaim}
 use Rattle.zio_stages.specs.declared.request_node.Own.{Own}
 use Rattle.zio_stages.specs.declared.request_node.Own.TheVariants.{Claim, Due, Found, Free, Over, Read, Stored, Write}
 use Rattle.zio_nodes.specs.Bounds.{walk_max}
-use Rattle.zio_nodes.specs.OwnAts.{HasClaimWalked, IsAnyClaim, IsClaimAtStage, IsClaimBegun}
+use Rattle.zio_nodes.specs.OwnAts.{IsAnyClaim, IsClaimAtStage, IsClaimBegun}
 use Rattle.zio_nodes.specs.OwnBounds.{claim_stages, claim_walk_left, claiming_left, walk_share}
 
 -- ---- how far

@@ -11,24 +11,21 @@ use Rattle.zio_script.specs.Requests.{kind_of}
 use Rattle.zio_script.specs.declared.script.Work.{Work}
 use Rattle.zio_script.specs.declared.script.Work.TheVariants.{Null, Read, Write, Free, Claim}
 use Rattle.zio_disks.proofs.WriteLemmas.{worst_there}
-use Rattle.zio_gang.specs.declared.tree.Tree.{Tree}
-use Rattle.zio_gang.specs.Attempts.{Child, Pending, Terms, all_bits, bits_of, children_of, finished_of, has_bits, insert_children}
-use Rattle.zio_trace.specs.Families.{Forest}
-use Rattle.zio_trace.specs.Tasks.{Attempt, AttemptedBy, Task}
+use Rattle.zio_gang.specs.Attempts.{Child, Terms, all_bits, bits_of, children_of, finished_of, has_bits, insert_children}
+use Rattle.zio_trace.specs.Tasks.{AttemptedBy}
 use Rattle.zio_children.specs.RequestKids.{child_of, finished_in, return_by, returns_in}
 use Rattle.zio_children.specs.declared.kept.KeptChild.{KeptChild}
 use Rattle.zio_children.specs.declared.kids.Kid.{Kid}
 use Rattle.zio_frames.specs.Frames.{Stack}
 use Rattle.zio_frames.specs.Slots.{Heard, IsOut, Slot}
 use Rattle.zio_stages.specs.Closings.{outcome_of}
-use Rattle.zio_stages.specs.Outcomes.{IsNoAttemptIn, freed_by, freed_if, freed_of, held_by, made_by, places_in}
+use Rattle.zio_stages.specs.Outcomes.{IsNoAttemptIn, freed_by, freed_if, freed_of, held_by, made_by}
 use Rattle.zio_stages.specs.OwnFounds.{own_got}
 use Rattle.zio_stages.specs.OwnParts.{IsNoWrite}
 use Rattle.zio_stages.specs.RequestNodes.{Closes, IsRequestNode}
-use Rattle.zio_stages.specs.RequestOwns.{IsFoundOwn, IsNoneAfter, MakesBlock}
+use Rattle.zio_stages.specs.RequestOwns.{IsNoneAfter, MakesBlock}
 use Rattle.zio_stages.specs.RequestStoreds.{is_well, keeps_block, own_in}
 use Rattle.zio_stages.specs.StoredBlocks.{block_places}
-use Rattle.zio_stages.specs.Waits.{pending_of}
 use Rattle.zio_stages.specs.declared.request_node.Closed.{Closed}
 use Rattle.zio_stages.specs.declared.request_node.Closed.TheVariants.{Again, Finished}
 use Rattle.zio_stages.specs.declared.request_node.Own.{Own}

@@ -1,6 +1,6 @@
 -- What goes again of a request, and of the tree under it, lies over the tops.
-use Rattle.std.proofs.Common.{◌≡◌, ℕ, zero, suc, ◌+◌, List, [], ◌∷◌, ◌++◌, length, map, reverse, Bool, true, false, ◌&&◌, not, cond, ◌≤◌, Option, Some, None, is_some, nat_le, refl, sym, ap, subst, ◌∙◌, arith, length-append, zero-add}
-use Rattle.std.specs.List.{AllByRecursion, list_all}
+use Rattle.std.proofs.Common.{◌≡◌, ℕ, suc, ◌+◌, List, [], ◌∷◌, ◌++◌, length, map, reverse, Bool, true, false, not, cond, ◌≤◌, Option, Some, None, is_some, nat_le, refl, sym, ap, subst, ◌∙◌, arith, length-append, zero-add}
+use Rattle.std.specs.List.{AllByRecursion}
 use Rattle.std.specs.Prelude.{IfSome}
 use Rattle.std.proofs.lemmas.List.{length-map}
 use Rattle.std.proofs.lemmas.List.Elements.{filter-append}
@@ -12,7 +12,7 @@ use Rattle.zio_script.specs.Requests.{kind_of}
 use Rattle.zio_script.specs.Whys.{fits_work, is_write, size_with}
 use Rattle.zio_gang.specs.Attempts.{Child, Return, children_of, finished_of, has_bits, insert_children}
 use Rattle.zio_gang.specs.ByNumber.{insert_by, insert_if}
-use Rattle.zio_children.specs.RequestKids.{KidsUnderWay, bits_by, child_of, finished_in, is_ended, return_by, returns_in}
+use Rattle.zio_children.specs.RequestKids.{KidsUnderWay, bits_by, child_of, finished_in, return_by, returns_in}
 use Rattle.zio_children.specs.declared.kids.Kid.{Kid}
 use Rattle.zio_stages.specs.KidLists.{AreMarked, IsLeftList, LeavesList}
 use Rattle.zio_stages.specs.KidTrees.{trees_left}

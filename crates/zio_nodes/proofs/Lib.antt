@@ -11,6 +11,7 @@ pub mod GivenBack
 pub mod HeadsLemmas
 pub mod KidMarks
 pub mod LeafLemmas
+pub mod LeavesOut
 pub mod LeftLemmas
 pub mod NodeLemmas
 pub mod NullLemmas
@@ -38,8 +39,10 @@ pub mod RequestEndings
 pub mod RequestMoves
 pub mod RequestStill
 pub mod Settles
+pub mod StageAllows
 pub mod StageLeads
 pub mod StageLemmas
+pub mod Stalling
 pub mod StartLemmas
 pub mod StoredLemmas
 pub mod TreeAtLemmas

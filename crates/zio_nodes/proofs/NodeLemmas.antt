@@ -1,13 +1,17 @@
 -- Stages of a node that ask nothing of the space.
-use Rattle.std.proofs.Common.{◌≡◌, List, [], Result, Ok, Err, sym, subst}
+use Rattle.std.proofs.Common.{◌≡◌, List, [], ◌∷◌, Result, Ok, Err, refl, sym, subst}
 use Rattle.std.specs.Prelude.{IfErr, IfOk, OnErr}
+use Rattle.zio_types.specs.declared.place.Place.{Place}
 use Rattle.zio_types.specs.declared.place.Top.{Top}
+use Rattle.zio_masks.specs.declared.stage.Stage.{Stage}
+use Rattle.zio_masks.specs.declared.stage.Stage.TheVariants.{Start, ReadBpInit, WriteBpInit, FreeBpInit, IssueAsync, WriteCompress, ChecksumGenerate, GangAssemble, GangIssue, DvaAllocate, DvaFree, DvaClaim, Ready, VdevIoStart, VdevIoDone, VdevIoAssess, ChecksumVerify, Done}
 use Rattle.zio_gang.specs.Attempts.{Terms}
 use Rattle.zio_frames.specs.Frames.{Stack}
 use Rattle.zio_graph.specs.Stages.{GoesOn, IsMove, IsNow}
 use Rattle.zio_graph.specs.declared.staged.Move.{Move}
-use Rattle.zio_stages.specs.SpaceCalls.{SpaceCall}
+use Rattle.zio_stages.specs.SpaceCalls.{AreReturns, SpaceCall, calls_back}
 use Rattle.zio_nodes.specs.Nodes.{MovesBare, MovesWith, StaysBare, StaysWith, gave_of, moved, nodes}
+use Rattle.zio_nodes.specs.StageMoves.{CallsFit, stage_of}
 use Rattle.zio_nodes.specs.declared.node.Node.{Node}
 use Rattle.zio_nodes.specs.declared.turn.Turn.{Turn}
 
@@ -26,6 +30,32 @@ stayed_bare tops lent self node r after same is err h =
     let at : StaysBare lent node after = subst P err h in
     let over : StaysBare tops node after = subst (λ (ts : List Top). StaysBare ts node after) is at in
     subst (λ (n : Node). StaysBare tops n after) (sym same) over
+
+-- ---- which calls a stage makes
+
+pub no_calls : (stage : Stage) → CallsFit stage []
+no_calls Start = refl
+no_calls ReadBpInit = refl
+no_calls WriteBpInit = refl
+no_calls FreeBpInit = refl
+no_calls IssueAsync = refl
+no_calls WriteCompress = refl
+no_calls ChecksumGenerate = refl
+no_calls GangAssemble = refl
+no_calls GangIssue = refl
+no_calls DvaAllocate = tt
+no_calls DvaFree = tt
+no_calls DvaClaim = tt
+no_calls Ready = refl
+no_calls VdevIoStart = refl
+no_calls VdevIoDone = refl
+no_calls VdevIoAssess = refl
+no_calls ChecksumVerify = refl
+no_calls Done = tt
+
+pub all_returns : (places : List Place) → AreReturns (calls_back places)
+all_returns [] = tt
+all_returns (p ∷ ps) = (tt, all_returns ps)
 
 -- ---- stages that call the space
 
@@ -47,23 +77,23 @@ stayed_with made tops a b self node r after same err h =
     let over : StaysWith made tops a b self after = subst (λ (n : Node). StaysWith made tops a b n after) (sym same) at in
     (over.calls, over.were_made, over.goes)
 
--- a stage that makes none
+-- a stage that makes none, which any may
 pub bare_moves : {S : Type 0} (made : S → List SpaceCall → S → Type 0) (tops lent : List Top) (a : S) (node : Node) (r : Result (Move Node) Node) → lent ≡ tops → made a [] a
     → IfOk r (MovesBare lent node) → IfOk r (MovesWith made tops a a node)
 bare_moves made tops lent a node (Ok move) same none h =
-    record { calls = []; were_made = none; moves = subst (λ (ts : List Top). MovesBare ts node move) same h }
+    record { calls = []; were_made = none; fits = no_calls (stage_of node); moves = subst (λ (ts : List Top). MovesBare ts node move) same h }
 bare_moves made tops lent a node (Err after) same none h = tt
 
 pub bare_stays : {S : Type 0} (made : S → List SpaceCall → S → Type 0) (tops lent : List Top) (a : S) (node : Node) (r : Result (Move Node) Node) → lent ≡ tops → made a [] a
     → IfErr r (StaysBare lent node) → IfErr r (StaysWith made tops a a node)
 bare_stays made tops lent a node (Ok move) same none h = tt
 bare_stays made tops lent a node (Err after) same none h =
-    record { calls = []; were_made = none; goes = subst (λ (ts : List Top). StaysBare ts node after) same h }
+    record { calls = []; were_made = none; fits = no_calls (stage_of node); goes = subst (λ (ts : List Top). StaysBare ts node after) same h }
 
 pub bare_move : {S : Type 0} (made : S → List SpaceCall → S → Type 0) (tops lent : List Top) (a : S) (node : Node) (move : Move Node) → lent ≡ tops → made a [] a
     → MovesBare lent node move → MovesWith made tops a a node move
 bare_move made tops lent a node move same none h =
-    record { calls = []; were_made = none; moves = subst (λ (ts : List Top). MovesBare ts node move) same h }
+    record { calls = []; were_made = none; fits = no_calls (stage_of node); moves = subst (λ (ts : List Top). MovesBare ts node move) same h }
 
 -- ---- in its place
 
@@ -76,4 +106,4 @@ pub turn_stays : {S E : Type 0} (made : S → List SpaceCall → S → Type 0) (
     → OnErr r (StaysBare lent node after) → OnErr r (StaysWith made tops a a node after)
 turn_stays made tops lent a node after (Ok turn) same none h = tt
 turn_stays made tops lent a node after (Err e) same none h =
-    record { calls = []; were_made = none; goes = subst (λ (ts : List Top). StaysBare ts node after) same h }
+    record { calls = []; were_made = none; fits = no_calls (stage_of node); goes = subst (λ (ts : List Top). StaysBare ts node after) same h }

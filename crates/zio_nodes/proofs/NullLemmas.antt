@@ -1,6 +1,6 @@
 -- A null in an attempt, stage by stage.
-use Rattle.std.proofs.Common.{◌≡◌, ℕ, ◌≤◌, ◌<◌, ◌+◌, ◌*◌, List, [], ◌++◌, length, Bool, true, false, Option, Some, None, refl, sym, ap, subst, ◌∙◌, arith, append-nil}
-use Rattle.std.specs.List.{AllByRecursion, flat_map, list_all}
+use Rattle.std.proofs.Common.{◌≡◌, ℕ, List, [], ◌++◌, Bool, true, false, Option, Some, None, refl, sym, ap, subst, ◌∙◌}
+use Rattle.std.specs.List.{flat_map}
 use Rattle.std.specs.Prelude.{IsPermutation, is_none}
 use Rattle.std.proofs.lemmas.List.Sorted.{IsPermutation-refl}
 use Rattle.zio_types.specs.declared.place.Place.{Place}
@@ -14,29 +14,21 @@ use Rattle.zio_script.specs.declared.script.Work.{Work}
 use Rattle.zio_script.specs.declared.script.Work.TheVariants.{Null, Read, Write, Free, Claim}
 use Rattle.zio_gang.specs.declared.tree.Tree.{Tree}
 use Rattle.zio_gang.specs.Attempts.{Terms, tree_unless}
-use Rattle.zio_trace.specs.Tasks.{Attempt}
-use Rattle.zio_children.specs.RequestKids.{is_ended}
 use Rattle.zio_frames.specs.Frames.{Stack}
 use Rattle.zio_stages.specs.Closings.{outcome_of}
-use Rattle.zio_stages.specs.KidLists.{LeavesList}
 use Rattle.zio_stages.specs.Outcomes.{freed_by, freed_if, freed_of, held_by, made_by, places_in}
 use Rattle.zio_stages.specs.OwnParts.{IsNoWrite}
-use Rattle.zio_stages.specs.RequestNodes.{Closes, IsRequestNode}
+use Rattle.zio_stages.specs.RequestNodes.{IsRequestNode}
 use Rattle.zio_stages.specs.RequestStoreds.{own_in}
 use Rattle.zio_stages.specs.StoredBlocks.{block_places}
-use Rattle.zio_stages.specs.Waits.{pending_of}
-use Rattle.zio_stages.specs.declared.outcome.Outcome.{Outcome}
-use Rattle.zio_stages.specs.declared.outcome.Outcome.TheVariants.{Again as GoesAgain, Finished as HasFinished}
 use Rattle.zio_stages.specs.declared.request_node.Closed.{Closed}
 use Rattle.zio_stages.specs.declared.request_node.Closed.TheVariants.{Again, Finished}
 use Rattle.zio_stages.specs.declared.request_node.Own.TheVariants.{Due}
-use Rattle.zio_stages.specs.declared.request_node.OwnFound.{OwnFound}
 use Rattle.zio_stages.specs.declared.request_node.RequestNode.{RequestNode}
 use Rattle.zio_stages.proofs.KidAsking.{kids_full}
 use Rattle.zio_graph.specs.Parts.{ended_in_slot}
 use Rattle.zio_nodes.specs.RequestAts.{AreOutBehind, NullStands, RequestStands, StandsAt, gave_by}
 use Rattle.zio_nodes.specs.RequestBounds.{left_by, null_left, own_at, own_left}
-use Rattle.zio_nodes.specs.declared.node.Node.TheVariants.{Request}
 use Rattle.zio_nodes.specs.declared.request_at.RequestAt.{RequestAt}
 use Rattle.zio_nodes.proofs.RequestEndings.{held_by_own}
 use Rattle.zio_nodes.proofs.StartLemmas.{own_due}

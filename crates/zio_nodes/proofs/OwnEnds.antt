@@ -1,5 +1,5 @@
 -- What a request's own work came to took its place: what that one does from there, it does.
-use Rattle.std.proofs.Common.{◌≡◌, ℕ, ◌≤◌, ◌<◌, ◌+◌, List, [], ◌++◌, Result, Ok, Err, refl, sym, ap, subst, ◌∙◌, arith}
+use Rattle.std.proofs.Common.{◌≡◌, ◌≤◌, List, [], ◌++◌, Result, Ok, Err, sym, ap, subst, ◌∙◌, arith}
 use Rattle.std.specs.Prelude.{IfErr, IfOk}
 use Rattle.zio_types.specs.declared.place.Place.{Place}
 use Rattle.zio_types.specs.declared.place.Top.{Top}
@@ -8,7 +8,7 @@ use Rattle.zio_frames.specs.Frames.{Stack}
 use Rattle.std.specs.Prelude.{IsPermutation}
 use Rattle.zio_stages.specs.Outcomes.{freed_by, held_by, made_by, stored_in}
 use Rattle.zio_stages.specs.RequestNodes.{IsRequestNode}
-use Rattle.zio_graph.specs.Stages.{GoesOn, IsMove, IsNow, Lessens, Stays, told_cost}
+use Rattle.zio_graph.specs.Stages.{GoesOn, IsMove, IsNow, Lessens, Stays}
 use Rattle.zio_graph.specs.declared.staged.Move.{Move}
 use Rattle.zio_graph.specs.declared.staged.Move.TheVariants.{End, Grow, Leaf as ToLeaf, Next, Ready, Wait}
 use Rattle.zio_nodes.specs.Nodes.{MovesBare, StaysBare, gave_of, left_of, nodes}

@@ -1,11 +1,10 @@
 -- How often a read, a free and a claim run once their own work went on, and what they gave back so far.
-use Rattle.std.proofs.Common.{◌≡◌, ℕ, ◌+◌, ◌*◌, ◌≤◌, ◌<◌, List, [], ◌++◌, length, take, Bool, true, false, Option, Some, None, is_none, refl, sym, ap, subst, ◌∙◌, arith}
+use Rattle.std.proofs.Common.{◌≡◌, ℕ, ◌+◌, ◌*◌, ◌≤◌, List, [], ◌++◌, length, take, Bool, Option, Some, is_none, refl, sym, ap, subst, ◌∙◌, arith}
 use Rattle.zio_types.specs.declared.error.Errno.{Errno}
 use Rattle.zio_types.specs.declared.place.Place.{Place}
 use Rattle.zio_masks.specs.declared.stage.Stage.{Stage}
 use Rattle.zio_masks.specs.declared.stage.Stage.TheVariants.{Start}
 use Rattle.zio_script.specs.declared.script.Work.{Work}
-use Rattle.zio_script.specs.declared.script.Work.TheVariants.{Read, Free, Claim}
 use Rattle.zio_gang.specs.declared.tree.Tree.{Tree}
 use Rattle.zio_stages.specs.Outcomes.{freed_if}
 use Rattle.zio_stages.specs.RequestFrees.{freed_by}
@@ -16,11 +15,9 @@ use Rattle.zio_stages.specs.Wholes.{joined}
 use Rattle.zio_stages.specs.declared.request_node.Own.{Own}
 use Rattle.zio_stages.specs.declared.request_node.Own.TheVariants.{Claim as ClaimOwn, Due, Found, Free as FreeOwn, Over, Read as ReadOwn, Stored, Write as WriteOwn}
 use Rattle.zio_stages.specs.declared.request_node.RequestNode.{RequestNode}
-use Rattle.zio_nodes.specs.Nodes.{gave_of}
 use Rattle.zio_nodes.specs.OwnBounds.{claim_left, free_left, read_left}
 use Rattle.zio_nodes.specs.RequestAts.{freed_so_far, gave_by}
 use Rattle.zio_nodes.specs.RequestBounds.{left_by, own_at, own_left, request_left, request_share}
-use Rattle.zio_nodes.specs.declared.node.Node.TheVariants.{Request}
 use Rattle.zio_nodes.specs.declared.request_at.RequestAt.{RequestAt}
 use Rattle.zio_nodes.proofs.OwnOver.{IsClaim, IsFree, IsRead}
 

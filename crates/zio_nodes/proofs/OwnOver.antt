@@ -1,7 +1,6 @@
 -- A read, a free and a claim at a stage: how far each is there, and that one whose own work went on is one at its next stage.
-use Rattle.std.proofs.Common.{◌≡◌, ℕ, List, length, Bool, Option, refl, sym, ap, subst, ◌∙◌}
+use Rattle.std.proofs.Common.{◌≡◌, ℕ, List, length, Bool, refl, sym, ap, subst, ◌∙◌}
 use Rattle.zio_types.specs.declared.place.Top.{Top}
-use Rattle.zio_types.specs.declared.request.Kind.{Kind}
 use Rattle.zio_types.specs.declared.request.Kind.TheVariants.{Read as ReadKind, Free as FreeKind, Claim as ClaimKind}
 use Rattle.zio_types.specs.declared.request.Prio.{Prio}
 use Rattle.zio_masks.specs.declared.stage.Stage.{Stage}
@@ -9,7 +8,6 @@ use Rattle.zio_masks.specs.declared.stage.Stage.TheVariants.{Start}
 use Rattle.zio_script.specs.Requests.{kind_of}
 use Rattle.zio_script.specs.declared.script.Work.{Work}
 use Rattle.zio_script.specs.declared.script.Work.TheVariants.{Null, Read, Write, Free, Claim}
-use Rattle.zio_gang.specs.declared.tree.Tree.{Tree}
 use Rattle.zio_children.specs.RequestKids.{KidsUnderWay}
 use Rattle.zio_stages.specs.OwnParts.{IsNoWrite}
 use Rattle.zio_stages.specs.RequestClaims.{IsClaimWork}
@@ -17,11 +15,9 @@ use Rattle.zio_stages.specs.RequestFrees.{IsFreeWork}
 use Rattle.zio_stages.specs.RequestNodes.{IsOwnOver}
 use Rattle.zio_stages.specs.RequestReads.{IsReadWork}
 use Rattle.zio_stages.specs.RequestStages.{with_own}
-use Rattle.zio_stages.specs.declared.request_node.Own.{Own}
 use Rattle.zio_stages.specs.declared.request_node.RequestNode.{RequestNode}
-use Rattle.zio_stages.specs.declared.waiting.Waiting.{Waiting}
 use Rattle.zio_nodes.specs.OwnAts.{IsClaimAtStage, IsFreeAtStage, IsReadAtStage}
-use Rattle.zio_nodes.specs.RequestAts.{AreOutBehind, IsRequestAtOver, RequestStands, StandsAt}
+use Rattle.zio_nodes.specs.RequestAts.{AreOutBehind, IsRequestAtOver, StandsAt}
 use Rattle.zio_nodes.specs.declared.request_at.RequestAt.{RequestAt}
 use Rattle.zio_nodes.proofs.KidMarks.{over_with_own}
 

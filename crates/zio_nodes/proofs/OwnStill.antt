@@ -1,5 +1,5 @@
 -- How far a read, a free and a claim are, and how often they run, stays while their children's trees go on.
-use Rattle.std.proofs.Common.{◌≡◌, ℕ, ◌+◌, List, Bool, true, Option, sym, ap, subst}
+use Rattle.std.proofs.Common.{◌≡◌, ◌+◌, List, Bool, true, Option, sym, ap, subst}
 use Rattle.std.specs.List.{list_all}
 use Rattle.zio_types.specs.declared.place.Top.{Top}
 use Rattle.zio_masks.specs.declared.stage.Stage.{Stage}
@@ -10,7 +10,6 @@ use Rattle.zio_stages.specs.declared.request_node.Own.{Own}
 use Rattle.zio_stages.specs.declared.request_node.RequestNode.{RequestNode}
 use Rattle.zio_nodes.specs.OwnAts.{ClaimStands, FreeStands, IsClaimAtStage, IsFreeAtStage, IsReadAtStage, ReadStands}
 use Rattle.zio_nodes.specs.OwnBounds.{claim_left, claim_stages, claiming_left, free_left, free_stages, freeing_left, read_left, read_stages, reading_left}
-use Rattle.zio_nodes.specs.declared.request_at.RequestAt.{RequestAt}
 
 -- ---- what stays
 

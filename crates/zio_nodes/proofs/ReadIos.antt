@@ -1,5 +1,5 @@
 -- A read that hands an operation on a leaf to a child: who asks it, and how often the read runs then.
-use Rattle.std.proofs.Common.{◌≡◌, ℕ, ◌+◌, ◌≤◌, List, [], length, Bool, true, false, Option, Some, None, refl, sym, ap, subst, ◌∙◌, arith}
+use Rattle.std.proofs.Common.{◌≡◌, ℕ, ◌≤◌, List, [], length, Bool, true, false, Option, Some, None, refl, sym, ap, subst, ◌∙◌, arith}
 use Rattle.zio_types.specs.declared.place.Top.{Top}
 use Rattle.zio_types.specs.declared.request.ChildKind.TheVariants.{Vdev}
 use Rattle.zio_gang.specs.Attempts.{Terms}
@@ -11,7 +11,7 @@ use Rattle.zio_stages.specs.LeafWorks.{IsLeafWork}
 use Rattle.zio_stages.specs.NodeIos.{StartsBy}
 use Rattle.zio_stages.specs.OwnParts.{DoesThen}
 use Rattle.zio_stages.specs.OwnReads.{IsBodyIn, IsOwnOver as IsBodyOwnOver}
-use Rattle.zio_stages.specs.ReadCounts.{IsNoneDue, IsNoneDueIn, IsOneDue, IsOneDueIn, StartsBody}
+use Rattle.zio_stages.specs.ReadCounts.{IsNoneDue, IsNoneDueIn, IsOneDue, IsOneDueIn}
 use Rattle.zio_stages.specs.ReadIos.{IsReadOver, outs_when}
 use Rattle.zio_stages.specs.RequestNodes.{IsOwnOf, IsOwnOver, IsRequestNode, front_by}
 use Rattle.zio_stages.specs.RequestReads.{IsReadWith, IsReadingWith, ReadsOn}

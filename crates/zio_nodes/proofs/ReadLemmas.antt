@@ -1,7 +1,6 @@
 -- A read as a node at a stage: how far it is, and how often it runs.
-use Rattle.std.proofs.Common.{◌≡◌, ℕ, zero, suc, ◌+◌, ◌-◌, ◌*◌, ◌≤◌, ◌<◌, ◌⊎◌, List, [], ◌∷◌, length, Bool, true, false, Option, Some, None, inl, inr, refl, sym, ap, subst, ◌∙◌, arith}
+use Rattle.std.proofs.Common.{◌≡◌, ℕ, ◌+◌, ◌-◌, ◌*◌, ◌≤◌, List, [], length, Bool, true, false, Option, Some, None, inl, inr, refl, sym, ap, subst, ◌∙◌, arith}
 use Rattle.zio_types.specs.declared.place.Top.{Top}
-use Rattle.zio_masks.specs.declared.stage.Stage.{Stage}
 use Rattle.zio_blkptr.specs.declared.pointer.Bp.{Bp}
 use Rattle.zio_trace.specs.Leaves.{Answer}
 use Rattle.zio_frames.specs.Slots.{told_in}
@@ -11,7 +10,7 @@ use Rattle.zio_parts.specs.declared.tree_read.Phase.TheVariants.{Unread, Out as 
 use Rattle.zio_parts.specs.declared.tree_read.TreeStep.{TreeStep}
 use Rattle.zio_parts.specs.declared.tree_read.TreeStep.TheVariants.{Walk, Body, Wait, End}
 use Rattle.zio_stages.specs.NodeIos.{with_one}
-use Rattle.zio_stages.specs.ReadCounts.{AreHandedOut, AsksMore, AssessesBody, BeginsAgain, BeginsBody, ClosesBody, CountsTheSame, HandsOutBody, HandsOutWalk, HasHandedAll, HasOneBody, HasWalkBegun, IsAgain, IsAskedMore, IsNoBody, IsNoneDue, IsNoneDueIn, MayBegin, StartsBody}
+use Rattle.zio_stages.specs.ReadCounts.{AreHandedOut, BeginsAgain, BeginsBody, ClosesBody, CountsTheSame, HandsOutBody, HandsOutWalk, HasHandedAll, IsAgain, IsAskedMore, IsNoBody, IsNoneDue, IsNoneDueIn, StartsBody}
 use Rattle.zio_stages.specs.RequestReads.{IsAlone, IsReadWith, IsReadingWith, ReadsOn}
 use Rattle.zio_stages.specs.declared.leaf.LeafWork.{LeafWork}
 use Rattle.zio_stages.specs.declared.own_read.BodyIo.{BodyIo}
@@ -19,9 +18,9 @@ use Rattle.zio_stages.specs.declared.own_read.OwnRead.{OwnRead}
 use Rattle.zio_stages.specs.declared.request_node.Own.{Own}
 use Rattle.zio_stages.specs.declared.request_node.Own.TheVariants.{Claim, Due, Found, Free, Over, Read, Stored, Write}
 use Rattle.zio_stages.proofs.ReadCountLemmas.{ended_all}
-use Rattle.zio_nodes.specs.Bounds.{copies_max, leaf_max, leaf_share, pass_left, read_asks_max, walk_max}
+use Rattle.zio_nodes.specs.Bounds.{copies_max, leaf_share, pass_left, read_asks_max, walk_max}
 use Rattle.zio_nodes.specs.OwnAts.{MayReadOne}
-use Rattle.zio_nodes.specs.OwnBounds.{body_left, body_share, read_stages, reading_left, walk_left, walk_share}
+use Rattle.zio_nodes.specs.OwnBounds.{body_left, body_share, reading_left, walk_left, walk_share}
 use Rattle.zio_nodes.specs.ReadBounds.{bodies_max}
 
 -- ---- its own work

@@ -1,5 +1,5 @@
 -- A read as a node at a stage: where it stands behind each of its calls.
-use Rattle.std.proofs.Common.{◌≡◌, ℕ, ◌+◌, ◌-◌, ◌*◌, ◌≤◌, ◌<◌, ◌⊎◌, List, [], length, Bool, true, false, Option, Some, None, inl, inr, refl, sym, ap, subst, ◌∙◌, arith, lit<}
+use Rattle.std.proofs.Common.{◌≡◌, ℕ, ◌+◌, ◌*◌, ◌≤◌, List, length, Bool, true, false, Option, inr, refl, sym, ap, subst, ◌∙◌, arith, lit<}
 use Rattle.zio_types.specs.declared.place.Top.{Top}
 use Rattle.zio_types.specs.declared.request.Kind.TheVariants.{Read as ReadKind}
 use Rattle.zio_masks.specs.declared.pipeline.Pipeline.{Pipeline}
@@ -14,7 +14,7 @@ use Rattle.zio_parts.specs.declared.tree_read.TreeStep.TheVariants.{Walk, Body, 
 use Rattle.zio_parts.specs.declared.tree_read.Phase.{Phase}
 use Rattle.zio_parts.specs.declared.tree_read.Phase.TheVariants.{Unread, Out as WalkOut, Failed as WalkFailed, Found as BodiesFound}
 use Rattle.zio_graph.specs.Stages.{told_cost}
-use Rattle.zio_stages.specs.ReadCounts.{AssessesBody, BeginsAgain, ClosesBody, HandsOutBody, HandsOutWalk, HasBegun, HasHandedAll, HasOneBody, HasWalkBegun, IsMoreToRead, IsUnread, AreHandedOut}
+use Rattle.zio_stages.specs.ReadCounts.{HandsOutBody, HandsOutWalk, HasBegun, HasHandedAll, HasOneBody, HasWalkBegun, IsMoreToRead, IsUnread, AreHandedOut}
 use Rattle.zio_stages.specs.RequestKinds.{has_gang_stages, is_gang_tree}
 use Rattle.zio_stages.specs.RequestReads.{HasFound, IsAlone, IsReadWith, IsReadingWith, ReadsOn}
 use Rattle.zio_stages.specs.declared.own_read.OwnRead.{OwnRead}
@@ -29,7 +29,7 @@ use Rattle.zio_nodes.specs.Told.{is_told}
 use Rattle.zio_nodes.proofs.OwnOver.{IsRead}
 use Rattle.zio_nodes.proofs.OwnStages.{behind_init}
 use Rattle.zio_nodes.proofs.StageLemmas.{next_is}
-use Rattle.zio_nodes.proofs.ReadLemmas.{body_out_less, closes_less, counts_all, read_both, read_map, reading_less, second_less, tree_all, walk_out_less}
+use Rattle.zio_nodes.proofs.ReadLemmas.{body_out_less, read_both, read_map, reading_less, walk_out_less}
 
 -- ---- whatever holds of it
 

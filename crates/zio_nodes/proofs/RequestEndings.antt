@@ -1,25 +1,20 @@
 -- What a request's node ends with: its value, the requests that finished below it, and the places that its attempt came to.
-use Rattle.std.proofs.Common.{◌≡◌, ℕ, zero, suc, List, [], ◌∷◌, ◌++◌, length, take, Bool, true, false, Option, Some, None, refl, sym, ap, subst, ◌∙◌, append_assoc, append-nil, arith}
+use Rattle.std.proofs.Common.{◌≡◌, ℕ, zero, suc, List, [], ◌∷◌, ◌++◌, length, take, refl, sym, ap, subst, ◌∙◌, append_assoc, append-nil, arith}
 use Rattle.std.specs.List.{AllByRecursion, flat_map}
-use Rattle.std.specs.Prelude.{IsPermutation}
 use Rattle.std.proofs.lemmas.Grind.{flat_map-append}
-use Rattle.zio_types.specs.declared.place.Place.{Place}
-use Rattle.zio_types.specs.declared.error.Errno.{Errno}
-use Rattle.zio_gang.specs.Attempts.{Ended, Pending, Terms, tree_unless}
+use Rattle.zio_gang.specs.Attempts.{Ended, Terms, tree_unless}
 use Rattle.zio_trace.specs.Families.{Forest, NoTrees, TreeOf}
-use Rattle.zio_trace.specs.Plans.{add_kid}
 use Rattle.zio_trace.specs.Tasks.{Attempt, AttemptedBy, Find, Leaf, One, ReadCopies, ReadHeads, ReadTree, Settle, TakePlaces, Task, Value, WriteCopies, WritePart, attempted}
-use Rattle.zio_children.specs.RequestKids.{FitKids, FitsState, IsLeftBy, kids_by}
+use Rattle.zio_children.specs.RequestKids.{FitKids, FitsState, kids_by}
 use Rattle.zio_children.specs.declared.kids.Kid.{Kid}
 use Rattle.zio_children.specs.declared.kids.KidState.{KidState}
 use Rattle.zio_children.specs.declared.kids.KidState.TheVariants.{Due, Out, Told, Ended as KidEnded}
 use Rattle.zio_frames.specs.Frames.{Stack}
 use Rattle.zio_frames.specs.Slots.{Heard, IsOut, Slot}
 use Rattle.zio_stages.specs.Closings.{outcome_of}
-use Rattle.zio_stages.specs.KidTrees.{IsKids, attempts_of}
+use Rattle.zio_stages.specs.KidTrees.{attempts_of}
 use Rattle.zio_stages.specs.Outcomes.{AreEndedAs, IsAttempt, IsOutcome, held_by, places_in, places_with}
-use Rattle.zio_stages.specs.RequestNodes.{Closes, IsClosedAs, IsRequestNode, own_got}
-use Rattle.zio_stages.specs.Waits.{pending_of}
+use Rattle.zio_stages.specs.RequestNodes.{IsClosedAs, IsRequestNode}
 use Rattle.zio_stages.specs.declared.request_node.Closed.{Closed}
 use Rattle.zio_stages.specs.declared.request_node.Closed.TheVariants.{Again, Finished}
 use Rattle.zio_stages.specs.declared.request_node.RequestNode.{RequestNode}

@@ -1,5 +1,5 @@
 -- A request's moves: it goes on, waits, hands out a child, tells its pointer, or ends.
-use Rattle.std.proofs.Common.{◌≡◌, ℕ, ◌+◌, ◌<◌, List, [], ◌∷◌, ◌++◌, Bool, true, false, ◌&&◌, not, cond, Option, Some, None, Result, Ok, Err, refl, sym, ap, subst, ◌∙◌, append-nil, arith}
+use Rattle.std.proofs.Common.{◌≡◌, ℕ, List, [], ◌++◌, true, false, Option, Result, Ok, Err, refl, sym, ap, subst, ◌∙◌, append-nil}
 use Rattle.std.specs.List.{flat_map}
 use Rattle.std.specs.Prelude.{IsPermutation, OnErr}
 use Rattle.zio_types.specs.declared.place.Place.{Place}
@@ -7,10 +7,9 @@ use Rattle.zio_types.specs.declared.place.Top.{Top}
 use Rattle.zio_types.specs.declared.request.ChildKind.{ChildKind}
 use Rattle.zio_types.specs.declared.request.Phase.{Phase}
 use Rattle.zio_blkptr.specs.declared.pointer.Bp.{Bp}
-use Rattle.zio_gang.specs.Attempts.{Ended, Terms}
-use Rattle.zio_trace.specs.Conflicts.{is_single}
-use Rattle.zio_trace.specs.Tasks.{Attempt, AttemptedBy, Task}
-use Rattle.zio_frames.specs.Frames.{Child, Frame, Inner, Stack, asking, asking_in, fresh_stack, kind_of_task, needs_none}
+use Rattle.zio_gang.specs.Attempts.{Terms}
+use Rattle.zio_trace.specs.Tasks.{AttemptedBy, Task}
+use Rattle.zio_frames.specs.Frames.{Stack, fresh_stack, kind_of_task, needs_none}
 use Rattle.zio_frames.specs.Moves.{WillHave}
 use Rattle.zio_children.specs.RequestKids.{kids_by}
 use Rattle.zio_stages.specs.Closings.{outcome_of}
@@ -21,7 +20,7 @@ use Rattle.zio_stages.specs.SpaceCalls.{SpaceCall, calls_back, calls_by}
 use Rattle.zio_stages.specs.declared.outcome.Outcome.{Outcome}
 use Rattle.zio_stages.specs.declared.request_node.Closed.{Closed}
 use Rattle.zio_stages.specs.declared.request_node.RequestNode.{RequestNode}
-use Rattle.zio_graph.specs.Parts.{ended_in, ended_in_slot}
+use Rattle.zio_graph.specs.Parts.{ended_in_slot}
 use Rattle.zio_graph.specs.Stages.{Ends, GoesOn, Grows, Tells, Waits}
 use Rattle.zio_nodes.specs.Nodes.{IsNode, StaysBare, StaysWith, gave_of, nodes, told_of}
 use Rattle.zio_nodes.specs.Told.{is_told}
@@ -30,6 +29,7 @@ use Rattle.zio_nodes.specs.declared.node.Node.TheVariants.{Request}
 use Rattle.zio_nodes.specs.declared.request_at.RequestAt.{RequestAt}
 use Rattle.zio_nodes.proofs.BoundLemmas.{owed_counts}
 use Rattle.zio_nodes.proofs.RequestEndings.{ended_as, ended_before, ended_behind, ended_of, is_attempt, shows_outcome}
+use Rattle.zio_nodes.proofs.NodeLemmas.{no_calls}
 
 -- ---- it goes on
 
@@ -56,7 +56,7 @@ pub no_room_with : {S T E : Type 0} (made : S → List SpaceCall → S → Type 
     → made a [] a → OnErr r (StaysWith made tops a a (Request at) (Request at))
 no_room_with made tops a at (Ok x) none = tt
 no_room_with made tops a at (Err e) none =
-    record { calls = []; were_made = none; goes = λ t st now. request_goes t st at at now.is refl refl }
+    record { calls = []; were_made = none; fits = no_calls at.stage; goes = λ t st now. request_goes t st at at now.is refl refl }
 
 -- it did some of its part itself
 pub request_does : (t : Terms) (st : Stack) (at after : RequestAt) (calls : List SpaceCall) → DoesThen t st calls (IsRequestNode t after.node)

@@ -1,15 +1,16 @@
 -- What holds of a move holds of the node that is in its place again.
-use Rattle.std.proofs.Common.{◌≡◌, Result, Ok, Err, sym, subst, ◌∙◌}
+use Rattle.std.proofs.Common.{◌≡◌, Result, Ok, Err, ap, sym, subst, ◌∙◌}
 use Rattle.std.specs.Prelude.{IfErr, IfOk, OnErr, is_ok}
 use Rattle.zio_masks.specs.declared.stage.Stage.TheVariants.{Done}
 use Rattle.zio_graph.specs.declared.staged.Move.{Move}
 use Rattle.zio_graph.specs.declared.staged.Move.TheVariants.{End, Grow, Leaf as ToLeaf, Next, Ready as Tell, Wait}
-use Rattle.zio_nodes.specs.Nodes.{IsInPlace, is_tree, moved}
-use Rattle.zio_nodes.specs.StageMoves.{IsLastMove, IsStageMove, IsStart, stage_of}
+use Rattle.zio_nodes.specs.Nodes.{IsInPlace, moved}
+use Rattle.zio_nodes.specs.StageMoves.{IsLastMove, IsStageMove, IsStart, stage_of, stalls_at}
 use Rattle.zio_nodes.specs.declared.node.Node.{Node}
-use Rattle.zio_nodes.specs.declared.node.Node.TheVariants.{Copies, Empty, Heads, Leaf, Part, Request, Tree}
+use Rattle.zio_nodes.specs.declared.node.Node.TheVariants.{Tree}
 use Rattle.zio_nodes.specs.declared.tree_at.TreeAt.{TreeAt}
 use Rattle.zio_nodes.specs.declared.turn.Turn.{Turn}
+use Rattle.zio_nodes.proofs.StageAllows.{stalls_so}
 
 pub settled : {E : Type 0} (P : Move Node → Type 0) (after : Node) (r : Result (Move Node) Node) (q : Result Turn E) → is_ok q ≡ is_ok r
     → IfOk r (λ move. IfOk q (λ turn. moved after turn ≡ move)) → IfOk r P → IfOk q (λ turn. P (moved after turn))
@@ -38,7 +39,8 @@ last_in_place (Err node) h = tt
 
 last_move_stages : (node : Node) (move : Move Node) → stage_of node ≡ Done → IsLastMove move → IsStageMove node move
 last_move_stages node (Next after) is h = absurd h
-last_move_stages node (Wait after kind phase) is h = h ∙ sym is
+last_move_stages node (Wait after kind phase) is h =
+    (h.0 ∙ sym is, stalls_so (stage_of node) Done kind phase is (ap (stalls_at Done kind) h.1))
 last_move_stages node (Grow after child kind) is h = absurd h
 last_move_stages node (ToLeaf after op leaf bytes) is h = absurd h
 last_move_stages node (Tell after pointer) is h = absurd h

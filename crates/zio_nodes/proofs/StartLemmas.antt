@@ -1,5 +1,5 @@
 -- A request at Start: its children's trees are handed out, and then its own stages begin.
-use Rattle.std.proofs.Common.{◌≡◌, ℕ, ◌≤◌, ◌+◌, List, [], ◌∷◌, length, Bool, true, false, Option, Some, None, refl, sym, ap, subst, ◌∙◌, arith, inl}
+use Rattle.std.proofs.Common.{◌≡◌, ◌≤◌, List, [], ◌∷◌, length, Bool, true, false, Option, Some, None, refl, sym, ap, subst, ◌∙◌, arith, inl}
 use Rattle.zio_types.specs.declared.place.Top.{Top}
 use Rattle.zio_types.specs.declared.request.ChildKind.TheVariants.{Logical}
 use Rattle.zio_masks.specs.declared.stage.Stage.{Stage}
@@ -11,7 +11,7 @@ use Rattle.zio_trace.specs.Conflicts.{is_single}
 use Rattle.zio_trace.specs.Families.{Forest}
 use Rattle.zio_trace.specs.Tasks.{Attempt, Task}
 use Rattle.zio_children.specs.RequestKids.{KidsUnderWay}
-use Rattle.zio_frames.specs.Frames.{Frame, Inner, Stack, asking, asking_in, fresh_stack}
+use Rattle.zio_frames.specs.Frames.{Inner, Stack, asking, asking_in, fresh_stack}
 use Rattle.zio_stages.specs.OwnParts.{DoesThen, HandsTo}
 use Rattle.zio_stages.specs.RequestNodes.{HandsKid, IsOwnOf, IsRequestNode, front_by}
 use Rattle.zio_stages.specs.Wholes.{IsTreeOf, root_of}

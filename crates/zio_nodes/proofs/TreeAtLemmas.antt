@@ -1,5 +1,5 @@
 -- A tree of requests whose attempt begins, and what its request owes then.
-use Rattle.std.proofs.Common.{◌≡◌, ℕ, ◌+◌, ◌*◌, ◌<◌, ◌≤◌, ◌-◌, List, [], ◌∷◌, ◌++◌, length, slice_get, Option, Some, None, true, false, refl, sym, ap, subst, ◌∙◌, arith, length-append}
+use Rattle.std.proofs.Common.{◌≡◌, ℕ, ◌+◌, ◌*◌, ◌<◌, ◌≤◌, ◌-◌, List, [], ◌∷◌, ◌++◌, length, slice_get, Some, true, refl, sym, ap, subst, ◌∙◌, arith, length-append}
 use Rattle.std.specs.List.{AllByRecursion}
 use Rattle.zio_types.specs.declared.place.Top.{Top}
 use Rattle.zio_masks.specs.declared.stage.Stage.TheVariants.{Start}
@@ -9,7 +9,6 @@ use Rattle.zio_gang.specs.Attempts.{Terms}
 use Rattle.zio_frames.specs.Frames.{Child, Stack}
 use Rattle.zio_stages.specs.KidLists.{AreBegun, IsListOf}
 use Rattle.zio_stages.specs.KidPointers.{HasValid, HaveValidPointers}
-use Rattle.zio_stages.specs.KidTrees.{trees_left}
 use Rattle.zio_stages.specs.PartWorks.{HaveUnits}
 use Rattle.zio_stages.specs.RequestNodes.{IsOwnOver, IsRequestNode}
 use Rattle.zio_stages.specs.Tops.{AreTops}
@@ -24,7 +23,6 @@ use Rattle.zio_nodes.specs.RequestBounds.{own_max, request_share}
 use Rattle.zio_nodes.specs.TreeAts.{IsRequestInside, IsSoundOver, IsTreeAt, IsTreeAtOver, IsTreeOver}
 use Rattle.zio_nodes.specs.declared.node.Node.{Node}
 use Rattle.zio_nodes.specs.declared.node.Node.TheVariants.{Request, Tree}
-use Rattle.zio_nodes.specs.declared.request_at.RequestAt.{RequestAt}
 use Rattle.zio_nodes.specs.declared.tree_at.TreeAt.{TreeAt}
 
 -- ---- its trees

@@ -1,7 +1,8 @@
 -- A write whose block is stored ends at once: what holds of the end holds from where the write stood before.
-use Rattle.std.proofs.Common.{◌≡◌, ◌<◌, List, Result, Ok, Err, arith}
+use Rattle.std.proofs.Common.{◌≡◌, ◌<◌, List, Result, Ok, Err, ap, subst, arith}
 use Rattle.std.specs.Prelude.{IfErr, IfOk}
 use Rattle.zio_types.specs.declared.place.Top.{Top}
+use Rattle.zio_masks.specs.declared.stage.Stage.{Stage}
 use Rattle.zio_gang.specs.Attempts.{Terms}
 use Rattle.zio_frames.specs.Frames.{Stack}
 use Rattle.zio_stages.specs.RequestNodes.{IsRequestNode}
@@ -11,7 +12,7 @@ use Rattle.zio_graph.specs.declared.staged.Move.{Move}
 use Rattle.zio_graph.specs.declared.staged.Move.TheVariants.{End, Grow, Leaf as ToLeaf, Next, Ready, Wait}
 use Rattle.zio_nodes.specs.Nodes.{MovesWith, StaysWith, gave_of, left_of, nodes}
 use Rattle.zio_nodes.specs.RequestBounds.{request_left}
-use Rattle.zio_nodes.specs.StageMoves.{IsEndMove, IsLastMove}
+use Rattle.zio_nodes.specs.StageMoves.{CallsFit, IsEndMove, IsLastMove}
 use Rattle.zio_nodes.specs.Told.{is_told}
 use Rattle.zio_nodes.specs.declared.node.Node.{Node}
 use Rattle.zio_nodes.specs.declared.node.Node.TheVariants.{Request}
@@ -23,28 +24,30 @@ abbrev pub IsStill : List Top → RequestAt → RequestAt → Type 0
 IsStill tops at mid = (t : Terms) (st : Stack) → IsNow {N = Node} nodes tops t (Request at) st → IsRequestNode t mid.node st
 
 pub ends_behind : {S : Type 0} (made : S → List SpaceCall → S → Type 0) (tops : List Top) (a b : S) (at mid : RequestAt) (r : Result (Move Node) Node)
-    → is_told mid.stage ≡ is_told at.stage → gave_of (Request mid) ≡ gave_of (Request at) → IsStill tops at mid → IfOk r IsEndMove
+    → mid.stage ≡ at.stage → gave_of (Request mid) ≡ gave_of (Request at) → IsStill tops at mid → IfOk r IsEndMove
     → IfOk r (MovesWith made tops a b (Request mid)) → IfOk r (MovesWith made tops a b (Request at))
-ends_behind made tops a b at mid (Ok (End outcome)) told gave still ends h = record {
+ends_behind made tops a b at mid (Ok (End outcome)) same gave still ends h = record {
   calls = h.calls;
   were_made = h.were_made;
-  moves = λ t st now. ends_from t st at mid h.calls outcome told gave (h.moves t st (record { tops_are = now.tops_are; is = still t st now; seated = now.seated }));
+  fits = subst (λ (s : Stage). CallsFit s h.calls) same h.fits;
+  moves = λ t st now. ends_from t st at mid h.calls outcome (ap is_told same) gave (h.moves t st (record { tops_are = now.tops_are; is = still t st now; seated = now.seated }));
 }
-ends_behind made tops a b at mid (Ok (Next after)) told gave still ends h = absurd ends
-ends_behind made tops a b at mid (Ok (Wait after kind phase)) told gave still ends h = absurd ends
-ends_behind made tops a b at mid (Ok (Grow after child kind)) told gave still ends h = absurd ends
-ends_behind made tops a b at mid (Ok (ToLeaf after op leaf bytes)) told gave still ends h = absurd ends
-ends_behind made tops a b at mid (Ok (Ready after pointer)) told gave still ends h = absurd ends
-ends_behind made tops a b at mid (Err after) told gave still ends h = tt
+ends_behind made tops a b at mid (Ok (Next after)) same gave still ends h = absurd ends
+ends_behind made tops a b at mid (Ok (Wait after kind phase)) same gave still ends h = absurd ends
+ends_behind made tops a b at mid (Ok (Grow after child kind)) same gave still ends h = absurd ends
+ends_behind made tops a b at mid (Ok (ToLeaf after op leaf bytes)) same gave still ends h = absurd ends
+ends_behind made tops a b at mid (Ok (Ready after pointer)) same gave still ends h = absurd ends
+ends_behind made tops a b at mid (Err after) same gave still ends h = tt
 
 pub stays_behind : {S : Type 0} (made : S → List SpaceCall → S → Type 0) (tops : List Top) (a b : S) (at mid : RequestAt) (r : Result (Move Node) Node)
-    → is_told mid.stage ≡ is_told at.stage → gave_of (Request mid) ≡ gave_of (Request at) → IsStill tops at mid
+    → mid.stage ≡ at.stage → gave_of (Request mid) ≡ gave_of (Request at) → IsStill tops at mid
     → IfErr r (StaysWith made tops a b (Request mid)) → IfErr r (StaysWith made tops a b (Request at))
-stays_behind made tops a b at mid (Ok move) told gave still h = tt
-stays_behind made tops a b at mid (Err after) told gave still h = record {
+stays_behind made tops a b at mid (Ok move) same gave still h = tt
+stays_behind made tops a b at mid (Err after) same gave still h = record {
   calls = h.calls;
   were_made = h.were_made;
-  goes = λ t st now. goes_from t st at mid h.calls after told gave (h.goes t st (record { tops_are = now.tops_are; is = still t st now; seated = now.seated }));
+  fits = subst (λ (s : Stage). CallsFit s h.calls) same h.fits;
+  goes = λ t st now. goes_from t st at mid h.calls after (ap is_told same) gave (h.goes t st (record { tops_are = now.tops_are; is = still t st now; seated = now.seated }));
 }
 
 pub left_behind : (at mid : RequestAt) (r : Result (Move Node) Node) → request_left mid < request_left at → IfOk r IsEndMove → IfOk r (Lessens left_of (Request mid))

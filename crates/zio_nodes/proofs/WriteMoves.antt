@@ -1,6 +1,6 @@
 -- A write's moves: operations on leaves for its copies, and its members.
-use Rattle.std.proofs.Common.{◌≡◌, ℕ, ◌+◌, ◌-◌, ◌*◌, ◌≤◌, ◌<◌, List, [], ◌∷◌, ◌++◌, length, Bool, true, false, Option, Some, None, refl, sym, ap, subst, ◌∙◌, arith}
-use Rattle.zio_types.specs.declared.request.ChildKind.TheVariants.{Gang, Vdev}
+use Rattle.std.proofs.Common.{◌≡◌, ℕ, ◌+◌, ◌-◌, ◌*◌, ◌≤◌, ◌<◌, [], length, true, false, Some, refl, sym, ap, subst, ◌∙◌, arith}
+use Rattle.zio_types.specs.declared.request.ChildKind.TheVariants.{Vdev}
 use Rattle.zio_types.specs.declared.request.Kind.TheVariants.{Write as WriteKind}
 use Rattle.zio_masks.specs.declared.stage.Stage.{Stage}
 use Rattle.zio_masks.specs.declared.stage.Stage.TheVariants.{DvaAllocate, VdevIoDone, VdevIoStart}
@@ -9,14 +9,12 @@ use Rattle.zio_gang.specs.Attempts.{Terms}
 use Rattle.zio_trace.specs.Conflicts.{is_single}
 use Rattle.zio_trace.specs.Leaves.{LeafOp}
 use Rattle.zio_trace.specs.Tasks.{Leaf as OnLeaf, Task}
-use Rattle.zio_parts.specs.Parts.{PartWriting}
-use Rattle.zio_frames.specs.Frames.{Child, Frame, Inner, Stack, asking, asking_in, fresh_frame, fresh_stack}
+use Rattle.zio_frames.specs.Frames.{Stack, asking, fresh_frame, fresh_stack}
 use Rattle.zio_frames.specs.Moves.{handed}
 use Rattle.zio_stages.specs.LeafWorks.{IsLeafWork}
 use Rattle.zio_stages.specs.NodeIos.{StartsBy}
 use Rattle.zio_stages.specs.OwnParts.{DoesThen}
 use Rattle.zio_stages.specs.RequestCounts.{HasNextMember, asked_of, second_of}
-use Rattle.zio_stages.specs.RequestKinds.{is_stored}
 use Rattle.zio_stages.specs.RequestNodes.{IsOwnOf, IsRequestNode, front_by}
 use Rattle.zio_stages.specs.RequestStages.{with_own}
 use Rattle.zio_stages.specs.RequestWrites.{IsReadyWrite, IsWriteWith}
@@ -27,12 +25,11 @@ use Rattle.zio_stages.specs.declared.part_node.PartNode.{PartNode}
 use Rattle.zio_stages.specs.declared.request_node.Own.{Own}
 use Rattle.zio_stages.specs.declared.request_node.Own.TheVariants.{Claim as ClaimOwn, Due, Found, Free as FreeOwn, Over, Read as ReadOwn, Stored, Write as WriteOwn}
 use Rattle.zio_stages.specs.declared.request_node.RequestNode.{RequestNode}
-use Rattle.zio_stages.specs.declared.waiting.Waiting.{Waiting}
 use Rattle.zio_graph.specs.Stages.{Grows}
-use Rattle.zio_nodes.specs.Bounds.{due_left, leaf_left, leaf_max, leaf_share, part_max, pass_left, write_asks_max}
+use Rattle.zio_nodes.specs.Bounds.{due_left, leaf_max, part_max, pass_left}
 use Rattle.zio_nodes.specs.LeafAts.{IsLeafAt}
 use Rattle.zio_nodes.specs.Nodes.{gave_of, nodes}
-use Rattle.zio_nodes.specs.RequestBounds.{own_left, request_left, request_share}
+use Rattle.zio_nodes.specs.RequestBounds.{request_left, request_share}
 use Rattle.zio_nodes.specs.Told.{is_told}
 use Rattle.zio_nodes.specs.declared.leaf_at.LeafAt.{LeafAt}
 use Rattle.zio_nodes.specs.declared.node.Node.{Node}

@@ -11,6 +11,7 @@ pub mod RequestAts
 pub mod RequestBounds
 pub mod RequestHears
 pub mod StageMoves
+pub mod Stalls
 pub mod Told
 pub mod TreeAts
 pub mod WriteBounds

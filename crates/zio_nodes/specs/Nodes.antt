@@ -19,6 +19,7 @@ use Rattle.zio_nodes.specs.LeafAts.{IsLeafAt, LeafStands}
 use Rattle.zio_nodes.specs.PartAts.{IsPartAtOver}
 use Rattle.zio_nodes.specs.RequestAts.{IsRequestAtOver, gave_by}
 use Rattle.zio_nodes.specs.RequestBounds.{request_left, tree_left}
+use Rattle.zio_nodes.specs.StageMoves.{CallsFit, stage_of}
 use Rattle.zio_nodes.specs.Told.{is_told}
 use Rattle.zio_nodes.specs.TreeAts.{IsTreeAt, IsTreeAtOver}
 pub use Rattle.zio_nodes.specs.TreeAts.{IsTreeOver}
@@ -129,13 +130,15 @@ StaysBare tops node after =
 
 -- ---- stages that call the space
 
--- the same, where these calls were made from the one to the other
+-- the same, where these calls, which are its stage's, were made from the one to the other
 pub record MovesWith {S : Type 0} (made : S → List SpaceCall → S → Type 0) (tops : List Top) (a b : S) (node : Node) (move : Move Node) : Type 0 where
   pub calls : List SpaceCall
   pub were_made : made a calls b
+  pub fits : CallsFit (stage_of node) calls
   pub moves : (t : Terms) (st : Stack) → IsNow {N = Node} nodes tops t node st → IsMove {N = Node} nodes gave_of t node st calls move
 
 pub record StaysWith {S : Type 0} (made : S → List SpaceCall → S → Type 0) (tops : List Top) (a b : S) (node after : Node) : Type 0 where
   pub calls : List SpaceCall
   pub were_made : made a calls b
+  pub fits : CallsFit (stage_of node) calls
   pub goes : (t : Terms) (st : Stack) → IsNow {N = Node} nodes tops t node st → GoesOn {N = Node} nodes gave_of t node st calls after

@@ -20,7 +20,7 @@ use crate::turn::{Turn, new_room};
 use std::alloc::Global;
 use zio_graph::Move;
 use zio_masks::{READ, Stage, next};
-use zio_stages::{CopiesNode, IoNext, Outcome, reads_tell_no_pointer};
+use zio_stages::{CopiesNode, Family, IoNext, Outcome, reads_tell_no_pointer};
 use zio_types::{ChildKind, NoMemory, Phase, Top};
 
 /// The read of a block's copies at a stage of its pipeline.
@@ -52,6 +52,13 @@ impl CopiesAt {
         ensures { result ≡ self.now.stage }
     {
         self.stage
+    }
+
+    /// Its children by number.
+    pub(crate) fn family(&self) -> &Family
+        ensures { result.now ≡ self.now.node.family }
+    {
+        self.node.family()
     }
 
     /// Runs one stage. Where memory is refused it comes back as it was.

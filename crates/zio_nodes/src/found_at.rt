@@ -18,14 +18,12 @@ use crate::turn::Turn;
 use std::alloc::Global;
 use zio_graph::Move;
 use zio_masks::Stage;
-use zio_stages::{NodeBack, ReadyStep};
-use zio_types::Phase;
+use zio_stages::{NodeBack, what_is_no_write_has_no_pointer};
 
 impl RequestAt {
-    /// Tells that it has no pointer, once each child told its own, and goes on to this stage.
+    /// Tells that it has no pointer, and goes on to this stage.
     pub(crate) fn tell_none(&mut self, to: Stage) -> Turn
         requires other { IsNoWrite self.old.node.waiting.request.work }
-        requires handed { self.old.node.kids.kids.handed ≡ length self.old.node.kids.kids.kids }
         requires stage { self.old.stage ≡ Stage.Ready }
         requires leads { IsNextOf (takes_stage (Node.Request self.old)) self.old.stage to }
         requires behind { is_told to ≡ true }
@@ -37,14 +35,10 @@ impl RequestAt {
             Lessens left_of (Node.Request self.old) (moved (Node.Request self.new) result) }
         ensures stages { IsStageMove (Node.Request self.old) (moved (Node.Request self.new) result) }
     {
-        match self.node.ready_none() {
-            ReadyStep::Wait(kind) => Turn::Wait(kind, Phase::Ready),
-            ReadyStep::Tell(_) => {
-                self.stage = to;
-                self.is_due = true;
-                Turn::Ready(None)
-            }
-        }
+        what_is_no_write_has_no_pointer();
+        self.stage = to;
+        self.is_due = true;
+        Turn::Ready(None)
     }
 
     /// Ends, where its own work came to something and its children ended. Where memory is refused it comes back as it was.

@@ -11,17 +11,19 @@ ghost use Rattle.zio_stages.specs.HeadsNodes.{IsHeadsNode, IsHeadsOver};
 ghost use Rattle.zio_graph.specs.Stages.{EachIn, Hears, HearsEarly, HearsSome, HearsSomeEarly, Lessens, TellsValid};
 ghost use Rattle.zio_nodes.specs.Bounds.{heads_left, walk_max};
 ghost use Rattle.zio_nodes.specs.HeadsAts.{IsHeadsAtOver};
+ghost use Rattle.zio_nodes.specs.Stalls.{LeavesGang};
 ghost use Rattle.zio_nodes.specs.StageMoves.{IsLastMove, IsStageMove};
 ghost use Rattle.zio_nodes.specs.Nodes.{IsNodeOver, IsTreeOver, MovesBare, StaysBare, left_of, nodes, moved};
 ghost use Rattle.zio_nodes.specs.Told.{is_told};
 
 use crate::copies_at::CopiesAt;
 use crate::node::Node;
+use crate::stall::gang_stall;
 use crate::turn::{Turn, new_room};
 use std::alloc::Global;
 use zio_graph::Move;
 use zio_masks::{INTERLOCK, Stage, next, with_gang};
-use zio_stages::{HeadsBack, HeadsNode, Outcome, WalkStage, reads_tell_no_pointer};
+use zio_stages::{Family, HeadsBack, HeadsNode, Outcome, WalkStage, reads_tell_no_pointer};
 use zio_types::{ChildKind, NoMemory, Phase, Top};
 
 /// The walk over headers at a stage of its pipeline.
@@ -56,6 +58,13 @@ impl HeadsAt {
         self.stage
     }
 
+    /// Its children by number.
+    pub(crate) fn family(&self) -> &Family
+        ensures { result.now ≡ self.now.node.family }
+    {
+        self.node.family()
+    }
+
     /// Runs one stage. Where memory is refused it comes back as it was.
     pub fn run_stage(&mut self, alloc: Global, tops: &[Top]) -> Result<Turn, NoMemory>
         requires over { IsHeadsAtOver tops.now self.old }
@@ -66,6 +75,7 @@ impl HeadsAt {
         ensures left { IfOk result (λ turn. Lessens left_of (Node.Heads self.old) (moved (Node.Heads self.new) turn)) }
         ensures refused { OnErr result (StaysBare tops.now (Node.Heads self.old) (Node.Heads self.new)) }
         ensures stages { IfOk result (λ turn. IsStageMove (Node.Heads self.old) (moved (Node.Heads self.new) turn)) }
+        ensures leaves { self.old.stage ≡ Stage.GangAssemble → IfOk result (λ turn. LeavesGang self.old.node.family (moved (Node.Heads self.new) turn)) }
     {
         match self.stage {
             Stage::Start => Ok(self.start()),
@@ -100,6 +110,7 @@ impl HeadsAt {
         ensures left { IfOk result (λ turn. Lessens left_of (Node.Heads self.old) (moved (Node.Heads self.new) turn)) }
         ensures refused { OnErr result (StaysBare tops.now (Node.Heads self.old) (Node.Heads self.new)) }
         ensures stages { IfOk result (λ turn. IsStageMove (Node.Heads self.old) (moved (Node.Heads self.new) turn)) }
+        ensures leaves { IfOk result (λ turn. LeavesGang self.old.node.family (moved (Node.Heads self.new) turn)) }
     {
         let mut room = new_room(alloc)?;
         match self.node.gang_assemble(alloc, tops) {
@@ -115,6 +126,9 @@ impl HeadsAt {
             }
             Ok(WalkStage::Wait) => { Ok(Turn::Wait(ChildKind::Gang, Phase::Done)) }
             Ok(WalkStage::On) => {
+                if let Some((kind, phase)) = gang_stall(self.node.family()) {
+                    return Ok(Turn::Wait(kind, phase));
+                }
                 self.stage = next(Stage::GangAssemble, with_gang(INTERLOCK));
                 Ok(Turn::Next)
             }

@@ -1,6 +1,6 @@
-//! What nodes hear, and what they never hear or do.
+//! What nodes hear, what they never hear or do, and how many of their operations are out.
 
-ghost use Rattle.std.specs.Prelude.{◌≡◌, ◌≢◌, ℕ, List as Seq};
+ghost use Rattle.std.specs.Prelude.{◌≡◌, ◌≢◌, ◌≤◌, ℕ, List as Seq};
 ghost use Rattle.zio_types.specs.declared.place.Top.{Top as SeenTop};
 ghost use Rattle.zio_types.specs.declared.request.ChildKind.TheVariants.{Gang};
 ghost use Rattle.zio_types.specs.Choices.{Ask};
@@ -9,7 +9,8 @@ ghost use Rattle.zio_trace.specs.Tasks.{Find};
 ghost use Rattle.zio_frames.specs.Frames.{Child, Stack};
 ghost use Rattle.zio_stages.specs.declared.outcome.Outcome.{Outcome as SeenOutcome};
 ghost use Rattle.zio_graph.specs.Stages.{AreItsOwn, HearsEarly, HearsSome};
-ghost use Rattle.zio_nodes.specs.Nodes.{IsNode, gave_of, nodes};
+ghost use Rattle.zio_nodes.specs.Nodes.{IsNode, IsNodeOver, gave_of, nodes};
+ghost use Rattle.zio_nodes.specs.Stalls.{leaf_room, leaves_out};
 ghost use Rattle.zio_nodes.specs.declared.copies_at.CopiesAt.{CopiesAt};
 ghost use Rattle.zio_nodes.specs.declared.leaf_at.LeafAt.{LeafAt};
 ghost use Rattle.zio_nodes.specs.declared.node.Node.{Node};
@@ -37,4 +38,9 @@ pub fn no_node_asks_for_places()
 /// A node gives back only places that it holds, or of the block that it frees.
 pub fn nodes_give_their_own()
     ensures { (t : Terms) (node : Node) (st : Stack) → IsNode t node st → AreItsOwn (gave_of node) st }
+{}
+
+/// Of a node's operations on leaves no more than one for each copy are out: three places on four leaves each.
+pub fn a_copy_has_one_operation_out()
+    ensures { (tops : Seq SeenTop) (node : Node) → IsNodeOver tops node → leaves_out node ≤ leaf_room }
 {}

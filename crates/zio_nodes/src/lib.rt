@@ -22,6 +22,7 @@ mod read_at;
 mod read_io_at;
 mod request_at;
 mod request_hear;
+mod stall;
 mod tree_at;
 mod turn;
 mod write_at;
@@ -30,8 +31,8 @@ mod write_hear;
 pub use copies_at::CopiesAt;
 pub use heads_at::HeadsAt;
 pub use laws::{
-    members_alone_tell_pointers, no_node_asks_for_places, nodes_give_their_own,
-    operations_on_leaves_tell_nothing,
+    a_copy_has_one_operation_out, members_alone_tell_pointers, no_node_asks_for_places,
+    nodes_give_their_own, operations_on_leaves_tell_nothing,
 };
 pub use leaf_at::LeafAt;
 pub use node::Node;

@@ -1,6 +1,7 @@
 //! A node of any kind: its stages, and what it hears.
 
-ghost use Rattle.std.specs.Prelude.{◌≡◌, ◌+◌, ◌<◌, ◌≤◌, [], IfErr, IfOk, IfSome, IsTrue, List as Seq, OnErr, OnOk, Some, false, is_ok, true};
+ghost use Rattle.std.specs.List.{list_any};
+ghost use Rattle.std.specs.Prelude.{◌≡◌, ◌+◌, ◌<◌, ◌≤◌, [], IfErr, IfOk, IfSome, IsTrue, List as Seq, None, OnErr, OnOk, Some, false, is_ok, true};
 ghost use Rattle.zio_types.specs.declared.place.Top.{Top as SeenTop};
 ghost use Rattle.zio_blkptr.specs.Pointers.{valid};
 ghost use Rattle.zio_gang.specs.Attempts.{Pending, Terms};
@@ -9,6 +10,7 @@ ghost use Rattle.zio_trace.specs.Leaves.{Answer, LeafOp};
 ghost use Rattle.zio_trace.specs.Tasks.{Attempt, Got, Leaf, Task, Value};
 ghost use Rattle.zio_frames.specs.Frames.{Child, Stack, fresh_stack};
 ghost use Rattle.zio_frames.specs.Moves.{done_at_once, heard_early, heard_of};
+ghost use Rattle.zio_stages.specs.NodeChildren.{is_awaited};
 ghost use Rattle.zio_stages.specs.Wholes.{IsTreeOf};
 ghost use Rattle.zio_stages.specs.declared.outcome.Outcome.{Outcome as SeenOutcome};
 ghost use Rattle.zio_graph.specs.Stages.{
@@ -40,13 +42,15 @@ ghost use Rattle.zio_nodes.specs.Nodes.{
   nodes,
   told_of,
 };
-ghost use Rattle.zio_nodes.specs.StageMoves.{IsLastMove, IsStageMove, stage_of};
+ghost use Rattle.zio_nodes.specs.StageMoves.{IsLastMove, IsStageMove, stage_of, stalls_at};
+ghost use Rattle.zio_nodes.specs.Stalls.{LeavesGang, LeavesNone, MayRun, children_of, hands_many};
 
 use crate::copies_at::CopiesAt;
 use crate::heads_at::HeadsAt;
 use crate::leaf_at::LeafAt;
 use crate::part_at::PartAt;
 use crate::request_at::RequestAt;
+use crate::stall::stall_of;
 use crate::tree_at::TreeAt;
 use crate::turn::Turn;
 use std::alloc::Global;
@@ -56,7 +60,7 @@ use zio_graph::Move;
 use zio_masks::Stage;
 use zio_script::Failmode;
 use zio_stages::{Finished, Outcome, Services, Whole};
-use zio_types::{Bytes, Errno, NoMemory, Top};
+use zio_types::{Bytes, ChildKind, Errno, NoMemory, Phase, Top};
 
 /// A node of a round.
 #[derive(Drop)]
@@ -119,6 +123,42 @@ impl Node {
         ensures stages { IfOk result (λ turn. IsStageMove self.old (moved self.new turn)) }
         ensures refused { OnErr result (StaysWith S.made (S.tops services.old) services.old services.new self.old self.new) }
         ensures tops { S.tops services.new ≡ S.tops services.old }
+        ensures leaves { IfOk result (λ turn. LeavesNone self.old (moved self.new turn)) }
+    {
+        if let Some((kind, phase)) = self.stall() {
+            return Ok(Turn::Wait(kind, phase));
+        }
+        self.step(alloc, services)
+    }
+
+    /// What it waits for before its stage does anything, if it waits.
+    fn stall(&self) -> Option<(ChildKind, Phase)>
+        ensures some { (kind : ChildKind) (phase : Phase) → result ≡ Some (kind, phase) →
+            (stalls_at (stage_of self.now) kind phase ≡ true) × (list_any (is_awaited kind phase) (children_of self.now) ≡ true) }
+        ensures none { result ≡ None → MayRun (stage_of self.now) (hands_many self.now) (children_of self.now) }
+    {
+        match self {
+            Node::Copies(at) => stall_of(at.family(), at.stage(), false),
+            Node::Heads(at) => {
+                stall_of(at.family(), at.stage(), at.stage() == Stage::GangAssemble)
+            }
+            Node::Part(at) => stall_of(at.node.family(), at.stage, false),
+            Node::Request(at) => stall_of(at.node.family(), at.stage, at.hands_many()),
+            Node::Leaf(_) | Node::Tree(_) | Node::Empty => None,
+        }
+    }
+
+    /// Runs one stage for which it needn't wait.
+    fn step<S: Services>(&mut self, alloc: Global, services: &mut S) -> Result<Turn, NoMemory>
+        requires { IsNodeOver (S.tops services.old) self.old }
+        ensures moves { IfOk result (λ turn. MovesWith S.made (S.tops services.old) services.old services.new self.old (moved self.new turn)) }
+        ensures over { IfOk result (λ turn. EachIn (IsNodeOver (S.tops services.old)) (IsTreeOver (S.tops services.old)) (moved self.new turn)) }
+        ensures valid { IfOk result (λ turn. TellsValid (moved self.new turn)) }
+        ensures left { IfOk result (λ turn. Lessens left_of self.old (moved self.new turn)) }
+        ensures stages { IfOk result (λ turn. IsStageMove self.old (moved self.new turn)) }
+        ensures refused { OnErr result (StaysWith S.made (S.tops services.old) services.old services.new self.old self.new) }
+        ensures tops { S.tops services.new ≡ S.tops services.old }
+        ensures leaves { hands_many self.old ≡ true → IfOk result (λ turn. LeavesGang (children_of self.old) (moved self.new turn)) }
     {
         if self.is_tree() {
             return self.start_tree(alloc);

@@ -14,11 +14,11 @@ use crate::turn::Turn;
 use std::alloc::Global;
 use zio_graph::Move;
 use zio_masks::{NULL, Stage, next};
-use zio_stages::{DoneStep, NodeBack, ReadyStep, what_is_no_write_has_no_pointer};
+use zio_stages::{DoneStep, NodeBack, what_is_no_write_has_no_pointer};
 use zio_types::{Kind, Phase};
 
 impl RequestAt {
-    /// Tells that it has no pointer, once each child told its own.
+    /// Tells that it has no pointer.
     pub(crate) fn null_ready(&mut self) -> Turn
         requires over { (tops : Seq SeenTop) × IsRequestAtOver tops self.old }
         requires kind { kind_of self.old.node.waiting.request.work ≡ Kind.Null }
@@ -30,13 +30,8 @@ impl RequestAt {
         ensures stages { IsStageMove (Node.Request self.old) (moved (Node.Request self.new) result) }
     {
         what_is_no_write_has_no_pointer();
-        match self.node.ready_null() {
-            ReadyStep::Wait(kind) => Turn::Wait(kind, Phase::Ready),
-            ReadyStep::Tell(_) => {
-                self.stage = next(Stage::Ready, NULL);
-                Turn::Ready(None)
-            }
-        }
+        self.stage = next(Stage::Ready, NULL);
+        Turn::Ready(None)
     }
 
     /// Ends once each child has. Where memory is refused it comes back as it was.

@@ -6,6 +6,7 @@ ghost use Rattle.std.specs.Prelude.{◌≡◌, ◌≢◌, IfErr, IfOk, List as S
 ghost use Rattle.zio_types.specs.declared.place.Top.{Top as SeenTop};
 ghost use Rattle.zio_script.specs.Requests.{kind_of};
 ghost use Rattle.zio_graph.specs.Stages.{EachIn, Lessens, TellsValid};
+ghost use Rattle.zio_nodes.specs.Stalls.{LeavesGang};
 ghost use Rattle.zio_nodes.specs.StageMoves.{IsLastMove, IsStageMove};
 ghost use Rattle.zio_nodes.specs.Nodes.{IsNodeOver, IsTreeOver, MovesBare, MovesWith, StaysBare, StaysWith, left_of, moved};
 ghost use Rattle.zio_nodes.specs.RequestAts.{IsRequestAtOver};
@@ -14,6 +15,7 @@ use crate::copies_at::CopiesAt;
 use crate::heads_at::HeadsAt;
 use crate::node::Node;
 use crate::request_at::RequestAt;
+use crate::stall::gang_stall;
 use crate::turn::{Turn, new_room};
 use std::alloc::Global;
 use zio_graph::Move;
@@ -39,6 +41,7 @@ impl RequestAt {
         ensures refused { OnErr result (StaysWith S.made (S.tops services.old) services.old services.new (Node.Request self.old) (Node.Request self.new)) }
         ensures tops { S.tops services.new ≡ S.tops services.old }
         ensures stages { IfOk result (λ turn. IsStageMove (Node.Request self.old) (moved (Node.Request self.new) turn)) }
+        ensures leaves { self.old.stage ≡ Stage.GangIssue → IfOk result (λ turn. LeavesGang self.old.node.family (moved (Node.Request self.new) turn)) }
     {
         self.read_bare(alloc, services.tops())
     }
@@ -55,6 +58,7 @@ impl RequestAt {
         ensures left { IfOk result (λ turn. Lessens left_of (Node.Request self.old) (moved (Node.Request self.new) turn)) }
         ensures refused { OnErr result (StaysBare tops.now (Node.Request self.old) (Node.Request self.new)) }
         ensures stages { IfOk result (λ turn. IsStageMove (Node.Request self.old) (moved (Node.Request self.new) turn)) }
+        ensures leaves { self.old.stage ≡ Stage.GangIssue → IfOk result (λ turn. LeavesGang self.old.node.family (moved (Node.Request self.new) turn)) }
     {
         match self.stage {
             Stage::ReadBpInit => self.read_bp_init(alloc),
@@ -129,6 +133,7 @@ impl RequestAt {
         ensures left { IfOk result (λ turn. Lessens left_of (Node.Request self.old) (moved (Node.Request self.new) turn)) }
         ensures refused { OnErr result (StaysBare tops.now (Node.Request self.old) (Node.Request self.new)) }
         ensures stages { IfOk result (λ turn. IsStageMove (Node.Request self.old) (moved (Node.Request self.new) turn)) }
+        ensures leaves { IfOk result (λ turn. LeavesGang self.old.node.family (moved (Node.Request self.new) turn)) }
     {
         let mut room = new_room(alloc)?;
         match self.node.gang_issue_read(alloc, tops) {
@@ -139,6 +144,9 @@ impl RequestAt {
             }
             Ok(BodyStage::Wait) => { Ok(Turn::Wait(ChildKind::Gang, Phase::Done)) }
             Ok(BodyStage::On) => {
+                if let Some((kind, phase)) = gang_stall(self.node.family()) {
+                    return Ok(Turn::Wait(kind, phase));
+                }
                 self.stage = next(Stage::GangIssue, with_gang(READ));
                 Ok(Turn::Next)
             }

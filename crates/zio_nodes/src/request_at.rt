@@ -28,6 +28,7 @@ ghost use Rattle.zio_graph.specs.Stages.{
   TellsValid,
   heard_max,
 };
+ghost use Rattle.zio_nodes.specs.Stalls.{LeavesGang, hands_many};
 ghost use Rattle.zio_nodes.specs.StageMoves.{IsLastMove, IsStageMove};
 ghost use Rattle.zio_nodes.specs.Nodes.{
   IsNodeOver,
@@ -78,6 +79,8 @@ impl RequestAt {
         ensures refused { OnErr result (StaysWith S.made (S.tops services.old) services.old services.new (Node.Request self.old) (Node.Request self.new)) }
         ensures tops { S.tops services.new ≡ S.tops services.old }
         ensures stages { IfOk result (λ turn. IsStageMove (Node.Request self.old) (moved (Node.Request self.new) turn)) }
+        ensures leaves { kind_of self.old.node.waiting.request.work ≡ Kind.Read → self.old.stage ≡ Stage.GangIssue →
+            IfOk result (λ turn. LeavesGang self.old.node.family (moved (Node.Request self.new) turn)) }
     {
         if self.stage == Stage::Start {
             return self.start(alloc);
@@ -210,6 +213,16 @@ impl RequestAt {
                 Ok(Turn::Next)
             }
             Err(NoMemory) => Err(NoMemory),
+        }
+    }
+
+    /// Whether its stage hands out more than one gang child: the reads of a gang's bodies.
+    pub(crate) fn hands_many(&self) -> bool
+        ensures { result ≡ hands_many (Node.Request self.now) }
+    {
+        match self.node.kind() {
+            Kind::Read => self.stage == Stage::GangIssue,
+            Kind::Null | Kind::Write | Kind::Free | Kind::Claim => false,
         }
     }
 

@@ -5,7 +5,7 @@ use Rattle.zio_blkptr.specs.declared.pointer.Bp.{Bp}
 use Rattle.zio_gang.specs.Trees.{header_levels_max}
 use Rattle.zio_trace.specs.Plans.{plan_pointer}
 use Rattle.zio_trace.specs.Programs.{Ends}
-use Rattle.zio_trace.specs.Tasks.{ByKept, Value, Walked, WalkedBy}
+use Rattle.zio_trace.specs.Tasks.{ByKept, Walked, WalkedBy}
 use Rattle.zio_parts.specs.HeadWalks.{Walking, body_of, following, fresh_walk, left_of_walk}
 
 pub if_some_then : {X : Type 0} (o : Option X) (P Q : X → Type 0) → ((x : X) → P x → Q x) → IfSome o P → IfSome o Q

@@ -1,6 +1,6 @@
 -- A node's own work behind other operations of its part: what it asks, does at once, opens, closes, hands out and hears.
-use Rattle.std.proofs.Common.{◌≡◌, ℕ, zero, suc, ◌+◌, ◌<◌, List, [], ◌∷◌, ◌++◌, length, set, slice_get, Bool, true, false, ◌&&◌, ◌||◌, not, Option, Some, None, ◌⊎◌, inl, inr, refl, sym, ap, subst, ◌∙◌, arith, append_assoc, length-append, length-set}
-use Rattle.std.specs.List.{AllByRecursion, list_any}
+use Rattle.std.proofs.Common.{◌≡◌, ℕ, suc, ◌+◌, ◌<◌, List, [], ◌∷◌, ◌++◌, length, set, slice_get, true, false, ◌&&◌, not, Option, Some, None, ◌⊎◌, inl, inr, refl, sym, ap, subst, ◌∙◌, arith, append_assoc, length-append, length-set}
+use Rattle.std.specs.List.{AllByRecursion}
 use Rattle.zio_types.specs.declared.place.Top.{Top}
 use Rattle.zio_types.specs.declared.request.ChildKind.{ChildKind}
 use Rattle.zio_types.specs.declared.request.ChildKind.TheVariants.{Gang}
@@ -14,7 +14,7 @@ use Rattle.zio_trace.specs.Programs.{Ends, ◌>>=◌}
 use Rattle.zio_trace.specs.Tasks.{Task, Value}
 use Rattle.zio_frames.specs.Answering.{NextAnswered}
 use Rattle.zio_frames.specs.Frames.{Child, Frame, Inner, OfOuter, Seat, Stack, asking, asking_in, fresh_frame, kind_of_task, with_asked, with_slot}
-use Rattle.zio_frames.specs.Moves.{AsksNext, Closed, Does, DoesAll, GoesBesideAll, Opened, child_for, closed, done_at_once, handed, heard_of, opened, seat_in, set_at, with_asking}
+use Rattle.zio_frames.specs.Moves.{AsksNext, Closed, DoesAll, GoesBesideAll, Opened, child_for, closed, done_at_once, handed, heard_of, opened, seat_in, set_at, with_asking}
 use Rattle.zio_frames.specs.Seats.{HasSeat, IsInnerSeat, IsSatAt, IsSeated, asked_at}
 use Rattle.zio_frames.specs.Slots.{Heard, IsOut, Slot, left_behind_slots, told_in}
 use Rattle.zio_frames.proofs.GetLemmas.{all_at}

@@ -1,5 +1,5 @@
 -- A node that reads a block's copies: how many children it may have, and its end.
-use Rattle.std.proofs.Common.{◌≡◌, ℕ, ◌+◌, ◌≤◌, List, [], ◌∷◌, length, Bool, true, false, Option, Some, None, Ok, Err, inr, refl, sym, ap, subst, ◌∙◌, arith}
+use Rattle.std.proofs.Common.{◌≡◌, ℕ, ◌≤◌, List, [], length, Bool, true, false, Option, Some, None, inr, refl, sym, ap, ◌∙◌, arith}
 use Rattle.zio_types.specs.declared.place.Top.{Top}
 use Rattle.zio_gang.specs.Attempts.{Terms}
 use Rattle.zio_trace.specs.Leaves.{Answer}

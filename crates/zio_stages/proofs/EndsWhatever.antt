@@ -1,20 +1,13 @@
 -- What holds of a program's end whatever its operations are answered; and the pointer of a null.
-use Rattle.std.proofs.Common.{◌≡◌, ℕ, List, [], ◌∷◌, Bool, true, false, Option, Some, None, refl, sym, subst}
+use Rattle.std.proofs.Common.{◌≡◌, List, [], ◌∷◌, Bool, true, false, Option, refl}
 use Rattle.zio_types.specs.declared.request.Bits.{Bits}
 use Rattle.zio_blkptr.specs.declared.pointer.Bp.{Bp}
-use Rattle.zio_script.specs.declared.script.Work.{Work}
-use Rattle.zio_script.specs.declared.script.Work.TheVariants.{Null}
-use Rattle.zio_script.specs.Requests.{kind_of}
-use Rattle.zio_gang.specs.Attempts.{Attempted, Child, Own, Pending, Return, Terms, all_bits, bits_of, children_of, closed_if, finished_of, has_bits, insert_children, judged_own}
-use Rattle.zio_trace.specs.Families.{Forest}
-use Rattle.zio_trace.specs.Plans.{Kids, TaskPlan, bare, one_of, only, plan, plan_kids, plan_own, plan_root}
+use Rattle.zio_gang.specs.Attempts.{Child, Own, Pending, closed_if}
+use Rattle.zio_trace.specs.Plans.{TaskPlan}
 use Rattle.zio_trace.specs.Programs.{Ends, Asks, ◌>>=◌}
-use Rattle.zio_trace.specs.Tasks.{Attempt, AttemptedBy, OwnGot, Task, Value}
-use Rattle.zio_trace.specs.Underway.{early}
+use Rattle.zio_trace.specs.Tasks.{Value}
 use Rattle.zio_frames.specs.Answering.{EndsAnswered}
-use Rattle.zio_frames.specs.Frames.{Frame}
-use Rattle.zio_frames.specs.Moves.{WillHave}
-use Rattle.zio_frames.specs.Slots.{Heard, IsOut, Slot, left_behind_slots, told_in}
+use Rattle.zio_frames.specs.Slots.{Heard, IsOut, Slot, left_behind_slots}
 
 -- whatever its operations are answered, this holds of its end
 abbrev pub EndsSo : {A : Type 0} → (A → Type 0) → TaskPlan A → Type 0
@@ -42,24 +35,8 @@ pub so_turned : {A B : Type 0} (P : A → Type 0) (Q : B → Type 0) (p : TaskPl
 so_turned P Q (Ends a) f h e = h a e
 so_turned P Q (Asks op more) f h e = λ v. so_turned P Q (more v) f h (e v)
 
--- ---- a null has no pointer
+-- ---- the pointer of a request that closes
 
 pub pointer_closed : (b : Bool) (p : Pending) (own : Own) (bits : Bits) (kept : List Child) → (closed_if b p own bits kept).return.child.pointer ≡ own.pointer
 pointer_closed true p own bits kept = refl
 pointer_closed false p own bits kept = refl
-
-null_root : (t : Terms) (attempt : ℕ) (p : Pending) (k : Kids) (pointers : List (Option Bp)) (w : Work) → Null ≡ w
-    → EndsSo (λ (v : Value). early v ≡ None)
-    (plan_own t attempt p w pointers >>= λ own. Ends (AttemptedBy (one_of k (judged_own t p k.returns (bare own)))))
-null_root t attempt p k pointers w e =
-    subst (λ (u : Work). EndsSo (λ (v : Value). early v ≡ None) (plan_own t attempt p u pointers >>= λ own. Ends (AttemptedBy (one_of k (judged_own t p k.returns (bare own)))))) e
-    (pointer_closed (has_bits (all_bits (kind_of p.request.work) None p.request.canfail t.failmode (bits_of k.returns))) p (bare (only None))
-    (all_bits (kind_of p.request.work) None p.request.canfail t.failmode (bits_of k.returns)) (insert_children (children_of (finished_of k.returns)) p.kept))
-
-pub null_has_none : (t : Terms) (x : Frame) (attempt : ℕ) (p : Pending) (forest : Forest) → x.op ≡ Attempt attempt p forest
-    → p.request.work ≡ Null → WillHave t x None
-null_has_none t x attempt p forest is null =
-    so_answered (λ (v : Value). early v ≡ None) (told_in x.slots) (left_behind_slots x.slots (plan t x.op))
-    (so_behind (λ (v : Value). early v ≡ None) x.slots (plan t x.op)
-    (subst (λ (op : Task). EndsSo (λ (v : Value). early v ≡ None) (plan t op)) (sym is)
-    (so_then (λ (v : Value). early v ≡ None) (plan_kids attempt forest) (plan_root t attempt p) (λ k. null_root t attempt p k _ p.request.work (sym null)))))

@@ -1,5 +1,6 @@
 -- A node's children as they are kept: one more, one that changed, and the first that is missing.
-use Rattle.std.proofs.Common.{◌≡◌, ℕ, zero, suc, List, [], ◌∷◌, ◌++◌, length, set, slice_get, Bool, true, false, ◌||◌, not, Option, Some, None, Bor, is_some, option_map, ◌+◌, refl, sym, ap, ◌∙◌, subst}
+use Rattle.std.proofs.Common.{◌≡◌, ℕ, zero, suc, List, [], ◌∷◌, ◌++◌, length, set, slice_get, Bool, true, false, ◌||◌, not, Option, Some, None, Bor, is_some, option_map, refl, sym, ap, ◌∙◌, subst}
+use Rattle.std.specs.List.{AllByRecursion}
 use Rattle.std.specs.Option.{option_and_then, option_copied}
 use Rattle.std.specs.Prelude.{IfSome}
 use Rattle.zio_types.specs.declared.request.ChildKind.{ChildKind}
@@ -7,12 +8,13 @@ use Rattle.zio_types.specs.declared.request.ChildKind.TheVariants.{Vdev, Gang, L
 use Rattle.zio_trace.specs.Tasks.{Task}
 use Rattle.zio_counts.specs.Broods.{new_child}
 use Rattle.zio_counts.specs.declared.child.Child.{Child as Kept}
+use Rattle.zio_cksum.proofs.AllLemmas.{all_append}
 use Rattle.zio_frames.specs.Frames.{Child, Seat as SeatOf, kind_of_task, needs_none}
 use Rattle.zio_frames.specs.Moves.{child_ended, child_for, child_told}
 use Rattle.zio_stages.specs.declared.family.Seat.{Seat}
 use Rattle.zio_stages.specs.declared.family.Seat.TheVariants.{Outer}
 use Rattle.zio_stages.specs.declared.family.Sitting.{Sitting}
-use Rattle.zio_stages.specs.NodeChildren.{AreBeside, Changes, HasTold, IsOfKind, child_by, children_by, seat_of, new_child as new_at}
+use Rattle.zio_stages.specs.NodeChildren.{AllToldIfEnded, AreBeside, Changes, HasTold, IsOfKind, ToldIfEnded, child_by, children_by, seat_of, new_child as new_at}
 
 -- ---- how many
 
@@ -64,6 +66,24 @@ added {R} {V} cs ss kind label seat cs2 ss2 h ec es =
       ap (λ (xs : List (Kept R V)). children_by xs ss2) ec ∙ ap (children_by (cs ++ c ∷ [])) es ∙ children_more cs ss c s h
           ∙ ap (λ (x : Child). children_by cs ss ++ x ∷ []) (fresh_by R V kind label seat),
     )
+
+-- ---- what ended told before
+
+pub told_added : {R V : Type 0} (cs cs2 : List (Kept R V)) (kind : ChildKind) (label : ℕ) → AllToldIfEnded cs
+    → cs2 ≡ cs ++ new_child kind label ∷ [] → AllToldIfEnded cs2
+told_added {R} {V} cs cs2 kind label h e =
+    subst AllToldIfEnded (sym e) (all_append ToldIfEnded cs (new_child kind label ∷ []) h (λ ended. absurd (cc), tt))
+
+all_set : {X : Type 0} (P : X → Type 0) (xs : List X) (n : ℕ) (x : X) → AllByRecursion P xs → P x → AllByRecursion P (set xs n x)
+all_set P [] n x h p = tt
+all_set P (y ∷ ys) zero x h p = (p, h.1)
+all_set P (y ∷ ys) (suc n) x h p = (h.0, all_set P ys n x h.1 p)
+
+pub told_changed : {R V : Type 0} (made : Child → Child) (n : ℕ) (old new : List (Kept R V)) → ((c : Child) → (made c).told ≡ true)
+    → AllToldIfEnded old → Changes made n old new → AllToldIfEnded new
+told_changed {R} {V} made n old new told h c =
+    subst AllToldIfEnded (sym c.is)
+    (all_set ToldIfEnded old n c.now h (λ ended. ap (λ (x : Child). x.told) (c.shows (Outer 0)) ∙ told (child_by c.was (Outer 0))))
 
 -- ---- one that changed
 

@@ -1,5 +1,5 @@
 -- The first operation of a node's own work behind others, where it is a gang child's: it is handed out, tells and is heard.
-use Rattle.std.proofs.Common.{◌≡◌, ℕ, ◌+◌, List, [], ◌∷◌, ◌++◌, length, Option, Some, None, refl, sym, ap, subst, ◌∙◌, arith}
+use Rattle.std.proofs.Common.{◌≡◌, ℕ, ◌+◌, List, [], ◌∷◌, ◌++◌, length, Option, Some, None, refl, sym, ap, ◌∙◌, arith}
 use Rattle.zio_types.specs.declared.place.Top.{Top}
 use Rattle.zio_types.specs.declared.request.ChildKind.TheVariants.{Gang}
 use Rattle.zio_blkptr.specs.declared.pointer.Bp.{Bp}
@@ -7,7 +7,7 @@ use Rattle.zio_gang.specs.Attempts.{Terms}
 use Rattle.zio_trace.specs.Plans.{TaskPlan}
 use Rattle.zio_trace.specs.Tasks.{Task, Value}
 use Rattle.zio_frames.specs.Answering.{NextAnswered}
-use Rattle.zio_frames.specs.Frames.{Child, OfOuter, Seat, Stack, kind_of_task, with_slot}
+use Rattle.zio_frames.specs.Frames.{Child, OfOuter, Seat, Stack, kind_of_task}
 use Rattle.zio_frames.specs.Moves.{AsksNext, handed, heard_early, heard_of, set_at}
 use Rattle.zio_frames.specs.Slots.{Heard, IsOut, Slot}
 use Rattle.zio_stages.specs.NodeChildren.{new_child}

@@ -1,5 +1,5 @@
 -- Own work behind other operations, of which one is so far now: the work is as far as before.
-use Rattle.std.proofs.Common.{◌≡◌, ℕ, ◌+◌, ◌<◌, List, length, set, Option, Some, None, refl, sym, ap, ◌∙◌, length-set}
+use Rattle.std.proofs.Common.{ℕ, ◌<◌, List, length, set, Option, refl, sym, length-set}
 use Rattle.zio_blkptr.specs.declared.pointer.Bp.{Bp}
 use Rattle.zio_gang.specs.declared.tree.Tree.{Tree}
 use Rattle.zio_gang.specs.Attempts.{Terms}
@@ -9,11 +9,10 @@ use Rattle.zio_frames.specs.Moves.{set_at, with_children}
 use Rattle.zio_frames.specs.Slots.{Slot}
 use Rattle.zio_stages.specs.OwnClaims.{IsOwnClaim}
 use Rattle.zio_stages.specs.OwnFrees.{IsOwnFree}
-use Rattle.zio_stages.specs.OwnReads.{IsBodyIn, IsOwnRead}
+use Rattle.zio_stages.specs.OwnReads.{IsOwnRead}
 use Rattle.zio_stages.specs.PartsOut.{ArePartsOut}
 use Rattle.zio_stages.specs.declared.own_claim.OwnClaim.{OwnClaim}
 use Rattle.zio_stages.specs.declared.own_free.FreeWalk.{FreeWalk}
-use Rattle.zio_stages.specs.declared.own_read.BodyIo.{BodyIo}
 use Rattle.zio_stages.specs.declared.own_read.OwnRead.{OwnRead}
 use Rattle.zio_stages.proofs.BehindLemmas.{behind_front}
 use Rattle.zio_stages.proofs.RequestOwnLemmas.{body_still}

@@ -1,7 +1,6 @@
 -- A request that is no write has no pointer.
 use Rattle.std.proofs.Common.{◌≡◌, ℕ, List, [], ◌∷◌, Bool, true, false, Option, Some, None, Ok, Err, refl, sym, subst, ◌∙◌}
 use Rattle.zio_types.specs.declared.error.Errno.{Errno}
-use Rattle.zio_types.specs.declared.request.Bits.{Bits}
 use Rattle.zio_blkptr.specs.declared.pointer.Bp.{Bp}
 use Rattle.zio_blkptr.specs.Pointers.{pointer_of}
 use Rattle.zio_script.specs.declared.script.Work.{Work}
@@ -10,7 +9,7 @@ use Rattle.zio_gang.specs.declared.tree.Tree.{Tree}
 use Rattle.zio_gang.specs.Attempts.{Pending, Terms, judged_own}
 use Rattle.zio_trace.specs.Families.{Forest}
 use Rattle.zio_trace.specs.Leaves.{Answer}
-use Rattle.zio_trace.specs.Plans.{Kids, bare, one_of, own_read_by, own_taken, plan, plan_claim, plan_free, plan_kids, plan_own, plan_read, plan_root, plan_taken, plan_tree}
+use Rattle.zio_trace.specs.Plans.{bare, one_of, own_read_by, own_taken, plan, plan_claim, plan_free, plan_kids, plan_own, plan_read, plan_root, plan_taken, plan_tree}
 use Rattle.zio_trace.specs.Tasks.{Attempt, AttemptedBy, OwnGot, Task, Value, got, taken}
 use Rattle.zio_trace.specs.Underway.{early}
 use Rattle.zio_frames.specs.Frames.{Frame}

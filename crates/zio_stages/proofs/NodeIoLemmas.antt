@@ -1,11 +1,11 @@
 -- The children of one part of a node: those that haven't ended do what is out of it, each something else.
-use Rattle.std.proofs.Common.{◌≡◌, ◌≢◌, ℕ, ◌<◌, List, [], ◌∷◌, ◌++◌, length, slice_get, slice_set, true, false, Option, Some, option_map, ◌⊎◌, inl, inr, refl, sym, ap, subst, ◌∙◌, arith}
+use Rattle.std.proofs.Common.{◌≡◌, ◌≢◌, ℕ, ◌<◌, List, [], ◌∷◌, ◌++◌, length, slice_get, slice_set, true, false, Option, Some, option_map, ◌⊎◌, inl, inr, sym, ap, subst, ◌∙◌, arith}
 use Rattle.std.specs.Prelude.{IfSome}
 use Rattle.zio_frames.specs.Frames.{Child, Seat as SeatOf}
 use Rattle.zio_frames.specs.Moves.{child_ended}
 use Rattle.zio_frames.proofs.GetLemmas.{get_either, get_exchanged}
 use Rattle.zio_stages.specs.NodeChildren.{layer_seat}
-use Rattle.zio_stages.specs.NodeIos.{NoneSits, SitOn, SitApartIn, SitsOn}
+use Rattle.zio_stages.specs.NodeIos.{NoneSits, SitsOn}
 use Rattle.zio_stages.specs.declared.family.Layer.{Layer}
 use Rattle.zio_stages.specs.declared.family.Layer.TheVariants.{Own, Within}
 

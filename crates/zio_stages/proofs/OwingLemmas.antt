@@ -9,10 +9,11 @@ use Rattle.zio_types.specs.declared.request.Phase.TheVariants.{Ready, Done}
 use Rattle.zio_types.specs.Machine.{same_kind}
 use Rattle.zio_counts.specs.Broods.{misses}
 use Rattle.zio_counts.specs.declared.child.Child.{Child as Kept}
-use Rattle.zio_frames.specs.Frames.{Child}
+use Rattle.zio_frames.specs.Frames.{Child, needs_none}
 use Rattle.zio_stages.specs.declared.family.Seat.{Seat}
 use Rattle.zio_stages.specs.declared.family.Sitting.{Sitting}
-use Rattle.zio_stages.specs.NodeChildren.{AreBeside, child_by, children_by, first_owing, is_owing, kind_or}
+use Rattle.zio_stages.specs.NodeChildren.{AllToldIfEnded, AreBeside, child_by, children_by, first_owing, is_awaited, is_owing, kind_or}
+use Rattle.zio_stages.proofs.FamilyLemmas.{length_children}
 
 -- ---- the first that is missing
 
@@ -70,6 +71,52 @@ missing_any kind phase cs ss seen first b h es eb e =
     eb ∙ ap (λ (o : Option ℕ). is_some o) e
     ∙ some_if (ltb (position_or_len (misses kind phase) cs) (length cs)) (position_or_len (misses kind phase) cs)
     ∙ within_any (misses kind phase) cs ∙ any_same kind phase cs ss h ∙ ap (list_any (is_owing kind phase)) es
+
+position_same : {R V : Type 0} (kind : ChildKind) (phase : Phase) (cs : List (Kept R V)) (ss : List Sitting) → AreBeside cs ss
+    → position_or_len (misses kind phase) cs ≡ position_or_len (is_owing kind phase) (children_by cs ss)
+position_same kind phase [] [] h = refl
+position_same kind phase [] (s ∷ ss) h = absurd h
+position_same kind phase (c ∷ cs) [] h = absurd h
+position_same kind phase (c ∷ cs) (s ∷ ss) h =
+    ap (λ (b : Bool). cond (not b) (1 + position_or_len (misses kind phase) cs) 0) (owes_same kind phase c.kind c.ready c.done s.seat c.label)
+    ∙ ap (λ (n : ℕ). cond (not (is_owing kind phase (child_by c s.seat))) (1 + n) 0) (position_same kind phase cs ss h.1)
+
+-- the first that is missing is the first in the list
+pub missing_first : {R V : Type 0} (kind : ChildKind) (phase : Phase) (cs : List (Kept R V)) (ss : List Sitting)
+    (seen : List Child) (first : Option ℕ)
+    → AreBeside cs ss → children_by cs ss ≡ seen → first ≡ position (misses kind phase) cs → first ≡ position (is_owing kind phase) seen
+missing_first kind phase cs ss seen first h es e =
+    let at = position_or_len (is_owing kind phase) (children_by cs ss) in
+    e ∙ ap (λ (k : ℕ). cond (ltb k (length cs)) (Some k) None) (position_same kind phase cs ss h)
+    ∙ ap (λ (n : ℕ). cond (ltb at n) (Some at) None) (sym (length_children cs ss h)) ∙ ap (position (is_owing kind phase)) es
+
+-- ---- one that is missing hasn't ended
+
+still_on : (s told ended : Bool) → (ended ≡ true → told ≡ true) → s && not told ≡ true → (s && not told) && not ended ≡ true
+still_on true false false h e = refl
+still_on true false true h e = absurd (not_true (h refl))
+  where
+    not_true : false ≡ true → ⊥
+    not_true e = cc
+still_on true true ended h e = absurd (cc)
+still_on false told ended h e = absurd (cc)
+
+either_too : (b rest c more : Bool) → (b ≡ true → c ≡ true) → (rest ≡ true → more ≡ true) → b || rest ≡ true → c || more ≡ true
+either_too true rest c more first second e = ap (λ (x : Bool). x || more) (first refl)
+either_too false rest true more first second e = refl
+either_too false rest false more first second e = second e
+
+pub awaited_any : {R V : Type 0} (kind : ChildKind) (phase : Phase) (cs : List (Kept R V)) (ss : List Sitting) → AllToldIfEnded cs
+    → list_any (is_owing kind phase) (children_by cs ss) ≡ true → list_any (is_awaited kind phase) (children_by cs ss) ≡ true
+awaited_any kind phase [] ss h e = absurd (cc)
+awaited_any kind phase (c ∷ cs) [] h e = absurd (cc)
+awaited_any kind phase (c ∷ cs) (s ∷ ss) h e =
+    either_too (is_owing kind phase (child_by c s.seat)) (list_any (is_owing kind phase) (children_by cs ss)) (is_awaited kind phase (child_by c s.seat))
+    (list_any (is_awaited kind phase) (children_by cs ss)) (one phase) (awaited_any kind phase cs ss h.1) e
+  where
+    one : (p : Phase) → is_owing kind p (child_by c s.seat) ≡ true → is_awaited kind p (child_by c s.seat) ≡ true
+    one Ready e = still_on (same_kind c.kind kind) (needs_none c.kind || is_some c.ready) (is_some c.done) h.0 e
+    one Done e = e
 
 -- ---- what a missing child says
 

@@ -11,7 +11,7 @@ use Rattle.zio_types.specs.declared.place.Place.{Place}
 use Rattle.zio_types.specs.declared.place.Top.{Top}
 use Rattle.zio_types.specs.declared.place.TopSize.{TopSize}
 use Rattle.zio_types.specs.declared.request.ChildKind.TheVariants.{Gang}
-use Rattle.zio_types.specs.Places.{fits_on, fits_size, is_aligned, is_aligned_on, is_inside, rounded_to, sector_size}
+use Rattle.zio_types.specs.Places.{fits_on, fits_size, is_aligned_on, is_inside, rounded_to, sector_size}
 use Rattle.zio_blkptr.specs.declared.pointer.Bp.{Bp}
 use Rattle.zio_blkptr.specs.Pointers.{places_of, valid}
 use Rattle.zio_script.specs.declared.script.Failmode.{Failmode}
@@ -19,7 +19,7 @@ use Rattle.zio_script.specs.declared.script.Failmode.TheVariants.{Wait}
 use Rattle.zio_gang.specs.declared.tree.Head.{Head}
 use Rattle.zio_gang.specs.declared.tree.Tree.{Tree}
 use Rattle.zio_gang.specs.Attempts.{Terms}
-use Rattle.zio_gang.specs.Trees.{claim_visit, inval_unless, is_claimable, piece_size, sizes_of, tree_places}
+use Rattle.zio_gang.specs.Trees.{inval_unless, is_claimable, piece_size, sizes_of, tree_places}
 use Rattle.zio_trace.specs.Plans.{TaskPlan, head_task, plan, plan_claim, plan_found, plan_pointer, plan_taken, stopped}
 use Rattle.zio_trace.specs.Programs.{Ends, Asks, ◌>>=◌, ask}
 use Rattle.zio_trace.specs.Tasks.{ByClaim, OwnGot, ReadHeads, TakePlaces, Taken, Task, Value, Walked, WalkedBy, got}

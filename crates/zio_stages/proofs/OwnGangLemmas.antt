@@ -1,9 +1,8 @@
 -- A gang's read behind other operations: its walk and its bodies are handed out, told of and heard.
-use Rattle.std.proofs.Common.{◌≡◌, ◌≢◌, ℕ, zero, suc, ◌+◌, ◌-◌, ◌<◌, List, [], ◌∷◌, ◌++◌, length, map, set, slice_get, Bool, true, false, Option, Some, None, refl, sym, ap, subst, ◌∙◌, arith, length-append}
+use Rattle.std.proofs.Common.{◌≡◌, ◌≢◌, ℕ, zero, suc, ◌+◌, ◌-◌, ◌<◌, List, [], ◌∷◌, ◌++◌, length, map, set, slice_get, Bool, true, false, Option, Some, None, refl, sym, ap, subst, ◌∙◌, arith}
 use Rattle.std.specs.Prelude.{IfSome}
 use Rattle.std.specs.List.{AllByRecursion}
 use Rattle.zio_types.specs.declared.place.Top.{Top}
-use Rattle.zio_types.specs.declared.request.ChildKind.{ChildKind}
 use Rattle.zio_types.specs.declared.request.ChildKind.TheVariants.{Gang}
 use Rattle.zio_types.specs.declared.request.Phase.TheVariants.{Done}
 use Rattle.zio_blkptr.specs.declared.pointer.Bp.{Bp}
@@ -12,7 +11,7 @@ use Rattle.zio_gang.specs.Attempts.{Terms}
 use Rattle.zio_trace.specs.Leaves.{Answer}
 use Rattle.zio_trace.specs.Plans.{plan_tree}
 use Rattle.zio_trace.specs.Tasks.{Task, Value, Walked}
-use Rattle.zio_frames.specs.Frames.{Child, OfOuter, Seat, Stack, kind_of_task, needs_none, with_slot}
+use Rattle.zio_frames.specs.Frames.{Child, OfOuter, Seat, Stack, kind_of_task, needs_none}
 use Rattle.zio_frames.specs.Moves.{AsksNext, child_ended, child_told, handed, heard_early, heard_of, set_at}
 use Rattle.zio_frames.specs.Seats.{HasSeat, IsSeated, ShowsTold, SitsAt, slot_at}
 use Rattle.zio_frames.specs.Slots.{Heard, IsOut, Slot, told_in}
@@ -23,7 +22,7 @@ use Rattle.zio_parts.specs.declared.tree_read.Phase.TheVariants.{Unread, Out, Fa
 use Rattle.zio_stages.specs.NodeChildren.{new_child}
 use Rattle.zio_stages.specs.OwnParts.{GoesOnAs, HandsTo, IsOwed}
 use Rattle.zio_stages.specs.OwnReads.{AreReads, IsBodyIn, IsBodyOut, IsBodyTask, IsOwnRead}
-use Rattle.zio_stages.specs.TreeWorks.{HandsRead, IsTreeWork, heads_task, slots_with, walk_before}
+use Rattle.zio_stages.specs.TreeWorks.{HandsRead, IsTreeWork, slots_with, walk_before}
 use Rattle.zio_stages.specs.declared.own_read.BodyIo.{BodyIo}
 use Rattle.zio_stages.specs.declared.own_read.OwnRead.{OwnRead}
 use Rattle.zio_stages.specs.declared.tree.TreeWork.{TreeWork}

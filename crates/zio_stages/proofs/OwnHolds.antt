@@ -1,28 +1,26 @@
 -- What the own work of a read, a free and a claim took of the space, and that it heard of no attempt.
-use Rattle.std.proofs.Common.{◌≡◌, List, [], ◌∷◌, ◌++◌, Bool, true, false, Option, Some, None, Ok, Err, refl, sym, ap, subst, ◌∙◌}
-use Rattle.std.specs.List.{AllByRecursion, flat_map}
-use Rattle.zio_types.specs.declared.place.Place.{Place}
+use Rattle.std.proofs.Common.{◌≡◌, List, [], ◌∷◌, ◌++◌, Option, Some, None, refl, sym, ap, subst, ◌∙◌}
+use Rattle.std.specs.List.{AllByRecursion}
 use Rattle.zio_blkptr.specs.declared.pointer.Bp.{Bp}
 use Rattle.zio_gang.specs.declared.tree.Tree.{Tree}
 use Rattle.zio_gang.specs.Attempts.{Terms}
 use Rattle.zio_trace.specs.Leaves.{Answer}
-use Rattle.zio_trace.specs.Tasks.{Got, TakePlaces, Taken, Task, Value, Walked, WalkedBy}
+use Rattle.zio_trace.specs.Tasks.{TakePlaces, Task, Value, Walked}
 use Rattle.zio_frames.specs.Frames.{Child, Stack}
 use Rattle.zio_frames.specs.Slots.{Heard, IsOut, Slot}
-use Rattle.zio_parts.specs.TreeReads.{Reading, body_slot, slots_in}
+use Rattle.zio_parts.specs.TreeReads.{slots_in}
 use Rattle.zio_parts.specs.declared.tree_read.Phase.{Phase}
 use Rattle.zio_parts.specs.declared.tree_read.Phase.TheVariants.{Unread as NoneRead, Out as WalkOut, Failed as WalkFailed, Found as BodiesFound}
 use Rattle.zio_stages.specs.Outcomes.{IsNoAttemptIn, places_by, places_in, places_with}
-use Rattle.zio_stages.specs.OwnClaims.{HasWalked, IsClaimOf, IsClaimStep, IsOwnClaim, claim_task, taken_by}
-use Rattle.zio_stages.specs.OwnFrees.{IsFreeWalk, IsOwnFree}
+use Rattle.zio_stages.specs.OwnClaims.{IsClaimOf, IsClaimStep, claim_task, taken_by}
+use Rattle.zio_stages.specs.OwnFrees.{IsFreeWalk}
 use Rattle.zio_stages.specs.OwnParts.{ToldSince}
 use Rattle.zio_stages.specs.OwnReads.{AreReads, IsBodyTask, IsOwnRead}
-use Rattle.zio_stages.specs.TreeWorks.{heads_task, slots_with, walk_before}
+use Rattle.zio_stages.specs.TreeWorks.{heads_task, walk_before}
 use Rattle.zio_stages.specs.declared.own_claim.ClaimStep.{ClaimStep}
 use Rattle.zio_stages.specs.declared.own_claim.ClaimStep.TheVariants.{Due as StepDue, Failed, Found, Out as StepOut, Refused, Taken as TakenStep}
 use Rattle.zio_stages.specs.declared.own_free.FreeWalk.{FreeWalk}
 use Rattle.zio_stages.specs.declared.own_free.FreeWalk.TheVariants.{Due, Out, Ended}
-use Rattle.zio_stages.specs.declared.own_claim.OwnClaim.{OwnClaim}
 use Rattle.zio_stages.specs.declared.own_read.OwnRead.{OwnRead}
 
 -- ---- a read

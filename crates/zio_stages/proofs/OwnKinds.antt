@@ -1,5 +1,5 @@
 -- What a read, a free or a claim asks itself is done by gang children, or by itself.
-use Rattle.std.proofs.Common.{◌≡◌, ℕ, zero, suc, List, [], ◌∷◌, slice_get, Option, Some, None, Ok, Err, refl, sym, ap, subst, ◌∙◌}
+use Rattle.std.proofs.Common.{◌≡◌, ℕ, zero, suc, List, [], ◌∷◌, slice_get, Option, Some, None, refl, sym, ap, ◌∙◌}
 use Rattle.zio_types.specs.declared.request.ChildKind.TheVariants.{Gang}
 use Rattle.zio_blkptr.specs.declared.pointer.Bp.{Bp}
 use Rattle.zio_gang.specs.declared.tree.Tree.{Tree}
@@ -7,7 +7,7 @@ use Rattle.zio_trace.specs.Tasks.{TakePlaces, Task}
 use Rattle.zio_frames.specs.Frames.{kind_of_task}
 use Rattle.zio_frames.specs.Slots.{Slot}
 use Rattle.zio_frames.proofs.GetLemmas.{all_at}
-use Rattle.zio_stages.specs.OwnClaims.{HasWalked, IsClaimOf, IsClaimStep, claim_task}
+use Rattle.zio_stages.specs.OwnClaims.{IsClaimOf, IsClaimStep, claim_task}
 use Rattle.zio_stages.specs.OwnFrees.{IsFreeWalk}
 use Rattle.zio_stages.specs.OwnReads.{AreReads, IsBodyTask}
 use Rattle.zio_stages.specs.TreeWorks.{heads_task}

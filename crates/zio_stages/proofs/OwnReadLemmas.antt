@@ -1,5 +1,5 @@
 -- A read's own work behind other operations: it walks at once, begins a body as the part within, goes on with it and closes it.
-use Rattle.std.proofs.Common.{◌≡◌, ℕ, suc, ◌+◌, ◌<◌, List, [], ◌∷◌, ◌++◌, length, set, slice_get, Bool, true, false, Option, Some, None, refl, sym, ap, subst, ◌∙◌, arith}
+use Rattle.std.proofs.Common.{◌≡◌, ℕ, ◌+◌, ◌<◌, List, [], ◌∷◌, ◌++◌, length, set, slice_get, Option, Some, None, refl, sym, ap, subst, ◌∙◌, arith}
 use Rattle.std.specs.Prelude.{IfSome}
 use Rattle.std.specs.List.{AllByRecursion}
 use Rattle.zio_types.specs.declared.place.Top.{Top}
@@ -13,12 +13,11 @@ use Rattle.zio_trace.specs.Tasks.{Got, Leaf, Task, Value, Walked, WalkedBy}
 use Rattle.zio_frames.specs.Frames.{Child, Frame, Inner, OfInner, Seat, Stack, asking, asking_in, fresh_frame, left_of, with_asked, with_slot}
 use Rattle.zio_frames.specs.Moves.{AsksNext, Closed, Opened, closed, done_at_once, handed, heard_of, opened, set_at, set_in_inner, with_asking}
 use Rattle.zio_frames.specs.Slots.{Heard, IsOut, Slot}
-use Rattle.zio_parts.specs.TreeReads.{Reading, ShowsRead}
+use Rattle.zio_parts.specs.TreeReads.{ShowsRead}
 use Rattle.zio_parts.specs.declared.tree_read.BodyRead.{BodyRead}
-use Rattle.zio_parts.specs.declared.tree_read.Phase.TheVariants.{Found}
 use Rattle.zio_parts.specs.declared.tree_read.TreeStep.TheVariants.{Body}
 use Rattle.zio_stages.specs.NodeIos.{IsAsking, IsAwaitedAt, IsReadAt, IsReadDue, NoneSits, SitsOn, StartsBy}
-use Rattle.zio_stages.specs.OwnParts.{DoesThen, GoesOnAs, IsBehind}
+use Rattle.zio_stages.specs.OwnParts.{DoesThen, GoesOnAs}
 use Rattle.zio_stages.specs.OwnReads.{AreReads, IsBodyIn, IsBodyOver, IsBodyTask, IsBodyWithin, IsOwnOver, IsOwnRead, IsOwnReadOver}
 use Rattle.zio_stages.specs.ReadIos.{IsReadIo, IsReadOutIn, IsReadOver, IsReadStep}
 use Rattle.zio_stages.specs.TreeWorks.{HandsRead, IsTreeWork, WalksRead, body_task, heads_task, slots_with}

@@ -14,7 +14,6 @@ use Rattle.zio_gang.specs.Attempts.{Pending, Terms, writing_of}
 use Rattle.zio_stages.specs.KidTrees.{AreNumbered}
 use Rattle.zio_stages.specs.declared.waiting.Waiting.{Waiting}
 use Rattle.zio_parts.specs.Parts.{writing_by}
-use Rattle.zio_parts.specs.declared.parts.BlockWrite.{BlockWrite}
 
 pub not_write : (w : Work) → is_write (kind_of w) ≡ true
     → ((name : List ℕ) (sum : SumKind) (copies : ℕ) (prio : Prio) (body : Body) → w ≡ Write name sum copies prio body → ⊥) → ⊥

@@ -1,9 +1,7 @@
 -- A read, a free or a claim whose own work came to something: it is so far then, and closes.
-use Rattle.std.proofs.Common.{◌≡◌, List, [], ◌∷◌, length, Bool, true, false, ◌&&◌, Option, Some, None, refl, ◌∙◌, subst}
-use Rattle.std.specs.List.{AllByRecursion, list_all, list_any}
+use Rattle.std.proofs.Common.{◌≡◌, List, [], ◌∷◌, length, Bool, true, false, ◌&&◌, Option, Some, None, refl, subst}
+use Rattle.std.specs.List.{AllByRecursion, list_all}
 use Rattle.zio_types.specs.declared.error.Errno.{Errno}
-use Rattle.zio_types.specs.declared.request.ChildKind.TheVariants.{Logical}
-use Rattle.zio_types.specs.declared.request.Phase.TheVariants.{Ready}
 use Rattle.zio_blkptr.specs.declared.pointer.Bp.{Bp}
 use Rattle.zio_script.specs.declared.script.Work.{Work}
 use Rattle.zio_script.specs.declared.script.Work.TheVariants.{Null as NullWork, Read as ReadWork, Write as WriteWork, Free as FreeWork, Claim as ClaimWork}
@@ -17,10 +15,9 @@ use Rattle.zio_children.specs.declared.kids.Kid.{Kid}
 use Rattle.zio_children.specs.declared.kids.KidState.{KidState}
 use Rattle.zio_children.specs.declared.kids.KidState.TheVariants.{Due as KidDue, Out, Told, Ended}
 use Rattle.zio_frames.specs.Frames.{Stack}
-use Rattle.zio_frames.specs.Seats.{IsSeated}
-use Rattle.zio_frames.specs.Slots.{AllHeard, IsOut, left_behind_slots}
+use Rattle.zio_frames.specs.Slots.{AllHeard, left_behind_slots}
 use Rattle.zio_stages.specs.Outcomes.{IsNoAttemptIn, places_in}
-use Rattle.zio_stages.specs.OwnParts.{IsNoWrite, IsOwed}
+use Rattle.zio_stages.specs.OwnParts.{IsNoWrite}
 use Rattle.zio_stages.specs.StoredBlocks.{block_places}
 use Rattle.zio_stages.specs.RequestNodes.{Closes, IsOwnOf, IsRequestNode, OwnEnds, front_by, own_got}
 use Rattle.zio_stages.specs.RequestOwns.{IsFoundOwn, IsNoneAfter, MakesBlock}
@@ -30,7 +27,6 @@ use Rattle.zio_stages.specs.declared.request_node.Own.{Own}
 use Rattle.zio_stages.specs.declared.request_node.Own.TheVariants.{Found, Over}
 use Rattle.zio_stages.specs.declared.request_node.OwnFound.{OwnFound}
 use Rattle.zio_stages.specs.declared.request_node.RequestNode.{RequestNode}
-use Rattle.zio_stages.proofs.RequestSits.{get_within, inner_apart, kid_sits, owing_ready, untold_slot}
 use Rattle.zio_stages.proofs.RequestStoredLemmas.{shown_still, with_own, with_own_at}
 
 -- ---- it came to something
@@ -57,15 +53,6 @@ found_at t r st own h all other alone heard quiet places block value =
 pub found_in : (t : Terms) (r : RequestNode) (st : Stack) (own : OwnFound) (h : IsRequestNode t r st) → r.own ≡ Found own
     → IsFoundOwn t (own_got own) r.attempt (pending_of r.waiting) r.kids.kids h.own_asked h.own_slots st
 found_in t r st own h is = subst (λ (o : Own). IsOwnOf t r r.kids.kids (front_by r h.forest h.kid_asked h.kid_slots) o st h.own_asked h.own_slots) is h.own
-
--- ---- it waits for children that haven't told
-
-pub waits_beside : (t : Terms) (r : RequestNode) (st : Stack) (h : IsRequestNode t r st) → IsSeated st → r.kids.kids.handed ≡ length r.kids.kids.kids → list_all is_told r.kids.kids.kids ≡ false
-    → IsOwed Logical Ready st
-waits_beside t r st h seated all not_all =
-    let out = untold_slot r.kids.kids.kids h.kid_slots h.kids.fits (h.kids.all ∙ all) not_all in
-    owing_ready st (kid_sits t r st out.place None h seated
-    (inner_apart t r r.kids.kids (front_by r h.forest h.kid_asked h.kid_slots) r.own st h.own_asked h.own_slots out.place h.own (get_within h.kid_slots out.place (IsOut None) out.slot)) out.slot)
 
 -- ---- it closes
 

@@ -1,5 +1,5 @@
 -- The label of a node: which part of a request's work it does, bit by bit.
-use Rattle.std.specs.Prelude.{ℕ, ◌+◌, ◌*◌, ◌^◌, ◌<◌, List, [], ◌∷◌, length, Bool, true, false}
+use Rattle.std.specs.Prelude.{ℕ, ◌+◌, ◌*◌, ◌<◌, List, [], ◌∷◌, length, Bool, true, false}
 use Rattle.std.specs.List.{AllByRecursion}
 use Rattle.zio_types.specs.declared.journal.Role.{Role}
 use Rattle.zio_types.specs.declared.journal.Role.TheVariants.{Body, Head}

@@ -1,6 +1,6 @@
 -- A node's children in an attempt by number: where each sits, whether it told or needs to, and whether it ended.
 use Rattle.std.specs.Prelude.{◌≡◌, ℕ, List, [], ◌∷◌, Bool, true, false, ◌&&◌, ◌||◌, not, cond, Option, Some, None, is_some, slice_get, slice_set}
-use Rattle.std.specs.List.{list_any}
+use Rattle.std.specs.List.{AllByRecursion, list_any}
 use Rattle.zio_types.specs.declared.request.ChildKind.{ChildKind}
 use Rattle.zio_types.specs.declared.request.ChildKind.TheVariants.{Vdev, Gang, Logical}
 use Rattle.zio_types.specs.declared.request.Phase.{Phase}
@@ -68,6 +68,13 @@ AreBeside [] [] = Unit {0}
 AreBeside [] (s ∷ ss) = ⊥
 AreBeside (c ∷ cs) [] = ⊥
 AreBeside (c ∷ cs) (s ∷ ss) = (c.kind ≡ s.kind) × AreBeside cs ss
+
+-- One that handed in its done value had handed in its ready value, if it has one to hand in.
+abbrev pub ToldIfEnded : {R V : Type 0} → Kept R V → Type 0
+ToldIfEnded c = is_some c.done ≡ true → needs_none c.kind || is_some c.ready ≡ true
+
+abbrev pub AllToldIfEnded : {R V : Type 0} → List (Kept R V) → Type 0
+AllToldIfEnded {R} {V} cs = AllByRecursion (ToldIfEnded {R = R} {V = V}) cs
 
 abbrev pub IsOfKind : {R V : Type 0} → ChildKind → Option (Kept R V) → Type 0
 IsOfKind kind None = ⊥

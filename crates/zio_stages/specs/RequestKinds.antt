@@ -1,5 +1,5 @@
 -- Whether a request in an attempt walks over headers, and whether its block was written.
-use Rattle.std.specs.Prelude.{List, Bool, true, false, Option, Some, None}
+use Rattle.std.specs.Prelude.{Bool, true, false, Option, Some, None}
 use Rattle.zio_script.specs.declared.script.Work.{Work}
 use Rattle.zio_script.specs.declared.script.Work.TheVariants.{Null, Read, Write, Free, Claim}
 use Rattle.zio_gang.specs.declared.tree.Tree.{Tree}

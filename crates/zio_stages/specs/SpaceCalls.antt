@@ -1,5 +1,5 @@
 -- Calls of the space: what a node asked of it, gave back and claimed.
-use Rattle.std.specs.Prelude.{◌≡◌, ℕ, ◌≤◌, List, [], ◌∷◌, ◌++◌, length, map, take, Bool, true, false, cond, IsTrue}
+use Rattle.std.specs.Prelude.{◌≡◌, ℕ, ◌≤◌, List, [], ◌∷◌, ◌++◌, length, map, take, Bool, IsTrue}
 use Rattle.std.specs.List.{AllByRecursion, flat_map}
 use Rattle.zio_types.specs.declared.place.Place.{Place}
 use Rattle.zio_types.specs.declared.place.TopSize.{TopSize}
@@ -13,6 +13,32 @@ pub data SpaceCall : Type 0 where
   Placed : Choice → SpaceCall
   GaveBack : Place → SpaceCall
   Claimed : List Place → Bool → SpaceCall
+
+-- ---- which of the three it is
+
+abbrev pub IsAsk : SpaceCall → Type 0
+IsAsk (Placed c) = Unit {0}
+IsAsk (GaveBack place) = ⊥
+IsAsk (Claimed places free) = ⊥
+
+abbrev pub AreAsks : List SpaceCall → Type 0
+AreAsks calls = AllByRecursion IsAsk calls
+
+abbrev pub IsReturn : SpaceCall → Type 0
+IsReturn (Placed c) = ⊥
+IsReturn (GaveBack place) = Unit {0}
+IsReturn (Claimed places free) = ⊥
+
+abbrev pub AreReturns : List SpaceCall → Type 0
+AreReturns calls = AllByRecursion IsReturn calls
+
+-- one claim, or none where memory was refused or nothing is to be claimed
+abbrev pub IsClaimAtMost : List SpaceCall → Type 0
+IsClaimAtMost [] = Unit {0}
+IsClaimAtMost (Claimed places free ∷ []) = Unit {0}
+IsClaimAtMost _ = ⊥
+
+-- ---- those of what a node did
 
 abbrev pub call_by : Did → List SpaceCall
 call_by (Opened op) = []

@@ -61,6 +61,13 @@ impl CopiesNode {
         }
     }
 
+    /// Its children by number.
+    pub fn family(&self) -> &Family
+        ensures { result.now ≡ self.now.family }
+    {
+        &self.family
+    }
+
     /// The next operation on a leaf, whose child was added, or none where none is due now. Where memory is refused the node
     /// is as before.
     pub fn vdev_io_start(

@@ -1,11 +1,11 @@
 //! A node's children in an attempt.
 
-ghost use Rattle.std.specs.Prelude.{◌≡◌, ◌-◌, ◌^◌, ◌<◌, ◌∷◌, ◌++◌, ◌&&◌, [], length, IfOk, IfSome, OnErr, OnOk, Some, ℕ, option_map, slice_get, slice_set};
-ghost use Rattle.std.specs.List.{list_any};
+ghost use Rattle.std.specs.Prelude.{◌≡◌, ◌-◌, ◌^◌, ◌<◌, ◌∷◌, ◌++◌, ◌&&◌, [], length, IfOk, IfSome, OnErr, OnOk, Some, ℕ, option_map, true, slice_get, slice_set};
+ghost use Rattle.std.specs.List.{list_any, position};
 ghost use Rattle.zio_types.specs.Machine.{same_kind};
 ghost use Rattle.zio_frames.specs.Frames.{Child};
 ghost use Rattle.zio_frames.specs.Moves.{child_ended, child_told};
-ghost use Rattle.zio_stages.specs.NodeChildren.{Changes, HasTold, IsOfKind, first_owing, is_owing, layer_seat, new_child, seat_of};
+ghost use Rattle.zio_stages.specs.NodeChildren.{Changes, HasTold, IsOfKind, first_owing, is_awaited, is_owing, layer_seat, new_child, seat_of};
 ghost use Rattle.zio_stages.specs.declared.family.Layer.{Layer as SeenLayer};
 
 use std::alloc::Global;
@@ -73,11 +73,11 @@ impl Model for Family {
 
     ghost Value = { List Child };
 
-    ghost use Rattle.zio_stages.specs.NodeChildren.{AreBeside, children_by};
+    ghost use Rattle.zio_stages.specs.NodeChildren.{AllToldIfEnded, AreBeside, children_by};
 
     ghost view = { λ f. children_by f.brood f.sittings.items };
 
-    ghost invariant = { λ f. AreBeside f.brood f.sittings.items };
+    ghost invariant = { λ f. AreBeside f.brood f.sittings.items × AllToldIfEnded f.brood };
 }
 
 impl Family {
@@ -153,7 +153,8 @@ impl Family {
 
     /// The first of these kinds, in the order vdev, gang, logical, of which some child hasn't told or hasn't ended.
     pub fn missing(&self, kinds: &[ChildKind], phase: Phase) -> Option<ChildKind>
-        ensures { result ≡ first_owing kinds.now phase self.now }
+        ensures first { result ≡ first_owing kinds.now phase self.now }
+        ensures awaited { (kind : ChildKind) → result ≡ Some kind → list_any (is_awaited kind phase) self.now ≡ true }
     {
         if self.is_missing(kinds, ChildKind::Vdev, phase) {
             Some(ChildKind::Vdev)
@@ -168,13 +169,22 @@ impl Family {
 
     /// The kind is one of these, and some child of it hasn't told or hasn't ended.
     fn is_missing(&self, kinds: &[ChildKind], kind: ChildKind, phase: Phase) -> bool
-        ensures { result ≡ (list_any (same_kind kind) kinds.now && list_any (is_owing kind phase) self.now) }
+        ensures missing { result ≡ (list_any (same_kind kind) kinds.now && list_any (is_owing kind phase) self.now) }
+        ensures awaited { result ≡ true → list_any (is_awaited kind phase) self.now ≡ true }
     {
         kinds.contains(&kind) && self.any_missing(kind, phase)
     }
 
+    /// The first child of this kind that hasn't told, or hasn't ended.
+    pub fn first_missing(&self, kind: ChildKind, phase: Phase) -> Option<u32>
+        ensures { result ≡ position (is_owing kind phase) self.now }
+    {
+        self.brood.missing(kind, phase)
+    }
+
     fn any_missing(&self, kind: ChildKind, phase: Phase) -> bool
-        ensures { result ≡ list_any (is_owing kind phase) self.now }
+        ensures missing { result ≡ list_any (is_owing kind phase) self.now }
+        ensures awaited { result ≡ true → list_any (is_awaited kind phase) self.now ≡ true }
     {
         self.brood.missing(kind, phase).is_some()
     }

@@ -137,6 +137,13 @@ impl HeadsNode {
         }
     }
 
+    /// Its children by number.
+    pub fn family(&self) -> &Family
+        ensures { result.now ≡ self.now.family }
+    {
+        &self.family
+    }
+
     /// Hands the read of the header, or the walk below the next member, to a child. Where memory is refused the node is as
     /// before.
     pub fn gang_assemble(&mut self, alloc: Global, tops: &[Top]) -> Result<WalkStage, NoMemory>

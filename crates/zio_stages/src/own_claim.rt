@@ -17,7 +17,7 @@ ghost use Rattle.zio_stages.specs.NodeIos.{NoneSits};
 ghost use Rattle.zio_stages.specs.OwnClaims.{HasClaimEnded, IsBlockOf, IsClaimOver, IsOwnClaim, LiesWalked, claim_task, own_claimed, taken_by};
 ghost use Rattle.zio_stages.specs.OwnParts.{DoesThen, GoesOnAs, HandsTo, IsBehind};
 ghost use Rattle.zio_stages.specs.RequestClaims.{IsPastDue, IsPastWalk};
-ghost use Rattle.zio_stages.specs.SpaceCalls.{SpaceCall};
+ghost use Rattle.zio_stages.specs.SpaceCalls.{IsClaimAtMost, SpaceCall};
 ghost use Rattle.zio_stages.specs.StoredBlocks.{block_places};
 ghost use Rattle.zio_stages.specs.declared.family.Layer.TheVariants.{Within};
 
@@ -201,7 +201,7 @@ impl OwnClaim {
         ensures does { (calls : List SpaceCall) × S.made services.old calls services.new
             × ((t : Terms) (tops : List SeenTop) (family : List Child) (pointer : Option SeenBp) (front_asked : List Task) (front : List Slot) (st : Stack) →
             GoesOnAs t tops (plan_claim pointer) front st → IsOwnClaim self.old family pointer front_asked front st →
-            DoesThen t st calls (IsOwnClaim self.new family pointer front_asked front)) }
+            DoesThen t st calls (IsOwnClaim self.new family pointer front_asked front)) × IsClaimAtMost calls }
         ensures over { IsClaimOver (S.tops services.old) self.new }
         ensures ended { OnOk result (IsPastWalk self.old.block self.old.step → HasClaimEnded self.new.block self.new.step) }
         ensures tops { S.tops services.new ≡ S.tops services.old }

@@ -20,7 +20,7 @@ ghost use Rattle.zio_stages.specs.OwnParts.{DoesThen, IsOwed};
 ghost use Rattle.zio_stages.specs.PartNodes.{ComesTo, HandsMemberOf, IsAllocatedOver, IsMemberUnder, IsPartNodeOver, member_in, with_member};
 ghost use Rattle.zio_stages.specs.PartOwns.{IsKept, IsPartOwn, ShowsOwn, WrittenPart, part_plan, stored_as};
 ghost use Rattle.zio_stages.specs.PartWorks.{Front, HaveUnits, IsFront, IsMemberAt, IsNoLessFar, IsPartAt, IsPartOver, IsPlaced, IsToldAs, IsWritten, asks_left};
-ghost use Rattle.zio_stages.specs.SpaceCalls.{SpaceCall};
+ghost use Rattle.zio_stages.specs.SpaceCalls.{AreAsks, SpaceCall};
 ghost use Rattle.zio_stages.specs.Tops.{AreTops};
 
 use crate::family::{Family, Seat};
@@ -57,7 +57,7 @@ impl PartWork {
         requires tops { AreTops (S.tops services.old) }
         requires units { HaveUnits (S.tops services.old) }
         ensures does { (calls : Seq SpaceCall) × S.made services.old calls services.new × ((t : Terms) (f : Front) (o : WrittenPart) (st : Stack) →
-            IsFront t f o front → IsPartAt t self.old family.old f o st → DoesThen t st calls (ComesTo t result (IsPartAt t self.new family.new f o))) }
+            IsFront t f o front → IsPartAt t self.old family.old f o st → DoesThen t st calls (ComesTo t result (IsPartAt t self.new family.new f o))) × AreAsks calls }
         ensures over { IsPartOver (S.tops services.old) self.new family.new }
         ensures tops { S.tops services.new ≡ S.tops services.old }
         ensures io { self.new.io ≡ self.old.io }
@@ -121,6 +121,7 @@ impl PartWork {
         requires none { self.now.io ≡ None }
         ensures wait { (kind : ChildKind) → result ≡ ReadyStep.Wait kind → (t : Terms) (f : Front) (o : WrittenPart) (family : Seq Child) (st : Stack) →
             IsSeated st → IsPartAt t self.now family f o st → IsOwed kind Ready st × (kind ≡ Gang) }
+        ensures kind { (kind : ChildKind) → result ≡ ReadyStep.Wait kind → kind ≡ Gang }
         ensures tell { (pointer : Option Bp) → result ≡ ReadyStep.Tell pointer →
             (t : Terms) (o : WrittenPart) (asked : Seq Task) (slots : Seq Slot) → IsPartOwn t self.now.own o asked slots →
             EndsAnswered (λ (v : Value). early v ≡ pointer) (told_in slots) (left_behind_slots slots (part_plan t o)) }

@@ -23,7 +23,7 @@ ghost use Rattle.zio_stages.specs.OwnParts.{DoesThen, IsOwed};
 ghost use Rattle.zio_stages.specs.PartNodes.{ComesTo, HearsEarlyAt, HearsValueAt, IsAllocatedOver, IsAnsweredBy, IsMemberUnder, IsPartNode, IsPartNodeOver, IsStoredBy, member_in, with_member};
 ghost use Rattle.zio_stages.specs.PartOwns.{IsKept, IsPartOwn, ShowsOwn, WrittenPart, part_task, stored_as};
 ghost use Rattle.zio_stages.specs.PartWorks.{HaveUnits, IsIssued, IsMoreDue, IsNoLessFar, IsPlaced, IsWritten, asked_by, is_second};
-ghost use Rattle.zio_stages.specs.SpaceCalls.{SpaceCall};
+ghost use Rattle.zio_stages.specs.SpaceCalls.{AreAsks, SpaceCall};
 ghost use Rattle.zio_stages.specs.Tops.{AreTops};
 
 use crate::family::Family;
@@ -114,6 +114,13 @@ impl PartNode {
         PartNode::of(alloc, own, bytes, prio, name)
     }
 
+    /// Its children by number.
+    pub fn family(&self) -> &Family
+        ensures { result.now ≡ self.now.family }
+    {
+        &self.family
+    }
+
     /// Asks the space for the part's places, for a header's where these are refused, and hands out the gang's next member.
     /// Where memory is refused what was done before stays.
     pub fn dva_allocate<S: Services>(
@@ -125,7 +132,7 @@ impl PartNode {
         requires tops { AreTops (S.tops services.old) }
         requires units { HaveUnits (S.tops services.old) }
         ensures does { (calls : Seq SpaceCall) × S.made services.old calls services.new ×
-            ((t : Terms) (st : Stack) → IsPartNode t self.old st → DoesThen t st calls (ComesTo t result (IsPartNode t self.new))) }
+            ((t : Terms) (st : Stack) → IsPartNode t self.old st → DoesThen t st calls (ComesTo t result (IsPartNode t self.new))) × AreAsks calls }
         ensures over { IsPartNodeOver (S.tops services.old) self.new }
         ensures tops { S.tops services.new ≡ S.tops services.old }
         ensures child { IfOk result IsAllocatedOver }
@@ -146,6 +153,7 @@ impl PartNode {
         requires none { self.now.work.io ≡ None }
         ensures wait { (kind : ChildKind) → result ≡ ReadyStep.Wait kind → (t : Terms) (st : Stack) → IsSeated st → IsPartNode t self.now st →
             IsOwed kind Ready st }
+        ensures kind { (kind : ChildKind) → result ≡ ReadyStep.Wait kind → kind ≡ ChildKind.Gang }
         ensures tell { (pointer : Option Bp) → result ≡ ReadyStep.Tell pointer → (t : Terms) (st : Stack) → IsPartNode t self.now st →
             WillHave t st.outer pointer }
         ensures valid { (pointer : Option Bp) → result ≡ ReadyStep.Tell pointer → IfSome pointer (λ bp. IsTrue (valid bp)) }

@@ -16,7 +16,7 @@ ghost use Rattle.zio_stages.specs.NodeIos.{NoneSits};
 ghost use Rattle.zio_stages.specs.OwnParts.{DoesThen, IsBehind};
 ghost use Rattle.zio_stages.specs.PartOwns.{IsPartOwn, PartAsks, WrittenPart};
 ghost use Rattle.zio_stages.specs.PartWorks.{Front, HaveUnits, IsFront, IsPartAt, IsPartOver, asks_left};
-ghost use Rattle.zio_stages.specs.SpaceCalls.{IsAnswerFor, SpaceCall};
+ghost use Rattle.zio_stages.specs.SpaceCalls.{AreAsks, IsAnswerFor, SpaceCall};
 ghost use Rattle.zio_stages.specs.Tops.{AreTops};
 ghost use Rattle.zio_parts.specs.declared.parts.OwnWrite.TheVariants.{Due};
 ghost use Rattle.zio_stages.specs.declared.family.Layer.TheVariants.{Within};
@@ -101,7 +101,7 @@ impl PartWork {
         ensures does { (calls : Seq SpaceCall) × S.made services.old calls services.new ×
             ((t : Terms) (f : Front) (o : WrittenPart) (front : ℕ) (family : Seq Child) (st : Stack) → IsFront t f o front →
             IsPartAt t self.old family f o st →
-            IsPartOver (S.tops services.old) self.old family → DoesThen t st calls (IsPartAt t self.new family f o)) }
+            IsPartOver (S.tops services.old) self.old family → DoesThen t st calls (IsPartAt t self.new family f o)) × AreAsks calls }
         ensures over { (family : Seq Child) → IsPartOver (S.tops services.old) self.old family → IsPartOver (S.tops services.old) self.new family }
         ensures tops { S.tops services.new ≡ S.tops services.old }
         ensures io { self.new.io ≡ self.old.io }

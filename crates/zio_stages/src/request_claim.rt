@@ -21,7 +21,7 @@ ghost use Rattle.zio_stages.specs.RequestNodes.{IsOwnOver, IsRequestNode};
 ghost use Rattle.zio_stages.specs.RequestOwns.{IsOwnSeat};
 ghost use Rattle.zio_stages.specs.RequestReads.{HandsWalk, HasFound, IsWalkOver, IsWholeWalk};
 ghost use Rattle.zio_stages.specs.RequestStages.{with_own};
-ghost use Rattle.zio_stages.specs.SpaceCalls.{SpaceCall};
+ghost use Rattle.zio_stages.specs.SpaceCalls.{IsClaimAtMost, SpaceCall};
 ghost use Rattle.zio_stages.specs.Tops.{AreTops};
 ghost use Rattle.zio_stages.specs.declared.own_claim.ClaimStep.{ClaimStep as SeenStep};
 
@@ -122,6 +122,7 @@ impl RequestNode {
     pub fn gang_issue_claim(&self) -> Option<ChildKind>
         ensures wait { (kind : ChildKind) → result ≡ Some kind → (t : Terms) (st : Stack) → IsSeated st → IsRequestNode t self.now st →
             IsOwed kind Done st }
+        ensures kind { (kind : ChildKind) → result ≡ Some kind → kind ≡ ChildKind.Gang }
         ensures walked { result ≡ None → IsClaimWith (λ w. IsPastDue w.block w.step) self.now.own →
             IsClaimWith (λ w. IsPastWalk w.block w.step) self.now.own }
     {
@@ -149,7 +150,7 @@ impl RequestNode {
     ) -> Result<(), NoMemory>
         requires { IsOwnOver (S.tops services.old) self.old.own self.old.family }
         ensures does { (calls : Seq SpaceCall) × S.made services.old calls services.new
-            × ((t : Terms) (st : Stack) → IsRequestNode t self.old st → DoesThen t st calls (IsRequestNode t self.new)) }
+            × ((t : Terms) (st : Stack) → IsRequestNode t self.old st → DoesThen t st calls (IsRequestNode t self.new)) × IsClaimAtMost calls }
         ensures ended { OnOk result (IsClaimWith (λ w. IsPastWalk w.block w.step) self.old.own → IsClaimWith HasEndedClaim self.new.own) }
         ensures over { IsOwnOver (S.tops services.old) self.new.own self.new.family }
         ensures waiting { self.new.waiting ≡ self.old.waiting }

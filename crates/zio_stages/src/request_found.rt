@@ -1,43 +1,21 @@
-//! A read, a free or a claim in an attempt: it tells that it has no pointer, and closes once its own work came to something.
+//! A read, a free or a claim in an attempt: it closes once its own work came to something.
 
-ghost use Rattle.std.specs.Prelude.{◌≡◌, IfErr, IfOk, IfSome, None, Option, Some, length, true};
+ghost use Rattle.std.specs.Prelude.{◌≡◌, IfErr, IfOk, IfSome, Some, true};
 ghost use Rattle.std.specs.List.{list_all};
-ghost use Rattle.zio_types.specs.declared.request.Phase.TheVariants.{Ready};
-ghost use Rattle.zio_blkptr.specs.declared.pointer.Bp.{Bp};
 ghost use Rattle.zio_gang.specs.Attempts.{Terms};
 ghost use Rattle.zio_children.specs.RequestKids.{is_ended};
 ghost use Rattle.zio_frames.specs.Frames.{Stack};
-ghost use Rattle.zio_frames.specs.Moves.{WillHave};
-ghost use Rattle.zio_frames.specs.Seats.{IsSeated};
 ghost use Rattle.zio_stages.specs.KidLists.{LeavesList};
-ghost use Rattle.zio_stages.specs.OwnParts.{IsNoWrite, IsOwed};
+ghost use Rattle.zio_stages.specs.OwnParts.{IsNoWrite};
 ghost use Rattle.zio_stages.specs.RequestNodes.{Closes, IsRequestNode};
 ghost use Rattle.zio_stages.specs.RequestReads.{HasFound, found_of};
 ghost use Rattle.zio_stages.specs.RequestStoreds.{is_well, keeps_block, own_in};
 
-use crate::request_node::{CloseBack, Closed, NodeBack, Own, ReadyStep, RequestNode};
+use crate::request_node::{CloseBack, Closed, NodeBack, Own, RequestNode};
 use std::alloc::Global;
 use std::mem::replace;
-use zio_types::ChildKind;
 
 impl RequestNode {
-    /// Whether a request that is no write can tell that it has no pointer, once all its children were handed out.
-    pub fn ready_none(&self) -> ReadyStep
-        requires other { IsNoWrite self.now.waiting.request.work }
-        requires handed { self.now.kids.kids.handed ≡ length self.now.kids.kids.kids }
-        ensures wait { (kind : ChildKind) → result ≡ ReadyStep.Wait kind → (t : Terms) (st : Stack) → IsSeated st → IsRequestNode t self.now st →
-            IsOwed kind Ready st }
-        ensures tell { (pointer : Option Bp) → result ≡ ReadyStep.Tell pointer → (t : Terms) (st : Stack) → IsRequestNode t self.now st →
-            WillHave t st.outer pointer }
-        ensures none { (pointer : Option Bp) → result ≡ ReadyStep.Tell pointer → pointer ≡ None }
-    {
-        if self.kids.kids().all_told() {
-            ReadyStep::Tell(None)
-        } else {
-            ReadyStep::Wait(ChildKind::Logical)
-        }
-    }
-
     /// The decision of a read, a free or a claim, whose own work came to something. Where memory is refused the node comes back.
     pub fn close_found(self, alloc: Global) -> Result<Closed, NodeBack>
         requires found { HasFound self.own }

@@ -113,6 +113,7 @@ impl RequestNode {
     pub fn gang_issue_free(&self) -> Option<ChildKind>
         ensures wait { (kind : ChildKind) → result ≡ Some kind → (t : Terms) (st : Stack) → IsSeated st → IsRequestNode t self.now st →
             IsOwed kind Done st }
+        ensures kind { (kind : ChildKind) → result ≡ Some kind → kind ≡ ChildKind.Gang }
         ensures walked { result ≡ None → IsFreeWith (λ w. HasBegun w.walk) self.now.own → IsFreeWith HasWalked self.now.own }
     {
         match &self.own {

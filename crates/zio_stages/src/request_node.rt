@@ -212,21 +212,6 @@ impl RequestNode {
         Ok(Start::Child { number, whole })
     }
 
-    /// Whether a null can tell that it has no pointer, once all its children were handed out.
-    pub fn ready_null(&self) -> ReadyStep
-        requires { self.now.waiting.request.work ≡ Work.Null }
-        ensures wait { (kind : ChildKind) → result ≡ ReadyStep.Wait kind → (t : Terms) (st : Stack) → IsSeated st → IsRequestNode t self.now st →
-            self.now.kids.kids.handed ≡ length self.now.kids.kids.kids → IsOwed kind Ready st }
-        ensures tell { (pointer : Option Bp) → result ≡ ReadyStep.Tell pointer → (t : Terms) (st : Stack) → IsRequestNode t self.now st →
-            WillHave t st.outer pointer }
-    {
-        if self.kids.kids().all_told() {
-            ReadyStep::Tell(None)
-        } else {
-            ReadyStep::Wait(ChildKind::Logical)
-        }
-    }
-
     /// Whether the attempt of a null can end, once all its children were handed out.
     pub fn done_null(&self) -> DoneStep
         ensures wait { (kind : ChildKind) → result ≡ DoneStep.Wait kind → (t : Terms) (st : Stack) → IsSeated st → IsRequestNode t self.now st →
@@ -323,6 +308,13 @@ impl RequestNode {
             self.failmode,
             self.kids.kids().bits(),
         )
+    }
+
+    /// Its children by number.
+    pub fn family(&self) -> &Family
+        ensures { result.now ≡ self.now.family }
+    {
+        &self.family
     }
 
     /// Of which kind the child is: logical if it is the attempt of one of its children's trees.

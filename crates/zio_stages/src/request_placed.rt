@@ -25,7 +25,7 @@ ghost use Rattle.zio_stages.specs.RequestWrites.{
   IsReadyWrite,
   IsWrittenWrite,
 };
-ghost use Rattle.zio_stages.specs.SpaceCalls.{SpaceCall};
+ghost use Rattle.zio_stages.specs.SpaceCalls.{AreAsks, SpaceCall};
 ghost use Rattle.zio_stages.specs.Tops.{AreTops};
 ghost use Rattle.zio_stages.specs.declared.part_node.PartNode.{PartNode as SeenPart};
 
@@ -67,7 +67,7 @@ impl RequestNode {
         requires units { HaveUnits (S.tops services.old) }
         ensures does { (calls : Seq SpaceCall) × S.made services.old calls services.new ×
             ((t : Terms) (st : Stack) → IsRequestNode t self.old st →
-            DoesThen t st calls (ComesTo t result (IsRequestNode t self.new))) }
+            DoesThen t st calls (ComesTo t result (IsRequestNode t self.new))) × AreAsks calls }
         ensures over { IsOwnOver (S.tops services.old) self.new.own self.new.family }
         ensures tops { S.tops services.new ≡ S.tops services.old }
         ensures child { IfOk result IsAllocatedOver }

@@ -49,6 +49,7 @@ impl RequestNode {
         requires valid { HaveValidPointers self.old.kids.kids }
         ensures wait { (kind : ChildKind) → result ≡ Ok (Content.Wait kind) → (t : Terms) (st : Stack) → IsSeated st → IsRequestNode t self.old st →
             IsOwed kind Ready st }
+        ensures kind { (kind : ChildKind) → result ≡ Ok (Content.Wait kind) → kind ≡ ChildKind.Logical }
         ensures waits { (kind : ChildKind) → result ≡ Ok (Content.Wait kind) → self.new ≡ self.old }
         ensures set { result ≡ Ok Content.Set → (t : Terms) (st : Stack) → IsRequestNode t self.old st → IsRequestNode t self.new st }
         ensures over { (tops : Seq SeenTop) → IsOwnOver tops self.old.own self.old.family → IsOwnOver tops self.new.own self.new.family }
@@ -77,6 +78,7 @@ impl RequestNode {
         requires { IsPlacedWrite self.now.own }
         ensures wait { (kind : ChildKind) → result ≡ ReadyStep.Wait kind → (t : Terms) (st : Stack) → IsSeated st → IsRequestNode t self.now st →
             IsOwed kind Ready st }
+        ensures kind { (kind : ChildKind) → result ≡ ReadyStep.Wait kind → kind ≡ ChildKind.Gang }
         ensures tell { (pointer : Option Bp) → result ≡ ReadyStep.Tell pointer → (t : Terms) (st : Stack) → IsRequestNode t self.now st →
             WillHave t st.outer pointer }
         ensures valid { (pointer : Option Bp) → result ≡ ReadyStep.Tell pointer → IfSome pointer (λ bp. IsTrue (valid bp)) }

@@ -1,4 +1,4 @@
-use Rattle.std.proofs.Common.{◌≡◌, ◌∙◌, arith, rules}
+use Rattle.std.proofs.Common.{◌∙◌, arith, rules}
 use Rattle.zio_stages.proofs.GiveBackLemmas.{gives_more, gives_none, gives_still}
 use Rattle.zio_stages.proofs.give_back.give_back.Goals as goal
 

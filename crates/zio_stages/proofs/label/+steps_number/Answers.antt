@@ -1,4 +1,4 @@
-use Rattle.std.proofs.Common.{◌<◌, ◌^◌, length, arith, Fits, w64}
+use Rattle.std.proofs.Common.{◌<◌, ◌^◌, arith}
 use Rattle.zio_stages.proofs.LabelLemmas.{below_power}
 use Rattle.zio_stages.proofs.label.+steps_number.Goals as goal
 

@@ -1,4 +1,3 @@
-use Rattle.std.proofs.Common.{inl}
 use Rattle.zio_stages.specs.ReadIos.{IsReadOutIn}
 use Rattle.zio_stages.proofs.NodeIoLemmas.{sits_still}
 use Rattle.zio_stages.proofs.OutMoves.{read_goes_on, read_idle}

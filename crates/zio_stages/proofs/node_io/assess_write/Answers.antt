@@ -1,4 +1,3 @@
-use Rattle.std.proofs.Common.{inl}
 use Rattle.zio_stages.specs.WriteIos.{IsOutIn}
 use Rattle.zio_stages.proofs.NodeIoLemmas.{sits_still}
 use Rattle.zio_stages.proofs.OutMoves.{write_goes_on, write_idle}

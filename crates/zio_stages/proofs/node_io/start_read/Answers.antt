@@ -1,6 +1,6 @@
 use Rattle.std.proofs.Common.{◌≡◌, ◌∷◌, ◌++◌, [], ap, subst, sym, ◌∙◌, true}
 use Rattle.zio_types.specs.declared.request.ChildKind.TheVariants.{Vdev}
-use Rattle.zio_frames.specs.Frames.{Child, Seat as SeatOf, asking}
+use Rattle.zio_frames.specs.Frames.{Seat as SeatOf, asking}
 use Rattle.zio_stages.specs.NodeChildren.{layer_seat, new_child}
 use Rattle.zio_stages.specs.NodeIos.{SitsOn}
 use Rattle.zio_stages.specs.ReadIos.{IsReadOutIn, outs_of_read}

@@ -1,5 +1,3 @@
-use Rattle.zio_stages.specs.WriteIos.{ShowsOuts}
-use Rattle.zio_stages.specs.declared.write_io.IoStep.{IoStep}
 use Rattle.zio_stages.proofs.NodeIoMoves.{write_owed}
 use Rattle.zio_stages.proofs.node_io.write_next.Goals as goal
 

@@ -6,7 +6,10 @@ use Rattle.zio_nodes.proofs.BoundLemmas.{vdev_counts}
 use Rattle.zio_nodes.proofs.CopiesLemmas.{copies_go, copies_lead}
 use Rattle.zio_nodes.proofs.StageLemmas.{read_done}
 use Rattle.zio_masks.specs.declared.stage.Stage.TheVariants.{VdevIoDone}
-use Rattle.zio_nodes.specs.StageMoves.{MayGoBack}
+use Rattle.zio_nodes.proofs.StageAllows.{goes_back, stalls_so}
+use Rattle.zio_nodes.specs.declared.node.Node.TheVariants.{Copies}
+use Rattle.zio_types.specs.declared.request.Phase.TheVariants.{Done}
+use Rattle.zio_types.specs.declared.request.ChildKind.TheVariants.{Vdev}
 use Rattle.zio_nodes.proofs.copies_at.CopiesAt.vdev_io_done.Goals as goal
 
 pub returns-in-Wait-clause-moves : goal.returns-in-Wait-clause-moves
@@ -28,7 +31,11 @@ returns-in-On-clause-over c = record {
 }
 
 pub returns-in-More-clause-stages : goal.returns-in-More-clause-stages
-returns-in-More-clause-stages c = inr (subst MayGoBack (sym c.requires.stage) tt, refl)
+returns-in-More-clause-stages c = inr (goes_back (Copies c.args.self.now) _ c.requires.stage refl, refl)
 
 pub returns-in-On-clause-stages : goal.returns-in-On-clause-stages
 returns-in-On-clause-stages c = inl (copies_lead c.args.self.now VdevIoDone c.next-self.result c.requires.stage c.next-self.ensures)
+
+pub returns-in-Wait-clause-stages : goal.returns-in-Wait-clause-stages
+returns-in-Wait-clause-stages c =
+    (refl, stalls_so c.args.self.now.stage VdevIoDone Vdev Done c.requires.stage refl)

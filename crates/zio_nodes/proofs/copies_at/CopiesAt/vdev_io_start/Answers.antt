@@ -9,6 +9,9 @@ use Rattle.zio_nodes.specs.Told.{is_told}
 use Rattle.zio_nodes.proofs.CopiesLemmas.{answers_handed, asks_as_read, copies_go, copies_lead}
 use Rattle.zio_nodes.proofs.StageLemmas.{read_out}
 use Rattle.zio_masks.specs.declared.stage.Stage.TheVariants.{VdevIoStart}
+use Rattle.zio_types.specs.declared.request.ChildKind.TheVariants.{Vdev}
+use Rattle.zio_nodes.specs.declared.node.Node.TheVariants.{Copies}
+use Rattle.zio_nodes.proofs.StageAllows.{grows_so}
 use Rattle.zio_nodes.proofs.copies_at.CopiesAt.vdev_io_start.Goals as goal
 
 pub returns-in-Ok-Some-clause-moves : goal.returns-in-Ok-Some-clause-moves
@@ -51,3 +54,6 @@ returns-in-Ok-None-clause-over c = record {
 
 pub returns-in-Ok-None-clause-stages : goal.returns-in-Ok-None-clause-stages
 returns-in-Ok-None-clause-stages c = inl (copies_lead c.args.self.now VdevIoStart c.next-self.result c.requires.stage c.next-self.ensures)
+
+pub returns-in-Ok-Some-clause-stages : goal.returns-in-Ok-Some-clause-stages
+returns-in-Ok-Some-clause-stages c = let g = grows_so (Copies c.args.self.now) VdevIoStart Vdev c.requires.stage refl (λ e. cc) in (refl, g.0, g.1)

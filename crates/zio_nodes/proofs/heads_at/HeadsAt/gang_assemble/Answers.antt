@@ -1,4 +1,4 @@
-use Rattle.std.proofs.Common.{◌≡◌, ◌+◌, ◌≤◌, ap, arith, length, refl, subst, sym, ◌∙◌, inl}
+use Rattle.std.proofs.Common.{◌≡◌, ◌+◌, ◌≤◌, ap, arith, length, refl, subst, sym, ◌∙◌, inl, Ok}
 use Rattle.zio_types.specs.declared.request.ChildKind.TheVariants.{Gang}
 use Rattle.zio_frames.specs.Frames.{fresh_stack}
 use Rattle.zio_stages.specs.CopiesNodes.{IsCopiesNode}
@@ -12,6 +12,12 @@ use Rattle.zio_nodes.proofs.BoundLemmas.{any_counts, kid_below, kid_least, walk_
 use Rattle.zio_nodes.proofs.HeadsLemmas.{walk_goes, walk_grows_by, walk_leads}
 use Rattle.zio_nodes.proofs.StageLemmas.{walk_assembled}
 use Rattle.zio_masks.specs.declared.stage.Stage.TheVariants.{GangAssemble}
+use Rattle.zio_nodes.proofs.StageAllows.{grows_so, stalls_so}
+use Rattle.zio_types.specs.declared.request.Phase.TheVariants.{Done}
+use Rattle.zio_nodes.proofs.Stalling.{owed_in}
+use Rattle.std.specs.List.{list_any}
+use Rattle.zio_stages.specs.NodeChildren.{is_awaited}
+use Rattle.zio_stages.specs.declared.heads_node.HeadsNode.{HeadsNode}
 use Rattle.zio_nodes.proofs.heads_at.HeadsAt.gang_assemble.Goals as goal
 
 pub returns-in-Ok-Head-clause-moves : goal.returns-in-Ok-Head-clause-moves
@@ -60,13 +66,34 @@ returns-in-Ok-Wait-clause-moves c = λ t st now.
       owing = any_counts Gang st.children (waits.1 now.seated);
     }
 
-pub returns-in-Ok-On-clause-moves : goal.returns-in-Ok-On-clause-moves
-returns-in-Ok-On-clause-moves c = λ t st now.
+pub returns-in_default-clause-moves : goal.returns-in_default-clause-moves
+returns-in_default-clause-moves c = λ t st now.
     let new = c.gang_assemble.new.self in
     let goes : IsWalkStage t new st On = subst (IsWalkStage t new st) c.in-Ok-On.field-0-is (c.in-Ok-On.ensures.stage t st now.tops_are now.is) in
     walk_goes t st c.args.self.now _ goes
     (ap is_told (walk_assembled c.with_gang.result c.next-self.result c.with_gang.ensures.stages c.next-self.ensures) ∙ sym (ap is_told c.requires.stage))
 
-pub returns-in-Ok-On-clause-stages : goal.returns-in-Ok-On-clause-stages
-returns-in-Ok-On-clause-stages c =
+pub returns-in_default-clause-stages : goal.returns-in_default-clause-stages
+returns-in_default-clause-stages c =
     inl (walk_leads c.args.self.now c.with_gang.result GangAssemble c.next-self.result c.requires.stage c.with_gang.ensures.stages c.next-self.ensures)
+
+pub returns-in-Ok-Head-clause-stages : goal.returns-in-Ok-Head-clause-stages
+returns-in-Ok-Head-clause-stages c = let g = grows_so (Heads c.args.self.now) GangAssemble Gang c.requires.stage refl (λ e. cc) in (refl, g.0, g.1)
+
+pub returns-in-Ok-Below-clause-stages : goal.returns-in-Ok-Below-clause-stages
+returns-in-Ok-Below-clause-stages c = let g = grows_so (Heads c.args.self.now) GangAssemble Gang c.requires.stage refl (λ e. cc) in (refl, g.0, g.1)
+
+pub returns-in-Ok-Wait-clause-stages : goal.returns-in-Ok-Wait-clause-stages
+returns-in-Ok-Wait-clause-stages c =
+    (refl, stalls_so c.args.self.now.stage GangAssemble Gang Done c.requires.stage refl)
+
+pub returns-in-Some-clause-moves : goal.returns-in-Some-clause-moves
+returns-in-Some-clause-moves c = λ t st now.
+    let new = c.gang_assemble.new.self in
+    let same = (c.gang_assemble.ensures.on (c.in-Ok-On.is ∙ ap (λ (s : WalkStage). Ok s) c.in-Ok-On.field-0-is)).0 in
+    let owed = (c.gang_stall.ensures.some c.in-Some.kind c.in-Some.phase c.in-Some.is).1 in
+    record {
+      stays = record { is = subst (λ (n : HeadsNode). IsHeadsNode t n st) (sym same) now.is; told = refl; gave_same = refl; no_calls = refl };
+      owing = owed_in c.in-Some.kind c.in-Some.phase new.family st.children (ap (λ (n : HeadsNode). n.family) same ∙ now.is.children)
+          (ap (list_any (is_awaited c.in-Some.kind c.in-Some.phase)) (sym c.family.ensures) ∙ owed);
+    }

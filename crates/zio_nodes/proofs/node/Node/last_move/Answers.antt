@@ -1,9 +1,9 @@
-use Rattle.std.proofs.Common.{◌≡◌, refl, subst, sym}
+use Rattle.std.proofs.Common.{refl, subst, sym}
 use Rattle.std.specs.Prelude.{IfErr, IfOk}
 use Rattle.zio_graph.specs.Stages.{Lessens}
 use Rattle.zio_nodes.specs.Nodes.{MovesWith, StaysWith, left_of}
 use Rattle.zio_nodes.specs.declared.node.Node.{Node}
-use Rattle.zio_nodes.specs.declared.node.Node.TheVariants.{Copies, Heads, Leaf, Part, Request}
+use Rattle.zio_nodes.specs.declared.node.Node.TheVariants.{Copies, Heads, Leaf, Part}
 use Rattle.zio_nodes.proofs.NodeLemmas.{bare_move, bare_moves, bare_stays}
 use Rattle.zio_nodes.proofs.node.Node.last_move.Goals as goal
 

@@ -1,4 +1,4 @@
-use Rattle.std.proofs.Common.{◌≡◌, subst}
+use Rattle.std.proofs.Common.{subst}
 use Rattle.std.specs.Prelude.{IfErr, IfOk}
 use Rattle.zio_graph.specs.Stages.{EachIn, Lessens, TellsValid}
 use Rattle.zio_nodes.specs.Nodes.{IsNodeOver, IsTreeOver, MovesWith, StaysWith, left_of}

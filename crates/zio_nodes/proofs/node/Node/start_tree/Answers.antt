@@ -1,10 +1,9 @@
-use Rattle.std.proofs.Common.{◌≡◌, subst, sym, ◌∙◌}
+use Rattle.std.proofs.Common.{subst, sym, ◌∙◌}
 use Rattle.std.specs.Prelude.{IfErr, IfOk}
 use Rattle.zio_graph.specs.Stages.{EachIn, Lessens, TellsValid}
 use Rattle.zio_nodes.specs.Nodes.{IsNodeOver, IsTreeOver, MovesBare, StaysBare, left_of}
 use Rattle.zio_nodes.specs.StageMoves.{IsStageMove}
 use Rattle.zio_nodes.specs.declared.node.Node.{Node}
-use Rattle.zio_nodes.specs.declared.node.Node.TheVariants.{Tree}
 use Rattle.zio_nodes.proofs.Settles.{settled, settled_back, start_in_place, start_stages}
 use Rattle.zio_nodes.proofs.node.Node.start_tree.Goals as goal
 

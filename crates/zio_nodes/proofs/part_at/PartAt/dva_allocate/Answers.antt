@@ -1,4 +1,4 @@
-use Rattle.std.proofs.Common.{◌≡◌, ◌∙◌, List, [], Ok, Option, ap, arith, length, refl, subst, sym, true, inl}
+use Rattle.std.proofs.Common.{◌≡◌, ◌∙◌, List, [], Ok, Option, Some, ap, arith, length, refl, subst, sym, true, inl}
 use Rattle.std.specs.Prelude.{IfSome}
 use Rattle.zio_masks.specs.declared.stage.Stage.{Stage}
 use Rattle.zio_masks.specs.declared.stage.Stage.TheVariants.{DvaAllocate, Ready}
@@ -21,6 +21,10 @@ use Rattle.zio_masks.specs.declared.pipeline.TheConstants.{WRITE}
 use Rattle.zio_masks.specs.Stages.{has}
 use Rattle.zio_stages.proofs.PartMoves.{does_nothing}
 use Rattle.zio_nodes.proofs.Refused.{on_err}
+use Rattle.zio_nodes.specs.StageMoves.{CallsFit, grows_at}
+use Rattle.zio_nodes.proofs.NodeLemmas.{no_calls}
+use Rattle.zio_nodes.proofs.StageAllows.{one_more_few}
+use Rattle.zio_types.specs.declared.request.ChildKind.TheVariants.{Gang}
 use Rattle.zio_nodes.proofs.part_at.PartAt.dva_allocate.Goals as goal
 
 pub returns-in-Ok-Member-clause-moves : goal.returns-in-Ok-Member-clause-moves
@@ -32,6 +36,7 @@ returns-in-Ok-Member-clause-moves g c =
     record {
       calls = d.0;
       were_made = d.1;
+      fits = subst (λ (s : Stage). CallsFit s d.0) (sym c.requires.stage) d.3;
       moves = λ t st now.
           let hands : DoesThen t st d.0 (AllocatesThen t (Member child) (IsPartNode t at.node)) =
           subst (λ (a : Allocated). DoesThen t st d.0 (AllocatesThen t a (IsPartNode t at.node))) c.in-Ok-Member.field-0-is (d.2 t st now.is) in
@@ -46,6 +51,7 @@ returns-in-Ok-Placed-clause-moves g c =
     record {
       calls = d.0;
       were_made = d.1;
+      fits = subst (λ (s : Stage). CallsFit s d.0) (sym c.requires.stage) d.3;
       moves = λ t st now.
           let does : DoesThen t st d.0 (AllocatesThen t Placed (IsPartNode t at.node)) =
           subst (λ (a : Allocated). DoesThen t st d.0 (AllocatesThen t a (IsPartNode t at.node))) c.in-Ok-Placed.field-0-is (d.2 t st now.is) in
@@ -57,7 +63,7 @@ returns-in-Err-clause-refused g c =
     let d = c.in-Err.ensures.does in
     let was = c.args.self.now in
     let at : PartAt = record { node = c.dva_allocate.new.self; stage = was.stage; is_due = was.is_due } in
-    record { calls = d.0; were_made = d.1; goes = λ t st now. part_goes t st was at d.0 (d.2 t st now.is) refl }
+    record { calls = d.0; were_made = d.1; fits = subst (λ (s : Stage). CallsFit s d.0) (sym c.requires.stage) d.3; goes = λ t st now. part_goes t st was at d.0 (d.2 t st now.is) refl }
 
 pub returns-in-Ok-Member-clause-over : goal.returns-in-Ok-Member-clause-over
 returns-in-Ok-Member-clause-over g c =
@@ -127,5 +133,17 @@ returns-in_err-room-clause-refused g c =
     on_err c.from_residual.result (record {
       calls = [];
       were_made = g.met.S.Services.made_none c.args.services.now;
+      fits = no_calls at.stage;
       goes = λ t st now. part_goes t st at at [] (does_nothing t st _ now.is) refl;
     })
+
+pub returns-in-Ok-Member-clause-stages : goal.returns-in-Ok-Member-clause-stages
+returns-in-Ok-Member-clause-stages g c =
+    let child = c.in-Ok-Member.child in
+    let old = c.args.self.now.node.work.own.part in
+    let new = c.dva_allocate.new.self.work.own.part in
+    let members : new.members ≡ with_member (Some child) old.members =
+    subst (λ (a : Allocated). new.members ≡ with_member (member_in a) old.members) c.in-Ok-Member.field-0-is c.in-Ok-Member.ensures.members in
+    let under : IsMemberUnder new child =
+    subst (λ (a : Allocated). IfSome (member_in a) (IsMemberUnder new)) c.in-Ok-Member.field-0-is c.in-Ok-Member.ensures.next in
+    (refl, ap (λ (s : Stage). grows_at s Gang) c.requires.stage, λ e. one_more_few old.members new.members child members under.few)

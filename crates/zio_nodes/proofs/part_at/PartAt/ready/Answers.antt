@@ -11,6 +11,8 @@ use Rattle.zio_masks.specs.declared.stage.Stage.TheVariants.{Ready}
 use Rattle.zio_nodes.proofs.StageLeads.{next_of}
 use Rattle.zio_masks.specs.declared.pipeline.TheConstants.{WRITE}
 use Rattle.zio_masks.specs.Stages.{has}
+use Rattle.zio_nodes.proofs.StageAllows.{stalls_so}
+use Rattle.zio_nodes.specs.StageMoves.{stalls_at}
 use Rattle.zio_nodes.proofs.part_at.PartAt.ready.Goals as goal
 
 pub ready-requires-clause-placed : goal.ready-requires-clause-placed
@@ -55,3 +57,7 @@ returns-in-Tell-clause-left c =
 pub returns-in-Tell-clause-stages : goal.returns-in-Tell-clause-stages
 returns-in-Tell-clause-stages c =
     (c.requires.stage, next_of WRITE (has WRITE) c.args.self.now.stage Ready c.next-self.result c.requires.stage (λ s lt. refl) c.next-self.ensures)
+
+pub returns-in-Wait-clause-stages : goal.returns-in-Wait-clause-stages
+returns-in-Wait-clause-stages c =
+    (refl, stalls_so c.args.self.now.stage Ready c.in-Wait.kind ReadyPhase c.requires.stage (ap (λ k. stalls_at Ready k ReadyPhase) (c.ready.ensures.kind c.in-Wait.kind c.in-Wait.is)))

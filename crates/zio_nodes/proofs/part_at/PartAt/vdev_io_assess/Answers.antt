@@ -10,7 +10,8 @@ use Rattle.zio_masks.specs.declared.stage.Stage.TheVariants.{VdevIoAssess}
 use Rattle.zio_nodes.proofs.StageLeads.{next_of}
 use Rattle.zio_masks.specs.declared.pipeline.TheConstants.{WRITE}
 use Rattle.zio_masks.specs.Stages.{has}
-use Rattle.zio_nodes.specs.StageMoves.{MayGoBack}
+use Rattle.zio_nodes.proofs.StageAllows.{goes_again}
+use Rattle.zio_nodes.specs.declared.node.Node.TheVariants.{Part}
 use Rattle.zio_nodes.proofs.part_at.PartAt.vdev_io_assess.Goals as goal
 
 pub vdev_io_assess-goes_again-requires-clause-due : goal.vdev_io_assess-goes_again-requires-clause-due
@@ -71,7 +72,9 @@ returns-clause-left c =
     omega (arith, share, now, ap part_stages on, ap part_stages c.requires.stage)
 
 pub returns-then-goes_again-clause-stages : goal.returns-then-goes_again-clause-stages
-returns-then-goes_again-clause-stages c = inr (subst MayGoBack (sym c.requires.stage) tt, refl)
+returns-then-goes_again-clause-stages c =
+    let again = c.vdev_io_assess-goes_again.ensures.again c.if-goes_again.true in
+    inr (goes_again (Part c.args.self.now) _ c.requires.stage again.0 again.1, refl)
 
 pub returns-clause-stages : goal.returns-clause-stages
 returns-clause-stages c =

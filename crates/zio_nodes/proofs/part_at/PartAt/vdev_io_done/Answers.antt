@@ -11,7 +11,10 @@ use Rattle.zio_masks.specs.declared.stage.Stage.TheVariants.{VdevIoDone}
 use Rattle.zio_nodes.proofs.StageLeads.{next_of}
 use Rattle.zio_masks.specs.declared.pipeline.TheConstants.{WRITE}
 use Rattle.zio_masks.specs.Stages.{has}
-use Rattle.zio_nodes.specs.StageMoves.{MayGoBack}
+use Rattle.zio_nodes.proofs.StageAllows.{goes_back, stalls_so}
+use Rattle.zio_nodes.specs.declared.node.Node.TheVariants.{Part}
+use Rattle.zio_types.specs.declared.request.Phase.TheVariants.{Done}
+use Rattle.zio_types.specs.declared.request.ChildKind.TheVariants.{Vdev}
 use Rattle.zio_nodes.proofs.part_at.PartAt.vdev_io_done.Goals as goal
 
 pub returns-in-Wait-clause-moves : goal.returns-in-Wait-clause-moves
@@ -70,8 +73,12 @@ returns-in-On-clause-left c =
     omega (arith, now, was, ap part_stages on, ap part_stages c.requires.stage)
 
 pub returns-in-More-clause-stages : goal.returns-in-More-clause-stages
-returns-in-More-clause-stages c = inr (subst MayGoBack (sym c.requires.stage) tt, refl)
+returns-in-More-clause-stages c = inr (goes_back (Part c.args.self.now) _ c.requires.stage refl, refl)
 
 pub returns-in-On-clause-stages : goal.returns-in-On-clause-stages
 returns-in-On-clause-stages c =
     inl (next_of WRITE (has WRITE) c.args.self.now.stage VdevIoDone c.next-self.result c.requires.stage (λ s lt. refl) c.next-self.ensures)
+
+pub returns-in-Wait-clause-stages : goal.returns-in-Wait-clause-stages
+returns-in-Wait-clause-stages c =
+    (refl, stalls_so c.args.self.now.stage VdevIoDone Vdev Done c.requires.stage refl)

@@ -17,6 +17,9 @@ use Rattle.zio_masks.specs.declared.pipeline.TheConstants.{WRITE}
 use Rattle.zio_masks.specs.Stages.{has}
 use Rattle.zio_stages.proofs.PartMoves.{does_nothing}
 use Rattle.zio_nodes.proofs.Refused.{on_err}
+use Rattle.zio_types.specs.declared.request.ChildKind.TheVariants.{Vdev}
+use Rattle.zio_nodes.specs.declared.node.Node.TheVariants.{Part}
+use Rattle.zio_nodes.proofs.StageAllows.{grows_so}
 use Rattle.zio_nodes.proofs.part_at.PartAt.vdev_io_start.Goals as goal
 
 pub returns-in-Ok-Some-clause-moves : goal.returns-in-Ok-Some-clause-moves
@@ -102,3 +105,6 @@ pub returns-in_err-room-clause-refused : goal.returns-in_err-room-clause-refused
 returns-in_err-room-clause-refused c =
     let at = c.args.self.now in
     on_err c.from_residual.result (λ t st now. part_goes t st at at [] (does_nothing t st _ now.is) refl)
+
+pub returns-in-Ok-Some-clause-stages : goal.returns-in-Ok-Some-clause-stages
+returns-in-Ok-Some-clause-stages c = let g = grows_so (Part c.args.self.now) VdevIoStart Vdev c.requires.stage refl (λ e. cc) in (refl, g.0, g.1)

@@ -14,7 +14,7 @@ use Rattle.zio_stages.specs.declared.request_node.RequestNode.{RequestNode}
 use Rattle.zio_nodes.specs.Bounds.{walk_max}
 use Rattle.zio_nodes.specs.OwnAts.{IsClaimAtStage}
 use Rattle.zio_nodes.specs.OwnBounds.{claim_stages, claiming_left}
-use Rattle.zio_nodes.specs.declared.node.Node.TheVariants.{Heads}
+use Rattle.zio_nodes.specs.declared.node.Node.TheVariants.{Heads, Request}
 use Rattle.zio_nodes.specs.Told.{is_told}
 use Rattle.zio_nodes.proofs.OwnLefts.{claim_gave_same, claim_less}
 use Rattle.zio_nodes.proofs.OwnOver.{claim_over, claim_stands, claim_work, handed_at, is_claim, not_start}
@@ -25,6 +25,7 @@ use Rattle.zio_masks.specs.declared.pipeline.TheConstants.{CLAIM}
 use Rattle.zio_types.specs.declared.request.Kind.TheVariants.{Claim as ClaimKind}
 use Rattle.zio_nodes.proofs.StageLeads.{gang_leads, gang_of_claim}
 use Rattle.zio_nodes.proofs.Refused.{on_err}
+use Rattle.zio_nodes.proofs.StageAllows.{grows_so}
 use Rattle.zio_nodes.proofs.request_at.RequestAt.claim_gang_assemble.Goals as goal
 
 pub returns-in_err-room-clause-refused : goal.returns-in_err-room-clause-refused
@@ -195,3 +196,6 @@ returns-in-Ok-None-clause-stages c =
     let r = at.node in
     inl (gang_leads at ClaimKind CLAIM c.with_gang.result GangAssemble c.next-self.result c.requires.kind c.requires.stage
     (gang_of_claim r.waiting.request.work r.waiting.block c.requires.kind) (λ s. refl) c.with_gang.ensures.stages c.next-self.ensures)
+
+pub returns-in-Ok-Some-clause-stages : goal.returns-in-Ok-Some-clause-stages
+returns-in-Ok-Some-clause-stages c = let g = grows_so (Request c.args.self.now) GangAssemble Gang c.requires.stage refl (λ e. cc) in (refl, g.0, g.1)

@@ -15,6 +15,8 @@ use Rattle.zio_nodes.proofs.ClaimLemmas.{stage_less}
 use Rattle.zio_masks.specs.declared.pipeline.TheConstants.{CLAIM}
 use Rattle.zio_types.specs.declared.request.Kind.TheVariants.{Claim as ClaimKind}
 use Rattle.zio_nodes.proofs.StageLeads.{past_leads}
+use Rattle.zio_nodes.proofs.StageAllows.{stalls_so}
+use Rattle.zio_nodes.specs.StageMoves.{stalls_at}
 use Rattle.zio_nodes.proofs.request_at.RequestAt.claim_gang_issue.Goals as goal
 
 pub returns-in-Some-clause-moves : goal.returns-in-Some-clause-moves
@@ -55,3 +57,7 @@ pub returns-clause-stages : goal.returns-clause-stages
 returns-clause-stages c =
     inl (past_leads c.args.self.now ClaimKind CLAIM c.with_gang.result GangIssue c.next-self.result c.requires.kind c.requires.stage (lit≤ tt) (λ s. refl)
     c.with_gang.ensures.stages c.next-self.ensures)
+
+pub returns-in-Some-clause-stages : goal.returns-in-Some-clause-stages
+returns-in-Some-clause-stages c =
+    (refl, stalls_so c.args.self.now.stage GangIssue c.in-Some.kind Done c.requires.stage (ap (λ k. stalls_at GangIssue k Done) (c.gang_issue_claim.ensures.kind c.in-Some.kind c.in-Some.is)))

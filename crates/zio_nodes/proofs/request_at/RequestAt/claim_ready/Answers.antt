@@ -6,7 +6,7 @@ use Rattle.zio_nodes.specs.OwnAts.{IsClaimAtStage}
 use Rattle.zio_nodes.specs.OwnBounds.{claim_stages}
 use Rattle.zio_nodes.specs.Told.{is_told}
 use Rattle.zio_nodes.proofs.OwnLefts.{claim_less}
-use Rattle.zio_nodes.proofs.OwnOver.{claim_no_write, claim_over, claim_stands, handed_at, is_claim, not_start}
+use Rattle.zio_nodes.proofs.OwnOver.{claim_no_write, claim_over, claim_stands, is_claim, not_start}
 use Rattle.zio_nodes.proofs.OwnStages.{claim_told}
 use Rattle.zio_nodes.proofs.ClaimLemmas.{told_less}
 use Rattle.zio_nodes.proofs.StageLeads.{claim_leads}
@@ -20,7 +20,6 @@ tell_none-requires c =
     let behind = not_start at.stage Ready c.requires.stage (λ e. cc) in
     record {
       other = claim_no_write r.waiting.request.work work;
-      handed = handed_at c.requires.over.0 at c.requires.over.1 behind;
       stage = c.requires.stage;
       leads = claim_leads at Ready c.next-to.result c.requires.kind c.requires.stage (lit≤ tt) c.next-to.ensures;
       behind = ap is_told (claim_told c.next-to.result c.next-to.ensures);

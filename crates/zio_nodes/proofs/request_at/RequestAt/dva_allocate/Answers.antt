@@ -4,7 +4,6 @@ use Rattle.zio_types.specs.declared.error.NoMemory.{NoMemory}
 use Rattle.zio_types.specs.declared.request.ChildKind.TheVariants.{Gang}
 use Rattle.zio_masks.specs.declared.stage.Stage.TheVariants.{DvaAllocate, Ready}
 use Rattle.zio_script.specs.Requests.{kind_of}
-use Rattle.zio_trace.specs.Tasks.{Task}
 use Rattle.zio_frames.specs.Frames.{fresh_stack}
 use Rattle.zio_stages.specs.KidTrees.{KidsHeld}
 use Rattle.zio_stages.specs.OwnParts.{DoesThen}
@@ -23,6 +22,10 @@ use Rattle.zio_nodes.proofs.StageLemmas.{write_placed}
 use Rattle.zio_nodes.proofs.WriteLemmas.{all_out, next_begun, none_gave, stands_in, stands_to, write_less, written_unstored}
 use Rattle.zio_nodes.proofs.WriteMoves.{member_grows}
 use Rattle.zio_nodes.proofs.StageLeads.{write_leads}
+use Rattle.zio_masks.specs.declared.stage.Stage.{Stage}
+use Rattle.zio_nodes.specs.StageMoves.{CallsFit, grows_at}
+use Rattle.zio_nodes.proofs.StageAllows.{few_under, one_more_few}
+use Rattle.zio_stages.specs.RequestCounts.{members_of}
 use Rattle.zio_nodes.proofs.request_at.RequestAt.dva_allocate.Goals as goal
 
 pub dva_allocate-requires-clause-begun : goal.dva_allocate-requires-clause-begun
@@ -50,6 +53,7 @@ returns-in-Ok-Member-clause-moves g c =
     record {
       calls = does.0;
       were_made = does.1;
+      fits = subst (λ (s : Stage). CallsFit s does.0) (sym c.requires.stage) does.3;
       moves = λ t st now.
           request_grows t st at _ (Part c.new-child.result) Gang (IsFreshPart t c.in-Ok-Member.child) does.0
           (subst (λ (r : Result Allocated NoMemory). DoesThen t st does.0 (ComesTo t r (IsRequestNode t new))) ok (does.2 t st now.is))
@@ -97,6 +101,7 @@ returns-in-Ok-Placed-clause-moves g c =
     record {
       calls = does.0;
       were_made = does.1;
+      fits = subst (λ (s : Stage). CallsFit s does.0) (sym c.requires.stage) does.3;
       moves = λ t st now.
           request_does t st at _ does.0 (subst (λ (r : Result Allocated NoMemory). DoesThen t st does.0 (ComesTo t r (IsRequestNode t new))) ok (does.2 t st now.is))
           (ap is_told (write_placed c.next-self.result c.next-self.ensures) ∙ sym (ap is_told c.requires.stage)) gave;
@@ -138,6 +143,7 @@ returns-in-Err-clause-refused g c =
     record {
       calls = does.0;
       were_made = does.1;
+      fits = subst (λ (s : Stage). CallsFit s does.0) (sym c.requires.stage) does.3;
       goes = λ t st now.
           request_does t st at _ does.0 (subst (λ (r : Result Allocated NoMemory). DoesThen t st does.0 (ComesTo t r (IsRequestNode t new))) c.in-Err.is (does.2 t st now.is))
           refl gave;
@@ -150,3 +156,11 @@ pub returns-in_err-room-clause-refused : goal.returns-in_err-room-clause-refused
 returns-in_err-room-clause-refused g c =
     no_room_with g.S.Services.made (g.S.Services.tops c.args.services.now) c.args.services.now c.args.self.now c.from_residual.result
     (g.met.S.Services.made_none c.args.services.now)
+
+pub returns-in-Ok-Member-clause-stages : goal.returns-in-Ok-Member-clause-stages
+returns-in-Ok-Member-clause-stages g c =
+    let child = c.in-Ok-Member.child in
+    let old = c.args.self.now.node.own in
+    let new = c.dva_allocate.new.self.own in
+    let next = c.dva_allocate.ensures.next child (c.in-Ok-Member.is ∙ ap (λ (a : Allocated). Ok a) c.in-Ok-Member.field-0-is) in
+    (refl, ap (λ (s : Stage). grows_at s Gang) c.requires.stage, λ e. one_more_few (members_of old) (members_of new) child next.members (few_under new child next.under))

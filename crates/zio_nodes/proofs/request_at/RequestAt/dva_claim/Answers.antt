@@ -11,6 +11,7 @@ use Rattle.zio_nodes.proofs.OwnStages.{claim_taken}
 use Rattle.zio_nodes.proofs.OwnBare.{does_with, does_with_refused}
 use Rattle.zio_nodes.proofs.ClaimLemmas.{stage_less, taken_most}
 use Rattle.zio_nodes.proofs.StageLeads.{claim_leads}
+use Rattle.zio_nodes.specs.StageMoves.{CallsFit}
 use Rattle.zio_nodes.proofs.request_at.RequestAt.dva_claim.Goals as goal
 
 pub dva_claim-requires : goal.dva_claim-requires
@@ -24,7 +25,8 @@ returns-in-Ok-clause-moves g c =
     let new = c.dva_claim.new.self in
     let does = c.dva_claim.ensures.does in
     does_with g.S.Services.made
-    (g.S.Services.tops c.args.services.now) c.args.services.now c.dva_claim.new.services at new c.next-self.result at.is_due does.0 does.1 does.2
+    (g.S.Services.tops c.args.services.now) c.args.services.now c.dva_claim.new.services at new c.next-self.result at.is_due does.0 does.1
+    (subst (λ (s : Stage). CallsFit s does.0) (sym c.requires.stage) does.3) does.2
     (ap is_told (claim_taken c.next-self.result c.next-self.ensures) ∙ sym (ap is_told c.requires.stage)) (claim_gave_same r new work c.dva_claim.ensures.rest)
 
 pub returns-in-Ok-clause-over : goal.returns-in-Ok-clause-over
@@ -64,7 +66,8 @@ returns-in-Err-clause-refused g c =
     let new = c.dva_claim.new.self in
     let does = c.dva_claim.ensures.does in
     does_with_refused g.S.Services.made
-    (g.S.Services.tops c.args.services.now) c.args.services.now c.dva_claim.new.services at new at.stage at.is_due does.0 does.1 does.2
+    (g.S.Services.tops c.args.services.now) c.args.services.now c.dva_claim.new.services at new at.stage at.is_due does.0 does.1
+    (subst (λ (s : Stage). CallsFit s does.0) (sym c.requires.stage) does.3) does.2
     refl (claim_gave_same r new work c.dva_claim.ensures.rest)
 
 pub returns-in-Ok-clause-stages : goal.returns-in-Ok-clause-stages

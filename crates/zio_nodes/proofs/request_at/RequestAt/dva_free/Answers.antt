@@ -32,7 +32,7 @@ returns-in-Ok-clause-moves g c =
     let new = c.dva_free.new.self in
     let gives = c.dva_free.ensures.gives in
     gives_back g.S.Services.made (g.S.Services.tops c.args.services.now) c.args.services.now c.dva_free.new.services at new c.next-self.result at.is_due
-    gives.gone gives.calls (λ t st is. c.dva_free.ensures.same t st is)
+    gives.gone gives.calls c.requires.stage (λ t st is. c.dva_free.ensures.same t st is)
     (ap is_told (free_given c.next-self.result c.next-self.ensures) ∙ sym (ap is_told c.requires.stage))
     (free_gave_more r new work c.dva_free.ensures.rest gives.gone (gives_more r.own new.own r.waiting.block gives.gone c.dva_free.ensures.goes gives.are))
 
@@ -77,7 +77,7 @@ returns-in-Err-clause-refused g c =
     let new = c.dva_free.new.self in
     let gives = c.dva_free.ensures.gives in
     gives_back_refused g.S.Services.made (g.S.Services.tops c.args.services.now) c.args.services.now c.dva_free.new.services at new at.stage at.is_due
-    gives.gone gives.calls (λ t st is. c.dva_free.ensures.same t st is) refl
+    gives.gone gives.calls c.requires.stage (λ t st is. c.dva_free.ensures.same t st is) refl
     (free_gave_more r new work c.dva_free.ensures.rest gives.gone (gives_more r.own new.own r.waiting.block gives.gone c.dva_free.ensures.goes gives.are))
 
 pub returns-in-Ok-clause-stages : goal.returns-in-Ok-clause-stages

@@ -17,7 +17,7 @@ use Rattle.zio_stages.specs.declared.waiting.Waiting.{Waiting}
 use Rattle.zio_nodes.specs.Bounds.{walk_max}
 use Rattle.zio_nodes.specs.OwnAts.{IsFreeAtStage}
 use Rattle.zio_nodes.specs.OwnBounds.{free_stages}
-use Rattle.zio_nodes.specs.declared.node.Node.TheVariants.{Heads}
+use Rattle.zio_nodes.specs.declared.node.Node.TheVariants.{Heads, Request}
 use Rattle.zio_nodes.specs.Told.{is_told}
 use Rattle.zio_nodes.proofs.OwnLefts.{free_gave_same, free_less, none_freed}
 use Rattle.zio_nodes.proofs.OwnOver.{free_over, free_stands, is_free, not_start}
@@ -28,6 +28,7 @@ use Rattle.zio_masks.specs.declared.pipeline.TheConstants.{FREE}
 use Rattle.zio_types.specs.declared.request.Kind.TheVariants.{Free as FreeKind}
 use Rattle.zio_nodes.proofs.StageLeads.{gang_leads, gang_of_free}
 use Rattle.zio_nodes.proofs.Refused.{on_err}
+use Rattle.zio_nodes.proofs.StageAllows.{grows_so}
 use Rattle.zio_nodes.proofs.request_at.RequestAt.free_gang_assemble.Goals as goal
 
 pub gang_assemble_free-requires : goal.gang_assemble_free-requires
@@ -158,3 +159,6 @@ pub returns-in_err-room-clause-refused : goal.returns-in_err-room-clause-refused
 returns-in_err-room-clause-refused c = λ tops.
     let at = c.args.self.now in
     on_err c.from_residual.result (refused_bare tops at at.node at.stage at.is_due refl refl)
+
+pub returns-in-Ok-Some-clause-stages : goal.returns-in-Ok-Some-clause-stages
+returns-in-Ok-Some-clause-stages c = let g = grows_so (Request c.args.self.now) GangAssemble Gang c.requires.stage refl (λ e. cc) in (refl, g.0, g.1)

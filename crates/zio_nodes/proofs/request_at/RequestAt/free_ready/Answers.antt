@@ -6,7 +6,7 @@ use Rattle.zio_nodes.specs.OwnAts.{IsFreeAtStage}
 use Rattle.zio_nodes.specs.OwnBounds.{free_stages}
 use Rattle.zio_nodes.specs.Told.{is_told}
 use Rattle.zio_nodes.proofs.OwnLefts.{free_less}
-use Rattle.zio_nodes.proofs.OwnOver.{free_no_write, free_over, free_stands, handed_at, is_free, not_start}
+use Rattle.zio_nodes.proofs.OwnOver.{free_no_write, free_over, free_stands, is_free, not_start}
 use Rattle.zio_nodes.proofs.OwnStages.{free_told}
 use Rattle.zio_nodes.proofs.FreeLemmas.{told_less}
 use Rattle.zio_nodes.proofs.StageLeads.{free_leads}
@@ -20,7 +20,6 @@ tell_none-requires c =
     let behind = not_start at.stage Ready c.requires.stage (λ e. cc) in
     record {
       other = free_no_write r.waiting.request.work work;
-      handed = handed_at c.requires.over.0 at c.requires.over.1 behind;
       stage = c.requires.stage;
       leads = free_leads at Ready c.next-to.result c.requires.kind c.requires.stage (lit≤ tt) c.next-to.ensures;
       behind = ap is_told (free_told c.next-to.result c.next-to.ensures);

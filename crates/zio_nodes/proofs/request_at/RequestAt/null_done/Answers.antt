@@ -1,4 +1,4 @@
-use Rattle.std.proofs.Common.{◌≡◌, [], ap, refl, subst, sym, ◌∙◌}
+use Rattle.std.proofs.Common.{[], ap, refl, subst, sym}
 use Rattle.zio_masks.specs.declared.stage.Stage.{Stage}
 use Rattle.zio_graph.specs.Stages.{Ends, OutcomeIn}
 use Rattle.zio_stages.specs.RequestNodes.{IsRequestNode}

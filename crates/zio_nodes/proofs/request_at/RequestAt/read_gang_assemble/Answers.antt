@@ -16,7 +16,7 @@ use Rattle.zio_stages.proofs.BehindLemmas.{does_nothing}
 use Rattle.zio_nodes.specs.Bounds.{walk_max}
 use Rattle.zio_nodes.specs.OwnAts.{IsIssuing, IsReadAtStage, IsWalking}
 use Rattle.zio_nodes.specs.OwnBounds.{read_stages, reading_left}
-use Rattle.zio_nodes.specs.declared.node.Node.TheVariants.{Heads}
+use Rattle.zio_nodes.specs.declared.node.Node.TheVariants.{Heads, Request}
 use Rattle.zio_nodes.specs.Told.{is_told}
 use Rattle.zio_nodes.proofs.OwnBare.{grows_bare, next_same, refused_bare}
 use Rattle.zio_nodes.proofs.OwnLefts.{read_gave_same, read_less}
@@ -28,6 +28,7 @@ use Rattle.zio_masks.specs.declared.pipeline.TheConstants.{READ}
 use Rattle.zio_types.specs.declared.request.Kind.TheVariants.{Read as ReadKind}
 use Rattle.zio_nodes.proofs.StageLeads.{gang_leads, gang_of_read}
 use Rattle.zio_nodes.proofs.Refused.{on_err}
+use Rattle.zio_nodes.proofs.StageAllows.{grows_so}
 use Rattle.zio_nodes.proofs.request_at.RequestAt.read_gang_assemble.Goals as goal
 
 pub returns-in_err-room-clause-refused : goal.returns-in_err-room-clause-refused
@@ -153,3 +154,6 @@ returns-in-Ok-None-clause-stages c =
     (gang_of_read r.waiting.request.work r.waiting.block c.requires.kind
     ∙ (read_stands c.requires.over.0 at GangAssemble (is_read r.waiting.request.work c.requires.kind) c.requires.over.1 c.requires.stage (λ e. cc)).0)
     (λ s. refl) c.with_gang.ensures.stages c.next-self.ensures)
+
+pub returns-in-Ok-Some-clause-stages : goal.returns-in-Ok-Some-clause-stages
+returns-in-Ok-Some-clause-stages c = let g = grows_so (Request c.args.self.now) GangAssemble Gang c.requires.stage refl (λ e. cc) in (refl, g.0, g.1)

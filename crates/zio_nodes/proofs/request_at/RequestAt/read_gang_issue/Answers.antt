@@ -30,6 +30,9 @@ use Rattle.zio_masks.specs.declared.pipeline.TheConstants.{READ}
 use Rattle.zio_types.specs.declared.request.Kind.TheVariants.{Read as ReadKind}
 use Rattle.zio_nodes.proofs.StageLeads.{past_leads}
 use Rattle.zio_nodes.proofs.Refused.{on_err}
+use Rattle.zio_nodes.proofs.StageAllows.{grows_so, stalls_so}
+use Rattle.std.specs.List.{list_any}
+use Rattle.zio_stages.specs.NodeChildren.{is_awaited}
 use Rattle.zio_nodes.proofs.request_at.RequestAt.read_gang_issue.Goals as goal
 
 pub returns-in_err-room-clause-refused : goal.returns-in_err-room-clause-refused
@@ -111,8 +114,8 @@ returns-in-Ok-Wait-clause-moves c =
     subst (λ (x : RequestNode). MovesBare tops (Request at) (Wait (Request (record { node = x; stage = at.stage; is_due = at.is_due })) Gang Done)) (sym same)
     (waits_bare tops at Gang Done (λ t st on seated was. (subst (λ (s : BodyStage). HandsBody t s (IsRequestNode t new) st) c.in-Ok-Wait.field-0-is (c.in-Ok-Wait.ensures.hands t st on was)).1 seated))
 
-pub returns-in-Ok-On-clause-moves : goal.returns-in-Ok-On-clause-moves
-returns-in-Ok-On-clause-moves c =
+pub returns-in_default-clause-moves : goal.returns-in_default-clause-moves
+returns-in_default-clause-moves c =
     let at = c.args.self.now in
     let r = at.node in
     let tops = c.args.tops.now in
@@ -125,8 +128,8 @@ returns-in-Ok-On-clause-moves c =
     let is = read_issued c.with_gang.result c.next-self.result c.with_gang.ensures.stages c.next-self.ensures in
     next_same tops at new c.next-self.result at.is_due same (ap is_told is ∙ sym (ap is_told c.requires.stage))
 
-pub returns-in-Ok-On-clause-over : goal.returns-in-Ok-On-clause-over
-returns-in-Ok-On-clause-over c =
+pub returns-in_default-clause-over : goal.returns-in_default-clause-over
+returns-in_default-clause-over c =
     let at = c.args.self.now in
     let r = at.node in
     let tops = c.args.tops.now in
@@ -142,8 +145,8 @@ returns-in-Ok-On-clause-over c =
     (subst (λ (s : Stage). IsReadAtStage tops s at.is_due new.own new.waiting.block) (sym is)
     (read_both IsIssuing (λ w. HasWalkBegun w → HasHandedAll w) MayReadOne new.own (λ w a b. inl (b a.2)) issuing (c.gang_issue_read.ensures.ended on now.0)))
 
-pub returns-in-Ok-On-clause-left : goal.returns-in-Ok-On-clause-left
-returns-in-Ok-On-clause-left c =
+pub returns-in_default-clause-left : goal.returns-in_default-clause-left
+returns-in_default-clause-left c =
     let at = c.args.self.now in
     let r = at.node in
     let tops = c.args.tops.now in
@@ -165,7 +168,26 @@ returns-in-Ok-On-clause-left c =
 pub returns-in-Err-clause-refused : goal.returns-in-Err-clause-refused
 returns-in-Err-clause-refused c = refused_bare c.args.tops.now c.args.self.now c.gang_issue_read.new.self c.args.self.now.stage c.args.self.now.is_due c.in-Err.ensures.err refl
 
-pub returns-in-Ok-On-clause-stages : goal.returns-in-Ok-On-clause-stages
-returns-in-Ok-On-clause-stages c =
+pub returns-in_default-clause-stages : goal.returns-in_default-clause-stages
+returns-in_default-clause-stages c =
     inl (past_leads c.args.self.now ReadKind READ c.with_gang.result GangIssue c.next-self.result c.requires.kind c.requires.stage (lit≤ tt) (λ s. refl)
     c.with_gang.ensures.stages c.next-self.ensures)
+
+pub returns-in-Ok-Body-clause-stages : goal.returns-in-Ok-Body-clause-stages
+returns-in-Ok-Body-clause-stages c = let g = grows_so (Request c.args.self.now) GangIssue Gang c.requires.stage refl (λ e. cc) in (refl, g.0, g.1)
+
+pub returns-in-Ok-Wait-clause-stages : goal.returns-in-Ok-Wait-clause-stages
+returns-in-Ok-Wait-clause-stages c =
+    (refl, stalls_so c.args.self.now.stage GangIssue Gang Done c.requires.stage refl)
+
+pub returns-in-Some-clause-moves : goal.returns-in-Some-clause-moves
+returns-in-Some-clause-moves c =
+    let at = c.args.self.now in
+    let tops = c.args.tops.now in
+    let kind = c.in-Some.kind in
+    let phase = c.in-Some.phase in
+    let new = c.gang_issue_read.new.self in
+    let same = c.gang_issue_read.ensures.on (c.in-Ok-On.is ∙ ap (λ (s : BodyStage). Ok s) c.in-Ok-On.field-0-is) in
+    let owed = ap (list_any (is_awaited kind phase)) (sym c.family.ensures) ∙ (c.gang_stall.ensures.some kind phase c.in-Some.is).1 in
+    subst (λ (x : RequestNode). MovesBare tops (Request at) (Wait (Request (record { node = x; stage = at.stage; is_due = at.is_due })) kind phase)) (sym same)
+    (waits_bare tops at kind phase (λ t st on seated was. ap (list_any (is_awaited kind phase)) (sym (ap (λ (x : RequestNode). x.family) same ∙ was.family)) ∙ owed))

@@ -13,7 +13,8 @@ use Rattle.zio_nodes.proofs.OwnOver.{is_read, not_start, read_over, read_stands}
 use Rattle.zio_nodes.proofs.ReadLemmas.{closes_less, counts_all, read_map, reading_less, second_less, tree_all}
 use Rattle.zio_nodes.proofs.ReadStages.{again_less_by, read_assessed, reading_most, stage_less}
 use Rattle.zio_nodes.proofs.StageLeads.{read_leads}
-use Rattle.zio_nodes.specs.StageMoves.{MayGoBack}
+use Rattle.zio_nodes.proofs.StageAllows.{goes_again, read_again}
+use Rattle.zio_nodes.specs.declared.node.Node.TheVariants.{Request}
 use Rattle.zio_nodes.proofs.request_at.RequestAt.read_io_assess.Goals as goal
 
 pub vdev_io_assess_read-requires : goal.vdev_io_assess_read-requires
@@ -113,7 +114,12 @@ returns-clause-left c =
     )
 
 pub returns-then-vdev_io_assess_read-clause-stages : goal.returns-then-vdev_io_assess_read-clause-stages
-returns-then-vdev_io_assess_read-clause-stages c = inr (subst MayGoBack (sym c.requires.stage) tt, refl)
+returns-then-vdev_io_assess_read-clause-stages c =
+    let at = c.args.self.now in
+    let new = c.vdev_io_assess_read.new.self in
+    let goes = subst (λ (b : Bool). ReadsOn (AssessesBody b) at.node.own new.own) c.if-vdev_io_assess_read.true c.vdev_io_assess_read.ensures.goes in
+    let again = read_again at.node.own new.own (c.vdev_io_assess_read.ensures.reading c.if-vdev_io_assess_read.true) goes in
+    inr (goes_again (Request at) _ c.requires.stage again.0 again.1, refl)
 
 pub returns-clause-stages : goal.returns-clause-stages
 returns-clause-stages c = inl (read_leads c.args.self.now VdevIoAssess c.next-self.result c.requires.kind c.requires.stage (lit≤ tt) c.next-self.ensures)

@@ -14,7 +14,8 @@ use Rattle.zio_nodes.proofs.OwnLefts.{read_less}
 use Rattle.zio_nodes.proofs.OwnOver.{is_read, not_start, read_over, read_stands}
 use Rattle.zio_nodes.proofs.ReadStages.{due_again, read_issued_all, stage_less, with_map}
 use Rattle.zio_nodes.proofs.StageLeads.{read_leads}
-use Rattle.zio_nodes.specs.StageMoves.{MayGoBack}
+use Rattle.zio_nodes.proofs.StageAllows.{goes_back, stalls_so}
+use Rattle.zio_nodes.specs.declared.node.Node.TheVariants.{Request}
 use Rattle.zio_nodes.proofs.request_at.RequestAt.read_io_done.Goals as goal
 
 pub vdev_io_done_read-requires : goal.vdev_io_done_read-requires
@@ -88,7 +89,11 @@ returns-in-On-clause-left c =
     )
 
 pub returns-in-More-clause-stages : goal.returns-in-More-clause-stages
-returns-in-More-clause-stages c = inr (subst MayGoBack (sym c.requires.stage) tt, refl)
+returns-in-More-clause-stages c = inr (goes_back (Request c.args.self.now) _ c.requires.stage refl, refl)
 
 pub returns-in-On-clause-stages : goal.returns-in-On-clause-stages
 returns-in-On-clause-stages c = inl (read_leads c.args.self.now VdevIoDone c.next-self.result c.requires.kind c.requires.stage (lit≤ tt) c.next-self.ensures)
+
+pub returns-in-Wait-clause-stages : goal.returns-in-Wait-clause-stages
+returns-in-Wait-clause-stages c =
+    (refl, stalls_so c.args.self.now.stage VdevIoDone Vdev Done c.requires.stage refl)

@@ -21,6 +21,9 @@ use Rattle.zio_nodes.proofs.ReadLemmas.{HasFewAsked, read_map, reading_less, sta
 use Rattle.zio_nodes.proofs.ReadStages.{both_after, read_started, reading_and, reading_most, same_less, stage_less, any_read}
 use Rattle.zio_nodes.proofs.StageLeads.{read_leads}
 use Rattle.zio_nodes.proofs.Refused.{on_err}
+use Rattle.zio_types.specs.declared.request.ChildKind.TheVariants.{Vdev}
+use Rattle.zio_nodes.specs.declared.node.Node.TheVariants.{Request}
+use Rattle.zio_nodes.proofs.StageAllows.{grows_so}
 use Rattle.zio_nodes.proofs.request_at.RequestAt.read_io_start.Goals as goal
 
 pub returns-in_err-room-clause-refused : goal.returns-in_err-room-clause-refused
@@ -162,3 +165,6 @@ returns-in-Err-clause-refused c =
 pub returns-in-Ok-None-clause-stages : goal.returns-in-Ok-None-clause-stages
 returns-in-Ok-None-clause-stages c =
     inl (read_leads c.args.self.now VdevIoStart c.next-self.result c.requires.kind c.requires.stage (lit≤ tt) c.next-self.ensures)
+
+pub returns-in-Ok-Some-clause-stages : goal.returns-in-Ok-Some-clause-stages
+returns-in-Ok-Some-clause-stages c = let g = grows_so (Request c.args.self.now) VdevIoStart Vdev c.requires.stage refl (λ e. cc) in (refl, g.0, g.1)

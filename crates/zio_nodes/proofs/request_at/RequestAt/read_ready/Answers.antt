@@ -6,7 +6,7 @@ use Rattle.zio_nodes.specs.OwnAts.{IsReadAtStage}
 use Rattle.zio_nodes.specs.OwnBounds.{read_stages}
 use Rattle.zio_nodes.specs.Told.{is_told}
 use Rattle.zio_nodes.proofs.OwnLefts.{read_less}
-use Rattle.zio_nodes.proofs.OwnOver.{handed_at, is_read, not_start, read_no_write, read_over, read_stands}
+use Rattle.zio_nodes.proofs.OwnOver.{is_read, not_start, read_no_write, read_over, read_stands}
 use Rattle.zio_nodes.proofs.ReadStages.{read_told, stage_less}
 use Rattle.zio_nodes.proofs.StageLeads.{read_leads}
 use Rattle.zio_nodes.proofs.request_at.RequestAt.read_ready.Goals as goal
@@ -19,7 +19,6 @@ tell_none-requires c =
     let behind = not_start at.stage Ready c.requires.stage (λ e. cc) in
     record {
       other = read_no_write r.waiting.request.work work;
-      handed = handed_at c.requires.over.0 at c.requires.over.1 behind;
       stage = c.requires.stage;
       leads = read_leads at Ready c.next-to.result c.requires.kind c.requires.stage (lit≤ tt) c.next-to.ensures;
       behind = ap is_told (read_told c.next-to.result c.next-to.ensures);

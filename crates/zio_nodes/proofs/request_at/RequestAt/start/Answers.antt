@@ -10,9 +10,8 @@ use Rattle.zio_stages.specs.declared.waiting.Waiting.{Waiting}
 use Rattle.zio_stages.specs.declared.request_node.RequestNode.{RequestNode}
 use Rattle.zio_stages.specs.declared.request_node.Start.{Start}
 use Rattle.zio_stages.specs.declared.request_node.Start.TheVariants.{AllOut, Child}
-use Rattle.zio_nodes.specs.RequestAts.{IsRequestOver, RequestStands}
+use Rattle.zio_nodes.specs.RequestAts.{IsRequestOver}
 use Rattle.zio_nodes.specs.RequestBounds.{own_at, own_left, own_max, request_share}
-use Rattle.zio_nodes.specs.Nodes.{gave_of}
 use Rattle.zio_nodes.specs.Told.{is_told}
 use Rattle.zio_nodes.specs.TreeAts.{IsTreeAt}
 use Rattle.zio_nodes.specs.declared.node.Node.TheVariants.{Request, Tree}
@@ -25,6 +24,7 @@ use Rattle.zio_nodes.proofs.RequestStill.{gave_still}
 use Rattle.zio_nodes.proofs.StartLemmas.{first_stands, first_told, kid_grows, some_root, start_due, start_stays}
 use Rattle.zio_nodes.proofs.TreeAtLemmas.{hands_less}
 use Rattle.zio_nodes.proofs.StageLeads.{mask_leads}
+use Rattle.zio_nodes.proofs.StageAllows.{grows_so}
 use Rattle.zio_nodes.proofs.request_at.RequestAt.start.Goals as goal
 
 pub returns-in-Ok-Child-clause-moves : goal.returns-in-Ok-Child-clause-moves
@@ -125,3 +125,6 @@ returns-in-Ok-AllOut-clause-stages c = inl (mask_leads c.args.self.now c.mask-ma
 
 pub returns-in_err-room-clause-refused : goal.returns-in_err-room-clause-refused
 returns-in_err-room-clause-refused c = λ tops. no_room tops c.args.self.now c.from_residual.result
+
+pub returns-in-Ok-Child-clause-stages : goal.returns-in-Ok-Child-clause-stages
+returns-in-Ok-Child-clause-stages c = let g = grows_so (Request c.args.self.now) StartStage Logical c.requires.stage refl (λ e. cc) in (refl, g.0, g.1)

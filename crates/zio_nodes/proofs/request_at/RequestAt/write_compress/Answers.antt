@@ -2,7 +2,6 @@ use Rattle.std.proofs.Common.{◌≡◌, Ok, ap, arith, length, refl, subst, sym
 use Rattle.zio_script.specs.Requests.{kind_of}
 use Rattle.zio_stages.specs.KidTrees.{KidsHeld}
 use Rattle.zio_masks.specs.declared.stage.Stage.TheVariants.{ChecksumGenerate, WriteCompress}
-use Rattle.zio_frames.specs.Frames.{Child}
 use Rattle.zio_stages.specs.RequestNodes.{IsRequestNode}
 use Rattle.zio_stages.specs.declared.request_node.RequestNode.{RequestNode}
 use Rattle.zio_stages.specs.declared.request_write.Content.{Content}
@@ -15,6 +14,9 @@ use Rattle.zio_nodes.proofs.RequestMoves.{request_goes, request_waits}
 use Rattle.zio_nodes.proofs.StageLemmas.{write_set}
 use Rattle.zio_nodes.proofs.WriteLemmas.{all_out, due_unstored, is_a_write, none_gave, same_gave, stands_in, stands_to, write_less, written_unstored}
 use Rattle.zio_nodes.proofs.StageLeads.{write_leads}
+use Rattle.zio_types.specs.declared.request.Phase.TheVariants.{Ready}
+use Rattle.zio_nodes.proofs.StageAllows.{stalls_so}
+use Rattle.zio_nodes.specs.StageMoves.{stalls_at}
 use Rattle.zio_nodes.proofs.request_at.RequestAt.write_compress.Goals as goal
 
 pub write_compress-requires-clause-due : goal.write_compress-requires-clause-due
@@ -92,3 +94,7 @@ returns-in-Err-clause-refused c = λ tops t st now.
 
 pub returns-in-Ok-Set-clause-stages : goal.returns-in-Ok-Set-clause-stages
 returns-in-Ok-Set-clause-stages c = inl (write_leads c.args.self.now WriteCompress c.next-self.result c.requires.kind c.requires.stage c.next-self.ensures)
+
+pub returns-in-Ok-Wait-clause-stages : goal.returns-in-Ok-Wait-clause-stages
+returns-in-Ok-Wait-clause-stages c =
+    (refl, stalls_so c.args.self.now.stage WriteCompress c.in-Ok-Wait.kind Ready c.requires.stage (ap (λ k. stalls_at WriteCompress k Ready) (c.write_compress.ensures.kind c.in-Ok-Wait.kind (c.in-Ok-Wait.is ∙ ap (λ (x : Content). Ok x) c.in-Ok-Wait.field-0-is))))

@@ -2,14 +2,11 @@ use Rattle.std.proofs.Common.{◌≡◌, ap, arith, inr, length, refl, subst, sy
 use Rattle.std.specs.List.{list_all}
 use Rattle.zio_children.specs.RequestKids.{is_ended}
 use Rattle.zio_stages.specs.RequestStoreds.{made_by}
-use Rattle.zio_masks.specs.declared.stage.Stage.{Stage}
 use Rattle.zio_masks.specs.declared.stage.Stage.TheVariants.{Done}
 use Rattle.zio_script.specs.Requests.{kind_of}
 use Rattle.zio_stages.specs.KidTrees.{KidsHeld}
 use Rattle.zio_stages.specs.RequestNodes.{IsRequestNode}
 use Rattle.zio_stages.specs.declared.request_node.RequestNode.{RequestNode}
-use Rattle.zio_nodes.specs.RequestAts.{RequestStands}
-use Rattle.zio_nodes.specs.Told.{is_told}
 use Rattle.zio_nodes.specs.WriteBounds.{end_left}
 use Rattle.zio_nodes.specs.declared.node.Node.TheVariants.{Request}
 use Rattle.zio_nodes.specs.declared.request_at.RequestAt.{RequestAt}

@@ -13,7 +13,8 @@ use Rattle.zio_nodes.proofs.RequestMoves.{request_does}
 use Rattle.zio_nodes.proofs.StageLemmas.{write_assessed}
 use Rattle.zio_nodes.proofs.WriteLemmas.{all_out, none_gave, stands_in, stands_to, write_less, written_unstored}
 use Rattle.zio_nodes.proofs.StageLeads.{write_leads}
-use Rattle.zio_nodes.specs.StageMoves.{MayGoBack}
+use Rattle.zio_nodes.proofs.StageAllows.{goes_again, write_pass}
+use Rattle.zio_nodes.specs.declared.node.Node.TheVariants.{Request}
 use Rattle.zio_nodes.proofs.request_at.RequestAt.write_io_assess.Goals as goal
 
 pub vdev_io_assess_write-requires-clause-issued : goal.vdev_io_assess_write-requires-clause-issued
@@ -97,7 +98,12 @@ returns-clause-left c =
     (write_assessed c.next-self.result c.next-self.ensures) tt tt (ap (λ (r : RequestNode). r.kids.due) rest) (omega (arith, end_most (is_stored new.own)))
 
 pub returns-then-vdev_io_assess_write-clause-stages : goal.returns-then-vdev_io_assess_write-clause-stages
-returns-then-vdev_io_assess_write-clause-stages c = inr (subst MayGoBack (sym c.requires.stage) tt, refl)
+returns-then-vdev_io_assess_write-clause-stages c =
+    let at = c.args.self.now in
+    let new = c.vdev_io_assess_write.new.self in
+    let again = c.vdev_io_assess_write.ensures.again c.if-vdev_io_assess_write.true in
+    let h = stands_in c.args.tops.now at.stage VdevIoAssess at.is_due at.node c.requires.kind c.requires.stage tt c.requires.over.stands in
+    inr (goes_again (Request at) _ c.requires.stage (write_pass _ at.node.own h.1 ∙ again.0) (write_pass _ new.own c.vdev_io_assess_write.ensures.issued ∙ again.1), refl)
 
 pub returns-clause-stages : goal.returns-clause-stages
 returns-clause-stages c = inl (write_leads c.args.self.now VdevIoAssess c.next-self.result c.requires.kind c.requires.stage c.next-self.ensures)

@@ -1,4 +1,4 @@
-use Rattle.std.proofs.Common.{◌≡◌, Bool, ap, arith, false, refl, subst, sym, true, ◌∙◌, inl, inr}
+use Rattle.std.proofs.Common.{◌≡◌, ap, arith, false, refl, sym, true, ◌∙◌, inl, inr}
 use Rattle.zio_masks.specs.declared.stage.Stage.TheVariants.{VdevIoAssess, VdevIoDone, VdevIoStart}
 use Rattle.zio_nodes.specs.Bounds.{due_left}
 use Rattle.zio_nodes.specs.Told.{is_told}
@@ -8,7 +8,10 @@ use Rattle.zio_nodes.proofs.RequestMoves.{request_goes}
 use Rattle.zio_nodes.proofs.StageLemmas.{write_done}
 use Rattle.zio_nodes.proofs.WriteLemmas.{all_out, is_due_now, stands_in, stands_to, write_less}
 use Rattle.zio_nodes.proofs.StageLeads.{write_leads}
-use Rattle.zio_nodes.specs.StageMoves.{MayGoBack}
+use Rattle.zio_nodes.proofs.StageAllows.{goes_back, stalls_so}
+use Rattle.zio_nodes.specs.declared.node.Node.TheVariants.{Request}
+use Rattle.zio_types.specs.declared.request.Phase.TheVariants.{Done}
+use Rattle.zio_types.specs.declared.request.ChildKind.TheVariants.{Vdev}
 use Rattle.zio_nodes.proofs.request_at.RequestAt.write_io_done.Goals as goal
 
 pub vdev_io_done_write-requires-clause-issued : goal.vdev_io_done_write-requires-clause-issued
@@ -67,7 +70,11 @@ returns-in-On-clause-left c =
     write_less at after VdevIoDone VdevIoAssess c.requires.kind c.requires.kind c.requires.stage (write_done c.next-self.result c.next-self.ensures) tt tt refl (omega arith)
 
 pub returns-in-More-clause-stages : goal.returns-in-More-clause-stages
-returns-in-More-clause-stages c = inr (subst MayGoBack (sym c.requires.stage) tt, refl)
+returns-in-More-clause-stages c = inr (goes_back (Request c.args.self.now) _ c.requires.stage refl, refl)
 
 pub returns-in-On-clause-stages : goal.returns-in-On-clause-stages
 returns-in-On-clause-stages c = inl (write_leads c.args.self.now VdevIoDone c.next-self.result c.requires.kind c.requires.stage c.next-self.ensures)
+
+pub returns-in-Wait-clause-stages : goal.returns-in-Wait-clause-stages
+returns-in-Wait-clause-stages c =
+    (refl, stalls_so c.args.self.now.stage VdevIoDone Vdev Done c.requires.stage refl)

@@ -1,4 +1,4 @@
-use Rattle.std.proofs.Common.{◌≡◌, ℕ, ◌+◌, ◌≤◌, [], None, Ok, Option, Some, ap, arith, false, length, refl, subst, sym, true, ◌∙◌, inl}
+use Rattle.std.proofs.Common.{◌≡◌, ◌+◌, ◌≤◌, [], None, Ok, Option, ap, false, length, refl, subst, sym, ◌∙◌, inl}
 use Rattle.zio_masks.specs.declared.stage.Stage.TheVariants.{VdevIoDone, VdevIoStart}
 use Rattle.zio_script.specs.Requests.{kind_of}
 use Rattle.zio_stages.specs.KidTrees.{KidsHeld}
@@ -10,13 +10,15 @@ use Rattle.zio_stages.specs.declared.leaf.LeafWork.{LeafWork}
 use Rattle.zio_stages.specs.declared.request_node.RequestNode.{RequestNode}
 use Rattle.zio_nodes.specs.Bounds.{leaf_left}
 use Rattle.zio_nodes.specs.Told.{is_told}
-use Rattle.zio_nodes.specs.declared.request_at.RequestAt.{RequestAt}
 use Rattle.zio_nodes.proofs.KidMarks.{over_own}
 use Rattle.zio_nodes.proofs.RequestMoves.{no_room, request_does}
 use Rattle.zio_nodes.proofs.StageLemmas.{write_out}
-use Rattle.zio_nodes.proofs.WriteLemmas.{all_out, asks_few, none_gave, stands_in, stands_to, write_less, written_unstored}
+use Rattle.zio_nodes.proofs.WriteLemmas.{all_out, asks_few, none_gave, stands_in, stands_to, written_unstored}
 use Rattle.zio_nodes.proofs.WriteMoves.{io_grows, io_stays, write_starts}
 use Rattle.zio_nodes.proofs.StageLeads.{write_leads}
+use Rattle.zio_types.specs.declared.request.ChildKind.TheVariants.{Vdev}
+use Rattle.zio_nodes.specs.declared.node.Node.TheVariants.{Request}
+use Rattle.zio_nodes.proofs.StageAllows.{grows_so}
 use Rattle.zio_nodes.proofs.request_at.RequestAt.write_io_start.Goals as goal
 
 pub vdev_io_start_write-requires-clause-ready : goal.vdev_io_start_write-requires-clause-ready
@@ -116,3 +118,6 @@ returns-in-Ok-None-clause-stages c = inl (write_leads c.args.self.now VdevIoStar
 
 pub returns-in_err-room-clause-refused : goal.returns-in_err-room-clause-refused
 returns-in_err-room-clause-refused c = no_room c.args.tops.now c.args.self.now c.from_residual.result
+
+pub returns-in-Ok-Some-clause-stages : goal.returns-in-Ok-Some-clause-stages
+returns-in-Ok-Some-clause-stages c = let g = grows_so (Request c.args.self.now) VdevIoStart Vdev c.requires.stage refl (λ e. cc) in (refl, g.0, g.1)

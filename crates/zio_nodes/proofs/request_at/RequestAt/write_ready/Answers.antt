@@ -1,4 +1,4 @@
-use Rattle.std.proofs.Common.{◌≡◌, ap, arith, refl, subst, sym, true, ◌∙◌}
+use Rattle.std.proofs.Common.{ap, arith, refl, true}
 use Rattle.zio_masks.specs.declared.stage.Stage.TheVariants.{Ready, VdevIoStart}
 use Rattle.zio_nodes.specs.Told.{is_told}
 use Rattle.zio_nodes.specs.declared.request_at.RequestAt.{RequestAt}
@@ -7,6 +7,9 @@ use Rattle.zio_nodes.proofs.RequestMoves.{request_tells, request_waits}
 use Rattle.zio_nodes.proofs.StageLemmas.{write_ready}
 use Rattle.zio_nodes.proofs.WriteLemmas.{all_out, left_in, stands_in, stands_to}
 use Rattle.zio_nodes.proofs.StageLeads.{write_leads}
+use Rattle.zio_types.specs.declared.request.Phase.TheVariants.{Ready as ReadyPhase}
+use Rattle.zio_nodes.proofs.StageAllows.{stalls_so}
+use Rattle.zio_nodes.specs.StageMoves.{stalls_at}
 use Rattle.zio_nodes.proofs.request_at.RequestAt.write_ready.Goals as goal
 
 pub ready_write-requires : goal.ready_write-requires
@@ -48,3 +51,7 @@ returns-in-Tell-clause-left c =
 
 pub returns-in-Tell-clause-stages : goal.returns-in-Tell-clause-stages
 returns-in-Tell-clause-stages c = (c.requires.stage, (write_leads c.args.self.now Ready c.next-self.result c.requires.kind c.requires.stage c.next-self.ensures))
+
+pub returns-in-Wait-clause-stages : goal.returns-in-Wait-clause-stages
+returns-in-Wait-clause-stages c =
+    (refl, stalls_so c.args.self.now.stage Ready c.in-Wait.kind ReadyPhase c.requires.stage (ap (λ k. stalls_at Ready k ReadyPhase) (c.ready_write.ensures.kind c.in-Wait.kind c.in-Wait.is)))

@@ -1,7 +1,7 @@
 use Rattle.std.proofs.Common.{◌≡◌, ◌<◌, ap, refl, length, arith, vec_len}
 use Rattle.std.proofs.lemmas.Option.{slice_get_read}
 use Rattle.zio_frames.specs.Moves.{child_ended, child_told}
-use Rattle.zio_stages.proofs.FamilyLemmas.{changed_beside, changed_children, changes_then, length_children, length_seats, of_kind_at, told_after}
+use Rattle.zio_stages.proofs.FamilyLemmas.{changed_beside, changed_children, changes_then, length_children, length_seats, of_kind_at, told_after, told_changed}
 use Rattle.zio_stages.proofs.family.Family.end.Goals as goal
 
 pub index-requires : goal.index-requires
@@ -12,8 +12,8 @@ index-requires c =
       arith,
       c.requires,
       ap length c.self.view_is,
-      length_children f.brood f.sittings.items c.self.invariant,
-      length_seats f.brood f.sittings.items c.self.invariant,
+      length_children f.brood f.sittings.items c.self.invariant.0,
+      length_seats f.brood f.sittings.items c.self.invariant.0,
     )
 
 pub tell-requires : goal.tell-requires
@@ -25,10 +25,10 @@ tell-requires c =
       arith,
       c.requires,
       ap length c.self.view_is,
-      length_children f.brood f.sittings.items c.self.invariant,
-      length_seats f.brood f.sittings.items c.self.invariant,
+      length_children f.brood f.sittings.items c.self.invariant.0,
+      length_seats f.brood f.sittings.items c.self.invariant.0,
     ) in
-    of_kind_at f.brood f.sittings.items c.args.child c.index.result.now c.self.invariant
+    of_kind_at f.brood f.sittings.items c.args.child c.index.result.now c.self.invariant.0
     (slice_get_read f.sittings.items (vec_len f.sittings) c.args.child c.index.result.now all within c.index.ensures)
 
 pub end-requires : goal.end-requires
@@ -37,8 +37,10 @@ end-requires c = told_after c.args.child c.self.inside.brood c.tell.new.brood c.
 pub invariant_of-self : goal.invariant_of-self
 invariant_of-self c =
     let f = c.self.inside in
-    changed_beside child_ended c.args.child f.brood c.end.new.brood f.sittings.items c.self.invariant
-    (changes_then child_told child_ended child_ended c.args.child f.brood c.tell.new.brood c.end.new.brood (λ _. refl) c.tell.ensures c.end.ensures)
+    let changes = changes_then child_told child_ended child_ended c.args.child f.brood c.tell.new.brood c.end.new.brood (λ _. refl) c.tell.ensures c.end.ensures in (
+      changed_beside child_ended c.args.child f.brood c.end.new.brood f.sittings.items c.self.invariant.0 changes,
+      told_changed child_ended c.args.child f.brood c.end.new.brood (λ _. refl) c.self.invariant.1 changes,
+    )
 
 pub returns : goal.returns
 returns c =

@@ -12,8 +12,8 @@ index-requires c =
       arith,
       c.requires,
       ap length c.self.view_is,
-      length_children f.brood f.sittings.items c.self.invariant,
-      length_seats f.brood f.sittings.items c.self.invariant,
+      length_children f.brood f.sittings.items c.self.invariant.0,
+      length_seats f.brood f.sittings.items c.self.invariant.0,
     )
 
 pub returns : goal.returns
@@ -25,9 +25,9 @@ returns c =
       arith,
       c.requires,
       ap length c.self.view_is,
-      length_children f.brood f.sittings.items c.self.invariant,
-      length_seats f.brood f.sittings.items c.self.invariant,
+      length_children f.brood f.sittings.items c.self.invariant.0,
+      length_seats f.brood f.sittings.items c.self.invariant.0,
     ) in
-    sym (kind_there f.brood f.sittings.items c.args.child c.index.result.now c.self.invariant
+    sym (kind_there f.brood f.sittings.items c.args.child c.index.result.now c.self.invariant.0
     (slice_get_read f.sittings.items (vec_len f.sittings) c.args.child c.index.result.now all within c.index.ensures))
     ∙ ap (λ xs. option_map (λ (x : Child). x.kind) (slice_get xs c.args.child)) c.self.view_is

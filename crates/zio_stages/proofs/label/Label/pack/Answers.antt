@@ -1,4 +1,4 @@
-use Rattle.std.proofs.Common.{◌<◌, ◌^◌, length, arith}
+use Rattle.std.proofs.Common.{◌<◌, ◌^◌, arith}
 use Rattle.zio_stages.proofs.LabelLemmas.{below_power}
 use Rattle.zio_stages.proofs.label.Label.pack.Goals as goal
 

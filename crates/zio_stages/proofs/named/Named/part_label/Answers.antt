@@ -1,4 +1,4 @@
-use Rattle.std.proofs.Common.{◌<◌, ℕ, arith, rules}
+use Rattle.std.proofs.Common.{◌<◌, ℕ, arith}
 use Rattle.zio_frames.proofs.GetLemmas.{all_by_number}
 use Rattle.zio_stages.proofs.named.Named.part_label.Goals as goal
 

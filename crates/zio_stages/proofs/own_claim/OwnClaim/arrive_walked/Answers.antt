@@ -1,8 +1,8 @@
-use Rattle.std.proofs.Common.{◌≡◌, Some, Ok, Err, slice_get, refl, sym, ap, subst, ◌∙◌, List, IsTrue}
+use Rattle.std.proofs.Common.{◌≡◌, Some, Ok, Err, slice_get, refl, sym, ap, ◌∙◌, List, IsTrue}
 use Rattle.zio_blkptr.specs.Pointers.{valid}
 use Rattle.zio_gang.specs.declared.tree.Tree.{Tree}
 use Rattle.zio_frames.specs.Frames.{Child}
-use Rattle.zio_stages.specs.OwnClaims.{LiesFound, LiesWalked}
+use Rattle.zio_stages.specs.OwnClaims.{LiesFound}
 use Rattle.zio_stages.specs.declared.own_claim.ClaimStep.TheVariants.{Failed, Found}
 use Rattle.zio_stages.specs.declared.own_claim.OwnClaim.{OwnClaim}
 use Rattle.zio_stages.proofs.NodeIoLemmas.{ended_is}

@@ -1,4 +1,4 @@
-use Rattle.std.proofs.Common.{◌≡◌, List, [], ◌∷◌, Err, true, false, refl, ap, subst, ◌∙◌}
+use Rattle.std.proofs.Common.{List, [], ◌∷◌, Err, true, false, refl, ap, subst, ◌∙◌}
 use Rattle.zio_types.specs.declared.place.Place.{Place}
 use Rattle.zio_gang.specs.Trees.{tree_places}
 use Rattle.zio_stages.specs.SpaceCalls.{Claimed}
@@ -15,6 +15,7 @@ returns-in-Ok-clause-does g c =
       Claimed (tree_places tree) true ∷ [],
       subst (λ (ps : List Place). g.S.Services.made c.args.services.now (Claimed ps true ∷ []) c.claim.new.self) (c.as_slice.ensures ∙ c.in_ok-places.ensures) c.in-Ok.ensures.free,
       λ t tops family pointer front_asked front st goes h. claim_takes t tops old new tree family pointer front_asked front st true c.in-Some.is c.in-Found.is refl refl goes h,
+      tt,
     )
 
 pub returns-in-Err-Taken-clause-does : goal.returns-in-Err-Taken-clause-does
@@ -26,4 +27,5 @@ returns-in-Err-Taken-clause-does g c =
       subst (λ (ps : List Place). g.S.Services.made c.args.services.now (Claimed ps false ∷ []) c.claim.new.self) (c.as_slice.ensures ∙ c.in_ok-places.ensures)
           (c.in-Err-Taken.ensures.taken (ap (λ e. Err e) c.in-Err-Taken.field-0-is)),
       λ t tops family pointer front_asked front st goes h. claim_takes t tops old new tree family pointer front_asked front st false c.in-Some.is c.in-Found.is refl refl goes h,
+      tt,
     )

@@ -1,4 +1,4 @@
-use Rattle.std.proofs.Common.{◌≡◌, sym, subst}
+use Rattle.std.proofs.Common.{sym, subst}
 use Rattle.zio_stages.specs.OwnFrees.{IsOwnFree}
 use Rattle.zio_stages.specs.declared.own_free.FreeWalk.{FreeWalk}
 use Rattle.zio_stages.proofs.OwnFreeLemmas.{free_hands}

@@ -1,6 +1,5 @@
-use Rattle.std.proofs.Common.{◌≡◌, ◌+◌, List, Some, None, true, refl, sym, ap, subst, ◌∙◌}
-use Rattle.zio_trace.specs.Tasks.{BodyOf, ReadCopies, Task, Test}
-use Rattle.zio_types.specs.declared.place.Place.{Place}
+use Rattle.std.proofs.Common.{◌≡◌, Some, true, refl, subst}
+use Rattle.zio_trace.specs.Tasks.{ReadCopies, Task}
 use Rattle.zio_frames.specs.Frames.{fresh_frame}
 use Rattle.zio_stages.specs.ReadIos.{IsReadIo}
 use Rattle.zio_stages.specs.TreeWorks.{body_task}

@@ -1,4 +1,4 @@
-use Rattle.std.proofs.Common.{◌≡◌, ◌+◌, None, refl, ap, length, arith, sym, subst}
+use Rattle.std.proofs.Common.{◌≡◌, refl, ap, length, arith, sym, subst}
 use Rattle.zio_stages.specs.TreeWorks.{heads_task}
 use Rattle.zio_stages.specs.declared.own_read.OwnRead.{OwnRead}
 use Rattle.zio_stages.proofs.OwnGangLemmas.{hands_read}

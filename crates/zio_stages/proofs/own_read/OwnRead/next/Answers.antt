@@ -1,4 +1,3 @@
-use Rattle.std.proofs.Common.{◌≡◌, ap, sym, subst, length, ◌<◌}
 use Rattle.zio_stages.proofs.OwnGangLemmas.{read_owed}
 use Rattle.zio_stages.proofs.own_read.OwnRead.next.Goals as goal
 

@@ -1,4 +1,4 @@
-use Rattle.std.proofs.Common.{◌≡◌, Some, None, refl, sym, subst, ◌∙◌, Option}
+use Rattle.std.proofs.Common.{◌≡◌, Some, refl, sym, subst, ◌∙◌, Option}
 use Rattle.zio_parts.specs.HeadWalks.{no_walk}
 use Rattle.zio_stages.specs.OwnReads.{IsOwnOver}
 use Rattle.zio_stages.specs.declared.own_read.BodyIo.{BodyIo}

@@ -1,4 +1,4 @@
-use Rattle.std.proofs.Common.{◌≡◌, ◌∷◌, [], List, true, ap, sym, ◌∙◌}
+use Rattle.std.proofs.Common.{◌∷◌, [], List, ap, sym, ◌∙◌}
 use Rattle.std.specs.List.{list_any}
 use Rattle.zio_types.specs.declared.request.ChildKind.TheVariants.{Vdev}
 use Rattle.zio_types.specs.declared.request.Phase.TheVariants.{Done}

@@ -1,8 +1,7 @@
-use Rattle.std.proofs.Common.{◌≡◌, Some, refl, sym, ap, ◌∙◌}
+use Rattle.std.proofs.Common.{◌≡◌, Some, refl, sym, ◌∙◌}
 use Rattle.std.proofs.lemmas.Result.{IfOk-weaker, on_err_weaker}
 use Rattle.zio_stages.specs.declared.own_read.BodyIo.{BodyIo}
 use Rattle.zio_stages.specs.declared.own_read.OwnRead.{OwnRead}
-use Rattle.zio_stages.specs.declared.read_io.ReadIo.{ReadIo}
 use Rattle.zio_stages.proofs.OwnReadLemmas.{body_over, over_goes, read_at, same_read, starts_body}
 use Rattle.zio_stages.proofs.own_read.OwnRead.vdev_io_start.Goals as goal
 

@@ -6,4 +6,4 @@ use Rattle.zio_stages.proofs.part_node.PartNode.dva_allocate.Goals as goal
 pub returns-clause-does : goal.returns-clause-does
 returns-clause-does g c =
     let d = c.dva_allocate.ensures.does in
-    (d.0, d.1, λ t st h. does_map t st d.0 _ _ (λ mid k. comes_map t c.dva_allocate.result _ _ mid (λ next at. record { part = h.part; at = at }) k) (d.2 t (no_front h.part) h.part st (own_front t h.part) h.at))
+    (d.0, d.1, λ t st h. does_map t st d.0 _ _ (λ mid k. comes_map t c.dva_allocate.result _ _ mid (λ next at. record { part = h.part; at = at }) k) (d.2 t (no_front h.part) h.part st (own_front t h.part) h.at), d.3)

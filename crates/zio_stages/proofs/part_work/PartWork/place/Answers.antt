@@ -40,6 +40,7 @@ returns-clause-does g c =
           (subst (λ (a : Ask). PartAsks t o h.slots (Find a)) (sym c.in_ok-entry.ensures.asked) (c.in-Some.ensures.asks t o h.asked h.slots h.work.own))
           c.found.ensures (c.hear_places.ensures.heard t o h.asked h.slots entry.asked h.work.own) refl refl
           (ap (λ (x : PartWriting). x.own) c.hear_places.ensures.exact),
+      (tt, tt),
     )
 
 pub returns-clause-over : goal.returns-clause-over

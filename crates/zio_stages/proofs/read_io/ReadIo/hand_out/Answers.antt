@@ -1,9 +1,9 @@
-use Rattle.std.proofs.Common.{◌≡◌, ◌+◌, ◌++◌, ◌∷◌, [], ℕ, true, List, Option, None, Some, ap, refl, sym, subst, ◌∙◌}
+use Rattle.std.proofs.Common.{◌≡◌, ◌+◌, ℕ, true, List, Option, None, Some, ap, refl, sym, subst, ◌∙◌}
 use Rattle.zio_trace.specs.Tasks.{good_by}
 use Rattle.zio_frames.specs.Frames.{with_asked}
 use Rattle.zio_frames.specs.Slots.{IsOut}
 use Rattle.zio_parts.specs.CopyReads.{Reading, handed_with, left_of_read}
-use Rattle.zio_stages.specs.ReadIos.{IsReadIo, IsReadOver, outs_of_read, outs_when}
+use Rattle.zio_stages.specs.ReadIos.{IsReadIo, IsReadOver, outs_when}
 use Rattle.zio_stages.proofs.ReadIoEnds.{no_child}
 use Rattle.zio_stages.proofs.ReadIoLemmas.{all_good, read_child_again}
 use Rattle.zio_stages.proofs.ReadIoMoves.{read_grown_over, read_handed_out, read_one_more, repair_grown_over, repair_handed_out, repair_one_more}

@@ -30,6 +30,7 @@ returns-clause-does g c =
           (λ mid k. comes_map t c.dva_allocate.result _ _ mid
           (λ next at. node_at t r st next w _ c.dva_allocate.new.family h own refl at) k)
           (d.2 t (front_in t r st h) own.part st (is_front t r st w h own) (part_at t r st w h own)),
+      d.3,
     )
 
 pub returns-clause-begun : goal.returns-clause-begun

@@ -1,5 +1,5 @@
 use Rattle.std.proofs.Common.{sym, subst, ap, refl}
-use Rattle.zio_parts.specs.TreeReads.{Reading, ShowsRead, fresh_read}
+use Rattle.zio_parts.specs.TreeReads.{Reading, ShowsRead}
 use Rattle.zio_parts.specs.declared.tree_read.TreeStep.TheVariants.{Walk}
 use Rattle.zio_stages.specs.declared.tree.TreeWork.{TreeWork}
 use Rattle.zio_stages.proofs.TreeLemmas.{fresh_tree}

@@ -1,4 +1,4 @@
-use Rattle.std.proofs.Common.{◌≡◌, ◌+◌, ◌*◌, ◌<◌, ◌≤◌, ◌∙◌, sym, ap, subst, length, None, arith}
+use Rattle.std.proofs.Common.{◌+◌, ◌*◌, ◌≤◌, ◌∙◌, sym, ap, subst, length, None, arith}
 use Rattle.zio_frames.specs.Frames.{with_asked}
 use Rattle.zio_frames.specs.Slots.{IsOut}
 use Rattle.zio_parts.specs.Copies.{copies_at}

@@ -1,13 +1,17 @@
 -- A claim as a node at a stage: how far it is, and how often it runs.
-use Rattle.std.proofs.Common.{◌≡◌, ℕ, ◌+◌, ◌≤◌, inl, inr, Bool, Option, Some, None, refl, sym, ap, subst, ◌∙◌, arith}
+use Rattle.std.proofs.Common.{◌≡◌, ℕ, ◌+◌, ◌≤◌, ◌⊎◌, inl, inr, List, Bool, false, Option, Some, None, refl, sym, ap, subst, ◌∙◌, arith}
+use Rattle.zio_types.specs.declared.request.Kind.{Kind}
+use Rattle.zio_types.specs.declared.request.Kind.TheVariants.{Claim as ClaimKind}
 use Rattle.zio_masks.specs.declared.stage.Stage.{Stage}
-use Rattle.zio_masks.specs.declared.stage.Stage.TheVariants.{DvaClaim, Done, GangAssemble, GangIssue, Ready}
+use Rattle.zio_masks.specs.declared.stage.Stage.TheVariants.{DvaClaim, Done, GangAssemble, GangIssue, Ready, Start}
+use Rattle.zio_script.specs.Requests.{kind_of}
 use Rattle.zio_gang.specs.declared.tree.Tree.{Tree}
 use Rattle.zio_graph.specs.Stages.{told_cost}
 use Rattle.zio_stages.specs.OwnClaims.{HasClaimEnded}
 use Rattle.zio_stages.specs.RequestClaims.{HasEndedClaim, IsClaimWith, IsClaimingWith, IsDueOrClaim, IsPastDue, IsWalkDue}
 use Rattle.zio_stages.specs.RequestReads.{HasFound}
 use Rattle.zio_stages.specs.RequestStages.{with_own}
+use Rattle.zio_stages.specs.SpaceCalls.{IsClaimAtMost, SpaceCall}
 use Rattle.zio_stages.specs.declared.request_node.RequestNode.{RequestNode}
 use Rattle.zio_stages.specs.declared.own_claim.ClaimStep.{ClaimStep}
 use Rattle.zio_stages.specs.declared.own_claim.ClaimStep.TheVariants.{Due as StepDue, Out as StepOut, Failed, Found as StepFound, Taken, Refused}
@@ -15,8 +19,12 @@ use Rattle.zio_stages.specs.declared.own_claim.OwnClaim.{OwnClaim}
 use Rattle.zio_stages.specs.declared.request_node.Own.{Own}
 use Rattle.zio_stages.specs.declared.request_node.Own.TheVariants.{Claim, Due, Found, Free, Over, Read, Stored, Write}
 use Rattle.zio_nodes.specs.Bounds.{walk_max}
-use Rattle.zio_nodes.specs.OwnAts.{IsAnyClaim, IsClaimAtStage, IsClaimBegun}
+use Rattle.zio_nodes.specs.OwnAts.{HasClaimWalked, IsAnyClaim, IsClaimAtStage, IsClaimBegun}
 use Rattle.zio_nodes.specs.OwnBounds.{claim_stages, claim_walk_left, claiming_left, walk_share}
+use Rattle.zio_nodes.specs.StageMoves.{CallsFit, IssueFits}
+use Rattle.zio_nodes.specs.Told.{is_told}
+use Rattle.zio_nodes.specs.declared.node.Node.TheVariants.{Request}
+use Rattle.zio_nodes.specs.declared.request_at.RequestAt.{RequestAt}
 
 -- ---- how far
 
@@ -147,13 +155,13 @@ ended_less old new stage f = omega (arith, claiming_found new f)
 
 -- ---- it begins
 
-pub begun_claim : (due : Bool) (own : Own) → IsClaimAtStage GangAssemble due own → IsDueOrClaim own
-begun_claim due own (inl h) = due_or_claim own h.0
-begun_claim due own (inr h) = any_claim IsAnyClaim own h
+pub begun_claim : (due gang : Bool) (own : Own) → IsClaimAtStage GangAssemble due own gang → IsDueOrClaim own
+begun_claim due gang own (inl h, is) = due_or_claim own h.0
+begun_claim due gang own (inr h, is) = any_claim IsAnyClaim own h
 
-pub begins_most : (due : Bool) (r now : RequestNode) → IsClaimAtStage GangAssemble due r.own → (IsClaimWith IsAnyClaim r.own → now ≡ r) → claiming_left now.own ≤ claiming_left r.own
-begins_most due r now (inl h) still = omega (arith, claiming_most now.own, ap claiming_left h.0)
-begins_most due r now (inr h) still = omega (arith, ap (λ (x : RequestNode). claiming_left x.own) (still h))
+pub begins_most : (due gang : Bool) (r now : RequestNode) → IsClaimAtStage GangAssemble due r.own gang → (IsClaimWith IsAnyClaim r.own → now ≡ r) → claiming_left now.own ≤ claiming_left r.own
+begins_most due gang r now (inl h, is) still = omega (arith, claiming_most now.own, ap claiming_left h.0)
+begins_most due gang r now (inr h, is) still = omega (arith, ap (λ (x : RequestNode). claiming_left x.own) (still h))
 
 pub rest_then : (r mid now : RequestNode) → mid ≡ with_own r mid.own mid.family → now ≡ with_own mid now.own now.family → now ≡ with_own r now.own now.family
 rest_then r mid now first then = then ∙ ap (λ (x : RequestNode). with_own x now.own now.family) first
@@ -164,13 +172,55 @@ ended_pays own stage is = omega (arith, ap claim_stages is)
 pub taken_most : (old new : Own) → IsClaimWith HasEndedClaim new → claiming_left new ≤ claiming_left old
 taken_most old new h = omega (arith, claiming_ended new h)
 
+-- ---- its places are taken
+
+-- it is to begin, of a plain block, or its walk ended
+abbrev pub MayTake : Own → (gang : Bool) → Type 0
+MayTake own gang = ((own ≡ Due) × (gang ≡ false)) ⊎ IsClaimWith HasClaimWalked own
+
+pub may_take : (due : Bool) (own : Own) (gang points : Bool) → gang ≡ points → IsClaimAtStage DvaClaim due own points → MayTake own gang
+may_take due own gang points same (inl h) = inl (h.0, same ∙ h.2)
+may_take due own gang points same (inr h) = inr h
+
+pub taken_claim : (own : Own) (gang : Bool) → MayTake own gang → IsDueOrClaim own
+taken_claim own gang (inl h) = due_or_claim own h.0
+taken_claim own gang (inr h) = any_claim HasClaimWalked own h
+
+any_walked : (own : Own) → IsClaimWith HasClaimWalked own → IsClaimWith IsAnyClaim own
+any_walked own h = claim_map HasClaimWalked IsAnyClaim own (λ w k. tt) h
+
+-- once it has begun its walk ended
+pub walked_then : (r now : RequestNode) (gang : Bool) → MayTake r.own gang → (IsClaimWith IsAnyClaim r.own → now ≡ r) → (r.own ≡ Due → gang ≡ false → IsClaimWith HasClaimWalked now.own)
+    → IsClaimWith HasClaimWalked now.own
+walked_then r now gang (inl h) still begins = begins h.0 h.1
+walked_then r now gang (inr h) still begins = subst (λ (x : RequestNode). IsClaimWith HasClaimWalked x.own) (sym (still (any_walked r.own h))) h
+
+pub takes_at : (at : RequestAt) (calls : List SpaceCall) → kind_of at.node.waiting.request.work ≡ ClaimKind → (at.stage ≡ DvaClaim) ⊎ (at.stage ≡ GangIssue) → IsClaimAtMost calls
+    → CallsFit at.stage (Request at) calls
+takes_at at calls kind (inl is) h = subst (λ (s : Stage). CallsFit s (Request at) calls) (sym is) h
+takes_at at calls kind (inr is) h =
+    subst (λ (s : Stage). CallsFit s (Request at) calls) (sym is) (subst (λ (k : Kind). IssueFits k calls) (sym kind) h)
+
+pub untold_at : (stage : Stage) → (stage ≡ DvaClaim) ⊎ (stage ≡ GangIssue) → is_told stage ≡ false
+untold_at stage (inl is) = ap is_told is
+untold_at stage (inr is) = ap is_told is
+
+pub behind_at : (stage : Stage) → (stage ≡ DvaClaim) ⊎ (stage ≡ GangIssue) → stage ≡ Start → ⊥
+behind_at stage (inl is) e = let no : DvaClaim ≡ Start = sym is ∙ e in cc
+behind_at stage (inr is) e = let no : GangIssue ≡ Start = sym is ∙ e in cc
+
+pub taken_less : (old new : Own) (was stage : Stage) → (was ≡ DvaClaim) ⊎ (was ≡ GangIssue) → stage ≡ Ready → claiming_left new ≤ claiming_left old
+    → claiming_left new + claim_stages stage + 1 ≤ claiming_left old + claim_stages was
+taken_less old new was stage (inl is) to most = omega (arith, most, ap claim_stages is, ap claim_stages to)
+taken_less old new was stage (inr is) to most = omega (arith, most, ap claim_stages is, ap claim_stages to)
+
 -- ---- it stands at no other stage
 
-pub claim_known : (stage : Stage) (due : Bool) (own : Own) → IsClaimAtStage stage due own → (stage ≡ GangAssemble → ⊥) → (stage ≡ GangIssue → ⊥) → (stage ≡ DvaClaim → ⊥)
+pub claim_known : (stage : Stage) (due : Bool) (own : Own) (gang : Bool) → IsClaimAtStage stage due own gang → (stage ≡ GangAssemble → ⊥) → (stage ≡ GangIssue → ⊥) → (stage ≡ DvaClaim → ⊥)
     → (stage ≡ Ready → ⊥) → (stage ≡ Done → ⊥) → ⊥
-claim_known GangAssemble due own h c d e f g = c refl
-claim_known GangIssue due own h c d e f g = d refl
-claim_known DvaClaim due own h c d e f g = e refl
-claim_known Ready due own h c d e f g = f refl
-claim_known Done due own h c d e f g = g refl
-claim_known _ due own h c d e f g = h
+claim_known GangAssemble due own gang h c d e f g = c refl
+claim_known GangIssue due own gang h c d e f g = d refl
+claim_known DvaClaim due own gang h c d e f g = e refl
+claim_known Ready due own gang h c d e f g = f refl
+claim_known Done due own gang h c d e f g = g refl
+claim_known _ due own gang h c d e f g = h

@@ -1,7 +1,8 @@
 -- A free as a node at a stage: how far it is, how often it runs, and what went back.
-use Rattle.std.proofs.Common.{◌≡◌, ℕ, ◌+◌, ◌≤◌, List, [], ◌∷◌, ◌++◌, append-nil, length, take, Bool, true, false, Option, Some, None, is_none, refl, sym, ap, subst, ◌∙◌, arith}
+use Rattle.std.proofs.Common.{◌≡◌, ℕ, ◌+◌, ◌≤◌, List, [], ◌∷◌, ◌++◌, append-nil, length, take, ◌⊎◌, inl, inr, Bool, true, false, Option, Some, None, is_none, refl, sym, ap, subst, ◌∙◌, arith}
 use Rattle.zio_types.specs.declared.error.Errno.{Errno}
 use Rattle.zio_types.specs.declared.place.Place.{Place}
+use Rattle.zio_types.specs.declared.request.Kind.{Kind}
 use Rattle.zio_types.specs.declared.request.Kind.TheVariants.{Free as FreeKind}
 use Rattle.zio_masks.specs.declared.pipeline.Pipeline.{Pipeline}
 use Rattle.zio_masks.specs.declared.stage.Stage.{Stage}
@@ -15,6 +16,7 @@ use Rattle.zio_stages.specs.Outcomes.{freed_if}
 use Rattle.zio_stages.specs.RequestFrees.{FreesOn, HasFreed, HasKeptFailed, HasWalked, IsFreeWith, IsFreeing, IsFreeingWith, freed_by}
 use Rattle.zio_stages.specs.RequestKinds.{has_gang_stages, is_gang_tree}
 use Rattle.zio_stages.specs.RequestReads.{HasFound, found_error}
+use Rattle.zio_stages.specs.SpaceCalls.{calls_back}
 use Rattle.zio_stages.specs.StoredBlocks.{block_places}
 use Rattle.zio_stages.specs.declared.own_free.FreeWalk.{FreeWalk}
 use Rattle.zio_stages.specs.declared.own_free.FreeWalk.TheVariants.{Due as FreeDue, Out, Ended}
@@ -22,12 +24,17 @@ use Rattle.zio_stages.specs.declared.own_free.OwnFree.{OwnFree}
 use Rattle.zio_stages.specs.declared.request_node.Own.{Own}
 use Rattle.zio_stages.specs.declared.request_node.Own.TheVariants.{Claim, Due, Found, Free, Over, Read, Stored, Write}
 use Rattle.zio_nodes.specs.Bounds.{walk_max}
-use Rattle.zio_nodes.specs.OwnAts.{HasKeptAll, IsFreeAtStage}
+use Rattle.zio_nodes.specs.OwnAts.{HasKeptAll, IsFreeAtStage, IsGivingFree}
 use Rattle.zio_nodes.specs.OwnBounds.{free_stages, free_walk_left, freeing_left, walk_share}
-use Rattle.zio_nodes.specs.RequestAts.{freed_so_far, takes}
+use Rattle.zio_nodes.specs.RequestAts.{freed_so_far, is_kept, masked}
+use Rattle.zio_nodes.specs.StageMoves.{CallsFit, IssueFits}
 use Rattle.zio_nodes.specs.Told.{is_told}
+use Rattle.zio_nodes.specs.declared.node.Node.TheVariants.{Request}
+use Rattle.zio_nodes.specs.declared.request_at.RequestAt.{RequestAt}
+use Rattle.zio_nodes.proofs.NodeLemmas.{all_returns}
 use Rattle.zio_nodes.proofs.OwnOver.{IsFree}
 use Rattle.zio_nodes.proofs.OwnStages.{behind_issue}
+use Rattle.zio_nodes.proofs.StageLeads.{gang_of}
 
 -- ---- how far
 
@@ -160,9 +167,9 @@ ended_same Over now block freed kept error found still = absurd freed
 
 -- ---- behind IssueAsync
 
-pub free_mask : (work : Work) (block : Option Tree) (mask : Pipeline) → IsFree work → ((s : Stage) → has mask s ≡ takes (kind_of work) (has_gang_stages work block) s)
-    → (s : Stage) → has mask s ≡ takes FreeKind (is_gang_tree block) s
-free_mask work block mask is same = λ s. same s ∙ ap (λ (w : Work). takes (kind_of w) (has_gang_stages w block) s) is.is
+pub free_mask : (work : Work) (block : Option Tree) (mask : Pipeline) → IsFree work → ((s : Stage) → has mask s ≡ masked (kind_of work) (has_gang_stages work block) s)
+    → (s : Stage) → has mask s ≡ masked FreeKind (is_gang_tree block) s
+free_mask work block mask is same = λ s. same s ∙ ap (λ (w : Work). masked (kind_of w) (has_gang_stages w block) s) is.is
 
 pub issue_untold : (gang : Bool) → is_told (behind_issue gang) ≡ false
 issue_untold true = refl
@@ -176,6 +183,14 @@ pub issue_stands : (gang due : Bool) (own : Own) (block : Option Tree) → is_ga
     → IsFreeAtStage (behind_issue gang) due own block
 issue_stands true due own block is kept walked = (kept, is)
 issue_stands false due own block is kept walked = (may_give block own kept, walked is, kept_failed own kept)
+
+-- GangIssue leaves it
+issue_kept : (gang : Bool) → is_kept gang (behind_issue gang) ≡ true
+issue_kept true = refl
+issue_kept false = refl
+
+pub issue_leads : (at : RequestAt) (next : Stage) (gang : Bool) → gang_of at ≡ gang → next ≡ behind_issue gang → is_kept (gang_of at) next ≡ true
+issue_leads at next gang is then = ap (λ g. is_kept g next) is ∙ ap (is_kept gang) then ∙ issue_kept gang
 
 pub issue_stages : (gang : Bool) → free_stages (behind_issue gang) + 1 ≤ told_cost + told_cost + 4
 issue_stages true = omega arith
@@ -245,6 +260,54 @@ stage_less_walked own now was stage a b same x y less = omega (arith, same, x, y
 
 pub told_less : (own : Own) (was stage : Stage) → free_stages was ≡ told_cost + told_cost → free_stages stage ≡ told_cost → freeing_left own + free_stages stage + told_cost ≤ freeing_left own + free_stages was
 told_less own was stage x y = omega (arith, x, y)
+
+-- ---- a gang's walk ended
+
+-- what its places need to go back
+pub record MayGoBack (block : Option Tree) (own : Own) : Type 0 where
+  pub walked : IsFreeWith HasWalked own
+  pub frees : IsFreeWith (IsFreeing block) own
+  pub failed : IsFreeWith HasKeptFailed own
+
+giving : (block : Option Tree) (w : OwnFree) → HasWalked w → IsGivingFree block w → IsFreeing block w × HasKeptFailed w
+giving block w walked (inl kept) = (zero_least w.given (length (block_places block)) kept, λ e is. kept)
+giving block w walked (inr gives) = (gives.1, gives.2)
+
+pub may_go_back : (block : Option Tree) (own : Own) → IsFreeWith HasWalked own → IsFreeWith (IsGivingFree block) own → MayGoBack block own
+may_go_back block Due walked h = absurd h
+may_go_back block (Write w) walked h = absurd h
+may_go_back block (Stored b) walked h = absurd h
+may_go_back block (Read w) walked h = absurd h
+may_go_back block (Free w) walked h = let both = giving block w walked h in record { walked = walked; frees = both.0; failed = both.1 }
+may_go_back block (Claim w) walked h = absurd h
+may_go_back block (Found own) walked h = record { walked = tt; frees = tt; failed = tt }
+may_go_back block Over walked h = absurd h
+
+-- none went back before
+pub none_yet : (block : Option Tree) (own : Own) → IsFreeWith HasKeptAll own → IsFreeWith (IsGivingFree block) own
+none_yet block own h = free_map HasKeptAll (IsGivingFree block) own (λ w kept. inl kept) h
+
+-- ---- the stage at which they go back
+
+pub gives_at : (at : RequestAt) (gone : List Place) → kind_of at.node.waiting.request.work ≡ FreeKind → (at.stage ≡ DvaFree) ⊎ (at.stage ≡ GangIssue)
+    → CallsFit at.stage (Request at) (calls_back gone)
+gives_at at gone kind (inl is) = subst (λ (s : Stage). CallsFit s (Request at) (calls_back gone)) (sym is) (all_returns gone)
+gives_at at gone kind (inr is) =
+    subst (λ (s : Stage). CallsFit s (Request at) (calls_back gone)) (sym is)
+    (subst (λ (k : Kind). IssueFits k (calls_back gone)) (sym kind) (all_returns gone))
+
+pub untold_at : (stage : Stage) → (stage ≡ DvaFree) ⊎ (stage ≡ GangIssue) → is_told stage ≡ false
+untold_at stage (inl is) = ap is_told is
+untold_at stage (inr is) = ap is_told is
+
+pub behind_at : (stage : Stage) → (stage ≡ DvaFree) ⊎ (stage ≡ GangIssue) → stage ≡ Start → ⊥
+behind_at stage (inl is) e = let no : DvaFree ≡ Start = sym is ∙ e in cc
+behind_at stage (inr is) e = let no : GangIssue ≡ Start = sym is ∙ e in cc
+
+pub given_less : (own now : Own) (was stage : Stage) → (was ≡ DvaFree) ⊎ (was ≡ GangIssue) → stage ≡ Ready → freeing_left now ≡ freeing_left own
+    → freeing_left now + free_stages stage + 1 ≤ freeing_left own + free_stages was
+given_less own now was stage (inl is) to same = omega (arith, same, ap free_stages is, ap free_stages to)
+given_less own now was stage (inr is) to same = omega (arith, same, ap free_stages is, ap free_stages to)
 
 -- ---- it came to its end
 

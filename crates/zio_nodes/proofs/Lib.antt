@@ -40,6 +40,7 @@ pub mod RequestMoves
 pub mod RequestStill
 pub mod Settles
 pub mod StageAllows
+pub mod StageCuts
 pub mod StageLeads
 pub mod StageLemmas
 pub mod Stalling

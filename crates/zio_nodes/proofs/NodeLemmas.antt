@@ -3,16 +3,20 @@ use Rattle.std.proofs.Common.{◌≡◌, List, [], ◌∷◌, Result, Ok, Err, r
 use Rattle.std.specs.Prelude.{IfErr, IfOk, OnErr}
 use Rattle.zio_types.specs.declared.place.Place.{Place}
 use Rattle.zio_types.specs.declared.place.Top.{Top}
+use Rattle.zio_types.specs.declared.request.Kind.{Kind}
+use Rattle.zio_types.specs.declared.request.Kind.TheVariants.{Null as NullKind, Read as ReadKind, Write as WriteKind, Free as FreeKind, Claim as ClaimKind}
 use Rattle.zio_masks.specs.declared.stage.Stage.{Stage}
 use Rattle.zio_masks.specs.declared.stage.Stage.TheVariants.{Start, ReadBpInit, WriteBpInit, FreeBpInit, IssueAsync, WriteCompress, ChecksumGenerate, GangAssemble, GangIssue, DvaAllocate, DvaFree, DvaClaim, Ready, VdevIoStart, VdevIoDone, VdevIoAssess, ChecksumVerify, Done}
+use Rattle.zio_script.specs.Requests.{kind_of}
 use Rattle.zio_gang.specs.Attempts.{Terms}
 use Rattle.zio_frames.specs.Frames.{Stack}
 use Rattle.zio_graph.specs.Stages.{GoesOn, IsMove, IsNow}
 use Rattle.zio_graph.specs.declared.staged.Move.{Move}
 use Rattle.zio_stages.specs.SpaceCalls.{AreReturns, SpaceCall, calls_back}
 use Rattle.zio_nodes.specs.Nodes.{MovesBare, MovesWith, StaysBare, StaysWith, gave_of, moved, nodes}
-use Rattle.zio_nodes.specs.StageMoves.{CallsFit, stage_of}
+use Rattle.zio_nodes.specs.StageMoves.{CallsFit, GangFits, IssueFits, stage_of}
 use Rattle.zio_nodes.specs.declared.node.Node.{Node}
+use Rattle.zio_nodes.specs.declared.node.Node.TheVariants.{Copies, Empty, Heads, Leaf, Part, Request, Tree}
 use Rattle.zio_nodes.specs.declared.turn.Turn.{Turn}
 
 pub moved_bare : (tops lent : List Top) (self node : Node) (r : Result (Move Node) Node) (move : Move Node) → self ≡ node → lent ≡ tops → r ≡ Ok move
@@ -33,25 +37,41 @@ stayed_bare tops lent self node r after same is err h =
 
 -- ---- which calls a stage makes
 
-pub no_calls : (stage : Stage) → CallsFit stage []
-no_calls Start = refl
-no_calls ReadBpInit = refl
-no_calls WriteBpInit = refl
-no_calls FreeBpInit = refl
-no_calls IssueAsync = refl
-no_calls WriteCompress = refl
-no_calls ChecksumGenerate = refl
-no_calls GangAssemble = refl
-no_calls GangIssue = refl
-no_calls DvaAllocate = tt
-no_calls DvaFree = tt
-no_calls DvaClaim = tt
-no_calls Ready = refl
-no_calls VdevIoStart = refl
-no_calls VdevIoDone = refl
-no_calls VdevIoAssess = refl
-no_calls ChecksumVerify = refl
-no_calls Done = tt
+issue_none : (kind : Kind) → IssueFits kind []
+issue_none NullKind = refl
+issue_none ReadKind = refl
+issue_none WriteKind = refl
+issue_none FreeKind = tt
+issue_none ClaimKind = tt
+
+gang_none : (node : Node) → GangFits node []
+gang_none (Leaf at) = refl
+gang_none (Copies at) = refl
+gang_none (Heads at) = refl
+gang_none (Part at) = refl
+gang_none (Tree at) = refl
+gang_none (Request at) = issue_none (kind_of at.node.waiting.request.work)
+gang_none Empty = refl
+
+pub no_calls : (stage : Stage) (node : Node) → CallsFit stage node []
+no_calls Start node = refl
+no_calls ReadBpInit node = refl
+no_calls WriteBpInit node = refl
+no_calls FreeBpInit node = refl
+no_calls IssueAsync node = refl
+no_calls WriteCompress node = refl
+no_calls ChecksumGenerate node = refl
+no_calls GangAssemble node = refl
+no_calls GangIssue node = gang_none node
+no_calls DvaAllocate node = tt
+no_calls DvaFree node = tt
+no_calls DvaClaim node = tt
+no_calls Ready node = refl
+no_calls VdevIoStart node = refl
+no_calls VdevIoDone node = refl
+no_calls VdevIoAssess node = refl
+no_calls ChecksumVerify node = refl
+no_calls Done node = tt
 
 pub all_returns : (places : List Place) → AreReturns (calls_back places)
 all_returns [] = tt
@@ -81,19 +101,19 @@ stayed_with made tops a b self node r after same err h =
 pub bare_moves : {S : Type 0} (made : S → List SpaceCall → S → Type 0) (tops lent : List Top) (a : S) (node : Node) (r : Result (Move Node) Node) → lent ≡ tops → made a [] a
     → IfOk r (MovesBare lent node) → IfOk r (MovesWith made tops a a node)
 bare_moves made tops lent a node (Ok move) same none h =
-    record { calls = []; were_made = none; fits = no_calls (stage_of node); moves = subst (λ (ts : List Top). MovesBare ts node move) same h }
+    record { calls = []; were_made = none; fits = no_calls (stage_of node) node; moves = subst (λ (ts : List Top). MovesBare ts node move) same h }
 bare_moves made tops lent a node (Err after) same none h = tt
 
 pub bare_stays : {S : Type 0} (made : S → List SpaceCall → S → Type 0) (tops lent : List Top) (a : S) (node : Node) (r : Result (Move Node) Node) → lent ≡ tops → made a [] a
     → IfErr r (StaysBare lent node) → IfErr r (StaysWith made tops a a node)
 bare_stays made tops lent a node (Ok move) same none h = tt
 bare_stays made tops lent a node (Err after) same none h =
-    record { calls = []; were_made = none; fits = no_calls (stage_of node); goes = subst (λ (ts : List Top). StaysBare ts node after) same h }
+    record { calls = []; were_made = none; fits = no_calls (stage_of node) node; goes = subst (λ (ts : List Top). StaysBare ts node after) same h }
 
 pub bare_move : {S : Type 0} (made : S → List SpaceCall → S → Type 0) (tops lent : List Top) (a : S) (node : Node) (move : Move Node) → lent ≡ tops → made a [] a
     → MovesBare lent node move → MovesWith made tops a a node move
 bare_move made tops lent a node move same none h =
-    record { calls = []; were_made = none; fits = no_calls (stage_of node); moves = subst (λ (ts : List Top). MovesBare ts node move) same h }
+    record { calls = []; were_made = none; fits = no_calls (stage_of node) node; moves = subst (λ (ts : List Top). MovesBare ts node move) same h }
 
 -- ---- in its place
 
@@ -106,4 +126,4 @@ pub turn_stays : {S E : Type 0} (made : S → List SpaceCall → S → Type 0) (
     → OnErr r (StaysBare lent node after) → OnErr r (StaysWith made tops a a node after)
 turn_stays made tops lent a node after (Ok turn) same none h = tt
 turn_stays made tops lent a node after (Err e) same none h =
-    record { calls = []; were_made = none; fits = no_calls (stage_of node); goes = subst (λ (ts : List Top). StaysBare ts node after) same h }
+    record { calls = []; were_made = none; fits = no_calls (stage_of node) node; goes = subst (λ (ts : List Top). StaysBare ts node after) same h }

@@ -5,7 +5,6 @@ use Rattle.zio_types.specs.declared.place.Top.{Top}
 use Rattle.zio_types.specs.declared.request.ChildKind.{ChildKind}
 use Rattle.zio_types.specs.declared.request.Phase.{Phase}
 use Rattle.zio_masks.specs.declared.stage.Stage.{Stage}
-use Rattle.zio_masks.specs.declared.stage.Stage.TheVariants.{DvaFree}
 use Rattle.zio_gang.specs.Attempts.{Terms}
 use Rattle.zio_trace.specs.Tasks.{Task}
 use Rattle.zio_frames.specs.Frames.{Stack, fresh_stack, needs_none}
@@ -24,7 +23,7 @@ use Rattle.zio_nodes.specs.Told.{is_told}
 use Rattle.zio_nodes.specs.declared.node.Node.{Node}
 use Rattle.zio_nodes.specs.declared.node.Node.TheVariants.{Request}
 use Rattle.zio_nodes.specs.declared.request_at.RequestAt.{RequestAt}
-use Rattle.zio_nodes.proofs.NodeLemmas.{all_returns, no_calls}
+use Rattle.zio_nodes.proofs.NodeLemmas.{no_calls}
 use Rattle.zio_nodes.proofs.RequestMoves.{request_does, request_gives, request_goes, request_grows, request_tells, request_waits}
 
 abbrev at_stage : RequestNode → Stage → Bool → RequestAt
@@ -84,11 +83,11 @@ tells_bare tops at stage due will before told = λ t st n. request_tells t st at
 
 pub moves_with : {S : Type 0} (made : S → List SpaceCall → S → Type 0) (tops : List Top) (a : S) (node : Node) (move : Move Node) → made a [] a → MovesBare tops node move
     → MovesWith made tops a a node move
-moves_with made tops a node move none h = record { calls = []; were_made = none; fits = no_calls (stage_of node); moves = h }
+moves_with made tops a node move none h = record { calls = []; were_made = none; fits = no_calls (stage_of node) node; moves = h }
 
 pub stays_with : {S : Type 0} (made : S → List SpaceCall → S → Type 0) (tops : List Top) (a : S) (node after : Node) → made a [] a → StaysBare tops node after
     → StaysWith made tops a a node after
-stays_with made tops a node after none h = record { calls = []; were_made = none; fits = no_calls (stage_of node); goes = h }
+stays_with made tops a node after none h = record { calls = []; were_made = none; fits = no_calls (stage_of node) node; goes = h }
 
 -- ---- as it was
 
@@ -99,36 +98,35 @@ next_same tops at now stage due same told =
 
 -- ---- places go back
 
-freed_fit : (stage : Stage) (gone : List Place) → stage ≡ DvaFree → CallsFit stage (calls_back gone)
-freed_fit stage gone free = subst (λ (s : Stage). CallsFit s (calls_back gone)) (sym free) (all_returns gone)
-
 pub gives_back : {S : Type 0} (made : S → List SpaceCall → S → Type 0) (tops : List Top) (a b : S) (at : RequestAt) (now : RequestNode) (stage : Stage) (due : Bool) (gone : List Place)
-    → made a (calls_back gone) b → at.stage ≡ DvaFree → ((t : Terms) (st : Stack) → IsRequestNode t at.node st → IsRequestNode t now st)
+    → made a (calls_back gone) b → CallsFit at.stage (Request at) (calls_back gone) → ((t : Terms) (st : Stack) → IsRequestNode t at.node st → IsRequestNode t now st)
     → is_told stage ≡ is_told at.stage
     → gave_in now ≡ gave_in at.node ++ gone → MovesWith made tops a b (Request at) (Next (Request (at_stage now stage due)))
-gives_back made tops a b at now stage due gone were free same told gave =
-    record { calls = calls_back gone; were_made = were; fits = freed_fit at.stage gone free; moves = λ t st n. request_gives t st at (at_stage now stage due) gone (same t st n.is) told gave }
+gives_back made tops a b at now stage due gone were fit same told gave =
+    record { calls = calls_back gone; were_made = were; fits = fit; moves = λ t st n. request_gives t st at (at_stage now stage due) gone (same t st n.is) told gave }
 
 pub gives_back_refused : {S : Type 0} (made : S → List SpaceCall → S → Type 0) (tops : List Top) (a b : S) (at : RequestAt) (now : RequestNode) (stage : Stage) (due : Bool) (gone : List Place)
-    → made a (calls_back gone) b → at.stage ≡ DvaFree → ((t : Terms) (st : Stack) → IsRequestNode t at.node st → IsRequestNode t now st)
+    → made a (calls_back gone) b → CallsFit at.stage (Request at) (calls_back gone) → ((t : Terms) (st : Stack) → IsRequestNode t at.node st → IsRequestNode t now st)
     → at.stage ≡ stage
     → gave_in now ≡ gave_in at.node ++ gone → StaysWith made tops a b (Request at) (Request (at_stage now stage due))
-gives_back_refused made tops a b at now stage due gone were free same is gave =
-    record { calls = calls_back gone; were_made = were; fits = freed_fit at.stage gone free; goes = λ t st n. request_gives t st at (at_stage now stage due) gone (same t st n.is) (ap is_told (sym is)) gave }
+gives_back_refused made tops a b at now stage due gone were fit same is gave =
+    record { calls = calls_back gone; were_made = were; fits = fit; goes = λ t st n. request_gives t st at (at_stage now stage due) gone (same t st n.is) (ap is_told (sym is)) gave }
 
 -- ---- it does some of its part itself with calls of the space
 
 pub does_with : {S : Type 0} (made : S → List SpaceCall → S → Type 0) (tops : List Top) (a b : S) (at : RequestAt) (now : RequestNode) (stage : Stage) (due : Bool) (calls : List SpaceCall)
-    → made a calls b → CallsFit at.stage calls → ((t : Terms) (st : Stack) → IsRequestNode t at.node st → DoesThen t st calls (IsRequestNode t now)) → is_told stage ≡ is_told at.stage
+    → made a calls b → CallsFit at.stage (Request at) calls
+    → ((t : Terms) (st : Stack) → t.setting.tops ≡ tops → IsRequestNode t at.node st → DoesThen t st calls (IsRequestNode t now)) → is_told stage ≡ is_told at.stage
     → gave_in now ≡ gave_in at.node → MovesWith made tops a b (Request at) (Next (Request (at_stage now stage due)))
 does_with made tops a b at now stage due calls were fit does told gave =
-    record { calls = calls; were_made = were; fits = fit; moves = λ t st n. request_does t st at (at_stage now stage due) calls (does t st n.is) told gave }
+    record { calls = calls; were_made = were; fits = fit; moves = λ t st n. request_does t st at (at_stage now stage due) calls (does t st n.tops_are n.is) told gave }
 
 pub does_with_refused : {S : Type 0} (made : S → List SpaceCall → S → Type 0) (tops : List Top) (a b : S) (at : RequestAt) (now : RequestNode) (stage : Stage) (due : Bool) (calls : List SpaceCall)
-    → made a calls b → CallsFit at.stage calls → ((t : Terms) (st : Stack) → IsRequestNode t at.node st → DoesThen t st calls (IsRequestNode t now)) → at.stage ≡ stage
+    → made a calls b → CallsFit at.stage (Request at) calls
+    → ((t : Terms) (st : Stack) → t.setting.tops ≡ tops → IsRequestNode t at.node st → DoesThen t st calls (IsRequestNode t now)) → at.stage ≡ stage
     → gave_in now ≡ gave_in at.node → StaysWith made tops a b (Request at) (Request (at_stage now stage due))
 does_with_refused made tops a b at now stage due calls were fit does is gave =
-    record { calls = calls; were_made = were; fits = fit; goes = λ t st n. request_does t st at (at_stage now stage due) calls (does t st n.is) (ap is_told (sym is)) gave }
+    record { calls = calls; were_made = were; fits = fit; goes = λ t st n. request_does t st at (at_stage now stage due) calls (does t st n.tops_are n.is) (ap is_told (sym is)) gave }
 
 -- ---- one after the other
 

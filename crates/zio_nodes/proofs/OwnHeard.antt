@@ -1,5 +1,5 @@
 -- How far a free and a claim in an attempt are once the walk over the block's headers ended, and how often they run then.
-use Rattle.std.proofs.Common.{◌≡◌, ℕ, ◌+◌, ◌≤◌, List, take, Bool, Option, Some, None, inr, refl, sym, ap, subst, ◌∙◌, arith}
+use Rattle.std.proofs.Common.{◌≡◌, ℕ, ◌+◌, ◌≤◌, List, take, Bool, Option, Some, None, inl, inr, refl, sym, ap, subst, ◌∙◌, arith}
 use Rattle.zio_types.specs.declared.place.Top.{Top}
 use Rattle.zio_masks.specs.declared.stage.Stage.{Stage}
 use Rattle.zio_masks.specs.declared.stage.Stage.TheVariants.{Start, FreeBpInit, IssueAsync, GangAssemble, GangIssue, DvaFree, DvaClaim, Ready, Done}
@@ -8,6 +8,7 @@ use Rattle.zio_trace.specs.Tasks.{Walked as Walk}
 use Rattle.zio_stages.specs.OwnClaims.{HasClaimEnded}
 use Rattle.zio_stages.specs.RequestClaims.{IsClaimWith, IsClaimingWith, IsPastDue, IsPastWalk}
 use Rattle.zio_stages.specs.RequestFrees.{HasBegun as FreeBegun, HasWalked, IsFreeingWith, freed_by}
+use Rattle.zio_stages.specs.RequestKinds.{points_to_gang}
 use Rattle.zio_stages.specs.RequestNodes.{IsOwnOver}
 use Rattle.zio_stages.specs.RequestStages.{with_own}
 use Rattle.zio_stages.specs.StoredBlocks.{block_places}
@@ -21,7 +22,7 @@ use Rattle.zio_stages.specs.declared.request_node.Own.TheVariants.{Claim as Clai
 use Rattle.zio_stages.specs.declared.request_node.RequestNode.{RequestNode}
 use Rattle.zio_stages.specs.declared.waiting.Waiting.{Waiting}
 use Rattle.zio_graph.specs.Stages.{heard_max}
-use Rattle.zio_nodes.specs.OwnAts.{IsClaimAtStage, IsFreeAtStage}
+use Rattle.zio_nodes.specs.OwnAts.{HasKeptAll, IsClaimAtStage, IsFreeAtStage, IsGivingFree}
 use Rattle.zio_nodes.specs.OwnBounds.{claiming_left, free_walk_left, freeing_left}
 use Rattle.zio_nodes.specs.RequestAts.{IsRequestAtOver, freed_so_far, gave_by}
 use Rattle.zio_nodes.specs.RequestBounds.{request_left}
@@ -41,12 +42,17 @@ pub record IsFreed (v w : OwnFree) : Type 0 where
   pub walked : HasWalked w
   pub given : w.given ≡ v.given
 
+-- no place went back while the walk was out
+kept_still : (v w : OwnFree) (block : Option Tree) → v.walk ≡ FreeOut → IsFreed v w → IsGivingFree block v → HasKeptAll w
+kept_still v w block out heard (inl kept) = heard.given ∙ kept
+kept_still v w block out heard (inr gives) = absurd (let no : FreeOut ≡ FreeEnded gives.0.0 = sym out ∙ gives.0.1 in cc)
+
 freed_stands : (stage : Stage) (due : Bool) (v w : OwnFree) (block : Option Tree) → v.walk ≡ FreeOut → IsFreed v w → IsFreeAtStage stage due (FreeOwn v) block
     → IsFreeAtStage stage due (FreeOwn w) block
 freed_stands FreeBpInit due v w block out heard h = absurd (let no : FreeOwn v ≡ Due = h.0 in cc)
 freed_stands IssueAsync due v w block out heard h = (heard.given ∙ h.0, λ plain. heard.walked)
 freed_stands GangAssemble due v w block out heard h = (heard.given ∙ h.0, h.1)
-freed_stands GangIssue due v w block out heard h = (heard.given ∙ h.0, subst FreeBegun (sym heard.walked.1) tt)
+freed_stands GangIssue due v w block out heard h = (inl (kept_still v w block out heard h.0), subst FreeBegun (sym heard.walked.1) tt, h.2)
 freed_stands DvaFree due v w block out heard h = absurd (let no : FreeOut ≡ FreeEnded h.1.0 = sym out ∙ h.1.1 in cc)
 freed_stands Ready due v w block out heard h = absurd (let no : FreeOut ≡ FreeEnded h.0.0 = sym out ∙ h.0.1 in cc)
 freed_stands Done due v w block out heard h = absurd (let no : FreeOut ≡ FreeEnded h.0.0 = sym out ∙ h.0.1 in cc)
@@ -110,14 +116,14 @@ past_due (Some tree) StepFound h = tt
 past_due (Some tree) Taken h = tt
 past_due (Some tree) Refused h = tt
 
-claimed_stands : (stage : Stage) (due : Bool) (v w : OwnClaim) (tree : Tree) → v.block ≡ Some tree → v.step ≡ StepOut → IsPastWalk w.block w.step → IsClaimAtStage stage due (ClaimOwn v)
-    → IsClaimAtStage stage due (ClaimOwn w)
-claimed_stands GangAssemble due v w tree some out past h = inr tt
-claimed_stands GangIssue due v w tree some out past h = past_due w.block w.step past
-claimed_stands DvaClaim due v w tree some out past h = past
-claimed_stands Ready due v w tree some out past h = absurd (not_ended v.block v.step tree some out h)
-claimed_stands Done due v w tree some out past h = absurd (not_ended v.block v.step tree some out h)
-claimed_stands stage due v w tree some out past h = absurd h
+claimed_stands : (stage : Stage) (due : Bool) (v w : OwnClaim) (tree : Tree) → v.block ≡ Some tree → v.step ≡ StepOut → IsPastWalk w.block w.step
+    → (gang : Bool) → IsClaimAtStage stage due (ClaimOwn v) gang → IsClaimAtStage stage due (ClaimOwn w) gang
+claimed_stands GangAssemble due v w tree some out past gang h = (inr tt, h.1)
+claimed_stands GangIssue due v w tree some out past gang h = (past_due w.block w.step past, h.1)
+claimed_stands DvaClaim due v w tree some out past gang h = inr past
+claimed_stands Ready due v w tree some out past gang h = absurd (not_ended v.block v.step tree some out h)
+claimed_stands Done due v w tree some out past gang h = absurd (not_ended v.block v.step tree some out h)
+claimed_stands stage due v w tree some out past gang h = absurd h
 
 -- its walk ended
 abbrev pub IsPastIts : OwnClaim → Type 0
@@ -139,9 +145,10 @@ pub claimed_over : (tops : List Top) (at : RequestAt) (n : ℕ) (now : RequestNo
 claimed_over tops at n now walked x work over behind rest own past =
     let on = claiming_is IsPastIts now.own past in
     let h = claim_stands tops at at.stage work over refl behind in
-    let mine = subst (λ (o : Own). IsClaimAtStage at.stage at.is_due o) x.is h in
-    let next = claimed_stands at.stage at.is_due x.own on.0 x.tree x.block x.out on.2 mine in
-    claim_over tops at now at.stage at.is_due work over behind rest own (subst (λ (o : Own). IsClaimAtStage at.stage at.is_due o) (sym on.1) next)
+    let gang = points_to_gang work.bytes in
+    let mine = subst (λ (o : Own). IsClaimAtStage at.stage at.is_due o gang) x.is h in
+    let next = claimed_stands at.stage at.is_due x.own on.0 x.tree x.block x.out on.2 gang mine in
+    claim_over tops at now at.stage at.is_due work over behind rest own (subst (λ (o : Own). IsClaimAtStage at.stage at.is_due o gang) (sym on.1) next)
 
 pub claimed_left_then : (at : RequestAt) (now : RequestNode) → IsClaim at.node.waiting.request.work → (at.stage ≡ Start → ⊥) → now ≡ with_own at.node now.own now.family
     → IsClaimingWith IsPastIts now.own → request_left (at_stage now at.stage at.is_due) ≤ request_left at + heard_max

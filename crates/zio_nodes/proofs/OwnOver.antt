@@ -12,6 +12,7 @@ use Rattle.zio_children.specs.RequestKids.{KidsUnderWay}
 use Rattle.zio_stages.specs.OwnParts.{IsNoWrite}
 use Rattle.zio_stages.specs.RequestClaims.{IsClaimWork}
 use Rattle.zio_stages.specs.RequestFrees.{IsFreeWork}
+use Rattle.zio_stages.specs.RequestKinds.{points_to_gang}
 use Rattle.zio_stages.specs.RequestNodes.{IsOwnOver}
 use Rattle.zio_stages.specs.RequestReads.{IsReadWork}
 use Rattle.zio_stages.specs.RequestStages.{with_own}
@@ -105,7 +106,7 @@ from_free Start name tops due r behind h = absurd (behind refl)
 from_free _ name tops due r behind h = h
 
 from_claim : (stage : Stage) (name bytes : List ℕ) (tops : List Top) (due : Bool) (r : RequestNode) → (stage ≡ Start → ⊥) → StandsAt (Claim name bytes) tops stage due r
-    → IsClaimAtStage stage due r.own
+    → IsClaimAtStage stage due r.own (points_to_gang bytes)
 from_claim Start name bytes tops due r behind h = absurd (behind refl)
 from_claim _ name bytes tops due r behind h = h
 
@@ -119,7 +120,8 @@ into_free : (stage : Stage) (name : List ℕ) (tops : List Top) (due : Bool) (r 
 into_free Start name tops due r h = absurd h
 into_free _ name tops due r h = h
 
-into_claim : (stage : Stage) (name bytes : List ℕ) (tops : List Top) (due : Bool) (r : RequestNode) → IsClaimAtStage stage due r.own → StandsAt (Claim name bytes) tops stage due r
+pub into_claim : (stage : Stage) (name bytes : List ℕ) (tops : List Top) (due : Bool) (r : RequestNode) → IsClaimAtStage stage due r.own (points_to_gang bytes)
+    → StandsAt (Claim name bytes) tops stage due r
 into_claim Start name bytes tops due r h = absurd h
 into_claim _ name bytes tops due r h = h
 
@@ -138,8 +140,8 @@ free_stands tops at stage work h is behind =
     (subst (λ (w : Work). StandsAt w tops stage at.is_due at.node) work.is
     (subst (λ (s : Stage). StandsAt at.node.waiting.request.work tops s at.is_due at.node) is h.stands.own))
 
-pub claim_stands : (tops : List Top) (at : RequestAt) (stage : Stage) → IsClaim at.node.waiting.request.work → IsRequestAtOver tops at → at.stage ≡ stage → (stage ≡ Start → ⊥)
-    → IsClaimAtStage stage at.is_due at.node.own
+pub claim_stands : (tops : List Top) (at : RequestAt) (stage : Stage) (work : IsClaim at.node.waiting.request.work) → IsRequestAtOver tops at → at.stage ≡ stage → (stage ≡ Start → ⊥)
+    → IsClaimAtStage stage at.is_due at.node.own (points_to_gang work.bytes)
 claim_stands tops at stage work h is behind =
     from_claim stage work.name work.bytes tops at.is_due at.node behind
     (subst (λ (w : Work). StandsAt w tops stage at.is_due at.node) work.is
@@ -177,9 +179,9 @@ free_over tops at now stage due work h behind rest own is =
     goes_over tops at now stage due h behind rest own
     (subst (λ (w : Work). StandsAt w tops stage due now) (sym same) (into_free stage work.name tops due now is))
 
-pub claim_over : (tops : List Top) (at : RequestAt) (now : RequestNode) (stage : Stage) (due : Bool) → IsClaim at.node.waiting.request.work → IsRequestAtOver tops at
+pub claim_over : (tops : List Top) (at : RequestAt) (now : RequestNode) (stage : Stage) (due : Bool) (work : IsClaim at.node.waiting.request.work) → IsRequestAtOver tops at
     → (at.stage ≡ Start → ⊥) → now ≡ with_own at.node now.own now.family → IsOwnOver tops now.own now.family
-    → IsClaimAtStage stage due now.own → IsRequestAtOver tops (at_stage now stage due)
+    → IsClaimAtStage stage due now.own (points_to_gang work.bytes) → IsRequestAtOver tops (at_stage now stage due)
 claim_over tops at now stage due work h behind rest own is =
     let same : now.waiting.request.work ≡ Claim work.name work.bytes = ap (λ (x : RequestNode). x.waiting.request.work) rest ∙ work.is in
     goes_over tops at now stage due h behind rest own

@@ -1,10 +1,11 @@
 -- How far a read, a free and a claim are, and how often they run, stays while their children's trees go on.
-use Rattle.std.proofs.Common.{◌≡◌, ◌+◌, List, Bool, true, Option, sym, ap, subst}
+use Rattle.std.proofs.Common.{◌≡◌, ℕ, ◌+◌, List, Bool, true, Option, sym, ap, subst}
 use Rattle.std.specs.List.{list_all}
 use Rattle.zio_types.specs.declared.place.Top.{Top}
 use Rattle.zio_masks.specs.declared.stage.Stage.{Stage}
 use Rattle.zio_gang.specs.declared.tree.Tree.{Tree}
 use Rattle.zio_children.specs.RequestKids.{is_ended}
+use Rattle.zio_stages.specs.RequestKinds.{points_to_gang}
 use Rattle.zio_stages.specs.RequestStages.{with_kids}
 use Rattle.zio_stages.specs.declared.request_node.Own.{Own}
 use Rattle.zio_stages.specs.declared.request_node.RequestNode.{RequestNode}
@@ -34,9 +35,9 @@ free_still tops stage due r now rest going h =
     subst (λ (o : Own). IsFreeAtStage stage due o now.waiting.block) (own_same r now rest)
     (subst (λ (b : Option Tree). IsFreeAtStage stage due r.own b) (block_same r now rest) h)
 
-pub claim_still : (tops : List Top) (stage : Stage) (due : Bool) (r now : RequestNode) → now ≡ with_kids r now.kids now.family
-    → (list_all is_ended r.kids.kids.kids ≡ true → ⊥) → ClaimStands tops stage due r → ClaimStands tops stage due now
-claim_still tops stage due r now rest going h = subst (λ (o : Own). IsClaimAtStage stage due o) (own_same r now rest) h
+pub claim_still : (tops : List Top) (stage : Stage) (due : Bool) (pointer : List ℕ) (r now : RequestNode) → now ≡ with_kids r now.kids now.family
+    → (list_all is_ended r.kids.kids.kids ≡ true → ⊥) → ClaimStands tops stage due pointer r → ClaimStands tops stage due pointer now
+claim_still tops stage due pointer r now rest going h = subst (λ (o : Own). IsClaimAtStage stage due o (points_to_gang pointer)) (own_same r now rest) h
 
 -- ---- how often
 

@@ -113,7 +113,7 @@ walk_stands : (tops : List Top) (stage : Stage) (due : Bool) (v w : OwnRead) (bl
 walk_stands tops ReadBpInit due v w block out alone heard h = absurd (let no : ReadOwn v ≡ Due = h.0 in cc)
 walk_stands tops GangAssemble due v w block out alone heard h = (h.0, (alone, heard.few h.1.1))
 walk_stands tops GangIssue due v w block out alone heard h = (h.0, (alone, heard.few h.1.1, heard.begun))
-walk_stands tops Ready due v w block out alone heard h = absurd (not_all v out h)
+walk_stands tops Ready due v w block out alone heard h = absurd (not_all v out h.0)
 walk_stands tops VdevIoStart due v w block out alone heard h = absurd (not_all v out h.0)
 walk_stands tops VdevIoDone due v w block out alone heard h = absurd (not_all v out (inl h.0))
 walk_stands tops VdevIoAssess due v w block out alone heard h = absurd (not_all v out (inl h.0))
@@ -169,11 +169,11 @@ body_stands : (tops : List Top) (stage : Stage) (due : Bool) (v w : OwnRead) (bl
 body_stands tops ReadBpInit due v w block heard h = absurd (let no : ReadOwn v ≡ Due = h.0 in cc)
 body_stands tops GangAssemble due v w block heard h = (h.0, (heard.body ∙ h.1.0, few_still v w heard h.1.1))
 body_stands tops GangIssue due v w block heard h = (h.0, (heard.body ∙ h.1.0, few_still v w heard h.1.1, subst HasBegun (sym heard.counts.phase) h.1.2))
-body_stands tops Ready due v w block heard h = may_still v w heard h
-body_stands tops VdevIoStart due v w block heard h = (may_still v w heard h.0, h.1)
-body_stands tops VdevIoDone due v w block heard h = (counts_all v w h.0 heard.counts, λ never more. h.1 never (subst (IsOneDueIn tops) heard.body more))
+body_stands tops Ready due v w block heard h = (may_still v w heard h.0, λ gang. let all = h.1 gang in (counts_all v w all.0 heard.counts, heard.body ∙ all.1))
+body_stands tops VdevIoStart due v w block heard h = (may_still v w heard h.0, h.1, h.2)
+body_stands tops VdevIoDone due v w block heard h = (counts_all v w h.0 heard.counts, (λ never more. h.1 never (subst (IsOneDueIn tops) heard.body more)), h.2)
 body_stands tops VdevIoAssess due v w block heard h =
-    (counts_all v w h.0 heard.counts, subst (λ (o : Option BodyIo). IfSome o (λ (b : BodyIo). IsReadDue tops b.io)) (sym heard.body) h.1)
+    (counts_all v w h.0 heard.counts, subst (λ (o : Option BodyIo). IfSome o (λ (b : BodyIo). IsReadDue tops b.io)) (sym heard.body) h.1, h.2)
 body_stands tops ChecksumVerify due v w block heard h = (counts_all v w h.0 heard.counts, heard.body ∙ h.1)
 body_stands tops Done due v w block heard h = (counts_all v w h.0 heard.counts, heard.body ∙ h.1)
 body_stands tops stage due v w block heard h = absurd h
@@ -213,9 +213,9 @@ leaf_stands : (tops : List Top) (stage : Stage) (due : Bool) (v w : OwnRead) (bl
 leaf_stands tops ReadBpInit due v w block heard some idle h = absurd (let no : ReadOwn v ≡ Due = h.0 in cc)
 leaf_stands tops GangAssemble due v w block heard some idle h = absurd (some h.1.0)
 leaf_stands tops GangIssue due v w block heard some idle h = absurd (some h.1.0)
-leaf_stands tops Ready due v w block heard some idle h = may_one v w heard some h
-leaf_stands tops VdevIoStart due v w block heard some idle h = (may_one v w heard some h.0, refl)
-leaf_stands tops VdevIoDone due v w block heard some idle h = (tree_all v w h.0 heard.tree, λ never more. absurd (cc))
+leaf_stands tops Ready due v w block heard some idle h = (may_one v w heard some h.0, λ gang. absurd (some (h.1 gang).1))
+leaf_stands tops VdevIoStart due v w block heard some idle h = (may_one v w heard some h.0, refl, h.2)
+leaf_stands tops VdevIoDone due v w block heard some idle h = (tree_all v w h.0 heard.tree, (λ never more. absurd (cc)), h.2)
 leaf_stands tops VdevIoAssess due v w block heard some idle h = absurd (leaf_due tops v.body some idle h.1)
 leaf_stands tops ChecksumVerify due v w block heard some idle h = absurd (some h.1)
 leaf_stands tops Done due v w block heard some idle h = absurd (some h.1)

@@ -24,10 +24,12 @@ use Rattle.zio_nodes.specs.OwnAts.{HasFewBodies, HasReadAll, IsIssuing, IsReadAt
 use Rattle.zio_nodes.specs.OwnBounds.{body_left, body_share, read_stages, reading_left, walk_left, walk_share}
 use Rattle.zio_nodes.specs.Bounds.{copies_max, walk_max}
 use Rattle.zio_nodes.specs.ReadBounds.{bodies_max}
-use Rattle.zio_nodes.specs.RequestAts.{takes}
+use Rattle.zio_nodes.specs.RequestAts.{is_kept, masked}
 use Rattle.zio_nodes.specs.Told.{is_told}
 use Rattle.zio_nodes.proofs.OwnOver.{IsRead}
 use Rattle.zio_nodes.proofs.OwnStages.{behind_init}
+use Rattle.zio_nodes.specs.declared.request_at.RequestAt.{RequestAt}
+use Rattle.zio_nodes.proofs.StageLeads.{gang_of}
 use Rattle.zio_nodes.proofs.StageLemmas.{next_is}
 use Rattle.zio_nodes.proofs.ReadLemmas.{body_out_less, read_both, read_map, reading_less, walk_out_less}
 
@@ -102,9 +104,9 @@ reading_most R P Over now f h on = absurd h
 
 -- ---- behind ReadBpInit
 
-pub read_mask : (work : Work) (block : Option Tree) (mask : Pipeline) → IsRead work → ((s : Stage) → has mask s ≡ takes (kind_of work) (has_gang_stages work block) s)
-    → (s : Stage) → has mask s ≡ takes ReadKind (is_gang_tree block) s
-read_mask work block mask is same = λ s. same s ∙ ap (λ (w : Work). takes (kind_of w) (has_gang_stages w block) s) is.is
+pub read_mask : (work : Work) (block : Option Tree) (mask : Pipeline) → IsRead work → ((s : Stage) → has mask s ≡ masked (kind_of work) (has_gang_stages work block) s)
+    → (s : Stage) → has mask s ≡ masked ReadKind (is_gang_tree block) s
+read_mask work block mask is same = λ s. same s ∙ ap (λ (w : Work). masked (kind_of w) (has_gang_stages w block) s) is.is
 
 pub init_untold : (gang : Bool) → is_told (behind_init gang) ≡ false
 init_untold true = refl
@@ -120,7 +122,15 @@ unread_walks w u = (u.alone, omega (arith, ap length u.bodies))
 pub init_stands : (tops : List Top) (gang due : Bool) (own : Own) (block : Option Tree) → is_gang_tree block ≡ gang → (is_gang_tree block ≡ false → IsReadWith HasOneBody own)
     → (is_gang_tree block ≡ true → IsReadWith IsUnread own) → IsReadAtStage tops (behind_init gang) due own block
 init_stands tops true due own block is plain gang = (is, with_map IsUnread IsWalking own unread_walks (gang is))
-init_stands tops false due own block is plain gang = with_map HasOneBody MayReadOne own (λ w o. inr o) (plain is)
+init_stands tops false due own block is plain gang = (with_map HasOneBody MayReadOne own (λ w o. inr o) (plain is), λ yes. absurd (let no : true ≡ false = sym yes ∙ is in cc))
+
+-- GangIssue leaves it
+init_kept : (gang : Bool) → is_kept gang (behind_init gang) ≡ true
+init_kept true = refl
+init_kept false = refl
+
+pub init_leads : (at : RequestAt) (next : Stage) (gang : Bool) → gang_of at ≡ gang → next ≡ behind_init gang → is_kept (gang_of at) next ≡ true
+init_leads at next gang is then = ap (λ g. is_kept g next) is ∙ ap (is_kept gang) then ∙ init_kept gang
 
 init_stages : (gang due : Bool) → read_stages (behind_init gang) due + 1 ≤ told_cost + told_cost + 7
 init_stages true due = omega arith

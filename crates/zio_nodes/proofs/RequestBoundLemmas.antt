@@ -6,7 +6,7 @@ use Rattle.zio_masks.specs.declared.stage.Stage.TheVariants.{WriteBpInit, IssueA
 use Rattle.zio_script.specs.declared.script.Work.{Work}
 use Rattle.zio_script.specs.declared.script.Work.TheVariants.{Null, Read, Write, Free, Claim}
 use Rattle.zio_stages.specs.RequestCounts.{members_of, path_of, second_of}
-use Rattle.zio_stages.specs.RequestKinds.{is_stored}
+use Rattle.zio_stages.specs.RequestKinds.{is_stored, points_to_gang}
 use Rattle.zio_stages.specs.declared.request_node.Own.{Own}
 use Rattle.zio_stages.specs.Wholes.{joined}
 use Rattle.zio_stages.specs.declared.waiting.Waiting.{Waiting}
@@ -14,7 +14,7 @@ use Rattle.zio_nodes.specs.Bounds.{due_left, member_share, members_max, pass_lef
 use Rattle.zio_nodes.specs.RequestBounds.{left_by, null_left, null_max, own_at, own_left, own_max, request_share}
 use Rattle.zio_nodes.specs.WriteBounds.{end_left, io_left, io_max, members_left, whole_left, write_at, write_max}
 use Rattle.zio_nodes.specs.declared.request_at.RequestAt.{RequestAt}
-use Rattle.zio_nodes.proofs.FirstStages.{first_of}
+use Rattle.zio_nodes.proofs.FirstStages.{claim_first, first_of}
 use Rattle.zio_nodes.proofs.OwnMost.{claim_most, free_most, read_most}
 
 -- ---- no more often than its kind says
@@ -86,12 +86,16 @@ kind_most (Claim name pointer) at = omega (arith, claim_most at)
 
 -- ---- behind Start
 
+claim_at : (gang : Bool) (other : Work) (at : RequestAt) → own_at (claim_first gang) other at ≡ left_by other at
+claim_at true other at = refl
+claim_at false other at = refl
+
 first_at : (work other : Work) (at : RequestAt) → own_at (first_of work) other at ≡ left_by other at
 first_at Null other at = refl
 first_at (Read name prio) other at = refl
 first_at (Write name sum copies prio body) other at = refl
 first_at (Free name) other at = refl
-first_at (Claim name pointer) other at = refl
+first_at (Claim name pointer) other at = claim_at (points_to_gang pointer) other at
 
 pub first_less : (at : RequestAt) → at.stage ≡ first_of at.node.waiting.request.work → own_left at < own_max
 first_less at is =

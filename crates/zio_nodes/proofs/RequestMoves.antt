@@ -56,7 +56,7 @@ pub no_room_with : {S T E : Type 0} (made : S → List SpaceCall → S → Type 
     → made a [] a → OnErr r (StaysWith made tops a a (Request at) (Request at))
 no_room_with made tops a at (Ok x) none = tt
 no_room_with made tops a at (Err e) none =
-    record { calls = []; were_made = none; fits = no_calls at.stage; goes = λ t st now. request_goes t st at at now.is refl refl }
+    record { calls = []; were_made = none; fits = no_calls at.stage (Request at); goes = λ t st now. request_goes t st at at now.is refl refl }
 
 -- it did some of its part itself
 pub request_does : (t : Terms) (st : Stack) (at after : RequestAt) (calls : List SpaceCall) → DoesThen t st calls (IsRequestNode t after.node)

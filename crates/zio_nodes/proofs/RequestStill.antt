@@ -72,7 +72,7 @@ kind_still Null tops stage due r now rest going h = null_still tops stage due r 
 kind_still (Read name prio) tops stage due r now rest going h = read_still tops stage due r now rest going h
 kind_still (Write name sum copies prio body) tops stage due r now rest going h = write_still tops stage due r now (ap (λ (x : RequestNode). x.own) rest) going h
 kind_still (Free name) tops stage due r now rest going h = free_still tops stage due r now rest going h
-kind_still (Claim name pointer) tops stage due r now rest going h = claim_still tops stage due r now rest going h
+kind_still (Claim name pointer) tops stage due r now rest going h = claim_still tops stage due pointer r now rest going h
 
 at_still : (work : Work) (tops : List Top) (stage : Stage) (due : Bool) (r now : RequestNode) → now ≡ with_kids r now.kids now.family
     → (list_all is_ended r.kids.kids.kids ≡ true → ⊥) → StandsAt work tops stage due r → StandsAt work tops stage due now

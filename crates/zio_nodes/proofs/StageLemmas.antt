@@ -1,5 +1,5 @@
 -- Which stage of a pipeline is next.
-use Rattle.std.proofs.Common.{◌≡◌, ◌<◌, slice_get, Bool, true, false, ◌&&◌, ◌||◌, Some, ltb, lt-ltb, refl, sym, ap, ◌∙◌, arith, inl, inr, lit<}
+use Rattle.std.proofs.Common.{◌≡◌, ◌<◌, ◌≤◌, slice_get, Bool, true, false, ◌&&◌, ◌||◌, Some, ltb, lt-ltb, refl, sym, ap, ◌∙◌, arith, inl, inr, lit<}
 use Rattle.std.specs.List.{list_any}
 use Rattle.std.proofs.lemmas.Bool.{cases_lt}
 use Rattle.zio_masks.specs.declared.pipeline.Pipeline.{Pipeline}
@@ -58,6 +58,24 @@ next_is has_it mask stage to next same h there later none =
           absurd (let no : true ≡ false = sym any ∙ none in cc)
       | inr le ↦ same_stage next to (omega (arith, le, h.first to (same to ∙ there) later))
     ]
+
+pub is_next : (mask : Pipeline) (stage to : Stage) → has mask to ≡ true → number_of stage < number_of to → list_any (is_between (has mask) stage to) all_stages ≡ false
+    → IsNext mask stage to
+is_next mask stage to there later none = record { stands = there; later = later; first = first }
+  where
+    first : (other : Stage) → has mask other ≡ true → number_of stage < number_of other → number_of to ≤ number_of other
+    first other it lt =
+        elim (cases_lt (number_of other) (number_of to)) [
+          | inl before ↦
+              let is : is_between (has mask) stage to other ≡ true =
+              both_true (has mask other) (ltb (number_of stage) (number_of other) && ltb (number_of other) (number_of to)) it
+              (both_true (ltb (number_of stage) (number_of other)) (ltb (number_of other) (number_of to)) (lt-ltb (number_of stage) (number_of other) lt)
+              (lt-ltb (number_of other) (number_of to) before)) in
+              let any : list_any (is_between (has mask) stage to) all_stages ≡ true =
+              any_at (is_between (has mask) stage to) all_stages (number_of other) other (in_order other) is in
+              absurd (let no : true ≡ false = sym any ∙ none in cc)
+          | inr le ↦ le
+        ]
 
 -- ---- of an operation on a leaf
 

@@ -5,6 +5,8 @@ use Rattle.std.specs.List.{list_any, position, position_or_len}
 use Rattle.zio_types.specs.declared.place.Top.{Top}
 use Rattle.zio_types.specs.declared.request.ChildKind.{ChildKind}
 use Rattle.zio_types.specs.declared.request.ChildKind.TheVariants.{Gang, Logical, Vdev}
+use Rattle.zio_types.specs.declared.request.Kind.{Kind}
+use Rattle.zio_types.specs.declared.request.Kind.TheVariants.{Null as NullKind, Read as ReadKind, Write as WriteKind, Free as FreeKind, Claim as ClaimKind}
 use Rattle.zio_types.specs.declared.request.Phase.{Phase}
 use Rattle.zio_types.specs.declared.request.Phase.TheVariants.{Ready as IsReady, Done as IsDone}
 use Rattle.zio_types.specs.Machine.{same_kind}
@@ -26,6 +28,7 @@ use Rattle.zio_nodes.specs.StageMoves.{IsStageMove, stage_of, stalls_at}
 use Rattle.zio_nodes.specs.Stalls.{LeavesGang, LeavesNone, MayRun, OweNone, children_of, hands_many, is_assembling, is_issuing, is_read}
 use Rattle.zio_nodes.specs.declared.node.Node.{Node}
 use Rattle.zio_nodes.specs.declared.node.Node.TheVariants.{Copies, Empty, Heads, Leaf, Part, Request, Tree}
+use Rattle.zio_nodes.specs.declared.request_at.RequestAt.{RequestAt}
 use Rattle.zio_nodes.proofs.BoundLemmas.{owed_counts}
 use Rattle.zio_nodes.proofs.NodeLemmas.{no_calls}
 
@@ -162,6 +165,28 @@ many_gang (Tree at) h = absurd (cc)
 many_gang (Request at) h = inr (first_true (is_issuing at.stage) (is_read (kind_of at.node.waiting.request.work)) h)
 many_gang Empty h = absurd (cc)
 
+issuing_is : (stage : Stage) → is_issuing stage ≡ true → stage ≡ GangIssue
+issuing_is GangIssue e = refl
+issuing_is stage e = absurd (cc)
+
+read_is : (kind : Kind) → is_read kind ≡ true → kind ≡ ReadKind
+read_is NullKind e = absurd (cc)
+read_is ReadKind e = refl
+read_is WriteKind e = absurd (cc)
+read_is FreeKind e = absurd (cc)
+read_is ClaimKind e = absurd (cc)
+
+second_holds : (a b : Bool) → a && b ≡ true → b ≡ true
+second_holds true b e = e
+second_holds false b e = absurd (cc)
+
+-- a request that hands out many is a read at GangIssue
+pub hands_bodies : (at : RequestAt) → hands_many (Request at) ≡ true → (kind_of at.node.waiting.request.work ≡ ReadKind) × (at.stage ≡ GangIssue)
+hands_bodies at many = (
+  read_is (kind_of at.node.waiting.request.work) (second_holds (is_issuing at.stage) (is_read (kind_of at.node.waiting.request.work)) many),
+  issuing_is at.stage (first_true (is_issuing at.stage) (is_read (kind_of at.node.waiting.request.work)) many),
+)
+
 not_many : (node : Node) (stage : Stage) → stage_of node ≡ stage → is_assembling stage ≡ false → is_issuing stage ≡ false → hands_many node ≡ false
 not_many node stage at first second = by (hands_many node) refl
   where
@@ -224,7 +249,7 @@ pub waits_stalled : {S : Type 0} (made : S → List SpaceCall → S → Type 0) 
 waits_stalled made tops a node kind phase none h = record {
   calls = [];
   were_made = none;
-  fits = no_calls (stage_of node);
+  fits = no_calls (stage_of node) node;
   moves = λ t st now. record {
     stays = record { is = now.is; told = refl; gave_same = refl; no_calls = refl };
     owing = owed_now t node st kind phase now.is h;

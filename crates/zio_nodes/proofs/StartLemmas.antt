@@ -13,17 +13,20 @@ use Rattle.zio_trace.specs.Tasks.{Attempt, Task}
 use Rattle.zio_children.specs.RequestKids.{KidsUnderWay}
 use Rattle.zio_frames.specs.Frames.{Inner, Stack, asking, asking_in, fresh_stack}
 use Rattle.zio_stages.specs.OwnParts.{DoesThen, HandsTo}
+use Rattle.zio_stages.specs.RequestKinds.{points_to_gang}
 use Rattle.zio_stages.specs.RequestNodes.{HandsKid, IsOwnOf, IsRequestNode, front_by}
 use Rattle.zio_stages.specs.Wholes.{IsTreeOf, root_of}
 use Rattle.zio_stages.specs.declared.request_node.Own.{Own}
 use Rattle.zio_stages.specs.declared.request_node.Own.TheVariants.{Due}
 use Rattle.zio_stages.specs.declared.request_node.RequestNode.{RequestNode}
 use Rattle.zio_stages.specs.declared.waiting.Waiting.{Waiting}
+use Rattle.zio_nodes.specs.OwnAts.{IsClaimAtStage}
 use Rattle.zio_nodes.specs.RequestAts.{AreOutBehind, RequestStands, StandsAt}
 use Rattle.zio_nodes.specs.Told.{is_told}
 use Rattle.zio_nodes.specs.TreeAts.{IsTreeAt}
 use Rattle.zio_nodes.specs.declared.tree_at.TreeAt.{TreeAt}
-use Rattle.zio_nodes.proofs.FirstStages.{first_of}
+use Rattle.zio_nodes.proofs.FirstStages.{claim_first, first_of}
+use Rattle.zio_nodes.proofs.OwnOver.{into_claim}
 
 -- ---- its children
 
@@ -78,26 +81,39 @@ start_stays tops stage due r now is same h =
 
 -- ---- its own stages begin
 
+claim_told : (gang : Bool) → is_told (claim_first gang) ≡ false
+claim_told true = refl
+claim_told false = refl
+
 pub first_told : (work : Work) → is_told (first_of work) ≡ false
 first_told Null = refl
 first_told (Read name prio) = refl
 first_told (Write name sum copies prio body) = refl
 first_told (Free name) = refl
-first_told (Claim name pointer) = refl
+first_told (Claim name pointer) = claim_told (points_to_gang pointer)
+
+claim_at : (gang : Bool) (own : Own) → own ≡ Due → IsClaimAtStage (claim_first gang) true own gang
+claim_at true own due = (inl (due, refl), refl)
+claim_at false own due = inl (due, refl, refl)
 
 first_at : (work : Work) (tops : List Top) (r : RequestNode) → r.own ≡ Due → StandsAt work tops (first_of work) true r
 first_at Null tops r due = due
 first_at (Read name prio) tops r due = (due, refl)
 first_at (Write name sum copies prio body) tops r due = due
 first_at (Free name) tops r due = (due, refl)
-first_at (Claim name pointer) tops r due = inl (due, refl)
+first_at (Claim name pointer) tops r due =
+    into_claim (claim_first (points_to_gang pointer)) name pointer tops true r (claim_at (points_to_gang pointer) r.own due)
+
+claim_out : (gang : Bool) (x : KidsUnderWay) → x.handed ≡ length x.kids → AreOutBehind (claim_first gang) x
+claim_out true x all = all
+claim_out false x all = all
 
 first_out : (work : Work) (x : KidsUnderWay) → x.handed ≡ length x.kids → AreOutBehind (first_of work) x
 first_out Null x all = all
 first_out (Read name prio) x all = all
 first_out (Write name sum copies prio body) x all = all
 first_out (Free name) x all = all
-first_out (Claim name pointer) x all = all
+first_out (Claim name pointer) x all = claim_out (points_to_gang pointer) x all
 
 pub first_stands : (tops : List Top) (next : Stage) (r : RequestNode) → next ≡ first_of r.waiting.request.work → r.own ≡ Due
     → r.kids.kids.handed ≡ length r.kids.kids.kids → RequestStands tops next true r

@@ -1,8 +1,9 @@
 -- A write whose block is stored ends at once: what holds of the end holds from where the write stood before.
-use Rattle.std.proofs.Common.{◌≡◌, ◌<◌, List, Result, Ok, Err, ap, subst, arith}
+use Rattle.std.proofs.Common.{◌≡◌, ◌<◌, List, Result, Ok, Err, ap, sym, subst, ◌∙◌, arith}
 use Rattle.std.specs.Prelude.{IfErr, IfOk}
 use Rattle.zio_types.specs.declared.place.Top.{Top}
 use Rattle.zio_masks.specs.declared.stage.Stage.{Stage}
+use Rattle.zio_masks.specs.declared.stage.Stage.TheVariants.{Done}
 use Rattle.zio_gang.specs.Attempts.{Terms}
 use Rattle.zio_frames.specs.Frames.{Stack}
 use Rattle.zio_stages.specs.RequestNodes.{IsRequestNode}
@@ -23,30 +24,35 @@ use Rattle.zio_nodes.proofs.RequestMoves.{ends_from, goes_from}
 abbrev pub IsStill : List Top → RequestAt → RequestAt → Type 0
 IsStill tops at mid = (t : Terms) (st : Stack) → IsNow {N = Node} nodes tops t (Request at) st → IsRequestNode t mid.node st
 
+-- at the last stage the same calls are made
+last_fit : (at mid : RequestAt) (calls : List SpaceCall) → at.stage ≡ Done → mid.stage ≡ at.stage → CallsFit mid.stage (Request mid) calls → CallsFit at.stage (Request at) calls
+last_fit at mid calls done same h =
+    subst (λ (s : Stage). CallsFit s (Request at) calls) (sym done) (subst (λ (s : Stage). CallsFit s (Request mid) calls) (same ∙ done) h)
+
 pub ends_behind : {S : Type 0} (made : S → List SpaceCall → S → Type 0) (tops : List Top) (a b : S) (at mid : RequestAt) (r : Result (Move Node) Node)
-    → mid.stage ≡ at.stage → gave_of (Request mid) ≡ gave_of (Request at) → IsStill tops at mid → IfOk r IsEndMove
+    → at.stage ≡ Done → mid.stage ≡ at.stage → gave_of (Request mid) ≡ gave_of (Request at) → IsStill tops at mid → IfOk r IsEndMove
     → IfOk r (MovesWith made tops a b (Request mid)) → IfOk r (MovesWith made tops a b (Request at))
-ends_behind made tops a b at mid (Ok (End outcome)) same gave still ends h = record {
+ends_behind made tops a b at mid (Ok (End outcome)) done same gave still ends h = record {
   calls = h.calls;
   were_made = h.were_made;
-  fits = subst (λ (s : Stage). CallsFit s h.calls) same h.fits;
+  fits = last_fit at mid h.calls done same h.fits;
   moves = λ t st now. ends_from t st at mid h.calls outcome (ap is_told same) gave (h.moves t st (record { tops_are = now.tops_are; is = still t st now; seated = now.seated }));
 }
-ends_behind made tops a b at mid (Ok (Next after)) same gave still ends h = absurd ends
-ends_behind made tops a b at mid (Ok (Wait after kind phase)) same gave still ends h = absurd ends
-ends_behind made tops a b at mid (Ok (Grow after child kind)) same gave still ends h = absurd ends
-ends_behind made tops a b at mid (Ok (ToLeaf after op leaf bytes)) same gave still ends h = absurd ends
-ends_behind made tops a b at mid (Ok (Ready after pointer)) same gave still ends h = absurd ends
-ends_behind made tops a b at mid (Err after) same gave still ends h = tt
+ends_behind made tops a b at mid (Ok (Next after)) done same gave still ends h = absurd ends
+ends_behind made tops a b at mid (Ok (Wait after kind phase)) done same gave still ends h = absurd ends
+ends_behind made tops a b at mid (Ok (Grow after child kind)) done same gave still ends h = absurd ends
+ends_behind made tops a b at mid (Ok (ToLeaf after op leaf bytes)) done same gave still ends h = absurd ends
+ends_behind made tops a b at mid (Ok (Ready after pointer)) done same gave still ends h = absurd ends
+ends_behind made tops a b at mid (Err after) done same gave still ends h = tt
 
 pub stays_behind : {S : Type 0} (made : S → List SpaceCall → S → Type 0) (tops : List Top) (a b : S) (at mid : RequestAt) (r : Result (Move Node) Node)
-    → mid.stage ≡ at.stage → gave_of (Request mid) ≡ gave_of (Request at) → IsStill tops at mid
+    → at.stage ≡ Done → mid.stage ≡ at.stage → gave_of (Request mid) ≡ gave_of (Request at) → IsStill tops at mid
     → IfErr r (StaysWith made tops a b (Request mid)) → IfErr r (StaysWith made tops a b (Request at))
-stays_behind made tops a b at mid (Ok move) same gave still h = tt
-stays_behind made tops a b at mid (Err after) same gave still h = record {
+stays_behind made tops a b at mid (Ok move) done same gave still h = tt
+stays_behind made tops a b at mid (Err after) done same gave still h = record {
   calls = h.calls;
   were_made = h.were_made;
-  fits = subst (λ (s : Stage). CallsFit s h.calls) same h.fits;
+  fits = last_fit at mid h.calls done same h.fits;
   goes = λ t st now. goes_from t st at mid h.calls after (ap is_told same) gave (h.goes t st (record { tops_are = now.tops_are; is = still t st now; seated = now.seated }));
 }
 

@@ -134,11 +134,11 @@ StaysBare tops node after =
 pub record MovesWith {S : Type 0} (made : S → List SpaceCall → S → Type 0) (tops : List Top) (a b : S) (node : Node) (move : Move Node) : Type 0 where
   pub calls : List SpaceCall
   pub were_made : made a calls b
-  pub fits : CallsFit (stage_of node) calls
+  pub fits : CallsFit (stage_of node) node calls
   pub moves : (t : Terms) (st : Stack) → IsNow {N = Node} nodes tops t node st → IsMove {N = Node} nodes gave_of t node st calls move
 
 pub record StaysWith {S : Type 0} (made : S → List SpaceCall → S → Type 0) (tops : List Top) (a b : S) (node after : Node) : Type 0 where
   pub calls : List SpaceCall
   pub were_made : made a calls b
-  pub fits : CallsFit (stage_of node) calls
+  pub fits : CallsFit (stage_of node) node calls
   pub goes : (t : Terms) (st : Stack) → IsNow {N = Node} nodes tops t node st → GoesOn {N = Node} nodes gave_of t node st calls after

@@ -1,5 +1,5 @@
 -- How far the own work of a read, a free and a claim is at each stage.
-use Rattle.std.specs.Prelude.{◌≡◌, ◌≤◌, ◌⊎◌, List, length, Bool, true, false, Option}
+use Rattle.std.specs.Prelude.{◌≡◌, ℕ, ◌≤◌, ◌⊎◌, List, length, Bool, true, false, Option}
 use Rattle.zio_types.specs.declared.place.Top.{Top}
 use Rattle.zio_masks.specs.declared.stage.Stage.{Stage}
 use Rattle.zio_masks.specs.declared.stage.Stage.TheVariants.{ReadBpInit, FreeBpInit, IssueAsync, GangAssemble, GangIssue, DvaFree, DvaClaim, Ready, VdevIoStart, VdevIoDone, VdevIoAssess, ChecksumVerify, Done}
@@ -7,7 +7,7 @@ use Rattle.zio_gang.specs.declared.tree.Tree.{Tree}
 use Rattle.zio_stages.specs.ReadCounts.{HasHandedAll, HasOneBody, HasWalkBegun, IsOneDue}
 use Rattle.zio_stages.specs.RequestClaims.{HasEndedClaim, IsClaimWith, IsPastDue, IsPastWalk}
 use Rattle.zio_stages.specs.RequestFrees.{HasBegun, HasFreed, HasKeptFailed, HasWalked, IsFreeWith, IsFreeing}
-use Rattle.zio_stages.specs.RequestKinds.{is_gang_tree}
+use Rattle.zio_stages.specs.RequestKinds.{is_gang_tree, points_to_gang}
 use Rattle.zio_stages.specs.RequestReads.{IsAlone, IsBodyDue, IsReadWith, IsReadingWith}
 use Rattle.zio_stages.specs.declared.own_claim.OwnClaim.{OwnClaim}
 use Rattle.zio_stages.specs.declared.own_free.OwnFree.{OwnFree}
@@ -44,10 +44,12 @@ abbrev pub IsReadAtStage : List Top → Stage → Bool → Own → Option Tree �
 IsReadAtStage tops ReadBpInit is_due own block = (own ≡ Due) × (is_due ≡ true)
 IsReadAtStage tops GangAssemble is_due own block = (is_gang_tree block ≡ true) × IsReadWith IsWalking own
 IsReadAtStage tops GangIssue is_due own block = (is_gang_tree block ≡ true) × IsReadWith IsIssuing own
-IsReadAtStage tops Ready is_due own block = IsReadWith MayReadOne own
-IsReadAtStage tops VdevIoStart is_due own block = IsReadWith MayReadOne own × (is_due ≡ true)
-IsReadAtStage tops VdevIoDone is_due own block = IsReadWith HasHandedAll own × (is_due ≡ false → IsReadingWith (IsOneDue tops) own → ⊥)
-IsReadAtStage tops VdevIoAssess is_due own block = IsReadWith HasHandedAll own × IsReadWith (IsBodyDue tops) own
+IsReadAtStage tops Ready is_due own block = IsReadWith MayReadOne own × (is_gang_tree block ≡ true → IsReadWith HasReadAll own)
+IsReadAtStage tops VdevIoStart is_due own block = IsReadWith MayReadOne own × (is_due ≡ true) × (is_gang_tree block ≡ false)
+IsReadAtStage tops VdevIoDone is_due own block =
+    IsReadWith HasHandedAll own × (is_due ≡ false → IsReadingWith (IsOneDue tops) own → ⊥) × (is_gang_tree block ≡ false)
+IsReadAtStage tops VdevIoAssess is_due own block =
+    IsReadWith HasHandedAll own × IsReadWith (IsBodyDue tops) own × (is_gang_tree block ≡ false)
 IsReadAtStage tops ChecksumVerify is_due own block = IsReadWith HasReadAll own
 IsReadAtStage tops Done is_due own block = IsReadWith HasReadAll own
 IsReadAtStage tops _ is_due own block = ⊥
@@ -61,6 +63,10 @@ ReadStands tops stage is_due r = IsReadAtStage tops stage is_due r.own r.waiting
 abbrev pub HasKeptAll : OwnFree → Type 0
 HasKeptAll w = w.given ≡ 0
 
+-- Places of a gang's block go back once its walk ended, where no header failed.
+abbrev pub IsGivingFree : Option Tree → OwnFree → Type 0
+IsGivingFree block w = HasKeptAll w ⊎ (HasWalked w × IsFreeing block w × HasKeptFailed w)
+
 -- its walk is out, or was
 abbrev pub HasFreeBegun : OwnFree → Type 0
 HasFreeBegun w = HasBegun w.walk
@@ -70,7 +76,7 @@ abbrev pub IsFreeAtStage : Stage → Bool → Own → Option Tree → Type 0
 IsFreeAtStage FreeBpInit is_due own block = (own ≡ Due) × (is_due ≡ true)
 IsFreeAtStage IssueAsync is_due own block = IsFreeWith HasKeptAll own × (is_gang_tree block ≡ false → IsFreeWith HasWalked own)
 IsFreeAtStage GangAssemble is_due own block = IsFreeWith HasKeptAll own × (is_gang_tree block ≡ true)
-IsFreeAtStage GangIssue is_due own block = IsFreeWith HasKeptAll own × IsFreeWith HasFreeBegun own
+IsFreeAtStage GangIssue is_due own block = IsFreeWith (IsGivingFree block) own × IsFreeWith HasFreeBegun own × (is_gang_tree block ≡ true)
 IsFreeAtStage DvaFree is_due own block = IsFreeWith (IsFreeing block) own × IsFreeWith HasWalked own × IsFreeWith HasKeptFailed own
 IsFreeAtStage Ready is_due own block = IsFreeWith (HasFreed block) own × IsFreeWith HasKeptFailed own
 IsFreeAtStage Done is_due own block = IsFreeWith (HasFreed block) own × IsFreeWith HasKeptFailed own
@@ -93,14 +99,14 @@ IsClaimBegun w = IsPastDue w.block w.step
 abbrev pub HasClaimWalked : OwnClaim → Type 0
 HasClaimWalked w = IsPastWalk w.block w.step
 
--- How far a claim is at each stage. It stands at no other stage.
-abbrev pub IsClaimAtStage : Stage → Bool → Own → Type 0
-IsClaimAtStage GangAssemble is_due own = ((own ≡ Due) × (is_due ≡ true)) ⊎ IsClaimWith IsAnyClaim own
-IsClaimAtStage GangIssue is_due own = IsClaimWith IsClaimBegun own
-IsClaimAtStage DvaClaim is_due own = IsClaimWith HasClaimWalked own
-IsClaimAtStage Ready is_due own = IsClaimWith HasEndedClaim own
-IsClaimAtStage Done is_due own = IsClaimWith HasEndedClaim own
-IsClaimAtStage _ is_due own = ⊥
+-- How far a claim is at each stage, where its bytes point to a gang and where they don't. It stands at no other stage.
+abbrev pub IsClaimAtStage : Stage → Bool → Own → (gang : Bool) → Type 0
+IsClaimAtStage GangAssemble is_due own gang = (((own ≡ Due) × (is_due ≡ true)) ⊎ IsClaimWith IsAnyClaim own) × (gang ≡ true)
+IsClaimAtStage GangIssue is_due own gang = IsClaimWith IsClaimBegun own × (gang ≡ true)
+IsClaimAtStage DvaClaim is_due own gang = ((own ≡ Due) × (is_due ≡ true) × (gang ≡ false)) ⊎ IsClaimWith HasClaimWalked own
+IsClaimAtStage Ready is_due own gang = IsClaimWith HasEndedClaim own
+IsClaimAtStage Done is_due own gang = IsClaimWith HasEndedClaim own
+IsClaimAtStage _ is_due own gang = ⊥
 
-abbrev pub ClaimStands : List Top → Stage → Bool → RequestNode → Type 0
-ClaimStands tops stage is_due r = IsClaimAtStage stage is_due r.own
+abbrev pub ClaimStands : List Top → Stage → Bool → (pointer : List ℕ) → RequestNode → Type 0
+ClaimStands tops stage is_due pointer r = IsClaimAtStage stage is_due r.own (points_to_gang pointer)

@@ -1,13 +1,13 @@
 -- A request in an attempt as a node at a stage: what holds of it at every stage, and how far its own work is at each.
-use Rattle.std.specs.Prelude.{◌≡◌, ◌+◌, ◌<◌, List, [], length, take, Bool, true, false, ◌||◌, ◌&&◌, Option, is_none, ◌⊎◌}
+use Rattle.std.specs.Prelude.{◌≡◌, ◌+◌, ◌<◌, List, [], length, take, Bool, true, false, ◌||◌, ◌&&◌, not, Option, is_none, ◌⊎◌}
 use Rattle.std.specs.List.{AllByRecursion, list_all}
 use Rattle.zio_types.specs.declared.place.Place.{Place}
 use Rattle.zio_types.specs.declared.place.Top.{Top}
 use Rattle.zio_types.specs.declared.request.Kind.{Kind}
 use Rattle.zio_types.specs.declared.request.Kind.TheVariants.{Null as NullKind, Read as ReadKind, Write as WriteKind, Free as FreeKind, Claim as ClaimKind}
-use Rattle.zio_masks.specs.declared.pipeline.TheConstants.{CLAIM, FREE, NULL, READ, WRITE}
+use Rattle.zio_masks.specs.declared.pipeline.TheConstants.{CLAIM, FREE, INTERLOCK, NULL, READ, WRITE}
 use Rattle.zio_masks.specs.declared.stage.Stage.{Stage}
-use Rattle.zio_masks.specs.declared.stage.Stage.TheVariants.{Start, WriteBpInit, IssueAsync, WriteCompress, ChecksumGenerate, DvaAllocate, Ready, VdevIoStart, VdevIoDone, VdevIoAssess, Done}
+use Rattle.zio_masks.specs.declared.stage.Stage.TheVariants.{Start, ReadBpInit, WriteBpInit, FreeBpInit, IssueAsync, WriteCompress, ChecksumGenerate, GangAssemble, GangIssue, DvaAllocate, Ready, VdevIoStart, VdevIoDone, VdevIoAssess, Done}
 use Rattle.zio_masks.specs.Stages.{has, is_gang_stage}
 use Rattle.zio_script.specs.declared.script.Work.{Work}
 use Rattle.zio_script.specs.declared.script.Work.TheVariants.{Null, Read, Write, Free, Claim}
@@ -89,7 +89,7 @@ StandsBy Null tops stage is_due r = NullStands tops stage is_due r
 StandsBy (Read name prio) tops stage is_due r = ReadStands tops stage is_due r
 StandsBy (Write name sum copies prio body) tops stage is_due r = WriteStands tops stage is_due r
 StandsBy (Free name) tops stage is_due r = FreeStands tops stage is_due r
-StandsBy (Claim name pointer) tops stage is_due r = ClaimStands tops stage is_due r
+StandsBy (Claim name pointer) tops stage is_due r = ClaimStands tops stage is_due pointer r
 
 -- at Start nothing of its own work is asked, whatever its kind
 abbrev pub StandsAt : Work → List Top → Stage → Bool → RequestNode → Type 0
@@ -108,13 +108,34 @@ pub record IsRequestAtOver (tops : List Top) (at : RequestAt) : Type 0 where
 
 -- ---- its pipeline
 
--- which stages a request of this kind takes, with or without the gang stages
+-- the stages of its mask, with or without the gang stages
+abbrev pub masked : Kind → (gang : Bool) → Stage → Bool
+masked NullKind gang stage = has NULL stage
+masked ReadKind gang stage = has READ stage || (gang && is_gang_stage stage)
+masked WriteKind gang stage = has WRITE stage
+masked FreeKind gang stage = has FREE stage || (gang && is_gang_stage stage)
+masked ClaimKind gang stage = has CLAIM stage || (gang && is_gang_stage stage)
+
+-- GangIssue comes behind it, or it is that
+abbrev pub is_up_to_issue : Stage → Bool
+is_up_to_issue Start = true
+is_up_to_issue ReadBpInit = true
+is_up_to_issue WriteBpInit = true
+is_up_to_issue FreeBpInit = true
+is_up_to_issue IssueAsync = true
+is_up_to_issue WriteCompress = true
+is_up_to_issue ChecksumGenerate = true
+is_up_to_issue GangAssemble = true
+is_up_to_issue GangIssue = true
+is_up_to_issue stage = false
+
+-- what GangIssue leaves of a gang's pipeline
+abbrev pub is_kept : (gang : Bool) → Stage → Bool
+is_kept gang stage = has INTERLOCK stage || (is_up_to_issue stage || not gang)
+
+-- which stages a request of this kind takes: a gang those of its mask that GangIssue leaves
 abbrev pub takes : Kind → (gang : Bool) → Stage → Bool
-takes NullKind gang stage = has NULL stage
-takes ReadKind gang stage = has READ stage || (gang && is_gang_stage stage)
-takes WriteKind gang stage = has WRITE stage
-takes FreeKind gang stage = has FREE stage || (gang && is_gang_stage stage)
-takes ClaimKind gang stage = has CLAIM stage || (gang && is_gang_stage stage)
+takes kind gang stage = masked kind gang stage && is_kept gang stage
 
 -- ---- the places that went back
 

@@ -2,6 +2,8 @@
 use Rattle.std.specs.Prelude.{◌≡◌, ◌<◌, ◌≤◌, ◌⊎◌, ◌||◌, Bool, IsTrue, List, [], None, Option, Some, false, length, true}
 use Rattle.zio_types.specs.declared.request.ChildKind.{ChildKind}
 use Rattle.zio_types.specs.declared.request.ChildKind.TheVariants.{Gang, Logical, Vdev}
+use Rattle.zio_types.specs.declared.request.Kind.{Kind}
+use Rattle.zio_types.specs.declared.request.Kind.TheVariants.{Claim as ClaimKind, Free as FreeKind}
 use Rattle.zio_types.specs.declared.request.Phase.{Phase}
 use Rattle.zio_types.specs.declared.request.Phase.TheVariants.{Done as IsDone, Ready as IsReady}
 use Rattle.zio_masks.specs.Stages.{has, is_gang_stage, number_of}
@@ -25,7 +27,9 @@ use Rattle.zio_parts.specs.declared.members.Member.{Member}
 use Rattle.zio_script.specs.Requests.{kind_of}
 use Rattle.zio_stages.specs.PartWorks.{is_second}
 use Rattle.zio_stages.specs.RequestCounts.{members_of}
+use Rattle.zio_stages.specs.ReadIos.{has_failed}
 use Rattle.zio_stages.specs.RequestKinds.{has_gang_stages}
+use Rattle.zio_stages.specs.RequestReads.{has_read_failed}
 use Rattle.zio_stages.specs.SpaceCalls.{AreAsks, AreReturns, IsClaimAtMost, SpaceCall}
 use Rattle.zio_stages.specs.declared.own_read.BodyIo.{BodyIo}
 use Rattle.zio_stages.specs.declared.request_node.Own.{Own}
@@ -79,14 +83,25 @@ grows_at DvaAllocate Gang = true
 grows_at VdevIoStart Vdev = true
 grows_at stage kind = false
 
--- The calls of the space that it makes: it asks for places, gives them back or claims them. At its last stage a node gives back what
--- it is not to keep.
-abbrev pub CallsFit : Stage → List SpaceCall → Type 0
-CallsFit DvaAllocate calls = AreAsks calls
-CallsFit DvaFree calls = AreReturns calls
-CallsFit DvaClaim calls = IsClaimAtMost calls
-CallsFit Done calls = AreReturns calls
-CallsFit _ calls = calls ≡ []
+-- what a request's GangIssue asks of the space: a free's gives places back, and a claim's claims them
+abbrev pub IssueFits : Kind → List SpaceCall → Type 0
+IssueFits FreeKind calls = AreReturns calls
+IssueFits ClaimKind calls = IsClaimAtMost calls
+IssueFits _ calls = calls ≡ []
+
+abbrev pub GangFits : Node → List SpaceCall → Type 0
+GangFits (Request at) calls = IssueFits (kind_of at.node.waiting.request.work) calls
+GangFits _ calls = calls ≡ []
+
+-- The calls of the space that a stage makes: it asks for places, gives them back or claims them. At its last stage a node gives back
+-- what it is not to keep.
+abbrev pub CallsFit : Stage → Node → List SpaceCall → Type 0
+CallsFit GangIssue node calls = GangFits node calls
+CallsFit DvaAllocate node calls = AreAsks calls
+CallsFit DvaFree node calls = AreReturns calls
+CallsFit DvaClaim node calls = IsClaimAtMost calls
+CallsFit Done node calls = AreReturns calls
+CallsFit _ node calls = calls ≡ []
 
 -- ---- how far a node's own work is
 
@@ -138,9 +153,20 @@ GoesBack VdevIoDone node after = is_leaf node ≡ false
 GoesBack VdevIoAssess node after = (is_last_pass node ≡ false) × (is_last_pass after ≡ true)
 GoesBack _ node after = ⊥
 
+-- its pass over the leaves came to no good copy
+abbrev pub has_read_error : Node → Bool
+has_read_error (Copies at) = has_failed at.node.io
+has_read_error (Request at) = has_read_failed at.node.own
+has_read_error _ = false
+
+-- After an error VdevIoAssess cuts what is left of the pipeline short.
+abbrev pub IsCut : Node → Node → Type 0
+IsCut node after = (stage_of node ≡ VdevIoAssess) × (has_read_error node ≡ true) × (stage_of after ≡ Done)
+
 abbrev pub LeadsTo : Node → Node → Type 0
 LeadsTo node after =
-    IsNextOf (takes_stage node) (stage_of node) (stage_of after) ⊎ (GoesBack (stage_of node) node after × (stage_of after ≡ VdevIoStart))
+    IsNextOf (takes_stage node) (stage_of node) (stage_of after)
+    ⊎ ((GoesBack (stage_of node) node after × (stage_of after ≡ VdevIoStart)) ⊎ IsCut node after)
 
 -- what is left of a node that goes on: a tree starts as the request at its root
 abbrev pub GoesOnTo : Node → Node → Type 0

@@ -1,13 +1,17 @@
 //! A claim in an attempt, from stage to stage behind Start.
 //!
 //! It walks over the headers of the block that its bytes point to first, a gang's by a child, and takes the block's places, all
-//! together or none, where no header failed.
+//! together or none, where no header failed: a gang's at GangIssue, and a plain block's at DvaClaim.
 
-ghost use Rattle.std.specs.Prelude.{◌≡◌, ◌≢◌, IfErr, IfOk, List as Seq, OnErr};
+ghost use Rattle.std.specs.Prelude.{◌≡◌, ◌≢◌, ◌⊎◌, IfErr, IfOk, List as Seq, OnErr, false};
 ghost use Rattle.zio_types.specs.declared.place.Top.{Top as SeenTop};
 ghost use Rattle.zio_script.specs.Requests.{kind_of};
 ghost use Rattle.zio_graph.specs.Stages.{EachIn, Lessens, TellsValid};
-ghost use Rattle.zio_nodes.specs.StageMoves.{IsLastMove, IsStageMove};
+ghost use Rattle.zio_stages.specs.RequestClaims.{IsClaimWith};
+ghost use Rattle.zio_stages.specs.RequestKinds.{has_gang_stages};
+ghost use Rattle.zio_stages.specs.declared.request_node.Own.{Own};
+ghost use Rattle.zio_nodes.specs.OwnAts.{HasClaimWalked};
+ghost use Rattle.zio_nodes.specs.StageMoves.{IsLastMove, IsNextOf, IsStageMove, takes_stage};
 ghost use Rattle.zio_nodes.specs.Nodes.{IsNodeOver, IsTreeOver, MovesBare, MovesWith, StaysBare, StaysWith, left_of, moved};
 ghost use Rattle.zio_nodes.specs.RequestAts.{IsRequestAtOver};
 
@@ -17,7 +21,7 @@ use crate::request_at::RequestAt;
 use crate::turn::{Turn, new_room};
 use std::alloc::Global;
 use zio_graph::Move;
-use zio_masks::{CLAIM, Stage, next, with_gang};
+use zio_masks::{CLAIM, INTERLOCK, Stage, next, with_gang};
 use zio_stages::{DoneStep, Services};
 use zio_types::{ChildKind, Kind, NoMemory, Phase, Top};
 
@@ -40,6 +44,9 @@ impl RequestAt {
         ensures tops { S.tops services.new ≡ S.tops services.old }
         ensures stages { IfOk result (λ turn. IsStageMove (Node.Request self.old) (moved (Node.Request self.new) turn)) }
     {
+        if self.stage == Stage::GangIssue {
+            return self.claim_gang_issue(alloc, services);
+        }
         if self.stage == Stage::DvaClaim {
             return self.dva_claim(alloc, services);
         }
@@ -52,6 +59,7 @@ impl RequestAt {
         requires kind { kind_of self.old.node.waiting.request.work ≡ Kind.Claim }
         requires behind { self.old.stage ≢ Stage.Start }
         requires before { self.old.stage ≢ Stage.Done }
+        requires issue { self.old.stage ≢ Stage.GangIssue }
         requires other { self.old.stage ≢ Stage.DvaClaim }
         ensures moves { IfOk result (λ turn. MovesBare tops.now (Node.Request self.old) (moved (Node.Request self.new) turn)) }
         ensures over { IfOk result (λ turn. EachIn (IsNodeOver tops.now) (IsTreeOver tops.now) (moved (Node.Request self.new) turn)) }
@@ -62,7 +70,6 @@ impl RequestAt {
     {
         match self.stage {
             Stage::GangAssemble => self.claim_gang_assemble(alloc, tops),
-            Stage::GangIssue => Ok(self.claim_gang_issue()),
             Stage::Ready => Ok(self.claim_ready()),
             _ => unreachable!(),
         }
@@ -99,25 +106,30 @@ impl RequestAt {
         }
     }
 
-    /// Waits for the walk.
-    fn claim_gang_issue(&mut self) -> Turn
-        requires over { (tops : Seq SeenTop) × IsRequestAtOver tops self.old }
+    /// Waits for the walk, and takes a gang's places. Nothing is left of the pipeline then but its end.
+    fn claim_gang_issue<S: Services>(
+        &mut self,
+        alloc: Global,
+        services: &mut S,
+    ) -> Result<Turn, NoMemory>
+        requires over { IsRequestAtOver (S.tops services.old) self.old }
         requires kind { kind_of self.old.node.waiting.request.work ≡ Kind.Claim }
         requires stage { self.old.stage ≡ Stage.GangIssue }
-        ensures moves { (tops : Seq SeenTop) → MovesBare tops (Node.Request self.old) (moved (Node.Request self.new) result) }
-        ensures over { (tops : Seq SeenTop) → IsRequestAtOver tops self.old → EachIn (IsNodeOver tops) (IsTreeOver tops) (moved (Node.Request self.new) result) }
-        ensures valid { TellsValid (moved (Node.Request self.new) result) }
-        ensures left { Lessens left_of (Node.Request self.old) (moved (Node.Request self.new) result) }
-        ensures stages { IsStageMove (Node.Request self.old) (moved (Node.Request self.new) result) }
+        ensures moves { IfOk result (λ turn. MovesWith S.made (S.tops services.old) services.old services.new (Node.Request self.old) (moved (Node.Request self.new) turn)) }
+        ensures over { IfOk result (λ turn. EachIn (IsNodeOver (S.tops services.old)) (IsTreeOver (S.tops services.old)) (moved (Node.Request self.new) turn)) }
+        ensures valid { IfOk result (λ turn. TellsValid (moved (Node.Request self.new) turn)) }
+        ensures left { IfOk result (λ turn. Lessens left_of (Node.Request self.old) (moved (Node.Request self.new) turn)) }
+        ensures refused { OnErr result (StaysWith S.made (S.tops services.old) services.old services.new (Node.Request self.old) (Node.Request self.new)) }
+        ensures tops { S.tops services.new ≡ S.tops services.old }
+        ensures stages { IfOk result (λ turn. IsStageMove (Node.Request self.old) (moved (Node.Request self.new) turn)) }
     {
         if let Some(kind) = self.node.gang_issue_claim() {
-            return Turn::Wait(kind, Phase::Done);
+            return Ok(Turn::Wait(kind, Phase::Done));
         }
-        self.stage = next(Stage::GangIssue, with_gang(CLAIM));
-        Turn::Next
+        self.take_places(alloc, services, next(Stage::GangIssue, INTERLOCK))
     }
 
-    /// Takes the places of its block, where the walk found it. Where memory is refused none is taken, and the same stage tries again.
+    /// Takes a plain block's places. Bytes that are no pointer have none.
     fn dva_claim<S: Services>(&mut self, alloc: Global, services: &mut S) -> Result<Turn, NoMemory>
         requires over { IsRequestAtOver (S.tops services.old) self.old }
         requires kind { kind_of self.old.node.waiting.request.work ≡ Kind.Claim }
@@ -130,9 +142,38 @@ impl RequestAt {
         ensures tops { S.tops services.new ≡ S.tops services.old }
         ensures stages { IfOk result (λ turn. IsStageMove (Node.Request self.old) (moved (Node.Request self.new) turn)) }
     {
+        self.take_places(alloc, services, next(Stage::DvaClaim, CLAIM))
+    }
+
+    /// Begins the claim of a plain block, takes the places of its block, where the walk found it, and goes on to this stage. Where
+    /// memory is refused none is taken, and the same stage tries again.
+    fn take_places<S: Services>(
+        &mut self,
+        alloc: Global,
+        services: &mut S,
+        to: Stage,
+    ) -> Result<Turn, NoMemory>
+        requires over { IsRequestAtOver (S.tops services.old) self.old }
+        requires kind { kind_of self.old.node.waiting.request.work ≡ Kind.Claim }
+        requires stage { (self.old.stage ≡ Stage.DvaClaim) ⊎ (self.old.stage ≡ Stage.GangIssue) }
+        requires walked { ((self.old.node.own ≡ Own.Due) × (has_gang_stages self.old.node.waiting.request.work self.old.node.waiting.block ≡ false))
+            ⊎ IsClaimWith HasClaimWalked self.old.node.own }
+        requires to { to ≡ Stage.Ready }
+        requires leads { IsNextOf (takes_stage (Node.Request self.old)) self.old.stage to }
+        ensures moves { IfOk result (λ turn. MovesWith S.made (S.tops services.old) services.old services.new (Node.Request self.old) (moved (Node.Request self.new) turn)) }
+        ensures over { IfOk result (λ turn. EachIn (IsNodeOver (S.tops services.old)) (IsTreeOver (S.tops services.old)) (moved (Node.Request self.new) turn)) }
+        ensures valid { IfOk result (λ turn. TellsValid (moved (Node.Request self.new) turn)) }
+        ensures left { IfOk result (λ turn. Lessens left_of (Node.Request self.old) (moved (Node.Request self.new) turn)) }
+        ensures refused { OnErr result (StaysWith S.made (S.tops services.old) services.old services.new (Node.Request self.old) (Node.Request self.new)) }
+        ensures tops { S.tops services.new ≡ S.tops services.old }
+        ensures stages { IfOk result (λ turn. IsStageMove (Node.Request self.old) (moved (Node.Request self.new) turn)) }
+    {
+        let Ok(()) = self.node.begin_claim(alloc, services.tops()) else {
+            return Err(NoMemory);
+        };
         match self.node.dva_claim(alloc, services) {
             Ok(()) => {
-                self.stage = next(Stage::DvaClaim, CLAIM);
+                self.stage = to;
                 Ok(Turn::Next)
             }
             Err(NoMemory) => Err(NoMemory),

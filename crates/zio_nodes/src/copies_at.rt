@@ -16,6 +16,7 @@ ghost use Rattle.zio_nodes.specs.Told.{is_told};
 
 use crate::leaf_at::LeafAt;
 use crate::node::Node;
+use crate::read_io_at::behind_assess;
 use crate::turn::{Turn, new_room};
 use std::alloc::Global;
 use zio_graph::Move;
@@ -176,7 +177,7 @@ impl CopiesAt {
         }
     }
 
-    /// Goes back for a second pass, once, where no copy was good.
+    /// Goes back for a second pass, once, where no copy was good; after it an error cuts the pipeline short.
     fn vdev_io_assess(&mut self, tops: &[Top]) -> Turn
         requires over { IsCopiesAtOver tops.now self.old }
         requires stage { self.old.stage ≡ Stage.VdevIoAssess }
@@ -186,13 +187,14 @@ impl CopiesAt {
         ensures left { Lessens left_of (Node.Copies self.old) (moved (Node.Copies self.new) result) }
         ensures stages { IsStageMove (Node.Copies self.old) (moved (Node.Copies self.new) result) }
     {
+        let has_failed = self.node.has_failed();
         let goes_again = self.node.vdev_io_assess(tops);
         if goes_again {
             self.stage = Stage::VdevIoStart;
             self.is_due = true;
             return Turn::Next;
         }
-        self.stage = next(Stage::VdevIoAssess, READ);
+        self.stage = behind_assess(has_failed);
         self.is_due = false;
         Turn::Next
     }

@@ -1,12 +1,14 @@
 //! A free in an attempt, from stage to stage behind Start.
 //!
-//! It walks over the headers of its block first, a gang's by a child, and gives the block's places back where no header failed.
+//! It walks over the headers of its block first, a gang's by a child, and gives the block's places back where no header failed: a
+//! gang's at GangIssue, and a plain block's at DvaFree.
 
-ghost use Rattle.std.specs.Prelude.{◌≡◌, ◌≢◌, IfErr, IfOk, List as Seq, OnErr};
+ghost use Rattle.std.specs.Prelude.{◌≡◌, ◌≢◌, ◌⊎◌, IfErr, IfOk, List as Seq, OnErr};
 ghost use Rattle.zio_types.specs.declared.place.Top.{Top as SeenTop};
 ghost use Rattle.zio_script.specs.Requests.{kind_of};
 ghost use Rattle.zio_graph.specs.Stages.{EachIn, Lessens, TellsValid};
-ghost use Rattle.zio_nodes.specs.StageMoves.{IsLastMove, IsStageMove};
+ghost use Rattle.zio_stages.specs.RequestFrees.{HasKeptFailed, HasWalked, IsFreeWith, IsFreeing};
+ghost use Rattle.zio_nodes.specs.StageMoves.{IsLastMove, IsNextOf, IsStageMove, takes_stage};
 ghost use Rattle.zio_nodes.specs.Nodes.{IsNodeOver, IsTreeOver, MovesBare, MovesWith, StaysBare, StaysWith, left_of, moved};
 ghost use Rattle.zio_nodes.specs.RequestAts.{IsRequestAtOver};
 
@@ -16,7 +18,7 @@ use crate::request_at::RequestAt;
 use crate::turn::{Turn, new_room};
 use std::alloc::Global;
 use zio_graph::Move;
-use zio_masks::{FREE, Stage, next, with_gang};
+use zio_masks::{FREE, INTERLOCK, Stage, next, with_gang};
 use zio_stages::{DoneStep, Services};
 use zio_types::{ChildKind, Kind, NoMemory, Phase};
 
@@ -39,6 +41,9 @@ impl RequestAt {
         ensures tops { S.tops services.new ≡ S.tops services.old }
         ensures stages { IfOk result (λ turn. IsStageMove (Node.Request self.old) (moved (Node.Request self.new) turn)) }
     {
+        if self.stage == Stage::GangIssue {
+            return self.free_gang_issue(alloc, services);
+        }
         if self.stage == Stage::DvaFree {
             return self.dva_free(alloc, services);
         }
@@ -51,6 +56,7 @@ impl RequestAt {
         requires kind { kind_of self.old.node.waiting.request.work ≡ Kind.Free }
         requires behind { self.old.stage ≢ Stage.Start }
         requires before { self.old.stage ≢ Stage.Done }
+        requires issue { self.old.stage ≢ Stage.GangIssue }
         requires other { self.old.stage ≢ Stage.DvaFree }
         ensures moves { (tops : Seq SeenTop) → IfOk result (λ turn. MovesBare tops (Node.Request self.old) (moved (Node.Request self.new) turn)) }
         ensures over { (tops : Seq SeenTop) → IsRequestAtOver tops self.old → IfOk result (λ turn. EachIn (IsNodeOver tops) (IsTreeOver tops) (moved (Node.Request self.new) turn)) }
@@ -63,7 +69,6 @@ impl RequestAt {
             Stage::FreeBpInit => self.free_bp_init(alloc),
             Stage::IssueAsync => Ok(self.free_issue_async()),
             Stage::GangAssemble => self.free_gang_assemble(alloc),
-            Stage::GangIssue => Ok(self.free_gang_issue()),
             Stage::Ready => Ok(self.free_ready()),
             _ => unreachable!(),
         }
@@ -133,26 +138,30 @@ impl RequestAt {
         }
     }
 
-    /// Waits for the walk.
-    fn free_gang_issue(&mut self) -> Turn
-        requires over { (tops : Seq SeenTop) × IsRequestAtOver tops self.old }
+    /// Waits for the walk, and gives a gang's places back. Nothing is left of the pipeline then but its end.
+    fn free_gang_issue<S: Services>(
+        &mut self,
+        alloc: Global,
+        services: &mut S,
+    ) -> Result<Turn, NoMemory>
+        requires over { IsRequestAtOver (S.tops services.old) self.old }
         requires kind { kind_of self.old.node.waiting.request.work ≡ Kind.Free }
         requires stage { self.old.stage ≡ Stage.GangIssue }
-        ensures moves { (tops : Seq SeenTop) → MovesBare tops (Node.Request self.old) (moved (Node.Request self.new) result) }
-        ensures over { (tops : Seq SeenTop) → IsRequestAtOver tops self.old → EachIn (IsNodeOver tops) (IsTreeOver tops) (moved (Node.Request self.new) result) }
-        ensures valid { TellsValid (moved (Node.Request self.new) result) }
-        ensures left { Lessens left_of (Node.Request self.old) (moved (Node.Request self.new) result) }
-        ensures stages { IsStageMove (Node.Request self.old) (moved (Node.Request self.new) result) }
+        ensures moves { IfOk result (λ turn. MovesWith S.made (S.tops services.old) services.old services.new (Node.Request self.old) (moved (Node.Request self.new) turn)) }
+        ensures over { IfOk result (λ turn. EachIn (IsNodeOver (S.tops services.old)) (IsTreeOver (S.tops services.old)) (moved (Node.Request self.new) turn)) }
+        ensures valid { IfOk result (λ turn. TellsValid (moved (Node.Request self.new) turn)) }
+        ensures left { IfOk result (λ turn. Lessens left_of (Node.Request self.old) (moved (Node.Request self.new) turn)) }
+        ensures refused { OnErr result (StaysWith S.made (S.tops services.old) services.old services.new (Node.Request self.old) (Node.Request self.new)) }
+        ensures tops { S.tops services.new ≡ S.tops services.old }
+        ensures stages { IfOk result (λ turn. IsStageMove (Node.Request self.old) (moved (Node.Request self.new) turn)) }
     {
         if let Some(kind) = self.node.gang_issue_free() {
-            return Turn::Wait(kind, Phase::Done);
+            return Ok(Turn::Wait(kind, Phase::Done));
         }
-        self.stage = next(Stage::GangIssue, with_gang(FREE));
-        Turn::Next
+        self.give_places(alloc, services, next(Stage::GangIssue, INTERLOCK))
     }
 
-    /// Gives the block's places back, where no header failed. Where memory is refused some of them went back, and the same stage goes
-    /// on from there.
+    /// Gives a plain block's places back.
     fn dva_free<S: Services>(&mut self, alloc: Global, services: &mut S) -> Result<Turn, NoMemory>
         requires over { IsRequestAtOver (S.tops services.old) self.old }
         requires kind { kind_of self.old.node.waiting.request.work ≡ Kind.Free }
@@ -165,9 +174,36 @@ impl RequestAt {
         ensures tops { S.tops services.new ≡ S.tops services.old }
         ensures stages { IfOk result (λ turn. IsStageMove (Node.Request self.old) (moved (Node.Request self.new) turn)) }
     {
+        self.give_places(alloc, services, next(Stage::DvaFree, FREE))
+    }
+
+    /// Gives the block's places back, where no header failed, and goes on to this stage. Where memory is refused some of them went
+    /// back, and the same stage goes on from there.
+    fn give_places<S: Services>(
+        &mut self,
+        alloc: Global,
+        services: &mut S,
+        to: Stage,
+    ) -> Result<Turn, NoMemory>
+        requires over { IsRequestAtOver (S.tops services.old) self.old }
+        requires kind { kind_of self.old.node.waiting.request.work ≡ Kind.Free }
+        requires stage { (self.old.stage ≡ Stage.DvaFree) ⊎ (self.old.stage ≡ Stage.GangIssue) }
+        requires walked { IsFreeWith HasWalked self.old.node.own }
+        requires frees { IsFreeWith (IsFreeing self.old.node.waiting.block) self.old.node.own }
+        requires failed { IsFreeWith HasKeptFailed self.old.node.own }
+        requires to { to ≡ Stage.Ready }
+        requires leads { IsNextOf (takes_stage (Node.Request self.old)) self.old.stage to }
+        ensures moves { IfOk result (λ turn. MovesWith S.made (S.tops services.old) services.old services.new (Node.Request self.old) (moved (Node.Request self.new) turn)) }
+        ensures over { IfOk result (λ turn. EachIn (IsNodeOver (S.tops services.old)) (IsTreeOver (S.tops services.old)) (moved (Node.Request self.new) turn)) }
+        ensures valid { IfOk result (λ turn. TellsValid (moved (Node.Request self.new) turn)) }
+        ensures left { IfOk result (λ turn. Lessens left_of (Node.Request self.old) (moved (Node.Request self.new) turn)) }
+        ensures refused { OnErr result (StaysWith S.made (S.tops services.old) services.old services.new (Node.Request self.old) (Node.Request self.new)) }
+        ensures tops { S.tops services.new ≡ S.tops services.old }
+        ensures stages { IfOk result (λ turn. IsStageMove (Node.Request self.old) (moved (Node.Request self.new) turn)) }
+    {
         match self.node.dva_free(alloc, services) {
             Ok(()) => {
-                self.stage = next(Stage::DvaFree, FREE);
+                self.stage = to;
                 Ok(Turn::Next)
             }
             Err(NoMemory) => Err(NoMemory),

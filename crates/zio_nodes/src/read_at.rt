@@ -2,7 +2,7 @@
 //!
 //! It walks over the headers of its block first, and reads the bodies then: a gang's by children, and else the one body by itself.
 
-ghost use Rattle.std.specs.Prelude.{◌≡◌, ◌≢◌, IfErr, IfOk, List as Seq, OnErr};
+ghost use Rattle.std.specs.Prelude.{◌≡◌, ◌≢◌, IfErr, IfOk, List as Seq, OnErr, false, true};
 ghost use Rattle.zio_types.specs.declared.place.Top.{Top as SeenTop};
 ghost use Rattle.zio_script.specs.Requests.{kind_of};
 ghost use Rattle.zio_graph.specs.Stages.{EachIn, Lessens, TellsValid};
@@ -19,7 +19,7 @@ use crate::stall::gang_stall;
 use crate::turn::{Turn, new_room};
 use std::alloc::Global;
 use zio_graph::Move;
-use zio_masks::{READ, Stage, next, with_gang};
+use zio_masks::{INTERLOCK, READ, Stage, next, with_gang};
 use zio_stages::{BodyStage, ReadDone, Services};
 use zio_types::{ChildKind, Kind, NoMemory, Phase, Top};
 
@@ -122,7 +122,8 @@ impl RequestAt {
         }
     }
 
-    /// Waits for the walk, hands the reads of the bodies to children, and waits for them. Where memory is refused it comes back as it was.
+    /// Waits for the walk, hands the reads of the bodies to children, and waits for them. Nothing is left of the pipeline then but its
+    /// end. Where memory is refused it comes back as it was.
     fn read_gang_issue(&mut self, alloc: Global, tops: &[Top]) -> Result<Turn, NoMemory>
         requires over { IsRequestAtOver tops.now self.old }
         requires kind { kind_of self.old.node.waiting.request.work ≡ Kind.Read }
@@ -147,7 +148,7 @@ impl RequestAt {
                 if let Some((kind, phase)) = gang_stall(self.node.family()) {
                     return Ok(Turn::Wait(kind, phase));
                 }
-                self.stage = next(Stage::GangIssue, with_gang(READ));
+                self.stage = next(Stage::GangIssue, INTERLOCK);
                 Ok(Turn::Next)
             }
             Err(NoMemory) => Err(NoMemory),
@@ -165,7 +166,7 @@ impl RequestAt {
         ensures left { Lessens left_of (Node.Request self.old) (moved (Node.Request self.new) result) }
         ensures stages { IsStageMove (Node.Request self.old) (moved (Node.Request self.new) result) }
     {
-        let to = next(Stage::Ready, READ);
+        let to = behind_ready(self.node.has_gang_stages());
         self.tell_none(to)
     }
 
@@ -220,4 +221,15 @@ impl RequestAt {
             Err(NoMemory) => Err(Node::Request(at)),
         }
     }
+}
+
+/// The stage behind Ready: a gang's bodies were read, and else the one body is to be.
+fn behind_ready(gang: bool) -> Stage
+    ensures gang { gang ≡ true → result ≡ Stage.Done }
+    ensures plain { gang ≡ false → result ≡ Stage.VdevIoStart }
+{
+    if gang {
+        return next(Stage::Ready, INTERLOCK);
+    }
+    next(Stage::Ready, READ)
 }

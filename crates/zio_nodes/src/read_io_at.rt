@@ -1,6 +1,6 @@
 //! A read in an attempt that reads its body itself: the operations on leaves.
 
-ghost use Rattle.std.specs.Prelude.{◌≡◌, IfOk, OnErr};
+ghost use Rattle.std.specs.Prelude.{◌≡◌, IfOk, OnErr, false, true};
 ghost use Rattle.zio_script.specs.Requests.{kind_of};
 ghost use Rattle.zio_graph.specs.Stages.{EachIn, Lessens, TellsValid};
 ghost use Rattle.zio_nodes.specs.StageMoves.{IsStageMove};
@@ -12,7 +12,7 @@ use crate::node::Node;
 use crate::request_at::RequestAt;
 use crate::turn::{Turn, new_room};
 use std::alloc::Global;
-use zio_masks::{READ, Stage, next};
+use zio_masks::{INTERLOCK, READ, Stage, next};
 use zio_stages::IoNext;
 use zio_types::{ChildKind, Kind, NoMemory, Phase, Top};
 
@@ -72,7 +72,7 @@ impl RequestAt {
         }
     }
 
-    /// Goes back for a second pass, once, where no copy was good; else the body's read closes.
+    /// Goes back for a second pass, once, where no copy was good; else the body's read closes, and an error cuts the pipeline short.
     pub(crate) fn read_io_assess(&mut self, tops: &[Top]) -> Turn
         requires over { IsRequestAtOver tops.now self.old }
         requires kind { kind_of self.old.node.waiting.request.work ≡ Kind.Read }
@@ -83,13 +83,25 @@ impl RequestAt {
         ensures left { Lessens left_of (Node.Request self.old) (moved (Node.Request self.new) result) }
         ensures stages { IsStageMove (Node.Request self.old) (moved (Node.Request self.new) result) }
     {
+        let has_failed = self.node.has_read_failed();
         if self.node.vdev_io_assess_read(tops) {
             self.stage = Stage::VdevIoStart;
             self.is_due = true;
             return Turn::Next;
         }
-        self.stage = next(Stage::VdevIoAssess, READ);
+        self.stage = behind_assess(has_failed);
         self.is_due = false;
         Turn::Next
     }
+}
+
+/// The stage behind VdevIoAssess. After an error no more comes but the end: there are no bytes to verify.
+pub(crate) fn behind_assess(has_failed: bool) -> Stage
+    ensures cut { has_failed ≡ true → result ≡ Stage.Done }
+    ensures on { has_failed ≡ false → result ≡ Stage.ChecksumVerify }
+{
+    if has_failed {
+        return next(Stage::VdevIoAssess, INTERLOCK);
+    }
+    next(Stage::VdevIoAssess, READ)
 }

@@ -42,7 +42,7 @@ ghost use Rattle.zio_nodes.specs.Nodes.{
   nodes,
   moved,
 };
-ghost use Rattle.zio_nodes.specs.RequestAts.{IsRequestAtOver, takes};
+ghost use Rattle.zio_nodes.specs.RequestAts.{IsRequestAtOver, masked};
 
 use crate::node::Node;
 use crate::tree_at::TreeAt;
@@ -226,10 +226,10 @@ impl RequestAt {
         }
     }
 
-    /// Its pipeline.
+    /// The stages of its kind, with the gang stages where it is a gang's.
     pub(crate) fn mask(&self) -> Pipeline
         ensures { (stage : SeenStage) → has result stage ≡
-            takes (kind_of self.now.node.waiting.request.work) (has_gang_stages self.now.node.waiting.request.work self.now.node.waiting.block) stage }
+            masked (kind_of self.now.node.waiting.request.work) (has_gang_stages self.now.node.waiting.request.work self.now.node.waiting.block) stage }
     {
         let gang = self.node.has_gang_stages();
         match self.node.kind() {

@@ -17,6 +17,7 @@ ghost use Rattle.std.specs.Prelude.{
   length,
   slice_get,
   IsSome,
+  is_some,
 };
 ghost use Rattle.zio_cksum.specs.Blocks.{judged};
 ghost use Rattle.zio_cksum.specs.Images.{Setting};
@@ -172,6 +173,13 @@ impl CopyRead {
         ensures { result ≡ self.now.retry }
     {
         self.retry
+    }
+
+    /// Whether it has good bytes.
+    pub fn has_bytes(&self) -> bool
+        ensures { result ≡ is_some self.now.good }
+    {
+        self.good.is_some()
     }
 
     /// The good bytes, which repairs write.

@@ -20,7 +20,7 @@ use Rattle.zio_frames.specs.Moves.{heard_early, heard_of}
 use Rattle.zio_frames.specs.Seats.{IsSeated}
 use Rattle.zio_frames.specs.Slots.{AllHeard, Heard, IsOut, Slot, left_behind_slots, told_in}
 use Rattle.zio_stages.specs.Outcomes.{IsNoAttemptIn, places_in}
-use Rattle.zio_stages.specs.OwnClaims.{IsClaimOf, IsOwnClaim, claim_task, own_claimed, taken_by}
+use Rattle.zio_stages.specs.OwnClaims.{IsClaimOf, IsOwnClaim, claim_task, own_claimed, taken_by, IsBlockOf}
 use Rattle.zio_stages.specs.OwnParts.{DoesThen, GoesOnAs, HandsTo, IsNoWrite, IsOwed}
 use Rattle.zio_stages.specs.RequestNodes.{IsOwnOf, IsRequestNode, own_got}
 use Rattle.zio_stages.specs.RequestOwns.{IsClaimOwn, IsNoneAfter, MakesBlock}
@@ -39,6 +39,9 @@ use Rattle.zio_stages.proofs.OwnHolds.{claim_holds, claim_quiet}
 use Rattle.zio_stages.proofs.RequestFoundLemmas.{found_at}
 use Rattle.zio_stages.proofs.RequestFreeMoves.{then_same}
 use Rattle.zio_stages.proofs.RequestOwnMoves.{goes_on, set_op, then_does, then_hands}
+use Rattle.std.specs.Prelude.{IfSome, IsSome, OnOk}
+use Rattle.zio_stages.specs.RequestClaims.{IsPastWalk}
+use Rattle.zio_stages.specs.RequestKinds.{is_gang_pointer}
 use Rattle.zio_stages.proofs.RequestWriteLemmas.{front_in, with_own}
 
 -- ---- behind its children
@@ -192,3 +195,24 @@ claim_found t r st w found came h own e took fails is =
     ap (λ (x : Work). left_behind_slots h.own_slots (plan_own t r.attempt p x pointers)) own.work
     ∙ subst (λ (slots : List Slot). left_behind_slots slots (plan_claim (pointer_of own.bytes)) ≡ Ends came) own.slots_are e.1
     ∙ ap (λ (o : OwnGot). Ends o) (sym is))
+
+-- ---- a plain pointer's walk
+
+gang_block : (pointer : Option Bp) (block : Option Tree) → IsBlockOf pointer block → IsSome block → IfSome block (λ (tree : Tree). tree.bp.gang ≡ true)
+    → is_gang_pointer pointer ≡ true
+gang_block None None h some gang = absurd (let no : false ≡ true = some in cc)
+gang_block None (Some tree) h some gang = absurd h
+gang_block (Some bp) None h some gang = absurd h
+gang_block (Some bp) (Some tree) h some gang = ap (λ (b : Bp). b.gang) (sym h.0) ∙ gang
+
+-- opens and closes at once
+pub walks_at_once : (at_once : Bool) (w : OwnClaim) (pointer : Option Bp) (block : Option Tree) → IsBlockOf pointer block → is_gang_pointer pointer ≡ false
+    → (at_once ≡ true → IsPastWalk w.block w.step) → (at_once ≡ false → IsSome block) → (at_once ≡ false → IfSome block (λ (tree : Tree). tree.bp.gang ≡ true))
+    → IsPastWalk w.block w.step
+walks_at_once true w pointer block is plain past some gang = past refl
+walks_at_once false w pointer block is plain past some gang =
+    absurd (let yes : is_gang_pointer pointer ≡ true = gang_block pointer block is (some refl) (gang refl) in cc)
+
+pub if_due : {T E : Type 0} (P Q : Type 0) (r : Result T E) → OnOk r Q → OnOk r (P → Q)
+if_due P Q (Ok x) h = λ p. h
+if_due P Q (Err e) h = tt

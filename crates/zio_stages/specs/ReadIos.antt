@@ -1,5 +1,5 @@
 -- The read of a block's copies by operations on leaves: how it stands for a part of a node's work.
-use Rattle.std.specs.Prelude.{◌≡◌, ℕ, suc, ◌+◌, ◌-◌, ◌<◌, ◌≤◌, List, [], ◌∷◌, length, slice_get, Bool, true, false, Option, Some, None}
+use Rattle.std.specs.Prelude.{◌≡◌, ℕ, suc, ◌+◌, ◌-◌, ◌<◌, ◌≤◌, List, [], ◌∷◌, length, slice_get, Bool, true, false, not, Option, Some, None, is_some}
 use Rattle.zio_types.specs.declared.place.Top.{Top}
 use Rattle.zio_types.specs.declared.request.Prio.{Prio}
 use Rattle.zio_types.specs.declared.request.Prio.TheVariants.{AsyncWrite}
@@ -47,6 +47,12 @@ reads_when (Some bytes) is_out = false
 -- the operation of this number is out
 abbrev pub IsReadOutIn : ReadIo → ℕ → Type 0
 IsReadOutIn w n = (w.base ≤ n) × (slice_get (outs_of_read w) (n - w.base) ≡ Some true)
+
+-- ---- what it came to
+
+-- no copy was good
+abbrev pub has_failed : ReadIo → Bool
+has_failed w = not (is_some w.read.good)
 
 -- ---- how much is left
 

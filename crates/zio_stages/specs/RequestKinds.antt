@@ -1,5 +1,7 @@
 -- Whether a request in an attempt walks over headers, and whether its block was written.
-use Rattle.std.specs.Prelude.{Bool, true, false, Option, Some, None}
+use Rattle.std.specs.Prelude.{ℕ, List, Bool, true, false, Option, Some, None}
+use Rattle.zio_blkptr.specs.Pointers.{pointer_of}
+use Rattle.zio_blkptr.specs.declared.pointer.Bp.{Bp}
 use Rattle.zio_script.specs.declared.script.Work.{Work}
 use Rattle.zio_script.specs.declared.script.Work.TheVariants.{Null, Read, Write, Free, Claim}
 use Rattle.zio_gang.specs.declared.tree.Tree.{Tree}
@@ -11,14 +13,21 @@ abbrev pub is_gang_tree : Option Tree → Bool
 is_gang_tree None = false
 is_gang_tree (Some tree) = tree.bp.gang
 
--- The block that a read or a free names is a gang. What a claim's bytes point to is known once it begins, so it has the gang
--- stages always.
+-- the bytes point to a gang
+abbrev pub is_gang_pointer : Option Bp → Bool
+is_gang_pointer None = false
+is_gang_pointer (Some bp) = bp.gang
+
+abbrev pub points_to_gang : List ℕ → Bool
+points_to_gang bytes = is_gang_pointer (pointer_of bytes)
+
+-- The block that a read or a free names is a gang, or the one that a claim's bytes point to.
 abbrev pub has_gang_stages : Work → Option Tree → Bool
 has_gang_stages Null block = false
 has_gang_stages (Read name prio) block = is_gang_tree block
 has_gang_stages (Write name sum copies prio body) block = false
 has_gang_stages (Free name) block = is_gang_tree block
-has_gang_stages (Claim name pointer) block = true
+has_gang_stages (Claim name pointer) block = points_to_gang pointer
 
 -- the block of a write was written
 abbrev pub is_stored : Own → Bool

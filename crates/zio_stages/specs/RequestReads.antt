@@ -1,5 +1,5 @@
 -- A read in an attempt: which stage it may be in, and what each comes to.
-use Rattle.std.specs.Prelude.{◌≡◌, ℕ, List, length, Option, Some, None, IfSome}
+use Rattle.std.specs.Prelude.{◌≡◌, ℕ, List, length, Bool, false, Option, Some, None, IfSome}
 use Rattle.zio_types.specs.declared.error.Errno.{Errno}
 use Rattle.zio_types.specs.declared.place.Top.{Top}
 use Rattle.zio_types.specs.declared.request.ChildKind.TheVariants.{Gang}
@@ -18,6 +18,7 @@ use Rattle.zio_stages.specs.NodeIos.{IsReadDue}
 use Rattle.zio_stages.specs.OwnParts.{HandsTo, IsOwed}
 use Rattle.zio_stages.specs.OwnReads.{IsBeside, IsBodyOut, IsWalkOut}
 use Rattle.zio_stages.specs.ReadCounts.{HandsOutBody}
+use Rattle.zio_stages.specs.ReadIos.{has_failed}
 use Rattle.zio_stages.specs.declared.heads_node.HeadsNode.{HeadsNode}
 use Rattle.zio_stages.specs.declared.own_read.BodyIo.{BodyIo}
 use Rattle.zio_stages.specs.declared.own_read.OwnRead.{OwnRead}
@@ -46,6 +47,21 @@ IsReadWith P (Free w) = ⊥
 IsReadWith P (Claim w) = ⊥
 IsReadWith P (Found own) = Unit {0}
 IsReadWith P Over = ⊥
+
+-- of the body that the node reads itself no copy was good
+abbrev pub body_failed : Option BodyIo → Bool
+body_failed None = false
+body_failed (Some b) = has_failed b.io
+
+abbrev pub has_read_failed : Own → Bool
+has_read_failed Due = false
+has_read_failed (Write w) = false
+has_read_failed (Stored b) = false
+has_read_failed (Read w) = body_failed w.body
+has_read_failed (Free w) = false
+has_read_failed (Claim w) = false
+has_read_failed (Found own) = false
+has_read_failed Over = false
 
 -- its block is read, and this holds of that
 abbrev pub IsReadingWith : (OwnRead → Type 0) → Own → Type 0

@@ -13,7 +13,7 @@ ghost use Rattle.zio_stages.specs.CopiesNodes.{IsCopiesNode, IsCopiesOver};
 ghost use Rattle.zio_stages.specs.LeafWorks.{IsDue};
 ghost use Rattle.zio_stages.specs.NodeChildren.{first_owing};
 ghost use Rattle.zio_stages.specs.NodeIos.{IsAwaitedAt, IsReadDue, StartsBy, with_one};
-ghost use Rattle.zio_stages.specs.ReadIos.{IsReadStep};
+ghost use Rattle.zio_stages.specs.ReadIos.{IsReadStep, has_failed};
 ghost use Rattle.zio_stages.specs.WriteIos.{AreIoPlaces};
 
 use crate::check::Check;
@@ -104,6 +104,13 @@ impl CopiesNode {
         ensures more { result ≡ IoNext.More → IsReadStep tops.now self.now.io IoStep.Child }
     {
         read_next(&self.io, tops)
+    }
+
+    /// Whether no copy was good.
+    pub fn has_failed(&self) -> bool
+        ensures { result ≡ has_failed self.now.io }
+    {
+        self.io.has_failed()
     }
 
     /// The second pass begins if it is due, and this is true; else the read has ended.

@@ -79,6 +79,7 @@ impl OwnClaim {
             DoesThen t st [] (IsOwnClaim self.new family pointer front_asked front) }
         ensures gang { result ≡ Ok false → self.new ≡ self.old }
         ensures asks { result ≡ Ok false → IfSome self.old.block (λ tree. tree.bp.gang ≡ true) }
+        ensures some { result ≡ Ok false → IsSome self.old.block }
         ensures past { result ≡ Ok true → IsPastWalk self.new.block self.new.step }
         ensures over { IsClaimOver tops.now self.new }
         ensures err { OnErr result (self.new ≡ self.old) }

@@ -23,6 +23,7 @@ ghost use Rattle.zio_stages.specs.OwnParts.{DoesThen, GoesOnAs, IsBehind, IsOwed
 ghost use Rattle.zio_stages.specs.OwnReads.{IsBodyOn, IsOwnRead, IsOwnReadOver};
 ghost use Rattle.zio_stages.specs.ReadCounts.{AsksMore, AssessesBody, BeginsBody, HasOneBody, IsNoBody, IsOneDue, IsUnread, MayBegin};
 ghost use Rattle.zio_stages.specs.ReadIos.{IsReadStep};
+ghost use Rattle.zio_stages.specs.RequestReads.{body_failed};
 ghost use Rattle.zio_stages.specs.declared.write_io.IoStep.TheVariants.{Child as ChildStep};
 ghost use Rattle.zio_stages.specs.declared.family.Layer.TheVariants.{Within};
 
@@ -197,6 +198,16 @@ impl OwnRead {
         match &self.body {
             Some(body) => read_next(&body.io, tops),
             None => IoNext::On,
+        }
+    }
+
+    /// Whether the part within is the read of a body of which no copy was good.
+    pub(crate) fn has_body_failed(&self) -> bool
+        ensures { result ≡ body_failed self.now.body }
+    {
+        match &self.body {
+            Some(body) => body.io.has_failed(),
+            None => false,
         }
     }
 

@@ -8,7 +8,7 @@ ghost use Rattle.zio_trace.specs.Tasks.{Got, ReadCopies, Task};
 ghost use Rattle.zio_frames.specs.Frames.{Frame, fresh_frame, left_of, with_asked, with_slot};
 ghost use Rattle.zio_frames.specs.Slots.{Heard, IsOut};
 ghost use Rattle.zio_stages.specs.LeafWorks.{IsDue};
-ghost use Rattle.zio_stages.specs.ReadIos.{AsksOfRead, IsAskedWhen, IsReadIo, IsReadOutIn, IsReadOver, IsReadStep, io_of_read, outs_of_read};
+ghost use Rattle.zio_stages.specs.ReadIos.{AsksOfRead, IsAskedWhen, IsReadIo, IsReadOutIn, IsReadOver, IsReadStep, has_failed, io_of_read, outs_of_read};
 ghost use Rattle.zio_stages.specs.WriteIos.{AreIoPlaces, ShowsOuts};
 
 use crate::check::Check;
@@ -62,6 +62,13 @@ impl ReadIo {
             base: 0,
             asked: 0,
         }
+    }
+
+    /// Whether no copy was good.
+    pub fn has_failed(&self) -> bool
+        ensures { result ≡ has_failed self.now }
+    {
+        !self.read.has_bytes()
     }
 
     /// The number of the next operation.

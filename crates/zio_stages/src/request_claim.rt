@@ -3,7 +3,7 @@
 //! Once its children were all handed out, the node walks over the headers of the block that its bytes point to. Where no header
 //! failed the block's places are taken, all together or none.
 
-ghost use Rattle.std.specs.Prelude.{◌≡◌, ◌<◌, [], IfOk, IfSome, Ok, List as Seq, None, OnErr, OnOk, Option, Some, length, slice_get};
+ghost use Rattle.std.specs.Prelude.{◌≡◌, ◌<◌, [], IfOk, IfSome, Ok, List as Seq, None, OnErr, OnOk, Option, Some, false, length, slice_get};
 ghost use Rattle.zio_types.specs.declared.place.Top.{Top as SeenTop};
 ghost use Rattle.zio_types.specs.declared.request.Phase.TheVariants.{Done};
 ghost use Rattle.zio_blkptr.specs.declared.pointer.Bp.{Bp};
@@ -17,6 +17,7 @@ ghost use Rattle.zio_stages.specs.OwnClaims.{LiesWalked, own_claimed};
 ghost use Rattle.zio_stages.specs.OwnFounds.{own_got};
 ghost use Rattle.zio_stages.specs.OwnParts.{DoesThen, IsOwed};
 ghost use Rattle.zio_stages.specs.RequestClaims.{HasEndedClaim, IsClaimWith, IsClaimWork, IsClaimingWith, IsDueOrClaim, IsPastDue, IsPastWalk, IsWalkDue};
+ghost use Rattle.zio_stages.specs.RequestKinds.{has_gang_stages};
 ghost use Rattle.zio_stages.specs.RequestNodes.{IsOwnOver, IsRequestNode};
 ghost use Rattle.zio_stages.specs.RequestOwns.{IsOwnSeat};
 ghost use Rattle.zio_stages.specs.RequestReads.{HandsWalk, HasFound, IsWalkOver, IsWholeWalk};
@@ -50,6 +51,8 @@ impl RequestNode {
             DoesThen t st [] (IsRequestNode t self.new)) }
         ensures over { IsOwnOver tops.now self.old.own self.old.family → IsOwnOver tops.now self.new.own self.new.family }
         ensures claims { OnOk result (IsClaimingWith (λ w. Unit {0}) self.new.own) }
+        ensures plain { OnOk result (has_gang_stages self.old.waiting.request.work self.old.waiting.block ≡ false →
+            IsClaimWith (λ w. IsPastWalk w.block w.step) self.new.own) }
         ensures waiting { self.new.waiting ≡ self.old.waiting }
         ensures rest { self.new ≡ with_own self.old self.new.own self.new.family }
         ensures err { OnErr result (self.new ≡ self.old) }
@@ -73,6 +76,8 @@ impl RequestNode {
         ensures over { IsOwnOver tops.now self.old.own self.old.family → IsOwnOver tops.now self.new.own self.new.family }
         ensures claims { OnOk result (IsClaimWith (λ w. Unit {0}) self.new.own) }
         ensures still { IsClaimWith (λ w. Unit {0}) self.old.own → self.new ≡ self.old }
+        ensures plain { OnOk result (self.old.own ≡ Own.Due → has_gang_stages self.old.waiting.request.work self.old.waiting.block ≡ false →
+            IsClaimWith (λ w. IsPastWalk w.block w.step) self.new.own) }
         ensures rest { self.new ≡ with_own self.old self.new.own self.new.family }
         ensures err { OnErr result (self.new ≡ self.old) }
     {

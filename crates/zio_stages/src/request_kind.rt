@@ -2,11 +2,12 @@
 
 ghost use Rattle.std.specs.Prelude.{◌≡◌, ℕ};
 ghost use Rattle.zio_script.specs.Requests.{kind_of};
-ghost use Rattle.zio_stages.specs.RequestKinds.{has_gang_stages, is_gang_tree, is_stored};
+ghost use Rattle.zio_stages.specs.RequestKinds.{has_gang_stages, is_gang_tree, is_stored, points_to_gang};
 ghost use Rattle.zio_stages.specs.RequestOwns.{IsOwnSeat};
 
 use crate::family::Seat;
 use crate::request_node::{Own, RequestNode};
+use zio_blkptr::decode;
 use zio_gang::Tree;
 use zio_script::{Failmode, Work};
 use zio_types::Kind;
@@ -19,7 +20,7 @@ impl RequestNode {
         self.waiting.request.work.kind()
     }
 
-    /// Whether its pipeline has the gang stages: those of a read or a free of a gang do, and of every claim.
+    /// Whether its pipeline has the gang stages: those of a read, a free or a claim of a gang do.
     pub fn has_gang_stages(&self) -> bool
         ensures { result ≡ has_gang_stages self.now.waiting.request.work self.now.waiting.block }
     {
@@ -28,7 +29,7 @@ impl RequestNode {
             Work::Read { .. } => is_gang_tree(&self.waiting.block),
             Work::Write { .. } => false,
             Work::Free { .. } => is_gang_tree(&self.waiting.block),
-            Work::Claim { .. } => true,
+            Work::Claim { pointer, .. } => points_to_gang(pointer),
         }
     }
 
@@ -88,5 +89,15 @@ pub(crate) fn is_gang_tree(tree: &Option<Tree>) -> bool
     match tree {
         Some(tree) => tree.bp.gang,
         None => false,
+    }
+}
+
+/// Whether the bytes of a pointer are a gang's.
+fn points_to_gang(bytes: &[u8; 128]) -> bool
+    ensures { result ≡ points_to_gang bytes.now }
+{
+    match decode(bytes) {
+        Ok(bp) => bp.gang,
+        Err(_) => false,
     }
 }

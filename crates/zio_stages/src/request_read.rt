@@ -42,6 +42,7 @@ ghost use Rattle.zio_stages.specs.RequestReads.{
   IsWholeWalk,
   IssuesBody,
   ReadsOn,
+  has_read_failed,
 };
 ghost use Rattle.zio_stages.specs.ReadCounts.{
   AsksMore,
@@ -261,6 +262,22 @@ impl RequestNode {
         match &self.own {
             Own::Read(own) => own.vdev_io_done(tops),
             _ => IoNext::On,
+        }
+    }
+
+    /// Whether of the body that the node reads itself no copy was good.
+    pub fn has_read_failed(&self) -> bool
+        ensures { result ≡ has_read_failed self.now.own }
+    {
+        match &self.own {
+            Own::Read(own) => own.has_body_failed(),
+            Own::Due
+            | Own::Write(_)
+            | Own::Stored(_)
+            | Own::Free(_)
+            | Own::Claim(_)
+            | Own::Found(_)
+            | Own::Over => false,
         }
     }
 

@@ -31,7 +31,7 @@ returns-in-On-clause-over c = record {
 }
 
 pub returns-in-More-clause-stages : goal.returns-in-More-clause-stages
-returns-in-More-clause-stages c = inr (goes_back (Copies c.args.self.now) _ c.requires.stage refl, refl)
+returns-in-More-clause-stages c = inr (inl (goes_back (Copies c.args.self.now) _ c.requires.stage refl, refl))
 
 pub returns-in-On-clause-stages : goal.returns-in-On-clause-stages
 returns-in-On-clause-stages c = inl (copies_lead c.args.self.now VdevIoDone c.next-self.result c.requires.stage c.next-self.ensures)

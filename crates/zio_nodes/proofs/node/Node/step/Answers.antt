@@ -1,11 +1,13 @@
-use Rattle.std.proofs.Common.{refl, subst, sym}
+use Rattle.std.proofs.Common.{◌≡◌, refl, subst, sym, true}
 use Rattle.std.specs.Prelude.{IfOk, OnErr}
 use Rattle.zio_graph.specs.Stages.{Lessens}
 use Rattle.zio_nodes.specs.Nodes.{MovesWith, StaysWith, left_of, moved}
 use Rattle.zio_nodes.specs.StageMoves.{IsStageMove}
+use Rattle.zio_nodes.specs.Stalls.{LeavesGang, children_of, hands_many}
 use Rattle.zio_nodes.specs.declared.node.Node.{Node}
 use Rattle.zio_nodes.specs.declared.node.Node.TheVariants.{Copies, Heads, Leaf, Part, Request}
 use Rattle.zio_nodes.proofs.NodeLemmas.{turn_moves, turn_stays}
+use Rattle.zio_nodes.proofs.Stalling.{hands_bodies}
 use Rattle.zio_nodes.proofs.node.Node.step.Goals as goal
 
 pub returns-in-Leaf-clause-moves : goal.returns-in-Leaf-clause-moves
@@ -106,6 +108,11 @@ returns-in-Request-clause-left g c =
 pub returns-in-Request-clause-stages : goal.returns-in-Request-clause-stages
 returns-in-Request-clause-stages g c =
     subst (λ (n : Node). IfOk c.run_stage-in-Request.result (λ turn. IsStageMove n (moved (Request c.run_stage-in-Request.new.self) turn))) (sym c.in-Request.is) c.run_stage-in-Request.ensures.stages
+
+pub returns-in-Request-clause-leaves : goal.returns-in-Request-clause-leaves
+returns-in-Request-clause-leaves g c =
+    subst (λ (n : Node). hands_many n ≡ true → IfOk c.run_stage-in-Request.result (λ turn. LeavesGang (children_of n) (moved (Request c.run_stage-in-Request.new.self) turn))) (sym c.in-Request.is)
+    (λ many. let both = hands_bodies c.in-Request.at many in c.run_stage-in-Request.ensures.leaves both.0 both.1)
 
 pub returns-then-is_tree-clause-moves : goal.returns-then-is_tree-clause-moves
 returns-then-is_tree-clause-moves g c =

@@ -22,6 +22,7 @@ use Rattle.zio_masks.specs.Stages.{has}
 use Rattle.zio_stages.proofs.PartMoves.{does_nothing}
 use Rattle.zio_nodes.proofs.Refused.{on_err}
 use Rattle.zio_nodes.specs.StageMoves.{CallsFit, grows_at}
+use Rattle.zio_nodes.specs.declared.node.Node.TheVariants.{Part}
 use Rattle.zio_nodes.proofs.NodeLemmas.{no_calls}
 use Rattle.zio_nodes.proofs.StageAllows.{one_more_few}
 use Rattle.zio_types.specs.declared.request.ChildKind.TheVariants.{Gang}
@@ -36,7 +37,7 @@ returns-in-Ok-Member-clause-moves g c =
     record {
       calls = d.0;
       were_made = d.1;
-      fits = subst (λ (s : Stage). CallsFit s d.0) (sym c.requires.stage) d.3;
+      fits = subst (λ (s : Stage). CallsFit s (Part c.args.self.now) d.0) (sym c.requires.stage) d.3;
       moves = λ t st now.
           let hands : DoesThen t st d.0 (AllocatesThen t (Member child) (IsPartNode t at.node)) =
           subst (λ (a : Allocated). DoesThen t st d.0 (AllocatesThen t a (IsPartNode t at.node))) c.in-Ok-Member.field-0-is (d.2 t st now.is) in
@@ -51,7 +52,7 @@ returns-in-Ok-Placed-clause-moves g c =
     record {
       calls = d.0;
       were_made = d.1;
-      fits = subst (λ (s : Stage). CallsFit s d.0) (sym c.requires.stage) d.3;
+      fits = subst (λ (s : Stage). CallsFit s (Part c.args.self.now) d.0) (sym c.requires.stage) d.3;
       moves = λ t st now.
           let does : DoesThen t st d.0 (AllocatesThen t Placed (IsPartNode t at.node)) =
           subst (λ (a : Allocated). DoesThen t st d.0 (AllocatesThen t a (IsPartNode t at.node))) c.in-Ok-Placed.field-0-is (d.2 t st now.is) in
@@ -63,7 +64,7 @@ returns-in-Err-clause-refused g c =
     let d = c.in-Err.ensures.does in
     let was = c.args.self.now in
     let at : PartAt = record { node = c.dva_allocate.new.self; stage = was.stage; is_due = was.is_due } in
-    record { calls = d.0; were_made = d.1; fits = subst (λ (s : Stage). CallsFit s d.0) (sym c.requires.stage) d.3; goes = λ t st now. part_goes t st was at d.0 (d.2 t st now.is) refl }
+    record { calls = d.0; were_made = d.1; fits = subst (λ (s : Stage). CallsFit s (Part c.args.self.now) d.0) (sym c.requires.stage) d.3; goes = λ t st now. part_goes t st was at d.0 (d.2 t st now.is) refl }
 
 pub returns-in-Ok-Member-clause-over : goal.returns-in-Ok-Member-clause-over
 returns-in-Ok-Member-clause-over g c =
@@ -133,7 +134,7 @@ returns-in_err-room-clause-refused g c =
     on_err c.from_residual.result (record {
       calls = [];
       were_made = g.met.S.Services.made_none c.args.services.now;
-      fits = no_calls at.stage;
+      fits = no_calls at.stage (Part at);
       goes = λ t st now. part_goes t st at at [] (does_nothing t st _ now.is) refl;
     })
 

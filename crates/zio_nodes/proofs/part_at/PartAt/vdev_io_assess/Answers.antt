@@ -74,7 +74,7 @@ returns-clause-left c =
 pub returns-then-goes_again-clause-stages : goal.returns-then-goes_again-clause-stages
 returns-then-goes_again-clause-stages c =
     let again = c.vdev_io_assess-goes_again.ensures.again c.if-goes_again.true in
-    inr (goes_again (Part c.args.self.now) _ c.requires.stage again.0 again.1, refl)
+    inr (inl (goes_again (Part c.args.self.now) _ c.requires.stage again.0 again.1, refl))
 
 pub returns-clause-stages : goal.returns-clause-stages
 returns-clause-stages c =

@@ -73,7 +73,7 @@ returns-in-On-clause-left c =
     omega (arith, now, was, ap part_stages on, ap part_stages c.requires.stage)
 
 pub returns-in-More-clause-stages : goal.returns-in-More-clause-stages
-returns-in-More-clause-stages c = inr (goes_back (Part c.args.self.now) _ c.requires.stage refl, refl)
+returns-in-More-clause-stages c = inr (inl (goes_back (Part c.args.self.now) _ c.requires.stage refl, refl))
 
 pub returns-in-On-clause-stages : goal.returns-in-On-clause-stages
 returns-in-On-clause-stages c =

@@ -8,11 +8,8 @@ unreachable-requires c =
     let at = c.args.self.now in
     let work = is_claim at.node.waiting.request.work c.requires.kind in
     let d = c.in_default in
-    claim_known at.stage at.is_due at.node.own (claim_stands c.args.tops.now at at.stage work c.requires.over refl c.requires.behind)
-    d.not-GangAssemble d.not-GangIssue c.requires.other d.not-Ready c.requires.before
-
-pub returns-in-GangIssue-clause-moves : goal.returns-in-GangIssue-clause-moves
-returns-in-GangIssue-clause-moves c = c.claim_gang_issue.ensures.moves c.args.tops.now
+    claim_known at.stage at.is_due at.node.own _ (claim_stands c.args.tops.now at at.stage work c.requires.over refl c.requires.behind)
+    d.not-GangAssemble c.requires.issue c.requires.other d.not-Ready c.requires.before
 
 pub returns-in-Ready-clause-moves : goal.returns-in-Ready-clause-moves
 returns-in-Ready-clause-moves c = c.claim_ready.ensures.moves c.args.tops.now

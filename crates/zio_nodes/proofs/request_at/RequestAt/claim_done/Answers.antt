@@ -6,6 +6,7 @@ use Rattle.zio_types.specs.declared.request.Phase.TheVariants.{Done as DonePhase
 use Rattle.zio_children.specs.RequestKids.{is_ended}
 use Rattle.zio_stages.specs.RequestClaims.{HasEndedClaim}
 use Rattle.zio_graph.specs.Stages.{told_cost}
+use Rattle.zio_stages.specs.RequestKinds.{points_to_gang}
 use Rattle.zio_nodes.specs.OwnAts.{IsClaimAtStage}
 use Rattle.zio_nodes.specs.declared.node.Node.TheVariants.{Request}
 use Rattle.zio_nodes.specs.declared.request_at.RequestAt.{RequestAt}
@@ -44,7 +45,7 @@ end_found-requires c =
       over = (
         over.0,
         claim_over over.0 at new at.stage at.is_due work over.1 behind c.end_claim.ensures.rest (c.end_claim.ensures.over over.0 over.1.over.own)
-            (subst (λ (s : Stage). IsClaimAtStage s at.is_due new.own) (sym c.requires.stage)
+            (subst (λ (s : Stage). IsClaimAtStage s at.is_due new.own (points_to_gang work.bytes)) (sym c.requires.stage)
             (found_stands HasEndedClaim new.own c.end_claim.ensures.found)),
       );
       stage = c.requires.stage;
@@ -72,7 +73,7 @@ returns-clause-over c = λ tops h.
     let behind = not_start at.stage Done c.requires.stage (λ e. cc) in
     let new = c.end_claim.new.self in
     c.end_found.ensures.over tops (claim_over tops at new at.stage at.is_due work h behind c.end_claim.ensures.rest (c.end_claim.ensures.over tops h.over.own)
-    (subst (λ (s : Stage). IsClaimAtStage s at.is_due new.own) (sym c.requires.stage)
+    (subst (λ (s : Stage). IsClaimAtStage s at.is_due new.own (points_to_gang work.bytes)) (sym c.requires.stage)
     (found_stands HasEndedClaim new.own c.end_claim.ensures.found)))
 
 pub returns-clause-left : goal.returns-clause-left

@@ -7,6 +7,7 @@ use Rattle.zio_graph.specs.Stages.{told_cost}
 use Rattle.zio_frames.specs.Frames.{fresh_stack}
 use Rattle.zio_stages.specs.HeadsNodes.{IsHeadsNode}
 use Rattle.zio_stages.specs.RequestClaims.{IsClaimingWith, IsPastDue, IsWalkDue}
+use Rattle.zio_stages.specs.RequestKinds.{points_to_gang}
 use Rattle.zio_stages.specs.RequestNodes.{IsRequestNode}
 use Rattle.zio_stages.specs.RequestReads.{HandsWalk, IsWalkOver, IsWholeWalk}
 use Rattle.zio_stages.specs.declared.heads_node.HeadsNode.{HeadsNode}
@@ -23,7 +24,7 @@ use Rattle.zio_nodes.proofs.OwnBare.{begun_bare, does_more, grows_bare, next_bar
 use Rattle.zio_nodes.proofs.ClaimLemmas.{begins_most, begun_claim, rest_then, stage_less, walk_less}
 use Rattle.zio_masks.specs.declared.pipeline.TheConstants.{CLAIM}
 use Rattle.zio_types.specs.declared.request.Kind.TheVariants.{Claim as ClaimKind}
-use Rattle.zio_nodes.proofs.StageLeads.{gang_leads, gang_of_claim}
+use Rattle.zio_nodes.proofs.StageLeads.{gang_leads, gang_of, gang_of_claim, up_to_kept}
 use Rattle.zio_nodes.proofs.Refused.{on_err}
 use Rattle.zio_nodes.proofs.StageAllows.{grows_so}
 use Rattle.zio_nodes.proofs.request_at.RequestAt.claim_gang_assemble.Goals as goal
@@ -41,7 +42,7 @@ begin_claim-requires c =
     let behind = not_start at.stage GangAssemble c.requires.stage (λ e. cc) in
     let now = claim_stands c.args.tops.now at GangAssemble work c.requires.over c.requires.stage (λ e. cc) in
     record {
-      begun = begun_claim at.is_due r.own now;
+      begun = begun_claim at.is_due _ r.own now;
       handed = handed_at c.args.tops.now at c.requires.over behind;
       claim = claim_work r.waiting.request.work work;
     }
@@ -73,7 +74,7 @@ returns-in-Ok-Some-clause-moves c =
     let new = c.gang_assemble_claim.new.self in
     let rest = rest_then r mid new c.begin_claim.ensures.rest c.gang_assemble_claim.ensures.rest in
     let was = claim_stands tops at GangAssemble work c.requires.over c.requires.stage (λ e. cc) in
-    let most = begins_most at.is_due r mid was c.begin_claim.ensures.still in
+    let most = begins_most at.is_due _ r mid was c.begin_claim.ensures.still in
     let walk = c.in-Ok-Some.walk in
     grows_bare tops at new at.stage at.is_due (Heads c.new-child.result) Gang (λ t op. IsHeadsNode t walk (fresh_stack op))
     (λ t st same is. does_more t st (IsRequestNode t mid) _ (c.in-Ok.ensures.does t st same is)
@@ -92,9 +93,9 @@ returns-in-Ok-Some-clause-over c =
     let new = c.gang_assemble_claim.new.self in
     let rest = rest_then r mid new c.begin_claim.ensures.rest c.gang_assemble_claim.ensures.rest in
     let was = claim_stands tops at GangAssemble work c.requires.over c.requires.stage (λ e. cc) in
-    let most = begins_most at.is_due r mid was c.begin_claim.ensures.still in (
+    let most = begins_most at.is_due _ r mid was c.begin_claim.ensures.still in (
       claim_over tops at new at.stage at.is_due work c.requires.over behind rest c.gang_assemble_claim.ensures.over
-          (subst (λ (s : Stage). IsClaimAtStage s at.is_due new.own) (sym c.requires.stage) (inr c.gang_assemble_claim.ensures.claims)),
+          (subst (λ (s : Stage). IsClaimAtStage s at.is_due new.own (points_to_gang work.bytes)) (sym c.requires.stage) (inr c.gang_assemble_claim.ensures.claims, was.1)),
       c.new-child.ensures.over tops (subst (λ (o : Option HeadsNode). IsWalkOver tops o) c.in-Ok-Some.field-0-is c.in-Ok-Some.ensures.child_over),
     )
 
@@ -109,7 +110,7 @@ returns-in-Ok-Some-clause-left c =
     let new = c.gang_assemble_claim.new.self in
     let rest = rest_then r mid new c.begin_claim.ensures.rest c.gang_assemble_claim.ensures.rest in
     let was = claim_stands tops at GangAssemble work c.requires.over c.requires.stage (λ e. cc) in
-    let most = begins_most at.is_due r mid was c.begin_claim.ensures.still in
+    let most = begins_most at.is_due _ r mid was c.begin_claim.ensures.still in
     let whole = subst (λ (o : Option HeadsNode). IfSome o IsWholeWalk) c.in-Ok-Some.field-0-is c.in-Ok-Some.ensures.whole in
     let goes = subst (λ (o : Option HeadsNode). IfSome o (λ w. IsClaimingWith (λ w. IsWalkDue w.block w.step) mid.own × IsClaimingWith (λ w. IsPastDue w.block w.step) new.own)) c.in-Ok-Some.field-0-is c.in-Ok-Some.ensures.goes in
     omega (arith, claim_less at new at.stage at.is_due (walk_max 8 + 1) work behind behind rest (walk_less r.own mid.own new.own at.stage most goes.0 goes.1), c.new-child.ensures.left ∙ ap walk_max whole.1)
@@ -125,7 +126,7 @@ returns-in-Ok-None-clause-moves c =
     let new = c.gang_assemble_claim.new.self in
     let rest = rest_then r mid new c.begin_claim.ensures.rest c.gang_assemble_claim.ensures.rest in
     let was = claim_stands tops at GangAssemble work c.requires.over c.requires.stage (λ e. cc) in
-    let most = begins_most at.is_due r mid was c.begin_claim.ensures.still in
+    let most = begins_most at.is_due _ r mid was c.begin_claim.ensures.still in
     let none = c.in-Ok-None.is ∙ ap (λ (o : Option HeadsNode). Ok o) c.in-Ok-None.field-0-is in
     let same = c.gang_assemble_claim.ensures.still none in
     next_bare tops at new c.next-self.result at.is_due
@@ -144,12 +145,12 @@ returns-in-Ok-None-clause-over c =
     let new = c.gang_assemble_claim.new.self in
     let rest = rest_then r mid new c.begin_claim.ensures.rest c.gang_assemble_claim.ensures.rest in
     let was = claim_stands tops at GangAssemble work c.requires.over c.requires.stage (λ e. cc) in
-    let most = begins_most at.is_due r mid was c.begin_claim.ensures.still in
+    let most = begins_most at.is_due _ r mid was c.begin_claim.ensures.still in
     let none = c.in-Ok-None.is ∙ ap (λ (o : Option HeadsNode). Ok o) c.in-Ok-None.field-0-is in
     let same = c.gang_assemble_claim.ensures.still none in
     claim_over tops at new c.next-self.result at.is_due work c.requires.over behind rest c.gang_assemble_claim.ensures.over
-    (subst (λ (s : Stage). IsClaimAtStage s at.is_due new.own)
-    (sym (claim_assembled c.with_gang.result c.next-self.result c.with_gang.ensures.stages c.next-self.ensures)) (c.gang_assemble_claim.ensures.begun none))
+    (subst (λ (s : Stage). IsClaimAtStage s at.is_due new.own (points_to_gang work.bytes))
+    (sym (claim_assembled c.with_gang.result c.next-self.result c.with_gang.ensures.stages c.next-self.ensures)) (c.gang_assemble_claim.ensures.begun none, was.1))
 
 pub returns-in-Ok-None-clause-left : goal.returns-in-Ok-None-clause-left
 returns-in-Ok-None-clause-left c =
@@ -162,7 +163,7 @@ returns-in-Ok-None-clause-left c =
     let new = c.gang_assemble_claim.new.self in
     let rest = rest_then r mid new c.begin_claim.ensures.rest c.gang_assemble_claim.ensures.rest in
     let was = claim_stands tops at GangAssemble work c.requires.over c.requires.stage (λ e. cc) in
-    let most = begins_most at.is_due r mid was c.begin_claim.ensures.still in
+    let most = begins_most at.is_due _ r mid was c.begin_claim.ensures.still in
     let none = c.in-Ok-None.is ∙ ap (λ (o : Option HeadsNode). Ok o) c.in-Ok-None.field-0-is in
     let same = c.gang_assemble_claim.ensures.still none in
     let is = claim_assembled c.with_gang.result c.next-self.result c.with_gang.ensures.stages c.next-self.ensures in
@@ -185,7 +186,7 @@ returns-in-Err-clause-refused c =
     let new = c.gang_assemble_claim.new.self in
     let rest = rest_then r mid new c.begin_claim.ensures.rest c.gang_assemble_claim.ensures.rest in
     let was = claim_stands tops at GangAssemble work c.requires.over c.requires.stage (λ e. cc) in
-    let most = begins_most at.is_due r mid was c.begin_claim.ensures.still in
+    let most = begins_most at.is_due _ r mid was c.begin_claim.ensures.still in
     begun_bare tops at new at.stage at.is_due
     (λ t st on is. does_more t st (IsRequestNode t mid) _ (c.in-Ok.ensures.does t st on is) (λ after begun. subst (λ (x : RequestNode). IsRequestNode t x after) (sym c.in-Err.ensures.err) begun)) refl
     (claim_gave_same r new work rest)
@@ -194,8 +195,11 @@ pub returns-in-Ok-None-clause-stages : goal.returns-in-Ok-None-clause-stages
 returns-in-Ok-None-clause-stages c =
     let at = c.args.self.now in
     let r = at.node in
+    let work = is_claim r.waiting.request.work c.requires.kind in
+    let was = claim_stands c.args.tops.now at GangAssemble work c.requires.over c.requires.stage (λ e. cc) in
     inl (gang_leads at ClaimKind CLAIM c.with_gang.result GangAssemble c.next-self.result c.requires.kind c.requires.stage
-    (gang_of_claim r.waiting.request.work r.waiting.block c.requires.kind) (λ s. refl) c.with_gang.ensures.stages c.next-self.ensures)
+    (gang_of_claim r.waiting.request.work r.waiting.block work.name work.bytes work.is ∙ was.1) (λ s. refl) c.with_gang.ensures.stages
+    (up_to_kept (gang_of at) c.next-self.result GangIssue (claim_assembled c.with_gang.result c.next-self.result c.with_gang.ensures.stages c.next-self.ensures) refl) c.next-self.ensures)
 
 pub returns-in-Ok-Some-clause-stages : goal.returns-in-Ok-Some-clause-stages
 returns-in-Ok-Some-clause-stages c = let g = grows_so (Request c.args.self.now) GangAssemble Gang c.requires.stage refl (λ e. cc) in (refl, g.0, g.1)

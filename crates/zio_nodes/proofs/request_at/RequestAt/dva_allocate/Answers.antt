@@ -14,7 +14,7 @@ use Rattle.zio_stages.specs.declared.part_node.Allocated.TheVariants.{Member, Pl
 use Rattle.zio_stages.specs.declared.request_node.RequestNode.{RequestNode}
 use Rattle.zio_nodes.specs.Bounds.{part_left}
 use Rattle.zio_nodes.specs.Told.{is_told}
-use Rattle.zio_nodes.specs.declared.node.Node.TheVariants.{Part}
+use Rattle.zio_nodes.specs.declared.node.Node.TheVariants.{Part, Request}
 use Rattle.zio_nodes.specs.declared.request_at.RequestAt.{RequestAt}
 use Rattle.zio_nodes.proofs.KidMarks.{over_own}
 use Rattle.zio_nodes.proofs.RequestMoves.{no_room_with, request_does, request_grows}
@@ -53,7 +53,7 @@ returns-in-Ok-Member-clause-moves g c =
     record {
       calls = does.0;
       were_made = does.1;
-      fits = subst (λ (s : Stage). CallsFit s does.0) (sym c.requires.stage) does.3;
+      fits = subst (λ (s : Stage). CallsFit s (Request c.args.self.now) does.0) (sym c.requires.stage) does.3;
       moves = λ t st now.
           request_grows t st at _ (Part c.new-child.result) Gang (IsFreshPart t c.in-Ok-Member.child) does.0
           (subst (λ (r : Result Allocated NoMemory). DoesThen t st does.0 (ComesTo t r (IsRequestNode t new))) ok (does.2 t st now.is))
@@ -101,7 +101,7 @@ returns-in-Ok-Placed-clause-moves g c =
     record {
       calls = does.0;
       were_made = does.1;
-      fits = subst (λ (s : Stage). CallsFit s does.0) (sym c.requires.stage) does.3;
+      fits = subst (λ (s : Stage). CallsFit s (Request c.args.self.now) does.0) (sym c.requires.stage) does.3;
       moves = λ t st now.
           request_does t st at _ does.0 (subst (λ (r : Result Allocated NoMemory). DoesThen t st does.0 (ComesTo t r (IsRequestNode t new))) ok (does.2 t st now.is))
           (ap is_told (write_placed c.next-self.result c.next-self.ensures) ∙ sym (ap is_told c.requires.stage)) gave;
@@ -143,7 +143,7 @@ returns-in-Err-clause-refused g c =
     record {
       calls = does.0;
       were_made = does.1;
-      fits = subst (λ (s : Stage). CallsFit s does.0) (sym c.requires.stage) does.3;
+      fits = subst (λ (s : Stage). CallsFit s (Request c.args.self.now) does.0) (sym c.requires.stage) does.3;
       goes = λ t st now.
           request_does t st at _ does.0 (subst (λ (r : Result Allocated NoMemory). DoesThen t st does.0 (ComesTo t r (IsRequestNode t new))) c.in-Err.is (does.2 t st now.is))
           refl gave;

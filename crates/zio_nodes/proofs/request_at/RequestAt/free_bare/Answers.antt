@@ -9,4 +9,4 @@ unreachable-requires c =
     let work = is_free at.node.waiting.request.work c.requires.kind in
     let d = c.in_default in
     free_known at.stage at.is_due at.node.own at.node.waiting.block (free_stands c.requires.over.0 at at.stage work c.requires.over.1 refl c.requires.behind)
-    d.not-FreeBpInit d.not-IssueAsync d.not-GangAssemble d.not-GangIssue c.requires.other d.not-Ready c.requires.before
+    d.not-FreeBpInit d.not-IssueAsync d.not-GangAssemble c.requires.issue c.requires.other d.not-Ready c.requires.before

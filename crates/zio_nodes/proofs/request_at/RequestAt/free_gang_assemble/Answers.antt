@@ -23,10 +23,10 @@ use Rattle.zio_nodes.proofs.OwnLefts.{free_gave_same, free_less, none_freed}
 use Rattle.zio_nodes.proofs.OwnOver.{free_over, free_stands, is_free, not_start}
 use Rattle.zio_nodes.proofs.OwnStages.{free_assembled}
 use Rattle.zio_nodes.proofs.OwnBare.{grows_bare, next_same, refused_bare}
-use Rattle.zio_nodes.proofs.FreeLemmas.{kept_all, may_give, none_given, not_found, stage_less_same, walk_less}
+use Rattle.zio_nodes.proofs.FreeLemmas.{kept_all, may_give, none_given, none_yet, not_found, stage_less_same, walk_less}
 use Rattle.zio_masks.specs.declared.pipeline.TheConstants.{FREE}
 use Rattle.zio_types.specs.declared.request.Kind.TheVariants.{Free as FreeKind}
-use Rattle.zio_nodes.proofs.StageLeads.{gang_leads, gang_of_free}
+use Rattle.zio_nodes.proofs.StageLeads.{gang_leads, gang_of, gang_of_free, up_to_kept}
 use Rattle.zio_nodes.proofs.Refused.{on_err}
 use Rattle.zio_nodes.proofs.StageAllows.{grows_so}
 use Rattle.zio_nodes.proofs.request_at.RequestAt.free_gang_assemble.Goals as goal
@@ -120,8 +120,9 @@ returns-in-Ok-None-clause-over c = λ tops h.
     free_over tops at new c.next-self.result at.is_due work h behind c.gang_assemble_free.ensures.rest (c.gang_assemble_free.ensures.over tops h.over.own)
     (subst (λ (s : Stage). IsFreeAtStage s at.is_due new.own new.waiting.block)
     (sym (free_assembled c.with_gang.result c.next-self.result c.with_gang.ensures.stages c.next-self.ensures)) (
-      kept_all _ new.own c.gang_assemble_free.ensures.frees (c.gang_assemble_free.ensures.given ∙ none_given r.own now.0),
+      none_yet new.waiting.block new.own (kept_all _ new.own c.gang_assemble_free.ensures.frees (c.gang_assemble_free.ensures.given ∙ none_given r.own now.0)),
       c.gang_assemble_free.ensures.begun none now.1,
+      ap (λ (x : Waiting). is_gang_tree x.block) c.gang_assemble_free.ensures.waiting ∙ now.1,
     ))
 
 pub returns-in-Ok-None-clause-left : goal.returns-in-Ok-None-clause-left
@@ -153,7 +154,8 @@ returns-in-Ok-None-clause-stages c =
     let work = is_free r.waiting.request.work c.requires.kind in
     let now = free_stands c.requires.over.0 at GangAssemble work c.requires.over.1 c.requires.stage (λ e. cc) in
     inl (gang_leads at FreeKind FREE c.with_gang.result GangAssemble c.next-self.result c.requires.kind c.requires.stage
-    (gang_of_free r.waiting.request.work r.waiting.block c.requires.kind ∙ now.1) (λ s. refl) c.with_gang.ensures.stages c.next-self.ensures)
+    (gang_of_free r.waiting.request.work r.waiting.block c.requires.kind ∙ now.1) (λ s. refl) c.with_gang.ensures.stages
+    (up_to_kept (gang_of at) c.next-self.result GangIssue (free_assembled c.with_gang.result c.next-self.result c.with_gang.ensures.stages c.next-self.ensures) refl) c.next-self.ensures)
 
 pub returns-in_err-room-clause-refused : goal.returns-in_err-room-clause-refused
 returns-in_err-room-clause-refused c = λ tops.

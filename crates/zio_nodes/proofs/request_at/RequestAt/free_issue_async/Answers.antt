@@ -11,8 +11,8 @@ use Rattle.zio_nodes.proofs.OwnOver.{free_over, free_stands, is_free, not_start}
 use Rattle.zio_nodes.proofs.OwnStages.{behind_issue, free_queued}
 use Rattle.zio_nodes.proofs.OwnBare.{still_bare}
 use Rattle.zio_nodes.proofs.FirstStages.{has_done}
-use Rattle.zio_nodes.proofs.FreeLemmas.{free_mask, issue_behind, issue_stages, issue_stands, issue_untold, stage_less}
-use Rattle.zio_nodes.proofs.StageLeads.{mask_leads}
+use Rattle.zio_nodes.proofs.FreeLemmas.{free_mask, issue_behind, issue_stages, issue_stands, issue_untold, stage_less, issue_leads}
+use Rattle.zio_nodes.proofs.StageLeads.{mask_leads, gang_of_free}
 use Rattle.zio_nodes.proofs.request_at.RequestAt.free_issue_async.Goals as goal
 
 pub next-self-requires-clause-ends : goal.next-self-requires-clause-ends
@@ -63,4 +63,10 @@ returns-clause-left c =
 
 pub returns-clause-stages : goal.returns-clause-stages
 returns-clause-stages c =
-    inl (mask_leads c.args.self.now c.mask-mask.result IssueAsync c.next-self.result c.requires.stage c.mask-mask.ensures c.next-self.ensures)
+    let at = c.args.self.now in
+    let r = at.node in
+    let gang = is_gang_tree r.waiting.block in
+    let same = free_mask r.waiting.request.work r.waiting.block c.mask-mask.result (is_free r.waiting.request.work c.requires.kind) c.mask-mask.ensures in
+    let is = free_queued gang c.mask-mask.result c.next-self.result same c.next-self.ensures in
+    inl (mask_leads at c.mask-mask.result IssueAsync c.next-self.result c.requires.stage c.mask-mask.ensures
+    (issue_leads at c.next-self.result gang (gang_of_free r.waiting.request.work r.waiting.block c.requires.kind) is) c.next-self.ensures)

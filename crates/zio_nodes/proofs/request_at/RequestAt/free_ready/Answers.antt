@@ -9,7 +9,7 @@ use Rattle.zio_nodes.proofs.OwnLefts.{free_less}
 use Rattle.zio_nodes.proofs.OwnOver.{free_no_write, free_over, free_stands, is_free, not_start}
 use Rattle.zio_nodes.proofs.OwnStages.{free_told}
 use Rattle.zio_nodes.proofs.FreeLemmas.{told_less}
-use Rattle.zio_nodes.proofs.StageLeads.{free_leads}
+use Rattle.zio_nodes.proofs.StageLeads.{free_leads, gang_of, last_kept}
 use Rattle.zio_nodes.proofs.request_at.RequestAt.free_ready.Goals as goal
 
 pub tell_none-requires : goal.tell_none-requires
@@ -21,7 +21,8 @@ tell_none-requires c =
     record {
       other = free_no_write r.waiting.request.work work;
       stage = c.requires.stage;
-      leads = free_leads at Ready c.next-to.result c.requires.kind c.requires.stage (lit≤ tt) c.next-to.ensures;
+      leads = free_leads at Ready c.next-to.result c.requires.kind c.requires.stage (lit≤ tt)
+          (last_kept (gang_of at) c.next-to.result Done (free_told c.next-to.result c.next-to.ensures) refl) c.next-to.ensures;
       behind = ap is_told (free_told c.next-to.result c.next-to.ensures);
     }
 

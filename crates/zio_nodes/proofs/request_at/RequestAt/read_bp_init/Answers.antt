@@ -9,8 +9,8 @@ use Rattle.zio_nodes.proofs.OwnBare.{next_bare, refused_bare}
 use Rattle.zio_nodes.proofs.OwnLefts.{read_gave_same, read_less}
 use Rattle.zio_nodes.proofs.OwnOver.{handed_at, is_read, not_start, read_over, read_stands, read_work}
 use Rattle.zio_nodes.proofs.OwnStages.{behind_init, read_begun}
-use Rattle.zio_nodes.proofs.ReadStages.{init_behind, init_less, init_stands, init_untold, read_mask}
-use Rattle.zio_nodes.proofs.StageLeads.{mask_leads}
+use Rattle.zio_nodes.proofs.ReadStages.{init_behind, init_less, init_stands, init_untold, read_mask, init_leads}
+use Rattle.zio_nodes.proofs.StageLeads.{mask_leads, gang_of_read}
 use Rattle.zio_nodes.proofs.request_at.RequestAt.read_bp_init.Goals as goal
 
 pub read_bp_init-requires : goal.read_bp_init-requires
@@ -82,4 +82,10 @@ returns-in-Err-clause-refused c = λ tops.
 
 pub returns-in-Ok-clause-stages : goal.returns-in-Ok-clause-stages
 returns-in-Ok-clause-stages c =
-    inl (mask_leads c.args.self.now c.mask-mask.result ReadBpInit c.next-self.result c.requires.stage c.mask-mask.ensures c.next-self.ensures)
+    let at = c.args.self.now in
+    let r = at.node in
+    let gang = is_gang_tree r.waiting.block in
+    let is = read_begun gang c.mask-mask.result c.next-self.result
+    (read_mask r.waiting.request.work r.waiting.block c.mask-mask.result (is_read r.waiting.request.work c.requires.kind) c.mask-mask.ensures) c.next-self.ensures in
+    inl (mask_leads at c.mask-mask.result ReadBpInit c.next-self.result c.requires.stage c.mask-mask.ensures
+    (init_leads at c.next-self.result gang (gang_of_read r.waiting.request.work r.waiting.block c.requires.kind) is) c.next-self.ensures)

@@ -9,7 +9,7 @@ use Rattle.zio_nodes.proofs.OwnBare.{still_bare}
 use Rattle.zio_nodes.proofs.OwnLefts.{read_less}
 use Rattle.zio_nodes.proofs.OwnOver.{is_read, not_start, read_over, read_stands}
 use Rattle.zio_nodes.proofs.ReadStages.{read_verified, stage_less}
-use Rattle.zio_nodes.proofs.StageLeads.{read_leads}
+use Rattle.zio_nodes.proofs.StageLeads.{gang_of, last_kept, read_leads}
 use Rattle.zio_nodes.proofs.request_at.RequestAt.read_checksum_verify.Goals as goal
 
 pub returns-clause-moves : goal.returns-clause-moves
@@ -42,4 +42,7 @@ returns-clause-left c =
     )
 
 pub returns-clause-stages : goal.returns-clause-stages
-returns-clause-stages c = inl (read_leads c.args.self.now ChecksumVerify c.next-self.result c.requires.kind c.requires.stage (lit≤ tt) c.next-self.ensures)
+returns-clause-stages c =
+    let at = c.args.self.now in
+    inl (read_leads at ChecksumVerify c.next-self.result c.requires.kind c.requires.stage (lit≤ tt)
+    (last_kept (gang_of at) c.next-self.result Done (read_verified c.next-self.result c.next-self.ensures) refl) c.next-self.ensures)

@@ -26,7 +26,7 @@ use Rattle.zio_nodes.proofs.ReadLemmas.{read_both}
 use Rattle.zio_nodes.proofs.ReadStages.{same_less, stage_less, walking_less, walks_still, with_map}
 use Rattle.zio_masks.specs.declared.pipeline.TheConstants.{READ}
 use Rattle.zio_types.specs.declared.request.Kind.TheVariants.{Read as ReadKind}
-use Rattle.zio_nodes.proofs.StageLeads.{gang_leads, gang_of_read}
+use Rattle.zio_nodes.proofs.StageLeads.{gang_leads, gang_of, gang_of_read, up_to_kept}
 use Rattle.zio_nodes.proofs.Refused.{on_err}
 use Rattle.zio_nodes.proofs.StageAllows.{grows_so}
 use Rattle.zio_nodes.proofs.request_at.RequestAt.read_gang_assemble.Goals as goal
@@ -153,7 +153,8 @@ returns-in-Ok-None-clause-stages c =
     inl (gang_leads at ReadKind READ c.with_gang.result GangAssemble c.next-self.result c.requires.kind c.requires.stage
     (gang_of_read r.waiting.request.work r.waiting.block c.requires.kind
     ∙ (read_stands c.requires.over.0 at GangAssemble (is_read r.waiting.request.work c.requires.kind) c.requires.over.1 c.requires.stage (λ e. cc)).0)
-    (λ s. refl) c.with_gang.ensures.stages c.next-self.ensures)
+    (λ s. refl) c.with_gang.ensures.stages
+    (up_to_kept (gang_of at) c.next-self.result GangIssue (read_assembled c.with_gang.result c.next-self.result c.with_gang.ensures.stages c.next-self.ensures) refl) c.next-self.ensures)
 
 pub returns-in-Ok-Some-clause-stages : goal.returns-in-Ok-Some-clause-stages
 returns-in-Ok-Some-clause-stages c = let g = grows_so (Request c.args.self.now) GangAssemble Gang c.requires.stage refl (λ e. cc) in (refl, g.0, g.1)

@@ -16,19 +16,17 @@ use Rattle.zio_stages.specs.declared.request_read.BodyStage.{BodyStage}
 use Rattle.zio_stages.proofs.BehindLemmas.{does_nothing}
 use Rattle.zio_nodes.specs.Bounds.{copies_max}
 use Rattle.zio_nodes.specs.Nodes.{MovesBare}
-use Rattle.zio_nodes.specs.OwnAts.{IsIssuing, IsReadAtStage, MayReadOne}
+use Rattle.zio_nodes.specs.OwnAts.{HasReadAll, IsIssuing, IsReadAtStage, MayReadOne}
 use Rattle.zio_nodes.specs.OwnBounds.{read_stages, reading_left}
 use Rattle.zio_nodes.specs.declared.node.Node.TheVariants.{Copies, Request}
 use Rattle.zio_nodes.specs.Told.{is_told}
 use Rattle.zio_nodes.proofs.OwnBare.{grows_bare, next_same, refused_bare, waits_bare}
 use Rattle.zio_nodes.proofs.OwnLefts.{read_gave_same, read_less}
 use Rattle.zio_nodes.proofs.OwnOver.{is_read, not_start, read_over, read_stands}
-use Rattle.zio_nodes.proofs.OwnStages.{read_issued}
+use Rattle.zio_nodes.proofs.OwnStages.{gang_issued}
 use Rattle.zio_nodes.proofs.ReadLemmas.{read_both}
 use Rattle.zio_nodes.proofs.ReadStages.{issues_still, issuing_less, same_less, stage_less, with_map}
-use Rattle.zio_masks.specs.declared.pipeline.TheConstants.{READ}
-use Rattle.zio_types.specs.declared.request.Kind.TheVariants.{Read as ReadKind}
-use Rattle.zio_nodes.proofs.StageLeads.{past_leads}
+use Rattle.zio_nodes.proofs.StageLeads.{cut_leads, gang_of_read}
 use Rattle.zio_nodes.proofs.Refused.{on_err}
 use Rattle.zio_nodes.proofs.StageAllows.{grows_so, stalls_so}
 use Rattle.std.specs.List.{list_any}
@@ -125,7 +123,7 @@ returns-in_default-clause-moves c =
     let now = read_stands tops at GangIssue work c.requires.over c.requires.stage (λ e. cc) in
     let on = c.in-Ok-On.is ∙ ap (λ (s : BodyStage). Ok s) c.in-Ok-On.field-0-is in
     let same = c.gang_issue_read.ensures.on on in
-    let is = read_issued c.with_gang.result c.next-self.result c.with_gang.ensures.stages c.next-self.ensures in
+    let is = gang_issued c.next-self.result c.next-self.ensures in
     next_same tops at new c.next-self.result at.is_due same (ap is_told is ∙ sym (ap is_told c.requires.stage))
 
 pub returns-in_default-clause-over : goal.returns-in_default-clause-over
@@ -139,11 +137,12 @@ returns-in_default-clause-over c =
     let now = read_stands tops at GangIssue work c.requires.over c.requires.stage (λ e. cc) in
     let on = c.in-Ok-On.is ∙ ap (λ (s : BodyStage). Ok s) c.in-Ok-On.field-0-is in
     let same = c.gang_issue_read.ensures.on on in
-    let is = read_issued c.with_gang.result c.next-self.result c.with_gang.ensures.stages c.next-self.ensures in
+    let is = gang_issued c.next-self.result c.next-self.ensures in
     let issuing = subst (λ (x : RequestNode). IsReadWith IsIssuing x.own) (sym same) now.1 in
+    let all = read_both IsIssuing (λ w. HasWalkBegun w → HasHandedAll w) HasReadAll new.own (λ w a b. (b a.2, a.0)) issuing (c.gang_issue_read.ensures.ended on now.0) in
     read_over tops at new c.next-self.result at.is_due work c.requires.over behind c.gang_issue_read.ensures.rest c.gang_issue_read.ensures.over
     (subst (λ (s : Stage). IsReadAtStage tops s at.is_due new.own new.waiting.block) (sym is)
-    (read_both IsIssuing (λ w. HasWalkBegun w → HasHandedAll w) MayReadOne new.own (λ w a b. inl (b a.2)) issuing (c.gang_issue_read.ensures.ended on now.0)))
+    (with_map HasReadAll MayReadOne new.own (λ w h. inl h.0) all, λ gang. all))
 
 pub returns-in_default-clause-left : goal.returns-in_default-clause-left
 returns-in_default-clause-left c =
@@ -156,7 +155,7 @@ returns-in_default-clause-left c =
     let now = read_stands tops at GangIssue work c.requires.over c.requires.stage (λ e. cc) in
     let on = c.in-Ok-On.is ∙ ap (λ (s : BodyStage). Ok s) c.in-Ok-On.field-0-is in
     let same = c.gang_issue_read.ensures.on on in
-    let is = read_issued c.with_gang.result c.next-self.result c.with_gang.ensures.stages c.next-self.ensures in
+    let is = gang_issued c.next-self.result c.next-self.ensures in
     omega (
       arith,
       read_less at new c.next-self.result at.is_due 1 work behind (not_start c.next-self.result Ready is (λ e. cc)) c.gang_issue_read.ensures.rest
@@ -170,8 +169,10 @@ returns-in-Err-clause-refused c = refused_bare c.args.tops.now c.args.self.now c
 
 pub returns-in_default-clause-stages : goal.returns-in_default-clause-stages
 returns-in_default-clause-stages c =
-    inl (past_leads c.args.self.now ReadKind READ c.with_gang.result GangIssue c.next-self.result c.requires.kind c.requires.stage (lit≤ tt) (λ s. refl)
-    c.with_gang.ensures.stages c.next-self.ensures)
+    let at = c.args.self.now in
+    let r = at.node in
+    let now = read_stands c.args.tops.now at GangIssue (is_read r.waiting.request.work c.requires.kind) c.requires.over c.requires.stage (λ e. cc) in
+    inl (cut_leads at GangIssue c.next-self.result c.requires.stage (gang_of_read r.waiting.request.work r.waiting.block c.requires.kind ∙ now.0) (lit≤ tt) c.next-self.ensures)
 
 pub returns-in-Ok-Body-clause-stages : goal.returns-in-Ok-Body-clause-stages
 returns-in-Ok-Body-clause-stages c = let g = grows_so (Request c.args.self.now) GangIssue Gang c.requires.stage refl (λ e. cc) in (refl, g.0, g.1)

@@ -13,7 +13,7 @@ use Rattle.zio_nodes.proofs.OwnBare.{still_bare, waits_bare}
 use Rattle.zio_nodes.proofs.OwnLefts.{read_less}
 use Rattle.zio_nodes.proofs.OwnOver.{is_read, not_start, read_over, read_stands}
 use Rattle.zio_nodes.proofs.ReadStages.{due_again, read_issued_all, stage_less, with_map}
-use Rattle.zio_nodes.proofs.StageLeads.{read_leads}
+use Rattle.zio_nodes.proofs.StageLeads.{gang_of, gang_of_read, plain_kept, read_leads}
 use Rattle.zio_nodes.proofs.StageAllows.{goes_back, stalls_so}
 use Rattle.zio_nodes.specs.declared.node.Node.TheVariants.{Request}
 use Rattle.zio_nodes.proofs.request_at.RequestAt.read_io_done.Goals as goal
@@ -39,7 +39,7 @@ returns-in-More-clause-over c =
     let work = is_read r.waiting.request.work c.requires.kind in
     let behind = not_start at.stage VdevIoDone c.requires.stage (λ e. cc) in
     let now = read_stands tops at VdevIoDone work c.requires.over c.requires.stage (λ e. cc) in
-    read_over tops at r VdevIoStart true work c.requires.over behind refl c.requires.over.over.own (with_map HasHandedAll MayReadOne r.own (λ w h. inl h) now.0, refl)
+    read_over tops at r VdevIoStart true work c.requires.over behind refl c.requires.over.over.own (with_map HasHandedAll MayReadOne r.own (λ w h. inl h) now.0, refl, now.2)
 
 pub returns-in-More-clause-left : goal.returns-in-More-clause-left
 returns-in-More-clause-left c =
@@ -72,7 +72,7 @@ returns-in-On-clause-over c =
     let now = read_stands tops at VdevIoDone work c.requires.over c.requires.stage (λ e. cc) in
     read_over tops at r c.next-self.result false work c.requires.over behind refl c.requires.over.over.own
     (subst (λ (s : Stage). IsReadAtStage tops s false r.own r.waiting.block) (sym (read_issued_all c.next-self.result c.next-self.ensures))
-    (now.0, c.vdev_io_done_read.ensures.due c.in-On.is))
+    (now.0, c.vdev_io_done_read.ensures.due c.in-On.is, now.2))
 
 pub returns-in-On-clause-left : goal.returns-in-On-clause-left
 returns-in-On-clause-left c =
@@ -89,10 +89,15 @@ returns-in-On-clause-left c =
     )
 
 pub returns-in-More-clause-stages : goal.returns-in-More-clause-stages
-returns-in-More-clause-stages c = inr (goes_back (Request c.args.self.now) _ c.requires.stage refl, refl)
+returns-in-More-clause-stages c = inr (inl (goes_back (Request c.args.self.now) _ c.requires.stage refl, refl))
 
 pub returns-in-On-clause-stages : goal.returns-in-On-clause-stages
-returns-in-On-clause-stages c = inl (read_leads c.args.self.now VdevIoDone c.next-self.result c.requires.kind c.requires.stage (lit≤ tt) c.next-self.ensures)
+returns-in-On-clause-stages c =
+    let at = c.args.self.now in
+    let r = at.node in
+    let now = read_stands c.args.tops.now at VdevIoDone (is_read r.waiting.request.work c.requires.kind) c.requires.over c.requires.stage (λ e. cc) in
+    inl (read_leads at VdevIoDone c.next-self.result c.requires.kind c.requires.stage (lit≤ tt)
+    (plain_kept (gang_of at) c.next-self.result (gang_of_read r.waiting.request.work r.waiting.block c.requires.kind ∙ now.2)) c.next-self.ensures)
 
 pub returns-in-Wait-clause-stages : goal.returns-in-Wait-clause-stages
 returns-in-Wait-clause-stages c =

@@ -19,11 +19,12 @@ use Rattle.zio_nodes.proofs.OwnOver.{is_read, not_start, read_over, read_stands}
 use Rattle.zio_nodes.proofs.ReadIos.{few_after, none_one, read_starts, still_reading}
 use Rattle.zio_nodes.proofs.ReadLemmas.{HasFewAsked, read_map, reading_less, start_less, started_all}
 use Rattle.zio_nodes.proofs.ReadStages.{both_after, read_started, reading_and, reading_most, same_less, stage_less, any_read}
-use Rattle.zio_nodes.proofs.StageLeads.{read_leads}
+use Rattle.zio_nodes.proofs.StageLeads.{gang_of, gang_of_read, plain_kept, read_leads}
 use Rattle.zio_nodes.proofs.Refused.{on_err}
 use Rattle.zio_types.specs.declared.request.ChildKind.TheVariants.{Vdev}
 use Rattle.zio_nodes.specs.declared.node.Node.TheVariants.{Request}
 use Rattle.zio_nodes.proofs.StageAllows.{grows_so}
+use Rattle.zio_stages.specs.RequestKinds.{is_gang_tree}
 use Rattle.zio_nodes.proofs.request_at.RequestAt.read_io_start.Goals as goal
 
 pub returns-in_err-room-clause-refused : goal.returns-in_err-room-clause-refused
@@ -66,6 +67,7 @@ returns-in-Ok-Some-clause-over c =
             read_map MayReadOne MayReadOne (StartsBody (Some leaf)) r.own new.own
                 (λ v w may s. inl (started_all tops (Some leaf) v w may s (λ e. absurd (cc)))) now.0 goes,
             now.1,
+            ap (λ x. is_gang_tree x.block) c.vdev_io_start_read.ensures.waiting ∙ now.2,
           )),
       c.new-child.ensures.stands,
     )
@@ -127,6 +129,7 @@ returns-in-Ok-None-clause-over c =
       read_map MayReadOne HasHandedAll (λ v w. StartsBody None v w × IsNoneDue tops w) r.own new.own (λ v w may s. started_all tops None v w may s.0 (λ e. s.1)) now.0
           (both_after (StartsBody None) (IsNoneDue tops) r.own new.own due goes),
       λ e. none_one tops new.own due,
+      ap (λ x. is_gang_tree x.block) c.vdev_io_start_read.ensures.waiting ∙ now.2,
     ))
 
 pub returns-in-Ok-None-clause-left : goal.returns-in-Ok-None-clause-left
@@ -164,7 +167,11 @@ returns-in-Err-clause-refused c =
 
 pub returns-in-Ok-None-clause-stages : goal.returns-in-Ok-None-clause-stages
 returns-in-Ok-None-clause-stages c =
-    inl (read_leads c.args.self.now VdevIoStart c.next-self.result c.requires.kind c.requires.stage (lit≤ tt) c.next-self.ensures)
+    let at = c.args.self.now in
+    let r = at.node in
+    let now = read_stands c.args.tops.now at VdevIoStart (is_read r.waiting.request.work c.requires.kind) c.requires.over c.requires.stage (λ e. cc) in
+    inl (read_leads at VdevIoStart c.next-self.result c.requires.kind c.requires.stage (lit≤ tt)
+    (plain_kept (gang_of at) c.next-self.result (gang_of_read r.waiting.request.work r.waiting.block c.requires.kind ∙ now.2)) c.next-self.ensures)
 
 pub returns-in-Ok-Some-clause-stages : goal.returns-in-Ok-Some-clause-stages
 returns-in-Ok-Some-clause-stages c = let g = grows_so (Request c.args.self.now) VdevIoStart Vdev c.requires.stage refl (λ e. cc) in (refl, g.0, g.1)

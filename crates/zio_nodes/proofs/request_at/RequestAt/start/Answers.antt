@@ -10,20 +10,20 @@ use Rattle.zio_stages.specs.declared.waiting.Waiting.{Waiting}
 use Rattle.zio_stages.specs.declared.request_node.RequestNode.{RequestNode}
 use Rattle.zio_stages.specs.declared.request_node.Start.{Start}
 use Rattle.zio_stages.specs.declared.request_node.Start.TheVariants.{AllOut, Child}
-use Rattle.zio_nodes.specs.RequestAts.{IsRequestOver}
+use Rattle.zio_nodes.specs.RequestAts.{IsRequestOver, is_kept}
 use Rattle.zio_nodes.specs.RequestBounds.{own_at, own_left, own_max, request_share}
 use Rattle.zio_nodes.specs.Told.{is_told}
 use Rattle.zio_nodes.specs.TreeAts.{IsTreeAt}
 use Rattle.zio_nodes.specs.declared.node.Node.TheVariants.{Request, Tree}
 use Rattle.zio_nodes.specs.declared.request_at.RequestAt.{RequestAt}
-use Rattle.zio_nodes.proofs.FirstStages.{first_of, first_stage, has_done}
+use Rattle.zio_nodes.proofs.FirstStages.{first_kept, first_of, first_stage, has_done}
 use Rattle.zio_nodes.proofs.KidMarks.{over_handed}
 use Rattle.zio_nodes.proofs.RequestBoundLemmas.{first_less, same_due_less}
 use Rattle.zio_nodes.proofs.RequestMoves.{no_room, request_goes, request_grows}
 use Rattle.zio_nodes.proofs.RequestStill.{gave_still}
 use Rattle.zio_nodes.proofs.StartLemmas.{first_stands, first_told, kid_grows, some_root, start_due, start_stays}
 use Rattle.zio_nodes.proofs.TreeAtLemmas.{hands_less}
-use Rattle.zio_nodes.proofs.StageLeads.{mask_leads}
+use Rattle.zio_nodes.proofs.StageLeads.{gang_of, mask_leads}
 use Rattle.zio_nodes.proofs.StageAllows.{grows_so}
 use Rattle.zio_nodes.proofs.request_at.RequestAt.start.Goals as goal
 
@@ -121,7 +121,11 @@ returns-in-Err-clause-refused c = λ tops t st now.
     request_goes t st c.args.self.now _ (subst (λ (x : RequestNode). IsRequestNode t x st) (sym same) now.is) refl (gave_still r new c.start.ensures.rest)
 
 pub returns-in-Ok-AllOut-clause-stages : goal.returns-in-Ok-AllOut-clause-stages
-returns-in-Ok-AllOut-clause-stages c = inl (mask_leads c.args.self.now c.mask-mask.result StartStage c.next-self.result c.requires.stage c.mask-mask.ensures c.next-self.ensures)
+returns-in-Ok-AllOut-clause-stages c =
+    let at = c.args.self.now in
+    let w = at.node.waiting in
+    let next = first_stage w.request.work w.block c.mask-mask.result c.next-self.result c.mask-mask.ensures c.next-self.ensures in
+    inl (mask_leads at c.mask-mask.result StartStage c.next-self.result c.requires.stage c.mask-mask.ensures (ap (is_kept (gang_of at)) next ∙ first_kept w.request.work w.block) c.next-self.ensures)
 
 pub returns-in_err-room-clause-refused : goal.returns-in_err-room-clause-refused
 returns-in_err-room-clause-refused c = λ tops. no_room tops c.args.self.now c.from_residual.result

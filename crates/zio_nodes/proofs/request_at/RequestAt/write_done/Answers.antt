@@ -80,7 +80,7 @@ returns-in-Ok-clause-moves g c =
     let unstored = sym c.is_stored.ensures ∙ c.if-is_stored.false in
     let gave = write_gave new kind ∙ ap (λ n. take n (made_by new.own)) c.in-Ok.ensures.none ∙ sym (none_gave at.node c.requires.kind unstored) in
     ends_behind g.S.Services.made (g.S.Services.tops c.args.services.now) c.args.services.now c.write_end-in-Ok.new.services at mid
-    c.write_end-in-Ok.result refl gave
+    c.write_end-in-Ok.result c.requires.stage refl gave
     (λ t st now. c.in-Ok.ensures.ends t st now.is) c.write_end-in-Ok.ensures.ends c.write_end-in-Ok.ensures.moves
 
 pub returns-in-Ok-clause-refused : goal.returns-in-Ok-clause-refused
@@ -93,7 +93,7 @@ returns-in-Ok-clause-refused g c =
     let unstored = sym c.is_stored.ensures ∙ c.if-is_stored.false in
     let gave = write_gave new kind ∙ ap (λ n. take n (made_by new.own)) c.in-Ok.ensures.none ∙ sym (none_gave at.node c.requires.kind unstored) in
     stays_behind g.S.Services.made (g.S.Services.tops c.args.services.now) c.args.services.now c.write_end-in-Ok.new.services at mid
-    c.write_end-in-Ok.result refl gave
+    c.write_end-in-Ok.result c.requires.stage refl gave
     (λ t st now. c.in-Ok.ensures.ends t st now.is) c.write_end-in-Ok.ensures.refused
 
 pub returns-in-Ok-clause-left : goal.returns-in-Ok-clause-left

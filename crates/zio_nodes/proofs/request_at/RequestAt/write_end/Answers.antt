@@ -39,7 +39,7 @@ returns-in_default-clause-refused g c =
     record {
       calls = calls_back gives.gone;
       were_made = gives.calls;
-      fits = subst (λ (s : Stage). CallsFit s (calls_back gives.gone)) (sym c.requires.stage) (all_returns gives.gone);
+      fits = subst (λ (s : Stage). CallsFit s (Request at) (calls_back gives.gone)) (sym c.requires.stage) (all_returns gives.gone);
       goes = λ t st now.
           request_gives t st at _ gives.gone (c.give_block_back.ensures.same t st now.is) (sym (ap is_told c.requires.stage)) (more_gave at.node mid gives.gone c.requires.kind more);
     }
@@ -58,7 +58,7 @@ returns-in-Ok-close_write-clause-moves g c =
     record {
       calls = calls_back gives.gone;
       were_made = gives.calls;
-      fits = subst (λ (s : Stage). CallsFit s (calls_back gives.gone)) (sym c.requires.stage) (all_returns gives.gone);
+      fits = subst (λ (s : Stage). CallsFit s (Request at) (calls_back gives.gone)) (sym c.requires.stage) (all_returns gives.gone);
       moves = λ t st now.
           let h = c.give_block_back.ensures.same t st now.is in
           subst (λ (o : Outcome). Ends {N = Node} nodes gave_of t (Request at) st (calls_back gives.gone) o) (sym is.1)
@@ -92,7 +92,7 @@ returns-in-Err-clause-refused g c =
     record {
       calls = calls_back gives.gone;
       were_made = gives.calls;
-      fits = subst (λ (s : Stage). CallsFit s (calls_back gives.gone)) (sym c.requires.stage) (all_returns gives.gone);
+      fits = subst (λ (s : Stage). CallsFit s (Request at) (calls_back gives.gone)) (sym c.requires.stage) (all_returns gives.gone);
       goes = λ t st now.
           request_gives t st at _ gives.gone (subst (λ (r : RequestNode). IsRequestNode t r st) (sym same) (c.give_block_back.ensures.same t st now.is))
           (sym (ap is_told c.requires.stage)) (same_gave mid c.in-Err.field-0.node same ∙ more_gave at.node mid gives.gone c.requires.kind more);

@@ -103,7 +103,7 @@ returns-then-vdev_io_assess_write-clause-stages c =
     let new = c.vdev_io_assess_write.new.self in
     let again = c.vdev_io_assess_write.ensures.again c.if-vdev_io_assess_write.true in
     let h = stands_in c.args.tops.now at.stage VdevIoAssess at.is_due at.node c.requires.kind c.requires.stage tt c.requires.over.stands in
-    inr (goes_again (Request at) _ c.requires.stage (write_pass _ at.node.own h.1 ∙ again.0) (write_pass _ new.own c.vdev_io_assess_write.ensures.issued ∙ again.1), refl)
+    inr (inl (goes_again (Request at) _ c.requires.stage (write_pass _ at.node.own h.1 ∙ again.0) (write_pass _ new.own c.vdev_io_assess_write.ensures.issued ∙ again.1), refl))
 
 pub returns-clause-stages : goal.returns-clause-stages
 returns-clause-stages c = inl (write_leads c.args.self.now VdevIoAssess c.next-self.result c.requires.kind c.requires.stage c.next-self.ensures)

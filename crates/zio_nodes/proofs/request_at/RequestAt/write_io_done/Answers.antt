@@ -70,7 +70,7 @@ returns-in-On-clause-left c =
     write_less at after VdevIoDone VdevIoAssess c.requires.kind c.requires.kind c.requires.stage (write_done c.next-self.result c.next-self.ensures) tt tt refl (omega arith)
 
 pub returns-in-More-clause-stages : goal.returns-in-More-clause-stages
-returns-in-More-clause-stages c = inr (goes_back (Request c.args.self.now) _ c.requires.stage refl, refl)
+returns-in-More-clause-stages c = inr (inl (goes_back (Request c.args.self.now) _ c.requires.stage refl, refl))
 
 pub returns-in-On-clause-stages : goal.returns-in-On-clause-stages
 returns-in-On-clause-stages c = inl (write_leads c.args.self.now VdevIoDone c.next-self.result c.requires.kind c.requires.stage c.next-self.ensures)

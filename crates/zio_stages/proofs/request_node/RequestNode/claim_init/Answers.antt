@@ -1,8 +1,11 @@
-use Rattle.std.proofs.Common.{Ok, ap, subst}
+use Rattle.std.proofs.Common.{Ok, ap, subst, ◌≡◌, ◌∙◌, false, sym}
 use Rattle.zio_stages.specs.RequestNodes.{IsOwnOver}
 use Rattle.zio_stages.specs.declared.request_node.Own.{Own}
-use Rattle.zio_stages.proofs.RequestClaimMoves.{ClaimsBytes, claim_begins, claim_goes_on}
+use Rattle.zio_stages.proofs.RequestClaimMoves.{ClaimsBytes, claim_begins, claim_goes_on, walks_at_once}
 use Rattle.zio_stages.proofs.RequestWriteLemmas.{idle_at}
+use Rattle.zio_blkptr.specs.Pointers.{pointer_of}
+use Rattle.zio_script.specs.declared.script.Work.{Work}
+use Rattle.zio_stages.specs.RequestKinds.{has_gang_stages, is_gang_pointer}
 use Rattle.zio_stages.proofs.request_node.RequestNode.claim_init.Goals as goal
 
 pub claim_init-requires : goal.claim_init-requires
@@ -22,3 +25,12 @@ returns-clause-does c = λ t st tops h.
 
 pub returns-clause-over : goal.returns-clause-over
 returns-clause-over c = λ over. (subst (λ (o : Own). IsOwnOver c.args.tops.now o c.args.self.now.family) c.requires.due over, c.in_ok-claim_init.ensures.over)
+
+pub returns-clause-plain : goal.returns-clause-plain
+returns-clause-plain c = λ plain.
+    let r = c.args.self.now in
+    let b = c.in_ok-claim_init.field-0 in
+    let no : is_gang_pointer (pointer_of c.in-Claim.pointer) ≡ false = sym (ap (λ (w : Work). has_gang_stages w r.waiting.block) c.in-Claim.is) ∙ plain in
+    walks_at_once b c.claim_init.new.self (pointer_of c.in-Claim.pointer) c.new-own.result.block c.new-own.ensures.block no
+    (λ e. c.in_ok-claim_init.ensures.past (ap (λ x. Ok x) e)) (λ e. c.in_ok-claim_init.ensures.some (ap (λ x. Ok x) e))
+    (λ e. c.in_ok-claim_init.ensures.asks (ap (λ x. Ok x) e))

@@ -1,5 +1,5 @@
 -- Trees that an engine keeps, over tops that their blocks lie in.
-use Rattle.std.proofs.Common.{◌≡◌, ℕ, zero, suc, ◌+◌, ◌<◌, ◌≤◌, List, [], ◌∷◌, ◌++◌, length, map, take, drop, Bool, true, false, Option, Some, None, IfSome, IsTrue, Contains, slice_get, refl, sym, ap, ◌∙◌, subst, arith, length-take}
+use Rattle.std.proofs.Common.{◌≡◌, ℕ, zero, suc, ◌+◌, ◌≤◌, List, [], ◌∷◌, ◌++◌, length, map, take, drop, Bool, true, false, Option, Some, None, IfSome, IsTrue, Contains, slice_get, refl, sym, ap, ◌∙◌, subst, arith, length-take}
 use Rattle.std.specs.List.{AllByRecursion, flat_map}
 use Rattle.std.proofs.lemmas.List.{length-map}
 use Rattle.std.specs.Bool.{then_some}
@@ -12,7 +12,7 @@ use Rattle.zio_blkptr.specs.Pointers.{fields, places_of, pointer_of, spells, val
 use Rattle.zio_blkptr.proofs.PointerLemmas.{ValidParts, valid_parts}
 use Rattle.zio_cksum.specs.Blocks.{leaves_of_top}
 use Rattle.zio_cksum.specs.Headers.{members_of}
-use Rattle.zio_cksum.proofs.AllLemmas.{all_append, all_contains, all_map, all_unmap, all_weaker}
+use Rattle.zio_cksum.proofs.AllLemmas.{all_append, all_contains, all_unmap, all_weaker}
 use Rattle.zio_gang.specs.declared.tree.Head.{Head}
 use Rattle.zio_gang.specs.declared.tree.Tree.{Tree}
 use Rattle.zio_blkptr.specs.declared.pointer.TheConstants.{BLOCK_SIZE_MAX}
@@ -23,20 +23,18 @@ use Rattle.zio_gang.specs.Trees.{header_levels_max, kept_at, sizes_of, tree_plac
 use Rattle.zio_content.specs.Pointers.{IsNoneOrValid}
 use Rattle.zio_trace.specs.BlockCopies.{Copies, Groups, below_copies, body_copies, copies_from, groups_if, groups_of, groups_of_members, head_copies, no_groups}
 use Rattle.zio_trace.specs.Families.{Forest, NoTrees, TreeOf, flat}
-use Rattle.zio_trace.specs.Tasks.{BodyOf, Test}
+use Rattle.zio_trace.specs.Tasks.{BodyOf}
 use Rattle.zio_children.specs.RequestKids.{child_of}
 use Rattle.zio_trace.proofs.BlockPieces.{kept_head}
 use Rattle.zio_disks.specs.Whole.{IsWholeTree}
-use Rattle.zio_disks.proofs.ClaimLemmas.{members_valid}
 use Rattle.zio_course.specs.Runners.{AreRunnable, Standing, joined_trees, named_places, places_of_block}
 use Rattle.zio_stages.specs.HeadsNodes.{HasLeaves, IsHeadOn, LiesOn}
-use Rattle.zio_stages.specs.KidPointers.{HasValid}
 use Rattle.zio_stages.specs.OwnReads.{IsBodyOn}
 use Rattle.zio_stages.specs.PartWorks.{HaveUnits}
 use Rattle.zio_stages.specs.RequestOwns.{IsBlockOn, IsPieceOn}
 use Rattle.zio_stages.specs.Tops.{AreTops, IsTop}
-use Rattle.zio_stages.specs.Waits.{pending_of, pendings}
-use Rattle.zio_stages.specs.Wholes.{IsForestOf, Shape, shape_of, shapes, trees_in}
+use Rattle.zio_stages.specs.Waits.{pendings}
+use Rattle.zio_stages.specs.Wholes.{Shape, shape_of, shapes}
 use Rattle.zio_stages.specs.declared.waiting.Waiting.{Waiting}
 use Rattle.zio_stages.proofs.HeadsTops.{io_places, some_places}
 use Rattle.zio_nodes.specs.TreeAts.{IsRequestInside, IsTreeOver}

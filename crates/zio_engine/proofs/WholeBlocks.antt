@@ -1,12 +1,12 @@
 -- The blocks that a round of the engine's trees made are whole, as they are told.
-use Rattle.std.proofs.Common.{◌≡◌, ℕ, ◌<◌, ◌^◌, List, [], ◌∷◌, ◌++◌, map, Option, Some, None, IfSome, IsTrue, arith}
+use Rattle.std.proofs.Common.{ℕ, List, [], ◌∷◌, map, Option, Some, None, IfSome, arith}
 use Rattle.std.specs.Prelude.{IsPermutation, option_to_list}
 use Rattle.std.specs.List.{AllByRecursion}
 use Rattle.std.proofs.lemmas.List.Sorted.{IsPermutation-sym}
 use Rattle.zio_types.specs.Choices.{Choice}
 use Rattle.zio_blkptr.specs.declared.pointer.Bp.{Bp}
 use Rattle.zio_blkptr.specs.Pointers.{FitsTypes}
-use Rattle.zio_cksum.proofs.AllLemmas.{all_append, all_map, all_weaker}
+use Rattle.zio_cksum.proofs.AllLemmas.{all_append, all_map}
 use Rattle.zio_gang.specs.declared.tree.Tree.{Tree}
 use Rattle.zio_gang.specs.Attempts.{Child, Ended, Pending, Terms}
 use Rattle.zio_gang.specs.Journals.{AreLawful}

@@ -10,6 +10,8 @@ mod copies;
 #[cfg(test)]
 mod kids;
 #[cfg(test)]
+mod labels;
+#[cfg(test)]
 mod lines;
 #[cfg(test)]
 mod parts;

@@ -13,7 +13,7 @@ use Rattle.zio_trace.specs.Families.{Forest}
 use Rattle.zio_trace.specs.Keys.{bit}
 use Rattle.zio_trace.specs.SoundRounds.{IsSoundRound}
 use Rattle.zio_frames.specs.Frames.{Child, Flying, kind_of_task}
-use Rattle.zio_frames.specs.Moves.{child_for, choices_of, handed, next_seat}
+use Rattle.zio_frames.specs.Moves.{child_for, choices_of, next_seat}
 use Rattle.zio_frames.specs.OfRound.{IsOfRound}
 use Rattle.zio_stages.specs.Outcomes.{held_by}
 use Rattle.zio_stages.specs.SpaceCalls.{SpaceCall, calls_by}

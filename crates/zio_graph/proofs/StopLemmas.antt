@@ -1,6 +1,6 @@
 -- What a stop leaves of the images: a round as it goes on, and a group that a disk failed.
-use Rattle.std.proofs.Common.{◌≡◌, ℕ, ◌+◌, ◌<◌, ◌≤◌, arith, List, [], ◌∷◌, ◌++◌, map, filter, cond, Bool, true, false, refl, sym, ap, ◌∙◌, Option, Some, None, Contains, Result, Ok, Err, subst}
-use Rattle.std.specs.Prelude.{OnErr, slice_index_or}
+use Rattle.std.proofs.Common.{◌≡◌, ℕ, ◌≤◌, arith, List, [], ◌∷◌, map, filter, cond, Bool, true, false, refl, sym, ap, ◌∙◌, Option, Some, None, Contains, Result, Ok, Err, subst}
+use Rattle.std.specs.Prelude.{OnErr}
 use Rattle.std.specs.List.{AllByRecursion}
 use Rattle.zio_types.specs.declared.place.Place.{Place}
 use Rattle.zio_types.specs.Choices.{Choice}
@@ -10,19 +10,17 @@ use Rattle.zio_cksum.specs.Images.{Images, Spot}
 use Rattle.zio_cksum.proofs.AllLemmas.{all_contained, all_contains, all_weaker}
 use Rattle.zio_cksum.proofs.FrameLemmas.{same_then}
 use Rattle.zio_script.specs.declared.script.Failmode.{Failmode}
-use Rattle.zio_disks.specs.Disks.{Handles, Tell, TellOutside}
-use Rattle.zio_disks.specs.declared.setting.Stop.{Stop}
+use Rattle.zio_disks.specs.Disks.{Tell, TellOutside}
 use Rattle.zio_gang.specs.Attempts.{Terms}
 use Rattle.zio_groups.specs.declared.waiting.Waiting.{Waiting}
 use Rattle.zio_groups.specs.Issued.{spot_of as spot_at, written_spots}
 use Rattle.zio_trace.specs.Families.{Forest}
 use Rattle.zio_trace.specs.Keys.{bit}
-use Rattle.zio_trace.specs.Labels.{same_number}
 use Rattle.zio_trace.specs.Leaves.{Fetch, HaveSizes, LeafOp, Store, spot_of, stores}
 use Rattle.zio_trace.specs.SoundRounds.{IsSoundRound, work_of}
 use Rattle.zio_trace.specs.Stopped.{places_taken, spots_touched}
 use Rattle.zio_trace.specs.Tasks.{Leaf}
-use Rattle.zio_trace.specs.Underway.{IsUnderway, State}
+use Rattle.zio_trace.specs.Underway.{IsUnderway}
 use Rattle.zio_trace.proofs.DoneWithin.{taken_placed}
 use Rattle.zio_trace.proofs.LabelLemmas.{number_itself}
 use Rattle.zio_trace.proofs.RoundTouches.{changed_within}
@@ -32,8 +30,8 @@ use Rattle.zio_frames.specs.Running.{IsRunning, Later}
 use Rattle.slab.specs.Slab.{Slab}
 use Rattle.zio_stages.specs.LeafWorks.{IsOpAt}
 use Rattle.zio_stages.specs.declared.outcome.Finished.{Finished}
-use Rattle.zio_graph.specs.AtLeaves.{AllWait, WaitsFor, key_of, keyed, keys_at, keys_in, waiting_at}
-use Rattle.zio_graph.specs.Engine.{IsKept, Matches, StillKept}
+use Rattle.zio_graph.specs.AtLeaves.{WaitsFor, key_of, keyed, keys_at, keys_in, waiting_at}
+use Rattle.zio_graph.specs.Engine.{Matches, StillKept}
 use Rattle.zio_graph.specs.Entries.{Held, Live, Shelf, flying_at, live_of, times_in, top_at}
 use Rattle.zio_graph.specs.Parts.{Nodes}
 use Rattle.zio_graph.specs.Rounds.{Before, SoFar, with_done, with_tree}

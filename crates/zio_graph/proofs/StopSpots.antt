@@ -1,5 +1,5 @@
 -- What is in flight at a leaf writes at places of the round alone.
-use Rattle.std.proofs.Common.{◌≡◌, ℕ, arith, List, [], ◌∷◌, ◌++◌, map, true, false, sym, ◌∙◌, Option, Some, None, IfSome, Contains, inl, inr, ◌⊎◌, refl, subst}
+use Rattle.std.proofs.Common.{◌≡◌, ℕ, arith, List, [], ◌∷◌, ◌++◌, map, true, false, sym, ◌∙◌, Option, Some, None, IfSome, Contains, inl, inr, refl, subst}
 use Rattle.std.specs.List.{AllByRecursion, flat_map}
 use Rattle.std.proofs.lemmas.List.Elements.{Contains-append_left, Contains-append_right}
 use Rattle.std.proofs.lemmas.List.Sorted.{IsPermutation-refl}
@@ -19,7 +19,7 @@ use Rattle.zio_trace.specs.Families.{Forest, NoTrees, TreeOf, flat}
 use Rattle.zio_trace.specs.Footprints.{OfClaim, OfRequest, OfWork, OnCopies, Within}
 use Rattle.zio_trace.specs.Leaves.{LeafOp, spot_of, stores}
 use Rattle.zio_trace.specs.Rounds.{settles}
-use Rattle.zio_trace.specs.Separate.{IsNoClaim, IsSoundBlock, IsSoundRequest}
+use Rattle.zio_trace.specs.Separate.{IsNoClaim, IsSoundBlock}
 use Rattle.zio_trace.specs.SoundRounds.{IsOwnBlock, IsSoundRound, work_of}
 use Rattle.zio_trace.specs.Stopped.{places_named, places_of_block, places_taken, spots_touched}
 use Rattle.zio_trace.specs.Tasks.{Leaf, Task}
@@ -34,7 +34,7 @@ use Rattle.zio_trace.proofs.SeparateLemmas.{Origin, request_touches}
 use Rattle.zio_trace.proofs.SoundLemmas.{block_of}
 use Rattle.zio_trace.proofs.SoundRoundLemmas.{first_tree, other_trees}
 use Rattle.zio_trace.proofs.UnderwayDone.{own_within}
-use Rattle.zio_frames.specs.Frames.{Flying, Stack, flight_at, flights_of, fresh_frame, fresh_stack}
+use Rattle.zio_frames.specs.Frames.{Flying, flight_at, flights_of, fresh_frame, fresh_stack}
 use Rattle.zio_frames.specs.Running.{IsRunning}
 use Rattle.zio_frames.specs.Slots.{Slot}
 use Rattle.zio_frames.proofs.Moved.{Goes, in_flight}

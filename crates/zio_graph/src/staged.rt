@@ -49,11 +49,16 @@ pub struct BothBack<N> {
 
 /// A node whose stages an engine runs.
 pub trait Staged: Node + Drop {
+    ghost use Rattle.zio_graph.specs.declared.staged.Move.{Move as SeenMove};
+
     /// What it is to read, write or free lies inside these tops.
     ghost over: { Seq SeenTop → Self → Type 0 };
 
     /// What a tree of requests names lies inside them.
     ghost tree_over: { Seq SeenTop → Seq Waiting → Type 0 };
+
+    /// Where a stage leaves it.
+    ghost leads: { Self → SeenMove Self → Type 0 };
 
     /// Nothing of this attempt of a tree is done. Where memory is refused the tree comes back.
     fn start(
@@ -79,6 +84,7 @@ pub trait Staged: Node + Drop {
         ensures over { IfOk result (EachIn (over (S.tops services.old)) (tree_over (S.tops services.old))) }
         ensures valid { IfOk result TellsValid }
         ensures left { IfOk result (Lessens Self.nodes.left self) }
+        ensures stages { IfOk result (leads self) }
         ensures refused { (node : Self) → result ≡ Err node → (calls : Seq SpaceCall) × S.made services.old calls services.new
             × ((t : Terms) (st : Stack) → IsNow Self.nodes (S.tops services.old) t self st → GoesOn Self.nodes Self.nodes.gave t self st calls node) }
         ensures tops { S.tops services.new ≡ S.tops services.old };

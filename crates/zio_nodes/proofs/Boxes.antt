@@ -9,18 +9,10 @@ use Rattle.zio_stages.specs.declared.outcome.Outcome.{Outcome}
 use Rattle.zio_graph.specs.Stages.{GoesOn, Hears, HearsEarly, HearsSome, HearsSomeEarly, IsMove, IsNow}
 use Rattle.zio_graph.specs.declared.staged.Move.{Move}
 use Rattle.zio_graph.specs.declared.staged.Move.TheVariants.{End, Grow, Leaf as ToLeaf, Next, Ready, Wait}
+use Rattle.zio_nodes.specs.BoxMoves.{unboxed}
 use Rattle.zio_nodes.specs.Nodes.{boxed_nodes, gave_of, nodes}
 use Rattle.zio_nodes.specs.declared.node.Node.{Node}
 use Rattle.zio_nodes.specs.declared.node_box.NodeBox.{NodeBox}
-
--- the move of the node that is in the box
-abbrev pub unboxed : Move NodeBox → Move Node
-unboxed (Next x) = Next x.node.value
-unboxed (Wait x kind phase) = Wait x.node.value kind phase
-unboxed (Grow x child kind) = Grow x.node.value child.node.value kind
-unboxed (ToLeaf x op leaf bytes) = ToLeaf x.node.value op leaf bytes
-unboxed (Ready x pointer) = Ready x.node.value pointer
-unboxed (End outcome) = End outcome
 
 pub now_unboxed : (tops : List Top) (t : Terms) (x : NodeBox) (st : Stack) → IsNow {N = NodeBox} boxed_nodes tops t x st → IsNow {N = Node} nodes tops t x.node.value st
 now_unboxed tops t x st h = record { tops_are = h.tops_are; is = h.is; seated = h.seated }

@@ -29,6 +29,7 @@ pub mod OwnTold
 pub mod PartBounds
 pub mod PartHearing
 pub mod PartLemmas
+pub mod PassLemmas
 pub mod ReadHeard
 pub mod ReadIos
 pub mod ReadLemmas

@@ -3,7 +3,7 @@ use Rattle.std.proofs.Common.{◌≡◌, ◌∙◌, ◌∷◌, [], List, Option,
 use Rattle.zio_types.specs.declared.request.ChildKind.{ChildKind}
 use Rattle.zio_types.specs.declared.request.Phase.{Phase}
 use Rattle.zio_masks.specs.declared.stage.Stage.{Stage}
-use Rattle.zio_masks.specs.declared.stage.Stage.TheVariants.{DvaAllocate, VdevIoAssess, VdevIoDone}
+use Rattle.zio_masks.specs.declared.stage.Stage.TheVariants.{DvaAllocate, Start, VdevIoAssess, VdevIoDone}
 use Rattle.zio_parts.specs.declared.members.Member.{Member}
 use Rattle.zio_parts.specs.declared.members.Member.TheVariants.{Out as MemberOut}
 use Rattle.zio_stages.specs.PartNodes.{IsMemberUnder, with_member}
@@ -18,7 +18,7 @@ use Rattle.zio_stages.specs.declared.own_write.OwnWrite.{OwnWrite}
 use Rattle.zio_stages.specs.declared.part_node.PartNode.{PartNode}
 use Rattle.zio_stages.specs.declared.request_node.Own.{Own}
 use Rattle.zio_stages.specs.declared.request_node.Own.TheVariants.{Claim, Due, Found, Free, Over, Read, Stored, Write}
-use Rattle.zio_nodes.specs.StageMoves.{GoesBack, HasMembersLeft, grows_at, is_last_pass, is_leaf, is_second_of, retries_body, stage_of, stalls_at}
+use Rattle.zio_nodes.specs.StageMoves.{GoesBack, HasKidsLeft, HasMembersLeft, grows_at, is_last_pass, is_leaf, is_second_of, retries_body, stage_of, stalls_at}
 use Rattle.zio_nodes.specs.declared.node.Node.{Node}
 
 -- ---- it waits, or hands out
@@ -26,9 +26,14 @@ use Rattle.zio_nodes.specs.declared.node.Node.{Node}
 pub stalls_so : (at stage : Stage) (kind : ChildKind) (phase : Phase) → at ≡ stage → stalls_at stage kind phase ≡ true → stalls_at at kind phase ≡ true
 stalls_so at stage kind phase is h = ap (λ (s : Stage). stalls_at s kind phase) is ∙ h
 
+-- no node asks for places where it starts
+pub starts_not : DvaAllocate ≡ Start → ⊥
+starts_not e = cc
+
 pub grows_so : (node : Node) (stage : Stage) (kind : ChildKind) → stage_of node ≡ stage → grows_at stage kind ≡ true → (stage ≡ DvaAllocate → ⊥)
-    → (grows_at (stage_of node) kind ≡ true) × HasMembersLeft node
-grows_so node stage kind is h other = (ap (λ (s : Stage). grows_at s kind) is ∙ h, λ there. absurd (other (sym is ∙ there)))
+    → (stage ≡ Start → ⊥) → (grows_at (stage_of node) kind ≡ true) × HasMembersLeft node × HasKidsLeft node
+grows_so node stage kind is h other behind =
+    (ap (λ (s : Stage). grows_at s kind) is ∙ h, λ there. absurd (other (sym is ∙ there)), λ there. absurd (behind (sym is ∙ there)))
 
 -- ---- members
 

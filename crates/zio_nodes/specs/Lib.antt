@@ -1,11 +1,14 @@
 pub mod Bounds
+pub mod BoxMoves
 pub mod CopiesAts
 pub mod HeadsAts
 pub mod LeafAts
+pub mod NodeNames
 pub mod Nodes
 pub mod OwnAts
 pub mod OwnBounds
 pub mod PartAts
+pub mod Passes
 pub mod ReadBounds
 pub mod RequestAts
 pub mod RequestBounds

@@ -36,6 +36,7 @@ use Rattle.zio_stages.specs.declared.request_node.Own.{Own}
 use Rattle.zio_stages.specs.declared.request_node.Own.TheVariants.{Claim, Due, Found, Free, Over, Read as ReadOwn, Stored, Write as WriteOwn}
 use Rattle.zio_graph.specs.declared.staged.Move.{Move}
 use Rattle.zio_graph.specs.declared.staged.Move.TheVariants.{End, Grow, Leaf as ToLeaf, Next, Ready as Tell, Wait}
+use Rattle.zio_nodes.specs.NodeNames.{handed_by, unfinished_at}
 use Rattle.zio_nodes.specs.RequestAts.{takes}
 use Rattle.zio_nodes.specs.declared.node.Node.{Node}
 use Rattle.zio_nodes.specs.declared.node.Node.TheVariants.{Copies, Empty, Heads, Leaf, Part, Request, Tree}
@@ -177,6 +178,10 @@ GoesOnTo node after = LeadsTo node after
 abbrev pub HasMembersLeft : Node → Type 0
 HasMembersLeft node = stage_of node ≡ DvaAllocate → length (members_in node) < 3
 
+-- of its request's children those are handed out that haven't finished, each once
+abbrev pub HasKidsLeft : Node → Type 0
+HasKidsLeft node = stage_of node ≡ Start → handed_by node < unfinished_at node
+
 -- Where a move leaves its node. It goes on to the next stage of its pipeline, or back to its operations on leaves; it tells at
 -- Ready, and goes on; it hands its operation out at VdevIoStart; it ends at Done. Else it stays where it is: it waits for what the
 -- stage stalls on, or hands out a child of a kind that the stage has.
@@ -184,7 +189,7 @@ abbrev pub IsStageMove : Node → Move Node → Type 0
 IsStageMove node (Next after) = GoesOnTo node after
 IsStageMove node (Wait after kind phase) = (stage_of after ≡ stage_of node) × (stalls_at (stage_of node) kind phase ≡ true)
 IsStageMove node (Grow after child kind) =
-    (stage_of after ≡ stage_of node) × (grows_at (stage_of node) kind ≡ true) × HasMembersLeft node
+    (stage_of after ≡ stage_of node) × (grows_at (stage_of node) kind ≡ true) × HasMembersLeft node × HasKidsLeft node
 IsStageMove node (ToLeaf after op leaf bytes) = (stage_of node ≡ VdevIoStart) × (stage_of after ≡ VdevIoStart)
 IsStageMove node (Tell after pointer) = (stage_of node ≡ Ready) × IsNextOf (takes_stage node) (stage_of node) (stage_of after)
 IsStageMove node (End outcome) = stage_of node ≡ Done

@@ -11,6 +11,7 @@ ghost use Rattle.zio_stages.specs.RequestClaims.{IsClaimWith};
 ghost use Rattle.zio_stages.specs.RequestKinds.{has_gang_stages};
 ghost use Rattle.zio_stages.specs.declared.request_node.Own.{Own};
 ghost use Rattle.zio_nodes.specs.OwnAts.{HasClaimWalked};
+ghost use Rattle.zio_nodes.specs.Passes.{KeepsPassAt};
 ghost use Rattle.zio_nodes.specs.StageMoves.{IsLastMove, IsNextOf, IsStageMove, takes_stage};
 ghost use Rattle.zio_nodes.specs.Nodes.{IsNodeOver, IsTreeOver, MovesBare, MovesWith, StaysBare, StaysWith, left_of, moved};
 ghost use Rattle.zio_nodes.specs.RequestAts.{IsRequestAtOver};
@@ -43,6 +44,7 @@ impl RequestAt {
         ensures refused { OnErr result (StaysWith S.made (S.tops services.old) services.old services.new (Node.Request self.old) (Node.Request self.new)) }
         ensures tops { S.tops services.new ≡ S.tops services.old }
         ensures stages { IfOk result (λ turn. IsStageMove (Node.Request self.old) (moved (Node.Request self.new) turn)) }
+        ensures pass { IfOk result (λ turn. KeepsPassAt self.old.stage (Node.Request self.old) (moved (Node.Request self.new) turn)) }
     {
         if self.stage == Stage::GangIssue {
             return self.claim_gang_issue(alloc, services);
@@ -67,6 +69,7 @@ impl RequestAt {
         ensures left { IfOk result (λ turn. Lessens left_of (Node.Request self.old) (moved (Node.Request self.new) turn)) }
         ensures refused { OnErr result (StaysBare tops.now (Node.Request self.old) (Node.Request self.new)) }
         ensures stages { IfOk result (λ turn. IsStageMove (Node.Request self.old) (moved (Node.Request self.new) turn)) }
+        ensures pass { IfOk result (λ turn. KeepsPassAt self.old.stage (Node.Request self.old) (moved (Node.Request self.new) turn)) }
     {
         match self.stage {
             Stage::GangAssemble => self.claim_gang_assemble(alloc, tops),
@@ -196,6 +199,7 @@ impl RequestAt {
     }
 
     /// Ends once its children have. Where memory is refused it comes back, and what it came to stays.
+    #[inline(never)]
     pub(crate) fn claim_done(self, alloc: Global) -> Result<Move<Node>, Node>
         requires over { (tops : Seq SeenTop) × IsRequestAtOver tops self }
         requires kind { kind_of self.node.waiting.request.work ≡ Kind.Claim }

@@ -10,6 +10,7 @@ ghost use Rattle.zio_stages.specs.CopiesNodes.{IsCopiesNode, IsCopiesOver};
 ghost use Rattle.zio_graph.specs.Stages.{EachIn, Hears, HearsSome, Lessens, TellsValid, heard_max};
 ghost use Rattle.zio_nodes.specs.Bounds.{copies_left, copies_max};
 ghost use Rattle.zio_nodes.specs.CopiesAts.{IsCopiesAt, IsCopiesAtOver};
+ghost use Rattle.zio_nodes.specs.Passes.{IsInPassOf, KeepsPassAt};
 ghost use Rattle.zio_nodes.specs.StageMoves.{IsLastMove, IsStageMove};
 ghost use Rattle.zio_nodes.specs.Nodes.{IsNodeOver, IsTreeOver, MovesBare, StaysBare, left_of, nodes, moved};
 ghost use Rattle.zio_nodes.specs.Told.{is_told};
@@ -27,7 +28,7 @@ use zio_types::{ChildKind, NoMemory, Phase, Top};
 /// The read of a block's copies at a stage of its pipeline.
 #[derive(Drop)]
 pub struct CopiesAt {
-    node: CopiesNode,
+    pub(crate) node: CopiesNode,
     stage: Stage,
     /// An operation on a leaf may be due: since the last time that none was, one was heard or a pass began.
     is_due: bool,
@@ -72,6 +73,7 @@ impl CopiesAt {
         ensures left { IfOk result (λ turn. Lessens left_of (Node.Copies self.old) (moved (Node.Copies self.new) turn)) }
         ensures refused { OnErr result (StaysBare tops.now (Node.Copies self.old) (Node.Copies self.new)) }
         ensures stages { IfOk result (λ turn. IsStageMove (Node.Copies self.old) (moved (Node.Copies self.new) turn)) }
+        ensures pass { IfOk result (λ turn. KeepsPassAt self.old.stage (Node.Copies self.old) (moved (Node.Copies self.new) turn)) }
     {
         match self.stage {
             Stage::Start => Ok(self.start()),
@@ -135,6 +137,7 @@ impl CopiesAt {
         ensures left { IfOk result (λ turn. Lessens left_of (Node.Copies self.old) (moved (Node.Copies self.new) turn)) }
         ensures refused { OnErr result (StaysBare tops.now (Node.Copies self.old) (Node.Copies self.new)) }
         ensures stages { IfOk result (λ turn. IsStageMove (Node.Copies self.old) (moved (Node.Copies self.new) turn)) }
+        ensures pass { IfOk result (λ turn. KeepsPassAt self.old.stage (Node.Copies self.old) (moved (Node.Copies self.new) turn)) }
     {
         let mut room = new_room(alloc)?;
         match self.node.vdev_io_start(alloc, tops) {
@@ -161,6 +164,7 @@ impl CopiesAt {
         ensures valid { TellsValid (moved (Node.Copies self.new) result) }
         ensures left { Lessens left_of (Node.Copies self.old) (moved (Node.Copies self.new) result) }
         ensures stages { IsStageMove (Node.Copies self.old) (moved (Node.Copies self.new) result) }
+        ensures pass { KeepsPassAt self.old.stage (Node.Copies self.old) (moved (Node.Copies self.new) result) }
     {
         match self.node.vdev_io_done(tops) {
             IoNext::Wait => Turn::Wait(ChildKind::Vdev, Phase::Done),
@@ -235,6 +239,7 @@ impl CopiesAt {
         ensures heard { (t : Terms) (st : Stack) (c : Child) (op : Task) (v : Value) →
             Hears nodes tops.now t (Node.Copies self.old) st child c op outcome v → IsCopiesAt t self.new (heard_of st child c v) }
         ensures stage { self.new.stage ≡ self.old.stage }
+        ensures pass { IsInPassOf (Node.Copies self.old) (Node.Copies self.new) }
         ensures over { IsCopiesAtOver tops.now self.new }
         ensures left { copies_left self.new ≤ copies_left self.old + heard_max }
     {

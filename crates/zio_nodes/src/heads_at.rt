@@ -29,7 +29,7 @@ use zio_types::{ChildKind, NoMemory, Phase, Top};
 /// The walk over headers at a stage of its pipeline.
 #[derive(Drop)]
 pub struct HeadsAt {
-    node: HeadsNode,
+    pub(crate) node: HeadsNode,
     stage: Stage,
     /// For the header that it hears of.
     alloc: Global,

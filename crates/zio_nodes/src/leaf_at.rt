@@ -25,7 +25,7 @@ use zio_types::{Bytes, Errno, List, NoMemory};
 /// An operation on a leaf at a stage of its pipeline.
 #[derive(Drop)]
 pub struct LeafAt {
-    work: LeafWork,
+    pub(crate) work: LeafWork,
     stage: Stage,
     /// The leaf has it, and hasn't answered.
     is_out: bool,

@@ -25,6 +25,7 @@ ghost use Rattle.zio_graph.specs.Stages.{
   TellsValid,
   heard_max,
 };
+ghost use Rattle.zio_nodes.specs.NodeNames.{kind_at, label_at, request_of, unfinished_at};
 ghost use Rattle.zio_nodes.specs.Nodes.{
   IsInPlace,
   IsNode,
@@ -42,6 +43,7 @@ ghost use Rattle.zio_nodes.specs.Nodes.{
   nodes,
   told_of,
 };
+ghost use Rattle.zio_nodes.specs.Passes.{IsInPassOf, KeepsPass};
 ghost use Rattle.zio_nodes.specs.StageMoves.{IsLastMove, IsStageMove, stage_of, stalls_at};
 ghost use Rattle.zio_nodes.specs.Stalls.{LeavesGang, LeavesNone, MayRun, children_of, hands_many};
 
@@ -60,7 +62,7 @@ use zio_graph::Move;
 use zio_masks::Stage;
 use zio_script::Failmode;
 use zio_stages::{Finished, Outcome, Services, Whole};
-use zio_types::{Bytes, ChildKind, Errno, NoMemory, Phase, Top};
+use zio_types::{Bytes, ChildKind, Errno, Kind, NoMemory, Phase, ReqNo, Top};
 
 /// A node of a round.
 #[derive(Drop)]
@@ -94,6 +96,75 @@ impl Node {
         Node::Tree(TreeAt::new(whole, round, attempt, failmode))
     }
 
+    /// The number of its request, or of the request for which it works.
+    pub fn request(&self) -> ReqNo
+        ensures { result ≡ request_of self.now }
+    {
+        match self {
+            Node::Leaf(at) => at.work.request(),
+            Node::Copies(at) => at.node.request(),
+            Node::Heads(at) => at.node.request(),
+            Node::Part(at) => at.node.request(),
+            Node::Tree(at) => at.whole.number(),
+            Node::Request(at) => at.node.number(),
+            Node::Empty => 0,
+        }
+    }
+
+    /// The kind of its request, and of another node what it does: it reads or writes.
+    pub fn kind(&self) -> Kind
+        ensures { result ≡ kind_at self.now }
+    {
+        match self {
+            Node::Leaf(at) => {
+                if at.work.is_write() {
+                    Kind::Write
+                } else {
+                    Kind::Read
+                }
+            }
+            Node::Copies(_) | Node::Heads(_) => Kind::Read,
+            Node::Part(_) => Kind::Write,
+            Node::Tree(at) => {
+                // A tree has a root.
+                let _root = at.whole.root();
+                at.whole.kind()
+            }
+            Node::Request(at) => at.node.kind(),
+            Node::Empty => Kind::Null,
+        }
+    }
+
+    /// What names it among its parent's children; docs/FORMATS.md has the bits.
+    pub fn label(&self) -> u64
+        ensures { result ≡ label_at self.now }
+    {
+        match self {
+            Node::Leaf(at) => at.work.label(),
+            Node::Copies(at) => at.node.label(),
+            Node::Heads(at) => at.node.label(),
+            Node::Part(at) => at.node.label(),
+            Node::Tree(at) => at.whole.root().label(at.attempt),
+            Node::Request(at) => at.node.label(),
+            Node::Empty => 0,
+        }
+    }
+
+    /// How many of its request's children hadn't finished when its attempt began; 0 where it is no request's.
+    pub fn unfinished(&self) -> usize
+        ensures { result ≡ unfinished_at self.now }
+    {
+        match self {
+            Node::Tree(at) => {
+                // A tree has a root.
+                let _root = at.whole.root();
+                at.whole.unfinished()
+            }
+            Node::Request(at) => at.node.unfinished(),
+            Node::Leaf(_) | Node::Copies(_) | Node::Heads(_) | Node::Part(_) | Node::Empty => 0,
+        }
+    }
+
     /// The stage where it stands.
     pub fn stage(&self) -> Stage
         ensures { result ≡ stage_of self.now }
@@ -121,6 +192,7 @@ impl Node {
         ensures valid { IfOk result (λ turn. TellsValid (moved self.new turn)) }
         ensures left { IfOk result (λ turn. Lessens left_of self.old (moved self.new turn)) }
         ensures stages { IfOk result (λ turn. IsStageMove self.old (moved self.new turn)) }
+        ensures pass { IfOk result (λ turn. KeepsPass self.old (moved self.new turn)) }
         ensures refused { OnErr result (StaysWith S.made (S.tops services.old) services.old services.new self.old self.new) }
         ensures tops { S.tops services.new ≡ S.tops services.old }
         ensures leaves { IfOk result (λ turn. LeavesNone self.old (moved self.new turn)) }
@@ -156,6 +228,7 @@ impl Node {
         ensures valid { IfOk result (λ turn. TellsValid (moved self.new turn)) }
         ensures left { IfOk result (λ turn. Lessens left_of self.old (moved self.new turn)) }
         ensures stages { IfOk result (λ turn. IsStageMove self.old (moved self.new turn)) }
+        ensures pass { IfOk result (λ turn. KeepsPass self.old (moved self.new turn)) }
         ensures refused { OnErr result (StaysWith S.made (S.tops services.old) services.old services.new self.old self.new) }
         ensures tops { S.tops services.new ≡ S.tops services.old }
         ensures leaves { hands_many self.old ≡ true → IfOk result (λ turn. LeavesGang (children_of self.old) (moved self.new turn)) }
@@ -192,6 +265,7 @@ impl Node {
     }
 
     /// Splits the tree, and is its request. Where memory is refused it is as it was.
+    #[inline(never)]
     fn start_tree(&mut self, alloc: Global) -> Result<Turn, NoMemory>
         requires tree { is_tree self.old ≡ true }
         ensures moves { (tops : Seq SeenTop) → IfOk result (λ turn. MovesBare tops self.old (moved self.new turn)) }
@@ -217,6 +291,7 @@ impl Node {
     }
 
     /// Runs the stage where it ends, which takes it apart. Where memory is refused what it did of the stage stays.
+    #[inline(never)]
     fn run_last<S: Services>(&mut self, alloc: Global, services: &mut S) -> Result<Turn, NoMemory>
         requires over { IsNodeOver (S.tops services.old) self.old }
         requires at_last { stage_of self.old ≡ Stage.Done }
@@ -296,6 +371,7 @@ impl Node {
             IsNode t self.new (heard_early st child c pointer) }
         ensures told { told_of self.new ≡ told_of self.old }
         ensures gave { gave_of self.new ≡ gave_of self.old }
+        ensures pass { IsInPassOf self.old self.new }
         ensures over { (tops : Seq SeenTop) → IsNodeOver tops self.old → IsNodeOver tops self.new }
         ensures left { left_of self.new ≤ left_of self.old + heard_max }
     {
@@ -325,6 +401,7 @@ impl Node {
         ensures kept { IfOk result (λ finished. (f : _) → outcome ≡ SeenOutcome.Finished f → finished ≡ Some f) }
         ensures told { OnOk result (told_of self.new ≡ told_of self.old) }
         ensures gave { OnOk result (gave_of self.new ≡ gave_of self.old) }
+        ensures pass { OnOk result (IsInPassOf self.old self.new) }
         ensures over_still { OnOk result (IsNodeOver tops.now self.new) }
         ensures left { OnOk result (left_of self.new ≤ left_of self.old + heard_max) }
         ensures same { OnErr result (self.new ≡ self.old) }
@@ -356,6 +433,7 @@ impl Node {
             IsNode t self.new (done_at_once (fresh_stack (Leaf act)) (Leaf act) (Got a)) }
         ensures told { told_of self.new ≡ told_of self.old }
         ensures gave { gave_of self.new ≡ gave_of self.old }
+        ensures pass { IsInPassOf self.old self.new }
         ensures over { (tops : Seq SeenTop) → IsNodeOver tops self.old → IsNodeOver tops self.new }
         ensures left { left_of self.new ≤ left_of self.old }
     {

@@ -25,9 +25,12 @@ impl zio_graph::Node for NodeBox {
 }
 
 impl Staged for NodeBox {
+    ghost use Rattle.zio_nodes.specs.BoxMoves.{IsBoxMove};
     ghost use Rattle.zio_nodes.specs.Nodes.{IsBoxOver, IsTreeOver};
 
     ghost over = { IsBoxOver };
+
+    ghost leads = { IsBoxMove };
 
     ghost tree_over = { IsTreeOver };
 

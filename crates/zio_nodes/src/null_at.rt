@@ -35,6 +35,7 @@ impl RequestAt {
     }
 
     /// Ends once each child has. Where memory is refused it comes back as it was.
+    #[inline(never)]
     pub(crate) fn null_done(self, alloc: Global) -> Result<Move<Node>, Node>
         requires over { (tops : Seq SeenTop) × IsRequestAtOver tops self }
         requires kind { kind_of self.node.waiting.request.work ≡ Kind.Null }

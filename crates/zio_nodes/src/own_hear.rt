@@ -14,6 +14,7 @@ ghost use Rattle.zio_stages.specs.RequestHearings.{HearsEarlyOf};
 ghost use Rattle.zio_stages.specs.RequestNodes.{IsRequestNode};
 ghost use Rattle.zio_graph.specs.Stages.{Hears, HearsEarly, HearsSome, heard_max};
 ghost use Rattle.zio_nodes.specs.Nodes.{gave_of, left_of, nodes};
+ghost use Rattle.zio_nodes.specs.Passes.{IsInPassOf};
 ghost use Rattle.zio_nodes.specs.RequestAts.{IsRequestAtOver};
 ghost use Rattle.zio_nodes.specs.RequestHears.{IsOwnOutcome};
 
@@ -30,6 +31,7 @@ impl RequestAt {
         ensures heard { (t : Terms) (st : Stack) (c : Child) (pointer : Option Bp) →
             HearsEarly nodes t (Node.Request self.old) st child c → IsRequestNode t self.new.node (heard_early st child c pointer) }
         ensures stage { self.new.stage ≡ self.old.stage }
+        ensures pass { IsInPassOf (Node.Request self.old) (Node.Request self.new) }
         ensures gave { gave_of (Node.Request self.new) ≡ gave_of (Node.Request self.old) }
         ensures over { (tops : Seq SeenTop) → IsRequestAtOver tops self.old → IsRequestAtOver tops self.new }
         ensures left { left_of (Node.Request self.new) ≡ left_of (Node.Request self.old) }
@@ -59,6 +61,7 @@ impl RequestAt {
             Hears nodes tops.now t (Node.Request self.old) st child c op outcome v →
             IsRequestNode t self.new.node (heard_of st child c v) }
         ensures stage { self.new.stage ≡ self.old.stage }
+        ensures pass { IsInPassOf (Node.Request self.old) (Node.Request self.new) }
         ensures gave { gave_of (Node.Request self.new) ≡ gave_of (Node.Request self.old) }
         ensures over_still { IsRequestAtOver tops.now self.new }
         ensures left { left_of (Node.Request self.new) ≤ left_of (Node.Request self.old) + heard_max }
@@ -82,6 +85,7 @@ impl RequestAt {
             Hears nodes tops.now t (Node.Request self.old) st child c op outcome v →
             IsRequestNode t self.new.node (heard_of st child c v) }
         ensures stage { self.new.stage ≡ self.old.stage }
+        ensures pass { IsInPassOf (Node.Request self.old) (Node.Request self.new) }
         ensures gave { gave_of (Node.Request self.new) ≡ gave_of (Node.Request self.old) }
         ensures over_still { IsRequestAtOver tops.now self.new }
         ensures left { left_of (Node.Request self.new) ≤ left_of (Node.Request self.old) + heard_max }
@@ -116,6 +120,7 @@ impl RequestAt {
         ensures heard { (tops : Seq SeenTop) (t : Terms) (st : Stack) (c : Child) (op : Task) (v : Value) →
             Hears nodes tops t (Node.Request self.old) st child c op outcome v → IsRequestNode t self.new.node (heard_of st child c v) }
         ensures stage { self.new.stage ≡ self.old.stage }
+        ensures pass { IsInPassOf (Node.Request self.old) (Node.Request self.new) }
         ensures gave { gave_of (Node.Request self.new) ≡ gave_of (Node.Request self.old) }
         ensures over { (tops : Seq SeenTop) → IsRequestAtOver tops self.old → IsRequestAtOver tops self.new }
         ensures left { left_of (Node.Request self.new) ≤ left_of (Node.Request self.old) + heard_max }
@@ -137,6 +142,7 @@ impl RequestAt {
             Hears nodes tops.now t (Node.Request self.old) st child c op outcome v →
             IsRequestNode t self.new.node (heard_of st child c v) }
         ensures stage { self.new.stage ≡ self.old.stage }
+        ensures pass { IsInPassOf (Node.Request self.old) (Node.Request self.new) }
         ensures gave { gave_of (Node.Request self.new) ≡ gave_of (Node.Request self.old) }
         ensures over_still { IsRequestAtOver tops.now self.new }
         ensures left { left_of (Node.Request self.new) ≤ left_of (Node.Request self.old) + heard_max }

@@ -15,6 +15,7 @@ ghost use Rattle.zio_stages.specs.SpaceCalls.{SpaceCall};
 ghost use Rattle.zio_stages.specs.Tops.{AreTops};
 ghost use Rattle.zio_graph.specs.Stages.{EachIn, GoesOn, Hears, HearsEarly, HearsSome, HearsSomeEarly, IsMove, IsNow, Lessens, TellsValid, heard_max};
 ghost use Rattle.zio_nodes.specs.Bounds.{part_left, part_max};
+ghost use Rattle.zio_nodes.specs.Passes.{IsInPassOf, KeepsPassAt};
 ghost use Rattle.zio_nodes.specs.StageMoves.{IsStageMove};
 ghost use Rattle.zio_nodes.specs.Nodes.{IsNodeOver, IsTreeOver, MovesBare, MovesWith, StaysBare, StaysWith, left_of, nodes, moved};
 ghost use Rattle.zio_nodes.specs.PartAts.{IsBeforePlaces, IsPartAtOver};
@@ -69,6 +70,7 @@ impl PartAt {
         ensures refused { OnErr result (StaysWith S.made (S.tops services.old) services.old services.new (Node.Part self.old) (Node.Part self.new)) }
         ensures tops { S.tops services.new ≡ S.tops services.old }
         ensures stages { IfOk result (λ turn. IsStageMove (Node.Part self.old) (moved (Node.Part self.new) turn)) }
+        ensures pass { IfOk result (λ turn. KeepsPassAt self.old.stage (Node.Part self.old) (moved (Node.Part self.new) turn)) }
     {
         match self.stage {
             Stage::DvaAllocate => self.dva_allocate(alloc, services),
@@ -87,6 +89,7 @@ impl PartAt {
         ensures left { IfOk result (λ turn. Lessens left_of (Node.Part self.old) (moved (Node.Part self.new) turn)) }
         ensures refused { OnErr result (StaysBare tops.now (Node.Part self.old) (Node.Part self.new)) }
         ensures stages { IfOk result (λ turn. IsStageMove (Node.Part self.old) (moved (Node.Part self.new) turn)) }
+        ensures pass { IfOk result (λ turn. KeepsPassAt self.old.stage (Node.Part self.old) (moved (Node.Part self.new) turn)) }
     {
         match self.stage {
             // Its bytes and their checksum stand since its parent handed it out.
@@ -111,6 +114,7 @@ impl PartAt {
         ensures valid { TellsValid (moved (Node.Part self.new) result) }
         ensures left { Lessens left_of (Node.Part self.old) (moved (Node.Part self.new) result) }
         ensures stages { IsStageMove (Node.Part self.old) (moved (Node.Part self.new) result) }
+        ensures pass { KeepsPassAt self.old.stage (Node.Part self.old) (moved (Node.Part self.new) result) }
     {
         self.stage = next(self.stage, WRITE);
         Turn::Next
@@ -123,6 +127,7 @@ impl PartAt {
         ensures heard { (t : Terms) (st : Stack) (c : Child) → HearsEarly nodes t (Node.Part self.old) st child c →
             IsPartNode t self.new.node (heard_early st child c pointer) }
         ensures stage { self.new.stage ≡ self.old.stage }
+        ensures pass { IsInPassOf (Node.Part self.old) (Node.Part self.new) }
         ensures over { (tops : Seq SeenTop) → IsPartAtOver tops self.old → IsPartAtOver tops self.new }
         ensures left { part_left self.new ≡ part_left self.old }
     {
@@ -136,6 +141,7 @@ impl PartAt {
         ensures heard { (t : Terms) (st : Stack) (c : Child) (op : Task) (v : Value) →
             Hears nodes tops.now t (Node.Part self.old) st child c op outcome v → IsPartNode t self.new.node (heard_of st child c v) }
         ensures stage { self.new.stage ≡ self.old.stage }
+        ensures pass { IsInPassOf (Node.Part self.old) (Node.Part self.new) }
         ensures over { IsPartAtOver tops.now self.new }
         ensures left { part_left self.new ≤ part_left self.old + heard_max }
     {

@@ -6,6 +6,7 @@ ghost use Rattle.zio_gang.specs.Attempts.{Terms};
 ghost use Rattle.zio_frames.specs.Frames.{Stack};
 ghost use Rattle.zio_stages.specs.SpaceCalls.{SpaceCall};
 ghost use Rattle.zio_graph.specs.Stages.{EachIn, GoesOn, IsMove, IsNow, Lessens, TellsValid};
+ghost use Rattle.zio_nodes.specs.Passes.{KeepsPassAt};
 ghost use Rattle.zio_nodes.specs.StageMoves.{IsLastMove, IsStageMove};
 ghost use Rattle.zio_nodes.specs.Nodes.{IsNodeOver, IsTreeOver, MovesBare, MovesWith, StaysBare, StaysWith, left_of, moved};
 ghost use Rattle.zio_nodes.specs.PartAts.{IsPartAtOver};
@@ -85,6 +86,7 @@ impl PartAt {
         ensures left { IfOk result (λ turn. Lessens left_of (Node.Part self.old) (moved (Node.Part self.new) turn)) }
         ensures refused { OnErr result (StaysBare tops.now (Node.Part self.old) (Node.Part self.new)) }
         ensures stages { IfOk result (λ turn. IsStageMove (Node.Part self.old) (moved (Node.Part self.new) turn)) }
+        ensures pass { IfOk result (λ turn. KeepsPassAt self.old.stage (Node.Part self.old) (moved (Node.Part self.new) turn)) }
     {
         let mut room = new_room(alloc)?;
         match self.node.vdev_io_start(alloc, tops) {
@@ -111,6 +113,7 @@ impl PartAt {
         ensures valid { TellsValid (moved (Node.Part self.new) result) }
         ensures left { Lessens left_of (Node.Part self.old) (moved (Node.Part self.new) result) }
         ensures stages { IsStageMove (Node.Part self.old) (moved (Node.Part self.new) result) }
+        ensures pass { KeepsPassAt self.old.stage (Node.Part self.old) (moved (Node.Part self.new) result) }
     {
         match self.node.vdev_io_done(tops) {
             IoNext::Wait => Turn::Wait(ChildKind::Vdev, Phase::Done),

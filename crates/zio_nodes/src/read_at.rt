@@ -7,6 +7,7 @@ ghost use Rattle.zio_types.specs.declared.place.Top.{Top as SeenTop};
 ghost use Rattle.zio_script.specs.Requests.{kind_of};
 ghost use Rattle.zio_graph.specs.Stages.{EachIn, Lessens, TellsValid};
 ghost use Rattle.zio_nodes.specs.Stalls.{LeavesGang};
+ghost use Rattle.zio_nodes.specs.Passes.{KeepsPassAt};
 ghost use Rattle.zio_nodes.specs.StageMoves.{IsLastMove, IsStageMove};
 ghost use Rattle.zio_nodes.specs.Nodes.{IsNodeOver, IsTreeOver, MovesBare, MovesWith, StaysBare, StaysWith, left_of, moved};
 ghost use Rattle.zio_nodes.specs.RequestAts.{IsRequestAtOver};
@@ -41,6 +42,7 @@ impl RequestAt {
         ensures refused { OnErr result (StaysWith S.made (S.tops services.old) services.old services.new (Node.Request self.old) (Node.Request self.new)) }
         ensures tops { S.tops services.new ≡ S.tops services.old }
         ensures stages { IfOk result (λ turn. IsStageMove (Node.Request self.old) (moved (Node.Request self.new) turn)) }
+        ensures pass { IfOk result (λ turn. KeepsPassAt self.old.stage (Node.Request self.old) (moved (Node.Request self.new) turn)) }
         ensures leaves { self.old.stage ≡ Stage.GangIssue → IfOk result (λ turn. LeavesGang self.old.node.family (moved (Node.Request self.new) turn)) }
     {
         self.read_bare(alloc, services.tops())
@@ -58,6 +60,7 @@ impl RequestAt {
         ensures left { IfOk result (λ turn. Lessens left_of (Node.Request self.old) (moved (Node.Request self.new) turn)) }
         ensures refused { OnErr result (StaysBare tops.now (Node.Request self.old) (Node.Request self.new)) }
         ensures stages { IfOk result (λ turn. IsStageMove (Node.Request self.old) (moved (Node.Request self.new) turn)) }
+        ensures pass { IfOk result (λ turn. KeepsPassAt self.old.stage (Node.Request self.old) (moved (Node.Request self.new) turn)) }
         ensures leaves { self.old.stage ≡ Stage.GangIssue → IfOk result (λ turn. LeavesGang self.old.node.family (moved (Node.Request self.new) turn)) }
     {
         match self.stage {
@@ -186,6 +189,7 @@ impl RequestAt {
     }
 
     /// Ends once its children have. Where memory is refused it comes back, and what it came to stays.
+    #[inline(never)]
     pub(crate) fn read_done(self, alloc: Global) -> Result<Move<Node>, Node>
         requires over { (tops : Seq SeenTop) × IsRequestAtOver tops self }
         requires kind { kind_of self.node.waiting.request.work ≡ Kind.Read }

@@ -29,6 +29,7 @@ ghost use Rattle.zio_graph.specs.Stages.{
   heard_max,
 };
 ghost use Rattle.zio_nodes.specs.Stalls.{LeavesGang, hands_many};
+ghost use Rattle.zio_nodes.specs.Passes.{IsInPassOf, KeepsPassAt};
 ghost use Rattle.zio_nodes.specs.StageMoves.{IsLastMove, IsStageMove};
 ghost use Rattle.zio_nodes.specs.Nodes.{
   IsNodeOver,
@@ -79,6 +80,7 @@ impl RequestAt {
         ensures refused { OnErr result (StaysWith S.made (S.tops services.old) services.old services.new (Node.Request self.old) (Node.Request self.new)) }
         ensures tops { S.tops services.new ≡ S.tops services.old }
         ensures stages { IfOk result (λ turn. IsStageMove (Node.Request self.old) (moved (Node.Request self.new) turn)) }
+        ensures pass { IfOk result (λ turn. KeepsPassAt self.old.stage (Node.Request self.old) (moved (Node.Request self.new) turn)) }
         ensures leaves { kind_of self.old.node.waiting.request.work ≡ Kind.Read → self.old.stage ≡ Stage.GangIssue →
             IfOk result (λ turn. LeavesGang self.old.node.family (moved (Node.Request self.new) turn)) }
     {
@@ -126,6 +128,7 @@ impl RequestAt {
         ensures heard { (t : Terms) (st : Stack) (c : Child) → HearsEarly nodes t (Node.Request self.old) st child c →
             IsRequestNode t self.new.node (heard_early st child c pointer) }
         ensures stage { self.new.stage ≡ self.old.stage }
+        ensures pass { IsInPassOf (Node.Request self.old) (Node.Request self.new) }
         ensures gave { gave_of (Node.Request self.new) ≡ gave_of (Node.Request self.old) }
         ensures over { (tops : Seq SeenTop) → IsRequestAtOver tops self.old → IsRequestAtOver tops self.new }
         ensures left { left_of (Node.Request self.new) ≤ left_of (Node.Request self.old) + heard_max }
@@ -151,6 +154,7 @@ impl RequestAt {
         ensures finished { IfSome result (λ f. outcome ≡ SeenOutcome.Finished f) }
         ensures kept { (f : _) → outcome ≡ SeenOutcome.Finished f → result ≡ Some f }
         ensures stage { self.new.stage ≡ self.old.stage }
+        ensures pass { IsInPassOf (Node.Request self.old) (Node.Request self.new) }
         ensures gave { gave_of (Node.Request self.new) ≡ gave_of (Node.Request self.old) }
         ensures over_still { IsRequestAtOver tops.now self.new }
         ensures left { left_of (Node.Request self.new) ≤ left_of (Node.Request self.old) + heard_max }

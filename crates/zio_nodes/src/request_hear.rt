@@ -13,6 +13,7 @@ ghost use Rattle.zio_stages.specs.RequestNodes.{IsRequestNode};
 ghost use Rattle.zio_stages.specs.declared.outcome.Outcome.{Outcome as SeenOutcome};
 ghost use Rattle.zio_graph.specs.Stages.{Hears, HearsEarly, HearsSome};
 ghost use Rattle.zio_nodes.specs.Nodes.{IsTreeOver, gave_of, left_of, nodes};
+ghost use Rattle.zio_nodes.specs.Passes.{IsInPassOf};
 ghost use Rattle.zio_nodes.specs.RequestAts.{IsRequestAtOver};
 
 use crate::node::Node;
@@ -29,6 +30,7 @@ impl RequestAt {
         ensures heard { (t : Terms) (st : Stack) (c : Child) → HearsEarly nodes t (Node.Request self.old) st child c →
             IsRequestNode t self.new.node (heard_early st child c pointer) }
         ensures stage { self.new.stage ≡ self.old.stage }
+        ensures pass { IsInPassOf (Node.Request self.old) (Node.Request self.new) }
         ensures gave { gave_of (Node.Request self.new) ≡ gave_of (Node.Request self.old) }
         ensures over { (tops : Seq SeenTop) → IsRequestAtOver tops self.old → IsRequestAtOver tops self.new }
         ensures left { left_of (Node.Request self.new) ≡ left_of (Node.Request self.old) }
@@ -44,6 +46,7 @@ impl RequestAt {
             Hears nodes tops t (Node.Request self.old) st child c op (SeenOutcome.Finished finished.now) v →
             IsRequestNode t self.new.node (heard_of st child c v) }
         ensures stage { self.new.stage ≡ self.old.stage }
+        ensures pass { IsInPassOf (Node.Request self.old) (Node.Request self.new) }
         ensures gave { gave_of (Node.Request self.new) ≡ gave_of (Node.Request self.old) }
         ensures over { (tops : Seq SeenTop) → IsRequestAtOver tops self.old → IsRequestAtOver tops self.new }
         ensures left { left_of (Node.Request self.new) ≡ left_of (Node.Request self.old) }
@@ -60,6 +63,7 @@ impl RequestAt {
             Hears nodes tops t (Node.Request self.old) st child c op (SeenOutcome.Again whole bits pointer) v →
             IsRequestNode t self.new.node (heard_of st child c v) }
         ensures stage { self.new.stage ≡ self.old.stage }
+        ensures pass { IsInPassOf (Node.Request self.old) (Node.Request self.new) }
         ensures gave { gave_of (Node.Request self.new) ≡ gave_of (Node.Request self.old) }
         ensures over { (tops : Seq SeenTop) → IsTreeOver tops whole → IsRequestAtOver tops self.old → IsRequestAtOver tops self.new }
         ensures left { left_of (Node.Request self.new) ≡ left_of (Node.Request self.old) }

@@ -8,6 +8,7 @@ ghost use Rattle.zio_types.specs.declared.place.Top.{Top as SeenTop};
 ghost use Rattle.zio_script.specs.Requests.{kind_of};
 ghost use Rattle.zio_stages.specs.RequestKinds.{is_stored};
 ghost use Rattle.zio_graph.specs.Stages.{EachIn, Lessens, TellsValid};
+ghost use Rattle.zio_nodes.specs.Passes.{KeepsPassAt};
 ghost use Rattle.zio_nodes.specs.StageMoves.{IsEndMove, IsLastMove, IsStageMove};
 ghost use Rattle.zio_nodes.specs.Nodes.{IsNodeOver, IsTreeOver, MovesBare, MovesWith, StaysBare, StaysWith, left_of, moved};
 ghost use Rattle.zio_nodes.specs.RequestAts.{IsRequestAtOver};
@@ -41,6 +42,7 @@ impl RequestAt {
         ensures refused { OnErr result (StaysWith S.made (S.tops services.old) services.old services.new (Node.Request self.old) (Node.Request self.new)) }
         ensures tops { S.tops services.new ≡ S.tops services.old }
         ensures stages { IfOk result (λ turn. IsStageMove (Node.Request self.old) (moved (Node.Request self.new) turn)) }
+        ensures pass { IfOk result (λ turn. KeepsPassAt self.old.stage (Node.Request self.old) (moved (Node.Request self.new) turn)) }
     {
         match self.stage {
             Stage::WriteBpInit => Ok(self.write_bp_init()),
@@ -188,6 +190,7 @@ impl RequestAt {
         ensures left { IfOk result (λ turn. Lessens left_of (Node.Request self.old) (moved (Node.Request self.new) turn)) }
         ensures refused { OnErr result (StaysBare tops.now (Node.Request self.old) (Node.Request self.new)) }
         ensures stages { IfOk result (λ turn. IsStageMove (Node.Request self.old) (moved (Node.Request self.new) turn)) }
+        ensures pass { IfOk result (λ turn. KeepsPassAt self.old.stage (Node.Request self.old) (moved (Node.Request self.new) turn)) }
     {
         let mut room = new_room(alloc)?;
         match self.node.vdev_io_start_write(alloc, tops) {
@@ -215,6 +218,7 @@ impl RequestAt {
         ensures valid { TellsValid (moved (Node.Request self.new) result) }
         ensures left { Lessens left_of (Node.Request self.old) (moved (Node.Request self.new) result) }
         ensures stages { IsStageMove (Node.Request self.old) (moved (Node.Request self.new) result) }
+        ensures pass { KeepsPassAt self.old.stage (Node.Request self.old) (moved (Node.Request self.new) result) }
     {
         match self.node.vdev_io_done_write(tops) {
             IoNext::Wait => Turn::Wait(ChildKind::Vdev, Phase::Done),
@@ -254,6 +258,7 @@ impl RequestAt {
 
     /// Waits for its members and its children, and ends with what its block came to. Where memory is refused it comes back, and what it
     /// came to stays.
+    #[inline(never)]
     pub(crate) fn write_done<S: Services>(
         self,
         alloc: Global,

@@ -161,6 +161,13 @@ impl CopyRead {
         }
     }
 
+    /// The block's places.
+    pub fn places(&self) -> &[Place]
+        ensures { result.now ≡ self.now.places }
+    {
+        self.places.as_slice()
+    }
+
     /// How many bytes are read.
     pub fn len(&self) -> usize
         ensures { result ≡ self.now.len }

@@ -134,6 +134,13 @@ impl CopyWrite {
         }
     }
 
+    /// The block's places.
+    pub fn places(&self) -> &[Place]
+        ensures { result.now ≡ self.now.places }
+    {
+        self.places.as_slice()
+    }
+
     /// In which pass the next write is to be made.
     pub fn retry(&self) -> bool
         ensures { result ≡ self.now.retry }

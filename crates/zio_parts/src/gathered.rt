@@ -5,9 +5,8 @@ ghost use Rattle.zio_trace.specs.Plans.{under_head};
 ghost use Rattle.zio_parts.specs.Gathers.{FitsIn, IsRoomFor, KeepsRoom, gathered};
 ghost use Rattle.zio_parts.specs.HeadWalks.{joined, joined_behind, no_walk, with_member};
 
-use crate::walked::{Counts, Walked};
+use crate::walked::{Body, Counts, Walked};
 use std::alloc::Global;
-use zio_blkptr::Bp;
 use zio_gang::Head;
 use zio_types::{Errno, List, NoMemory, Path};
 
@@ -16,7 +15,7 @@ use zio_types::{Errno, List, NoMemory, Path};
 #[derive(Drop)]
 pub(crate) struct Gathered {
     errors: Vec<Option<Errno>>,
-    bodies: Vec<Bp>,
+    bodies: Vec<Body>,
     heads: Vec<Head>,
 }
 

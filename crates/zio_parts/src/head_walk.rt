@@ -286,7 +286,7 @@ impl HeadWalk {
             return Walked::stopped(alloc, error);
         }
         if !self.bp.gang {
-            return Walked::body(alloc, self.bp);
+            return Walked::body(alloc, self.bp, self.path);
         }
         if self.levels == 0 {
             return Walked::stopped(alloc, Errno::Cksum);
@@ -313,7 +313,7 @@ fn join(head: Gathered, members: [Option<Walked>; 3]) -> Walked
 }
 
 /// The nth of these pointers.
-pub(crate) fn nth(pointers: &[Bp], n: usize) -> Option<Bp>
+fn nth(pointers: &[Bp], n: usize) -> Option<Bp>
     ensures { result ≡ slice_get pointers.now n }
 {
     pointers.get(n).copied()

@@ -1,22 +1,22 @@
 // The read of a block under way.
 
-ghost use Rattle.std.specs.Prelude.{◌≡◌, ◌++◌, ◌+◌, ◌<◌, ◌≤◌, ◌∷◌, [], IfErr, IfOk, List, None, OnErr, OnOk, Option, Some, length, slice_get, slice_set};
+ghost use Rattle.std.specs.Prelude.{◌≡◌, ◌++◌, ◌+◌, ◌<◌, ◌≤◌, ◌∷◌, [], IfErr, IfOk, IfSome, List, None, OnErr, OnOk, Option, Some, length, option_map, slice_get, slice_set};
 ghost use Rattle.zio_gang.specs.declared.tree.Head.{Head};
 ghost use Rattle.zio_gang.specs.Attempts.{Terms};
 ghost use Rattle.zio_trace.specs.Calls.{answered_at};
 ghost use Rattle.zio_trace.specs.Plans.{plan};
 ghost use Rattle.zio_trace.specs.Tasks.{Got, ReadTree, WalkedBy};
 ghost use Rattle.zio_parts.specs.ReadFields.{ReadFields};
+ghost use Rattle.zio_parts.specs.declared.tree_read.BodyRead.{BodyRead as SeenRead};
 ghost use Rattle.zio_frames.specs.Slots.{Heard, IsOut, outs_before, told_in};
 ghost use Rattle.zio_parts.specs.TreeReads.{Reading, ShowsRead, bodies_or, found_of, fresh_read, left_of_read, slots_of, walk_heard, with_phase, with_results};
 
 use crate::bodies::join;
-use crate::head_walk::nth;
-use crate::walked::Walked;
+use crate::walked::{Body, Walked};
 use std::alloc::Global;
 use std::marker::Model;
 use zio_blkptr::Bp;
-use zio_types::{Bytes, Errno, List, NoMemory};
+use zio_types::{Bytes, Errno, List, NoMemory, Path};
 
 /// How many bodies are out together at most.
 pub const BODIES_OUT_MAX: usize = 3;
@@ -36,6 +36,8 @@ pub struct BodyRead {
     /// The body's number.
     pub n: usize,
     pub bp: Bp,
+    /// Where it stands in its block.
+    pub path: Path,
 }
 
 /// What the read of a block is to do next.
@@ -58,7 +60,7 @@ pub struct TreeRead {
     bp: Bp,
     phase: Phase,
     /// The bodies that the walk came to.
-    bodies: List<Bp>,
+    bodies: List<Body>,
     /// Of those that were handed out, in their order, what was read, none of those that are out.
     results: Vec<Option<Result<Bytes, Errno>>>,
     /// How many of them are out.
@@ -114,8 +116,8 @@ impl TreeRead {
         if self.out == BODIES_OUT_MAX {
             return TreeStep::Wait;
         }
-        match nth(self.bodies.as_slice(), n) {
-            Some(bp) => TreeStep::Body(BodyRead { n, bp }),
+        match nth_body(self.bodies.as_slice(), n) {
+            Some(body) => TreeStep::Body(body),
             None => {
                 if self.out > 0 {
                     TreeStep::Wait
@@ -216,4 +218,17 @@ impl TreeRead {
             Phase::Unread | Phase::Out => Ok(Err(Errno::Io)),
         }
     }
+}
+
+/// The nth of these bodies.
+fn nth_body(bodies: &[Body], n: usize) -> Option<BodyRead>
+    ensures pointer { option_map (λ (b : SeenRead). b.bp) result ≡ slice_get bodies.now n }
+    ensures number { IfSome result (λ b. b.n ≡ n) }
+{
+    let body = bodies.get(n)?;
+    Some(BodyRead {
+        n,
+        bp: body.pointer(),
+        path: body.path(),
+    })
 }

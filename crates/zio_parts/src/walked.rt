@@ -16,14 +16,40 @@ use std::marker::Model;
 use zio_blkptr::Bp;
 use zio_gang::{Head, Tree};
 use zio_mirror::write_result;
-use zio_types::{Errno, List, NoMemory};
+use zio_types::{Errno, List, NoMemory, Path};
 
-/// What a walk over headers left, each in order: its errors, the pointers to bodies that it came to, and the headers that
-/// it read.
+/// A body that a walk over headers came to: its pointer, and where it stands in its block. A contract sees the pointer.
+#[derive(Debug, Drop)]
+pub(crate) struct Body {
+    bp: Bp,
+    path: Path,
+}
+
+impl Model for Body {
+    ghost use Rattle.zio_blkptr.specs.declared.pointer.Bp.{Bp as SeenBp};
+
+    ghost Value = { SeenBp };
+
+    ghost view = { λ b. b.bp };
+}
+
+impl Body {
+    pub(crate) fn pointer(&self) -> Bp
+        ensures { result ≡ self.now }
+    {
+        self.bp
+    }
+
+    pub(crate) fn path(&self) -> Path {
+        self.path
+    }
+}
+
+/// What a walk over headers left, each in order: its errors, the bodies that it came to, and the headers that it read.
 #[derive(Debug, Drop)]
 pub struct Walked {
     errors: List<Option<Errno>>,
-    bodies: List<Bp>,
+    bodies: List<Body>,
     heads: List<Head>,
 }
 
@@ -82,12 +108,12 @@ impl Walked {
         })
     }
 
-    /// A walk that came to this body.
-    pub(crate) fn body(alloc: Global, bp: Bp) -> Result<Walked, NoMemory>
+    /// A walk that came to the body with this pointer, which stands at this path.
+    pub(crate) fn body(alloc: Global, bp: Bp, path: Path) -> Result<Walked, NoMemory>
         ensures { IfOk result (λ walked. walked ≡ body_of bp) }
     {
         let mut bodies = List::new(alloc);
-        bodies.push(bp)?;
+        bodies.push(Body { bp, path })?;
         Ok(Walked {
             errors: List::new(alloc),
             bodies,
@@ -96,7 +122,7 @@ impl Walked {
     }
 
     /// A walk that left these.
-    pub(crate) fn of(errors: List<Option<Errno>>, bodies: List<Bp>, heads: List<Head>) -> Walked
+    pub(crate) fn of(errors: List<Option<Errno>>, bodies: List<Body>, heads: List<Head>) -> Walked
         ensures { result ≡ record { errors = errors; bodies = bodies; heads = heads } }
     {
         Walked {
@@ -107,7 +133,7 @@ impl Walked {
     }
 
     /// Its errors, its bodies and its headers.
-    pub(crate) fn into_parts(self) -> (Vec<Option<Errno>>, Vec<Bp>, Vec<Head>)
+    pub(crate) fn into_parts(self) -> (Vec<Option<Errno>>, Vec<Body>, Vec<Head>)
         ensures errors { result.0.items ≡ self.errors }
         ensures bodies { result.1.items ≡ self.bodies }
         ensures heads { result.2.items ≡ self.heads }
@@ -141,7 +167,7 @@ impl Walked {
     }
 
     /// The bodies that it came to, or the worst of its errors.
-    pub(crate) fn into_bodies(self) -> Result<List<Bp>, Errno>
+    pub(crate) fn into_bodies(self) -> Result<List<Body>, Errno>
         ensures { result ≡ bodies_or self }
     {
         if self.errors.is_empty() {

@@ -338,14 +338,6 @@ member_slots Out members some = absurd (omega arith)
 member_slots (Failed e) members some = absurd (omega arith)
 member_slots (Read bytes) members some = ap suc (length-map members member_slot)
 
-pub more_steps : (name path more : List ℕ) (n : ℕ) → name ≡ path → more ≡ path ++ n ∷ [] → n < 4 → ((k step : ℕ) → slice_get name k ≡ Some step → step < 4)
-    → (k step : ℕ) → slice_get more k ≡ Some step → step < 4
-more_steps name path more n same is few steps k step e = by (get_either path n step k (ap (λ (p : List ℕ). slice_get p k) (sym is) ∙ e))
-  where
-    by : (slice_get path k ≡ Some step) ⊎ ((k ≡ length path) × (n ≡ step)) → step < 4
-    by (inl old) = steps k step (ap (λ (p : List ℕ). slice_get p k) same ∙ old)
-    by (inr new) = omega (arith, new.1, few)
-
 -- the child in the family
 pub known : (t : Terms) (tops : List Top) (node : HeadsNode) (st : Stack) (n : ℕ) (c : Child) (op : Task) (v : Value) → IsHeadsNode t node st → HearsValue t tops st n c op v → slice_get node.family n ≡ Some c
 known t tops node st n c op v h hears = ap (λ (cs : List Child). slice_get cs n) h.children ∙ hears.there

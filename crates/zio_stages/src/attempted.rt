@@ -113,6 +113,14 @@ impl RequestKids {
         self.kids.next()
     }
 
+    /// The label of the node of the next child, if there is one, in an attempt of this number.
+    pub(crate) fn next_label(&self, attempt: u32) -> u64 {
+        match self.due.last() {
+            Some(tree) => tree.root().label(attempt),
+            None => 0,
+        }
+    }
+
     /// The tree of the next child, whose attempt is out then.
     pub fn hand_out(&mut self) -> Whole
         requires { self.old.kids.handed < length self.old.kids.kids }

@@ -1,19 +1,19 @@
 //! What a request's node ends with where its attempt closes.
 
-ghost use Rattle.std.specs.Prelude.{◌≡◌, ◌<◌, ℕ};
+ghost use Rattle.std.specs.Prelude.{◌≡◌};
 ghost use Rattle.zio_gang.specs.Attempts.{tree_unless};
 ghost use Rattle.zio_stages.specs.Closings.{outcome_of};
+ghost use Rattle.zio_stages.specs.Labels.{closed_label};
 
 use crate::outcome::{Finished, Outcome};
-use crate::request_node::{Closed, OwnFound, label_of};
+use crate::request_node::{Closed, OwnFound};
 use zio_gang::Tree;
 use zio_types::Errno;
 
 impl Closed {
     /// The request finished, with the block that it made where it met no error, or it goes again.
     pub fn into_outcome(self, attempt: u32) -> Outcome
-        requires { attempt < 4 }
-        ensures { (label : ℕ) × (result ≡ outcome_of label self) }
+        ensures { result ≡ outcome_of (closed_label attempt self) self }
     {
         match self {
             Closed::Finished {
@@ -22,6 +22,7 @@ impl Closed {
                 own,
             } => {
                 let request = waiting.request.number;
+                let label = waiting.label(attempt);
                 let OwnFound {
                     bytes,
                     tree,
@@ -30,7 +31,7 @@ impl Closed {
                 } = own;
                 Outcome::Finished(Finished {
                     request,
-                    label: label_of(request, attempt),
+                    label,
                     error,
                     bytes,
                     block: kept_tree(error, tree),

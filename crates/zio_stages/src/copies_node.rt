@@ -10,6 +10,7 @@ ghost use Rattle.zio_frames.specs.Frames.{Child, Stack, fresh_stack};
 ghost use Rattle.zio_frames.specs.Moves.{IsEnded, heard_of};
 ghost use Rattle.zio_frames.specs.Seats.{IsSeated};
 ghost use Rattle.zio_stages.specs.CopiesNodes.{IsCopiesNode, IsCopiesOver};
+ghost use Rattle.zio_stages.specs.Labels.{part_label};
 ghost use Rattle.zio_stages.specs.LeafWorks.{IsDue};
 ghost use Rattle.zio_stages.specs.NodeChildren.{first_owing};
 ghost use Rattle.zio_stages.specs.NodeIos.{IsAwaitedAt, IsReadDue, StartsBy, with_one};
@@ -24,7 +25,7 @@ use crate::node_io::{IoNext, assess_read, hear_read, read_next, start_read};
 use crate::read_io::ReadIo;
 use crate::write_io::IoStep;
 use std::alloc::Global;
-use zio_types::{Bytes, Errno, List, NoMemory, Place, Prio, Top};
+use zio_types::{Bytes, Errno, List, NoMemory, Place, Prio, ReqNo, Top};
 
 /// A node that reads a block's copies, until one is good.
 #[derive(Drop)]
@@ -59,6 +60,20 @@ impl CopiesNode {
             family: Family::new(alloc),
             name,
         }
+    }
+
+    /// The number of the request for which it reads.
+    pub fn request(&self) -> ReqNo
+        ensures { result ≡ self.now.name.request }
+    {
+        self.name.request
+    }
+
+    /// The label of the node.
+    pub fn label(&self) -> u64
+        ensures { result ≡ part_label self.now.name self.now.io.read.len }
+    {
+        self.name.label(self.io.len())
     }
 
     /// Its children by number.

@@ -16,6 +16,7 @@ ghost use Rattle.zio_frames.specs.Moves.{IsEnded, heard_early, heard_of};
 ghost use Rattle.zio_frames.specs.Seats.{IsSeated};
 ghost use Rattle.zio_parts.specs.HeadWalks.{ShowsWalk};
 ghost use Rattle.zio_stages.specs.CopiesNodes.{IsCopiesNode, IsCopiesOver};
+ghost use Rattle.zio_stages.specs.Labels.{part_label};
 ghost use Rattle.zio_stages.specs.HeadsNodes.{
   HearsBelow,
   HearsHead,
@@ -50,7 +51,7 @@ use zio_blkptr::Bp;
 use zio_gang::Head;
 use zio_parts::{MemberWalk, WalkStep, Walked};
 use zio_types::{
-    Bytes, ChildKind, Errno, List, NoMemory, Path, Place, Prio, Role, SECTOR_SIZE, Top,
+    Bytes, ChildKind, Errno, List, NoMemory, Path, Place, Prio, ReqNo, Role, SECTOR_SIZE, Top,
 };
 
 /// The walk over a block's headers, or over a claim's, from a pointer down.
@@ -137,6 +138,20 @@ impl HeadsNode {
         }
     }
 
+    /// The number of the request for which it walks.
+    pub fn request(&self) -> ReqNo
+        ensures { result ≡ self.now.name.request }
+    {
+        self.name.request
+    }
+
+    /// The label of the node: it reads a header, and what stands below that is read by its children.
+    pub fn label(&self) -> u64
+        ensures { result ≡ part_label self.now.name 512 }
+    {
+        self.name.label(SECTOR_SIZE as usize)
+    }
+
     /// Its children by number.
     pub fn family(&self) -> &Family
         ensures { result.now ≡ self.now.family }
@@ -189,9 +204,9 @@ impl HeadsNode {
         ensures err { OnErr result (self.new ≡ self.old) }
     {
         let places = places_of(alloc, &self.work.pointer())?;
-        let name = self.name.at(self.name.path, Role::Head);
-        self.family
-            .add(ChildKind::Gang, Seat::Outer(0), name.part_label())?;
+        let name = self.name.with_role(Role::Head);
+        let label = name.label(SECTOR_SIZE as usize);
+        self.family.add(ChildKind::Gang, Seat::Outer(0), label)?;
         let read = self.work.hand_out_head();
         Ok(reading(alloc, tops, read, places, self.prio, name))
     }
@@ -217,9 +232,10 @@ impl HeadsNode {
         ensures err { OnErr result (self.new ≡ self.old) }
     {
         let heads = self.work.heads_below(alloc, &member.path)?;
-        let name = self.name.at(member.path, Role::Body);
+        let name = self.name.at(member.path, Role::Head);
         let seat = Seat::Outer(u32::from(member.n) + 1);
-        self.family.add(ChildKind::Gang, seat, name.part_label())?;
+        self.family
+            .add(ChildKind::Gang, seat, name.label(SECTOR_SIZE as usize))?;
         let work = self.work.hand_out_below(alloc, tops, member, heads);
         Ok(HeadsNode {
             work,

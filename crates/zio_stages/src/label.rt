@@ -1,9 +1,9 @@
 // What names a node among all of a round.
 
 ghost use Rattle.std.specs.Prelude.{◌≡◌, ◌+◌, ◌*◌, ◌<◌, ◌≤◌, ◌^◌, length};
-ghost use Rattle.std.specs.List.{AllByRecursion};
-ghost use Rattle.zio_stages.specs.Labels.{IsLabel, copy_number, label_of, level_number, pass_number, role_number, steps_number};
+ghost use Rattle.zio_stages.specs.Labels.{IsLabel, copy_number, label_of, level_number, part_label, pass_number, role_number, sectors_in, steps_number};
 
+use crate::named::Named;
 use zio_types::{Path, ReqNo, Role};
 
 /// What kind of child a node is.
@@ -11,8 +11,6 @@ use zio_types::{Path, ReqNo, Role};
 pub(crate) enum Level {
     /// A request, or a part of its block.
     Part,
-    /// A place of a piece.
-    Place,
     /// An operation on a leaf.
     Leaf,
 }
@@ -39,8 +37,8 @@ pub(crate) struct Label {
 
 impl Label {
     /// Its fields in one number: bits 0 to 15 the request, 16 to 19 the length of the path, 20 to 35 its steps, 36 the
-    /// role, 37 and 38 the place, 39 to 42 the image, 43 and 44 the level, 45 and 46 the attempt, 47 the second pass,
-    /// 48 a repair, and from 49 on the sectors.
+    /// role, 37 and 38 the place, 39 to 42 the image, 43 and 44 the level, 0 of a part and 2 of an operation on a leaf,
+    /// 45 and 46 the attempt, 47 the second pass, 48 a repair, and from 49 on the sectors.
     pub(crate) fn pack(&self) -> u64
         requires { IsLabel self.now }
         ensures { result ≡ label_of self.now }
@@ -75,6 +73,35 @@ impl Label {
     }
 }
 
+impl Named {
+    /// The label of a node that does the whole part, and reads so many bytes.
+    pub(crate) fn label(&self, bytes: usize) -> u64
+        ensures { result ≡ part_label self.now bytes }
+    {
+        let label = Label {
+            request: self.request,
+            path: self.path,
+            role: self.role,
+            place: 0,
+            image: 0,
+            level: Level::Part,
+            attempt: self.attempt,
+            retry: false,
+            repair: false,
+            sectors: sectors_in(bytes),
+        };
+        label.pack()
+    }
+}
+
+/// The sectors of 512 bytes in so many bytes, as far as a label has room.
+pub(crate) fn sectors_in(bytes: usize) -> u32
+    ensures number { result ≡ sectors_in bytes }
+    ensures room { result < 4096 }
+{
+    (bytes / 512 % 4096) as u32
+}
+
 /// Two fields in one number, the lower below this base, and the higher below this bound.
 fn joined(low: u64, base: u64, high: u64, bound: u64) -> u64
     requires low { low < base }
@@ -89,13 +116,12 @@ fn joined(low: u64, base: u64, high: u64, bound: u64) -> u64
 /// The steps of a path, two bits each, the first lowest.
 fn steps_number(steps: &[u8]) -> u64
     requires few { length steps.now ≤ 8 }
-    requires small { AllByRecursion (λ step. step < 4) steps.now }
     ensures number { result ≡ steps_number steps.now }
     ensures below { result < 4 ^ length steps.now }
 {
     match steps {
         [] => 0,
-        [step, rest @ ..] => 4 * steps_number(rest) + *step as u64,
+        [step, rest @ ..] => 4 * steps_number(rest) + (*step % 4) as u64,
     }
 }
 
@@ -113,7 +139,6 @@ fn level_number(level: Level) -> u64
 {
     match level {
         Level::Part => 0,
-        Level::Place => 1,
         Level::Leaf => 2,
     }
 }

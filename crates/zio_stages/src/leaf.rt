@@ -7,6 +7,7 @@ ghost use Rattle.zio_trace.specs.Tasks.{Got, Leaf};
 ghost use Rattle.zio_frames.specs.Frames.{Frame, fresh_frame, with_asked};
 ghost use Rattle.zio_frames.specs.Slots.{Heard};
 ghost use Rattle.zio_parts.specs.Copies.{spot_at};
+ghost use Rattle.zio_stages.specs.Labels.{operation_label};
 ghost use Rattle.zio_stages.specs.LeafWorks.{
   IsAnswered,
   IsDue,
@@ -19,11 +20,12 @@ ghost use Rattle.zio_stages.specs.LeafWorks.{
   shown_by,
 };
 
-use crate::named::Named;
+use crate::label::{Label, Level, sectors_in};
+use crate::origin::Origin;
 use std::alloc::Global;
 use std::mem::replace;
 use zio_parts::Target;
-use zio_types::{Bytes, Errno, Flags, List, Prio, SECTOR_SIZE};
+use zio_types::{Bytes, Errno, Flags, List, Prio, ReqNo, SECTOR_SIZE};
 use zio_vqueue::Op;
 
 /// What the operation does.
@@ -48,6 +50,7 @@ enum Stage {
 /// One operation on a leaf: it is handed out to the leaf once, with the bytes of a write, and answered.
 #[derive(Drop)]
 pub struct LeafWork {
+    origin: Origin,
     leaf: u32,
     /// As the leaf's queue takes it. Its range is the whole place, however many bytes are read or written.
     op: Op,
@@ -57,13 +60,22 @@ pub struct LeafWork {
 
 impl LeafWork {
     /// The read of this copy's first `len` bytes. Without memory.
-    pub fn read(alloc: Global, target: &Target, len: usize, retry: bool, prio: Prio) -> LeafWork
+    pub(crate) fn read(
+        alloc: Global,
+        origin: Origin,
+        target: &Target,
+        len: usize,
+        retry: bool,
+        prio: Prio,
+    ) -> LeafWork
         requires { IsSpanned target.now.place }
         ensures fresh { (t : Terms) → IsLeafWork t result (fresh_frame (Leaf (Fetch retry len (spot_at target.now)))) }
         ensures queued { IsQueuedAs prio false result }
         ensures due { IsDue result }
+        ensures origin { result.origin ≡ origin }
     {
         LeafWork {
+            origin,
             leaf: target.leaf,
             op: op_on(target, false, retry, prio, false),
             act: Act::Read { len },
@@ -72,13 +84,22 @@ impl LeafWork {
     }
 
     /// The write of these bytes as this copy; `repair` tells whether it rewrites one that was found bad.
-    pub fn write(target: &Target, retry: bool, prio: Prio, repair: bool, bytes: Bytes) -> LeafWork
+    pub(crate) fn write(
+        origin: Origin,
+        target: &Target,
+        retry: bool,
+        prio: Prio,
+        repair: bool,
+        bytes: Bytes,
+    ) -> LeafWork
         requires { IsSpanned target.now.place }
         ensures fresh { (t : Terms) → IsLeafWork t result (fresh_frame (Leaf (Store retry bytes (spot_at target.now)))) }
         ensures queued { IsQueuedAs prio repair result }
         ensures due { IsDue result }
+        ensures origin { result.origin ≡ origin }
     {
         LeafWork {
+            origin,
             leaf: target.leaf,
             op: op_on(target, true, retry, prio, repair),
             act: Act::Write,
@@ -96,10 +117,38 @@ impl LeafWork {
         }
     }
 
-    /// The label of its node, in the part with this name.
-    pub(crate) fn label(&self, name: &Named) -> u64 {
-        let flags = self.op.flags;
-        name.leaf_label(self.leaf, flags.retry, flags.repair, self.len())
+    /// The number of the request for which it is made.
+    pub fn request(&self) -> ReqNo
+        ensures { result ≡ self.now.origin.part.request }
+    {
+        self.origin.part.request
+    }
+
+    /// Whether it writes.
+    pub fn is_write(&self) -> bool
+        ensures { result ≡ self.now.op.write }
+    {
+        self.op.write
+    }
+
+    /// The label of its node.
+    pub fn label(&self) -> u64
+        ensures { result ≡ operation_label self.now }
+    {
+        let Origin { part, place } = self.origin;
+        let label = Label {
+            request: part.request,
+            path: part.path,
+            role: part.role,
+            place: place % 4,
+            image: self.leaf % 16,
+            level: Level::Leaf,
+            attempt: part.attempt,
+            retry: self.op.flags.retry,
+            repair: self.op.flags.repair,
+            sectors: sectors_in(self.len()),
+        };
+        label.pack()
     }
 
     /// It goes to its leaf: the operation, whose ticket is 0, the leaf's number, and the bytes of a write, none of a
@@ -110,6 +159,7 @@ impl LeafWork {
         ensures handed { (t : Terms) (x : Frame) (act : LeafOp) → IsLeafWork t self.old x → x.op ≡ Leaf act →
             IsOpFor act result.0 result.1 result.2 }
         ensures len { len_of self.new ≡ len_of self.old }
+        ensures label { operation_label self.new ≡ operation_label self.old }
         ensures op { result.0 ≡ self.old.op }
         ensures out { self.new.stage ≡ Stage.Out }
     {

@@ -17,6 +17,7 @@ mod label;
 mod leaf;
 mod named;
 mod node_io;
+mod origin;
 mod outcome;
 mod own_claim;
 mod own_free;

@@ -1,9 +1,7 @@
 // What the nodes of a part of a request's work are named by.
 
-ghost use Rattle.std.specs.Prelude.{◌≡◌, ◌<◌, ℕ, Some, slice_get};
-ghost use Rattle.std.specs.List.{AllByRecursion};
+ghost use Rattle.std.specs.Prelude.{◌≡◌, ◌<◌};
 
-use crate::label::{Label, Level};
 use zio_types::{Path, ReqNo, Role};
 
 /// Which part of which request's work it is: the part of its block, what is read or written there, and in which attempt.
@@ -14,15 +12,13 @@ pub struct Named {
     pub(crate) role: Role,
     pub(crate) attempt: u32,
     ghost few: { request < 65536 },
-    ghost steps: { (k step : ℕ) → slice_get path k ≡ Some step → step < 4 },
     ghost attempts: { attempt < 4 },
 }
 
 impl Named {
-    /// Requests are numbered below 65,536, attempts below 4, and members below 4.
+    /// Requests are numbered below 65,536, and attempts below 4.
     pub fn new(request: ReqNo, path: Path, role: Role, attempt: u32) -> Named
         requires few { request < 65536 }
-        requires steps { AllByRecursion (λ step. step < 4) path }
         requires attempts { attempt < 4 }
         ensures { result.path ≡ path }
     {
@@ -36,7 +32,6 @@ impl Named {
 
     /// Another part of the same request's work.
     pub(crate) fn at(&self, path: Path, role: Role) -> Named
-        requires { (k step : ℕ) → slice_get path k ≡ Some step → step < 4 }
         ensures { result.path ≡ path }
     {
         Named {
@@ -47,48 +42,11 @@ impl Named {
         }
     }
 
-    /// The label of a node that does the whole part.
-    pub(crate) fn part_label(&self) -> u64 {
-        let label = Label {
-            request: self.request,
-            path: self.path,
-            role: self.role,
-            place: 0,
-            image: 0,
-            level: Level::Part,
-            attempt: self.attempt,
-            retry: false,
-            repair: false,
-            sectors: 0,
-        };
-        label.pack()
-    }
-
-    /// The label of an operation on this leaf that moves so many bytes. Which of the part's places it is on isn't told.
-    pub(crate) fn leaf_label(&self, leaf: u32, retry: bool, repair: bool, bytes: usize) -> u64 {
-        let label = Label {
-            request: self.request,
-            path: self.path,
-            role: self.role,
-            place: 0,
-            image: leaf % 16,
-            level: Level::Leaf,
-            attempt: self.attempt,
-            retry,
-            repair,
-            sectors: (bytes / 512 % 4096) as u32,
-        };
-        label.pack()
-    }
-
     /// The same part's body or header.
-    pub(crate) fn with_role(&self, role: Role) -> Named {
-        Named {
-            request: self.request,
-            path: self.path,
-            role,
-            attempt: self.attempt,
-        }
+    pub(crate) fn with_role(&self, role: Role) -> Named
+        ensures { result.path ≡ self.now.path }
+    {
+        self.at(self.path, role)
     }
 
     /// The body of a member of the gang here, or of the part itself where no more steps can be named.
@@ -99,11 +57,6 @@ impl Named {
         let Some(path) = path.child(n) else {
             return *self;
         };
-        Named {
-            request: self.request,
-            path,
-            role: Role::Body,
-            attempt: self.attempt,
-        }
+        self.at(path, Role::Body)
     }
 }

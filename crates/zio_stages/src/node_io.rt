@@ -72,9 +72,9 @@ pub(crate) fn start_read(
     let IoStep::Child = io.next(tops) else {
         return Ok(None);
     };
-    let leaf = io.next_leaf(alloc, tops)?;
+    let leaf = io.next_leaf(alloc, tops, name)?;
     let seat = layer.seat(io.asked());
-    family.add(ChildKind::Vdev, seat, leaf.label(name))?;
+    family.add(ChildKind::Vdev, seat, leaf.label())?;
     io.hand_out(tops);
     Ok(Some(leaf))
 }
@@ -175,9 +175,9 @@ pub(crate) fn start_write(
     let IoStep::Child = io.next(tops) else {
         return Ok(None);
     };
-    let leaf = io.next_leaf(alloc, tops, bytes)?;
+    let leaf = io.next_leaf(alloc, tops, name, bytes)?;
     let seat = layer.seat(io.asked());
-    family.add(ChildKind::Vdev, seat, leaf.label(name))?;
+    family.add(ChildKind::Vdev, seat, leaf.label())?;
     io.hand_out(tops);
     Ok(Some(leaf))
 }

@@ -110,7 +110,7 @@ impl PartWork {
         let range = self.own.member_range(n);
         let bytes = copy_of(alloc, &self.bytes.as_slice()[range])?;
         let name = name.member(n as u8);
-        family.add(ChildKind::Gang, seat, name.part_label())?;
+        family.add(ChildKind::Gang, seat, name.label(0))?;
         let own = self.own.hand_out_member(n, self.bytes.as_slice());
         Ok(Some(PartNode::of(alloc, own, bytes, self.prio, name)))
     }

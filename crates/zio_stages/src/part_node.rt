@@ -20,6 +20,7 @@ ghost use Rattle.zio_stages.specs.NodeChildren.{first_owing};
 ghost use Rattle.zio_stages.specs.NodeIos.{IsWriteDue, StartsBy, with_one};
 ghost use Rattle.zio_stages.specs.Outcomes.{held_by, stored_in};
 ghost use Rattle.zio_stages.specs.OwnParts.{DoesThen, IsOwed};
+ghost use Rattle.zio_stages.specs.Labels.{part_label};
 ghost use Rattle.zio_stages.specs.PartNodes.{ComesTo, HearsEarlyAt, HearsValueAt, IsAllocatedOver, IsAnsweredBy, IsMemberUnder, IsPartNode, IsPartNodeOver, IsStoredBy, member_in, with_member};
 ghost use Rattle.zio_stages.specs.PartOwns.{IsKept, IsPartOwn, ShowsOwn, WrittenPart, part_task, stored_as};
 ghost use Rattle.zio_stages.specs.PartWorks.{HaveUnits, IsIssued, IsMoreDue, IsNoLessFar, IsPlaced, IsWritten, asked_by, is_second};
@@ -38,7 +39,7 @@ use crate::services::Services;
 use std::alloc::Global;
 use zio_blkptr::{BLOCK_SIZE_MAX, Bp};
 use zio_parts::{BlockWrite, PartStep, StoredPart};
-use zio_types::{Bytes, ChildKind, Errno, NoMemory, Path, Prio, Role, Top};
+use zio_types::{Bytes, ChildKind, Errno, NoMemory, Path, Prio, ReqNo, Role, Top};
 
 /// The write of a gang's member, which may become a gang itself.
 #[derive(Drop)]
@@ -112,6 +113,20 @@ impl PartNode {
     {
         let own = PartOwn::new(write, path, bytes.as_slice());
         PartNode::of(alloc, own, bytes, prio, name)
+    }
+
+    /// The number of the request for which it writes.
+    pub fn request(&self) -> ReqNo
+        ensures { result ≡ self.now.name.request }
+    {
+        self.name.request
+    }
+
+    /// The label of the node, which reads nothing.
+    pub fn label(&self) -> u64
+        ensures { result ≡ part_label self.now.name 0 }
+    {
+        self.name.label(0)
     }
 
     /// Its children by number.

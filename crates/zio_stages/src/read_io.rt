@@ -13,6 +13,7 @@ ghost use Rattle.zio_stages.specs.WriteIos.{AreIoPlaces, ShowsOuts};
 
 use crate::check::Check;
 use crate::leaf::LeafWork;
+use crate::named::Named;
 use crate::write_io::{IoStep, copy_of};
 use std::alloc::Global;
 use zio_parts::{CopyRead, ReadStep};
@@ -71,6 +72,13 @@ impl ReadIo {
         !self.read.has_bytes()
     }
 
+    /// How many bytes it reads.
+    pub fn len(&self) -> usize
+        ensures { result ≡ self.now.read.len }
+    {
+        self.read.len()
+    }
+
     /// The number of the next operation.
     pub fn asked(&self) -> u32
         ensures { result ≡ self.now.asked }
@@ -88,24 +96,27 @@ impl ReadIo {
         io_of_read(step)
     }
 
-    /// The operation of the step: a read, or a repair with a copy of the good bytes.
-    pub fn next_leaf(&self, alloc: Global, tops: &[Top]) -> Result<LeafWork, NoMemory>
+    /// The operation of the step, by the part with this name: a read, or a repair with a copy of the good bytes.
+    pub fn next_leaf(&self, alloc: Global, tops: &[Top], name: &Named) -> Result<LeafWork, NoMemory>
         requires over { IsReadOver tops.now self.now }
         requires step { IsReadStep tops.now self.now IoStep.Child }
         ensures next { IfOk result (λ child. (t : Terms) (x : Frame) → t.setting.tops ≡ tops.now → IsReadIo t self.now x →
             AsksOfRead t x child self.now) }
         ensures due { IfOk result IsDue }
+        ensures origin { IfOk result (λ child. child.origin.part ≡ name.now) }
     {
         match self.read.next(tops) {
             ReadStep::Fetch(target) => {
                 let retry = self.read.retry();
                 let len = self.read.len();
-                Ok(LeafWork::read(alloc, &target, len, retry, self.prio))
+                let origin = name.on(self.read.places(), &target.place);
+                Ok(LeafWork::read(alloc, origin, &target, len, retry, self.prio))
             }
             ReadStep::Repair(target) => {
                 let retry = self.read.retry();
                 let copy = copy_of(alloc, self.read.bytes())?;
-                Ok(LeafWork::write(&target, retry, Prio::AsyncWrite, true, copy))
+                let origin = name.on(self.read.places(), &target.place);
+                Ok(LeafWork::write(origin, &target, retry, Prio::AsyncWrite, true, copy))
             }
             ReadStep::Wait | ReadStep::Retry | ReadStep::End(_) => unreachable!(),
         }

@@ -30,14 +30,14 @@ use crate::heads_node::HeadsNode;
 use crate::own_claim::{ClaimStep, OwnClaim};
 use crate::request_free::failed;
 use crate::request_node::{Own, OwnFound, RequestNode};
-use crate::request_read::{front_of, name_of};
+use crate::request_read::front_of;
 use crate::services::Services;
 use std::alloc::Global;
 use std::mem::replace;
 use zio_gang::Tree;
 use zio_parts::{LEVELS_MAX, Walked};
 use zio_script::Work;
-use zio_types::{ChildKind, Errno, List, NoMemory, Prio, Top};
+use zio_types::{ChildKind, Errno, List, NoMemory, Prio, SECTOR_SIZE, Top};
 
 impl RequestNode {
     /// Begins the claim of the block that the request's bytes point to, once its children were all handed out. The walk from a plain
@@ -111,6 +111,7 @@ impl RequestNode {
         ensures rest { self.new ≡ with_own self.old self.new.own self.new.family }
         ensures err { OnErr result (self.new ≡ self.old) }
     {
+        let name = self.waiting.headers_name(self.attempt);
         let Own::Claim(own) = &mut self.own else {
             return Ok(None);
         };
@@ -118,8 +119,7 @@ impl RequestNode {
             return Ok(None);
         };
         let front = front_of(&self.kids, &self.family)?;
-        let name = name_of(self.waiting.request.number, self.attempt);
-        own.gang_assemble(&mut self.family, front, name.part_label())?;
+        own.gang_assemble(&mut self.family, front, name.label(SECTOR_SIZE as usize))?;
         Ok(Some(HeadsNode::claimed(alloc, tops, LEVELS_MAX, name.path, bp, Prio::SyncRead, name)))
     }
 

@@ -30,12 +30,12 @@ ghost use Rattle.zio_stages.specs.declared.own_free.FreeWalk.{FreeWalk as SeenWa
 use crate::heads_node::HeadsNode;
 use crate::own_free::{FreeWalk, OwnFree};
 use crate::request_node::{Own, OwnFound, RequestNode};
-use crate::request_read::{front_of, heads_again, name_of};
+use crate::request_read::{front_of, heads_again};
 use crate::services::Services;
 use crate::stored_block::places_of;
 use std::alloc::Global;
 use zio_parts::{LEVELS_MAX, Walked};
-use zio_types::{ChildKind, Errno, List, NoMemory, Prio};
+use zio_types::{ChildKind, Errno, List, NoMemory, Prio, SECTOR_SIZE};
 
 impl RequestNode {
     /// Begins the free of the block that the request names, once its children were all handed out. The walk from a plain pointer
@@ -85,6 +85,7 @@ impl RequestNode {
         ensures rest { self.new ≡ with_own self.old self.new.own self.new.family }
         ensures err { OnErr result (self.new ≡ self.old) }
     {
+        let name = self.waiting.headers_name(self.attempt);
         let Own::Free(own) = &mut self.own else {
             return Ok(None);
         };
@@ -96,8 +97,7 @@ impl RequestNode {
         };
         let front = front_of(&self.kids, &self.family)?;
         let heads = heads_again(alloc, tree.heads.as_slice())?;
-        let name = name_of(self.waiting.request.number, self.attempt);
-        own.gang_assemble(&mut self.family, front, name.part_label())?;
+        own.gang_assemble(&mut self.family, front, name.label(SECTOR_SIZE as usize))?;
         Ok(Some(HeadsNode::kept(
             alloc,
             LEVELS_MAX,

@@ -1,7 +1,8 @@
 //! What a request in an attempt is to do, and in which attempt of which round.
 
-ghost use Rattle.std.specs.Prelude.{◌≡◌, ℕ};
+ghost use Rattle.std.specs.Prelude.{◌≡◌, length, ℕ};
 ghost use Rattle.zio_script.specs.Requests.{kind_of};
+ghost use Rattle.zio_stages.specs.Labels.{request_label};
 ghost use Rattle.zio_stages.specs.RequestKinds.{has_gang_stages, is_gang_tree, is_stored, points_to_gang};
 ghost use Rattle.zio_stages.specs.RequestOwns.{IsOwnSeat};
 
@@ -10,7 +11,7 @@ use crate::request_node::{Own, RequestNode};
 use zio_blkptr::decode;
 use zio_gang::Tree;
 use zio_script::{Failmode, Work};
-use zio_types::Kind;
+use zio_types::{Kind, ReqNo};
 
 impl RequestNode {
     /// The kind of the request.
@@ -18,6 +19,27 @@ impl RequestNode {
         ensures { result ≡ kind_of self.now.waiting.request.work }
     {
         self.waiting.request.work.kind()
+    }
+
+    /// The number of the request.
+    pub fn number(&self) -> ReqNo
+        ensures { result ≡ self.now.waiting.request.number }
+    {
+        self.waiting.request.number
+    }
+
+    /// How many of its children hadn't finished when its attempt began.
+    pub fn unfinished(&self) -> usize
+        ensures { result ≡ length self.now.kids.kids.kids }
+    {
+        self.kids.len()
+    }
+
+    /// The label of its node.
+    pub fn label(&self) -> u64
+        ensures { result ≡ request_label self.now.waiting self.now.attempt }
+    {
+        self.waiting.label(self.attempt)
     }
 
     /// Whether its pipeline has the gang stages: those of a read, a free or a claim of a gang do.

@@ -31,7 +31,6 @@ ghost use Rattle.zio_stages.specs.Wholes.{IsTreeOf, root_number, root_of};
 
 use crate::attempted::{AgainBack, RequestKids, WholeBack};
 use crate::family::{Family, Seat};
-use crate::label::{Label, Level};
 use crate::own_claim::OwnClaim;
 use crate::own_free::OwnFree;
 use crate::own_read::OwnRead;
@@ -45,7 +44,7 @@ use zio_children::KidStep;
 use zio_counts::all_bits;
 use zio_gang::Tree;
 use zio_script::Failmode;
-use zio_types::{Bits, ChildKind, Errno, List, NoMemory, Path, ReqNo, Role, worst};
+use zio_types::{Bits, ChildKind, Errno, List, NoMemory, ReqNo, worst};
 
 /// How far a request's own work is.
 #[derive(Drop)]
@@ -205,7 +204,7 @@ impl RequestNode {
         let KidStep::Child(place) = self.kids.next() else {
             return Ok(Start::AllOut);
         };
-        let label = label_of(self.kids.kids().number(place), self.attempt);
+        let label = self.kids.next_label(self.attempt);
         let seat = seat_of(&self.family, place)?;
         let number = self.family.add(ChildKind::Logical, seat, label)?;
         let whole = self.kids.hand_out();
@@ -401,30 +400,6 @@ impl RequestNode {
             Seat::Inner(_) => unreachable!(),
         }
     }
-}
-
-/// The label of an attempt of the request with this number.
-pub(crate) fn label_of(number: ReqNo, attempt: u32) -> u64
-    requires { attempt < 4 }
-{
-    let path = Path {
-        len: 0,
-        steps: [0; 8],
-    };
-    let label = Label {
-        // No number of a script is higher.
-        request: number % 65_536,
-        path,
-        role: Role::Body,
-        place: 0,
-        image: 0,
-        level: Level::Part,
-        attempt,
-        retry: false,
-        repair: false,
-        sectors: 0,
-    };
-    label.pack()
 }
 
 /// Where the child of this place sits, if so many children can be counted.

@@ -30,29 +30,15 @@ ghost use Rattle.zio_stages.specs.Tops.{AreTops};
 ghost use Rattle.zio_stages.specs.declared.part_node.PartNode.{PartNode as SeenPart};
 
 use crate::leaf::LeafWork;
-use crate::named::Named;
 use crate::node_io::IoNext;
 use crate::own_write::OwnWrite;
 use crate::part_node::Allocated;
 use crate::request_node::{Own, RequestNode};
 use crate::services::Services;
 use std::alloc::Global;
-use zio_types::{NoMemory, Path, Role, Top};
+use zio_types::{NoMemory, Top};
 
 impl RequestNode {
-    /// What the nodes of its own work are named by.
-    fn own_name(&self) -> Named
-        requires { self.now.attempt < 4 }
-    {
-        let top = Path {
-            len: 0,
-            steps: [0; 8],
-        };
-        // No number of a script is higher.
-        let number = self.waiting.request.number % 65_536;
-        Named::new(number, top, Role::Body, self.attempt)
-    }
-
     /// Asks the space for the places of the block, for a header's where these are refused, and hands out the gang's next
     /// member. Where memory is refused what was done before stays.
     pub fn dva_allocate<S: Services>(
@@ -76,7 +62,7 @@ impl RequestNode {
         ensures placed { result ≡ Ok Allocated.Placed → IsPlacedWrite self.new.own }
         ensures rest { self.new ≡ with_own self.old self.new.own self.new.family }
     {
-        let name = self.own_name();
+        let name = self.waiting.name(self.attempt);
         let Own::Write(OwnWrite { work, front }) = &mut self.own else {
             unreachable!()
         };
@@ -106,7 +92,7 @@ impl RequestNode {
         ensures issued { OnOk result (IsIssuedWrite self.new.own) }
         ensures rest { self.new ≡ with_own self.old self.new.own self.new.family }
     {
-        let name = self.own_name();
+        let name = self.waiting.name(self.attempt);
         let Own::Write(OwnWrite { work, .. }) = &mut self.own else {
             unreachable!()
         };

@@ -63,14 +63,12 @@ ghost use Rattle.zio_stages.specs.declared.copies_node.CopiesNode.{CopiesNode as
 ghost use Rattle.zio_parts.specs.TreeReads.{bodies_or, walk_heard};
 ghost use Rattle.zio_stages.specs.declared.family.Layer.TheVariants.{Within};
 
-use crate::at_once::root;
 use crate::attempted::RequestKids;
 use crate::check::Check;
 use crate::copies_node::CopiesNode;
 use crate::family::Family;
 use crate::heads_node::HeadsNode;
 use crate::leaf::LeafWork;
-use crate::named::Named;
 use crate::node_io::IoNext;
 use crate::own_read::OwnRead;
 use crate::pointer_places::places_of;
@@ -81,7 +79,7 @@ use std::mem::replace;
 use zio_gang::Head;
 use zio_parts::{LEVELS_MAX, TreeStep, Walked};
 use zio_script::Work;
-use zio_types::{Bytes, ChildKind, Errno, List, NoMemory, Prio, ReqNo, Role, Top};
+use zio_types::{Bytes, ChildKind, Errno, List, NoMemory, Prio, Role, SECTOR_SIZE, Top};
 
 /// What a read of a gang hands out next.
 #[derive(Drop)]
@@ -152,6 +150,7 @@ impl RequestNode {
         ensures rest { self.new ≡ with_own self.old self.new.own self.new.family }
         ensures err { OnErr result (self.new ≡ self.old) }
     {
+        let name = self.waiting.headers_name(self.attempt);
         let Own::Read(own) = &mut self.own else {
             return Ok(None);
         };
@@ -163,8 +162,7 @@ impl RequestNode {
         };
         let front = front_of(&self.kids, &self.family)?;
         let heads = heads_again(alloc, tree.heads.as_slice())?;
-        let name = name_of(self.waiting.request.number, self.attempt);
-        own.gang_assemble(&mut self.family, front, name.part_label())?;
+        own.gang_assemble(&mut self.family, front, name.label(SECTOR_SIZE as usize))?;
         let prio = prio_of(&self.waiting.request.work);
         Ok(Some(HeadsNode::kept(alloc, LEVELS_MAX, name.path, tree.bp, heads, prio, name)))
     }
@@ -200,10 +198,10 @@ impl RequestNode {
             TreeStep::Body(body) => {
                 let front = front_of(&self.kids, &self.family)?;
                 let places = places_of(alloc, &body.bp)?;
-                let name = name_of(self.waiting.request.number, self.attempt);
-                own.gang_issue(&mut self.family, front, body, name.part_label())?;
-                let prio = prio_of(&self.waiting.request.work);
                 let len = body.bp.size as usize;
+                let name = self.waiting.name(self.attempt).at(body.path, Role::Body);
+                own.gang_issue(&mut self.family, front, body, name.label(len))?;
+                let prio = prio_of(&self.waiting.request.work);
                 let check = Check::body(body.bp);
                 Ok(BodyStage::Body(CopiesNode::new(
                     alloc, tops, places, len, true, check, prio, name,
@@ -236,7 +234,7 @@ impl RequestNode {
         ensures rest { self.new ≡ with_own self.old self.new.own self.new.family }
     {
         let prio = prio_of(&self.waiting.request.work);
-        let name = name_of(self.waiting.request.number, self.attempt);
+        let name = self.waiting.name(self.attempt);
         let Own::Read(own) = &mut self.own else {
             return Ok(None);
         };
@@ -439,15 +437,6 @@ pub(crate) fn front_of(kids: &RequestKids, family: &Family) -> Result<u32, NoMem
         return Err(NoMemory);
     }
     Ok(kids.len() as u32)
-}
-
-/// The name of the whole block's work of the request with this number.
-pub(crate) fn name_of(number: ReqNo, attempt: u32) -> Named
-    requires { attempt < 4 }
-    ensures { result.path ≡ [] }
-{
-    // No number of a script is higher.
-    Named::new(number % 65_536, root(), Role::Body, attempt)
 }
 
 /// The same headers once more.

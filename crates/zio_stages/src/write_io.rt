@@ -22,6 +22,7 @@ ghost use Rattle.zio_stages.specs.WriteIos.{
 };
 
 use crate::leaf::LeafWork;
+use crate::named::Named;
 use std::alloc::Global;
 use zio_parts::{CopyWrite, WriteStep};
 use zio_types::{Bytes, Errno, List, NoMemory, Place, Prio, Top};
@@ -86,19 +87,27 @@ impl WriteIo {
         io_of(step)
     }
 
-    /// The operation of the step, with a copy of the bytes.
-    pub fn next_leaf(&self, alloc: Global, tops: &[Top], bytes: &[u8]) -> Result<LeafWork, NoMemory>
+    /// The operation of the step, by the part with this name, with a copy of the bytes.
+    pub fn next_leaf(
+        &self,
+        alloc: Global,
+        tops: &[Top],
+        name: &Named,
+        bytes: &[u8],
+    ) -> Result<LeafWork, NoMemory>
         requires over { IsWriteOver tops.now self.now }
         requires step { IsWriteStep tops.now self.now IoStep.Child }
         ensures next { IfOk result (λ child. (t : Terms) (x : Frame) → t.setting.tops ≡ tops.now →
             IsWriteIo t bytes.now self.now x → AsksOfWrite t bytes.now x child self.now) }
         ensures due { IfOk result IsDue }
+        ensures origin { IfOk result (λ child. child.origin.part ≡ name.now) }
     {
         let WriteStep::Store(target) = self.write.next(tops) else {
             unreachable!()
         };
         let copy = copy_of(alloc, bytes)?;
-        Ok(LeafWork::write(&target, self.write.retry(), self.prio, false, copy))
+        let origin = name.on(self.write.places(), &target.place);
+        Ok(LeafWork::write(origin, &target, self.write.retry(), self.prio, false, copy))
     }
 
     /// The operation of the step is out.

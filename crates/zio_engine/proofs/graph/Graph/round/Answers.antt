@@ -1,6 +1,5 @@
-use Rattle.std.proofs.Common.{◌≡◌, List, map, false, refl, sym, ap, ◌∙◌, subst}
+use Rattle.std.proofs.Common.{◌≡◌, List, map, refl, sym, ap, ◌∙◌, subst}
 use Rattle.std.proofs.lemmas.Result.{err_from_is_err_and}
-use Rattle.zio_types.specs.declared.place.Top.{Top}
 use Rattle.zio_cksum.specs.Images.{Setting}
 use Rattle.zio_gang.specs.Attempts.{Pending}
 use Rattle.zio_disks.specs.Disks.{AreSameDisks}

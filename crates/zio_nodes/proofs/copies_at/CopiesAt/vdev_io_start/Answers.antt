@@ -12,6 +12,7 @@ use Rattle.zio_masks.specs.declared.stage.Stage.TheVariants.{VdevIoStart}
 use Rattle.zio_types.specs.declared.request.ChildKind.TheVariants.{Vdev}
 use Rattle.zio_nodes.specs.declared.node.Node.TheVariants.{Copies}
 use Rattle.zio_nodes.proofs.StageAllows.{grows_so}
+use Rattle.zio_nodes.proofs.PassLemmas.{any_stage}
 use Rattle.zio_nodes.proofs.copies_at.CopiesAt.vdev_io_start.Goals as goal
 
 pub returns-in-Ok-Some-clause-moves : goal.returns-in-Ok-Some-clause-moves
@@ -56,4 +57,10 @@ pub returns-in-Ok-None-clause-stages : goal.returns-in-Ok-None-clause-stages
 returns-in-Ok-None-clause-stages c = inl (copies_lead c.args.self.now VdevIoStart c.next-self.result c.requires.stage c.next-self.ensures)
 
 pub returns-in-Ok-Some-clause-stages : goal.returns-in-Ok-Some-clause-stages
-returns-in-Ok-Some-clause-stages c = let g = grows_so (Copies c.args.self.now) VdevIoStart Vdev c.requires.stage refl (λ e. cc) in (refl, g.0, g.1)
+returns-in-Ok-Some-clause-stages c = let g = grows_so (Copies c.args.self.now) VdevIoStart Vdev c.requires.stage refl (λ e. cc) (λ e. cc) in (refl, g.0, g.1, g.2)
+
+pub returns-in-Ok-None-clause-pass : goal.returns-in-Ok-None-clause-pass
+returns-in-Ok-None-clause-pass c = any_stage _ _ _ c.vdev_io_start.ensures.pass
+
+pub returns-in-Ok-Some-clause-pass : goal.returns-in-Ok-Some-clause-pass
+returns-in-Ok-Some-clause-pass c = any_stage _ _ _ c.vdev_io_start.ensures.pass

@@ -78,10 +78,10 @@ returns-in_default-clause-stages c =
     inl (walk_leads c.args.self.now c.with_gang.result GangAssemble c.next-self.result c.requires.stage c.with_gang.ensures.stages c.next-self.ensures)
 
 pub returns-in-Ok-Head-clause-stages : goal.returns-in-Ok-Head-clause-stages
-returns-in-Ok-Head-clause-stages c = let g = grows_so (Heads c.args.self.now) GangAssemble Gang c.requires.stage refl (λ e. cc) in (refl, g.0, g.1)
+returns-in-Ok-Head-clause-stages c = let g = grows_so (Heads c.args.self.now) GangAssemble Gang c.requires.stage refl (λ e. cc) (λ e. cc) in (refl, g.0, g.1, g.2)
 
 pub returns-in-Ok-Below-clause-stages : goal.returns-in-Ok-Below-clause-stages
-returns-in-Ok-Below-clause-stages c = let g = grows_so (Heads c.args.self.now) GangAssemble Gang c.requires.stage refl (λ e. cc) in (refl, g.0, g.1)
+returns-in-Ok-Below-clause-stages c = let g = grows_so (Heads c.args.self.now) GangAssemble Gang c.requires.stage refl (λ e. cc) (λ e. cc) in (refl, g.0, g.1, g.2)
 
 pub returns-in-Ok-Wait-clause-stages : goal.returns-in-Ok-Wait-clause-stages
 returns-in-Ok-Wait-clause-stages c =

@@ -1,4 +1,4 @@
-use Rattle.std.proofs.Common.{◌≡◌, refl, subst, sym, true}
+use Rattle.std.proofs.Common.{◌≡◌, ◌∙◌, refl, subst, sym, true}
 use Rattle.std.specs.Prelude.{IfOk, OnErr}
 use Rattle.zio_graph.specs.Stages.{Lessens}
 use Rattle.zio_nodes.specs.Nodes.{MovesWith, StaysWith, left_of, moved}
@@ -8,6 +8,8 @@ use Rattle.zio_nodes.specs.declared.node.Node.{Node}
 use Rattle.zio_nodes.specs.declared.node.Node.TheVariants.{Copies, Heads, Leaf, Part, Request}
 use Rattle.zio_nodes.proofs.NodeLemmas.{turn_moves, turn_stays}
 use Rattle.zio_nodes.proofs.Stalling.{hands_bodies}
+use Rattle.zio_nodes.specs.Passes.{KeepsPass}
+use Rattle.zio_nodes.proofs.PassLemmas.{heads_turn, leaf_turn, tree_turn}
 use Rattle.zio_nodes.proofs.node.Node.step.Goals as goal
 
 pub returns-in-Leaf-clause-moves : goal.returns-in-Leaf-clause-moves
@@ -128,3 +130,21 @@ returns-then-is_tree-clause-refused g c =
 
 pub returns-then-is_tree-clause-over : goal.returns-then-is_tree-clause-over
 returns-then-is_tree-clause-over g c = c.start_tree.ensures.over (g.S.Services.tops c.args.services.now) c.requires
+
+pub returns-in-Leaf-clause-pass : goal.returns-in-Leaf-clause-pass
+returns-in-Leaf-clause-pass g c = leaf_turn c.args.self.now c.in-Leaf.at c.run_stage.new.self c.run_stage.result c.in-Leaf.is
+
+pub returns-in-Heads-clause-pass : goal.returns-in-Heads-clause-pass
+returns-in-Heads-clause-pass g c = heads_turn c.args.self.now c.in-Heads.at c.run_stage-in-Heads.new.self c.run_stage-in-Heads.result c.in-Heads.is
+
+pub returns-in-Copies-clause-pass : goal.returns-in-Copies-clause-pass
+returns-in-Copies-clause-pass g c = subst (λ (n : Node). IfOk c.run_stage-in-Copies.result (λ turn. KeepsPass n (moved (Copies c.run_stage-in-Copies.new.self) turn))) (sym c.in-Copies.is) c.run_stage-in-Copies.ensures.pass
+
+pub returns-in-Part-clause-pass : goal.returns-in-Part-clause-pass
+returns-in-Part-clause-pass g c = subst (λ (n : Node). IfOk c.run_stage-in-Part.result (λ turn. KeepsPass n (moved (Part c.run_stage-in-Part.new.self) turn))) (sym c.in-Part.is) c.run_stage-in-Part.ensures.pass
+
+pub returns-in-Request-clause-pass : goal.returns-in-Request-clause-pass
+returns-in-Request-clause-pass g c = subst (λ (n : Node). IfOk c.run_stage-in-Request.result (λ turn. KeepsPass n (moved (Request c.run_stage-in-Request.new.self) turn))) (sym c.in-Request.is) c.run_stage-in-Request.ensures.pass
+
+pub returns-then-is_tree-clause-pass : goal.returns-then-is_tree-clause-pass
+returns-then-is_tree-clause-pass g c = tree_turn c.args.self.now c.start_tree.new.self c.start_tree.result (sym c.is_tree.ensures ∙ c.if-is_tree.true)

@@ -24,7 +24,7 @@ use Rattle.zio_nodes.proofs.Refused.{on_err}
 use Rattle.zio_nodes.specs.StageMoves.{CallsFit, grows_at}
 use Rattle.zio_nodes.specs.declared.node.Node.TheVariants.{Part}
 use Rattle.zio_nodes.proofs.NodeLemmas.{no_calls}
-use Rattle.zio_nodes.proofs.StageAllows.{one_more_few}
+use Rattle.zio_nodes.proofs.StageAllows.{one_more_few, starts_not}
 use Rattle.zio_types.specs.declared.request.ChildKind.TheVariants.{Gang}
 use Rattle.zio_nodes.proofs.part_at.PartAt.dva_allocate.Goals as goal
 
@@ -146,5 +146,9 @@ returns-in-Ok-Member-clause-stages g c =
     let members : new.members ≡ with_member (Some child) old.members =
     subst (λ (a : Allocated). new.members ≡ with_member (member_in a) old.members) c.in-Ok-Member.field-0-is c.in-Ok-Member.ensures.members in
     let under : IsMemberUnder new child =
-    subst (λ (a : Allocated). IfSome (member_in a) (IsMemberUnder new)) c.in-Ok-Member.field-0-is c.in-Ok-Member.ensures.next in
-    (refl, ap (λ (s : Stage). grows_at s Gang) c.requires.stage, λ e. one_more_few old.members new.members child members under.few)
+    subst (λ (a : Allocated). IfSome (member_in a) (IsMemberUnder new)) c.in-Ok-Member.field-0-is c.in-Ok-Member.ensures.next in (
+      refl,
+      ap (λ (s : Stage). grows_at s Gang) c.requires.stage,
+      λ e. one_more_few old.members new.members child members under.few,
+      λ there. absurd (starts_not (sym c.requires.stage ∙ there)),
+    )

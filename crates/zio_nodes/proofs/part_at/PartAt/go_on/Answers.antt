@@ -5,6 +5,7 @@ use Rattle.zio_nodes.proofs.PartLemmas.{part_goes}
 use Rattle.zio_nodes.proofs.StageLeads.{next_of}
 use Rattle.zio_masks.specs.declared.pipeline.TheConstants.{WRITE}
 use Rattle.zio_masks.specs.Stages.{has}
+use Rattle.zio_nodes.proofs.PassLemmas.{any_stage}
 use Rattle.zio_nodes.proofs.part_at.PartAt.go_on.Goals as goal
 
 pub returns-clause-moves : goal.returns-clause-moves
@@ -26,3 +27,6 @@ returns-clause-left c =
 pub returns-clause-stages : goal.returns-clause-stages
 returns-clause-stages c =
     inl (next_of WRITE (has WRITE) c.args.self.now.stage c.args.self.now.stage c.next-self.result refl (λ s lt. refl) c.next-self.ensures)
+
+pub returns-clause-pass : goal.returns-clause-pass
+returns-clause-pass c = any_stage _ _ _ refl

@@ -15,6 +15,7 @@ use Rattle.zio_nodes.proofs.StageAllows.{goes_back, stalls_so}
 use Rattle.zio_nodes.specs.declared.node.Node.TheVariants.{Part}
 use Rattle.zio_types.specs.declared.request.Phase.TheVariants.{Done}
 use Rattle.zio_types.specs.declared.request.ChildKind.TheVariants.{Vdev}
+use Rattle.zio_nodes.proofs.PassLemmas.{any_stage}
 use Rattle.zio_nodes.proofs.part_at.PartAt.vdev_io_done.Goals as goal
 
 pub returns-in-Wait-clause-moves : goal.returns-in-Wait-clause-moves
@@ -82,3 +83,12 @@ returns-in-On-clause-stages c =
 pub returns-in-Wait-clause-stages : goal.returns-in-Wait-clause-stages
 returns-in-Wait-clause-stages c =
     (refl, stalls_so c.args.self.now.stage VdevIoDone Vdev Done c.requires.stage refl)
+
+pub returns-in-Wait-clause-pass : goal.returns-in-Wait-clause-pass
+returns-in-Wait-clause-pass c = any_stage _ _ _ refl
+
+pub returns-in-More-clause-pass : goal.returns-in-More-clause-pass
+returns-in-More-clause-pass c = any_stage _ _ _ refl
+
+pub returns-in-On-clause-pass : goal.returns-in-On-clause-pass
+returns-in-On-clause-pass c = any_stage _ _ _ refl

@@ -20,6 +20,7 @@ use Rattle.zio_nodes.proofs.Refused.{on_err}
 use Rattle.zio_types.specs.declared.request.ChildKind.TheVariants.{Vdev}
 use Rattle.zio_nodes.specs.declared.node.Node.TheVariants.{Part}
 use Rattle.zio_nodes.proofs.StageAllows.{grows_so}
+use Rattle.zio_nodes.proofs.PassLemmas.{any_stage}
 use Rattle.zio_nodes.proofs.part_at.PartAt.vdev_io_start.Goals as goal
 
 pub returns-in-Ok-Some-clause-moves : goal.returns-in-Ok-Some-clause-moves
@@ -107,4 +108,10 @@ returns-in_err-room-clause-refused c =
     on_err c.from_residual.result (λ t st now. part_goes t st at at [] (does_nothing t st _ now.is) refl)
 
 pub returns-in-Ok-Some-clause-stages : goal.returns-in-Ok-Some-clause-stages
-returns-in-Ok-Some-clause-stages c = let g = grows_so (Part c.args.self.now) VdevIoStart Vdev c.requires.stage refl (λ e. cc) in (refl, g.0, g.1)
+returns-in-Ok-Some-clause-stages c = let g = grows_so (Part c.args.self.now) VdevIoStart Vdev c.requires.stage refl (λ e. cc) (λ e. cc) in (refl, g.0, g.1, g.2)
+
+pub returns-in-Ok-None-clause-pass : goal.returns-in-Ok-None-clause-pass
+returns-in-Ok-None-clause-pass c = any_stage _ _ _ c.vdev_io_start.ensures.pass
+
+pub returns-in-Ok-Some-clause-pass : goal.returns-in-Ok-Some-clause-pass
+returns-in-Ok-Some-clause-pass c = any_stage _ _ _ c.vdev_io_start.ensures.pass

@@ -11,6 +11,8 @@ use Rattle.zio_nodes.specs.TreeAts.{IsTreeOver}
 use Rattle.zio_nodes.proofs.AttemptHears.{hears_again, kid_out, kid_told, left_root}
 use Rattle.zio_nodes.proofs.KidMarks.{all_left_set, count_set, marked_left, over_heard}
 use Rattle.zio_nodes.proofs.RequestStill.{gave_still, left_still, stands_still, still_going}
+use Rattle.zio_stages.specs.declared.request_node.RequestNode.{RequestNode}
+use Rattle.zio_nodes.specs.StageMoves.{is_second_of}
 use Rattle.zio_nodes.proofs.request_at.RequestAt.arrive_again.Goals as goal
 
 pub arrive_again-requires-clause-out : goal.arrive_again-requires-clause-out
@@ -73,3 +75,6 @@ returns-clause-over c = λ tops inside h.
 pub returns-clause-left : goal.returns-clause-left
 returns-clause-left c =
     left_still c.args.self.now.stage c.args.self.now.is_due c.args.self.now.node c.arrive_again.new.self c.arrive_again.ensures.rest c.arrive_again.ensures.due
+
+pub returns-clause-pass : goal.returns-clause-pass
+returns-clause-pass c = ap (λ (r : RequestNode). is_second_of r.own) c.arrive_again.ensures.rest

@@ -7,6 +7,8 @@ use Rattle.zio_stages.specs.KidTrees.{trees_left}
 use Rattle.zio_nodes.specs.TreeAts.{IsTreeOver}
 use Rattle.zio_nodes.proofs.KidMarks.{count_set, marked_same, over_heard}
 use Rattle.zio_nodes.proofs.RequestStill.{gave_still, left_still, stands_still, still_going}
+use Rattle.zio_stages.specs.declared.request_node.RequestNode.{RequestNode}
+use Rattle.zio_nodes.specs.StageMoves.{is_second_of}
 use Rattle.zio_nodes.proofs.request_at.RequestAt.arrive_attempt_ready.Goals as goal
 
 pub arrive_ready-requires : goal.arrive_ready-requires
@@ -42,3 +44,6 @@ pub returns-clause-left : goal.returns-clause-left
 returns-clause-left c =
     left_still c.args.self.now.stage c.args.self.now.is_due c.args.self.now.node c.arrive_ready.new.self c.arrive_ready.ensures.rest
     c.arrive_ready.ensures.holds.due
+
+pub returns-clause-pass : goal.returns-clause-pass
+returns-clause-pass c = ap (λ (r : RequestNode). is_second_of r.own) c.arrive_ready.ensures.rest

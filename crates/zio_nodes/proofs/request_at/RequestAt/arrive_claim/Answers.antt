@@ -14,6 +14,7 @@ use Rattle.zio_nodes.proofs.OwnHears.{behind_start, claimed_walks, hears_claimed
 use Rattle.zio_nodes.proofs.OwnLefts.{claim_gave_same}
 use Rattle.zio_nodes.proofs.OwnOver.{is_claim}
 use Rattle.zio_nodes.proofs.WriteHears.{hears_own}
+use Rattle.zio_nodes.proofs.PassLemmas.{claim_in_pass}
 use Rattle.zio_nodes.proofs.request_at.RequestAt.arrive_claim.Goals as goal
 
 pub unreachable-requires : goal.unreachable-requires
@@ -70,3 +71,12 @@ returns-clause-left c =
     claimed_left_then at c.arrive_walked_claim.new.self (is_claim r.waiting.request.work c.requires.kind) (behind_start tops at c.requires.over under)
     c.arrive_walked_claim.ensures.rest
     c.arrive_walked_claim.ensures.past
+
+pub returns-clause-pass : goal.returns-clause-pass
+returns-clause-pass c =
+    let at = c.args.self.now in
+    let r = at.node in
+    let tops = c.args.tops.now in
+    let under = c.other_children_show_own_work.ensures.value r c.args.child (hears_own tops at c.args.child c.args.outcome c.requires.own c.requires.awaited) in
+    let x = hears_claimed tops at c.args.child c.args.outcome c.in-Walked.walked c.in-Walked.is c.requires.own c.requires.kind under c.requires.awaited in
+    claim_in_pass _ r.own c.arrive_walked_claim.new.self.own x.own x.is c.arrive_walked_claim.ensures.past

@@ -12,6 +12,8 @@ use Rattle.zio_nodes.specs.TreeAts.{IsTreeOver}
 use Rattle.zio_nodes.proofs.AttemptHears.{hears_finished, kid_out, kid_told}
 use Rattle.zio_nodes.proofs.KidMarks.{count_set, marked_same, over_heard}
 use Rattle.zio_nodes.proofs.RequestStill.{gave_still, left_still, stands_still, still_going}
+use Rattle.zio_stages.specs.declared.request_node.RequestNode.{RequestNode}
+use Rattle.zio_nodes.specs.StageMoves.{is_second_of}
 use Rattle.zio_nodes.proofs.request_at.RequestAt.arrive_finished.Goals as goal
 
 pub arrive_finished-requires : goal.arrive_finished-requires
@@ -62,3 +64,6 @@ pub returns-clause-left : goal.returns-clause-left
 returns-clause-left c =
     left_still c.args.self.now.stage c.args.self.now.is_due c.args.self.now.node c.arrive_finished.new.self c.arrive_finished.ensures.rest
     c.arrive_finished.ensures.holds.due
+
+pub returns-clause-pass : goal.returns-clause-pass
+returns-clause-pass c = ap (λ (r : RequestNode). is_second_of r.own) c.arrive_finished.ensures.rest

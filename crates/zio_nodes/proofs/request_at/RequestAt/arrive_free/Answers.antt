@@ -11,6 +11,7 @@ use Rattle.zio_nodes.proofs.OwnHeard.{freed_gave, freed_left_then, freed_over}
 use Rattle.zio_nodes.proofs.OwnHears.{behind_start, freed_walks, hears_freed}
 use Rattle.zio_nodes.proofs.OwnOver.{is_free}
 use Rattle.zio_nodes.proofs.WriteHears.{hears_own}
+use Rattle.zio_nodes.proofs.PassLemmas.{free_in_pass}
 use Rattle.zio_nodes.proofs.request_at.RequestAt.arrive_free.Goals as goal
 
 pub unreachable-requires : goal.unreachable-requires
@@ -68,3 +69,12 @@ returns-clause-left c =
     freed_left_then at c.arrive_walked_free.new.self (is_free r.waiting.request.work c.requires.kind)
     (behind_start c.requires.over.0 at c.requires.over.1 under) c.arrive_walked_free.ensures.rest
     c.arrive_walked_free.ensures.walked
+
+pub returns-clause-pass : goal.returns-clause-pass
+returns-clause-pass c =
+    let at = c.args.self.now in
+    let r = at.node in
+    let k = c.requires.awaited in
+    let under = c.other_children_show_own_work.ensures.value r c.args.child (hears_own k.0 at c.args.child c.args.outcome c.requires.own k.1) in
+    let x = hears_freed k.0 at c.args.child c.args.outcome c.requires.own c.requires.kind under k.1 in
+    free_in_pass _ r.own c.arrive_walked_free.new.self.own x.own x.is c.arrive_walked_free.ensures.walked

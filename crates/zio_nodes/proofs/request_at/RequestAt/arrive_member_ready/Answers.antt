@@ -1,6 +1,7 @@
 use Rattle.zio_stages.specs.RequestWrites.{IsWrite}
 use Rattle.zio_nodes.proofs.KidMarks.{over_own}
 use Rattle.zio_nodes.proofs.WriteHears.{left_more, own_write, stands_far, write_kept}
+use Rattle.zio_nodes.proofs.PassLemmas.{write_in_pass}
 use Rattle.zio_nodes.proofs.request_at.RequestAt.arrive_member_ready.Goals as goal
 
 pub arrive_member_ready-requires-clause-write : goal.arrive_member_ready-requires-clause-write
@@ -39,3 +40,10 @@ returns-clause-left c =
     let write : IsWrite r.own = own_write k.terms r k.stack k.is c.requires.kind (c.other_children_show_own_work.ensures.early r c.args.child k) in
     left_more c.args.self.now.stage c.args.self.now.is_due c.args.self.now.is_due r c.arrive_member_ready.new.self c.requires.kind
     c.arrive_member_ready.ensures.rest write c.arrive_member_ready.ensures.same
+
+pub returns-clause-pass : goal.returns-clause-pass
+returns-clause-pass c =
+    let r = c.args.self.now.node in
+    let k = c.requires.gang in
+    let write : IsWrite r.own = own_write k.terms r k.stack k.is c.requires.kind (c.other_children_show_own_work.ensures.early r c.args.child k) in
+    write_in_pass _ _ r.own c.arrive_member_ready.new.self.own write c.arrive_member_ready.ensures.write c.arrive_member_ready.ensures.same.second

@@ -1,4 +1,4 @@
-use Rattle.std.proofs.Common.{◌≡◌, Some, inl, inr, subst, sym, ◌∙◌}
+use Rattle.std.proofs.Common.{ap, ◌≡◌, Some, inl, inr, subst, sym, ◌∙◌}
 use Rattle.zio_stages.specs.RequestClaims.{IsClaimingWith}
 use Rattle.zio_stages.specs.RequestFrees.{IsFreeingWith}
 use Rattle.zio_stages.specs.RequestReads.{IsReadingWith}
@@ -12,6 +12,7 @@ use Rattle.zio_nodes.proofs.OwnHears.{early_claim, early_free, early_read}
 use Rattle.zio_nodes.proofs.OwnSeats.{own_claim, own_free, own_read}
 use Rattle.zio_nodes.proofs.OwnTold.{same_own, told_gave, told_left, told_over}
 use Rattle.zio_nodes.proofs.WriteHears.{null_idle}
+use Rattle.zio_nodes.specs.StageMoves.{is_second_of}
 use Rattle.zio_nodes.proofs.request_at.RequestAt.arrive_own_ready.Goals as goal
 
 pub arrive_ready_read-requires : goal.arrive_ready_read-requires
@@ -109,3 +110,12 @@ returns-in-Claim-clause-left c =
     let r = c.args.self.now.node in
     let now = c.arrive_ready_claim.new.self in
     told_left c.args.self.now.stage c.args.self.now.is_due r now (same_own r now c.arrive_ready_claim.ensures.rest c.arrive_ready_claim.ensures.own)
+
+pub returns-in-Read-clause-pass : goal.returns-in-Read-clause-pass
+returns-in-Read-clause-pass c = ap is_second_of c.arrive_ready_read.ensures.own
+
+pub returns-in-Free-clause-pass : goal.returns-in-Free-clause-pass
+returns-in-Free-clause-pass c = ap is_second_of c.arrive_ready_free.ensures.own
+
+pub returns-in-Claim-clause-pass : goal.returns-in-Claim-clause-pass
+returns-in-Claim-clause-pass c = ap is_second_of c.arrive_ready_claim.ensures.own

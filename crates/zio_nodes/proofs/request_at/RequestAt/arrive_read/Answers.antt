@@ -16,6 +16,7 @@ use Rattle.zio_nodes.proofs.OwnLefts.{read_gave_same}
 use Rattle.zio_nodes.proofs.OwnOver.{is_read}
 use Rattle.zio_nodes.proofs.OwnSeats.{one_seat, walk_is_out}
 use Rattle.zio_nodes.proofs.WriteHears.{hears_own}
+use Rattle.zio_nodes.proofs.PassLemmas.{body_in_pass, leaf_in_pass, walk_in_pass}
 use Rattle.zio_nodes.proofs.request_at.RequestAt.arrive_read.Goals as goal
 
 pub kind_of_child-requires : goal.kind_of_child-requires
@@ -208,3 +209,19 @@ returns-in-Gang-clause-left c =
     let behind = behind_start tops at c.requires.over under in
     let now = c.arrive_body.new.self in
     gang_left_then at c.args.child now x work behind c.arrive_body.ensures.rest c.arrive_body.ensures.goes
+
+pub returns-in-Walked-clause-pass : goal.returns-in-Walked-clause-pass
+returns-in-Walked-clause-pass c =
+    let at = c.args.self.now in
+    let r = at.node in
+    let tops = c.args.tops.now in
+    let under = c.other_children_show_own_work.ensures.value r c.args.child (hears_own tops at c.args.child c.args.outcome c.requires.own c.requires.awaited) in
+    let x = hears_walk tops at c.args.child c.args.outcome c.in-Walked.walked c.bodies_of_a_walk_lie_on_the_tops.ensures c.in-Walked.is c.requires.kind under
+    c.requires.over c.requires.awaited in
+    walk_in_pass _ r.own c.arrive_walked_read.new.self.own x.own x.is x.alone c.arrive_walked_read.ensures.reads c.arrive_walked_read.ensures.goes
+
+pub returns-in-Vdev-clause-pass : goal.returns-in-Vdev-clause-pass
+returns-in-Vdev-clause-pass c = leaf_in_pass c.args.self.now.node.own c.arrive_leaf_read.new.self.own c.arrive_leaf_read.ensures.goes
+
+pub returns-in-Gang-clause-pass : goal.returns-in-Gang-clause-pass
+returns-in-Gang-clause-pass c = body_in_pass c.args.self.now.node.own c.arrive_body.new.self.own c.arrive_body.ensures.goes

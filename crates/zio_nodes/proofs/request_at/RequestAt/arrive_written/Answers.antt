@@ -3,6 +3,7 @@ use Rattle.zio_stages.specs.RequestWrites.{IsWrite}
 use Rattle.zio_nodes.specs.RequestHears.{IsOwnOutcome}
 use Rattle.zio_nodes.proofs.KidMarks.{over_own}
 use Rattle.zio_nodes.proofs.WriteHears.{hears_own, left_more, never_walked, own_write, stands_far, write_kept}
+use Rattle.zio_nodes.proofs.PassLemmas.{write_in_pass}
 use Rattle.zio_nodes.proofs.request_at.RequestAt.arrive_written.Goals as goal
 
 pub arrive_stored-requires-clause-write : goal.arrive_stored-requires-clause-write
@@ -97,3 +98,17 @@ returns-in-Found-clause-left c =
     let write : IsWrite r.own = own_write k.terms r k.stack k.is c.requires.kind (c.other_children_show_own_work.ensures.value r c.args.child k) in
     left_more c.args.self.now.stage c.args.self.now.is_due true r c.arrive_leaf_write.new.self c.requires.kind c.arrive_leaf_write.ensures.rest write
     c.arrive_leaf_write.ensures.same
+
+pub returns-in-Stored-clause-pass : goal.returns-in-Stored-clause-pass
+returns-in-Stored-clause-pass c =
+    let r = c.args.self.now.node in
+    let k = hears_own c.args.tops.now c.args.self.now c.args.child c.args.outcome c.requires.own c.requires.awaited in
+    let write : IsWrite r.own = own_write k.terms r k.stack k.is c.requires.kind (c.other_children_show_own_work.ensures.value r c.args.child k) in
+    write_in_pass _ _ r.own c.arrive_stored.new.self.own write c.arrive_stored.ensures.write c.arrive_stored.ensures.same.second
+
+pub returns-in-Found-clause-pass : goal.returns-in-Found-clause-pass
+returns-in-Found-clause-pass c =
+    let r = c.args.self.now.node in
+    let k = hears_own c.args.tops.now c.args.self.now c.args.child c.args.outcome c.requires.own c.requires.awaited in
+    let write : IsWrite r.own = own_write k.terms r k.stack k.is c.requires.kind (c.other_children_show_own_work.ensures.value r c.args.child k) in
+    write_in_pass _ _ r.own c.arrive_leaf_write.new.self.own write c.arrive_leaf_write.ensures.write c.arrive_leaf_write.ensures.same.second

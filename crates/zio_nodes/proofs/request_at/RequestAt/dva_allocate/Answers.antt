@@ -24,7 +24,7 @@ use Rattle.zio_nodes.proofs.WriteMoves.{member_grows}
 use Rattle.zio_nodes.proofs.StageLeads.{write_leads}
 use Rattle.zio_masks.specs.declared.stage.Stage.{Stage}
 use Rattle.zio_nodes.specs.StageMoves.{CallsFit, grows_at}
-use Rattle.zio_nodes.proofs.StageAllows.{few_under, one_more_few}
+use Rattle.zio_nodes.proofs.StageAllows.{few_under, one_more_few, starts_not}
 use Rattle.zio_stages.specs.RequestCounts.{members_of}
 use Rattle.zio_nodes.proofs.request_at.RequestAt.dva_allocate.Goals as goal
 
@@ -162,5 +162,9 @@ returns-in-Ok-Member-clause-stages g c =
     let child = c.in-Ok-Member.child in
     let old = c.args.self.now.node.own in
     let new = c.dva_allocate.new.self.own in
-    let next = c.dva_allocate.ensures.next child (c.in-Ok-Member.is ∙ ap (λ (a : Allocated). Ok a) c.in-Ok-Member.field-0-is) in
-    (refl, ap (λ (s : Stage). grows_at s Gang) c.requires.stage, λ e. one_more_few (members_of old) (members_of new) child next.members (few_under new child next.under))
+    let next = c.dva_allocate.ensures.next child (c.in-Ok-Member.is ∙ ap (λ (a : Allocated). Ok a) c.in-Ok-Member.field-0-is) in (
+      refl,
+      ap (λ (s : Stage). grows_at s Gang) c.requires.stage,
+      λ e. one_more_few (members_of old) (members_of new) child next.members (few_under new child next.under),
+      λ there. absurd (starts_not (sym c.requires.stage ∙ there)),
+    )

@@ -1,6 +1,7 @@
 use Rattle.std.proofs.Common.{[], ap, refl, subst, sym}
 use Rattle.zio_masks.specs.declared.stage.Stage.{Stage}
 use Rattle.zio_graph.specs.Stages.{Ends, OutcomeIn}
+use Rattle.zio_stages.specs.Labels.{closed_label}
 use Rattle.zio_stages.specs.RequestNodes.{IsRequestNode}
 use Rattle.zio_stages.specs.declared.outcome.Outcome.{Outcome}
 use Rattle.zio_stages.specs.declared.request_node.RequestNode.{RequestNode}
@@ -26,14 +27,16 @@ returns-in-Ok-clause-moves c = λ tops t st now.
     let at = c.args.self in
     let due = null_done_due c.requires.over.0 at.stage at.is_due at.node c.requires.kind c.requires.stage c.requires.over.1.stands in
     let is = c.into_outcome.ensures in
-    subst (λ (o : Outcome). Ends {N = Node} nodes gave_of t (Request at) st [] o) (sym is.1)
-    (request_ends t st at at.node c.in-Ok.closed is.0 [] now.is (c.in-Ok.ensures.closes t st now.is) (ap is_told c.requires.stage) (null_none_ended t at.node st now.is due)
-    (null_places t at.node st is.0 c.in-Ok.closed now.is c.requires.kind due c.in-Ok.ensures.none))
+    let label = closed_label c.attempt-attempt.result c.in-Ok.closed in
+    subst (λ (o : Outcome). Ends {N = Node} nodes gave_of t (Request at) st [] o) (sym is)
+    (request_ends t st at at.node c.in-Ok.closed label [] now.is (c.in-Ok.ensures.closes t st now.is) (ap is_told c.requires.stage) (null_none_ended t at.node st now.is due)
+    (null_places t at.node st label c.in-Ok.closed now.is c.requires.kind due c.in-Ok.ensures.none))
 
 pub returns-in-Ok-clause-over : goal.returns-in-Ok-clause-over
 returns-in-Ok-clause-over c = λ tops h.
     let is = c.into_outcome.ensures in
-    subst (λ (o : Outcome). OutcomeIn (IsTreeOver tops) o) (sym is.1) (left_over tops c.args.self.node c.in-Ok.closed is.0 h.over c.in-Ok.ensures.list)
+    let label = closed_label c.attempt-attempt.result c.in-Ok.closed in
+    subst (λ (o : Outcome). OutcomeIn (IsTreeOver tops) o) (sym is) (left_over tops c.args.self.node c.in-Ok.closed label h.over c.in-Ok.ensures.list)
 
 pub returns-in-Err-clause-refused : goal.returns-in-Err-clause-refused
 returns-in-Err-clause-refused c = λ tops t st now.

@@ -157,4 +157,4 @@ returns-in-Ok-None-clause-stages c =
     (up_to_kept (gang_of at) c.next-self.result GangIssue (read_assembled c.with_gang.result c.next-self.result c.with_gang.ensures.stages c.next-self.ensures) refl) c.next-self.ensures)
 
 pub returns-in-Ok-Some-clause-stages : goal.returns-in-Ok-Some-clause-stages
-returns-in-Ok-Some-clause-stages c = let g = grows_so (Request c.args.self.now) GangAssemble Gang c.requires.stage refl (λ e. cc) in (refl, g.0, g.1)
+returns-in-Ok-Some-clause-stages c = let g = grows_so (Request c.args.self.now) GangAssemble Gang c.requires.stage refl (λ e. cc) (λ e. cc) in (refl, g.0, g.1, g.2)

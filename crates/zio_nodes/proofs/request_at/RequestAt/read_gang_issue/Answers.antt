@@ -175,7 +175,7 @@ returns-in_default-clause-stages c =
     inl (cut_leads at GangIssue c.next-self.result c.requires.stage (gang_of_read r.waiting.request.work r.waiting.block c.requires.kind ∙ now.0) (lit≤ tt) c.next-self.ensures)
 
 pub returns-in-Ok-Body-clause-stages : goal.returns-in-Ok-Body-clause-stages
-returns-in-Ok-Body-clause-stages c = let g = grows_so (Request c.args.self.now) GangIssue Gang c.requires.stage refl (λ e. cc) in (refl, g.0, g.1)
+returns-in-Ok-Body-clause-stages c = let g = grows_so (Request c.args.self.now) GangIssue Gang c.requires.stage refl (λ e. cc) (λ e. cc) in (refl, g.0, g.1, g.2)
 
 pub returns-in-Ok-Wait-clause-stages : goal.returns-in-Ok-Wait-clause-stages
 returns-in-Ok-Wait-clause-stages c =

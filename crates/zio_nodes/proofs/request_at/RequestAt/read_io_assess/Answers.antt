@@ -1,4 +1,4 @@
-use Rattle.std.proofs.Common.{◌+◌, Bool, true, false, inl, refl, sym, ap, subst, ◌∙◌, arith, inr, lit≤}
+use Rattle.std.proofs.Common.{◌+◌, Bool, true, false, inl, refl, sym, ap, subst, ◌∙◌, arith, inr}
 use Rattle.zio_masks.specs.declared.stage.Stage.{Stage}
 use Rattle.zio_masks.specs.declared.stage.Stage.TheVariants.{VdevIoAssess, VdevIoStart}
 use Rattle.zio_graph.specs.Stages.{told_cost}

@@ -25,6 +25,7 @@ use Rattle.zio_types.specs.declared.request.ChildKind.TheVariants.{Vdev}
 use Rattle.zio_nodes.specs.declared.node.Node.TheVariants.{Request}
 use Rattle.zio_nodes.proofs.StageAllows.{grows_so}
 use Rattle.zio_stages.specs.RequestKinds.{is_gang_tree}
+use Rattle.zio_nodes.proofs.PassLemmas.{any_stage, read_in_pass}
 use Rattle.zio_nodes.proofs.request_at.RequestAt.read_io_start.Goals as goal
 
 pub returns-in_err-room-clause-refused : goal.returns-in_err-room-clause-refused
@@ -174,4 +175,12 @@ returns-in-Ok-None-clause-stages c =
     (plain_kept (gang_of at) c.next-self.result (gang_of_read r.waiting.request.work r.waiting.block c.requires.kind ∙ now.2)) c.next-self.ensures)
 
 pub returns-in-Ok-Some-clause-stages : goal.returns-in-Ok-Some-clause-stages
-returns-in-Ok-Some-clause-stages c = let g = grows_so (Request c.args.self.now) VdevIoStart Vdev c.requires.stage refl (λ e. cc) in (refl, g.0, g.1)
+returns-in-Ok-Some-clause-stages c = let g = grows_so (Request c.args.self.now) VdevIoStart Vdev c.requires.stage refl (λ e. cc) (λ e. cc) in (refl, g.0, g.1, g.2)
+
+pub returns-in-Ok-None-clause-pass : goal.returns-in-Ok-None-clause-pass
+returns-in-Ok-None-clause-pass c = any_stage _ _ _ (read_in_pass None c.args.self.now.node.own c.vdev_io_start_read.new.self.own
+    (subst (λ (leaf : Option LeafWork). ReadsOn (StartsBody leaf) c.args.self.now.node.own c.vdev_io_start_read.new.self.own) c.in-Ok-None.field-0-is c.in-Ok-None.ensures.goes))
+
+pub returns-in-Ok-Some-clause-pass : goal.returns-in-Ok-Some-clause-pass
+returns-in-Ok-Some-clause-pass c = any_stage _ _ _ (read_in_pass (Some c.in-Ok-Some.work) c.args.self.now.node.own c.vdev_io_start_read.new.self.own
+    (subst (λ (leaf : Option LeafWork). ReadsOn (StartsBody leaf) c.args.self.now.node.own c.vdev_io_start_read.new.self.own) c.in-Ok-Some.field-0-is c.in-Ok-Some.ensures.goes))

@@ -12,9 +12,10 @@ use Rattle.zio_stages.specs.declared.request_node.Start.{Start}
 use Rattle.zio_stages.specs.declared.request_node.Start.TheVariants.{AllOut, Child}
 use Rattle.zio_nodes.specs.RequestAts.{IsRequestOver, is_kept}
 use Rattle.zio_nodes.specs.RequestBounds.{own_at, own_left, own_max, request_share}
+use Rattle.zio_nodes.specs.StageMoves.{grows_at}
 use Rattle.zio_nodes.specs.Told.{is_told}
 use Rattle.zio_nodes.specs.TreeAts.{IsTreeAt}
-use Rattle.zio_nodes.specs.declared.node.Node.TheVariants.{Request, Tree}
+use Rattle.zio_nodes.specs.declared.node.Node.TheVariants.{Tree}
 use Rattle.zio_nodes.specs.declared.request_at.RequestAt.{RequestAt}
 use Rattle.zio_nodes.proofs.FirstStages.{first_kept, first_of, first_stage, has_done}
 use Rattle.zio_nodes.proofs.KidMarks.{over_handed}
@@ -24,7 +25,7 @@ use Rattle.zio_nodes.proofs.RequestStill.{gave_still}
 use Rattle.zio_nodes.proofs.StartLemmas.{first_stands, first_told, kid_grows, some_root, start_due, start_stays}
 use Rattle.zio_nodes.proofs.TreeAtLemmas.{hands_less}
 use Rattle.zio_nodes.proofs.StageLeads.{gang_of, mask_leads}
-use Rattle.zio_nodes.proofs.StageAllows.{grows_so}
+use Rattle.zio_nodes.proofs.StageAllows.{starts_not}
 use Rattle.zio_nodes.proofs.request_at.RequestAt.start.Goals as goal
 
 pub returns-in-Ok-Child-clause-moves : goal.returns-in-Ok-Child-clause-moves
@@ -131,4 +132,10 @@ pub returns-in_err-room-clause-refused : goal.returns-in_err-room-clause-refused
 returns-in_err-room-clause-refused c = λ tops. no_room tops c.args.self.now c.from_residual.result
 
 pub returns-in-Ok-Child-clause-stages : goal.returns-in-Ok-Child-clause-stages
-returns-in-Ok-Child-clause-stages c = let g = grows_so (Request c.args.self.now) StartStage Logical c.requires.stage refl (λ e. cc) in (refl, g.0, g.1)
+returns-in-Ok-Child-clause-stages c =
+    let ok : c.start.result ≡ Ok (Child c.in-Ok-Child.field-0-0 c.in-Ok-Child.whole) = c.in-Ok-Child.is ∙ ap (λ (s : Start). Ok s) c.in-Ok-Child.field-0-is in (
+      refl,
+      ap (λ (s : Stage). grows_at s Logical) c.requires.stage,
+      λ there. absurd (starts_not (sym there ∙ c.requires.stage)),
+      λ there. c.start.ensures.less c.in-Ok-Child.field-0-0 c.in-Ok-Child.whole ok,
+    )

@@ -1,5 +1,6 @@
 use Rattle.std.proofs.Common.{ap, subst, sym, ◌∙◌}
 use Rattle.zio_masks.specs.declared.stage.Stage.TheVariants.{Done}
+use Rattle.zio_stages.specs.Labels.{closed_label}
 use Rattle.zio_stages.specs.RequestNodes.{IsRequestNode}
 use Rattle.zio_stages.specs.SpaceCalls.{calls_back}
 use Rattle.zio_stages.specs.declared.outcome.Outcome.{Outcome}
@@ -55,16 +56,17 @@ returns-in-Ok-close_write-clause-moves g c =
     record { rest = c.give_block_back.ensures.rest; was = k.stored; is = c.give_block_back.ensures.stored; found = c.give_block_back.ensures.own; are = gives.are } in
     let closed = c.in-Ok-close_write.closed in
     let is = c.into_outcome.ensures in
+    let label = closed_label c.attempt-attempt.result c.in-Ok-close_write.closed in
     record {
       calls = calls_back gives.gone;
       were_made = gives.calls;
       fits = subst (λ (s : Stage). CallsFit s (Request at) (calls_back gives.gone)) (sym c.requires.stage) (all_returns gives.gone);
       moves = λ t st now.
           let h = c.give_block_back.ensures.same t st now.is in
-          subst (λ (o : Outcome). Ends {N = Node} nodes gave_of t (Request at) st (calls_back gives.gone) o) (sym is.1)
-          (request_ends t st at mid closed is.0 gives.gone h (c.in-Ok-close_write.ensures.closes t st h) (ap is_told c.requires.stage)
+          subst (λ (o : Outcome). Ends {N = Node} nodes gave_of t (Request at) st (calls_back gives.gone) o) (sym is)
+          (request_ends t st at mid closed label gives.gone h (c.in-Ok-close_write.ensures.closes t st h) (ap is_told c.requires.stage)
           (stored_ended t mid st h c.give_block_back.ensures.stored)
-          (closes_places t at.node mid st h is.0 closed gives.gone c.requires.kind more k.none c.give_block_back.ensures.kept c.in-Ok.ensures.all
+          (closes_places t at.node mid st h label closed gives.gone c.requires.kind more k.none c.give_block_back.ensures.kept c.in-Ok.ensures.all
           c.in-Ok-close_write.ensures.decides c.in-Ok-close_write.ensures.own));
     }
 
@@ -75,8 +77,9 @@ returns-in-Ok-close_write-clause-over g c =
     let tops = g.S.Services.tops c.args.services.now in
     let over = c.requires.over.over in
     let is = c.into_outcome.ensures in
-    subst (λ (o : Outcome). OutcomeIn (IsTreeOver tops) o) (sym is.1)
-    (left_over tops mid c.in-Ok-close_write.closed is.0
+    let label = closed_label c.attempt-attempt.result c.in-Ok-close_write.closed in
+    subst (λ (o : Outcome). OutcomeIn (IsTreeOver tops) o) (sym is)
+    (left_over tops mid c.in-Ok-close_write.closed label
     (over_own tops at.node mid at.node.family c.give_block_back.ensures.rest over (c.give_block_back.ensures.over tops over.own)) c.in-Ok-close_write.ensures.list)
 
 pub returns-in-Err-clause-refused : goal.returns-in-Err-clause-refused

@@ -12,6 +12,7 @@ use Rattle.zio_nodes.proofs.StageAllows.{goes_back, stalls_so}
 use Rattle.zio_nodes.specs.declared.node.Node.TheVariants.{Request}
 use Rattle.zio_types.specs.declared.request.Phase.TheVariants.{Done}
 use Rattle.zio_types.specs.declared.request.ChildKind.TheVariants.{Vdev}
+use Rattle.zio_nodes.proofs.PassLemmas.{any_stage}
 use Rattle.zio_nodes.proofs.request_at.RequestAt.write_io_done.Goals as goal
 
 pub vdev_io_done_write-requires-clause-issued : goal.vdev_io_done_write-requires-clause-issued
@@ -78,3 +79,12 @@ returns-in-On-clause-stages c = inl (write_leads c.args.self.now VdevIoDone c.ne
 pub returns-in-Wait-clause-stages : goal.returns-in-Wait-clause-stages
 returns-in-Wait-clause-stages c =
     (refl, stalls_so c.args.self.now.stage VdevIoDone Vdev Done c.requires.stage refl)
+
+pub returns-in-Wait-clause-pass : goal.returns-in-Wait-clause-pass
+returns-in-Wait-clause-pass c = any_stage _ _ _ refl
+
+pub returns-in-More-clause-pass : goal.returns-in-More-clause-pass
+returns-in-More-clause-pass c = any_stage _ _ _ refl
+
+pub returns-in-On-clause-pass : goal.returns-in-On-clause-pass
+returns-in-On-clause-pass c = any_stage _ _ _ refl

@@ -19,6 +19,7 @@ use Rattle.zio_nodes.proofs.StageLeads.{write_leads}
 use Rattle.zio_types.specs.declared.request.ChildKind.TheVariants.{Vdev}
 use Rattle.zio_nodes.specs.declared.node.Node.TheVariants.{Request}
 use Rattle.zio_nodes.proofs.StageAllows.{grows_so}
+use Rattle.zio_nodes.proofs.PassLemmas.{any_stage, write_in_pass}
 use Rattle.zio_nodes.proofs.request_at.RequestAt.write_io_start.Goals as goal
 
 pub vdev_io_start_write-requires-clause-ready : goal.vdev_io_start_write-requires-clause-ready
@@ -120,4 +121,14 @@ pub returns-in_err-room-clause-refused : goal.returns-in_err-room-clause-refused
 returns-in_err-room-clause-refused c = no_room c.args.tops.now c.args.self.now c.from_residual.result
 
 pub returns-in-Ok-Some-clause-stages : goal.returns-in-Ok-Some-clause-stages
-returns-in-Ok-Some-clause-stages c = let g = grows_so (Request c.args.self.now) VdevIoStart Vdev c.requires.stage refl (λ e. cc) in (refl, g.0, g.1)
+returns-in-Ok-Some-clause-stages c = let g = grows_so (Request c.args.self.now) VdevIoStart Vdev c.requires.stage refl (λ e. cc) (λ e. cc) in (refl, g.0, g.1, g.2)
+
+pub returns-in-Ok-None-clause-pass : goal.returns-in-Ok-None-clause-pass
+returns-in-Ok-None-clause-pass c = any_stage _ _ _ (write_in_pass _ _ c.args.self.now.node.own c.vdev_io_start_write.new.self.own
+    (stands_in c.args.tops.now c.args.self.now.stage VdevIoStart c.args.self.now.is_due c.args.self.now.node c.requires.kind c.requires.stage tt c.requires.over.stands).0
+    c.vdev_io_start_write.ensures.ready c.vdev_io_start_write.ensures.pass)
+
+pub returns-in-Ok-Some-clause-pass : goal.returns-in-Ok-Some-clause-pass
+returns-in-Ok-Some-clause-pass c = any_stage _ _ _ (write_in_pass _ _ c.args.self.now.node.own c.vdev_io_start_write.new.self.own
+    (stands_in c.args.tops.now c.args.self.now.stage VdevIoStart c.args.self.now.is_due c.args.self.now.node c.requires.kind c.requires.stage tt c.requires.over.stands).0
+    c.vdev_io_start_write.ensures.ready c.vdev_io_start_write.ensures.pass)

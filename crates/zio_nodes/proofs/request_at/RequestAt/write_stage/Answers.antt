@@ -2,6 +2,8 @@ use Rattle.std.proofs.Common.{refl}
 use Rattle.zio_nodes.specs.Nodes.{moved}
 use Rattle.zio_nodes.specs.declared.node.Node.TheVariants.{Request}
 use Rattle.zio_nodes.proofs.NodeLemmas.{bare_move, turn_moves, turn_stays}
+use Rattle.zio_masks.specs.declared.stage.Stage.TheVariants.{WriteBpInit, IssueAsync, WriteCompress, ChecksumGenerate, DvaAllocate, Ready, VdevIoAssess}
+use Rattle.zio_nodes.proofs.PassLemmas.{other_stage, other_turn}
 use Rattle.zio_nodes.proofs.request_at.RequestAt.write_stage.Goals as goal
 
 pub returns-in-WriteBpInit-clause-moves : goal.returns-in-WriteBpInit-clause-moves
@@ -53,3 +55,24 @@ pub returns-in-VdevIoAssess-clause-moves : goal.returns-in-VdevIoAssess-clause-m
 returns-in-VdevIoAssess-clause-moves g c =
     bare_move g.S.Services.made (g.S.Services.tops c.args.services.now) c.tops-in-VdevIoAssess.result.now c.args.services.now (Request c.args.self.now) (moved (Request c.write_io_assess.new.self) c.write_io_assess.result)
     c.tops-in-VdevIoAssess.ensures (g.met.S.Services.made_none c.args.services.now) c.write_io_assess.ensures.moves
+
+pub returns-in-WriteBpInit-clause-pass : goal.returns-in-WriteBpInit-clause-pass
+returns-in-WriteBpInit-clause-pass g c = other_stage _ WriteBpInit (Request c.args.self.now) (moved (Request c.write_bp_init.new.self) c.write_bp_init.result) c.in-WriteBpInit.is tt
+
+pub returns-in-IssueAsync-clause-pass : goal.returns-in-IssueAsync-clause-pass
+returns-in-IssueAsync-clause-pass g c = other_stage _ IssueAsync (Request c.args.self.now) (moved (Request c.issue_async.new.self) c.issue_async.result) c.in-IssueAsync.is tt
+
+pub returns-in-WriteCompress-clause-pass : goal.returns-in-WriteCompress-clause-pass
+returns-in-WriteCompress-clause-pass g c = other_turn _ WriteCompress (Request c.args.self.now) (Request c.write_compress.new.self) c.write_compress.result c.in-WriteCompress.is tt
+
+pub returns-in-ChecksumGenerate-clause-pass : goal.returns-in-ChecksumGenerate-clause-pass
+returns-in-ChecksumGenerate-clause-pass g c = other_stage _ ChecksumGenerate (Request c.args.self.now) (moved (Request c.checksum_generate.new.self) c.checksum_generate.result) c.in-ChecksumGenerate.is tt
+
+pub returns-in-DvaAllocate-clause-pass : goal.returns-in-DvaAllocate-clause-pass
+returns-in-DvaAllocate-clause-pass g c = other_turn _ DvaAllocate (Request c.args.self.now) (Request c.dva_allocate.new.self) c.dva_allocate.result c.in-DvaAllocate.is tt
+
+pub returns-in-Ready-clause-pass : goal.returns-in-Ready-clause-pass
+returns-in-Ready-clause-pass g c = other_stage _ Ready (Request c.args.self.now) (moved (Request c.write_ready.new.self) c.write_ready.result) c.in-Ready.is tt
+
+pub returns-in-VdevIoAssess-clause-pass : goal.returns-in-VdevIoAssess-clause-pass
+returns-in-VdevIoAssess-clause-pass g c = other_stage _ VdevIoAssess (Request c.args.self.now) (moved (Request c.write_io_assess.new.self) c.write_io_assess.result) c.in-VdevIoAssess.is tt

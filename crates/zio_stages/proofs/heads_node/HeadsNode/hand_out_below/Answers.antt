@@ -8,16 +8,9 @@ use Rattle.zio_stages.specs.HeadsNodes.{IsHeadsNode, with_slots}
 use Rattle.zio_stages.specs.HeadsWorks.{walk_task}
 use Rattle.zio_stages.specs.NodeChildren.{new_child}
 use Rattle.zio_stages.specs.declared.heads_node.HeadsNode.{HeadsNode}
-use Rattle.zio_stages.proofs.HeadsNodeLemmas.{hands, inside_more, member_slots, more_steps}
+use Rattle.zio_stages.proofs.HeadsNodeLemmas.{hands, inside_more, member_slots}
 use Rattle.zio_stages.proofs.HeadsOver.{below_over, child_over, count_more}
 use Rattle.zio_stages.proofs.heads_node.HeadsNode.hand_out_below.Goals as goal
-
-pub at-name-requires : goal.at-name-requires
-at-name-requires c =
-    let w = c.args.self.now.work.walk in
-    let few = few_named w.header in
-    more_steps c.args.self.now.name.path w.path c.args.member.path c.args.member.n c.requires.over.named c.requires.step.2
-    (omega (arith, c.requires.step.0, c.requires.step.1)) c.args.self.now.name.steps
 
 pub add-requires : goal.add-requires
 add-requires c =

@@ -17,9 +17,6 @@ use Rattle.zio_stages.proofs.HeadsOver.{count_more, head_lies, head_over, read_p
 use Rattle.zio_stages.proofs.HeadsTops.{io_places, some_places}
 use Rattle.zio_stages.proofs.heads_node.HeadsNode.hand_out_head.Goals as goal
 
-pub at-name-requires : goal.at-name-requires
-at-name-requires c = c.args.self.now.name.steps
-
 pub add-requires : goal.add-requires
 add-requires c =
     let w = c.args.self.now.work.walk in

@@ -21,7 +21,7 @@ gang_assemble-requires c =
     record { due = d.0; some = subst (λ (b : Option Tree). IsSome b) (sym d.1.1) refl; room = c.in_ok-front.ensures.room }
 
 pub claimed-requires-clause-depth : goal.claimed-requires-clause-depth
-claimed-requires-clause-depth c = let e : length c.name_of-name.result.path ≡ 0 = ap length c.name_of-name.ensures in omega (arith, e)
+claimed-requires-clause-depth c = let e : length c.headers_name-name.result.path ≡ 0 = ap length c.headers_name-name.ensures in omega (arith, e)
 
 pub claimed-requires-clause-valid : goal.claimed-requires-clause-valid
 claimed-requires-clause-valid c =
@@ -38,7 +38,7 @@ returns-clause-hands c = λ t st tops h.
     let bp = c.in-Some.bp in
     let d = c.in-Some.ensures.due in
     let pointer = pointer_is (pointer_of own.bytes) w.block d.1.0 w.step own.is.asked own.is.slots d.1.1 own.is.claim ∙ ap (λ (b : Bp). Some b) d.1.2 in
-    let op : ReadHeads ByClaim 8 c.name_of-name.result.path bp ≡ claim_task bp = λ i. ReadHeads ByClaim 8 (c.name_of-name.ensures i) bp in
+    let op : ReadHeads ByClaim 8 c.headers_name-name.result.path bp ≡ claim_task bp = λ i. ReadHeads ByClaim 8 (c.headers_name-name.ensures i) bp in
     hands_claim t r st w c.gang_assemble.new.self c.gang_assemble.new.family bp (λ o. o ≡ claim_task bp) (λ o. IsHeadsNode t c.claimed.result (fresh_stack o)) h own pointer
     (λ o is. subst (λ (q : Task). IsHeadsNode t c.claimed.result (fresh_stack q)) (op ∙ sym is) (c.claimed.ensures.fresh t tops))
     (c.in_ok-gang_assemble.ensures.hands t c.args.tops.now bp h.kid_asked h.kid_slots st (count_front t r st h own.all ∙ sym c.in_ok-front.ensures.front)

@@ -17,7 +17,7 @@ use Rattle.zio_stages.proofs.RequestReadMoves.{count_front, same_block}
 use Rattle.zio_stages.proofs.request_node.RequestNode.gang_assemble_free.Goals as goal
 
 pub kept-requires-clause-depth : goal.kept-requires-clause-depth
-kept-requires-clause-depth c = let e : length c.name_of-name.result.path ≡ 0 = ap length c.name_of-name.ensures in omega (arith, e)
+kept-requires-clause-depth c = let e : length c.headers_name-name.result.path ≡ 0 = ap length c.headers_name-name.ensures in omega (arith, e)
 
 pub kept-requires-clause-valid : goal.kept-requires-clause-valid
 kept-requires-clause-valid c = (subst (λ (o : Option Tree). IfSome o (IsBlockOn c.requires.on.0)) c.in-Some.is c.requires.on.1).of_valid
@@ -30,8 +30,8 @@ returns-clause-hands c = λ t st h.
     let tree = c.in-Some.tree in
     let same : tree ≡ own.tree = same_block r.waiting.block tree own.tree c.in-Some.is own.block in
     let heads = c.in_ok-heads.ensures ∙ c.as_slice.ensures in
-    let op : ReadHeads (ByKept c.in_ok-heads.heads) 8 c.name_of-name.result.path tree.bp ≡ heads_task own.tree =
-    (λ i. ReadHeads (ByKept (heads i)) 8 (c.name_of-name.ensures i) tree.bp) ∙ ap heads_task same in
+    let op : ReadHeads (ByKept c.in_ok-heads.heads) 8 c.headers_name-name.result.path tree.bp ≡ heads_task own.tree =
+    (λ i. ReadHeads (ByKept (heads i)) 8 (c.headers_name-name.ensures i) tree.bp) ∙ ap heads_task same in
     hands_free t r st w c.gang_assemble.new.self c.gang_assemble.new.family (λ o. o ≡ heads_task own.tree) (λ o. IsHeadsNode t c.kept.result (fresh_stack o)) h own
     (λ o is. subst (λ (q : Task). IsHeadsNode t c.kept.result (fresh_stack q)) (op ∙ sym is) (c.kept.ensures.fresh t))
     (c.in_ok-gang_assemble.ensures.hands t t.setting.tops own.tree h.kid_asked h.kid_slots st (count_front t r st h own.all ∙ sym c.in_ok-front.ensures.front)

@@ -1,6 +1,7 @@
 //! Turns of the nodes that an engine holds.
 
-ghost use Rattle.std.specs.Prelude.{◌≡◌, ◌+◌, ◌*◌, ◌<◌, List as Seq, [], IfOk, OnOk, length};
+ghost use Rattle.std.specs.Prelude.{◌≡◌, ◌+◌, ◌*◌, ◌<◌, List as Seq, [], IfOk, OnOk, length, slice_index};
+ghost use Rattle.std.specs.List.{remove};
 ghost use Rattle.zio_types.specs.declared.place.Top.{Top as SeenTop};
 ghost use Rattle.zio_stages.specs.SpaceCalls.{SpaceCall};
 ghost use Rattle.zio_graph.specs.Acts.{StepIn, load_of};
@@ -61,9 +62,11 @@ impl<N: Staged> Turns<N> {
         queue_up(&mut self.line, key)
     }
 
-    /// Takes the k-th key of the queue, counted from 0: it is its turn.
+    /// Takes the k-th key of the queue, counted from 0: it is its turn. The others keep their order.
     pub fn take(&mut self, k: u32) -> u32
         requires { k < length self.old.line }
+        ensures key { result ≡ slice_index self.old.line k }
+        ensures others { self.new.line ≡ remove self.old.line k }
         ensures turn { HasTurn N.nodes self.old.nodes self.old.line self.new.nodes self.new.line result }
         ensures nodes { self.new.nodes ≡ self.old.nodes }
         ensures len { length self.new.line + 1 ≡ length self.old.line }

@@ -244,18 +244,8 @@ impl RequestAt {
         if let DoneStep::Wait(kind) = self.node.done_null() {
             return Ok(Move::Wait(Node::Request(self), kind, Phase::Done));
         }
-        let RequestAt {
-            node,
-            stage,
-            is_due,
-        } = self;
-        let mut node = node;
-        node.end_free(alloc);
-        let at = RequestAt {
-            node,
-            stage,
-            is_due,
-        };
+        let mut at = self;
+        at.node.end_free(alloc);
         at.end_found(alloc)
     }
 }

@@ -208,18 +208,8 @@ impl RequestAt {
             ReadDone::More => unreachable!(),
             ReadDone::Close => {}
         }
-        let RequestAt {
-            node,
-            stage,
-            is_due,
-        } = self;
-        let mut node = node;
-        let ended = node.end_read(alloc);
-        let at = RequestAt {
-            node,
-            stage,
-            is_due,
-        };
+        let mut at = self;
+        let ended = at.node.end_read(alloc);
         match ended {
             Ok(()) => at.end_found(alloc),
             Err(NoMemory) => Err(Node::Request(at)),

@@ -281,18 +281,8 @@ impl RequestAt {
         if let DoneStep::Wait(kind) = self.node.done_write() {
             return Ok(Move::Wait(Node::Request(self), kind, Phase::Done));
         }
-        let RequestAt {
-            node,
-            stage,
-            is_due,
-        } = self;
-        let mut node = node;
-        let ended = node.end_write(alloc);
-        let at = RequestAt {
-            node,
-            stage,
-            is_due,
-        };
+        let mut at = self;
+        let ended = at.node.end_write(alloc);
         match ended {
             Ok(()) => at.write_end(alloc, services),
             Err(NoMemory) => Err(Node::Request(at)),
@@ -314,16 +304,12 @@ impl RequestAt {
         ensures refused { IfErr result (StaysWith S.made (S.tops services.old) services.old services.new (Node.Request self)) }
         ensures tops { S.tops services.new ≡ S.tops services.old }
     {
-        let RequestAt { node, is_due, .. } = self;
-        let mut node = node;
-        let attempt = node.attempt();
-        let Ok(()) = node.give_block_back(alloc, services) else {
-            return Err(Node::Request(RequestAt {
-                node,
-                stage: Stage::Done,
-                is_due,
-            }));
+        let mut at = self;
+        let attempt = at.node.attempt();
+        let Ok(()) = at.node.give_block_back(alloc, services) else {
+            return Err(Node::Request(at));
         };
+        let RequestAt { node, is_due, .. } = at;
         match node.close_write(alloc) {
             Ok(closed) => Ok(Move::End(closed.into_outcome(attempt))),
             Err(NodeBack { node }) => Err(Node::Request(RequestAt {

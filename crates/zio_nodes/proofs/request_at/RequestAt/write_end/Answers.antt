@@ -1,4 +1,4 @@
-use Rattle.std.proofs.Common.{ap, subst, sym, ◌∙◌}
+use Rattle.std.proofs.Common.{ap, refl, subst, sym, ◌∙◌}
 use Rattle.zio_masks.specs.declared.stage.Stage.TheVariants.{Done}
 use Rattle.zio_stages.specs.Labels.{closed_label}
 use Rattle.zio_stages.specs.RequestNodes.{IsRequestNode}
@@ -42,7 +42,7 @@ returns-in_default-clause-refused g c =
       were_made = gives.calls;
       fits = subst (λ (s : Stage). CallsFit s (Request at) (calls_back gives.gone)) (sym c.requires.stage) (all_returns gives.gone);
       goes = λ t st now.
-          request_gives t st at _ gives.gone (c.give_block_back.ensures.same t st now.is) (sym (ap is_told c.requires.stage)) (more_gave at.node mid gives.gone c.requires.kind more);
+          request_gives t st at _ gives.gone (c.give_block_back.ensures.same t st now.is) refl (more_gave at.node mid gives.gone c.requires.kind more);
     }
 
 pub returns-in-Ok-close_write-clause-moves : goal.returns-in-Ok-close_write-clause-moves

@@ -1,8 +1,8 @@
-use Rattle.std.proofs.Common.{◌&&◌, [], ◌∷◌, is_none, true≢false, refl, lit<, ◌==◌}
+use Rattle.std.proofs.Common.{◌&&◌, [], ◌∷◌, is_none, true≢false, refl, sym, lit<, ◌==◌}
 use Rattle.zio_types.specs.declared.journal.Completion.{Completion}
 use Rattle.zio_worked.proofs.Absent.{not_contained}
 use Rattle.zio_worked.proofs.Evaluation.{evaluation}
-use Rattle.zio_worked.specs.Completions.{for_write, for_null, for_read, good_read, early_read, gone_read, AllComplete, NumberTwice, ChildAfterParent, OneIsMissing, OtherError, OtherRound, SuspendedAreLeft, SuspendedCompletes, EachInItsRound, AnsweredComplete}
+use Rattle.zio_worked.specs.Completions.{for_write, for_null, for_read, good_read, early_read, gone_read, AllComplete, NumberTwice, ChildAfterParent, OneIsMissing, OtherError, OtherRound, SuspendedAreLeft, SuspendedCompletes, EachInItsRound, AnsweredComplete, RoundThatWasNotRun}
 
 pub all_complete : AllComplete
 unfolding evaluation
@@ -126,3 +126,7 @@ answered_complete = record {
   once = ((refl, (refl, (refl, (refl, tt)))), ((refl, (refl, (refl, tt))), ((refl, (refl, tt)), ((refl, tt), (tt, tt)))));
   after_children = ((refl, (refl, (refl, (refl, tt)))), ((refl, (refl, (refl, tt))), ((refl, (refl, tt)), ((refl, tt), (tt, tt)))));
 }
+
+pub round_that_was_not_run : RoundThatWasNotRun
+unfolding evaluation
+round_that_was_not_run h = true≢false (sym h.of_rounds.1.0)

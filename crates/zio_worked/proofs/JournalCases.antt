@@ -5,7 +5,7 @@ use Rattle.zio_types.specs.Choices.{Ask, same_key}
 use Rattle.zio_worked.proofs.Absent.{not_contained}
 use Rattle.zio_worked.proofs.Evaluation.{evaluation}
 use Rattle.zio_worked.proofs.LawfulChoices.{are_lawful-sound}
-use Rattle.zio_worked.specs.LawfulJournals.{pair_script, for_x, for_y, second_attempt, half_of_y, PairIsLawful, OtherOrderIsLawful, KeyNotAskedFor, KeyTwice, AskWithoutChoice, OtherSize, RoundThatWasNotRun, PlaceOfAnother, PlaceOutside, PlaceTooShort, TooManyPlaces, RefusedWithRoom, PlaceOfBoundBlock, PlaceFreedInTheRound, PlaceOfEarlierAttempt, GivenBackIsLawful, CopyOnUsedTop, SecondCopyIsLawful, RefusedIsLawful, GangIsLawful, RefusedBeforeTheLast, WholeUnitIsLawful, PlaceBetweenUnits, PlaceOfPartOfAUnit, PlaceOfTwoUnits}
+use Rattle.zio_worked.specs.LawfulJournals.{pair_script, for_x, for_y, second_attempt, half_of_y, PairIsLawful, OtherOrderIsLawful, KeyNotAskedFor, KeyTwice, AskWithoutChoice, OtherSize, RoundThatWasNotRun, PlaceOfAnother, PlaceOutside, PlaceTooShort, TooManyPlaces, RefusedWithRoom, PlaceOfBoundBlock, PlaceFreedInTheRound, PlaceOfEarlierAttempt, GivenBackIsLawful, CopyOnUsedTop, SecondCopyIsLawful, RefusedIsLawful, GangIsLawful, RefusedBeforeTheLast, WholeUnitIsLawful, PlaceBetweenUnits, PlaceOfPartOfAUnit, PlaceOfTwoUnits, CopiesThatMeet, RefusedBehindACopy}
 use Rattle.zio_worked.specs.Scripts.{choice, place, zeros, asks_in}
 use Rattle.zio_worked.specs.Suspension.{four_attempts, gang_choices}
 
@@ -246,3 +246,12 @@ place_of_part_of_a_unit h = true≢false (sym h.each.0.lawful.0.copies.0.fits)
 pub place_of_two_units : PlaceOfTwoUnits
 unfolding evaluation
 place_of_two_units h = true≢false (sym h.each.0.lawful.0.copies.0.fits)
+
+pub copies_that_meet : CopiesThatMeet
+unfolding evaluation
+copies_that_meet h = true≢false (sym h.each.0.lawful.0.copies.1.0.free)
+
+pub refused_behind_a_copy : RefusedBehindACopy
+unfolding evaluation
+refused_behind_a_copy h =
+    h.each.0.lawful.0.refused (lit< tt) 0 (record { place = place 0 4 1; there = refl; fits = refl; inside = refl; free = refl })

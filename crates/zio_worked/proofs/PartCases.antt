@@ -1,6 +1,6 @@
 use Rattle.std.proofs.Common.{refl}
 use Rattle.zio_worked.proofs.Evaluation.{evaluation}
-use Rattle.zio_worked.specs.Parts.{EntryAnswersItsOwnAsk, WorstErrorOfAFreeCounts, FailedHeaderKeepsBodiesUnread, SummaryCounts, SummaryShowsNoRound, EachRoundShowsItsOwnJournal, BirthIsTheBatch, HeaderIsForItsFirstPlaceAndBirth, SuspendedTreesGoByNumber, FailedFreeKeepsItsName, WorstErrorOfAPlaceCounts, BitsOfAllChildrenCount, HeldBatchIsLeft, HeadersAreKeptByPath, HeaderThatIsntKeptIsBad, TreesStandByTheirRoots, PathsHavePoints, EachMemberHasItsPath, TopHasWholeUnits, ReadsAnswerByTheKindOfTheirRow, WritesAnswerByTheKindOfTheirRow, FailedRequestKeepsNoBlock}
+use Rattle.zio_worked.specs.Parts.{EntryAnswersItsOwnAsk, WorstErrorOfAFreeCounts, FailedHeaderKeepsBodiesUnread, SummaryCounts, SummaryShowsNoRound, EachRoundShowsItsOwnJournal, BirthIsTheBatch, HeaderIsForItsFirstPlaceAndBirth, SuspendedTreesGoByNumber, FailedFreeKeepsItsName, WorstErrorOfAPlaceCounts, BitsOfAllChildrenCount, HeldBatchIsLeft, HeadersAreKeptByPath, HeaderThatIsntKeptIsBad, TreesStandByTheirRoots, PathsHavePoints, EachMemberHasItsPath, TopHasWholeUnits, ReadsAnswerByTheKindOfTheirRow, WritesAnswerByTheKindOfTheirRow, FailedRequestKeepsNoBlock, BytesOverAFailedChildDontCount}
 
 pub entry_answers_its_own_ask : EntryAnswersItsOwnAsk
 unfolding evaluation
@@ -89,3 +89,7 @@ writes_answer_by_the_kind_of_their_row = refl
 pub failed_request_keeps_no_block : FailedRequestKeepsNoBlock
 unfolding evaluation
 failed_request_keeps_no_block = refl
+
+pub bytes_over_a_failed_child_dont_count : BytesOverAFailedChildDontCount
+unfolding evaluation
+bytes_over_a_failed_child_dont_count = refl

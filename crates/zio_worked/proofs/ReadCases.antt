@@ -1,6 +1,6 @@
 use Rattle.std.proofs.Common.{refl}
 use Rattle.zio_worked.proofs.Evaluation.{evaluation}
-use Rattle.zio_worked.specs.Reads.{MissingDeviceUnderPanicStopsTheRun, EachPlaceOfAClaimIsTested, PointerBelowTheDeepestIsTested, WorstErrorOfTheBodiesCounts, WorstErrorOfTheHeadersCounts, EveryCopyBeforeTheGoodOneIsMended, FirstPassMendsInTheFirst, RetryMendsInTheRetry}
+use Rattle.zio_worked.specs.Reads.{MissingDeviceUnderPanicStopsTheRun, EachPlaceOfAClaimIsTested, PointerBelowTheDeepestIsTested, WorstErrorOfTheBodiesCounts, WorstErrorOfTheHeadersCounts, EveryCopyBeforeTheGoodOneIsMended, FirstPassMendsInTheFirst, RetryMendsInTheRetry, DeviceErrorIsWorseThanAWrongSum}
 
 pub missing_device_under_panic_stops_the_run : MissingDeviceUnderPanicStopsTheRun
 unfolding evaluation
@@ -33,3 +33,7 @@ first_pass_mends_in_the_first = refl
 pub retry_mends_in_the_retry : RetryMendsInTheRetry
 unfolding evaluation
 retry_mends_in_the_retry = refl
+
+pub device_error_is_worse_than_a_wrong_sum : DeviceErrorIsWorseThanAWrongSum
+unfolding evaluation
+device_error_is_worse_than_a_wrong_sum = refl

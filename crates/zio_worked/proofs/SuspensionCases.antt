@@ -1,6 +1,6 @@
 use Rattle.std.proofs.Common.{refl}
 use Rattle.zio_worked.proofs.Evaluation.{evaluation}
-use Rattle.zio_worked.specs.Suspension.{FourthAttemptSuspends, FourAttemptsAsk, WaitingComesFirst, WaitingAsksOnce, NextBatchIsHeld, NextBatchGoesOn, PanicEndsTheRun, ClearResumes, ClearRaisesThePoint, SuspendedTreesShareARound, SecondBatchStaysHeld, SecondClearRunsTheRest, NoSpaceSuspends, NoSpaceAsksOnce, NoSpaceFails, FreedSpaceServesLater, FreeWaits, FreeFails}
+use Rattle.zio_worked.specs.Suspension.{FourthAttemptSuspends, FourAttemptsAsk, WaitingComesFirst, WaitingAsksOnce, NextBatchIsHeld, NextBatchGoesOn, PanicEndsTheRun, ClearResumes, ClearRaisesThePoint, SuspendedTreesShareARound, SecondBatchStaysHeld, SecondClearRunsTheRest, NoSpaceSuspends, NoSpaceAsksOnce, NoSpaceFails, FreedSpaceServesLater, FreeWaits, FreeFails, ReadGoesAgainWithItsChild, ChildUnderABadReadAsksFourTimes, BlockOfTheSecondSuspendedTreeIsKept}
 
 pub fourth_attempt_suspends : FourthAttemptSuspends
 unfolding evaluation
@@ -73,3 +73,15 @@ free_waits = refl
 pub free_fails : FreeFails
 unfolding evaluation
 free_fails = refl
+
+pub read_goes_again_with_its_child : ReadGoesAgainWithItsChild
+unfolding evaluation
+read_goes_again_with_its_child = refl
+
+pub child_under_a_bad_read_asks_four_times : ChildUnderABadReadAsksFourTimes
+unfolding evaluation
+child_under_a_bad_read_asks_four_times = refl
+
+pub block_of_the_second_suspended_tree_is_kept : BlockOfTheSecondSuspendedTreeIsKept
+unfolding evaluation
+block_of_the_second_suspended_tree_is_kept = refl

@@ -68,6 +68,13 @@ gone_read = completion 3 2 (Some Nxio)
 abbrev pub SuspendedCompletes : Type 0
 SuspendedCompletes = ¬ Complete (null_script Wait Gone) (zeros 4096 ∷ []) null_choices (for_write ∷ gone_read ∷ [])
 
+-- so it is with a completion in a round that wasn't run
+abbrev pub late_read : Completion
+late_read = completion 3 7 (Some Nxio)
+
+abbrev pub RoundThatWasNotRun : Type 0
+RoundThatWasNotRun = ¬ Complete (null_script Wait Gone) (zeros 4096 ∷ []) null_choices (for_write ∷ late_read ∷ [])
+
 -- a child that finished in the first round completes there, and not again with its parent
 abbrev pub EachInItsRound : Type 0
 EachInItsRound =

@@ -1,5 +1,6 @@
 -- Blocks for which no run of sectors is long enough: headers and members, how they are read, mended and freed.
-use Rattle.std.specs.Prelude.{◌≡◌, ℕ, ◌-◌, List, [], ◌∷◌, ◌++◌, map, filter, take, drop, codes, true, Some, None}
+use Rattle.std.specs.Prelude.{◌≡◌, ℕ, ◌-◌, List, [], ◌∷◌, ◌++◌, map, filter, replicate, take, drop, codes, true, false, Some, None}
+use Rattle.std.specs.List.{flat_map}
 use Rattle.zio_types.specs.declared.journal.Role.TheVariants.{Body, Head}
 use Rattle.zio_types.specs.declared.place.Place.{Place}
 use Rattle.zio_types.specs.Choices.{Choice}
@@ -270,6 +271,25 @@ RefusedHeaderSuspendsTheWrite =
       images = image;
     }
 
+-- what was found before it was refused stands in the journal
+abbrev pub RefusedHeaderShowsItsPlace : Type 0
+RefusedHeaderShowsItsPlace =
+    report_with_journal (script Wait one_leaf [] (one_sector_left ++ write_x ∷ Go ∷ [])) image refused_header
+    (completion 1 1 None ∷ completion 2 2 None ∷ [])
+    ≡ lines (
+    "pool 1 1"
+    ∷ "round 1 batch 1 point 0"
+    ∷ "1 claim f ok"
+    ∷ "order 1"
+    ∷ "round 2 batch 2 point 0"
+    ∷ "2 claim g ok"
+    ∷ "order 2"
+    ∷ "round 3 batch 3 point 0"
+    ∷ "3 write x suspended"
+    ∷ "take 3 0 - body 1024 1 refused"
+    ∷ "take 3 0 - head 512 2 0:7 refused"
+    ∷ "end 9" ∷ [])
+
 -- it isn't tried again in the round
 abbrev pub RefusedHeaderIsAskedForOnce : Type 0
 RefusedHeaderIsAskedForOnce =
@@ -386,6 +406,38 @@ MemberWithoutAPlaceIsZeros =
           ∷ "end 0" ∷ []);
       images = image_with header_of_one header_of_one (sectors_of 1 65) (sectors_of 1 7) ∷ [];
     }
+
+-- The first of two members without a place, and the second of three: the others keep their places in the header. (These
+-- journals aren't lawful, since a member behind finds what the one before it doesn't.)
+abbrev pub second_alone : List ℕ
+second_alone =
+    header_with (zeros 128 ++ member 5 ++ zeros 128)
+    (0x6084024c4bb37a2e ∷ 0x8bae2828fa11ba82 ∷ 0xf12d8bd8abe0927c ∷ 0xce0f5a9537192525 ∷ [])
+
+abbrev pub first_and_third : List ℕ
+first_and_third =
+    header_with (member 5 ++ zeros 128 ++ member 7)
+    (0x26bd6d3544a2ab2e ∷ 0x4c49acfa3b34749 ∷ 0x73a14c0c14d3e2c1 ∷ 0xee04959b513daf6b ∷ [])
+
+-- the header's first copy, where x is of so many bytes and its members have these places
+abbrev pub header_over : ℕ → List Choice → List ℕ
+header_over len members =
+    flat_map (λ (leaf : List ℕ). take 512 (drop 512 leaf)) (images_after
+    (script Wait one_leaf [] (scattered ++ can_fail (write 3 (codes "x") Fletcher4 1 65 len) ∷ Go ∷ [])) image (
+    choice 3 3 0 [] Body len 1 []
+    ∷ choice 3 3 0 [] Head 512 2 (place 0 1 1 ∷ place 0 3 1 ∷ [])
+    ∷ members))
+
+abbrev pub MembersKeepTheirPlacesInTheHeader : Type 0
+MembersKeepTheirPlacesInTheHeader =
+    header_over 1024 (
+    choice 3 3 0 (0 ∷ []) Body 512 1 []
+    ∷ choice 3 3 0 (1 ∷ []) Body 512 1 (place 0 5 1 ∷ []) ∷ [])
+    ++ header_over 1536 (
+    choice 3 3 0 (0 ∷ []) Body 512 1 (place 0 5 1 ∷ [])
+    ∷ choice 3 3 0 (1 ∷ []) Body 512 1 []
+    ∷ choice 3 3 0 (2 ∷ []) Body 512 1 (place 0 7 1 ∷ []) ∷ [])
+    ≡ second_alone ++ first_and_third
 
 -- a member that can't be written has a place, so its pointer stands in the header; its error is the gang's
 abbrev pub MemberThatIsntWrittenHasItsPointer : Type 0
@@ -681,3 +733,10 @@ NothingIsUsedAfterAllFrees =
     (script Wait one_leaf [] (written ++ free 4 (codes "f") ∷ free 5 (codes "g") ∷ free 6 (codes "x") ∷ Go ∷ []))
     image gang_choices
     ≡ []
+
+-- a gang in a gang has the places of the members in both headers
+abbrev pub NestedGangUsesAllItsPlaces : Type 0
+NestedGangUsesAllItsPlaces =
+    map (λ sector. is_free (used_after nested (sectors_of 16 7 ∷ []) nested_choices) (place 0 sector 1))
+    (1 ∷ 3 ∷ 5 ∷ 7 ∷ 9 ∷ 11 ∷ 13 ∷ 15 ∷ [])
+    ≡ replicate 8 false

@@ -131,6 +131,12 @@ CopyOnUsedTop =
     ¬ IsLawful two_copies (zeros 4096 ∷ zeros 4096 ∷ [])
     (choice 1 1 0 [] Body 512 2 (place 0 0 1 ∷ place 0 4 1 ∷ []) ∷ [])
 
+-- on one top the second copy of a block may not meet its first
+abbrev pub CopiesThatMeet : Type 0
+CopiesThatMeet =
+    ¬ IsLawful (script Wait ((0 ∷ []) ∷ []) [] (write 1 (codes "x") Off 2 65 512 ∷ Go ∷ [])) (zeros 4096 ∷ [])
+    (choice 1 1 0 [] Body 512 2 (place 0 3 1 ∷ place 0 3 1 ∷ []) ∷ [])
+
 -- the other top is full
 abbrev pub SecondCopyIsLawful : Type 0
 SecondCopyIsLawful =
@@ -160,6 +166,12 @@ RefusedBeforeTheLast =
     ∷ choice 3 2 0 [] Head 512 2 []
     ∷ choice 2 2 0 [] Body 512 1 (place 0 7 1 ∷ [])
     ∷ choice 5 4 0 [] Body 512 1 (place 0 7 1 ∷ []) ∷ [])
+
+-- a choice is refused behind its first copy, though there is room for the second
+abbrev pub RefusedBehindACopy : Type 0
+RefusedBehindACopy =
+    ¬ IsLawful (script Wait ((0 ∷ []) ∷ []) [] (write 1 (codes "x") Off 2 65 512 ∷ Go ∷ [])) (zeros 4096 ∷ [])
+    (choice 1 1 0 [] Body 512 2 (place 0 3 1 ∷ []) ∷ [])
 
 -- ---- a top of two places of eight sectors
 

@@ -32,7 +32,7 @@ use Rattle.zio_report.specs.Lines.{path_text, round_text}
 use Rattle.zio_report.specs.Reports.{run_text, text_so_far}
 use Rattle.zio_worked.specs.Claims.{image_with, claimed_tree, gang_of_one_at}
 use Rattle.zio_worked.specs.Reads.{one_top, gone_and_eio, header_of_gangs, tree_of_gangs}
-use Rattle.zio_worked.specs.Scripts.{script, write, read, must, fault, fault_over, pointer_after, rounds_in, choice, place, one_leaf, sectors_of, zeros, no_sum, one_copy_at, two_copies_at, header_with, report_with_journal, completion, lines}
+use Rattle.zio_worked.specs.Scripts.{script, write, read, must, can_fail_under, fault, fault_over, pointer_after, rounds_in, choice, place, one_leaf, sectors_of, zeros, no_sum, one_copy_at, two_copies_at, header_with, report_with_journal, completion, lines}
 
 -- ---- asks
 
@@ -295,6 +295,18 @@ abbrev pub SummaryCounts : Type 0
 SummaryCounts =
     summary_of (run_script four_requests (zeros 4096 ∷ []) (choice 1 1 0 [] Body 512 1 (place 0 3 1 ∷ []) ∷ []))
     ≡ lines ("requests 4" ∷ "ok 2" ∷ "failed 1" ∷ "left 1" ∷ "read 512" ∷ "end 9" ∷ [])
+
+-- a read that is good stands over one of a sector that can't be read: it has the error of that, and its bytes don't count
+abbrev pub good_read_over_a_bad_one : Script
+good_read_over_a_bad_one = script Wait one_leaf (fault_over 0 OnRead 4 1 0 1 Eio ∷ []) (
+    write 1 (codes "x") Off 1 65 512 ∷ write 2 (codes "y") Off 1 66 512 ∷ Go
+    ∷ read 3 (codes "x") ∷ can_fail_under 3 (read 4 (codes "y")) ∷ Go ∷ [])
+
+abbrev pub BytesOverAFailedChildDontCount : Type 0
+BytesOverAFailedChildDontCount =
+    summary_of (run_script good_read_over_a_bad_one (zeros 4096 ∷ []) (
+    choice 1 1 0 [] Body 512 1 (place 0 3 1 ∷ []) ∷ choice 2 1 0 [] Body 512 1 (place 0 4 1 ∷ []) ∷ []))
+    ≡ lines ("requests 4" ∷ "ok 2" ∷ "failed 2" ∷ "left 0" ∷ "read 0" ∷ "end 0" ∷ [])
 
 -- it comes in place of all rounds
 abbrev pub SummaryShowsNoRound : Type 0

@@ -1,19 +1,19 @@
 -- Which error a read has, what it mends and in which pass, what waits under panic, and each place of a claim.
 use Rattle.std.specs.Prelude.{◌≡◌, ℕ, List, [], ◌∷◌, ◌++◌, map, replicate, bytes_eq, true, Ok, Err}
 use Rattle.zio_types.specs.declared.error.Errno.TheVariants.{Io}
-use Rattle.zio_blkptr.specs.declared.pointer.SumKind.TheVariants.{Off}
-use Rattle.zio_faults.specs.declared.table.FaultKind.TheVariants.{Eio, Gone}
+use Rattle.zio_blkptr.specs.declared.pointer.SumKind.TheVariants.{Off, Sha256}
+use Rattle.zio_faults.specs.declared.table.FaultKind.TheVariants.{Eio, Gone, Flip}
 use Rattle.zio_faults.specs.declared.table.On.TheVariants.{Read as OnRead, Write as OnWrite}
 use Rattle.zio_faults.specs.declared.table.Row.{Row}
-use Rattle.zio_script.specs.declared.script.Failmode.TheVariants.{Panic}
+use Rattle.zio_script.specs.declared.script.Failmode.TheVariants.{Wait, Panic}
 use Rattle.zio_script.specs.declared.script.Item.TheVariants.{Go, Clear}
 use Rattle.zio_cksum.specs.Blocks.{Read, read_block}
 use Rattle.zio_cksum.specs.Images.{Images, Setting}
 use Rattle.zio_gang.specs.Trees.{read_tree}
 use Rattle.zio_gang.specs.declared.tree.Tree.{Tree}
 use Rattle.zio_worked.specs.Claims.{image, image_with, claim_x, one_round, good_header, gang_of_one_at, claimed_tree, seven_headers, eighth_header}
-use Rattle.zio_worked.specs.Mirrors.{write_x, read_x, untouched, one_place}
-use Rattle.zio_worked.specs.Scripts.{script, fault, fault_over, in_first_pass, place, one_leaf, sectors_of, zeros, no_sum, pointer_with, two_copies_at, header_with, report, lines}
+use Rattle.zio_worked.specs.Mirrors.{write_x, read_x, untouched, one_place, two_leaves, two_places}
+use Rattle.zio_worked.specs.Scripts.{script, fault, fault_over, in_first_pass, place, one_leaf, sectors_of, zeros, no_sum, pointer_with, two_copies_at, header_with, report, lines, two_tops}
 
 -- ---- panic
 
@@ -124,3 +124,20 @@ RetryMendsInTheRetry =
     read_three (in_first_pass (fault 2 OnWrite 0 1 Eio) ∷ in_first_pass (fault 4 OnRead 0 1 Eio) ∷ [])
     (leaves_with (1 ∷ 2 ∷ 3 ∷ 4 ∷ 65 ∷ 5 ∷ 6 ∷ []))
     ≡ record { found = Ok (sectors_of 1 65); images = leaves_with (65 ∷ 65 ∷ 65 ∷ 65 ∷ 65 ∷ 5 ∷ 6 ∷ []) }
+
+-- ---- copies that are bad in two ways
+
+-- A copy that can't be read and one that has other bytes than were written: the error of the device is the worse, whichever
+-- of them is read first.
+abbrev pub DeviceErrorIsWorseThanAWrongSum : Type 0
+DeviceErrorIsWorseThanAWrongSum =
+    map (λ rows. report (script Wait two_tops rows (write_x Sha256 2 ∷ Go ∷ read_x ∷ Go ∷ [])) two_leaves two_places) (
+    (fault 0 OnRead 0 1 Eio ∷ fault 1 OnRead 0 1 Flip ∷ [])
+    ∷ (fault 0 OnRead 0 1 Flip ∷ fault 1 OnRead 0 1 Eio ∷ []) ∷ [])
+    ≡ replicate 2 (lines (
+    "pool 2 2"
+    ∷ "round 1 batch 1 point 0"
+    ∷ "1 write x ok 512"
+    ∷ "round 2 batch 2 point 0"
+    ∷ "2 read x EIO"
+    ∷ "end 0" ∷ []))

@@ -1,5 +1,5 @@
 -- Trees that can't go on: how often they are tried, what waits with them, and how a clear resumes them.
-use Rattle.std.specs.Prelude.{◌≡◌, List, [], ◌∷◌, ◌++◌, codes}
+use Rattle.std.specs.Prelude.{◌≡◌, List, [], ◌∷◌, ◌++◌, codes, map, replicate}
 use Rattle.zio_types.specs.declared.journal.Role.TheVariants.{Body, Head}
 use Rattle.zio_types.specs.Choices.{Choice}
 use Rattle.zio_blkptr.specs.declared.pointer.SumKind.TheVariants.{Off}
@@ -367,3 +367,69 @@ FreeFails =
     ∷ "round 4 batch 4 point 1"
     ∷ "7 read x ok 1024 4141414100:20c141412080:b00ebebe0eb00:2c87babe9237040"
     ∷ "end 0" ∷ [])
+
+-- ---- a read over a write that goes again
+
+-- The read's own device error stands over a write that goes again at once. So the whole tree goes again, whether or not the
+-- read may fail: an error of its own suspends a request only where no bit of a child is there.
+abbrev pub read_over_write : (Item → Item) → Script
+read_over_write as = script Wait ((0 ∷ []) ∷ []) (fault_over 0 OnWrite 0 4 0 1 Eio ∷ fault_over 0 OnRead 7 1 0 1 Eio ∷ []) (
+    write 1 (codes "y") Off 1 65 512
+    ∷ Go
+    ∷ as (read 2 (codes "y"))
+    ∷ under 2 (write 3 (codes "x") Off 1 66 512)
+    ∷ Go ∷ [])
+
+abbrev pub read_over_write_choices : List Choice
+read_over_write_choices =
+    choice 1 1 0 [] Body 512 1 (place 0 7 1 ∷ [])
+    ∷ choice 3 2 0 [] Body 512 1 (place 0 0 1 ∷ [])
+    ∷ choice 3 2 1 [] Body 512 1 (place 0 1 1 ∷ [])
+    ∷ choice 3 2 2 [] Body 512 1 (place 0 2 1 ∷ [])
+    ∷ choice 3 2 3 [] Body 512 1 (place 0 3 1 ∷ []) ∷ []
+
+abbrev pub ReadGoesAgainWithItsChild : Type 0
+ReadGoesAgainWithItsChild =
+    map (λ as. report (read_over_write as) (zeros 4096 ∷ []) read_over_write_choices) (must ∷ can_fail ∷ [])
+    ≡ replicate 2 (lines (
+    "pool 1 1"
+    ∷ "round 1 batch 1 point 0"
+    ∷ "1 write y ok 512"
+    ∷ "round 2 batch 2 point 0"
+    ∷ "2 read y suspended"
+    ∷ "3 write x suspended"
+    ∷ "end 9" ∷ []))
+
+-- the write asks in each of four attempts
+abbrev pub ChildUnderABadReadAsksFourTimes : Type 0
+ChildUnderABadReadAsksFourTimes =
+    map (λ as. asks_in (read_over_write as) (zeros 4096 ∷ []) read_over_write_choices) (must ∷ can_fail ∷ [])
+    ≡ replicate 2 (asks_of read_over_write_choices)
+
+-- ---- a block that a suspended tree names
+
+-- Two reads are suspended. The block that the second of them names is kept from a batch that runs beside them: its read has
+-- the error of admission, and not the device's.
+abbrev pub BlockOfTheSecondSuspendedTreeIsKept : Type 0
+BlockOfTheSecondSuspendedTreeIsKept =
+    report
+    (script Continue ((0 ∷ []) ∷ []) (fault 0 OnRead 0 1 Gone ∷ []) (
+    write 1 (codes "x") Off 1 65 512 ∷ write 2 (codes "y") Off 1 66 512
+    ∷ Go
+    ∷ must (read 3 (codes "x")) ∷ must (read 4 (codes "y"))
+    ∷ Go
+    ∷ read 5 (codes "y")
+    ∷ Go ∷ []))
+    (zeros 4096 ∷ [])
+    (choice 1 1 0 [] Body 512 1 (place 0 0 1 ∷ []) ∷ choice 2 1 0 [] Body 512 1 (place 0 1 1 ∷ []) ∷ [])
+    ≡ lines (
+    "pool 1 1"
+    ∷ "round 1 batch 1 point 0"
+    ∷ "1 write x ok 512"
+    ∷ "2 write y ok 512"
+    ∷ "round 2 batch 2 point 0"
+    ∷ "3 read x suspended"
+    ∷ "4 read y suspended"
+    ∷ "round 3 batch 3 point 0"
+    ∷ "5 read y EIO"
+    ∷ "end 9" ∷ [])

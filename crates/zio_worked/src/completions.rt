@@ -1,4 +1,4 @@
-ghost use Rattle.zio_worked.specs.Completions.{AllComplete, NumberTwice, ChildAfterParent, OneIsMissing, OtherError, OtherRound, SuspendedAreLeft, SuspendedCompletes, EachInItsRound, AnsweredComplete};
+ghost use Rattle.zio_worked.specs.Completions.{AllComplete, NumberTwice, ChildAfterParent, OneIsMissing, OtherError, OtherRound, SuspendedAreLeft, SuspendedCompletes, EachInItsRound, AnsweredComplete, RoundThatWasNotRun};
 
 /// The completions of a journal are those of the requests that finished, each once and after its children.
 pub fn completions_tell_what_finished()
@@ -12,4 +12,5 @@ pub fn completions_tell_what_finished()
     ensures suspended_completes { SuspendedCompletes }
     ensures each_in_its_round { EachInItsRound }
     ensures answered_complete { AnsweredComplete }
+    ensures round_that_was_not_run { RoundThatWasNotRun }
 {}

@@ -1,4 +1,4 @@
-ghost use Rattle.zio_worked.specs.LawfulJournals.{PairIsLawful, OtherOrderIsLawful, KeyNotAskedFor, KeyTwice, AskWithoutChoice, OtherSize, RoundThatWasNotRun, PlaceOfAnother, PlaceOutside, PlaceTooShort, TooManyPlaces, RefusedWithRoom, PlaceOfBoundBlock, PlaceFreedInTheRound, PlaceOfEarlierAttempt, GivenBackIsLawful, CopyOnUsedTop, SecondCopyIsLawful, RefusedIsLawful, GangIsLawful, RefusedBeforeTheLast, WholeUnitIsLawful, PlaceBetweenUnits, PlaceOfPartOfAUnit, PlaceOfTwoUnits};
+ghost use Rattle.zio_worked.specs.LawfulJournals.{PairIsLawful, OtherOrderIsLawful, KeyNotAskedFor, KeyTwice, AskWithoutChoice, OtherSize, RoundThatWasNotRun, PlaceOfAnother, PlaceOutside, PlaceTooShort, TooManyPlaces, RefusedWithRoom, PlaceOfBoundBlock, PlaceFreedInTheRound, PlaceOfEarlierAttempt, GivenBackIsLawful, CopyOnUsedTop, SecondCopyIsLawful, RefusedIsLawful, GangIsLawful, RefusedBeforeTheLast, WholeUnitIsLawful, PlaceBetweenUnits, PlaceOfPartOfAUnit, PlaceOfTwoUnits, CopiesThatMeet, RefusedBehindACopy};
 
 /// A journal answers all that its run asks for and nothing else, with places that were free.
 pub fn lawful_journals_answer_what_is_asked()
@@ -27,4 +27,6 @@ pub fn lawful_journals_answer_what_is_asked()
     ensures place_between_units { PlaceBetweenUnits }
     ensures place_of_part_of_a_unit { PlaceOfPartOfAUnit }
     ensures place_of_two_units { PlaceOfTwoUnits }
+    ensures copies_that_meet { CopiesThatMeet }
+    ensures refused_behind_a_copy { RefusedBehindACopy }
 {}

@@ -1,4 +1,4 @@
-ghost use Rattle.zio_worked.specs.Parts.{EntryAnswersItsOwnAsk, WorstErrorOfAFreeCounts, FailedHeaderKeepsBodiesUnread, SummaryCounts, SummaryShowsNoRound, EachRoundShowsItsOwnJournal, BirthIsTheBatch, HeaderIsForItsFirstPlaceAndBirth, SuspendedTreesGoByNumber, FailedFreeKeepsItsName, WorstErrorOfAPlaceCounts, BitsOfAllChildrenCount, HeldBatchIsLeft, HeadersAreKeptByPath, HeaderThatIsntKeptIsBad, TreesStandByTheirRoots, PathsHavePoints, EachMemberHasItsPath, TopHasWholeUnits, ReadsAnswerByTheKindOfTheirRow, WritesAnswerByTheKindOfTheirRow, FailedRequestKeepsNoBlock};
+ghost use Rattle.zio_worked.specs.Parts.{EntryAnswersItsOwnAsk, WorstErrorOfAFreeCounts, FailedHeaderKeepsBodiesUnread, SummaryCounts, SummaryShowsNoRound, EachRoundShowsItsOwnJournal, BirthIsTheBatch, HeaderIsForItsFirstPlaceAndBirth, SuspendedTreesGoByNumber, FailedFreeKeepsItsName, WorstErrorOfAPlaceCounts, BitsOfAllChildrenCount, HeldBatchIsLeft, HeadersAreKeptByPath, HeaderThatIsntKeptIsBad, TreesStandByTheirRoots, PathsHavePoints, EachMemberHasItsPath, TopHasWholeUnits, ReadsAnswerByTheKindOfTheirRow, WritesAnswerByTheKindOfTheirRow, FailedRequestKeepsNoBlock, BytesOverAFailedChildDontCount};
 
 /// What a single definition gives, where a whole run wouldn't tell a wrong one.
 pub fn single_definitions_follow_their_rules()
@@ -24,4 +24,5 @@ pub fn single_definitions_follow_their_rules()
     ensures reads_answer_by_the_kind_of_their_row { ReadsAnswerByTheKindOfTheirRow }
     ensures writes_answer_by_the_kind_of_their_row { WritesAnswerByTheKindOfTheirRow }
     ensures failed_request_keeps_no_block { FailedRequestKeepsNoBlock }
+    ensures bytes_over_a_failed_child_dont_count { BytesOverAFailedChildDontCount }
 {}

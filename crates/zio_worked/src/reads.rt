@@ -1,4 +1,4 @@
-ghost use Rattle.zio_worked.specs.Reads.{MissingDeviceUnderPanicStopsTheRun, EachPlaceOfAClaimIsTested, PointerBelowTheDeepestIsTested, WorstErrorOfTheBodiesCounts, WorstErrorOfTheHeadersCounts, EveryCopyBeforeTheGoodOneIsMended, FirstPassMendsInTheFirst, RetryMendsInTheRetry};
+ghost use Rattle.zio_worked.specs.Reads.{MissingDeviceUnderPanicStopsTheRun, EachPlaceOfAClaimIsTested, PointerBelowTheDeepestIsTested, WorstErrorOfTheBodiesCounts, WorstErrorOfTheHeadersCounts, EveryCopyBeforeTheGoodOneIsMended, FirstPassMendsInTheFirst, RetryMendsInTheRetry, DeviceErrorIsWorseThanAWrongSum};
 
 /// Reads have their worst error and mend what failed before the good copy; a claim has each of its places tested.
 pub fn reads_blame_and_mend()
@@ -10,4 +10,5 @@ pub fn reads_blame_and_mend()
     ensures every_copy_before_the_good_one_is_mended { EveryCopyBeforeTheGoodOneIsMended }
     ensures first_pass_mends_in_the_first { FirstPassMendsInTheFirst }
     ensures retry_mends_in_the_retry { RetryMendsInTheRetry }
+    ensures device_error_is_worse_than_a_wrong_sum { DeviceErrorIsWorseThanAWrongSum }
 {}

@@ -1,4 +1,4 @@
-ghost use Rattle.zio_worked.specs.Suspension.{FourthAttemptSuspends, FourAttemptsAsk, WaitingComesFirst, WaitingAsksOnce, NextBatchIsHeld, NextBatchGoesOn, PanicEndsTheRun, ClearResumes, ClearRaisesThePoint, SuspendedTreesShareARound, SecondBatchStaysHeld, SecondClearRunsTheRest, NoSpaceSuspends, NoSpaceAsksOnce, NoSpaceFails, FreedSpaceServesLater, FreeWaits, FreeFails};
+ghost use Rattle.zio_worked.specs.Suspension.{FourthAttemptSuspends, FourAttemptsAsk, WaitingComesFirst, WaitingAsksOnce, NextBatchIsHeld, NextBatchGoesOn, PanicEndsTheRun, ClearResumes, ClearRaisesThePoint, SuspendedTreesShareARound, SecondBatchStaysHeld, SecondClearRunsTheRest, NoSpaceSuspends, NoSpaceAsksOnce, NoSpaceFails, FreedSpaceServesLater, FreeWaits, FreeFails, ReadGoesAgainWithItsChild, ChildUnderABadReadAsksFourTimes, BlockOfTheSecondSuspendedTreeIsKept};
 
 /// A tree that can't go on is suspended until a clear: after four attempts, or at once where it waits for a device or
 /// for space.
@@ -21,4 +21,7 @@ pub fn suspended_trees_wait_for_a_clear()
     ensures freed_space_serves_later { FreedSpaceServesLater }
     ensures free_waits { FreeWaits }
     ensures free_fails { FreeFails }
+    ensures read_goes_again_with_its_child { ReadGoesAgainWithItsChild }
+    ensures child_under_a_bad_read_asks_four_times { ChildUnderABadReadAsksFourTimes }
+    ensures block_of_the_second_suspended_tree_is_kept { BlockOfTheSecondSuspendedTreeIsKept }
 {}

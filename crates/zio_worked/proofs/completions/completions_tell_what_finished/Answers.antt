@@ -1,4 +1,4 @@
-use Rattle.zio_worked.proofs.CompletionCases.{all_complete, number_twice, child_after_parent, one_is_missing, other_error, other_round, suspended_are_left, suspended_completes, each_in_its_round, answered_complete}
+use Rattle.zio_worked.proofs.CompletionCases.{all_complete, number_twice, child_after_parent, one_is_missing, other_error, other_round, suspended_are_left, suspended_completes, each_in_its_round, answered_complete, round_that_was_not_run}
 use Rattle.zio_worked.proofs.completions.completions_tell_what_finished.Goals as goal
 
 pub returns : goal.returns
@@ -13,4 +13,5 @@ returns c = record {
   suspended_completes = suspended_completes;
   each_in_its_round = each_in_its_round;
   answered_complete = answered_complete;
+  round_that_was_not_run = round_that_was_not_run;
 }

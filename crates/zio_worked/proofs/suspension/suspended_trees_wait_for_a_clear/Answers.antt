@@ -1,4 +1,4 @@
-use Rattle.zio_worked.proofs.SuspensionCases.{fourth_attempt_suspends, four_attempts_ask, waiting_comes_first, waiting_asks_once, next_batch_is_held, next_batch_goes_on, panic_ends_the_run, clear_resumes, clear_raises_the_point, suspended_trees_share_a_round, second_batch_stays_held, second_clear_runs_the_rest, no_space_suspends, no_space_asks_once, no_space_fails, freed_space_serves_later, free_waits, free_fails}
+use Rattle.zio_worked.proofs.SuspensionCases.{fourth_attempt_suspends, four_attempts_ask, waiting_comes_first, waiting_asks_once, next_batch_is_held, next_batch_goes_on, panic_ends_the_run, clear_resumes, clear_raises_the_point, suspended_trees_share_a_round, second_batch_stays_held, second_clear_runs_the_rest, no_space_suspends, no_space_asks_once, no_space_fails, freed_space_serves_later, free_waits, free_fails, read_goes_again_with_its_child, child_under_a_bad_read_asks_four_times, block_of_the_second_suspended_tree_is_kept}
 use Rattle.zio_worked.proofs.suspension.suspended_trees_wait_for_a_clear.Goals as goal
 
 pub returns : goal.returns
@@ -21,4 +21,7 @@ returns c = record {
   freed_space_serves_later = freed_space_serves_later;
   free_waits = free_waits;
   free_fails = free_fails;
+  read_goes_again_with_its_child = read_goes_again_with_its_child;
+  child_under_a_bad_read_asks_four_times = child_under_a_bad_read_asks_four_times;
+  block_of_the_second_suspended_tree_is_kept = block_of_the_second_suspended_tree_is_kept;
 }

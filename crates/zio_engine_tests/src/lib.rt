@@ -1,5 +1,4 @@
-//! Tests of the engines' parts: that their calls succeed where memory is ample, what they do step by step, and pieces that
-//! are written by turns.
+//! Tests of the engines' parts: that their calls succeed where memory is ample, and what they do step by step.
 //!
 //! They stand here and not in the crates, since a crate with tests of its own is proved once more with them. There is
 //! nothing else in it.
@@ -15,7 +14,5 @@ mod labels;
 mod lines;
 #[cfg(test)]
 mod parts;
-#[cfg(test)]
-mod turns;
 #[cfg(test)]
 mod walks;

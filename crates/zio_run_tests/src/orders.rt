@@ -18,7 +18,7 @@ const ALL_DONE: &[u8] =
     9 write w8 ok 512\nend 0\n";
 
 /// The picks of these seeds are tried beside the first of all.
-const SEEDS: [&str; 21] = [
+pub(crate) const SEEDS: [&str; 21] = [
     "0", "1", "2", "3", "4", "5", "6", "7", "8", "9", "10", "11", "12", "13", "14", "15", "16",
     "17", "18", "19", "20",
 ];

@@ -1,5 +1,0 @@
-use Rattle.std.proofs.Common.{length}
-use Rattle.zio_turns.proofs.errors.+pass_error.Given as goal
-
-abbrev pub decreases-pass_error : goal.decreases-pass_error
-decreases-pass_error l = length l.places.now

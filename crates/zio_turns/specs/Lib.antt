@@ -1,4 +1,0 @@
-pub mod Filled
-pub mod Flights
-pub mod Nodes
-pub mod Running

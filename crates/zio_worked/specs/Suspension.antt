@@ -373,10 +373,10 @@ FreeFails =
 -- The read's own device error stands over a write that goes again at once. So the whole tree goes again, whether or not the
 -- read may fail: an error of its own suspends a request only where no bit of a child is there.
 abbrev pub read_over_write : (Item → Item) → Script
-read_over_write as = script Wait ((0 ∷ []) ∷ []) (fault_over 0 OnWrite 0 4 0 1 Eio ∷ fault_over 0 OnRead 7 1 0 1 Eio ∷ []) (
+read_over_write flags = script Wait ((0 ∷ []) ∷ []) (fault_over 0 OnWrite 0 4 0 1 Eio ∷ fault_over 0 OnRead 7 1 0 1 Eio ∷ []) (
     write 1 (codes "y") Off 1 65 512
     ∷ Go
-    ∷ as (read 2 (codes "y"))
+    ∷ flags (read 2 (codes "y"))
     ∷ under 2 (write 3 (codes "x") Off 1 66 512)
     ∷ Go ∷ [])
 
@@ -390,7 +390,7 @@ read_over_write_choices =
 
 abbrev pub ReadGoesAgainWithItsChild : Type 0
 ReadGoesAgainWithItsChild =
-    map (λ as. report (read_over_write as) (zeros 4096 ∷ []) read_over_write_choices) (must ∷ can_fail ∷ [])
+    map (λ flags. report (read_over_write flags) (zeros 4096 ∷ []) read_over_write_choices) (must ∷ can_fail ∷ [])
     ≡ replicate 2 (lines (
     "pool 1 1"
     ∷ "round 1 batch 1 point 0"
@@ -403,7 +403,7 @@ ReadGoesAgainWithItsChild =
 -- the write asks in each of four attempts
 abbrev pub ChildUnderABadReadAsksFourTimes : Type 0
 ChildUnderABadReadAsksFourTimes =
-    map (λ as. asks_in (read_over_write as) (zeros 4096 ∷ []) read_over_write_choices) (must ∷ can_fail ∷ [])
+    map (λ flags. asks_in (read_over_write flags) (zeros 4096 ∷ []) read_over_write_choices) (must ∷ can_fail ∷ [])
     ≡ replicate 2 (asks_of read_over_write_choices)
 
 -- ---- a block that a suspended tree names

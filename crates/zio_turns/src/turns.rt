@@ -99,7 +99,7 @@ fn leaf_turn<D: Disk>(
     requires turn { IsTurn setting.now (map D.bytes disks.old) nodes.old queue.old.items (Turn.Leaf write) }
     ensures goes_on { OnOk result (GoesOn setting.now (λ images. (written setting.now nodes.old write images).images) nodes.old queue.old.items (Turn.Leaf write) nodes.new queue.new.items) }
     ensures told { OnOk result ((images : Images) → Tell D.image disks.old images → Tell D.image disks.new (written setting.now nodes.old write images).images) }
-    ensures handled { Handles D.bytes D.faults D.faults_at_fetch D.home D.image D.sound (spot_at write.target ∷ []) result disks.old disks.new }
+    ensures handled { Handles D.bytes D.faults D.faults_at_fetch D.home D.image D.sound D.went (spot_at write.target ∷ []) result disks.old disks.new }
 {
     let error = write_copy(
         alloc,
@@ -130,7 +130,7 @@ fn take_turn<D: Disk>(
     requires turn { IsTurn setting.now (map D.bytes disks.old) nodes.old queue.old.items turn }
     ensures goes_on { OnOk result (GoesOn setting.now (turned setting.now nodes.old turn) nodes.old queue.old.items turn nodes.new queue.new.items) }
     ensures told { OnOk result ((images : Images) → Tell D.image disks.old images → Tell D.image disks.new (turned setting.now nodes.old turn images)) }
-    ensures handled { Handles D.bytes D.faults D.faults_at_fetch D.home D.image D.sound (spots_in turn) result disks.old disks.new }
+    ensures handled { Handles D.bytes D.faults D.faults_at_fetch D.home D.image D.sound D.went (spots_in turn) result disks.old disks.new }
 {
     match turn {
         Turn::Piece(piece) => piece_turn(setting, nodes, queue, piece),
@@ -151,7 +151,7 @@ fn run<D: Disk, P: Picks>(
     requires goes { (before : Images) → Goes setting.now (map D.bytes disks.old) (pieces_of nodes.old) before nodes.old queue.old.items before }
     ensures ended { OnOk result ((before : Images) → (now : Images) × Goes setting.now (map D.bytes disks.old) (pieces_of nodes.old) before nodes.new [] now
         × (Tell D.image disks.old before → Tell D.image disks.new now)) }
-    ensures handled { Handles D.bytes D.faults D.faults_at_fetch D.home D.image D.sound (all_copies setting.now (pieces_of nodes.old)) result disks.old disks.new }
+    ensures handled { Handles D.bytes D.faults D.faults_at_fetch D.home D.image D.sound D.went (all_copies setting.now (pieces_of nodes.old)) result disks.old disks.new }
 {
     'turns: while queue.len() > 0 {
         let count = queue.len().min(u32::MAX as usize) as u32;
@@ -210,7 +210,7 @@ pub fn write_in_turns<D: Disk, P: Picks>(
         (errors ≡ (all_written setting.now pieces images).errors)
         × Tell D.image disks.new (all_written setting.now pieces images).images) }
     ensures count { IfOk result (λ errors. length errors ≡ length pieces) }
-    ensures handled { Handles D.bytes D.faults D.faults_at_fetch D.home D.image D.sound (all_copies setting.now pieces) result disks.old disks.new }
+    ensures handled { Handles D.bytes D.faults D.faults_at_fetch D.home D.image D.sound D.went (all_copies setting.now pieces) result disks.old disks.new }
 {
     let (mut nodes, mut queue) = begin(alloc, pieces)?;
     let started = nodes.as_mut_slice();

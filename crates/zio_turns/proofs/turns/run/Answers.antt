@@ -16,7 +16,7 @@ no_device e = absurd (cc)
 pub turns-init : goal.turns-init
 turns-init g c = (
   λ before. (before, c.requires.goes before, λ told. told),
-  handles_none g.D.Disk.bytes g.D.Disk.faults g.D.Disk.faults_at_fetch g.D.Disk.home g.D.Disk.image g.D.Disk.sound (all_copies c.args.setting.now (pieces_of c.args.nodes.now)) (Ok tt) c.args.disks.now no_device,
+  handles_none g.D.Disk.bytes g.D.Disk.faults g.D.Disk.faults_at_fetch g.D.Disk.home g.D.Disk.image g.D.Disk.sound g.D.Disk.went (all_copies c.args.setting.now (pieces_of c.args.nodes.now)) (Ok tt) c.args.disks.now no_device,
 )
 
 pub take_turn-requires-clause-within : goal.take_turn-requires-clause-within

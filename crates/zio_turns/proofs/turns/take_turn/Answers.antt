@@ -12,7 +12,7 @@ returns-in-Piece-clause-goes_on g c =
 
 pub returns-in-Piece-clause-handled : goal.returns-in-Piece-clause-handled
 returns-in-Piece-clause-handled g c =
-    handles_none g.D.Disk.bytes g.D.Disk.faults g.D.Disk.faults_at_fetch g.D.Disk.home g.D.Disk.image g.D.Disk.sound (spots_in c.args.turn) c.piece_turn.result c.args.disks.now
+    handles_none g.D.Disk.bytes g.D.Disk.faults g.D.Disk.faults_at_fetch g.D.Disk.home g.D.Disk.image g.D.Disk.sound g.D.Disk.went (spots_in c.args.turn) c.piece_turn.result c.args.disks.now
     (not_device c.piece_turn.result c.piece_turn.ensures.err)
 
 pub returns-in-Leaf-clause-goes_on : goal.returns-in-Leaf-clause-goes_on

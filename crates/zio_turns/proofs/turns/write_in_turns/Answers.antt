@@ -13,7 +13,7 @@ use Rattle.zio_turns.proofs.turns.write_in_turns.Goals as goal
 pub returns-in_err-nodes-clause-handled : goal.returns-in_err-nodes-clause-handled
 returns-in_err-nodes-clause-handled g c =
     handles_err c.from_residual.result c.from_residual.ensures.1
-    (handles_none g.D.Disk.bytes g.D.Disk.faults g.D.Disk.faults_at_fetch g.D.Disk.home g.D.Disk.image g.D.Disk.sound (all_copies c.args.setting.now c.args.pieces) (Err c.in_err-nodes.field-0.0) c.args.disks.now
+    (handles_none g.D.Disk.bytes g.D.Disk.faults g.D.Disk.faults_at_fetch g.D.Disk.home g.D.Disk.image g.D.Disk.sound g.D.Disk.went (all_copies c.args.setting.now c.args.pieces) (Err c.in_err-nodes.field-0.0) c.args.disks.now
     (no_device c.in_err-nodes.field-0.0 (memory_stop c.in_err-nodes.field-0.0 c.in_err-nodes.ensures.err)))
 
 pub run-requires-clause-goes : goal.run-requires-clause-goes
@@ -24,7 +24,7 @@ run-requires-clause-goes g c before =
 pub returns-in_err-run-clause-handled : goal.returns-in_err-run-clause-handled
 returns-in_err-run-clause-handled g c =
     let pieces : pieces_of c.as_mut_slice-started.result.now ≡ c.args.pieces = pieces_begun c.args.pieces c.as_mut_slice-started.result.now (c.as_mut_slice-started.ensures.value ∙ c.in_ok-nodes.ensures.ok.0) in
-    subst (λ (ps : List PieceToWrite). Handles g.D.Disk.bytes g.D.Disk.faults g.D.Disk.faults_at_fetch g.D.Disk.home g.D.Disk.image g.D.Disk.sound (all_copies c.args.setting.now ps) c.from_residual-in_err-run.result c.args.disks.now c.run.new.disks) pieces
+    subst (λ (ps : List PieceToWrite). Handles g.D.Disk.bytes g.D.Disk.faults g.D.Disk.faults_at_fetch g.D.Disk.home g.D.Disk.image g.D.Disk.sound g.D.Disk.went (all_copies c.args.setting.now ps) c.from_residual-in_err-run.result c.args.disks.now c.run.new.disks) pieces
     (handles_err c.from_residual-in_err-run.result c.from_residual-in_err-run.ensures.1 c.in_err-run.ensures.handled)
 
 pub returns-clause-told : goal.returns-clause-told
@@ -56,5 +56,5 @@ returns-clause-count g c =
 pub returns-clause-handled : goal.returns-clause-handled
 returns-clause-handled g c =
     let pieces : pieces_of c.as_mut_slice-started.result.now ≡ c.args.pieces = pieces_begun c.args.pieces c.as_mut_slice-started.result.now (c.as_mut_slice-started.ensures.value ∙ c.in_ok-nodes.ensures.ok.0) in
-    subst (λ (ps : List PieceToWrite). Handles g.D.Disk.bytes g.D.Disk.faults g.D.Disk.faults_at_fetch g.D.Disk.home g.D.Disk.image g.D.Disk.sound (all_copies c.args.setting.now ps) c.errors_of.result c.args.disks.now c.run.new.disks) pieces
+    subst (λ (ps : List PieceToWrite). Handles g.D.Disk.bytes g.D.Disk.faults g.D.Disk.faults_at_fetch g.D.Disk.home g.D.Disk.image g.D.Disk.sound g.D.Disk.went (all_copies c.args.setting.now ps) c.errors_of.result c.args.disks.now c.run.new.disks) pieces
     (handles_after c.errors_of.result c.errors_of.ensures.err c.in_ok-run.ensures.handled)

@@ -15,6 +15,7 @@ use Rattle.zio_cksum.specs.Frames.{spots_of}
 use Rattle.zio_cksum.specs.Images.{Setting, Spot}
 use Rattle.zio_cksum.proofs.AllLemmas.{all_append}
 use Rattle.zio_gang.specs.Journals.{AreLawful}
+use Rattle.zio_outside.specs.declared.written.Written.{Written}
 use Rattle.zio_disks.specs.Disks.{Handles}
 use Rattle.zio_disks.specs.declared.setting.Stop.{Stop}
 use Rattle.zio_disks.specs.declared.setting.Stop.TheVariants.{Device, Memory}
@@ -157,11 +158,11 @@ pub spots_join : (s : Setting) (xs ys : List Place) → spots_of s (xs ++ ys) �
 spots_join s xs ys = flat_map-append (λ (p : Place). map (spot_in p) (leaves_of s p)) xs ys
 
 -- work on the copies at some places, and then at others
-pub handles_join : {D A B : Type 0} {bytes faults faults_at_fetch : D → ℕ} {home image : D → List ℕ → Type 0} {sound : D → Type 0} {x : A} {answer : Result B Stop} {a b c : List D} (s : Setting) (xs ys all : List Place) → all ≡ xs ++ ys
-    → Handles {A = A} bytes faults faults_at_fetch home image sound (spots_of s xs) (Ok x) a b → Handles bytes faults faults_at_fetch home image sound (spots_of s ys) answer b c
-    → Handles bytes faults faults_at_fetch home image sound (spots_of s all) answer a c
-handles_join {D} {A} {B} {bytes} {faults} {faults_at_fetch} {home} {image} {sound} {x} {answer} {a} {b} {c} s xs ys all is first second =
-    subst (λ (spots : List Spot). Handles bytes faults faults_at_fetch home image sound spots answer a c) (sym (ap (spots_of s) is ∙ spots_join s xs ys))
+pub handles_join : {D A B : Type 0} {bytes faults faults_at_fetch : D → ℕ} {home image : D → List ℕ → Type 0} {sound : D → Type 0} {went : List Written → D → D → Type 0} {x : A} {answer : Result B Stop} {a b c : List D} (s : Setting) (xs ys all : List Place) → all ≡ xs ++ ys
+    → Handles {A = A} bytes faults faults_at_fetch home image sound went (spots_of s xs) (Ok x) a b → Handles bytes faults faults_at_fetch home image sound went (spots_of s ys) answer b c
+    → Handles bytes faults faults_at_fetch home image sound went (spots_of s all) answer a c
+handles_join {D} {A} {B} {bytes} {faults} {faults_at_fetch} {home} {image} {sound} {went} {x} {answer} {a} {b} {c} s xs ys all is first second =
+    subst (λ (spots : List Spot). Handles bytes faults faults_at_fetch home image sound went spots answer a c) (sym (ap (spots_of s) is ∙ spots_join s xs ys))
     (handles_then (handles_wider (spots_of s xs ++ spots_of s ys) (contains_left (spots_of s xs) (spots_of s ys)) first)
     (handles_wider (spots_of s xs ++ spots_of s ys) (contains_right (spots_of s xs) (spots_of s ys)) second))
 
@@ -180,29 +181,29 @@ pub taken_behind : (e : Choice) (all es : List Choice) → all ≡ e ∷ es → 
 taken_behind e all es is refused = ap taken_by_all is ∙ ap (λ (ps : List Place). ps ++ taken_by_all es) (taken_refused e refused)
 
 -- work on the copies at the same places
-pub handles_at : {D A : Type 0} {bytes faults faults_at_fetch : D → ℕ} {home image : D → List ℕ → Type 0} {sound : D → Type 0} {answer : Result A Stop} {a b : List D} (s : Setting) (xs all : List Place) → all ≡ xs
-    → Handles bytes faults faults_at_fetch home image sound (spots_of s xs) answer a b → Handles bytes faults faults_at_fetch home image sound (spots_of s all) answer a b
-handles_at {D} {A} {bytes} {faults} {faults_at_fetch} {home} {image} {sound} {answer} {a} {b} s xs all is h =
-    subst (λ (ps : List Place). Handles bytes faults faults_at_fetch home image sound (spots_of s ps) answer a b) (sym is) h
+pub handles_at : {D A : Type 0} {bytes faults faults_at_fetch : D → ℕ} {home image : D → List ℕ → Type 0} {sound : D → Type 0} {went : List Written → D → D → Type 0} {answer : Result A Stop} {a b : List D} (s : Setting) (xs all : List Place) → all ≡ xs
+    → Handles bytes faults faults_at_fetch home image sound went (spots_of s xs) answer a b → Handles bytes faults faults_at_fetch home image sound went (spots_of s all) answer a b
+handles_at {D} {A} {bytes} {faults} {faults_at_fetch} {home} {image} {sound} {went} {answer} {a} {b} s xs all is h =
+    subst (λ (ps : List Place). Handles bytes faults faults_at_fetch home image sound went (spots_of s ps) answer a b) (sym is) h
 
 -- work behind other places
-pub handles_right : {D A : Type 0} {bytes faults faults_at_fetch : D → ℕ} {home image : D → List ℕ → Type 0} {sound : D → Type 0} {answer : Result A Stop} {a b : List D} (s : Setting) (xs ys : List Place)
-    → Handles bytes faults faults_at_fetch home image sound (spots_of s ys) answer a b → Handles bytes faults faults_at_fetch home image sound (spots_of s (xs ++ ys)) answer a b
-handles_right {D} {A} {bytes} {faults} {faults_at_fetch} {home} {image} {sound} {answer} {a} {b} s xs ys h =
-    subst (λ (spots : List Spot). Handles bytes faults faults_at_fetch home image sound spots answer a b) (sym (spots_join s xs ys))
+pub handles_right : {D A : Type 0} {bytes faults faults_at_fetch : D → ℕ} {home image : D → List ℕ → Type 0} {sound : D → Type 0} {went : List Written → D → D → Type 0} {answer : Result A Stop} {a b : List D} (s : Setting) (xs ys : List Place)
+    → Handles bytes faults faults_at_fetch home image sound went (spots_of s ys) answer a b → Handles bytes faults faults_at_fetch home image sound went (spots_of s (xs ++ ys)) answer a b
+handles_right {D} {A} {bytes} {faults} {faults_at_fetch} {home} {image} {sound} {went} {answer} {a} {b} s xs ys h =
+    subst (λ (spots : List Spot). Handles bytes faults faults_at_fetch home image sound went spots answer a b) (sym (spots_join s xs ys))
     (handles_wider (spots_of s xs ++ spots_of s ys) (contains_right (spots_of s xs) (spots_of s ys)) h)
 
-pub handles_left : {D A : Type 0} {bytes faults faults_at_fetch : D → ℕ} {home image : D → List ℕ → Type 0} {sound : D → Type 0} {answer : Result A Stop} {a b : List D} (s : Setting) (xs ys : List Place)
-    → Handles bytes faults faults_at_fetch home image sound (spots_of s xs) answer a b → Handles bytes faults faults_at_fetch home image sound (spots_of s (xs ++ ys)) answer a b
-handles_left {D} {A} {bytes} {faults} {faults_at_fetch} {home} {image} {sound} {answer} {a} {b} s xs ys h =
-    subst (λ (spots : List Spot). Handles bytes faults faults_at_fetch home image sound spots answer a b) (sym (spots_join s xs ys))
+pub handles_left : {D A : Type 0} {bytes faults faults_at_fetch : D → ℕ} {home image : D → List ℕ → Type 0} {sound : D → Type 0} {went : List Written → D → D → Type 0} {answer : Result A Stop} {a b : List D} (s : Setting) (xs ys : List Place)
+    → Handles bytes faults faults_at_fetch home image sound went (spots_of s xs) answer a b → Handles bytes faults faults_at_fetch home image sound went (spots_of s (xs ++ ys)) answer a b
+handles_left {D} {A} {bytes} {faults} {faults_at_fetch} {home} {image} {sound} {went} {answer} {a} {b} s xs ys h =
+    subst (λ (spots : List Spot). Handles bytes faults faults_at_fetch home image sound went spots answer a b) (sym (spots_join s xs ys))
     (handles_wider (spots_of s xs ++ spots_of s ys) (contains_left (spots_of s xs) (spots_of s ys)) h)
 
 -- a stop for want of memory before anything was done
-pub handles_stop : {D A : Type 0} (bytes faults faults_at_fetch : D → ℕ) (home image : D → List ℕ → Type 0) (sound : D → Type 0) (spots : List Spot) (answer : Result A Stop) (stop : Stop) (disks : List D)
-    → IsErrAnd answer (λ s. s ≡ stop) → stop ≡ Memory → Handles bytes faults faults_at_fetch home image sound spots answer disks disks
-handles_stop bytes faults faults_at_fetch home image sound spots answer stop disks err memory =
-    handles_none bytes faults faults_at_fetch home image sound spots answer disks (no_device answer err memory)
+pub handles_stop : {D A : Type 0} (bytes faults faults_at_fetch : D → ℕ) (home image : D → List ℕ → Type 0) (sound : D → Type 0) (went : List Written → D → D → Type 0) (spots : List Spot) (answer : Result A Stop) (stop : Stop) (disks : List D)
+    → IsErrAnd answer (λ s. s ≡ stop) → stop ≡ Memory → Handles bytes faults faults_at_fetch home image sound went spots answer disks disks
+handles_stop bytes faults faults_at_fetch home image sound went spots answer stop disks err memory =
+    handles_none bytes faults faults_at_fetch home image sound went spots answer disks (no_device answer err memory)
   where
     no_device : {A : Type 0} (answer : Result A Stop) {stop : Stop} → IsErrAnd answer (λ s. s ≡ stop) → stop ≡ Memory → answer ≢ Err Device
     no_device (Ok x) h m e = cc
@@ -233,7 +234,7 @@ pub taken_both : (all es fs : List Choice) → all ≡ es ++ fs → taken_by_all
 taken_both all es fs is = ap taken_by_all is ∙ flat_map-append taken_by es fs
 
 -- the same by what was found
-pub handles_found : {D A : Type 0} {bytes faults faults_at_fetch : D → ℕ} {home image : D → List ℕ → Type 0} {sound : D → Type 0} {answer : Result A Stop} {a b : List D} {xs ys : List Place} (s : Setting) → xs ≡ ys
-    → Handles bytes faults faults_at_fetch home image sound (spots_of s xs) answer a b → Handles bytes faults faults_at_fetch home image sound (spots_of s ys) answer a b
-handles_found {D} {A} {bytes} {faults} {faults_at_fetch} {home} {image} {sound} {answer} {a} {b} {xs} {ys} s is h =
-    subst (λ (ps : List Place). Handles bytes faults faults_at_fetch home image sound (spots_of s ps) answer a b) is h
+pub handles_found : {D A : Type 0} {bytes faults faults_at_fetch : D → ℕ} {home image : D → List ℕ → Type 0} {sound : D → Type 0} {went : List Written → D → D → Type 0} {answer : Result A Stop} {a b : List D} {xs ys : List Place} (s : Setting) → xs ≡ ys
+    → Handles bytes faults faults_at_fetch home image sound went (spots_of s xs) answer a b → Handles bytes faults faults_at_fetch home image sound went (spots_of s ys) answer a b
+handles_found {D} {A} {bytes} {faults} {faults_at_fetch} {home} {image} {sound} {went} {answer} {a} {b} {xs} {ys} s is h =
+    subst (λ (ps : List Place). Handles bytes faults faults_at_fetch home image sound went (spots_of s ps) answer a b) is h

@@ -45,7 +45,7 @@ pub fn claim_block<D: Disk, C: Chooser>(
     ensures whole { IfOk result (λ found. IfOk found IsWholeTree) }
     ensures fitting { IfOk result (λ found. IfOk found (IsFittingTree (sizes_of setting.now.tops))) }
     ensures placed { IfOk result (λ found. IfOk found (IsPlacedTree (sizes_of setting.now.tops))) }
-    ensures handled { Handles D.bytes D.faults D.faults_at_fetch D.home D.image D.sound [] result disks.old disks.new }
+    ensures handled { Handles D.bytes D.faults D.faults_at_fetch D.home D.image D.sound D.went [] result disks.old disks.new }
 {
     match claim_walk(alloc, setting, disks, pointer)? {
         Ok(tree) => take_places(alloc, chooser, tree),

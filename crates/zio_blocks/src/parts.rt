@@ -67,7 +67,7 @@ pub(crate) fn place_part<D: Disk, C: Chooser>(
     ensures told { IfOk result (λ part. (images : Images) → Tell D.image disks.old images →
         TellsPart D.image (λ journal. place_part levels journal (terms_of setting.now writing.now) path.now bytes.now images) [] part
         heads.old.items heads.new.items (given_since (C.given chooser.old) (C.given chooser.new)) disks.new) }
-    ensures handled { Handles D.bytes D.faults D.faults_at_fetch D.home D.image D.sound
+    ensures handled { Handles D.bytes D.faults D.faults_at_fetch D.home D.image D.sound D.went
         (spots_of setting.now (taken_by_all (given_since (C.given chooser.old) (C.given chooser.new)))) result disks.old disks.new }
 {
     let size = bytes.len() as u32;
@@ -125,7 +125,7 @@ fn place_gang<D: Disk, C: Chooser>(
         TellsPart D.image (λ journal. gang_with (chosen journal (head_ask w path.now)) w (place_part levels journal w) path.now bytes.now images)
         (body_ask w path.now bytes.now ∷ []) part
         heads.old.items heads.new.items (given_since (C.given chooser.old) (C.given chooser.new)) disks.new) }
-    ensures handled { Handles D.bytes D.faults D.faults_at_fetch D.home D.image D.sound
+    ensures handled { Handles D.bytes D.faults D.faults_at_fetch D.home D.image D.sound D.went
         (spots_of setting.now (taken_by_all (given_since (C.given chooser.old) (C.given chooser.new)))) result disks.old disks.new }
 {
     let copies = (writing.copies + 1).min(COPIES_MAX);
@@ -177,7 +177,7 @@ fn write_gang<D: Disk, C: Chooser>(
         (λ journal. with_members w path.now bytes.now entry.now.places (place_members (place_part levels journal w) path.now 0 (cut (split_sizes (length bytes.now)) bytes.now) images))
         (body_ask w path.now bytes.now ∷ head_ask w path.now ∷ []) part
         heads.old.items heads.new.items (given_since (C.given chooser.old) (C.given chooser.new)) disks.new) }
-    ensures handled { Handles D.bytes D.faults D.faults_at_fetch D.home D.image D.sound
+    ensures handled { Handles D.bytes D.faults D.faults_at_fetch D.home D.image D.sound D.went
         (spots_of setting.now (entry.now.places ++ taken_by_all (given_since (C.given chooser.old) (C.given chooser.new)))) result disks.old disks.new }
 {
     let before = heads.as_slice();
@@ -250,7 +250,7 @@ fn place_members<D: Disk, C: Chooser>(
         let w = terms_of setting.now writing.now in
         TellsMembers D.image (λ journal. place_members (place_part levels journal w) path.now n (cut sizes.now bytes.now) images) error n pointers.old pointers.new
         heads.old.items heads.new.items (given_since (C.given chooser.old) (C.given chooser.new)) disks.new) }
-    ensures handled { Handles D.bytes D.faults D.faults_at_fetch D.home D.image D.sound
+    ensures handled { Handles D.bytes D.faults D.faults_at_fetch D.home D.image D.sound D.went
         (spots_of setting.now (taken_by_all (given_since (C.given chooser.old) (C.given chooser.new)))) result disks.old disks.new }
 {
     let [size, rest @ ..] = sizes else {

@@ -130,7 +130,7 @@ pub(crate) fn write_body<D: Disk>(
     ensures told { IfOk result (λ part. (images : Images) → Tell D.image disks.old images →
         (part.error ≡ (write_piece setting.now bytes.now entry.now.places images).error)
         × Tell D.image disks.new (write_piece setting.now bytes.now entry.now.places images).images) }
-    ensures handled { Handles D.bytes D.faults D.faults_at_fetch D.home D.image D.sound (spots_of setting.now entry.now.places) result disks.old disks.new }
+    ensures handled { Handles D.bytes D.faults D.faults_at_fetch D.home D.image D.sound D.went (spots_of setting.now entry.now.places) result disks.old disks.new }
 {
     let pointer = pointer_to(writing, entry, false, bytes);
     let error = write_piece(alloc, setting, disks, bytes, places_found(entry))?;

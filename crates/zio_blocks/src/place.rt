@@ -86,7 +86,7 @@ pub fn place_block<D: Disk, C: Chooser>(
     ensures whole { IfOk result (λ placed. rank placed.error < rank (Some Errno.Nospc) → IfSome placed.tree IsWholeTree) }
     ensures sizes { C.sizes chooser.new ≡ C.sizes chooser.old }
     ensures held { AreHeld (C.sizes chooser.old) (C.used chooser.old) (C.live chooser.old) → AreHeld (C.sizes chooser.new) (C.used chooser.new) (C.live chooser.new) }
-    ensures handled { Handles D.bytes D.faults D.faults_at_fetch D.home D.image D.sound
+    ensures handled { Handles D.bytes D.faults D.faults_at_fetch D.home D.image D.sound D.went
         (spots_of setting.now (taken_by_all (given_since (C.given chooser.old) (C.given chooser.new)))) result disks.old disks.new }
 {
     let top = Path {

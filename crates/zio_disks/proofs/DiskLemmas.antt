@@ -1,5 +1,5 @@
 -- Several disks by their numbers, when one of them is another and when nothing changes.
-use Rattle.std.proofs.Common.{◌≡◌, ℕ, zero, suc, ◌+◌, ◌<◌, ◌≤◌, List, [], ◌∷◌, length, map, get_or, set, inl, inr, refl, sym, ap, subst, ◌∙◌, Result, Ok, Err, OnOk, OnErr, IsErrAnd, ◌≢◌, Bool, true, false, ◌&&◌, cond, Option, Some, IfSome, option_map, find, take, ◌++◌, ◌-◌, replicate, Contains, ⊎_elim, arith}
+use Rattle.std.proofs.Common.{◌≡◌, ℕ, zero, suc, ◌+◌, ◌<◌, ◌≤◌, List, [], ◌∷◌, length, map, get_or, set, inl, inr, refl, sym, ap, subst, ◌∙◌, Result, Ok, Err, OnOk, OnErr, IsErrAnd, ◌≢◌, Bool, true, false, ◌&&◌, cond, Option, Some, IfSome, option_map, find, take, ◌++◌, append_assoc, ◌-◌, replicate, Contains, ⊎_elim, arith}
 use Rattle.std.proofs.lemmas.List.{set_past}
 use Rattle.std.proofs.lemmas.Result.{err_from_is_err_and, on_ok_weaker}
 use Rattle.std.proofs.lemmas.Bool.{ltb-true, cases_lt}
@@ -7,14 +7,15 @@ use Rattle.zio_faults.specs.declared.table.Row.{Row}
 use Rattle.zio_faults.specs.declared.table.Hit.{Hit}
 use Rattle.zio_faults.specs.declared.table.Operation.{Operation}
 use Rattle.zio_faults.specs.Hits.{first_hit, hit_on, selects, common_start, common_end}
+use Rattle.zio_outside.specs.declared.written.Written.{Written}
 use Rattle.zio_outside.specs.Outside.{Keeps, Rose, WritesAt}
-use Rattle.zio_cksum.specs.Frames.{SameOutside}
+use Rattle.zio_cksum.specs.Frames.{IsCovered, SameOutside}
 use Rattle.zio_cksum.specs.Images.{Images, Setting, Spot, met, image_of, with_bytes, overwritten, padded_to}
-use Rattle.zio_cksum.proofs.AllLemmas.{all_contained, all_contains}
+use Rattle.zio_cksum.proofs.AllLemmas.{all_append, all_contained, all_contains, all_weaker}
 use Rattle.zio_cksum.proofs.FrameLemmas.{write_same, same_itself as same_images, same_then as same_images_then}
 use Rattle.std.specs.List.{AllByRecursion}
 use Rattle.std.proofs.lemmas.List.{append-nil}
-use Rattle.zio_disks.specs.Disks.{Tell, KeepHomes, AnyRose, AreSameDisks, Handles, StaySound, StillTell, TellOutside}
+use Rattle.zio_disks.specs.Disks.{Tell, KeepHomes, AnyRose, AreSameDisks, Handles, LiesWithin, StaySound, StillTell, TellOutside, WritesOn, WritesWithin}
 use Rattle.zio_disks.specs.declared.setting.Stop.{Stop}
 use Rattle.zio_disks.specs.declared.setting.Stop.TheVariants.{Device, Memory}
 
@@ -197,26 +198,81 @@ wider_images xs ys old new sub h = record {
       (λ c. out (record { spot = c.spot; listed = sub c.spot c.listed; same_leaf = c.same_leaf; from = c.from; below = c.below }));
 }
 
+-- one of them is replaced, in a relation that each has to itself
+at_set : {D : Type 0} (R : ℕ → D → D → Type 0) (disks : List D) (i : ℕ) (any d : D) → ((leaf : ℕ) (x : D) → R leaf x x) → R i (get_or disks i any) d → (leaf : ℕ) (other : D) → R leaf (get_or disks leaf other) (get_or (set disks i d) leaf other)
+at_set R [] i any d same h leaf other = same leaf other
+at_set R (x ∷ xs) zero any d same h zero other = h
+at_set R (x ∷ xs) zero any d same h (suc leaf) other = same (suc leaf) (get_or xs leaf other)
+at_set R (x ∷ xs) (suc i) any d same h zero other = same zero x
+at_set R (x ∷ xs) (suc i) any d same h (suc leaf) other = at_set (λ (n : ℕ). R (suc n)) xs i any d (λ n. same (suc n)) h leaf other
+
+-- ---- what is written
+
+writes_nothing : {D : Type 0} (went : List Written → D → D → Type 0) (spots : List Spot) (leaf : ℕ) (disk : D) → WritesOn went spots leaf disk disk
+writes_nothing went spots leaf disk = λ start ranges w. ([], subst (λ (rs : List Written). went rs start disk) (sym (append-nil ranges)) w, tt)
+
+writes_then : {D : Type 0} (went : List Written → D → D → Type 0) (spots : List Spot) (leaf : ℕ) (a b c : D) → WritesOn went spots leaf a b → WritesOn went spots leaf b c → WritesOn went spots leaf a c
+writes_then went spots leaf a b c h k = λ start ranges w.
+    let one = h start ranges w in
+    let two = k start (ranges ++ one.0) one.1 in
+    (
+      one.0 ++ two.0,
+      subst (λ (rs : List Written). went rs start c) (append_assoc ranges one.0 two.0) two.1,
+      all_append (LiesWithin spots leaf) one.0 two.0 one.2 two.2,
+    )
+
+-- what lies within some spots lies within more of them
+lies_wider : (spots more : List Spot) (leaf : ℕ) (range : Written) → ((spot : Spot) → Contains spots spot → Contains more spot) → LiesWithin spots leaf range → LiesWithin more leaf range
+lies_wider spots more leaf range sub h = λ at from below.
+    let c : IsCovered spots leaf at = h at from below in
+    record { spot = c.spot; listed = sub c.spot c.listed; same_leaf = c.same_leaf; from = c.from; below = c.below }
+
+-- where the ranges within some spots are within others
+pub writes_among : {D : Type 0} (went : List Written → D → D → Type 0) (spots others : List Spot) (old new : List D)
+    → ((leaf : ℕ) (range : Written) → LiesWithin spots leaf range → LiesWithin others leaf range) → WritesWithin went spots old new → WritesWithin went others old new
+writes_among went spots others old new sub h = λ leaf other start ranges w.
+    let one = h leaf other start ranges w in
+    (one.0, one.1, all_weaker (LiesWithin spots leaf) (LiesWithin others leaf) one.0 (sub leaf) one.2)
+
+-- a disk that was written in these ranges
+pub writes_ranges : {D : Type 0} (went : List Written → D → D → Type 0) (spots : List Spot) (leaf : ℕ) (ranges : List Written) (old new : D)
+    → ((first second : List Written) (a b c : D) → went first a b → went second b c → went (first ++ second) a c)
+    → went ranges old new → AllByRecursion (LiesWithin spots leaf) ranges → WritesOn went spots leaf old new
+writes_ranges went spots leaf ranges old new joins writes within = λ start before w. (ranges, joins before ranges start old new w writes, within)
+
+-- the bytes that fill a spot lie within it
+pub lies_in : (spot seen : Spot) (len : ℕ) → spot ≡ seen → len ≡ seen.span → LiesWithin (seen ∷ []) spot.leaf (record { at = spot.at; len = len })
+lies_in spot seen len view whole = λ at from below. record {
+  spot = seen;
+  listed = (all_contained (seen ∷ [])).0;
+  same_leaf = sym (ap (λ (s : Spot). s.leaf) view);
+  from = subst (λ (s : Spot). s.at ≤ at) view from;
+  below = subst (λ (n : ℕ). at < seen.at + n) whole (subst (λ (s : Spot). at < s.at + len) view below);
+}
+
 -- ---- what an operation leaves
 
 -- an operation that changes no disk
-pub handles_none : {D A : Type 0} (bytes faults faults_at_fetch : D → ℕ) (home image : D → List ℕ → Type 0) (sound : D → Type 0) (spots : List Spot) (answer : Result A Stop) (disks : List D) → answer ≢ Err Device → Handles bytes faults faults_at_fetch home image sound spots answer disks disks
-handles_none bytes faults faults_at_fetch home image sound spots answer disks ne = record {
+pub handles_none : {D A : Type 0} (bytes faults faults_at_fetch : D → ℕ) (home image : D → List ℕ → Type 0) (sound : D → Type 0) (went : List Written → D → D → Type 0) (spots : List Spot) (answer : Result A Stop) (disks : List D) → answer ≢ Err Device → Handles bytes faults faults_at_fetch home image sound went spots answer disks disks
+handles_none bytes faults faults_at_fetch home image sound went spots answer disks ne = record {
   same = same_itself bytes faults faults_at_fetch home image sound disks;
   steady = on_ok answer refl;
   device = λ e. absurd (ne e);
+  calm = λ other. refl;
   outside = outside_itself image spots disks;
+  wrote = λ leaf other. writes_nothing went spots leaf (get_or disks leaf other);
 }
 
 -- an operation on one of the disks
-pub handles_one : {D A : Type 0} (bytes faults faults_at_fetch : D → ℕ) (home image : D → List ℕ → Type 0) (sound : D → Type 0) (spots : List Spot) (answer : Result A Stop) (disks : List D) (i : ℕ) (any new : D) → i < length disks
+pub handles_one : {D A : Type 0} (bytes faults faults_at_fetch : D → ℕ) (home image : D → List ℕ → Type 0) (sound : D → Type 0) (went : List Written → D → D → Type 0) (spots : List Spot) (answer : Result A Stop) (disks : List D) (i : ℕ) (any new : D) → i < length disks
     → bytes new ≡ bytes (get_or disks i any) → faults_at_fetch new ≡ faults_at_fetch (get_or disks i any) → Keeps (home (get_or disks i any)) (home new)
     → ((content : List ℕ) → image (get_or disks i any) content → (after : List ℕ) × image new after)
     → (sound (get_or disks i any) → sound new × (faults new ≡ faults (get_or disks i any)))
     → OnOk answer (faults new ≡ faults (get_or disks i any)) → (answer ≡ Err Device → Rose (faults (get_or disks i any)) (faults new))
-    → TellOutside image spots disks (set disks i new)
-    → Handles bytes faults faults_at_fetch home image sound spots answer disks (set disks i new)
-handles_one bytes faults faults_at_fetch home image sound spots answer disks i any new within size fetch kept still stays ok err outside = record {
+    → (answer ≢ Err Device → faults new ≡ faults (get_or disks i any))
+    → TellOutside image spots disks (set disks i new) → WritesOn went spots i (get_or disks i any) new
+    → Handles bytes faults faults_at_fetch home image sound went spots answer disks (set disks i new)
+handles_one bytes faults faults_at_fetch home image sound went spots answer disks i any new within size fetch kept still stays ok err calm outside wrote = record {
   same = record {
     sizes = map_set bytes disks i any new within size;
     at_fetch = map_set faults_at_fetch disks i any new within fetch;
@@ -226,47 +282,55 @@ handles_one bytes faults faults_at_fetch home image sound spots answer disks i a
   };
   steady = on_ok_weaker answer (λ e. map_set faults disks i any new within e) ok;
   device = λ e. rose_at faults disks i any new within (err e);
+  calm = λ other. map_set faults disks i any new within (calm other);
   outside = outside;
+  wrote = at_set (WritesOn went spots) disks i any new (writes_nothing went spots) wrote;
 }
 
 -- one operation after another, whose answer counts
-pub handles_then : {D A B : Type 0} {bytes faults faults_at_fetch : D → ℕ} {home image : D → List ℕ → Type 0} {sound : D → Type 0} {spots : List Spot} {x : A} {answer : Result B Stop} {a b c : List D}
-    → Handles {A = A} bytes faults faults_at_fetch home image sound spots (Ok x) a b → Handles bytes faults faults_at_fetch home image sound spots answer b c → Handles bytes faults faults_at_fetch home image sound spots answer a c
-handles_then {D} {A} {B} {bytes} {faults} {faults_at_fetch} {home} {image} {sound} {spots} {x} {answer} {a} {b} {c} h k = record {
+pub handles_then : {D A B : Type 0} {bytes faults faults_at_fetch : D → ℕ} {home image : D → List ℕ → Type 0} {sound : D → Type 0} {went : List Written → D → D → Type 0} {spots : List Spot} {x : A} {answer : Result B Stop} {a b c : List D}
+    → Handles {A = A} bytes faults faults_at_fetch home image sound went spots (Ok x) a b → Handles bytes faults faults_at_fetch home image sound went spots answer b c → Handles bytes faults faults_at_fetch home image sound went spots answer a c
+handles_then {D} {A} {B} {bytes} {faults} {faults_at_fetch} {home} {image} {sound} {went} {spots} {x} {answer} {a} {b} {c} h k = record {
   same = same_then bytes faults faults_at_fetch home image sound a b c h.same k.same;
   steady = on_ok_weaker answer (λ s. s ∙ h.steady) k.steady;
   device = λ d. subst (λ counts. AnyRose counts (map faults c)) h.steady (k.device d);
+  calm = λ other. k.calm other ∙ h.steady;
   outside = outside_then image spots a b c h.outside k.outside;
+  wrote = λ leaf other. writes_then went spots leaf (get_or a leaf other) (get_or b leaf other) (get_or c leaf other) (h.wrote leaf other) (k.wrote leaf other);
 }
 
 -- among more spots
-pub handles_wider : {D A : Type 0} {bytes faults faults_at_fetch : D → ℕ} {home image : D → List ℕ → Type 0} {sound : D → Type 0} {spots : List Spot} {answer : Result A Stop} {a b : List D} (more : List Spot)
+pub handles_wider : {D A : Type 0} {bytes faults faults_at_fetch : D → ℕ} {home image : D → List ℕ → Type 0} {sound : D → Type 0} {went : List Written → D → D → Type 0} {spots : List Spot} {answer : Result A Stop} {a b : List D} (more : List Spot)
     → AllByRecursion (Contains more) spots
-    → Handles bytes faults faults_at_fetch home image sound spots answer a b → Handles bytes faults faults_at_fetch home image sound more answer a b
-handles_wider {D} {A} {bytes} {faults} {faults_at_fetch} {home} {image} {sound} {spots} {answer} {a} {b} more among h = record {
+    → Handles bytes faults faults_at_fetch home image sound went spots answer a b → Handles bytes faults faults_at_fetch home image sound went more answer a b
+handles_wider {D} {A} {bytes} {faults} {faults_at_fetch} {home} {image} {sound} {went} {spots} {answer} {a} {b} more among h = record {
   same = h.same;
   steady = h.steady;
   device = h.device;
+  calm = h.calm;
   outside = λ before told.
       let o = h.outside before told in
       (o.0, o.1, wider_images spots more before o.0 (λ spot c. all_contains (Contains more) spots spot among c) o.2);
+  wrote = writes_among went spots more a b (λ leaf range. lies_wider spots more leaf range (λ spot c. all_contains (Contains more) spots spot among c)) h.wrote;
 }
 
 -- another answer where no disk failed
-pub handles_ok : {D A B : Type 0} {bytes faults faults_at_fetch : D → ℕ} {home image : D → List ℕ → Type 0} {sound : D → Type 0} {spots : List Spot} {x : A} {a b : List D} (y : B)
-    → Handles {A = A} bytes faults faults_at_fetch home image sound spots (Ok x) a b → Handles {A = B} bytes faults faults_at_fetch home image sound spots (Ok y) a b
-handles_ok y h = record { same = h.same; steady = h.steady; device = λ e. cc; outside = h.outside }
+pub handles_ok : {D A B : Type 0} {bytes faults faults_at_fetch : D → ℕ} {home image : D → List ℕ → Type 0} {sound : D → Type 0} {went : List Written → D → D → Type 0} {spots : List Spot} {x : A} {a b : List D} (y : B)
+    → Handles {A = A} bytes faults faults_at_fetch home image sound went spots (Ok x) a b → Handles {A = B} bytes faults faults_at_fetch home image sound went spots (Ok y) a b
+handles_ok y h = record { same = h.same; steady = h.steady; device = λ e. cc; calm = λ other. h.steady; outside = h.outside; wrote = h.wrote }
 
 -- an error that is passed on
-pub handles_err : {D A B : Type 0} {bytes faults faults_at_fetch : D → ℕ} {home image : D → List ℕ → Type 0} {sound : D → Type 0} {spots : List Spot} {stop : Stop} {a b : List D} (answer : Result B Stop)
-    → IsErrAnd answer (λ s. s ≡ stop) → Handles {A = A} bytes faults faults_at_fetch home image sound spots (Err stop) a b → Handles bytes faults faults_at_fetch home image sound spots answer a b
-handles_err {D} {A} {B} {bytes} {faults} {faults_at_fetch} {home} {image} {sound} {spots} {stop} {a} {b} answer is h =
+pub handles_err : {D A B : Type 0} {bytes faults faults_at_fetch : D → ℕ} {home image : D → List ℕ → Type 0} {sound : D → Type 0} {went : List Written → D → D → Type 0} {spots : List Spot} {stop : Stop} {a b : List D} (answer : Result B Stop)
+    → IsErrAnd answer (λ s. s ≡ stop) → Handles {A = A} bytes faults faults_at_fetch home image sound went spots (Err stop) a b → Handles bytes faults faults_at_fetch home image sound went spots answer a b
+handles_err {D} {A} {B} {bytes} {faults} {faults_at_fetch} {home} {image} {sound} {went} {spots} {stop} {a} {b} answer is h =
     let p = err_from_is_err_and answer is in
     record {
       same = h.same;
       steady = subst (λ r. OnOk r (map faults b ≡ map faults a)) (sym p.1) tt;
       device = λ e. h.device (let f = p.1 in let q = p.2 in cc);
+      calm = λ other. h.calm (λ e. other (let f = p.1 in let q = p.2 in cc));
       outside = h.outside;
+      wrote = h.wrote;
     }
 
 -- what follows without a disk, and fails for memory alone
@@ -274,9 +338,16 @@ pub not_device : {A : Type 0} (answer : Result A Stop) → OnErr answer (answer 
 not_device (Ok x) h = λ e. cc
 not_device (Err stop) h = λ e. let f : Err stop ≡ Err Memory = h in cc
 
-pub handles_after : {D A B : Type 0} {bytes faults faults_at_fetch : D → ℕ} {home image : D → List ℕ → Type 0} {sound : D → Type 0} {spots : List Spot} {x : A} {a b : List D} (answer : Result B Stop)
-    → OnErr answer (answer ≡ Err Memory) → Handles {A = A} bytes faults faults_at_fetch home image sound spots (Ok x) a b → Handles {A = B} bytes faults faults_at_fetch home image sound spots answer a b
-handles_after answer memory h = record { same = h.same; steady = on_ok answer h.steady; device = λ e. absurd (not_device answer memory e); outside = h.outside }
+pub handles_after : {D A B : Type 0} {bytes faults faults_at_fetch : D → ℕ} {home image : D → List ℕ → Type 0} {sound : D → Type 0} {went : List Written → D → D → Type 0} {spots : List Spot} {x : A} {a b : List D} (answer : Result B Stop)
+    → OnErr answer (answer ≡ Err Memory) → Handles {A = A} bytes faults faults_at_fetch home image sound went spots (Ok x) a b → Handles {A = B} bytes faults faults_at_fetch home image sound went spots answer a b
+handles_after answer memory h = record {
+  same = h.same;
+  steady = on_ok answer h.steady;
+  device = λ e. absurd (not_device answer memory e);
+  calm = λ other. h.steady;
+  outside = h.outside;
+  wrote = h.wrote;
+}
 
 -- ---- one operation
 

@@ -1,13 +1,14 @@
 -- Several disks by their numbers: what they tell, and what operations on them keep.
-use Rattle.std.specs.Prelude.{◌≡◌, ℕ, zero, suc, ◌+◌, ◌≤◌, List, [], ◌∷◌, ◌++◌, map, slice_index_or, Bool, true, false, Option, Some, None, Result, Ok, Err, OnOk}
+use Rattle.std.specs.Prelude.{◌≡◌, ◌≢◌, ℕ, zero, suc, ◌+◌, ◌<◌, ◌≤◌, List, [], ◌∷◌, ◌++◌, map, slice_index_or, Bool, true, false, Option, Some, None, Result, Ok, Err, OnOk}
 use Rattle.std.specs.List.{AllByRecursion}
 use Rattle.zio_types.specs.declared.error.Errno.{Errno}
 use Rattle.zio_types.specs.declared.place.Place.{Place}
 use Rattle.zio_types.specs.Errors.{worst_error}
+use Rattle.zio_outside.specs.declared.written.Written.{Written}
 use Rattle.zio_outside.specs.Outside.{Keeps}
 pub use Rattle.zio_outside.specs.Outside.{AnyRose}
 use Rattle.zio_cksum.specs.Blocks.{leaves_of, spot_in}
-use Rattle.zio_cksum.specs.Frames.{SameOutside, spots_of}
+use Rattle.zio_cksum.specs.Frames.{IsCovered, SameOutside, spots_of}
 use Rattle.zio_cksum.specs.Images.{Images, Setting, Spot}
 use Rattle.zio_disks.specs.declared.read.Good.{Good}
 use Rattle.zio_disks.specs.declared.setting.Stop.{Stop}
@@ -68,13 +69,29 @@ abbrev pub TellOutside : {D : Type 0} → (D → List ℕ → Type 0) → List S
 TellOutside image spots old new =
     (before : Images) → Tell image old before → (after : Images) × Tell image new after × SameOutside spots before after
 
--- What an operation on the disks leaves, whatever they tell and however it ends: without an error the counts of their
--- faults stay, it is stopped by a device only where one of them rose, and nothing changes outside its spots.
-pub record Handles {D A : Type 0} (bytes faults faults_at_fetch : D → ℕ) (home image : D → List ℕ → Type 0) (sound : D → Type 0) (spots : List Spot) (answer : Result A Stop) (old new : List D) : Type 0 where
+-- each byte of the range is one of a spot on this leaf
+abbrev pub LiesWithin : List Spot → ℕ → Written → Type 0
+LiesWithin spots leaf range = (at : ℕ) → range.at ≤ at → at < range.at + range.len → IsCovered spots leaf at
+
+-- what was written of this leaf's disk since any state before, and then more, which lies within the spots
+abbrev pub WritesOn : {D : Type 0} → (List Written → D → D → Type 0) → List Spot → ℕ → D → D → Type 0
+WritesOn {D} went spots leaf old new = (start : D) (ranges : List Written) → went ranges start old →
+    (more : List Written) × went (ranges ++ more) start new × AllByRecursion (LiesWithin spots leaf) more
+
+-- so it is with each disk
+abbrev pub WritesWithin : {D : Type 0} → (List Written → D → D → Type 0) → List Spot → List D → List D → Type 0
+WritesWithin {D} went spots old new =
+    (leaf : ℕ) (other : D) → WritesOn went spots leaf (slice_index_or old leaf other) (slice_index_or new leaf other)
+
+-- What an operation on the disks leaves, whatever they tell and however it ends: it is stopped by a device exactly where a
+-- count of their faults rose, nothing changes outside its spots, and it writes nowhere else.
+pub record Handles {D A : Type 0} (bytes faults faults_at_fetch : D → ℕ) (home image : D → List ℕ → Type 0) (sound : D → Type 0) (went : List Written → D → D → Type 0) (spots : List Spot) (answer : Result A Stop) (old new : List D) : Type 0 where
   pub same : AreSameDisks bytes faults faults_at_fetch home image sound old new
   pub steady : OnOk answer (map faults new ≡ map faults old)
   pub device : answer ≡ Err Device → AnyRose (map faults old) (map faults new)
+  pub calm : answer ≢ Err Device → map faults new ≡ map faults old
   pub outside : TellOutside image spots old new
+  pub wrote : WritesWithin went spots old new
 
 -- what a read of a block may rewrite: its copies, and nothing without repairs
 abbrev pub touched : Bool → Setting → List Place → List Spot

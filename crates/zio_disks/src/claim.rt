@@ -45,7 +45,7 @@ pub fn claim_walk<D: Disk>(
     ensures whole { IfOk result (λ found. IfOk found IsWholeTree) }
     ensures fitting { IfOk result (λ found. IfOk found (IsFittingTree (sizes_of setting.now.tops))) }
     ensures placed { IfOk result (λ found. IfOk found (IsPlacedTree (sizes_of setting.now.tops))) }
-    ensures handled { Handles D.bytes D.faults D.faults_at_fetch D.home D.image D.sound [] result disks.old disks.new }
+    ensures handled { Handles D.bytes D.faults D.faults_at_fetch D.home D.image D.sound D.went [] result disks.old disks.new }
 {
     match decode(pointer) {
         Ok(bp) => claim_pointer(alloc, setting, disks, bp),
@@ -69,7 +69,7 @@ fn claim_pointer<D: Disk>(
     ensures whole { IfOk result (λ found. IfOk found IsWholeTree) }
     ensures fitting { IfOk result (λ found. IfOk found (IsFittingTree (sizes_of setting.now.tops))) }
     ensures placed { IfOk result (λ found. IfOk found (IsPlacedTree (sizes_of setting.now.tops))) }
-    ensures handled { Handles D.bytes D.faults D.faults_at_fetch D.home D.image D.sound [] result disks.old disks.new }
+    ensures handled { Handles D.bytes D.faults D.faults_at_fetch D.home D.image D.sound D.went [] result disks.old disks.new }
 {
     let top = Path {
         len: 0,
@@ -113,7 +113,7 @@ fn visit_pointer<D: Disk>(
         let w = walk levels (claim_visit setting.now) path.now bp.now images in
         (errors.new ≡ errors.old ++ w.errors) × (heads.new ≡ heads.old ++ w.heads) × Tell D.image disks.new w.images) }
     ensures added { OnOk result (AddsTo (AreRead (sizes_of setting.now.tops) (bp.now ∷ []) (AreUnder levels path.now bp.now)) errors.old errors.new heads.old heads.new) }
-    ensures handled { Handles D.bytes D.faults D.faults_at_fetch D.home D.image D.sound [] result disks.old disks.new }
+    ensures handled { Handles D.bytes D.faults D.faults_at_fetch D.home D.image D.sound D.went [] result disks.old disks.new }
 {
     if !is_fitting(setting, bp) {
         return note_error(errors, Errno::Inval);
@@ -148,7 +148,7 @@ fn visit_gang<D: Disk>(
         let w = walk_read (walk levels (claim_visit setting.now)) path.now (read_block setting.now false (good_claimed bp.now) images sector_size (places_of bp.now)) in
         (errors.new ≡ errors.old ++ w.errors) × (heads.new ≡ heads.old ++ w.heads) × Tell D.image disks.new w.images) }
     ensures added { OnOk result (AddsTo (AreRead (sizes_of setting.now.tops) [] (AreUnderGang (AreUnder levels) path.now bp.now)) errors.old errors.new heads.old heads.new) }
-    ensures handled { Handles D.bytes D.faults D.faults_at_fetch D.home D.image D.sound [] result disks.old disks.new }
+    ensures handled { Handles D.bytes D.faults D.faults_at_fetch D.home D.image D.sound D.went [] result disks.old disks.new }
 {
     match read_header(alloc, setting, disks, bp)? {
         Ok(header) => {
@@ -191,7 +191,7 @@ fn visit_members<D: Disk>(
         let w = walk_members (walk levels (claim_visit setting.now)) path.now n members.now images in
         (errors.new ≡ errors.old ++ w.errors) × (heads.new ≡ heads.old ++ w.heads) × Tell D.image disks.new w.images) }
     ensures added { OnOk result (AddsTo (AreRead (sizes_of setting.now.tops) members.now (AreUnderMembers (AreUnder levels) path.now n members.now)) errors.old errors.new heads.old heads.new) }
-    ensures handled { Handles D.bytes D.faults D.faults_at_fetch D.home D.image D.sound [] result disks.old disks.new }
+    ensures handled { Handles D.bytes D.faults D.faults_at_fetch D.home D.image D.sound D.went [] result disks.old disks.new }
 {
     let [member, rest @ ..] = members else {
         return Ok(());
@@ -226,7 +226,7 @@ fn read_header<D: Disk>(
         let read = read_block setting.now false (good_claimed bp.now) images sector_size (places_of bp.now) in
         (found ≡ read.found) × Tell D.image disks.new read.images) }
     ensures good { IfOk result (λ found. IfOk found (λ header. IsTrue (good_claimed bp.now header))) }
-    ensures handled { Handles D.bytes D.faults D.faults_at_fetch D.home D.image D.sound [] result disks.old disks.new }
+    ensures handled { Handles D.bytes D.faults D.faults_at_fetch D.home D.image D.sound D.went [] result disks.old disks.new }
 {
     let mut header = [0; 512];
     let good = GoodCopy::Claimed(bp);

@@ -64,7 +64,7 @@ pub fn read_block<D: Disk>(
     ensures told { IfOk result (λ error. (images : Images) → Tell D.image disks.old images →
         let read = read_block setting.now repair (good_by good.now) images (length buffer.old) places.now in
         (found_with error buffer.new ≡ read.found) × Tell D.image disks.new read.images) }
-    ensures handled { Handles D.bytes D.faults D.faults_at_fetch D.home D.image D.sound (touched repair setting.now places.now) result disks.old disks.new }
+    ensures handled { Handles D.bytes D.faults D.faults_at_fetch D.home D.image D.sound D.went (touched repair setting.now places.now) result disks.old disks.new }
 {
     let first = read_pass(alloc, setting, disks, false, good, places, buffer)?;
     match first {
@@ -94,7 +94,7 @@ fn last_pass<D: Disk>(
     ensures told { IfOk result (λ error. (images : Images) → Tell D.image disks.old images →
         let read = last_pass setting.now repair images (read_pass setting.now true (good_by good.now) images (length buffer.old) places.now) in
         (found_with error buffer.new ≡ read.found) × Tell D.image disks.new read.images) }
-    ensures handled { Handles D.bytes D.faults D.faults_at_fetch D.home D.image D.sound (touched repair setting.now places.now) result disks.old disks.new }
+    ensures handled { Handles D.bytes D.faults D.faults_at_fetch D.home D.image D.sound D.went (touched repair setting.now places.now) result disks.old disks.new }
 {
     let pass = read_pass(alloc, setting, disks, true, good, places, buffer)?;
     match pass {
@@ -122,7 +122,7 @@ fn repair_if<D: Disk>(
     requires lies { AreOnDisks setting.now (map D.bytes disks.old) (length bytes.now) places.now }
     ensures told { IfOk result (λ _. (images : Images) → Tell D.image disks.old images →
         Tell D.image disks.new (repaired_if wanted setting.now retry bytes.now (repairs_in setting.now places.now good.before good.failed) images)) }
-    ensures handled { Handles D.bytes D.faults D.faults_at_fetch D.home D.image D.sound (touched wanted setting.now places.now) result disks.old disks.new }
+    ensures handled { Handles D.bytes D.faults D.faults_at_fetch D.home D.image D.sound D.went (touched wanted setting.now places.now) result disks.old disks.new }
 {
     let Good { before, failed } = good;
     if !wanted {
@@ -155,7 +155,7 @@ fn repair<D: Disk>(
     requires lies { LieOn (map D.bytes disks.old) (length bytes.now) (repairs_in setting.now places.now before failed.now) }
     ensures told { IfOk result (λ _. (images : Images) → Tell D.image disks.old images →
         Tell D.image disks.new (repaired setting.now retry bytes.now (repairs_in setting.now places.now before failed.now) images)) }
-    ensures handled { Handles D.bytes D.faults D.faults_at_fetch D.home D.image D.sound (repairs_in setting.now places.now before failed.now) result disks.old disks.new }
+    ensures handled { Handles D.bytes D.faults D.faults_at_fetch D.home D.image D.sound D.went (repairs_in setting.now places.now before failed.now) result disks.old disks.new }
 {
     let [place, rest @ ..] = places else {
         return Ok(());
@@ -202,7 +202,7 @@ fn read_pass<D: Disk>(
         (λ found. (Some buffer.new ≡ seen.found) × (repairs_in setting.now places.now found.before found.failed ≡ seen.repairs))
         (λ error. (None ≡ seen.found) × (error ≡ worst_of seen.errors))
         × Tell D.image disks.new images) }
-    ensures handled { Handles D.bytes D.faults D.faults_at_fetch D.home D.image D.sound [] result disks.old disks.new }
+    ensures handled { Handles D.bytes D.faults D.faults_at_fetch D.home D.image D.sound D.went [] result disks.old disks.new }
 {
     match places {
         [] => Ok(Err(None)),
@@ -258,7 +258,7 @@ fn read_place<D: Disk>(
         (λ found. (Some buffer.new ≡ tried.found) × (found.failed ≡ tried.failed))
         (λ error. (None ≡ tried.found) × (error ≡ blame tried.errors))
         × Tell D.image disks.new images) }
-    ensures handled { Handles D.bytes D.faults D.faults_at_fetch D.home D.image D.sound [] result disks.old disks.new }
+    ensures handled { Handles D.bytes D.faults D.faults_at_fetch D.home D.image D.sound D.went [] result disks.old disks.new }
 {
     let order = read_order(alloc, place, setting.leaves(place))?;
     let tried = first_good(setting, disks, retry, good, place, order.as_slice(), buffer)?;
@@ -319,7 +319,7 @@ fn first_good<D: Disk>(
         (read_leaf setting.now retry images (length buffer.old) (spot_in place.now leaf))) leaves.now in
         (found_if tried.found buffer.new ≡ seen.found) × (take tried.failed leaves.now ≡ seen.failed) × (tried.worst ≡ worst_of seen.errors)
         × Tell D.image disks.new images) }
-    ensures handled { Handles D.bytes D.faults D.faults_at_fetch D.home D.image D.sound [] result disks.old disks.new }
+    ensures handled { Handles D.bytes D.faults D.faults_at_fetch D.home D.image D.sound D.went [] result disks.old disks.new }
 {
     let [leaf, rest @ ..] = leaves else {
         return Ok(Tried {

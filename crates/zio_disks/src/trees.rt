@@ -40,7 +40,7 @@ pub fn free_tree<D: Disk>(
     ensures told { IfOk result (λ error. (images : Images) → Tell D.image disks.old images →
         let freed = free_tree setting.now tree.now images in
         (error ≡ freed.error) × Tell D.image disks.new freed.images) }
-    ensures handled { Handles D.bytes D.faults D.faults_at_fetch D.home D.image D.sound (spots_of setting.now (tree_places tree.now)) result disks.old disks.new }
+    ensures handled { Handles D.bytes D.faults D.faults_at_fetch D.home D.image D.sound D.went (spots_of setting.now (tree_places tree.now)) result disks.old disks.new }
 {
     let mut errors = List::new(alloc);
     let mut bodies = List::new(alloc);
@@ -77,7 +77,7 @@ pub(crate) fn walk_tree<D: Disk>(
     ensures grows { OnOk result (length errors.old ≤ length errors.new) }
     ensures sized { OnOk result (IsWholeTree tree.now → length errors.new ≡ length errors.old →
         bytes_of_all bodies.new ≡ bytes_of_all bodies.old + tree.now.bp.size) }
-    ensures handled { Handles D.bytes D.faults D.faults_at_fetch D.home D.image D.sound (spots_of setting.now (tree_places tree.now)) result disks.old disks.new }
+    ensures handled { Handles D.bytes D.faults D.faults_at_fetch D.home D.image D.sound D.went (spots_of setting.now (tree_places tree.now)) result disks.old disks.new }
 {
     let top = Path {
         len: 0,
@@ -113,7 +113,7 @@ fn walk_pointer<D: Disk>(
     ensures grows { OnOk result (length errors.old ≤ length errors.new) }
     ensures sized { OnOk result (IsKept levels tree.now.heads path.now bp.now → length errors.new ≡ length errors.old →
         bytes_of_all bodies.new ≡ bytes_of_all bodies.old + bp.now.size) }
-    ensures handled { Handles D.bytes D.faults D.faults_at_fetch D.home D.image D.sound (spots_of setting.now (tree_places tree.now)) result disks.old disks.new }
+    ensures handled { Handles D.bytes D.faults D.faults_at_fetch D.home D.image D.sound D.went (spots_of setting.now (tree_places tree.now)) result disks.old disks.new }
 {
     if !bp.gang {
         return note_body(bodies, bp);
@@ -165,7 +165,7 @@ fn walk_members<D: Disk>(
     ensures grows { OnOk result (length errors.old ≤ length errors.new) }
     ensures sized { OnOk result (AreKept (IsKept levels tree.now.heads) path.now n members.now → length errors.new ≡ length errors.old →
         bytes_of_all bodies.new ≡ bytes_of_all bodies.old + bytes_of_all members.now) }
-    ensures handled { Handles D.bytes D.faults D.faults_at_fetch D.home D.image D.sound (spots_of setting.now (tree_places tree.now)) result disks.old disks.new }
+    ensures handled { Handles D.bytes D.faults D.faults_at_fetch D.home D.image D.sound D.went (spots_of setting.now (tree_places tree.now)) result disks.old disks.new }
 {
     let [member, rest @ ..] = members else {
         return Ok(());
@@ -219,7 +219,7 @@ fn read_members<D: Disk>(
     ensures listed { IfOk result (λ found. IfOk found (λ members. AllByRecursion (Contains (tree_pointers tree.now)) members)) }
     ensures few { IfOk result (λ found. IfOk found (λ members. length members ≤ 3)) }
     ensures kept { IfOk result (λ found. IfOk found (AreNamedAt tree.now.heads path.now)) }
-    ensures handled { Handles D.bytes D.faults D.faults_at_fetch D.home D.image D.sound (spots_of setting.now (tree_places tree.now)) result disks.old disks.new }
+    ensures handled { Handles D.bytes D.faults D.faults_at_fetch D.home D.image D.sound D.went (spots_of setting.now (tree_places tree.now)) result disks.old disks.new }
 {
     let mut header = [0; 512];
     let good = GoodCopy::Kept(tree.head(path));

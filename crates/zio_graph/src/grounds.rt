@@ -121,7 +121,7 @@ impl<D: Disk + Drop> Grounds<D> {
         ensures issued { IfOk result (AreIssued D.image self.old.setting
             (eligible_at self.old.queues.leaves.items k) self.old.queues.leaves.items self.new.queues.leaves.items
             self.old.disks.items self.new.disks.items) }
-        ensures handled { Handles D.bytes D.faults D.faults_at_fetch D.home D.image D.sound
+        ensures handled { Handles D.bytes D.faults D.faults_at_fetch D.home D.image D.sound D.went
             (written_spots (eligible_at self.old.queues.leaves.items k)
             (waiting_at self.old.queues.leaves.items (eligible_at self.old.queues.leaves.items k)))
             result self.old.disks.items self.new.disks.items }

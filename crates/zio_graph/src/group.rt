@@ -32,7 +32,7 @@ pub fn issue_group<N: Staged, D: Disk + Drop>(
     ensures over { OnOk result (AreAll (N.over grounds.new.desk.tops) turns.new.nodes) }
     ensures less { OnOk result (work_left N.nodes.left turns.new.nodes turns.new.line grounds.new
         < work_left N.nodes.left turns.old.nodes turns.old.line grounds.old) }
-    ensures handled { Handles D.bytes D.faults D.faults_at_fetch D.home D.image D.sound
+    ensures handled { Handles D.bytes D.faults D.faults_at_fetch D.home D.image D.sound D.went
         (written_spots (eligible_at grounds.old.queues.leaves.items k)
         (waiting_at grounds.old.queues.leaves.items (eligible_at grounds.old.queues.leaves.items k)))
         result grounds.old.disks.items grounds.new.disks.items }

@@ -86,7 +86,7 @@ impl Queues {
         ensures issued { IfOk result (AreIssued D.image setting.now (eligible_at self.old.leaves.items k)
             self.old.leaves.items self.new.leaves.items disks.old disks.new) }
         ensures order_still { OnOk result (AreInOrder self.new.leaves.items) }
-        ensures handled { Handles D.bytes D.faults D.faults_at_fetch D.home D.image D.sound
+        ensures handled { Handles D.bytes D.faults D.faults_at_fetch D.home D.image D.sound D.went
             (written_spots (eligible_at self.old.leaves.items k)
             (waiting_at self.old.leaves.items (eligible_at self.old.leaves.items k)))
             result disks.old disks.new }

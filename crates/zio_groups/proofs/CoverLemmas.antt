@@ -10,9 +10,11 @@ use Rattle.zio_vqueue.specs.Groups.{IsChain, IsRun, IsSpanOf, last_of}
 use Rattle.zio_cksum.specs.Frames.{IsCovered, SameOutside}
 use Rattle.zio_cksum.specs.Images.{Images, Spot, image_of}
 use Rattle.zio_cksum.proofs.AllLemmas.{all_contained, all_contains}
-use Rattle.zio_disks.specs.Disks.{Handles, Tell}
+use Rattle.zio_outside.specs.declared.written.Written.{Written}
+use Rattle.zio_disks.specs.Disks.{Handles, LiesWithin, Tell}
 use Rattle.zio_disks.specs.declared.setting.Stop.{Stop}
 use Rattle.zio_disks.specs.declared.setting.Stop.TheVariants.{Memory}
+use Rattle.zio_disks.proofs.DiskLemmas.{writes_among}
 use Rattle.zio_groups.specs.declared.waiting.Waiting.{Waiting}
 use Rattle.zio_groups.specs.Issued.{spot_of, written_spots}
 use Rattle.zio_groups.specs.LeafQueues.{ops_of}
@@ -58,27 +60,39 @@ span_covers leaf group (w ∷ ws) at writes run span from below =
     let end = span.1 in
     chain_covers leaf w ws at writes run.0 (omega arith) (omega arith)
 
+-- what a spot of the span covers a spot of the writes does
+span_covered : (leaf : ℕ) (group : Group) (ws : List Waiting) → AllByRecursion (λ (v : Waiting). v.op.write ≡ true) ws → IsRun 0 (ops_of ws) → IsSpanOf group (ops_of ws)
+    → (l at : ℕ) → IsCovered (span_spot leaf group ∷ []) l at → IsCovered (written_spots leaf ws) l at
+span_covered leaf group ws writes run span l at c =
+    all_contains (λ (spot : Spot). spot.leaf ≡ l → spot.at ≤ at → at < spot.at + spot.span → IsCovered (written_spots leaf ws) l at) (span_spot leaf group ∷ []) c.spot
+    ((λ e from below. subst (λ (n : ℕ). IsCovered (written_spots leaf ws) n at) e (span_covers leaf group ws at writes run span from below)), tt)
+    c.listed c.same_leaf c.from c.below
+
+-- so a range within the span lies within the writes' spots
+span_within : (leaf : ℕ) (group : Group) (ws : List Waiting) → AllByRecursion (λ (v : Waiting). v.op.write ≡ true) ws → IsRun 0 (ops_of ws) → IsSpanOf group (ops_of ws)
+    → (l : ℕ) (range : Written) → LiesWithin (span_spot leaf group ∷ []) l range → LiesWithin (written_spots leaf ws) l range
+span_within leaf group ws writes run span l range h = λ at from below. span_covered leaf group ws writes run span l at (h at from below)
+
 -- what is the same outside the span is the same outside the spots of the writes
 span_outside : (leaf : ℕ) (group : Group) (ws : List Waiting) (old new : Images) → AllByRecursion (λ (v : Waiting). v.op.write ≡ true) ws → IsRun 0 (ops_of ws) → IsSpanOf group (ops_of ws)
     → SameOutside (span_spot leaf group ∷ []) old new → SameOutside (written_spots leaf ws) old new
 span_outside leaf group ws old new writes run span h = record {
   sizes = h.sizes;
-  bytes = λ l at out. h.bytes l at (λ c. out
-      (all_contains (λ (spot : Spot). spot.leaf ≡ l → spot.at ≤ at → at < spot.at + spot.span → IsCovered (written_spots leaf ws) l at) (span_spot leaf group ∷ []) c.spot
-      ((λ e from below. subst (λ (n : ℕ). IsCovered (written_spots leaf ws) n at) e (span_covers leaf group ws at writes run span from below)), tt)
-      c.listed c.same_leaf c.from c.below));
+  bytes = λ l at out. h.bytes l at (λ c. out (span_covered leaf group ws writes run span l at c));
 }
 
-pub handles_span : {D A : Type 0} {bytes faults faults_at_fetch : D → ℕ} {home image : D → List ℕ → Type 0} {sound : D → Type 0} {answer : Result A Stop} {a b : List D} (leaf : ℕ) (group : Group) (ws : List Waiting)
+pub handles_span : {D A : Type 0} {bytes faults faults_at_fetch : D → ℕ} {home image : D → List ℕ → Type 0} {sound : D → Type 0} {went : List Written → D → D → Type 0} {answer : Result A Stop} {a b : List D} (leaf : ℕ) (group : Group) (ws : List Waiting)
     → AllByRecursion (λ (v : Waiting). v.op.write ≡ true) ws → IsRun 0 (ops_of ws) → IsSpanOf group (ops_of ws)
-    → Handles bytes faults faults_at_fetch home image sound (span_spot leaf group ∷ []) answer a b → Handles bytes faults faults_at_fetch home image sound (written_spots leaf ws) answer a b
-handles_span {D} {A} {bytes} {faults} {faults_at_fetch} {home} {image} {sound} {answer} {a} {b} leaf group ws writes run span h = record {
+    → Handles bytes faults faults_at_fetch home image sound went (span_spot leaf group ∷ []) answer a b → Handles bytes faults faults_at_fetch home image sound went (written_spots leaf ws) answer a b
+handles_span {D} {A} {bytes} {faults} {faults_at_fetch} {home} {image} {sound} {went} {answer} {a} {b} leaf group ws writes run span h = record {
   same = h.same;
   steady = h.steady;
   device = h.device;
+  calm = h.calm;
   outside = λ before told.
       let o = h.outside before told in
       (o.0, o.1, span_outside leaf group ws before o.0 writes run span o.2);
+  wrote = writes_among went (span_spot leaf group ∷ []) (written_spots leaf ws) a b (span_within leaf group ws writes run span) h.wrote;
 }
 
 -- the image that a disk tells has its size

@@ -94,7 +94,7 @@ impl LeafQueue {
         requires eligible { is_some (eligible (queue_of self.old)) ≡ true }
         requires lies { AllByRecursion (EndsOn (map D.bytes disks.old) leaf) self.old.waiting }
         ensures issued { IfOk result (IsIssued D.image setting.now leaf self.old self.new disks.old disks.new) }
-        ensures handled { Handles D.bytes D.faults D.faults_at_fetch D.home D.image D.sound (written_spots leaf self.old.waiting) result disks.old disks.new }
+        ensures handled { Handles D.bytes D.faults D.faults_at_fetch D.home D.image D.sound D.went (written_spots leaf self.old.waiting) result disks.old disks.new }
     {
         let group = next_group(&mut self.queue)?;
         let members = take_kept(alloc, &mut self.kept, group.ops.as_slice())?;

@@ -54,7 +54,7 @@ fn read_one<D: Disk>(
     ensures head { IfOk result (λ answer. (images : Images) →
         head_of answer ≡ head_of (read_answered op.now.ticket (read_leaf setting.now op.now.flags.retry images op.now.len (spot_of leaf op.now)))) }
     ensures whole { IfOk result (λ answer. answer.error ≡ None → length answer.bytes ≡ op.now.len) }
-    ensures handled { Handles D.bytes D.faults D.faults_at_fetch D.home D.image D.sound [] result disks.old disks.new }
+    ensures handled { Handles D.bytes D.faults D.faults_at_fetch D.home D.image D.sound D.went [] result disks.old disks.new }
 {
     let ticket = op.ticket;
     if op.len == 0 {
@@ -98,7 +98,7 @@ fn write_one<D: Disk>(
         × Tell D.image disks.new (write_leaf setting.now op.now.flags.retry bytes.now images (spot_of leaf op.now)).images) }
     ensures answer { IfOk result (λ error. (images : Images) →
         error ≡ (write_leaf setting.now op.now.flags.retry bytes.now images (spot_of leaf op.now)).error) }
-    ensures handled { Handles D.bytes D.faults D.faults_at_fetch D.home D.image D.sound (spot_of leaf op.now ∷ []) result disks.old disks.new }
+    ensures handled { Handles D.bytes D.faults D.faults_at_fetch D.home D.image D.sound D.went (spot_of leaf op.now ∷ []) result disks.old disks.new }
 {
     let spot = spot_of(leaf, op);
     let retry = op.flags.retry;
@@ -127,7 +127,7 @@ pub(crate) fn issue_one<D: Disk>(
     ensures head { IfOk result (λ answer. (images : Images) →
         head_of answer ≡ head_of ((one_issued setting.now leaf member.now images).answer)) }
     ensures whole { IfOk result (IsWhole member.now) }
-    ensures handled { Handles D.bytes D.faults D.faults_at_fetch D.home D.image D.sound (written_spots leaf (member.now ∷ [])) result disks.old disks.new }
+    ensures handled { Handles D.bytes D.faults D.faults_at_fetch D.home D.image D.sound D.went (written_spots leaf (member.now ∷ [])) result disks.old disks.new }
 {
     let op = member.op;
     if !op.write {
@@ -158,7 +158,7 @@ pub(crate) fn one_by_one<D: Disk>(
     ensures heads { IfOk result (λ answers. (images : Images) →
         map head_of answers ≡ map head_of ((all_issued setting.now leaf members.now images).answers)) }
     ensures whole { IfOk result (AreWhole members.now) }
-    ensures handled { Handles D.bytes D.faults D.faults_at_fetch D.home D.image D.sound (written_spots leaf members.now) result disks.old disks.new }
+    ensures handled { Handles D.bytes D.faults D.faults_at_fetch D.home D.image D.sound D.went (written_spots leaf members.now) result disks.old disks.new }
 {
     let mut answers = List::new(alloc);
     for member in members {

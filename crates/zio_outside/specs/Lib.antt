@@ -1,3 +1,4 @@
+pub mod Crash
 pub mod Gates
 pub mod Memory
 pub mod MemoryShelf

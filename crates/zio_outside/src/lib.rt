@@ -3,8 +3,8 @@
 //!
 //! It stands on `zio_types`. Read `Disk` first: its contract names the disk's image by a relation that holds where the
 //! disk tells it. The objects in memory, as `MemDisk`, tell all, and fail where they are told to. Those over the system,
-//! as `FileDisk`, tell nothing. `specs/Outside` has the words of the traits' contracts, `specs/Memory` and
-//! `specs/MemoryShelf` what a clause sees of the objects in memory.
+//! as `FileDisk`, tell nothing. `specs/Outside` has the words of the traits' contracts, `specs/Crash` those of what a
+//! crash leaves, `specs/Memory` and `specs/MemoryShelf` what a clause sees of the objects in memory.
 #![tactic(auto)]
 
 mod calls;
@@ -17,6 +17,7 @@ mod real_disk;
 mod real_stream;
 mod shelf;
 mod stream;
+mod written;
 
 pub use disk::Disk;
 pub use gate::{Gate, MeetGate, NoGate};
@@ -27,3 +28,4 @@ pub use real_disk::{FileDisk, FileShelf};
 pub use real_stream::{StdSink, StdSource};
 pub use shelf::{FetchFault, Shelf};
 pub use stream::{Failed, Sink, Source};
+pub use written::Written;

@@ -109,6 +109,14 @@ impl Disk for MemDisk {
 
     ghost sound = { IsSoundDisk };
 
+    ghost went = { λ _ _ _. Unit {0} };
+
+    ghost keeps = { λ _ _ _. ⊥ };
+
+    ghost moment = { λ _. 0 };
+
+    ghost left_since = { λ _ _ _. ⊥ };
+
     fn size(&self) -> u64 {
         self.image.len() as u64
     }
@@ -182,4 +190,16 @@ impl Disk for MemDisk {
     ghost counts = { λ d. d.calls.in_range };
 
     ghost sound_counts = { λ d sound. IsSteady-below_max (disk_fails d) (disk_faults d) sound };
+
+    ghost went_itself = { λ d. tt };
+
+    ghost went_then = { λ first then a b c went more. tt };
+
+    ghost went_means = { λ asked ranges stable old new went kept. absurd kept };
+
+    ghost one_kept = { λ d a b xs ys kept other. absurd kept };
+
+    ghost kept_image = { λ d content stable ranges told kept. absurd kept };
+
+    ghost counts_now = { λ d t stable content ranges now kept crash. absurd kept };
 }

@@ -206,6 +206,8 @@ impl Shelf for MemShelf {
 
     ghost image = { λ s. image_of (shelf_slot s) };
 
+    ghost keeps = { λ _ _ _ _. ⊥ };
+
     ghost out = { λ s. out_of (shelf_slot s) };
 
     ghost sound = { IsSoundShelf };
@@ -308,6 +310,8 @@ impl Shelf for MemShelf {
         (s.calls.in_range, s.disk_faults_in_range, s.fetches_in_range, s.returns_in_range) };
 
     ghost one_image = { λ s. image_of-one (shelf_slot s) };
+
+    ghost one_kept = { λ s name a b xs ys kept other. absurd kept };
 
     ghost sound_counts = { IsSoundShelf-counts };
 }

@@ -1,5 +1,7 @@
 ghost use Rattle.std.specs.Prelude.{◌≡◌, ◌<◌, ◌≤◌, ◌⊎◌, ◌↔◌, ℕ, List, Err, IfOk, IfErr, OnOk, OnErr, IsErrOf};
+ghost use Rattle.zio_outside.specs.Crash.{KeptComesHome, KeptGoesOut, KeptStays};
 ghost use Rattle.zio_outside.specs.Outside.{ComesHome, GoesOut, Raised, Rose, StaysHome, count_max, counted};
+ghost use Rattle.zio_outside.specs.declared.written.Written.{Written};
 
 use crate::Disk;
 
@@ -37,6 +39,9 @@ pub trait Shelf {
     /// The image of a disk that is at home, where it tells them.
     ghost image: { Self → List ℕ → List ℕ → Type 0 };
 
+    /// What a disk that is at home keeps through a crash, by its name, where it tells its images and the disk tells this.
+    ghost keeps: { Self → List ℕ → List ℕ → List Written → Type 0 };
+
     /// The disk of this name is out, where it tells its images.
     ghost out: { Self → List ℕ → Type 0 };
 
@@ -67,7 +72,11 @@ pub trait Shelf {
         ensures out { tells self.old → OnOk result
             (GoesOut name.now (image self.old) (image self.new) (out self.old) (out self.new)) }
         ensures home { tells self.old → OnErr result
-            (StaysHome (image self.old) (image self.new) (out self.old) (out self.new)) };
+            (StaysHome (image self.old) (image self.new) (out self.old) (out self.new)) }
+        ensures stable { tells self.old → IfOk result (λ disk. (stable : List ℕ) (ranges : List Written) →
+            Self.Disk.keeps disk stable ranges ↔ keeps self.old name.now stable ranges) }
+        ensures stable_out { tells self.old → OnOk result (KeptGoesOut name.now (keeps self.old) (keeps self.new)) }
+        ensures stable_home { tells self.old → OnErr result (KeptStays (keeps self.old) (keeps self.new)) };
 
     /// Puts a disk home that was handed out, with its image, without memory.
     fn give_back(&mut self, disk: Self::Disk)
@@ -85,7 +94,9 @@ pub trait Shelf {
         ensures tells { tells self.old ↔ tells self.new }
         ensures home { tells self.old → (name bytes : List ℕ) → Self.Disk.home disk name →
             Self.Disk.image disk bytes →
-            ComesHome name bytes (image self.old) (image self.new) (out self.old) (out self.new) };
+            ComesHome name bytes (image self.old) (image self.new) (out self.old) (out self.new) }
+        ensures stable_home { tells self.old → (name : List ℕ) → Self.Disk.home disk name →
+            KeptComesHome name (Self.Disk.keeps disk) (keeps self.old) (keeps self.new) };
 
     /// No count passes its last value.
     ghost counts: { (shelf : Self) → (faults shelf ≤ count_max) × (disk_faults shelf ≤ count_max)
@@ -93,6 +104,10 @@ pub trait Shelf {
 
     /// It tells one image of a disk.
     ghost one_image: { (shelf : Self) (name a b : List ℕ) → image shelf name a → image shelf name b → a ≡ b };
+
+    /// It tells one stable image of a disk, and its ranges in one order.
+    ghost one_kept: { (shelf : Self) (name a b : List ℕ) (xs ys : List Written) →
+        keeps shelf name a xs → keeps shelf name b ys → (a ≡ b) × (xs ≡ ys) };
 
     /// The counts of a shelf that is sound for a name aren't at their last values. So a fetch of it answers no `Failed`.
     ghost sound_counts: { (shelf : Self) (name : List ℕ) → sound shelf name →

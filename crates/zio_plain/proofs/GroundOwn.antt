@@ -17,6 +17,7 @@ use Rattle.zio_cksum.proofs.AllLemmas.{all_weaker}
 use Rattle.zio_gang.specs.declared.tree.Tree.{Tree}
 use Rattle.zio_gang.specs.Attempts.{Own, Terms, only_error, own_found, own_work}
 use Rattle.zio_gang.specs.Journals.{asks_of}
+use Rattle.zio_outside.specs.declared.written.Written.{Written}
 use Rattle.zio_disks.specs.Disks.{AnyRose, AreSameDisks, Handles, Tell, TellOutside}
 use Rattle.zio_disks.specs.declared.setting.Stop.{Stop as DiskStop}
 use Rattle.zio_disks.specs.declared.setting.Stop.TheVariants.{Device as DiskDevice, Memory as DiskMemory}
@@ -96,10 +97,10 @@ named_may used named places within = all_weaker (Contains named) (λ (p : Place)
 -- ---- own work that takes no place
 
 module _ {D : Type 0} {bytes faults faults_at_fetch : D → ℕ} {home image : D → List ℕ → Type 0} {sound : D → Type 0} where
-  quiet_moved : {A : Type 0} {answer : A} {named : Named} (places : List Place) {old : SeenGround D} {disks : List D} → AllByRecursion (Contains named.places) places → IsTrue (list_all (is_inside old.sizes) places)
-      → AreHeld old.sizes old.used old.live → Handles {A = A} bytes faults faults_at_fetch home image sound (spots_of old.setting places) (Ok answer) old.disks disks
+  quiet_moved : {went : List Written → D → D → Type 0} {A : Type 0} {answer : A} {named : Named} (places : List Place) {old : SeenGround D} {disks : List D} → AllByRecursion (Contains named.places) places → IsTrue (list_all (is_inside old.sizes) places)
+      → AreHeld old.sizes old.used old.live → Handles {A = A} bytes faults faults_at_fetch home image sound went (spots_of old.setting places) (Ok answer) old.disks disks
       → Moves bytes faults faults_at_fetch home image sound named old (record old { disks = disks }) []
-  quiet_moved {A} {answer} {named} places {old} {disks} within inside held h = Moved held (record {
+  quiet_moved {went} {A} {answer} {named} places {old} {disks} within inside held h = Moved held (record {
     setting = refl;
     round = refl;
     sizes = refl;
@@ -121,14 +122,14 @@ module _ {D : Type 0} {bytes faults faults_at_fetch : D → ℕ} {home image : D
   })
 
   -- it is told by these images, and gives an end without a block
-  pub quiet_does : {A : Type 0} {answer : A} (places : List Place) (w : Waiting) (attempt : ℕ) (pointers : List (Option Bp)) (old : SeenGround D) (disks : List D) (end : OwnEnd)
+  pub quiet_does : {went : List Written → D → D → Type 0} {A : Type 0} {answer : A} (places : List Place) (w : Waiting) (attempt : ℕ) (pointers : List (Option Bp)) (old : SeenGround D) (disks : List D) (end : OwnEnd)
       → ((named : Named) → AreNamed named w.request.work w.block → AllByRecursion (Contains named.places) places) → IsTrue (list_all (is_inside old.sizes) places)
-      → AreHeld old.sizes old.used old.live → Handles {A = A} bytes faults faults_at_fetch home image sound (spots_of old.setting places) (Ok answer) old.disks disks
+      → AreHeld old.sizes old.used old.live → Handles {A = A} bytes faults faults_at_fetch home image sound went (spots_of old.setting places) (Ok answer) old.disks disks
       → IsOwnEnd w end → end.tree ≡ None
       → ((t : Terms) → t.setting ≡ old.setting → (is_claim (kind_of w.request.work) ≡ true → SamePlaces old.used t.used) → (images : Images) → Tell image old.disks images
       → (after : Images) × Tell image disks after × ((journal : List Choice) → IsOwn (own_work journal t attempt (pending_of w) w.request.work pointers images) end old.given old.given after))
       → DoesOwn bytes faults faults_at_fetch home image sound w attempt pointers old (record old { disks = disks }) end []
-  quiet_does {A} {answer} places w attempt pointers old disks end within inside held h is_end none told = record {
+  quiet_does {went} {A} {answer} places w attempt pointers old disks end within inside held h is_end none told = record {
     told = λ t ts tr fresh images tell.
         (let one = told t ts fresh images tell in record { after = one.0; told = one.1; meant = λ journal answers. one.2 journal });
     is_end = is_end;
@@ -156,6 +157,6 @@ module _ {D : Type 0} {bytes faults faults_at_fetch : D → ℕ} {home image : D
   }
 
   -- by a disk or for want of memory
-  pub stopped_rose : {A : Type 0} {spots : List _} {a b : List D} (stop : DiskStop) (answer : Stop) → answer ≡ stop_of stop
-      → Handles {A = A} bytes faults faults_at_fetch home image sound spots (Err stop) a b → answer ≡ Device → AnyRose (map faults a) (map faults b)
+  pub stopped_rose : {went : List Written → D → D → Type 0} {A : Type 0} {spots : List _} {a b : List D} (stop : DiskStop) (answer : Stop) → answer ≡ stop_of stop
+      → Handles {A = A} bytes faults faults_at_fetch home image sound went spots (Err stop) a b → answer ≡ Device → AnyRose (map faults a) (map faults b)
   stopped_rose stop answer is h e = h.device (ap (λ s. Err s) (stop_device stop (sym is ∙ e)))

@@ -23,6 +23,7 @@ use Rattle.zio_gang.specs.declared.tree.Tree.{Tree}
 use Rattle.zio_gang.specs.Attempts.{Own, Terms, free_of, only_error, own_claim, own_claimed, own_found, own_free, own_read, own_work, read_of}
 use Rattle.zio_gang.specs.Journals.{asks_of}
 use Rattle.zio_gang.specs.Trees.{Walk, claim_pointer, claim_tree, claim_visit, claimed_found, claimed_if, free_tree, read_tree, sizes_of, tree_places, walk_tree}
+use Rattle.zio_outside.specs.declared.written.Written.{Written}
 use Rattle.zio_disks.specs.Disks.{Handles, Tell}
 use Rattle.zio_disks.specs.Trees.{IsPlacedTree}
 use Rattle.zio_disks.specs.Whole.{IsWholeTree}
@@ -148,11 +149,11 @@ module _ {D : Type 0} {bytes faults faults_at_fetch : D → ℕ} {home image : D
   memory_breaks_own w old new (Ok done) memory h = tt
   memory_breaks_own w old new (Err stop) memory h = h (stop ≡ Device) (no_device stop memory)
 
-  pub read_does : (w : Waiting) (attempt : ℕ) (pointers : List (Option Bp)) (old : SeenGround D) (disks : List D) (tree : Tree) (found : Result (List ℕ) Errno) (name : List ℕ) (prio : Prio)
+  pub read_does : {went : List Written → D → D → Type 0} (w : Waiting) (attempt : ℕ) (pointers : List (Option Bp)) (old : SeenGround D) (disks : List D) (tree : Tree) (found : Result (List ℕ) Errno) (name : List ℕ) (prio : Prio)
       → w.request.work ≡ Read name prio → w.block ≡ Some tree → CanRun bytes old w.block → IsSound IsWholeTree w
       → ((images : Images) → Tell image old.disks images → (found ≡ (read_tree old.setting tree images).found) × Tell image disks (read_tree old.setting tree images).images)
       → (IsWholeTree tree → IfOk found (λ bs. length bs ≡ tree.bp.size))
-      → Handles {A = Result (List ℕ) Errno} bytes faults faults_at_fetch home image sound (spots_of old.setting (tree_places tree)) (Ok found) old.disks disks
+      → Handles {A = Result (List ℕ) Errno} bytes faults faults_at_fetch home image sound went (spots_of old.setting (tree_places tree)) (Ok found) old.disks disks
       → DoesOwn bytes faults faults_at_fetch home image sound w attempt pointers old (record old { disks = disks }) (found_end found) []
   read_does w attempt pointers old disks tree found name prio work block can sound_w told size h =
       quiet_does {answer = found} (tree_places tree) w attempt pointers old disks (found_end found) (tree_within w tree block) (tree_lies {old = old} {block = w.block} tree can block) can.held h
@@ -172,10 +173,10 @@ module _ {D : Type 0} {bytes faults faults_at_fetch : D → ℕ} {home image : D
       none_found (Ok bs) = refl
       none_found (Err e) = refl
 
-  pub free_does : (w : Waiting) (attempt : ℕ) (pointers : List (Option Bp)) (old : SeenGround D) (disks : List D) (tree : Tree) (error : Option Errno) (name : List ℕ)
+  pub free_does : {went : List Written → D → D → Type 0} (w : Waiting) (attempt : ℕ) (pointers : List (Option Bp)) (old : SeenGround D) (disks : List D) (tree : Tree) (error : Option Errno) (name : List ℕ)
       → w.request.work ≡ Free name → w.block ≡ Some tree → CanRun bytes old w.block
       → ((images : Images) → Tell image old.disks images → (error ≡ (free_tree old.setting tree images).error) × Tell image disks (free_tree old.setting tree images).images)
-      → Handles {A = Option Errno} bytes faults faults_at_fetch home image sound (spots_of old.setting (tree_places tree)) (Ok error) old.disks disks
+      → Handles {A = Option Errno} bytes faults faults_at_fetch home image sound went (spots_of old.setting (tree_places tree)) (Ok error) old.disks disks
       → DoesOwn bytes faults faults_at_fetch home image sound w attempt pointers old (record old { disks = disks }) (error_end error) []
   free_does w attempt pointers old disks tree error name work block can told h =
       quiet_does {answer = error} (tree_places tree) w attempt pointers old disks (error_end error) (tree_within w tree block) (tree_lies {old = old} {block = w.block} tree can block) can.held h
@@ -188,10 +189,10 @@ module _ {D : Type 0} {bytes faults faults_at_fetch : D → ℕ} {home image : D
       ))
 
   -- a claim that is refused, where the chooser stayed as it was
-  pub refused_does : (w : Waiting) (attempt : ℕ) (pointers : List (Option Bp)) (old : SeenGround D) (disks : List D) (sizes : List TopSize) (used live : List Place) (given : List Choice) (error : Errno) (name pointer : List ℕ)
+  pub refused_does : {went : List Written → D → D → Type 0} (w : Waiting) (attempt : ℕ) (pointers : List (Option Bp)) (old : SeenGround D) (disks : List D) (sizes : List TopSize) (used live : List Place) (given : List Choice) (error : Errno) (name pointer : List ℕ)
       → w.request.work ≡ Claim name pointer → CanRun bytes old w.block
       → ((images : Images) → Tell image old.disks images → (Err error ≡ (claim_tree old.setting old.used pointer images).tree) × Tell image disks (claim_tree old.setting old.used pointer images).images)
-      → Handles {A = Result Tree Errno} bytes faults faults_at_fetch home image sound [] (Ok (Err error)) old.disks disks
+      → Handles {A = Result Tree Errno} bytes faults faults_at_fetch home image sound went [] (Ok (Err error)) old.disks disks
       → sizes ≡ old.sizes → used ≡ old.used → live ≡ old.live → given ≡ old.given
       → DoesOwn bytes faults faults_at_fetch home image sound w attempt pointers old (record old { disks = disks; sizes = sizes; used = used; live = live; given = given }) (error_end (Some error)) []
   refused_does w attempt pointers old disks sizes used live given error name pointer work can told h at_z at_u at_l at_g =
@@ -207,9 +208,9 @@ module _ {D : Type 0} {bytes faults faults_at_fetch : D → ℕ} {home image : D
             ∙ ap (λ (f : Result Tree Errno). own_claimed f (claim_tree old.setting old.used pointer images).images) (sym (told images tell).0)),
       )))
 
-  claim_moved : (w : Waiting) (old : SeenGround D) (disks : List D) (sizes : List TopSize) (used live : List Place) (given : List Choice) (tree : Tree) (named : Named) → is_claim (kind_of w.request.work) ≡ true
+  claim_moved : {went : List Written → D → D → Type 0} (w : Waiting) (old : SeenGround D) (disks : List D) (sizes : List TopSize) (used live : List Place) (given : List Choice) (tree : Tree) (named : Named) → is_claim (kind_of w.request.work) ≡ true
       → AreNamed named w.request.work w.block → IsPlacedTree old.sizes tree → AreHeld old.sizes old.used old.live
-      → Handles {A = Result Tree Errno} bytes faults faults_at_fetch home image sound [] (Ok (Ok tree)) old.disks disks
+      → Handles {A = Result Tree Errno} bytes faults faults_at_fetch home image sound went [] (Ok (Ok tree)) old.disks disks
       → AreTaken (tree_places tree) old.used old.live used live → AreHeld sizes used live → sizes ≡ old.sizes → given ≡ old.given
       → Moves bytes faults faults_at_fetch home image sound named old (record old { disks = disks; sizes = sizes; used = used; live = live; given = given }) (tree_places tree)
   claim_moved w old disks sizes used live given tree named claims fits placed held h taken holds at_z at_g = Moved held (record {
@@ -233,10 +234,10 @@ module _ {D : Type 0} {bytes faults faults_at_fetch : D → ℕ} {home image : D
     inside = tree_inside old.sizes tree placed;
   })
 
-  pub claim_does : (w : Waiting) (attempt : ℕ) (pointers : List (Option Bp)) (old : SeenGround D) (disks : List D) (sizes : List TopSize) (used live : List Place) (given : List Choice) (tree : Tree) (name pointer : List ℕ)
+  pub claim_does : {went : List Written → D → D → Type 0} (w : Waiting) (attempt : ℕ) (pointers : List (Option Bp)) (old : SeenGround D) (disks : List D) (sizes : List TopSize) (used live : List Place) (given : List Choice) (tree : Tree) (name pointer : List ℕ)
       → w.request.work ≡ Claim name pointer → CanRun bytes old w.block
       → ((images : Images) → Tell image old.disks images → (Ok tree ≡ (claim_tree old.setting old.used pointer images).tree) × Tell image disks (claim_tree old.setting old.used pointer images).images)
-      → Handles {A = Result Tree Errno} bytes faults faults_at_fetch home image sound [] (Ok (Ok tree)) old.disks disks
+      → Handles {A = Result Tree Errno} bytes faults faults_at_fetch home image sound went [] (Ok (Ok tree)) old.disks disks
       → AreTaken (tree_places tree) old.used old.live used live → (AreHeld old.sizes old.used old.live → AreHeld sizes used live)
       → IsWholeTree tree → IsPlacedTree (sizes_of old.setting.tops) tree → sizes ≡ old.sizes → given ≡ old.given
       → DoesOwn bytes faults faults_at_fetch home image sound w attempt pointers old (record old { disks = disks; sizes = sizes; used = used; live = live; given = given })

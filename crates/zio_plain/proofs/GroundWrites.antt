@@ -32,6 +32,7 @@ use Rattle.zio_gang.specs.Journals.{AreLawful, HaveDistinctKeys, asks_of}
 use Rattle.zio_gang.specs.Trees.{sizes_of, tree_places}
 use Rattle.zio_gang.specs.Writes.{Placed, content_of, place_block}
 use Rattle.zio_gang.specs.Writes.{Writing as Parts}
+use Rattle.zio_outside.specs.declared.written.Written.{Written}
 use Rattle.zio_disks.specs.Disks.{Handles, Tell}
 use Rattle.zio_disks.specs.Trees.{IsPlacedTree}
 use Rattle.zio_disks.specs.Whole.{IsWholeTree}
@@ -139,9 +140,9 @@ pub free_may : (used named places : List Place) → AllByRecursion (λ (p : Plac
 free_may used named places free = all_weaker (λ (p : Place). IsTrue (is_free used p)) (λ (p : Place). Contains named p ⊎ IsTrue (is_free used p)) places (λ p f. inr f) free
 
 module _ {D : Type 0} {bytes faults faults_at_fetch : D → ℕ} {home image : D → List ℕ → Type 0} {sound : D → Type 0} where
-  write_moved : (w : Waiting) (old : SeenGround D) (disks : List D) (sizes : List TopSize) (used live : List Place) (given more : List Choice) (stay : List Place) (writing : Writing) (placed : PlacedBlock) (named : Named)
+  write_moved : {went : List Written → D → D → Type 0} (w : Waiting) (old : SeenGround D) (disks : List D) (sizes : List TopSize) (used live : List Place) (given more : List Choice) (stay : List Place) (writing : Writing) (placed : PlacedBlock) (named : Named)
       → is_claim (kind_of w.request.work) ≡ false → AreNamed named w.request.work w.block → AreHeld old.sizes old.used old.live → AreHeld sizes used live
-      → Handles {A = PlacedBlock} bytes faults faults_at_fetch home image sound (spots_of old.setting (taken_by_all more)) (Ok placed) old.disks disks
+      → Handles {A = PlacedBlock} bytes faults faults_at_fetch home image sound went (spots_of old.setting (taken_by_all more)) (Ok placed) old.disks disks
       → given ≡ old.given ++ more → AreLawful old.sizes old.used more → AllByRecursion (IsOf writing) more → writing.round ≡ old.round
       → SamePlaces used (taken_by_all more ++ old.used) → SamePlaces live (taken_by_all more ++ old.live) → IsPermutation stay (taken_by_all more) → sizes ≡ old.sizes
       → Moves bytes faults faults_at_fetch home image sound named old (record old { disks = disks; sizes = sizes; used = used; live = live; given = given }) stay
@@ -168,7 +169,7 @@ module _ {D : Type 0} {bytes faults faults_at_fetch : D → ℕ} {home image : D
     inside = inside_among old.sizes (taken_by_all more) stay (λ p there. Contains-permutation stay (taken_by_all more) p moved there) (taken_inside old.sizes old.used more lawful);
   })
 
-  pub write_does : (w : Waiting) (attempt : ℕ) (pointers : List (Option Bp)) (old : SeenGround D) (disks : List D) (sizes : List TopSize) (used live : List Place) (given : List Choice) (writing : Writing) (placed : PlacedBlock)
+  pub write_does : {went : List Written → D → D → Type 0} (w : Waiting) (attempt : ℕ) (pointers : List (Option Bp)) (old : SeenGround D) (disks : List D) (sizes : List TopSize) (used live : List Place) (given : List Choice) (writing : Writing) (placed : PlacedBlock)
       (content name : List ℕ) (sum : SumKind) (copies : ℕ) (prio : Prio) (body : Body)
       → w.request.work ≡ Write name sum copies prio body → IsWriteOf w old.setting old.round attempt sum copies writing → content ≡ content_of pointers (body_of body)
       → AreHeld old.sizes old.used old.live → (AreHeld old.sizes old.used old.live → AreHeld sizes used live) → sizes ≡ old.sizes
@@ -177,7 +178,7 @@ module _ {D : Type 0} {bytes faults faults_at_fetch : D → ℕ} {home image : D
       → IfSome placed.tree (λ (tree : Tree). IsPermutation (tree_places tree) (taken_by_all (given_since old.given given)))
       → (placed.tree ≡ None → taken_by_all (given_since old.given given) ≡ [])
       → IfSome placed.tree (IsPlacedTree (sizes_of old.setting.tops)) → (rank placed.error < rank (Some Nospc) → IfSome placed.tree IsWholeTree)
-      → Handles {A = PlacedBlock} bytes faults faults_at_fetch home image sound (spots_of old.setting (taken_by_all (given_since old.given given))) (Ok placed) old.disks disks
+      → Handles {A = PlacedBlock} bytes faults faults_at_fetch home image sound went (spots_of old.setting (taken_by_all (given_since old.given given))) (Ok placed) old.disks disks
       → DoesOwn bytes faults faults_at_fetch home image sound w attempt pointers old (record old { disks = disks; sizes = sizes; used = used; live = live; given = given }) (placed_end placed) (places_of_block placed.tree)
   write_does w attempt pointers old disks sizes used live given writing placed content name sum copies prio body work is stored held holds at_z told asks keys places nowhere lies whole h =
       let more : List Choice = given_since old.given given in

@@ -25,6 +25,14 @@ impl Disk for Forgetful {
 
     ghost sound = { λ _. ⊥ };
 
+    ghost went = { λ _ _ _. Unit {0} };
+
+    ghost keeps = { λ _ _ _. ⊥ };
+
+    ghost moment = { λ _. 0 };
+
+    ghost left_since = { λ _ _ _. ⊥ };
+
     fn size(&self) -> u64 {
         65536
     }
@@ -46,6 +54,18 @@ impl Disk for Forgetful {
     ghost counts = { λ d. d.in_range };
 
     ghost sound_counts = { λ d sound. absurd sound };
+
+    ghost went_itself = { λ d. tt };
+
+    ghost went_then = { λ first then a b c went more. tt };
+
+    ghost went_means = { λ asked ranges stable old new went kept. absurd kept };
+
+    ghost one_kept = { λ d a b xs ys kept other. absurd kept };
+
+    ghost kept_image = { λ d content stable ranges told kept. absurd kept };
+
+    ghost counts_now = { λ d t stable content ranges now kept crash. absurd kept };
 }
 
 /// Hands out forgetful disks under every name, and counts their reads.
@@ -92,6 +112,8 @@ impl Shelf for ForgetfulShelf {
 
     ghost image = { λ _ _ _. ⊥ };
 
+    ghost keeps = { λ _ _ _ _. ⊥ };
+
     ghost out = { λ _ _. ⊥ };
 
     ghost sound = { λ _ _. ⊥ };
@@ -113,6 +135,8 @@ impl Shelf for ForgetfulShelf {
         (s.faults_in_range, s.faults_in_range, s.fetches_in_range, s.returns_in_range) };
 
     ghost one_image = { λ s name a b told other. absurd told };
+
+    ghost one_kept = { λ s name a b xs ys kept other. absurd kept };
 
     ghost sound_counts = { λ s name sound. absurd sound };
 }

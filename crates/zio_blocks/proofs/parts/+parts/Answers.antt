@@ -32,7 +32,7 @@ use Rattle.zio_blocks.proofs.parts.+parts.Goals as goal
 
 pub place_gang-returns-in_err-entry-clause-handled : goal.place_gang-returns-in_err-entry-clause-handled
 place_gang-returns-in_err-entry-clause-handled g t c =
-    handles_stop g.D.Disk.bytes g.D.Disk.faults g.D.Disk.faults_at_fetch g.D.Disk.home g.D.Disk.image g.D.Disk.sound _ c.from_residual.result _ c.args.disks.now c.from_residual.ensures.1
+    handles_stop g.D.Disk.bytes g.D.Disk.faults g.D.Disk.faults_at_fetch g.D.Disk.home g.D.Disk.image g.D.Disk.sound g.D.Disk.went _ c.from_residual.result _ c.args.disks.now c.from_residual.ensures.1
     (stop_is c.ask.result _ c.in_err-entry.was c.ask.ensures.memory)
 
 pub place_gang-returns-then-is_refused-clause-told : goal.place_gang-returns-then-is_refused-clause-told
@@ -44,7 +44,7 @@ place_gang-returns-then-is_refused-clause-told g t c images tell =
 
 pub place_gang-returns-then-is_refused-clause-handled : goal.place_gang-returns-then-is_refused-clause-handled
 place_gang-returns-then-is_refused-clause-handled g t c =
-    handles_none g.D.Disk.bytes g.D.Disk.faults g.D.Disk.faults_at_fetch g.D.Disk.home g.D.Disk.image g.D.Disk.sound _ _ c.args.disks.now (λ e. cc)
+    handles_none g.D.Disk.bytes g.D.Disk.faults g.D.Disk.faults_at_fetch g.D.Disk.home g.D.Disk.image g.D.Disk.sound g.D.Disk.went _ _ c.args.disks.now (λ e. cc)
 
 pub place_gang-returns-clause-asks : goal.place_gang-returns-clause-asks
 place_gang-returns-clause-asks g t c = asks_then c.in_ok-entry.ensures.asks c.write_gang.ensures.asks
@@ -70,7 +70,7 @@ place_gang-returns-clause-handled g t c =
 
 pub place_members-returns-in_default-clause-handled : goal.place_members-returns-in_default-clause-handled
 place_members-returns-in_default-clause-handled g t c =
-    handles_none g.D.Disk.bytes g.D.Disk.faults g.D.Disk.faults_at_fetch g.D.Disk.home g.D.Disk.image g.D.Disk.sound _ _ c.args.disks.now (λ e. cc)
+    handles_none g.D.Disk.bytes g.D.Disk.faults g.D.Disk.faults_at_fetch g.D.Disk.home g.D.Disk.image g.D.Disk.sound g.D.Disk.went _ _ c.args.disks.now (λ e. cc)
 
 pub place_members-place_members-requires : goal.place_members-place_members-requires
 place_members-place_members-requires g t c κs within =
@@ -118,7 +118,7 @@ place_members-returns-clause-handled g t c =
 
 pub place_part-returns-in_err-entry-clause-handled : goal.place_part-returns-in_err-entry-clause-handled
 place_part-returns-in_err-entry-clause-handled g t c =
-    handles_stop g.D.Disk.bytes g.D.Disk.faults g.D.Disk.faults_at_fetch g.D.Disk.home g.D.Disk.image g.D.Disk.sound _ c.from_residual.result _ c.args.disks.now c.from_residual.ensures.1
+    handles_stop g.D.Disk.bytes g.D.Disk.faults g.D.Disk.faults_at_fetch g.D.Disk.home g.D.Disk.image g.D.Disk.sound g.D.Disk.went _ c.from_residual.result _ c.args.disks.now c.from_residual.ensures.1
     (stop_is c.ask.result _ c.in_err-entry.was c.ask.ensures.memory)
 
 pub place_part-returns-then-not-is_refused-clause-told : goal.place_part-returns-then-not-is_refused-clause-told
@@ -139,7 +139,7 @@ place_part-returns-then-size-le-SECTOR_SIZE-clause-told g t c = λ images tell.
 
 pub place_part-returns-then-size-le-SECTOR_SIZE-clause-handled : goal.place_part-returns-then-size-le-SECTOR_SIZE-clause-handled
 place_part-returns-then-size-le-SECTOR_SIZE-clause-handled g t c =
-    handles_none g.D.Disk.bytes g.D.Disk.faults g.D.Disk.faults_at_fetch g.D.Disk.home g.D.Disk.image g.D.Disk.sound _ _ c.args.disks.now (λ e. cc)
+    handles_none g.D.Disk.bytes g.D.Disk.faults g.D.Disk.faults_at_fetch g.D.Disk.home g.D.Disk.image g.D.Disk.sound g.D.Disk.went _ _ c.args.disks.now (λ e. cc)
 
 pub place_part-returns-clause-asks : goal.place_part-returns-clause-asks
 place_part-returns-clause-asks g t c = asks_then c.in_ok-entry.ensures.asks c.place_gang.ensures.asks
@@ -171,7 +171,7 @@ place_part-returns-then-not-is_refused-clause-handled g t c =
 
 pub write_gang-returns-in_err-add_head-clause-handled : goal.write_gang-returns-in_err-add_head-clause-handled
 write_gang-returns-in_err-add_head-clause-handled g t c =
-    handles_stop g.D.Disk.bytes g.D.Disk.faults g.D.Disk.faults_at_fetch g.D.Disk.home g.D.Disk.image g.D.Disk.sound _ c.from_residual.result _ c.args.disks.now c.from_residual.ensures.1
+    handles_stop g.D.Disk.bytes g.D.Disk.faults g.D.Disk.faults_at_fetch g.D.Disk.home g.D.Disk.image g.D.Disk.sound g.D.Disk.went _ c.from_residual.result _ c.args.disks.now c.from_residual.ensures.1
     (stop_is c.add_head.result _ c.in_err-add_head.was c.add_head.ensures.err)
 
 pub write_gang-returns-in_err-error-clause-handled : goal.write_gang-returns-in_err-error-clause-handled

@@ -4,7 +4,7 @@ use Rattle.zio_disks.proofs.DiskLemmas.{handles_none, handles_then}
 use Rattle.zio_disks.proofs.bodies.+read_bodies.Goals as goal
 
 pub returns-in_default-clause-handled : goal.returns-in_default-clause-handled
-returns-in_default-clause-handled g t c = handles_none g.D.Disk.bytes g.D.Disk.faults g.D.Disk.faults_at_fetch g.D.Disk.home g.D.Disk.image g.D.Disk.sound _ _ c.args.disks.now (λ e. cc)
+returns-in_default-clause-handled g t c = handles_none g.D.Disk.bytes g.D.Disk.faults g.D.Disk.faults_at_fetch g.D.Disk.home g.D.Disk.image g.D.Disk.sound g.D.Disk.went _ _ c.args.disks.now (λ e. cc)
 
 pub returns-clause-handled : goal.returns-clause-handled
 returns-clause-handled g t c = handles_then c.in_ok-add_body.ensures.handled c.read_bodies.ensures.handled

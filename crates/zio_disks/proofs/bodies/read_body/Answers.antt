@@ -27,7 +27,7 @@ returns-in_err-bytes-clause-handled g c =
     let is = p.1 in
     let same = p.2 in
     let memory = c.in_err-bytes.ensures.err in
-    handles_none g.D.Disk.bytes g.D.Disk.faults g.D.Disk.faults_at_fetch g.D.Disk.home g.D.Disk.image g.D.Disk.sound _ _ c.args.disks.now (λ e. cc)
+    handles_none g.D.Disk.bytes g.D.Disk.faults g.D.Disk.faults_at_fetch g.D.Disk.home g.D.Disk.image g.D.Disk.sound g.D.Disk.went _ _ c.args.disks.now (λ e. cc)
 
 pub read_block-requires-clause-lies : goal.read_block-requires-clause-lies
 read_block-requires-clause-lies g c =

@@ -27,7 +27,7 @@ visit_pointer-returns-then-not-is_fitting-clause-told g t c =
 
 pub visit_pointer-returns-then-not-is_fitting-clause-handled : goal.visit_pointer-returns-then-not-is_fitting-clause-handled
 visit_pointer-returns-then-not-is_fitting-clause-handled g t c =
-    handles_none g.D.Disk.bytes g.D.Disk.faults g.D.Disk.faults_at_fetch g.D.Disk.home g.D.Disk.image g.D.Disk.sound _ c.note_error.result c.args.disks.now (not_device c.note_error.result c.note_error.ensures.err)
+    handles_none g.D.Disk.bytes g.D.Disk.faults g.D.Disk.faults_at_fetch g.D.Disk.home g.D.Disk.image g.D.Disk.sound g.D.Disk.went _ c.note_error.result c.args.disks.now (not_device c.note_error.result c.note_error.ensures.err)
 
 pub visit_pointer-returns-then-not-bp-clause-told : goal.visit_pointer-returns-then-not-bp-clause-told
 visit_pointer-returns-then-not-bp-clause-told g t c images tell =
@@ -41,7 +41,7 @@ visit_pointer-returns-then-not-bp-clause-added g t c =
     (read_body (sizes_of c.args.setting.now.tops) c.args.levels c.args.path.now c.args.bp.now c.requires.valid (sym c.is_fitting.ensures ∙ c.if-not-is_fitting.false) c.if-not-bp.true)
 
 pub visit_pointer-returns-then-not-bp-clause-handled : goal.visit_pointer-returns-then-not-bp-clause-handled
-visit_pointer-returns-then-not-bp-clause-handled g t c = handles_none g.D.Disk.bytes g.D.Disk.faults g.D.Disk.faults_at_fetch g.D.Disk.home g.D.Disk.image g.D.Disk.sound _ _ c.args.disks.now (λ e. cc)
+visit_pointer-returns-then-not-bp-clause-handled g t c = handles_none g.D.Disk.bytes g.D.Disk.faults g.D.Disk.faults_at_fetch g.D.Disk.home g.D.Disk.image g.D.Disk.sound g.D.Disk.went _ _ c.args.disks.now (λ e. cc)
 
 pub visit_pointer-returns-then-levels-eq0-clause-told : goal.visit_pointer-returns-then-levels-eq0-clause-told
 visit_pointer-returns-then-levels-eq0-clause-told g t c =
@@ -53,7 +53,7 @@ visit_pointer-returns-then-levels-eq0-clause-told g t c =
 
 pub visit_pointer-returns-then-levels-eq0-clause-handled : goal.visit_pointer-returns-then-levels-eq0-clause-handled
 visit_pointer-returns-then-levels-eq0-clause-handled g t c =
-    handles_none g.D.Disk.bytes g.D.Disk.faults g.D.Disk.faults_at_fetch g.D.Disk.home g.D.Disk.image g.D.Disk.sound _ c.note_error-then-levels-eq0.result c.args.disks.now (not_device c.note_error-then-levels-eq0.result c.note_error-then-levels-eq0.ensures.err)
+    handles_none g.D.Disk.bytes g.D.Disk.faults g.D.Disk.faults_at_fetch g.D.Disk.home g.D.Disk.image g.D.Disk.sound g.D.Disk.went _ c.note_error-then-levels-eq0.result c.args.disks.now (not_device c.note_error-then-levels-eq0.result c.note_error-then-levels-eq0.ensures.err)
 
 pub visit_pointer-returns-clause-told : goal.visit_pointer-returns-clause-told
 visit_pointer-returns-clause-told g t c =
@@ -130,7 +130,7 @@ visit_members-returns-in_default-clause-added g t c =
     (read_none (sizes_of c.args.setting.now.tops) c.args.levels c.args.path.now c.args.n c.args.members.now (omega arith))
 
 pub visit_members-returns-in_default-clause-handled : goal.visit_members-returns-in_default-clause-handled
-visit_members-returns-in_default-clause-handled g t c = handles_none g.D.Disk.bytes g.D.Disk.faults g.D.Disk.faults_at_fetch g.D.Disk.home g.D.Disk.image g.D.Disk.sound _ _ c.args.disks.now (λ e. cc)
+visit_members-returns-in_default-clause-handled g t c = handles_none g.D.Disk.bytes g.D.Disk.faults g.D.Disk.faults_at_fetch g.D.Disk.home g.D.Disk.image g.D.Disk.sound g.D.Disk.went _ _ c.args.disks.now (λ e. cc)
 
 pub visit_members-returns-clause-handled : goal.visit_members-returns-clause-handled
 visit_members-returns-clause-handled g t c = handles_then c.in_ok-visit_pointer.ensures.handled c.visit_members.ensures.handled

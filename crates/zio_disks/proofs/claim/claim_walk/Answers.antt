@@ -40,4 +40,4 @@ returns-in-Err-clause-told g c images tell =
     (sym c.in-Err.ensures.pointer) (refl, tell)
 
 pub returns-in-Err-clause-handled : goal.returns-in-Err-clause-handled
-returns-in-Err-clause-handled g c = handles_none g.D.Disk.bytes g.D.Disk.faults g.D.Disk.faults_at_fetch g.D.Disk.home g.D.Disk.image g.D.Disk.sound _ _ c.args.disks.now (λ e. cc)
+returns-in-Err-clause-handled g c = handles_none g.D.Disk.bytes g.D.Disk.faults g.D.Disk.faults_at_fetch g.D.Disk.home g.D.Disk.image g.D.Disk.sound g.D.Disk.went _ _ c.args.disks.now (λ e. cc)

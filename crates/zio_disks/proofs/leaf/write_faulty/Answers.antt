@@ -10,12 +10,12 @@ returns-in_err-turned-in-Flip-clause-handled g c =
     let is = p.1 in
     let same = p.2 in
     let memory = c.in_err-turned-in-Flip.ensures.err in
-    handles_none g.D.Disk.bytes g.D.Disk.faults g.D.Disk.faults_at_fetch g.D.Disk.home g.D.Disk.image g.D.Disk.sound (c.args.spot.now ∷ []) _ c.args.disks.now (λ e. cc)
+    handles_none g.D.Disk.bytes g.D.Disk.faults g.D.Disk.faults_at_fetch g.D.Disk.home g.D.Disk.image g.D.Disk.sound g.D.Disk.went (c.args.spot.now ∷ []) _ c.args.disks.now (λ e. cc)
 
 pub returns-in-Eio-clause-handled : goal.returns-in-Eio-clause-handled
 returns-in-Eio-clause-handled g c =
-    handles_none g.D.Disk.bytes g.D.Disk.faults g.D.Disk.faults_at_fetch g.D.Disk.home g.D.Disk.image g.D.Disk.sound (c.args.spot.now ∷ []) _ c.args.disks.now (λ e. cc)
+    handles_none g.D.Disk.bytes g.D.Disk.faults g.D.Disk.faults_at_fetch g.D.Disk.home g.D.Disk.image g.D.Disk.sound g.D.Disk.went (c.args.spot.now ∷ []) _ c.args.disks.now (λ e. cc)
 
 pub returns-in-Gone-clause-handled : goal.returns-in-Gone-clause-handled
 returns-in-Gone-clause-handled g c =
-    handles_none g.D.Disk.bytes g.D.Disk.faults g.D.Disk.faults_at_fetch g.D.Disk.home g.D.Disk.image g.D.Disk.sound (c.args.spot.now ∷ []) _ c.args.disks.now (λ e. cc)
+    handles_none g.D.Disk.bytes g.D.Disk.faults g.D.Disk.faults_at_fetch g.D.Disk.home g.D.Disk.image g.D.Disk.sound g.D.Disk.went (c.args.spot.now ∷ []) _ c.args.disks.now (λ e. cc)

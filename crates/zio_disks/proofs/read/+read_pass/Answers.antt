@@ -65,7 +65,7 @@ returns-in_err-others-in-Err-clause-handled g t c =
 
 pub returns-in-empty-clause-handled : goal.returns-in-empty-clause-handled
 returns-in-empty-clause-handled g t c =
-    handles_none g.D.Disk.bytes g.D.Disk.faults g.D.Disk.faults_at_fetch g.D.Disk.home g.D.Disk.image g.D.Disk.sound _ _ c.args.disks.now (λ e. cc)
+    handles_none g.D.Disk.bytes g.D.Disk.faults g.D.Disk.faults_at_fetch g.D.Disk.home g.D.Disk.image g.D.Disk.sound g.D.Disk.went _ _ c.args.disks.now (λ e. cc)
 
 pub returns-in_ok-others-in-Err-clause-among : goal.returns-in_ok-others-in-Err-clause-among
 returns-in_ok-others-in-Err-clause-among g t c =

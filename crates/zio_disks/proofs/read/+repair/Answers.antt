@@ -11,7 +11,7 @@ use Rattle.zio_disks.proofs.read.+repair.Goals as goal
 
 pub returns-in_default-clause-handled : goal.returns-in_default-clause-handled
 returns-in_default-clause-handled g t c =
-    handles_none g.D.Disk.bytes g.D.Disk.faults g.D.Disk.faults_at_fetch g.D.Disk.home g.D.Disk.image g.D.Disk.sound _ _ c.args.disks.now (λ e. cc)
+    handles_none g.D.Disk.bytes g.D.Disk.faults g.D.Disk.faults_at_fetch g.D.Disk.home g.D.Disk.image g.D.Disk.sound g.D.Disk.went _ _ c.args.disks.now (λ e. cc)
 
 pub returns-in_err-write_leaves-clause-handled : goal.returns-in_err-write_leaves-clause-handled
 returns-in_err-write_leaves-clause-handled g t c =

@@ -18,7 +18,7 @@ returns-in_err-order-clause-handled g c =
     let is = p.1 in
     let same = p.2 in
     let memory = c.in_err-order.ensures.err in
-    handles_none g.D.Disk.bytes g.D.Disk.faults g.D.Disk.faults_at_fetch g.D.Disk.home g.D.Disk.image g.D.Disk.sound _ _ c.args.disks.now (λ e. cc)
+    handles_none g.D.Disk.bytes g.D.Disk.faults g.D.Disk.faults_at_fetch g.D.Disk.home g.D.Disk.image g.D.Disk.sound g.D.Disk.went _ _ c.args.disks.now (λ e. cc)
 
 pub first_good-requires-clause-lies : goal.first_good-requires-clause-lies
 first_good-requires-clause-lies g c =

@@ -17,18 +17,18 @@ use Rattle.zio_disks.proofs.TreeLemmas.{BelowHead, on_if, walk_below, walk_body,
 use Rattle.zio_disks.proofs.trees.+walk.Goals as goal
 
 pub walk_members-returns-in_default-clause-handled : goal.walk_members-returns-in_default-clause-handled
-walk_members-returns-in_default-clause-handled g t c = handles_none g.D.Disk.bytes g.D.Disk.faults g.D.Disk.faults_at_fetch g.D.Disk.home g.D.Disk.image g.D.Disk.sound _ _ c.args.disks.now (λ e. cc)
+walk_members-returns-in_default-clause-handled g t c = handles_none g.D.Disk.bytes g.D.Disk.faults g.D.Disk.faults_at_fetch g.D.Disk.home g.D.Disk.image g.D.Disk.sound g.D.Disk.went _ _ c.args.disks.now (λ e. cc)
 
 pub walk_members-returns-clause-handled : goal.walk_members-returns-clause-handled
 walk_members-returns-clause-handled g t c = handles_then c.in_ok-walk_pointer.ensures.handled c.walk_members.ensures.handled
 
 pub walk_pointer-returns-then-not-bp-clause-handled : goal.walk_pointer-returns-then-not-bp-clause-handled
 walk_pointer-returns-then-not-bp-clause-handled g t c =
-    handles_none g.D.Disk.bytes g.D.Disk.faults g.D.Disk.faults_at_fetch g.D.Disk.home g.D.Disk.image g.D.Disk.sound _ c.note_body.result c.args.disks.now (not_device c.note_body.result c.note_body.ensures.err)
+    handles_none g.D.Disk.bytes g.D.Disk.faults g.D.Disk.faults_at_fetch g.D.Disk.home g.D.Disk.image g.D.Disk.sound g.D.Disk.went _ c.note_body.result c.args.disks.now (not_device c.note_body.result c.note_body.ensures.err)
 
 pub walk_pointer-returns-then-levels-eq0-clause-handled : goal.walk_pointer-returns-then-levels-eq0-clause-handled
 walk_pointer-returns-then-levels-eq0-clause-handled g t c =
-    handles_none g.D.Disk.bytes g.D.Disk.faults g.D.Disk.faults_at_fetch g.D.Disk.home g.D.Disk.image g.D.Disk.sound _ c.note_error.result c.args.disks.now (not_device c.note_error.result c.note_error.ensures.err)
+    handles_none g.D.Disk.bytes g.D.Disk.faults g.D.Disk.faults_at_fetch g.D.Disk.home g.D.Disk.image g.D.Disk.sound g.D.Disk.went _ c.note_error.result c.args.disks.now (not_device c.note_error.result c.note_error.ensures.err)
 
 pub walk_pointer-returns-in-Ok-clause-handled : goal.walk_pointer-returns-in-Ok-clause-handled
 walk_pointer-returns-in-Ok-clause-handled g t c = handles_then c.in_ok-members.ensures.handled c.walk_members.ensures.handled

@@ -11,7 +11,7 @@ use Rattle.zio_disks.proofs.write.write_leaves.Goals as goal
 
 pub returns-then-is_empty-clause-handled : goal.returns-then-is_empty-clause-handled
 returns-then-is_empty-clause-handled g c =
-    handles_none g.D.Disk.bytes g.D.Disk.faults g.D.Disk.faults_at_fetch g.D.Disk.home g.D.Disk.image g.D.Disk.sound _ _ c.args.disks.now (λ e. cc)
+    handles_none g.D.Disk.bytes g.D.Disk.faults g.D.Disk.faults_at_fetch g.D.Disk.home g.D.Disk.image g.D.Disk.sound g.D.Disk.went _ _ c.args.disks.now (λ e. cc)
 
 pub padded_to-requires : goal.padded_to-requires
 padded_to-requires g c =
@@ -24,7 +24,7 @@ returns-in_err-whole-clause-handled g c =
     let is = p.1 in
     let same = p.2 in
     let memory = c.in_err-whole.ensures.err in
-    handles_none g.D.Disk.bytes g.D.Disk.faults g.D.Disk.faults_at_fetch g.D.Disk.home g.D.Disk.image g.D.Disk.sound _ _ c.args.disks.now (λ e. cc)
+    handles_none g.D.Disk.bytes g.D.Disk.faults g.D.Disk.faults_at_fetch g.D.Disk.home g.D.Disk.image g.D.Disk.sound g.D.Disk.went _ _ c.args.disks.now (λ e. cc)
 
 pub write_each-requires-2-clause-lies : goal.write_each-requires-2-clause-lies
 write_each-requires-2-clause-lies g c =

@@ -19,7 +19,7 @@ loop-member-init g c = (
   λ images told. (c.new-answers.ensures, told),
   λ images. ap (map head_of) c.new-answers.ensures,
   subst (AreWhole []) (sym c.new-answers.ensures) tt,
-  handles_none g.D.Disk.bytes g.D.Disk.faults g.D.Disk.faults_at_fetch g.D.Disk.home g.D.Disk.image g.D.Disk.sound (written_spots c.args.leaf c.args.members.now) (Ok tt) c.args.disks.now no_device,
+  handles_none g.D.Disk.bytes g.D.Disk.faults g.D.Disk.faults_at_fetch g.D.Disk.home g.D.Disk.image g.D.Disk.sound g.D.Disk.went (written_spots c.args.leaf c.args.members.now) (Ok tt) c.args.disks.now no_device,
 )
 
 pub issue_one-requires-clause-lies : goal.issue_one-requires-clause-lies

@@ -11,4 +11,4 @@ invariant-loop-member g l =
     × Tell g.D.Disk.image l.disks (all_issued l.setting l.leaf (take l.member-index l.members) images).images)
     × ((images : Images) → map head_of l.answers ≡ map head_of ((all_issued l.setting l.leaf (take l.member-index l.members) images).answers))
     × AreWhole (take l.member-index l.members) l.answers
-    × Handles {A = Unit {0}} g.D.Disk.bytes g.D.Disk.faults g.D.Disk.faults_at_fetch g.D.Disk.home g.D.Disk.image g.D.Disk.sound (written_spots l.leaf l.members) (Ok tt) l.fn.disks l.disks
+    × Handles {A = Unit {0}} g.D.Disk.bytes g.D.Disk.faults g.D.Disk.faults_at_fetch g.D.Disk.home g.D.Disk.image g.D.Disk.sound g.D.Disk.went (written_spots l.leaf l.members) (Ok tt) l.fn.disks l.disks

@@ -15,7 +15,7 @@ returns-then-op-eq0-clause-head g c images =
 
 pub returns-then-op-eq0-clause-handled : goal.returns-then-op-eq0-clause-handled
 returns-then-op-eq0-clause-handled g c =
-    handles_none g.D.Disk.bytes g.D.Disk.faults g.D.Disk.faults_at_fetch g.D.Disk.home g.D.Disk.image g.D.Disk.sound [] _ c.args.disks.now (λ e. cc)
+    handles_none g.D.Disk.bytes g.D.Disk.faults g.D.Disk.faults_at_fetch g.D.Disk.home g.D.Disk.image g.D.Disk.sound g.D.Disk.went [] _ c.args.disks.now (λ e. cc)
 
 pub returns-in_err-buffer-clause-handled : goal.returns-in_err-buffer-clause-handled
 returns-in_err-buffer-clause-handled g c =
@@ -23,4 +23,4 @@ returns-in_err-buffer-clause-handled g c =
     let is = p.1 in
     let same = p.2 in
     let memory = c.in_err-buffer.ensures.err in
-    handles_none g.D.Disk.bytes g.D.Disk.faults g.D.Disk.faults_at_fetch g.D.Disk.home g.D.Disk.image g.D.Disk.sound [] _ c.args.disks.now (λ e. cc)
+    handles_none g.D.Disk.bytes g.D.Disk.faults g.D.Disk.faults_at_fetch g.D.Disk.home g.D.Disk.image g.D.Disk.sound g.D.Disk.went [] _ c.args.disks.now (λ e. cc)

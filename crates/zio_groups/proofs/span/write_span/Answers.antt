@@ -12,7 +12,7 @@ returns-in_err-whole-clause-handled g c =
     let is = p.1 in
     let same = p.2 in
     let memory = c.in_err-whole.ensures.err in
-    handles_none g.D.Disk.bytes g.D.Disk.faults g.D.Disk.faults_at_fetch g.D.Disk.home g.D.Disk.image g.D.Disk.sound (span_spot c.args.leaf c.args.group.now ∷ []) _ c.args.disks.now (λ e. cc)
+    handles_none g.D.Disk.bytes g.D.Disk.faults g.D.Disk.faults_at_fetch g.D.Disk.home g.D.Disk.image g.D.Disk.sound g.D.Disk.went (span_spot c.args.leaf c.args.group.now ∷ []) _ c.args.disks.now (λ e. cc)
 
 pub store-requires-clause-whole : goal.store-requires-clause-whole
 store-requires-clause-whole g c =

@@ -24,7 +24,7 @@ next_group-requires g c =
 
 pub returns-in_err-group-clause-handled : goal.returns-in_err-group-clause-handled
 returns-in_err-group-clause-handled g c =
-    handles_none g.D.Disk.bytes g.D.Disk.faults g.D.Disk.faults_at_fetch g.D.Disk.home g.D.Disk.image g.D.Disk.sound (written_spots c.args.leaf c.args.self.now.waiting) c.from_residual.result c.args.disks.now
+    handles_none g.D.Disk.bytes g.D.Disk.faults g.D.Disk.faults_at_fetch g.D.Disk.home g.D.Disk.image g.D.Disk.sound g.D.Disk.went (written_spots c.args.leaf c.args.self.now.waiting) c.from_residual.result c.args.disks.now
     (not_device c.from_residual.result (memory_on c.from_residual.result _ c.from_residual.ensures.1 c.in_err-group.ensures.err))
 
 pub take_kept-requires : goal.take_kept-requires
@@ -43,7 +43,7 @@ invariant_of-self-in_err-members g c =
 
 pub returns-in_err-members-clause-handled : goal.returns-in_err-members-clause-handled
 returns-in_err-members-clause-handled g c =
-    handles_none g.D.Disk.bytes g.D.Disk.faults g.D.Disk.faults_at_fetch g.D.Disk.home g.D.Disk.image g.D.Disk.sound (written_spots c.args.leaf c.args.self.now.waiting) c.from_residual-in_err-members.result c.args.disks.now
+    handles_none g.D.Disk.bytes g.D.Disk.faults g.D.Disk.faults_at_fetch g.D.Disk.home g.D.Disk.image g.D.Disk.sound g.D.Disk.went (written_spots c.args.leaf c.args.self.now.waiting) c.from_residual-in_err-members.result c.args.disks.now
     (not_device c.from_residual-in_err-members.result (memory_on c.from_residual-in_err-members.result _ c.from_residual-in_err-members.ensures.1 c.in_err-members.ensures.err))
 
 pub issue_group-requires-clause-fit : goal.issue_group-requires-clause-fit

@@ -26,7 +26,7 @@ returns-in-Ok-Ok-clause-done g c =
     (claim_does c.args.waiting.now attempt pointers old c.claim_block.new.disks (g.C.Chooser.sizes now) (g.C.Chooser.used now) (g.C.Chooser.live now) (g.C.Chooser.given now) c.in-Ok-Ok.tree
     c.requires.kind.0 c.args.pointer.now c.requires.kind.1 can
     (λ images tell. (let h = c.in-Ok-Ok.ensures.told images tell in (sym c.in-Ok-Ok.field-0-is ∙ h.0, h.1)))
-    (subst (λ (f : Result Tree Errno). Handles {A = Result Tree Errno} g.D.Disk.bytes g.D.Disk.faults g.D.Disk.faults_at_fetch g.D.Disk.home g.D.Disk.image g.D.Disk.sound [] (Ok f) disks c.claim_block.new.disks)
+    (subst (λ (f : Result Tree Errno). Handles {A = Result Tree Errno} g.D.Disk.bytes g.D.Disk.faults g.D.Disk.faults_at_fetch g.D.Disk.home g.D.Disk.image g.D.Disk.sound g.D.Disk.went [] (Ok f) disks c.claim_block.new.disks)
     c.in-Ok-Ok.field-0-is c.in-Ok-Ok.ensures.handled)
     (subst (λ (f : Result Tree Errno). IfOk f (λ (tree : Tree). AreTaken (tree_places tree) old.used old.live (g.C.Chooser.used now) (g.C.Chooser.live now))) c.in-Ok-Ok.field-0-is c.in-Ok-Ok.ensures.claimed)
     c.in-Ok-Ok.ensures.held
@@ -60,7 +60,7 @@ returns-in-Ok-Err-clause-done g c = λ attempt pointers.
     (refused_does c.args.waiting.now attempt pointers old c.claim_block.new.disks (g.C.Chooser.sizes now) (g.C.Chooser.used now) (g.C.Chooser.live now) (g.C.Chooser.given now) c.in-Ok-Err.error
     c.requires.kind.0 c.args.pointer.now c.requires.kind.1 can
     (λ images tell. (let h = c.in-Ok-Err.ensures.told images tell in (sym c.in-Ok-Err.field-0-is ∙ h.0, h.1)))
-    (subst (λ (f : Result Tree Errno). Handles {A = Result Tree Errno} g.D.Disk.bytes g.D.Disk.faults g.D.Disk.faults_at_fetch g.D.Disk.home g.D.Disk.image g.D.Disk.sound [] (Ok f) disks c.claim_block.new.disks)
+    (subst (λ (f : Result Tree Errno). Handles {A = Result Tree Errno} g.D.Disk.bytes g.D.Disk.faults g.D.Disk.faults_at_fetch g.D.Disk.home g.D.Disk.image g.D.Disk.sound g.D.Disk.went [] (Ok f) disks c.claim_block.new.disks)
     c.in-Ok-Err.field-0-is c.in-Ok-Err.ensures.handled)
     c.in-Ok-Err.ensures.sizes stays.used stays.live c.in-Ok-Err.ensures.given)))
 

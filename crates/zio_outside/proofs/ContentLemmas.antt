@@ -1,5 +1,5 @@
 -- A failed call in memory, which leaves what is told, leaves what the contract of a failed call allows.
-use Rattle.std.proofs.Common.{◌≡◌, ℕ, ◌+◌, ◌≤◌, List, length, take, drop, Result, Ok, Err, OnErr, arith, length-drop}
+use Rattle.std.proofs.Common.{◌≡◌, ℕ, ◌+◌, ◌≤◌, List, length, take, drop, Result, Ok, Err, OnErr, arith, length-drop, subst, sym}
 use Rattle.std.proofs.lemmas.Grind.{common_steps}
 use Rattle.std.proofs.lemmas.List.{length-take-le, take-append-drop}
 use Rattle.std.proofs.Math.Seq.{take-add}
@@ -30,3 +30,9 @@ TearsAt-kept image at piece fits was is =
       length-take-le (length piece) (drop at image) there,
       rw is (overwritten-same image at (length piece) fits),
     )
+
+-- the same of an image that is the one before
+pub TearsAt-same : (old new : List ℕ) (at : ℕ) (piece : List ℕ) → new ≡ old → at + length piece ≤ length old
+    → TearsAt (told old) (told new) at piece
+TearsAt-same old new at piece same fits =
+    subst (λ (image : List ℕ). TearsAt (told old) (told image) at piece) (sym same) (TearsAt-kept old at piece fits)

@@ -1,3 +1,4 @@
 pub mod ContentLemmas
 pub mod ShelfLemmas
 pub mod SlotLemmas
+pub mod SyncLemmas

@@ -2,5 +2,8 @@ pub mod Crash
 pub mod Gates
 pub mod Memory
 pub mod MemoryShelf
+pub mod MemorySync
+pub mod MemorySyncLaws
 pub mod Outside
+pub mod Replay
 pub use Rattle.zio_types.specs.Bytes

@@ -111,3 +111,10 @@ pub record HandedOut (was out : MemDisk) (name : List ℕ) : Type 0 where
   pub calls : disk_calls out ≡ disk_calls was
   pub reads : disk_reads out ≡ disk_reads was
   pub writes : disk_writes out ≡ disk_writes was
+
+-- a call changed nothing but what is counted
+pub record IsSameButCalls (old new : MemDisk) : Type 0 where
+  pub image : disk_image new ≡ disk_image old
+  pub home : disk_home new ≡ disk_home old
+  pub at_fetch : disk_faults_at_fetch new ≡ disk_faults_at_fetch old
+  pub fails : disk_fails new ≡ disk_fails old

@@ -20,7 +20,7 @@ pub struct MemDisk {
 }
 
 impl MemDisk {
-    ghost use Rattle.zio_outside.specs.Memory.{disk_image, disk_faults, disk_faults_at_fetch, disk_home, disk_fails, disk_calls, disk_reads, disk_writes, HandedOut};
+    ghost use Rattle.zio_outside.specs.Memory.{disk_image, disk_faults, disk_faults_at_fetch, disk_home, disk_fails, disk_calls, disk_reads, disk_writes, HandedOut, IsSameButCalls};
 
     /// A disk with this image, of its size, without a fault and without a home. Its reads and writes with the numbers in
     /// `fails`, counted together from 0, fail.
@@ -69,6 +69,57 @@ impl MemDisk {
         ensures { IsTrue result ↔ (disk_faults_at_fetch self.now < disk_faults self.now) }
     {
         self.faults_at_fetch < self.calls.faults()
+    }
+
+    /// Counts a call that is neither a read nor a write, and its fault if it is listed.
+    pub(crate) fn begin(&mut self) -> Result<(), Failed>
+        ensures listed { IsErr result ↔ Contains (disk_fails self.old) (disk_calls self.old) }
+        ensures calls { disk_calls self.new ≡ counted (disk_calls self.old) }
+        ensures ok { OnOk result (disk_faults self.new ≡ disk_faults self.old) }
+        ensures failed { OnErr result (disk_faults self.new ≡ counted (disk_faults self.old)) }
+        ensures same { IsSameButCalls self.old self.new }
+        ensures reads { disk_reads self.new ≡ disk_reads self.old }
+        ensures writes { disk_writes self.new ≡ disk_writes self.old }
+    {
+        self.calls.begin()
+    }
+
+    /// Refuses a call of another kind, which counts as a fault alone.
+    pub(crate) fn refuse(&mut self) -> Result<(), Failed>
+        ensures failed { IsErr result }
+        ensures calls { disk_calls self.new ≡ disk_calls self.old }
+        ensures faults { disk_faults self.new ≡ counted (disk_faults self.old) }
+        ensures same { IsSameButCalls self.old self.new }
+        ensures reads { disk_reads self.new ≡ disk_reads self.old }
+        ensures writes { disk_writes self.new ≡ disk_writes self.old }
+    {
+        self.calls.fault()
+    }
+
+    /// Refuses a read.
+    pub(crate) fn refuse_read(&mut self) -> Result<(), Failed>
+        ensures failed { IsErr result }
+        ensures calls { disk_calls self.new ≡ disk_calls self.old }
+        ensures faults { disk_faults self.new ≡ counted (disk_faults self.old) }
+        ensures same { IsSameButCalls self.old self.new }
+        ensures reads { disk_reads self.new ≡ counted (disk_reads self.old) }
+        ensures writes { disk_writes self.new ≡ disk_writes self.old }
+    {
+        self.reads = self.reads.saturating_add(1);
+        self.refuse()
+    }
+
+    /// Refuses a write.
+    pub(crate) fn refuse_write(&mut self) -> Result<(), Failed>
+        ensures failed { IsErr result }
+        ensures calls { disk_calls self.new ≡ disk_calls self.old }
+        ensures faults { disk_faults self.new ≡ counted (disk_faults self.old) }
+        ensures same { IsSameButCalls self.old self.new }
+        ensures reads { disk_reads self.new ≡ disk_reads self.old }
+        ensures writes { disk_writes self.new ≡ counted (disk_writes self.old) }
+    {
+        self.writes = self.writes.saturating_add(1);
+        self.refuse()
     }
 
     /// The bytes that it holds.

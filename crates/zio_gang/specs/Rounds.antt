@@ -11,6 +11,7 @@ use Rattle.zio_script.specs.declared.script.Work.{Work}
 use Rattle.zio_script.specs.declared.script.Work.TheVariants.{Null, Read, Write, Free, Claim}
 use Rattle.zio_script.specs.Requests.{name_of, names_it, needs_block, makes_block, changes_pool}
 use Rattle.zio_cksum.specs.Images.{Images}
+use Rattle.zio_gang.specs.declared.bound.Bound.{Bound as NamedBlock}
 use Rattle.zio_gang.specs.declared.tree.Tree.{Tree}
 use Rattle.zio_gang.specs.Attempts.{Terms, Pending, Ended, Settled, settle}
 use Rattle.zio_gang.specs.Trees.{tree_places}
@@ -18,9 +19,8 @@ use Rattle.zio_gang.specs.Trees.{tree_places}
 -- ---- bound names
 
 -- a block that has a name
-pub record Binding : Type 0 where
-  pub name : List ℕ
-  pub tree : Tree
+abbrev pub Binding : Type 0
+Binding = NamedBlock
 
 -- the bound names
 abbrev pub Bound : Type 0

@@ -7,6 +7,7 @@
 //! run of a script (`specs/Runs`); `specs/Journals` says which journals and completions are lawful.
 #![tactic(auto)]
 
+mod bound;
 mod ending;
 mod faults;
 mod header;
@@ -15,6 +16,7 @@ mod members;
 mod sizes;
 mod tree;
 
+pub use bound::Bound;
 pub use ending::Ending;
 pub use faults::header_decode;
 pub use header::{Header, HeaderFault, Split, header_encode};

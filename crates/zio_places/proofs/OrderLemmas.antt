@@ -6,7 +6,7 @@ use Rattle.std.proofs.lemmas.Bool.{cases_Bool, or_cases, or_parts, and_parts, an
 use Rattle.std.proofs.lemmas.List.Elements.{Contains-append_cases}
 use Rattle.zio_types.specs.declared.place.Place.{Place}
 use Rattle.zio_places.specs.Ordered.{comes_before, is_same_place, placed_in, all_placed_in, without}
-use Rattle.zio_places.specs.Tables.{TopState, places_from, live_from, live_of, total, AreAllocated, IsEntered}
+use Rattle.zio_places.specs.Tables.{TopState, places_from, live_from, live_of, total, AreAllocated}
 use Rattle.zio_places.proofs.PlaceLemmas.{contains-same, Contains-nothing, Contains-head, Contains-tail, Contains-cases, is_same_place-true, is_same_place-refl}
 use Rattle.zio_places.proofs.TableLemmas.{places_from-contains, live_from-contains}
 
@@ -213,8 +213,8 @@ live-allocated old new places h =
     (never_falls-all_placed places (live_of old) (never_falls-of_rises (live_of old) (rises-live_from 0 old)))
     (λ f. h.live f ∙ sym (total-all_placed f places (live_of old)))
 
-pub live-removed : (old new : List TopState) (p : Place) → IsEntered new old p → Contains (live_of old) p → live_of new ≡ without p (live_of old)
+pub live-removed : (old new : List TopState) (p : Place) → ((f : Place → ℕ) → total f (live_of old) ≡ f p + total f (live_of new)) → Contains (live_of old) p → live_of new ≡ without p (live_of old)
 live-removed old new p h there =
     same_lists (live_of new) (without p (live_of old)) (rises-live_from 0 new)
     (never_falls-without p (live_of old) (never_falls-of_rises (live_of old) (rises-live_from 0 old)))
-    (λ f. omega (arith, h.live f, total-without f p (live_of old) there))
+    (λ f. omega (arith, h f, total-without f p (live_of old) there))

@@ -10,7 +10,7 @@ use Rattle.zio_types.specs.declared.place.Place.{Place}
 use Rattle.zio_types.specs.declared.place.TopSize.{TopSize}
 use Rattle.zio_types.specs.Places.{end_of, meets, is_below, is_inside, is_aligned, is_free, are_apart}
 use Rattle.zio_places.specs.Ordered.{is_same_place, all_placed_in, without}
-use Rattle.zio_places.specs.Spaces.{SpaceState, used, is_on_top, are_on_tops, IsSound}
+use Rattle.zio_places.specs.Spaces.{SpaceState, used, is_on_top, IsSound}
 use Rattle.zio_types.specs.Places.{SamePlaces}
 use Rattle.zio_places.specs.Tables.{covers, one_if, total, cover_count}
 use Rattle.zio_places.proofs.PlaceLemmas.{total-append, covers-from, covers-parts, counts-from_is_free, total-contains, Contains-nothing, Contains-cases, contains-same, contains-place_count, place_count-contains, is_same_place-true}
@@ -43,7 +43,7 @@ below-filled p [] top h = absurd (false≢true h)
 below-filled p (t ∷ sizes) zero h = ltb-true 0 p.sectors (and_parts (nat_lt 0 p.sectors) (nat_le (end_of p) t.sectors) h).0
 below-filled p (t ∷ sizes) (suc top) h = below-filled p sizes top h
 
-list_all-contains : (test : Place → Bool) (xs : List Place) (p : Place) → list_all test xs ≡ true → Contains xs p → test p ≡ true
+pub list_all-contains : (test : Place → Bool) (xs : List Place) (p : Place) → list_all test xs ≡ true → Contains xs p → test p ≡ true
 list_all-contains test [] p h there = absurd (Contains-nothing p there)
 list_all-contains test (x ∷ xs) p h there =
     let parts = and_parts (test x) (list_all test xs) h in

@@ -1,6 +1,6 @@
 -- What is counted stays so over the calls of a space, and what callers learn from it.
 use Rattle.std.proofs.Common.{◌≡◌, ℕ, zero, suc, ◌+◌, ◌-◌, ◌*◌, ◌^◌, ◌<◌, ◌≤◌, List, [], ◌∷◌, ◌++◌, length, map, get_or, replicate, refl, sym, ap, subst, ◌∙◌, arith}
-use Rattle.std.specs.Prelude.{Bool, true, false, not, All, Contains}
+use Rattle.std.specs.Prelude.{Bool, true, false, not, ◌&&◌, All, Contains}
 use Rattle.std.proofs.Common.{inl, inr}
 use Rattle.std.specs.List.{list_all}
 use Rattle.std.proofs.lemmas.Bool.{and_from}
@@ -14,6 +14,7 @@ use Rattle.zio_places.specs.Spaces.{is_on_top, are_on_tops, IsSound}
 use Rattle.zio_places.specs.Consistent.{IsConsistent}
 use Rattle.zio_places.specs.Tables.{TopState, top_at, size_of, sizes_of, AreAligned, places_from, live_from, live_of, covers, one_if, total, cover_count, taken_in, taken_at, AreBitmapsOf, HaveEqualLengths, AreConsistent, AreMarkedUsed, IsEntered, AreAllocated}
 use Rattle.zio_places.proofs.PlaceLemmas.{total-append, one_if-le, is_free-from_counts, total-contains, Contains-head, Contains-tail, Contains-nothing, Contains-cases, contains-same, contains-included}
+use Rattle.zio_places.proofs.SetLemmas.{list_all-contains}
 use Rattle.zio_places.proofs.UnitLemmas.{AreAligned-append}
 use Rattle.zio_places.proofs.TableLemmas.{live-length}
 use Rattle.zio_places.proofs.AllocateLemmas.{taken-flags, live_of-same}
@@ -124,6 +125,38 @@ counted-given_back old new p pending live spare pending_room entries entries_roo
       pending_fit = omega (arith, c.pending_fit, e, c.live_count, fewer, length_push pending p);
       entries_fit = c.entries_fit;
     }
+
+-- ---- one place is free again
+pub counted-released : (old new : List TopState) (p : Place) (pending : List Place) (live spare pending_room entries entries_room live' : ℕ) → AreAllocated new old (p ∷ []) →
+    IsConsistent old pending live spare pending_room entries entries_room → live' ≡ live - 1 → IsConsistent new pending live' spare pending_room entries entries_room
+counted-released old new p pending live spare pending_room entries entries_room live' h c e =
+    let fewer : length (live_of old) ≡ 1 + length (live_of new) = omega (arith, h.live (λ q. 1), total-ones (live_of old), total-ones (live_of new)) in
+    record {
+      few = omega (arith, c.few, same_tops old new (sym h.sizes));
+      even = h.even_back c.even;
+      count = λ top sector.
+          omega (arith, c.count top sector, h.taken top sector, h.live (λ q. one_if (covers q top sector)), total-append (λ q. one_if (covers q top sector)) (live_of old) pending, total-append (λ q. one_if (covers q top sector)) (live_of new) pending);
+      aligned =
+          subst (λ sizes. AreAligned sizes (live_of new ++ pending)) h.sizes
+          (AreAligned-append (sizes_of old) (live_of new) pending
+          (λ q also. c.aligned q (Contains-append_left (live_of old) pending q (contains-included (live_of new) (live_of old) (λ f. omega (arith, h.live f)) q also)))
+          (λ q also. c.aligned q (Contains-append_right (live_of old) pending q also)));
+      filled = c.filled;
+      live_count = omega (arith, e, c.live_count, fewer);
+      pending_fit = omega (arith, c.pending_fit, e);
+      entries_fit = c.entries_fit;
+    }
+
+-- it was one that no other place in use has a sector of
+pub released-open : (old new : List TopState) (p : Place) (pending : List Place) (live spare pending_room entries entries_room : ℕ) → AreAllocated new old (p ∷ []) → Contains (live_of old) p →
+    IsConsistent old pending live spare pending_room entries entries_room → (is_on_top (sizes_of new) p && is_free (live_of new ++ pending) p) ≡ true
+released-open old new p pending live spare pending_room entries entries_room h there c =
+    let on : is_on_top (sizes_of old) p ≡ true = list_all-contains (is_on_top (sizes_of old)) (live_of old ++ pending) p (inside-counted old pending c.count c.even c.filled c.aligned) (Contains-append_left (live_of old) pending p there) in
+    and_from (is_on_top (sizes_of new) p) (is_free (live_of new ++ pending) p)
+    (ap (λ sizes. is_on_top sizes p) (sym h.sizes) ∙ on)
+    (is_free-from_counts (live_of new ++ pending) p (λ sector mine.
+    let one : one_if (covers p p.top sector) ≡ 1 = ap one_if mine in
+    omega (arith, one, c.count p.top sector, taken_at-le old p.top sector, h.live (λ q. one_if (covers q p.top sector)), total-append (λ q. one_if (covers q p.top sector)) (live_of old) pending, total-append (λ q. one_if (covers q p.top sector)) (live_of new) pending)))
 
 -- ---- the round ends
 pub counted-closed : (old new : List TopState) (pending : List Place) (live spare pending_room entries entries_room : ℕ) → AreMarkedUsed new old pending →

@@ -3,7 +3,7 @@ use Rattle.std.specs.Prelude.{◌≡◌, ℕ, List, ◌++◌, Bool, true, ◌&&�
 use Rattle.std.specs.List.{list_all}
 use Rattle.zio_types.specs.declared.place.Place.{Place}
 use Rattle.zio_types.specs.declared.place.TopSize.{TopSize}
-use Rattle.zio_types.specs.Places.{is_inside, is_aligned, are_apart}
+use Rattle.zio_types.specs.Places.{is_inside, is_aligned, is_free, are_apart}
 use Rattle.zio_types.specs.Choices.{Choice}
 
 pub record SpaceState : Type 0 where
@@ -28,6 +28,10 @@ is_on_top sizes p = is_inside sizes p && is_aligned sizes p
 
 abbrev pub are_on_tops : List TopSize → List Place → Bool
 are_on_tops sizes places = list_all (is_on_top sizes) places
+
+-- the place lies on its top, and none of its sectors is used
+abbrev pub is_open : SpaceState → Place → Bool
+is_open st p = is_on_top st.sizes p && is_free (used st) p
 
 -- the live and the pending places lie inside their tops on whole units, and no two of them meet
 pub record IsSound (st : SpaceState) : Type 0 where

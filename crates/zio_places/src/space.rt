@@ -1,13 +1,16 @@
-ghost use Rattle.std.specs.Prelude.{◌≡◌, ◌+◌, ◌%◌, ◌^◌, ◌<◌, ◌≤◌, ◌↔◌, [], ◌∷◌, ◌++◌, length, max, true, false, Contains, IsTrue, IsOk, IfOk, OnOk, OnErr};
+ghost use Rattle.std.specs.Prelude.{◌≡◌, ℕ, ◌+◌, ◌%◌, ◌^◌, ◌<◌, ◌≤◌, ◌↔◌, [], ◌∷◌, ◌++◌, length, max, true, false, Contains, IsTrue, IsOk, IfOk, OnOk, OnErr};
 ghost use Rattle.std.specs.List.{list_all};
 ghost use Rattle.zio_types.specs.Choices.{taken_by};
-ghost use Rattle.zio_types.specs.Places.{IsLawfulChoice, is_lawful_top, are_open};
+ghost use Rattle.zio_types.specs.Places.{HasRun, IsLawfulChoice, is_lawful_top, are_open};
 ghost use Rattle.zio_places.specs.Ordered.{all_placed_in, without};
-ghost use Rattle.zio_places.specs.Spaces.{SpaceState, used, are_on_tops, IsSound};
+ghost use Rattle.zio_places.specs.Spaces.{SpaceState, used, are_on_tops, is_open, IsSound};
 
 use crate::table::Table;
 use crate::take::{take_copies, taken_count};
-use crate::tops::{all_on_tops, allocate_all, clear_all, is_live, release_all, remove};
+use crate::tops::{
+    all_on_tops, allocate_all, clear_all, has_run, has_run_on, is_live, is_on_top, is_open,
+    release, release_all, remove,
+};
 use std::alloc::Global;
 use std::marker::Model;
 use std::mem;
@@ -145,6 +148,40 @@ impl Space {
         ensures sound { IsSound self.now }
     {
         is_live(&self.tops, place)
+    }
+
+    /// The place lies inside its top on whole units, and none of its sectors is one of a live or pending place.
+    pub fn is_open(&self, place: &Place) -> bool
+        ensures { result ≡ is_open self.now place.now }
+    {
+        is_on_top(&self.tops, place) && is_open(&self.tops, place)
+    }
+
+    /// Some top has a free run for a size in bytes: a place there for `size / 512` sectors, rounded up to whole units
+    /// of the top, would be open.
+    pub fn has_run(&self, size: u32) -> bool
+        ensures { IsTrue result ↔ ((top : ℕ) × HasRun self.now.sizes (used self.now) top size) }
+    {
+        has_run(&self.tops, size)
+    }
+
+    /// This top has one. There is none on a top that doesn't exist.
+    pub fn has_run_on(&self, top: u32, size: u32) -> bool
+        ensures { IsTrue result ↔ HasRun self.now.sizes (used self.now) top size }
+    {
+        has_run_on(&self.tops, top, size)
+    }
+
+    /// A live place is free at once, as the places that were found for an entry are where it is refused. Needs no
+    /// memory.
+    pub fn release(&mut self, place: Place)
+        requires { Contains self.old.live place }
+        ensures same { self.new ≡ record self.old { live = without place self.old.live } }
+        ensures open { is_open self.new place ≡ true }
+        ensures sound { IsSound self.new }
+    {
+        release(&mut self.tops, place);
+        self.live -= 1;
     }
 
     /// Pending places are free. Needs no memory.

@@ -1,13 +1,13 @@
 //! The tables of all tops: places are held, released and found here.
 
 ghost use Rattle.std.specs.Prelude.{◌≡◌, ◌+◌, ◌^◌, ◌<◌, ◌≤◌, ◌∷◌, [], ℕ, List, length, true, false, Contains, IsTrue, All, ◌↔◌, MatchOption};
-ghost use Rattle.zio_types.specs.Places.{is_inside, uses_top, are_open};
-ghost use Rattle.zio_places.specs.Flags.{AreAll};
+ghost use Rattle.zio_types.specs.Places.{HasRun, is_inside, uses_top, are_open};
+ghost use Rattle.zio_places.specs.Flags.{AreAll, best_run};
 ghost use Rattle.zio_places.specs.Spaces.{is_on_top, are_on_tops};
-ghost use Rattle.zio_places.specs.Tables.{top_at, sizes_of, live_of, length_at, total, cover_count, taken_at, AreBitmapsOf, HaveEqualLengths, AreConsistent, HasFlags, IsMarkedUsed, AreMarkedUsed, IsEntered, AreAllocated, IsRoom, IsFresh, IsFound, NoneHasRoom, NoFreshHasRoom};
+ghost use Rattle.zio_places.specs.Tables.{top_at, whole_units, sizes_of, live_of, length_at, total, cover_count, taken_at, AreAligned, AreBitmapsOf, HaveEqualLengths, AreConsistent, HasFlags, IsMarkedUsed, AreMarkedUsed, IsEntered, AreAllocated, IsRoom, IsFresh, IsFound, NoneHasRoom, NoFreshHasRoom};
 
 use crate::table::Table;
-use zio_types::Place;
+use zio_types::{Place, SECTOR_SIZE};
 
 /// The place lies below the end of its top, has sectors, and stands on whole units.
 pub fn is_on_top(tops: &[Table], place: &Place) -> bool
@@ -125,6 +125,25 @@ fn is_used(places: &[Place], top: u32) -> bool
     places.iter().any(|place| place.top == top)
 }
 
+/// A place for so many sectors, rounded up to whole units, on this top.
+fn find_on(tops: &[Table], top: u32, sectors: u32) -> Option<Place>
+    requires there { top < length tops.now }
+    requires some { 0 < sectors }
+    requires most { sectors ≤ 2 ^ 23 }
+    ensures { MatchOption result
+        (best_run (top_at tops.now top).free < whole_units tops.now top sectors)
+        (λ p. IsRoom tops.now sectors p × (p.top ≡ top)) }
+{
+    let table = &tops[top as usize];
+    let count = table.whole_units(sectors);
+    let sector = table.first_run(count)?;
+    Some(Place {
+        top,
+        sector,
+        sectors: count,
+    })
+}
+
 /// A place for so many sectors, rounded up to whole units, on the first top with room that none of the earlier places
 /// uses.
 fn find_fresh(tops: &[Table], earlier: &[Place], sectors: u32) -> Option<Place>
@@ -135,18 +154,13 @@ fn find_fresh(tops: &[Table], earlier: &[Place], sectors: u32) -> Option<Place>
         (NoFreshHasRoom tops.now earlier.now sectors)
         (IsFresh tops.now earlier.now sectors) }
 {
-    for (i, table) in tops.iter().enumerate() {
-        let top = i as u32;
+    for top in 0..tops.len() as u32 {
         if is_used(earlier, top) {
             continue;
         }
-        let count = table.whole_units(sectors);
-        if let Some(sector) = table.first_run(count) {
-            return Some(Place {
-                top,
-                sector,
-                sectors: count,
-            });
+        let found = find_on(tops, top, sectors);
+        if found.is_some() {
+            return found;
         }
     }
     None
@@ -159,17 +173,40 @@ fn find_any(tops: &[Table], sectors: u32) -> Option<Place>
     requires most { sectors ≤ 2 ^ 23 }
     ensures { MatchOption result (NoneHasRoom tops.now sectors) (IsRoom tops.now sectors) }
 {
-    for (i, table) in tops.iter().enumerate() {
-        let count = table.whole_units(sectors);
-        if let Some(sector) = table.first_run(count) {
-            return Some(Place {
-                top: i as u32,
-                sector,
-                sectors: count,
-            });
+    for top in 0..tops.len() as u32 {
+        let found = find_on(tops, top, sectors);
+        if found.is_some() {
+            return found;
         }
     }
     None
+}
+
+/// The top exists, and has a free run for a size in bytes.
+pub fn has_run_on(tops: &[Table], top: u32, size: u32) -> bool
+    requires { HaveEqualLengths tops.now }
+    ensures { (used : List Place) → AreBitmapsOf used tops.now → AreAligned (sizes_of tops.now) used →
+        IsTrue result ↔ HasRun (sizes_of tops.now) used top size }
+{
+    let sectors = size / SECTOR_SIZE;
+    if sectors == 0 || top as usize >= tops.len() {
+        return false;
+    }
+    find_on(tops, top, sectors).is_some()
+}
+
+/// Some top has one.
+pub fn has_run(tops: &[Table], size: u32) -> bool
+    requires few { length tops.now < 2 ^ 32 }
+    requires even { HaveEqualLengths tops.now }
+    ensures { (used : List Place) → AreBitmapsOf used tops.now → AreAligned (sizes_of tops.now) used →
+        IsTrue result ↔ ((top : ℕ) × HasRun (sizes_of tops.now) used top size) }
+{
+    let sectors = size / SECTOR_SIZE;
+    if sectors == 0 {
+        return false;
+    }
+    find_any(tops, sectors).is_some()
 }
 
 /// A place for the next copy, on a top that none of the earlier ones uses where such a top has room.

@@ -34,7 +34,7 @@ returns-clause-live c =
     let written : (with_items c.self.inside.tops c.remove.new.tops).items ≡ c.remove.new.tops = with_items_is c.self.inside.tops c.remove.new.tops (omega arith) in
     let removed = subst (λ ts. IsEntered c.remove.new.tops ts c.args.place) c.deref_mut.ensures.value c.remove.ensures in
     let live = subst (λ (st : SpaceState). Contains st.live c.args.place) (sym c.self.view_is) c.requires in
-    ap live_of written ∙ live-removed c.self.inside.tops.items c.remove.new.tops c.args.place removed live
+    ap live_of written ∙ live-removed c.self.inside.tops.items c.remove.new.tops c.args.place removed.live live
     ∙ ap (λ (st : SpaceState). without c.args.place st.live) c.self.view_is
 
 pub returns-clause-pending : goal.returns-clause-pending

@@ -43,7 +43,7 @@ fn turn(
     let Some(child) = owner.add(ChildKind::Vdev, u64::from(label))? else {
         return Ok(None);
     };
-    child.done(Word(7));
+    let _receipt = child.done(Word(7));
     let Ok(woken) = owner.wait(Word(5), ChildKind::Vdev, Phase::Done) else {
         return Ok(None);
     };

@@ -1,6 +1,7 @@
 mod Words
 mod Lists
 mod Views
+pub mod Histories
 mod Stages
 mod Adds
 mod Starts
@@ -12,3 +13,5 @@ mod Lowers
 mod Arrives
 mod Settles
 mod Dues
+mod Receipts
+mod Wakings

@@ -1,4 +1,6 @@
+pub mod History
 pub mod Kids
+pub mod Stalls
 pub mod Dues
 pub mod Latch
 pub mod Plays
@@ -8,3 +10,4 @@ pub mod Calls
 pub mod Added
 pub mod Wakes
 pub mod Takes
+pub mod Receipts

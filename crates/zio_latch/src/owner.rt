@@ -55,13 +55,13 @@ impl<N: Rests + Drop, R: Fits + Drop, V: Fits + Drop> Owner<N, R, V> {
     ghost use Rattle.std.specs.Prelude.{◌∷◌, ◌++◌, false};
     ghost use Rattle.std.specs.Option.{ForSome, is_some};
     ghost use Rattle.zio_latch.specs.Kids.{live_count, new_kid, vdev_not};
-    ghost use Rattle.zio_latch.specs.Calls.{capacity, kids, latch_of};
+    ghost use Rattle.zio_latch.specs.Calls.{capacity, history, kids, latch_of};
     ghost use Rattle.zio_latch.specs.Added.{IsNextOf};
 
     /// A latch without children, for at most `capacity` that owe a value at once.
     pub fn new(alloc: Global, capacity: u32) -> Result<Owner<N, R, V>, NoMemory>
         requires { (0 < capacity) × (capacity ≤ 512) }
-        ensures { IfOk result (λ o. (kids o ≡ []) × (o.roll.most ≡ capacity)) }
+        ensures { IfOk result (λ o. (kids o ≡ []) × (o.roll.most ≡ capacity) × (history o ≡ [])) }
     {
         let free = all_places(alloc, capacity)?;
         let most = capacity as usize;
@@ -77,8 +77,13 @@ impl<N: Rests + Drop, R: Fits + Drop, V: Fits + Drop> Owner<N, R, V> {
     /// Adds a child under a label, and gives it the next number. `None` where `capacity` children owe a value.
     pub fn add(&mut self, kind: ChildKind, label: u64) -> Result<Option<Child<N, R, V>>, NoMemory>
         requires { length (kids self.old) < 2 ^ 32 - 1 }
-        ensures added { IfOk result (λ a. MatchOption a ((live_count (kids self.old) ≡ capacity self.old) × (kids self.new ≡ kids self.old)) (λ child. (live_count (kids self.old) < capacity self.old) × IsNextOf self.old kind label child self.new)) }
-        ensures refused { IfErr result (λ _. kids self.new ≡ kids self.old) }
+        ensures added { IfOk result (λ a. MatchOption a
+            ((live_count (kids self.old) ≡ capacity self.old)
+            × (kids self.new ≡ kids self.old) × (history self.new ≡ history self.old))
+            (λ child. (live_count (kids self.old) < capacity self.old)
+            × IsNextOf self.old kind label child self.new)) }
+        ensures refused { IfErr result
+            (λ _. (kids self.new ≡ kids self.old) × (history self.new ≡ history self.old)) }
         ensures latch { (capacity self.new ≡ capacity self.old) × (latch_of self.new ≡ latch_of self.old) }
     {
         let Some(place) = self.roll.last() else {

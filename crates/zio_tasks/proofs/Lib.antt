@@ -5,3 +5,4 @@ pub mod Passes
 pub mod Recruits
 pub mod Order
 pub mod Settling
+mod Lone

@@ -1,8 +1,8 @@
 -- Sums over lists, what stands beside a number, and what holds of each item.
-use Rattle.std.proofs.Common.{◌≡◌, ◌≢◌, ℕ, ◌+◌, cond, eqb, true, false, eq-eqb, ne_eqb, List, [], ◌∷◌, ◌++◌, refl, ap, arith, All}
+use Rattle.std.proofs.Common.{◌≡◌, ◌≢◌, ℕ, cond, eqb, true, false, eq-eqb, ne_eqb, List, [], ◌∷◌, ◌++◌, refl, ap, All}
 use Rattle.std.proofs.lemmas.List.Elements.{All-nil, All-cons, All-head, All-tail}
 pub use Rattle.zio_types.proofs.ListLemmas.{total_append, all_map}
-use Rattle.zio_tasks.specs.Hands.{total, of, taken}
+use Rattle.zio_tasks.specs.Hands.{of, taken}
 
 module _ {A : Type 0} where
   joined : (b : _) (a : A) (xs ys zs : List A) → zs ≡ xs ++ ys → cond b (a ∷ zs) zs ≡ cond b (a ∷ xs) xs ++ ys

@@ -9,7 +9,7 @@ use Rattle.crossbeam_queue.proofs.Lists.{at_set, at_snoc, set_again}
 use Rattle.zio_tasks.specs.declared.hand.Hand.{Hand}
 use Rattle.zio_tasks.specs.declared.hand.Pile.{Pile}
 use Rattle.zio_tasks.specs.Hands.{hand, total, taken, is_number, put_weight, take_weight, Fits, Stands, WasHolding}
-use Rattle.zio_tasks.specs.Rule.{WasFull, EmptyWith, newcomers, pile, all_hands, first_of, rest_of, after_put, after_take, with_first, Fair, WasIn, Whole, WholeTake}
+use Rattle.zio_tasks.specs.Rule.{WasFull, EmptyWith, newcomers, pile, all_hands, first_of, rest_of, after_put, after_take, with_first, Fair, OldestTake, WasIn, Whole, WholeTake}
 use Rattle.zio_tasks.proofs.Lists.{total_append, taken_append, all_left, all_right, all_map}
 use Rattle.zio_tasks.proofs.Stays.{put_stands, take_stands}
 
@@ -96,13 +96,30 @@ module _ {T : Type 0} where
       → Pushes Fair n port (pile (h ∷ hs) passes) x (λ w. w ≡ pile (after_put x h ∷ hs) passes)
   puts n port h hs passes x items views _ b at = (pile (after_put x h ∷ hs) passes, puts_at views port n h hs passes x items b at, refl)
 
+  contains_in : (pre more : List (Hand T)) (h : Hand T) → Contains (pre ++ h ∷ more) h
+  contains_in [] more h = (0, omega arith, refl)
+  contains_in (x ∷ xs) more h = let r = contains_in xs more h in (suc r.0, omega arith, r.2)
+
+  -- the first hand of a pile is one of all
+  has_first : (views : List (Pile T)) (port : ℕ) (v : Pile T) (h : Hand T) (hs : List (Hand T)) → get_elem? views port ≡ some v → v.hands ≡ h ∷ hs → Contains (all_hands views) h
+  has_first views port v h hs at is =
+      let r = cut views port v at in
+      subst (λ l. Contains l h) (sym (r.2 ∙ ap (λ l. r.0 ++ (l ++ r.1)) is)) (contains_in r.0 (hs ++ r.1) h)
+
   pub takes : (port : ℕ) (h : Hand T) (hs : List (Hand T)) (passes : ℕ)
-      → Pops Fair port (pile (h ∷ hs) passes) (λ x w. (k : ℕ) × (w ≡ pile (after_take k x h ∷ hs) passes))
+      → Pops Fair port (pile (h ∷ hs) passes) (OldestTake (pile (h ∷ hs) passes))
   takes port h hs passes x items views b at =
-      let t = taken_tail b.rest x items b.held in (
+      let v : Pile T = pile (h ∷ hs) passes in
+      let t = taken_tail b.rest x items b.held in
+      let s : Stands b.passes (all_hands views) b.log ((t.0, x) ∷ t.1) = subst (λ l. Stands b.passes (all_hands views) b.log l) t.2 b.stands in
+      let known : passes ≡ b.passes = b.told port v at (omega arith) in (
         pile (after_take t.0 x h ∷ hs) passes,
-        takes_at views port h hs passes t.0 x items b.log t.1 b.passes t.3 (subst (λ l. Stands b.passes (all_hands views) b.log l) t.2 b.stands) b.told at,
-        (t.0, refl),
+        takes_at views port h hs passes t.0 x items b.log t.1 b.passes t.3 s b.told at,
+        (
+          t.0,
+          refl,
+          λ g gs is. (all_hands views, b.log, t.1, subst (λ n. Stands n (all_hands views) b.log ((t.0, x) ∷ t.1)) (sym known) s, has_first views port v g gs at is),
+        ),
       )
 
   count : List (Hand T) → ℕ
@@ -278,23 +295,18 @@ module _ {T : Type 0} where
         told = told_set (set views port both) other b.passes spent (λ e. absurd (omega arith)) (told_set views port b.passes both (λ _. known) b.told);
       }
 
-  contains_in : (pre more : List (Hand T)) (h : Hand T) → Contains (pre ++ h ∷ more) h
-  contains_in [] more h = (0, omega arith, refl)
-  contains_in (x ∷ xs) more h = let r = contains_in xs more h in (suc r.0, omega arith, r.2)
-
   length_taken : (rest : List (ℕ × T)) → length (taken rest) ≡ length rest
   length_taken [] = refl
   length_taken (r ∷ rs) = let more = length_taken rs in omega arith
 
   pub learns : (port : ℕ) (v : Pile T) → Learns Fair port v (WasIn v)
   learns port v items views b at h hs is =
-      let r = cut views port v at in
       let known : v.passes ≡ b.passes = b.told port v at (subst (λ l. 0 < length l) (sym is) (omega arith)) in (
         all_hands views,
         b.log,
         b.rest,
         subst (λ n. Stands n (all_hands views) b.log b.rest) (sym known) b.stands,
-        subst (λ l. Contains l h) (sym (r.2 ∙ ap (λ l. r.0 ++ (l ++ r.1)) is)) (contains_in r.0 (hs ++ r.1) h),
+        has_first views port v h hs at is,
         sym (length_taken b.rest) ∙ ap length b.held,
       )
 
@@ -342,7 +354,7 @@ module _ {T : Type 0} where
   puts_first [] n port passes x some_hand = absurd (omega arith)
   puts_first (h ∷ hs) n port passes x some_hand = puts n port h hs passes x
 
-  takes_first : (hs : List (Hand T)) (port passes : ℕ) → 0 < length hs → Pops Fair port (pile hs passes) (λ x w. (k : ℕ) × (w ≡ pile (with_first (after_take k x) hs) passes))
+  takes_first : (hs : List (Hand T)) (port passes : ℕ) → 0 < length hs → Pops Fair port (pile hs passes) (OldestTake (pile hs passes))
   takes_first [] port passes some_hand = absurd (omega arith)
   takes_first (h ∷ hs) port passes some_hand = takes port h hs passes
 
@@ -355,7 +367,7 @@ module _ {T : Type 0} where
   put_goes n port v x some_hand = (puts_first v.hands n port v.passes x some_hand, learns port v)
 
   pub take_goes : (port : ℕ) (v : Pile T) → 0 < length v.hands
-      → Pops Fair port v (λ x w. (k : ℕ) × (w ≡ pile (with_first (after_take k x) v.hands) v.passes)) × Learns Fair port v (WasIn v)
+      → Pops Fair port v (OldestTake v) × Learns Fair port v (WasIn v)
   take_goes port v some_hand = (takes_first v.hands port v.passes some_hand, learns port v)
 
   pub whole_goes : (port : ℕ) (v : Pile T) → length v.hands ≡ v.passes → 0 < v.passes

@@ -8,8 +8,8 @@ use Rattle.zio_tasks.specs.declared.hand.Hand.{Hand}
 use Rattle.zio_tasks.specs.declared.hand.Pile.{Pile}
 use Rattle.zio_tasks.specs.declared.tasks.TaskPass.{TaskPass}
 use Rattle.zio_tasks.specs.declared.tasks.Tasks.{Tasks}
-use Rattle.zio_tasks.specs.Hands.{WasHolding}
-use Rattle.zio_tasks.specs.Rule.{pile, with_first, after_put, after_take, WasFull}
+use Rattle.zio_tasks.specs.Hands.{WasHolding, WasOldest}
+use Rattle.zio_tasks.specs.Rule.{pile, with_first, after_put, after_take, OldestTake, WasFull}
 use Rattle.zio_tasks.specs.Team.{no_hand, first_hand, hands_of, hand_at, IsPartOf, IsPassOf}
 
 module _ {T : Type 0} where
@@ -83,6 +83,12 @@ module _ {T : Type 0} where
         let w = was (hand_at i pass) [] (ap (λ (y : Pile T). y.hands) own.0) in
         subst (λ m. WasHolding n m (hand_at i pass)) (ap (λ (y : Pile T). y.passes) own.0) w
 
+    was_oldest : (k : ℕ) (x : T) → ((h : Hand T) (hs : List (Hand T)) → (view p).hands ≡ h ∷ hs → WasOldest k x (view p).passes h) → WasOldest k x tasks.passes (hand_at i pass)
+    was_oldest k x was =
+        let own = own_hand tasks pass i q p is at e f in
+        let w = was (hand_at i pass) [] (ap (λ (y : Pile T). y.hands) own.0) in
+        subst (λ m. WasOldest k x m (hand_at i pass)) (ap (λ (y : Pile T). y.passes) own.0) w
+
     pub put_pass : (r : Result (Unit {0}) T) (x : T) → MatchResult r (λ _. view p' ≡ pile (with_first (after_put x) (view p).hands) (view p).passes) (λ y. (y ≡ x) × (view p' ≡ view p) × WasFull (ruled_capacity q) (view p))
         → IsPassOf tasks (with_part pass i p')
     put_pass (Ok u) x h = (new_view (after_put x) (λ k. refl) h).0
@@ -94,13 +100,13 @@ module _ {T : Type 0} where
     put_task (Ok u) x h = (new_view (after_put x) (λ k. refl) h).1
     put_task (Err y) x h = (h.0, (same_view h.1).1, was_holding tasks.room (subst (λ n. WasFull n (view p)) (own_hand tasks pass i q p is at e f).3 h.2))
 
-    pub take_pass : (r : Option T) → MatchOption r ((view p' ≡ view p) × WasFull 0 (view p)) (λ x. (k : ℕ) × (view p' ≡ pile (with_first (after_take k x) (view p).hands) (view p).passes))
+    pub take_pass : (r : Option T) → MatchOption r ((view p' ≡ view p) × WasFull 0 (view p)) (λ x. OldestTake (view p) x (view p'))
         → IsPassOf tasks (with_part pass i p')
     take_pass None h = (same_view h.0).0
     take_pass (Some x) h = (new_view (after_take h.0 x) (λ k. refl) h.1).0
 
-    pub take_task : (r : Option T) → MatchOption r ((view p' ≡ view p) × WasFull 0 (view p)) (λ x. (k : ℕ) × (view p' ≡ pile (with_first (after_take k x) (view p).hands) (view p).passes))
+    pub take_task : (r : Option T) → MatchOption r ((view p' ≡ view p) × WasFull 0 (view p)) (λ x. OldestTake (view p) x (view p'))
         → MatchOption r ((hands_of (with_part pass i p') ≡ hands_of pass) × WasHolding 0 tasks.passes (hand_at i pass))
-        (λ x. (k : ℕ) × (hands_of (with_part pass i p') ≡ slice_set (hands_of pass) i (after_take k x (hand_at i pass))))
+        (λ x. (k : ℕ) × (hands_of (with_part pass i p') ≡ slice_set (hands_of pass) i (after_take k x (hand_at i pass))) × WasOldest k x tasks.passes (hand_at i pass))
     take_task None h = ((same_view h.0).1, was_holding 0 h.1)
-    take_task (Some x) h = (h.0, (new_view (after_take h.0 x) (λ k. refl) h.1).1)
+    take_task (Some x) h = (h.0, (new_view (after_take h.0 x) (λ k. refl) h.1).1, was_oldest h.0 x h.2)

@@ -47,6 +47,10 @@ module _ {T : Type 0} where
   abbrev pub WasHolding : ℕ → ℕ → Hand T → Type 0
   WasHolding n passes h = (hands : List (Hand T)) × (log : List (ℕ × (ℕ × T))) × (rest : List (ℕ × T)) × Stands passes hands log rest × Contains hands h × (length rest ≡ n)
 
+  -- in such a state, in which the pass had this hand, x was the oldest task that the queue held, and the pass `by` had put it
+  abbrev pub WasOldest : ℕ → T → ℕ → Hand T → Type 0
+  WasOldest by x passes h = (hands : List (Hand T)) × (log : List (ℕ × (ℕ × T))) × (rest : List (ℕ × T)) × Stands passes hands log ((by, x) ∷ rest) × Contains hands h
+
 -- the items that are marked, in their order
 abbrev pub marked : {A : Type 0} → List Bool → List A → List A
 marked [] ys = []

@@ -4,7 +4,7 @@ use mathlib.Core.Option.{some}
 use lib.ListN.{get_elem?}
 use Rattle.zio_tasks.specs.declared.hand.Hand.{Hand}
 use Rattle.zio_tasks.specs.declared.hand.Pile.{Pile}
-use Rattle.zio_tasks.specs.Hands.{hand, taken, Stands, WasHolding}
+use Rattle.zio_tasks.specs.Hands.{hand, taken, Stands, WasHolding, WasOldest}
 
 module _ {T : Type 0} where
   -- these hands, of so many passes
@@ -48,6 +48,11 @@ module _ {T : Type 0} where
   -- what a pass learns at one moment: the queue held these tasks, in a state in which the pass had its first hand
   abbrev pub WasIn : Pile T → List T → Type 0
   WasIn v items = (h : Hand T) (hs : List (Hand T)) → v.hands ≡ h ∷ hs → WasHolding (length items) v.passes h
+
+  -- what a take for the first hand tells: the pass k had put x, which was the oldest task in a state in which the pass had this hand
+  abbrev pub OldestTake : Pile T → T → Pile T → Type 0
+  OldestTake v x w = (k : ℕ) × (w ≡ pile (with_first (after_take k x) v.hands) v.passes)
+      × ((h : Hand T) (hs : List (Hand T)) → v.hands ≡ h ∷ hs → WasOldest k x v.passes h)
 
   -- what a pile of all hands learns: they stand with what the queue holds
   abbrev pub Whole : Pile T → List T → Type 0

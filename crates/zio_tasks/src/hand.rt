@@ -1,7 +1,8 @@
 //! What the passes of one queue know, in proofs alone, and the rule that their calls keep.
 ghost use Rattle.std.specs.Prelude.{◌≡◌, ℕ, ◌+◌, List, [], ◌∷◌, ◌++◌};
 ghost use Rattle.zio_tasks.specs.Hands.{hand};
-ghost use Rattle.zio_tasks.specs.Rule.{pile, first_of, rest_of, with_first, after_put, after_take, WasIn, Whole, WholeTake};
+ghost use Rattle.zio_tasks.specs.Rule.{pile, first_of, rest_of, with_first, after_put};
+ghost use Rattle.zio_tasks.specs.Rule.{OldestTake, WasIn, Whole, WholeTake};
 
 use crossbeam_queue::protocol::{Join, Lesson, Outcome, Protocol, Split};
 use std::collections::LinkedList;
@@ -80,11 +81,11 @@ impl<T> Lesson<T, Pile<T>> for Puts {
     ghost fact = { WasIn };
 }
 
-/// A take for the first hand.
+/// A take of the oldest task for the first hand.
 pub struct Takes;
 
 impl<T> Outcome<T, Pile<T>> for Takes {
-    ghost then = { λ v x w. (k : ℕ) × (w ≡ pile (with_first (after_take k x) v.hands) v.passes) };
+    ghost then = { OldestTake };
 }
 
 impl<T> Lesson<T, Pile<T>> for Takes {

@@ -6,10 +6,12 @@
 #![tactic(auto)]
 
 mod hand;
+mod laws;
 mod part;
 mod queue;
 mod tasks;
 
 pub use hand::{Hand, Pile};
+pub use laws::a_lone_pass_knows_its_queues;
 pub use queue::QueueId;
 pub use tasks::{TaskPass, Tasks};

@@ -2,7 +2,7 @@
 ghost use Rattle.std.specs.Prelude.{◌≡◌, ℕ, ◌+◌, ◌<◌, ◌≤◌, List, [], ◌∷◌, ◌++◌, length, MatchResult, MatchOption, IfOk};
 ghost use Rattle.crossbeam_queue.specs.Passes.{view, IsSamePass, IsPassOf, ruled_capacity};
 ghost use Rattle.zio_tasks.specs.Hands.{hand, WasHolding, Stands};
-ghost use Rattle.zio_tasks.specs.Rule.{pile, after_put, after_take, with_first, WasFull, EmptyWith, WholeTake, newcomers};
+ghost use Rattle.zio_tasks.specs.Rule.{pile, after_put, with_first, WasFull, EmptyWith, OldestTake, WholeTake, newcomers};
 
 use crate::hand::{Deal, Fairly, Gather, Grow, Pile, Puts, Settles, Spare, Takes};
 use crossbeam_queue::{Pass, RuledArrayQueue};
@@ -30,12 +30,14 @@ pub(crate) fn put_in<T, R: Wait>(
     queue.push_as::<Puts, R>(rt, part, task)
 }
 
-// Takes a task for a token of one hand.
+// Takes the oldest task for a token of one hand.
 pub(crate) fn take_from<T, R: Wait>(rt: &R, queue: &Queue<T>, part: &mut Part<T>) -> Option<T>
     requires seat { IsPassOf queue.now part.old }
     requires hand { 0 < length (view part.old).hands }
     ensures seat { IsPassOf queue.now part.new }
-    ensures hand { MatchOption result ((view part.new ≡ view part.old) × WasFull 0 (view part.old)) (λ x. (k : ℕ) × (view part.new ≡ pile (with_first (after_take k x) (view part.old).hands) (view part.old).passes)) }
+    ensures hand { MatchOption result
+        ((view part.new ≡ view part.old) × WasFull 0 (view part.old))
+        (λ x. OldestTake (view part.old) x (view part.new)) }
 {
     queue.pop_as::<Takes, R>(rt, part)
 }

@@ -2,7 +2,7 @@ ghost use Rattle.std.specs.Prelude.{◌≡◌, ℕ, ◌+◌, ◌<◌, ◌≤◌,
 ghost use Rattle.crossbeam_queue.specs.Passes.{view, IsPassOf as IsSeatOf};
 ghost use Rattle.zio_tasks.specs.declared.tasks.TaskPass.{TaskPass};
 ghost use Rattle.zio_tasks.specs.declared.hand.Hand.{Hand};
-ghost use Rattle.zio_tasks.specs.Hands.{WasHolding};
+ghost use Rattle.zio_tasks.specs.Hands.{WasHolding, WasOldest};
 ghost use Rattle.zio_tasks.specs.Queues.{place_of};
 ghost use Rattle.zio_tasks.specs.Rule.{pile, newcomers, rest_of, after_put, after_take};
 ghost use Rattle.zio_tasks.specs.Team.{IsPassOf, IsNew, Joins, AreAll, IsSeatAt, IsSettled, TakesOldest, Lent, Given, hands_of, hand_of, hand_at, hands_at, first_hand, with_hand, number_of};
@@ -98,7 +98,10 @@ impl<T: Drop> Tasks<T> {
     ) -> Result<(), T>
         requires { IsPassOf self.now pass.old }
         ensures pass { IsPassOf self.now pass.new × (pass.new.number ≡ pass.old.number) }
-        ensures task { MatchResult result (λ _. hands_of pass.new ≡ with_hand pass.old at (after_put task (hand_of pass.old at))) (λ x. (x ≡ task) × (hands_of pass.new ≡ hands_of pass.old) × WasHolding self.now.room self.now.passes (hand_of pass.old at)) }
+        ensures task { MatchResult result
+            (λ _. hands_of pass.new ≡ with_hand pass.old at (after_put task (hand_of pass.old at)))
+            (λ x. (x ≡ task) × (hands_of pass.new ≡ hands_of pass.old)
+            × WasHolding self.now.room self.now.passes (hand_of pass.old at)) }
     {
         let place = at.place();
         put_in(rt, &self.queues[place], &mut pass.parts[place], task)
@@ -109,7 +112,10 @@ impl<T: Drop> Tasks<T> {
     pub fn take<R: Wait>(&self, rt: &R, pass: &mut TaskPass<T>, at: QueueId) -> Option<T>
         requires { IsPassOf self.now pass.old }
         ensures pass { IsPassOf self.now pass.new × (pass.new.number ≡ pass.old.number) }
-        ensures task { MatchOption result ((hands_of pass.new ≡ hands_of pass.old) × WasHolding 0 self.now.passes (hand_of pass.old at)) (λ x. (by : ℕ) × (hands_of pass.new ≡ with_hand pass.old at (after_take by x (hand_of pass.old at)))) }
+        ensures task { MatchOption result
+            ((hands_of pass.new ≡ hands_of pass.old) × WasHolding 0 self.now.passes (hand_of pass.old at))
+            (λ x. (by : ℕ) × (hands_of pass.new ≡ with_hand pass.old at (after_take by x (hand_of pass.old at)))
+            × WasOldest by x self.now.passes (hand_of pass.old at)) }
     {
         let place = at.place();
         take_from(rt, &self.queues[place], &mut pass.parts[place])

@@ -1,5 +1,5 @@
 -- What a clause sees of a disk in memory with a volatile cache.
-use Rattle.std.specs.Prelude.{◌≡◌, ℕ, ◌+◌, ◌-◌, min, List, [], ◌++◌, length, Option, Some}
+use Rattle.std.specs.Prelude.{◌≡◌, ℕ, ◌-◌, List, ◌++◌, length, Option}
 use Rattle.zio_outside.specs.Crash.{IsPart}
 use Rattle.zio_outside.specs.Memory.{disk_image, disk_faults, disk_faults_at_fetch, disk_home, disk_fails, disk_calls, disk_reads, disk_writes, HandedOut}
 use Rattle.zio_outside.specs.Replay.{LeftSince, ranges_of, syncs_of}
@@ -71,3 +71,10 @@ sync_moment d = length (sync_log d)
 
 abbrev pub SyncLeftSince : MemSyncDisk → ℕ → List ℕ → Type 0
 SyncLeftSince d = LeftSince (sync_log d) (sync_stable d) (sync_before d)
+
+-- a disk was handed out under a name, and is otherwise as it was
+pub record SyncHandedOut (was out : MemSyncDisk) (name : List ℕ) : Type 0 where
+  pub disk : HandedOut was.disk out.disk name
+  pub stable : sync_stable out ≡ sync_stable was
+  pub ranges : sync_ranges out ≡ sync_ranges was
+  pub left : sync_left out ≡ sync_left was

@@ -5,7 +5,7 @@ use Rattle.std.proofs.lemmas.List.{append-nil, ext_get_or, take-append-drop, tak
 use Rattle.std.proofs.Math.Seq.{take-append-add, drop-append-add}
 use Rattle.zio_outside.specs.Crash.{AfterWrites, IsCrash, IsPart}
 use Rattle.zio_outside.specs.Memory.{told}
-use Rattle.zio_outside.specs.MemorySync.{SyncKeeps, SyncLeftSince, SyncWent, sync_before, sync_image, sync_log, sync_moment, sync_ranges, sync_stable}
+use Rattle.zio_outside.specs.MemorySync.{SyncKeeps, SyncLeftSince, SyncWent, sync_before, sync_image, sync_log, sync_moment, sync_stable}
 use Rattle.zio_outside.specs.Replay.{LeftSince, WasStable, ranges_after, ranges_of, replayed, syncs_of}
 use Rattle.zio_outside.specs.declared.mem_sync_disk.MemSyncDisk.{MemSyncDisk}
 use Rattle.zio_outside.specs.declared.mem_sync_disk.Recorded.{Recorded}

@@ -1,10 +1,11 @@
 ghost use Rattle.std.specs.Prelude.{◌≡◌, ◌<◌, ◌≤◌, ◌+◌, ◌↔◌, List, [], length, Option, None, Some, IsErr, IsOk, IsTrue, OnErr, OnOk};
-ghost use Rattle.std.proofs.Common.{◌∙◌, ap, sym};
+ghost use Rattle.std.proofs.Common.{◌∙◌, ap, arith, sym};
 ghost use Rattle.std.specs.List.{Contains};
 ghost use Rattle.std.specs.Option.{option_copied};
 ghost use Rattle.zio_outside.specs.Outside.{CountsFault, ReadsAt, TearsAt, WritesAt, counted};
 
 use crate::calls::Calls;
+use crate::shelf_disk::ShelfDisk;
 use crate::{Disk, Failed};
 use zio_types::{Bytes, List, Text};
 
@@ -20,7 +21,7 @@ pub struct MemDisk {
 }
 
 impl MemDisk {
-    ghost use Rattle.zio_outside.specs.Memory.{disk_image, disk_faults, disk_faults_at_fetch, disk_home, disk_fails, disk_calls, disk_reads, disk_writes, HandedOut, IsSameButCalls};
+    ghost use Rattle.zio_outside.specs.Memory.{disk_image, disk_faults, disk_faults_at_fetch, disk_home, disk_fails, disk_calls, disk_reads, disk_writes, IsSameButCalls};
 
     /// A disk with this image, of its size, without a fault and without a home. Its reads and writes with the numbers in
     /// `fails`, counted together from 0, fail.
@@ -42,33 +43,6 @@ impl MemDisk {
             faults_at_fetch: 0,
             home: None,
         }
-    }
-
-    /// Goes out under this name. A count of faults at its last value goes out as the one before it, so that the next
-    /// fault shows.
-    pub(crate) fn go_out(&mut self, name: Text)
-        ensures { HandedOut self.old self.new name }
-    {
-        self.calls.keep_room();
-        self.faults_at_fetch = self.calls.faults();
-        self.home = Some(name);
-    }
-
-    /// The name under which it was handed out, if it was.
-    pub(crate) fn home(&self) -> Option<&str>
-        ensures { option_copied result ≡ disk_home self.now }
-    {
-        match &self.home {
-            Some(name) => Some(name.as_str()),
-            None => None,
-        }
-    }
-
-    /// It has failed since it was handed out.
-    pub(crate) fn has_failed(&self) -> bool
-        ensures { IsTrue result ↔ (disk_faults_at_fetch self.now < disk_faults self.now) }
-    {
-        self.faults_at_fetch < self.calls.faults()
     }
 
     /// Counts a call that is neither a read nor a write, and its fault if it is listed.
@@ -253,4 +227,37 @@ impl Disk for MemDisk {
     ghost kept_image = { λ d content stable ranges told kept. absurd kept };
 
     ghost counts_now = { λ d t stable content ranges now kept crash. absurd kept };
+}
+
+impl ShelfDisk for MemDisk {
+    ghost use Rattle.zio_outside.specs.Memory.{disk_image, disk_home, HandedOut};
+
+    ghost content = { disk_image };
+
+    ghost home_name = { disk_home };
+
+    ghost handed_out = { HandedOut };
+
+    fn go_out(&mut self, name: Text) {
+        self.calls.keep_room();
+        self.faults_at_fetch = self.calls.faults();
+        self.home = Some(name);
+    }
+
+    fn home(&self) -> Option<&str> {
+        match &self.home {
+            Some(name) => Some(name.as_str()),
+            None => None,
+        }
+    }
+
+    fn has_failed(&self) -> bool {
+        self.faults_at_fetch < self.calls.faults()
+    }
+
+    ghost tells_image = { λ d bytes. (λ h. h, λ h. h) };
+
+    ghost tells_home = { λ d name. (λ h. h, λ h. h) };
+
+    ghost sound_unfailed = { λ d sound failed. Prim.omega (arith, sound.faultless, failed) };
 }

@@ -1,35 +1,37 @@
-ghost use Rattle.std.specs.Prelude.{◌≡◌, ◌≢◌, ◌<◌, ◌≤◌, ◌⊎◌, ℕ, List, [], length, position, Option, None, Some};
+ghost use Rattle.std.specs.Prelude.{◌≡◌, ◌≢◌, ◌<◌, ◌≤◌, ◌⊎◌, ◌↔◌, ℕ, List, [], length, position, Option, None, Some};
 ghost use Rattle.std.specs.Prelude.{IfErr, IfNone, IfOk, IfSome, IsErrOf, IsSome, OnErr, OnOk};
 ghost use Rattle.std.specs.List.{Contains};
 ghost use Rattle.std.specs.Option.{option_and_then, option_copied};
+ghost use Rattle.zio_outside.specs.Crash.{KeptComesHome, KeptGoesOut, KeptStays};
 ghost use Rattle.zio_outside.specs.Outside.{ComesHome, GoesOut, Raised, StaysHome, count_max, counted};
-ghost use Rattle.zio_outside.specs.declared.mem_disk.MemDisk.{MemDisk};
+ghost use Rattle.zio_outside.specs.declared.written.Written.{Written};
 
 use crate::calls::Calls;
-use crate::{Disk, FetchFault, MemDisk, Shelf};
+use crate::shelf_disk::ShelfDisk;
+use crate::{FetchFault, MemDisk, MemSyncDisk, Shelf};
 use std::alloc::Global;
 use zio_types::{List, Text};
 
 /// A name under which a disk was put, with the disk where it is at home.
 #[derive(Debug, Drop)]
-struct Slot {
+struct Slot<D> {
     name: Text,
-    disk: Option<MemDisk>,
+    disk: Option<D>,
 }
 
 /// The disk of a `put` that memory was refused to.
 #[derive(Debug, Drop)]
-pub struct DiskBack {
-    pub disk: MemDisk,
+pub struct DiskBack<D = MemDisk> {
+    pub disk: D,
 }
 
-/// A shelf of disks in memory, which tells their images.
+/// A shelf of disks in memory, which tells their images, and what they keep where they tell it.
 ///
 /// Its names are few, at most as many as a pool has leaves, so each call scans them.
 #[derive(Debug, Drop)]
-pub struct MemShelf {
+pub struct MemShelf<D = MemDisk> {
     alloc: Global,
-    slots: Vec<Slot>,
+    slots: Vec<Slot<D>>,
     calls: Calls,
     disk_faults: u64,
     fetches: u64,
@@ -40,7 +42,10 @@ pub struct MemShelf {
     ghost returns_in_range: { returns ≤ count_max },
 }
 
-impl Slot {
+/// A shelf of disks in memory with a volatile cache.
+pub type MemSyncShelf = MemShelf<MemSyncDisk>;
+
+impl<D> Slot<D> {
     ghost use Rattle.zio_outside.specs.MemoryShelf.{is_named};
 
     fn is_named(&self, name: &str) -> bool
@@ -50,14 +55,13 @@ impl Slot {
     }
 }
 
-impl MemShelf {
-    ghost use Rattle.zio_outside.specs.Memory.{disk_home, disk_faults, disk_faults_at_fetch};
+impl<D: ShelfDisk> MemShelf<D> {
     ghost use Rattle.zio_outside.specs.MemoryShelf.{ChangesOnly, shelf_slot, at_home, out_of, is_named};
     ghost use Rattle.zio_outside.specs.MemoryShelf.{shelf_faults, shelf_disk_faults, shelf_fetches, shelf_returns};
     ghost use Rattle.zio_outside.specs.MemoryShelf.{shelf_last_size, shelf_fails, shelf_calls};
 
     /// A shelf without disks and without a fault. The fetches with the numbers in `fails`, counted from 0, fail.
-    pub fn new(alloc: Global, fails: List<u64>) -> MemShelf
+    pub fn new(alloc: Global, fails: List<u64>) -> MemShelf<D>
         ensures slots { (name : List ℕ) → shelf_slot result name ≡ None }
         ensures faults { shelf_faults result ≡ 0 }
         ensures disk_faults { shelf_disk_faults result ≡ 0 }
@@ -79,7 +83,7 @@ impl MemShelf {
 
     /// Puts a disk under a name under which none was put. Where memory is refused the disk comes back, the name is
     /// dropped and the shelf has what it had.
-    pub fn put(&mut self, name: Text, disk: MemDisk) -> Result<(), DiskBack>
+    pub fn put(&mut self, name: Text, disk: D) -> Result<(), DiskBack<D>>
         requires { shelf_slot self.old name ≡ None }
         ensures ok { OnOk result (ChangesOnly (shelf_slot self.old) (shelf_slot self.new) name (Some disk)) }
         ensures err { OnErr result
@@ -103,7 +107,7 @@ impl MemShelf {
     }
 
     /// The disk of this name, none exactly where no disk of this name is at home.
-    pub fn disk(&self, name: &str) -> Option<&MemDisk>
+    pub fn disk(&self, name: &str) -> Option<&D>
         ensures { option_copied result ≡ at_home (shelf_slot self.now name.now) }
     {
         let k = self.slot_at(name)?;
@@ -111,7 +115,7 @@ impl MemShelf {
     }
 
     /// The disk of this name, which then is out, or none and nothing changes.
-    fn take_disk(&mut self, name: &str) -> Option<MemDisk>
+    fn take_disk(&mut self, name: &str) -> Option<D>
         requires { shelf_slot self.old name.now ≢ Some None }
         ensures was { result ≡ at_home (shelf_slot self.old name.now) }
         ensures some { IsSome result → ChangesOnly (shelf_slot self.old) (shelf_slot self.new) name.now None }
@@ -124,10 +128,10 @@ impl MemShelf {
     }
 
     /// Raises the count of the disks' faults by one exactly where the disk has failed since it was handed out.
-    fn count_faults_of(&mut self, disk: &MemDisk)
-        ensures raised { disk_faults_at_fetch disk.now < disk_faults disk.now →
+    fn count_faults_of(&mut self, disk: &D)
+        ensures raised { D.faults_at_fetch disk.now < D.faults disk.now →
             shelf_disk_faults self.new ≡ counted (shelf_disk_faults self.old) }
-        ensures kept { ¬ (disk_faults_at_fetch disk.now < disk_faults disk.now) →
+        ensures kept { ¬ (D.faults_at_fetch disk.now < D.faults disk.now) →
             shelf_disk_faults self.new ≡ shelf_disk_faults self.old }
         ensures slots { self.new.slots ≡ self.old.slots }
         ensures calls { self.new.calls ≡ self.old.calls }
@@ -143,9 +147,9 @@ impl MemShelf {
     }
 
     /// Puts the disk into the slot of its home.
-    fn put_home(&mut self, disk: MemDisk)
-        requires { (name : List ℕ) × (disk_home disk ≡ Some name) × out_of (shelf_slot self.old) name }
-        ensures change { (name : List ℕ) → disk_home disk ≡ Some name →
+    fn put_home(&mut self, disk: D)
+        requires { (name : List ℕ) × D.home disk name × out_of (shelf_slot self.old) name }
+        ensures change { (name : List ℕ) → D.home disk name →
             ChangesOnly (shelf_slot self.old) (shelf_slot self.new) name (Some disk) }
         ensures same { self.new ≡ record self.old { slots = self.new.slots } }
     {
@@ -159,9 +163,9 @@ impl MemShelf {
     }
 
     /// The place of the slot of the disk's home.
-    fn home_of(&self, disk: &MemDisk) -> Option<usize>
+    fn home_of(&self, disk: &D) -> Option<usize>
         ensures { result ≡
-            option_and_then (λ name. position (is_named name) self.now.slots.items) (disk_home disk.now) }
+            option_and_then (λ name. position (is_named name) self.now.slots.items) (D.home_name disk.now) }
     {
         self.slot_at(disk.home()?)
     }
@@ -182,15 +186,13 @@ impl MemShelf {
     }
 }
 
-impl Shelf for MemShelf {
-    type Disk = MemDisk;
+impl<D: ShelfDisk> Shelf for MemShelf<D> {
+    type Disk = D;
 
-    ghost use Rattle.zio_outside.specs.Memory.{told, disk_image, disk_home, disk_faults, disk_faults_at_fetch, HandedOut};
-    ghost use Rattle.zio_outside.specs.Memory.{IsSoundDisk};
-    ghost use Rattle.zio_outside.specs.MemoryShelf.{ChangesOnly, shelf_slot, image_of, out_of, IsSoundShelf};
+    ghost use Rattle.zio_outside.specs.MemoryShelf.{ChangesOnly, shelf_slot, image_under, kept_under, out_of, IsSoundShelfOf};
     ghost use Rattle.zio_outside.specs.MemoryShelf.{shelf_faults, shelf_disk_faults, shelf_fetches, shelf_returns};
     ghost use Rattle.zio_outside.specs.MemoryShelf.{shelf_last_size, shelf_fails, shelf_calls};
-    ghost use Rattle.zio_outside.specs.MemoryShelf.{image_of-one, IsSoundShelf-counts};
+    ghost use Rattle.zio_outside.specs.MemoryShelf.{image_under-one, kept_under-one, IsSoundShelf-counts};
 
     ghost faults = { shelf_faults };
 
@@ -204,40 +206,47 @@ impl Shelf for MemShelf {
 
     ghost tells = { λ _. Unit {0} };
 
-    ghost image = { λ s. image_of (shelf_slot s) };
+    ghost image = { λ s. image_under D.image (shelf_slot s) };
 
-    ghost keeps = { λ _ _ _ _. ⊥ };
+    ghost keeps = { λ s. kept_under D.keeps (shelf_slot s) };
 
     ghost out = { λ s. out_of (shelf_slot s) };
 
-    ghost sound = { IsSoundShelf };
+    ghost sound = { IsSoundShelfOf D.sound };
 
     /// Hands the disk of this name out. A fetch that is listed, and one of a name under which no disk was put, raises the
     /// count of faults by one and leaves what the shelf has. Where memory is refused nothing changes.
-    fn fetch(&mut self, name: &str) -> Result<MemDisk, FetchFault>
+    fn fetch(&mut self, name: &str) -> Result<D, FetchFault>
         requires { ¬ out_of (shelf_slot self.old) name.now }
         ensures ok { OnOk result ((shelf_faults self.new ≡ shelf_faults self.old)
             × (shelf_fetches self.new ≡ counted (shelf_fetches self.old))) }
         ensures err { OnErr result (shelf_fetches self.new ≡ shelf_fetches self.old) }
         ensures returns { shelf_returns self.new ≡ shelf_returns self.old }
         ensures disk_faults { shelf_disk_faults self.new ≡ shelf_disk_faults self.old }
-        ensures size { IfOk result (λ disk. shelf_last_size self.new ≡ length (disk_image disk)) }
-        ensures sound { IsSoundShelf self.old name.now →
-            (other : List ℕ) → IsSoundShelf self.old other → IsSoundShelf self.new other }
-        ensures steady { IsSoundShelf self.old name.now → shelf_faults self.new ≡ shelf_faults self.old }
-        ensures sound_disk { IsSoundShelf self.old name.now → IfOk result IsSoundDisk }
-        ensures disk { IfOk result (λ disk. (bytes : List ℕ) × image_of (shelf_slot self.old) name.now bytes
-            × told (disk_image disk) bytes × (disk_home disk ≡ Some name.now)) }
+        ensures size { IfOk result (λ disk. shelf_last_size self.new ≡ D.bytes disk) }
+        ensures sound { IsSoundShelfOf D.sound self.old name.now →
+            (other : List ℕ) → IsSoundShelfOf D.sound self.old other → IsSoundShelfOf D.sound self.new other }
+        ensures steady { IsSoundShelfOf D.sound self.old name.now → shelf_faults self.new ≡ shelf_faults self.old }
+        ensures sound_disk { IsSoundShelfOf D.sound self.old name.now → IfOk result D.sound }
+        ensures disk { IfOk result (λ disk. (bytes : List ℕ) × image_under D.image (shelf_slot self.old) name.now bytes
+            × D.image disk bytes × (D.home disk name.now)) }
         ensures out { OnOk result (GoesOut name.now
-            (image_of (shelf_slot self.old)) (image_of (shelf_slot self.new))
+            (image_under D.image (shelf_slot self.old)) (image_under D.image (shelf_slot self.new))
             (out_of (shelf_slot self.old)) (out_of (shelf_slot self.new))) }
         ensures home { OnErr result (StaysHome
-            (image_of (shelf_slot self.old)) (image_of (shelf_slot self.new))
+            (image_under D.image (shelf_slot self.old)) (image_under D.image (shelf_slot self.new))
             (out_of (shelf_slot self.old)) (out_of (shelf_slot self.new))) }
+        ensures count { IfOk result (λ disk. (D.faults disk < count_max) × (D.faults_at_fetch disk ≡ D.faults disk)) }
+        ensures stable { IfOk result (λ disk. (stable : List ℕ) (ranges : List Written) →
+            D.keeps disk stable ranges ↔ kept_under D.keeps (shelf_slot self.old) name.now stable ranges) }
+        ensures stable_out { OnOk result (KeptGoesOut name.now
+            (kept_under D.keeps (shelf_slot self.old)) (kept_under D.keeps (shelf_slot self.new))) }
+        ensures stable_home { OnErr result (KeptStays
+            (kept_under D.keeps (shelf_slot self.old)) (kept_under D.keeps (shelf_slot self.new))) }
 
         // Beside what each shelf ensures: the disk as it was, which fetches fail, and what they leave.
-        ensures handed { IfOk result (λ disk. (was : MemDisk) ×
-            (shelf_slot self.old name.now ≡ Some (Some was)) × HandedOut was disk name.now) }
+        ensures handed { IfOk result (λ disk. (was : D) ×
+            (shelf_slot self.old name.now ≡ Some (Some was)) × D.handed_out was disk name.now) }
         ensures change { OnOk result (ChangesOnly (shelf_slot self.old) (shelf_slot self.new) name.now None) }
         ensures kept { OnErr result
             ((other : List ℕ) → shelf_slot self.new other ≡ shelf_slot self.old other) }
@@ -276,27 +285,29 @@ impl Shelf for MemShelf {
 
     /// Puts the disk home, without memory. It raises the count of its disks' faults by one exactly where the disk has
     /// failed since its fetch.
-    fn give_back(&mut self, disk: MemDisk)
-        requires { (name : List ℕ) × (disk_home disk ≡ Some name) × out_of (shelf_slot self.old) name }
+    fn give_back(&mut self, disk: D)
+        requires { (name : List ℕ) × D.home disk name × out_of (shelf_slot self.old) name }
         ensures faults { shelf_faults self.new ≡ shelf_faults self.old }
         ensures fetches { shelf_fetches self.new ≡ shelf_fetches self.old }
         ensures returns { shelf_returns self.new ≡ counted (shelf_returns self.old) }
         ensures size { shelf_last_size self.new ≡ shelf_last_size self.old }
-        ensures rose { disk_faults_at_fetch disk < disk_faults disk →
+        ensures rose { D.faults_at_fetch disk < D.faults disk →
             Raised (shelf_disk_faults self.old) (shelf_disk_faults self.new) }
-        ensures same { disk_faults_at_fetch disk ≡ disk_faults disk →
+        ensures same { D.faults_at_fetch disk ≡ D.faults disk →
             shelf_disk_faults self.new ≡ shelf_disk_faults self.old }
         ensures kept { shelf_disk_faults self.old ≤ shelf_disk_faults self.new }
-        ensures sound { IsSoundDisk disk →
-            (name : List ℕ) → IsSoundShelf self.old name → IsSoundShelf self.new name }
-        ensures home { (name bytes : List ℕ) → disk_home disk ≡ Some name → told (disk_image disk) bytes →
-            ComesHome name bytes (image_of (shelf_slot self.old)) (image_of (shelf_slot self.new))
+        ensures sound { D.sound disk →
+            (name : List ℕ) → IsSoundShelfOf D.sound self.old name → IsSoundShelfOf D.sound self.new name }
+        ensures home { (name bytes : List ℕ) → D.home disk name → D.image disk bytes →
+            ComesHome name bytes (image_under D.image (shelf_slot self.old)) (image_under D.image (shelf_slot self.new))
             (out_of (shelf_slot self.old)) (out_of (shelf_slot self.new)) }
+        ensures stable_home { (name : List ℕ) → D.home disk name → KeptComesHome name (D.keeps disk)
+            (kept_under D.keeps (shelf_slot self.old)) (kept_under D.keeps (shelf_slot self.new)) }
 
         // Beside what each shelf ensures: the disk is at home as it came, and is counted once.
-        ensures change { (name : List ℕ) → disk_home disk ≡ Some name →
+        ensures change { (name : List ℕ) → D.home disk name →
             ChangesOnly (shelf_slot self.old) (shelf_slot self.new) name (Some disk) }
-        ensures raised { disk_faults_at_fetch disk < disk_faults disk →
+        ensures raised { D.faults_at_fetch disk < D.faults disk →
             shelf_disk_faults self.new ≡ counted (shelf_disk_faults self.old) }
         ensures fails { shelf_fails self.new ≡ shelf_fails self.old }
         ensures calls { shelf_calls self.new ≡ shelf_calls self.old }
@@ -309,9 +320,9 @@ impl Shelf for MemShelf {
     ghost counts = { λ s.
         (s.calls.in_range, s.disk_faults_in_range, s.fetches_in_range, s.returns_in_range) };
 
-    ghost one_image = { λ s. image_of-one (shelf_slot s) };
+    ghost one_image = { λ s name a b. image_under-one D.image (shelf_slot s) name a b D.one_image };
 
-    ghost one_kept = { λ s name a b xs ys kept other. absurd kept };
+    ghost one_kept = { λ s name a b xs ys. kept_under-one D.keeps (shelf_slot s) name a b xs ys D.one_kept };
 
-    ghost sound_counts = { IsSoundShelf-counts };
+    ghost sound_counts = { IsSoundShelf-counts D.sound };
 }

@@ -8,6 +8,7 @@ ghost use Rattle.zio_outside.specs.Memory.{disk_image, told};
 ghost use Rattle.zio_outside.specs.Outside.{CountsFault, ReadsAt, TearsAt, WritesAt, counted};
 ghost use Rattle.zio_outside.specs.Replay.{replayed};
 
+use crate::shelf_disk::ShelfDisk;
 use crate::{Disk, Failed, MemDisk, SyncDisk, Written};
 use std::alloc::Global;
 use std::mem;
@@ -307,4 +308,32 @@ impl SyncDisk for MemSyncDisk {
     }
 
     ghost tells_kept = { λ d content told. (sync_stable d, sync_ranges d, (refl, refl)) };
+}
+
+impl ShelfDisk for MemSyncDisk {
+    ghost use Rattle.zio_outside.specs.MemorySync.{sync_image, sync_home, SyncHandedOut};
+
+    ghost content = { sync_image };
+
+    ghost home_name = { sync_home };
+
+    ghost handed_out = { SyncHandedOut };
+
+    fn go_out(&mut self, name: Text) {
+        self.disk.go_out(name);
+    }
+
+    fn home(&self) -> Option<&str> {
+        self.disk.home()
+    }
+
+    fn has_failed(&self) -> bool {
+        self.disk.has_failed()
+    }
+
+    ghost tells_image = { λ d bytes. (λ h. h, λ h. h) };
+
+    ghost tells_home = { λ d name. (λ h. h, λ h. h) };
+
+    ghost sound_unfailed = { λ d sound failed. sound };
 }

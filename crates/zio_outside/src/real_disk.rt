@@ -1,7 +1,7 @@
 ghost use Rattle.std.specs.Prelude.{◌≡◌, ◌≤◌, IfOk};
-ghost use Rattle.zio_outside.specs.Outside.{count_max};
+ghost use Rattle.zio_outside.specs.Outside.{CountsFault, count_max};
 
-use crate::{Disk, Failed, FetchFault, Shelf};
+use crate::{Disk, Failed, FetchFault, Shelf, SyncDisk};
 use std::fs::{OpenFile, OpenOptions};
 use std::io;
 use std::io::{Read, Seek, SeekFrom, Write};
@@ -25,6 +25,20 @@ impl<F: Read + Write + Seek> FileDisk<F> {
     {
         self.file.seek(SeekFrom::Start(at))?;
         self.file.read_exact(buffer)
+    }
+
+    /// What a call of the file answers. Its error raises the count of faults by one.
+    fn answer(&mut self, done: io::Result<()>) -> Result<(), Failed>
+        ensures count { CountsFault result self.old.faults self.new.faults }
+        ensures bytes { self.new.bytes ≡ self.old.bytes }
+    {
+        match done {
+            Ok(()) => Ok(()),
+            Err(_) => {
+                self.faults = self.faults.saturating_add(1);
+                Err(Failed)
+            }
+        }
     }
 
     fn write_whole(&mut self, at: u64, piece: &[u8]) -> io::Result<()>
@@ -62,23 +76,13 @@ impl<F: Read + Write + Seek + Send> Disk for FileDisk<F> {
     }
 
     fn read_at(&mut self, at: u64, buffer: &mut [u8]) -> Result<(), Failed> {
-        match self.read_whole(at, buffer) {
-            Ok(()) => Ok(()),
-            Err(_) => {
-                self.faults = self.faults.saturating_add(1);
-                Err(Failed)
-            }
-        }
+        let done = self.read_whole(at, buffer);
+        self.answer(done)
     }
 
     fn write_at(&mut self, at: u64, piece: &[u8]) -> Result<(), Failed> {
-        match self.write_whole(at, piece) {
-            Ok(()) => Ok(()),
-            Err(_) => {
-                self.faults = self.faults.saturating_add(1);
-                Err(Failed)
-            }
-        }
+        let done = self.write_whole(at, piece);
+        self.answer(done)
     }
 
     ghost has_size = { λ d content told. absurd told };
@@ -100,6 +104,16 @@ impl<F: Read + Write + Seek + Send> Disk for FileDisk<F> {
     ghost kept_image = { λ d content stable ranges told kept. absurd kept };
 
     ghost counts_now = { λ d t stable content ranges now kept crash. absurd kept };
+}
+
+impl<F: Read + Write + Seek + OpenFile + Send> SyncDisk for FileDisk<F> {
+    /// Asks the system to bring the file's bytes to its device.
+    fn sync(&mut self) -> Result<(), Failed> {
+        let done = self.file.sync_data();
+        self.answer(done)
+    }
+
+    ghost tells_kept = { λ d content told. absurd told };
 }
 
 /// A shelf of files, each an image of its own, which tells nothing of them.
@@ -138,11 +152,12 @@ impl<'a, R: Files> FileShelf<'a, R> {
     fn open(&self, path: &str) -> io::Result<FileDisk<R::File>>
         ensures { IfOk result (λ disk. disk.faults ≡ 0) }
     {
-        let file = OpenOptions::new()
+        let mut file = OpenOptions::new()
             .read(true)
             .write(true)
             .open(self.rt, path)?;
-        let bytes = file.metadata()?.len();
+        // A block device tells its size by its end alone.
+        let bytes = file.seek(SeekFrom::End(0))?;
         Ok(FileDisk {
             file,
             bytes,
@@ -177,8 +192,8 @@ where
 
     ghost sound = { λ _ _. ⊥ };
 
-    /// Opens the file of this path for reading and writing. The disk has the size that the file has now. Each error
-    /// raises the count of faults by one and is answered `Failed`, never `Memory`.
+    /// Opens the file or block device of this path for reading and writing. The disk has the size that it has now. Each
+    /// error, as of what has no end to seek, raises the count of faults by one and is answered `Failed`, never `Memory`.
     fn fetch(&mut self, name: &str) -> Result<FileDisk<R::File>, FetchFault> {
         match self.open(name) {
             Ok(disk) => {

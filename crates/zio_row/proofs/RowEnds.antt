@@ -60,13 +60,13 @@ none_is_out out disk name home others false is gone =
     let none : out name ≡ None = others name (λ e. let yes : bytes_eq name (codes "a") ≡ true = (bytes_eq-Decides name (codes "a")).1 e in absurd (cc)) in
     absurd (cc)
 
-pub all_at_home : (image : List ℕ) (shelf : MemShelf) → HasOneImage image shelf → (name : List ℕ) → ¬ out_of (shelf_slot shelf) name
+pub all_at_home : (image : List ℕ) (shelf : MemShelf MemDisk) → HasOneImage image shelf → (name : List ℕ) → ¬ out_of (shelf_slot shelf) name
 all_at_home image shelf has name = none_is_out (shelf_slot shelf) has.disk name has.home has.others (bytes_eq name (codes "a")) refl
 
-pub image_told : (image : List ℕ) (shelf : MemShelf) → HasOneImage image shelf → TellEach (image_of (shelf_slot shelf)) row_names (image ∷ [])
+pub image_told : (image : List ℕ) (shelf : MemShelf MemDisk) → HasOneImage image shelf → TellEach (image_of (shelf_slot shelf)) row_names (image ∷ [])
 image_told image shelf has = ((has.disk, has.home, sym has.stored), tt)
 
-pub shelf_sound : (image : List ℕ) (shelf : MemShelf) → HasOneImage image shelf → AllByRecursion (IsSoundShelf shelf) row_names
+pub shelf_sound : (image : List ℕ) (shelf : MemShelf MemDisk) → HasOneImage image shelf → AllByRecursion (IsSoundShelf shelf) row_names
 shelf_sound image shelf has =
     let sound : IsSoundDisk has.disk = record { unlisted = has.disk_steady; faultless = has.disk_faultless } in (
       record {

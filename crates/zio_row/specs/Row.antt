@@ -29,7 +29,7 @@ abbrev pub blank_image : List ℕ
 blank_image = zeros 65536
 
 -- a disk with this image is at home under the name `a` and none under another, and no call of it or of the shelf fails
-pub record HasOneImage (image : List ℕ) (shelf : MemShelf) : Type 0 where
+pub record HasOneImage (image : List ℕ) (shelf : MemShelf MemDisk) : Type 0 where
   pub disk : MemDisk
   pub home : shelf_slot shelf (codes "a") ≡ Some (Some disk)
   pub others : (name : List ℕ) → name ≢ codes "a" → shelf_slot shelf name ≡ None
@@ -41,7 +41,7 @@ pub record HasOneImage (image : List ℕ) (shelf : MemShelf) : Type 0 where
   pub disks_faultless : shelf_disk_faults shelf ≡ 0
 
 -- the disk is at home with this image, but for one sector that has the block
-pub record HoldsBlock (image : List ℕ) (shelf : MemShelf) : Type 0 where
+pub record HoldsBlock (image : List ℕ) (shelf : MemShelf MemDisk) : Type 0 where
   pub sector : ℕ
   pub inside : sector < 128
   pub stored : image_of (shelf_slot shelf) (codes "a") (overwritten image (sector * 512) (replicate 512 0x41))

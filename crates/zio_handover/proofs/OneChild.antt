@@ -12,7 +12,6 @@ use Rattle.zio_types.specs.Machine as machine
 use Rattle.zio_latch.specs.Calls.{capacity, history, kids, latch_of as owners_latch, latch_shown, shown}
 use Rattle.zio_latch.specs.Wakes.{IsWait, capacity_of, history_at, latch_of}
 use Rattle.std.proofs.Math.Bool.{and-false}
-use mathlib.Core.List.{IsPrefix}
 use Rattle.zio_types.specs.declared.request.ChildKind.{ChildKind}
 use Rattle.zio_types.specs.declared.request.ChildKind.TheVariants.{Vdev, Gang, Logical}
 use Rattle.zio_types.specs.declared.request.Phase.{Phase}

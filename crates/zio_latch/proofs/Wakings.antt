@@ -1,5 +1,5 @@
 -- Each wait that parks gets just one wake, and each child gives each value once.
-use Rattle.std.proofs.Common.{◌≡◌, ◌≢◌, ℕ, zero, suc, ◌+◌, Bool, true, false, ◌&&◌, not, ◌==◌, IsTrue, List, [], ◌∷◌, ◌++◌, length, refl, ap, ap₂, sym, ◌∙◌, subst, inl, inr, ◌⊎◌, ⊎_elim, arith, Option, Some, None, eq-eqb, ne_eqb, length-append}
+use Rattle.std.proofs.Common.{◌≡◌, ◌≢◌, ℕ, zero, suc, ◌+◌, Bool, true, false, ◌&&◌, not, ◌==◌, IsTrue, List, [], ◌∷◌, ◌++◌, length, refl, ap, ap₂, sym, ◌∙◌, subst, inl, inr, ◌⊎◌, ⊎_elim, arith, Option, Some, None, eq-eqb, length-append}
 use Rattle.std.proofs.lemmas.List.{append-nil}
 use Rattle.std.proofs.Math.Bool.{and-false, and-true}
 use Rattle.std.proofs.lemmas.Bool.{eqb-true}
@@ -8,14 +8,14 @@ use Rattle.zio_types.specs.declared.request.ChildKind.{ChildKind}
 use Rattle.zio_types.specs.declared.request.ChildKind.TheVariants.{Vdev, Gang, Logical}
 use Rattle.zio_types.specs.declared.request.Phase.{Phase}
 use Rattle.zio_types.specs.declared.request.Phase.TheVariants.{Ready, Done}
-use Rattle.zio_types.specs.Machine.{Child, Count, Machine, after, count_of, fresh, happened, is_count, is_stall, lacks, marked_at, owes_at, same_kind, same_phase, stall_is_open, stalled_unless, wakes, woken_if}
+use Rattle.zio_types.specs.Machine.{Child, Count, Machine, after, count_of, fresh, is_stall, lacks, marked_at, owes_at, same_kind, same_phase, stall_is_open, stalled_unless, wakes}
 use Rattle.zio_types.proofs.MachineLemmas.{stall_is_open-after}
 use Rattle.zio_latch.specs.declared.view.Event.{Event}
 use Rattle.zio_latch.specs.declared.view.Event.TheVariants.{Added, Gave, Waited}
 use Rattle.zio_latch.specs.declared.view.Kid.{Kid}
-use Rattle.zio_latch.specs.History.{AreLawful, AreOfOne, AreValues, ChildStep, IsLawful, OwnerStep, count_at, count_event, led, may_come, no_stall, state_of, value_event}
+use Rattle.zio_latch.specs.History.{AreLawful, AreOfOne, ChildStep, IsLawful, OwnerStep, count_at, count_event, led, may_come, no_stall, state_of, value_event}
 use Rattle.zio_latch.specs.Kids.{one_if}
-use Rattle.zio_latch.specs.Stalls.{AreQuiet, AreQuietUntilParked, IsParkedStill, IsWokenOnce, how_many, is_parked_on, is_wake, parked_waits, parks, wakes_given}
+use Rattle.zio_latch.specs.Stalls.{AreQuietUntilParked, IsParkedStill, IsWokenOnce, how_many, is_parked_on, is_wake, parked_waits, parks, wakes_given}
 use Rattle.zio_latch.proofs.Receipts.{of_one}
 use Rattle.zio_latch.proofs.Words.{same_kind_self, same_phase_self}
 use Rattle.zio_latch.proofs.Histories.{may_is, value_marks, value_stalls, waited_children, waited_stall, wakes_is, woken_stalls}

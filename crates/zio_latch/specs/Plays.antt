@@ -5,7 +5,7 @@ use lib.ListN.{get_elem?}
 use Rattle.zio_types.specs.declared.request.ChildKind.{ChildKind}
 use Rattle.zio_types.specs.declared.request.ChildKind.TheVariants.{Vdev}
 use Rattle.zio_types.specs.declared.request.Phase.{Phase}
-use Rattle.zio_types.specs.declared.request.Phase.TheVariants.{Ready, Done}
+use Rattle.zio_types.specs.declared.request.Phase.TheVariants.{Ready}
 use Rattle.zio_types.specs.Machine.{Child, Machine, count_of, is_vdev, lacks}
 use Rattle.zio_latch.specs.declared.view.Event.{Event}
 use Rattle.zio_latch.specs.declared.view.Event.TheVariants.{Added, Waited}

@@ -13,9 +13,9 @@ use Rattle.zio_types.proofs.MachineLemmas.{stall_is_open-after}
 use Rattle.zio_latch.specs.declared.view.Event.{Event}
 use Rattle.zio_latch.specs.declared.view.Event.TheVariants.{Added, Gave, Waited}
 use Rattle.zio_latch.specs.declared.view.Kid.{Kid}
-use Rattle.zio_latch.specs.History.{AreLawful, AreOfOne, ChildStep, IsLawful, OwnerStep, count_at, count_event, led, may_come, no_stall, state_of, value_event}
+use Rattle.zio_latch.specs.History.{AreLawful, AreOfOne, AreValues, ChildStep, IsLawful, OwnerStep, count_at, count_event, led, may_come, no_stall, state_of, value_event}
 use Rattle.zio_latch.specs.Kids.{one_if}
-use Rattle.zio_latch.specs.Stalls.{AreQuietUntilParked, IsParkedStill, IsWokenOnce, how_many, is_parked_on, is_wake, parked_waits, parks, wakes_given}
+use Rattle.zio_latch.specs.Stalls.{AreQuiet, AreQuietUntilParked, IsParkedStill, IsWokenOnce, how_many, is_parked_on, is_wake, parked_waits, parks, wakes_given}
 use Rattle.zio_latch.proofs.Receipts.{of_one}
 use Rattle.zio_latch.proofs.Words.{same_kind_self, same_phase_self}
 use Rattle.zio_latch.proofs.Histories.{may_is, value_marks, value_stalls, waited_children, waited_stall, wakes_is, woken_stalls}
@@ -303,6 +303,57 @@ answered p k parked since known later woke lawful w step order =
       wake = ap (λ (m : Machine). wakes (value_event p k w.number) m) (led-apart fresh parked w.until) ∙ w.wake;
     } in
     (same_step p k w.number known (parked ++ w.until) later ((parked ++ w.until) ++ g ∷ []) woke true step mine (of_one (parked ++ since) later ((parked ++ w.until) ++ g ∷ []) order (w.later, split))).1
+
+-- without a stall no value wakes
+quiet_values : (m : Machine) (vs : List Event) (e : Event) (rest : List Event) → m.stall ≡ None → AreValues (vs ++ e ∷ rest) → wakes (count_event e) (led m vs) ≡ false
+quiet_values m [] e rest s v = no_wake e m s
+quiet_values m (Added k ∷ vs) e rest s v = let h : false ≡ true = v.0 in cc
+quiet_values m (Waited k p kids ∷ vs) e rest s v = let h : false ≡ true = v.0 in cc
+quiet_values m (Gave p k n ∷ vs) e rest s v =
+    quiet_values (after (value_event p k n) m) vs e rest (value_stalls p k n m (no_wake (Gave p k n) m s) ∙ s) v.1
+
+values_after : (us : List Event) (g : Event) (later : List Event) → AreValues (us ++ g ∷ later) → AreValues later
+values_after [] g later v = v.1
+values_after (u ∷ us) g later v = values_after us g later v.1
+
+-- of values only one wakes
+one_value : (m : Machine) (us : List Event) (g : Event) (later vs : List Event) (e : Event) (rest : List Event) → AreQuiet m us → wakes (count_event g) (led m us) ≡ true →
+    AreValues later → wakes (count_event e) (led m vs) ≡ true → us ++ g ∷ later ≡ vs ++ e ∷ rest → g ≡ e
+one_value m [] g later [] e rest q w v x is = cc
+one_value m [] g later (u ∷ vs) e rest q w v x is =
+    let here : u ≡ g = cc in
+    let more : later ≡ vs ++ e ∷ rest = cc in
+    let none = quiet_values (after (count_event g) m) vs e rest (woken_stalls (count_event g) m w) (subst AreValues more v) in
+    let h : true ≡ false = sym (subst (λ (z : Event). wakes (count_event e) (led (after (count_event z) m) vs) ≡ true) here x) ∙ none in cc
+one_value m (u ∷ us) g later [] e rest q w v x is =
+    let here : u ≡ e = cc in
+    let h : true ≡ false = sym (subst (λ (z : Event). wakes (count_event z) m ≡ true) (sym here) x) ∙ q.0 in cc
+one_value m (u ∷ us) g later (y ∷ vs) e rest q w v x is =
+    let here : y ≡ u = cc in
+    let more : us ++ g ∷ later ≡ vs ++ e ∷ rest = cc in
+    one_value (after (count_event u) m) us g later vs e rest q.1 w v (subst (λ (z : Event). wakes (count_event e) (led (after (count_event z) m) vs) ≡ true) here x) more
+
+without : (xs ys zs : List Event) → xs ++ ys ≡ xs ++ zs → ys ≡ zs
+without [] ys zs e = e
+without (x ∷ xs) ys zs e = let more : xs ++ ys ≡ xs ++ zs = cc in without xs ys zs more
+
+-- while the owner rests no other answer is a wake
+pub only_answer : (p : Phase) (k : ChildKind) (parked since : List Event) (w : IsWokenOnce k p (state_of parked) since) → AreValues since →
+    (q : Phase) (j : ChildKind) (n : ℕ) (known later : List Event) (s : ChildStep q j n known later true) → IsPrefix parked s.before → IsPrefix later (parked ++ since) →
+    (q ≡ p) × (j ≡ k) × (n ≡ w.number)
+only_answer p k parked since w values q j n known later s from within =
+    let g : Event = Gave p k w.number in
+    let e : Event = Gave q j n in
+    let vs : List Event = from.0 in
+    let before : parked ++ vs ≡ s.before = from.1 in
+    let whole : parked ++ (vs ++ e ∷ within.0) ≡ parked ++ since =
+    sym (append_assoc parked vs (e ∷ within.0)) ∙ ap (λ (l : List Event). l ++ e ∷ within.0) before ∙ sym (append_assoc s.before (e ∷ []) within.0)
+    ∙ ap (λ (l : List Event). l ++ within.0) (sym s.later_is) ∙ within.1 in
+    let split : w.until ++ g ∷ w.later ≡ vs ++ e ∷ within.0 = sym w.since_is ∙ sym (without parked (vs ++ e ∷ within.0) since whole) in
+    let woke : wakes (count_event e) (led (state_of parked) vs) ≡ true =
+    ap (λ (m : Machine). wakes (value_event q j n) m) (sym (led-apart fresh parked vs) ∙ ap state_of before) ∙ s.wake in
+    let same : g ≡ e = one_value (state_of parked) w.until g w.later vs e within.0 w.quiet w.wake (values_after w.until g w.later (subst AreValues w.since_is values)) woke split in
+    ((cc), (cc), (cc))
 
 -- ---- a step is news
 

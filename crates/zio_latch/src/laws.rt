@@ -5,7 +5,7 @@ ghost use Rattle.zio_types.specs.declared.request.Phase.{Phase};
 ghost use Rattle.zio_latch.specs.declared.view.Event.{Event};
 ghost use Rattle.zio_latch.specs.declared.view.Event.TheVariants.{Waited};
 ghost use Rattle.zio_latch.specs.declared.view.Kid.{Kid};
-ghost use Rattle.zio_latch.specs.History.{AreOfOne, ChildStep, IsLawful, OwnerStep, count_at, state_of};
+ghost use Rattle.zio_latch.specs.History.{AreOfOne, AreValues, ChildStep, IsLawful, OwnerStep, count_at, state_of};
 ghost use Rattle.zio_latch.specs.Kids.{one_if};
 ghost use Rattle.zio_latch.specs.Stalls.{IsParkedStill, IsWokenOnce, is_parked_on, parked_waits, wakes_given};
 
@@ -26,7 +26,7 @@ pub fn each_parked_wait_has_one_wake()
 
 /// A child gives each value once: two histories of one latch that end with it are one history, and tell alike whether it
 /// brought the wake. So the child whose value brings the count of a parked wait to 0 is the one whose call is answered
-/// with the wake.
+/// with the wake, and while the owner does nothing no other is.
 pub fn a_child_is_answered_once()
     ensures same { (phase : Phase) (kind : ChildKind) (n : ℕ) (known other one two : List Event) (a b : Bool) →
         ChildStep phase kind n known one a → ChildStep phase kind n other two b → AreOfOne one two →
@@ -34,6 +34,10 @@ pub fn a_child_is_answered_once()
     ensures woken { (phase : Phase) (kind : ChildKind) (parked since known later : List Event) (woke : Bool) →
         IsLawful (parked ++ since) → (w : IsWokenOnce kind phase (state_of parked) since) →
         ChildStep phase kind w.number known later woke → IsPrefix later (parked ++ since) → woke ≡ true }
+    ensures only { (phase : Phase) (kind : ChildKind) (parked since : List Event) →
+        (w : IsWokenOnce kind phase (state_of parked) since) → AreValues since →
+        (p : Phase) (k : ChildKind) (n : ℕ) (known later : List Event) → (s : ChildStep p k n known later true) →
+        IsPrefix parked s.before → IsPrefix later (parked ++ since) → (p ≡ phase) × (k ≡ kind) × (n ≡ w.number) }
 {}
 
 /// A history that shows a step isn't one that was known before it: no receipt from before a call serves as its answer.

@@ -29,7 +29,8 @@ enum Recorded {
 /// A disk in memory with a volatile cache, which tells its image and what it keeps through a crash.
 ///
 /// What it kept at a past moment is told by a replay of its calls, which it records for this. It has its last two stable
-/// images, so that a clause can speak of a crash in a call and in the writes before it.
+/// images, so that a clause can speak of a crash in a call and in the writes before it. It is never `sound`, since its
+/// room ends.
 #[derive(Debug, Drop)]
 pub struct MemSyncDisk {
     disk: MemDisk,
@@ -190,6 +191,8 @@ impl Disk for MemSyncDisk {
         ensures ranges { sync_ranges self.new ≡ sync_ranges self.old }
         ensures left { sync_left self.new ≡ sync_left self.old - 1 }
         ensures fails { sync_fails self.new ≡ sync_fails self.old }
+        ensures calls { 0 < sync_left self.old → sync_calls self.new ≡ counted (sync_calls self.old) }
+        ensures past_calls { sync_left self.old ≡ 0 → sync_calls self.new ≡ sync_calls self.old }
         ensures reads { sync_reads self.new ≡ counted (sync_reads self.old) }
         ensures writes { sync_writes self.new ≡ sync_writes self.old }
     {
@@ -225,6 +228,8 @@ impl Disk for MemSyncDisk {
         ensures past { sync_left self.old ≡ 0 → sync_ranges self.new ≡ sync_ranges self.old }
         ensures left { sync_left self.new ≡ sync_left self.old - 1 }
         ensures fails { sync_fails self.new ≡ sync_fails self.old }
+        ensures calls { 0 < sync_left self.old → sync_calls self.new ≡ counted (sync_calls self.old) }
+        ensures past_calls { sync_left self.old ≡ 0 → sync_calls self.new ≡ sync_calls self.old }
         ensures reads { sync_reads self.new ≡ sync_reads self.old }
         ensures writes { sync_writes self.new ≡ counted (sync_writes self.old) }
     {
@@ -290,6 +295,8 @@ impl SyncDisk for MemSyncDisk {
         ensures raised { OnErr result (sync_faults self.new ≡ counted (sync_faults self.old)) }
         ensures left { sync_left self.new ≡ sync_left self.old - 1 }
         ensures fails { sync_fails self.new ≡ sync_fails self.old }
+        ensures calls { 0 < sync_left self.old → sync_calls self.new ≡ counted (sync_calls self.old) }
+        ensures past_calls { sync_left self.old ≡ 0 → sync_calls self.new ≡ sync_calls self.old }
         ensures reads { sync_reads self.new ≡ sync_reads self.old }
         ensures writes { sync_writes self.new ≡ sync_writes self.old }
     {

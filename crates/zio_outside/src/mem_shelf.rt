@@ -229,7 +229,7 @@ impl<D: ShelfDisk> Shelf for MemShelf<D> {
         ensures steady { IsSoundShelfOf D.sound self.old name.now → shelf_faults self.new ≡ shelf_faults self.old }
         ensures sound_disk { IsSoundShelfOf D.sound self.old name.now → IfOk result D.sound }
         ensures disk { IfOk result (λ disk. (bytes : List ℕ) × image_under D.image (shelf_slot self.old) name.now bytes
-            × D.image disk bytes × (D.home disk name.now)) }
+            × D.image disk bytes × D.home disk name.now) }
         ensures out { OnOk result (GoesOut name.now
             (image_under D.image (shelf_slot self.old)) (image_under D.image (shelf_slot self.new))
             (out_of (shelf_slot self.old)) (out_of (shelf_slot self.new))) }

@@ -1,5 +1,5 @@
-ghost use Rattle.std.specs.Prelude.{◌≡◌, ◌<◌, ◌≤◌, ◌+◌, ◌-◌, ◌++◌, ◌⊎◌, ◌↔◌, ℕ, List, [], ◌∷◌, length, vec_len, vec_capacity, Option, None, Some};
-ghost use Rattle.std.specs.Prelude.{IfOk, IsErr, IsOk, IsTrue, OnErr, OnOk};
+ghost use Rattle.std.specs.Prelude.{◌≡◌, ◌<◌, ◌≤◌, ◌+◌, ◌-◌, ◌++◌, ◌⊎◌, ◌↔◌, ℕ, List, [], ◌∷◌, length};
+ghost use Rattle.std.specs.Prelude.{vec_len, vec_capacity, None, Some, IfOk, IsErr, IsOk, IsTrue, OnErr, OnOk};
 ghost use Rattle.std.proofs.Common.{◌∙◌, ap, refl, sym};
 ghost use Rattle.std.specs.List.{Contains};
 ghost use Rattle.std.specs.Option.{option_copied};
@@ -28,8 +28,9 @@ enum Recorded {
 
 /// A disk in memory with a volatile cache, which tells its image and what it keeps through a crash.
 ///
-/// What it kept at a past moment is told by a replay of its calls, which it records for this. It has its last two stable
-/// images, so that a clause can speak of a crash in a call and in the writes before it.
+/// What it kept at a past moment is told by a replay of its calls, which it records for this. It has its last two
+/// stable images, so that a clause can speak of a crash in a sync and in the writes before it. It is never `sound`,
+/// since its room ends.
 #[derive(Debug, Drop)]
 pub struct MemSyncDisk {
     disk: MemDisk,
@@ -61,8 +62,9 @@ fn add<T: Drop>(items: &mut Vec<T>, item: T)
 }
 
 impl MemSyncDisk {
-    ghost use Rattle.zio_outside.specs.MemorySync.{sync_image, sync_stable, sync_ranges, sync_left, sync_faults, sync_faults_at_fetch};
-    ghost use Rattle.zio_outside.specs.MemorySync.{sync_home, sync_fails, sync_calls, sync_reads, sync_writes};
+    ghost use Rattle.zio_outside.specs.MemorySync.{sync_image, sync_stable, sync_ranges, sync_left, sync_faults};
+    ghost use Rattle.zio_outside.specs.MemorySync.{sync_faults_at_fetch, sync_home, sync_fails, sync_calls};
+    ghost use Rattle.zio_outside.specs.MemorySync.{sync_reads, sync_writes};
 
     /// A disk with this image, of its size and stable, without a fault and without a home. Its reads, writes and syncs
     /// with the numbers in `fails`, counted together from 0, fail, and so does each call after the first `room`.
@@ -140,10 +142,12 @@ impl MemSyncDisk {
 }
 
 impl Disk for MemSyncDisk {
-    ghost use Rattle.zio_outside.specs.MemorySync.{sync_image, sync_stable, sync_ranges, sync_left, sync_faults, sync_faults_at_fetch};
-    ghost use Rattle.zio_outside.specs.MemorySync.{sync_home, sync_fails, sync_calls, sync_reads, sync_writes, sync_moment};
+    ghost use Rattle.zio_outside.specs.MemorySync.{sync_image, sync_stable, sync_ranges, sync_left, sync_faults};
+    ghost use Rattle.zio_outside.specs.MemorySync.{sync_faults_at_fetch, sync_home, sync_fails, sync_calls};
+    ghost use Rattle.zio_outside.specs.MemorySync.{sync_reads, sync_writes, sync_moment};
     ghost use Rattle.zio_outside.specs.MemorySync.{SyncKeeps, SyncLeftSince, SyncWent};
-    ghost use Rattle.zio_outside.specs.MemorySyncLaws.{SyncWent-itself, SyncWent-then, SyncWent-means, SyncKeeps-one, SyncKeeps-image, SyncKeeps-now};
+    ghost use Rattle.zio_outside.specs.MemorySyncLaws.{SyncWent-itself, SyncWent-then, SyncWent-means};
+    ghost use Rattle.zio_outside.specs.MemorySyncLaws.{SyncKeeps-one, SyncKeeps-image, SyncKeeps-now};
 
     ghost faults = { sync_faults };
 
@@ -182,7 +186,8 @@ impl Disk for MemSyncDisk {
         ensures went { SyncWent [] self.old self.new }
 
         // Beside what each disk ensures: which calls fail, what they leave, and how often it was called.
-        ensures cause { IsErr result ↔ ((sync_left self.old ≡ 0) ⊎ Contains (sync_fails self.old) (sync_calls self.old)) }
+        ensures cause { IsErr result ↔
+            ((sync_left self.old ≡ 0) ⊎ Contains (sync_fails self.old) (sync_calls self.old)) }
         ensures steady { sync_fails self.old ≡ [] → 0 < sync_left self.old → IsOk result }
         ensures raised { OnErr result (sync_faults self.new ≡ counted (sync_faults self.old)) }
         ensures kept { OnErr result (buffer.new ≡ buffer.old) }
@@ -190,6 +195,8 @@ impl Disk for MemSyncDisk {
         ensures ranges { sync_ranges self.new ≡ sync_ranges self.old }
         ensures left { sync_left self.new ≡ sync_left self.old - 1 }
         ensures fails { sync_fails self.new ≡ sync_fails self.old }
+        ensures calls { 0 < sync_left self.old → sync_calls self.new ≡ counted (sync_calls self.old) }
+        ensures past_calls { sync_left self.old ≡ 0 → sync_calls self.new ≡ sync_calls self.old }
         ensures reads { sync_reads self.new ≡ counted (sync_reads self.old) }
         ensures writes { sync_writes self.new ≡ sync_writes self.old }
     {
@@ -215,7 +222,8 @@ impl Disk for MemSyncDisk {
         ensures went { SyncWent (written_of at (length piece.now)) self.old self.new }
 
         // Beside what each disk ensures: which calls fail, what they leave, and how often it was called.
-        ensures cause { IsErr result ↔ ((sync_left self.old ≡ 0) ⊎ Contains (sync_fails self.old) (sync_calls self.old)) }
+        ensures cause { IsErr result ↔
+            ((sync_left self.old ≡ 0) ⊎ Contains (sync_fails self.old) (sync_calls self.old)) }
         ensures steady { sync_fails self.old ≡ [] → 0 < sync_left self.old → IsOk result }
         ensures raised { OnErr result (sync_faults self.new ≡ counted (sync_faults self.old)) }
         ensures kept { OnErr result (sync_image self.new ≡ sync_image self.old) }
@@ -225,6 +233,8 @@ impl Disk for MemSyncDisk {
         ensures past { sync_left self.old ≡ 0 → sync_ranges self.new ≡ sync_ranges self.old }
         ensures left { sync_left self.new ≡ sync_left self.old - 1 }
         ensures fails { sync_fails self.new ≡ sync_fails self.old }
+        ensures calls { 0 < sync_left self.old → sync_calls self.new ≡ counted (sync_calls self.old) }
+        ensures past_calls { sync_left self.old ≡ 0 → sync_calls self.new ≡ sync_calls self.old }
         ensures reads { sync_reads self.new ≡ sync_reads self.old }
         ensures writes { sync_writes self.new ≡ counted (sync_writes self.old) }
     {
@@ -262,8 +272,9 @@ impl Disk for MemSyncDisk {
 }
 
 impl SyncDisk for MemSyncDisk {
-    ghost use Rattle.zio_outside.specs.MemorySync.{sync_image, sync_stable, sync_ranges, sync_left, sync_faults, sync_faults_at_fetch};
-    ghost use Rattle.zio_outside.specs.MemorySync.{sync_home, sync_fails, sync_calls, sync_reads, sync_writes, sync_moment};
+    ghost use Rattle.zio_outside.specs.MemorySync.{sync_image, sync_stable, sync_ranges, sync_left, sync_faults};
+    ghost use Rattle.zio_outside.specs.MemorySync.{sync_faults_at_fetch, sync_home, sync_fails, sync_calls};
+    ghost use Rattle.zio_outside.specs.MemorySync.{sync_reads, sync_writes, sync_moment};
     ghost use Rattle.zio_outside.specs.MemorySync.{SyncLeftSince, SyncWent};
 
     /// Makes the image stable, so that no range is left. A call that is listed, and one past the room, raises the count
@@ -285,11 +296,14 @@ impl SyncDisk for MemSyncDisk {
             SyncLeftSince self.old t content → SyncLeftSince self.new t content }
 
         // Beside what each such disk ensures: which calls fail, and how often it was called.
-        ensures cause { IsErr result ↔ ((sync_left self.old ≡ 0) ⊎ Contains (sync_fails self.old) (sync_calls self.old)) }
+        ensures cause { IsErr result ↔
+            ((sync_left self.old ≡ 0) ⊎ Contains (sync_fails self.old) (sync_calls self.old)) }
         ensures steady { sync_fails self.old ≡ [] → 0 < sync_left self.old → IsOk result }
         ensures raised { OnErr result (sync_faults self.new ≡ counted (sync_faults self.old)) }
         ensures left { sync_left self.new ≡ sync_left self.old - 1 }
         ensures fails { sync_fails self.new ≡ sync_fails self.old }
+        ensures calls { 0 < sync_left self.old → sync_calls self.new ≡ counted (sync_calls self.old) }
+        ensures past_calls { sync_left self.old ≡ 0 → sync_calls self.new ≡ sync_calls self.old }
         ensures reads { sync_reads self.new ≡ sync_reads self.old }
         ensures writes { sync_writes self.new ≡ sync_writes self.old }
     {

@@ -192,8 +192,9 @@ where
 
     ghost sound = { λ _ _. ⊥ };
 
-    /// Opens the file or block device of this path for reading and writing. The disk has the size that it has now. Each
-    /// error, as of what has no end to seek, raises the count of faults by one and is answered `Failed`, never `Memory`.
+    /// Opens the file or block device of this path for reading and writing. The disk has the size that it has now.
+    /// Each error, as of what has no end to seek, raises the count of faults by one and is answered `Failed`, never
+    /// `Memory`.
     fn fetch(&mut self, name: &str) -> Result<FileDisk<R::File>, FetchFault> {
         match self.open(name) {
             Ok(disk) => {

@@ -39,7 +39,8 @@ pub trait Shelf {
     /// The image of a disk that is at home, where it tells them.
     ghost image: { Self → List ℕ → List ℕ → Type 0 };
 
-    /// What a disk that is at home keeps through a crash, by its name, where it tells its images and the disk tells this.
+    /// What a disk that is at home keeps through a crash, by its name, where it tells its images and the disk tells
+    /// this.
     ghost keeps: { Self → List ℕ → List ℕ → List Written → Type 0 };
 
     /// The disk of this name is out, where it tells its images.

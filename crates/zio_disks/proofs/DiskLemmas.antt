@@ -214,8 +214,7 @@ writes_nothing went spots leaf disk = λ start ranges w. ([], subst (λ (rs : Li
 writes_then : {D : Type 0} (went : List Written → D → D → Type 0) (spots : List Spot) (leaf : ℕ) (a b c : D) → WritesOn went spots leaf a b → WritesOn went spots leaf b c → WritesOn went spots leaf a c
 writes_then went spots leaf a b c h k = λ start ranges w.
     let one = h start ranges w in
-    let two = k start (ranges ++ one.0) one.1 in
-    (
+    let two = k start (ranges ++ one.0) one.1 in (
       one.0 ++ two.0,
       subst (λ (rs : List Written). went rs start c) (append_assoc ranges one.0 two.0) two.1,
       all_append (LiesWithin spots leaf) one.0 two.0 one.2 two.2,

@@ -7,7 +7,7 @@ use std::test::Fail;
 use std::{env, fs, io, thread};
 use zio_outside::{
     Disk, Failed, FetchFault, FileShelf, Gate, MeetGate, MemDisk, MemShelf, MemSink, MemSource,
-    MemSyncDisk, MemSyncShelf, NoGate, Shelf, Sink, Source, StdSink, StdSource, SyncDisk, Written,
+    NoGate, Shelf, Sink, Source, StdSink, StdSource,
 };
 use zio_types::{Bytes, List, NoMemory, Text};
 
@@ -77,62 +77,6 @@ fn a_listed_write_leaves_the_image(rt: HostRuntime) -> Result<(), Fail> {
 }
 
 #[test]
-fn what_is_synced_is_stable(rt: HostRuntime) -> Result<(), Fail> {
-    let image = bytes(rt.alloc(), b"abcdef")?;
-    let mut disk = MemSyncDisk::new(rt.alloc(), image, List::new(rt.alloc()), 5)?;
-    goes_to_threads(&disk);
-    let mut buffer = [0u8; 2];
-    assert_eq!(rt; disk.write_at(1, b"xy"), Ok(()));
-    assert_eq!(rt; disk.write_at(4, b"z"), Ok(()));
-    assert_eq!(rt; disk.read_at(2, &mut buffer), Ok(()));
-    assert_eq!(rt; buffer, *b"yd");
-    assert_eq!(rt; disk.stable(), b"abcdef".as_slice());
-    assert_eq!(rt;
-        disk.ranges(),
-        [Written { at: 1, len: 2 }, Written { at: 4, len: 1 }].as_slice()
-    );
-    assert_eq!(rt; disk.sync(), Ok(()));
-    assert_eq!(rt; disk.stable(), b"axydzf".as_slice());
-    assert!(rt; disk.ranges().is_empty());
-    assert_eq!(rt; disk.reads(), 1);
-    assert_eq!(rt; disk.writes(), 2);
-    Ok(())
-}
-
-#[test]
-fn a_failed_sync_leaves_the_ranges(rt: HostRuntime) -> Result<(), Fail> {
-    let image = bytes(rt.alloc(), b"abc")?;
-    let mut disk = MemSyncDisk::new(rt.alloc(), image, numbers(rt.alloc(), &[1])?, 2)?;
-    assert_eq!(rt; disk.write_at(0, b"x"), Ok(()));
-    assert_eq!(rt; disk.sync(), Err(Failed));
-    assert_eq!(rt; disk.write_at(1, b"y"), Err(Failed), "it is past the room");
-    assert_eq!(rt; disk.image(), b"xbc".as_slice());
-    assert_eq!(rt; disk.stable(), b"abc".as_slice());
-    assert_eq!(rt; disk.ranges(), [Written { at: 0, len: 1 }].as_slice());
-    Ok(())
-}
-
-#[test]
-fn a_disk_comes_home_with_its_ranges(rt: HostRuntime) -> Result<(), Fail> {
-    let mut shelf: MemSyncShelf = MemShelf::new(rt.alloc(), List::new(rt.alloc()));
-    let image = bytes(rt.alloc(), b"abc")?;
-    let disk = MemSyncDisk::new(rt.alloc(), image, List::new(rt.alloc()), 2)?;
-    let Ok(()) = shelf.put(text(rt.alloc(), "a")?, disk) else {
-        return Err(Fail::from("no memory"));
-    };
-    let mut disk = shelf.fetch("a")?;
-    assert_eq!(rt; disk.write_at(1, b"x"), Ok(()));
-    shelf.give_back(disk);
-    let Some(disk) = shelf.disk("a") else {
-        return Err(Fail::from("it isn't at home"));
-    };
-    assert_eq!(rt; disk.stable(), b"abc".as_slice());
-    assert_eq!(rt; disk.image(), b"axc".as_slice());
-    assert_eq!(rt; disk.ranges(), [Written { at: 1, len: 1 }].as_slice());
-    Ok(())
-}
-
-#[test]
 fn a_disk_goes_out_and_comes_home(rt: HostRuntime) -> Result<(), Fail> {
     let mut shelf = MemShelf::new(rt.alloc(), List::new(rt.alloc()));
     let disk = MemDisk::new(bytes(rt.alloc(), b"abc")?, List::new(rt.alloc()));
@@ -173,7 +117,6 @@ fn a_file_is_a_disk(rt: HostRuntime) -> Result<(), Fail> {
     let mut buffer = [0u8; 2];
     if disk.size() == 6 {
         assert_eq!(rt; disk.write_at(1, b"xy"), Ok(()));
-        assert_eq!(rt; disk.sync(), Ok(()));
         assert_eq!(rt; disk.read_at(2, &mut buffer), Ok(()));
         assert_eq!(rt; buffer, *b"yd");
         fs::write(&rt, path.as_path(), b"axy")?;

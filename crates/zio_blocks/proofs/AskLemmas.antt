@@ -1,20 +1,18 @@
 -- What is asked of a chooser, step after step, and which spots that makes.
-use Rattle.std.proofs.Common.{◌≡◌, ◌≢◌, ◌-◌, ◌<◌, ◌≤◌, ℕ, List, [], ◌∷◌, ◌++◌, inl, inr, append_assoc, refl, sym, ap, subst, ◌∙◌, arith, length, drop, get_or, map, take, IfOk, Result, Ok, Err}
+use Rattle.std.proofs.Common.{◌≡◌, ◌≢◌, ◌-◌, ◌<◌, ◌≤◌, ℕ, List, [], ◌∷◌, ◌++◌, append_assoc, refl, sym, ap, subst, ◌∙◌, arith, length, drop, get_or, map, take, IfOk, Result, Ok, Err}
 use Rattle.std.specs.Prelude.{IsErrAnd, OnErr, true, false, cond}
 use Rattle.std.specs.List.{AllByRecursion}
 use Rattle.std.proofs.Math.Seq.{drop-append_seam}
 use Rattle.std.proofs.lemmas.Grind.{flat_map-append}
 use Rattle.std.proofs.lemmas.List.{append-nil}
-use Rattle.std.proofs.lemmas.List.Elements.{Contains-append_cases, Contains-append_left, Contains-append_right}
 use Rattle.zio_types.specs.declared.place.Place.{Place}
 use Rattle.zio_types.specs.declared.place.TopSize.{TopSize}
 use Rattle.zio_types.specs.Choices.{Choice, is_refused, taken_by}
-use Rattle.zio_types.specs.Places.{IsLawfulChoice, SamePlaces}
+use Rattle.zio_types.specs.Places.{SamePlaces}
 use Rattle.zio_cksum.specs.Blocks.{leaves_of, spot_in}
 use Rattle.zio_cksum.specs.Frames.{spots_of}
 use Rattle.zio_cksum.specs.Images.{Setting, Spot}
 use Rattle.zio_cksum.proofs.AllLemmas.{all_append}
-use Rattle.zio_gang.specs.Journals.{AreLawful}
 use Rattle.zio_outside.specs.declared.written.Written.{Written}
 use Rattle.zio_disks.specs.Disks.{Handles}
 use Rattle.zio_disks.specs.declared.setting.Stop.{Stop}
@@ -22,10 +20,11 @@ use Rattle.zio_disks.specs.declared.setting.Stop.TheVariants.{Device, Memory}
 use Rattle.zio_disks.proofs.DiskLemmas.{handles_none, handles_then, handles_wider}
 use Rattle.zio_disks.proofs.WriteLemmas.{contains_left, contains_right, rest_of}
 use Rattle.zio_blocks.specs.Blocks.{AsksFor, IsOf}
-use Rattle.zio_blocks.specs.Choosers.{AreHeld, given_since, taken_by_all}
+use Rattle.zio_blocks.specs.Choosers.{AreHeld, Continues, EntryLaw, given_since, taken_by_all}
 use Rattle.zio_blocks.specs.Parts.{Asks}
 use Rattle.zio_blocks.specs.declared.place.Writing.{Writing}
-use Rattle.zio_blocks.proofs.PlaceSets.{SamePlaces-back, SamePlaces-behind, SamePlaces-equal, SamePlaces-then, lawful_same}
+use Rattle.zio_blocks.specs.EntryLaws.{SamePlaces-swap}
+use Rattle.zio_blocks.specs.PlaceSets.{SamePlaces-behind, SamePlaces-equal, SamePlaces-then}
 
 -- ---- entries since
 
@@ -35,41 +34,7 @@ since_of old new entries e = ap (drop (length old)) e ∙ drop-append_seam old e
 pub since_same : (old new : List Choice) → new ≡ old → given_since old new ≡ []
 since_same old new e = since_of old new [] (e ∙ sym (append-nil old))
 
--- ---- lawful entries
-
--- places in another order
-pub SamePlaces-swap : (a b u : List Place) → SamePlaces (b ++ (a ++ u)) ((a ++ b) ++ u)
-SamePlaces-swap a b u p = (
-  (λ h. elim (Contains-append_cases b (a ++ u) p h) [
-    | inl x ↦ Contains-append_left (a ++ b) u p (Contains-append_right a b p x)
-    | inr y ↦ elim (Contains-append_cases a u p y) [
-      | inl z ↦ Contains-append_left (a ++ b) u p (Contains-append_left a b p z)
-      | inr z ↦ Contains-append_right (a ++ b) u p z
-    ]
-  ]),
-  (λ h. elim (Contains-append_cases (a ++ b) u p h) [
-    | inl x ↦ elim (Contains-append_cases a b p x) [
-      | inl z ↦ Contains-append_right b (a ++ u) p (Contains-append_left a u p z)
-      | inr z ↦ Contains-append_left b (a ++ u) p z
-    ]
-    | inr y ↦ Contains-append_right b (a ++ u) p (Contains-append_right a u p y)
-  ]),
-)
-
-pub are_lawful_same : (sizes : List TopSize) (xs ys : List Place) (es : List Choice) → SamePlaces xs ys → AreLawful sizes xs es → AreLawful sizes ys es
-are_lawful_same sizes xs ys [] same h = tt
-are_lawful_same sizes xs ys (e ∷ es) same h =
-    (lawful_same sizes xs ys e same h.0, are_lawful_same sizes (taken_by e ++ xs) (taken_by e ++ ys) es (SamePlaces-behind xs ys (taken_by e) same) h.1)
-
-pub lawful_then : (sizes : List TopSize) (used now : List Place) (es fs : List Choice) → AreLawful sizes used es → SamePlaces now (taken_by_all es ++ used) → AreLawful sizes now fs
-    → AreLawful sizes used (es ++ fs)
-lawful_then sizes used now [] fs h same k = are_lawful_same sizes now used fs same k
-lawful_then sizes used now (e ∷ es) fs h same k = (
-  h.0,
-  lawful_then sizes (taken_by e ++ used) now es fs h.1
-      (SamePlaces-then now ((taken_by e ++ taken_by_all es) ++ used) (taken_by_all es ++ (taken_by e ++ used)) same
-      (SamePlaces-back (taken_by_all es ++ (taken_by e ++ used)) ((taken_by e ++ taken_by_all es) ++ used) (SamePlaces-swap (taken_by e) (taken_by_all es) used))) k,
-)
+-- ---- taken places
 
 taken_then : (es fs : List Choice) (u v w : List Place) → SamePlaces v (taken_by_all es ++ u) → SamePlaces w (taken_by_all fs ++ v) → SamePlaces w (taken_by_all (es ++ fs) ++ u)
 taken_then es fs u v w one two =
@@ -82,25 +47,25 @@ taken_then es fs u v w one two =
 -- ---- asks
 
 -- what was asked and left, by the entries
-record AskedBy (w : Writing) (sizes : List TopSize) (u l : List Place) (g : List Choice) (u' l' : List Place) (g' es : List Choice) : Type 0 where
+record AskedBy (Lawful : EntryLaw) (w : Writing) (sizes : List TopSize) (u l : List Place) (g : List Choice) (u' l' : List Place) (g' es : List Choice) : Type 0 where
   pub behind : g' ≡ g ++ es
-  pub lawful : AreLawful sizes u es
+  pub lawful : Lawful sizes u es
   pub own : AllByRecursion (IsOf w) es
   pub used : SamePlaces u' (taken_by_all es ++ u)
   pub live : SamePlaces l' (taken_by_all es ++ l)
 
-asks_by : (w : Writing) (sizes : List TopSize) (u l : List Place) (g : List Choice) (u' l' : List Place) (g' es : List Choice) → AskedBy w sizes u l g u' l' g' es → AsksFor sizes w u l g u' l' g'
-asks_by w sizes u l g u' l' g' es h =
-    let k = subst (AskedBy w sizes u l g u' l' g') (sym (since_of g g' es h.behind)) h in
+asks_by : (Lawful : EntryLaw) (w : Writing) (sizes : List TopSize) (u l : List Place) (g : List Choice) (u' l' : List Place) (g' es : List Choice) → AskedBy Lawful w sizes u l g u' l' g' es → AsksFor Lawful sizes w u l g u' l' g'
+asks_by Lawful w sizes u l g u' l' g' es h =
+    let k = subst (AskedBy Lawful w sizes u l g u' l' g') (sym (since_of g g' es h.behind)) h in
     record { behind = k.behind; lawful = k.lawful; own = k.own; used = k.used; live = k.live }
 
 -- nothing was asked
-pub asks_none : (w : Writing) (sizes : List TopSize) (u l : List Place) (g : List Choice) (sizes' : List TopSize) (u' l' : List Place) (g' : List Choice) → sizes' ≡ sizes → u' ≡ u → l' ≡ l → g' ≡ g
-    → Asks w sizes u l g sizes' u' l' g'
-asks_none w sizes u l g sizes' u' l' g' at_s at_u at_l at_g = record {
-  asks = asks_by w sizes u l g u' l' g' [] (record {
+pub asks_none : {Lawful : EntryLaw} (w : Writing) (sizes : List TopSize) (u l : List Place) (g : List Choice) (sizes' : List TopSize) (u' l' : List Place) (g' : List Choice) → Lawful sizes u [] → sizes' ≡ sizes → u' ≡ u → l' ≡ l → g' ≡ g
+    → Asks Lawful w sizes u l g sizes' u' l' g'
+asks_none {Lawful} w sizes u l g sizes' u' l' g' none at_s at_u at_l at_g = record {
+  asks = asks_by Lawful w sizes u l g u' l' g' [] (record {
     behind = at_g ∙ sym (append-nil g);
-    lawful = tt;
+    lawful = none;
     own = tt;
     used = SamePlaces-equal u' u at_u;
     live = SamePlaces-equal l' l at_l;
@@ -110,15 +75,15 @@ asks_none w sizes u l g sizes' u' l' g' at_s at_u at_l at_g = record {
 }
 
 -- one entry was given
-pub asks_one : (w : Writing) (sizes : List TopSize) (u l : List Place) (g : List Choice) (sizes' : List TopSize) (u' l' : List Place) (g' : List Choice) (e : Choice) → g' ≡ g ++ e ∷ [] → IsLawfulChoice sizes u e → IsOf w e
+pub asks_one : {Lawful : EntryLaw} (w : Writing) (sizes : List TopSize) (u l : List Place) (g : List Choice) (sizes' : List TopSize) (u' l' : List Place) (g' : List Choice) (e : Choice) → g' ≡ g ++ e ∷ [] → Lawful sizes u (e ∷ []) → IsOf w e
     → SamePlaces u' (taken_by e ++ u) → SamePlaces l' (taken_by e ++ l) → sizes' ≡ sizes → AreHeld sizes' u' l'
-    → Asks w sizes u l g sizes' u' l' g'
-asks_one w sizes u l g sizes' u' l' g' e behind lawful own used live at_s held =
+    → Asks Lawful w sizes u l g sizes' u' l' g'
+asks_one {Lawful} w sizes u l g sizes' u' l' g' e behind lawful own used live at_s held =
     let one : taken_by e ≡ taken_by_all (e ∷ []) = sym (append-nil (taken_by e)) in
     record {
-      asks = asks_by w sizes u l g u' l' g' (e ∷ []) (record {
+      asks = asks_by Lawful w sizes u l g u' l' g' (e ∷ []) (record {
         behind = behind;
-        lawful = (lawful, tt);
+        lawful = lawful;
         own = (own, tt);
         used = subst (λ (ps : List Place). SamePlaces u' (ps ++ u)) one used;
         live = subst (λ (ps : List Place). SamePlaces l' (ps ++ l)) one live;
@@ -128,15 +93,16 @@ asks_one w sizes u l g sizes' u' l' g' e behind lawful own used live at_s held =
     }
 
 -- asks and more after them
-pub asks_then : {w : Writing} {sizes : List TopSize} {u l : List Place} {g : List Choice} {sizes' : List TopSize} {u' l' : List Place} {g' : List Choice} {sizes'' : List TopSize} {u'' l'' : List Place} {g'' : List Choice}
-    → Asks w sizes u l g sizes' u' l' g' → Asks w sizes' u' l' g' sizes'' u'' l'' g'' → Asks w sizes u l g sizes'' u'' l'' g''
-asks_then {w} {sizes} {u} {l} {g} {sizes'} {u'} {l'} {g'} {sizes''} {u''} {l''} {g''} a b =
+pub asks_then : {Lawful : EntryLaw} {w : Writing} {sizes : List TopSize} {u l : List Place} {g : List Choice} {sizes' : List TopSize} {u' l' : List Place} {g' : List Choice} {sizes'' : List TopSize} {u'' l'' : List Place} {g'' : List Choice}
+    → Continues Lawful
+    → Asks Lawful w sizes u l g sizes' u' l' g' → Asks Lawful w sizes' u' l' g' sizes'' u'' l'' g'' → Asks Lawful w sizes u l g sizes'' u'' l'' g''
+asks_then {Lawful} {w} {sizes} {u} {l} {g} {sizes'} {u'} {l'} {g'} {sizes''} {u''} {l''} {g''} joins a b =
     let es = given_since g g' in
     let fs = given_since g' g'' in
     record {
-      asks = asks_by w sizes u l g u'' l'' g'' (es ++ fs) (record {
+      asks = asks_by Lawful w sizes u l g u'' l'' g'' (es ++ fs) (record {
         behind = b.asks.behind ∙ ap (λ (xs : List Choice). xs ++ fs) a.asks.behind ∙ append_assoc g es fs;
-        lawful = lawful_then sizes u u' es fs a.asks.lawful a.asks.used (subst (λ (x : List TopSize). AreLawful x u' fs) a.sizes b.asks.lawful);
+        lawful = joins sizes u u' es fs a.asks.lawful a.asks.used (subst (λ (x : List TopSize). Lawful x u' fs) a.sizes b.asks.lawful);
         own = all_append (IsOf w) es fs a.asks.own b.asks.own;
         used = taken_then es fs u u' u'' a.asks.used b.asks.used;
         live = taken_then es fs l l' l'' a.asks.live b.asks.live;
@@ -146,9 +112,9 @@ asks_then {w} {sizes} {u} {l} {g} {sizes'} {u'} {l'} {g'} {sizes''} {u''} {l''} 
     }
 
 -- the entries of both
-pub since_then : {w : Writing} {sizes : List TopSize} {u l : List Place} {g : List Choice} {sizes' : List TopSize} {u' l' : List Place} {g' : List Choice} {sizes'' : List TopSize} {u'' l'' : List Place} {g'' : List Choice}
-    → Asks w sizes u l g sizes' u' l' g' → Asks w sizes' u' l' g' sizes'' u'' l'' g'' → given_since g g'' ≡ given_since g g' ++ given_since g' g''
-since_then {w} {sizes} {u} {l} {g} {sizes'} {u'} {l'} {g'} {sizes''} {u''} {l''} {g''} a b =
+pub since_then : {Lawful : EntryLaw} {w : Writing} {sizes : List TopSize} {u l : List Place} {g : List Choice} {sizes' : List TopSize} {u' l' : List Place} {g' : List Choice} {sizes'' : List TopSize} {u'' l'' : List Place} {g'' : List Choice}
+    → Asks Lawful w sizes u l g sizes' u' l' g' → Asks Lawful w sizes' u' l' g' sizes'' u'' l'' g'' → given_since g g'' ≡ given_since g g' ++ given_since g' g''
+since_then {Lawful} {w} {sizes} {u} {l} {g} {sizes'} {u'} {l'} {g'} {sizes''} {u''} {l''} {g''} a b =
     since_of g g'' (given_since g g' ++ given_since g' g'')
     (b.asks.behind ∙ ap (λ (xs : List Choice). xs ++ given_since g' g'') a.asks.behind ∙ append_assoc g (given_since g g') (given_since g' g''))
 

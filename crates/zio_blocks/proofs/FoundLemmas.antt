@@ -1,5 +1,5 @@
--- The pointers to what lies at the places of a lawful entry.
-use Rattle.std.proofs.Common.{◌≡◌, ℕ, zero, suc, ◌+◌, ◌-◌, ◌/◌, ◌%◌, ◌<◌, ◌≤◌, List, [], ◌∷◌, ◌++◌, length, map, drop, get_or, replicate, inl, inr, refl, ap, subst, ◌∙◌, arith, eq-eqb, eqb-true, leb-true, le-leb, lt-ltb, IsTrue}
+-- The pointers to what lies at the places of an entry.
+use Rattle.std.proofs.Common.{◌≡◌, ℕ, zero, suc, ◌+◌, ◌-◌, ◌/◌, ◌%◌, ◌<◌, ◌≤◌, List, [], ◌∷◌, length, map, drop, get_or, replicate, inl, inr, refl, ap, subst, ◌∙◌, arith, eq-eqb, eqb-true, leb-true, le-leb, lt-ltb, IsTrue}
 use Rattle.std.specs.Prelude.{Bool, true, false, cond, ◌&&◌, ◌||◌, ◌==◌, min, nat_le, nat_lt, slice_get}
 use Rattle.std.specs.List.{AllByRecursion, list_all}
 use Rattle.std.proofs.Math.Seq.{take-append_seam, drop-append_seam}
@@ -8,7 +8,7 @@ use Rattle.zio_types.specs.declared.place.Place.{Place}
 use Rattle.zio_types.specs.declared.place.Top.{Top}
 use Rattle.zio_types.specs.declared.place.TopSize.{TopSize}
 use Rattle.zio_types.specs.Choices.{Ask, Choice, is_refused, no_place}
-use Rattle.zio_types.specs.Places.{AreCopies, IsLawfulChoice, end_of, fits_on, fits_size, is_below, is_inside, is_lawful_top, is_unit, rounded_to, sector_size}
+use Rattle.zio_types.specs.Places.{IsLawfulChoice, end_of, fits_on, fits_size, is_below, is_inside, is_lawful_top, is_unit, rounded_to, sector_size}
 use Rattle.zio_blkptr.specs.declared.pointer.Bp.{Bp}
 use Rattle.zio_blkptr.specs.declared.pointer.TheConstants.{SECTOR_END, TOP_END}
 use Rattle.zio_blkptr.specs.Pointers.{FitsTypes, is_absent, is_block_size, is_present, is_rounding_of, places_of, sectors_stored}
@@ -20,6 +20,8 @@ use Rattle.zio_disks.specs.Disks.{LieOn}
 use Rattle.zio_disks.specs.Trees.{BearsTops}
 use Rattle.zio_disks.proofs.TreeLemmas.{pointer_lies}
 use Rattle.zio_blocks.specs.Blocks.{HavePointers}
+use Rattle.zio_blocks.specs.Choosers.{IsFound, IsFoundEntry}
+use Rattle.zio_blocks.specs.EntryLaws.{found_all}
 use Rattle.zio_blocks.specs.Parts.{IsMade}
 
 -- ---- a place that was found
@@ -81,14 +83,6 @@ there (top ∷ tops) (suc i) size p lawful short fits below =
 
 -- ---- the places of an entry
 
-pub record IsFound (tops : List TopSize) (size : ℕ) (p : Place) : Type 0 where
-  pub fits : IsTrue (fits_size tops size p)
-  pub inside : IsTrue (is_inside tops p)
-
-pub found_each : (tops : List TopSize) (used : List Place) (size : ℕ) (earlier places : List Place) → AreCopies tops used size earlier places → AllByRecursion (IsFound tops size) places
-found_each tops used size earlier [] h = tt
-found_each tops used size earlier (p ∷ places) h = (record { fits = h.0.fits; inside = h.0.inside }, found_each tops used size (earlier ++ p ∷ []) places h.1)
-
 all_present : (tops : List Top) (bp : Bp) (size : ℕ) (places : List Place) → HavePointers tops → sectors_stored bp ≡ size / sector_size → AllByRecursion (IsFound (sizes_of tops) size) places → list_all (is_present bp) places ≡ true
 all_present tops bp size [] have stored h = refl
 all_present tops bp size (p ∷ places) have stored h =
@@ -120,15 +114,19 @@ pub record IsWholeEntry (tops : List TopSize) (size : ℕ) (places : List Place)
   pub three : length places ≤ 3
   pub each : AllByRecursion (IsFound tops size) places
 
-pub whole_entry : (tops : List TopSize) (used : List Place) (e : Choice) (size : ℕ) → IsLawfulChoice tops used e → is_refused e ≡ false → 1 ≤ e.asked.copies → e.asked.copies ≤ 3 → e.asked.size ≡ size → IsWholeEntry tops size e.places
-whole_entry tops used e size lawful found one three is =
+pub whole_found : (tops : List TopSize) (e : Choice) (size : ℕ) → IsFoundEntry tops e → is_refused e ≡ false → 1 ≤ e.asked.copies → e.asked.copies ≤ 3 → e.asked.size ≡ size → IsWholeEntry tops size e.places
+whole_found tops e size entry found one three is =
     let enough : e.asked.copies ≤ length e.places = ltb-false (length e.places) e.asked.copies found in
-    let most = lawful.found in
+    let most = entry.most in
     record {
       one = omega (arith, enough, one);
       three = omega (arith, most, three);
-      each = subst (λ n. AllByRecursion (IsFound tops n) e.places) is (found_each tops used e.asked.size [] e.places lawful.copies);
+      each = subst (λ n. AllByRecursion (IsFound tops n) e.places) is entry.each;
     }
+
+-- a lawful one is such
+pub whole_entry : (tops : List TopSize) (used : List Place) (e : Choice) (size : ℕ) → IsLawfulChoice tops used e → is_refused e ≡ false → 1 ≤ e.asked.copies → e.asked.copies ≤ 3 → e.asked.size ≡ size → IsWholeEntry tops size e.places
+whole_entry tops used e size lawful = whole_found tops e size (found_all tops used (e ∷ []) (lawful, tt)).0
 
 -- the places of such a pointer
 pub places_of_pointer : (w : Writing) (places : List Place) (gang : Bool) (bytes : List ℕ) → places_of (pointer_to w places gang bytes) ≡ places
@@ -176,7 +174,7 @@ first_sector tops size places have entry = at places entry.one entry.each where
   at (p ∷ ps) one each = (there tops p.top size p have.lawful have.short each.0.fits each.0.inside).sector
 
 -- the entry of a gang's header
-pub head_entry : (tops : List TopSize) (used : List Place) (w : Writing) (path : List ℕ) (e : Choice) → IsLawfulChoice tops used e → is_refused e ≡ false → e.asked ≡ head_ask w path → 1 ≤ w.copies → IsWholeEntry tops 512 e.places
-head_entry tops used w path e lawful found asked one =
+pub head_entry : (tops : List TopSize) (w : Writing) (path : List ℕ) (e : Choice) → IsFoundEntry tops e → is_refused e ≡ false → e.asked ≡ head_ask w path → 1 ≤ w.copies → IsWholeEntry tops 512 e.places
+head_entry tops w path e entry found asked one =
     let copies : e.asked.copies ≡ min (w.copies + 1) 3 = ap (λ (a : Ask). a.copies) asked in
-    whole_entry tops used e 512 lawful found (omega arith) (omega arith) (ap (λ (a : Ask). a.size) asked)
+    whole_found tops e 512 entry found (omega arith) (omega arith) (ap (λ (a : Ask). a.size) asked)

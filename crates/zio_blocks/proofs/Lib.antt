@@ -6,5 +6,4 @@ pub mod FoundLemmas
 pub mod KeyLemmas
 pub mod LaidLemmas
 pub mod OpenLemmas
-pub mod PlaceSets
 pub mod TellLemmas

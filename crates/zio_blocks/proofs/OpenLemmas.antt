@@ -1,62 +1,19 @@
--- What lawful entries take is open: free beside the places that were in use, and no two of them meet.
-use Rattle.std.proofs.Common.{◌≡◌, ℕ, ◌+◌, ◌<◌, ◌≤◌, max, min, List, [], ◌∷◌, ◌++◌, append_assoc, refl, sym, ap, ◌∙◌, arith, Option, Some, None}
+-- What entries take is open in any order: free beside the places that were in use, and no two of them meet.
+use Rattle.std.proofs.Common.{◌≡◌, ℕ, ◌+◌, ◌<◌, ◌≤◌, max, min, List, [], ◌∷◌, ◌++◌, refl, ap, ◌∙◌, arith, Option, Some, None}
 use Rattle.std.specs.Prelude.{Bool, true, false, ◌==◌, cond, not, nat_le, nat_lt, slice_get, sum_by, Contains, IsPermutation, IsTrue}
 use Rattle.std.specs.List.{AllByRecursion, list_all}
 use Rattle.std.proofs.lemmas.Bool.{and_from, and_parts, eq-eqb, false≢true, lt-ltb, ltb-true}
-use Rattle.std.proofs.lemmas.List.{append-nil}
 use Rattle.std.proofs.lemmas.List.Elements.{All-from_recursion, Contains-append_left, recursion_from_All}
 use Rattle.std.proofs.lemmas.List.Sums.{sum_by-cons}
 use Rattle.std.proofs.lemmas.List.Sorted.{All-permutation, Contains-permutation, IsPermutation-sym, sum_by-IsPermutation}
 use Rattle.zio_types.specs.declared.place.Place.{Place}
 use Rattle.zio_types.specs.declared.place.TopSize.{TopSize}
 use Rattle.zio_types.specs.Choices.{Choice, is_refused, taken_by}
-use Rattle.zio_types.specs.Places.{AreCopies, SamePlaces, are_apart, are_open, end_of, is_below, is_free, meets}
+use Rattle.zio_types.specs.Places.{SamePlaces, are_apart, are_open, end_of, is_below, is_free, meets}
 use Rattle.zio_cksum.proofs.AllLemmas.{all_append, all_contained, all_weaker}
-use Rattle.zio_places.proofs.CountLemmas.{are_open-push}
 use Rattle.zio_places.proofs.PlaceLemmas.{meets-symmetric}
-use Rattle.zio_gang.specs.Journals.{AreLawful}
-use Rattle.zio_blocks.specs.Choosers.{taken_by_all}
-use Rattle.zio_blocks.proofs.AskLemmas.{SamePlaces-swap}
-use Rattle.zio_blocks.proofs.FoundLemmas.{IsFound, found_each}
-use Rattle.zio_blocks.proofs.PlaceSets.{SamePlaces-behind, SamePlaces-then, all_pass, free_same, pass_all}
-
--- ---- entry after entry
-
--- beside places that are in use now: those in use at first, and those that were taken since
-copies_open : (tops : List TopSize) (first now done : List Place) (size : ℕ) (earlier places : List Place) → SamePlaces now (done ++ first) → are_open first (done ++ earlier) ≡ true
-    → AreCopies tops now size earlier places → are_open first (done ++ (earlier ++ places)) ≡ true
-copies_open tops first now done size earlier [] same h copies = ap (λ (ps : List Place). are_open first (done ++ ps)) (append-nil earlier) ∙ h
-copies_open tops first now done size earlier (p ∷ places) same h copies =
-    let there : SamePlaces (earlier ++ now) ((done ++ earlier) ++ first) =
-    SamePlaces-then (earlier ++ now) (earlier ++ (done ++ first)) ((done ++ earlier) ++ first) (SamePlaces-behind now (done ++ first) earlier same) (SamePlaces-swap done earlier first) in
-    let free : is_free ((done ++ earlier) ++ first) p ≡ true = free_same (earlier ++ now) ((done ++ earlier) ++ first) p there copies.0.free in
-    let more : are_open first (done ++ (earlier ++ p ∷ [])) ≡ true =
-    ap (are_open first) (sym (append_assoc done earlier (p ∷ []))) ∙ are_open-push first (done ++ earlier) p h free in
-    ap (λ (ps : List Place). are_open first (done ++ ps)) (sym (append_assoc earlier (p ∷ []) places))
-    ∙ copies_open tops first now done size (earlier ++ p ∷ []) places same more copies.1
-
-taken_if : (t : Bool) (first done places : List Place) → are_open first done ≡ true → are_open first (done ++ places) ≡ true → are_open first (done ++ cond t [] places) ≡ true
-taken_if true first done places h k = ap (are_open first) (append-nil done) ∙ h
-taken_if false first done places h k = k
-
-entries_open : (tops : List TopSize) (first now done : List Place) (es : List Choice) → SamePlaces now (done ++ first) → are_open first done ≡ true → AreLawful tops now es
-    → are_open first (done ++ taken_by_all es) ≡ true
-entries_open tops first now done [] same h lawful = ap (are_open first) (append-nil done) ∙ h
-entries_open tops first now done (e ∷ es) same h lawful =
-    let took : List Place = taken_by e in
-    let one : are_open first (done ++ took) ≡ true =
-    taken_if (is_refused e) first done e.places h
-    (copies_open tops first now done e.asked.size [] e.places same (ap (are_open first) (append-nil done) ∙ h) lawful.0.copies) in
-    let then : SamePlaces (took ++ now) ((done ++ took) ++ first) =
-    SamePlaces-then (took ++ now) (took ++ (done ++ first)) ((done ++ took) ++ first) (SamePlaces-behind now (done ++ first) took same) (SamePlaces-swap done took first) in
-    ap (are_open first) (sym (append_assoc done took (taken_by_all es)))
-    ∙ entries_open tops first (took ++ now) (done ++ took) es then one lawful.1
-
-same_itself : (xs : List Place) → SamePlaces xs xs
-same_itself xs p = (λ h. h, λ h. h)
-
-taken_open : (tops : List TopSize) (used : List Place) (es : List Choice) → AreLawful tops used es → are_open used (taken_by_all es) ≡ true
-taken_open tops used es lawful = entries_open tops used used [] es (same_itself used) refl lawful
+use Rattle.zio_blocks.specs.Choosers.{IsFound, IsFoundEntry, taken_by_all}
+use Rattle.zio_blocks.specs.PlaceSets.{all_pass, pass_all}
 
 -- ---- places have sectors
 
@@ -71,14 +28,12 @@ some_if : (t : Bool) (places : List Place) → AllByRecursion HasSome places →
 some_if true places h = tt
 some_if false places h = h
 
-taken_some : (tops : List TopSize) (used : List Place) (es : List Choice) → AreLawful tops used es → AllByRecursion HasSome (taken_by_all es)
-taken_some tops used [] lawful = tt
-taken_some tops used (e ∷ es) lawful =
+taken_some : (tops : List TopSize) (es : List Choice) → AllByRecursion (IsFoundEntry tops) es → AllByRecursion HasSome (taken_by_all es)
+taken_some tops [] found = tt
+taken_some tops (e ∷ es) found =
     all_append HasSome (taken_by e) (taken_by_all es)
-    (some_if (is_refused e) e.places
-    (all_weaker (IsFound tops e.asked.size) HasSome e.places (λ p h. some_below p (slice_get tops p.top) h.inside)
-    (found_each tops used e.asked.size [] e.places lawful.0.copies)))
-    (taken_some tops (taken_by e ++ used) es lawful.1)
+    (some_if (is_refused e) e.places (all_weaker (IsFound tops e.asked.size) HasSome e.places (λ p h. some_below p (slice_get tops p.top) h.inside) found.0.each))
+    (taken_some tops es found.1)
 
 -- ---- places in another order
 
@@ -158,10 +113,10 @@ open_moved used xs ys moved some h =
     (pass_all (is_free used) ys (all_moved (λ (p : Place). IsTrue (is_free used p)) xs ys moved (all_pass (is_free used) xs parts.0)))
     (met_apart ys (all_moved HasSome xs ys moved some) (all_moved (MeetsOne ys) xs ys moved one))
 
--- places that lawful entries took are open in any order
-pub lawful_open : (tops : List TopSize) (used : List Place) (es : List Choice) (places : List Place) → AreLawful tops used es → IsPermutation places (taken_by_all es) → are_open used places ≡ true
-lawful_open tops used es places lawful moved =
-    open_moved used (taken_by_all es) places (IsPermutation-sym places (taken_by_all es) moved) (taken_some tops used es lawful) (taken_open tops used es lawful)
+-- places that entries took which were found are open in any order
+pub found_open : (tops : List TopSize) (used : List Place) (es : List Choice) (places : List Place) → AllByRecursion (IsFoundEntry tops) es → are_open used (taken_by_all es) ≡ true → IsPermutation places (taken_by_all es)
+    → are_open used places ≡ true
+found_open tops used es places found opened moved = open_moved used (taken_by_all es) places (IsPermutation-sym places (taken_by_all es) moved) (taken_some tops es found) opened
 
 -- and they are live where what was taken is
 pub taken_live : (live taken others places : List Place) → SamePlaces live (taken ++ others) → IsPermutation places taken → AllByRecursion (Contains live) places

@@ -9,12 +9,12 @@ use Rattle.zio_types.specs.Places.{SamePlaces, is_lawful_top}
 use Rattle.zio_blkptr.specs.declared.pointer.TheConstants.{SECTOR_END, TOP_END}
 use Rattle.zio_cksum.specs.Images.{Images, Setting}
 use Rattle.zio_gang.specs.Attempts.{placed_tree}
-use Rattle.zio_gang.specs.Journals.{AreLawful, asks_of}
+use Rattle.zio_gang.specs.Journals.{asks_of}
 use Rattle.zio_gang.specs.Trees.{size_of}
 use Rattle.zio_gang.specs.Writes.{place_block}
 use Rattle.zio_gang.specs.Writes.{Writing as Terms}
 use Rattle.zio_disks.specs.Disks.{Tell}
-use Rattle.zio_blocks.specs.Choosers.{given_since, taken_by_all}
+use Rattle.zio_blocks.specs.Choosers.{EntryLaw, given_since, taken_by_all}
 use Rattle.zio_blocks.specs.declared.place.PlacedBlock.{PlacedBlock}
 use Rattle.zio_blocks.specs.declared.place.Writing.{Writing}
 
@@ -42,11 +42,11 @@ pub record IsOf (w : Writing) (entry : Choice) : Type 0 where
   pub round : entry.asked.key.round ≡ w.round
   pub attempt : entry.asked.key.attempt ≡ w.attempt
 
--- What a write asked of the chooser and got: entries behind those that were given before, each lawful beside the places
--- in use and those that earlier ones took, and what they took is live and in use.
-pub record AsksFor (sizes : List TopSize) (w : Writing) (used_old live_old : List Place) (given_old : List Choice) (used_new live_new : List Place) (given_new : List Choice) : Type 0 where
+-- What a write asked of the chooser and got: entries behind those that were given before, which meet what the chooser's
+-- entries do beside the places in use, and what they took is live and in use.
+pub record AsksFor (Lawful : EntryLaw) (sizes : List TopSize) (w : Writing) (used_old live_old : List Place) (given_old : List Choice) (used_new live_new : List Place) (given_new : List Choice) : Type 0 where
   pub behind : given_new ≡ given_old ++ given_since given_old given_new
-  pub lawful : AreLawful sizes used_old (given_since given_old given_new)
+  pub lawful : Lawful sizes used_old (given_since given_old given_new)
   pub own : AllByRecursion (IsOf w) (given_since given_old given_new)
   pub used : SamePlaces used_new (taken_by_all (given_since given_old given_new) ++ used_old)
   pub live : SamePlaces live_new (taken_by_all (given_since given_old given_new) ++ live_old)

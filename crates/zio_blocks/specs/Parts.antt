@@ -18,13 +18,13 @@ use Rattle.zio_gang.specs.Writes.{Members, Placed}
 use Rattle.zio_disks.specs.Disks.{Tell}
 use Rattle.zio_disks.specs.Whole.{IsFitting}
 use Rattle.zio_blocks.specs.Blocks.{AnswersBy, AsksFor}
-use Rattle.zio_blocks.specs.Choosers.{AreHeld}
+use Rattle.zio_blocks.specs.Choosers.{AreHeld, EntryLaw}
 use Rattle.zio_blocks.specs.declared.place.Writing.{Writing}
 use Rattle.zio_blocks.specs.declared.pieces.Part.{Part}
 
 -- What a part's write asked of the chooser and left there.
-pub record Asks (w : Writing) (sizes_old : List TopSize) (used_old live_old : List Place) (given_old : List Choice) (sizes_new : List TopSize) (used_new live_new : List Place) (given_new : List Choice) : Type 0 where
-  pub asks : AsksFor sizes_old w used_old live_old given_old used_new live_new given_new
+pub record Asks (Lawful : EntryLaw) (w : Writing) (sizes_old : List TopSize) (used_old live_old : List Place) (given_old : List Choice) (sizes_new : List TopSize) (used_new live_new : List Place) (given_new : List Choice) : Type 0 where
+  pub asks : AsksFor Lawful sizes_old w used_old live_old given_old used_new live_new given_new
   pub sizes : sizes_new ≡ sizes_old
   pub held : AreHeld sizes_old used_old live_old → AreHeld sizes_new used_new live_new
 

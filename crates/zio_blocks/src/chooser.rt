@@ -1,11 +1,12 @@
 ghost use Rattle.std.specs.Prelude.{◌≡◌, ◌↔◌, ◌∷◌, ◌++◌, [], ℕ, ◌%◌, ◌<◌, ◌≤◌, List, Contains, Err, IfOk, OnErr, OnOk, true, false};
 ghost use Rattle.std.specs.List.{AllByRecursion};
 ghost use Rattle.zio_types.specs.Choices.{Choice, taken_by};
-ghost use Rattle.zio_types.specs.Places.{IsLawfulChoice, SamePlaces, are_apart, are_open};
+ghost use Rattle.zio_types.specs.Places.{SamePlaces, are_apart, are_open};
 ghost use Rattle.zio_types.specs.declared.place.Place.{Place};
 ghost use Rattle.zio_types.specs.declared.place.TopSize.{TopSize};
 ghost use Rattle.zio_places.specs.Spaces.{are_on_tops, used};
-ghost use Rattle.zio_blocks.specs.Choosers.{AreHeld, AreLeft};
+ghost use Rattle.zio_gang.specs.Journals.{AreLawful};
+ghost use Rattle.zio_blocks.specs.Choosers.{AreHeld, AreLeft, Continues, EntryLaw, GivesEntries, GivesOpen, HoldsOfNone};
 
 use std::alloc::Global;
 use zio_places::{ClaimFault, Space};
@@ -20,7 +21,8 @@ pub enum Unclaimed {
     Memory,
 }
 
-/// Where blocks are placed: each ask is answered by a lawful entry beside the places in use.
+/// Where blocks are placed. What its entries meet beside the places in use, one after another, is a chooser's own: those
+/// of a space are lawful in the order of its asks, and those that were recorded may be lawful in another order.
 pub trait Chooser {
     /// The sectors and the unit of each top.
     ghost sizes: { Self → List TopSize };
@@ -30,6 +32,9 @@ pub trait Chooser {
 
     /// The places that were taken or claimed, and not given back.
     ghost live: { Self → List Place };
+
+    /// What entries meet that are given one after another, beside the places that are in use before them.
+    ghost lawful: { EntryLaw };
 
     /// The entries that it gave since the last end of a round.
     ghost given: { Self → List Choice };
@@ -41,7 +46,7 @@ pub trait Chooser {
         requires one { 1 ≤ copies }
         requires most { copies ≤ 3 }
         ensures asked { IfOk result (λ entry. entry.asked ≡ record { key = key; size = size; copies = copies }) }
-        ensures lawful { IfOk result (λ entry. IsLawfulChoice (sizes self.old) (used self.old) entry) }
+        ensures lawful { IfOk result (λ entry. lawful (sizes self.old) (used self.old) (entry ∷ [])) }
         ensures used { IfOk result (λ entry. SamePlaces (used self.new) (taken_by entry ++ used self.old)) }
         ensures live { IfOk result (λ entry. SamePlaces (live self.new) (taken_by entry ++ live self.old)) }
         ensures given { IfOk result (λ entry. given self.new ≡ given self.old ++ entry ∷ []) }
@@ -79,6 +84,24 @@ pub trait Chooser {
         ensures used { SamePlaces (used self.new) (live self.new) }
         ensures held { AreHeld (sizes self.new) (used self.new) (live self.new) }
         ensures sizes { sizes self.new ≡ sizes self.old };
+
+    ghost lawful_none: { HoldsOfNone lawful };
+
+    ghost lawful_then: { Continues lawful };
+
+    ghost lawful_found: { GivesEntries lawful };
+
+    ghost lawful_open: { GivesOpen lawful };
+}
+
+/// A chooser whose entries are lawful in the order of its asks.
+pub trait LawfulChooser: Chooser {
+    ghost are_lawful: { (tops : List TopSize) (before : List Place) (entries : List Choice) → Self.lawful tops before entries →
+        AreLawful tops before entries };
+}
+
+impl LawfulChooser for Space {
+    ghost are_lawful = { λ tops before entries h. h };
 }
 
 impl Chooser for Space {
@@ -87,6 +110,8 @@ impl Chooser for Space {
     ghost used = { λ s. used s };
 
     ghost live = { λ s. s.live };
+
+    ghost lawful = { AreLawful };
 
     ghost given = { λ s. s.entries };
 
@@ -114,4 +139,14 @@ impl Chooser for Space {
         self.close_round();
         self.take_entries()
     }
+
+    ghost use Rattle.zio_blocks.specs.EntryLaws.{found_all, lawful_then, taken_open};
+
+    ghost lawful_none = { λ tops before. tt };
+
+    ghost lawful_then = { λ tops before now entries more h same k. lawful_then tops before now entries more h same k };
+
+    ghost lawful_found = { λ tops before entries h. found_all tops before entries h };
+
+    ghost lawful_open = { λ tops before entries h. taken_open tops before entries h };
 }

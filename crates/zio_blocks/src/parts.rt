@@ -4,7 +4,6 @@ ghost use Rattle.std.specs.Prelude.{◌≡◌, ◌∷◌, ◌++◌, ◌%◌, ◌
 ghost use Rattle.std.specs.List.{AllByRecursion};
 ghost use Rattle.zio_types.specs.Choices.{is_refused};
 ghost use Rattle.zio_types.specs.Filled.{IsFilled};
-ghost use Rattle.zio_types.specs.Places.{IsLawfulChoice};
 ghost use Rattle.zio_types.specs.declared.place.Place.{Place};
 ghost use Rattle.zio_cksum.specs.Frames.{spots_of};
 ghost use Rattle.zio_cksum.specs.Headers.{split_sizes};
@@ -14,7 +13,7 @@ ghost use Rattle.zio_gang.specs.Writes.{body_ask, chosen, cut, gang_with, head_a
 ghost use Rattle.zio_disks.specs.Disks.{Handles, Tell};
 ghost use Rattle.zio_disks.specs.Trees.{BearsTops};
 ghost use Rattle.zio_blocks.specs.Blocks.{HavePointers, terms_of};
-ghost use Rattle.zio_blocks.specs.Choosers.{given_since, taken_by_all};
+ghost use Rattle.zio_blocks.specs.Choosers.{IsFoundEntry, given_since, taken_by_all};
 ghost use Rattle.zio_blocks.specs.Laid.{AreLaid, AskOnce, IsBelow, IsFrom, IsLaid, IsOfGang};
 ghost use Rattle.zio_blocks.specs.Parts.{Asks, IsMade, IsPartSize, TellsMembers, TellsPart};
 
@@ -59,7 +58,7 @@ pub(crate) fn place_part<D: Disk, C: Chooser>(
     requires most { length bytes.now ≤ 1048576 }
     requires deep { length bytes.now ≤ 512 * 3 ^ levels }
     requires depth { length path.now + levels ≤ 8 }
-    ensures asks { Asks writing.now (C.sizes chooser.old) (C.used chooser.old) (C.live chooser.old) (C.given chooser.old) (C.sizes chooser.new) (C.used chooser.new) (C.live chooser.new) (C.given chooser.new) }
+    ensures asks { Asks C.lawful writing.now (C.sizes chooser.old) (C.used chooser.old) (C.live chooser.old) (C.given chooser.old) (C.sizes chooser.new) (C.used chooser.new) (C.live chooser.new) (C.given chooser.new) }
     ensures behind { OnOk result (heads.new.items ≡ heads.old.items ++ drop (length heads.old.items) heads.new.items) }
     ensures keys { AskOnce (IsFrom path.now) (given_since (C.given chooser.old) (C.given chooser.new)) }
     ensures laid { IfOk result (λ part. IsLaid (sizes_of setting.now.tops) levels path.now (length bytes.now) part (drop (length heads.old.items) heads.new.items)
@@ -115,7 +114,7 @@ fn place_gang<D: Disk, C: Chooser>(
     requires most { length bytes.now ≤ 1048576 }
     requires deep { length bytes.now ≤ 512 * 3 ^ (levels + 1) }
     requires depth { length path.now + levels < 8 }
-    ensures asks { Asks writing.now (C.sizes chooser.old) (C.used chooser.old) (C.live chooser.old) (C.given chooser.old) (C.sizes chooser.new) (C.used chooser.new) (C.live chooser.new) (C.given chooser.new) }
+    ensures asks { Asks C.lawful writing.now (C.sizes chooser.old) (C.used chooser.old) (C.live chooser.old) (C.given chooser.old) (C.sizes chooser.new) (C.used chooser.new) (C.live chooser.new) (C.given chooser.new) }
     ensures behind { OnOk result (heads.new.items ≡ heads.old.items ++ drop (length heads.old.items) heads.new.items) }
     ensures keys { AskOnce (IsOfGang path.now) (given_since (C.given chooser.old) (C.given chooser.new)) }
     ensures laid { IfOk result (λ part. IsLaid (sizes_of setting.now.tops) (levels + 1) path.now (length bytes.now) part (drop (length heads.old.items) heads.new.items)
@@ -164,9 +163,9 @@ fn write_gang<D: Disk, C: Chooser>(
     requires deep { length bytes.now ≤ 512 * 3 ^ (levels + 1) }
     requires depth { length path.now + levels < 8 }
     requires asked { entry.now.asked ≡ head_ask (terms_of setting.now writing.now) path.now }
-    requires lawful { (used : List Place) × IsLawfulChoice (sizes_of setting.now.tops) used entry.now }
+    requires entry { IsFoundEntry (sizes_of setting.now.tops) entry.now }
     requires found { is_refused entry.now ≡ false }
-    ensures asks { Asks writing.now (C.sizes chooser.old) (C.used chooser.old) (C.live chooser.old) (C.given chooser.old) (C.sizes chooser.new) (C.used chooser.new) (C.live chooser.new) (C.given chooser.new) }
+    ensures asks { Asks C.lawful writing.now (C.sizes chooser.old) (C.used chooser.old) (C.live chooser.old) (C.given chooser.old) (C.sizes chooser.new) (C.used chooser.new) (C.live chooser.new) (C.given chooser.new) }
     ensures behind { OnOk result (heads.new.items ≡ heads.old.items ++ drop (length heads.old.items) heads.new.items) }
     ensures keys { AskOnce (IsBelow path.now 0) (given_since (C.given chooser.old) (C.given chooser.new)) }
     ensures laid { IfOk result (λ part. IsLaid (sizes_of setting.now.tops) (levels + 1) path.now (length bytes.now) part (drop (length heads.old.items) heads.new.items)
@@ -240,7 +239,7 @@ fn place_members<D: Disk, C: Chooser>(
     requires filled { IsFilled None 3 n pointers.old }
     requires depth { length path.now + levels < 8 }
     requires made { AllByRecursion (λ pointer. IfSome pointer (IsMade (sizes_of setting.now.tops))) pointers.old }
-    ensures asks { Asks writing.now (C.sizes chooser.old) (C.used chooser.old) (C.live chooser.old) (C.given chooser.old) (C.sizes chooser.new) (C.used chooser.new) (C.live chooser.new) (C.given chooser.new) }
+    ensures asks { Asks C.lawful writing.now (C.sizes chooser.old) (C.used chooser.old) (C.live chooser.old) (C.given chooser.old) (C.sizes chooser.new) (C.used chooser.new) (C.live chooser.new) (C.given chooser.new) }
     ensures behind { OnOk result (heads.new.items ≡ heads.old.items ++ drop (length heads.old.items) heads.new.items) }
     ensures made { OnOk result (AllByRecursion (λ pointer. IfSome pointer (IsMade (sizes_of setting.now.tops))) pointers.new) }
     ensures keys { AskOnce (IsBelow path.now n) (given_since (C.given chooser.old) (C.given chooser.new)) }

@@ -3,7 +3,6 @@
 ghost use Rattle.std.specs.Prelude.{◌≡◌, ◌∷◌, ◌++◌, ◌%◌, ◌^◌, ◌<◌, ◌≤◌, [], ℕ, Err, IfOk, List, None, OnErr, OnOk, Some, false, length, map, slice_index_or, vec_len};
 ghost use Rattle.zio_types.specs.Choices.{is_refused, no_place};
 ghost use Rattle.zio_types.specs.Filled.{filled_to};
-ghost use Rattle.zio_types.specs.Places.{IsLawfulChoice};
 ghost use Rattle.zio_types.specs.declared.place.Place.{Place};
 ghost use Rattle.zio_blkptr.specs.Pointers.{FitsTypes};
 ghost use Rattle.zio_cksum.specs.Blocks.{write_piece};
@@ -15,7 +14,7 @@ ghost use Rattle.zio_gang.specs.declared.tree.Head.{Head as Header};
 ghost use Rattle.zio_disks.specs.Disks.{Handles, Tell};
 ghost use Rattle.zio_disks.specs.Trees.{BearsTops};
 ghost use Rattle.zio_blocks.specs.Blocks.{HavePointers, terms_of};
-ghost use Rattle.zio_blocks.specs.Choosers.{given_since};
+ghost use Rattle.zio_blocks.specs.Choosers.{IsFoundEntry, given_since};
 ghost use Rattle.zio_blocks.specs.Parts.{Asks, IsMade};
 
 use crate::chooser::Chooser;
@@ -49,14 +48,14 @@ pub(crate) fn ask<C: Chooser>(
     requires whole { size % 512 ≡ 0 }
     requires one { 1 ≤ copies }
     requires most { copies ≤ 3 }
-    ensures asks { Asks writing.now (C.sizes chooser.old) (C.used chooser.old) (C.live chooser.old) (C.given chooser.old) (C.sizes chooser.new) (C.used chooser.new) (C.live chooser.new) (C.given chooser.new) }
+    ensures asks { Asks C.lawful writing.now (C.sizes chooser.old) (C.used chooser.old) (C.live chooser.old) (C.given chooser.old) (C.sizes chooser.new) (C.used chooser.new) (C.live chooser.new) (C.given chooser.new) }
     ensures given { IfOk result (λ entry. given_since (C.given chooser.old) (C.given chooser.new) ≡ entry ∷ []) }
     ensures asked { IfOk result (λ entry. entry.asked ≡ record {
       key = record { request = writing.now.request; round = writing.now.round; attempt = writing.now.attempt; path = path.now; role = role };
       size = size;
       copies = copies;
     }) }
-    ensures lawful { IfOk result (λ entry. IsLawfulChoice (C.sizes chooser.old) (C.used chooser.old) entry) }
+    ensures entry { IfOk result (IsFoundEntry (C.sizes chooser.old)) }
     ensures none { OnErr result (given_since (C.given chooser.old) (C.given chooser.new) ≡ []) }
     ensures memory { OnErr result (result ≡ Err Stop.Memory) }
 {
@@ -123,7 +122,7 @@ pub(crate) fn write_body<D: Disk>(
     requires one { 1 ≤ entry.now.asked.copies }
     requires three { entry.now.asked.copies ≤ 3 }
     requires size { entry.now.asked.size ≡ length bytes.now }
-    requires lawful { (used : List Place) × IsLawfulChoice (sizes_of setting.now.tops) used entry.now }
+    requires entry { IsFoundEntry (sizes_of setting.now.tops) entry.now }
     requires found { is_refused entry.now ≡ false }
     ensures made { IfOk result (λ part. part.pointer ≡ Some (pointer_to (terms_of setting.now writing.now) entry.now.places false bytes.now)) }
     ensures good { IfOk result (λ part. IsMade (sizes_of setting.now.tops) (pointer_to (terms_of setting.now writing.now) entry.now.places false bytes.now)) }

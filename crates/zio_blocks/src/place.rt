@@ -74,7 +74,7 @@ pub fn place_block<D: Disk, C: Chooser>(
     requires birth { 1 ≤ writing.now.birth }
     ensures told { IfOk result (λ placed. (images : Images) → Tell D.image disks.old images →
         Places D.image (terms_of setting.now writing.now) bytes.now images placed (given_since (C.given chooser.old) (C.given chooser.new)) disks.new) }
-    ensures asks { AsksFor (C.sizes chooser.old) writing.now (C.used chooser.old) (C.live chooser.old) (C.given chooser.old) (C.used chooser.new) (C.live chooser.new) (C.given chooser.new) }
+    ensures asks { AsksFor C.lawful (C.sizes chooser.old) writing.now (C.used chooser.old) (C.live chooser.old) (C.given chooser.old) (C.used chooser.new) (C.live chooser.new) (C.given chooser.new) }
     ensures keys { HaveDistinctKeys (asks_of (given_since (C.given chooser.old) (C.given chooser.new))) }
     ensures places { IfOk result (λ placed. IfSome placed.tree (λ tree. IsPermutation (tree_places tree) (taken_by_all (given_since (C.given chooser.old) (C.given chooser.new))))) }
     ensures unused { IfOk result (λ placed. IfSome placed.tree (λ tree. are_open (C.used chooser.old) (tree_places tree) ≡ true)) }

@@ -10,17 +10,19 @@ use Rattle.zio_types.specs.declared.place.Place.{Place}
 use Rattle.zio_types.specs.declared.place.Top.{Top}
 use Rattle.zio_types.specs.Choices.{Choice, is_refused}
 use Rattle.zio_types.specs.Places.{SamePlaces, sector_size}
+use Rattle.zio_faults.specs.declared.table.Row.{Row}
+use Rattle.zio_script.specs.declared.script.Failmode.{Failmode}
 use Rattle.zio_script.specs.declared.script.Item.{Item}
 use Rattle.zio_script.specs.declared.script.Request.{Request}
 use Rattle.zio_script.specs.declared.script.Script.{Script}
 use Rattle.zio_script.specs.Accepted.{AreRising}
 use Rattle.zio_script.specs.Requests.{requests_of}
-use Rattle.zio_cksum.specs.Images.{Images}
+use Rattle.zio_cksum.specs.Images.{Images, Setting}
 use Rattle.zio_gang.specs.declared.tree.Tree.{Tree}
-use Rattle.zio_gang.specs.Attempts.{Pending}
+use Rattle.zio_gang.specs.Attempts.{Pending, Terms}
 use Rattle.zio_gang.specs.Journals.{choices_in, completions_in}
 use Rattle.zio_gang.specs.Rounds.{Admitted, Binding, Bound, admitted, block_of, is_bound, pending_trees, trees_of, used_places}
-use Rattle.zio_gang.specs.Runs.{Course, Event, Plan, State, has_trees, rounds_of, run_batch, run_suspended, then_course}
+use Rattle.zio_gang.specs.Runs.{Course, Event, Plan, State, has_trees, plan_of, rounds_of, run_batch, run_suspended, then_course}
 use Rattle.zio_gang.specs.Runs.Event.{RanRound, HeldBatch}
 use Rattle.zio_report.specs.declared.report.Line.{Line}
 use Rattle.zio_report.specs.declared.report.RoundHead.{RoundHead}
@@ -39,9 +41,10 @@ use Rattle.zio_course.specs.Faults.{fault_of}
 use Rattle.zio_course.specs.Folds.{SeenFold}
 use Rattle.zio_course.specs.Forests.{names_of, running}
 use Rattle.zio_course.specs.Names.{is_some_name, named_in}
-use Rattle.zio_course.specs.Runners.{DiffersInRound, DiffersLoose, Standing, has_sector, named_places}
-use Rattle.zio_course.specs.SoFar.{Ahead, AreCutImages, EndsWhole, GoesOn, IsBroken, IsCourseAt, IsCut, IsCutText, images_after}
+use Rattle.zio_course.specs.Runners.{DiffersInRound, DiffersLoose, IsCutRound, Standing, Stopping, has_sector, named_places, terms_at}
+use Rattle.zio_course.specs.SoFar.{Ahead, AreCutImages, AreNextTerms, EndsWhole, GoesOn, IsBroken, IsCourseAt, IsCut, IsCutText, images_after}
 use Rattle.zio_course.specs.SoFar.GoesOn.{WithBatch, WithSuspended}
+use Rattle.zio_course.specs.Steps.{IsAt, IsPlanOf}
 use Rattle.zio_course.proofs.AdmittedLemmas.{trees_admitted}
 use Rattle.zio_course.proofs.CompleteLemmas.{any_one}
 use Rattle.zio_course.proofs.CourseLemmas.{admitted_same, pending_same}
@@ -156,21 +159,31 @@ by_fault (Err Memory) P d s m = m refl
 
 -- ---- the images
 
-same_images : (fault : RunFault) (script : Script) (before : Images) (tops : List Top) (journal : Journal) (events : List Event) (images : Images)
-    → images ≡ images_after before (rounds_of events) → AreCutImages fault script before tops journal events images
-same_images Device script before tops journal events images h = inl h
-same_images Sink script before tops journal events images h = h
-same_images Memory script before tops journal events images h = inl h
+-- no disk's failure
+abbrev pub IsOther : RunFault → Type 0
+IsOther Device = ⊥
+IsOther Sink = Unit {0}
+IsOther Memory = Unit {0}
+
+pub other_stop : (stop : Stop) → (stop ≡ DeviceStops → ⊥) → IsOther (fault_of stop)
+other_stop DeviceStops other = absurd (other refl)
+other_stop NoMemory other = tt
+
+same_images : (fault : RunFault) (script : Script) (before : Images) (tops : List Top) (w : Stopping) (journal : Journal) (events : List Event) (images : Images)
+    → IsOther fault → w.stopped ≡ false → images ≡ images_after before (rounds_of events) → AreCutImages fault script before tops w journal events images
+same_images Device script before tops w journal events images other calm h = absurd other
+same_images Sink script before tops w journal events images other calm h = (calm, h)
+same_images Memory script before tops w journal events images other calm h = inl (calm, h)
 
 -- between two rounds
-pub cut_at : (show : Show) (n : RunSize) (script : Script) (before : Images) (s : Standing) (f : SeenFold) (ahead : Ahead) (later : List (List Request)) (journal : Journal) (images : Images) (printed : List ℕ) (rest : Plan → State → Course) (fault : RunFault)
-    → IsCourseAt show n script before s f ahead later journal images printed rest → IsCut show n script before s.tops fault journal images printed
-cut_at show n script before s f ahead later journal images printed rest fault h = record {
+pub cut_at : {w : Stopping} → (show : Show) (n : RunSize) (script : Script) (before : Images) (s : Standing) (f : SeenFold) (ahead : Ahead) (later : List (List Request)) (journal : Journal) (images : Images) (printed : List ℕ) (rest : Plan → State → Course) (fault : RunFault)
+    → IsOther fault → w.stopped ≡ false → IsCourseAt show n script before s f ahead later journal images printed rest → IsCut show n script before s.tops w fault journal images printed
+cut_at {w = w} show n script before s f ahead later journal images printed rest fault other calm h = record {
   events = h.events;
   rest = λ plan. rest plan h.state;
   begins = h.reached;
   entered = h.entered;
-  images = same_images fault script before s.tops journal h.events images h.images_are;
+  images = same_images fault script before s.tops w journal h.events images other calm h.images_are;
 }
 
 pub printed_ends : (show : Show) (n : RunSize) (script : Script) (before : Images) (s : Standing) (f : SeenFold) (ahead : Ahead) (later : List (List Request)) (journal : Journal) (images : Images) (printed : List ℕ) (rest : Plan → State → Course)
@@ -219,35 +232,55 @@ loose_same tops used live named old new same d = record {
     moved top sector (inl free) = inl (any_places (has_sector top sector) used live same ∙ free)
     moved top sector (inr there) = inr there
 
-stopped_images : (stop : Stop) (script : Script) (before : Images) (tops : List Top) (journal : Journal) (events : List Event) (after : Images)
-    → IsBroken script before tops journal events after → AreCutImages (fault_of stop) script before tops journal events after
-stopped_images DeviceStops script before tops journal events after h = inr h
-stopped_images NoMemory script before tops journal events after h = inr h
+stopped_images : (stop : Stop) (script : Script) (before : Images) (tops : List Top) (w : Stopping) (journal : Journal) (events : List Event) (after : Images)
+    → IsBroken script before tops w stop journal events after → AreCutImages (fault_of stop) script before tops w journal events after
+stopped_images DeviceStops script before tops w journal events after h = h
+stopped_images NoMemory script before tops w journal events after h = inr h
 
 -- in a round of these trees
-pub cut_in : (show : Show) (n : RunSize) (script : Script) (before : Images) (s : Standing) (f : SeenFold) (ahead : Ahead) (later : List (List Request)) (journal : Journal) (images after : Images) (printed : List ℕ) (rest : Plan → State → Course) (stop : Stop) (trees : List (List Pending))
-    → (h : IsCourseAt show n script before s f ahead later journal images printed rest) → GoesOn script before journal h.events trees → DiffersInRound s trees images after
-    → IsCut show n script before s.tops (fault_of stop) journal after printed
-cut_in show n script before s f ahead later journal images after printed rest stop trees h goes_on differs = record {
+pub cut_in : {w : Stopping} → (show : Show) (n : RunSize) (script : Script) (before : Images) (s : Standing) (f : SeenFold) (ahead : Ahead) (later : List (List Request)) (journal : Journal) (images after : Images) (printed : List ℕ) (rest : Plan → State → Course) (stop : Stop) (t : Terms) (trees : List (List Pending))
+    → (h : IsCourseAt show n script before s f ahead later journal images printed rest) → GoesOn script before journal h.events t trees images
+    → IsCutRound stop w t trees images after → DiffersInRound s trees images after
+    → IsCut show n script before s.tops w (fault_of stop) journal after printed
+cut_in {w = w} show n script before s f ahead later journal images after printed rest stop t trees h goes_on cut differs = record {
   events = h.events;
   rest = λ plan. rest plan h.state;
   begins = h.reached;
   entered = h.entered;
-  images = stopped_images stop script before s.tops journal h.events after (record {
+  images = stopped_images stop script before s.tops w journal h.events after (record {
+    terms = t;
     trees = trees;
-    goes_on = goes_on;
+    goes_on = subst (λ (i : Images). GoesOn script before journal h.events t trees i) h.images_are goes_on;
+    cut = subst (λ (i : Images). IsCutRound stop w t trees i after) h.images_are cut;
     loose = subst (λ (b : Bound). DiffersLoose s.tops (used_places b) (named_places trees) (images_after before (rounds_of h.events)) after) h.names_are
         (subst (λ (i : Images). DiffersLoose s.tops (used_places h.state.bound) (named_places trees) i after) h.images_are
         (loose_same s.tops (used_places h.state.bound) s.live (named_places trees) images after h.at.used differs));
   });
 }
 
+abbrev setting_with : List Top → List Row → ℕ → Setting
+setting_with tops rows point = record { tops = tops; rows = rows; point = point }
+
+-- the runner's terms are those of the course's next round
+next_terms : (script : Script) (before : Images) (s : Standing) (f : SeenFold) (rounds : ℕ) (images : Images) (st : State) (failmode : Failmode) → script.failmode ≡ failmode
+    → IsPlanOf s script.failmode (plan_of script before []) → IsAt s f.bound f.suspended rounds f.point images st
+    → AreNextTerms script before st (terms_at s failmode (rounds + 1) f.point)
+next_terms script before s f rounds images st failmode mode plan at = record {
+  setting = ap (λ (ts : List Top). setting_with ts s.rows f.point) (sym plan.tops)
+      ∙ (ap (λ (rs : List Row). setting_with (plan_of script before []).tops rs f.point) (sym plan.rows)
+      ∙ ap (λ (k : ℕ). setting_with (plan_of script before []).tops (plan_of script before []).rows k) (sym at.point_is));
+  failmode = sym mode;
+  round = ap (λ (k : ℕ). k + 1) (sym at.rounds_is);
+  used = at.used;
+}
+
 -- the course goes on with the trees of a batch
-pub batch_goes_on : (show : Show) (n : RunSize) (script : Script) (before : Images) (s : Standing) (f : SeenFold) (ahead : Ahead) (later : List (List Request)) (journal : Journal) (images : Images) (printed : List ℕ) (items : List Item) (number : ℕ) (awaited : List ℕ → Bool) (slots : List (ℕ × ℕ)) (rules : List Rules) (rest : Plan → State → Course)
+pub batch_goes_on : (show : Show) (n : RunSize) (script : Script) (before : Images) (s : Standing) (f : SeenFold) (ahead : Ahead) (later : List (List Request)) (journal : Journal) (images : Images) (printed : List ℕ) (items : List Item) (number : ℕ) (awaited : List ℕ → Bool) (slots : List (ℕ × ℕ)) (rules : List Rules) (rest : Plan → State → Course) (failmode : Failmode)
     → (h : IsCourseAt show n script before s f ahead later journal images printed (λ plan st. then_course (run_batch plan (record { number = number; requests = requests_of items }) st) (rest plan)))
     → AreRising (requests_of items) → AreAwaited f.suspended awaited → IsAdmission (has_trees f.suspended) awaited (is_some_name f.bound) (trees_of (requests_of items)) slots rules
-    → GoesOn script before journal h.events (pending_trees (names_of f.bound) number (trees_of (running slots rules items)))
-batch_goes_on show n script before s f ahead later journal images printed items number awaited slots rules rest h up awaits admission_is =
+    → script.failmode ≡ failmode
+    → GoesOn script before journal h.events (terms_at s failmode (journal.rounds + 1) f.point) (pending_trees (names_of f.bound) number (trees_of (running slots rules items))) images
+batch_goes_on show n script before s f ahead later journal images printed items number awaited slots rules rest failmode h up awaits admission_is mode =
     let requests : List Request = requests_of items in
     let test : List ℕ → Bool = is_some_name f.bound in
     let a : Admitted = admitted f.suspended test (trees_of requests) in
@@ -260,11 +293,14 @@ batch_goes_on show n script before s f ahead later journal images printed items 
     let same : pending_trees h.state.bound number a_st.trees ≡ pending_trees (names_of f.bound) number (trees_of (running slots rules items)) =
     ap (λ (x : Admitted). pending_trees h.state.bound number x.trees) a_same
     ∙ (pending_same h.state.bound (names_of f.bound) number a.trees (λ name. h.at.names name ∙ named_of name f.bound) ∙ trees_are) in
-    WithBatch h.state (record { number = number; requests = requests }) rest h.reached (sym same)
+    WithBatch h.state (record { number = number; requests = requests }) rest h.reached
+    (next_terms script before s f journal.rounds images h.state failmode mode h.plan h.at) (sym h.at.images_are) (sym same)
 
-pub clear_goes_on : (show : Show) (n : RunSize) (script : Script) (before : Images) (s : Standing) (f : SeenFold) (ahead : Ahead) (later : List (List Request)) (journal : Journal) (images : Images) (printed : List ℕ) (rest : Plan → State → Course)
-    → (h : IsCourseAt show n script before s f ahead later journal images printed (λ plan st. then_course (run_suspended plan st) (rest plan))) → GoesOn script before journal h.events f.suspended
-clear_goes_on show n script before s f ahead later journal images printed rest h = WithSuspended h.state rest h.reached (sym h.at.suspended_is)
+pub clear_goes_on : (show : Show) (n : RunSize) (script : Script) (before : Images) (s : Standing) (f : SeenFold) (ahead : Ahead) (later : List (List Request)) (journal : Journal) (images : Images) (printed : List ℕ) (rest : Plan → State → Course) (failmode : Failmode)
+    → (h : IsCourseAt show n script before s f ahead later journal images printed (λ plan st. then_course (run_suspended plan st) (rest plan)))
+    → script.failmode ≡ failmode → GoesOn script before journal h.events (terms_at s failmode (journal.rounds + 1) f.point) f.suspended images
+clear_goes_on show n script before s f ahead later journal images printed rest failmode h mode =
+    WithSuspended h.state rest h.reached (next_terms script before s f journal.rounds images h.state failmode mode h.plan h.at) (sym h.at.images_are) (sym h.at.suspended_is)
 
 -- ---- names by themselves
 

@@ -29,7 +29,7 @@ use Rattle.zio_report.specs.declared.report.Show.{Show}
 use Rattle.zio_report.specs.Reports.{RunSize, held_text}
 use Rattle.zio_course.specs.Folds.{IsSteady, SeenFold, has_items, requests_in_all, waiting_by, waiting_of}
 use Rattle.zio_course.specs.Moves.{HeldRan, IsGoing, LineCut, LineRan, StepCut, StepRan, requests_held}
-use Rattle.zio_course.specs.Runners.{Standing, rows_tell_apart}
+use Rattle.zio_course.specs.Runners.{Stopping, Standing, rows_tell_apart}
 use Rattle.zio_course.specs.SoFar.{Ahead, IsCourseAt, IsCut, coming, images_after, names_after}
 use Rattle.zio_course.proofs.CutLemmas.{Appends-none, written_then}
 use Rattle.zio_course.proofs.JoinLemmas.{rising_both, rising_join}
@@ -170,19 +170,19 @@ held_more show failmode s mid now f m g held left b old j new tells mid_tells ne
       Appends-both holds mid_holds new_holds first.1 second.1 first.4 second.4,
     )
 
-pub held_cut : (show : Show) (failmode : Failmode) (s mid : Standing) (f m : SeenFold) (held left : List Batch) (b : Batch) (old j new : Journal) (tells mid_tells new_tells : Images → Type 0) (holds mid_holds new_holds : List ℕ → Type 0) (fault : RunFault)
+pub held_cut : {w : Stopping} → (show : Show) (failmode : Failmode) (s mid : Standing) (f m : SeenFold) (held left : List Batch) (b : Batch) (old j new : Journal) (tells mid_tells new_tells : Images → Type 0) (holds mid_holds new_holds : List ℕ → Type 0) (fault : RunFault)
     → mid.rows ≡ s.rows → mid.tops ≡ s.tops → AllByRecursion (IsOrderlyBatch (rows_tell_apart s.rows)) (requests_held left) → has_trees m.suspended ≡ false
     → HeldRan show failmode s mid f m held (b ∷ left) old j tells mid_tells holds mid_holds
-    → StepCut show failmode mid m (b.requests ∷ []) j new mid_tells new_tells mid_holds new_holds (λ ahead plan st. run_batch plan b st) fault
-    → StepCut show failmode s f (requests_held held) old new tells new_tells holds new_holds (λ ahead plan st. run_held plan held st) fault
-held_cut show failmode s mid f m held left b old j new tells mid_tells new_tells holds mid_holds new_holds fault rows tops orderly none so_far step n script before images ahead later printed rest mode orderly_later h told =
+    → StepCut show failmode mid m (b.requests ∷ []) j new mid_tells new_tells w mid_holds new_holds (λ ahead plan st. run_batch plan b st) fault
+    → StepCut show failmode s f (requests_held held) old new tells new_tells w holds new_holds (λ ahead plan st. run_held plan held st) fault
+held_cut {w = w} show failmode s mid f m held left b old j new tells mid_tells new_tells holds mid_holds new_holds fault rows tops orderly none so_far step n script before images ahead later printed rest mode orderly_later h told =
     let first = so_far n script before images ahead later printed rest mode orderly_later h told in
     let next = held_next show n script before mid m ahead (requests_held (b ∷ left) ++ later) j first.0 (printed ++ first.1) rest b left none first.2 in
     let second = step n script before first.0 ahead (requests_held left ++ later) (printed ++ first.1) (λ plan st. then_course (run_held plan left st) (rest plan)) mode
     (subst (λ (r : List Row). AllByRecursion (IsOrderlyBatch (rows_tell_apart r)) (requests_held left ++ later)) (sym rows) (all_append (IsOrderlyBatch (rows_tell_apart s.rows)) (requests_held left) later orderly orderly_later)) next first.3 in (
       second.0,
       second.1,
-      subst (λ (t : List Top). IsCut show n script before t fault new second.0 second.1) tops second.2,
+      subst (λ (t : List Top). IsCut show n script before t w fault new second.0 second.1) tops second.2,
       second.3,
       written_then fault holds mid_holds new_holds printed first.1 second.1 first.4 second.4,
     )
@@ -325,9 +325,9 @@ waiting_some show failmode s now f g old new tells new_tells holds new_holds som
     (course_same show n script before s f ahead later old images printed (λ plan st. then_course (clear_if (has_trees st.suspended) plan st) (rest plan)) (λ plan st. then_course (run_suspended plan st) (rest plan)) h
     (λ js. clear_runs (plan_of script before js) h.state (rest (plan_of script before js)) (ap has_trees h.at.suspended_is ∙ some))) told
 
-pub waiting_cut : (show : Show) (failmode : Failmode) (s : Standing) (f : SeenFold) (old new : Journal) (tells new_tells : Images → Type 0) (holds new_holds : List ℕ → Type 0) (fault : RunFault) → has_trees f.suspended ≡ true
-    → StepCut show failmode s f [] old new tells new_tells holds new_holds (λ ahead plan st. run_suspended plan st) fault
-    → StepCut show failmode s f [] old new tells new_tells holds new_holds (λ ahead plan st. clear_if (has_trees st.suspended) plan st) fault
+pub waiting_cut : {w : Stopping} → (show : Show) (failmode : Failmode) (s : Standing) (f : SeenFold) (old new : Journal) (tells new_tells : Images → Type 0) (holds new_holds : List ℕ → Type 0) (fault : RunFault) → has_trees f.suspended ≡ true
+    → StepCut show failmode s f [] old new tells new_tells w holds new_holds (λ ahead plan st. run_suspended plan st) fault
+    → StepCut show failmode s f [] old new tells new_tells w holds new_holds (λ ahead plan st. clear_if (has_trees st.suspended) plan st) fault
 waiting_cut show failmode s f old new tells new_tells holds new_holds fault some step n script before images ahead later printed rest mode orderly h told =
     step n script before images ahead later printed rest mode orderly
     (course_same show n script before s f ahead later old images printed (λ plan st. then_course (clear_if (has_trees st.suspended) plan st) (rest plan)) (λ plan st. then_course (run_suspended plan st) (rest plan)) h
@@ -360,7 +360,7 @@ going_clear fits s now rounds next f g held later spare ls going steady rows nex
 -- the resume point rises
 pub going_raised : (fits : Tree → Type 0) (s : Standing) (rounds : ℕ) (f : SeenFold) (held : List Batch) (later : List (List Request)) (spare point : ℕ) → IsGoing fits s rounds f held later spare → IsGoing fits s rounds (record f { point = point }) held later spare
 going_raised fits s rounds f held later spare point h = record {
-  steady = record { fits_all = h.steady.fits_all; live = h.steady.live; waits = h.steady.waits; awaited = h.steady.awaited; runs = h.steady.runs; last = h.steady.last; sums = h.steady.sums };
+  steady = record { fits_all = h.steady.fits_all; live = h.steady.live; inside = h.steady.inside; waits = h.steady.waits; awaited = h.steady.awaited; runs = h.steady.runs; last = h.steady.last; sums = h.steady.sums };
   rising = h.rising;
   orderly = h.orderly;
   numbers = h.numbers;
@@ -414,12 +414,12 @@ line_clear show failmode s mid now f m g held left batch batches old j new tells
       Appends-both holds mid_holds new_holds first.1 second.1 first.4 second.4,
     )
 
-pub line_clear_cut : (show : Show) (failmode : Failmode) (s mid : Standing) (f m : SeenFold) (held : List Batch) (batch : List Request) (batches : ℕ) (old j new : Journal) (tells mid_tells new_tells : Images → Type 0) (holds mid_holds new_holds : List ℕ → Type 0) (fault : RunFault)
+pub line_clear_cut : {w : Stopping} → (show : Show) (failmode : Failmode) (s mid : Standing) (f m : SeenFold) (held : List Batch) (batch : List Request) (batches : ℕ) (old j new : Journal) (tells mid_tells new_tells : Images → Type 0) (holds mid_holds new_holds : List ℕ → Type 0) (fault : RunFault)
     → mid.rows ≡ s.rows → mid.tops ≡ s.tops → AllByRecursion (IsOrderlyBatch (rows_tell_apart s.rows)) (requests_held held)
     → StepRan show failmode s mid (record f { point = f.point + 1 }) m (λ a. a) [] [] old j tells mid_tells holds mid_holds (λ ahead plan st. clear_if (has_trees st.suspended) plan st)
-    → StepCut show failmode mid m (requests_held held) j new mid_tells new_tells mid_holds new_holds (λ ahead plan st. run_held plan held st) fault
-    → LineCut show failmode s f (record { held = held; batch = batch; batches = batches }) (requests_held held) old new tells new_tells holds new_holds clear_line fault
-line_clear_cut show failmode s mid f m held batch batches old j new tells mid_tells new_tells holds mid_holds new_holds fault rows tops orderly waiting runs n script before images later printed rest mode orderly_later h told =
+    → StepCut show failmode mid m (requests_held held) j new mid_tells new_tells w mid_holds new_holds (λ ahead plan st. run_held plan held st) fault
+    → LineCut show failmode s f (record { held = held; batch = batch; batches = batches }) (requests_held held) old new tells new_tells w holds new_holds clear_line fault
+line_clear_cut {w = w} show failmode s mid f m held batch batches old j new tells mid_tells new_tells holds mid_holds new_holds fault rows tops orderly waiting runs n script before images later printed rest mode orderly_later h told =
     let ahead : Ahead = record { held = held; batch = batch; batches = batches } in
     let first = waiting n script before images ahead (requests_held held ++ later) printed (λ plan st. then_course (run_held plan st.held st) (rest plan)) mode
     (all_append (IsOrderlyBatch (rows_tell_apart s.rows)) (requests_held held) later orderly orderly_later)
@@ -428,15 +428,15 @@ line_clear_cut show failmode s mid f m held batch batches old j new tells mid_te
     (held_are show n script before mid m ahead (requests_held held ++ later) j first.0 (printed ++ first.1) rest first.2) first.3 in (
       second.0,
       second.1,
-      subst (λ (t : List Top). IsCut show n script before t fault new second.0 second.1) tops second.2,
+      subst (λ (t : List Top). IsCut show n script before t w fault new second.0 second.1) tops second.2,
       second.3,
       written_then fault holds mid_holds new_holds printed first.1 second.1 first.4 second.4,
     )
 
-pub line_waiting_cut : (show : Show) (failmode : Failmode) (s : Standing) (f : SeenFold) (held : List Batch) (batch : List Request) (batches : ℕ) (old new : Journal) (tells new_tells : Images → Type 0) (holds new_holds : List ℕ → Type 0) (fault : RunFault)
+pub line_waiting_cut : {w : Stopping} → (show : Show) (failmode : Failmode) (s : Standing) (f : SeenFold) (held : List Batch) (batch : List Request) (batches : ℕ) (old new : Journal) (tells new_tells : Images → Type 0) (holds new_holds : List ℕ → Type 0) (fault : RunFault)
     → AllByRecursion (IsOrderlyBatch (rows_tell_apart s.rows)) (requests_held held)
-    → StepCut show failmode s (record f { point = f.point + 1 }) [] old new tells new_tells holds new_holds (λ ahead plan st. clear_if (has_trees st.suspended) plan st) fault
-    → LineCut show failmode s f (record { held = held; batch = batch; batches = batches }) (requests_held held) old new tells new_tells holds new_holds clear_line fault
+    → StepCut show failmode s (record f { point = f.point + 1 }) [] old new tells new_tells w holds new_holds (λ ahead plan st. clear_if (has_trees st.suspended) plan st) fault
+    → LineCut show failmode s f (record { held = held; batch = batch; batches = batches }) (requests_held held) old new tells new_tells w holds new_holds clear_line fault
 line_waiting_cut show failmode s f held batch batches old new tells new_tells holds new_holds fault orderly waiting n script before images later printed rest mode orderly_later h told =
     waiting n script before images (record { held = held; batch = batch; batches = batches }) (requests_held held ++ later) printed (λ plan st. then_course (run_held plan st.held st) (rest plan)) mode
     (all_append (IsOrderlyBatch (rows_tell_apart s.rows)) (requests_held held) later orderly orderly_later)
@@ -547,10 +547,10 @@ line_runs show failmode s now f g held b batches old new tells new_tells holds n
     (ap (λ (m : Failmode). not (has_trees f.suspended) || goes_on m) mode ∙ runs)
     (subst (λ (bs : List Batch). IsCourseAt show n script before s f (record { held = bs; batch = b.requests; batches = batches }) ((requests_held bs ++ b.requests ∷ []) ++ later) old images printed (λ plan st. then_course (go_line plan st) (rest plan))) none h))) told)
 
-pub line_runs_cut : (show : Show) (failmode : Failmode) (s : Standing) (f : SeenFold) (held : List Batch) (b : Batch) (batches : ℕ) (old new : Journal) (tells new_tells : Images → Type 0) (holds new_holds : List ℕ → Type 0) (fault : RunFault)
+pub line_runs_cut : {w : Stopping} → (show : Show) (failmode : Failmode) (s : Standing) (f : SeenFold) (held : List Batch) (b : Batch) (batches : ℕ) (old new : Journal) (tells new_tells : Images → Type 0) (holds new_holds : List ℕ → Type 0) (fault : RunFault)
     → (not (has_trees f.suspended) || goes_on failmode) ≡ true → held ≡ [] → b.number ≡ batches + 1
-    → StepCut show failmode s f (b.requests ∷ []) old new tells new_tells holds new_holds (λ ahead plan st. run_batch plan b st) fault
-    → LineCut show failmode s f (record { held = held; batch = b.requests; batches = batches }) (requests_held held ++ b.requests ∷ []) old new tells new_tells holds new_holds go_line fault
+    → StepCut show failmode s f (b.requests ∷ []) old new tells new_tells w holds new_holds (λ ahead plan st. run_batch plan b st) fault
+    → LineCut show failmode s f (record { held = held; batch = b.requests; batches = batches }) (requests_held held ++ b.requests ∷ []) old new tells new_tells w holds new_holds go_line fault
 line_runs_cut show failmode s f held b batches old new tells new_tells holds new_holds fault runs none number step n script before images later printed rest mode orderly h told =
     step n script before images (record { held = []; batch = []; batches = batches + 1 }) later printed rest mode orderly
     (subst (λ (k : ℕ). IsCourseAt show n script before s f (record { held = []; batch = []; batches = batches + 1 }) (b.requests ∷ later) old images printed (λ plan st. then_course (run_batch plan (record { number = k; requests = b.requests }) st) (rest plan))) (sym number)

@@ -1,10 +1,13 @@
 -- Rounds of a run as the calls answer them: what is told after them, and where they are cut short.
-use Rattle.std.proofs.Common.{◌≡◌, ℕ, suc, ◌+◌, ◌≤◌, List, [], ◌∷◌, ◌++◌, length, map, drop, filter, reverse, Bool, ◌&&◌, Option, Some, None, refl, sym, ap, ◌∙◌, subst, inl, inr, ◌*◌, ◌^◌, ◌||◌, length-append, arith, Result, Ok, Err}
-use Rattle.std.specs.Prelude.{IfErr, IfSome, IsErrAnd, OnOk}
+use Rattle.std.proofs.Common.{◌≡◌, ℕ, suc, ◌+◌, ◌≤◌, List, [], ◌∷◌, ◌++◌, length, map, drop, filter, reverse, Bool, ◌&&◌, Option, Some, None, refl, sym, ap, ◌∙◌, subst, inl, inr, ◌*◌, ◌^◌, ◌||◌, length-append, arith, Result, Ok, Err, false, ◌⊎◌}
+use Rattle.std.specs.Prelude.{Contains, IfErr, IfSome, IsErrAnd, IsTrue, OnOk}
 use Rattle.std.specs.List.{AllByRecursion}
 use Rattle.zio_types.specs.declared.error.Errno.{Errno}
 use Rattle.zio_types.specs.declared.journal.Completion.{Completion}
 use Rattle.zio_types.specs.declared.journal.Journal.{Journal}
+use Rattle.zio_types.specs.declared.place.Place.{Place}
+use Rattle.zio_types.specs.declared.place.Top.{Top}
+use Rattle.zio_types.specs.Places.{is_inside}
 use Rattle.zio_script.specs.declared.script.Failmode.{Failmode}
 use Rattle.zio_script.specs.declared.script.Item.{Item}
 use Rattle.zio_script.specs.declared.script.Request.{Request}
@@ -16,6 +19,7 @@ use Rattle.zio_gang.specs.declared.tree.Tree.{Tree}
 use Rattle.zio_gang.specs.Attempts.{Pending}
 use Rattle.zio_gang.specs.Rounds.{Bound, bound_after, pending_trees, trees_of}
 use Rattle.zio_gang.specs.Runs.{Course, Plan, State, has_trees, is_panic, run_batch, run_suspended, then_course}
+use Rattle.zio_gang.specs.Trees.{sizes_of}
 use Rattle.zio_report.specs.declared.report.Line.{Line}
 use Rattle.zio_report.specs.declared.report.RunFault.{RunFault}
 use Rattle.zio_report.specs.declared.report.RunFault.TheVariants.{Memory}
@@ -34,10 +38,12 @@ use Rattle.zio_course.specs.Faults.{fault_of}
 use Rattle.zio_course.specs.Folds.{AreSuspended, IsSteady, SeenFold, counted_in, has_items, is_named_by, waiting_of}
 use Rattle.zio_course.specs.Forests.{names_of, running}
 use Rattle.zio_course.specs.Names.{is_name_in, is_some_name, named_in}
-use Rattle.zio_course.specs.Runners.{IsRound, IsRoundEnd, Standing, StandsAfter, rows_tell_apart, terms_at}
+use Rattle.zio_course.specs.Runners.{IsRound, IsRoundEnd, Standing, StandsAfter, Stopping, freed_places, made_places, rows_tell_apart, terms_at}
 use Rattle.zio_course.specs.SoFar.{Ahead, IsCourseAt, IsCut, IsCutText}
 use Rattle.zio_course.specs.Told.{ended_told, line_told, no_error}
-use Rattle.zio_course.proofs.CutLemmas.{batch_goes_on, clear_goes_on, cut_at, cut_in, named_pair, not_written, nothing_more, pairs_of, printed_ends}
+use Rattle.zio_course.proofs.ApartLemmas.{one_passing}
+use Rattle.zio_course.proofs.DoneLemmas.{contains_one}
+use Rattle.zio_course.proofs.CutLemmas.{IsOther, batch_goes_on, clear_goes_on, cut_at, cut_in, named_pair, not_written, nothing_more, pairs_of, printed_ends}
 use Rattle.zio_course.proofs.FoldLemmas.{named_both}
 use Rattle.zio_course.proofs.JoinLemmas.{batch_suspended, clear_suspended, names_awaited, rising_both}
 use Rattle.zio_course.proofs.LiveLemmas.{live_after}
@@ -62,10 +68,6 @@ trees_items pending [] = refl
 trees_items pending (t ∷ ts) = refl
 
 -- ---- answers
-
-pub any_fault : (r : Result Unit RunFault) (P : RunFault → Type 0) → ((e : RunFault) → P e) → IfErr r P
-any_fault (Ok x) P h = tt
-any_fault (Err e) P h = h e
 
 pub by_stop : (r : Result Unit RunFault) (stop : Stop) (P : RunFault → Type 0) → IsErrAnd r (λ e. e ≡ fault_of stop) → P (fault_of stop) → IfErr r P
 by_stop (Ok x) stop P is h = tt
@@ -106,9 +108,9 @@ batch_told show n script before s now f g ahead later old new images after print
     point_is (panicked_is ∙ (ap (λ (m : Failmode). is_panic m && has_trees left) (sym mode) ∙ ap (λ (l : List (List Pending)). is_panic script.failmode && has_trees l) left_is)) tally_is)
 
 -- the round is whole, and its text was not
-pub batch_cut : (show : Show) (n : RunSize) (script : Script) (before : Images) (s now : Standing) (f : SeenFold) (ahead : Ahead) (later : List (List Request)) (old new : Journal) (images after : Images) (printed text : List ℕ)
+pub batch_cut : {w : Stopping} → (show : Show) (n : RunSize) (script : Script) (before : Images) (s now : Standing) (f : SeenFold) (ahead : Ahead) (later : List (List Request)) (old new : Journal) (images after : Images) (printed text : List ℕ)
     (items : List Item) (number : ℕ) (slots : List (ℕ × ℕ)) (rules : List Rules) (end : RoundEnd (List Pending)) (lines : List Line) (left : List (List Pending)) (failmode : Failmode) (made : List (List ℕ × Tree)) (rest : Plan → State → Course) (fits : Tree → Type 0) (rounds : ℕ) (fault : RunFault)
-    → script.failmode ≡ failmode → AllByRecursion (IsOrderlyBatch (rows_tell_apart s.rows)) later
+    → IsOther fault → w.stopped ≡ false → script.failmode ≡ failmode → AllByRecursion (IsOrderlyBatch (rows_tell_apart s.rows)) later
     → IsCourseAt show n script before s f ahead (requests_of items ∷ later) old images printed (λ plan st. then_course (run_batch plan (record { number = number; requests = requests_of items }) st) (rest plan))
     → IsSteady fits s rounds f → IsOrderlyBatch (rows_tell_apart s.rows) (requests_of items)
     → IsAdmission (has_trees f.suspended) (is_name_in f.awaited) (is_some_name f.bound) (trees_of (requests_of items)) slots rules
@@ -117,8 +119,8 @@ pub batch_cut : (show : Show) (n : RunSize) (script : Script) (before : Images) 
     → StandsAfter s now (old.rounds + 1) (pending_trees (names_of f.bound) number (trees_of (running slots rules items))) end
     → IsRound (terms_at s failmode (old.rounds + 1) f.point) (pending_trees (names_of f.bound) number (trees_of (running slots rules items))) images after end
     → text ≡ round_text show (record { round = old.rounds + 1; batch = Some number; point = f.point }) lines end.entries (reverse (answered_in (error_in slots rules) (old.rounds + 1) (requests_of items)) ++ end.completions)
-    → IsCut show n script before s.tops fault new after (printed ++ text)
-batch_cut show n script before s now f ahead later old new images after printed text items number slots rules end lines left failmode made rest fits rounds fault mode orderly_later h steady orderly admission_is ran over stands round_is text_is =
+    → IsCut show n script before s.tops w fault new after (printed ++ text)
+batch_cut {w = w} show n script before s now f ahead later old new images after printed text items number slots rules end lines left failmode made rest fits rounds fault other calm mode orderly_later h steady orderly admission_is ran over stands round_is text_is =
     let none : List (List ℕ) = [] in
     let g : SeenFold = record {
       bound = made;
@@ -129,15 +131,15 @@ batch_cut show n script before s now f ahead later old new images after printed 
       panicked = is_panic failmode && has_trees left;
       tally = counted_in lines f.tally;
     } in
-    subst (λ (tops : List _). IsCut show n script before tops fault new after (printed ++ text)) stands.tops
-    (cut_at show n script before now g ahead later new after (printed ++ text) rest fault
+    subst (λ (tops : List _). IsCut show n script before tops w fault new after (printed ++ text)) stands.tops
+    (cut_at show n script before now g ahead later new after (printed ++ text) rest fault other calm
     (batch_told show n script before s now f g ahead later old new images after printed text items number slots rules end lines left failmode made rest fits rounds mode orderly_later h steady orderly admission_is ran over stands round_is
     refl refl refl refl refl refl text_is))
 
 -- the same where its lines and names were not told
-pub batch_untold : (show : Show) (n : RunSize) (script : Script) (before : Images) (s now : Standing) (f : SeenFold) (ahead : Ahead) (later : List (List Request)) (old new : Journal) (images after : Images) (printed : List ℕ)
+pub batch_untold : {w : Stopping} → (show : Show) (n : RunSize) (script : Script) (before : Images) (s now : Standing) (f : SeenFold) (ahead : Ahead) (later : List (List Request)) (old new : Journal) (images after : Images) (printed : List ℕ)
     (items : List Item) (number : ℕ) (slots : List (ℕ × ℕ)) (rules : List Rules) (end : RoundEnd (List Pending)) (failmode : Failmode) (rest : Plan → State → Course) (fits : Tree → Type 0) (rounds : ℕ) (fault : RunFault)
-    → script.failmode ≡ failmode → AllByRecursion (IsOrderlyBatch (rows_tell_apart s.rows)) later
+    → IsOther fault → w.stopped ≡ false → script.failmode ≡ failmode → AllByRecursion (IsOrderlyBatch (rows_tell_apart s.rows)) later
     → IsCourseAt show n script before s f ahead (requests_of items ∷ later) old images printed (λ plan st. then_course (run_batch plan (record { number = number; requests = requests_of items }) st) (rest plan))
     → IsSteady fits s rounds f → IsOrderlyBatch (rows_tell_apart s.rows) (requests_of items)
     → IsAdmission (has_trees f.suspended) (is_name_in f.awaited) (is_some_name f.bound) (trees_of (requests_of items)) slots rules
@@ -145,14 +147,14 @@ pub batch_untold : (show : Show) (n : RunSize) (script : Script) (before : Image
     → IsRoundEnd s (old.rounds + 1) (pending_trees (names_of f.bound) number (trees_of (running slots rules items))) end
     → StandsAfter s now (old.rounds + 1) (pending_trees (names_of f.bound) number (trees_of (running slots rules items))) end
     → IsRound (terms_at s failmode (old.rounds + 1) f.point) (pending_trees (names_of f.bound) number (trees_of (running slots rules items))) images after end
-    → (text : List ℕ) × IsCut show n script before s.tops fault new after (printed ++ text)
-batch_untold show n script before s now f ahead later old new images after printed items number slots rules end failmode rest fits rounds fault mode orderly_later h steady orderly admission_is entered over stands round_is =
+    → (text : List ℕ) × IsCut show n script before s.tops w fault new after (printed ++ text)
+batch_untold {w = w} show n script before s now f ahead later old new images after printed items number slots rules end failmode rest fits rounds fault other calm mode orderly_later h steady orderly admission_is entered over stands round_is =
     let error : ℕ → Option Errno = error_in slots rules in
     let bound : Bound = bound_after (ended_told error end.finished (requests_of items)) (names_of f.bound) in
     let lines : List Line = map (line_told error end.finished) (requests_of items) in
     let text : List ℕ = round_text show (record { round = old.rounds + 1; batch = Some number; point = f.point }) lines end.entries (reverse (answered_in error (old.rounds + 1) (requests_of items)) ++ end.completions) in (
       text,
-      batch_cut show n script before s now f ahead later old new images after printed text items number slots rules end lines end.left failmode (pairs_of bound) rest fits rounds fault mode orderly_later h steady orderly admission_is
+      batch_cut show n script before s now f ahead later old new images after printed text items number slots rules end lines end.left failmode (pairs_of bound) rest fits rounds fault other calm mode orderly_later h steady orderly admission_is
           (record { journal = entered; lines_are = refl; bound_is = λ name. named_pair bound name }) over stands round_is refl,
     )
 
@@ -184,17 +186,17 @@ clear_told show n script before s now f g ahead later old new images after print
     (unfinished_is ∙ (ap (waiting_of f.unfinished) ran.lines_are ∙ waiting_told no_error end.finished f.unfinished))
     point_is (panicked_is ∙ (ap (λ (m : Failmode). is_panic m && has_trees left) (sym mode) ∙ ap (λ (l : List (List Pending)). is_panic script.failmode && has_trees l) left_is)) tally_is)
 
-pub clear_cut : (show : Show) (n : RunSize) (script : Script) (before : Images) (s now : Standing) (f : SeenFold) (ahead : Ahead) (later : List (List Request)) (old new : Journal) (images after : Images) (printed text : List ℕ)
+pub clear_cut : {w : Stopping} → (show : Show) (n : RunSize) (script : Script) (before : Images) (s now : Standing) (f : SeenFold) (ahead : Ahead) (later : List (List Request)) (old new : Journal) (images after : Images) (printed text : List ℕ)
     (end : RoundEnd (List Pending)) (lines : List Line) (left : List (List Pending)) (failmode : Failmode) (made : List (List ℕ × Tree)) (rest : Plan → State → Course) (fits : Tree → Type 0) (rounds : ℕ) (fault : RunFault)
-    → script.failmode ≡ failmode → AllByRecursion (IsOrderlyBatch (rows_tell_apart s.rows)) later
+    → IsOther fault → w.stopped ≡ false → script.failmode ≡ failmode → AllByRecursion (IsOrderlyBatch (rows_tell_apart s.rows)) later
     → IsCourseAt show n script before s f ahead later old images printed (λ plan st. then_course (run_suspended plan st) (rest plan))
     → IsSteady fits s rounds f
     → IsBatchRun no_error f.unfinished f.bound made old new end lines left
     → IsRoundEnd s (old.rounds + 1) f.suspended end → StandsAfter s now (old.rounds + 1) f.suspended end
     → IsRound (terms_at s failmode (old.rounds + 1) f.point) f.suspended images after end
     → text ≡ round_text show (record { round = old.rounds + 1; batch = None; point = f.point }) lines end.entries end.completions
-    → IsCut show n script before s.tops fault new after (printed ++ text)
-clear_cut show n script before s now f ahead later old new images after printed text end lines left failmode made rest fits rounds fault mode orderly_later h steady ran over stands round_is text_is =
+    → IsCut show n script before s.tops w fault new after (printed ++ text)
+clear_cut {w = w} show n script before s now f ahead later old new images after printed text end lines left failmode made rest fits rounds fault other calm mode orderly_later h steady ran over stands round_is text_is =
     let none : List (List ℕ) = [] in
     let g : SeenFold = record {
       bound = made;
@@ -205,26 +207,26 @@ clear_cut show n script before s now f ahead later old new images after printed 
       panicked = is_panic failmode && has_trees left;
       tally = counted_in lines f.tally;
     } in
-    subst (λ (tops : List _). IsCut show n script before tops fault new after (printed ++ text)) stands.tops
-    (cut_at show n script before now g ahead later new after (printed ++ text) rest fault
+    subst (λ (tops : List _). IsCut show n script before tops w fault new after (printed ++ text)) stands.tops
+    (cut_at show n script before now g ahead later new after (printed ++ text) rest fault other calm
     (clear_told show n script before s now f g ahead later old new images after printed text end lines left failmode made rest fits rounds mode orderly_later h steady ran over stands round_is refl refl refl refl refl refl text_is))
 
-pub clear_untold : (show : Show) (n : RunSize) (script : Script) (before : Images) (s now : Standing) (f : SeenFold) (ahead : Ahead) (later : List (List Request)) (old new : Journal) (images after : Images) (printed : List ℕ)
+pub clear_untold : {w : Stopping} → (show : Show) (n : RunSize) (script : Script) (before : Images) (s now : Standing) (f : SeenFold) (ahead : Ahead) (later : List (List Request)) (old new : Journal) (images after : Images) (printed : List ℕ)
     (end : RoundEnd (List Pending)) (failmode : Failmode) (rest : Plan → State → Course) (fits : Tree → Type 0) (rounds : ℕ) (fault : RunFault)
-    → script.failmode ≡ failmode → AllByRecursion (IsOrderlyBatch (rows_tell_apart s.rows)) later
+    → IsOther fault → w.stopped ≡ false → script.failmode ≡ failmode → AllByRecursion (IsOrderlyBatch (rows_tell_apart s.rows)) later
     → IsCourseAt show n script before s f ahead later old images printed (λ plan st. then_course (run_suspended plan st) (rest plan))
     → IsSteady fits s rounds f
     → IsEntered [] old new end end.finished end.left
     → IsRoundEnd s (old.rounds + 1) f.suspended end → StandsAfter s now (old.rounds + 1) f.suspended end
     → IsRound (terms_at s failmode (old.rounds + 1) f.point) f.suspended images after end
-    → (text : List ℕ) × IsCut show n script before s.tops fault new after (printed ++ text)
-clear_untold show n script before s now f ahead later old new images after printed end failmode rest fits rounds fault mode orderly_later h steady entered over stands round_is =
+    → (text : List ℕ) × IsCut show n script before s.tops w fault new after (printed ++ text)
+clear_untold {w = w} show n script before s now f ahead later old new images after printed end failmode rest fits rounds fault other calm mode orderly_later h steady entered over stands round_is =
     let bound : Bound = bound_after (ended_told no_error end.finished f.unfinished) (names_of f.bound) in
     let lines : List Line = map (line_told no_error end.finished) f.unfinished in
     let text : List ℕ = round_text show (record { round = old.rounds + 1; batch = None; point = f.point }) lines end.entries end.completions in
     let none : List Completion = [] in (
       text,
-      clear_cut show n script before s now f ahead later old new images after printed text end lines end.left failmode (pairs_of bound) rest fits rounds fault mode orderly_later h steady
+      clear_cut show n script before s now f ahead later old new images after printed text end lines end.left failmode (pairs_of bound) rest fits rounds fault other calm mode orderly_later h steady
           (record {
             journal = subst (λ (given : List Completion). IsEntered given old new end end.finished end.left) (sym (ap reverse (none_answered (old.rounds + 1) f.unfinished))) entered;
             lines_are = refl;
@@ -234,51 +236,67 @@ clear_untold show n script before s now f ahead later old new images after print
 
 -- ---- where a round was cut short
 
-pub batch_short : (show : Show) (n : RunSize) (script : Script) (before : Images) (s now : Standing) (f : SeenFold) (ahead : Ahead) (later : List (List Request)) (old new : Journal) (images after : Images) (printed : List ℕ)
+pub batch_short : {w : Stopping} → (show : Show) (n : RunSize) (script : Script) (before : Images) (s now : Standing) (f : SeenFold) (ahead : Ahead) (later : List (List Request)) (old new : Journal) (images after : Images) (printed : List ℕ)
     (items : List Item) (number : ℕ) (slots : List (ℕ × ℕ)) (rules : List Rules) (failmode : Failmode) (rest : Plan → State → Course) (fits : Tree → Type 0) (rounds : ℕ) (stop : Stop) (holds : List ℕ → Type 0)
     → script.failmode ≡ failmode → AllByRecursion (IsOrderlyBatch (rows_tell_apart s.rows)) later
     → IsCourseAt show n script before s f ahead (requests_of items ∷ later) old images printed (λ plan st. then_course (run_batch plan (record { number = number; requests = requests_of items }) st) (rest plan))
     → IsSteady fits s rounds f → IsOrderlyBatch (rows_tell_apart s.rows) (requests_of items)
     → IsAdmission (has_trees f.suspended) (is_name_in f.awaited) (is_some_name f.bound) (trees_of (requests_of items)) slots rules
-    → AreRising (requests_of items) → (stop ≡ DeviceStops → new ≡ old)
-    → IsCutShort s now (terms_at s failmode (old.rounds + 1) f.point) (pending_trees (names_of f.bound) number (trees_of (running slots rules items))) (reverse (answered_in (error_in slots rules) (old.rounds + 1) (requests_of items))) old new images after
-    → (text : List ℕ) × IsCut show n script before s.tops (fault_of stop) new after text × IsCutText (fault_of stop) holds holds printed text
-batch_short show n script before s now f ahead later old new images after printed items number slots rules failmode rest fits rounds stop holds mode orderly_later h steady orderly admission_is up kept (inl (same, differs)) = (
+    → AreRising (requests_of items)
+    → IsCutShort s now w stop (terms_at s failmode (old.rounds + 1) f.point) (pending_trees (names_of f.bound) number (trees_of (running slots rules items))) (reverse (answered_in (error_in slots rules) (old.rounds + 1) (requests_of items))) old new images after
+    → (text : List ℕ) × IsCut show n script before s.tops w (fault_of stop) new after text × IsCutText (fault_of stop) holds holds printed text
+batch_short {w = w} show n script before s now f ahead later old new images after printed items number slots rules failmode rest fits rounds stop holds mode orderly_later h steady orderly admission_is up (inl (is, calm, same, unmoved)) = (
   printed,
-  subst (λ (j : Journal). IsCut show n script before s.tops (fault_of stop) j after printed) (sym same)
-      (cut_in show n script before s f ahead (requests_of items ∷ later) old images after printed (λ plan st. then_course (run_batch plan (record { number = number; requests = requests_of items }) st) (rest plan)) stop
-      (pending_trees (names_of f.bound) number (trees_of (running slots rules items))) h
-      (batch_goes_on show n script before s f ahead (requests_of items ∷ later) old images printed items number (is_name_in f.awaited) slots rules rest h up
-      (names_awaited f.suspended f.unfinished (is_name_in f.awaited) steady.waits.numbers steady.awaited) admission_is) differs),
+  subst (λ (i : Images). IsCut show n script before s.tops w (fault_of stop) new i printed) (sym unmoved)
+      (subst (λ (j : Journal). IsCut show n script before s.tops w (fault_of stop) j images printed) (sym same)
+      (cut_at show n script before s f ahead (requests_of items ∷ later) old images printed (λ plan st. then_course (run_batch plan (record { number = number; requests = requests_of items }) st) (rest plan)) (fault_of stop)
+      (subst (λ (x : Stop). IsOther (fault_of x)) (sym is) tt) calm h)),
   nothing_more (fault_of stop) holds printed (printed_ends show n script before s f ahead (requests_of items ∷ later) old images printed (λ plan st. then_course (run_batch plan (record { number = number; requests = requests_of items }) st) (rest plan)) h),
 )
-batch_short show n script before s now f ahead later old new images after printed items number slots rules failmode rest fits rounds DeviceStops holds mode orderly_later h steady orderly admission_is up kept (inr w) =
-    absurd (let risen : new.rounds ≡ old.rounds + 1 = w.1.rounds in let same : new.rounds ≡ old.rounds = ap (λ (j : Journal). j.rounds) (kept refl) in omega arith)
-batch_short show n script before s now f ahead later old new images after printed items number slots rules failmode rest fits rounds NoMemory holds mode orderly_later h steady orderly admission_is up kept (inr w) =
-    let cut = batch_untold show n script before s now f ahead later old new images after printed items number slots rules w.0 failmode rest fits rounds Memory mode orderly_later h steady orderly admission_is w.1 w.2 w.3 w.4 in (
+batch_short {w = w} show n script before s now f ahead later old new images after printed items number slots rules failmode rest fits rounds stop holds mode orderly_later h steady orderly admission_is up (inr (inl (same, cut, differs))) = (
+  printed,
+  subst (λ (j : Journal). IsCut show n script before s.tops w (fault_of stop) j after printed) (sym same)
+      (cut_in show n script before s f ahead (requests_of items ∷ later) old images after printed (λ plan st. then_course (run_batch plan (record { number = number; requests = requests_of items }) st) (rest plan)) stop
+      (terms_at s failmode (old.rounds + 1) f.point) (pending_trees (names_of f.bound) number (trees_of (running slots rules items))) h
+      (batch_goes_on show n script before s f ahead (requests_of items ∷ later) old images printed items number (is_name_in f.awaited) slots rules rest failmode h up
+      (names_awaited f.suspended f.unfinished (is_name_in f.awaited) steady.waits.numbers steady.awaited) admission_is mode) cut differs),
+  nothing_more (fault_of stop) holds printed (printed_ends show n script before s f ahead (requests_of items ∷ later) old images printed (λ plan st. then_course (run_batch plan (record { number = number; requests = requests_of items }) st) (rest plan)) h),
+)
+batch_short {w = w} show n script before s now f ahead later old new images after printed items number slots rules failmode rest fits rounds DeviceStops holds mode orderly_later h steady orderly admission_is up (inr (inr ran)) =
+    absurd (let no = ran.0 in cc)
+batch_short {w = w} show n script before s now f ahead later old new images after printed items number slots rules failmode rest fits rounds NoMemory holds mode orderly_later h steady orderly admission_is up (inr (inr ran)) =
+    let cut = batch_untold show n script before s now f ahead later old new images after printed items number slots rules ran.2 failmode rest fits rounds Memory tt ran.1 mode orderly_later h steady orderly admission_is ran.3 ran.4 ran.5 ran.6 in (
       printed ++ cut.0,
       cut.1,
       not_written holds printed cut.0 (printed_ends show n script before s f ahead (requests_of items ∷ later) old images printed (λ plan st. then_course (run_batch plan (record { number = number; requests = requests_of items }) st) (rest plan)) h),
     )
 
-pub clear_short : (show : Show) (n : RunSize) (script : Script) (before : Images) (s now : Standing) (f : SeenFold) (ahead : Ahead) (later : List (List Request)) (old new : Journal) (images after : Images) (printed : List ℕ)
+pub clear_short : {w : Stopping} → (show : Show) (n : RunSize) (script : Script) (before : Images) (s now : Standing) (f : SeenFold) (ahead : Ahead) (later : List (List Request)) (old new : Journal) (images after : Images) (printed : List ℕ)
     (failmode : Failmode) (rest : Plan → State → Course) (fits : Tree → Type 0) (rounds : ℕ) (stop : Stop) (holds : List ℕ → Type 0)
     → script.failmode ≡ failmode → AllByRecursion (IsOrderlyBatch (rows_tell_apart s.rows)) later
     → IsCourseAt show n script before s f ahead later old images printed (λ plan st. then_course (run_suspended plan st) (rest plan))
-    → IsSteady fits s rounds f → (stop ≡ DeviceStops → new ≡ old)
-    → IsCutShort s now (terms_at s failmode (old.rounds + 1) f.point) f.suspended [] old new images after
-    → (text : List ℕ) × IsCut show n script before s.tops (fault_of stop) new after text × IsCutText (fault_of stop) holds holds printed text
-clear_short show n script before s now f ahead later old new images after printed failmode rest fits rounds stop holds mode orderly_later h steady kept (inl (same, differs)) = (
+    → IsSteady fits s rounds f
+    → IsCutShort s now w stop (terms_at s failmode (old.rounds + 1) f.point) f.suspended [] old new images after
+    → (text : List ℕ) × IsCut show n script before s.tops w (fault_of stop) new after text × IsCutText (fault_of stop) holds holds printed text
+clear_short {w = w} show n script before s now f ahead later old new images after printed failmode rest fits rounds stop holds mode orderly_later h steady (inl (is, calm, same, unmoved)) = (
   printed,
-  subst (λ (j : Journal). IsCut show n script before s.tops (fault_of stop) j after printed) (sym same)
-      (cut_in show n script before s f ahead later old images after printed (λ plan st. then_course (run_suspended plan st) (rest plan)) stop f.suspended h
-      (clear_goes_on show n script before s f ahead later old images printed rest h) differs),
+  subst (λ (i : Images). IsCut show n script before s.tops w (fault_of stop) new i printed) (sym unmoved)
+      (subst (λ (j : Journal). IsCut show n script before s.tops w (fault_of stop) j images printed) (sym same)
+      (cut_at show n script before s f ahead later old images printed (λ plan st. then_course (run_suspended plan st) (rest plan)) (fault_of stop)
+      (subst (λ (x : Stop). IsOther (fault_of x)) (sym is) tt) calm h)),
   nothing_more (fault_of stop) holds printed (printed_ends show n script before s f ahead later old images printed (λ plan st. then_course (run_suspended plan st) (rest plan)) h),
 )
-clear_short show n script before s now f ahead later old new images after printed failmode rest fits rounds DeviceStops holds mode orderly_later h steady kept (inr w) =
-    absurd (let risen : new.rounds ≡ old.rounds + 1 = w.1.rounds in let same : new.rounds ≡ old.rounds = ap (λ (j : Journal). j.rounds) (kept refl) in omega arith)
-clear_short show n script before s now f ahead later old new images after printed failmode rest fits rounds NoMemory holds mode orderly_later h steady kept (inr w) =
-    let cut = clear_untold show n script before s now f ahead later old new images after printed w.0 failmode rest fits rounds Memory mode orderly_later h steady w.1 w.2 w.3 w.4 in (
+clear_short {w = w} show n script before s now f ahead later old new images after printed failmode rest fits rounds stop holds mode orderly_later h steady (inr (inl (same, cut, differs))) = (
+  printed,
+  subst (λ (j : Journal). IsCut show n script before s.tops w (fault_of stop) j after printed) (sym same)
+      (cut_in show n script before s f ahead later old images after printed (λ plan st. then_course (run_suspended plan st) (rest plan)) stop (terms_at s failmode (old.rounds + 1) f.point) f.suspended h
+      (clear_goes_on show n script before s f ahead later old images printed rest failmode h mode) cut differs),
+  nothing_more (fault_of stop) holds printed (printed_ends show n script before s f ahead later old images printed (λ plan st. then_course (run_suspended plan st) (rest plan)) h),
+)
+clear_short {w = w} show n script before s now f ahead later old new images after printed failmode rest fits rounds DeviceStops holds mode orderly_later h steady (inr (inr ran)) =
+    absurd (let no = ran.0 in cc)
+clear_short {w = w} show n script before s now f ahead later old new images after printed failmode rest fits rounds NoMemory holds mode orderly_later h steady (inr (inr ran)) =
+    let cut = clear_untold show n script before s now f ahead later old new images after printed ran.2 failmode rest fits rounds Memory tt ran.1 mode orderly_later h steady ran.3 ran.4 ran.5 ran.6 in (
       printed ++ cut.0,
       cut.1,
       not_written holds printed cut.0 (printed_ends show n script before s f ahead later old images printed (λ plan st. then_course (run_suspended plan st) (rest plan)) h),
@@ -303,6 +321,15 @@ few_told old new lines front now rs tally_is now_is same =
     let b : new.bad ≡ old.bad + tally (λ (l : Line). bad_line l.result) lines = ap (λ (t : Tally). t.bad) tally_is ∙ counts.bad in
     let d : length now ≡ length front + length (waiting_of rs lines) = ap length now_is ∙ length-append front (waiting_of rs lines) in
     let e = waits_and_counts rs lines same in omega arith
+
+-- places in use stay inside the tops
+inside_after : (s now : Standing) (round : ℕ) (trees : List (List Pending)) (end : RoundEnd (List Pending)) → StandsAfter s now round trees end → IsRoundEnd s round trees end
+    → ((p : Place) → Contains s.live p → IsTrue (is_inside (sizes_of s.tops) p)) → (p : Place) → Contains now.live p → IsTrue (is_inside (sizes_of now.tops) p)
+inside_after s now round trees end stands over inside p at = subst (λ (tops : List Top). IsTrue (is_inside (sizes_of tops) p)) (sym stands.tops) (go ((stands.live p).0 at))
+  where
+    go : (Contains s.live p × ¬ Contains (freed_places trees end.finished) p) ⊎ Contains (made_places end.finished) p → IsTrue (is_inside (sizes_of s.tops) p)
+    go (inl old) = inside p old.0
+    go (inr made) = one_passing (is_inside (sizes_of s.tops)) (made_places end.finished) p over.inside (contains_one p (made_places end.finished) made)
 
 pub batch_steady : (fits : Tree → Type 0) (s now : Standing) (old new : Journal) (f g : SeenFold) (items : List Item) (number : ℕ) (slots : List (ℕ × ℕ)) (rules : List Rules) (end : RoundEnd (List Pending)) (lines : List Line) (left : List (List Pending)) (made : List (List ℕ × Tree))
     → IsSteady fits s old.rounds f → AreRising (f.unfinished ++ requests_of items) → IsOrderlyBatch (rows_tell_apart s.rows) (requests_of items)
@@ -331,6 +358,7 @@ batch_steady fits s now old new f g items number slots rules end lines left made
       live = subst (λ (b : List (List ℕ × Tree)). IsLive now.live b) (sym bound_is)
           (live_after s now (old.rounds + 1) apart (pending_trees (names_of f.bound) number (trees_of (running slots rules items))) end requests error f.bound made steady.live stands over
           (batch_over apart f.suspended (is_name_in f.awaited) f.bound number items slots rules up orderly awaits admission_is) ran.bound_is);
+      inside = inside_after s now (old.rounds + 1) (pending_trees (names_of f.bound) number (trees_of (running slots rules items))) end stands over steady.inside;
       waits = subst (λ (rows : List Row). AreSuspended (rows_tell_apart rows) g.bound g.suspended g.unfinished) (sym stands.rows)
           (subst (λ (b : List (List ℕ × Tree)). AreSuspended apart b g.suspended g.unfinished) (sym bound_is)
           (subst (λ (ts : List (List Pending)). AreSuspended apart made ts g.unfinished) trees_are
@@ -362,6 +390,7 @@ clear_steady fits s now old new f g end lines left made steady ran over stands f
       fits_all = subst (λ (b : List (List ℕ × Tree)). (name : List ℕ) → IfSome (named_in b name) fits) (sym bound_is) fits_all;
       live = subst (λ (b : List (List ℕ × Tree)). IsLive now.live b) (sym bound_is)
           (live_after s now (old.rounds + 1) apart f.suspended end f.unfinished no_error f.bound made steady.live stands over steady.waits.over ran.bound_is);
+      inside = inside_after s now (old.rounds + 1) f.suspended end stands over steady.inside;
       waits = subst (λ (rows : List Row). AreSuspended (rows_tell_apart rows) g.bound g.suspended g.unfinished) (sym stands.rows)
           (subst (λ (b : List (List ℕ × Tree)). AreSuspended apart b g.suspended g.unfinished) (sym bound_is)
           (subst (λ (ts : List (List Pending)). AreSuspended apart made ts g.unfinished) (sym ran.journal.left_is ∙ sym suspended_is)

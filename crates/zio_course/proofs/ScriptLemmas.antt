@@ -15,7 +15,7 @@ use Rattle.zio_report.specs.declared.report.RunFault.{RunFault}
 use Rattle.zio_report.specs.declared.report.Show.{Show}
 use Rattle.zio_course.specs.Folds.{SeenFold}
 use Rattle.zio_course.specs.Moves.{LineCut, LineRan, LinesCut, LinesOver, LinesRan}
-use Rattle.zio_course.specs.Runners.{Standing, rows_tell_apart}
+use Rattle.zio_course.specs.Runners.{Stopping, Standing, rows_tell_apart}
 use Rattle.zio_course.specs.SoFar.{Ahead, IsCourseAt, IsCut}
 use Rattle.zio_course.proofs.CutLemmas.{Appends-none, written_then}
 use Rattle.zio_course.proofs.MoveLemmas.{Appends-both, course_moved, course_same}
@@ -87,19 +87,19 @@ lines_line show failmode s mid now f m g items item left ahead to own kept later
       Appends-both holds mid_holds new_holds first.1 second.1 first.4 second.4,
     )
 
-pub lines_cut : (show : Show) (failmode : Failmode) (s mid : Standing) (f m : SeenFold) (items : List Item) (item : Item) (left : List Item) (ahead : Ahead) (own later : List (List Request)) (old j new : Journal)
+pub lines_cut : {w : Stopping} → (show : Show) (failmode : Failmode) (s mid : Standing) (f m : SeenFold) (items : List Item) (item : Item) (left : List Item) (ahead : Ahead) (own later : List (List Request)) (old j new : Journal)
     (tells mid_tells new_tells : Images → Type 0) (holds mid_holds new_holds : List ℕ → Type 0) (fault : RunFault) → m.panicked ≡ false → mid.tops ≡ s.tops → AllByRecursion (IsOrderlyBatch (rows_tell_apart mid.rows)) later
     → LinesRan show failmode s mid f m items (item ∷ left) ahead (own ++ later) old j tells mid_tells holds mid_holds
-    → LineCut show failmode mid m ahead own j new mid_tells new_tells mid_holds new_holds (λ plan st. line plan item st) fault
-    → LinesCut show failmode s f items old new tells new_tells holds new_holds fault
-lines_cut show failmode s mid f m items item left ahead own later old j new tells mid_tells new_tells holds mid_holds new_holds fault calm tops orderly ran step n script before images printed mode h told =
+    → LineCut show failmode mid m ahead own j new mid_tells new_tells w mid_holds new_holds (λ plan st. line plan item st) fault
+    → LinesCut show failmode s f items old new tells new_tells w holds new_holds fault
+lines_cut {w = w} show failmode s mid f m items item left ahead own later old j new tells mid_tells new_tells holds mid_holds new_holds fault calm tops orderly ran step n script before images printed mode h told =
     let first = ran n script before images printed mode h told in
     let second = step n script before first.0 later (printed ++ first.1) (λ plan st. run_lines plan left st) mode orderly
     (course_same show n script before mid m ahead (own ++ later) j first.0 (printed ++ first.1) (λ plan st. run_lines plan (item ∷ left) st) (λ plan st. then_course (line plan item st) (run_lines plan left)) first.2
     (λ js. lines_first (plan_of script before js) item left first.2.state (first.2.panicked ∙ calm))) first.3 in (
       second.0,
       second.1,
-      subst (λ (t : List Top). IsCut show n script before t fault new second.0 second.1) tops second.2,
+      subst (λ (t : List Top). IsCut show n script before t w fault new second.0 second.1) tops second.2,
       second.3,
       written_then fault holds mid_holds new_holds printed first.1 second.1 first.4 second.4,
     )

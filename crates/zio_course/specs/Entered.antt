@@ -1,5 +1,5 @@
 -- A whole round in the journal.
-use Rattle.std.specs.Prelude.{◌≡◌, ℕ, ◌+◌, ◌⊎◌, List, ◌++◌, map, reverse, Option}
+use Rattle.std.specs.Prelude.{◌≡◌, ℕ, ◌+◌, ◌⊎◌, List, ◌++◌, map, reverse, Option, false}
 use Rattle.zio_types.specs.declared.error.Errno.{Errno}
 use Rattle.zio_types.specs.declared.journal.Completion.{Completion}
 use Rattle.zio_types.specs.declared.journal.Journal.{Journal}
@@ -11,10 +11,12 @@ use Rattle.zio_gang.specs.Rounds.{block_of, bound_after}
 use Rattle.zio_report.specs.declared.report.Line.{Line}
 use Rattle.zio_course.specs.declared.runner.Finished.{Finished}
 use Rattle.zio_course.specs.declared.runner.RoundEnd.{RoundEnd}
+use Rattle.zio_course.specs.declared.runner.Stop.{Stop}
+use Rattle.zio_course.specs.declared.runner.Stop.TheVariants.{Memory}
 use Rattle.zio_course.specs.Answered.{answered_in}
 use Rattle.zio_course.specs.Forests.{names_of}
 use Rattle.zio_course.specs.Names.{named_in}
-use Rattle.zio_course.specs.Runners.{DiffersInRound, IsRound, IsRoundEnd, Standing, StandsAfter}
+use Rattle.zio_course.specs.Runners.{DiffersInRound, IsCutRound, IsRound, IsRoundEnd, Standing, StandsAfter, Stopping}
 use Rattle.zio_course.specs.Told.{ended_told, line_told}
 
 -- The journal has the round's entries, the completions of what was answered and then the round's, and one round more; and
@@ -33,9 +35,11 @@ pub record IsBatchRun (error : ℕ → Option Errno) (requests : List Request) (
   pub lines_are : lines ≡ map (line_told error end.finished) requests
   pub bound_is : (name : List ℕ) → named_in new_bound name ≡ block_of (bound_after (ended_told error end.finished requests) (names_of old_bound)) name
 
--- What a round leaves that was cut short: the journal as it was and images that differ loosely, or the whole round in the
--- journal and its images.
-abbrev pub IsCutShort : Standing → Standing → Terms → List (List Pending) → List Completion → Journal → Journal → Images → Images → Type 0
-IsCutShort s now t trees answered old new before after =
-    ((new ≡ old) × DiffersInRound s trees before after)
-    ⊎ ((end : RoundEnd (List Pending)) × IsEntered answered old new end end.finished end.left × IsRoundEnd s (old.rounds + 1) trees end × StandsAfter s now (old.rounds + 1) trees end × IsRound t trees before after end)
+-- What a round leaves that was cut short. Before it ran, for want of memory: all is as it was. While it ran: the journal is as
+-- it was, and the images differ loosely. Behind it, for want of memory: the whole round is in the journal and in the images.
+abbrev pub IsCutShort : Standing → Standing → Stopping → Stop → Terms → List (List Pending) → List Completion → Journal → Journal → Images → Images → Type 0
+IsCutShort s now w stop t trees answered old new before after =
+    ((stop ≡ Memory) × (w.stopped ≡ false) × (new ≡ old) × (after ≡ before))
+    ⊎ ((new ≡ old) × IsCutRound stop w t trees before after × DiffersInRound s trees before after)
+    ⊎ ((stop ≡ Memory) × (w.stopped ≡ false) × (end : RoundEnd (List Pending)) × IsEntered answered old new end end.finished end.left × IsRoundEnd s (old.rounds + 1) trees end
+    × StandsAfter s now (old.rounds + 1) trees end × IsRound t trees before after end)

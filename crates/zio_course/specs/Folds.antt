@@ -1,11 +1,14 @@
 -- What a run has between two rounds, whether images are told or not.
-use Rattle.std.specs.Prelude.{◌≡◌, ℕ, ◌+◌, ◌*◌, ◌^◌, ◌≤◌, List, [], ◌∷◌, ◌++◌, length, map, Bool, true, false, Some, None, IfSome}
+use Rattle.std.specs.Prelude.{◌≡◌, ℕ, ◌+◌, ◌*◌, ◌^◌, ◌≤◌, List, [], ◌∷◌, ◌++◌, length, map, Bool, true, false, Some, None, IfSome, IsTrue, Contains}
 use Rattle.std.specs.List.{AllByRecursion, flat_map, list_any}
+use Rattle.zio_types.specs.declared.place.Place.{Place}
+use Rattle.zio_types.specs.Places.{is_inside}
 use Rattle.zio_script.specs.declared.script.Request.{Request}
 use Rattle.zio_script.specs.Requests.{name_of, names_it, requests_of}
 use Rattle.zio_gang.specs.declared.tree.Tree.{Tree}
 use Rattle.zio_gang.specs.Attempts.{Pending}
 use Rattle.zio_gang.specs.Runs.{Batch as DefinedBatch}
+use Rattle.zio_gang.specs.Trees.{sizes_of}
 use Rattle.zio_report.specs.declared.report.Line.{Line}
 use Rattle.zio_report.specs.declared.report.LineResult.{LineResult}
 use Rattle.zio_report.specs.declared.report.LineResult.TheVariants.{Suspended, Failed, Done, Sized, Bytes}
@@ -102,11 +105,12 @@ pub record AreSuspended (apart : Bool) (bound : List (List ℕ × Tree)) (suspen
   pub under : AllByRecursion (λ (r : Request). r.under ≡ None) (roots_of suspended)
   pub claims : has_claim (requests_in suspended) ≡ false
 
--- A run between two rounds over a runner: its bound blocks are those in use and may be read, its trees are suspended, their
--- names are awaited, and the runner has run as many rounds as were counted.
+-- A run between two rounds over a runner: its bound blocks are those in use and may be read, their places lie inside the
+-- tops, its trees are suspended, their names are awaited, and the runner has run as many rounds as were counted.
 pub record IsSteady (fits : Tree → Type 0) (s : Standing) (rounds : ℕ) (f : SeenFold) : Type 0 where
   pub fits_all : (name : List ℕ) → IfSome (named_in f.bound name) fits
   pub live : IsLive s.live f.bound
+  pub inside : (p : Place) → Contains s.live p → IsTrue (is_inside (sizes_of s.tops) p)
   pub waits : AreSuspended (rows_tell_apart s.rows) f.bound f.suspended f.unfinished
   pub awaited : (name : List ℕ) → is_name_in f.awaited name ≡ is_named_by f.unfinished name
   pub runs : s.stopped ≡ false

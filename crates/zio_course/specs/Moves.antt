@@ -16,7 +16,7 @@ use Rattle.zio_report.specs.declared.report.RunFault.{RunFault}
 use Rattle.zio_report.specs.declared.report.Show.{Show}
 use Rattle.zio_report.specs.Reports.{RunSize}
 use Rattle.zio_course.specs.Folds.{IsSteady, SeenFold}
-use Rattle.zio_course.specs.Runners.{Standing, rows_tell_apart}
+use Rattle.zio_course.specs.Runners.{Standing, Stopping, rows_tell_apart}
 use Rattle.zio_course.specs.SoFar.{Ahead, IsCourseAt, IsCut, IsCutText, coming}
 
 -- the requests of each of these batches
@@ -36,14 +36,14 @@ StepRan show failmode s now f g moved own kept old new tells new_tells holds new
     × new_tells after × Appends holds new_holds more
 
 -- the same where the step was cut short
-abbrev pub StepCut : Show → Failmode → Standing → SeenFold → List (List Request) → Journal → Journal → (Images → Type 0) → (Images → Type 0)
+abbrev pub StepCut : Show → Failmode → Standing → SeenFold → List (List Request) → Journal → Journal → (Images → Type 0) → (Images → Type 0) → Stopping
     → (List ℕ → Type 0) → (List ℕ → Type 0) → (Ahead → Plan → State → Course) → RunFault → Type 0
-StepCut show failmode s f own old new tells new_tells holds new_holds step fault =
+StepCut show failmode s f own old new tells new_tells w holds new_holds step fault =
     (n : RunSize) (script : Script) (before images : Images) (ahead : Ahead) (later : List (List Request)) (printed : List ℕ) (rest : Plan → State → Course) →
     script.failmode ≡ failmode → AllByRecursion (IsOrderlyBatch (rows_tell_apart s.rows)) later
     → IsCourseAt show n script before s f ahead (own ++ later) old images printed (λ plan st. then_course (step ahead plan st) (rest plan))
     → tells images → (after : Images) × (text : List ℕ)
-    × IsCut show n script before s.tops fault new after text × new_tells after × IsCutText fault holds new_holds printed text
+    × IsCut show n script before s.tops w fault new after text × new_tells after × IsCutText fault holds new_holds printed text
 
 -- A run that can go on: between two rounds, with batches that are held and those that come later orderly and by number, and
 -- so few of them, with so many lines to come, that each number fits.
@@ -77,14 +77,14 @@ LineRan show failmode s now f g ahead to own kept old new tells new_tells holds 
     × new_tells after × Appends holds new_holds more
 
 -- the same where it was cut short
-abbrev pub LineCut : Show → Failmode → Standing → SeenFold → Ahead → List (List Request) → Journal → Journal → (Images → Type 0) → (Images → Type 0)
+abbrev pub LineCut : Show → Failmode → Standing → SeenFold → Ahead → List (List Request) → Journal → Journal → (Images → Type 0) → (Images → Type 0) → Stopping
     → (List ℕ → Type 0) → (List ℕ → Type 0) → (Plan → State → Course) → RunFault → Type 0
-LineCut show failmode s f ahead own old new tells new_tells holds new_holds step fault =
+LineCut show failmode s f ahead own old new tells new_tells w holds new_holds step fault =
     (n : RunSize) (script : Script) (before images : Images) (later : List (List Request)) (printed : List ℕ) (rest : Plan → State → Course) →
     script.failmode ≡ failmode → AllByRecursion (IsOrderlyBatch (rows_tell_apart s.rows)) later
     → IsCourseAt show n script before s f ahead (own ++ later) old images printed (λ plan st. then_course (step plan st) (rest plan))
     → tells images → (after : Images) × (text : List ℕ)
-    × IsCut show n script before s.tops fault new after text × new_tells after × IsCutText fault holds new_holds printed text
+    × IsCut show n script before s.tops w fault new after text × new_tells after × IsCutText fault holds new_holds printed text
 
 -- nothing is held where batches run
 abbrev pub HeldWaits : Failmode → List (List Pending) → List Batch → Type 0
@@ -110,9 +110,9 @@ LinesOver show failmode s now f g items held old new tells new_tells holds new_h
     × (to.held ≡ held) × new_tells after × Appends holds new_holds more
 
 -- the same where they were cut short
-abbrev pub LinesCut : Show → Failmode → Standing → SeenFold → List Item → Journal → Journal → (Images → Type 0) → (Images → Type 0) → (List ℕ → Type 0) → (List ℕ → Type 0) → RunFault → Type 0
-LinesCut show failmode s f items old new tells new_tells holds new_holds fault =
+abbrev pub LinesCut : Show → Failmode → Standing → SeenFold → List Item → Journal → Journal → (Images → Type 0) → (Images → Type 0) → Stopping → (List ℕ → Type 0) → (List ℕ → Type 0) → RunFault → Type 0
+LinesCut show failmode s f items old new tells new_tells w holds new_holds fault =
     (n : RunSize) (script : Script) (before images : Images) (printed : List ℕ) → script.failmode ≡ failmode
     → IsCourseAt show n script before s f (record { held = []; batch = []; batches = 0 }) (batches_from [] items) old images printed (λ plan st. run_lines plan items st)
     → tells images → (after : Images) × (text : List ℕ)
-    × IsCut show n script before s.tops fault new after text × new_tells after × IsCutText fault holds new_holds printed text
+    × IsCut show n script before s.tops w fault new after text × new_tells after × IsCutText fault holds new_holds printed text

@@ -26,6 +26,8 @@ use Rattle.zio_gang.specs.Rounds.{settle_each}
 use Rattle.zio_gang.specs.Trees.{sizes_of, tree_places}
 use Rattle.zio_course.specs.declared.runner.Finished.{Finished}
 use Rattle.zio_course.specs.declared.runner.RoundEnd.{RoundEnd}
+use Rattle.zio_course.specs.declared.runner.Stop.{Stop}
+use Rattle.zio_course.specs.declared.runner.Stop.TheVariants.{Device, Memory}
 
 -- What is known of a runner beside its images: its tops and fault table, the places in use, the number of its last round,
 -- whether a round of it was stopped, and how often each disk has failed.
@@ -283,6 +285,23 @@ pub record StandsAfter (old new : Standing) (round : ℕ) (trees : List (List Pe
       ↔ ((Contains old.live p × ¬ Contains (freed_places trees end.finished) p) ⊎ Contains (made_places end.finished) p)
 
 -- ---- a stop
+
+-- Whether a runner was stopped in a round, and what it means that this was for want of memory: of the round's terms, its
+-- trees and the images before it.
+pub record Stopping : Type 1 where
+  pub stopped : Bool
+  pub means : Terms → List (List Pending) → Images → Type 0
+
+abbrev pub stopping_of : Standing → (Terms → List (List Pending) → Images → Type 0) → Stopping
+stopping_of s means = record { stopped = s.stopped; means = means }
+
+-- How a round ended that came into no journal: the runner was stopped in it, which means this where it was for want of
+-- memory; or the round was whole, and memory for the journal was refused.
+abbrev pub IsCutRound : Stop → Stopping → Terms → List (List Pending) → Images → Images → Type 0
+IsCutRound Device w t trees before after = w.stopped ≡ true
+IsCutRound Memory w t trees before after =
+    ((w.stopped ≡ true) × w.means t trees before)
+    ⊎ ((w.stopped ≡ false) × (end : RoundEnd (List Pending)) × IsRound t trees before after end)
 
 -- what is known of the runner after a stop
 pub record StoppedAfter (old new : Standing) (round : ℕ) : Type 0 where

@@ -1,30 +1,33 @@
 -- Where the run of a script is in its course, over images that are told.
-use Rattle.std.specs.Prelude.{◌≡◌, ℕ, ◌⊎◌, List, [], ◌∷◌, ◌++◌, length, sum_by, false, ◌==◌, Contains}
+use Rattle.std.specs.Prelude.{◌≡◌, ℕ, ◌+◌, ◌⊎◌, List, [], ◌∷◌, ◌++◌, length, sum_by, false, ◌==◌, Contains}
 use Rattle.std.specs.List.{AllByRecursion}
 use Rattle.zio_outside.specs.Outside.{Appends, AppendsFront}
 use Rattle.zio_types.specs.declared.journal.Completion.{Completion}
 use Rattle.zio_types.specs.declared.journal.Journal.{Journal}
 use Rattle.zio_types.specs.declared.place.Top.{Top}
+use Rattle.zio_types.specs.Places.{SamePlaces}
 use Rattle.zio_script.specs.declared.script.Request.{Request}
 use Rattle.zio_script.specs.declared.script.Script.{Script}
 use Rattle.zio_script.specs.Accepted.{AreRising}
 use Rattle.zio_script.specs.Requests.{requests_of}
 use Rattle.zio_cksum.specs.Images.{Images}
 use Rattle.zio_gang.specs.declared.ending.Ending.{Ending}
-use Rattle.zio_gang.specs.Attempts.{Ended, Pending}
+use Rattle.zio_gang.specs.Attempts.{Ended, Pending, Terms}
 use Rattle.zio_gang.specs.Journals.{AreCompletions, IsLawfulJournal}
 use Rattle.zio_gang.specs.Rounds.{Bound, NamesOnce, admitted, is_bound, pending_trees, trees_of, used_places}
-use Rattle.zio_gang.specs.Runs.{Batch, Course, Event, Plan, Round, State, ending, plan_of, rounds_of, run_batch, run_script, run_suspended, then_course}
+use Rattle.zio_gang.specs.Runs.{Batch, Course, Event, Plan, Round, State, ending, plan_of, rounds_of, run_batch, run_script, run_suspended, terms_of, then_course}
 use Rattle.zio_gang.specs.Trees.{sizes_of}
 use Rattle.zio_report.specs.declared.report.RunFault.{RunFault}
 use Rattle.zio_report.specs.declared.report.RunFault.TheVariants.{Device, Sink, Memory}
 use Rattle.zio_report.specs.declared.report.Show.{Show}
 use Rattle.zio_report.specs.Meanings.{records_of, tops_of}
 use Rattle.zio_report.specs.Reports.{RunSize, bad_ended, good_ended, run_text}
+use Rattle.zio_course.specs.declared.runner.Stop.{Stop}
+use Rattle.zio_course.specs.declared.runner.Stop.TheVariants.{Device as DeviceStops, Memory as NoMemory}
 use Rattle.zio_course.specs.Course.{IsEnteredSoFar, Reaches}
 use Rattle.zio_course.specs.Folds.{SeenFold, requests_in_all}
 use Rattle.zio_course.specs.Parents.{AreParented}
-use Rattle.zio_course.specs.Runners.{DiffersLoose, Standing, named_places}
+use Rattle.zio_course.specs.Runners.{DiffersLoose, IsCutRound, Standing, Stopping, named_places}
 use Rattle.zio_course.specs.Steps.{IsAt, IsPlanOf}
 
 -- ---- rounds
@@ -79,36 +82,51 @@ pub record IsCourseAt (show : Show) (n : RunSize) (script : Script) (before : Im
 
 -- ---- a run that was cut short
 
--- the course goes on with a round of these trees: those of a batch that admission lets run, or the suspended ones
-pub data GoesOn (script : Script) (before : Images) (journal : Journal) (events : List Event) (trees : List (List Pending)) : Type 0 where
-  WithBatch : (state : State) (batch : Batch) (rest : Plan → State → Course) → Reaches script before journal events (λ plan. then_course (run_batch plan batch state) (rest plan))
-      → trees ≡ pending_trees state.bound batch.number (admitted state.suspended (is_bound state.bound) (trees_of batch.requests)).trees
-      → GoesOn script before journal events trees
-  WithSuspended : (state : State) (rest : Plan → State → Course) → Reaches script before journal events (λ plan. then_course (run_suspended plan state) (rest plan))
-      → trees ≡ state.suspended → GoesOn script before journal events trees
+-- the terms of the course's next round from this state; in which order the places in use come isn't said
+pub record AreNextTerms (script : Script) (before : Images) (state : State) (t : Terms) : Type 0 where
+  pub setting : t.setting ≡ (terms_of (plan_of script before []) state).setting
+  pub failmode : t.failmode ≡ script.failmode
+  pub round : t.round ≡ state.rounds + 1
+  pub used : SamePlaces (used_places state.bound) t.used
 
--- a round of these trees was cut short: the images differ from those before it in sectors that were free, and in places of
--- blocks that its trees name
-pub record IsBroken (script : Script) (before : Images) (tops : List Top) (journal : Journal) (events : List Event) (after : Images) : Type 0 where
+-- the course goes on with a round under these terms, of these trees over these images: the trees are those of a batch that
+-- admission lets run, or the suspended ones
+pub data GoesOn (script : Script) (before : Images) (journal : Journal) (events : List Event) (t : Terms) (trees : List (List Pending)) (images : Images) : Type 0 where
+  WithBatch : (state : State) (batch : Batch) (rest : Plan → State → Course) → Reaches script before journal events (λ plan. then_course (run_batch plan batch state) (rest plan))
+      → AreNextTerms script before state t → images ≡ state.images
+      → trees ≡ pending_trees state.bound batch.number (admitted state.suspended (is_bound state.bound) (trees_of batch.requests)).trees
+      → GoesOn script before journal events t trees images
+  WithSuspended : (state : State) (rest : Plan → State → Course) → Reaches script before journal events (λ plan. then_course (run_suspended plan state) (rest plan))
+      → AreNextTerms script before state t → images ≡ state.images
+      → trees ≡ state.suspended → GoesOn script before journal events t trees images
+
+-- The round that came next was cut short: these are its terms and its trees, and the images differ from those before it in
+-- sectors that were free, and in places of blocks that its trees name.
+pub record IsBroken (script : Script) (before : Images) (tops : List Top) (w : Stopping) (stop : Stop) (journal : Journal) (events : List Event) (after : Images) : Type 0 where
+  pub terms : Terms
   pub trees : List (List Pending)
-  pub goes_on : GoesOn script before journal events trees
+  pub goes_on : GoesOn script before journal events terms trees (images_after before (rounds_of events))
+  pub cut : IsCutRound stop w terms trees (images_after before (rounds_of events)) after
   pub loose : DiffersLoose tops (used_places (names_after [] (rounds_of events))) (named_places trees) (images_after before (rounds_of events)) after
 
--- the images are those after the rounds that were run whole; after a disk's failure or want of memory but for a round that
--- was cut short
-abbrev pub AreCutImages : RunFault → Script → Images → List Top → Journal → List Event → Images → Type 0
-AreCutImages Device script before tops journal events after = (after ≡ images_after before (rounds_of events)) ⊎ IsBroken script before tops journal events after
-AreCutImages Sink script before tops journal events after = after ≡ images_after before (rounds_of events)
-AreCutImages Memory script before tops journal events after = (after ≡ images_after before (rounds_of events)) ⊎ IsBroken script before tops journal events after
+-- no round was under way: the images are those after the rounds that were run whole
+abbrev pub IsBetween : Images → Stopping → List Event → Images → Type 0
+IsBetween before w events after = (w.stopped ≡ false) × (after ≡ images_after before (rounds_of events))
+
+-- a disk's failure cuts a round short, the sink's comes between two rounds, and want of memory may do either
+abbrev pub AreCutImages : RunFault → Script → Images → List Top → Stopping → Journal → List Event → Images → Type 0
+AreCutImages Device script before tops w journal events after = IsBroken script before tops w DeviceStops journal events after
+AreCutImages Sink script before tops w journal events after = IsBetween before w events after
+AreCutImages Memory script before tops w journal events after = IsBetween before w events after ⊎ IsBroken script before tops w NoMemory journal events after
 
 -- The run was cut short: the course begins with these events, whatever comes later, and the journal has exactly the entries
 -- and completions of their rounds. This is their text.
-pub record IsCut (show : Show) (n : RunSize) (script : Script) (before : Images) (tops : List Top) (fault : RunFault) (journal : Journal) (after : Images) (text : List ℕ) : Type 0 where
+pub record IsCut (show : Show) (n : RunSize) (script : Script) (before : Images) (tops : List Top) (w : Stopping) (fault : RunFault) (journal : Journal) (after : Images) (text : List ℕ) : Type 0 where
   pub events : List Event
   pub rest : Plan → Course
   pub begins : Reaches script before journal events rest
   pub entered : IsEnteredSoFar show n (sizes_of tops) (requests_of script.items) journal events text
-  pub images : AreCutImages fault script before tops journal events after
+  pub images : AreCutImages fault script before tops w journal events after
 
 -- the text is empty or ends with a newline
 abbrev pub EndsWhole : List ℕ → Type 0

@@ -1,6 +1,6 @@
 //! The round of a batch.
 
-ghost use Rattle.std.specs.Prelude.{◌≡◌, ◌+◌, ◌<◌, ◌≤◌, ◌^◌, ℕ, List, IfOk, IfSome, IsErrOf, OnErr, OnOk, false, map, reverse};
+ghost use Rattle.std.specs.Prelude.{◌≡◌, ◌+◌, ◌<◌, ◌≤◌, ◌^◌, ℕ, List, IfErr, IfOk, IfSome, IsErrOf, OnOk, false, map, reverse};
 ghost use Rattle.zio_script.specs.Accepted.{AreRising};
 ghost use Rattle.zio_script.specs.Requests.{requests_of};
 ghost use Rattle.zio_cksum.specs.Images.{Images};
@@ -13,7 +13,7 @@ ghost use Rattle.zio_course.specs.Answered.{answered_in};
 ghost use Rattle.zio_course.specs.Entered.{IsBatchRun, IsCutShort};
 ghost use Rattle.zio_course.specs.Forests.{AreReady, names_of, running};
 ghost use Rattle.zio_course.specs.Names.{named_in};
-ghost use Rattle.zio_course.specs.Runners.{AnyRose, AreRunnable, IsRound, IsRoundEnd, StandsAfter, terms_at};
+ghost use Rattle.zio_course.specs.Runners.{AnyRose, AreRunnable, IsRound, IsRoundEnd, StandsAfter, stopping_of, terms_at};
 
 use crate::admission::Admission;
 use crate::answered::answered_ends;
@@ -60,6 +60,7 @@ pub fn run_batch<R: Runner>(
     requires next { (R.standing runner.old).last ≤ journal.old.rounds }
     requires trees { AreRunnable (R.standing runner.old)
         (pending_trees (names_of bound.old) number (trees_of (running admission.now.slots.entries admission.now.rules.items batch.now))) }
+    requires can { R.Can runner.old }
     ensures ran { IfOk result (λ ran. (end : SeenEnd (List Pending))
         × IsBatchRun (error_in admission.now.slots.entries admission.now.rules.items) (requests_of batch.now) bound.old bound.new journal.old journal.new end ran.lines (map R.pending ran.left)
         × IsRoundEnd (R.standing runner.old) (journal.old.rounds + 1)
@@ -71,8 +72,8 @@ pub fn run_batch<R: Runner>(
         (pending_trees (names_of bound.old) number (trees_of (running admission.now.slots.entries admission.now.rules.items batch.now))) before after end)) }
     ensures shown { IfOk result (λ ran. AreWhole ran.lines) }
     ensures fits { OnOk result ((name : List ℕ) → IfSome (named_in bound.new name) R.fits) }
-    ensures cut { OnErr result ((before : Images) → R.tells runner.old before → (after : Images) × R.tells runner.new after
-        × IsCutShort (R.standing runner.old) (R.standing runner.new) (terms_at (R.standing runner.old) failmode (journal.old.rounds + 1) point)
+    ensures cut { IfErr result (λ stop. (before : Images) → R.tells runner.old before → (after : Images) × R.tells runner.new after
+        × IsCutShort (R.standing runner.old) (R.standing runner.new) (stopping_of (R.standing runner.new) (R.stops runner.new)) stop (terms_at (R.standing runner.old) failmode (journal.old.rounds + 1) point)
         (pending_trees (names_of bound.old) number (trees_of (running admission.now.slots.entries admission.now.rules.items batch.now)))
         (reverse (answered_in (error_in admission.now.slots.entries admission.now.rules.items) (journal.old.rounds + 1) (requests_of batch.now)))
         journal.old journal.new before after) }
@@ -80,6 +81,8 @@ pub fn run_batch<R: Runner>(
     ensures rows { (R.standing runner.new).rows ≡ (R.standing runner.old).rows }
     ensures kept { IsErrOf result Stop.Device → journal.new ≡ journal.old }
     ensures device { IsErrOf result Stop.Device → AnyRose (R.standing runner.old).faults (R.standing runner.new).faults }
+    ensures calm { IsErrOf result Stop.Memory → (R.standing runner.new).faults ≡ (R.standing runner.old).faults }
+    ensures can { R.Can runner.new }
     ensures same { R.same runner.old runner.new }
 {
     let trees = trees_to_run(alloc, runner, batch, number, bound, admission)?;

@@ -41,6 +41,7 @@ pub fn trees_to_run<R: Runner>(
     ensures trees { IfOk result (λ trees. map R.pending trees
         ≡ pending_trees (names_of bound.now) birth (trees_of (running admission.now.slots.entries admission.now.rules.items batch.now))) }
     ensures stays { Stays (R.standing runner.old) (R.standing runner.new) (R.tells runner.old) (R.tells runner.new) }
+    ensures can { R.Can runner.old → R.Can runner.new }
     ensures same { R.same runner.old runner.new }
 {
     let mut forest = Forest {
@@ -72,6 +73,7 @@ fn plant_line<R: Runner>(
         → IsForest R.pending (names_of bound.now) birth done forest.old.waiting forest.old.roots
         → IsForest R.pending (names_of bound.now) birth (line_runs admission.now.slots.entries admission.now.rules.items item.now ++ done) forest.new.waiting forest.new.roots) }
     ensures stays { Stays (R.standing runner.old) (R.standing runner.new) (R.tells runner.old) (R.tells runner.new) }
+    ensures can { R.Can runner.old → R.Can runner.new }
     ensures same { R.same runner.old runner.new }
 {
     match item {
@@ -98,6 +100,7 @@ fn plant<R: Runner>(
         → IsForest R.pending (names_of bound.now) birth done forest.old.waiting forest.old.roots
         → IsForest R.pending (names_of bound.now) birth (request.now ∷ done) forest.new.waiting forest.new.roots) }
     ensures stays { Stays (R.standing runner.old) (R.standing runner.new) (R.tells runner.old) (R.tells runner.new) }
+    ensures can { R.Can runner.old → R.Can runner.new }
     ensures same { R.same runner.old runner.new }
 {
     let block = block_for(alloc, &request.work, bound)?;

@@ -9,7 +9,7 @@ ghost use Rattle.zio_report.specs.Reports.{held_text};
 ghost use Rattle.zio_course.specs.Course.{shown_of};
 ghost use Rattle.zio_course.specs.Folds.{batches_seen, fold_seen, has_items};
 ghost use Rattle.zio_course.specs.Moves.{HeldWaits, IsGoing, LineCut, LineRan, requests_held};
-ghost use Rattle.zio_course.specs.Runners.{AnyRose};
+ghost use Rattle.zio_course.specs.Runners.{AnyRose, stopping_of};
 
 use crate::fold::{Batch, Fold};
 use crate::rounds::batch_round;
@@ -37,13 +37,14 @@ pub fn go_line<'a, R: Runner, O: Sink>(
     requires going { (later : List (List Request)) × (spare : ℕ) × IsGoing R.fits (R.standing runner.old) journal.old.rounds (fold_seen R.pending fold.old) (batches_seen held.old.items) (requests_of batch.now.lines.now ∷ later) (spare + 1) }
     requires number { 1 ≤ batch.now.number }
     requires waits { HeldWaits failmode (map R.pending fold.old.suspended) (batches_seen held.old.items) }
+    requires can { R.Can runner.old }
     ensures ran { OnOk result ((batches : ℕ) → batch.now.number ≡ batches + 1 → LineRan show.now failmode (R.standing runner.old) (R.standing runner.new) (fold_seen R.pending fold.old) (fold_seen R.pending fold.new)
         (record { held = batches_seen held.old.items; batch = requests_of batch.now.lines.now; batches = batches }) (record { held = batches_seen held.new.items; batch = []; batches = batches + 1 })
         (requests_held (batches_seen held.old.items) ++ requests_of batch.now.lines.now ∷ []) (requests_held (batches_seen held.new.items))
         journal.old journal.new (R.tells runner.old) (R.tells runner.new) (O.holds out.old) (O.holds out.new) go_line_by) }
     ensures cut { IfErr result (λ fault. (batches : ℕ) → batch.now.number ≡ batches + 1 → LineCut show.now failmode (R.standing runner.old) (fold_seen R.pending fold.old)
         (record { held = batches_seen held.old.items; batch = requests_of batch.now.lines.now; batches = batches }) (requests_held (batches_seen held.old.items) ++ requests_of batch.now.lines.now ∷ [])
-        journal.old journal.new (R.tells runner.old) (R.tells runner.new) (O.holds out.old) (O.holds out.new) go_line_by fault) }
+        journal.old journal.new (R.tells runner.old) (R.tells runner.new) (stopping_of (R.standing runner.new) (R.stops runner.new)) (O.holds out.old) (O.holds out.new) go_line_by fault) }
     ensures going { OnOk result ((later : List (List Request)) (spare : ℕ) → IsGoing R.fits (R.standing runner.old) journal.old.rounds (fold_seen R.pending fold.old) (batches_seen held.old.items) (requests_of batch.now.lines.now ∷ later) (spare + 1)
         → IsGoing R.fits (R.standing runner.new) journal.new.rounds (fold_seen R.pending fold.new) (batches_seen held.new.items) later spare) }
     ensures waits { OnOk result (HeldWaits failmode (map R.pending fold.new.suspended) (batches_seen held.new.items)) }
@@ -53,7 +54,9 @@ pub fn go_line<'a, R: Runner, O: Sink>(
     ensures faults { OnOk result ((R.standing runner.new).faults ≡ (R.standing runner.old).faults) }
     ensures quiet { OnOk result (O.faults out.new ≡ O.faults out.old) }
     ensures device { IsErrOf result RunFault.Device → AnyRose (R.standing runner.old).faults (R.standing runner.new).faults }
+    ensures calm { IsErrOf result RunFault.Memory → (R.standing runner.new).faults ≡ (R.standing runner.old).faults }
     ensures sink { IsErrOf result RunFault.Sink → Rose (O.faults out.old) (O.faults out.new) }
+    ensures can { R.Can runner.new }
     ensures same { R.same runner.old runner.new }
 {
     if runs_now(&fold.suspended, failmode) {

@@ -1,12 +1,12 @@
 //! A whole round: it is run, and enters the journal.
 
-ghost use Rattle.std.specs.Prelude.{◌≡◌, ◌++◌, ◌+◌, ◌<◌, ◌^◌, List, IfOk, IsErrOf, OnErr, false, map};
+ghost use Rattle.std.specs.Prelude.{◌≡◌, ◌++◌, ◌+◌, ◌<◌, ◌^◌, List, IfErr, IfOk, IsErrOf, OnErr, false, map};
 ghost use Rattle.std.specs.List.{AllByRecursion};
 ghost use Rattle.zio_cksum.specs.Images.{Images};
 ghost use Rattle.zio_gang.specs.Attempts.{Pending};
 ghost use Rattle.zio_course.specs.declared.runner.RoundEnd.{RoundEnd as SeenEnd};
 ghost use Rattle.zio_course.specs.Entered.{IsEntered};
-ghost use Rattle.zio_course.specs.Runners.{AnyRose, AreRunnable, DiffersInRound, IsRound, IsRoundEnd, StandsAfter, made_trees, terms_at};
+ghost use Rattle.zio_course.specs.Runners.{AnyRose, AreRunnable, DiffersInRound, IsCutRound, IsRound, IsRoundEnd, StandsAfter, made_trees, stopping_of, terms_at};
 
 use crate::enter::enter_round;
 use crate::runner::{Finished, Job, RoundEnd, Runner, Stop};
@@ -39,6 +39,7 @@ pub fn whole_round<R: Runner>(
     requires runs { (R.standing runner.old).stopped ≡ false }
     requires next { (R.standing runner.old).last < job.round }
     requires trees { AreRunnable (R.standing runner.old) (map R.pending job.trees) }
+    requires can { R.Can runner.old }
     ensures whole { IfOk result (λ ran. (end : SeenEnd (List Pending)) × IsEntered answered journal.old journal.new end ran.finished (map R.pending ran.left)
         × IsRoundEnd (R.standing runner.old) job.round (map R.pending job.trees) end
         × StandsAfter (R.standing runner.old) (R.standing runner.new) job.round (map R.pending job.trees) end
@@ -46,11 +47,14 @@ pub fn whole_round<R: Runner>(
         × IsRound (terms_at (R.standing runner.old) job.failmode job.round job.point) (map R.pending job.trees) before after end)) }
     ensures fits { IfOk result (λ ran. AllByRecursion R.fits (made_trees ran.finished)) }
     ensures kept { OnErr result (journal.new ≡ journal.old) }
-    ensures cut { OnErr result ((before : Images) → R.tells runner.old before → (after : Images) × R.tells runner.new after
+    ensures cut { IfErr result (λ stop. (before : Images) → R.tells runner.old before → (after : Images) × R.tells runner.new after
+        × IsCutRound stop (stopping_of (R.standing runner.new) (R.stops runner.new)) (terms_at (R.standing runner.old) job.failmode job.round job.point) (map R.pending job.trees) before after
         × DiffersInRound (R.standing runner.old) (map R.pending job.trees) before after) }
     ensures tops { (R.standing runner.new).tops ≡ (R.standing runner.old).tops }
     ensures rows { (R.standing runner.new).rows ≡ (R.standing runner.old).rows }
     ensures device { IsErrOf result Stop.Device → AnyRose (R.standing runner.old).faults (R.standing runner.new).faults }
+    ensures calm { IsErrOf result Stop.Memory → (R.standing runner.new).faults ≡ (R.standing runner.old).faults }
+    ensures can { R.Can runner.new }
     ensures same { R.same runner.old runner.new }
 {
     let RoundEnd {

@@ -16,7 +16,7 @@ ghost use Rattle.zio_course.specs.Names.{is_name_in, is_some_name};
 ghost use Rattle.zio_report.specs.Lines.{AreWhole, round_text};
 ghost use Rattle.zio_report.specs.Reports.{RunSize};
 ghost use Rattle.zio_course.specs.Folds.{IsSteady, batch_seen, counted_in, fold_seen, has_items, is_named_by, waiting_of};
-ghost use Rattle.zio_course.specs.Runners.{AnyRose, rows_tell_apart};
+ghost use Rattle.zio_course.specs.Runners.{AnyRose, rows_tell_apart, stopping_of};
 ghost use Rattle.zio_course.specs.SoFar.{Ahead, IsCourseAt, IsCut, IsCutText};
 
 use crate::admission::Admission;
@@ -51,6 +51,7 @@ pub fn batch_round<'a, R: Runner, O: Sink>(
     requires number { 1 ≤ batch.now.number }
     requires rounds { journal.old.rounds + 1 < 2 ^ 32 }
     requires few { fold.old.tally.good + fold.old.tally.bad + length (requests_of batch.now.lines.now) < 2 ^ 32 }
+    requires can { R.Can runner.old }
     ensures ran { OnOk result ((n : RunSize) (script : Script) (before images : Images) (ahead : Ahead) (later : List (List Request)) (printed : List ℕ) (rest : Plan → State → Course) →
         script.failmode ≡ failmode → AllByRecursion (IsOrderlyBatch (rows_tell_apart (R.standing runner.old).rows)) later
         → IsCourseAt show.now n script before (R.standing runner.old) (fold_seen R.pending fold.old) ahead (requests_of batch.now.lines.now ∷ later) journal.old images printed
@@ -63,7 +64,7 @@ pub fn batch_round<'a, R: Runner, O: Sink>(
         → IsCourseAt show.now n script before (R.standing runner.old) (fold_seen R.pending fold.old) ahead (requests_of batch.now.lines.now ∷ later) journal.old images printed
         (λ plan st. then_course (run_batch_by plan (batch_seen batch.now) st) (rest plan))
         → R.tells runner.old images → (after : Images) × (text : List ℕ)
-        × IsCut show.now n script before (R.standing runner.old).tops fault journal.new after text
+        × IsCut show.now n script before (R.standing runner.old).tops (stopping_of (R.standing runner.new) (R.stops runner.new)) fault journal.new after text
         × R.tells runner.new after × IsCutText fault (O.holds out.old) (O.holds out.new) printed text) }
     ensures waits { OnOk result ((lines : List Line) × (map (λ r. r.now) fold.new.unfinished.items ≡ map (λ r. r.now) fold.old.unfinished.items ++ waiting_of (requests_of batch.now.lines.now) lines)) }
     ensures few { OnOk result (fold.new.tally.good + fold.new.tally.bad + length fold.new.unfinished.items
@@ -76,7 +77,9 @@ pub fn batch_round<'a, R: Runner, O: Sink>(
     ensures faults { OnOk result ((R.standing runner.new).faults ≡ (R.standing runner.old).faults) }
     ensures quiet { OnOk result (O.faults out.new ≡ O.faults out.old) }
     ensures device { IsErrOf result RunFault.Device → AnyRose (R.standing runner.old).faults (R.standing runner.new).faults }
+    ensures calm { IsErrOf result RunFault.Memory → (R.standing runner.new).faults ≡ (R.standing runner.old).faults }
     ensures sink { IsErrOf result RunFault.Sink → Rose (O.faults out.old) (O.faults out.new) }
+    ensures can { R.Can runner.new }
     ensures same { R.same runner.old runner.new }
 {
     let requests = batch_requests(alloc, batch)?;
@@ -126,6 +129,7 @@ pub fn clear_round<'a, R: Runner, O: Sink>(
     requires steady { IsSteady R.fits (R.standing runner.old) journal.old.rounds (fold_seen R.pending fold.old) }
     requires rounds { journal.old.rounds + 1 < 2 ^ 32 }
     requires few { fold.old.tally.good + fold.old.tally.bad + length fold.old.unfinished.items < 2 ^ 32 }
+    requires can { R.Can runner.old }
     ensures ran { OnOk result ((n : RunSize) (script : Script) (before images : Images) (ahead : Ahead) (later : List (List Request)) (printed : List ℕ) (rest : Plan → State → Course) →
         script.failmode ≡ failmode → AllByRecursion (IsOrderlyBatch (rows_tell_apart (R.standing runner.old).rows)) later
         → IsCourseAt show.now n script before (R.standing runner.old) (fold_seen R.pending fold.old) ahead later journal.old images printed
@@ -138,7 +142,7 @@ pub fn clear_round<'a, R: Runner, O: Sink>(
         → IsCourseAt show.now n script before (R.standing runner.old) (fold_seen R.pending fold.old) ahead later journal.old images printed
         (λ plan st. then_course (run_suspended_by plan st) (rest plan))
         → R.tells runner.old images → (after : Images) × (text : List ℕ)
-        × IsCut show.now n script before (R.standing runner.old).tops fault journal.new after text
+        × IsCut show.now n script before (R.standing runner.old).tops (stopping_of (R.standing runner.new) (R.stops runner.new)) fault journal.new after text
         × R.tells runner.new after × IsCutText fault (O.holds out.old) (O.holds out.new) printed text) }
     ensures waits { OnOk result ((lines : List Line) × (map (λ r. r.now) fold.new.unfinished.items ≡ waiting_of (map (λ r. r.now) fold.old.unfinished.items) lines)) }
     ensures few { OnOk result (fold.new.tally.good + fold.new.tally.bad + length fold.new.unfinished.items
@@ -151,7 +155,9 @@ pub fn clear_round<'a, R: Runner, O: Sink>(
     ensures faults { OnOk result ((R.standing runner.new).faults ≡ (R.standing runner.old).faults) }
     ensures quiet { OnOk result (O.faults out.new ≡ O.faults out.old) }
     ensures device { IsErrOf result RunFault.Device → AnyRose (R.standing runner.old).faults (R.standing runner.new).faults }
+    ensures calm { IsErrOf result RunFault.Memory → (R.standing runner.new).faults ≡ (R.standing runner.old).faults }
     ensures sink { IsErrOf result RunFault.Sink → Rose (O.faults out.old) (O.faults out.new) }
+    ensures can { R.Can runner.new }
     ensures same { R.same runner.old runner.new }
 {
     let requests = mem::replace(&mut fold.unfinished, Vec::new(alloc));

@@ -3,7 +3,7 @@
 ghost use Rattle.std.specs.Prelude.{◌≡◌, ◌<◌, ℕ, Bool, List, false, true, IfOk, IsErrOf, OnErr, OnOk, IfSome, map};
 ghost use Rattle.std.specs.List.{AllByRecursion};
 ghost use Rattle.zio_cksum.specs.Images.{Images};
-ghost use Rattle.zio_gang.specs.Attempts.{Pending};
+ghost use Rattle.zio_gang.specs.Attempts.{Pending, Terms};
 ghost use Rattle.zio_gang.specs.declared.tree.Tree.{Tree as SeenTree};
 ghost use Rattle.zio_course.specs.declared.runner.Stop.TheVariants.{Memory};
 ghost use Rattle.zio_course.specs.Faults.{fault_of};
@@ -98,6 +98,12 @@ pub trait Runner {
     /// A block that a read or a free may be given.
     ghost fits: { SeenTree → Type 0 };
 
+    /// What a round needs beside, as of the threads that it starts. It stays so.
+    ghost Can: { Self → Type 0 };
+
+    /// What it means that a round was stopped for want of memory: of the round's terms, its trees and the images before it.
+    ghost stops: { Self → Terms → List (List Pending) → Images → Type 0 };
+
     /// Makes a tree of a request and its children's trees, for the batch of this number. A read or a free is given the
     /// block that it names.
     fn tree(
@@ -111,16 +117,18 @@ pub trait Runner {
         requires fits { IfSome block fits }
         ensures made { IfOk result (λ tree. pending tree ≡ tree_over (map pending children) (fresh request.now birth block)) }
         ensures stays { Stays (standing self.old) (standing self.new) (tells self.old) (tells self.new) }
+        ensures can { Can self.old → Can self.new }
         ensures same { same self.old self.new };
 
     /// Runs a round.
     ///
-    /// `Stop::Device` comes only where a count of a disk's faults rose, `Stop::Memory` for want of memory. No round runs
-    /// after a stop.
+    /// `Stop::Device` comes exactly where a count of a disk's faults rose, `Stop::Memory` for want of memory. No round
+    /// runs after a stop.
     fn round(&mut self, job: Job<Self::Tree>) -> Result<RoundEnd<Self::Tree>, Stop>
         requires runs { (standing self.old).stopped ≡ false }
         requires next { (standing self.old).last < job.round }
         requires trees { AreRunnable (standing self.old) (map pending job.trees) }
+        requires can { Can self.old }
         ensures round { IfOk result (λ end. (before : Images) → tells self.old before → (after : Images) × tells self.new after
             × IsRound (terms_at (standing self.old) job.failmode job.round job.point) (map pending job.trees) before after (ended_seen pending end)
             × DiffersInRound (standing self.old) (map pending job.trees) before after) }
@@ -129,8 +137,12 @@ pub trait Runner {
         ensures stands { IfOk result (λ end. StandsAfter (standing self.old) (standing self.new) job.round (map pending job.trees) (ended_seen pending end)) }
         ensures stopped { OnErr result (StoppedAfter (standing self.old) (standing self.new) job.round) }
         ensures device { IsErrOf result Stop.Device → AnyRose (standing self.old).faults (standing self.new).faults }
+        ensures calm { IsErrOf result Stop.Memory → (standing self.new).faults ≡ (standing self.old).faults }
+        ensures stops { IsErrOf result Stop.Memory → (before : Images) → tells self.old before
+            → stops self.new (terms_at (standing self.old) job.failmode job.round job.point) (map pending job.trees) before }
         ensures images { OnErr result ((before : Images) → tells self.old before → (after : Images) × tells self.new after
             × DiffersInRound (standing self.old) (map pending job.trees) before after) }
+        ensures can { Can self.new }
         ensures same { same self.old self.new };
 
     /// What no call changes isn't changed by two.

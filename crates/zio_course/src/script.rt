@@ -6,7 +6,7 @@ ghost use Rattle.zio_script.specs.declared.script.Item.{Item as SeenItem};
 ghost use Rattle.zio_script.specs.Accepted.{batches_from};
 ghost use Rattle.zio_course.specs.Folds.{batches_seen, fold_seen};
 ghost use Rattle.zio_course.specs.Moves.{IsGoing, LinesCut, LinesOver};
-ghost use Rattle.zio_course.specs.Runners.{AnyRose};
+ghost use Rattle.zio_course.specs.Runners.{AnyRose, stopping_of};
 
 use crate::clear::clear_line;
 use crate::fold::{Batch, Fold};
@@ -35,10 +35,11 @@ pub fn run_lines<'a, R: Runner, O: Sink>(
     requires going { IsGoing R.fits (R.standing runner.old) journal.old.rounds (fold_seen R.pending fold.old) [] (batches_from [] items.now) (length items.now) }
     requires none { held.old.items ≡ [] }
     requires point { fold.old.point + length items.now < 2 ^ 32 }
+    requires can { R.Can runner.old }
     ensures ran { OnOk result (LinesOver show.now failmode (R.standing runner.old) (R.standing runner.new) (fold_seen R.pending fold.old) (fold_seen R.pending fold.new) items.now (batches_seen held.new.items)
         journal.old journal.new (R.tells runner.old) (R.tells runner.new) (O.holds out.old) (O.holds out.new)) }
     ensures cut { IfErr result (LinesCut show.now failmode (R.standing runner.old) (fold_seen R.pending fold.old) items.now
-        journal.old journal.new (R.tells runner.old) (R.tells runner.new) (O.holds out.old) (O.holds out.new)) }
+        journal.old journal.new (R.tells runner.old) (R.tells runner.new) (stopping_of (R.standing runner.new) (R.stops runner.new)) (O.holds out.old) (O.holds out.new)) }
     ensures last { OnOk result ((R.standing runner.new).last ≡ journal.new.rounds) }
     ensures runs { OnOk result ((R.standing runner.new).stopped ≡ false) }
     ensures tops { (R.standing runner.new).tops ≡ (R.standing runner.old).tops }
@@ -46,7 +47,9 @@ pub fn run_lines<'a, R: Runner, O: Sink>(
     ensures faults { OnOk result ((R.standing runner.new).faults ≡ (R.standing runner.old).faults) }
     ensures quiet { OnOk result (O.faults out.new ≡ O.faults out.old) }
     ensures device { IsErrOf result RunFault.Device → AnyRose (R.standing runner.old).faults (R.standing runner.new).faults }
+    ensures calm { IsErrOf result RunFault.Memory → (R.standing runner.new).faults ≡ (R.standing runner.old).faults }
     ensures sink { IsErrOf result RunFault.Sink → Rose (O.faults out.old) (O.faults out.new) }
+    ensures can { R.Can runner.new }
     ensures same { R.same runner.old runner.new }
 {
     let mut from = items;

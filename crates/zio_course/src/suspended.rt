@@ -1,6 +1,6 @@
 //! The round of a `clear`: the trees that are suspended.
 
-ghost use Rattle.std.specs.Prelude.{◌≡◌, ◌+◌, ◌<◌, ◌≤◌, ◌^◌, [], ℕ, List, IfOk, IfSome, IsErrOf, OnErr, OnOk, false, map};
+ghost use Rattle.std.specs.Prelude.{◌≡◌, ◌+◌, ◌<◌, ◌≤◌, ◌^◌, [], ℕ, List, IfErr, IfOk, IfSome, IsErrOf, OnOk, false, map};
 ghost use Rattle.zio_script.specs.Accepted.{AreRising};
 ghost use Rattle.zio_cksum.specs.Images.{Images};
 ghost use Rattle.zio_gang.specs.Attempts.{Pending};
@@ -10,7 +10,7 @@ ghost use Rattle.zio_course.specs.declared.runner.RoundEnd.{RoundEnd as SeenEnd}
 ghost use Rattle.zio_course.specs.Entered.{IsBatchRun, IsCutShort};
 ghost use Rattle.zio_course.specs.Forests.{names_of};
 ghost use Rattle.zio_course.specs.Names.{named_in};
-ghost use Rattle.zio_course.specs.Runners.{AnyRose, AreRunnable, IsRound, IsRoundEnd, StandsAfter, terms_at};
+ghost use Rattle.zio_course.specs.Runners.{AnyRose, AreRunnable, IsRound, IsRoundEnd, StandsAfter, stopping_of, terms_at};
 ghost use Rattle.zio_course.specs.Steps.{AreUnfinished};
 ghost use Rattle.zio_course.specs.Told.{AreFinishedOf, ended_told, line_told, no_error};
 
@@ -44,6 +44,7 @@ pub fn run_suspended<R: Runner>(
     requires runs { (R.standing runner.old).stopped ≡ false }
     requires next { (R.standing runner.old).last ≤ journal.old.rounds }
     requires trees { AreRunnable (R.standing runner.old) (map R.pending trees) }
+    requires can { R.Can runner.old }
     ensures ran { IfOk result (λ ran. (end : SeenEnd (List Pending))
         × IsBatchRun no_error (map (λ r. r.now) unfinished.now) bound.old bound.new journal.old journal.new end ran.lines (map R.pending ran.left)
         × IsRoundEnd (R.standing runner.old) (journal.old.rounds + 1) (map R.pending trees) end
@@ -52,13 +53,15 @@ pub fn run_suspended<R: Runner>(
         × IsRound (terms_at (R.standing runner.old) failmode (journal.old.rounds + 1) point) (map R.pending trees) before after end)) }
     ensures shown { IfOk result (λ ran. AreWhole ran.lines) }
     ensures fits { OnOk result ((name : List ℕ) → IfSome (named_in bound.new name) R.fits) }
-    ensures cut { OnErr result ((before : Images) → R.tells runner.old before → (after : Images) × R.tells runner.new after
-        × IsCutShort (R.standing runner.old) (R.standing runner.new) (terms_at (R.standing runner.old) failmode (journal.old.rounds + 1) point)
+    ensures cut { IfErr result (λ stop. (before : Images) → R.tells runner.old before → (after : Images) × R.tells runner.new after
+        × IsCutShort (R.standing runner.old) (R.standing runner.new) (stopping_of (R.standing runner.new) (R.stops runner.new)) stop (terms_at (R.standing runner.old) failmode (journal.old.rounds + 1) point)
         (map R.pending trees) [] journal.old journal.new before after) }
     ensures tops { (R.standing runner.new).tops ≡ (R.standing runner.old).tops }
     ensures rows { (R.standing runner.new).rows ≡ (R.standing runner.old).rows }
     ensures kept { IsErrOf result Stop.Device → journal.new ≡ journal.old }
     ensures device { IsErrOf result Stop.Device → AnyRose (R.standing runner.old).faults (R.standing runner.new).faults }
+    ensures calm { IsErrOf result Stop.Memory → (R.standing runner.new).faults ≡ (R.standing runner.old).faults }
+    ensures can { R.Can runner.new }
     ensures same { R.same runner.old runner.new }
 {
     let round = journal.rounds + 1;

@@ -15,7 +15,7 @@ use Rattle.zio_gang.specs.Attempts.{Pending, Terms}
 use Rattle.zio_gang.specs.Trees.{sizes_of, tree_places}
 use Rattle.zio_trace.specs.Families.{Forest, flat}
 use Rattle.zio_trace.specs.Rounds.{trees_in}
-use Rattle.zio_blocks.proofs.PlaceSets.{pass_all}
+use Rattle.zio_blocks.specs.PlaceSets.{pass_all}
 use Rattle.zio_course.specs.declared.runner.Finished.{Finished}
 use Rattle.zio_course.specs.Runners.{AreRunnable, Standing, finished_of, freed_by, freed_places, is_good_in, joined_trees, made_places, numbers_of, requests_in}
 use Rattle.zio_course.proofs.SortLemmas.{IsOneOf, one_all, one_itself, one_map}

@@ -6,7 +6,7 @@ ghost use Rattle.zio_cksum.specs.Images.{Images};
 ghost use Rattle.zio_gang.specs.Attempts.{Pending};
 ghost use Rattle.zio_disks.specs.Disks.{AreSameDisks, Tell};
 ghost use Rattle.zio_disks.specs.Whole.{IsWholeTree};
-ghost use Rattle.zio_course.specs.declared.runner.Stop.TheVariants.{Device};
+ghost use Rattle.zio_course.specs.declared.runner.Stop.TheVariants.{Device, Memory};
 ghost use Rattle.zio_course.specs.Runners.{
   AnyRose,
   AreRunnable,
@@ -109,8 +109,8 @@ impl<D: Disk + Drop, P: Picks + Drop> Graph<D, P> {
 
     /// Runs a round of trees: each request finishes, or is left with those above it.
     ///
-    /// `Stop::Device` comes only where a count of a disk's faults rose, `Stop::Memory` for want of memory. No round runs
-    /// after a stop.
+    /// `Stop::Device` comes exactly where a count of a disk's faults rose, `Stop::Memory` for want of memory. No round
+    /// runs after a stop.
     pub fn round(&mut self, job: Job<EngineTree>) -> Result<RoundEnd<EngineTree>, Stop>
         requires runs { self.old.stopped ≡ false }
         requires next { self.old.last < job.round }
@@ -128,6 +128,7 @@ impl<D: Disk + Drop, P: Picks + Drop> Graph<D, P> {
         ensures stopped { OnErr result
             (StoppedAfter (standing_of D.faults self.old) (standing_of D.faults self.new) job.round) }
         ensures device { IsErrOf result Device → AnyRose (map D.faults self.old.disks) (map D.faults self.new.disks) }
+        ensures calm { IsErrOf result Memory → map D.faults self.new.disks ≡ map D.faults self.old.disks }
         ensures images { OnErr result ((before : Images) → Tell D.image self.old.disks before → (after : Images)
             × Tell D.image self.new.disks after
             × DiffersInRound (standing_of D.faults self.old) (map (λ (tree : Seq Pending). tree) job.trees) before after) }

@@ -16,7 +16,7 @@ impl<D: Disk + Drop, P: Picks + Drop> Runner for Graph<D, P> {
     ghost use Rattle.zio_gang.specs.Attempts.{Pending};
     ghost use Rattle.zio_disks.specs.Disks.{AreSameDisks, Tell};
     ghost use Rattle.zio_disks.specs.Whole.{IsWholeTree};
-    ghost use Rattle.zio_course.specs.declared.runner.Stop.TheVariants.{Device};
+    ghost use Rattle.zio_course.specs.declared.runner.Stop.TheVariants.{Device, Memory};
     ghost use Rattle.zio_course.specs.Runners.{
       AnyRose,
       AreRunnable,
@@ -46,6 +46,10 @@ impl<D: Disk + Drop, P: Picks + Drop> Runner for Graph<D, P> {
     ghost same = { λ a b. AreSameDisks D.bytes D.faults D.faults_at_fetch D.home D.image D.sound a.disks b.disks };
 
     ghost fits = { IsWholeTree };
+
+    ghost Can = { λ _. Unit {0} };
+
+    ghost stops = { λ _ t trees before. Unit {0} };
 
     fn tree(
         &mut self,
@@ -83,6 +87,7 @@ impl<D: Disk + Drop, P: Picks + Drop> Runner for Graph<D, P> {
         ensures stopped { OnErr result
             (StoppedAfter (standing_of D.faults self.old) (standing_of D.faults self.new) job.round) }
         ensures device { IsErrOf result Device → AnyRose (map D.faults self.old.disks) (map D.faults self.new.disks) }
+        ensures calm { IsErrOf result Memory → map D.faults self.new.disks ≡ map D.faults self.old.disks }
         ensures images { OnErr result ((before : Images) → Tell D.image self.old.disks before → (after : Images)
             × Tell D.image self.new.disks after
             × DiffersInRound (standing_of D.faults self.old) (map (λ (tree : List Pending). tree) job.trees) before after) }

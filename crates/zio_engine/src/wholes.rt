@@ -28,8 +28,8 @@ use zio_types::List;
 
 /// Runs a round of these trees, in whatever order is picked, until each finished or is suspended.
 ///
-/// It is stopped by a device only where a disk's count of faults rose, else for want of memory; then the grounds aren't to be
-/// used for a round.
+/// It is stopped by a device exactly where a disk's count of faults rose, else for want of memory; then the grounds aren't
+/// to be used for a round.
 pub(crate) fn run_wholes<N: Staged, D: Disk + Drop, P: Picks>(
     grounds: &mut Grounds<D>,
     picks: &mut P,
@@ -60,6 +60,8 @@ pub(crate) fn run_wholes<N: Staged, D: Disk + Drop, P: Picks>(
         grounds.old.disks.items grounds.new.disks.items) }
     ensures device { IsErrOf result Stop.Device →
         AnyRose (map D.faults grounds.old.disks.items) (map D.faults grounds.new.disks.items) }
+    ensures calm { IsErrOf result Stop.Memory →
+        map D.faults grounds.new.disks.items ≡ map D.faults grounds.old.disks.items }
     ensures same { AreSameDisks D.bytes D.faults D.faults_at_fetch D.home D.image D.sound grounds.old.disks.items
         grounds.new.disks.items }
     ensures setting { grounds.new.setting ≡ grounds.old.setting }
@@ -109,6 +111,8 @@ fn run_to_end<N: Staged, D: Disk + Drop, P: Picks>(
         grounds.new.disks.items }
     ensures device { IsErrOf result Stop.Device →
         AnyRose (map D.faults grounds.old.disks.items) (map D.faults grounds.new.disks.items) }
+    ensures calm { IsErrOf result Stop.Memory →
+        map D.faults grounds.new.disks.items ≡ map D.faults grounds.old.disks.items }
     ensures same { AreSameDisks D.bytes D.faults D.faults_at_fetch D.home D.image D.sound grounds.old.disks.items
         grounds.new.disks.items }
     ensures setting { grounds.new.setting ≡ grounds.old.setting }

@@ -21,9 +21,9 @@ use zio_stages::Finished;
 
 /// Runs the trees of a round, whose first attempts are handed out, until each is settled. Each sound round of these terms
 /// goes on until it is over, whatever is picked: then no node is left, and no tree is under way. The requests that finish
-/// are added in order of their completion, a child's before its parent's. It is stopped by a device only where a disk's count of
-/// faults rose. Wherever it is stopped, the images have changed only in blocks that the round's requests name, and at places that
-/// met none in use.
+/// are added in order of their completion, a child's before its parent's. It is stopped by a device exactly where a disk's
+/// count of faults rose. Wherever it is stopped, the images have changed only in blocks that the round's requests name, and
+/// at places that met none in use.
 pub fn run_trees<N: Staged, D: Disk + Drop, P: Picks>(
     turns: &mut Turns<N>,
     grounds: &mut Grounds<D>,
@@ -44,6 +44,8 @@ pub fn run_trees<N: Staged, D: Disk + Drop, P: Picks>(
     ensures steady { OnOk result (map D.faults grounds.new.disks.items ≡ map D.faults grounds.old.disks.items) }
     ensures device { result ≡ Err Stop.Device →
         AnyRose (map D.faults grounds.old.disks.items) (map D.faults grounds.new.disks.items) }
+    ensures calm { result ≡ Err Stop.Memory →
+        map D.faults grounds.new.disks.items ≡ map D.faults grounds.old.disks.items }
     ensures stopped { OnErr result (TreesStopWith N.nodes D.bytes D.image turns.old.nodes turns.old.line grounds.old round failmode
         trees.old.items grounds.new.disks.items) }
     ensures tops { grounds.new.desk.tops ≡ grounds.old.desk.tops }

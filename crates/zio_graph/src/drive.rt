@@ -19,7 +19,7 @@ use zio_outside::Disk;
 
 /// Runs until a turn has something to tell, or no key is queued and nothing waits at the leaves. The choices are the queued
 /// keys in their order, then each leaf that has a group to issue, in order of the leaves. Each sound round that goes on
-/// goes on, whatever is picked. It is stopped by a device only where a disk's count of faults rose.
+/// goes on, whatever is picked. It is stopped by a device exactly where a disk's count of faults rose.
 pub fn run_on<N: Staged, D: Disk + Drop, P: Picks>(
     turns: &mut Turns<N>,
     grounds: &mut Grounds<D>,
@@ -39,6 +39,8 @@ pub fn run_on<N: Staged, D: Disk + Drop, P: Picks>(
     ensures steady { OnOk result (map D.faults grounds.new.disks.items ≡ map D.faults grounds.old.disks.items) }
     ensures device { result ≡ Err Stop.Device →
         AnyRose (map D.faults grounds.old.disks.items) (map D.faults grounds.new.disks.items) }
+    ensures calm { result ≡ Err Stop.Memory →
+        map D.faults grounds.new.disks.items ≡ map D.faults grounds.old.disks.items }
     ensures stopped { OnErr result (StopsWith N.nodes D.bytes D.image turns.old.nodes turns.old.line grounds.old grounds.new.disks.items) }
     ensures inside { IfOk result (TurnedIn (N.tree_over grounds.old.desk.tops)) }
     ensures tops { grounds.new.desk.tops ≡ grounds.old.desk.tops }

@@ -28,7 +28,7 @@ pub struct Hearing {
 
 /// Runs until a tree of the round hears of its attempt, or no key is queued and nothing waits at the leaves. The requests
 /// that finish meanwhile are added in order of their completion, a child's before its parent's. Each sound round that goes on
-/// goes on, whatever is picked. It is stopped by a device only where a disk's count of faults rose.
+/// goes on, whatever is picked. It is stopped by a device exactly where a disk's count of faults rose.
 pub fn run_to_tree<N: Staged, D: Disk + Drop, P: Picks>(
     turns: &mut Turns<N>,
     grounds: &mut Grounds<D>,
@@ -46,6 +46,8 @@ pub fn run_to_tree<N: Staged, D: Disk + Drop, P: Picks>(
     ensures steady { OnOk result (map D.faults grounds.new.disks.items ≡ map D.faults grounds.old.disks.items) }
     ensures device { result ≡ Err Stop.Device →
         AnyRose (map D.faults grounds.old.disks.items) (map D.faults grounds.new.disks.items) }
+    ensures calm { result ≡ Err Stop.Memory →
+        map D.faults grounds.new.disks.items ≡ map D.faults grounds.old.disks.items }
     ensures stopped { OnErr result (StopsWith N.nodes D.bytes D.image turns.old.nodes turns.old.line grounds.old grounds.new.disks.items) }
     ensures tops { grounds.new.desk.tops ≡ grounds.old.desk.tops }
     ensures setting { grounds.new.setting ≡ grounds.old.setting }

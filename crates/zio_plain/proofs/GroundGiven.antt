@@ -9,8 +9,8 @@ use Rattle.zio_types.specs.declared.place.TopSize.{TopSize}
 use Rattle.zio_types.specs.Choices.{Choice}
 use Rattle.zio_types.specs.Places.{SamePlaces, are_apart, are_open, end_of, is_below, is_free, is_inside, meets}
 use Rattle.zio_cksum.proofs.AllLemmas.{all_contained, all_contains, all_weaker}
-use Rattle.zio_blocks.specs.Choosers.{AreHeld, AreLeft, taken_by_all}
-use Rattle.zio_blocks.proofs.PlaceSets.{SamePlaces-then, all_pass}
+use Rattle.zio_blocks.specs.Choosers.{AreHeld, AreLeft, EntryLaw, taken_by_all}
+use Rattle.zio_blocks.specs.PlaceSets.{SamePlaces-then, all_pass}
 use Rattle.zio_plain.specs.Grounds.{Moves, SeenGround}
 use Rattle.zio_plain.specs.Grounds.Moves.{Itself, Moved}
 use Rattle.zio_plain.specs.OwnEnds.{Named}
@@ -48,23 +48,23 @@ live_left sizes used old taken now new among were_open inside live left p =
 -- ---- moves
 
 module _ {D : Type 0} {bytes faults faults_at_fetch : D → ℕ} {home image : D → List ℕ → Type 0} {sound : D → Type 0} {named : Named} where
-  pub taken_live : {a b : SeenGround D} {taken : List Place} → Moves bytes faults faults_at_fetch home image sound named a b taken → AllByRecursion (Contains b.live) taken
-  taken_live {a} {b} {taken} (Itself same none) = subst (AllByRecursion (Contains b.live)) (sym none) tt
-  taken_live {a} {b} {taken} (Moved held h) =
+  pub taken_live : {Lawful : EntryLaw} {a b : SeenGround D} {taken : List Place} → Moves bytes faults faults_at_fetch home image sound Lawful named a b taken → AllByRecursion (Contains b.live) taken
+  taken_live {Lawful} {a} {b} {taken} (Itself same none) = subst (AllByRecursion (Contains b.live)) (sym none) tt
+  taken_live {Lawful} {a} {b} {taken} (Moved held h) =
       all_weaker (Contains taken) (Contains b.live) taken (λ p there. (h.live p).1 (Contains-append_left taken a.live p there)) (all_contained taken)
 
-  pub taken_apart : {a b : SeenGround D} {taken : List Place} → Moves bytes faults faults_at_fetch home image sound named a b taken → are_apart taken ≡ true
-  taken_apart (Itself same none) = ap are_apart none
-  taken_apart {a} {b} {taken} (Moved held h) = (and_parts (list_all (is_free a.used) taken) (are_apart taken) h.were_open).1
+  pub taken_apart : {Lawful : EntryLaw} {a b : SeenGround D} {taken : List Place} → Moves bytes faults faults_at_fetch home image sound Lawful named a b taken → are_apart taken ≡ true
+  taken_apart {Lawful} (Itself same none) = ap are_apart none
+  taken_apart {Lawful} {a} {b} {taken} (Moved held h) = (and_parts (list_all (is_free a.used) taken) (are_apart taken) h.were_open).1
 
-  pub gave_none : {a b : SeenGround D} {taken : List Place} → taken ≡ [] → Moves bytes faults faults_at_fetch home image sound named a b taken → Moves bytes faults faults_at_fetch home image sound named a b []
-  gave_none {a} {b} none h = subst (λ ps. Moves bytes faults faults_at_fetch home image sound named a b ps) none h
+  pub gave_none : {Lawful : EntryLaw} {a b : SeenGround D} {taken : List Place} → taken ≡ [] → Moves bytes faults faults_at_fetch home image sound Lawful named a b taken → Moves bytes faults faults_at_fetch home image sound Lawful named a b []
+  gave_none {Lawful} {a} {b} none h = subst (λ ps. Moves bytes faults faults_at_fetch home image sound Lawful named a b ps) none h
 
-  pub gave_back : {a b : SeenGround D} {taken : List Place} (sizes : List TopSize) (used live : List Place) (given : List Choice) → (taken ≡ [] → ⊥)
+  pub gave_back : {Lawful : EntryLaw} {a b : SeenGround D} {taken : List Place} (sizes : List TopSize) (used live : List Place) (given : List Choice) → (taken ≡ [] → ⊥)
       → AreLeft b.live taken live → SamePlaces used b.used → (AreHeld b.sizes b.used b.live → AreHeld sizes used live) → given ≡ b.given → sizes ≡ b.sizes
-      → Moves bytes faults faults_at_fetch home image sound named a b taken → Moves bytes faults faults_at_fetch home image sound named a (record b { sizes = sizes; used = used; live = live; given = given }) []
-  gave_back sizes used live given some left same_used holds at_g at_z (Itself same none) = absurd (some none)
-  gave_back {a} {b} {taken} sizes used live given some left same_used holds at_g at_z (Moved held h) = Moved held (record {
+      → Moves bytes faults faults_at_fetch home image sound Lawful named a b taken → Moves bytes faults faults_at_fetch home image sound Lawful named a (record b { sizes = sizes; used = used; live = live; given = given }) []
+  gave_back {Lawful} sizes used live given some left same_used holds at_g at_z (Itself same none) = absurd (some none)
+  gave_back {Lawful} {a} {b} {taken} sizes used live given some left same_used holds at_g at_z (Moved held h) = Moved held (record {
     setting = h.setting;
     round = h.round;
     sizes = at_z ∙ h.sizes;

@@ -21,7 +21,7 @@ use Rattle.zio_outside.specs.declared.written.Written.{Written}
 use Rattle.zio_disks.specs.Disks.{AnyRose, AreSameDisks, Handles, Tell, TellOutside}
 use Rattle.zio_disks.specs.declared.setting.Stop.{Stop as DiskStop}
 use Rattle.zio_disks.specs.declared.setting.Stop.TheVariants.{Device as DiskDevice, Memory as DiskMemory}
-use Rattle.zio_blocks.specs.Choosers.{AreHeld}
+use Rattle.zio_blocks.specs.Choosers.{AreHeld, EntryLaw, HoldsOfNone}
 use Rattle.zio_course.specs.declared.runner.Stop.{Stop}
 use Rattle.zio_course.specs.declared.runner.Stop.TheVariants.{Device}
 use Rattle.zio_course.specs.Runners.{places_of_block, read_size}
@@ -97,10 +97,10 @@ named_may used named places within = all_weaker (Contains named) (λ (p : Place)
 -- ---- own work that takes no place
 
 module _ {D : Type 0} {bytes faults faults_at_fetch : D → ℕ} {home image : D → List ℕ → Type 0} {sound : D → Type 0} where
-  quiet_moved : {went : List Written → D → D → Type 0} {A : Type 0} {answer : A} {named : Named} (places : List Place) {old : SeenGround D} {disks : List D} → AllByRecursion (Contains named.places) places → IsTrue (list_all (is_inside old.sizes) places)
+  quiet_moved : {Lawful : EntryLaw} {went : List Written → D → D → Type 0} {A : Type 0} {answer : A} {named : Named} → HoldsOfNone Lawful → (places : List Place) {old : SeenGround D} {disks : List D} → AllByRecursion (Contains named.places) places → IsTrue (list_all (is_inside old.sizes) places)
       → AreHeld old.sizes old.used old.live → Handles {A = A} bytes faults faults_at_fetch home image sound went (spots_of old.setting places) (Ok answer) old.disks disks
-      → Moves bytes faults faults_at_fetch home image sound named old (record old { disks = disks }) []
-  quiet_moved {went} {A} {answer} {named} places {old} {disks} within inside held h = Moved held (record {
+      → Moves bytes faults faults_at_fetch home image sound Lawful named old (record old { disks = disks }) []
+  quiet_moved {Lawful} {went} {A} {answer} {named} none places {old} {disks} within inside held h = Moved held (record {
     setting = refl;
     round = refl;
     sizes = refl;
@@ -112,7 +112,7 @@ module _ {D : Type 0} {bytes faults faults_at_fetch : D → ℕ} {home image : D
     given = sym (append-nil old.given);
     rounds = tt;
     used = same_places old.used;
-    lawful = tt;
+    lawful = none old.sizes old.used;
     unclaimed = λ e. refl;
     unasked = λ e. refl;
     live = same_places old.live;
@@ -122,22 +122,22 @@ module _ {D : Type 0} {bytes faults faults_at_fetch : D → ℕ} {home image : D
   })
 
   -- it is told by these images, and gives an end without a block
-  pub quiet_does : {went : List Written → D → D → Type 0} {A : Type 0} {answer : A} (places : List Place) (w : Waiting) (attempt : ℕ) (pointers : List (Option Bp)) (old : SeenGround D) (disks : List D) (end : OwnEnd)
+  pub quiet_does : {Lawful : EntryLaw} {went : List Written → D → D → Type 0} {A : Type 0} {answer : A} → HoldsOfNone Lawful → (places : List Place) (w : Waiting) (attempt : ℕ) (pointers : List (Option Bp)) (old : SeenGround D) (disks : List D) (end : OwnEnd)
       → ((named : Named) → AreNamed named w.request.work w.block → AllByRecursion (Contains named.places) places) → IsTrue (list_all (is_inside old.sizes) places)
       → AreHeld old.sizes old.used old.live → Handles {A = A} bytes faults faults_at_fetch home image sound went (spots_of old.setting places) (Ok answer) old.disks disks
       → IsOwnEnd w end → end.tree ≡ None
       → ((t : Terms) → t.setting ≡ old.setting → (is_claim (kind_of w.request.work) ≡ true → SamePlaces old.used t.used) → (images : Images) → Tell image old.disks images
       → (after : Images) × Tell image disks after × ((journal : List Choice) → IsOwn (own_work journal t attempt (pending_of w) w.request.work pointers images) end old.given old.given after))
-      → DoesOwn bytes faults faults_at_fetch home image sound w attempt pointers old (record old { disks = disks }) end []
-  quiet_does {went} {A} {answer} places w attempt pointers old disks end within inside held h is_end none told = record {
+      → DoesOwn bytes faults faults_at_fetch home image sound Lawful w attempt pointers old (record old { disks = disks }) end []
+  quiet_does {Lawful} {went} {A} {answer} empty places w attempt pointers old disks end within inside held h is_end none told = record {
     told = λ t ts tr fresh images tell.
         (let one = told t ts fresh images tell in record { after = one.0; told = one.1; meant = λ journal answers. one.2 journal });
     is_end = is_end;
     asked = record { more = []; is = sym (append-nil old.given); of = tt; distinct = tt };
     taken_are = sym (ap places_of_block none);
     moved = λ named fits.
-        subst (λ (o : Option Tree). Moves bytes faults faults_at_fetch home image sound named old (record old { disks = disks }) (places_of_block o)) (sym none)
-        (quiet_moved places (within named fits) inside held h);
+        subst (λ (o : Option Tree). Moves bytes faults faults_at_fetch home image sound Lawful named old (record old { disks = disks }) (places_of_block o)) (sym none)
+        (quiet_moved empty places (within named fits) inside held h);
   }
 
   -- ---- stops
@@ -146,13 +146,14 @@ module _ {D : Type 0} {bytes faults faults_at_fetch : D → ℕ} {home image : D
   pub breaks_at : (places : List Place) (w : Waiting) (old new : SeenGround D) (device : Type 0) → new.setting ≡ old.setting → new.sizes ≡ old.sizes
       → IsTrue (list_all (is_inside old.sizes) places) → ((named : Named) → AreNamed named w.request.work w.block → AllByRecursion (λ (p : Place). Contains named.places p ⊎ IsTrue (is_free old.used p)) places)
       → AreSameDisks bytes faults faults_at_fetch home image sound old.disks new.disks → (device → AnyRose (map faults old.disks) (map faults new.disks))
-      → TellOutside image (spots_of old.setting places) old.disks new.disks
+      → ((device → ⊥) → map faults new.disks ≡ map faults old.disks) → TellOutside image (spots_of old.setting places) old.disks new.disks
       → BreaksOwn bytes faults faults_at_fetch home image sound w old new device
-  breaks_at places w old new device at_s at_z inside may same rose outside named fits = record {
+  breaks_at places w old new device at_s at_z inside may same rose calm outside named fits = record {
     setting = at_s;
     sizes = at_z;
     disks = same;
     rose = rose;
+    calm = calm;
     outside = changed_at image old new named.places places inside (may named fits) outside;
   }
 
@@ -160,3 +161,8 @@ module _ {D : Type 0} {bytes faults faults_at_fetch : D → ℕ} {home image : D
   pub stopped_rose : {went : List Written → D → D → Type 0} {A : Type 0} {spots : List _} {a b : List D} (stop : DiskStop) (answer : Stop) → answer ≡ stop_of stop
       → Handles {A = A} bytes faults faults_at_fetch home image sound went spots (Err stop) a b → answer ≡ Device → AnyRose (map faults a) (map faults b)
   stopped_rose stop answer is h e = h.device (ap (λ s. Err s) (stop_device stop (sym is ∙ e)))
+
+  pub stopped_calm : {went : List Written → D → D → Type 0} {A : Type 0} {spots : List _} {a b : List D} (stop : DiskStop) (answer : Stop) → answer ≡ stop_of stop
+      → Handles {A = A} bytes faults faults_at_fetch home image sound went spots (Err stop) a b → (answer ≡ Device → ⊥) → map faults b ≡ map faults a
+  stopped_calm DiskDevice answer is h other = absurd (other is)
+  stopped_calm DiskMemory answer is h other = h.calm (λ e. cc)

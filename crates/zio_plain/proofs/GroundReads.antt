@@ -27,9 +27,9 @@ use Rattle.zio_outside.specs.declared.written.Written.{Written}
 use Rattle.zio_disks.specs.Disks.{Handles, Tell}
 use Rattle.zio_disks.specs.Trees.{IsPlacedTree}
 use Rattle.zio_disks.specs.Whole.{IsWholeTree}
-use Rattle.zio_blocks.specs.Choosers.{AreHeld}
+use Rattle.zio_blocks.specs.Choosers.{AreHeld, EntryLaw, HoldsOfNone}
 use Rattle.zio_blocks.specs.Claims.{AreTaken}
-use Rattle.zio_blocks.proofs.PlaceSets.{SamePlaces-back, free_same}
+use Rattle.zio_blocks.specs.PlaceSets.{SamePlaces-back, free_same}
 use Rattle.zio_course.specs.declared.runner.Stop.{Stop}
 use Rattle.zio_course.specs.declared.runner.Stop.TheVariants.{Device, Memory}
 use Rattle.zio_course.specs.Runners.{places_of_block, read_size}
@@ -116,19 +116,19 @@ no_device stop is e = subst IsMemory (ap (λ (s : Stop). Err s) e) (subst IsMemo
 
 module _ {D : Type 0} {bytes faults faults_at_fetch : D → ℕ} {home image : D → List ℕ → Type 0} {sound : D → Type 0} where
   -- the same end and places by other names
-  pub does_as : {w : Waiting} {attempt : ℕ} {pointers : List (Option Bp)} {old new : SeenGround D} {end other : OwnEnd} {taken places : List Place} → other ≡ end → places ≡ taken
-      → DoesOwn bytes faults faults_at_fetch home image sound w attempt pointers old new end taken → DoesOwn bytes faults faults_at_fetch home image sound w attempt pointers old new other places
-  does_as {w} {attempt} {pointers} {old} {new} {end} {other} {taken} {places} e f h =
-      subst (λ x. DoesOwn bytes faults faults_at_fetch home image sound w attempt pointers old new x places) (sym e)
-      (subst (λ ps. DoesOwn bytes faults faults_at_fetch home image sound w attempt pointers old new end ps) (sym f) h)
+  pub does_as : {Lawful : EntryLaw} {w : Waiting} {attempt : ℕ} {pointers : List (Option Bp)} {old new : SeenGround D} {end other : OwnEnd} {taken places : List Place} → other ≡ end → places ≡ taken
+      → DoesOwn bytes faults faults_at_fetch home image sound Lawful w attempt pointers old new end taken → DoesOwn bytes faults faults_at_fetch home image sound Lawful w attempt pointers old new other places
+  does_as {Lawful} {w} {attempt} {pointers} {old} {new} {end} {other} {taken} {places} e f h =
+      subst (λ x. DoesOwn bytes faults faults_at_fetch home image sound Lawful w attempt pointers old new x places) (sym e)
+      (subst (λ ps. DoesOwn bytes faults faults_at_fetch home image sound Lawful w attempt pointers old new end ps) (sym f) h)
 
   -- from and to the same disks by other names
-  pub starts : {w : Waiting} {attempt : ℕ} {pointers : List (Option Bp)} {end : OwnEnd} {taken : List Place} (old new : SeenGround D) (disks left : List D) → disks ≡ old.disks → new.disks ≡ left
-      → DoesOwn bytes faults faults_at_fetch home image sound w attempt pointers (record old { disks = disks }) (record new { disks = left }) end taken
-      → DoesOwn bytes faults faults_at_fetch home image sound w attempt pointers old new end taken
-  starts {w} {attempt} {pointers} {end} {taken} old new disks left e f h =
-      subst (λ ds. DoesOwn bytes faults faults_at_fetch home image sound w attempt pointers (record old { disks = ds }) new end taken) e
-      (subst (λ ds. DoesOwn bytes faults faults_at_fetch home image sound w attempt pointers (record old { disks = disks }) (record new { disks = ds }) end taken) (sym f) h)
+  pub starts : {Lawful : EntryLaw} {w : Waiting} {attempt : ℕ} {pointers : List (Option Bp)} {end : OwnEnd} {taken : List Place} (old new : SeenGround D) (disks left : List D) → disks ≡ old.disks → new.disks ≡ left
+      → DoesOwn bytes faults faults_at_fetch home image sound Lawful w attempt pointers (record old { disks = disks }) (record new { disks = left }) end taken
+      → DoesOwn bytes faults faults_at_fetch home image sound Lawful w attempt pointers old new end taken
+  starts {Lawful} {w} {attempt} {pointers} {end} {taken} old new disks left e f h =
+      subst (λ ds. DoesOwn bytes faults faults_at_fetch home image sound Lawful w attempt pointers (record old { disks = ds }) new end taken) e
+      (subst (λ ds. DoesOwn bytes faults faults_at_fetch home image sound Lawful w attempt pointers (record old { disks = disks }) (record new { disks = ds }) end taken) (sym f) h)
 
   pub starts_breaks : {device : Type 0} (w : Waiting) (old new : SeenGround D) (disks left : List D) → disks ≡ old.disks → new.disks ≡ left
       → BreaksOwn bytes faults faults_at_fetch home image sound w (record old { disks = disks }) (record new { disks = left }) device → BreaksOwn bytes faults faults_at_fetch home image sound w old new device
@@ -137,11 +137,11 @@ module _ {D : Type 0} {bytes faults faults_at_fetch : D → ℕ} {home image : D
       (subst (λ ds. BreaksOwn bytes faults faults_at_fetch home image sound w (record old { disks = disks }) (record new { disks = ds }) device) (sym f) h)
 
   -- where memory may be wanted for the list of its places
-  pub ended_does : {w : Waiting} {old new : SeenGround D} {end : OwnEnd} {taken : List Place} (r : Result OwnDone Stop) → IfOk r (λ (done : OwnDone). done.end ≡ end) → IfOk r (λ (done : OwnDone). done.taken ≡ taken)
-      → ((attempt : ℕ) (pointers : List (Option Bp)) → DoesOwn bytes faults faults_at_fetch home image sound w attempt pointers old new end taken)
-      → IfOk r (λ (done : OwnDone). (attempt : ℕ) (pointers : List (Option Bp)) → DoesOwn bytes faults faults_at_fetch home image sound w attempt pointers old new done.end done.taken)
-  ended_does (Ok done) e f h = λ attempt pointers. does_as e f (h attempt pointers)
-  ended_does (Err stop) e f h = tt
+  pub ended_does : {Lawful : EntryLaw} {w : Waiting} {old new : SeenGround D} {end : OwnEnd} {taken : List Place} (r : Result OwnDone Stop) → IfOk r (λ (done : OwnDone). done.end ≡ end) → IfOk r (λ (done : OwnDone). done.taken ≡ taken)
+      → ((attempt : ℕ) (pointers : List (Option Bp)) → DoesOwn bytes faults faults_at_fetch home image sound Lawful w attempt pointers old new end taken)
+      → IfOk r (λ (done : OwnDone). (attempt : ℕ) (pointers : List (Option Bp)) → DoesOwn bytes faults faults_at_fetch home image sound Lawful w attempt pointers old new done.end done.taken)
+  ended_does {Lawful} (Ok done) e f h = λ attempt pointers. does_as e f (h attempt pointers)
+  ended_does {Lawful} (Err stop) e f h = tt
 
   pub memory_breaks_own : (w : Waiting) (old new : SeenGround D) (r : Result OwnDone Stop) → OnErr r (r ≡ Err Memory)
       → ((device : Type 0) → (device → ⊥) → BreaksOwn bytes faults faults_at_fetch home image sound w old new device)
@@ -149,14 +149,14 @@ module _ {D : Type 0} {bytes faults faults_at_fetch : D → ℕ} {home image : D
   memory_breaks_own w old new (Ok done) memory h = tt
   memory_breaks_own w old new (Err stop) memory h = h (stop ≡ Device) (no_device stop memory)
 
-  pub read_does : {went : List Written → D → D → Type 0} (w : Waiting) (attempt : ℕ) (pointers : List (Option Bp)) (old : SeenGround D) (disks : List D) (tree : Tree) (found : Result (List ℕ) Errno) (name : List ℕ) (prio : Prio)
+  pub read_does : {Lawful : EntryLaw} {went : List Written → D → D → Type 0} → HoldsOfNone Lawful → (w : Waiting) (attempt : ℕ) (pointers : List (Option Bp)) (old : SeenGround D) (disks : List D) (tree : Tree) (found : Result (List ℕ) Errno) (name : List ℕ) (prio : Prio)
       → w.request.work ≡ Read name prio → w.block ≡ Some tree → CanRun bytes old w.block → IsSound IsWholeTree w
       → ((images : Images) → Tell image old.disks images → (found ≡ (read_tree old.setting tree images).found) × Tell image disks (read_tree old.setting tree images).images)
       → (IsWholeTree tree → IfOk found (λ bs. length bs ≡ tree.bp.size))
       → Handles {A = Result (List ℕ) Errno} bytes faults faults_at_fetch home image sound went (spots_of old.setting (tree_places tree)) (Ok found) old.disks disks
-      → DoesOwn bytes faults faults_at_fetch home image sound w attempt pointers old (record old { disks = disks }) (found_end found) []
-  read_does w attempt pointers old disks tree found name prio work block can sound_w told size h =
-      quiet_does {answer = found} (tree_places tree) w attempt pointers old disks (found_end found) (tree_within w tree block) (tree_lies {old = old} {block = w.block} tree can block) can.held h
+      → DoesOwn bytes faults faults_at_fetch home image sound Lawful w attempt pointers old (record old { disks = disks }) (found_end found) []
+  read_does {Lawful} empty w attempt pointers old disks tree found name prio work block can sound_w told size h =
+      quiet_does {answer = found} empty (tree_places tree) w attempt pointers old disks (found_end found) (tree_within w tree block) (tree_lies {old = old} {block = w.block} tree can block) can.held h
       (found_is_end w tree found
       (ap (λ (k : Work). read_size k w.block) work ∙ ap (read_size (Read name prio)) block)
       ((valid_parts tree.bp (tree_placed {old = old} {block = w.block} tree can block).0.ok).size.whole)
@@ -173,13 +173,13 @@ module _ {D : Type 0} {bytes faults faults_at_fetch : D → ℕ} {home image : D
       none_found (Ok bs) = refl
       none_found (Err e) = refl
 
-  pub free_does : {went : List Written → D → D → Type 0} (w : Waiting) (attempt : ℕ) (pointers : List (Option Bp)) (old : SeenGround D) (disks : List D) (tree : Tree) (error : Option Errno) (name : List ℕ)
+  pub free_does : {Lawful : EntryLaw} {went : List Written → D → D → Type 0} → HoldsOfNone Lawful → (w : Waiting) (attempt : ℕ) (pointers : List (Option Bp)) (old : SeenGround D) (disks : List D) (tree : Tree) (error : Option Errno) (name : List ℕ)
       → w.request.work ≡ Free name → w.block ≡ Some tree → CanRun bytes old w.block
       → ((images : Images) → Tell image old.disks images → (error ≡ (free_tree old.setting tree images).error) × Tell image disks (free_tree old.setting tree images).images)
       → Handles {A = Option Errno} bytes faults faults_at_fetch home image sound went (spots_of old.setting (tree_places tree)) (Ok error) old.disks disks
-      → DoesOwn bytes faults faults_at_fetch home image sound w attempt pointers old (record old { disks = disks }) (error_end error) []
-  free_does w attempt pointers old disks tree error name work block can told h =
-      quiet_does {answer = error} (tree_places tree) w attempt pointers old disks (error_end error) (tree_within w tree block) (tree_lies {old = old} {block = w.block} tree can block) can.held h
+      → DoesOwn bytes faults faults_at_fetch home image sound Lawful w attempt pointers old (record old { disks = disks }) (error_end error) []
+  free_does {Lawful} empty w attempt pointers old disks tree error name work block can told h =
+      quiet_does {answer = error} empty (tree_places tree) w attempt pointers old disks (error_end error) (tree_within w tree block) (tree_lies {old = old} {block = w.block} tree can block) can.held h
       (error_is_end w error (λ e. ap (λ (k : Work). read_size k w.block) work)) refl
       (λ t ts fresh images tell. (
         (free_tree old.setting tree images).images,
@@ -189,16 +189,16 @@ module _ {D : Type 0} {bytes faults faults_at_fetch : D → ℕ} {home image : D
       ))
 
   -- a claim that is refused, where the chooser stayed as it was
-  pub refused_does : {went : List Written → D → D → Type 0} (w : Waiting) (attempt : ℕ) (pointers : List (Option Bp)) (old : SeenGround D) (disks : List D) (sizes : List TopSize) (used live : List Place) (given : List Choice) (error : Errno) (name pointer : List ℕ)
+  pub refused_does : {Lawful : EntryLaw} {went : List Written → D → D → Type 0} → HoldsOfNone Lawful → (w : Waiting) (attempt : ℕ) (pointers : List (Option Bp)) (old : SeenGround D) (disks : List D) (sizes : List TopSize) (used live : List Place) (given : List Choice) (error : Errno) (name pointer : List ℕ)
       → w.request.work ≡ Claim name pointer → CanRun bytes old w.block
       → ((images : Images) → Tell image old.disks images → (Err error ≡ (claim_tree old.setting old.used pointer images).tree) × Tell image disks (claim_tree old.setting old.used pointer images).images)
       → Handles {A = Result Tree Errno} bytes faults faults_at_fetch home image sound went [] (Ok (Err error)) old.disks disks
       → sizes ≡ old.sizes → used ≡ old.used → live ≡ old.live → given ≡ old.given
-      → DoesOwn bytes faults faults_at_fetch home image sound w attempt pointers old (record old { disks = disks; sizes = sizes; used = used; live = live; given = given }) (error_end (Some error)) []
-  refused_does w attempt pointers old disks sizes used live given error name pointer work can told h at_z at_u at_l at_g =
-      subst (λ (new : SeenGround D). DoesOwn bytes faults faults_at_fetch home image sound w attempt pointers old new (error_end (Some error)) [])
+      → DoesOwn bytes faults faults_at_fetch home image sound Lawful w attempt pointers old (record old { disks = disks; sizes = sizes; used = used; live = live; given = given }) (error_end (Some error)) []
+  refused_does {Lawful} empty w attempt pointers old disks sizes used live given error name pointer work can told h at_z at_u at_l at_g =
+      subst (λ (new : SeenGround D). DoesOwn bytes faults faults_at_fetch home image sound Lawful w attempt pointers old new (error_end (Some error)) [])
       (λ i. record old { disks = disks; sizes = sym at_z i; used = sym at_u i; live = sym at_l i; given = sym at_g i })
-      (quiet_does [] w attempt pointers old disks (error_end (Some error)) (λ named fits. tt) refl can.held h
+      (quiet_does empty [] w attempt pointers old disks (error_end (Some error)) (λ named fits. tt) refl can.held h
       (error_is_end w (Some error) (λ e. ap (λ (k : Work). read_size k w.block) work)) refl
       (λ t ts fresh images tell. (
         (claim_tree old.setting old.used pointer images).images,
@@ -208,12 +208,12 @@ module _ {D : Type 0} {bytes faults faults_at_fetch : D → ℕ} {home image : D
             ∙ ap (λ (f : Result Tree Errno). own_claimed f (claim_tree old.setting old.used pointer images).images) (sym (told images tell).0)),
       )))
 
-  claim_moved : {went : List Written → D → D → Type 0} (w : Waiting) (old : SeenGround D) (disks : List D) (sizes : List TopSize) (used live : List Place) (given : List Choice) (tree : Tree) (named : Named) → is_claim (kind_of w.request.work) ≡ true
+  claim_moved : {Lawful : EntryLaw} {went : List Written → D → D → Type 0} → HoldsOfNone Lawful → (w : Waiting) (old : SeenGround D) (disks : List D) (sizes : List TopSize) (used live : List Place) (given : List Choice) (tree : Tree) (named : Named) → is_claim (kind_of w.request.work) ≡ true
       → AreNamed named w.request.work w.block → IsPlacedTree old.sizes tree → AreHeld old.sizes old.used old.live
       → Handles {A = Result Tree Errno} bytes faults faults_at_fetch home image sound went [] (Ok (Ok tree)) old.disks disks
       → AreTaken (tree_places tree) old.used old.live used live → AreHeld sizes used live → sizes ≡ old.sizes → given ≡ old.given
-      → Moves bytes faults faults_at_fetch home image sound named old (record old { disks = disks; sizes = sizes; used = used; live = live; given = given }) (tree_places tree)
-  claim_moved w old disks sizes used live given tree named claims fits placed held h taken holds at_z at_g = Moved held (record {
+      → Moves bytes faults faults_at_fetch home image sound Lawful named old (record old { disks = disks; sizes = sizes; used = used; live = live; given = given }) (tree_places tree)
+  claim_moved {Lawful} empty w old disks sizes used live given tree named claims fits placed held h taken holds at_z at_g = Moved held (record {
     setting = refl;
     round = refl;
     sizes = at_z;
@@ -225,7 +225,7 @@ module _ {D : Type 0} {bytes faults faults_at_fetch : D → ℕ} {home image : D
     given = at_g ∙ sym (append-nil old.given);
     rounds = tt;
     used = taken.used;
-    lawful = tt;
+    lawful = empty old.sizes old.used;
     unclaimed = λ none. absurd (false≢true (sym none ∙ sym fits.claim ∙ claims));
     unasked = λ all. refl;
     live = taken.live;
@@ -234,15 +234,15 @@ module _ {D : Type 0} {bytes faults faults_at_fetch : D → ℕ} {home image : D
     inside = tree_inside old.sizes tree placed;
   })
 
-  pub claim_does : {went : List Written → D → D → Type 0} (w : Waiting) (attempt : ℕ) (pointers : List (Option Bp)) (old : SeenGround D) (disks : List D) (sizes : List TopSize) (used live : List Place) (given : List Choice) (tree : Tree) (name pointer : List ℕ)
+  pub claim_does : {Lawful : EntryLaw} {went : List Written → D → D → Type 0} → HoldsOfNone Lawful → (w : Waiting) (attempt : ℕ) (pointers : List (Option Bp)) (old : SeenGround D) (disks : List D) (sizes : List TopSize) (used live : List Place) (given : List Choice) (tree : Tree) (name pointer : List ℕ)
       → w.request.work ≡ Claim name pointer → CanRun bytes old w.block
       → ((images : Images) → Tell image old.disks images → (Ok tree ≡ (claim_tree old.setting old.used pointer images).tree) × Tell image disks (claim_tree old.setting old.used pointer images).images)
       → Handles {A = Result Tree Errno} bytes faults faults_at_fetch home image sound went [] (Ok (Ok tree)) old.disks disks
       → AreTaken (tree_places tree) old.used old.live used live → (AreHeld old.sizes old.used old.live → AreHeld sizes used live)
       → IsWholeTree tree → IsPlacedTree (sizes_of old.setting.tops) tree → sizes ≡ old.sizes → given ≡ old.given
-      → DoesOwn bytes faults faults_at_fetch home image sound w attempt pointers old (record old { disks = disks; sizes = sizes; used = used; live = live; given = given })
+      → DoesOwn bytes faults faults_at_fetch home image sound Lawful w attempt pointers old (record old { disks = disks; sizes = sizes; used = used; live = live; given = given })
       (record { error = None; bytes = []; tree = Some tree; pointer = None }) (tree_places tree)
-  claim_does w attempt pointers old disks sizes used live given tree name pointer work can told h taken holds whole placed at_z at_g =
+  claim_does {Lawful} empty w attempt pointers old disks sizes used live given tree name pointer work can told h taken holds whole placed at_z at_g =
       let new : SeenGround D = record old { disks = disks; sizes = sizes; used = used; live = live; given = given } in
       let claims : is_claim (kind_of w.request.work) ≡ true = ap (λ (k : Work). is_claim (kind_of k)) work in
       record {
@@ -264,6 +264,6 @@ module _ {D : Type 0} {bytes faults faults_at_fetch : D → ℕ} {home image : D
         };
         asked = record { more = []; is = at_g ∙ sym (append-nil old.given); of = tt; distinct = tt };
         taken_are = sym (one_block tree);
-        moved = λ named fits. subst (λ ps. Moves bytes faults faults_at_fetch home image sound named old new ps) (sym (one_block tree))
-            (claim_moved w old disks sizes used live given tree named claims fits (subst (λ z. IsPlacedTree z tree) (sym can.sizes) placed) can.held h taken (holds can.held) at_z at_g);
+        moved = λ named fits. subst (λ ps. Moves bytes faults faults_at_fetch home image sound Lawful named old new ps) (sym (one_block tree))
+            (claim_moved empty w old disks sizes used live given tree named claims fits (subst (λ z. IsPlacedTree z tree) (sym can.sizes) placed) can.held h taken (holds can.held) at_z at_g);
       }

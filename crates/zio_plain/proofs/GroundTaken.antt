@@ -8,18 +8,15 @@ use Rattle.std.proofs.lemmas.List.Sorted.{IsPermutation-refl}
 use Rattle.zio_types.specs.declared.place.Place.{Place}
 use Rattle.zio_types.specs.declared.place.TopSize.{TopSize}
 use Rattle.zio_types.specs.Choices.{Choice, is_refused, taken_by}
-use Rattle.zio_types.specs.Places.{SamePlaces, are_apart, is_free, is_inside}
+use Rattle.zio_types.specs.Places.{SamePlaces, are_apart, are_open, is_free, is_inside}
 use Rattle.zio_blkptr.specs.declared.pointer.Bp.{Bp}
 use Rattle.zio_blkptr.specs.Pointers.{places_of}
 use Rattle.zio_cksum.proofs.AllLemmas.{all_contained, all_contains, all_weaker}
 use Rattle.zio_gang.specs.declared.tree.Tree.{Tree}
-use Rattle.zio_gang.specs.Journals.{AreLawful}
 use Rattle.zio_gang.specs.Trees.{tree_places, tree_pointers}
 use Rattle.zio_disks.specs.Trees.{IsPlacedIn, IsPlacedTree}
-use Rattle.zio_blocks.specs.Choosers.{taken_by_all}
-use Rattle.zio_blocks.proofs.FoundLemmas.{IsFound, found_each}
-use Rattle.zio_blocks.proofs.OpenLemmas.{lawful_open}
-use Rattle.zio_blocks.proofs.PlaceSets.{all_pass, pass_all}
+use Rattle.zio_blocks.specs.Choosers.{IsFound, IsFoundEntry, taken_by_all}
+use Rattle.zio_blocks.specs.PlaceSets.{all_pass, pass_all}
 use Rattle.zio_course.specs.Runners.{places_of_block}
 use Rattle.zio_plain.specs.GroundPlaces.{inside_append}
 
@@ -44,19 +41,16 @@ inside_if : (sizes : List TopSize) (t : Bool) (places : List Place) → IsTrue (
 inside_if sizes true places h = refl
 inside_if sizes false places h = h
 
-pub taken_inside : (sizes : List TopSize) (used : List Place) (es : List Choice) → AreLawful sizes used es → IsTrue (list_all (is_inside sizes) (taken_by_all es))
-taken_inside sizes used [] lawful = refl
-taken_inside sizes used (e ∷ es) lawful =
+pub taken_inside : (sizes : List TopSize) (es : List Choice) → AllByRecursion (IsFoundEntry sizes) es → IsTrue (list_all (is_inside sizes) (taken_by_all es))
+taken_inside sizes [] found = refl
+taken_inside sizes (e ∷ es) found =
     inside_append sizes (taken_by e) (taken_by_all es)
     (inside_if sizes (is_refused e) e.places
-    (pass_all (is_inside sizes) e.places
-    (all_weaker (IsFound sizes e.asked.size) (λ p. IsTrue (is_inside sizes p)) e.places (λ p h. h.inside) (found_each sizes used e.asked.size [] e.places lawful.0.copies))))
-    (taken_inside sizes (taken_by e ++ used) es lawful.1)
+    (pass_all (is_inside sizes) e.places (all_weaker (IsFound sizes e.asked.size) (λ p. IsTrue (is_inside sizes p)) e.places (λ p h. h.inside) found.0.each)))
+    (taken_inside sizes es found.1)
 
-pub taken_free : (sizes : List TopSize) (used : List Place) (es : List Choice) → AreLawful sizes used es → AllByRecursion (λ (p : Place). IsTrue (is_free used p)) (taken_by_all es)
-taken_free sizes used es lawful =
-    all_pass (is_free used) (taken_by_all es)
-    (and_parts (list_all (is_free used) (taken_by_all es)) (are_apart (taken_by_all es)) (lawful_open sizes used es (taken_by_all es) lawful (IsPermutation-refl (taken_by_all es)))).0
+pub taken_free : (used : List Place) (es : List Choice) → are_open used (taken_by_all es) ≡ true → AllByRecursion (λ (p : Place). IsTrue (is_free used p)) (taken_by_all es)
+taken_free used es opened = all_pass (is_free used) (taken_by_all es) (and_parts (list_all (is_free used) (taken_by_all es)) (are_apart (taken_by_all es)) opened).0
 
 -- ---- the places of a block
 

@@ -1,6 +1,6 @@
 -- The own work of writes.
 use Rattle.std.proofs.Common.{◌≡◌, ℕ, ◌<◌, List, [], ◌++◌, ◌⊎◌, inr, refl, sym, ap, ◌∙◌, subst, lit<}
-use Rattle.std.specs.Prelude.{false, find, Contains, IsPermutation, IsTrue, Option, Some, None, option_map, Result, Ok, Err, IfErr, IfOk, IfSome}
+use Rattle.std.specs.Prelude.{true, false, find, Contains, IsPermutation, IsTrue, Option, Some, None, option_map, Result, Ok, Err, IfErr, IfOk, IfSome}
 use Rattle.std.specs.Result.{IsErrAnd}
 use Rattle.std.specs.List.{AllByRecursion}
 use Rattle.std.proofs.lemmas.Bool.{false≢true}
@@ -13,7 +13,7 @@ use Rattle.zio_types.specs.declared.place.TopSize.{TopSize}
 use Rattle.zio_types.specs.declared.request.Prio.{Prio}
 use Rattle.zio_types.specs.Choices.{Choice, same_ask}
 use Rattle.zio_types.specs.Errors.{rank}
-use Rattle.zio_types.specs.Places.{SamePlaces, is_free}
+use Rattle.zio_types.specs.Places.{SamePlaces, are_open, is_free}
 use Rattle.zio_blkptr.specs.declared.pointer.Bp.{Bp}
 use Rattle.zio_blkptr.specs.declared.pointer.SumKind.{SumKind}
 use Rattle.zio_blkptr.specs.Pointers.{valid}
@@ -28,7 +28,7 @@ use Rattle.zio_cksum.specs.Images.{Images, Setting}
 use Rattle.zio_cksum.proofs.AllLemmas.{all_weaker}
 use Rattle.zio_gang.specs.declared.tree.Tree.{Tree}
 use Rattle.zio_gang.specs.Attempts.{Own, Terms, own_work, own_write, placed_tree, writing_of}
-use Rattle.zio_gang.specs.Journals.{AreLawful, HaveDistinctKeys, asks_of}
+use Rattle.zio_gang.specs.Journals.{HaveDistinctKeys, asks_of}
 use Rattle.zio_gang.specs.Trees.{sizes_of, tree_places}
 use Rattle.zio_gang.specs.Writes.{Placed, content_of, place_block}
 use Rattle.zio_gang.specs.Writes.{Writing as Parts}
@@ -40,9 +40,9 @@ use Rattle.zio_disks.proofs.WriteLemmas.{all_right}
 use Rattle.zio_blocks.specs.declared.place.PlacedBlock.{PlacedBlock}
 use Rattle.zio_blocks.specs.declared.place.Writing.{Writing}
 use Rattle.zio_blocks.specs.Blocks.{AnswersBy, AsksFor, IsOf, Places, terms_of}
-use Rattle.zio_blocks.specs.Choosers.{AreHeld, given_since, taken_by_all}
-use Rattle.zio_blocks.proofs.OpenLemmas.{lawful_open}
-use Rattle.zio_blocks.proofs.PlaceSets.{SamePlaces-append, SamePlaces-back, SamePlaces-moved, SamePlaces-then}
+use Rattle.zio_blocks.specs.Choosers.{AreHeld, EntryLaw, GivesEntries, GivesOpen, IsFoundEntry, given_since, taken_by_all}
+use Rattle.zio_blocks.proofs.OpenLemmas.{found_open}
+use Rattle.zio_blocks.specs.PlaceSets.{SamePlaces-append, SamePlaces-back, SamePlaces-moved, SamePlaces-then}
 use Rattle.zio_course.specs.declared.runner.Stop.{Stop}
 use Rattle.zio_course.specs.declared.runner.Stop.TheVariants.{Device, Memory}
 use Rattle.zio_course.specs.Runners.{places_of_block, read_size}
@@ -140,20 +140,20 @@ pub free_may : (used named places : List Place) → AllByRecursion (λ (p : Plac
 free_may used named places free = all_weaker (λ (p : Place). IsTrue (is_free used p)) (λ (p : Place). Contains named p ⊎ IsTrue (is_free used p)) places (λ p f. inr f) free
 
 module _ {D : Type 0} {bytes faults faults_at_fetch : D → ℕ} {home image : D → List ℕ → Type 0} {sound : D → Type 0} where
-  write_moved : {went : List Written → D → D → Type 0} (w : Waiting) (old : SeenGround D) (disks : List D) (sizes : List TopSize) (used live : List Place) (given more : List Choice) (stay : List Place) (writing : Writing) (placed : PlacedBlock) (named : Named)
+  write_moved : {Lawful : EntryLaw} {went : List Written → D → D → Type 0} (w : Waiting) (old : SeenGround D) (disks : List D) (sizes : List TopSize) (used live : List Place) (given more : List Choice) (stay : List Place) (writing : Writing) (placed : PlacedBlock) (named : Named)
       → is_claim (kind_of w.request.work) ≡ false → AreNamed named w.request.work w.block → AreHeld old.sizes old.used old.live → AreHeld sizes used live
       → Handles {A = PlacedBlock} bytes faults faults_at_fetch home image sound went (spots_of old.setting (taken_by_all more)) (Ok placed) old.disks disks
-      → given ≡ old.given ++ more → AreLawful old.sizes old.used more → AllByRecursion (IsOf writing) more → writing.round ≡ old.round
+      → given ≡ old.given ++ more → Lawful old.sizes old.used more → AllByRecursion (IsFoundEntry old.sizes) more → are_open old.used (taken_by_all more) ≡ true → AllByRecursion (IsOf writing) more → writing.round ≡ old.round
       → SamePlaces used (taken_by_all more ++ old.used) → SamePlaces live (taken_by_all more ++ old.live) → IsPermutation stay (taken_by_all more) → sizes ≡ old.sizes
-      → Moves bytes faults faults_at_fetch home image sound named old (record old { disks = disks; sizes = sizes; used = used; live = live; given = given }) stay
-  write_moved w old disks sizes used live given more stay writing placed named claims fits held holds h behind lawful own round at_u at_l moved at_z = Moved held (record {
+      → Moves bytes faults faults_at_fetch home image sound Lawful named old (record old { disks = disks; sizes = sizes; used = used; live = live; given = given }) stay
+  write_moved {Lawful} w old disks sizes used live given more stay writing placed named claims fits held holds h behind lawful found opened own round at_u at_l moved at_z = Moved held (record {
     setting = refl;
     round = refl;
     sizes = at_z;
     disks = h.same;
     steady = h.steady;
-    outside = changed_at image old (record old { disks = disks; sizes = sizes; used = used; live = live; given = given }) named.places (taken_by_all more) (taken_inside old.sizes old.used more lawful)
-        (free_may old.used named.places (taken_by_all more) (taken_free old.sizes old.used more lawful)) h.outside;
+    outside = changed_at image old (record old { disks = disks; sizes = sizes; used = used; live = live; given = given }) named.places (taken_by_all more) (taken_inside old.sizes more found)
+        (free_may old.used named.places (taken_by_all more) (taken_free old.used more opened)) h.outside;
     more = more;
     claimed = [];
     given = behind;
@@ -165,22 +165,22 @@ module _ {D : Type 0} {bytes faults faults_at_fetch : D → ℕ} {home image : D
     live = SamePlaces-then live (taken_by_all more ++ old.live) (stay ++ old.live) at_l
         (SamePlaces-append (taken_by_all more) stay old.live (SamePlaces-back stay (taken_by_all more) (SamePlaces-moved stay (taken_by_all more) moved)));
     held = holds;
-    were_open = lawful_open old.sizes old.used more stay lawful moved;
-    inside = inside_among old.sizes (taken_by_all more) stay (λ p there. Contains-permutation stay (taken_by_all more) p moved there) (taken_inside old.sizes old.used more lawful);
+    were_open = found_open old.sizes old.used more stay found opened moved;
+    inside = inside_among old.sizes (taken_by_all more) stay (λ p there. Contains-permutation stay (taken_by_all more) p moved there) (taken_inside old.sizes more found);
   })
 
-  pub write_does : {went : List Written → D → D → Type 0} (w : Waiting) (attempt : ℕ) (pointers : List (Option Bp)) (old : SeenGround D) (disks : List D) (sizes : List TopSize) (used live : List Place) (given : List Choice) (writing : Writing) (placed : PlacedBlock)
+  pub write_does : {Lawful : EntryLaw} {went : List Written → D → D → Type 0} → GivesEntries Lawful → GivesOpen Lawful → (w : Waiting) (attempt : ℕ) (pointers : List (Option Bp)) (old : SeenGround D) (disks : List D) (sizes : List TopSize) (used live : List Place) (given : List Choice) (writing : Writing) (placed : PlacedBlock)
       (content name : List ℕ) (sum : SumKind) (copies : ℕ) (prio : Prio) (body : Body)
       → w.request.work ≡ Write name sum copies prio body → IsWriteOf w old.setting old.round attempt sum copies writing → content ≡ content_of pointers (body_of body)
       → AreHeld old.sizes old.used old.live → (AreHeld old.sizes old.used old.live → AreHeld sizes used live) → sizes ≡ old.sizes
       → ((images : Images) → Tell image old.disks images → Places image (terms_of old.setting writing) content images placed (given_since old.given given) disks)
-      → AsksFor old.sizes writing old.used old.live old.given used live given → HaveDistinctKeys (asks_of (given_since old.given given))
+      → AsksFor Lawful old.sizes writing old.used old.live old.given used live given → HaveDistinctKeys (asks_of (given_since old.given given))
       → IfSome placed.tree (λ (tree : Tree). IsPermutation (tree_places tree) (taken_by_all (given_since old.given given)))
       → (placed.tree ≡ None → taken_by_all (given_since old.given given) ≡ [])
       → IfSome placed.tree (IsPlacedTree (sizes_of old.setting.tops)) → (rank placed.error < rank (Some Nospc) → IfSome placed.tree IsWholeTree)
       → Handles {A = PlacedBlock} bytes faults faults_at_fetch home image sound went (spots_of old.setting (taken_by_all (given_since old.given given))) (Ok placed) old.disks disks
-      → DoesOwn bytes faults faults_at_fetch home image sound w attempt pointers old (record old { disks = disks; sizes = sizes; used = used; live = live; given = given }) (placed_end placed) (places_of_block placed.tree)
-  write_does w attempt pointers old disks sizes used live given writing placed content name sum copies prio body work is stored held holds at_z told asks keys places nowhere lies whole h =
+      → DoesOwn bytes faults faults_at_fetch home image sound Lawful w attempt pointers old (record old { disks = disks; sizes = sizes; used = used; live = live; given = given }) (placed_end placed) (places_of_block placed.tree)
+  write_does {Lawful} finds opens w attempt pointers old disks sizes used live given writing placed content name sum copies prio body work is stored held holds at_z told asks keys places nowhere lies whole h =
       let more : List Choice = given_since old.given given in
       record {
         told = λ t ts tr fresh images tell.
@@ -203,15 +203,16 @@ module _ {D : Type 0} {bytes faults faults_at_fetch : D → ℕ} {home image : D
         };
         taken_are = refl;
         moved = λ named fits.
-            write_moved w old disks sizes used live given more (places_of_block placed.tree) writing placed named (ap (λ (k : Work). is_claim (kind_of k)) work) fits held (holds held) h asks.behind asks.lawful asks.own
+            write_moved w old disks sizes used live given more (places_of_block placed.tree) writing placed named (ap (λ (k : Work). is_claim (kind_of k)) work) fits held (holds held) h asks.behind asks.lawful
+            (finds old.sizes old.used more asks.lawful) (opens old.sizes old.used more asks.lawful) asks.own
             is.round_is asks.used asks.live (block_moved placed.tree (taken_by_all more) places nowhere) at_z;
       }
 
-  pub written_does : {w : Waiting} {attempt : ℕ} {pointers : List (Option Bp)} {old new : SeenGround D} {end : OwnEnd} {taken : List Place} (r : Result OwnDone Stop) → IfOk r (λ (done : OwnDone). done.end ≡ end)
-      → IfOk r (λ (done : OwnDone). done.taken ≡ taken) → DoesOwn bytes faults faults_at_fetch home image sound w attempt pointers old new end taken
-      → IfOk r (λ (done : OwnDone). DoesOwn bytes faults faults_at_fetch home image sound w attempt pointers old new done.end done.taken)
-  written_does (Ok done) e f h = does_as e f h
-  written_does (Err stop) e f h = tt
+  pub written_does : {Lawful : EntryLaw} {w : Waiting} {attempt : ℕ} {pointers : List (Option Bp)} {old new : SeenGround D} {end : OwnEnd} {taken : List Place} (r : Result OwnDone Stop) → IfOk r (λ (done : OwnDone). done.end ≡ end)
+      → IfOk r (λ (done : OwnDone). done.taken ≡ taken) → DoesOwn bytes faults faults_at_fetch home image sound Lawful w attempt pointers old new end taken
+      → IfOk r (λ (done : OwnDone). DoesOwn bytes faults faults_at_fetch home image sound Lawful w attempt pointers old new done.end done.taken)
+  written_does {Lawful} (Ok done) e f h = does_as e f h
+  written_does {Lawful} (Err stop) e f h = tt
 
 -- where its content wasn't made for want of memory
 pub content_breaks : {D : Type 0} (bytes faults faults_at_fetch : D → ℕ) (home image : D → List ℕ → Type 0) (sound : D → Type 0) (w : Waiting) (old : SeenGround D) (r : Result OwnDone Stop)

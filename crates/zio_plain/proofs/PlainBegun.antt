@@ -21,8 +21,8 @@ use Rattle.zio_disks.specs.Trees.{IsPlacedIn, IsPlacedTree}
 use Rattle.zio_disks.specs.Whole.{IsWholeTree}
 use Rattle.zio_disks.proofs.ClaimLemmas.{members_valid}
 use Rattle.zio_disks.proofs.DiskLemmas.{same_itself}
-use Rattle.zio_blocks.specs.Choosers.{AreHeld}
-use Rattle.zio_blocks.proofs.PlaceSets.{all_pass, pass_all}
+use Rattle.zio_blocks.specs.Choosers.{AreHeld, EntryLaw, HoldsOfNone}
+use Rattle.zio_blocks.specs.PlaceSets.{all_pass, pass_all}
 use Rattle.zio_course.specs.Runners.{joined_trees, named_places, places_of_block}
 use Rattle.zio_plain.specs.declared.ground.Ground.{Ground}
 use Rattle.zio_plain.specs.Grounds.{CanRun, HasMoved, Moves, SeenGround, seen}
@@ -67,7 +67,7 @@ live_inside sizes used live p held there =
 
 -- ---- the ground
 
-module _ {D C : Type 0} (bytes faults faults_at_fetch : D → ℕ) (home image : D → List ℕ → Type 0) (sound : D → Type 0)
+module _ {D C : Type 0} (bytes faults faults_at_fetch : D → ℕ) (home image : D → List ℕ → Type 0) (sound : D → Type 0) (Lawful : EntryLaw)
     (sizes : C → List TopSize) (used live : C → List Place) (given : C → List Choice) where
   -- what own work stands on as a round begins
   abbrev pub begun : SeenPlain D C → ℕ → ℕ → SeenGround D
@@ -127,12 +127,12 @@ module _ {D C : Type 0} (bytes faults faults_at_fetch : D → ℕ) (home image :
       (parts_all (λ (q : Pending). places_of_block q.block) (Contains (live p.chooser)) (joined_trees trees) within)
 
   -- also where nothing was done
-  pub has_moved : (p : SeenPlain D C) (round point : ℕ) (named : Named) (new : SeenGround D) (stay : List Place) → SteadyPlain p
-      → Moves bytes faults faults_at_fetch home image sound named (begun p round point) new stay → HasMoved bytes faults faults_at_fetch home image sound named (begun p round point) new stay
-  has_moved p round point named new stay steady (Moved held h) = h
-  has_moved p round point named new stay steady (Itself same none) =
-      subst (λ (s : SeenGround D). HasMoved bytes faults faults_at_fetch home image sound named (begun p round point) s stay) (sym same)
-      (subst (HasMoved bytes faults faults_at_fetch home image sound named (begun p round point) (begun p round point)) (sym none) (record {
+  pub has_moved : HoldsOfNone Lawful → (p : SeenPlain D C) (round point : ℕ) (named : Named) (new : SeenGround D) (stay : List Place) → SteadyPlain p
+      → Moves bytes faults faults_at_fetch home image sound Lawful named (begun p round point) new stay → HasMoved bytes faults faults_at_fetch home image sound Lawful named (begun p round point) new stay
+  has_moved empty p round point named new stay steady (Moved held h) = h
+  has_moved empty p round point named new stay steady (Itself same none) =
+      subst (λ (s : SeenGround D). HasMoved bytes faults faults_at_fetch home image sound Lawful named (begun p round point) s stay) (sym same)
+      (subst (HasMoved bytes faults faults_at_fetch home image sound Lawful named (begun p round point) (begun p round point)) (sym none) (record {
         setting = refl;
         round = refl;
         sizes = refl;
@@ -148,7 +148,7 @@ module _ {D C : Type 0} (bytes faults faults_at_fetch : D → ℕ) (home image :
         given = sym (append-nil (given p.chooser));
         rounds = tt;
         used = λ q. (λ c. c, λ c. c);
-        lawful = tt;
+        lawful = empty (sizes p.chooser) (used p.chooser);
         unclaimed = λ e. refl;
         unasked = λ e. refl;
         live = λ q. (λ c. c, λ c. c);

@@ -19,7 +19,7 @@ use Rattle.zio_gang.specs.Attempts.{Pending}
 use Rattle.zio_places.proofs.PlaceLemmas.{contains-included}
 use Rattle.zio_disks.specs.Disks.{Tell}
 use Rattle.zio_disks.specs.Whole.{IsWholeTree}
-use Rattle.zio_blocks.specs.Choosers.{AreLeft}
+use Rattle.zio_blocks.specs.Choosers.{AreLeft, EntryLaw}
 use Rattle.zio_course.specs.declared.runner.Finished.{Finished}
 use Rattle.zio_course.specs.declared.runner.RoundEnd.{RoundEnd}
 use Rattle.zio_course.specs.Runners.{DiffersInRound, IsRoundEnd, ended_seen, freed_by, freed_places, joined_trees, made_places, named_places, places_of_block, requests_in}
@@ -57,12 +57,12 @@ all_named trees q c =
 pub all_entries : (old more new : List Choice) → old ≡ [] → new ≡ old ++ more → new ≡ more
 all_entries old more new none is = is ∙ ap (λ es. es ++ more) none
 
-module _ {D C : Type 0} (bytes faults faults_at_fetch : D → ℕ) (home image : D → List ℕ → Type 0) (sound : D → Type 0)
+module _ {D C : Type 0} (bytes faults faults_at_fetch : D → ℕ) (home image : D → List ℕ → Type 0) (sound : D → Type 0) (Lawful : EntryLaw)
     (sizes : C → List TopSize) (used live : C → List Place) (given : C → List Choice) where
   -- the trees of a round ran from the begun ground on
   pub record HasRun (p : SeenPlain D C) (number point : ℕ) (trees : List (List Pending)) (runs : List TreeRun) (finished : List Finished) (freed : List Tree) (new : SeenGround D) : Type 0 where
-    pub steady : SteadyPlain bytes faults faults_at_fetch home image sound sizes used live given p
-    pub moved : HasMoved bytes faults faults_at_fetch home image sound (named_in trees) (begun bytes faults faults_at_fetch home image sound sizes used live given p number point) new (made_places (ends_run runs))
+    pub steady : SteadyPlain bytes faults faults_at_fetch home image sound Lawful sizes used live given p
+    pub moved : HasMoved bytes faults faults_at_fetch home image sound Lawful (named_in trees) (begun bytes faults faults_at_fetch home image sound Lawful sizes used live given p number point) new (made_places (ends_run runs))
     pub whole : trees ≡ trees_in runs
     pub each : AllByRecursion IsTreeRun runs
     pub same : IsPermutation (ends_run runs) finished
@@ -132,8 +132,8 @@ module _ {D C : Type 0} (bytes faults faults_at_fetch : D → ℕ) (home image :
   -- ---- images
 
   -- images that changed at places that weren't in use or are named, and nowhere else
-  pub differs : (p : SeenPlain D C) (number point : ℕ) (trees : List (List Pending)) (new : SeenGround D) → SteadyPlain bytes faults faults_at_fetch home image sound sizes used live given p → map bytes new.disks ≡ map bytes p.disks
-      → TellChanged image (named_places trees) (begun bytes faults faults_at_fetch home image sound sizes used live given p number point) new
+  pub differs : (p : SeenPlain D C) (number point : ℕ) (trees : List (List Pending)) (new : SeenGround D) → SteadyPlain bytes faults faults_at_fetch home image sound Lawful sizes used live given p → map bytes new.disks ≡ map bytes p.disks
+      → TellChanged image (named_places trees) (begun bytes faults faults_at_fetch home image sound Lawful sizes used live given p number point) new
       → (before : Images) → Tell image p.disks before → (after : Images) × Tell image new.disks after × DiffersInRound (standing_of faults live p) trees before after
   differs p number point trees new steady same outside before told =
       let k = outside before told in

@@ -13,7 +13,7 @@ use Rattle.zio_cksum.proofs.AllLemmas.{all_contained, all_contains, all_weaker}
 use Rattle.zio_places.specs.Tables.{total}
 use Rattle.zio_places.proofs.PlaceLemmas.{contains-same, total-append}
 use Rattle.zio_blocks.specs.Choosers.{AreLeft}
-use Rattle.zio_blocks.proofs.PlaceSets.{all_pass, pass_all}
+use Rattle.zio_blocks.specs.PlaceSets.{all_pass, pass_all}
 use Rattle.zio_course.specs.declared.runner.Finished.{Finished}
 use Rattle.zio_course.specs.Runners.{made_places}
 use Rattle.zio_plain.proofs.PassLemmas.{made_append}

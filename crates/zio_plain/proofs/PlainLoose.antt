@@ -17,7 +17,7 @@ use Rattle.zio_disks.specs.Disks.{Tell}
 use Rattle.zio_gang.specs.Trees.{size_of, sizes_of}
 use Rattle.zio_places.specs.Tables.{covers}
 use Rattle.zio_places.proofs.PlaceLemmas.{covers-from, covers-parts, meets-from}
-use Rattle.zio_blocks.proofs.PlaceSets.{all_pass}
+use Rattle.zio_blocks.specs.PlaceSets.{all_pass}
 use Rattle.zio_course.specs.Runners.{DiffersLoose, IsLoose, has_sector}
 use Rattle.zio_course.proofs.SortLemmas.{IsOneOf, one_all}
 use Rattle.zio_plain.specs.Grounds.{ChangedAt}

@@ -16,8 +16,8 @@ use Rattle.zio_gang.specs.Trees.{sizes_of}
 use Rattle.zio_disks.specs.Disks.{Tell}
 use Rattle.zio_disks.specs.Trees.{BearsTops}
 use Rattle.zio_blocks.specs.Blocks.{HavePointers}
-use Rattle.zio_blocks.specs.Choosers.{AreHeld, AreLeft}
-use Rattle.zio_blocks.proofs.AskLemmas.{are_lawful_same}
+use Rattle.zio_blocks.specs.Choosers.{AreHeld, AreLeft, EntryLaw, HoldsOfNone}
+use Rattle.zio_blocks.specs.EntryLaws.{are_lawful_same}
 use Rattle.zio_course.specs.declared.runner.Finished.{Finished}
 use Rattle.zio_course.specs.declared.runner.RoundEnd.{RoundEnd}
 use Rattle.zio_course.specs.Runners.{AreRunnable, DiffersInRound, IsRound, Standing, StandsAfter, StoppedAfter, ended_seen, made_places, terms_at}
@@ -40,28 +40,28 @@ on_err (Err e) h = h
 pub runnable : (s : Standing) (trees : List (List Pending)) → AreRunnable s (map (λ (tree : List Pending). tree) trees) → AreRunnable s trees
 runnable s trees h = subst (AreRunnable s) (map-id trees) h
 
-module _ {D C : Type 0} (bytes faults faults_at_fetch : D → ℕ) (home image : D → List ℕ → Type 0) (sound : D → Type 0)
+module _ {D C : Type 0} (bytes faults faults_at_fetch : D → ℕ) (home image : D → List ℕ → Type 0) (sound : D → Type 0) (Lawful : EntryLaw)
     (sizes : C → List TopSize) (used live : C → List Place) (given : C → List Choice) where
   abbrev Sees : Ground D C → SeenGround D
   Sees g = seen sizes used live given g
 
   abbrev Begun : SeenPlain D C → ℕ → ℕ → SeenGround D
-  Begun p number point = begun bytes faults faults_at_fetch home image sound sizes used live given p number point
+  Begun p number point = begun bytes faults faults_at_fetch home image sound Lawful sizes used live given p number point
 
   abbrev Runs : SeenPlain D C → ℕ → ℕ → List (List Pending) → List TreeRun → List Finished → List Tree → SeenGround D → Type 0
-  Runs p number point trees runs finished freed new = HasRun bytes faults faults_at_fetch home image sound sizes used live given p number point trees runs finished freed new
+  Runs p number point trees runs finished freed new = HasRun bytes faults faults_at_fetch home image sound Lawful sizes used live given p number point trees runs finished freed new
 
   -- the trees ran over the ground
-  pub has_run : (p : SeenPlain D C) (number point : ℕ) (trees : List (List Pending)) (left : List (List Pending)) (finished : List Finished) (completions : List Completion) (freed : List Tree) (failmode : Failmode) (old new : Ground D C)
+  pub has_run : HoldsOfNone Lawful → (p : SeenPlain D C) (number point : ℕ) (trees : List (List Pending)) (left : List (List Pending)) (finished : List Finished) (completions : List Completion) (freed : List Tree) (failmode : Failmode) (old new : Ground D C)
       (tells : Ground D C → Images → Type 0) (is_of fresh : Ground D C → Terms → Type 0) (gave : Ground D C → List Choice)
-      → SteadyPlain bytes faults faults_at_fetch home image sound sizes used live given p → HasBegun bytes faults faults_at_fetch home image sound sizes used live given p number point old → AreRunnable (standing_of faults live p) trees
-      → (r : IsTreesRun tells is_of fresh gave (λ a b stay. Moves bytes faults faults_at_fetch home image sound (named_in trees) (Sees a) (Sees b) stay) number failmode trees left finished completions freed old new)
+      → SteadyPlain bytes faults faults_at_fetch home image sound Lawful sizes used live given p → HasBegun bytes faults faults_at_fetch home image sound Lawful sizes used live given p number point old → AreRunnable (standing_of faults live p) trees
+      → (r : IsTreesRun tells is_of fresh gave (λ a b stay. Moves bytes faults faults_at_fetch home image sound Lawful (named_in trees) (Sees a) (Sees b) stay) number failmode trees left finished completions freed old new)
       → Runs p number point trees r.each_run finished freed (Sees new)
-  has_run p number point trees left finished completions freed failmode old new tells is_of fresh gave steady begins runs r = record {
+  has_run empty p number point trees left finished completions freed failmode old new tells is_of fresh gave steady begins runs r = record {
     steady = steady;
-    moved = has_moved bytes faults faults_at_fetch home image sound sizes used live given p number point (named_in trees) (Sees new) (made_places (ends_run r.each_run)) steady
-        (subst (λ (s : SeenGround D). Moves bytes faults faults_at_fetch home image sound (named_in trees) s (Sees new) (made_places (ends_run r.each_run)))
-        (sees_begun bytes faults faults_at_fetch home image sound sizes used live given p number point old begins) r.moved);
+    moved = has_moved bytes faults faults_at_fetch home image sound Lawful sizes used live given empty p number point (named_in trees) (Sees new) (made_places (ends_run r.each_run)) steady
+        (subst (λ (s : SeenGround D). Moves bytes faults faults_at_fetch home image sound Lawful (named_in trees) s (Sees new) (made_places (ends_run r.each_run)))
+        (sees_begun bytes faults faults_at_fetch home image sound Lawful sizes used live given p number point old begins) r.moved);
     whole = r.whole;
     each = r.each;
     same = r.same;
@@ -97,21 +97,22 @@ module _ {D C : Type 0} (bytes faults faults_at_fetch : D → ℕ) (home image :
         last = last;
         stopped = stopped;
         faults = ap (map faults) disks ∙ h.moved.steady;
-        live = lives bytes faults faults_at_fetch home image sound sizes used live given p number point trees runs end.finished freed (Sees new) h (live q.chooser) left;
+        live = lives bytes faults faults_at_fetch home image sound Lawful sizes used live given p number point trees runs end.finished freed (Sees new) h (live q.chooser) left;
       })
 
   -- ---- images
 
-  pub round_is : (p : SeenPlain D C) (number point : ℕ) (trees left : List (List Pending)) (finished : List Finished) (completions : List Completion) (freed : List Tree) (failmode : Failmode) (old new : Ground D C) (end : RoundEnd (List Pending))
+  pub round_is : ((tops : List TopSize) (before : List Place) (entries : List Choice) → Lawful tops before entries → AreLawful tops before entries)
+      → (p : SeenPlain D C) (number point : ℕ) (trees left : List (List Pending)) (finished : List Finished) (completions : List Completion) (freed : List Tree) (failmode : Failmode) (old new : Ground D C) (end : RoundEnd (List Pending))
       → ((disk : D) (a b : List ℕ) → image disk a → image disk b → a ≡ b)
-      → HasBegun bytes faults faults_at_fetch home image sound sizes used live given p number point old
+      → HasBegun bytes faults faults_at_fetch home image sound Lawful sizes used live given p number point old
       → (r : IsTreesRun (λ (g : Ground D C) images. Tell image g.disks.items images) (λ (g : Ground D C) t. (t.setting ≡ g.setting) × (t.round ≡ g.round)) (λ (g : Ground D C) t. SamePlaces (used g.chooser) t.used) (λ (g : Ground D C). given g.chooser)
-      (λ a b stay. Moves bytes faults faults_at_fetch home image sound (named_in trees) (Sees a) (Sees b) stay) number failmode trees left finished completions freed old new)
+      (λ a b stay. Moves bytes faults faults_at_fetch home image sound Lawful (named_in trees) (Sees a) (Sees b) stay) number failmode trees left finished completions freed old new)
       → Runs p number point trees r.each_run finished freed (Sees new) → end.finished ≡ finished → end.left ≡ left → end.entries ≡ given new.chooser
       → (before : Images) → Tell image p.disks before → (after : Images) × Tell image new.disks.items after
       × IsRound (terms_at (standing_of faults live p) failmode number point) (map (λ (tree : List Pending). tree) trees) before after (ended_seen (λ (tree : List Pending). tree) end)
       × DiffersInRound (standing_of faults live p) (map (λ (tree : List Pending). tree) trees) before after
-  round_is p number point trees left finished completions freed failmode old new end one begins r h finished_are left_are entries_are before told =
+  round_is lawful_are p number point trees left finished completions freed failmode old new end one begins r h finished_are left_are entries_are before told =
       let t : Terms = terms_at (standing_of faults live p) failmode number point in
       let fresh : SamePlaces (used old.chooser) (live p.chooser) = subst (λ c. SamePlaces (used c) (live p.chooser)) (sym begins.chooser) h.steady.same in
       let k = r.told t (sym begins.setting, sym begins.round) refl (λ claim. fresh) before (subst (λ ds. Tell image ds before) (sym begins.disks) told) in
@@ -120,11 +121,11 @@ module _ {D C : Type 0} (bytes faults faults_at_fetch : D → ℕ) (home image :
       let more : given new.chooser ≡ h.moved.more = all_entries (given p.chooser) h.moved.more (given new.chooser) h.steady.taken h.moved.given in
       let lawful : AreLawful (sizes_of p.setting.tops) (live p.chooser) (given new.chooser) =
       subst (AreLawful (sizes_of p.setting.tops) (live p.chooser)) (sym more)
-      (subst (λ ts. AreLawful ts (live p.chooser) h.moved.more) h.steady.sizes_are (are_lawful_same (sizes p.chooser) (used p.chooser) (live p.chooser) h.moved.more h.steady.same h.moved.lawful)) in
+      (subst (λ ts. AreLawful ts (live p.chooser) h.moved.more) h.steady.sizes_are (are_lawful_same (sizes p.chooser) (used p.chooser) (live p.chooser) h.moved.more h.steady.same (lawful_are (sizes p.chooser) (used p.chooser) h.moved.more h.moved.lawful))) in
       let is : IsRound t trees before k.after (ended_seen (λ (tree : List Pending). tree) end) =
       round_told (λ (g : Ground D C) images. Tell image g.disks.items images) (λ (g : Ground D C). given g.chooser) t trees (ends_run r.each_run) left before end old new none entries_are distinct lawful
       (finished_are ∙ r.finished_are) left_are k in
-      let d = differs bytes faults faults_at_fetch home image sound sizes used live given p number point trees (Sees new) h.steady h.moved.disks.sizes h.moved.outside before told in
+      let d = differs bytes faults faults_at_fetch home image sound Lawful sizes used live given p number point trees (Sees new) h.steady h.moved.disks.sizes h.moved.outside before told in
       let same : d.0 ≡ k.after = one_told image one new.disks.items d.0 k.after d.1 k.told in (
         k.after,
         k.told,
@@ -133,19 +134,19 @@ module _ {D C : Type 0} (bytes faults faults_at_fetch : D → ℕ) (home image :
       )
 
   -- the same images where only what changed is known
-  pub differs_by : (p : SeenPlain D C) (number point : ℕ) (trees : List (List Pending)) (new : SeenGround D) → SteadyPlain bytes faults faults_at_fetch home image sound sizes used live given p → map bytes new.disks ≡ map bytes p.disks
+  pub differs_by : (p : SeenPlain D C) (number point : ℕ) (trees : List (List Pending)) (new : SeenGround D) → SteadyPlain bytes faults faults_at_fetch home image sound Lawful sizes used live given p → map bytes new.disks ≡ map bytes p.disks
       → TellChanged image (named_in trees).places (Begun p number point) new
       → (before : Images) → Tell image p.disks before → (after : Images) × Tell image new.disks after × DiffersInRound (standing_of faults live p) (map (λ (tree : List Pending). tree) trees) before after
   differs_by p number point trees new steady same outside before told =
-      let d = differs bytes faults faults_at_fetch home image sound sizes used live given p number point trees new steady same outside before told in
+      let d = differs bytes faults faults_at_fetch home image sound Lawful sizes used live given p number point trees new steady same outside before told in
       (d.0, d.1, subst (λ ts. DiffersInRound (standing_of faults live p) ts before d.0) (sym (map-id trees)) d.2)
 
   -- ---- a stop
 
-  pub broke_from : (p : SeenPlain D C) (number point : ℕ) (trees : List (List Pending)) (old : Ground D C) (new : SeenGround D) (device : Type 0) → HasBegun bytes faults faults_at_fetch home image sound sizes used live given p number point old
+  pub broke_from : (p : SeenPlain D C) (number point : ℕ) (trees : List (List Pending)) (old : Ground D C) (new : SeenGround D) (device : Type 0) → HasBegun bytes faults faults_at_fetch home image sound Lawful sizes used live given p number point old
       → Breaks bytes faults faults_at_fetch home image sound (named_in trees) (Sees old) new device → Breaks bytes faults faults_at_fetch home image sound (named_in trees) (Begun p number point) new device
   broke_from p number point trees old new device begins b =
-      subst (λ (s : SeenGround D). Breaks bytes faults faults_at_fetch home image sound (named_in trees) s new device) (sees_begun bytes faults faults_at_fetch home image sound sizes used live given p number point old begins) b
+      subst (λ (s : SeenGround D). Breaks bytes faults faults_at_fetch home image sound (named_in trees) s new device) (sees_begun bytes faults faults_at_fetch home image sound Lawful sizes used live given p number point old begins) b
 
   pub stopped_after : (p q : SeenPlain D C) (number point : ℕ) (s : Setting) → s ≡ record { tops = p.setting.tops; rows = p.setting.rows; point = point } → q.setting ≡ s → q.last ≡ number → q.stopped ≡ true
       → StoppedAfter (standing_of faults live p) (standing_of faults live q) number

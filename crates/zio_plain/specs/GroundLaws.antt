@@ -15,15 +15,14 @@ use Rattle.zio_cksum.proofs.AllLemmas.{all_append, all_contains, all_weaker}
 use Rattle.zio_cksum.proofs.FrameLemmas.{same_itself as images_itself, same_then as images_then}
 use Rattle.zio_gang.specs.declared.tree.Tree.{Tree}
 use Rattle.zio_gang.specs.Attempts.{Terms}
-use Rattle.zio_gang.specs.Journals.{AreLawful}
 use Rattle.zio_gang.specs.Trees.{sizes_of}
 use Rattle.zio_disks.specs.Disks.{AnyRose}
 use Rattle.zio_disks.specs.Trees.{BearsTops, IsPlacedTree}
 use Rattle.zio_disks.proofs.DiskLemmas.{same_itself, same_then}
 use Rattle.zio_disks.proofs.WriteLemmas.{contains_left, contains_right}
 use Rattle.zio_blocks.specs.Blocks.{HavePointers}
-use Rattle.zio_blocks.specs.Choosers.{taken_by_all}
-use Rattle.zio_blocks.proofs.AskLemmas.{lawful_then, spots_join}
+use Rattle.zio_blocks.specs.Choosers.{Continues, EntryLaw, taken_by_all}
+use Rattle.zio_blocks.proofs.AskLemmas.{spots_join}
 use Rattle.zio_course.specs.declared.runner.Stop.{Stop}
 use Rattle.zio_course.specs.declared.runner.Stop.TheVariants.{Device, Memory}
 use Rattle.zio_plain.specs.Grounds.{Breaks, CanRun, ChangedAt, HasMoved, Moves, SeenGround, TellChanged}
@@ -68,18 +67,21 @@ tell_then image named a b c at_s at_z within h k before told =
 
 -- ---- entries
 
-no_more : (claims : Bool) (sizes : List TopSize) (u v hc : List Place) (hm km : List Choice) → (claims ≡ false → hc ≡ []) → (claims ≡ true → km ≡ [])
-    → SamePlaces v (hc ++ (taken_by_all hm ++ u)) → AreLawful sizes u hm → AreLawful sizes v km → AreLawful sizes u (hm ++ km)
-no_more true sizes u v hc hm km none asks same h k = subst (AreLawful sizes u) (sym (ap (λ es. hm ++ es) (asks refl) ∙ append-nil hm)) h
-no_more false sizes u v hc hm km none asks same h k =
-    lawful_then sizes u v hm km h (subst (λ (cs : List Place). SamePlaces v (cs ++ (taken_by_all hm ++ u))) (none refl) same) k
+no_more : (Lawful : EntryLaw) (claims : Bool) (sizes : List TopSize) (u v hc : List Place) (hm km : List Choice) → (claims ≡ false → hc ≡ []) → (claims ≡ true → km ≡ [])
+    → Continues Lawful
+    → SamePlaces v (hc ++ (taken_by_all hm ++ u)) → Lawful sizes u hm → Lawful sizes v km → Lawful sizes u (hm ++ km)
+no_more Lawful true sizes u v hc hm km none asks joins same h k = subst (Lawful sizes u) (sym (ap (λ es. hm ++ es) (asks refl) ∙ append-nil hm)) h
+no_more Lawful false sizes u v hc hm km none asks joins same h k =
+    joins sizes u v hm km h (subst (λ (cs : List Place). SamePlaces v (cs ++ (taken_by_all hm ++ u))) (none refl) same) k
 
 -- ---- moves
 
 module _ {D : Type 0} {bytes faults faults_at_fetch : D → ℕ} {home image : D → List ℕ → Type 0} {sound : D → Type 0} {named : Named} where
-  moved_then : {a b c : SeenGround D} {ps qs : List Place} → HasMoved bytes faults faults_at_fetch home image sound named a b ps → HasMoved bytes faults faults_at_fetch home image sound named b c qs
-      → HasMoved bytes faults faults_at_fetch home image sound named a c (ps ++ qs)
-  moved_then {a} {b} {c} {ps} {qs} h k =
+  moved_then : {Lawful : EntryLaw} {a b c : SeenGround D} {ps qs : List Place}
+      → Continues Lawful
+      → HasMoved bytes faults faults_at_fetch home image sound Lawful named a b ps → HasMoved bytes faults faults_at_fetch home image sound Lawful named b c qs
+      → HasMoved bytes faults faults_at_fetch home image sound Lawful named a c (ps ++ qs)
+  moved_then {Lawful} {a} {b} {c} {ps} {qs} joins h k =
       let within : (p : Place) → Contains a.used p → Contains b.used p = still_used h.claimed (taken_by_all h.more) a.used b.used h.used in
       record {
         setting = k.setting ∙ h.setting;
@@ -95,7 +97,7 @@ module _ {D : Type 0} {bytes faults faults_at_fetch : D → ℕ} {home image : D
             (subst (λ n. AllByRecursion (λ (e : Choice). e.asked.key.round ≡ n) k.more) h.round k.rounds);
         used = subst (λ (ts : List Place). SamePlaces c.used ((h.claimed ++ k.claimed) ++ (ts ++ a.used))) (sym (flat_map-append taken_by h.more k.more))
             (used_then k.claimed (taken_by_all k.more) h.claimed (taken_by_all h.more) a.used b.used c.used k.used h.used);
-        lawful = no_more named.claims a.sizes a.used b.used h.claimed h.more k.more h.unclaimed k.unasked h.used h.lawful (subst (λ z. AreLawful z b.used k.more) h.sizes k.lawful);
+        lawful = no_more Lawful named.claims a.sizes a.used b.used h.claimed h.more k.more h.unclaimed k.unasked joins h.used h.lawful (subst (λ z. Lawful z b.used k.more) h.sizes k.lawful);
         unclaimed = λ none. (λ i. h.unclaimed none i ++ k.unclaimed none i);
         unasked = λ all. (λ i. h.unasked all i ++ k.unasked all i);
         live = live_then ps qs a.live b.live c.live k.live h.live;
@@ -104,31 +106,33 @@ module _ {D : Type 0} {bytes faults faults_at_fetch : D → ℕ} {home image : D
         inside = inside_append a.sizes ps qs h.inside (subst (λ z. IsTrue (list_all (is_inside z) qs)) h.sizes k.inside);
       }
 
-  pub moves_itself : (a : SeenGround D) → Moves bytes faults faults_at_fetch home image sound named a a []
-  moves_itself a = Itself refl refl
+  pub moves_itself : {Lawful : EntryLaw} (a : SeenGround D) → Moves bytes faults faults_at_fetch home image sound Lawful named a a []
+  moves_itself {Lawful} a = Itself refl refl
 
-  pub moves_then : {a b c : SeenGround D} {ps qs : List Place} → Moves bytes faults faults_at_fetch home image sound named a b ps → Moves bytes faults faults_at_fetch home image sound named b c qs
-      → Moves bytes faults faults_at_fetch home image sound named a c (ps ++ qs)
-  moves_then {a} {b} {c} {ps} {qs} (Itself same none) k =
-      subst (λ rs. Moves bytes faults faults_at_fetch home image sound named a c (rs ++ qs)) (sym none)
-      (subst (λ x. Moves bytes faults faults_at_fetch home image sound named x c qs) same k)
-  moves_then {a} {b} {c} {ps} {qs} (Moved held h) (Itself same none) =
-      subst (λ x. Moves bytes faults faults_at_fetch home image sound named a x (ps ++ qs)) (sym same)
-      (subst (λ rs. Moves bytes faults faults_at_fetch home image sound named a b rs) (sym (ap (λ rs. ps ++ rs) none ∙ append-nil ps)) (Moved held h))
-  moves_then (Moved held h) (Moved mid k) = Moved held (moved_then h k)
+  pub moves_then : {Lawful : EntryLaw} {a b c : SeenGround D} {ps qs : List Place}
+      → Continues Lawful
+      → Moves bytes faults faults_at_fetch home image sound Lawful named a b ps → Moves bytes faults faults_at_fetch home image sound Lawful named b c qs
+      → Moves bytes faults faults_at_fetch home image sound Lawful named a c (ps ++ qs)
+  moves_then {Lawful} {a} {b} {c} {ps} {qs} joins (Itself same none) k =
+      subst (λ rs. Moves bytes faults faults_at_fetch home image sound Lawful named a c (rs ++ qs)) (sym none)
+      (subst (λ x. Moves bytes faults faults_at_fetch home image sound Lawful named x c qs) same k)
+  moves_then {Lawful} {a} {b} {c} {ps} {qs} joins (Moved held h) (Itself same none) =
+      subst (λ x. Moves bytes faults faults_at_fetch home image sound Lawful named a x (ps ++ qs)) (sym same)
+      (subst (λ rs. Moves bytes faults faults_at_fetch home image sound Lawful named a b rs) (sym (ap (λ rs. ps ++ rs) none ∙ append-nil ps)) (Moved held h))
+  moves_then {Lawful} joins (Moved held h) (Moved mid k) = Moved held (moved_then joins h k)
 
-  moves_stays : {a b : SeenGround D} {ps : List Place} → Moves bytes faults faults_at_fetch home image sound named a b ps → (b.setting ≡ a.setting) × (b.round ≡ a.round)
-  moves_stays (Itself same none) = (ap (λ (g : SeenGround D). g.setting) same, ap (λ (g : SeenGround D). g.round) same)
-  moves_stays (Moved held h) = (h.setting, h.round)
+  moves_stays : {Lawful : EntryLaw} {a b : SeenGround D} {ps : List Place} → Moves bytes faults faults_at_fetch home image sound Lawful named a b ps → (b.setting ≡ a.setting) × (b.round ≡ a.round)
+  moves_stays {Lawful} (Itself same none) = (ap (λ (g : SeenGround D). g.setting) same, ap (λ (g : SeenGround D). g.round) same)
+  moves_stays {Lawful} (Moved held h) = (h.setting, h.round)
 
   -- they stay in their setting and round
-  pub stays_running : {a b : SeenGround D} {ps : List Place} (t : Terms) → Moves bytes faults faults_at_fetch home image sound named a b ps → (t.setting ≡ a.setting) × (t.round ≡ a.round)
+  pub stays_running : {Lawful : EntryLaw} {a b : SeenGround D} {ps : List Place} (t : Terms) → Moves bytes faults faults_at_fetch home image sound Lawful named a b ps → (t.setting ≡ a.setting) × (t.round ≡ a.round)
       → (t.setting ≡ b.setting) × (t.round ≡ b.round)
-  stays_running t h runs = let stays = moves_stays h in (runs.0 ∙ sym stays.0, runs.1 ∙ sym stays.1)
+  stays_running {Lawful} t h runs = let stays = moves_stays h in (runs.0 ∙ sym stays.0, runs.1 ∙ sym stays.1)
 
-  pub moves_can : {a b : SeenGround D} {ps : List Place} (block : Option Tree) → Moves bytes faults faults_at_fetch home image sound named a b ps → CanRun bytes a block → CanRun bytes b block
-  moves_can block (Itself same none) can = subst (λ x. CanRun bytes x block) (sym same) can
-  moves_can {a} {b} block (Moved held h) can = record {
+  pub moves_can : {Lawful : EntryLaw} {a b : SeenGround D} {ps : List Place} (block : Option Tree) → Moves bytes faults faults_at_fetch home image sound Lawful named a b ps → CanRun bytes a block → CanRun bytes b block
+  moves_can {Lawful} block (Itself same none) can = subst (λ x. CanRun bytes x block) (sym same) can
+  moves_can {Lawful} {a} {b} block (Moved held h) can = record {
     bears = subst (λ s. BearsTops s (map bytes b.disks)) (sym h.setting) (subst (BearsTops a.setting) (sym h.disks.sizes) can.bears);
     tops = subst (λ (s : Setting). HavePointers s.tops) (sym h.setting) can.tops;
     sizes = h.sizes ∙ can.sizes ∙ ap (λ (s : Setting). sizes_of s.tops) (sym h.setting);
@@ -144,17 +148,19 @@ module _ {D : Type 0} {bytes faults faults_at_fetch : D → ℕ} {home image : D
     sizes = refl;
     disks = same_itself bytes faults faults_at_fetch home image sound a.disks;
     rose = λ d. absurd (none d);
+    calm = λ other. refl;
     outside = λ before told. (before, told, unchanged a.setting a.sizes a.used named.places before);
   }
 
-  pub moves_breaks : {device : Type 0} {a b c : SeenGround D} {ps : List Place} → Moves bytes faults faults_at_fetch home image sound named a b ps
+  pub moves_breaks : {Lawful : EntryLaw} {device : Type 0} {a b c : SeenGround D} {ps : List Place} → Moves bytes faults faults_at_fetch home image sound Lawful named a b ps
       → Breaks bytes faults faults_at_fetch home image sound named b c device → Breaks bytes faults faults_at_fetch home image sound named a c device
-  moves_breaks {device} {a} {b} {c} (Itself same none) k = subst (λ x. Breaks bytes faults faults_at_fetch home image sound named x c device) same k
-  moves_breaks {device} {a} {b} {c} (Moved held h) k = record {
+  moves_breaks {Lawful} {device} {a} {b} {c} (Itself same none) k = subst (λ x. Breaks bytes faults faults_at_fetch home image sound named x c device) same k
+  moves_breaks {Lawful} {device} {a} {b} {c} (Moved held h) k = record {
     setting = k.setting ∙ h.setting;
     sizes = k.sizes ∙ h.sizes;
     disks = same_then bytes faults faults_at_fetch home image sound a.disks b.disks c.disks h.disks k.disks;
     rose = λ d. subst (λ counts. AnyRose counts (map faults c.disks)) h.steady (k.rose d);
+    calm = λ other. k.calm other ∙ h.steady;
     outside = tell_then image named.places a b c h.setting h.sizes (still_used h.claimed (taken_by_all h.more) a.used b.used h.used) h.outside k.outside;
   }
 

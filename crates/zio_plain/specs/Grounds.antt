@@ -9,12 +9,11 @@ use Rattle.zio_types.specs.Places.{SamePlaces, are_open, is_free, is_inside}
 use Rattle.zio_cksum.specs.Frames.{SameOutside, spots_of}
 use Rattle.zio_cksum.specs.Images.{Images, Setting}
 use Rattle.zio_gang.specs.declared.tree.Tree.{Tree}
-use Rattle.zio_gang.specs.Journals.{AreLawful}
 use Rattle.zio_gang.specs.Trees.{sizes_of}
 use Rattle.zio_disks.specs.Disks.{AnyRose, AreSameDisks, Tell}
 use Rattle.zio_disks.specs.Trees.{BearsTops, IsPlacedTree}
 use Rattle.zio_blocks.specs.Blocks.{HavePointers}
-use Rattle.zio_blocks.specs.Choosers.{AreHeld, taken_by_all}
+use Rattle.zio_blocks.specs.Choosers.{AreHeld, EntryLaw, taken_by_all}
 use Rattle.zio_plain.specs.declared.ground.Ground.{Ground}
 use Rattle.zio_plain.specs.OwnEnds.{Named}
 
@@ -62,9 +61,9 @@ TellChanged image named old new = (before : Images) → Tell image old.disks bef
     → (after : Images) × Tell image new.disks after × ChangedAt old.setting old.sizes old.used named before after
 
 -- What calls did between two rounds' ends, where these places came to stay: entries behind those that were given, each of
--- the round and lawful beside the places in use, and what was taken is in use; those that came to stay were free, lie
--- inside their tops, and are live beside the old ones. No disk failed. Claims ask for nothing, and nothing else claims.
-pub record HasMoved {D : Type 0} (bytes faults faults_at_fetch : D → ℕ) (home image : D → List ℕ → Type 0) (sound : D → Type 0) (named : Named) (old new : SeenGround D) (stay : List Place) : Type 0 where
+-- the round, which meet what the chooser's entries do beside the places in use, and what was taken is in use; those that
+-- came to stay were free, lie inside their tops, and are live beside the old ones. No disk failed. Claims ask for nothing, and nothing else claims.
+pub record HasMoved {D : Type 0} (bytes faults faults_at_fetch : D → ℕ) (home image : D → List ℕ → Type 0) (sound : D → Type 0) (Lawful : EntryLaw) (named : Named) (old new : SeenGround D) (stay : List Place) : Type 0 where
   pub setting : new.setting ≡ old.setting
   pub round : new.round ≡ old.round
   pub sizes : new.sizes ≡ old.sizes
@@ -76,7 +75,7 @@ pub record HasMoved {D : Type 0} (bytes faults faults_at_fetch : D → ℕ) (hom
   pub given : new.given ≡ old.given ++ more
   pub rounds : AllByRecursion (λ (c : Choice). c.asked.key.round ≡ old.round) more
   pub used : SamePlaces new.used (claimed ++ (taken_by_all more ++ old.used))
-  pub lawful : AreLawful old.sizes old.used more
+  pub lawful : Lawful old.sizes old.used more
   pub unclaimed : named.claims ≡ false → claimed ≡ []
   pub unasked : named.claims ≡ true → more ≡ []
   pub live : SamePlaces new.live (stay ++ old.live)
@@ -85,15 +84,17 @@ pub record HasMoved {D : Type 0} (bytes faults faults_at_fetch : D → ℕ) (hom
   pub inside : IsTrue (list_all (is_inside old.sizes) stay)
 
 -- nothing at all was done, or that, from where the chooser held its places
-pub data Moves {D : Type 0} (bytes faults faults_at_fetch : D → ℕ) (home image : D → List ℕ → Type 0) (sound : D → Type 0) (named : Named) (old new : SeenGround D) (stay : List Place) : Type 0 where
-  Itself : new ≡ old → stay ≡ [] → Moves bytes faults faults_at_fetch home image sound named old new stay
-  Moved : AreHeld old.sizes old.used old.live → HasMoved bytes faults faults_at_fetch home image sound named old new stay
-      → Moves bytes faults faults_at_fetch home image sound named old new stay
+pub data Moves {D : Type 0} (bytes faults faults_at_fetch : D → ℕ) (home image : D → List ℕ → Type 0) (sound : D → Type 0) (Lawful : EntryLaw) (named : Named) (old new : SeenGround D) (stay : List Place) : Type 0 where
+  Itself : new ≡ old → stay ≡ [] → Moves bytes faults faults_at_fetch home image sound Lawful named old new stay
+  Moved : AreHeld old.sizes old.used old.live → HasMoved bytes faults faults_at_fetch home image sound Lawful named old new stay
+      → Moves bytes faults faults_at_fetch home image sound Lawful named old new stay
 
--- What calls did up to a stop: the disks are the same, one of them failed where a disk is why, and images changed only so.
+-- What calls did up to a stop: the disks are the same, one of them failed exactly where a disk is why, and images changed
+-- only so.
 pub record Breaks {D : Type 0} (bytes faults faults_at_fetch : D → ℕ) (home image : D → List ℕ → Type 0) (sound : D → Type 0) (named : Named) (old new : SeenGround D) (device : Type 0) : Type 0 where
   pub setting : new.setting ≡ old.setting
   pub sizes : new.sizes ≡ old.sizes
   pub disks : AreSameDisks bytes faults faults_at_fetch home image sound old.disks new.disks
   pub rose : device → AnyRose (map faults old.disks) (map faults new.disks)
+  pub calm : (device → ⊥) → map faults new.disks ≡ map faults old.disks
   pub outside : TellChanged image named.places old new

@@ -44,7 +44,7 @@ impl<D: Disk + Drop, C: Chooser + Drop> OwnWork for Ground<D, C> {
 
     ghost can = { λ g block. CanRun D.bytes (seen C.sizes C.used C.live C.given g) block };
 
-    ghost moves = { λ named a b stay. Moves D.bytes D.faults D.faults_at_fetch D.home D.image D.sound named (seen C.sizes C.used C.live C.given a) (seen C.sizes C.used C.live C.given b) stay };
+    ghost moves = { λ named a b stay. Moves D.bytes D.faults D.faults_at_fetch D.home D.image D.sound C.lawful named (seen C.sizes C.used C.live C.given a) (seen C.sizes C.used C.live C.given b) stay };
 
     ghost breaks = { λ named a b stop. Breaks D.bytes D.faults D.faults_at_fetch D.home D.image D.sound named (seen C.sizes C.used C.live C.given a) (seen C.sizes C.used C.live C.given b) (stop ≡ Device) };
 
@@ -65,7 +65,7 @@ impl<D: Disk + Drop, C: Chooser + Drop> OwnWork for Ground<D, C> {
 
     ghost moves_itself = { λ named a. moves_itself (seen C.sizes C.used C.live C.given a) };
 
-    ghost moves_then = { λ named a b c ps qs h k. moves_then h k };
+    ghost moves_then = { λ named a b c ps qs h k. moves_then C.lawful_then h k };
 
     ghost moves_runs = { λ named a b ps t h runs. stays_running t h runs };
 

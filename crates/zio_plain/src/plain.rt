@@ -6,7 +6,7 @@ use crate::tree::{PlainTree, tree_over};
 use crate::trees::{TreesEnd, run_trees};
 use std::alloc::Global;
 use std::marker::Model;
-use zio_blocks::Chooser;
+use zio_blocks::{Chooser, LawfulChooser};
 use zio_course::{Job, RoundEnd, Runner, Stop};
 use zio_disks::Setting;
 use zio_gang::Tree;
@@ -16,7 +16,7 @@ use zio_types::{List, NoMemory};
 
 mod ends;
 
-/// Runs rounds by the definitions. Contracts see it as its setting, its disks and its chooser, the number of its last
+/// Runs rounds by the definitions, where its chooser's entries are lawful in the order of its asks. Contracts see it as its setting, its disks and its chooser, the number of its last
 /// round, and whether a round was stopped.
 #[derive(Drop)]
 pub struct Plain<D: Disk + Drop, C: Chooser + Drop> {
@@ -73,14 +73,14 @@ impl<D: Disk + Drop, C: Chooser + Drop> Plain<D, C> {
     }
 }
 
-impl<D: Disk + Drop, C: Chooser + Drop> Runner for Plain<D, C> {
+impl<D: Disk + Drop, C: LawfulChooser + Drop> Runner for Plain<D, C> {
     ghost use Rattle.std.specs.Prelude.{◌≡◌, ◌<◌, List, false, IfOk, IfSome, IsErrOf, OnErr, map};
     ghost use Rattle.std.specs.List.{AllByRecursion};
     ghost use Rattle.zio_cksum.specs.Images.{Images};
     ghost use Rattle.zio_gang.specs.Attempts.{Pending};
     ghost use Rattle.zio_disks.specs.Disks.{AreSameDisks, Tell};
     ghost use Rattle.zio_disks.specs.Whole.{IsWholeTree};
-    ghost use Rattle.zio_course.specs.declared.runner.Stop.TheVariants.{Device};
+    ghost use Rattle.zio_course.specs.declared.runner.Stop.TheVariants.{Device, Memory};
     ghost use Rattle.zio_course.specs.Runners.{AnyRose, AreRunnable, DiffersInRound, IsNewTree, IsRound, IsRoundEnd, StandsAfter, Stays, StoppedAfter, ended_seen, fresh, made_trees, terms_at, tree_over};
     ghost use Rattle.zio_plain.specs.Plains.{standing_of};
 
@@ -95,6 +95,10 @@ impl<D: Disk + Drop, C: Chooser + Drop> Runner for Plain<D, C> {
     ghost same = { λ a b. AreSameDisks D.bytes D.faults D.faults_at_fetch D.home D.image D.sound a.disks b.disks };
 
     ghost fits = { IsWholeTree };
+
+    ghost Can = { λ _. Unit {0} };
+
+    ghost stops = { λ _ t trees before. Unit {0} };
 
     fn tree(
         &mut self,
@@ -124,6 +128,7 @@ impl<D: Disk + Drop, C: Chooser + Drop> Runner for Plain<D, C> {
         ensures stands { IfOk result (λ end. StandsAfter (standing_of D.faults C.live self.old) (standing_of D.faults C.live self.new) job.round (map (λ (tree : List Pending). tree) job.trees) (ended_seen (λ (tree : List Pending). tree) end)) }
         ensures stopped { OnErr result (StoppedAfter (standing_of D.faults C.live self.old) (standing_of D.faults C.live self.new) job.round) }
         ensures device { IsErrOf result Device → AnyRose (map D.faults self.old.disks) (map D.faults self.new.disks) }
+        ensures calm { IsErrOf result Memory → map D.faults self.new.disks ≡ map D.faults self.old.disks }
         ensures images { OnErr result ((before : Images) → Tell D.image self.old.disks before → (after : Images) × Tell D.image self.new.disks after
             × DiffersInRound (standing_of D.faults C.live self.old) (map (λ (tree : List Pending). tree) job.trees) before after) }
         ensures same { AreSameDisks D.bytes D.faults D.faults_at_fetch D.home D.image D.sound self.old.disks self.new.disks }

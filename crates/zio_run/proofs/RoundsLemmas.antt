@@ -1,5 +1,5 @@
 -- What a runner's run of a script is over the disks that it was made of.
-use Rattle.std.proofs.Common.{◌≡◌, ℕ, List, [], ◌∷◌, Result, Ok, Err, length, map, refl, sym, ap, ◌∙◌, subst}
+use Rattle.std.proofs.Common.{◌≡◌, ℕ, List, [], ◌∷◌, Result, Ok, Err, length, map, Bool, refl, sym, ap, ◌∙◌, subst}
 use Rattle.std.specs.Prelude.{IfErr, IfOk, IsErrOf, OnOk}
 use Rattle.zio_types.specs.declared.journal.Journal.{Journal}
 use Rattle.zio_types.specs.declared.place.Top.{Top}
@@ -17,7 +17,7 @@ use Rattle.zio_report.specs.Meanings.{tops_of}
 use Rattle.zio_report.specs.Reports.{RunSize}
 use Rattle.zio_course.specs.SoFar.{IsCut, IsCutText, IsFullText, IsWholeRun}
 use Rattle.zio_run.specs.Grounds.{HasRunOver, IsCauseOver, WasCutOver}
-use Rattle.zio_run.specs.Seen.{SinkSeen}
+use Rattle.zio_run.specs.Seen.{SinkSeen, stopping_plainly}
 
 -- images that are told have the sizes of their disks
 pub told_sizes : {D : Type 0} (bytes : D → ℕ) (image : D → List ℕ → Type 0) → ((disk : D) (content : List ℕ) → image disk content → length content ≡ bytes disk)
@@ -66,26 +66,27 @@ cause_over faults old new old_sink new_sink Memory device sink = tt
 ap_err : (a b : RunFault) → a ≡ b → IsErrOf {T = Ending} {E = RunFault} (Err a) b
 ap_err a b e = ap (λ (x : RunFault). Err x) e
 
-pub rounds_cut : {D : Type 0} (faults : D → ℕ) (image : D → List ℕ → Type 0) (show : Show) (script : Script) (tops : List Top) (old new : List D) (old_sink new_sink : SinkSeen) (journal : Journal) (images : ℕ)
+pub rounds_cut : {D : Type 0} (faults : D → ℕ) (image : D → List ℕ → Type 0) (show : Show) (script : Script) (tops : List Top) (stopped : Bool) (old new : List D) (old_sink new_sink : SinkSeen) (journal : Journal) (images : ℕ)
     (ended : Result Ending RunFault) → length old ≡ images → ((before : Images) → Tell image old before → tops ≡ tops_of script before)
     → IfErr ended (λ fault. (before : Images) → Tell image old before → (after : Images) × (text : List ℕ) × (full : List ℕ)
-    × IsCut show (size_with script images) script before tops fault journal after text × IsFullText fault show (size_with script images) script before journal text full
+    × IsCut show (size_with script images) script before tops (stopping_plainly stopped) fault journal after text × IsFullText fault show (size_with script images) script before journal text full
     × Tell image new after × IsCutText fault old_sink.holds new_sink.holds [] full)
     → (IsErrOf ended Device → AnyRose (map faults old) (map faults new)) → (IsErrOf ended Sink → Rose old_sink.faults new_sink.faults)
     → IfErr ended (λ fault. WasCutOver faults image show script fault old new old_sink new_sink journal)
-rounds_cut faults image show script tops old new old_sink new_sink journal images (Ok ending) count known told device sink = tt
-rounds_cut faults image show script tops old new old_sink new_sink journal images (Err fault) count known told device sink = record {
+rounds_cut faults image show script tops stopped old new old_sink new_sink journal images (Ok ending) count known told device sink = tt
+rounds_cut faults image show script tops stopped old new old_sink new_sink journal images (Err fault) count known told device sink = record {
   cause = cause_over faults old new old_sink new_sink fault (λ e. device (ap_err fault Device e)) (λ e. sink (ap_err fault Sink e));
   told = λ before tells.
       (let w = told before tells in
       let n : length before ≡ images = tell_length image old before tells ∙ count in
-      let cut : IsCut show (size_with script images) script before (tops_of script before) fault journal w.0 w.1 =
-      subst (λ (ts : List Top). IsCut show (size_with script images) script before ts fault journal w.0 w.1) (known before tells) w.3 in
+      let cut : IsCut show (size_with script images) script before (tops_of script before) (stopping_plainly stopped) fault journal w.0 w.1 =
+      subst (λ (ts : List Top). IsCut show (size_with script images) script before ts (stopping_plainly stopped) fault journal w.0 w.1) (known before tells) w.3 in
       record {
         after = w.0;
         so_far = w.1;
         full = w.2;
-        cut = subst (λ (k : ℕ). IsCut show (size_with script k) script before (tops_of script before) fault journal w.0 w.1) (sym n) cut;
+        stopped = stopped;
+        cut = subst (λ (k : ℕ). IsCut show (size_with script k) script before (tops_of script before) (stopping_plainly stopped) fault journal w.0 w.1) (sym n) cut;
         due = subst (λ (k : ℕ). IsFullText fault show (size_with script k) script before journal w.1 w.2) (sym n) w.4;
         stored = w.5;
         written = w.6;

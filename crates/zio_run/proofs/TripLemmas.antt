@@ -261,6 +261,7 @@ came_out show script old_sink new_sink old_journal journal t (Cut fault) (inl ov
             after = w.after;
             so_far = w.so_far;
             full = w.full;
+            stopped = w.stopped;
             cut = w.cut;
             due = w.due;
             stored = (trip_back t tells w.after w.stored).told;

@@ -2,7 +2,7 @@
 --
 -- The order of the causes: the words, reading the source, the script's rules, the images one after another, the leaves of
 -- the tops, then the rounds.
-use Rattle.std.specs.Prelude.{◌≡◌, ◌⊎◌, ℕ, List, []}
+use Rattle.std.specs.Prelude.{◌≡◌, ◌⊎◌, ℕ, List, [], Bool}
 use Rattle.zio_types.specs.declared.journal.Journal.{Journal}
 use Rattle.zio_outside.specs.Outside.{Appends, AppendsFront, Keeps, Rose}
 use Rattle.zio_script.specs.declared.script.Script.{Script}
@@ -20,7 +20,7 @@ use Rattle.zio_run.specs.declared.outcome.Outcome.TheVariants.{Ended, Unfit, Cut
 use Rattle.zio_run.specs.Causes.{AreFit, AreUntouched, IsLeafCause}
 use Rattle.zio_run.specs.Headline.{Headline, TellEach}
 use Rattle.zio_run.specs.Outcomes.{IsEnding, cut_code, images_line, script_line}
-use Rattle.zio_run.specs.Seen.{ShelfSeen, SinkSeen}
+use Rattle.zio_run.specs.Seen.{ShelfSeen, SinkSeen, stopping_plainly}
 
 -- ---- a run to its end
 
@@ -41,7 +41,9 @@ pub record CutHeadline (show : Show) (script : Script) (names : List (List ℕ))
   pub after : Images
   pub so_far : List ℕ
   pub full : List ℕ
-  pub cut : IsCut show (run_size_of script before) script before (tops_of script before) fault journal after so_far
+  -- the engine was stopped in a round
+  pub stopped : Bool
+  pub cut : IsCut show (run_size_of script before) script before (tops_of script before) (stopping_plainly stopped) fault journal after so_far
   pub due : IsFullText fault show (run_size_of script before) script before journal so_far full
   pub stored : TellEach image names after
   pub written : IsCutText fault old new [] full

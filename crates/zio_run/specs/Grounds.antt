@@ -1,5 +1,5 @@
 -- How a run over disks that are fetched came out.
-use Rattle.std.specs.Prelude.{◌≡◌, ◌⊎◌, ℕ, List, [], length, map}
+use Rattle.std.specs.Prelude.{◌≡◌, ◌⊎◌, ℕ, List, [], length, map, Bool}
 use Rattle.zio_types.specs.declared.journal.Journal.{Journal}
 use Rattle.zio_outside.specs.Outside.{Appends, Keeps, Rose}
 use Rattle.zio_script.specs.declared.script.Script.{Script}
@@ -14,7 +14,7 @@ use Rattle.zio_disks.specs.Disks.{AnyRose, Tell}
 use Rattle.zio_engine.specs.Graphs.{CanRun}
 use Rattle.zio_run.specs.declared.outcome.Outcome.{Outcome}
 use Rattle.zio_run.specs.declared.outcome.Outcome.TheVariants.{Ended, Unfit, Cut}
-use Rattle.zio_run.specs.Seen.{SinkSeen}
+use Rattle.zio_run.specs.Seen.{SinkSeen, stopping_plainly}
 use Rattle.zio_run.specs.Tops.{HaveImages, IsFirstMissing, leaves_of}
 
 -- The setting of a script's run over disks of these sizes: the tops that it has over images of these sizes, and its rows. An
@@ -38,7 +38,9 @@ pub record IsCutOver {D : Type 0} (image : D → List ℕ → Type 0) (show : Sh
   pub after : Images
   pub so_far : List ℕ
   pub full : List ℕ
-  pub cut : IsCut show (run_size_of script before) script before (tops_of script before) fault journal after so_far
+  -- the engine was stopped in a round
+  pub stopped : Bool
+  pub cut : IsCut show (run_size_of script before) script before (tops_of script before) (stopping_plainly stopped) fault journal after so_far
   pub due : IsFullText fault show (run_size_of script before) script before journal so_far full
   pub stored : Tell image new after
   pub written : IsCutText fault old_sink.holds new_sink.holds [] full

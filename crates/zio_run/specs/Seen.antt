@@ -1,5 +1,6 @@
 -- What is seen of a source, a sink and a shelf: what they tell, and their counts.
-use Rattle.std.specs.Prelude.{ℕ, List}
+use Rattle.std.specs.Prelude.{ℕ, List, Bool}
+use Rattle.zio_course.specs.Runners.{Stopping}
 
 -- the texts that a source tells as left, and how often it has failed
 pub record SourceSeen : Type 1 where
@@ -42,3 +43,7 @@ shelf_by tells image out faults disk_faults fetches returns last_size shelf = re
   returns = returns shelf;
   last_size = last_size shelf;
 }
+
+-- the engine was stopped or not, and its stops mean nothing more
+abbrev pub stopping_plainly : Bool → Stopping
+stopping_plainly stopped = record { stopped = stopped; means = λ t trees before. Unit {0} }

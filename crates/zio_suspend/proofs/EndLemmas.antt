@@ -31,9 +31,9 @@ use Rattle.zio_course.specs.declared.fold.Tally.{Tally}
 use Rattle.zio_course.specs.Course.{shown_of}
 use Rattle.zio_course.specs.Folds.{SeenFold, batches_seen, fold_seen, has_items}
 use Rattle.zio_course.specs.Moves.{LinesCut, LinesOver}
-use Rattle.zio_course.specs.Runners.{Standing}
+use Rattle.zio_course.specs.Runners.{Standing, Stopping}
 use Rattle.zio_course.specs.SoFar.{Ahead, EndsWhole, IsAtEnd, IsCourseAt, IsCut, IsCutText, IsFullText, IsWholeRun}
-use Rattle.zio_course.proofs.CutLemmas.{cut_at, printed_ends, written_then}
+use Rattle.zio_course.proofs.CutLemmas.{IsOther, cut_at, printed_ends, written_then}
 use Rattle.zio_course.proofs.MoveLemmas.{Appends-both}
 use Rattle.zio_course.proofs.RoundsLemmas.{trees_items}
 use Rattle.zio_suspend.specs.Ends.{ending_with, last_text}
@@ -177,24 +177,24 @@ full_same Sink show n script before journal text = inl refl
 full_same Memory show n script before journal text = inl refl
 
 -- What a run leaves that was cut short: the images, the text of what happened, and what the sink got of it or of the whole text.
-abbrev pub ScriptCut : Show → RunSize → Script → Standing → Journal → (Images → Type 0) → (Images → Type 0) → (List ℕ → Type 0) → (List ℕ → Type 0) → RunFault → Type 0
-ScriptCut show n script s new tells new_tells holds new_holds fault =
+abbrev pub ScriptCut : Show → RunSize → Script → Standing → Journal → (Images → Type 0) → (Images → Type 0) → Stopping → (List ℕ → Type 0) → (List ℕ → Type 0) → RunFault → Type 0
+ScriptCut show n script s new tells new_tells w holds new_holds fault =
     (before : Images) → tells before → (after : Images) × (text : List ℕ) × (full : List ℕ)
-    × IsCut show n script before s.tops fault new after text × IsFullText fault show n script before new text full × new_tells after × IsCutText fault holds new_holds [] full
+    × IsCut show n script before s.tops w fault new after text × IsFullText fault show n script before new text full × new_tells after × IsCutText fault holds new_holds [] full
 
 pub same_fault : {A : Type 0} (r : Result A RunFault) (fault : RunFault) (P : RunFault → Type 0) → IsErrAnd r (λ e. e ≡ fault) → P fault → IfErr r P
 same_fault (Ok x) fault P is h = tt
 same_fault (Err e) fault P is h = subst P (sym is) h
 
 -- at the line of the pool
-pub cut_first : (show : Show) (n : RunSize) (script : Script) (s : Standing) (f : SeenFold) (old : Journal) (tells : Images → Type 0) (holds new_holds : List ℕ → Type 0) (fault : RunFault)
-    → Starts script s f old tells → IsCutText fault holds new_holds [] (shown_of show (pool_text n.tops n.images)) → ScriptCut show n script s old tells tells holds new_holds fault
-cut_first show n script s f old tells holds new_holds fault starts cut before told =
+pub cut_first : {w : Stopping} → (show : Show) (n : RunSize) (script : Script) (s : Standing) (f : SeenFold) (old : Journal) (tells : Images → Type 0) (holds new_holds : List ℕ → Type 0) (fault : RunFault)
+    → IsOther fault → w.stopped ≡ false → Starts script s f old tells → IsCutText fault holds new_holds [] (shown_of show (pool_text n.tops n.images)) → ScriptCut show n script s old tells tells w holds new_holds fault
+cut_first {w = w} show n script s f old tells holds new_holds fault other calm starts cut before told =
     let pool : List ℕ = shown_of show (pool_text n.tops n.images) in (
       before,
       pool,
       pool,
-      cut_at show n script before s f (record { held = []; batch = []; batches = 0 }) (batches_from [] script.items) old before pool (λ plan st. run_lines plan script.items st) fault
+      cut_at show n script before s f (record { held = []; batch = []; batches = 0 }) (batches_from [] script.items) old before pool (λ plan st. run_lines plan script.items st) fault other calm
           (starts_at show n script s f old tells starts before told),
       full_same fault show n script before old pool,
       told,
@@ -202,10 +202,10 @@ cut_first show n script s f old tells holds new_holds fault starts cut before to
     )
 
 -- at a line of the script
-pub cut_between : (show : Show) (n : RunSize) (script : Script) (s : Standing) (f : SeenFold) (old new : Journal) (tells new_tells : Images → Type 0) (holds mid new_holds : List ℕ → Type 0) (fault : RunFault)
+pub cut_between : {w : Stopping} → (show : Show) (n : RunSize) (script : Script) (s : Standing) (f : SeenFold) (old new : Journal) (tells new_tells : Images → Type 0) (holds mid new_holds : List ℕ → Type 0) (fault : RunFault)
     → Starts script s f old tells → Appends holds mid (shown_of show (pool_text n.tops n.images))
-    → LinesCut show script.failmode s f script.items old new tells new_tells mid new_holds fault → ScriptCut show n script s new tells new_tells holds new_holds fault
-cut_between show n script s f old new tells new_tells holds mid new_holds fault starts first ran before told =
+    → LinesCut show script.failmode s f script.items old new tells new_tells w mid new_holds fault → ScriptCut show n script s new tells new_tells w holds new_holds fault
+cut_between {w = w} show n script s f old new tells new_tells holds mid new_holds fault starts first ran before told =
     let pool : List ℕ = shown_of show (pool_text n.tops n.images) in
     let x = ran n script before before pool refl (starts_at show n script s f old tells starts before told) told in (
       x.0,
@@ -218,14 +218,14 @@ cut_between show n script s f old new tells new_tells holds mid new_holds fault 
     )
 
 -- at the last text, by the sink or for want of memory
-pub cut_last : (show : Show) (n : RunSize) (script : Script) (s now : Standing) (f g : SeenFold) (held : List DefinedBatch) (old new : Journal) (tells new_tells : Images → Type 0) (holds mid over new_holds : List ℕ → Type 0) (end : Ending) (fault : RunFault)
-    → Starts script s f old tells → now.tops ≡ s.tops → IsEndOf g held end
+pub cut_last : {w : Stopping} → (show : Show) (n : RunSize) (script : Script) (s now : Standing) (f g : SeenFold) (held : List DefinedBatch) (old new : Journal) (tells new_tells : Images → Type 0) (holds mid over new_holds : List ℕ → Type 0) (end : Ending) (fault : RunFault)
+    → IsOther fault → w.stopped ≡ false → Starts script s f old tells → now.tops ≡ s.tops → IsEndOf g held end
     → LinesOver show script.failmode s now f g script.items held old new tells new_tells mid over
     → Appends holds mid (shown_of show (pool_text n.tops n.images))
     → ((before : Images) (text full : List ℕ) → IsAtEnd show n script before new full → IsFullText fault show n script before new text full)
     → ((printed : List ℕ) → EndsWhole printed → IsCutText fault over new_holds printed (printed ++ last_text show n.requests g.tally end))
-    → ScriptCut show n script s new tells new_tells holds new_holds fault
-cut_last show n script s now f g held old new tells new_tells holds mid over new_holds end fault starts tops ended ran first full cut before told =
+    → ScriptCut show n script s new tells new_tells w holds new_holds fault
+cut_last {w = w} show n script s now f g held old new tells new_tells holds mid over new_holds end fault other calm starts tops ended ran first full cut before told =
     let pool : List ℕ = shown_of show (pool_text n.tops n.images) in
     let x = ran n script before before pool refl (starts_at show n script s f old tells starts before told) told in
     let text : List ℕ = last_text show n.requests g.tally end in
@@ -234,7 +234,7 @@ cut_last show n script s now f g held old new tells new_tells holds mid over new
       x.0,
       pool ++ x.1,
       (pool ++ x.1) ++ text,
-      subst (λ (ts : List Top). IsCut show n script before ts fault new x.0 (pool ++ x.1)) tops (cut_at show n script before now g x.2 x.3 new x.0 (pool ++ x.1) (λ plan st. quiet st) fault x.4),
+      subst (λ (ts : List Top). IsCut show n script before ts w fault new x.0 (pool ++ x.1)) tops (cut_at show n script before now g x.2 x.3 new x.0 (pool ++ x.1) (λ plan st. quiet st) fault other calm x.4),
       full before (pool ++ x.1) ((pool ++ x.1) ++ text) (at_end show n script before new x.0 ((pool ++ x.1) ++ text) end whole),
       x.6,
       written_then fault holds over new_holds [] (pool ++ x.1) ((pool ++ x.1) ++ text) (Appends-both holds mid over pool x.1 first x.7)

@@ -122,6 +122,7 @@ pub start_steady : (fits : Tree → Type 0) (s : Standing) (rounds : ℕ) (f : S
 start_steady fits s rounds f new live runs last none = record {
   fits_all = λ name. subst (λ (o : Option Tree). IfSome o fits) (sym (new.bound name)) tt;
   live = live_none s.live f.bound live new.bound;
+  inside = λ p at. absurd (contains_one p [] (subst (λ (ps : List Place). Contains ps p) live at));
   waits = subst (λ (ps : List (List Pending)). AreSuspended (rows_tell_apart s.rows) f.bound ps f.unfinished) (sym new.suspended)
       (subst (λ (us : List Request). AreSuspended (rows_tell_apart s.rows) f.bound [] us) (sym new.unfinished) (waits_none (rows_tell_apart s.rows) f.bound));
   awaited = λ name. new.awaited name ∙ sym (ap (λ (us : List Request). is_named_by us name) new.unfinished);

@@ -7,7 +7,7 @@ ghost use Rattle.zio_script.specs.Requests.{requests_of};
 ghost use Rattle.zio_cksum.specs.Images.{Images};
 ghost use Rattle.zio_gang.specs.Runs.{top_of};
 ghost use Rattle.zio_report.specs.Meanings.{IsEmptyJournal};
-ghost use Rattle.zio_course.specs.Runners.{AnyRose};
+ghost use Rattle.zio_course.specs.Runners.{AnyRose, stopping_of};
 ghost use Rattle.zio_course.specs.SoFar.{IsCut, IsCutText, IsFullText, IsWholeRun};
 
 use crate::ending::ending_of;
@@ -25,9 +25,10 @@ use zio_types::Journal;
 ///
 /// `images` is how many images the line of the pool tells. The journal is empty before, and has the entries and completions
 /// of all rounds after. The run is cut short by `RunFault::Device` where a disk failed, by `RunFault::Sink` where `out`
-/// failed, and by `RunFault::Memory`. Then the journal is that of the course so far. Of the text so far, or of the whole text
-/// where the course was over, the sink got all after a disk's failure, a front after its own, and whole lines for want of
-/// memory.
+/// failed, and by `RunFault::Memory`, where no disk failed. Then the journal is that of the course so far; and where the
+/// runner was stopped in a round, the course goes on with that round, under its terms and over its trees. Of the text so
+/// far, or of the whole text where the course was over, the sink got all after a disk's failure, a front after its own, and
+/// whole lines for want of memory.
 pub fn run_script<R: Runner, O: Sink>(
     alloc: Global,
     script: &Script,
@@ -44,11 +45,12 @@ pub fn run_script<R: Runner, O: Sink>(
     requires live { (R.standing runner.old).live ≡ [] }
     requires last { (R.standing runner.old).last ≡ 0 }
     requires runs { (R.standing runner.old).stopped ≡ false }
+    requires can { R.Can runner.old }
     ensures whole { IfOk result (λ end. (before : Images) → R.tells runner.old before → (after : Images) × (printed : List ℕ)
         × IsWholeRun show.now (record { tops = length script.now.tops; images = images; requests = length (requests_of script.now.items) }) script.now before journal.new after printed end
         × R.tells runner.new after × Appends (O.holds out.old) (O.holds out.new) printed) }
     ensures cut { IfErr result (λ fault. (before : Images) → R.tells runner.old before → (after : Images) × (text : List ℕ) × (full : List ℕ)
-        × IsCut show.now (record { tops = length script.now.tops; images = images; requests = length (requests_of script.now.items) }) script.now before (R.standing runner.old).tops fault journal.new after text
+        × IsCut show.now (record { tops = length script.now.tops; images = images; requests = length (requests_of script.now.items) }) script.now before (R.standing runner.old).tops (stopping_of (R.standing runner.new) (R.stops runner.new)) fault journal.new after text
         × IsFullText fault show.now (record { tops = length script.now.tops; images = images; requests = length (requests_of script.now.items) }) script.now before journal.new text full
         × R.tells runner.new after × IsCutText fault (O.holds out.old) (O.holds out.new) [] full) }
     ensures last { OnOk result ((R.standing runner.new).last ≡ journal.new.rounds) }
@@ -58,7 +60,9 @@ pub fn run_script<R: Runner, O: Sink>(
     ensures faults { OnOk result ((R.standing runner.new).faults ≡ (R.standing runner.old).faults) }
     ensures quiet { OnOk result (O.faults out.new ≡ O.faults out.old) }
     ensures device { IsErrOf result RunFault.Device → AnyRose (R.standing runner.old).faults (R.standing runner.new).faults }
+    ensures calm { IsErrOf result RunFault.Memory → (R.standing runner.new).faults ≡ (R.standing runner.old).faults }
     ensures sink { IsErrOf result RunFault.Sink → Rose (O.faults out.old) (O.faults out.new) }
+    ensures can { R.Can runner.new }
     ensures same { R.same runner.old runner.new }
 {
     accepted_scripts_are_orderly();

@@ -47,7 +47,7 @@ place_gang-returns-then-is_refused-clause-handled g t c =
     handles_none g.D.Disk.bytes g.D.Disk.faults g.D.Disk.faults_at_fetch g.D.Disk.home g.D.Disk.image g.D.Disk.sound g.D.Disk.went _ _ c.args.disks.now (λ e. cc)
 
 pub place_gang-returns-clause-asks : goal.place_gang-returns-clause-asks
-place_gang-returns-clause-asks g t c = asks_then c.in_ok-entry.ensures.asks c.write_gang.ensures.asks
+place_gang-returns-clause-asks g t c = asks_then g.met.C.Chooser.lawful_then c.in_ok-entry.ensures.asks c.write_gang.ensures.asks
 
 pub place_gang-returns-clause-told : goal.place_gang-returns-clause-told
 place_gang-returns-clause-told g t c =
@@ -79,7 +79,7 @@ place_members-place_members-requires g t c κs within =
     (first_of (search rules, grind (arith, common_steps)), (search rules, (search rules, (bears, (c.requires.tops, (first_of (search rules, grind (arith, common_steps)), (c.requires.one, (c.requires.three, (c.requires.birth, (first_of (search rules, grind (arith, common_steps)), (first_of (search rules, grind (arith, common_steps)), (first_of (search rules, grind (arith, common_steps)), (first_of (search rules, grind (arith, common_steps)), (filled, (c.requires.depth, first_of (search rules, grind (arith, common_steps)))))))))))))))))
 
 pub place_members-returns-in_err-error-clause-asks : goal.place_members-returns-in_err-error-clause-asks
-place_members-returns-in_err-error-clause-asks g t c = asks_then c.in_ok-placed.ensures.asks c.in_err-error.ensures.asks
+place_members-returns-in_err-error-clause-asks g t c = asks_then g.met.C.Chooser.lawful_then c.in_ok-placed.ensures.asks c.in_err-error.ensures.asks
 
 pub place_members-returns-in_err-error-clause-handled : goal.place_members-returns-in_err-error-clause-handled
 place_members-returns-in_err-error-clause-handled g t c =
@@ -90,7 +90,7 @@ place_members-returns-in_err-error-clause-handled g t c =
     c.in_ok-placed.ensures.handled c.in_err-error.ensures.handled)
 
 pub place_members-returns-clause-asks : goal.place_members-returns-clause-asks
-place_members-returns-clause-asks g t c = asks_then c.in_ok-placed.ensures.asks c.in_ok-error.ensures.asks
+place_members-returns-clause-asks g t c = asks_then g.met.C.Chooser.lawful_then c.in_ok-placed.ensures.asks c.in_ok-error.ensures.asks
 
 pub place_members-returns-clause-told : goal.place_members-returns-clause-told
 place_members-returns-clause-told g t c = λ images tell.
@@ -142,7 +142,7 @@ place_part-returns-then-size-le-SECTOR_SIZE-clause-handled g t c =
     handles_none g.D.Disk.bytes g.D.Disk.faults g.D.Disk.faults_at_fetch g.D.Disk.home g.D.Disk.image g.D.Disk.sound g.D.Disk.went _ _ c.args.disks.now (λ e. cc)
 
 pub place_part-returns-clause-asks : goal.place_part-returns-clause-asks
-place_part-returns-clause-asks g t c = asks_then c.in_ok-entry.ensures.asks c.place_gang.ensures.asks
+place_part-returns-clause-asks g t c = asks_then g.met.C.Chooser.lawful_then c.in_ok-entry.ensures.asks c.place_gang.ensures.asks
 
 pub place_part-returns-clause-told : goal.place_part-returns-clause-told
 place_part-returns-clause-told g t c =
@@ -181,14 +181,14 @@ write_gang-returns-in_err-error-clause-handled g t c =
 pub write_gang-header_encode-header-requires-clause-sector : goal.write_gang-header_encode-header-requires-clause-sector
 write_gang-header_encode-header-requires-clause-sector g t c =
     let w = terms_of c.args.setting.now c.args.writing.now in
-    let whole = head_entry (sizes_of c.args.setting.now.tops) c.requires.lawful.0 w c.args.path.now c.args.entry.now c.requires.lawful.1 c.requires.found c.requires.asked c.requires.one in
+    let whole = head_entry (sizes_of c.args.setting.now.tops) w c.args.path.now c.args.entry.now c.requires.entry c.requires.found c.requires.asked c.requires.one in
     let low : (get_or c.args.entry.now.places 0 no_place).sector < 281474976710656 = first_sector c.args.setting.now.tops 512 c.args.entry.now.places c.requires.tops whole in
     subst (λ (p : Place). p.sector < 281474976710656) (sym c.first_place.ensures) low
 
 pub write_gang-write_piece-requires-clause-lies : goal.write_gang-write_piece-requires-clause-lies
 write_gang-write_piece-requires-clause-lies g t c =
     let w = terms_of c.args.setting.now c.args.writing.now in
-    let whole = head_entry (sizes_of c.args.setting.now.tops) c.requires.lawful.0 w c.args.path.now c.args.entry.now c.requires.lawful.1 c.requires.found c.requires.asked c.requires.one in
+    let whole = head_entry (sizes_of c.args.setting.now.tops) w c.args.path.now c.args.entry.now c.requires.entry c.requires.found c.requires.asked c.requires.one in
     let made = made_pointer c.args.setting.now.tops w c.args.entry.now.places true c.args.bytes.now 512 c.requires.tops whole refl (omega arith) c.requires.whole c.requires.most c.requires.birth (subst FitsTypes (c.pointer_to-pointer.ensures.pointer c.args.setting.now) c.pointer_to-pointer.ensures.types) in
     let sizes = map g.D.Disk.bytes c.place_members.new.disks in
     let bears : BearsTops c.args.setting.now sizes = subst (BearsTops c.args.setting.now) (sym c.in_ok-error.ensures.handled.same.sizes) c.requires.bears in
@@ -223,7 +223,7 @@ write_gang-returns-clause-laid g t c =
     let places : List Place = c.args.entry.now.places in
     let bp : Bp = pointer_to w places true c.args.bytes.now in
     let es : List Choice = given_since (g.C.Chooser.given c.args.chooser.now) (g.C.Chooser.given c.place_members.new.chooser) in
-    let whole = head_entry tops c.requires.lawful.0 w c.args.path.now c.args.entry.now c.requires.lawful.1 c.requires.found c.requires.asked c.requires.one in
+    let whole = head_entry tops w c.args.path.now c.args.entry.now c.requires.entry c.requires.found c.requires.asked c.requires.one in
     let made : IsMade tops bp = made_pointer c.args.setting.now.tops w places true c.args.bytes.now 512 c.requires.tops whole refl (omega arith) c.requires.whole c.requires.most c.requires.birth (subst FitsTypes (c.pointer_to-pointer.ensures.pointer c.args.setting.now) c.pointer_to-pointer.ensures.types) in
     let begun = c.in_ok-add_head.ensures.ok in
     let head : Head = record { path = c.args.path.now; bytes = begun.0 } in

@@ -8,7 +8,7 @@ use Rattle.zio_blocks.specs.Blocks.{terms_of}
 use Rattle.zio_blocks.specs.Choosers.{given_since, taken_by_all}
 use Rattle.zio_blocks.specs.Parts.{IsMade}
 use Rattle.zio_blocks.proofs.BlockLemmas.{block_laid, block_nowhere, block_told}
-use Rattle.zio_blocks.proofs.OpenLemmas.{lawful_open}
+use Rattle.zio_blocks.proofs.OpenLemmas.{found_open}
 use Rattle.zio_blocks.proofs.place.place_block.Goals as goal
 
 pub returns-clause-told : goal.returns-clause-told
@@ -33,8 +33,9 @@ returns-clause-unused g c =
     (block_laid (sizes_of c.args.setting.now.tops) (length c.args.bytes.now) c.in_ok-part.part c.new-heads.result.items c.place_part.new.heads.items
     (taken_by_all (given_since (g.C.Chooser.given c.args.chooser.now) (g.C.Chooser.given c.place_part.new.chooser))) c.block_of.result
     c.new-heads.ensures.items c.block_of.ensures.error c.block_of.ensures.tree c.in_ok-part.ensures.laid)
-    (λ tree h. lawful_open (g.C.Chooser.sizes c.args.chooser.now) (g.C.Chooser.used c.args.chooser.now)
-    (given_since (g.C.Chooser.given c.args.chooser.now) (g.C.Chooser.given c.place_part.new.chooser)) (tree_places tree) c.place_part.ensures.asks.asks.lawful h.places)
+    (λ tree h. found_open (g.C.Chooser.sizes c.args.chooser.now) (g.C.Chooser.used c.args.chooser.now)
+    (given_since (g.C.Chooser.given c.args.chooser.now) (g.C.Chooser.given c.place_part.new.chooser)) (tree_places tree)
+    (g.met.C.Chooser.lawful_found _ _ _ c.place_part.ensures.asks.asks.lawful) (g.met.C.Chooser.lawful_open _ _ _ c.place_part.ensures.asks.asks.lawful) h.places)
 
 pub returns-clause-nowhere : goal.returns-clause-nowhere
 returns-clause-nowhere g c = λ none.

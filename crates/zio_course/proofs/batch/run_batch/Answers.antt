@@ -1,4 +1,4 @@
-use Rattle.std.proofs.Common.{ℕ, ◌+◌, List, map, reverse, Option, refl, sym, ap, subst, ◌∙◌, inr}
+use Rattle.std.proofs.Common.{ℕ, ◌+◌, List, map, reverse, Option, refl, sym, ap, subst, ◌∙◌, inl, inr}
 use Rattle.zio_types.specs.declared.error.Errno.{Errno}
 use Rattle.zio_types.specs.declared.journal.Completion.{Completion}
 use Rattle.zio_script.specs.declared.script.Request.{Request}
@@ -9,12 +9,13 @@ use Rattle.zio_gang.specs.Rounds.{block_of, bound_after, pending_trees, trees_of
 use Rattle.zio_report.specs.Lines.{AreWhole}
 use Rattle.zio_course.specs.declared.admission.Rules.{Rules}
 use Rattle.zio_course.specs.declared.runner.Finished.{Finished}
+use Rattle.zio_course.specs.declared.runner.Stop.TheVariants.{Memory as NoMemory}
 use Rattle.zio_course.specs.Admissions.{error_in}
 use Rattle.zio_course.specs.Answered.{answered_in}
 use Rattle.zio_course.specs.Forests.{names_of, running}
-use Rattle.zio_course.specs.Runners.{numbers_of, requests_in}
+use Rattle.zio_course.specs.Runners.{Standing, numbers_of, requests_in, stopping_of}
 use Rattle.zio_course.specs.Told.{AreFinishedOf, ended_told, line_told}
-use Rattle.zio_course.proofs.BatchLemmas.{Whole, on_err, whole_moved}
+use Rattle.zio_course.proofs.BatchLemmas.{Whole, broken_moved, stopped_by, whole_moved}
 use Rattle.zio_course.proofs.EndLemmas.{finished_of_batch}
 use Rattle.zio_course.proofs.FitLemmas.{bound_fits}
 use Rattle.zio_course.proofs.PlantLemmas.{ready_rising}
@@ -38,6 +39,25 @@ tell_batch-requires-clause-finished g c =
     (finished_of_batch (names_of entries) c.args.number runs w.0.finished (numbers_of (requests_in w.0.left))
     (ready_rising c.args.number entries runs c.requires.ready) w.2.rising w.2.each)
 
+pub returns-in_err-trees-clause-cut : goal.returns-in_err-trees-clause-cut
+returns-in_err-trees-clause-cut g c =
+    stopped_by c.from_residual.result NoMemory _ c.from_residual.ensures.1
+    (λ before told. (before, (c.in_err-trees.ensures.stays.images before).0 told, inl (refl, ap (λ (s : Standing). s.stopped) c.in_err-trees.ensures.stays.standing ∙ c.requires.runs, refl, refl)))
+
+pub returns-in_err-answered-clause-cut : goal.returns-in_err-answered-clause-cut
+returns-in_err-answered-clause-cut g c =
+    stopped_by c.from_residual-in_err-answered.result NoMemory _ c.from_residual-in_err-answered.ensures.1
+    (λ before told. (before, (c.in_ok-trees.ensures.stays.images before).0 told, inl (refl, ap (λ (s : Standing). s.stopped) c.in_ok-trees.ensures.stays.standing ∙ c.requires.runs, refl, refl)))
+
+pub returns-in_err-finished-clause-cut : goal.returns-in_err-finished-clause-cut
+returns-in_err-finished-clause-cut g c =
+    stopped_by c.from_residual-in_err-finished.result c.in_err-finished.field-0.0 _ c.from_residual-in_err-finished.ensures.1
+    (λ before told.
+    (let x = c.in_err-finished.ensures.cut before ((c.in_ok-trees.ensures.stays.images before).0 told) in
+    let moved = broken_moved (g.R.Runner.standing c.args.runner.now) (g.R.Runner.standing c.trees_to_run.new.runner) (stopping_of (g.R.Runner.standing c.whole_round.new.runner) (g.R.Runner.stops c.whole_round.new.runner)) c.in_err-finished.field-0.0
+    _ _ c.args.failmode (c.args.journal.now.rounds + 1) c.args.point before x.0 c.in_ok-trees.ensures.stays.standing c.in_ok-trees.ensures.trees (x.2, x.3) in
+    (x.0, x.1, inr (inl (c.in_err-finished.ensures.kept, moved.0, moved.1)))))
+
 pub returns-in_err-lines-clause-cut : goal.returns-in_err-lines-clause-cut
 returns-in_err-lines-clause-cut g c =
     let slots : List (ℕ × ℕ) = c.args.admission.now.slots.entries in
@@ -50,12 +70,12 @@ returns-in_err-lines-clause-cut g c =
     c.in_ok-finished.field-0.finished (map g.R.Runner.pending c.in_ok-finished.field-0.left) =
     whole_moved _ _ _ _ _ _ _ _ _ _ _ _ _ _ _ _ _ c.in_ok-trees.ensures.stays.standing c.in_ok-trees.ensures.trees c.in_ok-answered.ensures
     (λ images h. (c.in_ok-trees.ensures.stays.images images).0 h) c.in_ok-finished.ensures.whole in
-    on_err c.from_residual-in_err-lines.result
+    stopped_by c.from_residual-in_err-lines.result NoMemory _ c.from_residual-in_err-lines.ensures.1
     (λ before told.
     (let after = w.4 before told in (
       after.0,
       after.1,
-      inr (w.0, record { places = w.1.places; completions = w.1.completions; rounds = w.1.rounds; finished_is = refl; left_is = refl }, w.2, w.3, after.2),
+      inr (inr (refl, w.3.stopped, w.0, record { places = w.1.places; completions = w.1.completions; rounds = w.1.rounds; finished_is = refl; left_is = refl }, w.2, w.3, after.2)),
     )))
 
 pub returns-clause-ran : goal.returns-clause-ran

@@ -15,8 +15,8 @@ returns-in_err-run_waiting-clause-cut g c =
     (λ batch batches. line_waiting_cut c.args.show.now c.args.failmode s f held batch batches c.args.journal.now c.run_waiting.new.journal (g.R.Runner.tells c.args.runner.now) (g.R.Runner.tells c.run_waiting.new.runner)
     (g.O.Sink.holds c.args.out.now) (g.O.Sink.holds c.run_waiting.new.out) c.in_err-run_waiting.field-0.0 orderly c.in_err-run_waiting.ensures.cut)
 
-pub run_held-requires : goal.run_held-requires
-run_held-requires g c =
+pub run_held-requires-clause-going : goal.run_held-requires-clause-going
+run_held-requires-clause-going g c =
     let f : SeenFold = fold_seen g.R.Runner.pending c.args.fold.now in
     let held : List DefinedBatch = batches_seen c.args.held.now.items in (
       c.requires.going.0,

@@ -16,6 +16,7 @@ loop-item-init g c = (
     all = append-nil (running c.args.admission.now.slots.entries c.args.admission.now.rules.items c.args.batch.now);
     forest = forest_none g.R.Runner.pending (names_of c.args.bound.now) c.args.birth c.new.result c.new-2.result c.new.ensures c.new-2.ensures;
     stays = stays_itself (g.R.Runner.standing c.args.runner.now) (g.R.Runner.tells c.args.runner.now);
+    can = λ h. h;
     same = g.met.R.Runner.same_itself c.args.runner.now;
   },
 )
@@ -57,6 +58,7 @@ loop-item-preserved g c =
         forest = c.in_ok-plant_line.ensures.planted done ready i.forest;
         stays = stays_then (g.R.Runner.standing c.args.runner.now) (g.R.Runner.standing c.loop-item.runner) (g.R.Runner.standing c.plant_line.new.runner)
             (g.R.Runner.tells c.args.runner.now) (g.R.Runner.tells c.loop-item.runner) (g.R.Runner.tells c.plant_line.new.runner) i.stays c.in_ok-plant_line.ensures.stays;
+        can = λ h. c.in_ok-plant_line.ensures.can (i.can h);
         same = g.met.R.Runner.same_then c.args.runner.now c.loop-item.runner c.plant_line.new.runner i.same c.in_ok-plant_line.ensures.same;
       },
     )

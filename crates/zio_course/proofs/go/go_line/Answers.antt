@@ -162,7 +162,7 @@ returns-else-runs_now-clause-cut g c =
     (λ is batches number n script before images later printed rest mode orderly h told. (
       images,
       printed ++ shown_of c.args.show.now (held_text b.number),
-      cut_at _ _ _ _ _ _ _ _ _ _ _ _ Sink
+      cut_at _ _ _ _ _ _ _ _ _ _ _ _ Sink tt c.requires.going.2.steady.runs
           (holds_at c.args.show.now n script before s f held b batches later c.args.journal.now images printed rest (ap (λ (m : Failmode). not (has_trees f.suspended) || goes_on m) mode ∙ waits) number h),
       told,
       part_written (g.O.Sink.holds c.args.out.now) (g.O.Sink.holds c.hold.new.out) printed (shown_of c.args.show.now (held_text b.number)) (c.hold.ensures.front is),
@@ -170,7 +170,7 @@ returns-else-runs_now-clause-cut g c =
     (λ is batches number n script before images later printed rest mode orderly h told. (
       images,
       printed,
-      cut_at _ _ _ _ _ _ _ _ _ _ _ _ Memory h,
+      cut_at _ _ _ _ _ _ _ _ _ _ _ _ Memory tt c.requires.going.2.steady.runs h,
       told,
       subst (λ out. IsCutText Memory (g.O.Sink.holds c.args.out.now) (g.O.Sink.holds out) printed printed) (sym (c.hold.ensures.memory is))
           (nothing_more Memory (g.O.Sink.holds c.args.out.now) printed (printed_ends _ _ _ _ _ _ _ _ _ _ _ _ h)),

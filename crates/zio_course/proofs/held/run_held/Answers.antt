@@ -20,44 +20,45 @@ loop-alloc-init g c = record {
   point = refl;
   faults = refl;
   quiet = refl;
+  can = c.requires.can;
   same = g.met.R.Runner.same_itself c.args.runner.now;
 }
 
 pub batch_round-requires-clause-steady : goal.batch_round-requires-clause-steady
-batch_round-requires-clause-steady g c = (c.loop-alloc.invariant.going c.requires.0 c.requires.1 c.requires.2).steady
+batch_round-requires-clause-steady g c = (c.loop-alloc.invariant.going c.requires.going.0 c.requires.going.1 c.requires.going.2).steady
 
 pub batch_round-requires-clause-rising : goal.batch_round-requires-clause-rising
 batch_round-requires-clause-rising g c =
-    let going : IsGoing g.R.Runner.fits (g.R.Runner.standing c.loop-alloc.runner) c.loop-alloc.journal.rounds (fold_seen g.R.Runner.pending c.loop-alloc.fold) (batches_seen (c.in-Some.batch ∷ c.pop_front.new.self.items)) c.requires.0 c.requires.1 =
-    subst (λ (bs : List Batch). IsGoing g.R.Runner.fits (g.R.Runner.standing c.loop-alloc.runner) c.loop-alloc.journal.rounds (fold_seen g.R.Runner.pending c.loop-alloc.fold) (batches_seen bs) c.requires.0 c.requires.1) c.in-Some.ensures.items
-    (c.loop-alloc.invariant.going c.requires.0 c.requires.1 c.requires.2) in
-    let back : List Request = requests_in_all (requests_held (batches_seen c.pop_front.new.self.items) ++ c.requires.0) in
+    let going : IsGoing g.R.Runner.fits (g.R.Runner.standing c.loop-alloc.runner) c.loop-alloc.journal.rounds (fold_seen g.R.Runner.pending c.loop-alloc.fold) (batches_seen (c.in-Some.batch ∷ c.pop_front.new.self.items)) c.requires.going.0 c.requires.going.1 =
+    subst (λ (bs : List Batch). IsGoing g.R.Runner.fits (g.R.Runner.standing c.loop-alloc.runner) c.loop-alloc.journal.rounds (fold_seen g.R.Runner.pending c.loop-alloc.fold) (batches_seen bs) c.requires.going.0 c.requires.going.1) c.in-Some.ensures.items
+    (c.loop-alloc.invariant.going c.requires.going.0 c.requires.going.1 c.requires.going.2) in
+    let back : List Request = requests_in_all (requests_held (batches_seen c.pop_front.new.self.items) ++ c.requires.going.0) in
     first_two (map (λ (r : Bor Request). r.now) c.loop-alloc.fold.unfinished.items) (requests_of c.in-Some.batch.lines.now) back going.rising
 
 pub batch_round-requires-clause-orderly : goal.batch_round-requires-clause-orderly
 batch_round-requires-clause-orderly g c =
-    (subst (λ (bs : List Batch). IsGoing g.R.Runner.fits (g.R.Runner.standing c.loop-alloc.runner) c.loop-alloc.journal.rounds (fold_seen g.R.Runner.pending c.loop-alloc.fold) (batches_seen bs) c.requires.0 c.requires.1) c.in-Some.ensures.items
-    (c.loop-alloc.invariant.going c.requires.0 c.requires.1 c.requires.2)).orderly.0
+    (subst (λ (bs : List Batch). IsGoing g.R.Runner.fits (g.R.Runner.standing c.loop-alloc.runner) c.loop-alloc.journal.rounds (fold_seen g.R.Runner.pending c.loop-alloc.fold) (batches_seen bs) c.requires.going.0 c.requires.going.1) c.in-Some.ensures.items
+    (c.loop-alloc.invariant.going c.requires.going.0 c.requires.going.1 c.requires.going.2)).orderly.0
 
 pub batch_round-requires-clause-number : goal.batch_round-requires-clause-number
 batch_round-requires-clause-number g c =
-    (subst (λ (bs : List Batch). IsGoing g.R.Runner.fits (g.R.Runner.standing c.loop-alloc.runner) c.loop-alloc.journal.rounds (fold_seen g.R.Runner.pending c.loop-alloc.fold) (batches_seen bs) c.requires.0 c.requires.1) c.in-Some.ensures.items
-    (c.loop-alloc.invariant.going c.requires.0 c.requires.1 c.requires.2)).numbers.0
+    (subst (λ (bs : List Batch). IsGoing g.R.Runner.fits (g.R.Runner.standing c.loop-alloc.runner) c.loop-alloc.journal.rounds (fold_seen g.R.Runner.pending c.loop-alloc.fold) (batches_seen bs) c.requires.going.0 c.requires.going.1) c.in-Some.ensures.items
+    (c.loop-alloc.invariant.going c.requires.going.0 c.requires.going.1 c.requires.going.2)).numbers.0
 
 pub batch_round-requires-clause-rounds : goal.batch_round-requires-clause-rounds
 batch_round-requires-clause-rounds g c =
-    let going : IsGoing g.R.Runner.fits (g.R.Runner.standing c.loop-alloc.runner) c.loop-alloc.journal.rounds (fold_seen g.R.Runner.pending c.loop-alloc.fold) (batches_seen (c.in-Some.batch ∷ c.pop_front.new.self.items)) c.requires.0 c.requires.1 =
-    subst (λ (bs : List Batch). IsGoing g.R.Runner.fits (g.R.Runner.standing c.loop-alloc.runner) c.loop-alloc.journal.rounds (fold_seen g.R.Runner.pending c.loop-alloc.fold) (batches_seen bs) c.requires.0 c.requires.1) c.in-Some.ensures.items
-    (c.loop-alloc.invariant.going c.requires.0 c.requires.1 c.requires.2) in
-    first_fits c.loop-alloc.journal.rounds (length (batches_seen c.pop_front.new.self.items)) c.requires.1 going.rounds_fit
+    let going : IsGoing g.R.Runner.fits (g.R.Runner.standing c.loop-alloc.runner) c.loop-alloc.journal.rounds (fold_seen g.R.Runner.pending c.loop-alloc.fold) (batches_seen (c.in-Some.batch ∷ c.pop_front.new.self.items)) c.requires.going.0 c.requires.going.1 =
+    subst (λ (bs : List Batch). IsGoing g.R.Runner.fits (g.R.Runner.standing c.loop-alloc.runner) c.loop-alloc.journal.rounds (fold_seen g.R.Runner.pending c.loop-alloc.fold) (batches_seen bs) c.requires.going.0 c.requires.going.1) c.in-Some.ensures.items
+    (c.loop-alloc.invariant.going c.requires.going.0 c.requires.going.1 c.requires.going.2) in
+    first_fits c.loop-alloc.journal.rounds (length (batches_seen c.pop_front.new.self.items)) c.requires.going.1 going.rounds_fit
 
 pub batch_round-requires-clause-few : goal.batch_round-requires-clause-few
 batch_round-requires-clause-few g c =
-    let going : IsGoing g.R.Runner.fits (g.R.Runner.standing c.loop-alloc.runner) c.loop-alloc.journal.rounds (fold_seen g.R.Runner.pending c.loop-alloc.fold) (batches_seen (c.in-Some.batch ∷ c.pop_front.new.self.items)) c.requires.0 c.requires.1 =
-    subst (λ (bs : List Batch). IsGoing g.R.Runner.fits (g.R.Runner.standing c.loop-alloc.runner) c.loop-alloc.journal.rounds (fold_seen g.R.Runner.pending c.loop-alloc.fold) (batches_seen bs) c.requires.0 c.requires.1) c.in-Some.ensures.items
-    (c.loop-alloc.invariant.going c.requires.0 c.requires.1 c.requires.2) in
+    let going : IsGoing g.R.Runner.fits (g.R.Runner.standing c.loop-alloc.runner) c.loop-alloc.journal.rounds (fold_seen g.R.Runner.pending c.loop-alloc.fold) (batches_seen (c.in-Some.batch ∷ c.pop_front.new.self.items)) c.requires.going.0 c.requires.going.1 =
+    subst (λ (bs : List Batch). IsGoing g.R.Runner.fits (g.R.Runner.standing c.loop-alloc.runner) c.loop-alloc.journal.rounds (fold_seen g.R.Runner.pending c.loop-alloc.fold) (batches_seen bs) c.requires.going.0 c.requires.going.1) c.in-Some.ensures.items
+    (c.loop-alloc.invariant.going c.requires.going.0 c.requires.going.1 c.requires.going.2) in
     first_few (c.loop-alloc.fold.tally.good + c.loop-alloc.fold.tally.bad) (map (λ (r : Bor Request). r.now) c.loop-alloc.fold.unfinished.items) (requests_of c.in-Some.batch.lines.now)
-    (requests_in_all (requests_held (batches_seen c.pop_front.new.self.items) ++ c.requires.0)) going.few
+    (requests_in_all (requests_held (batches_seen c.pop_front.new.self.items) ++ c.requires.going.0)) going.few
 
 pub loop-alloc-preserved : goal.loop-alloc-preserved
 loop-alloc-preserved g c =
@@ -81,7 +82,7 @@ loop-alloc-preserved g c =
       ran = held_more c.args.show.now c.args.failmode (g.R.Runner.standing c.args.runner.now) s (g.R.Runner.standing c.batch_round.new.runner) (fold_seen g.R.Runner.pending c.args.fold.now) f (fold_seen g.R.Runner.pending c.batch_round.new.fold)
           (batches_seen c.args.held.now.items) (batches_seen left) (batch_seen b) c.args.journal.now c.loop-alloc.journal c.batch_round.new.journal (g.R.Runner.tells c.args.runner.now) (g.R.Runner.tells c.loop-alloc.runner) (g.R.Runner.tells c.batch_round.new.runner)
           (g.O.Sink.holds c.args.out.now) (g.O.Sink.holds c.loop-alloc.out) (g.O.Sink.holds c.batch_round.new.out) i.rows
-          (held_orderly g.R.Runner.fits (g.R.Runner.standing c.args.runner.now) s c.loop-alloc.journal.rounds f (batch_seen b) (batches_seen left) c.requires.0 c.requires.1 i.rows (going c.requires.0 c.requires.1 c.requires.2)) none
+          (held_orderly g.R.Runner.fits (g.R.Runner.standing c.args.runner.now) s c.loop-alloc.journal.rounds f (batch_seen b) (batches_seen left) c.requires.going.0 c.requires.going.1 i.rows (going c.requires.going.0 c.requires.going.1 c.requires.going.2)) none
           (subst (λ (bs : List Batch). HeldRan c.args.show.now c.args.failmode (g.R.Runner.standing c.args.runner.now) s (fold_seen g.R.Runner.pending c.args.fold.now) f (batches_seen c.args.held.now.items) (batches_seen bs)
           c.args.journal.now c.loop-alloc.journal (g.R.Runner.tells c.args.runner.now) (g.R.Runner.tells c.loop-alloc.runner) (g.O.Sink.holds c.args.out.now) (g.O.Sink.holds c.loop-alloc.out)) c.in-Some.ensures.items i.ran) did.ran;
       less = let a = i.less in let e : length c.loop-alloc.held.items ≡ suc (length left) = ap length c.in-Some.ensures.items in omega arith;
@@ -90,6 +91,7 @@ loop-alloc-preserved g c =
       point = did.point ∙ i.point;
       faults = did.faults ∙ i.faults;
       quiet = did.quiet ∙ i.quiet;
+      can = did.can;
       same = g.met.R.Runner.same_then c.args.runner.now c.loop-alloc.runner c.batch_round.new.runner i.same did.same;
     }
 
@@ -101,13 +103,13 @@ returns-in_err-batch_round-clause-cut g c =
     let f : SeenFold = fold_seen g.R.Runner.pending c.loop-alloc.fold in
     let s : Standing = g.R.Runner.standing c.loop-alloc.runner in
     let none : has_trees f.suspended ≡ false = trees_items g.R.Runner.pending c.loop-alloc.fold.suspended ∙ ap has_items (c.is_empty.ensures.0 c.loop-alloc-test.true) in
-    let going : IsGoing g.R.Runner.fits s c.loop-alloc.journal.rounds f (batch_seen b ∷ batches_seen left) c.requires.0 c.requires.1 =
-    subst (λ (bs : List Batch). IsGoing g.R.Runner.fits s c.loop-alloc.journal.rounds f (batches_seen bs) c.requires.0 c.requires.1) c.in-Some.ensures.items (i.going c.requires.0 c.requires.1 c.requires.2) in
+    let going : IsGoing g.R.Runner.fits s c.loop-alloc.journal.rounds f (batch_seen b ∷ batches_seen left) c.requires.going.0 c.requires.going.1 =
+    subst (λ (bs : List Batch). IsGoing g.R.Runner.fits s c.loop-alloc.journal.rounds f (batches_seen bs) c.requires.going.0 c.requires.going.1) c.in-Some.ensures.items (i.going c.requires.going.0 c.requires.going.1 c.requires.going.2) in
     by_same c.from_residual.result c.in_err-batch_round.field-0.0 _ c.from_residual.ensures.1
     (held_cut c.args.show.now c.args.failmode (g.R.Runner.standing c.args.runner.now) s (fold_seen g.R.Runner.pending c.args.fold.now) f
     (batches_seen c.args.held.now.items) (batches_seen left) (batch_seen b) c.args.journal.now c.loop-alloc.journal c.batch_round.new.journal (g.R.Runner.tells c.args.runner.now) (g.R.Runner.tells c.loop-alloc.runner) (g.R.Runner.tells c.batch_round.new.runner)
     (g.O.Sink.holds c.args.out.now) (g.O.Sink.holds c.loop-alloc.out) (g.O.Sink.holds c.batch_round.new.out) c.in_err-batch_round.field-0.0 i.rows i.tops
-    (held_orderly g.R.Runner.fits (g.R.Runner.standing c.args.runner.now) s c.loop-alloc.journal.rounds f (batch_seen b) (batches_seen left) c.requires.0 c.requires.1 i.rows going) none
+    (held_orderly g.R.Runner.fits (g.R.Runner.standing c.args.runner.now) s c.loop-alloc.journal.rounds f (batch_seen b) (batches_seen left) c.requires.going.0 c.requires.going.1 i.rows going) none
     (subst (λ (bs : List Batch). HeldRan c.args.show.now c.args.failmode (g.R.Runner.standing c.args.runner.now) s (fold_seen g.R.Runner.pending c.args.fold.now) f (batches_seen c.args.held.now.items) (batches_seen bs)
     c.args.journal.now c.loop-alloc.journal (g.R.Runner.tells c.args.runner.now) (g.R.Runner.tells c.loop-alloc.runner) (g.O.Sink.holds c.args.out.now) (g.O.Sink.holds c.loop-alloc.out)) c.in-Some.ensures.items i.ran) c.in_err-batch_round.ensures.cut)
 

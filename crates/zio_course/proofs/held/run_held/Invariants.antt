@@ -16,6 +16,7 @@ invariant-loop-alloc g l = record {
   point : l.fold.point ≡ l.fn.fold.point;
   faults : (g.R.Runner.standing l.runner).faults ≡ (g.R.Runner.standing l.fn.runner).faults;
   quiet : g.O.Sink.faults l.out ≡ g.O.Sink.faults l.fn.out;
+  can : g.R.Runner.Can l.runner;
   same : g.R.Runner.same l.fn.runner l.runner;
 }
 

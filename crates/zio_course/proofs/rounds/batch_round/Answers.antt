@@ -13,25 +13,27 @@ use Rattle.zio_report.specs.Lines.{round_text}
 use Rattle.zio_course.specs.declared.admission.Rules.{Rules}
 use Rattle.zio_course.specs.Admissions.{IsAdmission, error_in}
 use Rattle.zio_course.specs.Answered.{answered_in}
+use Rattle.zio_course.specs.Faults.{fault_of}
 use Rattle.zio_course.specs.Folds.{SeenFold, fold_seen, is_named_by, waiting_of}
 use Rattle.zio_course.specs.Names.{is_name_in, is_some_name}
 use Rattle.zio_course.specs.Runners.{Standing}
 use Rattle.zio_course.specs.SoFar.{IsCutText}
-use Rattle.zio_course.proofs.CutLemmas.{by_fault, cut_at, not_written, nothing_more, part_written, printed_ends}
+use Rattle.zio_course.proofs.CutLemmas.{by_fault, cut_at, not_written, nothing_more, other_stop, part_written, printed_ends}
 use Rattle.zio_course.proofs.JoinLemmas.{names_awaited, rising_both}
 use Rattle.zio_course.proofs.ReadyLemmas.{batch_ready}
-use Rattle.zio_course.proofs.RoundsLemmas.{any_fault, batch_cut, batch_short, batch_steady, batch_told, by_stop, drop_own, few_told, len_map, map_two, trees_items, when_ok}
+use Rattle.zio_course.proofs.RoundsLemmas.{batch_cut, batch_short, batch_steady, batch_told, by_stop, drop_own, few_told, len_map, map_two, trees_items, when_ok}
 use Rattle.zio_course.proofs.RunnableLemmas.{batch_runnable}
 use Rattle.zio_course.proofs.rounds.batch_round.Goals as goal
 
 pub returns-in_err-requests-clause-cut : goal.returns-in_err-requests-clause-cut
 returns-in_err-requests-clause-cut g c =
-    any_fault c.from_residual.result _ (λ fault n script before images ahead later printed rest mode orderly h tells. (
+    by_stop c.from_residual.result c.in_err-requests.field-0.0 _ c.from_residual.ensures.1
+    (λ n script before images ahead later printed rest mode orderly h tells. (
       images,
       printed,
-      cut_at _ _ _ _ _ _ _ _ _ _ _ _ fault h,
+      cut_at _ _ _ _ _ _ _ _ _ _ _ _ (fault_of c.in_err-requests.field-0.0) (other_stop c.in_err-requests.field-0.0 (λ is. c.in_err-requests.ensures.err (ap (λ x. Err x) is))) c.requires.steady.runs h,
       tells,
-      nothing_more fault (g.O.Sink.holds c.args.out.now) printed (printed_ends _ _ _ _ _ _ _ _ _ _ _ _ h),
+      nothing_more (fault_of c.in_err-requests.field-0.0) (g.O.Sink.holds c.args.out.now) printed (printed_ends _ _ _ _ _ _ _ _ _ _ _ _ h),
     ))
 
 pub admit-requires : goal.admit-requires
@@ -39,12 +41,13 @@ admit-requires g c = record { rising = (rising_both _ _ c.requires.rising).1 }
 
 pub returns-in_err-admission-clause-cut : goal.returns-in_err-admission-clause-cut
 returns-in_err-admission-clause-cut g c =
-    any_fault c.from_residual-in_err-admission.result _ (λ fault n script before images ahead later printed rest mode orderly h tells. (
+    by_stop c.from_residual-in_err-admission.result c.in_err-admission.field-0.0 _ c.from_residual-in_err-admission.ensures.1
+    (λ n script before images ahead later printed rest mode orderly h tells. (
       images,
       printed,
-      cut_at _ _ _ _ _ _ _ _ _ _ _ _ fault h,
+      cut_at _ _ _ _ _ _ _ _ _ _ _ _ (fault_of c.in_err-admission.field-0.0) (other_stop c.in_err-admission.field-0.0 (λ is. c.in_err-admission.ensures.err (ap (λ x. Err x) is))) c.requires.steady.runs h,
       tells,
-      nothing_more fault (g.O.Sink.holds c.args.out.now) printed (printed_ends _ _ _ _ _ _ _ _ _ _ _ _ h),
+      nothing_more (fault_of c.in_err-admission.field-0.0) (g.O.Sink.holds c.args.out.now) printed (printed_ends _ _ _ _ _ _ _ _ _ _ _ _ h),
     ))
 
 pub run_batch-requires-clause-rising : goal.run_batch-requires-clause-rising
@@ -86,8 +89,7 @@ returns-in_err-end-clause-cut g c =
     (λ n script before images ahead later printed rest mode orderly h tells.
     (let short = c.in_err-end.ensures.cut images tells in
     let cut = batch_short c.args.show.now n script before s (g.R.Runner.standing c.run_batch.new.runner) f ahead later c.args.journal.now c.run_batch.new.journal images short.0 printed items c.args.batch.now.number slots rules c.args.failmode rest
-    g.R.Runner.fits c.args.journal.now.rounds c.in_err-end.field-0.0 (g.O.Sink.holds c.args.out.now) mode orderly h c.requires.steady c.requires.orderly admission_is (rising_both _ _ c.requires.rising).1
-    (λ is. c.in_err-end.ensures.kept (ap (λ x. Err x) is)) short.2 in
+    g.R.Runner.fits c.args.journal.now.rounds c.in_err-end.field-0.0 (g.O.Sink.holds c.args.out.now) mode orderly h c.requires.steady c.requires.orderly admission_is (rising_both _ _ c.requires.rising).1 short.2 in
     (short.0, cut.0, cut.1, short.1, cut.2)))
 
 pub returns-clause-ran : goal.returns-clause-ran
@@ -156,7 +158,7 @@ returns-clause-cut g c =
       told.0,
       printed ++ text,
       batch_cut c.args.show.now n script before s (g.R.Runner.standing c.run_batch.new.runner) f ahead later old new images told.0 printed text items number slots rules w.0 lines (map g.R.Runner.pending c.in_ok-end.end.left) c.args.failmode c.run_batch.new.bound rest
-          g.R.Runner.fits old.rounds Sink mode orderly h c.requires.steady c.requires.orderly admission_is w.1 w.2 w.3 told.2 text_is,
+          g.R.Runner.fits old.rounds Sink tt w.3.stopped mode orderly h c.requires.steady c.requires.orderly admission_is w.1 w.2 w.3 told.2 text_is,
       told.1,
       part_written (g.O.Sink.holds c.args.out.now) (g.O.Sink.holds c.end_round.new.out) printed text (c.end_round.ensures.front is),
     )))
@@ -165,7 +167,7 @@ returns-clause-cut g c =
       told.0,
       printed ++ text,
       batch_cut c.args.show.now n script before s (g.R.Runner.standing c.run_batch.new.runner) f ahead later old new images told.0 printed text items number slots rules w.0 lines (map g.R.Runner.pending c.in_ok-end.end.left) c.args.failmode c.run_batch.new.bound rest
-          g.R.Runner.fits old.rounds Memory mode orderly h c.requires.steady c.requires.orderly admission_is w.1 w.2 w.3 told.2 text_is,
+          g.R.Runner.fits old.rounds Memory tt w.3.stopped mode orderly h c.requires.steady c.requires.orderly admission_is w.1 w.2 w.3 told.2 text_is,
       told.1,
       subst (λ out. IsCutText Memory (g.O.Sink.holds c.args.out.now) (g.O.Sink.holds out) printed (printed ++ text)) (sym (c.end_round.ensures.memory is))
           (not_written (g.O.Sink.holds c.args.out.now) printed text (printed_ends _ _ _ _ _ _ _ _ _ _ _ _ h)),

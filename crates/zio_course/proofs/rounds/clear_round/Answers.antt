@@ -9,7 +9,7 @@ use Rattle.zio_report.specs.declared.report.Line.{Line}
 use Rattle.zio_report.specs.declared.report.RunFault.TheVariants.{Sink, Memory}
 use Rattle.zio_report.specs.Lines.{round_text}
 use Rattle.zio_course.specs.Folds.{SeenFold, fold_seen, is_named_by, waiting_of}
-use Rattle.zio_course.specs.Runners.{AreRunnable, Standing, terms_at}
+use Rattle.zio_course.specs.Runners.{AreRunnable, Standing, stopping_of, terms_at}
 use Rattle.zio_course.specs.Entered.{IsCutShort}
 use Rattle.zio_course.specs.SoFar.{IsCutText}
 use Rattle.zio_course.proofs.CutLemmas.{by_fault, not_written, part_written, printed_ends}
@@ -36,11 +36,11 @@ returns-in_err-end-clause-cut g c =
     by_stop c.from_residual.result c.in_err-end.field-0.0 _ c.from_residual.ensures.1
     (λ n script before images ahead later printed rest mode orderly h tells.
     (let short = c.in_err-end.ensures.cut images tells in
-    let cut_short : IsCutShort s (g.R.Runner.standing c.run_suspended.new.runner) (terms_at s c.args.failmode (c.args.journal.now.rounds + 1) f.point) f.suspended [] c.args.journal.now c.run_suspended.new.journal images short.0 =
-    subst (λ (ts : List (List Pending)). IsCutShort s (g.R.Runner.standing c.run_suspended.new.runner) (terms_at s c.args.failmode (c.args.journal.now.rounds + 1) f.point) ts [] c.args.journal.now c.run_suspended.new.journal images short.0) trees_are short.2 in
-    let cut = clear_short c.args.show.now n script before s (g.R.Runner.standing c.run_suspended.new.runner) f ahead later c.args.journal.now c.run_suspended.new.journal images short.0 printed c.args.failmode rest
-    g.R.Runner.fits c.args.journal.now.rounds c.in_err-end.field-0.0 (g.O.Sink.holds c.args.out.now) mode orderly h c.requires.steady
-    (λ is. c.in_err-end.ensures.kept (ap (λ x. Err x) is)) cut_short in
+    let now : Standing = g.R.Runner.standing c.run_suspended.new.runner in
+    let cut_short : IsCutShort s now (stopping_of now (g.R.Runner.stops c.run_suspended.new.runner)) c.in_err-end.field-0.0 (terms_at s c.args.failmode (c.args.journal.now.rounds + 1) f.point) f.suspended [] c.args.journal.now c.run_suspended.new.journal images short.0 =
+    subst (λ (ts : List (List Pending)). IsCutShort s now (stopping_of now (g.R.Runner.stops c.run_suspended.new.runner)) c.in_err-end.field-0.0 (terms_at s c.args.failmode (c.args.journal.now.rounds + 1) f.point) ts [] c.args.journal.now c.run_suspended.new.journal images short.0) trees_are short.2 in
+    let cut = clear_short c.args.show.now n script before s now f ahead later c.args.journal.now c.run_suspended.new.journal images short.0 printed c.args.failmode rest
+    g.R.Runner.fits c.args.journal.now.rounds c.in_err-end.field-0.0 (g.O.Sink.holds c.args.out.now) mode orderly h c.requires.steady cut_short in
     (short.0, cut.0, cut.1, short.1, cut.2)))
 
 pub returns-clause-ran : goal.returns-clause-ran
@@ -112,7 +112,7 @@ returns-clause-cut g c =
       told.0,
       printed ++ text,
       clear_cut c.args.show.now n script before s (g.R.Runner.standing c.run_suspended.new.runner) f ahead later old new images told.0 printed text w.0 lines left c.args.failmode c.run_suspended.new.bound rest
-          g.R.Runner.fits old.rounds Sink mode orderly h c.requires.steady w.1 w.2 w.3 told.2 text_is,
+          g.R.Runner.fits old.rounds Sink tt w.3.stopped mode orderly h c.requires.steady w.1 w.2 w.3 told.2 text_is,
       told.1,
       part_written (g.O.Sink.holds c.args.out.now) (g.O.Sink.holds c.end_round.new.out) printed text (c.end_round.ensures.front is),
     )))
@@ -121,7 +121,7 @@ returns-clause-cut g c =
       told.0,
       printed ++ text,
       clear_cut c.args.show.now n script before s (g.R.Runner.standing c.run_suspended.new.runner) f ahead later old new images told.0 printed text w.0 lines left c.args.failmode c.run_suspended.new.bound rest
-          g.R.Runner.fits old.rounds Memory mode orderly h c.requires.steady w.1 w.2 w.3 told.2 text_is,
+          g.R.Runner.fits old.rounds Memory tt w.3.stopped mode orderly h c.requires.steady w.1 w.2 w.3 told.2 text_is,
       told.1,
       subst (λ out. IsCutText Memory (g.O.Sink.holds c.args.out.now) (g.O.Sink.holds out) printed (printed ++ text)) (sym (c.end_round.ensures.memory is))
           (not_written (g.O.Sink.holds c.args.out.now) printed text (printed_ends _ _ _ _ _ _ _ _ _ _ _ _ h)),

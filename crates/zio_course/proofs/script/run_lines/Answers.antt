@@ -36,6 +36,7 @@ loop-fold-init g c =
         rows = refl;
         faults = refl;
         quiet = refl;
+        can = c.requires.can;
         same = g.met.R.Runner.same_itself c.args.runner.now;
       },
     )
@@ -198,6 +199,7 @@ loop-fold-preserved-in_ok-go_line-in-Go g c =
         rows = did.rows ∙ i.rows;
         faults = did.faults ∙ i.faults;
         quiet = did.quiet ∙ i.quiet;
+        can = did.can;
         same = g.met.R.Runner.same_then c.args.runner.now c.loop-fold.runner c.go_line.new.runner i.same did.same;
       },
     )
@@ -247,6 +249,7 @@ loop-fold-preserved g c =
         rows = did.rows ∙ i.rows;
         faults = did.faults ∙ i.faults;
         quiet = did.quiet ∙ i.quiet;
+        can = did.can;
         same = g.met.R.Runner.same_then c.args.runner.now c.loop-fold.runner c.clear_line.new.runner i.same did.same;
       },
     )
@@ -293,6 +296,7 @@ loop-fold-preserved-in-Request g c =
         rows = i.rows;
         faults = i.faults;
         quiet = i.quiet;
+        can = i.can;
         same = i.same;
       },
     )

@@ -20,6 +20,7 @@ invariant-loop-fold g l = (front : List Item) × record {
   rows : (g.R.Runner.standing l.runner).rows ≡ (g.R.Runner.standing l.fn.runner).rows;
   faults : (g.R.Runner.standing l.runner).faults ≡ (g.R.Runner.standing l.fn.runner).faults;
   quiet : g.O.Sink.faults l.out ≡ g.O.Sink.faults l.fn.out;
+  can : g.R.Runner.Can l.runner;
   same : g.R.Runner.same l.fn.runner l.runner;
 }
 

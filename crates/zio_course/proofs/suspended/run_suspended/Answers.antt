@@ -1,4 +1,4 @@
-use Rattle.std.proofs.Common.{◌+◌, ℕ, List, [], map, reverse, Bor, refl, sym, ap, subst, ◌∙◌, inr}
+use Rattle.std.proofs.Common.{◌+◌, ℕ, List, [], map, reverse, Bor, refl, sym, ap, subst, ◌∙◌, inl, inr}
 use Rattle.zio_types.specs.declared.journal.Completion.{Completion}
 use Rattle.zio_script.specs.declared.script.Request.{Request}
 use Rattle.zio_gang.specs.declared.tree.Tree.{Tree}
@@ -6,10 +6,11 @@ use Rattle.zio_gang.specs.Attempts.{Pending}
 use Rattle.zio_gang.specs.Rounds.{block_of, bound_after}
 use Rattle.zio_report.specs.Lines.{AreWhole}
 use Rattle.zio_course.specs.declared.runner.Finished.{Finished}
+use Rattle.zio_course.specs.declared.runner.Stop.TheVariants.{Memory as NoMemory}
 use Rattle.zio_course.specs.Answered.{answered_in}
 use Rattle.zio_course.specs.Forests.{names_of}
 use Rattle.zio_course.specs.Told.{AreFinishedOf, ended_told, line_told, no_error}
-use Rattle.zio_course.proofs.BatchLemmas.{Whole, on_err, whole_moved}
+use Rattle.zio_course.proofs.BatchLemmas.{Whole, stopped_by, whole_moved}
 use Rattle.zio_course.proofs.FitLemmas.{bound_fits}
 use Rattle.zio_course.proofs.SuspendedLemmas.{finished_of_suspended, none_answered}
 use Rattle.zio_course.proofs.ToldLemmas.{lines_whole}
@@ -22,6 +23,11 @@ tell_suspended-requires-clause-finished g c =
     subst (AreFinishedOf requests) (sym w.1.finished_is)
     (finished_of_suspended (map g.R.Runner.pending c.args.trees) w.0.left requests w.0.finished c.requires.unfinished w.2.rising w.2.each)
 
+pub returns-in_err-finished-clause-cut : goal.returns-in_err-finished-clause-cut
+returns-in_err-finished-clause-cut g c =
+    stopped_by c.from_residual.result c.in_err-finished.field-0.0 _ c.from_residual.ensures.1
+    (λ before told. (let x = c.in_err-finished.ensures.cut before told in (x.0, x.1, inr (inl (c.in_err-finished.ensures.kept, x.2, x.3)))))
+
 pub returns-in_err-lines-clause-cut : goal.returns-in_err-lines-clause-cut
 returns-in_err-lines-clause-cut g c =
     let trees : List (List Pending) = map g.R.Runner.pending c.args.trees in
@@ -30,12 +36,12 @@ returns-in_err-lines-clause-cut g c =
     c.args.journal.now c.whole_round.new.journal (g.R.Runner.standing c.whole_round.new.runner) (g.R.Runner.tells c.whole_round.new.runner)
     c.in_ok-finished.field-0.finished (map g.R.Runner.pending c.in_ok-finished.field-0.left) =
     whole_moved _ _ _ _ _ _ _ _ _ _ _ _ _ _ _ _ _ refl refl c.new.ensures (λ images h. h) c.in_ok-finished.ensures.whole in
-    on_err c.from_residual-in_err-lines.result
+    stopped_by c.from_residual-in_err-lines.result NoMemory _ c.from_residual-in_err-lines.ensures.1
     (λ before told.
     (let after = w.4 before told in (
       after.0,
       after.1,
-      inr (w.0, record { places = w.1.places; completions = w.1.completions; rounds = w.1.rounds; finished_is = refl; left_is = refl }, w.2, w.3, after.2),
+      inr (inr (refl, w.3.stopped, w.0, record { places = w.1.places; completions = w.1.completions; rounds = w.1.rounds; finished_is = refl; left_is = refl }, w.2, w.3, after.2)),
     )))
 
 pub returns-clause-ran : goal.returns-clause-ran

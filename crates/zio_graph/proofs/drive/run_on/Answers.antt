@@ -1,4 +1,5 @@
-use Rattle.std.proofs.Common.{List, arith, ◌∙◌, sym, subst}
+use Rattle.std.proofs.Common.{List, map, arith, ap, ◌∙◌, sym, subst}
+use Rattle.std.proofs.lemmas.Result.{err_from_is_err_and}
 use Rattle.zio_types.specs.declared.place.Top.{Top}
 use Rattle.zio_disks.specs.Disks.{AreSameDisks}
 use Rattle.zio_disks.proofs.DiskLemmas.{same_itself, same_then}
@@ -127,3 +128,11 @@ pub returns-in_err-issue_group-clause-same : goal.returns-in_err-issue_group-cla
 returns-in_err-issue_group-clause-same g c =
     same_then g.D.Disk.bytes g.D.Disk.faults g.D.Disk.faults_at_fetch g.D.Disk.home g.D.Disk.image g.D.Disk.sound c.args.grounds.now.disks.items c.picks.grounds.disks.items
     c.issue_group.new.grounds.disks.items c.picks.invariant.0 c.in_err-issue_group.ensures.handled.same
+
+pub returns-in_err-told-clause-calm : goal.returns-in_err-told-clause-calm
+returns-in_err-told-clause-calm g c = λ is. ap (map g.D.Disk.faults) c.run_turn.ensures.same.disks_same ∙ c.picks.invariant.1.steady
+
+pub returns-in_err-issue_group-clause-calm : goal.returns-in_err-issue_group-clause-calm
+returns-in_err-issue_group-clause-calm g c = λ is.
+    (let q = err_from_is_err_and c.from_residual-in_err-issue_group.result c.from_residual-in_err-issue_group.ensures.1 in
+    c.in_err-issue_group.ensures.handled.calm (λ e. (let a = q.1 in let b = q.2 in cc)) ∙ c.picks.invariant.1.steady)

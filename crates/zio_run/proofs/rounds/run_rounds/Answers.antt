@@ -30,7 +30,7 @@ returns-clause-cut g c =
     let ended = c.run_script-ended.result in
     let known : (before : Images) → Tell g.D.Disk.image c.args.engine.disks before → c.args.engine.setting.tops ≡ tops_of c.args.script.now before =
     λ before tells. c.requires.setting.tops before (told_sizes g.D.Disk.bytes g.D.Disk.image g.met.D.Disk.has_size c.args.engine.disks before tells) in
-    let cut = rounds_cut g.D.Disk.faults g.D.Disk.image c.args.show.now c.args.script.now c.args.engine.setting.tops c.args.engine.disks
+    let cut = rounds_cut g.D.Disk.faults g.D.Disk.image c.args.show.now c.args.script.now c.args.engine.setting.tops c.run_script-ended.new.runner.stopped c.args.engine.disks
     c.run_script-ended.new.runner.disks (seen c.args.out.now) (seen c.run_script-ended.new.out) c.run_script-ended.new.journal c.args.images ended
     (sym c.requires.images) known ran.cut ran.device ran.sink in
     subst (λ ds. IfErr ended (λ fault. WasCutOver g.D.Disk.faults g.D.Disk.image c.args.show.now c.args.script.now fault c.args.engine.disks ds

@@ -14,7 +14,7 @@ use Rattle.zio_report.specs.Reports.{RunSize, pool_text}
 use Rattle.zio_course.specs.Course.{shown_of}
 use Rattle.zio_course.specs.Folds.{SeenFold, batches_seen, fold_seen}
 use Rattle.zio_course.specs.Moves.{IsGoing, LinesCut, LinesOver}
-use Rattle.zio_course.specs.Runners.{Standing}
+use Rattle.zio_course.specs.Runners.{Standing, Stopping, stopping_of}
 use Rattle.zio_course.specs.SoFar.{IsCutText}
 use Rattle.zio_course.proofs.CutLemmas.{by_fault, not_written, part_written}
 use Rattle.zio_suspend.specs.Ends.{last_text}
@@ -43,14 +43,15 @@ returns-in_err-begin-clause-cut g c =
       new = new;
     } in
     let new_holds : List ℕ → Type 0 = g.O.Sink.holds c.begin.new.out in
+    let w : Stopping = stopping_of s (g.R.Runner.stops c.args.runner.now) in
     let e : RunFault = c.in_err-begin.field-0.0 in
     let pool : List ℕ = shown_of show (pool_text n.tops n.images) in
-    same_fault c.from_residual.result e (λ (fault : RunFault). ScriptCut show n script s old tells tells holds new_holds fault) c.from_residual.ensures.1
-    (by_fault (Err e) (λ (fault : RunFault). ScriptCut show n script s old tells tells holds new_holds fault)
+    same_fault c.from_residual.result e (λ (fault : RunFault). ScriptCut show n script s old tells tells w holds new_holds fault) c.from_residual.ensures.1
+    (by_fault (Err e) (λ (fault : RunFault). ScriptCut show n script s old tells tells w holds new_holds fault)
     (λ is. absurd (c.in_err-begin.ensures.device is))
-    (λ is. cut_first show n script s f old tells holds new_holds Sink starts
+    (λ is. cut_first show n script s f old tells holds new_holds Sink tt c.requires.runs starts
     (part_written holds new_holds [] pool (subst (λ (m : ℕ). AppendsFront holds new_holds (shown_of show (pool_text m n.images))) c.len.ensures (c.in_err-begin.ensures.front is))))
-    (λ is. cut_first show n script s f old tells holds new_holds Memory starts
+    (λ is. cut_first show n script s f old tells holds new_holds Memory tt c.requires.runs starts
     (subst (λ out. IsCutText Memory holds (g.O.Sink.holds out) [] pool) (sym (c.in_err-begin.ensures.memory is)) (not_written holds [] pool (inl refl)))))
 
 pub run_lines-requires-clause-going : goal.run_lines-requires-clause-going
@@ -102,10 +103,11 @@ returns-in_err-run_lines-clause-cut g c =
     let after : Journal = c.run_lines.new.journal in
     let new_tells : Images → Type 0 = g.R.Runner.tells c.run_lines.new.runner in
     let over : List ℕ → Type 0 = g.O.Sink.holds c.run_lines.new.out in
+    let w : Stopping = stopping_of now (g.R.Runner.stops c.run_lines.new.runner) in
     let e : RunFault = c.in_err-run_lines.field-0.0 in
-    same_fault c.from_residual-in_err-run_lines.result e (λ (fault : RunFault). ScriptCut show n script s after tells new_tells holds over fault) c.from_residual-in_err-run_lines.ensures.1
+    same_fault c.from_residual-in_err-run_lines.result e (λ (fault : RunFault). ScriptCut show n script s after tells new_tells w holds over fault) c.from_residual-in_err-run_lines.ensures.1
     (cut_between show n script s f old after tells new_tells holds mid over e starts first
-    (subst (λ (items : List Item). LinesCut show script.failmode s f items old after tells new_tells mid over e) c.as_slice.ensures c.in_err-run_lines.ensures.cut))
+    (subst (λ (items : List Item). LinesCut show script.failmode s f items old after tells new_tells w mid over e) c.as_slice.ensures c.in_err-run_lines.ensures.cut))
 
 pub returns-in_err-finish-clause-cut : goal.returns-in_err-finish-clause-cut
 returns-in_err-finish-clause-cut g c =
@@ -142,15 +144,16 @@ returns-in_err-finish-clause-cut g c =
     subst (λ (items : List Item). LinesOver show script.failmode s now f h items held old after tells new_tells mid over) c.as_slice.ensures c.in_ok-run_lines.ensures.ran in
     let ended : IsEndOf h held end = end_of g.R.Runner.pending c.run_lines.new.fold c.run_lines.new.held.items end c.ending_of-ending.ensures in
     let last : List ℕ = last_text show n.requests h.tally end in
+    let w : Stopping = stopping_of now (g.R.Runner.stops c.run_lines.new.runner) in
     let e : RunFault = c.in_err-finish.field-0.0 in
-    same_fault c.from_residual-in_err-finish.result e (λ (fault : RunFault). ScriptCut show n script s after tells new_tells holds new_holds fault) c.from_residual-in_err-finish.ensures.1
-    (by_fault (Err e) (λ (fault : RunFault). ScriptCut show n script s after tells new_tells holds new_holds fault)
+    same_fault c.from_residual-in_err-finish.result e (λ (fault : RunFault). ScriptCut show n script s after tells new_tells w holds new_holds fault) c.from_residual-in_err-finish.ensures.1
+    (by_fault (Err e) (λ (fault : RunFault). ScriptCut show n script s after tells new_tells w holds new_holds fault)
     (λ is. absurd (c.in_err-finish.ensures.device is))
-    (λ is. cut_last show n script s now f h held old after tells new_tells holds mid over new_holds end Sink starts c.in_ok-run_lines.ensures.tops ended ran first
+    (λ is. cut_last show n script s now f h held old after tells new_tells holds mid over new_holds end Sink tt c.in_ok-run_lines.ensures.runs starts c.in_ok-run_lines.ensures.tops ended ran first
     (λ before text full at. inr at)
     (λ printed whole. part_written over new_holds printed last
     (subst (λ (items : List Item). AppendsFront over new_holds (last_text show (length (requests_of items)) h.tally end)) c.as_slice-2.ensures (c.in_err-finish.ensures.front is))))
-    (λ is. cut_last show n script s now f h held old after tells new_tells holds mid over new_holds end Memory starts c.in_ok-run_lines.ensures.tops ended ran first
+    (λ is. cut_last show n script s now f h held old after tells new_tells holds mid over new_holds end Memory tt c.in_ok-run_lines.ensures.runs starts c.in_ok-run_lines.ensures.tops ended ran first
     (λ before text full at. inr at)
     (λ printed whole. subst (λ out. IsCutText Memory over (g.O.Sink.holds out) printed (printed ++ last)) (sym (c.in_err-finish.ensures.memory is)) (not_written over printed last whole))))
 

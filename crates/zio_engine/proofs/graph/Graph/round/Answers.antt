@@ -311,3 +311,41 @@ returns-in_err-rests-clause-device g c =
     λ is.
     (let q = err_from_is_err_and c.from_residual-in_err-rests.result c.from_residual-in_err-rests.ensures.1 in
     let no : Memory ≡ Device = cc in absurd (cc))
+
+pub returns-in_err-wholes-clause-calm : goal.returns-in_err-wholes-clause-calm
+returns-in_err-wholes-clause-calm g c =
+    let m = g.D.Disk in
+    let p : SeenGraph _ = c.args.self.now in
+    let begins : HasBegun p c.args.job.point c.note_point.new.grounds = record {
+      setting = c.note_point.ensures.setting ∙ ap
+          (λ (q : SeenGraph _). record { tops = q.setting.tops; rows = q.setting.rows; point = c.args.job.point }) c.self.view_is;
+      live = ap (λ (d : Desk). d.space.live) c.note_point.ensures.desk ∙ ap (λ (q : SeenGraph _). q.live) c.self.view_is;
+      disks = ap (λ v. v.items) c.note_point.ensures.disks ∙ ap (λ (q : SeenGraph _). q.disks) c.self.view_is;
+    } in
+    λ is. ap (map m.faults) begins.disks
+
+pub returns-in_err-finished-clause-calm : goal.returns-in_err-finished-clause-calm
+returns-in_err-finished-clause-calm g c =
+    let m = g.D.Disk in
+    let p : SeenGraph _ = c.args.self.now in
+    let begins : HasBegun p c.args.job.point c.note_point.new.grounds = record {
+      setting = c.note_point.ensures.setting ∙ ap
+          (λ (q : SeenGraph _). record { tops = q.setting.tops; rows = q.setting.rows; point = c.args.job.point }) c.self.view_is;
+      live = ap (λ (d : Desk). d.space.live) c.note_point.ensures.desk ∙ ap (λ (q : SeenGraph _). q.live) c.self.view_is;
+      disks = ap (λ v. v.items) c.note_point.ensures.disks ∙ ap (λ (q : SeenGraph _). q.disks) c.self.view_is;
+    } in
+    λ is.
+    (let q = err_from_is_err_and c.from_residual-in_err-finished.result c.from_residual-in_err-finished.ensures.1 in
+    c.run_wholes.ensures.calm (cc) ∙ ap (map m.faults) begins.disks)
+
+pub returns-in_err-rests-clause-calm : goal.returns-in_err-rests-clause-calm
+returns-in_err-rests-clause-calm g c =
+    let m = g.D.Disk in
+    let p : SeenGraph _ = c.args.self.now in
+    let begins : HasBegun p c.args.job.point c.note_point.new.grounds = record {
+      setting = c.note_point.ensures.setting ∙ ap
+          (λ (q : SeenGraph _). record { tops = q.setting.tops; rows = q.setting.rows; point = c.args.job.point }) c.self.view_is;
+      live = ap (λ (d : Desk). d.space.live) c.note_point.ensures.desk ∙ ap (λ (q : SeenGraph _). q.live) c.self.view_is;
+      disks = ap (λ v. v.items) c.note_point.ensures.disks ∙ ap (λ (q : SeenGraph _). q.disks) c.self.view_is;
+    } in
+    λ is. c.in_ok-finished.ensures.faults ∙ ap (map m.faults) begins.disks

@@ -9,7 +9,7 @@ use Rattle.zio_disks.specs.Trees.{IsPlacedTree}
 use Rattle.zio_disks.specs.Whole.{IsWholeTree}
 use Rattle.zio_blocks.specs.Claims.{AreTaken, StayTaken}
 use Rattle.zio_plain.specs.Grounds.{seen}
-use Rattle.zio_plain.proofs.GroundOwn.{breaks_at, stopped_rose}
+use Rattle.zio_plain.proofs.GroundOwn.{breaks_at, stopped_calm, stopped_rose}
 use Rattle.zio_plain.proofs.GroundReads.{can_from, claim_does, does_as, ended_does, memory_breaks_own, refused_does, starts, starts_breaks}
 use Rattle.zio_plain.proofs.ground.kinds.own_claim.Goals as goal
 
@@ -23,7 +23,7 @@ returns-in-Ok-Ok-clause-done g c =
     let now = c.claim_block.new.chooser in
     ended_does c.claimed.result c.claimed.ensures.end c.claimed.ensures.taken
     (λ attempt pointers. starts base _ disks c.claim_block.new.disks same (with_items_is c.args.base.now.disks c.claim_block.new.disks (omega arith))
-    (claim_does c.args.waiting.now attempt pointers old c.claim_block.new.disks (g.C.Chooser.sizes now) (g.C.Chooser.used now) (g.C.Chooser.live now) (g.C.Chooser.given now) c.in-Ok-Ok.tree
+    (claim_does g.met.C.Chooser.lawful_none c.args.waiting.now attempt pointers old c.claim_block.new.disks (g.C.Chooser.sizes now) (g.C.Chooser.used now) (g.C.Chooser.live now) (g.C.Chooser.given now) c.in-Ok-Ok.tree
     c.requires.kind.0 c.args.pointer.now c.requires.kind.1 can
     (λ images tell. (let h = c.in-Ok-Ok.ensures.told images tell in (sym c.in-Ok-Ok.field-0-is ∙ h.0, h.1)))
     (subst (λ (f : Result Tree Errno). Handles {A = Result Tree Errno} g.D.Disk.bytes g.D.Disk.faults g.D.Disk.faults_at_fetch g.D.Disk.home g.D.Disk.image g.D.Disk.sound g.D.Disk.went [] (Ok f) disks c.claim_block.new.disks)
@@ -43,7 +43,7 @@ returns-in-Ok-Ok-clause-breaks g c =
     memory_breaks_own c.args.waiting.now base _ c.claimed.result c.claimed.ensures.memory
     (λ device none. starts_breaks c.args.waiting.now base _ disks c.claim_block.new.disks same (with_items_is c.args.base.now.disks c.claim_block.new.disks (omega arith))
     (breaks_at [] c.args.waiting.now old (record old { disks = c.claim_block.new.disks; sizes = g.C.Chooser.sizes c.claim_block.new.chooser; used = g.C.Chooser.used c.claim_block.new.chooser; live = g.C.Chooser.live c.claim_block.new.chooser; given = g.C.Chooser.given c.claim_block.new.chooser }) device refl c.in-Ok-Ok.ensures.sizes refl (λ named fits. tt)
-    c.in-Ok-Ok.ensures.handled.same (λ d. absurd (none d)) c.in-Ok-Ok.ensures.handled.outside))
+    c.in-Ok-Ok.ensures.handled.same (λ d. absurd (none d)) (λ other. c.in-Ok-Ok.ensures.handled.steady) c.in-Ok-Ok.ensures.handled.outside))
 
 pub returns-in-Ok-Err-clause-done : goal.returns-in-Ok-Err-clause-done
 returns-in-Ok-Err-clause-done g c = λ attempt pointers.
@@ -57,7 +57,7 @@ returns-in-Ok-Err-clause-done g c = λ attempt pointers.
     subst (λ (f : Result Tree Errno). OnErr f (StayTaken old.used old.live (g.C.Chooser.used now) (g.C.Chooser.live now))) c.in-Ok-Err.field-0-is c.in-Ok-Err.ensures.refused in
     does_as c.nothing.ensures.end c.nothing.ensures.taken
     (starts base _ disks c.claim_block.new.disks same (with_items_is c.args.base.now.disks c.claim_block.new.disks (omega arith))
-    (refused_does c.args.waiting.now attempt pointers old c.claim_block.new.disks (g.C.Chooser.sizes now) (g.C.Chooser.used now) (g.C.Chooser.live now) (g.C.Chooser.given now) c.in-Ok-Err.error
+    (refused_does g.met.C.Chooser.lawful_none c.args.waiting.now attempt pointers old c.claim_block.new.disks (g.C.Chooser.sizes now) (g.C.Chooser.used now) (g.C.Chooser.live now) (g.C.Chooser.given now) c.in-Ok-Err.error
     c.requires.kind.0 c.args.pointer.now c.requires.kind.1 can
     (λ images tell. (let h = c.in-Ok-Err.ensures.told images tell in (sym c.in-Ok-Err.field-0-is ∙ h.0, h.1)))
     (subst (λ (f : Result Tree Errno). Handles {A = Result Tree Errno} g.D.Disk.bytes g.D.Disk.faults g.D.Disk.faults_at_fetch g.D.Disk.home g.D.Disk.image g.D.Disk.sound g.D.Disk.went [] (Ok f) disks c.claim_block.new.disks)
@@ -72,4 +72,5 @@ returns-in-Err-clause-breaks g c =
     let old = record base { disks = disks } in
     starts_breaks c.args.waiting.now base _ disks c.claim_block.new.disks same (with_items_is c.args.base.now.disks c.claim_block.new.disks (omega arith))
     (breaks_at [] c.args.waiting.now old (record old { disks = c.claim_block.new.disks; sizes = g.C.Chooser.sizes c.claim_block.new.chooser; used = g.C.Chooser.used c.claim_block.new.chooser; live = g.C.Chooser.live c.claim_block.new.chooser; given = g.C.Chooser.given c.claim_block.new.chooser }) _ refl c.in-Err.ensures.sizes refl (λ named fits. tt)
-    c.in-Err.ensures.handled.same (stopped_rose c.in-Err.stop c.stopped.result c.stopped.ensures c.in-Err.ensures.handled) c.in-Err.ensures.handled.outside)
+    c.in-Err.ensures.handled.same (stopped_rose c.in-Err.stop c.stopped.result c.stopped.ensures c.in-Err.ensures.handled)
+    (stopped_calm c.in-Err.stop c.stopped.result c.stopped.ensures c.in-Err.ensures.handled) c.in-Err.ensures.handled.outside)

@@ -338,14 +338,14 @@ returns-in_err-finished-clause-calm g c =
     let m = g.D.Disk in
     let k = g.C.Chooser in
     let p : SeenPlain _ _ = c.args.self.now in
-    let steady : SteadyPlain m.bytes m.faults m.faults_at_fetch m.home m.image m.sound k.sizes k.used k.live k.given p = subst (SteadyPlain m.bytes m.faults m.faults_at_fetch m.home m.image m.sound k.sizes k.used k.live k.given) c.self.view_is (c.self.invariant (ap (λ (q : SeenPlain _ _). q.stopped) c.self.view_is ∙ c.requires.runs)) in
-    let begins : HasBegun m.bytes m.faults m.faults_at_fetch m.home m.image m.sound k.sizes k.used k.live k.given p c.args.job.round c.args.job.point c.begin_round.new.ground = record {
+    let steady : SteadyPlain m.bytes m.faults m.faults_at_fetch m.home m.image m.sound k.lawful k.sizes k.used k.live k.given p = subst (SteadyPlain m.bytes m.faults m.faults_at_fetch m.home m.image m.sound k.lawful k.sizes k.used k.live k.given) c.self.view_is (c.self.invariant (ap (λ (q : SeenPlain _ _). q.stopped) c.self.view_is ∙ c.requires.runs)) in
+    let begins : HasBegun m.bytes m.faults m.faults_at_fetch m.home m.image m.sound k.lawful k.sizes k.used k.live k.given p c.args.job.round c.args.job.point c.begin_round.new.ground = record {
       setting = c.begin_round.ensures.setting ∙ ap (λ (q : SeenPlain _ _). record { tops = q.setting.tops; rows = q.setting.rows; point = c.args.job.point }) c.self.view_is;
       round = c.begin_round.ensures.round;
       disks = ap (λ v. v.items) c.begin_round.ensures.disks ∙ ap (λ (q : SeenPlain _ _). q.disks) c.self.view_is;
       chooser = c.begin_round.ensures.chooser ∙ ap (λ (q : SeenPlain _ _). q.chooser) c.self.view_is;
     } in
-    let b = broke_from m.bytes m.faults m.faults_at_fetch m.home m.image m.sound k.sizes k.used k.live k.given p c.args.job.round c.args.job.point c.args.job.trees c.begin_round.new.ground (seen k.sizes k.used k.live k.given c.run_trees.new.works) _ begins c.in_err-finished.ensures.breaks in
+    let b = broke_from m.bytes m.faults m.faults_at_fetch m.home m.image m.sound k.lawful k.sizes k.used k.live k.given p c.args.job.round c.args.job.point c.args.job.trees c.begin_round.new.ground (seen k.sizes k.used k.live k.given c.run_trees.new.works) _ begins c.in_err-finished.ensures.breaks in
     λ is.
     (let q = err_from_is_err_and c.from_residual.result c.from_residual.ensures.1 in
     b.calm (λ e. memory_no_device (let f = q.1 in let r = q.2 in cc)))
@@ -355,8 +355,8 @@ returns-in_err-entries-clause-calm g c =
     let m = g.D.Disk in
     let k = g.C.Chooser in
     let p : SeenPlain _ _ = c.args.self.now in
-    let steady : SteadyPlain m.bytes m.faults m.faults_at_fetch m.home m.image m.sound k.sizes k.used k.live k.given p = subst (SteadyPlain m.bytes m.faults m.faults_at_fetch m.home m.image m.sound k.sizes k.used k.live k.given) c.self.view_is (c.self.invariant (ap (λ (q : SeenPlain _ _). q.stopped) c.self.view_is ∙ c.requires.runs)) in
-    let begins : HasBegun m.bytes m.faults m.faults_at_fetch m.home m.image m.sound k.sizes k.used k.live k.given p c.args.job.round c.args.job.point c.begin_round.new.ground = record {
+    let steady : SteadyPlain m.bytes m.faults m.faults_at_fetch m.home m.image m.sound k.lawful k.sizes k.used k.live k.given p = subst (SteadyPlain m.bytes m.faults m.faults_at_fetch m.home m.image m.sound k.lawful k.sizes k.used k.live k.given) c.self.view_is (c.self.invariant (ap (λ (q : SeenPlain _ _). q.stopped) c.self.view_is ∙ c.requires.runs)) in
+    let begins : HasBegun m.bytes m.faults m.faults_at_fetch m.home m.image m.sound k.lawful k.sizes k.used k.live k.given p c.args.job.round c.args.job.point c.begin_round.new.ground = record {
       setting = c.begin_round.ensures.setting ∙ ap (λ (q : SeenPlain _ _). record { tops = q.setting.tops; rows = q.setting.rows; point = c.args.job.point }) c.self.view_is;
       round = c.begin_round.ensures.round;
       disks = ap (λ v. v.items) c.begin_round.ensures.disks ∙ ap (λ (q : SeenPlain _ _). q.disks) c.self.view_is;
@@ -365,5 +365,5 @@ returns-in_err-entries-clause-calm g c =
     let runs : AreRunnable (standing_of m.faults k.live p) c.args.job.trees = runnable (standing_of m.faults k.live p) c.args.job.trees c.requires.trees in
     let r = c.in_ok-finished.ensures.run in
     let e = c.in_ok-finished.field-0 in
-    let h = has_run m.bytes m.faults m.faults_at_fetch m.home m.image m.sound k.sizes k.used k.live k.given p c.args.job.round c.args.job.point c.args.job.trees e.left e.finished e.completions e.freed c.args.job.failmode c.begin_round.new.ground c.run_trees.new.works _ _ _ _ steady begins runs r in
+    let h = has_run m.bytes m.faults m.faults_at_fetch m.home m.image m.sound k.lawful k.sizes k.used k.live k.given g.met.C.Chooser.lawful_none p c.args.job.round c.args.job.point c.args.job.trees e.left e.finished e.completions e.freed c.args.job.failmode c.begin_round.new.ground c.run_trees.new.works _ _ _ _ steady begins runs r in
     λ is. h.moved.steady

@@ -1,0 +1,9 @@
+pub mod AlikeCasesProofs
+pub mod CopyLemmas
+pub mod DisciplineLemmas
+pub mod FaultLemmas
+pub mod FoundLemmas
+pub mod GivenCasesProofs
+pub mod HealedCasesProofs
+pub mod StoreCasesProofs
+pub mod WrittenLemmas

@@ -1,0 +1,10 @@
+pub mod Alike
+pub mod AlikeCases
+pub mod Copies
+pub mod Discipline
+pub mod Given
+pub mod GivenCases
+pub mod Healed
+pub mod HealedCases
+pub mod PlainStore
+pub mod StoreCases

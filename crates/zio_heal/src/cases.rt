@@ -1,0 +1,72 @@
+ghost use Rattle.zio_heal.specs.AlikeCases.{BytesForError, BytesOfARead, EqualIsAlike, ErrorForBytes, EveryByteCounts, LengthCounts, NextPointerCounts, NoByteMore, OtherBytes, OtherError, OtherNumber, OtherSize, PointersMayDiffer, SameError, SizeOfAWrite};
+ghost use Rattle.zio_heal.specs.GivenCases.{AllPlacesCount, BytesOfNobodyArent, ErrorsAreTrue, GivenBytesAreTrue, HeadersAreCompared, LastReadsCount, LastWriteCounts, NobodyReadIt, NothingWasGiven, OtherBytesArent, RunAcceptsWhatWasGiven};
+ghost use Rattle.zio_heal.specs.HealedCases.{ClaimsMayFail, ClearIsNotLast, NoClearAtAll, NoRowsHeal, NoSumNoDamage, OneClearTooFew, OthersGoOn, PanicsEnd, ReadMayFail, ReadsMayBeTurned, TurnedByAnyStay, TurnedWritesStay, TwoClearsHeal, WriteHeals};
+ghost use Rattle.zio_heal.specs.StoreCases.{ChildrenMakeAFront, FaultsChangeNothing, FreedNameIsGone, FreedNameIsWritten, MissingComesFirst, NamesAtTheEnd, PaddedToASector, ReadersShareAName, TakenNameStays, TreeFailsWhole, TreesFailAlone, WholeSectorsStay};
+
+/// A script heals where no request may fail and all rows are past at its last line, which is a clear.
+pub fn scripts_heal_once_faults_are_past()
+    ensures write_heals { WriteHeals }
+    ensures reads_may_be_turned { ReadsMayBeTurned }
+    ensures two_clears_heal { TwoClearsHeal }
+    ensures no_rows_heal { NoRowsHeal }
+    ensures turned_writes_stay { TurnedWritesStay }
+    ensures turned_by_any_stay { TurnedByAnyStay }
+    ensures one_clear_too_few { OneClearTooFew }
+    ensures clear_is_not_last { ClearIsNotLast }
+    ensures no_clear_at_all { NoClearAtAll }
+    ensures claims_may_fail { ClaimsMayFail }
+    ensures read_may_fail { ReadMayFail }
+    ensures no_sum_no_damage { NoSumNoDamage }
+    ensures others_go_on { OthersGoOn }
+    ensures panics_end { PanicsEnd }
+{}
+
+/// A plain store answers batch after batch: whole trees fail by admission, and everything else is done.
+pub fn plain_stores_answer_in_order()
+    ensures padded_to_a_sector { PaddedToASector }
+    ensures whole_sectors_stay { WholeSectorsStay }
+    ensures readers_share_a_name { ReadersShareAName }
+    ensures freed_name_is_gone { FreedNameIsGone }
+    ensures freed_name_is_written { FreedNameIsWritten }
+    ensures taken_name_stays { TakenNameStays }
+    ensures names_at_the_end { NamesAtTheEnd }
+    ensures tree_fails_whole { TreeFailsWhole }
+    ensures missing_comes_first { MissingComesFirst }
+    ensures trees_fail_alone { TreesFailAlone }
+    ensures children_make_a_front { ChildrenMakeAFront }
+    ensures faults_change_nothing { FaultsChangeNothing }
+{}
+
+/// Contents are alike behind their children's pointers, and replies by their errors, sizes and contents.
+pub fn replies_are_alike_behind_pointers()
+    ensures pointers_may_differ { PointersMayDiffer }
+    ensures no_byte_more { NoByteMore }
+    ensures next_pointer_counts { NextPointerCounts }
+    ensures every_byte_counts { EveryByteCounts }
+    ensures equal_is_alike { EqualIsAlike }
+    ensures length_counts { LengthCounts }
+    ensures size_of_a_write { SizeOfAWrite }
+    ensures other_size { OtherSize }
+    ensures bytes_of_a_read { BytesOfARead }
+    ensures other_bytes { OtherBytes }
+    ensures same_error { SameError }
+    ensures other_error { OtherError }
+    ensures error_for_bytes { ErrorForBytes }
+    ensures bytes_for_error { BytesForError }
+    ensures other_number { OtherNumber }
+{}
+
+/// A read of copies is compared with the last write at the same places, in a run and after it.
+pub fn accepted_copies_are_compared_with_their_writes()
+    ensures last_write_counts { LastWriteCounts }
+    ensures nothing_was_given { NothingWasGiven }
+    ensures all_places_count { AllPlacesCount }
+    ensures given_bytes_are_true { GivenBytesAreTrue }
+    ensures other_bytes_arent { OtherBytesArent }
+    ensures bytes_of_nobody_arent { BytesOfNobodyArent }
+    ensures errors_are_true { ErrorsAreTrue }
+    ensures headers_are_compared { HeadersAreCompared }
+    ensures run_accepts_what_was_given { RunAcceptsWhatWasGiven }
+    ensures nobody_read_it { NobodyReadIt }
+    ensures last_reads_count { LastReadsCount }
+{}

@@ -1,0 +1,67 @@
+ghost use Rattle.std.specs.Prelude.{◌≡◌, ℕ, Bool, Contains, IsOk, IsSome, List, None, false, length, true};
+ghost use Rattle.std.specs.List.{AllByRecursion};
+ghost use Rattle.zio_types.specs.declared.place.Place.{Place};
+ghost use Rattle.zio_types.specs.Choices.{Choice};
+ghost use Rattle.zio_script.specs.declared.script.Request.{Request};
+ghost use Rattle.zio_cksum.specs.Blocks.{read_block, read_pass, write_piece};
+ghost use Rattle.zio_cksum.specs.Frames.{FitSpots, HaveRoom, SameOutside, spots_of};
+ghost use Rattle.zio_cksum.specs.Images.{Images, Setting, Spot};
+ghost use Rattle.zio_gang.specs.Attempts.{Pending, Terms, attempt_tree};
+ghost use Rattle.zio_gang.specs.Rounds.{Bound, pending_trees, settle_each};
+ghost use Rattle.zio_trace.specs.Readers.{CopiesApart};
+ghost use Rattle.zio_heal.specs.Copies.{AreElsewhere, HasCopy, IsPastFaults, StoresAsGiven, spots_in};
+ghost use Rattle.zio_heal.specs.Discipline.{AreUnfailing, EndWithoutError, IsUnfailing, MayNotFail};
+ghost use Rattle.zio_heal.specs.Healed.{IsHealedRequest};
+
+/// Where no request may fail, whatever ends by being run ends without an error, in one attempt and in a round, and what
+/// is left keeps no child with an error. So it is from a batch's first round on.
+pub fn requests_that_may_not_fail_end_without_error()
+    ensures healed { (r : Request) → IsHealedRequest r → MayNotFail r }
+    ensures begin { (bound : Bound) (birth : ℕ) (trees : List (List Request)) →
+        AllByRecursion (AllByRecursion MayNotFail) trees → AreUnfailing (pending_trees bound birth trees) }
+    ensures attempts { (journal : List Choice) (t : Terms) (attempt : ℕ) (tree : List Pending) (images : Images) →
+        AllByRecursion IsUnfailing tree →
+        let done = attempt_tree journal t attempt tree images in
+        EndWithoutError done.ended × AllByRecursion IsUnfailing done.again }
+    ensures rounds { (journal : List Choice) (t : Terms) (trees : List (List Pending)) (images : Images) →
+        AreUnfailing trees →
+        let ran = settle_each journal t trees images in
+        EndWithoutError ran.ended × AreUnfailing ran.left }
+{}
+
+/// A copy stays where the images change outside its spots, as they do by reads and writes of other places.
+pub fn copies_stay_while_others_change()
+    ensures outside { (spots others : List Spot) (bytes : List ℕ) (old new : Images) →
+        HaveRoom (length bytes) spots → AreElsewhere spots others → SameOutside others old new →
+        HasCopy spots bytes old → HasCopy spots bytes new }
+    ensures reads { (s : Setting) (repair : Bool) (good : List ℕ → Bool) (len : ℕ) (places : List Place) (spots : List Spot)
+        (bytes : List ℕ) (images : Images) →
+        FitSpots (spots_of s places) images → HaveRoom (length bytes) spots → AreElsewhere spots (spots_of s places) →
+        HasCopy spots bytes images → HasCopy spots bytes (read_block s repair good images len places).images }
+    ensures writes { (s : Setting) (given : List ℕ) (places : List Place) (spots : List Spot) (bytes : List ℕ)
+        (images : Images) →
+        FitSpots (spots_of s places) images → HaveRoom (length bytes) spots → AreElsewhere spots (spots_of s places) →
+        HasCopy spots bytes images → HasCopy spots bytes (write_piece s given places images).images }
+{}
+
+/// Where no row turns what is stored, a piece that was written without error has a copy in each of its places, and so one
+/// among all of them.
+pub fn pieces_written_have_a_copy_in_each_place()
+    ensures each { (s : Setting) (bytes : List ℕ) (places : List Place) (images : Images) →
+        StoresAsGiven s → FitSpots (spots_of s places) images → HaveRoom (length bytes) (spots_of s places) →
+        CopiesApart (spots_of s places) → (write_piece s bytes places images).error ≡ None →
+        AllByRecursion (λ (p : Place). HasCopy (spots_in s p) bytes (write_piece s bytes places images).images) places }
+    ensures any { (s : Setting) (bytes : List ℕ) (places : List Place) (p : Place) (images : Images) →
+        Contains places p → HasCopy (spots_in s p) bytes images → HasCopy (spots_of s places) bytes images }
+{}
+
+/// With no row that is met any more, a read of places that have a copy with good bytes is good in its first pass.
+pub fn copies_are_found_once_faults_are_past()
+    ensures first { (s : Setting) (good : List ℕ → Bool) (images : Images) (bytes : List ℕ) (places : List Place) →
+        IsPastFaults s → HasCopy (spots_of s places) bytes images → good bytes ≡ true →
+        IsSome (read_pass s false good images (length bytes) places).found }
+    ensures read { (s : Setting) (repair : Bool) (good : List ℕ → Bool) (images : Images) (bytes : List ℕ)
+        (places : List Place) →
+        IsPastFaults s → HasCopy (spots_of s places) bytes images → good bytes ≡ true →
+        IsOk (read_block s repair good images (length bytes) places).found }
+{}

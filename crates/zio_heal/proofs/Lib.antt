@@ -5,5 +5,7 @@ pub mod FaultLemmas
 pub mod FoundLemmas
 pub mod GivenCasesProofs
 pub mod HealedCasesProofs
+pub mod RepairLemmas
+pub mod SparedLemmas
 pub mod StoreCasesProofs
 pub mod WrittenLemmas

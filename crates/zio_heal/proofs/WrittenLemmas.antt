@@ -59,7 +59,7 @@ both_none (Some e) (Some f) h = absurd (one_of (nat_lt (rank (Some e)) (rank (So
 -- ---- one write to a leaf
 
 -- these bytes are at the front of the spot
-abbrev IsAt : List ℕ → Spot → Images → Type 0
+abbrev pub IsAt : List ℕ → Spot → Images → Type 0
 IsAt bytes t images = bytes_at images t (length bytes) ≡ bytes
 
 fails : (kind : FaultKind) (hit : Hit) (images : Images) (t : Spot) (vs : List ℕ) → is_flip kind ≡ false → (faulty_write kind hit images t vs).error ≡ None → ⊥
@@ -99,7 +99,7 @@ stored_there images t (b ∷ bs) room fit =
     (cases_lt t.leaf (length images))
 
 -- What holds of the spots of a write: the rows store as given, the bytes have room, and the spots are apart.
-record IsGround (s : Setting) (bytes : List ℕ) (all : List Spot) : Type 0 where
+pub record IsGround (s : Setting) (bytes : List ℕ) (all : List Spot) : Type 0 where
   pub given : StoresAsGiven s
   pub room : HaveRoom (length bytes) all
   pub apart : CopiesApart all
@@ -125,7 +125,7 @@ leaf_again s bytes all retry images t g fit c at =
     (met_either (met s retry true t) images t vs (stores_quiet s retry t g.given))
 
 -- and so does one to another of the spots
-leaf_keeps : (s : Setting) (bytes : List ℕ) (all : List Spot) (retry : Bool) (images : Images) (t u : Spot) → IsGround s bytes all → FitSpots all images → Contains all t → Contains all u → IsAt bytes t images → IsAt bytes t (write_leaf s retry bytes images u).images
+pub leaf_keeps : (s : Setting) (bytes : List ℕ) (all : List Spot) (retry : Bool) (images : Images) (t u : Spot) → IsGround s bytes all → FitSpots all images → Contains all t → Contains all u → IsAt bytes t images → IsAt bytes t (write_leaf s retry bytes images u).images
 leaf_keeps s bytes all retry images t u g fit ct cu at =
     ⊎_elim
     (λ (e : t ≡ u). subst (λ (v : Spot). IsAt bytes t (write_leaf s retry bytes images v).images) e (leaf_again s bytes all retry images t g fit ct at))
@@ -136,7 +136,7 @@ leaf_keeps s bytes all retry images t u g fit ct cu at =
     ∙ at)
     (g.apart t u ct cu)
 
-leaf_fits : (s : Setting) (bytes : List ℕ) (all : List Spot) (retry : Bool) (images : Images) (u : Spot) → FitSpots all images → Contains all u → FitSpots all (write_leaf s retry bytes images u).images
+pub leaf_fits : (s : Setting) (bytes : List ℕ) (all : List Spot) (retry : Bool) (images : Images) (u : Spot) → FitSpots all images → Contains all u → FitSpots all (write_leaf s retry bytes images u).images
 leaf_fits s bytes all retry images u fit cu =
     fit_same all all images (write_leaf s retry bytes images u).images (write_same all s retry bytes images u fit cu) fit
 

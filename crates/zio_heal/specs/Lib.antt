@@ -7,4 +7,5 @@ pub mod GivenCases
 pub mod Healed
 pub mod HealedCases
 pub mod PlainStore
+pub mod Spared
 pub mod StoreCases

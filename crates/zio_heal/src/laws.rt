@@ -1,4 +1,4 @@
-ghost use Rattle.std.specs.Prelude.{◌≡◌, ℕ, Bool, Contains, IsOk, IsSome, List, None, false, length, true};
+ghost use Rattle.std.specs.Prelude.{◌≡◌, ℕ, Bool, Contains, IfOk, IsOk, IsSome, List, None, false, length, true};
 ghost use Rattle.std.specs.List.{AllByRecursion};
 ghost use Rattle.zio_types.specs.declared.place.Place.{Place};
 ghost use Rattle.zio_types.specs.Choices.{Choice};
@@ -8,10 +8,15 @@ ghost use Rattle.zio_cksum.specs.Frames.{FitSpots, HaveRoom, SameOutside, spots_
 ghost use Rattle.zio_cksum.specs.Images.{Images, Setting, Spot};
 ghost use Rattle.zio_gang.specs.Attempts.{Pending, Terms, attempt_tree};
 ghost use Rattle.zio_gang.specs.Rounds.{Bound, pending_trees, settle_each};
+ghost use Rattle.zio_trace.specs.Leaves.{HaveSizes};
+ghost use Rattle.zio_trace.specs.Programs.{Deed, Happen};
 ghost use Rattle.zio_trace.specs.Readers.{CopiesApart};
+ghost use Rattle.zio_trace.specs.RoundTraces.{Trace};
+ghost use Rattle.zio_trace.specs.Tasks.{Task, Value, means};
 ghost use Rattle.zio_heal.specs.Copies.{AreElsewhere, HasCopy, IsPastFaults, StoresAsGiven, spots_in};
 ghost use Rattle.zio_heal.specs.Discipline.{AreUnfailing, EndWithoutError, IsUnfailing, MayNotFail};
 ghost use Rattle.zio_heal.specs.Healed.{IsHealedRequest};
+ghost use Rattle.zio_heal.specs.Spared.{SparesBy};
 
 /// Where no request may fail, whatever ends by being run ends without an error, in one attempt and in a round, and what
 /// is left keeps no child with an error. So it is from a batch's first round on.
@@ -34,14 +39,32 @@ pub fn copies_stay_while_others_change()
     ensures outside { (spots others : List Spot) (bytes : List ℕ) (old new : Images) →
         HaveRoom (length bytes) spots → AreElsewhere spots others → SameOutside others old new →
         HasCopy spots bytes old → HasCopy spots bytes new }
-    ensures reads { (s : Setting) (repair : Bool) (good : List ℕ → Bool) (len : ℕ) (places : List Place) (spots : List Spot)
-        (bytes : List ℕ) (images : Images) →
+    ensures reads { (s : Setting) (repair : Bool) (good : List ℕ → Bool) (len : ℕ) (places : List Place)
+        (spots : List Spot) (bytes : List ℕ) (images : Images) →
         FitSpots (spots_of s places) images → HaveRoom (length bytes) spots → AreElsewhere spots (spots_of s places) →
         HasCopy spots bytes images → HasCopy spots bytes (read_block s repair good images len places).images }
     ensures writes { (s : Setting) (given : List ℕ) (places : List Place) (spots : List Spot) (bytes : List ℕ)
         (images : Images) →
         FitSpots (spots_of s places) images → HaveRoom (length bytes) spots → AreElsewhere spots (spots_of s places) →
         HasCopy spots bytes images → HasCopy spots bytes (write_piece s given places images).images }
+{}
+
+/// Where no row turns what is stored, a copy lasts through reads of itself that give its bytes or an error, and so through
+/// every trace at pieces whose operations spare it.
+pub fn copies_last_where_they_are_spared()
+    ensures same { (s : Setting) (repair : Bool) (good : List ℕ → Bool) (len : ℕ) (places : List Place) (bytes : List ℕ)
+        (images : Images) →
+        StoresAsGiven s → FitSpots (spots_of s places) images → HaveRoom (length bytes) (spots_of s places) →
+        CopiesApart (spots_of s places) →
+        IfOk (read_block s repair good images len places).found (λ (given : List ℕ). given ≡ bytes) →
+        HasCopy (spots_of s places) bytes images →
+        HasCopy (spots_of s places) bytes (read_block s repair good images len places).images }
+    ensures traces { (journal : List Choice) (t : Terms) (sizes : ℕ → ℕ) (spots : List Spot) (bytes : List ℕ) (ds : Trace)
+        (before after : Images) →
+        StoresAsGiven t.setting → HaveSizes sizes before → HaveRoom (length bytes) spots → CopiesApart spots →
+        AllByRecursion (λ (d : Deed Task Value). SparesBy sizes t.setting spots bytes d.op d.answer) ds →
+        Happen (means journal t) ds before after →
+        HasCopy spots bytes before → HaveSizes sizes after × HasCopy spots bytes after }
 {}
 
 /// Where no row turns what is stored, a piece that was written without error has a copy in each of its places, and so one

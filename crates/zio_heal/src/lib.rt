@@ -15,6 +15,7 @@ pub use cases::{
     replies_are_alike_behind_pointers, scripts_heal_once_faults_are_past,
 };
 pub use laws::{
-    copies_are_found_once_faults_are_past, copies_stay_while_others_change,
-    pieces_written_have_a_copy_in_each_place, requests_that_may_not_fail_end_without_error,
+    copies_are_found_once_faults_are_past, copies_last_where_they_are_spared,
+    copies_stay_while_others_change, pieces_written_have_a_copy_in_each_place,
+    requests_that_may_not_fail_end_without_error,
 };

@@ -1,11 +1,15 @@
 pub mod AlikeCasesProofs
+pub mod CopyCasesProofs
 pub mod CopyLemmas
+pub mod DisciplineCasesProofs
 pub mod DisciplineLemmas
 pub mod FaultLemmas
 pub mod FoundLemmas
 pub mod GivenCasesProofs
 pub mod HealedCasesProofs
 pub mod RepairLemmas
+pub mod RunLemmas
 pub mod SparedLemmas
 pub mod StoreCasesProofs
+pub mod StoredCasesProofs
 pub mod WrittenLemmas

@@ -1,5 +1,5 @@
--- When a request is answered as in the plain store. The front of a block that has write children tells places, and isn't
--- compared.
+-- When a request is answered as in the plain store. The front of a block that has write children tells places, and
+-- isn't compared.
 use Rattle.std.specs.Prelude.{◌≡◌, ℕ, List, length, drop, Option, Some, None}
 use Rattle.zio_types.specs.declared.error.Errno.{Errno}
 use Rattle.zio_gang.specs.Attempts.{Ended}

@@ -15,7 +15,8 @@ use Rattle.zio_heal.specs.StoreCases.{asked, asked_under, failed, gave, letters,
 
 -- a write with one write child, and what it stores beside a pointer of sevens
 abbrev pub parent_batch : List Request
-parent_batch = asked 1 (writes (codes "p") (Hex (codes "pp"))) ∷ asked_under 1 2 (writes (codes "c") (Hex (codes "cc"))) ∷ []
+parent_batch =
+    asked 1 (writes (codes "p") (Hex (codes "pp"))) ∷ asked_under 1 2 (writes (codes "c") (Hex (codes "cc"))) ∷ []
 
 abbrev pub parent_content : Content
 parent_content = content_in parent_batch (asked 1 (writes (codes "p") (Hex (codes "pp")))) (Hex (codes "pp"))
@@ -50,7 +51,12 @@ LengthCounts = IsAlikeTo child_content (letters (codes "cc") ++ replicate 512 0)
 
 -- a write that made a block of 512 bytes, a read that got two letters, and a read that failed
 abbrev pub write_ended : Ended
-write_ended = record { request = asked 1 (writes (codes "x") (Hex (codes "ab"))); error = None; bytes = []; tree = Some block_of_x }
+write_ended = record {
+  request = asked 1 (writes (codes "x") (Hex (codes "ab")));
+  error = None;
+  bytes = [];
+  tree = Some block_of_x;
+}
 
 abbrev pub read_ended : Ended
 read_ended = record { request = asked 2 (reads (codes "x")); error = None; bytes = letters (codes "ab"); tree = None }

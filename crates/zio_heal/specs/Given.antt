@@ -1,5 +1,5 @@
--- That each copy which a run accepts holds the bytes that its block's write gave for that place. A sum is of 32 bytes, so
--- other bytes might have it too; a run in which that never happened meets this.
+-- That each copy which a run accepts holds the bytes that its block's write gave for that place. A sum is of 32 bytes,
+-- so other bytes might have it too; a run in which that never happened meets this.
 use Rattle.std.specs.Prelude.{◌≡◌, ℕ, List, [], ◌∷◌, ◌++◌, map, if◌then◌else◌, Option, Some, None, Result, Ok, Err}
 use Rattle.std.specs.Cmp.Lexicographic.{pointwise}
 use Rattle.std.specs.List.{flat_map}
@@ -65,7 +65,8 @@ AreTrueReads before (d ∷ ds) = IsTrueRead before d.op.task d.answer × AreTrue
 -- a read of each bound block over the last images, as it goes at the last resume point
 abbrev pub reads_at : List Choice → Terms → State → Deeds
 reads_at journal t st =
-    flat_map (λ (b : Binding). map (in_round t) (task_trace is_single_or_piece journal t (ReadTree b.tree) st.images)) st.bound
+    flat_map (λ (b : Binding). map (in_round t) (task_trace is_single_or_piece journal t (ReadTree b.tree) st.images))
+    st.bound
 
 -- the reads of all blocks that are bound in the end
 abbrev pub last_reads : Script → Images → List Choice → Deeds

@@ -22,14 +22,16 @@ use Rattle.zio_heal.specs.HealedCases.{faulty, writes_x}
 
 -- a write at these places, and what it came to
 abbrev pub wrote_at : List Place → ℕ → Deeds → Deeds
-wrote_at places byte ds = in_round mirror_of_two (record { op = WriteCopies (replicate 512 byte) places; answer = Wrote None }) ∷ ds
+wrote_at places byte ds =
+    in_round mirror_of_two (record { op = WriteCopies (replicate 512 byte) places; answer = Wrote None }) ∷ ds
 
 abbrev pub other_place : Place
 other_place = record { top = 0; sector = 0; sectors = 1 }
 
 abbrev pub LastWriteCounts : Type 0
 LastWriteCounts =
-    given_in (wrote_at (place_of_x ∷ []) 65 (wrote_at (place_of_x ∷ []) 66 (wrote_at (other_place ∷ []) 67 []))) (place_of_x ∷ [])
+    given_in (wrote_at (place_of_x ∷ []) 65 (wrote_at (place_of_x ∷ []) 66 (wrote_at (other_place ∷ []) 67 [])))
+    (place_of_x ∷ [])
     ≡ Some (replicate 512 66)
 
 abbrev pub NothingWasGiven : Type 0
@@ -40,7 +42,8 @@ abbrev pub AllPlacesCount : Type 0
 AllPlacesCount =
     (given_in (wrote_at (place_of_x ∷ other_place ∷ []) 65 []) (place_of_x ∷ []) ≡ None)
     × (given_in (wrote_at (place_of_x ∷ other_place ∷ []) 65 []) (other_place ∷ place_of_x ∷ []) ≡ None)
-    × (given_in (wrote_at (place_of_x ∷ other_place ∷ []) 65 []) (place_of_x ∷ other_place ∷ []) ≡ Some (replicate 512 65))
+    × (given_in (wrote_at (place_of_x ∷ other_place ∷ []) 65 []) (place_of_x ∷ other_place ∷ [])
+    ≡ Some (replicate 512 65))
 
 -- ---- reads
 
@@ -61,7 +64,9 @@ abbrev pub ErrorsAreTrue : Type 0
 ErrorsAreTrue = IsTrueRead [] reading_x (Got (Err Io))
 
 abbrev pub HeadersAreCompared : Type 0
-HeadersAreCompared = IsTrueRead [] (ReadCopies true (KeptAs (Some (replicate 512 65))) 512 (place_of_x ∷ [])) (Got (Ok (replicate 512 65)))
+HeadersAreCompared =
+    IsTrueRead [] (ReadCopies true (KeptAs (Some (replicate 512 65))) 512 (place_of_x ∷ []))
+    (Got (Ok (replicate 512 65)))
 
 -- ---- runs
 

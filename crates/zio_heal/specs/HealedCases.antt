@@ -26,7 +26,16 @@ reads_x = asks_for 2 (Read (codes "x") SyncRead)
 
 -- a row over a sector of leaf 0, which is met up to this resume point
 abbrev pub faulty : On → FaultKind → ℕ → Row
-faulty on kind until = record { leaf = 0; on = on; at = 0; len = 512; from = 0; until = until; kind = kind; first = false }
+faulty on kind until = record {
+  leaf = 0;
+  on = on;
+  at = 0;
+  len = 512;
+  from = 0;
+  until = until;
+  kind = kind;
+  first = false;
+}
 
 abbrev pub over_one_leaf : List Row → List Item → Script
 over_one_leaf rows items = record {
@@ -83,10 +92,12 @@ abbrev pub ClaimsMayFail : Type 0
 ClaimsMayFail = IsHealed (over_one_leaf [] (asks_for 1 (Claim (codes "x") (replicate 128 0)) ∷ Go ∷ [])) → ⊥
 
 -- a read that may fail, as a read that stands alone does without a flag
+abbrev pub read_that_may_fail : Item
+read_that_may_fail =
+    RequestLine (record { number = 1; work = Read (codes "x") SyncRead; under = None; canfail = true })
+
 abbrev pub ReadMayFail : Type 0
-ReadMayFail =
-    IsHealed (over_one_leaf [] (RequestLine (record { number = 1; work = Read (codes "x") SyncRead; under = None; canfail = true }) ∷ Go ∷ []))
-    → ⊥
+ReadMayFail = IsHealed (over_one_leaf [] (read_that_may_fail ∷ Go ∷ [])) → ⊥
 
 abbrev pub NoSumNoDamage : Type 0
 NoSumNoDamage = IsHealed (over_one_leaf [] (items_of Off)) → ⊥

@@ -1,7 +1,9 @@
 pub mod Alike
 pub mod AlikeCases
 pub mod Copies
+pub mod CopyCases
 pub mod Discipline
+pub mod DisciplineCases
 pub mod Given
 pub mod GivenCases
 pub mod Healed
@@ -9,3 +11,5 @@ pub mod HealedCases
 pub mod PlainStore
 pub mod Spared
 pub mod StoreCases
+pub mod StoredCases
+pub mod StoredPlainly

@@ -40,7 +40,7 @@ has_content store name = is_some (store name)
 
 -- ---- one request
 
--- what a write of this batch stores: zeros for the pointers of its write children, its data, and zeros up to whole sectors
+-- what a write of this batch stores: zeros for the pointers of its write children, its data, and zeros to whole sectors
 -- Rule: write content.
 abbrev pub content_in : List Request → Request → Body → Content
 content_in batch r body = record {
@@ -94,7 +94,8 @@ replies_of store batch =
 -- the store after a batch
 abbrev pub store_after : Store → List Request → Store
 store_after store batch =
-    fold (λ (now : Store) (tree : List Request). changed_unless (answer_of store tree) batch tree now) store (trees_of batch)
+    fold (λ (now : Store) (tree : List Request). changed_unless (answer_of store tree) batch tree now) store
+    (trees_of batch)
 
 -- ---- a script
 

@@ -1,5 +1,5 @@
--- Operations at pieces that spare a copy: reads and writes of other places, and reads of the copy itself that are answered
--- with its bytes.
+-- Operations at pieces that spare a copy: reads and writes of other places, and reads of the copy itself that are
+-- answered with its bytes.
 use Rattle.std.specs.Prelude.{◌≡◌, ◌≤◌, ◌⊎◌, ℕ, ◌+◌, List, IfOk}
 use Rattle.std.specs.List.{AllByRecursion}
 use Rattle.zio_cksum.specs.Frames.{spots_of}

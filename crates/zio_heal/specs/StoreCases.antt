@@ -41,7 +41,11 @@ done number = record { number = number; error = None; content = None }
 
 -- this content, whose front stands for so many bytes of pointers
 abbrev pub gave : ℕ → ℕ → List ℕ → Reply
-gave number front bytes = record { number = number; error = None; content = Some (record { front = front; bytes = bytes }) }
+gave number front bytes = record {
+  number = number;
+  error = None;
+  content = Some (record { front = front; bytes = bytes });
+}
 
 abbrev pub failed : ℕ → Errno → Reply
 failed number e = record { number = number; error = Some e; content = None }
@@ -116,7 +120,9 @@ abbrev pub MissingComesFirst : Type 0
 MissingComesFirst =
     replies_to (
     (writes_ab ∷ [])
-    ∷ (asked 2 Null ∷ asked_under 2 3 (writes (codes "x") (Hex (codes "cd"))) ∷ asked_under 2 4 (reads (codes "y")) ∷ []) ∷ [])
+    ∷ (asked 2 Null
+    ∷ asked_under 2 3 (writes (codes "x") (Hex (codes "cd")))
+    ∷ asked_under 2 4 (reads (codes "y")) ∷ []) ∷ [])
     ≡ gave 1 0 (letters (codes "ab")) ∷ failed 3 Noent ∷ failed 4 Noent ∷ failed 2 Noent ∷ []
 
 -- another tree of the batch isn't concerned
@@ -147,5 +153,7 @@ ChildrenMakeAFront =
 -- fault rows and clears change no reply
 abbrev pub FaultsChangeNothing : Type 0
 FaultsChangeNothing =
-    ((plain_store (with_row (faulty OnWrite Eio 1))).replies ≡ gave 1 0 (replicate 512 65) ∷ gave 2 0 (replicate 512 65) ∷ [])
-    × ((plain_store (over_one_leaf [] (items_of Sha256))).replies ≡ (plain_store (with_row (faulty OnWrite Eio 1))).replies)
+    ((plain_store (with_row (faulty OnWrite Eio 1))).replies
+    ≡ gave 1 0 (replicate 512 65) ∷ gave 2 0 (replicate 512 65) ∷ [])
+    × ((plain_store (over_one_leaf [] (items_of Sha256))).replies
+    ≡ gave 1 0 (replicate 512 65) ∷ gave 2 0 (replicate 512 65) ∷ [])

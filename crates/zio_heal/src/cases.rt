@@ -1,7 +1,10 @@
 ghost use Rattle.zio_heal.specs.AlikeCases.{BytesForError, BytesOfARead, EqualIsAlike, ErrorForBytes, EveryByteCounts, LengthCounts, NextPointerCounts, NoByteMore, OtherBytes, OtherError, OtherNumber, OtherSize, PointersMayDiffer, SameError, SizeOfAWrite};
+ghost use Rattle.zio_heal.specs.CopyCases.{FailedReadSpares, FailedWritesStoreNothing, NeighboursAreElsewhere, NoSpotNoCopy, OneByteMeets, OnesArent, OtherReadDoesnt, RowStillHolds, RowsArePast, SingleWriteDoesnt, SpaceActsSpare, TrueReadSpares, TurnedWritesStoreOthers, WriteElsewhereSpares, WriteOverItDoesnt, ZerosAreThere};
+ghost use Rattle.zio_heal.specs.DisciplineCases.{BadChildIsnt, ClaimMayFail, FlaggedReadMay, GoodChildIsKept, ReadMayNotFail};
 ghost use Rattle.zio_heal.specs.GivenCases.{AllPlacesCount, BytesOfNobodyArent, ErrorsAreTrue, GivenBytesAreTrue, HeadersAreCompared, LastReadsCount, LastWriteCounts, NobodyReadIt, NothingWasGiven, OtherBytesArent, RunAcceptsWhatWasGiven};
 ghost use Rattle.zio_heal.specs.HealedCases.{ClaimsMayFail, ClearIsNotLast, NoClearAtAll, NoRowsHeal, NoSumNoDamage, OneClearTooFew, OthersGoOn, PanicsEnd, ReadMayFail, ReadsMayBeTurned, TurnedByAnyStay, TurnedWritesStay, TwoClearsHeal, WriteHeals};
 ghost use Rattle.zio_heal.specs.StoreCases.{ChildrenMakeAFront, FaultsChangeNothing, FreedNameIsGone, FreedNameIsWritten, MissingComesFirst, NamesAtTheEnd, PaddedToASector, ReadersShareAName, TakenNameStays, TreeFailsWhole, TreesFailAlone, WholeSectorsStay};
+ghost use Rattle.zio_heal.specs.StoredCases.{FaultHeals, LastingFaultLeaves, SameWithoutFault};
 
 /// A script heals where no request may fail and all rows are past at its last line, which is a clear.
 pub fn scripts_heal_once_faults_are_past()
@@ -69,4 +72,40 @@ pub fn accepted_copies_are_compared_with_their_writes()
     ensures run_accepts_what_was_given { RunAcceptsWhatWasGiven }
     ensures nobody_read_it { NobodyReadIt }
     ensures last_reads_count { LastReadsCount }
+{}
+
+/// A copy is at a spot; what lies elsewhere spares it, and so does a read of it that gives its bytes.
+pub fn copies_are_spared_by_what_lies_elsewhere()
+    ensures zeros_are_there { ZerosAreThere }
+    ensures ones_arent { OnesArent }
+    ensures no_spot_no_copy { NoSpotNoCopy }
+    ensures neighbours_are_elsewhere { NeighboursAreElsewhere }
+    ensures one_byte_meets { OneByteMeets }
+    ensures failed_writes_store_nothing { FailedWritesStoreNothing }
+    ensures turned_writes_store_others { TurnedWritesStoreOthers }
+    ensures rows_are_past { RowsArePast }
+    ensures row_still_holds { RowStillHolds }
+    ensures write_elsewhere_spares { WriteElsewhereSpares }
+    ensures write_over_it_doesnt { WriteOverItDoesnt }
+    ensures true_read_spares { TrueReadSpares }
+    ensures failed_read_spares { FailedReadSpares }
+    ensures other_read_doesnt { OtherReadDoesnt }
+    ensures space_acts_spare { SpaceActsSpare }
+    ensures single_write_doesnt { SingleWriteDoesnt }
+{}
+
+/// A request may fail by its flag or by its kind, and keeps the errors of its children.
+pub fn flags_and_kinds_let_requests_fail()
+    ensures read_may_not_fail { ReadMayNotFail }
+    ensures flagged_read_may { FlaggedReadMay }
+    ensures claim_may_fail { ClaimMayFail }
+    ensures good_child_is_kept { GoodChildIsKept }
+    ensures bad_child_isnt { BadChildIsnt }
+{}
+
+/// A run whose fault heals stores as a plain store does, and so does one without the fault.
+pub fn runs_store_plainly()
+    ensures fault_heals { FaultHeals }
+    ensures same_without_fault { SameWithoutFault }
+    ensures lasting_fault_leaves { LastingFaultLeaves }
 {}

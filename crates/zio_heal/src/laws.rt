@@ -1,8 +1,10 @@
-ghost use Rattle.std.specs.Prelude.{◌≡◌, ℕ, Bool, Contains, IfOk, IsOk, IsSome, List, None, false, length, true};
+ghost use Rattle.std.specs.Prelude.{◌≡◌, ◌≤◌, ℕ, Bool, Contains, IfOk, IsOk, IsSome, List, None, count_by, false, length, true};
 ghost use Rattle.std.specs.List.{AllByRecursion};
 ghost use Rattle.zio_types.specs.declared.place.Place.{Place};
 ghost use Rattle.zio_types.specs.Choices.{Choice};
 ghost use Rattle.zio_script.specs.declared.script.Request.{Request};
+ghost use Rattle.zio_script.specs.declared.script.Script.{Script};
+ghost use Rattle.zio_script.specs.Whys.{is_clear};
 ghost use Rattle.zio_cksum.specs.Blocks.{read_block, read_pass, write_piece};
 ghost use Rattle.zio_cksum.specs.Frames.{FitSpots, HaveRoom, SameOutside, spots_of};
 ghost use Rattle.zio_cksum.specs.Images.{Images, Setting, Spot};
@@ -12,10 +14,11 @@ ghost use Rattle.zio_trace.specs.Leaves.{HaveSizes};
 ghost use Rattle.zio_trace.specs.Programs.{Deed, Happen};
 ghost use Rattle.zio_trace.specs.Readers.{CopiesApart};
 ghost use Rattle.zio_trace.specs.RoundTraces.{Trace};
+ghost use Rattle.zio_trace.specs.RunTraces.{RoundStart, starts_of};
 ghost use Rattle.zio_trace.specs.Tasks.{Task, Value, means};
 ghost use Rattle.zio_heal.specs.Copies.{AreElsewhere, HasCopy, IsPastFaults, StoresAsGiven, spots_in};
 ghost use Rattle.zio_heal.specs.Discipline.{AreUnfailing, EndWithoutError, IsUnfailing, MayNotFail};
-ghost use Rattle.zio_heal.specs.Healed.{IsHealedRequest};
+ghost use Rattle.zio_heal.specs.Healed.{IsHealed, IsHealedRequest};
 ghost use Rattle.zio_heal.specs.Spared.{SparesBy};
 
 /// Where no request may fail, whatever ends by being run ends without an error, in one attempt and in a round, and what
@@ -34,6 +37,20 @@ pub fn requests_that_may_not_fail_end_without_error()
         EndWithoutError ran.ended × AreUnfailing ran.left }
 {}
 
+/// In the run of a script that heals no round begins with a request that may fail, or with a child's error, so
+/// whatever ends by being run ends without one: errors come of admission alone. Its rows turn nothing that is stored,
+/// and none is met at a resume point that is as high as its clears are many.
+pub fn healed_scripts_keep_their_discipline()
+    ensures starts { (script : Script) (images : Images) (journal : List Choice) → IsHealed script →
+        AllByRecursion (λ (s : RoundStart). AreUnfailing s.trees) (starts_of script images journal) }
+    ensures ended { (script : Script) (images : Images) (journal : List Choice) → IsHealed script →
+        AllByRecursion (λ (s : RoundStart). EndWithoutError (settle_each journal s.terms s.trees s.images).ended)
+        (starts_of script images journal) }
+    ensures stores { (script : Script) (s : Setting) → IsHealed script → s.rows ≡ script.faults → StoresAsGiven s }
+    ensures past { (script : Script) (s : Setting) → IsHealed script → s.rows ≡ script.faults →
+        count_by is_clear script.items ≤ s.point → IsPastFaults s }
+{}
+
 /// A copy stays where the images change outside its spots, as they do by reads and writes of other places.
 pub fn copies_stay_while_others_change()
     ensures outside { (spots others : List Spot) (bytes : List ℕ) (old new : Images) →
@@ -49,8 +66,8 @@ pub fn copies_stay_while_others_change()
         HasCopy spots bytes images → HasCopy spots bytes (write_piece s given places images).images }
 {}
 
-/// Where no row turns what is stored, a copy lasts through reads of itself that give its bytes or an error, and so through
-/// every trace at pieces whose operations spare it.
+/// Where no row turns what is stored, a copy lasts through reads of itself that give its bytes or an error, and so
+/// through every trace at pieces whose operations spare it.
 pub fn copies_last_where_they_are_spared()
     ensures same { (s : Setting) (repair : Bool) (good : List ℕ → Bool) (len : ℕ) (places : List Place) (bytes : List ℕ)
         (images : Images) →
@@ -59,16 +76,16 @@ pub fn copies_last_where_they_are_spared()
         IfOk (read_block s repair good images len places).found (λ (given : List ℕ). given ≡ bytes) →
         HasCopy (spots_of s places) bytes images →
         HasCopy (spots_of s places) bytes (read_block s repair good images len places).images }
-    ensures traces { (journal : List Choice) (t : Terms) (sizes : ℕ → ℕ) (spots : List Spot) (bytes : List ℕ) (ds : Trace)
-        (before after : Images) →
+    ensures traces { (journal : List Choice) (t : Terms) (sizes : ℕ → ℕ) (spots : List Spot) (bytes : List ℕ)
+        (ds : Trace) (before after : Images) →
         StoresAsGiven t.setting → HaveSizes sizes before → HaveRoom (length bytes) spots → CopiesApart spots →
         AllByRecursion (λ (d : Deed Task Value). SparesBy sizes t.setting spots bytes d.op d.answer) ds →
         Happen (means journal t) ds before after →
         HasCopy spots bytes before → HaveSizes sizes after × HasCopy spots bytes after }
 {}
 
-/// Where no row turns what is stored, a piece that was written without error has a copy in each of its places, and so one
-/// among all of them.
+/// Where no row turns what is stored, a piece that was written without error has a copy in each of its places, and so
+/// one among all of them.
 pub fn pieces_written_have_a_copy_in_each_place()
     ensures each { (s : Setting) (bytes : List ℕ) (places : List Place) (images : Images) →
         StoresAsGiven s → FitSpots (spots_of s places) images → HaveRoom (length bytes) (spots_of s places) →

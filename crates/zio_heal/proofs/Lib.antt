@@ -12,4 +12,5 @@ pub mod RunLemmas
 pub mod SparedLemmas
 pub mod StoreCasesProofs
 pub mod StoredCasesProofs
+pub mod WholeLemmas
 pub mod WrittenLemmas

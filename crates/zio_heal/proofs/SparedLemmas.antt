@@ -1,12 +1,12 @@
 -- A copy lasts through operations that spare it.
-use Rattle.std.proofs.Common.{◌≡◌, ℕ, ◌+◌, ◌≤◌, List, [], ◌∷◌, length, Bool, Result, Ok, Err, IfOk, ◌⊎◌, ⊎_elim, refl, sym, ap, ◌∙◌, subst, arith}
+use Rattle.std.proofs.Common.{◌≡◌, ℕ, ◌+◌, ◌≤◌, List, [], ◌∷◌, length, Bool, Option, None, Result, Ok, Err, IfOk, ◌⊎◌, ⊎_elim, refl, sym, ap, ◌∙◌, subst, arith}
 use Rattle.std.specs.List.{AllByRecursion}
 use Rattle.zio_types.specs.declared.error.Errno.{Errno}
 use Rattle.zio_types.specs.declared.place.Place.{Place}
 use Rattle.zio_types.specs.Choices.{Choice}
 use Rattle.zio_cksum.specs.Blocks.{read_block, write_piece}
 use Rattle.zio_cksum.specs.Frames.{FitSpots, HaveRoom, SameOutside, spots_of}
-use Rattle.zio_cksum.specs.Images.{Images, Setting, Spot, image_of}
+use Rattle.zio_cksum.specs.Images.{Images, Setting, Spot, Written, image_of}
 use Rattle.zio_cksum.proofs.AllLemmas.{all_weaker}
 use Rattle.zio_cksum.proofs.ReadLemmas.{reads_law}
 use Rattle.zio_cksum.proofs.WriteLemmas.{writes_law}
@@ -15,11 +15,13 @@ use Rattle.zio_trace.specs.Leaves.{HaveSizes}
 use Rattle.zio_trace.specs.Programs.{Deed, Done, Happen}
 use Rattle.zio_trace.specs.Readers.{CopiesApart}
 use Rattle.zio_trace.specs.RoundTraces.{Trace}
-use Rattle.zio_trace.specs.Tasks.{Attempt, Find, Got, Leaf, ReadCopies, ReadHeads, ReadTree, Settle, TakePlaces, Task, Test, Value, WriteCopies, WritePart, good_by, got, means}
+use Rattle.zio_trace.specs.Tasks.{Attempt, Find, Got, Leaf, ReadCopies, ReadHeads, ReadTree, Settle, TakePlaces, Task, Test, Value, WriteCopies, WritePart, Wrote, good_by, got, means, wrote}
+use Rattle.zio_trace.proofs.ListLemmas.{contains_first}
 use Rattle.zio_heal.specs.Copies.{AreElsewhere, HasCopy, StoresAsGiven}
 use Rattle.zio_heal.specs.Spared.{IsTrueHere, LieOn, SparesBy}
 use Rattle.zio_heal.proofs.CopyLemmas.{reads_keep, writes_keep}
 use Rattle.zio_heal.proofs.RepairLemmas.{same_law}
+use Rattle.zio_heal.proofs.WrittenLemmas.{any_law, made_law}
 
 -- leaves of these sizes have a copy
 pub record StillThere (sizes : ℕ → ℕ) (spots : List Spot) (bytes : List ℕ) (images : Images) : Type 0 where
@@ -97,3 +99,19 @@ spared_law journal t sizes spots bytes ds before after given have room apart spa
     all_spare journal t sizes spots bytes ds before after (record { given = given; room = room; apart = apart }) spares happen
     (record { sizes_are = have; copy = copy }) in
     (there.sizes_are, there.copy)
+
+-- ---- from its write on
+
+-- a copy that a write left, where later operations spare it
+pub written_law : (journal : List Choice) (t : Terms) (sizes : ℕ → ℕ) (bytes : List ℕ) (p : Place) (ps : List Place) (rest : Trace) (before after : Images) → StoresAsGiven t.setting → HaveSizes sizes before → LieOn sizes (spots_of t.setting (p ∷ ps)) → HaveRoom (length bytes) (spots_of t.setting (p ∷ ps)) → CopiesApart (spots_of t.setting (p ∷ ps)) → Happen (means journal t) (record { op = WriteCopies bytes (p ∷ ps); answer = Wrote None } ∷ rest) before after → AllByRecursion (λ (d : Deed Task Value). SparesBy sizes t.setting (spots_of t.setting (p ∷ ps)) bytes d.op d.answer) rest → HasCopy (spots_of t.setting (p ∷ ps)) bytes after
+written_law journal t sizes bytes p ps rest before after given have lie room apart happen spares =
+    let s : Setting = t.setting in
+    let places : List Place = p ∷ ps in
+    let fit : FitSpots (spots_of s places) before = fits sizes (spots_of s places) before lie have in
+    let w : Written = write_piece s bytes places before in
+    let was : Wrote w.error ≡ Wrote None = happen.0 in
+    let none : w.error ≡ None = ap wrote was in
+    let made = made_law s bytes places before given fit room apart none in
+    let copy : HasCopy (spots_of s places) bytes w.images = any_law s bytes places p w.images (contains_first p ps) made.0 in
+    (spared_law journal t sizes (spots_of s places) bytes rest w.images after given
+    (sized sizes (spots_of s places) before w.images (writes_law s bytes places before fit) have) room apart spares happen.1 copy).1

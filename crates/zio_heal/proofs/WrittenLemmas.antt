@@ -50,7 +50,7 @@ one_of true e f h = cc
 one_of false e f h = cc
 
 -- where the worse of two is none, both are
-both_none : (a b : Option Errno) → worst_error a b ≡ None → (a ≡ None) × (b ≡ None)
+pub both_none : (a b : Option Errno) → worst_error a b ≡ None → (a ≡ None) × (b ≡ None)
 both_none None None h = (refl, refl)
 both_none None (Some e) h = absurd (let is : Some e ≡ None = sym (none_first e) ∙ h in cc)
 both_none (Some e) None h = absurd (let is : Some e ≡ None = sym (none_last e) ∙ h in cc)

@@ -13,3 +13,4 @@ pub mod Spared
 pub mod StoreCases
 pub mod StoredCases
 pub mod StoredPlainly
+pub mod Whole

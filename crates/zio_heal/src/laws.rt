@@ -1,25 +1,29 @@
-ghost use Rattle.std.specs.Prelude.{◌≡◌, ◌≤◌, ℕ, Bool, Contains, IfOk, IsOk, IsSome, List, None, count_by, false, length, true};
+ghost use Rattle.std.specs.Prelude.{◌≡◌, ◌≤◌, ◌∷◌, ℕ, Bool, Contains, IfOk, IsOk, IsSome, List, None, count_by, false, length, true};
 ghost use Rattle.std.specs.List.{AllByRecursion};
 ghost use Rattle.zio_types.specs.declared.place.Place.{Place};
 ghost use Rattle.zio_types.specs.Choices.{Choice};
+ghost use Rattle.zio_blkptr.specs.declared.pointer.SumKind.{SumKind};
 ghost use Rattle.zio_script.specs.declared.script.Request.{Request};
 ghost use Rattle.zio_script.specs.declared.script.Script.{Script};
 ghost use Rattle.zio_script.specs.Whys.{is_clear};
 ghost use Rattle.zio_cksum.specs.Blocks.{read_block, read_pass, write_piece};
 ghost use Rattle.zio_cksum.specs.Frames.{FitSpots, HaveRoom, SameOutside, spots_of};
 ghost use Rattle.zio_cksum.specs.Images.{Images, Setting, Spot};
-ghost use Rattle.zio_gang.specs.Attempts.{Pending, Terms, attempt_tree};
+ghost use Rattle.zio_gang.specs.Attempts.{Pending, Terms, attempt_tree, writing_of};
 ghost use Rattle.zio_gang.specs.Rounds.{Bound, pending_trees, settle_each};
+ghost use Rattle.zio_gang.specs.Writes.{place_part};
 ghost use Rattle.zio_trace.specs.Leaves.{HaveSizes};
-ghost use Rattle.zio_trace.specs.Programs.{Deed, Happen};
+ghost use Rattle.zio_trace.specs.Plans.{plan};
+ghost use Rattle.zio_trace.specs.Programs.{Deed, Happen, Made};
 ghost use Rattle.zio_trace.specs.Readers.{CopiesApart};
-ghost use Rattle.zio_trace.specs.RoundTraces.{Trace};
+ghost use Rattle.zio_trace.specs.RoundTraces.{Trace, task_trace};
 ghost use Rattle.zio_trace.specs.RunTraces.{RoundStart, starts_of};
-ghost use Rattle.zio_trace.specs.Tasks.{Task, Value, means};
+ghost use Rattle.zio_trace.specs.Tasks.{Task, Value, WriteCopies, WritePart, Wrote, means};
 ghost use Rattle.zio_heal.specs.Copies.{AreElsewhere, HasCopy, IsPastFaults, StoresAsGiven, spots_in};
 ghost use Rattle.zio_heal.specs.Discipline.{AreUnfailing, EndWithoutError, IsUnfailing, MayNotFail};
 ghost use Rattle.zio_heal.specs.Healed.{IsHealed, IsHealedRequest};
-ghost use Rattle.zio_heal.specs.Spared.{SparesBy};
+ghost use Rattle.zio_heal.specs.Spared.{LieOn, SparesBy};
+ghost use Rattle.zio_heal.specs.Whole.{AreWhole};
 
 /// Where no request may fail, whatever ends by being run ends without an error, in one attempt and in a round, and what
 /// is left keeps no child with an error. So it is from a batch's first round on.
@@ -93,6 +97,24 @@ pub fn pieces_written_have_a_copy_in_each_place()
         AllByRecursion (λ (p : Place). HasCopy (spots_in s p) bytes (write_piece s bytes places images).images) places }
     ensures any { (s : Setting) (bytes : List ℕ) (places : List Place) (p : Place) (images : Images) →
         Contains places p → HasCopy (spots_in s p) bytes images → HasCopy (spots_of s places) bytes images }
+{}
+
+/// What a write without error is made of has none either, down to the pieces of its block: its bodies and its headers are
+/// written without error. A copy that such a write left lasts, where the operations after it spare it.
+pub fn writes_without_error_are_whole()
+    ensures made { (t : Terms) (calls ds : Trace) → Made (plan t) calls ds → AreWhole calls → AreWhole ds }
+    ensures traces { (stops : Task → Bool) (journal : List Choice) (t : Terms) (attempt : ℕ) (p : Pending) (sum : SumKind)
+        (copies levels : ℕ) (path bytes : List ℕ) (images : Images) →
+        (place_part levels journal (writing_of t attempt p sum copies) path bytes images).error ≡ None →
+        AreWhole (task_trace stops journal t (WritePart attempt p sum copies levels path bytes) images) }
+    ensures last { (journal : List Choice) (t : Terms) (sizes : ℕ → ℕ) (bytes : List ℕ) (p : Place) (ps : List Place)
+        (rest : Trace) (before after : Images) →
+        let spots = spots_of t.setting (p ∷ ps) in
+        StoresAsGiven t.setting → HaveSizes sizes before → LieOn sizes spots → HaveRoom (length bytes) spots →
+        CopiesApart spots →
+        Happen (means journal t) (record { op = WriteCopies bytes (p ∷ ps); answer = Wrote None } ∷ rest) before after →
+        AllByRecursion (λ (d : Deed Task Value). SparesBy sizes t.setting spots bytes d.op d.answer) rest →
+        HasCopy spots bytes after }
 {}
 
 /// With no row that is met any more, a read of places that have a copy with good bytes is good in its first pass.

@@ -1,8 +1,7 @@
 -- Contents and replies that are alike, and such that aren't, evaluated.
-use Rattle.std.proofs.Common.{◌≡◌, ℕ, List, [], Bool, true, false, get_or, length, refl, sym, ap, ◌∙◌, Option, Some, None, arith}
+use Rattle.std.proofs.Common.{◌≡◌, ℕ, List, get_or, refl, sym, ap, ◌∙◌, arith}
 use Rattle.zio_types.specs.declared.error.Errno.TheVariants.{Io, Noent}
-use Rattle.zio_report.specs.declared.report.LineResult.{LineResult}
-use Rattle.zio_report.specs.declared.report.LineResult.TheVariants.{Suspended, Failed, Done, Sized, Bytes}
+use Rattle.zio_report.specs.declared.report.LineResult.TheVariants.{Failed, Bytes}
 use Rattle.zio_heal.specs.AlikeCases.{BytesForError, BytesOfARead, EqualIsAlike, ErrorForBytes, EveryByteCounts, LengthCounts, NextPointerCounts, NoByteMore, OtherBytes, OtherError, OtherNumber, OtherSize, PointersMayDiffer, SameError, SizeOfAWrite, read_ended}
 
 -- lists with different items differ

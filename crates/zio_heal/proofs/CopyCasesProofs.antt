@@ -1,5 +1,5 @@
 -- Copies on a leaf of two sectors, and operations that spare them or don't.
-use Rattle.std.proofs.Common.{◌≡◌, ◌≢◌, ◌≤◌, ◌+◌, ℕ, List, [], ◌∷◌, get_or, length, replicate, true, false, Contains, ◌⊎◌, inl, inr, ⊎_elim, refl, sym, ap, ◌∙◌, subst, arith}
+use Rattle.std.proofs.Common.{◌≡◌, ◌≢◌, ◌≤◌, ◌+◌, ℕ, List, [], ◌∷◌, get_or, true, false, ◌⊎◌, inl, inr, ⊎_elim, refl, ap, ◌∙◌, arith}
 use Rattle.zio_cksum.specs.Images.{Spot, bytes_at}
 use Rattle.zio_cksum.proofs.AllLemmas.{all_contains}
 use Rattle.zio_trace.specs.Leaves.{AreClear}

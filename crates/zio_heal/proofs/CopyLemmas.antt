@@ -1,5 +1,5 @@
 -- A copy stays where bytes are changed elsewhere.
-use Rattle.std.proofs.Common.{◌≡◌, ◌≢◌, ℕ, zero, suc, ◌+◌, ◌<◌, ◌≤◌, List, [], ◌∷◌, length, take, drop, slice_get, Bool, Option, Some, None, Contains, ◌⊎◌, ⊎_elim, refl, sym, ap, ◌∙◌, arith}
+use Rattle.std.proofs.Common.{◌≡◌, ◌≢◌, ℕ, zero, suc, ◌+◌, ◌<◌, ◌≤◌, List, [], ◌∷◌, length, take, drop, slice_get, Bool, Some, None, ◌⊎◌, ⊎_elim, refl, sym, ap, ◌∙◌, arith}
 use Rattle.std.specs.List.{AllByRecursion}
 use Rattle.zio_types.specs.declared.place.Place.{Place}
 use Rattle.zio_cksum.specs.Blocks.{read_block, write_piece}

@@ -1,5 +1,5 @@
 -- Requests that may fail, and such that may not.
-use Rattle.std.proofs.Common.{◌≡◌, true, false, Option, Some, None, refl}
+use Rattle.std.proofs.Common.{◌≡◌, true, false, Some, None, refl}
 use Rattle.zio_types.specs.declared.error.Errno.TheVariants.{Io}
 use Rattle.zio_heal.specs.DisciplineCases.{BadChildIsnt, ClaimMayFail, FlaggedReadMay, GoodChildIsKept, ReadMayNotFail}
 

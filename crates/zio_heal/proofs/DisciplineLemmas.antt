@@ -1,5 +1,5 @@
 -- What may not fail goes again with an error of its own, so it ends without one.
-use Rattle.std.proofs.Common.{◌≡◌, ℕ, zero, suc, ◌+◌, List, [], ◌∷◌, ◌++◌, map, filter, Bool, true, false, ◌||◌, not, nat_le, Option, Some, None, refl, sym, ap, ◌∙◌}
+use Rattle.std.proofs.Common.{◌≡◌, ℕ, zero, suc, ◌+◌, List, [], ◌∷◌, map, filter, Bool, true, false, ◌||◌, not, nat_le, Option, Some, None, refl, sym, ap, ◌∙◌}
 use Rattle.std.specs.List.{AllByRecursion}
 use Rattle.zio_types.specs.declared.error.Errno.{Errno}
 use Rattle.zio_types.specs.declared.request.Bits.{Bits}
@@ -13,7 +13,7 @@ use Rattle.zio_script.specs.Requests.{is_under_number, kind_of}
 use Rattle.zio_script.specs.Whys.{is_claim}
 use Rattle.zio_cksum.specs.Images.{Images}
 use Rattle.zio_cksum.proofs.AllLemmas.{all_append, all_filter, all_map, all_weaker}
-use Rattle.zio_gang.specs.Attempts.{Attempt, Attempted, Child, Ended, Own, Pending, Return, Settled, Terms, all_bits, attempt_each, attempt_one, attempt_tree, bits_of, children_of, closed_if, finished_of, has_bits, insert_children, joined_bits, judged_own, kind_bits, may_fail, now_alone, own_work, reexecutions_max, returned_to, root_bits, settle, settle_from, settled_by, settled_if, suspend_unless}
+use Rattle.zio_gang.specs.Attempts.{Attempt, Attempted, Child, Ended, Own, Pending, Return, Settled, Terms, all_bits, attempt_each, attempt_one, attempt_tree, bits_of, children_of, closed_if, finished_of, has_bits, insert_children, joined_bits, judged_own, kind_bits, may_fail, now_alone, own_work, reexecutions_max, returned_to, root_bits, settle, settle_from, settled_if, suspend_unless}
 use Rattle.zio_gang.specs.ByNumber.{insert_by, insert_if}
 use Rattle.zio_gang.specs.Rounds.{Bound, Ran, add_left, pending, pending_trees, settle_each}
 use Rattle.zio_heal.specs.Discipline.{AreUnfailing, EndWithoutError, IsUnfailing, MayNotFail}

@@ -1,8 +1,7 @@
 -- Rows that turn nothing that is stored, and rows that are past.
-use Rattle.std.proofs.Common.{◌≡◌, ◌≤◌, ℕ, List, [], ◌∷◌, Bool, true, false, cond, ◌&&◌, ◌==◌, not, nat_lt, nat_le, find, option_map, Option, Some, None, Result, Ok, ⊎_elim, refl, sym, ap, ◌∙◌, arith}
+use Rattle.std.proofs.Common.{◌≡◌, ◌≤◌, ℕ, List, [], ◌∷◌, Bool, true, false, cond, ◌&&◌, ◌==◌, not, nat_lt, nat_le, find, option_map, Option, Some, None, Ok, ⊎_elim, refl, sym, ap, ◌∙◌, arith}
 use Rattle.std.proofs.lemmas.Bool.{cases_Bool}
 use Rattle.std.specs.List.{AllByRecursion}
-use Rattle.zio_types.specs.declared.error.Errno.{Errno}
 use Rattle.zio_faults.specs.declared.table.Hit.{Hit}
 use Rattle.zio_faults.specs.declared.table.Operation.{Operation}
 use Rattle.zio_faults.specs.declared.table.Row.{Row}

@@ -1,5 +1,5 @@
 -- Copies that hold what was given, and a stale one that nobody read, evaluated.
-use Rattle.std.proofs.Common.{◌≡◌, ℕ, List, [], get_or, replicate, Option, Some, None, refl, sym, ap, ◌∙◌, arith}
+use Rattle.std.proofs.Common.{◌≡◌, ℕ, List, get_or, replicate, Option, Some, None, refl, sym, ap, ◌∙◌, arith}
 use Rattle.zio_gang.specs.Attempts.{attempt_each, settle_from}
 use Rattle.zio_gang.specs.Rounds.{settle_each}
 use Rattle.zio_gang.specs.Runs.{run_held, run_lines}
@@ -31,8 +31,11 @@ other_first given taken a b x y ne e = ne (sym x ∙ ap first_of e ∙ y)
 pub other_bytes_arent : OtherBytesArent
 other_bytes_arent h = other_first (replicate 512 65) (replicate 512 66) 65 66 refl refl (λ e. omega (arith, e)) h
 
+some_or_none : (bytes : List ℕ) → Some bytes ≡ None → ⊥
+some_or_none bytes e = cc
+
 pub bytes_of_nobody_arent : BytesOfNobodyArent
-bytes_of_nobody_arent h = let e : Some (replicate 512 65) ≡ None = sym h in absurd (cc)
+bytes_of_nobody_arent h = some_or_none (replicate 512 65) (sym h)
 
 pub errors_are_true : ErrorsAreTrue
 errors_are_true = tt

@@ -1,5 +1,5 @@
 -- Scripts that heal, and scripts that nearly do.
-use Rattle.std.proofs.Common.{◌≡◌, List, [], ◌∷◌, true, false, inl, inr, ⊎_elim, refl, sym}
+use Rattle.std.proofs.Common.{◌≡◌, [], ◌∷◌, true, false, inl, inr, ⊎_elim, refl, sym}
 use Rattle.zio_faults.specs.declared.table.FaultKind.TheVariants.{Eio}
 use Rattle.zio_faults.specs.declared.table.On.TheVariants.{Write as OnWrite}
 use Rattle.zio_faults.specs.declared.table.Row.{Row}

@@ -12,5 +12,6 @@ pub mod RunLemmas
 pub mod SparedLemmas
 pub mod StoreCasesProofs
 pub mod StoredCasesProofs
+pub mod WholeCasesProofs
 pub mod WholeLemmas
 pub mod WrittenLemmas

@@ -3,7 +3,7 @@ use Rattle.std.proofs.Common.{◌≡◌, ℕ, ◌/◌, ◌%◌, List, [], ◌∷
 use Rattle.std.specs.List.{AllByRecursion}
 use Rattle.zio_types.specs.declared.error.Errno.{Errno}
 use Rattle.zio_types.specs.declared.place.Place.{Place}
-use Rattle.zio_cksum.specs.Blocks.{Pass, Tried, first_good, first_pass_with, judged, last_pass_with, leaves_of, passed_with, read_block, read_order, read_pass, read_place, repaired, repaired_if, spot_in, then_others, turn_size}
+use Rattle.zio_cksum.specs.Blocks.{Pass, Tried, first_good, first_pass_with, judged, last_pass_with, leaves_of, read_block, read_order, read_pass, read_place, repaired, repaired_if, spot_in, then_others, turn_size}
 use Rattle.zio_cksum.specs.Frames.{FitSpots, HaveRoom, spots_of}
 use Rattle.zio_cksum.specs.Headers.{offset_of}
 use Rattle.zio_cksum.specs.Images.{Images, Setting, Spot, read_leaf, write_leaf}

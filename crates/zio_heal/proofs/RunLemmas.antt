@@ -1,8 +1,7 @@
 -- In the run of a script whose requests may not fail, no round begins with others or with a child's error.
-use Rattle.std.proofs.Common.{◌≡◌, ◌≤◌, ℕ, ◌+◌, List, [], ◌∷◌, ◌++◌, map, count_by, Bool, true, false, not, ◌&&◌, ◌||◌, nat_le, ◌==◌, Option, Some, None, refl, sym, ap, ◌∙◌, subst, arith}
+use Rattle.std.proofs.Common.{◌≡◌, ◌≤◌, ℕ, ◌+◌, List, [], ◌∷◌, ◌++◌, count_by, Bool, true, false, not, ◌&&◌, ◌||◌, nat_le, ◌==◌, Option, Some, None, refl, sym, subst, arith}
 use Rattle.std.specs.List.{AllByRecursion, list_all}
 use Rattle.zio_types.specs.declared.error.Errno.{Errno}
-use Rattle.zio_types.specs.declared.place.Top.{Top}
 use Rattle.zio_types.specs.Choices.{Choice}
 use Rattle.zio_faults.specs.declared.table.Row.{Row}
 use Rattle.zio_script.specs.declared.script.Item.{Item}
@@ -14,9 +13,9 @@ use Rattle.zio_script.specs.Whys.{is_clear}
 use Rattle.zio_cksum.specs.Images.{Images, Setting}
 use Rattle.zio_cksum.proofs.AllLemmas.{all_append, all_map, all_weaker}
 use Rattle.zio_gang.specs.Attempts.{Pending}
-use Rattle.zio_gang.specs.Rounds.{Admitted, Bound, admit_with, admission, admitted, is_bound, pending_trees, put_before, put_if, settle_each, trees_of, with_request, with_requests}
-use Rattle.zio_gang.specs.Runs.{Batch, Plan, State, clear_if, clear_line, go, go_if, go_line, goes_on, has_trees, held_if, line, line_if, plan_of, run_batch, run_held, run_suspended, start_state, terms_of}
-use Rattle.zio_trace.specs.RunTraces.{RoundStart, batch_start, clear_starts, go_starts, held_starts, held_starts_if, line_starts, line_starts_if, starts_from, starts_if, starts_of, suspended_start}
+use Rattle.zio_gang.specs.Rounds.{Admitted, admit_with, admission, admitted, is_bound, put_before, put_if, settle_each, trees_of, with_request, with_requests}
+use Rattle.zio_gang.specs.Runs.{Batch, Plan, State, clear_if, go_if, goes_on, has_trees, held_if, line, line_if, plan_of, run_batch, run_held, run_suspended, start_state, terms_of}
+use Rattle.zio_trace.specs.RunTraces.{RoundStart, batch_start, held_starts, held_starts_if, line_starts, line_starts_if, starts_from, starts_if, starts_of, suspended_start}
 use Rattle.zio_heal.specs.Copies.{IsPastFaults, StoresAsGiven}
 use Rattle.zio_heal.specs.Discipline.{AreUnfailing, EndWithoutError, IsUnfailing, MayNotFail}
 use Rattle.zio_heal.specs.Healed.{IsHealed, IsHealedRequest, heals_after, turns_stored}

@@ -1,5 +1,5 @@
 -- A copy lasts through operations that spare it.
-use Rattle.std.proofs.Common.{◌≡◌, ℕ, ◌+◌, ◌≤◌, List, [], ◌∷◌, length, Bool, Option, None, Result, Ok, Err, IfOk, ◌⊎◌, ⊎_elim, refl, sym, ap, ◌∙◌, subst, arith}
+use Rattle.std.proofs.Common.{◌≡◌, ℕ, ◌+◌, ◌≤◌, List, [], ◌∷◌, length, Bool, None, Result, IfOk, ⊎_elim, sym, ap, ◌∙◌, subst, arith}
 use Rattle.std.specs.List.{AllByRecursion}
 use Rattle.zio_types.specs.declared.error.Errno.{Errno}
 use Rattle.zio_types.specs.declared.place.Place.{Place}
@@ -12,7 +12,7 @@ use Rattle.zio_cksum.proofs.ReadLemmas.{reads_law}
 use Rattle.zio_cksum.proofs.WriteLemmas.{writes_law}
 use Rattle.zio_gang.specs.Attempts.{Terms}
 use Rattle.zio_trace.specs.Leaves.{HaveSizes}
-use Rattle.zio_trace.specs.Programs.{Deed, Done, Happen}
+use Rattle.zio_trace.specs.Programs.{Deed, Happen}
 use Rattle.zio_trace.specs.Readers.{CopiesApart}
 use Rattle.zio_trace.specs.RoundTraces.{Trace}
 use Rattle.zio_trace.specs.Tasks.{Attempt, Find, Got, Leaf, ReadCopies, ReadHeads, ReadTree, Settle, TakePlaces, Task, Test, Value, WriteCopies, WritePart, Wrote, good_by, got, means, wrote}

@@ -1,10 +1,9 @@
 -- Runs that store as a plain store does, evaluated.
-use Rattle.std.proofs.Common.{◌≡◌, ℕ, List, [], ◌∷◌, Bool, true, false, cond, if◌then◌else◌, find, option_map, is_some, bytes_eq, codes, replicate, Option, Some, None, refl, sym, arith}
+use Rattle.std.proofs.Common.{◌≡◌, ℕ, List, [], ◌∷◌, Bool, true, false, cond, if◌then◌else◌, option_map, is_some, bytes_eq, codes, replicate, Some, None, refl, arith}
 use Rattle.zio_types.specs.declared.place.Place.{Place}
 use Rattle.zio_types.specs.Choices.{no_place}
 use Rattle.zio_blkptr.specs.declared.pointer.SumKind.TheVariants.{Fletcher4}
 use Rattle.zio_cksum.specs.Sums.{fletcher4, fletcher_after, sum_of}
-use Rattle.zio_gang.specs.declared.ending.Ending.{Ending}
 use Rattle.zio_gang.specs.declared.ending.Ending.TheVariants.{Complete, Left}
 use Rattle.zio_gang.specs.declared.tree.Tree.{Tree}
 use Rattle.zio_gang.specs.Attempts.{attempt_each, settle_from}

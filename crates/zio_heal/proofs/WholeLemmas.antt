@@ -1,7 +1,5 @@
 -- What a write without error is made of has none either, down to the pieces.
-use Rattle.std.proofs.Common.{◌≡◌, ◌≤◌, ℕ, zero, suc, ◌+◌, List, [], ◌∷◌, ◌++◌, length, Bool, true, false, nat_le, Option, Some, None, refl, sym, ap, ◌∙◌, subst}
-use Rattle.std.specs.List.{AllByRecursion}
-use Rattle.zio_types.specs.declared.error.Errno.{Errno}
+use Rattle.std.proofs.Common.{◌≡◌, ℕ, zero, suc, ◌+◌, List, [], ◌∷◌, ◌++◌, length, Bool, true, false, nat_le, Option, Some, None, IsSome, refl, sym, ap, ◌∙◌, subst}
 use Rattle.zio_types.specs.declared.place.Place.{Place}
 use Rattle.zio_types.specs.Choices.{Choice}
 use Rattle.zio_types.specs.Errors.{worst_error, worst_of}
@@ -11,11 +9,11 @@ use Rattle.zio_cksum.specs.Headers.{split_sizes}
 use Rattle.zio_cksum.specs.Images.{Images}
 use Rattle.zio_cksum.proofs.AllLemmas.{all_append}
 use Rattle.zio_gang.specs.Attempts.{Pending, Terms, writing_of}
-use Rattle.zio_gang.specs.Writes.{Writing, body_ask, cut, head_ask, place_part}
+use Rattle.zio_gang.specs.Writes.{Placed, Writing, body_ask, body_with, chosen, cut, gang_unless, gang_with, head_ask, place_part, without_place}
 use Rattle.zio_trace.specs.CopyPrograms.{piece_writing}
 use Rattle.zio_trace.specs.Leaves.{Answer, LeafOp}
 use Rattle.zio_trace.specs.Plans.{Kin, TaskPlan, add_kin, by_leaves, gang_stored, header_over, plan, plan_body, plan_gang, plan_gang_unless, plan_members, plan_part}
-use Rattle.zio_trace.specs.Programs.{Asks, ByParts, Deed, Does, Ends, Itself, Leads, Made, NoneMade, Program, ◌>>=◌, ask}
+use Rattle.zio_trace.specs.Programs.{Asks, ByParts, Deed, Does, Ends, Itself, Made, NoneMade, Program, ◌>>=◌, ask}
 use Rattle.zio_trace.specs.RoundTraces.{Trace, levels_max, task_trace}
 use Rattle.zio_trace.specs.Tasks.{Attempt, Find, Leaf, ReadCopies, ReadHeads, ReadTree, Settle, StoredAs, TakePlaces, Task, Value, WriteCopies, WritePart, Wrote, found, got, means, nowhere, stored, wrote}
 use Rattle.zio_trace.proofs.DownLemmas.{down_made}
@@ -189,3 +187,24 @@ pub trace_whole : (stops : Task → Bool) (journal : List Choice) (t : Terms) (a
 trace_whole stops journal t attempt p sum copies levels path bytes images none =
     made_whole t _ (task_trace stops journal t (WritePart attempt p sum copies levels path bytes) images)
     (down_made (means journal t) (plan t) stops (plan_run journal t) levels_max (WritePart attempt p sum copies levels path bytes) images) (none, tt)
+
+-- ---- pointers
+
+if_gang : (places : Option (List Place)) (w : Writing) (place : List ℕ → List ℕ → Images → Placed) (path bytes : List ℕ) (images : Images) → (gang_with places w place path bytes images).error ≡ None → IsSome (gang_with places w place path bytes images).pointer
+if_gang None w place path bytes images none = absurd (cc)
+if_gang (Some places) w place path bytes images none = refl
+
+if_small : (small : Bool) (journal : List Choice) (w : Writing) (place : List ℕ → List ℕ → Images → Placed) (path bytes : List ℕ) (images : Images) → (gang_unless small journal w place path bytes images).error ≡ None → IsSome (gang_unless small journal w place path bytes images).pointer
+if_small true journal w place path bytes images none = absurd (cc)
+if_small false journal w place path bytes images none = if_gang (chosen journal (head_ask w path)) w place path bytes images none
+
+if_placed : (places : Option (List Place)) (journal : List Choice) (w : Writing) (place : List ℕ → List ℕ → Images → Placed) (path bytes : List ℕ) (images : Images) → (body_with places journal w place path bytes images).error ≡ None → IsSome (body_with places journal w place path bytes images).pointer
+if_placed (Some places) journal w place path bytes images none = refl
+if_placed None journal w place path bytes images none = if_small (nat_le (length bytes) sector_size) journal w place path bytes images none
+
+pub pointer_law : (levels : ℕ) (journal : List Choice) (w : Writing) (path bytes : List ℕ) (images : Images) → (place_part levels journal w path bytes images).error ≡ None → IsSome (place_part levels journal w path bytes images).pointer
+unfolding place_part
+pointer_law zero journal w path bytes images none =
+    if_placed (chosen journal (body_ask w path bytes)) journal w (λ below part now. without_place [] now) path bytes images none
+pointer_law (suc levels) journal w path bytes images none =
+    if_placed (chosen journal (body_ask w path bytes)) journal w (place_part levels journal w) path bytes images none

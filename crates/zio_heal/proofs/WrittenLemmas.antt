@@ -1,5 +1,5 @@
 -- A write without error leaves a copy in each of its places.
-use Rattle.std.proofs.Common.{◌≡◌, ℕ, ◌+◌, ◌<◌, ◌≤◌, List, [], ◌∷◌, length, map, take, drop, Bool, true, false, nat_lt, Option, Some, None, Contains, ◌⊎◌, inl, inr, ⊎_elim, refl, sym, ap, ◌∙◌, subst, arith}
+use Rattle.std.proofs.Common.{◌≡◌, ℕ, ◌+◌, ◌<◌, ◌≤◌, List, [], ◌∷◌, length, take, drop, Bool, true, false, nat_lt, Option, Some, None, Contains, ◌⊎◌, inl, inr, ⊎_elim, refl, sym, ap, ◌∙◌, subst, arith}
 use Rattle.std.proofs.lemmas.Bool.{cases_lt}
 use Rattle.std.proofs.lemmas.List.{get_or_past}
 use Rattle.std.specs.List.{AllByRecursion}
@@ -12,7 +12,7 @@ use Rattle.zio_faults.specs.declared.table.FaultKind.TheVariants.{Eio, Gone, Fli
 use Rattle.zio_faults.specs.declared.table.Hit.{Hit}
 use Rattle.zio_script.specs.Whys.{is_flip}
 use Rattle.zio_cksum.specs.Blocks.{Writes, again_with, all_errors, blame, error_if, in_turn, write_pass, write_piece, write_place}
-use Rattle.zio_cksum.specs.Frames.{FitSpots, HaveRoom, SameOutside, spots_of}
+use Rattle.zio_cksum.specs.Frames.{FitSpots, HaveRoom, spots_of}
 use Rattle.zio_cksum.specs.Images.{Images, Setting, Spot, Written, bytes_at, faulty_write, image_of, met, overwritten, padded_to, with_bytes, write_leaf, write_met}
 use Rattle.zio_cksum.proofs.AllLemmas.{all_contains}
 use Rattle.zio_cksum.proofs.ByteLemmas.{image_of_same, length-padded_to}

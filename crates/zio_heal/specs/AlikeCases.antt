@@ -1,13 +1,12 @@
 -- Contents and replies that are alike, and such that aren't.
-use Rattle.std.specs.Prelude.{◌≡◌, ℕ, List, [], ◌∷◌, ◌++◌, codes, replicate, Option, Some, None}
+use Rattle.std.specs.Prelude.{List, [], ◌∷◌, ◌++◌, codes, replicate, Some, None}
 use Rattle.zio_types.specs.declared.error.Errno.{Errno}
 use Rattle.zio_types.specs.declared.error.Errno.TheVariants.{Io, Noent}
-use Rattle.zio_gang.specs.declared.tree.Tree.{Tree}
 use Rattle.zio_gang.specs.Attempts.{Ended}
 use Rattle.zio_script.specs.declared.script.Body.TheVariants.{Hex}
 use Rattle.zio_script.specs.declared.script.Request.{Request}
 use Rattle.zio_trace.specs.RoundExamples.{block_of_x}
-use Rattle.zio_heal.specs.Alike.{AreAlike, IsAlikeTo, IsAnsweredAlike}
+use Rattle.zio_heal.specs.Alike.{IsAlikeTo, IsAnsweredAlike}
 use Rattle.zio_heal.specs.PlainStore.{Content, content_in}
 use Rattle.zio_heal.specs.StoreCases.{asked, asked_under, failed, gave, letters, reads, writes}
 

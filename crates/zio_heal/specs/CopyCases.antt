@@ -1,5 +1,5 @@
 -- Copies on a leaf of two sectors, and operations that spare them or don't.
-use Rattle.std.specs.Prelude.{ℕ, List, [], ◌∷◌, replicate, true, false, Option, Some, None, Ok, Err}
+use Rattle.std.specs.Prelude.{ℕ, List, [], ◌∷◌, replicate, false, None, Ok, Err}
 use Rattle.zio_types.specs.declared.error.Errno.TheVariants.{Io}
 use Rattle.zio_faults.specs.declared.table.FaultKind.TheVariants.{Eio, Flip}
 use Rattle.zio_faults.specs.declared.table.On.TheVariants.{Read as OnRead, Write as OnWrite, Any as OnAny}

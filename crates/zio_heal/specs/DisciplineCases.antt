@@ -1,5 +1,5 @@
 -- Requests that may fail, and such that may not.
-use Rattle.std.specs.Prelude.{ℕ, List, [], ◌∷◌, codes, replicate, Bool, true, false, Option, Some, None}
+use Rattle.std.specs.Prelude.{[], ◌∷◌, codes, replicate, Bool, true, false, Option, Some, None}
 use Rattle.zio_types.specs.declared.error.Errno.{Errno}
 use Rattle.zio_types.specs.declared.error.Errno.TheVariants.{Io}
 use Rattle.zio_types.specs.declared.request.Prio.TheVariants.{SyncRead}

@@ -1,6 +1,6 @@
 -- That each copy which a run accepts holds the bytes that its block's write gave for that place. A sum is of 32 bytes,
 -- so other bytes might have it too; a run in which that never happened meets this.
-use Rattle.std.specs.Prelude.{◌≡◌, ℕ, List, [], ◌∷◌, ◌++◌, map, if◌then◌else◌, Option, Some, None, Result, Ok, Err}
+use Rattle.std.specs.Prelude.{◌≡◌, ℕ, List, [], ◌∷◌, ◌++◌, map, if◌then◌else◌, Option, Some, None, Ok, Err}
 use Rattle.std.specs.Cmp.Lexicographic.{pointwise}
 use Rattle.std.specs.List.{flat_map}
 use Rattle.zio_types.specs.declared.place.Place.{Place}

@@ -1,11 +1,10 @@
 -- Copies that hold what was given, and a stale one that nobody read.
-use Rattle.std.specs.Prelude.{◌≡◌, ℕ, List, [], ◌∷◌, replicate, true, false, Option, Some, None, Ok, Err}
+use Rattle.std.specs.Prelude.{◌≡◌, ℕ, List, [], ◌∷◌, replicate, true, false, Some, None, Ok, Err}
 use Rattle.zio_types.specs.declared.error.Errno.TheVariants.{Io}
 use Rattle.zio_types.specs.declared.place.Place.{Place}
 use Rattle.zio_blkptr.specs.declared.pointer.SumKind.TheVariants.{Off}
 use Rattle.zio_faults.specs.declared.table.FaultKind.TheVariants.{Eio}
 use Rattle.zio_faults.specs.declared.table.On.TheVariants.{Write as OnWrite}
-use Rattle.zio_faults.specs.declared.table.Row.{Row}
 use Rattle.zio_script.specs.declared.script.Failmode.TheVariants.{Wait}
 use Rattle.zio_script.specs.declared.script.Item.TheVariants.{Go, Clear}
 use Rattle.zio_script.specs.declared.script.Script.{Script}
@@ -13,10 +12,10 @@ use Rattle.zio_cksum.specs.Images.{Images}
 use Rattle.zio_trace.specs.RoundExamples.{mirror_of_two}
 use Rattle.zio_trace.specs.RoundTraces.{is_single_or_piece}
 use Rattle.zio_trace.specs.RunTraces.{in_round, whole_trace}
-use Rattle.zio_trace.specs.Tasks.{BodyOf, Got, KeptAs, ReadCopies, Task, Value, WriteCopies, Wrote}
+use Rattle.zio_trace.specs.Tasks.{BodyOf, Got, KeptAs, ReadCopies, Task, WriteCopies, Wrote}
 use Rattle.zio_trace.specs.TraceExamples.{finds_x, place_of_x, pointer_of_x, two_sectors, written_and_read}
-use Rattle.zio_heal.specs.Given.{AcceptsWhatWasGiven, AreTrueReads, Deeds, IsTrueRead, given_in, last_reads}
-use Rattle.zio_heal.specs.HealedCases.{faulty, writes_x}
+use Rattle.zio_heal.specs.Given.{AcceptsWhatWasGiven, AreTrueReads, Deeds, IsTrueRead, given_in}
+use Rattle.zio_heal.specs.HealedCases.{writes_x}
 
 -- ---- what was given
 

@@ -14,3 +14,4 @@ pub mod StoreCases
 pub mod StoredCases
 pub mod StoredPlainly
 pub mod Whole
+pub mod WholeCases

@@ -1,5 +1,5 @@
 -- Plain stores of a few batches.
-use Rattle.std.specs.Prelude.{◌≡◌, ℕ, List, [], ◌∷◌, ◌++◌, codes, replicate, false, true, Bool, Option, Some, None}
+use Rattle.std.specs.Prelude.{◌≡◌, ℕ, List, [], ◌∷◌, ◌++◌, codes, replicate, false, true, Bool, Some, None}
 use Rattle.zio_types.specs.declared.error.Errno.{Errno}
 use Rattle.zio_types.specs.declared.error.Errno.TheVariants.{Noent, Exist}
 use Rattle.zio_types.specs.declared.request.Prio.TheVariants.{SyncRead, SyncWrite}
@@ -9,7 +9,7 @@ use Rattle.zio_script.specs.declared.script.Body.TheVariants.{Hex, Fill}
 use Rattle.zio_script.specs.declared.script.Request.{Request}
 use Rattle.zio_script.specs.declared.script.Work.{Work}
 use Rattle.zio_script.specs.declared.script.Work.TheVariants.{Null, Read, Write, Free}
-use Rattle.zio_heal.specs.PlainStore.{Content, Reply, has_content, no_contents, plain_from, plain_store}
+use Rattle.zio_heal.specs.PlainStore.{Reply, has_content, no_contents, plain_from, plain_store}
 use Rattle.zio_heal.specs.HealedCases.{faulty, items_of, over_one_leaf, with_row}
 use Rattle.zio_faults.specs.declared.table.FaultKind.TheVariants.{Eio}
 use Rattle.zio_faults.specs.declared.table.On.TheVariants.{Write as OnWrite}

@@ -1,6 +1,6 @@
--- Operations of a write that came to no error, down to its pieces. A write to a single leaf may have failed: in a mirror
--- one leaf of a place is enough.
-use Rattle.std.specs.Prelude.{◌≡◌, List, None}
+-- Operations of a write that came to no error, down to its pieces. A write to a single leaf may have failed: in a
+-- mirror one leaf of a place is enough.
+use Rattle.std.specs.Prelude.{◌≡◌, None}
 use Rattle.std.specs.List.{AllByRecursion}
 use Rattle.zio_trace.specs.Programs.{Deed}
 use Rattle.zio_trace.specs.RoundTraces.{Trace}

@@ -5,6 +5,7 @@ ghost use Rattle.zio_heal.specs.GivenCases.{AllPlacesCount, BytesOfNobodyArent, 
 ghost use Rattle.zio_heal.specs.HealedCases.{ClaimsMayFail, ClearIsNotLast, NoClearAtAll, NoRowsHeal, NoSumNoDamage, OneClearTooFew, OthersGoOn, PanicsEnd, ReadMayFail, ReadsMayBeTurned, TurnedByAnyStay, TurnedWritesStay, TwoClearsHeal, WriteHeals};
 ghost use Rattle.zio_heal.specs.StoreCases.{ChildrenMakeAFront, FaultsChangeNothing, FreedNameIsGone, FreedNameIsWritten, MissingComesFirst, NamesAtTheEnd, PaddedToASector, ReadersShareAName, TakenNameStays, TreeFailsWhole, TreesFailAlone, WholeSectorsStay};
 ghost use Rattle.zio_heal.specs.StoredCases.{FaultHeals, LastingFaultLeaves, SameWithoutFault};
+ghost use Rattle.zio_heal.specs.WholeCases.{AskMayBeRefused, CopiesFailed, CopiesWritten, LeafMayFail, PartFailed, PartWritten, ReadIsNoWrite};
 
 /// A script heals where no request may fail and all rows are past at its last line, which is a clear.
 pub fn scripts_heal_once_faults_are_past()
@@ -108,4 +109,15 @@ pub fn runs_store_plainly()
     ensures fault_heals { FaultHeals }
     ensures same_without_fault { SameWithoutFault }
     ensures lasting_fault_leaves { LastingFaultLeaves }
+{}
+
+/// A write is whole where its pieces and its parts came to no error.
+pub fn pieces_without_error_are_whole()
+    ensures copies_written { CopiesWritten }
+    ensures copies_failed { CopiesFailed }
+    ensures part_written { PartWritten }
+    ensures part_failed { PartFailed }
+    ensures leaf_may_fail { LeafMayFail }
+    ensures ask_may_be_refused { AskMayBeRefused }
+    ensures read_is_no_write { ReadIsNoWrite }
 {}

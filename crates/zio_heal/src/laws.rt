@@ -11,7 +11,7 @@ ghost use Rattle.zio_cksum.specs.Frames.{FitSpots, HaveRoom, SameOutside, spots_
 ghost use Rattle.zio_cksum.specs.Images.{Images, Setting, Spot};
 ghost use Rattle.zio_gang.specs.Attempts.{Pending, Terms, attempt_tree, writing_of};
 ghost use Rattle.zio_gang.specs.Rounds.{Bound, pending_trees, settle_each};
-ghost use Rattle.zio_gang.specs.Writes.{place_part};
+ghost use Rattle.zio_gang.specs.Writes.{Writing, place_part};
 ghost use Rattle.zio_trace.specs.Leaves.{HaveSizes};
 ghost use Rattle.zio_trace.specs.Plans.{plan};
 ghost use Rattle.zio_trace.specs.Programs.{Deed, Happen, Made};
@@ -99,14 +99,18 @@ pub fn pieces_written_have_a_copy_in_each_place()
         Contains places p → HasCopy (spots_in s p) bytes images → HasCopy (spots_of s places) bytes images }
 {}
 
-/// What a write without error is made of has none either, down to the pieces of its block: its bodies and its headers are
-/// written without error. A copy that such a write left lasts, where the operations after it spare it.
+/// What a write without error is made of has none either, down to the pieces of its block: its bodies and its headers
+/// are written without error, and it has a pointer. A copy that such a write left lasts, where the operations after it
+/// spare it.
 pub fn writes_without_error_are_whole()
     ensures made { (t : Terms) (calls ds : Trace) → Made (plan t) calls ds → AreWhole calls → AreWhole ds }
-    ensures traces { (stops : Task → Bool) (journal : List Choice) (t : Terms) (attempt : ℕ) (p : Pending) (sum : SumKind)
-        (copies levels : ℕ) (path bytes : List ℕ) (images : Images) →
+    ensures traces { (stops : Task → Bool) (journal : List Choice) (t : Terms) (attempt : ℕ) (p : Pending)
+        (sum : SumKind) (copies levels : ℕ) (path bytes : List ℕ) (images : Images) →
         (place_part levels journal (writing_of t attempt p sum copies) path bytes images).error ≡ None →
         AreWhole (task_trace stops journal t (WritePart attempt p sum copies levels path bytes) images) }
+    ensures pointer { (levels : ℕ) (journal : List Choice) (w : Writing) (path bytes : List ℕ) (images : Images) →
+        (place_part levels journal w path bytes images).error ≡ None →
+        IsSome (place_part levels journal w path bytes images).pointer }
     ensures last { (journal : List Choice) (t : Terms) (sizes : ℕ → ℕ) (bytes : List ℕ) (p : Place) (ps : List Place)
         (rest : Trace) (before after : Images) →
         let spots = spots_of t.setting (p ∷ ps) in

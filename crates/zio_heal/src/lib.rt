@@ -12,8 +12,9 @@ mod laws;
 
 pub use cases::{
     accepted_copies_are_compared_with_their_writes, copies_are_spared_by_what_lies_elsewhere,
-    flags_and_kinds_let_requests_fail, plain_stores_answer_in_order,
-    replies_are_alike_behind_pointers, runs_store_plainly, scripts_heal_once_faults_are_past,
+    flags_and_kinds_let_requests_fail, pieces_without_error_are_whole,
+    plain_stores_answer_in_order, replies_are_alike_behind_pointers, runs_store_plainly,
+    scripts_heal_once_faults_are_past,
 };
 pub use laws::{
     copies_are_found_once_faults_are_past, copies_last_where_they_are_spared,

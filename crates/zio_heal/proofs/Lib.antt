@@ -5,6 +5,7 @@ pub mod DisciplineCasesProofs
 pub mod DisciplineLemmas
 pub mod FaultLemmas
 pub mod FoundLemmas
+pub mod FoundTraces
 pub mod GivenCasesProofs
 pub mod HealedCasesProofs
 pub mod RepairLemmas

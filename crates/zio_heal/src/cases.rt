@@ -4,7 +4,7 @@ ghost use Rattle.zio_heal.specs.DisciplineCases.{BadChildIsnt, ClaimMayFail, Fla
 ghost use Rattle.zio_heal.specs.GivenCases.{AllPlacesCount, BytesOfNobodyArent, ErrorsAreTrue, GivenBytesAreTrue, HeadersAreCompared, LastReadsCount, LastWriteCounts, NobodyReadIt, NothingWasGiven, OtherBytesArent, RunAcceptsWhatWasGiven};
 ghost use Rattle.zio_heal.specs.HealedCases.{ClaimsMayFail, ClearIsNotLast, NoClearAtAll, NoRowsHeal, NoSumNoDamage, OneClearTooFew, OthersGoOn, PanicsEnd, ReadMayFail, ReadsMayBeTurned, TurnedByAnyStay, TurnedWritesStay, TwoClearsHeal, WriteHeals};
 ghost use Rattle.zio_heal.specs.StoreCases.{ChildrenMakeAFront, FaultsChangeNothing, FreedNameIsGone, FreedNameIsWritten, MissingComesFirst, NamesAtTheEnd, PaddedToASector, ReadersShareAName, TakenNameStays, TreeFailsWhole, TreesFailAlone, WholeSectorsStay};
-ghost use Rattle.zio_heal.specs.StoredCases.{FaultHeals, LastingFaultLeaves, SameWithoutFault};
+ghost use Rattle.zio_heal.specs.StoredCases.{ContentIsAnother, FaultHeals, LastingFaultLeaves, NameIsLeftOver, NoContentIsntAlike, ReplyIsMissing, RequestDidntEnd, SameWithoutFault, UnreadIsntAlike};
 ghost use Rattle.zio_heal.specs.WholeCases.{AskMayBeRefused, CopiesFailed, CopiesWritten, LeafMayFail, PartFailed, PartWritten, ReadIsNoWrite};
 
 /// A script heals where no request may fail and all rows are past at its last line, which is a clear.
@@ -109,6 +109,12 @@ pub fn runs_store_plainly()
     ensures fault_heals { FaultHeals }
     ensures same_without_fault { SameWithoutFault }
     ensures lasting_fault_leaves { LastingFaultLeaves }
+    ensures reply_is_missing { ReplyIsMissing }
+    ensures request_didnt_end { RequestDidntEnd }
+    ensures name_is_left_over { NameIsLeftOver }
+    ensures content_is_another { ContentIsAnother }
+    ensures unread_isnt_alike { UnreadIsntAlike }
+    ensures no_content_isnt_alike { NoContentIsntAlike }
 {}
 
 /// A write is whole where its pieces and its parts came to no error.

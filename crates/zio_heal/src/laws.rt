@@ -1,4 +1,4 @@
-ghost use Rattle.std.specs.Prelude.{◌≡◌, ◌≤◌, ◌∷◌, ℕ, Bool, Contains, IfOk, IsOk, IsSome, List, None, count_by, false, length, true};
+ghost use Rattle.std.specs.Prelude.{◌≡◌, ◌≤◌, ◌∷◌, ◌++◌, ℕ, Bool, Contains, IfOk, IsOk, IsSome, List, None, count_by, false, length, true};
 ghost use Rattle.std.specs.List.{AllByRecursion};
 ghost use Rattle.zio_types.specs.declared.place.Place.{Place};
 ghost use Rattle.zio_types.specs.Choices.{Choice};
@@ -18,7 +18,7 @@ ghost use Rattle.zio_trace.specs.Programs.{Deed, Happen, Made};
 ghost use Rattle.zio_trace.specs.Readers.{CopiesApart};
 ghost use Rattle.zio_trace.specs.RoundTraces.{Trace, task_trace};
 ghost use Rattle.zio_trace.specs.RunTraces.{RoundStart, starts_of};
-ghost use Rattle.zio_trace.specs.Tasks.{Task, Value, WriteCopies, WritePart, Wrote, means};
+ghost use Rattle.zio_trace.specs.Tasks.{ReadCopies, Task, Test, Value, WriteCopies, WritePart, Wrote, good_by, got, means};
 ghost use Rattle.zio_heal.specs.Copies.{AreElsewhere, HasCopy, IsPastFaults, StoresAsGiven, spots_in};
 ghost use Rattle.zio_heal.specs.Discipline.{AreUnfailing, EndWithoutError, IsUnfailing, MayNotFail};
 ghost use Rattle.zio_heal.specs.Healed.{IsHealed, IsHealedRequest};
@@ -121,7 +121,8 @@ pub fn writes_without_error_are_whole()
         HasCopy spots bytes after }
 {}
 
-/// With no row that is met any more, a read of places that have a copy with good bytes is good in its first pass.
+/// With no row that is met any more, a read of places that have a copy with good bytes is good in its first pass. So it
+/// is in a trace, where the operations before the read spare the copy.
 pub fn copies_are_found_once_faults_are_past()
     ensures first { (s : Setting) (good : List ℕ → Bool) (images : Images) (bytes : List ℕ) (places : List Place) →
         IsPastFaults s → HasCopy (spots_of s places) bytes images → good bytes ≡ true →
@@ -130,4 +131,13 @@ pub fn copies_are_found_once_faults_are_past()
         (places : List Place) →
         IsPastFaults s → HasCopy (spots_of s places) bytes images → good bytes ≡ true →
         IsOk (read_block s repair good images (length bytes) places).found }
+    ensures traces { (journal : List Choice) (t : Terms) (sizes : ℕ → ℕ) (repair : Bool) (test : Test)
+        (places : List Place) (bytes : List ℕ) (value : Value) (front rest : Trace) (before after : Images) →
+        let spots = spots_of t.setting places in
+        let read : Deed Task Value = record { op = ReadCopies repair test (length bytes) places; answer = value } in
+        StoresAsGiven t.setting → IsPastFaults t.setting → HaveSizes sizes before →
+        HaveRoom (length bytes) spots → CopiesApart spots → good_by test bytes ≡ true →
+        AllByRecursion (λ (d : Deed Task Value). SparesBy sizes t.setting spots bytes d.op d.answer) front →
+        Happen (means journal t) (front ++ read ∷ rest) before after →
+        HasCopy spots bytes before → IsOk (got value) }
 {}

@@ -1,0 +1,17 @@
+pub mod Alike
+pub mod AlikeCases
+pub mod Copies
+pub mod CopyCases
+pub mod Discipline
+pub mod DisciplineCases
+pub mod Given
+pub mod GivenCases
+pub mod Healed
+pub mod HealedCases
+pub mod PlainStore
+pub mod Spared
+pub mod StoreCases
+pub mod StoredCases
+pub mod StoredPlainly
+pub mod Whole
+pub mod WholeCases

@@ -1,0 +1,129 @@
+ghost use Rattle.zio_heal.specs.AlikeCases.{BytesForError, BytesOfARead, EqualIsAlike, ErrorForBytes, EveryByteCounts, LengthCounts, NextPointerCounts, NoByteMore, OtherBytes, OtherError, OtherNumber, OtherSize, PointersMayDiffer, SameError, SizeOfAWrite};
+ghost use Rattle.zio_heal.specs.CopyCases.{FailedReadSpares, FailedWritesStoreNothing, NeighboursAreElsewhere, NoSpotNoCopy, OneByteMeets, OnesArent, OtherReadDoesnt, RowStillHolds, RowsArePast, SingleWriteDoesnt, SpaceActsSpare, TrueReadSpares, TurnedWritesStoreOthers, WriteElsewhereSpares, WriteOverItDoesnt, ZerosAreThere};
+ghost use Rattle.zio_heal.specs.DisciplineCases.{BadChildIsnt, ClaimMayFail, FlaggedReadMay, GoodChildIsKept, ReadMayNotFail};
+ghost use Rattle.zio_heal.specs.GivenCases.{AllPlacesCount, BytesOfNobodyArent, ErrorsAreTrue, GivenBytesAreTrue, HeadersAreCompared, LastReadsCount, LastWriteCounts, NobodyReadIt, NothingWasGiven, OtherBytesArent, RunAcceptsWhatWasGiven};
+ghost use Rattle.zio_heal.specs.HealedCases.{ClaimsMayFail, ClearIsNotLast, NoClearAtAll, NoRowsHeal, NoSumNoDamage, OneClearTooFew, OthersGoOn, PanicsEnd, ReadMayFail, ReadsMayBeTurned, TurnedByAnyStay, TurnedWritesStay, TwoClearsHeal, WriteHeals};
+ghost use Rattle.zio_heal.specs.StoreCases.{ChildrenMakeAFront, FaultsChangeNothing, FreedNameIsGone, FreedNameIsWritten, MissingComesFirst, NamesAtTheEnd, PaddedToASector, ReadersShareAName, TakenNameStays, TreeFailsWhole, TreesFailAlone, WholeSectorsStay};
+ghost use Rattle.zio_heal.specs.StoredCases.{ContentIsAnother, FaultHeals, LastingFaultLeaves, NameIsLeftOver, NoContentIsntAlike, ReplyIsMissing, RequestDidntEnd, SameWithoutFault, UnreadIsntAlike};
+ghost use Rattle.zio_heal.specs.WholeCases.{AskMayBeRefused, CopiesFailed, CopiesWritten, LeafMayFail, PartFailed, PartWritten, ReadIsNoWrite};
+
+/// A script heals where no request may fail and all rows are past at its last line, which is a clear.
+pub fn scripts_heal_once_faults_are_past()
+    ensures write_heals { WriteHeals }
+    ensures reads_may_be_turned { ReadsMayBeTurned }
+    ensures two_clears_heal { TwoClearsHeal }
+    ensures no_rows_heal { NoRowsHeal }
+    ensures turned_writes_stay { TurnedWritesStay }
+    ensures turned_by_any_stay { TurnedByAnyStay }
+    ensures one_clear_too_few { OneClearTooFew }
+    ensures clear_is_not_last { ClearIsNotLast }
+    ensures no_clear_at_all { NoClearAtAll }
+    ensures claims_may_fail { ClaimsMayFail }
+    ensures read_may_fail { ReadMayFail }
+    ensures no_sum_no_damage { NoSumNoDamage }
+    ensures others_go_on { OthersGoOn }
+    ensures panics_end { PanicsEnd }
+{}
+
+/// A plain store answers batch after batch: whole trees fail by admission, and everything else is done.
+pub fn plain_stores_answer_in_order()
+    ensures padded_to_a_sector { PaddedToASector }
+    ensures whole_sectors_stay { WholeSectorsStay }
+    ensures readers_share_a_name { ReadersShareAName }
+    ensures freed_name_is_gone { FreedNameIsGone }
+    ensures freed_name_is_written { FreedNameIsWritten }
+    ensures taken_name_stays { TakenNameStays }
+    ensures names_at_the_end { NamesAtTheEnd }
+    ensures tree_fails_whole { TreeFailsWhole }
+    ensures missing_comes_first { MissingComesFirst }
+    ensures trees_fail_alone { TreesFailAlone }
+    ensures children_make_a_front { ChildrenMakeAFront }
+    ensures faults_change_nothing { FaultsChangeNothing }
+{}
+
+/// Contents are alike behind their children's pointers, and replies by their errors, sizes and contents.
+pub fn replies_are_alike_behind_pointers()
+    ensures pointers_may_differ { PointersMayDiffer }
+    ensures no_byte_more { NoByteMore }
+    ensures next_pointer_counts { NextPointerCounts }
+    ensures every_byte_counts { EveryByteCounts }
+    ensures equal_is_alike { EqualIsAlike }
+    ensures length_counts { LengthCounts }
+    ensures size_of_a_write { SizeOfAWrite }
+    ensures other_size { OtherSize }
+    ensures bytes_of_a_read { BytesOfARead }
+    ensures other_bytes { OtherBytes }
+    ensures same_error { SameError }
+    ensures other_error { OtherError }
+    ensures error_for_bytes { ErrorForBytes }
+    ensures bytes_for_error { BytesForError }
+    ensures other_number { OtherNumber }
+{}
+
+/// A read of copies is compared with the last write at the same places, in a run and after it.
+pub fn accepted_copies_are_compared_with_their_writes()
+    ensures last_write_counts { LastWriteCounts }
+    ensures nothing_was_given { NothingWasGiven }
+    ensures all_places_count { AllPlacesCount }
+    ensures given_bytes_are_true { GivenBytesAreTrue }
+    ensures other_bytes_arent { OtherBytesArent }
+    ensures bytes_of_nobody_arent { BytesOfNobodyArent }
+    ensures errors_are_true { ErrorsAreTrue }
+    ensures headers_are_compared { HeadersAreCompared }
+    ensures run_accepts_what_was_given { RunAcceptsWhatWasGiven }
+    ensures nobody_read_it { NobodyReadIt }
+    ensures last_reads_count { LastReadsCount }
+{}
+
+/// A copy is at a spot; what lies elsewhere spares it, and so does a read of it that gives its bytes.
+pub fn copies_are_spared_by_what_lies_elsewhere()
+    ensures zeros_are_there { ZerosAreThere }
+    ensures ones_arent { OnesArent }
+    ensures no_spot_no_copy { NoSpotNoCopy }
+    ensures neighbours_are_elsewhere { NeighboursAreElsewhere }
+    ensures one_byte_meets { OneByteMeets }
+    ensures failed_writes_store_nothing { FailedWritesStoreNothing }
+    ensures turned_writes_store_others { TurnedWritesStoreOthers }
+    ensures rows_are_past { RowsArePast }
+    ensures row_still_holds { RowStillHolds }
+    ensures write_elsewhere_spares { WriteElsewhereSpares }
+    ensures write_over_it_doesnt { WriteOverItDoesnt }
+    ensures true_read_spares { TrueReadSpares }
+    ensures failed_read_spares { FailedReadSpares }
+    ensures other_read_doesnt { OtherReadDoesnt }
+    ensures space_acts_spare { SpaceActsSpare }
+    ensures single_write_doesnt { SingleWriteDoesnt }
+{}
+
+/// A request may fail by its flag or by its kind, and keeps the errors of its children.
+pub fn flags_and_kinds_let_requests_fail()
+    ensures read_may_not_fail { ReadMayNotFail }
+    ensures flagged_read_may { FlaggedReadMay }
+    ensures claim_may_fail { ClaimMayFail }
+    ensures good_child_is_kept { GoodChildIsKept }
+    ensures bad_child_isnt { BadChildIsnt }
+{}
+
+/// A run whose fault heals stores as a plain store does, and so does one without the fault.
+pub fn runs_store_plainly()
+    ensures fault_heals { FaultHeals }
+    ensures same_without_fault { SameWithoutFault }
+    ensures lasting_fault_leaves { LastingFaultLeaves }
+    ensures reply_is_missing { ReplyIsMissing }
+    ensures request_didnt_end { RequestDidntEnd }
+    ensures name_is_left_over { NameIsLeftOver }
+    ensures content_is_another { ContentIsAnother }
+    ensures unread_isnt_alike { UnreadIsntAlike }
+    ensures no_content_isnt_alike { NoContentIsntAlike }
+{}
+
+/// A write is whole where its pieces and its parts came to no error.
+pub fn pieces_without_error_are_whole()
+    ensures copies_written { CopiesWritten }
+    ensures copies_failed { CopiesFailed }
+    ensures part_written { PartWritten }
+    ensures part_failed { PartFailed }
+    ensures leaf_may_fail { LeafMayFail }
+    ensures ask_may_be_refused { AskMayBeRefused }
+    ensures read_is_no_write { ReadIsNoWrite }
+{}

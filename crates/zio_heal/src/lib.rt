@@ -1,0 +1,24 @@
+//! Faults that heal: which scripts end as if no fault had been there, and why no good copy is lost on the way.
+//!
+//! It stands on `zio_trace`, for the operations of a run, and on `zio_report`, for what is shown of a request.
+//! `specs/Healed` says which scripts heal, `specs/PlainStore` what their requests are answered, `specs/Alike` when a
+//! reply is as there, `specs/StoredPlainly` what a whole run comes to, and `specs/Given` what has to hold of the sums.
+//! Each call is a law: its contract is the statement, and its body is empty. Read
+//! `requests_that_may_not_fail_end_without_error` first.
+#![tactic(auto)]
+
+mod cases;
+mod laws;
+
+pub use cases::{
+    accepted_copies_are_compared_with_their_writes, copies_are_spared_by_what_lies_elsewhere,
+    flags_and_kinds_let_requests_fail, pieces_without_error_are_whole,
+    plain_stores_answer_in_order, replies_are_alike_behind_pointers, runs_store_plainly,
+    scripts_heal_once_faults_are_past,
+};
+pub use laws::{
+    copies_are_found_once_faults_are_past, copies_last_where_they_are_spared,
+    copies_stay_while_others_change, healed_scripts_keep_their_discipline,
+    pieces_written_have_a_copy_in_each_place, requests_that_may_not_fail_end_without_error,
+    writes_without_error_are_whole,
+};

@@ -1,0 +1,6 @@
+pub mod NumberLemmas
+pub mod OrderLemmas
+pub mod PartLemmas
+pub mod ShapeLemmas
+pub mod TakeLemmas
+pub mod WordLemmas

@@ -1,0 +1,14 @@
+//! The journal that a report spells: what its `take` and `order` lines say, read round by round.
+//!
+//! It stands on `zio_report`, whose lines it reads. `specs/Spelled` says which lines are the journal's and what they
+//! spell, by the texts that `zio_report` prints; docs/FORMATS.md, "Report", has the lines. `specs/Reading` is the
+//! reader's own, and nothing of it has to be believed.
+#![tactic(auto)]
+
+mod number;
+mod order;
+mod parts;
+mod take;
+
+pub use order::order_line;
+pub use take::take_line;

@@ -80,7 +80,7 @@ numbers_read numbers (n ∷ more) fits some =
     ap (λ (o : Option ℕ). o >>= λ m. numbers_onto (numbers ++ m ∷ []) (map decimal more)) (number_of_decimal (2 ^ 32) n below (omega arith))
     ∙ next ∙ ap Some same
 
-line_is_order : (line : Word) (numbers : List ℕ) → order_in line ≡ Some numbers → IsOrder line numbers
+pub line_is_order : (line : Word) (numbers : List ℕ) → order_in line ≡ Some numbers → IsOrder line numbers
 line_is_order line numbers is =
     let found = behind_by (codes "order") (numbers_onto []) (parts_of line) numbers is in
     let are = numbers_are [] found.0 numbers found.2 in

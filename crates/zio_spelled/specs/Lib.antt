@@ -1,2 +1,4 @@
-pub mod Spelled
 pub mod Reading
+pub mod Rounds
+pub mod Spelled
+pub mod Worked

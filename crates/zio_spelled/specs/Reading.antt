@@ -12,7 +12,8 @@ use Rattle.zio_types.specs.Choices.{Choice}
 use Rattle.zio_script.specs.Lines.{◌>>=◌}
 use Rattle.zio_script.specs.Words.{Word, Entry, is_empty, is_numeral, is_word, value_in}
 use Rattle.zio_spelled.specs.declared.parts.Parts.{Parts}
-use Rattle.zio_spelled.specs.Spelled.{parts_of, sized_place}
+use Rattle.zio_spelled.specs.declared.rounds.RoundJournal.{RoundJournal}
+use Rattle.zio_spelled.specs.Spelled.{is_order, is_take, parts_of, sized_place}
 
 -- ---- parts
 
@@ -128,3 +129,28 @@ numbers_onto numbers (word ∷ words) = number_in word >>= λ n. numbers_onto (n
 -- the requests that a line spells
 abbrev pub order_in : Word → Option (List ℕ)
 order_in line = behind (codes "order") (numbers_onto []) (parts_of line)
+
+-- ---- rounds
+
+-- the journal of no line
+abbrev pub no_lines : RoundJournal
+no_lines = record { entries = []; order = [] }
+
+-- one more entry
+abbrev pub with_entry : RoundJournal → Choice → RoundJournal
+with_entry j choice = record j { entries = j.entries ++ choice ∷ [] }
+
+-- more requests that completed
+abbrev pub with_order : RoundJournal → List ℕ → RoundJournal
+with_order j numbers = record j { order = j.order ++ numbers }
+
+-- the journal with one more line
+abbrev pub line_onto : List TopSize → ℕ → RoundJournal → Word → Option RoundJournal
+line_onto tops round j line =
+    cond (is_take line) (option_map (with_entry j) (take_in tops round line))
+    (cond (is_order line) (option_map (with_order j) (order_in line)) (Some j))
+
+-- the same with more lines
+abbrev pub lines_onto : List TopSize → ℕ → RoundJournal → List Word → Option RoundJournal
+lines_onto tops round j [] = Some j
+lines_onto tops round j (line ∷ lines) = line_onto tops round j line >>= λ next. lines_onto tops round next lines

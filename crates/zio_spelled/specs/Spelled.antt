@@ -14,10 +14,10 @@ use Rattle.zio_report.specs.Lines.{path_text, place_text, role_text, spaced, whe
 abbrev pub parts_of : Word → List Word
 parts_of line = slice_split (λ c. c == 32) line
 
--- the first of the words
-abbrev pub first_of : List Word → Word
+-- the first of some lists, empty where there is none
+abbrev pub first_of : {X : Type 0} → List (List X) → List X
 first_of [] = []
-first_of (word ∷ words) = word
+first_of (xs ∷ others) = xs
 
 -- the line up to its first blank
 abbrev pub first_word : Word → Word

@@ -5,10 +5,14 @@
 //! reader's own, and nothing of it has to be believed.
 #![tactic(auto)]
 
+mod laws;
 mod number;
 mod order;
 mod parts;
+mod rounds;
 mod take;
 
+pub use laws::worked_lines;
 pub use order::order_line;
+pub use rounds::{JournalFault, RoundJournal, Rounds};
 pub use take::take_line;

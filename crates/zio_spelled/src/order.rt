@@ -17,7 +17,7 @@ pub fn order_line(alloc: Global, line: &[u8]) -> Result<Option<List<ReqNo>>, NoM
     order_in(alloc, line)
 }
 
-fn order_in(alloc: Global, line: &[u8]) -> Result<Option<List<ReqNo>>, NoMemory>
+pub(crate) fn order_in(alloc: Global, line: &[u8]) -> Result<Option<List<ReqNo>>, NoMemory>
     ensures { IfOk result (λ numbers. numbers ≡ order_in line.now) }
 {
     let mut words = Parts::of(line, b' ');

@@ -26,7 +26,7 @@ pub fn take_line(tops: &[TopSize], round: u32, line: &[u8]) -> Option<Entry>
     take_in(tops, round, line)
 }
 
-fn take_in(tops: &[TopSize], round: u32, line: &[u8]) -> Option<Entry>
+pub(crate) fn take_in(tops: &[TopSize], round: u32, line: &[u8]) -> Option<Entry>
     requires { list_all is_lawful_top tops.now ≡ true }
     ensures { result ≡ take_in tops.now round line.now }
 {

@@ -11,7 +11,7 @@ use Rattle.std.proofs.lemmas.Slice.Eq.{bytes_eq-Decides}
 use Rattle.std.proofs.lemmas.Str.Parse.{IsNumeralModel, digit_from_value, numerals_by_value, tells_digits}
 use Rattle.zio_script.specs.Words.{Word, has_leading_zero, is_empty, is_numeral, is_word}
 use Rattle.zio_spelled.specs.Reading.{number_below}
-use Rattle.zio_spelled.proofs.PartLemmas.{Free}
+use Rattle.zio_spelled.proofs.PartLemmas.{Dark, Free}
 
 -- the byte is no decimal digit
 abbrev pub IsOther : ℕ → Type 0
@@ -38,6 +38,16 @@ free_digits x other (c ∷ cs) all =
 -- another byte doesn't occur in a number
 pub free_decimal : (x n : ℕ) → IsOther x → n < 2 ^ 64 → Free x (decimal n)
 free_decimal x n other fits = free_digits x other (decimal n) (digits_of n fits)
+
+dark_digits : (digits : List ℕ) → AllDigits 10 digits → Dark digits
+dark_digits [] all = tt
+dark_digits (c ∷ cs) all =
+    let range = digit_from_value c all.0 in
+    (omega arith, dark_digits cs all.1)
+
+-- a number is dark
+pub dark_decimal : (n : ℕ) → n < 2 ^ 64 → Dark (decimal n)
+dark_decimal n fits = dark_digits (decimal n) (digits_of n fits)
 
 heads : (x c : ℕ) (xs cs : Word) → ◌≡◌ {A = List ℕ} (x ∷ xs) (c ∷ cs) → x ≡ c
 heads x c xs cs same = cc

@@ -9,25 +9,32 @@ use Rattle.zio_script.specs.Words.{Word, is_empty}
 use Rattle.zio_report.specs.Lines.{spaced}
 use Rattle.zio_spelled.specs.Spelled.{IsOrder, order_line, parts_of}
 use Rattle.zio_spelled.specs.Reading.{behind, number_in, numbers_onto, order_in}
-use Rattle.zio_spelled.proofs.PartLemmas.{joined, same_parts, split_joined}
-use Rattle.zio_spelled.proofs.NumberLemmas.{decimal_of_number, free_decimal, number_of_decimal}
-use Rattle.zio_spelled.proofs.WordLemmas.{bind_some, cons_same, free_numbers, none_is, some_is, then_some_is}
-use Rattle.zio_spelled.proofs.ShapeLemmas.{behind_by, other_blank}
+use Rattle.zio_spelled.proofs.PartLemmas.{Dark, Free, dark_from, free_all, free_append, free_joined, free_of_dark, joined, same_parts, split_joined}
+use Rattle.zio_spelled.proofs.NumberLemmas.{dark_decimal, decimal_of_number, number_of_decimal}
+use Rattle.zio_spelled.proofs.WordLemmas.{bind_some, cons_same, none_is, some_is, then_some_is}
+use Rattle.zio_spelled.proofs.ShapeLemmas.{behind_by}
 
 orders_joined : (numbers : List ℕ) → flat_map (λ n. spaced (decimal n)) numbers ≡ joined 32 (map decimal numbers)
 orders_joined [] = refl
 orders_joined (n ∷ numbers) = ap (λ (rest : List ℕ). spaced (decimal n) ++ rest) (orders_joined numbers)
 
-small_numbers : (numbers : List ℕ) → AllByRecursion (λ n. n < 2 ^ 32) numbers → AllByRecursion (λ n. n < 2 ^ 64) numbers
-small_numbers [] fits = tt
-small_numbers (n ∷ numbers) fits =
+dark_numbers : (numbers : List ℕ) → AllByRecursion (λ n. n < 2 ^ 32) numbers → AllByRecursion Dark (map decimal numbers)
+dark_numbers [] fits = tt
+dark_numbers (n ∷ numbers) fits =
     let below : n < 2 ^ 32 = fits.0 in
-    (omega arith, small_numbers numbers fits.1)
+    (dark_decimal n (omega arith), dark_numbers numbers fits.1)
 
-order_parts : (numbers : List ℕ) → AllByRecursion (λ n. n < 2 ^ 32) numbers → parts_of (order_line numbers) ≡ codes "order" ∷ map decimal numbers
+pub order_parts : (numbers : List ℕ) → AllByRecursion (λ n. n < 2 ^ 32) numbers → parts_of (order_line numbers) ≡ codes "order" ∷ map decimal numbers
 order_parts numbers fits =
     ap (λ (rest : List ℕ). parts_of (codes "order" ++ rest)) (orders_joined numbers)
-    ∙ split_joined 32 (codes "order") (map decimal numbers) (refl, (refl, (refl, (refl, (refl, tt))))) (free_numbers 32 numbers other_blank (small_numbers numbers fits))
+    ∙ split_joined 32 (codes "order") (map decimal numbers) (free_of_dark 32 (omega arith) (codes "order") (dark_from (codes "order") refl))
+    (free_all 32 (omega arith) (map decimal numbers) (dark_numbers numbers fits))
+
+-- a newline doesn't occur in the line
+pub order_one_line : (numbers : List ℕ) → AllByRecursion (λ n. n < 2 ^ 32) numbers → Free 10 (order_line numbers)
+order_one_line numbers fits =
+    subst (λ (rest : List ℕ). Free 10 (codes "order" ++ rest)) (sym (orders_joined numbers))
+    (free_append 10 (codes "order") (joined 32 (map decimal numbers)) (free_of_dark 10 (omega arith) (codes "order") (dark_from (codes "order") refl)) (free_joined (map decimal numbers) (dark_numbers numbers fits)))
 
 -- the numbers of these words were put behind the others
 pub record AreNumbers (numbers : List ℕ) (words : List Word) (all : List ℕ) : Type 0 where

@@ -1,11 +1,13 @@
 -- A text and its parts: where it is cut, and that the parts make the text.
-use Rattle.std.proofs.Common.{◌≡◌, ◌≢◌, ◌<◌, ◌≤◌, ◌+◌, ◌==◌, ◌∷◌, ◌++◌, [], ℕ, List, Bool, true, false, length, get_or, take, drop, refl, sym, ap, ◌∙◌, arith}
-use Rattle.std.specs.List.{slice_split, position_or_len, before_first, after_first, flat_map, join_with_byte, AllByRecursion}
-use Rattle.std.proofs.lemmas.Bool.{eq-eqb, ne_eqb}
+use Rattle.std.proofs.Common.{◌≡◌, ◌≢◌, ◌<◌, ◌≤◌, ◌+◌, ◌==◌, ◌∷◌, ◌++◌, [], ℕ, List, Bool, true, false, length, get_or, take, drop, refl, sym, ap, ◌∙◌, arith, ltb-true}
+use Rattle.std.specs.Prelude.{nat_lt}
+use Rattle.std.specs.List.{slice_split, position_or_len, before_first, after_first, flat_map, join_with_byte, list_all, AllByRecursion}
+use Rattle.std.proofs.lemmas.Bool.{and_parts, eq-eqb, ne_eqb}
 use Rattle.std.proofs.lemmas.List.Splits.{slice_split_none, slice_split_first, slice_split_at, length-slice_split, join_with_byte-slice_split}
 use Rattle.std.proofs.lemmas.List.Sums.{position_or_len_is}
 use Rattle.std.proofs.lemmas.List.{append-nil}
 use Rattle.std.proofs.lemmas.List.Elements.{All-from_get_or, All-from_recursion}
+use Rattle.zio_script.specs.Words.{lines_of, without_empty_end}
 
 abbrev pub parts_at : ℕ → List ℕ → List (List ℕ)
 parts_at separator text = slice_split (λ c. c == separator) text
@@ -57,3 +59,48 @@ split_joined separator part (next ∷ parts) free others =
 -- each text has a part
 pub some_parts : (separator : ℕ) (text : List ℕ) → 0 < length (parts_at separator text)
 some_parts separator text = omega (arith, length-slice_split (λ c. c == separator) text)
+
+-- ---- texts without blanks and newlines
+
+-- each byte is above the blank
+abbrev pub Dark : List ℕ → Type 0
+Dark text = AllByRecursion (λ c. 32 < c) text
+
+pub dark_append : (a b : List ℕ) → Dark a → Dark b → Dark (a ++ b)
+dark_append [] b dark other = other
+dark_append (x ∷ xs) b dark other = (dark.0, dark_append xs b dark.1 other)
+
+pub dark_from : (text : List ℕ) → list_all (λ c. nat_lt 32 c) text ≡ true → Dark text
+dark_from [] all = tt
+dark_from (x ∷ xs) all =
+    let parts = and_parts (nat_lt 32 x) (list_all (λ c. nat_lt 32 c) xs) all in
+    (ltb-true 32 x parts.0, dark_from xs parts.1)
+
+-- neither the blank nor what is below it stands there
+pub free_of_dark : (separator : ℕ) → separator ≤ 32 → (text : List ℕ) → Dark text → Free separator text
+free_of_dark separator low [] dark = tt
+free_of_dark separator low (x ∷ xs) dark =
+    let above : 32 < x = dark.0 in
+    (ne_eqb x separator (λ same. omega arith), free_of_dark separator low xs dark.1)
+
+pub free_all : (separator : ℕ) → separator ≤ 32 → (texts : List (List ℕ)) → AllByRecursion Dark texts → AllByRecursion (Free separator) texts
+free_all separator low [] dark = tt
+free_all separator low (text ∷ texts) dark = (free_of_dark separator low text dark.0, free_all separator low texts dark.1)
+
+-- no newline stands in such words behind blanks
+pub free_joined : (texts : List (List ℕ)) → AllByRecursion Dark texts → Free 10 (joined 32 texts)
+free_joined [] dark = tt
+free_joined (text ∷ texts) dark = (refl, free_append 10 text (joined 32 texts) (free_of_dark 10 (omega arith) text dark.0) (free_joined texts dark.1))
+
+-- ---- lines
+
+more_lines : (line : List ℕ) (lines : List (List ℕ)) → 0 < length lines → without_empty_end (line ∷ lines) ≡ line ∷ without_empty_end lines
+more_lines line [] some = absurd (omega arith)
+more_lines [] (next ∷ lines) some = refl
+more_lines (c ∷ cs) (next ∷ lines) some = refl
+
+-- the first line ends at the first newline
+pub line_then : (line rest : List ℕ) → Free 10 line → lines_of (line ++ 10 ∷ rest) ≡ line ∷ lines_of rest
+line_then line rest free =
+    ap without_empty_end (slice_split_at (λ c. c == 10) line 10 rest (All-from_recursion (λ c. (c == 10) ≡ false) line free) refl)
+    ∙ more_lines line (slice_split (λ c. c == 10) rest) (some_parts 10 rest)

@@ -21,13 +21,13 @@ use Rattle.zio_spelled.proofs.WordLemmas.{bind_some, map_some, none_is, some_is}
 
 -- ---- the lines of a round
 
-take_is_no_order : (line : Word) → is_take line ≡ true → is_order line ≡ false
+pub take_is_no_order : (line : Word) → is_take line ≡ true → is_order line ≡ false
 take_is_no_order line is = ap (is_word (codes "order")) (sym ((bytes_eq-Decides (codes "take") (first_word line)).0 is))
 
-kept_line : (p : Word → Bool) (line : Word) (lines : List Word) → p line ≡ true → filter p (line ∷ lines) ≡ line ∷ filter p lines
+pub kept_line : (p : Word → Bool) (line : Word) (lines : List Word) → p line ≡ true → filter p (line ∷ lines) ≡ line ∷ filter p lines
 kept_line p line lines is = ap (λ b. cond b (line ∷ filter p lines) (filter p lines)) is
 
-other_line : (p : Word → Bool) (line : Word) (lines : List Word) → p line ≡ false → filter p (line ∷ lines) ≡ filter p lines
+pub other_line : (p : Word → Bool) (line : Word) (lines : List Word) → p line ≡ false → filter p (line ∷ lines) ≡ filter p lines
 other_line p line lines is = ap (λ b. cond b (line ∷ filter p lines) (filter p lines)) is
 
 -- what these lines put behind a journal
@@ -143,10 +143,15 @@ round_is tops round lines j is =
       order_is = are.order_is;
     }
 
+-- what a round's lines spell is read
+pub round_read : (tops : List TopSize) (round : ℕ) (lines : List Word) (j : RoundJournal) → IsRoundJournal tops round lines j → lines_onto tops round no_lines lines ≡ Some j
+round_read tops round lines j spelled =
+    lines_read tops round no_lines lines j.entries spelled.orders spelled.entries spelled.order_lines
+    ∙ ap (λ (ns : List ℕ). let made : RoundJournal = record { entries = j.entries; order = ns } in Some made) (sym spelled.order_is)
+
 -- lines that aren't read spell no journal
 pub round_is_none : (tops : List TopSize) (round : ℕ) (lines : List Word) → lines_onto tops round no_lines lines ≡ None → (j : RoundJournal) → IsRoundJournal tops round lines j → ⊥
-round_is_none tops round lines none j spelled =
-    none_is (longer no_lines j.entries spelled.orders) (sym none ∙ lines_read tops round no_lines lines j.entries spelled.orders spelled.entries spelled.order_lines)
+round_is_none tops round lines none j spelled = none_is j (sym none ∙ round_read tops round lines j spelled)
 
 -- ---- rounds
 

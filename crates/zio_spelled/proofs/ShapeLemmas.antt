@@ -17,8 +17,8 @@ use Rattle.zio_script.specs.Words.{Word, is_empty, is_word}
 use Rattle.zio_report.specs.Lines.{joined_steps, path_text, place_text, role_text, when}
 use Rattle.zio_spelled.specs.Spelled.{ChoiceFits, IsTake, IsTakeShape, PlaceFits, completed, parts_of, sized_place, take_text}
 use Rattle.zio_spelled.specs.Reading.{Read, bare, behind, key_read, next_read, number_in, path_in, place_in, places_onto, role_in, take_in, take_read, with_place}
-use Rattle.zio_spelled.proofs.PartLemmas.{Free, free_append, joined, same_parts, split_joined}
-use Rattle.zio_spelled.proofs.NumberLemmas.{IsOther, decimal_of_number, free_decimal, number_of_decimal, other_word}
+use Rattle.zio_spelled.proofs.PartLemmas.{Dark, Free, dark_append, dark_from, free_all, free_append, free_joined, free_of_dark, joined, same_parts, split_joined}
+use Rattle.zio_spelled.proofs.NumberLemmas.{IsOther, dark_decimal, decimal_of_number, number_of_decimal, other_word}
 use Rattle.zio_spelled.proofs.WordLemmas.{IsPlaceOf, bind_some, cond_some, cons_same, free_numbers, next_is, no_more, none_is, path_is, path_read, place_is, place_read, place_word, role_is, role_read, small_steps, some_is, steps_joined, then_some_is}
 
 -- ---- the words behind the first
@@ -68,57 +68,54 @@ take_joined marked c =
     regroup (codes "take ") n a p r s k (flat_map place_text c.places) (when marked (codes " refused"))
     ∙ ap (λ (rest : List ℕ). codes "take " ++ (n ++ 32 ∷ (a ++ 32 ∷ (p ++ 32 ∷ (r ++ 32 ∷ (s ++ 32 ∷ (k ++ rest))))))) (places_joined c.places marked)
 
--- ---- no blank stands in a word
+-- ---- no blank and no newline stands in a word
 
-pub other_blank : IsOther 32
-other_blank c low high same = omega arith
-
-free_steps : (step : ℕ) (steps : List ℕ) → AllByRecursion (λ s. s < 2 ^ 8) (step ∷ steps) → Free 32 (joined_steps (step ∷ steps))
-free_steps step [] fits =
+dark_steps : (step : ℕ) (steps : List ℕ) → AllByRecursion (λ s. s < 2 ^ 8) (step ∷ steps) → Dark (joined_steps (step ∷ steps))
+dark_steps step [] fits =
     let below : step < 2 ^ 8 = fits.0 in
-    free_decimal 32 step other_blank (omega arith)
-free_steps step (next ∷ steps) fits =
+    dark_decimal step (omega arith)
+dark_steps step (next ∷ steps) fits =
     let below : step < 2 ^ 8 = fits.0 in
-    free_append 32 (decimal step ++ codes ".") (joined_steps (next ∷ steps))
-    (free_append 32 (decimal step) (codes ".") (free_decimal 32 step other_blank (omega arith)) (refl, tt)) (free_steps next steps fits.1)
+    dark_append (decimal step ++ codes ".") (joined_steps (next ∷ steps))
+    (dark_append (decimal step) (codes ".") (dark_decimal step (omega arith)) (dark_from (codes ".") refl)) (dark_steps next steps fits.1)
 
-free_path : (path : List ℕ) → AllByRecursion (λ s. s < 2 ^ 8) path → Free 32 (path_text path)
-free_path [] fits = (refl, tt)
-free_path (step ∷ steps) fits = free_steps step steps fits
+dark_path : (path : List ℕ) → AllByRecursion (λ s. s < 2 ^ 8) path → Dark (path_text path)
+dark_path [] fits = dark_from (codes "-") refl
+dark_path (step ∷ steps) fits = dark_steps step steps fits
 
-free_role : (role : Role) → Free 32 (role_text role)
-free_role Body = (refl, (refl, (refl, (refl, tt))))
-free_role Head = (refl, (refl, (refl, (refl, tt))))
+dark_role : (role : Role) → Dark (role_text role)
+dark_role Body = dark_from (codes "body") refl
+dark_role Head = dark_from (codes "head") refl
 
-free_place : (p : Place) → PlaceFits p → Free 32 (place_word p)
-free_place p fits =
+dark_place : (p : Place) → PlaceFits p → Dark (place_word p)
+dark_place p fits =
     let low : p.top < 2 ^ 32 = fits.top in
-    free_append 32 (decimal p.top ++ codes ":") (decimal p.sector)
-    (free_append 32 (decimal p.top) (codes ":") (free_decimal 32 p.top other_blank (omega arith)) (refl, tt)) (free_decimal 32 p.sector other_blank fits.sector)
+    dark_append (decimal p.top ++ codes ":") (decimal p.sector)
+    (dark_append (decimal p.top) (codes ":") (dark_decimal p.top (omega arith)) (dark_from (codes ":") refl)) (dark_decimal p.sector fits.sector)
 
-free_places : (places : List Place) (marked : Bool) → AllByRecursion PlaceFits places → AllByRecursion (Free 32) (map place_word places ++ mark_words marked)
-free_places [] true fits = ((refl, (refl, (refl, (refl, (refl, (refl, (refl, tt))))))), tt)
-free_places [] false fits = tt
-free_places (p ∷ places) marked fits = (free_place p fits.0, free_places places marked fits.1)
+dark_places : (places : List Place) (marked : Bool) → AllByRecursion PlaceFits places → AllByRecursion Dark (map place_word places ++ mark_words marked)
+dark_places [] true fits = (dark_from (codes "refused") refl, tt)
+dark_places [] false fits = tt
+dark_places (p ∷ places) marked fits = (dark_place p fits.0, dark_places places marked fits.1)
 
-free_words : (marked : Bool) (c : Choice) → ChoiceFits c → AllByRecursion (Free 32) (take_words marked c)
-free_words marked c fits =
+dark_words : (marked : Bool) (c : Choice) → ChoiceFits c → AllByRecursion Dark (take_words marked c)
+dark_words marked c fits =
     let request : c.asked.key.request < 2 ^ 32 = fits.request in
     let attempt : c.asked.key.attempt < 2 ^ 32 = fits.attempt in
     let size : c.asked.size < 2 ^ 32 = fits.size in
     let copies : c.asked.copies < 2 ^ 32 = fits.copies in (
-      free_decimal 32 c.asked.key.request other_blank (omega arith),
+      dark_decimal c.asked.key.request (omega arith),
       (
-        free_decimal 32 c.asked.key.attempt other_blank (omega arith),
+        dark_decimal c.asked.key.attempt (omega arith),
         (
-          free_path c.asked.key.path fits.steps,
+          dark_path c.asked.key.path fits.steps,
           (
-            free_role c.asked.key.role,
+            dark_role c.asked.key.role,
             (
-              free_decimal 32 c.asked.size other_blank (omega arith),
+              dark_decimal c.asked.size (omega arith),
               (
-                free_decimal 32 c.asked.copies other_blank (omega arith),
-                free_places c.places marked fits.places,
+                dark_decimal c.asked.copies (omega arith),
+                dark_places c.places marked fits.places,
               ),
             ),
           ),
@@ -126,11 +123,17 @@ free_words marked c fits =
       ),
     )
 
+-- a newline doesn't occur in an entry's line
+pub take_one_line : (marked : Bool) (c : Choice) → ChoiceFits c → Free 10 (take_text marked c)
+take_one_line marked c fits =
+    subst (λ (line : List ℕ). Free 10 line) (sym (take_joined marked c))
+    (free_append 10 (codes "take") (joined 32 (take_words marked c)) (free_of_dark 10 (omega arith) (codes "take") (dark_from (codes "take") refl)) (free_joined (take_words marked c) (dark_words marked c fits)))
+
 -- the parts of an entry's line
 pub take_parts : (marked : Bool) (c : Choice) → ChoiceFits c → parts_of (take_text marked c) ≡ codes "take" ∷ take_words marked c
 take_parts marked c fits =
     ap parts_of (take_joined marked c)
-    ∙ split_joined 32 (codes "take") (take_words marked c) (refl, (refl, (refl, (refl, tt)))) (free_words marked c fits)
+    ∙ split_joined 32 (codes "take") (take_words marked c) (free_of_dark 32 (omega arith) (codes "take") (dark_from (codes "take") refl)) (free_all 32 (omega arith) (take_words marked c) (dark_words marked c fits))
 
 -- ---- places
 

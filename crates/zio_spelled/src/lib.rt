@@ -5,6 +5,7 @@
 //! reader's own, and nothing of it has to be believed.
 #![tactic(auto)]
 
+mod count;
 mod laws;
 mod number;
 mod order;
@@ -12,7 +13,8 @@ mod parts;
 mod rounds;
 mod take;
 
-pub use laws::worked_lines;
+pub use count::{REPORT_LEN_MAX, count_rounds};
+pub use laws::{printed_journals_are_spelled, worked_lines};
 pub use order::order_line;
 pub use rounds::{JournalFault, RoundJournal, Rounds};
 pub use take::take_line;

@@ -1,5 +1,5 @@
 -- The line of completions is read exactly where it is the text of some requests.
-use Rattle.std.proofs.Common.{◌≡◌, ◌<◌, ◌≤◌, ◌+◌, ◌^◌, ◌++◌, ℕ, List, [], ◌∷◌, length, refl, sym, ap, subst, ◌∙◌, Bool, true, false, Option, Some, None, arith, append_assoc}
+use Rattle.std.proofs.Common.{◌≡◌, ◌<◌, ◌^◌, ◌++◌, ℕ, List, [], ◌∷◌, length, refl, sym, ap, subst, ◌∙◌, true, Option, Some, None, arith, append_assoc}
 use Rattle.std.specs.Prelude.{MatchOption, codes, decimal, map, not}
 use Rattle.std.specs.Bool.{then_some}
 use Rattle.std.specs.List.{AllByRecursion, flat_map}
@@ -11,7 +11,7 @@ use Rattle.zio_spelled.specs.Spelled.{IsOrder, order_line, parts_of}
 use Rattle.zio_spelled.specs.Reading.{behind, number_in, numbers_onto, order_in}
 use Rattle.zio_spelled.proofs.PartLemmas.{Dark, Free, dark_from, free_all, free_append, free_joined, free_of_dark, joined, same_parts, split_joined}
 use Rattle.zio_spelled.proofs.NumberLemmas.{dark_decimal, decimal_of_number, number_of_decimal}
-use Rattle.zio_spelled.proofs.WordLemmas.{bind_some, cons_same, none_is, some_is, then_some_is}
+use Rattle.zio_spelled.proofs.WordLemmas.{bind_some, cons_same, none_is, then_some_is}
 use Rattle.zio_spelled.proofs.ShapeLemmas.{behind_by}
 
 orders_joined : (numbers : List ℕ) → flat_map (λ n. spaced (decimal n)) numbers ≡ joined 32 (map decimal numbers)

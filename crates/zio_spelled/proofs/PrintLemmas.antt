@@ -1,7 +1,7 @@
 -- What is printed of a round's journal is read back.
 use Rattle.std.proofs.Common.{◌≡◌, ◌<◌, ◌+◌, ◌^◌, ◌++◌, ℕ, List, [], ◌∷◌, refl, sym, ap, subst, ◌∙◌, Bool, true, false, arith, append_assoc}
-use Rattle.std.specs.Prelude.{codes, decimal, map}
-use Rattle.std.specs.List.{AllByRecursion, AllZip, concat, flat_map}
+use Rattle.std.specs.Prelude.{codes, decimal}
+use Rattle.std.specs.List.{AllByRecursion, AllZip, flat_map}
 use Rattle.std.proofs.lemmas.List.{append-nil}
 use Rattle.zio_types.specs.declared.journal.Completion.{Completion}
 use Rattle.zio_types.specs.declared.place.TopSize.{TopSize}
@@ -11,7 +11,7 @@ use Rattle.zio_report.specs.Lines.{choice_text, journal_text, order_text, spaced
 use Rattle.zio_spelled.specs.declared.rounds.RoundJournal.{RoundJournal}
 use Rattle.zio_spelled.specs.Rounds.{AreJournals, IsRoundJournal, IsSpelled, lines_of_rounds}
 use Rattle.zio_spelled.specs.Laws.{requests_of}
-use Rattle.zio_spelled.specs.Spelled.{ChoiceFits, IsOrder, IsTake, completed, first_of, first_word, is_order, is_take, order_line, take_text}
+use Rattle.zio_spelled.specs.Spelled.{ChoiceFits, IsOrder, IsTake, completed, first_of, is_order, is_take, order_line, take_text}
 use Rattle.zio_spelled.proofs.OrderLemmas.{order_one_line, order_parts}
 use Rattle.zio_spelled.proofs.PartLemmas.{line_then}
 use Rattle.zio_spelled.proofs.RoundLemmas.{kept_line, other_line, round_read, take_is_no_order}

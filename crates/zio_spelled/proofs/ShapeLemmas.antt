@@ -19,7 +19,7 @@ use Rattle.zio_spelled.specs.Spelled.{ChoiceFits, IsTake, IsTakeShape, PlaceFits
 use Rattle.zio_spelled.specs.Reading.{Read, bare, behind, key_read, next_read, number_in, path_in, place_in, places_onto, role_in, take_in, take_read, with_place}
 use Rattle.zio_spelled.proofs.PartLemmas.{Dark, Free, dark_append, dark_from, free_all, free_append, free_joined, free_of_dark, joined, same_parts, split_joined}
 use Rattle.zio_spelled.proofs.NumberLemmas.{IsOther, dark_decimal, decimal_of_number, number_of_decimal, other_word}
-use Rattle.zio_spelled.proofs.WordLemmas.{IsPlaceOf, bind_some, cond_some, cons_same, free_numbers, next_is, no_more, none_is, path_is, path_read, place_is, place_read, place_word, role_is, role_read, small_steps, some_is, steps_joined, then_some_is}
+use Rattle.zio_spelled.proofs.WordLemmas.{bind_some, cond_some, cons_same, next_is, no_more, none_is, path_is, path_read, place_is, place_read, place_word, role_is, role_read, some_is, then_some_is}
 
 -- ---- the words behind the first
 

@@ -1,8 +1,8 @@
 -- The words of an entry's line: each is read exactly where it is the text of what it says.
-use Rattle.std.proofs.Common.{◌≡◌, ◌<◌, ◌≤◌, ◌+◌, ◌^◌, ◌==◌, ◌++◌, ℕ, List, [], ◌∷◌, length, refl, sym, ap, subst, ◌∙◌, Bool, true, false, Option, Some, None, arith, ltb-true, append_assoc}
+use Rattle.std.proofs.Common.{◌≡◌, ◌<◌, ◌≤◌, ◌+◌, ◌^◌, ◌++◌, ℕ, List, [], ◌∷◌, length, refl, sym, ap, subst, ◌∙◌, Bool, true, false, Option, Some, None, arith, ltb-true, append_assoc}
 use Rattle.std.specs.Prelude.{cond, codes, decimal, map, nat_lt, option_map}
 use Rattle.std.specs.Bool.{then_some}
-use Rattle.std.specs.List.{AllByRecursion, slice_split}
+use Rattle.std.specs.List.{AllByRecursion}
 use Rattle.std.proofs.lemmas.Bool.{lt-ltb}
 use Rattle.std.proofs.lemmas.List.{append-nil, length_push}
 use Rattle.std.proofs.lemmas.Slice.Eq.{bytes_eq-Decides}
@@ -15,7 +15,7 @@ use Rattle.zio_script.specs.Words.{Word, is_empty, is_word}
 use Rattle.zio_report.specs.Lines.{joined_steps, path_text, role_text}
 use Rattle.zio_spelled.specs.Spelled.{PlaceFits, sized_place}
 use Rattle.zio_spelled.specs.Reading.{Read, next_read, number_below, number_in, path_in, place_in, role_in, sector_in, steps_onto}
-use Rattle.zio_spelled.proofs.PartLemmas.{Free, free_append, joined, parts_at, same_parts, some_parts, split_joined}
+use Rattle.zio_spelled.proofs.PartLemmas.{Free, joined, parts_at, same_parts, some_parts, split_joined}
 use Rattle.zio_spelled.proofs.NumberLemmas.{IsOther, decimal_of_number, free_decimal, number_of_decimal, other_word}
 
 -- ---- steps of the reader

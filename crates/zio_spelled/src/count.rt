@@ -11,14 +11,15 @@ use zio_types::{NoMemory, TopSize};
 /// The most bytes of a report.
 pub const REPORT_LEN_MAX: usize = 64 * 1024 * 1024;
 
-/// How many rounds a report has, none exactly where it spells no journal: where a line of the journal isn't of its shape,
-/// or stands before all rounds. It keeps the journal of one round at a time.
+/// How many rounds a report has, by its `round` lines; none exactly where it spells no journal: where a line of the
+/// journal isn't of its shape, or stands before all rounds. It keeps the journal of one round at a time.
 pub fn count_rounds(alloc: Global, tops: &[TopSize], text: &[u8]) -> Result<Option<u32>, NoMemory>
     requires lawful { list_all is_lawful_top tops.now ≡ true }
     requires short { length text.now ≤ REPORT_LEN_MAX }
     ensures { IfOk result (λ rounds. MatchOption rounds
         ((journals : List RoundJournal) → ¬ IsSpelled tops.now text.now journals)
-        (λ n. (n ≡ length (lines_of_rounds text.now)) × ((journals : List RoundJournal) × IsSpelled tops.now text.now journals))) }
+        (λ n. (n ≡ length (lines_of_rounds text.now))
+        × ((journals : List RoundJournal) × IsSpelled tops.now text.now journals))) }
 {
     let Some(all) = Rounds::of(text) else {
         return Ok(None);

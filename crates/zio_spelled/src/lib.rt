@@ -1,8 +1,10 @@
 //! The journal that a report spells: what its `take` and `order` lines say, read round by round.
 //!
-//! It stands on `zio_report`, whose lines it reads. `specs/Spelled` says which lines are the journal's and what they
-//! spell, by the texts that `zio_report` prints; docs/FORMATS.md, "Report", has the lines. `specs/Reading` is the
-//! reader's own, and nothing of it has to be believed.
+//! It stands on `zio_report`, whose lines it reads. Read `count_rounds` first, which tells whether a report spells a
+//! journal, then `Rounds`, which reads one round after another. `specs/Spelled` says what a line of the journal is and
+//! what it spells, by the text that `zio_report` prints, and `specs/Rounds` what a whole report spells; docs/FORMATS.md,
+//! "Report", has the lines. `specs/Laws` says that what is printed is spelled. `specs/Reading` is the reader's own, and
+//! nothing of it has to be believed.
 #![tactic(auto)]
 
 mod count;

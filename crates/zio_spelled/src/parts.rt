@@ -14,7 +14,8 @@ pub(crate) struct Parts<'a> {
 impl<'a> Parts<'a> {
     /// All parts of the text.
     pub(crate) fn of(text: &'a [u8], separator: u8) -> Parts<'a>
-        ensures parts { parts_left separator (option_map (λ t. t.now) result.rest) ≡ slice_split (λ c. c == separator) text.now }
+        ensures parts { parts_left separator (option_map (λ t. t.now) result.rest)
+            ≡ slice_split (λ c. c == separator) text.now }
         ensures separator_is { result.separator ≡ separator }
     {
         Parts {

@@ -59,8 +59,8 @@ impl<'a> Rounds<'a> {
         Some(Rounds { rest: None })
     }
 
-    /// The journal of the next round, which has this number; none behind the last round. The places of an entry have the
-    /// sectors that its size takes on these tops. After an error the rounds are as before.
+    /// The journal of the next round, which has this number; none behind the last round. The places of an entry have
+    /// the sectors that its size takes on these tops. After an error the rounds are as before.
     pub fn next_round(
         &mut self,
         alloc: Global,

@@ -17,8 +17,8 @@ const NO_PLACE: Place = Place {
     sectors: 0,
 };
 
-/// The entry of this round that a `take` line spells, none exactly where the line isn't of its shape. Its places have the
-/// sectors that its size takes on these tops; a top that isn't there has the unit 1.
+/// The entry of this round that a `take` line spells, none exactly where the line isn't of its shape. Its places have
+/// the sectors that its size takes on these tops; a top that isn't there has the unit 1.
 pub fn take_line(tops: &[TopSize], round: u32, line: &[u8]) -> Option<Entry>
     requires { list_all is_lawful_top tops.now ≡ true }
     ensures { MatchOption result (¬ IsTakeShape line.now) (λ choice. IsTake tops.now round line.now choice) }

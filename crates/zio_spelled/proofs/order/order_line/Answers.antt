@@ -1,6 +1,5 @@
 use Rattle.std.proofs.Common.{Option, List, ℕ, Ok, Err, Result, ◌≡◌}
 use Rattle.std.specs.Prelude.{IfOk, MatchOption}
-use Rattle.zio_types.specs.declared.error.NoMemory.{NoMemory}
 use Rattle.zio_script.specs.Words.{Word}
 use Rattle.zio_spelled.specs.Spelled.{IsOrder}
 use Rattle.zio_spelled.specs.Reading.{order_in}

@@ -1,4 +1,4 @@
-use Rattle.std.proofs.Common.{◌≡◌, ◌∷◌, [], rules, arith, Some}
+use Rattle.std.proofs.Common.{◌≡◌, rules, Some}
 use Rattle.std.proofs.lemmas.List.{take_rest}
 use Rattle.zio_spelled.proofs.PartLemmas.{cut_at, whole_part}
 use Rattle.zio_spelled.proofs.parts.Parts.next.Goals as goal

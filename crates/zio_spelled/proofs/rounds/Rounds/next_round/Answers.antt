@@ -1,5 +1,5 @@
-use Rattle.std.proofs.Common.{rules, ap, ◌≡◌}
-use Rattle.zio_spelled.specs.Rounds.{parts_by_round, rounds_left}
+use Rattle.std.proofs.Common.{rules}
+use Rattle.zio_spelled.specs.Rounds.{rounds_left}
 use Rattle.zio_spelled.proofs.RoundLemmas.{read_fault, read_to_end, read_to_head}
 use Rattle.zio_spelled.proofs.rounds.Rounds.next_round.Goals as goal
 

@@ -370,3 +370,10 @@ pub take_exact : (tops : List TopSize) (round : ℕ) (line : Word) (o : Option C
     → MatchOption o (¬ IsTakeShape line) (λ choice. IsTake tops round line choice)
 take_exact tops round line None is = line_is_no_take tops round line (sym is)
 take_exact tops round line (Some choice) is = line_is_take tops round line choice (sym is)
+
+-- a line of the shape spells an entry
+pub shape_spells : (tops : List TopSize) (round : ℕ) (line : Word) → IsTakeShape line → (choice : Choice) × IsTake tops round line choice
+shape_spells tops round line shape = (
+  completed tops round shape.choice,
+  line_is_take tops round line (completed tops round shape.choice) (take_line_read tops round line shape.marked shape.choice shape.text shape.fits),
+)

@@ -8,7 +8,7 @@ use Rattle.zio_script.specs.Words.{Word, lines_of}
 use Rattle.zio_report.specs.Lines.{journal_text}
 use Rattle.zio_spelled.specs.declared.rounds.RoundJournal.{RoundJournal}
 use Rattle.zio_spelled.specs.Rounds.{IsRoundJournal, IsSpelled}
-use Rattle.zio_spelled.specs.Spelled.{ChoiceFits, completed}
+use Rattle.zio_spelled.specs.Spelled.{ChoiceFits, IsTake, IsTakeShape, completed}
 
 -- the requests that completed
 abbrev pub requests_of : List Completion → List ℕ
@@ -22,6 +22,11 @@ PrintedIsSpelled =
     → AllByRecursion ChoiceFits choices → AllByRecursion (λ (c : Choice). c ≡ completed tops round c) choices
     → AllByRecursion (λ n. n < 2 ^ 32) (requests_of completions)
     → IsRoundJournal tops round (lines_of (journal_text choices completions)) (record { entries = choices; order = requests_of completions })
+
+-- A line of an entry's shape spells an entry, in whatever round and on whatever tops.
+abbrev pub ShapesSpell : Type 0
+ShapesSpell =
+    (tops : List TopSize) (round : ℕ) (line : Word) → IsTakeShape line → (choice : Choice) × IsTake tops round line choice
 
 -- the lines of a round spell one journal at most
 abbrev pub SpellsOne : Type 0

@@ -1,5 +1,5 @@
 //! Laws of the definitions: functions without a body, whose contracts are proved.
-ghost use Rattle.zio_spelled.specs.Laws.{PrintedIsSpelled, ReportSpellsOne, SpellsOne};
+ghost use Rattle.zio_spelled.specs.Laws.{PrintedIsSpelled, ReportSpellsOne, ShapesSpell, SpellsOne};
 ghost use Rattle.zio_spelled.specs.Worked.{GoodLinesAreRead, SpoiledOrdersAreRefused, SpoiledTakesAreRefused};
 
 /// Lines of a journal that are worked out by hand, and spoiled ones.
@@ -9,9 +9,10 @@ pub fn worked_lines()
     ensures orders { SpoiledOrdersAreRefused }
 {}
 
-/// What is printed of a round's journal spells it, and nothing else.
+/// What is printed of a round's journal spells it, and nothing else; each line of an entry's shape spells one.
 pub fn printed_journals_are_spelled()
     ensures printed { PrintedIsSpelled }
+    ensures shapes { ShapesSpell }
     ensures one { SpellsOne }
     ensures report { ReportSpellsOne }
 {}

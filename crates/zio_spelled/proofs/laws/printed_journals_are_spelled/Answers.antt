@@ -1,4 +1,5 @@
 use Rattle.zio_spelled.proofs.PrintLemmas.{printed_round, report_spells_one, spells_one}
+use Rattle.zio_spelled.proofs.ShapeLemmas.{shape_spells}
 use Rattle.zio_spelled.proofs.laws.printed_journals_are_spelled.Goals as goal
 
 pub returns-clause-printed : goal.returns-clause-printed
@@ -9,3 +10,6 @@ returns-clause-one c = spells_one
 
 pub returns-clause-report : goal.returns-clause-report
 returns-clause-report c = report_spells_one
+
+pub returns-clause-shapes : goal.returns-clause-shapes
+returns-clause-shapes c = shape_spells

@@ -1,0 +1,9 @@
+pub mod CountLemmas
+pub mod NumberLemmas
+pub mod OrderLemmas
+pub mod PartLemmas
+pub mod PrintLemmas
+pub mod RoundLemmas
+pub mod ShapeLemmas
+pub mod TakeLemmas
+pub mod WordLemmas

@@ -1,5 +1,6 @@
 pub mod Alike
 pub mod AlikeCases
+pub mod Contents
 pub mod Copies
 pub mod CopyCases
 pub mod Discipline
@@ -9,6 +10,7 @@ pub mod GivenCases
 pub mod Healed
 pub mod HealedCases
 pub mod PlainStore
+pub mod Pools
 pub mod Spared
 pub mod StoreCases
 pub mod StoredCases

@@ -25,7 +25,7 @@ use Rattle.zio_stages.specs.declared.request_node.Closed.TheVariants.{Again, Fin
 use Rattle.zio_stages.specs.declared.request_node.RequestNode.{RequestNode}
 use Rattle.zio_stages.specs.declared.waiting.Waiting.{Waiting}
 use Rattle.zio_stages.specs.Closings.{outcome_of}
-use Rattle.zio_graph.specs.Stages.{OutcomeIn}
+use Rattle.zio_turns.specs.Stages.{OutcomeIn}
 use Rattle.zio_nodes.specs.RequestAts.{IsRequestOver}
 use Rattle.zio_nodes.specs.TreeAts.{IsRequestInside, IsSoundOver, IsTreeOver, is_childless}
 

@@ -19,7 +19,7 @@ use Rattle.zio_stages.specs.declared.request_node.Closed.{Closed}
 use Rattle.zio_stages.specs.declared.request_node.Closed.TheVariants.{Again, Finished}
 use Rattle.zio_stages.specs.declared.request_node.RequestNode.{RequestNode}
 use Rattle.zio_stages.specs.declared.waiting.Waiting.{Waiting}
-use Rattle.zio_graph.specs.Parts.{ended_by, ended_in, ended_in_slot}
+use Rattle.zio_turns.specs.Parts.{ended_by, ended_in, ended_in_slot}
 
 -- ---- its value
 

@@ -11,7 +11,7 @@ use Rattle.zio_report.specs.declared.report.Show.{Show}
 use Rattle.zio_report.specs.Meanings.{run_size_of, tops_of}
 use Rattle.zio_course.specs.SoFar.{IsCut, IsCutText, IsFullText, IsWholeRun}
 use Rattle.zio_disks.specs.Disks.{AnyRose, Tell}
-use Rattle.zio_engine.specs.Graphs.{CanRun}
+use Rattle.zio_graph.specs.Graphs.{CanRun}
 use Rattle.zio_run.specs.declared.outcome.Outcome.{Outcome}
 use Rattle.zio_run.specs.declared.outcome.Outcome.TheVariants.{Ended, Unfit, Cut}
 use Rattle.zio_run.specs.Seen.{SinkSeen, stopping_plainly}

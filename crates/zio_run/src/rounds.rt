@@ -8,7 +8,7 @@ ghost use Rattle.zio_run.specs.Grounds.{HasRunOver, IsSettingOf, WasCutOver};
 ghost use Rattle.zio_run.specs.Seen.{sink_by};
 
 use std::alloc::Global;
-use zio_engine::Graph;
+use zio_graph::Graph;
 use zio_gang::Ending;
 use zio_line::Picks;
 use zio_outside::{Disk, Sink};

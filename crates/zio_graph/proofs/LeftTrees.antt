@@ -12,7 +12,7 @@ use Rattle.zio_script.specs.Whys.{size_with}
 use Rattle.zio_cksum.proofs.AllLemmas.{all_append, all_map, all_weaker}
 use Rattle.zio_gang.specs.declared.tree.Tree.{Tree}
 use Rattle.zio_gang.specs.Attempts.{Child, Pending}
-use Rattle.zio_content.specs.Pointers.{IsNoneOrValid}
+use Rattle.zio_gang.specs.Pointers.{IsNoneOrValid}
 use Rattle.zio_trace.specs.Families.{Forest, NoTrees, TreeOf, flat}
 use Rattle.zio_disks.specs.Whole.{IsWholeTree}
 use Rattle.zio_course.specs.Runners.{AreRestsOf, IsRestOf, IsSamePending, joined_trees}

@@ -20,7 +20,7 @@ use Rattle.zio_script.specs.Whys.{size_with}
 use Rattle.zio_gang.specs.Attempts.{Child, Pending}
 use Rattle.zio_gang.specs.Pieces.{members_kept}
 use Rattle.zio_gang.specs.Trees.{header_levels_max, kept_at, sizes_of, tree_places, tree_pointers}
-use Rattle.zio_content.specs.Pointers.{IsNoneOrValid}
+use Rattle.zio_gang.specs.Pointers.{IsNoneOrValid}
 use Rattle.zio_trace.specs.BlockCopies.{Copies, Groups, below_copies, body_copies, copies_from, groups_if, groups_of, groups_of_members, head_copies, no_groups}
 use Rattle.zio_trace.specs.Families.{Forest, NoTrees, TreeOf, flat}
 use Rattle.zio_trace.specs.Tasks.{BodyOf}

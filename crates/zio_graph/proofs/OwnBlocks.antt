@@ -25,7 +25,7 @@ use Rattle.zio_gang.specs.Attempts.{Child, Pending, Terms}
 use Rattle.zio_gang.specs.Journals.{AreLawful}
 use Rattle.zio_gang.specs.Trees.{header_levels_max, sizes_of}
 use Rattle.zio_gang.specs.Writes.{content_of}
-use Rattle.zio_content.proofs.ContentLemmas.{joined_size, length-padded}
+use Rattle.zio_gang.proofs.ContentLemmas.{joined_size, length-padded}
 use Rattle.zio_trace.specs.Labels.{Labelled, labelled, ways_at}
 use Rattle.zio_trace.specs.Leaves.{Answer}
 use Rattle.zio_trace.specs.Oracles.{IsOracle, Oracle, heard}

@@ -11,7 +11,7 @@ use Rattle.zio_gang.specs.declared.tree.Tree.{Tree}
 use Rattle.zio_gang.specs.Attempts.{Child, Ended, Pending, Terms}
 use Rattle.zio_gang.specs.Journals.{AreLawful}
 use Rattle.zio_gang.specs.Trees.{sizes_of}
-use Rattle.zio_content.specs.Pointers.{IsNoneOrValid}
+use Rattle.zio_gang.specs.Pointers.{IsNoneOrValid}
 use Rattle.zio_trace.specs.Families.{Forest, NoTrees, TreeOf}
 use Rattle.zio_trace.specs.RoundRules.{task_ways}
 use Rattle.zio_trace.specs.Rounds.{settles}

@@ -9,7 +9,7 @@ use Rattle.zio_script.specs.Requests.{kind_of, needs_block}
 use Rattle.zio_script.specs.Whys.{size_with}
 use Rattle.zio_gang.specs.declared.tree.Tree.{Tree}
 use Rattle.zio_gang.specs.Attempts.{Child, Pending}
-use Rattle.zio_content.specs.Pointers.{IsNoneOrValid}
+use Rattle.zio_gang.specs.Pointers.{IsNoneOrValid}
 use Rattle.zio_trace.specs.Families.{Forest, NoTrees, TreeOf}
 use Rattle.zio_disks.specs.Whole.{IsWholeTree}
 use Rattle.zio_children.specs.declared.kept.KeptChild.{KeptChild}

@@ -32,7 +32,7 @@ use zio_course::{Job, RoundEnd, Stop};
 use zio_disks::Setting;
 use zio_gang::Tree;
 use zio_turns::{DisksBack, Grounds};
-use zio_line::Picks;
+use zio_turns::Picks;
 use zio_nodes::NodeBox;
 use zio_outside::Disk;
 use zio_script::Request;

@@ -4,7 +4,7 @@ use crate::graph::Graph;
 use crate::tree::EngineTree;
 use zio_course::{Job, RoundEnd, Runner, Stop};
 use zio_gang::Tree;
-use zio_line::Picks;
+use zio_turns::Picks;
 use zio_outside::Disk;
 use zio_script::Request;
 use zio_types::{List, NoMemory};

@@ -20,7 +20,7 @@ use crate::ends::{by_number, completions_of, left_of};
 use zio_course::{RoundEnd, Stop};
 use zio_disks::Stop as DiskStop;
 use zio_turns::{Grounds, Staged, TreeState, Turns, begin_trees, run_trees};
-use zio_line::Picks;
+use zio_turns::Picks;
 use zio_outside::Disk;
 use zio_script::Failmode;
 use zio_stages::{Finished, Whole};

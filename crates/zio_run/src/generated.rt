@@ -17,7 +17,7 @@ use crate::lines::{CODE_MEMORY, end_with};
 use crate::run::run_text;
 use std::alloc::Global;
 use zio_gen::{BLOCKS_MAX, gen_};
-use zio_load::generated_scripts_are_accepted;
+use zio_gen::generated_scripts_are_accepted;
 use zio_outside::{Shelf, Sink};
 use zio_report::Show;
 use zio_types::{Journal, Status, Text};

@@ -20,7 +20,7 @@ use zio_graph::Graph;
 use zio_faults::Table;
 use zio_gang::Ending;
 use zio_turns::DisksBack;
-use zio_line::{FirstPicks, Picks, from_seed};
+use zio_turns::{FirstPicks, Picks, from_seed};
 use zio_outside::{Disk, Sink};
 use zio_report::{RunFault, Show};
 use zio_script::Script;

@@ -10,7 +10,7 @@ ghost use Rattle.zio_run.specs.Seen.{sink_by};
 use std::alloc::Global;
 use zio_graph::Graph;
 use zio_gang::Ending;
-use zio_line::Picks;
+use zio_turns::Picks;
 use zio_outside::{Disk, Sink};
 use zio_report::{RunFault, Show};
 use zio_script::Script;

@@ -18,7 +18,7 @@ use crate::part_work::PartWork;
 use crate::waiting::Waiting;
 use std::alloc::Global;
 use zio_children::Kids;
-use zio_content::content;
+use zio_gang::content;
 use zio_parts::BlockWrite;
 use zio_script::Work;
 use zio_types::{NoMemory, Path};

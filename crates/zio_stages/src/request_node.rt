@@ -14,7 +14,7 @@ ghost use Rattle.zio_trace.specs.Families.{Forest, NoTrees};
 ghost use Rattle.zio_trace.specs.Tasks.{Attempt, AttemptedBy, One};
 ghost use Rattle.zio_children.specs.RequestKids.{IsLeftBy, IsOutWith, is_ended, kid_handed, kid_is, numbers_of, returns_in};
 ghost use Rattle.zio_children.specs.declared.kids.KidState.TheVariants.{Ended, Out, Told};
-ghost use Rattle.zio_content.specs.Pointers.{IsNoneOrValid};
+ghost use Rattle.zio_gang.specs.Pointers.{IsNoneOrValid};
 ghost use Rattle.zio_frames.specs.Frames.{Child, Stack, fresh_stack};
 ghost use Rattle.zio_frames.specs.Moves.{WillHave, heard_early, heard_of};
 ghost use Rattle.zio_frames.specs.Seats.{IsSeated, asked_at};

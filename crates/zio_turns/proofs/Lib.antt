@@ -6,6 +6,7 @@ pub mod BeginMoves
 pub mod Callings
 pub mod ClaimCalls
 pub mod ClaimsLast
+pub mod ClimbLemmas
 pub mod Counts
 pub mod DeskCalls
 pub mod DeskLemmas
@@ -53,6 +54,7 @@ pub mod MoveLeaf
 pub mod MoveOne
 pub mod MoveTell
 pub mod OpenCounts
+pub mod PlaceLemmas
 pub mod PlaceTotals
 pub mod PlansOnly
 pub mod Progress
@@ -76,6 +78,8 @@ pub mod Spans
 pub mod Steps
 pub mod StopLemmas
 pub mod StopSpots
+pub mod SumLemmas
+pub mod TableLemmas
 pub mod TakenKeys
 pub mod Tops
 pub mod TreeLoops

@@ -8,6 +8,8 @@ pub mod Entries
 pub mod Found
 pub mod Grounds
 pub mod Ledgers
+pub mod LinePlaces
+pub mod LineSums
 pub mod Parts
 pub mod Rests
 pub mod Rounds

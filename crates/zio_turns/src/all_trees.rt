@@ -14,7 +14,7 @@ use crate::staged::Staged;
 use crate::trees::{TreeState, hear_tree};
 use crate::turns::Turns;
 use zio_disks::Stop;
-use zio_line::Picks;
+use crate::picks::Picks;
 use zio_outside::Disk;
 use zio_script::Failmode;
 use zio_stages::Finished;

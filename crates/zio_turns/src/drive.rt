@@ -14,7 +14,7 @@ use crate::staged::Staged;
 use crate::turn::{Turned, run_turn};
 use crate::turns::Turns;
 use zio_disks::Stop;
-use zio_line::Picks;
+use crate::picks::Picks;
 use zio_outside::Disk;
 
 /// Runs until a turn has something to tell, or no key is queued and nothing waits at the leaves. The choices are the queued

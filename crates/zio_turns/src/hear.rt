@@ -13,7 +13,7 @@ use crate::staged::Staged;
 use crate::step::Step;
 use slab::Slab;
 use zio_blkptr::Bp;
-use zio_line::Line;
+use crate::line::Line;
 use zio_stages::{Finished, Outcome};
 use zio_types::{Bits, ChildKind, Errno, NoMemory, Phase, Top};
 

@@ -14,7 +14,7 @@ use crate::staged::Staged;
 use crate::turn::Turned;
 use crate::turns::Turns;
 use zio_disks::Stop;
-use zio_line::Picks;
+use crate::picks::Picks;
 use zio_outside::Disk;
 use zio_stages::{Finished, Outcome};
 

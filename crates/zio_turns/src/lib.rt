@@ -1,4 +1,8 @@
-//! The one-thread engine: a round's nodes under keys, queued, at leaves, or waiting for children.
+//! The turns of a round: its nodes under keys, queued, at leaves, or waiting for children.
+//!
+//! Keys wait in a `Line`, from which any is taken while the others keep their order; a `Picks` says which. Contracts see a
+//! line as the list of what waits; `specs/LinePlaces` says what a table of places holds, `specs/LineSums` how the numbers
+//! beside it add up.
 #![tactic(auto)]
 
 mod all_trees;
@@ -13,10 +17,14 @@ mod hear;
 mod hearing;
 mod laws;
 pub mod leaf_queues;
+mod line;
 pub mod node;
+mod picks;
 mod shelf;
 pub mod staged;
 pub mod step;
+mod sums;
+mod table;
 mod trees;
 pub mod turn;
 pub mod turns;
@@ -32,7 +40,9 @@ pub use hearing::{Hearing, run_to_tree};
 pub use laws::{
     engines_find_nodes, engines_hear_of_nodes, engines_keep_rounds, engines_settle_rounds,
 };
+pub use line::Line;
 pub use node::Node;
+pub use picks::{FirstPicks, Picks, SeedPicks, from_seed};
 pub use staged::{BothBack, Move, Staged};
 pub use trees::{TreeEnd, TreeState, begin_attempt, hear_tree};
 pub use turn::{Turned, run_turn};

@@ -7,7 +7,7 @@ ghost use Rattle.zio_turns.specs.Acts.{HasGrown, HasWaited, new_ties};
 use crate::entry::{Entry, Parent, Ties};
 use slab::Slab;
 use zio_counts::{Counts, OPEN_CHILDREN_MAX};
-use zio_line::Line;
+use crate::line::Line;
 use zio_types::{ChildKind, NoMemory, Phase};
 
 /// The ties of a node that handed out nothing yet.

@@ -16,7 +16,7 @@ use crate::staged::{Move, Staged};
 use crate::step::Step;
 use slab::Slab;
 use std::alloc::Global;
-use zio_line::Line;
+use crate::line::Line;
 use zio_stages::Services;
 use zio_types::{Bytes, ChildKind, Errno, NoMemory};
 

@@ -12,13 +12,13 @@ use Rattle.zio_script.specs.declared.script.Failmode.{Failmode}
 use Rattle.zio_cksum.specs.Images.{Images}
 use Rattle.zio_gang.specs.Attempts.{Terms}
 use Rattle.zio_groups.specs.LeafQueues.{Waits}
-use Rattle.zio_groups.specs.declared.waiting.Waiting.{Waiting as AtLeaf}
+use Rattle.zio_groups.specs.declared.waiting.QueuedOp.{QueuedOp as AtLeaf}
 use Rattle.zio_trace.specs.Families.{Forest}
 use Rattle.zio_trace.specs.SoundRounds.{IsSoundRound}
 use Rattle.zio_frames.specs.Frames.{Flying}
 use Rattle.zio_frames.specs.Slots.{Slot}
 use Rattle.zio_stages.specs.Wholes.{AreTrees}
-use Rattle.zio_stages.specs.declared.waiting.Waiting.{Waiting}
+use Rattle.zio_stages.specs.declared.waiting.UnfinishedRequest.{UnfinishedRequest}
 use Rattle.slab.specs.Slab.{Slab}
 use Rattle.zio_turns.specs.AtLeaves.{WaitsFor, key_of, keys_at, keys_of, waiting_at}
 use Rattle.zio_turns.specs.Desks.{IsDeskAt, Tells}
@@ -29,7 +29,7 @@ use Rattle.zio_turns.specs.Rounds.{Before, KeepsRound, SoFar}
 use Rattle.zio_turns.specs.UnderTrees.{AreInStates, AreSettledWith, HaveBegun, IsInState, RunsSome, RunsTrees, StateIn, TreesBegin}
 use Rattle.zio_turns.specs.UnderTurns.{AreLent, TellNow}
 use Rattle.zio_turns.specs.declared.desk.Asked.{Asked}
-use Rattle.zio_turns.specs.declared.entry.Entry.{Entry}
+use Rattle.zio_turns.specs.declared.entry.TiedNode.{TiedNode}
 use Rattle.zio_turns.specs.declared.grounds.Grounds.{Grounds}
 use Rattle.zio_turns.specs.declared.trees.TreeEnd.{TreeEnd}
 use Rattle.zio_turns.specs.declared.trees.TreeState.{TreeState}
@@ -89,11 +89,11 @@ begun_ends trees states k are = λ n end is.
 pub begun_count : (k : ℕ) (states : List TreeState) → states ≡ replicate k (UnderWay 0) → length states ≡ k
 begun_count k states are = ap (λ (xs : List TreeState). length xs) are ∙ length-replicate k (UnderWay 0)
 
-none_within : (Q : List Waiting → Type 0) (k : ℕ) → AllByRecursion (StateIn Q) (replicate k (UnderWay 0))
+none_within : (Q : List UnfinishedRequest → Type 0) (k : ℕ) → AllByRecursion (StateIn Q) (replicate k (UnderWay 0))
 none_within Q zero = tt
 none_within Q (suc k) = (tt, none_within Q k)
 
-pub begun_within : (Q : List Waiting → Type 0) (k : ℕ) (states : List TreeState) → states ≡ replicate k (UnderWay 0)
+pub begun_within : (Q : List UnfinishedRequest → Type 0) (k : ℕ) (states : List TreeState) → states ≡ replicate k (UnderWay 0)
     → AllByRecursion (StateIn Q) states
 begun_within Q k states are = subst (AllByRecursion (StateIn Q)) (sym are) (none_within Q k)
 
@@ -151,7 +151,7 @@ module _ {D : Type 0} (bytes : D → ℕ) (image : D → List ℕ → Type 0) (g
 
 -- it has begun over these grounds, and nothing is in its books
 pub record HasBegun {N D : Type 0} (nodes : Nodes N) (bytes : D → ℕ) (image : D → List ℕ → Type 0) (g : Grounds D) (round : ℕ)
-    (failmode : Failmode) (f : Forest) (before : Before) (slab : Slab (Entry N)) (line : List ℕ)
+    (failmode : Failmode) (f : Forest) (before : Before) (slab : Slab (TiedNode N)) (line : List ℕ)
     (states : List TreeState) : Type 0 where
   pub now : SoFar
   pub runs : RunsTrees {N = N} {D = D} nodes bytes image (terms_on g failmode round)
@@ -161,7 +161,7 @@ pub record HasBegun {N D : Type 0} (nodes : Nodes N) (bytes : D → ℕ) (image 
 
 module _ {N D : Type 0} (nodes : Nodes N) (bytes : D → ℕ) (image : D → List ℕ → Type 0) (g : Grounds D) (round : ℕ)
     (failmode : Failmode)
-    (steady : IsSteadyGrounds {D = D} bytes g) (slab : Slab (Entry N)) (line : List ℕ) (wholes : List (List Waiting))
+    (steady : IsSteadyGrounds {D = D} bytes g) (slab : Slab (TiedNode N)) (line : List ℕ) (wholes : List (List UnfinishedRequest))
     (states : List TreeState) (begins : TreesBegin {N = N} nodes slab line round failmode wholes states [])
     (are : states ≡ replicate (length wholes) (UnderWay 0)) where
   pub has_begun : (f : Forest) (before : Before) (images : Images)

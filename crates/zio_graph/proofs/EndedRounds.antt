@@ -28,7 +28,7 @@ use Rattle.zio_sound.proofs.SettledRounds.{settled_round}
 use Rattle.zio_stages.specs.Waits.{pendings}
 use Rattle.zio_stages.specs.Wholes.{IsWhole}
 use Rattle.zio_stages.specs.declared.outcome.Finished.{Finished}
-use Rattle.zio_stages.specs.declared.waiting.Waiting.{Waiting}
+use Rattle.zio_stages.specs.declared.waiting.UnfinishedRequest.{UnfinishedRequest}
 use Rattle.zio_turns.specs.Ledgers.{AreToldAs, Ending, all_ended}
 use Rattle.zio_turns.specs.Parts.{Nodes}
 use Rattle.zio_turns.specs.Rounds.{Before}
@@ -87,7 +87,7 @@ heard_once (v ∷ vs) (u ∷ us) e =
     (λ i. first i ∷ heard_once vs us rest i)
 
 module _ {N D : Type 0} (nodes : Nodes N) (bytes faults : D → ℕ) (image : D → List ℕ → Type 0) (g : Grounds D) (round : ℕ)
-    (failmode : Failmode) (steady : IsSteadyGrounds {D = D} bytes g) (wholes : List (List Waiting))
+    (failmode : Failmode) (steady : IsSteadyGrounds {D = D} bytes g) (wholes : List (List UnfinishedRequest))
     (runs : AreRunnable (standing_on faults g) (map pendings wholes))
     (job : IsSoundJob (terms_on g failmode round) (size_at (map bytes g.disks.items)) wholes) (now : Grounds D)
     (states : List TreeState) (ended : List Finished) (count : length states ≡ length wholes) where
@@ -194,11 +194,11 @@ module _ {N D : Type 0} (nodes : Nodes N) (bytes faults : D → ℕ) (image : D 
             (found_are {N = N} nodes t sizes job.forest before h.now h.slab h.over.state h.over.kept l)
             (found_once t h.now tops st asked desk steady.once) p)
 
-        module _ (left : List (List Waiting)) (is_left : left ≡ left_in states) (completions : List Completion)
+        module _ (left : List (List UnfinishedRequest)) (is_left : left ≡ left_in states) (completions : List Completion)
             (are_completed : completions ≡ map (completion_of round) ended) (entries : List Choice)
             (are_entries : entries ≡ now.desk.space.entries) where
           left_so : map pendings left ≡ (round_of values).left
-          left_so = ap (λ (ls : List (List Waiting)). map pendings ls) is_left ∙ left_are
+          left_so = ap (λ (ls : List (List UnfinishedRequest)). map pendings ls) is_left ∙ left_are
 
           in_order : completions_of round (all_ended h.now.books.done) ≡ completions
           in_order = ap (λ (fs : List Told). map (completion_for round) fs) (sym (told_are ended h.now.books.done h.told))
@@ -300,7 +300,7 @@ module _ {N D : Type 0} (nodes : Nodes N) (bytes faults : D → ℕ) (image : D 
         same closed
 
     module _ (finished : List Told) (told : IsPermutation (map told_of ended) finished)
-        (order : IsNonDecreasingBy (λ (f : Told). f.request) finished) (left : List (List Waiting))
+        (order : IsNonDecreasingBy (λ (f : Told). f.request) finished) (left : List (List UnfinishedRequest))
         (is_left : left ≡ left_in states)
         (completions : List Completion) (are_completed : completions ≡ map (completion_of round) ended) (entries : List Choice)
         (are_entries : entries ≡ now.desk.space.entries) where

@@ -7,17 +7,17 @@ use Rattle.zio_course.specs.Runners.{AreRunnable, Standing}
 use Rattle.zio_children.specs.RequestKids.{RiseFrom}
 use Rattle.zio_stages.specs.Waits.{pendings}
 use Rattle.zio_stages.specs.Wholes.{number_or, roots_in}
-use Rattle.zio_stages.specs.declared.waiting.Waiting.{Waiting}
+use Rattle.zio_stages.specs.declared.waiting.UnfinishedRequest.{UnfinishedRequest}
 use Rattle.zio_stages.proofs.WholeLemmas.{root_number_is}
 use Rattle.zio_graph.specs.EngineTrees.{IsEngineTree}
 use Rattle.zio_graph.proofs.NewTrees.{over_rises}
 
-number_most : (ws : List Waiting) (h : IsEngineTree ws) → h.root.request.number ≤ NUMBER_MAX
+number_most : (ws : List UnfinishedRequest) (h : IsEngineTree ws) → h.root.request.number ≤ NUMBER_MAX
 number_most ws h =
     let n : ℕ = h.root.request.number in
     leb-true n NUMBER_MAX (and_parts (nat_le 1 n) (nat_le n NUMBER_MAX) h.sound.0.range.number).1
 
-few_from : (least : ℕ) (trees : List (List Waiting)) → AllByRecursion IsEngineTree trees → RiseFrom least (roots_in trees)
+few_from : (least : ℕ) (trees : List (List UnfinishedRequest)) → AllByRecursion IsEngineTree trees → RiseFrom least (roots_in trees)
     → least ≤ NUMBER_MAX + 1 → least + length trees ≤ NUMBER_MAX + 1
 few_from least [] each rise low = omega arith
 few_from least (ws ∷ trees) each rise low =
@@ -30,7 +30,7 @@ few_from least (ws ∷ trees) each rise low =
     let rest : n + 1 + length trees ≤ NUMBER_MAX + 1 = few_from (n + 1) trees each.1 rises.1 (omega (arith, most)) in
     omega (arith, rises.0, rest)
 
-pub few_trees : (s : Standing) (trees : List (List Waiting)) → AllByRecursion IsEngineTree trees
+pub few_trees : (s : Standing) (trees : List (List UnfinishedRequest)) → AllByRecursion IsEngineTree trees
     → AreRunnable s (map pendings trees)
     → length trees < 2 ^ 32
 few_trees s trees each runs =

@@ -9,7 +9,7 @@ use Rattle.zio_course.specs.Runners.{root_of, roots_of}
 use Rattle.zio_sound.specs.Linked.{AreLinked}
 use Rattle.zio_stages.specs.Waits.{pendings}
 use Rattle.zio_stages.specs.Wholes.{AreTrees, IsTreeOf}
-use Rattle.zio_stages.specs.declared.waiting.Waiting.{Waiting}
+use Rattle.zio_stages.specs.declared.waiting.UnfinishedRequest.{UnfinishedRequest}
 use Rattle.zio_stages.proofs.ForestLemmas.{forest_flat}
 use Rattle.zio_graph.specs.EngineTrees.{AreSound, IsEngineTree}
 
@@ -21,16 +21,16 @@ root_last (q ∷ []) p = refl
 root_last (q ∷ r ∷ ps) p = root_last (r ∷ ps) p
 
 -- its requests, the root behind the others
-pub tree_list : (ws : List Waiting) (p : Pending) (kids : Forest) → IsTreeOf ws p kids → pendings ws ≡ flat kids ++ p ∷ []
+pub tree_list : (ws : List UnfinishedRequest) (p : Pending) (kids : Forest) → IsTreeOf ws p kids → pendings ws ≡ flat kids ++ p ∷ []
 tree_list ws p kids is = forest_flat ws (TreeOf p kids NoTrees) is
 
-pub tree_root : (ws : List Waiting) (p : Pending) (kids : Forest) → IsTreeOf ws p kids → root_of (pendings ws) ≡ Some p
+pub tree_root : (ws : List UnfinishedRequest) (p : Pending) (kids : Forest) → IsTreeOf ws p kids → root_of (pendings ws) ≡ Some p
 tree_root ws p kids is = ap root_of (tree_list ws p kids is) ∙ root_last (flat kids) p
 
 -- ---- all of them
 
 -- These are the trees, whose requests are sound and stand under their parents, the roots under this one or none.
-pub record AreEngineForest (under : Option ℕ) (trees : List (List Waiting)) : Type 0 where
+pub record AreEngineForest (under : Option ℕ) (trees : List (List UnfinishedRequest)) : Type 0 where
   pub forest : Forest
   pub are : AreTrees trees forest
   pub linked : AreLinked under forest
@@ -40,7 +40,7 @@ pub record AreEngineForest (under : Option ℕ) (trees : List (List Waiting)) : 
 abbrev pub roots_by : Option Pending → List Request
 roots_by root = map (λ (p : Pending). p.request) (option_to_list root)
 
-pub forest_of : (under : Option ℕ) (trees : List (List Waiting)) → AllByRecursion IsEngineTree trees
+pub forest_of : (under : Option ℕ) (trees : List (List UnfinishedRequest)) → AllByRecursion IsEngineTree trees
     → AllByRecursion (λ (r : Request). r.under ≡ under) (roots_of (map pendings trees)) → AreEngineForest under trees
 forest_of under [] h roots = record { forest = NoTrees; are = tt; linked = tt; sound = tt; lists = refl }
 forest_of under (ws ∷ trees) h roots =

@@ -20,7 +20,7 @@ use Rattle.zio_children.specs.RequestKids.{child_of}
 use Rattle.zio_sound.specs.Linked.{AreLinked}
 use Rattle.zio_stages.specs.Waits.{pending_of, pendings}
 use Rattle.zio_stages.specs.Wholes.{IsWhole, Shape, shape_of, shapes, trees_in}
-use Rattle.zio_stages.specs.declared.waiting.Waiting.{Waiting}
+use Rattle.zio_stages.specs.declared.waiting.UnfinishedRequest.{UnfinishedRequest}
 use Rattle.zio_stages.proofs.ForestLemmas.{one_forest}
 use Rattle.zio_stages.proofs.WholeLemmas.{OnlyTree, only_tree}
 use Rattle.zio_nodes.proofs.TreeAtLemmas.{all_split}
@@ -90,7 +90,7 @@ types_of : (pointer : Option Bp) → MaySpell pointer → IfSome pointer FitsTyp
 types_of None h = tt
 types_of (Some bp) h = h.types
 
-one_sound : (w : Waiting) → IsSoundRequest (pending_of w) → IsWithinLimits w → KeepsSpelled (pending_of w)
+one_sound : (w : UnfinishedRequest) → IsSoundRequest (pending_of w) → IsWithinLimits w → KeepsSpelled (pending_of w)
     → IsSoundPending w.unfinished (pending_of w)
 one_sound w h k spelled = record {
   range = h.range;
@@ -107,8 +107,8 @@ one_sound w h k spelled = record {
       (λ c h. types_of c.pointer h) spelled;
 }
 
-list_sound : (ws : List Waiting) → AllByRecursion IsSoundRequest (pendings ws) → AllByRecursion IsWithinLimits ws
-    → AllByRecursion KeepsSpelled (pendings ws) → AllByRecursion (λ (w : Waiting). IsSoundPending w.unfinished (pending_of w)) ws
+list_sound : (ws : List UnfinishedRequest) → AllByRecursion IsSoundRequest (pendings ws) → AllByRecursion IsWithinLimits ws
+    → AllByRecursion KeepsSpelled (pendings ws) → AllByRecursion (λ (w : UnfinishedRequest). IsSoundPending w.unfinished (pending_of w)) ws
 list_sound [] h k spelled = tt
 list_sound (w ∷ ws) h k spelled = (one_sound w h.0 k.0 spelled.0, list_sound ws h.1 k.1 spelled.1)
 
@@ -119,7 +119,7 @@ shapes_sound (TreeOf p kids others) h =
     (record { pending = p; unfinished = trees_in kids; below = length (flat kids) } ∷ shapes others) h in
     (both.1.0, shapes_sound kids both.0, shapes_sound others both.1.1)
 
-engine_tree : (ws : List Waiting) → IsWhole ws → IsLinkedForest ws → AllByRecursion IsSoundRequest (pendings ws)
+engine_tree : (ws : List UnfinishedRequest) → IsWhole ws → IsLinkedForest ws → AllByRecursion IsSoundRequest (pendings ws)
     → AllByRecursion IsWithinLimits ws → AllByRecursion KeepsSpelled (pendings ws) → IsEngineTree ws
 engine_tree ws whole (f, is, linked) requests limits spelled =
     let tree : OnlyTree ws = only_tree ws whole in
@@ -137,7 +137,7 @@ engine_tree ws whole (f, is, linked) requests limits spelled =
 
 -- ---- all trees
 
-pub engine_trees : (left : List (List Waiting)) → AllByRecursion IsWhole left → AllByRecursion IsLinkedForest left
+pub engine_trees : (left : List (List UnfinishedRequest)) → AllByRecursion IsWhole left → AllByRecursion IsLinkedForest left
     → AllByRecursion (AllByRecursion IsSoundRequest) (map pendings left) → AllByRecursion (AllByRecursion IsWithinLimits) left
     → AllByRecursion (AllByRecursion KeepsSpelled) (map pendings left) → AllByRecursion IsEngineTree left
 engine_trees [] whole linked requests limits spelled = tt

@@ -14,7 +14,7 @@ use Rattle.zio_sound.specs.Leaving.{AreSettled}
 use Rattle.zio_sound.specs.Linked.{AreLinked, LeaveLinked}
 use Rattle.zio_stages.specs.Waits.{pendings}
 use Rattle.zio_stages.specs.Wholes.{AreTrees, IsForestOf, root_number, trees_in}
-use Rattle.zio_stages.specs.declared.waiting.Waiting.{Waiting}
+use Rattle.zio_stages.specs.declared.waiting.UnfinishedRequest.{UnfinishedRequest}
 use Rattle.zio_stages.proofs.ForestLemmas.{forest_flat}
 use Rattle.zio_stages.proofs.WholeLemmas.{trees_count}
 use Rattle.zio_turns.specs.Attempting.{Course, settled_with}
@@ -51,7 +51,7 @@ values_count t NoTrees values h = ap (λ (vs : List Value). length vs) h
 values_count t (TreeOf p kids others) [] h = absurd h
 values_count t (TreeOf p kids others) (v ∷ vs) h = ap suc (values_count t others vs h.1)
 
-pub as_many : (t : Terms) (f : Forest) (wholes : List (List Waiting)) (values : List Value) → AreTrees wholes f
+pub as_many : (t : Terms) (f : Forest) (wholes : List (List UnfinishedRequest)) (values : List Value) → AreTrees wholes f
     → AreSettled t f values
     → length values ≡ length wholes
 as_many t f wholes values trees settled_so = values_count t f values settled_so ∙ sym (trees_count wholes f trees)
@@ -61,7 +61,7 @@ as_many t f wholes values trees settled_so = values_count t f values settled_so 
 same_heard : (v u : Value) → Some (Heard v) ≡ Some (Heard u) → v ≡ u
 same_heard v u e = cc
 
-add_some : (ws : List Waiting) (n : ℕ) (others : List (List Pending)) → root_number ws ≡ Some n
+add_some : (ws : List UnfinishedRequest) (n : ℕ) (others : List (List Pending)) → root_number ws ≡ Some n
     → add_left (pendings ws) others ≡ pendings ws ∷ others
 add_some [] n others e = absurd (cc)
 add_some (w ∷ ws) n others e = refl
@@ -108,7 +108,7 @@ left_is (v ∷ vs) (Settled end ∷ states) count all ends =
 -- ---- what holds of what is left
 
 -- it is trees that stand so
-abbrev pub IsLinkedForest : List Waiting → Type 0
+abbrev pub IsLinkedForest : List UnfinishedRequest → Type 0
 IsLinkedForest ws = (f : Forest) × IsForestOf ws f × AreLinked None f
 
 linked_one : (v : Value) (c : Course) (one : One) (end : TreeEnd) → v ≡ settled_with c one → IsLeftOf end one
@@ -132,7 +132,7 @@ left_linked (v ∷ vs) (Settled end ∷ states) count all ends linked =
     (behind v vs (Settled end) states ends) linked.1)
 
 -- what holds of each that is suspended
-pub left_within : (Q : List Waiting → Type 0) (states : List TreeState) → AllByRecursion (StateIn Q) states
+pub left_within : (Q : List UnfinishedRequest → Type 0) (states : List TreeState) → AllByRecursion (StateIn Q) states
     → AllByRecursion Q (left_in states)
 left_within Q [] h = tt
 left_within Q (UnderWay attempt ∷ states) h = left_within Q states h.1

@@ -20,7 +20,7 @@ use Rattle.zio_course.specs.Runners.{AreRisingFrom, IsChild, IsNewTree, joined_t
 use Rattle.zio_children.specs.RequestKids.{RiseFrom}
 use Rattle.zio_stages.specs.Waits.{fresh, pending_of, pendings}
 use Rattle.zio_stages.specs.Wholes.{AreTrees, IsTreeOf, joined, number_or, roots_in, trees_in}
-use Rattle.zio_stages.specs.declared.waiting.Waiting.{Waiting}
+use Rattle.zio_stages.specs.declared.waiting.UnfinishedRequest.{UnfinishedRequest}
 use Rattle.zio_stages.proofs.WholeLemmas.{root_number_is, trees_count}
 use Rattle.zio_nodes.specs.TreeAts.{is_childless}
 use Rattle.zio_graph.specs.EngineTrees.{HasThree, IsEngineTree}
@@ -74,7 +74,7 @@ none_under r (q ∷ qs) e h = absurd (never_under (kind_of r.work) (kind_of q.wo
 
 -- ---- the roots' numbers
 
-pub roots_are : (trees : List (List Waiting)) → AllByRecursion IsEngineTree trees → roots_in trees ≡ numbers_of (roots_of (map pendings trees))
+pub roots_are : (trees : List (List UnfinishedRequest)) → AllByRecursion IsEngineTree trees → roots_in trees ≡ numbers_of (roots_of (map pendings trees))
 roots_are [] h = refl
 roots_are (ws ∷ trees) h =
     let first : IsEngineTree ws = h.0 in
@@ -86,7 +86,7 @@ pub rise_so : (least : ℕ) (ns : List ℕ) → AreRisingFrom least ns → RiseF
 rise_so least [] h = tt
 rise_so least (n ∷ ns) h = (h.0, rise_so (n + 1) ns h.1)
 
-pub over_rises : (trees : List (List Pending)) (wholes : List (List Waiting)) → map pendings wholes ≡ trees → AllByRecursion IsEngineTree wholes
+pub over_rises : (trees : List (List Pending)) (wholes : List (List UnfinishedRequest)) → map pendings wholes ≡ trees → AllByRecursion IsEngineTree wholes
     → AreRisingFrom 0 (numbers_of (roots_of trees)) → RiseFrom 0 (roots_in wholes)
 over_rises trees wholes same each rising =
     subst (RiseFrom 0) (sym (roots_are wholes each ∙ ap (λ (ts : List (List Pending)). numbers_of (roots_of ts)) same))
@@ -94,7 +94,7 @@ over_rises trees wholes same each rising =
 
 -- ---- the tree
 
-pub new_tree : (r : Request) (birth : ℕ) (block : Option Tree) (children : List (List Waiting)) (tree : List Waiting)
+pub new_tree : (r : Request) (birth : ℕ) (block : Option Tree) (children : List (List UnfinishedRequest)) (tree : List UnfinishedRequest)
     → IsNewTree r birth block (map pendings children) → AllByRecursion IsEngineTree children → IfSome block IsWholeTree
     → IfSome block (λ (x : Tree). HasThree x.bp) → birth < 2 ^ 32
     → ((forest : Forest) → AreTrees children forest → IsTreeOf tree (fresh r birth block) forest) → IsEngineTree tree
@@ -130,12 +130,12 @@ new_tree r birth block children tree new each whole three born is =
       );
     }
 
-pub joined_pendings : (wholes : List (List Waiting)) → pendings (joined wholes) ≡ joined_trees (map pendings wholes)
+pub joined_pendings : (wholes : List (List UnfinishedRequest)) → pendings (joined wholes) ≡ joined_trees (map pendings wholes)
 joined_pendings [] = refl
 joined_pendings (ws ∷ wholes) = map-append pending_of ws (joined wholes) ∙ ap (λ (ps : List Pending). pendings ws ++ ps) (joined_pendings wholes)
 
 -- its requests
-pub new_list : (p : Pending) (trees : List (List Pending)) (wholes : List (List Waiting)) (tree : List Waiting) → map pendings wholes ≡ trees
+pub new_list : (p : Pending) (trees : List (List Pending)) (wholes : List (List UnfinishedRequest)) (tree : List UnfinishedRequest) → map pendings wholes ≡ trees
     → pendings tree ≡ pendings (joined wholes) ++ p ∷ [] → pendings tree ≡ tree_over trees p
 new_list p trees wholes tree same is =
     is ∙ ap (λ (ps : List Pending). ps ++ p ∷ []) (joined_pendings wholes ∙ ap joined_trees same)

@@ -35,7 +35,7 @@ use Rattle.zio_stages.specs.RequestOwns.{IsBlockOn, IsPieceOn}
 use Rattle.zio_stages.specs.Tops.{AreTops, IsTop}
 use Rattle.zio_stages.specs.Waits.{pendings}
 use Rattle.zio_stages.specs.Wholes.{Shape, shape_of, shapes}
-use Rattle.zio_stages.specs.declared.waiting.Waiting.{Waiting}
+use Rattle.zio_stages.specs.declared.waiting.UnfinishedRequest.{UnfinishedRequest}
 use Rattle.zio_stages.proofs.HeadsTops.{io_places, some_places}
 use Rattle.zio_nodes.specs.TreeAts.{IsRequestInside, IsTreeOver}
 use Rattle.zio_nodes.proofs.TreeAtLemmas.{all_split}
@@ -206,7 +206,7 @@ module _ (tops : List Top) where
         shapes_inside are others sound.2 split.1.1,
       )
 
-  request_inside : (w : Waiting) → IsShapeInside (shape_of w) → IsRequestInside tops w
+  request_inside : (w : UnfinishedRequest) → IsShapeInside (shape_of w) → IsRequestInside tops w
   request_inside w h =
       let many : length (map child_of w.kept) ≡ length w.kept = length-map w.kept child_of in
       let kept : w.unfinished + length (map child_of w.kept) ≡ w.unfinished + length w.kept = ap (λ n. w.unfinished + n) many in
@@ -225,7 +225,7 @@ module _ (tops : List Top) where
       }
 
   -- a tree whose blocks lie inside the tops
-  tree_inside : AreTops tops → HaveUnits tops → (ws : List Waiting) → IsEngineTree ws → AllByRecursion IsNamedOn (pendings ws) → IsTreeOver tops ws
+  tree_inside : AreTops tops → HaveUnits tops → (ws : List UnfinishedRequest) → IsEngineTree ws → AllByRecursion IsNamedOn (pendings ws) → IsTreeOver tops ws
   tree_inside are units ws h named =
       let f : Forest = TreeOf h.root h.kids NoTrees in
       let list : pendings ws ≡ flat h.kids ++ h.root ∷ [] = tree_list ws h.root h.kids h.is in
@@ -234,7 +234,7 @@ module _ (tops : List Top) where
       record {
         tops_are = are;
         units = units;
-        each = all_weaker (λ (w : Waiting). IsShapeInside (shape_of w)) (IsRequestInside tops) ws request_inside
+        each = all_weaker (λ (w : UnfinishedRequest). IsShapeInside (shape_of w)) (IsRequestInside tops) ws request_inside
             (all_unmap IsShapeInside shape_of ws (subst (AllByRecursion IsShapeInside) (sym h.is) inside));
       }
 
@@ -260,14 +260,14 @@ each_named tops (p ∷ ps) h =
     let split = all_split (λ (q : Place). IsTrue (is_inside (sizes_of tops) q)) (places_of_block p.block) (flat_map (λ (q : Pending). places_of_block q.block) ps) h in
     (named_if tops p.block split.0, each_named tops ps split.1)
 
-each_over : (tops : List Top) → AreTops tops → HaveUnits tops → (trees : List (List Waiting)) → AllByRecursion IsEngineTree trees
+each_over : (tops : List Top) → AreTops tops → HaveUnits tops → (trees : List (List UnfinishedRequest)) → AllByRecursion IsEngineTree trees
     → AllByRecursion (IsNamedOn tops) (joined_trees (map pendings trees)) → AllByRecursion (IsTreeOver tops) trees
 each_over tops are units [] h named = tt
 each_over tops are units (ws ∷ trees) h named =
     let split = all_split (IsNamedOn tops) (pendings ws) (joined_trees (map pendings trees)) named in
     (tree_inside tops are units ws h.0 split.0, each_over tops are units trees h.1 split.1)
 
-pub trees_over : (s : Standing) (trees : List (List Waiting)) → AllByRecursion IsEngineTree trees → AreRunnable s (map pendings trees)
+pub trees_over : (s : Standing) (trees : List (List UnfinishedRequest)) → AllByRecursion IsEngineTree trees → AreRunnable s (map pendings trees)
     → AreTops s.tops → HaveUnits s.tops → AllByRecursion (λ (p : Place). IsTrue (is_inside (sizes_of s.tops) p)) s.live
     → AllByRecursion (IsTreeOver s.tops) trees
 trees_over s trees each runs are units inside =

@@ -10,13 +10,13 @@ use Rattle.zio_course.specs.Runners.{AreRunnable, DiffersInRound, Standing}
 use Rattle.zio_plain.proofs.PlainLoose.{same_length, told_count}
 use Rattle.zio_stages.specs.Waits.{pendings}
 use Rattle.zio_stages.specs.declared.outcome.Finished.{Finished}
-use Rattle.zio_stages.specs.declared.waiting.Waiting.{Waiting}
+use Rattle.zio_stages.specs.declared.waiting.UnfinishedRequest.{UnfinishedRequest}
 use Rattle.slab.specs.Slab.{Slab}
 use Rattle.zio_turns.specs.Ledgers.{AreToldAs, Books, Ending}
 use Rattle.zio_turns.specs.Parts.{Nodes}
 use Rattle.zio_turns.specs.Stops.{IsStopped, TreesStopWith}
 use Rattle.zio_turns.specs.UnderTrees.{RunsToEnd, TreesBegin}
-use Rattle.zio_turns.specs.declared.entry.Entry.{Entry}
+use Rattle.zio_turns.specs.declared.entry.TiedNode.{TiedNode}
 use Rattle.zio_turns.specs.declared.grounds.Grounds.{Grounds}
 use Rattle.zio_turns.specs.declared.trees.TreeState.{TreeState}
 use Rattle.zio_turns.specs.declared.trees.TreeState.TheVariants.{UnderWay}
@@ -61,7 +61,7 @@ loose_then {D} image s trees old mid new same h = subst (λ (ds : List D). TellL
 -- the trees are one forest, of which a round is sound
 pub steady_job : {D : Type 0} (bytes faults : D → ℕ) (g : Grounds D) (round : ℕ) (failmode : Failmode)
     → IsSteadyGrounds {D = D} bytes g
-    → (wholes : List (List Waiting)) → AllByRecursion IsEngineTree wholes
+    → (wholes : List (List UnfinishedRequest)) → AllByRecursion IsEngineTree wholes
     → AreRunnable (standing_on faults g) (map pendings wholes)
     → IsSoundJob (terms_on g failmode round) (size_at (map bytes g.disks.items)) wholes
 steady_job bytes faults g round failmode steady wholes each runs =
@@ -69,9 +69,9 @@ steady_job bytes faults g round failmode steady wholes each runs =
     steady.leaves_differ steady.bears steady.inside
 
 module _ {N D : Type 0} (nodes : Nodes N) (bytes faults : D → ℕ) (image : D → List ℕ → Type 0) (g : Grounds D) (round : ℕ)
-    (failmode : Failmode) (steady : IsSteadyGrounds {D = D} bytes g) (wholes : List (List Waiting)) where
+    (failmode : Failmode) (steady : IsSteadyGrounds {D = D} bytes g) (wholes : List (List UnfinishedRequest)) where
   -- it ran from its first attempts on
-  pub ends_on : (slab slab_now : Slab (Entry N)) (line line_now : List ℕ) (now : Grounds D) (states settled : List TreeState)
+  pub ends_on : (slab slab_now : Slab (TiedNode N)) (line line_now : List ℕ) (now : Grounds D) (states settled : List TreeState)
       (first ended : List Finished) → TreesBegin {N = N} nodes slab line round failmode wholes states []
       → states ≡ replicate (length wholes) (UnderWay 0) → first ≡ []
       → RunsToEnd {N = N} {D = D} nodes bytes image slab line g states first slab_now line_now now settled ended round failmode
@@ -107,7 +107,7 @@ module _ {N D : Type 0} (nodes : Nodes N) (bytes faults : D → ℕ) (image : D 
         job.round stopped
 
     -- where it was stopped
-    pub loose_stopped : (slab : Slab (Entry N)) (line : List ℕ) (states : List TreeState) (now : List D)
+    pub loose_stopped : (slab : Slab (TiedNode N)) (line : List ℕ) (states : List TreeState) (now : List D)
         → TreesBegin {N = N} nodes slab line round failmode wholes states [] → states ≡ replicate (length wholes) (UnderWay 0)
         → map bytes now ≡ map bytes g.disks.items
         → TreesStopWith {N = N} {D = D} nodes bytes image slab line g round failmode states now

@@ -11,7 +11,7 @@ use Rattle.slab.specs.Slab.{Slab}
 use Rattle.zio_turns.specs.Parts.{Nodes}
 use Rattle.zio_turns.specs.Rounds.{SoFar}
 use Rattle.zio_turns.specs.UnderTrees.{IsOver}
-use Rattle.zio_turns.specs.declared.entry.Entry.{Entry}
+use Rattle.zio_turns.specs.declared.entry.TiedNode.{TiedNode}
 
 fewer_pass : {X : Type 0} (test : X → Bool) (xs : List X) → length (filter test xs) ≤ length xs
 fewer_pass test [] = omega arith
@@ -32,7 +32,7 @@ all_pass test (x ∷ xs) most = by (test x) refl most (λ rest. all_pass test xs
     by false fails most rest = absurd (let few = fewer_pass test xs in omega arith)
 
 pub keys_of_round : {N : Type 0} (nodes : Nodes N) (t : Terms) (sizes : ℕ → ℕ) (f : Forest) (before : Option Images) (s : SoFar)
-    (slab : Slab (Entry N)) → IsOver {N = N} nodes t sizes f before s slab → AllByRecursion (λ (c : Choice). c.asked.key.round ≡ t.round) s.entries
+    (slab : Slab (TiedNode N)) → IsOver {N = N} nodes t sizes f before s slab → AllByRecursion (λ (c : Choice). c.asked.key.round ≡ t.round) s.entries
 keys_of_round nodes t sizes f before s slab over =
     subst (AllByRecursion (λ (c : Choice). c.asked.key.round ≡ t.round)) over.entries_are
     (all_weaker (λ (c : Choice). (c.asked.key.round == t.round) ≡ true) (λ (c : Choice). c.asked.key.round ≡ t.round) over.state.entries

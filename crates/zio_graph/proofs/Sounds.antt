@@ -25,7 +25,7 @@ use Rattle.zio_course.specs.Runners.{AreRunnable, Standing, joined_trees, terms_
 use Rattle.zio_sound.proofs.Linked.{linked_families}
 use Rattle.zio_sound.proofs.SoundRounds.{runnable_once, runnable_sound}
 use Rattle.zio_stages.specs.Waits.{pendings}
-use Rattle.zio_stages.specs.declared.waiting.Waiting.{Waiting}
+use Rattle.zio_stages.specs.declared.waiting.UnfinishedRequest.{UnfinishedRequest}
 use Rattle.zio_graph.specs.EngineTrees.{AreSound}
 use Rattle.zio_graph.specs.EngineTrees.{IsEngineTree}
 use Rattle.zio_graph.specs.Jobs.{IsSoundJob, size_at}
@@ -72,7 +72,7 @@ joined_flat (TreeOf p kids others) =
     append_assoc (flat kids) (p ∷ []) (joined_trees (trees_of others))
     ∙ ap (λ (ps : List Pending). flat kids ++ p ∷ ps) (joined_flat others)
 
-pub sound_round : (s : Standing) (failmode : Failmode) (round point : ℕ) (bytes : List ℕ) (trees : List (List Waiting)) (x : AreEngineForest None trees)
+pub sound_round : (s : Standing) (failmode : Failmode) (round point : ℕ) (bytes : List ℕ) (trees : List (List UnfinishedRequest)) (x : AreEngineForest None trees)
     → AreRunnable s (map pendings trees) → LeavesOnce s.tops → LeavesDiffer s.tops → AllByRecursion (HasSectors bytes) s.tops
     → AllByRecursion (λ (p : Place). IsTrue (is_inside (sizes_of s.tops) p)) s.live
     → IsSoundRound (terms_at s failmode round point) (size_at bytes) x.forest
@@ -84,7 +84,7 @@ sound_round s failmode round point bytes trees x runs once differ bears inside =
     (sym (joined_flat x.forest) ∙ ap joined_trees x.lists) (forest_pointers x.forest x.sound))
     inside
 
-pub sound_job : (s : Standing) (failmode : Failmode) (round point : ℕ) (bytes : List ℕ) (trees : List (List Waiting)) → AllByRecursion IsEngineTree trees
+pub sound_job : (s : Standing) (failmode : Failmode) (round point : ℕ) (bytes : List ℕ) (trees : List (List UnfinishedRequest)) → AllByRecursion IsEngineTree trees
     → AreRunnable s (map pendings trees) → LeavesOnce s.tops → LeavesDiffer s.tops → AllByRecursion (HasSectors bytes) s.tops
     → AllByRecursion (λ (p : Place). IsTrue (is_inside (sizes_of s.tops) p)) s.live
     → IsSoundJob (terms_at s failmode round point) (size_at bytes) trees

@@ -22,7 +22,7 @@ use Rattle.zio_course.specs.declared.runner.RoundEnd.{RoundEnd}
 use Rattle.zio_course.specs.Runners.{AreRunnable, DiffersInRound, IsRound, IsRoundEnd, Standing, StandsAfter, StoppedAfter, ended_seen, terms_at}
 use Rattle.zio_stages.specs.PartWorks.{HaveUnits}
 use Rattle.zio_stages.specs.Waits.{pendings}
-use Rattle.zio_stages.specs.declared.waiting.Waiting.{Waiting}
+use Rattle.zio_stages.specs.declared.waiting.UnfinishedRequest.{UnfinishedRequest}
 use Rattle.zio_nodes.specs.TreeAts.{IsRequestInside, IsTreeOver}
 use Rattle.zio_turns.specs.declared.grounds.Grounds.{Grounds}
 use Rattle.zio_graph.specs.EngineTrees.{IsWithinLimits}
@@ -42,7 +42,7 @@ small_so (Free name) n h = omega arith
 small_so (Claim name pointer) n h = omega arith
 
 -- they are within their limits
-pub over_within : (tops : List Top) (whole : List Waiting) → IsTreeOver tops whole → AllByRecursion IsWithinLimits whole
+pub over_within : (tops : List Top) (whole : List UnfinishedRequest) → IsTreeOver tops whole → AllByRecursion IsWithinLimits whole
 over_within tops whole over = all_weaker (IsRequestInside tops) IsWithinLimits whole
     (λ w h. record {
       size = small_so w.request.work (w.unfinished + length w.kept) (λ write. (h.sound.write write).size);
@@ -99,7 +99,7 @@ idle_ends s round trees end h = record {
 -- ---- a round over the grounds is one of the engine
 
 -- a round's end, with the trees that are left as they stand between rounds
-pub record IsSeenEnd (e : RoundEnd (List Waiting)) (end : RoundEnd (List Pending)) : Type 0 where
+pub record IsSeenEnd (e : RoundEnd (List UnfinishedRequest)) (end : RoundEnd (List Pending)) : Type 0 where
   pub finished : end.finished ≡ e.finished
   pub left : end.left ≡ map pendings e.left
   pub completions : end.completions ≡ e.completions
@@ -108,7 +108,7 @@ pub record IsSeenEnd (e : RoundEnd (List Waiting)) (end : RoundEnd (List Pending
 abbrev pub as_trees : List (List Pending) → List (List Pending)
 as_trees trees = map (λ (tree : List Pending). tree) trees
 
-seen_same : (e : RoundEnd (List Waiting)) (end : RoundEnd (List Pending)) → IsSeenEnd e end
+seen_same : (e : RoundEnd (List UnfinishedRequest)) (end : RoundEnd (List Pending)) → IsSeenEnd e end
     → ended_seen pendings e ≡ ended_seen (λ (tree : List Pending). tree) end
 seen_same e end h =
     let left : map pendings e.left ≡ as_trees end.left = sym h.left ∙ sym (map-id end.left) in
@@ -159,7 +159,7 @@ module _ {D : Type 0} (faults : D → ℕ) (image : D → List ℕ → Type 0) (
     stopped = refl;
   }
 
-  module _ (trees : List (List Pending)) (wholes : List (List Waiting)) (same : map pendings wholes ≡ trees) where
+  module _ (trees : List (List Pending)) (wholes : List (List UnfinishedRequest)) (same : map pendings wholes ≡ trees) where
     given : map pendings wholes ≡ as_trees trees
     given = same ∙ sym (map-id trees)
 
@@ -176,7 +176,7 @@ module _ {D : Type 0} (faults : D → ℕ) (image : D → List ℕ → Type 0) (
         (subst (λ (ts : List (List Pending)). TellLoose {D = D} image (idle (standing_of faults p)) ts g.disks.items now) given
         (subst (λ (s : Standing). TellLoose {D = D} image s (map pendings wholes) g.disks.items now) known h))
 
-    module _ (e : RoundEnd (List Waiting)) (end : RoundEnd (List Pending)) (seen : IsSeenEnd e end) where
+    module _ (e : RoundEnd (List UnfinishedRequest)) (end : RoundEnd (List Pending)) (seen : IsSeenEnd e end) where
       pub round_seen : (failmode : Failmode) (round : ℕ) (now : List D)
           → RunsAs {D = D} image (standing_on faults g) failmode round g.setting.point (map pendings wholes) g.disks.items now
           (ended_seen pendings e)

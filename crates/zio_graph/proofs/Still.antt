@@ -39,7 +39,7 @@ use Rattle.zio_turns.specs.Slabs.{shelf_of}
 use Rattle.zio_turns.specs.UnderTrees.{IsOver}
 use Rattle.zio_turns.specs.declared.desk.Asked.{Asked}
 use Rattle.zio_turns.specs.declared.desk.Asked.TheVariants.{Nothing}
-use Rattle.zio_turns.specs.declared.entry.Entry.{Entry}
+use Rattle.zio_turns.specs.declared.entry.TiedNode.{TiedNode}
 use Rattle.zio_turns.specs.declared.grounds.Grounds.{Grounds}
 use Rattle.zio_turns.specs.declared.trees.TreeState.{TreeState}
 use Rattle.zio_turns.proofs.OpenCounts.{found_inside}
@@ -70,7 +70,7 @@ module _ {N : Type 0} (nodes : Nodes N) (t : Terms) (tops lives : ℕ → Option
   none_there (Some x) (Some h) none m = absurd (cc)
 
 over_waits : {N : Type 0} (nodes : Nodes N) (t : Terms) (sizes : ℕ → ℕ) (f : Forest) (before : Before) (s : SoFar)
-    (slab : Slab (Entry N))
+    (slab : Slab (TiedNode N))
     (line leaves : List ℕ) → KeepsRound {N = N} nodes t sizes f before s slab line leaves
     → IsOver {N = N} nodes t sizes f before s slab
     → leaves ≡ []

@@ -5,7 +5,7 @@ use Rattle.zio_types.specs.declared.journal.Completion.{Completion}
 use Rattle.zio_course.specs.declared.runner.Finished.{Finished as Told}
 use Rattle.zio_course.specs.Runners.{completion_for}
 use Rattle.zio_stages.specs.declared.outcome.Finished.{Finished}
-use Rattle.zio_stages.specs.declared.waiting.Waiting.{Waiting}
+use Rattle.zio_stages.specs.declared.waiting.UnfinishedRequest.{UnfinishedRequest}
 use Rattle.zio_turns.specs.declared.trees.TreeEnd.{TreeEnd}
 use Rattle.zio_turns.specs.declared.trees.TreeEnd.TheVariants.{Finished as RootFinished, Suspended}
 use Rattle.zio_turns.specs.declared.trees.TreeState.{TreeState}
@@ -20,14 +20,14 @@ abbrev pub completion_of : ℕ → Finished → Completion
 completion_of round f = completion_for round (told_of f)
 
 -- what is left of a tree that is suspended
-abbrev pub left_at : TreeEnd → List (List Waiting)
+abbrev pub left_at : TreeEnd → List (List UnfinishedRequest)
 left_at RootFinished = []
 left_at (Suspended whole) = whole ∷ []
 
-abbrev pub left_by : TreeState → List (List Waiting)
+abbrev pub left_by : TreeState → List (List UnfinishedRequest)
 left_by (UnderWay attempt) = []
 left_by (Settled end) = left_at end
 
 -- of each tree, in their order
-abbrev pub left_in : List TreeState → List (List Waiting)
+abbrev pub left_in : List TreeState → List (List UnfinishedRequest)
 left_in states = flat_map left_by states

@@ -15,7 +15,7 @@ use Rattle.zio_disks.specs.Whole.{IsWholeTree}
 use Rattle.zio_children.specs.declared.kept.KeptChild.{KeptChild}
 use Rattle.zio_sound.specs.Linked.{AreLinked}
 use Rattle.zio_stages.specs.Wholes.{IsTreeOf, trees_in}
-use Rattle.zio_stages.specs.declared.waiting.Waiting.{Waiting}
+use Rattle.zio_stages.specs.declared.waiting.UnfinishedRequest.{UnfinishedRequest}
 use Rattle.zio_nodes.specs.TreeAts.{is_childless}
 
 -- a pointer as it is held has room for three places
@@ -42,7 +42,7 @@ AreSound NoTrees = Unit {0}
 AreSound (TreeOf p kids others) = IsSoundPending (trees_in kids) p × AreSound kids × AreSound others
 
 -- The list is one tree, whose requests are sound and stand under their parents.
-pub record IsEngineTree (ws : List Waiting) : Type 0 where
+pub record IsEngineTree (ws : List UnfinishedRequest) : Type 0 where
   pub root : Pending
   pub kids : Forest
   pub is : IsTreeOf ws root kids
@@ -51,7 +51,7 @@ pub record IsEngineTree (ws : List Waiting) : Type 0 where
 
 -- A request no larger than a block with a pointer for each of its children, of which those that finished have valid pointers, and
 -- a free or a claim has none.
-pub record IsWithinLimits (w : Waiting) : Type 0 where
+pub record IsWithinLimits (w : UnfinishedRequest) : Type 0 where
   pub size : size_with (w.unfinished + length w.kept) w.request.work ≤ BLOCK_SIZE_MAX
   pub alone : is_childless (kind_of w.request.work) ≡ true → w.unfinished + length w.kept ≡ 0
   pub pointers : AllByRecursion (λ (c : KeptChild). IsNoneOrValid c.pointer) w.kept

@@ -9,14 +9,14 @@ use Rattle.zio_trace.specs.SoundRounds.{IsSoundRound}
 use Rattle.zio_course.specs.Runners.{DiffersInRound, Standing}
 use Rattle.zio_stages.specs.Wholes.{AreTrees}
 use Rattle.zio_stages.specs.declared.outcome.Finished.{Finished}
-use Rattle.zio_stages.specs.declared.waiting.Waiting.{Waiting}
+use Rattle.zio_stages.specs.declared.waiting.UnfinishedRequest.{UnfinishedRequest}
 use Rattle.slab.specs.Slab.{Slab}
 use Rattle.zio_turns.specs.Ledgers.{AreToldAs}
 use Rattle.zio_turns.specs.Parts.{Nodes}
 use Rattle.zio_turns.specs.Rounds.{Before, SoFar}
 use Rattle.zio_turns.specs.UnderTrees.{IsOver, RunsTrees}
 use Rattle.zio_turns.specs.UnderTurns.{TellNow}
-use Rattle.zio_turns.specs.declared.entry.Entry.{Entry}
+use Rattle.zio_turns.specs.declared.entry.TiedNode.{TiedNode}
 use Rattle.zio_turns.specs.declared.grounds.Grounds.{Grounds}
 use Rattle.zio_turns.specs.declared.trees.TreeState.{TreeState}
 use Rattle.zio_graph.specs.Jobs.{size_at}
@@ -28,7 +28,7 @@ use Rattle.zio_graph.specs.SteadyGrounds.{terms_on}
 pub record HasEnded {N D : Type 0} (nodes : Nodes N) (bytes : D → ℕ) (image : D → List ℕ → Type 0) (t : Terms) (sizes : ℕ → ℕ)
     (f : Forest) (before : Before) (g : Grounds D) (round : ℕ) (failmode : Failmode) (states : List TreeState)
     (ended : List Finished) : Type 0 where
-  pub slab : Slab (Entry N)
+  pub slab : Slab (TiedNode N)
   pub line : List ℕ
   pub now : SoFar
   pub runs : RunsTrees {N = N} {D = D} nodes bytes image t sizes f before now slab line g round failmode states
@@ -37,7 +37,7 @@ pub record HasEnded {N D : Type 0} (nodes : Nodes N) (bytes : D → ℕ) (image 
 
 -- so does each sound round of these trees that begins over these grounds
 abbrev pub EndsOn : {N D : Type 0} → Nodes N → (D → ℕ) → (D → List ℕ → Type 0) → Grounds D → Grounds D → ℕ → Failmode
-    → List (List Waiting) → List TreeState → List Finished → Type 0
+    → List (List UnfinishedRequest) → List TreeState → List Finished → Type 0
 EndsOn {N = N} {D = D} nodes bytes image g now round failmode wholes states ended =
     (f : Forest) (before : Before) (images : Images) →
     IsSoundRound (terms_on g failmode round) (size_at (map bytes g.disks.items)) f → AreTrees wholes f →

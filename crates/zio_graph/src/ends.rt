@@ -9,8 +9,8 @@ ghost use Rattle.zio_graph.specs.Ends.{completion_of, left_by, left_in, told_of}
 
 use std::alloc::Global;
 use zio_course::Finished;
-use zio_turns::{TreeEnd, TreeState};
 use zio_stages::{Finished as Ended, Whole};
+use zio_turns::{TreeEnd, TreeState};
 use zio_types::{Completion, List, NoMemory};
 
 /// What is left of the trees that are suspended, in their order.

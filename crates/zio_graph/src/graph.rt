@@ -31,11 +31,10 @@ use std::marker::Model;
 use zio_course::{Job, RoundEnd, Stop};
 use zio_disks::Setting;
 use zio_gang::Tree;
-use zio_turns::{DisksBack, Grounds};
-use zio_turns::Picks;
 use zio_nodes::NodeBox;
 use zio_outside::Disk;
 use zio_script::Request;
+use zio_turns::{DisksBack, Grounds, Picks};
 use zio_types::{List, NoMemory, Top};
 
 /// Runs rounds of trees of requests, whose nodes take turns in whatever order is picked. Contracts see it as its setting, its

@@ -29,26 +29,26 @@ ghost use Rattle.zio_sound.specs.Leaving.{LeavesTrees};
 ghost use Rattle.zio_stages.specs.PartWorks.{HaveUnits};
 ghost use Rattle.zio_stages.specs.Tops.{AreTops};
 ghost use Rattle.zio_stages.specs.Waits.{pendings};
-ghost use Rattle.zio_stages.specs.declared.waiting.Waiting.{Waiting};
+ghost use Rattle.zio_stages.specs.declared.waiting.UnfinishedRequest.{UnfinishedRequest};
 ghost use Rattle.zio_turns.specs.Ledgers.{AreBehindChildren, Ending, IsEnding, all_ended, freed_in, made_in};
 ghost use Rattle.slab.specs.Slab.{Slab};
 ghost use Rattle.zio_turns.specs.Rounds.{SoFar};
 ghost use Rattle.zio_turns.specs.Sizes.{FitsBodies};
 ghost use Rattle.zio_turns.specs.Stops.{IsStopped};
 ghost use Rattle.zio_turns.specs.UnderTrees.{IsOver};
-ghost use Rattle.zio_turns.specs.declared.entry.Entry.{Entry as SeenEntry};
+ghost use Rattle.zio_turns.specs.declared.entry.TiedNode.{TiedNode as SeenEntry};
 ghost use Rattle.zio_nodes.specs.TreeAts.{IsTreeOver};
 ghost use Rattle.zio_graph.specs.EngineTrees.{AreSound, IsEngineTree};
 ghost use Rattle.zio_graph.specs.InUse.{LeavesInUse};
 ghost use Rattle.zio_graph.specs.Jobs.{IsSoundJob, size_at};
 ghost use Rattle.zio_graph.specs.RoundEnds.{IsByNumber, TellsRound, completions_of};
 
-use zio_turns::Node;
+use zio_turns::NodeFacts;
 
 /// Trees that a runner may be given are a sound round, all of them under way together: where the tops hold their leaves, which
 /// stand once and lie on disks of these sizes, and the places in use lie inside the tops.
 pub fn jobs_are_sound_rounds()
-    ensures { (s : Standing) (failmode : Failmode) (round point : ℕ) (bytes : List ℕ) (trees : List (List Waiting)) →
+    ensures { (s : Standing) (failmode : Failmode) (round point : ℕ) (bytes : List ℕ) (trees : List (List UnfinishedRequest)) →
         AllByRecursion IsEngineTree trees → AreRunnable s (map pendings trees) → LeavesOnce s.tops → LeavesDiffer s.tops →
         AllByRecursion (HasSectors bytes) s.tops → AllByRecursion (λ (p : Place). IsTrue (is_inside (sizes_of s.tops) p)) s.live →
         IsSoundJob (terms_at s failmode round point) (size_at bytes) trees }
@@ -111,7 +111,7 @@ pub fn rounds_leave_places_in_use()
 {}
 
 /// What a round that is over asked of the space it asked under its own number.
-pub fn rounds_ask_under_their_number<N: Node>()
+pub fn rounds_ask_under_their_number<N: NodeFacts>()
     ensures { (t : Terms) (sizes : ℕ → ℕ) (f : Forest) (before : Option Images) (s : SoFar) (slab : Slab (SeenEntry N)) →
         IsOver N.nodes t sizes f before s slab → AllByRecursion (λ (c : Choice). c.asked.key.round ≡ t.round) s.entries }
 {}
@@ -119,7 +119,7 @@ pub fn rounds_ask_under_their_number<N: Node>()
 /// Trees that a runner may be given lie on the tops, so that nodes of theirs may be run: where each place in use lies inside the
 /// tops.
 pub fn runnable_trees_lie_on_the_tops()
-    ensures { (s : Standing) (trees : List (List Waiting)) → AllByRecursion IsEngineTree trees → AreRunnable s (map pendings trees) →
+    ensures { (s : Standing) (trees : List (List UnfinishedRequest)) → AllByRecursion IsEngineTree trees → AreRunnable s (map pendings trees) →
         AreTops s.tops → HaveUnits s.tops → AllByRecursion (λ (p : Place). IsTrue (is_inside (sizes_of s.tops) p)) s.live →
         AllByRecursion (IsTreeOver s.tops) trees }
 {}

@@ -4,9 +4,9 @@ use crate::graph::Graph;
 use crate::tree::EngineTree;
 use zio_course::{Job, RoundEnd, Runner, Stop};
 use zio_gang::Tree;
-use zio_turns::Picks;
 use zio_outside::Disk;
 use zio_script::Request;
+use zio_turns::Picks;
 use zio_types::{List, NoMemory};
 
 impl<D: Disk + Drop, P: Picks + Drop> Runner for Graph<D, P> {

@@ -9,7 +9,7 @@ ghost use Rattle.zio_course.specs.declared.runner.Stop.TheVariants.{Device};
 ghost use Rattle.zio_course.specs.Runners.{AreRunnable, DiffersInRound, IsRound, IsRoundEnd, ended_seen, made_trees, terms_at};
 ghost use Rattle.zio_plain.specs.Works.{stop_of};
 ghost use Rattle.zio_stages.specs.Waits.{pendings};
-ghost use Rattle.zio_stages.specs.declared.waiting.Waiting.{Waiting};
+ghost use Rattle.zio_stages.specs.declared.waiting.UnfinishedRequest.{UnfinishedRequest};
 ghost use Rattle.zio_turns.specs.UnderTrees.{StateIn};
 ghost use Rattle.zio_graph.specs.EngineTrees.{IsEngineTree, IsWithinLimits};
 ghost use Rattle.zio_graph.specs.InUse.{LeavesInUse};
@@ -19,11 +19,10 @@ ghost use Rattle.zio_graph.specs.WholeRounds.{EndsOn, TellLoose};
 use crate::ends::{by_number, completions_of, left_of};
 use zio_course::{RoundEnd, Stop};
 use zio_disks::Stop as DiskStop;
-use zio_turns::{Grounds, Staged, TreeState, Turns, begin_trees, run_trees};
-use zio_turns::Picks;
 use zio_outside::Disk;
 use zio_script::Failmode;
 use zio_stages::{Finished, Whole};
+use zio_turns::{Grounds, Picks, Staged, TreeState, Turns, begin_trees, run_trees};
 use zio_types::List;
 
 /// Runs a round of these trees, in whatever order is picked, until each finished or is suspended.
@@ -51,7 +50,7 @@ pub(crate) fn run_wholes<N: Staged, D: Disk + Drop, P: Picks>(
     ensures fits { IfOk result (λ end. AllByRecursion IsWholeTree (made_trees end.finished)) }
     ensures stands { IfOk result (λ end. LeavesInUse (standing_on D.faults grounds.old) (map pendings wholes) end.finished
         grounds.new.desk.space.live) }
-    ensures left { ((whole : Seq Waiting) → N.tree_over grounds.old.setting.tops whole → AllByRecursion IsWithinLimits whole) →
+    ensures left { ((whole : Seq UnfinishedRequest) → N.tree_over grounds.old.setting.tops whole → AllByRecursion IsWithinLimits whole) →
         IfOk result (λ end. AllByRecursion IsEngineTree end.left) }
     ensures over { IfOk result (λ end. AllByRecursion (N.tree_over grounds.old.setting.tops) end.left) }
     ensures steady { OnOk result (IsSteadyGrounds D.bytes grounds.new) }

@@ -36,7 +36,7 @@ use Rattle.zio_stages.specs.StoredBlocks.{IsGoingBack}
 use Rattle.zio_stages.specs.Wholes.{joined}
 use Rattle.zio_types.specs.declared.request.Bits.{Bits}
 use Rattle.zio_blkptr.specs.declared.pointer.Bp.{Bp}
-use Rattle.zio_stages.specs.declared.waiting.Waiting.{Waiting}
+use Rattle.zio_stages.specs.declared.waiting.UnfinishedRequest.{UnfinishedRequest}
 use Rattle.zio_stages.specs.declared.outcome.Finished.{Finished as FinishedOne}
 use Rattle.zio_stages.specs.declared.outcome.Outcome.{Outcome}
 use Rattle.zio_stages.specs.declared.outcome.Outcome.TheVariants.{Again, Finished, Found as HasFound, Stored as HasStored, Walked}
@@ -321,7 +321,7 @@ child_kind at n kind k h =
     cc
 
 pub own_outcome : (outcome : Outcome) → ((f : FinishedOne) → outcome ≡ Finished f → ⊥)
-    → ((whole : List Waiting) (bits : Bits) (pointer : Option Bp) → outcome ≡ Again whole bits pointer → ⊥) → IsOwnOutcome outcome
+    → ((whole : List UnfinishedRequest) (bits : Bits) (pointer : Option Bp) → outcome ≡ Again whole bits pointer → ⊥) → IsOwnOutcome outcome
 own_outcome (Finished f) first again = absurd (first f refl)
 own_outcome (Again whole bits pointer) first again = absurd (again whole bits pointer refl)
 own_outcome (HasFound answer) first again = tt

@@ -21,9 +21,9 @@ use crate::node::Node;
 use crate::request_at::RequestAt;
 use crate::turn::{Turn, new_room};
 use std::alloc::Global;
-use zio_turns::Move;
 use zio_masks::{CLAIM, INTERLOCK, Stage, next, with_gang};
 use zio_stages::{DoneStep, Services};
+use zio_turns::Move;
 use zio_types::{ChildKind, Kind, NoMemory, Phase, Top};
 
 impl RequestAt {

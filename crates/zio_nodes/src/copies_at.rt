@@ -20,9 +20,9 @@ use crate::node::Node;
 use crate::read_io_at::behind_assess;
 use crate::turn::{Turn, new_room};
 use std::alloc::Global;
-use zio_turns::Move;
 use zio_masks::{READ, Stage, next};
 use zio_stages::{CopiesNode, Family, IoNext, Outcome, reads_tell_no_pointer};
+use zio_turns::Move;
 use zio_types::{ChildKind, NoMemory, Phase, Top};
 
 /// The read of a block's copies at a stage of its pipeline.

@@ -16,9 +16,9 @@ use crate::node::Node;
 use crate::request_at::RequestAt;
 use crate::turn::Turn;
 use std::alloc::Global;
-use zio_turns::Move;
 use zio_masks::Stage;
 use zio_stages::{NodeBack, what_is_no_write_has_no_pointer};
+use zio_turns::Move;
 
 impl RequestAt {
     /// Tells that it has no pointer, and goes on to this stage.

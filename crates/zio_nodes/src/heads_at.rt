@@ -21,9 +21,9 @@ use crate::node::Node;
 use crate::stall::gang_stall;
 use crate::turn::{Turn, new_room};
 use std::alloc::Global;
-use zio_turns::Move;
 use zio_masks::{INTERLOCK, Stage, next, with_gang};
 use zio_stages::{Family, HeadsBack, HeadsNode, Outcome, WalkStage, reads_tell_no_pointer};
+use zio_turns::Move;
 use zio_types::{ChildKind, NoMemory, Phase, Top};
 
 /// The walk over headers at a stage of its pipeline.

@@ -17,9 +17,9 @@ ghost use Rattle.zio_nodes.specs.Told.{is_told};
 
 use crate::node::Node;
 use crate::turn::Turn;
-use zio_turns::Move;
 use zio_masks::{Stage, VDEV_CHILD, next};
 use zio_stages::{LeafWork, Outcome};
+use zio_turns::Move;
 use zio_types::{Bytes, Errno, List, NoMemory};
 
 /// An operation on a leaf at a stage of its pipeline.

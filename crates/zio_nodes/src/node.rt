@@ -58,10 +58,10 @@ use crate::turn::Turn;
 use std::alloc::Global;
 use std::mem::replace;
 use zio_blkptr::Bp;
-use zio_turns::Move;
 use zio_masks::Stage;
 use zio_script::Failmode;
 use zio_stages::{Finished, Outcome, Services, Whole};
+use zio_turns::Move;
 use zio_types::{Bytes, ChildKind, Errno, Kind, NoMemory, Phase, ReqNo, Top};
 
 /// A node of a round.

@@ -12,9 +12,9 @@ use crate::node::Node;
 use crate::request_at::RequestAt;
 use crate::turn::Turn;
 use std::alloc::Global;
-use zio_turns::Move;
 use zio_masks::{NULL, Stage, next};
 use zio_stages::{DoneStep, NodeBack, what_is_no_write_has_no_pointer};
+use zio_turns::Move;
 use zio_types::{Kind, Phase};
 
 impl RequestAt {

@@ -16,9 +16,9 @@ use crate::node::Node;
 use crate::part_at::PartAt;
 use crate::turn::{Turn, new_room};
 use std::alloc::Global;
-use zio_turns::Move;
 use zio_masks::{Stage, WRITE, next};
 use zio_stages::{Allocated, DoneStep, IoNext, Outcome, PartNodeBack, ReadyStep, Services};
+use zio_turns::Move;
 use zio_types::{ChildKind, NoMemory, Phase, Top};
 
 impl PartAt {

@@ -19,9 +19,9 @@ use crate::request_at::RequestAt;
 use crate::stall::gang_stall;
 use crate::turn::{Turn, new_room};
 use std::alloc::Global;
-use zio_turns::Move;
 use zio_masks::{INTERLOCK, READ, Stage, next, with_gang};
 use zio_stages::{BodyStage, ReadDone, Services};
+use zio_turns::Move;
 use zio_types::{ChildKind, Kind, NoMemory, Phase, Top};
 
 impl RequestAt {

@@ -15,10 +15,10 @@ ghost use Rattle.zio_nodes.specs.TreeAts.{IsTreeAt, IsTreeAtOver};
 use crate::node::Node;
 use crate::request_at::RequestAt;
 use std::alloc::Global;
-use zio_turns::Move;
 use zio_masks::Stage;
 use zio_script::Failmode;
 use zio_stages::{RequestNode, Whole, WholeBack};
+use zio_turns::Move;
 
 /// A tree of requests, of whose attempt nothing is done. It is split only once it runs, so that it can be handed out where there is
 /// no memory.

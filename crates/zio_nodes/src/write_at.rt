@@ -19,9 +19,9 @@ use crate::part_at::PartAt;
 use crate::request_at::RequestAt;
 use crate::turn::{Turn, new_room};
 use std::alloc::Global;
-use zio_turns::Move;
 use zio_masks::{Stage, WRITE, next};
 use zio_stages::{Allocated, Content, DoneStep, IoNext, NodeBack, ReadyStep, Services};
+use zio_turns::Move;
 use zio_types::{ChildKind, Kind, NoMemory, Phase, Top};
 
 impl RequestAt {

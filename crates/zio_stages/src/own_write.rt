@@ -15,7 +15,7 @@ ghost use Rattle.zio_stages.specs.Waits.{pending_of};
 ghost use Rattle.zio_stages.specs.declared.family.Layer.TheVariants.{Within};
 
 use crate::part_work::PartWork;
-use crate::waiting::Waiting;
+use crate::waiting::UnfinishedRequest;
 use std::alloc::Global;
 use zio_children::Kids;
 use zio_gang::content;
@@ -35,7 +35,7 @@ pub(crate) struct OwnWrite {
 /// and its sum is taken here, so no later stage goes over the bytes again.
 pub(crate) fn block_of(
     alloc: Global,
-    waiting: &Waiting,
+    waiting: &UnfinishedRequest,
     kids: &Kids,
     round: u32,
     attempt: u32,

@@ -7,13 +7,13 @@ use Rattle.zio_types.specs.declared.request.ChildKind.{ChildKind}
 use Rattle.zio_types.specs.declared.request.Phase.{Phase}
 use Rattle.zio_types.specs.declared.request.Phase.TheVariants.{Done}
 use Rattle.zio_counts.specs.Tallies.{Tally, count_end, counted, first_counted, is_last, notified, raised, stalled}
-use Rattle.zio_stages.specs.declared.waiting.Waiting.{Waiting}
+use Rattle.zio_stages.specs.declared.waiting.UnfinishedRequest.{UnfinishedRequest}
 use Rattle.slab.specs.Slab.{Slab, Updates, get}
 use Rattle.zio_turns.specs.Acts.{HasCounted, HasGrown, HasHeard, HasWaited, StepIn, counting, new_ties, step_told, with_ties}
 use Rattle.zio_turns.specs.Entries.{OneMore, OneMoreIf}
 use Rattle.zio_turns.specs.Parts.{Nodes}
 use Rattle.zio_turns.specs.Stages.{heard_max}
-use Rattle.zio_turns.specs.declared.entry.Entry.{Entry}
+use Rattle.zio_turns.specs.declared.entry.TiedNode.{TiedNode}
 use Rattle.zio_turns.specs.declared.entry.Parent.{Parent as Above}
 use Rattle.zio_turns.specs.declared.entry.Parent.TheVariants.{Node, Tree}
 use Rattle.zio_turns.specs.declared.entry.Ties.{Ties}
@@ -29,11 +29,11 @@ if_ok_both (Ok x) P Q R f p q = f x p q
 if_ok_both (Err e) P Q R f p q = tt
 
 -- a pointer that is told is no tree that goes again
-pub told_in : (Q : List Waiting → Type 0) (parent : Above) → StepIn Q (step_told parent)
+pub told_in : (Q : List UnfinishedRequest → Type 0) (parent : Above) → StepIn Q (step_told parent)
 told_in Q (Tree tree child) = tt
 told_in Q (Node key child) = tt
 
-pub waited : {N : Type 0} (slab slab_now : Slab (Entry N)) (line line_now : List ℕ) (key : ℕ) (e : Entry N) (kind : ChildKind)
+pub waited : {N : Type 0} (slab slab_now : Slab (TiedNode N)) (line line_now : List ℕ) (key : ℕ) (e : TiedNode N) (kind : ChildKind)
     (phase : Phase) (tally : Tally) (stalls : Bool) → tally ≡ stalled (first_counted (kind ∷ []) phase e.ties.counts) e.ties.counts
     → stalls ≡ is_some (first_counted (kind ∷ []) phase e.ties.counts)
     → Updates slab slab_now key (Some (with_ties {N = N} e.node (counting e.ties tally)))
@@ -43,7 +43,7 @@ waited {N} slab slab_now line line_now key e kind phase tally stalls is waits pu
   queued = queued ∙ ap (λ (b : Bool). cond b line (line ++ key ∷ [])) waits;
 }
 
-pub has_grown : {N : Type 0} (slab mid slab_now : Slab (Entry N)) (line line_mid line_now : List ℕ) (key at : ℕ) (e : Entry N)
+pub has_grown : {N : Type 0} (slab mid slab_now : Slab (TiedNode N)) (line line_mid line_now : List ℕ) (key at : ℕ) (e : TiedNode N)
     (child : N) (kind : ChildKind) (tally : Tally) (ties : Ties) → counted kind Done e.ties.counts < count_end
     → tally ≡ raised kind e.ties.counts
     → Updates slab mid key (Some (with_ties {N = N} e.node (record {
@@ -81,7 +81,7 @@ woken_behind true first key line line_now e =
     subst (λ (q : List ℕ). OneMore key (first ∷ line) (first ∷ q)) (sym e) (queued_last key (first ∷ line))
 woken_behind false first key line line_now e = ap (λ (q : List ℕ). first ∷ q) e
 
-pub has_counted : {N : Type 0} (slab slab_now : Slab (Entry N)) (line line_now : List ℕ) (key : ℕ) (e : Entry N) (kind : ChildKind)
+pub has_counted : {N : Type 0} (slab slab_now : Slab (TiedNode N)) (line line_now : List ℕ) (key : ℕ) (e : TiedNode N) (kind : ChildKind)
     (phase : Phase) (error : Option Errno) (bits : Bits) (tally : Tally) (b : Bool)
     → Updates slab slab_now key (Some (with_ties {N = N} e.node (counting e.ties tally)))
     → tally ≡ notified kind phase error bits e.ties.counts → b ≡ is_last kind phase e.ties.counts
@@ -93,8 +93,8 @@ has_counted {N} slab slab_now line line_now key e kind phase error bits tally b 
 }
 
 -- it was taken out, heard, and was put back
-pub has_heard : {N : Type 0} (nodes : Nodes N) (slab out slab_now : Slab (Entry N)) (line line_now : List ℕ) (kind : ChildKind)
-    (phase : Phase) (error : Option Errno) (bits : Bits) (key : ℕ) (was : Entry N) (up : N)
+pub has_heard : {N : Type 0} (nodes : Nodes N) (slab out slab_now : Slab (TiedNode N)) (line line_now : List ℕ) (kind : ChildKind)
+    (phase : Phase) (error : Option Errno) (bits : Bits) (key : ℕ) (was : TiedNode N) (up : N)
     → get slab key ≡ Some was → Updates slab out key None
     → HasCounted {N = N} out line slab_now line_now key (with_ties {N = N} up was.ties) kind phase error bits
     → nodes.told up ≡ nodes.told was.node → nodes.left up ≤ nodes.left was.node + heard_max → nodes.gave up ≡ nodes.gave was.node

@@ -13,7 +13,7 @@ use Rattle.zio_turns.specs.Parts.{Nodes}
 use Rattle.zio_turns.specs.Rounds.{ComesBack, IsAtLeaf, KeepsRound, with_images}
 use Rattle.zio_turns.specs.Slabs.{held_of, shelf_of}
 use Rattle.zio_turns.specs.Stages.{ShowsAnswer}
-use Rattle.zio_turns.specs.declared.entry.Entry.{Entry}
+use Rattle.zio_turns.specs.declared.entry.TiedNode.{TiedNode}
 use Rattle.zio_turns.proofs.Finds.{leaf_held}
 use Rattle.zio_turns.proofs.Lives.{first_at}
 use Rattle.zio_turns.proofs.MoveOne.{leaf_now}
@@ -22,9 +22,9 @@ use Rattle.zio_turns.proofs.RoundMoves.{round_comes_back}
 use Rattle.zio_turns.proofs.RoundNodes.{it_is_there}
 use Rattle.zio_turns.proofs.RoundParents.{from_held}
 
-module _ {N : Type 0} (nodes : Nodes N) (slab : Slab (Entry N)) (line : List ℕ) (key : ℕ) where
+module _ {N : Type 0} (nodes : Nodes N) (slab : Slab (TiedNode N)) (line : List ℕ) (key : ℕ) where
   -- a key at a leaf has a node
-  pub at_leaf_held : IsAtLeaf {N = N} nodes slab line key → (e : Entry N) × (get slab key ≡ Some e)
+  pub at_leaf_held : IsAtLeaf {N = N} nodes slab line key → (e : TiedNode N) × (get slab key ≡ Some e)
   at_leaf_held at =
       let some = at.keeps in
       let held = leaf_held nodes some.terms some.sizes some.forest some.before some.so_far.trees some.so_far.tops
@@ -32,7 +32,7 @@ module _ {N : Type 0} (nodes : Nodes N) (slab : Slab (Entry N)) (line : List ℕ
       from_held {N = N} (get slab key) held.0 held.1
 
   -- which does an operation on a leaf
-  pub at_leaf_is : IsAtLeaf {N = N} nodes slab line key → (e : Entry N) → get slab key ≡ Some e
+  pub at_leaf_is : IsAtLeaf {N = N} nodes slab line key → (e : TiedNode N) → get slab key ≡ Some e
       → (t : Terms) × (act : LeafOp) × nodes.Is t e.node (fresh_stack (Leaf act))
   at_leaf_is at e is =
       let some = at.keeps in
@@ -41,8 +41,8 @@ module _ {N : Type 0} (nodes : Nodes N) (slab : Slab (Entry N)) (line : List ℕ
       (shelf_of {N = N} slab) line at.leaves r.state (held_of {N = N} e) at.others r.kept r.held at.there in
       (some.terms, now.0, subst (λ (st : Stack). nodes.Is some.terms e.node st) now.4 r.is)
 
-  pub answer_comes_back : (slab_now : Slab (Entry N)) (line_now : List ℕ) (error : Option Errno)
-      (bytes : List ℕ) (e : Entry N) (node : N) → get slab key ≡ Some e
+  pub answer_comes_back : (slab_now : Slab (TiedNode N)) (line_now : List ℕ) (error : Option Errno)
+      (bytes : List ℕ) (e : TiedNode N) (node : N) → get slab key ≡ Some e
       → ((t : Terms) (act : LeafOp) (a : Answer) → nodes.Is t e.node (fresh_stack (Leaf act)) → ShowsAnswer act error bytes a
       → nodes.Is t node (done_at_once (fresh_stack (Leaf act)) (Leaf act) (Got a)))
       → nodes.told node ≡ nodes.told e.node → nodes.gave node ≡ nodes.gave e.node → Updates slab slab_now key (Some (with_ties {N = N} node e.ties))

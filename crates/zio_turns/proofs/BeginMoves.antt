@@ -11,7 +11,7 @@ use Rattle.zio_frames.specs.Frames.{Flying}
 use Rattle.zio_frames.specs.Running.{settling_from}
 use Rattle.zio_frames.proofs.GetLemmas.{get_last, same_or_not}
 use Rattle.zio_stages.specs.Wholes.{AreTrees, IsTreeOf}
-use Rattle.zio_stages.specs.declared.waiting.Waiting.{Waiting}
+use Rattle.zio_stages.specs.declared.waiting.UnfinishedRequest.{UnfinishedRequest}
 use Rattle.slab.specs.Slab.{Slab}
 use Rattle.zio_turns.specs.Attempting.{Course, attempt_of, course_of}
 use Rattle.zio_turns.specs.Entries.{all_tops, handed_on, top_at}
@@ -19,24 +19,24 @@ use Rattle.zio_turns.specs.Parts.{Nodes}
 use Rattle.zio_turns.specs.Rounds.{first_of, with_tree}
 use Rattle.zio_turns.specs.Slabs.{AreAll}
 use Rattle.zio_turns.specs.UnderTrees.{BeginsOn, FreshAt, HaveBegun, IsFreshFor, IsInState, TreesBegin}
-use Rattle.zio_turns.specs.declared.entry.Entry.{Entry}
+use Rattle.zio_turns.specs.declared.entry.TiedNode.{TiedNode}
 use Rattle.zio_turns.specs.declared.trees.TreeState.{TreeState}
 use Rattle.zio_turns.specs.declared.trees.TreeState.TheVariants.{UnderWay}
 use Rattle.zio_turns.proofs.AttemptMoves.{course_begins}
 use Rattle.zio_turns.proofs.Requeue.{none_held, round_first}
 use Rattle.zio_turns.proofs.Tops.{top_other, top_set}
 
-fresh_trees : (t : Terms) (k : ℕ) (wholes : List (List Waiting)) (f : Forest) → AreTrees wholes f → (n : ℕ) (whole : List Waiting)
+fresh_trees : (t : Terms) (k : ℕ) (wholes : List (List UnfinishedRequest)) (f : Forest) → AreTrees wholes f → (n : ℕ) (whole : List UnfinishedRequest)
     → slice_get wholes n ≡ Some whole → FreshAt t (top_at (all_tops (settling_from k (settles f))) n) whole
 fresh_trees t k [] f trees n whole e = absurd (cc)
 fresh_trees t k (w ∷ wholes) NoTrees trees n whole e = absurd trees
 fresh_trees t k (w ∷ wholes) (TreeOf p kids others) trees zero whole e =
     let same : w ≡ whole = cc in
-    record { request = p; kids = kids; between = course_begins t p kids; is = subst (λ (x : List Waiting). IsTreeOf x p kids) same trees.0 }
+    record { request = p; kids = kids; between = course_begins t p kids; is = subst (λ (x : List UnfinishedRequest). IsTreeOf x p kids) same trees.0 }
 fresh_trees t k (w ∷ wholes) (TreeOf p kids others) trees (suc n) whole e =
     fresh_trees t (suc k) wholes others trees.1 n whole e
 
-past_trees : (k : ℕ) (wholes : List (List Waiting)) (f : Forest) → AreTrees wholes f → (n : ℕ) → length wholes ≤ n
+past_trees : (k : ℕ) (wholes : List (List UnfinishedRequest)) (f : Forest) → AreTrees wholes f → (n : ℕ) → length wholes ≤ n
     → top_at (all_tops (settling_from k (settles f))) n ≡ None
 past_trees k [] NoTrees trees n h = refl
 past_trees k [] (TreeOf p kids others) trees n h = absurd trees
@@ -49,16 +49,16 @@ get_before [] y n h = absurd (omega arith)
 get_before (x ∷ xs) y zero h = refl
 get_before (x ∷ xs) y (suc n) h = get_before xs y n (omega arith)
 
-module _ {N : Type 0} (nodes : Nodes N) (over : List Top → N → Type 0) (tree_over : List Top → List Waiting → Type 0) (round : ℕ)
-    (failmode : Failmode) (wholes : List (List Waiting)) where
-  pub record AreBeginning (slab : Slab (Entry N)) (line : List ℕ) (states : List TreeState) (rest : List (List Waiting)) : Type 0 where
+module _ {N : Type 0} (nodes : Nodes N) (over : List Top → N → Type 0) (tree_over : List Top → List UnfinishedRequest → Type 0) (round : ℕ)
+    (failmode : Failmode) (wholes : List (List UnfinishedRequest)) where
+  pub record AreBeginning (slab : Slab (TiedNode N)) (line : List ℕ) (states : List TreeState) (rest : List (List UnfinishedRequest)) : Type 0 where
     pub begins : TreesBegin {N = N} nodes slab line round failmode wholes states rest
     pub inside : (tops : List Top) → AllByRecursion (tree_over tops) wholes → AreAll {N = N} (over tops) slab
         × AllByRecursion (tree_over tops) rest
     pub count : length states + length rest ≡ length wholes
     pub are : states ≡ replicate (length states) (UnderWay 0)
 
-  pub none_begun : (slab : Slab (Entry N)) (line : List ℕ) (rest : List (List Waiting)) → slab.slots ≡ [] → line ≡ [] → rest ≡ wholes
+  pub none_begun : (slab : Slab (TiedNode N)) (line : List ℕ) (rest : List (List UnfinishedRequest)) → slab.slots ≡ [] → line ≡ [] → rest ≡ wholes
       → AreBeginning slab line [] rest
   none_begun slab line rest none empty same = subst (AreBeginning slab line []) (sym same) (record {
     begins = λ t sizes f before images sound same_round same_mode is trees. record {
@@ -79,7 +79,7 @@ module _ {N : Type 0} (nodes : Nodes N) (over : List Top → N → Type 0) (tree
     are = refl;
   })
     where
-      fresh_at : (t : Terms) (f : Forest) → AreTrees wholes f → (n : ℕ) (whole : List Waiting) → slice_get wholes n ≡ Some whole
+      fresh_at : (t : Terms) (f : Forest) → AreTrees wholes f → (n : ℕ) (whole : List UnfinishedRequest) → slice_get wholes n ≡ Some whole
           → FreshAt t (top_at (all_tops (settling_from 0 (settles f))) (0 + n)) whole
       fresh_at t f trees n whole e =
           let zero_n : n ≡ 0 + n = omega arith in
@@ -88,8 +88,8 @@ module _ {N : Type 0} (nodes : Nodes N) (over : List Top → N → Type 0) (tree
 
   -- ---- one more
 
-  module _ (slab slab_now : Slab (Entry N)) (line line_now : List ℕ) (states : List TreeState) (whole : List Waiting)
-      (rest later : List (List Waiting)) (h : AreBeginning slab line states rest) (is : rest ≡ whole ∷ later) where
+  module _ (slab slab_now : Slab (TiedNode N)) (line line_now : List ℕ) (states : List TreeState) (whole : List UnfinishedRequest)
+      (rest later : List (List UnfinishedRequest)) (h : AreBeginning slab line states rest) (is : rest ≡ whole ∷ later) where
     begun_more : (t : Terms) (tops : List (Option Flying)) (top now : Flying) → HaveBegun t tops states (whole ∷ later)
         → top_at tops (length states) ≡ Some top → IsInState t (Some now) (Some (UnderWay 0))
         → HaveBegun t (slice_set tops (length states) (Some now)) (states ++ UnderWay 0 ∷ []) later
@@ -159,7 +159,7 @@ module _ {N : Type 0} (nodes : Nodes N) (over : List Top → N → Type 0) (tree
               (still tops i.0 both.0, both.1);
           count =
               let m : length (states ++ UnderWay 0 ∷ []) ≡ length states + 1 = length-append states (UnderWay 0 ∷ []) in
-              let n : length rest ≡ length (whole ∷ later) = ap (λ (ws : List (List Waiting)). length ws) is in
+              let n : length rest ≡ length (whole ∷ later) = ap (λ (ws : List (List UnfinishedRequest)). length ws) is in
               omega (arith, m, n, h.count);
           are =
               let m : length (states ++ UnderWay 0 ∷ []) ≡ length states + 1 = length-append states (UnderWay 0 ∷ []) in

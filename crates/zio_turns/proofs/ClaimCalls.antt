@@ -18,7 +18,7 @@ use Rattle.zio_turns.specs.Parts.{Nodes}
 use Rattle.zio_turns.specs.Rounds.{Before, ClaimsAlone, SoFar, choices_in, IsTurn}
 use Rattle.zio_turns.specs.Slabs.{shelf_of}
 use Rattle.zio_turns.specs.Stages.{IsMove, IsNow}
-use Rattle.zio_turns.specs.declared.entry.Entry.{Entry}
+use Rattle.zio_turns.specs.declared.entry.TiedNode.{TiedNode}
 use Rattle.zio_turns.specs.declared.staged.Move.{Move}
 use Rattle.zio_turns.specs.declared.staged.Move.TheVariants.{End, Grow, Leaf as ToLeaf, Next, Ready, Wait}
 use Rattle.zio_turns.proofs.Callings.{choices_did}
@@ -57,7 +57,7 @@ claimed_took (Took tree own ∷ dids) gone places free (suc k, within, is) =
     (later.0, behind (Took later.0 free) (Took tree own) dids later.1)
 
 module _ {N : Type 0} (nodes : Nodes N) (t : Terms) (sizes : ℕ → ℕ) (f : Forest) (before : Before)
-    (s : SoFar) (slab : Slab (Entry N)) (queue leaves : List ℕ) (key : ℕ) (e : Entry N) (calls : List SpaceCall) where
+    (s : SoFar) (slab : Slab (TiedNode N)) (queue leaves : List ℕ) (key : ℕ) (e : TiedNode N) (calls : List SpaceCall) where
   -- a node that did these took places for a claim
   by_claim : IsSoundRound t sizes f → (r : IsThere {N = N} nodes t sizes f before s slab queue leaves key e)
       → (dids : List Did) (gone : List Place) (st : Stack) → DoesAll t dids r.node.stack st → calls ≡ calls_by dids ++ calls_back gone
@@ -95,8 +95,8 @@ module _ {N : Type 0} (nodes : Nodes N) (t : Terms) (sizes : ℕ → ℕ) (f : F
       absurd (none_claimed m.gone places free
       (subst (λ (cs : List SpaceCall). Contains cs (Claimed places free)) m.calls_are there))
 
-pub steps_claim : {N : Type 0} (nodes : Nodes N) (tops : List Top) (slab : Slab (Entry N)) (line : List ℕ)
-    (key : ℕ) (e : Entry N) (calls : List SpaceCall) (move : Move N) → get slab key ≡ Some e
+pub steps_claim : {N : Type 0} (nodes : Nodes N) (tops : List Top) (slab : Slab (TiedNode N)) (line : List ℕ)
+    (key : ℕ) (e : TiedNode N) (calls : List SpaceCall) (move : Move N) → get slab key ≡ Some e
     → ((t : Terms) (st : Stack) → IsNow {N = N} nodes tops t e.node st → IsMove {N = N} nodes nodes.gave t e.node st calls move)
     → ClaimsAlone {N = N} nodes tops calls slab line key
 steps_claim {N} nodes tops slab line key e calls move is moves =
@@ -128,8 +128,8 @@ last_by nodes t node st calls (ToLeaf after op leaf bytes) m = nothing_last call
 last_by nodes t node st calls (Ready after pointer) m = nothing_last calls m.no_calls
 last_by nodes t node st calls (End outcome) m = record { first = []; gone = m.gone; are = m.calls_are; none = refl }
 
-pub steps_last : {N : Type 0} (nodes : Nodes N) (over : List Top → N → Type 0) (tops : List Top) (slab : Slab (Entry N)) (line : List ℕ)
-    (key : ℕ) (e : Entry N) (calls : List SpaceCall) (move : Move N) → get slab key ≡ Some e
+pub steps_last : {N : Type 0} (nodes : Nodes N) (over : List Top → N → Type 0) (tops : List Top) (slab : Slab (TiedNode N)) (line : List ℕ)
+    (key : ℕ) (e : TiedNode N) (calls : List SpaceCall) (move : Move N) → get slab key ≡ Some e
     → ((t : Terms) (st : Stack) → IsNow {N = N} nodes tops t e.node st → IsMove {N = N} nodes nodes.gave t e.node st calls move)
     → IsTurn {N = N} nodes over tops slab line key → GivesLast calls
 steps_last {N} nodes over tops slab line key e calls move is moves turn =

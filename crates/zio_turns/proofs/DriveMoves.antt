@@ -13,7 +13,7 @@ use Rattle.zio_turns.specs.Rounds.{Before, HasTurn, SoFar, with_images}
 use Rattle.zio_turns.specs.Slabs.{AreAll, left_over}
 use Rattle.zio_turns.specs.UnderTurns.{AfterTurn, AreSameGrounds, GoesOnSome, HasEndedFor, HasGoneOn, HasTurned, IsDone, IsGoingOn, IssuesOn, RunsOn, TurnsOn, work_left}
 use Rattle.zio_turns.specs.declared.desk.Desk.{Desk}
-use Rattle.zio_turns.specs.declared.entry.Entry.{Entry}
+use Rattle.zio_turns.specs.declared.entry.TiedNode.{TiedNode}
 use Rattle.zio_turns.specs.declared.grounds.Grounds.{Grounds}
 use Rattle.zio_turns.specs.declared.turn.Turned.{Turned}
 use Rattle.zio_turns.specs.declared.turn.Turned.TheVariants.{Nothing, Ended as HasEnded, Root}
@@ -31,17 +31,17 @@ done_told line leaves (HasEnded finished) other = tt
 done_told line leaves (Root tree outcome) other = tt
 
 module _ {N D : Type 0} (nodes : Nodes N) (bytes faults : D → ℕ) (image : D → List ℕ → Type 0) where
-  abbrev Going : Terms → (ℕ → ℕ) → Forest → Before → SoFar → Slab (Entry N) → List ℕ → Grounds D → Type 0
+  abbrev Going : Terms → (ℕ → ℕ) → Forest → Before → SoFar → Slab (TiedNode N) → List ℕ → Grounds D → Type 0
   Going t sizes f before s slab line g = IsGoingOn {N = N} {D = D} nodes bytes image t sizes f before s slab line g
 
   -- another key is in front
-  pub going_taken : (slab slab_now : Slab (Entry N)) (line line_now : List ℕ) (key : ℕ) (g : Grounds D)
+  pub going_taken : (slab slab_now : Slab (TiedNode N)) (line line_now : List ℕ) (key : ℕ) (g : Grounds D)
       → HasTurn {N = N} nodes slab line slab_now line_now key → (t : Terms) (sizes : ℕ → ℕ) (f : Forest) (before : Before) (s : SoFar)
       → Going t sizes f before s slab line g → Going t sizes f before s slab_now (key ∷ line_now) g
   going_taken slab slab_now line line_now key g turn t sizes f before s h =
       record { keeps = turn t sizes f before s _ h.keeps; lent = h.lent }
 
-  pub some_taken : (slab slab_now : Slab (Entry N)) (line line_now : List ℕ) (key : ℕ) (g : Grounds D)
+  pub some_taken : (slab slab_now : Slab (TiedNode N)) (line line_now : List ℕ) (key : ℕ) (g : Grounds D)
       → HasTurn {N = N} nodes slab line slab_now line_now key → GoesOnSome {N = N} {D = D} nodes bytes image slab line g
       → GoesOnSome {N = N} {D = D} nodes bytes image slab_now (key ∷ line_now) g
   some_taken slab slab_now line line_now key g turn some = record {
@@ -56,9 +56,9 @@ module _ {N D : Type 0} (nodes : Nodes N) (bytes faults : D → ℕ) (image : D 
 
   -- ---- from the first
 
-  module _ (first : Slab (Entry N)) (first_line : List ℕ) (lent : Grounds D) where
+  module _ (first : Slab (TiedNode N)) (first_line : List ℕ) (lent : Grounds D) where
     -- each sound round that went on when it began goes on
-    abbrev pub HaveRun : Slab (Entry N) → List ℕ → Grounds D → Type 0
+    abbrev pub HaveRun : Slab (TiedNode N) → List ℕ → Grounds D → Type 0
     HaveRun slab line g =
         (t : Terms) (sizes : ℕ → ℕ) (f : Forest) (before : Before) (s : SoFar) → IsSoundRound t sizes f
         → Going t sizes f before s first first_line lent
@@ -67,7 +67,7 @@ module _ {N D : Type 0} (nodes : Nodes N) (bytes faults : D → ℕ) (image : D 
     pub run_begins : HaveRun first first_line lent
     run_begins = λ t sizes f before s sound h. record { now = s; gone = gone_nowhere s; going = h }
 
-    pub run_some : (slab : Slab (Entry N)) (line : List ℕ) (g : Grounds D) → HaveRun slab line g
+    pub run_some : (slab : Slab (TiedNode N)) (line : List ℕ) (g : Grounds D) → HaveRun slab line g
         → GoesOnSome {N = N} {D = D} nodes bytes image first first_line lent
         → GoesOnSome {N = N} {D = D} nodes bytes image slab line g
     run_some slab line g h some =
@@ -83,14 +83,14 @@ module _ {N D : Type 0} (nodes : Nodes N) (bytes faults : D → ℕ) (image : D 
         }
 
     pub then_turned : (t : Terms) (sizes : ℕ → ℕ) (f : Forest) (before : Before) (s mid : SoFar) (xs ys : List Finished)
-        (slab : Slab (Entry N)) (line : List ℕ) (g : Grounds D) → HasGoneOn s mid xs
+        (slab : Slab (TiedNode N)) (line : List ℕ) (g : Grounds D) → HasGoneOn s mid xs
         → HasTurned {N = N} {D = D} nodes bytes image t sizes f before mid ys slab line g
         → HasTurned {N = N} {D = D} nodes bytes image t sizes f before s (xs ++ ys) slab line g
     then_turned t sizes f before s mid xs ys slab line g h k =
         record { now = k.now; gone = gone_then s mid k.now xs ys h k.gone; going = k.going }
 
     pub then_ended : (t : Terms) (sizes : ℕ → ℕ) (f : Forest) (before : Before) (s mid : SoFar) (xs ys : List Finished)
-        (slab : Slab (Entry N)) (line : List ℕ) (g : Grounds D) (tree : ℕ) (outcome : Outcome) → HasGoneOn s mid xs
+        (slab : Slab (TiedNode N)) (line : List ℕ) (g : Grounds D) (tree : ℕ) (outcome : Outcome) → HasGoneOn s mid xs
         → HasEndedFor {N = N} {D = D} nodes bytes image t sizes f before mid ys slab line g tree outcome
         → HasEndedFor {N = N} {D = D} nodes bytes image t sizes f before s (xs ++ ys) slab line g tree outcome
     then_ended t sizes f before s mid xs ys slab line g tree outcome h k = record {
@@ -112,7 +112,7 @@ module _ {N D : Type 0} (nodes : Nodes N) (bytes faults : D → ℕ) (image : D 
       going = k.going;
     }
 
-    pub then_any : (t : Terms) (sizes : ℕ → ℕ) (f : Forest) (before : Before) (s mid : SoFar) (slab : Slab (Entry N)) (line : List ℕ)
+    pub then_any : (t : Terms) (sizes : ℕ → ℕ) (f : Forest) (before : Before) (s mid : SoFar) (slab : Slab (TiedNode N)) (line : List ℕ)
         (g : Grounds D) (turned : Turned) → HasGoneOn s mid []
         → AfterTurn {N = N} {D = D} nodes bytes image t sizes f before mid slab line g turned
         → AfterTurn {N = N} {D = D} nodes bytes image t sizes f before s slab line g turned
@@ -122,7 +122,7 @@ module _ {N D : Type 0} (nodes : Nodes N) (bytes faults : D → ℕ) (image : D 
     then_any t sizes f before s mid slab line g (Root tree outcome) h k =
         then_ended t sizes f before s mid [] [] slab line g tree outcome h k
 
-    module _ (slab slab_mid slab_now : Slab (Entry N)) (line line_mid line_now : List ℕ) (g now : Grounds D) (h : HaveRun slab line g) where
+    module _ (slab slab_mid slab_now : Slab (TiedNode N)) (line line_mid line_now : List ℕ) (g now : Grounds D) (h : HaveRun slab line g) where
       -- a turn more
       pub run_turned : (key : ℕ) (turned : Turned) → HasTurn {N = N} nodes slab line slab_mid line_mid key
           → TurnsOn {N = N} {D = D} nodes bytes image slab_mid line_mid g slab_now line_now now key turned
@@ -140,7 +140,7 @@ module _ {N D : Type 0} (nodes : Nodes N) (bytes faults : D → ℕ) (image : D 
           (run_turned key turned turn turns)
 
     -- a group more
-    pub run_issued : (slab slab_now : Slab (Entry N)) (line line_now : List ℕ) (g now : Grounds D) → HaveRun slab line g
+    pub run_issued : (slab slab_now : Slab (TiedNode N)) (line line_now : List ℕ) (g now : Grounds D) → HaveRun slab line g
         → IssuesOn {N = N} {D = D} nodes bytes image slab line g slab_now line_now now → HaveRun slab_now line_now now
     run_issued slab slab_now line line_now g now h issues = λ t sizes f before s sound k.
         let so_far = h t sizes f before s sound k in
@@ -162,8 +162,8 @@ module _ {N D : Type 0} (nodes : Nodes N) (bytes faults : D → ℕ) (image : D 
 
   -- ---- what stands before each pick
 
-  pub record IsDriving (over : List Top → N → Type 0) (first : Slab (Entry N)) (first_line : List ℕ) (lent : Grounds D)
-      (slab : Slab (Entry N)) (line : List ℕ) (g : Grounds D) : Type 0 where
+  pub record IsDriving (over : List Top → N → Type 0) (first : Slab (TiedNode N)) (first_line : List ℕ) (lent : Grounds D)
+      (slab : Slab (TiedNode N)) (line : List ℕ) (g : Grounds D) : Type 0 where
     pub gone : HaveRun first first_line lent slab line g
     pub over_all : AreAll {N = N} (over g.desk.tops) slab
     pub tops_same : g.desk.tops ≡ lent.desk.tops
@@ -171,8 +171,8 @@ module _ {N D : Type 0} (nodes : Nodes N) (bytes faults : D → ℕ) (image : D 
     pub steady : map faults g.disks.items ≡ map faults lent.disks.items
     pub less : work_left {N = N} {D = D} nodes.left slab line g ≤ work_left {N = N} {D = D} nodes.left first first_line lent
 
-  module _ (over : List Top → N → Type 0) (first : Slab (Entry N)) (first_line : List ℕ) (lent : Grounds D) where
-    abbrev Driving : Slab (Entry N) → List ℕ → Grounds D → Type 0
+  module _ (over : List Top → N → Type 0) (first : Slab (TiedNode N)) (first_line : List ℕ) (lent : Grounds D) where
+    abbrev Driving : Slab (TiedNode N) → List ℕ → Grounds D → Type 0
     Driving slab line g = IsDriving over first first_line lent slab line g
 
     pub drive_begins : AreAll {N = N} (over lent.desk.tops) first → Driving first first_line lent
@@ -185,7 +185,7 @@ module _ {N D : Type 0} (nodes : Nodes N) (bytes faults : D → ℕ) (image : D 
       less = omega arith;
     }
 
-    module _ (slab slab_mid slab_now : Slab (Entry N)) (line line_mid line_now : List ℕ) (g now : Grounds D) (h : Driving slab line g) where
+    module _ (slab slab_mid slab_now : Slab (TiedNode N)) (line line_mid line_now : List ℕ) (g now : Grounds D) (h : Driving slab line g) where
       -- the key in front
       pub drive_taken : (key : ℕ) → HasTurn {N = N} nodes slab line slab_mid line_mid key
           → GoesOnSome {N = N} {D = D} nodes bytes image first first_line lent
@@ -223,7 +223,7 @@ module _ {N D : Type 0} (nodes : Nodes N) (bytes faults : D → ℕ) (image : D 
       drive_tells key turned turn turns =
           run_turned first first_line lent slab slab_mid slab_now line line_mid line_now g now h.gone key turned turn turns
 
-    pub drive_issued : (slab slab_now : Slab (Entry N)) (line line_now : List ℕ) (g now : Grounds D) → Driving slab line g
+    pub drive_issued : (slab slab_now : Slab (TiedNode N)) (line line_now : List ℕ) (g now : Grounds D) → Driving slab line g
         → IssuesOn {N = N} {D = D} nodes bytes image slab line g slab_now line_now now
         → AreAll {N = N} (over now.desk.tops) slab_now → now.desk ≡ g.desk → now.setting ≡ g.setting
         → map faults now.disks.items ≡ map faults g.disks.items

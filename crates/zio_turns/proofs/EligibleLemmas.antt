@@ -9,7 +9,7 @@ use Rattle.zio_vqueue.specs.declared.op.Op.{Op}
 use Rattle.zio_vqueue.specs.Classes.{class_number, classes, maximum_of, minimum_of}
 use Rattle.zio_vqueue.specs.Queues.{Queue, eligible, is_due, is_in_class, or_else}
 use Rattle.zio_vqueue.proofs.IndexLemmas.{drop_at}
-use Rattle.zio_groups.specs.declared.waiting.Waiting.{Waiting}
+use Rattle.zio_groups.specs.declared.waiting.QueuedOp.{QueuedOp}
 use Rattle.zio_groups.specs.LeafQueues.{Waits, ops_of}
 use Rattle.zio_turns.specs.AtLeaves.{IsIdle, eligible_from, has_group, keys_at, no_waits}
 
@@ -58,7 +58,7 @@ idle_has o os last =
     (one_found (is_due minimum_of (idle_queue o os last)) o.prio (due_by o.prio (list_any (is_in_class o.prio) os)))
 
 -- an idle queue without a group has nothing waiting
-none_waits : (waiting : List Waiting) (active : List ℕ) (last : ℕ) → active ≡ 0 ∷ 0 ∷ 0 ∷ 0 ∷ 0 ∷ []
+none_waits : (waiting : List QueuedOp) (active : List ℕ) (last : ℕ) → active ≡ 0 ∷ 0 ∷ 0 ∷ 0 ∷ 0 ∷ []
     → is_some (eligible (record { queued = ops_of waiting; active = active; last = last })) ≡ false → waiting ≡ []
 none_waits [] active last idle none = refl
 none_waits (w ∷ ws) active last idle none =
@@ -80,7 +80,7 @@ none_eligible n (q ∷ qs) idle h =
     let both = some_length (has_group q) n (eligible_from (n + 1) qs) h in
     let here : q.waiting ≡ [] = none_waits q.waiting q.active q.last (idle 0) both.0 in
     let rest : keys_at qs ≡ [] = none_eligible (n + 1) qs (λ leaf. idle (suc leaf)) both.1 in
-    λ i. map (λ (w : Waiting). w.op.ticket) (here i) ++ rest i
+    λ i. map (λ (w : QueuedOp). w.op.ticket) (here i) ++ rest i
 
 -- from the next leaf on
 pub eligible_next : (leaves : List Waits) (leaf : ℕ) → leaf < length leaves

@@ -9,7 +9,7 @@ use Rattle.zio_cksum.specs.Images.{Images, Setting}
 use Rattle.zio_cksum.proofs.AllLemmas.{all_contains, all_weaker}
 use Rattle.zio_gang.specs.Attempts.{Terms}
 use Rattle.zio_groups.specs.declared.waiting.Answered.{Answered}
-use Rattle.zio_groups.specs.declared.waiting.Waiting.{Waiting}
+use Rattle.zio_groups.specs.declared.waiting.QueuedOp.{QueuedOp}
 use Rattle.zio_groups.specs.Issued.{AreWhole}
 use Rattle.zio_trace.specs.Families.{Forest}
 use Rattle.zio_trace.specs.Leaves.{LeafOp, on_leaf}
@@ -29,7 +29,7 @@ use Rattle.zio_turns.specs.Slabs.{AreAll, load, shelf_of}
 use Rattle.zio_turns.specs.Stages.{ShowsAnswer}
 use Rattle.zio_turns.specs.UnderTurns.{AreAtLeaves, AreLent, ComeBack, FitDisks, GiveAnswers, GoesOnSome, IssuesOn, TellNow, keys_answered}
 use Rattle.zio_turns.specs.declared.desk.Desk.{Desk}
-use Rattle.zio_turns.specs.declared.entry.Entry.{Entry}
+use Rattle.zio_turns.specs.declared.entry.TiedNode.{TiedNode}
 use Rattle.zio_turns.specs.declared.grounds.Grounds.{Grounds}
 use Rattle.zio_turns.proofs.HandedLemmas.{shows_some}
 use Rattle.zio_turns.proofs.KeyLengths.{length_leave}
@@ -54,7 +54,7 @@ module _ {N : Type 0} (nodes : Nodes N) (t : Terms) where
     rests = subst (λ (n : ℕ). Rests {N = N} (times_in key queue) n x.stack h) (sym e) p.rests;
   }
 
-  pub round_leaves : (sizes : ℕ → ℕ) (f : Forest) (before : Before) (s : SoFar) (slab : Slab (Entry N))
+  pub round_leaves : (sizes : ℕ → ℕ) (f : Forest) (before : Before) (s : SoFar) (slab : Slab (TiedNode N))
       (queue leaves leaves_now : List ℕ) → ((k : ℕ) → times_in k leaves_now ≡ times_in k leaves)
       → KeepsRound {N = N} nodes t sizes f before s slab queue leaves → KeepsRound {N = N} nodes t sizes f before s slab queue leaves_now
   round_leaves sizes f before s slab queue leaves leaves_now same k = record {
@@ -82,11 +82,11 @@ module _ {N : Type 0} (nodes : Nodes N) (t : Terms) where
 
 -- ---- what the leaves answered
 
-abbrev ops_for : (ℕ → LeafOp) → List Waiting → List LeafOp
-ops_for ops ws = map (λ (w : Waiting). ops (key_of w)) ws
+abbrev ops_for : (ℕ → LeafOp) → List QueuedOp → List LeafOp
+ops_for ops ws = map (λ (w : QueuedOp). ops (key_of w)) ws
 
-wait_for_theirs : (leaf : ℕ) (ops : ℕ → LeafOp) (ws : List Waiting)
-    → AllByRecursion (λ (w : Waiting). WaitsFor leaf (ops (key_of w)) w) ws → WaitForAll leaf (ops_for ops ws) ws
+wait_for_theirs : (leaf : ℕ) (ops : ℕ → LeafOp) (ws : List QueuedOp)
+    → AllByRecursion (λ (w : QueuedOp). WaitsFor leaf (ops (key_of w)) w) ws → WaitForAll leaf (ops_for ops ws) ws
 wait_for_theirs leaf ops [] h = tt
 wait_for_theirs leaf ops (w ∷ ws) h = (h.0, wait_for_theirs leaf ops ws h.1)
 
@@ -96,8 +96,8 @@ first_key k m ks ms e = cc
 other_keys : (k m : ℕ) (ks ms : List ℕ) → k ∷ ks ≡ m ∷ ms → ks ≡ ms
 other_keys k m ks ms e = cc
 
-give_done : (t : Terms) (before : Images) (ops : ℕ → LeafOp) (ws : List Waiting) (bs : List Answered) (images left : Images)
-    → (leaf : ℕ) → AllByRecursion (λ (w : Waiting). WaitsFor leaf (ops (key_of w)) w) ws → AreWhole ws bs
+give_done : (t : Terms) (before : Images) (ops : ℕ → LeafOp) (ws : List QueuedOp) (bs : List Answered) (images left : Images)
+    → (leaf : ℕ) → AllByRecursion (λ (w : QueuedOp). WaitsFor leaf (ops (key_of w)) w) ws → AreWhole ws bs
     → keys_answered bs ≡ keys_in ws → AreDone t.setting (ops_for ops ws) bs images left
     → GiveAnswers t (Some before) ops bs images left
 give_done t before ops [] [] images left leaf waits whole keys h = h
@@ -117,8 +117,8 @@ give_done t before ops (w ∷ ws) (b ∷ bs) images left leaf waits whole keys h
           (subst (λ (a : LeafOp). AreDone t.setting (ops_for ops ws) bs (on_leaf t.setting a images).images left) op h.1),
     )
 
-give_any : (t : Terms) (ops : ℕ → LeafOp) (ws : List Waiting) (bs : List Answered) (images : Images) (leaf : ℕ)
-    → AllByRecursion (λ (w : Waiting). WaitsFor leaf (ops (key_of w)) w) ws → AreWhole ws bs → keys_answered bs ≡ keys_in ws
+give_any : (t : Terms) (ops : ℕ → LeafOp) (ws : List QueuedOp) (bs : List Answered) (images : Images) (leaf : ℕ)
+    → AllByRecursion (λ (w : QueuedOp). WaitsFor leaf (ops (key_of w)) w) ws → AreWhole ws bs → keys_answered bs ≡ keys_in ws
     → GiveAnswers t None ops bs images images
 give_any t ops [] [] images leaf waits whole keys = refl
 give_any t ops [] (b ∷ bs) images leaf waits whole keys = absurd whole
@@ -137,9 +137,9 @@ give_any t ops (w ∷ ws) (b ∷ bs) images leaf waits whole keys =
 
 -- ---- one answer after another
 
-module _ {N : Type 0} (nodes : Nodes N) (slab : Slab (Entry N)) (line : List ℕ) (all : List Answered) where
+module _ {N : Type 0} (nodes : Nodes N) (slab : Slab (TiedNode N)) (line : List ℕ) (all : List Answered) where
   -- each round that is kept with all of them has come so far that these are left
-  abbrev pub HaveCome : Slab (Entry N) → List ℕ → List Answered → Type 0
+  abbrev pub HaveCome : Slab (TiedNode N) → List ℕ → List Answered → Type 0
   HaveCome slab_now line_now bs =
       (t : Terms) (sizes : ℕ → ℕ) (f : Forest) (before : Before) (s : SoFar) (others : List ℕ) → IsSoundRound t sizes f
       → KeepsRound {N = N} nodes t sizes f before s slab line (keys_answered all ++ others) → (left : Images)
@@ -151,7 +151,7 @@ module _ {N : Type 0} (nodes : Nodes N) (slab : Slab (Entry N)) (line : List ℕ
   pub none_came : (bs : List Answered) → all ≡ bs → HaveCome slab line bs
   none_came bs same = subst (HaveCome slab line) same (λ t sizes f before s others sound k left give. (s.images, k, give))
 
-  pub one_came : (slab_mid slab_now : Slab (Entry N)) (line_mid line_now : List ℕ) (b : Answered) (bs rest : List Answered)
+  pub one_came : (slab_mid slab_now : Slab (TiedNode N)) (line_mid line_now : List ℕ) (b : Answered) (bs rest : List Answered)
       → HaveCome slab_mid line_mid bs → bs ≡ b ∷ rest
       → ComesBack {N = N} nodes slab_mid line_mid slab_now line_now b.ticket b.error b.bytes → HaveCome slab_now line_now rest
   one_came slab_mid slab_now line_mid line_now b bs rest h is back =
@@ -164,7 +164,7 @@ module _ {N : Type 0} (nodes : Nodes N) (slab : Slab (Entry N)) (line : List ℕ
         a.5,
       )
 
-  pub all_came : (slab_now : Slab (Entry N)) (line_now : List ℕ) (bs : List Answered) → HaveCome slab_now line_now bs → bs ≡ []
+  pub all_came : (slab_now : Slab (TiedNode N)) (line_now : List ℕ) (bs : List Answered) → HaveCome slab_now line_now bs → bs ≡ []
       → ComeBack {N = N} nodes slab line slab_now line_now all
   all_came slab_now line_now bs h none = λ t sizes f before s others sound k left give.
       let so = subst (HaveCome slab_now line_now) none h t sizes f before s others sound k left give in
@@ -172,7 +172,7 @@ module _ {N : Type 0} (nodes : Nodes N) (slab : Slab (Entry N)) (line : List ℕ
 
 -- ---- a group
 
-module _ {N D : Type 0} (nodes : Nodes N) (bytes : D → ℕ) (image : D → List ℕ → Type 0) (slab : Slab (Entry N)) (line : List ℕ)
+module _ {N D : Type 0} (nodes : Nodes N) (bytes : D → ℕ) (image : D → List ℕ → Type 0) (slab : Slab (TiedNode N)) (line : List ℕ)
     (g now : Grounds D) (leaf : ℕ) (answers : List Answered)
     (issued : AreIssued {D = D} image g.setting leaf g.queues.leaves.items now.queues.leaves.items g.disks.items now.disks.items
     answers) where
@@ -196,27 +196,27 @@ module _ {N D : Type 0} (nodes : Nodes N) (bytes : D → ℕ) (image : D → Lis
       → AllWait (λ at w. WaitsFor at (ops (key_of w)) w) now.queues.leaves.items
   waits_left ops h = λ at. by at (same_or_not at leaf)
     where
-      here : AllByRecursion (λ (w : Waiting). WaitsFor leaf (ops (key_of w)) w) (waiting_at now.queues.leaves.items leaf)
+      here : AllByRecursion (λ (w : QueuedOp). WaitsFor leaf (ops (key_of w)) w) (waiting_at now.queues.leaves.items leaf)
       here =
-          all_weaker (Contains (waiting_at g.queues.leaves.items leaf)) (λ (w : Waiting). WaitsFor leaf (ops (key_of w)) w)
+          all_weaker (Contains (waiting_at g.queues.leaves.items leaf)) (λ (w : QueuedOp). WaitsFor leaf (ops (key_of w)) w)
           (waiting_at now.queues.leaves.items leaf)
-          (λ w c. all_contains (λ (v : Waiting). WaitsFor leaf (ops (key_of v)) v) (waiting_at g.queues.leaves.items leaf) w (h leaf) c)
+          (λ w c. all_contains (λ (v : QueuedOp). WaitsFor leaf (ops (key_of v)) v) (waiting_at g.queues.leaves.items leaf) w (h leaf) c)
           issued.stay
 
       by : (at : ℕ) → (at ≡ leaf) ⊎ (at ≢ leaf)
-          → AllByRecursion (λ (w : Waiting). WaitsFor at (ops (key_of w)) w) (waiting_at now.queues.leaves.items at)
+          → AllByRecursion (λ (w : QueuedOp). WaitsFor at (ops (key_of w)) w) (waiting_at now.queues.leaves.items at)
       by at (inl i) =
-          subst (λ (n : ℕ). AllByRecursion (λ (w : Waiting). WaitsFor n (ops (key_of w)) w) (waiting_at now.queues.leaves.items n))
+          subst (λ (n : ℕ). AllByRecursion (λ (w : QueuedOp). WaitsFor n (ops (key_of w)) w) (waiting_at now.queues.leaves.items n))
           (sym i) here
       by at (inr n) =
-          subst (λ (ws : List Waiting). AllByRecursion (λ (w : Waiting). WaitsFor at (ops (key_of w)) w) ws)
+          subst (λ (ws : List QueuedOp). AllByRecursion (λ (w : QueuedOp). WaitsFor at (ops (key_of w)) w) ws)
           (sym (issued.others at n)) (h at)
 
   members_wait : (ops : ℕ → LeafOp) → AllWait (λ at w. WaitsFor at (ops (key_of w)) w) g.queues.leaves.items
-      → AllByRecursion (λ (w : Waiting). WaitsFor leaf (ops (key_of w)) w) issued.members
+      → AllByRecursion (λ (w : QueuedOp). WaitsFor leaf (ops (key_of w)) w) issued.members
   members_wait ops h =
-      all_weaker (Contains (waiting_at g.queues.leaves.items leaf)) (λ (w : Waiting). WaitsFor leaf (ops (key_of w)) w) issued.members
-      (λ w c. all_contains (λ (v : Waiting). WaitsFor leaf (ops (key_of v)) v) (waiting_at g.queues.leaves.items leaf) w (h leaf) c)
+      all_weaker (Contains (waiting_at g.queues.leaves.items leaf)) (λ (w : QueuedOp). WaitsFor leaf (ops (key_of w)) w) issued.members
+      (λ w c. all_contains (λ (v : QueuedOp). WaitsFor leaf (ops (key_of v)) v) (waiting_at g.queues.leaves.items leaf) w (h leaf) c)
       issued.among
 
   -- what the leaves answered, and the images now
@@ -278,7 +278,7 @@ module _ {N D : Type 0} (nodes : Nodes N) (bytes : D → ℕ) (image : D → Lis
       }
 
   -- each round goes on
-  pub group_issues : (slab_now : Slab (Entry N)) (line_now : List ℕ) → ComeBack {N = N} nodes slab line slab_now line_now answers
+  pub group_issues : (slab_now : Slab (TiedNode N)) (line_now : List ℕ) → ComeBack {N = N} nodes slab line slab_now line_now answers
       → map bytes now.disks.items ≡ map bytes g.disks.items
       → AreReady now.setting.rows (map bytes now.disks.items) now.queues.leaves.items → now.setting ≡ g.setting
       → now.desk ≡ g.desk → IssuesOn {N = N} {D = D} nodes bytes image slab line g slab_now line_now now
@@ -307,14 +307,14 @@ module _ {N D : Type 0} (nodes : Nodes N) (bytes : D → ℕ) (image : D → Lis
 -- ---- what stands before each answer
 
 pub record IsTelling {N : Type 0} (nodes : Nodes N) (over : List Top → N → Type 0) (all : List Answered)
-    (first : Slab (Entry N)) (first_line : List ℕ) (slab : Slab (Entry N)) (line : List ℕ) (bs : List Answered) : Type 0 where
+    (first : Slab (TiedNode N)) (first_line : List ℕ) (slab : Slab (TiedNode N)) (line : List ℕ) (bs : List Answered) : Type 0 where
   pub come : HaveCome {N = N} nodes first first_line all slab line bs
   pub over_still : (tops : List Top) → AreAll {N = N} (over tops) first → AreAll {N = N} (over tops) slab
   pub less : load {N = N} nodes.left slab line + length bs ≤ load {N = N} nodes.left first first_line + length all
 
 -- the next key is at its leaf
-pub next_at_leaf : {N : Type 0} (nodes : Nodes N) (first : Slab (Entry N)) (first_line : List ℕ) (all : List Answered)
-    (slab : Slab (Entry N)) (line : List ℕ) (b : Answered) (bs rest : List Answered)
+pub next_at_leaf : {N : Type 0} (nodes : Nodes N) (first : Slab (TiedNode N)) (first_line : List ℕ) (all : List Answered)
+    (slab : Slab (TiedNode N)) (line : List ℕ) (b : Answered) (bs rest : List Answered)
     → AreAtLeaves {N = N} nodes first first_line all → HaveCome {N = N} nodes first first_line all slab line bs → bs ≡ b ∷ rest
     → IsAtLeaf {N = N} nodes slab line b.ticket
 next_at_leaf {N} nodes first first_line all slab line b bs rest at come is =
@@ -338,7 +338,7 @@ next_at_leaf {N} nodes first first_line all slab line b bs rest at come is =
       };
     }
 
-pub telling_begins : {N : Type 0} (nodes : Nodes N) (over : List Top → N → Type 0) (all : List Answered) (first : Slab (Entry N))
+pub telling_begins : {N : Type 0} (nodes : Nodes N) (over : List Top → N → Type 0) (all : List Answered) (first : Slab (TiedNode N))
     (first_line : List ℕ) (bs : List Answered) → bs ≡ all
     → IsTelling {N = N} nodes over all first first_line first first_line bs
 telling_begins {N} nodes over all first first_line bs same = record {
@@ -347,8 +347,8 @@ telling_begins {N} nodes over all first first_line bs same = record {
   less = let e : length bs ≡ length all = ap (λ (xs : List Answered). length xs) same in omega arith;
 }
 
-pub telling_goes : {N : Type 0} (nodes : Nodes N) (over : List Top → N → Type 0) (all : List Answered) (first : Slab (Entry N))
-    (first_line : List ℕ) (slab slab_now : Slab (Entry N)) (line line_now : List ℕ) (b : Answered) (bs rest : List Answered)
+pub telling_goes : {N : Type 0} (nodes : Nodes N) (over : List Top → N → Type 0) (all : List Answered) (first : Slab (TiedNode N))
+    (first_line : List ℕ) (slab slab_now : Slab (TiedNode N)) (line line_now : List ℕ) (b : Answered) (bs rest : List Answered)
     → IsTelling {N = N} nodes over all first first_line slab line bs → bs ≡ b ∷ rest
     → ComesBack {N = N} nodes slab line slab_now line_now b.ticket b.error b.bytes
     → ((tops : List Top) → AreAll {N = N} (over tops) slab → AreAll {N = N} (over tops) slab_now)

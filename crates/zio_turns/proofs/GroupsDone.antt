@@ -9,7 +9,7 @@ use Rattle.zio_vqueue.specs.declared.op.Op.{Op}
 use Rattle.zio_vqueue.specs.Queues.{AreApart}
 use Rattle.zio_cksum.specs.Images.{Images, Setting, Spot, Written, met, padded_to, read_leaf, write_leaf, write_met}
 use Rattle.zio_groups.specs.declared.waiting.Answered.{Answered}
-use Rattle.zio_groups.specs.declared.waiting.Waiting.{Waiting}
+use Rattle.zio_groups.specs.declared.waiting.QueuedOp.{QueuedOp}
 use Rattle.zio_groups.specs.Issued.{all_issued, front_of, head_of, issued_by, one_issued, read_answered, spot_of}
 use Rattle.zio_groups.specs.LeafQueues.{IsIssued, Waits, ops_of, waiting_without}
 use Rattle.zio_groups.proofs.ByteLemmas.{read_front}
@@ -46,18 +46,18 @@ cut_padded span bytes = elim (cases_Bool (nat_le (length bytes) span)) [
 ]
 
 -- it answers as its operation does, and leaves what that leaves
-pub record IsAsDone (s : Setting) (act : LeafOp) (w : Waiting) (leaf : ℕ) (images : Images) : Type 0 where
+pub record IsAsDone (s : Setting) (act : LeafOp) (w : QueuedOp) (leaf : ℕ) (images : Images) : Type 0 where
   pub shows : ShowsAnswer act (one_issued s leaf w images).answer.error (one_issued s leaf w images).answer.bytes
       (on_leaf s act images).value
   pub leaves : (one_issued s leaf w images).images ≡ (on_leaf s act images).images
 
-abbrev IsAsDoneIf : Bool → Setting → LeafOp → Waiting → ℕ → Images → Type 0
+abbrev IsAsDoneIf : Bool → Setting → LeafOp → QueuedOp → ℕ → Images → Type 0
 IsAsDoneIf b s act w leaf images =
     ShowsAnswer act (issued_by b s leaf w images).answer.error (issued_by b s leaf w images).answer.bytes
     (on_leaf s act images).value
     × ((issued_by b s leaf w images).images ≡ (on_leaf s act images).images)
 
-one_done : (s : Setting) (act : LeafOp) (w : Waiting) (leaf : ℕ) (images : Images) → WaitsFor leaf act w
+one_done : (s : Setting) (act : LeafOp) (w : QueuedOp) (leaf : ℕ) (images : Images) → WaitsFor leaf act w
     → IsAsDone s act w leaf images
 one_done s (Fetch retry len spot) w leaf images h =
     let both = subst (λ (b : Bool). IsAsDoneIf b s (Fetch retry len spot) w leaf images) (sym h.0.direction) (read, refl) in
@@ -86,7 +86,7 @@ one_done s (Store retry bytes spot) w leaf images h =
 
 -- ---- all of them
 
-pub all_done : (s : Setting) (leaf : ℕ) (acts : List LeafOp) (ws : List Waiting) (images : Images) → WaitForAll leaf acts ws
+pub all_done : (s : Setting) (leaf : ℕ) (acts : List LeafOp) (ws : List QueuedOp) (images : Images) → WaitForAll leaf acts ws
     → AreDone s acts (all_issued s leaf ws images).answers images (all_issued s leaf ws images).images
 all_done s leaf [] [] images h = refl
 all_done s leaf [] (w ∷ ws) images h = absurd h
@@ -104,7 +104,7 @@ ticket_read : (ticket : ℕ) (r : Result (List ℕ) Errno) → (read_answered ti
 ticket_read ticket (Ok bytes) = refl
 ticket_read ticket (Err e) = refl
 
-ticket_one : (b : Bool) (s : Setting) (leaf : ℕ) (w : Waiting) (images : Images) →
+ticket_one : (b : Bool) (s : Setting) (leaf : ℕ) (w : QueuedOp) (images : Images) →
     (issued_by b s leaf w images).answer.ticket ≡ key_of w
 ticket_one true s leaf w images = refl
 ticket_one false s leaf w images = ticket_read w.op.ticket (read_leaf s w.op.flags.retry images w.op.len (spot_of leaf w.op))
@@ -112,7 +112,7 @@ ticket_one false s leaf w images = ticket_read w.op.ticket (read_leaf s w.op.fla
 abbrev tickets : List Answered → List ℕ
 tickets bs = map (λ (b : Answered). b.ticket) bs
 
-tickets_all : (s : Setting) (leaf : ℕ) (ws : List Waiting) (images : Images) → tickets
+tickets_all : (s : Setting) (leaf : ℕ) (ws : List QueuedOp) (images : Images) → tickets
     (all_issued s leaf ws images).answers ≡ keys_in ws
 tickets_all s leaf [] images = refl
 tickets_all s leaf (w ∷ ws) images = λ i.
@@ -124,7 +124,7 @@ tickets_heads (b ∷ bs) = ap (λ (ts : List ℕ). b.ticket ∷ ts) (tickets_hea
 
 -- ---- a group of one leaf
 
-length_ops : (ws : List Waiting) → length (ops_of ws) ≡ length ws
+length_ops : (ws : List QueuedOp) → length (ops_of ws) ≡ length ws
 length_ops [] = refl
 length_ops (w ∷ ws) = ap suc (length_ops ws)
 
@@ -154,7 +154,7 @@ group_done image s leaves leaf now before after answers there once h count =
           times_set key leaves leaf now there in
           let less : times_in key (keys_in old.waiting) ≡ times_in key (keys_in h.members) + times_in key (keys_of now) =
           keys_leave key h.members old.waiting apart (here key) h.among
-          ∙ sym (ap (λ (ws : List Waiting). times_in key (keys_in h.members) + times_in key (keys_in ws)) now_is) in
+          ∙ sym (ap (λ (ws : List QueuedOp). times_in key (keys_in h.members) + times_in key (keys_in ws)) now_is) in
           omega (arith, set, less);
       stay = subst (AllByRecursion (Contains old.waiting)) (sym (here_set leaves leaf now there ∙ now_is))
           (still_among h.members old.waiting);

@@ -6,7 +6,7 @@ use Rattle.zio_vqueue.specs.declared.op.Op.{Op}
 use Rattle.zio_vqueue.specs.Queues.{FitsDevice, end_of}
 use Rattle.std.specs.List.{AllByRecursion}
 use Rattle.zio_types.specs.declared.error.Errno.{Errno}
-use Rattle.zio_groups.specs.declared.waiting.Waiting.{Waiting}
+use Rattle.zio_groups.specs.declared.waiting.QueuedOp.{QueuedOp}
 use Rattle.zio_trace.specs.Leaves.{Answer, Fetch, LeafOp, LiesOn, Store, answer_of}
 use Rattle.zio_turns.specs.Stages.{ShowsAnswer}
 use Rattle.zio_stages.specs.LeafWorks.{IsOpAt, IsOpFor}
@@ -51,7 +51,7 @@ shows_some (Fetch retry len spot) (Some e) bytes = (Err e, refl)
 shows_some (Store retry stored spot) error bytes = (answer_of error, refl)
 
 -- members that wait for operations wait for a list of them
-pub acts_of : (leaf : ℕ) (ws : List Waiting) → AllByRecursion (λ (w : Waiting). (act : LeafOp) × WaitsFor leaf act w) ws
+pub acts_of : (leaf : ℕ) (ws : List QueuedOp) → AllByRecursion (λ (w : QueuedOp). (act : LeafOp) × WaitsFor leaf act w) ws
     → (acts : List LeafOp) × WaitForAll leaf acts ws
 acts_of leaf [] h = ([], tt)
 acts_of leaf (w ∷ ws) h = let rest = acts_of leaf ws h.1 in (h.0.0 ∷ rest.0, (h.0.1, rest.1))

@@ -15,7 +15,7 @@ use Rattle.zio_turns.specs.Parts.{Nodes}
 use Rattle.zio_turns.specs.Rounds.{Before, SoFar}
 use Rattle.zio_turns.specs.Slabs.{AreAll}
 use Rattle.zio_turns.specs.UnderTurns.{EndsFinished, GoesOnSome, HasEndedFor, HasTurned, IsGoingOn, RunsOn, RunsToTree}
-use Rattle.zio_turns.specs.declared.entry.Entry.{Entry}
+use Rattle.zio_turns.specs.declared.entry.TiedNode.{TiedNode}
 use Rattle.zio_turns.specs.declared.grounds.Grounds.{Grounds}
 use Rattle.zio_turns.specs.declared.turn.Turned.TheVariants.{Nothing, Ended as HasEnded, Root}
 use Rattle.zio_turns.proofs.DriveMoves.{then_ended, then_turned}
@@ -30,8 +30,8 @@ finished_one t first xs more now x are each is ends = (
 )
 
 module _ {N D : Type 0} (nodes : Nodes N) (over : List Top → N → Type 0) (bytes faults : D → ℕ) (image : D → List ℕ → Type 0)
-    (first : Slab (Entry N)) (first_line : List ℕ) (lent : Grounds D) (ended : List Finished) where
-  pub record IsHearing (slab : Slab (Entry N)) (line : List ℕ) (g : Grounds D) (now : List Finished) : Type 0 where
+    (first : Slab (TiedNode N)) (first_line : List ℕ) (lent : Grounds D) (ended : List Finished) where
+  pub record IsHearing (slab : Slab (TiedNode N)) (line : List ℕ) (g : Grounds D) (now : List Finished) : Type 0 where
     pub gone : (t : Terms) (sizes : ℕ → ℕ) (f : Forest) (before : Before) (s : SoFar) → IsSoundRound t sizes f
         → IsGoingOn {N = N} {D = D} nodes bytes image t sizes f before s first first_line lent
         → (more : List Finished) × (now ≡ ended ++ more) × AllByRecursion (EndsFinished t) more
@@ -50,7 +50,7 @@ module _ {N D : Type 0} (nodes : Nodes N) (over : List Top → N → Type 0) (by
     steady = refl;
   }
 
-  module _ (slab slab_now : Slab (Entry N)) (line line_now : List ℕ) (g g_now : Grounds D) (now : List Finished)
+  module _ (slab slab_now : Slab (TiedNode N)) (line line_now : List ℕ) (g g_now : Grounds D) (now : List Finished)
       (h : IsHearing slab line g now) where
     pub hearing_some : GoesOnSome {N = N} {D = D} nodes bytes image first first_line lent
         → GoesOnSome {N = N} {D = D} nodes bytes image slab line g

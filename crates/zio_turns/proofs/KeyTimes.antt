@@ -4,7 +4,7 @@ use Rattle.std.specs.Prelude.{◌==◌, replicate, slice_index_or, slice_set}
 use Rattle.std.proofs.lemmas.Bool.{cases_eq, eq-eqb, eqb-true, false≢true}
 use Rattle.std.proofs.lemmas.List.{get_or-set_other, get_or-set_same}
 use Rattle.zio_vqueue.specs.Queues.{is_queued}
-use Rattle.zio_groups.specs.declared.waiting.Waiting.{Waiting}
+use Rattle.zio_groups.specs.declared.waiting.QueuedOp.{QueuedOp}
 use Rattle.zio_groups.specs.LeafQueues.{Waits, ops_of}
 use Rattle.zio_trace.specs.Keys.{bit}
 use Rattle.zio_trace.specs.Labels.{same_number}
@@ -66,7 +66,7 @@ queued_step false true e r n h z = absurd (omega arith)
 queued_step false false e r n h z = h (omega arith)
 
 -- a key that stands nowhere is no ticket
-pub not_queued : (key : ℕ) (ws : List Waiting) → times_in key (keys_in ws) ≡ 0 → is_queued key (ops_of ws) ≡ false
+pub not_queued : (key : ℕ) (ws : List QueuedOp) → times_in key (keys_in ws) ≡ 0 → is_queued key (ops_of ws) ≡ false
 not_queued key [] h = refl
 not_queued key (w ∷ ws) h =
     queued_step (w.op.ticket == key) (same_number w.op.ticket key) (test_is w.op.ticket key) (is_queued key (ops_of ws))
@@ -78,7 +78,7 @@ none_step true b e r n h z = absurd (false≢true (sym z))
 none_step false true e r n h z = absurd (false≢true e)
 none_step false false e r n h z = omega (arith, h z)
 
-pub no_ticket : (key : ℕ) (ws : List Waiting) → is_queued key (ops_of ws) ≡ false → times_in key (keys_in ws) ≡ 0
+pub no_ticket : (key : ℕ) (ws : List QueuedOp) → is_queued key (ops_of ws) ≡ false → times_in key (keys_in ws) ≡ 0
 no_ticket key [] h = refl
 no_ticket key (w ∷ ws) h =
     none_step (w.op.ticket == key) (same_number w.op.ticket key) (test_is w.op.ticket key) (is_queued key (ops_of ws))
@@ -87,7 +87,7 @@ no_ticket key (w ∷ ws) h =
 
 -- ---- one that is put
 
-pub put_done : (leaves : List Waits) (leaf : ℕ) (now : Waits) (w : Waiting) → leaf < length leaves
+pub put_done : (leaves : List Waits) (leaf : ℕ) (now : Waits) (w : QueuedOp) → leaf < length leaves
     → now.waiting ≡ waiting_at leaves leaf ++ w ∷ []
     → length (slice_set leaves leaf now) ≡ length leaves → IsPut leaf w leaves (slice_set leaves leaf now)
 put_done leaves leaf now w h is count = record {
@@ -101,12 +101,12 @@ put_done leaves leaf now w h is count = record {
         times_set key leaves leaf now h in
         let more : times_in key (keys_of now) ≡ bit (same_number (key_of w) key) + times_in key
         (keys_in (waiting_at leaves leaf)) =
-        ap (λ (ws : List Waiting). times_in key (keys_in ws)) is ∙ pushed key (waiting_at leaves leaf) w in
+        ap (λ (ws : List QueuedOp). times_in key (keys_in ws)) is ∙ pushed key (waiting_at leaves leaf) w in
         omega (arith, set, more);
   };
 }
   where
-    pushed : (key : ℕ) (ws : List Waiting) (w : Waiting) → times_in key (keys_in (ws ++ w ∷ [])) ≡ bit
+    pushed : (key : ℕ) (ws : List QueuedOp) (w : QueuedOp) → times_in key (keys_in (ws ++ w ∷ [])) ≡ bit
         (same_number (key_of w) key) + times_in key (keys_in ws)
     pushed key [] w = refl
     pushed key (v ∷ vs) w = omega (arith, pushed key vs w)
@@ -148,7 +148,7 @@ once_more key k n m e f most = by (same_number key k) refl
     by true is = omega (arith, e, ap bit is, f (number_is key k is))
     by false is = omega (arith, e, ap bit is)
 
-pub order_put : (leaves : List Waits) (leaf : ℕ) (now : Waits) (w : Waiting) → leaf < length leaves → now.active ≡
+pub order_put : (leaves : List Waits) (leaf : ℕ) (now : Waits) (w : QueuedOp) → leaf < length leaves → now.active ≡
     (slice_index_or leaves leaf no_waits).active
     → times_in (key_of w) (keys_at leaves) ≡ 0 → IsPut leaf w leaves (slice_set leaves leaf now) → AreInOrder leaves
     → AreInOrder (slice_set leaves leaf now)

@@ -6,7 +6,7 @@ use Rattle.zio_cksum.specs.Images.{Setting}
 use Rattle.zio_vqueue.specs.declared.op.Op.{Op}
 use Rattle.zio_vqueue.specs.Queues.{is_queued}
 use Rattle.zio_groups.specs.declared.waiting.Answered.{Answered}
-use Rattle.zio_groups.specs.declared.waiting.Waiting.{Waiting}
+use Rattle.zio_groups.specs.declared.waiting.QueuedOp.{QueuedOp}
 use Rattle.zio_groups.specs.LeafQueues.{IsIssued, Waits, ops_of, waiting_with}
 use Rattle.zio_turns.specs.AtLeaves.{AreInOrder, AreIssued, IsPut, key_of, keyed, keys_at, keys_in, keys_of, no_waits, put_as, waiting_at}
 use Rattle.zio_turns.specs.Entries.{times_in}
@@ -23,7 +23,7 @@ unqueued_at leaves leaf key was is none =
     (not_queued key (waiting_at leaves leaf) (omega (arith, none, times_one key leaves leaf)))
 
 -- the queue that it was put in has it as its last
-pub put_now : (leaves : List Waits) (leaf : ℕ) (was now : Waits) (w v : Waiting) → leaf < length leaves
+pub put_now : (leaves : List Waits) (leaf : ℕ) (was now : Waits) (w v : QueuedOp) → leaf < length leaves
     → was ≡ slice_index_or leaves leaf no_waits
     → w ≡ v → now ≡ record was { waiting = was.waiting ++ w ∷ [] } → IsPut leaf v leaves (slice_set leaves leaf now)
 put_now leaves leaf was now w v there is same put =
@@ -35,7 +35,7 @@ pub cut_as : (key : ℕ) (op : Op) (cut bytes : List ℕ) → cut ≡ take op.le
     (keyed key op) cut ≡ put_as key op bytes
 cut_as key op cut bytes is = ap (waiting_with (keyed key op)) is
 
-pub order_after : {E : Type 0} (r : Result (Unit {0}) E) (leaves : List Waits) (leaf : ℕ) (was now : Waits) (w v : Waiting)
+pub order_after : {E : Type 0} (r : Result (Unit {0}) E) (leaves : List Waits) (leaf : ℕ) (was now : Waits) (w v : QueuedOp)
     → leaf < length leaves
     → was ≡ slice_index_or leaves leaf no_waits → w ≡ v → times_in (key_of v) (keys_at leaves) ≡ 0
     → OnOk r (now ≡ record was { waiting = was.waiting ++ w ∷ [] }) → OnErr r (now ≡ was) → AreInOrder leaves → AreInOrder

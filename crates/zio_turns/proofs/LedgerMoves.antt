@@ -35,7 +35,7 @@ use Rattle.zio_turns.specs.Rests.{HasRests, HasRestsIn, numbers_ended}
 use Rattle.zio_turns.specs.Sizes.{FitsBodies, HasSizes}
 use Rattle.zio_turns.specs.Slabs.{left_in}
 use Rattle.zio_turns.specs.Stages.{AreHandedOut}
-use Rattle.zio_turns.specs.declared.entry.Entry.{Entry}
+use Rattle.zio_turns.specs.declared.entry.TiedNode.{TiedNode}
 use Rattle.zio_turns.proofs.DeskLemmas.{found_both, split_in}
 use Rattle.zio_turns.proofs.LedgerChildren.{children_begin, children_end, children_first, children_new, children_no_top, children_order, children_root_end, children_second, children_top, ended_both, numbers_among, tops_set}
 use Rattle.zio_turns.proofs.LedgerEnds.{IsMore, PlacesEnd}
@@ -165,7 +165,7 @@ of_same : (b top : Flying) → Some b ≡ Some top → IsOfTree b.stack → IsOf
 of_same b top e h = subst (λ (x : Flying). IsOfTree x.stack) (some_is b top e) h
 
 module _ {N : Type 0} (nodes : Nodes N) (t : Terms) (f : Forest) (books : Books) (entries : List Choice)
-    (tops : List (Option Flying)) (trees : List Slot) (slab slab_now : Slab (Entry N)) where
+    (tops : List (Option Flying)) (trees : List Slot) (slab slab_now : Slab (TiedNode N)) where
   abbrev Before : List Live → Type 0
   Before lives = IsLedger {N = N} nodes t f books entries tops trees lives slab
 
@@ -623,12 +623,12 @@ fresh_of_trees k (q ∷ tasks) zero top e =
     of_same (record { at = k ∷ []; stack = fresh_stack q }) top (some_is _ _ e) (record { alone = refl; attempts = λ m op is. absurd (cc) })
 fresh_of_trees k (q ∷ tasks) (suc n) top e = fresh_of_trees (suc k) tasks n top e
 
-pub ledger_first : {N : Type 0} (nodes : Nodes N) (t : Terms) (f : Forest) (slab : Slab (Entry N)) → slab.slots ≡ [] → AreTrees f
+pub ledger_first : {N : Type 0} (nodes : Nodes N) (t : Terms) (f : Forest) (slab : Slab (TiedNode N)) → slab.slots ≡ [] → AreTrees f
     → NumbersOnce f
     → IsLedger {N = N} nodes t f no_books [] (all_tops (settling_from 0 (settles f))) (all_out (settles f)) [] slab
 ledger_first {N} nodes t f slab none trees once =
     let gave : (w : Place → ℕ) → gave_over {N = N} nodes w slab ≡ 0 =
-    λ w. ap (λ (xs : List (Option (Entry N))). sum_by (left_in {N = N} (λ (n : N). total w (nodes.gave n))) xs) none in
+    λ w. ap (λ (xs : List (Option (TiedNode N))). sum_by (left_in {N = N} (λ (n : N). total w (nodes.gave n))) xs) none in
     let heard : [] ≡ ended_of_trees (all_tops (settling_from 0 (settles f))) (all_out (settles f)) =
     sym (ap (λ (es : List Ended). es ++ flat_map ended_of_tree (all_out (settles f))) (fresh_tops 0 (settles f)) ∙ fresh_trees (settles f)) in
     record {

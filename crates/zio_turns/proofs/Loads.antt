@@ -15,7 +15,7 @@ use Rattle.zio_turns.specs.Acts.{HasEnded, HasGrown, HasHeard, HasTold, HasWaite
 use Rattle.zio_turns.specs.Parts.{Nodes}
 use Rattle.zio_turns.specs.Slabs.{left_in, left_over, load}
 use Rattle.zio_turns.specs.Stages.{heard_max, told_cost}
-use Rattle.zio_turns.specs.declared.entry.Entry.{Entry}
+use Rattle.zio_turns.specs.declared.entry.TiedNode.{TiedNode}
 use Rattle.zio_turns.specs.declared.entry.Parent.{Parent as Above}
 use Rattle.zio_turns.specs.declared.entry.Parent.TheVariants.{Node, Tree}
 use Rattle.zio_turns.specs.declared.step.Step.{Step}
@@ -30,9 +30,9 @@ one_longer b line line_now key e =
     by true line key = let e = length-append line (key ∷ []) in omega arith
     by false line key = omega arith
 
-module _ {N : Type 0} (left : N → ℕ) (slab slab_now : Slab (Entry N)) (key : ℕ) (e : Entry N) (is : get slab key ≡ Some e) where
+module _ {N : Type 0} (left : N → ℕ) (slab slab_now : Slab (TiedNode N)) (key : ℕ) (e : TiedNode N) (is : get slab key ≡ Some e) where
   -- one exchanged
-  pub left_put : (g : Entry N) → Updates slab slab_now key (Some g)
+  pub left_put : (g : TiedNode N) → Updates slab slab_now key (Some g)
       → left_over {N = N} left slab_now + left e.node ≡ left_over {N = N} left slab + left g.node
   left_put g put =
       let k = left_with left slab slab_now key (Some g) put in
@@ -47,14 +47,14 @@ module _ {N : Type 0} (left : N → ℕ) (slab slab_now : Slab (Entry N)) (key :
       omega arith
 
 -- one new
-pub left_new : {N : Type 0} (left : N → ℕ) (slab slab_now : Slab (Entry N)) (key : ℕ) (g : Entry N) → get slab key ≡ None
+pub left_new : {N : Type 0} (left : N → ℕ) (slab slab_now : Slab (TiedNode N)) (key : ℕ) (g : TiedNode N) → get slab key ≡ None
     → Updates slab slab_now key (Some g) → left_over {N = N} left slab_now ≡ left_over {N = N} left slab + left g.node
 left_new {N} left slab slab_now key g free put =
     let k = left_with left slab slab_now key (Some g) put in
     let same : left_in {N = N} left (get slab key) ≡ 0 = ap (left_in {N = N} left) free in
     omega arith
 
-module _ {N : Type 0} (left : N → ℕ) (slab out slab_now : Slab (Entry N)) (line line_now : List ℕ) (key : ℕ) (e : Entry N)
+module _ {N : Type 0} (left : N → ℕ) (slab out slab_now : Slab (TiedNode N)) (line line_now : List ℕ) (key : ℕ) (e : TiedNode N)
     (is : get slab key ≡ Some e) (taken : Updates slab out key None) where
   pub less_put : (node : N) (n : ℕ) → Updates out slab_now key (Some (with_ties {N = N} node e.ties)) → left node < left e.node
       → n ≤ 2 → load {N = N} left slab_now line + n < load {N = N} left slab line + 1
@@ -70,7 +70,7 @@ module _ {N : Type 0} (left : N → ℕ) (slab out slab_now : Slab (Entry N)) (l
   less_waited node kind phase has less first =
       let same : length line_now ≡ length line =
       ap (λ (q : List ℕ). length q) (has.queued ∙ ap (λ (c : Option Count). cond (is_some c) line (line ++ key ∷ [])) first) in
-      let now : Entry N =
+      let now : TiedNode N =
       with_ties {N = N} node (counting e.ties (stalled (first_counted (kind ∷ []) phase e.ties.counts) e.ties.counts)) in
       let k = left_put left slab slab_now key e is now (exchanged slab out slab_now key now taken has.put) in
       omega arith
@@ -82,20 +82,20 @@ module _ {N : Type 0} (left : N → ℕ) (slab out slab_now : Slab (Entry N)) (l
       let one : length line_now ≡ length ((line ++ has.at ∷ []) ++ key ∷ []) = ap (λ (q : List ℕ). length q) has.queued in
       let two = length-append (line ++ has.at ∷ []) (key ∷ []) in
       let three = length-append line (has.at ∷ []) in
-      let now : Entry N = with_ties {N = N} node (one_more kind e.ties) in
+      let now : TiedNode N = with_ties {N = N} node (one_more kind e.ties) in
       let k = left_put left slab has.mid key e is now (exchanged slab out has.mid key now taken has.put) in
       let l = left_new left has.mid slab_now has.at (with_ties {N = N} child (new_ties kind (Node key e.ties.children))) has.free
       has.added in
       omega arith
 
-module _ {N : Type 0} (nodes : Nodes N) (over : List Top → N → Type 0) (slab mid slab_now : Slab (Entry N)) (line line_now : List ℕ)
-    (key : ℕ) (e : Entry N) (is : get slab key ≡ Some e) where
+module _ {N : Type 0} (nodes : Nodes N) (over : List Top → N → Type 0) (slab mid slab_now : Slab (TiedNode N)) (line line_now : List ℕ)
+    (key : ℕ) (e : TiedNode N) (is : get slab key ≡ Some e) where
   -- what a parent hears
-  less_heard : (kind : ChildKind) (phase : Phase) (above : ℕ) (was : Entry N) (up : N) (error : Option Errno) (bits : Bits)
+  less_heard : (kind : ChildKind) (phase : Phase) (above : ℕ) (was : TiedNode N) (up : N) (error : Option Errno) (bits : Bits)
       → HasHeard {N = N} nodes mid line slab_now line_now kind phase error bits above was up
       → 3 * left_over {N = N} nodes.left slab_now + length line_now ≤ 3 * left_over {N = N} nodes.left mid + length line + 13
   less_heard kind phase above was up error bits has =
-      let now : Entry N = with_ties {N = N} up (counting was.ties (notified kind phase error bits was.ties.counts)) in
+      let now : TiedNode N = with_ties {N = N} up (counting was.ties (notified kind phase error bits was.ties.counts)) in
       let k = left_put nodes.left mid slab_now above was has.there now has.put in
       let longer = one_longer (is_last kind phase was.ties.counts) line line_now above has.queued in
       let rises : nodes.left up ≤ nodes.left was.node + heard_max = has.left in
@@ -134,7 +134,7 @@ module _ {N : Type 0} (nodes : Nodes N) (over : List Top → N → Type 0) (slab
       omega arith
 
 -- an answer leaves less than a key at a leaf counts
-pub less_answered : {N : Type 0} (left : N → ℕ) (slab slab_now : Slab (Entry N)) (line line_now : List ℕ) (key : ℕ) (e : Entry N)
+pub less_answered : {N : Type 0} (left : N → ℕ) (slab slab_now : Slab (TiedNode N)) (line line_now : List ℕ) (key : ℕ) (e : TiedNode N)
     (node : N) → get slab key ≡ Some e → Updates slab slab_now key (Some (with_ties {N = N} node e.ties))
     → left node ≤ left e.node → line_now ≡ line ++ key ∷ []
     → load {N = N} left slab_now line_now < load {N = N} left slab line + 2

@@ -7,7 +7,7 @@ use Rattle.zio_faults.specs.declared.table.Row.{Row}
 use Rattle.zio_cksum.specs.Images.{Setting}
 use Rattle.zio_cksum.proofs.AllLemmas.{all_append, all_contains, all_weaker}
 use Rattle.zio_groups.specs.declared.waiting.Answered.{Answered}
-use Rattle.zio_groups.specs.declared.waiting.Waiting.{Waiting}
+use Rattle.zio_groups.specs.declared.waiting.QueuedOp.{QueuedOp}
 use Rattle.zio_groups.specs.Issued.{EndsOn}
 use Rattle.zio_groups.specs.LeafQueues.{Waits}
 use Rattle.zio_turns.specs.AtLeaves.{AllWait, AreInOrder, AreIssued, IsPut, waiting_at}
@@ -16,7 +16,7 @@ use Rattle.zio_turns.specs.Grounds.{AreReady}
 same_or_other : (m n : ℕ) → (m ≡ n) ⊎ (m ≢ n)
 same_or_other m n = cases_eq m n
 
-pub all_put : (P : ℕ → Waiting → Type 0) (leaf : ℕ) (w : Waiting) (old new : List Waits) → IsPut leaf w old new → P leaf w
+pub all_put : (P : ℕ → QueuedOp → Type 0) (leaf : ℕ) (w : QueuedOp) (old new : List Waits) → IsPut leaf w old new → P leaf w
     → AllWait P old → AllWait P new
 all_put P leaf w old new put p h other = elim (same_or_other other leaf) [
   | inl same ↦
@@ -27,14 +27,14 @@ all_put P leaf w old new put p h other = elim (same_or_other other leaf) [
 ]
 
 -- of what was issued it held too
-pub all_members : {D : Type 0} (P : ℕ → Waiting → Type 0) (image : D → List ℕ → Type 0) (s : Setting) (leaf : ℕ)
+pub all_members : {D : Type 0} (P : ℕ → QueuedOp → Type 0) (image : D → List ℕ → Type 0) (s : Setting) (leaf : ℕ)
     (old new : List Waits) (before after : List D) (answers : List Answered)
     (issued : AreIssued image s leaf old new before after answers) → AllWait P old → AllByRecursion (P leaf) issued.members
 all_members P image s leaf old new before after answers issued h =
     all_weaker (Contains (waiting_at old leaf)) (P leaf) issued.members
     (λ w there. all_contains (P leaf) (waiting_at old leaf) w (h leaf) there) issued.among
 
-pub all_issued : {D : Type 0} (P : ℕ → Waiting → Type 0) (image : D → List ℕ → Type 0) (s : Setting) (leaf : ℕ)
+pub all_issued : {D : Type 0} (P : ℕ → QueuedOp → Type 0) (image : D → List ℕ → Type 0) (s : Setting) (leaf : ℕ)
     (old new : List Waits) (before after : List D) (answers : List Answered)
     → AreIssued image s leaf old new before after answers → AllWait P old → AllWait P new
 all_issued P image s leaf old new before after answers issued h other = elim (same_or_other other leaf) [
@@ -47,7 +47,7 @@ all_issued P image s leaf old new before after answers issued h other = elim (sa
 
 -- ---- it lies on the disks
 
-pub ready_put : (rows : List Row) (sizes : List ℕ) (leaf : ℕ) (w : Waiting) (old new : List Waits) → IsPut leaf w old new
+pub ready_put : (rows : List Row) (sizes : List ℕ) (leaf : ℕ) (w : QueuedOp) (old new : List Waits) → IsPut leaf w old new
     → EndsOn sizes leaf w → AreInOrder new → AreReady rows sizes old → AreReady rows sizes new
 ready_put rows sizes leaf w old new put ends order h =
     record { order = order; fit = h.fit; lie = all_put (EndsOn sizes) leaf w old new put ends h.lie }

@@ -26,7 +26,7 @@ use Rattle.zio_turns.specs.Rests.{numbers_ended}
 use Rattle.zio_turns.specs.Rounds.{Before, HandsOut, KeepsRound, SoFar, first_of, with_tree}
 use Rattle.std.specs.List.{sum_by}
 use Rattle.zio_turns.specs.Slabs.{AreAll, held_if, left_in, left_over, load, shelf_of}
-use Rattle.zio_turns.specs.declared.entry.Entry.{Entry}
+use Rattle.zio_turns.specs.declared.entry.TiedNode.{TiedNode}
 use Rattle.zio_turns.specs.declared.entry.Parent.TheVariants.{Tree}
 use Rattle.zio_turns.specs.declared.entry.Ties.{Ties}
 use Rattle.zio_turns.proofs.FoundFits.{tree_of_round, tree_seated}
@@ -72,7 +72,7 @@ module _ {N : Type 0} (nodes : Nodes N) (t : Terms) where
     rests = subst (λ (n : ℕ). Rests {N = N} n (times_in key leaves) x.stack h) (sym e) p.rests;
   }
 
-  pub round_requeued : (sizes : ℕ → ℕ) (f : Forest) (before : Before) (s : SoFar) (slab : Slab (Entry N))
+  pub round_requeued : (sizes : ℕ → ℕ) (f : Forest) (before : Before) (s : SoFar) (slab : Slab (TiedNode N))
       (queue queue_now leaves : List ℕ) → ((k : ℕ) → times_in k queue_now ≡ times_in k queue)
       → KeepsRound {N = N} nodes t sizes f before s slab queue leaves → KeepsRound {N = N} nodes t sizes f before s slab queue_now leaves
   round_requeued sizes f before s slab queue queue_now leaves same k = record {
@@ -100,7 +100,7 @@ module _ {N : Type 0} (nodes : Nodes N) (t : Terms) where
 
   -- ---- the beginning
 
-  pub round_first : (sizes : ℕ → ℕ) (f : Forest) (before : Before) (images : Images) (slab : Slab (Entry N)) (line : List ℕ)
+  pub round_first : (sizes : ℕ → ℕ) (f : Forest) (before : Before) (images : Images) (slab : Slab (TiedNode N)) (line : List ℕ)
       → IsSoundRound t sizes f → IfSome before (λ b. b ≡ images) → slab.slots ≡ [] → line ≡ [] → KeepsRound {N = N} nodes t sizes f before (first_of f images) slab line []
   round_first sizes f before images slab line sound is none empty =
       let bare : shelf_of {N = N} slab ≡ (λ (k : ℕ). None) = λ i k. held_if {N = N} (get_or (none i) k None) in
@@ -119,7 +119,7 @@ module _ {N : Type 0} (nodes : Nodes N) (t : Terms) where
       none_flies key x h = cc
 
   -- a tree hands out its next operation
-  pub round_root : (sizes : ℕ → ℕ) (f : Forest) (before : Before) (s : SoFar) (slab slab_now : Slab (Entry N)) (line leaves : List ℕ)
+  pub round_root : (sizes : ℕ → ℕ) (f : Forest) (before : Before) (s : SoFar) (slab slab_now : Slab (TiedNode N)) (line leaves : List ℕ)
       (key tree child : ℕ) (node : N) → IsSoundRound t sizes f → KeepsRound {N = N} nodes t sizes f before s slab line leaves
       → get slab key ≡ None → Updates slab slab_now key (Some (with_ties {N = N} node (new_ties Logical (Tree tree child))))
       → (top : Flying) (op : Task) → top_at s.tops tree ≡ Some top → is_single (asking top.stack).op ≡ false
@@ -127,7 +127,7 @@ module _ {N : Type 0} (nodes : Nodes N) (t : Terms) where
       → nodes.gave node ≡ [] → child ≡ length top.stack.children
       → KeepsRound {N = N} nodes t sizes f before (with_tree s tree (handed_on top op)) slab_now (line ++ key ∷ []) leaves
   round_root sizes f before s slab slab_now line leaves key tree child node sound k free put top op there many asks kind is told gave number =
-      let now : Entry N = with_ties {N = N} node (new_ties Logical (Tree tree child)) in
+      let now : TiedNode N = with_ties {N = N} node (new_ties Logical (Tree tree child)) in
       let with_it = shelf_with slab slab_now key now put in
       let with_kind = subst (λ (c : ChildKind). IsWith (shelf_of {N = N} slab) key
       (Some (record { node = node; kind = c; parent = OfTree tree child; tally = tally_of fresh })) (shelf_of {N = N} slab_now))
@@ -169,7 +169,7 @@ module _ {N : Type 0} (nodes : Nodes N) (t : Terms) where
       }
 
 -- with one node more
-pub load_more : {N : Type 0} (left : N → ℕ) (slab slab_now : Slab (Entry N)) (line line_now : List ℕ) (key : ℕ) (g : Entry N)
+pub load_more : {N : Type 0} (left : N → ℕ) (slab slab_now : Slab (TiedNode N)) (line line_now : List ℕ) (key : ℕ) (g : TiedNode N)
     → get slab key ≡ None → Updates slab slab_now key (Some g) → line_now ≡ line ++ key ∷ []
     → load {N = N} left slab_now line_now ≡ load {N = N} left slab line + 3 * left g.node + 1
 load_more {N} left slab slab_now line line_now key g free put queued =
@@ -178,18 +178,18 @@ load_more {N} left slab slab_now line line_now key g free put queued =
     let two = length-append line (key ∷ []) in
     omega arith
 
-pub no_load : {N : Type 0} (left : N → ℕ) (slab : Slab (Entry N)) (line : List ℕ) → slab.slots ≡ [] → line ≡ []
+pub no_load : {N : Type 0} (left : N → ℕ) (slab : Slab (TiedNode N)) (line : List ℕ) → slab.slots ≡ [] → line ≡ []
     → load {N = N} left slab line ≡ 0
 no_load {N} left slab line none empty =
-    let one : left_over {N = N} left slab ≡ 0 = ap (λ (xs : List (Option (Entry N))). sum_by (left_in {N = N} left) xs) none in
+    let one : left_over {N = N} left slab ≡ 0 = ap (λ (xs : List (Option (TiedNode N))). sum_by (left_in {N = N} left) xs) none in
     let two : length line ≡ 0 = ap (λ (q : List ℕ). length q) empty in
     omega arith
 
-pub none_held : {N : Type 0} (P : N → Type 0) (slab : Slab (Entry N)) → slab.slots ≡ [] → AreAll {N = N} P slab
+pub none_held : {N : Type 0} (P : N → Type 0) (slab : Slab (TiedNode N)) → slab.slots ≡ [] → AreAll {N = N} P slab
 none_held {N} P slab none = λ key e is.
-    absurd (none_some e (sym (ap (λ (xs : List (Option (Entry N))). get_or xs key None) none) ∙ is))
+    absurd (none_some e (sym (ap (λ (xs : List (Option (TiedNode N))). get_or xs key None) none) ∙ is))
 
-pub root_handed : {N : Type 0} (nodes : Nodes N) (slab slab_now : Slab (Entry N)) (line line_now : List ℕ) (key tree child : ℕ)
+pub root_handed : {N : Type 0} (nodes : Nodes N) (slab slab_now : Slab (TiedNode N)) (line line_now : List ℕ) (key tree child : ℕ)
     (node : N) (ties : Ties) → get slab key ≡ None → Updates slab slab_now key (Some (with_ties {N = N} node ties))
     → ties ≡ new_ties Logical (Tree tree child) → line_now ≡ line ++ key ∷ []
     → HandsOut {N = N} nodes slab line slab_now line_now tree child node

@@ -24,7 +24,7 @@ use Rattle.zio_turns.specs.Parts.{Nodes}
 use Rattle.zio_turns.specs.Rounds.{Before, EndsAs, KeepsRound, SoFar, TreeHears, choices_in, with_calls, with_done}
 use Rattle.zio_turns.specs.Slabs.{AreAll, held_of, shelf_of}
 use Rattle.zio_turns.specs.Stages.{Ends, Hears}
-use Rattle.zio_turns.specs.declared.entry.Entry.{Entry}
+use Rattle.zio_turns.specs.declared.entry.TiedNode.{TiedNode}
 use Rattle.zio_turns.proofs.ActLemmas.{woken}
 use Rattle.zio_turns.proofs.Callings.{choices_did}
 use Rattle.zio_turns.proofs.DoesLemmas.{append_none}
@@ -55,7 +55,7 @@ use Rattle.zio_stages.specs.Outcomes.{held_by}
 use Rattle.zio_trace.specs.SoundRounds.{IsSoundRound}
 
 module _ {N : Type 0} (nodes : Nodes N) (over : List Top → N → Type 0) (t : Terms) (sizes : ℕ → ℕ) (f : Forest)
-    (before : Before) (s : SoFar) (slab out : Slab (Entry N)) (queue leaves : List ℕ) (key : ℕ) (e : Entry N) (calls : List SpaceCall)
+    (before : Before) (s : SoFar) (slab out : Slab (TiedNode N)) (queue leaves : List ℕ) (key : ℕ) (e : TiedNode N) (calls : List SpaceCall)
     (outcome : Outcome)
     (r : IsThere {N = N} nodes t sizes f before s slab queue leaves key e)
     (ends : Ends {N = N} nodes nodes.gave t e.node r.node.stack calls outcome)
@@ -120,7 +120,7 @@ module _ {N : Type 0} (nodes : Nodes N) (over : List Top → N → Type 0) (t : 
 
   module _ (above n : ℕ) (parent : (held_of {N = N} e).parent ≡ OfNode above n) where
     hears_it : (tops : List Top) → t.setting.tops ≡ tops → (p : HasAbove {N = N} nodes t sizes f before s slab queue leaves key e r above n)
-        → (g : Entry N) → (a : IsAbove {N = N} nodes t sizes f before s slab queue leaves key e r above n p.parent g)
+        → (g : TiedNode N) → (a : IsAbove {N = N} nodes t sizes f before s slab queue leaves key e r above n p.parent g)
         → Hears {N = N} nodes tops t g.node p.parent.stack n p.child r.node.stack.outer.op outcome ends.value
     hears_it tops tops_are p g a =
         let asked = one_asked nodes t sizes f before s.trees s.tops (shelf_of {N = N} slab) queue leaves a.state key above r.node
@@ -163,7 +163,7 @@ module _ {N : Type 0} (nodes : Nodes N) (over : List Top → N → Type 0) (t : 
         }
 
     pub round_ends : IsSoundRound t sizes f → (tops : List Top) → t.setting.tops ≡ tops → (rest : List ℕ) → OneMore key rest queue
-        → (slab_now : Slab (Entry N)) (queue_now : List ℕ)
+        → (slab_now : Slab (TiedNode N)) (queue_now : List ℕ)
         → NodeHeard {N = N} nodes over tops out rest slab_now queue_now e.ties.kind above n outcome
         → KeepsRound {N = N} nodes t sizes f before (with_done (with_calls s calls) more.more) slab_now queue_now leaves
     round_ends sound tops tops_are rest one_more slab_now queue_now told =
@@ -174,7 +174,7 @@ module _ {N : Type 0} (nodes : Nodes N) (over : List Top → N → Type 0) (t : 
         is_above {N = N} nodes t sizes f before s slab queue leaves key e r above n p told.was was in
         let asked = one_asked nodes t sizes f before s.trees s.tops (shelf_of {N = N} slab) queue leaves a.state key above r.node
         p.parent a.others (held_of {N = N} e) n p.child a.kept r.held parent p.does.is in
-        let up_now : Entry N =
+        let up_now : TiedNode N =
         with_ties {N = N} told.up (counting told.was.ties (notified e.ties.kind Done told.error told.bits told.was.ties.counts)) in
         let y : Flying = record { at = p.parent.at; stack = heard_of p.parent.stack n p.child ends.value } in
         let is_up = told.is t p.parent.stack p.child r.node.stack.outer.op ends.value (hears_it tops tops_are p told.was a) in

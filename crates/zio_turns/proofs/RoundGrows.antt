@@ -28,7 +28,7 @@ use Rattle.zio_turns.specs.Rests.{numbers_ended}
 use Rattle.zio_turns.specs.Rounds.{AreRight, Before, KeepsRound, SoFar, choices_in, with_calls}
 use Rattle.zio_turns.specs.Slabs.{held_if, held_of, shelf_of}
 use Rattle.zio_turns.specs.Stages.{Grows}
-use Rattle.zio_turns.specs.declared.entry.Entry.{Entry}
+use Rattle.zio_turns.specs.declared.entry.TiedNode.{TiedNode}
 use Rattle.zio_turns.specs.declared.entry.Parent.TheVariants.{Node}
 use Rattle.zio_turns.proofs.Callings.{WereRight, were_right}
 use Rattle.zio_turns.proofs.DoesLemmas.{append_none}
@@ -88,7 +88,7 @@ both_queued key child line = record {
 }
 
 module _ {N : Type 0} (nodes : Nodes N) (t : Terms) (sizes : ℕ → ℕ) (f : Forest) (before : Before)
-    (s : SoFar) (slab out slab_now : Slab (Entry N)) (line line_now leaves : List ℕ) (key : ℕ) (e : Entry N)
+    (s : SoFar) (slab out slab_now : Slab (TiedNode N)) (line line_now leaves : List ℕ) (key : ℕ) (e : TiedNode N)
     (calls : List SpaceCall) (node child : N) (kind : ChildKind) where
   pub round_grows : IsSoundRound t sizes f → (r : IsThere {N = N} nodes t sizes f before s slab (key ∷ line) leaves key e)
       → AreRight t s.entries calls → Grows {N = N} nodes nodes.gave t e.node r.node.stack calls node child kind
@@ -100,8 +100,8 @@ module _ {N : Type 0} (nodes : Nodes N) (t : Terms) (sizes : ℕ → ℕ) (f : F
       were_right t s.entries calls g.dids [] (g.calls_are ∙ sym (append_none (calls_by g.dids))) right in
       let lawful = subst (λ (cs : List Choice). AreLawful (sizes_of t.setting.tops) t.used (cs ++ choices_of g.dids))
       (sym r.entries_are) were.lawful in
-      let parent_now : Entry N = with_ties {N = N} node (one_more kind e.ties) in
-      let child_now : Entry N = with_ties {N = N} child (new_ties kind (Node key e.ties.children)) in
+      let parent_now : TiedNode N = with_ties {N = N} node (one_more kind e.ties) in
+      let child_now : TiedNode N = with_ties {N = N} child (new_ties kind (Node key e.ties.children)) in
       let put : Updates slab has.mid key (Some parent_now) = exchanged slab out has.mid key parent_now taken has.put in
       let other : has.at ≢ key = λ i. none_some parent_now (sym has.free ∙ ap (get has.mid) i ∙ put.changed) in
       let free : get slab has.at ≡ None = sym (put.others has.at other) ∙ has.free in

@@ -33,7 +33,7 @@ use Rattle.zio_turns.specs.Rounds.{AreRight, Before, KeepsRound, SoFar, choices_
 use Rattle.zio_turns.specs.Sizes.{HasAskedSize}
 use Rattle.zio_turns.specs.Slabs.{held_of, shelf_of}
 use Rattle.zio_turns.specs.Stages.{GoesOn, Stays, AreItsOwn}
-use Rattle.zio_turns.specs.declared.entry.Entry.{Entry}
+use Rattle.zio_turns.specs.declared.entry.TiedNode.{TiedNode}
 use Rattle.zio_turns.proofs.Callings.{WereRight, none_made, were_right}
 use Rattle.zio_turns.proofs.LedgerDids.{HasDone, does_itself, does_ops}
 use Rattle.zio_turns.proofs.LedgerHands.{hands_does, hands_leaf}
@@ -76,7 +76,7 @@ some_owing kind phase x cs are owing z =
     absurd (omega arith)
 
 module _ {N : Type 0} (nodes : Nodes N) (t : Terms) (sizes : ℕ → ℕ) (f : Forest) (before : Before)
-    (s : SoFar) (slab slab_now : Slab (Entry N)) (queue leaves : List ℕ) (key : ℕ) (e : Entry N) where
+    (s : SoFar) (slab slab_now : Slab (TiedNode N)) (queue leaves : List ℕ) (key : ℕ) (e : TiedNode N) where
   abbrev There : Type 0
   There = IsThere {N = N} nodes t sizes f before s slab queue leaves key e
 
@@ -142,7 +142,7 @@ module _ {N : Type 0} (nodes : Nodes N) (t : Terms) (sizes : ℕ → ℕ) (f : F
       let some : counted kind phase e.ties.counts ≢ 0 =
       some_owing kind phase e.ties.counts r.node.stack.children r.counts owing in
       let first : first_counted (kind ∷ []) phase e.ties.counts ≡ Some count = one_counted kind phase e.ties.counts some in
-      let now : Entry N = with_ties {N = N} node (counting e.ties (stalled (Some count) e.ties.counts)) in
+      let now : TiedNode N = with_ties {N = N} node (counting e.ties (stalled (Some count) e.ties.counts)) in
       let put_now : Updates slab slab_now key (Some now) =
       subst (λ (c : Option Count). Updates slab slab_now key
       (Some (with_ties {N = N} node (counting e.ties (stalled c e.ties.counts))))) first put in
@@ -172,7 +172,7 @@ module _ {N : Type 0} (nodes : Nodes N) (t : Terms) (sizes : ℕ → ℕ) (f : F
       subst (λ (cs : List Choice). AreLawful (sizes_of t.setting.tops) t.used cs)
       (ap (λ (cs : List Choice). s.entries ++ cs) (ap choices_in stays.no_calls)
       ∙ ap (λ (cs : List Choice). cs ++ []) (sym r.entries_are)) right.lawful in
-      let now : Entry N = with_ties {N = N} node e.ties in
+      let now : TiedNode N = with_ties {N = N} node e.ties in
       let with_it = shelf_with slab slab_now key now put in
       let first : StillKept {N = N} nodes t sizes f before s.trees s.tops (live_of key r.node ∷ r.others)
       (shelf_of {N = N} slab_now) queue leaves (r.state.entries ++ []) r.state.images =
@@ -205,7 +205,7 @@ module _ {N : Type 0} (nodes : Nodes N) (t : Terms) (sizes : ℕ → ℕ) (f : F
   round_comes_back sound r rest more act fresh a after full answers node is told gave put queue_now more_queue =
       let x : Flying = record { at = r.node.at; stack = fresh_stack (Leaf act) } in
       let is_x : r.node ≡ x = λ i. record { at = r.node.at; stack = fresh i } in
-      let now : Entry N = with_ties {N = N} node e.ties in
+      let now : TiedNode N = with_ties {N = N} node e.ties in
       let y : Flying = record { at = r.node.at; stack = done_at_once (fresh_stack (Leaf act)) (Leaf act) (Got a) } in
       record {
         lives = live_of key y ∷ r.others;

@@ -18,7 +18,7 @@ use Rattle.zio_turns.specs.Ledgers.{IsLedger}
 use Rattle.zio_turns.specs.Parts.{Nodes}
 use Rattle.zio_turns.specs.Rounds.{Before, DoTheirs, KeepsRound, SoFar}
 use Rattle.zio_turns.specs.Slabs.{AreNumbered, held_if, held_of, shelf_of}
-use Rattle.zio_turns.specs.declared.entry.Entry.{Entry}
+use Rattle.zio_turns.specs.declared.entry.TiedNode.{TiedNode}
 use Rattle.zio_turns.proofs.Kept.{all_flying, kept_fronted, one_forward, running_as, world}
 use Rattle.zio_turns.proofs.LedgerMoves.{ledger_order}
 use Rattle.zio_turns.proofs.Links.{in_flight_there}
@@ -45,9 +45,9 @@ pub without_first : (key : ℕ) (x : Flying) (others : List Live) → KeysDiffer
 without_first key x others d = record { there = d.0; others = λ k n. sym (other_at (live_of key x) others k n) }
 
 module _ {N : Type 0} (nodes : Nodes N) (t : Terms) (sizes : ℕ → ℕ) (f : Forest) (before : Before) (s : SoFar)
-    (slab : Slab (Entry N)) (queue leaves : List ℕ) where
+    (slab : Slab (TiedNode N)) (queue leaves : List ℕ) where
   -- it is so far, and comes first
-  pub record IsThere (key : ℕ) (e : Entry N) : Type 0 where
+  pub record IsThere (key : ℕ) (e : TiedNode N) : Type 0 where
     pub node : Flying
     pub others : List Live
     pub state : State
@@ -84,7 +84,7 @@ module _ {N : Type 0} (nodes : Nodes N) (t : Terms) (sizes : ℕ → ℕ) (f : F
       (one_forward tops x others) in
       (r.state.entries, r.running.of_round.0)
 
-  pub it_is_there : (key : ℕ) (e : Entry N) → KeepsRound {N = N} nodes t sizes f before s slab queue leaves
+  pub it_is_there : (key : ℕ) (e : TiedNode N) → KeepsRound {N = N} nodes t sizes f before s slab queue leaves
       → get slab key ≡ Some e → IsThere key e
   it_is_there key e k is =
       let held : shelf_of {N = N} slab key ≡ Some (held_of {N = N} e) = ap (held_if {N = N}) is in
@@ -118,7 +118,7 @@ module _ {N : Type 0} (nodes : Nodes N) (t : Terms) (sizes : ℕ → ℕ) (f : F
       }
 
 -- a key that waits has a node
-pub held_entry : {N : Type 0} (slab : Slab (Entry N)) (key : ℕ) (o : Option (Entry N)) → get slab key ≡ o
-    → (held_if {N = N} o ≡ None → ⊥) → (e : Entry N) × (get slab key ≡ Some e)
+pub held_entry : {N : Type 0} (slab : Slab (TiedNode N)) (key : ℕ) (o : Option (TiedNode N)) → get slab key ≡ o
+    → (held_if {N = N} o ≡ None → ⊥) → (e : TiedNode N) × (get slab key ≡ Some e)
 held_entry slab key None e some = absurd (some refl)
 held_entry slab key (Some g) e some = (g, e)

@@ -22,7 +22,7 @@ use Rattle.zio_turns.specs.Ledgers.{IsLedger, all_ended, ended_of_top, ended_of_
 use Rattle.zio_turns.specs.Parts.{Nodes}
 use Rattle.zio_turns.specs.Rounds.{Before, SoFar}
 use Rattle.zio_turns.specs.Slabs.{held_if, left_in, shelf_of}
-use Rattle.zio_turns.specs.declared.entry.Entry.{Entry}
+use Rattle.zio_turns.specs.declared.entry.TiedNode.{TiedNode}
 use Rattle.zio_turns.proofs.Kept.{world}
 use Rattle.zio_turns.proofs.Links.{in_flight_there}
 use Rattle.zio_turns.proofs.PlaceTotals.{contained, moved_by_totals, without_moved, totals_moved}
@@ -50,7 +50,7 @@ heard_ended : (values : List Value) → flat_map ended_of_tree (all_heard values
 heard_ended [] = refl
 heard_ended (v ∷ values) = ap (λ (es : List Ended). (settled v).ended ++ es) (heard_ended values)
 
-pub requests_are : {N : Type 0} (nodes : Nodes N) (t : Terms) (f : Forest) (s : SoFar) (slab : Slab (Entry N)) (values : List Value)
+pub requests_are : {N : Type 0} (nodes : Nodes N) (t : Terms) (f : Forest) (s : SoFar) (slab : Slab (TiedNode N)) (values : List Value)
     → IsLedger {N = N} nodes t f s.books s.entries s.tops s.trees [] slab → s.trees ≡ all_heard values → standing s.tops ≡ []
     → IsPermutation (all_ended s.books.done) (round_of values).ended
 requests_are nodes t f s slab values l heard none =
@@ -60,14 +60,14 @@ requests_are nodes t f s slab values l heard none =
 
 -- ---- no node is left
 
-none_there : {N : Type 0} (o : Option (Entry N)) → ((h : Held N) → held_if {N = N} o ≡ Some h → ⊥) → o ≡ None
+none_there : {N : Type 0} (o : Option (TiedNode N)) → ((h : Held N) → held_if {N = N} o ≡ Some h → ⊥) → o ≡ None
 none_there None none = refl
 none_there (Some e) none = absurd (none _ refl)
 
 none_flies : (x : Flying) → None ≡ Some x → ⊥
 none_flies x e = cc
 
-gave_none : {N : Type 0} (nodes : Nodes N) (t : Terms) (sizes : ℕ → ℕ) (f : Forest) (before : Before) (s : SoFar) (slab : Slab (Entry N))
+gave_none : {N : Type 0} (nodes : Nodes N) (t : Terms) (sizes : ℕ → ℕ) (f : Forest) (before : Before) (s : SoFar) (slab : Slab (TiedNode N))
     (state : State) → IsKept {N = N} nodes t sizes f before s.trees s.tops [] (shelf_of {N = N} slab) [] [] state → (w : Place → ℕ)
     → gave_over {N = N} nodes w slab ≡ 0
 gave_none {N} nodes t sizes f before s slab state k w =
@@ -79,7 +79,7 @@ gave_none {N} nodes t sizes f before s slab state k w =
 -- ---- the places
 
 pub found_are : {N : Type 0} (nodes : Nodes N) (t : Terms) (sizes : ℕ → ℕ) (f : Forest) (before : Before) (s : SoFar)
-    (slab : Slab (Entry N)) (state : State)
+    (slab : Slab (TiedNode N)) (state : State)
     → IsKept {N = N} nodes t sizes f before s.trees s.tops [] (shelf_of {N = N} slab) [] [] state
     → IsLedger {N = N} nodes t f s.books s.entries s.tops s.trees [] slab
     → IsPermutation (found_so_far s.entries s.books.claimed ++ freed_in s.books.done) (s.books.back ++ made_in s.books.done)
@@ -105,18 +105,18 @@ within_totals (x ∷ xs) ys h =
           (IsPermutation-cons x (without x ys) (xs ++ rest.0) rest.1),
     )
 
-pub made_found : {N : Type 0} (nodes : Nodes N) (t : Terms) (f : Forest) (s : SoFar) (slab : Slab (Entry N))
+pub made_found : {N : Type 0} (nodes : Nodes N) (t : Terms) (f : Forest) (s : SoFar) (slab : Slab (TiedNode N))
     → IsLedger {N = N} nodes t f s.books s.entries s.tops s.trees [] slab
     → (others : List Place) × IsPermutation (found_so_far s.entries s.books.claimed) (made_in s.books.done ++ others)
 made_found nodes t f s slab l =
     within_totals (made_in s.books.done) (found_so_far s.entries s.books.claimed) (λ w. let m = l.made w in omega arith)
 
-made_less : {N : Type 0} (nodes : Nodes N) (t : Terms) (f : Forest) (s : SoFar) (slab : Slab (Entry N))
+made_less : {N : Type 0} (nodes : Nodes N) (t : Terms) (f : Forest) (s : SoFar) (slab : Slab (TiedNode N))
     → IsLedger {N = N} nodes t f s.books s.entries s.tops s.trees [] slab → (w : Place → ℕ)
     → total w (made_in s.books.done) ≤ total w (found_so_far s.entries s.books.claimed)
 made_less nodes t f s slab l w = let m = l.made w in omega arith
 
-pub made_open : {N : Type 0} (nodes : Nodes N) (t : Terms) (f : Forest) (s : SoFar) (slab : Slab (Entry N)) (tops : List Top)
+pub made_open : {N : Type 0} (nodes : Nodes N) (t : Terms) (f : Forest) (s : SoFar) (slab : Slab (TiedNode N)) (tops : List Top)
     (st : SpaceState) (asked : Asked) → IsLedger {N = N} nodes t f s.books s.entries s.tops s.trees [] slab
     → IsDeskAt t s.entries s.books.claimed s.books.back tops st asked → are_open t.used (made_in s.books.done) ≡ true
 made_open {N} nodes t f s slab tops st asked l desk =
@@ -124,7 +124,7 @@ made_open {N} nodes t f s slab tops st asked l desk =
     (fewer_clear t.used (made_in s.books.done) (found_so_far s.entries s.books.claimed) (made_less {N = N} nodes t f s slab l)
     (found_clear t s.entries s.books.claimed s.books.back tops st asked desk))
 
-pub made_within : {N : Type 0} (nodes : Nodes N) (t : Terms) (f : Forest) (s : SoFar) (slab : Slab (Entry N)) (tops : List Top)
+pub made_within : {N : Type 0} (nodes : Nodes N) (t : Terms) (f : Forest) (s : SoFar) (slab : Slab (TiedNode N)) (tops : List Top)
     (st : SpaceState) (asked : Asked) → IsLedger {N = N} nodes t f s.books s.entries s.tops s.trees [] slab
     → IsDeskAt t s.entries s.books.claimed s.books.back tops st asked
     → AllByRecursion (λ (p : Place). IsTrue (is_inside (sizes_of t.setting.tops) p)) (made_in s.books.done)
@@ -207,7 +207,7 @@ module _ (p : Place) (used found freed back made live pending : List Place)
       let pend : place_count p pending ≡ 0 = none_pending (omega arith) in
       contains-place_count p live (omega arith)
 
-pub live_where : {N : Type 0} (nodes : Nodes N) (t : Terms) (sizes : ℕ → ℕ) (f : Forest) (s : SoFar) (slab : Slab (Entry N)) (st : SpaceState)
+pub live_where : {N : Type 0} (nodes : Nodes N) (t : Terms) (sizes : ℕ → ℕ) (f : Forest) (s : SoFar) (slab : Slab (TiedNode N)) (st : SpaceState)
     → IsSoundRound t sizes f → IsLedger {N = N} nodes t f s.books s.entries s.tops s.trees [] slab
     → IsPermutation (st.live ++ st.pending) (t.used ++ (s.books.claimed ++ taken_by_all s.entries)) → SamePlaces st.pending s.books.back
     → IsPermutation (found_so_far s.entries s.books.claimed ++ freed_in s.books.done) (s.books.back ++ made_in s.books.done)

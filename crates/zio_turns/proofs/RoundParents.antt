@@ -19,7 +19,7 @@ use Rattle.zio_turns.specs.Ledgers.{IsLedger}
 use Rattle.zio_turns.specs.Parts.{Nodes}
 use Rattle.zio_turns.specs.Rounds.{Before, DoTheirs, SoFar}
 use Rattle.zio_turns.specs.Slabs.{AreNumbered, held_if, held_of, shelf_of}
-use Rattle.zio_turns.specs.declared.entry.Entry.{Entry}
+use Rattle.zio_turns.specs.declared.entry.TiedNode.{TiedNode}
 use Rattle.zio_turns.proofs.Kept.{all_flying, kept_now, linked_as, running_as, two_forward, world}
 use Rattle.zio_turns.proofs.LedgerMoves.{ledger_order}
 use Rattle.zio_turns.proofs.Links.{HeldIn, held_there, on_shelf_there, some_is}
@@ -27,7 +27,7 @@ use Rattle.zio_turns.proofs.Lives.{Fronted, first_at, other_at, second_at, to_fr
 use Rattle.zio_turns.proofs.RoundNodes.{IsThere}
 use Rattle.zio_turns.proofs.Seated.{place_longer}
 
-pub from_held : {N : Type 0} (o : Option (Entry N)) (h : Held N) → held_if {N = N} o ≡ Some h → (g : Entry N) × (o ≡ Some g)
+pub from_held : {N : Type 0} (o : Option (TiedNode N)) (h : Held N) → held_if {N = N} o ≡ Some h → (g : TiedNode N) × (o ≡ Some g)
 from_held None h e = absurd (cc)
 from_held (Some g) h e = (g, refl)
 
@@ -39,7 +39,7 @@ not_itself x q c there same =
     absurd (omega arith)
 
 module _ {N : Type 0} (nodes : Nodes N) (t : Terms) (sizes : ℕ → ℕ) (f : Forest) (before : Before) (s : SoFar)
-    (slab : Slab (Entry N)) (queue leaves : List ℕ) (key : ℕ) (e : Entry N) where
+    (slab : Slab (TiedNode N)) (queue leaves : List ℕ) (key : ℕ) (e : TiedNode N) where
   abbrev There : Type 0
   There = IsThere {N = N} nodes t sizes f before s slab queue leaves key e
 
@@ -50,7 +50,7 @@ module _ {N : Type 0} (nodes : Nodes N) (t : Terms) (sizes : ℕ → ℕ) (f : F
     pub other : above ≢ key
     pub flies : flying_at r.others above ≡ Some parent
     pub does : IsChildOf {N = N} nodes (held_of {N = N} e) r.node.at parent n child
-    pub entry : Entry N
+    pub entry : TiedNode N
     pub there : get slab above ≡ Some entry
 
   pub has_above : (r : There) (above n : ℕ) → (held_of {N = N} e).parent ≡ OfNode above n → HasAbove r above n
@@ -85,7 +85,7 @@ module _ {N : Type 0} (nodes : Nodes N) (t : Terms) (sizes : ℕ → ℕ) (f : F
 
   -- it comes second
   pub record IsAbove (r : IsThere {N = N} nodes t sizes f before s slab queue leaves key e) (above n : ℕ) (q : Flying)
-      (g : Entry N) : Type 0 where
+      (g : TiedNode N) : Type 0 where
     pub others : List Live
     pub state : State
     pub kept : IsKept {N = N} nodes t sizes f before s.trees s.tops (live_of key r.node ∷ live_of above q ∷ others)
@@ -122,7 +122,7 @@ module _ {N : Type 0} (nodes : Nodes N) (t : Terms) (sizes : ℕ → ℕ) (f : F
       state k.running (two_forward s.tops x y others) in
       (r.state.entries, r.running.of_round.1.0)
 
-  pub is_above : (r : There) (above n : ℕ) (p : HasAbove r above n) (g : Entry N) → get slab above ≡ Some g
+  pub is_above : (r : There) (above n : ℕ) (p : HasAbove r above n) (g : TiedNode N) → get slab above ≡ Some g
       → IsAbove r above n p.parent g
   is_above r above n p g is =
       let front : Fronted r.others above p.parent = to_front r.others above p.parent r.kept.differ.1 p.flies in

@@ -19,7 +19,7 @@ use Rattle.zio_turns.specs.Parts.{Nodes}
 use Rattle.zio_turns.specs.Rounds.{Before, KeepsRound, SoFar, TreeHearsEarly, choices_in, with_calls}
 use Rattle.zio_turns.specs.Slabs.{held_of, shelf_of}
 use Rattle.zio_turns.specs.Stages.{Tells}
-use Rattle.zio_turns.specs.declared.entry.Entry.{Entry}
+use Rattle.zio_turns.specs.declared.entry.TiedNode.{TiedNode}
 use Rattle.zio_frames.proofs.GetLemmas.{same_or_not}
 use Rattle.zio_turns.proofs.ActLemmas.{woken_behind}
 use Rattle.zio_turns.proofs.Callings.{none_made}
@@ -60,7 +60,7 @@ length_set (y ∷ xs) zero x = refl
 length_set (y ∷ xs) (suc n) x = ap (λ (k : ℕ). suc k) (length_set xs n x)
 
 module _ {N : Type 0} (nodes : Nodes N) (over : List Top → N → Type 0) (t : Terms) (sizes : ℕ → ℕ) (f : Forest)
-    (before : Before) (s : SoFar) (slab mid : Slab (Entry N)) (line leaves : List ℕ) (key : ℕ) (e : Entry N) (calls : List SpaceCall)
+    (before : Before) (s : SoFar) (slab mid : Slab (TiedNode N)) (line leaves : List ℕ) (key : ℕ) (e : TiedNode N) (calls : List SpaceCall)
     (node : N) (pointer : Option Bp)
     (r : IsThere {N = N} nodes t sizes f before s slab (key ∷ line) leaves key e)
     (tells : Tells {N = N} nodes nodes.gave t e.node r.node.stack calls node pointer)
@@ -108,7 +108,7 @@ module _ {N : Type 0} (nodes : Nodes N) (over : List Top → N → Type 0) (t : 
               p.does.is);
         }
 
-    pub round_tells : (slab_now : Slab (Entry N)) (line_now : List ℕ)
+    pub round_tells : (slab_now : Slab (TiedNode N)) (line_now : List ℕ)
         → NodeTold {N = N} nodes over mid line slab_now line_now e.ties.kind above n pointer
         → KeepsRound {N = N} nodes t sizes f before (with_calls s calls) slab_now (key ∷ line_now) leaves
     round_tells slab_now line_now told =
@@ -120,7 +120,7 @@ module _ {N : Type 0} (nodes : Nodes N) (over : List Top → N → Type 0) (t : 
         let asked = one_asked nodes t sizes f before s.trees s.tops (shelf_of {N = N} slab) (key ∷ line) leaves a.state key above r.node
         p.parent a.others (held_of {N = N} e) n p.child a.kept r.held parent p.does.is in
         let needs : needs_none e.ties.kind ≡ false = needs_it r.node p.parent p.child refl asked in
-        let up_now : Entry N =
+        let up_now : TiedNode N =
         with_ties {N = N} told.up (counting told.was.ties (notified e.ties.kind Ready told.error told.bits told.was.ties.counts)) in
         let y : Flying = record { at = p.parent.at; stack = heard_early p.parent.stack n p.child pointer } in
         let is_up = told.is t p.parent.stack p.child (record {

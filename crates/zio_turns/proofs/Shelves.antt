@@ -7,7 +7,7 @@ use Rattle.zio_frames.specs.Frames.{Flying}
 use Rattle.zio_frames.proofs.GetLemmas.{same_or_not}
 use Rattle.zio_turns.specs.Entries.{AreWith, IsWith}
 use Rattle.zio_turns.specs.Slabs.{AreAll, AreNumbered, held_if, held_of, left_in, left_over, shelf_of}
-use Rattle.zio_turns.specs.declared.entry.Entry.{Entry}
+use Rattle.zio_turns.specs.declared.entry.TiedNode.{TiedNode}
 use Rattle.zio_turns.proofs.Links.{some_is}
 
 pub none_some : {X : Type 0} (x : X) → None ≡ Some x → ⊥
@@ -76,21 +76,21 @@ module _ {N : Type 0} where
   -- ---- one change after another
 
   -- taken out and put back it is exchanged
-  pub exchanged : (a b c : Slab (Entry N)) (key : ℕ) (e : Entry N) → Updates a b key None → Updates b c key (Some e)
+  pub exchanged : (a b c : Slab (TiedNode N)) (key : ℕ) (e : TiedNode N) → Updates a b key None → Updates b c key (Some e)
       → Updates a c key (Some e)
   exchanged a b c key e u v = record { changed = v.changed; others = λ k n. v.others k n ∙ u.others k n }
 
   -- ---- the shelf
 
-  pub shelf_with : (a b : Slab (Entry N)) (key : ℕ) (e : Entry N) → Updates a b key (Some e)
+  pub shelf_with : (a b : Slab (TiedNode N)) (key : ℕ) (e : TiedNode N) → Updates a b key (Some e)
       → IsWith (shelf_of {N = N} a) key (Some (held_of {N = N} e)) (shelf_of {N = N} b)
   shelf_with a b key e u = record { there = ap (held_if {N = N}) u.changed; others = λ k n. ap (held_if {N = N}) (u.others k n) }
 
-  pub shelf_without : (a b : Slab (Entry N)) (key : ℕ) → Updates a b key None
+  pub shelf_without : (a b : Slab (TiedNode N)) (key : ℕ) → Updates a b key None
       → IsWith (shelf_of {N = N} a) key None (shelf_of {N = N} b)
   shelf_without a b key u = record { there = ap (held_if {N = N}) u.changed; others = λ k n. ap (held_if {N = N}) (u.others k n) }
 
-  pub shelf_two : (a b c : Slab (Entry N)) (key other : ℕ) (o : Option (Entry N)) (g : Entry N) → other ≢ key
+  pub shelf_two : (a b c : Slab (TiedNode N)) (key other : ℕ) (o : Option (TiedNode N)) (g : TiedNode N) → other ≢ key
       → Updates a b key o → Updates b c other (Some g)
       → AreWith (shelf_of {N = N} a) key (held_if {N = N} o) other (Some (held_of {N = N} g)) (shelf_of {N = N} c)
   shelf_two a b c key other o g n u v = record {
@@ -101,47 +101,47 @@ module _ {N : Type 0} where
 
   -- ---- what holds of each
 
-  pub all_with : (P : N → Type 0) (a b : Slab (Entry N)) (key : ℕ) (e : Entry N) → Updates a b key (Some e) → P e.node
+  pub all_with : (P : N → Type 0) (a b : Slab (TiedNode N)) (key : ℕ) (e : TiedNode N) → Updates a b key (Some e) → P e.node
       → AreAll {N = N} P a → AreAll {N = N} P b
   all_with P a b key e u p h = λ k g is. by k g is (same_or_not k key)
     where
-      by : (k : ℕ) (g : Entry N) → get b k ≡ Some g → (k ≡ key) ⊎ (k ≢ key) → P g.node
-      by k g is (inl i) = subst (λ (x : Entry N). P x.node) (some_is e g (sym u.changed ∙ sym (ap (get b) i) ∙ is)) p
+      by : (k : ℕ) (g : TiedNode N) → get b k ≡ Some g → (k ≡ key) ⊎ (k ≢ key) → P g.node
+      by k g is (inl i) = subst (λ (x : TiedNode N). P x.node) (some_is e g (sym u.changed ∙ sym (ap (get b) i) ∙ is)) p
       by k g is (inr n) = h k g (sym (u.others k n) ∙ is)
 
-  pub all_without : (P : N → Type 0) (a b : Slab (Entry N)) (key : ℕ) → Updates a b key None
+  pub all_without : (P : N → Type 0) (a b : Slab (TiedNode N)) (key : ℕ) → Updates a b key None
       → AreAll {N = N} P a → AreAll {N = N} P b
   all_without P a b key u h = λ k g is. by k g is (same_or_not k key)
     where
-      by : (k : ℕ) (g : Entry N) → get b k ≡ Some g → (k ≡ key) ⊎ (k ≢ key) → P g.node
+      by : (k : ℕ) (g : TiedNode N) → get b k ≡ Some g → (k ≡ key) ⊎ (k ≢ key) → P g.node
       by k g is (inl i) = absurd (none_some g (sym u.changed ∙ sym (ap (get b) i) ∙ is))
       by k g is (inr n) = h k g (sym (u.others k n) ∙ is)
 
-  pub numbered_with : (a b : Slab (Entry N)) (key : ℕ) (e : Entry N) (lives now : ℕ → Option Flying) (x : Flying)
+  pub numbered_with : (a b : Slab (TiedNode N)) (key : ℕ) (e : TiedNode N) (lives now : ℕ → Option Flying) (x : Flying)
       → Updates a b key (Some e) → IsWith lives key (Some x) now → e.ties.children ≡ length x.stack.children
       → AreNumbered {N = N} a lives → AreNumbered {N = N} b now
   numbered_with a b key e lives now x u w same h = λ k g y is flies. by k g y is flies (same_or_not k key)
     where
-      by : (k : ℕ) (g : Entry N) (y : Flying) → get b k ≡ Some g → now k ≡ Some y → (k ≡ key) ⊎ (k ≢ key)
+      by : (k : ℕ) (g : TiedNode N) (y : Flying) → get b k ≡ Some g → now k ≡ Some y → (k ≡ key) ⊎ (k ≢ key)
           → g.ties.children ≡ length y.stack.children
       by k g y is flies (inl i) =
           let one : e ≡ g = some_is e g (sym u.changed ∙ sym (ap (get b) i) ∙ is) in
           let two : x ≡ y = some_is x y (sym w.there ∙ sym (ap now i) ∙ flies) in
-          sym (ap (λ (z : Entry N). z.ties.children) one) ∙ same ∙ ap (λ (z : Flying). length z.stack.children) two
+          sym (ap (λ (z : TiedNode N). z.ties.children) one) ∙ same ∙ ap (λ (z : Flying). length z.stack.children) two
       by k g y is flies (inr n) = h k g y (sym (u.others k n) ∙ is) (sym (w.others k n) ∙ flies)
 
-  pub numbered_without : (a b : Slab (Entry N)) (key : ℕ) (lives now : ℕ → Option Flying) → Updates a b key None
+  pub numbered_without : (a b : Slab (TiedNode N)) (key : ℕ) (lives now : ℕ → Option Flying) → Updates a b key None
       → IsWith lives key None now → AreNumbered {N = N} a lives → AreNumbered {N = N} b now
   numbered_without a b key lives now u w h = λ k g y is flies. by k g y is flies (same_or_not k key)
     where
-      by : (k : ℕ) (g : Entry N) (y : Flying) → get b k ≡ Some g → now k ≡ Some y → (k ≡ key) ⊎ (k ≢ key)
+      by : (k : ℕ) (g : TiedNode N) (y : Flying) → get b k ≡ Some g → now k ≡ Some y → (k ≡ key) ⊎ (k ≢ key)
           → g.ties.children ≡ length y.stack.children
       by k g y is flies (inl i) = absurd (none_some g (sym u.changed ∙ sym (ap (get b) i) ∙ is))
       by k g y is flies (inr n) = h k g y (sym (u.others k n) ∙ is) (sym (w.others k n) ∙ flies)
 
   -- ---- how often they run
 
-  pub left_with : (left : N → ℕ) (a b : Slab (Entry N)) (key : ℕ) (o : Option (Entry N)) → Updates a b key o
+  pub left_with : (left : N → ℕ) (a b : Slab (TiedNode N)) (key : ℕ) (o : Option (TiedNode N)) → Updates a b key o
       → left_over {N = N} left b + left_in {N = N} left (get a key) ≡ left_over {N = N} left a + left_in {N = N} left o
   left_with left a b key o u =
       let e : left_in {N = N} left (get b key) ≡ left_in {N = N} left o = ap (left_in {N = N} left) u.changed in

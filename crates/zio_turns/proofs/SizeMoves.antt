@@ -6,7 +6,7 @@ use Rattle.zio_types.specs.Choices.{Choice}
 use Rattle.zio_blkptr.specs.declared.pointer.Bp.{Bp}
 use Rattle.zio_gang.specs.Attempts.{Terms}
 use Rattle.zio_groups.specs.declared.waiting.Answered.{Answered}
-use Rattle.zio_groups.specs.declared.waiting.Waiting.{Waiting}
+use Rattle.zio_groups.specs.declared.waiting.QueuedOp.{QueuedOp}
 use Rattle.zio_groups.specs.Issued.{IsWhole}
 use Rattle.zio_trace.specs.Entries.{answer_to}
 use Rattle.zio_trace.specs.Families.{Forest}
@@ -29,7 +29,7 @@ use Rattle.zio_turns.proofs.SizeLemmas.{part_sized}
 -- ---- what a leaf answers
 
 -- the first bytes of a whole range are as many as were asked for
-pub answers_full : (leaf : ℕ) (act : LeafOp) (w : Waiting) (b : Answered) (a : Answer) → WaitsFor leaf act w → IsWhole w b
+pub answers_full : (leaf : ℕ) (act : LeafOp) (w : QueuedOp) (b : Answered) (a : Answer) → WaitsFor leaf act w → IsWhole w b
     → ShowsAnswer act b.error b.bytes a → HasAskedSize act a
 answers_full leaf (Store retry stored spot) w b a waits whole shows = tt
 answers_full leaf (Fetch retry len spot) w b a waits whole shows = by b.error refl shows

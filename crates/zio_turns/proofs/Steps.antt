@@ -19,7 +19,7 @@ use Rattle.zio_turns.specs.Parts.{Nodes}
 use Rattle.zio_turns.specs.Rounds.{IsTurn, KeepsRound, SoFar, StepsOn, TreeHears, TreeHearsEarly, with_calls, with_op}
 use Rattle.zio_turns.specs.Slabs.{parent_of, shelf_of}
 use Rattle.zio_turns.specs.Stages.{Ends, GoesOn, GoesToLeaf, Grows, IsNow, Tells, Waits}
-use Rattle.zio_turns.specs.declared.entry.Entry.{Entry}
+use Rattle.zio_turns.specs.declared.entry.TiedNode.{TiedNode}
 use Rattle.zio_turns.specs.declared.entry.Parent.{Parent as Above}
 use Rattle.zio_turns.specs.declared.entry.Parent.TheVariants.{Node, Tree}
 use Rattle.zio_turns.specs.declared.step.Step.{Step}
@@ -36,10 +36,10 @@ use Rattle.zio_turns.proofs.RoundTells.{can_tell, round_tells, round_tells_tree}
 use Rattle.zio_turns.proofs.Shelves.{exchanged}
 use Rattle.zio_turns.proofs.LedgerOwns.{GivesOwn}
 
-module _ {N : Type 0} (nodes : Nodes N) (tops : List Top) (slab : Slab (Entry N)) (line : List ℕ) (key : ℕ) where
+module _ {N : Type 0} (nodes : Nodes N) (tops : List Top) (slab : Slab (TiedNode N)) (line : List ℕ) (key : ℕ) where
   -- a key whose turn it is has a node
   pub turn_held : (over : List Top → N → Type 0) → IsTurn {N = N} nodes over tops slab line key
-      → (e : Entry N) × (get slab key ≡ Some e)
+      → (e : TiedNode N) × (get slab key ≡ Some e)
   turn_held over turn =
       let some = turn.keeps in
       let held = queued_held nodes some.terms some.sizes some.forest some.before some.so_far.trees some.so_far.tops
@@ -48,7 +48,7 @@ module _ {N : Type 0} (nodes : Nodes N) (tops : List Top) (slab : Slab (Entry N)
       from_held {N = N} (get slab key) held.0 held.1
 
 module _ {N : Type 0} (nodes : Nodes N) (owns : GivesOwn {N = N} nodes) (over : List Top → N → Type 0) (tops : List Top)
-    (slab out slab_now : Slab (Entry N)) (line line_now : List ℕ) (key : ℕ) (e : Entry N) (calls : List SpaceCall)
+    (slab out slab_now : Slab (TiedNode N)) (line line_now : List ℕ) (key : ℕ) (e : TiedNode N) (calls : List SpaceCall)
     (is : get slab key ≡ Some e) (taken : Updates slab out key None) where
   abbrev On : Step → Type 0
   On step = StepsOn {N = N} nodes tops calls slab line slab_now line_now key step
@@ -125,7 +125,7 @@ module _ {N : Type 0} (nodes : Nodes N) (owns : GivesOwn {N = N} nodes) (over : 
 
   module _ (node : N) (pointer : Option Bp) (moves : (t : Terms) (st : Stack) → IsNow {N = N} nodes tops t e.node st
       → Tells {N = N} nodes nodes.gave t e.node st calls node pointer)
-      (mid : Slab (Entry N)) (put : Updates out mid key (Some (with_ties {N = N} node e.ties))) where
+      (mid : Slab (TiedNode N)) (put : Updates out mid key (Some (with_ties {N = N} node e.ties))) where
     tells_by : (parent : Above) → e.ties.parent ≡ parent
         → HasTold {N = N} nodes over mid line slab_now line_now e.ties.kind parent pointer → On (step_told parent)
     tells_by (Tree tree n) above has = λ t sizes f before s leaves sound tops_are right k.
@@ -135,7 +135,7 @@ module _ {N : Type 0} (nodes : Nodes N) (owns : GivesOwn {N = N} nodes) (over : 
         round_tells_tree nodes over t sizes f before s slab mid line leaves key e calls node pointer r
         (moves t r.node.stack (record { tops_are = tops_are; is = r.is; seated = r.seated }))
         (exchanged slab out mid key (with_ties {N = N} node e.ties) taken put) tree n (ap parent_of above) in
-        subst (λ (b : Slab (Entry N)). TreeHearsEarly {N = N} nodes t sizes f before now b (key ∷ line_now) leaves tree)
+        subst (λ (b : Slab (TiedNode N)). TreeHearsEarly {N = N} nodes t sizes f before now b (key ∷ line_now) leaves tree)
         (sym has.slab_same)
         (subst (λ (q : List ℕ). TreeHearsEarly {N = N} nodes t sizes f before now mid (key ∷ q) leaves tree) (sym has.line_same) told)
     tells_by (Node upper n) above has = λ t sizes f before s leaves sound tops_are right k.
@@ -177,7 +177,7 @@ module _ {N : Type 0} (nodes : Nodes N) (owns : GivesOwn {N = N} nodes) (over : 
         round_ends_tree nodes over t sizes f before s slab out (key ∷ line) leaves key e calls outcome r
         (moves t r.node.stack (record { tops_are = tops_are; is = r.is; seated = r.seated }))
         (λ a. finds t r.node.stack a r.is) taken sound line (queued_first key line) tree n (ap parent_of above) in
-        subst (λ (b : Slab (Entry N)). TreeHears {N = N} nodes t sizes f before now b line_now leaves tree outcome)
+        subst (λ (b : Slab (TiedNode N)). TreeHears {N = N} nodes t sizes f before now b line_now leaves tree outcome)
         (sym has.0.slab_same)
         (subst (λ (q : List ℕ). TreeHears {N = N} nodes t sizes f before now out q leaves tree outcome) (sym has.0.line_same) heard))
     ends_by (Node upper n) above step has = subst On (sym has.1.1) (λ t sizes f before s leaves sound tops_are right k.

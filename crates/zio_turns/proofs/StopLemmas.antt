@@ -12,7 +12,7 @@ use Rattle.zio_cksum.proofs.FrameLemmas.{same_then}
 use Rattle.zio_script.specs.declared.script.Failmode.{Failmode}
 use Rattle.zio_disks.specs.Disks.{Tell, TellOutside}
 use Rattle.zio_gang.specs.Attempts.{Terms}
-use Rattle.zio_groups.specs.declared.waiting.Waiting.{Waiting}
+use Rattle.zio_groups.specs.declared.waiting.QueuedOp.{QueuedOp}
 use Rattle.zio_groups.specs.Issued.{spot_of as spot_at, written_spots}
 use Rattle.zio_trace.specs.Families.{Forest}
 use Rattle.zio_trace.specs.Keys.{bit}
@@ -39,7 +39,7 @@ use Rattle.zio_turns.specs.Slabs.{shelf_of}
 use Rattle.zio_turns.specs.Stops.{IsStopped, IsTaken, StopsWith, TellStopped, TreesStopWith}
 use Rattle.zio_turns.specs.UnderTrees.{HasRun, RunsTrees}
 use Rattle.zio_turns.specs.UnderTurns.{IsGoingOn, RunsToTree}
-use Rattle.zio_turns.specs.declared.entry.Entry.{Entry}
+use Rattle.zio_turns.specs.declared.entry.TiedNode.{TiedNode}
 use Rattle.zio_turns.specs.declared.grounds.Grounds.{Grounds}
 use Rattle.zio_turns.specs.declared.hearing.Hearing.{Hearing}
 use Rattle.zio_turns.specs.declared.trees.TreeState.{TreeState}
@@ -58,11 +58,11 @@ wider small big old new all h = record {
 }
 
 -- this holds of the spots, where the first operation is one of those that write or not
-abbrev WithOne : (Spot → Type 0) → ℕ → Waiting → List Waiting → Bool → Type 0
-WithOne P leaf w ws b = AllByRecursion P (map (λ (x : Waiting). spot_at leaf x.op) (cond b (w ∷ filter (λ (x : Waiting). x.op.write) ws) (filter (λ (x : Waiting). x.op.write) ws)))
+abbrev WithOne : (Spot → Type 0) → ℕ → QueuedOp → List QueuedOp → Bool → Type 0
+WithOne P leaf w ws b = AllByRecursion P (map (λ (x : QueuedOp). spot_at leaf x.op) (cond b (w ∷ filter (λ (x : QueuedOp). x.op.write) ws) (filter (λ (x : QueuedOp). x.op.write) ws)))
 
 -- what holds of the spot of each operation that writes
-written_all : (P : Spot → Type 0) (leaf : ℕ) (ws : List Waiting) → AllByRecursion (λ (w : Waiting). w.op.write ≡ true → P (spot_at leaf w.op)) ws
+written_all : (P : Spot → Type 0) (leaf : ℕ) (ws : List QueuedOp) → AllByRecursion (λ (w : QueuedOp). w.op.write ≡ true → P (spot_at leaf w.op)) ws
     → AllByRecursion P (written_spots leaf ws)
 written_all P leaf [] h = tt
 written_all P leaf (w ∷ ws) h = one (written_all P leaf ws h.1) w.op.write refl
@@ -73,11 +73,11 @@ written_all P leaf (w ∷ ws) h = one (written_all P leaf ws h.1) w.op.write ref
 
 -- ---- keys
 
-waits_once : (ws : List Waiting) → AllByRecursion (λ (w : Waiting). 1 ≤ times_in (key_of w) (keys_in ws)) ws
+waits_once : (ws : List QueuedOp) → AllByRecursion (λ (w : QueuedOp). 1 ≤ times_in (key_of w) (keys_in ws)) ws
 waits_once [] = tt
 waits_once (w ∷ ws) = (
   (let itself = ap bit (number_itself (key_of w)) in omega arith),
-  all_weaker (λ (x : Waiting). 1 ≤ times_in (key_of x) (keys_in ws)) (λ (x : Waiting). 1 ≤ times_in (key_of x) (keys_in (w ∷ ws))) ws
+  all_weaker (λ (x : QueuedOp). 1 ≤ times_in (key_of x) (keys_in ws)) (λ (x : QueuedOp). 1 ≤ times_in (key_of x) (keys_in (w ∷ ws))) ws
       (λ x some. omega arith) (waits_once ws),
 )
 
@@ -92,7 +92,7 @@ matched nodes t tops lives shelf queue leaves key (Some x) None m some = absurd 
 matched nodes t tops lives shelf queue leaves key (Some x) (Some h) m some = (x, refl)
 
 module _ {N D : Type 0} (nodes : Nodes N) (bytes : D → ℕ) (image : D → List ℕ → Type 0) (t : Terms) (sizes : ℕ → ℕ) (f : Forest)
-    (before : Images) (s : SoFar) (slab : Slab (Entry N)) (line : List ℕ) (g : Grounds D) (sound : IsSoundRound t sizes f)
+    (before : Images) (s : SoFar) (slab : Slab (TiedNode N)) (line : List ℕ) (g : Grounds D) (sound : IsSoundRound t sizes f)
     (going : IsGoingOn {N = N} {D = D} nodes bytes image t sizes f (Some before) s slab line g) where
   abbrev still : StillKept {N = N} nodes t sizes f (Some before) s.trees s.tops going.keeps.lives (shelf_of {N = N} slab) line
       (keys_at g.queues.leaves.items) s.entries s.images
@@ -137,11 +137,11 @@ module _ {N D : Type 0} (nodes : Nodes N) (bytes : D → ℕ) (image : D → Lis
       (subst (λ (st : Stack). IsRunning t sizes f (Some before) s.trees (record { at = there.0.at; stack = st } ∷ all_flying s.tops front.others) later.state)
       is later.running) stored)
 
-  spot_same : (write retry : Bool) (spot : Spot) (leaf : ℕ) (w : Waiting) → IsOpAt write retry spot (keyed 0 w.op) leaf → spot_at leaf w.op ≡ spot
+  spot_same : (write retry : Bool) (spot : Spot) (leaf : ℕ) (w : QueuedOp) → IsOpAt write retry spot (keyed 0 w.op) leaf → spot_at leaf w.op ≡ spot
   spot_same write retry spot leaf w h = λ i. record { leaf = h.on i; at = h.at i; span = h.len i }
 
   -- so does what waits for it
-  one_writes : (leaf : ℕ) (w : Waiting) (act : LeafOp) → s.ops (key_of w) ≡ act → WaitsFor leaf act w
+  one_writes : (leaf : ℕ) (w : QueuedOp) (act : LeafOp) → s.ops (key_of w) ≡ act → WaitsFor leaf act w
       → 1 ≤ times_in (key_of w) (keys_at g.queues.leaves.items) → w.op.write ≡ true
       → Contains (spots_touched t f still.state.entries) (spot_at leaf w.op)
   one_writes leaf w (Fetch retry len spot) is waits some write = absurd (let no : true ≡ false = sym write ∙ waits.0.direction in cc)
@@ -151,15 +151,15 @@ module _ {N D : Type 0} (nodes : Nodes N) (bytes : D → ℕ) (image : D → Lis
 
   waits_write : (leaf : ℕ) → AllByRecursion (Contains (spots_touched t f still.state.entries)) (written_spots leaf (waiting_at g.queues.leaves.items leaf))
   waits_write leaf =
-      let ws : List Waiting = waiting_at g.queues.leaves.items leaf in
+      let ws : List QueuedOp = waiting_at g.queues.leaves.items leaf in
       written_all (Contains (spots_touched t f still.state.entries)) leaf ws
       (both ws (going.lent.waits leaf)
-      (all_weaker (λ (w : Waiting). 1 ≤ times_in (key_of w) (keys_in ws)) (λ (w : Waiting). 1 ≤ times_in (key_of w) (keys_at g.queues.leaves.items)) ws
+      (all_weaker (λ (w : QueuedOp). 1 ≤ times_in (key_of w) (keys_in ws)) (λ (w : QueuedOp). 1 ≤ times_in (key_of w) (keys_at g.queues.leaves.items)) ws
       (λ w some. (let most = times_one (key_of w) g.queues.leaves.items leaf in omega arith)) (waits_once ws)))
     where
-      both : (ws : List Waiting) → AllByRecursion (λ (w : Waiting). WaitsFor leaf (s.ops (key_of w)) w) ws
-          → AllByRecursion (λ (w : Waiting). 1 ≤ times_in (key_of w) (keys_at g.queues.leaves.items)) ws
-          → AllByRecursion (λ (w : Waiting). w.op.write ≡ true → Contains (spots_touched t f still.state.entries) (spot_at leaf w.op)) ws
+      both : (ws : List QueuedOp) → AllByRecursion (λ (w : QueuedOp). WaitsFor leaf (s.ops (key_of w)) w) ws
+          → AllByRecursion (λ (w : QueuedOp). 1 ≤ times_in (key_of w) (keys_at g.queues.leaves.items)) ws
+          → AllByRecursion (λ (w : QueuedOp). w.op.write ≡ true → Contains (spots_touched t f still.state.entries) (spot_at leaf w.op)) ws
       both [] h k = tt
       both (w ∷ ws) h k = (one_writes leaf w (s.ops (key_of w)) refl h.0 k.0, both ws h.1 k.1)
 
@@ -193,19 +193,19 @@ on_err (Ok x) h = tt
 on_err (Err e) h = h
 
 module _ {N D : Type 0} (nodes : Nodes N) (bytes : D → ℕ) (image : D → List ℕ → Type 0) where
-  pub same_stops : (slab : Slab (Entry N)) (line : List ℕ) (g : Grounds D) (disks : List D) → disks ≡ g.disks.items
+  pub same_stops : (slab : Slab (TiedNode N)) (line : List ℕ) (g : Grounds D) (disks : List D) → disks ≡ g.disks.items
       → StopsWith {N = N} {D = D} nodes bytes image slab line g disks
   same_stops slab line g disks same = λ t sizes f before s sound going.
       stops_here nodes bytes image t sizes f before s slab line g sound going disks same
 
-  pub leaf_stops : (slab : Slab (Entry N)) (line : List ℕ) (g : Grounds D) (disks : List D) (leaf : ℕ)
+  pub leaf_stops : (slab : Slab (TiedNode N)) (line : List ℕ) (g : Grounds D) (disks : List D) (leaf : ℕ)
       → TellOutside {D = D} image (written_spots leaf (waiting_at g.queues.leaves.items leaf)) g.disks.items disks
       → StopsWith {N = N} {D = D} nodes bytes image slab line g disks
   leaf_stops slab line g disks leaf outside = λ t sizes f before s sound going.
       stops_at_leaf nodes bytes image t sizes f before s slab line g sound going disks leaf outside
 
   -- from the first, where the round went on to these
-  pub run_stops : (first slab : Slab (Entry N)) (first_line line : List ℕ) (lent g : Grounds D) (disks : List D)
+  pub run_stops : (first slab : Slab (TiedNode N)) (first_line line : List ℕ) (lent g : Grounds D) (disks : List D)
       → ((t : Terms) (sizes : ℕ → ℕ) (f : Forest) (before : Before) (s : SoFar) → IsSoundRound t sizes f
       → IsGoingOn {N = N} {D = D} nodes bytes image t sizes f before s first first_line lent
       → (now : SoFar) × IsGoingOn {N = N} {D = D} nodes bytes image t sizes f before now slab line g)
@@ -215,7 +215,7 @@ module _ {N D : Type 0} (nodes : Nodes N) (bytes : D → ℕ) (image : D → Lis
       stops t sizes f before so_far.0 sound so_far.1
 
   -- a tree heard of its attempt, and nothing more was done
-  pub heard_stops : (slab slab_now : Slab (Entry N)) (line line_now : List ℕ) (g g_now : Grounds D) (ended ended_now : List Finished)
+  pub heard_stops : (slab slab_now : Slab (TiedNode N)) (line line_now : List ℕ) (g g_now : Grounds D) (ended ended_now : List Finished)
       (heard : Hearing) → RunsToTree {N = N} {D = D} nodes bytes image slab line g ended slab_now line_now g_now ended_now (Some heard)
       → StopsWith {N = N} {D = D} nodes bytes image slab line g g_now.disks.items
   heard_stops slab slab_now line line_now g g_now ended ended_now heard to_tree = λ t sizes f before s sound going.
@@ -225,7 +225,7 @@ module _ {N D : Type 0} (nodes : Nodes N) (bytes : D → ℕ) (image : D → Lis
       slab_now line_now g_now sound e.going g_now.disks.items refl
 
   -- from the first, where the trees ran to these
-  pub trees_stop : (first slab : Slab (Entry N)) (first_line line : List ℕ) (lent g : Grounds D) (round : ℕ) (failmode : Failmode)
+  pub trees_stop : (first slab : Slab (TiedNode N)) (first_line line : List ℕ) (lent g : Grounds D) (round : ℕ) (failmode : Failmode)
       (begun states : List TreeState) (ended now : List Finished) (disks : List D)
       → ((t : Terms) (sizes : ℕ → ℕ) (f : Forest) (before : Before) (s : SoFar)
       → RunsTrees {N = N} {D = D} nodes bytes image t sizes f before s first first_line lent round failmode begun

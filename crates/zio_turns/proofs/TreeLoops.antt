@@ -19,7 +19,7 @@ use Rattle.zio_frames.proofs.GetLemmas.{get_other, get_set, same_or_not}
 use Rattle.zio_stages.specs.Outcomes.{IsOutcome}
 use Rattle.zio_stages.specs.declared.outcome.Finished.{Finished}
 use Rattle.zio_stages.specs.declared.outcome.Outcome.{Outcome}
-use Rattle.zio_stages.specs.declared.waiting.Waiting.{Waiting}
+use Rattle.zio_stages.specs.declared.waiting.UnfinishedRequest.{UnfinishedRequest}
 use Rattle.zio_stages.specs.declared.outcome.Outcome.TheVariants.{Again, Finished as HasFinished, Found, Stored, Walked}
 use Rattle.slab.specs.Slab.{Slab}
 use Rattle.zio_turns.specs.Attempting.{Course, IsAttempting, attempt_of, rest_of, settled_with}
@@ -32,7 +32,7 @@ use Rattle.zio_turns.specs.Rounds.{Before, EndsAs, SoFar, finished_in, with_done
 use Rattle.zio_turns.specs.Slabs.{AreAll, shelf_of}
 use Rattle.zio_turns.specs.UnderTrees.{AfterHearing, AreInStates, AreSettledWith, HasHeardOf, HasRun, IsInState, IsLeftOf, IsOfAttempt, IsOver, IsSettledWith, RunsSome, RunsToEnd, RunsTrees, StateIn, TreeGoesOn, attempts_left, with_value}
 use Rattle.zio_turns.specs.UnderTurns.{AreTold, EndsFinished, GoesOnSome, HasEndedFor, IsTelling, RunsToTree, Telling, with_telling}
-use Rattle.zio_turns.specs.declared.entry.Entry.{Entry}
+use Rattle.zio_turns.specs.declared.entry.TiedNode.{TiedNode}
 use Rattle.zio_turns.specs.declared.grounds.Grounds.{Grounds}
 use Rattle.zio_turns.specs.declared.hearing.Hearing.{Hearing}
 use Rattle.zio_turns.specs.declared.trees.TreeEnd.{TreeEnd}
@@ -46,7 +46,7 @@ use Rattle.zio_turns.proofs.Tops.{stand_slot, top_other, top_set}
 use Rattle.zio_turns.proofs.TurnMoves.{told_append}
 
 -- what is suspended of one more tree is so
-pub all_in : (Q : List Waiting → Type 0) (states : List TreeState) (n : ℕ) (x : TreeState) → StateIn Q x
+pub all_in : (Q : List UnfinishedRequest → Type 0) (states : List TreeState) (n : ℕ) (x : TreeState) → StateIn Q x
     → AllByRecursion (StateIn Q) states → AllByRecursion (StateIn Q) (slice_set states n x)
 all_in Q [] n x is all = tt
 all_in Q (y ∷ ys) zero x is all = (is, all.1)
@@ -295,18 +295,18 @@ nothing_flies : (key : ℕ) (x : Flying) → flying_at [] key ≡ Some x → ⊥
 nothing_flies key x e = cc
 
 module _ {N D : Type 0} (nodes : Nodes N) (over : List Top → N → Type 0) (bytes faults : D → ℕ) (image : D → List ℕ → Type 0)
-    (first : Slab (Entry N)) (first_line : List ℕ) (lent : Grounds D) (round : ℕ) (failmode : Failmode) (begun : List TreeState)
+    (first : Slab (TiedNode N)) (first_line : List ℕ) (lent : Grounds D) (round : ℕ) (failmode : Failmode) (begun : List TreeState)
     (ended : List Finished) where
-  abbrev Runs : Terms → (ℕ → ℕ) → Forest → Before → SoFar → Slab (Entry N) → List ℕ → Grounds D → List TreeState → Type 0
+  abbrev Runs : Terms → (ℕ → ℕ) → Forest → Before → SoFar → Slab (TiedNode N) → List ℕ → Grounds D → List TreeState → Type 0
   Runs t sizes f before s slab line g states =
       RunsTrees {N = N} {D = D} nodes bytes image t sizes f before s slab line g round failmode states
 
-  abbrev Ran : Terms → (ℕ → ℕ) → Forest → Before → SoFar → Slab (Entry N) → List ℕ → Grounds D → List TreeState → List Finished
+  abbrev Ran : Terms → (ℕ → ℕ) → Forest → Before → SoFar → Slab (TiedNode N) → List ℕ → Grounds D → List TreeState → List Finished
       → Type 0
   Ran t sizes f before s slab line g states now =
       HasRun {N = N} {D = D} nodes bytes image t sizes f before s slab line g round failmode states ended now
 
-  pub record IsRunningTrees (slab : Slab (Entry N)) (line : List ℕ) (g : Grounds D) (states : List TreeState)
+  pub record IsRunningTrees (slab : Slab (TiedNode N)) (line : List ℕ) (g : Grounds D) (states : List TreeState)
       (now : List Finished) : Type 0 where
     pub gone : (t : Terms) (sizes : ℕ → ℕ) (f : Forest) (before : Before) (s : SoFar)
         → Runs t sizes f before s first first_line lent begun → Ran t sizes f before s slab line g states now
@@ -335,7 +335,7 @@ module _ {N D : Type 0} (nodes : Nodes N) (over : List Top → N → Type 0) (by
     setting_same = refl;
   }
 
-  module _ (slab slab_mid slab_now : Slab (Entry N)) (line line_mid line_now : List ℕ) (g g_now : Grounds D) (states : List TreeState)
+  module _ (slab slab_mid slab_now : Slab (TiedNode N)) (line line_mid line_now : List ℕ) (g g_now : Grounds D) (states : List TreeState)
       (now later : List Finished) (h : IsRunningTrees slab line g states now) where
     pub trees_some : RunsSome {N = N} {D = D} nodes bytes image first first_line lent round failmode begun
         → GoesOnSome {N = N} {D = D} nodes bytes image slab line g

@@ -13,7 +13,7 @@ use Rattle.zio_stages.specs.Outcomes.{IsFinishedAs, IsLeftAs, IsOutcome}
 use Rattle.zio_stages.specs.Wholes.{IsTreeOf, IsWhole}
 use Rattle.zio_stages.specs.declared.outcome.Finished.{Finished}
 use Rattle.zio_stages.specs.declared.outcome.Outcome.TheVariants.{Again, Finished as HasFinished}
-use Rattle.zio_stages.specs.declared.waiting.Waiting.{Waiting}
+use Rattle.zio_stages.specs.declared.waiting.UnfinishedRequest.{UnfinishedRequest}
 use Rattle.zio_stages.proofs.ForestLemmas.{one_forest}
 use Rattle.slab.specs.Slab.{Slab}
 use Rattle.zio_turns.specs.Attempting.{Course, IsSettle, again_with, attempt_of, settled_with}
@@ -22,7 +22,7 @@ use Rattle.zio_turns.specs.Parts.{Nodes, ended_in}
 use Rattle.zio_turns.specs.Rounds.{Before, HandsOut, KeepsRound, SoFar}
 use Rattle.zio_turns.specs.Slabs.{shelf_of}
 use Rattle.zio_turns.specs.UnderTrees.{BeginsOn, TreeGoesOn, with_value}
-use Rattle.zio_turns.specs.declared.entry.Entry.{Entry}
+use Rattle.zio_turns.specs.declared.entry.TiedNode.{TiedNode}
 use Rattle.zio_turns.specs.declared.trees.TreeEnd.TheVariants.{Finished as RootFinished, Suspended}
 use Rattle.zio_turns.proofs.AttemptMoves.{course_asks, course_handed, goes_again, settled_last, settled_now}
 use Rattle.zio_turns.proofs.LedgerMoves.{ledger_settles}
@@ -45,9 +45,9 @@ some_more : (n : ℕ) → 0 < n → (m : ℕ) × (n ≡ suc m)
 some_more zero h = absurd (omega arith)
 some_more (suc m) h = (m, refl)
 
-module _ {N : Type 0} (nodes : Nodes N) (slab slab_now : Slab (Entry N)) (line line_now : List ℕ) (round : ℕ) (failmode : Failmode)
+module _ {N : Type 0} (nodes : Nodes N) (slab slab_now : Slab (TiedNode N)) (line line_now : List ℕ) (round : ℕ) (failmode : Failmode)
     (tree attempt : ℕ) where
-  pub attempt_begins : (whole : List Waiting) (node : N) → HandsOut {N = N} nodes slab line slab_now line_now tree attempt node
+  pub attempt_begins : (whole : List UnfinishedRequest) (node : N) → HandsOut {N = N} nodes slab line slab_now line_now tree attempt node
       → ((t : Terms) (p : Pending) (forest : Forest) → t.round ≡ round → t.failmode ≡ failmode → IsTreeOf whole p forest
       → nodes.Is t node (fresh_stack (Attempt attempt p forest))) → nodes.told node ≡ false → nodes.gave node ≡ []
       → BeginsOn {N = N} nodes slab line slab_now line_now round failmode tree attempt whole
@@ -93,13 +93,13 @@ module _ {N : Type 0} (nodes : Nodes N) (slab slab_now : Slab (Entry N)) (line l
             (h.ends (settled_with c one) (settled_now c one (ap now_alone as_one.by.same_bits))) h.ended_are;
       }
 
-  left_one : (t : Terms) (c : Course) (whole : List Waiting) (bits : Bits) (pointer : Option Bp) (one : One)
+  left_one : (t : Terms) (c : Course) (whole : List UnfinishedRequest) (bits : Bits) (pointer : Option Bp) (one : One)
       → IsOutcome t (attempt_of c) (Again whole bits pointer) (AttemptedBy one) → IsLeftAs whole bits pointer one
   left_one t c whole bits pointer one shows =
       subst (IsLeftAs whole bits pointer) (sym (same_one one shows.1.0 shows.1.1)) shows.1.2
 
   -- it doesn't go again at once
-  pub tree_waits : (whole : List Waiting) (bits : Bits) (pointer : Option Bp) → now_alone bits ≡ false
+  pub tree_waits : (whole : List UnfinishedRequest) (bits : Bits) (pointer : Option Bp) → now_alone bits ≡ false
       → TreeGoesOn {N = N} nodes slab line slab line round failmode tree attempt (Again whole bits pointer) (Some (Suspended whole))
   tree_waits whole bits pointer alone = λ t sizes f before s leaves top c one sound same_round same_mode k there number few h.
       let left : IsLeftAs whole bits pointer one = left_one t c whole bits pointer one h.shows in
@@ -110,7 +110,7 @@ module _ {N : Type 0} (nodes : Nodes N) (slab slab_now : Slab (Entry N)) (line l
       }
 
   -- it went again as often as it may
-  pub tree_went : (whole : List Waiting) (bits : Bits) (pointer : Option Bp) → 3 ≤ attempt
+  pub tree_went : (whole : List UnfinishedRequest) (bits : Bits) (pointer : Option Bp) → 3 ≤ attempt
       → TreeGoesOn {N = N} nodes slab line slab line round failmode tree attempt (Again whole bits pointer) (Some (Suspended whole))
   tree_went whole bits pointer often = λ t sizes f before s leaves top c one sound same_round same_mode k there number few h.
       let left : IsLeftAs whole bits pointer one = left_one t c whole bits pointer one h.shows in
@@ -122,7 +122,7 @@ module _ {N : Type 0} (nodes : Nodes N) (slab slab_now : Slab (Entry N)) (line l
       }
 
   -- its next attempt begins
-  pub tree_again : (whole : List Waiting) (bits : Bits) (pointer : Option Bp) → now_alone bits ≡ true → attempt < 3 → IsWhole whole
+  pub tree_again : (whole : List UnfinishedRequest) (bits : Bits) (pointer : Option Bp) → now_alone bits ≡ true → attempt < 3 → IsWhole whole
       → BeginsOn {N = N} nodes slab line slab_now line_now round failmode tree (attempt + 1) whole
       → TreeGoesOn {N = N} nodes slab line slab_now line_now round failmode tree attempt (Again whole bits pointer) None
   tree_again whole bits pointer alone seldom w begins =

@@ -21,7 +21,7 @@ use Rattle.zio_turns.specs.Rounds.{Before, IsTurn, SoFar, StepsOn}
 use Rattle.zio_turns.specs.Slabs.{AreAll, load}
 use Rattle.zio_turns.specs.UnderTurns.{AreSameGrounds, GoesOnSome, HasTurned, IsGoingOn, TurnsOn, work_left}
 use Rattle.zio_turns.specs.declared.desk.Desk.{Desk}
-use Rattle.zio_turns.specs.declared.entry.Entry.{Entry}
+use Rattle.zio_turns.specs.declared.entry.TiedNode.{TiedNode}
 use Rattle.zio_turns.specs.declared.grounds.Grounds.{Grounds}
 use Rattle.zio_turns.specs.declared.step.Step.{Step}
 use Rattle.zio_turns.specs.declared.step.Step.TheVariants.{Ended, Goes, Leaf as ToLeaf, Rests, Root, Told}
@@ -30,9 +30,9 @@ use Rattle.zio_turns.proofs.KeyLengths.{length_more}
 use Rattle.zio_turns.proofs.TurnMoves.{TakesIt, gone_nowhere, leaf_takes, none_waits, turn_ends, turn_finishes, turn_goes, turn_leaves, turn_rests, turn_roots, turn_told}
 
 module _ {N D : Type 0} (nodes : Nodes N) (over : List Top → N → Type 0) (bytes : D → ℕ) (image : D → List ℕ → Type 0)
-    (first : Slab (Entry N)) (first_line : List ℕ) (lent : Grounds D) (key : ℕ) where
+    (first : Slab (TiedNode N)) (first_line : List ℕ) (lent : Grounds D) (key : ℕ) where
   -- each sound round that went on when the turn began goes on, with the key in front
-  pub record IsTurning (slab : Slab (Entry N)) (line : List ℕ) (g : Grounds D) : Type 0 where
+  pub record IsTurning (slab : Slab (TiedNode N)) (line : List ℕ) (g : Grounds D) : Type 0 where
     pub gone : (t : Terms) (sizes : ℕ → ℕ) (f : Forest) (before : Before) (s : SoFar) → IsSoundRound t sizes f
         → IsGoingOn {N = N} {D = D} nodes bytes image t sizes f before s first (key ∷ first_line) lent
         → HasTurned {N = N} {D = D} nodes bytes image t sizes f before s [] slab (key ∷ line) g
@@ -50,7 +50,7 @@ module _ {N D : Type 0} (nodes : Nodes N) (over : List Top → N → Type 0) (by
     less = omega arith;
   }
 
-  module _ (slab : Slab (Entry N)) (line : List ℕ) (g : Grounds D) (h : IsTurning slab line g)
+  module _ (slab : Slab (TiedNode N)) (line : List ℕ) (g : Grounds D) (h : IsTurning slab line g)
       (some : GoesOnSome {N = N} {D = D} nodes bytes image first (key ∷ first_line) lent) where
     abbrev so_far : HasTurned {N = N} {D = D} nodes bytes image some.terms some.sizes some.forest some.before some.so_far [] slab
         (key ∷ line) g
@@ -72,7 +72,7 @@ module _ {N D : Type 0} (nodes : Nodes N) (over : List Top → N → Type 0) (by
       over_all = h.over_all;
     }
 
-    module _ (slab_now : Slab (Entry N)) (line_now : List ℕ) (d : Desk) (calls : List SpaceCall)
+    module _ (slab_now : Slab (TiedNode N)) (line_now : List ℕ) (d : Desk) (calls : List SpaceCall)
         (served : AreServed calls g.desk.space d.space g.desk.asked d.asked) (last : GivesLast calls) (tops_same : d.tops ≡ g.desk.tops) where
       abbrev On : Step → Type 0
       On step = StepsOn {N = N} nodes g.desk.tops calls slab line slab_now line_now key step

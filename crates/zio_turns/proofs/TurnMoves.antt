@@ -21,7 +21,7 @@ use Rattle.zio_frames.proofs.GetLemmas.{same_or_not}
 use Rattle.zio_vqueue.specs.declared.op.Op.{Op}
 use Rattle.zio_vqueue.specs.Queues.{FitsDevice, end_of}
 use Rattle.zio_cksum.proofs.AllLemmas.{all_append}
-use Rattle.zio_groups.specs.declared.waiting.Waiting.{Waiting}
+use Rattle.zio_groups.specs.declared.waiting.QueuedOp.{QueuedOp}
 use Rattle.zio_groups.specs.LeafQueues.{Waits}
 use Rattle.zio_stages.specs.LeafWorks.{IsOpFor}
 use Rattle.zio_stages.specs.SpaceCalls.{SpaceCall}
@@ -40,7 +40,7 @@ use Rattle.zio_turns.specs.Rounds.{AfterStep, Before, EndsAs, SoFar, StepsOn, fi
 use Rattle.zio_turns.specs.Slabs.{held_of, shelf_of}
 use Rattle.zio_turns.specs.UnderTurns.{AreLent, AreTold, EndsFinished, FitDisks, HasEndedFor, HasGoneOn, HasTurned, IsTelling, Telling, TellNow, with_telling}
 use Rattle.zio_turns.specs.declared.desk.Desk.{Desk}
-use Rattle.zio_turns.specs.declared.entry.Entry.{Entry}
+use Rattle.zio_turns.specs.declared.entry.TiedNode.{TiedNode}
 use Rattle.zio_turns.specs.declared.grounds.Grounds.{Grounds}
 use Rattle.zio_turns.specs.declared.step.Step.{Step}
 use Rattle.zio_turns.specs.declared.step.Step.TheVariants.{Ended, Goes, Leaf as ToLeaf, Rests, Root, Told}
@@ -164,43 +164,43 @@ gone_done s now xs ys more told h = record {
 other_ops : (key k : ℕ) (act : LeafOp) (ops : ℕ → LeafOp) → k ≢ key → op_set ops key act k ≡ ops k
 other_ops key k act ops n = ap (λ (b : Bool). cond b act (ops k)) (number_other key k (λ i. n (sym i)))
 
-none_has : (key : ℕ) (w : Waiting) (ws : List Waiting) → times_in key (keys_in (w ∷ ws)) ≡ 0 → key_of w ≢ key
+none_has : (key : ℕ) (w : QueuedOp) (ws : List QueuedOp) → times_in key (keys_in (w ∷ ws)) ≡ 0 → key_of w ≢ key
 none_has key w ws none same =
     let one : bit (same_number (key_of w) key) ≡ 1 =
     ap (λ (k : ℕ). bit (same_number k key)) same ∙ ap bit (number_itself key) in
     absurd (omega arith)
 
-others_wait : (leaf key : ℕ) (act : LeafOp) (ops : ℕ → LeafOp) (ws : List Waiting) → times_in key (keys_in ws) ≡ 0
-    → AllByRecursion (λ (w : Waiting). WaitsFor leaf (ops (key_of w)) w) ws
-    → AllByRecursion (λ (w : Waiting). WaitsFor leaf (op_set ops key act (key_of w)) w) ws
+others_wait : (leaf key : ℕ) (act : LeafOp) (ops : ℕ → LeafOp) (ws : List QueuedOp) → times_in key (keys_in ws) ≡ 0
+    → AllByRecursion (λ (w : QueuedOp). WaitsFor leaf (ops (key_of w)) w) ws
+    → AllByRecursion (λ (w : QueuedOp). WaitsFor leaf (op_set ops key act (key_of w)) w) ws
 others_wait leaf key act ops [] none h = tt
 others_wait leaf key act ops (w ∷ ws) none h = (
   subst (λ (a : LeafOp). WaitsFor leaf a w) (sym (other_ops key (key_of w) act ops (none_has key w ws none))) h.0,
   others_wait leaf key act ops ws (omega arith) h.1,
 )
 
-waits_put : (key leaf : ℕ) (act : LeafOp) (ops : ℕ → LeafOp) (w : Waiting) (old new : List Waits) → IsPut leaf w old new
+waits_put : (key leaf : ℕ) (act : LeafOp) (ops : ℕ → LeafOp) (w : QueuedOp) (old new : List Waits) → IsPut leaf w old new
     → key_of w ≡ key → times_in key (keys_at old) ≡ 0 → WaitsFor leaf act w
     → AllWait (λ at v. WaitsFor at (ops (key_of v)) v) old
     → AllWait (λ at v. WaitsFor at (op_set ops key act (key_of v)) v) new
 waits_put key leaf act ops w old new put own none waits all = λ at. by at (same_or_not at leaf)
   where
-    kept : (at : ℕ) → AllByRecursion (λ (v : Waiting). WaitsFor at (op_set ops key act (key_of v)) v) (waiting_at old at)
+    kept : (at : ℕ) → AllByRecursion (λ (v : QueuedOp). WaitsFor at (op_set ops key act (key_of v)) v) (waiting_at old at)
     kept at = others_wait at key act ops (waiting_at old at) (omega (arith, none, times_one key old at)) (all at)
 
     its_own : op_set ops key act (key_of w) ≡ act
     its_own = ap (op_set ops key act) own ∙ ap (λ (b : Bool). cond b act (ops key)) (number_itself key)
 
     by : (at : ℕ) → (at ≡ leaf) ⊎ (at ≢ leaf)
-        → AllByRecursion (λ (v : Waiting). WaitsFor at (op_set ops key act (key_of v)) v) (waiting_at new at)
+        → AllByRecursion (λ (v : QueuedOp). WaitsFor at (op_set ops key act (key_of v)) v) (waiting_at new at)
     by at (inl i) =
-        subst (λ (n : ℕ). AllByRecursion (λ (v : Waiting). WaitsFor n (op_set ops key act (key_of v)) v) (waiting_at new n)) (sym i)
-        (subst (λ (ws : List Waiting). AllByRecursion (λ (v : Waiting). WaitsFor leaf (op_set ops key act (key_of v)) v) ws)
+        subst (λ (n : ℕ). AllByRecursion (λ (v : QueuedOp). WaitsFor n (op_set ops key act (key_of v)) v) (waiting_at new n)) (sym i)
+        (subst (λ (ws : List QueuedOp). AllByRecursion (λ (v : QueuedOp). WaitsFor leaf (op_set ops key act (key_of v)) v) ws)
         (sym put.here)
-        (all_append (λ (v : Waiting). WaitsFor leaf (op_set ops key act (key_of v)) v) (waiting_at old leaf) (w ∷ []) (kept leaf)
+        (all_append (λ (v : QueuedOp). WaitsFor leaf (op_set ops key act (key_of v)) v) (waiting_at old leaf) (w ∷ []) (kept leaf)
         (subst (λ (a : LeafOp). WaitsFor leaf a w) (sym its_own) waits, tt)))
     by at (inr n) =
-        subst (λ (ws : List Waiting). AllByRecursion (λ (v : Waiting). WaitsFor at (op_set ops key act (key_of v)) v) ws)
+        subst (λ (ws : List QueuedOp). AllByRecursion (λ (v : QueuedOp). WaitsFor at (op_set ops key act (key_of v)) v) ws)
         (sym (put.others at n)) (kept at)
 
 module _ {D : Type 0} (bytes : D → ℕ) (image : D → List ℕ → Type 0) (t : Terms) (sizes : ℕ → ℕ) (before : Before)
@@ -222,7 +222,7 @@ module _ {D : Type 0} (bytes : D → ℕ) (image : D → List ℕ → Type 0) (t
   }
 
   -- one operation more is at a leaf
-  pub lent_put : (now : Grounds D) (key leaf : ℕ) (act : LeafOp) (w : Waiting) → Lent entries claimed back ops g
+  pub lent_put : (now : Grounds D) (key leaf : ℕ) (act : LeafOp) (w : QueuedOp) → Lent entries claimed back ops g
       → IsPut leaf w g.queues.leaves.items now.queues.leaves.items → key_of w ≡ key
       → times_in key (keys_at g.queues.leaves.items) ≡ 0 → WaitsFor leaf act w
       → AreReady now.setting.rows (map bytes now.disks.items) now.queues.leaves.items → now.setting ≡ g.setting
@@ -263,7 +263,7 @@ on_some_disk bytes (d ∷ ds) (suc leaf) h same = let rest : leaf < length ds = 
 -- ---- one step
 
 module _ {N D : Type 0} (nodes : Nodes N) (bytes : D → ℕ) (image : D → List ℕ → Type 0) (t : Terms) (sizes : ℕ → ℕ) (f : Forest)
-    (before : Before) (was : SoFar) (slab slab_now : Slab (Entry N)) (line line_now : List ℕ) (key : ℕ) (g : Grounds D) (d : Desk)
+    (before : Before) (was : SoFar) (slab slab_now : Slab (TiedNode N)) (line line_now : List ℕ) (key : ℕ) (g : Grounds D) (d : Desk)
     (calls : List SpaceCall) (sound : IsSoundRound t sizes f)
     (h : HasTurned {N = N} {D = D} nodes bytes image t sizes f before was [] slab (key ∷ line) g)
     (served : AreServed calls g.desk.space d.space g.desk.asked d.asked) (last : GivesLast calls) (tops_same : d.tops ≡ g.desk.tops) where
@@ -273,7 +273,7 @@ module _ {N D : Type 0} (nodes : Nodes N) (bytes : D → ℕ) (image : D → Lis
   abbrev With : Grounds D
   With = record g { desk = d }
 
-  abbrev Turned : Slab (Entry N) → List ℕ → Grounds D → Type 0
+  abbrev Turned : Slab (TiedNode N) → List ℕ → Grounds D → Type 0
   Turned slab_then line_then g_then = HasTurned {N = N} {D = D} nodes bytes image t sizes f before was [] slab_then line_then g_then
 
   serves : ServesOn t h.now.entries h.now.books.claimed h.now.books.back g.desk.tops d.space calls d.asked

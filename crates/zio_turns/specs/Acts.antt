@@ -16,11 +16,11 @@ use Rattle.zio_frames.specs.Moves.{heard_early, heard_of}
 use Rattle.zio_stages.specs.declared.outcome.Finished.{Finished}
 use Rattle.zio_stages.specs.declared.outcome.Outcome.{Outcome}
 use Rattle.zio_stages.specs.declared.outcome.Outcome.TheVariants.{Finished as HasFinished}
-use Rattle.zio_stages.specs.declared.waiting.Waiting.{Waiting}
+use Rattle.zio_stages.specs.declared.waiting.UnfinishedRequest.{UnfinishedRequest}
 use Rattle.slab.specs.Slab.{Slab, Updates, get}
 use Rattle.zio_turns.specs.Parts.{Nodes}
 use Rattle.zio_turns.specs.Stages.{Hears, HearsEarly, HearsSome, HearsSomeEarly, OutcomeIn, heard_max}
-use Rattle.zio_turns.specs.declared.entry.Entry.{Entry}
+use Rattle.zio_turns.specs.declared.entry.TiedNode.{TiedNode}
 use Rattle.zio_turns.specs.declared.entry.Parent.{Parent as Above}
 use Rattle.zio_turns.specs.declared.entry.Parent.TheVariants.{Tree, Node}
 use Rattle.zio_turns.specs.declared.entry.Ties.{Ties}
@@ -40,22 +40,22 @@ new_ties kind parent = record { kind = kind; parent = parent; counts = tally_of 
 abbrev pub one_more : ChildKind → Ties → Ties
 one_more kind ties = record { kind = ties.kind; parent = ties.parent; counts = raised kind ties.counts; children = ties.children + 1 }
 
-abbrev pub with_ties : {N : Type 0} → N → Ties → Entry N
+abbrev pub with_ties : {N : Type 0} → N → Ties → TiedNode N
 with_ties node ties = record { node = node; ties = ties }
 
 -- ---- it waits, or hands out a child
 
 -- the key isn't queued exactly where it stalls on a count
-pub record HasWaited {N : Type 0} (slab : Slab (Entry N)) (line : List ℕ) (slab_now : Slab (Entry N)) (line_now : List ℕ) (key : ℕ)
-    (e : Entry N) (kind : ChildKind) (phase : Phase) : Type 0 where
+pub record HasWaited {N : Type 0} (slab : Slab (TiedNode N)) (line : List ℕ) (slab_now : Slab (TiedNode N)) (line_now : List ℕ) (key : ℕ)
+    (e : TiedNode N) (kind : ChildKind) (phase : Phase) : Type 0 where
   pub put : Updates slab slab_now key
       (Some (with_ties {N = N} e.node (counting e.ties (stalled (first_counted (kind ∷ []) phase e.ties.counts) e.ties.counts))))
   pub queued : line_now ≡ cond (is_some (first_counted (kind ∷ []) phase e.ties.counts)) line (line ++ key ∷ [])
 
 -- the child has a key of its own, and both are queued, the child first
-pub record HasGrown {N : Type 0} (slab : Slab (Entry N)) (line : List ℕ) (slab_now : Slab (Entry N)) (line_now : List ℕ) (key : ℕ)
-    (e : Entry N) (child : N) (kind : ChildKind) : Type 0 where
-  pub mid : Slab (Entry N)
+pub record HasGrown {N : Type 0} (slab : Slab (TiedNode N)) (line : List ℕ) (slab_now : Slab (TiedNode N)) (line_now : List ℕ) (key : ℕ)
+    (e : TiedNode N) (child : N) (kind : ChildKind) : Type 0 where
+  pub mid : Slab (TiedNode N)
   pub at : ℕ
   pub room : counted kind Done e.ties.counts < count_end
   pub put : Updates slab mid key (Some (with_ties {N = N} e.node (one_more kind e.ties)))
@@ -66,39 +66,39 @@ pub record HasGrown {N : Type 0} (slab : Slab (Entry N)) (line : List ℕ) (slab
 -- ---- a parent hears
 
 -- a node is held there which can hear that its child of this number tells a pointer, or is ended with this
-pub record AwaitsReady {N : Type 0} (nodes : Nodes N) (slab : Slab (Entry N)) (kind : ChildKind) (key child : ℕ) : Type 0 where
-  pub entry : Entry N
+pub record AwaitsReady {N : Type 0} (nodes : Nodes N) (slab : Slab (TiedNode N)) (kind : ChildKind) (key child : ℕ) : Type 0 where
+  pub entry : TiedNode N
   pub there : get slab key ≡ Some entry
   pub hears : HearsSomeEarly {N = N} nodes entry.node child
   pub owed : 0 < counted kind Ready entry.ties.counts
 
-pub record AwaitsEnd {N : Type 0} (nodes : Nodes N) (over : List Top → N → Type 0) (tops : List Top) (slab : Slab (Entry N))
+pub record AwaitsEnd {N : Type 0} (nodes : Nodes N) (over : List Top → N → Type 0) (tops : List Top) (slab : Slab (TiedNode N))
     (kind : ChildKind) (key child : ℕ) (outcome : Outcome) : Type 0 where
-  pub entry : Entry N
+  pub entry : TiedNode N
   pub there : get slab key ≡ Some entry
   pub inside : over tops entry.node
   pub hears : HearsSome {N = N} nodes tops entry.node child outcome
   pub owed : 0 < counted kind Done entry.ties.counts
 
-abbrev pub CanTell : {N : Type 0} → Nodes N → Slab (Entry N) → ChildKind → Above → Type 0
+abbrev pub CanTell : {N : Type 0} → Nodes N → Slab (TiedNode N) → ChildKind → Above → Type 0
 CanTell nodes slab kind (Tree tree child) = Unit {0}
 CanTell {N = N} nodes slab kind (Node key child) = AwaitsReady {N = N} nodes slab kind key child
 
-abbrev pub CanEnd : {N : Type 0} → Nodes N → (List Top → N → Type 0) → List Top → Slab (Entry N) → ChildKind → Above → Outcome → Type 0
+abbrev pub CanEnd : {N : Type 0} → Nodes N → (List Top → N → Type 0) → List Top → Slab (TiedNode N) → ChildKind → Above → Outcome → Type 0
 CanEnd nodes over tops slab kind (Tree tree child) outcome = Unit {0}
 CanEnd {N = N} nodes over tops slab kind (Node key child) outcome = AwaitsEnd {N = N} nodes over tops slab kind key child outcome
 
 -- the node is under the key, with one child's mark in its counts, and the key is queued exactly where it waited for this alone
-pub record HasCounted {N : Type 0} (slab : Slab (Entry N)) (line : List ℕ) (slab_now : Slab (Entry N)) (line_now : List ℕ)
-    (key : ℕ) (e : Entry N) (kind : ChildKind) (phase : Phase) (error : Option Errno) (bits : Bits) : Type 0 where
+pub record HasCounted {N : Type 0} (slab : Slab (TiedNode N)) (line : List ℕ) (slab_now : Slab (TiedNode N)) (line_now : List ℕ)
+    (key : ℕ) (e : TiedNode N) (kind : ChildKind) (phase : Phase) (error : Option Errno) (bits : Bits) : Type 0 where
   pub put : Updates slab slab_now key
       (Some (with_ties {N = N} e.node (counting e.ties (notified kind phase error bits e.ties.counts))))
   pub queued : line_now ≡ cond (is_last kind phase e.ties.counts) (line ++ key ∷ []) line
 
 -- the node there is this one now, and its key is queued exactly where it waited for this alone
-pub record HasHeard {N : Type 0} (nodes : Nodes N) (slab : Slab (Entry N)) (line : List ℕ) (slab_now : Slab (Entry N))
+pub record HasHeard {N : Type 0} (nodes : Nodes N) (slab : Slab (TiedNode N)) (line : List ℕ) (slab_now : Slab (TiedNode N))
     (line_now : List ℕ) (kind : ChildKind) (phase : Phase) (error : Option Errno) (bits : Bits)
-    (key : ℕ) (was : Entry N) (up : N) : Type 0 where
+    (key : ℕ) (was : TiedNode N) (up : N) : Type 0 where
   pub there : get slab key ≡ Some was
   pub put : Updates slab slab_now key (Some (with_ties {N = N} up (counting was.ties (notified kind phase error bits was.ties.counts))))
   pub queued : line_now ≡ cond (is_last kind phase was.ties.counts) (line ++ key ∷ []) line
@@ -107,9 +107,9 @@ pub record HasHeard {N : Type 0} (nodes : Nodes N) (slab : Slab (Entry N)) (line
   pub gave : nodes.gave up ≡ nodes.gave was.node
 
 -- its parent heard which pointer its value will have
-pub record NodeTold {N : Type 0} (nodes : Nodes N) (over : List Top → N → Type 0) (slab : Slab (Entry N)) (line : List ℕ)
-    (slab_now : Slab (Entry N)) (line_now : List ℕ) (kind : ChildKind) (key child : ℕ) (pointer : Option Bp) : Type 0 where
-  pub was : Entry N
+pub record NodeTold {N : Type 0} (nodes : Nodes N) (over : List Top → N → Type 0) (slab : Slab (TiedNode N)) (line : List ℕ)
+    (slab_now : Slab (TiedNode N)) (line_now : List ℕ) (kind : ChildKind) (key child : ℕ) (pointer : Option Bp) : Type 0 where
+  pub was : TiedNode N
   pub up : N
   pub error : Option Errno
   pub bits : Bits
@@ -119,10 +119,10 @@ pub record NodeTold {N : Type 0} (nodes : Nodes N) (over : List Top → N → Ty
   pub over_still : (tops : List Top) → over tops was.node → over tops up
 
 -- its parent heard with what it ended
-pub record NodeHeard {N : Type 0} (nodes : Nodes N) (over : List Top → N → Type 0) (tops : List Top) (slab : Slab (Entry N))
-    (line : List ℕ) (slab_now : Slab (Entry N)) (line_now : List ℕ) (kind : ChildKind) (key child : ℕ)
+pub record NodeHeard {N : Type 0} (nodes : Nodes N) (over : List Top → N → Type 0) (tops : List Top) (slab : Slab (TiedNode N))
+    (line : List ℕ) (slab_now : Slab (TiedNode N)) (line_now : List ℕ) (kind : ChildKind) (key child : ℕ)
     (outcome : Outcome) : Type 0 where
-  pub was : Entry N
+  pub was : TiedNode N
   pub up : N
   pub error : Option Errno
   pub bits : Bits
@@ -132,11 +132,11 @@ pub record NodeHeard {N : Type 0} (nodes : Nodes N) (over : List Top → N → T
   pub inside : over tops up
 
 -- nothing changed
-pub record IsSame {N : Type 0} (slab : Slab (Entry N)) (line : List ℕ) (slab_now : Slab (Entry N)) (line_now : List ℕ) : Type 0 where
+pub record IsSame {N : Type 0} (slab : Slab (TiedNode N)) (line : List ℕ) (slab_now : Slab (TiedNode N)) (line_now : List ℕ) : Type 0 where
   pub slab_same : slab_now ≡ slab
   pub line_same : line_now ≡ line
 
-abbrev pub HasTold : {N : Type 0} → Nodes N → (List Top → N → Type 0) → Slab (Entry N) → List ℕ → Slab (Entry N) → List ℕ → ChildKind
+abbrev pub HasTold : {N : Type 0} → Nodes N → (List Top → N → Type 0) → Slab (TiedNode N) → List ℕ → Slab (TiedNode N) → List ℕ → ChildKind
     → Above → Option Bp → Type 0
 HasTold {N = N} nodes over slab line slab_now line_now kind (Tree tree child) pointer = IsSame {N = N} slab line slab_now line_now
 HasTold {N = N} nodes over slab line slab_now line_now kind (Node key child) pointer =
@@ -156,7 +156,7 @@ load_of (Ended finished) = 0
 load_of (Root tree outcome) = 0
 
 -- of a tree that goes again, of which a tree of the round hears
-abbrev pub StepIn : (List Waiting → Type 0) → Step → Type 0
+abbrev pub StepIn : (List UnfinishedRequest → Type 0) → Step → Type 0
 StepIn Q (Root tree outcome) = OutcomeIn Q outcome
 StepIn Q _ = Unit {0}
 
@@ -165,7 +165,7 @@ abbrev pub IsHandedOn : Outcome → Option Finished → Type 0
 IsHandedOn (HasFinished f) finished = finished ≡ Some f
 IsHandedOn _ finished = finished ≡ None
 
-abbrev pub HasEnded : {N : Type 0} → Nodes N → (List Top → N → Type 0) → List Top → Slab (Entry N) → List ℕ → Slab (Entry N) → List ℕ
+abbrev pub HasEnded : {N : Type 0} → Nodes N → (List Top → N → Type 0) → List Top → Slab (TiedNode N) → List ℕ → Slab (TiedNode N) → List ℕ
     → ChildKind → Above → Outcome → Step → Type 0
 HasEnded {N = N} nodes over tops slab line slab_now line_now kind (Tree tree child) outcome step =
     IsSame {N = N} slab line slab_now line_now × (step ≡ Root tree outcome)

@@ -6,7 +6,7 @@ use Rattle.zio_vqueue.specs.Queues.{eligible}
 use Rattle.zio_cksum.specs.Images.{Images, Setting}
 use Rattle.zio_disks.specs.Disks.{Tell}
 use Rattle.zio_groups.specs.declared.waiting.Answered.{Answered}
-use Rattle.zio_groups.specs.declared.waiting.Waiting.{Waiting}
+use Rattle.zio_groups.specs.declared.waiting.QueuedOp.{QueuedOp}
 use Rattle.zio_groups.specs.Issued.{AreWhole}
 use Rattle.zio_groups.specs.LeafQueues.{Waits, queue_of, waiting_with}
 use Rattle.zio_trace.specs.Leaves.{Fetch, LeafOp, Store, on_leaf}
@@ -20,10 +20,10 @@ use Rattle.zio_turns.specs.Stages.{ShowsAnswer}
 abbrev pub keyed : ℕ → Op → Op
 keyed key op = record { ticket = key; write = op.write; at = op.at; len = op.len; prio = op.prio; flags = op.flags }
 
-abbrev pub key_of : Waiting → ℕ
+abbrev pub key_of : QueuedOp → ℕ
 key_of w = w.op.ticket
 
-abbrev pub keys_in : List Waiting → List ℕ
+abbrev pub keys_in : List QueuedOp → List ℕ
 keys_in ws = map key_of ws
 
 abbrev pub keys_of : Waits → List ℕ
@@ -38,7 +38,7 @@ abbrev pub no_waits : Waits
 no_waits = record { waiting = []; active = 0 ∷ 0 ∷ 0 ∷ 0 ∷ 0 ∷ []; last = 0 }
 
 -- what waits at a leaf
-abbrev pub waiting_at : List Waits → ℕ → List Waiting
+abbrev pub waiting_at : List Waits → ℕ → List QueuedOp
 waiting_at leaves leaf = (slice_index_or leaves leaf no_waits).waiting
 
 -- no group of it is active
@@ -51,7 +51,7 @@ pub record AreInOrder (leaves : List Waits) : Type 0 where
   pub once : (key : ℕ) → times_in key (keys_at leaves) ≤ 1
 
 -- this holds of all that waits, with its leaf
-abbrev pub AllWait : (ℕ → Waiting → Type 0) → List Waits → Type 0
+abbrev pub AllWait : (ℕ → QueuedOp → Type 0) → List Waits → Type 0
 AllWait P leaves = (leaf : ℕ) → AllByRecursion (P leaf) (waiting_at leaves leaf)
 
 -- ---- leaves with a group to issue
@@ -74,25 +74,25 @@ eligible_at leaves k = slice_index_or (eligible_leaves leaves) k 0
 -- ---- an operation that is put
 
 -- it waits there behind the others
-pub record IsPut (leaf : ℕ) (w : Waiting) (old new : List Waits) : Type 0 where
+pub record IsPut (leaf : ℕ) (w : QueuedOp) (old new : List Waits) : Type 0 where
   pub here : waiting_at new leaf ≡ waiting_at old leaf ++ w ∷ []
   pub others : (other : ℕ) → other ≢ leaf → waiting_at new other ≡ waiting_at old other
   pub count : length new ≡ length old
   pub keys : OneMore (key_of w) (keys_at old) (keys_at new)
 
 -- as it waits: no more bytes than its range
-abbrev pub put_as : ℕ → Op → List ℕ → Waiting
+abbrev pub put_as : ℕ → Op → List ℕ → QueuedOp
 put_as key op bytes = waiting_with (keyed key op) (take op.len bytes)
 
 -- ---- a group that is issued
 
 -- it waits at the leaf for this operation
-abbrev pub WaitsFor : ℕ → LeafOp → Waiting → Type 0
+abbrev pub WaitsFor : ℕ → LeafOp → QueuedOp → Type 0
 WaitsFor leaf (Fetch retry len spot) w = IsOpAt false retry spot (keyed 0 w.op) leaf × (len ≤ spot.span)
 WaitsFor leaf (Store retry bytes spot) w = IsOpAt true retry spot (keyed 0 w.op) leaf × (w.bytes ≡ take spot.span bytes)
 
 -- each for the operation at its place in the list
-abbrev pub WaitForAll : ℕ → List LeafOp → List Waiting → Type 0
+abbrev pub WaitForAll : ℕ → List LeafOp → List QueuedOp → Type 0
 WaitForAll leaf [] [] = Unit {0}
 WaitForAll leaf [] (w ∷ ws) = ⊥
 WaitForAll leaf (act ∷ acts) [] = ⊥
@@ -110,7 +110,7 @@ AreDone s (act ∷ acts) (b ∷ bs) images left =
 -- operations do one after another, and the disks tell what that leaves. All else waits as before.
 pub record AreIssued {D : Type 0} (image : D → List ℕ → Type 0) (s : Setting) (leaf : ℕ) (old new : List Waits)
     (before after : List D) (answers : List Answered) : Type 0 where
-  pub members : List Waiting
+  pub members : List QueuedOp
   pub some : 0 < length members
   pub among : AllByRecursion (Contains (waiting_at old leaf)) members
   pub keys : map (λ (b : Answered). b.ticket) answers ≡ keys_in members

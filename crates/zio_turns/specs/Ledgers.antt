@@ -24,7 +24,7 @@ use Rattle.zio_turns.specs.Rests.{ChildrenAmong, HasRests, numbers_ended}
 use Rattle.zio_turns.specs.Sizes.{FitsBodies, HasSizes}
 use Rattle.zio_turns.specs.Slabs.{left_over}
 use Rattle.zio_turns.specs.Stages.{AreHandedOut}
-use Rattle.zio_turns.specs.declared.entry.Entry.{Entry}
+use Rattle.zio_turns.specs.declared.entry.TiedNode.{TiedNode}
 
 -- ---- the books
 
@@ -122,7 +122,7 @@ found_so_far entries claimed = claimed ++ taken_by_all entries
 abbrev pub held_over : (Place → ℕ) → List Live → ℕ
 held_over w lives = sum_by (λ (x : Live). total w (held_by x.stack)) lives
 
-abbrev pub gave_over : {N : Type 0} → Nodes N → (Place → ℕ) → Slab (Entry N) → ℕ
+abbrev pub gave_over : {N : Type 0} → Nodes N → (Place → ℕ) → Slab (TiedNode N) → ℕ
 gave_over {N = N} nodes w slab = left_over {N = N} (λ n. total w (nodes.gave n)) slab
 
 -- no place stands twice
@@ -148,7 +148,7 @@ pub record KeepsChildren (f : Forest) (done : List Ending) (tops : List (Option 
 -- round's start. Each node hands out the requests and the parts that it asks; what it heard has the sizes that were asked for, and
 -- each read that finished that of its block's bodies.
 pub record IsLedger {N : Type 0} (nodes : Nodes N) (t : Terms) (f : Forest) (books : Books) (entries : List Choice)
-    (tops : List (Option Flying)) (trees : List Slot) (lives : List Live) (slab : Slab (Entry N)) : Type 0 where
+    (tops : List (Option Flying)) (trees : List Slot) (lives : List Live) (slab : Slab (TiedNode N)) : Type 0 where
   pub requests : IsPermutation (all_ended books.done) (ended_with (ended_of_trees tops trees) lives)
   pub each : AllByRecursion (IsEnding t f) books.done
   pub behind : AreBehind [] books.done

@@ -40,7 +40,7 @@ use Rattle.zio_turns.specs.Parts.{Nodes, ended_by, ended_in}
 use Rattle.zio_turns.specs.Sizes.{HasAskedSize}
 use Rattle.zio_turns.specs.Slabs.{AreAll, AreNumbered, shelf_of}
 use Rattle.zio_turns.specs.Stages.{ShowsAnswer}
-use Rattle.zio_turns.specs.declared.entry.Entry.{Entry}
+use Rattle.zio_turns.specs.declared.entry.TiedNode.{TiedNode}
 use Rattle.zio_turns.specs.declared.step.Step.{Step}
 use Rattle.zio_turns.specs.declared.step.Step.TheVariants.{Ended as HasEnded, Goes, Leaf as ToLeaf, Rests, Root, Told}
 
@@ -132,7 +132,7 @@ DoTheirs lives leaves ops = (key : ℕ) (x : Flying) → lives key ≡ Some x �
 
 -- the round is so far, with these nodes, of which these keys are queued and these at the leaves
 pub record KeepsRound {N : Type 0} (nodes : Nodes N) (t : Terms) (sizes : ℕ → ℕ) (f : Forest) (before : Before) (s : SoFar)
-    (slab : Slab (Entry N)) (queue leaves : List ℕ) : Type 0 where
+    (slab : Slab (TiedNode N)) (queue leaves : List ℕ) : Type 0 where
   pub lives : List Live
   pub still : StillKept {N = N} nodes t sizes f before s.trees s.tops lives (shelf_of {N = N} slab) queue leaves s.entries s.images
   pub numbered : AreNumbered {N = N} slab (flying_at lives)
@@ -140,7 +140,7 @@ pub record KeepsRound {N : Type 0} (nodes : Nodes N) (t : Terms) (sizes : ℕ �
   pub ledger : IsLedger {N = N} nodes t f s.books s.entries s.tops s.trees lives slab
 
 -- a sound round over these tops is kept
-pub record KeepsSome {N : Type 0} (nodes : Nodes N) (tops : List Top) (slab : Slab (Entry N)) (queue leaves : List ℕ) : Type 0 where
+pub record KeepsSome {N : Type 0} (nodes : Nodes N) (tops : List Top) (slab : Slab (TiedNode N)) (queue leaves : List ℕ) : Type 0 where
   pub terms : Terms
   pub sizes : ℕ → ℕ
   pub forest : Forest
@@ -151,14 +151,14 @@ pub record KeepsSome {N : Type 0} (nodes : Nodes N) (tops : List Top) (slab : Sl
   pub keeps : KeepsRound {N = N} nodes terms sizes forest before so_far slab queue leaves
 
 -- it is this key's turn, and each node has what it names inside the tops
-pub record IsTurn {N : Type 0} (nodes : Nodes N) (over : List Top → N → Type 0) (tops : List Top) (slab : Slab (Entry N))
+pub record IsTurn {N : Type 0} (nodes : Nodes N) (over : List Top → N → Type 0) (tops : List Top) (slab : Slab (TiedNode N))
     (line : List ℕ) (key : ℕ) : Type 0 where
   pub leaves : List ℕ
   pub keeps : KeepsSome {N = N} nodes tops slab (key ∷ line) leaves
   pub over_all : AreAll {N = N} (over tops) slab
 
 -- the key is at a leaf
-pub record IsAtLeaf {N : Type 0} (nodes : Nodes N) (slab : Slab (Entry N)) (line : List ℕ) (key : ℕ) : Type 0 where
+pub record IsAtLeaf {N : Type 0} (nodes : Nodes N) (slab : Slab (TiedNode N)) (line : List ℕ) (key : ℕ) : Type 0 where
   pub tops : List Top
   pub leaves : List ℕ
   pub others : List ℕ
@@ -168,7 +168,7 @@ pub record IsAtLeaf {N : Type 0} (nodes : Nodes N) (slab : Slab (Entry N)) (line
 -- ---- calls of the space
 
 -- where such calls claim places, the round is that of a claim, and no entry was made in it before
-abbrev pub ClaimsAlone : {N : Type 0} → Nodes N → List Top → List SpaceCall → Slab (Entry N) → List ℕ → ℕ → Type 0
+abbrev pub ClaimsAlone : {N : Type 0} → Nodes N → List Top → List SpaceCall → Slab (TiedNode N) → List ℕ → ℕ → Type 0
 ClaimsAlone {N = N} nodes tops calls slab line key =
     (t : Terms) (sizes : ℕ → ℕ) (f : Forest) (before : Before) (s : SoFar) (leaves : List ℕ) → IsSoundRound t sizes f →
     t.setting.tops ≡ tops → KeepsRound {N = N} nodes t sizes f before s slab (key ∷ line) leaves →
@@ -179,7 +179,7 @@ ClaimsAlone {N = N} nodes tops calls slab line key =
 
 -- its operation goes to a leaf, and is on some of it
 pub record GoesOut {N : Type 0} (nodes : Nodes N) (t : Terms) (sizes : ℕ → ℕ) (f : Forest) (before : Before) (s : SoFar)
-    (slab : Slab (Entry N)) (line leaves : List ℕ) (key : ℕ) (act : LeafOp) : Type 0 where
+    (slab : Slab (TiedNode N)) (line leaves : List ℕ) (key : ℕ) (act : LeafOp) : Type 0 where
   pub lies : LiesOn sizes act
   pub spans : 0 < (spot_of act).span
   pub keeps : (leaves_now : List ℕ) → OneMore key leaves leaves_now →
@@ -187,7 +187,7 @@ pub record GoesOut {N : Type 0} (nodes : Nodes N) (t : Terms) (sizes : ℕ → �
 
 -- the nth child of what is in flight for a tree told a pointer, and it goes on
 pub record TreeHearsEarly {N : Type 0} (nodes : Nodes N) (t : Terms) (sizes : ℕ → ℕ) (f : Forest) (before : Before) (s : SoFar)
-    (slab : Slab (Entry N)) (queue leaves : List ℕ) (tree : ℕ) : Type 0 where
+    (slab : Slab (TiedNode N)) (queue leaves : List ℕ) (tree : ℕ) : Type 0 where
   pub top : Flying
   pub number : ℕ
   pub child : Child
@@ -217,7 +217,7 @@ finished_in _ = []
 
 -- a node ended, its parent heard of it, and this is the request that finished by that, if one did; it is in the books
 pub record NodeEnds {N : Type 0} (nodes : Nodes N) (t : Terms) (sizes : ℕ → ℕ) (f : Forest) (before : Before) (s : SoFar)
-    (slab : Slab (Entry N)) (line leaves : List ℕ) (finished : Option Finished) : Type 0 where
+    (slab : Slab (TiedNode N)) (line leaves : List ℕ) (finished : Option Finished) : Type 0 where
   pub op : Task
   pub outcome : Outcome
   pub value : Value
@@ -230,7 +230,7 @@ pub record NodeEnds {N : Type 0} (nodes : Nodes N) (t : Terms) (sizes : ℕ → 
 -- The nth child of what is in flight for a tree ended with this outcome, which is this value of its operation, and the tree has
 -- it. Where it is a request that finished, it is in the books.
 pub record TreeHears {N : Type 0} (nodes : Nodes N) (t : Terms) (sizes : ℕ → ℕ) (f : Forest) (before : Before) (s : SoFar)
-    (slab : Slab (Entry N)) (line leaves : List ℕ) (tree : ℕ) (outcome : Outcome) : Type 0 where
+    (slab : Slab (TiedNode N)) (line leaves : List ℕ) (tree : ℕ) (outcome : Outcome) : Type 0 where
   pub top : Flying
   pub number : ℕ
   pub child : Child
@@ -248,7 +248,7 @@ pub record TreeHears {N : Type 0} (nodes : Nodes N) (t : Terms) (sizes : ℕ →
       (with_done (with_tree s tree (record { at = top.at; stack = heard_of top.stack number child value })) more) slab line leaves
 
 -- with these calls made the round goes on so
-abbrev pub AfterStep : {N : Type 0} → Nodes N → Terms → (ℕ → ℕ) → Forest → Before → SoFar → Slab (Entry N) → List ℕ → List ℕ → ℕ
+abbrev pub AfterStep : {N : Type 0} → Nodes N → Terms → (ℕ → ℕ) → Forest → Before → SoFar → Slab (TiedNode N) → List ℕ → List ℕ → ℕ
     → Step → Type 0
 AfterStep {N = N} nodes t sizes f before s slab line leaves key Goes =
     KeepsRound {N = N} nodes t sizes f before s slab (key ∷ line) leaves
@@ -264,7 +264,7 @@ AfterStep {N = N} nodes t sizes f before s slab line leaves key (Root tree outco
     TreeHears {N = N} nodes t sizes f before s slab line leaves tree outcome
 
 -- each round over these tops whose queue the key came first in goes on so, where the calls made are right for it
-abbrev pub StepsOn : {N : Type 0} → Nodes N → List Top → List SpaceCall → Slab (Entry N) → List ℕ → Slab (Entry N) → List ℕ → ℕ
+abbrev pub StepsOn : {N : Type 0} → Nodes N → List Top → List SpaceCall → Slab (TiedNode N) → List ℕ → Slab (TiedNode N) → List ℕ → ℕ
     → Step → Type 0
 StepsOn {N = N} nodes tops calls slab line slab_now line_now key step =
     (t : Terms) (sizes : ℕ → ℕ) (f : Forest) (before : Before) (s : SoFar) (leaves : List ℕ) → IsSoundRound t sizes f →
@@ -274,7 +274,7 @@ StepsOn {N = N} nodes tops calls slab line slab_now line_now key step =
 -- ---- what an answer leaves
 
 -- each round in which the key is at a leaf goes on with each answer to its operation that is shown, and has the size asked for
-abbrev pub ComesBack : {N : Type 0} → Nodes N → Slab (Entry N) → List ℕ → Slab (Entry N) → List ℕ → ℕ → Option Errno → List ℕ
+abbrev pub ComesBack : {N : Type 0} → Nodes N → Slab (TiedNode N) → List ℕ → Slab (TiedNode N) → List ℕ → ℕ → Option Errno → List ℕ
     → Type 0
 ComesBack {N = N} nodes slab line slab_now line_now key error bytes =
     (t : Terms) (sizes : ℕ → ℕ) (f : Forest) (before : Before) (s : SoFar) (leaves others : List ℕ) → IsSoundRound t sizes f →
@@ -284,13 +284,13 @@ ComesBack {N = N} nodes slab line slab_now line_now key error bytes =
 
 -- ---- the beginning, and whose turn it is
 
-abbrev pub Begins : {N : Type 0} → Nodes N → Slab (Entry N) → List ℕ → Type 0
+abbrev pub Begins : {N : Type 0} → Nodes N → Slab (TiedNode N) → List ℕ → Type 0
 Begins {N = N} nodes slab line = (t : Terms) (sizes : ℕ → ℕ) (f : Forest) (before : Before) (images : Images) →
     IsSoundRound t sizes f → IfSome before (λ b. b ≡ images) →
     KeepsRound {N = N} nodes t sizes f before (first_of f images) slab line []
 
 -- The tree of this number may hand out an operation to its next child, which has this number, and the node does it: then it has.
-abbrev pub HandsOut : {N : Type 0} → Nodes N → Slab (Entry N) → List ℕ → Slab (Entry N) → List ℕ → ℕ → ℕ → N → Type 0
+abbrev pub HandsOut : {N : Type 0} → Nodes N → Slab (TiedNode N) → List ℕ → Slab (TiedNode N) → List ℕ → ℕ → ℕ → N → Type 0
 HandsOut {N = N} nodes slab line slab_now line_now tree child node =
     (t : Terms) (sizes : ℕ → ℕ) (f : Forest) (before : Before) (s : SoFar) (leaves : List ℕ) (top : Flying) (op : Task) →
     IsSoundRound t sizes f → KeepsRound {N = N} nodes t sizes f before s slab line leaves → top_at s.tops tree ≡ Some top →
@@ -299,7 +299,7 @@ HandsOut {N = N} nodes slab line slab_now line_now tree child node =
     KeepsRound {N = N} nodes t sizes f before (with_tree s tree (handed_on top op)) slab_now line_now leaves
 
 -- the round goes on with the key in front
-abbrev pub HasTurn : {N : Type 0} → Nodes N → Slab (Entry N) → List ℕ → Slab (Entry N) → List ℕ → ℕ → Type 0
+abbrev pub HasTurn : {N : Type 0} → Nodes N → Slab (TiedNode N) → List ℕ → Slab (TiedNode N) → List ℕ → ℕ → Type 0
 HasTurn {N = N} nodes slab line slab_now line_now key =
     (t : Terms) (sizes : ℕ → ℕ) (f : Forest) (before : Before) (s : SoFar) (leaves : List ℕ) →
     KeepsRound {N = N} nodes t sizes f before s slab line leaves → KeepsRound {N = N} nodes t sizes f before s slab_now (key ∷ line_now) leaves

@@ -26,7 +26,7 @@ use Rattle.zio_stages.specs.Outcomes.{AreEndedAs, IsOutcome, freed_by, held_by, 
 use Rattle.zio_stages.specs.SpaceCalls.{SpaceCall, calls_back, calls_by}
 use Rattle.zio_stages.specs.declared.outcome.Outcome.{Outcome}
 use Rattle.zio_stages.specs.declared.outcome.Outcome.TheVariants.{Again}
-use Rattle.zio_stages.specs.declared.waiting.Waiting.{Waiting}
+use Rattle.zio_stages.specs.declared.waiting.UnfinishedRequest.{UnfinishedRequest}
 use Rattle.zio_turns.specs.Entries.{count_owing}
 use Rattle.zio_turns.specs.Parts.{Nodes, ended_by, ended_in}
 use Rattle.zio_turns.specs.declared.staged.Move.{Move}
@@ -164,12 +164,12 @@ IsMove {N = N} nodes gave t node st calls (End outcome) = Ends {N = N} nodes gav
 -- ---- what holds of each node
 
 -- of a tree that goes again
-abbrev pub OutcomeIn : (List Waiting → Type 0) → Outcome → Type 0
+abbrev pub OutcomeIn : (List UnfinishedRequest → Type 0) → Outcome → Type 0
 OutcomeIn Q (Again whole bits pointer) = Q whole
 OutcomeIn Q _ = Unit {0}
 
 -- of the nodes that the move hands out, and of a tree that goes again
-abbrev pub EachIn : {N : Type 0} → (N → Type 0) → (List Waiting → Type 0) → Move N → Type 0
+abbrev pub EachIn : {N : Type 0} → (N → Type 0) → (List UnfinishedRequest → Type 0) → Move N → Type 0
 EachIn P Q (Next after) = P after
 EachIn P Q (Wait after kind phase) = P after
 EachIn P Q (Grow after child kind) = P after × P child

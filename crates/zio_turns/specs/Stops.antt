@@ -19,7 +19,7 @@ use Rattle.zio_turns.specs.Parts.{Nodes}
 use Rattle.zio_turns.specs.Rounds.{SoFar}
 use Rattle.zio_turns.specs.UnderTrees.{RunsTrees}
 use Rattle.zio_turns.specs.UnderTurns.{IsGoingOn}
-use Rattle.zio_turns.specs.declared.entry.Entry.{Entry}
+use Rattle.zio_turns.specs.declared.entry.TiedNode.{TiedNode}
 use Rattle.zio_turns.specs.declared.grounds.Grounds.{Grounds}
 use Rattle.zio_turns.specs.declared.trees.TreeState.{TreeState}
 
@@ -40,13 +40,13 @@ TellStopped {D = D} image t sizes f before disks =
     HaveSizes sizes before → (after : Images) × Tell {D = D} image disks after × IsStopped t f before after
 
 -- each sound round that goes on over these, for images that were told, leaves the disks so
-abbrev pub StopsWith : {N D : Type 0} → Nodes N → (D → ℕ) → (D → List ℕ → Type 0) → Slab (Entry N) → List ℕ → Grounds D → List D → Type 0
+abbrev pub StopsWith : {N D : Type 0} → Nodes N → (D → ℕ) → (D → List ℕ → Type 0) → Slab (TiedNode N) → List ℕ → Grounds D → List D → Type 0
 StopsWith {N = N} {D = D} nodes bytes image slab line g disks =
     (t : Terms) (sizes : ℕ → ℕ) (f : Forest) (before : Images) (s : SoFar) → IsSoundRound t sizes f →
     IsGoingOn {N = N} {D = D} nodes bytes image t sizes f (Some before) s slab line g → TellStopped {D = D} image t sizes f before disks
 
 -- so does each round of these terms whose trees run
-abbrev pub TreesStopWith : {N D : Type 0} → Nodes N → (D → ℕ) → (D → List ℕ → Type 0) → Slab (Entry N) → List ℕ → Grounds D → ℕ
+abbrev pub TreesStopWith : {N D : Type 0} → Nodes N → (D → ℕ) → (D → List ℕ → Type 0) → Slab (TiedNode N) → List ℕ → Grounds D → ℕ
     → Failmode → List TreeState → List D → Type 0
 TreesStopWith {N = N} {D = D} nodes bytes image slab line g round failmode states disks =
     (t : Terms) (sizes : ℕ → ℕ) (f : Forest) (before : Images) (s : SoFar) →

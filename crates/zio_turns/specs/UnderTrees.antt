@@ -20,7 +20,7 @@ use Rattle.zio_stages.specs.Wholes.{AreTrees, IsTreeOf}
 use Rattle.zio_stages.specs.declared.outcome.Finished.{Finished}
 use Rattle.zio_stages.specs.declared.outcome.Outcome.{Outcome}
 use Rattle.zio_stages.specs.declared.outcome.Outcome.TheVariants.{Again, Finished as HasFinished}
-use Rattle.zio_stages.specs.declared.waiting.Waiting.{Waiting}
+use Rattle.zio_stages.specs.declared.waiting.UnfinishedRequest.{UnfinishedRequest}
 use Rattle.slab.specs.Slab.{Slab}
 use Rattle.zio_turns.specs.Attempting.{Course, IsAttempting, IsBetween, attempt_of, course_of, rest_of, settled_with}
 use Rattle.zio_turns.specs.Engine.{IsKept}
@@ -30,7 +30,7 @@ use Rattle.zio_turns.specs.Parts.{Nodes, ended_in}
 use Rattle.zio_turns.specs.Rounds.{Before, KeepsRound, SoFar, no_op, with_tree}
 use Rattle.zio_turns.specs.Slabs.{shelf_of}
 use Rattle.zio_turns.specs.UnderTurns.{EndsFinished, IsGoingOn}
-use Rattle.zio_turns.specs.declared.entry.Entry.{Entry}
+use Rattle.zio_turns.specs.declared.entry.TiedNode.{TiedNode}
 use Rattle.zio_turns.specs.declared.grounds.Grounds.{Grounds}
 use Rattle.zio_turns.specs.declared.trees.TreeEnd.{TreeEnd}
 use Rattle.zio_turns.specs.declared.trees.TreeEnd.TheVariants.{Finished as RootFinished, Suspended}
@@ -41,13 +41,13 @@ use Rattle.zio_turns.specs.declared.trees.TreeState.TheVariants.{Settled, UnderW
 
 -- the attempt is under way for the tree
 pub record BeginsIn {N : Type 0} (nodes : Nodes N) (t : Terms) (sizes : ℕ → ℕ) (f : Forest) (before : Before) (s : SoFar)
-    (slab : Slab (Entry N)) (line leaves : List ℕ) (tree : ℕ) (top : Flying) (c : Course) : Type 0 where
+    (slab : Slab (TiedNode N)) (line leaves : List ℕ) (tree : ℕ) (top : Flying) (c : Course) : Type 0 where
   pub keeps : KeepsRound {N = N} nodes t sizes f before (with_tree s tree (handed_on top (attempt_of c))) slab line leaves
   pub out : IsAttempting t c (handed top.stack (attempt_of c))
 
 -- each sound round in which this attempt of this tree comes next goes on so
-abbrev pub BeginsOn : {N : Type 0} → Nodes N → Slab (Entry N) → List ℕ → Slab (Entry N) → List ℕ → ℕ → Failmode → ℕ → ℕ
-    → List Waiting → Type 0
+abbrev pub BeginsOn : {N : Type 0} → Nodes N → Slab (TiedNode N) → List ℕ → Slab (TiedNode N) → List ℕ → ℕ → Failmode → ℕ → ℕ
+    → List UnfinishedRequest → Type 0
 BeginsOn {N = N} nodes slab line slab_now line_now round failmode tree attempt whole =
     (t : Terms) (sizes : ℕ → ℕ) (f : Forest) (before : Before) (s : SoFar) (leaves : List ℕ) (top : Flying) (c : Course) →
     IsSoundRound t sizes f → t.round ≡ round → t.failmode ≡ failmode →
@@ -89,7 +89,7 @@ with_value s n v = record {
 
 -- its next attempt is under way
 pub record GoesAgain {N : Type 0} (nodes : Nodes N) (t : Terms) (sizes : ℕ → ℕ) (f : Forest) (before : Before) (s : SoFar)
-    (slab : Slab (Entry N)) (line leaves : List ℕ) (tree : ℕ) (top : Flying) (c : Course) : Type 0 where
+    (slab : Slab (TiedNode N)) (line leaves : List ℕ) (tree : ℕ) (top : Flying) (c : Course) : Type 0 where
   pub next : Course
   pub number : next.attempt ≡ c.attempt + 1
   pub few : next.more + next.attempt ≡ reexecutions_max
@@ -97,11 +97,11 @@ pub record GoesAgain {N : Type 0} (nodes : Nodes N) (t : Terms) (sizes : ℕ →
 
 -- it is settled, as by the definition
 pub record IsSettled {N : Type 0} (nodes : Nodes N) (t : Terms) (sizes : ℕ → ℕ) (f : Forest) (before : Before) (s : SoFar)
-    (slab : Slab (Entry N)) (line leaves : List ℕ) (tree : ℕ) (c : Course) (one : One) (end : TreeEnd) : Type 0 where
+    (slab : Slab (TiedNode N)) (line leaves : List ℕ) (tree : ℕ) (c : Course) (one : One) (end : TreeEnd) : Type 0 where
   pub left : IsLeftOf end one
   pub keeps : KeepsRound {N = N} nodes t sizes f before (with_value s tree (settled_with c one)) slab line leaves
 
-abbrev pub AfterHearing : {N : Type 0} → Nodes N → Terms → (ℕ → ℕ) → Forest → Before → SoFar → Slab (Entry N) → List ℕ → List ℕ
+abbrev pub AfterHearing : {N : Type 0} → Nodes N → Terms → (ℕ → ℕ) → Forest → Before → SoFar → Slab (TiedNode N) → List ℕ → List ℕ
     → ℕ → Flying → Course → One → Option TreeEnd → Type 0
 AfterHearing {N = N} nodes t sizes f before s slab line leaves tree top c one None =
     GoesAgain {N = N} nodes t sizes f before s slab line leaves tree top c
@@ -109,7 +109,7 @@ AfterHearing {N = N} nodes t sizes f before s slab line leaves tree top c one (S
     IsSettled {N = N} nodes t sizes f before s slab line leaves tree c one end
 
 -- each sound round in which the tree heard that goes on so
-abbrev pub TreeGoesOn : {N : Type 0} → Nodes N → Slab (Entry N) → List ℕ → Slab (Entry N) → List ℕ → ℕ → Failmode → ℕ → ℕ
+abbrev pub TreeGoesOn : {N : Type 0} → Nodes N → Slab (TiedNode N) → List ℕ → Slab (TiedNode N) → List ℕ → ℕ → Failmode → ℕ → ℕ
     → Outcome → Option TreeEnd → Type 0
 TreeGoesOn {N = N} nodes slab line slab_now line_now round failmode tree attempt outcome end =
     (t : Terms) (sizes : ℕ → ℕ) (f : Forest) (before : Before) (s : SoFar) (leaves : List ℕ) (top : Flying) (c : Course) (one : One) →
@@ -147,7 +147,7 @@ AreSettledWith trees states = (n : ℕ) (end : TreeEnd) → slice_get states n �
 
 -- Each tree is so far, and the round is kept over what is lent; these are its terms where they say so.
 pub record RunsTrees {N D : Type 0} (nodes : Nodes N) (bytes : D → ℕ) (image : D → List ℕ → Type 0) (t : Terms) (sizes : ℕ → ℕ)
-    (f : Forest) (before : Before) (s : SoFar) (slab : Slab (Entry N)) (line : List ℕ) (g : Grounds D) (round : ℕ)
+    (f : Forest) (before : Before) (s : SoFar) (slab : Slab (TiedNode N)) (line : List ℕ) (g : Grounds D) (round : ℕ)
     (failmode : Failmode) (states : List TreeState) : Type 0 where
   pub sound : IsSoundRound t sizes f
   pub round_is : t.round ≡ round
@@ -157,7 +157,7 @@ pub record RunsTrees {N D : Type 0} (nodes : Nodes N) (bytes : D → ℕ) (image
   pub ends : AreSettledWith s.trees states
 
 -- some round is
-pub record RunsSome {N D : Type 0} (nodes : Nodes N) (bytes : D → ℕ) (image : D → List ℕ → Type 0) (slab : Slab (Entry N))
+pub record RunsSome {N D : Type 0} (nodes : Nodes N) (bytes : D → ℕ) (image : D → List ℕ → Type 0) (slab : Slab (TiedNode N))
     (line : List ℕ) (g : Grounds D) (round : ℕ) (failmode : Failmode) (states : List TreeState) : Type 0 where
   pub terms : Terms
   pub sizes : ℕ → ℕ
@@ -168,7 +168,7 @@ pub record RunsSome {N D : Type 0} (nodes : Nodes N) (bytes : D → ℕ) (image 
 
 -- it went on to this, and these requests finished meanwhile
 pub record HasRun {N D : Type 0} (nodes : Nodes N) (bytes : D → ℕ) (image : D → List ℕ → Type 0) (t : Terms) (sizes : ℕ → ℕ)
-    (f : Forest) (before : Before) (s : SoFar) (slab : Slab (Entry N)) (line : List ℕ) (g : Grounds D) (round : ℕ)
+    (f : Forest) (before : Before) (s : SoFar) (slab : Slab (TiedNode N)) (line : List ℕ) (g : Grounds D) (round : ℕ)
     (failmode : Failmode) (states : List TreeState) (ended ended_now : List Finished) : Type 0 where
   pub now : SoFar
   pub runs : RunsTrees {N = N} {D = D} nodes bytes image t sizes f before now slab line g round failmode states
@@ -184,7 +184,7 @@ pub record HasRun {N D : Type 0} (nodes : Nodes N) (bytes : D → ℕ) (image : 
 -- No node is left, and no tree stands: the laws of a round's end say what it came to, and the books what finished and what became of
 -- the places.
 pub record IsOver {N : Type 0} (nodes : Nodes N) (t : Terms) (sizes : ℕ → ℕ) (f : Forest) (before : Before) (s : SoFar)
-    (slab : Slab (Entry N)) : Type 0 where
+    (slab : Slab (TiedNode N)) : Type 0 where
   pub state : State
   pub kept : IsKept {N = N} nodes t sizes f before s.trees s.tops [] (shelf_of {N = N} slab) [] [] state
   pub standing_none : standing s.tops ≡ []
@@ -193,8 +193,8 @@ pub record IsOver {N : Type 0} (nodes : Nodes N) (t : Terms) (sizes : ℕ → �
   pub ledger : IsLedger {N = N} nodes t f s.books s.entries s.tops s.trees [] slab
 
 -- each sound round of these terms goes on until it is over
-abbrev pub RunsToEnd : {N D : Type 0} → Nodes N → (D → ℕ) → (D → List ℕ → Type 0) → Slab (Entry N) → List ℕ → Grounds D
-    → List TreeState → List Finished → Slab (Entry N) → List ℕ → Grounds D → List TreeState → List Finished → ℕ → Failmode → Type 0
+abbrev pub RunsToEnd : {N D : Type 0} → Nodes N → (D → ℕ) → (D → List ℕ → Type 0) → Slab (TiedNode N) → List ℕ → Grounds D
+    → List TreeState → List Finished → Slab (TiedNode N) → List ℕ → Grounds D → List TreeState → List Finished → ℕ → Failmode → Type 0
 RunsToEnd {N = N} {D = D} nodes bytes image slab line g states ended slab_now line_now g_now states_now ended_now round failmode =
     (t : Terms) (sizes : ℕ → ℕ) (f : Forest) (before : Before) (s : SoFar) →
     RunsTrees {N = N} {D = D} nodes bytes image t sizes f before s slab line g round failmode states →
@@ -207,36 +207,36 @@ attempts_left (UnderWay attempt) = 4 - attempt
 attempts_left (Settled end) = 0
 
 -- of what is suspended of a tree
-abbrev pub EndIn : (List Waiting → Type 0) → TreeEnd → Type 0
+abbrev pub EndIn : (List UnfinishedRequest → Type 0) → TreeEnd → Type 0
 EndIn Q RootFinished = Unit {0}
 EndIn Q (Suspended whole) = Q whole
 
-abbrev pub StateIn : (List Waiting → Type 0) → TreeState → Type 0
+abbrev pub StateIn : (List UnfinishedRequest → Type 0) → TreeState → Type 0
 StateIn Q (UnderWay attempt) = Unit {0}
 StateIn Q (Settled end) = EndIn Q end
 
 -- ---- the beginning
 
 -- nothing of this tree is done
-pub record IsFreshFor (t : Terms) (top : Flying) (whole : List Waiting) : Type 0 where
+pub record IsFreshFor (t : Terms) (top : Flying) (whole : List UnfinishedRequest) : Type 0 where
   pub request : Pending
   pub kids : Forest
   pub between : IsBetween t (course_of request kids) top.stack
   pub is : IsTreeOf whole request kids
 
-abbrev pub FreshAt : Terms → Option Flying → List Waiting → Type 0
+abbrev pub FreshAt : Terms → Option Flying → List UnfinishedRequest → Type 0
 FreshAt t None whole = ⊥
 FreshAt t (Some top) whole = IsFreshFor t top whole
 
 -- the first trees are so far, of those behind them nothing is done, and there are no others
-pub record HaveBegun (t : Terms) (tops : List (Option Flying)) (states : List TreeState) (rest : List (List Waiting)) : Type 0 where
+pub record HaveBegun (t : Terms) (tops : List (Option Flying)) (states : List TreeState) (rest : List (List UnfinishedRequest)) : Type 0 where
   pub begun : (n : ℕ) → n < length states → IsInState t (top_at tops n) (slice_get states n)
-  pub fresh : (n : ℕ) (whole : List Waiting) → slice_get rest n ≡ Some whole → FreshAt t (top_at tops (length states + n)) whole
+  pub fresh : (n : ℕ) (whole : List UnfinishedRequest) → slice_get rest n ≡ Some whole → FreshAt t (top_at tops (length states + n)) whole
   pub past : (n : ℕ) → length states + length rest ≤ n → top_at tops n ≡ None
 
 -- a round of these trees, in which nothing is done, has begun so
 pub record BeginsSo {N : Type 0} (nodes : Nodes N) (t : Terms) (sizes : ℕ → ℕ) (f : Forest) (before : Before) (images : Images)
-    (slab : Slab (Entry N)) (line : List ℕ) (states : List TreeState) (rest : List (List Waiting)) : Type 0 where
+    (slab : Slab (TiedNode N)) (line : List ℕ) (states : List TreeState) (rest : List (List UnfinishedRequest)) : Type 0 where
   pub now : SoFar
   pub keeps : KeepsRound {N = N} nodes t sizes f before now slab line []
   pub entries_are : now.entries ≡ []
@@ -246,8 +246,8 @@ pub record BeginsSo {N : Type 0} (nodes : Nodes N) (t : Terms) (sizes : ℕ → 
   pub begun : HaveBegun t now.tops states rest
 
 -- each sound round of these trees begins so
-abbrev pub TreesBegin : {N : Type 0} → Nodes N → Slab (Entry N) → List ℕ → ℕ → Failmode → List (List Waiting) → List TreeState
-    → List (List Waiting) → Type 0
+abbrev pub TreesBegin : {N : Type 0} → Nodes N → Slab (TiedNode N) → List ℕ → ℕ → Failmode → List (List UnfinishedRequest) → List TreeState
+    → List (List UnfinishedRequest) → Type 0
 TreesBegin {N = N} nodes slab line round failmode wholes states rest =
     (t : Terms) (sizes : ℕ → ℕ) (f : Forest) (before : Before) (images : Images) → IsSoundRound t sizes f → t.round ≡ round →
     t.failmode ≡ failmode → IfSome before (λ b. b ≡ images) → AreTrees wholes f →

@@ -21,7 +21,7 @@ use Rattle.zio_groups.specs.declared.waiting.Answered.{Answered}
 use Rattle.zio_stages.specs.declared.outcome.Finished.{Finished}
 use Rattle.zio_stages.specs.declared.outcome.Outcome.{Outcome}
 use Rattle.zio_stages.specs.declared.outcome.Outcome.TheVariants.{Finished as HasFinished}
-use Rattle.zio_stages.specs.declared.waiting.Waiting.{Waiting}
+use Rattle.zio_stages.specs.declared.waiting.UnfinishedRequest.{UnfinishedRequest}
 use Rattle.slab.specs.Slab.{Slab}
 use Rattle.zio_turns.specs.AtLeaves.{AllWait, WaitsFor, key_of, keys_at}
 use Rattle.zio_turns.specs.Desks.{IsDeskAt}
@@ -33,7 +33,7 @@ use Rattle.zio_turns.specs.Rounds.{Before, EndsAs, KeepsRound, KeepsSome, SoFar,
 use Rattle.zio_turns.specs.Sizes.{HasAskedSize}
 use Rattle.zio_turns.specs.Slabs.{load}
 use Rattle.zio_turns.specs.Stages.{OutcomeIn, ShowsAnswer}
-use Rattle.zio_turns.specs.declared.entry.Entry.{Entry}
+use Rattle.zio_turns.specs.declared.entry.TiedNode.{TiedNode}
 use Rattle.zio_turns.specs.declared.grounds.Grounds.{Grounds}
 use Rattle.zio_turns.specs.declared.hearing.Hearing.{Hearing}
 use Rattle.zio_turns.specs.declared.turn.Turned.{Turned}
@@ -64,12 +64,12 @@ pub record AreLent {D : Type 0} (bytes : D → ℕ) (image : D → List ℕ → 
 
 -- the round is kept over what is lent
 pub record IsGoingOn {N D : Type 0} (nodes : Nodes N) (bytes : D → ℕ) (image : D → List ℕ → Type 0) (t : Terms) (sizes : ℕ → ℕ)
-    (f : Forest) (before : Before) (s : SoFar) (slab : Slab (Entry N)) (line : List ℕ) (g : Grounds D) : Type 0 where
+    (f : Forest) (before : Before) (s : SoFar) (slab : Slab (TiedNode N)) (line : List ℕ) (g : Grounds D) : Type 0 where
   pub keeps : KeepsRound {N = N} nodes t sizes f before s slab line (keys_at g.queues.leaves.items)
   pub lent : AreLent {D = D} bytes image t sizes before s.entries s.books.claimed s.books.back s.images s.ops g
 
 -- a sound round is
-pub record GoesOnSome {N D : Type 0} (nodes : Nodes N) (bytes : D → ℕ) (image : D → List ℕ → Type 0) (slab : Slab (Entry N))
+pub record GoesOnSome {N D : Type 0} (nodes : Nodes N) (bytes : D → ℕ) (image : D → List ℕ → Type 0) (slab : Slab (TiedNode N))
     (line : List ℕ) (g : Grounds D) : Type 0 where
   pub terms : Terms
   pub sizes : ℕ → ℕ
@@ -80,7 +80,7 @@ pub record GoesOnSome {N D : Type 0} (nodes : Nodes N) (bytes : D → ℕ) (imag
   pub going : IsGoingOn {N = N} {D = D} nodes bytes image terms sizes forest before so_far slab line g
 
 -- what is to run still, where an operation at a leaf counts as two turns
-abbrev pub work_left : {N D : Type 0} → (N → ℕ) → Slab (Entry N) → List ℕ → Grounds D → ℕ
+abbrev pub work_left : {N D : Type 0} → (N → ℕ) → Slab (TiedNode N) → List ℕ → Grounds D → ℕ
 work_left {N = N} left slab line g = load {N = N} left slab line + 2 * length (keys_at g.queues.leaves.items)
 
 -- the disks, the tops and the setting are the same
@@ -128,7 +128,7 @@ pub record HasGoneOn (s now : SoFar) (finished : List Finished) : Type 0 where
 
 -- the round went on to this, and these requests finished
 pub record HasTurned {N D : Type 0} (nodes : Nodes N) (bytes : D → ℕ) (image : D → List ℕ → Type 0) (t : Terms) (sizes : ℕ → ℕ)
-    (f : Forest) (before : Before) (s : SoFar) (finished : List Finished) (slab : Slab (Entry N)) (line : List ℕ)
+    (f : Forest) (before : Before) (s : SoFar) (finished : List Finished) (slab : Slab (TiedNode N)) (line : List ℕ)
     (g : Grounds D) : Type 0 where
   pub now : SoFar
   pub gone : HasGoneOn s now finished
@@ -143,7 +143,7 @@ pub record EndsFinished (t : Terms) (finished : Finished) : Type 0 where
 -- The round went on to this, where the tree of this number has with what its nth child ended: this value of its operation. Before these
 -- requests finished, and with that the child, where it did.
 pub record HasEndedFor {N D : Type 0} (nodes : Nodes N) (bytes : D → ℕ) (image : D → List ℕ → Type 0) (t : Terms) (sizes : ℕ → ℕ)
-    (f : Forest) (before : Before) (s : SoFar) (finished : List Finished) (slab : Slab (Entry N)) (line : List ℕ) (g : Grounds D)
+    (f : Forest) (before : Before) (s : SoFar) (finished : List Finished) (slab : Slab (TiedNode N)) (line : List ℕ) (g : Grounds D)
     (tree : ℕ) (outcome : Outcome) : Type 0 where
   pub now : SoFar
   pub gone : HasGoneOn s now finished
@@ -164,7 +164,7 @@ pub record HasEndedFor {N D : Type 0} (nodes : Nodes N) (bytes : D → ℕ) (ima
       (with_done (with_tree now tree (record { at = top.at; stack = heard_of top.stack number child value })) more) slab line g
 
 abbrev pub AfterTurn : {N D : Type 0} → Nodes N → (D → ℕ) → (D → List ℕ → Type 0) → Terms → (ℕ → ℕ) → Forest → Before → SoFar
-    → Slab (Entry N) → List ℕ → Grounds D → Turned → Type 0
+    → Slab (TiedNode N) → List ℕ → Grounds D → Turned → Type 0
 AfterTurn {N = N} {D = D} nodes bytes image t sizes f before s slab line g Nothing =
     HasTurned {N = N} {D = D} nodes bytes image t sizes f before s [] slab line g
 AfterTurn {N = N} {D = D} nodes bytes image t sizes f before s slab line g (HasEnded finished) =
@@ -173,13 +173,13 @@ AfterTurn {N = N} {D = D} nodes bytes image t sizes f before s slab line g (Root
     HasEndedFor {N = N} {D = D} nodes bytes image t sizes f before s [] slab line g tree outcome
 
 -- of a tree that goes again
-abbrev pub TurnedIn : (List Waiting → Type 0) → Turned → Type 0
+abbrev pub TurnedIn : (List UnfinishedRequest → Type 0) → Turned → Type 0
 TurnedIn Q (Root tree outcome) = OutcomeIn Q outcome
 TurnedIn Q _ = Unit {0}
 
 -- each sound round whose queue the key came first in goes on so
-abbrev pub TurnsOn : {N D : Type 0} → Nodes N → (D → ℕ) → (D → List ℕ → Type 0) → Slab (Entry N) → List ℕ → Grounds D
-    → Slab (Entry N) → List ℕ → Grounds D → ℕ → Turned → Type 0
+abbrev pub TurnsOn : {N D : Type 0} → Nodes N → (D → ℕ) → (D → List ℕ → Type 0) → Slab (TiedNode N) → List ℕ → Grounds D
+    → Slab (TiedNode N) → List ℕ → Grounds D → ℕ → Turned → Type 0
 TurnsOn {N = N} {D = D} nodes bytes image slab line g slab_now line_now g_now key turned =
     (t : Terms) (sizes : ℕ → ℕ) (f : Forest) (before : Before) (s : SoFar) → IsSoundRound t sizes f →
     IsGoingOn {N = N} {D = D} nodes bytes image t sizes f before s slab (key ∷ line) g →
@@ -198,7 +198,7 @@ abbrev pub keys_answered : List Answered → List ℕ
 keys_answered bs = map (λ (b : Answered). b.ticket) bs
 
 -- the keys answered are at leaves, beside others, and the answers are what the leaves may have given
-pub record AreAtLeaves {N : Type 0} (nodes : Nodes N) (slab : Slab (Entry N)) (line : List ℕ) (answers : List Answered) : Type 0 where
+pub record AreAtLeaves {N : Type 0} (nodes : Nodes N) (slab : Slab (TiedNode N)) (line : List ℕ) (answers : List Answered) : Type 0 where
   pub tops : List Top
   pub others : List ℕ
   pub keeps : KeepsSome {N = N} nodes tops slab line (keys_answered answers ++ others)
@@ -206,7 +206,7 @@ pub record AreAtLeaves {N : Type 0} (nodes : Nodes N) (slab : Slab (Entry N)) (l
   pub gives : GiveAnswers keeps.terms keeps.before keeps.so_far.ops answers keeps.so_far.images left
 
 -- each round in which the keys are at leaves goes on with what the leaves answered
-abbrev pub ComeBack : {N : Type 0} → Nodes N → Slab (Entry N) → List ℕ → Slab (Entry N) → List ℕ → List Answered → Type 0
+abbrev pub ComeBack : {N : Type 0} → Nodes N → Slab (TiedNode N) → List ℕ → Slab (TiedNode N) → List ℕ → List Answered → Type 0
 ComeBack {N = N} nodes slab line slab_now line_now answers =
     (t : Terms) (sizes : ℕ → ℕ) (f : Forest) (before : Before) (s : SoFar) (others : List ℕ) → IsSoundRound t sizes f →
     KeepsRound {N = N} nodes t sizes f before s slab line (keys_answered answers ++ others) → (left : Images) →
@@ -214,8 +214,8 @@ ComeBack {N = N} nodes slab line slab_now line_now answers =
     KeepsRound {N = N} nodes t sizes f before (with_images s left) slab_now line_now others
 
 -- each sound round goes on, with the images as they are now
-abbrev pub IssuesOn : {N D : Type 0} → Nodes N → (D → ℕ) → (D → List ℕ → Type 0) → Slab (Entry N) → List ℕ → Grounds D
-    → Slab (Entry N) → List ℕ → Grounds D → Type 0
+abbrev pub IssuesOn : {N D : Type 0} → Nodes N → (D → ℕ) → (D → List ℕ → Type 0) → Slab (TiedNode N) → List ℕ → Grounds D
+    → Slab (TiedNode N) → List ℕ → Grounds D → Type 0
 IssuesOn {N = N} {D = D} nodes bytes image slab line g slab_now line_now g_now =
     (t : Terms) (sizes : ℕ → ℕ) (f : Forest) (before : Before) (s : SoFar) → IsSoundRound t sizes f →
     IsGoingOn {N = N} {D = D} nodes bytes image t sizes f before s slab line g →
@@ -224,8 +224,8 @@ IssuesOn {N = N} {D = D} nodes bytes image slab line g slab_now line_now g_now =
 -- ---- what turns and groups leave, whichever were picked
 
 -- each sound round goes on so
-abbrev pub RunsOn : {N D : Type 0} → Nodes N → (D → ℕ) → (D → List ℕ → Type 0) → Slab (Entry N) → List ℕ → Grounds D
-    → Slab (Entry N) → List ℕ → Grounds D → Turned → Type 0
+abbrev pub RunsOn : {N D : Type 0} → Nodes N → (D → ℕ) → (D → List ℕ → Type 0) → Slab (TiedNode N) → List ℕ → Grounds D
+    → Slab (TiedNode N) → List ℕ → Grounds D → Turned → Type 0
 RunsOn {N = N} {D = D} nodes bytes image slab line g slab_now line_now g_now turned =
     (t : Terms) (sizes : ℕ → ℕ) (f : Forest) (before : Before) (s : SoFar) → IsSoundRound t sizes f →
     IsGoingOn {N = N} {D = D} nodes bytes image t sizes f before s slab line g →
@@ -238,14 +238,14 @@ IsDone line leaves _ = Unit {0}
 
 -- each sound round goes on until a tree hears, or there is nothing to do, and these requests finished meanwhile
 abbrev pub AfterRun : {N D : Type 0} → Nodes N → (D → ℕ) → (D → List ℕ → Type 0) → Terms → (ℕ → ℕ) → Forest → Before → SoFar
-    → List Finished → Slab (Entry N) → List ℕ → Grounds D → Option Hearing → Type 0
+    → List Finished → Slab (TiedNode N) → List ℕ → Grounds D → Option Hearing → Type 0
 AfterRun {N = N} {D = D} nodes bytes image t sizes f before s finished slab line g None =
     HasTurned {N = N} {D = D} nodes bytes image t sizes f before s finished slab line g
 AfterRun {N = N} {D = D} nodes bytes image t sizes f before s finished slab line g (Some heard) =
     HasEndedFor {N = N} {D = D} nodes bytes image t sizes f before s finished slab line g heard.tree heard.outcome
 
-abbrev pub RunsToTree : {N D : Type 0} → Nodes N → (D → ℕ) → (D → List ℕ → Type 0) → Slab (Entry N) → List ℕ → Grounds D
-    → List Finished → Slab (Entry N) → List ℕ → Grounds D → List Finished → Option Hearing → Type 0
+abbrev pub RunsToTree : {N D : Type 0} → Nodes N → (D → ℕ) → (D → List ℕ → Type 0) → Slab (TiedNode N) → List ℕ → Grounds D
+    → List Finished → Slab (TiedNode N) → List ℕ → Grounds D → List Finished → Option Hearing → Type 0
 RunsToTree {N = N} {D = D} nodes bytes image slab line g ended slab_now line_now g_now ended_now heard =
     (t : Terms) (sizes : ℕ → ℕ) (f : Forest) (before : Before) (s : SoFar) → IsSoundRound t sizes f →
     IsGoingOn {N = N} {D = D} nodes bytes image t sizes f before s slab line g →

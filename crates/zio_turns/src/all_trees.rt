@@ -10,11 +10,11 @@ ghost use Rattle.zio_turns.specs.UnderTrees.{RunsSome, RunsToEnd, StateIn};
 
 use crate::grounds::Grounds;
 use crate::hearing::run_to_tree;
+use crate::picks::Picks;
 use crate::staged::Staged;
 use crate::trees::{TreeState, hear_tree};
 use crate::turns::Turns;
 use zio_disks::Stop;
-use crate::picks::Picks;
 use zio_outside::Disk;
 use zio_script::Failmode;
 use zio_stages::Finished;

@@ -10,11 +10,11 @@ ghost use Rattle.zio_turns.specs.declared.turn.Turned.TheVariants.{Nothing};
 
 use crate::grounds::Grounds;
 use crate::group::issue_group;
+use crate::picks::Picks;
 use crate::staged::Staged;
 use crate::turn::{Turned, run_turn};
 use crate::turns::Turns;
 use zio_disks::Stop;
-use crate::picks::Picks;
 use zio_outside::Disk;
 
 /// Runs until a turn has something to tell, or no key is queued and nothing waits at the leaves. The choices are the queued

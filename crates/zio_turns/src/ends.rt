@@ -21,9 +21,9 @@ ghost use Rattle.zio_turns.specs.Rounds.{SoFar};
 ghost use Rattle.zio_turns.specs.Sizes.{FitsBodies};
 ghost use Rattle.zio_turns.specs.UnderTrees.{IsOver};
 ghost use Rattle.zio_turns.specs.declared.desk.Asked.{Asked as SeenAsked};
-ghost use Rattle.zio_turns.specs.declared.entry.Entry.{Entry as SeenEntry};
+ghost use Rattle.zio_turns.specs.declared.entry.TiedNode.{TiedNode as SeenEntry};
 
-use crate::node::Node;
+use crate::node::NodeFacts;
 
 /// The requests that finished in a round that is over are those of its trees' values. Each place that was found, or is of a block
 /// that a free named, was given back or is in a block that was made, and these were found: they lie inside the tops, are free beside
@@ -31,7 +31,7 @@ use crate::node::Node;
 /// among these, those in use that are in no block that was freed, and those of the blocks that were made. Each request that
 /// finished did so behind all requests of the round that stand under it. It has no bytes, or it reads a block and has as many as
 /// all bodies of that are together; where it reads a block and has no error, it has these.
-pub fn books_tell_the_end<N: Node>()
+pub fn books_tell_the_end<N: NodeFacts>()
     ensures requests { (t : Terms) (sizes : ℕ → ℕ) (f : Forest) (before : Option Images) (s : SoFar) (slab : Slab (SeenEntry N))
         (values : Seq Value) → IsOver N.nodes t sizes f before s slab → s.trees ≡ all_heard values →
         IsPermutation (all_ended s.books.done) (round_of values).ended }

@@ -25,7 +25,7 @@ pub(crate) struct Ties {
 
 /// A node with its ties.
 #[derive(Drop)]
-pub(crate) struct Entry<N> {
+pub(crate) struct TiedNode<N> {
     pub(crate) node: N,
     pub(crate) ties: Ties,
 }

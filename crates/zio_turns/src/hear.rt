@@ -7,13 +7,13 @@ ghost use Rattle.zio_blkptr.specs.Pointers.{valid};
 ghost use Rattle.zio_turns.specs.Acts.{AwaitsEnd, AwaitsReady, CanEnd, CanTell, HasCounted, HasEnded, HasTold, IsHandedOn, NodeHeard, NodeTold, StepIn, step_told};
 ghost use Rattle.zio_turns.specs.Stages.{OutcomeIn};
 
-use crate::entry::{Entry, Parent, Ties};
+use crate::entry::{Parent, TiedNode, Ties};
+use crate::line::Line;
 use crate::shelf::{put_back, queue_up};
 use crate::staged::Staged;
 use crate::step::Step;
 use slab::Slab;
 use zio_blkptr::Bp;
-use crate::line::Line;
 use zio_stages::{Finished, Outcome};
 use zio_types::{Bits, ChildKind, Errno, NoMemory, Phase, Top};
 
@@ -28,10 +28,10 @@ struct Mark {
 
 /// The node goes back under its key, with the child's mark in its counts, and is queued where it waited for that alone.
 fn count<N>(
-    nodes: &mut Slab<Entry<N>>,
+    nodes: &mut Slab<TiedNode<N>>,
     line: &mut Line,
     key: u32,
-    entry: Entry<N>,
+    entry: TiedNode<N>,
     mark: Mark,
 ) -> Result<(), NoMemory>
     requires room { HasRoomFor nodes.old 1 }
@@ -39,12 +39,12 @@ fn count<N>(
     requires owed { 0 < counted mark.kind mark.phase entry.ties.counts }
     ensures { OnOk result (HasCounted nodes.old line.old nodes.new line.new key entry mark.kind mark.phase mark.error mark.bits) }
 {
-    let Entry { node, ties } = entry;
+    let TiedNode { node, ties } = entry;
     let mut ties = ties;
     let woken = ties
         .counts
         .notify(mark.kind, mark.phase, mark.error, mark.bits);
-    put_back(nodes, key, Entry { node, ties });
+    put_back(nodes, key, TiedNode { node, ties });
     if woken {
         return queue_up(line, key);
     }
@@ -53,7 +53,7 @@ fn count<N>(
 
 /// The node under the key hears that the value of its child of this number will have this pointer.
 fn tell_node<N: Staged>(
-    nodes: &mut Slab<Entry<N>>,
+    nodes: &mut Slab<TiedNode<N>>,
     line: &mut Line,
     kind: ChildKind,
     key: u32,
@@ -64,7 +64,7 @@ fn tell_node<N: Staged>(
     requires can { AwaitsReady N.nodes nodes.old kind key child }
     ensures { OnOk result (NodeTold N.nodes N.over nodes.old line.old nodes.new line.new kind key child pointer) }
 {
-    let Entry { node, ties } = nodes.remove(key as usize);
+    let TiedNode { node, ties } = nodes.remove(key as usize);
     let node = node.arrive_ready(child, pointer);
     let mark = Mark {
         kind,
@@ -72,12 +72,12 @@ fn tell_node<N: Staged>(
         error: None,
         bits: Bits::NONE,
     };
-    count(nodes, line, key, Entry { node, ties }, mark)
+    count(nodes, line, key, TiedNode { node, ties }, mark)
 }
 
 /// The parent hears which pointer the value of its child will have. Whether that is a tree.
 pub(crate) fn tell<N: Staged>(
-    nodes: &mut Slab<Entry<N>>,
+    nodes: &mut Slab<TiedNode<N>>,
     line: &mut Line,
     kind: ChildKind,
     parent: Parent,
@@ -116,7 +116,7 @@ fn bits_of(outcome: &Outcome) -> Bits {
 
 /// The node under the key hears with what its child of this number ended. Of a request that finished this comes back.
 fn end_node<N: Staged>(
-    nodes: &mut Slab<Entry<N>>,
+    nodes: &mut Slab<TiedNode<N>>,
     line: &mut Line,
     tops: &[Top],
     kind: ChildKind,
@@ -135,17 +135,17 @@ fn end_node<N: Staged>(
         error: error_of(&outcome),
         bits: bits_of(&outcome),
     };
-    let Entry { node, ties } = nodes.remove(key as usize);
+    let TiedNode { node, ties } = nodes.remove(key as usize);
     let Ok((node, finished)) = node.arrive(tops, child, outcome) else {
         return Err(NoMemory);
     };
-    count(nodes, line, key, Entry { node, ties }, mark)?;
+    count(nodes, line, key, TiedNode { node, ties }, mark)?;
     Ok(finished)
 }
 
 /// The node ended with this, and its parent hears of it, or its tree is to.
 pub(crate) fn end<N: Staged>(
-    nodes: &mut Slab<Entry<N>>,
+    nodes: &mut Slab<TiedNode<N>>,
     line: &mut Line,
     tops: &[Top],
     ties: &Ties,

@@ -10,11 +10,11 @@ ghost use Rattle.zio_turns.specs.UnderTurns.{GoesOnSome, IsDoneUnless, RunsToTre
 
 use crate::drive::run_on;
 use crate::grounds::Grounds;
+use crate::picks::Picks;
 use crate::staged::Staged;
 use crate::turn::Turned;
 use crate::turns::Turns;
 use zio_disks::Stop;
-use crate::picks::Picks;
 use zio_outside::Disk;
 use zio_stages::{Finished, Outcome};
 

@@ -36,13 +36,13 @@ ghost use Rattle.zio_turns.specs.Engine.{IsKept, IsRight, StillKept};
 ghost use Rattle.zio_turns.specs.Entries.{AreWith, Held, IsWith, Live, OfNode, OfTree, OneMore, OneMoreIf, Shelf, all_tops, grown, handed_on, live_of, new_flying, new_held, standing, top_at, with_both, with_node, with_stack};
 ghost use Rattle.zio_turns.specs.Found.{DoesAsked, IsFound, IsParentFound, IsTreeFound};
 
-use crate::node::Node;
+use crate::node::NodeFacts;
 
 /// A round begins with a node for each of its trees. A node under a key does something itself, waits for a count, does
 /// something itself and hands out the operation that it asks then, or goes to a leaf and comes back. The key stands in the
 /// queue, or at the leaves, exactly while it says so. An operation at a leaf lies on it, and where no image is told it may
 /// answer anything. In a round with a claim no place is asked for, and in no other are places taken.
-pub fn engines_keep_rounds<N: Node>()
+pub fn engines_keep_rounds<N: NodeFacts>()
     ensures begins { (t : Terms) (sizes : ℕ → ℕ) (f : Forest) (before : Option Images) (images : Images) →
         IsSoundRound t sizes f → IfSome before (λ b. b ≡ images) →
         StillKept N.nodes t sizes f before (all_out (settles f)) (all_tops (settling_from 0 (settles f))) []
@@ -136,7 +136,7 @@ pub fn engines_keep_rounds<N: Node>()
 /// A node tells its parent, a node or a tree, which pointer its value will have; it ends, and its parent has its value; and a
 /// tree ends. The parent is queued once more exactly where it stalled on the count, and this was its last child of that count. The
 /// node does the operation that was asked for this child, and is of its kind; once it ended its value fits.
-pub fn engines_hear_of_nodes<N: Node>()
+pub fn engines_hear_of_nodes<N: NodeFacts>()
     ensures tells { (t : Terms) (sizes : ℕ → ℕ) (f : Forest) (before : Option Images) (trees : List Slot)
         (tops : List (Option Flying)) (others : List Live) (shelf : Shelf N) (queue leaves : List ℕ) (s : State)
         (key above : ℕ) (x q : Flying) (h g : Held N) (n : ℕ) (c : Child) (pointer : Option Bp) (node up : N)
@@ -239,7 +239,7 @@ pub fn engines_hear_of_nodes<N: Node>()
 {}
 
 /// What an engine finds: the node under a key, its parent, what is queued, and a count to wait for.
-pub fn engines_find_nodes<N: Node>()
+pub fn engines_find_nodes<N: NodeFacts>()
     ensures finds { (t : Terms) (sizes : ℕ → ℕ) (f : Forest) (before : Option Images) (trees : List Slot)
         (tops : List (Option Flying)) (lives : List Live) (shelf : Shelf N) (queue leaves : List ℕ) (s : State) (key : ℕ)
         (h : Held N) →
@@ -273,7 +273,7 @@ pub fn engines_find_nodes<N: Node>()
 /// An engine with nothing queued and nothing at the leaves holds no node; once no tree is under way either the round is
 /// settled as by the definitions. Also where no image is told, its trees have values that an oracle gives, which agrees with
 /// all that was done, and whose answers fit the journal.
-pub fn engines_settle_rounds<N: Node>()
+pub fn engines_settle_rounds<N: NodeFacts>()
     ensures not_stuck { (t : Terms) (sizes : ℕ → ℕ) (f : Forest) (before : Option Images) (trees : List Slot)
         (tops : List (Option Flying)) (lives : List Live) (shelf : Shelf N) (queue leaves : List ℕ) (s : State) →
         IsKept N.nodes t sizes f before trees tops lives shelf queue leaves s → queue ≡ [] → leaves ≡ [] → lives ≡ [] }

@@ -41,7 +41,7 @@ pub use laws::{
     engines_find_nodes, engines_hear_of_nodes, engines_keep_rounds, engines_settle_rounds,
 };
 pub use line::Line;
-pub use node::Node;
+pub use node::NodeFacts;
 pub use picks::{FirstPicks, Picks, SeedPicks, from_seed};
 pub use staged::{BothBack, Move, Staged};
 pub use trees::{TreeEnd, TreeState, begin_attempt, hear_tree};

@@ -3,6 +3,6 @@
 ghost use Rattle.zio_turns.specs.Parts.{Nodes};
 
 /// A node: how far it is, whether it told its pointer, and how often it runs at most.
-pub trait Node {
+pub trait NodeFacts {
     ghost nodes: { Nodes Self };
 }

@@ -4,10 +4,10 @@ ghost use Rattle.std.specs.Prelude.{◌≡◌, ◌∷◌, ◌++◌, [], IfOk, No
 ghost use Rattle.slab.specs.Slab.{HasRoomFor, Updates, get};
 ghost use Rattle.zio_turns.specs.Acts.{HasGrown, HasWaited, new_ties};
 
-use crate::entry::{Entry, Parent, Ties};
+use crate::entry::{Parent, TiedNode, Ties};
+use crate::line::Line;
 use slab::Slab;
 use zio_counts::{Counts, OPEN_CHILDREN_MAX};
-use crate::line::Line;
 use zio_types::{ChildKind, NoMemory, Phase};
 
 /// The ties of a node that handed out nothing yet.
@@ -33,7 +33,7 @@ pub(crate) fn queue_up(line: &mut Line, key: u32) -> Result<(), NoMemory>
 }
 
 /// Puts a node back under the key that was freed last.
-pub(crate) fn put_back<N>(nodes: &mut Slab<Entry<N>>, key: u32, entry: Entry<N>)
+pub(crate) fn put_back<N>(nodes: &mut Slab<TiedNode<N>>, key: u32, entry: TiedNode<N>)
     requires room { HasRoomFor nodes.old 1 }
     requires free { nodes.old.vacant_key ≡ key }
     ensures { Updates nodes.old nodes.new key (Some entry) }
@@ -52,7 +52,10 @@ fn narrow(key: usize) -> Result<u32, NoMemory>
 }
 
 /// Gives a node a key.
-pub(crate) fn add<N: Drop>(nodes: &mut Slab<Entry<N>>, entry: Entry<N>) -> Result<u32, NoMemory>
+pub(crate) fn add<N: Drop>(
+    nodes: &mut Slab<TiedNode<N>>,
+    entry: TiedNode<N>,
+) -> Result<u32, NoMemory>
     ensures free { IfOk result (λ key. get nodes.old key ≡ None) }
     ensures added { IfOk result (λ key. Updates nodes.old nodes.new key (Some entry)) }
 {
@@ -64,10 +67,10 @@ pub(crate) fn add<N: Drop>(nodes: &mut Slab<Entry<N>>, entry: Entry<N>) -> Resul
 
 /// The node stalls until no child of this kind owes the phase, or is queued where none does.
 pub(crate) fn wait<N: Drop>(
-    nodes: &mut Slab<Entry<N>>,
+    nodes: &mut Slab<TiedNode<N>>,
     line: &mut Line,
     key: u32,
-    entry: Entry<N>,
+    entry: TiedNode<N>,
     kind: ChildKind,
     phase: Phase,
 ) -> Result<(), NoMemory>
@@ -75,10 +78,10 @@ pub(crate) fn wait<N: Drop>(
     requires free { nodes.old.vacant_key ≡ key }
     ensures { OnOk result (HasWaited nodes.old line.old nodes.new line.new key entry kind phase) }
 {
-    let Entry { node, ties } = entry;
+    let TiedNode { node, ties } = entry;
     let mut ties = ties;
     let stalls = ties.counts.wait_for(&[kind], phase);
-    put_back(nodes, key, Entry { node, ties });
+    put_back(nodes, key, TiedNode { node, ties });
     if stalls {
         return Ok(());
     }
@@ -87,10 +90,10 @@ pub(crate) fn wait<N: Drop>(
 
 /// The child is the next of the node, and both are queued, the child first.
 pub(crate) fn grow<N: Drop>(
-    nodes: &mut Slab<Entry<N>>,
+    nodes: &mut Slab<TiedNode<N>>,
     line: &mut Line,
     key: u32,
-    entry: Entry<N>,
+    entry: TiedNode<N>,
     child: N,
     kind: ChildKind,
 ) -> Result<(), NoMemory>
@@ -98,7 +101,7 @@ pub(crate) fn grow<N: Drop>(
     requires free { nodes.old.vacant_key ≡ key }
     ensures { OnOk result (HasGrown nodes.old line.old nodes.new line.new key entry child kind) }
 {
-    let Entry { node, ties } = entry;
+    let TiedNode { node, ties } = entry;
     let mut ties = ties;
     let number = ties.children;
     if number == u32::MAX {
@@ -109,11 +112,11 @@ pub(crate) fn grow<N: Drop>(
     }
     ties.counts.add(kind);
     ties.children = number + 1;
-    put_back(nodes, key, Entry { node, ties });
+    put_back(nodes, key, TiedNode { node, ties });
     let parent = Parent::Node { key, child: number };
     let at = add(
         nodes,
-        Entry {
+        TiedNode {
             node: child,
             ties: new_ties(kind, parent),
         },

@@ -13,10 +13,10 @@ ghost use Rattle.zio_frames.specs.Moves.{done_at_once, heard_early, heard_of};
 ghost use Rattle.zio_stages.specs.SpaceCalls.{SpaceCall};
 ghost use Rattle.zio_stages.specs.Wholes.{IsTreeOf};
 ghost use Rattle.zio_stages.specs.declared.outcome.Outcome.{Outcome as SeenOutcome};
-ghost use Rattle.zio_stages.specs.declared.waiting.Waiting.{Waiting};
+ghost use Rattle.zio_stages.specs.declared.waiting.UnfinishedRequest.{UnfinishedRequest};
 ghost use Rattle.zio_turns.specs.Stages.{AreItsOwn, EachIn, GoesOn, Hears, HearsEarly, HearsSome, HearsSomeEarly, IsMove, IsNow, Lessens, OutcomeIn, ShowsAnswer, TellsValid, heard_max};
 
-use crate::node::Node;
+use crate::node::NodeFacts;
 use std::alloc::Global;
 use zio_blkptr::Bp;
 use zio_script::Failmode;
@@ -48,14 +48,14 @@ pub struct BothBack<N> {
 }
 
 /// A node whose stages an engine runs.
-pub trait Staged: Node + Drop {
+pub trait Staged: NodeFacts + Drop {
     ghost use Rattle.zio_turns.specs.declared.staged.Move.{Move as SeenMove};
 
     /// What it is to read, write or free lies inside these tops.
     ghost over: { Seq SeenTop → Self → Type 0 };
 
     /// What a tree of requests names lies inside them.
-    ghost tree_over: { Seq SeenTop → Seq Waiting → Type 0 };
+    ghost tree_over: { Seq SeenTop → Seq UnfinishedRequest → Type 0 };
 
     /// Where a stage leaves it.
     ghost leads: { Self → SeenMove Self → Type 0 };

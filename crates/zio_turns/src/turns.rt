@@ -9,21 +9,21 @@ ghost use Rattle.zio_turns.specs.Desks.{GivesLast};
 ghost use Rattle.zio_turns.specs.Rounds.{Begins, ClaimsAlone, ComesBack, HandsOut, HasTurn, IsAtLeaf, IsTurn, StepsOn};
 ghost use Rattle.zio_turns.specs.Slabs.{AreAll, load};
 
-use crate::entry::{Entry, Parent};
+use crate::entry::{Parent, TiedNode};
 use crate::hear::{end, tell};
+use crate::line::Line;
 use crate::shelf::{add, grow, new_ties, put_back, queue_up, wait};
 use crate::staged::{Move, Staged};
 use crate::step::Step;
 use slab::Slab;
 use std::alloc::Global;
-use crate::line::Line;
 use zio_stages::Services;
 use zio_types::{Bytes, ChildKind, Errno, NoMemory};
 
 /// The nodes of a round under their keys, and the queue of those whose turn it may be.
 #[derive(Drop)]
 pub struct Turns<N> {
-    nodes: Slab<Entry<N>>,
+    nodes: Slab<TiedNode<N>>,
     line: Line,
 }
 
@@ -58,7 +58,7 @@ impl<N: Staged> Turns<N> {
             ≡ load N.nodes.left self.old.nodes self.old.line + 3 * N.nodes.left node + 1) }
     {
         let ties = new_ties(ChildKind::Logical, Parent::Tree { tree, child });
-        let key = add(&mut self.nodes, Entry { node, ties })?;
+        let key = add(&mut self.nodes, TiedNode { node, ties })?;
         queue_up(&mut self.line, key)
     }
 
@@ -93,31 +93,31 @@ impl<N: Staged> Turns<N> {
     {
         N::does_its_part();
         let Turns { nodes, line } = self;
-        let Entry { node, ties } = nodes.remove(key as usize);
+        let TiedNode { node, ties } = nodes.remove(key as usize);
         let Ok(moved) = node.run_stage(alloc, services) else {
             return Err(NoMemory);
         };
         match moved {
             Move::Next(node) => {
-                put_back(nodes, key, Entry { node, ties });
+                put_back(nodes, key, TiedNode { node, ties });
                 Ok(Step::Goes)
             }
             Move::Wait(node, kind, phase) => {
-                wait(nodes, line, key, Entry { node, ties }, kind, phase)?;
+                wait(nodes, line, key, TiedNode { node, ties }, kind, phase)?;
                 Ok(Step::Rests)
             }
             Move::Grow(node, child, kind) => {
-                grow(nodes, line, key, Entry { node, ties }, child, kind)?;
+                grow(nodes, line, key, TiedNode { node, ties }, child, kind)?;
                 Ok(Step::Rests)
             }
             Move::Leaf(node, op, leaf, bytes) => {
-                put_back(nodes, key, Entry { node, ties });
+                put_back(nodes, key, TiedNode { node, ties });
                 Ok(Step::Leaf(op, leaf, bytes))
             }
             Move::Ready(node, pointer) => {
                 let kind = ties.kind;
                 let parent = ties.parent;
-                put_back(nodes, key, Entry { node, ties });
+                put_back(nodes, key, TiedNode { node, ties });
                 tell(nodes, line, kind, parent, pointer)
             }
             Move::End(outcome) => end(nodes, line, services.tops(), &ties, outcome),
@@ -131,9 +131,9 @@ impl<N: Staged> Turns<N> {
         ensures over { (tops : Seq SeenTop) → AreAll (N.over tops) self.old.nodes → OnOk result (AreAll (N.over tops) self.new.nodes) }
         ensures less { OnOk result (load N.nodes.left self.new.nodes self.new.line < load N.nodes.left self.old.nodes self.old.line + 2) }
     {
-        let Entry { node, ties } = self.nodes.remove(key as usize);
+        let TiedNode { node, ties } = self.nodes.remove(key as usize);
         let node = node.answered(error, bytes);
-        put_back(&mut self.nodes, key, Entry { node, ties });
+        put_back(&mut self.nodes, key, TiedNode { node, ties });
         queue_up(&mut self.line, key)
     }
 }

@@ -19,7 +19,7 @@ begin_trees-requires-clause-few g c =
 pub run_trees-requires-clause-runs : goal.run_trees-requires-clause-runs
 run_trees-requires-clause-runs g c =
     let m = g.D.Disk in
-    some_runs g.N.Node.nodes m.bytes m.image c.args.grounds.now c.args.round c.args.failmode c.requires.steady
+    some_runs g.N.NodeFacts.nodes m.bytes m.image c.args.grounds.now c.args.round c.args.failmode c.requires.steady
     c.begin_trees.new.turns.nodes c.begin_trees.new.turns.line c.args.wholes c.in_ok-trees.trees.items
     c.in_ok-trees.ensures.begins c.in_ok-trees.ensures.states
     (steady_job m.bytes m.faults c.args.grounds.now c.args.round c.args.failmode c.requires.steady c.args.wholes c.requires.trees
@@ -43,7 +43,7 @@ returns-in_err-trees-clause-same g c =
 pub returns-in-Ok-clause-ends : goal.returns-in-Ok-clause-ends
 returns-in-Ok-clause-ends g c =
     let m = g.D.Disk in
-    ends_on g.N.Node.nodes m.bytes m.faults m.image c.args.grounds.now c.args.round c.args.failmode c.requires.steady
+    ends_on g.N.NodeFacts.nodes m.bytes m.faults m.image c.args.grounds.now c.args.round c.args.failmode c.requires.steady
     c.args.wholes c.begin_trees.new.turns.nodes c.run_trees.new.turns.nodes c.begin_trees.new.turns.line
     c.run_trees.new.turns.line c.run_trees.new.grounds c.in_ok-trees.trees.items c.run_trees.new.trees.items
     c.new-ended.result.items c.run_trees.new.ended.items c.in_ok-trees.ensures.begins c.in_ok-trees.ensures.states
@@ -68,9 +68,9 @@ returns-in-Ok-clause-images g c =
     (size_at (map m.bytes c.args.grounds.now.disks.items)) c.args.wholes =
     steady_job m.bytes m.faults c.args.grounds.now c.args.round c.args.failmode c.requires.steady c.args.wholes c.requires.trees
     c.requires.runs in
-    loose_over g.N.Node.nodes m.bytes m.faults m.image c.args.grounds.now c.args.round c.args.failmode c.requires.steady
+    loose_over g.N.NodeFacts.nodes m.bytes m.faults m.image c.args.grounds.now c.args.round c.args.failmode c.requires.steady
     c.args.wholes job g.met.D.Disk.has_size c.run_trees.new.grounds c.run_trees.new.trees.items c.run_trees.new.ended.items
-    (ends_on g.N.Node.nodes m.bytes m.faults m.image c.args.grounds.now c.args.round c.args.failmode c.requires.steady
+    (ends_on g.N.NodeFacts.nodes m.bytes m.faults m.image c.args.grounds.now c.args.round c.args.failmode c.requires.steady
     c.args.wholes c.begin_trees.new.turns.nodes c.run_trees.new.turns.nodes c.begin_trees.new.turns.line
     c.run_trees.new.turns.line c.run_trees.new.grounds c.in_ok-trees.trees.items c.run_trees.new.trees.items
     c.new-ended.result.items c.run_trees.new.ended.items c.in_ok-trees.ensures.begins c.in_ok-trees.ensures.states
@@ -83,7 +83,7 @@ returns-clause-images g c =
     (size_at (map m.bytes c.args.grounds.now.disks.items)) c.args.wholes =
     steady_job m.bytes m.faults c.args.grounds.now c.args.round c.args.failmode c.requires.steady c.args.wholes c.requires.trees
     c.requires.runs in
-    loose_stopped g.N.Node.nodes m.bytes m.faults m.image c.args.grounds.now c.args.round c.args.failmode c.requires.steady
+    loose_stopped g.N.NodeFacts.nodes m.bytes m.faults m.image c.args.grounds.now c.args.round c.args.failmode c.requires.steady
     c.args.wholes job g.met.D.Disk.has_size c.begin_trees.new.turns.nodes c.begin_trees.new.turns.line c.in_ok-trees.trees.items
     c.run_trees.new.grounds.disks.items c.in_ok-trees.ensures.begins c.in_ok-trees.ensures.states c.run_trees.ensures.same.sizes
     c.in-Err.ensures.stopped

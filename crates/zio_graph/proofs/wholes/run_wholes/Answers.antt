@@ -26,7 +26,7 @@ returns-clause-round g c =
     (size_at (map m.bytes c.args.grounds.now.disks.items)) c.args.wholes =
     steady_job m.bytes m.faults c.args.grounds.now c.args.round c.args.failmode c.requires.steady c.args.wholes c.requires.trees
     c.requires.runs in
-    is_so g.N.Node.nodes m.bytes m.faults m.image c.args.grounds.now c.args.round c.args.failmode c.requires.steady c.args.wholes
+    is_so g.N.NodeFacts.nodes m.bytes m.faults m.image c.args.grounds.now c.args.round c.args.failmode c.requires.steady c.args.wholes
     c.requires.runs job c.run_to_end.new.grounds c.in_ok-trees.field-0.trees.items c.in_ok-trees.field-0.ended.items
     c.in_ok-trees.ensures.count c.in_ok-trees.ensures.ends c.in_ok-finished.finished c.in_ok-finished.ensures.same
     c.in_ok-finished.ensures.order c.in_ok-left.left c.in_ok-left.ensures.left c.in_ok-completions.completions
@@ -41,7 +41,7 @@ returns-clause-end g c =
     (size_at (map m.bytes c.args.grounds.now.disks.items)) c.args.wholes =
     steady_job m.bytes m.faults c.args.grounds.now c.args.round c.args.failmode c.requires.steady c.args.wholes c.requires.trees
     c.requires.runs in
-    ends_so g.N.Node.nodes m.bytes m.faults m.image c.args.grounds.now c.args.round c.args.failmode c.requires.steady
+    ends_so g.N.NodeFacts.nodes m.bytes m.faults m.image c.args.grounds.now c.args.round c.args.failmode c.requires.steady
     c.args.wholes c.requires.runs job c.run_to_end.new.grounds c.in_ok-trees.field-0.trees.items
     c.in_ok-trees.field-0.ended.items c.in_ok-trees.ensures.count c.in_ok-trees.ensures.ends c.in_ok-finished.finished
     c.in_ok-finished.ensures.same c.in_ok-finished.ensures.order c.in_ok-left.left c.in_ok-left.ensures.left
@@ -59,7 +59,7 @@ returns-clause-stands g c =
     subst (λ (st : SpaceState). LeavesInUse (standing_on m.faults c.args.grounds.now)
     (map pendings c.args.wholes) c.in_ok-finished.finished st.live)
     (sym c.end_round-entries.ensures.space)
-    (stands g.N.Node.nodes m.bytes m.faults m.image c.args.grounds.now c.args.round c.args.failmode c.requires.steady
+    (stands g.N.NodeFacts.nodes m.bytes m.faults m.image c.args.grounds.now c.args.round c.args.failmode c.requires.steady
     c.args.wholes c.requires.runs job c.run_to_end.new.grounds c.in_ok-trees.field-0.trees.items
     c.in_ok-trees.field-0.ended.items c.in_ok-trees.ensures.count c.in_ok-trees.ensures.ends c.in_ok-finished.finished
     c.in_ok-finished.ensures.same c.in_ok-finished.ensures.order)
@@ -71,7 +71,7 @@ returns-clause-fits g c =
     (size_at (map m.bytes c.args.grounds.now.disks.items)) c.args.wholes =
     steady_job m.bytes m.faults c.args.grounds.now c.args.round c.args.failmode c.requires.steady c.args.wholes c.requires.trees
     c.requires.runs in
-    fits g.N.Node.nodes m.bytes m.faults m.image c.args.grounds.now c.args.round c.args.failmode c.requires.steady c.args.wholes
+    fits g.N.NodeFacts.nodes m.bytes m.faults m.image c.args.grounds.now c.args.round c.args.failmode c.requires.steady c.args.wholes
     c.requires.runs job c.run_to_end.new.grounds c.in_ok-trees.field-0.trees.items c.in_ok-trees.field-0.ended.items
     c.in_ok-trees.ensures.count c.in_ok-trees.ensures.ends c.in_ok-finished.finished c.in_ok-finished.ensures.same
     c.in_ok-finished.ensures.order
@@ -84,7 +84,7 @@ returns-clause-left g c = λ limits.
     steady_job m.bytes m.faults c.args.grounds.now c.args.round c.args.failmode c.requires.steady c.args.wholes c.requires.trees
     c.requires.runs in
     subst (AllByRecursion IsEngineTree) (sym c.in_ok-left.ensures.left)
-    (trees_left g.N.Node.nodes m.bytes m.faults m.image c.args.grounds.now c.args.round c.args.failmode c.requires.steady
+    (trees_left g.N.NodeFacts.nodes m.bytes m.faults m.image c.args.grounds.now c.args.round c.args.failmode c.requires.steady
     c.args.wholes c.requires.runs job c.run_to_end.new.grounds c.in_ok-trees.field-0.trees.items
     c.in_ok-trees.field-0.ended.items c.in_ok-trees.ensures.count c.in_ok-trees.ensures.ends
     (subst (AllByRecursion IsWhole) c.in_ok-left.ensures.left c.in_ok-left.ensures.whole)
@@ -106,7 +106,7 @@ returns-clause-steady g c =
     (size_at (map m.bytes c.args.grounds.now.disks.items)) c.args.wholes =
     steady_job m.bytes m.faults c.args.grounds.now c.args.round c.args.failmode c.requires.steady c.args.wholes c.requires.trees
     c.requires.runs in
-    still g.N.Node.nodes m.bytes m.faults m.image c.args.grounds.now c.args.round c.args.failmode c.requires.steady c.args.wholes
+    still g.N.NodeFacts.nodes m.bytes m.faults m.image c.args.grounds.now c.args.round c.args.failmode c.requires.steady c.args.wholes
     c.requires.runs job c.run_to_end.new.grounds c.in_ok-trees.field-0.trees.items c.in_ok-trees.field-0.ended.items
     c.in_ok-trees.ensures.count c.in_ok-trees.ensures.ends c.end_round-entries.new.self c.run_to_end.ensures.setting
     c.run_to_end.ensures.same.sizes

@@ -15,14 +15,14 @@ pub trees-init : goal.trees-init
 trees-init g c = (
   (λ all. all),
   same_itself g.D.Disk.bytes g.D.Disk.faults g.D.Disk.faults_at_fetch g.D.Disk.home g.D.Disk.image g.D.Disk.sound c.args.grounds.now.disks.items,
-  trees_begin g.N.Node.nodes g.N.Staged.over g.D.Disk.bytes g.D.Disk.faults g.D.Disk.image c.args.turns.now.nodes
+  trees_begin g.N.NodeFacts.nodes g.N.Staged.over g.D.Disk.bytes g.D.Disk.faults g.D.Disk.image c.args.turns.now.nodes
       c.args.turns.now.line c.args.grounds.now c.args.round c.args.failmode c.args.trees.now.items c.args.ended.now.items c.requires.over,
   refl,
 )
 
 pub run_to_tree-requires-clause-going : goal.run_to_tree-requires-clause-going
 run_to_tree-requires-clause-going g c =
-    trees_some g.N.Node.nodes g.N.Staged.over g.D.Disk.bytes g.D.Disk.faults g.D.Disk.image c.args.turns.now.nodes
+    trees_some g.N.NodeFacts.nodes g.N.Staged.over g.D.Disk.bytes g.D.Disk.faults g.D.Disk.image c.args.turns.now.nodes
     c.args.turns.now.line c.args.grounds.now c.args.round c.args.failmode c.args.trees.now.items c.args.ended.now.items c.trees.turns.nodes c.trees.turns.nodes c.trees.turns.nodes
     c.trees.turns.line c.trees.turns.line c.trees.turns.line c.trees.grounds c.trees.grounds c.trees.trees.items c.trees.ended.items
     c.trees.ended.items c.trees.invariant.2 c.requires.runs
@@ -30,7 +30,7 @@ run_to_tree-requires-clause-going g c =
 pub returns-in_default-clause-runs : goal.returns-in_default-clause-runs
 returns-in_default-clause-runs g c =
     let done = rw c.in_default.is at c.in_ok-heard.ensures.done in
-    trees_end g.N.Node.nodes g.N.Staged.over g.D.Disk.bytes g.D.Disk.faults g.D.Disk.image c.args.turns.now.nodes
+    trees_end g.N.NodeFacts.nodes g.N.Staged.over g.D.Disk.bytes g.D.Disk.faults g.D.Disk.image c.args.turns.now.nodes
     c.args.turns.now.line c.args.grounds.now c.args.round c.args.failmode c.args.trees.now.items c.args.ended.now.items c.trees.turns.nodes c.run_to_tree.new.turns.nodes c.run_to_tree.new.turns.nodes c.trees.turns.line
     c.run_to_tree.new.turns.line c.run_to_tree.new.turns.line c.trees.grounds c.run_to_tree.new.grounds c.trees.trees.items c.trees.ended.items
     c.run_to_tree.new.ended.items c.trees.invariant.2
@@ -38,7 +38,7 @@ returns-in_default-clause-runs g c =
 
 pub under_way-attempt-requires : goal.under_way-attempt-requires
 under_way-attempt-requires g c =
-    let under = tree_under g.N.Node.nodes g.N.Staged.over g.D.Disk.bytes g.D.Disk.faults g.D.Disk.image c.args.turns.now.nodes
+    let under = tree_under g.N.NodeFacts.nodes g.N.Staged.over g.D.Disk.bytes g.D.Disk.faults g.D.Disk.image c.args.turns.now.nodes
     c.args.turns.now.line c.args.grounds.now c.args.round c.args.failmode c.args.trees.now.items c.args.ended.now.items c.trees.turns.nodes c.run_to_tree.new.turns.nodes c.run_to_tree.new.turns.nodes c.trees.turns.line
     c.run_to_tree.new.turns.line c.run_to_tree.new.turns.line c.trees.grounds c.run_to_tree.new.grounds c.trees.trees.items c.trees.ended.items
     c.run_to_tree.new.ended.items c.trees.invariant.2 c.in-Some.heard (rw c.in-Some.is at c.in_ok-heard.ensures.runs) c.requires.runs in
@@ -46,7 +46,7 @@ under_way-attempt-requires g c =
 
 pub hear_tree-requires-clause-attempt : goal.hear_tree-requires-clause-attempt
 hear_tree-requires-clause-attempt g c =
-    let under = tree_under g.N.Node.nodes g.N.Staged.over g.D.Disk.bytes g.D.Disk.faults g.D.Disk.image c.args.turns.now.nodes
+    let under = tree_under g.N.NodeFacts.nodes g.N.Staged.over g.D.Disk.bytes g.D.Disk.faults g.D.Disk.image c.args.turns.now.nodes
     c.args.turns.now.line c.args.grounds.now c.args.round c.args.failmode c.args.trees.now.items c.args.ended.now.items c.trees.turns.nodes c.run_to_tree.new.turns.nodes c.run_to_tree.new.turns.nodes c.trees.turns.line
     c.run_to_tree.new.turns.line c.run_to_tree.new.turns.line c.trees.grounds c.run_to_tree.new.grounds c.trees.trees.items c.trees.ended.items
     c.run_to_tree.new.ended.items c.trees.invariant.2 c.in-Some.heard (rw c.in-Some.is at c.in_ok-heard.ensures.runs) c.requires.runs in
@@ -55,14 +55,14 @@ hear_tree-requires-clause-attempt g c =
 
 pub hear_tree-requires-clause-outcome : goal.hear_tree-requires-clause-outcome
 hear_tree-requires-clause-outcome g c =
-    (tree_under g.N.Node.nodes g.N.Staged.over g.D.Disk.bytes g.D.Disk.faults g.D.Disk.image c.args.turns.now.nodes
+    (tree_under g.N.NodeFacts.nodes g.N.Staged.over g.D.Disk.bytes g.D.Disk.faults g.D.Disk.image c.args.turns.now.nodes
     c.args.turns.now.line c.args.grounds.now c.args.round c.args.failmode c.args.trees.now.items c.args.ended.now.items c.trees.turns.nodes c.run_to_tree.new.turns.nodes c.run_to_tree.new.turns.nodes c.trees.turns.line
     c.run_to_tree.new.turns.line c.run_to_tree.new.turns.line c.trees.grounds c.run_to_tree.new.grounds c.trees.trees.items c.trees.ended.items
     c.run_to_tree.new.ended.items c.trees.invariant.2 c.in-Some.heard (rw c.in-Some.is at c.in_ok-heard.ensures.runs) c.requires.runs).3
 
 pub overflow_add-attempt : goal.overflow_add-attempt
 overflow_add-attempt g c =
-    let under = tree_under g.N.Node.nodes g.N.Staged.over g.D.Disk.bytes g.D.Disk.faults g.D.Disk.image c.args.turns.now.nodes
+    let under = tree_under g.N.NodeFacts.nodes g.N.Staged.over g.D.Disk.bytes g.D.Disk.faults g.D.Disk.image c.args.turns.now.nodes
     c.args.turns.now.line c.args.grounds.now c.args.round c.args.failmode c.args.trees.now.items c.args.ended.now.items c.trees.turns.nodes c.run_to_tree.new.turns.nodes c.hear_tree.new.turns.nodes c.trees.turns.line
     c.run_to_tree.new.turns.line c.hear_tree.new.turns.line c.trees.grounds c.run_to_tree.new.grounds c.trees.trees.items c.trees.ended.items
     c.run_to_tree.new.ended.items c.trees.invariant.2 c.in-Some.heard (rw c.in-Some.is at c.in_ok-heard.ensures.runs) c.requires.runs in
@@ -88,10 +88,10 @@ trees-preserved-in-None g c = (
       tt (c.trees.invariant.0 all))),
   same_then g.D.Disk.bytes g.D.Disk.faults g.D.Disk.faults_at_fetch g.D.Disk.home g.D.Disk.image g.D.Disk.sound c.args.grounds.now.disks.items c.trees.grounds.disks.items
       c.run_to_tree.new.grounds.disks.items c.trees.invariant.1 c.run_to_tree.ensures.same,
-  subst (λ (xs : List TreeState). IsRunningTrees g.N.Node.nodes g.N.Staged.over g.D.Disk.bytes g.D.Disk.faults g.D.Disk.image c.args.turns.now.nodes
+  subst (λ (xs : List TreeState). IsRunningTrees g.N.NodeFacts.nodes g.N.Staged.over g.D.Disk.bytes g.D.Disk.faults g.D.Disk.image c.args.turns.now.nodes
       c.args.turns.now.line c.args.grounds.now c.args.round c.args.failmode c.args.trees.now.items c.args.ended.now.items
       c.hear_tree.new.turns.nodes c.hear_tree.new.turns.line c.run_to_tree.new.grounds xs c.hear_tree.new.ended.items) (sym c.set_state.ensures)
-      (trees_again g.N.Node.nodes g.N.Staged.over g.D.Disk.bytes g.D.Disk.faults g.D.Disk.image c.args.turns.now.nodes
+      (trees_again g.N.NodeFacts.nodes g.N.Staged.over g.D.Disk.bytes g.D.Disk.faults g.D.Disk.image c.args.turns.now.nodes
       c.args.turns.now.line c.args.grounds.now c.args.round c.args.failmode c.args.trees.now.items c.args.ended.now.items c.trees.turns.nodes c.run_to_tree.new.turns.nodes c.hear_tree.new.turns.nodes c.trees.turns.line
       c.run_to_tree.new.turns.line c.hear_tree.new.turns.line c.trees.grounds c.run_to_tree.new.grounds c.trees.trees.items c.trees.ended.items
       c.run_to_tree.new.ended.items c.trees.invariant.2 c.in-Some.heard (rw c.in-Some.is at c.in_ok-heard.ensures.runs)
@@ -114,10 +114,10 @@ trees-preserved g c = (
       (rw c.in-Some.is at c.in_ok-heard.ensures.inside)))) (c.trees.invariant.0 all))),
   same_then g.D.Disk.bytes g.D.Disk.faults g.D.Disk.faults_at_fetch g.D.Disk.home g.D.Disk.image g.D.Disk.sound c.args.grounds.now.disks.items c.trees.grounds.disks.items
       c.run_to_tree.new.grounds.disks.items c.trees.invariant.1 c.run_to_tree.ensures.same,
-  subst (λ (xs : List TreeState). IsRunningTrees g.N.Node.nodes g.N.Staged.over g.D.Disk.bytes g.D.Disk.faults g.D.Disk.image c.args.turns.now.nodes
+  subst (λ (xs : List TreeState). IsRunningTrees g.N.NodeFacts.nodes g.N.Staged.over g.D.Disk.bytes g.D.Disk.faults g.D.Disk.image c.args.turns.now.nodes
       c.args.turns.now.line c.args.grounds.now c.args.round c.args.failmode c.args.trees.now.items c.args.ended.now.items
       c.hear_tree.new.turns.nodes c.hear_tree.new.turns.line c.run_to_tree.new.grounds xs c.hear_tree.new.ended.items) (sym c.set_state-in-Some-end.ensures)
-      (trees_settle g.N.Node.nodes g.N.Staged.over g.D.Disk.bytes g.D.Disk.faults g.D.Disk.image c.args.turns.now.nodes
+      (trees_settle g.N.NodeFacts.nodes g.N.Staged.over g.D.Disk.bytes g.D.Disk.faults g.D.Disk.image c.args.turns.now.nodes
       c.args.turns.now.line c.args.grounds.now c.args.round c.args.failmode c.args.trees.now.items c.args.ended.now.items c.trees.turns.nodes c.run_to_tree.new.turns.nodes c.hear_tree.new.turns.nodes c.trees.turns.line
       c.run_to_tree.new.turns.line c.hear_tree.new.turns.line c.trees.grounds c.run_to_tree.new.grounds c.trees.trees.items c.trees.ended.items
       c.run_to_tree.new.ended.items c.trees.invariant.2 c.in-Some.heard (rw c.in-Some.is at c.in_ok-heard.ensures.runs)
@@ -133,7 +133,7 @@ trees-preserved g c = (
 
 pub trees-smaller-in-None : goal.trees-smaller-in-None
 trees-smaller-in-None g c =
-    let under = tree_under g.N.Node.nodes g.N.Staged.over g.D.Disk.bytes g.D.Disk.faults g.D.Disk.image c.args.turns.now.nodes
+    let under = tree_under g.N.NodeFacts.nodes g.N.Staged.over g.D.Disk.bytes g.D.Disk.faults g.D.Disk.image c.args.turns.now.nodes
     c.args.turns.now.line c.args.grounds.now c.args.round c.args.failmode c.args.trees.now.items c.args.ended.now.items c.trees.turns.nodes c.run_to_tree.new.turns.nodes c.hear_tree.new.turns.nodes c.trees.turns.line
     c.run_to_tree.new.turns.line c.hear_tree.new.turns.line c.trees.grounds c.run_to_tree.new.grounds c.trees.trees.items c.trees.ended.items
     c.run_to_tree.new.ended.items c.trees.invariant.2 c.in-Some.heard (rw c.in-Some.is at c.in_ok-heard.ensures.runs) c.requires.runs in
@@ -150,7 +150,7 @@ trees-smaller-in-None g c =
 
 pub trees-smaller : goal.trees-smaller
 trees-smaller g c =
-    let under = tree_under g.N.Node.nodes g.N.Staged.over g.D.Disk.bytes g.D.Disk.faults g.D.Disk.image c.args.turns.now.nodes
+    let under = tree_under g.N.NodeFacts.nodes g.N.Staged.over g.D.Disk.bytes g.D.Disk.faults g.D.Disk.image c.args.turns.now.nodes
     c.args.turns.now.line c.args.grounds.now c.args.round c.args.failmode c.args.trees.now.items c.args.ended.now.items c.trees.turns.nodes c.run_to_tree.new.turns.nodes c.hear_tree.new.turns.nodes c.trees.turns.line
     c.run_to_tree.new.turns.line c.hear_tree.new.turns.line c.trees.grounds c.run_to_tree.new.grounds c.trees.trees.items c.trees.ended.items
     c.run_to_tree.new.ended.items c.trees.invariant.2 c.in-Some.heard (rw c.in-Some.is at c.in_ok-heard.ensures.runs) c.requires.runs in
@@ -168,16 +168,16 @@ trees-smaller g c =
 
 pub returns-in_err-heard-clause-stopped : goal.returns-in_err-heard-clause-stopped
 returns-in_err-heard-clause-stopped g c = on_err c.from_residual.result
-    (trees_stop g.N.Node.nodes g.D.Disk.bytes g.D.Disk.image c.args.turns.now.nodes c.trees.turns.nodes c.args.turns.now.line c.trees.turns.line
+    (trees_stop g.N.NodeFacts.nodes g.D.Disk.bytes g.D.Disk.image c.args.turns.now.nodes c.trees.turns.nodes c.args.turns.now.line c.trees.turns.line
     c.args.grounds.now c.trees.grounds c.args.round c.args.failmode c.args.trees.now.items c.trees.trees.items c.args.ended.now.items
     c.trees.ended.items c.run_to_tree.new.grounds.disks.items c.trees.invariant.2.gone c.in_err-heard.ensures.stopped)
 
 pub returns-in_default-hear_tree-clause-stopped : goal.returns-in_default-hear_tree-clause-stopped
 returns-in_default-hear_tree-clause-stopped g c =
-    trees_stop g.N.Node.nodes g.D.Disk.bytes g.D.Disk.image c.args.turns.now.nodes c.trees.turns.nodes c.args.turns.now.line c.trees.turns.line
+    trees_stop g.N.NodeFacts.nodes g.D.Disk.bytes g.D.Disk.image c.args.turns.now.nodes c.trees.turns.nodes c.args.turns.now.line c.trees.turns.line
     c.args.grounds.now c.trees.grounds c.args.round c.args.failmode c.args.trees.now.items c.trees.trees.items c.args.ended.now.items
     c.trees.ended.items c.run_to_tree.new.grounds.disks.items c.trees.invariant.2.gone
-    (heard_stops g.N.Node.nodes g.D.Disk.bytes g.D.Disk.image c.trees.turns.nodes c.run_to_tree.new.turns.nodes c.trees.turns.line
+    (heard_stops g.N.NodeFacts.nodes g.D.Disk.bytes g.D.Disk.image c.trees.turns.nodes c.run_to_tree.new.turns.nodes c.trees.turns.line
     c.run_to_tree.new.turns.line c.trees.grounds c.run_to_tree.new.grounds c.trees.ended.items c.run_to_tree.new.ended.items c.in-Some.heard
     (rw c.in-Some.is at c.in_ok-heard.ensures.runs))
 

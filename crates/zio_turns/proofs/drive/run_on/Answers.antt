@@ -11,13 +11,13 @@ use Rattle.zio_turns.proofs.drive.run_on.Goals as goal
 pub picks-init : goal.picks-init
 picks-init g c = (
   same_itself g.D.Disk.bytes g.D.Disk.faults g.D.Disk.faults_at_fetch g.D.Disk.home g.D.Disk.image g.D.Disk.sound c.args.grounds.now.disks.items,
-  drive_begins g.N.Node.nodes g.D.Disk.bytes g.D.Disk.faults g.D.Disk.image g.N.Staged.over c.args.turns.now.nodes c.args.turns.now.line
+  drive_begins g.N.NodeFacts.nodes g.D.Disk.bytes g.D.Disk.faults g.D.Disk.image g.N.Staged.over c.args.turns.now.nodes c.args.turns.now.line
       c.args.grounds.now c.requires.over,
 )
 
 pub returns-then-choices-eq0-clause-done : goal.returns-then-choices-eq0-clause-done
 returns-then-choices-eq0-clause-done g c =
-    let some = run_some g.N.Node.nodes g.D.Disk.bytes g.D.Disk.faults g.D.Disk.image c.args.turns.now.nodes c.args.turns.now.line c.args.grounds.now
+    let some = run_some g.N.NodeFacts.nodes g.D.Disk.bytes g.D.Disk.faults g.D.Disk.image c.args.turns.now.nodes c.args.turns.now.line c.args.grounds.now
     c.picks.turns.nodes c.picks.turns.line c.picks.grounds c.picks.invariant.1.gone c.requires.going in (
       no_line c.picks.turns.line (omega (arith, c.saturating_add-choices.ensures, c.if-choices-eq0.true, c.len-keys.ensures)),
       c.eligible.ensures.none some.going.lent.ready.order
@@ -26,7 +26,7 @@ returns-then-choices-eq0-clause-done g c =
 
 pub run_turn-requires-clause-going : goal.run_turn-requires-clause-going
 run_turn-requires-clause-going g c =
-    drive_taken g.N.Node.nodes g.D.Disk.bytes g.D.Disk.faults g.D.Disk.image g.N.Staged.over c.args.turns.now.nodes c.args.turns.now.line
+    drive_taken g.N.NodeFacts.nodes g.D.Disk.bytes g.D.Disk.faults g.D.Disk.image g.N.Staged.over c.args.turns.now.nodes c.args.turns.now.line
     c.args.grounds.now c.picks.turns.nodes c.take-key.new.self.nodes c.picks.turns.nodes c.picks.turns.line
     c.take-key.new.self.line c.picks.turns.line c.picks.grounds c.picks.grounds c.picks.invariant.1 c.take-key.result
     c.take-key.ensures.turn c.requires.going
@@ -35,12 +35,12 @@ pub picks-preserved-in-Nothing : goal.picks-preserved-in-Nothing
 picks-preserved-in-Nothing g c = (
   subst (λ (ds : List _). AreSameDisks g.D.Disk.bytes g.D.Disk.faults g.D.Disk.faults_at_fetch g.D.Disk.home g.D.Disk.image g.D.Disk.sound c.args.grounds.now.disks.items ds)
       (sym c.run_turn.ensures.same.disks_same) c.picks.invariant.0,
-  drive_turned g.N.Node.nodes g.D.Disk.bytes g.D.Disk.faults g.D.Disk.image g.N.Staged.over c.args.turns.now.nodes c.args.turns.now.line
+  drive_turned g.N.NodeFacts.nodes g.D.Disk.bytes g.D.Disk.faults g.D.Disk.image g.N.Staged.over c.args.turns.now.nodes c.args.turns.now.line
       c.args.grounds.now c.picks.turns.nodes c.take-key.new.self.nodes c.run_turn.new.turns.nodes c.picks.turns.line c.take-key.new.self.line
       c.run_turn.new.turns.line c.picks.grounds c.run_turn.new.grounds c.picks.invariant.1
       c.take-key.result c.in_ok-told.told c.take-key.ensures.turn c.in_ok-told.ensures.turns c.in-Nothing.is
       c.in_ok-told.ensures.over c.run_turn.ensures.same
-      (taken_less g.N.Node.nodes g.D.Disk.bytes g.D.Disk.faults g.D.Disk.image g.N.Staged.over c.args.turns.now.nodes c.args.turns.now.line
+      (taken_less g.N.NodeFacts.nodes g.D.Disk.bytes g.D.Disk.faults g.D.Disk.image g.N.Staged.over c.args.turns.now.nodes c.args.turns.now.line
       c.args.grounds.now c.picks.turns.nodes c.take-key.new.self.nodes c.run_turn.new.turns.nodes c.picks.turns.line c.take-key.new.self.line
       c.run_turn.new.turns.line c.picks.grounds c.run_turn.new.grounds c.picks.invariant.1
       c.take-key.ensures.nodes c.take-key.ensures.len c.in_ok-told.ensures.less),
@@ -48,7 +48,7 @@ picks-preserved-in-Nothing g c = (
 
 pub returns-in_default-clause-runs : goal.returns-in_default-clause-runs
 returns-in_default-clause-runs g c =
-    drive_tells g.N.Node.nodes g.D.Disk.bytes g.D.Disk.faults g.D.Disk.image g.N.Staged.over c.args.turns.now.nodes c.args.turns.now.line
+    drive_tells g.N.NodeFacts.nodes g.D.Disk.bytes g.D.Disk.faults g.D.Disk.image g.N.Staged.over c.args.turns.now.nodes c.args.turns.now.line
     c.args.grounds.now c.picks.turns.nodes c.take-key.new.self.nodes c.run_turn.new.turns.nodes c.picks.turns.line c.take-key.new.self.line
     c.run_turn.new.turns.line c.picks.grounds c.run_turn.new.grounds c.picks.invariant.1
     c.take-key.result c.in_ok-told.told c.take-key.ensures.turn c.in_ok-told.ensures.turns
@@ -58,7 +58,7 @@ returns-in_default-clause-done g c = done_told _ _ c.in_ok-told.told c.in_defaul
 
 pub returns-in_default-clause-less : goal.returns-in_default-clause-less
 returns-in_default-clause-less g c =
-    let less = taken_less g.N.Node.nodes g.D.Disk.bytes g.D.Disk.faults g.D.Disk.image g.N.Staged.over c.args.turns.now.nodes c.args.turns.now.line
+    let less = taken_less g.N.NodeFacts.nodes g.D.Disk.bytes g.D.Disk.faults g.D.Disk.image g.N.Staged.over c.args.turns.now.nodes c.args.turns.now.line
     c.args.grounds.now c.picks.turns.nodes c.take-key.new.self.nodes c.run_turn.new.turns.nodes c.picks.turns.line c.take-key.new.self.line
     c.run_turn.new.turns.line c.picks.grounds c.run_turn.new.grounds c.picks.invariant.1
     c.take-key.ensures.nodes c.take-key.ensures.len c.in_ok-told.ensures.less in
@@ -66,7 +66,7 @@ returns-in_default-clause-less g c =
 
 pub returns-in_default-clause-fewer : goal.returns-in_default-clause-fewer
 returns-in_default-clause-fewer g c = λ tells.
-    let less = taken_less g.N.Node.nodes g.D.Disk.bytes g.D.Disk.faults g.D.Disk.image g.N.Staged.over c.args.turns.now.nodes
+    let less = taken_less g.N.NodeFacts.nodes g.D.Disk.bytes g.D.Disk.faults g.D.Disk.image g.N.Staged.over c.args.turns.now.nodes
     c.args.turns.now.line c.args.grounds.now c.picks.turns.nodes c.take-key.new.self.nodes c.run_turn.new.turns.nodes
     c.picks.turns.line c.take-key.new.self.line c.run_turn.new.turns.line c.picks.grounds c.run_turn.new.grounds c.picks.invariant.1
     c.take-key.ensures.nodes c.take-key.ensures.len c.in_ok-told.ensures.less in
@@ -85,14 +85,14 @@ returns-in_default-clause-setting g c = c.run_turn.ensures.same.setting_same ∙
 
 pub issue_group-requires-clause-going : goal.issue_group-requires-clause-going
 issue_group-requires-clause-going g c =
-    run_some g.N.Node.nodes g.D.Disk.bytes g.D.Disk.faults g.D.Disk.image c.args.turns.now.nodes c.args.turns.now.line c.args.grounds.now
+    run_some g.N.NodeFacts.nodes g.D.Disk.bytes g.D.Disk.faults g.D.Disk.image c.args.turns.now.nodes c.args.turns.now.line c.args.grounds.now
     c.picks.turns.nodes c.picks.turns.line c.picks.grounds c.picks.invariant.1.gone c.requires.going
 
 pub picks-preserved : goal.picks-preserved
 picks-preserved g c = (
   same_then g.D.Disk.bytes g.D.Disk.faults g.D.Disk.faults_at_fetch g.D.Disk.home g.D.Disk.image g.D.Disk.sound c.args.grounds.now.disks.items c.picks.grounds.disks.items
       c.issue_group.new.grounds.disks.items c.picks.invariant.0 c.in_ok-issue_group.ensures.handled.same,
-  drive_issued g.N.Node.nodes g.D.Disk.bytes g.D.Disk.faults g.D.Disk.image g.N.Staged.over c.args.turns.now.nodes c.args.turns.now.line
+  drive_issued g.N.NodeFacts.nodes g.D.Disk.bytes g.D.Disk.faults g.D.Disk.image g.N.Staged.over c.args.turns.now.nodes c.args.turns.now.line
       c.args.grounds.now c.picks.turns.nodes c.issue_group.new.turns.nodes c.picks.turns.line c.issue_group.new.turns.line
       c.picks.grounds c.issue_group.new.grounds c.picks.invariant.1 c.in_ok-issue_group.ensures.issues
       c.in_ok-issue_group.ensures.over c.issue_group.ensures.desk c.issue_group.ensures.setting
@@ -101,15 +101,15 @@ picks-preserved g c = (
 
 pub returns-in_err-told-clause-stopped : goal.returns-in_err-told-clause-stopped
 returns-in_err-told-clause-stopped g c = on_err c.from_residual.result
-    (run_stops g.N.Node.nodes g.D.Disk.bytes g.D.Disk.image c.args.turns.now.nodes c.picks.turns.nodes c.args.turns.now.line c.picks.turns.line
+    (run_stops g.N.NodeFacts.nodes g.D.Disk.bytes g.D.Disk.image c.args.turns.now.nodes c.picks.turns.nodes c.args.turns.now.line c.picks.turns.line
     c.args.grounds.now c.picks.grounds c.run_turn.new.grounds.disks.items
     (λ t sizes f before s sound going. let turned = c.picks.invariant.1.gone t sizes f before s sound going in (turned.now, turned.going))
-    (same_stops g.N.Node.nodes g.D.Disk.bytes g.D.Disk.image c.picks.turns.nodes c.picks.turns.line c.picks.grounds
+    (same_stops g.N.NodeFacts.nodes g.D.Disk.bytes g.D.Disk.image c.picks.turns.nodes c.picks.turns.line c.picks.grounds
     c.run_turn.new.grounds.disks.items c.run_turn.ensures.same.disks_same))
 
 pub returns-in_err-issue_group-clause-stopped : goal.returns-in_err-issue_group-clause-stopped
 returns-in_err-issue_group-clause-stopped g c = on_err c.from_residual-in_err-issue_group.result
-    (run_stops g.N.Node.nodes g.D.Disk.bytes g.D.Disk.image c.args.turns.now.nodes c.picks.turns.nodes c.args.turns.now.line c.picks.turns.line
+    (run_stops g.N.NodeFacts.nodes g.D.Disk.bytes g.D.Disk.image c.args.turns.now.nodes c.picks.turns.nodes c.args.turns.now.line c.picks.turns.line
     c.args.grounds.now c.picks.grounds c.issue_group.new.grounds.disks.items
     (λ t sizes f before s sound going. let turned = c.picks.invariant.1.gone t sizes f before s sound going in (turned.now, turned.going))
     c.in_err-issue_group.ensures.stopped)

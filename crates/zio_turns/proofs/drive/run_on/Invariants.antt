@@ -7,8 +7,8 @@ abbrev pub invariant-picks : goal.invariant-picks
 invariant-picks g l =
     AreSameDisks g.D.Disk.bytes g.D.Disk.faults g.D.Disk.faults_at_fetch g.D.Disk.home g.D.Disk.image g.D.Disk.sound l.initial.grounds.disks.items
     l.grounds.disks.items
-    × IsDriving g.N.Node.nodes g.D.Disk.bytes g.D.Disk.faults g.D.Disk.image g.N.Staged.over l.initial.turns.nodes l.initial.turns.line
+    × IsDriving g.N.NodeFacts.nodes g.D.Disk.bytes g.D.Disk.faults g.D.Disk.image g.N.Staged.over l.initial.turns.nodes l.initial.turns.line
     l.initial.grounds l.turns.nodes l.turns.line l.grounds
 
 abbrev pub decreases-picks : goal.decreases-picks
-decreases-picks g l = work_left g.N.Node.nodes.left l.turns.nodes l.turns.line l.grounds
+decreases-picks g l = work_left g.N.NodeFacts.nodes.left l.turns.nodes l.turns.line l.grounds

@@ -7,7 +7,7 @@ use Rattle.zio_turns.proofs.turns.Turns.add_root.Goals as goal
 pub returns-clause-hands : goal.returns-clause-hands
 returns-clause-hands g c =
     on_ok_weaker c.queue_up.result
-    (λ q. root_handed g.N.Node.nodes c.args.self.now.nodes c.add.new.nodes c.args.self.now.line c.queue_up.new.line c.in_ok-key.key
+    (λ q. root_handed g.N.NodeFacts.nodes c.args.self.now.nodes c.add.new.nodes c.args.self.now.line c.queue_up.new.line c.in_ok-key.key
     c.args.tree c.args.child c.args.node c.new_ties-ties.result c.in_ok-key.ensures.free c.in_ok-key.ensures.added
     c.new_ties-ties.ensures q)
     c.queue_up.ensures
@@ -22,6 +22,6 @@ returns-clause-over g c = λ tops all over.
 pub returns-clause-load : goal.returns-clause-load
 returns-clause-load g c =
     on_ok_weaker c.queue_up.result
-    (λ q. load_more g.N.Node.nodes.left c.args.self.now.nodes c.add.new.nodes c.args.self.now.line c.queue_up.new.line
+    (λ q. load_more g.N.NodeFacts.nodes.left c.args.self.now.nodes c.add.new.nodes c.args.self.now.line c.queue_up.new.line
     c.in_ok-key.key (with_ties c.args.node c.new_ties-ties.result) c.in_ok-key.ensures.free c.in_ok-key.ensures.added q)
     c.queue_up.ensures

@@ -17,7 +17,7 @@ use Rattle.zio_turns.proofs.turns.Turns.step.Goals as goal
 
 pub remove-node-requires : goal.remove-node-requires
 remove-node-requires g c =
-    let held = turn_held g.N.Node.nodes (g.S.Services.tops c.args.services.now) c.args.self.now.nodes c.args.self.now.line c.args.key
+    let held = turn_held g.N.NodeFacts.nodes (g.S.Services.tops c.args.services.now) c.args.self.now.nodes c.args.self.now.line c.args.key
     g.N.Staged.over c.requires in
     ap is_some held.1
 
@@ -32,13 +32,13 @@ returns-in-Next-clause-steps g c =
     (ok_as c.run_stage.result c.in-Ok.moved (Next c.in-Next.node) c.in-Ok.is c.in-Next.is) in (
       m.0,
       m.1,
-      steps_claim g.N.Node.nodes (g.S.Services.tops c.args.services.now) c.args.self.now.nodes
+      steps_claim g.N.NodeFacts.nodes (g.S.Services.tops c.args.services.now) c.args.self.now.nodes
           c.args.self.now.line c.args.key c.remove-node.result m.0 (Next c.in-Next.node)
           c.remove-node.ensures.value m.2,
-      steps_last g.N.Node.nodes g.N.Staged.over (g.S.Services.tops c.args.services.now) c.args.self.now.nodes
+      steps_last g.N.NodeFacts.nodes g.N.Staged.over (g.S.Services.tops c.args.services.now) c.args.self.now.nodes
           c.args.self.now.line c.args.key c.remove-node.result m.0 (Next c.in-Next.node)
           c.remove-node.ensures.value m.2 c.requires,
-      steps_next g.N.Node.nodes c.does_its_part.ensures.gives_own g.N.Staged.over (g.S.Services.tops c.args.services.now) c.args.self.now.nodes
+      steps_next g.N.NodeFacts.nodes c.does_its_part.ensures.gives_own g.N.Staged.over (g.S.Services.tops c.args.services.now) c.args.self.now.nodes
           c.remove-node.new.self c.put_back.new.nodes c.args.self.now.line c.args.self.now.line c.args.key c.remove-node.result m.0
           c.remove-node.ensures.value c.remove-node.ensures.updates c.in-Next.node m.2 c.put_back.ensures refl,
     )
@@ -51,7 +51,7 @@ returns-in-Next-clause-over g c =
 
 pub returns-in-Next-clause-less : goal.returns-in-Next-clause-less
 returns-in-Next-clause-less g c =
-    less_put g.N.Node.nodes.left c.args.self.now.nodes c.remove-node.new.self c.put_back.new.nodes c.args.self.now.line
+    less_put g.N.NodeFacts.nodes.left c.args.self.now.nodes c.remove-node.new.self c.put_back.new.nodes c.args.self.now.line
     c.args.self.now.line c.args.key c.remove-node.result c.remove-node.ensures.value c.remove-node.ensures.updates c.in-Next.node 1
     c.put_back.ensures (rw c.in-Next.is at c.in-Ok.ensures.left) (omega arith)
 
@@ -63,13 +63,13 @@ returns-in_ok-wait-in-Wait-clause-steps g c =
     (ok_as c.run_stage.result c.in-Ok.moved (Wait c.in-Wait.node c.in-Wait.kind c.in-Wait.phase) c.in-Ok.is c.in-Wait.is) in (
       m.0,
       m.1,
-      steps_claim g.N.Node.nodes (g.S.Services.tops c.args.services.now) c.args.self.now.nodes
+      steps_claim g.N.NodeFacts.nodes (g.S.Services.tops c.args.services.now) c.args.self.now.nodes
           c.args.self.now.line c.args.key c.remove-node.result m.0 (Wait c.in-Wait.node c.in-Wait.kind c.in-Wait.phase)
           c.remove-node.ensures.value m.2,
-      steps_last g.N.Node.nodes g.N.Staged.over (g.S.Services.tops c.args.services.now) c.args.self.now.nodes
+      steps_last g.N.NodeFacts.nodes g.N.Staged.over (g.S.Services.tops c.args.services.now) c.args.self.now.nodes
           c.args.self.now.line c.args.key c.remove-node.result m.0 (Wait c.in-Wait.node c.in-Wait.kind c.in-Wait.phase)
           c.remove-node.ensures.value m.2 c.requires,
-      steps_wait g.N.Node.nodes c.does_its_part.ensures.gives_own g.N.Staged.over (g.S.Services.tops c.args.services.now) c.args.self.now.nodes
+      steps_wait g.N.NodeFacts.nodes c.does_its_part.ensures.gives_own g.N.Staged.over (g.S.Services.tops c.args.services.now) c.args.self.now.nodes
           c.remove-node.new.self c.wait.new.nodes c.args.self.now.line c.wait.new.line c.args.key c.remove-node.result m.0
           c.remove-node.ensures.value c.remove-node.ensures.updates c.in-Wait.node c.in-Wait.kind c.in-Wait.phase m.2
           c.in_ok-wait-in-Wait.ensures,
@@ -86,10 +86,10 @@ pub returns-in_ok-wait-in-Wait-clause-less : goal.returns-in_ok-wait-in-Wait-cla
 returns-in_ok-wait-in-Wait-clause-less g c =
     let m = c.run_stage.ensures.moves (Wait c.in-Wait.node c.in-Wait.kind c.in-Wait.phase)
     (ok_as c.run_stage.result c.in-Ok.moved (Wait c.in-Wait.node c.in-Wait.kind c.in-Wait.phase) c.in-Ok.is c.in-Wait.is) in
-    less_waited g.N.Node.nodes.left c.args.self.now.nodes c.remove-node.new.self c.wait.new.nodes c.args.self.now.line
+    less_waited g.N.NodeFacts.nodes.left c.args.self.now.nodes c.remove-node.new.self c.wait.new.nodes c.args.self.now.line
     c.wait.new.line c.args.key c.remove-node.result c.remove-node.ensures.value c.remove-node.ensures.updates c.in-Wait.node
     c.in-Wait.kind c.in-Wait.phase c.in_ok-wait-in-Wait.ensures (rw c.in-Wait.is at c.in-Ok.ensures.left)
-    (steps_first g.N.Node.nodes c.does_its_part.ensures.gives_own g.N.Staged.over (g.S.Services.tops c.args.services.now) c.args.self.now.nodes
+    (steps_first g.N.NodeFacts.nodes c.does_its_part.ensures.gives_own g.N.Staged.over (g.S.Services.tops c.args.services.now) c.args.self.now.nodes
     c.remove-node.new.self c.wait.new.nodes c.args.self.now.line c.wait.new.line c.args.key c.remove-node.result m.0
     c.remove-node.ensures.value c.remove-node.ensures.updates c.in-Wait.node c.in-Wait.kind c.in-Wait.phase m.2 c.requires)
 
@@ -101,13 +101,13 @@ returns-in_ok-grow-in-Grow-clause-steps g c =
     (ok_as c.run_stage.result c.in-Ok.moved (Grow c.in-Grow.node c.in-Grow.child c.in-Grow.kind) c.in-Ok.is c.in-Grow.is) in (
       m.0,
       m.1,
-      steps_claim g.N.Node.nodes (g.S.Services.tops c.args.services.now) c.args.self.now.nodes
+      steps_claim g.N.NodeFacts.nodes (g.S.Services.tops c.args.services.now) c.args.self.now.nodes
           c.args.self.now.line c.args.key c.remove-node.result m.0 (Grow c.in-Grow.node c.in-Grow.child c.in-Grow.kind)
           c.remove-node.ensures.value m.2,
-      steps_last g.N.Node.nodes g.N.Staged.over (g.S.Services.tops c.args.services.now) c.args.self.now.nodes
+      steps_last g.N.NodeFacts.nodes g.N.Staged.over (g.S.Services.tops c.args.services.now) c.args.self.now.nodes
           c.args.self.now.line c.args.key c.remove-node.result m.0 (Grow c.in-Grow.node c.in-Grow.child c.in-Grow.kind)
           c.remove-node.ensures.value m.2 c.requires,
-      steps_grow g.N.Node.nodes c.does_its_part.ensures.gives_own g.N.Staged.over (g.S.Services.tops c.args.services.now) c.args.self.now.nodes
+      steps_grow g.N.NodeFacts.nodes c.does_its_part.ensures.gives_own g.N.Staged.over (g.S.Services.tops c.args.services.now) c.args.self.now.nodes
           c.remove-node.new.self c.grow.new.nodes c.args.self.now.line c.grow.new.line c.args.key c.remove-node.result m.0
           c.remove-node.ensures.value c.remove-node.ensures.updates c.in-Grow.node c.in-Grow.child c.in-Grow.kind m.2
           c.in_ok-grow-in-Grow.ensures,
@@ -122,7 +122,7 @@ returns-in_ok-grow-in-Grow-clause-over g c =
 
 pub returns-in_ok-grow-in-Grow-clause-less : goal.returns-in_ok-grow-in-Grow-clause-less
 returns-in_ok-grow-in-Grow-clause-less g c =
-    less_grown g.N.Node.nodes.left c.args.self.now.nodes c.remove-node.new.self c.grow.new.nodes c.args.self.now.line
+    less_grown g.N.NodeFacts.nodes.left c.args.self.now.nodes c.remove-node.new.self c.grow.new.nodes c.args.self.now.line
     c.grow.new.line c.args.key c.remove-node.result c.remove-node.ensures.value c.remove-node.ensures.updates c.in-Grow.node
     c.in-Grow.child c.in-Grow.kind c.in_ok-grow-in-Grow.ensures (rw c.in-Grow.is at c.in-Ok.ensures.left)
 
@@ -134,13 +134,13 @@ returns-in-Leaf-clause-steps g c =
     (ok_as c.run_stage.result c.in-Ok.moved (ToLeaf c.in-Leaf.node c.in-Leaf.op c.in-Leaf.leaf c.in-Leaf.bytes) c.in-Ok.is c.in-Leaf.is) in (
       m.0,
       m.1,
-      steps_claim g.N.Node.nodes (g.S.Services.tops c.args.services.now) c.args.self.now.nodes
+      steps_claim g.N.NodeFacts.nodes (g.S.Services.tops c.args.services.now) c.args.self.now.nodes
           c.args.self.now.line c.args.key c.remove-node.result m.0 (ToLeaf c.in-Leaf.node c.in-Leaf.op c.in-Leaf.leaf c.in-Leaf.bytes)
           c.remove-node.ensures.value m.2,
-      steps_last g.N.Node.nodes g.N.Staged.over (g.S.Services.tops c.args.services.now) c.args.self.now.nodes
+      steps_last g.N.NodeFacts.nodes g.N.Staged.over (g.S.Services.tops c.args.services.now) c.args.self.now.nodes
           c.args.self.now.line c.args.key c.remove-node.result m.0 (ToLeaf c.in-Leaf.node c.in-Leaf.op c.in-Leaf.leaf c.in-Leaf.bytes)
           c.remove-node.ensures.value m.2 c.requires,
-      steps_leaf g.N.Node.nodes c.does_its_part.ensures.gives_own g.N.Staged.over (g.S.Services.tops c.args.services.now) c.args.self.now.nodes
+      steps_leaf g.N.NodeFacts.nodes c.does_its_part.ensures.gives_own g.N.Staged.over (g.S.Services.tops c.args.services.now) c.args.self.now.nodes
           c.remove-node.new.self c.put_back-in-Leaf.new.nodes c.args.self.now.line c.args.self.now.line c.args.key c.remove-node.result m.0
           c.remove-node.ensures.value c.remove-node.ensures.updates c.in-Leaf.node c.in-Leaf.op c.in-Leaf.leaf c.in-Leaf.bytes
           m.2 c.put_back-in-Leaf.ensures refl,
@@ -154,7 +154,7 @@ returns-in-Leaf-clause-over g c =
 
 pub returns-in-Leaf-clause-less : goal.returns-in-Leaf-clause-less
 returns-in-Leaf-clause-less g c =
-    less_put g.N.Node.nodes.left c.args.self.now.nodes c.remove-node.new.self c.put_back-in-Leaf.new.nodes c.args.self.now.line
+    less_put g.N.NodeFacts.nodes.left c.args.self.now.nodes c.remove-node.new.self c.put_back-in-Leaf.new.nodes c.args.self.now.line
     c.args.self.now.line c.args.key c.remove-node.result c.remove-node.ensures.value c.remove-node.ensures.updates c.in-Leaf.node 2
     c.put_back-in-Leaf.ensures (rw c.in-Leaf.is at c.in-Ok.ensures.left) (omega arith)
 
@@ -167,7 +167,7 @@ pub tell-requires-clause-can : goal.tell-requires-clause-can
 tell-requires-clause-can g c =
     let m = c.run_stage.ensures.moves (Ready c.in-Ready.node c.in-Ready.pointer)
     (ok_as c.run_stage.result c.in-Ok.moved (Ready c.in-Ready.node c.in-Ready.pointer) c.in-Ok.is c.in-Ready.is) in
-    steps_can_tell g.N.Node.nodes c.does_its_part.ensures.gives_own g.N.Staged.over (g.S.Services.tops c.args.services.now) c.args.self.now.nodes
+    steps_can_tell g.N.NodeFacts.nodes c.does_its_part.ensures.gives_own g.N.Staged.over (g.S.Services.tops c.args.services.now) c.args.self.now.nodes
     c.remove-node.new.self c.put_back-in-Ready.new.nodes c.args.self.now.line c.args.self.now.line c.args.key c.remove-node.result m.0
     c.remove-node.ensures.value c.remove-node.ensures.updates c.in-Ready.node c.in-Ready.pointer m.2 c.put_back-in-Ready.new.nodes
     c.put_back-in-Ready.ensures c.requires
@@ -180,13 +180,13 @@ returns-in-Ready-clause-steps g c =
     (λ step has same. (
       m.0,
       m.1,
-      steps_claim g.N.Node.nodes (g.S.Services.tops c.args.services.now) c.args.self.now.nodes
+      steps_claim g.N.NodeFacts.nodes (g.S.Services.tops c.args.services.now) c.args.self.now.nodes
           c.args.self.now.line c.args.key c.remove-node.result m.0 (Ready c.in-Ready.node c.in-Ready.pointer)
           c.remove-node.ensures.value m.2,
-      steps_last g.N.Node.nodes g.N.Staged.over (g.S.Services.tops c.args.services.now) c.args.self.now.nodes
+      steps_last g.N.NodeFacts.nodes g.N.Staged.over (g.S.Services.tops c.args.services.now) c.args.self.now.nodes
           c.args.self.now.line c.args.key c.remove-node.result m.0 (Ready c.in-Ready.node c.in-Ready.pointer)
           c.remove-node.ensures.value m.2 c.requires,
-      steps_ready g.N.Node.nodes c.does_its_part.ensures.gives_own g.N.Staged.over (g.S.Services.tops c.args.services.now) c.args.self.now.nodes
+      steps_ready g.N.NodeFacts.nodes c.does_its_part.ensures.gives_own g.N.Staged.over (g.S.Services.tops c.args.services.now) c.args.self.now.nodes
           c.remove-node.new.self c.tell.new.nodes c.args.self.now.line c.tell.new.line c.args.key c.remove-node.result m.0
           c.remove-node.ensures.value c.remove-node.ensures.updates c.in-Ready.node c.in-Ready.pointer m.2 c.put_back-in-Ready.new.nodes
           c.put_back-in-Ready.ensures step has same,
@@ -196,7 +196,7 @@ returns-in-Ready-clause-steps g c =
 pub returns-in-Ready-clause-over : goal.returns-in-Ready-clause-over
 returns-in-Ready-clause-over g c =
     on_ok_weaker c.tell.result
-    (λ has. all_told g.N.Node.nodes g.N.Staged.over (g.S.Services.tops c.args.services.now) c.put_back-in-Ready.new.nodes c.tell.new.nodes
+    (λ has. all_told g.N.NodeFacts.nodes g.N.Staged.over (g.S.Services.tops c.args.services.now) c.put_back-in-Ready.new.nodes c.tell.new.nodes
     c.args.self.now.line c.tell.new.line
     (all_put (g.N.Staged.over (g.S.Services.tops c.args.services.now)) c.args.self.now.nodes c.remove-node.new.self c.put_back-in-Ready.new.nodes
     c.args.self.now.line c.args.self.now.line c.args.key c.requires.over_all c.remove-node.ensures.updates
@@ -207,9 +207,9 @@ returns-in-Ready-clause-over g c =
 pub returns-in-Ready-clause-less : goal.returns-in-Ready-clause-less
 returns-in-Ready-clause-less g c =
     if_ok_both c.tell.result _ _ _
-    (λ step has same. subst (λ (x : Step). load g.N.Node.nodes.left c.tell.new.nodes c.tell.new.line + load_of x
-    < load g.N.Node.nodes.left c.args.self.now.nodes c.args.self.now.line + 1) (sym same)
-    (less_told g.N.Node.nodes g.N.Staged.over c.args.self.now.nodes c.put_back-in-Ready.new.nodes c.tell.new.nodes c.args.self.now.line
+    (λ step has same. subst (λ (x : Step). load g.N.NodeFacts.nodes.left c.tell.new.nodes c.tell.new.line + load_of x
+    < load g.N.NodeFacts.nodes.left c.args.self.now.nodes c.args.self.now.line + 1) (sym same)
+    (less_told g.N.NodeFacts.nodes g.N.Staged.over c.args.self.now.nodes c.put_back-in-Ready.new.nodes c.tell.new.nodes c.args.self.now.line
     c.tell.new.line c.args.key c.remove-node.result c.remove-node.ensures.value c.in-Ready.node c.remove-node.result.ties.parent
     c.remove-node.result.ties.kind c.in-Ready.pointer
     (exchanged c.args.self.now.nodes c.remove-node.new.self c.put_back-in-Ready.new.nodes c.args.key
@@ -223,9 +223,9 @@ pub end-requires-clause-can : goal.end-requires-clause-can
 end-requires-clause-can g c =
     let m = c.run_stage.ensures.moves (End c.in-End.outcome)
     (ok_as c.run_stage.result c.in-Ok.moved (End c.in-End.outcome) c.in-Ok.is c.in-End.is) in
-    subst (λ (tops : _). CanEnd g.N.Node.nodes g.N.Staged.over tops c.remove-node.new.self c.remove-node.result.ties.kind
+    subst (λ (tops : _). CanEnd g.N.NodeFacts.nodes g.N.Staged.over tops c.remove-node.new.self c.remove-node.result.ties.kind
     c.remove-node.result.ties.parent c.in-End.outcome) (sym (c.tops.ensures ∙ c.run_stage.ensures.tops))
-    (steps_can_end g.N.Node.nodes c.does_its_part.ensures.gives_own g.N.Staged.over (g.S.Services.tops c.args.services.now) c.args.self.now.nodes
+    (steps_can_end g.N.NodeFacts.nodes c.does_its_part.ensures.gives_own g.N.Staged.over (g.S.Services.tops c.args.services.now) c.args.self.now.nodes
     c.remove-node.new.self c.remove-node.new.self c.args.self.now.line c.args.self.now.line c.args.key c.remove-node.result m.0
     c.remove-node.ensures.value c.remove-node.ensures.updates c.in-End.outcome m.2
     (λ t st a is. c.does_its_part.ensures.never_finds t c.remove-node.result.node st a is) c.requires)
@@ -238,17 +238,17 @@ returns-in-End-clause-steps g c =
     (λ step has. (
       m.0,
       m.1,
-      steps_claim g.N.Node.nodes (g.S.Services.tops c.args.services.now) c.args.self.now.nodes
+      steps_claim g.N.NodeFacts.nodes (g.S.Services.tops c.args.services.now) c.args.self.now.nodes
           c.args.self.now.line c.args.key c.remove-node.result m.0 (End c.in-End.outcome)
           c.remove-node.ensures.value m.2,
-      steps_last g.N.Node.nodes g.N.Staged.over (g.S.Services.tops c.args.services.now) c.args.self.now.nodes
+      steps_last g.N.NodeFacts.nodes g.N.Staged.over (g.S.Services.tops c.args.services.now) c.args.self.now.nodes
           c.args.self.now.line c.args.key c.remove-node.result m.0 (End c.in-End.outcome)
           c.remove-node.ensures.value m.2 c.requires,
-      steps_end g.N.Node.nodes c.does_its_part.ensures.gives_own g.N.Staged.over (g.S.Services.tops c.args.services.now) c.args.self.now.nodes
+      steps_end g.N.NodeFacts.nodes c.does_its_part.ensures.gives_own g.N.Staged.over (g.S.Services.tops c.args.services.now) c.args.self.now.nodes
           c.remove-node.new.self c.end.new.nodes c.args.self.now.line c.end.new.line c.args.key c.remove-node.result m.0
           c.remove-node.ensures.value c.remove-node.ensures.updates c.in-End.outcome m.2
           (λ t st a is. c.does_its_part.ensures.never_finds t c.remove-node.result.node st a is) step
-          (subst (λ (tops : _). HasEnded g.N.Node.nodes g.N.Staged.over tops c.remove-node.new.self c.args.self.now.line
+          (subst (λ (tops : _). HasEnded g.N.NodeFacts.nodes g.N.Staged.over tops c.remove-node.new.self c.args.self.now.line
           c.end.new.nodes c.end.new.line c.remove-node.result.ties.kind c.remove-node.result.ties.parent c.in-End.outcome step)
           (c.tops.ensures ∙ c.run_stage.ensures.tops) has),
     ))
@@ -257,12 +257,12 @@ returns-in-End-clause-steps g c =
 pub returns-in-End-clause-over : goal.returns-in-End-clause-over
 returns-in-End-clause-over g c =
     IfOk-weaker c.end.result _ _
-    (λ step has. all_ended g.N.Node.nodes g.N.Staged.over (g.S.Services.tops c.args.services.now) c.remove-node.new.self c.end.new.nodes
+    (λ step has. all_ended g.N.NodeFacts.nodes g.N.Staged.over (g.S.Services.tops c.args.services.now) c.remove-node.new.self c.end.new.nodes
     c.args.self.now.line c.end.new.line
     (all_without (g.N.Staged.over (g.S.Services.tops c.args.services.now)) c.args.self.now.nodes c.remove-node.new.self c.args.key
     c.remove-node.ensures.updates c.requires.over_all)
     c.remove-node.result.ties.kind c.remove-node.result.ties.parent c.in-End.outcome step
-    (subst (λ (tops : _). HasEnded g.N.Node.nodes g.N.Staged.over tops c.remove-node.new.self c.args.self.now.line
+    (subst (λ (tops : _). HasEnded g.N.NodeFacts.nodes g.N.Staged.over tops c.remove-node.new.self c.args.self.now.line
     c.end.new.nodes c.end.new.line c.remove-node.result.ties.kind c.remove-node.result.ties.parent c.in-End.outcome step)
     (c.tops.ensures ∙ c.run_stage.ensures.tops) has))
     c.end.ensures.ended
@@ -270,7 +270,7 @@ returns-in-End-clause-over g c =
 pub returns-in-End-clause-less : goal.returns-in-End-clause-less
 returns-in-End-clause-less g c =
     IfOk-weaker c.end.result _ _
-    (λ step has. less_ended g.N.Node.nodes g.N.Staged.over c.args.self.now.nodes c.remove-node.new.self c.end.new.nodes c.args.self.now.line
+    (λ step has. less_ended g.N.NodeFacts.nodes g.N.Staged.over c.args.self.now.nodes c.remove-node.new.self c.end.new.nodes c.args.self.now.line
     c.end.new.line c.args.key c.remove-node.result c.remove-node.ensures.value c.tops.result.now c.remove-node.result.ties.parent
     c.remove-node.result.ties.kind c.in-End.outcome step c.remove-node.ensures.updates has (rw c.in-End.is at c.in-Ok.ensures.left))
     c.end.ensures.ended

@@ -5,7 +5,7 @@ use Rattle.zio_turns.proofs.turns.Turns.take.Goals as goal
 
 pub returns-clause-turn : goal.returns-clause-turn
 returns-clause-turn g c = λ t sizes f before s leaves kept.
-    round_requeued g.N.Node.nodes t sizes f before s c.args.self.now.nodes c.args.self.now.line (c.take.result ∷ c.take.new.self) leaves
+    round_requeued g.N.NodeFacts.nodes t sizes f before s c.args.self.now.nodes c.args.self.now.line (c.take.result ∷ c.take.new.self) leaves
     (λ k. ap (λ (n : ℕ). times_in k (n ∷ c.take.new.self)) c.take.ensures.value
     ∙ ap (λ (q : List ℕ). times_in k (slice_index c.args.self.now.line c.args.k ∷ q)) c.take.ensures.others
     ∙ times_taken k c.args.self.now.line c.args.k c.requires) kept

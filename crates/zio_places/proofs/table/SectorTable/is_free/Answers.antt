@@ -3,7 +3,7 @@ use Rattle.std.proofs.lemmas.Bool.{leb-true, le-leb}
 use Rattle.zio_places.specs.Flags.{front_run}
 use Rattle.zio_places.specs.Tables.{TopState}
 use Rattle.zio_places.proofs.FlagLemmas.{AreAll-from_front_run, front_run-from_AreAll}
-use Rattle.zio_places.proofs.table.Table.is_free.Goals as goal
+use Rattle.zio_places.proofs.table.SectorTable.is_free.Goals as goal
 
 pub returns : goal.returns
 returns c =

@@ -1,6 +1,6 @@
 use Rattle.std.proofs.Common.{◌≡◌, drop}
 use Rattle.zio_faults.specs.Hits.{first_hit}
-use Rattle.zio_faults.proofs.table.Table.hit.Given as goal
+use Rattle.zio_faults.proofs.table.FaultTable.hit.Given as goal
 
 -- the rows so far aren't met
 abbrev pub invariant-loop-row : goal.invariant-loop-row

@@ -1,7 +1,7 @@
 use Rattle.std.proofs.Common.{◌≡◌, ℕ, List, [], ◌∷◌, ◌++◌, eqb, cond, ap, ◌∙◌}
 use Rattle.zio_course.proofs.NameLemmas.{pushed_with}
 use Rattle.zio_course.specs.Names.{listed_in}
-use Rattle.zio_course.proofs.waiting.Waiting.push.Goals as goal
+use Rattle.zio_course.proofs.waiting.TreesByNumber.push.Goals as goal
 
 pub returns : goal.returns
 returns g c other =

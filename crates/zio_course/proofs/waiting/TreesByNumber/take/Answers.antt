@@ -1,8 +1,8 @@
 use Rattle.std.proofs.Common.{◌≡◌, ℕ, List, [], Some, None, eqb, cond, ap, subst, ◌∙◌}
 use Rattle.zio_course.proofs.NameLemmas.{listed_with, taken_is}
 use Rattle.zio_course.specs.Names.{listed_in}
-use Rattle.zio_course.proofs.waiting.Waiting.take.Goals as goal
-use Rattle.zio_course.proofs.waiting.Waiting.take.Goals.{in-Some, in-None}
+use Rattle.zio_course.proofs.waiting.TreesByNumber.take.Goals as goal
+use Rattle.zio_course.proofs.waiting.TreesByNumber.take.Goals.{in-Some, in-None}
 
 pub returns-clause-taken : goal.returns-clause-taken
 returns-clause-taken g c =

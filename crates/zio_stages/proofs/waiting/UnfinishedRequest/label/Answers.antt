@@ -1,5 +1,5 @@
 use Rattle.std.proofs.Common.{rules, arith}
-use Rattle.zio_stages.proofs.waiting.Waiting.label.Goals as goal
+use Rattle.zio_stages.proofs.waiting.UnfinishedRequest.label.Goals as goal
 
 pub pack-requires : goal.pack-requires
 pack-requires c = record {

@@ -36,7 +36,7 @@ use Rattle.zio_heal.proofs.HeaderLemmas.{header_long}
 use Rattle.zio_heal.proofs.PieceLemmas.{body_piece, bytes_weaker, gang_pieces, kept_first, kept_other, pieces_weaker}
 use Rattle.zio_heal.proofs.PlacedParts.{AreMembersWritten, IsHeadBelow, IsHeadFrom, IsPartWritten, KeepBelow}
 use Rattle.zio_heal.proofs.PointerLemmas.{AreFound, IsSpelled, found_for, places_of_pointer, spelled}
-use Rattle.zio_heal.proofs.WrittenPieces.{AllWriteAt, AtMember, IsAt, IsWrittenIn, WritesAt, all_writes, asks_apart, member_at, written_more}
+use Rattle.zio_heal.proofs.WrittenPieces.{AllWriteAt, AreUsable, AtMember, IsAt, IsWrittenIn, WritesAt, all_writes, asks_apart, found_usable, member_at, written_more}
 
 sum_good : (kind : SumKind) (bytes : List ℕ) → fits kind (sum_of kind bytes) bytes ≡ true
 sum_good Off bytes = refl
@@ -53,8 +53,8 @@ head_below path n h k = record { below = k.number ∷ k.below; at = k.at ∙ app
 abbrev pub wrote_to : List ℕ → List Place → Deed Task Value
 wrote_to bytes places = record { op = WriteCopies bytes places; answer = Wrote None }
 
-module _ (journal : List Choice) (t : Terms) (p : Pending) (answers : Answers journal (sizes_of t.setting.tops) t.used t.round)
-    (attempt : ℕ) (sum_kind : SumKind) (copies : ℕ) (sizes : ℕ → ℕ) (pool : IsPool sizes t.setting.tops) (writing : IsWriting p copies) where
+module _ (journal : List Choice) (t : Terms) (p : Pending) (sizes : ℕ → ℕ) (pool : IsPool sizes t.setting.tops) (answers : Answers journal (sizes_of t.setting.tops) t.used t.round)
+    (attempt : ℕ) (sum_kind : SumKind) (copies : ℕ) (writing : IsWriting p copies) where
   abbrev w : Writing
   w = writing_of t attempt p sum_kind copies
 
@@ -98,7 +98,7 @@ module _ (journal : List Choice) (t : Terms) (p : Pending) (answers : Answers jo
           is = ap (λ (qs : List Place). wrote_to bytes qs ∷ []) (sym there);
           is_good = record { size = refl; good = sum_good sum_kind bytes };
           at = subst (IsAt journal t p path) (sym there) here;
-          found = subst (AreFound (sizes_of t.setting.tops) (length bytes)) (sym there) found;
+          usable = subst (AreUsable t.setting (length bytes)) (sym there) (found_usable journal t sizes pool answers (body_ask w path bytes) places refl writing.one writing.three block.whole is);
           later = tt;
         });
       }
@@ -106,7 +106,7 @@ module _ (journal : List Choice) (t : Terms) (p : Pending) (answers : Answers jo
   -- a gang's header lies at other places than its members
   clear_of_head : (path : List ℕ) (places qs : List Place) → chosen journal (head_ask w path) ≡ Some places → AtMember journal t p path 0 qs → NoneTouch qs places
   clear_of_head path places qs is m =
-      asks_apart journal t answers m.there.ask (head_ask w path) qs places m.there.now refl
+      asks_apart journal t sizes pool answers m.there.ask (head_ask w path) qs places m.there.now refl
       (λ same. longer_differs path m.there.below m.number (sym same.path ∙ m.there.at)) m.there.found is
 
   -- a gang whose members were written, and then its header
@@ -157,7 +157,7 @@ module _ (journal : List Choice) (t : Terms) (p : Pending) (answers : Answers jo
                 is = ap (λ (qs : List Place). ds ++ wrote_to header qs ∷ []) (sym there);
                 is_good = record { size = long; good = kept_good (kept_at heads path) header kept };
                 at = subst (IsAt journal t p path) (sym there) here;
-                found = subst (AreFound (sizes_of t.setting.tops) 512) (sym there) found;
+                usable = subst (AreUsable t.setting 512) (sym there) (found_usable journal t sizes pool answers (head_ask w path) places refl (omega arith) (omega arith) refl is);
                 later = tt;
               };
               members =

@@ -101,13 +101,13 @@ module _ (journal : List Choice) (t : Terms) (p : Pending) where
   to_earlier : (path : List ℕ) (n : ℕ) (qs : List Place) → AtMember journal t p path (n + 1) qs → AtMember journal t p path n qs
   to_earlier path n qs a = let l : n + 1 ≤ a.number = a.from in record { number = a.number; from = omega arith; there = a.there }
 
-  module _ (answers : Answers journal (sizes_of t.setting.tops) t.used t.round) where
+  module _ (sizes : ℕ → ℕ) (pool : IsPool sizes t.setting.tops) (answers : Answers journal (sizes_of t.setting.tops) t.used t.round) where
     -- later members leave a member's copies alone
     alone_later : (path : List ℕ) (n : ℕ) (ps : List Place) (ds : Trace) → IsAt journal t p (path ++ n ∷ []) ps → AllWriteAt (AtMember journal t p path (n + 1)) ds → AllWriteAt (NoneTouch ps) ds
     alone_later path n ps ds a h =
         all_writes (AtMember journal t p path (n + 1)) (NoneTouch ps)
         (λ qs b. let l : n + 1 ≤ b.number = b.from in
-        paths_apart journal t answers p p (path ++ n ∷ []) (path ++ b.number ∷ []) ps qs a b.there
+        paths_apart journal t sizes pool answers p p (path ++ n ∷ []) (path ++ b.number ∷ []) ps qs a b.there
         (λ below under e. forks_differ path below under n b.number (λ (same : n ≡ b.number). absurd (omega arith)) e))
         ds h
 

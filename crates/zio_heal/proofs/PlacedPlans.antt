@@ -63,8 +63,8 @@ none_long : (bytes : List ℕ) → 0 ≡ length bytes → bytes ≡ []
 none_long [] e = refl
 none_long (b ∷ bytes) e = absurd (omega arith)
 
-module _ (journal : List Choice) (t : Terms) (p : Pending) (answers : Answers journal (sizes_of t.setting.tops) t.used t.round)
-    (attempt : ℕ) (sum_kind : SumKind) (copies : ℕ) (sizes : ℕ → ℕ) (pool : IsPool sizes t.setting.tops) (writing : IsWriting p copies) where
+module _ (journal : List Choice) (t : Terms) (p : Pending) (sizes : ℕ → ℕ) (pool : IsPool sizes t.setting.tops) (answers : Answers journal (sizes_of t.setting.tops) t.used t.round)
+    (attempt : ℕ) (sum_kind : SumKind) (copies : ℕ) (writing : IsWriting p copies) where
   abbrev w : Writing
   w = writing_of t attempt p sum_kind copies
 
@@ -122,7 +122,7 @@ module _ (journal : List Choice) (t : Terms) (p : Pending) (answers : Answers jo
         let left : length (drop size bytes) ≡ sum ns = length-drop size bytes ∙ omega arith in
         subst (λ (k : Kin). AreMembersWritten journal t p levels path n (size ∷ ns) bytes (trace_each tr mean (q >>= next) images) k) (sym value_is)
         (subst (λ (ds : Trace). AreMembersWritten journal t p levels path n (size ∷ ns) bytes ds (add_kin (stored one.value) others.value)) (sym trace_is)
-        (member_before journal t p answers levels path n size ns bytes (trace_each tr mean q images) (trace_each tr mean more one.images) (stored one.value) others.value (omega arith)
+        (member_before journal t p sizes pool answers levels path n size ns bytes (trace_each tr mean q images) (trace_each tr mean more one.images) (stored one.value) others.value (omega arith)
         (fine at part (subst IsBlockSize (sym long) block.0) images both.0)
         (members_fine levels below fine path (n + 1) ns (drop size bytes) one.images block.1 (sym left) both.1)))
 
@@ -142,7 +142,7 @@ module _ (journal : List Choice) (t : Terms) (p : Pending) (answers : Answers jo
         → IsFine levels path bytes (tr (Find a) images ++ trace_each tr mean q images) (stored (run mean q images).value)
     asked_fine levels path bytes a q images h none =
         subst (λ (ds : Trace). IsPartWritten journal t p levels path bytes (ds ++ trace_each tr mean q images) (stored (run mean q images).value)) (sym (stops.asks a images))
-        (asked_first journal t p answers attempt sum_kind copies sizes pool writing levels path bytes a (Found (chosen journal a)) (trace_each tr mean q images) (stored (run mean q images).value) (h none))
+        (asked_first journal t p sizes pool answers attempt sum_kind copies writing levels path bytes a (Found (chosen journal a)) (trace_each tr mean q images) (stored (run mean q images).value) (h none))
 
     unless_fine : (levels : ℕ) (below : List ℕ → List ℕ → TaskPlan Value) (path bytes : List ℕ) (small : Bool) → nat_le (length bytes) sector_size ≡ small → (sector_size < length bytes → GangFine levels below path bytes)
         → GoesFine levels tr path bytes (plan_gang_unless small w below path bytes)
@@ -161,7 +161,7 @@ module _ (journal : List Choice) (t : Terms) (p : Pending) (answers : Answers jo
         append-nil (tr (WriteCopies bytes places) images) ∙ stops.writes bytes places images ∙ ap (λ (e : Option Errno). record { op = WriteCopies bytes places; answer = Wrote e } ∷ []) error in
         subst (λ (ds : Trace). IsPartWritten journal t p levels path bytes ds (record { error = wrote d.answer; pointer = Some (pointer_to w places false bytes); heads = [] })) (sym same)
         (subst (λ (e : Option Errno). IsPartWritten journal t p levels path bytes (wrote_to bytes places ∷ []) (record { error = e; pointer = Some (pointer_to w places false bytes); heads = [] })) (sym error)
-        (body_written journal t p answers attempt sum_kind copies sizes pool writing levels path bytes places block is))
+        (body_written journal t p sizes pool answers attempt sum_kind copies writing levels path bytes places block is))
 
     part_fine : (levels : ℕ) (below : List ℕ → List ℕ → TaskPlan Value) (path bytes : List ℕ) → IsBlockSize (length bytes) → (sector_size < length bytes → GangFine levels below path bytes) → GoesFine levels tr path bytes (plan_part w below path bytes)
     part_fine levels below path bytes block gang images none =
@@ -190,7 +190,7 @@ module _ (journal : List Choice) (t : Terms) (p : Pending) (answers : Answers jo
         members_fine levels below fine path 0 (split_sizes (length bytes)) bytes images (split_blocks (length bytes) block) total both.0 in
         subst (λ (v : Value). IsPartWritten journal t p (suc levels) path bytes (trace_each tr mean (members >>= next) images) (stored v)) (sym value_is)
         (subst (λ (ds : Trace). IsPartWritten journal t p (suc levels) path bytes ds (gang_stored w path bytes places k.value (wrote d.answer))) (sym trace_is)
-        (gang_written journal t p answers attempt sum_kind copies sizes pool writing levels path bytes places (trace_each tr mean members images) k.value (wrote d.answer) block is written))
+        (gang_written journal t p sizes pool answers attempt sum_kind copies writing levels path bytes places (trace_each tr mean members images) k.value (wrote d.answer) block is written))
 
     -- a gang has a member, which has no place below the last level
     no_member : (ns bytes path : List ℕ) (images : Images) → 0 < sum ns → worst_of (run mean (plan_members (λ below part. Ends (StoredAs nowhere)) path 0 (cut ns bytes)) images).value.errors ≡ None → ⊥

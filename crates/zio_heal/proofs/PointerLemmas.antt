@@ -1,5 +1,5 @@
 -- A pointer to places that a lawful journal found can be spelled.
-use Rattle.std.proofs.Common.{◌≡◌, ℕ, zero, suc, ◌+◌, ◌-◌, ◌/◌, ◌%◌, ◌^◌, ◌<◌, ◌≤◌, List, [], ◌∷◌, ◌++◌, length, map, take, drop, find, filter, replicate, Bool, true, false, cond, ◌&&◌, ◌||◌, ◌==◌, nat_le, nat_lt, Option, Some, None, IsTrue, Contains, inl, inr, refl, sym, ap, ◌∙◌, subst, eq-eqb, eqb-true, leb-true, le-leb, lt-ltb, arith}
+use Rattle.std.proofs.Common.{◌≡◌, ℕ, zero, suc, ◌+◌, ◌-◌, ◌*◌, ◌/◌, ◌%◌, ◌^◌, ◌<◌, ◌≤◌, List, [], ◌∷◌, ◌++◌, length, map, take, drop, find, filter, replicate, Bool, true, false, cond, ◌&&◌, ◌||◌, ◌==◌, nat_le, nat_lt, Option, Some, None, IsTrue, Contains, inl, inr, refl, sym, ap, ◌∙◌, subst, eq-eqb, eqb-true, leb-true, le-leb, lt-ltb, arith}
 use Rattle.std.specs.Prelude.{slice_get}
 use Rattle.std.specs.List.{AllByRecursion, list_all}
 use Rattle.std.proofs.Math.Seq.{take-append_seam, drop-append_seam}
@@ -13,10 +13,12 @@ use Rattle.zio_types.specs.Places.{AreCopies, end_of, fits_on, fits_size, is_bel
 use Rattle.zio_blkptr.specs.declared.pointer.Bp.{Bp}
 use Rattle.zio_blkptr.specs.declared.pointer.TheConstants.{SECTOR_END, TOP_END}
 use Rattle.zio_blkptr.specs.Pointers.{FitsTypes, is_absent, is_block_size, is_present, is_rounding_of, places_of, sectors_stored, valid}
+use Rattle.zio_blkptr.proofs.Roundings.{near_by_rounding}
 use Rattle.zio_cksum.proofs.AllLemmas.{all_contains, all_weaker}
 use Rattle.zio_gang.specs.Journals.{AreLawful, choices_in, taken_by}
 use Rattle.zio_gang.specs.Trees.{size_of, sizes_of}
 use Rattle.zio_gang.specs.Writes.{Writing, chosen, places_chosen, places_unless, pointer_to}
+use Rattle.zio_trace.specs.Separate.{HaveRoomFor}
 use Rattle.zio_trace.proofs.ChoiceLemmas.{Answers, keys_same}
 use Rattle.zio_trace.proofs.ListLemmas.{contains_first, contains_later}
 use Rattle.zio_heal.specs.Pools.{IsBlockSize, IsPool}
@@ -172,6 +174,17 @@ all_present sizes tops bp size (p ∷ places) pool stored h =
     (ap (is_rounding_of p.sectors) stored ∙ t.rounding) (lt-ltb p.top TOP_END (omega (arith, t.top, few))))
     (lt-ltb p.sector SECTOR_END t.sector))
     (all_present sizes tops bp size places pool stored h.1)
+
+-- the places have room for what they were found for
+pub room_for : (sizes : ℕ → ℕ) (tops : List Top) (size : ℕ) (places : List Place) → IsPool sizes tops → AreFound (sizes_of tops) size places → size % 512 ≡ 0 → HaveRoomFor size places
+room_for sizes tops size places pool found whole =
+    all_weaker (Fits (sizes_of tops) size) (λ (p : Place). size ≤ p.sectors * sector_size) places
+    (λ p h.
+    let t = there tops p.top size p pool.lawful pool.short h.0 h.1 in
+    let near = near_by_rounding p.sectors (size / sector_size) t.rounding in
+    let low : size / 512 ≤ p.sectors = near.low in
+    omega arith)
+    found.each
 
 all_absent : (n : ℕ) → list_all is_absent (replicate n no_place) ≡ true
 all_absent zero = refl

@@ -1,22 +1,28 @@
 -- Pieces that a write's trace wrote: where their places were found, and that what follows leaves them alone.
-use Rattle.std.proofs.Common.{◌≡◌, ◌≢◌, ℕ, ◌≤◌, List, [], ◌∷◌, ◌++◌, true, false, Option, Some, None, IsTrue, ◌⊎◌, ⊎_elim, refl, sym, ap, ◌∙◌, append_assoc}
+use Rattle.std.proofs.Common.{◌≡◌, ◌≢◌, ℕ, ◌%◌, ◌≤◌, List, [], ◌∷◌, ◌++◌, length, true, false, Option, Some, None, IsTrue, ◌⊎◌, ⊎_elim, refl, sym, ap, ◌∙◌, append_assoc}
 use Rattle.std.specs.List.{AllByRecursion}
 use Rattle.zio_types.specs.declared.place.Place.{Place}
 use Rattle.zio_types.specs.Choices.{Ask, Choice}
 use Rattle.zio_types.specs.Places.{is_inside, meets}
-use Rattle.zio_cksum.proofs.AllLemmas.{all_append, all_weaker}
+use Rattle.zio_cksum.specs.Images.{Setting}
+use Rattle.zio_cksum.proofs.AllLemmas.{all_append, all_contains, all_weaker}
 use Rattle.zio_gang.specs.Attempts.{Pending, Terms}
 use Rattle.zio_gang.specs.Trees.{sizes_of}
 use Rattle.zio_gang.specs.Writes.{chosen}
 use Rattle.zio_trace.specs.BlockCopies.{Copies}
 use Rattle.zio_trace.specs.Programs.{Deed}
 use Rattle.zio_trace.specs.RoundTraces.{Trace}
+use Rattle.zio_trace.specs.Separate.{HaveRoomFor}
 use Rattle.zio_trace.specs.Tasks.{Find, Task, Value, WriteCopies, Wrote}
-use Rattle.zio_trace.proofs.ChoiceLemmas.{Answers, IsPlaced, MeetsNone, chosen_apart, chosen_placed}
+use Rattle.zio_trace.specs.TreeOrders.{Pairs}
+use Rattle.zio_trace.proofs.ChoiceLemmas.{Answers, IsPlaced, MeetsNone, chosen_apart, chosen_own, chosen_placed}
+use Rattle.zio_trace.proofs.PairLemmas.{pairs_stronger}
 use Rattle.zio_trace.proofs.PathLemmas.{SameParts}
-use Rattle.zio_trace.proofs.SpotLemmas.{AllInside, NoneTouch, none_touch, touch_turned}
+use Rattle.zio_trace.proofs.PlaceLemmas.{DontMeet, inside_dont}
+use Rattle.zio_trace.proofs.SpotLemmas.{AllInside, NoneTouch, dont_turned, none_touch, touch_turned}
 use Rattle.zio_heal.specs.Contents.{IsGood}
-use Rattle.zio_heal.proofs.PointerLemmas.{AreFound}
+use Rattle.zio_heal.specs.Pools.{IsPool}
+use Rattle.zio_heal.proofs.PointerLemmas.{AreFound, found_for, room_for}
 
 -- ---- where places were found
 
@@ -48,12 +54,33 @@ member_at journal t p path n places h =
       found = a.found;
     }
 
+-- Places that copies of so many bytes may have: one at least, inside their tops, with room, and none touches another.
+pub record AreUsable (s : Setting) (len : ℕ) (places : List Place) : Type 0 where
+  pub some : 1 ≤ length places
+  pub inside : AllInside s places
+  pub own : Pairs DontMeet places
+  pub room : HaveRoomFor len places
+
 -- Places for different parts don't touch.
-module _ (journal : List Choice) (t : Terms) (answers : Answers journal (sizes_of t.setting.tops) t.used t.round) where
+module _ (journal : List Choice) (t : Terms) (sizes : ℕ → ℕ) (pool : IsPool sizes t.setting.tops) (answers : Answers journal (sizes_of t.setting.tops) t.used t.round) where
   pub found_inside : (ask : Ask) (places : List Place) → ask.key.round ≡ t.round → chosen journal ask ≡ Some places → AllInside t.setting places
   found_inside ask places now found =
       all_weaker (IsPlaced (sizes_of t.setting.tops) t.used) (λ (q : Place). IsTrue (is_inside (sizes_of t.setting.tops) q)) places (λ q k. k.1)
       (chosen_placed journal (sizes_of t.setting.tops) t.used t.round answers ask places now found)
+
+  -- places for copies of whole sectors
+  pub found_usable : (ask : Ask) (places : List Place) → ask.key.round ≡ t.round → 1 ≤ ask.copies → ask.copies ≤ 3 → ask.size % 512 ≡ 0 → chosen journal ask ≡ Some places → AreUsable t.setting ask.size places
+  found_usable ask places now one three whole found =
+      let are : AreFound (sizes_of t.setting.tops) ask.size places = found_for journal (sizes_of t.setting.tops) t.used t.round answers ask places now one three found in
+      let inside : AllInside t.setting places = found_inside ask places now found in
+      record {
+        some = are.one;
+        inside = inside;
+        own = pairs_stronger DontMeet (λ (a b : Place). meets b a ≡ false) places
+            (λ a b ca cb far. dont_turned b a (inside_dont t.setting b a (all_contains _ places b inside cb) (all_contains _ places a inside ca) far))
+            (chosen_own journal (sizes_of t.setting.tops) t.used t.round answers ask places now found);
+        room = room_for sizes t.setting.tops ask.size places pool are whole;
+      }
 
   pub asks_apart : (a b : Ask) (ps qs : List Place) → a.key.round ≡ t.round → b.key.round ≡ t.round → (SameParts a.key b.key → ⊥) → chosen journal a ≡ Some ps → chosen journal b ≡ Some qs → NoneTouch ps qs
   asks_apart a b ps qs na nb ne fa fb =
@@ -96,7 +123,7 @@ pub record IsWrittenIn (t : Terms) (At : List Place → Type 0) (ds : Trace) (c 
   pub is : ds ≡ front ++ record { op = WriteCopies bytes c.places; answer = Wrote None } ∷ rest
   pub is_good : IsGood c bytes
   pub at : At c.places
-  pub found : AreFound (sizes_of t.setting.tops) c.len c.places
+  pub usable : AreUsable t.setting c.len c.places
   pub later : AllWriteAt (NoneTouch c.places) rest
 
 -- the same among more deeds
@@ -113,6 +140,6 @@ written_more t At Bt es ds fs c bytes f alone h =
           ∙ sym (append_assoc es h.front (d ∷ (h.rest ++ fs)));
       is_good = h.is_good;
       at = f h.at;
-      found = h.found;
+      usable = h.usable;
       later = all_append (λ (x : Deed Task Value). WritesAt (NoneTouch c.places) x.op) h.rest fs h.later (alone h.at);
     }

@@ -18,8 +18,7 @@ use Rattle.zio_gang.specs.Attempts.{Pending}
 use Rattle.zio_gang.specs.Trees.{size_of}
 use Rattle.zio_disks.specs.Disks.{Tell}
 use Rattle.zio_blocks.specs.Blocks.{HavePointers}
-use Rattle.zio_course.specs.declared.runner.RoundEnd.{RoundEnd}
-use Rattle.zio_course.specs.Runners.{AreRunnable, DiffersInRound, IsRound, IsRoundEnd, Standing, StandsAfter, StoppedAfter, ended_seen, terms_at}
+use Rattle.zio_course.specs.Runners.{AreRunnable, DiffersInRound, IsRound, IsRoundEnd, SeenEnd, Standing, StandsAfter, StoppedAfter, ended_seen, terms_at}
 use Rattle.zio_stages.specs.PartWorks.{HaveUnits}
 use Rattle.zio_stages.specs.Waits.{pendings}
 use Rattle.zio_stages.specs.declared.waiting.Waiting.{Waiting}
@@ -77,7 +76,7 @@ idle_runs s trees h = record {
   between = h.between;
 }
 
-idle_ends : (s : Standing) (round : ℕ) (trees : List (List Pending)) (end : RoundEnd (List Pending))
+idle_ends : (s : Standing) (round : ℕ) (trees : List (List Pending)) (end : SeenEnd)
     → IsRoundEnd (idle s) round trees end → IsRoundEnd s round trees end
 idle_ends s round trees end h = record {
   each = h.each;
@@ -99,7 +98,7 @@ idle_ends s round trees end h = record {
 -- ---- a round over the grounds is one of the engine
 
 -- a round's end, with the trees that are left as they stand between rounds
-pub record IsSeenEnd (e : RoundEnd (List Waiting)) (end : RoundEnd (List Pending)) : Type 0 where
+pub record IsSeenEnd (e : RoundEnd (List Waiting)) (end : SeenEnd) : Type 0 where
   pub finished : end.finished ≡ e.finished
   pub left : end.left ≡ map pendings e.left
   pub completions : end.completions ≡ e.completions
@@ -108,7 +107,7 @@ pub record IsSeenEnd (e : RoundEnd (List Waiting)) (end : RoundEnd (List Pending
 abbrev pub as_trees : List (List Pending) → List (List Pending)
 as_trees trees = map (λ (tree : List Pending). tree) trees
 
-seen_same : (e : RoundEnd (List Waiting)) (end : RoundEnd (List Pending)) → IsSeenEnd e end
+seen_same : (e : RoundEnd (List Waiting)) (end : SeenEnd) → IsSeenEnd e end
     → ended_seen pendings e ≡ ended_seen (λ (tree : List Pending). tree) end
 seen_same e end h =
     let left : map pendings e.left ≡ as_trees end.left = sym h.left ∙ sym (map-id end.left) in
@@ -119,7 +118,7 @@ seen_same e end h =
 
 -- a round in the runner's words, where images are told
 abbrev pub RunsAs : {D : Type 0} → (D → List ℕ → Type 0) → Standing → Failmode → ℕ → ℕ → List (List Pending) → List D → List D
-    → RoundEnd (List Pending) → Type 0
+    → SeenEnd → Type 0
 RunsAs {D = D} image s failmode round point trees old new end =
     (before : Images) → Tell {D = D} image old before → (after : Images)
     × Tell {D = D} image new after × IsRound (terms_at s failmode round point) trees before after end
@@ -176,7 +175,7 @@ module _ {D : Type 0} (faults : D → ℕ) (image : D → List ℕ → Type 0) (
         (subst (λ (ts : List (List Pending)). TellLoose {D = D} image (idle (standing_of faults p)) ts g.disks.items now) given
         (subst (λ (s : Standing). TellLoose {D = D} image s (map pendings wholes) g.disks.items now) known h))
 
-    module _ (e : RoundEnd (List Waiting)) (end : RoundEnd (List Pending)) (seen : IsSeenEnd e end) where
+    module _ (e : RoundEnd (List Waiting)) (end : SeenEnd) (seen : IsSeenEnd e end) where
       pub round_seen : (failmode : Failmode) (round : ℕ) (now : List D)
           → RunsAs {D = D} image (standing_on faults g) failmode round g.setting.point (map pendings wholes) g.disks.items now
           (ended_seen pendings e)
@@ -184,7 +183,7 @@ module _ {D : Type 0} (faults : D → ℕ) (image : D → List ℕ → Type 0) (
           (ended_seen (λ (tree : List Pending). tree) end)
       round_seen failmode round now h =
           let s : Standing = idle (standing_of faults p) in
-          let x : RoundEnd (List Pending) = ended_seen (λ (tree : List Pending). tree) end in
+          let x : SeenEnd = ended_seen (λ (tree : List Pending). tree) end in
           subst (λ (ds : List D). RunsAs {D = D} image s failmode round point (as_trees trees) ds now x) b.disks
           (subst (λ (ts : List (List Pending)). RunsAs {D = D} image s failmode round point ts g.disks.items now x) given
           (subst (λ (n : ℕ). RunsAs {D = D} image s failmode round n (map pendings wholes) g.disks.items now x)
@@ -197,7 +196,7 @@ module _ {D : Type 0} (faults : D → ℕ) (image : D → List ℕ → Type 0) (
           → IsRoundEnd (standing_of faults p) round (as_trees trees) (ended_seen (λ (tree : List Pending). tree) end)
       ends_seen round h =
           let s : Standing = idle (standing_of faults p) in
-          let x : RoundEnd (List Pending) = ended_seen (λ (tree : List Pending). tree) end in
+          let x : SeenEnd = ended_seen (λ (tree : List Pending). tree) end in
           idle_ends (standing_of faults p) round (as_trees trees) x
           (subst (λ (ts : List (List Pending)). IsRoundEnd s round ts x) given
           (subst (λ (r : Standing). IsRoundEnd r round (map pendings wholes) x) known

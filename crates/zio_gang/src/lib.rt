@@ -28,5 +28,5 @@ pub use laws::{
     each_request_has_one_fate, headers_have_no_fault, trees_are_attempted_in_turn,
 };
 pub use members::members_of;
-pub use sizes::{SPLIT_SIZE_MAX, split};
+pub use sizes::{LEVELS_MAX, split};
 pub use tree::{Head, Tree};

@@ -1,5 +1,5 @@
 use Rattle.std.proofs.Common.{[], ◌∷◌, ◌∙◌}
-use Rattle.zio_tests.proofs.outside.a_disk_goes_out_and_comes_home.Goals as goal
+use Rattle.zio_edge_tests.proofs.outside.a_disk_goes_out_and_comes_home.Goals as goal
 
 -- the name is "a"
 pub give_back-requires : goal.give_back-requires

@@ -9,7 +9,6 @@
 #![tactic(auto)]
 
 mod bound;
-mod content;
 mod ending;
 mod faults;
 mod header;
@@ -17,9 +16,9 @@ mod laws;
 mod members;
 mod sizes;
 mod tree;
+mod writes;
 
 pub use bound::Bound;
-pub use content::content;
 pub use ending::Ending;
 pub use faults::header_decode;
 pub use header::{Header, HeaderFault, Split, header_encode};
@@ -30,3 +29,4 @@ pub use laws::{
 pub use members::members_of;
 pub use sizes::{LEVELS_MAX, split};
 pub use tree::{Head, Tree};
+pub use writes::content;

@@ -9,12 +9,12 @@ use Rattle.std.proofs.lemmas.List.Sums.{sum_by-cons}
 use Rattle.zio_cksum.proofs.AllLemmas.{all_contained, all_weaker}
 use Rattle.zio_gang.specs.ByNumber.{merge_by}
 use Rattle.zio_gang.proofs.FateLemmas.{tally}
-use Rattle.zio_course.specs.declared.runner.Finished.{Finished}
+use Rattle.zio_course.specs.declared.runner.RequestEnd.{RequestEnd}
 use Rattle.zio_course.specs.Runners.{AreRisingFrom, is_numbered}
 use Rattle.zio_course.proofs.SortLemmas.{IsOneOf, IsRisingBy, one_if, one_itself, sorted_is}
 use Rattle.zio_plain.proofs.CountLemmas.{counted, ends_numbers}
 
-abbrev number : Finished → ℕ
+abbrev number : RequestEnd → ℕ
 number f = f.request
 
 pub all_moved : {X : Type 0} (P : X → Type 0) (xs ys : List X) → IsPermutation xs ys → AllByRecursion P xs → AllByRecursion P ys
@@ -23,10 +23,10 @@ all_moved P xs ys moved h = recursion_from_All P ys (All-permutation P xs ys mov
 counted_more : (n x : ℕ) (xs : List ℕ) → counted n (x ∷ xs) ≡ cond {A = ℕ} (x == n) 1 0 + counted n xs
 counted_more n x xs = sum_by-cons (λ m. cond {A = ℕ} (is_numbered n m) 1 0) x xs
 
-pub counted_moved : (n : ℕ) (xs ys : List Finished) → IsPermutation xs ys → counted n (ends_numbers ys) ≡ counted n (ends_numbers xs)
+pub counted_moved : (n : ℕ) (xs ys : List RequestEnd) → IsPermutation xs ys → counted n (ends_numbers ys) ≡ counted n (ends_numbers xs)
 counted_moved n xs ys moved = sum_by-IsPermutation (λ m. cond {A = ℕ} (is_numbered n m) 1 0) (ends_numbers xs) (ends_numbers ys) (IsPermutation-map number xs ys moved)
 
-above : (n : ℕ) (xs : List Finished) → ((j : ℕ) (d : Finished) → j < length xs → n ≤ number (get_or xs j d)) → counted n (ends_numbers xs) ≤ 0 → AllByRecursion (λ (y : Finished). n < number y) xs
+above : (n : ℕ) (xs : List RequestEnd) → ((j : ℕ) (d : RequestEnd) → j < length xs → n ≤ number (get_or xs j d)) → counted n (ends_numbers xs) ≤ 0 → AllByRecursion (λ (y : RequestEnd). n < number y) xs
 above n [] h c = tt
 above n (y ∷ ys) h c =
     let all = counted_more n y.request (ends_numbers ys) in
@@ -34,7 +34,7 @@ above n (y ∷ ys) h c =
     let low : n ≤ y.request = h 0 y (omega arith) in
     (omega arith, above n ys (λ j d lt. h (suc j) d (omega arith)) (omega arith))
 
-pub rising_by : (xs : List Finished) → IsNonDecreasingBy number xs → ((n : ℕ) → counted n (ends_numbers xs) ≤ 1) → IsRisingBy number xs
+pub rising_by : (xs : List RequestEnd) → IsNonDecreasingBy number xs → ((n : ℕ) → counted n (ends_numbers xs) ≤ 1) → IsRisingBy number xs
 rising_by [] h once = tt
 rising_by (x ∷ xs) h once = (
   above x.request xs (λ j d lt. h 0 (suc j) d (omega arith) (omega arith))
@@ -45,29 +45,29 @@ rising_by (x ∷ xs) h once = (
       (λ n. (let all = counted_more n x.request (ends_numbers xs) in let most = once n in omega arith)),
 )
 
-rising_from : (least : ℕ) (xs : List Finished) → AllByRecursion (λ (y : Finished). least ≤ number y) xs → IsRisingBy number xs → AreRisingFrom least (ends_numbers xs)
+rising_from : (least : ℕ) (xs : List RequestEnd) → AllByRecursion (λ (y : RequestEnd). least ≤ number y) xs → IsRisingBy number xs → AreRisingFrom least (ends_numbers xs)
 rising_from least [] h r = tt
-rising_from least (x ∷ xs) h r = (h.0, rising_from (x.request + 1) xs (all_weaker (λ (y : Finished). x.request < number y) (λ (y : Finished). x.request + 1 ≤ number y) xs (λ y lt. omega arith) r.0) r.1)
+rising_from least (x ∷ xs) h r = (h.0, rising_from (x.request + 1) xs (all_weaker (λ (y : RequestEnd). x.request < number y) (λ (y : RequestEnd). x.request + 1 ≤ number y) xs (λ y lt. omega arith) r.0) r.1)
 
-all_low : (xs : List Finished) → AllByRecursion (λ (y : Finished). 0 ≤ number y) xs
+all_low : (xs : List RequestEnd) → AllByRecursion (λ (y : RequestEnd). 0 ≤ number y) xs
 all_low [] = tt
 all_low (x ∷ xs) = (omega arith, all_low xs)
 
-pub numbers_rise : (xs : List Finished) → IsRisingBy number xs → AreRisingFrom 0 (ends_numbers xs)
+pub numbers_rise : (xs : List RequestEnd) → IsRisingBy number xs → AreRisingFrom 0 (ends_numbers xs)
 numbers_rise xs r = rising_from 0 xs (all_low xs) r
 
 one_if_is : (b : Bool) → one_if b ≡ cond {A = ℕ} b 1 0
 one_if_is true = refl
 one_if_is false = refl
 
-tally_is : (n : ℕ) (xs : List Finished) → tally (λ (x : Finished). one_if (eqb (number x) n)) xs ≡ counted n (ends_numbers xs)
+tally_is : (n : ℕ) (xs : List RequestEnd) → tally (λ (x : RequestEnd). one_if (eqb (number x) n)) xs ≡ counted n (ends_numbers xs)
 tally_is n [] = refl
 tally_is n (x ∷ xs) =
-    ap (λ m. m + tally (λ (y : Finished). one_if (eqb (number y) n)) xs) (one_if_is (eqb x.request n)) ∙ ap (λ m. cond {A = ℕ} (eqb x.request n) 1 0 + m) (tally_is n xs)
+    ap (λ m. m + tally (λ (y : RequestEnd). one_if (eqb (number y) n)) xs) (one_if_is (eqb x.request n)) ∙ ap (λ m. cond {A = ℕ} (eqb x.request n) 1 0 + m) (tally_is n xs)
     ∙ sym (counted_more n x.request (ends_numbers xs))
 
 -- a sort by number is the merge by number
-pub merged_is : (xs ys : List Finished) → IsPermutation xs ys → IsRisingBy number ys → ys ≡ merge_by number xs []
+pub merged_is : (xs ys : List RequestEnd) → IsPermutation xs ys → IsRisingBy number ys → ys ≡ merge_by number xs []
 merged_is xs ys moved rising =
     sym (sorted_is number ys xs rising (all_moved (λ x. IsOneOf x ys) ys xs (IsPermutation-sym xs ys moved) (one_itself ys))
     (λ n. tally_is n xs ∙ sym (counted_moved n xs ys moved) ∙ sym (tally_is n ys)))

@@ -2,7 +2,7 @@ use Rattle.std.proofs.Common.{◌∙◌, ◌++◌, length, ap}
 use Rattle.std.specs.List.{flat_map}
 use Rattle.zio_cksum.specs.Headers.{member_bytes}
 use Rattle.zio_gang.proofs.ContentLemmas.{alone_content, alone_size, joined_size}
-use Rattle.zio_gang.proofs.content.unpadded.Goals as goal
+use Rattle.zio_gang.proofs.writes.unpadded.Goals as goal
 
 pub returns-then-is_empty-clause-content : goal.returns-then-is_empty-clause-content
 returns-then-is_empty-clause-content c =

@@ -1,7 +1,7 @@
 use Rattle.std.proofs.Common.{◌≡◌, ℕ, ◌-◌, ◌%◌, ◌<◌, List, ◌++◌, length, drop, take, replicate, refl, sym, ap, ◌∙◌, arith}
 use Rattle.std.proofs.lemmas.List.{drop-replicate, take-replicate}
 use Rattle.zio_gang.specs.Writes.{padded}
-use Rattle.zio_gang.proofs.content.pad.Goals as goal
+use Rattle.zio_gang.proofs.writes.pad.Goals as goal
 
 pad_sector : (bytes new : List ℕ) (len past : ℕ) → len ≡ length bytes → past ≡ len % 512 → 0 < past
     → new ≡ bytes ++ take (512 - past) (drop {A = ℕ} past (replicate 512 0)) → new ≡ padded bytes

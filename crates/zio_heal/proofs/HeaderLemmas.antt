@@ -38,8 +38,9 @@ of_three ms place birth three slots =
     let members : length (flat_map member_bytes ms) ≡ 128 * length ms = slots_long ms slots in
     let words : length (flat_map word sum) ≡ 8 * length sum = words_long sum in
     let four : length sum ≡ 4 = sum_four Sha256 _ in
-    let fill : length (replicate 88 0 ++ word header_magic) ≡ 96 = refl in
-    omega (arith, length-append (flat_map member_bytes ms) (replicate 88 0 ++ word header_magic), length-append front (flat_map word sum))
+    let filler : length {A = ℕ} (replicate 88 0) ≡ 88 = refl in
+    let magic : length (word header_magic) ≡ 8 = refl in
+    omega (arith, length-append {A = ℕ})
 
 some_slots : (bps : List Bp) → AllByRecursion IsSpelled bps → AllByRecursion IsSlot (map Some bps)
 some_slots [] h = tt

@@ -38,23 +38,23 @@ pub each_weaker : (P Q : Copies → List ℕ → Type 0) → ((c : Copies) (byte
 each_weaker P Q f tree content h = pieces_weaker P Q f header_levels_max tree.heads [] tree.bp content h
 
 of_body : (gang : Bool) (A B : Type 0) → gang ≡ false → B → IfGang gang A B
-of_body true A B no h = absurd (cc)
-of_body false A B no h = h
+of_body true A B e h = absurd (cc)
+of_body false A B e h = h
 
 of_gang : (gang : Bool) (A B : Type 0) → gang ≡ true → A → IfGang gang A B
-of_gang true A B yes h = h
-of_gang false A B yes h = absurd (cc)
+of_gang true A B e h = h
+of_gang false A B e h = absurd (cc)
 
 -- a body is its pointer's only piece
 pub body_piece : (P : Copies → List ℕ → Type 0) (levels : ℕ) (heads : List Head) (path : List ℕ) (bp : Bp) (bytes : List ℕ) → bp.gang ≡ false → P (body_copies bp) bytes → HasPieces P levels heads path bp bytes
 unfolding HasPieces
-body_piece P zero heads path bp bytes no h = of_body bp.gang ⊥ (P (body_copies bp) bytes) no h
-body_piece P (suc levels) heads path bp bytes no h = of_body bp.gang (IsGangOf P (λ ms. HaveBytes (HasPieces P levels heads) path 0 ms bytes) heads path bp) (P (body_copies bp) bytes) no h
+body_piece P zero heads path bp bytes e h = of_body bp.gang ⊥ (P (body_copies bp) bytes) e h
+body_piece P (suc levels) heads path bp bytes e h = of_body bp.gang (IsGangOf P (λ ms. HaveBytes (HasPieces P levels heads) path 0 ms bytes) heads path bp) (P (body_copies bp) bytes) e h
 
 -- a gang has its header and its members
 pub gang_pieces : (P : Copies → List ℕ → Type 0) (levels : ℕ) (heads : List Head) (path : List ℕ) (bp : Bp) (bytes : List ℕ) → bp.gang ≡ true → IsGangOf P (λ ms. HaveBytes (HasPieces P levels heads) path 0 ms bytes) heads path bp → HasPieces P (suc levels) heads path bp bytes
 unfolding HasPieces
-gang_pieces P levels heads path bp bytes yes h = of_gang bp.gang (IsGangOf P (λ ms. HaveBytes (HasPieces P levels heads) path 0 ms bytes) heads path bp) (P (body_copies bp) bytes) yes h
+gang_pieces P levels heads path bp bytes e h = of_gang bp.gang (IsGangOf P (λ ms. HaveBytes (HasPieces P levels heads) path 0 ms bytes) heads path bp) (P (body_copies bp) bytes) e h
 
 -- ---- kept headers
 

@@ -1,5 +1,5 @@
 -- A placed write without error by its plan: its trace writes each piece of the tree that it makes.
-use Rattle.std.proofs.Common.{◌≡◌, ℕ, zero, suc, ◌+◌, ◌≤◌, ◌<◌, List, [], ◌∷◌, ◌++◌, length, take, drop, sum, Bool, true, false, nat_le, Option, Some, None, refl, sym, ap, ◌∙◌, subst, append_assoc, append-nil, leb-false, length-take, length-drop, arith}
+use Rattle.std.proofs.Common.{◌≡◌, ℕ, zero, suc, ◌+◌, ◌%◌, ◌≤◌, ◌<◌, List, [], ◌∷◌, ◌++◌, length, take, drop, sum, Bool, true, false, nat_le, Option, Some, None, refl, sym, ap, ◌∙◌, subst, append_assoc, append-nil, leb-false, length-take, length-drop, arith}
 use Rattle.std.proofs.lemmas.List.Sums.{sum_by-cons}
 use Rattle.std.specs.List.{AllByRecursion}
 use Rattle.zio_types.specs.declared.error.Errno.{Errno}
@@ -222,6 +222,17 @@ module _ (journal : List Choice) (t : Terms) (p : Pending) (sizes : ℕ → ℕ)
   down_stops zero = record { asks = λ a images. refl; writes = λ bytes places images. refl }
   down_stops (suc levels) = record { asks = λ a images. refl; writes = λ bytes places images. refl }
 
+  -- the task of a part, where its plan goes well
+  task_fine : (levels deep : ℕ) (at part : List ℕ) → GoesFine levels (trace_down deep is_single_or_piece mean (plan t)) at part (plan_write t attempt p sum_kind copies levels at part)
+      → GoesFine levels (trace_down (suc deep) is_single_or_piece mean (plan t)) at part (ask (WritePart attempt p sum_kind copies levels at part))
+  task_fine levels deep at part fine images none =
+      let op : Task = WritePart attempt p sum_kind copies levels at part in
+      let below : Trace = trace_each (trace_down deep is_single_or_piece mean (plan t)) mean (plan t op) images in
+      let gives : run mean (plan t op) images ≡ mean op images = plan_run journal t op images in
+      subst (λ (ds : Trace). IsPartWritten journal t p levels at part ds (stored (mean op images).value)) (sym (append-nil below))
+      (subst (λ (d : Done Value). IsPartWritten journal t p levels at part below (stored d.value)) gives
+      (fine images (ap (λ (d : Done Value). (stored d.value).error) gives ∙ none)))
+
   -- the plan of a write, traced at least as deep as it has levels
   pub write_fine : (levels deep : ℕ) → levels ≤ deep → (path bytes : List ℕ) → IsBlockSize (length bytes)
       → GoesFine levels (trace_down deep is_single_or_piece mean (plan t)) path bytes (plan_write t attempt p sum_kind copies levels path bytes)
@@ -232,14 +243,5 @@ module _ (journal : List Choice) (t : Terms) (p : Pending) (sizes : ℕ → ℕ)
   write_fine (suc levels) (suc deep) far path bytes block =
       let tr : Task → Images → Trace = trace_down (suc deep) is_single_or_piece mean (plan t) in
       part_fine tr (down_stops (suc deep)) (suc levels) (λ below part. ask (WritePart attempt p sum_kind copies levels below part)) path bytes block
-      (λ large. gang_fine tr (down_stops (suc deep)) levels (λ below part. ask (WritePart attempt p sum_kind copies levels below part)) one path bytes block)
-    where
-      one : (at part : List ℕ) → IsBlockSize (length part) → (images : Images) → (stored (means journal t (WritePart attempt p sum_kind copies levels at part) images).value).error ≡ None
-          → IsPartWritten journal t p levels at part (trace_each (trace_down (suc deep) is_single_or_piece (means journal t) (plan t)) (means journal t) (ask (WritePart attempt p sum_kind copies levels at part)) images)
-          (stored (means journal t (WritePart attempt p sum_kind copies levels at part) images).value)
-      one at part small images none =
-          let op : Task = WritePart attempt p sum_kind copies levels at part in
-          let gives : run (means journal t) (plan t op) images ≡ means journal t op images = plan_run journal t op images in
-          subst (λ (ds : Trace). IsPartWritten journal t p levels at part ds (stored (means journal t op images).value)) (sym (append-nil (trace_each (trace_down deep is_single_or_piece (means journal t) (plan t)) (means journal t) (plan t op) images)))
-          (subst (λ (d : Done Value). IsPartWritten journal t p levels at part (trace_each (trace_down deep is_single_or_piece (means journal t) (plan t)) (means journal t) (plan t op) images) (stored d.value)) gives
-          (write_fine levels deep (omega arith) at part small images (ap (λ (d : Done Value). (stored d.value).error) gives ∙ none)))
+      (λ large. gang_fine tr (down_stops (suc deep)) levels (λ below part. ask (WritePart attempt p sum_kind copies levels below part))
+      (λ at part small. task_fine levels deep at part (write_fine levels deep (omega arith) at part small)) path bytes block)

@@ -9,8 +9,10 @@ pub mod FoundTraces
 pub mod GivenCasesProofs
 pub mod HeaderLemmas
 pub mod HealedCasesProofs
+pub mod HeldLemmas
 pub mod PieceLemmas
 pub mod PlacedGangs
+pub mod PlacedLemmas
 pub mod PlacedParts
 pub mod PlacedPlans
 pub mod PointerLemmas

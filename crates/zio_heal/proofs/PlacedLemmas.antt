@@ -1,0 +1,127 @@
+-- A write without error has a tree, each piece of which is held with its bytes.
+use Rattle.std.proofs.Common.{◌≡◌, ℕ, ◌≤◌, List, [], ◌∷◌, ◌++◌, length, map, Option, Some, None, IsSome, IsTrue, refl, sym, ap, ◌∙◌, subst, append-nil, arith}
+use Rattle.zio_types.specs.declared.error.Errno.{Errno}
+use Rattle.zio_types.specs.declared.place.Place.{Place}
+use Rattle.zio_types.specs.declared.request.Prio.{Prio}
+use Rattle.zio_types.specs.Choices.{Choice}
+use Rattle.zio_types.specs.Paths.{path_steps_max}
+use Rattle.zio_types.specs.Places.{is_inside}
+use Rattle.zio_blkptr.specs.declared.pointer.Bp.{Bp}
+use Rattle.zio_blkptr.specs.declared.pointer.SumKind.{SumKind}
+use Rattle.zio_script.specs.declared.script.Body.{Body}
+use Rattle.zio_script.specs.declared.script.Work.TheVariants.{Write}
+use Rattle.zio_script.specs.Bodies.{body_of}
+use Rattle.zio_cksum.specs.Images.{Images}
+use Rattle.zio_gang.specs.declared.tree.Head.{Head}
+use Rattle.zio_gang.specs.declared.tree.Tree.{Tree}
+use Rattle.zio_gang.specs.Attempts.{Own, Pending, Terms, own_work, placed_tree, writing_of}
+use Rattle.zio_gang.specs.Journals.{AreLawful, choices_in}
+use Rattle.zio_gang.specs.Trees.{sizes_of}
+use Rattle.zio_gang.specs.Writes.{Placed, content_of, place_block}
+use Rattle.zio_trace.specs.BlockCopies.{Copies}
+use Rattle.zio_trace.specs.Leaves.{HaveSizes}
+use Rattle.zio_trace.specs.Plans.{own_stored, plan, plan_own, plan_write}
+use Rattle.zio_trace.specs.Programs.{Done, Ends, Happen, run}
+use Rattle.zio_trace.specs.RoundTraces.{Trace, is_single_or_piece, levels_max, task_trace, trace_each}
+use Rattle.zio_trace.specs.RunTraces.{in_round}
+use Rattle.zio_trace.specs.Tasks.{OwnGot, Stored, Task, Value, WritePart, as_own, as_stored, means, stored}
+use Rattle.zio_trace.proofs.ChoiceLemmas.{Answers, answers_in_round}
+use Rattle.zio_trace.proofs.DownLemmas.{Gives, down_gives, each_gives}
+use Rattle.zio_trace.proofs.RequestLemmas.{own_run, plan_run}
+use Rattle.zio_trace.proofs.SpotLemmas.{AllInside}
+use Rattle.zio_heal.specs.Contents.{EachPiece, IsHeld}
+use Rattle.zio_heal.specs.Copies.{StoresAsGiven}
+use Rattle.zio_heal.specs.Given.{given_after}
+use Rattle.zio_heal.specs.Pools.{IsBlockSize, IsPool, IsWriting}
+use Rattle.zio_heal.proofs.HeldLemmas.{is_given, is_held}
+use Rattle.zio_heal.proofs.PieceLemmas.{each_weaker}
+use Rattle.zio_heal.proofs.PlacedParts.{IsPartWritten}
+use Rattle.zio_heal.proofs.PlacedPlans.{each_then, write_fine}
+use Rattle.zio_heal.proofs.WholeLemmas.{pointer_law}
+use Rattle.zio_heal.proofs.WrittenPieces.{AllWriteAt, IsAt, IsWrittenIn, all_writes, found_inside}
+
+some_tree : (pointer : Option Bp) (placed : Placed) → IsSome pointer → IsSome (placed_tree pointer placed)
+some_tree (Some bp) placed h = refl
+some_tree None placed h = absurd (cc)
+
+-- a block that was placed
+record IsPlacedAs (pointer : Option Bp) (placed : Placed) (tree : Tree) : Type 0 where
+  is : pointer ≡ Some tree.bp
+  heads : placed.heads ≡ tree.heads
+
+placed_as : (pointer : Option Bp) (placed : Placed) (tree : Tree) → placed_tree pointer placed ≡ Some tree → IsPlacedAs pointer placed tree
+placed_as (Some bp) placed tree e =
+    let is : record { bp = bp; heads = placed.heads } ≡ tree = cc in
+    record { is = ap (λ (x : Tree). Some x.bp) is; heads = ap (λ (x : Tree). x.heads) is }
+placed_as None placed tree e = absurd (cc)
+
+module _ (journal : List Choice) (t : Terms) (attempt : ℕ) (p : Pending) (name : List ℕ) (sum_kind : SumKind) (copies : ℕ) (prio : Prio) (body : Body) (pointers : List (Option Bp)) (sizes : ℕ → ℕ) (images : Images) (tree : Tree) where
+  abbrev pub content : List ℕ
+  content = content_of pointers (body_of body)
+
+  abbrev pub own : Own
+  own = own_work journal t attempt p (Write name sum_kind copies prio body) pointers images
+
+  -- the trace of the request's own work
+  abbrev pub own_ds : Trace
+  own_ds = trace_each (task_trace is_single_or_piece journal t) (means journal t) (plan_own t attempt p (Write name sum_kind copies prio body) pointers) images
+
+  pub tree_law : own.error ≡ None → IsSome own.tree
+  tree_law none =
+      let placed : Placed = place_block journal (writing_of t attempt p sum_kind copies) content images in
+      some_tree placed.pointer placed (pointer_law path_steps_max journal (writing_of t attempt p sum_kind copies) [] content images none)
+
+  module _ (pool : IsPool sizes t.setting.tops) (lawful : AreLawful (sizes_of t.setting.tops) t.used (choices_in t.round journal)) (writing : IsWriting p copies) (block : IsBlockSize (length content))
+      (none : own.error ≡ None) (is : own.tree ≡ Some tree) where
+    abbrev answers : Answers journal (sizes_of t.setting.tops) t.used t.round
+    answers = answers_in_round journal (sizes_of t.setting.tops) t.used t.round lawful
+
+    -- The trace wrote each piece of the tree, at places that the request found in the round.
+    pub each_written : EachPiece (IsWrittenIn t (IsAt journal t p []) own_ds) tree content
+    each_written =
+        let placed : Placed = place_block journal (writing_of t attempt p sum_kind copies) content images in
+        let op : Task = WritePart attempt p sum_kind copies path_steps_max [] content in
+        let ds : Trace = trace_each (task_trace is_single_or_piece journal t) (means journal t) (plan t op) images in
+        let gives : run (means journal t) (plan t op) images ≡ as_stored placed = plan_run journal t op images in
+        let made : IsPlacedAs placed.pointer placed tree = placed_as placed.pointer placed tree is in
+        let written : IsPartWritten journal t p path_steps_max [] content ds (stored (run (means journal t) (plan t op) images).value) =
+        write_fine journal t p sizes pool answers attempt sum_kind copies writing path_steps_max levels_max (omega arith) [] content block images
+        (ap (λ (d : Done Value). (stored d.value).error) gives ∙ none) in
+        let heads : (stored (run (means journal t) (plan t op) images).value).heads ≡ tree.heads = ap (λ (d : Done Value). (stored d.value).heads) gives ∙ made.heads in
+        let pointer : Some written.bp ≡ Some tree.bp = sym written.pointer ∙ ap (λ (d : Done Value). (stored d.value).pointer) gives ∙ made.is in
+        let bp : written.bp ≡ tree.bp = cc in
+        let trace_is : own_ds ≡ ds =
+        each_then (task_trace is_single_or_piece journal t) (means journal t) (plan t op) (λ v. Ends (own_stored (stored v))) images ∙ append-nil ds in
+        subst (λ (xs : Trace). EachPiece (IsWrittenIn t (IsAt journal t p []) xs) tree content) (sym trace_is)
+        (subst (λ (b : Bp). EachPiece (IsWrittenIn t (IsAt journal t p []) ds) (record { bp = b; heads = tree.heads }) content) bp
+        (subst (λ (hs : List Head). EachPiece (IsWrittenIn t (IsAt journal t p []) ds) (record { bp = written.bp; heads = hs }) content) heads
+        (written.pieces (stored (run (means journal t) (plan t op) images).value).heads (λ below. refl))))
+
+    -- the whole trace writes at such places
+    pub writes_own : AllWriteAt (IsAt journal t p []) own_ds
+    writes_own =
+        let op : Task = WritePart attempt p sum_kind copies path_steps_max [] content in
+        let ds : Trace = trace_each (task_trace is_single_or_piece journal t) (means journal t) (plan t op) images in
+        let gives : run (means journal t) (plan t op) images ≡ as_stored (place_block journal (writing_of t attempt p sum_kind copies) content images) = plan_run journal t op images in
+        let written : IsPartWritten journal t p path_steps_max [] content ds (stored (run (means journal t) (plan t op) images).value) =
+        write_fine journal t p sizes pool answers attempt sum_kind copies writing path_steps_max levels_max (omega arith) [] content block images
+        (ap (λ (d : Done Value). (stored d.value).error) gives ∙ none) in
+        let trace_is : own_ds ≡ ds =
+        each_then (task_trace is_single_or_piece journal t) (means journal t) (plan t op) (λ v. Ends (own_stored (stored v))) images ∙ append-nil ds in
+        subst (AllWriteAt (IsAt journal t p [])) (sym trace_is) written.writes
+
+    pub held_law : StoresAsGiven t.setting → HaveSizes sizes images → EachPiece (IsHeld t.setting own.images) tree content
+    held_law given have =
+        let gives : Gives (means journal t) (plan t) is_single_or_piece own_ds images (run (means journal t) (plan_own t attempt p (Write name sum_kind copies prio body) pointers) images).images _ =
+        each_gives (means journal t) (plan t) is_single_or_piece (task_trace is_single_or_piece journal t) (down_gives (means journal t) (plan t) is_single_or_piece (plan_run journal t) levels_max) (plan_own t attempt p (Write name sum_kind copies prio body) pointers) images in
+        let happen : Happen (means journal t) own_ds images own.images =
+        subst (λ (d : Done OwnGot). Happen (means journal t) own_ds images d.images) (own_run journal t attempt p (Write name sum_kind copies prio body) pointers images) gives.happen in
+        let inside : AllWriteAt (AllInside t.setting) own_ds =
+        all_writes (IsAt journal t p []) (AllInside t.setting) (λ qs a. found_inside journal t sizes pool answers a.ask qs a.now a.found) own_ds writes_own in
+        each_weaker (IsWrittenIn t (IsAt journal t p []) own_ds) (IsHeld t.setting own.images)
+        (λ c bytes h. is_held journal t sizes pool (IsAt journal t p []) own_ds images own.images c bytes given inside have happen h) tree content each_written
+
+    pub given_law : (before : Option (List ℕ)) → EachPiece (λ (c : Copies) (bytes : List ℕ). given_after before (map (in_round t) own_ds) c.places ≡ Some bytes) tree content
+    given_law before =
+        each_weaker (IsWrittenIn t (IsAt journal t p []) own_ds) (λ (c : Copies) (bytes : List ℕ). given_after before (map (in_round t) own_ds) c.places ≡ Some bytes)
+        (λ c bytes h. is_given t (IsAt journal t p []) own_ds c bytes before h) tree content each_written

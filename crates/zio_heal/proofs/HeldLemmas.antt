@@ -29,7 +29,7 @@ use Rattle.zio_trace.proofs.ProgramLemmas.{happen_apart}
 use Rattle.zio_trace.proofs.SpotLemmas.{AllInside, NoneTouch, clear_turned, own_spots, spots_clear}
 use Rattle.zio_heal.specs.Contents.{IsGood, IsHeld}
 use Rattle.zio_heal.specs.Copies.{AreElsewhere, HasCopy, StoresAsGiven}
-use Rattle.zio_heal.specs.Given.{Deeds, given_after, given_by}
+use Rattle.zio_heal.specs.Given.{Deeds, given_after, given_by, given_in}
 use Rattle.zio_heal.specs.Pools.{IsPool}
 use Rattle.zio_heal.specs.Spared.{LieOn, SparesBy}
 use Rattle.zio_heal.proofs.SparedLemmas.{written_law}
@@ -171,6 +171,14 @@ still_given t len ps before (d ∷ ds) usable none =
 pub given_front : (t : Terms) (before : Option (List ℕ)) (xs ys : Trace) (ps : List Place) → given_after before (map (in_round t) (xs ++ ys)) ps ≡ given_after (given_after before (map (in_round t) xs) ps) (map (in_round t) ys) ps
 given_front t before [] ys ps = refl
 given_front t before (x ∷ xs) ys ps = given_front t (given_by x.op ps before) xs ys ps
+
+-- what was given behind some deeds
+pub given_behind : (xs ys : Deeds) (ps : List Place) → given_in (xs ++ ys) ps ≡ given_after (given_in xs ps) ys ps
+given_behind xs ys ps = behind None xs
+  where
+    behind : (b : Option (List ℕ)) (zs : Deeds) → given_after b (zs ++ ys) ps ≡ given_after (given_after b zs ps) ys ps
+    behind b [] = refl
+    behind b (z ∷ zs) = behind (given_by z.op.task ps b) zs
 
 given_itself : (before : Option (List ℕ)) (bytes : List ℕ) (ps : List Place) → given_by (WriteCopies bytes ps) ps before ≡ Some bytes
 given_itself before bytes ps = ap (λ (b : Bool). if b then Some bytes else before) ((pointwise_decides same_place_decides ps ps).1 refl)

@@ -1,4 +1,5 @@
 pub mod AlikeCasesProofs
+pub mod ContentCasesProofs
 pub mod CopyCasesProofs
 pub mod CopyLemmas
 pub mod DisciplineCasesProofs
@@ -16,6 +17,7 @@ pub mod PlacedLemmas
 pub mod PlacedParts
 pub mod PlacedPlans
 pub mod PointerLemmas
+pub mod PoolCasesProofs
 pub mod RepairLemmas
 pub mod RunLemmas
 pub mod SparedLemmas

@@ -9,6 +9,7 @@ use Rattle.zio_types.specs.Places.{is_inside}
 use Rattle.zio_blkptr.specs.declared.pointer.Bp.{Bp}
 use Rattle.zio_blkptr.specs.declared.pointer.SumKind.{SumKind}
 use Rattle.zio_script.specs.declared.script.Body.{Body}
+use Rattle.zio_script.specs.declared.script.Work.{Work}
 use Rattle.zio_script.specs.declared.script.Work.TheVariants.{Write}
 use Rattle.zio_script.specs.Bodies.{body_of}
 use Rattle.zio_cksum.specs.Images.{Images}
@@ -22,18 +23,18 @@ use Rattle.zio_trace.specs.BlockCopies.{Copies}
 use Rattle.zio_trace.specs.Leaves.{HaveSizes}
 use Rattle.zio_trace.specs.Plans.{own_stored, plan, plan_own, plan_write}
 use Rattle.zio_trace.specs.Programs.{Done, Ends, Happen, run}
-use Rattle.zio_trace.specs.RoundTraces.{Trace, is_single_or_piece, levels_max, task_trace, trace_each}
+use Rattle.zio_trace.specs.RoundTraces.{Trace, is_single_or_piece, levels_max, own_trace, task_trace, trace_each}
 use Rattle.zio_trace.specs.RunTraces.{in_round}
 use Rattle.zio_trace.specs.Tasks.{OwnGot, Stored, Task, Value, WritePart, as_own, as_stored, means, stored}
 use Rattle.zio_trace.proofs.ChoiceLemmas.{Answers, answers_in_round}
 use Rattle.zio_trace.proofs.DownLemmas.{Gives, down_gives, each_gives}
 use Rattle.zio_trace.proofs.RequestLemmas.{own_run, plan_run}
 use Rattle.zio_trace.proofs.SpotLemmas.{AllInside}
-use Rattle.zio_heal.specs.Contents.{EachPiece, IsHeld}
+use Rattle.zio_heal.specs.Contents.{EachPiece, IsGivenIn, IsHeld}
 use Rattle.zio_heal.specs.Copies.{StoresAsGiven}
-use Rattle.zio_heal.specs.Given.{given_after}
+use Rattle.zio_heal.specs.Given.{Deeds, given_in}
 use Rattle.zio_heal.specs.Pools.{IsBlockSize, IsPool, IsWriting}
-use Rattle.zio_heal.proofs.HeldLemmas.{is_given, is_held}
+use Rattle.zio_heal.proofs.HeldLemmas.{given_behind, is_given, is_held}
 use Rattle.zio_heal.proofs.PieceLemmas.{each_weaker}
 use Rattle.zio_heal.proofs.PlacedParts.{IsPartWritten}
 use Rattle.zio_heal.proofs.PlacedPlans.{each_then, write_fine}
@@ -55,6 +56,13 @@ placed_as (Some bp) placed tree e =
     record { is = ap (λ (x : Tree). Some x.bp) is; heads = ap (λ (x : Tree). x.heads) is }
 placed_as None placed tree e = absurd (cc)
 
+pub tree_law : (journal : List Choice) (t : Terms) (attempt : ℕ) (p : Pending) (name : List ℕ) (sum_kind : SumKind) (copies : ℕ) (prio : Prio) (body : Body) (pointers : List (Option Bp)) (images : Images)
+    → (own_work journal t attempt p (Write name sum_kind copies prio body) pointers images).error ≡ None → IsSome (own_work journal t attempt p (Write name sum_kind copies prio body) pointers images).tree
+tree_law journal t attempt p name sum_kind copies prio body pointers images none =
+    let content : List ℕ = content_of pointers (body_of body) in
+    let placed : Placed = place_block journal (writing_of t attempt p sum_kind copies) content images in
+    some_tree placed.pointer placed (pointer_law path_steps_max journal (writing_of t attempt p sum_kind copies) [] content images none)
+
 module _ (journal : List Choice) (t : Terms) (attempt : ℕ) (p : Pending) (name : List ℕ) (sum_kind : SumKind) (copies : ℕ) (prio : Prio) (body : Body) (pointers : List (Option Bp)) (sizes : ℕ → ℕ) (images : Images) (tree : Tree) where
   abbrev pub content : List ℕ
   content = content_of pointers (body_of body)
@@ -65,11 +73,6 @@ module _ (journal : List Choice) (t : Terms) (attempt : ℕ) (p : Pending) (name
   -- the trace of the request's own work
   abbrev pub own_ds : Trace
   own_ds = trace_each (task_trace is_single_or_piece journal t) (means journal t) (plan_own t attempt p (Write name sum_kind copies prio body) pointers) images
-
-  pub tree_law : own.error ≡ None → IsSome own.tree
-  tree_law none =
-      let placed : Placed = place_block journal (writing_of t attempt p sum_kind copies) content images in
-      some_tree placed.pointer placed (pointer_law path_steps_max journal (writing_of t attempt p sum_kind copies) [] content images none)
 
   module _ (pool : IsPool sizes t.setting.tops) (lawful : AreLawful (sizes_of t.setting.tops) t.used (choices_in t.round journal)) (writing : IsWriting p copies) (block : IsBlockSize (length content))
       (none : own.error ≡ None) (is : own.tree ≡ Some tree) where
@@ -121,7 +124,11 @@ module _ (journal : List Choice) (t : Terms) (attempt : ℕ) (p : Pending) (name
         each_weaker (IsWrittenIn t (IsAt journal t p []) own_ds) (IsHeld t.setting own.images)
         (λ c bytes h. is_held journal t sizes pool (IsAt journal t p []) own_ds images own.images c bytes given inside have happen h) tree content each_written
 
-    pub given_law : (before : Option (List ℕ)) → EachPiece (λ (c : Copies) (bytes : List ℕ). given_after before (map (in_round t) own_ds) c.places ≡ Some bytes) tree content
-    given_law before =
-        each_weaker (IsWrittenIn t (IsAt journal t p []) own_ds) (λ (c : Copies) (bytes : List ℕ). given_after before (map (in_round t) own_ds) c.places ≡ Some bytes)
-        (λ c bytes h. is_given t (IsAt journal t p []) own_ds c bytes before h) tree content each_written
+    pub given_law : p.request.work ≡ Write name sum_kind copies prio body → (before : Deeds)
+        → EachPiece (IsGivenIn (before ++ map (in_round t) (own_trace is_single_or_piece journal t attempt p pointers images))) tree content
+    given_law work before =
+        let same : own_trace is_single_or_piece journal t attempt p pointers images ≡ own_ds =
+        ap (λ (order : Work). trace_each (task_trace is_single_or_piece journal t) (means journal t) (plan_own t attempt p order pointers) images) work in
+        subst (λ (ds : Trace). EachPiece (IsGivenIn (before ++ map (in_round t) ds)) tree content) (sym same)
+        (each_weaker (IsWrittenIn t (IsAt journal t p []) own_ds) (IsGivenIn (before ++ map (in_round t) own_ds))
+        (λ c bytes h. given_behind before (map (in_round t) own_ds) c.places ∙ is_given t (IsAt journal t p []) own_ds c bytes (given_in before c.places) h) tree content each_written)

@@ -132,18 +132,18 @@ module _ (journal : List Choice) (t : Terms) (p : Pending) where
               (all_weaker (IsHeadFrom path (n + 1)) (IsHeadFrom path n) k.heads (head_earlier path n) more.heads);
           pieces = λ heads keep. (
             subst (λ (m : ℕ). HasPieces (IsWrittenIn t (AtMember journal t p path n) (ds ++ es)) levels heads at one.bp (take m bytes)) (sym e)
-            (pieces_weaker (IsWrittenIn t (IsAt journal t p at) ds) (IsWrittenIn t (AtMember journal t p path n) (ds ++ es))
-            (λ c bs h. written_more t (IsAt journal t p at) (AtMember journal t p path n) [] ds es c bs (to_member path n c.places) (λ a. alone_later path n c.places es a more.writes) h)
-            levels heads at one.bp (take size bytes)
-            (one.pieces heads (λ below. keep n (omega arith) below ∙ kept_front st.heads k.heads (at ++ below) (off_later path below n k.heads more.heads)))),
+                (pieces_weaker (IsWrittenIn t (IsAt journal t p at) ds) (IsWrittenIn t (AtMember journal t p path n) (ds ++ es))
+                (λ c bs h. written_more t (IsAt journal t p at) (AtMember journal t p path n) [] ds es c bs (to_member path n c.places) (λ a. alone_later path n c.places es a more.writes) h)
+                levels heads at one.bp (take size bytes)
+                (one.pieces heads (λ below. keep n (omega arith) below ∙ kept_front st.heads k.heads (at ++ below) (off_later path below n k.heads more.heads)))),
             subst (λ (m : ℕ). HaveBytes (HasPieces (IsWrittenIn t (AtMember journal t p path n) (ds ++ es)) levels heads) path (n + 1) more.bps (drop m bytes)) (sym e)
-            (bytes_weaker (HasPieces (IsWrittenIn t (AtMember journal t p path (n + 1)) es) levels heads) (HasPieces (IsWrittenIn t (AtMember journal t p path n) (ds ++ es)) levels heads)
-            (pieces_weaker (IsWrittenIn t (AtMember journal t p path (n + 1)) es) (IsWrittenIn t (AtMember journal t p path n) (ds ++ es))
-            (λ c bs h. subst (λ (xs : Trace). IsWrittenIn t (AtMember journal t p path n) (ds ++ xs) c bs) (append-nil es)
-            (written_more t (AtMember journal t p path (n + 1)) (AtMember journal t p path n) ds es [] c bs (to_earlier path n c.places) (λ a. tt) h))
-            levels heads)
-            path (n + 1) more.bps (drop size bytes)
-            (more.pieces heads (λ i from below. keep i (omega arith) below
-            ∙ kept_rest st.heads k.heads ((path ++ i ∷ []) ++ below) (off_member path below n i st.heads (λ (same : n ≡ i). absurd (omega arith)) one.heads)))),
+                (bytes_weaker (HasPieces (IsWrittenIn t (AtMember journal t p path (n + 1)) es) levels heads) (HasPieces (IsWrittenIn t (AtMember journal t p path n) (ds ++ es)) levels heads)
+                (pieces_weaker (IsWrittenIn t (AtMember journal t p path (n + 1)) es) (IsWrittenIn t (AtMember journal t p path n) (ds ++ es))
+                (λ c bs h. subst (λ (xs : Trace). IsWrittenIn t (AtMember journal t p path n) (ds ++ xs) c bs) (append-nil es)
+                (written_more t (AtMember journal t p path (n + 1)) (AtMember journal t p path n) ds es [] c bs (to_earlier path n c.places) (λ a. tt) h))
+                levels heads)
+                path (n + 1) more.bps (drop size bytes)
+                (more.pieces heads (λ i from below. keep i (omega arith) below
+                ∙ kept_rest st.heads k.heads ((path ++ i ∷ []) ++ below) (off_member path below n i st.heads (λ (same : n ≡ i). absurd (omega arith)) one.heads)))),
           );
         }

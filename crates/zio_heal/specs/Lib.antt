@@ -1,5 +1,6 @@
 pub mod Alike
 pub mod AlikeCases
+pub mod ContentCases
 pub mod Contents
 pub mod Copies
 pub mod CopyCases
@@ -10,6 +11,7 @@ pub mod GivenCases
 pub mod Healed
 pub mod HealedCases
 pub mod PlainStore
+pub mod PoolCases
 pub mod Pools
 pub mod Spared
 pub mod StoreCases

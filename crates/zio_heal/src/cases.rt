@@ -1,8 +1,10 @@
 ghost use Rattle.zio_heal.specs.AlikeCases.{BytesForError, BytesOfARead, EqualIsAlike, ErrorForBytes, EveryByteCounts, LengthCounts, NextPointerCounts, NoByteMore, OtherBytes, OtherError, OtherNumber, OtherSize, PointersMayDiffer, SameError, SizeOfAWrite};
+ghost use Rattle.zio_heal.specs.ContentCases.{BodyIsGood, ElsewhereIsnt, GangHasPieces, HeadlessHasnt, KeptIsGood, LettersArent, LongerHasnt, OtherHeaderIsnt, ShortIsnt, TurnedHasnt, WrittenIsGiven, ZerosAreHeld};
 ghost use Rattle.zio_heal.specs.CopyCases.{FailedReadSpares, FailedWritesStoreNothing, NeighboursAreElsewhere, NoSpotNoCopy, OneByteMeets, OnesArent, OtherReadDoesnt, RowStillHolds, RowsArePast, SingleWriteDoesnt, SpaceActsSpare, TrueReadSpares, TurnedWritesStoreOthers, WriteElsewhereSpares, WriteOverItDoesnt, ZerosAreThere};
 ghost use Rattle.zio_heal.specs.DisciplineCases.{BadChildIsnt, ClaimMayFail, FlaggedReadMay, GoodChildIsKept, ReadMayNotFail};
 ghost use Rattle.zio_heal.specs.GivenCases.{AllPlacesCount, BytesOfNobodyArent, ErrorsAreTrue, GivenBytesAreTrue, HeadersAreCompared, LastReadsCount, LastWriteCounts, NobodyReadIt, NothingWasGiven, OtherBytesArent, RunAcceptsWhatWasGiven};
 ghost use Rattle.zio_heal.specs.HealedCases.{ClaimsMayFail, ClearIsNotLast, NoClearAtAll, NoRowsHeal, NoSumNoDamage, OneClearTooFew, OthersGoOn, PanicsEnd, ReadMayFail, ReadsMayBeTurned, TurnedByAnyStay, TurnedWritesStay, TwoClearsHeal, WriteHeals};
+ghost use Rattle.zio_heal.specs.PoolCases.{FoundIsFine, FourArent, HalfASectorIsnt, LargeMayBeRefused, LeafTwiceIsnt, MirrorIsAPool, NoBirthIsnt, NoneIsnt, NothingIsnt, OddUnitIsnt, OneSectorIsASize, SharedLeafIsnt, ShortLeafIsnt, SmallMayNot, ThreeCopiesAreWritten, TooLargeIsnt};
 ghost use Rattle.zio_heal.specs.StoreCases.{ChildrenMakeAFront, FaultsChangeNothing, FreedNameIsGone, FreedNameIsWritten, MissingComesFirst, NamesAtTheEnd, PaddedToASector, ReadersShareAName, TakenNameStays, TreeFailsWhole, TreesFailAlone, WholeSectorsStay};
 ghost use Rattle.zio_heal.specs.StoredCases.{ContentIsAnother, FaultHeals, LastingFaultLeaves, NameIsLeftOver, NoContentIsntAlike, ReplyIsMissing, RequestDidntEnd, SameWithoutFault, UnreadIsntAlike};
 ghost use Rattle.zio_heal.specs.WholeCases.{AskMayBeRefused, CopiesFailed, CopiesWritten, LeafMayFail, PartFailed, PartWritten, ReadIsNoWrite};
@@ -126,4 +128,40 @@ pub fn pieces_without_error_are_whole()
     ensures leaf_may_fail { LeafMayFail }
     ensures ask_may_be_refused { AskMayBeRefused }
     ensures read_is_no_write { ReadIsNoWrite }
+{}
+
+/// A pool has leaves of its own, a block whole sectors, a write up to three copies, and no sector may be refused.
+pub fn pools_have_leaves_of_their_own()
+    ensures mirror_is_a_pool { MirrorIsAPool }
+    ensures shared_leaf_isnt { SharedLeafIsnt }
+    ensures leaf_twice_isnt { LeafTwiceIsnt }
+    ensures short_leaf_isnt { ShortLeafIsnt }
+    ensures odd_unit_isnt { OddUnitIsnt }
+    ensures one_sector_is_a_size { OneSectorIsASize }
+    ensures nothing_isnt { NothingIsnt }
+    ensures half_a_sector_isnt { HalfASectorIsnt }
+    ensures too_large_isnt { TooLargeIsnt }
+    ensures three_copies_are_written { ThreeCopiesAreWritten }
+    ensures four_arent { FourArent }
+    ensures none_isnt { NoneIsnt }
+    ensures no_birth_isnt { NoBirthIsnt }
+    ensures found_is_fine { FoundIsFine }
+    ensures large_may_be_refused { LargeMayBeRefused }
+    ensures small_may_not { SmallMayNot }
+{}
+
+/// A gang has its content by the members of its kept header, and a body all at once.
+pub fn contents_are_had_piece_by_piece()
+    ensures gang_has_pieces { GangHasPieces }
+    ensures turned_hasnt { TurnedHasnt }
+    ensures longer_hasnt { LongerHasnt }
+    ensures headless_hasnt { HeadlessHasnt }
+    ensures body_is_good { BodyIsGood }
+    ensures short_isnt { ShortIsnt }
+    ensures kept_is_good { KeptIsGood }
+    ensures other_header_isnt { OtherHeaderIsnt }
+    ensures zeros_are_held { ZerosAreHeld }
+    ensures letters_arent { LettersArent }
+    ensures written_is_given { WrittenIsGiven }
+    ensures elsewhere_isnt { ElsewhereIsnt }
 {}

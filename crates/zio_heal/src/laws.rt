@@ -1,27 +1,38 @@
-ghost use Rattle.std.specs.Prelude.{◌≡◌, ◌≤◌, ◌∷◌, ◌++◌, ℕ, Bool, Contains, IfOk, IsOk, IsSome, List, None, count_by, false, length, true};
+ghost use Rattle.std.specs.Prelude.{◌≡◌, ◌≤◌, ◌∷◌, ◌++◌, ℕ, Bool, Contains, IfOk, IsOk, IsSome, List, None, Option, Some, count_by, false, length, map, true};
 ghost use Rattle.std.specs.List.{AllByRecursion};
 ghost use Rattle.zio_types.specs.declared.place.Place.{Place};
 ghost use Rattle.zio_types.specs.Choices.{Choice};
+ghost use Rattle.zio_types.specs.declared.request.Prio.{Prio};
+ghost use Rattle.zio_blkptr.specs.declared.pointer.Bp.{Bp};
 ghost use Rattle.zio_blkptr.specs.declared.pointer.SumKind.{SumKind};
+ghost use Rattle.zio_script.specs.declared.script.Body.{Body};
 ghost use Rattle.zio_script.specs.declared.script.Request.{Request};
 ghost use Rattle.zio_script.specs.declared.script.Script.{Script};
+ghost use Rattle.zio_script.specs.declared.script.Work.TheVariants.{Write};
+ghost use Rattle.zio_script.specs.Bodies.{body_of};
 ghost use Rattle.zio_script.specs.Whys.{is_clear};
 ghost use Rattle.zio_cksum.specs.Blocks.{read_block, read_pass, write_piece};
 ghost use Rattle.zio_cksum.specs.Frames.{FitSpots, HaveRoom, SameOutside, spots_of};
 ghost use Rattle.zio_cksum.specs.Images.{Images, Setting, Spot};
-ghost use Rattle.zio_gang.specs.Attempts.{Pending, Terms, attempt_tree, writing_of};
+ghost use Rattle.zio_gang.specs.declared.tree.Tree.{Tree};
+ghost use Rattle.zio_gang.specs.Attempts.{Pending, Terms, attempt_tree, own_work, writing_of};
+ghost use Rattle.zio_gang.specs.Journals.{AreLawful, choices_in};
 ghost use Rattle.zio_gang.specs.Rounds.{Bound, pending_trees, settle_each};
-ghost use Rattle.zio_gang.specs.Writes.{Writing, place_part};
+ghost use Rattle.zio_gang.specs.Trees.{sizes_of};
+ghost use Rattle.zio_gang.specs.Writes.{Writing, content_of, place_part};
 ghost use Rattle.zio_trace.specs.Leaves.{HaveSizes};
 ghost use Rattle.zio_trace.specs.Plans.{plan};
 ghost use Rattle.zio_trace.specs.Programs.{Deed, Happen, Made};
 ghost use Rattle.zio_trace.specs.Readers.{CopiesApart};
-ghost use Rattle.zio_trace.specs.RoundTraces.{Trace, task_trace};
-ghost use Rattle.zio_trace.specs.RunTraces.{RoundStart, starts_of};
+ghost use Rattle.zio_trace.specs.RoundTraces.{Trace, is_single_or_piece, own_trace, task_trace};
+ghost use Rattle.zio_trace.specs.RunTraces.{RoundStart, in_round, starts_of};
 ghost use Rattle.zio_trace.specs.Tasks.{ReadCopies, Task, Test, Value, WriteCopies, WritePart, Wrote, good_by, got, means};
+ghost use Rattle.zio_heal.specs.Contents.{EachPiece, IsGivenIn, IsHeld};
 ghost use Rattle.zio_heal.specs.Copies.{AreElsewhere, HasCopy, IsPastFaults, StoresAsGiven, spots_in};
 ghost use Rattle.zio_heal.specs.Discipline.{AreUnfailing, EndWithoutError, IsUnfailing, MayNotFail};
+ghost use Rattle.zio_heal.specs.Given.{Deeds};
 ghost use Rattle.zio_heal.specs.Healed.{IsHealed, IsHealedRequest};
+ghost use Rattle.zio_heal.specs.Pools.{IsBlockSize, IsPool, IsWriting};
 ghost use Rattle.zio_heal.specs.Spared.{LieOn, SparesBy};
 ghost use Rattle.zio_heal.specs.Whole.{AreWhole};
 
@@ -140,4 +151,32 @@ pub fn copies_are_found_once_faults_are_past()
         AllByRecursion (λ (d : Deed Task Value). SparesBy sizes t.setting spots bytes d.op d.answer) front →
         Happen (means journal t) (front ++ read ∷ rest) before after →
         HasCopy spots bytes before → IsOk (got value) }
+{}
+
+/// The own work of a write without error makes a tree: the header of each gang in it is kept, its bodies join to the
+/// content, of each piece one copy at least is held, and its bytes are those that were given last for its places.
+pub fn placed_writes_have_their_pieces()
+    ensures tree { (journal : List Choice) (t : Terms) (attempt : ℕ) (p : Pending) (name : List ℕ) (sum : SumKind)
+        (copies : ℕ) (prio : Prio) (body : Body) (pointers : List (Option Bp)) (images : Images) →
+        let own = own_work journal t attempt p (Write name sum copies prio body) pointers images in
+        own.error ≡ None → IsSome own.tree }
+    ensures held { (journal : List Choice) (t : Terms) (attempt : ℕ) (p : Pending) (name : List ℕ) (sum : SumKind)
+        (copies : ℕ) (prio : Prio) (body : Body) (pointers : List (Option Bp)) (sizes : ℕ → ℕ) (images : Images)
+        (tree : Tree) →
+        let own = own_work journal t attempt p (Write name sum copies prio body) pointers images in
+        let content = content_of pointers (body_of body) in
+        IsPool sizes t.setting.tops → AreLawful (sizes_of t.setting.tops) t.used (choices_in t.round journal) →
+        IsWriting p copies → IsBlockSize (length content) → own.error ≡ None → own.tree ≡ Some tree →
+        StoresAsGiven t.setting → HaveSizes sizes images →
+        EachPiece (IsHeld t.setting own.images) tree content }
+    ensures given { (journal : List Choice) (t : Terms) (attempt : ℕ) (p : Pending) (name : List ℕ) (sum : SumKind)
+        (copies : ℕ) (prio : Prio) (body : Body) (pointers : List (Option Bp)) (sizes : ℕ → ℕ) (images : Images)
+        (tree : Tree) →
+        let own = own_work journal t attempt p (Write name sum copies prio body) pointers images in
+        let content = content_of pointers (body_of body) in
+        IsPool sizes t.setting.tops → AreLawful (sizes_of t.setting.tops) t.used (choices_in t.round journal) →
+        IsWriting p copies → IsBlockSize (length content) → own.error ≡ None → own.tree ≡ Some tree →
+        p.request.work ≡ Write name sum copies prio body → (before : Deeds) →
+        EachPiece (IsGivenIn (before ++ map (in_round t) (own_trace is_single_or_piece journal t attempt p pointers images)))
+        tree content }
 {}

@@ -11,14 +11,14 @@ mod cases;
 mod laws;
 
 pub use cases::{
-    accepted_copies_are_compared_with_their_writes, copies_are_spared_by_what_lies_elsewhere,
-    flags_and_kinds_let_requests_fail, pieces_without_error_are_whole,
-    plain_stores_answer_in_order, replies_are_alike_behind_pointers, runs_store_plainly,
-    scripts_heal_once_faults_are_past,
+    accepted_copies_are_compared_with_their_writes, contents_are_had_piece_by_piece,
+    copies_are_spared_by_what_lies_elsewhere, flags_and_kinds_let_requests_fail,
+    pieces_without_error_are_whole, plain_stores_answer_in_order, pools_have_leaves_of_their_own,
+    replies_are_alike_behind_pointers, runs_store_plainly, scripts_heal_once_faults_are_past,
 };
 pub use laws::{
     copies_are_found_once_faults_are_past, copies_last_where_they_are_spared,
     copies_stay_while_others_change, healed_scripts_keep_their_discipline,
-    pieces_written_have_a_copy_in_each_place, requests_that_may_not_fail_end_without_error,
-    writes_without_error_are_whole,
+    pieces_written_have_a_copy_in_each_place, placed_writes_have_their_pieces,
+    requests_that_may_not_fail_end_without_error, writes_without_error_are_whole,
 };

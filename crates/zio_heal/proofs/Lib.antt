@@ -1,4 +1,5 @@
 pub mod AlikeCasesProofs
+pub mod BodyParts
 pub mod ContentCasesProofs
 pub mod CopyCasesProofs
 pub mod CopyLemmas
@@ -24,6 +25,7 @@ pub mod SparedLemmas
 pub mod StoreCasesProofs
 pub mod StoredCasesProofs
 pub mod SumLemmas
+pub mod TrueReads
 pub mod WholeCasesProofs
 pub mod WholeLemmas
 pub mod WrittenLemmas

@@ -9,7 +9,7 @@ use Rattle.zio_cksum.proofs.HeaderLemmas.{named_law}
 use Rattle.zio_trace.specs.TraceExamples.{copy_of_x, two_sectors}
 use Rattle.zio_trace.proofs.ListLemmas.{contains_first}
 use Rattle.zio_heal.specs.Contents.{HasPieces, HaveBytes}
-use Rattle.zio_heal.specs.ContentCases.{BodyIsGood, ElsewhereIsnt, GangHasPieces, HeadlessHasnt, KeptIsGood, LettersArent, LieThere, LongerHasnt, OtherHeaderIsnt, ShortIsnt, TurnedHasnt, WrittenIsGiven, ZerosAreHeld, gang, header, letters, member, sector}
+use Rattle.zio_heal.specs.ContentCases.{BodyIsGood, ElsewhereIsnt, GangHasPieces, GivenIsGood, GivenMayBeShort, HeadlessHasnt, KeptIsGood, LettersArent, LieThere, LongerHasnt, OtherHeaderIsnt, ShortIsnt, TurnedHasnt, WrittenIsGiven, ZerosAreHeld, gang, header, letters, member, sector}
 
 member_fits : (n : ℕ) → FitsTypes (member n)
 member_fits n = record { places = refl; birth = omega arith; words = refl; each_word = (omega arith, (omega arith, (omega arith, (omega arith, tt)))) }
@@ -84,3 +84,9 @@ written_is_given = refl
 
 pub elsewhere_isnt : ElsewhereIsnt
 elsewhere_isnt h = let e : None ≡ Some (letters 65) = h in absurd (cc)
+
+pub given_is_good : GivenIsGood
+given_is_good = record { is_good = record { size = refl; good = refl }; given = refl }
+
+pub given_may_be_short : GivenMayBeShort
+given_may_be_short h = let e : 512 ≡ 1024 = h.is_good.size in absurd (omega arith)

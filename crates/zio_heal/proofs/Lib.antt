@@ -11,6 +11,7 @@ pub mod FoundTraces
 pub mod GivenCasesProofs
 pub mod HeaderLemmas
 pub mod HealedCasesProofs
+pub mod HeldBlocks
 pub mod HeldLemmas
 pub mod PieceLemmas
 pub mod PlacedGangs
@@ -19,6 +20,7 @@ pub mod PlacedParts
 pub mod PlacedPlans
 pub mod PointerLemmas
 pub mod PoolCasesProofs
+pub mod ReadsInTurn
 pub mod RepairLemmas
 pub mod RunLemmas
 pub mod SparedLemmas

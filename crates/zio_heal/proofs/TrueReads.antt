@@ -12,21 +12,16 @@ use Rattle.zio_gang.specs.declared.tree.Tree.{Tree}
 use Rattle.zio_gang.specs.Attempts.{Terms}
 use Rattle.zio_gang.specs.Trees.{BodiesRead, Walk, add_body, bodies_unless, header_levels_max, read_bodies, read_tree, unless_errors, walk_kept}
 use Rattle.zio_trace.specs.BlockCopies.{Copies, body_copies}
-use Rattle.zio_trace.specs.Plans.{Bodies, add_got, plan, plan_after, plan_bodies}
+use Rattle.zio_trace.specs.Plans.{Bodies, add_got, plan, plan_after, plan_bodies, plan_tree}
 use Rattle.zio_trace.specs.Programs.{Asks, Deed, Ends, Meaning, ◌>>=◌}
 use Rattle.zio_trace.specs.RoundTraces.{Trace, deed_of, is_single_or_piece, task_trace, trace_down, trace_each}
 use Rattle.zio_trace.specs.Tasks.{BodyOf, ByKept, Got, ReadCopies, ReadHeads, ReadTree, Task, Value, got, means}
 use Rattle.zio_trace.proofs.ListLemmas.{all_front, all_rest}
-use Rattle.zio_heal.specs.Contents.{EachPiece, IsGivenIn, IsGood}
+use Rattle.zio_heal.specs.Contents.{EachPiece, IsGivenGood}
 use Rattle.zio_heal.specs.Given.{Deeds, IsAsGiven, IsTrueRead, given_in}
 use Rattle.zio_heal.proofs.BodyParts.{HaveParts, bodies_come}
 use Rattle.zio_heal.proofs.PieceLemmas.{each_weaker}
 use Rattle.zio_heal.proofs.PlacedPlans.{each_then}
-
--- good bytes that were given last
-pub record IsGivenGood (before : Deeds) (c : Copies) (bytes : List ℕ) : Type 0 where
-  pub is_good : IsGood c bytes
-  pub given : IsGivenIn before c bytes
 
 module _ (journal : List Choice) (t : Terms) (before : Deeds) where
   abbrev mean : Meaning Task Value
@@ -86,13 +81,17 @@ module _ (journal : List Choice) (t : Terms) (before : Deeds) where
       unless_content (e ∷ errors) bytes whole h = tt
   after_true deep w (e ∷ errors) content is parts true_ = tt
 
-  -- The block is read as its content, or fails, where its reads are true.
-  pub true_law : (tree : Tree) (content : List ℕ) (images : Images) → EachPiece (IsGivenGood before) tree content → AreTrue (task_trace is_single_or_piece journal t (ReadTree tree) images)
+  -- The block is read as its content, or fails, where its reads are true: by its plan, and as a task.
+  pub tree_true : (deep : ℕ) (tree : Tree) (content : List ℕ) (images : Images) → EachPiece (IsGivenGood before) tree content → AreTrue (trace_each (trace_down deep is_single_or_piece mean (plan t)) mean (plan_tree tree) images)
       → IfOk (read_tree t.setting tree images).found (λ (bytes : List ℕ). bytes ≡ content)
   unfolding read_tree
-  true_law tree content images h true_ =
-      let tr : Task → Images → Trace = trace_down 8 is_single_or_piece mean (plan t) in
+  tree_true deep tree content images h true_ =
+      let tr : Task → Images → Trace = trace_down deep is_single_or_piece mean (plan t) in
       let w : Walk = walk_kept t.setting tree images in
       let rest : AreTrue (trace_each tr mean (plan_after w.errors w.bodies) w.images) =
       all_rest (λ (d : Deed Task Value). IsTrueRead before d.op d.answer) (tr (ReadHeads (ByKept tree.heads) header_levels_max [] tree.bp) images) _ true_ in
-      after_true 8 w w.errors content refl (bodies_come (IsGivenGood before) (λ c bytes k. k.is_good) t.setting tree content images h) rest
+      after_true deep w w.errors content refl (bodies_come (IsGivenGood before) (λ c bytes k. k.is_good) t.setting tree content images h) rest
+
+  pub true_law : (tree : Tree) (content : List ℕ) (images : Images) → EachPiece (IsGivenGood before) tree content → AreTrue (task_trace is_single_or_piece journal t (ReadTree tree) images)
+      → IfOk (read_tree t.setting tree images).found (λ (bytes : List ℕ). bytes ≡ content)
+  true_law tree content images h true_ = tree_true 8 tree content images h true_

@@ -9,7 +9,7 @@ use Rattle.zio_gang.specs.declared.tree.Tree.{Tree}
 use Rattle.zio_trace.specs.BlockCopies.{Copies, body_copies, head_copies}
 use Rattle.zio_trace.specs.RoundExamples.{block_of_x}
 use Rattle.zio_trace.specs.TraceExamples.{next_place, place_of_x, pointer_of_x, two_sectors}
-use Rattle.zio_heal.specs.Contents.{EachPiece, IsGivenIn, IsGood, IsHeld}
+use Rattle.zio_heal.specs.Contents.{EachPiece, IsGivenGood, IsGivenIn, IsGood, IsHeld}
 use Rattle.zio_heal.specs.CopyCases.{setting_at}
 use Rattle.zio_heal.specs.GivenCases.{wrote_at}
 
@@ -96,3 +96,11 @@ WrittenIsGiven = IsGivenIn (wrote_at (place_of_x ∷ []) 65 []) (body_copies poi
 
 abbrev pub ElsewhereIsnt : Type 0
 ElsewhereIsnt = IsGivenIn (wrote_at (next_place ∷ []) 65 []) (body_copies pointer_of_x) (letters 65) → ⊥
+
+abbrev pub GivenIsGood : Type 0
+GivenIsGood = IsGivenGood (wrote_at (place_of_x ∷ []) 65 []) (body_copies pointer_of_x) (letters 65)
+
+-- what was given isn't always as long as the pointer says
+abbrev pub GivenMayBeShort : Type 0
+GivenMayBeShort =
+    IsGivenGood (wrote_at (place_of_x ∷ []) 65 []) (record (body_copies pointer_of_x) { len = 1024 }) (letters 65) → ⊥

@@ -60,3 +60,8 @@ pub record IsHeld (s : Setting) (images : Images) (c : Copies) (bytes : List ℕ
 -- they are what these deeds gave last for the places of the copies
 abbrev pub IsGivenIn : Deeds → Copies → List ℕ → Type 0
 IsGivenIn ds c bytes = given_in ds c.places ≡ Some bytes
+
+-- they are good, and what these deeds gave last
+pub record IsGivenGood (ds : Deeds) (c : Copies) (bytes : List ℕ) : Type 0 where
+  pub is_good : IsGood c bytes
+  pub given : IsGivenIn ds c bytes

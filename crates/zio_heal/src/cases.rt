@@ -1,5 +1,5 @@
 ghost use Rattle.zio_heal.specs.AlikeCases.{BytesForError, BytesOfARead, EqualIsAlike, ErrorForBytes, EveryByteCounts, LengthCounts, NextPointerCounts, NoByteMore, OtherBytes, OtherError, OtherNumber, OtherSize, PointersMayDiffer, SameError, SizeOfAWrite};
-ghost use Rattle.zio_heal.specs.ContentCases.{BodyIsGood, ElsewhereIsnt, GangHasPieces, HeadlessHasnt, KeptIsGood, LettersArent, LongerHasnt, OtherHeaderIsnt, ShortIsnt, TurnedHasnt, WrittenIsGiven, ZerosAreHeld};
+ghost use Rattle.zio_heal.specs.ContentCases.{BodyIsGood, ElsewhereIsnt, GangHasPieces, GivenIsGood, GivenMayBeShort, HeadlessHasnt, KeptIsGood, LettersArent, LongerHasnt, OtherHeaderIsnt, ShortIsnt, TurnedHasnt, WrittenIsGiven, ZerosAreHeld};
 ghost use Rattle.zio_heal.specs.CopyCases.{FailedReadSpares, FailedWritesStoreNothing, NeighboursAreElsewhere, NoSpotNoCopy, OneByteMeets, OnesArent, OtherReadDoesnt, RowStillHolds, RowsArePast, SingleWriteDoesnt, SpaceActsSpare, TrueReadSpares, TurnedWritesStoreOthers, WriteElsewhereSpares, WriteOverItDoesnt, ZerosAreThere};
 ghost use Rattle.zio_heal.specs.DisciplineCases.{BadChildIsnt, ClaimMayFail, FlaggedReadMay, GoodChildIsKept, ReadMayNotFail};
 ghost use Rattle.zio_heal.specs.GivenCases.{AllPlacesCount, BytesOfNobodyArent, ErrorsAreTrue, GivenBytesAreTrue, HeadersAreCompared, LastReadsCount, LastWriteCounts, NobodyReadIt, NothingWasGiven, OtherBytesArent, RunAcceptsWhatWasGiven};
@@ -164,4 +164,6 @@ pub fn contents_are_had_piece_by_piece()
     ensures letters_arent { LettersArent }
     ensures written_is_given { WrittenIsGiven }
     ensures elsewhere_isnt { ElsewhereIsnt }
+    ensures given_is_good { GivenIsGood }
+    ensures given_may_be_short { GivenMayBeShort }
 {}

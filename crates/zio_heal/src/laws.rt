@@ -18,7 +18,7 @@ ghost use Rattle.zio_gang.specs.declared.tree.Tree.{Tree};
 ghost use Rattle.zio_gang.specs.Attempts.{Pending, Terms, attempt_tree, own_work, writing_of};
 ghost use Rattle.zio_gang.specs.Journals.{AreLawful, choices_in};
 ghost use Rattle.zio_gang.specs.Rounds.{Bound, pending_trees, settle_each};
-ghost use Rattle.zio_gang.specs.Trees.{sizes_of};
+ghost use Rattle.zio_gang.specs.Trees.{free_tree, read_tree, sizes_of};
 ghost use Rattle.zio_gang.specs.Writes.{Writing, content_of, place_part};
 ghost use Rattle.zio_trace.specs.Leaves.{HaveSizes};
 ghost use Rattle.zio_trace.specs.Plans.{plan};
@@ -26,11 +26,12 @@ ghost use Rattle.zio_trace.specs.Programs.{Deed, Happen, Made};
 ghost use Rattle.zio_trace.specs.Readers.{CopiesApart};
 ghost use Rattle.zio_trace.specs.RoundTraces.{Trace, is_single_or_piece, own_trace, task_trace};
 ghost use Rattle.zio_trace.specs.RunTraces.{RoundStart, in_round, starts_of};
-ghost use Rattle.zio_trace.specs.Tasks.{ReadCopies, Task, Test, Value, WriteCopies, WritePart, Wrote, good_by, got, means};
-ghost use Rattle.zio_heal.specs.Contents.{EachPiece, IsGivenIn, IsHeld};
+ghost use Rattle.zio_trace.specs.SoundRounds.{IsOwnBlock};
+ghost use Rattle.zio_trace.specs.Tasks.{ReadCopies, ReadTree, Task, Test, Value, WriteCopies, WritePart, Wrote, good_by, got, means};
+ghost use Rattle.zio_heal.specs.Contents.{EachPiece, IsGivenGood, IsGivenIn, IsHeld};
 ghost use Rattle.zio_heal.specs.Copies.{AreElsewhere, HasCopy, IsPastFaults, StoresAsGiven, spots_in};
 ghost use Rattle.zio_heal.specs.Discipline.{AreUnfailing, EndWithoutError, IsUnfailing, MayNotFail};
-ghost use Rattle.zio_heal.specs.Given.{Deeds};
+ghost use Rattle.zio_heal.specs.Given.{Deeds, IsTrueRead};
 ghost use Rattle.zio_heal.specs.Healed.{IsHealed, IsHealedRequest};
 ghost use Rattle.zio_heal.specs.Pools.{IsBlockSize, IsPool, IsWriting};
 ghost use Rattle.zio_heal.specs.Spared.{LieOn, SparesBy};
@@ -179,4 +180,21 @@ pub fn placed_writes_have_their_pieces()
         p.request.work ≡ Write name sum copies prio body → (before : Deeds) →
         EachPiece (IsGivenIn (before ++ map (in_round t) (own_trace is_single_or_piece journal t attempt p pointers images)))
         tree content }
+{}
+
+/// A block whose bodies are read as they were given last is read as its content, or not at all. Where each of its pieces
+/// is held and no row is met any more, it is read without error, and so is what a free of it reads.
+pub fn blocks_are_read_as_their_content()
+    ensures content { (journal : List Choice) (t : Terms) (before : Deeds) (tree : Tree) (content : List ℕ)
+        (images : Images) →
+        EachPiece (IsGivenGood before) tree content →
+        AllByRecursion (λ (d : Deed Task Value). IsTrueRead before d.op d.answer)
+        (task_trace is_single_or_piece journal t (ReadTree tree) images) →
+        IfOk (read_tree t.setting tree images).found (λ (bytes : List ℕ). bytes ≡ content) }
+    ensures read { (s : Setting) (sizes : ℕ → ℕ) (used : List Place) (tree : Tree) (content : List ℕ) (images : Images) →
+        IsPool sizes s.tops → IsPastFaults s → IsOwnBlock (sizes_of s.tops) used tree → HaveSizes sizes images →
+        EachPiece (IsHeld s images) tree content → IsOk (read_tree s tree images).found }
+    ensures free { (s : Setting) (sizes : ℕ → ℕ) (used : List Place) (tree : Tree) (content : List ℕ) (images : Images) →
+        IsPool sizes s.tops → IsPastFaults s → IsOwnBlock (sizes_of s.tops) used tree → HaveSizes sizes images →
+        EachPiece (IsHeld s images) tree content → (free_tree s tree images).error ≡ None }
 {}

@@ -17,8 +17,9 @@ pub use cases::{
     replies_are_alike_behind_pointers, runs_store_plainly, scripts_heal_once_faults_are_past,
 };
 pub use laws::{
-    copies_are_found_once_faults_are_past, copies_last_where_they_are_spared,
-    copies_stay_while_others_change, healed_scripts_keep_their_discipline,
-    pieces_written_have_a_copy_in_each_place, placed_writes_have_their_pieces,
-    requests_that_may_not_fail_end_without_error, writes_without_error_are_whole,
+    blocks_are_read_as_their_content, copies_are_found_once_faults_are_past,
+    copies_last_where_they_are_spared, copies_stay_while_others_change,
+    healed_scripts_keep_their_discipline, pieces_written_have_a_copy_in_each_place,
+    placed_writes_have_their_pieces, requests_that_may_not_fail_end_without_error,
+    writes_without_error_are_whole,
 };

@@ -17,6 +17,7 @@ pub mod PieceLemmas
 pub mod PlacedGangs
 pub mod PlacedLemmas
 pub mod PlacedParts
+pub mod PlacedPlaces
 pub mod PlacedPlans
 pub mod PointerLemmas
 pub mod PoolCasesProofs
@@ -30,5 +31,6 @@ pub mod SumLemmas
 pub mod TrueReads
 pub mod WholeCasesProofs
 pub mod WholeLemmas
+pub mod WriteTraces
 pub mod WrittenLemmas
 pub mod WrittenPieces

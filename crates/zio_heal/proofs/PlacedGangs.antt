@@ -15,7 +15,7 @@ use Rattle.zio_blkptr.specs.Pointers.{FitsTypes, places_of, valid}
 use Rattle.zio_cksum.specs.Blocks.{good_kept}
 use Rattle.zio_cksum.specs.Headers.{Heads, header_of, members_max, members_of, split_sizes}
 use Rattle.zio_cksum.specs.Sums.{fits, fletcher4, sha256_words, sum_of}
-use Rattle.zio_cksum.proofs.AllLemmas.{all_append, all_weaker}
+use Rattle.zio_cksum.proofs.AllLemmas.{all_append, all_contains, all_weaker}
 use Rattle.zio_cksum.proofs.HeaderLemmas.{named_law}
 use Rattle.zio_cksum.proofs.SplitLemmas.{few_law}
 use Rattle.zio_gang.specs.declared.tree.Head.{Head}
@@ -27,14 +27,17 @@ use Rattle.zio_trace.specs.Plans.{Kin, gang_stored, header_over}
 use Rattle.zio_trace.specs.Programs.{Deed}
 use Rattle.zio_trace.specs.RoundTraces.{Trace}
 use Rattle.zio_trace.specs.Tasks.{Find, Stored, Task, Value, WriteCopies, Wrote}
+use Rattle.zio_trace.specs.TreeOrders.{Pairs}
 use Rattle.zio_trace.proofs.BlockPieces.{longer_differs}
 use Rattle.zio_trace.proofs.ChoiceLemmas.{Answers}
+use Rattle.zio_trace.proofs.PlaceLemmas.{DontMeet}
 use Rattle.zio_trace.proofs.SpotLemmas.{NoneTouch}
 use Rattle.zio_heal.specs.Contents.{HasPieces, HaveBytes, IsGood}
 use Rattle.zio_heal.specs.Pools.{IsBlockSize, IsPool, IsWriting}
 use Rattle.zio_heal.proofs.HeaderLemmas.{header_long}
 use Rattle.zio_heal.proofs.PieceLemmas.{body_piece, bytes_weaker, gang_pieces, kept_first, kept_other, pieces_weaker}
 use Rattle.zio_heal.proofs.PlacedParts.{AreMembersWritten, IsHeadBelow, IsHeadFrom, IsPartWritten, KeepBelow}
+use Rattle.zio_heal.proofs.PlacedPlaces.{AreOwn, IsFoundAt, all_found, own_first, own_gang, pointers_in}
 use Rattle.zio_heal.proofs.PointerLemmas.{AreFound, IsSpelled, found_for, places_of_pointer, spelled}
 use Rattle.zio_heal.proofs.WrittenPieces.{AllWriteAt, AreUsable, AtMember, IsAt, IsWrittenIn, WritesAt, all_writes, asks_apart, found_usable, member_at, written_more}
 
@@ -69,6 +72,7 @@ module _ (journal : List Choice) (t : Terms) (p : Pending) (sizes : ℕ → ℕ)
         size = h.size;
         writes = (tt, h.writes);
         heads = h.heads;
+        places = h.places;
         pieces = λ heads keep.
             pieces_weaker (IsWrittenIn t (IsAt journal t p path) ds) (IsWrittenIn t (IsAt journal t p path) (d ∷ ds))
             (λ c bs k. subst (λ (xs : Trace). IsWrittenIn t (IsAt journal t p path) (d ∷ xs) c bs) (append-nil ds)
@@ -85,20 +89,24 @@ module _ (journal : List Choice) (t : Terms) (p : Pending) (sizes : ℕ → ℕ)
       let here : IsAt journal t p path places = record { ask = body_ask w path bytes; below = []; request = refl; now = refl; at = sym (append-nil path); found = is } in
       let found : AreFound (sizes_of t.setting.tops) (length bytes) places =
       found_for journal (sizes_of t.setting.tops) t.used t.round answers (body_ask w path bytes) places refl writing.one writing.three is in
+      let can_spell : IsSpelled bp = spelled sizes t.setting.tops w places false bytes (length bytes) pool found refl block writing.some writing.born in
+      let usable : AreUsable t.setting (length bytes) places = found_usable journal t sizes pool answers (body_ask w path bytes) places refl writing.one writing.three block.whole is in
       record {
         bp = bp;
         pointer = refl;
-        can_spell = spelled sizes t.setting.tops w places false bytes (length bytes) pool found refl block writing.some writing.born;
+        can_spell = can_spell;
         size = refl;
         writes = (here, tt);
         heads = tt;
+        places = own_first (IsFoundAt journal t p path) bp [] can_spell.ok (subst (AllByRecursion (IsFoundAt journal t p path)) (sym there) (all_found journal t p path places here)) (subst (Pairs DontMeet) (sym there) usable.own)
+            (record { ok = tt; found = tt; own = tt }) (λ a b ca cb. absurd (all_contains (λ (q : Place). ⊥) [] b tt cb));
         pieces = λ heads keep. body_piece (IsWrittenIn t (IsAt journal t p path) (wrote_to bytes places ∷ [])) levels heads path bp bytes refl (record {
           front = [];
           rest = [];
           is = ap (λ (qs : List Place). wrote_to bytes qs ∷ []) (sym there);
           is_good = record { size = refl; good = sum_good sum_kind bytes };
           at = subst (IsAt journal t p path) (sym there) here;
-          usable = subst (AreUsable t.setting (length bytes)) (sym there) (found_usable journal t sizes pool answers (body_ask w path bytes) places refl writing.one writing.three block.whole is);
+          usable = subst (AreUsable t.setting (length bytes)) (sym there) usable;
           later = tt;
         });
       }
@@ -124,6 +132,8 @@ module _ (journal : List Choice) (t : Terms) (p : Pending) (sizes : ℕ → ℕ)
       let here : IsAt journal t p path places = record { ask = head_ask w path; below = []; request = refl; now = refl; at = sym (append-nil path); found = is } in
       let found : AreFound (sizes_of t.setting.tops) 512 places =
       found_for journal (sizes_of t.setting.tops) t.used t.round answers (head_ask w path) places refl (omega arith) (omega arith) is in
+      let can_spell : IsSpelled bp = spelled sizes t.setting.tops w places true bytes 512 pool found refl block writing.some writing.born in
+      let usable : AreUsable t.setting 512 places = found_usable journal t sizes pool answers (head_ask w path) places refl (omega arith) (omega arith) refl is in
       let few : length members.bps ≤ 3 =
       (let same : length (map (λ (m : Bp). m.size) members.bps) ≡ length (split_sizes (length bytes)) = ap length members.sizes_are in
       omega (arith, length-map members.bps (λ (m : Bp). m.size), few_law (length bytes))) in
@@ -140,11 +150,14 @@ module _ (journal : List Choice) (t : Terms) (p : Pending) (sizes : ℕ → ℕ)
       record {
         bp = bp;
         pointer = refl;
-        can_spell = spelled sizes t.setting.tops w places true bytes 512 pool found refl block writing.some writing.born;
+        can_spell = can_spell;
         size = refl;
         writes = all_append (λ (x : Deed Task Value). WritesAt (IsAt journal t p path) x.op) ds (d ∷ [])
             (all_writes (AtMember journal t p path 0) (IsAt journal t p path) (member_at journal t p path 0) ds members.writes) (here, tt);
         heads = (record { below = []; at = sym (append-nil path) }, all_weaker (IsHeadFrom path 0) (IsHeadBelow path) k.heads (head_below path 0) members.heads);
+        places =
+            subst (λ (ms : List Bp). AreOwn (IsFoundAt journal t p path) (bp ∷ (ms ++ pointers_in k.heads))) (sym names)
+            (own_gang journal t p sizes pool answers path bp places (members.bps ++ pointers_in k.heads) there here can_spell.ok usable.own (λ qs m. clear_of_head path places qs is m) members.places);
         pieces = λ heads keep.
             let kept : kept_at heads path ≡ Some header =
             subst (λ (x : List ℕ). kept_at heads x ≡ kept_at (head ∷ k.heads) x) (append-nil path) (keep []) ∙ kept_first head k.heads in
@@ -157,7 +170,7 @@ module _ (journal : List Choice) (t : Terms) (p : Pending) (sizes : ℕ → ℕ)
                 is = ap (λ (qs : List Place). ds ++ wrote_to header qs ∷ []) (sym there);
                 is_good = record { size = long; good = kept_good (kept_at heads path) header kept };
                 at = subst (IsAt journal t p path) (sym there) here;
-                usable = subst (AreUsable t.setting 512) (sym there) (found_usable journal t sizes pool answers (head_ask w path) places refl (omega arith) (omega arith) refl is);
+                usable = subst (AreUsable t.setting 512) (sym there) usable;
                 later = tt;
               };
               members =

@@ -33,6 +33,7 @@ use Rattle.zio_heal.specs.Contents.{HasPieces, HaveBytes, IsGood}
 use Rattle.zio_heal.specs.Pools.{IsBlockSize, IsPool, IsWriting}
 use Rattle.zio_heal.proofs.HeaderLemmas.{header_long}
 use Rattle.zio_heal.proofs.PieceLemmas.{AreOff, body_piece, bytes_weaker, kept_first, kept_front, kept_other, kept_rest, pieces_weaker}
+use Rattle.zio_heal.proofs.PlacedPlaces.{AreOwn, IsFoundAt, IsFoundFrom, own_before, pointers_in}
 use Rattle.zio_heal.proofs.PointerLemmas.{AreFound, IsSpelled, found_for, places_of_pointer, spelled}
 use Rattle.zio_heal.proofs.WrittenPieces.{AllWriteAt, AtMember, IsAt, IsWrittenIn, WritesAt, all_writes, member_at, paths_apart, written_more}
 
@@ -64,6 +65,7 @@ module _ (journal : List Choice) (t : Terms) (p : Pending) where
     pub size : bp.size ≡ length bytes
     pub writes : AllWriteAt (IsAt journal t p path) ds
     pub heads : AllByRecursion (IsHeadBelow path) st.heads
+    pub places : AreOwn (IsFoundAt journal t p path) (bp ∷ pointers_in st.heads)
     pub pieces : (heads : List Head) → KeepBelow heads st.heads path → HasPieces (IsWrittenIn t (IsAt journal t p path) ds) levels heads path bp bytes
 
   -- members in order, numbered from n
@@ -74,6 +76,7 @@ module _ (journal : List Choice) (t : Terms) (p : Pending) where
     pub can_spell : AllByRecursion IsSpelled bps
     pub writes : AllWriteAt (AtMember journal t p path n) ds
     pub heads : AllByRecursion (IsHeadFrom path n) k.heads
+    pub places : AreOwn (IsFoundFrom journal t p path n) (bps ++ pointers_in k.heads)
     pub pieces : (heads : List Head) → KeepFrom heads k.heads path n → HaveBytes (HasPieces (IsWrittenIn t (AtMember journal t p path n) ds) levels heads) path n bps bytes
 
   -- ---- members
@@ -130,6 +133,7 @@ module _ (journal : List Choice) (t : Terms) (p : Pending) where
           heads = all_append (IsHeadFrom path n) st.heads k.heads
               (all_weaker (IsHeadBelow at) (IsHeadFrom path n) st.heads (head_at_member path n) one.heads)
               (all_weaker (IsHeadFrom path (n + 1)) (IsHeadFrom path n) k.heads (head_earlier path n) more.heads);
+          places = own_before journal t p sizes pool answers path n one.bp more.bps st.heads k.heads one.places more.places;
           pieces = λ heads keep. (
             subst (λ (m : ℕ). HasPieces (IsWrittenIn t (AtMember journal t p path n) (ds ++ es)) levels heads at one.bp (take m bytes)) (sym e)
                 (pieces_weaker (IsWrittenIn t (IsAt journal t p at) ds) (IsWrittenIn t (AtMember journal t p path n) (ds ++ es))

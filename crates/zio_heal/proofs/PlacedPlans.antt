@@ -100,6 +100,7 @@ module _ (journal : List Choice) (t : Terms) (p : Pending) (sizes : ℕ → ℕ)
       can_spell = tt;
       writes = tt;
       heads = tt;
+      places = record { ok = tt; found = tt; own = tt };
       pieces = λ heads keep. none_long bytes total;
     }
     members_fine levels below fine path n (size ∷ ns) bytes images block total none =

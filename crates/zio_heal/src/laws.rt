@@ -18,7 +18,7 @@ ghost use Rattle.zio_gang.specs.declared.tree.Tree.{Tree};
 ghost use Rattle.zio_gang.specs.Attempts.{Pending, Terms, attempt_tree, own_work, writing_of};
 ghost use Rattle.zio_gang.specs.Journals.{AreLawful, choices_in};
 ghost use Rattle.zio_gang.specs.Rounds.{Bound, pending_trees, settle_each};
-ghost use Rattle.zio_gang.specs.Trees.{free_tree, read_tree, sizes_of};
+ghost use Rattle.zio_gang.specs.Trees.{free_tree, read_tree, sizes_of, tree_places};
 ghost use Rattle.zio_gang.specs.Writes.{Writing, content_of, place_part};
 ghost use Rattle.zio_trace.specs.Leaves.{HaveSizes};
 ghost use Rattle.zio_trace.specs.Plans.{plan};
@@ -26,6 +26,7 @@ ghost use Rattle.zio_trace.specs.Programs.{Deed, Happen, Made};
 ghost use Rattle.zio_trace.specs.Readers.{CopiesApart};
 ghost use Rattle.zio_trace.specs.RoundTraces.{Trace, is_single_or_piece, own_trace, task_trace};
 ghost use Rattle.zio_trace.specs.RunTraces.{RoundStart, in_round, starts_of};
+ghost use Rattle.zio_trace.specs.Separate.{NoneMeet};
 ghost use Rattle.zio_trace.specs.SoundRounds.{IsOwnBlock};
 ghost use Rattle.zio_trace.specs.Tasks.{ReadCopies, ReadTree, Task, Test, Value, WriteCopies, WritePart, Wrote, good_by, got, means};
 ghost use Rattle.zio_heal.specs.Contents.{EachPiece, IsGivenGood, IsGivenIn, IsHeld};
@@ -155,7 +156,8 @@ pub fn copies_are_found_once_faults_are_past()
 {}
 
 /// The own work of a write without error makes a tree: the header of each gang in it is kept, its bodies join to the
-/// content, of each piece one copy at least is held, and its bytes are those that were given last for its places.
+/// content, of each piece one copy at least is held, and its bytes are those that were given last for its places. No two
+/// of its places meet, and none meets one that was in use.
 pub fn placed_writes_have_their_pieces()
     ensures tree { (journal : List Choice) (t : Terms) (attempt : ℕ) (p : Pending) (name : List ℕ) (sum : SumKind)
         (copies : ℕ) (prio : Prio) (body : Body) (pointers : List (Option Bp)) (images : Images) →
@@ -180,6 +182,21 @@ pub fn placed_writes_have_their_pieces()
         p.request.work ≡ Write name sum copies prio body → (before : Deeds) →
         EachPiece (IsGivenIn (before ++ map (in_round t) (own_trace is_single_or_piece journal t attempt p pointers images)))
         tree content }
+    ensures sound { (journal : List Choice) (t : Terms) (attempt : ℕ) (p : Pending) (name : List ℕ) (sum : SumKind)
+        (copies : ℕ) (prio : Prio) (body : Body) (pointers : List (Option Bp)) (sizes : ℕ → ℕ) (images : Images)
+        (tree : Tree) →
+        let own = own_work journal t attempt p (Write name sum copies prio body) pointers images in
+        IsPool sizes t.setting.tops → AreLawful (sizes_of t.setting.tops) t.used (choices_in t.round journal) →
+        IsWriting p copies → IsBlockSize (length (content_of pointers (body_of body))) → own.error ≡ None →
+        own.tree ≡ Some tree → (used : List Place) → AllByRecursion (Contains used) (tree_places tree) →
+        IsOwnBlock (sizes_of t.setting.tops) used tree }
+    ensures apart { (journal : List Choice) (t : Terms) (attempt : ℕ) (p : Pending) (name : List ℕ) (sum : SumKind)
+        (copies : ℕ) (prio : Prio) (body : Body) (pointers : List (Option Bp)) (sizes : ℕ → ℕ) (images : Images)
+        (tree : Tree) →
+        let own = own_work journal t attempt p (Write name sum copies prio body) pointers images in
+        IsPool sizes t.setting.tops → AreLawful (sizes_of t.setting.tops) t.used (choices_in t.round journal) →
+        IsWriting p copies → IsBlockSize (length (content_of pointers (body_of body))) → own.error ≡ None →
+        own.tree ≡ Some tree → NoneMeet (tree_places tree) t.used }
 {}
 
 /// A block whose bodies are read as they were given last is read as its content, or not at all. Where each of its pieces

@@ -21,6 +21,7 @@ pub mod PlacedPlaces
 pub mod PlacedPlans
 pub mod PointerLemmas
 pub mod PoolCasesProofs
+pub mod ReadTraces
 pub mod ReadsInTurn
 pub mod RepairLemmas
 pub mod RunLemmas

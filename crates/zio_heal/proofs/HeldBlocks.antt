@@ -34,17 +34,12 @@ use Rattle.zio_heal.specs.Copies.{AreElsewhere, HasCopy, IsPastFaults}
 use Rattle.zio_heal.specs.Pools.{IsPool}
 use Rattle.zio_heal.proofs.CopyLemmas.{reads_keep}
 use Rattle.zio_heal.proofs.FoundLemmas.{found_law}
-use Rattle.zio_heal.proofs.HeldLemmas.{elsewhere, lie_on}
+use Rattle.zio_heal.proofs.HeldLemmas.{elsewhere, have_room, lie_on}
 use Rattle.zio_heal.proofs.ReadsInTurn.{AllHave, AreGoodReads, Has, IsReadWell, all_have, read_copies, read_well}
-
--- places inside their tops, with room for so many bytes, of which no two touch
-pub record AreApartPlaces (s : Setting) (len : ℕ) (places : List Place) : Type 0 where
-  pub inside : AllInside s places
-  pub room : HaveRoomFor len places
-  pub own : Pairs DontMeet places
+use Rattle.zio_heal.proofs.WrittenPieces.{AreUsable}
 
 -- what is known of the pieces of a sound block
-pub sound_pieces : (s : Setting) (used : List Place) (tree : Tree) → IsOwnBlock (sizes_of s.tops) used tree → AllByRecursion (λ (c : Copies). AreApartPlaces s c.len c.places) (copies_of tree)
+pub sound_pieces : (s : Setting) (used : List Place) (tree : Tree) → IsOwnBlock (sizes_of s.tops) used tree → AllByRecursion (λ (c : Copies). AreUsable s c.len c.places) (copies_of tree)
 sound_pieces s used tree own =
     let among : AllByRecursion (λ (x : Piece). Contains (tree_pointers tree) x.pointer) (pieces_of tree) = pieces_among tree in
     let inside : AllByRecursion (λ (c : Copies). AllInside s c.places) (copies_of tree) =
@@ -53,7 +48,7 @@ sound_pieces s used tree own =
     (λ x k. all_of (λ (p : Place). IsTrue (is_inside (sizes_of s.tops) p)) (places_of x.pointer)
     (λ p c. all_contains (λ (q : Place). IsTrue (is_inside (sizes_of s.tops) q)) (tree_places tree) p own.sound.inside (flat_contains places_of (tree_pointers tree) x.pointer p k c))) among) in
     let room : AllByRecursion (λ (c : Copies). HaveRoomFor c.len c.places) (copies_of tree) = copies_follow (λ len places. HaveRoomFor len places) tree own.sound.room in
-    all_of (λ (c : Copies). AreApartPlaces s c.len c.places) (copies_of tree)
+    all_of (λ (c : Copies). AreUsable s c.len c.places) (copies_of tree)
     (λ c listed. record {
       inside = all_contains (λ (x : Copies). AllInside s x.places) (copies_of tree) c inside listed;
       room = all_contains (λ (x : Copies). HaveRoomFor x.len x.places) (copies_of tree) c room listed;
@@ -66,23 +61,20 @@ module _ (s : Setting) (sizes : ℕ → ℕ) (pool : IsPool sizes s.tops) where
       all_weaker (λ (u : Spot). u.at + u.span ≤ sizes u.leaf) (λ (u : Spot). u.at + u.span ≤ length (image_of images u.leaf)) (spots_of s places)
       (λ u on. let is : length (image_of images u.leaf) ≡ sizes u.leaf = have u.leaf in omega arith) (lie_on s sizes pool places inside)
 
-  room_in : (len : ℕ) (places : List Place) → AreApartPlaces s len places → HaveRoom len (spots_of s places)
-  room_in len places h = all_weaker (SpotLies sizes len) (λ (u : Spot). len ≤ u.span) (spots_of s places) (λ u k. k.0) (spots_lie s sizes len places pool.hold h.inside h.room)
-
   -- a read of other copies keeps a piece
-  held_beside : (images : Images) (c d : Copies) (bytes : List ℕ) → AllInside s c.places → AreApartPlaces s d.len d.places → NoneTouch c.places d.places → HaveSizes sizes images → IsHeld s images d bytes → IsHeld s (read_copies s images c).images d bytes
+  held_beside : (images : Images) (c d : Copies) (bytes : List ℕ) → AllInside s c.places → AreUsable s d.len d.places → NoneTouch c.places d.places → HaveSizes sizes images → IsHeld s images d bytes → IsHeld s (read_copies s images c).images d bytes
   held_beside images c d bytes inside apart none have h = record {
     is_good = h.is_good;
     copy =
         reads_keep s true (good_by c.test) c.len c.places (spots_of s d.places) bytes images (fits c.places images inside have)
-        (subst (λ (n : ℕ). HaveRoom n (spots_of s d.places)) (sym h.is_good.size) (room_in d.len d.places apart))
+        (subst (λ (n : ℕ). HaveRoom n (spots_of s d.places)) (sym h.is_good.size) (have_room s sizes pool d.len d.places apart))
         (elsewhere s sizes pool d.places c.places (touch_turned c.places d.places none)) h.copy;
   }
 
   sized : (images : Images) (c : Copies) → AllInside s c.places → HaveSizes sizes images → HaveSizes sizes (read_copies s images c).images
   sized images c inside have leaf = (reads_law s true (good_by c.test) images c.len c.places (fits c.places images inside have)).sizes leaf ∙ have leaf
 
-  all_good : (cs : List Copies) (images : Images) → IsPastFaults s → HaveSizes sizes images → AllByRecursion (λ (c : Copies). AreApartPlaces s c.len c.places) cs → Pairs PiecesApart cs → AllHave (IsHeld s images) cs → AreGoodReads s cs images
+  all_good : (cs : List Copies) (images : Images) → IsPastFaults s → HaveSizes sizes images → AllByRecursion (λ (c : Copies). AreUsable s c.len c.places) cs → Pairs PiecesApart cs → AllHave (IsHeld s images) cs → AreGoodReads s cs images
   all_good [] images past have apart pairs held = tt
   all_good (c ∷ cs) images past have apart pairs held =
       let bytes : List ℕ = held.0.bytes in
@@ -90,9 +82,9 @@ module _ (s : Setting) (sizes : ℕ → ℕ) (pool : IsPool sizes s.tops) where
       let now : Images = (read_copies s images c).images in (
         subst (λ (n : ℕ). IsOk (read_block s true (good_by c.test) images n c.places).found) h.is_good.size (found_law s true (good_by c.test) images bytes c.places past h.copy h.is_good.good),
         all_good cs now past (sized images c apart.0.inside have) apart.1 pairs.1
-            (all_lists (Has (IsHeld s images)) (λ (d : Copies). AreApartPlaces s d.len d.places × PiecesApart c d) (Has (IsHeld s now)) cs
+            (all_lists (Has (IsHeld s images)) (λ (d : Copies). AreUsable s d.len d.places × PiecesApart c d) (Has (IsHeld s now)) cs
             (λ d k a. record { bytes = k.bytes; holds = held_beside images c d k.bytes apart.0.inside a.0 a.1 have k.holds }) held.1
-            (all_lists (λ (d : Copies). AreApartPlaces s d.len d.places) (PiecesApart c) (λ (d : Copies). AreApartPlaces s d.len d.places × PiecesApart c d) cs (λ d a b. (a, b)) apart.1 pairs.0)),
+            (all_lists (λ (d : Copies). AreUsable s d.len d.places) (PiecesApart c) (λ (d : Copies). AreUsable s d.len d.places × PiecesApart c d) cs (λ d a b. (a, b)) apart.1 pairs.0)),
       )
 
   pub well_law : (used : List Place) (tree : Tree) (content : List ℕ) (images : Images) → IsPastFaults s → IsOwnBlock (sizes_of s.tops) used tree → HaveSizes sizes images → EachPiece (IsHeld s images) tree content → IsReadWell s tree images

@@ -1,16 +1,16 @@
 -- A piece that a trace wrote is held after it, and what was given last for its places are its bytes.
-use Rattle.std.proofs.Common.{◌≡◌, ◌≢◌, ℕ, ◌+◌, ◌*◌, ◌≤◌, ◌<◌, List, [], ◌∷◌, ◌++◌, length, map, slice_get, Bool, true, false, cond, if◌then◌else◌, Option, Some, None, ◌⊎◌, inl, inr, ⊎_elim, refl, sym, ap, ◌∙◌, subst, arith}
+use Rattle.std.proofs.Common.{◌≡◌, ◌≢◌, ℕ, ◌+◌, ◌*◌, ◌≤◌, ◌<◌, List, [], ◌∷◌, ◌++◌, length, map, slice_get, Bool, true, false, cond, if◌then◌else◌, Option, Some, None, IsTrue, Contains, ◌⊎◌, inl, inr, ⊎_elim, refl, sym, ap, ◌∙◌, subst, arith}
 use Rattle.std.proofs.lemmas.Bool.{cases_Bool}
 use Rattle.std.specs.Cmp.Lexicographic.{pointwise, pointwise_decides}
 use Rattle.std.specs.List.{AllByRecursion}
 use Rattle.zio_types.specs.declared.place.Place.{Place}
 use Rattle.zio_types.specs.Choices.{Choice}
-use Rattle.zio_types.specs.Places.{end_of}
+use Rattle.zio_types.specs.Places.{end_of, is_inside}
 use Rattle.zio_places.specs.Ordered.{is_same_place}
 use Rattle.zio_places.proofs.PlaceLemmas.{is_same_place-refl, is_same_place-true}
 use Rattle.zio_cksum.specs.Frames.{FitSpots, HaveRoom, spots_of}
 use Rattle.zio_cksum.specs.Images.{Images, Setting, Spot, image_of}
-use Rattle.zio_cksum.proofs.AllLemmas.{all_true, all_weaker}
+use Rattle.zio_cksum.proofs.AllLemmas.{all_contains, all_true, all_weaker}
 use Rattle.zio_cksum.proofs.WriteLemmas.{writes_law}
 use Rattle.zio_gang.specs.Attempts.{Terms}
 use Rattle.zio_gang.specs.Trees.{sizes_of}
@@ -103,10 +103,10 @@ module _ (journal : List Choice) (t : Terms) (sizes : ℕ → ℕ) (pool : IsPoo
 
   -- ---- a piece that was written is held
 
-  held_at : (ps : List Place) (len : ℕ) (bytes : List ℕ) (rest : Trace) (before after : Images) → StoresAsGiven t.setting → AreUsable t.setting len ps → length bytes ≡ len → AllWriteAt (NoneTouch ps) rest → AllWriteAt (AllInside t.setting) rest
+  held_at : (ps : List Place) (len : ℕ) (bytes : List ℕ) (rest : Trace) (before after : Images) → StoresAsGiven t.setting → 1 ≤ length ps → AreUsable t.setting len ps → length bytes ≡ len → AllWriteAt (NoneTouch ps) rest → AllWriteAt (AllInside t.setting) rest
       → HaveSizes sizes before → Happen (means journal t) (record { op = WriteCopies bytes ps; answer = Wrote None } ∷ rest) before after → HasCopy (spots_of t.setting ps) bytes after
-  held_at [] len bytes rest before after given usable long none inside have happen = let some : 1 ≤ 0 = usable.some in absurd (omega arith)
-  held_at (p ∷ ps) len bytes rest before after given usable long none inside have happen =
+  held_at [] len bytes rest before after given some usable long none inside have happen = absurd (omega arith)
+  held_at (p ∷ ps) len bytes rest before after given some usable long none inside have happen =
       written_law journal t sizes bytes p ps rest before after given have
       (lie_on t.setting sizes pool (p ∷ ps) usable.inside)
       (subst (λ (n : ℕ). HaveRoom n (spots_of t.setting (p ∷ ps))) (sym long) (have_room t.setting sizes pool len (p ∷ ps) usable))
@@ -122,7 +122,7 @@ module _ (journal : List Choice) (t : Terms) (sizes : ℕ → ℕ) (pool : IsPoo
       record {
         is_good = h.is_good;
         copy =
-            held_at c.places c.len bytes h.rest cut.0 after given h.usable h.is_good.size h.later later.1
+            held_at c.places c.len bytes h.rest cut.0 after given h.some h.usable h.is_good.size h.later later.1
             (all_sized h.front before cut.0 (all_front_of h.front (d ∷ h.rest) all) cut.1 have) cut.2;
       }
     where
@@ -143,30 +143,35 @@ touches_itself p some h =
     (λ (far : (end_of p ≤ p.sector) ⊎ (end_of p ≤ p.sector)). ⊎_elim (λ (a : end_of p ≤ p.sector). absurd (omega arith)) (λ (a : end_of p ≤ p.sector). absurd (omega arith)) far)
     h
 
-some_touch : (s : Setting) (len : ℕ) (ps : List Place) → AreUsable s len ps → NoneTouch ps ps → ⊥
-some_touch s len [] usable none = let some : 1 ≤ 0 = usable.some in absurd (omega arith)
-some_touch s len (p ∷ ps) usable none =
-    touches_itself p (below_sectors p (slice_get (sizes_of s.tops) p.top) usable.inside.0).0 (none p p (contains_first p ps) (contains_first p ps))
+-- copies at some place don't touch themselves
+some_touch : (s : Setting) (ps : List Place) (p : Place) → Contains ps p → AllInside s ps → NoneTouch ps ps → ⊥
+some_touch s ps p listed inside none =
+    touches_itself p (below_sectors p (slice_get (sizes_of s.tops) p.top) (all_contains (λ (q : Place). IsTrue (is_inside (sizes_of s.tops) q)) ps p inside listed)).0 (none p p listed listed)
 
-other_places : (s : Setting) (len : ℕ) (ps qs : List Place) → AreUsable s len ps → NoneTouch ps qs → pointwise is_same_place qs ps ≡ false
-other_places s len ps qs usable none =
+pub other_places : (s : Setting) (ps qs : List Place) (p : Place) → Contains ps p → AllInside s ps → NoneTouch ps qs → pointwise is_same_place qs ps ≡ false
+other_places s ps qs p listed inside none =
     ⊎_elim
     (λ (same : pointwise is_same_place qs ps ≡ true).
-    absurd (some_touch s len ps usable (subst (NoneTouch ps) ((pointwise_decides same_place_decides qs ps).0 same) none)))
+    absurd (some_touch s ps p listed inside (subst (NoneTouch ps) ((pointwise_decides same_place_decides qs ps).0 same) none)))
     (λ (no : pointwise is_same_place qs ps ≡ false). no)
     (cases_Bool (pointwise is_same_place qs ps))
 
-given_still : (s : Setting) (len : ℕ) (ps : List Place) (before : Option (List ℕ)) (o : Task) → AreUsable s len ps → WritesAt (NoneTouch ps) o → given_by o ps before ≡ before
-given_still s len ps before (WriteCopies bytes qs) usable none =
-    ap (λ (b : Bool). if b then Some bytes else before) (other_places s len ps qs usable none)
-given_still s len ps before (Find ask) usable none = refl
-given_still s len ps before _ usable none = absurd none
+-- there is a first one
+first_place : (ps : List Place) → 1 ≤ length ps → (p : Place) × Contains ps p
+first_place [] some = absurd (omega arith)
+first_place (p ∷ ps) some = (p, contains_first p ps)
 
-still_given : (t : Terms) (len : ℕ) (ps : List Place) (before : Option (List ℕ)) (ds : Trace) → AreUsable t.setting len ps → AllWriteAt (NoneTouch ps) ds → given_after before (map (in_round t) ds) ps ≡ before
-still_given t len ps before [] usable none = refl
-still_given t len ps before (d ∷ ds) usable none =
-    ap (λ (b : Option (List ℕ)). given_after b (map (in_round t) ds) ps) (given_still t.setting len ps before d.op usable none.0)
-    ∙ still_given t len ps before ds usable none.1
+given_still : (s : Setting) (ps : List Place) (p : Place) (before : Option (List ℕ)) (o : Task) → Contains ps p → AllInside s ps → WritesAt (NoneTouch ps) o → given_by o ps before ≡ before
+given_still s ps p before (WriteCopies bytes qs) listed inside none =
+    ap (λ (b : Bool). if b then Some bytes else before) (other_places s ps qs p listed inside none)
+given_still s ps p before (Find ask) listed inside none = refl
+given_still s ps p before _ listed inside none = absurd none
+
+still_given : (t : Terms) (ps : List Place) (p : Place) (before : Option (List ℕ)) (ds : Trace) → Contains ps p → AllInside t.setting ps → AllWriteAt (NoneTouch ps) ds → given_after before (map (in_round t) ds) ps ≡ before
+still_given t ps p before [] listed inside none = refl
+still_given t ps p before (d ∷ ds) listed inside none =
+    ap (λ (b : Option (List ℕ)). given_after b (map (in_round t) ds) ps) (given_still t.setting ps p before d.op listed inside none.0)
+    ∙ still_given t ps p before ds listed inside none.1
 
 pub given_front : (t : Terms) (before : Option (List ℕ)) (xs ys : Trace) (ps : List Place) → given_after before (map (in_round t) (xs ++ ys)) ps ≡ given_after (given_after before (map (in_round t) xs) ps) (map (in_round t) ys) ps
 given_front t before [] ys ps = refl
@@ -187,7 +192,8 @@ given_itself before bytes ps = ap (λ (b : Bool). if b then Some bytes else befo
 pub is_given : (t : Terms) (At : List Place → Type 0) (ds : Trace) (c : Copies) (bytes : List ℕ) (before : Option (List ℕ)) → IsWrittenIn t At ds c bytes → given_after before (map (in_round t) ds) c.places ≡ Some bytes
 is_given t At ds c bytes before h =
     let d : Deed Task Value = record { op = WriteCopies bytes c.places; answer = Wrote None } in
+    let first : (p : Place) × Contains c.places p = first_place c.places h.some in
     ap (λ (xs : Trace). given_after before (map (in_round t) xs) c.places) h.is
     ∙ given_front t before h.front (d ∷ h.rest) c.places
     ∙ ap (λ (b : Option (List ℕ)). given_after b (map (in_round t) h.rest) c.places) (given_itself (given_after before (map (in_round t) h.front) c.places) bytes c.places)
-    ∙ still_given t c.len c.places (Some bytes) h.rest h.usable h.later
+    ∙ still_given t c.places first.0 (Some bytes) h.rest first.1 h.usable.inside h.later

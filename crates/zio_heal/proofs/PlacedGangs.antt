@@ -106,6 +106,7 @@ module _ (journal : List Choice) (t : Terms) (p : Pending) (sizes : ℕ → ℕ)
           is = ap (λ (qs : List Place). wrote_to bytes qs ∷ []) (sym there);
           is_good = record { size = refl; good = sum_good sum_kind bytes };
           at = subst (IsAt journal t p path) (sym there) here;
+          some = subst (λ (qs : List Place). 1 ≤ length qs) (sym there) found.one;
           usable = subst (AreUsable t.setting (length bytes)) (sym there) usable;
           later = tt;
         });
@@ -170,6 +171,7 @@ module _ (journal : List Choice) (t : Terms) (p : Pending) (sizes : ℕ → ℕ)
                 is = ap (λ (qs : List Place). ds ++ wrote_to header qs ∷ []) (sym there);
                 is_good = record { size = long; good = kept_good (kept_at heads path) header kept };
                 at = subst (IsAt journal t p path) (sym there) here;
+                some = subst (λ (qs : List Place). 1 ≤ length qs) (sym there) found.one;
                 usable = subst (AreUsable t.setting 512) (sym there) usable;
                 later = tt;
               };

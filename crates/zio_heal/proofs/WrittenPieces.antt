@@ -54,9 +54,8 @@ member_at journal t p path n places h =
       found = a.found;
     }
 
--- Places that copies of so many bytes may have: one at least, inside their tops, with room, and none touches another.
+-- Places that copies of so many bytes may have: inside their tops, with room, and none touches another.
 pub record AreUsable (s : Setting) (len : ℕ) (places : List Place) : Type 0 where
-  pub some : 1 ≤ length places
   pub inside : AllInside s places
   pub own : Pairs DontMeet places
   pub room : HaveRoomFor len places
@@ -74,7 +73,6 @@ module _ (journal : List Choice) (t : Terms) (sizes : ℕ → ℕ) (pool : IsPoo
       let are : AreFound (sizes_of t.setting.tops) ask.size places = found_for journal (sizes_of t.setting.tops) t.used t.round answers ask places now one three found in
       let inside : AllInside t.setting places = found_inside ask places now found in
       record {
-        some = are.one;
         inside = inside;
         own = pairs_stronger DontMeet (λ (a b : Place). meets b a ≡ false) places
             (λ a b ca cb far. dont_turned b a (inside_dont t.setting b a (all_contains _ places b inside cb) (all_contains _ places a inside ca) far))
@@ -123,6 +121,7 @@ pub record IsWrittenIn (t : Terms) (At : List Place → Type 0) (ds : Trace) (c 
   pub is : ds ≡ front ++ record { op = WriteCopies bytes c.places; answer = Wrote None } ∷ rest
   pub is_good : IsGood c bytes
   pub at : At c.places
+  pub some : 1 ≤ length c.places
   pub usable : AreUsable t.setting c.len c.places
   pub later : AllWriteAt (NoneTouch c.places) rest
 
@@ -140,6 +139,7 @@ written_more t At Bt es ds fs c bytes f alone h =
           ∙ sym (append_assoc es h.front (d ∷ (h.rest ++ fs)));
       is_good = h.is_good;
       at = f h.at;
+      some = h.some;
       usable = h.usable;
       later = all_append (λ (x : Deed Task Value). WritesAt (NoneTouch c.places) x.op) h.rest fs h.later (alone h.at);
     }

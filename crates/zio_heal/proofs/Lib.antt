@@ -25,6 +25,7 @@ pub mod ReadTraces
 pub mod ReadsInTurn
 pub mod RepairLemmas
 pub mod RunLemmas
+pub mod SafeTraces
 pub mod SparedLemmas
 pub mod StoreCasesProofs
 pub mod StoredCasesProofs

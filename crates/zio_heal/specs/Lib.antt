@@ -13,6 +13,7 @@ pub mod HealedCases
 pub mod PlainStore
 pub mod PoolCases
 pub mod Pools
+pub mod SafeBlocks
 pub mod Spared
 pub mod StoreCases
 pub mod StoredCases

@@ -13,6 +13,7 @@ pub mod HeaderLemmas
 pub mod HealedCasesProofs
 pub mod HeldBlocks
 pub mod HeldLemmas
+pub mod OwnTraces
 pub mod PieceLemmas
 pub mod PlacedGangs
 pub mod PlacedLemmas

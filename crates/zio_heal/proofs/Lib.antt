@@ -5,6 +5,7 @@ pub mod CopyCasesProofs
 pub mod CopyLemmas
 pub mod DisciplineCasesProofs
 pub mod DisciplineLemmas
+pub mod EndedRequests
 pub mod FaultLemmas
 pub mod FoundLemmas
 pub mod FoundTraces

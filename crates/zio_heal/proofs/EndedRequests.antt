@@ -21,6 +21,7 @@ use Rattle.zio_trace.proofs.DownLemmas.{Gives, down_gives, each_gives}
 use Rattle.zio_trace.proofs.PairLemmas.{all_of, pairs_append}
 use Rattle.zio_trace.proofs.RequestLemmas.{own_run, plan_run}
 use Rattle.zio_trace.proofs.TraceLemmas.{happen_join}
+use Rattle.zio_heal.specs.SafeRounds.{NumbersDiffer}
 use Rattle.zio_heal.proofs.OwnTraces.{AreOf, OfRequest, of_same, own_of}
 use Rattle.zio_heal.proofs.WrittenLemmas.{both_none}
 
@@ -32,9 +33,6 @@ pub record IsFrom (Q : List Pending) (q : Pending) : Type 0 where
   pub listed : Contains Q source
   pub request : source.request ≡ q.request
   pub block : source.block ≡ q.block
-
-abbrev pub NumbersDiffer : Pending → Pending → Type 0
-NumbersDiffer p q = p.request.number ≢ q.request.number
 
 -- what holds of a request whatever children it keeps
 abbrev pub IsStable : (Pending → Type 0) → Type 0

@@ -26,6 +26,7 @@ pub mod PoolCasesProofs
 pub mod ReadTraces
 pub mod ReadsInTurn
 pub mod RepairLemmas
+pub mod RoundTells
 pub mod RunLemmas
 pub mod SafeTraces
 pub mod SparedLemmas

@@ -33,13 +33,14 @@ pub record IsFrom (Q : List Pending) (q : Pending) : Type 0 where
   pub listed : Contains Q source
   pub request : source.request ≡ q.request
   pub block : source.block ≡ q.block
+  pub birth : source.birth ≡ q.birth
 
 -- what holds of a request whatever children it keeps
 abbrev pub IsStable : (Pending → Type 0) → Type 0
 IsStable P = (p : Pending) (kept : List Child) → P p → P (record p { kept = kept })
 
 pub from_stable : (Q : List Pending) → IsStable (IsFrom Q)
-from_stable Q p kept h = record { source = h.source; listed = h.listed; request = h.request; block = h.block }
+from_stable Q p kept h = record { source = h.source; listed = h.listed; request = h.request; block = h.block; birth = h.birth }
 
 module _ (journal : List Choice) (t : Terms) (Q : List Pending) where
   abbrev own_ds : ℕ → Pending → List (Option Bp) → Images → Trace

@@ -1,5 +1,6 @@
 pub mod AlikeCasesProofs
 pub mod BodyParts
+pub mod BoundBlocks
 pub mod ContentCasesProofs
 pub mod CopyCasesProofs
 pub mod CopyLemmas

@@ -36,11 +36,11 @@ pub record HasNamed (bound : Bound) (name : List ℕ) (block : Option Tree) : Ty
   pub there : IsSome block
   pub is : block ≡ block_of bound name
 
--- a read or a free has the block of its name, and the name of a write has none
+-- a read or a free has the block of its name, and others have none; the name of a write isn't bound
 abbrev pub NamesWell : Bound → Work → Option Tree → Type 0
-NamesWell bound Null block = Unit {0}
+NamesWell bound Null block = block ≡ None
 NamesWell bound (Read name prio) block = HasNamed bound name block
-NamesWell bound (Write name sum copies prio body) block = is_bound bound name ≡ false
+NamesWell bound (Write name sum copies prio body) block = (block ≡ None) × (is_bound bound name ≡ false)
 NamesWell bound (Free name) block = HasNamed bound name block
 NamesWell bound (Claim name pointer) block = ⊥
 

@@ -54,7 +54,7 @@ all_inserted P x [] h hs = (h, tt)
 all_inserted P x (y ∷ ys) h hs =
     inserted_if P (nat_le x.number y.number) x y ys (insert_by (λ (c : Child). c.number) x ys) h hs (all_inserted P x ys h hs.1)
 
-all_merged : (P : Child → Type 0) (xs ys : List Child) → AllByRecursion P xs → AllByRecursion P ys → AllByRecursion P (insert_children xs ys)
+pub all_merged : (P : Child → Type 0) (xs ys : List Child) → AllByRecursion P xs → AllByRecursion P ys → AllByRecursion P (insert_children xs ys)
 all_merged P [] ys hx hy = hy
 all_merged P (x ∷ xs) ys hx hy = all_inserted P x (insert_children xs ys) hx.0 (all_merged P xs ys hx.1 hy)
 

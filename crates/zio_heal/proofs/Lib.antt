@@ -15,6 +15,7 @@ pub mod HeaderLemmas
 pub mod HealedCasesProofs
 pub mod HeldBlocks
 pub mod HeldLemmas
+pub mod KidsLemmas
 pub mod OwnTraces
 pub mod PieceLemmas
 pub mod PlacedGangs
@@ -30,6 +31,7 @@ pub mod RepairLemmas
 pub mod RoundTells
 pub mod RunLemmas
 pub mod SafeTraces
+pub mod SlotLemmas
 pub mod SparedLemmas
 pub mod StoreCasesProofs
 pub mod StoredCasesProofs

@@ -22,7 +22,7 @@ use Rattle.zio_trace.specs.Tasks.{Task, Value}
 use Rattle.zio_trace.proofs.BlockPieces.{CopiesApart as PiecesApart}
 use Rattle.zio_trace.proofs.ChoiceLemmas.{Answers, IsPlaced, MeetsNone, answers_in_round, chosen_placed}
 use Rattle.zio_trace.proofs.CopiesLemmas.{copies_follow}
-use Rattle.zio_trace.proofs.ListLemmas.{contains_first, contains_later}
+use Rattle.zio_trace.proofs.ListLemmas.{all_front, all_rest, contains_first, contains_later}
 use Rattle.zio_trace.proofs.OwnBlocks.{block_apart}
 use Rattle.zio_trace.proofs.PairLemmas.{all_of, flat_contains, pairs_two}
 use Rattle.zio_trace.proofs.SeparateLemmas.{pieces_among}
@@ -30,9 +30,10 @@ use Rattle.zio_trace.proofs.SpotLemmas.{AllInside, NoneTouch, none_touch, touch_
 use Rattle.zio_heal.specs.Contents.{EachPiece}
 use Rattle.zio_heal.specs.Given.{Deeds}
 use Rattle.zio_heal.specs.SafeBlocks.{BindingsApart, Contents, IsSafe, IsSafeBlock}
-use Rattle.zio_heal.specs.SafeRounds.{HasNamed, IsReady, IsSafeStart, NamesWell, deeds_in, requests_in}
+use Rattle.zio_heal.specs.SafeRounds.{HasNamed, HaveChildren, IsReady, IsSafeStart, NamesWell, deeds_in, requests_in}
 use Rattle.zio_heal.proofs.EndedRequests.{AreBy, IsBy, IsFrom}
 use Rattle.zio_heal.proofs.HeldBlocks.{sound_pieces}
+use Rattle.zio_heal.proofs.KidsLemmas.{IsFitting, LeftKids}
 use Rattle.zio_heal.proofs.OwnTraces.{IsBeside, one_passes}
 use Rattle.zio_heal.proofs.PieceLemmas.{each_weaker, each_with}
 use Rattle.zio_heal.proofs.RoundTells.{RoundTells, round_by, round_tells}
@@ -97,11 +98,18 @@ module _ (journal : List Choice) (sizes : ℕ → ℕ) (ds : Deeds) (contents : 
   pub from_itself : AllByRecursion (IsFrom Q) Q
   from_itself = all_of (IsFrom Q) Q (λ p c. record { source = p; listed = c; request = refl; block = refl; birth = refl })
 
-  pub tells : RoundTells journal s.terms Q claims s.images trace s.trees (settle_each journal s.terms s.trees s.images).ended (settle_each journal s.terms s.trees s.images).left (settle_each journal s.terms s.trees s.images).images
-  tells = round_tells journal s.terms Q claims s.trees s.images from_itself h.ready.numbers
-
   pub answers : Answers journal (sizes_of s.terms.setting.tops) s.terms.used s.terms.round
   answers = answers_in_round journal (sizes_of s.terms.setting.tops) s.terms.used s.terms.round h.lawful.lawful
+
+  pub kids : AllByRecursion (LeftKids journal s.terms children sizes h.pool answers) s.trees
+  kids = all_kids s.trees h.ready.kids (all_weaker (IsReady s.bound children) (IsFitting children) Q (λ p k. record { fits = k.fits; kept = k.kept }) h.ready.each)
+    where
+      all_kids : (trees : List (List Pending)) → AllByRecursion (HaveChildren children []) trees → AllByRecursion (IsFitting children) (requests_in trees) → AllByRecursion (LeftKids journal s.terms children sizes h.pool answers) trees
+      all_kids [] a b = tt
+      all_kids (tree ∷ trees) a b = (record { kids = a.0; fitting = all_front (IsFitting children) tree (requests_in trees) b }, all_kids trees a.1 (all_rest (IsFitting children) tree (requests_in trees) b))
+
+  pub tells : RoundTells journal s.terms Q children sizes h.pool answers claims s.images trace s.trees (settle_each journal s.terms s.trees s.images).ended (settle_each journal s.terms s.trees s.images).left (settle_each journal s.terms s.trees s.images).images
+  tells = round_tells journal s.terms Q children sizes h.pool answers claims s.trees s.images from_itself h.ready.numbers kids
 
   abbrev Safe : Binding → Type 0
   Safe b = IsSafeBlock s.terms.setting s.images ds (used_places s.bound) b.tree (contents b.name)
@@ -168,13 +176,13 @@ module _ (journal : List Choice) (sizes : ℕ → ℕ) (ds : Deeds) (contents : 
 
   -- ---- it stays safe
 
-  pub by_all : AreBy journal s.terms Q (λ n. Unit {0}) trace
-  by_all = round_by journal s.terms Q claims (λ n. Unit {0}) s.trees s.images from_itself h.ready.numbers (all_true (λ (p : Pending). Unit {0}) Q (λ p. tt))
+  pub by_all : AreBy journal s.terms Q children (λ n. Unit {0}) trace
+  by_all = round_by journal s.terms Q children sizes h.pool answers claims (λ n. Unit {0}) s.trees s.images from_itself h.ready.numbers kids (all_true (λ (p : Pending). Unit {0}) Q (λ p. tt))
 
   -- a piece beside all requests is passed by all deeds
-  pub pass_all : (c : Copies) (N : ℕ → Type 0) (es : Trace) → ((q : Pending) → Contains Q q → N q.request.number → IsBeside journal s.terms c q) → AreBy journal s.terms Q N es → AllPass s.terms.setting c es
+  pub pass_all : (c : Copies) (N : ℕ → Type 0) (es : Trace) → ((q : Pending) → Contains Q q → N q.request.number → IsBeside journal s.terms c q) → AreBy journal s.terms Q children N es → AllPass s.terms.setting c es
   pass_all c N es beside by =
-      all_weaker (IsBy journal s.terms Q N) (λ (d : Deed Task Value). Passes s.terms.setting c d.op d.answer) es
+      all_weaker (IsBy journal s.terms Q children N) (λ (d : Deed Task Value). Passes s.terms.setting c d.op d.answer) es
       (λ d k. one_passes journal s.terms sizes h.pool answers c k.by d.op d.answer (beside k.by k.listed k.number) k.of) by
 
   piece_stays : (b : Binding) (c : Copies) (bytes : List ℕ) → Contains s.bound b → Contains (copies_of b.tree) c → IsSafe s.terms.setting s.images ds c bytes → IsSafe s.terms.setting (settle_each journal s.terms s.trees s.images).images (ds ++ deeds_in journal s) c bytes

@@ -11,17 +11,21 @@ use Rattle.zio_cksum.specs.Images.{Images}
 use Rattle.zio_cksum.proofs.AllLemmas.{all_append, all_contains, all_weaker}
 use Rattle.zio_gang.specs.Attempts.{Attempt, Attempted, Child, Ended, Own, Pending, Return, Settled, Terms, attempt_each, attempt_one, closed_if, now_alone, own_work, reexecutions_max, root_bits, settle, settle_from, settled_if, tree_unless}
 use Rattle.zio_gang.specs.Rounds.{Ran, add_left, settle_each}
+use Rattle.zio_gang.specs.Trees.{sizes_of}
 use Rattle.zio_trace.specs.Plans.{plan, plan_own}
 use Rattle.zio_trace.specs.Programs.{Deed, Done, Happen, run}
 use Rattle.zio_trace.specs.RoundTraces.{Trace, again_if, attempt_trace, is_single_or_piece, levels_max, own_trace, pointers_after, round_trace, settle_trace, task_trace}
 use Rattle.zio_trace.specs.Separate.{IsNoClaim}
 use Rattle.zio_trace.specs.Tasks.{OwnGot, Task, Value, means}
 use Rattle.zio_trace.specs.TreeOrders.{Pairs}
+use Rattle.zio_trace.proofs.ChoiceLemmas.{Answers}
 use Rattle.zio_trace.proofs.DownLemmas.{Gives, down_gives, each_gives}
 use Rattle.zio_trace.proofs.PairLemmas.{all_of, pairs_append}
 use Rattle.zio_trace.proofs.RequestLemmas.{own_run, plan_run}
 use Rattle.zio_trace.proofs.TraceLemmas.{happen_join}
+use Rattle.zio_heal.specs.Pools.{IsPool}
 use Rattle.zio_heal.specs.SafeRounds.{NumbersDiffer}
+use Rattle.zio_heal.proofs.KidsLemmas.{AreAll, LeftKids, PointersFit, tree_kids}
 use Rattle.zio_heal.proofs.OwnTraces.{AreOf, OfRequest, of_same, own_of}
 use Rattle.zio_heal.proofs.WrittenLemmas.{both_none}
 
@@ -42,7 +46,7 @@ IsStable P = (p : Pending) (kept : List Child) → P p → P (record p { kept = 
 pub from_stable : (Q : List Pending) → IsStable (IsFrom Q)
 from_stable Q p kept h = record { source = h.source; listed = h.listed; request = h.request; block = h.block; birth = h.birth }
 
-module _ (journal : List Choice) (t : Terms) (Q : List Pending) where
+module _ (journal : List Choice) (t : Terms) (Q : List Pending) (children : ℕ → ℕ) where
   abbrev own_ds : ℕ → Pending → List (Option Bp) → Images → Trace
   own_ds attempt p pointers images = own_trace is_single_or_piece journal t attempt p pointers images
 
@@ -67,6 +71,7 @@ module _ (journal : List Choice) (t : Terms) (Q : List Pending) where
     pub images : Images
     pub is : ds ≡ front ++ (own_ds attempt p pointers images ++ rest)
     pub from : IsFrom Q p
+    pub all : AreAll children p pointers
     pub request : e.request ≡ p.request
     pub happen : Happen (means journal t) front start images
     pub fine : e.error ≡ None → (own_work journal t attempt p p.request.work pointers images).error ≡ None
@@ -90,6 +95,7 @@ module _ (journal : List Choice) (t : Terms) (Q : List Pending) where
             ∙ ap (λ (xs : Trace). es ++ xs) (append_assoc h.front (own ++ h.rest) fs ∙ ap (λ (xs : Trace). h.front ++ xs) (append_assoc own h.rest fs))
             ∙ sym (append_assoc es h.front (own ++ (h.rest ++ fs)));
         from = h.from;
+        all = h.all;
         request = h.request;
         happen = happen_join (means journal t) es h.front before start h.images happen h.happen;
         fine = h.fine;
@@ -98,7 +104,7 @@ module _ (journal : List Choice) (t : Terms) (Q : List Pending) where
         later = all_append (IsBy (λ (n : ℕ). n ≢ e.request.number)) h.rest fs h.later later;
       }
 
-  module _ (claims : AllByRecursion (λ (p : Pending). IsNoClaim p.request.work) Q) where
+  module _ (sizes : ℕ → ℕ) (pool : IsPool sizes t.setting.tops) (answers : Answers journal (sizes_of t.setting.tops) t.used t.round) (claims : AllByRecursion (λ (p : Pending). IsNoClaim p.request.work) Q) where
     -- ---- one request
 
     own_happens : (attempt : ℕ) (p : Pending) (pointers : List (Option Bp)) (images : Images) → Happen (means journal t) (own_ds attempt p pointers images) images (own_work journal t attempt p p.request.work pointers images).images
@@ -128,9 +134,9 @@ module _ (journal : List Choice) (t : Terms) (Q : List Pending) where
       single : Pairs NumbersDiffer one.again
       happen : Happen (means journal t) ds start one.images
 
-    closed_tells : (b : Bool) (attempt : ℕ) (p : Pending) (pointers : List (Option Bp)) (images : Images) (bits : Bits) (kept : List Child) → IsFrom Q p
+    closed_tells : (b : Bool) (attempt : ℕ) (p : Pending) (pointers : List (Option Bp)) (images : Images) (bits : Bits) (kept : List Child) → IsFrom Q p → AreAll children p pointers
         → TellsOne images (own_ds attempt p pointers images) p (closed_if b p (own_work journal t attempt p p.request.work pointers images) bits kept)
-    closed_tells true attempt p pointers images bits kept from = record {
+    closed_tells true attempt p pointers images bits kept from all = record {
       ended = tt;
       number = tt;
       again = λ P stable h. (stable p kept h, tt);
@@ -138,7 +144,7 @@ module _ (journal : List Choice) (t : Terms) (Q : List Pending) where
       single = (tt, tt);
       happen = own_happens attempt p pointers images;
     }
-    closed_tells false attempt p pointers images bits kept from =
+    closed_tells false attempt p pointers images bits kept from all =
         let own : Own = own_work journal t attempt p p.request.work pointers images in
         let rest : Option Errno = worst_of (map (λ (c : Child). c.error) kept) in
         record {
@@ -152,6 +158,7 @@ module _ (journal : List Choice) (t : Terms) (Q : List Pending) where
               images = images;
               is = sym (append-nil (own_ds attempt p pointers images));
               from = from;
+              all = all;
               request = refl;
               happen = refl;
               fine = λ none. (both_none own.error rest none).0;
@@ -168,8 +175,8 @@ module _ (journal : List Choice) (t : Terms) (Q : List Pending) where
           happen = own_happens attempt p pointers images;
         }
 
-    one_tells : (attempt : ℕ) (p : Pending) (returns : List Return) (images : Images) → IsFrom Q p → TellsOne images (own_ds attempt p (pointers_after p returns) images) p (attempt_one journal t attempt p returns images)
-    one_tells attempt p returns images from = closed_tells _ attempt p (pointers_after p returns) images _ _ from
+    one_tells : (attempt : ℕ) (p : Pending) (returns : List Return) (images : Images) → IsFrom Q p → AreAll children p (pointers_after p returns) → TellsOne images (own_ds attempt p (pointers_after p returns) images) p (attempt_one journal t attempt p returns images)
+    one_tells attempt p returns images from all = closed_tells _ attempt p (pointers_after p returns) images _ _ from all
 
     -- ---- an attempt
 
@@ -201,17 +208,17 @@ module _ (journal : List Choice) (t : Terms) (Q : List Pending) where
         all_weaker (λ (e : Ended). e.request.number ≡ p.request.number) (λ (e : Ended). AllByRecursion (λ (q : Pending). q.request.number ≢ e.request.number) qs) ends
         (λ e k. all_weaker (λ (q : Pending). p.request.number ≢ q.request.number) (λ (q : Pending). q.request.number ≢ e.request.number) qs (λ q ne f. ne (sym k ∙ sym f)) differ) same
 
-    each_tells : (attempt : ℕ) (ps : List Pending) (returns : List Return) (images : Images) → AllByRecursion (IsFrom Q) ps → Pairs NumbersDiffer ps
+    each_tells : (attempt : ℕ) (ps : List Pending) (returns : List Return) (images : Images) → AllByRecursion (IsFrom Q) ps → Pairs NumbersDiffer ps → PointersFit journal t children sizes pool answers attempt ps returns images
         → Tells images (attempt_trace is_single_or_piece journal t attempt ps returns images) ps (attempt_each journal t attempt ps returns images).ended (attempt_each journal t attempt ps returns images).again (attempt_each journal t attempt ps returns images).images
     unfolding attempt_each
-    each_tells attempt [] returns images from pairs = record { all = tt; numbers = λ N h. tt; again = λ P stable h. tt; apart = tt; pairs = tt; happen = refl }
-    each_tells attempt (p ∷ ps) returns images from pairs =
+    each_tells attempt [] returns images from pairs fit = record { all = tt; numbers = λ N h. tt; again = λ P stable h. tt; apart = tt; pairs = tt; happen = refl }
+    each_tells attempt (p ∷ ps) returns images from pairs fit =
         let one : Attempted = attempt_one journal t attempt p returns images in
         let own : Trace = own_ds attempt p (pointers_after p returns) images in
         let more : Trace = attempt_trace is_single_or_piece journal t attempt ps (one.return ∷ returns) one.images in
         let a : Attempt = attempt_each journal t attempt ps (one.return ∷ returns) one.images in
-        let first : TellsOne images own p one = one_tells attempt p returns images from.0 in
-        let rest : Tells one.images more ps a.ended a.again a.images = each_tells attempt ps (one.return ∷ returns) one.images from.1 pairs.1 in
+        let first : TellsOne images own p one = one_tells attempt p returns images from.0 fit.0 in
+        let rest : Tells one.images more ps a.ended a.again a.images = each_tells attempt ps (one.return ∷ returns) one.images from.1 pairs.1 fit.1 in
         let again_others : AllByRecursion (λ (q : Pending). p.request.number ≢ q.request.number) a.again =
         rest.again (λ (q : Pending). p.request.number ≢ q.request.number) (λ q kept h. h) pairs.0 in
         record {
@@ -250,16 +257,17 @@ module _ (journal : List Choice) (t : Terms) (Q : List Pending) where
 
     -- ---- all attempts of a round
 
-    pub settle_by : (N : ℕ → Type 0) (more attempt : ℕ) (ps : List Pending) (images : Images) → AllByRecursion (IsFrom Q) ps → Pairs NumbersDiffer ps → AllByRecursion (λ (p : Pending). N p.request.number) ps
+    pub settle_by : (N : ℕ → Type 0) (more attempt : ℕ) (ps : List Pending) (images : Images) → AllByRecursion (IsFrom Q) ps → Pairs NumbersDiffer ps → LeftKids journal t children sizes pool answers ps → AllByRecursion (λ (p : Pending). N p.request.number) ps
         → AreBy N (settle_trace more is_single_or_piece journal t attempt ps images)
-    settle_by N zero attempt ps images from pairs numbers = attempt_by N attempt ps [] images from numbers
-    settle_by N (suc more) attempt ps images from pairs numbers =
+    settle_by N zero attempt ps images from pairs kids numbers = attempt_by N attempt ps [] images from numbers
+    settle_by N (suc more) attempt ps images from pairs kids numbers =
         let a : Attempt = attempt_each journal t attempt ps [] images in
-        let first : Tells images (attempt_trace is_single_or_piece journal t attempt ps [] images) ps a.ended a.again a.images = each_tells attempt ps [] images from pairs in
+        let out = tree_kids journal t children sizes pool answers attempt ps images kids.kids kids.fitting in
+        let first : Tells images (attempt_trace is_single_or_piece journal t attempt ps [] images) ps a.ended a.again a.images = each_tells attempt ps [] images from pairs out.fit in
         all_append (IsBy N) (attempt_trace is_single_or_piece journal t attempt ps [] images) (again_if (now_alone (root_bits a.returns)) a (settle_trace more is_single_or_piece journal t (attempt + 1)))
         (attempt_by N attempt ps [] images from numbers)
         (again_by (now_alone (root_bits a.returns)) a (settle_trace more is_single_or_piece journal t (attempt + 1))
-        (settle_by N more (attempt + 1) a.again a.images (first.again (IsFrom Q) (from_stable Q) from) first.pairs (first.again (λ (p : Pending). N p.request.number) (number_stable N) numbers)))
+        (settle_by N more (attempt + 1) a.again a.images (first.again (IsFrom Q) (from_stable Q) from) first.pairs (record { kids = out.kids; fitting = out.fitting }) (first.again (λ (p : Pending). N p.request.number) (number_stable N) numbers)))
       where
         again_by : (b : Bool) (a : Attempt) (trace : List Pending → Images → Trace) → AreBy N (trace a.again a.images) → AreBy N (again_if b a trace)
         again_by true a trace h = h
@@ -291,14 +299,16 @@ module _ (journal : List Choice) (t : Terms) (Q : List Pending) where
           happen = happen_join (means journal t) ds more images a.images s.images first.happen later.happen;
         }
 
-    pub settle_tells : (more attempt : ℕ) (ps : List Pending) (images : Images) → AllByRecursion (IsFrom Q) ps → Pairs NumbersDiffer ps
+    pub settle_tells : (more attempt : ℕ) (ps : List Pending) (images : Images) → AllByRecursion (IsFrom Q) ps → Pairs NumbersDiffer ps → LeftKids journal t children sizes pool answers ps
         → Tells images (settle_trace more is_single_or_piece journal t attempt ps images) ps (settle_from more journal t attempt ps images).ended (settle_from more journal t attempt ps images).left (settle_from more journal t attempt ps images).images
     unfolding settle_from
-    settle_tells zero attempt ps images from pairs = each_tells attempt ps [] images from pairs
-    settle_tells (suc more) attempt ps images from pairs =
+    settle_tells zero attempt ps images from pairs kids = each_tells attempt ps [] images from pairs (tree_kids journal t children sizes pool answers attempt ps images kids.kids kids.fitting).fit
+    settle_tells (suc more) attempt ps images from pairs kids =
         let a : Attempt = attempt_each journal t attempt ps [] images in
-        let first : Tells images (attempt_trace is_single_or_piece journal t attempt ps [] images) ps a.ended a.again a.images = each_tells attempt ps [] images from pairs in
+        let out = tree_kids journal t children sizes pool answers attempt ps images kids.kids kids.fitting in
+        let left : LeftKids journal t children sizes pool answers a.again = record { kids = out.kids; fitting = out.fitting } in
+        let first : Tells images (attempt_trace is_single_or_piece journal t attempt ps [] images) ps a.ended a.again a.images = each_tells attempt ps [] images from pairs out.fit in
         let again_from : AllByRecursion (IsFrom Q) a.again = first.again (IsFrom Q) (from_stable Q) from in
         again_tells (now_alone (root_bits a.returns)) a (attempt_trace is_single_or_piece journal t attempt ps [] images) ps images (settle_trace more is_single_or_piece journal t (attempt + 1)) (settle_from more journal t (attempt + 1)) first
-        (settle_tells more (attempt + 1) a.again a.images again_from first.pairs)
-        (λ N h. settle_by N more (attempt + 1) a.again a.images again_from first.pairs h)
+        (settle_tells more (attempt + 1) a.again a.images again_from first.pairs left)
+        (λ N h. settle_by N more (attempt + 1) a.again a.images again_from first.pairs left h)

@@ -13,8 +13,9 @@ use Rattle.zio_script.specs.declared.script.Work.TheVariants.{Null, Read, Write,
 use Rattle.zio_script.specs.Requests.{is_under_number, kind_of}
 use Rattle.zio_cksum.specs.Images.{Images}
 use Rattle.zio_cksum.proofs.AllLemmas.{all_append, all_filter, all_map, all_weaker}
-use Rattle.zio_gang.specs.Attempts.{Attempt, Attempted, Child, Own, Pending, Return, Terms, all_bits, attempt_each, attempt_one, bits_of, children_of, closed_if, finished_of, has_bits, insert_children, own_work, returned_to}
+use Rattle.zio_gang.specs.Attempts.{Attempt, Attempted, Child, Own, Pending, Return, Settled, Terms, all_bits, attempt_each, attempt_one, bits_of, children_of, closed_if, finished_of, has_bits, insert_children, now_alone, own_work, reexecutions_max, returned_to, root_bits, settle, settle_from, settled_if}
 use Rattle.zio_gang.specs.ByNumber.{insert_by, insert_if, merge_by}
+use Rattle.zio_gang.specs.Rounds.{add_left, settle_each}
 use Rattle.zio_gang.specs.Trees.{sizes_of}
 use Rattle.zio_trace.specs.RoundTraces.{pointers_after}
 use Rattle.zio_trace.proofs.ChoiceLemmas.{Answers}
@@ -93,23 +94,23 @@ fits_same p kept n (Write name sum copies prio body) h = (record { one = h.0.one
 fits_same p kept n (Free name) h = tt
 fits_same p kept n (Claim name pointer) h = tt
 
+-- as many pointers as the request has children
+pub record AreAll (children : ℕ → ℕ) (p : Pending) (pointers : List (Option Bp)) : Type 0 where
+  pub count : length pointers ≡ children p.request.number
+  pub slots : AllByRecursion HasSlot pointers
+
 filtered : {X : Type 0} (P : X → Type 0) (test : X → Bool) (xs : List X) → AllByRecursion P xs → AllByRecursion P (filter test xs)
 filtered P test xs h = all_filter P test xs (all_weaker P (λ x. test x ≡ true → P x) xs (λ x one is. one) h)
 
 module _ (journal : List Choice) (t : Terms) (children : ℕ → ℕ) (sizes : ℕ → ℕ) (pool : IsPool sizes t.setting.tops) (answers : Answers journal (sizes_of t.setting.tops) t.used t.round) where
-  -- as many pointers as the request has children
-  pub record AreAll (p : Pending) (pointers : List (Option Bp)) : Type 0 where
-    pub count : length pointers ≡ children p.request.number
-    pub slots : AllByRecursion HasSlot pointers
-
   -- each request in turn has those of its children
   abbrev pub PointersFit : ℕ → List Pending → List Return → Images → Type 0
   PointersFit attempt [] returns images = Unit {0}
   PointersFit attempt (p ∷ ps) returns images =
-      AreAll p (pointers_after p returns)
+      AreAll children p (pointers_after p returns)
       × PointersFit attempt ps ((attempt_one journal t attempt p returns images).return ∷ returns) (attempt_one journal t attempt p returns images).images
 
-  all_there : (p : Pending) (front left : List Pending) (returns : List Return) → Carried front left returns → count_by (is_child_of p) front + length p.kept ≡ children p.request.number → IsFitting children p → AreAll p (pointers_after p returns)
+  all_there : (p : Pending) (front left : List Pending) (returns : List Return) → Carried front left returns → count_by (is_child_of p) front + length p.kept ≡ children p.request.number → IsFitting children p → AreAll children p (pointers_after p returns)
   all_there p front left returns carried kids fitting =
       let mine : List Return = returned_to p returns in
       let cs : List Child = insert_children (children_of mine) p.kept in
@@ -168,7 +169,7 @@ module _ (journal : List Choice) (t : Terms) (children : ℕ → ℕ) (sizes : �
       → HandsOn p left (attempt_one journal t attempt p returns images)
   hands_on attempt p front left returns images carried kids fitting =
       let mine : List Return = returned_to p returns in
-      let all : AreAll p (pointers_after p returns) = all_there p front left returns carried kids fitting in
+      let all : AreAll children p (pointers_after p returns) = all_there p front left returns carried kids fitting in
       let own : Own = own_work journal t attempt p p.request.work (pointers_after p returns) images in
       let kept : List Child = insert_children (children_of (finished_of mine)) p.kept in
       let both : many (λ (r : Return). has_bits r.bits) mine + length (finished_of mine) ≡ length mine = length-filter_both (λ (r : Return). has_bits r.bits) (λ (r : Return). not (has_bits r.bits)) (λ r. refl) mine in
@@ -235,3 +236,35 @@ module _ (journal : List Choice) (t : Terms) (children : ℕ → ℕ) (sizes : �
   pub tree_kids : (attempt : ℕ) (ps : List Pending) (images : Images) → HaveChildren children [] ps → AllByRecursion (IsFitting children) ps → KidsOut attempt ps [] [] images
   tree_kids attempt ps images kids fitting =
       each_kids attempt ps [] [] [] images kids fitting (record { slots = tt; counts = λ n. refl; going = λ n. refl })
+
+  -- ---- all attempts of a round
+
+  -- what is left has its children in front, and fits
+  pub record LeftKids (ps : List Pending) : Type 0 where
+    pub kids : HaveChildren children [] ps
+    pub fitting : AllByRecursion (IsFitting children) ps
+
+  pub settle_kids : (more attempt : ℕ) (ps : List Pending) (images : Images) → LeftKids ps → LeftKids (settle_from more journal t attempt ps images).left
+  unfolding settle_from
+  settle_kids zero attempt ps images h = let out = tree_kids attempt ps images h.kids h.fitting in record { kids = out.kids; fitting = out.fitting }
+  settle_kids (suc more) attempt ps images h =
+      let a : Attempt = attempt_each journal t attempt ps [] images in
+      let out = tree_kids attempt ps images h.kids h.fitting in
+      let left : LeftKids a.again = record { kids = out.kids; fitting = out.fitting } in
+      if_kids (now_alone (root_bits a.returns)) a (settle_from more journal t (attempt + 1)) left (settle_kids more (attempt + 1) a.again a.images left)
+    where
+      if_kids : (b : Bool) (a : Attempt) (again : List Pending → Images → Settled) → LeftKids a.again → LeftKids (again a.again a.images).left → LeftKids (settled_if b a again).left
+      if_kids true a again one more = more
+      if_kids false a again one more = one
+
+  -- each tree of a round
+  pub round_kids : (trees : List (List Pending)) (images : Images) → AllByRecursion LeftKids trees → AllByRecursion LeftKids (settle_each journal t trees images).left
+  unfolding settle_each
+  round_kids [] images h = tt
+  round_kids (tree ∷ trees) images h =
+      let s : Settled = settle journal t tree images in
+      add_kids s.left (settle_each journal t trees s.images).left (settle_kids reexecutions_max 0 tree images h.0) (round_kids trees s.images h.1)
+    where
+      add_kids : (left : List Pending) (others : List (List Pending)) → LeftKids left → AllByRecursion LeftKids others → AllByRecursion LeftKids (add_left left others)
+      add_kids [] others one more = more
+      add_kids (p ∷ ps) others one more = (one, more)

@@ -63,7 +63,7 @@ block_named bound (Write name sum copies prio body) block tree h e = let no : No
 block_named bound (Free name) block tree h e = find_named bound name tree (sym h.is ∙ e)
 block_named bound (Claim name pointer) block tree h e = absurd h
 
-if_some : {X : Type 0} (o : Option X) (P : X → Type 0) → ((x : X) → o ≡ Some x → P x) → IfSome o P
+pub if_some : {X : Type 0} (o : Option X) (P : X → Type 0) → ((x : X) → o ≡ Some x → P x) → IfSome o P
 if_some None P f = tt
 if_some (Some x) P f = f x refl
 
@@ -114,13 +114,13 @@ module _ (journal : List Choice) (sizes : ℕ → ℕ) (ds : Deeds) (contents : 
   abbrev Safe : Binding → Type 0
   Safe b = IsSafeBlock s.terms.setting s.images ds (used_places s.bound) b.tree (contents b.name)
 
-  block_safe : (b : Binding) → Contains s.bound b → Safe b
+  pub block_safe : (b : Binding) → Contains s.bound b → Safe b
   block_safe b listed = all_contains Safe s.bound b h.safe.blocks listed
 
-  usable_in : (b : Binding) → Contains s.bound b → AllByRecursion (λ (c : Copies). AreUsable s.terms.setting c.len c.places) (copies_of b.tree)
+  pub usable_in : (b : Binding) → Contains s.bound b → AllByRecursion (λ (c : Copies). AreUsable s.terms.setting c.len c.places) (copies_of b.tree)
   usable_in b listed = sound_pieces s.terms.setting (used_places s.bound) b.tree (block_safe b listed).own
 
-  inside_in : (b : Binding) → Contains s.bound b → AllByRecursion (λ (c : Copies). AllInside s.terms.setting c.places) (copies_of b.tree)
+  pub inside_in : (b : Binding) → Contains s.bound b → AllByRecursion (λ (c : Copies). AllInside s.terms.setting c.places) (copies_of b.tree)
   inside_in b listed = all_weaker (λ (c : Copies). AreUsable s.terms.setting c.len c.places) (λ (c : Copies). AllInside s.terms.setting c.places) (copies_of b.tree) (λ c u. u.inside) (usable_in b listed)
 
   -- a request's block is bound
@@ -159,7 +159,14 @@ module _ (journal : List Choice) (sizes : ℕ → ℕ) (ds : Deeds) (contents : 
       (all_weaker (IsPlaced (sizes_of s.terms.setting.tops) s.terms.used) (λ (x : Place). AllByRecursion (λ (y : Place). meets x y ≡ false) ps) qs
       (λ x k. all_weaker (Contains s.terms.used) (λ (y : Place). meets x y ≡ false) ps (λ y c. all_contains (λ (z : Place). meets x z ≡ false) s.terms.used y k.0 c) used) placed))
 
-  bound_beside : (b : Binding) (c : Copies) (q : Pending) → Contains s.bound b → Contains (copies_of b.tree) c → Contains Q q → IsBeside journal s.terms c q
+  -- nor do they touch a bound block
+  pub bound_clear : (b : Binding) (c : Copies) (q : Pending) (places : List Place) → Contains s.bound b → Contains (copies_of b.tree) c → IsAt journal s.terms q [] places → NoneTouch c.places places
+  bound_clear b c q places lb lc at =
+      found_beside c.places places q at (all_contains (λ (x : Copies). AllInside s.terms.setting x.places) (copies_of b.tree) c (inside_in b lb) lc)
+      (all_weaker (Contains (tree_places b.tree)) (Contains s.terms.used) c.places
+      (λ p cp. subst (λ (used : List Place). Contains used p) (sym h.used) (flat_contains (λ (x : Binding). tree_places x.tree) s.bound b p lb cp)) (places_in_tree b.tree c lc))
+
+  pub bound_beside : (b : Binding) (c : Copies) (q : Pending) → Contains s.bound b → Contains (copies_of b.tree) c → Contains Q q → IsBeside journal s.terms c q
   bound_beside b c q lb lc lq = record {
     inside = if_some q.block _ (λ tree e.
         let k : IsNamed s.bound tree = block_of_request q tree lq e in
@@ -168,10 +175,7 @@ module _ (journal : List Choice) (sizes : ℕ → ℕ) (ds : Deeds) (contents : 
         let k : IsNamed s.bound tree = block_of_request q tree lq e in
         subst (λ (x : Tree). AllByRecursion (λ (d : Copies). NoneTouch c.places d.places ⊎ (d ≡ c)) (copies_of x)) k.is
         (all_of (λ (d : Copies). NoneTouch c.places d.places ⊎ (d ≡ c)) (copies_of k.binding.tree) (λ d ld. pieces_beside b k.binding c d lb k.listed lc ld)));
-    writes = λ places at.
-        found_beside c.places places q at (all_contains (λ (x : Copies). AllInside s.terms.setting x.places) (copies_of b.tree) c (inside_in b lb) lc)
-        (all_weaker (Contains (tree_places b.tree)) (Contains s.terms.used) c.places
-        (λ p cp. subst (λ (used : List Place). Contains used p) (sym h.used) (flat_contains (λ (x : Binding). tree_places x.tree) s.bound b p lb cp)) (places_in_tree b.tree c lc));
+    writes = λ places at. bound_clear b c q places lb lc at;
   }
 
   -- ---- it stays safe

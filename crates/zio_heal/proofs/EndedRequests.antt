@@ -107,7 +107,7 @@ module _ (journal : List Choice) (t : Terms) (Q : List Pending) (children : ℕ 
   module _ (sizes : ℕ → ℕ) (pool : IsPool sizes t.setting.tops) (answers : Answers journal (sizes_of t.setting.tops) t.used t.round) (claims : AllByRecursion (λ (p : Pending). IsNoClaim p.request.work) Q) where
     -- ---- one request
 
-    own_happens : (attempt : ℕ) (p : Pending) (pointers : List (Option Bp)) (images : Images) → Happen (means journal t) (own_ds attempt p pointers images) images (own_work journal t attempt p p.request.work pointers images).images
+    pub own_happens : (attempt : ℕ) (p : Pending) (pointers : List (Option Bp)) (images : Images) → Happen (means journal t) (own_ds attempt p pointers images) images (own_work journal t attempt p p.request.work pointers images).images
     own_happens attempt p pointers images =
         let gives : Gives (means journal t) (plan t) is_single_or_piece (own_ds attempt p pointers images) images (run (means journal t) (plan_own t attempt p p.request.work pointers) images).images _ =
         each_gives (means journal t) (plan t) is_single_or_piece (task_trace is_single_or_piece journal t) (down_gives (means journal t) (plan t) is_single_or_piece (plan_run journal t) levels_max) (plan_own t attempt p p.request.work pointers) images in

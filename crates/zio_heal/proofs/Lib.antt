@@ -6,6 +6,7 @@ pub mod CopyCasesProofs
 pub mod CopyLemmas
 pub mod DisciplineCasesProofs
 pub mod DisciplineLemmas
+pub mod EndedBlocks
 pub mod EndedRequests
 pub mod FaultLemmas
 pub mod FoundLemmas

@@ -1,5 +1,6 @@
 -- The blocks that are bound at a round's start stay safe through it.
 use Rattle.std.proofs.Common.{◌≡◌, ℕ, ◌+◌, List, [], ◌∷◌, ◌++◌, map, Bool, true, false, cond, find, bytes_eq, Option, Some, None, option_map, IfSome, IsSome, IsTrue, Contains, ◌⊎◌, inl, inr, ⊎_elim, refl, sym, ap, ◌∙◌, subst}
+use Rattle.std.proofs.lemmas.Slice.Eq.{bytes_eq-Decides}
 use Rattle.std.specs.List.{AllByRecursion}
 use Rattle.zio_types.specs.declared.place.Place.{Place}
 use Rattle.zio_types.specs.Choices.{Choice}
@@ -7,6 +8,7 @@ use Rattle.zio_types.specs.Places.{is_inside, meets}
 use Rattle.zio_blkptr.specs.Pointers.{places_of}
 use Rattle.zio_script.specs.declared.script.Work.{Work}
 use Rattle.zio_script.specs.declared.script.Work.TheVariants.{Null, Read, Write, Free, Claim}
+use Rattle.zio_cksum.specs.Images.{Images}
 use Rattle.zio_cksum.proofs.AllLemmas.{all_contains, all_true, all_weaker}
 use Rattle.zio_gang.specs.declared.tree.Tree.{Tree}
 use Rattle.zio_gang.specs.Attempts.{Pending, Terms}
@@ -14,11 +16,11 @@ use Rattle.zio_gang.specs.Pieces.{Piece, pieces_of}
 use Rattle.zio_gang.specs.Rounds.{Binding, Bound, block_of, is_of, settle_each, used_places}
 use Rattle.zio_gang.specs.Trees.{sizes_of, tree_places, tree_pointers}
 use Rattle.zio_trace.specs.BlockCopies.{Copies, copies_of}
-use Rattle.zio_trace.specs.Programs.{Deed}
+use Rattle.zio_trace.specs.Programs.{Deed, Happen}
 use Rattle.zio_trace.specs.RoundTraces.{Trace, is_single_or_piece, round_trace}
 use Rattle.zio_trace.specs.RunTraces.{RoundStart, in_round, trace_from}
 use Rattle.zio_trace.specs.Separate.{IsNoClaim, NoneMeet}
-use Rattle.zio_trace.specs.Tasks.{Task, Value}
+use Rattle.zio_trace.specs.Tasks.{Task, Value, means}
 use Rattle.zio_trace.proofs.BlockPieces.{CopiesApart as PiecesApart}
 use Rattle.zio_trace.proofs.ChoiceLemmas.{Answers, IsPlaced, MeetsNone, answers_in_round, chosen_placed}
 use Rattle.zio_trace.proofs.CopiesLemmas.{copies_follow}
@@ -28,7 +30,7 @@ use Rattle.zio_trace.proofs.PairLemmas.{all_of, flat_contains, pairs_two}
 use Rattle.zio_trace.proofs.SeparateLemmas.{pieces_among}
 use Rattle.zio_trace.proofs.SpotLemmas.{AllInside, NoneTouch, none_touch, touch_turned}
 use Rattle.zio_heal.specs.Contents.{EachPiece}
-use Rattle.zio_heal.specs.Given.{Deeds}
+use Rattle.zio_heal.specs.Given.{AreTrueReads, Deeds}
 use Rattle.zio_heal.specs.SafeBlocks.{BindingsApart, Contents, IsSafe, IsSafeBlock}
 use Rattle.zio_heal.specs.SafeRounds.{HasNamed, HaveChildren, IsReady, IsSafeStart, NamesWell, deeds_in, requests_in}
 use Rattle.zio_heal.proofs.EndedRequests.{AreBy, IsBy, IsFrom}
@@ -48,19 +50,27 @@ pub record IsNamed (bound : Bound) (tree : Tree) : Type 0 where
   pub listed : Contains bound binding
   pub is : binding.tree ≡ tree
 
-named_step : (found : Bool) (b : Binding) (bound : Bound) (name : List ℕ) (tree : Tree) → option_map (λ (x : Binding). x.tree) (cond found (Some b) (find (is_of name) bound)) ≡ Some tree → (block_of bound name ≡ Some tree → IsNamed bound tree) → IsNamed (b ∷ bound) tree
-named_step true b bound name tree e rest = record { binding = b; listed = contains_first b bound; is = cc }
-named_step false b bound name tree e rest = let k : IsNamed bound tree = rest e in record { binding = k.binding; listed = contains_later b bound k.binding k.listed; is = k.is }
+-- one of the bindings is of the name, and has the block
+pub record IsBinding (bound : Bound) (name : List ℕ) (tree : Tree) : Type 0 where
+  pub named : IsNamed bound tree
+  pub name_is : named.binding.name ≡ name
 
-pub find_named : (bound : Bound) (name : List ℕ) (tree : Tree) → block_of bound name ≡ Some tree → IsNamed bound tree
-find_named [] name tree e = absurd (cc)
-find_named (b ∷ bound) name tree e = named_step (is_of name b) b bound name tree e (find_named bound name tree)
+binding_step : (found : Bool) (b : Binding) (bound : Bound) (name : List ℕ) (tree : Tree) → is_of name b ≡ found → option_map (λ (x : Binding). x.tree) (cond found (Some b) (find (is_of name) bound)) ≡ Some tree
+    → (block_of bound name ≡ Some tree → IsBinding bound name tree) → IsBinding (b ∷ bound) name tree
+binding_step true b bound name tree is e rest = record { named = record { binding = b; listed = contains_first b bound; is = cc }; name_is = (bytes_eq-Decides b.name name).0 is }
+binding_step false b bound name tree is e rest =
+    let k : IsBinding bound name tree = rest e in
+    record { named = record { binding = k.named.binding; listed = contains_later b bound k.named.binding k.named.listed; is = k.named.is }; name_is = k.name_is }
+
+pub find_binding : (bound : Bound) (name : List ℕ) (tree : Tree) → block_of bound name ≡ Some tree → IsBinding bound name tree
+find_binding [] name tree e = absurd (cc)
+find_binding (b ∷ bound) name tree e = binding_step (is_of name b) b bound name tree refl e (find_binding bound name tree)
 
 pub block_named : (bound : Bound) (work : Work) (block : Option Tree) (tree : Tree) → NamesWell bound work block → block ≡ Some tree → IsNamed bound tree
 block_named bound Null block tree h e = let no : None ≡ Some tree = sym h ∙ e in absurd (cc)
-block_named bound (Read name prio) block tree h e = find_named bound name tree (sym h.is ∙ e)
+block_named bound (Read name prio) block tree h e = (find_binding bound name tree (sym h.is ∙ e)).named
 block_named bound (Write name sum copies prio body) block tree h e = let no : None ≡ Some tree = sym h.0 ∙ e in absurd (cc)
-block_named bound (Free name) block tree h e = find_named bound name tree (sym h.is ∙ e)
+block_named bound (Free name) block tree h e = (find_binding bound name tree (sym h.is ∙ e)).named
 block_named bound (Claim name pointer) block tree h e = absurd h
 
 pub if_some : {X : Type 0} (o : Option X) (P : X → Type 0) → ((x : X) → o ≡ Some x → P x) → IfSome o P
@@ -189,18 +199,24 @@ module _ (journal : List Choice) (sizes : ℕ → ℕ) (ds : Deeds) (contents : 
       all_weaker (IsBy journal s.terms Q children N) (λ (d : Deed Task Value). Passes s.terms.setting c d.op d.answer) es
       (λ d k. one_passes journal s.terms sizes h.pool answers c k.by d.op d.answer (beside k.by k.listed k.number) k.of) by
 
-  piece_stays : (b : Binding) (c : Copies) (bytes : List ℕ) → Contains s.bound b → Contains (copies_of b.tree) c → IsSafe s.terms.setting s.images ds c bytes → IsSafe s.terms.setting (settle_each journal s.terms s.trees s.images).images (ds ++ deeds_in journal s) c bytes
-  piece_stays b c bytes lb lc safe =
+  -- a piece of a bound block, behind some first deeds of the round
+  piece_at : (es : Trace) (now : Images) → AreBy journal s.terms Q children (λ n. Unit {0}) es → AreTrueReads ds (map (in_round s.terms) es) → Happen (means journal s.terms) es s.images now
+      → (b : Binding) (c : Copies) (bytes : List ℕ) → Contains s.bound b → Contains (copies_of b.tree) c → IsSafe s.terms.setting s.images ds c bytes → IsSafe s.terms.setting now (ds ++ map (in_round s.terms) es) c bytes
+  piece_at es now by true_ happen b c bytes lb lc safe =
       let usable : AreUsable s.terms.setting c.len c.places = all_contains (λ (x : Copies). AreUsable s.terms.setting x.len x.places) (copies_of b.tree) c (usable_in b lb) lc in
-      let still : IsStill journal s.terms sizes h.pool c bytes usable (ds ++ map (in_round s.terms) trace) (settle_each journal s.terms s.trees s.images).images =
-      all_still journal s.terms sizes h.pool c bytes usable h.stores trace ds s.images (settle_each journal s.terms s.trees s.images).images
-      (pass_all c (λ n. Unit {0}) trace (λ q lq any. bound_beside b c q lb lc lq) by_all) h.accepts tells.happen (record { sizes_are = h.sizes_are; safe = safe }) in
+      let still : IsStill journal s.terms sizes h.pool c bytes usable (ds ++ map (in_round s.terms) es) now =
+      all_still journal s.terms sizes h.pool c bytes usable h.stores es ds s.images now
+      (pass_all c (λ n. Unit {0}) es (λ q lq any. bound_beside b c q lb lc lq) by) true_ happen (record { sizes_are = h.sizes_are; safe = safe }) in
       still.safe
+
+  pub block_at : (es : Trace) (now : Images) → AreBy journal s.terms Q children (λ n. Unit {0}) es → AreTrueReads ds (map (in_round s.terms) es) → Happen (means journal s.terms) es s.images now
+      → (b : Binding) → Contains s.bound b → EachPiece (IsSafe s.terms.setting now (ds ++ map (in_round s.terms) es)) b.tree (contents b.name)
+  block_at es now by true_ happen b lb =
+      each_weaker (λ (c : Copies) (bytes : List ℕ). IsSafe s.terms.setting s.images ds c bytes × Contains (copies_of b.tree) c)
+      (IsSafe s.terms.setting now (ds ++ map (in_round s.terms) es))
+      (λ c bytes k. piece_at es now by true_ happen b c bytes lb k.1 k.0) b.tree (contents b.name)
+      (each_with (IsSafe s.terms.setting s.images ds) (Contains (copies_of b.tree)) b.tree (contents b.name) (all_of (Contains (copies_of b.tree)) (copies_of b.tree) (λ c k. k)) (block_safe b lb).pieces)
 
   -- Each bound block is safe after the round, with its content.
   pub block_stays : (b : Binding) → Contains s.bound b → EachPiece (IsSafe s.terms.setting (settle_each journal s.terms s.trees s.images).images (ds ++ deeds_in journal s)) b.tree (contents b.name)
-  block_stays b lb =
-      each_weaker (λ (c : Copies) (bytes : List ℕ). IsSafe s.terms.setting s.images ds c bytes × Contains (copies_of b.tree) c)
-      (IsSafe s.terms.setting (settle_each journal s.terms s.trees s.images).images (ds ++ deeds_in journal s))
-      (λ c bytes k. piece_stays b c bytes lb k.1 k.0) b.tree (contents b.name)
-      (each_with (IsSafe s.terms.setting s.images ds) (Contains (copies_of b.tree)) b.tree (contents b.name) (all_of (Contains (copies_of b.tree)) (copies_of b.tree) (λ c k. k)) (block_safe b lb).pieces)
+  block_stays b lb = block_at trace (settle_each journal s.terms s.trees s.images).images by_all h.accepts tells.happen b lb

@@ -64,7 +64,7 @@ happen_same : (journal : List Choice) (t : Terms) (es : Trace) (start a b : Imag
 happen_same journal t [] start a b h k = sym h ∙ k
 happen_same journal t (d ∷ es) start a b h k = happen_same journal t es (means journal t d.op start).images a b h.1 k.1
 
-some_of : {X : Type 0} (o : Option X) → IsSome o → (x : X) × (o ≡ Some x)
+pub some_of : {X : Type 0} (o : Option X) → IsSome o → (x : X) × (o ≡ Some x)
 some_of (Some x) h = (x, refl)
 some_of None h = absurd (cc)
 
@@ -131,10 +131,10 @@ module _ (journal : List Choice) (sizes : ℕ → ℕ) (ds : Deeds) (contents : 
     abbrev pub front_ds : Deeds
     front_ds = map (in_round s.terms) ends.front
 
-    abbrev own_trace_ : Trace
+    abbrev pub own_trace_ : Trace
     own_trace_ = own_trace is_single_or_piece journal s.terms ends.attempt ends.p ends.pointers ends.images
 
-    abbrev own_deeds : Deeds
+    abbrev pub own_deeds : Deeds
     own_deeds = map (in_round s.terms) own_trace_
 
     abbrev rest_ds : Deeds

@@ -7,6 +7,7 @@ pub mod CopyLemmas
 pub mod DisciplineCasesProofs
 pub mod DisciplineLemmas
 pub mod EndedBlocks
+pub mod EndedReads
 pub mod EndedRequests
 pub mod FaultLemmas
 pub mod FoundLemmas

@@ -24,7 +24,7 @@ use Rattle.zio_trace.proofs.PairLemmas.{all_of, pairs_append}
 use Rattle.zio_trace.proofs.RequestLemmas.{own_run, plan_run}
 use Rattle.zio_trace.proofs.TraceLemmas.{happen_join}
 use Rattle.zio_heal.specs.Pools.{IsPool}
-use Rattle.zio_heal.specs.SafeRounds.{NumbersDiffer}
+use Rattle.zio_heal.specs.SafeRounds.{EndsDiffer, NumbersDiffer}
 use Rattle.zio_heal.proofs.KidsLemmas.{AreAll, LeftKids, PointersFit, tree_kids}
 use Rattle.zio_heal.proofs.OwnTraces.{AreOf, OfRequest, of_same, own_of}
 use Rattle.zio_heal.proofs.WrittenLemmas.{both_none}
@@ -132,6 +132,7 @@ module _ (journal : List Choice) (t : Terms) (Q : List Pending) (children : ℕ 
       again : (P : Pending → Type 0) → IsStable P → P p → AllByRecursion P one.again
       either : AllByRecursion (λ (e : Ended). one.again ≡ []) one.ended
       single : Pairs NumbersDiffer one.again
+      distinct : Pairs EndsDiffer one.ended
       happen : Happen (means journal t) ds start one.images
 
     closed_tells : (b : Bool) (attempt : ℕ) (p : Pending) (pointers : List (Option Bp)) (images : Images) (bits : Bits) (kept : List Child) → IsFrom Q p → AreAll children p pointers
@@ -142,6 +143,7 @@ module _ (journal : List Choice) (t : Terms) (Q : List Pending) (children : ℕ 
       again = λ P stable h. (stable p kept h, tt);
       either = tt;
       single = (tt, tt);
+      distinct = tt;
       happen = own_happens attempt p pointers images;
     }
     closed_tells false attempt p pointers images bits kept from all =
@@ -172,6 +174,7 @@ module _ (journal : List Choice) (t : Terms) (Q : List Pending) (children : ℕ 
           again = λ P stable h. tt;
           either = (refl, tt);
           single = tt;
+          distinct = (tt, tt);
           happen = own_happens attempt p pointers images;
         }
 
@@ -196,6 +199,7 @@ module _ (journal : List Choice) (t : Terms) (Q : List Pending) (children : ℕ 
       pub again : (P : Pending → Type 0) → IsStable P → AllByRecursion P ps → AllByRecursion P left
       pub apart : AllByRecursion (λ (e : Ended). AllByRecursion (λ (q : Pending). q.request.number ≢ e.request.number) left) ended
       pub pairs : Pairs NumbersDiffer left
+      pub distinct : Pairs EndsDiffer ended
       pub happen : Happen (means journal t) ds start after
 
     pub number_stable : (N : ℕ → Type 0) → IsStable (λ (p : Pending). N p.request.number)
@@ -211,7 +215,7 @@ module _ (journal : List Choice) (t : Terms) (Q : List Pending) (children : ℕ 
     each_tells : (attempt : ℕ) (ps : List Pending) (returns : List Return) (images : Images) → AllByRecursion (IsFrom Q) ps → Pairs NumbersDiffer ps → PointersFit journal t children sizes pool answers attempt ps returns images
         → Tells images (attempt_trace is_single_or_piece journal t attempt ps returns images) ps (attempt_each journal t attempt ps returns images).ended (attempt_each journal t attempt ps returns images).again (attempt_each journal t attempt ps returns images).images
     unfolding attempt_each
-    each_tells attempt [] returns images from pairs fit = record { all = tt; numbers = λ N h. tt; again = λ P stable h. tt; apart = tt; pairs = tt; happen = refl }
+    each_tells attempt [] returns images from pairs fit = record { all = tt; numbers = λ N h. tt; again = λ P stable h. tt; apart = tt; pairs = tt; distinct = tt; happen = refl }
     each_tells attempt (p ∷ ps) returns images from pairs fit =
         let one : Attempted = attempt_one journal t attempt p returns images in
         let own : Trace = own_ds attempt p (pointers_after p returns) images in
@@ -252,6 +256,10 @@ module _ (journal : List Choice) (t : Terms) (Q : List Pending) (children : ℕ 
               all_contains (λ (q : Pending). x.request.number ≢ q.request.number) a.again y
               (all_contains (λ (q : Pending). AllByRecursion (λ (z : Pending). q.request.number ≢ z.request.number) a.again) one.again x
               (first.again (λ (q : Pending). AllByRecursion (λ (z : Pending). q.request.number ≢ z.request.number) a.again) (λ q kept h. h) again_others) cx) cy);
+          distinct = pairs_append EndsDiffer one.ended a.ended first.distinct rest.distinct
+              (λ x y cx cy same.
+              all_contains (λ (e : Ended). p.request.number ≢ e.request.number) a.ended y (rest.numbers (λ (n : ℕ). p.request.number ≢ n) pairs.0) cy
+              (sym (all_contains (λ (e : Ended). e.request.number ≡ p.request.number) one.ended x first.number cx) ∙ same));
           happen = happen_join (means journal t) own more images one.images a.images first.happen rest.happen;
         }
 
@@ -296,6 +304,10 @@ module _ (journal : List Choice) (t : Terms) (Q : List Pending) (children : ℕ 
               (λ e h. later.again (λ (q : Pending). q.request.number ≢ e.request.number) (λ q kept k. k) h) first.apart)
               later.apart;
           pairs = later.pairs;
+          distinct = pairs_append EndsDiffer a.ended s.ended first.distinct later.distinct
+              (λ x y cx cy same.
+              all_contains (λ (e : Ended). e.request.number ≢ x.request.number) s.ended y
+              (later.numbers (λ (n : ℕ). n ≢ x.request.number) (all_contains (λ (e : Ended). AllByRecursion (λ (q : Pending). q.request.number ≢ e.request.number) a.again) a.ended x first.apart cx)) cy (sym same));
           happen = happen_join (means journal t) ds more images a.images s.images first.happen later.happen;
         }
 

@@ -17,7 +17,7 @@ use Rattle.zio_trace.proofs.ListLemmas.{all_front, all_rest}
 use Rattle.zio_trace.proofs.PairLemmas.{all_of, pairs_across, pairs_append, pairs_front, pairs_rest}
 use Rattle.zio_trace.proofs.TraceLemmas.{happen_join}
 use Rattle.zio_heal.specs.Pools.{IsPool}
-use Rattle.zio_heal.specs.SafeRounds.{NumbersDiffer, requests_in}
+use Rattle.zio_heal.specs.SafeRounds.{EndsDiffer, NumbersDiffer, requests_in}
 use Rattle.zio_heal.proofs.EndedRequests.{AreBy, EndsIn, IsBy, IsFrom, IsStable, Tells, ends_more, number_stable, settle_by, settle_tells}
 use Rattle.zio_heal.proofs.KidsLemmas.{LeftKids}
 
@@ -33,6 +33,7 @@ module _ (journal : List Choice) (t : Terms) (Q : List Pending) (children : ℕ 
     pub again : (P : Pending → Type 0) → IsStable P → AllByRecursion P (requests_in trees) → AllByRecursion P (requests_in left)
     pub apart : AllByRecursion (λ (e : Ended). AllByRecursion (λ (q : Pending). q.request.number ≢ e.request.number) (requests_in left)) ended
     pub pairs : Pairs NumbersDiffer (requests_in left)
+    pub distinct : Pairs EndsDiffer ended
     pub happen : Happen (means journal t) ds start after
 
   -- the deeds of the trees are of their requests
@@ -49,7 +50,7 @@ module _ (journal : List Choice) (t : Terms) (Q : List Pending) (children : ℕ 
   pub round_tells : (trees : List (List Pending)) (images : Images) → AllByRecursion (IsFrom Q) (requests_in trees) → Pairs NumbersDiffer (requests_in trees) → AllByRecursion (LeftKids journal t children sizes pool answers) trees
       → RoundTells images (round_trace is_single_or_piece journal t trees images) trees (settle_each journal t trees images).ended (settle_each journal t trees images).left (settle_each journal t trees images).images
   unfolding settle_each
-  round_tells [] images from pairs kids = record { all = tt; numbers = λ N h. tt; again = λ P stable h. tt; apart = tt; pairs = tt; happen = refl }
+  round_tells [] images from pairs kids = record { all = tt; numbers = λ N h. tt; again = λ P stable h. tt; apart = tt; pairs = tt; distinct = tt; happen = refl }
   round_tells (tree ∷ trees) images from pairs kids =
       let rest : List Pending = requests_in trees in
       let s : Settled = settle journal t tree images in
@@ -104,5 +105,9 @@ module _ (journal : List Choice) (t : Terms) (Q : List Pending) (children : ℕ 
             (all_of (λ (x : Pending). AllByRecursion (λ (y : Pending). x.request.number ≢ y.request.number) (requests_in ran.left)) tree
             (λ x cx. later.again (λ (y : Pending). x.request.number ≢ y.request.number) (λ y kept h. h)
             (all_contains (λ (z : Pending). AllByRecursion (λ (y : Pending). z.request.number ≢ y.request.number) rest) tree x across cx)))) cp) cq));
+        distinct = pairs_append EndsDiffer s.ended ran.ended first.distinct later.distinct
+            (λ x y cx cy.
+            all_contains (λ (e : Ended). x.request.number ≢ e.request.number) ran.ended y
+            (later.numbers (λ (n : ℕ). x.request.number ≢ n) (all_contains (λ (e : Ended). AllByRecursion (λ (q : Pending). e.request.number ≢ q.request.number) rest) s.ended x ended_across cx)) cy);
         happen = happen_join (means journal t) ds es images s.images ran.images first.happen later.happen;
       }

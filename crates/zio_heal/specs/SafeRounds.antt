@@ -84,6 +84,9 @@ NamesApart p q =
 abbrev pub NumbersDiffer : Pending → Pending → Type 0
 NumbersDiffer p q = p.request.number ≢ q.request.number
 
+abbrev pub EndsDiffer : Ended → Ended → Type 0
+EndsDiffer e f = e.request.number ≢ f.request.number
+
 -- Trees of requests that may run, each behind its children, with numbers and names of their own.
 pub record AreReady (bound : Bound) (children : ℕ → ℕ) (trees : List (List Pending)) : Type 0 where
   pub each : AllByRecursion (IsReady bound children) (requests_in trees)
@@ -133,8 +136,7 @@ pub record EndsWell (contents : Contents) (children : ℕ → ℕ) (e : Ended) :
   pub answered : EndsAs contents children e e.request.work
 
 -- The round leaves bound blocks that are safe, with contents that differ from those before only in names that had none,
--- and requests that may run again; what ended was answered well. Where no row is met any more and no sector was refused,
--- nothing is left.
+-- and requests that may run again; what ended was answered well.
 pub record IsSafeEnd (journal : List Choice) (sizes : ℕ → ℕ) (ds : Deeds) (contents : Contents) (children : ℕ → ℕ) (s : RoundStart) : Type 0 where
   pub after : Contents
   pub sizes_are : HaveSizes sizes (settle_each journal s.terms s.trees s.images).images
@@ -144,11 +146,11 @@ pub record IsSafeEnd (journal : List Choice) (sizes : ℕ → ℕ) (ds : Deeds) 
   pub ended : AllByRecursion (EndsWell after children) (settle_each journal s.terms s.trees s.images).ended
   pub ready : AreReady (bound_after (settle_each journal s.terms s.trees s.images).ended s.bound) children
       (settle_each journal s.terms s.trees s.images).left
-  pub clean : IsPastFaults s.terms.setting → NoSmallRefused journal → (settle_each journal s.terms s.trees s.images).left ≡ []
 
--- A round that starts safely ends so.
+-- Where no row is met any more and no sector is refused, a round that starts safely leaves nothing.
 -- Rule: healing faults.
-abbrev pub RoundsStaySafe : Type 0
-RoundsStaySafe =
+abbrev pub CleanRoundsLeaveNothing : Type 0
+CleanRoundsLeaveNothing =
     (journal : List Choice) (sizes : ℕ → ℕ) (ds : Deeds) (contents : Contents) (children : ℕ → ℕ) (s : RoundStart) →
-    IsSafeStart journal sizes ds contents children s → IsSafeEnd journal sizes ds contents children s
+    IsSafeStart journal sizes ds contents children s → IsPastFaults s.terms.setting → NoSmallRefused journal →
+    (settle_each journal s.terms s.trees s.images).left ≡ []

@@ -1,3 +1,4 @@
+pub mod AfterContents
 pub mod AlikeCasesProofs
 pub mod BodyParts
 pub mod BoundBlocks

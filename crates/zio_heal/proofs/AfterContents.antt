@@ -201,3 +201,36 @@ module _ (journal : List Choice) (sizes : ℕ → ℕ) (ds : Deeds) (contents : 
   -- Whatever ended was answered by the contents after the round.
   pub ended_well : AllByRecursion (EndsWell after children) (settle_each journal s.terms s.trees s.images).ended
   ended_well = all_answered (settle_each journal s.terms s.trees s.images).ended all_ends no_errors.0 (tells journal sizes ds contents children s h).distinct
+
+  -- ---- what each name has
+
+  -- the request with its own work in the round, and what these contents have of it
+  pub record IsTold (now : Contents) (e : Ended) : Type 0 where
+    pub ends : Ended_ e
+    pub none : e.error ≡ None
+    pub is : (name : List ℕ) (sum : SumKind) (copies : ℕ) (prio : Prio) (body : Body) → e.request.work ≡ Write name sum copies prio body → now name ≡ content_of ends.pointers (body_of body)
+
+  told_of : (es : List Ended) (all : AllByRecursion Ended_ es) → EndWithoutError es → Pairs EndsDiffer es → AllByRecursion (IsTold (after_of es all)) es
+  told_of [] all none distinct = tt
+  told_of (e ∷ es) all none distinct = (
+    record {
+      ends = all.0;
+      none = none.0;
+      is = λ name sum copies prio body is.
+          ap (λ (w : Work). content_by w all.0.pointers name (after_of es all.1 name)) is
+          ∙ ap (λ (b : Bool). cond b (content_of all.0.pointers (body_of body)) (after_of es all.1 name)) ((bytes_eq-Decides name name).1 refl);
+    },
+    all_lists (IsTold (after_of es all.1)) (EndsDiffer e) (IsTold (after_of (e ∷ es) all)) es
+        (λ f k ne. record {
+          ends = k.ends;
+          none = k.none;
+          is = λ name sum copies prio body is.
+              content_elsewhere e.request.work all.0.pointers name (after_of es all.1 name)
+              (λ n sm cp p bd we. apart_names e.request.work f.request.work n name (two_apart e f all.0 k.ends ne) (λ r. subst IsRead we r) (ap name_of we) (ap name_of is))
+              ∙ k.is name sum copies prio body is;
+        })
+        (told_of es all.1 none.1 distinct.1) distinct.0,
+  )
+
+  pub all_told : AllByRecursion (IsTold after) (settle_each journal s.terms s.trees s.images).ended
+  all_told = told_of (settle_each journal s.terms s.trees s.images).ended all_ends no_errors.0 (tells journal sizes ds contents children s h).distinct

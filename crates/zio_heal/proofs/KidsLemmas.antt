@@ -99,7 +99,7 @@ pub record AreAll (children : ℕ → ℕ) (p : Pending) (pointers : List (Optio
   pub count : length pointers ≡ children p.request.number
   pub slots : AllByRecursion HasSlot pointers
 
-filtered : {X : Type 0} (P : X → Type 0) (test : X → Bool) (xs : List X) → AllByRecursion P xs → AllByRecursion P (filter test xs)
+pub filtered : {X : Type 0} (P : X → Type 0) (test : X → Bool) (xs : List X) → AllByRecursion P xs → AllByRecursion P (filter test xs)
 filtered P test xs h = all_filter P test xs (all_weaker P (λ x. test x ≡ true → P x) xs (λ x one is. one) h)
 
 module _ (journal : List Choice) (t : Terms) (children : ℕ → ℕ) (sizes : ℕ → ℕ) (pool : IsPool sizes t.setting.tops) (answers : Answers journal (sizes_of t.setting.tops) t.used t.round) where

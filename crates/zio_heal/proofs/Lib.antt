@@ -1,6 +1,7 @@
 pub mod AfterContents
 pub mod AlikeCasesProofs
 pub mod BodyParts
+pub mod BoundAfter
 pub mod BoundBlocks
 pub mod ContentCasesProofs
 pub mod CopyCasesProofs

@@ -73,7 +73,7 @@ tree_law journal t attempt p name sum_kind copies prio body pointers images none
     some_tree placed.pointer placed (pointer_law path_steps_max journal (writing_of t attempt p sum_kind copies) [] content images none)
 
 -- places of which no two touch don't meet
-dont_false : (p q : Place) → DontMeet p q → meets p q ≡ false
+pub dont_false : (p q : Place) → DontMeet p q → meets p q ≡ false
 dont_false p q h =
     ⊎_elim
     (λ (yes : meets p q ≡ true).

@@ -31,6 +31,7 @@ pub mod PointerLemmas
 pub mod PoolCasesProofs
 pub mod ReadTraces
 pub mod ReadsInTurn
+pub mod ReadyAfter
 pub mod RepairLemmas
 pub mod RoundTells
 pub mod RunLemmas

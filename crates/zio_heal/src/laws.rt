@@ -35,6 +35,8 @@ ghost use Rattle.zio_heal.specs.Discipline.{AreUnfailing, EndWithoutError, IsUnf
 ghost use Rattle.zio_heal.specs.Given.{Deeds, IsTrueRead};
 ghost use Rattle.zio_heal.specs.Healed.{IsHealed, IsHealedRequest};
 ghost use Rattle.zio_heal.specs.Pools.{IsBlockSize, IsPool, IsWriting};
+ghost use Rattle.zio_heal.specs.SafeBlocks.{Contents};
+ghost use Rattle.zio_heal.specs.SafeRounds.{IsSafeEnd, IsSafeStart};
 ghost use Rattle.zio_heal.specs.Spared.{LieOn, SparesBy};
 ghost use Rattle.zio_heal.specs.Whole.{AreWhole};
 
@@ -214,4 +216,12 @@ pub fn blocks_are_read_as_their_content()
     ensures free { (s : Setting) (sizes : ℕ → ℕ) (used : List Place) (tree : Tree) (content : List ℕ) (images : Images) →
         IsPool sizes s.tops → IsPastFaults s → IsOwnBlock (sizes_of s.tops) used tree → HaveSizes sizes images →
         EachPiece (IsHeld s images) tree content → (free_tree s tree images).error ≡ None }
+{}
+
+/// A round over bound blocks that are safe, of requests that may not fail, leaves bound blocks that are safe: each that
+/// stays, and that of each write that ended. Each read gave the content of its name, and what is left may run again.
+pub fn rounds_end_as_safely_as_they_start()
+    ensures { (journal : List Choice) (sizes : ℕ → ℕ) (ds : Deeds) (contents : Contents) (children : ℕ → ℕ)
+        (s : RoundStart) →
+        IsSafeStart journal sizes ds contents children s → IsSafeEnd journal sizes ds contents children s }
 {}

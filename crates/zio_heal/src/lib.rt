@@ -21,5 +21,5 @@ pub use laws::{
     copies_last_where_they_are_spared, copies_stay_while_others_change,
     healed_scripts_keep_their_discipline, pieces_written_have_a_copy_in_each_place,
     placed_writes_have_their_pieces, requests_that_may_not_fail_end_without_error,
-    writes_without_error_are_whole,
+    rounds_end_as_safely_as_they_start, writes_without_error_are_whole,
 };

@@ -3,6 +3,7 @@ pub mod AlikeCasesProofs
 pub mod BodyParts
 pub mod BoundAfter
 pub mod BoundBlocks
+pub mod CleanPieces
 pub mod ContentCasesProofs
 pub mod CopyCasesProofs
 pub mod CopyLemmas

@@ -2,7 +2,7 @@
 use Rattle.std.proofs.Common.{◌≡◌, ◌≢◌, ℕ, zero, suc, ◌≤◌, ◌%◌, List, [], ◌∷◌, true, false, refl, arith}
 use Rattle.zio_trace.specs.Separate.{LeavesHold, LeavesOnce}
 use Rattle.zio_trace.specs.SoundRounds.{LeavesDiffer}
-use Rattle.zio_heal.specs.PoolCases.{FoundIsFine, FourArent, HalfASectorIsnt, LargeMayBeRefused, LeafTwiceIsnt, MirrorIsAPool, NoBirthIsnt, NoneIsnt, NothingIsnt, OddUnitIsnt, OneSectorIsASize, SharedLeafIsnt, ShortLeafIsnt, SmallMayNot, ThreeCopiesAreWritten, TooLargeIsnt, top_of}
+use Rattle.zio_heal.specs.PoolCases.{FoundIsFine, FourArent, HalfASectorIsnt, LargeMayBeRefused, LeafTwiceIsnt, MirrorIsAPool, NoBirthIsnt, NoLeafIsnt, NoneIsnt, NothingIsnt, OddUnitIsnt, OneSectorIsASize, SharedLeafIsnt, ShortLeafIsnt, SmallMayNot, ThreeCopiesAreWritten, TooLargeIsnt, top_of}
 
 one_top : LeavesOnce (top_of 2 (0 ∷ 1 ∷ []) ∷ [])
 one_top zero zero ne = absurd (ne refl)
@@ -18,7 +18,7 @@ hold zero = (omega arith, (omega arith, tt))
 hold (suc i) = tt
 
 pub mirror_is_a_pool : MirrorIsAPool
-mirror_is_a_pool = record { once = one_top; twice = leaves_differ; hold = hold; few = omega arith; lawful = (refl, tt); short = (omega arith, tt) }
+mirror_is_a_pool = record { once = one_top; twice = leaves_differ; hold = hold; few = omega arith; lawful = (refl, tt); short = (omega arith, tt); mirrored = (omega arith, tt) }
 
 pub shared_leaf_isnt : SharedLeafIsnt
 shared_leaf_isnt h = (h.once 0 1 (λ e. absurd (cc))).0.0 refl
@@ -31,6 +31,9 @@ short_leaf_isnt h = let l : 1536 ≤ 1024 = (h.hold 0).0 in absurd (omega arith)
 
 pub odd_unit_isnt : OddUnitIsnt
 odd_unit_isnt h = let e : false ≡ true = h.lawful.0 in absurd (cc)
+
+pub no_leaf_isnt : NoLeafIsnt
+no_leaf_isnt h = let l : 1 ≤ 0 = h.mirrored.0 in absurd (omega arith)
 
 pub one_sector_is_a_size : OneSectorIsASize
 one_sector_is_a_size = record { some = omega arith; whole = refl; most = omega arith }

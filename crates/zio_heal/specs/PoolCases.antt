@@ -36,6 +36,10 @@ ShortLeafIsnt = is_pool (record { leaves = 0 ∷ []; sectors = 3; unit = 1 } ∷
 abbrev pub OddUnitIsnt : Type 0
 OddUnitIsnt = is_pool (top_of 3 (0 ∷ []) ∷ []) → ⊥
 
+-- a top has a leaf
+abbrev pub NoLeafIsnt : Type 0
+NoLeafIsnt = is_pool (top_of 1 [] ∷ []) → ⊥
+
 -- ---- sizes and writes
 
 abbrev pub OneSectorIsASize : Type 0

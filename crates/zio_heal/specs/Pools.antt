@@ -11,8 +11,8 @@ use Rattle.zio_gang.specs.Trees.{size_of}
 use Rattle.zio_trace.specs.Separate.{LeavesHold, LeavesOnce}
 use Rattle.zio_trace.specs.SoundRounds.{LeavesDiffer}
 
--- The tops of a pool over leaves of these sizes: no leaf stands twice, each has its top's sectors, and every place on
--- them can stand in a pointer.
+-- The tops of a pool over leaves of these sizes: each has a leaf, no leaf stands twice, each has its top's sectors, and
+-- every place on them can stand in a pointer.
 pub record IsPool (sizes : ℕ → ℕ) (tops : List Top) : Type 0 where
   pub once : LeavesOnce tops
   pub twice : LeavesDiffer tops
@@ -20,6 +20,7 @@ pub record IsPool (sizes : ℕ → ℕ) (tops : List Top) : Type 0 where
   pub few : length tops ≤ TOP_END
   pub lawful : AllByRecursion (λ (top : Top). IsTrue (is_lawful_top (size_of top))) tops
   pub short : AllByRecursion (λ (top : Top). top.sectors ≤ SECTOR_END) tops
+  pub mirrored : AllByRecursion (λ (top : Top). 1 ≤ length top.leaves) tops
 
 -- how many bytes a block has: whole sectors, one at least, and no more than the largest
 pub record IsBlockSize (n : ℕ) : Type 0 where

@@ -4,7 +4,7 @@ ghost use Rattle.zio_heal.specs.CopyCases.{FailedReadSpares, FailedWritesStoreNo
 ghost use Rattle.zio_heal.specs.DisciplineCases.{BadChildIsnt, ClaimMayFail, FlaggedReadMay, GoodChildIsKept, ReadMayNotFail};
 ghost use Rattle.zio_heal.specs.GivenCases.{AllPlacesCount, BytesOfNobodyArent, ErrorsAreTrue, GivenBytesAreTrue, HeadersAreCompared, LastReadsCount, LastWriteCounts, NobodyReadIt, NothingWasGiven, OtherBytesArent, RunAcceptsWhatWasGiven};
 ghost use Rattle.zio_heal.specs.HealedCases.{ClaimsMayFail, ClearIsNotLast, NoClearAtAll, NoRowsHeal, NoSumNoDamage, OneClearTooFew, OthersGoOn, PanicsEnd, ReadMayFail, ReadsMayBeTurned, TurnedByAnyStay, TurnedWritesStay, TwoClearsHeal, WriteHeals};
-ghost use Rattle.zio_heal.specs.PoolCases.{FoundIsFine, FourArent, HalfASectorIsnt, LargeMayBeRefused, LeafTwiceIsnt, MirrorIsAPool, NoBirthIsnt, NoneIsnt, NothingIsnt, OddUnitIsnt, OneSectorIsASize, SharedLeafIsnt, ShortLeafIsnt, SmallMayNot, ThreeCopiesAreWritten, TooLargeIsnt};
+ghost use Rattle.zio_heal.specs.PoolCases.{FoundIsFine, FourArent, HalfASectorIsnt, LargeMayBeRefused, LeafTwiceIsnt, MirrorIsAPool, NoBirthIsnt, NoLeafIsnt, NoneIsnt, NothingIsnt, OddUnitIsnt, OneSectorIsASize, SharedLeafIsnt, ShortLeafIsnt, SmallMayNot, ThreeCopiesAreWritten, TooLargeIsnt};
 ghost use Rattle.zio_heal.specs.StoreCases.{ChildrenMakeAFront, FaultsChangeNothing, FreedNameIsGone, FreedNameIsWritten, MissingComesFirst, NamesAtTheEnd, PaddedToASector, ReadersShareAName, TakenNameStays, TreeFailsWhole, TreesFailAlone, WholeSectorsStay};
 ghost use Rattle.zio_heal.specs.StoredCases.{ContentIsAnother, FaultHeals, LastingFaultLeaves, NameIsLeftOver, NoContentIsntAlike, ReplyIsMissing, RequestDidntEnd, SameWithoutFault, UnreadIsntAlike};
 ghost use Rattle.zio_heal.specs.WholeCases.{AskMayBeRefused, CopiesFailed, CopiesWritten, LeafMayFail, PartFailed, PartWritten, ReadIsNoWrite};
@@ -137,6 +137,7 @@ pub fn pools_have_leaves_of_their_own()
     ensures leaf_twice_isnt { LeafTwiceIsnt }
     ensures short_leaf_isnt { ShortLeafIsnt }
     ensures odd_unit_isnt { OddUnitIsnt }
+    ensures no_leaf_isnt { NoLeafIsnt }
     ensures one_sector_is_a_size { OneSectorIsASize }
     ensures nothing_isnt { NothingIsnt }
     ensures half_a_sector_isnt { HalfASectorIsnt }

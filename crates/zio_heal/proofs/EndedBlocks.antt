@@ -88,7 +88,7 @@ module _ (journal : List Choice) (sizes : ℕ → ℕ) (ds : Deeds) (contents : 
       let k : IsNamed s.bound tree = block_of_request journal sizes ds contents children s h q tree lq e in
       subst (λ (x : Tree). AllByRecursion (λ (d : Copies). AllInside s.terms.setting d.places) (copies_of x)) k.is (inside_in journal sizes ds contents children s h k.binding k.listed))
 
-  sized_by : (N : ℕ → Type 0) (es : Trace) (old new : Images) → AreBy journal s.terms all_requests children N es → Happen (means journal s.terms) es old new → HaveSizes sizes old → HaveSizes sizes new
+  pub sized_by : (N : ℕ → Type 0) (es : Trace) (old new : Images) → AreBy journal s.terms all_requests children N es → Happen (means journal s.terms) es old new → HaveSizes sizes old → HaveSizes sizes new
   sized_by N [] old new by happen have = subst (HaveSizes sizes) happen have
   sized_by N (d ∷ es) old new by happen have =
       let one : IsBy journal s.terms all_requests children N d = by.0 in

@@ -113,7 +113,7 @@ module _ (journal : List Choice) (t : Terms) (Q : List Pending) (children : ℕ 
         each_gives (means journal t) (plan t) is_single_or_piece (task_trace is_single_or_piece journal t) (down_gives (means journal t) (plan t) is_single_or_piece (plan_run journal t) levels_max) (plan_own t attempt p p.request.work pointers) images in
         subst (λ (d : Done OwnGot). Happen (means journal t) (own_ds attempt p pointers images) images d.images) (own_run journal t attempt p p.request.work pointers images) gives.happen
 
-    own_by : (N : ℕ → Type 0) (attempt : ℕ) (p : Pending) (pointers : List (Option Bp)) (images : Images) → IsFrom Q p → N p.request.number → AreBy N (own_ds attempt p pointers images)
+    pub own_by : (N : ℕ → Type 0) (attempt : ℕ) (p : Pending) (pointers : List (Option Bp)) (images : Images) → IsFrom Q p → N p.request.number → AreBy N (own_ds attempt p pointers images)
     own_by N attempt p pointers images from number =
         let no_claim : IsNoClaim p.request.work = subst (λ (r : Request). IsNoClaim r.work) from.request (all_contains (λ (q : Pending). IsNoClaim q.request.work) Q from.source claims from.listed) in
         all_weaker (λ (d : Deed Task Value). OfRequest journal t p d.op d.answer) (IsBy N) (own_ds attempt p pointers images)

@@ -4,6 +4,8 @@ pub mod BodyParts
 pub mod BoundAfter
 pub mod BoundBlocks
 pub mod CleanPieces
+pub mod CleanRounds
+pub mod CleanWrites
 pub mod ContentCasesProofs
 pub mod CopyCasesProofs
 pub mod CopyLemmas

@@ -26,6 +26,7 @@ use Rattle.zio_heal.specs.SafeRounds.{AreReady, HasNamed, HaveChildren, IsReady,
 use Rattle.zio_heal.proofs.AfterContents.{IsTold, WorksApart, after, all_ends, all_told, apart_from, apart_names, ended_well, no_errors, others_same}
 use Rattle.zio_heal.proofs.BoundAfter.{safe_after}
 use Rattle.zio_heal.proofs.BoundBlocks.{Q, answers, claims, from_itself, kids, tells}
+use Rattle.zio_heal.proofs.CleanRounds.{clean_law}
 use Rattle.zio_heal.proofs.EndedBlocks.{sizes_after}
 use Rattle.zio_heal.proofs.EndedRequests.{IsFrom, from_stable}
 use Rattle.zio_heal.proofs.KidsLemmas.{IsFitting, LeftKids, round_kids}
@@ -174,4 +175,5 @@ round_law journal sizes ds contents children s h = record {
   others = λ name bound. others_same journal sizes ds contents children s h (settle_each journal s.terms s.trees s.images).ended (all_ends journal sizes ds contents children s h) name bound;
   ended = ended_well journal sizes ds contents children s h;
   ready = ready_after journal sizes ds contents children s h;
+  clean = clean_law journal sizes ds contents children s h;
 }

@@ -136,7 +136,9 @@ pub record EndsWell (contents : Contents) (children : ℕ → ℕ) (e : Ended) :
   pub answered : EndsAs contents children e e.request.work
 
 -- The round leaves bound blocks that are safe, with contents that differ from those before only in names that had none,
--- and requests that may run again; what ended was answered well.
+-- and requests that may run again; what ended was answered well. Where no row is met any more and no sector was refused,
+-- nothing is left.
+-- Rule: healing faults.
 pub record IsSafeEnd (journal : List Choice) (sizes : ℕ → ℕ) (ds : Deeds) (contents : Contents) (children : ℕ → ℕ) (s : RoundStart) : Type 0 where
   pub after : Contents
   pub sizes_are : HaveSizes sizes (settle_each journal s.terms s.trees s.images).images
@@ -146,11 +148,5 @@ pub record IsSafeEnd (journal : List Choice) (sizes : ℕ → ℕ) (ds : Deeds) 
   pub ended : AllByRecursion (EndsWell after children) (settle_each journal s.terms s.trees s.images).ended
   pub ready : AreReady (bound_after (settle_each journal s.terms s.trees s.images).ended s.bound) children
       (settle_each journal s.terms s.trees s.images).left
-
--- Where no row is met any more and no sector is refused, a round that starts safely leaves nothing.
--- Rule: healing faults.
-abbrev pub CleanRoundsLeaveNothing : Type 0
-CleanRoundsLeaveNothing =
-    (journal : List Choice) (sizes : ℕ → ℕ) (ds : Deeds) (contents : Contents) (children : ℕ → ℕ) (s : RoundStart) →
-    IsSafeStart journal sizes ds contents children s → IsPastFaults s.terms.setting → NoSmallRefused journal →
-    (settle_each journal s.terms s.trees s.images).left ≡ []
+  pub clean : IsPastFaults s.terms.setting → NoSmallRefused journal →
+      (settle_each journal s.terms s.trees s.images).left ≡ []

@@ -220,6 +220,7 @@ pub fn blocks_are_read_as_their_content()
 
 /// A round over bound blocks that are safe, of requests that may not fail, leaves bound blocks that are safe: each that
 /// stays, and that of each write that ended. Each read gave the content of its name, and what is left may run again.
+/// Where no row is met any more and no sector was refused, nothing is left.
 pub fn rounds_end_as_safely_as_they_start()
     ensures { (journal : List Choice) (sizes : ℕ → ℕ) (ds : Deeds) (contents : Contents) (children : ℕ → ℕ)
         (s : RoundStart) →

@@ -30,7 +30,7 @@ use Rattle.zio_heal.specs.SafeBlocks.{Contents}
 use Rattle.zio_heal.specs.SafeRounds.{EndsAs, EndsDiffer, EndsWell, HasNamed, IsReady, IsSafeStart, NamesApart, NamesWell, WroteContent, requests_in}
 use Rattle.zio_heal.proofs.BoundBlocks.{Q, tells}
 use Rattle.zio_heal.proofs.DisciplineLemmas.{round_fine}
-use Rattle.zio_heal.proofs.EndedBlocks.{Ends, at_start, count, tree_is}
+use Rattle.zio_heal.proofs.EndedBlocks.{Ends, at_start, count, made_size, tree, tree_is}
 use Rattle.zio_heal.proofs.EndedReads.{read_gave}
 
 -- ---- names
@@ -148,17 +148,21 @@ module _ (journal : List Choice) (sizes : ℕ → ℕ) (ds : Deeds) (contents : 
   first_answered e es all (Read name prio) none is =
       read_gave journal sizes ds contents children s h e all.0 none name prio is
       ∙ sym (others_same (e ∷ es) all name (named_bound name all.0.from.source.block (named_at_start e all.0 (Read name prio) is)))
-  first_answered e es all (Write name sum copies prio body) none is = (
-    subst IsSome (sym (tree_is journal sizes ds contents children s h e all.0 none name sum copies prio body is)) refl,
-    record {
-      pointers = all.0.pointers;
-      many = count journal sizes ds contents children s h e all.0 none name sum copies prio body is;
-      slots = all.0.all.slots;
-      is =
-          ap (λ (w : Work). content_by w all.0.pointers name (after_of es all.1 name)) is
-          ∙ ap (λ (b : Bool). cond b (content_of all.0.pointers (body_of body)) (after_of es all.1 name)) ((bytes_eq-Decides name name).1 refl);
-    },
-  )
+  first_answered e es all (Write name sum copies prio body) none is =
+      let now : after_of (e ∷ es) all name ≡ content_of all.0.pointers (body_of body) =
+      ap (λ (w : Work). content_by w all.0.pointers name (after_of es all.1 name)) is
+      ∙ ap (λ (b : Bool). cond b (content_of all.0.pointers (body_of body)) (after_of es all.1 name)) ((bytes_eq-Decides name name).1 refl) in
+      record {
+        tree = tree journal sizes ds contents children s h e all.0 none name sum copies prio body is;
+        is = tree_is journal sizes ds contents children s h e all.0 none name sum copies prio body is;
+        size = made_size journal sizes ds contents children s h e all.0 none name sum copies prio body is ∙ ap length (sym now);
+        content = record {
+          pointers = all.0.pointers;
+          many = count journal sizes ds contents children s h e all.0 none name sum copies prio body is;
+          slots = all.0.all.slots;
+          is = now;
+        };
+      }
   first_answered e es all (Free name) none is = tt
   first_answered e es all (Claim name pointer) none is =
       subst IsNoClaim (work_at_start e all.0 ∙ is) (at_start journal sizes ds contents children s h e all.0).claims
@@ -170,18 +174,16 @@ module _ (journal : List Choice) (sizes : ℕ → ℕ) (ds : Deeds) (contents : 
   stays_answered e f ee ef now (Read name prio) ne is k =
       k ∙ sym (content_elsewhere e.request.work ee.pointers name (now name)
       (λ n sum copies p body we. apart_names e.request.work f.request.work n name (two_apart e f ee ef ne) (λ r. subst IsRead we r) (ap name_of we) (ap name_of is)))
-  stays_answered e f ee ef now (Write name sum copies prio body) ne is k = (
-    k.0,
-    record {
-      pointers = k.1.pointers;
-      many = k.1.many;
-      slots = k.1.slots;
-      is =
-          content_elsewhere e.request.work ee.pointers name (now name)
-          (λ n sm cp p bd we. apart_names e.request.work f.request.work n name (two_apart e f ee ef ne) (λ r. subst IsRead we r) (ap name_of we) (ap name_of is))
-          ∙ k.1.is;
-    },
-  )
+  stays_answered e f ee ef now (Write name sum copies prio body) ne is k =
+      let same : content_by e.request.work ee.pointers name (now name) ≡ now name =
+      content_elsewhere e.request.work ee.pointers name (now name)
+      (λ n sm cp p bd we. apart_names e.request.work f.request.work n name (two_apart e f ee ef ne) (λ r. subst IsRead we r) (ap name_of we) (ap name_of is)) in
+      record {
+        tree = k.tree;
+        is = k.is;
+        size = k.size ∙ ap length (sym same);
+        content = record { pointers = k.content.pointers; many = k.content.many; slots = k.content.slots; is = same ∙ k.content.is };
+      }
   stays_answered e f ee ef now (Free name) ne is k = tt
   stays_answered e f ee ef now (Claim name pointer) ne is k = k
 

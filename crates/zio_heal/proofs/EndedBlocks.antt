@@ -43,7 +43,7 @@ use Rattle.zio_heal.proofs.EndedRequests.{AreBy, EndsIn, IsBy, IsFrom, own_happe
 use Rattle.zio_heal.proofs.HeldLemmas.{given_behind, is_given, is_held}
 use Rattle.zio_heal.proofs.OwnTraces.{IsBeside, LiesInside, one_sized}
 use Rattle.zio_heal.proofs.PieceLemmas.{each_weaker}
-use Rattle.zio_heal.proofs.PlacedLemmas.{block_written, each_written, free_places_law, own_law, own_places, tree_law}
+use Rattle.zio_heal.proofs.PlacedLemmas.{block_written, each_written, free_places_law, own_law, own_places, size_is, tree_law}
 use Rattle.zio_heal.proofs.PlacedPlaces.{IsFoundAt}
 use Rattle.zio_heal.proofs.SafeTraces.{AllPass, IsStill, all_still}
 use Rattle.zio_heal.proofs.SlotLemmas.{contents_long}
@@ -286,3 +286,6 @@ module _ (journal : List Choice) (sizes : ℕ → ℕ) (ds : Deeds) (contents : 
 
       pub made_places : AllByRecursion (IsFoundAt journal s.terms ends.p []) (tree_places tree)
       made_places = (own_places journal s.terms ends.attempt ends.p name sum_kind copies prio body ends.pointers sizes ends.images tree h.pool h.lawful.lawful writing block own_none found.1).found
+
+      pub made_size : tree.bp.size ≡ length content
+      made_size = size_is journal s.terms ends.attempt ends.p name sum_kind copies prio body ends.pointers sizes ends.images tree h.pool h.lawful.lawful writing block own_none found.1

@@ -133,6 +133,10 @@ module _ (journal : List Choice) (t : Terms) (attempt : ℕ) (p : Pending) (name
     bp_is : block_written.bp ≡ tree.bp
     bp_is = let both : Some block_written.bp ≡ Some tree.bp = sym block_written.pointer ∙ made.is in cc
 
+    -- the pointer tells the content's size
+    pub size_is : tree.bp.size ≡ length content
+    size_is = ap (λ (b : Bp). b.size) (sym bp_is) ∙ block_written.size
+
     -- The trace wrote each piece of the tree, at places that the request found in the round.
     pub each_written : EachPiece (IsWrittenIn t (IsAt journal t p []) own_ds) tree content
     each_written =

@@ -121,12 +121,19 @@ pub record WroteContent (contents : Contents) (children : ℕ) (name : List ℕ)
   pub slots : AllByRecursion HasSlot pointers
   pub is : contents name ≡ content_of pointers (body_of body)
 
+-- the write made a block of so many bytes as the content of its name
+pub record MadeBlock (contents : Contents) (children : ℕ) (name : List ℕ) (body : Body) (made : Option Tree) : Type 0 where
+  pub tree : Tree
+  pub is : made ≡ Some tree
+  pub size : tree.bp.size ≡ length (contents name)
+  pub content : WroteContent contents children name body
+
 -- what a request that ended was answered: a read has the content of its name, a write made a block of it
 abbrev pub EndsAs : Contents → (ℕ → ℕ) → Ended → Work → Type 0
 EndsAs contents children e Null = Unit {0}
 EndsAs contents children e (Read name prio) = e.bytes ≡ contents name
 EndsAs contents children e (Write name sum copies prio body) =
-    IsSome e.tree × WroteContent contents (children e.request.number) name body
+    MadeBlock contents (children e.request.number) name body e.tree
 EndsAs contents children e (Free name) = Unit {0}
 EndsAs contents children e (Claim name pointer) = ⊥
 

@@ -1,5 +1,5 @@
 -- The contents of names after a round, and that whatever ended was answered by them.
-use Rattle.std.proofs.Common.{◌≡◌, ◌≢◌, ℕ, List, [], ◌∷◌, ◌++◌, length, Bool, true, false, cond, bytes_eq, Option, Some, None, is_some, IsSome, Contains, ◌⊎◌, inl, inr, ⊎_elim, refl, sym, ap, ◌∙◌, subst}
+use Rattle.std.proofs.Common.{◌≡◌, ◌≢◌, ℕ, List, [], ◌∷◌, length, Bool, true, false, cond, bytes_eq, Option, Some, None, is_some, IsSome, Contains, ◌⊎◌, inl, inr, ⊎_elim, refl, sym, ap, ◌∙◌, subst}
 use Rattle.std.proofs.lemmas.Bool.{cases_Bool}
 use Rattle.std.proofs.lemmas.Slice.Eq.{bytes_eq-Decides}
 use Rattle.std.specs.List.{AllByRecursion}
@@ -13,7 +13,7 @@ use Rattle.zio_script.specs.declared.script.Work.{Work}
 use Rattle.zio_script.specs.declared.script.Work.TheVariants.{Null, Read, Write, Free, Claim}
 use Rattle.zio_script.specs.Bodies.{body_of}
 use Rattle.zio_script.specs.Requests.{name_of, names_it}
-use Rattle.zio_cksum.proofs.AllLemmas.{all_contains, all_weaker}
+use Rattle.zio_cksum.proofs.AllLemmas.{all_weaker}
 use Rattle.zio_gang.specs.declared.tree.Tree.{Tree}
 use Rattle.zio_gang.specs.Attempts.{Ended, Pending}
 use Rattle.zio_gang.specs.Rounds.{is_bound, settle_each}
@@ -27,7 +27,7 @@ use Rattle.zio_trace.proofs.PairLemmas.{pairs_two}
 use Rattle.zio_heal.specs.Discipline.{AreUnfailing, EndWithoutError, IsUnfailing}
 use Rattle.zio_heal.specs.Given.{Deeds}
 use Rattle.zio_heal.specs.SafeBlocks.{Contents}
-use Rattle.zio_heal.specs.SafeRounds.{EndsAs, EndsDiffer, EndsWell, HasNamed, IsReady, IsSafeStart, NamesApart, NamesWell, WroteContent, requests_in}
+use Rattle.zio_heal.specs.SafeRounds.{EndsAs, EndsDiffer, EndsWell, HasNamed, IsReady, IsSafeStart, NamesApart, NamesWell, requests_in}
 use Rattle.zio_heal.proofs.BoundBlocks.{Q, tells}
 use Rattle.zio_heal.proofs.DisciplineLemmas.{round_fine}
 use Rattle.zio_heal.proofs.EndedBlocks.{Ends, at_start, count, made_size, tree, tree_is}

@@ -1,23 +1,21 @@
 -- A walk over a block's kept headers comes to its bodies, which share its content; reads of these that give what was given
 -- join to the content.
-use Rattle.std.proofs.Common.{◌≡◌, ℕ, zero, suc, ◌+◌, ◌≤◌, List, [], ◌∷◌, ◌++◌, length, take, drop, Bool, true, false, bytes_eq, Option, Some, None, Result, Ok, Err, IfOk, IsTrue, refl, sym, ap, ◌∙◌, subst, append_assoc, append-nil, length-take, length-drop, arith}
+use Rattle.std.proofs.Common.{◌≡◌, ℕ, zero, suc, ◌+◌, ◌≤◌, List, [], ◌∷◌, ◌++◌, length, take, drop, Bool, true, false, Option, Some, None, Result, Ok, Err, IfOk, IsTrue, refl, sym, ap, ◌∙◌, subst, length-take, arith}
 use Rattle.std.proofs.lemmas.List.{take-append-drop, take-append-le, drop-append-le}
 use Rattle.std.proofs.lemmas.Slice.Eq.{bytes_eq-Decides}
-use Rattle.std.specs.List.{AllByRecursion}
 use Rattle.zio_types.specs.declared.error.Errno.{Errno}
-use Rattle.zio_types.specs.Choices.{Choice}
 use Rattle.zio_types.specs.Places.{sector_size}
 use Rattle.zio_blkptr.specs.declared.pointer.Bp.{Bp}
 use Rattle.zio_blkptr.specs.Pointers.{places_of}
-use Rattle.zio_cksum.specs.Blocks.{Read, good_body, good_kept, read_block}
+use Rattle.zio_cksum.specs.Blocks.{Read, good_kept, read_block}
 use Rattle.zio_cksum.specs.Headers.{members_of}
 use Rattle.zio_cksum.specs.Images.{Images, Setting}
 use Rattle.zio_cksum.proofs.ReadLemmas.{good_law}
 use Rattle.zio_gang.specs.declared.tree.Head.{Head}
 use Rattle.zio_gang.specs.declared.tree.Tree.{Tree}
 use Rattle.zio_gang.specs.Trees.{Walk, header_levels_max, kept_at, kept_visit, walk, walk_found, walk_kept, walk_members, walk_pointer, walk_read}
-use Rattle.zio_trace.specs.BlockCopies.{Copies, body_copies, head_copies}
-use Rattle.zio_heal.specs.Contents.{EachPiece, HasPieces, HaveBytes, IfGang, IsGangOf, IsGood}
+use Rattle.zio_trace.specs.BlockCopies.{Copies, body_copies}
+use Rattle.zio_heal.specs.Contents.{EachPiece, HasPieces, HaveBytes, IfGang, IsGood}
 
 -- each body has the bytes of its size, and nothing is left behind them
 abbrev pub HaveParts : (Copies → List ℕ → Type 0) → List Bp → List ℕ → Type 0

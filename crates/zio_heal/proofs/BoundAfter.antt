@@ -1,5 +1,5 @@
 -- The blocks that are bound after a round are safe, and have no place in common.
-use Rattle.std.proofs.Common.{◌≡◌, ◌≢◌, ℕ, List, [], ◌∷◌, ◌++◌, filter, find, Bool, true, false, cond, not, option_map, is_some, Option, Some, None, IsSome, IsTrue, Contains, ◌⊎◌, inl, inr, ⊎_elim, refl, sym, ap, ◌∙◌, subst}
+use Rattle.std.proofs.Common.{◌≡◌, ◌≢◌, ℕ, List, [], ◌∷◌, ◌++◌, filter, find, Bool, true, false, cond, not, option_map, is_some, Option, Some, Contains, ◌⊎◌, inl, inr, ⊎_elim, refl, sym, ap, ◌∙◌, subst}
 use Rattle.std.proofs.lemmas.Slice.Eq.{bytes_eq-Decides}
 use Rattle.std.specs.List.{AllByRecursion}
 use Rattle.zio_types.specs.declared.error.Errno.{Errno}
@@ -16,7 +16,7 @@ use Rattle.zio_cksum.specs.Images.{Images}
 use Rattle.zio_cksum.proofs.AllLemmas.{all_contains, all_weaker}
 use Rattle.zio_gang.specs.declared.tree.Tree.{Tree}
 use Rattle.zio_gang.specs.Attempts.{Ended, Pending}
-use Rattle.zio_gang.specs.Rounds.{Binding, Bound, NamesOnce, bind, block_of, bound_after, bound_by, bound_unless, is_bound, is_of, settle_each, unbind, used_places}
+use Rattle.zio_gang.specs.Rounds.{Binding, Bound, NamesOnce, bind, bound_after, bound_by, bound_unless, is_bound, is_of, settle_each, unbind, used_places}
 use Rattle.zio_gang.specs.Trees.{sizes_of, tree_places}
 use Rattle.zio_gang.proofs.BoundLemmas.{NamesOnce-bind, NamesOnce-unbind}
 use Rattle.zio_trace.specs.RunTraces.{RoundStart}
@@ -30,9 +30,9 @@ use Rattle.zio_heal.specs.Contents.{EachPiece}
 use Rattle.zio_heal.specs.Given.{Deeds}
 use Rattle.zio_heal.specs.SafeBlocks.{AreSafe, BindingsApart, Contents, IsSafe, IsSafeBlock}
 use Rattle.zio_heal.specs.SafeRounds.{EndsDiffer, IsSafeStart, deeds_in}
-use Rattle.zio_heal.proofs.AfterContents.{IsTold, after, all_ends, all_told, named_at_start, others_same}
+use Rattle.zio_heal.proofs.AfterContents.{IsTold, after, all_ends, all_told, others_same}
 use Rattle.zio_heal.proofs.BoundBlocks.{answers, block_safe, block_stays, tells}
-use Rattle.zio_heal.proofs.EndedBlocks.{Ends, at_start, made_free, made_own, made_places, made_safe, tree, tree_is}
+use Rattle.zio_heal.proofs.EndedBlocks.{at_start, made_free, made_own, made_places, made_safe, tree, tree_is}
 use Rattle.zio_heal.proofs.KidsLemmas.{filtered}
 use Rattle.zio_heal.proofs.PlacedLemmas.{dont_false}
 use Rattle.zio_heal.proofs.PlacedPlaces.{IsFoundAt}

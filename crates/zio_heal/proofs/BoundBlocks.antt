@@ -1,10 +1,10 @@
 -- The blocks that are bound at a round's start stay safe through it.
-use Rattle.std.proofs.Common.{◌≡◌, ℕ, ◌+◌, List, [], ◌∷◌, ◌++◌, map, Bool, true, false, cond, find, bytes_eq, Option, Some, None, option_map, IfSome, IsSome, IsTrue, Contains, ◌⊎◌, inl, inr, ⊎_elim, refl, sym, ap, ◌∙◌, subst}
+use Rattle.std.proofs.Common.{◌≡◌, ℕ, List, [], ◌∷◌, ◌++◌, map, Bool, true, false, cond, find, Option, Some, None, option_map, IfSome, Contains, ◌⊎◌, inl, inr, ⊎_elim, refl, sym, ◌∙◌, subst}
 use Rattle.std.proofs.lemmas.Slice.Eq.{bytes_eq-Decides}
 use Rattle.std.specs.List.{AllByRecursion}
 use Rattle.zio_types.specs.declared.place.Place.{Place}
 use Rattle.zio_types.specs.Choices.{Choice}
-use Rattle.zio_types.specs.Places.{is_inside, meets}
+use Rattle.zio_types.specs.Places.{meets}
 use Rattle.zio_blkptr.specs.Pointers.{places_of}
 use Rattle.zio_script.specs.declared.script.Work.{Work}
 use Rattle.zio_script.specs.declared.script.Work.TheVariants.{Null, Read, Write, Free, Claim}
@@ -18,11 +18,11 @@ use Rattle.zio_gang.specs.Trees.{sizes_of, tree_places, tree_pointers}
 use Rattle.zio_trace.specs.BlockCopies.{Copies, copies_of}
 use Rattle.zio_trace.specs.Programs.{Deed, Happen}
 use Rattle.zio_trace.specs.RoundTraces.{Trace, is_single_or_piece, round_trace}
-use Rattle.zio_trace.specs.RunTraces.{RoundStart, in_round, trace_from}
+use Rattle.zio_trace.specs.RunTraces.{RoundStart, in_round}
 use Rattle.zio_trace.specs.Separate.{IsNoClaim, NoneMeet}
 use Rattle.zio_trace.specs.Tasks.{Task, Value, means}
 use Rattle.zio_trace.proofs.BlockPieces.{CopiesApart as PiecesApart}
-use Rattle.zio_trace.proofs.ChoiceLemmas.{Answers, IsPlaced, MeetsNone, answers_in_round, chosen_placed}
+use Rattle.zio_trace.proofs.ChoiceLemmas.{Answers, IsPlaced, answers_in_round, chosen_placed}
 use Rattle.zio_trace.proofs.CopiesLemmas.{copies_follow}
 use Rattle.zio_trace.proofs.ListLemmas.{all_front, all_rest, contains_first, contains_later}
 use Rattle.zio_trace.proofs.OwnBlocks.{block_apart}
@@ -32,7 +32,7 @@ use Rattle.zio_trace.proofs.SpotLemmas.{AllInside, NoneTouch, none_touch, touch_
 use Rattle.zio_heal.specs.Contents.{EachPiece}
 use Rattle.zio_heal.specs.Given.{AreTrueReads, Deeds}
 use Rattle.zio_heal.specs.SafeBlocks.{BindingsApart, Contents, IsSafe, IsSafeBlock}
-use Rattle.zio_heal.specs.SafeRounds.{HasNamed, HaveChildren, IsReady, IsSafeStart, NamesWell, deeds_in, requests_in}
+use Rattle.zio_heal.specs.SafeRounds.{HaveChildren, IsReady, IsSafeStart, NamesWell, deeds_in, requests_in}
 use Rattle.zio_heal.proofs.EndedRequests.{AreBy, IsBy, IsFrom}
 use Rattle.zio_heal.proofs.HeldBlocks.{sound_pieces}
 use Rattle.zio_heal.proofs.KidsLemmas.{IsFitting, LeftKids}

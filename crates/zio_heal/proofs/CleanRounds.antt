@@ -1,5 +1,5 @@
 -- With no row met, and no sector refused, a round that starts safely leaves nothing.
-use Rattle.std.proofs.Common.{◌≡◌, ℕ, zero, suc, ◌+◌, ◌≤◌, List, [], ◌∷◌, ◌++◌, length, map, filter, Bool, true, false, Option, Some, None, Result, Ok, Err, IsOk, Contains, refl, sym, ap, ◌∙◌, subst, append_assoc, append-nil}
+use Rattle.std.proofs.Common.{◌≡◌, ℕ, zero, suc, ◌+◌, List, [], ◌∷◌, ◌++◌, length, map, Bool, true, false, Option, Some, None, Result, Ok, Err, IsOk, refl, sym, ap, ◌∙◌, subst, append_assoc}
 use Rattle.std.proofs.lemmas.List.{map-append}
 use Rattle.std.specs.List.{AllByRecursion}
 use Rattle.zio_types.specs.declared.error.Errno.{Errno}
@@ -14,7 +14,7 @@ use Rattle.zio_script.specs.Requests.{is_under_number, kind_of}
 use Rattle.zio_cksum.specs.Images.{Images}
 use Rattle.zio_cksum.proofs.AllLemmas.{all_append, all_contains, all_true}
 use Rattle.zio_gang.specs.declared.tree.Tree.{Tree}
-use Rattle.zio_gang.specs.Attempts.{Attempt, Attempted, Child, Own, Pending, Return, Settled, Terms, all_bits, attempt_each, attempt_one, bits_of, children_of, closed_if, finished_of, free_of, has_bits, insert_children, joined_bits, no_bits, now_alone, own_found, own_work, read_of, reexecutions_max, returned_to, root_bits, settle, settle_from, settled_if}
+use Rattle.zio_gang.specs.Attempts.{Attempt, Attempted, Child, Own, Pending, Return, Settled, all_bits, attempt_each, attempt_one, bits_of, children_of, closed_if, finished_of, free_of, has_bits, insert_children, joined_bits, no_bits, now_alone, own_found, own_work, read_of, reexecutions_max, returned_to, root_bits, settle, settle_from, settled_if}
 use Rattle.zio_gang.specs.Rounds.{Ran, add_left, settle_each, used_places}
 use Rattle.zio_gang.specs.Trees.{free_tree, read_tree}
 use Rattle.zio_gang.specs.Writes.{content_of}
@@ -22,7 +22,6 @@ use Rattle.zio_trace.specs.Leaves.{HaveSizes}
 use Rattle.zio_trace.specs.Programs.{Happen}
 use Rattle.zio_trace.specs.RoundTraces.{Trace, again_if, attempt_trace, is_single_or_piece, own_trace, pointers_after, round_trace, settle_trace}
 use Rattle.zio_trace.specs.RunTraces.{RoundStart, in_round}
-use Rattle.zio_trace.specs.Separate.{IsNoClaim}
 use Rattle.zio_trace.specs.Tasks.{means}
 use Rattle.zio_trace.specs.TreeOrders.{Pairs}
 use Rattle.zio_trace.proofs.ListLemmas.{all_front, all_rest}

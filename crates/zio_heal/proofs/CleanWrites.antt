@@ -1,14 +1,13 @@
 -- With no row met, and no sector refused, a block is placed without error: what is refused becomes a gang, and sectors have
 -- places.
-use Rattle.std.proofs.Common.{◌≡◌, ℕ, zero, suc, ◌+◌, ◌*◌, ◌%◌, ◌^◌, ◌≤◌, ◌<◌, List, [], ◌∷◌, ◌++◌, length, take, drop, sum, min, Bool, true, false, nat_le, nat_lt, Option, Some, None, IsTrue, refl, sym, ap, ◌∙◌, subst, leb-false, leb-true, length-take, length-drop, arith}
+use Rattle.std.proofs.Common.{◌≡◌, ℕ, zero, suc, ◌+◌, ◌*◌, ◌%◌, ◌^◌, ◌≤◌, ◌<◌, List, [], ◌∷◌, ◌++◌, length, take, drop, sum, Bool, true, false, nat_le, nat_lt, Option, Some, None, refl, sym, ◌∙◌, subst, leb-false, leb-true, length-take, length-drop, arith}
 use Rattle.std.proofs.Math.Nat.{pow-succ'}
 use Rattle.std.proofs.lemmas.List.Sums.{sum_by-cons}
 use Rattle.std.specs.List.{AllByRecursion}
-use Rattle.zio_types.specs.declared.error.Errno.{Errno}
 use Rattle.zio_types.specs.declared.place.Place.{Place}
 use Rattle.zio_types.specs.Choices.{Ask, Choice}
-use Rattle.zio_types.specs.Errors.{worst_error, worst_of}
-use Rattle.zio_types.specs.Places.{is_inside, sector_size}
+use Rattle.zio_types.specs.Errors.{worst_of}
+use Rattle.zio_types.specs.Places.{sector_size}
 use Rattle.zio_blkptr.specs.declared.pointer.SumKind.{SumKind}
 use Rattle.zio_cksum.specs.Blocks.{write_piece}
 use Rattle.zio_cksum.specs.Headers.{first_size, second_size, split_sizes, third_size}
@@ -21,7 +20,7 @@ use Rattle.zio_gang.specs.Writes.{Members, Placed, Writing, body_ask, body_with,
 use Rattle.zio_trace.proofs.ChoiceLemmas.{Answers}
 use Rattle.zio_trace.proofs.ListLemmas.{all_front, all_lists, all_rest}
 use Rattle.zio_heal.specs.Copies.{IsPastFaults}
-use Rattle.zio_heal.specs.Pools.{IsBlockSize, IsPool, IsWriting, NoSmallRefused}
+use Rattle.zio_heal.specs.Pools.{IsBlockSize, IsPool, NoSmallRefused}
 use Rattle.zio_heal.proofs.CleanPieces.{IsAnswered, have_leaves, piece_clean, small_found, worst_none}
 use Rattle.zio_heal.proofs.PlacedPlans.{split_blocks}
 use Rattle.zio_heal.proofs.WrittenPieces.{found_inside}

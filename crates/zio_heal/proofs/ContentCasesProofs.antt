@@ -1,5 +1,5 @@
 -- Contents of a body and of a gang of two members, and bytes that aren't.
-use Rattle.std.proofs.Common.{◌≡◌, ◌^◌, ◌<◌, ℕ, List, [], ◌∷◌, ◌++◌, length, take, drop, replicate, get_or, true, false, Option, Some, None, refl, sym, ap, ◌∙◌, subst, arith}
+use Rattle.std.proofs.Common.{◌≡◌, ℕ, List, [], ◌∷◌, ◌++◌, get_or, true, false, Some, None, refl, sym, ap, ◌∙◌, subst, arith}
 use Rattle.zio_blkptr.specs.declared.pointer.Bp.{Bp}
 use Rattle.zio_blkptr.specs.Pointers.{FitsTypes}
 use Rattle.zio_cksum.specs.Headers.{members_of}

@@ -1,34 +1,33 @@
 -- What a round's ended requests made and read: the blocks of writes are safe at the end, and reads gave the contents.
-use Rattle.std.proofs.Common.{◌≡◌, ◌≢◌, ℕ, ◌+◌, ◌^◌, ◌<◌, ◌≤◌, List, [], ◌∷◌, ◌++◌, length, map, replicate, Bool, true, false, Option, Some, None, Result, Ok, Err, IfOk, IfSome, IsSome, IsTrue, Contains, ◌⊎◌, inl, inr, refl, sym, ap, ◌∙◌, subst, append_assoc, append-nil, arith}
+use Rattle.std.proofs.Common.{◌≡◌, ◌≢◌, ℕ, ◌^◌, ◌<◌, ◌≤◌, List, [], ◌∷◌, ◌++◌, length, map, Option, Some, None, IsSome, Contains, ◌⊎◌, inl, refl, sym, ap, ◌∙◌, subst, append_assoc, append-nil}
 use Rattle.std.proofs.lemmas.List.{map-append}
 use Rattle.std.specs.List.{AllByRecursion}
 use Rattle.zio_types.specs.declared.error.Errno.{Errno}
 use Rattle.zio_types.specs.declared.place.Place.{Place}
 use Rattle.zio_types.specs.declared.request.Prio.{Prio}
 use Rattle.zio_types.specs.Choices.{Choice}
-use Rattle.zio_blkptr.specs.declared.pointer.Bp.{Bp}
 use Rattle.zio_blkptr.specs.declared.pointer.SumKind.{SumKind}
 use Rattle.zio_script.specs.declared.script.Body.{Body}
 use Rattle.zio_script.specs.declared.script.Request.{Request}
 use Rattle.zio_script.specs.declared.script.Work.{Work}
-use Rattle.zio_script.specs.declared.script.Work.TheVariants.{Null, Read, Write, Free, Claim}
+use Rattle.zio_script.specs.declared.script.Work.TheVariants.{Write}
 use Rattle.zio_script.specs.Bodies.{body_of}
 use Rattle.zio_cksum.specs.Images.{Images}
-use Rattle.zio_cksum.proofs.AllLemmas.{all_contains, all_weaker}
+use Rattle.zio_cksum.proofs.AllLemmas.{all_contains}
 use Rattle.zio_gang.specs.declared.tree.Tree.{Tree}
 use Rattle.zio_gang.specs.Attempts.{Ended, Own, Pending, Terms, own_work, tree_unless}
-use Rattle.zio_gang.specs.Rounds.{Binding, settle_each, used_places}
+use Rattle.zio_gang.specs.Rounds.{settle_each}
 use Rattle.zio_gang.specs.Trees.{sizes_of, tree_places}
 use Rattle.zio_gang.specs.Writes.{content_of}
 use Rattle.zio_trace.specs.BlockCopies.{Copies, copies_of}
 use Rattle.zio_trace.specs.Leaves.{HaveSizes}
 use Rattle.zio_trace.specs.Plans.{plan_own}
-use Rattle.zio_trace.specs.Programs.{Deed, Happen}
+use Rattle.zio_trace.specs.Programs.{Happen}
 use Rattle.zio_trace.specs.RoundTraces.{Trace, is_single_or_piece, own_trace, task_trace, trace_each}
-use Rattle.zio_trace.specs.RunTraces.{InRound, RoundStart, in_round}
+use Rattle.zio_trace.specs.RunTraces.{RoundStart, in_round}
 use Rattle.zio_trace.specs.Separate.{NoneMeet}
 use Rattle.zio_trace.specs.SoundRounds.{IsOwnBlock}
-use Rattle.zio_trace.specs.Tasks.{Task, Value, means}
+use Rattle.zio_trace.specs.Tasks.{means}
 use Rattle.zio_trace.proofs.ListLemmas.{all_front, all_rest}
 use Rattle.zio_trace.proofs.PairLemmas.{all_of}
 use Rattle.zio_trace.proofs.ProgramLemmas.{happen_apart}
@@ -39,7 +38,7 @@ use Rattle.zio_heal.specs.Pools.{IsBlockSize, IsWriting}
 use Rattle.zio_heal.specs.SafeBlocks.{Contents, IsSafe}
 use Rattle.zio_heal.specs.SafeRounds.{FitsWrite, IsReady, IsSafeStart, deeds_in}
 use Rattle.zio_heal.proofs.BoundBlocks.{IsNamed, Q, answers, block_of_request, bound_clear, by_all, claims, if_some, inside_in, pass_all, tells, trace}
-use Rattle.zio_heal.proofs.EndedRequests.{AreBy, EndsIn, IsBy, IsFrom, own_happens}
+use Rattle.zio_heal.proofs.EndedRequests.{AreBy, EndsIn, IsBy, own_happens}
 use Rattle.zio_heal.proofs.HeldLemmas.{given_behind, is_given, is_held}
 use Rattle.zio_heal.proofs.OwnTraces.{IsBeside, LiesInside, one_sized}
 use Rattle.zio_heal.proofs.PieceLemmas.{each_weaker}

@@ -1,6 +1,5 @@
 -- A read that ended in a round without error gave the content of its name.
-use Rattle.std.proofs.Common.{◌≡◌, ℕ, ◌+◌, ◌≤◌, List, [], ◌∷◌, ◌++◌, map, Option, Some, None, Result, Ok, Err, IfOk, IsSome, Contains, refl, sym, ap, ◌∙◌, subst, append-nil, arith}
-use Rattle.std.specs.List.{AllByRecursion}
+use Rattle.std.proofs.Common.{◌≡◌, ℕ, List, [], ◌∷◌, ◌++◌, map, Option, Some, None, Result, Ok, Err, IfOk, refl, sym, ap, ◌∙◌, subst, append-nil, arith}
 use Rattle.zio_types.specs.declared.error.Errno.{Errno}
 use Rattle.zio_types.specs.declared.place.Place.{Place}
 use Rattle.zio_types.specs.declared.request.Prio.{Prio}
@@ -10,10 +9,9 @@ use Rattle.zio_script.specs.declared.script.Work.{Work}
 use Rattle.zio_script.specs.declared.script.Work.TheVariants.{Read}
 use Rattle.zio_cksum.specs.Images.{Images}
 use Rattle.zio_gang.specs.declared.tree.Tree.{Tree}
-use Rattle.zio_gang.specs.Attempts.{Ended, Own, Pending, Terms, own_found, own_work, read_of}
-use Rattle.zio_gang.specs.Rounds.{block_of}
+use Rattle.zio_gang.specs.Attempts.{Ended, Own, Terms, own_found, own_work, read_of}
 use Rattle.zio_gang.specs.Trees.{read_tree}
-use Rattle.zio_trace.specs.BlockCopies.{Copies, copies_of, reading_of}
+use Rattle.zio_trace.specs.BlockCopies.{Copies, copies_of}
 use Rattle.zio_trace.specs.Plans.{own_read_by, plan_own, plan_read, plan_tree}
 use Rattle.zio_trace.specs.Programs.{Deed, Ends as EndsProgram}
 use Rattle.zio_trace.specs.RoundTraces.{Trace, is_single_or_piece, task_trace, trace_each}

@@ -1,20 +1,19 @@
 -- Where each request that ended in a round did its own work: what came before, and that what follows is by others.
-use Rattle.std.proofs.Common.{◌≡◌, ◌≢◌, ℕ, zero, suc, ◌+◌, List, [], ◌∷◌, ◌++◌, map, filter, Bool, true, false, Option, Some, None, Contains, refl, sym, ap, ◌∙◌, subst, append_assoc, append-nil}
+use Rattle.std.proofs.Common.{◌≡◌, ◌≢◌, ℕ, zero, suc, ◌+◌, List, [], ◌∷◌, ◌++◌, map, Bool, true, false, Option, None, Contains, refl, sym, ap, ◌∙◌, subst, append_assoc, append-nil}
 use Rattle.std.specs.List.{AllByRecursion}
 use Rattle.zio_types.specs.declared.error.Errno.{Errno}
 use Rattle.zio_types.specs.declared.request.Bits.{Bits}
 use Rattle.zio_types.specs.Choices.{Choice}
-use Rattle.zio_types.specs.Errors.{worst_error, worst_of}
+use Rattle.zio_types.specs.Errors.{worst_of}
 use Rattle.zio_blkptr.specs.declared.pointer.Bp.{Bp}
 use Rattle.zio_script.specs.declared.script.Request.{Request}
 use Rattle.zio_cksum.specs.Images.{Images}
 use Rattle.zio_cksum.proofs.AllLemmas.{all_append, all_contains, all_weaker}
-use Rattle.zio_gang.specs.Attempts.{Attempt, Attempted, Child, Ended, Own, Pending, Return, Settled, Terms, attempt_each, attempt_one, closed_if, now_alone, own_work, reexecutions_max, root_bits, settle, settle_from, settled_if, tree_unless}
-use Rattle.zio_gang.specs.Rounds.{Ran, add_left, settle_each}
+use Rattle.zio_gang.specs.Attempts.{Attempt, Attempted, Child, Ended, Own, Pending, Return, Settled, Terms, attempt_each, attempt_one, closed_if, now_alone, own_work, root_bits, settle_from, settled_if, tree_unless}
 use Rattle.zio_gang.specs.Trees.{sizes_of}
 use Rattle.zio_trace.specs.Plans.{plan, plan_own}
 use Rattle.zio_trace.specs.Programs.{Deed, Done, Happen, run}
-use Rattle.zio_trace.specs.RoundTraces.{Trace, again_if, attempt_trace, is_single_or_piece, levels_max, own_trace, pointers_after, round_trace, settle_trace, task_trace}
+use Rattle.zio_trace.specs.RoundTraces.{Trace, again_if, attempt_trace, is_single_or_piece, levels_max, own_trace, pointers_after, settle_trace, task_trace}
 use Rattle.zio_trace.specs.Separate.{IsNoClaim}
 use Rattle.zio_trace.specs.Tasks.{OwnGot, Task, Value, means}
 use Rattle.zio_trace.specs.TreeOrders.{Pairs}
@@ -26,7 +25,7 @@ use Rattle.zio_trace.proofs.TraceLemmas.{happen_join}
 use Rattle.zio_heal.specs.Pools.{IsPool}
 use Rattle.zio_heal.specs.SafeRounds.{EndsDiffer, NumbersDiffer}
 use Rattle.zio_heal.proofs.KidsLemmas.{AreAll, LeftKids, PointersFit, tree_kids}
-use Rattle.zio_heal.proofs.OwnTraces.{AreOf, OfRequest, of_same, own_of}
+use Rattle.zio_heal.proofs.OwnTraces.{OfRequest, of_same, own_of}
 use Rattle.zio_heal.proofs.WrittenLemmas.{both_none}
 
 -- ---- requests

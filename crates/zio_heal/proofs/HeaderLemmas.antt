@@ -1,15 +1,14 @@
 -- A gang's header has the bytes of one sector, and names the members that it was written for.
-use Rattle.std.proofs.Common.{◌≡◌, ℕ, zero, suc, ◌+◌, ◌-◌, ◌*◌, ◌≤◌, List, [], ◌∷◌, ◌++◌, length, map, replicate, Option, Some, None, IsTrue, refl, sym, ap, ◌∙◌, length-append, arith}
+use Rattle.std.proofs.Common.{◌≡◌, ℕ, zero, suc, ◌-◌, ◌*◌, ◌≤◌, List, [], ◌∷◌, length, map, replicate, Option, Some, None, refl, length-append, arith}
 use Rattle.std.specs.List.{AllByRecursion, flat_map}
 use Rattle.std.proofs.lemmas.List.{length-map}
 use Rattle.zio_types.specs.declared.place.Place.{Place}
 use Rattle.zio_types.specs.Filled.{filled_to, length-filled_to}
 use Rattle.zio_blkptr.specs.declared.pointer.Bp.{Bp}
 use Rattle.zio_blkptr.specs.declared.pointer.SumKind.TheVariants.{Sha256}
-use Rattle.zio_blkptr.specs.Pointers.{FitsTypes, valid, word}
+use Rattle.zio_blkptr.specs.Pointers.{word}
 use Rattle.zio_blkptr.proofs.PointerLemmas.{length-spelling}
 use Rattle.zio_cksum.specs.Headers.{gang_sum_of, header_front, header_magic, header_of, member_bytes, members_max}
-use Rattle.zio_cksum.specs.Sums.{sha256_words}
 use Rattle.zio_cksum.proofs.AllLemmas.{all_append}
 use Rattle.zio_heal.proofs.PointerLemmas.{IsSpelled}
 use Rattle.zio_heal.proofs.SumLemmas.{sum_four}

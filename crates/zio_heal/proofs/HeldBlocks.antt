@@ -1,14 +1,11 @@
 -- A block of which each piece is held is read without error once no row is met any more.
-use Rattle.std.proofs.Common.{◌≡◌, ℕ, ◌+◌, ◌≤◌, List, [], ◌∷◌, ◌++◌, length, true, false, None, Result, IsOk, IsTrue, Contains, refl, sym, ap, ◌∙◌, subst, arith}
+use Rattle.std.proofs.Common.{◌≡◌, ℕ, ◌+◌, ◌≤◌, List, [], ◌∷◌, length, true, None, IsOk, IsTrue, Contains, sym, ◌∙◌, subst, arith}
 use Rattle.std.specs.List.{AllByRecursion}
-use Rattle.zio_types.specs.declared.error.Errno.{Errno}
 use Rattle.zio_types.specs.declared.place.Place.{Place}
-use Rattle.zio_types.specs.declared.place.TopSize.{TopSize}
 use Rattle.zio_types.specs.Places.{is_inside}
 use Rattle.zio_blkptr.specs.Pointers.{places_of}
-use Rattle.zio_blkptr.specs.declared.pointer.Bp.{Bp}
 use Rattle.zio_cksum.specs.Blocks.{read_block}
-use Rattle.zio_cksum.specs.Frames.{FitSpots, HaveRoom, SameOutside, spots_of}
+use Rattle.zio_cksum.specs.Frames.{FitSpots, HaveRoom, spots_of}
 use Rattle.zio_cksum.specs.Images.{Images, Setting, Spot, image_of}
 use Rattle.zio_cksum.proofs.AllLemmas.{all_contains, all_weaker}
 use Rattle.zio_cksum.proofs.ReadLemmas.{reads_law}
@@ -23,14 +20,13 @@ use Rattle.zio_trace.specs.Tasks.{good_by}
 use Rattle.zio_trace.specs.TreeOrders.{Pairs}
 use Rattle.zio_trace.proofs.BlockPieces.{CopiesApart as PiecesApart}
 use Rattle.zio_trace.proofs.CopiesLemmas.{copies_follow}
-use Rattle.zio_trace.proofs.ListLemmas.{all_lists, contains_first}
+use Rattle.zio_trace.proofs.ListLemmas.{all_lists}
 use Rattle.zio_trace.proofs.OwnBlocks.{block_apart, piece_own}
 use Rattle.zio_trace.proofs.PairLemmas.{all_of, flat_contains}
-use Rattle.zio_trace.proofs.PlaceLemmas.{DontMeet, SpotLies, spots_lie}
 use Rattle.zio_trace.proofs.SeparateLemmas.{pieces_among}
 use Rattle.zio_trace.proofs.SpotLemmas.{AllInside, NoneTouch, touch_turned}
-use Rattle.zio_heal.specs.Contents.{EachPiece, IsGood, IsHeld}
-use Rattle.zio_heal.specs.Copies.{AreElsewhere, HasCopy, IsPastFaults}
+use Rattle.zio_heal.specs.Contents.{EachPiece, IsHeld}
+use Rattle.zio_heal.specs.Copies.{IsPastFaults}
 use Rattle.zio_heal.specs.Pools.{IsPool}
 use Rattle.zio_heal.proofs.CopyLemmas.{reads_keep}
 use Rattle.zio_heal.proofs.FoundLemmas.{found_law}

@@ -1,5 +1,5 @@
 -- A piece that a trace wrote is held after it, and what was given last for its places are its bytes.
-use Rattle.std.proofs.Common.{◌≡◌, ◌≢◌, ℕ, ◌+◌, ◌*◌, ◌≤◌, ◌<◌, List, [], ◌∷◌, ◌++◌, length, map, slice_get, Bool, true, false, cond, if◌then◌else◌, Option, Some, None, IsTrue, Contains, ◌⊎◌, inl, inr, ⊎_elim, refl, sym, ap, ◌∙◌, subst, arith}
+use Rattle.std.proofs.Common.{◌≡◌, ◌≢◌, ℕ, ◌+◌, ◌*◌, ◌≤◌, ◌<◌, List, [], ◌∷◌, ◌++◌, length, map, slice_get, Bool, true, false, if◌then◌else◌, Option, Some, None, IsTrue, Contains, ◌⊎◌, inl, inr, ⊎_elim, refl, sym, ap, ◌∙◌, subst, arith}
 use Rattle.std.proofs.lemmas.Bool.{cases_Bool}
 use Rattle.std.specs.Cmp.Lexicographic.{pointwise, pointwise_decides}
 use Rattle.std.specs.List.{AllByRecursion}
@@ -20,14 +20,13 @@ use Rattle.zio_trace.specs.Programs.{Deed, Happen}
 use Rattle.zio_trace.specs.Readers.{CopiesApart}
 use Rattle.zio_trace.specs.RoundTraces.{Trace}
 use Rattle.zio_trace.specs.RunTraces.{in_round}
-use Rattle.zio_trace.specs.Separate.{HaveRoomFor}
 use Rattle.zio_trace.specs.Tasks.{Find, Task, Value, WriteCopies, Wrote, means}
 use Rattle.zio_trace.proofs.ListLemmas.{all_rest, contains_first}
 use Rattle.zio_trace.proofs.PairLemmas.{all_of, pairs_two}
 use Rattle.zio_trace.proofs.PlaceLemmas.{DontMeet, SpotLies, below_sectors, spots_lie}
 use Rattle.zio_trace.proofs.ProgramLemmas.{happen_apart}
 use Rattle.zio_trace.proofs.SpotLemmas.{AllInside, NoneTouch, clear_turned, own_spots, spots_clear}
-use Rattle.zio_heal.specs.Contents.{IsGood, IsHeld}
+use Rattle.zio_heal.specs.Contents.{IsHeld}
 use Rattle.zio_heal.specs.Copies.{AreElsewhere, HasCopy, StoresAsGiven}
 use Rattle.zio_heal.specs.Given.{Deeds, given_after, given_by, given_in}
 use Rattle.zio_heal.specs.Pools.{IsPool}

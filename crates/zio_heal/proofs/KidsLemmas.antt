@@ -1,5 +1,5 @@
 -- In each attempt of a tree, a request has the pointers of all its children, and what goes again has them in front.
-use Rattle.std.proofs.Common.{◌≡◌, ℕ, zero, suc, ◌+◌, List, [], ◌∷◌, ◌++◌, length, map, filter, count_by, Bool, true, false, cond, ◌&&◌, not, nat_le, Option, Some, None, refl, sym, ap, ◌∙◌, subst, append_assoc, length-append, arith}
+use Rattle.std.proofs.Common.{◌≡◌, ℕ, zero, suc, ◌+◌, List, [], ◌∷◌, ◌++◌, length, map, filter, count_by, Bool, true, false, cond, ◌&&◌, not, nat_le, Option, refl, sym, ap, ◌∙◌, subst, length-append, arith}
 use Rattle.std.proofs.lemmas.List.Elements.{filter-append}
 use Rattle.std.proofs.lemmas.List.Filters.{length-filter_both}
 use Rattle.std.proofs.lemmas.List.{length-map}
@@ -14,12 +14,12 @@ use Rattle.zio_script.specs.Requests.{is_under_number, kind_of}
 use Rattle.zio_cksum.specs.Images.{Images}
 use Rattle.zio_cksum.proofs.AllLemmas.{all_append, all_filter, all_map, all_weaker}
 use Rattle.zio_gang.specs.Attempts.{Attempt, Attempted, Child, Own, Pending, Return, Settled, Terms, all_bits, attempt_each, attempt_one, bits_of, children_of, closed_if, finished_of, has_bits, insert_children, now_alone, own_work, reexecutions_max, returned_to, root_bits, settle, settle_from, settled_if}
-use Rattle.zio_gang.specs.ByNumber.{insert_by, insert_if, merge_by}
+use Rattle.zio_gang.specs.ByNumber.{insert_by, insert_if}
 use Rattle.zio_gang.specs.Rounds.{add_left, settle_each}
 use Rattle.zio_gang.specs.Trees.{sizes_of}
 use Rattle.zio_trace.specs.RoundTraces.{pointers_after}
 use Rattle.zio_trace.proofs.ChoiceLemmas.{Answers}
-use Rattle.zio_heal.specs.Pools.{IsPool, IsWriting}
+use Rattle.zio_heal.specs.Pools.{IsPool}
 use Rattle.zio_heal.specs.SafeRounds.{FitsWrite, HasSlot, HaveChildren, is_child_of}
 use Rattle.zio_heal.proofs.DisciplineLemmas.{all_merged}
 use Rattle.zio_heal.proofs.SlotLemmas.{own_slot}

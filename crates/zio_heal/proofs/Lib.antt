@@ -38,6 +38,7 @@ pub mod ReadyAfter
 pub mod RepairLemmas
 pub mod RoundTells
 pub mod RunLemmas
+pub mod SafeCasesProofs
 pub mod SafeTraces
 pub mod SlotLemmas
 pub mod SparedLemmas

@@ -1,5 +1,5 @@
 -- The trace of a request's own work: it writes at places that were found for the request, and reads pieces of its block.
-use Rattle.std.proofs.Common.{◌≡◌, ◌≢◌, ℕ, ◌+◌, ◌≤◌, List, [], ◌∷◌, ◌++◌, length, map, Bool, true, false, Option, Some, None, Result, IfOk, IfSome, IsTrue, Contains, ◌⊎◌, inl, inr, ⊎_elim, refl, sym, ap, ◌∙◌, subst, append-nil, arith}
+use Rattle.std.proofs.Common.{◌≡◌, ℕ, ◌+◌, ◌≤◌, List, [], length, Bool, Option, Some, None, IfOk, IfSome, IsTrue, ◌⊎◌, inl, inr, refl, sym, ap, ◌∙◌, subst, append-nil, arith}
 use Rattle.std.specs.List.{AllByRecursion}
 use Rattle.zio_types.specs.declared.place.Place.{Place}
 use Rattle.zio_types.specs.Choices.{Choice}
@@ -9,9 +9,8 @@ use Rattle.zio_script.specs.declared.script.Request.{Request}
 use Rattle.zio_script.specs.declared.script.Work.{Work}
 use Rattle.zio_script.specs.declared.script.Work.TheVariants.{Null, Read as WorkRead, Write, Free, Claim}
 use Rattle.zio_script.specs.Bodies.{body_of}
-use Rattle.zio_cksum.specs.Blocks.{read_block}
 use Rattle.zio_cksum.specs.Frames.{FitSpots, spots_of}
-use Rattle.zio_cksum.specs.Images.{Images, Setting, Spot, image_of}
+use Rattle.zio_cksum.specs.Images.{Images, Spot, image_of}
 use Rattle.zio_cksum.proofs.AllLemmas.{all_contains, all_weaker}
 use Rattle.zio_cksum.proofs.ReadLemmas.{reads_law}
 use Rattle.zio_cksum.proofs.WriteLemmas.{writes_law}
@@ -22,17 +21,17 @@ use Rattle.zio_gang.specs.Writes.{content_of}
 use Rattle.zio_trace.specs.BlockCopies.{Copies, copies_of, reading_of}
 use Rattle.zio_trace.specs.Leaves.{HaveSizes}
 use Rattle.zio_trace.specs.Plans.{own_read_by, own_stored, plan_free, plan_own, plan_read, plan_tree, plan_write}
-use Rattle.zio_trace.specs.Programs.{Deed, Ends, Happen, Meaning, ◌>>=◌, ask}
+use Rattle.zio_trace.specs.Programs.{Deed, Ends, Meaning, ◌>>=◌}
 use Rattle.zio_trace.specs.RoundTraces.{Trace, is_single_or_piece, levels_max, own_trace, task_trace, trace_each}
 use Rattle.zio_trace.specs.Separate.{IsNoClaim}
-use Rattle.zio_trace.specs.Tasks.{ByKept, Find, ReadCopies, ReadHeads, Task, Test, Value, WriteCopies, good_by, got, means, stored, walked}
+use Rattle.zio_trace.specs.Tasks.{ByKept, Find, ReadCopies, ReadHeads, Task, Test, Value, WriteCopies, good_by, got, means, stored}
 use Rattle.zio_trace.proofs.ChoiceLemmas.{Answers}
 use Rattle.zio_trace.proofs.SpotLemmas.{AllInside, NoneTouch}
 use Rattle.zio_heal.specs.Pools.{IsPool}
 use Rattle.zio_heal.proofs.HeldLemmas.{lie_on}
 use Rattle.zio_heal.proofs.PlacedPlans.{each_then}
 use Rattle.zio_heal.proofs.ReadTraces.{AreReadsIn, IsOwnTest, IsReadIn, free_read, tree_read}
-use Rattle.zio_heal.proofs.SafeTraces.{AllPass, IsReadHere, Passes}
+use Rattle.zio_heal.proofs.SafeTraces.{AllPass, Passes}
 use Rattle.zio_heal.proofs.WriteTraces.{write_for}
 use Rattle.zio_heal.proofs.WrittenPieces.{AllWriteAt, IsAt, WritesAt, found_inside}
 

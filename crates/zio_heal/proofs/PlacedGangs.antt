@@ -1,5 +1,5 @@
 -- A body and a gang that were placed without error, each with its pointer, its headers and a write of each piece.
-use Rattle.std.proofs.Common.{◌≡◌, ℕ, suc, ◌+◌, ◌≤◌, List, [], ◌∷◌, ◌++◌, length, map, true, false, bytes_eq, Option, Some, None, IsTrue, refl, sym, ap, ◌∙◌, subst, append_assoc, append-nil, arith}
+use Rattle.std.proofs.Common.{◌≡◌, ℕ, suc, ◌≤◌, List, [], ◌∷◌, ◌++◌, length, map, true, false, Option, Some, None, IsTrue, refl, sym, ap, ◌∙◌, subst, append_assoc, append-nil, arith}
 use Rattle.std.specs.Prelude.{slice_index_or}
 use Rattle.std.proofs.lemmas.List.{length-map}
 use Rattle.std.proofs.lemmas.Slice.Eq.{bytes_eq-Decides}
@@ -13,7 +13,7 @@ use Rattle.zio_blkptr.specs.declared.pointer.SumKind.{SumKind}
 use Rattle.zio_blkptr.specs.declared.pointer.SumKind.TheVariants.{Off, Fletcher4, Sha256}
 use Rattle.zio_blkptr.specs.Pointers.{FitsTypes, places_of, valid}
 use Rattle.zio_cksum.specs.Blocks.{good_kept}
-use Rattle.zio_cksum.specs.Headers.{Heads, header_of, members_max, members_of, split_sizes}
+use Rattle.zio_cksum.specs.Headers.{header_of, members_max, members_of, split_sizes}
 use Rattle.zio_cksum.specs.Sums.{fits, fletcher4, sha256_words, sum_of}
 use Rattle.zio_cksum.proofs.AllLemmas.{all_append, all_contains, all_weaker}
 use Rattle.zio_cksum.proofs.HeaderLemmas.{named_law}
@@ -22,7 +22,6 @@ use Rattle.zio_gang.specs.declared.tree.Head.{Head}
 use Rattle.zio_gang.specs.Attempts.{Pending, Terms, writing_of}
 use Rattle.zio_gang.specs.Trees.{kept_at, sizes_of}
 use Rattle.zio_gang.specs.Writes.{Writing, body_ask, chosen, head_ask, pointer_to}
-use Rattle.zio_trace.specs.BlockCopies.{Copies, head_copies}
 use Rattle.zio_trace.specs.Plans.{Kin, gang_stored, header_over}
 use Rattle.zio_trace.specs.Programs.{Deed}
 use Rattle.zio_trace.specs.RoundTraces.{Trace}
@@ -32,14 +31,14 @@ use Rattle.zio_trace.proofs.BlockPieces.{longer_differs}
 use Rattle.zio_trace.proofs.ChoiceLemmas.{Answers}
 use Rattle.zio_trace.proofs.PlaceLemmas.{DontMeet}
 use Rattle.zio_trace.proofs.SpotLemmas.{NoneTouch}
-use Rattle.zio_heal.specs.Contents.{HasPieces, HaveBytes, IsGood}
+use Rattle.zio_heal.specs.Contents.{HasPieces, HaveBytes}
 use Rattle.zio_heal.specs.Pools.{IsBlockSize, IsPool, IsWriting}
 use Rattle.zio_heal.proofs.HeaderLemmas.{header_long}
 use Rattle.zio_heal.proofs.PieceLemmas.{body_piece, bytes_weaker, gang_pieces, kept_first, kept_other, pieces_weaker}
-use Rattle.zio_heal.proofs.PlacedParts.{AreMembersWritten, IsHeadBelow, IsHeadFrom, IsPartWritten, KeepBelow}
+use Rattle.zio_heal.proofs.PlacedParts.{AreMembersWritten, IsHeadBelow, IsHeadFrom, IsPartWritten}
 use Rattle.zio_heal.proofs.PlacedPlaces.{AreOwn, IsFoundAt, all_found, own_first, own_gang, pointers_in}
 use Rattle.zio_heal.proofs.PointerLemmas.{AreFound, IsSpelled, found_for, places_of_pointer, spelled}
-use Rattle.zio_heal.proofs.WrittenPieces.{AllWriteAt, AreUsable, AtMember, IsAt, IsWrittenIn, WritesAt, all_writes, asks_apart, found_usable, member_at, written_more}
+use Rattle.zio_heal.proofs.WrittenPieces.{AreUsable, AtMember, IsAt, IsWrittenIn, WritesAt, all_writes, asks_apart, found_usable, member_at, written_more}
 
 sum_good : (kind : SumKind) (bytes : List ℕ) → fits kind (sum_of kind bytes) bytes ≡ true
 sum_good Off bytes = refl

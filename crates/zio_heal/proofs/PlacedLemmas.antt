@@ -1,8 +1,7 @@
 -- A write without error has a tree, each piece of which is held with its bytes.
-use Rattle.std.proofs.Common.{◌≡◌, ◌≢◌, ℕ, ◌<◌, ◌≤◌, max, min, nat_lt, ◌==◌, not, List, [], ◌∷◌, ◌++◌, length, map, Bool, true, false, Option, Some, None, IsSome, IsTrue, Contains, ◌⊎◌, ⊎_elim, eqb-true, refl, sym, ap, ◌∙◌, subst, append-nil, arith}
+use Rattle.std.proofs.Common.{◌≡◌, ◌≢◌, ℕ, ◌<◌, ◌≤◌, max, min, nat_lt, ◌==◌, not, List, [], ◌∷◌, ◌++◌, length, map, true, false, Option, Some, None, IsSome, IsTrue, Contains, ◌⊎◌, ⊎_elim, eqb-true, refl, sym, ap, ◌∙◌, subst, append-nil, arith}
 use Rattle.std.proofs.lemmas.Bool.{and_from, and_parts, cases_Bool, ltb-true}
 use Rattle.std.specs.List.{AllByRecursion}
-use Rattle.zio_types.specs.declared.error.Errno.{Errno}
 use Rattle.zio_types.specs.declared.place.Place.{Place}
 use Rattle.zio_types.specs.declared.request.Prio.{Prio}
 use Rattle.zio_types.specs.Choices.{Choice}
@@ -22,15 +21,14 @@ use Rattle.zio_gang.specs.Attempts.{Own, Pending, Terms, own_work, placed_tree, 
 use Rattle.zio_gang.specs.Journals.{AreLawful, choices_in}
 use Rattle.zio_gang.specs.Trees.{sizes_of, tree_places, tree_pointers}
 use Rattle.zio_gang.specs.Writes.{Placed, content_of, place_block}
-use Rattle.zio_trace.specs.BlockCopies.{Copies}
 use Rattle.zio_trace.specs.Leaves.{HaveSizes}
-use Rattle.zio_trace.specs.Plans.{own_stored, plan, plan_own, plan_write}
+use Rattle.zio_trace.specs.Plans.{own_stored, plan, plan_own}
 use Rattle.zio_trace.specs.Programs.{Done, Ends, Happen, run}
 use Rattle.zio_trace.specs.RoundTraces.{Trace, is_single_or_piece, levels_max, own_trace, task_trace, trace_each}
 use Rattle.zio_trace.specs.RunTraces.{in_round}
 use Rattle.zio_trace.specs.Separate.{NoneMeet}
 use Rattle.zio_trace.specs.SoundRounds.{IsOwnBlock}
-use Rattle.zio_trace.specs.Tasks.{OwnGot, Stored, Task, Value, WritePart, as_own, as_stored, means, stored}
+use Rattle.zio_trace.specs.Tasks.{OwnGot, Task, Value, WritePart, as_stored, means, stored}
 use Rattle.zio_trace.specs.TreeOrders.{Pairs}
 use Rattle.zio_trace.proofs.ChoiceLemmas.{Answers, IsPlaced, MeetsNone, answers_in_round, chosen_placed}
 use Rattle.zio_trace.proofs.DownLemmas.{Gives, down_gives, each_gives}

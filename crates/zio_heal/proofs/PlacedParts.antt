@@ -1,41 +1,26 @@
 -- A part of a block that was placed without error: its pointer, its headers, and a write of each of its pieces.
-use Rattle.std.proofs.Common.{◌≡◌, ◌≢◌, ℕ, suc, ◌+◌, ◌≤◌, List, [], ◌∷◌, ◌++◌, length, map, take, drop, true, false, bytes_eq, Option, Some, None, refl, sym, ap, ◌∙◌, subst, append_assoc, append-nil, length-take, arith}
-use Rattle.std.specs.Prelude.{min, slice_index_or}
-use Rattle.std.proofs.lemmas.Slice.Eq.{bytes_eq-Decides}
+use Rattle.std.proofs.Common.{◌≡◌, ◌≢◌, ℕ, ◌+◌, ◌≤◌, List, [], ◌∷◌, ◌++◌, length, map, take, drop, Some, sym, ◌∙◌, subst, append-nil, length-take, arith}
 use Rattle.std.specs.List.{AllByRecursion}
 use Rattle.zio_types.specs.declared.place.Place.{Place}
-use Rattle.zio_types.specs.Choices.{Choice, no_place}
-use Rattle.zio_types.specs.Filled.{filled_to}
-use Rattle.zio_types.specs.Places.{sector_size}
+use Rattle.zio_types.specs.Choices.{Choice}
 use Rattle.zio_blkptr.specs.declared.pointer.Bp.{Bp}
-use Rattle.zio_blkptr.specs.declared.pointer.SumKind.{SumKind}
-use Rattle.zio_blkptr.specs.declared.pointer.SumKind.TheVariants.{Off, Fletcher4, Sha256}
-use Rattle.zio_blkptr.specs.Pointers.{FitsTypes, places_of, valid}
-use Rattle.zio_cksum.specs.Blocks.{good_kept}
-use Rattle.zio_cksum.specs.Headers.{header_of, members_max, members_of, split_sizes}
-use Rattle.zio_cksum.specs.Sums.{fits, fletcher4, sha256_words, sum_of}
 use Rattle.zio_cksum.proofs.AllLemmas.{all_append, all_weaker}
-use Rattle.zio_cksum.proofs.HeaderLemmas.{named_law}
-use Rattle.zio_cksum.proofs.SplitLemmas.{few_law}
 use Rattle.zio_gang.specs.declared.tree.Head.{Head}
-use Rattle.zio_gang.specs.Attempts.{Pending, Terms, writing_of}
+use Rattle.zio_gang.specs.Attempts.{Pending, Terms}
 use Rattle.zio_gang.specs.Trees.{kept_at, sizes_of}
-use Rattle.zio_gang.specs.Writes.{Writing, body_ask, chosen, head_ask, pointer_to}
-use Rattle.zio_trace.specs.BlockCopies.{Copies, body_copies, head_copies}
-use Rattle.zio_trace.specs.Plans.{Kin, add_kin, gang_stored, header_over}
+use Rattle.zio_trace.specs.Plans.{Kin, add_kin}
 use Rattle.zio_trace.specs.Programs.{Deed}
 use Rattle.zio_trace.specs.RoundTraces.{Trace}
-use Rattle.zio_trace.specs.Tasks.{Stored, Task, Value, WriteCopies, Wrote}
-use Rattle.zio_trace.proofs.BlockPieces.{forks_differ, longer_differs}
+use Rattle.zio_trace.specs.Tasks.{Stored, Task, Value}
+use Rattle.zio_trace.proofs.BlockPieces.{forks_differ}
 use Rattle.zio_trace.proofs.ChoiceLemmas.{Answers}
 use Rattle.zio_trace.proofs.SpotLemmas.{NoneTouch}
-use Rattle.zio_heal.specs.Contents.{HasPieces, HaveBytes, IsGood}
-use Rattle.zio_heal.specs.Pools.{IsBlockSize, IsPool, IsWriting}
-use Rattle.zio_heal.proofs.HeaderLemmas.{header_long}
-use Rattle.zio_heal.proofs.PieceLemmas.{AreOff, body_piece, bytes_weaker, kept_first, kept_front, kept_other, kept_rest, pieces_weaker}
+use Rattle.zio_heal.specs.Contents.{HasPieces, HaveBytes}
+use Rattle.zio_heal.specs.Pools.{IsPool}
+use Rattle.zio_heal.proofs.PieceLemmas.{AreOff, bytes_weaker, kept_front, kept_rest, pieces_weaker}
 use Rattle.zio_heal.proofs.PlacedPlaces.{AreOwn, IsFoundAt, IsFoundFrom, own_before, pointers_in}
-use Rattle.zio_heal.proofs.PointerLemmas.{AreFound, IsSpelled, found_for, places_of_pointer, spelled}
-use Rattle.zio_heal.proofs.WrittenPieces.{AllWriteAt, AtMember, IsAt, IsWrittenIn, WritesAt, all_writes, member_at, paths_apart, written_more}
+use Rattle.zio_heal.proofs.PointerLemmas.{IsSpelled}
+use Rattle.zio_heal.proofs.WrittenPieces.{AllWriteAt, AtMember, IsAt, IsWrittenIn, WritesAt, all_writes, paths_apart, written_more}
 
 -- the header is at the path or below it
 pub record IsHeadBelow (path : List ℕ) (h : Head) : Type 0 where

@@ -1,5 +1,5 @@
 -- A pointer to places that a lawful journal found can be spelled.
-use Rattle.std.proofs.Common.{◌≡◌, ℕ, zero, suc, ◌+◌, ◌-◌, ◌*◌, ◌/◌, ◌%◌, ◌^◌, ◌<◌, ◌≤◌, List, [], ◌∷◌, ◌++◌, length, map, take, drop, find, filter, replicate, Bool, true, false, cond, ◌&&◌, ◌||◌, ◌==◌, nat_le, nat_lt, Option, Some, None, IsTrue, Contains, inl, inr, refl, sym, ap, ◌∙◌, subst, eq-eqb, eqb-true, leb-true, le-leb, lt-ltb, arith}
+use Rattle.std.proofs.Common.{◌≡◌, ℕ, zero, suc, ◌-◌, ◌*◌, ◌/◌, ◌%◌, ◌^◌, ◌<◌, ◌≤◌, List, [], ◌∷◌, ◌++◌, length, map, drop, find, filter, replicate, Bool, true, false, cond, ◌&&◌, ◌||◌, ◌==◌, nat_le, nat_lt, Option, Some, None, IsTrue, Contains, inl, inr, refl, ap, ◌∙◌, subst, eq-eqb, eqb-true, leb-true, le-leb, lt-ltb, arith}
 use Rattle.std.specs.Prelude.{slice_get}
 use Rattle.std.specs.List.{AllByRecursion, list_all}
 use Rattle.std.proofs.Math.Seq.{take-append_seam, drop-append_seam}
@@ -15,7 +15,7 @@ use Rattle.zio_blkptr.specs.declared.pointer.TheConstants.{SECTOR_END, TOP_END}
 use Rattle.zio_blkptr.specs.Pointers.{FitsTypes, is_absent, is_block_size, is_present, is_rounding_of, places_of, sectors_stored, valid}
 use Rattle.zio_blkptr.proofs.Roundings.{near_by_rounding}
 use Rattle.zio_cksum.proofs.AllLemmas.{all_contains, all_weaker}
-use Rattle.zio_gang.specs.Journals.{AreLawful, choices_in, taken_by}
+use Rattle.zio_gang.specs.Journals.{AreLawful, taken_by}
 use Rattle.zio_gang.specs.Trees.{size_of, sizes_of}
 use Rattle.zio_gang.specs.Writes.{Writing, chosen, places_chosen, places_unless, pointer_to}
 use Rattle.zio_trace.specs.Separate.{HaveRoomFor}

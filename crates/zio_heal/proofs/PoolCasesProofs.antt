@@ -1,5 +1,5 @@
 -- Pools, sizes and writes that placed writes stand on, and such that they don't.
-use Rattle.std.proofs.Common.{◌≡◌, ◌≢◌, ℕ, zero, suc, ◌≤◌, ◌%◌, List, [], ◌∷◌, true, false, refl, arith}
+use Rattle.std.proofs.Common.{◌≡◌, zero, suc, ◌≤◌, [], ◌∷◌, true, false, refl, arith}
 use Rattle.zio_trace.specs.Separate.{LeavesHold, LeavesOnce}
 use Rattle.zio_trace.specs.SoundRounds.{LeavesDiffer}
 use Rattle.zio_heal.specs.PoolCases.{FoundIsFine, FourArent, HalfASectorIsnt, LargeMayBeRefused, LeafTwiceIsnt, MirrorIsAPool, NoBirthIsnt, NoLeafIsnt, NoneIsnt, NothingIsnt, OddUnitIsnt, OneSectorIsASize, SharedLeafIsnt, ShortLeafIsnt, SmallMayNot, ThreeCopiesAreWritten, TooLargeIsnt, top_of}

@@ -1,5 +1,5 @@
 -- The trace of a read of a block is of reads of its pieces, and so is that of a free.
-use Rattle.std.proofs.Common.{◌≡◌, ℕ, zero, suc, ◌+◌, ◌≤◌, List, [], ◌∷◌, ◌++◌, map, Bool, true, false, bytes_eq, Option, Some, None, Result, Ok, Err, IfOk, IsTrue, Contains, refl, sym, ap, ◌∙◌, subst, append-nil, arith}
+use Rattle.std.proofs.Common.{◌≡◌, ℕ, zero, suc, ◌+◌, ◌≤◌, List, [], ◌∷◌, ◌++◌, map, Bool, true, false, Option, Some, None, Result, Ok, Err, IfOk, IsTrue, Contains, refl, sym, ap, ◌∙◌, subst, append-nil, arith}
 use Rattle.std.proofs.lemmas.List.{map-append}
 use Rattle.std.proofs.lemmas.List.Elements.{Contains-append_left, Contains-append_right}
 use Rattle.std.proofs.lemmas.Slice.Eq.{bytes_eq-Decides}
@@ -17,16 +17,15 @@ use Rattle.zio_cksum.proofs.ReadLemmas.{good_law}
 use Rattle.zio_gang.specs.declared.tree.Head.{Head}
 use Rattle.zio_gang.specs.declared.tree.Tree.{Tree}
 use Rattle.zio_gang.specs.Attempts.{Terms}
-use Rattle.zio_gang.specs.Pieces.{Parts, Piece, body_piece, members_kept, no_parts, parts_from, parts_if, parts_of, parts_of_members, below_piece, head_piece}
+use Rattle.zio_gang.specs.Pieces.{Parts, Piece, body_piece, members_kept, no_parts, parts_from, parts_if, parts_of_members, below_piece, head_piece}
 use Rattle.zio_gang.specs.Trees.{Walk, header_levels_max, kept_at, unless_errors, walk_kept}
 use Rattle.zio_gang.proofs.PieceLemmas.{kept_walk_comes}
 use Rattle.zio_trace.specs.BlockCopies.{Copies, Groups, below_copies, body_copies, copies_from, copies_of, groups_if, groups_of, groups_of_members, head_copies, no_groups, reading_of}
 use Rattle.zio_trace.specs.Plans.{Bodies, TaskPlan, add_got, head_task, join_walked, plan, plan_after, plan_below, plan_bodies, plan_found, plan_pointer, plan_tree, under_head}
-use Rattle.zio_trace.specs.Programs.{Deed, Done, Ends, Meaning, ◌>>=◌, ask, run}
+use Rattle.zio_trace.specs.Programs.{Deed, Done, Ends, Meaning, ◌>>=◌, ask}
 use Rattle.zio_trace.specs.RoundTraces.{Trace, deed_of, is_single_or_piece, trace_down, trace_each}
-use Rattle.zio_trace.specs.Tasks.{BodyOf, ByKept, ClaimedBy, Got, KeptAs, ReadCopies, ReadHeads, Task, Test, Value, Walked, WalkedBy, good_by, got, means, walked}
+use Rattle.zio_trace.specs.Tasks.{BodyOf, ByKept, ClaimedBy, Got, KeptAs, ReadHeads, Task, Test, Value, WalkedBy, good_by, got, means, walked}
 use Rattle.zio_trace.proofs.ListLemmas.{contains_first, contains_later}
-use Rattle.zio_trace.proofs.PairLemmas.{all_of}
 use Rattle.zio_heal.proofs.PlacedPlans.{each_then}
 
 -- the copies of a block aren't judged as claimed ones

@@ -1,6 +1,6 @@
 -- The pieces of a block are read in turn: its headers by the walk, then its bodies. Where each of these reads is good, so
 -- is the read of the block.
-use Rattle.std.proofs.Common.{◌≡◌, ℕ, zero, suc, ◌+◌, List, [], ◌∷◌, ◌++◌, map, take, drop, Bool, true, false, bytes_eq, Option, Some, None, Result, Ok, Err, IfOk, IsOk, IsTrue, refl, sym, ap, ◌∙◌, subst}
+use Rattle.std.proofs.Common.{◌≡◌, ℕ, zero, suc, ◌+◌, List, [], ◌∷◌, ◌++◌, map, take, drop, Bool, true, false, Option, Some, None, Result, Ok, Err, IfOk, IsOk, IsTrue, refl, sym, ap, ◌∙◌, subst}
 use Rattle.std.proofs.lemmas.List.{map-append}
 use Rattle.std.proofs.lemmas.Slice.Eq.{bytes_eq-Decides}
 use Rattle.std.specs.List.{AllByRecursion}
@@ -9,7 +9,7 @@ use Rattle.zio_types.specs.Errors.{worst_of}
 use Rattle.zio_types.specs.Places.{sector_size}
 use Rattle.zio_blkptr.specs.declared.pointer.Bp.{Bp}
 use Rattle.zio_blkptr.specs.Pointers.{places_of}
-use Rattle.zio_cksum.specs.Blocks.{Read, good_body, good_kept, read_block}
+use Rattle.zio_cksum.specs.Blocks.{Read, good_kept, read_block}
 use Rattle.zio_cksum.specs.Headers.{members_of}
 use Rattle.zio_cksum.specs.Images.{Images, Setting}
 use Rattle.zio_cksum.proofs.AllLemmas.{all_append}
@@ -20,7 +20,7 @@ use Rattle.zio_gang.specs.Pieces.{members_kept}
 use Rattle.zio_gang.specs.Trees.{BodiesRead, Walk, add_body, bodies_unless, free_tree, header_levels_max, kept_at, kept_visit, read_bodies, read_tree, unless_errors, walk, walk_found, walk_kept, walk_members, walk_pointer, walk_read}
 use Rattle.zio_trace.specs.BlockCopies.{Copies, Groups, below_copies, body_copies, copies_from, copies_of, groups_if, groups_of, groups_of_members, head_copies, no_groups}
 use Rattle.zio_trace.specs.Tasks.{good_by}
-use Rattle.zio_heal.specs.Contents.{EachPiece, HasPieces, HaveBytes, IfGang, IsGangOf}
+use Rattle.zio_heal.specs.Contents.{EachPiece, HasPieces, HaveBytes, IfGang}
 
 -- a read of the copies, with repairs
 abbrev pub read_copies : Setting → Images → Copies → Read

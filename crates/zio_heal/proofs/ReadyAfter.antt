@@ -1,5 +1,5 @@
 -- What a round leaves may run again over the blocks that are bound then; and with that a round that starts safely ends so.
-use Rattle.std.proofs.Common.{◌≡◌, ◌≢◌, ℕ, List, [], ◌∷◌, ◌++◌, Bool, true, false, bytes_eq, is_some, Option, Some, None, IsSome, Contains, ◌⊎◌, inl, inr, ⊎_elim, refl, sym, ap, ◌∙◌, subst}
+use Rattle.std.proofs.Common.{◌≡◌, ◌≢◌, ℕ, List, [], ◌∷◌, true, false, bytes_eq, is_some, Option, Some, None, Contains, ◌⊎◌, inl, inr, ⊎_elim, refl, sym, ap, ◌∙◌, subst}
 use Rattle.std.proofs.lemmas.Bool.{cases_Bool}
 use Rattle.std.proofs.lemmas.Slice.Eq.{bytes_eq-Decides}
 use Rattle.std.specs.List.{AllByRecursion}
@@ -12,18 +12,17 @@ use Rattle.zio_script.specs.Requests.{name_of, names_it}
 use Rattle.zio_cksum.proofs.AllLemmas.{all_append, all_contains, all_weaker}
 use Rattle.zio_gang.specs.declared.tree.Tree.{Tree}
 use Rattle.zio_gang.specs.Attempts.{Ended, Pending}
-use Rattle.zio_gang.specs.Rounds.{Bound, bind_made, block_of, bound_after, bound_by, bound_unless, is_bound, settle_each}
+use Rattle.zio_gang.specs.Rounds.{Bound, bind_made, block_of, bound_after, bound_by, bound_unless, settle_each}
 use Rattle.zio_gang.proofs.BoundLemmas.{block_of-bind-other, block_of-unbind-other}
 use Rattle.zio_trace.specs.RunTraces.{RoundStart}
 use Rattle.zio_trace.specs.Separate.{IsNoClaim}
 use Rattle.zio_trace.specs.SoundRounds.{IsRead}
-use Rattle.zio_trace.specs.TreeOrders.{Pairs}
 use Rattle.zio_trace.proofs.PairLemmas.{all_of, pairs_stronger, pairs_two}
 use Rattle.zio_heal.specs.Discipline.{IsUnfailing}
 use Rattle.zio_heal.specs.Given.{Deeds}
 use Rattle.zio_heal.specs.SafeBlocks.{Contents}
-use Rattle.zio_heal.specs.SafeRounds.{AreReady, HasNamed, HaveChildren, IsReady, IsSafeEnd, IsSafeStart, NamesApart, NamesWell, NumbersDiffer, requests_in}
-use Rattle.zio_heal.proofs.AfterContents.{IsTold, WorksApart, after, all_ends, all_told, apart_from, apart_names, ended_well, no_errors, others_same}
+use Rattle.zio_heal.specs.SafeRounds.{AreReady, HaveChildren, IsReady, IsSafeEnd, IsSafeStart, NamesApart, NamesWell, NumbersDiffer, requests_in}
+use Rattle.zio_heal.proofs.AfterContents.{IsTold, after, all_ends, all_told, apart_from, apart_names, ended_well, no_errors, others_same}
 use Rattle.zio_heal.proofs.BoundAfter.{safe_after}
 use Rattle.zio_heal.proofs.BoundBlocks.{Q, answers, claims, from_itself, kids, tells}
 use Rattle.zio_heal.proofs.CleanRounds.{clean_law}

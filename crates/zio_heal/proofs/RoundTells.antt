@@ -1,6 +1,6 @@
 -- The requests that ended in a round, and what is left of its trees.
-use Rattle.std.proofs.Common.{◌≡◌, ◌≢◌, ℕ, ◌+◌, List, [], ◌∷◌, ◌++◌, refl, sym, ap, subst, append-nil}
-use Rattle.std.specs.List.{AllByRecursion, flat_map}
+use Rattle.std.proofs.Common.{◌≡◌, ◌≢◌, ℕ, List, [], ◌∷◌, ◌++◌, refl, sym, subst, append-nil}
+use Rattle.std.specs.List.{AllByRecursion}
 use Rattle.zio_types.specs.Choices.{Choice}
 use Rattle.zio_cksum.specs.Images.{Images}
 use Rattle.zio_cksum.proofs.AllLemmas.{all_append, all_contains, all_weaker}
@@ -18,7 +18,7 @@ use Rattle.zio_trace.proofs.PairLemmas.{all_of, pairs_across, pairs_append, pair
 use Rattle.zio_trace.proofs.TraceLemmas.{happen_join}
 use Rattle.zio_heal.specs.Pools.{IsPool}
 use Rattle.zio_heal.specs.SafeRounds.{EndsDiffer, NumbersDiffer, requests_in}
-use Rattle.zio_heal.proofs.EndedRequests.{AreBy, EndsIn, IsBy, IsFrom, IsStable, Tells, ends_more, number_stable, settle_by, settle_tells}
+use Rattle.zio_heal.proofs.EndedRequests.{AreBy, EndsIn, IsBy, IsFrom, IsStable, Tells, ends_more, settle_by, settle_tells}
 use Rattle.zio_heal.proofs.KidsLemmas.{LeftKids}
 
 left_joined : (left : List Pending) (others : List (List Pending)) → requests_in (add_left left others) ≡ left ++ requests_in others

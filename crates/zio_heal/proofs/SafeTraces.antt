@@ -1,8 +1,7 @@
 -- A piece stays safe through deeds that lie elsewhere or read it truly.
-use Rattle.std.proofs.Common.{◌≡◌, ℕ, ◌+◌, ◌≤◌, List, [], ◌∷◌, ◌++◌, length, map, Bool, true, false, bytes_eq, if◌then◌else◌, Option, Some, None, Result, Ok, Err, IfOk, IsTrue, Contains, ◌⊎◌, inl, inr, ⊎_elim, refl, sym, ap, ◌∙◌, subst, append_assoc, append-nil}
+use Rattle.std.proofs.Common.{◌≡◌, ℕ, List, [], ◌∷◌, ◌++◌, length, map, Bool, true, if◌then◌else◌, Option, Some, None, Ok, Err, IfOk, IsTrue, Contains, ◌⊎◌, inl, inr, ⊎_elim, refl, sym, ap, ◌∙◌, subst, append_assoc, append-nil}
 use Rattle.std.proofs.lemmas.Slice.Eq.{bytes_eq-Decides}
 use Rattle.std.specs.List.{AllByRecursion}
-use Rattle.zio_types.specs.declared.error.Errno.{Errno}
 use Rattle.zio_types.specs.declared.place.Place.{Place}
 use Rattle.zio_types.specs.Choices.{Choice}
 use Rattle.zio_cksum.specs.Blocks.{good_kept}
@@ -14,14 +13,14 @@ use Rattle.zio_trace.specs.Leaves.{Answer, HaveSizes}
 use Rattle.zio_trace.specs.Programs.{Deed, Happen}
 use Rattle.zio_trace.specs.RoundTraces.{Trace}
 use Rattle.zio_trace.specs.RunTraces.{InRound, in_round}
-use Rattle.zio_trace.specs.Tasks.{BodyOf, ClaimedBy, Find, KeptAs, ReadCopies, TakePlaces, Task, Test, Value, WriteCopies, good_by, got, means}
+use Rattle.zio_trace.specs.Tasks.{BodyOf, ClaimedBy, Find, KeptAs, ReadCopies, Task, Test, Value, WriteCopies, good_by, got, means}
 use Rattle.zio_trace.proofs.SpotLemmas.{AllInside, IsCopy, NoneTouch, is_copy}
 use Rattle.zio_heal.specs.Contents.{IsGood, IsHeld}
-use Rattle.zio_heal.specs.Copies.{HasCopy, StoresAsGiven}
-use Rattle.zio_heal.specs.Given.{AreTrueReads, Deeds, IsAsGiven, IsTrueOf, IsTrueRead, given_after, given_by, given_in}
+use Rattle.zio_heal.specs.Copies.{StoresAsGiven}
+use Rattle.zio_heal.specs.Given.{AreTrueReads, Deeds, IsTrueOf, IsTrueRead, given_by, given_in}
 use Rattle.zio_heal.specs.Pools.{IsPool}
 use Rattle.zio_heal.specs.SafeBlocks.{IsSafe}
-use Rattle.zio_heal.specs.Spared.{IsTrueHere, LieOn, SparesBy}
+use Rattle.zio_heal.specs.Spared.{IsTrueHere, SparesBy}
 use Rattle.zio_heal.proofs.HeldLemmas.{copies_apart, elsewhere, given_behind, have_room, lie_on, other_places}
 use Rattle.zio_heal.proofs.ReadTraces.{IsOwnTest}
 use Rattle.zio_heal.proofs.SparedLemmas.{spared_law}

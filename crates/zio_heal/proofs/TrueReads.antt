@@ -1,5 +1,5 @@
 -- A block whose reads give what was given for their places reads as its content, or fails.
-use Rattle.std.proofs.Common.{◌≡◌, ℕ, zero, suc, List, [], ◌∷◌, ◌++◌, take, drop, Bool, true, Option, Some, None, Result, Ok, Err, IfOk, refl, sym, ap, ◌∙◌, subst, append-nil}
+use Rattle.std.proofs.Common.{◌≡◌, ℕ, zero, suc, List, [], ◌∷◌, ◌++◌, take, drop, true, Option, Some, Result, Ok, Err, IfOk, refl, sym, ap, ◌∙◌, subst, append-nil}
 use Rattle.std.proofs.lemmas.List.{take-append-drop}
 use Rattle.std.specs.List.{AllByRecursion}
 use Rattle.zio_types.specs.declared.error.Errno.{Errno}
@@ -11,16 +11,14 @@ use Rattle.zio_cksum.specs.Images.{Images}
 use Rattle.zio_gang.specs.declared.tree.Tree.{Tree}
 use Rattle.zio_gang.specs.Attempts.{Terms}
 use Rattle.zio_gang.specs.Trees.{BodiesRead, Walk, add_body, bodies_unless, header_levels_max, read_bodies, read_tree, unless_errors, walk_kept}
-use Rattle.zio_trace.specs.BlockCopies.{Copies, body_copies}
 use Rattle.zio_trace.specs.Plans.{Bodies, add_got, plan, plan_after, plan_bodies, plan_tree}
-use Rattle.zio_trace.specs.Programs.{Asks, Deed, Ends, Meaning, ◌>>=◌}
+use Rattle.zio_trace.specs.Programs.{Deed, Ends, Meaning, ◌>>=◌}
 use Rattle.zio_trace.specs.RoundTraces.{Trace, deed_of, is_single_or_piece, task_trace, trace_down, trace_each}
-use Rattle.zio_trace.specs.Tasks.{BodyOf, ByKept, Got, ReadCopies, ReadHeads, ReadTree, Task, Value, got, means}
+use Rattle.zio_trace.specs.Tasks.{BodyOf, ByKept, Got, ReadCopies, ReadHeads, ReadTree, Task, Value, means}
 use Rattle.zio_trace.proofs.ListLemmas.{all_front, all_rest}
 use Rattle.zio_heal.specs.Contents.{EachPiece, IsGivenGood}
-use Rattle.zio_heal.specs.Given.{Deeds, IsAsGiven, IsTrueRead, given_in}
+use Rattle.zio_heal.specs.Given.{Deeds, IsAsGiven, IsTrueRead}
 use Rattle.zio_heal.proofs.BodyParts.{HaveParts, bodies_come}
-use Rattle.zio_heal.proofs.PieceLemmas.{each_weaker}
 use Rattle.zio_heal.proofs.PlacedPlans.{each_then}
 
 module _ (journal : List Choice) (t : Terms) (before : Deeds) where

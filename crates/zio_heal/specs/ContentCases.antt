@@ -1,5 +1,5 @@
 -- Contents of a body and of a gang of two members, and bytes that aren't.
-use Rattle.std.specs.Prelude.{◌≡◌, ℕ, zero, suc, List, [], ◌∷◌, ◌++◌, replicate, true, false, Some, None}
+use Rattle.std.specs.Prelude.{◌≡◌, ℕ, zero, suc, List, [], ◌∷◌, ◌++◌, replicate, true, Some, None}
 use Rattle.zio_types.specs.declared.place.Place.{Place}
 use Rattle.zio_types.specs.Choices.{no_place}
 use Rattle.zio_blkptr.specs.declared.pointer.Bp.{Bp}

@@ -1,5 +1,5 @@
 -- A block's content, piece by piece: which bytes belong to each header and to each body below a pointer.
-use Rattle.std.specs.Prelude.{◌≡◌, ℕ, zero, suc, ◌+◌, List, [], ◌∷◌, ◌++◌, length, take, drop, Bool, true, false, Option, Some}
+use Rattle.std.specs.Prelude.{◌≡◌, ℕ, zero, suc, ◌+◌, List, [], ◌∷◌, ◌++◌, length, take, drop, Bool, true, false, Some}
 use Rattle.zio_blkptr.specs.declared.pointer.Bp.{Bp}
 use Rattle.zio_cksum.specs.Frames.{spots_of}
 use Rattle.zio_cksum.specs.Headers.{members_of}

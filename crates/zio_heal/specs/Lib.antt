@@ -14,6 +14,7 @@ pub mod PlainStore
 pub mod PoolCases
 pub mod Pools
 pub mod SafeBlocks
+pub mod SafeCases
 pub mod SafeRounds
 pub mod Spared
 pub mod StoreCases

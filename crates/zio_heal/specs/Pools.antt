@@ -1,6 +1,6 @@
 -- What a placed write stands on: the tops of a pool, the size of a block, and a journal that finds a place for whatever
 -- fits one sector.
-use Rattle.std.specs.Prelude.{◌≡◌, ℕ, ◌%◌, ◌^◌, ◌<◌, ◌≤◌, List, length, Bool, false, ◌==◌, IsTrue}
+use Rattle.std.specs.Prelude.{◌≡◌, ℕ, ◌%◌, ◌^◌, ◌<◌, ◌≤◌, List, length, false, IsTrue}
 use Rattle.std.specs.List.{AllByRecursion}
 use Rattle.zio_types.specs.declared.place.Top.{Top}
 use Rattle.zio_types.specs.Choices.{Choice, is_refused}

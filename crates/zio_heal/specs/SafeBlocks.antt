@@ -1,5 +1,5 @@
 -- What is safe between two rounds of a run: the bound blocks, each with its content.
-use Rattle.std.specs.Prelude.{◌≡◌, ℕ, List}
+use Rattle.std.specs.Prelude.{ℕ, List}
 use Rattle.std.specs.List.{AllByRecursion}
 use Rattle.zio_types.specs.declared.place.Place.{Place}
 use Rattle.zio_cksum.specs.Images.{Images, Setting}

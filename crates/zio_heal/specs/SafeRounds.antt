@@ -1,11 +1,10 @@
 -- What a round keeps: it begins with bound blocks that are safe and requests that may run over them, and it ends so.
-use Rattle.std.specs.Prelude.{◌≡◌, ◌≢◌, ℕ, ◌+◌, List, [], ◌∷◌, ◌++◌, length, map, replicate, count_by, Bool, true, false, Option, Some, None, IfSome, IsSome, ◌⊎◌}
+use Rattle.std.specs.Prelude.{◌≡◌, ◌≢◌, ℕ, ◌+◌, List, [], ◌∷◌, ◌++◌, length, map, replicate, count_by, Bool, true, false, Option, Some, None, IsSome, ◌⊎◌}
 use Rattle.std.specs.List.{AllByRecursion, flat_map}
 use Rattle.zio_types.specs.Choices.{Choice}
 use Rattle.zio_blkptr.specs.declared.pointer.Bp.{Bp}
 use Rattle.zio_script.specs.declared.limits.TheConstants.{POINTER_SIZE}
 use Rattle.zio_script.specs.declared.script.Body.{Body}
-use Rattle.zio_script.specs.declared.script.Request.{Request}
 use Rattle.zio_script.specs.declared.script.Work.{Work}
 use Rattle.zio_script.specs.declared.script.Work.TheVariants.{Null, Read, Write, Free, Claim}
 use Rattle.zio_script.specs.Bodies.{body_of}
@@ -14,7 +13,7 @@ use Rattle.zio_cksum.specs.Headers.{member_bytes}
 use Rattle.zio_gang.specs.declared.tree.Tree.{Tree}
 use Rattle.zio_gang.specs.Attempts.{Child, Ended, Pending}
 use Rattle.zio_gang.specs.Journals.{AreChoicesOf, choices_in}
-use Rattle.zio_gang.specs.Rounds.{Bound, Ran, block_of, bound_after, is_bound, settle_each, used_places}
+use Rattle.zio_gang.specs.Rounds.{Bound, block_of, bound_after, is_bound, settle_each, used_places}
 use Rattle.zio_gang.specs.Trees.{sizes_of}
 use Rattle.zio_gang.specs.Writes.{content_of}
 use Rattle.zio_trace.specs.Leaves.{HaveSizes}

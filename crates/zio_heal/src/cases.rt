@@ -5,6 +5,7 @@ ghost use Rattle.zio_heal.specs.DisciplineCases.{BadChildIsnt, ClaimMayFail, Fla
 ghost use Rattle.zio_heal.specs.GivenCases.{AllPlacesCount, BytesOfNobodyArent, ErrorsAreTrue, GivenBytesAreTrue, HeadersAreCompared, LastReadsCount, LastWriteCounts, NobodyReadIt, NothingWasGiven, OtherBytesArent, RunAcceptsWhatWasGiven};
 ghost use Rattle.zio_heal.specs.HealedCases.{ClaimsMayFail, ClearIsNotLast, NoClearAtAll, NoRowsHeal, NoSumNoDamage, OneClearTooFew, OthersGoOn, PanicsEnd, ReadMayFail, ReadsMayBeTurned, TurnedByAnyStay, TurnedWritesStay, TwoClearsHeal, WriteHeals};
 ghost use Rattle.zio_heal.specs.PoolCases.{FoundIsFine, FourArent, HalfASectorIsnt, LargeMayBeRefused, LeafTwiceIsnt, MirrorIsAPool, NoBirthIsnt, NoLeafIsnt, NoneIsnt, NothingIsnt, OddUnitIsnt, OneSectorIsASize, SharedLeafIsnt, ShortLeafIsnt, SmallMayNot, ThreeCopiesAreWritten, TooLargeIsnt};
+ghost use Rattle.zio_heal.specs.SafeCases.{ChildIsInFront, FoundZerosArent, GaveContent, GaveError, GaveOther, IdleStartsSafely, MadeNothing, NothingDoesnt, OtherContentIsnt, ParentInFrontHasnt, PointerFits, ReadAndFreeDont, ReadHasItsBlock, ReadOfNobodyHasnt, TwoNamesArent, TwoReadsShare, UnusedDoesnt, WriteOfBoundMayNot, XIsSafe, ZerosAreSafe};
 ghost use Rattle.zio_heal.specs.StoreCases.{ChildrenMakeAFront, FaultsChangeNothing, FreedNameIsGone, FreedNameIsWritten, MissingComesFirst, NamesAtTheEnd, PaddedToASector, ReadersShareAName, TakenNameStays, TreeFailsWhole, TreesFailAlone, WholeSectorsStay};
 ghost use Rattle.zio_heal.specs.StoredCases.{ContentIsAnother, FaultHeals, LastingFaultLeaves, NameIsLeftOver, NoContentIsntAlike, ReplyIsMissing, RequestDidntEnd, SameWithoutFault, UnreadIsntAlike};
 ghost use Rattle.zio_heal.specs.WholeCases.{AskMayBeRefused, CopiesFailed, CopiesWritten, LeafMayFail, PartFailed, PartWritten, ReadIsNoWrite};
@@ -167,4 +168,28 @@ pub fn contents_are_had_piece_by_piece()
     ensures elsewhere_isnt { ElsewhereIsnt }
     ensures given_is_good { GivenIsGood }
     ensures given_may_be_short { GivenMayBeShort }
+{}
+
+/// A safe block is held and was given with its content; requests run behind their children; answers are the contents.
+pub fn rounds_begin_and_end_safely()
+    ensures zeros_are_safe { ZerosAreSafe }
+    ensures found_zeros_arent { FoundZerosArent }
+    ensures x_is_safe { XIsSafe }
+    ensures other_content_isnt { OtherContentIsnt }
+    ensures two_names_arent { TwoNamesArent }
+    ensures read_has_its_block { ReadHasItsBlock }
+    ensures read_of_nobody_hasnt { ReadOfNobodyHasnt }
+    ensures write_of_bound_may_not { WriteOfBoundMayNot }
+    ensures pointer_fits { PointerFits }
+    ensures nothing_doesnt { NothingDoesnt }
+    ensures child_is_in_front { ChildIsInFront }
+    ensures parent_in_front_hasnt { ParentInFrontHasnt }
+    ensures two_reads_share { TwoReadsShare }
+    ensures read_and_free_dont { ReadAndFreeDont }
+    ensures gave_content { GaveContent }
+    ensures gave_other { GaveOther }
+    ensures gave_error { GaveError }
+    ensures made_nothing { MadeNothing }
+    ensures idle_starts_safely { IdleStartsSafely }
+    ensures unused_doesnt { UnusedDoesnt }
 {}

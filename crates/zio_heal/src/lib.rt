@@ -14,7 +14,8 @@ pub use cases::{
     accepted_copies_are_compared_with_their_writes, contents_are_had_piece_by_piece,
     copies_are_spared_by_what_lies_elsewhere, flags_and_kinds_let_requests_fail,
     pieces_without_error_are_whole, plain_stores_answer_in_order, pools_have_leaves_of_their_own,
-    replies_are_alike_behind_pointers, runs_store_plainly, scripts_heal_once_faults_are_past,
+    replies_are_alike_behind_pointers, rounds_begin_and_end_safely, runs_store_plainly,
+    scripts_heal_once_faults_are_past,
 };
 pub use laws::{
     blocks_are_read_as_their_content, copies_are_found_once_faults_are_past,

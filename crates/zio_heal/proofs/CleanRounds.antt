@@ -235,8 +235,8 @@ module _ (journal : List Choice) (sizes : ℕ → ℕ) (ds : Deeds) (contents : 
   round_clean : (trees : List (List Pending)) (es : Trace) (now : Images) → AllByRecursion (IsFrom requests) (requests_in trees) → Pairs NumbersDiffer (requests_in trees) → AllByRecursion IsKids trees → IsHere es now
       → AreTrueReads ds (map (in_round s.terms) (es ++ round_trace is_single_or_piece journal s.terms trees now)) → AreAnswered (settle_each journal s.terms trees now).asks → (settle_each journal s.terms trees now).left ≡ []
   unfolding settle_each
-  round_clean [] es now from pairs kids here accepts answered = refl
-  round_clean (tree ∷ trees) es now from pairs kids here accepts answered =
+  round_clean [] es now from pairs behind here accepts answered = refl
+  round_clean (tree ∷ trees) es now from pairs behind here accepts answered =
       let others : List Pending = requests_in trees in
       let x : Settled = settle journal s.terms tree now in
       let ran : Ran = settle_each journal s.terms trees x.images in
@@ -250,16 +250,16 @@ module _ (journal : List Choice) (sizes : ℕ → ℕ) (ds : Deeds) (contents : 
       let accepts_first : AreTrueReads ds (map (in_round s.terms) (es ++ first)) =
       true_first ds (map (in_round s.terms) (es ++ first)) (map (in_round s.terms) rest) (subst (AreTrueReads ds) (map-append (in_round s.terms) (es ++ first) rest) split) in
       let tells : Tells journal s.terms requests children sizes h.pool a c now first tree x.ended x.left x.images =
-      settle_tells journal s.terms requests children sizes h.pool a c reexecutions_max 0 tree now from_tree pairs_tree kids.0 in
+      settle_tells journal s.terms requests children sizes h.pool a c reexecutions_max 0 tree now from_tree pairs_tree behind.0 in
       let there : IsHere (es ++ first) x.images = record {
         by = all_append (IsBy journal s.terms requests children (λ n. Unit {0})) es first here.by
-            (settle_by journal s.terms requests children sizes h.pool a c (λ n. Unit {0}) reexecutions_max 0 tree now from_tree pairs_tree kids.0 (all_true (λ (p : Pending). Unit {0}) tree (λ p. tt)));
+            (settle_by journal s.terms requests children sizes h.pool a c (λ n. Unit {0}) reexecutions_max 0 tree now from_tree pairs_tree behind.0 (all_true (λ (p : Pending). Unit {0}) tree (λ p. tt)));
         accepts = accepts_first;
         happen = happen_join (means journal s.terms) es first s.images now x.images here.happen tells.happen;
       } in
       none_left x.left ran.left
-      (tree_clean 2 tree es now from_tree kids.0 here accepts_first (all_front (IsAnswered journal s.terms.round) x.asks ran.asks answered))
-      (round_clean trees (es ++ first) x.images (all_rest (IsFrom requests) tree others from) (pairs_rest NumbersDiffer tree others pairs) kids.1 there split
+      (tree_clean 2 tree es now from_tree behind.0 here accepts_first (all_front (IsAnswered journal s.terms.round) x.asks ran.asks answered))
+      (round_clean trees (es ++ first) x.images (all_rest (IsFrom requests) tree others from) (pairs_rest NumbersDiffer tree others pairs) behind.1 there split
       (all_rest (IsAnswered journal s.terms.round) x.asks ran.asks answered))
 
   pub nothing_left : (settle_each journal s.terms s.trees s.images).left ≡ []

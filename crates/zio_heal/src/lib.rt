@@ -3,8 +3,10 @@
 //! It stands on `zio_trace`, for the operations of a run, and on `zio_report`, for what is shown of a request.
 //! `specs/Healed` says which scripts heal, `specs/PlainStore` what their requests are answered, `specs/Alike` when a
 //! reply is as there, `specs/StoredPlainly` what a whole run comes to, and `specs/Given` what has to hold of the sums.
+//! `specs/Pools` says what a pool is, `specs/Contents` when a block has a content piece by piece, `specs/SafeBlocks` when
+//! bound blocks are safe, and `specs/SafeRounds` what a round keeps of that.
 //! Each call is a law: its contract is the statement, and its body is empty. Read
-//! `requests_that_may_not_fail_end_without_error` first.
+//! `requests_that_may_not_fail_end_without_error` first, and `rounds_end_as_safely_as_they_start` for what they come to.
 #![tactic(auto)]
 
 mod cases;

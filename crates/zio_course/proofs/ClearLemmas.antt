@@ -16,7 +16,7 @@ use Rattle.zio_gang.specs.Rounds.{Ran, block_of, bound_after, settle_each, used_
 use Rattle.zio_gang.specs.Runs.{Plan, Round, State, after_round, round_of, run_suspended, terms_of}
 use Rattle.zio_gang.specs.Trees.{sizes_of}
 use Rattle.zio_gang.proofs.FateLemmas.{of_trees, sum_flat, sum_map, tally}
-use Rattle.zio_report.specs.declared.report.Line.{Line}
+use Rattle.zio_report.specs.declared.report.ReportLine.{ReportLine}
 use Rattle.zio_report.specs.Reports.{by_number, line_of_ended, line_of_pending}
 use Rattle.zio_course.specs.declared.runner.Finished.{Finished}
 use Rattle.zio_course.specs.declared.runner.RoundEnd.{RoundEnd}
@@ -72,7 +72,7 @@ trees_tally n trees =
 
 -- The round of the suspended trees, whose requests come by number, is the course's.
 pub suspended_round : (apart : Bool) (plan : Plan) (st : State) (s : Standing) (failmode : Failmode) (bound new_bound : List (List ℕ × Tree)) (suspended : List (List Pending)) (unfinished : List Request)
-    (point : ℕ) (before after : Images) (old new : Journal) (end : RoundEnd (List Pending)) (lines : List Line) (left : List (List Pending))
+    (point : ℕ) (before after : Images) (old new : Journal) (end : RoundEnd (List Pending)) (lines : List ReportLine) (left : List (List Pending))
     → IsPlanOf s failmode plan → IsAt s bound suspended old.rounds point before st
     → AreUnfinished suspended unfinished → NameApart apart unfinished
     → IsBatchRun no_error unfinished bound new_bound old new end lines left

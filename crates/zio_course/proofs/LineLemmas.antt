@@ -8,7 +8,7 @@ use Rattle.zio_script.specs.declared.script.Request.{Request}
 use Rattle.zio_script.specs.Accepted.{AreRising}
 use Rattle.zio_gang.specs.Attempts.{Ended, Pending}
 use Rattle.zio_gang.specs.Rounds.{answered_with}
-use Rattle.zio_report.specs.declared.report.Line.{Line}
+use Rattle.zio_report.specs.declared.report.ReportLine.{ReportLine}
 use Rattle.zio_report.specs.Reports.{by_number, line_of_ended, line_of_pending}
 use Rattle.zio_course.specs.declared.runner.Finished.{Finished}
 use Rattle.zio_course.specs.Runners.{AreRisingFrom, finished_by_number, finished_of, joined_trees, requests_in}
@@ -81,20 +81,20 @@ lines_ended : (error : ℕ → Option Errno) (finished : List Finished) (es : Li
     → map line_of_ended es ≡ map (line_told error finished) (map (λ (e : Ended). e.request) es)
 lines_ended error finished [] h = refl
 lines_ended error finished (e ∷ es) h =
-    ap (λ (l : Line). l ∷ map line_of_ended es) (sym h.0) ∙ ap (λ (ls : List Line). line_told error finished e.request ∷ ls) (lines_ended error finished es h.1)
+    ap (λ (l : ReportLine). l ∷ map line_of_ended es) (sym h.0) ∙ ap (λ (ls : List ReportLine). line_told error finished e.request ∷ ls) (lines_ended error finished es h.1)
 
 lines_tree : (error : ℕ → Option Errno) (finished : List Finished) (ps : List Pending) → AllByRecursion (IsToldWaiting error finished) ps
     → map line_of_pending ps ≡ map (line_told error finished) (map (λ (p : Pending). p.request) ps)
 lines_tree error finished [] h = refl
 lines_tree error finished (p ∷ ps) h =
-    ap (λ (l : Line). l ∷ map line_of_pending ps) (sym h.0) ∙ ap (λ (ls : List Line). line_told error finished p.request ∷ ls) (lines_tree error finished ps h.1)
+    ap (λ (l : ReportLine). l ∷ map line_of_pending ps) (sym h.0) ∙ ap (λ (ls : List ReportLine). line_told error finished p.request ∷ ls) (lines_tree error finished ps h.1)
 
 lines_left : (error : ℕ → Option Errno) (finished : List Finished) (left : List (List Pending)) → AllByRecursion (λ (tree : List Pending). AllByRecursion (IsToldWaiting error finished) tree) left
     → flat_map (map line_of_pending) left ≡ map (line_told error finished) (requests_in left)
 lines_left error finished [] h = refl
 lines_left error finished (tree ∷ left) h =
-    ap (λ (ls : List Line). ls ++ flat_map (map line_of_pending) left) (lines_tree error finished tree h.0)
-    ∙ (ap (λ (ls : List Line). map (line_told error finished) (map (λ (p : Pending). p.request) tree) ++ ls) (lines_left error finished left h.1)
+    ap (λ (ls : List ReportLine). ls ++ flat_map (map line_of_pending) left) (lines_tree error finished tree h.0)
+    ∙ (ap (λ (ls : List ReportLine). map (line_told error finished) (map (λ (p : Pending). p.request) tree) ++ ls) (lines_left error finished left h.1)
     ∙ (sym (map-append (line_told error finished) (map (λ (p : Pending). p.request) tree) (requests_in left))
     ∙ ap (map (line_told error finished)) (sym (map-append (λ (p : Pending). p.request) tree (joined_trees left)))))
 
@@ -112,9 +112,9 @@ pub lines_are_told : (error : ℕ → Option Errno) (finished : List Finished) (
     → ((n : ℕ) → counted (λ (r : Request). r.number) n (all_requests ended left) ≡ counted (λ (r : Request). r.number) n requests)
     → by_number (map line_of_ended ended ++ flat_map (map line_of_pending) left) ≡ map (line_told error finished) requests
 lines_are_told error finished requests ended left rising told waiting among same =
-    ap by_number (ap (λ (ls : List Line). ls ++ flat_map (map line_of_pending) left) (lines_ended error finished ended told)
-    ∙ (ap (λ (ls : List Line). map (line_told error finished) (map (λ (e : Ended). e.request) ended) ++ ls) (lines_left error finished left waiting)
+    ap by_number (ap (λ (ls : List ReportLine). ls ++ flat_map (map line_of_pending) left) (lines_ended error finished ended told)
+    ∙ (ap (λ (ls : List ReportLine). map (line_told error finished) (map (λ (e : Ended). e.request) ended) ++ ls) (lines_left error finished left waiting)
     ∙ sym (map-append (line_told error finished) (map (λ (e : Ended). e.request) ended) (requests_in left))))
-    ∙ (merge_map (λ (r : Request). r.number) (λ (l : Line). l.number) (line_told error finished)
+    ∙ (merge_map (λ (r : Request). r.number) (λ (l : ReportLine). l.number) (line_told error finished)
     (λ r. by_numbers (error r.number) (finish_of finished r.number) r) (all_requests ended left)
     ∙ ap (map (line_told error finished)) (sorted_is (λ (r : Request). r.number) requests (all_requests ended left) (rising_by requests rising) among same))

@@ -22,7 +22,7 @@ use Rattle.zio_gang.specs.Rounds.{admission, admit_with, answered_with, Admitted
 use Rattle.zio_gang.specs.Runs.{Batch, Course, Plan, Round, State, after_round, has_trees, is_panic, plan_of, round_of, run_batch, run_suspended, terms_of, then_course}
 use Rattle.zio_gang.proofs.BoundLemmas.{NamesOnce-bind, NamesOnce-unbind}
 use Rattle.zio_gang.proofs.DependenceLemmas.{choices_law}
-use Rattle.zio_report.specs.declared.report.Line.{Line}
+use Rattle.zio_report.specs.declared.report.ReportLine.{ReportLine}
 use Rattle.zio_report.specs.declared.report.Show.{Show}
 use Rattle.zio_report.specs.Lines.{round_text}
 use Rattle.zio_report.specs.Reports.{RunSize}
@@ -190,7 +190,7 @@ same_choices n entries keys =
     (all_weaker (λ (c : Choice). c.asked.key.round ≡ n) (λ (c : Choice). (c.asked.key.round == n) ≡ true) entries (λ c is. eq-eqb c.asked.key.round n is) keys)
 
 pub batch_next : (show : Show) (n : RunSize) (script : Script) (before : Images) (s now : Standing) (f g : SeenFold) (ahead : Ahead) (later : List (List Request)) (old new : Journal) (images after : Images) (printed : List ℕ)
-    (items : List Item) (number : ℕ) (awaited : List ℕ → Bool) (slots : List (ℕ × ℕ)) (rules : List Rules) (end : RoundEnd (List Pending)) (lines : List Line) (rest : Plan → State → Course)
+    (items : List Item) (number : ℕ) (awaited : List ℕ → Bool) (slots : List (ℕ × ℕ)) (rules : List Rules) (end : RoundEnd (List Pending)) (lines : List ReportLine) (rest : Plan → State → Course)
     → AreRising (requests_of script.items) → AllByRecursion (IsOrderlyBatch (rows_tell_apart s.rows)) later
     → IsCourseAt show n script before s f ahead (requests_of items ∷ later) old images printed (λ plan st. then_course (run_batch plan (record { number = number; requests = requests_of items }) st) (rest plan))
     → AreSuspended (rows_tell_apart s.rows) f.bound f.suspended f.unfinished → IsLive s.live f.bound → AreAwaited f.suspended awaited
@@ -288,7 +288,7 @@ batch_next show n script before s now f g ahead later old new images after print
 -- ---- the round of a clear
 
 pub clear_next : (show : Show) (n : RunSize) (script : Script) (before : Images) (s now : Standing) (f g : SeenFold) (ahead : Ahead) (later : List (List Request)) (old new : Journal) (images after : Images) (printed : List ℕ)
-    (end : RoundEnd (List Pending)) (lines : List Line) (rest : Plan → State → Course)
+    (end : RoundEnd (List Pending)) (lines : List ReportLine) (rest : Plan → State → Course)
     → AreRising (requests_of script.items) → AllByRecursion (IsOrderlyBatch (rows_tell_apart s.rows)) later
     → IsCourseAt show n script before s f ahead later old images printed (λ plan st. then_course (run_suspended plan st) (rest plan))
     → AreSuspended (rows_tell_apart s.rows) f.bound f.suspended f.unfinished → IsLive s.live f.bound

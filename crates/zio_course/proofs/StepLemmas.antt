@@ -18,7 +18,7 @@ use Rattle.zio_gang.specs.Rounds.{Admitted, Bound, Ran, admission, admit_with, a
 use Rattle.zio_gang.specs.Runs.{Plan, Round, State, after_round, has_trees, round_of, run_batch, terms_of}
 use Rattle.zio_gang.specs.Trees.{sizes_of}
 use Rattle.zio_gang.proofs.FateLemmas.{batch_held, tally, tally-append}
-use Rattle.zio_report.specs.declared.report.Line.{Line}
+use Rattle.zio_report.specs.declared.report.ReportLine.{ReportLine}
 use Rattle.zio_report.specs.Reports.{by_number, line_of_ended, line_of_pending}
 use Rattle.zio_course.specs.declared.admission.Rules.{Rules}
 use Rattle.zio_course.specs.declared.runner.Finished.{Finished}
@@ -229,7 +229,7 @@ from_trees P requests rising behind h =
 -- ---- the round of a batch
 
 pub batch_round : (apart : Bool) (plan : Plan) (st : State) (s : Standing) (failmode : Failmode) (bound new_bound : List (List ℕ × Tree)) (suspended : List (List Pending)) (awaited : List ℕ → Bool)
-    (number point : ℕ) (items : List Item) (slots : List (ℕ × ℕ)) (rules : List Rules) (before after : Images) (old new : Journal) (end : RoundEnd (List Pending)) (lines : List Line) (left : List (List Pending))
+    (number point : ℕ) (items : List Item) (slots : List (ℕ × ℕ)) (rules : List Rules) (before after : Images) (old new : Journal) (end : RoundEnd (List Pending)) (lines : List ReportLine) (left : List (List Pending))
     → let requests : List Request = requests_of items in
     let trees : List (List Pending) = pending_trees (names_of bound) number (trees_of (running slots rules items)) in
     IsPlanOf s failmode plan → IsAt s bound suspended old.rounds point before st

@@ -11,7 +11,7 @@ use Rattle.zio_script.specs.Accepted.{AreRising}
 use Rattle.std.specs.List.{AllByRecursion}
 use Rattle.zio_gang.specs.Attempts.{Pending}
 use Rattle.zio_gang.specs.declared.tree.Tree.{Tree}
-use Rattle.zio_report.specs.declared.report.Line.{Line}
+use Rattle.zio_report.specs.declared.report.ReportLine.{ReportLine}
 use Rattle.zio_course.specs.declared.runner.Finished.{Finished}
 use Rattle.zio_course.specs.Admissions.{has_number}
 use Rattle.zio_course.specs.Answered.{answered_in}
@@ -34,7 +34,7 @@ all_kept [] = refl
 all_kept (r ∷ rs) = ap (λ (qs : List Request). r ∷ qs) (all_kept rs)
 
 -- the requests before the first of them is told of
-pub telling_first : (finished : List Finished) (rs : List Request) (old : List (List ℕ × Tree)) (lines : List Line) → AreRising rs → AreFinishedOf rs finished → lines ≡ []
+pub telling_first : (finished : List Finished) (rs : List Request) (old : List (List ℕ × Tree)) (lines : List ReportLine) → AreRising rs → AreFinishedOf rs finished → lines ≡ []
     → IsTelling no_error finished rs old (as_lines rs) finished lines old []
 telling_first finished rs old lines rising left none =
     subst (λ (qs : List Request). IsTelling no_error finished qs old (as_lines rs) finished lines old []) (requests_as_lines rs)

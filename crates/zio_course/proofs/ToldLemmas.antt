@@ -18,7 +18,7 @@ use Rattle.zio_gang.specs.Rounds.{Bound, bind, block_of, bound_after, bound_by, 
 use Rattle.zio_gang.proofs.BoundLemmas.{block_of-bind, block_of-bind-other, block_of-unbind, block_of-unbind-other}
 use Rattle.zio_types.specs.declared.request.Kind.{Kind}
 use Rattle.zio_types.specs.declared.request.Kind.TheVariants.{Null as NullKind, Read as ReadKind, Write as WriteKind, Free as FreeKind, Claim as ClaimKind}
-use Rattle.zio_report.specs.declared.report.Line.{Line}
+use Rattle.zio_report.specs.declared.report.ReportLine.{ReportLine}
 use Rattle.zio_report.specs.Lines.{AreWhole, IsWhole}
 use Rattle.zio_report.specs.Reports.{good_result, result_with, sized_by}
 use Rattle.zio_course.specs.declared.runner.Finished.{Finished}
@@ -207,7 +207,7 @@ abbrev pub kept_of : (ℕ → Option Errno) → List Request → List Request
 kept_of error rs = filter (λ (r : Request). is_none (error r.number)) rs
 
 -- these lines and bound names are those of the requests so far, where these lines of the script and these ends are left
-pub record IsTelling (error : ℕ → Option Errno) (finished : List Finished) (batch : List Request) (old : List (List ℕ × Tree)) (rest : List Item) (fs : List Finished) (lines : List Line) (bound : List (List ℕ × Tree)) (front : List Request) : Type 0 where
+pub record IsTelling (error : ℕ → Option Errno) (finished : List Finished) (batch : List Request) (old : List (List ℕ × Tree)) (rest : List Item) (fs : List Finished) (lines : List ReportLine) (bound : List (List ℕ × Tree)) (front : List Request) : Type 0 where
   pub all : front ++ requests_of rest ≡ batch
   pub rising : AreRising (requests_of rest)
   pub left_is : AreFinishedOf (kept_of error (requests_of rest)) fs
@@ -220,7 +220,7 @@ same_itself : (error : ℕ → Option Errno) (finished : List Finished) (rs : Li
 same_itself error finished [] = tt
 same_itself error finished (r ∷ rs) = (λ e. refl, same_itself error finished rs)
 
-pub telling_start : (error : ℕ → Option Errno) (finished : List Finished) (items : List Item) (old : List (List ℕ × Tree)) (lines : List Line)
+pub telling_start : (error : ℕ → Option Errno) (finished : List Finished) (items : List Item) (old : List (List ℕ × Tree)) (lines : List ReportLine)
     → AreRising (requests_of items) → AreFinishedOf (kept_of error (requests_of items)) finished → lines ≡ []
     → IsTelling error finished (requests_of items) old items finished lines old []
 telling_start error finished items old lines rising left none = record {
@@ -240,12 +240,12 @@ ended_more error finished (q ∷ qs) r =
     ∙ sym (append_assoc (ended_by (error q.number) (finish_of finished q.number) q) (ended_told error finished qs) (ended_by (error r.number) (finish_of finished r.number) r))
 
 telling_same : (error : ℕ → Option Errno) (finished : List Finished) (batch : List Request) (old : List (List ℕ × Tree)) (rest : List Item) (fs : List Finished)
-    (lines : List Line) (bound after : List (List ℕ × Tree)) (front : List Request)
+    (lines : List ReportLine) (bound after : List (List ℕ × Tree)) (front : List Request)
     → IsTelling error finished batch old rest fs lines bound front
     → ((name : List ℕ) → named_in after name ≡ block_of (names_of bound) name)
     → IsTelling error finished batch old rest fs (lines ++ []) after (front ++ [])
 telling_same error finished batch old rest fs lines bound after front h done =
-    subst (λ (ls : List Line). IsTelling error finished batch old rest fs ls after (front ++ [])) (sym (append-nil lines))
+    subst (λ (ls : List ReportLine). IsTelling error finished batch old rest fs ls after (front ++ [])) (sym (append-nil lines))
     (subst (λ (rs : List Request). IsTelling error finished batch old rest fs lines after rs) (sym (append-nil front))
     (record {
       all = h.all;
@@ -257,7 +257,7 @@ telling_same error finished batch old rest fs lines bound after front h done =
     }))
 
 pub telling_next : (error : ℕ → Option Errno) (finished : List Finished) (batch : List Request) (old : List (List ℕ × Tree)) (item : Item) (rest : List Item) (fs : List Finished)
-    (lines : List Line) (bound after : List (List ℕ × Tree)) (front : List Request)
+    (lines : List ReportLine) (bound after : List (List ℕ × Tree)) (front : List Request)
     → IsTelling error finished batch old (item ∷ rest) fs lines bound front
     → ((name : List ℕ) → named_in after name ≡ block_of (bound_after (ends_by error fs item) (names_of bound)) name)
     → IsTelling error finished batch old rest (left_by error fs item) (lines ++ lines_by error fs item) after (front ++ requests_of (item ∷ []))
@@ -274,8 +274,8 @@ telling_next error finished batch old (RequestLine r) rest fs lines bound after 
       same = all_both (λ (q : Request). r.number < q.number) (λ (q : Request). error q.number ≡ None → finish_of finished q.number ≡ finish_of fs q.number)
           (λ (q : Request). error q.number ≡ None → finish_of finished q.number ≡ finish_of (rest_if (error r.number) fs r.number) q.number) (requests_of rest)
           (λ q low same e. same e ∙ same_if r ks finished fs (error r.number) q.number low) h.rising.0 h.same.1;
-      lines_are = ap (λ (ls : List Line). ls ++ line_by (error r.number) (next_if (error r.number) fs r.number) r ∷ []) h.lines_are
-          ∙ (ap (λ (l : Line). map (line_told error finished) front ++ l ∷ []) (line_if r ks finished fs (error r.number) h.left_is above h.same.0)
+      lines_are = ap (λ (ls : List ReportLine). ls ++ line_by (error r.number) (next_if (error r.number) fs r.number) r ∷ []) h.lines_are
+          ∙ (ap (λ (l : ReportLine). map (line_told error finished) front ++ l ∷ []) (line_if r ks finished fs (error r.number) h.left_is above h.same.0)
           ∙ sym (map-append (line_told error finished) front (r ∷ [])));
       bound_is = λ name. done name
           ∙ (ap (λ (es : List Ended). block_of (bound_after es (names_of bound)) name) ends
@@ -298,7 +298,7 @@ no_request error fs old name item (inr is) =
     named_of name old ∙ ap (λ (i : Item). block_of (bound_after (ends_by error fs i) (names_of old)) name) (sym is)
 
 -- at the end the requests so far are all
-pub telling_end : (error : ℕ → Option Errno) (finished : List Finished) (batch : List Request) (old : List (List ℕ × Tree)) (fs : List Finished) (lines : List Line)
+pub telling_end : (error : ℕ → Option Errno) (finished : List Finished) (batch : List Request) (old : List (List ℕ × Tree)) (fs : List Finished) (lines : List ReportLine)
     (bound : List (List ℕ × Tree)) (front : List Request) → IsTelling error finished batch old [] fs lines bound front
     → IsTelling error finished batch old [] fs lines bound batch
 telling_end error finished batch old fs lines bound front h =

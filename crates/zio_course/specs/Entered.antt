@@ -8,7 +8,7 @@ use Rattle.zio_cksum.specs.Images.{Images}
 use Rattle.zio_gang.specs.declared.tree.Tree.{Tree}
 use Rattle.zio_gang.specs.Attempts.{Pending, Terms}
 use Rattle.zio_gang.specs.Rounds.{block_of, bound_after}
-use Rattle.zio_report.specs.declared.report.Line.{Line}
+use Rattle.zio_report.specs.declared.report.ReportLine.{ReportLine}
 use Rattle.zio_course.specs.declared.runner.Finished.{Finished}
 use Rattle.zio_course.specs.declared.runner.RoundEnd.{RoundEnd}
 use Rattle.zio_course.specs.declared.runner.Stop.{Stop}
@@ -30,7 +30,7 @@ pub record IsEntered (answered : List Completion) (old new : Journal) (end : Rou
 
 -- The round of a batch: in the journal behind the completions of what admission answered, the lines of its requests by
 -- number, and the bound names after it.
-pub record IsBatchRun (error : ℕ → Option Errno) (requests : List Request) (old_bound new_bound : List (List ℕ × Tree)) (old new : Journal) (end : RoundEnd (List Pending)) (lines : List Line) (left : List (List Pending)) : Type 0 where
+pub record IsBatchRun (error : ℕ → Option Errno) (requests : List Request) (old_bound new_bound : List (List ℕ × Tree)) (old new : Journal) (end : RoundEnd (List Pending)) (lines : List ReportLine) (left : List (List Pending)) : Type 0 where
   pub journal : IsEntered (reverse (answered_in error (old.rounds + 1) requests)) old new end end.finished left
   pub lines_are : lines ≡ map (line_told error end.finished) requests
   pub bound_is : (name : List ℕ) → named_in new_bound name ≡ block_of (bound_after (ended_told error end.finished requests) (names_of old_bound)) name

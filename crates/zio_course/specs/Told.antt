@@ -8,7 +8,7 @@ use Rattle.zio_script.specs.declared.script.Request.{Request}
 use Rattle.zio_script.specs.Requests.{kind_of, name_of}
 use Rattle.zio_gang.specs.Attempts.{Ended}
 use Rattle.zio_gang.specs.Rounds.{answered_with}
-use Rattle.zio_report.specs.declared.report.Line.{Line}
+use Rattle.zio_report.specs.declared.report.ReportLine.{ReportLine}
 use Rattle.zio_report.specs.declared.report.LineResult.TheVariants.{Suspended}
 use Rattle.zio_report.specs.Reports.{line_of_ended}
 use Rattle.zio_course.specs.declared.runner.Finished.{Finished}
@@ -21,11 +21,11 @@ finish_of finished n = find (λ (f : Finished). f.request == n) finished
 abbrev pub ended_as : Request → Finished → Ended
 ended_as r f = record { request = r; error = f.error; bytes = f.bytes; tree = f.tree }
 
-abbrev pub line_waiting : Request → Line
+abbrev pub line_waiting : Request → ReportLine
 line_waiting r = record { number = r.number; kind = kind_of r.work; name = name_of r.work; result = Suspended }
 
 -- the line of a request that was answered with an error, finished, or waits
-abbrev pub line_by : Option Errno → Option Finished → Request → Line
+abbrev pub line_by : Option Errno → Option Finished → Request → ReportLine
 line_by (Some e) f r = line_of_ended (answered_with e r)
 line_by None None r = line_waiting r
 line_by None (Some f) r = line_of_ended (ended_as r f)
@@ -37,7 +37,7 @@ ended_by None None r = []
 ended_by None (Some f) r = ended_as r f ∷ []
 
 -- the same by what answered each number, and by what finished
-abbrev pub line_told : (ℕ → Option Errno) → List Finished → Request → Line
+abbrev pub line_told : (ℕ → Option Errno) → List Finished → Request → ReportLine
 line_told error finished r = line_by (error r.number) (finish_of finished r.number) r
 
 -- the ends of those that ran and finished, by number
@@ -71,7 +71,7 @@ rest_if None left n = rest_of left n
 rest_if (Some e) left n = left
 
 -- what a line of the script adds to the lines of the round
-abbrev pub lines_by : (ℕ → Option Errno) → List Finished → Item → List Line
+abbrev pub lines_by : (ℕ → Option Errno) → List Finished → Item → List ReportLine
 lines_by error left (RequestLine r) = line_by (error r.number) (next_if (error r.number) left r.number) r ∷ []
 lines_by error left Go = []
 lines_by error left Clear = []

@@ -23,7 +23,7 @@ use crate::round::{WholeRound, whole_round};
 use crate::runner::{Job, Runner, Stop};
 use crate::told::tell_batch;
 use std::alloc::Global;
-use zio_report::Line;
+use zio_report::ReportLine;
 use zio_script::{Failmode, Item};
 use zio_types::{Journal, List};
 
@@ -31,7 +31,7 @@ use zio_types::{Journal, List};
 #[derive(Debug, Drop)]
 pub struct BatchEnd<T> {
     /// By number.
-    pub lines: List<Line>,
+    pub lines: List<ReportLine>,
     /// What is left of the trees that are suspended.
     pub left: List<T>,
 }

@@ -22,7 +22,7 @@ ghost use Rattle.zio_gang.specs.Journals.{AreChoicesOf, AreCompletionsOf, Comple
 ghost use Rattle.zio_gang.specs.Rounds.{Bound, NamesOnce, admitted, block_of, bound_after, pending_trees, settle_each, trees_of, used_places};
 ghost use Rattle.zio_gang.specs.Runs.{Course, Event, Plan, Round, State, after_round, has_trees, plan_of, run_batch, run_suspended, then_course};
 ghost use Rattle.zio_gang.specs.Runs.Event.{RanRound, HeldBatch};
-ghost use Rattle.zio_report.specs.declared.report.Line.{Line};
+ghost use Rattle.zio_report.specs.declared.report.ReportLine.{ReportLine};
 ghost use Rattle.zio_report.specs.declared.report.RoundHead.{RoundHead};
 ghost use Rattle.zio_report.specs.declared.report.Show.{Show};
 ghost use Rattle.zio_report.specs.Lines.{round_text};
@@ -57,7 +57,7 @@ pub fn whole_trees_are_admitted()
 /// lawful.
 pub fn a_batch_is_a_round_of_the_course()
     ensures { (apart : Bool) (plan : Plan) (st : State) (s : Standing) (failmode : Failmode) (bound new_bound : List (List ℕ × Tree)) (suspended : List (List Pending)) (awaited : List ℕ → Bool)
-        (number point : ℕ) (items : List Item) (slots : List (ℕ × ℕ)) (rules : List Rules) (before after : Images) (old new : Journal) (end : RoundEnd (List Pending)) (lines : List Line) (left : List (List Pending)) →
+        (number point : ℕ) (items : List Item) (slots : List (ℕ × ℕ)) (rules : List Rules) (before after : Images) (old new : Journal) (end : RoundEnd (List Pending)) (lines : List ReportLine) (left : List (List Pending)) →
         let requests = requests_of items in
         let trees = pending_trees (names_of bound) number (trees_of (running slots rules items)) in
         IsPlanOf s failmode plan → IsAt s bound suspended old.rounds point before st
@@ -75,7 +75,7 @@ pub fn a_batch_is_a_round_of_the_course()
 /// The round of the suspended trees is the next round of the course too.
 pub fn a_clear_is_a_round_of_the_course()
     ensures { (apart : Bool) (plan : Plan) (st : State) (s : Standing) (failmode : Failmode) (bound new_bound : List (List ℕ × Tree)) (suspended : List (List Pending)) (unfinished : List Request)
-        (point : ℕ) (before after : Images) (old new : Journal) (end : RoundEnd (List Pending)) (lines : List Line) (left : List (List Pending)) →
+        (point : ℕ) (before after : Images) (old new : Journal) (end : RoundEnd (List Pending)) (lines : List ReportLine) (left : List (List Pending)) →
         IsPlanOf s failmode plan → IsAt s bound suspended old.rounds point before st
         → AreUnfinished suspended unfinished → NameApart apart unfinished
         → IsBatchRun no_error unfinished bound new_bound old new end lines left
@@ -90,7 +90,7 @@ pub fn a_clear_is_a_round_of_the_course()
 /// a batch that is held adds its line; and the course goes on from the state that a step of it left.
 pub fn what_was_run_stays_run()
     ensures round { (show : Show) (n : RunSize) (sizes : List TopSize) (requests : List Request) (old new : Journal) (events : List Event) (printed : List ℕ) (round : Round)
-        (head : RoundHead) (lines : List Line) (entries : List Choice) (done : List Completion) →
+        (head : RoundHead) (lines : List ReportLine) (entries : List Choice) (done : List Completion) →
         IsEnteredSoFar show n sizes requests old events printed
         → new.places ≡ old.places ++ entries → new.completions ≡ old.completions ++ done → new.rounds ≡ old.rounds + 1
         → AllByRecursion (λ (c : Choice). c.asked.key.round ≡ old.rounds + 1) entries

@@ -21,7 +21,7 @@ use crate::round::{WholeRound, whole_round};
 use crate::runner::{Finished, Job, Runner, Stop};
 use crate::told::{take_of, tell_request};
 use std::alloc::Global;
-use zio_report::Line;
+use zio_report::ReportLine;
 use zio_script::{Failmode, Request};
 use zio_types::{Journal, List, NoMemory};
 
@@ -83,7 +83,7 @@ pub fn tell_suspended(
     unfinished: &[&Request],
     finished: List<Finished>,
     bound: &mut Bound,
-) -> Result<List<Line>, NoMemory>
+) -> Result<List<ReportLine>, NoMemory>
     requires rising { AreRising (map (λ r. r.now) unfinished.now) }
     requires finished { AreFinishedOf (map (λ r. r.now) unfinished.now) finished }
     ensures lines { IfOk result (λ lines. lines ≡ map (line_told no_error finished) (map (λ r. r.now) unfinished.now)) }

@@ -18,7 +18,7 @@ use crate::forest::reversed;
 use crate::lines::first_line;
 use crate::runner::Finished;
 use std::alloc::Global;
-use zio_report::{Line, LineResult};
+use zio_report::{LineResult, ReportLine};
 use zio_script::{Item, Request, Work};
 use zio_types::{Errno, List, NoMemory, ReqNo};
 
@@ -32,7 +32,7 @@ pub fn tell_batch(
     admission: &Admission,
     finished: List<Finished>,
     bound: &mut Bound,
-) -> Result<List<Line>, NoMemory>
+) -> Result<List<ReportLine>, NoMemory>
     requires rising { AreRising (requests_of batch.now) }
     requires finished { AreFinishedOf (running admission.now.slots.entries admission.now.rules.items batch.now) finished }
     ensures lines { IfOk result (λ lines. lines ≡ map (line_told (error_in admission.now.slots.entries admission.now.rules.items) finished) (requests_of batch.now)) }
@@ -51,7 +51,7 @@ pub fn tell_batch(
 
 /// Tells of the request of a line, if it is one. What finished is left the last first.
 fn tell_line(
-    lines: &mut List<Line>,
+    lines: &mut List<ReportLine>,
     item: &Item,
     admission: &Admission,
     left: &mut Vec<Finished>,
@@ -70,7 +70,7 @@ fn tell_line(
 
 /// Tells of a request.
 fn tell_one(
-    lines: &mut List<Line>,
+    lines: &mut List<ReportLine>,
     request: &Request,
     admission: &Admission,
     left: &mut Vec<Finished>,
@@ -110,7 +110,7 @@ pub(crate) fn tell_request(
     error: Option<Errno>,
     finished: Option<Finished>,
     bound: &mut Bound,
-) -> Result<Line, NoMemory>
+) -> Result<ReportLine, NoMemory>
     ensures line { IfOk result (λ line. line ≡ line_by error finished request.now) }
     ensures bound { OnOk result ((name : List ℕ) → named_in bound.new name ≡ block_of (bound_after (ended_by error finished request.now) (names_of bound.old)) name) }
 {
@@ -124,10 +124,10 @@ pub(crate) fn tell_request(
     Ok(line_of(request, shown))
 }
 
-fn line_of(request: &Request, shown: LineResult) -> Line
+fn line_of(request: &Request, shown: LineResult) -> ReportLine
     ensures { result ≡ record { number = request.now.number; kind = kind_of request.now.work; name = name_of request.now.work; result = shown } }
 {
-    Line {
+    ReportLine {
         number: request.number,
         kind: request.work.kind(),
         name: request.work.name(),

@@ -2,12 +2,14 @@
 //!
 //! It stands on `zio_cksum` and `zio_script`. Read `Tree` first: a block's pointer with the headers under it. A header
 //! is made by `header_encode` for the place and birth of its gang, and read by `header_decode` for these alone.
+//! `content` makes the bytes that a write stores, its children's pointers before its own data.
 //! What a script means stands in `specs/`, from the reads of a block's tree (`specs/Trees`) and placed writes
 //! (`specs/Writes`) over one attempt of a tree of requests (`specs/Attempts`) and one round (`specs/Rounds`) to the
 //! run of a script (`specs/Runs`); `specs/Journals` says which journals and completions are lawful.
 #![tactic(auto)]
 
 mod bound;
+mod content;
 mod ending;
 mod faults;
 mod header;
@@ -17,6 +19,7 @@ mod sizes;
 mod tree;
 
 pub use bound::Bound;
+pub use content::content;
 pub use ending::Ending;
 pub use faults::header_decode;
 pub use header::{Header, HeaderFault, Split, header_encode};

@@ -14,7 +14,7 @@ pub const CHILDREN_MAX: u32 = 4;
 
 /// What a read is to do next.
 #[derive(Clone, Copy, Debug, PartialEq, Eq)]
-pub enum Step {
+pub enum ReadStep {
     /// Try this child.
     Try(u32),
     /// This child's bytes are the answer.
@@ -79,17 +79,17 @@ impl ReadPlan {
 
     /// What is to be done: the good child, where one was answered without error; the worst error, where all
     /// failed; else the first child that wasn't answered.
-    pub fn next(&self) -> Step
+    pub fn next(&self) -> ReadStep
         ensures { result ≡ step_of self.now }
     {
         let order = &self.order[..self.n as usize];
         let answers = &self.answers[..self.answered as usize];
         if let Some(child) = first_good(order, answers) {
-            return Step::Good(child);
+            return ReadStep::Good(child);
         }
         match order.get(answers.len()) {
-            Some(child) => Step::Try(*child),
-            None => Step::Bad(blame(answers)),
+            Some(child) => ReadStep::Try(*child),
+            None => ReadStep::Bad(blame(answers)),
         }
     }
 

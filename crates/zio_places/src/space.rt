@@ -5,7 +5,7 @@ ghost use Rattle.zio_types.specs.Places.{HasRun, IsLawfulChoice, is_lawful_top, 
 ghost use Rattle.zio_places.specs.Ordered.{all_placed_in, without};
 ghost use Rattle.zio_places.specs.Spaces.{SpaceState, used, are_on_tops, is_open, IsSound};
 
-use crate::table::Table;
+use crate::table::SectorTable;
 use crate::take::{take_copies, taken_count};
 use crate::tops::{
     all_on_tops, allocate_all, clear_all, has_run, has_run_on, is_live, is_on_top, is_open,
@@ -35,7 +35,7 @@ pub enum ClaimFault {
 /// journal of what was asked and found.
 #[derive(Drop)]
 pub struct Space {
-    tops: Vec<Table>,
+    tops: Vec<SectorTable>,
     /// With room for all live places, and those of all spare entries.
     pending: Vec<Place>,
     /// With room for the spare entries.
@@ -76,7 +76,7 @@ impl Space {
     {
         let mut tables = Vec::new(alloc);
         for top in tops {
-            tables.push(Table::new(alloc, *top)?)?;
+            tables.push(SectorTable::new(alloc, *top)?)?;
         }
         Ok(Space {
             tops: tables,

@@ -5,7 +5,7 @@ ghost use Rattle.zio_types.specs.Choices.{is_refused, taken_by};
 ghost use Rattle.zio_types.specs.Places.{IsLawfulChoice};
 ghost use Rattle.zio_places.specs.Tables.{sizes_of, AreAligned, AreBitmapsOf, AreConsistent, AreAllocated};
 
-use crate::table::Table;
+use crate::table::SectorTable;
 use crate::tops::{allocate, find, release_all};
 use zio_types::{Entry, Key, Place, SECTOR_SIZE};
 
@@ -17,7 +17,7 @@ const NO_PLACE: Place = Place {
 };
 
 /// Finds and holds a place for each copy. Where one has none, those found are free again.
-pub fn take_copies(tops: &mut [Table], key: Key, size: u32, copies: u32) -> Entry
+pub fn take_copies(tops: &mut [SectorTable], key: Key, size: u32, copies: u32) -> Entry
     requires few { length tops.old < 2 ^ 32 }
     requires kept { AreConsistent tops.old }
     requires some { 0 < size }

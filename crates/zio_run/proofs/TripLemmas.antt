@@ -14,8 +14,8 @@ use Rattle.zio_report.specs.declared.report.Show.{Show}
 use Rattle.zio_report.specs.Meanings.{IsMeaning, course_of, records_of, run_size_of}
 use Rattle.zio_report.specs.Reports.{end_code, run_text}
 use Rattle.zio_course.specs.SoFar.{IsWholeRun}
-use Rattle.zio_run.specs.declared.outcome.Outcome.{Outcome}
-use Rattle.zio_run.specs.declared.outcome.Outcome.TheVariants.{Ended, Unfit, Cut}
+use Rattle.zio_run.specs.declared.outcome.RunOutcome.{RunOutcome}
+use Rattle.zio_run.specs.declared.outcome.RunOutcome.TheVariants.{Ended, Unfit, Cut}
 use Rattle.zio_run.specs.Causes.{AreMeasured, AreUntouched}
 use Rattle.zio_run.specs.Codes.{CameOut, IsCauseOf}
 use Rattle.zio_run.specs.Grounds.{CameOutOver, IsCauseOver}
@@ -224,7 +224,7 @@ cause_of old_sink new_sink t Memory cause = tt
 pub came_out : {D : Type 0} {bytes faults faults_at_fetch : D → ℕ} {home image : D → List ℕ → Type 0} {sound : D → Type 0} {names : List (List ℕ)} {disks used : List D} {old mid new : ShelfSeen}
     → (show : Show) (script : Script) (old_sink new_sink : SinkSeen) (old_journal journal : Journal)
     → Trip bytes faults faults_at_fetch home image sound names disks used old mid new
-    → (outcome : Outcome) → CameOutOver faults image show script disks used old_sink new_sink old_journal journal outcome
+    → (outcome : RunOutcome) → CameOutOver faults image show script disks used old_sink new_sink old_journal journal outcome
     → CameOut show script names old_sink new_sink old new old_journal journal outcome
 came_out show script old_sink new_sink old_journal journal t (Ended ending) over =
     let ran = over.1 in

@@ -78,7 +78,7 @@ pub use request_read::{BodyStage, ReadDone};
 pub use request_write::Content;
 pub use services::{Services, Unclaimed};
 pub use tree::TreeWork;
-pub use waiting::Waiting;
+pub use waiting::UnfinishedRequest;
 pub use whole::{ChildrenBack, Whole};
 pub use write_io::{IoStep, WriteIo};
 pub use write_laws::{a_write_is_that_of_its_block, children_that_told_settle_the_content};

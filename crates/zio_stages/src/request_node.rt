@@ -14,7 +14,7 @@ ghost use Rattle.zio_trace.specs.Families.{Forest, NoTrees};
 ghost use Rattle.zio_trace.specs.Tasks.{Attempt, AttemptedBy, One};
 ghost use Rattle.zio_children.specs.RequestKids.{IsLeftBy, IsOutWith, is_ended, kid_handed, kid_is, numbers_of, returns_in};
 ghost use Rattle.zio_children.specs.declared.kids.KidState.TheVariants.{Ended, Out, Told};
-ghost use Rattle.zio_content.specs.Pointers.{IsNoneOrValid};
+ghost use Rattle.zio_gang.specs.Pointers.{IsNoneOrValid};
 ghost use Rattle.zio_frames.specs.Frames.{Child, Stack, fresh_stack};
 ghost use Rattle.zio_frames.specs.Moves.{WillHave, heard_early, heard_of};
 ghost use Rattle.zio_frames.specs.Seats.{IsSeated, asked_at};
@@ -26,7 +26,7 @@ ghost use Rattle.zio_stages.specs.OwnParts.{IsOwed};
 ghost use Rattle.zio_stages.specs.RequestNodes.{Closes, HandsKid, IsKidAt, IsOwnOver, IsRequestNode, IsSeatOf, OwnEnds, own_got};
 ghost use Rattle.zio_stages.specs.RequestStages.{HasToldIn, with_kids};
 ghost use Rattle.zio_stages.specs.RequestStoreds.{is_well, keeps_block, own_in};
-ghost use Rattle.zio_stages.specs.declared.waiting.Waiting.{Waiting as SeenWaiting};
+ghost use Rattle.zio_stages.specs.declared.waiting.UnfinishedRequest.{UnfinishedRequest as SeenWaiting};
 ghost use Rattle.zio_stages.specs.Wholes.{IsTreeOf, root_number, root_of};
 
 use crate::attempted::{AgainBack, RequestKids, WholeBack};
@@ -36,7 +36,7 @@ use crate::own_free::OwnFree;
 use crate::own_read::OwnRead;
 use crate::own_write::OwnWrite;
 use crate::stored_block::StoredBlock;
-use crate::waiting::Waiting;
+use crate::waiting::UnfinishedRequest;
 use crate::whole::Whole;
 use std::alloc::Global;
 use zio_blkptr::Bp;
@@ -70,7 +70,7 @@ pub(crate) enum Own {
 /// A request in an attempt.
 #[derive(Drop)]
 pub struct RequestNode {
-    pub(crate) waiting: Waiting,
+    pub(crate) waiting: UnfinishedRequest,
     pub(crate) kids: RequestKids,
     pub(crate) own: Own,
     pub(crate) family: Family,
@@ -122,7 +122,7 @@ pub enum DoneStep {
 pub enum Closed {
     /// It finished with this error or none. With one, the places of the block that it made are to be given back.
     Finished {
-        waiting: Waiting,
+        waiting: UnfinishedRequest,
         error: Option<Errno>,
         own: OwnFound,
     },

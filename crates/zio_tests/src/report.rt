@@ -5,7 +5,7 @@ use std::alloc::Global;
 use std::process::Abort;
 use std::test::Fail;
 use zio_gang::Ending;
-use zio_report::{Line, LineResult, RoundHead, Show, end_line, held_line, pool_line, render};
+use zio_report::{LineResult, ReportLine, RoundHead, Show, end_line, held_line, pool_line, render};
 use zio_script::Name;
 use zio_types::{Completion, Entry, Errno, Key, Kind, List, Path, Place, Role};
 
@@ -73,7 +73,7 @@ const NO_PLACE: Place = Place {
 struct Case<'a> {
     show: Show,
     head: RoundHead,
-    requests: &'a [Line],
+    requests: &'a [ReportLine],
     entries: &'a [Entry],
     completions: &'a [Completion],
     text: &'a str,
@@ -98,10 +98,10 @@ fn named(letter: u8) -> Option<Name> {
     Name::from_word(&[letter])
 }
 
-fn line(number: u32, kind: Kind, name: u8, outcome: LineResult) -> Line
+fn line(number: u32, kind: Kind, name: u8, outcome: LineResult) -> ReportLine
     ensures { result.result ≡ outcome }
 {
-    Line {
+    ReportLine {
         number,
         kind,
         name: named(name),
@@ -231,7 +231,7 @@ fn each_read_has_its_own_bytes(rt: HostRuntime) -> Result<(), Fail> {
 fn each_result_has_its_word(rt: HostRuntime) -> Result<(), Fail> {
     let requests = [
         line(1, Kind::Write, b'p', LineResult::Suspended),
-        Line {
+        ReportLine {
             number: 2,
             kind: Kind::Null,
             name: None,

@@ -4,7 +4,7 @@ use Rattle.zio_script.specs.declared.script.Item.TheVariants.{Request as Request
 use Rattle.zio_script.specs.declared.script.Request.{Request}
 use Rattle.zio_gang.specs.declared.tree.Tree.{Tree}
 use Rattle.zio_gang.specs.Rounds.{block_of, bound_after}
-use Rattle.zio_report.specs.declared.report.Line.{Line}
+use Rattle.zio_report.specs.declared.report.ReportLine.{ReportLine}
 use Rattle.zio_course.specs.declared.runner.Finished.{Finished}
 use Rattle.zio_course.specs.Forests.{names_of}
 use Rattle.zio_course.specs.Told.{ended_by, left_by, line_by, next_of, no_error}
@@ -37,8 +37,8 @@ loop-request-preserved c =
     subst (λ (rs : List Request). IsTelling no_error c.args.finished requests old (as_lines rs) fs c.loop-request.lines c.loop-request.bound front) split c.loop-request.invariant.1 in (
       front ++ r ∷ [],
       subst (λ (left : List Finished). IsTelling no_error c.args.finished requests old (as_lines more) left c.push.new.self c.tell_request.new.bound (front ++ r ∷ [])) (sym c.take_of-finished.ensures.left)
-          (subst (λ (ls : List Line). IsTelling no_error c.args.finished requests old (as_lines more) (left_by no_error fs (RequestLine r)) ls c.tell_request.new.bound (front ++ r ∷ []))
-          (ap (λ (l : Line). c.loop-request.lines ++ l ∷ []) (sym line) ∙ sym c.in_ok-push.ensures.ok)
+          (subst (λ (ls : List ReportLine). IsTelling no_error c.args.finished requests old (as_lines more) (left_by no_error fs (RequestLine r)) ls c.tell_request.new.bound (front ++ r ∷ []))
+          (ap (λ (l : ReportLine). c.loop-request.lines ++ l ∷ []) (sym line) ∙ sym c.in_ok-push.ensures.ok)
           (telling_next no_error c.args.finished requests old (RequestLine r) (as_lines more) fs c.loop-request.lines c.loop-request.bound c.tell_request.new.bound front h
           (λ name. c.in_ok-line.ensures.bound name
           ∙ ap (λ (f : Option Finished). block_of (bound_after (ended_by None f r) (names_of c.loop-request.bound)) name) c.take_of-finished.ensures.taken))),

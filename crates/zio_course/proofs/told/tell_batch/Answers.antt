@@ -5,7 +5,7 @@ use Rattle.zio_script.specs.declared.script.Item.{Item}
 use Rattle.zio_script.specs.declared.script.Request.{Request}
 use Rattle.zio_script.specs.Requests.{requests_of}
 use Rattle.zio_gang.specs.declared.tree.Tree.{Tree}
-use Rattle.zio_report.specs.declared.report.Line.{Line}
+use Rattle.zio_report.specs.declared.report.ReportLine.{ReportLine}
 use Rattle.zio_course.specs.declared.runner.Finished.{Finished}
 use Rattle.zio_course.specs.Admissions.{error_in}
 use Rattle.zio_course.specs.Told.{left_by}
@@ -35,7 +35,7 @@ loop-item-preserved c =
     subst (λ (rest : List Item). IsTelling error c.args.finished batch old rest fs c.loop-item.lines c.loop-item.bound front) c.in-Some.ensures.some c.loop-item.invariant.1 in (
       front ++ requests_of (item ∷ []),
       subst (λ (left : List Finished). IsTelling error c.args.finished batch old more left c.tell_line.new.lines c.tell_line.new.bound (front ++ requests_of (item ∷ []))) (sym c.in_ok-tell_line.ensures.left)
-          (subst (λ (ls : List Line). IsTelling error c.args.finished batch old more (left_by error fs item) ls c.tell_line.new.bound (front ++ requests_of (item ∷ []))) (sym c.in_ok-tell_line.ensures.lines)
+          (subst (λ (ls : List ReportLine). IsTelling error c.args.finished batch old more (left_by error fs item) ls c.tell_line.new.bound (front ++ requests_of (item ∷ []))) (sym c.in_ok-tell_line.ensures.lines)
           (telling_next error c.args.finished batch old item more fs c.loop-item.lines c.loop-item.bound c.tell_line.new.bound front h c.in_ok-tell_line.ensures.bound)),
     )
 

@@ -1,6 +1,6 @@
 use Rattle.std.proofs.Common.{◌≡◌, Some, refl, sym, ap, subst, ◌∙◌}
 use Rattle.std.specs.Prelude.{IfSome}
-use Rattle.zio_graph.specs.Stages.{OutcomeIn}
+use Rattle.zio_turns.specs.Stages.{OutcomeIn}
 use Rattle.zio_stages.specs.Labels.{closed_label}
 use Rattle.zio_stages.specs.RequestReads.{found_of}
 use Rattle.zio_stages.specs.RequestStoreds.{is_well, keeps_block, own_in}

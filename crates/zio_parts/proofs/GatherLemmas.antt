@@ -44,7 +44,7 @@ fits_still w g now h k = record {
 -- ---- a header, and room for what is below it
 
 -- what fits into less than can be counted was counted
-counted_fits : (n c room : ℕ) → c ≡ as_counted n → c ≤ room → room < 2 ^ 63 → n ≤ room
+pub counted_fits : (n c room : ℕ) → c ≡ as_counted n → c ≤ room → room < 2 ^ 63 → n ≤ room
 counted_fits n c room e fits few = omega (arith, e, fits, few)
 
 pub room_fits : (path bytes : List ℕ) (members : List (Option Walked)) (c : Counts) (g : Gathered) → IsRoomFor (joined members) c → c.errors ≤ vec_capacity g.errors → c.bodies ≤ vec_capacity g.bodies → c.heads ≤ vec_capacity g.heads

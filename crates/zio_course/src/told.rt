@@ -16,7 +16,7 @@ use crate::admission::Admission;
 use crate::bound::Bound;
 use crate::forest::reversed;
 use crate::lines::first_line;
-use crate::runner::Finished;
+use crate::runner::RequestEnd;
 use std::alloc::Global;
 use zio_report::{LineResult, ReportLine};
 use zio_script::{Item, Request, Work};
@@ -30,7 +30,7 @@ pub fn tell_batch(
     alloc: Global,
     batch: &[Item],
     admission: &Admission,
-    finished: List<Finished>,
+    finished: List<RequestEnd>,
     bound: &mut Bound,
 ) -> Result<List<ReportLine>, NoMemory>
     requires rising { AreRising (requests_of batch.now) }
@@ -54,7 +54,7 @@ fn tell_line(
     lines: &mut List<ReportLine>,
     item: &Item,
     admission: &Admission,
-    left: &mut Vec<Finished>,
+    left: &mut Vec<RequestEnd>,
     bound: &mut Bound,
 ) -> Result<(), NoMemory>
     ensures lines { OnOk result (lines.new ≡ lines.old ++ lines_by (error_in admission.now.slots.entries admission.now.rules.items) (reverse left.old.items) item.now) }
@@ -73,7 +73,7 @@ fn tell_one(
     lines: &mut List<ReportLine>,
     request: &Request,
     admission: &Admission,
-    left: &mut Vec<Finished>,
+    left: &mut Vec<RequestEnd>,
     bound: &mut Bound,
 ) -> Result<(), NoMemory>
     ensures lines { OnOk result (lines.new ≡ lines.old ++ lines_by (error_in admission.now.slots.entries admission.now.rules.items) (reverse left.old.items) (RequestLine request.now)) }
@@ -93,7 +93,7 @@ fn tell_one(
 }
 
 /// The next that finished, if it is of this request.
-pub(crate) fn take_of(left: &mut Vec<Finished>, number: ReqNo) -> Option<Finished>
+pub(crate) fn take_of(left: &mut Vec<RequestEnd>, number: ReqNo) -> Option<RequestEnd>
     ensures taken { result ≡ next_of (reverse left.old.items) number }
     ensures left { reverse left.new.items ≡ rest_of (reverse left.old.items) number }
 {
@@ -108,7 +108,7 @@ pub(crate) fn take_of(left: &mut Vec<Finished>, number: ReqNo) -> Option<Finishe
 pub(crate) fn tell_request(
     request: &Request,
     error: Option<Errno>,
-    finished: Option<Finished>,
+    finished: Option<RequestEnd>,
     bound: &mut Bound,
 ) -> Result<ReportLine, NoMemory>
     ensures line { IfOk result (λ line. line ≡ line_by error finished request.now) }
@@ -136,12 +136,12 @@ fn line_of(request: &Request, shown: LineResult) -> ReportLine
 }
 
 /// What is shown of a request that finished. Its block gets its name, or its name is unbound.
-fn result_of(work: &Work, finished: Finished, bound: &mut Bound) -> Result<LineResult, NoMemory>
+fn result_of(work: &Work, finished: RequestEnd, bound: &mut Bound) -> Result<LineResult, NoMemory>
     ensures shown { IfOk result (λ shown. (r : Request) → r.work ≡ work.now → shown ≡ result_with finished.error (ended_as r finished)) }
     ensures bound { OnOk result ((r : Request) → r.work ≡ work.now → (name : List ℕ) →
         named_in bound.new name ≡ block_of (bound_unless finished.error (ended_as r finished) (names_of bound.old)) name) }
 {
-    let Finished {
+    let RequestEnd {
         request: _,
         error,
         bytes,

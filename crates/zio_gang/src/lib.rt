@@ -9,7 +9,6 @@
 #![tactic(auto)]
 
 mod bound;
-mod content;
 mod ending;
 mod faults;
 mod header;
@@ -17,9 +16,9 @@ mod laws;
 mod members;
 mod sizes;
 mod tree;
+mod writes;
 
 pub use bound::Bound;
-pub use content::content;
 pub use ending::Ending;
 pub use faults::header_decode;
 pub use header::{Header, HeaderFault, Split, header_encode};
@@ -28,5 +27,6 @@ pub use laws::{
     each_request_has_one_fate, headers_have_no_fault, trees_are_attempted_in_turn,
 };
 pub use members::members_of;
-pub use sizes::{SPLIT_SIZE_MAX, split};
+pub use sizes::{LEVELS_MAX, split};
 pub use tree::{Head, Tree};
+pub use writes::content;

@@ -18,7 +18,7 @@ use Rattle.zio_trace.specs.Together.{round_of}
 use Rattle.zio_trace.proofs.RoundTouches.{entries_of_round}
 use Rattle.zio_frames.specs.Running.{all_heard}
 use Rattle.zio_frames.specs.Slots.{Slot}
-use Rattle.zio_course.specs.declared.runner.Finished.{Finished as Told}
+use Rattle.zio_course.specs.declared.runner.RequestEnd.{RequestEnd}
 use Rattle.zio_course.specs.Runners.{AreRestsOf, AreRunnable, DiffersInRound, IsRound, IsRoundEnd, completion_for, finished_of, has_claim, is_numbered, joined_trees, made_trees, numbers_of, requests_in}
 use Rattle.zio_sound.specs.Leaving.{AreSettled, LeavesTrees}
 use Rattle.zio_sound.proofs.Leaving.{round_left}
@@ -159,11 +159,11 @@ module _ {N D : Type 0} (nodes : Nodes N) (bytes faults : D → ℕ) (image : D 
       moved = requests_are {N = N} nodes
           (terms_on g failmode round) job.forest h.now h.slab values h.over.ledger heard h.over.standing_none
 
-      module _ (finished : List Told) (told : IsPermutation (map told_of ended) finished)
-          (order : IsNonDecreasingBy (λ (f : Told). f.request) finished) where
+      module _ (finished : List RequestEnd) (told : IsPermutation (map told_of ended) finished)
+          (order : IsNonDecreasingBy (λ (f : RequestEnd). f.request) finished) where
         by_number : IsByNumber (all_ended h.now.books.done) finished
         by_number = record {
-          same = subst (λ (fs : List Told). IsPermutation fs finished) (told_are ended h.now.books.done h.told) told;
+          same = subst (λ (fs : List RequestEnd). IsPermutation fs finished) (told_are ended h.now.books.done h.told) told;
           order = order;
         }
 
@@ -201,7 +201,7 @@ module _ {N D : Type 0} (nodes : Nodes N) (bytes faults : D → ℕ) (image : D 
           left_so = ap (λ (ls : List (List UnfinishedRequest)). map pendings ls) is_left ∙ left_are
 
           in_order : completions_of round (all_ended h.now.books.done) ≡ completions
-          in_order = ap (λ (fs : List Told). map (completion_for round) fs) (sym (told_are ended h.now.books.done h.told))
+          in_order = ap (λ (fs : List RequestEnd). map (completion_for round) fs) (sym (told_are ended h.now.books.done h.told))
               ∙ (sym (completed_are round ended) ∙ sym are_completed)
 
           entries_so : h.now.entries ≡ entries
@@ -211,7 +211,7 @@ module _ {N D : Type 0} (nodes : Nodes N) (bytes faults : D → ℕ) (image : D 
               (record { finished = finished; left = map pendings left; completions = completions; entries = entries })
           ends_round = record {
             each = λ n. tells.each n
-                ∙ ap (λ (ls : List (List Pending)). count_by (is_numbered n) (map (λ (f : Told). f.request) finished)
+                ∙ ap (λ (ls : List (List Pending)). count_by (is_numbered n) (map (λ (f : RequestEnd). f.request) finished)
                 + count_by (is_numbered n) (numbers_of (requests_in ls))) (sym left_so);
             rests = subst (AreRestsOf (map pendings wholes)) (sym left_so) leaves.rests;
             claims = ap (λ (ls : List (List Pending)). has_claim (requests_in ls)) left_so ∙ leaves.claims runs.claim;
@@ -279,13 +279,13 @@ module _ {N D : Type 0} (nodes : Nodes N) (bytes faults : D → ℕ) (image : D 
     came_to : (values : List Value) × (silent.now.trees ≡ all_heard values)
     came_to = some_values None silent
 
-    pub stands : (finished : List Told) → IsPermutation (map told_of ended) finished
-        → IsNonDecreasingBy (λ (f : Told). f.request) finished
+    pub stands : (finished : List RequestEnd) → IsPermutation (map told_of ended) finished
+        → IsNonDecreasingBy (λ (f : RequestEnd). f.request) finished
         → LeavesInUse (standing_on faults g) (map pendings wholes) finished now.desk.space.live
     stands finished told order = in_use None silent came_to.0 came_to.1 finished told order
 
-    pub fits : (finished : List Told) → IsPermutation (map told_of ended) finished
-        → IsNonDecreasingBy (λ (f : Told). f.request) finished → AllByRecursion IsWholeTree (made_trees finished)
+    pub fits : (finished : List RequestEnd) → IsPermutation (map told_of ended) finished
+        → IsNonDecreasingBy (λ (f : RequestEnd). f.request) finished → AllByRecursion IsWholeTree (made_trees finished)
     fits finished told order = made_whole None silent came_to.0 came_to.1 finished told order
 
     pub trees_left : AllByRecursion IsWhole (left_in states) → AllByRecursion (AllByRecursion IsWithinLimits) (left_in states)
@@ -299,8 +299,8 @@ module _ {N D : Type 0} (nodes : Nodes N) (bytes faults : D → ℕ) (image : D 
         still_steady {N = N} {D = D} nodes bytes image g now last round failmode job.forest None states ended steady silent kept
         same closed
 
-    module _ (finished : List Told) (told : IsPermutation (map told_of ended) finished)
-        (order : IsNonDecreasingBy (λ (f : Told). f.request) finished) (left : List (List UnfinishedRequest))
+    module _ (finished : List RequestEnd) (told : IsPermutation (map told_of ended) finished)
+        (order : IsNonDecreasingBy (λ (f : RequestEnd). f.request) finished) (left : List (List UnfinishedRequest))
         (is_left : left ≡ left_in states)
         (completions : List Completion) (are_completed : completions ≡ map (completion_of round) ended) (entries : List Choice)
         (are_entries : entries ≡ now.desk.space.entries) where

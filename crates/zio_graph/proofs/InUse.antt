@@ -15,15 +15,15 @@ use Rattle.zio_gang.specs.Attempts.{Pending, Terms}
 use Rattle.zio_gang.specs.Trees.{sizes_of, tree_places}
 use Rattle.zio_trace.specs.Families.{Forest, flat}
 use Rattle.zio_trace.specs.Rounds.{trees_in}
-use Rattle.zio_blocks.specs.PlaceSets.{pass_all}
-use Rattle.zio_course.specs.declared.runner.Finished.{Finished}
+use Rattle.zio_cksum.proofs.PlaceSets.{pass_all}
+use Rattle.zio_course.specs.declared.runner.RequestEnd.{RequestEnd}
 use Rattle.zio_course.specs.Runners.{AreRunnable, Standing, finished_of, freed_by, freed_places, is_good_in, joined_trees, made_places, numbers_of, requests_in}
 use Rattle.zio_course.proofs.SortLemmas.{IsOneOf, one_all, one_itself, one_map}
-use Rattle.zio_plain.proofs.CountLemmas.{counted, requests_counted}
-use Rattle.zio_plain.proofs.PassLemmas.{made_append}
-use Rattle.zio_plain.proofs.PlainItems.{any_in, any_out, filtered_in, filtered_out, found_one, image_of, of_part, one_found, part_of}
-use Rattle.zio_plain.proofs.PlainLive.{made_inside, made_open, made_same}
-use Rattle.zio_plain.proofs.SortedLemmas.{all_moved}
+use Rattle.zio_course.proofs.NumberCounts.{counted, requests_counted}
+use Rattle.zio_course.proofs.MadePlaces.{made_append}
+use Rattle.zio_course.proofs.ItemLemmas.{any_in, any_out, filtered_in, filtered_out, found_one, image_of, of_part, one_found, part_of}
+use Rattle.zio_course.proofs.MadePlaces.{made_inside, made_open, made_same}
+use Rattle.zio_course.proofs.NumberSorts.{all_moved}
 use Rattle.zio_stages.specs.Outcomes.{freed_if, freed_of}
 use Rattle.zio_turns.specs.Ledgers.{Ending, IsEnding, all_ended, freed_for, freed_in, made_for, made_in}
 use Rattle.zio_graph.specs.InUse.{LeavesInUse}
@@ -71,9 +71,9 @@ owner_frees : (trees : List (List Pending)) (x : Ending) → (o : IsOwner trees 
 owner_frees trees x o =
     (λ i. freed_by (o.request i).work (o.block i)) ∙ sym (freed_alike x.request.request.work x.request.block)
 
-one_moved : (g : Finished) (xs ys : List Finished) → IsPermutation xs ys → IsOneOf g xs → IsOneOf g ys
+one_moved : (g : RequestEnd) (xs ys : List RequestEnd) → IsPermutation xs ys → IsOneOf g xs → IsOneOf g ys
 one_moved g xs ys moved at =
-    one_all (λ (x : Finished). IsOneOf x ys) g xs (all_moved (λ (x : Finished). IsOneOf x ys) ys xs (IsPermutation-sym xs ys moved) (one_itself ys)) at
+    one_all (λ (x : RequestEnd). IsOneOf x ys) g xs (all_moved (λ (x : RequestEnd). IsOneOf x ys) ys xs (IsPermutation-sym xs ys moved) (one_itself ys)) at
 
 -- a place is freed with a request that finished without error
 good_freed : (b : Bool) (ps : List Place) (p : Place) → IsOneOf p (freed_if b ps) → (b ≡ true) × IsOneOf p ps
@@ -94,10 +94,10 @@ pendings_once s trees runs n =
     subst (λ (ns : List ℕ). counted n ns ≤ 1) (pending_numbers (joined_trees trees))
     (subst (λ (m : ℕ). m ≤ 1) (sym (requests_counted n (requests_in trees))) (runs.once n))
 
-module _ (s : Standing) (t : Terms) (f : Forest) (trees : List (List Pending)) (done : List Ending) (finished : List Finished)
+module _ (s : Standing) (t : Terms) (f : Forest) (trees : List (List Pending)) (done : List Ending) (finished : List RequestEnd)
     (are : trees_in f ≡ trees) (runs : AreRunnable s trees) (each : AllByRecursion (IsEnding t f) done)
     (by : IsByNumber (all_ended done) finished) where
-  moved_to : (g : Finished) → IsOneOf g (map finished_of (all_ended done)) → IsOneOf g finished
+  moved_to : (g : RequestEnd) → IsOneOf g (map finished_of (all_ended done)) → IsOneOf g finished
   moved_to g at = one_moved g (map finished_of (all_ended done)) finished by.same at
 
   told : (p : Place) → IsOneOf p (freed_in done) → IsOneOf p (freed_places trees finished)
@@ -110,7 +110,7 @@ module _ (s : Standing) (t : Terms) (f : Forest) (trees : List (List Pending)) (
       of_part (λ (q : Pending). freed_by q.request.work q.block)
       (filter (λ (q : Pending). is_good_in finished q.request.number) (joined_trees trees)) o.owner p
       (filtered_in (λ (q : Pending). is_good_in finished q.request.number) (joined_trees trees) o.owner o.at
-      (any_in (λ (g : Finished). (g.request == o.owner.request.number) && is_none g.error) finished (finished_of x.ended)
+      (any_in (λ (g : RequestEnd). (g.request == o.owner.request.number) && is_none g.error) finished (finished_of x.ended)
       (moved_to (finished_of x.ended) (one_map finished_of x.ended (all_ended done) (one_map (λ (y : Ending). y.ended) x done part.at)))
       (and_from (x.ended.request.number == o.owner.request.number) (is_none x.ended.error)
       (eq-eqb x.ended.request.number o.owner.request.number
@@ -122,7 +122,7 @@ module _ (s : Standing) (t : Terms) (f : Forest) (trees : List (List Pending)) (
       let part = part_of (λ (q : Pending). freed_by q.request.work q.block)
       (filter (λ (q : Pending). is_good_in finished q.request.number) (joined_trees trees)) p at in
       let q = filtered_out (λ (q : Pending). is_good_in finished q.request.number) (joined_trees trees) part.of part.at in
-      let good = any_out (λ (g : Finished). (g.request == part.of.request.number) && is_none g.error) finished q.1 in
+      let good = any_out (λ (g : RequestEnd). (g.request == part.of.request.number) && is_none g.error) finished q.1 in
       let parts = and_parts (good.one.request == part.of.request.number) (is_none good.one.error) good.is in
       let told = image_of finished_of (all_ended done) good.one
       (one_moved good.one finished (map finished_of (all_ended done)) (IsPermutation-sym (map finished_of (all_ended done)) finished by.same) good.at) in
@@ -133,11 +133,11 @@ module _ (s : Standing) (t : Terms) (f : Forest) (trees : List (List Pending)) (
       let same : finished_of x.ended ≡ good.one = ap finished_of ended.is ∙ told.is in
       let one : o.owner ≡ part.of =
       one_numbered (λ (y : Pending). y.request.number) o.owner part.of (joined_trees trees) (pendings_once s trees runs) o.at q.0
-      (ap (λ (r : Request). r.number) o.request ∙ (sym ending.number ∙ (ap (λ (g : Finished). g.request) same
+      (ap (λ (r : Request). r.number) o.request ∙ (sym ending.number ∙ (ap (λ (g : RequestEnd). g.request) same
       ∙ eqb-true good.one.request part.of.request.number parts.0))) in
       of_part freed_for done x p ended.at
       (freed_good (is_none x.ended.error) (freed_of x.request.request.work x.request.block) p
-      (ap (λ (g : Finished). is_none g.error) same ∙ parts.1)
+      (ap (λ (g : RequestEnd). is_none g.error) same ∙ parts.1)
       (subst (IsOneOf p) (ap (λ (y : Pending). freed_by y.request.work y.block) (sym one) ∙ owner_frees trees x o) part.there))
 
   freed_told : SamePlaces (freed_in done) (freed_places trees finished)
@@ -148,7 +148,7 @@ module _ (s : Standing) (t : Terms) (f : Forest) (trees : List (List Pending)) (
 
 -- ---- all of it
 
-pub leaves_in_use : (s : Standing) (t : Terms) (f : Forest) (trees : List (List Pending)) (done : List Ending) (finished : List Finished)
+pub leaves_in_use : (s : Standing) (t : Terms) (f : Forest) (trees : List (List Pending)) (done : List Ending) (finished : List RequestEnd)
     (live : List Place) → trees_in f ≡ trees → AreRunnable s trees → AllByRecursion (IsEnding t f) done → IsByNumber (all_ended done) finished
     → AllByRecursion (λ (p : Place). IsTrue (is_inside (sizes_of s.tops) p)) (made_in done) → are_open s.live (made_in done) ≡ true
     → ((p : Place) → Contains live p ↔ ((Contains s.live p × ¬ Contains (freed_in done) p) ⊎ Contains (made_in done) p))

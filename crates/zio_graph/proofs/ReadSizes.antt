@@ -20,10 +20,10 @@ use Rattle.zio_trace.specs.Rounds.{trees_in}
 use Rattle.zio_disks.specs.Kept.{AreKept, IsKept, IsKeptGang, IsKeptIf, bytes_of_all}
 use Rattle.zio_disks.specs.Whole.{IsWholeTree}
 use Rattle.zio_disks.proofs.SizeLemmas.{whole_kept}
-use Rattle.zio_course.specs.declared.runner.Finished.{Finished}
+use Rattle.zio_course.specs.declared.runner.RequestEnd.{RequestEnd}
 use Rattle.zio_course.specs.Runners.{AreRunnable, HasReadSize, Standing, finished_of, joined_trees, read_size}
 use Rattle.zio_course.proofs.SortLemmas.{IsOneOf, one_all}
-use Rattle.zio_plain.proofs.SortedLemmas.{all_moved}
+use Rattle.zio_course.proofs.NumberSorts.{all_moved}
 use Rattle.zio_turns.specs.Ledgers.{Ending, IsEnding, all_ended}
 use Rattle.zio_turns.specs.Sizes.{FitsBodies, block_read, bodies_size, joined_size}
 use Rattle.zio_graph.specs.EngineTrees.{AreSound}
@@ -130,7 +130,7 @@ module _ (t : Terms) (f : Forest) (trees : List (List Pending)) (are : trees_in 
 
   all_sectors : (done : List Ending) → AllByRecursion (IsEnding t f) done
       → AllByRecursion (λ (x : Ending). FitsBodies x.request x.ended) done
-      → AllByRecursion (λ (g : Finished). length g.bytes % sector_size ≡ 0) (map finished_of (all_ended done))
+      → AllByRecursion (λ (g : RequestEnd). length g.bytes % sector_size ≡ 0) (map finished_of (all_ended done))
   all_sectors [] each sized = tt
   all_sectors (x ∷ done) each sized = (sectors_of x each.0 sized.0, all_sectors done each.1 sized.1)
 
@@ -172,17 +172,17 @@ module _ (t : Terms) (f : Forest) (trees : List (List Pending)) (are : trees_in 
 -- ---- what is told
 
 pub reads_told : (s : Standing) (t : Terms) (f : Forest) (trees : List (List Pending)) (done : List Ending)
-    (finished : List Finished) → trees_in f ≡ trees → AreSound f → AreRunnable s trees → AllByRecursion (IsEnding t f) done
+    (finished : List RequestEnd) → trees_in f ≡ trees → AreSound f → AreRunnable s trees → AllByRecursion (IsEnding t f) done
     → AllByRecursion (λ (x : Ending). FitsBodies x.request x.ended) done → IsByNumber (all_ended done) finished
     → AllByRecursion (HasReadSize trees) finished
 reads_told s t f trees done finished are sound runs each sized by =
     all_moved (HasReadSize trees) (map finished_of (all_ended done)) finished by.same
     (all_sizes t f trees are sound s runs done each sized)
 
-pub sectors_told : (t : Terms) (f : Forest) (trees : List (List Pending)) (done : List Ending) (finished : List Finished)
+pub sectors_told : (t : Terms) (f : Forest) (trees : List (List Pending)) (done : List Ending) (finished : List RequestEnd)
     → trees_in f ≡ trees → AreSound f → AllByRecursion (IsEnding t f) done
     → AllByRecursion (λ (x : Ending). FitsBodies x.request x.ended) done → IsByNumber (all_ended done) finished
-    → AllByRecursion (λ (g : Finished). length g.bytes % sector_size ≡ 0) finished
+    → AllByRecursion (λ (g : RequestEnd). length g.bytes % sector_size ≡ 0) finished
 sectors_told t f trees done finished are sound each sized by =
-    all_moved (λ (g : Finished). length g.bytes % sector_size ≡ 0) (map finished_of (all_ended done)) finished by.same
+    all_moved (λ (g : RequestEnd). length g.bytes % sector_size ≡ 0) (map finished_of (all_ended done)) finished by.same
     (all_sectors t f trees are sound done each sized)

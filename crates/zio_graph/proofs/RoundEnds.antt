@@ -10,16 +10,16 @@ use Rattle.zio_script.specs.Requests.{makes_block}
 use Rattle.zio_gang.specs.Attempts.{Ended, Pending}
 use Rattle.zio_gang.specs.Journals.{CompleteOnce}
 use Rattle.zio_trace.specs.Rounds.{Round}
-use Rattle.zio_course.specs.declared.runner.Finished.{Finished}
+use Rattle.zio_course.specs.declared.runner.RequestEnd.{RequestEnd}
 use Rattle.zio_course.specs.Runners.{AreRisingFrom, AreRunnable, MakesTree, Standing, completion_for, finished_by_number, finished_of, is_numbered, joined_trees, numbers_of, requests_in}
 use Rattle.zio_course.proofs.DoneLemmas.{contains_one}
 use Rattle.zio_course.proofs.SortLemmas.{IsOneOf, IsRisingBy}
-use Rattle.zio_plain.proofs.CountLemmas.{complete_once, counted, ends_numbers, requests_counted}
-use Rattle.zio_plain.proofs.SortedLemmas.{all_moved, all_there, counted_moved, merged_is, numbers_rise, rising_by}
+use Rattle.zio_course.proofs.NumberCounts.{complete_once, counted, ends_numbers, requests_counted}
+use Rattle.zio_course.proofs.NumberSorts.{all_moved, all_there, counted_moved, merged_is, numbers_rise, rising_by}
 use Rattle.zio_sound.specs.Leaving.{LeavesTrees, MakesOwn, requests_ended}
 use Rattle.zio_graph.specs.RoundEnds.{IsByNumber, TellsRound, completions_of}
 
-abbrev number : Finished → ℕ
+abbrev number : RequestEnd → ℕ
 number f = f.request
 
 -- ---- one request a number
@@ -57,7 +57,7 @@ ended_numbers (e ∷ es) = ap (λ (ns : List ℕ). e.request.number ∷ ns) (end
 
 -- ---- the end of a round
 
-module _ (s : Standing) (round : ℕ) (trees : List (List Pending)) (r : Round) (ended : List Ended) (fs : List Finished)
+module _ (s : Standing) (round : ℕ) (trees : List (List Pending)) (r : Round) (ended : List Ended) (fs : List RequestEnd)
     (runs : AreRunnable s trees) (leaves : LeavesTrees trees r) (moved : IsPermutation ended r.ended)
     (sorted : IsPermutation (map finished_of ended) fs) (order : IsNonDecreasingBy number fs) where
   from_round : IsPermutation (map finished_of r.ended) fs
@@ -121,7 +121,7 @@ module _ (s : Standing) (round : ℕ) (trees : List (List Pending)) (r : Round) 
       complete_once round (map finished_of ended)
       (λ n. (let a = counted_moved n (map finished_of ended) fs sorted in let b = ends_once n in omega arith))
 
-pub tells_round : (s : Standing) (round : ℕ) (trees : List (List Pending)) (r : Round) (ended : List Ended) (fs : List Finished) → AreRunnable s trees
+pub tells_round : (s : Standing) (round : ℕ) (trees : List (List Pending)) (r : Round) (ended : List Ended) (fs : List RequestEnd) → AreRunnable s trees
     → LeavesTrees trees r → IsPermutation ended r.ended → IsByNumber ended fs → TellsRound round trees r ended fs
 tells_round s round trees r ended fs runs leaves moved sorted = record {
   finished_is = finished_is s round trees r ended fs runs leaves moved sorted.same sorted.order;

@@ -19,12 +19,14 @@ use Rattle.zio_gang.specs.Trees.{size_of}
 use Rattle.zio_disks.specs.Disks.{Tell}
 use Rattle.zio_blocks.specs.Blocks.{HavePointers}
 use Rattle.zio_course.specs.declared.runner.RoundEnd.{RoundEnd}
-use Rattle.zio_course.specs.Runners.{AreRunnable, DiffersInRound, IsRound, IsRoundEnd, Standing, StandsAfter, StoppedAfter, ended_seen, terms_at}
+use Rattle.zio_course.specs.Runners.{AreRunnable, DiffersInRound, IsRound, IsRoundEnd, SeenEnd, Standing, StandsAfter, StoppedAfter, ended_seen, terms_at}
 use Rattle.zio_stages.specs.PartWorks.{HaveUnits}
 use Rattle.zio_stages.specs.Waits.{pendings}
+use Rattle.zio_stages.specs.declared.outcome.Finished.{Finished}
 use Rattle.zio_stages.specs.declared.waiting.UnfinishedRequest.{UnfinishedRequest}
 use Rattle.zio_nodes.specs.TreeAts.{IsRequestInside, IsTreeOver}
 use Rattle.zio_turns.specs.declared.grounds.Grounds.{Grounds}
+use Rattle.zio_graph.specs.Ends.{told_of}
 use Rattle.zio_graph.specs.EngineTrees.{IsWithinLimits}
 use Rattle.zio_graph.specs.Graphs.{SeenGraph, standing_of}
 use Rattle.zio_graph.specs.InUse.{LeavesInUse}
@@ -77,7 +79,7 @@ idle_runs s trees h = record {
   between = h.between;
 }
 
-idle_ends : (s : Standing) (round : ℕ) (trees : List (List Pending)) (end : RoundEnd (List Pending))
+idle_ends : (s : Standing) (round : ℕ) (trees : List (List Pending)) (end : SeenEnd)
     → IsRoundEnd (idle s) round trees end → IsRoundEnd s round trees end
 idle_ends s round trees end h = record {
   each = h.each;
@@ -99,7 +101,7 @@ idle_ends s round trees end h = record {
 -- ---- a round over the grounds is one of the engine
 
 -- a round's end, with the trees that are left as they stand between rounds
-pub record IsSeenEnd (e : RoundEnd (List UnfinishedRequest)) (end : RoundEnd (List Pending)) : Type 0 where
+pub record IsSeenEnd (e : RoundEnd (List UnfinishedRequest) Finished) (end : RoundEnd (List Pending) Finished) : Type 0 where
   pub finished : end.finished ≡ e.finished
   pub left : end.left ≡ map pendings e.left
   pub completions : end.completions ≡ e.completions
@@ -108,18 +110,18 @@ pub record IsSeenEnd (e : RoundEnd (List UnfinishedRequest)) (end : RoundEnd (Li
 abbrev pub as_trees : List (List Pending) → List (List Pending)
 as_trees trees = map (λ (tree : List Pending). tree) trees
 
-seen_same : (e : RoundEnd (List UnfinishedRequest)) (end : RoundEnd (List Pending)) → IsSeenEnd e end
-    → ended_seen pendings e ≡ ended_seen (λ (tree : List Pending). tree) end
+seen_same : (e : RoundEnd (List UnfinishedRequest) Finished) (end : RoundEnd (List Pending) Finished) → IsSeenEnd e end
+    → ended_seen pendings told_of e ≡ ended_seen (λ (tree : List Pending). tree) told_of end
 seen_same e end h =
     let left : map pendings e.left ≡ as_trees end.left = sym h.left ∙ sym (map-id end.left) in
-    let finished = sym h.finished in
+    let finished = ap (map told_of) (sym h.finished) in
     let completions = sym h.completions in
     let entries = sym h.entries in
     λ i. record { finished = finished i; left = left i; completions = completions i; entries = entries i }
 
 -- a round in the runner's words, where images are told
 abbrev pub RunsAs : {D : Type 0} → (D → List ℕ → Type 0) → Standing → Failmode → ℕ → ℕ → List (List Pending) → List D → List D
-    → RoundEnd (List Pending) → Type 0
+    → SeenEnd → Type 0
 RunsAs {D = D} image s failmode round point trees old new end =
     (before : Images) → Tell {D = D} image old before → (after : Images)
     × Tell {D = D} image new after × IsRound (terms_at s failmode round point) trees before after end
@@ -176,15 +178,15 @@ module _ {D : Type 0} (faults : D → ℕ) (image : D → List ℕ → Type 0) (
         (subst (λ (ts : List (List Pending)). TellLoose {D = D} image (idle (standing_of faults p)) ts g.disks.items now) given
         (subst (λ (s : Standing). TellLoose {D = D} image s (map pendings wholes) g.disks.items now) known h))
 
-    module _ (e : RoundEnd (List UnfinishedRequest)) (end : RoundEnd (List Pending)) (seen : IsSeenEnd e end) where
+    module _ (e : RoundEnd (List UnfinishedRequest) Finished) (end : RoundEnd (List Pending) Finished) (seen : IsSeenEnd e end) where
       pub round_seen : (failmode : Failmode) (round : ℕ) (now : List D)
           → RunsAs {D = D} image (standing_on faults g) failmode round g.setting.point (map pendings wholes) g.disks.items now
-          (ended_seen pendings e)
+          (ended_seen pendings told_of e)
           → RunsAs {D = D} image (standing_of faults p) failmode round point (as_trees trees) p.disks now
-          (ended_seen (λ (tree : List Pending). tree) end)
+          (ended_seen (λ (tree : List Pending). tree) told_of end)
       round_seen failmode round now h =
           let s : Standing = idle (standing_of faults p) in
-          let x : RoundEnd (List Pending) = ended_seen (λ (tree : List Pending). tree) end in
+          let x : SeenEnd = ended_seen (λ (tree : List Pending). tree) told_of end in
           subst (λ (ds : List D). RunsAs {D = D} image s failmode round point (as_trees trees) ds now x) b.disks
           (subst (λ (ts : List (List Pending)). RunsAs {D = D} image s failmode round point ts g.disks.items now x) given
           (subst (λ (n : ℕ). RunsAs {D = D} image s failmode round n (map pendings wholes) g.disks.items now x)
@@ -193,18 +195,18 @@ module _ {D : Type 0} (faults : D → ℕ) (image : D → List ℕ → Type 0) (
           (subst (RunsAs {D = D} image (standing_on faults g) failmode round g.setting.point (map pendings wholes) g.disks.items now)
           (seen_same e end seen) h))))
 
-      pub ends_seen : (round : ℕ) → IsRoundEnd (standing_on faults g) round (map pendings wholes) (ended_seen pendings e)
-          → IsRoundEnd (standing_of faults p) round (as_trees trees) (ended_seen (λ (tree : List Pending). tree) end)
+      pub ends_seen : (round : ℕ) → IsRoundEnd (standing_on faults g) round (map pendings wholes) (ended_seen pendings told_of e)
+          → IsRoundEnd (standing_of faults p) round (as_trees trees) (ended_seen (λ (tree : List Pending). tree) told_of end)
       ends_seen round h =
           let s : Standing = idle (standing_of faults p) in
-          let x : RoundEnd (List Pending) = ended_seen (λ (tree : List Pending). tree) end in
+          let x : SeenEnd = ended_seen (λ (tree : List Pending). tree) told_of end in
           idle_ends (standing_of faults p) round (as_trees trees) x
           (subst (λ (ts : List (List Pending)). IsRoundEnd s round ts x) given
           (subst (λ (r : Standing). IsRoundEnd r round (map pendings wholes) x) known
           (subst (IsRoundEnd (standing_on faults g) round (map pendings wholes)) (seen_same e end seen) h)))
 
       pub stands_seen : (round : ℕ) (now : Grounds D)
-          → LeavesInUse (standing_on faults g) (map pendings wholes) e.finished now.desk.space.live → now.setting ≡ g.setting
+          → LeavesInUse (standing_on faults g) (map pendings wholes) (map told_of e.finished) now.desk.space.live → now.setting ≡ g.setting
           → map faults now.disks.items ≡ map faults g.disks.items
           → StandsAfter (standing_of faults p)
           (standing_of {D = D} faults (record {
@@ -213,13 +215,13 @@ module _ {D : Type 0} (faults : D → ℕ) (image : D → List ℕ → Type 0) (
             live = now.desk.space.live;
             last = round;
             stopped = false;
-          })) round (as_trees trees) (ended_seen (λ (tree : List Pending). tree) end)
+          })) round (as_trees trees) (ended_seen (λ (tree : List Pending). tree) told_of end)
       stands_seen round now h kept steady =
           let s : Standing = idle (standing_of faults p) in
-          let leaves : LeavesInUse s (as_trees trees) end.finished now.desk.space.live =
-          subst (λ (fs : List _). LeavesInUse s (as_trees trees) fs now.desk.space.live) (sym seen.finished)
-          (subst (λ (ts : List (List Pending)). LeavesInUse s ts e.finished now.desk.space.live) given
-          (subst (λ (r : Standing). LeavesInUse r (map pendings wholes) e.finished now.desk.space.live) known h)) in
+          let leaves : LeavesInUse s (as_trees trees) (map told_of end.finished) now.desk.space.live =
+          subst (λ (fs : List Finished). LeavesInUse s (as_trees trees) (map told_of fs) now.desk.space.live) (sym seen.finished)
+          (subst (λ (ts : List (List Pending)). LeavesInUse s ts (map told_of e.finished) now.desk.space.live) given
+          (subst (λ (r : Standing). LeavesInUse r (map pendings wholes) (map told_of e.finished) now.desk.space.live) known h)) in
           record {
             tops = ap (λ (u : Setting). u.tops) (kept ∙ b.setting);
             rows = ap (λ (u : Setting). u.rows) (kept ∙ b.setting);

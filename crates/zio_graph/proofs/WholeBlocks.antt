@@ -21,7 +21,7 @@ use Rattle.zio_trace.specs.Underway.{AreAnswered}
 use Rattle.zio_trace.proofs.AnyOrder.{all_permuted}
 use Rattle.zio_disks.specs.Whole.{IsWholeTree}
 use Rattle.zio_blocks.specs.Blocks.{HavePointers}
-use Rattle.zio_course.specs.declared.runner.Finished.{Finished}
+use Rattle.zio_course.specs.declared.runner.RequestEnd.{RequestEnd}
 use Rattle.zio_course.specs.Runners.{finished_of, made_trees}
 use Rattle.zio_stages.specs.Wholes.{trees_in}
 use Rattle.zio_graph.specs.EngineTrees.{AreSound, IsSoundPending}
@@ -63,18 +63,18 @@ option_all : (tree : Option Tree) → IfSome tree IsWholeTree → AllByRecursion
 option_all None h = tt
 option_all (Some tree) h = (h, tt)
 
-told_trees : (finished : List Finished) → AllByRecursion (λ (f : Finished). IfSome f.tree IsWholeTree) finished
+told_trees : (finished : List RequestEnd) → AllByRecursion (λ (f : RequestEnd). IfSome f.tree IsWholeTree) finished
     → AllByRecursion IsWholeTree (made_trees finished)
 told_trees [] h = tt
 told_trees (f ∷ finished) h =
     all_append IsWholeTree (option_to_list f.tree) (made_trees finished) (option_all f.tree h.0) (told_trees finished h.1)
 
 -- in whatever order the requests finished
-pub told_whole : (done ended : List Ended) (finished : List Finished) → IsPermutation done ended
+pub told_whole : (done ended : List Ended) (finished : List RequestEnd) → IsPermutation done ended
     → IsPermutation (map finished_of done) finished
     → AllByRecursion EndsWhole ended → AllByRecursion IsWholeTree (made_trees finished)
 told_whole done ended finished moved told h =
     told_trees finished
-    (all_permuted (λ (f : Finished). IfSome f.tree IsWholeTree) (map finished_of done) finished told
-    (all_map (λ (f : Finished). IfSome f.tree IsWholeTree) finished_of done
+    (all_permuted (λ (f : RequestEnd). IfSome f.tree IsWholeTree) (map finished_of done) finished told
+    (all_map (λ (f : RequestEnd). IfSome f.tree IsWholeTree) finished_of done
     (all_permuted EndsWhole ended done (IsPermutation-sym done ended moved) h)))

@@ -2,7 +2,7 @@
 use Rattle.std.specs.Prelude.{ℕ, List, [], ◌∷◌}
 use Rattle.std.specs.List.{flat_map}
 use Rattle.zio_types.specs.declared.journal.Completion.{Completion}
-use Rattle.zio_course.specs.declared.runner.Finished.{Finished as Told}
+use Rattle.zio_course.specs.declared.runner.RequestEnd.{RequestEnd}
 use Rattle.zio_course.specs.Runners.{completion_for}
 use Rattle.zio_stages.specs.declared.outcome.Finished.{Finished}
 use Rattle.zio_stages.specs.declared.waiting.UnfinishedRequest.{UnfinishedRequest}
@@ -12,7 +12,7 @@ use Rattle.zio_turns.specs.declared.trees.TreeState.{TreeState}
 use Rattle.zio_turns.specs.declared.trees.TreeState.TheVariants.{Settled, UnderWay}
 
 -- what is told of a request that finished
-abbrev pub told_of : Finished → Told
+abbrev pub told_of : Finished → RequestEnd
 told_of f = record { request = f.request; error = f.error; bytes = f.bytes; tree = f.block }
 
 -- its completion

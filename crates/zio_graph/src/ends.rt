@@ -3,13 +3,13 @@
 ghost use Rattle.std.specs.Prelude.{◌≡◌, ◌++◌, IfOk, IsPermutation, OnOk, map};
 ghost use Rattle.std.specs.List.{AllByRecursion};
 ghost use Rattle.std.specs.List.Sorted.{IsNonDecreasingBy};
-ghost use Rattle.zio_course.specs.declared.runner.Finished.{Finished as Told};
+ghost use Rattle.zio_course.specs.declared.runner.RequestEnd.{RequestEnd as Told};
 ghost use Rattle.zio_stages.specs.Wholes.{IsWhole};
 ghost use Rattle.zio_graph.specs.Ends.{completion_of, left_by, left_in, told_of};
 
 use std::alloc::Global;
-use zio_course::Finished;
-use zio_stages::{Finished as Ended, Whole};
+use zio_course::RequestEnd;
+use zio_stages::{Finished, Whole};
 use zio_turns::{TreeEnd, TreeState};
 use zio_types::{Completion, List, NoMemory};
 
@@ -46,7 +46,7 @@ fn note_left(left: &mut Vec<Whole>, tree: TreeState) -> Result<(), NoMemory>
 pub(crate) fn completions_of(
     alloc: Global,
     round: u32,
-    ended: &[Ended],
+    ended: &[Finished],
 ) -> Result<List<Completion>, NoMemory>
     ensures { IfOk result (λ completions. completions ≡ map (completion_of round) ended.now) }
 {
@@ -61,30 +61,25 @@ pub(crate) fn completions_of(
     Ok(completions)
 }
 
-/// What is told of each request, by number.
-pub(crate) fn by_number(alloc: Global, ended: Vec<Ended>) -> Result<List<Finished>, NoMemory>
-    ensures same { IfOk result (λ finished. IsPermutation (map told_of ended.items) finished) }
-    ensures order { IfOk result (IsNonDecreasingBy (λ (f : Told). f.request)) }
+/// By number.
+pub(crate) fn by_number(ended: Vec<Finished>) -> List<Finished>
+    ensures same { IsPermutation (map told_of ended.items) (map told_of result) }
+    ensures order { IsNonDecreasingBy (λ (f : Told). f.request) (map told_of result) }
 {
-    let mut all = told_of(alloc, ended)?;
-    all.sort_unstable_by_key(|one| one.request);
-    Ok(List::from_vec(all))
+    let mut all = ended;
+    all.sort_unstable_by_key(|one| one.request());
+    List::from_vec(all)
 }
 
-/// What is told of each request, in the same order.
-fn told_of(alloc: Global, ended: Vec<Ended>) -> Result<Vec<Finished>, NoMemory>
-    ensures { IfOk result (λ all. all.items ≡ map told_of ended.items) }
+/// What is told of a request.
+pub(crate) fn told_of(finished: Finished) -> RequestEnd
+    ensures { result ≡ told_of finished }
 {
-    let requests = List::from_vec(ended);
-    let mut all = Vec::new(alloc);
-    for one in requests.into_rest() {
-        let (request, error, bytes, tree) = one.into_parts();
-        all.push(Finished {
-            request,
-            error,
-            bytes,
-            tree,
-        })?;
+    let (request, error, bytes, tree) = finished.into_parts();
+    RequestEnd {
+        request,
+        error,
+        bytes,
+        tree,
     }
-    Ok(all)
 }

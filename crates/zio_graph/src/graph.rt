@@ -22,6 +22,7 @@ ghost use Rattle.zio_course.specs.Runners.{
   terms_at,
   tree_over,
 };
+ghost use Rattle.zio_graph.specs.Ends.{told_of};
 ghost use Rattle.zio_graph.specs.Graphs.{CanRun, standing_of};
 
 use crate::tree::{EngineTree, tree_over, trees_of, wholes_of};
@@ -34,6 +35,7 @@ use zio_gang::Tree;
 use zio_nodes::NodeBox;
 use zio_outside::Disk;
 use zio_script::Request;
+use zio_stages::Finished;
 use zio_turns::{DisksBack, Grounds, Picks};
 use zio_types::{List, Top};
 
@@ -111,20 +113,20 @@ impl<D: Disk + Drop, P: Picks + Drop> Graph<D, P> {
     ///
     /// `Stop::Device` comes exactly where a count of a disk's faults rose, `Stop::Memory` for want of memory. No round
     /// runs after a stop.
-    pub fn round(&mut self, job: Job<EngineTree>) -> Result<RoundEnd<EngineTree>, Stop>
+    pub fn round(&mut self, job: Job<EngineTree>) -> Result<RoundEnd<EngineTree, Finished>, Stop>
         requires runs { self.old.stopped ≡ false }
         requires next { self.old.last < job.round }
         requires trees { AreRunnable (standing_of D.faults self.old) (map (λ (tree : Seq Pending). tree) job.trees) }
         ensures round { IfOk result (λ end. (before : Images) → Tell D.image self.old.disks before → (after : Images)
             × Tell D.image self.new.disks after
             × IsRound (terms_at (standing_of D.faults self.old) job.failmode job.round job.point)
-            (map (λ (tree : Seq Pending). tree) job.trees) before after (ended_seen (λ (tree : Seq Pending). tree) end)
+            (map (λ (tree : Seq Pending). tree) job.trees) before after (ended_seen (λ (tree : Seq Pending). tree) told_of end)
             × DiffersInRound (standing_of D.faults self.old) (map (λ (tree : Seq Pending). tree) job.trees) before after) }
         ensures end { IfOk result (λ end. IsRoundEnd (standing_of D.faults self.old) job.round
-            (map (λ (tree : Seq Pending). tree) job.trees) (ended_seen (λ (tree : Seq Pending). tree) end)) }
-        ensures fits { IfOk result (λ end. AllByRecursion IsWholeTree (made_trees end.finished)) }
+            (map (λ (tree : Seq Pending). tree) job.trees) (ended_seen (λ (tree : Seq Pending). tree) told_of end)) }
+        ensures fits { IfOk result (λ end. AllByRecursion IsWholeTree (made_trees (map told_of end.finished))) }
         ensures stands { IfOk result (λ end. StandsAfter (standing_of D.faults self.old) (standing_of D.faults self.new) job.round
-            (map (λ (tree : Seq Pending). tree) job.trees) (ended_seen (λ (tree : Seq Pending). tree) end)) }
+            (map (λ (tree : Seq Pending). tree) job.trees) (ended_seen (λ (tree : Seq Pending). tree) told_of end)) }
         ensures stopped { OnErr result
             (StoppedAfter (standing_of D.faults self.old) (standing_of D.faults self.new) job.round) }
         ensures device { IsErrOf result Device → AnyRose (map D.faults self.old.disks) (map D.faults self.new.disks) }

@@ -23,7 +23,7 @@ ghost use Rattle.zio_trace.specs.Underway.{AreAnswered};
 ghost use Rattle.zio_disks.specs.Trees.{HasSectors};
 ghost use Rattle.zio_disks.specs.Whole.{IsWholeTree};
 ghost use Rattle.zio_blocks.specs.Blocks.{HavePointers};
-ghost use Rattle.zio_course.specs.declared.runner.Finished.{Finished};
+ghost use Rattle.zio_course.specs.declared.runner.RequestEnd.{RequestEnd};
 ghost use Rattle.zio_course.specs.Runners.{AreRunnable, DiffersInRound, HasReadSize, Standing, requests_in, terms_at};
 ghost use Rattle.zio_sound.specs.Leaving.{LeavesTrees};
 ghost use Rattle.zio_stages.specs.PartWorks.{HaveUnits};
@@ -65,7 +65,7 @@ pub fn stopped_rounds_change_what_is_loose()
 
 /// In whatever order a round's requests finished, what is told of them by number is what the round tells.
 pub fn rounds_tell_their_requests()
-    ensures { (s : Standing) (round : ℕ) (trees : List (List Pending)) (r : Round) (ended : List Ended) (finished : List Finished) →
+    ensures { (s : Standing) (round : ℕ) (trees : List (List Pending)) (r : Round) (ended : List Ended) (finished : List RequestEnd) →
         AreRunnable s trees → LeavesTrees trees r → IsPermutation ended r.ended → IsByNumber ended finished →
         TellsRound round trees r ended finished }
 {}
@@ -82,13 +82,13 @@ pub fn rounds_complete_children_first()
 /// read without error is told with as many bytes as its block has, and all that is told is whole sectors.
 pub fn rounds_read_whole_blocks()
     ensures reads { (s : Standing) (t : Terms) (f : Forest) (trees : List (List Pending)) (done : List Ending)
-        (finished : List Finished) → trees_in f ≡ trees → AreSound f → AreRunnable s trees → AllByRecursion (IsEnding t f) done →
+        (finished : List RequestEnd) → trees_in f ≡ trees → AreSound f → AreRunnable s trees → AllByRecursion (IsEnding t f) done →
         AllByRecursion (λ (x : Ending). FitsBodies x.request x.ended) done → IsByNumber (all_ended done) finished →
         AllByRecursion (HasReadSize trees) finished }
-    ensures sectors { (t : Terms) (f : Forest) (trees : List (List Pending)) (done : List Ending) (finished : List Finished) →
+    ensures sectors { (t : Terms) (f : Forest) (trees : List (List Pending)) (done : List Ending) (finished : List RequestEnd) →
         trees_in f ≡ trees → AreSound f → AllByRecursion (IsEnding t f) done →
         AllByRecursion (λ (x : Ending). FitsBodies x.request x.ended) done → IsByNumber (all_ended done) finished →
-        AllByRecursion (λ (g : Finished). length g.bytes % sector_size ≡ 0) finished }
+        AllByRecursion (λ (g : RequestEnd). length g.bytes % sector_size ≡ 0) finished }
 {}
 
 /// The blocks that a round's requests made are whole, whatever their operations were answered: where all that a lawful journal has
@@ -103,7 +103,7 @@ pub fn rounds_make_whole_blocks()
 /// If in use after a round are the places that were and that no finished request freed, and those of the blocks that finished
 /// requests made, which lie inside the tops and met nothing in use, these are the places that a runner tells.
 pub fn rounds_leave_places_in_use()
-    ensures { (s : Standing) (t : Terms) (f : Forest) (trees : List (List Pending)) (done : List Ending) (finished : List Finished)
+    ensures { (s : Standing) (t : Terms) (f : Forest) (trees : List (List Pending)) (done : List Ending) (finished : List RequestEnd)
         (live : List Place) → trees_in f ≡ trees → AreRunnable s trees → AllByRecursion (IsEnding t f) done →
         IsByNumber (all_ended done) finished → AllByRecursion (λ (p : Place). IsTrue (is_inside (sizes_of s.tops) p)) (made_in done) →
         are_open s.live (made_in done) ≡ true → ((p : Place) → Contains live p

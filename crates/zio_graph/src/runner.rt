@@ -1,11 +1,13 @@
 //! The engine on one thread as a runner of rounds.
 
+use crate::ends::told_of;
 use crate::graph::Graph;
 use crate::tree::EngineTree;
-use zio_course::{ChildrenBack, Job, RoundEnd, Runner, Stop};
+use zio_course::{ChildrenBack, Job, RequestEnd, RoundEnd, Runner, Stop};
 use zio_gang::Tree;
 use zio_outside::Disk;
 use zio_script::Request;
+use zio_stages::Finished;
 use zio_turns::Picks;
 use zio_types::List;
 
@@ -33,11 +35,16 @@ impl<D: Disk + Drop, P: Picks + Drop> Runner for Graph<D, P> {
       terms_at,
       tree_over,
     };
+    ghost use Rattle.zio_graph.specs.Ends.{told_of};
     ghost use Rattle.zio_graph.specs.Graphs.{standing_of};
 
     type Tree = EngineTree;
 
+    type Finished = Finished;
+
     ghost pending = { λ tree. tree };
+
+    ghost told = { told_of };
 
     ghost standing = { standing_of D.faults };
 
@@ -71,20 +78,20 @@ impl<D: Disk + Drop, P: Picks + Drop> Runner for Graph<D, P> {
         Graph::tree(self, request, birth, block, children)
     }
 
-    fn round(&mut self, job: Job<EngineTree>) -> Result<RoundEnd<EngineTree>, Stop>
+    fn round(&mut self, job: Job<EngineTree>) -> Result<RoundEnd<EngineTree, Finished>, Stop>
         requires runs { self.old.stopped ≡ false }
         requires next { self.old.last < job.round }
         requires trees { AreRunnable (standing_of D.faults self.old) (map (λ (tree : List Pending). tree) job.trees) }
         ensures round { IfOk result (λ end. (before : Images) → Tell D.image self.old.disks before → (after : Images)
             × Tell D.image self.new.disks after
             × IsRound (terms_at (standing_of D.faults self.old) job.failmode job.round job.point)
-            (map (λ (tree : List Pending). tree) job.trees) before after (ended_seen (λ (tree : List Pending). tree) end)
+            (map (λ (tree : List Pending). tree) job.trees) before after (ended_seen (λ (tree : List Pending). tree) told_of end)
             × DiffersInRound (standing_of D.faults self.old) (map (λ (tree : List Pending). tree) job.trees) before after) }
         ensures end { IfOk result (λ end. IsRoundEnd (standing_of D.faults self.old) job.round
-            (map (λ (tree : List Pending). tree) job.trees) (ended_seen (λ (tree : List Pending). tree) end)) }
-        ensures fits { IfOk result (λ end. AllByRecursion IsWholeTree (made_trees end.finished)) }
+            (map (λ (tree : List Pending). tree) job.trees) (ended_seen (λ (tree : List Pending). tree) told_of end)) }
+        ensures fits { IfOk result (λ end. AllByRecursion IsWholeTree (made_trees (map told_of end.finished))) }
         ensures stands { IfOk result (λ end. StandsAfter (standing_of D.faults self.old) (standing_of D.faults self.new)
-            job.round (map (λ (tree : List Pending). tree) job.trees) (ended_seen (λ (tree : List Pending). tree) end)) }
+            job.round (map (λ (tree : List Pending). tree) job.trees) (ended_seen (λ (tree : List Pending). tree) told_of end)) }
         ensures stopped { OnErr result
             (StoppedAfter (standing_of D.faults self.old) (standing_of D.faults self.new) job.round) }
         ensures device { IsErrOf result Device → AnyRose (map D.faults self.old.disks) (map D.faults self.new.disks) }
@@ -96,6 +103,10 @@ impl<D: Disk + Drop, P: Picks + Drop> Runner for Graph<D, P> {
             self.new.disks }
     {
         Graph::round(self, job)
+    }
+
+    fn told(finished: Finished) -> RequestEnd {
+        told_of(finished)
     }
 
     ghost use Rattle.zio_disks.proofs.DiskLemmas.{same_itself as disks_itself, same_then as disks_then};

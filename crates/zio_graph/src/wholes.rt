@@ -7,10 +7,10 @@ ghost use Rattle.zio_disks.specs.Disks.{AnyRose, AreSameDisks, Tell};
 ghost use Rattle.zio_disks.specs.Whole.{IsWholeTree};
 ghost use Rattle.zio_course.specs.declared.runner.Stop.TheVariants.{Device};
 ghost use Rattle.zio_course.specs.Runners.{AreRunnable, DiffersInRound, IsRound, IsRoundEnd, ended_seen, made_trees, terms_at};
-ghost use Rattle.zio_plain.specs.Works.{stop_of};
 ghost use Rattle.zio_stages.specs.Waits.{pendings};
 ghost use Rattle.zio_stages.specs.declared.waiting.UnfinishedRequest.{UnfinishedRequest};
 ghost use Rattle.zio_turns.specs.UnderTrees.{StateIn};
+ghost use Rattle.zio_graph.specs.Ends.{told_of};
 ghost use Rattle.zio_graph.specs.EngineTrees.{IsEngineTree, IsWithinLimits};
 ghost use Rattle.zio_graph.specs.InUse.{LeavesInUse};
 ghost use Rattle.zio_graph.specs.SteadyGrounds.{IsSteadyGrounds, standing_on};
@@ -35,7 +35,7 @@ pub(crate) fn run_wholes<N: Staged, D: Disk + Drop, P: Picks>(
     round: u32,
     failmode: Failmode,
     wholes: List<Whole>,
-) -> Result<RoundEnd<Whole>, Stop>
+) -> Result<RoundEnd<Whole, Finished>, Stop>
     requires steady { IsSteadyGrounds D.bytes grounds.old }
     requires trees { AllByRecursion IsEngineTree wholes }
     requires runs { AreRunnable (standing_on D.faults grounds.old) (map pendings wholes) }
@@ -43,12 +43,13 @@ pub(crate) fn run_wholes<N: Staged, D: Disk + Drop, P: Picks>(
     ensures round { IfOk result (λ end. (before : Images) → Tell D.image grounds.old.disks.items before → (after : Images)
         × Tell D.image grounds.new.disks.items after
         × IsRound (terms_at (standing_on D.faults grounds.old) failmode round grounds.old.setting.point) (map pendings wholes)
-        before after (ended_seen pendings end)
+        before after (ended_seen pendings told_of end)
         × DiffersInRound (standing_on D.faults grounds.old) (map pendings wholes) before after) }
     ensures end { IfOk result (λ end. IsRoundEnd (standing_on D.faults grounds.old) round (map pendings wholes)
-        (ended_seen pendings end)) }
-    ensures fits { IfOk result (λ end. AllByRecursion IsWholeTree (made_trees end.finished)) }
-    ensures stands { IfOk result (λ end. LeavesInUse (standing_on D.faults grounds.old) (map pendings wholes) end.finished
+        (ended_seen pendings told_of end)) }
+    ensures fits { IfOk result (λ end. AllByRecursion IsWholeTree (made_trees (map told_of end.finished))) }
+    ensures stands { IfOk result (λ end. LeavesInUse (standing_on D.faults grounds.old) (map pendings wholes)
+        (map told_of end.finished)
         grounds.new.desk.space.live) }
     ensures left { ((whole : Seq UnfinishedRequest) → N.tree_over grounds.old.setting.tops whole → AllByRecursion IsWithinLimits whole) →
         IfOk result (λ end. AllByRecursion IsEngineTree end.left) }
@@ -71,7 +72,7 @@ pub(crate) fn run_wholes<N: Staged, D: Disk + Drop, P: Picks>(
     let entries = grounds.end_round();
     let left = left_of(alloc, trees)?;
     let completions = completions_of(alloc, round, ended.as_slice())?;
-    let finished = by_number(alloc, ended)?;
+    let finished = by_number(ended);
     Ok(RoundEnd {
         finished,
         left,
@@ -125,16 +126,7 @@ fn run_to_end<N: Staged, D: Disk + Drop, P: Picks>(
         &mut turns, grounds, picks, round, failmode, &mut trees, &mut ended,
     ) {
         Ok(()) => Ok(TreesEnd { trees, ended }),
-        Err(stop) => Err(stop_of(stop)),
-    }
-}
-
-/// The same reason, as a runner tells it.
-fn stop_of(stop: DiskStop) -> Stop
-    ensures { result ≡ stop_of stop }
-{
-    match stop {
-        DiskStop::Device => Stop::Device,
-        DiskStop::Memory => Stop::Memory,
+        Err(DiskStop::Device) => Err(Stop::Device),
+        Err(DiskStop::Memory) => Err(Stop::Memory),
     }
 }

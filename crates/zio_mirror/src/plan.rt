@@ -4,13 +4,10 @@ ghost use Rattle.zio_mirror.specs.Plans.{children, failed_children, good_child, 
 
 use crate::write::blame;
 use std::marker::Model;
-use zio_types::Errno;
+use zio_types::{Errno, TOP_LEAVES_MAX};
 
 /// How many bytes of a top are read from one leaf first, before it is the next one's turn.
 pub const TURN_SIZE: u64 = 2 << 20;
-
-/// The most children that a plan has: the leaves of a top.
-pub const CHILDREN_MAX: u32 = 4;
 
 /// What a read is to do next.
 #[derive(Clone, Copy, Debug, PartialEq, Eq)]
@@ -40,7 +37,7 @@ impl Model for ReadPlan {
 
     ghost view = { λ p. record { order = take p.n p.order; answers = take p.answered p.answers } };
 
-    ghost invariant = { λ p. (p.n ≤ 4) × (p.answered ≤ p.n) × (length p.answers ≡ 4) };
+    ghost invariant = { λ p. (p.n ≤ TOP_LEAVES_MAX) × (p.answered ≤ p.n) × (length p.answers ≡ TOP_LEAVES_MAX) };
 }
 
 impl ReadPlan {
@@ -49,7 +46,7 @@ impl ReadPlan {
     /// The first leaf changes with each 2 MiB along the top; the others follow round.
     pub fn for_leaves(n: u32, offset: u64) -> ReadPlan
         requires least { 1 ≤ n }
-        requires most { n ≤ 4 }
+        requires most { n ≤ TOP_LEAVES_MAX }
         ensures order { result.order ≡ read_order offset (children n) }
         ensures answers { result.answers ≡ [] }
     {
@@ -65,7 +62,7 @@ impl ReadPlan {
     /// A plan over the `n` places of a block, from the first on.
     pub fn for_copies(n: u32) -> ReadPlan
         requires least { 1 ≤ n }
-        requires most { n ≤ 4 }
+        requires most { n ≤ TOP_LEAVES_MAX }
         ensures order { result.order ≡ children n }
         ensures answers { result.answers ≡ [] }
     {
@@ -115,7 +112,7 @@ impl ReadPlan {
 
 /// The children `first`, `first + 1` and so on, round to the one before `first`.
 fn rotated(n: u32, first: u32) -> [u32; 4]
-    requires most { n ≤ 4 }
+    requires most { n ≤ TOP_LEAVES_MAX }
     requires first { first < n }
     ensures { take n result ≡ rotated first (children n) }
 {

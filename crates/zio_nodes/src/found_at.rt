@@ -60,9 +60,8 @@ impl RequestAt {
             stage,
             is_due,
         } = self;
-        let attempt = node.attempt();
         match node.close_found(alloc) {
-            Ok(closed) => Ok(Move::End(closed.into_outcome(attempt))),
+            Ok(outcome) => Ok(Move::End(outcome)),
             Err(NodeBack { node }) => Err(Node::Request(RequestAt {
                 node,
                 stage,

@@ -51,9 +51,8 @@ impl RequestAt {
             return Ok(Move::Wait(Node::Request(self), kind, Phase::Done));
         }
         let RequestAt { node, is_due, .. } = self;
-        let attempt = node.attempt();
         match node.close_null(alloc) {
-            Ok(closed) => Ok(Move::End(closed.into_outcome(attempt))),
+            Ok(outcome) => Ok(Move::End(outcome)),
             Err(NodeBack { node }) => Err(Node::Request(RequestAt {
                 node,
                 stage: Stage::Done,

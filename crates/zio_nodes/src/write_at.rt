@@ -305,13 +305,12 @@ impl RequestAt {
         ensures tops { S.tops services.new ≡ S.tops services.old }
     {
         let mut at = self;
-        let attempt = at.node.attempt();
         let Ok(()) = at.node.give_block_back(alloc, services) else {
             return Err(Node::Request(at));
         };
         let RequestAt { node, is_due, .. } = at;
         match node.close_write(alloc) {
-            Ok(closed) => Ok(Move::End(closed.into_outcome(attempt))),
+            Ok(outcome) => Ok(Move::End(outcome)),
             Err(NodeBack { node }) => Err(Node::Request(RequestAt {
                 node,
                 stage: Stage::Done,

@@ -14,7 +14,7 @@ use Rattle.zio_trace.specs.Leaves.{Answer, Fetch, Store}
 use Rattle.zio_trace.specs.Programs.{Ends, ◌>>=◌}
 use Rattle.zio_parts.specs.Answered.{AsksBehind, filled, out_count}
 use Rattle.zio_parts.specs.Copies.{copies_at, leaves_at, spot_at}
-use Rattle.zio_parts.specs.declared.copies.TheConstants.{COPIES_MAX}
+use Rattle.zio_parts.specs.declared.copies.TheConstants.{LEAF_COPIES_MAX}
 use Rattle.zio_parts.specs.declared.copy_read.ReadStep.{ReadStep}
 use Rattle.zio_parts.specs.declared.copy_read.ReadStep.TheVariants.{Fetch as FetchStep, Repair, Wait, Retry, End}
 
@@ -225,7 +225,7 @@ pub record IsSameRead (x y : Reading) : Type 0 where
 -- one more operation may go out
 abbrev pub IsReadyWith : Option (List ℕ) → Reading → Type 0
 IsReadyWith None x = (x.is_out ≡ false) × (tried_of x < length x.places)
-IsReadyWith (Some bytes) x = length x.mends < COPIES_MAX
+IsReadyWith (Some bytes) x = length x.mends < LEAF_COPIES_MAX
 
 abbrev pub IsReady : Reading → Type 0
 IsReady x = IsReadyWith x.good x

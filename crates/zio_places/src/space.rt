@@ -15,10 +15,7 @@ use std::alloc::Global;
 use std::marker::Model;
 use std::mem;
 use thiserror::Error;
-use zio_types::{Entry, Key, List, NoMemory, Place, TopSize};
-
-/// Places for an entry's copies, at most.
-const COPIES_MAX: usize = 3;
+use zio_types::{COPIES_MAX, Entry, Key, List, NoMemory, Place, TopSize};
 
 /// Why no place was claimed.
 #[derive(Clone, Copy, Debug, PartialEq, Eq, Error)]
@@ -97,7 +94,8 @@ impl Space {
         if n <= self.spare {
             return Ok(());
         }
-        self.pending.reserve(self.live + COPIES_MAX * n as usize)?;
+        self.pending
+            .reserve(self.live + COPIES_MAX as usize * n as usize)?;
         self.entries.reserve(n as usize)?;
         self.spare = n;
         Ok(())
@@ -110,7 +108,7 @@ impl Space {
         requires some { 0 < size }
         requires whole { size % 512 ≡ 0 }
         requires one { 1 ≤ copies }
-        requires most { copies ≤ 3 }
+        requires most { copies ≤ COPIES_MAX }
         ensures asked { result.asked ≡ record { key = key; size = size; copies = copies } }
         ensures lawful { IsLawfulChoice self.old.sizes (used self.old) result }
         ensures live { self.new.live ≡ all_placed_in (taken_by result) self.old.live }
@@ -213,7 +211,7 @@ impl Space {
         if !allocate_all(&mut self.tops, places) {
             return Err(ClaimFault::Taken);
         }
-        let room = self.live + COPIES_MAX * self.spare as usize + places.len();
+        let room = self.live + COPIES_MAX as usize * self.spare as usize + places.len();
         match self.pending.reserve(room) {
             Ok(()) => {
                 self.live += places.len();

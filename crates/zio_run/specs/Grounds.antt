@@ -8,8 +8,8 @@ use Rattle.zio_gang.specs.declared.ending.Ending.{Ending}
 use Rattle.zio_report.specs.declared.report.RunFault.{RunFault}
 use Rattle.zio_report.specs.declared.report.RunFault.TheVariants.{Device, Sink, Memory}
 use Rattle.zio_report.specs.declared.report.Show.{Show}
-use Rattle.zio_report.specs.Meanings.{run_size_of, tops_of}
-use Rattle.zio_course.specs.SoFar.{IsCut, IsCutText, IsFullText, IsWholeRun}
+use Rattle.zio_report.specs.Meanings.{IsWholeRun, run_size_of, tops_of}
+use Rattle.zio_course.specs.SoFar.{IsCut, IsCutText, IsFullText}
 use Rattle.zio_disks.specs.Disks.{AnyRose, Tell}
 use Rattle.zio_graph.specs.Graphs.{CanRun}
 use Rattle.zio_run.specs.declared.outcome.RunOutcome.{RunOutcome}

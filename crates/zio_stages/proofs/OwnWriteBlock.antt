@@ -4,7 +4,8 @@ use Rattle.std.proofs.lemmas.Bool.{false≢true}
 use Rattle.zio_types.specs.declared.request.Prio.{Prio}
 use Rattle.zio_blkptr.specs.declared.pointer.SumKind.{SumKind}
 use Rattle.zio_blkptr.specs.declared.pointer.TheConstants.{BLOCK_SIZE_MAX}
-use Rattle.zio_script.specs.declared.limits.TheConstants.{COPIES_MAX, POINTER_SIZE}
+use Rattle.zio_types.specs.declared.place.TheConstants.{COPIES_MAX}
+use Rattle.zio_script.specs.declared.limits.TheConstants.{POINTER_SIZE}
 use Rattle.zio_script.specs.declared.script.Body.{Body}
 use Rattle.zio_script.specs.declared.script.Work.{Work}
 use Rattle.zio_script.specs.declared.script.Work.TheVariants.{Null, Read, Write, Free, Claim}

@@ -18,6 +18,7 @@ ghost use Rattle.zio_gang.specs.Pointers.{IsNoneOrValid};
 ghost use Rattle.zio_frames.specs.Frames.{Child, Stack, fresh_stack};
 ghost use Rattle.zio_frames.specs.Moves.{WillHave, heard_early, heard_of};
 ghost use Rattle.zio_frames.specs.Seats.{IsSeated, asked_at};
+ghost use Rattle.zio_stages.specs.Closings.{EndsBy};
 ghost use Rattle.zio_stages.specs.KidLists.{AreBegun, HoldTheSame, HoldsBut, IsListOf, LeavesList};
 ghost use Rattle.zio_stages.specs.KidPointers.{HasValid, HaveValidPointers};
 ghost use Rattle.zio_stages.specs.KidTrees.{IsLeft};
@@ -26,11 +27,13 @@ ghost use Rattle.zio_stages.specs.OwnParts.{IsOwed};
 ghost use Rattle.zio_stages.specs.RequestNodes.{Closes, HandsKid, IsKidAt, IsOwnOver, IsRequestNode, IsSeatOf, OwnEnds, own_got};
 ghost use Rattle.zio_stages.specs.RequestStages.{HasToldIn, with_kids};
 ghost use Rattle.zio_stages.specs.RequestStoreds.{is_well, keeps_block, own_in};
+ghost use Rattle.zio_stages.specs.declared.request_node.OwnFound.{OwnFound as SeenFound};
 ghost use Rattle.zio_stages.specs.declared.waiting.UnfinishedRequest.{UnfinishedRequest as SeenWaiting};
 ghost use Rattle.zio_stages.specs.Wholes.{IsTreeOf, root_number, root_of};
 
 use crate::attempted::{AgainBack, RequestKids, WholeBack};
 use crate::family::{Family, Seat};
+use crate::outcome::Outcome;
 use crate::own_claim::OwnClaim;
 use crate::own_free::OwnFree;
 use crate::own_read::OwnRead;
@@ -81,14 +84,14 @@ pub struct RequestNode {
 
 /// What a request's own work came to.
 #[derive(Drop)]
-pub struct OwnFound {
-    pub error: Option<Errno>,
+pub(crate) struct OwnFound {
+    pub(crate) error: Option<Errno>,
     /// Of a read.
-    pub bytes: List<u8>,
+    pub(crate) bytes: List<u8>,
     /// The block that it made.
-    pub tree: Option<Tree>,
+    pub(crate) tree: Option<Tree>,
     /// Of a write that has a place.
-    pub pointer: Option<Bp>,
+    pub(crate) pointer: Option<Bp>,
 }
 
 /// What comes next of a request's children.
@@ -119,7 +122,7 @@ pub enum DoneStep {
 
 /// What becomes of a request in an attempt.
 #[derive(Drop)]
-pub enum Closed {
+pub(crate) enum Closed {
     /// It finished with this error or none. With one, the places of the block that it made are to be given back.
     Finished {
         waiting: UnfinishedRequest,
@@ -225,12 +228,10 @@ impl RequestNode {
     }
 
     /// What becomes of a null whose children all ended. Where memory is refused the node comes back.
-    pub fn close_null(self, alloc: Global) -> Result<Closed, NodeBack>
+    pub fn close_null(self, alloc: Global) -> Result<Outcome, NodeBack>
         requires null { self.waiting.request.work ≡ Work.Null }
         requires ended { list_all is_ended self.kids.kids.kids ≡ true }
-        ensures closes { IfOk result (λ closed. (t : Terms) (st : Stack) (h : IsRequestNode t self st) → Closes t self st h closed) }
-        ensures none { IfOk result (λ closed. (own_in closed).tree ≡ None) }
-        ensures list { IfOk result (LeavesList self) }
+        ensures ends { IfOk result (λ outcome. (own : SeenFound) × (own.tree ≡ None) × EndsBy self own outcome) }
         ensures back { IfErr result (λ e. e.node ≡ self) }
     {
         let own = OwnFound {
@@ -239,8 +240,9 @@ impl RequestNode {
             tree: None,
             pointer: None,
         };
+        let attempt = self.attempt;
         match self.close(alloc, own) {
-            Ok(closed) => Ok(closed),
+            Ok(closed) => Ok(closed.into_outcome(attempt)),
             Err(back) => Err(NodeBack { node: back.node }),
         }
     }

@@ -12,12 +12,10 @@ ghost use Rattle.zio_turns.specs.UnderTrees.{BeginsOn, EndIn, IsOfAttempt, TreeG
 use crate::staged::Staged;
 use crate::turns::Turns;
 use std::alloc::Global;
+use zio_counts::REEXECUTIONS_MAX;
 use zio_script::Failmode;
 use zio_stages::{Finished, Outcome, Whole};
 use zio_types::{Bits, NoMemory};
-
-/// How often a tree is attempted again at once in a round.
-const REEXECUTIONS_MAX: u32 = 3;
 
 /// With what a tree is settled in a round.
 #[derive(Drop)]

@@ -10,7 +10,7 @@ use Rattle.zio_stages.specs.Wholes.{IsWhole}
 use Rattle.zio_stages.specs.declared.outcome.Finished.{Finished}
 use Rattle.zio_turns.proofs.StopLemmas.{on_err}
 use Rattle.zio_graph.specs.EngineTrees.{IsEngineTree, IsWithinLimits}
-use Rattle.zio_graph.specs.Ends.{completion_of, left_in}
+use Rattle.zio_graph.specs.Ends.{completion_of, left_in, told_of}
 use Rattle.zio_graph.specs.InUse.{LeavesInUse}
 use Rattle.zio_graph.specs.Jobs.{IsSoundJob, size_at}
 use Rattle.zio_graph.specs.SteadyGrounds.{standing_on, terms_on}
@@ -28,8 +28,8 @@ returns-clause-round g c =
     c.requires.runs in
     is_so g.N.NodeFacts.nodes m.bytes m.faults m.image c.args.grounds.now c.args.round c.args.failmode c.requires.steady c.args.wholes
     c.requires.runs job c.run_to_end.new.grounds c.in_ok-trees.field-0.trees.items c.in_ok-trees.field-0.ended.items
-    c.in_ok-trees.ensures.count c.in_ok-trees.ensures.ends c.in_ok-finished.finished c.in_ok-finished.ensures.same
-    c.in_ok-finished.ensures.order c.in_ok-left.left c.in_ok-left.ensures.left c.in_ok-completions.completions
+    c.in_ok-trees.ensures.count c.in_ok-trees.ensures.ends (map told_of c.by_number-finished.result) c.by_number-finished.ensures.same
+    c.by_number-finished.ensures.order c.in_ok-left.left c.in_ok-left.ensures.left c.in_ok-completions.completions
     (c.in_ok-completions.ensures ∙ ap (λ (fs : List Finished). map (completion_of c.args.round) fs) c.as_slice.ensures.value)
     c.end_round-entries.result c.end_round-entries.ensures.entries g.met.D.Disk.has_size c.run_to_end.ensures.same.sizes
     c.end_round-entries.new.self.disks.items c.end_round-entries.ensures.disks
@@ -43,8 +43,8 @@ returns-clause-end g c =
     c.requires.runs in
     ends_so g.N.NodeFacts.nodes m.bytes m.faults m.image c.args.grounds.now c.args.round c.args.failmode c.requires.steady
     c.args.wholes c.requires.runs job c.run_to_end.new.grounds c.in_ok-trees.field-0.trees.items
-    c.in_ok-trees.field-0.ended.items c.in_ok-trees.ensures.count c.in_ok-trees.ensures.ends c.in_ok-finished.finished
-    c.in_ok-finished.ensures.same c.in_ok-finished.ensures.order c.in_ok-left.left c.in_ok-left.ensures.left
+    c.in_ok-trees.field-0.ended.items c.in_ok-trees.ensures.count c.in_ok-trees.ensures.ends (map told_of c.by_number-finished.result)
+    c.by_number-finished.ensures.same c.by_number-finished.ensures.order c.in_ok-left.left c.in_ok-left.ensures.left
     c.in_ok-completions.completions
     (c.in_ok-completions.ensures ∙ ap (λ (fs : List Finished). map (completion_of c.args.round) fs) c.as_slice.ensures.value)
     c.end_round-entries.result c.end_round-entries.ensures.entries
@@ -57,12 +57,12 @@ returns-clause-stands g c =
     steady_job m.bytes m.faults c.args.grounds.now c.args.round c.args.failmode c.requires.steady c.args.wholes c.requires.trees
     c.requires.runs in
     subst (λ (st : SpaceState). LeavesInUse (standing_on m.faults c.args.grounds.now)
-    (map pendings c.args.wholes) c.in_ok-finished.finished st.live)
+    (map pendings c.args.wholes) (map told_of c.by_number-finished.result) st.live)
     (sym c.end_round-entries.ensures.space)
     (stands g.N.NodeFacts.nodes m.bytes m.faults m.image c.args.grounds.now c.args.round c.args.failmode c.requires.steady
     c.args.wholes c.requires.runs job c.run_to_end.new.grounds c.in_ok-trees.field-0.trees.items
-    c.in_ok-trees.field-0.ended.items c.in_ok-trees.ensures.count c.in_ok-trees.ensures.ends c.in_ok-finished.finished
-    c.in_ok-finished.ensures.same c.in_ok-finished.ensures.order)
+    c.in_ok-trees.field-0.ended.items c.in_ok-trees.ensures.count c.in_ok-trees.ensures.ends (map told_of c.by_number-finished.result)
+    c.by_number-finished.ensures.same c.by_number-finished.ensures.order)
 
 pub returns-clause-fits : goal.returns-clause-fits
 returns-clause-fits g c =
@@ -73,8 +73,8 @@ returns-clause-fits g c =
     c.requires.runs in
     fits g.N.NodeFacts.nodes m.bytes m.faults m.image c.args.grounds.now c.args.round c.args.failmode c.requires.steady c.args.wholes
     c.requires.runs job c.run_to_end.new.grounds c.in_ok-trees.field-0.trees.items c.in_ok-trees.field-0.ended.items
-    c.in_ok-trees.ensures.count c.in_ok-trees.ensures.ends c.in_ok-finished.finished c.in_ok-finished.ensures.same
-    c.in_ok-finished.ensures.order
+    c.in_ok-trees.ensures.count c.in_ok-trees.ensures.ends (map told_of c.by_number-finished.result) c.by_number-finished.ensures.same
+    c.by_number-finished.ensures.order
 
 pub returns-clause-left : goal.returns-clause-left
 returns-clause-left g c = λ limits.
@@ -150,24 +150,6 @@ returns-in_err-completions-clause-device g c = λ is.
 
 pub returns-in_err-completions-clause-same : goal.returns-in_err-completions-clause-same
 returns-in_err-completions-clause-same g c =
-    let m = g.D.Disk in
-    subst
-    (λ (ds : List _). AreSameDisks m.bytes m.faults m.faults_at_fetch m.home m.image m.sound c.args.grounds.now.disks.items ds)
-    (sym c.end_round-entries.ensures.disks) c.run_to_end.ensures.same
-
-pub returns-in_err-finished-clause-images : goal.returns-in_err-finished-clause-images
-returns-in_err-finished-clause-images g c = on_err c.from_residual-in_err-finished.result
-    (loose_then g.D.Disk.image (standing_on g.D.Disk.faults c.args.grounds.now)
-    (map pendings c.args.wholes) c.args.grounds.now.disks.items c.run_to_end.new.grounds.disks.items
-    c.end_round-entries.new.self.disks.items c.end_round-entries.ensures.disks c.run_to_end.ensures.images)
-
-pub returns-in_err-finished-clause-device : goal.returns-in_err-finished-clause-device
-returns-in_err-finished-clause-device g c = λ is.
-    let q = err_from_is_err_and c.from_residual-in_err-finished.result c.from_residual-in_err-finished.ensures.1 in
-    let no : Memory ≡ Device = cc in absurd (cc)
-
-pub returns-in_err-finished-clause-same : goal.returns-in_err-finished-clause-same
-returns-in_err-finished-clause-same g c =
     let m = g.D.Disk in
     subst
     (λ (ds : List _). AreSameDisks m.bytes m.faults m.faults_at_fetch m.home m.image m.sound c.args.grounds.now.disks.items ds)

@@ -31,6 +31,7 @@ pub struct ReadPlan {
 
 impl Model for ReadPlan {
     ghost use Rattle.std.specs.Prelude.{take, length, ◌≤◌, ◌≡◌};
+    ghost use Rattle.zio_types.specs.declared.place.TheConstants.{TOP_LEAVES_MAX};
     ghost use Rattle.zio_mirror.specs.Plans.{Tries};
 
     ghost Value = { Tries };

@@ -1,5 +1,5 @@
 -- An operation at a leaf is on a place that has sectors, and that ends with its top.
-use Rattle.std.proofs.Common.{◌≡◌, ℕ, suc, ◌*◌, ◌<◌, ◌≤◌, List, [], ◌∷◌, map, slice_get, true, sym, Option, Some, None, IfSome, IsTrue, Contains, inl, refl, subst, arith}
+use Rattle.std.proofs.Common.{◌≡◌, ℕ, zero, suc, ◌<◌, ◌≤◌, List, [], ◌∷◌, map, slice_get, true, sym, Option, Some, None, IfSome, IsTrue, Contains, inl, refl, subst, arith}
 use Rattle.std.specs.List.{AllByRecursion, flat_map}
 use Rattle.std.proofs.lemmas.List.Sorted.{IsPermutation-refl}
 use Rattle.zio_types.specs.declared.place.Place.{Place}

@@ -185,9 +185,6 @@ asks_append a b = map-append (λ (c : Choice). c.asked) a b
 abbrev one_fated : Waiting → Fate → List Fated
 one_fated w fate = record { waiting = w; fate = fate } ∷ []
 
-pub made_append : (a b : List RequestEnd) → made_places (a ++ b) ≡ made_places a ++ made_places b
-made_append a b = ap (flat_map tree_places) (flat_map-append _ a b) ∙ flat_map-append tree_places (made_trees a) (made_trees b)
-
 -- ---- so far
 
 -- the pass so far is what the definition says of the attempt so far

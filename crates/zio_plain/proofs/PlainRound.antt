@@ -27,7 +27,7 @@ use Rattle.zio_plain.specs.Settlings.{IsTreesRun, TreeRun, ends_run, named_in}
 use Rattle.zio_plain.proofs.PlainBegun.{HasBegun, SteadyPlain, begun, has_moved, sees_begun}
 use Rattle.zio_plain.proofs.PlainDone.{HasRun, all_entries, differs, lives}
 use Rattle.zio_plain.proofs.PlainFreed.{places_in}
-use Rattle.zio_plain.proofs.PlainLoose.{one_told}
+use Rattle.zio_disks.proofs.TellLemmas.{one_told}
 use Rattle.zio_plain.proofs.PlainTold.{asked_distinct, round_told, seen_end, seen_itself}
 
 -- what holds after an error holds where there is one

@@ -31,11 +31,10 @@ standing_of faults g = record {
   faults = map faults g.disks;
 }
 
--- Rounds can be run over this setting and disks of these sizes in bytes: the disks bear the tops, and a queue can take each disk;
--- places of the tops stand in pointers; each top has one to four leaves, and no leaf stands twice.
+-- Rounds can be run over this setting and disks of these sizes in bytes: the disks bear the tops; places of the tops stand in
+-- pointers; each top has one to four leaves, and no leaf stands twice.
 pub record CanRun (s : Setting) (bytes : List ℕ) : Type 0 where
   pub bears : BearsTops s bytes
-  pub small : AllByRecursion (λ n. n ≤ 2 ^ 28) bytes
   pub pointers : HavePointers s.tops
   pub tops : AreTops s.tops
   pub leaves_once : LeavesOnce s.tops

@@ -1,11 +1,13 @@
 -- A round that an engine's values keep, and what its calls leave of it.
-use Rattle.std.specs.Prelude.{◌≡◌, ℕ, ◌<◌, List, [], ◌∷◌, ◌++◌, length, slice_get, slice_set, Bool, false, cond, Option, Some, Contains, IfSome}
+use Rattle.std.specs.Prelude.{◌≡◌, ℕ, ◌+◌, ◌*◌, ◌<◌, ◌≤◌, List, [], ◌∷◌, ◌++◌, length, slice_get, slice_set, Bool, false, cond, Option, Some, Contains, IfSome}
+use Rattle.std.specs.List.{AllByRecursion}
 use Rattle.zio_types.specs.declared.error.Errno.{Errno}
 use Rattle.zio_types.specs.declared.place.Place.{Place}
 use Rattle.zio_types.specs.declared.place.Top.{Top}
 use Rattle.zio_types.specs.declared.request.ChildKind.TheVariants.{Logical}
 use Rattle.zio_types.specs.Choices.{Choice}
-use Rattle.zio_cksum.specs.Images.{Images}
+use Rattle.zio_types.specs.Places.{sector_size}
+use Rattle.zio_cksum.specs.Images.{Images, Spot}
 use Rattle.zio_gang.specs.Attempts.{Ended, Terms}
 use Rattle.zio_gang.specs.Journals.{AreLawful}
 use Rattle.zio_gang.specs.Trees.{sizes_of}
@@ -177,11 +179,16 @@ ClaimsAlone {N = N} nodes tops calls slab line key =
 
 -- ---- what a stage leaves
 
--- its operation goes to a leaf, and is on some of it
+-- it ends where the longest of the tops does, or before
+abbrev pub EndsWithTops : List Top → Spot → Type 0
+EndsWithTops tops spot = (most : ℕ) → AllByRecursion (λ (top : Top). top.sectors ≤ most) tops → spot.at + spot.span ≤ most * sector_size
+
+-- its operation goes to a leaf, is on some of it, and ends with the tops
 pub record GoesOut {N : Type 0} (nodes : Nodes N) (t : Terms) (sizes : ℕ → ℕ) (f : Forest) (before : Before) (s : SoFar)
     (slab : Slab (TiedNode N)) (line leaves : List ℕ) (key : ℕ) (act : LeafOp) : Type 0 where
   pub lies : LiesOn sizes act
   pub spans : 0 < (spot_of act).span
+  pub ends : EndsWithTops t.setting.tops (spot_of act)
   pub keeps : (leaves_now : List ℕ) → OneMore key leaves leaves_now →
       KeepsRound {N = N} nodes t sizes f before (with_op s key act) slab line leaves_now
 

@@ -46,9 +46,13 @@ abbrev pub TellNow : {D : Type 0} → (D → List ℕ → Type 0) → Before →
 TellNow image None disks images = Unit {0}
 TellNow image (Some before) disks images = Tell image disks images
 
--- no leaf is larger than its disk, which a queue can take
+-- no leaf is larger than its disk
 abbrev pub FitDisks : (ℕ → ℕ) → List ℕ → Type 0
-FitDisks sizes disks = (leaf : ℕ) → (sizes leaf ≤ slice_index_or disks leaf 0) × (sizes leaf ≤ 2 ^ 28)
+FitDisks sizes disks = (leaf : ℕ) → sizes leaf ≤ slice_index_or disks leaf 0
+
+-- a queue can take what lies on these tops
+abbrev pub AreShort : List Top → Type 0
+AreShort tops = AllByRecursion (λ (top : Top). top.sectors ≤ 2 ^ 39) tops
 
 -- What is lent is the round's: its space, with these entries, and with these places claimed and given back; at the leaves the
 -- operations of the round, by their keys; and the disks, which tell these images.
@@ -59,6 +63,7 @@ pub record AreLent {D : Type 0} (bytes : D → ℕ) (image : D → List ℕ → 
   pub waits : AllWait (λ leaf w. WaitsFor leaf (ops (key_of w)) w) g.queues.leaves.items
   pub ready : AreReady g.setting.rows (map bytes g.disks.items) g.queues.leaves.items
   pub fit : FitDisks sizes (map bytes g.disks.items)
+  pub short : AreShort t.setting.tops
   pub each : length g.queues.leaves.items ≡ length g.disks.items
   pub tell : TellNow {D = D} image before g.disks.items images
 

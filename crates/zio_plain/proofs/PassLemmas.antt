@@ -21,6 +21,7 @@ use Rattle.zio_gang.specs.Trees.{tree_places}
 use Rattle.zio_gang.proofs.AttemptLemmas.{attempt_each-append}
 use Rattle.zio_blocks.specs.Blocks.{AnswersBy}
 use Rattle.zio_course.specs.declared.runner.RequestEnd.{RequestEnd}
+use Rattle.zio_course.proofs.MadePlaces.{made_append}
 use Rattle.zio_course.specs.Runners.{AreRisingFrom, finished_of, has_claim, made_places, made_trees}
 use Rattle.zio_plain.specs.declared.judge.Fate.{Fate}
 use Rattle.zio_plain.specs.declared.judge.Fate.TheVariants.{Ends, Again}

@@ -1,0 +1,184 @@
+//! The picture as a whole.
+
+use crate::asked::Asking;
+use crate::bars::{Bar, Source, bars};
+use crate::fault::DrawingFault;
+use crate::frame::{MAPS_X, MARGIN, Point, STEP_GAP};
+use crate::head::{draw_end, draw_head};
+use crate::legend::{LEGEND_HEIGHT, LEGEND_WIDTH, draw_legend};
+use crate::maps::{Column, columns, draw_bar, draw_columns};
+use crate::markup::{Markup, Piece};
+use crate::page::{begin_page, begin_picture, end_page, end_picture};
+use crate::plan::{Panel, panels};
+use crate::rounds::{Report, read_report};
+use crate::rows::draw_panel;
+use crate::ways::draw_ways;
+use Piece::Fixed;
+use std::alloc::Global;
+use zio_script::{Script, ScriptError, read_script};
+use zio_types::{NoMemory, TopSize};
+
+/// What is written.
+#[derive(Clone, Copy, Debug, PartialEq, Eq)]
+pub enum Form {
+    /// An SVG alone.
+    Svg,
+    /// A page of HTML with the SVG in it.
+    Html,
+}
+
+/// The picture of a run, from the text of its script and that of its report.
+pub fn draw(
+    alloc: Global,
+    form: Form,
+    script: &[u8],
+    report: &[u8],
+) -> Result<Markup, DrawingFault> {
+    let read = match read_script(alloc, script) {
+        Ok(read) => read,
+        Err(ScriptError::Fault(fault)) => return Err(DrawingFault::Script(fault)),
+        Err(ScriptError::Memory) => return Err(DrawingFault::Memory),
+    };
+    let asking = Asking::of(alloc, &read, script)?;
+    let tops = sizes_of(alloc, &read)?;
+    let report = read_report(alloc, &asking, tops.as_slice(), report)?;
+    Ok(drawn(alloc, form, &read, &asking, report)?)
+}
+
+// The units of the script's tops. No line of a report tells how many sectors they have.
+fn sizes_of(alloc: Global, script: &Script) -> Result<Vec<TopSize>, NoMemory> {
+    let mut sizes = Vec::new(alloc);
+    for top in script.tops.as_slice() {
+        sizes.push(TopSize {
+            sectors: 0,
+            unit: top.unit,
+        })?;
+    }
+    Ok(sizes)
+}
+
+/// A run with all its places in the picture.
+#[derive(Drop)]
+struct Scene<'a> {
+    lines: Vec<&'a [u8]>,
+    panels: Vec<Panel<'a>>,
+    bars: Vec<Bar>,
+    columns: Vec<Column>,
+    top: u32,
+    bottom: u32,
+    end: Option<u32>,
+}
+
+fn drawn(
+    alloc: Global,
+    form: Form,
+    script: &Script,
+    asking: &Asking<'_>,
+    report: Report<'_>,
+) -> Result<Markup, NoMemory> {
+    let mut head = Markup::new(alloc);
+    let head_end = draw_head(alloc, &mut head, asking, script, report.images)?;
+    let top = head_end.max(MARGIN + LEGEND_HEIGHT).saturating_add(56);
+    let scene = scene_of(alloc, script, asking, report, top)?;
+    let mut out = Markup::new(alloc);
+    if form == Form::Html {
+        begin_page(&mut out)?;
+    }
+    begin_picture(&mut out, width_of(&scene), scene.bottom.saturating_add(40))?;
+    out.append(&head)?;
+    draw_legend(
+        &mut out,
+        Point {
+            x: MAPS_X,
+            y: MARGIN,
+        },
+    )?;
+    draw_maps(&mut out, asking, script, &scene)?;
+    draw_rounds(alloc, &mut out, asking, &scene)?;
+    end_picture(&mut out)?;
+    if form == Form::Html {
+        end_page(&mut out)?;
+    }
+    Ok(out)
+}
+
+fn scene_of<'a>(
+    alloc: Global,
+    script: &Script,
+    asking: &'a Asking<'_>,
+    report: Report<'a>,
+    top: u32,
+) -> Result<Scene<'a>, NoMemory> {
+    let Report {
+        images: _,
+        steps,
+        end,
+        lines,
+    } = report;
+    let panels = panels(alloc, asking, steps, top)?;
+    let bottom = match panels.last() {
+        Some(panel) => panel.end().saturating_add(STEP_GAP),
+        None => top,
+    };
+    let bars = bars(alloc, asking, panels.as_slice(), bottom)?;
+    let columns = columns(alloc, script.tops.len(), bars.as_slice())?;
+    Ok(Scene {
+        lines,
+        panels,
+        bars,
+        columns,
+        top,
+        bottom,
+        end,
+    })
+}
+
+fn width_of(scene: &Scene<'_>) -> u32 {
+    let maps_end = match scene.columns.last() {
+        Some(column) => column.x.saturating_add(column.width),
+        None => MAPS_X,
+    };
+    maps_end.max(MAPS_X + LEGEND_WIDTH).saturating_add(MARGIN)
+}
+
+fn draw_maps(
+    out: &mut Markup,
+    asking: &Asking<'_>,
+    script: &Script,
+    scene: &Scene<'_>,
+) -> Result<(), NoMemory> {
+    if scene.bars.is_empty() {
+        let at = Point {
+            x: MAPS_X,
+            y: scene.top.saturating_add(16),
+        };
+        return out.text(
+            "small",
+            at,
+            &[Fixed("No place is told: only a run with --journal tells places.")],
+        );
+    }
+    let tops = script.tops.as_slice();
+    draw_columns(out, scene.columns.as_slice(), tops, scene.top, scene.bottom)?;
+    for bar in scene.bars.as_slice() {
+        let quoted = match bar.source {
+            Source::Take(line) => scene.lines.get(line).map(|line| *line),
+            Source::Claim(at) => asking.get(at).map(|asked| asked.text),
+        };
+        draw_bar(out, scene.columns.as_slice(), bar, quoted.unwrap_or(&[]))?;
+    }
+    Ok(())
+}
+
+fn draw_rounds(
+    alloc: Global,
+    out: &mut Markup,
+    asking: &Asking<'_>,
+    scene: &Scene<'_>,
+) -> Result<(), NoMemory> {
+    draw_ways(alloc, out, asking, scene.panels.as_slice(), scene.bottom)?;
+    for panel in scene.panels.as_slice() {
+        draw_panel(out, asking, scene.lines.as_slice(), panel)?;
+    }
+    draw_end(out, scene.end, scene.bottom.saturating_add(20))
+}

@@ -30,7 +30,7 @@ pub(crate) const RESULT_WIDTH: u32 = 96;
 
 pub(crate) const ATTEMPTS_X: u32 = PANEL_X + 544;
 
-pub(crate) const ENDED_X: u32 = PANEL_X + 616;
+pub(crate) const ENDED_X: u32 = PANEL_X + 602;
 
 /// How far a child stands to the right of its parent.
 pub(crate) const INDENT: u32 = 12;
@@ -39,7 +39,7 @@ pub(crate) const INDENT: u32 = 12;
 pub(crate) const CHAR_WIDTH: u32 = 7;
 
 /// The most characters of a caption's line.
-pub(crate) const CAPTION_COLUMNS: usize = 92;
+pub(crate) const CAPTION_COLUMNS: usize = 104;
 
 pub(crate) const ROW_HEIGHT: u32 = 24;
 

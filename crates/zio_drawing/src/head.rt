@@ -29,7 +29,7 @@ pub(crate) fn draw_head(
     )?;
     y += 22;
     out.text(
-        "text",
+        "words",
         Point { x: PANEL_X, y },
         &[
             Fixed("tops: "),

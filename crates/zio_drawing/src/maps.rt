@@ -3,11 +3,15 @@
 use crate::bars::{Bar, Look};
 use crate::frame::{Area, MAPS_GAP, MAPS_X, Point};
 use crate::markup::{Markup, Piece};
+use crate::plan::Panel;
 use crate::rounds::SECTORS_MAX;
 use Piece::{Fixed, Number};
 use std::alloc::Global;
 use zio_script::TopLine;
 use zio_types::NoMemory;
+
+/// The height of a block's name in its bar.
+const MARK_HEIGHT: u32 = 13;
 
 /// The fewest sectors that a map shows.
 const SHOWN_MIN: u32 = 32;
@@ -74,11 +78,12 @@ fn shown_for(end: u64) -> u32 {
     u32::try_from(shown).unwrap_or(u32::MAX)
 }
 
-/// Draws the columns from a height to another, with their heads above.
+/// Draws the columns from a height to another, with their heads above, and the panels' bands in them.
 pub(crate) fn draw_columns(
     out: &mut Markup,
     columns: &[Column],
     tops: &[TopLine],
+    panels: &[Panel<'_>],
     top: u32,
     bottom: u32,
 ) -> Result<(), NoMemory> {
@@ -92,6 +97,15 @@ pub(crate) fn draw_columns(
                 height: bottom.saturating_sub(top),
             },
         )?;
+        for panel in panels {
+            let band = Area {
+                x: column.x,
+                y: panel.y,
+                width: column.width,
+                height: panel.height,
+            };
+            out.area("band", band)?;
+        }
         draw_column_head(out, column, line, number as u32, top)?;
         draw_ticks(out, column, top, bottom)?;
     }
@@ -180,13 +194,24 @@ fn draw_mark(out: &mut Markup, bar: &Bar, area: Area) -> Result<(), NoMemory> {
     let Some(name) = bar.name else {
         return Ok(());
     };
-    let needed = name.len.saturating_mul(7).saturating_add(4);
-    if area.width < needed || area.height < 12 {
+    let width = name.len.saturating_mul(7).saturating_add(4);
+    if area.width < width || area.height < MARK_HEIGHT {
         return Ok(());
     }
+    let middle = area.x.saturating_add(area.width / 2);
+    let top = area.y.saturating_add((area.height - MARK_HEIGHT) / 2);
+    out.area(
+        "paper",
+        Area {
+            x: middle.saturating_sub(width / 2),
+            y: top,
+            width,
+            height: MARK_HEIGHT,
+        },
+    )?;
     let at = Point {
-        x: area.x.saturating_add(area.width / 2),
-        y: area.y.saturating_add(area.height / 2).saturating_add(4),
+        x: middle,
+        y: top.saturating_add(10),
     };
     out.text("mark", at, &[Piece::Outside(name.as_bytes())])
 }

@@ -3,7 +3,7 @@
 use crate::asked::Asking;
 use crate::bars::{Bar, Source, bars};
 use crate::fault::DrawingFault;
-use crate::frame::{MAPS_X, MARGIN, Point, STEP_GAP};
+use crate::frame::{MAPS_X, MARGIN, PANEL_X, Point, STEP_GAP};
 use crate::head::{draw_end, draw_head};
 use crate::legend::{LEGEND_HEIGHT, LEGEND_WIDTH, draw_legend};
 use crate::maps::{Column, columns, draw_bar, draw_columns};
@@ -78,7 +78,7 @@ fn drawn(
 ) -> Result<Markup, NoMemory> {
     let mut head = Markup::new(alloc);
     let head_end = draw_head(alloc, &mut head, asking, script, report.images)?;
-    let top = head_end.max(MARGIN + LEGEND_HEIGHT).saturating_add(56);
+    let top = head_end.saturating_add(LEGEND_HEIGHT + 60);
     let scene = scene_of(alloc, script, asking, report, top)?;
     let mut out = Markup::new(alloc);
     if form == Form::Html {
@@ -89,8 +89,8 @@ fn drawn(
     draw_legend(
         &mut out,
         Point {
-            x: MAPS_X,
-            y: MARGIN,
+            x: PANEL_X,
+            y: head_end,
         },
     )?;
     draw_maps(&mut out, asking, script, &scene)?;
@@ -138,7 +138,7 @@ fn width_of(scene: &Scene<'_>) -> u32 {
         Some(column) => column.x.saturating_add(column.width),
         None => MAPS_X,
     };
-    maps_end.max(MAPS_X + LEGEND_WIDTH).saturating_add(MARGIN)
+    maps_end.max(PANEL_X + LEGEND_WIDTH).saturating_add(MARGIN)
 }
 
 fn draw_maps(
@@ -159,7 +159,14 @@ fn draw_maps(
         );
     }
     let tops = script.tops.as_slice();
-    draw_columns(out, scene.columns.as_slice(), tops, scene.top, scene.bottom)?;
+    draw_columns(
+        out,
+        scene.columns.as_slice(),
+        tops,
+        scene.panels.as_slice(),
+        scene.top,
+        scene.bottom,
+    )?;
     for bar in scene.bars.as_slice() {
         let quoted = match bar.source {
             Source::Take(line) => scene.lines.get(line).map(|line| *line),

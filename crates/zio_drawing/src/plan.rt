@@ -46,6 +46,7 @@ pub(crate) fn panels<'a>(
 }
 
 /// The last batch and the last `clear` whose comments were shown.
+#[derive(Clone, Copy)]
 struct Told {
     batch: u32,
     clear: u32,

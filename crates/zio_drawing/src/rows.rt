@@ -39,7 +39,7 @@ pub(crate) fn draw_panel(
                 y: panel.y.saturating_add(17),
             };
             out.text(
-                "text",
+                "words",
                 at,
                 &[
                     Fixed("batch "),
@@ -83,7 +83,7 @@ fn draw_round_head(out: &mut Markup, round: &Round, y: u32) -> Result<(), NoMemo
     out.put(&[Fixed("round "), Number(round.head.round)])?;
     match round.head.batch {
         Some(batch) => out.put(&[Fixed(": batch "), Number(batch)])?,
-        None => out.put(&[Fixed(": clear, what was suspended goes again")])?,
+        None => out.put(&[Fixed(": clear, the suspended go again")])?,
     }
     out.end_text()?;
     let point = Point {

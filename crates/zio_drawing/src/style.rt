@@ -38,7 +38,7 @@ text { font-family: "DejaVu Sans", "Segoe UI", Helvetica, Arial, sans-serif; fon
 .member { fill: url(#member); }
 .claimed { fill: url(#claimed); }
 .back { fill: #fff; stroke: #222; stroke-dasharray: 2 2; }
-.mark { fill: #fff; stroke: #fff; stroke-width: 3; paint-order: stroke; text-anchor: middle; font-size: 10px; fill: #000; }
+.mark { text-anchor: middle; font-size: 10px; fill: #000; }
 </style>
 <defs>
 <pattern id="copy1" width="6" height="6" patternUnits="userSpaceOnUse" patternTransform="rotate(45)">

@@ -173,6 +173,7 @@ pub(crate) fn errno_word(error: Errno) -> &'static str {
 const WORDS_MAX: usize = 8;
 
 // The first words of a line, parted by blanks.
+#[derive(Clone, Copy)]
 struct Words<'a> {
     words: [&'a [u8]; WORDS_MAX],
     count: usize,

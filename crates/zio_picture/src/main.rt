@@ -10,12 +10,10 @@ mod told;
 
 use about::{Command, Drawn, command_of, text_of};
 use std::alloc::AllocError;
-use std::env;
-use std::fs;
 use std::fs::File;
-use std::io;
 use std::io::{ErrorKind, Read};
 use std::process::ExitCode;
+use std::{env, fs, io};
 use told::{Refusal, code_of, line_of};
 use zio_drawing::{DrawingFault, draw};
 use zio_outside::{Sink, StdSink};

@@ -50,14 +50,18 @@ fn fault_line(alloc: Global, fault: &DrawingFault) -> Result<String, AllocError>
         DrawingFault::Script(fault) => {
             let line = fault.line;
             let why = fault.why;
-            format!(in alloc; "the script isn't accepted: line {line}, why {why}; zio_serial tells what that means")
+            format!(in alloc;
+                "the script isn't accepted: line {line}, why {why}; zio_serial tells what that means"
+            )
         }
         DrawingFault::Report(line, why) => {
             let words = why_words(*why);
             format!(in alloc; "the report, line {line}: {words}")
         }
         DrawingFault::TooLong => {
-            format!(in alloc; "the report has more than {REPORT_LINES_MAX} lines or 64 MiB: a picture of it couldn't be read")
+            format!(in alloc;
+                "the report has more than {REPORT_LINES_MAX} lines or 64 MiB: a picture of it couldn't be read"
+            )
         }
         DrawingFault::Memory => format!(in alloc; "no memory"),
     }
@@ -67,6 +71,7 @@ fn why_words(why: ReportFault) -> &'static str {
     match why {
         ReportFault::Shape => "it is none of a report's lines",
         ReportFault::Order => "such a line can't stand there",
-        ReportFault::Stranger => "it speaks of what the script doesn't have, so it is another script's",
+        ReportFault::Stranger =>
+            "it speaks of what the script doesn't have, so it is another script's",
     }
 }

@@ -4,8 +4,8 @@ ghost use Rattle.zio_blkptr.specs.Pointers.{valid};
 
 use anyhow::{Result, bail};
 use std::alloc::Global;
-use zio_blkptr::{Bp, SumKind, is_valid};
-use zio_gang::{SPLIT_SIZE_MAX, Split, header_decode, header_encode, split};
+use zio_blkptr::{BLOCK_SIZE_MAX, Bp, SumKind, is_valid};
+use zio_gang::{Split, header_decode, header_encode, split};
 use zio_types::{Place, SECTOR_SIZE};
 
 const AT: Place = Place {
@@ -16,7 +16,7 @@ const AT: Place = Place {
 
 /// Reads the header of a gang block of this size so many times. The answer is how often it was read.
 pub fn read(_alloc: Global, size: u32, times: u32) -> Result<u32> {
-    if size == 0 || size % SECTOR_SIZE != 0 || size > SPLIT_SIZE_MAX {
+    if size == 0 || size % SECTOR_SIZE != 0 || size > BLOCK_SIZE_MAX {
         bail!("a size of whole sectors");
     }
     let sizes = split(size);

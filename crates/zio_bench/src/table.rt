@@ -3,12 +3,12 @@ ghost use Rattle.zio_faults.specs.Hits.{RowFits};
 
 use anyhow::Result;
 use std::alloc::Global;
-use zio_faults::{FaultKind, On, Row, Table};
+use zio_faults::{FaultKind, FaultTable, On, Row};
 use zio_types::List;
 
 /// Looks so many times into a table of so many rows, of which the last is met. The answer is how often one was.
 pub fn look(alloc: Global, rows: u32, calls: u32) -> Result<u32> {
-    let table = Table {
+    let table = FaultTable {
         rows: rows_down(alloc, rows)?,
     };
     let mut met = 0u32;

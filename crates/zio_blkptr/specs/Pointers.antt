@@ -11,7 +11,8 @@ use Rattle.zio_blkptr.specs.declared.parts.TheConstants.{COMPRESSION_OFF, LITTLE
 use Rattle.zio_blkptr.specs.declared.pointer.Bp.{Bp}
 use Rattle.zio_blkptr.specs.declared.pointer.SumKind.{SumKind}
 use Rattle.zio_blkptr.specs.declared.pointer.SumKind.TheVariants.{Off, Fletcher4, Sha256}
-use Rattle.zio_blkptr.specs.declared.pointer.TheConstants.{BLOCK_SIZE_MAX, PLACES_MAX, SECTOR_END, TOP_END}
+use Rattle.zio_types.specs.declared.place.TheConstants.{COPIES_MAX}
+use Rattle.zio_blkptr.specs.declared.pointer.TheConstants.{BLOCK_SIZE_MAX, SECTOR_END, TOP_END}
 
 -- the places that the pointer counts
 abbrev pub places_of : Bp → List Place
@@ -45,7 +46,7 @@ is_block_size size = (size % sector_size == 0) && nat_le sector_size size && nat
 -- one to three places and nothing behind them, a block's size, and a birth
 abbrev pub valid : Bp → Bool
 valid bp =
-    nat_le 1 bp.count && nat_le bp.count PLACES_MAX
+    nat_le 1 bp.count && nat_le bp.count COPIES_MAX
     && list_all (is_present bp) (places_of bp) && list_all is_absent (drop bp.count bp.places)
     && is_block_size bp.size && nat_le 1 bp.birth
 

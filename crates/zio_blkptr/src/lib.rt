@@ -14,7 +14,5 @@ mod spelling;
 
 pub use faults::decode;
 pub use laws::{a_pointer_has_no_fault, each_pointer_has_one_spelling};
-pub use pointer::{
-    BLOCK_SIZE_MAX, Bp, BpFault, PLACES_MAX, SECTOR_END, SumKind, TOP_END, is_valid,
-};
+pub use pointer::{BLOCK_SIZE_MAX, Bp, BpFault, SECTOR_END, SumKind, TOP_END, is_valid};
 pub use spelling::{bp_text, encode};

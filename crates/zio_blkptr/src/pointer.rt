@@ -3,13 +3,10 @@ ghost use Rattle.std.specs.List.{list_all};
 ghost use Rattle.zio_blkptr.specs.Pointers.{valid, is_present, is_absent, is_block_size, is_rounding_of};
 
 use thiserror::Error;
-use zio_types::{Place, SECTOR_SIZE};
+use zio_types::{COPIES_MAX, Place, SECTOR_SIZE};
 
 /// The largest block, in bytes.
 pub const BLOCK_SIZE_MAX: u32 = 1_048_576;
-
-/// The places of a pointer, at most.
-pub const PLACES_MAX: u32 = 3;
 
 /// A place's top is below this.
 pub const TOP_END: u32 = 1 << 24;
@@ -63,13 +60,13 @@ pub enum BpFault {
     Dva,
 }
 
-/// Whether a pointer can be spelled: it has one to `PLACES_MAX` places in range and nothing behind them, a
+/// Whether a pointer can be spelled: it has one to `COPIES_MAX` places in range and nothing behind them, a
 /// size of whole sectors up to `BLOCK_SIZE_MAX`, and a birth. Each place has the sectors of the block, or the
 /// one of a gang's header, rounded up to a multiple of 1, 2, 4 or 8, whatever the others are rounded to.
 pub fn is_valid(bp: &Bp) -> bool
     ensures { result ≡ valid bp.now }
 {
-    if bp.count < 1 || bp.count > PLACES_MAX {
+    if bp.count < 1 || bp.count > COPIES_MAX {
         return false;
     }
     let (present, absent) = bp.places.split_at(bp.count as usize);

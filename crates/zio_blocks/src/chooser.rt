@@ -10,7 +10,7 @@ ghost use Rattle.zio_blocks.specs.Choosers.{AreHeld, AreLeft, Continues, EntryLa
 
 use std::alloc::Global;
 use zio_places::{ClaimFault, Space};
-use zio_types::{Entry, Key, List, NoMemory, Place};
+use zio_types::{COPIES_MAX, Entry, Key, List, NoMemory, Place};
 
 /// Why no place was claimed.
 #[derive(Clone, Copy, Debug, PartialEq, Eq)]
@@ -44,7 +44,7 @@ pub trait Chooser {
         requires some { 0 < size }
         requires whole { size % 512 ≡ 0 }
         requires one { 1 ≤ copies }
-        requires most { copies ≤ 3 }
+        requires most { copies ≤ COPIES_MAX }
         ensures asked { IfOk result (λ entry. entry.asked ≡ record { key = key; size = size; copies = copies }) }
         ensures lawful { IfOk result (λ entry. lawful (sizes self.old) (used self.old) (entry ∷ [])) }
         ensures used { IfOk result (λ entry. SamePlaces (used self.new) (taken_by entry ++ used self.old)) }

@@ -24,14 +24,11 @@ use crate::pieces::{
 };
 use crate::place::Writing;
 use std::alloc::Global;
-use zio_blkptr::Bp;
+use zio_blkptr::{BLOCK_SIZE_MAX, Bp};
 use zio_disks::{Setting, Stop, write_piece};
-use zio_gang::{Head, header_encode, split};
+use zio_gang::{Head, LEVELS_MAX, header_encode, split};
 use zio_outside::Disk;
-use zio_types::{Entry, Errno, Path, Role, SECTOR_SIZE, worst};
-
-/// How many copies there are at most.
-const COPIES_MAX: u32 = 3;
+use zio_types::{COPIES_MAX, Entry, Errno, Path, Role, SECTOR_SIZE, worst};
 
 /// Places a part of a block and writes it, whole or as a gang with so many levels of headers. It adds the headers to those
 /// before.
@@ -51,13 +48,13 @@ pub(crate) fn place_part<D: Disk, C: Chooser>(
     requires tops { HavePointers setting.now.tops }
     requires sizes { C.sizes chooser.old ≡ sizes_of setting.now.tops }
     requires one { 1 ≤ writing.now.copies }
-    requires three { writing.now.copies ≤ 3 }
+    requires three { writing.now.copies ≤ COPIES_MAX }
     requires birth { 1 ≤ writing.now.birth }
     requires some { 0 < length bytes.now }
     requires whole { length bytes.now % 512 ≡ 0 }
-    requires most { length bytes.now ≤ 1048576 }
+    requires most { length bytes.now ≤ BLOCK_SIZE_MAX }
     requires deep { length bytes.now ≤ 512 * 3 ^ levels }
-    requires depth { length path.now + levels ≤ 8 }
+    requires depth { length path.now + levels ≤ LEVELS_MAX }
     ensures asks { Asks C.lawful writing.now (C.sizes chooser.old) (C.used chooser.old) (C.live chooser.old) (C.given chooser.old) (C.sizes chooser.new) (C.used chooser.new) (C.live chooser.new) (C.given chooser.new) }
     ensures behind { OnOk result (heads.new.items ≡ heads.old.items ++ drop (length heads.old.items) heads.new.items) }
     ensures keys { AskOnce (IsFrom path.now) (given_since (C.given chooser.old) (C.given chooser.new)) }
@@ -107,13 +104,13 @@ fn place_gang<D: Disk, C: Chooser>(
     requires tops { HavePointers setting.now.tops }
     requires sizes { C.sizes chooser.old ≡ sizes_of setting.now.tops }
     requires one { 1 ≤ writing.now.copies }
-    requires three { writing.now.copies ≤ 3 }
+    requires three { writing.now.copies ≤ COPIES_MAX }
     requires birth { 1 ≤ writing.now.birth }
     requires some { 512 < length bytes.now }
     requires whole { length bytes.now % 512 ≡ 0 }
-    requires most { length bytes.now ≤ 1048576 }
+    requires most { length bytes.now ≤ BLOCK_SIZE_MAX }
     requires deep { length bytes.now ≤ 512 * 3 ^ (levels + 1) }
-    requires depth { length path.now + levels < 8 }
+    requires depth { length path.now + levels < LEVELS_MAX }
     ensures asks { Asks C.lawful writing.now (C.sizes chooser.old) (C.used chooser.old) (C.live chooser.old) (C.given chooser.old) (C.sizes chooser.new) (C.used chooser.new) (C.live chooser.new) (C.given chooser.new) }
     ensures behind { OnOk result (heads.new.items ≡ heads.old.items ++ drop (length heads.old.items) heads.new.items) }
     ensures keys { AskOnce (IsOfGang path.now) (given_since (C.given chooser.old) (C.given chooser.new)) }
@@ -155,13 +152,13 @@ fn write_gang<D: Disk, C: Chooser>(
     requires tops { HavePointers setting.now.tops }
     requires sizes { C.sizes chooser.old ≡ sizes_of setting.now.tops }
     requires one { 1 ≤ writing.now.copies }
-    requires three { writing.now.copies ≤ 3 }
+    requires three { writing.now.copies ≤ COPIES_MAX }
     requires birth { 1 ≤ writing.now.birth }
     requires some { 512 < length bytes.now }
     requires whole { length bytes.now % 512 ≡ 0 }
-    requires most { length bytes.now ≤ 1048576 }
+    requires most { length bytes.now ≤ BLOCK_SIZE_MAX }
     requires deep { length bytes.now ≤ 512 * 3 ^ (levels + 1) }
-    requires depth { length path.now + levels < 8 }
+    requires depth { length path.now + levels < LEVELS_MAX }
     requires asked { entry.now.asked ≡ head_ask (terms_of setting.now writing.now) path.now }
     requires entry { IsFoundEntry (sizes_of setting.now.tops) entry.now }
     requires found { is_refused entry.now ≡ false }
@@ -230,14 +227,14 @@ fn place_members<D: Disk, C: Chooser>(
     requires tops { HavePointers setting.now.tops }
     requires sizes { C.sizes chooser.old ≡ sizes_of setting.now.tops }
     requires one { 1 ≤ writing.now.copies }
-    requires three { writing.now.copies ≤ 3 }
+    requires three { writing.now.copies ≤ COPIES_MAX }
     requires birth { 1 ≤ writing.now.birth }
     requires parts { AllByRecursion (IsPartSize levels) sizes.now }
     requires sum { sum sizes.now ≡ length bytes.now }
-    requires most { length bytes.now ≤ 1048576 }
+    requires most { length bytes.now ≤ BLOCK_SIZE_MAX }
     requires few { n + length sizes.now ≤ 3 }
     requires filled { IsFilled None 3 n pointers.old }
-    requires depth { length path.now + levels < 8 }
+    requires depth { length path.now + levels < LEVELS_MAX }
     requires made { AllByRecursion (λ pointer. IfSome pointer (IsMade (sizes_of setting.now.tops))) pointers.old }
     ensures asks { Asks C.lawful writing.now (C.sizes chooser.old) (C.used chooser.old) (C.live chooser.old) (C.given chooser.old) (C.sizes chooser.new) (C.used chooser.new) (C.live chooser.new) (C.given chooser.new) }
     ensures behind { OnOk result (heads.new.items ≡ heads.old.items ++ drop (length heads.old.items) heads.new.items) }

@@ -20,12 +20,12 @@ ghost use Rattle.zio_blocks.specs.Parts.{Asks, IsMade};
 use crate::chooser::Chooser;
 use crate::place::Writing;
 use std::alloc::Global;
-use zio_blkptr::{Bp, SumKind};
+use zio_blkptr::{BLOCK_SIZE_MAX, Bp, SumKind};
 use zio_cksum::sum;
 use zio_disks::{Setting, Stop, write_piece};
-use zio_gang::Head;
+use zio_gang::{Head, LEVELS_MAX};
 use zio_outside::Disk;
-use zio_types::{Entry, Errno, Key, Path, Place, Role};
+use zio_types::{COPIES_MAX, Entry, Errno, Key, Path, Place, Role};
 
 /// What became of a part of a block.
 #[derive(Debug, Drop)]
@@ -47,7 +47,7 @@ pub(crate) fn ask<C: Chooser>(
     requires some { 0 < size }
     requires whole { size % 512 ≡ 0 }
     requires one { 1 ≤ copies }
-    requires most { copies ≤ 3 }
+    requires most { copies ≤ COPIES_MAX }
     ensures asks { Asks C.lawful writing.now (C.sizes chooser.old) (C.used chooser.old) (C.live chooser.old) (C.given chooser.old) (C.sizes chooser.new) (C.used chooser.new) (C.live chooser.new) (C.given chooser.new) }
     ensures given { IfOk result (λ entry. given_since (C.given chooser.old) (C.given chooser.new) ≡ entry ∷ []) }
     ensures asked { IfOk result (λ entry. entry.asked ≡ record {
@@ -118,9 +118,9 @@ pub(crate) fn write_body<D: Disk>(
     requires birth { 1 ≤ writing.now.birth }
     requires some { 0 < length bytes.now }
     requires whole { length bytes.now % 512 ≡ 0 }
-    requires most { length bytes.now ≤ 1048576 }
+    requires most { length bytes.now ≤ BLOCK_SIZE_MAX }
     requires one { 1 ≤ entry.now.asked.copies }
-    requires three { entry.now.asked.copies ≤ 3 }
+    requires three { entry.now.asked.copies ≤ COPIES_MAX }
     requires size { entry.now.asked.size ≡ length bytes.now }
     requires entry { IsFoundEntry (sizes_of setting.now.tops) entry.now }
     requires found { is_refused entry.now ≡ false }
@@ -180,7 +180,7 @@ fn pointer_at(entry: &Entry, gang: bool, size: u32, sum: SumKind, birth: u64, wo
 /// The path to a member of the gang at this path, which has room for a step.
 pub(crate) fn below(path: &Path, member: u8) -> Path
     requires member { member < 3 }
-    requires room { length path.now < 8 }
+    requires room { length path.now < LEVELS_MAX }
     ensures { result ≡ path.now ++ member ∷ [] }
 {
     match path.child(member) {

@@ -20,12 +20,9 @@ use crate::pieces::Part;
 use std::alloc::Global;
 use zio_blkptr::SumKind;
 use zio_disks::{Setting, Stop};
-use zio_gang::{Head, Tree};
+use zio_gang::{Head, LEVELS_MAX, Tree};
 use zio_outside::Disk;
-use zio_types::{Errno, List, Path, ReqNo};
-
-/// How many steps a path to a part of a block has at most.
-const LEVELS_MAX: u32 = 8;
+use zio_types::{COPIES_MAX, Errno, List, Path, ReqNo};
 
 /// What all parts of a block's write share.
 #[derive(Clone, Copy, Debug)]
@@ -70,7 +67,7 @@ pub fn place_block<D: Disk, C: Chooser>(
     requires whole { length bytes.now % 512 ≡ 0 }
     requires most { length bytes.now ≤ BLOCK_SIZE_MAX }
     requires one { 1 ≤ writing.now.copies }
-    requires three { writing.now.copies ≤ 3 }
+    requires three { writing.now.copies ≤ COPIES_MAX }
     requires birth { 1 ≤ writing.now.birth }
     ensures told { IfOk result (λ placed. (images : Images) → Tell D.image disks.old images →
         Places D.image (terms_of setting.now writing.now) bytes.now images placed (given_since (C.given chooser.old) (C.given chooser.new)) disks.new) }

@@ -9,7 +9,7 @@ use Rattle.zio_book.specs.declared.book.Book.{Book}
 use Rattle.zio_book.specs.declared.book.Pass.{Pass}
 use Rattle.zio_book.specs.declared.book.Receipt.{Receipt}
 use Rattle.zio_book.specs.declared.view.View.{View}
-use Rattle.zio_book.specs.declared.view.Kept.{Kept}
+use Rattle.zio_book.specs.declared.view.WithHistory.{WithHistory}
 use Rattle.zio_book.specs.History.{Follows, AllFollow, total, times}
 use Rattle.zio_book.specs.Rule.{idle}
 use Rattle.zio_book.specs.Books.{IsSeatOf, IsPassOf, IsReceiptOf, IsSameReceipt, IsShown, Claims, Learned, StandsAt, acts_of, first_state}
@@ -49,7 +49,7 @@ module _ {H C R N : Type 0} (book : Book H C R N) where
   V = View H N
 
   abbrev S : Type 0
-  S = Option (Kept H N)
+  S = Option (WithHistory H N)
 
   pub copy_of : (a b : Receipt H C R N) → IsReceiptOf book a → IsSameReceipt book a b → IsReceiptOf book b
   copy_of a b is same = (is.0, is.1, same.1 is.0 is.1 is.2)

@@ -5,7 +5,7 @@ use lib.ListN.{get_elem?}
 use Rattle.atomic_table.specs.Table.{Splits, Final, Seen}
 use Rattle.zio_book.specs.declared.book.Book.{Book}
 use Rattle.zio_book.specs.declared.view.View.{View}
-use Rattle.zio_book.specs.declared.view.Kept.{Kept}
+use Rattle.zio_book.specs.declared.view.WithHistory.{WithHistory}
 use Rattle.zio_book.specs.History.{Leads, AllFollow, times, once_below}
 use Rattle.zio_book.specs.Rule.{idle, IsFree, IsTaken, Booked}
 use Rattle.zio_book.specs.Books.{StandsAt, first_state, passes_of}
@@ -17,14 +17,14 @@ module _ {H C R N : Type 0} (gives : H → N → H → Type 0) (book : Book H C 
   V = View H N
 
   abbrev S : Type 0
-  S = Option (Kept H N)
+  S = Option (WithHistory H N)
 
   pub deal_seat : (id : ℕ) (v : V) (p : ℕ) → v ≡ idle p [] [] (Some (first_state book)) → 0 < p → Splits (Booked gives book.table.shared.key) id v (idle (v.passes - 1) [] [] v.first) (idle 1 [] [] v.first)
   deal_seat id v p e some_pass = subst (λ (u : V). Splits (Booked gives book.table.shared.key) id u (idle (u.passes - 1) [] [] u.first) (idle 1 [] [] u.first)) (sym e) (deals gives book.table.shared.key id p (Some (first_state book)) some_pass)
 
   -- what is left once all passes are in one seat
   pub record Ended (v : V) (slots : List S) : Type 0 where
-    pub kept : Kept H N
+    pub kept : WithHistory H N
     pub slot : get_elem? slots 0 ≡ some (Some kept)
     pub leads : Leads gives (first_state book) kept.notes.items kept.held
     pub once : (k : ℕ) → times k v.acts ≡ once_below k (length kept.notes.items)
@@ -57,5 +57,5 @@ module _ {H C R N : Type 0} (gives : H → N → H → Type 0) (book : Book H C 
       let all = b.passes in absurd (omega arith))
       b.door
 
-pub same_kept : {H N : Type 0} (k l : Kept H N) → ◌≡◌ {A = Option (Kept H N)} (Some k) (Some l) → k ≡ l
+pub same_kept : {H N : Type 0} (k l : WithHistory H N) → ◌≡◌ {A = Option (WithHistory H N)} (Some k) (Some l) → k ≡ l
 same_kept k l e = cc

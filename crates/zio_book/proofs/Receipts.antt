@@ -6,7 +6,7 @@ use Rattle.atomic_table.specs.Table.{Me}
 use Rattle.zio_book.specs.declared.book.Book.{Book}
 use Rattle.zio_book.specs.declared.book.Receipt.{Receipt}
 use Rattle.zio_book.specs.declared.view.View.{View}
-use Rattle.zio_book.specs.declared.view.Kept.{Kept}
+use Rattle.zio_book.specs.declared.view.WithHistory.{WithHistory}
 use Rattle.zio_book.specs.Rule.{idle, first_of}
 use Rattle.zio_book.specs.Books.{IsSeatOf, IsReceipt, IsReceiptOf, IsSameReceipt, Claims, first_state}
 
@@ -39,7 +39,7 @@ module _ {H C R N : Type 0} (gives : H → N → H → Type 0) (book : Book H C 
   )
 
   abbrev S : Type 0
-  S = Option (Kept H N)
+  S = Option (WithHistory H N)
 
   module _ (receipt : Receipt H C R N) (w : V) (old new : Seat S V) (e : receipt.badge.views ≡ w ∷ []) (of : IsReceiptOf book receipt) (is : IsSeatOf book old.me.0.passes old) (table : new.table_id ≡ old.table_id)
       (me : new.me ≡ (idle (old.me.0.passes + w.passes) (old.me.0.acts ++ w.acts) (w.claims ++ old.me.0.claims) old.me.0.first, old.me.1)) where

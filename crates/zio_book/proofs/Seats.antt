@@ -6,7 +6,7 @@ use Rattle.atomic_table.specs.Table.{Me, step, rest, Allows}
 use Rattle.zio_book.specs.declared.book.Book.{Book}
 use Rattle.zio_book.specs.declared.book.Receipt.{Receipt}
 use Rattle.zio_book.specs.declared.view.View.{View}
-use Rattle.zio_book.specs.declared.view.Kept.{Kept}
+use Rattle.zio_book.specs.declared.view.WithHistory.{WithHistory}
 use Rattle.zio_book.specs.declared.view.Birth.{Birth}
 use Rattle.zio_book.specs.History.{Leads}
 use Rattle.zio_book.specs.Rule.{idle, waiting, inside, acted, first_of, Booked, Draws, Enters, Looks, Counts, Serves}
@@ -19,7 +19,7 @@ module _ {H C R N : Type 0} (gives : H → N → H → Type 0) (book : Book H C 
   about = book.table.shared.key
 
   abbrev S : Type 0
-  S = Option (Kept H N)
+  S = Option (WithHistory H N)
 
   abbrev V : Type 0
   V = View H N
@@ -35,19 +35,19 @@ module _ {H C R N : Type 0} (gives : H → N → H → Type 0) (book : Book H C 
       subst (λ c. Allows (Booked gives about) slots id (seat.me.0, c) 1 (λ n. (n + 1) % 2 ^ 64) (Serves (step slots 1 1 0 none) (seat.me.0, c))) (sym is.1)
       (serve_allows gives about slots id seat.me.0 is.0 (first_state book) is.2 is.3 is.4 is.5 is.6)
 
-  pub count_seat : (me : Me S V) (kept : Kept H N) (n : N) → me.1 ≡ (0, Some kept) ∷ [] → me.0.inside ≡ 1 → kept.notes.items ≡ me.0.log ++ n ∷ [] → length kept.notes.items < 2 ^ 64
+  pub count_seat : (me : Me S V) (kept : WithHistory H N) (n : N) → me.1 ≡ (0, Some kept) ∷ [] → me.0.inside ≡ 1 → kept.notes.items ≡ me.0.log ++ n ∷ [] → length kept.notes.items < 2 ^ 64
       → Allows (Booked gives about) slots id me 2 (λ m. (m + 1) % 2 ^ 64) (Counts (step slots 2 1 0 none) me)
   count_seat me kept n e in' notes small =
       subst (λ c. Allows (Booked gives about) slots id (me.0, c) 2 (λ m. (m + 1) % 2 ^ 64) (Counts (step slots 2 1 0 none) (me.0, c))) (sym e) (count_allows gives about slots id me.0 kept n in' notes small)
 
 module _ {H C R N : Type 0} (gives : H → N → H → Type 0) (book : Book H C R N) where
   abbrev S' : Type 0
-  S' = Option (Kept H N)
+  S' = Option (WithHistory H N)
 
   abbrev V' : Type 0
   V' = View H N
 
-  pub served_view : (me m : Me S' V') (kept : Kept H N) → me.1 ≡ (0, Some kept) ∷ [] → m ≡ (idle me.0.passes me.0.acts me.0.claims me.0.first, rest me.1) → m ≡ (idle me.0.passes me.0.acts me.0.claims me.0.first, [])
+  pub served_view : (me m : Me S' V') (kept : WithHistory H N) → me.1 ≡ (0, Some kept) ∷ [] → m ≡ (idle me.0.passes me.0.acts me.0.claims me.0.first, rest me.1) → m ≡ (idle me.0.passes me.0.acts me.0.claims me.0.first, [])
   served_view me m kept e f = f ∙ ap (λ (c : List (ℕ × S')). (idle me.0.passes me.0.acts me.0.claims me.0.first, rest c)) e
 
   -- a look at the ticket's turn brings the held value
@@ -80,7 +80,7 @@ snoc_same (x ∷ xs) a b e = let f : xs ++ a ∷ [] ≡ xs ++ b ∷ [] = cc in s
 
 module _ {H C R N : Type 0} (gives : H → N → H → Type 0) (fits : H → C → R → N → Type 0) (book : Book H C R N) where
   abbrev S2 : Type 0
-  S2 = Option (Kept H N)
+  S2 = Option (WithHistory H N)
 
   abbrev V2 : Type 0
   V2 = View H N
@@ -88,7 +88,7 @@ module _ {H C R N : Type 0} (gives : H → N → H → Type 0) (fits : H → C �
   abbrev M2 : Type 0
   M2 = Me S2 V2
 
-  kept_same : (c : List (ℕ × S2)) (k l : Kept H N) → c ≡ (0, Some k) ∷ [] → c ≡ (0, Some l) ∷ [] → k ≡ l
+  kept_same : (c : List (ℕ × S2)) (k l : WithHistory H N) → c ≡ (0, Some k) ∷ [] → c ≡ (0, Some l) ∷ [] → k ≡ l
   kept_same c k l e f =
       let one : S2 = Some k in
       let other : S2 = Some l in
@@ -97,20 +97,20 @@ module _ {H C R N : Type 0} (gives : H → N → H → Type 0) (fits : H → C �
       let i : one ≡ other = ap (λ (z : ℕ × S2). z.1) h in cc
 
   -- what the value that was taken out is, and how the history leads to it
-  pub taken : (old new : Seat S2 V2) (kept : Kept H N) → HasEntered gives book old new → new.me.1 ≡ (0, Some kept) ∷ []
+  pub taken : (old new : Seat S2 V2) (kept : WithHistory H N) → HasEntered gives book old new → new.me.1 ≡ (0, Some kept) ∷ []
       → (t : ℕ) × (new.me ≡ (inside (waiting old.me.0 t) kept.notes.items, (0, Some kept) ∷ [])) × Leads gives (first_state book) kept.notes.items kept.held
   taken old new kept has e =
       let same : has.0 ≡ kept = kept_same new.me.1 has.0 kept (ap (λ (m : M2). m.1) has.2) e in (
         has.1,
-        has.2 ∙ ap (λ (k : Kept H N). (inside (waiting old.me.0 has.1) k.notes.items, (0, Some k) ∷ [])) same,
-        subst (λ (k : Kept H N). Leads gives (first_state book) k.notes.items k.held) same has.3,
+        has.2 ∙ ap (λ (k : WithHistory H N). (inside (waiting old.me.0 has.1) k.notes.items, (0, Some k) ∷ [])) same,
+        subst (λ (k : WithHistory H N). Leads gives (first_state book) k.notes.items k.held) same has.3,
       )
 
   -- the value is back in the slot
   pub back : (v : V2) (m m' m'' : M2) (t : ℕ) (ns : List N) (x y : S2) (c : List (ℕ × S2)) → m ≡ (inside (waiting v t) ns, c) → m' ≡ (m.0, (0, x) ∷ []) → m'' ≡ (m'.0, (0, y) ∷ []) → m'' ≡ (inside (waiting v t) ns, (0, y) ∷ [])
   back v m m' m'' t ns x y c e f g = g ∙ ap (λ (z : M2). (z.0, (0, y) ∷ [])) (f ∙ ap (λ (z : M2). (z.0, (0, x) ∷ [])) e)
 
-  pub unchanged_inside : (old seat : Seat S2 V2) (kept : Kept H N) (t : ℕ) (ns : List N) (h : H) → IsSeatOf book 1 old → seat.me ≡ (inside (waiting old.me.0 t) ns, (0, Some kept) ∷ []) → kept.notes.items ≡ ns → kept.held ≡ h
+  pub unchanged_inside : (old seat : Seat S2 V2) (kept : WithHistory H N) (t : ℕ) (ns : List N) (h : H) → IsSeatOf book 1 old → seat.me ≡ (inside (waiting old.me.0 t) ns, (0, Some kept) ∷ []) → kept.notes.items ≡ ns → kept.held ≡ h
       → Leads gives (first_state book) ns h → IsInside gives book seat
   unchanged_inside old seat kept t ns h is e notes held leads = (
     kept,
@@ -123,7 +123,7 @@ module _ {H C R N : Type 0} (gives : H → N → H → Type 0) (fits : H → C �
   )
 
   -- the seat that has served the next is as free as before
-  pub unchanged_seat : (old seat after : Seat S2 V2) (kept : Kept H N) (t : ℕ) (ns : List N) → IsSeatOf book 1 old → seat.me ≡ (inside (waiting old.me.0 t) ns, (0, Some kept) ∷ []) → after.table_id ≡ table_of book
+  pub unchanged_seat : (old seat after : Seat S2 V2) (kept : WithHistory H N) (t : ℕ) (ns : List N) → IsSeatOf book 1 old → seat.me ≡ (inside (waiting old.me.0 t) ns, (0, Some kept) ∷ []) → after.table_id ≡ table_of book
       → after.me ≡ (idle seat.me.0.passes seat.me.0.acts seat.me.0.claims seat.me.0.first, []) → IsSeatOf book 1 after × (after.me.0.acts ≡ old.me.0.acts)
   unchanged_seat old seat after kept t ns is e table f =
       let now : after.me ≡ (idle old.me.0.passes old.me.0.acts old.me.0.claims old.me.0.first, []) = f ∙ ap (λ (m : M2). (idle m.0.passes m.0.acts m.0.claims m.0.first, [])) e in
@@ -138,19 +138,19 @@ module _ {H C R N : Type 0} (gives : H → N → H → Type 0) (fits : H → C �
       )
 
   -- what the count tells, where the note is known
-  pub counted : (v : V2) (m m' : M2) (t r : ℕ) (ns : List N) (kept : Kept H N) (note : N) (st : _) → m ≡ (inside (waiting v t) ns, (0, Some kept) ∷ []) → kept.notes.items ≡ ns ++ note ∷ [] → Counts st m r m'
+  pub counted : (v : V2) (m m' : M2) (t r : ℕ) (ns : List N) (kept : WithHistory H N) (note : N) (st : _) → m ≡ (inside (waiting v t) ns, (0, Some kept) ∷ []) → kept.notes.items ≡ ns ++ note ∷ [] → Counts st m r m'
       → (m' ≡ (acted (inside (waiting v t) ns) note, (0, Some kept) ∷ [])) × (r ≡ length ns) × All (λ (a : ℕ × N). a.0 < r) v.acts × All (λ (c : List N × N). length c.0 < r) v.claims
   counted v m m' t r ns kept note st e notes counts =
       let k : counts.0 ≡ kept = kept_same m.1 counts.0 kept counts.2 (ap (λ (z : M2). z.1) e) in
       let log : m.0.log ≡ ns = ap (λ (z : M2). z.0.log) e in
-      let n : counts.1 ≡ note = snoc_same ns counts.1 note (ap (λ l. l ++ counts.1 ∷ []) (sym log) ∙ sym counts.3 ∙ ap (λ (z : Kept H N). z.notes.items) k ∙ notes) in (
+      let n : counts.1 ≡ note = snoc_same ns counts.1 note (ap (λ l. l ++ counts.1 ∷ []) (sym log) ∙ sym counts.3 ∙ ap (λ (z : WithHistory H N). z.notes.items) k ∙ notes) in (
         counts.4 ∙ ap (λ (y : N). (acted m.0 y, m.1)) n ∙ ap (λ (z : M2). (acted z.0 note, z.1)) e,
         counts.5 ∙ ap length log,
         subst (λ (z : M2). All (λ (a : ℕ × N). a.0 < r) z.0.acts) e counts.6,
         subst (λ (z : M2). All (λ (c : List N × N). length c.0 < r) z.0.claims) e counts.7,
       )
 
-  pub acted_inside : (old seat : Seat S2 V2) (kept : Kept H N) (t : ℕ) (ns : List N) (note : N) (h : H) → IsSeatOf book 1 old → seat.me ≡ (acted (inside (waiting old.me.0 t) ns) note, (0, Some kept) ∷ []) → kept.notes.items ≡ ns ++ note ∷ []
+  pub acted_inside : (old seat : Seat S2 V2) (kept : WithHistory H N) (t : ℕ) (ns : List N) (note : N) (h : H) → IsSeatOf book 1 old → seat.me ≡ (acted (inside (waiting old.me.0 t) ns) note, (0, Some kept) ∷ []) → kept.notes.items ≡ ns ++ note ∷ []
       → Leads gives (first_state book) ns h → gives h note kept.held → IsInside gives book seat
   acted_inside old seat kept t ns note h is e notes leads g = (
     kept,
@@ -163,7 +163,7 @@ module _ {H C R N : Type 0} (gives : H → N → H → Type 0) (fits : H → C �
   )
 
   -- the seat after it left
-  module _ (old seat after : Seat S2 V2) (kept : Kept H N) (t r : ℕ) (ns : List N) (note : N) (is : IsSeatOf book 1 old) (e : seat.me ≡ (acted (inside (waiting old.me.0 t) ns) note, (0, Some kept) ∷ [])) (table : after.table_id ≡ table_of book)
+  module _ (old seat after : Seat S2 V2) (kept : WithHistory H N) (t r : ℕ) (ns : List N) (note : N) (is : IsSeatOf book 1 old) (e : seat.me ≡ (acted (inside (waiting old.me.0 t) ns) note, (0, Some kept) ∷ [])) (table : after.table_id ≡ table_of book)
       (f : after.me ≡ (idle seat.me.0.passes seat.me.0.acts seat.me.0.claims seat.me.0.first, [])) where
     left : after.me ≡ (idle old.me.0.passes (old.me.0.acts ++ (length ns, note) ∷ []) ((ns, note) ∷ old.me.0.claims) old.me.0.first, [])
     left = f ∙ ap (λ (m : M2). (idle m.0.passes m.0.acts m.0.claims m.0.first, [])) e

@@ -9,7 +9,7 @@ use lib.ListN.{get_elem?}
 use Rattle.atomic_table.specs.Table.{State, Me, Act, keeps, takes, gives, step, stepped, Allows, Splits, Joins, opening}
 use Rattle.atomic_table.proofs.Lists.{at_set, set_again, set_here, set_else, at_snoc, one_turn}
 use Rattle.zio_book.specs.declared.view.View.{View}
-use Rattle.zio_book.specs.declared.view.Kept.{Kept}
+use Rattle.zio_book.specs.declared.view.WithHistory.{WithHistory}
 use Rattle.zio_book.specs.declared.view.Birth.{Birth}
 use Rattle.zio_book.specs.History.{Leads, total, times, once_below, Follows}
 use Rattle.zio_book.specs.Rule.{idle, waiting, inside, acted, first_of, Knows, IsFree, IsTaken, Booked, Draws, Looks, Counts, Serves}
@@ -28,7 +28,7 @@ module _ {H N : Type 0} (gives' : H → N → H → Type 0) (about : Birth H) wh
   V = View H N
 
   abbrev S : Type 0
-  S = Option (Kept H N)
+  S = Option (WithHistory H N)
 
   abbrev Rule : State S V → Type 0
   Rule = Booked gives' about
@@ -171,7 +171,7 @@ module _ {H N : Type 0} (gives' : H → N → H → Type 0) (about : Birth H) wh
   taken_by : (s : State S V) (b : Rule s) (id : ℕ) (v : V) → get_elem? s.views id ≡ some v → v.inside ≡ 1 → IsTaken s.homes s.views
   taken_by s b id v at in' = ⊎_elim (λ (f : IsFree gives' first b.log s.homes s.views). let none' = f.nobody id v at in absurd (omega arith)) (λ (t : IsTaken s.homes s.views). t) b.door
 
-  pub count_allows : (slots id : ℕ) (v : V) (kept : Kept H N) (n : N) → v.inside ≡ 1 → kept.notes.items ≡ v.log ++ n ∷ [] → length kept.notes.items < 2 ^ 64
+  pub count_allows : (slots id : ℕ) (v : V) (kept : WithHistory H N) (n : N) → v.inside ≡ 1 → kept.notes.items ≡ v.log ++ n ∷ [] → length kept.notes.items < 2 ^ 64
       → Allows Rule slots id (v, (0, Some kept) ∷ []) 2 (λ m. (m + 1) % 2 ^ 64) (Counts (step slots 2 1 0 none) (v, (0, Some kept) ∷ []))
   count_allows slots id v kept n in' notes small s b len at within =
       let w : V = acted v n in
@@ -232,7 +232,7 @@ module _ {H N : Type 0} (gives' : H → N → H → Type 0) (about : Birth H) wh
         ),
       )
 
-  pub serve_allows : (slots id : ℕ) (v : V) (kept : Kept H N) (h : H) → v.busy ≡ 1 → v.inside ≡ 1 → kept.notes.items ≡ v.log → v.first ≡ Some h → Leads gives' h kept.notes.items kept.held
+  pub serve_allows : (slots id : ℕ) (v : V) (kept : WithHistory H N) (h : H) → v.busy ≡ 1 → v.inside ≡ 1 → kept.notes.items ≡ v.log → v.first ≡ Some h → Leads gives' h kept.notes.items kept.held
       → Allows Rule slots id (v, (0, Some kept) ∷ []) 1 (λ m. (m + 1) % 2 ^ 64) (Serves (step slots 1 1 0 none) (v, (0, Some kept) ∷ []))
   serve_allows slots id v kept h busy' in' notes is leads s b len at within =
       let w : V = idle v.passes v.acts v.claims v.first in
@@ -379,7 +379,7 @@ module _ {H N : Type 0} (gives' : H → N → H → Type 0) (about : Birth H) wh
       (λ m. (let a = total_set (λ (u : V). times m u.acts) (set s.views id both) other w spent at' in let c = total_set (λ (u : V). times m u.acts) s.views id v both at in let d = b.once m in
       let e = total_append (λ (x : ℕ × N). cond (eqb m x.0) 1 0) v.acts w.acts in omega arith))
 
-  pub begins : (kept : Kept H N) → kept.notes.items ≡ [] → kept.held ≡ first → about.passes < 2 ^ 64 → Rule (opening (0 ∷ 0 ∷ 0 ∷ []) (Some kept ∷ []) (idle about.passes [] [] (Some first)))
+  pub begins : (kept : WithHistory H N) → kept.notes.items ≡ [] → kept.held ≡ first → about.passes < 2 ^ 64 → Rule (opening (0 ∷ 0 ∷ 0 ∷ []) (Some kept ∷ []) (idle about.passes [] [] (Some first)))
   begins kept notes held few = record {
     log = [];
     drawn = 0;

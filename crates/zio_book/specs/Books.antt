@@ -6,13 +6,13 @@ use Rattle.zio_book.specs.declared.book.Book.{Book}
 use Rattle.zio_book.specs.declared.book.Pass.{Pass}
 use Rattle.zio_book.specs.declared.book.Receipt.{Receipt}
 use Rattle.zio_book.specs.declared.view.View.{View}
-use Rattle.zio_book.specs.declared.view.Kept.{Kept}
+use Rattle.zio_book.specs.declared.view.WithHistory.{WithHistory}
 use Rattle.zio_book.specs.History.{Leads, Follows, times, total, once_below}
 use Rattle.zio_book.specs.Rule.{idle, waiting, inside}
 
 -- these are the slots of a seat that has the held value
-abbrev pub HoldsKept : {H N : Type 0} → List (ℕ × Option (Kept H N)) → Type 0
-HoldsKept {H} {N} slots = (kept : Kept H N) × (slots ≡ (0, Some kept) ∷ [])
+abbrev pub HoldsKept : {H N : Type 0} → List (ℕ × Option (WithHistory H N)) → Type 0
+HoldsKept {H} {N} slots = (kept : WithHistory H N) × (slots ≡ (0, Some kept) ∷ [])
 
 -- the acts of a pass stand in the history at their numbers
 abbrev pub StandsAt : {N : Type 0} → List N → List (ℕ × N) → Type 0
@@ -38,7 +38,7 @@ module _ {H C R N : Type 0} where
   acts_of p = p.seat.me.0.acts
 
   -- a seat of the book with so many passes, no ticket and nothing in its hands
-  pub record IsSeatOf (book : Book H C R N) (passes : ℕ) (seat : Seat (Option (Kept H N)) (View H N)) : Type 0 where
+  pub record IsSeatOf (book : Book H C R N) (passes : ℕ) (seat : Seat (Option (WithHistory H N)) (View H N)) : Type 0 where
     pub table : seat.table_id ≡ table_of book
     pub free : seat.me.1 ≡ []
     pub view : seat.me.0 ≡ idle passes seat.me.0.acts seat.me.0.claims (Some (first_state book))
@@ -57,7 +57,7 @@ module _ {H C R N : Type 0} where
   IsReceiptOf book receipt = (before : List N) × (note : N) × IsReceipt book receipt before note
 
   -- A seat's act: the history before it leads to a state which the reply and the note fit. Its number is above each that the seat had
-  pub record SeatActed (gives : H → N → H → Type 0) (fits : H → C → R → N → Type 0) (book : Book H C R N) (old new : Seat (Option (Kept H N)) (View H N)) (cmd : C) (reply : R) (receipt : Receipt H C R N) : Type 0 where
+  pub record SeatActed (gives : H → N → H → Type 0) (fits : H → C → R → N → Type 0) (book : Book H C R N) (old new : Seat (Option (WithHistory H N)) (View H N)) (cmd : C) (reply : R) (receipt : Receipt H C R N) : Type 0 where
     pub before : List N
     pub note : N
     pub state : H
@@ -68,15 +68,15 @@ module _ {H C R N : Type 0} where
     pub later : All (λ (a : ℕ × N). a.0 < receipt.number) old.me.0.acts
 
   -- the seat has the held value, which this history leads to
-  abbrev pub IsInside : (H → N → H → Type 0) → Book H C R N → Seat (Option (Kept H N)) (View H N) → Type 0
+  abbrev pub IsInside : (H → N → H → Type 0) → Book H C R N → Seat (Option (WithHistory H N)) (View H N) → Type 0
   IsInside gives book seat =
-      (kept : Kept H N) × (seat.me.1 ≡ (0, Some kept) ∷ []) × (seat.me.0.busy ≡ 1) × (seat.me.0.inside ≡ 1) × (kept.notes.items ≡ seat.me.0.log) × (seat.me.0.first ≡ Some (first_state book))
+      (kept : WithHistory H N) × (seat.me.1 ≡ (0, Some kept) ∷ []) × (seat.me.0.busy ≡ 1) × (seat.me.0.inside ≡ 1) × (kept.notes.items ≡ seat.me.0.log) × (seat.me.0.first ≡ Some (first_state book))
       × Leads gives (first_state book) kept.notes.items kept.held
 
   -- the seat with a ticket has come to its turn
-  abbrev pub HasEntered : (H → N → H → Type 0) → Book H C R N → Seat (Option (Kept H N)) (View H N) → Seat (Option (Kept H N)) (View H N) → Type 0
+  abbrev pub HasEntered : (H → N → H → Type 0) → Book H C R N → Seat (Option (WithHistory H N)) (View H N) → Seat (Option (WithHistory H N)) (View H N) → Type 0
   HasEntered gives book old new =
-      (kept : Kept H N) × (t : ℕ) × (new.me ≡ (inside (waiting old.me.0 t) kept.notes.items, (0, Some kept) ∷ [])) × Leads gives (first_state book) kept.notes.items kept.held
+      (kept : WithHistory H N) × (t : ℕ) × (new.me ≡ (inside (waiting old.me.0 t) kept.notes.items, (0, Some kept) ∷ [])) × Leads gives (first_state book) kept.notes.items kept.held
 
   -- the pass is the book's, and made no act
   abbrev pub IsNewPass : Book H C R N → Pass H C R N → Type 0

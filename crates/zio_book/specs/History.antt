@@ -1,6 +1,6 @@
 -- Histories, and what is counted in them.
 pub use Rattle.zio_types.specs.Totals.{total}
-use Rattle.zio_book.specs.declared.view.Kept.{Kept}
+use Rattle.zio_book.specs.declared.view.WithHistory.{WithHistory}
 use Rattle.std.specs.Prelude.{◌≡◌, ℕ, ◌+◌, Option, Some, None, cond, eqb, ltb, List, [], ◌∷◌, ◌++◌, All}
 
 -- the notes, one by one, lead from the state s to the state t
@@ -21,7 +21,7 @@ abbrev pub Follows : {N : Type 0} → List N → List N → N → Type 0
 Follows {N} log before note = (rest : List N) × (log ≡ before ++ note ∷ rest)
 
 -- the slot holds this value
-abbrev pub SlotHas : {H N : Type 0} → Option (Kept H N) → H → Type 0
+abbrev pub SlotHas : {H N : Type 0} → Option (WithHistory H N) → H → Type 0
 SlotHas None h = ⊥
 SlotHas (Some kept) h = h ≡ kept.held
 

@@ -5,7 +5,7 @@ use mathlib.Core.Option.{Option as Home}
 use lib.ListN.{get_elem?}
 use Rattle.atomic_table.specs.Table.{State, Me, Step, rest}
 use Rattle.zio_book.specs.declared.view.View.{View}
-use Rattle.zio_book.specs.declared.view.Kept.{Kept}
+use Rattle.zio_book.specs.declared.view.WithHistory.{WithHistory}
 use Rattle.zio_book.specs.declared.view.Birth.{Birth}
 use Rattle.zio_book.specs.History.{Leads, total, times, once_below, Follows}
 
@@ -41,22 +41,22 @@ module _ {H N : Type 0} where
     pub first_is : (h : H) → v.first ≡ Some h → h ≡ first
 
   -- the held value is at home, with the history
-  pub record IsFree (gives : H → N → H → Type 0) (first : H) (log : List N) (homes : List (Home (Option (Kept H N)))) (views : List (View H N)) : Type 0 where
-    pub kept : Kept H N
+  pub record IsFree (gives : H → N → H → Type 0) (first : H) (log : List N) (homes : List (Home (Option (WithHistory H N)))) (views : List (View H N)) : Type 0 where
+    pub kept : WithHistory H N
     pub home : homes ≡ some (Some kept) ∷ []
     pub notes : kept.notes.items ≡ log
     pub leads : Leads gives first log kept.held
     pub nobody : (port : ℕ) (v : View H N) → get_elem? views port ≡ some v → v.inside ≡ 0
 
   -- it is with a seat
-  pub record IsTaken (homes : List (Home (Option (Kept H N)))) (views : List (View H N)) : Type 0 where
+  pub record IsTaken (homes : List (Home (Option (WithHistory H N)))) (views : List (View H N)) : Type 0 where
     pub home : homes ≡ none ∷ []
     pub port : ℕ
     pub view : View H N
     pub at : get_elem? views port ≡ some view
     pub has : view.inside ≡ 1
 
-  pub record Booked (gives : H → N → H → Type 0) (about : Birth H) (s : State (Option (Kept H N)) (View H N)) : Type 0 where
+  pub record Booked (gives : H → N → H → Type 0) (about : Birth H) (s : State (Option (WithHistory H N)) (View H N)) : Type 0 where
     pub log : List N
     pub drawn : ℕ
     pub served : ℕ
@@ -70,22 +70,22 @@ module _ {H N : Type 0} where
     pub door : IsFree gives about.first.value log s.homes s.views ⊎ IsTaken s.homes s.views
 
   -- what a draw tells: a ticket, whose word was found
-  abbrev pub Draws : Step (Option (Kept H N)) → Me (Option (Kept H N)) (View H N) → ℕ → Me (Option (Kept H N)) (View H N) → Type 0
+  abbrev pub Draws : Step (Option (WithHistory H N)) → Me (Option (WithHistory H N)) (View H N) → ℕ → Me (Option (WithHistory H N)) (View H N) → Type 0
   Draws st m r m' = (t : ℕ) × (m' ≡ (waiting m.0 t, m.1)) × (r ≡ t % 2 ^ 64)
 
   -- what a look tells: it is this seat's turn, and the held value is with it, or nothing changed
-  abbrev pub Enters : (H → N → H → Type 0) → Me (Option (Kept H N)) (View H N) → Me (Option (Kept H N)) (View H N) → Type 0
-  Enters gives m m' = (kept : Kept H N) × (m' ≡ (inside m.0 kept.notes.items, (0, Some kept) ∷ m.1)) × ((h : H) → m.0.first ≡ Some h → Leads gives h kept.notes.items kept.held)
+  abbrev pub Enters : (H → N → H → Type 0) → Me (Option (WithHistory H N)) (View H N) → Me (Option (WithHistory H N)) (View H N) → Type 0
+  Enters gives m m' = (kept : WithHistory H N) × (m' ≡ (inside m.0 kept.notes.items, (0, Some kept) ∷ m.1)) × ((h : H) → m.0.first ≡ Some h → Leads gives h kept.notes.items kept.held)
 
-  abbrev pub Looks : (H → N → H → Type 0) → Step (Option (Kept H N)) → Me (Option (Kept H N)) (View H N) → ℕ → Me (Option (Kept H N)) (View H N) → Type 0
+  abbrev pub Looks : (H → N → H → Type 0) → Step (Option (WithHistory H N)) → Me (Option (WithHistory H N)) (View H N) → ℕ → Me (Option (WithHistory H N)) (View H N) → Type 0
   Looks gives st m r m' = (r ≡ m.0.ticket % 2 ^ 64 → Enters gives m m') × (¬ (r ≡ m.0.ticket % 2 ^ 64) → m' ≡ m)
 
   -- what a count tells: the number is the length of the history, which is above each number that the seat knows
-  abbrev pub Counts : Step (Option (Kept H N)) → Me (Option (Kept H N)) (View H N) → ℕ → Me (Option (Kept H N)) (View H N) → Type 0
+  abbrev pub Counts : Step (Option (WithHistory H N)) → Me (Option (WithHistory H N)) (View H N) → ℕ → Me (Option (WithHistory H N)) (View H N) → Type 0
   Counts st m r m' =
-      (kept : Kept H N) × (n : N) × (m.1 ≡ (0, Some kept) ∷ []) × (kept.notes.items ≡ m.0.log ++ n ∷ []) × (m' ≡ (acted m.0 n, m.1)) × (r ≡ length m.0.log)
+      (kept : WithHistory H N) × (n : N) × (m.1 ≡ (0, Some kept) ∷ []) × (kept.notes.items ≡ m.0.log ++ n ∷ []) × (m' ≡ (acted m.0 n, m.1)) × (r ≡ length m.0.log)
       × All (λ (a : ℕ × N). a.0 < r) m.0.acts × All (λ (c : List N × N). length c.0 < r) m.0.claims
 
   -- what serving the next tells: the seat has no ticket any more, and the value is at home
-  abbrev pub Serves : Step (Option (Kept H N)) → Me (Option (Kept H N)) (View H N) → ℕ → Me (Option (Kept H N)) (View H N) → Type 0
+  abbrev pub Serves : Step (Option (WithHistory H N)) → Me (Option (WithHistory H N)) (View H N) → ℕ → Me (Option (WithHistory H N)) (View H N) → Type 0
   Serves st m r m' = m' ≡ (idle m.0.passes m.0.acts m.0.claims m.0.first, rest m.1)

@@ -3,7 +3,7 @@ ghost use Rattle.std.specs.Prelude.{◌≡◌, ℕ, ◌+◌, ◌<◌, ◌≤◌,
 
 use crate::book::{Book, BookSeat, CmdBack, HISTORY, Receipt, SERVING, TICKETS};
 use crate::held::Held;
-use crate::view::{Claim, Count, Draw, Gather, Kept, Look, Serve};
+use crate::view::{Claim, Count, Draw, Gather, Look, Serve, WithHistory};
 use atomic_table::Badge;
 use crossbeam_utils::Backoff;
 use std::mem;
@@ -50,7 +50,7 @@ impl<H: Held> Book<H> {
     }
 
     // Takes the held value out of the slot that the seat has.
-    fn take_out(&self, seat: &mut BookSeat<H>) -> Kept<H, H::Note>
+    fn take_out(&self, seat: &mut BookSeat<H>) -> WithHistory<H, H::Note>
         requires table { seat.old.table_id ≡ self.now.table.shared.table_id }
         requires slot { HoldsKept seat.old.me.1 }
         ensures table { seat.new.table_id ≡ seat.old.table_id }
@@ -64,7 +64,7 @@ impl<H: Held> Book<H> {
     }
 
     // Puts the held value into the slot that the seat has.
-    fn put_back(&self, seat: &mut BookSeat<H>, kept: Kept<H, H::Note>)
+    fn put_back(&self, seat: &mut BookSeat<H>, kept: WithHistory<H, H::Note>)
         requires table { seat.old.table_id ≡ self.now.table.shared.table_id }
         requires slot { seat.old.me.1 ≡ (0, None) ∷ [] }
         ensures table { seat.new.table_id ≡ seat.old.table_id }

@@ -3,7 +3,7 @@ ghost use Rattle.zio_book.specs.History.{SlotHas};
 ghost use Rattle.std.specs.Prelude.{◌≡◌, ℕ, ◌+◌, ◌<◌, ◌≤◌, [], ◌∷◌, ◌++◌, length, All, Some, None, IfOk, IfErr, IsSome, MatchResult, slice_index_or, vec_capacity};
 
 use crate::held::Held;
-use crate::view::{Birth, Deal, Gather, Kept, Ruled, View};
+use crate::view::{Birth, Deal, Gather, Ruled, View, WithHistory};
 use atomic_table::{Badge, Refused, Seat, Table};
 use std::alloc::{AllocFailed, Global};
 use std::snapshot::Snapshot;
@@ -20,7 +20,13 @@ pub(crate) const HISTORY: usize = 2;
 /// A held value that acts one after another, by ticket, with the history of its acts.
 #[derive(Drop)]
 pub struct Book<H: Held> {
-    pub(crate) table: Table<Option<Kept<H, H::Note>>, View<H, H::Note>, Birth<H>, Ruled<H>, Global>,
+    pub(crate) table: Table<
+        Option<WithHistory<H, H::Note>>,
+        View<H, H::Note>,
+        Birth<H>,
+        Ruled<H>,
+        Global,
+    >,
     ghost sized: { (table.shared.table_id.words ≡ 3) × (table.shared.table_id.slots ≡ 1) },
 }
 
@@ -49,7 +55,10 @@ pub struct HeldBack<H> {
     pub held: H,
 }
 
-pub(crate) type BookSeat<H> = Seat<Option<Kept<H, <H as Held>::Note>>, View<H, <H as Held>::Note>>;
+pub(crate) type BookSeat<H> = Seat<
+    Option<WithHistory<H, <H as Held>::Note>>,
+    View<H, <H as Held>::Note>,
+>;
 
 // A book with one seat for all its passes.
 fn open<H: Held>(alloc: Global, held: H, passes: u32) -> Result<(Book<H>, BookSeat<H>), HeldBack<H>>
@@ -61,7 +70,7 @@ fn open<H: Held>(alloc: Global, held: H, passes: u32) -> Result<(Book<H>, BookSe
         first: Snapshot::of(&held),
         passes,
     };
-    let kept = Kept {
+    let kept = WithHistory {
         held,
         notes: Vec::new(alloc),
     };
@@ -81,11 +90,11 @@ fn open<H: Held>(alloc: Global, held: H, passes: u32) -> Result<(Book<H>, BookSe
 }
 
 // What was to be held, out of its slot.
-fn lent_back<H: Held>(slot: Option<Kept<H, H::Note>>) -> HeldBack<H>
+fn lent_back<H: Held>(slot: Option<WithHistory<H, H::Note>>) -> HeldBack<H>
     requires { IsSome slot }
     ensures { SlotHas slot result.held }
 {
-    let Some(Kept { held, notes: _ }) = slot else {
+    let Some(WithHistory { held, notes: _ }) = slot else {
         unreachable!()
     };
     HeldBack { held }
@@ -233,7 +242,7 @@ impl<H: Held> Book<H> {
         let mut closed = table.close_with(all);
         let slot = closed.take(0);
         closed.free();
-        let Some(Kept { held, notes }) = slot else {
+        let Some(WithHistory { held, notes }) = slot else {
             unreachable!()
         };
         (held, List::from_vec(notes))

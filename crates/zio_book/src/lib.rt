@@ -13,4 +13,4 @@ mod view;
 
 pub use book::{Book, CmdBack, HeldBack, Pass, Receipt};
 pub use held::Held;
-pub use view::{Birth, Kept, View};
+pub use view::{Birth, View, WithHistory};

@@ -10,7 +10,7 @@ use std::snapshot::Snapshot;
 
 /// The held value with its history.
 #[derive(Drop)]
-pub struct Kept<H, N> {
+pub struct WithHistory<H, N> {
     pub held: H,
     pub notes: Vec<N>,
 }
@@ -41,7 +41,7 @@ pub struct Ruled<H> {
     held: PhantomData<H>,
 }
 
-impl<H: Held> TableRule<Option<Kept<H, H::Note>>, View<H, H::Note>, Birth<H>> for Ruled<H> {
+impl<H: Held> TableRule<Option<WithHistory<H, H::Note>>, View<H, H::Note>, Birth<H>> for Ruled<H> {
     ghost use Rattle.std.specs.Prelude.{[], Some};
     ghost use Rattle.zio_book.specs.Rule.{idle, Booked};
 
@@ -53,7 +53,7 @@ impl<H: Held> TableRule<Option<Kept<H, H::Note>>, View<H, H::Note>, Birth<H>> fo
 /// Draws a ticket.
 pub struct Draw;
 
-impl<H, N> Play<Option<Kept<H, N>>, View<H, N>> for Draw {
+impl<H, N> Play<Option<WithHistory<H, N>>, View<H, N>> for Draw {
     ghost then = { Draws };
 }
 
@@ -62,21 +62,21 @@ pub struct Look<H> {
     held: PhantomData<H>,
 }
 
-impl<H: Held> Play<Option<Kept<H, H::Note>>, View<H, H::Note>> for Look<H> {
+impl<H: Held> Play<Option<WithHistory<H, H::Note>>, View<H, H::Note>> for Look<H> {
     ghost then = { Looks H.gives };
 }
 
 /// Counts an act.
 pub struct Count;
 
-impl<H, N> Play<Option<Kept<H, N>>, View<H, N>> for Count {
+impl<H, N> Play<Option<WithHistory<H, N>>, View<H, N>> for Count {
     ghost then = { Counts };
 }
 
 /// Serves the next ticket.
 pub struct Serve;
 
-impl<H, N> Play<Option<Kept<H, N>>, View<H, N>> for Serve {
+impl<H, N> Play<Option<WithHistory<H, N>>, View<H, N>> for Serve {
     ghost then = { Serves };
 }
 

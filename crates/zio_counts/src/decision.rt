@@ -4,6 +4,9 @@ ghost use Rattle.zio_script.specs.Decisions.{all_bits, decided, gone_bits, write
 use zio_script::Failmode;
 use zio_types::{Bits, Errno, Kind};
 
+/// How often a tree is attempted again at once in a round.
+pub const REEXECUTIONS_MAX: u32 = 3;
+
 const NOW: Bits = Bits {
     now: true,
     suspend: false,

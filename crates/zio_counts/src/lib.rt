@@ -15,5 +15,5 @@ mod laws;
 pub use brood::Brood;
 pub use child::Child;
 pub use counts::{Counts, OPEN_CHILDREN_MAX};
-pub use decision::all_bits;
+pub use decision::{REEXECUTIONS_MAX, all_bits};
 pub use laws::every_tally_shows_a_machine;

@@ -6,12 +6,11 @@ use Rattle.zio_types.specs.declared.journal.Journal.{Journal}
 use Rattle.zio_script.specs.declared.script.Failmode.{Failmode}
 use Rattle.zio_cksum.specs.Images.{Images}
 use Rattle.zio_gang.specs.Attempts.{Pending, Terms}
-use Rattle.zio_course.specs.declared.runner.Finished.{Finished}
-use Rattle.zio_course.specs.declared.runner.RoundEnd.{RoundEnd}
+use Rattle.zio_course.specs.declared.runner.RequestEnd.{RequestEnd}
 use Rattle.zio_course.specs.declared.runner.Stop.{Stop}
 use Rattle.zio_course.specs.declared.runner.Stop.TheVariants.{Device as DeviceStops, Memory as NoMemory}
 use Rattle.zio_course.specs.Entered.{IsEntered}
-use Rattle.zio_course.specs.Runners.{DiffersInRound, IsCutRound, IsRound, IsRoundEnd, Standing, StandsAfter, Stopping, terms_at}
+use Rattle.zio_course.specs.Runners.{DiffersInRound, IsCutRound, IsRound, IsRoundEnd, SeenEnd, Standing, StandsAfter, Stopping, terms_at}
 
 pub stopped_by : {A : Type 0} (r : Result A Stop) (stop : Stop) (P : Stop → Type 0) → IsErrAnd r (λ e. e ≡ stop) → P stop → IfErr r P
 stopped_by (Ok x) stop P is h = tt
@@ -33,16 +32,16 @@ broken_moved s mid w stop trees made failmode round point before after same_s sa
 
 -- what is known of a whole round
 abbrev pub Whole : Standing → List (List Pending) → List Completion → (Images → Type 0) → Failmode → ℕ → ℕ → Journal → Journal → Standing → (Images → Type 0)
-    → List Finished → List (List Pending) → Type 0
+    → List RequestEnd → List (List Pending) → Type 0
 Whole s trees answered tells failmode round point old new after_standing after_tells finished left =
-    (end : RoundEnd (List Pending)) × IsEntered answered old new end finished left
+    (end : SeenEnd) × IsEntered answered old new end finished left
     × IsRoundEnd s round trees end
     × StandsAfter s after_standing round trees end
     × ((before : Images) → tells before → (after : Images) × after_tells after × IsRound (terms_at s failmode round point) trees before after end)
 
 -- the same from a runner that stands as it did, with the trees that were made
 pub whole_moved : (s mid after_standing : Standing) (trees made : List (List Pending)) (answered given : List Completion) (tells mid_tells after_tells : Images → Type 0)
-    (failmode : Failmode) (round point : ℕ) (old new : Journal) (finished : List Finished) (left : List (List Pending))
+    (failmode : Failmode) (round point : ℕ) (old new : Journal) (finished : List RequestEnd) (left : List (List Pending))
     → mid ≡ s → made ≡ trees → given ≡ answered → ((images : Images) → tells images → mid_tells images)
     → Whole mid made given mid_tells failmode round point old new after_standing after_tells finished left
     → Whole s trees answered tells failmode round point old new after_standing after_tells finished left

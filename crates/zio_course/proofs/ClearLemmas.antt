@@ -16,13 +16,12 @@ use Rattle.zio_gang.specs.Rounds.{Ran, block_of, bound_after, settle_each, used_
 use Rattle.zio_gang.specs.Runs.{Plan, Round, State, after_round, round_of, run_suspended, terms_of}
 use Rattle.zio_gang.specs.Trees.{sizes_of}
 use Rattle.zio_gang.proofs.FateLemmas.{of_trees, sum_flat, sum_map, tally}
-use Rattle.zio_report.specs.declared.report.Line.{Line}
+use Rattle.zio_report.specs.declared.report.ReportLine.{ReportLine}
 use Rattle.zio_report.specs.Reports.{by_number, line_of_ended, line_of_pending}
-use Rattle.zio_course.specs.declared.runner.Finished.{Finished}
-use Rattle.zio_course.specs.declared.runner.RoundEnd.{RoundEnd}
+use Rattle.zio_course.specs.declared.runner.RequestEnd.{RequestEnd}
 use Rattle.zio_course.specs.Entered.{IsBatchRun}
 use Rattle.zio_course.specs.Forests.{names_of}
-use Rattle.zio_course.specs.Runners.{AreRisingFrom, IsRound, IsRoundEnd, Standing, completion_for, finished_by_number, joined_trees, numbers_of, requests_in, terms_at}
+use Rattle.zio_course.specs.Runners.{AreRisingFrom, IsRound, IsRoundEnd, SeenEnd, Standing, completion_for, finished_by_number, joined_trees, numbers_of, requests_in, terms_at}
 use Rattle.zio_course.specs.Steps.{AreUnfinished, IsAt, IsNextRound, IsPlanOf}
 use Rattle.zio_course.specs.Told.{ended_told, line_told, no_error}
 use Rattle.zio_course.proofs.CourseLemmas.{ran_lines, settled_at}
@@ -72,7 +71,7 @@ trees_tally n trees =
 
 -- The round of the suspended trees, whose requests come by number, is the course's.
 pub suspended_round : (apart : Bool) (plan : Plan) (st : State) (s : Standing) (failmode : Failmode) (bound new_bound : List (List ℕ × Tree)) (suspended : List (List Pending)) (unfinished : List Request)
-    (point : ℕ) (before after : Images) (old new : Journal) (end : RoundEnd (List Pending)) (lines : List Line) (left : List (List Pending))
+    (point : ℕ) (before after : Images) (old new : Journal) (end : SeenEnd) (lines : List ReportLine) (left : List (List Pending))
     → IsPlanOf s failmode plan → IsAt s bound suspended old.rounds point before st
     → AreUnfinished suspended unfinished → NameApart apart unfinished
     → IsBatchRun no_error unfinished bound new_bound old new end lines left
@@ -89,8 +88,8 @@ suspended_round apart plan st s failmode bound new_bound suspended unfinished po
     ap (λ (ts : List (List Pending)). settle_each plan.journal (terms_of plan st) ts st.images) at.suspended_is
     ∙ settled_at plan st s failmode (old.rounds + 1) point end.entries suspended before plan_is at.point_is (ap (λ (n : ℕ). n + 1) at.rounds_is) at.used at.images_are own in
     let finished_is : end.finished ≡ finished_by_number ran_now.ended = round_is.finished_is in
-    let up : AreRisingFrom 0 (map (λ (f : Finished). f.request) (finished_by_number ran_now.ended)) =
-    subst (λ (fs : List Finished). AreRisingFrom 0 (map (λ (f : Finished). f.request) fs)) finished_is over.rising in
+    let up : AreRisingFrom 0 (map (λ (f : RequestEnd). f.request) (finished_by_number ran_now.ended)) =
+    subst (λ (fs : List RequestEnd). AreRisingFrom 0 (map (λ (f : RequestEnd). f.request) fs)) finished_is over.rising in
     let inside : AreTreesOf (λ (r : Request). IsOneOf r unfinished) suspended = among_trees suspended unfinished whole.among in
     let free : AreTreesOf (λ (r : Request). no_error r.number ≡ None) suspended = all_free suspended in
     let none : List Ended = [] in
@@ -104,7 +103,7 @@ suspended_round apart plan st s failmode bound new_bound suspended unfinished po
     let d = times_tally n unfinished in
     let e = trees_tally n suspended in omega arith)) up in
     let lines_same : by_number (map line_of_ended ran_now.ended ++ flat_map (map line_of_pending) ran_now.left) ≡ lines =
-    told ∙ (ap (λ (fs : List Finished). map (line_told no_error fs) unfinished) (sym finished_is) ∙ sym ran.lines_are) in
+    told ∙ (ap (λ (fs : List RequestEnd). map (line_told no_error fs) unfinished) (sym finished_is) ∙ sym ran.lines_are) in
     let round : Round = round_of st None none ran_st in (
       round,
       refl,
@@ -118,7 +117,7 @@ suspended_round apart plan st s failmode bound new_bound suspended unfinished po
             ap (λ (x : Ran). block_of (bound_after x.ended st.bound) name) ran_is
             ∙ (ran_names no_error unfinished ran_now.ended whole.rising (ran_of (λ (r : Request). IsOneOf r unfinished) end.entries t suspended before inside).0
             (ran_of (λ (r : Request). no_error r.number ≡ None) end.entries t suspended before free).0 up apart st.bound (names_of bound) name names (at.names name ∙ named_of name bound)
-            ∙ (ap (λ (fs : List Finished). block_of (bound_after (ended_told no_error fs unfinished) (names_of bound)) name) (sym finished_is) ∙ sym (ran.bound_is name)));
+            ∙ (ap (λ (fs : List RequestEnd). block_of (bound_after (ended_told no_error fs unfinished) (names_of bound)) name) (sym finished_is) ∙ sym (ran.bound_is name)));
         choices_are = subst (λ (asks : List Ask). AreChoicesOf (sizes_of s.tops) (used_places st.bound) asks end.entries) (ap (λ (x : Ran). x.asks) (sym ran_is))
             (choices_same (sizes_of s.tops) s.live (used_places st.bound) ran_now.asks end.entries (SamePlaces-back (used_places st.bound) s.live at.used) round_is.choices);
         completions_are = subst (λ (n : ℕ). AreCompletionsOf (n + 1) ran_st.ended end.completions) (sym at.rounds_is)
@@ -134,5 +133,5 @@ suspended_round apart plan st s failmode bound new_bound suspended unfinished po
         subst (λ (given : List Completion). AreCompletionsOf (old.rounds + 1) ended (given ++ end.completions)) (ap reverse (none_answered (old.rounds + 1) unfinished))
         (round_completions no_error (old.rounds + 1) unfinished nobody ended end.completions tt tt
         (all_true (IsAmongAnswered no_error nobody) unfinished (λ r x is. absurd (let never = is in cc)))
-        (subst (λ (fs : List Finished). AllByRecursion (λ c. Contains (map (completion_for (old.rounds + 1)) fs) c) end.completions) finished_is over.completed)
-        (subst (λ (fs : List Finished). AllByRecursion (λ c. Contains end.completions c) (map (completion_for (old.rounds + 1)) fs)) finished_is over.all_completed))
+        (subst (λ (fs : List RequestEnd). AllByRecursion (λ c. Contains (map (completion_for (old.rounds + 1)) fs) c) end.completions) finished_is over.completed)
+        (subst (λ (fs : List RequestEnd). AllByRecursion (λ c. Contains end.completions c) (map (completion_for (old.rounds + 1)) fs)) finished_is over.all_completed))

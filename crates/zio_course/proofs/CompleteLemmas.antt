@@ -14,12 +14,11 @@ use Rattle.zio_cksum.proofs.AllLemmas.{all_append, all_filter, all_weaker}
 use Rattle.zio_gang.specs.Attempts.{Pending}
 use Rattle.zio_gang.specs.Journals.{CompleteAfterChildren, CompleteOnce, is_child}
 use Rattle.zio_gang.specs.declared.tree.Tree.{Tree}
-use Rattle.zio_course.specs.declared.runner.Finished.{Finished}
-use Rattle.zio_course.specs.declared.runner.RoundEnd.{RoundEnd}
+use Rattle.zio_course.specs.declared.runner.RequestEnd.{RequestEnd}
 use Rattle.zio_course.specs.Answered.{answer_of, answered_in}
 use Rattle.zio_course.specs.Live.{IsRoundOver}
 use Rattle.zio_course.specs.Parents.{AreParented, has_numbered}
-use Rattle.zio_course.specs.Runners.{IsRoundEnd, Standing, completion_for, joined_trees, numbers_of, requests_in}
+use Rattle.zio_course.specs.Runners.{IsRoundEnd, SeenEnd, Standing, completion_for, joined_trees, numbers_of, requests_in}
 use Rattle.zio_course.specs.Steps.{AreUnfinished}
 use Rattle.zio_course.specs.Told.{finish_of}
 use Rattle.zio_course.proofs.AdmittedLemmas.{not_both}
@@ -241,11 +240,11 @@ past_stays P front own back test h =
 -- ---- what completes in a round
 
 -- a request of the round that was answered or finished
-abbrev pub IsDone : (ℕ → Option Errno) → List Finished → List Request → Completion → Type 0
+abbrev pub IsDone : (ℕ → Option Errno) → List RequestEnd → List Request → Completion → Type 0
 IsDone error finished rs c = (q : Request) × IsOneOf q rs × (q.number ≡ c.request) × (is_left error finished q ≡ false)
 
 -- what finished is of a request in the trees
-pub finished_done : (s : Standing) (round : ℕ) (apart : Bool) (trees : List (List Pending)) (end : RoundEnd (List Pending)) (requests : List Request) (error : ℕ → Option Errno) (bound : List (List ℕ × Tree))
+pub finished_done : (s : Standing) (round : ℕ) (apart : Bool) (trees : List (List Pending)) (end : SeenEnd) (requests : List Request) (error : ℕ → Option Errno) (bound : List (List ℕ × Tree))
     → IsRoundEnd s round trees end → IsRoundOver apart bound error requests trees
     → AllByRecursion (λ (c : Completion). (q : Request) × IsOneOf q (requests_in trees) × (q.number ≡ c.request) × (finish_of end.finished q.number ≡ None → ⊥)) end.completions
 finished_done s round apart trees end requests error bound over known =
@@ -254,10 +253,10 @@ finished_done s round apart trees end requests error bound over known =
     contains_one c (map (completion_for round) end.finished) (one_all (λ d. Contains (map (completion_for round) end.finished) d) c end.completions over.completed at) in
     let f = mapped (completion_for round) end.finished c there in
     let number : f.0.request ≡ c.request = ap (λ (d : Completion). d.request) f.2 in
-    let some : 1 ≤ times f.0.request (map (λ (g : Finished). g.request) end.finished) =
-    one_all (λ n. 1 ≤ times n (map (λ (g : Finished). g.request) end.finished)) f.0.request (map (λ (g : Finished). g.request) end.finished) (own_times (map (λ (g : Finished). g.request) end.finished))
-    (one_map (λ (g : Finished). g.request) f.0 end.finished f.1) in
-    let a = times_is f.0.request (map (λ (g : Finished). g.request) end.finished) in
+    let some : 1 ≤ times f.0.request (map (λ (g : RequestEnd). g.request) end.finished) =
+    one_all (λ n. 1 ≤ times n (map (λ (g : RequestEnd). g.request) end.finished)) f.0.request (map (λ (g : RequestEnd). g.request) end.finished) (own_times (map (λ (g : RequestEnd). g.request) end.finished))
+    (one_map (λ (g : RequestEnd). g.request) f.0 end.finished f.1) in
+    let a = times_is f.0.request (map (λ (g : RequestEnd). g.request) end.finished) in
     let b = times_is f.0.request (numbers_of (requests_in trees)) in
     let split = over.each f.0.request in
     let q = times_has f.0.request (requests_in trees) (omega arith) in
@@ -355,7 +354,7 @@ after_in all rs (c ∷ cs) up among of h = (
 -- ---- the completions of a round
 
 -- What a round adds to the completions: each request once, behind its children, and each of a request of the round that is done.
-pub record Completes (all : List Request) (error : ℕ → Option Errno) (finished : List Finished) (rs : List Request) (done : List Completion) : Type 0 where
+pub record Completes (all : List Request) (error : ℕ → Option Errno) (finished : List RequestEnd) (rs : List Request) (done : List Completion) : Type 0 where
   pub once : CompleteOnce done
   pub after : CompleteAfterChildren all done
   pub of : AllByRecursion (IsDone error finished rs) done
@@ -367,12 +366,12 @@ right_if : (a b : Bool) → b ≡ false → (a && b) ≡ false
 right_if true b e = e
 right_if false b e = refl
 
-some_left : (o : Option Finished) → (o ≡ None → ⊥) → is_none o ≡ false
+some_left : (o : Option RequestEnd) → (o ≡ None → ⊥) → is_none o ≡ false
 some_left None h = absurd (h refl)
 some_left (Some f) h = refl
 
 -- where nothing was answered
-pub ends_complete : (s : Standing) (round : ℕ) (apart : Bool) (all : List Request) (trees : List (List Pending)) (end : RoundEnd (List Pending)) (requests : List Request) (error : ℕ → Option Errno) (bound : List (List ℕ × Tree))
+pub ends_complete : (s : Standing) (round : ℕ) (apart : Bool) (all : List Request) (trees : List (List Pending)) (end : SeenEnd) (requests : List Request) (error : ℕ → Option Errno) (bound : List (List ℕ × Tree))
     → AreRising all → AllByRecursion (λ (q : Request). IsOneOf q all) requests → IsRoundEnd s round trees end → IsRoundOver apart bound error requests trees
     → Completes all error end.finished requests end.completions
 ends_complete s round apart all trees end requests error bound up_all among over known =
@@ -400,7 +399,7 @@ ends_complete s round apart all trees end requests error bound up_all among over
     in_requests P [] h = tt
     in_requests P (p ∷ ps) h = (h.0, in_requests P ps h.1)
 
-pub round_completes : (s : Standing) (round : ℕ) (apart : Bool) (all : List Request) (trees : List (List Pending)) (end : RoundEnd (List Pending)) (requests : List Request) (error : ℕ → Option Errno) (bound : List (List ℕ × Tree))
+pub round_completes : (s : Standing) (round : ℕ) (apart : Bool) (all : List Request) (trees : List (List Pending)) (end : SeenEnd) (requests : List Request) (error : ℕ → Option Errno) (bound : List (List ℕ × Tree))
     → AreRising all → AllByRecursion (λ (q : Request). IsOneOf q all) requests → AreRising requests → AreBelow requests → AllByRecursion AreParented trees
     → IsRoundEnd s round trees end → IsRoundOver apart bound error requests trees
     → Completes all error end.finished requests (reverse (answered_in error round requests) ++ end.completions)

@@ -22,7 +22,7 @@ use Rattle.zio_gang.specs.Runs.{Plan, State, terms_of}
 use Rattle.zio_gang.proofs.DependenceLemmas.{choices_law, used_law}
 use Rattle.zio_gang.proofs.FateLemmas.{admitted_sum, batch_held, of_ended, of_trees, pending_sum, sum_flat, sum_map, tally, tally-append, trees_sum}
 use Rattle.zio_report.specs.Reports.{by_number, line_of_ended, line_of_pending}
-use Rattle.zio_course.specs.declared.runner.Finished.{Finished}
+use Rattle.zio_course.specs.declared.runner.RequestEnd.{RequestEnd}
 use Rattle.zio_course.specs.Runners.{AreRisingFrom, Standing, finished_by_number, finished_of, joined_trees, requests_in, terms_at}
 use Rattle.zio_course.specs.Steps.{IsPlanOf}
 use Rattle.zio_course.specs.Told.{finish_of, line_told}
@@ -127,7 +127,7 @@ trees_all P names birth [] h = tt
 trees_all P names birth (tree ∷ trees) h =
     (all_map (λ (p : Pending). P p.request) (pending names birth) tree h.0, trees_all P names birth trees h.1)
 
-judge_if : (error : ℕ → Option Errno) (finished : List Finished) (e : Option Errno) (tree : List Request) (others : Admitted)
+judge_if : (error : ℕ → Option Errno) (finished : List RequestEnd) (e : Option Errno) (tree : List Request) (others : Admitted)
     → AllByRecursion (λ (q : Request). error q.number ≡ e) tree
     → AllByRecursion (IsTold error finished) others.answered × AllByRecursion (λ t. AllByRecursion (λ (q : Request). error q.number ≡ None) t) others.trees
     → AllByRecursion (IsTold error finished) (admit_with e tree others).answered
@@ -141,7 +141,7 @@ judge_if error finished (Some e) tree others h rest = (
 judge_if error finished None tree others h rest = (rest.0, (h, rest.1))
 
 -- what was answered has its error's line, and what runs was not answered
-pub judged_lines : (error : ℕ → Option Errno) (finished : List Finished) (suspended : List (List Pending)) (bound : List ℕ → Bool) (trees : List (List Request))
+pub judged_lines : (error : ℕ → Option Errno) (finished : List RequestEnd) (suspended : List (List Pending)) (bound : List ℕ → Bool) (trees : List (List Request))
     → Judge error (admission suspended bound) trees
     → AllByRecursion (IsTold error finished) (admitted suspended bound trees).answered
     × AllByRecursion (λ t. AllByRecursion (λ (q : Request). error q.number ≡ None) t) (admitted suspended bound trees).trees
@@ -188,15 +188,15 @@ none_numbered n (e ∷ es) h = (
   none_numbered n es (let some : one_if (eqb e.request.number n) + tally (λ (x : Ended). one_if (eqb x.request.number n)) es ≡ 0 = h in omega arith),
 )
 
-lacks_all : (n : ℕ) (fs : List Finished) → AllByRecursion (λ (f : Finished). eqb f.request n ≡ false) fs → finish_of fs n ≡ None
+lacks_all : (n : ℕ) (fs : List RequestEnd) → AllByRecursion (λ (f : RequestEnd). eqb f.request n ≡ false) fs → finish_of fs n ≡ None
 lacks_all n [] h = refl
 lacks_all n (f ∷ fs) h = ap (λ (b : Bool). cond b (Some f) (finish_of fs n)) h.0 ∙ lacks_all n fs h.1
 
 -- nothing finished with a number that no request that ended has
 pub ended_lacks : (n : ℕ) (es : List Ended) → of_ended (λ (r : Request). one_if (eqb r.number n)) es ≡ 0 → finish_of (finished_by_number es) n ≡ None
 ended_lacks n es none =
-    lacks_all n (finished_by_number es) (all_merge (λ (f : Finished). f.request) (λ (f : Finished). eqb f.request n ≡ false) (map finished_of es)
-    (all_map (λ (f : Finished). eqb f.request n ≡ false) finished_of es (none_numbered n es none)))
+    lacks_all n (finished_by_number es) (all_merge (λ (f : RequestEnd). f.request) (λ (f : RequestEnd). eqb f.request n ≡ false) (map finished_of es)
+    (all_map (λ (f : RequestEnd). eqb f.request n ≡ false) finished_of es (none_numbered n es none)))
 
 one_weighed : (p : Pending) (tree : List Pending) → IsOneOf p tree → 1 ≤ tally (λ (q : Pending). one_if (eqb q.request.number p.request.number)) tree
 one_weighed p [] at = absurd at
@@ -225,11 +225,11 @@ pub ran_lines : (error : ℕ → Option Errno) (requests : List Request) (answer
     → AreTreesOf (λ (r : Request). error r.number ≡ None) trees
     → ((n : ℕ) → of_ended (λ (r : Request). one_if (eqb r.number n)) answered + of_trees (λ (r : Request). one_if (eqb r.number n)) trees
     ≡ tally (λ (r : Request). one_if (eqb r.number n)) requests)
-    → AreRisingFrom 0 (map (λ (f : Finished). f.request) (finished_by_number ran.ended))
+    → AreRisingFrom 0 (map (λ (f : RequestEnd). f.request) (finished_by_number ran.ended))
     → by_number (map line_of_ended (answered ++ ran.ended) ++ flat_map (map line_of_pending) ran.left) ≡ map (line_told error (finished_by_number ran.ended)) requests
 ran_lines error requests answered trees j t images rising told among tree_among none sums up =
     let ran : Ran = settle_each j t trees images in
-    let finished : List Finished = finished_by_number ran.ended in
+    let finished : List RequestEnd = finished_by_number ran.ended in
     let inside = ran_of (λ (r : Request). IsOneOf r requests) j t trees images tree_among in
     let free = ran_of (λ (r : Request). error r.number ≡ None) j t trees images none in
     let ended_told : AllByRecursion (IsTold error finished) ran.ended = all_one (IsTold error finished) ran.ended
@@ -269,12 +269,12 @@ pub batch_lines : (error : ℕ → Option Errno) (suspended : List (List Pending
     → let a : Admitted = admitted suspended bound (trees_of requests) in
     let ran : Ran = settle_each j t (pending_trees names birth a.trees) images in
     AreRising requests → AreBehindParents [] requests → Judge error (admission suspended bound) (trees_of requests)
-    → AreRisingFrom 0 (map (λ (f : Finished). f.request) (finished_by_number ran.ended))
+    → AreRisingFrom 0 (map (λ (f : RequestEnd). f.request) (finished_by_number ran.ended))
     → by_number (map line_of_ended (a.answered ++ ran.ended) ++ flat_map (map line_of_pending) ran.left) ≡ map (line_told error (finished_by_number ran.ended)) requests
 batch_lines error suspended bound requests names birth j t images rising behind judge up =
     let a : Admitted = admitted suspended bound (trees_of requests) in
     let trees : List (List Pending) = pending_trees names birth a.trees in
-    let finished : List Finished = finished_by_number (settle_each j t trees images).ended in
+    let finished : List RequestEnd = finished_by_number (settle_each j t trees images).ended in
     let inside = admit_all (λ (r : Request). IsOneOf r requests) suspended bound (trees_of requests) (all_in_trees (λ (r : Request). IsOneOf r requests) requests (one_itself requests)) in
     let judged = judged_lines error finished suspended bound (trees_of requests) judge in
     ran_lines error requests a.answered trees j t images rising judged.0 inside.0

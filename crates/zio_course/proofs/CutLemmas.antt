@@ -24,7 +24,7 @@ use Rattle.zio_gang.specs.Journals.{choices_in, completions_in}
 use Rattle.zio_gang.specs.Rounds.{Admitted, Binding, Bound, admitted, block_of, is_bound, pending_trees, trees_of, used_places}
 use Rattle.zio_gang.specs.Runs.{Course, Event, Plan, State, has_trees, plan_of, rounds_of, run_batch, run_suspended, then_course}
 use Rattle.zio_gang.specs.Runs.Event.{RanRound, HeldBatch}
-use Rattle.zio_report.specs.declared.report.Line.{Line}
+use Rattle.zio_report.specs.declared.report.ReportLine.{ReportLine}
 use Rattle.zio_report.specs.declared.report.RoundHead.{RoundHead}
 use Rattle.zio_report.specs.declared.report.RunFault.{RunFault}
 use Rattle.zio_report.specs.declared.report.RunFault.TheVariants.{Device, Sink, Memory}
@@ -76,7 +76,7 @@ order_ends (c ∷ cs) = line_ends (codes "order" ++ flat_map (λ (d : Completion
 head_ends : (head : RoundHead) → EndsWhole (head_text head)
 head_ends head = line_ends (codes "round " ++ decimal head.round ++ spaced (batch_text head.batch) ++ codes " point " ++ decimal head.point)
 
-one_ends : (bytes : Bool) (line : Line) → EndsWhole (line_text bytes line)
+one_ends : (bytes : Bool) (line : ReportLine) → EndsWhole (line_text bytes line)
 one_ends bytes line = line_ends (decimal line.number ++ spaced (kind_text line.kind) ++ name_text line.name ++ spaced (result_text bytes line.result))
 
 choice_ends : (c : Choice) → EndsWhole (choice_text c)
@@ -85,7 +85,7 @@ choice_ends c =
     ++ spaced (path_text c.asked.key.path) ++ spaced (role_text c.asked.key.role) ++ spaced (decimal c.asked.size)
     ++ spaced (decimal c.asked.copies) ++ flat_map place_text c.places ++ when (is_refused c) (codes " refused"))
 
-round_ends : (show : Show) (head : RoundHead) (lines : List Line) (choices : List Choice) (done : List Completion) → EndsWhole (round_text show head lines choices done)
+round_ends : (show : Show) (head : RoundHead) (lines : List ReportLine) (choices : List Choice) (done : List Completion) → EndsWhole (round_text show head lines choices done)
 round_ends (Report journal bytes) head lines choices done =
     ends_both (head_text head ++ flat_map (line_text bytes) lines) (when journal (journal_text choices done))
     (ends_both (head_text head) (flat_map (line_text bytes) lines) (head_ends head) (all_end (line_text bytes) lines (one_ends bytes)))

@@ -9,7 +9,7 @@ use Rattle.zio_cksum.proofs.AllLemmas.{all_append, all_contained, all_contains, 
 use Rattle.zio_gang.specs.Attempts.{Ended}
 use Rattle.zio_gang.specs.Journals.{AreCompletionsOf, completion_of}
 use Rattle.zio_gang.specs.Rounds.{answered_with}
-use Rattle.zio_course.specs.declared.runner.Finished.{Finished}
+use Rattle.zio_course.specs.declared.runner.RequestEnd.{RequestEnd}
 use Rattle.zio_course.specs.Answered.{answer_of, answered_in}
 use Rattle.zio_course.specs.Runners.{completion_for, finished_by_number, finished_of}
 use Rattle.zio_course.proofs.SortLemmas.{IsOneOf, all_merge, all_one, one_all, one_itself, one_left, one_map, one_merge, one_right}
@@ -67,10 +67,10 @@ map_both : {X Y : Type 0} (f : X → Y) (xs ys : List X) → map f (xs ++ ys) �
 map_both f [] ys = refl
 map_both f (x ∷ xs) ys = ap (λ (zs : List _). f x ∷ zs) (map_both f xs ys)
 
-finish_in : (round : ℕ) (ended : List Ended) → AllByRecursion (λ (f : Finished). IsOneOf (completion_for round f) (map (completion_of round) ended)) (finished_by_number ended)
+finish_in : (round : ℕ) (ended : List Ended) → AllByRecursion (λ (f : RequestEnd). IsOneOf (completion_for round f) (map (completion_of round) ended)) (finished_by_number ended)
 finish_in round ended =
-    all_merge (λ (f : Finished). f.request) (λ (f : Finished). IsOneOf (completion_for round f) (map (completion_of round) ended)) (map finished_of ended)
-    (all_map (λ (f : Finished). IsOneOf (completion_for round f) (map (completion_of round) ended)) finished_of ended
+    all_merge (λ (f : RequestEnd). f.request) (λ (f : RequestEnd). IsOneOf (completion_for round f) (map (completion_of round) ended)) (map finished_of ended)
+    (all_map (λ (f : RequestEnd). IsOneOf (completion_for round f) (map (completion_of round) ended)) finished_of ended
     (all_one (λ (e : Ended). IsOneOf (completion_for round (finished_of e)) (map (completion_of round) ended)) ended
     (λ e at. one_map (completion_of round) e ended at)))
 
@@ -114,5 +114,5 @@ round_completions error round requests answered ended done are among all complet
           (contains_one (completion_of round e) done
           (one_all (λ c. Contains done c) (completion_of round e) (map (completion_for round) (finished_by_number ended)) every
           (one_map (completion_for round) (finished_of e) (finished_by_number ended)
-          (one_merge (λ (f : Finished). f.request) (finished_of e) (map finished_of ended) (one_map finished_of e ended at))))))))));
+          (one_merge (λ (f : RequestEnd). f.request) (finished_of e) (map finished_of ended) (one_map finished_of e ended at))))))))));
     }

@@ -7,7 +7,7 @@ use Rattle.zio_script.specs.declared.script.Request.{Request}
 use Rattle.zio_script.specs.Accepted.{AreRising}
 use Rattle.zio_gang.specs.Attempts.{Pending}
 use Rattle.zio_gang.specs.Rounds.{Bound, pending, pending_trees, put_before, trees_of, with_request, with_requests}
-use Rattle.zio_course.specs.declared.runner.Finished.{Finished}
+use Rattle.zio_course.specs.declared.runner.RequestEnd.{RequestEnd}
 use Rattle.zio_course.specs.Admissions.{has_number}
 use Rattle.zio_course.specs.Runners.{AreRisingFrom, is_numbered, joined_trees, numbers_of, requests_in}
 use Rattle.zio_course.specs.Told.{AreFinishedOf}
@@ -122,19 +122,19 @@ behind r rs m h has =
     let other : eqb r.number m ≡ false = false_from_ne_true (eqb r.number m) (λ e. let same : r.number ≡ m = eqb-true r.number m e in omega arith) in
     sym (ap (λ (b : Bool). b || has_number m rs) other) ∙ has
 
-all_behind : (r : Request) (rs : List Request) (least : ℕ) (fs : List Finished) → r.number < least
-    → AreRisingFrom least (map (λ (f : Finished). f.request) fs) → AllByRecursion (λ (f : Finished). has_number f.request (r ∷ rs) ≡ true) fs
-    → AllByRecursion (λ (f : Finished). has_number f.request rs ≡ true) fs
+all_behind : (r : Request) (rs : List Request) (least : ℕ) (fs : List RequestEnd) → r.number < least
+    → AreRisingFrom least (map (λ (f : RequestEnd). f.request) fs) → AllByRecursion (λ (f : RequestEnd). has_number f.request (r ∷ rs) ≡ true) fs
+    → AllByRecursion (λ (f : RequestEnd). has_number f.request rs ≡ true) fs
 all_behind r rs least [] low rising h = tt
 all_behind r rs least (f ∷ fs) low rising h = (
   behind r rs f.request (omega (arith, rising.0)) h.0,
   all_behind r rs (f.request + 1) fs (omega (arith, rising.0)) rising.1 h.1,
 )
 
-of_some_if : (b : Bool) (r : Request) (rs : List Request) (least : ℕ) (f : Finished) (fs : List Finished) → eqb r.number f.request ≡ b
+of_some_if : (b : Bool) (r : Request) (rs : List Request) (least : ℕ) (f : RequestEnd) (fs : List RequestEnd) → eqb r.number f.request ≡ b
     → AllByRecursion (λ (q : Request). r.number < q.number) rs
-    → AreRisingFrom least (map (λ (f : Finished). f.request) (f ∷ fs)) → AllByRecursion (λ (f : Finished). has_number f.request (r ∷ rs) ≡ true) (f ∷ fs)
-    → ((l : ℕ) (gs : List Finished) → AreRisingFrom l (map (λ (f : Finished). f.request) gs) → AllByRecursion (λ (f : Finished). has_number f.request rs ≡ true) gs → AreFinishedOf rs gs)
+    → AreRisingFrom least (map (λ (f : RequestEnd). f.request) (f ∷ fs)) → AllByRecursion (λ (f : RequestEnd). has_number f.request (r ∷ rs) ≡ true) (f ∷ fs)
+    → ((l : ℕ) (gs : List RequestEnd) → AreRisingFrom l (map (λ (f : RequestEnd). f.request) gs) → AllByRecursion (λ (f : RequestEnd). has_number f.request rs ≡ true) gs → AreFinishedOf rs gs)
     → AreFinishedOf (r ∷ rs) (f ∷ fs)
 of_some_if true r rs least f fs e above rising h later =
     let same : r.number ≡ f.request = eqb-true r.number f.request e in
@@ -148,28 +148,28 @@ none_finish : (rs : List Request) → AreFinishedOf rs []
 none_finish [] = tt
 none_finish (r ∷ rs) = tt
 
-pub of_some : (rs : List Request) (least : ℕ) (fs : List Finished) → AreRising rs → AreRisingFrom least (map (λ (f : Finished). f.request) fs)
-    → AllByRecursion (λ (f : Finished). has_number f.request rs ≡ true) fs → AreFinishedOf rs fs
+pub of_some : (rs : List Request) (least : ℕ) (fs : List RequestEnd) → AreRising rs → AreRisingFrom least (map (λ (f : RequestEnd). f.request) fs)
+    → AllByRecursion (λ (f : RequestEnd). has_number f.request rs ≡ true) fs → AreFinishedOf rs fs
 of_some rs least [] rising low h = none_finish rs
 of_some [] least (f ∷ fs) rising low h = absurd (let no = h.0 in cc)
 of_some (r ∷ rs) least (f ∷ fs) rising low h =
     of_some_if (eqb r.number f.request) r rs least f fs refl rising.0 low h (λ l gs up has. of_some rs l gs rising.1 up has)
 
 -- where each request finished or is left, what finished is of some requests of the batch, in their order
-pub finished_of_batch : (bound : Bound) (birth : ℕ) (rs : List Request) (finished : List Finished) (left : List ℕ) → AreRising rs
-    → AreRisingFrom 0 (map (λ (f : Finished). f.request) finished)
+pub finished_of_batch : (bound : Bound) (birth : ℕ) (rs : List Request) (finished : List RequestEnd) (left : List ℕ) → AreRising rs
+    → AreRisingFrom 0 (map (λ (f : RequestEnd). f.request) finished)
     → ((n : ℕ) → count_by (is_numbered n) (numbers_of (requests_in (pending_trees bound birth (trees_of rs))))
-    ≡ count_by (is_numbered n) (map (λ (f : Finished). f.request) finished) + count_by (is_numbered n) left)
+    ≡ count_by (is_numbered n) (map (λ (f : RequestEnd). f.request) finished) + count_by (is_numbered n) left)
     → AreFinishedOf rs finished
 finished_of_batch bound birth rs finished left rising up each =
     of_some rs 0 finished rising up
     (numbered finished (λ n some. true_if (has_number n rs) (λ none.
     (let absent = lacking n bound birth rs none in
-    let count = times_is n (map (λ (f : Finished). f.request) finished) in
-    let split = each n in omega arith))) (own_times (map (λ (f : Finished). f.request) finished)))
+    let count = times_is n (map (λ (f : RequestEnd). f.request) finished) in
+    let split = each n in omega arith))) (own_times (map (λ (f : RequestEnd). f.request) finished)))
   where
-    numbered : (fs : List Finished) → ((n : ℕ) → 1 ≤ times n (map (λ (f : Finished). f.request) finished) → has_number n rs ≡ true)
-        → AllByRecursion (λ n. 1 ≤ times n (map (λ (f : Finished). f.request) finished)) (map (λ (f : Finished). f.request) fs)
-        → AllByRecursion (λ (f : Finished). has_number f.request rs ≡ true) fs
+    numbered : (fs : List RequestEnd) → ((n : ℕ) → 1 ≤ times n (map (λ (f : RequestEnd). f.request) finished) → has_number n rs ≡ true)
+        → AllByRecursion (λ n. 1 ≤ times n (map (λ (f : RequestEnd). f.request) finished)) (map (λ (f : RequestEnd). f.request) fs)
+        → AllByRecursion (λ (f : RequestEnd). has_number f.request rs ≡ true) fs
     numbered [] has h = tt
     numbered (f ∷ fs) has h = (has f.request h.0, numbered fs has h.1)

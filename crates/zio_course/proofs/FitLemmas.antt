@@ -10,7 +10,7 @@ use Rattle.zio_cksum.proofs.AllLemmas.{all_append}
 use Rattle.zio_gang.specs.declared.tree.Tree.{Tree}
 use Rattle.zio_gang.specs.Attempts.{Ended}
 use Rattle.zio_gang.specs.Rounds.{Bound, block_of, bound_after, bound_by, bound_unless}
-use Rattle.zio_course.specs.declared.runner.Finished.{Finished}
+use Rattle.zio_course.specs.declared.runner.RequestEnd.{RequestEnd}
 use Rattle.zio_course.specs.Forests.{names_of}
 use Rattle.zio_course.specs.Names.{named_in}
 use Rattle.zio_course.specs.Runners.{made_trees}
@@ -50,26 +50,26 @@ module _ (fits : Tree → Type 0) where
   first_fits None trees h = (tt, h)
   first_fits (Some tree) trees h = (h.0, h.1)
 
-  each_fits : (finished : List Finished) → AllByRecursion fits (made_trees finished) → AllByRecursion (λ (f : Finished). IfSome f.tree fits) finished
+  each_fits : (finished : List RequestEnd) → AllByRecursion fits (made_trees finished) → AllByRecursion (λ (f : RequestEnd). IfSome f.tree fits) finished
   each_fits [] h = tt
   each_fits (f ∷ fs) h = let both = first_fits f.tree (made_trees fs) h in (both.0, each_fits fs both.1)
 
-  ended_fits : (error : Option Errno) (f : Option Finished) (r : Request) → ((x : Finished) → f ≡ Some x → IfSome x.tree fits)
+  ended_fits : (error : Option Errno) (f : Option RequestEnd) (r : Request) → ((x : RequestEnd) → f ≡ Some x → IfSome x.tree fits)
       → AllByRecursion (λ (e : Ended). IfSome e.tree fits) (ended_by error f r)
   ended_fits (Some e) f r h = tt
   ended_fits None None r h = tt
   ended_fits None (Some f) r h = (h f refl, tt)
 
-  told_fits : (error : ℕ → Option Errno) (finished : List Finished) (requests : List Request) → AllByRecursion (λ (f : Finished). IfSome f.tree fits) finished
+  told_fits : (error : ℕ → Option Errno) (finished : List RequestEnd) (requests : List Request) → AllByRecursion (λ (f : RequestEnd). IfSome f.tree fits) finished
       → AllByRecursion (λ (e : Ended). IfSome e.tree fits) (ended_told error finished requests)
   told_fits error finished [] h = tt
   told_fits error finished (r ∷ rs) h =
       all_append (λ (e : Ended). IfSome e.tree fits) (ended_by (error r.number) (finish_of finished r.number) r) (ended_told error finished rs)
-      (ended_fits (error r.number) (finish_of finished r.number) r (λ f is. found_holds (λ (x : Finished). IfSome x.tree fits) finished r.number f h is))
+      (ended_fits (error r.number) (finish_of finished r.number) r (λ f is. found_holds (λ (x : RequestEnd). IfSome x.tree fits) finished r.number f h is))
       (told_fits error finished rs h)
 
   -- the blocks of the names that are bound after what is told of a round
-  pub bound_fits : (error : ℕ → Option Errno) (finished : List Finished) (requests : List Request) (old new : List (List ℕ × Tree))
+  pub bound_fits : (error : ℕ → Option Errno) (finished : List RequestEnd) (requests : List Request) (old new : List (List ℕ × Tree))
       → ((name : List ℕ) → IfSome (named_in old name) fits) → AllByRecursion fits (made_trees finished)
       → ((name : List ℕ) → named_in new name ≡ block_of (bound_after (ended_told error finished requests) (names_of old)) name)
       → (name : List ℕ) → IfSome (named_in new name) fits

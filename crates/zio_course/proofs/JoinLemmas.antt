@@ -20,15 +20,14 @@ use Rattle.zio_gang.specs.Rounds.{Admitted, admission, admitted, block_if, block
 use Rattle.zio_gang.specs.Runs.{has_trees}
 use Rattle.zio_gang.proofs.FateLemmas.{admitted_sum, batch_held, of_ended, of_trees, pending_sum, tally}
 use Rattle.zio_course.specs.declared.admission.Rules.{Rules}
-use Rattle.zio_course.specs.declared.runner.Finished.{Finished}
-use Rattle.zio_course.specs.declared.runner.RoundEnd.{RoundEnd}
+use Rattle.zio_course.specs.declared.runner.RequestEnd.{RequestEnd}
 use Rattle.zio_course.specs.Admissions.{IsAdmission, error_in}
 use Rattle.zio_course.specs.Admitted.{AreAwaited}
 use Rattle.zio_course.specs.Folds.{AreSuspended, is_named_by}
 use Rattle.zio_course.specs.Forests.{names_of, running}
 use Rattle.zio_course.specs.Live.{IsLive, IsRoundOver}
 use Rattle.zio_course.specs.Names.{is_some_name, named_in}
-use Rattle.zio_course.specs.Runners.{AreRisingFrom, AreRunnable, IsRoundEnd, Standing, has_claim, is_numbered, joined_trees, numbers_of, requests_in, root_of, roots_of, rows_tell_apart}
+use Rattle.zio_course.specs.Runners.{AreRisingFrom, AreRunnable, IsRoundEnd, SeenEnd, Standing, has_claim, is_numbered, joined_trees, numbers_of, requests_in, root_of, roots_of, rows_tell_apart}
 use Rattle.zio_course.specs.Steps.{AreUnfinished}
 use Rattle.zio_course.specs.Told.{ended_by, ended_told, finish_of, no_error}
 use Rattle.zio_course.proofs.AdmissionLemmas.{stand_once}
@@ -197,20 +196,20 @@ no_change (Write n sum copies prio body) name free c = absurd (let no = free in 
 no_change (Free n) name free c = absurd (let no = free in cc)
 no_change (Claim n pointer) name free c = absurd (let no = free in cc)
 
-ended_free : (error : ℕ → Option Errno) (finished : List Finished) (P : Request → Type 0) (rs : List Request) → AllByRecursion (λ (r : Request). error r.number ≡ None → P r) rs
+ended_free : (error : ℕ → Option Errno) (finished : List RequestEnd) (P : Request → Type 0) (rs : List Request) → AllByRecursion (λ (r : Request). error r.number ≡ None → P r) rs
     → AllByRecursion (λ (e : Ended). P e.request) (ended_told error finished rs)
 ended_free error finished P [] h = tt
 ended_free error finished P (r ∷ rs) h =
     all_append (λ (e : Ended). P e.request) (ended_by (error r.number) (finish_of finished r.number) r) (ended_told error finished rs)
     (go (error r.number) (finish_of finished r.number) refl) (ended_free error finished P rs h.1)
   where
-    go : (o : Option Errno) (f : Option Finished) → error r.number ≡ o → AllByRecursion (λ (e : Ended). P e.request) (ended_by o f r)
+    go : (o : Option Errno) (f : Option RequestEnd) → error r.number ≡ o → AllByRecursion (λ (e : Ended). P e.request) (ended_by o f r)
     go (Some x) f is = tt
     go None None is = tt
     go None (Some f) is = (h.0 is, tt)
 
 -- the bound names stay as they are
-names_stay : (error : ℕ → Option Errno) (finished : List Finished) (suspended : List (List Pending)) (rs : List Request) (bound after : List (List ℕ × Tree))
+names_stay : (error : ℕ → Option Errno) (finished : List RequestEnd) (suspended : List (List Pending)) (rs : List Request) (bound after : List (List ℕ × Tree))
     → AllByRecursion (GoesBeside error suspended) rs
     → ((name : List ℕ) → named_in after name ≡ block_of (bound_after (ended_told error finished rs) (names_of bound)) name)
     → (name : List ℕ) → named_in after name ≡ named_in bound name
@@ -473,7 +472,7 @@ none_of : (o : Option Errno) (b : Bool) → (is_none o && b) ≡ true → o ≡ 
 none_of None b e = refl
 none_of (Some x) b e = absurd (let no = e in cc)
 
-pub batch_suspended : (s : Standing) (round number : ℕ) (awaited : List ℕ → Bool) (suspended : List (List Pending)) (unfinished : List Request) (bound after : List (List ℕ × Tree)) (items : List Item) (slots : List (ℕ × ℕ)) (rules : List Rules) (end : RoundEnd (List Pending))
+pub batch_suspended : (s : Standing) (round number : ℕ) (awaited : List ℕ → Bool) (suspended : List (List Pending)) (unfinished : List Request) (bound after : List (List ℕ × Tree)) (items : List Item) (slots : List (ℕ × ℕ)) (rules : List Rules) (end : SeenEnd)
     → AreSuspended (rows_tell_apart s.rows) bound suspended unfinished → IsLive s.live bound → AreAwaited suspended awaited
     → AreRising (unfinished ++ requests_of items) → IsOrderlyBatch (rows_tell_apart s.rows) (requests_of items)
     → IsAdmission (has_trees suspended) awaited (is_some_name bound) (trees_of (requests_of items)) slots rules
@@ -518,7 +517,7 @@ batch_suspended s round number awaited suspended unfinished bound after items sl
         ap (λ (b : Bool). b && not (may_share apart m.work u.work)) differs))))
 
 -- What the round of a `clear` leaves waits for the next one.
-pub clear_suspended : (s : Standing) (round : ℕ) (suspended : List (List Pending)) (unfinished : List Request) (bound after : List (List ℕ × Tree)) (end : RoundEnd (List Pending))
+pub clear_suspended : (s : Standing) (round : ℕ) (suspended : List (List Pending)) (unfinished : List Request) (bound after : List (List ℕ × Tree)) (end : SeenEnd)
     → AreSuspended (rows_tell_apart s.rows) bound suspended unfinished → IsLive s.live bound → IsRoundEnd s round suspended end
     → ((name : List ℕ) → named_in after name ≡ block_of (bound_after (ended_told no_error end.finished unfinished) (names_of bound)) name)
     → AreSuspended (rows_tell_apart s.rows) after end.left (filter (is_left no_error end.finished) unfinished)

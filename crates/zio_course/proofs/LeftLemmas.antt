@@ -7,8 +7,7 @@ use Rattle.zio_script.specs.declared.script.Request.{Request}
 use Rattle.zio_script.specs.Accepted.{NameApart}
 use Rattle.zio_cksum.proofs.AllLemmas.{all_map, all_weaker}
 use Rattle.zio_gang.specs.Attempts.{Pending}
-use Rattle.zio_course.specs.declared.runner.RoundEnd.{RoundEnd}
-use Rattle.zio_course.specs.Runners.{AreRestsOf, AreRisingFrom, AreRunnable, IsRestOf, IsRoundEnd, IsSamePending, Standing, StandsAfter, has_claim, is_numbered, joined_trees, named_places, numbers_of, requests_in, root_of, roots_of, rows_tell_apart}
+use Rattle.zio_course.specs.Runners.{AreRestsOf, AreRisingFrom, AreRunnable, IsRestOf, IsRoundEnd, IsSamePending, SeenEnd, Standing, StandsAfter, has_claim, is_numbered, joined_trees, named_places, numbers_of, requests_in, root_of, roots_of, rows_tell_apart}
 use Rattle.zio_course.proofs.AdmittedLemmas.{not_both}
 use Rattle.zio_course.proofs.BlockLemmas.{AreBetween, IsOwnApart, still_between, still_own}
 use Rattle.zio_course.proofs.DoneLemmas.{contains_one, one_contains}
@@ -188,7 +187,7 @@ left_between ps qs rests between p q at here differ =
 
 -- ---- all together
 
-pub left_runnable : (s new : Standing) (round : ℕ) (trees : List (List Pending)) (end : RoundEnd (List Pending))
+pub left_runnable : (s new : Standing) (round : ℕ) (trees : List (List Pending)) (end : SeenEnd)
     → AreRunnable s trees → IsRoundEnd s round trees end → StandsAfter s new round trees end
     → AllByRecursion (Contains new.live) (named_places end.left)
     → AreRunnable new end.left

@@ -16,12 +16,11 @@ use Rattle.zio_gang.specs.declared.tree.Tree.{Tree}
 use Rattle.zio_gang.specs.Attempts.{Ended, Pending}
 use Rattle.zio_gang.specs.Rounds.{Binding, Bound, NamesOnce, block_if, block_of, bound_after, is_of, passes, used_places}
 use Rattle.zio_gang.specs.Trees.{sizes_of, tree_places}
-use Rattle.zio_course.specs.declared.runner.Finished.{Finished}
-use Rattle.zio_course.specs.declared.runner.RoundEnd.{RoundEnd}
+use Rattle.zio_course.specs.declared.runner.RequestEnd.{RequestEnd}
 use Rattle.zio_course.specs.Forests.{names_of}
 use Rattle.zio_course.specs.Live.{IsBoundPlace, IsLive, IsRoundOver}
 use Rattle.zio_course.specs.Names.{is_some_name, named_in}
-use Rattle.zio_course.specs.Runners.{IsRoundEnd, Standing, StandsAfter, MakesTree, freed_by, freed_places, is_good_in, joined_trees, made_places, numbers_of, requests_in}
+use Rattle.zio_course.specs.Runners.{IsRoundEnd, MakesTree, SeenEnd, Standing, StandsAfter, freed_by, freed_places, is_good_in, joined_trees, made_places, numbers_of, requests_in}
 use Rattle.zio_course.specs.Told.{ended_as, ended_by, ended_told, finish_of}
 use Rattle.zio_course.proofs.AdmittedLemmas.{not_both}
 use Rattle.zio_course.proofs.ApartLemmas.{below_some, free_of, meets_self, meets_swap, one_passing}
@@ -40,7 +39,7 @@ use Rattle.zio_course.proofs.MadeLemmas.Change.{Makes, Frees}
 
 -- The requests of a round's trees: each of its requests is one of these, which no admission answered, with the block that
 -- its name has, and no block where it makes one; and each that finished is of one of them.
-record IsOver (bound : List (List ℕ × Tree)) (error : ℕ → Option Errno) (requests : List Request) (trees : List (List Pending)) (finished : List Finished) : Type 0 where
+record IsOver (bound : List (List ℕ × Tree)) (error : ℕ → Option Errno) (requests : List Request) (trees : List (List Pending)) (finished : List RequestEnd) : Type 0 where
   apart : Bool
   names : NameApart apart requests
   one : (q r : Request) → IsOneOf q requests → IsOneOf r requests → q.number ≡ r.number → q ≡ r
@@ -48,18 +47,18 @@ record IsOver (bound : List (List ℕ × Tree)) (error : ℕ → Option Errno) (
   free : (p : Pending) → IsOneOf p (joined_trees trees) → error p.request.number ≡ None
   block : (p : Pending) → IsOneOf p (joined_trees trees) → p.block ≡ block_if (needs_block p.request.work) (name_of p.request.work) (names_of bound)
   lacks : (p : Pending) → IsOneOf p (joined_trees trees) → makes_block p.request.work ≡ true → passes (is_some_name bound) (name_of p.request.work) ≡ false
-  ends : (f : Finished) → IsOneOf f finished → (p : Pending) × IsOneOf p (joined_trees trees) × (p.request.number ≡ f.request)
+  ends : (f : RequestEnd) → IsOneOf f finished → (p : Pending) × IsOneOf p (joined_trees trees) × (p.request.number ≡ f.request)
 
 -- an end that is told, and the request that it is of
-pub record ToldEnd (error : ℕ → Option Errno) (finished : List Finished) (requests : List Request) (e : Ended) : Type 0 where
-  pub end : Finished
+pub record ToldEnd (error : ℕ → Option Errno) (finished : List RequestEnd) (requests : List Request) (e : Ended) : Type 0 where
+  pub end : RequestEnd
   pub at : IsOneOf end finished
   pub number : end.request ≡ e.request.number
   pub found : finish_of finished e.request.number ≡ Some end
   pub is : e ≡ ended_as e.request end
   pub inside : IsOneOf e.request requests
 
-told_end_if : (error : ℕ → Option Errno) (finished : List Finished) (requests : List Request) (r : Request) (o : Option Errno) (f : Option Finished) → IsOneOf r requests
+told_end_if : (error : ℕ → Option Errno) (finished : List RequestEnd) (requests : List Request) (r : Request) (o : Option Errno) (f : Option RequestEnd) → IsOneOf r requests
     → finish_of finished r.number ≡ f → AllByRecursion (ToldEnd error finished requests) (ended_by o f r)
 told_end_if error finished requests r (Some x) f at is = tt
 told_end_if error finished requests r None None at is = tt
@@ -67,20 +66,20 @@ told_end_if error finished requests r None (Some f) at is =
     let found : Found finished r.number f = found_there finished r.number f is in
     (record { end = f; at = found.at; number = found.number; found = is; is = refl; inside = at }, tt)
 
-pub told_ends : (error : ℕ → Option Errno) (finished : List Finished) (requests rs : List Request) → AllByRecursion (λ (r : Request). IsOneOf r requests) rs
+pub told_ends : (error : ℕ → Option Errno) (finished : List RequestEnd) (requests rs : List Request) → AllByRecursion (λ (r : Request). IsOneOf r requests) rs
     → AllByRecursion (ToldEnd error finished requests) (ended_told error finished rs)
 told_ends error finished requests [] h = tt
 told_ends error finished requests (r ∷ rs) h =
     all_append (ToldEnd error finished requests) (ended_by (error r.number) (finish_of finished r.number) r) (ended_told error finished rs)
     (told_end_if error finished requests r (error r.number) (finish_of finished r.number) h.0 refl) (told_ends error finished requests rs h.1)
 
-end_told : (error : ℕ → Option Errno) (finished : List Finished) (rs : List Request) (r : Request) (f : Finished) → IsOneOf r rs → error r.number ≡ None
+end_told : (error : ℕ → Option Errno) (finished : List RequestEnd) (rs : List Request) (r : Request) (f : RequestEnd) → IsOneOf r rs → error r.number ≡ None
     → finish_of finished r.number ≡ Some f → IsOneOf (ended_as r f) (ended_told error finished rs)
 end_told error finished rs r f at none found = within_one (λ (q : Request). ended_by (error q.number) (finish_of finished q.number) q) rs r (ended_as r f) at
     (subst (λ (o : Option Errno). IsOneOf (ended_as r f) (ended_by o (finish_of finished r.number) r)) (sym none)
-    (subst (λ (o : Option Finished). IsOneOf (ended_as r f) (ended_by None o r)) (sym found) (inl refl)))
+    (subst (λ (o : Option RequestEnd). IsOneOf (ended_as r f) (ended_by None o r)) (sym found) (inl refl)))
 
-module _ (s new : Standing) (round : ℕ) (trees : List (List Pending)) (end : RoundEnd (List Pending)) (requests : List Request) (error : ℕ → Option Errno)
+module _ (s new : Standing) (round : ℕ) (trees : List (List Pending)) (end : SeenEnd) (requests : List Request) (error : ℕ → Option Errno)
     (bound after : List (List ℕ × Tree)) (live : IsLive s.live bound) (stands : StandsAfter s new round trees end) (over : IsRoundEnd s round trees end)
     (known : IsOver bound error requests trees end.finished)
     (told : (name : List ℕ) → named_in after name ≡ block_of (bound_after (ended_told error end.finished requests) (names_of bound)) name) where
@@ -130,7 +129,7 @@ module _ (s new : Standing) (round : ℕ) (trees : List (List Pending)) (end : R
       )
 
   -- the end of a request in the trees that finished
-  end_of_pending : (p : Pending) (f : Finished) → IsOneOf p (joined_trees trees) → IsOneOf f end.finished → f.request ≡ p.request.number → IsOneOf (ended_as p.request f) ends
+  end_of_pending : (p : Pending) (f : RequestEnd) → IsOneOf p (joined_trees trees) → IsOneOf f end.finished → f.request ≡ p.request.number → IsOneOf (ended_as p.request f) ends
   end_of_pending p f at there number =
       end_told error end.finished requests p.request f (known.inside p at) (known.free p at)
       (ap (finish_of end.finished) (sym number) ∙ found_at 0 end.finished f over.rising there)
@@ -288,7 +287,7 @@ module _ (s new : Standing) (round : ℕ) (trees : List (List Pending)) (end : R
       let ends_same : a.end ≡ b.end =
       one_maker end.finished a.end b.end t u p q met open_parts.1 a.at b.at
       (sym (ap (λ (x : Ended). x.tree) a.is) ∙ made.0) (sym (ap (λ (x : Ended). x.tree) b.is) ∙ too.0) pt qu in
-      let same : e.request ≡ f.request = known.one e.request f.request a.inside b.inside (sym a.number ∙ (ap (λ (x : Finished). x.request) ends_same ∙ b.number)) in
+      let same : e.request ≡ f.request = known.one e.request f.request a.inside b.inside (sym a.number ∙ (ap (λ (x : RequestEnd). x.request) ends_same ∙ b.number)) in
       some_same n m (sym made.1 ∙ (ap (λ (r : Request). name_of r.work) same ∙ too.1))
 
   -- a place of a block that a request made of a name
@@ -349,10 +348,10 @@ numbered_pending n (p ∷ ps) some = go (eqb p.request.number n) refl some (numb
     go true e k later = (p, inl refl, eqb-true p.request.number n e)
     go false e k later = let rest = later k in (rest.0, inr rest.1, rest.2)
 
-some_finish : (fs : List Finished) (f : Finished) → IsOneOf f fs → 1 ≤ times f.request (map (λ (g : Finished). g.request) fs)
-some_finish fs f at = one_all (λ (g : Finished). 1 ≤ times g.request (map (λ (h : Finished). h.request) fs)) f fs (all_unmap (λ n. 1 ≤ times n (map (λ (h : Finished). h.request) fs)) (λ (g : Finished). g.request) fs (own_times (map (λ (g : Finished). g.request) fs))) at
+some_finish : (fs : List RequestEnd) (f : RequestEnd) → IsOneOf f fs → 1 ≤ times f.request (map (λ (g : RequestEnd). g.request) fs)
+some_finish fs f at = one_all (λ (g : RequestEnd). 1 ≤ times g.request (map (λ (h : RequestEnd). h.request) fs)) f fs (all_unmap (λ n. 1 ≤ times n (map (λ (h : RequestEnd). h.request) fs)) (λ (g : RequestEnd). g.request) fs (own_times (map (λ (g : RequestEnd). g.request) fs))) at
 
-over_of : (s : Standing) (round : ℕ) (apart : Bool) (bound : List (List ℕ × Tree)) (error : ℕ → Option Errno) (requests : List Request) (trees : List (List Pending)) (end : RoundEnd (List Pending))
+over_of : (s : Standing) (round : ℕ) (apart : Bool) (bound : List (List ℕ × Tree)) (error : ℕ → Option Errno) (requests : List Request) (trees : List (List Pending)) (end : SeenEnd)
     → IsRoundOver apart bound error requests trees → IsRoundEnd s round trees end → IsOver bound error requests trees end.finished
 over_of s round apart bound error requests trees end h over =
     let ps : List Pending = joined_trees trees in
@@ -365,15 +364,15 @@ over_of s round apart bound error requests trees end h over =
       block = λ p at. one_all (λ (x : Pending). x.block ≡ block_if (needs_block x.request.work) (name_of x.request.work) (names_of bound)) p ps h.blocks at;
       lacks = λ p at. one_all (λ (x : Pending). makes_block x.request.work ≡ true → passes (is_some_name bound) (name_of x.request.work) ≡ false) p ps h.lacks at;
       ends = λ f at.
-          (let some : 1 ≤ times f.request (map (λ (g : Finished). g.request) end.finished) = some_finish end.finished f at in
+          (let some : 1 ≤ times f.request (map (λ (g : RequestEnd). g.request) end.finished) = some_finish end.finished f at in
           let each = over.each f.request in
-          let a = times_is f.request (map (λ (g : Finished). g.request) end.finished) in
+          let a = times_is f.request (map (λ (g : RequestEnd). g.request) end.finished) in
           let b = times_is f.request (numbers_of (requests_in trees)) in
           numbered_pending f.request ps (omega arith));
     }
 
 -- After a round the places in use are those of the blocks that are bound then.
-pub live_after : (s new : Standing) (round : ℕ) (apart : Bool) (trees : List (List Pending)) (end : RoundEnd (List Pending)) (requests : List Request) (error : ℕ → Option Errno) (bound after : List (List ℕ × Tree))
+pub live_after : (s new : Standing) (round : ℕ) (apart : Bool) (trees : List (List Pending)) (end : SeenEnd) (requests : List Request) (error : ℕ → Option Errno) (bound after : List (List ℕ × Tree))
     → IsLive s.live bound → StandsAfter s new round trees end → IsRoundEnd s round trees end → IsRoundOver apart bound error requests trees
     → ((name : List ℕ) → named_in after name ≡ block_of (bound_after (ended_told error end.finished requests) (names_of bound)) name)
     → IsLive new.live after

@@ -12,7 +12,7 @@ use Rattle.zio_script.specs.Requests.{makes_block, name_of}
 use Rattle.zio_gang.specs.declared.tree.Tree.{Tree}
 use Rattle.zio_gang.specs.Attempts.{Ended}
 use Rattle.zio_gang.specs.Trees.{tree_places}
-use Rattle.zio_course.specs.declared.runner.Finished.{Finished}
+use Rattle.zio_course.specs.declared.runner.RequestEnd.{RequestEnd}
 use Rattle.zio_course.specs.Runners.{freed_by, is_good_in, made_places, made_trees, places_of_block}
 use Rattle.zio_course.proofs.AdmittedLemmas.{not_both}
 use Rattle.zio_course.proofs.ApartLemmas.{apart_behind, apart_front, meets_swap, parts_apart}
@@ -78,31 +78,31 @@ flat_front (Some tree) trees = ap (λ (ps : List Place). ps ++ flat_map tree_pla
     append_none [] = refl
     append_none (p ∷ ps) = ap (λ (qs : List Place). p ∷ qs) (append_none ps)
 
-made_front : (f : Finished) (fs : List Finished) → made_places (f ∷ fs) ≡ places_of_block f.tree ++ made_places fs
+made_front : (f : RequestEnd) (fs : List RequestEnd) → made_places (f ∷ fs) ≡ places_of_block f.tree ++ made_places fs
 made_front f fs = flat_front f.tree (made_trees fs)
 
 pub tree_one : (tree : Option Tree) (t : Tree) (p : Place) → tree ≡ Some t → IsOneOf p (tree_places t) → IsOneOf p (places_of_block tree)
 tree_one tree t p is at = subst (λ (o : Option Tree). IsOneOf p (places_of_block o)) (sym is) (one_left p (tree_places t) [] at)
 
-pub made_one : (fs : List Finished) (f : Finished) (t : Tree) (p : Place) → IsOneOf f fs → f.tree ≡ Some t → IsOneOf p (tree_places t) → IsOneOf p (made_places fs)
+pub made_one : (fs : List RequestEnd) (f : RequestEnd) (t : Tree) (p : Place) → IsOneOf f fs → f.tree ≡ Some t → IsOneOf p (tree_places t) → IsOneOf p (made_places fs)
 made_one [] f t p at is there = absurd at
 made_one (g ∷ fs) f t p (inl same) is there =
-    subst (IsOneOf p) (sym (made_front g fs)) (one_left p (places_of_block g.tree) (made_places fs) (tree_one g.tree t p (ap (λ (x : Finished). x.tree) same ∙ is) there))
+    subst (IsOneOf p) (sym (made_front g fs)) (one_left p (places_of_block g.tree) (made_places fs) (tree_one g.tree t p (ap (λ (x : RequestEnd). x.tree) same ∙ is) there))
 made_one (g ∷ fs) f t p (inr at) is there =
     subst (IsOneOf p) (sym (made_front g fs)) (one_right p (places_of_block g.tree) (made_places fs) (made_one fs f t p at is there))
 
 -- what made the block of a place
-pub record Made (fs : List Finished) (p : Place) : Type 0 where
-  pub end : Finished
+pub record Made (fs : List RequestEnd) (p : Place) : Type 0 where
+  pub end : RequestEnd
   pub tree : Tree
   pub at : IsOneOf end fs
   pub is : end.tree ≡ Some tree
   pub there : IsOneOf p (tree_places tree)
 
-pub one_made : (fs : List Finished) (p : Place) → IsOneOf p (made_places fs) → Made fs p
+pub one_made : (fs : List RequestEnd) (p : Place) → IsOneOf p (made_places fs) → Made fs p
 one_made fs p at =
     let t = one_within tree_places (made_trees fs) p at in
-    let f = one_within (λ (x : Finished). option_to_list x.tree) fs t.item t.at in
+    let f = one_within (λ (x : RequestEnd). option_to_list x.tree) fs t.item t.at in
     record { end = f.item; tree = t.item; at = f.at; is = of_option f.item.tree t.item f.there; there = t.there }
   where
     of_option : (o : Option Tree) (x : Tree) → IsOneOf x (option_to_list o) → o ≡ Some x
@@ -111,28 +111,28 @@ one_made fs p at =
     of_option (Some y) x (inr never) = absurd never
 
 -- two that made blocks with places that meet are one
-pub one_maker : (fs : List Finished) (f g : Finished) (t u : Tree) (p q : Place) → meets p q ≡ true → are_apart (made_places fs) ≡ true
+pub one_maker : (fs : List RequestEnd) (f g : RequestEnd) (t u : Tree) (p q : Place) → meets p q ≡ true → are_apart (made_places fs) ≡ true
     → IsOneOf f fs → IsOneOf g fs → f.tree ≡ Some t → g.tree ≡ Some u → IsOneOf p (tree_places t) → IsOneOf q (tree_places u) → f ≡ g
 one_maker [] f g t u p q met apart a b ft gt pt qu = absurd a
 one_maker (h ∷ fs) f g t u p q met apart (inl a) (inl b) ft gt pt qu = sym a ∙ b
 one_maker (h ∷ fs) f g t u p q met apart (inl a) (inr b) ft gt pt qu =
     not_both (meets p q) met
     (parts_apart (places_of_block h.tree) (made_places fs) p q (ap are_apart (sym (made_front h fs)) ∙ apart)
-    (tree_one h.tree t p (ap (λ (x : Finished). x.tree) a ∙ ft) pt) (made_one fs g u q b gt qu))
+    (tree_one h.tree t p (ap (λ (x : RequestEnd). x.tree) a ∙ ft) pt) (made_one fs g u q b gt qu))
 one_maker (h ∷ fs) f g t u p q met apart (inr a) (inl b) ft gt pt qu =
     not_both (meets p q) met
     (meets_swap p q
     ∙ parts_apart (places_of_block h.tree) (made_places fs) q p (ap are_apart (sym (made_front h fs)) ∙ apart)
-    (tree_one h.tree u q (ap (λ (x : Finished). x.tree) b ∙ gt) qu) (made_one fs f t p a ft pt))
+    (tree_one h.tree u q (ap (λ (x : RequestEnd). x.tree) b ∙ gt) qu) (made_one fs f t p a ft pt))
 one_maker (h ∷ fs) f g t u p q met apart (inr a) (inr b) ft gt pt qu =
     one_maker fs f g t u p q met (apart_behind (places_of_block h.tree) (made_places fs) (ap are_apart (sym (made_front h fs)) ∙ apart)) a b ft gt pt qu
 
 -- no two places of a block that was made meet
-pub made_apart : (fs : List Finished) (f : Finished) (t : Tree) → are_apart (made_places fs) ≡ true → IsOneOf f fs → f.tree ≡ Some t → are_apart (tree_places t) ≡ true
+pub made_apart : (fs : List RequestEnd) (f : RequestEnd) (t : Tree) → are_apart (made_places fs) ≡ true → IsOneOf f fs → f.tree ≡ Some t → are_apart (tree_places t) ≡ true
 made_apart [] f t apart at is = absurd at
 made_apart (g ∷ fs) f t apart (inl same) is =
     let own : are_apart (places_of_block g.tree) ≡ true = apart_front (places_of_block g.tree) (made_places fs) (ap are_apart (sym (made_front g fs)) ∙ apart) in
-    apart_front (tree_places t) [] (subst (λ (o : Option Tree). are_apart (places_of_block o) ≡ true) (ap (λ (x : Finished). x.tree) same ∙ is) own)
+    apart_front (tree_places t) [] (subst (λ (o : Option Tree). are_apart (places_of_block o) ≡ true) (ap (λ (x : RequestEnd). x.tree) same ∙ is) own)
 made_apart (g ∷ fs) f t apart (inr at) is =
     made_apart fs f t (apart_behind (places_of_block g.tree) (made_places fs) (ap are_apart (sym (made_front g fs)) ∙ apart)) at is
 
@@ -199,7 +199,7 @@ block_tree (Some t) p at = (t, refl, go (one_either p (tree_places t) [] at))
     go (inl here) = here
     go (inr never) = absurd never
 
-pub good_found : (fs : List Finished) (n : ℕ) → is_good_in fs n ≡ true → (f : Finished) × IsOneOf f fs × (f.request ≡ n) × (f.error ≡ None)
+pub good_found : (fs : List RequestEnd) (n : ℕ) → is_good_in fs n ≡ true → (f : RequestEnd) × IsOneOf f fs × (f.request ≡ n) × (f.error ≡ None)
 good_found [] n e = absurd (let f = e in cc)
 good_found (g ∷ fs) n e = go (eqb g.request n) refl (is_none g.error) refl e (good_found fs n)
   where
@@ -208,16 +208,16 @@ good_found (g ∷ fs) n e = go (eqb g.request n) refl (is_none g.error) refl e (
     none_of (Some x) k = absurd (let f = k in cc)
 
     go : (a : Bool) → eqb g.request n ≡ a → (b : Bool) → is_none g.error ≡ b → ((a && b) || is_good_in fs n) ≡ true
-        → (is_good_in fs n ≡ true → (f : Finished) × IsOneOf f fs × (f.request ≡ n) × (f.error ≡ None)) → (f : Finished) × IsOneOf f (g ∷ fs) × (f.request ≡ n) × (f.error ≡ None)
+        → (is_good_in fs n ≡ true → (f : RequestEnd) × IsOneOf f fs × (f.request ≡ n) × (f.error ≡ None)) → (f : RequestEnd) × IsOneOf f (g ∷ fs) × (f.request ≡ n) × (f.error ≡ None)
     go true same true none k later = (g, inl refl, eqb-true g.request n same, none_of g.error none)
     go true same false none k later = let rest = later k in (rest.0, inr rest.1, rest.2, rest.3)
     go false same b none k later = let rest = later k in (rest.0, inr rest.1, rest.2, rest.3)
 
-pub found_good : (fs : List Finished) (f : Finished) → IsOneOf f fs → f.error ≡ None → is_good_in fs f.request ≡ true
+pub found_good : (fs : List RequestEnd) (f : RequestEnd) → IsOneOf f fs → f.error ≡ None → is_good_in fs f.request ≡ true
 found_good [] f at none = absurd at
 found_good (g ∷ fs) f (inl same) none =
-    ap (λ (b : Bool). (b && is_none g.error) || is_good_in fs f.request) (eq-eqb g.request f.request (ap (λ (x : Finished). x.request) same))
-    ∙ ap (λ (o : Option Errno). is_none o || is_good_in fs f.request) (ap (λ (x : Finished). x.error) same ∙ none)
+    ap (λ (b : Bool). (b && is_none g.error) || is_good_in fs f.request) (eq-eqb g.request f.request (ap (λ (x : RequestEnd). x.request) same))
+    ∙ ap (λ (o : Option Errno). is_none o || is_good_in fs f.request) (ap (λ (x : RequestEnd). x.error) same ∙ none)
 found_good (g ∷ fs) f (inr at) none =
     ap (λ (b : Bool). ((eqb g.request f.request) && is_none g.error) || b) (found_good fs f at none) ∙ or_true ((eqb g.request f.request) && is_none g.error)
   where

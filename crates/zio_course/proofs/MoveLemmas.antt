@@ -21,7 +21,7 @@ use Rattle.zio_script.specs.Requests.{requests_of}
 use Rattle.zio_course.specs.Course.{shown_of}
 use Rattle.zio_gang.specs.Runs.{Batch, Course, Event, Plan, State, add_events, Round, clear_if, clear_line, go_if, go_line, goes_on, has_trees, held_batch, held_after, held_if, plan_of, quiet, rounds_of, run_batch, run_held, run_suspended, then_course}
 use Rattle.zio_cksum.proofs.AllLemmas.{all_append, all_weaker}
-use Rattle.zio_report.specs.declared.report.Line.{Line}
+use Rattle.zio_report.specs.declared.report.ReportLine.{ReportLine}
 use Rattle.zio_report.specs.declared.report.LineResult.{LineResult}
 use Rattle.zio_report.specs.declared.report.LineResult.TheVariants.{Suspended, Failed, Done, Sized, Bytes}
 use Rattle.zio_report.specs.declared.report.RunFault.{RunFault}
@@ -189,7 +189,7 @@ held_cut {w = w} show failmode s mid f m held left b old j new tells mid_tells n
 
 -- ---- a run that can go on
 
-waits_all : (P : Request → Type 0) (rs : List Request) (ls : List Line) → AllByRecursion P rs → AllByRecursion P (waiting_of rs ls)
+waits_all : (P : Request → Type 0) (rs : List Request) (ls : List ReportLine) → AllByRecursion P rs → AllByRecursion P (waiting_of rs ls)
 waits_all P [] ls h = tt
 waits_all P (r ∷ rs) [] h = tt
 waits_all P (r ∷ rs) (l ∷ ls) h = all_append P (waiting_by l.result r) (waiting_of rs ls) (own l.result) (waits_all P rs ls h.1)
@@ -201,7 +201,7 @@ waits_all P (r ∷ rs) (l ∷ ls) h = all_append P (waiting_by l.result r) (wait
     own (Sized n) = tt
     own (Bytes bytes) = tt
 
-waits_rising : (rs : List Request) (ls : List Line) → AreRising rs → AreRising (waiting_of rs ls)
+waits_rising : (rs : List Request) (ls : List ReportLine) → AreRising rs → AreRising (waiting_of rs ls)
 waits_rising [] ls h = tt
 waits_rising (r ∷ rs) [] h = tt
 waits_rising (r ∷ rs) (l ∷ ls) h = own l.result (waits_all (λ (q : Request). r.number < q.number) rs ls h.0) (waits_rising rs ls h.1)
@@ -214,7 +214,7 @@ waits_rising (r ∷ rs) (l ∷ ls) h = own l.result (waits_all (λ (q : Request)
     own (Bytes bytes) above rest = rest
 
 -- of a round's requests those that wait are left
-pub rising_waits : (front own back : List Request) (ls : List Line) → AreRising (front ++ (own ++ back)) → AreRising ((front ++ waiting_of own ls) ++ back)
+pub rising_waits : (front own back : List Request) (ls : List ReportLine) → AreRising (front ++ (own ++ back)) → AreRising ((front ++ waiting_of own ls) ++ back)
 rising_waits front own back ls up =
     let outer = rising_both front (own ++ back) up in
     let inner = rising_both own back outer.1 in
@@ -230,7 +230,7 @@ rising_waits front own back ls up =
     all_parts_of P (x ∷ xs) ys h = let rest = all_parts_of P xs ys h.1 in ((h.0, rest.0), rest.1)
 
 -- after the round of the first held batch
-pub going_batch : (fits : Tree → Type 0) (s now : Standing) (rounds next : ℕ) (f g : SeenFold) (b : Batch) (held : List Batch) (later : List (List Request)) (spare : ℕ) (ls : List Line)
+pub going_batch : (fits : Tree → Type 0) (s now : Standing) (rounds next : ℕ) (f g : SeenFold) (b : Batch) (held : List Batch) (later : List (List Request)) (spare : ℕ) (ls : List ReportLine)
     → IsGoing fits s rounds f (b ∷ held) later spare → IsSteady fits now next g → now.rows ≡ s.rows → next ≡ rounds + 1
     → g.unfinished ≡ f.unfinished ++ waiting_of b.requests ls
     → g.tally.good + g.tally.bad + length g.unfinished ≡ f.tally.good + f.tally.bad + length f.unfinished + length b.requests
@@ -336,7 +336,7 @@ waiting_cut show failmode s f old new tells new_tells holds new_holds fault some
 pub going_less : (fits : Tree → Type 0) (s : Standing) (rounds : ℕ) (f : SeenFold) (held : List Batch) (later : List (List Request)) (spare : ℕ) → IsGoing fits s rounds f held later (spare + 1) → IsGoing fits s rounds f held later spare
 going_less fits s rounds f held later spare h = record { steady = h.steady; rising = h.rising; orderly = h.orderly; numbers = h.numbers; rounds_fit = let fit = h.rounds_fit in omega arith; few = h.few }
 
-pub going_clear : (fits : Tree → Type 0) (s now : Standing) (rounds next : ℕ) (f g : SeenFold) (held : List Batch) (later : List (List Request)) (spare : ℕ) (ls : List Line)
+pub going_clear : (fits : Tree → Type 0) (s now : Standing) (rounds next : ℕ) (f g : SeenFold) (held : List Batch) (later : List (List Request)) (spare : ℕ) (ls : List ReportLine)
     → IsGoing fits s rounds f held later (spare + 1) → IsSteady fits now next g → now.rows ≡ s.rows → next ≡ rounds + 1
     → g.unfinished ≡ waiting_of f.unfinished ls
     → g.tally.good + g.tally.bad + length g.unfinished ≡ f.tally.good + f.tally.bad + length f.unfinished

@@ -22,14 +22,13 @@ use Rattle.zio_gang.specs.Rounds.{admission, admit_with, answered_with, Admitted
 use Rattle.zio_gang.specs.Runs.{Batch, Course, Plan, Round, State, after_round, has_trees, is_panic, plan_of, round_of, run_batch, run_suspended, terms_of, then_course}
 use Rattle.zio_gang.proofs.BoundLemmas.{NamesOnce-bind, NamesOnce-unbind}
 use Rattle.zio_gang.proofs.DependenceLemmas.{choices_law}
-use Rattle.zio_report.specs.declared.report.Line.{Line}
+use Rattle.zio_report.specs.declared.report.ReportLine.{ReportLine}
 use Rattle.zio_report.specs.declared.report.Show.{Show}
 use Rattle.zio_report.specs.Lines.{round_text}
 use Rattle.zio_report.specs.Reports.{RunSize}
 use Rattle.zio_course.specs.declared.admission.Rules.{Rules}
 use Rattle.zio_course.specs.declared.fold.Tally.{Tally}
-use Rattle.zio_course.specs.declared.runner.Finished.{Finished}
-use Rattle.zio_course.specs.declared.runner.RoundEnd.{RoundEnd}
+use Rattle.zio_course.specs.declared.runner.RequestEnd.{RequestEnd}
 use Rattle.zio_course.specs.Admissions.{IsAdmission, error_in}
 use Rattle.zio_course.specs.Admitted.{AreAwaited}
 use Rattle.zio_course.specs.Answered.{answer_of, answered_in}
@@ -39,7 +38,7 @@ use Rattle.zio_course.specs.Forests.{names_of, running}
 use Rattle.zio_course.specs.Live.{IsLive, IsRoundOver}
 use Rattle.zio_course.specs.Names.{is_some_name}
 use Rattle.zio_course.specs.Parents.{AreParented}
-use Rattle.zio_course.specs.Runners.{IsRound, IsRoundEnd, Standing, StandsAfter, completion_for, rows_tell_apart, terms_at}
+use Rattle.zio_course.specs.Runners.{IsRound, IsRoundEnd, SeenEnd, Standing, StandsAfter, completion_for, rows_tell_apart, terms_at}
 use Rattle.zio_course.specs.SoFar.{Ahead, IsCourseAt, coming}
 use Rattle.zio_course.specs.Steps.{IsNextRound, IsPlanOf}
 use Rattle.zio_course.specs.Told.{no_error}
@@ -106,14 +105,14 @@ answers_rounds : (error : ℕ → Option Errno) (round : ℕ) (rs : List Request
 answers_rounds error round [] = tt
 answers_rounds error round (r ∷ rs) = all_append (λ (c : Completion). c.round ≡ round) (answer_of (error r.number) round r) (answered_in error round rs) (answer_rounds (error r.number) round r) (answers_rounds error round rs)
 
-ends_rounds : (s : Standing) (round : ℕ) (trees : List (List Pending)) (end : RoundEnd (List Pending)) → IsRoundEnd s round trees end → AllByRecursion (λ (c : Completion). c.round ≡ round) end.completions
+ends_rounds : (s : Standing) (round : ℕ) (trees : List (List Pending)) (end : SeenEnd) → IsRoundEnd s round trees end → AllByRecursion (λ (c : Completion). c.round ≡ round) end.completions
 ends_rounds s round trees end over =
     all_weaker (λ c. Contains (map (completion_for round) end.finished) c) (λ (c : Completion). c.round ≡ round) end.completions
     (λ c has. one_all (λ (d : Completion). d.round ≡ round) c (map (completion_for round) end.finished)
-    (all_map (λ (d : Completion). d.round ≡ round) (completion_for round) end.finished (all_true (λ (f : Finished). round ≡ round) end.finished (λ f. refl)))
+    (all_map (λ (d : Completion). d.round ≡ round) (completion_for round) end.finished (all_true (λ (f : RequestEnd). round ≡ round) end.finished (λ f. refl)))
     (contains_one c (map (completion_for round) end.finished) has)) over.completed
 
-pub done_rounds : (s : Standing) (round : ℕ) (trees : List (List Pending)) (end : RoundEnd (List Pending)) (error : ℕ → Option Errno) (requests : List Request) → IsRoundEnd s round trees end
+pub done_rounds : (s : Standing) (round : ℕ) (trees : List (List Pending)) (end : SeenEnd) (error : ℕ → Option Errno) (requests : List Request) → IsRoundEnd s round trees end
     → AllByRecursion (λ (c : Completion). c.round ≡ round) (reverse (answered_in error round requests) ++ end.completions)
 done_rounds s round trees end error requests over =
     all_append (λ (c : Completion). c.round ≡ round) (reverse (answered_in error round requests)) end.completions
@@ -137,14 +136,14 @@ kin_later apart [] h = tt
 kin_later apart (b ∷ later) h = kin_both b (requests_in_all later) (kin_batch b h.0.parents) (kin_later apart later h.1)
 
 -- the requests of a round, where those before it and behind it wait or come later
-pub record LaterOf (all front own back : List Request) (error : ℕ → Option Errno) (finished : List Finished) (old done : List Completion) : Type 0 where
+pub record LaterOf (all front own back : List Request) (error : ℕ → Option Errno) (finished : List RequestEnd) (old done : List Completion) : Type 0 where
   pub rising : AreRising (front ++ (filter (is_left error finished) own ++ back))
   pub among : AllByRecursion (Contains all) (front ++ (filter (is_left error finished) own ++ back))
   pub past : AllByRecursion (IsPast (front ++ (filter (is_left error finished) own ++ back))) (old ++ done)
   pub complete : CompleteOnce (old ++ done)
   pub behind : CompleteAfterChildren all (old ++ done)
 
-pub later_of : (all front own back : List Request) (error : ℕ → Option Errno) (finished : List Finished) (old done : List Completion)
+pub later_of : (all front own back : List Request) (error : ℕ → Option Errno) (finished : List RequestEnd) (old done : List Completion)
     → AreRising all → AreRising (front ++ (own ++ back)) → AllByRecursion (Contains all) (front ++ (own ++ back)) → Kin (front ++ (own ++ back)) (front ++ (own ++ back))
     → AllByRecursion (IsPast (front ++ (own ++ back))) old → CompleteOnce old → CompleteAfterChildren all old → Completes all error finished own done
     → LaterOf all front own back error finished old done
@@ -190,7 +189,7 @@ same_choices n entries keys =
     (all_weaker (λ (c : Choice). c.asked.key.round ≡ n) (λ (c : Choice). (c.asked.key.round == n) ≡ true) entries (λ c is. eq-eqb c.asked.key.round n is) keys)
 
 pub batch_next : (show : Show) (n : RunSize) (script : Script) (before : Images) (s now : Standing) (f g : SeenFold) (ahead : Ahead) (later : List (List Request)) (old new : Journal) (images after : Images) (printed : List ℕ)
-    (items : List Item) (number : ℕ) (awaited : List ℕ → Bool) (slots : List (ℕ × ℕ)) (rules : List Rules) (end : RoundEnd (List Pending)) (lines : List Line) (rest : Plan → State → Course)
+    (items : List Item) (number : ℕ) (awaited : List ℕ → Bool) (slots : List (ℕ × ℕ)) (rules : List Rules) (end : SeenEnd) (lines : List ReportLine) (rest : Plan → State → Course)
     → AreRising (requests_of script.items) → AllByRecursion (IsOrderlyBatch (rows_tell_apart s.rows)) later
     → IsCourseAt show n script before s f ahead (requests_of items ∷ later) old images printed (λ plan st. then_course (run_batch plan (record { number = number; requests = requests_of items }) st) (rest plan))
     → AreSuspended (rows_tell_apart s.rows) f.bound f.suspended f.unfinished → IsLive s.live f.bound → AreAwaited f.suspended awaited
@@ -288,7 +287,7 @@ batch_next show n script before s now f g ahead later old new images after print
 -- ---- the round of a clear
 
 pub clear_next : (show : Show) (n : RunSize) (script : Script) (before : Images) (s now : Standing) (f g : SeenFold) (ahead : Ahead) (later : List (List Request)) (old new : Journal) (images after : Images) (printed : List ℕ)
-    (end : RoundEnd (List Pending)) (lines : List Line) (rest : Plan → State → Course)
+    (end : SeenEnd) (lines : List ReportLine) (rest : Plan → State → Course)
     → AreRising (requests_of script.items) → AllByRecursion (IsOrderlyBatch (rows_tell_apart s.rows)) later
     → IsCourseAt show n script before s f ahead later old images printed (λ plan st. then_course (run_suspended plan st) (rest plan))
     → AreSuspended (rows_tell_apart s.rows) f.bound f.suspended f.unfinished → IsLive s.live f.bound

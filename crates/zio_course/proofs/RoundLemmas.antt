@@ -20,7 +20,7 @@ use Rattle.zio_gang.specs.Rounds.{Bound, NamesOnce}
 use Rattle.zio_gang.specs.Runs.{Course, Event, Plan, Round, State, after_round, has_trees, is_panic, plan_of, rounds_of, then_course}
 use Rattle.zio_gang.specs.Runs.Event.{RanRound}
 use Rattle.zio_gang.specs.Trees.{sizes_of}
-use Rattle.zio_report.specs.declared.report.Line.{Line}
+use Rattle.zio_report.specs.declared.report.ReportLine.{ReportLine}
 use Rattle.zio_report.specs.declared.report.RoundHead.{RoundHead}
 use Rattle.zio_report.specs.declared.report.Show.{Show}
 use Rattle.zio_report.specs.Lines.{round_text}
@@ -52,7 +52,7 @@ own_choices n old now entries later is below keys after = in_round (λ (c : Choi
 
 -- What is known of a round that was run, as the next one of the course.
 pub record IsNextOf (show : Show) (n : RunSize) (script : Script) (before : Images) (s now : Standing) (f g : SeenFold) (kept : List (List Pending)) (later : List (List Request)) (old new : Journal) (images after : Images)
-    (batch : Option ℕ) (lines : List Line) (entries : List Choice) (done : List Completion) (left : List (List Pending)) (state : State) (step : Plan → Course) (round : Round) : Type 0 where
+    (batch : Option ℕ) (lines : List ReportLine) (entries : List Choice) (done : List Completion) (left : List (List Pending)) (state : State) (step : Plan → Course) (round : Round) : Type 0 where
   pub runs : (more : List Choice) → AllByRecursion (λ (c : Choice). new.rounds < c.asked.key.round) more → step (plan_of script before (new.places ++ more)) ≡ after_round (plan_of script before []) state kept round
   pub next : IsNextRound s (old.rounds + 1) f.point batch lines entries done left after g.bound round
   pub once : NamesOnce round.bound
@@ -92,7 +92,7 @@ sum_both xs ys = sum_by-append (λ (e : Ended). length e.bytes) xs ys
 
 -- One round more.
 pub course_next : (show : Show) (n : RunSize) (script : Script) (before : Images) (s now : Standing) (f g : SeenFold) (ahead : Ahead) (kept : List (List Pending)) (earlier later : List (List Request)) (old new : Journal) (images after : Images) (printed : List ℕ)
-    (batch : Option ℕ) (lines : List Line) (entries : List Choice) (done : List Completion) (left : List (List Pending)) (step : Plan → State → Course) (rest : Plan → State → Course) (round : Round)
+    (batch : Option ℕ) (lines : List ReportLine) (entries : List Choice) (done : List Completion) (left : List (List Pending)) (step : Plan → State → Course) (rest : Plan → State → Course) (round : Round)
     → (h : IsCourseAt show n script before s f ahead earlier old images printed (λ plan st. then_course (step plan st) (rest plan)))
     → IsNextOf show n script before s now f g kept later old new images after batch lines entries done left h.state (λ plan. step plan h.state) round
     → IsCourseAt show n script before now g ahead later new after (printed ++ round_text show (record { round = old.rounds + 1; batch = batch; point = f.point }) lines entries done) rest

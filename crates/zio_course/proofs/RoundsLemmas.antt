@@ -20,7 +20,7 @@ use Rattle.zio_gang.specs.Attempts.{Pending}
 use Rattle.zio_gang.specs.Rounds.{Bound, bound_after, pending_trees, trees_of}
 use Rattle.zio_gang.specs.Runs.{Course, Plan, State, has_trees, is_panic, run_batch, run_suspended, then_course}
 use Rattle.zio_gang.specs.Trees.{sizes_of}
-use Rattle.zio_report.specs.declared.report.Line.{Line}
+use Rattle.zio_report.specs.declared.report.ReportLine.{ReportLine}
 use Rattle.zio_report.specs.declared.report.RunFault.{RunFault}
 use Rattle.zio_report.specs.declared.report.RunFault.TheVariants.{Memory}
 use Rattle.zio_report.specs.declared.report.Show.{Show}
@@ -28,7 +28,6 @@ use Rattle.zio_report.specs.Lines.{round_text}
 use Rattle.zio_report.specs.Reports.{RunSize}
 use Rattle.zio_course.specs.declared.admission.Rules.{Rules}
 use Rattle.zio_course.specs.declared.fold.Tally.{Tally}
-use Rattle.zio_course.specs.declared.runner.RoundEnd.{RoundEnd}
 use Rattle.zio_course.specs.declared.runner.Stop.{Stop}
 use Rattle.zio_course.specs.declared.runner.Stop.TheVariants.{Device as DeviceStops, Memory as NoMemory}
 use Rattle.zio_course.specs.Admissions.{IsAdmission, error_in}
@@ -38,7 +37,7 @@ use Rattle.zio_course.specs.Faults.{fault_of}
 use Rattle.zio_course.specs.Folds.{AreSuspended, IsSteady, SeenFold, counted_in, has_items, is_named_by, waiting_of}
 use Rattle.zio_course.specs.Forests.{names_of, running}
 use Rattle.zio_course.specs.Names.{is_name_in, is_some_name, named_in}
-use Rattle.zio_course.specs.Runners.{IsRound, IsRoundEnd, Standing, StandsAfter, Stopping, freed_places, made_places, rows_tell_apart, terms_at}
+use Rattle.zio_course.specs.Runners.{IsRound, IsRoundEnd, SeenEnd, Standing, StandsAfter, Stopping, freed_places, made_places, rows_tell_apart, terms_at}
 use Rattle.zio_course.specs.SoFar.{Ahead, IsCourseAt, IsCut, IsCutText}
 use Rattle.zio_course.specs.Told.{ended_told, line_told, no_error}
 use Rattle.zio_course.proofs.ApartLemmas.{one_passing}
@@ -80,7 +79,7 @@ when_ok (Err x) A B C D E F G a b c d e f k = tt
 -- ---- the round of a batch
 
 pub batch_told : (show : Show) (n : RunSize) (script : Script) (before : Images) (s now : Standing) (f g : SeenFold) (ahead : Ahead) (later : List (List Request)) (old new : Journal) (images after : Images) (printed text : List ℕ)
-    (items : List Item) (number : ℕ) (slots : List (ℕ × ℕ)) (rules : List Rules) (end : RoundEnd (List Pending)) (lines : List Line) (left : List (List Pending)) (failmode : Failmode) (made : List (List ℕ × Tree)) (rest : Plan → State → Course) (fits : Tree → Type 0) (rounds : ℕ)
+    (items : List Item) (number : ℕ) (slots : List (ℕ × ℕ)) (rules : List Rules) (end : SeenEnd) (lines : List ReportLine) (left : List (List Pending)) (failmode : Failmode) (made : List (List ℕ × Tree)) (rest : Plan → State → Course) (fits : Tree → Type 0) (rounds : ℕ)
     → script.failmode ≡ failmode → AllByRecursion (IsOrderlyBatch (rows_tell_apart s.rows)) later
     → IsCourseAt show n script before s f ahead (requests_of items ∷ later) old images printed (λ plan st. then_course (run_batch plan (record { number = number; requests = requests_of items }) st) (rest plan))
     → IsSteady fits s rounds f → IsOrderlyBatch (rows_tell_apart s.rows) (requests_of items)
@@ -109,7 +108,7 @@ batch_told show n script before s now f g ahead later old new images after print
 
 -- the round is whole, and its text was not
 pub batch_cut : {w : Stopping} → (show : Show) (n : RunSize) (script : Script) (before : Images) (s now : Standing) (f : SeenFold) (ahead : Ahead) (later : List (List Request)) (old new : Journal) (images after : Images) (printed text : List ℕ)
-    (items : List Item) (number : ℕ) (slots : List (ℕ × ℕ)) (rules : List Rules) (end : RoundEnd (List Pending)) (lines : List Line) (left : List (List Pending)) (failmode : Failmode) (made : List (List ℕ × Tree)) (rest : Plan → State → Course) (fits : Tree → Type 0) (rounds : ℕ) (fault : RunFault)
+    (items : List Item) (number : ℕ) (slots : List (ℕ × ℕ)) (rules : List Rules) (end : SeenEnd) (lines : List ReportLine) (left : List (List Pending)) (failmode : Failmode) (made : List (List ℕ × Tree)) (rest : Plan → State → Course) (fits : Tree → Type 0) (rounds : ℕ) (fault : RunFault)
     → IsOther fault → w.stopped ≡ false → script.failmode ≡ failmode → AllByRecursion (IsOrderlyBatch (rows_tell_apart s.rows)) later
     → IsCourseAt show n script before s f ahead (requests_of items ∷ later) old images printed (λ plan st. then_course (run_batch plan (record { number = number; requests = requests_of items }) st) (rest plan))
     → IsSteady fits s rounds f → IsOrderlyBatch (rows_tell_apart s.rows) (requests_of items)
@@ -138,7 +137,7 @@ batch_cut {w = w} show n script before s now f ahead later old new images after 
 
 -- the same where its lines and names were not told
 pub batch_untold : {w : Stopping} → (show : Show) (n : RunSize) (script : Script) (before : Images) (s now : Standing) (f : SeenFold) (ahead : Ahead) (later : List (List Request)) (old new : Journal) (images after : Images) (printed : List ℕ)
-    (items : List Item) (number : ℕ) (slots : List (ℕ × ℕ)) (rules : List Rules) (end : RoundEnd (List Pending)) (failmode : Failmode) (rest : Plan → State → Course) (fits : Tree → Type 0) (rounds : ℕ) (fault : RunFault)
+    (items : List Item) (number : ℕ) (slots : List (ℕ × ℕ)) (rules : List Rules) (end : SeenEnd) (failmode : Failmode) (rest : Plan → State → Course) (fits : Tree → Type 0) (rounds : ℕ) (fault : RunFault)
     → IsOther fault → w.stopped ≡ false → script.failmode ≡ failmode → AllByRecursion (IsOrderlyBatch (rows_tell_apart s.rows)) later
     → IsCourseAt show n script before s f ahead (requests_of items ∷ later) old images printed (λ plan st. then_course (run_batch plan (record { number = number; requests = requests_of items }) st) (rest plan))
     → IsSteady fits s rounds f → IsOrderlyBatch (rows_tell_apart s.rows) (requests_of items)
@@ -151,7 +150,7 @@ pub batch_untold : {w : Stopping} → (show : Show) (n : RunSize) (script : Scri
 batch_untold {w = w} show n script before s now f ahead later old new images after printed items number slots rules end failmode rest fits rounds fault other calm mode orderly_later h steady orderly admission_is entered over stands round_is =
     let error : ℕ → Option Errno = error_in slots rules in
     let bound : Bound = bound_after (ended_told error end.finished (requests_of items)) (names_of f.bound) in
-    let lines : List Line = map (line_told error end.finished) (requests_of items) in
+    let lines : List ReportLine = map (line_told error end.finished) (requests_of items) in
     let text : List ℕ = round_text show (record { round = old.rounds + 1; batch = Some number; point = f.point }) lines end.entries (reverse (answered_in error (old.rounds + 1) (requests_of items)) ++ end.completions) in (
       text,
       batch_cut show n script before s now f ahead later old new images after printed text items number slots rules end lines end.left failmode (pairs_of bound) rest fits rounds fault other calm mode orderly_later h steady orderly admission_is
@@ -161,7 +160,7 @@ batch_untold {w = w} show n script before s now f ahead later old new images aft
 -- ---- the round of a clear
 
 pub clear_told : (show : Show) (n : RunSize) (script : Script) (before : Images) (s now : Standing) (f g : SeenFold) (ahead : Ahead) (later : List (List Request)) (old new : Journal) (images after : Images) (printed text : List ℕ)
-    (end : RoundEnd (List Pending)) (lines : List Line) (left : List (List Pending)) (failmode : Failmode) (made : List (List ℕ × Tree)) (rest : Plan → State → Course) (fits : Tree → Type 0) (rounds : ℕ)
+    (end : SeenEnd) (lines : List ReportLine) (left : List (List Pending)) (failmode : Failmode) (made : List (List ℕ × Tree)) (rest : Plan → State → Course) (fits : Tree → Type 0) (rounds : ℕ)
     → script.failmode ≡ failmode → AllByRecursion (IsOrderlyBatch (rows_tell_apart s.rows)) later
     → IsCourseAt show n script before s f ahead later old images printed (λ plan st. then_course (run_suspended plan st) (rest plan))
     → IsSteady fits s rounds f
@@ -187,7 +186,7 @@ clear_told show n script before s now f g ahead later old new images after print
     point_is (panicked_is ∙ (ap (λ (m : Failmode). is_panic m && has_trees left) (sym mode) ∙ ap (λ (l : List (List Pending)). is_panic script.failmode && has_trees l) left_is)) tally_is)
 
 pub clear_cut : {w : Stopping} → (show : Show) (n : RunSize) (script : Script) (before : Images) (s now : Standing) (f : SeenFold) (ahead : Ahead) (later : List (List Request)) (old new : Journal) (images after : Images) (printed text : List ℕ)
-    (end : RoundEnd (List Pending)) (lines : List Line) (left : List (List Pending)) (failmode : Failmode) (made : List (List ℕ × Tree)) (rest : Plan → State → Course) (fits : Tree → Type 0) (rounds : ℕ) (fault : RunFault)
+    (end : SeenEnd) (lines : List ReportLine) (left : List (List Pending)) (failmode : Failmode) (made : List (List ℕ × Tree)) (rest : Plan → State → Course) (fits : Tree → Type 0) (rounds : ℕ) (fault : RunFault)
     → IsOther fault → w.stopped ≡ false → script.failmode ≡ failmode → AllByRecursion (IsOrderlyBatch (rows_tell_apart s.rows)) later
     → IsCourseAt show n script before s f ahead later old images printed (λ plan st. then_course (run_suspended plan st) (rest plan))
     → IsSteady fits s rounds f
@@ -212,7 +211,7 @@ clear_cut {w = w} show n script before s now f ahead later old new images after 
     (clear_told show n script before s now f g ahead later old new images after printed text end lines left failmode made rest fits rounds mode orderly_later h steady ran over stands round_is refl refl refl refl refl refl text_is))
 
 pub clear_untold : {w : Stopping} → (show : Show) (n : RunSize) (script : Script) (before : Images) (s now : Standing) (f : SeenFold) (ahead : Ahead) (later : List (List Request)) (old new : Journal) (images after : Images) (printed : List ℕ)
-    (end : RoundEnd (List Pending)) (failmode : Failmode) (rest : Plan → State → Course) (fits : Tree → Type 0) (rounds : ℕ) (fault : RunFault)
+    (end : SeenEnd) (failmode : Failmode) (rest : Plan → State → Course) (fits : Tree → Type 0) (rounds : ℕ) (fault : RunFault)
     → IsOther fault → w.stopped ≡ false → script.failmode ≡ failmode → AllByRecursion (IsOrderlyBatch (rows_tell_apart s.rows)) later
     → IsCourseAt show n script before s f ahead later old images printed (λ plan st. then_course (run_suspended plan st) (rest plan))
     → IsSteady fits s rounds f
@@ -222,7 +221,7 @@ pub clear_untold : {w : Stopping} → (show : Show) (n : RunSize) (script : Scri
     → (text : List ℕ) × IsCut show n script before s.tops w fault new after (printed ++ text)
 clear_untold {w = w} show n script before s now f ahead later old new images after printed end failmode rest fits rounds fault other calm mode orderly_later h steady entered over stands round_is =
     let bound : Bound = bound_after (ended_told no_error end.finished f.unfinished) (names_of f.bound) in
-    let lines : List Line = map (line_told no_error end.finished) f.unfinished in
+    let lines : List ReportLine = map (line_told no_error end.finished) f.unfinished in
     let text : List ℕ = round_text show (record { round = old.rounds + 1; batch = None; point = f.point }) lines end.entries end.completions in
     let none : List Completion = [] in (
       text,
@@ -313,17 +312,17 @@ len_map h [] = refl
 len_map h (x ∷ xs) = ap (λ (n : ℕ). suc n) (len_map h xs)
 
 -- each request of the round was counted, or waits
-pub few_told : (old new : Tally) (lines : List Line) (front now rs : List Request) → new ≡ counted_in lines old → now ≡ front ++ waiting_of rs lines → length rs ≡ length lines
+pub few_told : (old new : Tally) (lines : List ReportLine) (front now rs : List Request) → new ≡ counted_in lines old → now ≡ front ++ waiting_of rs lines → length rs ≡ length lines
     → new.good + new.bad + length now ≡ old.good + old.bad + length front + length rs
 few_told old new lines front now rs tally_is now_is same =
     let counts = line_counts lines old in
-    let a : new.good ≡ old.good + tally (λ (l : Line). good_line l.result) lines = ap (λ (t : Tally). t.good) tally_is ∙ counts.good in
-    let b : new.bad ≡ old.bad + tally (λ (l : Line). bad_line l.result) lines = ap (λ (t : Tally). t.bad) tally_is ∙ counts.bad in
+    let a : new.good ≡ old.good + tally (λ (l : ReportLine). good_line l.result) lines = ap (λ (t : Tally). t.good) tally_is ∙ counts.good in
+    let b : new.bad ≡ old.bad + tally (λ (l : ReportLine). bad_line l.result) lines = ap (λ (t : Tally). t.bad) tally_is ∙ counts.bad in
     let d : length now ≡ length front + length (waiting_of rs lines) = ap length now_is ∙ length-append front (waiting_of rs lines) in
     let e = waits_and_counts rs lines same in omega arith
 
 -- places in use stay inside the tops
-inside_after : (s now : Standing) (round : ℕ) (trees : List (List Pending)) (end : RoundEnd (List Pending)) → StandsAfter s now round trees end → IsRoundEnd s round trees end
+inside_after : (s now : Standing) (round : ℕ) (trees : List (List Pending)) (end : SeenEnd) → StandsAfter s now round trees end → IsRoundEnd s round trees end
     → ((p : Place) → Contains s.live p → IsTrue (is_inside (sizes_of s.tops) p)) → (p : Place) → Contains now.live p → IsTrue (is_inside (sizes_of now.tops) p)
 inside_after s now round trees end stands over inside p at = subst (λ (tops : List Top). IsTrue (is_inside (sizes_of tops) p)) (sym stands.tops) (go ((stands.live p).0 at))
   where
@@ -331,7 +330,7 @@ inside_after s now round trees end stands over inside p at = subst (λ (tops : L
     go (inl old) = inside p old.0
     go (inr made) = one_passing (is_inside (sizes_of s.tops)) (made_places end.finished) p over.inside (contains_one p (made_places end.finished) made)
 
-pub batch_steady : (fits : Tree → Type 0) (s now : Standing) (old new : Journal) (f g : SeenFold) (items : List Item) (number : ℕ) (slots : List (ℕ × ℕ)) (rules : List Rules) (end : RoundEnd (List Pending)) (lines : List Line) (left : List (List Pending)) (made : List (List ℕ × Tree))
+pub batch_steady : (fits : Tree → Type 0) (s now : Standing) (old new : Journal) (f g : SeenFold) (items : List Item) (number : ℕ) (slots : List (ℕ × ℕ)) (rules : List Rules) (end : SeenEnd) (lines : List ReportLine) (left : List (List Pending)) (made : List (List ℕ × Tree))
     → IsSteady fits s old.rounds f → AreRising (f.unfinished ++ requests_of items) → IsOrderlyBatch (rows_tell_apart s.rows) (requests_of items)
     → IsAdmission (has_trees f.suspended) (is_name_in f.awaited) (is_some_name f.bound) (trees_of (requests_of items)) slots rules
     → IsBatchRun (error_in slots rules) (requests_of items) f.bound made old new end lines left
@@ -372,7 +371,7 @@ batch_steady fits s now old new f g items number slots rules end lines left made
       sums = sums;
     }
 
-pub clear_steady : (fits : Tree → Type 0) (s now : Standing) (old new : Journal) (f g : SeenFold) (end : RoundEnd (List Pending)) (lines : List Line) (left : List (List Pending)) (made : List (List ℕ × Tree))
+pub clear_steady : (fits : Tree → Type 0) (s now : Standing) (old new : Journal) (f g : SeenFold) (end : SeenEnd) (lines : List ReportLine) (left : List (List Pending)) (made : List (List ℕ × Tree))
     → IsSteady fits s old.rounds f
     → IsBatchRun no_error f.unfinished f.bound made old new end lines left
     → IsRoundEnd s (old.rounds + 1) f.suspended end → StandsAfter s now (old.rounds + 1) f.suspended end
@@ -407,15 +406,15 @@ pub ends_alone : (old new : Journal) (requests : List Request) (ends : List Comp
 ends_alone old new requests ends is = is ∙ ap (λ (cs : List Completion). old.completions ++ (reverse cs ++ ends)) (none_answered (old.rounds + 1) requests)
 
 -- what the round of a clear answers, by its trees and their requests
-abbrev pub ClearRan : Standing → Standing → (Images → Type 0) → (Images → Type 0) → Failmode → ℕ → List (List ℕ × Tree) → List (List ℕ × Tree) → Journal → Journal → List Line → List (List Pending)
+abbrev pub ClearRan : Standing → Standing → (Images → Type 0) → (Images → Type 0) → Failmode → ℕ → List (List ℕ × Tree) → List (List ℕ × Tree) → Journal → Journal → List ReportLine → List (List Pending)
     → List (List Pending) → List Request → Type 0
-ClearRan s now tells new_tells failmode point bound made old new lines left trees unfinished = (end : RoundEnd (List Pending))
+ClearRan s now tells new_tells failmode point bound made old new lines left trees unfinished = (end : SeenEnd)
     × IsBatchRun no_error unfinished bound made old new end lines left
     × IsRoundEnd s (old.rounds + 1) trees end
     × StandsAfter s now (old.rounds + 1) trees end
     × ((before : Images) → tells before → (after : Images) × new_tells after × IsRound (terms_at s failmode (old.rounds + 1) point) trees before after end)
 
-pub clear_moved : (s now : Standing) (tells new_tells : Images → Type 0) (failmode : Failmode) (point : ℕ) (bound made : List (List ℕ × Tree)) (old new : Journal) (lines : List Line) (left trees waits : List (List Pending)) (requests unfinished : List Request)
+pub clear_moved : (s now : Standing) (tells new_tells : Images → Type 0) (failmode : Failmode) (point : ℕ) (bound made : List (List ℕ × Tree)) (old new : Journal) (lines : List ReportLine) (left trees waits : List (List Pending)) (requests unfinished : List Request)
     → trees ≡ waits → requests ≡ unfinished → ClearRan s now tells new_tells failmode point bound made old new lines left trees requests → ClearRan s now tells new_tells failmode point bound made old new lines left waits unfinished
 clear_moved s now tells new_tells failmode point bound made old new lines left trees waits requests unfinished same alike h =
     subst (λ (ts : List (List Pending)). ClearRan s now tells new_tells failmode point bound made old new lines left ts unfinished) same

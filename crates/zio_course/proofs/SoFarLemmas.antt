@@ -12,7 +12,7 @@ use Rattle.zio_cksum.specs.Images.{Images}
 use Rattle.zio_gang.specs.Journals.{AreChoicesOf, AreCompletions, AreCompletionsOf, CompleteAfterChildren, CompleteOnce, IsLawfulJournal, choices_in, completions_in}
 use Rattle.zio_gang.specs.Runs.{Course, Event, Plan, Round, State, add_events, plan_of, rounds_of, run_script, then_course}
 use Rattle.zio_gang.specs.Runs.Event.{RanRound, HeldBatch}
-use Rattle.zio_report.specs.declared.report.Line.{Line}
+use Rattle.zio_report.specs.declared.report.ReportLine.{ReportLine}
 use Rattle.zio_report.specs.declared.report.RoundHead.{RoundHead}
 use Rattle.zio_report.specs.declared.report.Show.{Show}
 use Rattle.zio_report.specs.declared.report.Show.TheVariants.{Report, Summary}
@@ -49,7 +49,7 @@ so_far_push (Report journal bytes) n j xs e =
     ∙ sym (append_assoc (pool_text n.tops n.images) (flat_map (event_text (Report journal bytes) j) xs) (event_text (Report journal bytes) j e))
 so_far_push Summary n j xs e = refl
 
-shown_round : (show : Show) (head : RoundHead) (lines : List Line) (choices : List Choice) (done : List Completion)
+shown_round : (show : Show) (head : RoundHead) (lines : List ReportLine) (choices : List Choice) (done : List Completion)
     → shown_of show (round_text show head lines choices done) ≡ round_text show head lines choices done
 shown_round (Report journal bytes) head lines choices done = refl
 shown_round Summary head lines choices done = refl
@@ -76,7 +76,7 @@ reaches_next script before old new entries events more step st rest reached plac
 
 -- One round more: its entries, completions and text.
 pub so_far_round : (show : Show) (n : RunSize) (sizes : List TopSize) (requests : List Request) (old new : Journal) (events : List Event) (printed : List ℕ) (round : Round)
-    (head : RoundHead) (lines : List Line) (entries : List Choice) (done : List Completion)
+    (head : RoundHead) (lines : List ReportLine) (entries : List Choice) (done : List Completion)
     → IsEnteredSoFar show n sizes requests old events printed
     → new.places ≡ old.places ++ entries → new.completions ≡ old.completions ++ done → new.rounds ≡ old.rounds + 1
     → AllByRecursion (λ (c : Choice). c.asked.key.round ≡ old.rounds + 1) entries
@@ -105,7 +105,7 @@ so_far_round show n sizes requests old new events printed round head lines entri
           ∙ in_round (λ (c : Completion). c.round) old.rounds old.completions new.completions done last completions h.completions_below done_of done_later in
           let text : event_text show (seen cs ds) (RanRound round) ≡ round_text show head lines entries done =
           ap (λ (x : RoundHead). round_text show x (lines_of round) (choices_in round.number cs) (completions_in round.number ds)) head_is
-          ∙ (ap (λ (x : List Line). round_text show head x (choices_in round.number cs) (completions_in round.number ds)) lines_is
+          ∙ (ap (λ (x : List ReportLine). round_text show head x (choices_in round.number cs) (completions_in round.number ds)) lines_is
           ∙ (ap (λ (x : List Choice). round_text show head lines x (completions_in round.number ds)) own
           ∙ ap (λ (x : List Completion). round_text show head lines entries x) ends)) in
           let earlier : printed ≡ text_so_far show n (seen cs ds) events =

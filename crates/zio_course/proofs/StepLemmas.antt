@@ -18,18 +18,17 @@ use Rattle.zio_gang.specs.Rounds.{Admitted, Bound, Ran, admission, admit_with, a
 use Rattle.zio_gang.specs.Runs.{Plan, Round, State, after_round, has_trees, round_of, run_batch, terms_of}
 use Rattle.zio_gang.specs.Trees.{sizes_of}
 use Rattle.zio_gang.proofs.FateLemmas.{batch_held, tally, tally-append}
-use Rattle.zio_report.specs.declared.report.Line.{Line}
+use Rattle.zio_report.specs.declared.report.ReportLine.{ReportLine}
 use Rattle.zio_report.specs.Reports.{by_number, line_of_ended, line_of_pending}
 use Rattle.zio_course.specs.declared.admission.Rules.{Rules}
-use Rattle.zio_course.specs.declared.runner.Finished.{Finished}
-use Rattle.zio_course.specs.declared.runner.RoundEnd.{RoundEnd}
+use Rattle.zio_course.specs.declared.runner.RequestEnd.{RequestEnd}
 use Rattle.zio_course.specs.Admissions.{IsAdmission, error_in}
 use Rattle.zio_course.specs.Admitted.{AreAwaited}
 use Rattle.zio_course.specs.Answered.{answered_in}
 use Rattle.zio_course.specs.Entered.{IsBatchRun}
 use Rattle.zio_course.specs.Forests.{names_of, running}
 use Rattle.zio_course.specs.Names.{is_some_name}
-use Rattle.zio_course.specs.Runners.{AreRisingFrom, IsRound, IsRoundEnd, Standing, completion_for, finished_by_number, finished_of, terms_at}
+use Rattle.zio_course.specs.Runners.{AreRisingFrom, IsRound, IsRoundEnd, SeenEnd, Standing, completion_for, finished_by_number, finished_of, terms_at}
 use Rattle.zio_course.specs.Steps.{IsAt, IsNextRound, IsPlanOf}
 use Rattle.zio_course.specs.Told.{ended_as, ended_by, ended_told, finish_of, line_told}
 use Rattle.zio_course.proofs.AdmissionLemmas.{stand_once}
@@ -50,33 +49,33 @@ pub some_same : {X : Type 0} (x y : X) → Some x ≡ Some y → x ≡ y
 some_same x y e = cc
 
 -- what is found by its number is there and has it
-pub record Found (fs : List Finished) (n : ℕ) (f : Finished) : Type 0 where
+pub record Found (fs : List RequestEnd) (n : ℕ) (f : RequestEnd) : Type 0 where
   pub at : IsOneOf f fs
   pub number : f.request ≡ n
 
-found_if : (b : Bool) (g : Finished) (fs : List Finished) (n : ℕ) (f : Finished) → eqb g.request n ≡ b → cond b (Some g) (finish_of fs n) ≡ Some f
+found_if : (b : Bool) (g : RequestEnd) (fs : List RequestEnd) (n : ℕ) (f : RequestEnd) → eqb g.request n ≡ b → cond b (Some g) (finish_of fs n) ≡ Some f
     → (finish_of fs n ≡ Some f → Found fs n f) → Found (g ∷ fs) n f
 found_if true g fs n f e is later =
     let same : g ≡ f = some_same g f is in
-    record { at = inl same; number = ap (λ (x : Finished). x.request) (sym same) ∙ eqb-true g.request n e }
+    record { at = inl same; number = ap (λ (x : RequestEnd). x.request) (sym same) ∙ eqb-true g.request n e }
 found_if false g fs n f e is later = let rest = later is in record { at = inr rest.at; number = rest.number }
 
-pub found_there : (fs : List Finished) (n : ℕ) (f : Finished) → finish_of fs n ≡ Some f → Found fs n f
+pub found_there : (fs : List RequestEnd) (n : ℕ) (f : RequestEnd) → finish_of fs n ≡ Some f → Found fs n f
 found_there [] n f is = absurd (let no = is in cc)
 found_there (g ∷ fs) n f is = found_if (eqb g.request n) g fs n f refl is (λ later. found_there fs n f later)
 
 -- what finished is of a request that ended
-record EndOf (ended : List Ended) (f : Finished) : Type 0 where
+record EndOf (ended : List Ended) (f : RequestEnd) : Type 0 where
   end : Ended
   at : IsOneOf end ended
   same : finished_of end ≡ f
 
 ends_of : (ended : List Ended) → AllByRecursion (EndOf ended) (finished_by_number ended)
 ends_of ended =
-    all_merge (λ (f : Finished). f.request) (EndOf ended) (map finished_of ended)
+    all_merge (λ (f : RequestEnd). f.request) (EndOf ended) (map finished_of ended)
     (all_one (EndOf ended) (map finished_of ended) (λ f at. made ended f (λ e here. here) at))
   where
-    made : (es : List Ended) (f : Finished) → ((e : Ended) → IsOneOf e es → IsOneOf e ended) → IsOneOf f (map finished_of es) → EndOf ended f
+    made : (es : List Ended) (f : RequestEnd) → ((e : Ended) → IsOneOf e es → IsOneOf e ended) → IsOneOf f (map finished_of es) → EndOf ended f
     made [] f within at = absurd at
     made (e ∷ es) f within (inl same) = record { end = e; at = within e (inl refl); same = same }
     made (e ∷ es) f within (inr at) = made es f (λ x here. within x (inr here)) at
@@ -97,15 +96,15 @@ one_number (x ∷ rs) q r rising (inr a) (inr b) same = one_number rs q r rising
 
 module _ (error : ℕ → Option Errno) (requests : List Request) (ended : List Ended) (rising : AreRising requests)
     (inside : AllByRecursion (λ (e : Ended). IsOneOf e.request requests) ended) (free : AllByRecursion (λ (e : Ended). error e.request.number ≡ None) ended)
-    (up : AreRisingFrom 0 (map (λ (f : Finished). f.request) (finished_by_number ended))) where
-  told_one_if : (o : Option Errno) (found : Option Finished) (r : Request) → IsOneOf r requests → finish_of (finished_by_number ended) r.number ≡ found
+    (up : AreRisingFrom 0 (map (λ (f : RequestEnd). f.request) (finished_by_number ended))) where
+  told_one_if : (o : Option Errno) (found : Option RequestEnd) (r : Request) → IsOneOf r requests → finish_of (finished_by_number ended) r.number ≡ found
       → AllByRecursion (λ (e : Ended). IsOneOf e ended) (ended_by o found r)
   told_one_if (Some x) found r at is = tt
   told_one_if None None r at is = tt
   told_one_if None (Some f) r at is =
       let found : Found (finished_by_number ended) r.number f = found_there (finished_by_number ended) r.number f is in
       let end : EndOf ended f = one_all (EndOf ended) f (finished_by_number ended) (ends_of ended) found.at in
-      let number : end.end.request.number ≡ r.number = ap (λ (x : Finished). x.request) end.same ∙ found.number in
+      let number : end.end.request.number ≡ r.number = ap (λ (x : RequestEnd). x.request) end.same ∙ found.number in
       let request : end.end.request ≡ r =
       one_number requests end.end.request r rising (one_all (λ (e : Ended). IsOneOf e.request requests) end.end ended inside end.at) at number in
       let same : end.end ≡ ended_as r f = ap (λ (q : Request). ended_as q (finished_of end.end)) request ∙ ap (ended_as r) end.same in
@@ -130,7 +129,7 @@ module _ (error : ℕ → Option Errno) (requests : List Request) (ended : List 
       let found : finish_of (finished_by_number ended) r.number ≡ Some (finished_of e) =
       ap (λ (q : Request). finish_of (finished_by_number ended) q.number) same ∙ ended_found ended e up at in
       let is : ended_by (error r.number) (finish_of (finished_by_number ended) r.number) r ≡ ended_as r (finished_of e) ∷ [] =
-      ap (λ (o : Option Errno). ended_by o (finish_of (finished_by_number ended) r.number) r) none ∙ ap (λ (f : Option Finished). ended_by None f r) found in
+      ap (λ (o : Option Errno). ended_by o (finish_of (finished_by_number ended) r.number) r) none ∙ ap (λ (f : Option RequestEnd). ended_by None f r) found in
       one_left e (ended_by (error r.number) (finish_of (finished_by_number ended) r.number) r) (ended_told error (finished_by_number ended) rs)
       (subst (IsOneOf e) (sym is) (inl (ap (λ (q : Request). ended_as q (finished_of e)) same)))
   ended_told_one (r ∷ rs) e at (inr here) =
@@ -229,7 +228,7 @@ from_trees P requests rising behind h =
 -- ---- the round of a batch
 
 pub batch_round : (apart : Bool) (plan : Plan) (st : State) (s : Standing) (failmode : Failmode) (bound new_bound : List (List ℕ × Tree)) (suspended : List (List Pending)) (awaited : List ℕ → Bool)
-    (number point : ℕ) (items : List Item) (slots : List (ℕ × ℕ)) (rules : List Rules) (before after : Images) (old new : Journal) (end : RoundEnd (List Pending)) (lines : List Line) (left : List (List Pending))
+    (number point : ℕ) (items : List Item) (slots : List (ℕ × ℕ)) (rules : List Rules) (before after : Images) (old new : Journal) (end : SeenEnd) (lines : List ReportLine) (left : List (List Pending))
     → let requests : List Request = requests_of items in
     let trees : List (List Pending) = pending_trees (names_of bound) number (trees_of (running slots rules items)) in
     IsPlanOf s failmode plan → IsAt s bound suspended old.rounds point before st
@@ -265,8 +264,8 @@ batch_round apart plan st s failmode bound new_bound suspended awaited number po
     ap (λ (ts : List (List Pending)). settle_each plan.journal (terms_of plan st) ts st.images) trees_same
     ∙ settled_at plan st s failmode (old.rounds + 1) point end.entries trees before plan_is at.point_is (ap (λ (n : ℕ). n + 1) at.rounds_is) at.used at.images_are own in
     let finished_is : end.finished ≡ finished_by_number ran_now.ended = round_is.finished_is in
-    let up : AreRisingFrom 0 (map (λ (f : Finished). f.request) (finished_by_number ran_now.ended)) =
-    subst (λ (fs : List Finished). AreRisingFrom 0 (map (λ (f : Finished). f.request) fs)) finished_is over.rising in
+    let up : AreRisingFrom 0 (map (λ (f : RequestEnd). f.request) (finished_by_number ran_now.ended)) =
+    subst (λ (fs : List RequestEnd). AreRisingFrom 0 (map (λ (f : RequestEnd). f.request) fs)) finished_is over.rising in
     let inside_a = admit_all (λ (r : Request). IsOneOf r requests) suspended test (trees_of requests) (all_in_trees (λ (r : Request). IsOneOf r requests) requests (one_itself requests)) in
     let judged = judged_lines error (finished_by_number ran_now.ended) suspended test (trees_of requests) judge in
     let inside : AreTreesOf (λ (r : Request). IsOneOf r requests) trees =
@@ -276,7 +275,7 @@ batch_round apart plan st s failmode bound new_bound suspended awaited number po
     let round : Round = round_of st (Some number) a_st.answered ran_st in
     let lines_same : by_number (map line_of_ended (a.answered ++ ran_now.ended) ++ flat_map (map line_of_pending) ran_now.left) ≡ lines =
     batch_lines_over error suspended test requests (names_of bound) number trees end.entries t before rising behind judge trees_are up
-    ∙ (ap (λ (fs : List Finished). map (line_told error fs) requests) (sym finished_is) ∙ sym ran.lines_are) in (
+    ∙ (ap (λ (fs : List RequestEnd). map (line_told error fs) requests) (sym finished_is) ∙ sym ran.lines_are) in (
       round,
       refl,
       record {
@@ -290,7 +289,7 @@ batch_round apart plan st s failmode bound new_bound suspended awaited number po
             ap (λ (x : Ran). block_of (bound_after x.ended st.bound) name) ran_is
             ∙ (ran_names error requests ran_now.ended rising (ran_of (λ (r : Request). IsOneOf r requests) end.entries t trees before inside).0
             (ran_of (λ (r : Request). error r.number ≡ None) end.entries t trees before free).0 up apart st.bound (names_of bound) name names (at.names name ∙ named_of name bound)
-            ∙ (ap (λ (fs : List Finished). block_of (bound_after (ended_told error fs requests) (names_of bound)) name) (sym finished_is) ∙ sym (ran.bound_is name)));
+            ∙ (ap (λ (fs : List RequestEnd). block_of (bound_after (ended_told error fs requests) (names_of bound)) name) (sym finished_is) ∙ sym (ran.bound_is name)));
         choices_are = subst (λ (asks : List Ask). AreChoicesOf (sizes_of s.tops) (used_places st.bound) asks end.entries) (ap (λ (x : Ran). x.asks) (sym ran_is))
             (choices_same (sizes_of s.tops) s.live (used_places st.bound) ran_now.asks end.entries (SamePlaces-back (used_places st.bound) s.live at.used) round_is.choices);
         completions_are = subst (λ (n : ℕ). AreCompletionsOf (n + 1) (a_st.answered ++ ran_st.ended) (reverse (answered_in error (old.rounds + 1) requests) ++ end.completions)) (sym at.rounds_is)
@@ -315,17 +314,17 @@ batch_round apart plan st s failmode bound new_bound suspended awaited number po
         (are_answered (error_in slots rules) suspended (is_some_name bound) (trees_of (requests_of items)) judge) among
         (from_trees (IsAmongAnswered (error_in slots rules) answered) (requests_of items) rising behind
         (all_answered (error_in slots rules) suspended (is_some_name bound) (trees_of (requests_of items)) judge))
-        (subst (λ (fs : List Finished). AllByRecursion (λ c. Contains (map (completion_for (old.rounds + 1)) fs) c) end.completions) finished_is over.completed)
-        (subst (λ (fs : List Finished). AllByRecursion (λ c. Contains end.completions c) (map (completion_for (old.rounds + 1)) fs)) finished_is over.all_completed)
+        (subst (λ (fs : List RequestEnd). AllByRecursion (λ c. Contains (map (completion_for (old.rounds + 1)) fs) c) end.completions) finished_is over.completed)
+        (subst (λ (fs : List RequestEnd). AllByRecursion (λ c. Contains end.completions c) (map (completion_for (old.rounds + 1)) fs)) finished_is over.all_completed)
 
     batch_lines_over : (error : ℕ → Option Errno) (suspended : List (List Pending)) (test : List ℕ → Bool) (requests : List Request) (names : Bound) (birth : ℕ) (trees : List (List Pending)) (j : List Choice) (t : Terms) (images : Images)
         → AreRising requests → AreBehindParents [] requests → Judge error (admission suspended test) (trees_of requests)
         → pending_trees names birth (admitted suspended test (trees_of requests)).trees ≡ trees
-        → AreRisingFrom 0 (map (λ (f : Finished). f.request) (finished_by_number (settle_each j t trees images).ended))
+        → AreRisingFrom 0 (map (λ (f : RequestEnd). f.request) (finished_by_number (settle_each j t trees images).ended))
         → by_number (map line_of_ended ((admitted suspended test (trees_of requests)).answered ++ (settle_each j t trees images).ended) ++ flat_map (map line_of_pending) (settle_each j t trees images).left)
         ≡ map (line_told error (finished_by_number (settle_each j t trees images).ended)) requests
     batch_lines_over error suspended test requests names birth trees j t images rising behind judge is up =
-        subst (λ (ts : List (List Pending)). AreRisingFrom 0 (map (λ (f : Finished). f.request) (finished_by_number (settle_each j t ts images).ended))
+        subst (λ (ts : List (List Pending)). AreRisingFrom 0 (map (λ (f : RequestEnd). f.request) (finished_by_number (settle_each j t ts images).ended))
         → by_number (map line_of_ended ((admitted suspended test (trees_of requests)).answered ++ (settle_each j t ts images).ended) ++ flat_map (map line_of_pending) (settle_each j t ts images).left)
         ≡ map (line_told error (finished_by_number (settle_each j t ts images).ended)) requests) is
         (λ over. batch_lines error suspended test requests names birth j t images rising behind judge over) up

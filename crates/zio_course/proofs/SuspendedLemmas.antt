@@ -11,8 +11,8 @@ use Rattle.zio_script.specs.Accepted.{AreRising}
 use Rattle.std.specs.List.{AllByRecursion}
 use Rattle.zio_gang.specs.Attempts.{Pending}
 use Rattle.zio_gang.specs.declared.tree.Tree.{Tree}
-use Rattle.zio_report.specs.declared.report.Line.{Line}
-use Rattle.zio_course.specs.declared.runner.Finished.{Finished}
+use Rattle.zio_report.specs.declared.report.ReportLine.{ReportLine}
+use Rattle.zio_course.specs.declared.runner.RequestEnd.{RequestEnd}
 use Rattle.zio_course.specs.Admissions.{has_number}
 use Rattle.zio_course.specs.Answered.{answered_in}
 use Rattle.zio_course.specs.Runners.{AreRisingFrom, is_numbered, numbers_of, requests_in}
@@ -34,7 +34,7 @@ all_kept [] = refl
 all_kept (r ∷ rs) = ap (λ (qs : List Request). r ∷ qs) (all_kept rs)
 
 -- the requests before the first of them is told of
-pub telling_first : (finished : List Finished) (rs : List Request) (old : List (List ℕ × Tree)) (lines : List Line) → AreRising rs → AreFinishedOf rs finished → lines ≡ []
+pub telling_first : (finished : List RequestEnd) (rs : List Request) (old : List (List ℕ × Tree)) (lines : List ReportLine) → AreRising rs → AreFinishedOf rs finished → lines ≡ []
     → IsTelling no_error finished rs old (as_lines rs) finished lines old []
 telling_first finished rs old lines rising left none =
     subst (λ (qs : List Request). IsTelling no_error finished qs old (as_lines rs) finished lines old []) (requests_as_lines rs)
@@ -70,22 +70,22 @@ lacking_none n (r ∷ rs) h = go (eqb r.number n) refl (lacking_none n rs) h
     go false e later k = ap (λ (b : Bool). cond b (1 + times n (numbers_of rs)) (times n (numbers_of rs))) e ∙ later k
 
 -- what finished of the suspended trees is of some of their requests, in their order
-pub finished_of_suspended : (suspended left : List (List Pending)) (rs : List Request) (finished : List Finished) → AreUnfinished suspended rs
-    → AreRisingFrom 0 (map (λ (f : Finished). f.request) finished)
+pub finished_of_suspended : (suspended left : List (List Pending)) (rs : List Request) (finished : List RequestEnd) → AreUnfinished suspended rs
+    → AreRisingFrom 0 (map (λ (f : RequestEnd). f.request) finished)
     → ((n : ℕ) → count_by (is_numbered n) (numbers_of (requests_in suspended))
-    ≡ count_by (is_numbered n) (map (λ (f : Finished). f.request) finished) + count_by (is_numbered n) (numbers_of (requests_in left)))
+    ≡ count_by (is_numbered n) (map (λ (f : RequestEnd). f.request) finished) + count_by (is_numbered n) (numbers_of (requests_in left)))
     → AreFinishedOf rs finished
 finished_of_suspended suspended left rs finished h up each =
     of_some rs 0 finished h.rising up (numbered finished (λ n some. true_if (has_number n rs) (λ none.
     (let absent : times n (numbers_of rs) ≡ 0 = lacking_none n rs none in
     let own = times_is n (numbers_of rs) in
-    let count = times_is n (map (λ (f : Finished). f.request) finished) in
+    let count = times_is n (map (λ (f : RequestEnd). f.request) finished) in
     let whole = h.each n in
-    let split = each n in omega arith))) (own_times (map (λ (f : Finished). f.request) finished)))
+    let split = each n in omega arith))) (own_times (map (λ (f : RequestEnd). f.request) finished)))
   where
-    numbered : (fs : List Finished) → ((n : ℕ) → 1 ≤ times n (map (λ (f : Finished). f.request) finished) → has_number n rs ≡ true)
-        → AllByRecursion (λ n. 1 ≤ times n (map (λ (f : Finished). f.request) finished)) (map (λ (f : Finished). f.request) fs)
-        → AllByRecursion (λ (f : Finished). has_number f.request rs ≡ true) fs
+    numbered : (fs : List RequestEnd) → ((n : ℕ) → 1 ≤ times n (map (λ (f : RequestEnd). f.request) finished) → has_number n rs ≡ true)
+        → AllByRecursion (λ n. 1 ≤ times n (map (λ (f : RequestEnd). f.request) finished)) (map (λ (f : RequestEnd). f.request) fs)
+        → AllByRecursion (λ (f : RequestEnd). has_number f.request rs ≡ true) fs
     numbered [] has k = tt
     numbered (f ∷ fs) has k = (has f.request k.0, numbered fs has k.1)
 

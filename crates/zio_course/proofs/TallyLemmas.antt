@@ -19,7 +19,7 @@ use Rattle.zio_gang.specs.Attempts.{Attempt, Attempted, Child, Ended, Own, Pendi
 use Rattle.zio_gang.specs.ByNumber.{insert_by, insert_if, merge_by}
 use Rattle.zio_gang.specs.Rounds.{Ran, settle_each}
 use Rattle.zio_gang.proofs.FateLemmas.{tally, tally-append}
-use Rattle.zio_report.specs.declared.report.Line.{Line}
+use Rattle.zio_report.specs.declared.report.ReportLine.{ReportLine}
 use Rattle.zio_report.specs.declared.report.LineResult.{LineResult}
 use Rattle.zio_report.specs.declared.report.LineResult.TheVariants.{Suspended, Failed, Done, Sized, Bytes}
 use Rattle.zio_report.specs.Reports.{by_number, good_result, line_of_ended, line_of_pending, result_with, sized_by}
@@ -63,12 +63,12 @@ one_more Done t = record { good = omega arith; bad = omega arith; read = omega a
 one_more (Sized n) t = record { good = omega arith; bad = omega arith; read = omega arith }
 one_more (Bytes bytes) t = record { good = omega arith; bad = omega arith; read = omega arith }
 
-pub record Counts (ls : List Line) (t : Tally) : Type 0 where
-  pub good : (counted_in ls t).good ≡ t.good + tally (λ (l : Line). good_line l.result) ls
-  pub bad : (counted_in ls t).bad ≡ t.bad + tally (λ (l : Line). bad_line l.result) ls
-  pub read : (counted_in ls t).read ≡ t.read + tally (λ (l : Line). read_line l.result) ls
+pub record Counts (ls : List ReportLine) (t : Tally) : Type 0 where
+  pub good : (counted_in ls t).good ≡ t.good + tally (λ (l : ReportLine). good_line l.result) ls
+  pub bad : (counted_in ls t).bad ≡ t.bad + tally (λ (l : ReportLine). bad_line l.result) ls
+  pub read : (counted_in ls t).read ≡ t.read + tally (λ (l : ReportLine). read_line l.result) ls
 
-pub line_counts : (ls : List Line) (t : Tally) → Counts ls t
+pub line_counts : (ls : List ReportLine) (t : Tally) → Counts ls t
 line_counts [] t = record { good = omega arith; bad = omega arith; read = omega arith }
 line_counts (l ∷ ls) t =
     let one = one_more l.result t in
@@ -80,15 +80,15 @@ line_counts (l ∷ ls) t =
     }
 
 -- each request of a round is counted, or waits
-pub waits_and_counts : (rs : List Request) (ls : List Line) → length rs ≡ length ls
-    → tally (λ (l : Line). good_line l.result) ls + tally (λ (l : Line). bad_line l.result) ls + length (waiting_of rs ls) ≡ length ls
+pub waits_and_counts : (rs : List Request) (ls : List ReportLine) → length rs ≡ length ls
+    → tally (λ (l : ReportLine). good_line l.result) ls + tally (λ (l : ReportLine). bad_line l.result) ls + length (waiting_of rs ls) ≡ length ls
 waits_and_counts [] [] h = refl
 waits_and_counts [] (l ∷ ls) h = absurd (omega arith)
 waits_and_counts (r ∷ rs) [] h = absurd (omega arith)
 waits_and_counts (r ∷ rs) (l ∷ ls) h = go l.result (waits_and_counts rs ls (omega arith))
   where
-    go : (x : LineResult) → tally (λ (m : Line). good_line m.result) ls + tally (λ (m : Line). bad_line m.result) ls + length (waiting_of rs ls) ≡ length ls
-        → (good_line x + tally (λ (m : Line). good_line m.result) ls) + (bad_line x + tally (λ (m : Line). bad_line m.result) ls) + length (waiting_by x r ++ waiting_of rs ls) ≡ suc (length ls)
+    go : (x : LineResult) → tally (λ (m : ReportLine). good_line m.result) ls + tally (λ (m : ReportLine). bad_line m.result) ls + length (waiting_of rs ls) ≡ length ls
+        → (good_line x + tally (λ (m : ReportLine). good_line m.result) ls) + (bad_line x + tally (λ (m : ReportLine). bad_line m.result) ls) + length (waiting_by x r ++ waiting_of rs ls) ≡ suc (length ls)
     go Suspended k = omega arith
     go (Failed e) k = omega arith
     go Done k = omega arith
@@ -152,63 +152,63 @@ read_kind FreeKind e (inr h) = sym (ap length h)
 read_kind ClaimKind e (inl h) = absurd (let no = h in cc)
 read_kind ClaimKind e (inr h) = sym (ap length h)
 
-ended_good : (es : List Ended) → tally (λ (l : Line). good_line l.result) (map line_of_ended es) ≡ length (filter (λ (e : Ended). is_none e.error) es)
+ended_good : (es : List Ended) → tally (λ (l : ReportLine). good_line l.result) (map line_of_ended es) ≡ length (filter (λ (e : Ended). is_none e.error) es)
 ended_good [] = refl
 ended_good (e ∷ es) = go e.error (ended_good es)
   where
-    go : (o : Option Errno) → tally (λ (l : Line). good_line l.result) (map line_of_ended es) ≡ length (filter (λ (x : Ended). is_none x.error) es)
-        → good_line (result_with o e) + tally (λ (l : Line). good_line l.result) (map line_of_ended es)
+    go : (o : Option Errno) → tally (λ (l : ReportLine). good_line l.result) (map line_of_ended es) ≡ length (filter (λ (x : Ended). is_none x.error) es)
+        → good_line (result_with o e) + tally (λ (l : ReportLine). good_line l.result) (map line_of_ended es)
         ≡ length (cond (is_none o) (e ∷ filter (λ (x : Ended). is_none x.error) es) (filter (λ (x : Ended). is_none x.error) es))
     go None h = let one = good_kind (kind_of e.request.work) e in omega arith
     go (Some x) h = omega arith
 
-ended_bad : (es : List Ended) → tally (λ (l : Line). bad_line l.result) (map line_of_ended es) ≡ length (filter (λ (e : Ended). is_some e.error) es)
+ended_bad : (es : List Ended) → tally (λ (l : ReportLine). bad_line l.result) (map line_of_ended es) ≡ length (filter (λ (e : Ended). is_some e.error) es)
 ended_bad [] = refl
 ended_bad (e ∷ es) = go e.error (ended_bad es)
   where
-    go : (o : Option Errno) → tally (λ (l : Line). bad_line l.result) (map line_of_ended es) ≡ length (filter (λ (x : Ended). is_some x.error) es)
-        → bad_line (result_with o e) + tally (λ (l : Line). bad_line l.result) (map line_of_ended es)
+    go : (o : Option Errno) → tally (λ (l : ReportLine). bad_line l.result) (map line_of_ended es) ≡ length (filter (λ (x : Ended). is_some x.error) es)
+        → bad_line (result_with o e) + tally (λ (l : ReportLine). bad_line l.result) (map line_of_ended es)
         ≡ length (cond (is_some o) (e ∷ filter (λ (x : Ended). is_some x.error) es) (filter (λ (x : Ended). is_some x.error) es))
     go None h = let none = bad_kind (kind_of e.request.work) e in omega arith
     go (Some x) h = omega arith
 
 ended_read : (es : List Ended) → AllByRecursion IsPlain es
-    → tally (λ (l : Line). read_line l.result) (map line_of_ended es) ≡ sum_by (λ (e : Ended). length e.bytes) (filter (λ (e : Ended). is_none e.error) es)
+    → tally (λ (l : ReportLine). read_line l.result) (map line_of_ended es) ≡ sum_by (λ (e : Ended). length e.bytes) (filter (λ (e : Ended). is_none e.error) es)
 ended_read [] h = refl
 ended_read (e ∷ es) h = go e.error (ended_read es h.1)
   where
-    go : (o : Option Errno) → tally (λ (l : Line). read_line l.result) (map line_of_ended es) ≡ sum_by (λ (x : Ended). length x.bytes) (filter (λ (x : Ended). is_none x.error) es)
-        → read_line (result_with o e) + tally (λ (l : Line). read_line l.result) (map line_of_ended es)
+    go : (o : Option Errno) → tally (λ (l : ReportLine). read_line l.result) (map line_of_ended es) ≡ sum_by (λ (x : Ended). length x.bytes) (filter (λ (x : Ended). is_none x.error) es)
+        → read_line (result_with o e) + tally (λ (l : ReportLine). read_line l.result) (map line_of_ended es)
         ≡ sum_by (λ (x : Ended). length x.bytes) (cond (is_none o) (e ∷ filter (λ (x : Ended). is_none x.error) es) (filter (λ (x : Ended). is_none x.error) es))
     go None k =
         let own = read_kind (kind_of e.request.work) e h.0 in
         let first = sum_by-cons (λ (x : Ended). length x.bytes) e (filter (λ (x : Ended). is_none x.error) es) in omega arith
     go (Some x) k = let same = k in omega arith
 
-pending_none : (f : LineResult → ℕ) (left : List (List Pending)) → f Suspended ≡ 0 → tally (λ (l : Line). f l.result) (flat_map (map line_of_pending) left) ≡ 0
+pending_none : (f : LineResult → ℕ) (left : List (List Pending)) → f Suspended ≡ 0 → tally (λ (l : ReportLine). f l.result) (flat_map (map line_of_pending) left) ≡ 0
 pending_none f [] none = refl
 pending_none f (tree ∷ left) none =
-    let a = tally-append (λ (l : Line). f l.result) (map line_of_pending tree) (flat_map (map line_of_pending) left) in
+    let a = tally-append (λ (l : ReportLine). f l.result) (map line_of_pending tree) (flat_map (map line_of_pending) left) in
     let b = own tree in
     let d = pending_none f left none in omega arith
   where
-    own : (ps : List Pending) → tally (λ (l : Line). f l.result) (map line_of_pending ps) ≡ 0
+    own : (ps : List Pending) → tally (λ (l : ReportLine). f l.result) (map line_of_pending ps) ≡ 0
     own [] = refl
     own (p ∷ ps) = let rest = own ps in omega arith
 
 -- The lines of a round count what ended in it.
-pub record RoundCounts (lines : List Line) (t : Tally) (ended : List Ended) : Type 0 where
+pub record RoundCounts (lines : List ReportLine) (t : Tally) (ended : List Ended) : Type 0 where
   pub good : (counted_in lines t).good ≡ t.good + length (filter (λ (e : Ended). is_none e.error) ended)
   pub bad : (counted_in lines t).bad ≡ t.bad + length (filter (λ (e : Ended). is_some e.error) ended)
   pub read : (counted_in lines t).read ≡ t.read + sum_by (λ (e : Ended). length e.bytes) (filter (λ (e : Ended). is_none e.error) ended)
 
-pub round_counts : (t : Tally) (lines : List Line) (ended : List Ended) (left : List (List Pending)) → by_number (map line_of_ended ended ++ flat_map (map line_of_pending) left) ≡ lines
+pub round_counts : (t : Tally) (lines : List ReportLine) (ended : List Ended) (left : List (List Pending)) → by_number (map line_of_ended ended ++ flat_map (map line_of_pending) left) ≡ lines
     → AllByRecursion IsPlain ended → RoundCounts lines t ended
 round_counts t lines ended left is plain =
-    let all : (f : LineResult → ℕ) → f Suspended ≡ 0 → tally (λ (l : Line). f l.result) lines ≡ tally (λ (l : Line). f l.result) (map line_of_ended ended) = λ f none.
-    (let a : tally (λ (l : Line). f l.result) lines ≡ tally (λ (l : Line). f l.result) (map line_of_ended ended ++ flat_map (map line_of_pending) left) =
-    ap (tally (λ (l : Line). f l.result)) (sym is) ∙ merge_tally (λ (l : Line). l.number) (λ (l : Line). f l.result) (map line_of_ended ended ++ flat_map (map line_of_pending) left) in
-    let b = tally-append (λ (l : Line). f l.result) (map line_of_ended ended) (flat_map (map line_of_pending) left) in
+    let all : (f : LineResult → ℕ) → f Suspended ≡ 0 → tally (λ (l : ReportLine). f l.result) lines ≡ tally (λ (l : ReportLine). f l.result) (map line_of_ended ended) = λ f none.
+    (let a : tally (λ (l : ReportLine). f l.result) lines ≡ tally (λ (l : ReportLine). f l.result) (map line_of_ended ended ++ flat_map (map line_of_pending) left) =
+    ap (tally (λ (l : ReportLine). f l.result)) (sym is) ∙ merge_tally (λ (l : ReportLine). l.number) (λ (l : ReportLine). f l.result) (map line_of_ended ended ++ flat_map (map line_of_pending) left) in
+    let b = tally-append (λ (l : ReportLine). f l.result) (map line_of_ended ended) (flat_map (map line_of_pending) left) in
     let d = pending_none f left none in omega arith) in
     let counts = line_counts lines t in
     record {

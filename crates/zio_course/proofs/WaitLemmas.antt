@@ -16,13 +16,12 @@ use Rattle.zio_gang.specs.declared.tree.Tree.{Tree}
 use Rattle.zio_gang.specs.Attempts.{Ended, Pending}
 use Rattle.zio_gang.specs.Rounds.{block_if, block_of, bound_after, passes}
 use Rattle.zio_report.specs.Reports.{good_result, result_with, sized_by}
-use Rattle.zio_course.specs.declared.runner.Finished.{Finished}
-use Rattle.zio_course.specs.declared.runner.RoundEnd.{RoundEnd}
+use Rattle.zio_course.specs.declared.runner.RequestEnd.{RequestEnd}
 use Rattle.zio_course.specs.Folds.{AreSuspended, waiting_by, waiting_of}
 use Rattle.zio_course.specs.Forests.{names_of}
 use Rattle.zio_course.specs.Live.{IsLive, IsRoundOver}
 use Rattle.zio_course.specs.Names.{is_some_name, named_in}
-use Rattle.zio_course.specs.Runners.{AreRunnable, IsRoundEnd, Standing, has_claim, is_numbered, joined_trees, numbers_of, places_of_block, requests_in, rows_tell_apart}
+use Rattle.zio_course.specs.Runners.{AreRunnable, IsRoundEnd, SeenEnd, Standing, has_claim, is_numbered, joined_trees, numbers_of, places_of_block, requests_in, rows_tell_apart}
 use Rattle.zio_course.specs.Told.{ended_as, ended_told, finish_of, line_by, line_told, no_error}
 use Rattle.zio_course.proofs.AdmittedLemmas.{not_both, rising_kept}
 use Rattle.zio_course.proofs.BlockLemmas.{named_between, named_own}
@@ -76,7 +75,7 @@ suspended_runnable s bound suspended unfinished w live =
 -- ---- which requests wait
 
 -- the request was neither answered nor finished
-abbrev pub is_left : (ℕ → Option Errno) → List Finished → Request → Bool
+abbrev pub is_left : (ℕ → Option Errno) → List RequestEnd → Request → Bool
 is_left error finished r = is_none (error r.number) && is_none (finish_of finished r.number)
 
 shown_sized : (tree : Option Tree) (r : Request) → waiting_by (sized_by tree) r ≡ []
@@ -94,12 +93,12 @@ shown_ended : (error : Option Errno) (e : Ended) (r : Request) → waiting_by (r
 shown_ended None e r = shown_good (kind_of e.request.work) e r
 shown_ended (Some x) e r = refl
 
-shown_line : (e : Option Errno) (f : Option Finished) (r : Request) (rest : List Request) → waiting_by (line_by e f r).result r ++ rest ≡ cond (is_none e && is_none f) (r ∷ rest) rest
+shown_line : (e : Option Errno) (f : Option RequestEnd) (r : Request) (rest : List Request) → waiting_by (line_by e f r).result r ++ rest ≡ cond (is_none e && is_none f) (r ∷ rest) rest
 shown_line (Some x) f r rest = refl
 shown_line None None r rest = refl
 shown_line None (Some f) r rest = ap (λ (rs : List Request). rs ++ rest) (shown_ended f.error (ended_as r f) r)
 
-pub waiting_told : (error : ℕ → Option Errno) (finished : List Finished) (rs : List Request) → waiting_of rs (map (line_told error finished) rs) ≡ filter (is_left error finished) rs
+pub waiting_told : (error : ℕ → Option Errno) (finished : List RequestEnd) (rs : List Request) → waiting_of rs (map (line_told error finished) rs) ≡ filter (is_left error finished) rs
 waiting_told error finished [] = refl
 waiting_told error finished (r ∷ rs) =
     ap (λ (qs : List Request). waiting_by (line_told error finished r).result r ++ qs) (waiting_told error finished rs)
@@ -140,7 +139,7 @@ other_waits n r waits runs true false true e h = h ∙ ap (λ (b : Bool). cond b
 other_waits n r waits runs true false false e h = h
 other_waits n r waits runs false left mine e h = h
 
-next_waits : (error : ℕ → Option Errno) (finished : List Finished) (n : ℕ) (r : Request) (waits runs : List Request) (own : Bool) → eqb r.number n ≡ own
+next_waits : (error : ℕ → Option Errno) (finished : List RequestEnd) (n : ℕ) (r : Request) (waits runs : List Request) (own : Bool) → eqb r.number n ≡ own
     → times n (numbers_of waits) ≡ cond (is_none (finish_of finished n)) (times n (numbers_of runs)) 0
     → times n (numbers_of (cond (is_none (error r.number) && is_none (finish_of finished r.number)) (r ∷ waits) waits))
     ≡ cond (is_none (finish_of finished n)) (times n (numbers_of (cond (is_none (error r.number)) (r ∷ runs) runs))) 0
@@ -155,37 +154,37 @@ none_waits : (b : Bool) (n : ℕ) → n ≡ cond b n n
 none_waits true n = refl
 none_waits false n = refl
 
-waiting_times : (error : ℕ → Option Errno) (finished : List Finished) (n : ℕ) (rs : List Request)
+waiting_times : (error : ℕ → Option Errno) (finished : List RequestEnd) (n : ℕ) (rs : List Request)
     → times n (numbers_of (filter (is_left error finished) rs)) ≡ cond (is_none (finish_of finished n)) (times n (numbers_of (kept_of error rs))) 0
 waiting_times error finished n [] = none_waits (is_none (finish_of finished n)) 0
 waiting_times error finished n (r ∷ rs) =
     next_waits error finished n r (filter (is_left error finished) rs) (kept_of error rs) (eqb r.number n) refl (waiting_times error finished n rs)
 
 -- what finished with a number, by how often it stands there
-no_finish : (n : ℕ) (fs : List Finished) → times n (map (λ (f : Finished). f.request) fs) ≡ 0 → finish_of fs n ≡ None
+no_finish : (n : ℕ) (fs : List RequestEnd) → times n (map (λ (f : RequestEnd). f.request) fs) ≡ 0 → finish_of fs n ≡ None
 no_finish n [] h = refl
 no_finish n (f ∷ fs) h = go (eqb f.request n) h (no_finish n fs)
   where
-    go : (b : Bool) → cond b (1 + times n (map (λ (g : Finished). g.request) fs)) (times n (map (λ (g : Finished). g.request) fs)) ≡ 0
-        → (times n (map (λ (g : Finished). g.request) fs) ≡ 0 → finish_of fs n ≡ None) → cond b (Some f) (finish_of fs n) ≡ None
+    go : (b : Bool) → cond b (1 + times n (map (λ (g : RequestEnd). g.request) fs)) (times n (map (λ (g : RequestEnd). g.request) fs)) ≡ 0
+        → (times n (map (λ (g : RequestEnd). g.request) fs) ≡ 0 → finish_of fs n ≡ None) → cond b (Some f) (finish_of fs n) ≡ None
     go true none later = absurd (omega arith)
     go false none later = later none
 
-some_finish : (n : ℕ) (fs : List Finished) (f : Finished) → finish_of fs n ≡ Some f → 1 ≤ times n (map (λ (g : Finished). g.request) fs)
+some_finish : (n : ℕ) (fs : List RequestEnd) (f : RequestEnd) → finish_of fs n ≡ Some f → 1 ≤ times n (map (λ (g : RequestEnd). g.request) fs)
 some_finish n [] f h = absurd (let no = h in cc)
 some_finish n (g ∷ fs) f h = go (eqb g.request n) h (some_finish n fs f)
   where
-    go : (b : Bool) → cond b (Some g) (finish_of fs n) ≡ Some f → (finish_of fs n ≡ Some f → 1 ≤ times n (map (λ (x : Finished). x.request) fs))
-        → 1 ≤ cond b (1 + times n (map (λ (x : Finished). x.request) fs)) (times n (map (λ (x : Finished). x.request) fs))
+    go : (b : Bool) → cond b (Some g) (finish_of fs n) ≡ Some f → (finish_of fs n ≡ Some f → 1 ≤ times n (map (λ (x : RequestEnd). x.request) fs))
+        → 1 ≤ cond b (1 + times n (map (λ (x : RequestEnd). x.request) fs)) (times n (map (λ (x : RequestEnd). x.request) fs))
     go true is later = omega arith
     go false is later = later is
 
-none_times : (n : ℕ) (fs : List Finished) → finish_of fs n ≡ None → times n (map (λ (f : Finished). f.request) fs) ≡ 0
+none_times : (n : ℕ) (fs : List RequestEnd) → finish_of fs n ≡ None → times n (map (λ (f : RequestEnd). f.request) fs) ≡ 0
 none_times n [] h = refl
 none_times n (f ∷ fs) h = go (eqb f.request n) h (none_times n fs)
   where
-    go : (b : Bool) → cond b (Some f) (finish_of fs n) ≡ None → (finish_of fs n ≡ None → times n (map (λ (g : Finished). g.request) fs) ≡ 0)
-        → cond b (1 + times n (map (λ (g : Finished). g.request) fs)) (times n (map (λ (g : Finished). g.request) fs)) ≡ 0
+    go : (b : Bool) → cond b (Some f) (finish_of fs n) ≡ None → (finish_of fs n ≡ None → times n (map (λ (g : RequestEnd). g.request) fs) ≡ 0)
+        → cond b (1 + times n (map (λ (g : RequestEnd). g.request) fs)) (times n (map (λ (g : RequestEnd). g.request) fs)) ≡ 0
     go true none later = absurd (let no = none in cc)
     go false none later = later none
 
@@ -199,7 +198,7 @@ clash_named apart v w name c named =
     let shares : may_share apart v w ≡ false = ap (λ (b : Bool). not apart && b && is_read (kind_of w)) c.reads ∙ not_shared apart (is_read (kind_of w)) in
     ap (λ (b : Bool). b && not (may_share apart v w)) names ∙ ap (λ (b : Bool). true && not b) shares
 
-module _ (apart : Bool) (requests : List Request) (error : ℕ → Option Errno) (finished : List Finished) (bound after : List (List ℕ × Tree)) (names : NameApart apart requests)
+module _ (apart : Bool) (requests : List Request) (error : ℕ → Option Errno) (finished : List RequestEnd) (bound after : List (List ℕ × Tree)) (names : NameApart apart requests)
     (told : (name : List ℕ) → named_in after name ≡ block_of (bound_after (ended_told error finished requests) (names_of bound)) name) where
   -- no request that finished changes a name of one that waits
   pub untouched : (q : Request) (name : List ℕ) → IsOneOf q requests → finish_of finished q.number ≡ None → name_of q.work ≡ Some name → named_in after name ≡ named_in bound name
@@ -231,7 +230,7 @@ passes_same None a b same = refl
 passes_same (Some n) a b same = ap is_some (same n refl)
 
 -- what is known of a request that is left
-record LeftOf (bound : List (List ℕ × Tree)) (error : ℕ → Option Errno) (requests : List Request) (finished : List Finished) (q : Pending) : Type 0 where
+record LeftOf (bound : List (List ℕ × Tree)) (error : ℕ → Option Errno) (requests : List Request) (finished : List RequestEnd) (q : Pending) : Type 0 where
   inside : IsOneOf q.request requests
   free : error q.request.number ≡ None
   waits : finish_of finished q.request.number ≡ None
@@ -239,7 +238,7 @@ record LeftOf (bound : List (List ℕ × Tree)) (error : ℕ → Option Errno) (
   lacks : makes_block q.request.work ≡ true → passes (is_some_name bound) (name_of q.request.work) ≡ false
 
 -- What a round leaves of runnable trees waits for the next `clear`.
-pub left_suspended : (s : Standing) (round : ℕ) (apart : Bool) (trees : List (List Pending)) (end : RoundEnd (List Pending)) (requests : List Request) (error : ℕ → Option Errno) (bound after : List (List ℕ × Tree))
+pub left_suspended : (s : Standing) (round : ℕ) (apart : Bool) (trees : List (List Pending)) (end : SeenEnd) (requests : List Request) (error : ℕ → Option Errno) (bound after : List (List ℕ × Tree))
     → AreRunnable s trees → IsRoundEnd s round trees end → IsRoundOver apart bound error requests trees
     → ((n : ℕ) → count_by (is_numbered n) (numbers_of (requests_in trees)) ≡ count_by (is_numbered n) (numbers_of (kept_of error requests)))
     → ((name : List ℕ) → named_in after name ≡ block_of (bound_after (ended_told error end.finished requests) (names_of bound)) name)
@@ -253,7 +252,7 @@ left_suspended s round apart trees end requests error bound after runs over know
     let inside : AllByRecursion (λ (p : Pending). Contains waits p.request) (joined_trees end.left) =
     all_weaker (LeftOf bound error requests end.finished) (λ (p : Pending). Contains waits p.request) (joined_trees end.left)
     (λ p l. one_contains p.request waits (filtered_one (is_left error end.finished) requests p.request l.inside
-    (ap (λ (o : Option Errno). is_none o && is_none (finish_of end.finished p.request.number)) l.free ∙ ap (λ (o : Option Finished). true && is_none o) l.waits))) all_left in
+    (ap (λ (o : Option Errno). is_none o && is_none (finish_of end.finished p.request.number)) l.free ∙ ap (λ (o : Option RequestEnd). true && is_none o) l.waits))) all_left in
     record {
       over = record {
         rising = rising_kept (is_left error end.finished) requests known.rising;
@@ -284,7 +283,7 @@ left_suspended s round apart trees end requests error bound after runs over know
         let n : ℕ = q.request.number in
         let some : 1 ≤ times n (numbers_of (map (λ (p : Pending). p.request) (joined_trees end.left))) = left_times q (joined_trees end.left) at in
         let a = times_is n (numbers_of (requests_in end.left)) in
-        let b = times_is n (map (λ (f : Finished). f.request) end.finished) in
+        let b = times_is n (map (λ (f : RequestEnd). f.request) end.finished) in
         let split = over.each n in
         let most = once n in
         record {
@@ -299,21 +298,21 @@ left_suspended s round apart trees end requests error bound after runs over know
               (one_all (λ (p : Pending). makes_block p.request.work ≡ true → passes (is_some_name bound) (name_of p.request.work) ≡ false) r.old (joined_trees trees) known.lacks r.at);
         }
 
-    times_same : (n : ℕ) (f : Option Finished) → finish_of end.finished n ≡ f → ((m : ℕ) → count_by (is_numbered m) (numbers_of (requests_in trees)) ≤ 1)
+    times_same : (n : ℕ) (f : Option RequestEnd) → finish_of end.finished n ≡ f → ((m : ℕ) → count_by (is_numbered m) (numbers_of (requests_in trees)) ≤ 1)
         → count_by (is_numbered n) (numbers_of (requests_in end.left)) ≡ count_by (is_numbered n) (numbers_of (filter (is_left error end.finished) requests))
     times_same n (Some f) is once =
-        let some : 1 ≤ times n (map (λ (g : Finished). g.request) end.finished) = some_finish n end.finished f is in
-        let b = times_is n (map (λ (g : Finished). g.request) end.finished) in
+        let some : 1 ≤ times n (map (λ (g : RequestEnd). g.request) end.finished) = some_finish n end.finished f is in
+        let b = times_is n (map (λ (g : RequestEnd). g.request) end.finished) in
         let w : times n (numbers_of (filter (is_left error end.finished) requests)) ≡ 0 =
-        waiting_times error end.finished n requests ∙ ap (λ (o : Option Finished). cond (is_none o) (times n (numbers_of (kept_of error requests))) 0) is in
+        waiting_times error end.finished n requests ∙ ap (λ (o : Option RequestEnd). cond (is_none o) (times n (numbers_of (kept_of error requests))) 0) is in
         let c = times_is n (numbers_of (filter (is_left error end.finished) requests)) in
         let split = over.each n in
         let most = once n in omega arith
     times_same n None is once =
-        let none : times n (map (λ (g : Finished). g.request) end.finished) ≡ 0 = none_times n end.finished is in
-        let b = times_is n (map (λ (g : Finished). g.request) end.finished) in
+        let none : times n (map (λ (g : RequestEnd). g.request) end.finished) ≡ 0 = none_times n end.finished is in
+        let b = times_is n (map (λ (g : RequestEnd). g.request) end.finished) in
         let w : times n (numbers_of (filter (is_left error end.finished) requests)) ≡ times n (numbers_of (kept_of error requests)) =
-        waiting_times error end.finished n requests ∙ ap (λ (o : Option Finished). cond (is_none o) (times n (numbers_of (kept_of error requests))) 0) is in
+        waiting_times error end.finished n requests ∙ ap (λ (o : Option RequestEnd). cond (is_none o) (times n (numbers_of (kept_of error requests))) 0) is in
         let c = times_is n (numbers_of (filter (is_left error end.finished) requests)) in
         let d = times_is n (numbers_of (kept_of error requests)) in
         let split = over.each n in

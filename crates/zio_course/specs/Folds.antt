@@ -9,7 +9,7 @@ use Rattle.zio_gang.specs.declared.tree.Tree.{Tree}
 use Rattle.zio_gang.specs.Attempts.{Pending}
 use Rattle.zio_gang.specs.Runs.{Batch as DefinedBatch}
 use Rattle.zio_gang.specs.Trees.{sizes_of}
-use Rattle.zio_report.specs.declared.report.Line.{Line}
+use Rattle.zio_report.specs.declared.report.ReportLine.{ReportLine}
 use Rattle.zio_report.specs.declared.report.LineResult.{LineResult}
 use Rattle.zio_report.specs.declared.report.LineResult.TheVariants.{Suspended, Failed, Done, Sized, Bytes}
 use Rattle.zio_course.specs.declared.fold.Batch.{Batch}
@@ -66,7 +66,7 @@ waiting_by (Sized n) r = []
 waiting_by (Bytes bytes) r = []
 
 -- the requests that wait, by the lines of all
-abbrev pub waiting_of : List Request → List Line → List Request
+abbrev pub waiting_of : List Request → List ReportLine → List Request
 waiting_of [] lines = []
 waiting_of (r ∷ rs) [] = []
 waiting_of (r ∷ rs) (l ∷ ls) = waiting_by l.result r ++ waiting_of rs ls
@@ -80,7 +80,7 @@ counted_by (Sized n) t = record t { good = t.good + 1 }
 counted_by (Bytes bytes) t = record t { good = t.good + 1; read = t.read + length bytes }
 
 -- all of these
-abbrev pub counted_in : List Line → Tally → Tally
+abbrev pub counted_in : List ReportLine → Tally → Tally
 counted_in [] t = t
 counted_in (l ∷ ls) t = counted_in ls (counted_by l.result t)
 

@@ -24,7 +24,7 @@ use Rattle.zio_gang.specs.ByNumber.{merge_by}
 use Rattle.zio_gang.specs.Journals.{AreChoicesOf, CompleteAfterChildren, CompleteOnce}
 use Rattle.zio_gang.specs.Rounds.{settle_each}
 use Rattle.zio_gang.specs.Trees.{sizes_of, tree_places}
-use Rattle.zio_course.specs.declared.runner.Finished.{Finished}
+use Rattle.zio_course.specs.declared.runner.RequestEnd.{RequestEnd}
 use Rattle.zio_course.specs.declared.runner.RoundEnd.{RoundEnd}
 use Rattle.zio_course.specs.declared.runner.Stop.{Stop}
 use Rattle.zio_course.specs.declared.runner.Stop.TheVariants.{Device, Memory}
@@ -156,10 +156,13 @@ pub record AreRunnable (s : Standing) (trees : List (List Pending)) : Type 0 whe
 
 -- ---- what a round gives
 
--- a round's end, with each tree seen as its requests
-abbrev pub ended_seen : {T : Type 0} → (T → List Pending) → RoundEnd T → RoundEnd (List Pending)
-ended_seen pending end = record {
-  finished = end.finished;
+-- a round's end, with each tree seen as its requests, and each request that finished as what is told of it
+abbrev pub SeenEnd : Type 0
+SeenEnd = RoundEnd (List Pending) RequestEnd
+
+abbrev pub ended_seen : {T F : Type 0} → (T → List Pending) → (F → RequestEnd) → RoundEnd T F → SeenEnd
+ended_seen pending told end = record {
+  finished = map told end.finished;
   left = map pending end.left;
   completions = end.completions;
   entries = end.entries;
@@ -175,14 +178,14 @@ terms_at s failmode round point = record {
 }
 
 -- what is told of a request that finished, which its number names
-abbrev pub finished_of : Ended → Finished
+abbrev pub finished_of : Ended → RequestEnd
 finished_of e = record { request = e.request.number; error = e.error; bytes = e.bytes; tree = e.tree }
 
-abbrev pub finished_by_number : List Ended → List Finished
-finished_by_number ended = merge_by (λ (f : Finished). f.request) (map finished_of ended) []
+abbrev pub finished_by_number : List Ended → List RequestEnd
+finished_by_number ended = merge_by (λ (f : RequestEnd). f.request) (map finished_of ended) []
 
 -- A round over images that are told is the round by the definitions, with its own entries as the journal.
-pub record IsRound (t : Terms) (trees : List (List Pending)) (before after : Images) (end : RoundEnd (List Pending)) : Type 0 where
+pub record IsRound (t : Terms) (trees : List (List Pending)) (before after : Images) (end : SeenEnd) : Type 0 where
   pub left_is : end.left ≡ (settle_each end.entries t trees before).left
   pub finished_is : end.finished ≡ finished_by_number (settle_each end.entries t trees before).ended
   pub images_are : after ≡ (settle_each end.entries t trees before).images
@@ -215,11 +218,11 @@ abbrev pub is_numbered : ℕ → ℕ → Bool
 is_numbered n m = m == n
 
 -- the number is that of a request that finished without error
-abbrev pub is_good_in : List Finished → ℕ → Bool
-is_good_in finished n = list_any (λ (f : Finished). (f.request == n) && is_none f.error) finished
+abbrev pub is_good_in : List RequestEnd → ℕ → Bool
+is_good_in finished n = list_any (λ (f : RequestEnd). (f.request == n) && is_none f.error) finished
 
 -- the completion that a finished request has
-abbrev pub completion_for : ℕ → Finished → Completion
+abbrev pub completion_for : ℕ → RequestEnd → Completion
 completion_for round f = record { request = f.request; round = round; error = f.error }
 
 abbrev pub read_size : Work → Option Tree → List ℕ
@@ -230,24 +233,24 @@ read_size (Free name) block = []
 read_size (Claim name pointer) block = []
 
 -- a read without error has as many bytes as its block's size
-abbrev pub HasReadSize : List (List Pending) → Finished → Type 0
+abbrev pub HasReadSize : List (List Pending) → RequestEnd → Type 0
 HasReadSize trees f = f.error ≡ None → AllByRecursion (λ (p : Pending). p.request.number ≡ f.request →
     AllByRecursion (λ n. length f.bytes ≡ n) (read_size p.request.work p.block)) (joined_trees trees)
 
 -- a request with a block finished without error, and makes one
-abbrev pub MakesTree : List (List Pending) → Finished → Type 0
+abbrev pub MakesTree : List (List Pending) → RequestEnd → Type 0
 MakesTree trees f = is_some f.tree ≡ true →
     (f.error ≡ None) × AllByRecursion (λ (p : Pending). p.request.number ≡ f.request → makes_block p.request.work ≡ true) (joined_trees trees)
 
-abbrev pub made_trees : List Finished → List Tree
-made_trees finished = flat_map (λ (f : Finished). option_to_list f.tree) finished
+abbrev pub made_trees : List RequestEnd → List Tree
+made_trees finished = flat_map (λ (f : RequestEnd). option_to_list f.tree) finished
 
 -- the places of the blocks that were made
-abbrev pub made_places : List Finished → List Place
+abbrev pub made_places : List RequestEnd → List Place
 made_places finished = flat_map tree_places (made_trees finished)
 
 -- the places of the blocks whose free finished without error
-abbrev pub freed_places : List (List Pending) → List Finished → List Place
+abbrev pub freed_places : List (List Pending) → List RequestEnd → List Place
 freed_places trees finished =
     flat_map (λ (p : Pending). freed_by p.request.work p.block)
     (filter (λ (p : Pending). is_good_in finished p.request.number) (joined_trees trees))
@@ -256,14 +259,14 @@ freed_places trees finished =
 -- rests of the trees, with no claim among them, since a claim may always fail; numbers of what finished rise; writes and
 -- claims alone made blocks; these lie inside the tops, apart from each other and from what was in use; and each request
 -- that finished has one completion, behind those of its children.
-pub record IsRoundEnd (s : Standing) (round : ℕ) (trees : List (List Pending)) (end : RoundEnd (List Pending)) : Type 0 where
+pub record IsRoundEnd (s : Standing) (round : ℕ) (trees : List (List Pending)) (end : SeenEnd) : Type 0 where
   pub each : (n : ℕ) → count_by (is_numbered n) (numbers_of (requests_in trees))
-      ≡ count_by (is_numbered n) (map (λ (f : Finished). f.request) end.finished) + count_by (is_numbered n) (numbers_of (requests_in end.left))
+      ≡ count_by (is_numbered n) (map (λ (f : RequestEnd). f.request) end.finished) + count_by (is_numbered n) (numbers_of (requests_in end.left))
   pub rests : AreRestsOf trees end.left
   pub claims : has_claim (requests_in end.left) ≡ false
-  pub rising : AreRisingFrom 0 (map (λ (f : Finished). f.request) end.finished)
+  pub rising : AreRisingFrom 0 (map (λ (f : RequestEnd). f.request) end.finished)
   pub reads : AllByRecursion (HasReadSize trees) end.finished
-  pub sectors : AllByRecursion (λ (f : Finished). length f.bytes % sector_size ≡ 0) end.finished
+  pub sectors : AllByRecursion (λ (f : RequestEnd). length f.bytes % sector_size ≡ 0) end.finished
   pub makers : AllByRecursion (MakesTree trees) end.finished
   pub inside : IsTrue (list_all (is_inside (sizes_of s.tops)) (made_places end.finished))
   pub free : IsTrue (are_open s.live (made_places end.finished))
@@ -275,7 +278,7 @@ pub record IsRoundEnd (s : Standing) (round : ℕ) (trees : List (List Pending))
 
 -- What is known of the runner after a round: places of freed blocks are no longer in use, and those of blocks that were
 -- made are.
-pub record StandsAfter (old new : Standing) (round : ℕ) (trees : List (List Pending)) (end : RoundEnd (List Pending)) : Type 0 where
+pub record StandsAfter (old new : Standing) (round : ℕ) (trees : List (List Pending)) (end : SeenEnd) : Type 0 where
   pub tops : new.tops ≡ old.tops
   pub rows : new.rows ≡ old.rows
   pub last : new.last ≡ round
@@ -301,7 +304,7 @@ abbrev pub IsCutRound : Stop → Stopping → Terms → List (List Pending) → 
 IsCutRound Device w t trees before after = w.stopped ≡ true
 IsCutRound Memory w t trees before after =
     ((w.stopped ≡ true) × w.means t trees before)
-    ⊎ ((w.stopped ≡ false) × (end : RoundEnd (List Pending)) × IsRound t trees before after end)
+    ⊎ ((w.stopped ≡ false) × (end : SeenEnd) × IsRound t trees before after end)
 
 -- what is known of the runner after a stop
 pub record StoppedAfter (old new : Standing) (round : ℕ) : Type 0 where

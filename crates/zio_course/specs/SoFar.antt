@@ -13,14 +13,13 @@ use Rattle.zio_script.specs.Requests.{requests_of}
 use Rattle.zio_cksum.specs.Images.{Images}
 use Rattle.zio_gang.specs.declared.ending.Ending.{Ending}
 use Rattle.zio_gang.specs.Attempts.{Ended, Pending, Terms}
-use Rattle.zio_gang.specs.Journals.{AreCompletions, IsLawfulJournal}
 use Rattle.zio_gang.specs.Rounds.{Bound, NamesOnce, admitted, is_bound, pending_trees, trees_of, used_places}
 use Rattle.zio_gang.specs.Runs.{Batch, Course, Event, Plan, Round, State, ending, plan_of, rounds_of, run_batch, run_script, run_suspended, terms_of, then_course}
 use Rattle.zio_gang.specs.Trees.{sizes_of}
 use Rattle.zio_report.specs.declared.report.RunFault.{RunFault}
 use Rattle.zio_report.specs.declared.report.RunFault.TheVariants.{Device, Sink, Memory}
 use Rattle.zio_report.specs.declared.report.Show.{Show}
-use Rattle.zio_report.specs.Meanings.{records_of, tops_of}
+use Rattle.zio_report.specs.Meanings.{records_of}
 use Rattle.zio_report.specs.Reports.{RunSize, bad_ended, good_ended, run_text}
 use Rattle.zio_course.specs.declared.runner.Stop.{Stop}
 use Rattle.zio_course.specs.declared.runner.Stop.TheVariants.{Device as DeviceStops, Memory as NoMemory}
@@ -139,17 +138,7 @@ IsCutText Device old new printed text = (more : List ℕ) × (text ≡ printed +
 IsCutText Sink old new printed text = (more : List ℕ) × (text ≡ printed ++ more) × AppendsFront old new more
 IsCutText Memory old new printed text = (more : List ℕ) × (left : List ℕ) × (text ≡ (printed ++ more) ++ left) × EndsWhole (printed ++ more) × Appends old new more
 
--- ---- the whole run
-
--- What a script means over these images, with the journal of a run that printed this. (`IsMeaning` of the report, where so
--- many images are told of.)
-pub record IsWholeRun (show : Show) (n : RunSize) (script : Script) (before : Images) (journal : Journal) (after : Images) (printed : List ℕ) (end : Ending) : Type 0 where
-  pub images : after ≡ (run_script script before journal.places).state.images
-  pub report : printed ≡ run_text show n (records_of journal) (run_script script before journal.places).events end
-  pub places : IsLawfulJournal (sizes_of (tops_of script before)) (rounds_of (run_script script before journal.places).events) journal.places
-  pub rounds : journal.rounds ≡ length (rounds_of (run_script script before journal.places).events)
-  pub completions : AreCompletions (requests_of script.items) (rounds_of (run_script script before journal.places).events) journal.completions
-  pub ending_is : end ≡ ending (run_script script before journal.places).state
+-- ---- the whole text
 
 -- the course is over, and this is the text of all of it
 abbrev pub IsAtEnd : Show → RunSize → Script → Images → Journal → List ℕ → Type 0

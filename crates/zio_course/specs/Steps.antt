@@ -14,7 +14,7 @@ use Rattle.zio_gang.specs.Journals.{AreChoicesOf, AreCompletionsOf}
 use Rattle.zio_gang.specs.Rounds.{block_of, used_places}
 use Rattle.zio_gang.specs.Runs.{Plan, Round, State}
 use Rattle.zio_gang.specs.Trees.{sizes_of}
-use Rattle.zio_report.specs.declared.report.Line.{Line}
+use Rattle.zio_report.specs.declared.report.ReportLine.{ReportLine}
 use Rattle.zio_report.specs.Reports.{head_of, lines_of}
 use Rattle.zio_course.specs.Names.{named_in}
 use Rattle.zio_course.specs.Runners.{Standing, is_numbered, numbers_of, requests_in}
@@ -42,7 +42,7 @@ pub record IsAt (s : Standing) (bound : List (List ℕ × Tree)) (suspended : Li
 
 -- A round of a course has this number, these lines, what is left of its trees, these images and bound names after it, and
 -- these are its choices and completions.
-pub record IsNextRound (s : Standing) (number point : ℕ) (batch : Option ℕ) (lines : List Line) (choices : List Choice) (done : List Completion) (left : List (List Pending)) (after : Images) (bound : List (List ℕ × Tree)) (round : Round) : Type 0 where
+pub record IsNextRound (s : Standing) (number point : ℕ) (batch : Option ℕ) (lines : List ReportLine) (choices : List Choice) (done : List Completion) (left : List (List Pending)) (after : Images) (bound : List (List ℕ × Tree)) (round : Round) : Type 0 where
   pub head : head_of round ≡ record { round = number; batch = batch; point = point }
   pub lines_are : lines_of round ≡ lines
   pub left_is : round.left ≡ left

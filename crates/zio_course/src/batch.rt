@@ -7,13 +7,12 @@ ghost use Rattle.zio_cksum.specs.Images.{Images};
 ghost use Rattle.zio_gang.specs.Attempts.{Pending};
 ghost use Rattle.zio_gang.specs.Rounds.{pending_trees, trees_of};
 ghost use Rattle.zio_report.specs.Lines.{AreWhole};
-ghost use Rattle.zio_course.specs.declared.runner.RoundEnd.{RoundEnd as SeenEnd};
 ghost use Rattle.zio_course.specs.Admissions.{error_in};
 ghost use Rattle.zio_course.specs.Answered.{answered_in};
 ghost use Rattle.zio_course.specs.Entered.{IsBatchRun, IsCutShort};
 ghost use Rattle.zio_course.specs.Forests.{AreReady, names_of, running};
 ghost use Rattle.zio_course.specs.Names.{named_in};
-ghost use Rattle.zio_course.specs.Runners.{AnyRose, AreRunnable, IsRound, IsRoundEnd, StandsAfter, stopping_of, terms_at};
+ghost use Rattle.zio_course.specs.Runners.{AnyRose, AreRunnable, IsRound, IsRoundEnd, SeenEnd, StandsAfter, stopping_of, terms_at};
 
 use crate::admission::Admission;
 use crate::answered::answered_ends;
@@ -23,7 +22,7 @@ use crate::round::{WholeRound, whole_round};
 use crate::runner::{Job, Runner, Stop};
 use crate::told::tell_batch;
 use std::alloc::Global;
-use zio_report::Line;
+use zio_report::ReportLine;
 use zio_script::{Failmode, Item};
 use zio_types::{Journal, List};
 
@@ -31,7 +30,7 @@ use zio_types::{Journal, List};
 #[derive(Debug, Drop)]
 pub struct BatchEnd<T> {
     /// By number.
-    pub lines: List<Line>,
+    pub lines: List<ReportLine>,
     /// What is left of the trees that are suspended.
     pub left: List<T>,
 }
@@ -61,7 +60,7 @@ pub fn run_batch<R: Runner>(
     requires trees { AreRunnable (R.standing runner.old)
         (pending_trees (names_of bound.old) number (trees_of (running admission.now.slots.entries admission.now.rules.items batch.now))) }
     requires can { R.Can runner.old }
-    ensures ran { IfOk result (λ ran. (end : SeenEnd (List Pending))
+    ensures ran { IfOk result (λ ran. (end : SeenEnd)
         × IsBatchRun (error_in admission.now.slots.entries admission.now.rules.items) (requests_of batch.now) bound.old bound.new journal.old journal.new end ran.lines (map R.pending ran.left)
         × IsRoundEnd (R.standing runner.old) (journal.old.rounds + 1)
         (pending_trees (names_of bound.old) number (trees_of (running admission.now.slots.entries admission.now.rules.items batch.now))) end

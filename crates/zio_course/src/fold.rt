@@ -12,7 +12,7 @@ use crate::lines::first_line;
 use crate::round::both;
 use std::alloc::Global;
 use std::mem;
-use zio_report::{Line, LineResult};
+use zio_report::{LineResult, ReportLine};
 use zio_script::{Failmode, Item, Request};
 use zio_types::{List, NoMemory};
 
@@ -100,7 +100,11 @@ impl<'a, T: Drop> Fold<'a, T> {
     }
 
     /// Notes what became of a round's requests, each by its line.
-    pub fn note_all(&mut self, requests: &[&'a Request], lines: &[Line]) -> Result<(), NoMemory>
+    pub fn note_all(
+        &mut self,
+        requests: &[&'a Request],
+        lines: &[ReportLine],
+    ) -> Result<(), NoMemory>
         requires lengths { length requests.now ≡ length lines.now }
         requires few { self.old.tally.good + self.old.tally.bad + length lines.now < 2 ^ 32 }
         requires sums { self.old.tally.read ≤ self.old.tally.good * 2 ^ 64 }
@@ -120,7 +124,7 @@ impl<'a, T: Drop> Fold<'a, T> {
     }
 
     /// Notes what became of a request.
-    fn note(&mut self, request: &'a Request, line: &Line) -> Result<(), NoMemory>
+    fn note(&mut self, request: &'a Request, line: &ReportLine) -> Result<(), NoMemory>
         requires few { self.old.tally.good + self.old.tally.bad + 1 < 2 ^ 32 }
         requires sums { self.old.tally.read ≤ self.old.tally.good * 2 ^ 64 }
         ensures unfinished { OnOk result (map (λ r. r.now) self.new.unfinished.items ≡ map (λ r. r.now) self.old.unfinished.items ++ waiting_by line.now.result request.now) }

@@ -11,7 +11,7 @@ use crate::admission::Admission;
 use crate::bound::{Bound, copy_of};
 use crate::lines::last_line;
 use crate::runner::Runner;
-use crate::waiting::Waiting;
+use crate::waiting::TreesByNumber;
 use std::alloc::Global;
 use zio_gang::Tree;
 use zio_script::{Item, Request, Work};
@@ -20,7 +20,7 @@ use zio_types::{List, NoMemory};
 /// The trees of the last requests of a batch: those that wait for their parents, and those of roots, the last first.
 #[derive(Debug, Drop)]
 pub(crate) struct Forest<T> {
-    waiting: Waiting<T>,
+    waiting: TreesByNumber<T>,
     roots: List<T>,
 }
 
@@ -45,7 +45,7 @@ pub fn trees_to_run<R: Runner>(
     ensures same { R.same runner.old runner.new }
 {
     let mut forest = Forest {
-        waiting: Waiting::new(alloc),
+        waiting: TreesByNumber::new(alloc),
         roots: List::new(alloc),
     };
     let mut rest = batch;

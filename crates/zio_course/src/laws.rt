@@ -22,7 +22,7 @@ ghost use Rattle.zio_gang.specs.Journals.{AreChoicesOf, AreCompletionsOf, Comple
 ghost use Rattle.zio_gang.specs.Rounds.{Bound, NamesOnce, admitted, block_of, bound_after, pending_trees, settle_each, trees_of, used_places};
 ghost use Rattle.zio_gang.specs.Runs.{Course, Event, Plan, Round, State, after_round, has_trees, plan_of, run_batch, run_suspended, then_course};
 ghost use Rattle.zio_gang.specs.Runs.Event.{RanRound, HeldBatch};
-ghost use Rattle.zio_report.specs.declared.report.Line.{Line};
+ghost use Rattle.zio_report.specs.declared.report.ReportLine.{ReportLine};
 ghost use Rattle.zio_report.specs.declared.report.RoundHead.{RoundHead};
 ghost use Rattle.zio_report.specs.declared.report.Show.{Show};
 ghost use Rattle.zio_report.specs.Lines.{round_text};
@@ -37,11 +37,10 @@ ghost use Rattle.zio_course.specs.Forests.{AreReady, names_of, running};
 ghost use Rattle.zio_course.specs.Live.{IsLive, IsRoundOver};
 ghost use Rattle.zio_course.specs.Names.{is_some_name, named_in};
 ghost use Rattle.zio_course.specs.Parents.{AreParented};
-ghost use Rattle.zio_course.specs.Runners.{AreRunnable, IsRound, IsRoundEnd, Standing, StandsAfter, is_numbered, named_places, numbers_of, requests_in, rows_tell_apart, terms_at};
+ghost use Rattle.zio_course.specs.Runners.{AreRunnable, IsRound, IsRoundEnd, SeenEnd, Standing, StandsAfter, is_numbered, named_places, numbers_of, requests_in, rows_tell_apart, terms_at};
 ghost use Rattle.zio_course.specs.Steps.{AreUnfinished, IsAt, IsNextRound, IsPlanOf};
 ghost use Rattle.zio_course.specs.Told.{ended_told, finish_of, no_error};
 ghost use Rattle.zio_course.specs.declared.admission.Rules.{Rules};
-ghost use Rattle.zio_course.specs.declared.runner.RoundEnd.{RoundEnd};
 
 /// Where admission is noted for the trees of a batch, whose numbers rise, the trees of the requests that it lets run are
 /// those that run by the definition, whole and in order.
@@ -57,7 +56,7 @@ pub fn whole_trees_are_admitted()
 /// lawful.
 pub fn a_batch_is_a_round_of_the_course()
     ensures { (apart : Bool) (plan : Plan) (st : State) (s : Standing) (failmode : Failmode) (bound new_bound : List (List ℕ × Tree)) (suspended : List (List Pending)) (awaited : List ℕ → Bool)
-        (number point : ℕ) (items : List Item) (slots : List (ℕ × ℕ)) (rules : List Rules) (before after : Images) (old new : Journal) (end : RoundEnd (List Pending)) (lines : List Line) (left : List (List Pending)) →
+        (number point : ℕ) (items : List Item) (slots : List (ℕ × ℕ)) (rules : List Rules) (before after : Images) (old new : Journal) (end : SeenEnd) (lines : List ReportLine) (left : List (List Pending)) →
         let requests = requests_of items in
         let trees = pending_trees (names_of bound) number (trees_of (running slots rules items)) in
         IsPlanOf s failmode plan → IsAt s bound suspended old.rounds point before st
@@ -75,7 +74,7 @@ pub fn a_batch_is_a_round_of_the_course()
 /// The round of the suspended trees is the next round of the course too.
 pub fn a_clear_is_a_round_of_the_course()
     ensures { (apart : Bool) (plan : Plan) (st : State) (s : Standing) (failmode : Failmode) (bound new_bound : List (List ℕ × Tree)) (suspended : List (List Pending)) (unfinished : List Request)
-        (point : ℕ) (before after : Images) (old new : Journal) (end : RoundEnd (List Pending)) (lines : List Line) (left : List (List Pending)) →
+        (point : ℕ) (before after : Images) (old new : Journal) (end : SeenEnd) (lines : List ReportLine) (left : List (List Pending)) →
         IsPlanOf s failmode plan → IsAt s bound suspended old.rounds point before st
         → AreUnfinished suspended unfinished → NameApart apart unfinished
         → IsBatchRun no_error unfinished bound new_bound old new end lines left
@@ -90,7 +89,7 @@ pub fn a_clear_is_a_round_of_the_course()
 /// a batch that is held adds its line; and the course goes on from the state that a step of it left.
 pub fn what_was_run_stays_run()
     ensures round { (show : Show) (n : RunSize) (sizes : List TopSize) (requests : List Request) (old new : Journal) (events : List Event) (printed : List ℕ) (round : Round)
-        (head : RoundHead) (lines : List Line) (entries : List Choice) (done : List Completion) →
+        (head : RoundHead) (lines : List ReportLine) (entries : List Choice) (done : List Completion) →
         IsEnteredSoFar show n sizes requests old events printed
         → new.places ≡ old.places ++ entries → new.completions ≡ old.completions ++ done → new.rounds ≡ old.rounds + 1
         → AllByRecursion (λ (c : Choice). c.asked.key.round ≡ old.rounds + 1) entries
@@ -131,7 +130,7 @@ pub fn an_orderly_batch_is_runnable()
 /// The places in use are those of the blocks that are bound, and stay so over a round: those of blocks that were freed
 /// leave them, and those of blocks that were made come to them. A course has the same places in use.
 pub fn bound_places_are_live()
-    ensures after { (s new : Standing) (round : ℕ) (apart : Bool) (trees : List (List Pending)) (end : RoundEnd (List Pending)) (requests : List Request) (error : ℕ → Option Errno) (bound after : List (List ℕ × Tree)) →
+    ensures after { (s new : Standing) (round : ℕ) (apart : Bool) (trees : List (List Pending)) (end : SeenEnd) (requests : List Request) (error : ℕ → Option Errno) (bound after : List (List ℕ × Tree)) →
         IsLive s.live bound → StandsAfter s new round trees end → IsRoundEnd s round trees end → IsRoundOver apart bound error requests trees
         → ((name : List ℕ) → named_in after name ≡ block_of (bound_after (ended_told error end.finished requests) (names_of bound)) name)
         → IsLive new.live after }
@@ -146,7 +145,7 @@ pub fn a_round_leaves_runnable_trees()
         AreRising (requests_of items) → IsOrderlyBatch apart (requests_of items) → AreAwaited suspended awaited
         → IsAdmission (has_trees suspended) awaited (is_some_name bound) (trees_of (requests_of items)) slots rules
         → IsRoundOver apart bound (error_in slots rules) (requests_of items) (pending_trees (names_of bound) number (trees_of (running slots rules items))) }
-    ensures left { (s new : Standing) (round : ℕ) (trees : List (List Pending)) (end : RoundEnd (List Pending)) →
+    ensures left { (s new : Standing) (round : ℕ) (trees : List (List Pending)) (end : SeenEnd) →
         AreRunnable s trees → IsRoundEnd s round trees end → StandsAfter s new round trees end
         → AllByRecursion (Contains new.live) (named_places end.left)
         → AreRunnable new end.left }
@@ -170,12 +169,12 @@ pub fn parents_wait_for_children()
 pub fn suspended_trees_are_runnable()
     ensures runnable { (s : Standing) (bound : List (List ℕ × Tree)) (suspended : List (List Pending)) (unfinished : List Request) →
         AreSuspended (rows_tell_apart s.rows) bound suspended unfinished → IsLive s.live bound → AreRunnable s suspended }
-    ensures left { (s : Standing) (round : ℕ) (apart : Bool) (trees : List (List Pending)) (end : RoundEnd (List Pending)) (requests : List Request) (error : ℕ → Option Errno) (bound after : List (List ℕ × Tree)) →
+    ensures left { (s : Standing) (round : ℕ) (apart : Bool) (trees : List (List Pending)) (end : SeenEnd) (requests : List Request) (error : ℕ → Option Errno) (bound after : List (List ℕ × Tree)) →
         AreRunnable s trees → IsRoundEnd s round trees end → IsRoundOver apart bound error requests trees
         → ((n : ℕ) → count_by (is_numbered n) (numbers_of (requests_in trees)) ≡ count_by (is_numbered n) (numbers_of (filter (λ (r : Request). is_none (error r.number)) requests)))
         → ((name : List ℕ) → named_in after name ≡ block_of (bound_after (ended_told error end.finished requests) (names_of bound)) name)
         → AreSuspended apart after end.left (filter (λ (r : Request). is_none (error r.number) && is_none (finish_of end.finished r.number)) requests) }
-    ensures batch { (s : Standing) (round number : ℕ) (awaited : List ℕ → Bool) (suspended : List (List Pending)) (unfinished : List Request) (bound after : List (List ℕ × Tree)) (items : List Item) (slots : List (ℕ × ℕ)) (rules : List Rules) (end : RoundEnd (List Pending)) →
+    ensures batch { (s : Standing) (round number : ℕ) (awaited : List ℕ → Bool) (suspended : List (List Pending)) (unfinished : List Request) (bound after : List (List ℕ × Tree)) (items : List Item) (slots : List (ℕ × ℕ)) (rules : List Rules) (end : SeenEnd) →
         AreSuspended (rows_tell_apart s.rows) bound suspended unfinished → IsLive s.live bound → AreAwaited suspended awaited
         → AreRising (unfinished ++ requests_of items) → IsOrderlyBatch (rows_tell_apart s.rows) (requests_of items)
         → IsAdmission (has_trees suspended) awaited (is_some_name bound) (trees_of (requests_of items)) slots rules

@@ -4,12 +4,11 @@ ghost use Rattle.std.specs.Prelude.{◌≡◌, ◌++◌, ◌+◌, ◌<◌, ◌^�
 ghost use Rattle.std.specs.List.{AllByRecursion};
 ghost use Rattle.zio_cksum.specs.Images.{Images};
 ghost use Rattle.zio_gang.specs.Attempts.{Pending};
-ghost use Rattle.zio_course.specs.declared.runner.RoundEnd.{RoundEnd as SeenEnd};
 ghost use Rattle.zio_course.specs.Entered.{IsEntered};
-ghost use Rattle.zio_course.specs.Runners.{AnyRose, AreRunnable, DiffersInRound, IsCutRound, IsRound, IsRoundEnd, StandsAfter, made_trees, stopping_of, terms_at};
+ghost use Rattle.zio_course.specs.Runners.{AnyRose, AreRunnable, DiffersInRound, IsCutRound, IsRound, IsRoundEnd, SeenEnd, StandsAfter, made_trees, stopping_of, terms_at};
 
 use crate::enter::enter_round;
-use crate::runner::{Finished, Job, RoundEnd, Runner, Stop};
+use crate::runner::{Job, RequestEnd, RoundEnd, Runner, Stop};
 use std::alloc::Global;
 use zio_types::{Completion, Journal, List, NoMemory};
 
@@ -17,7 +16,7 @@ use zio_types::{Completion, Journal, List, NoMemory};
 #[derive(Debug, Drop)]
 pub struct WholeRound<T> {
     /// By number.
-    pub finished: List<Finished>,
+    pub finished: List<RequestEnd>,
     /// What is left of the trees that are suspended.
     pub left: List<T>,
 }
@@ -40,7 +39,7 @@ pub fn whole_round<R: Runner>(
     requires next { (R.standing runner.old).last < job.round }
     requires trees { AreRunnable (R.standing runner.old) (map R.pending job.trees) }
     requires can { R.Can runner.old }
-    ensures whole { IfOk result (λ ran. (end : SeenEnd (List Pending)) × IsEntered answered journal.old journal.new end ran.finished (map R.pending ran.left)
+    ensures whole { IfOk result (λ ran. (end : SeenEnd) × IsEntered answered journal.old journal.new end ran.finished (map R.pending ran.left)
         × IsRoundEnd (R.standing runner.old) job.round (map R.pending job.trees) end
         × StandsAfter (R.standing runner.old) (R.standing runner.new) job.round (map R.pending job.trees) end
         × ((before : Images) → R.tells runner.old before → (after : Images) × R.tells runner.new after
@@ -63,9 +62,24 @@ pub fn whole_round<R: Runner>(
         completions,
         entries,
     } = runner.round(job)?;
+    let finished = told_of::<R>(alloc, finished)?;
     let completions = both(answered, completions)?;
     enter_round(alloc, journal, entries, completions)?;
     Ok(WholeRound { finished, left })
+}
+
+/// What is told of each request, in the same order.
+fn told_of<R: Runner>(
+    alloc: Global,
+    finished: List<R::Finished>,
+) -> Result<List<RequestEnd>, NoMemory>
+    ensures { IfOk result (λ told. told ≡ map R.told finished) }
+{
+    let mut told = List::new(alloc);
+    for one in finished.into_rest() {
+        told.push(R::told(one))?;
+    }
+    Ok(told)
 }
 
 /// The items of both, one list after the other.

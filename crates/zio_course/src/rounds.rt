@@ -9,7 +9,7 @@ ghost use Rattle.zio_script.specs.Accepted.{AreRising, IsOrderlyBatch};
 ghost use Rattle.zio_script.specs.Requests.{requests_of};
 ghost use Rattle.zio_cksum.specs.Images.{Images};
 ghost use Rattle.zio_gang.specs.Runs.{Course, Plan, State, run_suspended as run_suspended_by, is_panic, run_batch as run_batch_by, then_course};
-ghost use Rattle.zio_report.specs.declared.report.Line.{Line};
+ghost use Rattle.zio_report.specs.declared.report.ReportLine.{ReportLine};
 ghost use Rattle.zio_gang.specs.Rounds.{trees_of};
 ghost use Rattle.zio_course.specs.Admissions.{IsAdmission};
 ghost use Rattle.zio_course.specs.Names.{is_name_in, is_some_name};
@@ -28,7 +28,7 @@ use crate::texts::write_round;
 use std::alloc::Global;
 use std::mem;
 use zio_outside::Sink;
-use zio_report::{Line, RoundHead, RunFault, Show};
+use zio_report::{ReportLine, RoundHead, RunFault, Show};
 use zio_script::{Failmode, Request};
 use zio_types::{Journal, List};
 
@@ -66,7 +66,7 @@ pub fn batch_round<'a, R: Runner, O: Sink>(
         → R.tells runner.old images → (after : Images) × (text : List ℕ)
         × IsCut show.now n script before (R.standing runner.old).tops (stopping_of (R.standing runner.new) (R.stops runner.new)) fault journal.new after text
         × R.tells runner.new after × IsCutText fault (O.holds out.old) (O.holds out.new) printed text) }
-    ensures waits { OnOk result ((lines : List Line) × (map (λ r. r.now) fold.new.unfinished.items ≡ map (λ r. r.now) fold.old.unfinished.items ++ waiting_of (requests_of batch.now.lines.now) lines)) }
+    ensures waits { OnOk result ((lines : List ReportLine) × (map (λ r. r.now) fold.new.unfinished.items ≡ map (λ r. r.now) fold.old.unfinished.items ++ waiting_of (requests_of batch.now.lines.now) lines)) }
     ensures few { OnOk result (fold.new.tally.good + fold.new.tally.bad + length fold.new.unfinished.items
         ≡ fold.old.tally.good + fold.old.tally.bad + length fold.old.unfinished.items + length (requests_of batch.now.lines.now)) }
     ensures point { fold.new.point ≡ fold.old.point }
@@ -144,7 +144,7 @@ pub fn clear_round<'a, R: Runner, O: Sink>(
         → R.tells runner.old images → (after : Images) × (text : List ℕ)
         × IsCut show.now n script before (R.standing runner.old).tops (stopping_of (R.standing runner.new) (R.stops runner.new)) fault journal.new after text
         × R.tells runner.new after × IsCutText fault (O.holds out.old) (O.holds out.new) printed text) }
-    ensures waits { OnOk result ((lines : List Line) × (map (λ r. r.now) fold.new.unfinished.items ≡ waiting_of (map (λ r. r.now) fold.old.unfinished.items) lines)) }
+    ensures waits { OnOk result ((lines : List ReportLine) × (map (λ r. r.now) fold.new.unfinished.items ≡ waiting_of (map (λ r. r.now) fold.old.unfinished.items) lines)) }
     ensures few { OnOk result (fold.new.tally.good + fold.new.tally.bad + length fold.new.unfinished.items
         ≡ fold.old.tally.good + fold.old.tally.bad + length fold.old.unfinished.items) }
     ensures point { fold.new.point ≡ fold.old.point }
@@ -249,7 +249,7 @@ fn note<'a, T: Drop>(
     failmode: Failmode,
     fold: &mut Fold<'a, T>,
     requests: &[&'a Request],
-    lines: &[Line],
+    lines: &[ReportLine],
     left: List<T>,
 ) -> Result<(), Stop>
     requires lengths { length requests.now ≡ length lines.now }

@@ -5,6 +5,7 @@ ghost use Rattle.std.specs.List.{AllByRecursion};
 ghost use Rattle.zio_cksum.specs.Images.{Images};
 ghost use Rattle.zio_gang.specs.Attempts.{Pending, Terms};
 ghost use Rattle.zio_gang.specs.declared.tree.Tree.{Tree as SeenTree};
+ghost use Rattle.zio_course.specs.declared.runner.RequestEnd.{RequestEnd as SeenRequestEnd};
 ghost use Rattle.zio_course.specs.declared.runner.Stop.TheVariants.{Memory};
 ghost use Rattle.zio_course.specs.Faults.{fault_of};
 ghost use Rattle.zio_course.specs.Runners.{AreRunnable, IsNewTree, IsRound, IsRoundEnd, Standing, Stays, StoppedAfter, StandsAfter, AnyRose, DiffersInRound, ended_seen, fresh, made_trees, terms_at, tree_over};
@@ -26,9 +27,9 @@ pub struct Job<T> {
     pub trees: List<T>,
 }
 
-/// A request that finished.
+/// What is told of a request that finished.
 #[derive(Debug, Drop)]
-pub struct Finished {
+pub struct RequestEnd {
     pub request: ReqNo,
     pub error: Option<Errno>,
     /// What a read without error gave.
@@ -39,9 +40,9 @@ pub struct Finished {
 
 /// What a round leaves.
 #[derive(Debug, Drop)]
-pub struct RoundEnd<T> {
+pub struct RoundEnd<T, F> {
     /// By number.
-    pub finished: List<Finished>,
+    pub finished: List<F>,
     /// What is left of the trees that are suspended.
     pub left: List<T>,
     /// One for each request that finished, a child's before its parent's.
@@ -83,8 +84,14 @@ pub trait Runner {
     /// A tree of requests that hasn't finished.
     type Tree: Drop;
 
+    /// A request that finished. The type is the runner's own, so it alone says what can make one.
+    type Finished: Drop;
+
     /// Its requests in the order of their attempts: each child's tree by number, then the request itself.
     ghost pending: { Self.Tree → List Pending };
+
+    /// What is told of a request that finished.
+    ghost told: { Self.Finished → SeenRequestEnd };
 
     /// What is known of it beside the images.
     ghost standing: { Self → Standing };
@@ -124,17 +131,17 @@ pub trait Runner {
     ///
     /// `Stop::Device` comes exactly where a count of a disk's faults rose, `Stop::Memory` for want of memory. No round
     /// runs after a stop.
-    fn round(&mut self, job: Job<Self::Tree>) -> Result<RoundEnd<Self::Tree>, Stop>
+    fn round(&mut self, job: Job<Self::Tree>) -> Result<RoundEnd<Self::Tree, Self::Finished>, Stop>
         requires runs { (standing self.old).stopped ≡ false }
         requires next { (standing self.old).last < job.round }
         requires trees { AreRunnable (standing self.old) (map pending job.trees) }
         requires can { Can self.old }
         ensures round { IfOk result (λ end. (before : Images) → tells self.old before → (after : Images) × tells self.new after
-            × IsRound (terms_at (standing self.old) job.failmode job.round job.point) (map pending job.trees) before after (ended_seen pending end)
+            × IsRound (terms_at (standing self.old) job.failmode job.round job.point) (map pending job.trees) before after (ended_seen pending told end)
             × DiffersInRound (standing self.old) (map pending job.trees) before after) }
-        ensures end { IfOk result (λ end. IsRoundEnd (standing self.old) job.round (map pending job.trees) (ended_seen pending end)) }
-        ensures fits { IfOk result (λ end. AllByRecursion fits (made_trees end.finished)) }
-        ensures stands { IfOk result (λ end. StandsAfter (standing self.old) (standing self.new) job.round (map pending job.trees) (ended_seen pending end)) }
+        ensures end { IfOk result (λ end. IsRoundEnd (standing self.old) job.round (map pending job.trees) (ended_seen pending told end)) }
+        ensures fits { IfOk result (λ end. AllByRecursion fits (made_trees (map told end.finished))) }
+        ensures stands { IfOk result (λ end. StandsAfter (standing self.old) (standing self.new) job.round (map pending job.trees) (ended_seen pending told end)) }
         ensures stopped { OnErr result (StoppedAfter (standing self.old) (standing self.new) job.round) }
         ensures device { IsErrOf result Stop.Device → AnyRose (standing self.old).faults (standing self.new).faults }
         ensures calm { IsErrOf result Stop.Memory → (standing self.new).faults ≡ (standing self.old).faults }
@@ -144,6 +151,10 @@ pub trait Runner {
             × DiffersInRound (standing self.old) (map pending job.trees) before after) }
         ensures can { Can self.new }
         ensures same { same self.old self.new };
+
+    /// What is told of a request that finished.
+    fn told(finished: Self::Finished) -> RequestEnd
+        ensures { result ≡ told finished };
 
     /// What no call changes isn't changed by two.
     ghost same_then: { (a b c : Self) → same a b → same b c → same a c };

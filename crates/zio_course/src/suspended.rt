@@ -6,11 +6,10 @@ ghost use Rattle.zio_cksum.specs.Images.{Images};
 ghost use Rattle.zio_gang.specs.Attempts.{Pending};
 ghost use Rattle.zio_gang.specs.Rounds.{block_of, bound_after};
 ghost use Rattle.zio_report.specs.Lines.{AreWhole};
-ghost use Rattle.zio_course.specs.declared.runner.RoundEnd.{RoundEnd as SeenEnd};
 ghost use Rattle.zio_course.specs.Entered.{IsBatchRun, IsCutShort};
 ghost use Rattle.zio_course.specs.Forests.{names_of};
 ghost use Rattle.zio_course.specs.Names.{named_in};
-ghost use Rattle.zio_course.specs.Runners.{AnyRose, AreRunnable, IsRound, IsRoundEnd, StandsAfter, stopping_of, terms_at};
+ghost use Rattle.zio_course.specs.Runners.{AnyRose, AreRunnable, IsRound, IsRoundEnd, SeenEnd, StandsAfter, stopping_of, terms_at};
 ghost use Rattle.zio_course.specs.Steps.{AreUnfinished};
 ghost use Rattle.zio_course.specs.Told.{AreFinishedOf, ended_told, line_told, no_error};
 
@@ -18,10 +17,10 @@ use crate::batch::BatchEnd;
 use crate::bound::Bound;
 use crate::forest::reversed;
 use crate::round::{WholeRound, whole_round};
-use crate::runner::{Finished, Job, Runner, Stop};
+use crate::runner::{Job, RequestEnd, Runner, Stop};
 use crate::told::{take_of, tell_request};
 use std::alloc::Global;
-use zio_report::Line;
+use zio_report::ReportLine;
 use zio_script::{Failmode, Request};
 use zio_types::{Journal, List, NoMemory};
 
@@ -45,7 +44,7 @@ pub fn run_suspended<R: Runner>(
     requires next { (R.standing runner.old).last ≤ journal.old.rounds }
     requires trees { AreRunnable (R.standing runner.old) (map R.pending trees) }
     requires can { R.Can runner.old }
-    ensures ran { IfOk result (λ ran. (end : SeenEnd (List Pending))
+    ensures ran { IfOk result (λ ran. (end : SeenEnd)
         × IsBatchRun no_error (map (λ r. r.now) unfinished.now) bound.old bound.new journal.old journal.new end ran.lines (map R.pending ran.left)
         × IsRoundEnd (R.standing runner.old) (journal.old.rounds + 1) (map R.pending trees) end
         × StandsAfter (R.standing runner.old) (R.standing runner.new) (journal.old.rounds + 1) (map R.pending trees) end
@@ -81,9 +80,9 @@ pub fn run_suspended<R: Runner>(
 pub fn tell_suspended(
     alloc: Global,
     unfinished: &[&Request],
-    finished: List<Finished>,
+    finished: List<RequestEnd>,
     bound: &mut Bound,
-) -> Result<List<Line>, NoMemory>
+) -> Result<List<ReportLine>, NoMemory>
     requires rising { AreRising (map (λ r. r.now) unfinished.now) }
     requires finished { AreFinishedOf (map (λ r. r.now) unfinished.now) finished }
     ensures lines { IfOk result (λ lines. lines ≡ map (line_told no_error finished) (map (λ r. r.now) unfinished.now)) }

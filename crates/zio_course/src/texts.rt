@@ -7,7 +7,7 @@ ghost use Rattle.zio_report.specs.Reports.{held_text, pool_text};
 
 use std::alloc::Global;
 use zio_outside::Sink;
-use zio_report::{Line, RoundHead, RunFault, Show, held_line, pool_line, render};
+use zio_report::{ReportLine, RoundHead, RunFault, Show, held_line, pool_line, render};
 use zio_types::{Completion, Entry};
 
 /// Writes a text.
@@ -30,7 +30,7 @@ pub fn write_round<O: Sink>(
     alloc: Global,
     show: &Show,
     head: &RoundHead,
-    lines: &[Line],
+    lines: &[ReportLine],
     entries: &[Entry],
     completions: &[Completion],
     out: &mut O,

@@ -16,9 +16,9 @@ use crate::admission::Admission;
 use crate::bound::Bound;
 use crate::forest::reversed;
 use crate::lines::first_line;
-use crate::runner::Finished;
+use crate::runner::RequestEnd;
 use std::alloc::Global;
-use zio_report::{Line, LineResult};
+use zio_report::{LineResult, ReportLine};
 use zio_script::{Item, Request, Work};
 use zio_types::{Errno, List, NoMemory, ReqNo};
 
@@ -30,9 +30,9 @@ pub fn tell_batch(
     alloc: Global,
     batch: &[Item],
     admission: &Admission,
-    finished: List<Finished>,
+    finished: List<RequestEnd>,
     bound: &mut Bound,
-) -> Result<List<Line>, NoMemory>
+) -> Result<List<ReportLine>, NoMemory>
     requires rising { AreRising (requests_of batch.now) }
     requires finished { AreFinishedOf (running admission.now.slots.entries admission.now.rules.items batch.now) finished }
     ensures lines { IfOk result (λ lines. lines ≡ map (line_told (error_in admission.now.slots.entries admission.now.rules.items) finished) (requests_of batch.now)) }
@@ -51,10 +51,10 @@ pub fn tell_batch(
 
 /// Tells of the request of a line, if it is one. What finished is left the last first.
 fn tell_line(
-    lines: &mut List<Line>,
+    lines: &mut List<ReportLine>,
     item: &Item,
     admission: &Admission,
-    left: &mut Vec<Finished>,
+    left: &mut Vec<RequestEnd>,
     bound: &mut Bound,
 ) -> Result<(), NoMemory>
     ensures lines { OnOk result (lines.new ≡ lines.old ++ lines_by (error_in admission.now.slots.entries admission.now.rules.items) (reverse left.old.items) item.now) }
@@ -70,10 +70,10 @@ fn tell_line(
 
 /// Tells of a request.
 fn tell_one(
-    lines: &mut List<Line>,
+    lines: &mut List<ReportLine>,
     request: &Request,
     admission: &Admission,
-    left: &mut Vec<Finished>,
+    left: &mut Vec<RequestEnd>,
     bound: &mut Bound,
 ) -> Result<(), NoMemory>
     ensures lines { OnOk result (lines.new ≡ lines.old ++ lines_by (error_in admission.now.slots.entries admission.now.rules.items) (reverse left.old.items) (RequestLine request.now)) }
@@ -93,7 +93,7 @@ fn tell_one(
 }
 
 /// The next that finished, if it is of this request.
-pub(crate) fn take_of(left: &mut Vec<Finished>, number: ReqNo) -> Option<Finished>
+pub(crate) fn take_of(left: &mut Vec<RequestEnd>, number: ReqNo) -> Option<RequestEnd>
     ensures taken { result ≡ next_of (reverse left.old.items) number }
     ensures left { reverse left.new.items ≡ rest_of (reverse left.old.items) number }
 {
@@ -108,9 +108,9 @@ pub(crate) fn take_of(left: &mut Vec<Finished>, number: ReqNo) -> Option<Finishe
 pub(crate) fn tell_request(
     request: &Request,
     error: Option<Errno>,
-    finished: Option<Finished>,
+    finished: Option<RequestEnd>,
     bound: &mut Bound,
-) -> Result<Line, NoMemory>
+) -> Result<ReportLine, NoMemory>
     ensures line { IfOk result (λ line. line ≡ line_by error finished request.now) }
     ensures bound { OnOk result ((name : List ℕ) → named_in bound.new name ≡ block_of (bound_after (ended_by error finished request.now) (names_of bound.old)) name) }
 {
@@ -124,10 +124,10 @@ pub(crate) fn tell_request(
     Ok(line_of(request, shown))
 }
 
-fn line_of(request: &Request, shown: LineResult) -> Line
+fn line_of(request: &Request, shown: LineResult) -> ReportLine
     ensures { result ≡ record { number = request.now.number; kind = kind_of request.now.work; name = name_of request.now.work; result = shown } }
 {
-    Line {
+    ReportLine {
         number: request.number,
         kind: request.work.kind(),
         name: request.work.name(),
@@ -136,12 +136,12 @@ fn line_of(request: &Request, shown: LineResult) -> Line
 }
 
 /// What is shown of a request that finished. Its block gets its name, or its name is unbound.
-fn result_of(work: &Work, finished: Finished, bound: &mut Bound) -> Result<LineResult, NoMemory>
+fn result_of(work: &Work, finished: RequestEnd, bound: &mut Bound) -> Result<LineResult, NoMemory>
     ensures shown { IfOk result (λ shown. (r : Request) → r.work ≡ work.now → shown ≡ result_with finished.error (ended_as r finished)) }
     ensures bound { OnOk result ((r : Request) → r.work ≡ work.now → (name : List ℕ) →
         named_in bound.new name ≡ block_of (bound_unless finished.error (ended_as r finished) (names_of bound.old)) name) }
 {
-    let Finished {
+    let RequestEnd {
         request: _,
         error,
         bytes,

@@ -11,11 +11,11 @@ use zio_types::{List, NoMemory, ReqNo};
 /// The trees under each number, in the order in which they came. A contract sees it as these pairs, in
 /// whatever order.
 #[derive(Debug, Drop)]
-pub(crate) struct Waiting<T> {
+pub(crate) struct TreesByNumber<T> {
     trees: IndexMap<ReqNo, List<T>>,
 }
 
-impl<T> Model for Waiting<T> {
+impl<T> Model for TreesByNumber<T> {
     ghost use Rattle.std.specs.Prelude.{List as Seq, ℕ};
 
     ghost Value = { Seq (ℕ × Seq T) };
@@ -23,12 +23,12 @@ impl<T> Model for Waiting<T> {
     ghost view = { λ w. w.trees.entries };
 }
 
-impl<T: Drop> Waiting<T> {
+impl<T: Drop> TreesByNumber<T> {
     /// No tree waits.
-    pub(crate) fn new(alloc: Global) -> Waiting<T>
+    pub(crate) fn new(alloc: Global) -> TreesByNumber<T>
         ensures { (number : ℕ) → listed_in result number ≡ [] }
     {
-        Waiting {
+        TreesByNumber {
             trees: IndexMap::new(alloc),
         }
     }

@@ -18,10 +18,10 @@ use crate::copies::GoodCopy;
 use crate::fitting::is_fitting;
 use crate::read::read_block;
 use crate::setting::{Setting, Stop};
-use crate::trees::{LEVELS_MAX, below, note_error};
+use crate::trees::{below, note_error};
 use std::alloc::Global;
 use zio_blkptr::{Bp, decode};
-use zio_gang::{Head, Tree, members_of};
+use zio_gang::{Head, LEVELS_MAX, Tree, members_of};
 use zio_outside::Disk;
 use zio_types::{Errno, List, Path};
 
@@ -108,7 +108,7 @@ fn visit_pointer<D: Disk>(
 ) -> Result<(), Stop>
     requires bears { BearsTops setting.now (map D.bytes disks.old) }
     requires valid { IsTrue (valid bp.now) }
-    requires depth { length path.now + levels ≤ 8 }
+    requires depth { length path.now + levels ≤ LEVELS_MAX }
     ensures told { IfOk result (λ _. (images : Images) → Tell D.image disks.old images →
         let w = walk levels (claim_visit setting.now) path.now bp.now images in
         (errors.new ≡ errors.old ++ w.errors) × (heads.new ≡ heads.old ++ w.heads) × Tell D.image disks.new w.images) }
@@ -143,7 +143,7 @@ fn visit_gang<D: Disk>(
     requires valid { IsTrue (valid bp.now) }
     requires gang { bp.now.gang ≡ true }
     requires inside { IsTrue (list_all (is_inside (sizes_of setting.now.tops)) (places_of bp.now)) }
-    requires depth { length path.now + levels < 8 }
+    requires depth { length path.now + levels < LEVELS_MAX }
     ensures told { IfOk result (λ _. (images : Images) → Tell D.image disks.old images →
         let w = walk_read (walk levels (claim_visit setting.now)) path.now (read_block setting.now false (good_claimed bp.now) images sector_size (places_of bp.now)) in
         (errors.new ≡ errors.old ++ w.errors) × (heads.new ≡ heads.old ++ w.heads) × Tell D.image disks.new w.images) }
@@ -186,7 +186,7 @@ fn visit_members<D: Disk>(
     requires bears { BearsTops setting.now (map D.bytes disks.old) }
     requires valid { AllByRecursion (λ m. IsTrue (valid m)) members.now }
     requires few { n + length members.now ≤ 3 }
-    requires depth { length path.now + levels < 8 }
+    requires depth { length path.now + levels < LEVELS_MAX }
     ensures told { IfOk result (λ _. (images : Images) → Tell D.image disks.old images →
         let w = walk_members (walk levels (claim_visit setting.now)) path.now n members.now images in
         (errors.new ≡ errors.old ++ w.errors) × (heads.new ≡ heads.old ++ w.heads) × Tell D.image disks.new w.images) }

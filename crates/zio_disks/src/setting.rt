@@ -5,14 +5,14 @@ ghost use Rattle.zio_cksum.specs.Blocks.{leaves_of};
 ghost use Rattle.zio_cksum.specs.Images.{met};
 
 use std::marker::Model;
-use zio_faults::{Hit, Table};
+use zio_faults::{FaultTable, Hit};
 use zio_types::{List, Place, Top};
 
 /// What an operation on a leaf depends on beside the disks.
 #[derive(Debug, Drop)]
 pub struct Setting {
     pub tops: List<Top>,
-    pub table: Table,
+    pub table: FaultTable,
     /// The resume point.
     pub point: u32,
 }

@@ -19,13 +19,10 @@ use crate::read::read_block;
 use crate::setting::{Setting, Stop};
 use std::alloc::Global;
 use zio_blkptr::Bp;
-use zio_gang::{Tree, members_of};
+use zio_gang::{LEVELS_MAX, Tree, members_of};
 use zio_mirror::write_result;
 use zio_outside::Disk;
 use zio_types::{Errno, List, Path};
-
-/// How many levels of headers a block has at most.
-pub(crate) const LEVELS_MAX: u32 = 8;
 
 /// Reads the headers of a block, with repairs, as a free of it does. It gives the worst of their errors, or none; below a
 /// header that failed none is read, and one that stands below eight others is a checksum error and isn't read.
@@ -104,7 +101,7 @@ fn walk_pointer<D: Disk>(
     requires bears { BearsTops setting.now (map D.bytes disks.old) }
     requires placed { IsPlacedTree (sizes_of setting.now.tops) tree.now }
     requires listed { Contains (tree_pointers tree.now) bp.now }
-    requires depth { length path.now + levels ≤ 8 }
+    requires depth { length path.now + levels ≤ LEVELS_MAX }
     requires bodies { AllByRecursion (IsBodyOf tree.now) bodies.old }
     ensures told { IfOk result (λ _. (images : Images) → Tell D.image disks.old images →
         let w = walk levels (kept_visit setting.now tree.now.heads) path.now bp.now images in
@@ -156,7 +153,7 @@ fn walk_members<D: Disk>(
     requires placed { IsPlacedTree (sizes_of setting.now.tops) tree.now }
     requires listed { AllByRecursion (Contains (tree_pointers tree.now)) members.now }
     requires few { n + length members.now ≤ 3 }
-    requires depth { length path.now + levels < 8 }
+    requires depth { length path.now + levels < LEVELS_MAX }
     requires bodies { AllByRecursion (IsBodyOf tree.now) bodies.old }
     ensures told { IfOk result (λ _. (images : Images) → Tell D.image disks.old images →
         let w = walk_members (walk levels (kept_visit setting.now tree.now.heads)) path.now n members.now images in
@@ -191,7 +188,7 @@ fn walk_members<D: Disk>(
 /// The path to a member of the gang at this path, which has room for a step.
 pub(crate) fn below(path: &Path, member: u8) -> Path
     requires member { member < 3 }
-    requires room { length path.now < 8 }
+    requires room { length path.now < LEVELS_MAX }
     ensures { result ≡ path.now ++ member ∷ [] }
 {
     match path.child(member) {

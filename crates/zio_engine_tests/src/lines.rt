@@ -2,7 +2,7 @@
 
 use std::process::Abort;
 use std::test::Fail;
-use zio_line::{FirstPicks, Line, Picks, SeedPicks, from_seed};
+use zio_turns::{FirstPicks, Line, Picks, SeedPicks, from_seed};
 use zio_types::NoMemory;
 
 /// Adds a value to both.

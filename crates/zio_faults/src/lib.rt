@@ -6,4 +6,4 @@
 
 mod table;
 
-pub use table::{FaultKind, Hit, On, Operation, Row, Table, flip};
+pub use table::{FaultKind, FaultTable, Hit, On, Operation, Row, flip};

@@ -104,11 +104,11 @@ pub struct Hit {
 
 /// The rows in their order. The first that an operation meets counts.
 #[derive(Debug, Drop)]
-pub struct Table {
+pub struct FaultTable {
     pub rows: List<Row>,
 }
 
-impl Table {
+impl FaultTable {
     /// The first row that an operation on a leaf meets, with the part that is common to both; none exactly
     /// where the operation meets no row.
     ///

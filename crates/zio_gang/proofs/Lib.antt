@@ -1,11 +1,12 @@
 pub mod AttemptLemmas
 pub mod BoundLemmas
-pub mod HeaderLemmas
-pub mod MemberLemmas
-pub mod PlaceLemmas
-pub mod WriteLemmas
+pub mod ContentLemmas
 pub mod DependenceLemmas
-pub mod PieceLemmas
 pub mod FateLemmas
 pub mod FateRuns
+pub mod HeaderLemmas
 pub mod JournalLemmas
+pub mod MemberLemmas
+pub mod PieceLemmas
+pub mod PlaceLemmas
+pub mod WriteLemmas

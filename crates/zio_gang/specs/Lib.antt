@@ -4,6 +4,7 @@ pub mod Fates
 pub mod HeaderFaults
 pub mod Journals
 pub mod Pieces
+pub mod Pointers
 pub mod Rounds
 pub mod Runs
 pub mod Trees

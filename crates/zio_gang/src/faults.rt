@@ -3,8 +3,8 @@ ghost use Rattle.zio_cksum.specs.Headers.{is_header, members_of, split_sizes};
 ghost use Rattle.zio_gang.specs.HeaderFaults.{Holds, Names, are_scattered, first_header_fault, has_filler_fault, has_magic_fault, has_member_fault, has_sum_fault, is_garbled, is_vacant, present, slot_at};
 
 use crate::header::{FILLER_AT, Header, HeaderFault, MAGIC, MAGIC_AT, SUM_AT, slot_at, sum_bytes};
-use crate::sizes::{SPLIT_SIZE_MAX, split};
-use zio_blkptr::{Bp, decode};
+use crate::sizes::split;
+use zio_blkptr::{BLOCK_SIZE_MAX, Bp, decode};
 use zio_cksum::gang_sum;
 use zio_types::Place;
 
@@ -20,7 +20,7 @@ pub fn header_decode(
     requires sector { place.now.sector < 2 ^ 48 }
     requires positive { 0 < size }
     requires whole { size % 512 ≡ 0 }
-    requires most { size ≤ SPLIT_SIZE_MAX }
+    requires most { size ≤ BLOCK_SIZE_MAX }
     ensures fault { MatchOption (first_header_fault place.now birth size bytes.now) (IsOk result) (λ f. result ≡ Err f) }
     ensures members { IfOk result (λ header. Names header (members_of bytes.now)) }
     ensures accepted { IsOk result ↔ IsTrue (is_header place.now birth size bytes.now) }
@@ -124,7 +124,7 @@ fn has_other_sizes(header: &Header, size: u32) -> bool
     requires few { header.now.n ≤ 3 }
     requires positive { 0 < size }
     requires whole { size % 512 ≡ 0 }
-    requires most { size ≤ SPLIT_SIZE_MAX }
+    requires most { size ≤ BLOCK_SIZE_MAX }
     ensures { result ≡ not (bytes_eq (map (λ m. m.size) (take header.now.n header.now.members)) (split_sizes size)) }
 {
     let [a, b, c] = &header.members;

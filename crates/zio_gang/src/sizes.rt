@@ -3,17 +3,18 @@ ghost use Rattle.zio_types.specs.Filled.{IsFilled};
 ghost use Rattle.zio_cksum.specs.Headers.{rounded_up, split_sizes};
 
 use crate::header::Split;
+use zio_blkptr::BLOCK_SIZE_MAX;
 use zio_types::SECTOR_SIZE;
 
-/// The largest block that is split, in bytes.
-pub const SPLIT_SIZE_MAX: u32 = 1 << 20;
+/// The most levels of headers over a part of a block.
+pub const LEVELS_MAX: u32 = 8;
 
 /// The sizes of the members that a block of so many bytes is split into: a third, half of the rest and the rest, each
 /// rounded down and then up to whole sectors. Members of nothing are left out.
 pub fn split(size: u32) -> Split
     requires positive { 0 < size }
     requires whole { size % 512 ≡ 0 }
-    requires most { size ≤ SPLIT_SIZE_MAX }
+    requires most { size ≤ BLOCK_SIZE_MAX }
     ensures sizes { take result.n result.sizes ≡ split_sizes size }
     ensures rest { IsFilled 0 3 result.n result.sizes }
     ensures least { 1 ≤ result.n }
@@ -35,7 +36,7 @@ pub fn split(size: u32) -> Split
 }
 
 fn rounded_up(size: u32) -> u32
-    requires { size ≤ SPLIT_SIZE_MAX }
+    requires { size ≤ BLOCK_SIZE_MAX }
     ensures { result ≡ rounded_up size }
 {
     size.div_ceil(SECTOR_SIZE) * SECTOR_SIZE

@@ -1,0 +1,11 @@
+pub mod GroupLemmas
+pub mod HeadLemmas
+pub mod LengthLemmas
+pub mod LineLemmas
+pub mod NumeralLemmas
+pub mod RequestLemmas
+pub mod ScriptLemmas
+pub mod ShapeLemmas
+pub mod StandLemmas
+pub mod TextLemmas
+pub mod WordLemmas

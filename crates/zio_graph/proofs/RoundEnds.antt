@@ -1,265 +1,134 @@
--- A round that an engine keeps, where a node ends.
-use Rattle.std.proofs.Common.{refl, ◌≡◌, ◌≢◌, ℕ, ◌+◌, List, [], ◌∷◌, ◌++◌, slice_set, true, false, Option, Some, None, sym, ap, ◌∙◌, ◌⊎◌}
-use Rattle.zio_types.specs.declared.place.Place.{Place}
-use Rattle.zio_types.specs.declared.place.Top.{Top}
-use Rattle.zio_types.specs.declared.request.Phase.TheVariants.{Done}
-use Rattle.zio_types.specs.Choices.{Ask, Choice}
-use Rattle.zio_counts.specs.Tallies.{counted, is_last, notified}
-use Rattle.zio_places.specs.Tables.{total}
-use Rattle.zio_gang.specs.Attempts.{Terms}
-use Rattle.zio_trace.specs.Families.{Forest}
-use Rattle.zio_trace.specs.Footprints.{FitsTask}
-use Rattle.zio_trace.specs.Tasks.{Find}
-use Rattle.zio_frames.specs.Frames.{Child, Flying, needs_none}
-use Rattle.zio_frames.specs.Moves.{child_ended, heard_of}
-use Rattle.zio_frames.specs.OfRound.{FitsWhichever}
-use Rattle.zio_stages.specs.SpaceCalls.{SpaceCall}
-use Rattle.zio_stages.specs.declared.outcome.Outcome.{Outcome}
-use Rattle.slab.specs.Slab.{Slab, Updates, get}
-use Rattle.zio_graph.specs.Acts.{AwaitsEnd, NodeHeard, counting, with_ties}
-use Rattle.zio_graph.specs.Entries.{Live, OfNode, OfTree, OneMore, flying_at, live_of}
-use Rattle.zio_graph.specs.Found.{DoesAsked, IsChildOf, IsTreeFound}
-use Rattle.zio_graph.specs.Ledgers.{IsOfTree}
-use Rattle.zio_graph.specs.Parts.{Nodes}
-use Rattle.zio_graph.specs.Rounds.{Before, EndsAs, KeepsRound, SoFar, TreeHears, choices_in, with_calls, with_done}
-use Rattle.zio_graph.specs.Slabs.{AreAll, held_of, shelf_of}
-use Rattle.zio_graph.specs.Stages.{Ends, Hears}
-use Rattle.zio_graph.specs.declared.entry.Entry.{Entry}
-use Rattle.zio_graph.proofs.ActLemmas.{woken}
-use Rattle.zio_graph.proofs.Callings.{choices_did}
-use Rattle.zio_graph.proofs.DoesLemmas.{append_none}
-use Rattle.zio_frames.proofs.HeardParts.{fits_each as fits_every}
-use Rattle.zio_graph.proofs.Finds.{tree_found}
-use Rattle.zio_graph.proofs.FoundFits.{one_asked, one_value, tree_asked, tree_seated}
-use Rattle.zio_graph.proofs.HearLemmas.{some_more, told_all}
-use Rattle.zio_graph.proofs.MoveEnd.{one_counts, one_ends, one_fits}
-use Rattle.zio_graph.proofs.MoveEndTree.{one_ends_tree, tree_fits}
-use Rattle.zio_graph.proofs.RoundNodes.{IsThere, still_as, without_first}
-use Rattle.zio_graph.proofs.RoundParents.{HasAbove, IsAbove, has_above, is_above}
-use Rattle.zio_graph.proofs.RoundTells.{length_set}
-use Rattle.zio_graph.proofs.LeafOps.{theirs_parent, theirs_without}
-use Rattle.zio_graph.proofs.LedgerEnds.{IsMore, PlacesEnd, more_ended, places_end}
-use Rattle.zio_graph.proofs.LedgerHands.{hands_heard}
-use Rattle.zio_graph.proofs.LedgerHears.{heard_within, hears_it as hears_value}
-use Rattle.zio_graph.proofs.LedgerMoves.{ledger_ends, ledger_root_ends}
-use Rattle.zio_graph.proofs.LedgerSlabs.{gave_gone, gave_put}
-use Rattle.zio_graph.proofs.LedgerTrees.{heard_tree, none_within, top_slice, tree_places_none}
-use Rattle.zio_graph.proofs.Lives.{first_at, with_first}
-use Rattle.zio_graph.proofs.RestLemmas.{EndLeaves, end_leaves}
-use Rattle.zio_graph.proofs.Shelves.{numbered_with, numbered_without, shelf_two, shelf_without}
-use Rattle.zio_graph.proofs.SizeLemmas.{EndSizes, end_sizes}
-use Rattle.zio_graph.proofs.LedgerOwns.{end_own}
+-- A round's end: from what its trees left and which requests finished, in whatever order, to what a runner says of it.
+use Rattle.std.proofs.Common.{◌≡◌, ℕ, ◌+◌, ◌≤◌, List, [], ◌∷◌, map, cond, true, ◌==◌, eq-eqb, refl, sym, ap, ◌∙◌, subst, inl, inr, arith}
+use Rattle.std.specs.Prelude.{Contains, IsPermutation}
 use Rattle.std.specs.List.{AllByRecursion}
-use Rattle.std.specs.Prelude.{Contains}
-use Rattle.zio_stages.specs.Outcomes.{held_by}
-use Rattle.zio_trace.specs.SoundRounds.{IsSoundRound}
+use Rattle.std.specs.List.Sorted.{IsNonDecreasingBy}
+use Rattle.std.proofs.lemmas.List.Sorted.{IsPermutation-map, IsPermutation-sym, IsPermutation-trans}
+use Rattle.std.proofs.lemmas.List.Sums.{sum_by-cons}
+use Rattle.zio_script.specs.declared.script.Request.{Request}
+use Rattle.zio_script.specs.Requests.{makes_block}
+use Rattle.zio_gang.specs.Attempts.{Ended, Pending}
+use Rattle.zio_gang.specs.Journals.{CompleteOnce}
+use Rattle.zio_trace.specs.Rounds.{Round}
+use Rattle.zio_course.specs.declared.runner.RequestEnd.{RequestEnd}
+use Rattle.zio_course.specs.Runners.{AreRisingFrom, AreRunnable, MakesTree, Standing, completion_for, finished_by_number, finished_of, is_numbered, joined_trees, numbers_of, requests_in}
+use Rattle.zio_course.proofs.DoneLemmas.{contains_one}
+use Rattle.zio_course.proofs.SortLemmas.{IsOneOf, IsRisingBy}
+use Rattle.zio_course.proofs.NumberCounts.{complete_once, counted, ends_numbers, requests_counted}
+use Rattle.zio_course.proofs.NumberSorts.{all_moved, all_there, counted_moved, merged_is, numbers_rise, rising_by}
+use Rattle.zio_sound.specs.Leaving.{LeavesTrees, MakesOwn, requests_ended}
+use Rattle.zio_graph.specs.RoundEnds.{IsByNumber, TellsRound, completions_of}
 
-module _ {N : Type 0} (nodes : Nodes N) (over : List Top → N → Type 0) (t : Terms) (sizes : ℕ → ℕ) (f : Forest)
-    (before : Before) (s : SoFar) (slab out : Slab (Entry N)) (queue leaves : List ℕ) (key : ℕ) (e : Entry N) (calls : List SpaceCall)
-    (outcome : Outcome)
-    (r : IsThere {N = N} nodes t sizes f before s slab queue leaves key e)
-    (ends : Ends {N = N} nodes nodes.gave t e.node r.node.stack calls outcome)
-    (finds : (a : Ask) → r.node.stack.outer.op ≢ Find a)
-    (taken : Updates slab out key None) where
-  -- nothing but places is given back
-  same_entries : s.entries ≡ s.entries ++ choices_in calls
-  same_entries =
-      sym (append_none s.entries)
-      ∙ ap (λ (cs : List Choice). s.entries ++ cs) (sym (ap choices_in ends.calls_are ∙ choices_did [] ends.gone))
+abbrev number : RequestEnd → ℕ
+number f = f.request
 
-  -- it told its pointer before
-  did_tell : (q : Flying) (c : Child) → DoesAsked {N = N} (held_of {N = N} e) r.node q c → needs_none e.ties.kind ≡ false
-      → nodes.told e.node ≡ true
-  did_tell q c asked needs = ends.told (ap needs_none (sym asked.kind) ∙ needs)
+-- ---- one request a number
 
-  told_now : (q : Flying) (n : ℕ) (c : Child) → DoesAsked {N = N} (held_of {N = N} e) r.node q c
-      → IsChildOf {N = N} nodes (held_of {N = N} e) r.node.at q n c → c.told ≡ true
-  told_now q n c asked does = does.heard ∙ told_all e.ties.kind (nodes.told e.node) (λ needs. did_tell q c asked needs)
+numbered_more : {X : Type 0} (of : X → ℕ) (n : ℕ) (x : X) (xs : List X)
+    → counted n (map of (x ∷ xs)) ≡ cond {A = ℕ} (of x == n) 1 0 + counted n (map of xs)
+numbered_more of n x xs = sum_by-cons (λ m. cond {A = ℕ} (is_numbered n m) 1 0) (of x) (map of xs)
 
-  value_fits : FitsWhichever t r.state.entries r.node.stack.outer.op ends.value
-  value_fits =
-      one_value nodes t sizes f before s.trees s.tops (shelf_of {N = N} slab) queue leaves r.state key r.node r.others ends.value
-      r.kept ends.ends
+counted_there : {X : Type 0} (of : X → ℕ) (x : X) (xs : List X) → IsOneOf x xs → 1 ≤ counted (of x) (map of xs)
+counted_there of x [] h = absurd h
+counted_there of x (y ∷ ys) (inl e) =
+    let all = numbered_more of (of x) y ys in
+    let one : cond {A = ℕ} (of y == of x) 1 0 ≡ 1 = ap (λ b. cond {A = ℕ} b 1 0) (eq-eqb (of y) (of x) (ap of e)) in omega arith
+counted_there of x (y ∷ ys) (inr h) = let all = numbered_more of (of x) y ys in let rest = counted_there of x ys h in omega arith
 
-  fits_each : (journal : List Choice) → FitsTask journal t r.node.stack.outer.op ends.value
-  fits_each journal = fits_every t r.state.entries r.node.stack.outer.op ends.value finds value_fits journal
+-- where no number stands twice, two items of the same number are one
+pub one_numbered : {X : Type 0} (of : X → ℕ) (x y : X) (zs : List X) → ((n : ℕ) → counted n (map of zs) ≤ 1) → IsOneOf x zs → IsOneOf y zs
+    → of x ≡ of y → x ≡ y
+one_numbered of x y [] once h k same = absurd h
+one_numbered of x y (z ∷ zs) once (inl e) (inl g) same = sym e ∙ g
+one_numbered of x y (z ∷ zs) once (inl e) (inr k) same =
+    let all = numbered_more of (of y) z zs in
+    let one : cond {A = ℕ} (of z == of y) 1 0 ≡ 1 = ap (λ b. cond {A = ℕ} b 1 0) (eq-eqb (of z) (of y) (ap of e ∙ same)) in
+    let there = counted_there of y zs k in let most = once (of y) in absurd (omega arith)
+one_numbered of x y (z ∷ zs) once (inr h) (inl g) same =
+    let all = numbered_more of (of x) z zs in
+    let one : cond {A = ℕ} (of z == of x) 1 0 ≡ 1 = ap (λ b. cond {A = ℕ} b 1 0) (eq-eqb (of z) (of x) (ap of g ∙ sym same)) in
+    let there = counted_there of x zs h in let most = once (of x) in absurd (omega arith)
+one_numbered of x y (z ∷ zs) once (inr h) (inr k) same =
+    one_numbered of x y zs (λ n. (let all = numbered_more of n z zs in let most = once n in omega arith)) h k same
 
-  pub ends_as : EndsAs t r.node.stack.outer.op outcome ends.value
-  ends_as = record {
-    stack = r.node.stack;
-    does = refl;
-    ends = ends.ends;
-    shows = ends.shows;
-    ended = ends.ended;
-    requests = ends.requests;
-    requests_are = ends.requests_are;
-  }
+ended_numbers : (es : List Ended) → ends_numbers (map finished_of es) ≡ numbers_of (requests_ended es)
+ended_numbers [] = refl
+ended_numbers (e ∷ es) = ap (λ (ns : List ℕ). e.request.number ∷ ns) (ended_numbers es)
 
-  -- what comes into the books
-  pub more : IsMore t f r.node.stack outcome ends.ended
-  more =
-      more_ended t f r.seen r.node.stack outcome ends.value ends.ended ends.ends ends.shows ends.requests ends.requests_are
-      r.of_round.outer.task value_fits.kind
+-- ---- the end of a round
 
-  its_rests : EndLeaves t f r.node.stack ends.value
-  its_rests = end_leaves t f r.node.stack ends.value r.of_round.outer.asked r.seated.outer.lengths ends.ends
+module _ (s : Standing) (round : ℕ) (trees : List (List Pending)) (r : Round) (ended : List Ended) (fs : List RequestEnd)
+    (runs : AreRunnable s trees) (leaves : LeavesTrees trees r) (moved : IsPermutation ended r.ended)
+    (sorted : IsPermutation (map finished_of ended) fs) (order : IsNonDecreasingBy number fs) where
+  from_round : IsPermutation (map finished_of r.ended) fs
+  from_round =
+      IsPermutation-trans (map finished_of r.ended) (map finished_of ended) fs
+      (IsPermutation-sym (map finished_of ended) (map finished_of r.ended) (IsPermutation-map finished_of ended r.ended moved)) sorted
 
-  its_sizes : EndSizes t f r.node.stack ends.value
-  its_sizes =
-      end_sizes t f r.seen r.node.stack ends.value r.of_round.outer.asked r.of_round.outer.slots r.seated.outer.lengths ends.ends
+  counts : (n : ℕ) → counted n (ends_numbers fs) ≡ counted n (numbers_of (requests_ended r.ended))
+  counts n = counted_moved n (map finished_of r.ended) fs from_round ∙ ap (counted n) (ended_numbers r.ended)
 
-  its_places : (w : Place → ℕ) → PlacesEnd {N = N} nodes e.node r.node.stack outcome ends.value ends.gone w
-  its_places = places_end nodes t f e.node r.node.stack outcome ends.value ends.gone ends.ended ends.places ends.shows more
+  trees_once : (n : ℕ) → counted n (numbers_of (requests_in trees)) ≤ 1
+  trees_once n = subst (λ m. m ≤ 1) (sym (requests_counted n (requests_in trees))) (runs.once n)
 
-  its_own : IsSoundRound t sizes f
-      → AllByRecursion (λ (p : Place). Contains (held_by r.node.stack) p ⊎ Contains t.used p) ends.gone
-  its_own sound =
-      end_own t sizes f r.seen r.node.stack outcome ends.value (nodes.gave e.node) ends.gone sound r.of_round.outer.task ends.places
+  ends_once : (n : ℕ) → counted n (ends_numbers fs) ≤ 1
+  ends_once n = let a = counts n in let b = leaves.each n in let c = trees_once n in omega arith
 
-  -- ---- a node
+  rising : IsRisingBy number fs
+  rising = rising_by fs order ends_once
 
-  module _ (above n : ℕ) (parent : (held_of {N = N} e).parent ≡ OfNode above n) where
-    hears_it : (tops : List Top) → t.setting.tops ≡ tops → (p : HasAbove {N = N} nodes t sizes f before s slab queue leaves key e r above n)
-        → (g : Entry N) → (a : IsAbove {N = N} nodes t sizes f before s slab queue leaves key e r above n p.parent g)
-        → Hears {N = N} nodes tops t g.node p.parent.stack n p.child r.node.stack.outer.op outcome ends.value
-    hears_it tops tops_are p g a =
-        let asked = one_asked nodes t sizes f before s.trees s.tops (shelf_of {N = N} slab) queue leaves a.state key above r.node
-        p.parent a.others (held_of {N = N} e) n p.child a.kept r.held parent p.does.is in
-        record {
-          now = record { tops_are = tops_are; is = a.is; seated = a.seated };
-          there = p.does.is;
-          goes = p.does.goes;
-          told = told_now p.parent n p.child asked p.does;
-          asked = asked.asked;
-          fits_told = one_fits nodes t sizes f before s.trees s.tops (shelf_of {N = N} slab) queue leaves a.state key above r.node p.parent
-              a.others (held_of {N = N} e) n p.child ends.value a.kept r.held parent p.does.is ends.ends;
-          fits = fits_each;
-          in_kind = value_fits.kind;
-          shows = ends.shows;
-        }
+  pub finished_is : fs ≡ finished_by_number r.ended
+  finished_is = merged_is (map finished_of r.ended) fs from_round rising
 
-    pub can_end : (tops : List Top) → t.setting.tops ≡ tops → AreAll {N = N} (over tops) slab
-        → AwaitsEnd {N = N} nodes over tops out e.ties.kind above n outcome
-    can_end tops tops_are over_all =
-        let p : HasAbove {N = N} nodes t sizes f before s slab queue leaves key e r above n =
-        has_above {N = N} nodes t sizes f before s slab queue leaves key e r above n parent in
-        let a : IsAbove {N = N} nodes t sizes f before s slab queue leaves key e r above n p.parent p.entry =
-        is_above {N = N} nodes t sizes f before s slab queue leaves key e r above n p p.entry p.there in
-        record {
-          entry = p.entry;
-          there = taken.others above p.other ∙ p.there;
-          inside = over_all above p.entry p.there;
-          hears = record {
-            terms = t;
-            stack = p.parent.stack;
-            child = p.child;
-            op = r.node.stack.outer.op;
-            value = ends.value;
-            hears = hears_it tops tops_are p p.entry a;
-          };
-          owed = some_more (counted e.ties.kind Done p.entry.ties.counts)
-              (one_counts nodes t sizes f before s.trees s.tops (shelf_of {N = N} slab) queue leaves a.state key above r.node p.parent
-              a.others (held_of {N = N} e) (held_of {N = N} p.entry) n p.child a.kept r.held parent a.held p.does.is);
-        }
+  pub each_ends : (n : ℕ) → counted n (numbers_of (requests_in trees)) ≡ counted n (ends_numbers fs) + counted n (numbers_of (requests_in r.left))
+  each_ends n = let a = counts n in let b = leaves.each n in omega arith
 
-    pub round_ends : IsSoundRound t sizes f → (tops : List Top) → t.setting.tops ≡ tops → (rest : List ℕ) → OneMore key rest queue
-        → (slab_now : Slab (Entry N)) (queue_now : List ℕ)
-        → NodeHeard {N = N} nodes over tops out rest slab_now queue_now e.ties.kind above n outcome
-        → KeepsRound {N = N} nodes t sizes f before (with_done (with_calls s calls) more.more) slab_now queue_now leaves
-    round_ends sound tops tops_are rest one_more slab_now queue_now told =
-        let p : HasAbove {N = N} nodes t sizes f before s slab queue leaves key e r above n =
-        has_above {N = N} nodes t sizes f before s slab queue leaves key e r above n parent in
-        let was : get slab above ≡ Some told.was = sym (taken.others above p.other) ∙ told.heard.there in
-        let a : IsAbove {N = N} nodes t sizes f before s slab queue leaves key e r above n p.parent told.was =
-        is_above {N = N} nodes t sizes f before s slab queue leaves key e r above n p told.was was in
-        let asked = one_asked nodes t sizes f before s.trees s.tops (shelf_of {N = N} slab) queue leaves a.state key above r.node
-        p.parent a.others (held_of {N = N} e) n p.child a.kept r.held parent p.does.is in
-        let up_now : Entry N =
-        with_ties {N = N} told.up (counting told.was.ties (notified e.ties.kind Done told.error told.bits told.was.ties.counts)) in
-        let y : Flying = record { at = p.parent.at; stack = heard_of p.parent.stack n p.child ends.value } in
-        let is_up = told.is t p.parent.stack p.child r.node.stack.outer.op ends.value (hears_it tops tops_are p told.was a) in
-        let second : List Live = live_of above p.parent ∷ a.others in
-        record {
-          lives = live_of above y ∷ a.others;
-          still = still_as nodes t sizes f before s.trees s.tops (live_of above y ∷ a.others)
-              (shelf_of {N = N} slab_now) queue_now leaves a.state.entries (s.entries ++ choices_in calls) a.state.images s.images
-              (one_ends nodes t sizes f before s.trees s.tops (shelf_of {N = N} slab) queue leaves a.state key above r.node p.parent
-              a.others (held_of {N = N} e) (held_of {N = N} told.was) n p.child ends.value a.kept r.held parent a.held rest one_more
-              ends.ends (λ needs. did_tell p.parent p.child asked needs) p.does.is told.up is_up told.heard.told told.error told.bits
-              (shelf_of {N = N} slab_now) (shelf_two slab out slab_now key above None up_now p.other taken told.heard.put)
-              queue_now (woken (is_last e.ties.kind Done told.was.ties.counts) above rest queue_now told.heard.queued))
-              (a.entries_are ∙ same_entries) a.images_are;
-          numbered = numbered_with out slab_now above up_now (flying_at second) (flying_at (live_of above y ∷ a.others)) y
-              told.heard.put (with_first above p.parent y a.others)
-              (a.given ∙ sym (length_set p.parent.stack.children n (child_ended p.child)))
-              (numbered_without slab out key (flying_at (live_of key r.node ∷ second)) (flying_at second) taken
-              (without_first key r.node second a.kept.differ) a.numbered);
-          theirs = theirs_parent (flying_at second) (flying_at (live_of above y ∷ a.others)) leaves s.ops above p.parent (Some y) n
-              p.child (with_first above p.parent y a.others) (first_at (live_of above p.parent) a.others) p.does.is
-              (theirs_without (flying_at (live_of key r.node ∷ second)) (flying_at second) leaves s.ops key
-              (without_first key r.node second a.kept.differ) a.theirs);
-          ledger = ledger_ends nodes t f s.books s.entries s.tops s.trees slab slab_now key r.node outcome ends.value ends.gone calls
-              ends.ended e.node ends.calls_are more ends.requests its_places
-              (λ w. ap (λ (n : ℕ). n + total w (nodes.gave e.node))
-              (gave_put nodes out slab_now above w told.was up_now told.heard.there told.heard.put told.heard.gave)
-              ∙ gave_gone nodes slab out key w e r.there taken) (its_own sound) its_rests its_sizes
-              above p.parent y a.others a.ledger
-              (hears_value p.parent.stack n p.child r.node.stack.outer.op ends.value a.seated p.does.is p.does.goes asked.asked
-              (heard_within t f a.seen p.parent.stack n p.child r.node.stack.outer.op outcome ends.value a.seated p.does.is p.does.goes
-              asked.asked a.of_round.inner a.ledger.hands.1.0 ends.shows))
-              (hands_heard p.parent.stack n p.child ends.value p.does.is a.ledger.hands.1.0);
-        }
+  pub numbers_rise_up : AreRisingFrom 0 (ends_numbers fs)
+  numbers_rise_up = numbers_rise fs rising
 
-  -- ---- a tree
+  -- a block is made by a write or a claim alone
+  makes_one : (e : Ended) → MakesOwn e → Contains (requests_in trees) e.request → MakesTree trees (finished_of e)
+  makes_one e makes from = λ some. (makes.well some, by_number (makes.makes some) (joined_trees trees) (λ q there. there))
+    where
+      by_number : makes_block e.request.work ≡ true → (ps : List Pending) → ((q : Request) → IsOneOf q (map (λ (p : Pending). p.request) ps) → IsOneOf q (requests_in trees))
+          → AllByRecursion (λ (p : Pending). p.request.number ≡ e.request.number → makes_block p.request.work ≡ true) ps
+      by_number made [] within = tt
+      by_number made (p ∷ ps) within = (
+        (λ same. subst (λ (q : Request). makes_block q.work ≡ true)
+            (one_numbered (λ (q : Request). q.number) e.request p.request (requests_in trees) trees_once (contains_one e.request (requests_in trees) from) (within p.request (inl refl)) (sym same))
+            made),
+        by_number made ps (λ q there. within q (inr there)),
+      )
 
-  pub round_ends_tree : IsSoundRound t sizes f → (rest : List ℕ) → OneMore key rest queue → (tree n : ℕ) → (held_of {N = N} e).parent ≡ OfTree tree n
-      → TreeHears {N = N} nodes t sizes f before (with_calls s calls) out rest leaves tree outcome
-  round_ends_tree sound rest one_more tree n parent =
-      let found : IsTreeFound {N = N} nodes s.tops tree n r.node (held_of {N = N} e) =
-      tree_found nodes t sizes f before s.trees s.tops (shelf_of {N = N} slab) queue leaves r.state key tree n r.node r.others
-      (held_of {N = N} e) r.kept r.held parent in
-      let asked = tree_asked nodes t sizes f before s.trees s.tops (shelf_of {N = N} slab) queue leaves r.state key tree r.node
-      found.top r.others (held_of {N = N} e) n found.child r.kept r.held parent found.there found.does.is in
-      let of_tree : IsOfTree found.top.stack = r.ledger.of_trees tree found.top (top_slice s.tops tree found.top found.there) in
-      let tops : List (Option Flying) =
-      slice_set s.tops tree (Some (record { at = found.top.at; stack = heard_of found.top.stack n found.child ends.value })) in
-      record {
-        top = found.top;
-        number = n;
-        child = found.child;
-        op = r.node.stack.outer.op;
-        value = ends.value;
-        there = found.there;
-        is = found.does.is;
-        goes = found.does.goes;
-        asked = asked.asked;
-        fits = tree_fits nodes t sizes f before s.trees s.tops (shelf_of {N = N} slab) queue leaves r.state key tree r.node found.top
-            r.others (held_of {N = N} e) n found.child ends.value r.kept r.held parent found.there found.does.is ends.ends;
-        how = ends_as;
-        more = more.more;
-        told = more.told;
-        keeps = record {
-          lives = r.others;
-          still = still_as nodes t sizes f before s.trees tops r.others (shelf_of {N = N} out) rest leaves
-              r.state.entries (s.entries ++ choices_in calls) r.state.images s.images
-              (one_ends_tree nodes t sizes f before s.trees s.tops (shelf_of {N = N} slab) queue leaves r.state key tree r.node
-              found.top r.others (held_of {N = N} e) n found.child ends.value r.kept r.held parent found.there rest one_more ends.ends
-              found.does.is (shelf_of {N = N} out) (shelf_without slab out key taken))
-              (r.entries_are ∙ same_entries) r.images_are;
-          numbered = numbered_without slab out key (flying_at (live_of key r.node ∷ r.others)) (flying_at r.others) taken
-              (without_first key r.node r.others r.kept.differ) r.numbered;
-          theirs = theirs_without (flying_at (live_of key r.node ∷ r.others)) (flying_at r.others) leaves s.ops key
-              (without_first key r.node r.others r.kept.differ) r.theirs;
-          ledger = ledger_root_ends nodes t f s.books s.entries s.tops s.trees slab out key r.node outcome ends.value ends.gone calls
-              ends.ended e.node ends.calls_are more ends.requests its_places (λ w. gave_gone nodes slab out key w e r.there taken)
-              (its_own sound) its_rests its_sizes tree
-              found.top (record { at = found.top.at; stack = heard_of found.top.stack n found.child ends.value }) r.others r.ledger
-              (top_slice s.tops tree found.top found.there)
-              (hears_value found.top.stack n found.child r.node.stack.outer.op ends.value
-              (tree_seated nodes t sizes f before s.trees s.tops (shelf_of {N = N} slab) queue leaves r.state tree found.top
-              (live_of key r.node ∷ r.others) r.kept found.there) found.does.is found.does.goes asked.asked
-              (none_within found.top.stack r.node.stack.outer.op ends.value found.child of_tree asked.asked))
-              (tree_places_none found.top.stack found.child.seat r.node.stack.outer.op ends.value of_tree asked.asked)
-              (heard_tree found.top.stack n found.child ends.value);
-        };
-      }
+  makes_all : (es : List Ended) → AllByRecursion MakesOwn es → AllByRecursion (λ (e : Ended). Contains (requests_in trees) e.request) es
+      → AllByRecursion (MakesTree trees) (map finished_of es)
+  makes_all [] makes from = tt
+  makes_all (e ∷ es) makes from = (makes_one e makes.0 from.0, makes_all es makes.1 from.1)
+
+  pub makers_right : AllByRecursion (MakesTree trees) fs
+  makers_right = all_moved (MakesTree trees) (map finished_of r.ended) fs from_round (makes_all r.ended leaves.makers leaves.from)
+
+  -- ---- completions, in the order in which the requests finished
+
+  pub completed : AllByRecursion (λ c. Contains (map (completion_for round) fs) c) (completions_of round ended)
+  completed = all_there (completion_for round) (map finished_of ended) fs sorted
+
+  pub all_completed : AllByRecursion (λ c. Contains (completions_of round ended) c) (map (completion_for round) fs)
+  all_completed = all_there (completion_for round) fs (map finished_of ended) (IsPermutation-sym (map finished_of ended) fs sorted)
+
+  pub once_completed : CompleteOnce (completions_of round ended)
+  once_completed =
+      complete_once round (map finished_of ended)
+      (λ n. (let a = counted_moved n (map finished_of ended) fs sorted in let b = ends_once n in omega arith))
+
+pub tells_round : (s : Standing) (round : ℕ) (trees : List (List Pending)) (r : Round) (ended : List Ended) (fs : List RequestEnd) → AreRunnable s trees
+    → LeavesTrees trees r → IsPermutation ended r.ended → IsByNumber ended fs → TellsRound round trees r ended fs
+tells_round s round trees r ended fs runs leaves moved sorted = record {
+  finished_is = finished_is s round trees r ended fs runs leaves moved sorted.same sorted.order;
+  each = each_ends s round trees r ended fs runs leaves moved sorted.same sorted.order;
+  rising = numbers_rise_up s round trees r ended fs runs leaves moved sorted.same sorted.order;
+  makers = makers_right s round trees r ended fs runs leaves moved sorted.same sorted.order;
+  completed = completed s round trees r ended fs runs leaves moved sorted.same sorted.order;
+  all_completed = all_completed s round trees r ended fs runs leaves moved sorted.same sorted.order;
+  once = once_completed s round trees r ended fs runs leaves moved sorted.same sorted.order;
+}

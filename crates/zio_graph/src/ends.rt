@@ -1,60 +1,85 @@
-//! What a round's books tell once it is over.
+//! What is told of a round's trees once each is settled.
 
-ghost use Rattle.std.specs.Prelude.{◌≡◌, ◌++◌, ◌⊎◌, ◌↔◌, ℕ, List as Seq, [], true, Contains, IsPermutation, IsTrue, Option};
+ghost use Rattle.std.specs.Prelude.{◌≡◌, ◌++◌, IfOk, IsPermutation, OnOk, map};
 ghost use Rattle.std.specs.List.{AllByRecursion};
-ghost use Rattle.zio_types.specs.declared.place.Place.{Place as SeenPlace};
-ghost use Rattle.zio_types.specs.declared.place.Top.{Top as SeenTop};
-ghost use Rattle.zio_types.specs.Places.{are_open, is_inside};
-ghost use Rattle.zio_places.specs.Spaces.{SpaceState};
-ghost use Rattle.zio_cksum.specs.Images.{Images};
-ghost use Rattle.zio_gang.specs.Attempts.{Terms};
-ghost use Rattle.zio_gang.specs.Trees.{sizes_of};
-ghost use Rattle.zio_trace.specs.Families.{Forest};
-ghost use Rattle.zio_trace.specs.SoundRounds.{IsSoundRound};
-ghost use Rattle.zio_trace.specs.Tasks.{Value};
-ghost use Rattle.zio_trace.specs.Together.{round_of};
-ghost use Rattle.zio_frames.specs.Running.{all_heard};
-ghost use Rattle.slab.specs.Slab.{Slab};
-ghost use Rattle.zio_graph.specs.Desks.{IsDeskAt};
-ghost use Rattle.zio_graph.specs.Ledgers.{AreBehindChildren, AreOnce, Ending, all_ended, found_so_far, freed_in, made_in};
-ghost use Rattle.zio_graph.specs.Rounds.{SoFar};
-ghost use Rattle.zio_graph.specs.Sizes.{FitsBodies};
-ghost use Rattle.zio_graph.specs.UnderTrees.{IsOver};
-ghost use Rattle.zio_graph.specs.declared.desk.Asked.{Asked as SeenAsked};
-ghost use Rattle.zio_graph.specs.declared.entry.Entry.{Entry as SeenEntry};
+ghost use Rattle.std.specs.List.Sorted.{IsNonDecreasingBy};
+ghost use Rattle.zio_course.specs.declared.runner.RequestEnd.{RequestEnd as Told};
+ghost use Rattle.zio_stages.specs.Wholes.{IsWhole};
+ghost use Rattle.zio_graph.specs.Ends.{completion_of, left_by, left_in, told_of};
 
-use crate::node::Node;
+use std::alloc::Global;
+use zio_course::RequestEnd;
+use zio_stages::{Finished, Whole};
+use zio_turns::{TreeEnd, TreeState};
+use zio_types::{Completion, List, NoMemory};
 
-/// The requests that finished in a round that is over are those of its trees' values. Each place that was found, or is of a block
-/// that a free named, was given back or is in a block that was made, and these were found: they lie inside the tops, are free beside
-/// the places in use at the round's start, and no two of them meet. So live are then, where none of the places in use stands twice
-/// among these, those in use that are in no block that was freed, and those of the blocks that were made. Each request that
-/// finished did so behind all requests of the round that stand under it. It has no bytes, or it reads a block and has as many as
-/// all bodies of that are together; where it reads a block and has no error, it has these.
-pub fn books_tell_the_end<N: Node>()
-    ensures requests { (t : Terms) (sizes : ℕ → ℕ) (f : Forest) (before : Option Images) (s : SoFar) (slab : Slab (SeenEntry N))
-        (values : Seq Value) → IsOver N.nodes t sizes f before s slab → s.trees ≡ all_heard values →
-        IsPermutation (all_ended s.books.done) (round_of values).ended }
-    ensures children { (t : Terms) (sizes : ℕ → ℕ) (f : Forest) (before : Option Images) (s : SoFar) (slab : Slab (SeenEntry N)) →
-        IsOver N.nodes t sizes f before s slab → AreBehindChildren f [] s.books.done }
-    ensures sizes { (t : Terms) (sizes : ℕ → ℕ) (f : Forest) (before : Option Images) (s : SoFar) (slab : Slab (SeenEntry N)) →
-        IsOver N.nodes t sizes f before s slab →
-        AllByRecursion (λ (x : Ending). FitsBodies x.request x.ended) s.books.done }
-    ensures places { (t : Terms) (sizes : ℕ → ℕ) (f : Forest) (before : Option Images) (s : SoFar) (slab : Slab (SeenEntry N)) →
-        IsOver N.nodes t sizes f before s slab →
-        IsPermutation (found_so_far s.entries s.books.claimed ++ freed_in s.books.done) (s.books.back ++ made_in s.books.done) }
-    ensures made { (t : Terms) (sizes : ℕ → ℕ) (f : Forest) (before : Option Images) (s : SoFar) (slab : Slab (SeenEntry N)) →
-        IsOver N.nodes t sizes f before s slab →
-        (others : Seq SeenPlace) × IsPermutation (found_so_far s.entries s.books.claimed) (made_in s.books.done ++ others) }
-    ensures apart { (t : Terms) (sizes : ℕ → ℕ) (f : Forest) (before : Option Images) (s : SoFar) (slab : Slab (SeenEntry N))
-        (tops : Seq SeenTop) (st : SpaceState) (asked : SeenAsked) → IsOver N.nodes t sizes f before s slab →
-        IsDeskAt t s.entries s.books.claimed s.books.back tops st asked → are_open t.used (made_in s.books.done) ≡ true }
-    ensures inside { (t : Terms) (sizes : ℕ → ℕ) (f : Forest) (before : Option Images) (s : SoFar) (slab : Slab (SeenEntry N))
-        (tops : Seq SeenTop) (st : SpaceState) (asked : SeenAsked) → IsOver N.nodes t sizes f before s slab →
-        IsDeskAt t s.entries s.books.claimed s.books.back tops st asked →
-        AllByRecursion (λ (p : SeenPlace). IsTrue (is_inside (sizes_of t.setting.tops) p)) (made_in s.books.done) }
-    ensures live { (t : Terms) (sizes : ℕ → ℕ) (f : Forest) (before : Option Images) (s : SoFar) (slab : Slab (SeenEntry N))
-        (tops : Seq SeenTop) (st : SpaceState) (asked : SeenAsked) → IsSoundRound t sizes f → IsOver N.nodes t sizes f before s slab →
-        IsDeskAt t s.entries s.books.claimed s.books.back tops st asked → AreOnce t.used → (p : SeenPlace) → Contains st.live p
-        ↔ ((Contains t.used p × ¬ Contains (freed_in s.books.done) p) ⊎ Contains (made_in s.books.done) p) }
-{}
+/// What is left of the trees that are suspended, in their order.
+pub(crate) fn left_of(alloc: Global, trees: Vec<TreeState>) -> Result<List<Whole>, NoMemory>
+    ensures left { IfOk result (λ left. left ≡ left_in trees.items) }
+    ensures whole { IfOk result (AllByRecursion IsWhole) }
+{
+    let states = List::from_vec(trees);
+    let mut left = Vec::new(alloc);
+    for tree in states.into_rest() {
+        note_left(&mut left, tree)?;
+    }
+    Ok(List::from_vec(left))
+}
+
+/// Adds what is left of a tree, if it is suspended.
+fn note_left(left: &mut Vec<Whole>, tree: TreeState) -> Result<(), NoMemory>
+    ensures left { OnOk result (left.new.items ≡ left.old.items ++ left_by tree) }
+    ensures whole { AllByRecursion IsWhole left.old.items → OnOk result (AllByRecursion IsWhole left.new.items) }
+{
+    match tree {
+        TreeState::Settled(TreeEnd::Suspended(whole)) => {
+            let _root = whole.root();
+            left.push(whole)?;
+            Ok(())
+        }
+        TreeState::Settled(TreeEnd::Finished) => Ok(()),
+        TreeState::UnderWay(_) => Ok(()),
+    }
+}
+
+/// One for each request that finished, in the same order.
+pub(crate) fn completions_of(
+    alloc: Global,
+    round: u32,
+    ended: &[Finished],
+) -> Result<List<Completion>, NoMemory>
+    ensures { IfOk result (λ completions. completions ≡ map (completion_of round) ended.now) }
+{
+    let mut completions = List::new(alloc);
+    for one in ended {
+        completions.push(Completion {
+            request: one.request(),
+            round,
+            error: one.error(),
+        })?;
+    }
+    Ok(completions)
+}
+
+/// By number.
+pub(crate) fn by_number(ended: Vec<Finished>) -> List<Finished>
+    ensures same { IsPermutation (map told_of ended.items) (map told_of result) }
+    ensures order { IsNonDecreasingBy (λ (f : Told). f.request) (map told_of result) }
+{
+    let mut all = ended;
+    all.sort_unstable_by_key(|one| one.request());
+    List::from_vec(all)
+}
+
+/// What is told of a request.
+pub(crate) fn told_of(finished: Finished) -> RequestEnd
+    ensures { result ≡ told_of finished }
+{
+    let (request, error, bytes, tree) = finished.into_parts();
+    RequestEnd {
+        request,
+        error,
+        bytes,
+        tree,
+    }
+}

@@ -1,39 +1,22 @@
-//! The one-thread engine: a round's nodes under keys, queued, at leaves, or waiting for children.
+//! The engine on one thread: `Graph` makes trees of requests and runs rounds of them, in whatever order is picked. It is a
+//! `Runner` of `zio_course`, so scripts run on it.
+//!
+//! It stands on `zio_turns`, which runs the trees of a round over any nodes, on `zio_nodes`, whose nodes these are, and on
+//! `zio_sound`, which says what such a round is to a script.
 #![tactic(auto)]
 
-mod all_trees;
-mod begin;
-mod desk;
-mod drive;
 mod ends;
-mod entry;
-mod grounds;
-mod group;
-mod hear;
-mod hearing;
+mod graph;
 mod laws;
-pub mod leaf_queues;
-pub mod node;
-mod shelf;
-pub mod staged;
-pub mod step;
-mod trees;
-pub mod turn;
-pub mod turns;
+mod runner;
+mod tree;
+mod wholes;
 
-pub use all_trees::run_trees;
-pub use begin::begin_trees;
-pub use desk::{Desk, desks_serve_rounds};
-pub use drive::run_on;
-pub use ends::books_tell_the_end;
-pub use grounds::{DisksBack, Grounds};
-pub use group::issue_group;
-pub use hearing::{Hearing, run_to_tree};
+pub use graph::Graph;
 pub use laws::{
-    engines_find_nodes, engines_hear_of_nodes, engines_keep_rounds, engines_settle_rounds,
+    jobs_are_sound_rounds, rounds_ask_under_their_number, rounds_complete_children_first,
+    rounds_leave_places_in_use, rounds_make_whole_blocks, rounds_read_whole_blocks,
+    rounds_tell_their_requests, runnable_trees_lie_on_the_tops,
+    stopped_rounds_change_what_is_loose,
 };
-pub use node::Node;
-pub use staged::{BothBack, Move, Staged};
-pub use trees::{TreeEnd, TreeState, begin_attempt, hear_tree};
-pub use turn::{Turned, run_turn};
-pub use turns::Turns;
+pub use tree::EngineTree;

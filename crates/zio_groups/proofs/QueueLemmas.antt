@@ -12,7 +12,7 @@ use Rattle.zio_vqueue.specs.Groups.{after_take}
 use Rattle.zio_vqueue.specs.Queues.{AreApart, FitsDevice, Queue, active_of, is_queued, without}
 use Rattle.zio_vqueue.proofs.IndexLemmas.{apart-filter, apart_push, neither}
 use Rattle.zio_cksum.proofs.AllLemmas.{all_append, all_filter, all_map, all_true, all_unmap, all_weaker}
-use Rattle.zio_groups.specs.declared.waiting.Waiting.{Waiting}
+use Rattle.zio_groups.specs.declared.waiting.QueuedOp.{QueuedOp}
 use Rattle.zio_groups.specs.Issued.{IsFit}
 use Rattle.zio_groups.specs.LeafQueues.{IsInOrder, Waits, after_issue, kept_with, ops_of, queue_of, waiting_with, waiting_without, waits_of}
 
@@ -30,16 +30,16 @@ pub kept_same : (f g : Kept) (os : List Op) → AllByRecursion (λ (o : Op). g o
 kept_same f g [] h = refl
 kept_same f g (o ∷ os) h =
     ap (λ (bytes : Option (List ℕ)). waiting_with o (unwrap_or bytes []) ∷ map (kept_with g) os) h.0
-    ∙ ap (λ (ws : List Waiting). kept_with f o ∷ ws) (kept_same f g os h.1)
+    ∙ ap (λ (ws : List QueuedOp). kept_with f o ∷ ws) (kept_same f g os h.1)
 
 -- ---- those that are left
 
-filter_kept : (f : Kept) (t : ℕ) (os : List Op) → filter (λ (w : Waiting). not (w.op.ticket == t)) (map (kept_with f) os) ≡ map (kept_with f) (filter (λ (o : Op). not (o.ticket == t)) os)
+filter_kept : (f : Kept) (t : ℕ) (os : List Op) → filter (λ (w : QueuedOp). not (w.op.ticket == t)) (map (kept_with f) os) ≡ map (kept_with f) (filter (λ (o : Op). not (o.ticket == t)) os)
 filter_kept f t [] = refl
-filter_kept f t (o ∷ os) = step (not (o.ticket == t)) (kept_with f o) (filter (λ (w : Waiting). not (w.op.ticket == t)) (map (kept_with f) os)) o (filter (λ (p : Op). not (p.ticket == t)) os) (filter_kept f t os) refl
+filter_kept f t (o ∷ os) = step (not (o.ticket == t)) (kept_with f o) (filter (λ (w : QueuedOp). not (w.op.ticket == t)) (map (kept_with f) os)) o (filter (λ (p : Op). not (p.ticket == t)) os) (filter_kept f t os) refl
   where
-    step : (b : Bool) (w : Waiting) (xs : List Waiting) (p : Op) (ps : List Op) → xs ≡ map (kept_with f) ps → w ≡ kept_with f p → cond b (w ∷ xs) xs ≡ map (kept_with f) (cond b (p ∷ ps) ps)
-    step true w xs p ps e k = ap (λ (v : Waiting). v ∷ xs) k ∙ ap (λ (vs : List Waiting). kept_with f p ∷ vs) e
+    step : (b : Bool) (w : QueuedOp) (xs : List QueuedOp) (p : Op) (ps : List Op) → xs ≡ map (kept_with f) ps → w ≡ kept_with f p → cond b (w ∷ xs) xs ≡ map (kept_with f) (cond b (p ∷ ps) ps)
+    step true w xs p ps e k = ap (λ (v : QueuedOp). v ∷ xs) k ∙ ap (λ (vs : List QueuedOp). kept_with f p ∷ vs) e
     step false w xs p ps e k = e
 
 pub without_kept : (f : Kept) (ms os : List Op) → map (kept_with f) (without ms os) ≡ waiting_without ms (map (kept_with f) os)
@@ -105,7 +105,7 @@ unqueued f g t (o ∷ os) e h =
     (h o.ticket (apart_from o.ticket t n.0), unqueued f g t os n.1 h)
 
 pub waits_same : (f g : Kept) (q : Queue) → AllByRecursion (λ (o : Op). g o.ticket ≡ f o.ticket) q.queued → waits_of g q ≡ waits_of f q
-waits_same f g q h = ap (λ (ws : List Waiting). record { waiting = ws; active = q.active; last = q.last }) (kept_same f g q.queued h)
+waits_same f g q h = ap (λ (ws : List QueuedOp). record { waiting = ws; active = q.active; last = q.last }) (kept_same f g q.queued h)
 
 abbrev pub pushed : Queue → Op → Queue
 pushed q o = record { queued = q.queued ++ o ∷ []; active = q.active; last = q.last }
@@ -114,10 +114,10 @@ pushed q o = record { queued = q.queued ++ o ∷ []; active = q.active; last = q
 pub waits_pushed : (f g : Kept) (q : Queue) (o : Op) (bytes : List ℕ) → is_queued o.ticket q.queued ≡ false → ((u : ℕ) → u ≢ o.ticket → g u ≡ f u) → kept_with g o ≡ waiting_with o bytes
     → waits_of g (pushed q o) ≡ record { waiting = map (kept_with f) q.queued ++ waiting_with o bytes ∷ []; active = q.active; last = q.last }
 waits_pushed f g q o bytes new others here =
-    ap (λ (ws : List Waiting). record { waiting = ws; active = q.active; last = q.last })
+    ap (λ (ws : List QueuedOp). record { waiting = ws; active = q.active; last = q.last })
     (map-append (kept_with g) q.queued (o ∷ [])
-    ∙ ap (λ (ws : List Waiting). ws ++ kept_with g o ∷ []) (kept_same f g q.queued (unqueued f g o.ticket q.queued new others))
-    ∙ ap (λ (w : Waiting). map (kept_with f) q.queued ++ w ∷ []) here)
+    ∙ ap (λ (ws : List QueuedOp). ws ++ kept_with g o ∷ []) (kept_same f g q.queued (unqueued f g o.ticket q.queued new others))
+    ∙ ap (λ (w : QueuedOp). map (kept_with f) q.queued ++ w ∷ []) here)
 
 room_of : (b : Bool) (bytes : List ℕ) (len : ℕ) → length bytes ≤ len → length (cond b bytes []) ≤ len
 room_of true bytes len h = h
@@ -130,7 +130,7 @@ order_pushed f g q o bytes new others here fits room h =
     (record {
       room = h.room;
       fit = all_append IsFit (map (kept_with f) q.queued) (waiting_with o bytes ∷ []) h.fit (record { device = fits; room = room_of o.write bytes o.len room }, tt);
-      apart = subst AreApart (sym (map-append (λ (w : Waiting). w.op) (map (kept_with f) q.queued) (waiting_with o bytes ∷ []) ∙ ap (λ (os : List Op). os ++ o ∷ []) (ops_kept f q.queued)))
+      apart = subst AreApart (sym (map-append (λ (w : QueuedOp). w.op) (map (kept_with f) q.queued) (waiting_with o bytes ∷ []) ∙ ap (λ (os : List Op). os ++ o ∷ []) (ops_kept f q.queued)))
           (apart_push q.queued o (subst AreApart (ops_kept f q.queued) h.apart) new);
     })
 
@@ -176,7 +176,7 @@ active_again q group room =
 
 pub waits_done : (f g : Kept) (q : Queue) (group : Group) → ((t : ℕ) → is_queued t group.ops ≡ false → g t ≡ f t) → length q.active ≡ 5 → waits_of g (after_done (after_take q group) group) ≡ after_issue (waits_of f q) group
 waits_done f g q group others room =
-    ap (λ (ws : List Waiting). record { waiting = ws; active = (after_done (after_take q group) group).active; last = group.at + group.len })
+    ap (λ (ws : List QueuedOp). record { waiting = ws; active = (after_done (after_take q group) group).active; last = group.at + group.len })
     (kept_same f g (without group.ops q.queued) (all_weaker (λ (o : Op). is_queued o.ticket group.ops ≡ false) (λ (o : Op). g o.ticket ≡ f o.ticket) (without group.ops q.queued) (λ o h. others o.ticket h) (unlisted group.ops q.queued))
     ∙ without_kept f group.ops q.queued)
     ∙ ap (λ (active : List ℕ). record { waiting = waiting_without group.ops (map (kept_with f) q.queued); active = active; last = group.at + group.len }) (active_again q group room)

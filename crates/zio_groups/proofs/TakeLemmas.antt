@@ -9,7 +9,7 @@ use Rattle.zio_vqueue.specs.Queues.{AreApart, Queue, is_queued}
 use Rattle.zio_vqueue.specs.Groups.{IsNextGroup, IsRun, IsSpanOf, gap_max}
 use Rattle.zio_vqueue.proofs.IndexLemmas.{equal_flip, neither}
 use Rattle.zio_cksum.proofs.AllLemmas.{all_contained, all_contains, all_map, all_unmap, all_weaker}
-use Rattle.zio_groups.specs.declared.waiting.Waiting.{Waiting}
+use Rattle.zio_groups.specs.declared.waiting.QueuedOp.{QueuedOp}
 use Rattle.zio_groups.specs.LeafQueues.{AreMembers, IsInOrder, kept_with, ops_of, waiting_with, waits_of}
 use Rattle.zio_groups.proofs.GroupLemmas.{first_has, members_alike, members_apart, members_have, members_run}
 use Rattle.zio_groups.proofs.QueueLemmas.{Kept, ops_kept}
@@ -22,7 +22,7 @@ next_members f q group next =
       next.first.write,
       record {
         ops = same;
-        alike = all_map (λ (w : Waiting). w.op.write ≡ next.first.write) (kept_with f) group.ops (members_alike q.queued next.first group.ops next.members);
+        alike = all_map (λ (w : QueuedOp). w.op.write ≡ next.first.write) (kept_with f) group.ops (members_alike q.queued next.first group.ops next.members);
         run = subst (IsRun (gap_max next.first.write)) (sym same) (members_run q.queued next.first group.ops next.members);
         span = subst (IsSpanOf group) (sym same) next.span;
       },
@@ -39,7 +39,7 @@ next_among f q group next =
 pub next_apart : (f : Kept) (q : Queue) (group : Group) → IsNextGroup q group → IsInOrder (waits_of f q) → AreApart group.ops
 next_apart f q group next h = members_apart q.queued next.first group.ops next.members (subst AreApart (ops_kept f q.queued) h.apart)
 
-pub all_among : (P : Waiting → Type 0) (all ws : List Waiting) → AllByRecursion (Contains all) ws → AllByRecursion P all → AllByRecursion P ws
+pub all_among : (P : QueuedOp → Type 0) (all ws : List QueuedOp) → AllByRecursion (Contains all) ws → AllByRecursion P all → AllByRecursion P ws
 all_among P all ws among h = all_weaker (Contains all) P ws (λ w c. all_contains P all w h c) among
 
 -- ---- tickets one after another
@@ -75,14 +75,14 @@ not_equal a b e same = grind (arith, nat_tests)
 
 -- ---- one member more
 
-pub members_more : (f g : Kept) (os : List Op) (i : ℕ) (d : Op) (old new : List Waiting) (w : Waiting) → i < length os → AreApart os → new ≡ old ++ w ∷ [] → old ≡ map (kept_with f) (take i os) → w ≡ kept_with g (get_or os i d)
+pub members_more : (f g : Kept) (os : List Op) (i : ℕ) (d : Op) (old new : List QueuedOp) (w : QueuedOp) → i < length os → AreApart os → new ≡ old ++ w ∷ [] → old ≡ map (kept_with f) (take i os) → w ≡ kept_with g (get_or os i d)
     → ((t : ℕ) → is_queued t (take i os) ≡ false → g t ≡ f t) → new ≡ map (kept_with f) (take (i + 1) os)
 members_more f g os i d old new w below apart push so_far here others =
     let o : Op = get_or os i d in
     let same : kept_with g o ≡ kept_with f o = ap (λ (bytes : Option (List ℕ)). waiting_with o (unwrap_or bytes [])) (others o.ticket (apart_before os i d below apart)) in
     push
-    ∙ ap (λ (ws : List Waiting). ws ++ w ∷ []) so_far
-    ∙ ap (λ (v : Waiting). map (kept_with f) (take i os) ++ v ∷ []) (here ∙ same)
+    ∙ ap (λ (ws : List QueuedOp). ws ++ w ∷ []) so_far
+    ∙ ap (λ (v : QueuedOp). map (kept_with f) (take i os) ++ v ∷ []) (here ∙ same)
     ∙ sym (map-append (kept_with f) (take i os) (o ∷ []))
     ∙ ap (map (kept_with f)) (sym (take_more os i d below))
 

@@ -4,7 +4,7 @@ use Rattle.zio_types.specs.declared.error.Errno.{Errno}
 use Rattle.zio_vqueue.specs.declared.op.Op.{Op}
 use Rattle.zio_vqueue.specs.Queues.{FitsDevice, end_of}
 use Rattle.zio_cksum.specs.Images.{Images, Setting, Spot, Written, read_leaf, write_leaf}
-use Rattle.zio_groups.specs.declared.waiting.Waiting.{Waiting}
+use Rattle.zio_groups.specs.declared.waiting.QueuedOp.{QueuedOp}
 use Rattle.zio_groups.specs.declared.waiting.Answered.{Answered}
 
 -- where an operation goes
@@ -33,7 +33,7 @@ write_answered ticket w = record {
 
 -- A read of the whole range, or a write of the bytes and of zeros behind them; it meets rows as of the pass that its flag
 -- says.
-abbrev pub issued_by : Bool → Setting → ℕ → Waiting → Images → OneIssued
+abbrev pub issued_by : Bool → Setting → ℕ → QueuedOp → Images → OneIssued
 issued_by false s leaf w images = record {
   answer = read_answered w.op.ticket (read_leaf s w.op.flags.retry images w.op.len (spot_of leaf w.op));
   images = images;
@@ -41,11 +41,11 @@ issued_by false s leaf w images = record {
 issued_by true s leaf w images =
     write_answered w.op.ticket (write_leaf s w.op.flags.retry w.bytes images (spot_of leaf w.op))
 
-abbrev pub one_issued : Setting → ℕ → Waiting → Images → OneIssued
+abbrev pub one_issued : Setting → ℕ → QueuedOp → Images → OneIssued
 one_issued s leaf w images = issued_by w.op.write s leaf w images
 
 -- each on the images that those before left
-abbrev pub all_issued : Setting → ℕ → List Waiting → Images → AllIssued
+abbrev pub all_issued : Setting → ℕ → List QueuedOp → Images → AllIssued
 all_issued s leaf [] images = record { answers = []; images = images }
 all_issued s leaf (w ∷ ws) images = record {
   answers = (one_issued s leaf w images).answer ∷ (all_issued s leaf ws (one_issued s leaf w images).images).answers;
@@ -57,27 +57,27 @@ abbrev pub head_of : Answered → ℕ × Option Errno
 head_of a = (a.ticket, a.error)
 
 -- a read without an error answers its whole range
-abbrev pub IsWhole : Waiting → Answered → Type 0
+abbrev pub IsWhole : QueuedOp → Answered → Type 0
 IsWhole w a = w.op.write ≡ false → a.error ≡ None → length a.bytes ≡ w.op.len
 
-abbrev pub AreWhole : List Waiting → List Answered → Type 0
+abbrev pub AreWhole : List QueuedOp → List Answered → Type 0
 AreWhole [] [] = Unit {0}
 AreWhole [] (b ∷ bs) = ⊥
 AreWhole (w ∷ ws) [] = ⊥
 AreWhole (w ∷ ws) (b ∷ bs) = IsWhole w b × AreWhole ws bs
 
 -- an operation has no more bytes to write than its range, and ends on a device
-pub record IsFit (w : Waiting) : Type 0 where
+pub record IsFit (w : QueuedOp) : Type 0 where
   pub device : FitsDevice w.op
   pub room : length w.bytes ≤ w.op.len
 
 -- it ends on the disk of its leaf, where the disks have these sizes
-abbrev pub EndsOn : List ℕ → ℕ → Waiting → Type 0
+abbrev pub EndsOn : List ℕ → ℕ → QueuedOp → Type 0
 EndsOn sizes leaf w = end_of w.op ≤ slice_index_or sizes leaf 0
 
 -- the ranges of those that write
-abbrev pub written_spots : ℕ → List Waiting → List Spot
-written_spots leaf ws = map (λ (w : Waiting). spot_of leaf w.op) (filter (λ (w : Waiting). w.op.write) ws)
+abbrev pub written_spots : ℕ → List QueuedOp → List Spot
+written_spots leaf ws = map (λ (w : QueuedOp). spot_of leaf w.op) (filter (λ (w : QueuedOp). w.op.write) ws)
 
 -- the first bytes of a read's, or its error
 abbrev pub front_of : ℕ → Result (List ℕ) Errno → Result (List ℕ) Errno

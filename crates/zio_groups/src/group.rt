@@ -11,7 +11,7 @@ ghost use Rattle.zio_groups.specs.LeafQueues.{AreMembers};
 
 use crate::single::one_by_one;
 use crate::span::{read_span, write_span};
-use crate::waiting::{Answered, Waiting};
+use crate::waiting::{Answered, QueuedOp};
 use std::alloc::Global;
 use zio_disks::{Setting, Stop};
 use zio_outside::Disk;
@@ -33,7 +33,7 @@ pub(crate) fn issue_group<D: Disk>(
     disks: &mut [D],
     leaf: u32,
     group: &Group,
-    members: &[Waiting],
+    members: &[QueuedOp],
 ) -> Result<List<Answered>, Stop>
     requires rows { AllByRecursion RowFits setting.now.rows }
     requires fit { AllByRecursion IsFit members.now }

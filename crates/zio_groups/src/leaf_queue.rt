@@ -9,7 +9,7 @@ ghost use Rattle.zio_groups.specs.Issued.{EndsOn, IsFit, written_spots};
 ghost use Rattle.zio_groups.specs.LeafQueues.{IsIssued, kept_with, ops_of, queue_of, waiting_with};
 
 use crate::group::issue_group;
-use crate::waiting::{Answered, Waiting, add};
+use crate::waiting::{Answered, QueuedOp, add};
 use std::alloc::Global;
 use std::collections::HashMap;
 use std::marker::Model;
@@ -136,7 +136,7 @@ fn take_kept(
     alloc: Global,
     kept: &mut HashMap<u32, Bytes>,
     ops: &[Op],
-) -> Result<List<Waiting>, Stop>
+) -> Result<List<QueuedOp>, Stop>
     requires apart { AreApart ops.now }
     ensures ok { IfOk result (λ members. members ≡ map (kept_with (get nat_eq kept.old)) ops.now) }
     ensures others { (ticket : ℕ) → is_queued ticket ops.now ≡ false → get nat_eq kept.new ticket ≡ get nat_eq kept.old ticket }
@@ -146,7 +146,7 @@ fn take_kept(
     let mut members = List::new(alloc);
     for op in ops {
         let bytes = take_bytes(alloc, kept, op);
-        add(&mut members, Waiting { op: *op, bytes })?;
+        add(&mut members, QueuedOp { op: *op, bytes })?;
     }
     Ok(members)
 }

@@ -14,4 +14,4 @@ mod span;
 mod waiting;
 
 pub use leaf_queue::LeafQueue;
-pub use waiting::{Answered, Waiting};
+pub use waiting::{Answered, QueuedOp};

@@ -8,7 +8,7 @@ ghost use Rattle.zio_cksum.specs.Images.{Images, read_leaf, write_leaf};
 ghost use Rattle.zio_disks.specs.Disks.{Handles, Tell};
 ghost use Rattle.zio_groups.specs.Issued.{AreWhole, EndsOn, IsFit, IsWhole, all_issued, head_of, one_issued, read_answered, spot_of, written_spots};
 
-use crate::waiting::{Answered, Waiting, add};
+use crate::waiting::{Answered, QueuedOp, add};
 use std::alloc::Global;
 use zio_disks::{Setting, Spot, Stop, padded_to, read_leaf, write_leaf};
 use zio_outside::Disk;
@@ -116,7 +116,7 @@ pub(crate) fn issue_one<D: Disk>(
     setting: &Setting,
     disks: &mut [D],
     leaf: u32,
-    member: &Waiting,
+    member: &QueuedOp,
 ) -> Result<Answered, Stop>
     requires rows { AllByRecursion RowFits setting.now.rows }
     requires fit { IsFit member.now }
@@ -147,7 +147,7 @@ pub(crate) fn one_by_one<D: Disk>(
     setting: &Setting,
     disks: &mut [D],
     leaf: u32,
-    members: &[Waiting],
+    members: &[QueuedOp],
 ) -> Result<List<Answered>, Stop>
     requires rows { AllByRecursion RowFits setting.now.rows }
     requires fit { AllByRecursion IsFit members.now }

@@ -10,7 +10,7 @@ ghost use Rattle.zio_groups.specs.LeafQueues.{AreMembers, ops_of};
 ghost use Rattle.zio_groups.specs.Spans.{AreParts, joined, part_answered, span_spot, stored_answered};
 
 use crate::single::zeros;
-use crate::waiting::{Answered, Waiting, add};
+use crate::waiting::{Answered, QueuedOp, add};
 use std::alloc::Global;
 use zio_disks::{Spot, Stop, fetch, store};
 use zio_outside::Disk;
@@ -46,7 +46,7 @@ fn part_of(alloc: Global, group: &Group, op: &Op, span: &[u8]) -> Result<Bytes, 
 fn parts_of(
     alloc: Global,
     group: &Group,
-    members: &[Waiting],
+    members: &[QueuedOp],
     span: &[u8],
 ) -> Result<List<Answered>, Stop>
     requires inside { AllByRecursion (LiesIn group.now) (ops_of members.now) }
@@ -85,7 +85,7 @@ pub(crate) fn read_span<D: Disk>(
     disks: &mut [D],
     leaf: u32,
     group: &Group,
-    members: &[Waiting],
+    members: &[QueuedOp],
 ) -> Result<List<Answered>, Stop>
     requires inside { AllByRecursion (LiesIn group.now) (ops_of members.now) }
     requires lies { group.now.at + group.now.len ≤ slice_index_or (map D.bytes disks.old) leaf 0 }
@@ -114,7 +114,7 @@ fn join(whole: &mut Vec<u8>, bytes: &[u8], len: u32) -> Result<(), Stop>
 }
 
 /// What the members write on the span.
-fn joined(alloc: Global, members: &[Waiting]) -> Result<Vec<u8>, Stop>
+fn joined(alloc: Global, members: &[QueuedOp]) -> Result<Vec<u8>, Stop>
     requires { AllByRecursion IsFit members.now }
     ensures ok { IfOk result (λ whole. whole.items ≡ joined members.now) }
     ensures err { OnErr result (result ≡ Err Stop.Memory) }
@@ -127,7 +127,7 @@ fn joined(alloc: Global, members: &[Waiting]) -> Result<Vec<u8>, Stop>
 }
 
 /// The members' answers once all are stored.
-fn stored(alloc: Global, members: &[Waiting]) -> Result<List<Answered>, Stop>
+fn stored(alloc: Global, members: &[QueuedOp]) -> Result<List<Answered>, Stop>
     ensures ok { IfOk result (λ answers. answers ≡ map stored_answered members.now) }
     ensures err { OnErr result (result ≡ Err Stop.Memory) }
 {
@@ -149,7 +149,7 @@ pub(crate) fn write_span<D: Disk>(
     disks: &mut [D],
     leaf: u32,
     group: &Group,
-    members: &[Waiting],
+    members: &[QueuedOp],
 ) -> Result<List<Answered>, Stop>
     requires fit { AllByRecursion IsFit members.now }
     requires members { AreMembers group.now true members.now }

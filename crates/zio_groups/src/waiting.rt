@@ -6,7 +6,7 @@ use zio_vqueue::Op;
 
 /// A queued operation.
 #[derive(Debug, Drop)]
-pub struct Waiting {
+pub struct QueuedOp {
     pub op: Op,
     /// What it writes; zeros follow to its end. Of a read none.
     pub bytes: Bytes,

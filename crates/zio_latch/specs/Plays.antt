@@ -12,14 +12,14 @@ use Rattle.zio_latch.specs.declared.view.Event.TheVariants.{Added, Waited}
 use Rattle.zio_latch.specs.History.{ChildStep, OwnerStep, count_at, last_wait, state_of}
 use Rattle.zio_latch.specs.declared.view.Right.{Right}
 use Rattle.zio_latch.specs.declared.view.View.{View}
-use Rattle.zio_latch.specs.declared.view.Stage.{Stage}
-use Rattle.zio_latch.specs.declared.view.Stage.TheVariants.{Awake, Waking}
+use Rattle.zio_latch.specs.declared.view.OwnerStage.{OwnerStage}
+use Rattle.zio_latch.specs.declared.view.OwnerStage.TheVariants.{Awake, Waking}
 use Rattle.zio_latch.specs.declared.view.Kid.{Kid}
 use Rattle.zio_latch.specs.Kids.{all_paid, freed, new_kid, owes_value}
 use Rattle.zio_latch.specs.Latch.{turn_if}
 
 -- the view at another stage
-abbrev pub at_stage : Stage → View → View
+abbrev pub at_stage : OwnerStage → View → View
 at_stage stage v = record v { post = record { kids = v.post.kids; free = v.post.free; stage = stage } }
 
 abbrev pub with_busy : Right → Bool → Bool → Right

@@ -4,17 +4,14 @@ ghost use Rattle.zio_mirror.specs.Plans.{children, failed_children, good_child, 
 
 use crate::write::blame;
 use std::marker::Model;
-use zio_types::Errno;
+use zio_types::{Errno, TOP_LEAVES_MAX};
 
 /// How many bytes of a top are read from one leaf first, before it is the next one's turn.
 pub const TURN_SIZE: u64 = 2 << 20;
 
-/// The most children that a plan has: the leaves of a top.
-pub const CHILDREN_MAX: u32 = 4;
-
 /// What a read is to do next.
 #[derive(Clone, Copy, Debug, PartialEq, Eq)]
-pub enum Step {
+pub enum ReadStep {
     /// Try this child.
     Try(u32),
     /// This child's bytes are the answer.
@@ -34,13 +31,14 @@ pub struct ReadPlan {
 
 impl Model for ReadPlan {
     ghost use Rattle.std.specs.Prelude.{take, length, ◌≤◌, ◌≡◌};
+    ghost use Rattle.zio_types.specs.declared.place.TheConstants.{TOP_LEAVES_MAX};
     ghost use Rattle.zio_mirror.specs.Plans.{Tries};
 
     ghost Value = { Tries };
 
     ghost view = { λ p. record { order = take p.n p.order; answers = take p.answered p.answers } };
 
-    ghost invariant = { λ p. (p.n ≤ 4) × (p.answered ≤ p.n) × (length p.answers ≡ 4) };
+    ghost invariant = { λ p. (p.n ≤ TOP_LEAVES_MAX) × (p.answered ≤ p.n) × (length p.answers ≡ TOP_LEAVES_MAX) };
 }
 
 impl ReadPlan {
@@ -49,7 +47,7 @@ impl ReadPlan {
     /// The first leaf changes with each 2 MiB along the top; the others follow round.
     pub fn for_leaves(n: u32, offset: u64) -> ReadPlan
         requires least { 1 ≤ n }
-        requires most { n ≤ 4 }
+        requires most { n ≤ TOP_LEAVES_MAX }
         ensures order { result.order ≡ read_order offset (children n) }
         ensures answers { result.answers ≡ [] }
     {
@@ -65,7 +63,7 @@ impl ReadPlan {
     /// A plan over the `n` places of a block, from the first on.
     pub fn for_copies(n: u32) -> ReadPlan
         requires least { 1 ≤ n }
-        requires most { n ≤ 4 }
+        requires most { n ≤ TOP_LEAVES_MAX }
         ensures order { result.order ≡ children n }
         ensures answers { result.answers ≡ [] }
     {
@@ -79,17 +77,17 @@ impl ReadPlan {
 
     /// What is to be done: the good child, where one was answered without error; the worst error, where all
     /// failed; else the first child that wasn't answered.
-    pub fn next(&self) -> Step
+    pub fn next(&self) -> ReadStep
         ensures { result ≡ step_of self.now }
     {
         let order = &self.order[..self.n as usize];
         let answers = &self.answers[..self.answered as usize];
         if let Some(child) = first_good(order, answers) {
-            return Step::Good(child);
+            return ReadStep::Good(child);
         }
         match order.get(answers.len()) {
-            Some(child) => Step::Try(*child),
-            None => Step::Bad(blame(answers)),
+            Some(child) => ReadStep::Try(*child),
+            None => ReadStep::Bad(blame(answers)),
         }
     }
 
@@ -115,7 +113,7 @@ impl ReadPlan {
 
 /// The children `first`, `first + 1` and so on, round to the one before `first`.
 fn rotated(n: u32, first: u32) -> [u32; 4]
-    requires most { n ≤ 4 }
+    requires most { n ≤ TOP_LEAVES_MAX }
     requires first { first < n }
     ensures { take n result ≡ rotated first (children n) }
 {

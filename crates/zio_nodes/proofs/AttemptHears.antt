@@ -22,9 +22,9 @@ use Rattle.zio_stages.specs.declared.outcome.Finished.{Finished}
 use Rattle.zio_stages.specs.declared.outcome.Outcome.{Outcome}
 use Rattle.zio_stages.specs.declared.outcome.Outcome.TheVariants.{Again, Finished as HasFinished}
 use Rattle.zio_stages.specs.declared.request_node.RequestNode.{RequestNode}
-use Rattle.zio_stages.specs.declared.waiting.Waiting.{Waiting}
+use Rattle.zio_stages.specs.declared.waiting.UnfinishedRequest.{UnfinishedRequest}
 use Rattle.zio_stages.proofs.RequestHears.{one_place}
-use Rattle.zio_graph.specs.Stages.{Hears, HearsEarly}
+use Rattle.zio_turns.specs.Stages.{Hears, HearsEarly}
 use Rattle.zio_nodes.specs.Nodes.{nodes}
 use Rattle.zio_nodes.specs.declared.node.Node.{Node}
 use Rattle.zio_nodes.specs.declared.node.Node.TheVariants.{Request}
@@ -111,7 +111,7 @@ left_with one number root bits error pointer h same =
     record { same_bits = h.same_bits; same_child = h.same_child ∙ ap (λ n. record { number = n; error = error; pointer = pointer }) is }
 
 -- the tree that is left is over the request of the child's number
-pub left_root : (r : RequestNode) (n : ℕ) (op : Task) (one : One) (ws : List Waiting) (bits : Bits) (pointer told : Option Bp) (k : IsKidTold r n op told)
+pub left_root : (r : RequestNode) (n : ℕ) (op : Task) (one : One) (ws : List UnfinishedRequest) (bits : Bits) (pointer told : Option Bp) (k : IsKidTold r n op told)
     → one.return.child.number ≡ k.root.request.number → IsLeftAs ws bits pointer one → (place : ℕ) → IsSeatOf r.family n place
     → root_number ws ≡ slice_get (numbers_of r.kids.kids.kids) place
 left_root r n op one ws bits pointer told k number left place seat =
@@ -157,7 +157,7 @@ hears_finished t tops at st n c op f v tells h =
     }
 
 -- it goes again, and this is left of its tree
-pub record HearsAgain (r : RequestNode) (n : ℕ) (op : Task) (v : Value) (ws : List Waiting) (bits : Bits) (pointer : Option Bp) : Type 0 where
+pub record HearsAgain (r : RequestNode) (n : ℕ) (op : Task) (v : Value) (ws : List UnfinishedRequest) (bits : Bits) (pointer : Option Bp) : Type 0 where
   pub one : One
   pub told : IsKidTold r n op one.return.child.pointer
   pub value : v ≡ AttemptedBy one
@@ -166,7 +166,7 @@ pub record HearsAgain (r : RequestNode) (n : ℕ) (op : Task) (v : Value) (ws : 
   pub by : IsLeftBy one told.root.request.number bits None pointer
   pub left : IsLeftAs ws bits pointer one
 
-pub hears_again : (t : Terms) (tops : List Top) (at : RequestAt) (st : Stack) (n : ℕ) (c : Child) (op : Task) (ws : List Waiting) (bits : Bits) (pointer : Option Bp) (v : Value)
+pub hears_again : (t : Terms) (tops : List Top) (at : RequestAt) (st : Stack) (n : ℕ) (c : Child) (op : Task) (ws : List UnfinishedRequest) (bits : Bits) (pointer : Option Bp) (v : Value)
     → TellsKid at.node n → Hears {N = Node} nodes tops t (Request at) st n c op (Again ws bits pointer) v → HearsAgain at.node n op v ws bits pointer
 hears_again t tops at st n c op ws bits pointer v tells h =
     let shows : IsOutcome t op (Again ws bits pointer) v = h.shows in

@@ -6,9 +6,9 @@ use Rattle.zio_frames.specs.Frames.{Child, Stack}
 use Rattle.zio_trace.specs.Tasks.{Task, Value}
 use Rattle.zio_stages.specs.SpaceCalls.{SpaceCall}
 use Rattle.zio_stages.specs.declared.outcome.Outcome.{Outcome}
-use Rattle.zio_graph.specs.Stages.{GoesOn, Hears, HearsEarly, HearsSome, HearsSomeEarly, IsMove, IsNow}
-use Rattle.zio_graph.specs.declared.staged.Move.{Move}
-use Rattle.zio_graph.specs.declared.staged.Move.TheVariants.{End, Grow, Leaf as ToLeaf, Next, Ready, Wait}
+use Rattle.zio_turns.specs.Stages.{GoesOn, Hears, HearsEarly, HearsSome, HearsSomeEarly, IsMove, IsNow}
+use Rattle.zio_turns.specs.declared.staged.Move.{Move}
+use Rattle.zio_turns.specs.declared.staged.Move.TheVariants.{End, Grow, Leaf as ToLeaf, Next, Ready, Wait}
 use Rattle.zio_nodes.specs.BoxMoves.{unboxed}
 use Rattle.zio_nodes.specs.Nodes.{boxed_nodes, gave_of, nodes}
 use Rattle.zio_nodes.specs.declared.node.Node.{Node}

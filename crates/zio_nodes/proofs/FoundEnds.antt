@@ -35,9 +35,9 @@ use Rattle.zio_stages.specs.declared.request_node.OwnFound.{OwnFound}
 use Rattle.zio_stages.specs.declared.request_node.RequestNode.{RequestNode}
 use Rattle.zio_stages.proofs.KidAsking.{kids_full}
 use Rattle.zio_stages.proofs.RequestFoundLemmas.{found_in}
-use Rattle.zio_graph.specs.Parts.{ended_in_slot}
-use Rattle.zio_graph.specs.Stages.{Ends}
-use Rattle.zio_graph.specs.declared.staged.Move.TheVariants.{End}
+use Rattle.zio_turns.specs.Parts.{ended_in_slot}
+use Rattle.zio_turns.specs.Stages.{Ends}
+use Rattle.zio_turns.specs.declared.staged.Move.TheVariants.{End}
 use Rattle.zio_masks.specs.declared.stage.Stage.{Stage}
 use Rattle.zio_masks.specs.declared.stage.Stage.TheVariants.{Done}
 use Rattle.zio_nodes.specs.Nodes.{MovesBare, gave_of, nodes}

@@ -16,7 +16,7 @@ use Rattle.zio_stages.specs.RequestNodes.{IsOwnOver}
 use Rattle.zio_stages.specs.RequestOwns.{IsWaitingOver}
 use Rattle.zio_stages.specs.RequestStages.{with_kids, with_own}
 use Rattle.zio_stages.specs.declared.request_node.RequestNode.{RequestNode}
-use Rattle.zio_stages.specs.declared.waiting.Waiting.{Waiting}
+use Rattle.zio_stages.specs.declared.waiting.UnfinishedRequest.{UnfinishedRequest}
 use Rattle.zio_nodes.specs.RequestAts.{IsRequestOver}
 use Rattle.zio_nodes.specs.TreeAts.{IsSoundOver, IsTreeOver}
 
@@ -28,7 +28,7 @@ count_set (k ∷ kids) zero s = refl
 count_set (k ∷ kids) (suc n) s = ap suc (count_set kids n s)
 
 -- one that has the same bits as before, if any
-pub marked_same : (kids : List Kid) (again : List (Option (List Waiting))) (n : ℕ) (old new : KidState) → state_at kids n ≡ Some old
+pub marked_same : (kids : List Kid) (again : List (Option (List UnfinishedRequest))) (n : ℕ) (old new : KidState) → state_at kids n ≡ Some old
     → has_bits (bits_by new) ≡ has_bits (bits_by old) → AreMarked kids again → AreMarked (state_set kids n new) again
 marked_same [] [] n old new e same h = tt
 marked_same [] (a ∷ again) n old new e same h = absurd h
@@ -39,7 +39,7 @@ marked_same (k ∷ kids) (a ∷ again) zero old new e same h =
 marked_same (k ∷ kids) (a ∷ again) (suc n) old new e same h = (h.0, marked_same kids again n old new e same h.1)
 
 -- one that goes again, and what is left of it
-pub marked_left : (kids : List Kid) (again : List (Option (List Waiting))) (n : ℕ) (new : KidState) (ws : List Waiting)
+pub marked_left : (kids : List Kid) (again : List (Option (List UnfinishedRequest))) (n : ℕ) (new : KidState) (ws : List UnfinishedRequest)
     → has_bits (bits_by new) ≡ true → AreMarked kids again → AreMarked (state_set kids n new) (slice_set again n (Some ws))
 marked_left [] [] n new ws bits h = tt
 marked_left [] (a ∷ again) n new ws bits h = absurd h
@@ -47,7 +47,7 @@ marked_left (k ∷ kids) [] n new ws bits h = absurd h
 marked_left (k ∷ kids) (a ∷ again) zero new ws bits h = (bits, h.1)
 marked_left (k ∷ kids) (a ∷ again) (suc n) new ws bits h = (h.0, marked_left kids again n new ws bits h.1)
 
-pub all_left_set : (P : List Waiting → Type 0) (again : List (Option (List Waiting))) (n : ℕ) (ws : List Waiting) → P ws
+pub all_left_set : (P : List UnfinishedRequest → Type 0) (again : List (Option (List UnfinishedRequest))) (n : ℕ) (ws : List UnfinishedRequest) → P ws
     → AllByRecursion P (trees_left again) → AllByRecursion P (trees_left (slice_set again n (Some ws)))
 all_left_set P [] n ws p h = tt
 all_left_set P (None ∷ again) zero ws p h = (p, h)
@@ -81,8 +81,8 @@ over_with_kids tops r now rest h own due again marked handed pointers many kept 
       marked = marked;
       handed = handed;
       pointers = pointers;
-      kept = kept ∙ h.kept ∙ ap (λ (w : Waiting). w.kept) (sym same);
-      sound = subst (λ (w : Waiting). IsSoundOver (length now.kids.kids.kids + length now.kids.kids.kept) w) (sym same)
+      kept = kept ∙ h.kept ∙ ap (λ (w : UnfinishedRequest). w.kept) (sym same);
+      sound = subst (λ (w : UnfinishedRequest). IsSoundOver (length now.kids.kids.kids + length now.kids.kids.kept) w) (sym same)
           (subst (λ n. IsSoundOver n r.waiting) (λ i. sym many i + length (sym kept i)) h.sound);
     }
 
@@ -107,7 +107,7 @@ over_with_own tops r now rest h own =
     })
 
 -- whose next child is handed out
-pub over_handed : (tops : List Top) (r now : RequestNode) (ws : List Waiting) → now ≡ with_kids r now.kids now.family → IsRequestOver tops r
+pub over_handed : (tops : List Top) (r now : RequestNode) (ws : List UnfinishedRequest) → now ≡ with_kids r now.kids now.family → IsRequestOver tops r
     → IsOwnOver tops now.own now.family → now.kids.kids ≡ kid_handed r.kids.kids → HoldsBut ws r.kids now.kids → r.kids.kids.handed < length r.kids.kids.kids
     → HaveValidPointers now.kids.kids → IsRequestOver tops now × IsTreeOver tops ws
 over_handed tops r now ws rest h own kids holds less valid =

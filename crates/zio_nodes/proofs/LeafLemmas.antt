@@ -19,11 +19,11 @@ use Rattle.zio_stages.specs.Outcomes.{IsReading, places_in}
 use Rattle.zio_stages.specs.declared.leaf.Act.{Act}
 use Rattle.zio_stages.specs.declared.leaf.Act.TheVariants.{Read, Write}
 use Rattle.zio_stages.specs.declared.leaf.LeafWork.{LeafWork}
-use Rattle.zio_stages.specs.declared.leaf.Stage.{Stage as WorkStage}
-use Rattle.zio_stages.specs.declared.leaf.Stage.TheVariants.{Answered, Due, Out}
+use Rattle.zio_stages.specs.declared.leaf.Progress.{Progress as WorkStage}
+use Rattle.zio_stages.specs.declared.leaf.Progress.TheVariants.{Answered, Due, Out}
 use Rattle.zio_stages.specs.declared.outcome.Outcome.TheVariants.{Found}
-use Rattle.zio_graph.specs.Parts.{ended_in_slot}
-use Rattle.zio_graph.specs.Stages.{Ends, ShowsAnswer}
+use Rattle.zio_turns.specs.Parts.{ended_in_slot}
+use Rattle.zio_turns.specs.Stages.{Ends, ShowsAnswer}
 use Rattle.zio_nodes.specs.Bounds.{leaf_left}
 use Rattle.zio_nodes.specs.LeafAts.{IsAskedOrDue, IsLeafAt, LeafStands}
 use Rattle.zio_nodes.specs.Nodes.{gave_of, nodes}

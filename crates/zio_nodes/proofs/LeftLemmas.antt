@@ -23,9 +23,9 @@ use Rattle.zio_stages.specs.WrittenBlocks.{IsSoundWrite}
 use Rattle.zio_stages.specs.declared.request_node.Closed.{Closed}
 use Rattle.zio_stages.specs.declared.request_node.Closed.TheVariants.{Again, Finished}
 use Rattle.zio_stages.specs.declared.request_node.RequestNode.{RequestNode}
-use Rattle.zio_stages.specs.declared.waiting.Waiting.{Waiting}
+use Rattle.zio_stages.specs.declared.waiting.UnfinishedRequest.{UnfinishedRequest}
 use Rattle.zio_stages.specs.Closings.{outcome_of}
-use Rattle.zio_graph.specs.Stages.{OutcomeIn}
+use Rattle.zio_turns.specs.Stages.{OutcomeIn}
 use Rattle.zio_nodes.specs.RequestAts.{IsRequestOver}
 use Rattle.zio_nodes.specs.TreeAts.{IsRequestInside, IsSoundOver, IsTreeOver, is_childless}
 
@@ -62,18 +62,18 @@ finished_reverse (r ∷ rs) =
     omega (arith, split, rest, length-append (finished_of (reverse rs)) (finished_of (r ∷ [])), one_length (not (has_bits r.bits)) r (finished_of rs))
 
 -- one that doesn't go again counts among those that finished
-marked_one : (bits : Bool) (left : Option (List Waiting)) (r : Return) → bits ≡ is_some left
+marked_one : (bits : Bool) (left : Option (List UnfinishedRequest)) (r : Return) → bits ≡ is_some left
     → length (trees_left (left ∷ [])) + length (cond (not bits) (r ∷ []) []) ≡ 1
 marked_one true None r e = absurd (cc)
 marked_one true (Some ws) r e = refl
 marked_one false None r e = refl
 marked_one false (Some ws) r e = absurd (cc)
 
-left_first : (left : Option (List Waiting)) (again : List (Option (List Waiting))) → length (trees_left (left ∷ again)) ≡ length (trees_left (left ∷ [])) + length (trees_left again)
+left_first : (left : Option (List UnfinishedRequest)) (again : List (Option (List UnfinishedRequest))) → length (trees_left (left ∷ again)) ≡ length (trees_left (left ∷ [])) + length (trees_left again)
 left_first None again = sym (zero-add (length (trees_left again)))
 left_first (Some ws) again = omega arith
 
-marked_count : (kids : List Kid) (again : List (Option (List Waiting))) → AreMarked kids again
+marked_count : (kids : List Kid) (again : List (Option (List UnfinishedRequest))) → AreMarked kids again
     → length (trees_left again) + length (finished_of (map return_by kids)) ≡ length kids
 marked_count [] [] h = refl
 marked_count [] (a ∷ again) h = absurd h
@@ -83,7 +83,7 @@ marked_count (k ∷ kids) (a ∷ again) h =
     let rest : length (trees_left again) + length (finished_of (map return_by kids)) ≡ length kids = marked_count kids again h.1 in
     omega (arith, rest, left_first a again, marked_one (has_bits (bits_by k.state)) a r h.0, one_length (not (has_bits r.bits)) r (finished_of (map return_by kids)))
 
-left_count : (x : KidsUnderWay) (again : List (Option (List Waiting))) → AreMarked x.kids again
+left_count : (x : KidsUnderWay) (again : List (Option (List UnfinishedRequest))) → AreMarked x.kids again
     → length (trees_left again) + length (finished_in x) ≡ length x.kids + length x.kept
 left_count x again h =
     omega (
@@ -97,7 +97,7 @@ left_count x again h =
 
 -- ---- the request that goes again
 
-written_still : (n m : ℕ) (w v : Waiting) → m ≡ n → v.request ≡ w.request → v.birth ≡ w.birth → (is_write (kind_of w.request.work) ≡ true → IsSoundWrite n w)
+written_still : (n m : ℕ) (w v : UnfinishedRequest) → m ≡ n → v.request ≡ w.request → v.birth ≡ w.birth → (is_write (kind_of w.request.work) ≡ true → IsSoundWrite n w)
     → is_write (kind_of v.request.work) ≡ true → IsSoundWrite m v
 written_still n m w v count request birth h = λ is.
     let s : IsSoundWrite n w = h (subst (λ (r : Request). is_write (kind_of r.work) ≡ true) request is) in
@@ -108,17 +108,17 @@ written_still n m w v count request birth h = λ is.
       born = subst (λ b. 1 ≤ b) (sym birth) s.born;
     }
 
-same_sound : (n m : ℕ) (w v : Waiting) → m ≡ n → v.request ≡ w.request → v.birth ≡ w.birth → IsSoundOver n w → IsSoundOver m v
+same_sound : (n m : ℕ) (w v : UnfinishedRequest) → m ≡ n → v.request ≡ w.request → v.birth ≡ w.birth → IsSoundOver n w → IsSoundOver m v
 same_sound n m w v count request birth h = record {
   write = written_still n m w v count request birth h.write;
   alone = λ is. count ∙ h.alone (subst (λ (r : Request). is_childless (kind_of r.work) ≡ true) request is);
 }
 
-all_inside : (tops : List Top) (trees : List (List Waiting)) → AllByRecursion (IsTreeOver tops) trees → AllByRecursion (IsRequestInside tops) (joined trees)
+all_inside : (tops : List Top) (trees : List (List UnfinishedRequest)) → AllByRecursion (IsTreeOver tops) trees → AllByRecursion (IsRequestInside tops) (joined trees)
 all_inside tops [] h = tt
 all_inside tops (ws ∷ trees) h = all_append (IsRequestInside tops) ws (joined trees) h.0.each (all_inside tops trees h.1)
 
-left_tree : (tops : List Top) (r : RequestNode) (ws : List Waiting) → IsRequestOver tops r → IsLeftList ws r.waiting r.kids → IsTreeOver tops ws
+left_tree : (tops : List Top) (r : RequestNode) (ws : List UnfinishedRequest) → IsRequestOver tops r → IsLeftList ws r.waiting r.kids → IsTreeOver tops ws
 left_tree tops r ws h left =
     let w = left.root in
     let kept : length w.kept ≡ length (finished_in r.kids.kids) = sym (length-map w.kept child_of) ∙ ap (λ (cs : List Child). length cs) left.kept in

@@ -26,7 +26,7 @@ use Rattle.zio_stages.specs.declared.request_node.Closed.TheVariants.{Again, Fin
 use Rattle.zio_stages.specs.declared.request_node.Own.TheVariants.{Due}
 use Rattle.zio_stages.specs.declared.request_node.RequestNode.{RequestNode}
 use Rattle.zio_stages.proofs.KidAsking.{kids_full}
-use Rattle.zio_graph.specs.Parts.{ended_in_slot}
+use Rattle.zio_turns.specs.Parts.{ended_in_slot}
 use Rattle.zio_nodes.specs.RequestAts.{AreOutBehind, NullStands, RequestStands, StandsAt, gave_by}
 use Rattle.zio_nodes.specs.RequestBounds.{left_by, null_left, own_at, own_left}
 use Rattle.zio_nodes.specs.declared.request_at.RequestAt.{RequestAt}

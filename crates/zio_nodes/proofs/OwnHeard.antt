@@ -20,8 +20,8 @@ use Rattle.zio_stages.specs.declared.own_free.OwnFree.{OwnFree}
 use Rattle.zio_stages.specs.declared.request_node.Own.{Own}
 use Rattle.zio_stages.specs.declared.request_node.Own.TheVariants.{Claim as ClaimOwn, Due, Found, Free as FreeOwn, Over, Read as ReadOwn, Stored, Write as WriteOwn}
 use Rattle.zio_stages.specs.declared.request_node.RequestNode.{RequestNode}
-use Rattle.zio_stages.specs.declared.waiting.Waiting.{Waiting}
-use Rattle.zio_graph.specs.Stages.{heard_max}
+use Rattle.zio_stages.specs.declared.waiting.UnfinishedRequest.{UnfinishedRequest}
+use Rattle.zio_turns.specs.Stages.{heard_max}
 use Rattle.zio_nodes.specs.OwnAts.{HasKeptAll, IsClaimAtStage, IsFreeAtStage, IsGivingFree}
 use Rattle.zio_nodes.specs.OwnBounds.{claiming_left, free_walk_left, freeing_left}
 use Rattle.zio_nodes.specs.RequestAts.{IsRequestAtOver, freed_so_far, gave_by}
@@ -82,7 +82,7 @@ freed_over tops at n now x work over behind rest waiting own walked given =
     let next = freed_stands at.stage at.is_due x.own on.0 at.node.waiting.block x.out heard mine in
     let stood = subst (λ (o : Own). IsFreeAtStage at.stage at.is_due o at.node.waiting.block) (sym on.1) next in
     free_over tops at now at.stage at.is_due work over behind rest own
-    (subst (λ (b : Option Tree). IsFreeAtStage at.stage at.is_due now.own b) (sym (ap (λ (q : Waiting). q.block) waiting)) stood)
+    (subst (λ (b : Option Tree). IsFreeAtStage at.stage at.is_due now.own b) (sym (ap (λ (q : UnfinishedRequest). q.block) waiting)) stood)
 
 pub freed_left_then : (at : RequestAt) (now : RequestNode) → IsFree at.node.waiting.request.work → (at.stage ≡ Start → ⊥) → now ≡ with_own at.node now.own now.family
     → IsFreeingWith HasWalked now.own → request_left (at_stage now at.stage at.is_due) ≤ request_left at + heard_max

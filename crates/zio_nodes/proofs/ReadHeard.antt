@@ -25,10 +25,10 @@ use Rattle.zio_stages.specs.declared.own_read.OwnRead.{OwnRead}
 use Rattle.zio_stages.specs.declared.request_node.Own.{Own}
 use Rattle.zio_stages.specs.declared.request_node.Own.TheVariants.{Claim as ClaimOwn, Due, Found, Free as FreeOwn, Over, Read as ReadOwn, Stored, Write as WriteOwn}
 use Rattle.zio_stages.specs.declared.request_node.RequestNode.{RequestNode}
-use Rattle.zio_stages.specs.declared.waiting.Waiting.{Waiting}
+use Rattle.zio_stages.specs.declared.waiting.UnfinishedRequest.{UnfinishedRequest}
 use Rattle.zio_stages.proofs.OutMoves.{read_idle}
 use Rattle.zio_stages.proofs.OwnReadLemmas.{body_over, not_awaited}
-use Rattle.zio_graph.specs.Stages.{heard_max}
+use Rattle.zio_turns.specs.Stages.{heard_max}
 use Rattle.zio_nodes.specs.Bounds.{leaf_share, pass_left, read_asks_max}
 use Rattle.zio_nodes.specs.OwnAts.{HasFewBodies, IsReadAtStage, MayReadOne}
 use Rattle.zio_nodes.specs.OwnBounds.{body_left, body_share, read_left, read_stages, reading_left, walk_left}
@@ -76,7 +76,7 @@ read_goes tops at now due v w work over behind rest waiting own was is stands =
     let mine = subst (λ (o : Own). IsReadAtStage tops at.stage at.is_due o at.node.waiting.block) was h in
     let next = subst (λ (o : Own). IsReadAtStage tops at.stage due o at.node.waiting.block) (sym is) (stands mine) in
     read_over tops at now at.stage due work over behind rest own
-    (subst (λ (b : Option Tree). IsReadAtStage tops at.stage due now.own b) (sym (ap (λ (q : Waiting). q.block) waiting)) next)
+    (subst (λ (b : Option Tree). IsReadAtStage tops at.stage due now.own b) (sym (ap (λ (q : UnfinishedRequest). q.block) waiting)) next)
 
 -- it runs no more often
 read_same : (at : RequestAt) (now : RequestNode) → IsRead at.node.waiting.request.work → (at.stage ≡ Start → ⊥) → now ≡ with_own at.node now.own now.family

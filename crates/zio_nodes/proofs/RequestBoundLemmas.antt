@@ -9,7 +9,7 @@ use Rattle.zio_stages.specs.RequestCounts.{members_of, path_of, second_of}
 use Rattle.zio_stages.specs.RequestKinds.{is_stored, points_to_gang}
 use Rattle.zio_stages.specs.declared.request_node.Own.{Own}
 use Rattle.zio_stages.specs.Wholes.{joined}
-use Rattle.zio_stages.specs.declared.waiting.Waiting.{Waiting}
+use Rattle.zio_stages.specs.declared.waiting.UnfinishedRequest.{UnfinishedRequest}
 use Rattle.zio_nodes.specs.Bounds.{due_left, member_share, members_max, pass_left}
 use Rattle.zio_nodes.specs.RequestBounds.{left_by, null_left, null_max, own_at, own_left, own_max, request_share}
 use Rattle.zio_nodes.specs.WriteBounds.{end_left, io_left, io_max, members_left, whole_left, write_at, write_max}
@@ -104,5 +104,5 @@ first_less at is =
     omega (arith, e, kind_most work at)
 
 -- with the same trees due it is as its own work
-pub same_due_less : (old new : List (List Waiting)) (m n : ℕ) → new ≡ old → m < n → length (joined new) * request_share + m < length (joined old) * request_share + n
-same_due_less old new m n same less = omega (arith, ap (λ (ts : List (List Waiting)). length (joined ts) * request_share) same, less)
+pub same_due_less : (old new : List (List UnfinishedRequest)) (m n : ℕ) → new ≡ old → m < n → length (joined new) * request_share + m < length (joined old) * request_share + n
+same_due_less old new m n same less = omega (arith, ap (λ (ts : List (List UnfinishedRequest)). length (joined ts) * request_share) same, less)

@@ -18,15 +18,15 @@ use Rattle.zio_stages.specs.RequestNodes.{IsClosedAs, IsRequestNode}
 use Rattle.zio_stages.specs.declared.request_node.Closed.{Closed}
 use Rattle.zio_stages.specs.declared.request_node.Closed.TheVariants.{Again, Finished}
 use Rattle.zio_stages.specs.declared.request_node.RequestNode.{RequestNode}
-use Rattle.zio_stages.specs.declared.waiting.Waiting.{Waiting}
-use Rattle.zio_graph.specs.Parts.{ended_by, ended_in, ended_in_slot}
+use Rattle.zio_stages.specs.declared.waiting.UnfinishedRequest.{UnfinishedRequest}
+use Rattle.zio_turns.specs.Parts.{ended_by, ended_in, ended_in_slot}
 
 -- ---- its value
 
 pub shows_outcome : (t : Terms) (op : Task) (label : ℕ) (closed : Closed) (r : RequestNode) (before : List Ended) (one : One) → IsAttempt op
     → IsClosedAs closed r before one → IsOutcome t op (outcome_of label closed) (AttemptedBy one)
 shows_outcome t op label (Finished waiting error own) r before one at h =
-    let same : r.waiting.request.number ≡ waiting.request.number = ap (λ (w : Waiting). w.request.number) (sym h.0) in (
+    let same : r.waiting.request.number ≡ waiting.request.number = ap (λ (w : UnfinishedRequest). w.request.number) (sym h.0) in (
       at,
       (
         one,
@@ -69,7 +69,7 @@ pub ended_as : (label : ℕ) (closed : Closed) (r : RequestNode) (before : List 
 ended_as label (Finished waiting error own) r before one h = (
   record { request = r.waiting.request; error = error; bytes = own.bytes; tree = tree_unless error own.tree },
   refl,
-  record { number = ap (λ (w : Waiting). w.request.number) (sym h.0); error = refl; bytes = refl; tree = refl },
+  record { number = ap (λ (w : UnfinishedRequest). w.request.number) (sym h.0); error = refl; bytes = refl; tree = refl },
 )
 ended_as label (Again bits whole own) r before one h = refl
 

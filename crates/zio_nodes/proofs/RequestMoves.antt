@@ -20,8 +20,8 @@ use Rattle.zio_stages.specs.SpaceCalls.{SpaceCall, calls_back, calls_by}
 use Rattle.zio_stages.specs.declared.outcome.Outcome.{Outcome}
 use Rattle.zio_stages.specs.declared.request_node.Closed.{Closed}
 use Rattle.zio_stages.specs.declared.request_node.RequestNode.{RequestNode}
-use Rattle.zio_graph.specs.Parts.{ended_in_slot}
-use Rattle.zio_graph.specs.Stages.{Ends, GoesOn, Grows, Tells, Waits}
+use Rattle.zio_turns.specs.Parts.{ended_in_slot}
+use Rattle.zio_turns.specs.Stages.{Ends, GoesOn, Grows, Tells, Waits}
 use Rattle.zio_nodes.specs.Nodes.{IsNode, StaysBare, StaysWith, gave_of, nodes, told_of}
 use Rattle.zio_nodes.specs.Told.{is_told}
 use Rattle.zio_nodes.specs.declared.node.Node.{Node}

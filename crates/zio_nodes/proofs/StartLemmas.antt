@@ -19,7 +19,7 @@ use Rattle.zio_stages.specs.Wholes.{IsTreeOf, root_of}
 use Rattle.zio_stages.specs.declared.request_node.Own.{Own}
 use Rattle.zio_stages.specs.declared.request_node.Own.TheVariants.{Due}
 use Rattle.zio_stages.specs.declared.request_node.RequestNode.{RequestNode}
-use Rattle.zio_stages.specs.declared.waiting.Waiting.{Waiting}
+use Rattle.zio_stages.specs.declared.waiting.UnfinishedRequest.{UnfinishedRequest}
 use Rattle.zio_nodes.specs.OwnAts.{IsClaimAtStage}
 use Rattle.zio_nodes.specs.RequestAts.{AreOutBehind, RequestStands, StandsAt}
 use Rattle.zio_nodes.specs.Told.{is_told}
@@ -39,7 +39,7 @@ own_due t r st h due =
 pub attempt_asks : (t : Terms) (r : RequestNode) (st : Stack) → IsRequestNode t r st → st.inner ≡ None → is_single (asking st).op ≡ false
 attempt_asks t r st h none = ap (λ (i : Option Inner). is_single (asking_in st.outer i).op) none ∙ ap is_single h.op
 
-pub kid_grows : (t : Terms) (st : Stack) (r now : RequestNode) (child : TreeAt) (ws : List Waiting) → IsRequestNode t r st → r.own ≡ Due → HandsKid t now ws st
+pub kid_grows : (t : Terms) (st : Stack) (r now : RequestNode) (child : TreeAt) (ws : List UnfinishedRequest) → IsRequestNode t r st → r.own ≡ Due → HandsKid t now ws st
     → ((p : Pending) (forest : Forest) → IsTreeOf ws p forest → IsTreeAt t child (fresh_stack (Attempt now.attempt p forest)))
     → DoesThen t st [] (HandsTo t Logical (λ (op : Task). IsTreeAt t child (fresh_stack op)) (IsRequestNode t now))
 kid_grows t st r now child ws h due hands fresh = record {
@@ -58,7 +58,7 @@ kid_grows t st r now child ws h due hands fresh = record {
   };
 }
 
-pub some_root : (ws : List Waiting) (w : Waiting) → root_of ws ≡ Some w → 1 ≤ length ws
+pub some_root : (ws : List UnfinishedRequest) (w : UnfinishedRequest) → root_of ws ≡ Some w → 1 ≤ length ws
 some_root [] w h = absurd (cc)
 some_root (v ∷ ws) w h = omega arith
 

@@ -27,7 +27,7 @@ use Rattle.zio_stages.specs.declared.request_node.OwnFound.{OwnFound}
 use Rattle.zio_stages.specs.declared.request_node.RequestNode.{RequestNode}
 use Rattle.zio_stages.specs.declared.stored_block.StoredBlock.{StoredBlock}
 use Rattle.zio_stages.proofs.KidAsking.{kids_full}
-use Rattle.zio_graph.specs.Parts.{ended_in_slot}
+use Rattle.zio_turns.specs.Parts.{ended_in_slot}
 use Rattle.zio_nodes.specs.RequestAts.{IsGivingBack, gave_by}
 use Rattle.zio_nodes.proofs.NullLemmas.{freed_nothing}
 use Rattle.zio_nodes.proofs.PartLemmas.{none_ended}
@@ -182,6 +182,14 @@ more_gave r now gone kind h =
 well_same : (r now : RequestNode) (gone : List Place) → HasGivenMore r now gone → is_well now (error_by now.own) ≡ is_well r (error_by r.own)
 well_same r now gone h =
     ap (λ (x : RequestNode). is_well x (error_by now.own)) h.rest ∙ ap (is_well r) (error_same r.own now.own h.was h.is h.found)
+
+-- what it came to has its error
+pub found_error : (own : Own) (found : OwnFound) → IsStoredWith IsGoingBack own → found_by own ≡ Some found → found.error ≡ error_by own
+found_error own found h is =
+    let b = stored_block IsGoingBack own h in
+    let some : Some found ≡ Some b.0.own = sym is ∙ ap found_by b.1 in
+    let same : found ≡ b.0.own = cc in
+    ap (λ (o : OwnFound). o.error) same ∙ ap error_by (sym b.1)
 
 closed_own : (closed : Closed) (own : Own) → IsStoredWith IsGoingBack own → Some (own_in closed) ≡ found_by own → block_places (own_in closed).tree ≡ made_by own
 closed_own closed own h e =

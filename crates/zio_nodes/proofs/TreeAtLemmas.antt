@@ -15,8 +15,8 @@ use Rattle.zio_stages.specs.Tops.{AreTops}
 use Rattle.zio_stages.specs.Wholes.{joined}
 use Rattle.zio_stages.specs.declared.request_node.Own.TheVariants.{Due}
 use Rattle.zio_stages.specs.declared.request_node.RequestNode.{RequestNode}
-use Rattle.zio_stages.specs.declared.waiting.Waiting.{Waiting}
-use Rattle.zio_graph.specs.Stages.{GoesOn}
+use Rattle.zio_stages.specs.declared.waiting.UnfinishedRequest.{UnfinishedRequest}
+use Rattle.zio_turns.specs.Stages.{GoesOn}
 use Rattle.zio_nodes.specs.Nodes.{gave_of, nodes}
 use Rattle.zio_nodes.specs.RequestAts.{IsRequestAtOver, IsRequestOver, freed_so_far, gave_by}
 use Rattle.zio_nodes.specs.RequestBounds.{own_max, request_share}
@@ -31,7 +31,7 @@ pub all_split : {X : Type 0} (P : X → Type 0) (xs ys : List X) → AllByRecurs
 all_split P [] ys h = (tt, h)
 all_split P (x ∷ xs) ys h = let r : AllByRecursion P xs × AllByRecursion P ys = all_split P xs ys h.1 in ((h.0, r.0), r.1)
 
-each_tree : (tops : List Top) (trees : List (List Waiting)) → AreTops tops → HaveUnits tops → AllByRecursion (IsRequestInside tops) (joined trees)
+each_tree : (tops : List Top) (trees : List (List UnfinishedRequest)) → AreTops tops → HaveUnits tops → AllByRecursion (IsRequestInside tops) (joined trees)
     → AllByRecursion (IsTreeOver tops) trees
 each_tree tops [] are units h = tt
 each_tree tops (ws ∷ trees) are units h =
@@ -88,7 +88,7 @@ begins t st at r h due is = record {
 
 -- ---- how often it runs
 
-pub begins_less : (ws : List Waiting) (due : List (List Waiting)) (w : Waiting) → ws ≡ joined due ++ w ∷ []
+pub begins_less : (ws : List UnfinishedRequest) (due : List (List UnfinishedRequest)) (w : UnfinishedRequest) → ws ≡ joined due ++ w ∷ []
     → length (joined due) * request_share + own_max < length ws * request_share - 1
 begins_less ws due w list =
     let n : ℕ = length (joined due) in
@@ -96,13 +96,13 @@ begins_less ws due w list =
     omega (arith, ap (λ (k : ℕ). k * request_share) many)
 
 -- the one that is handed out is one share less
-pub hands_less : (old new : List (List Waiting)) (ws : List Waiting) (own : ℕ) → old ≡ ws ∷ new → 1 ≤ length ws
+pub hands_less : (old new : List (List UnfinishedRequest)) (ws : List UnfinishedRequest) (own : ℕ) → old ≡ ws ∷ new → 1 ≤ length ws
     → length (joined new) * request_share + own + (length ws * request_share - 1) < length (joined old) * request_share + own
 hands_less old new ws own first some =
     let n : ℕ = length (joined new) in
     let more : ℕ = length ws - 1 in
     let is : length ws ≡ more + 1 = omega (arith, some) in
-    let many : length (joined old) ≡ length ws + n = ap (λ (ts : List (List Waiting)). length (joined ts)) first ∙ length-append ws (joined new) in
+    let many : length (joined old) ≡ length ws + n = ap (λ (ts : List (List UnfinishedRequest)). length (joined ts)) first ∙ length-append ws (joined new) in
     omega (arith, ap (λ (k : ℕ). k * request_share) is, ap (λ (k : ℕ). k * request_share) many)
 
 -- ---- no child of it is out

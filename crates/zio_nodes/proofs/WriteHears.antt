@@ -36,7 +36,7 @@ use Rattle.zio_stages.specs.StoredBlocks.{IsGoingBack}
 use Rattle.zio_stages.specs.Wholes.{joined}
 use Rattle.zio_types.specs.declared.request.Bits.{Bits}
 use Rattle.zio_blkptr.specs.declared.pointer.Bp.{Bp}
-use Rattle.zio_stages.specs.declared.waiting.Waiting.{Waiting}
+use Rattle.zio_stages.specs.declared.waiting.UnfinishedRequest.{UnfinishedRequest}
 use Rattle.zio_stages.specs.declared.outcome.Finished.{Finished as FinishedOne}
 use Rattle.zio_stages.specs.declared.outcome.Outcome.{Outcome}
 use Rattle.zio_stages.specs.declared.outcome.Outcome.TheVariants.{Again, Finished, Found as HasFound, Stored as HasStored, Walked}
@@ -48,7 +48,7 @@ use Rattle.zio_stages.proofs.PartOwed.{own_out}
 use Rattle.zio_stages.proofs.PartSeats.{own_seat}
 use Rattle.zio_stages.proofs.RequestMembers.{own_place}
 use Rattle.zio_stages.proofs.RequestWriteLemmas.{front_in, part_at, write_in}
-use Rattle.zio_graph.specs.Stages.{Hears, HearsSome, HearsSomeEarly, heard_max}
+use Rattle.zio_turns.specs.Stages.{Hears, HearsSome, HearsSomeEarly, heard_max}
 use Rattle.zio_nodes.specs.Bounds.{due_left, leaf_share, member_share, members_max, pass_left, write_asks_max}
 use Rattle.zio_nodes.specs.Nodes.{nodes}
 use Rattle.zio_nodes.specs.RequestAts.{AreOutBehind, RequestStands, StandsAt, StandsBy, WriteStands, gave_by}
@@ -321,7 +321,7 @@ child_kind at n kind k h =
     cc
 
 pub own_outcome : (outcome : Outcome) → ((f : FinishedOne) → outcome ≡ Finished f → ⊥)
-    → ((whole : List Waiting) (bits : Bits) (pointer : Option Bp) → outcome ≡ Again whole bits pointer → ⊥) → IsOwnOutcome outcome
+    → ((whole : List UnfinishedRequest) (bits : Bits) (pointer : Option Bp) → outcome ≡ Again whole bits pointer → ⊥) → IsOwnOutcome outcome
 own_outcome (Finished f) first again = absurd (first f refl)
 own_outcome (Again whole bits pointer) first again = absurd (again whole bits pointer refl)
 own_outcome (HasFound answer) first again = tt

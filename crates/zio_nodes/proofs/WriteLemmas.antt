@@ -27,7 +27,7 @@ use Rattle.zio_stages.specs.declared.part_node.PartNode.{PartNode}
 use Rattle.zio_stages.specs.declared.request_node.Own.{Own}
 use Rattle.zio_stages.specs.declared.request_node.Own.TheVariants.{Claim as ClaimOwn, Due, Found, Free as FreeOwn, Over, Read as ReadOwn, Stored, Write as WriteOwn}
 use Rattle.zio_stages.specs.declared.request_node.RequestNode.{RequestNode}
-use Rattle.zio_stages.specs.declared.waiting.Waiting.{Waiting}
+use Rattle.zio_stages.specs.declared.waiting.UnfinishedRequest.{UnfinishedRequest}
 use Rattle.zio_nodes.specs.Bounds.{part_max}
 use Rattle.zio_nodes.specs.RequestAts.{AreOutBehind, RequestStands, StandsAt, WriteStands, gave_by}
 use Rattle.zio_nodes.specs.RequestBounds.{left_by, own_at, own_left, request_left, request_share}
@@ -124,7 +124,7 @@ pub write_less : (at after : RequestAt) (from to : Stage) → kind_of at.node.wa
     → at.stage ≡ from → after.stage ≡ to → IsBehind from → IsBehind to → after.node.kids.due ≡ at.node.kids.due
     → write_at to after.is_due after.node.own < write_at from at.is_due at.node.own → request_left after < request_left at
 write_less at after from to kind same is then b d due less =
-    omega (arith, left_in at from kind is b, left_in after to same then d, ap (λ (ts : List (List Waiting)). length (joined ts) * request_share) due, less)
+    omega (arith, left_in at from kind is b, left_in after to same then d, ap (λ (ts : List (List UnfinishedRequest)). length (joined ts) * request_share) due, less)
 
 -- ---- what it gave back
 

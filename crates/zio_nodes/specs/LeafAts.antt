@@ -6,7 +6,7 @@ use Rattle.zio_gang.specs.Attempts.{Terms}
 use Rattle.zio_frames.specs.Frames.{Stack}
 use Rattle.zio_stages.specs.LeafWorks.{IsAnswered, IsDue, IsLeafWork}
 use Rattle.zio_stages.specs.declared.leaf.LeafWork.{LeafWork}
-use Rattle.zio_stages.specs.declared.leaf.Stage.TheVariants.{Out}
+use Rattle.zio_stages.specs.declared.leaf.Progress.TheVariants.{Out}
 use Rattle.zio_nodes.specs.declared.leaf_at.LeafAt.{LeafAt}
 
 -- what is done of it where it goes to its leaf: its leaf has it, or nothing

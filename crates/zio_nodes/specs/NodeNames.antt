@@ -5,25 +5,25 @@ use Rattle.zio_types.specs.declared.request.Kind.TheVariants.{Null as NullKind, 
 use Rattle.zio_script.specs.Requests.{kind_of}
 use Rattle.zio_stages.specs.Labels.{operation_label, part_label, request_label}
 use Rattle.zio_stages.specs.Wholes.{root_of}
-use Rattle.zio_stages.specs.declared.waiting.Waiting.{Waiting}
+use Rattle.zio_stages.specs.declared.waiting.UnfinishedRequest.{UnfinishedRequest}
 use Rattle.zio_nodes.specs.declared.node.Node.{Node}
 use Rattle.zio_nodes.specs.declared.node.Node.TheVariants.{Copies, Empty, Heads, Leaf, Part, Request, Tree}
 
 -- ---- of a tree's root
 
-abbrev pub root_request : Option Waiting → ℕ
+abbrev pub root_request : Option UnfinishedRequest → ℕ
 root_request None = 0
 root_request (Some w) = w.request.number
 
-abbrev pub root_kind : Option Waiting → Kind
+abbrev pub root_kind : Option UnfinishedRequest → Kind
 root_kind None = NullKind
 root_kind (Some w) = kind_of w.request.work
 
-abbrev pub root_label : Option Waiting → (attempt : ℕ) → ℕ
+abbrev pub root_label : Option UnfinishedRequest → (attempt : ℕ) → ℕ
 root_label None attempt = 0
 root_label (Some w) attempt = request_label w attempt
 
-abbrev pub root_unfinished : Option Waiting → ℕ
+abbrev pub root_unfinished : Option UnfinishedRequest → ℕ
 root_unfinished None = 0
 root_unfinished (Some w) = w.unfinished
 

@@ -16,7 +16,7 @@ use Rattle.zio_stages.specs.RequestOwns.{IsWaitingOver}
 use Rattle.zio_stages.specs.Tops.{AreTops}
 use Rattle.zio_stages.specs.Wholes.{IsTreeOf}
 use Rattle.zio_stages.specs.WrittenBlocks.{IsSoundWrite}
-use Rattle.zio_stages.specs.declared.waiting.Waiting.{Waiting}
+use Rattle.zio_stages.specs.declared.waiting.UnfinishedRequest.{UnfinishedRequest}
 use Rattle.zio_nodes.specs.declared.tree_at.TreeAt.{TreeAt}
 
 -- ---- what a tree owes
@@ -30,19 +30,19 @@ is_childless Free = true
 is_childless Claim = true
 
 -- A write is in its ranges, and no larger than a block with a pointer for each of so many children; and a free or a claim has none.
-pub record IsSoundOver (children : ℕ) (w : Waiting) : Type 0 where
+pub record IsSoundOver (children : ℕ) (w : UnfinishedRequest) : Type 0 where
   pub write : is_write (kind_of w.request.work) ≡ true → IsSoundWrite children w
   pub alone : is_childless (kind_of w.request.work) ≡ true → children ≡ 0
 
 -- The block that the request names lies on the tops, the children that it keeps have valid pointers, and it is sound over all of
 -- its children.
-pub record IsRequestInside (tops : List Top) (w : Waiting) : Type 0 where
+pub record IsRequestInside (tops : List Top) (w : UnfinishedRequest) : Type 0 where
   pub over : IsWaitingOver tops w
   pub kept : AllByRecursion HasValid w.kept
   pub sound : IsSoundOver (w.unfinished + length w.kept) w
 
 -- Tops on which each of the requests may be attempted.
-pub record IsTreeOver (tops : List Top) (ws : List Waiting) : Type 0 where
+pub record IsTreeOver (tops : List Top) (ws : List UnfinishedRequest) : Type 0 where
   pub tops_are : AreTops tops
   pub units : HaveUnits tops
   pub each : AllByRecursion (IsRequestInside tops) ws

@@ -6,7 +6,7 @@
 ghost use Rattle.std.specs.Prelude.{◌≡◌, ◌≢◌, ◌⊎◌, IfErr, IfOk, List as Seq, OnErr, false};
 ghost use Rattle.zio_types.specs.declared.place.Top.{Top as SeenTop};
 ghost use Rattle.zio_script.specs.Requests.{kind_of};
-ghost use Rattle.zio_graph.specs.Stages.{EachIn, Lessens, TellsValid};
+ghost use Rattle.zio_turns.specs.Stages.{EachIn, Lessens, TellsValid};
 ghost use Rattle.zio_stages.specs.RequestClaims.{IsClaimWith};
 ghost use Rattle.zio_stages.specs.RequestKinds.{has_gang_stages};
 ghost use Rattle.zio_stages.specs.declared.request_node.Own.{Own};
@@ -21,9 +21,9 @@ use crate::node::Node;
 use crate::request_at::RequestAt;
 use crate::turn::{Turn, new_room};
 use std::alloc::Global;
-use zio_graph::Move;
 use zio_masks::{CLAIM, INTERLOCK, Stage, next, with_gang};
 use zio_stages::{DoneStep, Services};
+use zio_turns::Move;
 use zio_types::{ChildKind, Kind, NoMemory, Phase, Top};
 
 impl RequestAt {

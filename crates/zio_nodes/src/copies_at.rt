@@ -7,7 +7,7 @@ ghost use Rattle.zio_trace.specs.Tasks.{Task, Value};
 ghost use Rattle.zio_frames.specs.Frames.{Child, Stack, fresh_stack};
 ghost use Rattle.zio_frames.specs.Moves.{heard_of};
 ghost use Rattle.zio_stages.specs.CopiesNodes.{IsCopiesNode, IsCopiesOver};
-ghost use Rattle.zio_graph.specs.Stages.{EachIn, Hears, HearsSome, Lessens, TellsValid, heard_max};
+ghost use Rattle.zio_turns.specs.Stages.{EachIn, Hears, HearsSome, Lessens, TellsValid, heard_max};
 ghost use Rattle.zio_nodes.specs.Bounds.{copies_left, copies_max};
 ghost use Rattle.zio_nodes.specs.CopiesAts.{IsCopiesAt, IsCopiesAtOver};
 ghost use Rattle.zio_nodes.specs.Passes.{IsInPassOf, KeepsPassAt};
@@ -20,9 +20,9 @@ use crate::node::Node;
 use crate::read_io_at::behind_assess;
 use crate::turn::{Turn, new_room};
 use std::alloc::Global;
-use zio_graph::Move;
 use zio_masks::{READ, Stage, next};
 use zio_stages::{CopiesNode, Family, IoNext, Outcome, reads_tell_no_pointer};
+use zio_turns::Move;
 use zio_types::{ChildKind, NoMemory, Phase, Top};
 
 /// The read of a block's copies at a stage of its pipeline.

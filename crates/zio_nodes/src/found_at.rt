@@ -6,7 +6,7 @@ ghost use Rattle.zio_types.specs.declared.place.Top.{Top as SeenTop};
 ghost use Rattle.zio_children.specs.RequestKids.{is_ended};
 ghost use Rattle.zio_stages.specs.OwnParts.{IsNoWrite};
 ghost use Rattle.zio_stages.specs.RequestReads.{HasFound};
-ghost use Rattle.zio_graph.specs.Stages.{EachIn, Lessens, TellsValid, told_cost};
+ghost use Rattle.zio_turns.specs.Stages.{EachIn, Lessens, TellsValid, told_cost};
 ghost use Rattle.zio_nodes.specs.StageMoves.{IsLastMove, IsNextOf, IsStageMove, takes_stage};
 ghost use Rattle.zio_nodes.specs.Nodes.{IsNodeOver, IsTreeOver, MovesBare, StaysBare, left_of, moved};
 ghost use Rattle.zio_nodes.specs.RequestAts.{IsRequestAtOver};
@@ -16,9 +16,9 @@ use crate::node::Node;
 use crate::request_at::RequestAt;
 use crate::turn::Turn;
 use std::alloc::Global;
-use zio_graph::Move;
 use zio_masks::Stage;
 use zio_stages::{NodeBack, what_is_no_write_has_no_pointer};
+use zio_turns::Move;
 
 impl RequestAt {
     /// Tells that it has no pointer, and goes on to this stage.
@@ -60,9 +60,8 @@ impl RequestAt {
             stage,
             is_due,
         } = self;
-        let attempt = node.attempt();
         match node.close_found(alloc) {
-            Ok(closed) => Ok(Move::End(closed.into_outcome(attempt))),
+            Ok(outcome) => Ok(Move::End(outcome)),
             Err(NodeBack { node }) => Err(Node::Request(RequestAt {
                 node,
                 stage,

@@ -8,7 +8,7 @@ ghost use Rattle.zio_trace.specs.Tasks.{Got, Leaf};
 ghost use Rattle.zio_frames.specs.Frames.{fresh_frame, fresh_stack};
 ghost use Rattle.zio_frames.specs.Moves.{done_at_once};
 ghost use Rattle.zio_stages.specs.LeafWorks.{IsDue, IsLeafWork};
-ghost use Rattle.zio_graph.specs.Stages.{EachIn, Lessens, ShowsAnswer, TellsValid};
+ghost use Rattle.zio_turns.specs.Stages.{EachIn, Lessens, ShowsAnswer, TellsValid};
 ghost use Rattle.zio_nodes.specs.Bounds.{leaf_left, leaf_max};
 ghost use Rattle.zio_nodes.specs.LeafAts.{IsLeafAt, LeafStands};
 ghost use Rattle.zio_nodes.specs.StageMoves.{IsLastMove, IsStageMove};
@@ -17,9 +17,9 @@ ghost use Rattle.zio_nodes.specs.Told.{is_told};
 
 use crate::node::Node;
 use crate::turn::Turn;
-use zio_graph::Move;
 use zio_masks::{Stage, VDEV_CHILD, next};
 use zio_stages::{LeafWork, Outcome};
+use zio_turns::Move;
 use zio_types::{Bytes, Errno, List, NoMemory};
 
 /// An operation on a leaf at a stage of its pipeline.

@@ -13,7 +13,7 @@ ghost use Rattle.zio_frames.specs.Moves.{done_at_once, heard_early, heard_of};
 ghost use Rattle.zio_stages.specs.NodeChildren.{is_awaited};
 ghost use Rattle.zio_stages.specs.Wholes.{IsTreeOf};
 ghost use Rattle.zio_stages.specs.declared.outcome.Outcome.{Outcome as SeenOutcome};
-ghost use Rattle.zio_graph.specs.Stages.{
+ghost use Rattle.zio_turns.specs.Stages.{
   EachIn,
   Hears,
   HearsEarly,
@@ -58,10 +58,10 @@ use crate::turn::Turn;
 use std::alloc::Global;
 use std::mem::replace;
 use zio_blkptr::Bp;
-use zio_graph::Move;
 use zio_masks::Stage;
 use zio_script::Failmode;
 use zio_stages::{Finished, Outcome, Services, Whole};
+use zio_turns::Move;
 use zio_types::{Bytes, ChildKind, Errno, Kind, NoMemory, Phase, ReqNo, Top};
 
 /// A node of a round.

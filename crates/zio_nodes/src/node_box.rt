@@ -7,9 +7,9 @@ use crate::node::Node;
 use crate::turn::{Turn, new_room};
 use std::alloc::Global;
 use zio_blkptr::Bp;
-use zio_graph::{BothBack, Move, Staged};
 use zio_script::Failmode;
 use zio_stages::{Finished, Outcome, Services, Whole, WholeBack};
+use zio_turns::{BothBack, Move, Staged};
 use zio_types::{Bytes, Errno, NoMemory, Top};
 
 /// A node in a box.
@@ -18,7 +18,7 @@ pub struct NodeBox {
     node: Box<Node>,
 }
 
-impl zio_graph::Node for NodeBox {
+impl zio_turns::NodeFacts for NodeBox {
     ghost use Rattle.zio_nodes.specs.Nodes.{boxed_nodes};
 
     ghost nodes = { boxed_nodes };

@@ -3,7 +3,7 @@
 ghost use Rattle.std.specs.Prelude.{◌≡◌, IfErr, IfOk, List as Seq, OnErr};
 ghost use Rattle.zio_types.specs.declared.place.Top.{Top as SeenTop};
 ghost use Rattle.zio_script.specs.Requests.{kind_of};
-ghost use Rattle.zio_graph.specs.Stages.{EachIn, Lessens, TellsValid};
+ghost use Rattle.zio_turns.specs.Stages.{EachIn, Lessens, TellsValid};
 ghost use Rattle.zio_nodes.specs.StageMoves.{IsLastMove, IsStageMove};
 ghost use Rattle.zio_nodes.specs.Nodes.{IsNodeOver, IsTreeOver, MovesBare, StaysBare, left_of, moved};
 ghost use Rattle.zio_nodes.specs.RequestAts.{IsRequestAtOver};
@@ -12,9 +12,9 @@ use crate::node::Node;
 use crate::request_at::RequestAt;
 use crate::turn::Turn;
 use std::alloc::Global;
-use zio_graph::Move;
 use zio_masks::{NULL, Stage, next};
 use zio_stages::{DoneStep, NodeBack, what_is_no_write_has_no_pointer};
+use zio_turns::Move;
 use zio_types::{Kind, Phase};
 
 impl RequestAt {
@@ -51,9 +51,8 @@ impl RequestAt {
             return Ok(Move::Wait(Node::Request(self), kind, Phase::Done));
         }
         let RequestAt { node, is_due, .. } = self;
-        let attempt = node.attempt();
         match node.close_null(alloc) {
-            Ok(closed) => Ok(Move::End(closed.into_outcome(attempt))),
+            Ok(outcome) => Ok(Move::End(outcome)),
             Err(NodeBack { node }) => Err(Node::Request(RequestAt {
                 node,
                 stage: Stage::Done,

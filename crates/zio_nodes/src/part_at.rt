@@ -13,7 +13,7 @@ ghost use Rattle.zio_stages.specs.PartNodes.{IsPartNode, IsPartNodeOver};
 ghost use Rattle.zio_stages.specs.PartWorks.{HaveUnits};
 ghost use Rattle.zio_stages.specs.SpaceCalls.{SpaceCall};
 ghost use Rattle.zio_stages.specs.Tops.{AreTops};
-ghost use Rattle.zio_graph.specs.Stages.{EachIn, GoesOn, Hears, HearsEarly, HearsSome, HearsSomeEarly, IsMove, IsNow, Lessens, TellsValid, heard_max};
+ghost use Rattle.zio_turns.specs.Stages.{EachIn, GoesOn, Hears, HearsEarly, HearsSome, HearsSomeEarly, IsMove, IsNow, Lessens, TellsValid, heard_max};
 ghost use Rattle.zio_nodes.specs.Bounds.{part_left, part_max};
 ghost use Rattle.zio_nodes.specs.Passes.{IsInPassOf, KeepsPassAt};
 ghost use Rattle.zio_nodes.specs.StageMoves.{IsStageMove};

@@ -5,7 +5,7 @@
 ghost use Rattle.std.specs.Prelude.{◌≡◌, ◌≢◌, IfErr, IfOk, List as Seq, OnErr, false, true};
 ghost use Rattle.zio_types.specs.declared.place.Top.{Top as SeenTop};
 ghost use Rattle.zio_script.specs.Requests.{kind_of};
-ghost use Rattle.zio_graph.specs.Stages.{EachIn, Lessens, TellsValid};
+ghost use Rattle.zio_turns.specs.Stages.{EachIn, Lessens, TellsValid};
 ghost use Rattle.zio_nodes.specs.Stalls.{LeavesGang};
 ghost use Rattle.zio_nodes.specs.Passes.{KeepsPassAt};
 ghost use Rattle.zio_nodes.specs.StageMoves.{IsLastMove, IsStageMove};
@@ -19,9 +19,9 @@ use crate::request_at::RequestAt;
 use crate::stall::gang_stall;
 use crate::turn::{Turn, new_room};
 use std::alloc::Global;
-use zio_graph::Move;
 use zio_masks::{INTERLOCK, READ, Stage, next, with_gang};
 use zio_stages::{BodyStage, ReadDone, Services};
+use zio_turns::Move;
 use zio_types::{ChildKind, Kind, NoMemory, Phase, Top};
 
 impl RequestAt {

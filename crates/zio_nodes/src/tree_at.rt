@@ -7,7 +7,7 @@ ghost use Rattle.zio_trace.specs.Families.{Forest};
 ghost use Rattle.zio_trace.specs.Tasks.{Attempt};
 ghost use Rattle.zio_frames.specs.Frames.{fresh_stack};
 ghost use Rattle.zio_stages.specs.Wholes.{IsTreeOf};
-ghost use Rattle.zio_graph.specs.Stages.{EachIn, Lessens, TellsValid};
+ghost use Rattle.zio_turns.specs.Stages.{EachIn, Lessens, TellsValid};
 ghost use Rattle.zio_nodes.specs.Nodes.{IsNodeOver, IsTreeOver, MovesBare, StaysBare, left_of};
 ghost use Rattle.zio_nodes.specs.StageMoves.{IsStart};
 ghost use Rattle.zio_nodes.specs.TreeAts.{IsTreeAt, IsTreeAtOver};
@@ -15,10 +15,10 @@ ghost use Rattle.zio_nodes.specs.TreeAts.{IsTreeAt, IsTreeAtOver};
 use crate::node::Node;
 use crate::request_at::RequestAt;
 use std::alloc::Global;
-use zio_graph::Move;
 use zio_masks::Stage;
 use zio_script::Failmode;
 use zio_stages::{RequestNode, Whole, WholeBack};
+use zio_turns::Move;
 
 /// A tree of requests, of whose attempt nothing is done. It is split only once it runs, so that it can be handed out where there is
 /// no memory.

@@ -7,7 +7,7 @@ ghost use Rattle.std.specs.Prelude.{◌≡◌, ◌≢◌, IfErr, IfOk, List as S
 ghost use Rattle.zio_types.specs.declared.place.Top.{Top as SeenTop};
 ghost use Rattle.zio_script.specs.Requests.{kind_of};
 ghost use Rattle.zio_stages.specs.RequestKinds.{is_stored};
-ghost use Rattle.zio_graph.specs.Stages.{EachIn, Lessens, TellsValid};
+ghost use Rattle.zio_turns.specs.Stages.{EachIn, Lessens, TellsValid};
 ghost use Rattle.zio_nodes.specs.Passes.{KeepsPassAt};
 ghost use Rattle.zio_nodes.specs.StageMoves.{IsEndMove, IsLastMove, IsStageMove};
 ghost use Rattle.zio_nodes.specs.Nodes.{IsNodeOver, IsTreeOver, MovesBare, MovesWith, StaysBare, StaysWith, left_of, moved};
@@ -19,9 +19,9 @@ use crate::part_at::PartAt;
 use crate::request_at::RequestAt;
 use crate::turn::{Turn, new_room};
 use std::alloc::Global;
-use zio_graph::Move;
 use zio_masks::{Stage, WRITE, next};
 use zio_stages::{Allocated, Content, DoneStep, IoNext, NodeBack, ReadyStep, Services};
+use zio_turns::Move;
 use zio_types::{ChildKind, Kind, NoMemory, Phase, Top};
 
 impl RequestAt {
@@ -305,13 +305,12 @@ impl RequestAt {
         ensures tops { S.tops services.new ≡ S.tops services.old }
     {
         let mut at = self;
-        let attempt = at.node.attempt();
         let Ok(()) = at.node.give_block_back(alloc, services) else {
             return Err(Node::Request(at));
         };
         let RequestAt { node, is_due, .. } = at;
         match node.close_write(alloc) {
-            Ok(closed) => Ok(Move::End(closed.into_outcome(attempt))),
+            Ok(outcome) => Ok(Move::End(outcome)),
             Err(NodeBack { node }) => Err(Node::Request(RequestAt {
                 node,
                 stage: Stage::Done,

@@ -6,15 +6,15 @@ use Rattle.zio_types.specs.declared.place.Top.{Top}
 use Rattle.zio_cksum.specs.Blocks.{Pass, Tried, leaves_of, read_order, spot_in}
 use Rattle.zio_cksum.specs.Headers.{offset_of}
 use Rattle.zio_cksum.specs.Images.{Setting, Spot}
-use Rattle.zio_mirror.specs.declared.plan.Step.{Step}
-use Rattle.zio_mirror.specs.declared.plan.Step.TheVariants.{Try, Good, Bad}
+use Rattle.zio_mirror.specs.declared.plan.ReadStep.{ReadStep}
+use Rattle.zio_mirror.specs.declared.plan.ReadStep.TheVariants.{Try, Good, Bad}
 use Rattle.zio_mirror.specs.Plans.{Tries, children, place_of}
 use Rattle.zio_trace.specs.CopyPrograms.{Program, fetch_in, first_on, found_by, last_on, pass_each, pass_on, pass_reading, try_each}
 use Rattle.zio_trace.specs.Leaves.{Answer, Fetch, Store}
 use Rattle.zio_trace.specs.Programs.{Ends, ◌>>=◌}
 use Rattle.zio_parts.specs.Answered.{AsksBehind, filled, out_count}
 use Rattle.zio_parts.specs.Copies.{copies_at, leaves_at, spot_at}
-use Rattle.zio_parts.specs.declared.copies.TheConstants.{COPIES_MAX}
+use Rattle.zio_parts.specs.declared.copies.TheConstants.{LEAF_COPIES_MAX}
 use Rattle.zio_parts.specs.declared.copy_read.ReadStep.{ReadStep}
 use Rattle.zio_parts.specs.declared.copy_read.ReadStep.TheVariants.{Fetch as FetchStep, Repair, Wait, Retry, End}
 
@@ -48,13 +48,13 @@ repairs_from tops places tried failed =
     copies_at tops (take tried places) ++ map (spot_in (place_of places tried)) (map (leaf_at tops (place_of places tried)) failed)
 
 -- the error where all children failed
-abbrev pub error_in : Step → Option Errno
+abbrev pub error_in : ReadStep → Option Errno
 error_in (Try child) = None
 error_in (Good child) = None
 error_in (Bad e) = Some e
 
 -- the child that is to be tried
-abbrev pub child_in : Step → ℕ
+abbrev pub child_in : ReadStep → ℕ
 child_in (Try child) = child
 child_in (Good child) = 0
 child_in (Bad e) = 0
@@ -225,7 +225,7 @@ pub record IsSameRead (x y : Reading) : Type 0 where
 -- one more operation may go out
 abbrev pub IsReadyWith : Option (List ℕ) → Reading → Type 0
 IsReadyWith None x = (x.is_out ≡ false) × (tried_of x < length x.places)
-IsReadyWith (Some bytes) x = length x.mends < COPIES_MAX
+IsReadyWith (Some bytes) x = length x.mends < LEAF_COPIES_MAX
 
 abbrev pub IsReady : Reading → Type 0
 IsReady x = IsReadyWith x.good x

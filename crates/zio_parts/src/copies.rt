@@ -7,7 +7,7 @@ ghost use Rattle.zio_parts.specs.Copies.{copies_at, leaves_at, spot_at};
 use zio_types::{Place, Top};
 
 /// The most copies of a block: the leaves of its places, at most four each of at most three.
-pub const COPIES_MAX: usize = 12;
+pub const LEAF_COPIES_MAX: usize = 12;
 
 /// The place's leaves, in the order of the top.
 pub(crate) fn leaves_at<'a>(tops: &'a [Top], place: &Place) -> &'a [u32]

@@ -40,11 +40,11 @@ ghost use Rattle.zio_parts.specs.CopyReads.{
   wanted_of,
 };
 
-use crate::copies::{COPIES_MAX, Target, any_out};
+use crate::copies::{LEAF_COPIES_MAX, Target, any_out};
 use crate::plans::{all_failed, child_to_try, leaf_at, nth_repair, plan_at};
 use std::marker::Model;
 use zio_mirror::ReadPlan;
-use zio_types::{Bytes, Errno, List, Place, Top};
+use zio_types::{Bytes, COPIES_MAX, Errno, List, Place, Top};
 
 /// What the read of a block is to do next.
 #[derive(Clone, Copy, Debug, PartialEq, Eq)]
@@ -87,7 +87,7 @@ pub struct CopyRead {
     /// How many repairs were handed out.
     handed: usize,
     /// Of these, in their order, which are out.
-    mends: [bool; COPIES_MAX],
+    mends: [bool; LEAF_COPIES_MAX],
 }
 
 impl Model for CopyRead {
@@ -135,7 +135,7 @@ impl CopyRead {
     /// The read of one to three places, of this many bytes.
     pub fn new(tops: &[Top], places: List<Place>, len: usize, repair: bool) -> CopyRead
         requires some { 0 < length places }
-        requires few { length places ≤ 3 }
+        requires few { length places ≤ COPIES_MAX }
         requires mirrored { AreMirrored tops.now places }
         ensures fresh { result ≡ fresh_read tops.now places len repair }
         ensures left { (s : Setting) (good : List ℕ → Bool) → s.tops ≡ tops.now →
@@ -157,7 +157,7 @@ impl CopyRead {
             is_out: false,
             good: None,
             handed: 0,
-            mends: [false; COPIES_MAX],
+            mends: [false; LEAF_COPIES_MAX],
         }
     }
 

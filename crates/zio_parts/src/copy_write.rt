@@ -34,7 +34,7 @@ ghost use Rattle.zio_parts.specs.CopyWrites.{
   writes_of,
 };
 
-use crate::copies::{COPIES_MAX, Target, any_out, leaves_at, nth_copy};
+use crate::copies::{LEAF_COPIES_MAX, Target, any_out, leaves_at, nth_copy};
 use std::marker::Model;
 use zio_mirror::write_result;
 use zio_types::{Errno, List, Place, Top, worst};
@@ -93,9 +93,9 @@ pub struct CopyWrite {
     /// How many writes this pass has handed out.
     handed: usize,
     /// Of these, in their order, which are out.
-    outs: [bool; COPIES_MAX],
+    outs: [bool; LEAF_COPIES_MAX],
     /// What the others answered.
-    errors: [Option<Errno>; COPIES_MAX],
+    errors: [Option<Errno>; LEAF_COPIES_MAX],
 }
 
 impl Model for CopyWrite {
@@ -129,8 +129,8 @@ impl CopyWrite {
             places,
             retry: false,
             handed: 0,
-            outs: [false; COPIES_MAX],
-            errors: [None; COPIES_MAX],
+            outs: [false; LEAF_COPIES_MAX],
+            errors: [None; LEAF_COPIES_MAX],
         }
     }
 
@@ -174,7 +174,7 @@ impl CopyWrite {
 
     /// The child of the step is out.
     pub fn hand_out(&mut self)
-        requires { length self.old.answers < COPIES_MAX }
+        requires { length self.old.answers < LEAF_COPIES_MAX }
         ensures handed { self.new ≡ write_handed self.old }
         ensures left { (s : Setting) (bytes : List ℕ) →
             left_of_write s bytes self.new ≡ left_of_write s bytes self.old }

@@ -20,11 +20,8 @@ use crate::walked::Walked;
 use std::alloc::Global;
 use std::marker::Model;
 use zio_blkptr::Bp;
-use zio_gang::members_of;
+use zio_gang::{LEVELS_MAX, members_of};
 use zio_types::{Errno, List, NoMemory, Path, Top};
-
-/// How many levels of headers a block has at most.
-pub const LEVELS_MAX: u32 = 8;
 
 /// How far the read of the header is.
 #[derive(Clone, Copy, Debug)]
@@ -94,7 +91,7 @@ impl Model for HeadWalk {
 impl HeadWalk {
     /// The walk of a block whose headers are kept: any pointer will do.
     pub fn kept(alloc: Global, levels: u32, path: Path, bp: Bp) -> HeadWalk
-        requires depth { length path + levels ≤ 8 }
+        requires depth { length path + levels ≤ LEVELS_MAX }
         ensures fresh { result ≡ fresh_walk false levels path bp None }
         ensures left { (t : Terms) (heads : Seq Head) → left_of_walk heads result ≡ plan t (ReadHeads (ByKept heads) levels path bp) }
     {
@@ -103,7 +100,7 @@ impl HeadWalk {
 
     /// The walk of a claim: each place of the pointer has to be inside its top and to fit what it holds.
     pub fn claimed(alloc: Global, tops: &[Top], levels: u32, path: Path, bp: Bp) -> HeadWalk
-        requires depth { length path + levels ≤ 8 }
+        requires depth { length path + levels ≤ LEVELS_MAX }
         requires valid { IsTrue (valid bp) }
         ensures left { (t : Terms) (heads : Seq Head) → t.setting.tops ≡ tops.now → left_of_walk heads result ≡ plan t (ReadHeads ByClaim levels path bp) }
         ensures none { slots_of result ≡ [] }
@@ -126,7 +123,7 @@ impl HeadWalk {
         bp: Bp,
         judged: Option<Errno>,
     ) -> HeadWalk
-        requires depth { length path + levels ≤ 8 }
+        requires depth { length path + levels ≤ LEVELS_MAX }
         ensures { result ≡ fresh_walk claim levels path bp judged }
     {
         HeadWalk {
@@ -341,7 +338,7 @@ fn is_any_out(left: &[Option<Walked>]) -> bool
 /// The path to a member of the gang at this path, which has room for a step.
 fn below(path: &Path, member: u8) -> Path
     requires member { member < 3 }
-    requires room { length path.now < 8 }
+    requires room { length path.now < LEVELS_MAX }
     ensures { result ≡ path.now ++ member ∷ [] }
 {
     match path.child(member) {

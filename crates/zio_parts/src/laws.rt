@@ -15,12 +15,12 @@ ghost use Rattle.zio_parts.specs.Answered.{AsksBehind};
 ghost use Rattle.zio_parts.specs.Copies.{AreMirrored, copies_at};
 ghost use Rattle.zio_parts.specs.LeafPlans.{reading_plan, writing_plan};
 
-use crate::copies::COPIES_MAX;
+use crate::copies::LEAF_COPIES_MAX;
 
 /// Three places with at most four leaves each have no more copies than can be out together.
 pub fn copies_are_few()
-    ensures { (tops : List Top) (places : List Place) → AreMirrored tops places → length places ≤ 3 →
-        length (copies_at tops places) ≤ COPIES_MAX }
+    ensures { (tops : List Top) (places : List Place) → AreMirrored tops places → length places ≤ COPIES_MAX →
+        length (copies_at tops places) ≤ LEAF_COPIES_MAX }
 {}
 
 /// What is left of a block's read or a piece's write, as a program of leaf operations, is what is left of its

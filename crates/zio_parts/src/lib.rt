@@ -23,10 +23,10 @@ mod plans;
 mod tree_read;
 mod walked;
 
-pub use copies::{COPIES_MAX, Target};
+pub use copies::{LEAF_COPIES_MAX, Target};
 pub use copy_read::{CopyRead, ReadStep};
 pub use copy_write::{CopyWrite, WriteStep};
-pub use head_walk::{HeadWalk, LEVELS_MAX, MemberWalk, WalkStep};
+pub use head_walk::{HeadWalk, MemberWalk, WalkStep};
 pub use laws::{copies_are_few, leaf_work_shows_in_its_plan};
 pub use part_laws::{parts_are_written_by_their_plans, what_is_asked_behind_parts_is_known};
 pub use part_write::{PartBack, PartWrite};

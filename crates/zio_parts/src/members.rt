@@ -11,7 +11,7 @@ use crate::parts::{OwnWrite, PartStep};
 use std::alloc::Global;
 use std::mem::replace;
 use std::ops::Range;
-use zio_blkptr::Bp;
+use zio_blkptr::{BLOCK_SIZE_MAX, Bp};
 use zio_gang::{Head, split};
 use zio_types::{Errno, List, worst};
 
@@ -32,7 +32,7 @@ pub(crate) enum Member {
 pub(crate) fn member_count(size: u32) -> usize
     requires some { 0 < size }
     requires whole { size % 512 ≡ 0 }
-    requires most { size ≤ 1048576 }
+    requires most { size ≤ BLOCK_SIZE_MAX }
     ensures { result ≡ length (split_sizes size) }
 {
     split(size).n as usize
@@ -210,7 +210,7 @@ fn add_heads(heads: &mut Vec<Head>, member: Member)
 pub(crate) fn member_range(size: u32, n: usize) -> Range<usize>
     requires some { 0 < size }
     requires whole { size % 512 ≡ 0 }
-    requires most { size ≤ 1048576 }
+    requires most { size ≤ BLOCK_SIZE_MAX }
     requires member { n < length (split_sizes size) }
     ensures bytes { (bytes : List ℕ) → length bytes ≡ size → member_bytes bytes n ≡ take (result.end - result.start) (drop result.start bytes) }
     ensures order { result.start < result.end }

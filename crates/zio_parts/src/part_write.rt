@@ -21,8 +21,8 @@ use crate::members::{
     worst_in,
 };
 use crate::parts::{
-    BlockWrite, COPIES_MAX, OwnWrite, PartStep, PlaceAsk, Placing, StoredPart, key_for, nowhere,
-    own_error, placed_next, pointer_over,
+    BlockWrite, OwnWrite, PartStep, PlaceAsk, Placing, StoredPart, key_for, nowhere, own_error,
+    placed_next, pointer_over,
 };
 use std::alloc::Global;
 use std::marker::Model;
@@ -30,7 +30,7 @@ use std::ops::Range;
 use zio_blkptr::{BLOCK_SIZE_MAX, Bp};
 use zio_cksum::sum;
 use zio_gang::{Head, header_encode};
-use zio_types::{Errno, List, NoMemory, Path, Place, Role, SECTOR_SIZE, worst};
+use zio_types::{COPIES_MAX, Errno, List, NoMemory, Path, Place, Role, SECTOR_SIZE, worst};
 
 /// The write of a part of a block under way: whole where places were found for it, and else as a gang, whose members are
 /// handed out together, and whose header is written once each of them told its pointer.
@@ -78,7 +78,7 @@ impl PartWrite {
         requires most { length bytes.now ≤ BLOCK_SIZE_MAX }
         requires deep { length bytes.now ≤ 512 * 3 ^ (8 - length path) }
         requires one { 1 ≤ write.copies }
-        requires three { write.copies ≤ 3 }
+        requires three { write.copies ≤ COPIES_MAX }
         requires born { 1 ≤ write.birth }
         ensures fresh { result ≡ fresh_part write path bytes.now }
         ensures holds { IsOfBytes result bytes.now }
@@ -146,7 +146,7 @@ impl PartWrite {
         ensures most { self.now.size ≤ BLOCK_SIZE_MAX }
         ensures born { 1 ≤ self.now.write.birth }
         ensures one { 1 ≤ result.copies }
-        ensures three { result.copies ≤ 3 }
+        ensures three { result.copies ≤ COPIES_MAX }
     {
         let size = self.size;
         let copies = self.write.copies;
@@ -166,7 +166,7 @@ impl PartWrite {
         ensures most { self.now.size ≤ BLOCK_SIZE_MAX }
         ensures born { 1 ≤ self.now.write.birth }
         ensures one { 1 ≤ result.copies }
-        ensures three { result.copies ≤ 3 }
+        ensures three { result.copies ≤ COPIES_MAX }
     {
         let copies = (self.write.copies + 1).min(COPIES_MAX);
         PlaceAsk {

@@ -9,17 +9,7 @@ ghost use Rattle.zio_parts.specs.PartWrites.{placed_next};
 use std::alloc::Global;
 use zio_blkptr::{Bp, SumKind};
 use zio_gang::Head;
-use zio_types::{Errno, Key, List, Path, Place, ReqNo, Role, SECTOR_SIZE};
-
-/// How many copies there are at most.
-pub(crate) const COPIES_MAX: u32 = 3;
-
-/// What stands in a pointer behind its places.
-const NO_PLACE: Place = Place {
-    top: 0,
-    sector: 0,
-    sectors: 0,
-};
+use zio_types::{COPIES_MAX, Errno, Key, List, NOWHERE, Path, Place, ReqNo, Role, SECTOR_SIZE};
 
 /// What all parts of one block's write share.
 #[derive(Clone, Copy, Debug, PartialEq, Eq)]
@@ -164,7 +154,7 @@ pub(crate) fn pointer_over(
     gang: bool,
     places: &[Place],
 ) -> Bp
-    requires { length places.now ≤ 3 }
+    requires { length places.now ≤ COPIES_MAX }
     ensures { result ≡ record {
       count = length places.now;
       places = filled_to no_place 3 places.now;
@@ -188,13 +178,13 @@ pub(crate) fn pointer_over(
 
 /// The places, and behind them none.
 fn filled(places: &[Place]) -> [Place; 3]
-    requires { length places.now ≤ 3 }
+    requires { length places.now ≤ COPIES_MAX }
     ensures { result ≡ filled_to no_place 3 places.now }
 {
     match places {
-        [] => [NO_PLACE, NO_PLACE, NO_PLACE],
-        [first] => [*first, NO_PLACE, NO_PLACE],
-        [first, second] => [*first, *second, NO_PLACE],
+        [] => [NOWHERE, NOWHERE, NOWHERE],
+        [first] => [*first, NOWHERE, NOWHERE],
+        [first, second] => [*first, *second, NOWHERE],
         [first, second, third, ..] => [*first, *second, *third],
     }
 }

@@ -7,8 +7,8 @@ use Rattle.std.proofs.lemmas.Bool.{cases_lt}
 use Rattle.std.proofs.lemmas.List.{get_or_append_left, get_or-append_right, length-drop, drop-append-le, drop-drop, drop_at}
 use Rattle.zio_places.specs.declared.summary.Summary.{Summary}
 use Rattle.zio_places.specs.declared.runs.FreeRuns.{FreeRuns}
-use Rattle.zio_places.specs.declared.runs.Node.{Node}
-use Rattle.zio_places.specs.declared.runs.Node.TheVariants.{Leaf, Fork}
+use Rattle.zio_places.specs.declared.runs.RunNode.{RunNode}
+use Rattle.zio_places.specs.declared.runs.RunNode.TheVariants.{Leaf, Fork}
 use Rattle.zio_places.specs.Flags.{flag_at, front_run, back_run, best_run, summary_of, joined, AreAll, IsFreeRun, IsRangeSet}
 use Rattle.zio_places.specs.FreeRuns.{flags_in, IsSummed, IsFork, IsLeaf}
 use Rattle.zio_places.proofs.FlagLemmas.{front_run-append, front_run-le, front_run-free, front_run-most, back_run-le, back_run-free, back_run-stop, best_run-append, extended_on, extended_off, summary_of-append}
@@ -18,7 +18,7 @@ pub record AtFork (flags left right : List Bool) (summary : Summary) : Type 0 wh
   pub kept : IsFork left right summary
   pub length : length flags ≡ length left + length right
 
-pub at_Fork : {n : Node} {flags : List Bool} {l r : Box FreeRuns Global} {s : Summary} → flags_in n ≡ flags → IsSummed n → n ≡ Fork l r s → AtFork flags l.value r.value s
+pub at_Fork : {n : RunNode} {flags : List Bool} {l r : Box FreeRuns Global} {s : Summary} → flags_in n ≡ flags → IsSummed n → n ≡ Fork l r s → AtFork flags l.value r.value s
 at_Fork {n} {flags} {l} {r} {s} view_is summed is =
     let e : flags ≡ l.value ++ r.value = sym view_is ∙ ap flags_in is in
     record { is = e; kept = subst IsSummed is summed; length = ap length e ∙ length-append l.value r.value }
@@ -27,7 +27,7 @@ pub record AtLeaf (flags word : List Bool) (summary : Summary) : Type 0 where
   pub is : flags ≡ word
   pub kept : IsLeaf word summary
 
-pub at_Leaf : {n : Node} {flags word : List Bool} {s : Summary} → flags_in n ≡ flags → IsSummed n → n ≡ Leaf word s → AtLeaf flags word s
+pub at_Leaf : {n : RunNode} {flags word : List Bool} {s : Summary} → flags_in n ≡ flags → IsSummed n → n ≡ Leaf word s → AtLeaf flags word s
 at_Leaf {n} {flags} {word} {s} view_is summed is = record { is = sym view_is ∙ ap flags_in is; kept = subst IsSummed is summed }
 
 pub flag_at-left : (l r : List Bool) (k : ℕ) → k < length l → flag_at (l ++ r) k ≡ flag_at l k

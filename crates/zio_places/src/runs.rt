@@ -11,12 +11,12 @@ use std::marker::Model;
 #[cycle(runs)]
 #[derive(Drop)]
 pub struct FreeRuns {
-    node: Node,
+    node: RunNode,
 }
 
 #[cycle(runs)]
 #[derive(Drop)]
-enum Node {
+enum RunNode {
     Leaf(Word, Summary),
     // The sectors of the left side come first.
     Fork(Box<FreeRuns>, Box<FreeRuns>, Summary),
@@ -49,7 +49,7 @@ impl FreeRuns {
             let word = Word::all_free(sectors as u32);
             let summary = word.summary();
             return Ok(FreeRuns {
-                node: Node::Leaf(word, summary),
+                node: RunNode::Leaf(word, summary),
             });
         }
         let words = (sectors - 1) / WORD_SECTORS + 1;
@@ -60,7 +60,7 @@ impl FreeRuns {
         let left = Box::new(alloc, left)?;
         let right = Box::new(alloc, right)?;
         Ok(FreeRuns {
-            node: Node::Fork(left, right, summary),
+            node: RunNode::Fork(left, right, summary),
         })
     }
 
@@ -68,8 +68,8 @@ impl FreeRuns {
         ensures { result ≡ summary_of self.now }
     {
         match self.node {
-            Node::Leaf(_, summary) => summary,
-            Node::Fork(_, _, summary) => summary,
+            RunNode::Leaf(_, summary) => summary,
+            RunNode::Fork(_, _, summary) => summary,
         }
     }
 
@@ -80,8 +80,8 @@ impl FreeRuns {
         ensures { IsFreeRun self.now result count }
     {
         match &self.node {
-            Node::Leaf(word, _) => word.first_run(count as u32) as u64,
-            Node::Fork(left, right, _) => {
+            RunNode::Leaf(word, _) => word.first_run(count as u32) as u64,
+            RunNode::Fork(left, right, _) => {
                 let before = left.summary();
                 if count <= before.best {
                     left.first_run(count)
@@ -100,8 +100,8 @@ impl FreeRuns {
         ensures { result ≡ front_run (drop at self.now) }
     {
         match &self.node {
-            Node::Leaf(word, _) => word.front_from(at as u32) as u64,
-            Node::Fork(left, right, _) => {
+            RunNode::Leaf(word, _) => word.front_from(at as u32) as u64,
+            RunNode::Fork(left, right, _) => {
                 let middle = left.summary().sectors;
                 if at < middle {
                     let here = left.front_from(at);
@@ -123,11 +123,11 @@ impl FreeRuns {
         ensures { IsRangeSet self.old self.new at count is_free }
     {
         match &mut self.node {
-            Node::Leaf(word, summary) => {
+            RunNode::Leaf(word, summary) => {
                 word.set_flag(at as u32, count as u32, is_free);
                 *summary = word.summary();
             }
-            Node::Fork(left, right, summary) => {
+            RunNode::Fork(left, right, summary) => {
                 let middle = left.summary().sectors;
                 let end = at + count;
                 if end <= middle {

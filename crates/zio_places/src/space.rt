@@ -5,7 +5,7 @@ ghost use Rattle.zio_types.specs.Places.{HasRun, IsLawfulChoice, is_lawful_top, 
 ghost use Rattle.zio_places.specs.Ordered.{all_placed_in, without};
 ghost use Rattle.zio_places.specs.Spaces.{SpaceState, used, are_on_tops, is_open, IsSound};
 
-use crate::table::Table;
+use crate::table::SectorTable;
 use crate::take::{take_copies, taken_count};
 use crate::tops::{
     all_on_tops, allocate_all, clear_all, has_run, has_run_on, is_live, is_on_top, is_open,
@@ -15,10 +15,7 @@ use std::alloc::Global;
 use std::marker::Model;
 use std::mem;
 use thiserror::Error;
-use zio_types::{Entry, Key, List, NoMemory, Place, TopSize};
-
-/// Places for an entry's copies, at most.
-const COPIES_MAX: usize = 3;
+use zio_types::{COPIES_MAX, Entry, Key, List, NoMemory, Place, TopSize};
 
 /// Why no place was claimed.
 #[derive(Clone, Copy, Debug, PartialEq, Eq, Error)]
@@ -35,7 +32,7 @@ pub enum ClaimFault {
 /// journal of what was asked and found.
 #[derive(Drop)]
 pub struct Space {
-    tops: Vec<Table>,
+    tops: Vec<SectorTable>,
     /// With room for all live places, and those of all spare entries.
     pending: Vec<Place>,
     /// With room for the spare entries.
@@ -76,7 +73,7 @@ impl Space {
     {
         let mut tables = Vec::new(alloc);
         for top in tops {
-            tables.push(Table::new(alloc, *top)?)?;
+            tables.push(SectorTable::new(alloc, *top)?)?;
         }
         Ok(Space {
             tops: tables,
@@ -97,7 +94,8 @@ impl Space {
         if n <= self.spare {
             return Ok(());
         }
-        self.pending.reserve(self.live + COPIES_MAX * n as usize)?;
+        self.pending
+            .reserve(self.live + COPIES_MAX as usize * n as usize)?;
         self.entries.reserve(n as usize)?;
         self.spare = n;
         Ok(())
@@ -110,7 +108,7 @@ impl Space {
         requires some { 0 < size }
         requires whole { size % 512 ≡ 0 }
         requires one { 1 ≤ copies }
-        requires most { copies ≤ 3 }
+        requires most { copies ≤ COPIES_MAX }
         ensures asked { result.asked ≡ record { key = key; size = size; copies = copies } }
         ensures lawful { IsLawfulChoice self.old.sizes (used self.old) result }
         ensures live { self.new.live ≡ all_placed_in (taken_by result) self.old.live }
@@ -213,7 +211,7 @@ impl Space {
         if !allocate_all(&mut self.tops, places) {
             return Err(ClaimFault::Taken);
         }
-        let room = self.live + COPIES_MAX * self.spare as usize + places.len();
+        let room = self.live + COPIES_MAX as usize * self.spare as usize + places.len();
         match self.pending.reserve(room) {
             Ok(()) => {
                 self.live += places.len();

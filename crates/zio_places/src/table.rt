@@ -11,13 +11,13 @@ use zio_types::{Place, TopSize};
 /// The table of one top, by sector: which are free, and the length of the live place that begins there. Used places
 /// stand on whole units, so a run of free sectors begins and ends at one.
 #[derive(Drop)]
-pub struct Table {
+pub struct SectorTable {
     free: FreeRuns,
     lengths: Vec<u32>,
     unit: u32,
 }
 
-impl Model for Table {
+impl Model for SectorTable {
     ghost use Rattle.zio_places.specs.Tables.{TopState, IsSmallUnit};
 
     ghost Value = { TopState };
@@ -27,9 +27,9 @@ impl Model for Table {
     ghost invariant = { λ t. IsSmallUnit t.unit };
 }
 
-impl Table {
+impl SectorTable {
     /// All free, and no live place.
-    pub fn new(alloc: Global, top: TopSize) -> Result<Table, AllocError>
+    pub fn new(alloc: Global, top: TopSize) -> Result<SectorTable, AllocError>
         requires { IsSmallUnit top.unit }
         ensures free { IfOk result (λ t. t.free ≡ replicate top.sectors true) }
         ensures lengths { IfOk result (λ t. t.lengths ≡ replicate top.sectors 0) }
@@ -37,7 +37,7 @@ impl Table {
     {
         let lengths = vec![in alloc; 0; top.sectors as usize]?;
         let free = FreeRuns::all_free(alloc, top.sectors)?;
-        Ok(Table {
+        Ok(SectorTable {
             free,
             lengths,
             unit: top.unit,

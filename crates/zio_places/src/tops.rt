@@ -6,11 +6,11 @@ ghost use Rattle.zio_places.specs.Flags.{AreAll, best_run};
 ghost use Rattle.zio_places.specs.Spaces.{is_on_top, are_on_tops};
 ghost use Rattle.zio_places.specs.Tables.{top_at, whole_units, sizes_of, live_of, length_at, total, cover_count, taken_at, AreAligned, AreBitmapsOf, HaveEqualLengths, AreConsistent, HasFlags, IsMarkedUsed, AreMarkedUsed, IsEntered, AreAllocated, IsRoom, IsFresh, IsFound, NoneHasRoom, NoFreshHasRoom};
 
-use crate::table::Table;
+use crate::table::SectorTable;
 use zio_types::{Place, SECTOR_SIZE};
 
 /// The place lies below the end of its top, has sectors, and stands on whole units.
-pub fn is_on_top(tops: &[Table], place: &Place) -> bool
+pub fn is_on_top(tops: &[SectorTable], place: &Place) -> bool
     ensures { result ≡ is_on_top (sizes_of tops.now) place.now }
 {
     let top = place.top as usize;
@@ -22,7 +22,7 @@ pub fn is_on_top(tops: &[Table], place: &Place) -> bool
 }
 
 /// The place's sectors get used.
-pub fn mark(tops: &mut [Table], place: Place)
+pub fn mark(tops: &mut [SectorTable], place: Place)
     requires { HasFlags tops.old place true }
     ensures { IsMarkedUsed tops.old tops.new place }
 {
@@ -31,7 +31,7 @@ pub fn mark(tops: &mut [Table], place: Place)
 }
 
 /// They get free.
-pub fn clear(tops: &mut [Table], place: Place)
+pub fn clear(tops: &mut [SectorTable], place: Place)
     requires { HasFlags tops.old place false }
     ensures { IsMarkedUsed tops.new tops.old place }
 {
@@ -40,7 +40,7 @@ pub fn clear(tops: &mut [Table], place: Place)
 }
 
 /// The place is live from now on.
-pub fn enter(tops: &mut [Table], place: Place)
+pub fn enter(tops: &mut [SectorTable], place: Place)
     requires filled { 0 < place.sectors }
     requires inside { place.sector < length (top_at tops.old place.top).lengths }
     requires empty { length_at tops.old place.top place.sector ≡ 0 }
@@ -51,7 +51,7 @@ pub fn enter(tops: &mut [Table], place: Place)
 }
 
 /// It is live no more.
-pub fn remove(tops: &mut [Table], place: Place)
+pub fn remove(tops: &mut [SectorTable], place: Place)
     requires filled { 0 < place.sectors }
     requires live { length_at tops.old place.top place.sector ≡ place.sectors }
     ensures { IsEntered tops.new tops.old place }
@@ -61,7 +61,7 @@ pub fn remove(tops: &mut [Table], place: Place)
 }
 
 /// The place is live, and its sectors used.
-pub fn allocate(tops: &mut [Table], place: Place)
+pub fn allocate(tops: &mut [SectorTable], place: Place)
     requires kept { AreConsistent tops.old }
     requires room { HasFlags tops.old place true }
     ensures { AreAllocated tops.old tops.new (place ∷ []) }
@@ -71,7 +71,7 @@ pub fn allocate(tops: &mut [Table], place: Place)
 }
 
 /// A live place is live no more, and its sectors are free.
-pub fn release(tops: &mut [Table], place: Place)
+pub fn release(tops: &mut [SectorTable], place: Place)
     requires kept { AreConsistent tops.old }
     requires live { Contains (live_of tops.old) place }
     ensures { AreAllocated tops.new tops.old (place ∷ []) }
@@ -81,7 +81,7 @@ pub fn release(tops: &mut [Table], place: Place)
 }
 
 /// So many places at once, each live and no two the same, are live no more, and their sectors are free.
-pub fn release_all(tops: &mut [Table], places: &[Place])
+pub fn release_all(tops: &mut [SectorTable], places: &[Place])
     requires kept { AreConsistent tops.old }
     requires live { (f : Place → ℕ) → total f places.now ≤ total f (live_of tops.old) }
     ensures { AreAllocated tops.new tops.old places.now }
@@ -92,7 +92,7 @@ pub fn release_all(tops: &mut [Table], places: &[Place])
 }
 
 /// All sectors of the place are free.
-pub fn is_open(tops: &[Table], place: &Place) -> bool
+pub fn is_open(tops: &[SectorTable], place: &Place) -> bool
     requires inside { IsTrue (is_inside (sizes_of tops.now) place.now) }
     requires even { HaveEqualLengths tops.now }
     ensures { IsTrue result ↔ HasFlags tops.now place.now true }
@@ -102,7 +102,7 @@ pub fn is_open(tops: &[Table], place: &Place) -> bool
 }
 
 /// Holds the places, or none of them where one isn't free beside those before it.
-pub fn allocate_all(tops: &mut [Table], places: &[Place]) -> bool
+pub fn allocate_all(tops: &mut [SectorTable], places: &[Place]) -> bool
     requires kept { AreConsistent tops.old }
     requires inside { are_on_tops (sizes_of tops.old) places.now ≡ true }
     ensures held { IsTrue result → AreAllocated tops.old tops.new places.now }
@@ -126,7 +126,7 @@ fn is_used(places: &[Place], top: u32) -> bool
 }
 
 /// A place for so many sectors, rounded up to whole units, on this top.
-fn find_on(tops: &[Table], top: u32, sectors: u32) -> Option<Place>
+fn find_on(tops: &[SectorTable], top: u32, sectors: u32) -> Option<Place>
     requires there { top < length tops.now }
     requires some { 0 < sectors }
     requires most { sectors ≤ 2 ^ 23 }
@@ -146,7 +146,7 @@ fn find_on(tops: &[Table], top: u32, sectors: u32) -> Option<Place>
 
 /// A place for so many sectors, rounded up to whole units, on the first top with room that none of the earlier places
 /// uses.
-fn find_fresh(tops: &[Table], earlier: &[Place], sectors: u32) -> Option<Place>
+fn find_fresh(tops: &[SectorTable], earlier: &[Place], sectors: u32) -> Option<Place>
     requires few { length tops.now < 2 ^ 32 }
     requires some { 0 < sectors }
     requires most { sectors ≤ 2 ^ 23 }
@@ -167,7 +167,7 @@ fn find_fresh(tops: &[Table], earlier: &[Place], sectors: u32) -> Option<Place>
 }
 
 /// A place for so many sectors, rounded up to whole units, on the first top with room.
-fn find_any(tops: &[Table], sectors: u32) -> Option<Place>
+fn find_any(tops: &[SectorTable], sectors: u32) -> Option<Place>
     requires few { length tops.now < 2 ^ 32 }
     requires some { 0 < sectors }
     requires most { sectors ≤ 2 ^ 23 }
@@ -183,7 +183,7 @@ fn find_any(tops: &[Table], sectors: u32) -> Option<Place>
 }
 
 /// The top exists, and has a free run for a size in bytes.
-pub fn has_run_on(tops: &[Table], top: u32, size: u32) -> bool
+pub fn has_run_on(tops: &[SectorTable], top: u32, size: u32) -> bool
     requires { HaveEqualLengths tops.now }
     ensures { (used : List Place) → AreBitmapsOf used tops.now → AreAligned (sizes_of tops.now) used →
         IsTrue result ↔ HasRun (sizes_of tops.now) used top size }
@@ -196,7 +196,7 @@ pub fn has_run_on(tops: &[Table], top: u32, size: u32) -> bool
 }
 
 /// Some top has one.
-pub fn has_run(tops: &[Table], size: u32) -> bool
+pub fn has_run(tops: &[SectorTable], size: u32) -> bool
     requires few { length tops.now < 2 ^ 32 }
     requires even { HaveEqualLengths tops.now }
     ensures { (used : List Place) → AreBitmapsOf used tops.now → AreAligned (sizes_of tops.now) used →
@@ -210,7 +210,7 @@ pub fn has_run(tops: &[Table], size: u32) -> bool
 }
 
 /// A place for the next copy, on a top that none of the earlier ones uses where such a top has room.
-pub fn find(tops: &[Table], earlier: &[Place], sectors: u32) -> Option<Place>
+pub fn find(tops: &[SectorTable], earlier: &[Place], sectors: u32) -> Option<Place>
     requires few { length tops.now < 2 ^ 32 }
     requires some { 0 < sectors }
     requires most { sectors ≤ 2 ^ 23 }
@@ -224,7 +224,7 @@ pub fn find(tops: &[Table], earlier: &[Place], sectors: u32) -> Option<Place>
 }
 
 /// The place is one of the live ones.
-pub fn is_live(tops: &[Table], place: &Place) -> bool
+pub fn is_live(tops: &[SectorTable], place: &Place) -> bool
     ensures { IsTrue result ↔ Contains (live_of tops.now) place.now }
 {
     let top = place.top as usize;
@@ -236,14 +236,14 @@ pub fn is_live(tops: &[Table], place: &Place) -> bool
 }
 
 /// Each place lies inside its top on whole units.
-pub fn all_on_tops(tops: &[Table], places: &[Place]) -> bool
+pub fn all_on_tops(tops: &[SectorTable], places: &[Place]) -> bool
     ensures { result ≡ are_on_tops (sizes_of tops.now) places.now }
 {
     places.iter().all(|place| is_on_top(tops, place))
 }
 
 /// The sectors of places that are no longer live get free.
-pub fn clear_all(tops: &mut [Table], places: &[Place])
+pub fn clear_all(tops: &mut [SectorTable], places: &[Place])
     requires filled { All (λ p. 0 < p.sectors) places.now }
     requires taken { (top sector : ℕ) → cover_count places.now top sector ≤ taken_at tops.old top sector }
     ensures { AreMarkedUsed tops.new tops.old places.now }

@@ -10,7 +10,7 @@ use Rattle.zio_script.specs.Requests.{is_under, is_under_number}
 use Rattle.zio_disks.specs.Whole.{IsWholeTree}
 use Rattle.zio_gang.specs.Attempts.{Pending}
 use Rattle.zio_gang.specs.Journals.{CompleteAfterChildren, is_child}
-use Rattle.zio_course.specs.declared.runner.Finished.{Finished}
+use Rattle.zio_course.specs.declared.runner.RequestEnd.{RequestEnd}
 use Rattle.zio_course.specs.Runners.{completion_for, requests_in as requests_of, root_of, roots_of}
 use Rattle.zio_course.proofs.SortLemmas.{IsOneOf, all_one}
 use Rattle.zio_plain.specs.declared.judge.Fate.{Fate}
@@ -62,13 +62,13 @@ later_apart n (w ∷ ws) apart h = (not_under n w ws apart.1 h.0, later_apart n 
 -- ---- ends in order
 
 -- the request that finished there doesn't stand under the one that finished here
-pub record IsUpFrom (all : List Waiting) (e f : Finished) : Type 0 where
+pub record IsUpFrom (all : List Waiting) (e f : RequestEnd) : Type 0 where
   pub owner : Waiting
   pub at : IsOneOf owner all
   pub number : f.request ≡ owner.request.number
   pub free : is_under owner.request e.request ≡ false
 
-abbrev AreUp : List Waiting → List Finished → Type 0
+abbrev AreUp : List Waiting → List RequestEnd → Type 0
 AreUp all [] = Unit {0}
 AreUp all (e ∷ es) = AllByRecursion (IsUpFrom all e) es × AreUp all es
 
@@ -86,7 +86,7 @@ pub record IsSeenIn (all : List Waiting) (v : Waiting) : Type 0 where
 abbrev AreSeenIn : List Waiting → List Waiting → Type 0
 AreSeenIn all ws = AllByRecursion (IsSeenIn all) ws
 
-up_all : (all ws : List Waiting) (e : Finished) (es : List Finished) → AreSeenIn all ws → AllByRecursion (IsOwned ws) es → AllByRecursion (λ (v : Waiting). is_under v.request e.request ≡ false) ws → AllByRecursion (IsUpFrom all e) es
+up_all : (all ws : List Waiting) (e : RequestEnd) (es : List RequestEnd) → AreSeenIn all ws → AllByRecursion (IsOwned ws) es → AllByRecursion (λ (v : Waiting). is_under v.request e.request ≡ false) ws → AllByRecursion (IsUpFrom all e) es
 up_all all ws e es seen owned free =
     all_weaker (IsOwned ws) (IsUpFrom all e) es
     (λ f k.
@@ -97,7 +97,7 @@ up_all all ws e es seen owned free =
       free = ap (λ (r : Request). is_under r e.request) (sym s.request) ∙ all_at (λ (v : Waiting). is_under v.request e.request ≡ false) k.owner ws free k.at;
     }) owned
 
-up_both : (all : List Waiting) (es fs : List Finished) → AreUp all es → AreUp all fs → AllByRecursion (λ e. AllByRecursion (IsUpFrom all e) fs) es → AreUp all (es ++ fs)
+up_both : (all : List Waiting) (es fs : List RequestEnd) → AreUp all es → AreUp all fs → AllByRecursion (λ e. AllByRecursion (IsUpFrom all e) fs) es → AreUp all (es ++ fs)
 up_both all [] fs h k cross = k
 up_both all (e ∷ es) fs h k cross = (all_append (IsUpFrom all e) es fs h.0 cross.0, up_both all es fs h.1 k cross.1)
 
@@ -124,20 +124,20 @@ apart_left n (f ∷ fs) each h = one f.fate each.0.is (apart_left n fs each.1 h.
     one (Ends e) is rest = rest
     one (Again v) is rest = (λ same. h.0 (ap (λ (r : Request). r.number) (sym is.request) ∙ same), rest)
 
-more_apart : (n : ℕ) (v : Waiting) (left ws : List Waiting) (es : List Finished) → v.request.number ≡ n → AllByRecursion (λ (q : Waiting). q.request.number ≢ n) ws → AllByRecursion (IsOwned ws) es
-    → AllByRecursion (λ (e : Finished). AllByRecursion (λ (q : Waiting). q.request.number ≢ e.request) left) es → AllByRecursion (λ (e : Finished). AllByRecursion (λ (q : Waiting). q.request.number ≢ e.request) (v ∷ left)) es
+more_apart : (n : ℕ) (v : Waiting) (left ws : List Waiting) (es : List RequestEnd) → v.request.number ≡ n → AllByRecursion (λ (q : Waiting). q.request.number ≢ n) ws → AllByRecursion (IsOwned ws) es
+    → AllByRecursion (λ (e : RequestEnd). AllByRecursion (λ (q : Waiting). q.request.number ≢ e.request) left) es → AllByRecursion (λ (e : RequestEnd). AllByRecursion (λ (q : Waiting). q.request.number ≢ e.request) (v ∷ left)) es
 more_apart n v left ws [] is apart owned h = tt
 more_apart n v left ws (e ∷ es) is apart owned h = (
   ((λ same. all_at (λ (q : Waiting). q.request.number ≢ n) owned.0.owner ws apart owned.0.at (sym owned.0.end.number ∙ sym same ∙ is)), h.0),
   more_apart n v left ws es is apart owned.1 h.1,
 )
 
-ends_apart : (fs : List Fated) → AllByRecursion IsFated fs → AreNumberedApart (waitings_in fs) → AllByRecursion (λ (e : Finished). AllByRecursion (λ (q : Waiting). q.request.number ≢ e.request) (left_in fs)) (ends_in fs)
+ends_apart : (fs : List Fated) → AllByRecursion IsFated fs → AreNumberedApart (waitings_in fs) → AllByRecursion (λ (e : RequestEnd). AllByRecursion (λ (q : Waiting). q.request.number ≢ e.request) (left_in fs)) (ends_in fs)
 ends_apart [] each apart = tt
 ends_apart (f ∷ fs) each apart = one f.fate each.0.is (ends_apart fs each.1 apart.1)
   where
-    one : (fate : Fate) → IsFateOf f.waiting each.0.kids fate → AllByRecursion (λ (e : Finished). AllByRecursion (λ (q : Waiting). q.request.number ≢ e.request) (left_in fs)) (ends_in fs)
-        → AllByRecursion (λ (e : Finished). AllByRecursion (λ (q : Waiting). q.request.number ≢ e.request) (again_of fate ++ left_in fs)) (ends_of fate ++ ends_in fs)
+    one : (fate : Fate) → IsFateOf f.waiting each.0.kids fate → AllByRecursion (λ (e : RequestEnd). AllByRecursion (λ (q : Waiting). q.request.number ≢ e.request) (left_in fs)) (ends_in fs)
+        → AllByRecursion (λ (e : RequestEnd). AllByRecursion (λ (q : Waiting). q.request.number ≢ e.request) (again_of fate ++ left_in fs)) (ends_of fate ++ ends_in fs)
     one (Ends e) is rest = (subst (λ n. AllByRecursion (λ (q : Waiting). q.request.number ≢ n) (left_in fs)) (sym is.request) (apart_left f.waiting.request.number fs each.1 apart.0), rest)
     one (Again v) is rest =
         more_apart f.waiting.request.number v (left_in fs) (waitings_in fs) (ends_in fs) (ap (λ (r : Request). r.number) is.request) apart.0 (pass_owned fs each.1) rest
@@ -184,14 +184,14 @@ left_seen all fs each seen =
     let s : IsSeenIn all w.before = all_at (IsSeenIn all) w.before (waitings_in fs) seen w.at in
     record { seen = s.seen; at = s.at; request = w.request ∙ s.request })
 
-none_up : (all : List Waiting) (es : List Finished) → AllByRecursion (IsOwned []) es → AreUp all es
+none_up : (all : List Waiting) (es : List RequestEnd) → AllByRecursion (IsOwned []) es → AreUp all es
 none_up all [] h = tt
 none_up all (e ∷ es) h = absurd h.0.at
 
-none_cross : (all : List Waiting) (es fs : List Finished) → AllByRecursion (IsOwned []) fs → AllByRecursion (λ e. AllByRecursion (IsUpFrom all e) fs) es
+none_cross : (all : List Waiting) (es fs : List RequestEnd) → AllByRecursion (IsOwned []) fs → AllByRecursion (λ e. AllByRecursion (IsUpFrom all e) fs) es
 none_cross all es [] h = each es
   where
-    each : (xs : List Finished) → AllByRecursion (λ e. AllByRecursion (IsUpFrom all e) []) xs
+    each : (xs : List RequestEnd) → AllByRecursion (λ e. AllByRecursion (IsUpFrom all e) []) xs
     each [] = tt
     each (x ∷ xs) = (tt, each xs)
 none_cross all es (f ∷ fs) h = absurd h.0.at
@@ -215,7 +215,7 @@ chain_up all tree (fs ∷ passes) left h one none apart seen =
           let later : AreUnderLater (left_in fs) = under_later [] rest.root (left_in fs) none_left rest.ordered rest.alone in
           up_both all (ends_in fs) (all_ends passes) first
           (chain_up all (left_in fs) passes left h.1 rest none_left (left_apart fs h.0.each apart_here) seen_left)
-          (all_weaker (λ (e : Finished). AllByRecursion (λ (q : Waiting). q.request.number ≢ e.request) (left_in fs)) (λ e. AllByRecursion (IsUpFrom all e) (all_ends passes)) (ends_in fs)
+          (all_weaker (λ (e : RequestEnd). AllByRecursion (λ (q : Waiting). q.request.number ≢ e.request) (left_in fs)) (λ e. AllByRecursion (IsUpFrom all e) (all_ends passes)) (ends_in fs)
           (λ e k. up_all all (left_in fs) e (all_ends passes) seen_left owned (later_apart e.request (left_in fs) k later)) (ends_apart fs h.0.each apart_here)))
     ]
 
@@ -284,7 +284,7 @@ or_false : (a b : Bool) → a ≡ false → b ≡ false → (a || b) ≡ false
 or_false true b e f = absurd (cc)
 or_false false b e f = f
 
-no_child : (all ws : List Waiting) (e f : Finished) → AreNumberedApart all → IsUpFrom all e f → ((v : Waiting) → IsOneOf v ws → IsOneOf v all)
+no_child : (all ws : List Waiting) (e f : RequestEnd) → AreNumberedApart all → IsUpFrom all e f → ((v : Waiting) → IsOneOf v ws → IsOneOf v all)
     → list_any (λ (r : Request). (r.number == f.request) && is_under r e.request) (requests_in ws) ≡ false
 no_child all [] e f apart h among = refl
 no_child all (w ∷ ws) e f apart h among =
@@ -293,11 +293,11 @@ no_child all (w ∷ ws) e f apart h among =
     (λ k. subst (λ (v : Waiting). is_under v.request e.request ≡ false) (sym (one_number h.owner w all apart h.at (among w (inl refl)) (eqb-true w.request.number f.request k ∙ h.number))) h.free))
     (no_child all ws e f apart h (λ v at. among v (inr at)))
 
-up_complete : (round : ℕ) (all : List Waiting) (es : List Finished) → AreNumberedApart all → AreUp all es → CompleteAfterChildren (requests_in all) (map (completion_for round) es)
+up_complete : (round : ℕ) (all : List Waiting) (es : List RequestEnd) → AreNumberedApart all → AreUp all es → CompleteAfterChildren (requests_in all) (map (completion_for round) es)
 up_complete round all [] apart h = tt
 up_complete round all (e ∷ es) apart h = (listed es h.0, up_complete round all es apart h.1)
   where
-    listed : (fs : List Finished) → AllByRecursion (IsUpFrom all e) fs → AllByRecursion (λ other. is_child (requests_in all) (completion_for round e) other ≡ false) (map (completion_for round) fs)
+    listed : (fs : List RequestEnd) → AllByRecursion (IsUpFrom all e) fs → AllByRecursion (λ other. is_child (requests_in all) (completion_for round e) other ≡ false) (map (completion_for round) fs)
     listed [] k = tt
     listed (f ∷ fs) k = (no_child all all e f apart k.0 (λ v at. at), listed fs k.1)
 

@@ -5,7 +5,7 @@ use Rattle.std.proofs.lemmas.List.{length-map}
 use Rattle.zio_blkptr.specs.declared.pointer.Bp.{Bp}
 use Rattle.zio_script.specs.declared.limits.TheConstants.{POINTER_SIZE}
 use Rattle.zio_script.specs.Whys.{rounded_up}
-use Rattle.zio_content.specs.Pointers.{IsNoneOrValid}
+use Rattle.zio_gang.specs.Pointers.{IsNoneOrValid}
 use Rattle.zio_plain.specs.declared.waiting.Kept.{Kept}
 use Rattle.zio_plain.specs.Waits.{HasPointer, pointers_in}
 

@@ -11,8 +11,9 @@ use Rattle.zio_disks.specs.Whole.{IsWholeTree}
 use Rattle.zio_gang.specs.Attempts.{Pending}
 use Rattle.zio_gang.specs.Journals.{CompleteOnce}
 use Rattle.zio_gang.specs.Rounds.{add_left}
-use Rattle.zio_course.specs.declared.runner.Finished.{Finished}
+use Rattle.zio_course.specs.declared.runner.RequestEnd.{RequestEnd}
 use Rattle.zio_course.specs.Runners.{completion_for, is_numbered, made_trees, numbers_of, requests_in as requests_of}
+use Rattle.zio_course.proofs.NumberCounts.{counted, counted_append, counted_cons, ends_numbers, requests_counted}
 use Rattle.zio_plain.specs.declared.judge.Fate.{Fate}
 use Rattle.zio_plain.specs.declared.judge.Fate.TheVariants.{Ends, Again}
 use Rattle.zio_plain.specs.declared.waiting.Waiting.{Waiting}
@@ -23,23 +24,11 @@ use Rattle.zio_plain.specs.Settlings.{IsTreeRun, TreeRun, ends_run, trees_in, tr
 use Rattle.zio_plain.specs.Waits.{pendings}
 use Rattle.zio_plain.proofs.SettlingLemmas.{requests_one}
 
-abbrev pub counted : ℕ → List ℕ → ℕ
-counted n xs = count_by (is_numbered n) xs
-
 abbrev one_if : Bool → ℕ
 one_if b = cond {A = ℕ} b 1 0
 
 abbrev pub waits_numbers : List Waiting → List ℕ
 waits_numbers ws = numbers_of (requests_in ws)
-
-abbrev pub ends_numbers : List Finished → List ℕ
-ends_numbers fs = map (λ (f : Finished). f.request) fs
-
-counted_cons : (n x : ℕ) (xs : List ℕ) → counted n (x ∷ xs) ≡ one_if (x == n) + counted n xs
-counted_cons n x xs = sum_by-cons (λ m. one_if (is_numbered n m)) x xs
-
-pub counted_append : (n : ℕ) (xs ys : List ℕ) → counted n (xs ++ ys) ≡ counted n xs + counted n ys
-counted_append n xs ys = sum_by-append (λ m. one_if (is_numbered n m)) xs ys
 
 -- ---- each request finishes or is left
 
@@ -67,7 +56,7 @@ chain_counted n tree (fs ∷ passes) left h =
     let b = chain_counted n (left_in fs) passes left h.1 in
     let c = counted_append n (ends_numbers (ends_in fs)) (ends_numbers (all_ends passes)) in
     let d : counted n (ends_numbers (ends_in fs ++ all_ends passes)) ≡ counted n (ends_numbers (ends_in fs) ++ ends_numbers (all_ends passes)) =
-    ap (counted n) (map-append (λ (f : Finished). f.request) (ends_in fs) (all_ends passes)) in
+    ap (counted n) (map-append (λ (f : RequestEnd). f.request) (ends_in fs) (all_ends passes)) in
     ap (λ ws. counted n (waits_numbers ws)) h.0.whole ∙ (omega arith)
 
 numbers_append : (xs ys : List Request) → numbers_of (xs ++ ys) ≡ numbers_of xs ++ numbers_of ys
@@ -91,18 +80,12 @@ runs_counted n (r ∷ runs) each =
     let g : counted n (numbers_of (requests_of (trees_left (r ∷ runs)))) ≡ counted n (waits_numbers r.left ++ numbers_of (requests_of (trees_left runs))) =
     ap (λ rs. counted n (numbers_of rs)) (left_requests r.left (trees_left runs)) ∙ ap (counted n) (numbers_append (requests_in r.left) (requests_of (trees_left runs))) in
     let h : counted n (ends_numbers (ends_run (r ∷ runs))) ≡ counted n (ends_numbers (all_ends r.passes) ++ ends_numbers (ends_run runs)) =
-    ap (counted n) (map-append (λ (x : Finished). x.request) (all_ends r.passes) (ends_run runs)) in
+    ap (counted n) (map-append (λ (x : RequestEnd). x.request) (all_ends r.passes) (ends_run runs)) in
     omega arith
-
-pub requests_counted : (n : ℕ) (rs : List Request) → counted n (numbers_of rs) ≡ count_by (λ (r : Request). r.number == n) rs
-requests_counted n [] = refl
-requests_counted n (r ∷ rs) =
-    counted_cons n r.number (numbers_of rs) ∙ ap (λ m. one_if (r.number == n) + m) (requests_counted n rs)
-    ∙ sym (sum_by-cons (λ (q : Request). one_if (q.number == n)) r rs)
 
 -- ---- what holds of each that finished
 
-pub runs_ends : (P : Finished → Type 0) → ((w : Waiting) (kids : List _) (f : Finished) → IsFateOf w kids (Ends f) → P f) → (runs : List TreeRun) → AllByRecursion IsTreeRun runs → AllByRecursion P (ends_run runs)
+pub runs_ends : (P : RequestEnd → Type 0) → ((w : Waiting) (kids : List _) (f : RequestEnd) → IsFateOf w kids (Ends f) → P f) → (runs : List TreeRun) → AllByRecursion IsTreeRun runs → AllByRecursion P (ends_run runs)
 runs_ends P ok [] each = tt
 runs_ends P ok (r ∷ runs) each = all_append P (all_ends r.passes) (ends_run runs) (chain r.tree r.passes each.0.chained) (runs_ends P ok runs each.1)
   where
@@ -118,7 +101,7 @@ runs_ends P ok (r ∷ runs) each = all_append P (all_ends r.passes) (ends_run ru
     chain tree [] h = tt
     chain tree (fs ∷ passes) h = all_append P (ends_in fs) (all_ends passes) (pass fs h.0.each) (chain (left_in fs) passes h.1)
 
-pub ends_whole : (fs : List Finished) → AllByRecursion (λ (f : Finished). IfSome f.tree IsWholeTree) fs → AllByRecursion IsWholeTree (made_trees fs)
+pub ends_whole : (fs : List RequestEnd) → AllByRecursion (λ (f : RequestEnd). IfSome f.tree IsWholeTree) fs → AllByRecursion IsWholeTree (made_trees fs)
 ends_whole [] h = tt
 ends_whole (f ∷ fs) h = all_append IsWholeTree (option_to_list f.tree) (made_trees fs) (listed f.tree h.0) (ends_whole fs h.1)
   where
@@ -126,45 +109,19 @@ ends_whole (f ∷ fs) h = all_append IsWholeTree (option_to_list f.tree) (made_t
     listed None k = tt
     listed (Some t) k = (k, tt)
 
--- ---- completions
-
-none_other : (n : ℕ) (round : ℕ) (fs : List Finished) (c : Completion) → c.request ≡ n → counted n (ends_numbers fs) ≤ 0 → AllByRecursion (λ (other : Completion). (c.request == other.request) ≡ false) (map (completion_for round) fs)
-none_other n round [] c is h = tt
-none_other n round (f ∷ fs) c is h =
-    let all = counted_cons n f.request (ends_numbers fs) in (
-      not_true (eqb c.request f.request) (λ e.
-          let same : f.request ≡ n = sym (eqb-true c.request f.request e) ∙ is in
-          let one : one_if (f.request == n) ≡ 1 = ap one_if (eq-eqb f.request n same) in omega arith),
-      none_other n round fs c is (omega arith),
-    )
-  where
-    not_true : (b : Bool) → (b ≡ true → ⊥) → b ≡ false
-    not_true true k = absurd (k refl)
-    not_true false k = refl
-
-pub complete_once : (round : ℕ) (fs : List Finished) → ((n : ℕ) → counted n (ends_numbers fs) ≤ 1) → CompleteOnce (map (completion_for round) fs)
-complete_once round [] h = tt
-complete_once round (f ∷ fs) h = (
-  none_other f.request round fs (completion_for round f) refl
-      (let all = counted_cons f.request f.request (ends_numbers fs) in
-      let one : one_if (f.request == f.request) ≡ 1 = ap one_if (eq-eqb f.request f.request refl) in
-      let most = h f.request in omega arith),
-  complete_once round fs (λ n. (let all = counted_cons n f.request (ends_numbers fs) in let most = h n in omega arith)),
-)
-
 -- ---- of a round
 
 -- all that finished, from an empty list on
-pub ends_are : (finished none : List Finished) (runs : List TreeRun) → none ≡ [] → finished ≡ none ++ ends_run runs → finished ≡ ends_run runs
+pub ends_are : (finished none : List RequestEnd) (runs : List TreeRun) → none ≡ [] → finished ≡ none ++ ends_run runs → finished ≡ ends_run runs
 ends_are finished none runs e h = h ∙ ap (λ fs. fs ++ ends_run runs) e
 
-pub run_counted : (n : ℕ) (trees : List (List Pending)) (runs : List TreeRun) (finished : List Finished) → AllByRecursion IsTreeRun runs → trees ≡ trees_in runs → finished ≡ ends_run runs
+pub run_counted : (n : ℕ) (trees : List (List Pending)) (runs : List TreeRun) (finished : List RequestEnd) → AllByRecursion IsTreeRun runs → trees ≡ trees_in runs → finished ≡ ends_run runs
     → counted n (numbers_of (requests_of trees)) ≡ counted n (ends_numbers finished) + counted n (numbers_of (requests_of (trees_left runs)))
 run_counted n trees runs finished each whole is =
     ap (λ ts. counted n (numbers_of (requests_of ts))) whole ∙ runs_counted n runs each
     ∙ ap (λ fs. counted n (ends_numbers fs) + counted n (numbers_of (requests_of (trees_left runs)))) (sym is)
 
-pub run_once : (trees : List (List Pending)) (runs : List TreeRun) (finished : List Finished) → AllByRecursion IsTreeRun runs → trees ≡ trees_in runs → finished ≡ ends_run runs
+pub run_once : (trees : List (List Pending)) (runs : List TreeRun) (finished : List RequestEnd) → AllByRecursion IsTreeRun runs → trees ≡ trees_in runs → finished ≡ ends_run runs
     → ((n : ℕ) → count_by (λ (r : Request). r.number == n) (requests_of trees) ≤ 1) → (n : ℕ) → counted n (ends_numbers finished) ≤ 1
 run_once trees runs finished each whole is once n =
     let a = run_counted n trees runs finished each whole is in

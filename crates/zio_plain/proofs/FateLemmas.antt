@@ -21,7 +21,7 @@ use Rattle.zio_cksum.specs.Images.{Images, Setting}
 use Rattle.zio_disks.specs.Whole.{IsWholeTree}
 use Rattle.zio_gang.specs.declared.tree.Tree.{Tree}
 use Rattle.zio_gang.specs.Attempts.{Child, Own, Return, Terms, all_bits, bits_of, children_of, closed_if, decided, has_bits, insert_children, finished_of as finished_of_returns, joined_bits, judged_own, kind_bits, may_fail, no_bits, suspend_unless, tree_unless}
-use Rattle.zio_course.specs.declared.runner.Finished.{Finished}
+use Rattle.zio_course.specs.declared.runner.RequestEnd.{RequestEnd}
 use Rattle.zio_course.specs.Runners.{finished_of, read_size}
 use Rattle.zio_plain.specs.declared.judge.Fate.{Fate}
 use Rattle.zio_plain.specs.declared.judge.Fate.TheVariants.{Ends, Again}
@@ -210,12 +210,12 @@ module _ (w : Waiting) (kids : List Handed) (own : OwnEnd) (judged : Judged) whe
       → IsOwnEnd w own → (error ≡ None → own.error ≡ None) → AllEnd (reverse kids) → (is_again fate ≡ false) × IsFateOf w (reverse kids) fate
   ended_fate (Ends f) error e end none all =
       let is : f ≡ record { request = w.request.number; error = error; bytes = own.bytes; tree = tree_unless error own.tree } = cc in
-      let error_is : f.error ≡ error = ap (λ (g : Finished). g.error) is in
-      let bytes_are : f.bytes ≡ own.bytes = ap (λ (g : Finished). g.bytes) is in
-      let tree_is : f.tree ≡ tree_unless error own.tree = ap (λ (g : Finished). g.tree) is in (
+      let error_is : f.error ≡ error = ap (λ (g : RequestEnd). g.error) is in
+      let bytes_are : f.bytes ≡ own.bytes = ap (λ (g : RequestEnd). g.bytes) is in
+      let tree_is : f.tree ≡ tree_unless error own.tree = ap (λ (g : RequestEnd). g.tree) is in (
         refl,
         record {
-          request = ap (λ (g : Finished). g.request) is;
+          request = ap (λ (g : RequestEnd). g.request) is;
           done = all;
           sectors = subst (λ (bs : List ℕ). length bs % 512 ≡ 0) (sym bytes_are) end.sectors;
           size = λ good. subst (λ (bs : List ℕ). AllByRecursion (λ n. length bs ≡ n) (read_size w.request.work w.block)) (sym bytes_are) (end.size (none (sym error_is ∙ good)));
@@ -298,7 +298,7 @@ module _ (w : Waiting) (kids : List Handed) (own : OwnEnd) (judged : Judged) whe
       let ends : has_bits bits ≡ false = ap (λ b. has_bits (all_bits kind own.error w.request.canfail failmode b)) no_children ∙ claim_none kind own.error w.request.canfail failmode claim in
       let no : true ≡ false = sym e ∙ ends in cc))
 
-  ended_if : (b : Bool) (bits : Bits) (own_seen : Own) (ks : List Child) (f : Finished) → own_seen ≡ own_of own own_seen.asks own_seen.images
+  ended_if : (b : Bool) (bits : Bits) (own_seen : Own) (ks : List Child) (f : RequestEnd) → own_seen ≡ own_of own own_seen.asks own_seen.images
       → IsJudged judged (closed_if b (pending_of w) own_seen bits ks) → judged.fate ≡ Ends f → (f.tree ≡ tree_unless f.error own.tree) × (f.error ≡ None → own.error ≡ None)
   ended_if true bits own_seen ks f seen h is =
       let no : f ∷ [] ≡ [] = sym (ap ends_of is) ∙ h.ended_is in absurd (cc)
@@ -307,14 +307,14 @@ module _ (w : Waiting) (kids : List Handed) (own : OwnEnd) (judged : Judged) whe
       let listed : f ∷ [] ≡ record { request = w.request.number; error = error; bytes = own_seen.bytes; tree = tree_unless error own_seen.tree } ∷ [] =
       sym (ap ends_of is) ∙ h.ended_is in
       let one : f ≡ record { request = w.request.number; error = error; bytes = own_seen.bytes; tree = tree_unless error own_seen.tree } = cc in
-      let error_is : f.error ≡ error = ap (λ (g : Finished). g.error) one in (
-        ap (λ (g : Finished). g.tree) one ∙ ap (λ (o : Own). tree_unless error o.tree) seen ∙ ap (λ e. tree_unless e own.tree) (sym error_is),
+      let error_is : f.error ≡ error = ap (λ (g : RequestEnd). g.error) one in (
+        ap (λ (g : RequestEnd). g.tree) one ∙ ap (λ (o : Own). tree_unless error o.tree) seen ∙ ap (λ e. tree_unless e own.tree) (sym error_is),
         λ none. sym (ap (λ (o : Own). o.error) seen) ∙ no_worst own_seen.error (worst_of (map (λ (c : Child). c.error) ks)) (sym error_is ∙ none),
       )
 
   -- the block of a request that finished
   pub ended_tree : (failmode : Failmode) → ((t : Terms) (asks : List Ask) (images : Images) → t.failmode ≡ failmode → IsJudged judged (judged_own t (pending_of w) (map return_of (reverse kids)) (own_of own asks images)))
-      → (f : Finished) → judged.fate ≡ Ends f → (f.tree ≡ tree_unless f.error own.tree) × (f.error ≡ None → own.error ≡ None)
+      → (f : RequestEnd) → judged.fate ≡ Ends f → (f.tree ≡ tree_unless f.error own.tree) × (f.error ≡ None → own.error ≡ None)
   ended_tree failmode h f is =
       let setting : Setting = record { tops = []; rows = []; point = 0 } in
       let t : Terms = record { setting = setting; failmode = failmode; round = 0; used = [] } in

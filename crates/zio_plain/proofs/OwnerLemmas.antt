@@ -7,7 +7,7 @@ use Rattle.zio_cksum.proofs.AllLemmas.{all_append, all_weaker}
 use Rattle.zio_script.specs.declared.script.Request.{Request}
 use Rattle.zio_script.specs.Requests.{makes_block}
 use Rattle.zio_gang.specs.Attempts.{Pending}
-use Rattle.zio_course.specs.declared.runner.Finished.{Finished}
+use Rattle.zio_course.specs.declared.runner.RequestEnd.{RequestEnd}
 use Rattle.zio_course.specs.Runners.{HasReadSize, MakesTree, joined_trees, read_size, requests_in as requests_of}
 use Rattle.zio_course.proofs.SortLemmas.{IsOneOf, one_left, one_right}
 use Rattle.zio_plain.specs.declared.judge.Fate.{Fate}
@@ -20,18 +20,18 @@ use Rattle.zio_plain.specs.Waits.{pending_of, pendings}
 use Rattle.zio_plain.proofs.SettlingLemmas.{numbered_apart, requests_runs}
 
 -- what is known of the end of a request, by the request and its block
-pub record IsEndFor (w : Waiting) (f : Finished) : Type 0 where
+pub record IsEndFor (w : Waiting) (f : RequestEnd) : Type 0 where
   pub number : f.request ≡ w.request.number
   pub size : f.error ≡ None → AllByRecursion (λ n. length f.bytes ≡ n) (read_size w.request.work w.block)
   pub makes : is_some f.tree ≡ true → (f.error ≡ None) × (makes_block w.request.work ≡ true)
 
 -- one of the requests has this end
-pub record IsOwned (ws : List Waiting) (f : Finished) : Type 0 where
+pub record IsOwned (ws : List Waiting) (f : RequestEnd) : Type 0 where
   pub owner : Waiting
   pub at : IsOneOf owner ws
   pub end : IsEndFor owner f
 
-owned_more : (w : Waiting) (ws : List Waiting) (fs : List Finished) → AllByRecursion (IsOwned ws) fs → AllByRecursion (IsOwned (w ∷ ws)) fs
+owned_more : (w : Waiting) (ws : List Waiting) (fs : List RequestEnd) → AllByRecursion (IsOwned ws) fs → AllByRecursion (IsOwned (w ∷ ws)) fs
 owned_more w ws fs h = all_weaker (IsOwned ws) (IsOwned (w ∷ ws)) fs (λ f k. record { owner = k.owner; at = inr k.at; end = k.end }) h
 
 pub pass_owned : (fs : List Fated) → AllByRecursion IsFated fs → AllByRecursion (IsOwned (waitings_in fs)) (ends_in fs)
@@ -65,7 +65,7 @@ left_was (f ∷ fs) v each at = one f.fate each.0.is (λ k. left_was fs v each.1
     }
     one (Again u) is later (inr k) = let w = later k in record { before = w.before; at = inr w.at; request = w.request; birth = w.birth; block = w.block }
 
-end_before : (w v : Waiting) (f : Finished) → v.request ≡ w.request → v.block ≡ w.block → IsEndFor v f → IsEndFor w f
+end_before : (w v : Waiting) (f : RequestEnd) → v.request ≡ w.request → v.block ≡ w.block → IsEndFor v f → IsEndFor w f
 end_before w v f request block h = record {
   number = h.number ∙ ap (λ (r : Request). r.number) request;
   size = λ none. subst (λ b. AllByRecursion (λ n. length f.bytes ≡ n) (read_size w.request.work b)) block
@@ -118,13 +118,13 @@ pub joined_runs : (runs : List TreeRun) → joined_trees (trees_in runs) ≡ pen
 joined_runs [] = refl
 joined_runs (r ∷ runs) = ap (λ ps. pendings r.tree ++ ps) (joined_runs runs) ∙ sym (map-append pending_of r.tree (requests_run runs))
 
-owned_read : (ws : List Waiting) (f : Finished) → AreNumberedApart ws → IsOwned ws f → f.error ≡ None
+owned_read : (ws : List Waiting) (f : RequestEnd) → AreNumberedApart ws → IsOwned ws f → f.error ≡ None
     → AllByRecursion (λ (v : Waiting). v.request.number ≡ f.request → AllByRecursion (λ n. length f.bytes ≡ n) (read_size v.request.work v.block)) ws
 owned_read ws f apart h none =
     each_numbered (λ v. AllByRecursion (λ n. length f.bytes ≡ n) (read_size v.request.work v.block)) f.request ws
     (λ v at e. subst (λ (u : Waiting). AllByRecursion (λ n. length f.bytes ≡ n) (read_size u.request.work u.block)) (sym (one_number h.owner v ws apart h.at at (e ∙ h.end.number))) (h.end.size none))
 
-owned_makes : (ws : List Waiting) (f : Finished) → AreNumberedApart ws → IsOwned ws f → is_some f.tree ≡ true
+owned_makes : (ws : List Waiting) (f : RequestEnd) → AreNumberedApart ws → IsOwned ws f → is_some f.tree ≡ true
     → AllByRecursion (λ (v : Waiting). v.request.number ≡ f.request → makes_block v.request.work ≡ true) ws
 owned_makes ws f apart h some =
     each_numbered (λ v. makes_block v.request.work ≡ true) f.request ws

@@ -20,7 +20,7 @@ use Rattle.zio_gang.specs.Journals.{HaveDistinctKeys, asks_of}
 use Rattle.zio_gang.specs.Trees.{tree_places}
 use Rattle.zio_gang.proofs.AttemptLemmas.{attempt_each-append}
 use Rattle.zio_blocks.specs.Blocks.{AnswersBy}
-use Rattle.zio_course.specs.declared.runner.Finished.{Finished}
+use Rattle.zio_course.specs.declared.runner.RequestEnd.{RequestEnd}
 use Rattle.zio_course.specs.Runners.{AreRisingFrom, finished_of, has_claim, made_places, made_trees}
 use Rattle.zio_plain.specs.declared.judge.Fate.{Fate}
 use Rattle.zio_plain.specs.declared.judge.Fate.TheVariants.{Ends, Again}
@@ -185,9 +185,6 @@ asks_append a b = map-append (λ (c : Choice). c.asked) a b
 abbrev one_fated : Waiting → Fate → List Fated
 one_fated w fate = record { waiting = w; fate = fate } ∷ []
 
-pub made_append : (a b : List Finished) → made_places (a ++ b) ≡ made_places a ++ made_places b
-made_append a b = ap (flat_map tree_places) (flat_map-append _ a b) ∙ flat_map-append tree_places (made_trees a) (made_trees b)
-
 -- ---- so far
 
 -- the pass so far is what the definition says of the attempt so far
@@ -274,7 +271,7 @@ no_fates (f ∷ fates) w rest e =
 module _ {S : Type 0} (tells : S → Images → Type 0) (runs fresh : S → Terms → Type 0) (given : S → List Choice) (moves : S → S → List Place → Type 0)
     (failmode : Failmode) (attempt : ℕ) (tree : List Waiting) where
   -- what holds before the rest of the tree
-  pub record IsPassing (rest : List Waiting) (hs : List Handed) (left : List Waiting) (finished_old finished_new : List Finished) (freed_old freed_new : List Tree) (old new : S) : Type 0 where
+  pub record IsPassing (rest : List Waiting) (hs : List Handed) (left : List Waiting) (finished_old finished_new : List RequestEnd) (freed_old freed_new : List Tree) (old new : S) : Type 0 where
     pub fates : List Fated
     pub split : tree ≡ waitings_in fates ++ rest
     pub first : fates ≡ [] → new ≡ old
@@ -296,7 +293,7 @@ module _ {S : Type 0} (tells : S → Images → Type 0) (runs fresh : S → Term
     pub told : (t : Terms) → runs old t → t.failmode ≡ failmode → (has_claim (requests_in tree) ≡ true → fresh old t) → (images : Images) → tells old images
         → TellsSoFar tells given (λ journal. attempt_each journal t attempt (pendings (waitings_in fates)) [] images) fates hs rest old new
 
-  pub passing_begins : (hs : List Handed) (left : List Waiting) (finished : List Finished) (freed : List Tree) (old : S) → IsOneTree IsWholeTree tree → AreNumberedApart tree
+  pub passing_begins : (hs : List Handed) (left : List Waiting) (finished : List RequestEnd) (freed : List Tree) (old : S) → IsOneTree IsWholeTree tree → AreNumberedApart tree
       → hs ≡ [] → left ≡ [] → moves old old [] → IsPassing tree hs left finished finished freed freed old old
   unfolding attempt_each
   passing_begins hs left finished freed old one apart no_hs no_left itself =
@@ -339,7 +336,7 @@ module _ {S : Type 0} (tells : S → Images → Type 0) (runs fresh : S → Term
       all_same (w ∷ ws) = (refl, all_same ws)
 
   -- one request more
-  pub passing_more : (w : Waiting) (rest : List Waiting) (hs hs_new : List Handed) (left left_new : List Waiting) (finished_old finished_mid finished_new : List Finished) (freed_old freed_mid freed_new : List Tree) (old mid new : S)
+  pub passing_more : (w : Waiting) (rest : List Waiting) (hs hs_new : List Handed) (left left_new : List Waiting) (finished_old finished_mid finished_new : List RequestEnd) (freed_old freed_mid freed_new : List Tree) (old mid new : S)
       → ((a b c : S) (ps qs : List Place) → moves a b ps → moves b c qs → moves a c (ps ++ qs))
       → ((a b : S) (ps : List Place) (t : Terms) → moves a b ps → runs a t → runs b t)
       → (has_claim (requests_in tree) ≡ true → length tree ≡ 1) → AreNumberedApart tree
@@ -405,19 +402,19 @@ module _ {S : Type 0} (tells : S → Images → Type 0) (runs fresh : S → Term
 
   -- ---- what a request of the loop needs
 
-  pub passing_rising : (w : Waiting) (rest : List Waiting) (hs : List Handed) (left : List Waiting) (finished_old finished_new : List Finished) (freed_old freed_new : List Tree) (old new : S)
+  pub passing_rising : (w : Waiting) (rest : List Waiting) (hs : List Handed) (left : List Waiting) (finished_old finished_new : List RequestEnd) (freed_old freed_new : List Tree) (old new : S)
       → IsPassing (w ∷ rest) hs left finished_old finished_new freed_old freed_new old new → AreRisingFrom 0 (numbers_in (children_handed (reverse (take w.unfinished hs))))
   passing_rising w rest hs left finished_old finished_new freed_old freed_new old new h =
       subst (AreRisingFrom 0) (sym (stack_numbers (reverse (take w.unfinished hs)) (children_in w h.met) (stack_turned (take w.unfinished hs) (take w.unfinished h.met) (stack_take w.unfinished hs h.met h.stack))))
       h.behind_rest.0.rising
 
-  pub passing_enough : (w : Waiting) (rest : List Waiting) (hs : List Handed) (left : List Waiting) (finished_old finished_new : List Finished) (freed_old freed_new : List Tree) (old new : S)
+  pub passing_enough : (w : Waiting) (rest : List Waiting) (hs : List Handed) (left : List Waiting) (finished_old finished_new : List RequestEnd) (freed_old freed_new : List Tree) (old new : S)
       → IsPassing (w ∷ rest) hs left finished_old finished_new freed_old freed_new old new → w.unfinished ≤ length hs
   passing_enough w rest hs left finished_old finished_new freed_old freed_new old new h =
       let n = stack_length hs h.met h.stack in
       let e = h.behind_rest.0.enough in omega arith
 
-  pub passing_pointers : (w : Waiting) (rest : List Waiting) (hs : List Handed) (left : List Waiting) (finished_old finished_new : List Finished) (freed_old freed_new : List Tree) (old new : S)
+  pub passing_pointers : (w : Waiting) (rest : List Waiting) (hs : List Handed) (left : List Waiting) (finished_old finished_new : List RequestEnd) (freed_old freed_new : List Tree) (old new : S)
       → IsPassing (w ∷ rest) hs left finished_old finished_new freed_old freed_new old new → AllByRecursion (λ (h : Handed). HasPointer h.child) (take w.unfinished hs)
   passing_pointers w rest hs left finished_old finished_new freed_old freed_new old new h =
       stack_pointers (take w.unfinished hs) (take w.unfinished h.met) (stack_take w.unfinished hs h.met h.stack)
@@ -445,7 +442,7 @@ module _ {S : Type 0} (tells : S → Images → Type 0) (runs fresh : S → Term
       let same : t.one ≡ x = (let both : t.one ∷ t.below ≡ x ∷ [] = sym t.on ∙ on in cc) in
       inr (record { front = t.front; last = t.last; split = t.split; is = sym t.bits ∙ ap (λ (y : Handed). has_bits y.bits) same ∙ e })
 
-  pub passing_ends : (hs : List Handed) (left : List Waiting) (at_once : Bool) (finished_old finished_new : List Finished) (freed_old freed_new : List Tree) (old new : S)
+  pub passing_ends : (hs : List Handed) (left : List Waiting) (at_once : Bool) (finished_old finished_new : List RequestEnd) (freed_old freed_new : List Tree) (old new : S)
       → IsOneTree IsWholeTree tree → IsPassing [] hs left finished_old finished_new freed_old freed_new old new → at_once ≡ now_alone (root_bits (map return_of hs))
       → IsPass tells runs fresh given moves failmode attempt tree left at_once finished_old finished_new freed_old freed_new old new
   passing_ends hs left at_once finished_old finished_new freed_old freed_new old new one_tree h bits =

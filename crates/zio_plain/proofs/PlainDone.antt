@@ -2,7 +2,6 @@
 use Rattle.std.proofs.Common.{◌≡◌, ℕ, ◌≤◌, List, [], ◌++◌, length, map, count_by, true, ◌==◌, ◌⊎◌, sym, ap, ◌∙◌, subst}
 use Rattle.std.specs.Prelude.{Contains, IsPermutation, IsTrue, Option, ◌↔◌}
 use Rattle.std.specs.List.{AllByRecursion, flat_map, list_all}
-use Rattle.std.proofs.lemmas.List.{map-id}
 use Rattle.std.proofs.lemmas.List.Elements.{Contains-append_right}
 use Rattle.zio_types.specs.declared.place.Place.{Place}
 use Rattle.zio_types.specs.declared.place.TopSize.{TopSize}
@@ -20,9 +19,8 @@ use Rattle.zio_places.proofs.PlaceLemmas.{contains-included}
 use Rattle.zio_disks.specs.Disks.{Tell}
 use Rattle.zio_disks.specs.Whole.{IsWholeTree}
 use Rattle.zio_blocks.specs.Choosers.{AreLeft, EntryLaw}
-use Rattle.zio_course.specs.declared.runner.Finished.{Finished}
-use Rattle.zio_course.specs.declared.runner.RoundEnd.{RoundEnd}
-use Rattle.zio_course.specs.Runners.{DiffersInRound, IsRoundEnd, ended_seen, freed_by, freed_places, joined_trees, made_places, named_places, places_of_block, requests_in}
+use Rattle.zio_course.specs.declared.runner.RequestEnd.{RequestEnd}
+use Rattle.zio_course.specs.Runners.{DiffersInRound, IsRoundEnd, SeenEnd, freed_by, freed_places, joined_trees, made_places, named_places, places_of_block, requests_in}
 use Rattle.zio_course.proofs.SortLemmas.{IsOneOf}
 use Rattle.zio_plain.specs.Grounds.{HasMoved, SeenGround, TellChanged}
 use Rattle.zio_plain.specs.Plains.{SeenPlain, standing_of}
@@ -31,10 +29,13 @@ use Rattle.zio_plain.proofs.OwnerLemmas.{runs_apart}
 use Rattle.zio_plain.proofs.PlainBegun.{SteadyPlain, begun, whole_valid}
 use Rattle.zio_plain.proofs.PlainFreed.{freed_fewer, freed_whole, places_in}
 use Rattle.zio_plain.proofs.PlainGiven.{freed_same}
-use Rattle.zio_plain.proofs.PlainItems.{found_one, of_part, one_found, part_of}
-use Rattle.zio_plain.proofs.PlainLive.{live_after, made_inside, made_open, made_same}
-use Rattle.zio_plain.proofs.PlainLoose.{changed_loose, same_length, told_count}
-use Rattle.zio_plain.proofs.PlainPlaces.{apart_fewer}
+use Rattle.zio_course.proofs.ItemLemmas.{found_one, of_part, one_found, part_of}
+use Rattle.zio_course.proofs.MadePlaces.{made_inside, made_open, made_same}
+use Rattle.zio_plain.proofs.PlainLive.{live_after}
+use Rattle.zio_disks.proofs.TellLemmas.{told_count}
+use Rattle.zio_course.proofs.ItemLemmas.{same_length}
+use Rattle.zio_course.proofs.LooseLemmas.{changed_loose}
+use Rattle.zio_course.proofs.OpenPlaces.{apart_fewer}
 
 -- a block that is to be freed is one that is named
 frees_named : (work : Work) (block : Option Tree) (q : Place) → IsOneOf q (freed_by work block) → IsOneOf q (places_of_block block)
@@ -60,7 +61,7 @@ all_entries old more new none is = is ∙ ap (λ es. es ++ more) none
 module _ {D C : Type 0} (bytes faults faults_at_fetch : D → ℕ) (home image : D → List ℕ → Type 0) (sound : D → Type 0) (Lawful : EntryLaw)
     (sizes : C → List TopSize) (used live : C → List Place) (given : C → List Choice) where
   -- the trees of a round ran from the begun ground on
-  pub record HasRun (p : SeenPlain D C) (number point : ℕ) (trees : List (List Pending)) (runs : List TreeRun) (finished : List Finished) (freed : List Tree) (new : SeenGround D) : Type 0 where
+  pub record HasRun (p : SeenPlain D C) (number point : ℕ) (trees : List (List Pending)) (runs : List TreeRun) (finished : List RequestEnd) (freed : List Tree) (new : SeenGround D) : Type 0 where
     pub steady : SteadyPlain bytes faults faults_at_fetch home image sound Lawful sizes used live given p
     pub moved : HasMoved bytes faults faults_at_fetch home image sound Lawful (named_in trees) (begun bytes faults faults_at_fetch home image sound Lawful sizes used live given p number point) new (made_places (ends_run runs))
     pub whole : trees ≡ trees_in runs
@@ -71,7 +72,7 @@ module _ {D C : Type 0} (bytes faults faults_at_fetch : D → ℕ) (home image :
     pub within : AllByRecursion (Contains (live p.chooser)) (named_places trees)
     pub apart : are_apart (frees_of trees) ≡ true
 
-  module _ (p : SeenPlain D C) (number point : ℕ) (trees : List (List Pending)) (runs : List TreeRun) (finished : List Finished) (freed : List Tree) (new : SeenGround D)
+  module _ (p : SeenPlain D C) (number point : ℕ) (trees : List (List Pending)) (runs : List TreeRun) (finished : List RequestEnd) (freed : List Tree) (new : SeenGround D)
       (h : HasRun p number point trees runs finished freed new) where
     -- ---- what is given back
 
@@ -106,12 +107,11 @@ module _ {D C : Type 0} (bytes faults faults_at_fetch : D → ℕ) (home image :
 
     -- ---- the round's end
 
-    pub round_ends : (end : RoundEnd (List Pending)) → IsListEnd number trees end.left finished end.completions → end.finished ≡ finished → end.entries ≡ new.given
-        → IsRoundEnd (standing_of faults live p) number trees (ended_seen (λ (tree : List Pending). tree) end)
+    pub round_ends : (end : SeenEnd) → IsListEnd number trees end.left finished end.completions → end.finished ≡ finished → end.entries ≡ new.given
+        → IsRoundEnd (standing_of faults live p) number trees end
     round_ends end l finished_are entries_are =
-        let left_is : map (λ (tree : List Pending). tree) end.left ≡ end.left = map-id end.left in
-        let ends : IsListEnd number trees (map (λ (tree : List Pending). tree) end.left) end.finished end.completions =
-        subst (λ ts. IsListEnd number trees ts end.finished end.completions) (sym left_is) (subst (λ fs. IsListEnd number trees end.left fs end.completions) (sym finished_are) l) in
+        let ends : IsListEnd number trees end.left end.finished end.completions =
+        subst (λ fs. IsListEnd number trees end.left fs end.completions) (sym finished_are) l in
         let same : IsPermutation (ends_run runs) end.finished = subst (IsPermutation (ends_run runs)) (sym finished_are) h.same in record {
           each = ends.each;
           rests = ends.rests;

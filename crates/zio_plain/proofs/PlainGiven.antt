@@ -11,7 +11,7 @@ use Rattle.zio_cksum.proofs.AllLemmas.{all_append, all_weaker}
 use Rattle.zio_script.specs.declared.script.Request.{Request}
 use Rattle.zio_gang.specs.declared.tree.Tree.{Tree}
 use Rattle.zio_gang.specs.Attempts.{Pending}
-use Rattle.zio_course.specs.declared.runner.Finished.{Finished}
+use Rattle.zio_course.specs.declared.runner.RequestEnd.{RequestEnd}
 use Rattle.zio_course.specs.Runners.{freed_by, freed_places, is_good_in, joined_trees}
 use Rattle.zio_course.proofs.SortLemmas.{IsOneOf, one_all, one_itself, one_left, one_map, one_right}
 use Rattle.zio_plain.specs.declared.judge.Fate.{Fate}
@@ -22,21 +22,21 @@ use Rattle.zio_plain.specs.Passes.{AreChained, AreNumberedApart, Fated, IsFated,
 use Rattle.zio_plain.specs.Settlings.{IsTreeRun, TreeRun, ends_run, freed_run, requests_run, trees_in}
 use Rattle.zio_plain.specs.Waits.{pending_of, pendings}
 use Rattle.zio_plain.proofs.OwnerLemmas.{joined_runs, left_was, one_number}
-use Rattle.zio_plain.proofs.PlainItems.{any_in, any_out, filtered_in, filtered_out, found_one, image_of, of_part, one_either, one_found, part_of}
+use Rattle.zio_course.proofs.ItemLemmas.{any_in, any_out, filtered_in, filtered_out, found_one, image_of, of_part, one_either, one_found, part_of}
 use Rattle.zio_plain.proofs.PlainFreed.{block_freed, freed_again, places_append, places_in, to_free}
-use Rattle.zio_plain.proofs.SortedLemmas.{all_moved}
+use Rattle.zio_course.proofs.NumberSorts.{all_moved}
 
 -- one of the requests finished without error, and gave back this place
-pub record IsGiven (ws : List Waiting) (fs : List Finished) (p : Place) : Type 0 where
+pub record IsGiven (ws : List Waiting) (fs : List RequestEnd) (p : Place) : Type 0 where
   pub owner : Waiting
   pub at : IsOneOf owner ws
-  pub end : Finished
+  pub end : RequestEnd
   pub there : IsOneOf end fs
   pub number : end.request ≡ owner.request.number
   pub good : end.error ≡ None
   pub place : IsOneOf p (to_free owner)
 
-given_more : (xs ys : List Waiting) (es fs : List Finished) (p : Place) → ((w : Waiting) → IsOneOf w xs → IsOneOf w ys) → ((f : Finished) → IsOneOf f es → IsOneOf f fs) → IsGiven xs es p → IsGiven ys fs p
+given_more : (xs ys : List Waiting) (es fs : List RequestEnd) (p : Place) → ((w : Waiting) → IsOneOf w xs → IsOneOf w ys) → ((f : RequestEnd) → IsOneOf f es → IsOneOf f fs) → IsGiven xs es p → IsGiven ys fs p
 given_more xs ys es fs p more ends h = record {
   owner = h.owner;
   at = more h.owner h.at;
@@ -53,10 +53,10 @@ pass_given (x ∷ fs) p each at =
     one x.fate each.0.is (λ k. pass_given fs p each.1 k)
     (one_either p (places_in (freed_of x.waiting x.fate)) (places_in (freed_in fs)) (subst (IsOneOf p) (places_append (freed_of x.waiting x.fate) (freed_in fs)) at))
   where
-    later : (es : List Finished) → IsGiven (waitings_in fs) (ends_in fs) p → IsGiven (x.waiting ∷ waitings_in fs) (es ++ ends_in fs) p
+    later : (es : List RequestEnd) → IsGiven (waitings_in fs) (ends_in fs) p → IsGiven (x.waiting ∷ waitings_in fs) (es ++ ends_in fs) p
     later es g = given_more (waitings_in fs) (x.waiting ∷ waitings_in fs) (ends_in fs) (es ++ ends_in fs) p (λ w h. inr h) (λ f h. one_right f es (ends_in fs) h) g
 
-    ended : (e : Finished) (error : Option Errno) → e.error ≡ error → IsFateOf x.waiting each.0.kids (Ends e) → IsOneOf p (places_in (freed_unless error (freed_block x.waiting.request.work x.waiting.block)))
+    ended : (e : RequestEnd) (error : Option Errno) → e.error ≡ error → IsFateOf x.waiting each.0.kids (Ends e) → IsOneOf p (places_in (freed_unless error (freed_block x.waiting.request.work x.waiting.block)))
         → IsGiven (x.waiting ∷ waitings_in fs) (e ∷ ends_in fs) p
     ended e None none is k = record {
       owner = x.waiting;
@@ -112,13 +112,13 @@ runs_given (r ∷ runs) p each at =
 -- ---- all of them
 
 -- the request of this end gave back all places of the block that it freed
-pub record IsFreeing (freed : List Place) (ws : List Waiting) (f : Finished) : Type 0 where
+pub record IsFreeing (freed : List Place) (ws : List Waiting) (f : RequestEnd) : Type 0 where
   pub owner : Waiting
   pub at : IsOneOf owner ws
   pub number : f.request ≡ owner.request.number
   pub all : f.error ≡ None → (p : Place) → IsOneOf p (to_free owner) → IsOneOf p freed
 
-freeing_more : (ps qs : List Place) (xs ys : List Waiting) (fs : List Finished) → ((p : Place) → IsOneOf p ps → IsOneOf p qs) → ((w : Waiting) → IsOneOf w xs → IsOneOf w ys) → AllByRecursion (IsFreeing ps xs) fs
+freeing_more : (ps qs : List Place) (xs ys : List Waiting) (fs : List RequestEnd) → ((p : Place) → IsOneOf p ps → IsOneOf p qs) → ((w : Waiting) → IsOneOf w xs → IsOneOf w ys) → AllByRecursion (IsFreeing ps xs) fs
     → AllByRecursion (IsFreeing qs ys) fs
 freeing_more ps qs xs ys fs more at h =
     all_weaker (IsFreeing ps xs) (IsFreeing qs ys) fs (λ f k. record { owner = k.owner; at = at k.owner k.at; number = k.number; all = λ none p there. more p (k.all none p there) }) h
@@ -135,7 +135,7 @@ pass_freeing (x ∷ fs) each =
     one x.fate each.0.is (freeing_more (places_in (freed_in fs)) (places_in (freed_of x.waiting x.fate ++ freed_in fs)) (waitings_in fs) (x.waiting ∷ waitings_in fs) (ends_in fs)
     (λ p at. freed_right p (freed_of x.waiting x.fate) (freed_in fs) at) (λ w at. inr at) (pass_freeing fs each.1))
   where
-    mine : (e : Finished) (error : Option Errno) → e.error ≡ error → e.error ≡ None → (p : Place) → IsOneOf p (to_free x.waiting)
+    mine : (e : RequestEnd) (error : Option Errno) → e.error ≡ error → e.error ≡ None → (p : Place) → IsOneOf p (to_free x.waiting)
         → IsOneOf p (places_in (freed_unless error (freed_block x.waiting.request.work x.waiting.block) ++ freed_in fs))
     mine e None at none p there =
         freed_left p (option_to_list (freed_block x.waiting.request.work x.waiting.block)) (freed_in fs) (subst (IsOneOf p) (sym (block_freed x.waiting.request.work x.waiting.block)) there)
@@ -172,21 +172,21 @@ runs_freeing (r ∷ runs) each =
 
 -- ---- the places that were freed
 
-good_from : (f : Finished) (n : ℕ) → f.request ≡ n → f.error ≡ None → ((f.request == n) && is_none f.error) ≡ true
+good_from : (f : RequestEnd) (n : ℕ) → f.request ≡ n → f.error ≡ None → ((f.request == n) && is_none f.error) ≡ true
 good_from f n number none = and_from (f.request == n) (is_none f.error) (eq-eqb f.request n number) (ap is_none none)
 
 none_from : (error : Option Errno) → is_none error ≡ true → error ≡ None
 none_from None e = refl
 none_from (Some x) e = absurd (cc)
 
-moved_in : (f : Finished) (xs ys : List Finished) → IsPermutation xs ys → IsOneOf f xs → IsOneOf f ys
+moved_in : (f : RequestEnd) (xs ys : List RequestEnd) → IsPermutation xs ys → IsOneOf f xs → IsOneOf f ys
 moved_in f xs ys moved at = one_all (λ x. IsOneOf x ys) f xs (all_moved (λ x. IsOneOf x ys) ys xs (IsPermutation-sym xs ys moved) (one_itself ys)) at
 
 -- the request finished without error
-abbrev is_done : List Finished → Pending → Bool
+abbrev is_done : List RequestEnd → Pending → Bool
 is_done finished q = is_good_in finished q.request.number
 
-pub freed_same : (trees : List (List Pending)) (runs : List TreeRun) (finished : List Finished) → trees ≡ trees_in runs → AllByRecursion IsTreeRun runs → AreNumberedApart (requests_run runs) → IsPermutation (ends_run runs) finished
+pub freed_same : (trees : List (List Pending)) (runs : List TreeRun) (finished : List RequestEnd) → trees ≡ trees_in runs → AllByRecursion IsTreeRun runs → AreNumberedApart (requests_run runs) → IsPermutation (ends_run runs) finished
     → SamePlaces (places_in (freed_run runs)) (freed_places trees finished)
 freed_same trees runs finished whole each apart moved p =
     (λ c. one_found p (freed_places trees finished) (there (found_one p (places_in (freed_run runs)) c)), λ c. one_found p (places_in (freed_run runs)) (back (found_one p (freed_places trees finished) c)))
@@ -200,7 +200,7 @@ freed_same trees runs finished whole each apart moved p =
         let q : Pending = pending_of g.owner in
         of_part (λ (x : Pending). freed_by x.request.work x.block) (filter (is_done finished) (joined_trees trees)) q p
         (filtered_in (is_done finished) (joined_trees trees) q (subst (IsOneOf q) (sym joined) (one_map pending_of g.owner (requests_run runs) g.at))
-        (any_in (λ (f : Finished). (f.request == g.owner.request.number) && is_none f.error) finished g.end (moved_in g.end (ends_run runs) finished moved g.there) (good_from g.end g.owner.request.number g.number g.good)))
+        (any_in (λ (f : RequestEnd). (f.request == g.owner.request.number) && is_none f.error) finished g.end (moved_in g.end (ends_run runs) finished moved g.there) (good_from g.end g.owner.request.number g.number g.good)))
         g.place
 
     back : IsOneOf p (freed_places trees finished) → IsOneOf p (places_in (freed_run runs))
@@ -208,7 +208,7 @@ freed_same trees runs finished whole each apart moved p =
         let part = part_of (λ (x : Pending). freed_by x.request.work x.block) (filter (is_done finished) (joined_trees trees)) p at in
         let q = filtered_out (is_done finished) (joined_trees trees) part.of part.at in
         let image = image_of pending_of (requests_run runs) part.of (subst (IsOneOf part.of) joined q.0) in
-        let good = any_out (λ (f : Finished). (f.request == part.of.request.number) && is_none f.error) finished q.1 in
+        let good = any_out (λ (f : RequestEnd). (f.request == part.of.request.number) && is_none f.error) finished q.1 in
         let parts = and_parts (good.one.request == part.of.request.number) (is_none good.one.error) good.is in
         let f = one_all (IsFreeing (places_in (freed_run runs)) (requests_run runs)) good.one (ends_run runs) (runs_freeing runs each) (moved_in good.one finished (ends_run runs) (IsPermutation-sym (ends_run runs) finished moved) good.at) in
         let number : image.of.request.number ≡ f.owner.request.number =

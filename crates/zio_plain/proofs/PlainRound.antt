@@ -18,9 +18,8 @@ use Rattle.zio_disks.specs.Trees.{BearsTops}
 use Rattle.zio_blocks.specs.Blocks.{HavePointers}
 use Rattle.zio_blocks.specs.Choosers.{AreHeld, AreLeft, EntryLaw, HoldsOfNone}
 use Rattle.zio_blocks.specs.EntryLaws.{are_lawful_same}
-use Rattle.zio_course.specs.declared.runner.Finished.{Finished}
-use Rattle.zio_course.specs.declared.runner.RoundEnd.{RoundEnd}
-use Rattle.zio_course.specs.Runners.{AreRunnable, DiffersInRound, IsRound, Standing, StandsAfter, StoppedAfter, ended_seen, made_places, terms_at}
+use Rattle.zio_course.specs.declared.runner.RequestEnd.{RequestEnd}
+use Rattle.zio_course.specs.Runners.{AreRunnable, DiffersInRound, IsRound, SeenEnd, Standing, StandsAfter, StoppedAfter, made_places, terms_at}
 use Rattle.zio_plain.specs.declared.ground.Ground.{Ground}
 use Rattle.zio_plain.specs.Grounds.{Breaks, Moves, SeenGround, TellChanged, seen}
 use Rattle.zio_plain.specs.Plains.{IsSteady, SeenPlain, standing_of}
@@ -28,8 +27,8 @@ use Rattle.zio_plain.specs.Settlings.{IsTreesRun, TreeRun, ends_run, named_in}
 use Rattle.zio_plain.proofs.PlainBegun.{HasBegun, SteadyPlain, begun, has_moved, sees_begun}
 use Rattle.zio_plain.proofs.PlainDone.{HasRun, all_entries, differs, lives}
 use Rattle.zio_plain.proofs.PlainFreed.{places_in}
-use Rattle.zio_plain.proofs.PlainLoose.{one_told}
-use Rattle.zio_plain.proofs.PlainTold.{asked_distinct, round_told}
+use Rattle.zio_disks.proofs.TellLemmas.{one_told}
+use Rattle.zio_plain.proofs.PlainTold.{asked_distinct, round_told, seen_end, seen_itself}
 
 -- what holds after an error holds where there is one
 pub on_err : {A E P : Type 0} (r : Result A E) → P → OnErr r P
@@ -48,11 +47,11 @@ module _ {D C : Type 0} (bytes faults faults_at_fetch : D → ℕ) (home image :
   abbrev Begun : SeenPlain D C → ℕ → ℕ → SeenGround D
   Begun p number point = begun bytes faults faults_at_fetch home image sound Lawful sizes used live given p number point
 
-  abbrev Runs : SeenPlain D C → ℕ → ℕ → List (List Pending) → List TreeRun → List Finished → List Tree → SeenGround D → Type 0
+  abbrev Runs : SeenPlain D C → ℕ → ℕ → List (List Pending) → List TreeRun → List RequestEnd → List Tree → SeenGround D → Type 0
   Runs p number point trees runs finished freed new = HasRun bytes faults faults_at_fetch home image sound Lawful sizes used live given p number point trees runs finished freed new
 
   -- the trees ran over the ground
-  pub has_run : HoldsOfNone Lawful → (p : SeenPlain D C) (number point : ℕ) (trees : List (List Pending)) (left : List (List Pending)) (finished : List Finished) (completions : List Completion) (freed : List Tree) (failmode : Failmode) (old new : Ground D C)
+  pub has_run : HoldsOfNone Lawful → (p : SeenPlain D C) (number point : ℕ) (trees : List (List Pending)) (left : List (List Pending)) (finished : List RequestEnd) (completions : List Completion) (freed : List Tree) (failmode : Failmode) (old new : Ground D C)
       (tells : Ground D C → Images → Type 0) (is_of fresh : Ground D C → Terms → Type 0) (gave : Ground D C → List Choice)
       → SteadyPlain bytes faults faults_at_fetch home image sound Lawful sizes used live given p → HasBegun bytes faults faults_at_fetch home image sound Lawful sizes used live given p number point old → AreRunnable (standing_of faults live p) trees
       → (r : IsTreesRun tells is_of fresh gave (λ a b stay. Moves bytes faults faults_at_fetch home image sound Lawful (named_in trees) (Sees a) (Sees b) stay) number failmode trees left finished completions freed old new)
@@ -73,7 +72,7 @@ module _ {D C : Type 0} (bytes faults faults_at_fetch : D → ℕ) (home image :
 
   -- ---- after the round
 
-  pub steady_after : (p : SeenPlain D C) (number point : ℕ) (trees : List (List Pending)) (runs : List TreeRun) (finished : List Finished) (freed : List Tree) (new : Ground D C) (last : C)
+  pub steady_after : (p : SeenPlain D C) (number point : ℕ) (trees : List (List Pending)) (runs : List TreeRun) (finished : List RequestEnd) (freed : List Tree) (new : Ground D C) (last : C)
       → Runs p number point trees runs finished freed (Sees new) → sizes last ≡ sizes new.chooser → AreHeld (sizes last) (used last) (live last) → SamePlaces (used last) (live last) → given last ≡ []
       → IsSteady new.setting (map bytes new.disks.items) (sizes last) (used last) (live last) (given last)
   steady_after p number point trees runs finished freed new last h sizes_are held same none =
@@ -87,30 +86,30 @@ module _ {D C : Type 0} (bytes faults faults_at_fetch : D → ℕ) (home image :
         taken = none;
       }
 
-  pub stands_after : (p q : SeenPlain D C) (number point : ℕ) (trees : List (List Pending)) (runs : List TreeRun) (freed : List Tree) (end : RoundEnd (List Pending)) (new : Ground D C)
+  pub stands_after : (p q : SeenPlain D C) (number point : ℕ) (trees : List (List Pending)) (runs : List TreeRun) (freed : List Tree) (end : SeenEnd) (new : Ground D C)
       → Runs p number point trees runs end.finished freed (Sees new) → q.setting ≡ new.setting → q.disks ≡ new.disks.items → q.last ≡ number → q.stopped ≡ false → AreLeft (live new.chooser) (places_in freed) (live q.chooser)
-      → StandsAfter (standing_of faults live p) (standing_of faults live q) number (map (λ (tree : List Pending). tree) trees) (ended_seen (λ (tree : List Pending). tree) end)
+      → StandsAfter (standing_of faults live p) (standing_of faults live q) number (map (λ (tree : List Pending). tree) trees) (seen_end end)
   stands_after p q number point trees runs freed end new h setting disks last stopped left =
-      subst (λ ts. StandsAfter (standing_of faults live p) (standing_of faults live q) number ts (ended_seen (λ (tree : List Pending). tree) end)) (sym (map-id trees)) (record {
+      subst (λ ts. StandsAfter (standing_of faults live p) (standing_of faults live q) number ts (seen_end end)) (sym (map-id trees)) (subst (StandsAfter (standing_of faults live p) (standing_of faults live q) number trees) (sym (seen_itself end)) (record {
         tops = ap (λ s. s.tops) (setting ∙ h.moved.setting);
         rows = ap (λ s. s.rows) (setting ∙ h.moved.setting);
         last = last;
         stopped = stopped;
         faults = ap (map faults) disks ∙ h.moved.steady;
         live = lives bytes faults faults_at_fetch home image sound Lawful sizes used live given p number point trees runs end.finished freed (Sees new) h (live q.chooser) left;
-      })
+      }))
 
   -- ---- images
 
   pub round_is : ((tops : List TopSize) (before : List Place) (entries : List Choice) → Lawful tops before entries → AreLawful tops before entries)
-      → (p : SeenPlain D C) (number point : ℕ) (trees left : List (List Pending)) (finished : List Finished) (completions : List Completion) (freed : List Tree) (failmode : Failmode) (old new : Ground D C) (end : RoundEnd (List Pending))
+      → (p : SeenPlain D C) (number point : ℕ) (trees left : List (List Pending)) (finished : List RequestEnd) (completions : List Completion) (freed : List Tree) (failmode : Failmode) (old new : Ground D C) (end : SeenEnd)
       → ((disk : D) (a b : List ℕ) → image disk a → image disk b → a ≡ b)
       → HasBegun bytes faults faults_at_fetch home image sound Lawful sizes used live given p number point old
       → (r : IsTreesRun (λ (g : Ground D C) images. Tell image g.disks.items images) (λ (g : Ground D C) t. (t.setting ≡ g.setting) × (t.round ≡ g.round)) (λ (g : Ground D C) t. SamePlaces (used g.chooser) t.used) (λ (g : Ground D C). given g.chooser)
       (λ a b stay. Moves bytes faults faults_at_fetch home image sound Lawful (named_in trees) (Sees a) (Sees b) stay) number failmode trees left finished completions freed old new)
       → Runs p number point trees r.each_run finished freed (Sees new) → end.finished ≡ finished → end.left ≡ left → end.entries ≡ given new.chooser
       → (before : Images) → Tell image p.disks before → (after : Images) × Tell image new.disks.items after
-      × IsRound (terms_at (standing_of faults live p) failmode number point) (map (λ (tree : List Pending). tree) trees) before after (ended_seen (λ (tree : List Pending). tree) end)
+      × IsRound (terms_at (standing_of faults live p) failmode number point) (map (λ (tree : List Pending). tree) trees) before after (seen_end end)
       × DiffersInRound (standing_of faults live p) (map (λ (tree : List Pending). tree) trees) before after
   round_is lawful_are p number point trees left finished completions freed failmode old new end one begins r h finished_are left_are entries_are before told =
       let t : Terms = terms_at (standing_of faults live p) failmode number point in
@@ -122,14 +121,14 @@ module _ {D C : Type 0} (bytes faults faults_at_fetch : D → ℕ) (home image :
       let lawful : AreLawful (sizes_of p.setting.tops) (live p.chooser) (given new.chooser) =
       subst (AreLawful (sizes_of p.setting.tops) (live p.chooser)) (sym more)
       (subst (λ ts. AreLawful ts (live p.chooser) h.moved.more) h.steady.sizes_are (are_lawful_same (sizes p.chooser) (used p.chooser) (live p.chooser) h.moved.more h.steady.same (lawful_are (sizes p.chooser) (used p.chooser) h.moved.more h.moved.lawful))) in
-      let is : IsRound t trees before k.after (ended_seen (λ (tree : List Pending). tree) end) =
-      round_told (λ (g : Ground D C) images. Tell image g.disks.items images) (λ (g : Ground D C). given g.chooser) t trees (ends_run r.each_run) left before end old new none entries_are distinct lawful
-      (finished_are ∙ r.finished_are) left_are k in
+      let is : IsRound t trees before k.after (seen_end end) =
+      subst (IsRound t trees before k.after) (sym (seen_itself end)) (round_told (λ (g : Ground D C) images. Tell image g.disks.items images) (λ (g : Ground D C). given g.chooser) t trees (ends_run r.each_run) left before end old new none entries_are distinct lawful
+      (finished_are ∙ r.finished_are) left_are k) in
       let d = differs bytes faults faults_at_fetch home image sound Lawful sizes used live given p number point trees (Sees new) h.steady h.moved.disks.sizes h.moved.outside before told in
       let same : d.0 ≡ k.after = one_told image one new.disks.items d.0 k.after d.1 k.told in (
         k.after,
         k.told,
-        subst (λ ts. IsRound t ts before k.after (ended_seen (λ (tree : List Pending). tree) end)) (sym (map-id trees)) is,
+        subst (λ ts. IsRound t ts before k.after (seen_end end)) (sym (map-id trees)) is,
         subst (λ ts. DiffersInRound (standing_of faults live p) ts before k.after) (sym (map-id trees)) (subst (DiffersInRound (standing_of faults live p) trees before) same d.2),
       )
 

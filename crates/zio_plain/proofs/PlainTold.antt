@@ -13,9 +13,8 @@ use Rattle.zio_gang.specs.Rounds.{settle_each}
 use Rattle.zio_gang.specs.Trees.{sizes_of}
 use Rattle.zio_gang.proofs.JournalLemmas.{each_found}
 use Rattle.zio_blocks.specs.Blocks.{AnswersBy}
-use Rattle.zio_course.specs.declared.runner.Finished.{Finished}
-use Rattle.zio_course.specs.declared.runner.RoundEnd.{RoundEnd}
-use Rattle.zio_course.specs.Runners.{IsRound, ended_seen}
+use Rattle.zio_course.specs.declared.runner.RequestEnd.{RequestEnd}
+use Rattle.zio_course.specs.Runners.{IsRound, SeenEnd, ended_seen}
 use Rattle.zio_plain.specs.OwnEnds.{AreAsked}
 use Rattle.zio_plain.specs.Settlings.{IsRan, TellsRan}
 
@@ -28,17 +27,28 @@ asked_distinct may old new none h =
 answer_themselves : (entries : List Choice) → HaveDistinctKeys (asks_of entries) → AnswersBy entries entries
 answer_themselves entries distinct = each_found entries distinct
 
-pub round_told : {S : Type 0} (tells : S → Images → Type 0) (given : S → List Choice) (t : Terms) (trees : List (List Pending)) (ends : List Finished) (left : List (List Pending)) (before : Images) (end : RoundEnd (List Pending)) (old new : S)
+-- the end of a round of this runner in a contract's words
+abbrev pub seen_end : SeenEnd → SeenEnd
+seen_end end = ended_seen (λ (tree : List Pending). tree) (λ (f : RequestEnd). f) end
+
+-- its trees and what finished are seen as they are
+pub seen_itself : (end : SeenEnd) → seen_end end ≡ end
+seen_itself end =
+    let left = map-id end.left in
+    let finished = map-id end.finished in
+    λ i. record { finished = finished i; left = left i; completions = end.completions; entries = end.entries }
+
+pub round_told : {S : Type 0} (tells : S → Images → Type 0) (given : S → List Choice) (t : Terms) (trees : List (List Pending)) (ends : List RequestEnd) (left : List (List Pending)) (before : Images) (end : SeenEnd) (old new : S)
     → given old ≡ [] → end.entries ≡ given new → HaveDistinctKeys (asks_of (given new)) → AreLawful (sizes_of t.setting.tops) t.used (given new)
-    → end.finished ≡ merge_by (λ (f : Finished). f.request) ends [] → end.left ≡ left
-    → (k : TellsRan tells given (λ journal. settle_each journal t trees before) ends left old new) → IsRound t trees before k.after (ended_seen (λ (tree : List Pending). tree) end)
+    → end.finished ≡ merge_by (λ (f : RequestEnd). f.request) ends [] → end.left ≡ left
+    → (k : TellsRan tells given (λ journal. settle_each journal t trees before) ends left old new) → IsRound t trees before k.after end
 round_told tells given t trees ends left before end old new none entries_are distinct lawful finished_are left_are k =
     let answers : AnswersBy end.entries (given new) = subst (λ es. AnswersBy es (given new)) (sym entries_are) (answer_themselves (given new) distinct) in
     let r : IsRan (settle_each end.entries t trees before) ends left (given old) (given new) k.after = k.meant end.entries answers in
     let asks : (settle_each end.entries t trees before).asks ≡ asks_of end.entries =
     sym (r.asks ∙ ap (λ es. asks_of es ++ (settle_each end.entries t trees before).asks) none) ∙ ap asks_of (sym entries_are) in record {
-      left_is = map-id end.left ∙ left_are ∙ sym r.left_is;
-      finished_is = finished_are ∙ ap (λ fs. merge_by (λ (f : Finished). f.request) fs []) (sym r.ended);
+      left_is = left_are ∙ sym r.left_is;
+      finished_is = finished_are ∙ ap (λ fs. merge_by (λ (f : RequestEnd). f.request) fs []) (sym r.ended);
       images_are = sym r.images;
       choices = record {
         distinct = subst (λ es. HaveDistinctKeys (asks_of es)) (sym entries_are) distinct;

@@ -14,7 +14,7 @@ use Rattle.zio_disks.specs.Whole.{IsWholeTree}
 use Rattle.zio_gang.specs.declared.tree.Tree.{Tree}
 use Rattle.zio_gang.specs.Attempts.{Attempt, Settled, Terms, attempt_tree, settle_from, settled_if}
 use Rattle.zio_gang.specs.Journals.{asks_of}
-use Rattle.zio_course.specs.declared.runner.Finished.{Finished}
+use Rattle.zio_course.specs.declared.runner.RequestEnd.{RequestEnd}
 use Rattle.zio_course.specs.Runners.{finished_of, has_claim, made_places}
 use Rattle.zio_plain.specs.declared.judge.Fate.{Fate}
 use Rattle.zio_plain.specs.declared.judge.Fate.TheVariants.{Ends, Again}
@@ -24,7 +24,8 @@ use Rattle.zio_plain.specs.OwnEnds.{AreNamed, Named}
 use Rattle.zio_plain.specs.Passes.{AreChained, AreNumberedApart, ArePasses, Fated, HasNumber, IsAmong, IsFated, IsFateOf, IsPass, IsPassed, IsPassOf, IsSettled, LastIsAgain, all_ends, all_freed, ends_in, freed_in, left_in, waitings_in}
 use Rattle.zio_plain.specs.Posts.{IsOneTree, requests_in}
 use Rattle.zio_plain.specs.Waits.{pendings}
-use Rattle.zio_plain.proofs.PassLemmas.{answers_before, asked_both, asked_weaker, made_append}
+use Rattle.zio_course.proofs.MadePlaces.{made_append}
+use Rattle.zio_plain.proofs.PassLemmas.{answers_before, asked_both, asked_weaker}
 
 -- ---- what is left of a pass
 
@@ -133,7 +134,7 @@ pass_of tree left fates whole each left_are rest root = record {
 
 module _ {S : Type 0} (tells : S → Images → Type 0) (runs fresh : S → Terms → Type 0) (given : S → List Choice) (moves : S → S → List Place → Type 0) (failmode : Failmode) where
   -- the pass is the only one
-  settled_once : (more : ℕ) (journal : List Choice) (t : Terms) (attempt : ℕ) (tree left : List Waiting) (at_once : Bool) (finished : List Finished) (old new : List Choice) (images after : Images)
+  settled_once : (more : ℕ) (journal : List Choice) (t : Terms) (attempt : ℕ) (tree left : List Waiting) (at_once : Bool) (finished : List RequestEnd) (old new : List Choice) (images after : Images)
       → (at_once ≡ false) ⊎ (more ≡ 0) → IsPassed (attempt_tree journal t attempt (pendings tree) images) finished left at_once old new after
       → IsSettled (settle_from more journal t attempt (pendings tree) images) finished left old new after
   unfolding settle_from
@@ -145,7 +146,7 @@ module _ {S : Type 0} (tells : S → Images → Type 0) (runs fresh : S → Term
       (record { ended = h.ended; left_is = h.again; asks = h.asks; images = h.images })
   settled_once (suc more) journal t attempt tree left at_once finished old new images after (inr zero_more) h = absurd (omega arith)
 
-  settled_more : (more : ℕ) (journal : List Choice) (t : Terms) (attempt : ℕ) (tree mid left : List Waiting) (first rest : List Finished) (old given_mid new : List Choice) (images between after : Images)
+  settled_more : (more : ℕ) (journal : List Choice) (t : Terms) (attempt : ℕ) (tree mid left : List Waiting) (first rest : List RequestEnd) (old given_mid new : List Choice) (images between after : Images)
       → IsPassed (attempt_tree journal t attempt (pendings tree) images) first mid true old given_mid between
       → IsSettled (settle_from more journal t (attempt + 1) (pendings mid) between) rest left given_mid new after
       → IsSettled (settle_from (suc more) journal t attempt (pendings tree) images) (first ++ rest) left old new after
@@ -165,7 +166,7 @@ module _ {S : Type 0} (tells : S → Images → Type 0) (runs fresh : S → Term
         images = l.images;
       })
 
-  pub passes_end : (more attempt : ℕ) (tree left : List Waiting) (at_once : Bool) (finished_old finished_new : List Finished) (freed_old freed_new : List Tree) (old new : S)
+  pub passes_end : (more attempt : ℕ) (tree left : List Waiting) (at_once : Bool) (finished_old finished_new : List RequestEnd) (freed_old freed_new : List Tree) (old new : S)
       → (at_once ≡ false) ⊎ (more ≡ 0)
       → IsPass tells runs fresh given moves failmode attempt tree left at_once finished_old finished_new freed_old freed_new old new
       → ArePasses tells runs fresh given moves failmode more attempt tree left finished_old finished_new freed_old freed_new old new
@@ -189,7 +190,7 @@ module _ {S : Type 0} (tells : S → Images → Type 0) (runs fresh : S → Term
             };
       }
 
-  pub passes_go_on : (less more attempt : ℕ) (tree mid left : List Waiting) (finished_old finished_mid finished_new : List Finished) (freed_old freed_mid freed_new : List Tree) (old between new : S)
+  pub passes_go_on : (less more attempt : ℕ) (tree mid left : List Waiting) (finished_old finished_mid finished_new : List RequestEnd) (freed_old freed_mid freed_new : List Tree) (old between new : S)
       → more ≡ suc less
       → ((a b c : S) (ps qs : List Place) → moves a b ps → moves b c qs → moves a c (ps ++ qs))
       → ((a b : S) (ps : List Place) (t : Terms) → moves a b ps → runs a t → runs b t)
@@ -224,7 +225,7 @@ module _ {S : Type 0} (tells : S → Images → Type 0) (runs fresh : S → Term
         };
   }
 
-  pub go_on : (more attempt : ℕ) (tree mid : List Waiting) (at_once : Bool) (left : List Waiting) (finished_old finished_mid finished_new : List Finished) (freed_old freed_mid freed_new : List Tree) (old between new : S)
+  pub go_on : (more attempt : ℕ) (tree mid : List Waiting) (at_once : Bool) (left : List Waiting) (finished_old finished_mid finished_new : List RequestEnd) (freed_old freed_mid freed_new : List Tree) (old between new : S)
       → 0 < more → at_once ≡ true
       → ((a b c : S) (ps qs : List Place) → moves a b ps → moves b c qs → moves a c (ps ++ qs))
       → ((a b : S) (ps : List Place) (t : Terms) → moves a b ps → runs a t → runs b t)

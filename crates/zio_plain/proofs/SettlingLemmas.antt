@@ -18,7 +18,7 @@ use Rattle.zio_gang.specs.declared.tree.Tree.{Tree}
 use Rattle.zio_gang.specs.Attempts.{Pending, Settled, Terms, settle}
 use Rattle.zio_gang.specs.Journals.{asks_of}
 use Rattle.zio_gang.specs.Rounds.{Ran, add_left, add_settled, settle_each}
-use Rattle.zio_course.specs.declared.runner.Finished.{Finished}
+use Rattle.zio_course.specs.declared.runner.RequestEnd.{RequestEnd}
 use Rattle.zio_course.specs.Runners.{finished_of, has_claim, joined_trees, made_places, places_of_block, requests_in as requests_of}
 use Rattle.zio_plain.specs.declared.waiting.Waiting.{Waiting}
 use Rattle.zio_plain.specs.OwnEnds.{AreAsked, AreNamed}
@@ -26,7 +26,8 @@ use Rattle.zio_plain.specs.Passes.{AreNumberedApart, ArePasses, HasNumber, IsAmo
 use Rattle.zio_plain.specs.Posts.{IsOneTree, IsSound, requests_in}
 use Rattle.zio_plain.specs.Settlings.{AreRun, IsRan, IsTreeRun, TellsRan, TreeRun, ends_run, freed_run, named_in, requests_run, trees_in, trees_left}
 use Rattle.zio_plain.specs.Waits.{pending_of, pendings}
-use Rattle.zio_plain.proofs.PassLemmas.{answers_before, asked_both, made_append, number_back, number_front}
+use Rattle.zio_course.proofs.MadePlaces.{made_append}
+use Rattle.zio_plain.proofs.PassLemmas.{answers_before, asked_both, number_back, number_front}
 use Rattle.zio_plain.proofs.NamedLemmas.{claims_all, named_each}
 
 -- ---- trees one after another
@@ -269,7 +270,7 @@ next_named runs ws rest trees split alone =
 module _ {S : Type 0} (tells : S → Images → Type 0) (runs fresh : S → Terms → Type 0) (given : S → List Choice) (moves : S → S → List Place → Type 0)
     (failmode : Failmode) (trees : List (List Pending)) where
   -- what holds before the rest of the trees
-  pub record IsRunning (rest left : List (List Pending)) (finished_old finished_new : List Finished) (freed_old freed_new : List Tree) (old new : S) : Type 0 where
+  pub record IsRunning (rest left : List (List Pending)) (finished_old finished_new : List RequestEnd) (freed_old freed_new : List Tree) (old new : S) : Type 0 where
     pub each_run : List TreeRun
     pub split : trees ≡ trees_in each_run ++ rest
     pub first : each_run ≡ [] → new ≡ old
@@ -282,7 +283,7 @@ module _ {S : Type 0} (tells : S → Images → Type 0) (runs fresh : S → Term
     pub told : (t : Terms) → runs old t → t.failmode ≡ failmode → (has_claim (requests_of trees) ≡ true → fresh old t) → (images : Images) → tells old images
         → TellsRan tells given (λ journal. settle_each journal t (trees_in each_run) images) (ends_run each_run) left old new
 
-  pub running_begins : (rest left : List (List Pending)) (finished : List Finished) (freed : List Tree) (old : S) → rest ≡ trees → left ≡ [] → moves old old [] → IsRunning rest left finished finished freed freed old old
+  pub running_begins : (rest left : List (List Pending)) (finished : List RequestEnd) (freed : List Tree) (old : S) → rest ≡ trees → left ≡ [] → moves old old [] → IsRunning rest left finished finished freed freed old old
   unfolding settle_each
   running_begins rest left finished freed old all none itself =
       subst (λ ts. IsRunning rest ts finished finished freed freed old old) (sym none) (record {
@@ -305,13 +306,13 @@ module _ {S : Type 0} (tells : S → Images → Type 0) (runs fresh : S → Term
   abbrev next_split : List TreeRun → List Waiting → List (List Pending) → Type 0
   next_split each_run ws rest = trees ≡ trees_in each_run ++ pendings ws ∷ rest
 
-  pub running_next : (rest left next : List (List Pending)) (tree : List Pending) (ws : List Waiting) (finished_old finished_new : List Finished) (freed_old freed_new : List Tree) (old new : S)
+  pub running_next : (rest left next : List (List Pending)) (tree : List Pending) (ws : List Waiting) (finished_old finished_new : List RequestEnd) (freed_old freed_new : List Tree) (old new : S)
       → (h : IsRunning rest left finished_old finished_new freed_old freed_new old new) → rest ≡ tree ∷ next → pendings ws ≡ tree → next_split h.each_run ws next
   running_next rest left next tree ws finished_old finished_new freed_old freed_new old new h first seen =
       h.split ∙ ap (λ ts. trees_in h.each_run ++ ts) (first ∙ ap (λ ps. ps ∷ next) (sym seen))
 
   -- one tree more
-  pub running_more : (rest left left_new next : List (List Pending)) (tree : List Pending) (ws ls : List Waiting) (finished_old finished_mid finished_new : List Finished) (freed_old freed_mid freed_new : List Tree) (old mid new : S)
+  pub running_more : (rest left left_new next : List (List Pending)) (tree : List Pending) (ws ls : List Waiting) (finished_old finished_mid finished_new : List RequestEnd) (freed_old freed_mid freed_new : List Tree) (old mid new : S)
       → ((a b c : S) (ps qs : List Place) → moves a b ps → moves b c qs → moves a c (ps ++ qs))
       → ((a b : S) (ps : List Place) (t : Terms) → moves a b ps → runs a t → runs b t)
       → ((n : ℕ) → count_by (λ (r : Request). r.number == n) (requests_of trees) ≤ 1)
@@ -362,7 +363,7 @@ module _ {S : Type 0} (tells : S → Images → Type 0) (runs fresh : S → Term
       some [] x e = cc
       some (y ∷ xs) x e = cc
 
-  pub running_ends : (rest left : List (List Pending)) (finished_old finished_new : List Finished) (freed_old freed_new : List Tree) (old new : S)
+  pub running_ends : (rest left : List (List Pending)) (finished_old finished_new : List RequestEnd) (freed_old freed_new : List Tree) (old new : S)
       → IsRunning rest left finished_old finished_new freed_old freed_new old new → rest ≡ []
       → AreRun tells runs fresh given moves failmode trees left finished_old finished_new freed_old freed_new old new
   running_ends rest left finished_old finished_new freed_old freed_new old new h none =

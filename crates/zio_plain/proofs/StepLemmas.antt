@@ -18,7 +18,7 @@ use Rattle.zio_gang.specs.Attempts.{Attempted, Child, Own, Pending, Return, Term
 use Rattle.zio_gang.specs.Journals.{asks_of}
 use Rattle.zio_gang.specs.Trees.{tree_places}
 use Rattle.zio_blocks.specs.Blocks.{AnswersBy}
-use Rattle.zio_course.specs.declared.runner.Finished.{Finished}
+use Rattle.zio_course.specs.declared.runner.RequestEnd.{RequestEnd}
 use Rattle.zio_course.specs.declared.runner.Stop.{Stop}
 use Rattle.zio_course.specs.declared.runner.Stop.TheVariants.{Memory}
 use Rattle.zio_course.specs.Runners.{made_places, places_of_block}
@@ -136,7 +136,7 @@ module _ {S : Type 0} (tells : S → Images → Type 0) (given : S → List Choi
 
 -- ---- the step
 
-made_of_one : (f : Finished) → made_places (f ∷ []) ≡ places_of_block f.tree
+made_of_one : (f : RequestEnd) → made_places (f ∷ []) ≡ places_of_block f.tree
 made_of_one f = ap (flat_map tree_places) (append-nil (option_to_list f.tree))
 
 made_is : (error : Option Errno) (own : Option Tree) → made_unless error (places_of_block own) ≡ places_of_block (tree_unless error own)
@@ -197,7 +197,7 @@ module _ {S : Type 0} (tells : S → Images → Type 0) (runs fresh : S → Term
     same = same;
   }
 
-  module _ (again_old again_new : List Waiting) (fin_old fin_new : List Finished) (freed_old freed_new : List Tree) where
+  module _ (again_old again_new : List Waiting) (fin_old fin_new : List RequestEnd) (freed_old freed_new : List Tree) where
     step_done : IsRun → again_new ≡ again_old ++ again_of judged.fate → fin_new ≡ fin_old ++ ends_of judged.fate → freed_new ≡ freed_old ++ freed_of w judged.fate
         → moves a c (made_places (ends_of judged.fate))
         → IsStep tells runs fresh given moves failmode attempt w (reverse old) (reverse after) again_old again_new fin_old fin_new freed_old freed_new a c
@@ -219,7 +219,7 @@ module _ {S : Type 0} (tells : S → Images → Type 0) (runs fresh : S → Term
         }
 
     -- it finished
-    pub step_ended : (f : Finished) (unused : Option Tree) → IsRun → judged.fate ≡ Ends f → judged.unused ≡ unused
+    pub step_ended : (f : RequestEnd) (unused : Option Tree) → IsRun → judged.fate ≡ Ends f → judged.unused ≡ unused
         → again_new ≡ again_old → fin_new ≡ fin_old ++ f ∷ [] → freed_new ≡ freed_old ++ freed_unless f.error unused
         → moves a b taken → (own.error ≡ None → moves a b (places_of_block own.tree))
         → ((before : S) (made : List Place) → moves before b taken → (f.error ≡ None → moves before b made) → moves before c (made_unless f.error made))

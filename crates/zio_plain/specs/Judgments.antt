@@ -7,7 +7,7 @@ use Rattle.zio_script.specs.declared.script.Work.TheVariants.{Null, Read, Write,
 use Rattle.zio_cksum.specs.Images.{Images}
 use Rattle.zio_gang.specs.declared.tree.Tree.{Tree}
 use Rattle.zio_gang.specs.Attempts.{Attempted, Own, has_bits}
-use Rattle.zio_course.specs.declared.runner.Finished.{Finished}
+use Rattle.zio_course.specs.declared.runner.RequestEnd.{RequestEnd}
 use Rattle.zio_course.specs.Runners.{finished_of}
 use Rattle.zio_plain.specs.declared.judge.Fate.{Fate}
 use Rattle.zio_plain.specs.declared.judge.Fate.TheVariants.{Ends, Again}
@@ -40,7 +40,7 @@ done_in handed = filter (λ (h : Handed). not (has_bits h.bits)) handed
 abbrev pub again_in : List Handed → ℕ
 again_in handed = count_by (λ (h : Handed). has_bits h.bits) handed
 
-abbrev pub ends_of : Fate → List Finished
+abbrev pub ends_of : Fate → List RequestEnd
 ends_of (Ends f) = f ∷ []
 ends_of (Again w) = []
 

@@ -14,7 +14,7 @@ use Rattle.zio_gang.specs.Attempts.{Attempt, Attempted, Return, Settled, Terms, 
 use Rattle.zio_gang.specs.Journals.{asks_of}
 use Rattle.zio_disks.specs.Whole.{IsWholeTree}
 use Rattle.zio_blocks.specs.Blocks.{AnswersBy}
-use Rattle.zio_course.specs.declared.runner.Finished.{Finished}
+use Rattle.zio_course.specs.declared.runner.RequestEnd.{RequestEnd}
 use Rattle.zio_course.specs.Runners.{finished_of, has_claim, made_places, read_size}
 use Rattle.zio_plain.specs.declared.judge.Fate.{Fate}
 use Rattle.zio_plain.specs.declared.judge.Fate.TheVariants.{Ends, Again}
@@ -50,7 +50,7 @@ AllEnd hs = AllByRecursion (λ (h : Handed). has_bits h.bits ≡ false) hs
 
 -- The request finished so: its children finished, a block is made without error and by a write or a claim alone, and a
 -- read has whole sectors, without an error its block's.
-pub record IsEndOf (w : Waiting) (kids : List Handed) (f : Finished) : Type 0 where
+pub record IsEndOf (w : Waiting) (kids : List Handed) (f : RequestEnd) : Type 0 where
   pub request : f.request ≡ w.request.number
   pub done : AllEnd kids
   pub sectors : length f.bytes % sector_size ≡ 0
@@ -96,7 +96,7 @@ pub record TellsAttempted {S : Type 0} (tells : S → Images → Type 0) (given 
       → IsAttempted (means journal returns) one fate (given old) (given new) after
 
 -- What is added by one request of a pass. The lists of what was handed on have the last first.
-pub record IsStep {S : Type 0} (tells : S → Images → Type 0) (runs fresh : S → Terms → Type 0) (given : S → List Choice) (moves : S → S → List Place → Type 0) (failmode : Failmode) (attempt : ℕ) (w : Waiting) (handed_old handed_new : List Handed) (again_old again_new : List Waiting) (finished_old finished_new : List Finished) (freed_old freed_new : List Tree) (old new : S) : Type 0 where
+pub record IsStep {S : Type 0} (tells : S → Images → Type 0) (runs fresh : S → Terms → Type 0) (given : S → List Choice) (moves : S → S → List Place → Type 0) (failmode : Failmode) (attempt : ℕ) (w : Waiting) (handed_old handed_new : List Handed) (again_old again_new : List Waiting) (finished_old finished_new : List RequestEnd) (freed_old freed_new : List Tree) (old new : S) : Type 0 where
   pub one : Handed
   pub fate : Fate
   pub is : HasFate w (take w.unfinished handed_old) one fate
@@ -119,7 +119,7 @@ pub record Fated : Type 0 where
 abbrev pub waitings_in : List Fated → List Waiting
 waitings_in fs = map (λ (f : Fated). f.waiting) fs
 
-abbrev pub ends_in : List Fated → List Finished
+abbrev pub ends_in : List Fated → List RequestEnd
 ends_in fs = flat_map (λ (f : Fated). ends_of f.fate) fs
 
 abbrev pub left_in : List Fated → List Waiting
@@ -155,20 +155,20 @@ pub record LastIsAgain (fates : List Fated) : Type 0 where
   pub is : is_again last.fate ≡ true
 
 -- the pass is what the definition says of the tree's attempt
-pub record IsPassed (a : Attempt) (finished : List Finished) (left : List Waiting) (at_once : Bool) (given_old given_new : List Choice) (after : Images) : Type 0 where
+pub record IsPassed (a : Attempt) (finished : List RequestEnd) (left : List Waiting) (at_once : Bool) (given_old given_new : List Choice) (after : Images) : Type 0 where
   pub ended : map finished_of a.ended ≡ finished
   pub again : a.again ≡ pendings left
   pub bits : now_alone (root_bits a.returns) ≡ at_once
   pub asks : asks_of given_new ≡ asks_of given_old ++ a.asks
   pub images : a.images ≡ after
 
-pub record TellsPassed {S : Type 0} (tells : S → Images → Type 0) (given : S → List Choice) (means : List Choice → Attempt) (finished : List Finished) (left : List Waiting) (at_once : Bool) (old new : S) : Type 0 where
+pub record TellsPassed {S : Type 0} (tells : S → Images → Type 0) (given : S → List Choice) (means : List Choice → Attempt) (finished : List RequestEnd) (left : List Waiting) (at_once : Bool) (old new : S) : Type 0 where
   pub after : Images
   pub told : tells new after
   pub meant : (journal : List Choice) → AnswersBy journal (given new) → IsPassed (means journal) finished left at_once (given old) (given new) after
 
 -- What a pass over a tree adds and leaves.
-pub record IsPass {S : Type 0} (tells : S → Images → Type 0) (runs fresh : S → Terms → Type 0) (given : S → List Choice) (moves : S → S → List Place → Type 0) (failmode : Failmode) (attempt : ℕ) (tree left : List Waiting) (at_once : Bool) (finished_old finished_new : List Finished) (freed_old freed_new : List Tree) (old new : S) : Type 0 where
+pub record IsPass {S : Type 0} (tells : S → Images → Type 0) (runs fresh : S → Terms → Type 0) (given : S → List Choice) (moves : S → S → List Place → Type 0) (failmode : Failmode) (attempt : ℕ) (tree left : List Waiting) (at_once : Bool) (finished_old finished_new : List RequestEnd) (freed_old freed_new : List Tree) (old new : S) : Type 0 where
   pub fates : List Fated
   pub whole : tree ≡ waitings_in fates
   pub left_are : left ≡ left_in fates
@@ -197,26 +197,26 @@ abbrev pub AreChained : List Waiting → List (List Fated) → List Waiting → 
 AreChained tree [] left = left ≡ tree
 AreChained tree (fates ∷ more) left = IsPassOf tree fates × AreChained (left_in fates) more left
 
-abbrev pub all_ends : List (List Fated) → List Finished
+abbrev pub all_ends : List (List Fated) → List RequestEnd
 all_ends passes = flat_map ends_in passes
 
 abbrev pub all_freed : List (List Fated) → List Tree
 all_freed passes = flat_map freed_in passes
 
 -- the passes are what the definition says of the settled tree
-pub record IsSettled (s : Settled) (finished : List Finished) (left : List Waiting) (given_old given_new : List Choice) (after : Images) : Type 0 where
+pub record IsSettled (s : Settled) (finished : List RequestEnd) (left : List Waiting) (given_old given_new : List Choice) (after : Images) : Type 0 where
   pub ended : map finished_of s.ended ≡ finished
   pub left_is : s.left ≡ pendings left
   pub asks : asks_of given_new ≡ asks_of given_old ++ s.asks
   pub images : s.images ≡ after
 
-pub record TellsSettled {S : Type 0} (tells : S → Images → Type 0) (given : S → List Choice) (means : List Choice → Settled) (finished : List Finished) (left : List Waiting) (old new : S) : Type 0 where
+pub record TellsSettled {S : Type 0} (tells : S → Images → Type 0) (given : S → List Choice) (means : List Choice → Settled) (finished : List RequestEnd) (left : List Waiting) (old new : S) : Type 0 where
   pub after : Images
   pub told : tells new after
   pub meant : (journal : List Choice) → AnswersBy journal (given new) → IsSettled (means journal) finished left (given old) (given new) after
 
 -- What passes over a tree add and leave, so many at most behind the first.
-pub record ArePasses {S : Type 0} (tells : S → Images → Type 0) (runs fresh : S → Terms → Type 0) (given : S → List Choice) (moves : S → S → List Place → Type 0) (failmode : Failmode) (more attempt : ℕ) (tree left : List Waiting) (finished_old finished_new : List Finished) (freed_old freed_new : List Tree) (old new : S) : Type 0 where
+pub record ArePasses {S : Type 0} (tells : S → Images → Type 0) (runs fresh : S → Terms → Type 0) (given : S → List Choice) (moves : S → S → List Place → Type 0) (failmode : Failmode) (more attempt : ℕ) (tree left : List Waiting) (finished_old finished_new : List RequestEnd) (freed_old freed_new : List Tree) (old new : S) : Type 0 where
   pub passes : List (List Fated)
   pub some : 1 ≤ length passes
   pub chained : AreChained tree passes left

@@ -14,7 +14,7 @@ use Rattle.zio_gang.specs.Journals.{CompleteAfterChildren, CompleteOnce, asks_of
 use Rattle.zio_gang.specs.Rounds.{Ran, add_left, settle_each}
 use Rattle.zio_disks.specs.Whole.{IsWholeTree}
 use Rattle.zio_blocks.specs.Blocks.{AnswersBy}
-use Rattle.zio_course.specs.declared.runner.Finished.{Finished}
+use Rattle.zio_course.specs.declared.runner.RequestEnd.{RequestEnd}
 use Rattle.zio_course.specs.Runners.{AreRestsOf, AreRisingFrom, HasReadSize, MakesTree, completion_for, finished_of, has_claim, is_numbered, made_places, named_places, numbers_of, requests_in}
 use Rattle.zio_plain.specs.declared.waiting.Waiting.{Waiting}
 use Rattle.zio_plain.specs.OwnEnds.{AreAsked, Named}
@@ -51,26 +51,26 @@ abbrev pub trees_left : List TreeRun → List (List Pending)
 trees_left [] = []
 trees_left (r ∷ runs) = add_left (pendings r.left) (trees_left runs)
 
-abbrev pub ends_run : List TreeRun → List Finished
+abbrev pub ends_run : List TreeRun → List RequestEnd
 ends_run runs = flat_map (λ (r : TreeRun). all_ends r.passes) runs
 
 abbrev pub freed_run : List TreeRun → List Tree
 freed_run runs = flat_map (λ (r : TreeRun). all_freed r.passes) runs
 
 -- the trees ran as the definition says
-pub record IsRan (ran : Ran) (finished : List Finished) (left : List (List Pending)) (given_old given_new : List Choice) (after : Images) : Type 0 where
+pub record IsRan (ran : Ran) (finished : List RequestEnd) (left : List (List Pending)) (given_old given_new : List Choice) (after : Images) : Type 0 where
   pub ended : map finished_of ran.ended ≡ finished
   pub left_is : ran.left ≡ left
   pub asks : asks_of given_new ≡ asks_of given_old ++ ran.asks
   pub images : ran.images ≡ after
 
-pub record TellsRan {S : Type 0} (tells : S → Images → Type 0) (given : S → List Choice) (means : List Choice → Ran) (finished : List Finished) (left : List (List Pending)) (old new : S) : Type 0 where
+pub record TellsRan {S : Type 0} (tells : S → Images → Type 0) (given : S → List Choice) (means : List Choice → Ran) (finished : List RequestEnd) (left : List (List Pending)) (old new : S) : Type 0 where
   pub after : Images
   pub told : tells new after
   pub meant : (journal : List Choice) → AnswersBy journal (given new) → IsRan (means journal) finished left (given old) (given new) after
 
 -- What settling these trees adds and leaves.
-pub record AreRun {S : Type 0} (tells : S → Images → Type 0) (runs fresh : S → Terms → Type 0) (given : S → List Choice) (moves : S → S → List Place → Type 0) (failmode : Failmode) (trees left : List (List Pending)) (finished_old finished_new : List Finished) (freed_old freed_new : List Tree) (old new : S) : Type 0 where
+pub record AreRun {S : Type 0} (tells : S → Images → Type 0) (runs fresh : S → Terms → Type 0) (given : S → List Choice) (moves : S → S → List Place → Type 0) (failmode : Failmode) (trees left : List (List Pending)) (finished_old finished_new : List RequestEnd) (freed_old freed_new : List Tree) (old new : S) : Type 0 where
   pub each_run : List TreeRun
   pub whole : trees ≡ trees_in each_run
   pub left_are : left ≡ trees_left each_run
@@ -86,12 +86,12 @@ pub record AreRun {S : Type 0} (tells : S → Images → Type 0) (runs fresh : S
 
 -- What settling these trees comes to: requests that finished, by number, their completions in the order in which they did,
 -- what is left, and what was freed.
-pub record IsTreesRun {S : Type 0} (tells : S → Images → Type 0) (runs fresh : S → Terms → Type 0) (given : S → List Choice) (moves : S → S → List Place → Type 0) (round : ℕ) (failmode : Failmode) (trees left : List (List Pending)) (finished : List Finished) (completions : List Completion) (freed : List Tree) (old new : S) : Type 0 where
+pub record IsTreesRun {S : Type 0} (tells : S → Images → Type 0) (runs fresh : S → Terms → Type 0) (given : S → List Choice) (moves : S → S → List Place → Type 0) (round : ℕ) (failmode : Failmode) (trees left : List (List Pending)) (finished : List RequestEnd) (completions : List Completion) (freed : List Tree) (old new : S) : Type 0 where
   pub each_run : List TreeRun
   pub whole : trees ≡ trees_in each_run
   pub left_are : left ≡ trees_left each_run
   pub each : AllByRecursion IsTreeRun each_run
-  pub finished_are : finished ≡ merge_by (λ (f : Finished). f.request) (ends_run each_run) []
+  pub finished_are : finished ≡ merge_by (λ (f : RequestEnd). f.request) (ends_run each_run) []
   pub same : IsPermutation (ends_run each_run) finished
   pub completions_are : completions ≡ map (completion_for round) (ends_run each_run)
   pub freed_are : freed ≡ freed_run each_run
@@ -104,15 +104,15 @@ pub record IsTreesRun {S : Type 0} (tells : S → Images → Type 0) (runs fresh
 -- trees, with no claim among them; numbers of what finished rise; bytes are whole sectors, and all bytes of a block that was
 -- read without error; writes and claims alone made blocks; and each that finished has one completion, behind those of its
 -- children.
-pub record IsListEnd (round : ℕ) (trees left : List (List Pending)) (finished : List Finished) (completions : List Completion) : Type 0 where
+pub record IsListEnd (round : ℕ) (trees left : List (List Pending)) (finished : List RequestEnd) (completions : List Completion) : Type 0 where
   pub each : (n : ℕ) → count_by (is_numbered n) (numbers_of (requests_in trees))
-      ≡ count_by (is_numbered n) (map (λ (f : Finished). f.request) finished) + count_by (is_numbered n) (numbers_of (requests_in left))
+      ≡ count_by (is_numbered n) (map (λ (f : RequestEnd). f.request) finished) + count_by (is_numbered n) (numbers_of (requests_in left))
   pub rests : AreRestsOf trees left
   pub claims : has_claim (requests_in left) ≡ false
-  pub rising : AreRisingFrom 0 (map (λ (f : Finished). f.request) finished)
+  pub rising : AreRisingFrom 0 (map (λ (f : RequestEnd). f.request) finished)
   pub reads : AllByRecursion (HasReadSize trees) finished
   pub makers : AllByRecursion (MakesTree trees) finished
-  pub sectors : AllByRecursion (λ (f : Finished). length f.bytes % sector_size ≡ 0) finished
+  pub sectors : AllByRecursion (λ (f : RequestEnd). length f.bytes % sector_size ≡ 0) finished
   pub completed : AllByRecursion (λ c. Contains (map (completion_for round) finished) c) completions
   pub all_completed : AllByRecursion (λ c. Contains completions c) (map (completion_for round) finished)
   pub once : CompleteOnce completions

@@ -18,11 +18,12 @@ ghost use Rattle.zio_plain.specs.declared.waiting.Handed.{Handed as SeenHanded};
 ghost use Rattle.zio_plain.specs.declared.waiting.Waiting.{Waiting as SeenWaiting};
 
 use crate::children::{children_of, handed_last, merged};
+use crate::evaluated::Evaluated;
 use crate::judge::{Fate, Judged, judge};
 use crate::waiting::{Handed, Waiting};
 use crate::works::{OwnDone, OwnWork};
 use std::alloc::Global;
-use zio_course::{Finished, Stop};
+use zio_course::Stop;
 use zio_gang::Tree;
 use zio_script::Failmode;
 use zio_types::{List, NoMemory, Place};
@@ -31,7 +32,7 @@ use zio_types::{List, NoMemory, Place};
 #[derive(Debug, Drop)]
 pub(crate) struct Ends {
     /// In the order in which they finished.
-    pub(crate) finished: List<Finished>,
+    pub(crate) finished: List<Evaluated>,
     /// The blocks of frees without error.
     pub(crate) freed: List<Tree>,
 }
@@ -164,7 +165,7 @@ fn do_own<W: OwnWork>(
 /// freed will be.
 fn end_request<W: OwnWork>(
     works: &mut W,
-    finished: Finished,
+    finished: Evaluated,
     taken: List<Place>,
     freed: Option<Tree>,
     ends: &mut Ends,
@@ -178,7 +179,7 @@ fn end_request<W: OwnWork>(
     ensures given { W.given works.new ≡ W.given works.old }
     ensures err { OnErr result (result ≡ Err Stop.Memory) }
 {
-    if finished.error.is_some() {
+    if finished.error().is_some() {
         works.give_back(taken);
         note_end(ends, finished, None)?;
     } else {
@@ -187,7 +188,7 @@ fn end_request<W: OwnWork>(
     Ok(())
 }
 
-fn note_end(ends: &mut Ends, finished: Finished, freed: Option<Tree>) -> Result<(), NoMemory>
+fn note_end(ends: &mut Ends, finished: Evaluated, freed: Option<Tree>) -> Result<(), NoMemory>
     ensures finished { OnOk result (ends.new.finished ≡ ends.old.finished ++ finished ∷ []) }
     ensures freed { OnOk result (ends.new.freed ≡ ends.old.freed ++ option_to_list freed) }
 {

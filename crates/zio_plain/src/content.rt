@@ -11,7 +11,7 @@ ghost use Rattle.zio_plain.specs.Waits.{HasPointer, pointers_in};
 use crate::waiting::Kept;
 use std::alloc::Global;
 use zio_blkptr::Bp;
-use zio_content::content;
+use zio_gang::content;
 use zio_script::Body;
 use zio_types::{Bytes, List, NoMemory};
 

@@ -14,11 +14,12 @@ ghost use Rattle.zio_plain.specs.declared.waiting.Waiting.{Waiting as SeenWaitin
 ghost use Rattle.zio_plain.specs.declared.waiting.Kept.{Kept as SeenKept};
 
 use crate::children::{again_count, bits_of, finished_of, merged, worst_of};
+use crate::evaluated::Evaluated;
 use crate::owns::OwnEnd;
 use crate::waiting::{Handed, Kept, Waiting};
 use std::alloc::Global;
 use zio_counts::all_bits;
-use zio_course::Finished;
+use zio_course::RequestEnd;
 use zio_gang::Tree;
 use zio_script::{Failmode, Work};
 use zio_types::{Bits, List, NoMemory, worst};
@@ -26,7 +27,7 @@ use zio_types::{Bits, List, NoMemory, worst};
 /// A request finishes or goes again.
 #[derive(Debug, Drop)]
 pub(crate) enum Fate {
-    Ends(Finished),
+    Ends(Evaluated),
     Again(Waiting),
 }
 
@@ -136,22 +137,22 @@ fn ends(waiting: Waiting, own: OwnEnd, children: &[Kept]) -> Judged
     match error {
         None => Judged {
             handed,
-            fate: Fate::Ends(Finished {
+            fate: Fate::Ends(Evaluated::new(RequestEnd {
                 request: number,
                 error: None,
                 bytes: own.bytes,
                 tree: own.tree,
-            }),
+            })),
             unused: freed(&request.work, block),
         },
         Some(error) => Judged {
             handed,
-            fate: Fate::Ends(Finished {
+            fate: Fate::Ends(Evaluated::new(RequestEnd {
                 request: number,
                 error: Some(error),
                 bytes: own.bytes,
                 tree: None,
-            }),
+            })),
             unused: own.tree,
         },
     }

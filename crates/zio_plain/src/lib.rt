@@ -12,6 +12,7 @@
 mod attempt;
 mod children;
 mod content;
+mod evaluated;
 mod ground;
 mod judge;
 mod laws;
@@ -24,6 +25,7 @@ mod trees;
 mod waiting;
 mod works;
 
+pub use evaluated::Evaluated;
 pub use laws::children_hand_on_last;
 pub use plain::Plain;
 pub use tree::PlainTree;

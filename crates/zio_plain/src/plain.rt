@@ -1,5 +1,6 @@
 //! The runner of whole rounds over disks and a chooser of places.
 
+use crate::evaluated::Evaluated;
 use crate::ground::Ground;
 use crate::plain::ends::{begin_round, end_round};
 use crate::tree::{PlainTree, tree_over};
@@ -7,7 +8,7 @@ use crate::trees::{TreesEnd, run_trees};
 use std::alloc::Global;
 use std::marker::Model;
 use zio_blocks::{Chooser, LawfulChooser};
-use zio_course::{Job, RoundEnd, Runner, Stop};
+use zio_course::{Job, RequestEnd, RoundEnd, Runner, Stop};
 use zio_disks::Setting;
 use zio_gang::Tree;
 use zio_outside::Disk;
@@ -80,13 +81,18 @@ impl<D: Disk + Drop, C: LawfulChooser + Drop> Runner for Plain<D, C> {
     ghost use Rattle.zio_gang.specs.Attempts.{Pending};
     ghost use Rattle.zio_disks.specs.Disks.{AreSameDisks, Tell};
     ghost use Rattle.zio_disks.specs.Whole.{IsWholeTree};
+    ghost use Rattle.zio_course.specs.declared.runner.RequestEnd.{RequestEnd as SeenRequestEnd};
     ghost use Rattle.zio_course.specs.declared.runner.Stop.TheVariants.{Device, Memory};
     ghost use Rattle.zio_course.specs.Runners.{AnyRose, AreRunnable, DiffersInRound, IsNewTree, IsRound, IsRoundEnd, StandsAfter, Stays, StoppedAfter, ended_seen, fresh, made_trees, terms_at, tree_over};
     ghost use Rattle.zio_plain.specs.Plains.{standing_of};
 
     type Tree = PlainTree;
 
+    type Finished = Evaluated;
+
     ghost pending = { λ tree. tree };
+
+    ghost told = { λ finished. finished };
 
     ghost standing = { standing_of D.faults C.live };
 
@@ -116,16 +122,16 @@ impl<D: Disk + Drop, C: LawfulChooser + Drop> Runner for Plain<D, C> {
         tree_over(self.ground.alloc, request, birth, block, children)
     }
 
-    fn round(&mut self, job: Job<PlainTree>) -> Result<RoundEnd<PlainTree>, Stop>
+    fn round(&mut self, job: Job<PlainTree>) -> Result<RoundEnd<PlainTree, Evaluated>, Stop>
         requires runs { self.old.stopped ≡ false }
         requires next { self.old.last < job.round }
         requires trees { AreRunnable (standing_of D.faults C.live self.old) (map (λ (tree : List Pending). tree) job.trees) }
         ensures round { IfOk result (λ end. (before : Images) → Tell D.image self.old.disks before → (after : Images) × Tell D.image self.new.disks after
-            × IsRound (terms_at (standing_of D.faults C.live self.old) job.failmode job.round job.point) (map (λ (tree : List Pending). tree) job.trees) before after (ended_seen (λ (tree : List Pending). tree) end)
+            × IsRound (terms_at (standing_of D.faults C.live self.old) job.failmode job.round job.point) (map (λ (tree : List Pending). tree) job.trees) before after (ended_seen (λ (tree : List Pending). tree) (λ (f : SeenRequestEnd). f) end)
             × DiffersInRound (standing_of D.faults C.live self.old) (map (λ (tree : List Pending). tree) job.trees) before after) }
-        ensures end { IfOk result (λ end. IsRoundEnd (standing_of D.faults C.live self.old) job.round (map (λ (tree : List Pending). tree) job.trees) (ended_seen (λ (tree : List Pending). tree) end)) }
-        ensures fits { IfOk result (λ end. AllByRecursion IsWholeTree (made_trees end.finished)) }
-        ensures stands { IfOk result (λ end. StandsAfter (standing_of D.faults C.live self.old) (standing_of D.faults C.live self.new) job.round (map (λ (tree : List Pending). tree) job.trees) (ended_seen (λ (tree : List Pending). tree) end)) }
+        ensures end { IfOk result (λ end. IsRoundEnd (standing_of D.faults C.live self.old) job.round (map (λ (tree : List Pending). tree) job.trees) (ended_seen (λ (tree : List Pending). tree) (λ (f : SeenRequestEnd). f) end)) }
+        ensures fits { IfOk result (λ end. AllByRecursion IsWholeTree (made_trees (map (λ (f : SeenRequestEnd). f) end.finished))) }
+        ensures stands { IfOk result (λ end. StandsAfter (standing_of D.faults C.live self.old) (standing_of D.faults C.live self.new) job.round (map (λ (tree : List Pending). tree) job.trees) (ended_seen (λ (tree : List Pending). tree) (λ (f : SeenRequestEnd). f) end)) }
         ensures stopped { OnErr result (StoppedAfter (standing_of D.faults C.live self.old) (standing_of D.faults C.live self.new) job.round) }
         ensures device { IsErrOf result Device → AnyRose (map D.faults self.old.disks) (map D.faults self.new.disks) }
         ensures calm { IsErrOf result Memory → map D.faults self.new.disks ≡ map D.faults self.old.disks }
@@ -157,6 +163,10 @@ impl<D: Disk + Drop, C: LawfulChooser + Drop> Runner for Plain<D, C> {
             completions,
             entries,
         })
+    }
+
+    fn told(finished: Evaluated) -> RequestEnd {
+        finished.into_end()
     }
 
     ghost use Rattle.zio_disks.proofs.DiskLemmas.{same_itself as disks_itself, same_then as disks_then};

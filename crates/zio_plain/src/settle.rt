@@ -14,12 +14,10 @@ use crate::attempt::{Ends, PassEnd, attempt};
 use crate::waiting::Waiting;
 use crate::works::OwnWork;
 use std::alloc::Global;
+use zio_counts::REEXECUTIONS_MAX;
 use zio_course::Stop;
 use zio_script::Failmode;
 use zio_types::List;
-
-/// How often a tree goes again at once in a round.
-const REEXECUTIONS_MAX: u32 = 3;
 
 /// Settles a tree. It gives what is left: nothing where its root finished.
 pub(crate) fn settle<W: OwnWork>(

@@ -6,7 +6,7 @@ ghost use Rattle.zio_script.specs.declared.script.Request.{Request as SeenReques
 ghost use Rattle.zio_gang.specs.Attempts.{Pending};
 ghost use Rattle.zio_gang.specs.ByNumber.{merge_by};
 ghost use Rattle.zio_gang.specs.Rounds.{add_left};
-ghost use Rattle.zio_course.specs.declared.runner.Finished.{Finished as SeenFinished};
+ghost use Rattle.zio_course.specs.declared.runner.RequestEnd.{RequestEnd};
 ghost use Rattle.zio_course.specs.Runners.{AreRisingFrom, completion_for, has_claim, is_numbered, joined_trees, made_trees, requests_in, roots_of};
 ghost use Rattle.zio_disks.specs.Whole.{IsWholeTree};
 ghost use Rattle.zio_plain.specs.Posts.{IsOneTree};
@@ -14,12 +14,13 @@ ghost use Rattle.zio_plain.specs.Settlings.{AreRun, IsListEnd, IsTreesRun, named
 ghost use Rattle.zio_plain.specs.Waits.{pendings};
 
 use crate::attempt::Ends;
+use crate::evaluated::Evaluated;
 use crate::settle::settle;
 use crate::tree::PlainTree;
 use crate::waiting::Waiting;
 use crate::works::OwnWork;
 use std::alloc::Global;
-use zio_course::{Finished, Stop};
+use zio_course::Stop;
 use zio_gang::Tree;
 use zio_script::Failmode;
 use zio_types::{Completion, List, NoMemory};
@@ -62,7 +63,7 @@ fn note_left(left: &mut List<PlainTree>, rest: List<Waiting>) -> Result<(), NoMe
 #[derive(Debug, Drop)]
 pub(crate) struct TreesEnd {
     /// By number.
-    pub(crate) finished: List<Finished>,
+    pub(crate) finished: List<Evaluated>,
     /// What is left of the trees that are suspended.
     pub(crate) left: List<PlainTree>,
     /// In the order in which the requests finished.
@@ -107,29 +108,29 @@ pub(crate) fn run_trees<W: OwnWork>(
 fn completions_of(
     alloc: Global,
     round: u32,
-    finished: &[Finished],
+    finished: &[Evaluated],
 ) -> Result<List<Completion>, NoMemory>
     ensures { IfOk result (λ completions. completions ≡ map (completion_for round) finished.now) }
 {
     let mut completions = List::new(alloc);
     for one in finished {
         completions.push(Completion {
-            request: one.request,
+            request: one.request(),
             round,
-            error: one.error,
+            error: one.error(),
         })?;
     }
     Ok(completions)
 }
 
 /// In the order of their numbers, each of which stands once.
-fn by_number(finished: List<Finished>) -> List<Finished>
-    requires { (n : ℕ) → count_by (is_numbered n) (map (λ (f : SeenFinished). f.request) finished) ≤ 1 }
-    ensures order { result ≡ merge_by (λ (f : SeenFinished). f.request) finished [] }
-    ensures rising { AreRisingFrom 0 (map (λ (f : SeenFinished). f.request) result) }
+fn by_number(finished: List<Evaluated>) -> List<Evaluated>
+    requires { (n : ℕ) → count_by (is_numbered n) (map (λ (f : RequestEnd). f.request) finished) ≤ 1 }
+    ensures order { result ≡ merge_by (λ (f : RequestEnd). f.request) finished [] }
+    ensures rising { AreRisingFrom 0 (map (λ (f : RequestEnd). f.request) result) }
     ensures same { IsPermutation finished result }
 {
     let mut all = finished.into_vec();
-    all.sort_unstable_by_key(|one| one.request);
+    all.sort_unstable_by_key(|one| one.request());
     List::from_vec(all)
 }

@@ -11,13 +11,14 @@ mod refusal;
 mod rounds;
 mod run;
 
-use refusal::{CODE_MEMORY, code_of, refuse};
+use refusal::{code_of, refuse};
 use run::run;
 use std::alloc::AllocError;
 use std::env;
 use std::fs::File;
 use std::io::ErrorKind;
 use std::process::ExitCode;
+use zio_run::CODE_MEMORY;
 
 fn main(rt: HostRuntime) -> ExitCode {
     let _stand_ins = [stand_in(&rt), stand_in(&rt), stand_in(&rt)];

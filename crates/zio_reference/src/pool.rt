@@ -10,7 +10,7 @@ ghost use Rattle.zio_run.specs.Outcomes.{HasLawfulSize};
 
 use std::alloc::Global;
 use zio_disks::Setting;
-use zio_faults::Table;
+use zio_faults::FaultTable;
 use zio_outside::Disk;
 use zio_places::Space;
 use zio_run::{TopsFault, accepted_scripts_have_lawful_pools, sizes_of_disks, tops_over};
@@ -42,7 +42,7 @@ pub(crate) fn pool_over<D: Disk>(
     let space = space_of(alloc, tops.as_slice())?;
     let mut rows = List::new(alloc);
     rows.extend_from_slice(script.faults.as_slice())?;
-    let table = Table { rows };
+    let table = FaultTable { rows };
     let setting = Setting {
         tops,
         table,

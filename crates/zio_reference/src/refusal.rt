@@ -4,13 +4,8 @@ use std::alloc::AllocError;
 use zio_gang::Ending;
 use zio_outside::{Sink, StdSink};
 use zio_report::RunFault;
+use zio_run::{CODE_MEMORY, CODE_SINK};
 use zio_script::ScriptFault;
-
-/// The status where standard output couldn't be written.
-const CODE_SINK: u8 = 6;
-
-/// The status for want of memory.
-pub(crate) const CODE_MEMORY: u8 = 8;
 
 /// Why a script wasn't run to an ending.
 #[derive(Clone, Copy, Debug, PartialEq, Eq)]

@@ -13,7 +13,7 @@ use Rattle.zio_types.specs.declared.request.Kind.{Kind}
 use Rattle.zio_types.specs.declared.request.Kind.TheVariants.{Null, Read, Write, Free, Claim}
 use Rattle.zio_types.specs.Choices.{Choice, is_refused}
 use Rattle.zio_cksum.specs.Sums.{fletcher4}
-use Rattle.zio_report.specs.declared.report.Line.{Line}
+use Rattle.zio_report.specs.declared.report.ReportLine.{ReportLine}
 use Rattle.zio_report.specs.declared.report.LineResult.{LineResult}
 use Rattle.zio_report.specs.declared.report.LineResult.TheVariants.{Suspended, Failed, Done, Sized, Bytes}
 use Rattle.zio_report.specs.declared.report.RoundHead.{RoundHead}
@@ -101,8 +101,8 @@ IsWhole (Sized size) = Unit {0}
 IsWhole (Bytes bytes) = length bytes % 512 ≡ 0
 
 -- so it is with each of the lines
-abbrev pub AreWhole : List Line → Type 0
-AreWhole lines = AllByRecursion (λ (l : Line). IsWhole l.result) lines
+abbrev pub AreWhole : List ReportLine → Type 0
+AreWhole lines = AllByRecursion (λ (l : ReportLine). IsWhole l.result) lines
 
 -- the name of a request that has one
 abbrev pub name_text : Option (List ℕ) → List ℕ
@@ -110,7 +110,7 @@ name_text None = []
 name_text (Some name) = spaced name
 
 -- the line of one request
-abbrev pub line_text : Bool → Line → List ℕ
+abbrev pub line_text : Bool → ReportLine → List ℕ
 line_text with_bytes line =
     as_line (decimal line.number ++ spaced (kind_text line.kind) ++ name_text line.name
     ++ spaced (result_text with_bytes line.result))
@@ -151,7 +151,7 @@ journal_text choices completions = flat_map choice_text choices ++ order_text co
 -- ---- the round
 
 -- the text of a round: its head, its requests, and with the journal its choices and completions; a summary shows none
-abbrev pub round_text : Show → RoundHead → List Line → List Choice → List Completion → List ℕ
+abbrev pub round_text : Show → RoundHead → List ReportLine → List Choice → List Completion → List ℕ
 round_text (Report journal bytes) head lines choices completions =
     head_text head ++ flat_map (line_text bytes) lines ++ when journal (journal_text choices completions)
 round_text Summary head lines choices completions = []

@@ -15,7 +15,7 @@ use Rattle.zio_gang.specs.ByNumber.{merge_by}
 use Rattle.zio_gang.specs.Journals.{choices_in, completions_in}
 use Rattle.zio_gang.specs.Runs.{Event, Round, rounds_of}
 use Rattle.zio_gang.specs.Runs.Event.{RanRound, HeldBatch}
-use Rattle.zio_report.specs.declared.report.Line.{Line}
+use Rattle.zio_report.specs.declared.report.ReportLine.{ReportLine}
 use Rattle.zio_report.specs.declared.report.LineResult.{LineResult}
 use Rattle.zio_report.specs.declared.report.LineResult.TheVariants.{Suspended, Failed, Done, Sized, Bytes}
 use Rattle.zio_report.specs.declared.report.RoundHead.{RoundHead}
@@ -44,7 +44,7 @@ result_with None e = good_result (kind_of e.request.work) e
 result_with (Some error) e = Failed error
 
 -- the line of a request that finished
-abbrev pub line_of_ended : Ended → Line
+abbrev pub line_of_ended : Ended → ReportLine
 line_of_ended e = record {
   number = e.request.number;
   kind = kind_of e.request.work;
@@ -53,7 +53,7 @@ line_of_ended e = record {
 }
 
 -- the line of a request that is left
-abbrev pub line_of_pending : Pending → Line
+abbrev pub line_of_pending : Pending → ReportLine
 line_of_pending p = record {
   number = p.request.number;
   kind = kind_of p.request.work;
@@ -62,11 +62,11 @@ line_of_pending p = record {
 }
 
 -- lines in the order of their requests' numbers
-abbrev pub by_number : List Line → List Line
-by_number lines = merge_by (λ (l : Line). l.number) lines []
+abbrev pub by_number : List ReportLine → List ReportLine
+by_number lines = merge_by (λ (l : ReportLine). l.number) lines []
 
 -- every request that was in the round, by number: those that finished in it, and those that are left of its trees
-abbrev pub lines_of : Round → List Line
+abbrev pub lines_of : Round → List ReportLine
 lines_of round = by_number (map line_of_ended round.ended ++ flat_map (map line_of_pending) round.left)
 
 -- what the head of a round tells

@@ -41,7 +41,7 @@ pub enum LineResult {
 
 /// What is shown of one request.
 #[derive(Debug, Drop)]
-pub struct Line {
+pub struct ReportLine {
     pub number: ReqNo,
     pub kind: Kind,
     pub name: Option<Name>,

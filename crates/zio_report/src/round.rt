@@ -5,7 +5,7 @@ ghost use Rattle.std.specs.List.{flat_map};
 ghost use Rattle.zio_report.specs.Lines.{AreWhole, IsWhole, head_text, line_text, name_text, result_text, round_text, sums_text};
 
 use crate::journal::journal_lines;
-use crate::report::{Line, LineResult, RoundHead, Show};
+use crate::report::{LineResult, ReportLine, RoundHead, Show};
 use crate::words::{errno_word, kind_word};
 use std::alloc::{AllocError, Global};
 use std::str;
@@ -22,7 +22,7 @@ pub fn render(
     alloc: Global,
     show: &Show,
     head: &RoundHead,
-    requests: &[Line],
+    requests: &[ReportLine],
     entries: &[Entry],
     completions: &[Completion],
 ) -> Result<Text, NoMemory>
@@ -58,7 +58,7 @@ fn request_lines(
     alloc: Global,
     out: &mut String,
     with_bytes: bool,
-    requests: &[Line],
+    requests: &[ReportLine],
 ) -> Result<(), AllocError>
     requires { AreWhole requests.now }
     ensures { OnOk result (string_bytes out.new ≡ string_bytes out.old ++ flat_map (line_text with_bytes) requests.now) }
@@ -73,7 +73,7 @@ fn request_line(
     alloc: Global,
     out: &mut String,
     with_bytes: bool,
-    line: &Line,
+    line: &ReportLine,
 ) -> Result<(), AllocError>
     requires { IsWhole line.now.result }
     ensures { OnOk result (string_bytes out.new ≡ string_bytes out.old ++ line_text with_bytes line.now) }

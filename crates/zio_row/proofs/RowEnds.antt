@@ -14,9 +14,10 @@ use Rattle.zio_script.specs.declared.script.Script.{Script}
 use Rattle.zio_script.specs.declared.script.ScriptFault.{ScriptFault}
 use Rattle.zio_script.specs.Grammar.{IsScriptOf, reading}
 use Rattle.zio_cksum.specs.Images.{Images}
+use Rattle.zio_gang.specs.declared.ending.Ending.{Ending}
 use Rattle.zio_gang.specs.Runs.{Course, ending}
 use Rattle.zio_report.specs.declared.report.Show.TheVariants.{Report}
-use Rattle.zio_report.specs.Meanings.{IsMeaning, records_of}
+use Rattle.zio_report.specs.Meanings.{IsMeaning, course_of, records_of}
 use Rattle.zio_report.specs.Reports.{end_code, run_text}
 use Rattle.zio_run.specs.declared.words.Command.{Command}
 use Rattle.zio_run.specs.declared.words.Command.TheVariants.{Run}
@@ -104,15 +105,16 @@ row_by : (image : List ℕ) (journal : Journal) (old new : List ℕ → Type 0) 
     → Headline (Report false false) row_script row_names (image ∷ []) journal told old new code → IsRow image old new told code
 row_by image journal old new told code long h =
     let m = h.meaning in
-    let run = row_runs journal.places image long m.places in
+    let run = row_runs journal.places image long m.run.places in
     let printed : h.printed ≡ row_report =
-    m.report
+    m.run.report
+    ∙ (ap (λ (e : Ending). run_text (Report false false) (record { tops = 1; images = 1; requests = 2 }) (records_of journal) (course_of row_script (image ∷ []) journal).events e) m.run.ending_is
     ∙ (ap (λ (c : Course). run_text (Report false false) (record { tops = 1; images = 1; requests = 2 }) (records_of journal) c.events (ending c.state)) run.is
-    ∙ report_is run.sector image (records_of journal)) in
-    let after : h.after ≡ overwritten image (run.sector * 512) (replicate 512 0x41) ∷ [] = m.images ∙ ap (λ (c : Course). c.state.images) run.is in
+    ∙ report_is run.sector image (records_of journal))) in
+    let after : h.after ≡ overwritten image (run.sector * 512) (replicate 512 0x41) ∷ [] = m.run.images ∙ ap (λ (c : Course). c.state.images) run.is in
     let stored : TellEach told row_names (overwritten image (run.sector * 512) (replicate 512 0x41) ∷ []) = subst (TellEach told row_names) after h.stored in
     record {
-      code_is = m.code_is ∙ ap (λ (c : Course). end_code (ending c.state)) run.is;
+      code_is = m.code_is ∙ (ap (λ (e : Ending). end_code e) m.run.ending_is ∙ ap (λ (c : Course). end_code (ending c.state)) run.is);
       written = λ held was. subst (λ (text : List ℕ). new (held ++ text)) printed (h.written held was);
       sector = run.sector;
       inside = run.inside;

@@ -5,19 +5,19 @@ use zio_outside::{Failed, Sink};
 
 /// A sink that takes every piece. It holds them while memory is granted, and from then on tells nothing.
 #[derive(Debug, Drop)]
-pub struct Kept {
+pub struct GrowingSink {
     bytes: Vec<u8>,
     is_whole: bool,
 }
 
-impl Kept {
+impl GrowingSink {
     ghost use Rattle.zio_row.specs.Sinks.{holds};
 
     /// An empty sink, without memory.
-    pub fn new(alloc: Global) -> Kept
+    pub fn new(alloc: Global) -> GrowingSink
         ensures { holds result [] }
     {
-        Kept {
+        GrowingSink {
             bytes: Vec::new(alloc),
             is_whole: true,
         }
@@ -35,7 +35,7 @@ impl Kept {
     }
 }
 
-impl Sink for Kept {
+impl Sink for GrowingSink {
     ghost use Rattle.zio_row.specs.Sinks.{holds};
     ghost use Rattle.std.proofs.Common.{arith};
     ghost use Rattle.zio_outside.specs.Outside.{count_max};

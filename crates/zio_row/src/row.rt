@@ -7,7 +7,7 @@ ghost use Rattle.zio_row.specs.Sinks.{holds};
 use crate::Kept;
 use std::alloc::Global;
 use zio_outside::{MemDisk, MemShelf, MemSource, Sink};
-use zio_run::zio_serial_main;
+use zio_run::{CODE_MEMORY, zio_serial_main};
 use zio_types::{Bytes, Journal, List, NoMemory, Status, Text};
 
 /// A block is written, and read in the next batch.
@@ -15,9 +15,6 @@ const SCRIPT: &[u8] = b"top 0\n1 write x sha256 1 sync fill 41 512\ngo\n2 read x
 
 /// The bytes of the image.
 const IMAGE_LEN: usize = 65536;
-
-/// The code for want of memory.
-const CODE_MEMORY: u8 = 8;
 
 /// What the run came to.
 #[derive(Drop)]

@@ -10,7 +10,7 @@ use Rattle.zio_report.specs.declared.report.RunFault.{RunFault}
 use Rattle.zio_report.specs.declared.report.RunFault.TheVariants.{Device, Sink, Memory}
 use Rattle.zio_report.specs.declared.report.Show.{Show}
 use Rattle.zio_report.specs.Reports.{end_code}
-use Rattle.zio_run.specs.declared.outcome.Outcome.TheVariants.{Ended, Unfit, Cut}
+use Rattle.zio_run.specs.declared.outcome.RunOutcome.TheVariants.{Ended, Unfit, Cut}
 use Rattle.zio_run.specs.Causes.{AreUntouched}
 use Rattle.zio_run.specs.Codes.{CameOut, HasRun, IsFaultTold, IsScriptTold, RunEnds, ScriptEnds}
 use Rattle.zio_run.specs.Codes.RunEnds.{AsScript, Refused, RefusedCut, Wanting}

@@ -26,8 +26,8 @@ use Rattle.zio_run.specs.declared.image.TheConstants.{IMAGE_LEN_MAX}
 use Rattle.zio_run.specs.Grounds.{CameOutOver, HasRunOver, IsSettingOf, WasCutOver}
 use Rattle.zio_run.specs.Outcomes.{HasLawfulSize}
 use Rattle.zio_run.specs.Seen.{SinkSeen}
-use Rattle.zio_run.specs.declared.outcome.Outcome.{Outcome}
-use Rattle.zio_run.specs.declared.outcome.Outcome.TheVariants.{Ended, Cut}
+use Rattle.zio_run.specs.declared.outcome.RunOutcome.{RunOutcome}
+use Rattle.zio_run.specs.declared.outcome.RunOutcome.TheVariants.{Ended, Cut}
 use Rattle.zio_run.specs.Tops.{HaveImages, IsLawfulPool, leaves_of}
 use Rattle.zio_run.proofs.EngineLemmas.{lines_differ, lines_once, tops_each}
 
@@ -79,12 +79,12 @@ setting_of script sizes tops rows point pool ok named bears lawful short count s
 
 -- rounds that ended or were cut short are the outcome
 pub came_over : {D : Type 0} (faults : D → ℕ) (image : D → List ℕ → Type 0) (show : Show) (script : Script) (old new : List D) (old_sink new_sink : SinkSeen) (old_journal journal : Journal)
-    (ended : Result Ending RunFault) (outcome : Outcome) → HaveImages (length old) (leaves_of script.tops)
+    (ended : Result Ending RunFault) (outcome : RunOutcome) → HaveImages (length old) (leaves_of script.tops)
     → IfOk ended (λ ending. HasRunOver faults image show script ending old new old_sink new_sink journal)
     → IfErr ended (λ fault. WasCutOver faults image show script fault old new old_sink new_sink journal)
     → MatchResult ended (λ ending. outcome ≡ Ended ending) (λ fault. outcome ≡ Cut fault)
     → CameOutOver faults image show script old new old_sink new_sink old_journal journal outcome
 came_over faults image show script old new old_sink new_sink old_journal journal (Ok ending) outcome have ran cut is =
-    subst (λ (o : Outcome). CameOutOver faults image show script old new old_sink new_sink old_journal journal o) (sym is) (have, ran)
+    subst (λ (o : RunOutcome). CameOutOver faults image show script old new old_sink new_sink old_journal journal o) (sym is) (have, ran)
 came_over faults image show script old new old_sink new_sink old_journal journal (Err fault) outcome have ran cut is =
-    subst (λ (o : Outcome). CameOutOver faults image show script old new old_sink new_sink old_journal journal o) (sym is) (inl (have, cut))
+    subst (λ (o : RunOutcome). CameOutOver faults image show script old new old_sink new_sink old_journal journal o) (sym is) (inl (have, cut))

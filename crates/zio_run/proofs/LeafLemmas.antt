@@ -7,7 +7,8 @@ use Rattle.std.specs.Option.{option_or}
 use Rattle.zio_types.specs.declared.request.Kind.{Kind}
 use Rattle.zio_types.specs.declared.request.Kind.TheVariants.{Null as NullKind, Read as ReadKind, Write as WriteKind, Free as FreeKind, Claim as ClaimKind}
 use Rattle.zio_cksum.proofs.AllLemmas.{all_append, all_weaker}
-use Rattle.zio_script.specs.declared.limits.TheConstants.{LEAF_MAX, TOP_LEAVES_MAX}
+use Rattle.zio_types.specs.declared.place.TheConstants.{TOP_LEAVES_MAX}
+use Rattle.zio_script.specs.declared.limits.TheConstants.{LEAF_MAX}
 use Rattle.zio_script.specs.declared.script.Failmode.{Failmode}
 use Rattle.zio_script.specs.Lines.{◌>>=◌, Shape, FailmodeShape, TopShape, FaultShape, RequestShape, GoShape, ClearShape, ScriptLine, FailmodeLine, LeavesLine, FaultLine, RequestLine, GoLine, ClearLine, TopWords, body_found, clear_shape, failmode_shape, fault_shape, first_of_end, go_shape, has_leaves, kind_shape, line_of, named_shape, new_request_of, numbers, request_shape, row_of, sector_number, shape_of, tail_of, top_shape, top_words}
 use Rattle.zio_script.specs.Whys.{is_among, is_leaf, repeats_leaf}

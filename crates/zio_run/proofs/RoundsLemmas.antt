@@ -13,9 +13,9 @@ use Rattle.zio_disks.specs.Disks.{Tell}
 use Rattle.zio_report.specs.declared.report.RunFault.{RunFault}
 use Rattle.zio_report.specs.declared.report.RunFault.TheVariants.{Device, Sink, Memory}
 use Rattle.zio_report.specs.declared.report.Show.{Show}
-use Rattle.zio_report.specs.Meanings.{tops_of}
+use Rattle.zio_report.specs.Meanings.{IsWholeRun, tops_of}
 use Rattle.zio_report.specs.Reports.{RunSize}
-use Rattle.zio_course.specs.SoFar.{IsCut, IsCutText, IsFullText, IsWholeRun}
+use Rattle.zio_course.specs.SoFar.{IsCut, IsCutText, IsFullText}
 use Rattle.zio_run.specs.Grounds.{HasRunOver, IsCauseOver, WasCutOver}
 use Rattle.zio_run.specs.Seen.{SinkSeen, stopping_plainly}
 

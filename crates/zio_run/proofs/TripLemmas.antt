@@ -11,11 +11,10 @@ use Rattle.zio_disks.specs.Disks.{AreSameDisks, KeepHomes, StaySound, StillTell,
 use Rattle.zio_report.specs.declared.report.RunFault.{RunFault}
 use Rattle.zio_report.specs.declared.report.RunFault.TheVariants.{Device, Sink, Memory}
 use Rattle.zio_report.specs.declared.report.Show.{Show}
-use Rattle.zio_report.specs.Meanings.{IsMeaning, course_of, records_of, run_size_of}
-use Rattle.zio_report.specs.Reports.{end_code, run_text}
-use Rattle.zio_course.specs.SoFar.{IsWholeRun}
-use Rattle.zio_run.specs.declared.outcome.Outcome.{Outcome}
-use Rattle.zio_run.specs.declared.outcome.Outcome.TheVariants.{Ended, Unfit, Cut}
+use Rattle.zio_report.specs.Meanings.{IsMeaning, IsWholeRun, run_size_of}
+use Rattle.zio_report.specs.Reports.{end_code}
+use Rattle.zio_run.specs.declared.outcome.RunOutcome.{RunOutcome}
+use Rattle.zio_run.specs.declared.outcome.RunOutcome.TheVariants.{Ended, Unfit, Cut}
 use Rattle.zio_run.specs.Causes.{AreMeasured, AreUntouched}
 use Rattle.zio_run.specs.Codes.{CameOut, IsCauseOf}
 use Rattle.zio_run.specs.Grounds.{CameOutOver, IsCauseOver}
@@ -204,14 +203,7 @@ trip_rose {faults = faults} {faults_at_fetch = faults_at_fetch} {disks = disks} 
 -- a whole run is the meaning of its script
 pub whole_meaning : (show : Show) (script : Script) (before : Images) (journal : Journal) (after : Images) (printed : List ℕ) (ending : Ending)
     → IsWholeRun show (run_size_of script before) script before journal after printed ending → IsMeaning show script before journal after printed (end_code ending)
-whole_meaning show script before journal after printed ending w = record {
-  images = w.images;
-  report = w.report ∙ ap (λ (e : Ending). run_text show (run_size_of script before) (records_of journal) (course_of script before journal).events e) w.ending_is;
-  places = w.places;
-  rounds = w.rounds;
-  completions = w.completions;
-  code_is = ap (λ (e : Ending). end_code e) w.ending_is;
-}
+whole_meaning show script before journal after printed ending w = record { end = ending; run = w; code_is = refl }
 
 cause_of : {D : Type 0} {bytes faults faults_at_fetch : D → ℕ} {home image : D → List ℕ → Type 0} {sound : D → Type 0} {names : List (List ℕ)} {disks used : List D} {old mid new : ShelfSeen}
     → (old_sink new_sink : SinkSeen) → Trip bytes faults faults_at_fetch home image sound names disks used old mid new
@@ -224,7 +216,7 @@ cause_of old_sink new_sink t Memory cause = tt
 pub came_out : {D : Type 0} {bytes faults faults_at_fetch : D → ℕ} {home image : D → List ℕ → Type 0} {sound : D → Type 0} {names : List (List ℕ)} {disks used : List D} {old mid new : ShelfSeen}
     → (show : Show) (script : Script) (old_sink new_sink : SinkSeen) (old_journal journal : Journal)
     → Trip bytes faults faults_at_fetch home image sound names disks used old mid new
-    → (outcome : Outcome) → CameOutOver faults image show script disks used old_sink new_sink old_journal journal outcome
+    → (outcome : RunOutcome) → CameOutOver faults image show script disks used old_sink new_sink old_journal journal outcome
     → CameOut show script names old_sink new_sink old new old_journal journal outcome
 came_out show script old_sink new_sink old_journal journal t (Ended ending) over =
     let ran = over.1 in

@@ -15,8 +15,8 @@ use Rattle.zio_report.specs.declared.report.Show.{Show}
 use Rattle.zio_report.specs.Meanings.{run_size_of, tops_of}
 use Rattle.zio_report.specs.Reports.{end_code}
 use Rattle.zio_course.specs.SoFar.{IsCut, IsCutText, IsFullText}
-use Rattle.zio_run.specs.declared.outcome.Outcome.{Outcome}
-use Rattle.zio_run.specs.declared.outcome.Outcome.TheVariants.{Ended, Unfit, Cut}
+use Rattle.zio_run.specs.declared.outcome.RunOutcome.{RunOutcome}
+use Rattle.zio_run.specs.declared.outcome.RunOutcome.TheVariants.{Ended, Unfit, Cut}
 use Rattle.zio_run.specs.Causes.{AreFit, AreUntouched, IsLeafCause}
 use Rattle.zio_run.specs.Headline.{Headline, TellEach}
 use Rattle.zio_run.specs.Outcomes.{IsEnding, cut_code, images_line, script_line}
@@ -70,7 +70,7 @@ pub record WasUnbegun (old_sink new_sink : SinkSeen) (old new : ShelfSeen) (old_
 -- ---- a run of a script
 
 -- how a run of a script over the images under these names came out
-abbrev pub CameOut : Show → Script → List (List ℕ) → SinkSeen → SinkSeen → ShelfSeen → ShelfSeen → Journal → Journal → Outcome → Type 0
+abbrev pub CameOut : Show → Script → List (List ℕ) → SinkSeen → SinkSeen → ShelfSeen → ShelfSeen → Journal → Journal → RunOutcome → Type 0
 CameOut show script names old_sink new_sink old new old_journal journal (Ended ending) =
     HasRun show script names (end_code ending) old_sink new_sink old new journal
 CameOut show script names old_sink new_sink old new old_journal journal (Unfit leaf) =

@@ -8,12 +8,12 @@ use Rattle.zio_gang.specs.declared.ending.Ending.{Ending}
 use Rattle.zio_report.specs.declared.report.RunFault.{RunFault}
 use Rattle.zio_report.specs.declared.report.RunFault.TheVariants.{Device, Sink, Memory}
 use Rattle.zio_report.specs.declared.report.Show.{Show}
-use Rattle.zio_report.specs.Meanings.{run_size_of, tops_of}
-use Rattle.zio_course.specs.SoFar.{IsCut, IsCutText, IsFullText, IsWholeRun}
+use Rattle.zio_report.specs.Meanings.{IsWholeRun, run_size_of, tops_of}
+use Rattle.zio_course.specs.SoFar.{IsCut, IsCutText, IsFullText}
 use Rattle.zio_disks.specs.Disks.{AnyRose, Tell}
-use Rattle.zio_engine.specs.Graphs.{CanRun}
-use Rattle.zio_run.specs.declared.outcome.Outcome.{Outcome}
-use Rattle.zio_run.specs.declared.outcome.Outcome.TheVariants.{Ended, Unfit, Cut}
+use Rattle.zio_graph.specs.Graphs.{CanRun}
+use Rattle.zio_run.specs.declared.outcome.RunOutcome.{RunOutcome}
+use Rattle.zio_run.specs.declared.outcome.RunOutcome.TheVariants.{Ended, Unfit, Cut}
 use Rattle.zio_run.specs.Seen.{SinkSeen, stopping_plainly}
 use Rattle.zio_run.specs.Tops.{HaveImages, IsFirstMissing, leaves_of}
 
@@ -63,7 +63,7 @@ pub record WasCutOver {D : Type 0} (faults : D → ℕ) (image : D → List ℕ 
   pub told : (before : Images) → Tell image old before → IsCutOver image show script fault old new old_sink new_sink journal before
 
 -- how the run came out; where it wasn't begun, nothing has changed
-abbrev pub CameOutOver : {D : Type 0} → (D → ℕ) → (D → List ℕ → Type 0) → Show → Script → List D → List D → SinkSeen → SinkSeen → Journal → Journal → Outcome → Type 0
+abbrev pub CameOutOver : {D : Type 0} → (D → ℕ) → (D → List ℕ → Type 0) → Show → Script → List D → List D → SinkSeen → SinkSeen → Journal → Journal → RunOutcome → Type 0
 CameOutOver faults image show script old new old_sink new_sink old_journal journal (Ended ending) =
     HaveImages (length old) (leaves_of script.tops) × HasRunOver faults image show script ending old new old_sink new_sink journal
 CameOutOver faults image show script old new old_sink new_sink old_journal journal (Unfit leaf) =

@@ -3,7 +3,8 @@ use Rattle.std.specs.Prelude.{◌≡◌, ◌≢◌, ◌<◌, ◌≤◌, ℕ, Lis
 use Rattle.std.specs.List.{AllByRecursion, flat_map}
 use Rattle.zio_types.specs.Places.{is_unit}
 use Rattle.zio_faults.specs.Hits.{RowFits}
-use Rattle.zio_script.specs.declared.limits.TheConstants.{LEAF_MAX, TOPS_MAX, TOP_LEAVES_MAX}
+use Rattle.zio_types.specs.declared.place.TheConstants.{TOP_LEAVES_MAX}
+use Rattle.zio_script.specs.declared.limits.TheConstants.{LEAF_MAX, TOPS_MAX}
 use Rattle.zio_script.specs.declared.script.Script.{Script}
 use Rattle.zio_script.specs.declared.script.TopLine.{TopLine}
 use Rattle.zio_trace.specs.TreeOrders.{Pairs}

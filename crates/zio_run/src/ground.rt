@@ -11,19 +11,18 @@ ghost use Rattle.zio_run.specs.Seen.{sink_by};
 ghost use Rattle.zio_run.specs.Tops.{IsFirstMissing, leaves_of};
 
 use crate::accepted_scripts_have_lawful_pools;
-use crate::outcome::Outcome;
+use crate::outcome::RunOutcome;
 use crate::rounds::run_rounds;
 use crate::tops::{TopsFault, copy_of, sizes_of_disks, tops_over};
 use std::alloc::Global;
 use zio_disks::Setting;
-use zio_engine::Graph;
-use zio_faults::Table;
+use zio_faults::FaultTable;
 use zio_gang::Ending;
-use zio_graph::DisksBack;
-use zio_line::{FirstPicks, Picks, from_seed};
+use zio_graph::Graph;
 use zio_outside::{Disk, Sink};
 use zio_report::{RunFault, Show};
 use zio_script::Script;
+use zio_turns::{DisksBack, FirstPicks, Picks, from_seed};
 use zio_types::{Journal, List, NoMemory, Top};
 
 /// Runs the script over disks whose sizes were measured, and hands them back. The turns are picked from a seed, or the
@@ -36,7 +35,7 @@ pub(crate) fn run_on_disks<O: Sink, D: Disk + Drop>(
     disks: Vec<D>,
     out: &mut O,
     journal: &mut Journal,
-) -> (Outcome, Vec<D>)
+) -> (RunOutcome, Vec<D>)
     requires script { (text : Seq ℕ) × IsScriptOf text script.now }
     requires measured { AllByRecursion HasLawfulSize (map D.bytes disks.items) }
     requires few { length disks.items ≤ 16 }
@@ -44,7 +43,7 @@ pub(crate) fn run_on_disks<O: Sink, D: Disk + Drop>(
     ensures outcome { let seen = sink_by O.holds O.faults in
         CameOutOver D.faults D.image show.now script.now disks.items result.1.items (seen out.old) (seen out.new)
         journal.old journal.new result.0 }
-    ensures unwritten { (leaf : ℕ) → result.0 ≡ Outcome.Unfit leaf → out.new ≡ out.old }
+    ensures unwritten { (leaf : ℕ) → result.0 ≡ RunOutcome.Unfit leaf → out.new ≡ out.old }
     ensures same { AreSameDisks D.bytes D.faults D.faults_at_fetch D.home D.image D.sound disks.items result.1.items }
 {
     match pool_over(alloc, script, disks.as_slice()) {
@@ -64,8 +63,8 @@ pub(crate) fn run_on_disks<O: Sink, D: Disk + Drop>(
                 alloc, script, show, setting, tops, FirstPicks, disks, out, journal,
             ),
         },
-        Err(TopsFault::Leaf(leaf)) => (Outcome::Unfit(leaf), disks),
-        Err(TopsFault::Memory) => (Outcome::Cut(RunFault::Memory), disks),
+        Err(TopsFault::Leaf(leaf)) => (RunOutcome::Unfit(leaf), disks),
+        Err(TopsFault::Memory) => (RunOutcome::Cut(RunFault::Memory), disks),
     }
 }
 
@@ -80,7 +79,7 @@ fn run_by_picks<O: Sink, D: Disk + Drop, P: Picks + Drop>(
     disks: Vec<D>,
     out: &mut O,
     journal: &mut Journal,
-) -> (Outcome, Vec<D>)
+) -> (RunOutcome, Vec<D>)
     requires script { (text : Seq ℕ) × IsScriptOf text script.now }
     requires setting { IsSettingOf script.now (map D.bytes disks.items) setting }
     requires tops { tops ≡ setting.tops }
@@ -89,7 +88,7 @@ fn run_by_picks<O: Sink, D: Disk + Drop, P: Picks + Drop>(
     ensures outcome { let seen = sink_by O.holds O.faults in
         CameOutOver D.faults D.image show.now script.now disks.items result.1.items (seen out.old) (seen out.new)
         journal.old journal.new result.0 }
-    ensures unwritten { (leaf : ℕ) → result.0 ≡ Outcome.Unfit leaf → out.new ≡ out.old }
+    ensures unwritten { (leaf : ℕ) → result.0 ≡ RunOutcome.Unfit leaf → out.new ≡ out.old }
     ensures same { AreSameDisks D.bytes D.faults D.faults_at_fetch D.home D.image D.sound disks.items result.1.items }
 {
     let images = disks.len() as u32;
@@ -98,16 +97,16 @@ fn run_by_picks<O: Sink, D: Disk + Drop, P: Picks + Drop>(
             let (ended, disks) = run_rounds(alloc, script, show, images, engine, out, journal);
             (outcome_of(ended), disks)
         }
-        Err(DisksBack { disks }) => (Outcome::Cut(RunFault::Memory), disks),
+        Err(DisksBack { disks }) => (RunOutcome::Cut(RunFault::Memory), disks),
     }
 }
 
-fn outcome_of(ended: Result<Ending, RunFault>) -> Outcome
-    ensures { MatchResult ended (λ ending. result ≡ Outcome.Ended ending) (λ fault. result ≡ Outcome.Cut fault) }
+fn outcome_of(ended: Result<Ending, RunFault>) -> RunOutcome
+    ensures { MatchResult ended (λ ending. result ≡ RunOutcome.Ended ending) (λ fault. result ≡ RunOutcome.Cut fault) }
 {
     match ended {
-        Ok(ending) => Outcome::Ended(ending),
-        Err(fault) => Outcome::Cut(fault),
+        Ok(ending) => RunOutcome::Ended(ending),
+        Err(fault) => RunOutcome::Cut(fault),
     }
 }
 
@@ -131,7 +130,7 @@ fn pool_over<D: Disk>(
     let same = copy_of(alloc, tops.as_slice())?;
     let mut rows = List::new(alloc);
     rows.extend_from_slice(script.faults.as_slice())?;
-    let table = Table { rows };
+    let table = FaultTable { rows };
     Ok((
         Setting {
             tops,

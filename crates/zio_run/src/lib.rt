@@ -24,6 +24,7 @@ mod words;
 
 pub use image::{IMAGE_LEN_MAX, IMAGE_LEN_MIN};
 pub use laws::accepted_scripts_have_lawful_pools;
+pub use lines::{CODE_DEVICE, CODE_MEMORY, CODE_SINK, CODE_SOURCE};
 pub use names::IMAGES_MAX;
 pub use options::{WORKERS_MAX, WORKERS_USUAL};
 pub use serial::zio_serial_main;

@@ -10,16 +10,16 @@ use zio_script::ScriptFault;
 use zio_types::Status;
 
 /// The code where the source failed.
-pub(crate) const CODE_SOURCE: u8 = 5;
+pub const CODE_SOURCE: u8 = 5;
 
 /// The code where the sink failed.
-pub(crate) const CODE_SINK: u8 = 6;
+pub const CODE_SINK: u8 = 6;
 
 /// The code where a disk failed.
-pub(crate) const CODE_DEVICE: u8 = 7;
+pub const CODE_DEVICE: u8 = 7;
 
 /// The code for want of memory.
-pub(crate) const CODE_MEMORY: u8 = 8;
+pub const CODE_MEMORY: u8 = 8;
 
 pub(crate) fn script_line(alloc: Global, fault: ScriptFault) -> Result<String, AllocError>
     ensures { IfOk result (λ line. string_bytes line ≡ script_line fault) }

@@ -8,13 +8,13 @@ ghost use Rattle.zio_run.specs.Grounds.{HasRunOver, IsSettingOf, WasCutOver};
 ghost use Rattle.zio_run.specs.Seen.{sink_by};
 
 use std::alloc::Global;
-use zio_engine::Graph;
 use zio_gang::Ending;
-use zio_line::Picks;
+use zio_graph::Graph;
 use zio_outside::{Disk, Sink};
 use zio_report::{RunFault, Show};
 use zio_script::Script;
 use zio_suspend::run_script;
+use zio_turns::Picks;
 use zio_types::Journal;
 
 /// Runs the script on an engine that has run nothing yet, over so many images, and hands the disks back.

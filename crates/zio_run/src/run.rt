@@ -12,7 +12,7 @@ ghost use Rattle.zio_run.specs.Words.{AreImages};
 
 use crate::ground::run_on_disks;
 use crate::lines::{CODE_MEMORY, code_for, code_of, refuse_image, refuse_script};
-use crate::outcome::Outcome;
+use crate::outcome::RunOutcome;
 use crate::shelf::{ImagesFault, fetch_images, give_back_images};
 use std::alloc::Global;
 use zio_outside::{Shelf, Sink};
@@ -86,11 +86,11 @@ where
         × ((name : Seq ℕ) → H.sound shelf.old name → H.sound shelf.new name) }
 {
     match run_on_shelf(alloc, script, show, picks, names, shelf, out, journal) {
-        Outcome::Ended(ending) => Status {
+        RunOutcome::Ended(ending) => Status {
             code: code_of(ending),
         },
-        Outcome::Unfit(leaf) => refuse_image(alloc, out, leaf),
-        Outcome::Cut(fault) => Status {
+        RunOutcome::Unfit(leaf) => refuse_image(alloc, out, leaf),
+        RunOutcome::Cut(fault) => Status {
             code: code_for(fault),
         },
     }
@@ -106,7 +106,7 @@ fn run_on_shelf<O: Sink, H: Shelf>(
     shelf: &mut H,
     out: &mut O,
     journal: &mut Journal,
-) -> Outcome
+) -> RunOutcome
 where
     H::Disk: Drop,
     requires script { (text : Seq ℕ) × IsScriptOf text script.now }
@@ -117,7 +117,7 @@ where
         let saw = shelf_by H.tells H.image H.out H.faults H.disk_faults H.fetches H.returns H.last_size in
         CameOut show.now script.now names.now (sink out.old) (sink out.new) (saw shelf.old) (saw shelf.new)
         journal.old journal.new result }
-    ensures unwritten { (leaf : ℕ) → result ≡ Outcome.Unfit leaf → out.new ≡ out.old }
+    ensures unwritten { (leaf : ℕ) → result ≡ RunOutcome.Unfit leaf → out.new ≡ out.old }
     ensures back { IsEachBack (H.fetches shelf.old) (H.fetches shelf.new) (H.returns shelf.old) (H.returns shelf.new) }
     ensures tells { H.tells shelf.old ↔ H.tells shelf.new }
     ensures home { H.tells shelf.old → KeepOthers names.now (H.image shelf.old) (H.image shelf.new) (H.out shelf.old) (H.out shelf.new) }
@@ -131,8 +131,8 @@ where
             give_back_images(disks, shelf);
             outcome
         }
-        Err(ImagesFault::Failed(leaf)) => Outcome::Unfit(leaf),
-        Err(ImagesFault::Size(leaf)) => Outcome::Unfit(leaf),
-        Err(ImagesFault::Memory) => Outcome::Cut(RunFault::Memory),
+        Err(ImagesFault::Failed(leaf)) => RunOutcome::Unfit(leaf),
+        Err(ImagesFault::Size(leaf)) => RunOutcome::Unfit(leaf),
+        Err(ImagesFault::Memory) => RunOutcome::Cut(RunFault::Memory),
     }
 }

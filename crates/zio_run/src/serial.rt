@@ -21,7 +21,7 @@ use crate::run::run_text;
 use crate::source::{ReadFault, read_all};
 use crate::words::{Command, WordsError, read_words};
 use std::alloc::Global;
-use zio_load::generated_scripts_are_accepted;
+use zio_gen::generated_scripts_are_accepted;
 use zio_outside::{Shelf, Sink, Source};
 use zio_report::Show;
 use zio_types::{Journal, Status, Text};

@@ -7,7 +7,7 @@ use Rattle.std.proofs.lemmas.List.Sums.{fold-append}
 use Rattle.std.specs.Prelude.{count_by, find}
 use Rattle.std.specs.List.{AllByRecursion}
 use Rattle.zio_types.specs.declared.request.Kind.{Kind}
-use Rattle.zio_script.specs.declared.open_batch.Mark.{Mark}
+use Rattle.zio_script.specs.declared.open_batch.RequestMark.{RequestMark}
 use Rattle.zio_script.specs.declared.script.Request.{Request}
 use Rattle.zio_script.specs.Accepted.{AreBehindParents, AreRising}
 use Rattle.zio_script.specs.OpenBatches.{AreTidy, mark_in, no_mark, with_child}
@@ -149,7 +149,7 @@ depth_of_child batch p parent rising tidy found =
 -- ---- the marks of the others
 
 -- a mark with one more request in the batch
-abbrev pub with_new : Request → Mark → Mark
+abbrev pub with_new : Request → RequestMark → RequestMark
 with_new r mark = cond (is_under_number r.under mark.number) (with_child (kind_of r.work) mark) mark
 
 pub count_more : (test : Request → Bool) (batch : List Request) (r : Request) → count_by test (batch ++ r ∷ []) ≡ count_by test batch + cond (test r) 1 0
@@ -160,9 +160,9 @@ depth_stays batch r under past =
     ap (λ (rs : List Request). 1 + levels rs under) (reverse-append batch (r ∷ []))
     ∙ ap (λ (n : ℕ). 1 + n) (levels_past r (reverse batch) under past)
 
-mark_by : (under write : Bool) (kind : Kind) (mark : Mark) (depth children writes : ℕ) → is_write kind ≡ write → depth ≡ mark.depth
+mark_by : (under write : Bool) (kind : Kind) (mark : RequestMark) (depth children writes : ℕ) → is_write kind ≡ write → depth ≡ mark.depth
     → children ≡ mark.children + cond under 1 0 → writes ≡ mark.writes + cond (under && write) 1 0
-    → ◌≡◌ {A = Mark} (record mark { depth = depth; children = children; writes = writes }) (cond under (with_child kind mark) mark)
+    → ◌≡◌ {A = RequestMark} (record mark { depth = depth; children = children; writes = writes }) (cond under (with_child kind mark) mark)
 mark_by true write kind mark depth children writes kind_is depth_is children_is writes_is = rw (kind_is, depth_is, children_is, writes_is) refl
 mark_by false write kind mark depth children writes kind_is depth_is children_is writes_is =
     let same_children : children ≡ mark.children = omega arith in
@@ -183,7 +183,7 @@ marks_more batch (q ∷ rs) r past = rw (mark_more batch r q past.0, marks_more 
 
 -- ---- which of the others changes
 
-pub marks_same : (f : Request → Mark) (rs : List Request) (r : Request) → ((q : Request) → (f q).number ≡ q.number)
+pub marks_same : (f : Request → RequestMark) (rs : List Request) (r : Request) → ((q : Request) → (f q).number ≡ q.number)
     → AllByRecursion (λ (q : Request). is_under_number r.under q.number ≡ false) rs → map (λ q. with_new r (f q)) rs ≡ map f rs
 marks_same f [] r same other = refl
 marks_same f (q ∷ rs) r same other =
@@ -198,7 +198,7 @@ not_under_by r p (q ∷ rs) is above =
     let other : (p == q.number) ≡ false = ne_eqb p q.number (omega arith) in
     (rw is other, not_under_by r p rs is above.1)
 
-pub marks_set : (f : Request → Mark) (rs : List Request) (i p : ℕ) (r : Request) → ((q : Request) → (f q).number ≡ q.number) → AreRising rs → r.under ≡ Some p
+pub marks_set : (f : Request → RequestMark) (rs : List Request) (i p : ℕ) (r : Request) → ((q : Request) → (f q).number ≡ q.number) → AreRising rs → r.under ≡ Some p
     → i < length rs → ((d : Request) → (slice_index_or rs i d).number ≡ p)
     → map (λ q. with_new r (f q)) rs ≡ slice_set (map f rs) i (with_child (kind_of r.work) (slice_index_or (map f rs) i no_mark))
 marks_set f [] i p r same rising is within there = absurd (omega arith)

@@ -8,7 +8,7 @@ use Rattle.std.specs.Prelude.{find}
 use Rattle.std.specs.List.{AllByRecursion}
 use Rattle.std.specs.List.Sorted.{IsBinarySearchResult, IsNonDecreasingBy, IsSearchInRange}
 use Rattle.std.specs.Ordering.{nat_cmp, ordering_index}
-use Rattle.zio_script.specs.declared.open_batch.Mark.{Mark}
+use Rattle.zio_script.specs.declared.open_batch.RequestMark.{RequestMark}
 use Rattle.zio_script.specs.declared.open_batch.OpenBatch.{OpenBatch}
 use Rattle.zio_script.specs.declared.script.Request.{Request}
 use Rattle.zio_script.specs.Accepted.{AreRising}
@@ -70,28 +70,28 @@ not_found (r ∷ batch) p none =
 
 -- ---- a search
 
-marks_rise : (batch : List Request) (f : Request → Mark) → ((r : Request) → (f r).number ≡ r.number) → AreRising batch → (p : ℕ)
-    → IsNonDecreasingBy (λ (m : Mark). ordering_index (nat_cmp m.number p)) (map f batch)
+marks_rise : (batch : List Request) (f : Request → RequestMark) → ((r : Request) → (f r).number ≡ r.number) → AreRising batch → (p : ℕ)
+    → IsNonDecreasingBy (λ (m : RequestMark). ordering_index (nat_cmp m.number p)) (map f batch)
 marks_rise [] f same rising p = λ i j d order within. absurd (omega arith)
 marks_rise (r ∷ batch) f same rising p = λ i j d order within.
     let len : length (map f (r ∷ batch)) ≡ length (r ∷ batch) = length-map (r ∷ batch) f in
     let low : slice_index_or (map f (r ∷ batch)) i d ≡ f (slice_index_or (r ∷ batch) i r) = index_map f (r ∷ batch) i r d (omega arith) in
     let high : slice_index_or (map f (r ∷ batch)) j d ≡ f (slice_index_or (r ∷ batch) j r) = index_map f (r ∷ batch) j r d (omega arith) in
     let rise : (slice_index_or (r ∷ batch) i r).number ≤ (slice_index_or (r ∷ batch) j r).number = numbers_rise (r ∷ batch) rising i j r order (omega arith) in
-    let low_is : (slice_index_or (map f (r ∷ batch)) i d).number ≡ (slice_index_or (r ∷ batch) i r).number = ap (λ (m : Mark). m.number) low ∙ same _ in
-    let high_is : (slice_index_or (map f (r ∷ batch)) j d).number ≡ (slice_index_or (r ∷ batch) j r).number = ap (λ (m : Mark). m.number) high ∙ same _ in
+    let low_is : (slice_index_or (map f (r ∷ batch)) i d).number ≡ (slice_index_or (r ∷ batch) i r).number = ap (λ (m : RequestMark). m.number) low ∙ same _ in
+    let high_is : (slice_index_or (map f (r ∷ batch)) j d).number ≡ (slice_index_or (r ∷ batch) j r).number = ap (λ (m : RequestMark). m.number) high ∙ same _ in
     rw (low_is, high_is) (grind (arith, nat_tests))
 
 pub position_is : (apart : Bool) (batch : List Request) (kept : OpenBatch) (p : ℕ) (result : Result ℕ ℕ) → IsBatch apart batch kept
     → IsSearchInRange result (length kept.marks.items)
-    → IsBinarySearchResult (λ (m : Mark). nat_cmp m.number p) kept.marks.items result → IsPosition batch kept p result
+    → IsBinarySearchResult (λ (m : RequestMark). nat_cmp m.number p) kept.marks.items result → IsPosition batch kept p result
 position_is apart batch kept p (Ok i) is within equal =
     let len : length kept.marks.items ≡ length batch = ap length is.marks ∙ length-map batch (mark_in batch) in
     let inside : i < length batch = omega arith in
     let at : (d : Request) → (slice_index_or batch i d).number ≡ p = λ d.
     let mark : slice_index_or kept.marks.items i (mark_in batch d) ≡ mark_in batch (slice_index_or batch i d)
-    = ap (λ (ms : List Mark). slice_index_or ms i (mark_in batch d)) is.marks ∙ index_map (mark_in batch) batch i d (mark_in batch d) inside in
-    sym (ap (λ (m : Mark). m.number) mark) ∙ ranked _ p _ (sym (equal (mark_in batch d))) in
+    = ap (λ (ms : List RequestMark). slice_index_or ms i (mark_in batch d)) is.marks ∙ index_map (mark_in batch) batch i d (mark_in batch d) inside in
+    sym (ap (λ (m : RequestMark). m.number) mark) ∙ ranked _ p _ (sym (equal (mark_in batch d))) in
     let found = found_at batch p i is.rising inside at in
     record {
       number = p;
@@ -100,18 +100,18 @@ position_is apart batch kept p (Ok i) is within equal =
       found = found.found;
       within = within;
       there = found.there;
-      mark = λ d. ap (λ (ms : List Mark). slice_index_or ms i d) is.marks
+      mark = λ d. ap (λ (ms : List RequestMark). slice_index_or ms i d) is.marks
           ∙ (index_map (mark_in batch) batch i found.parent d inside ∙ ap (mark_in batch) (found.there found.parent));
     }
 position_is apart batch kept p (Err i) is within parted =
     let len : length kept.marks.items ≡ length batch = ap length is.marks ∙ length-map batch (mark_in batch) in
-    let rise : IsNonDecreasingBy (λ (m : Mark). ordering_index (nat_cmp m.number p)) kept.marks.items
+    let rise : IsNonDecreasingBy (λ (m : RequestMark). ordering_index (nat_cmp m.number p)) kept.marks.items
     = rw is.marks (marks_rise batch (mark_in batch) (λ r. refl) is.rising p) in
     let ends = parted rise in
     not_found batch p (λ k d inside.
     let mark : slice_index_or kept.marks.items k (mark_in batch d) ≡ mark_in batch (slice_index_or batch k d)
-    = ap (λ (ms : List Mark). slice_index_or ms k (mark_in batch d)) is.marks ∙ index_map (mark_in batch) batch k d (mark_in batch d) inside in
-    let number : (slice_index_or kept.marks.items k (mark_in batch d)).number ≡ (slice_index_or batch k d).number = ap (λ (m : Mark). m.number) mark in
+    = ap (λ (ms : List RequestMark). slice_index_or ms k (mark_in batch d)) is.marks ∙ index_map (mark_in batch) batch k d (mark_in batch d) inside in
+    let number : (slice_index_or kept.marks.items k (mark_in batch d)).number ≡ (slice_index_or batch k d).number = ap (λ (m : RequestMark). m.number) mark in
     λ same. grind (
       arith,
       number,

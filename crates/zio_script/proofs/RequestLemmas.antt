@@ -10,7 +10,7 @@ use Rattle.std.specs.List.{AllByRecursion, list_any}
 use Rattle.zio_script.specs.declared.builder.Builder.{Builder}
 use Rattle.zio_script.specs.declared.limits.TheConstants.{BATCH_LEN_MAX, NUMBER_MAX}
 use Rattle.zio_script.specs.declared.names.BatchNames.{BatchNames}
-use Rattle.zio_script.specs.declared.open_batch.Mark.{Mark}
+use Rattle.zio_script.specs.declared.open_batch.RequestMark.{RequestMark}
 use Rattle.zio_script.specs.declared.open_batch.OpenBatch.{OpenBatch}
 use Rattle.zio_script.specs.declared.open_batch.Stand.{Stand}
 use Rattle.zio_script.specs.declared.script.Item.{Item}
@@ -165,16 +165,16 @@ fits_parts asked fits = parts (is_number asked.number) (is_number_if asked.under
 
 new_mark_is : (batch : List Request) (r : Request) (depth : ℕ) → depth ≡ depth_under (batch ++ r ∷ []) r.under → children_in (batch ++ r ∷ []) r.number ≡ 0
     → writes_under (batch ++ r ∷ []) r.number ≡ 0
-    → ◌≡◌ {A = Mark} (record { number = r.number; kind = kind_of r.work; canfail = r.canfail; depth = depth; children = 0; writes = 0; len = work_len r.work }) (mark_in (batch ++ r ∷ []) r)
+    → ◌≡◌ {A = RequestMark} (record { number = r.number; kind = kind_of r.work; canfail = r.canfail; depth = depth; children = 0; writes = 0; len = work_len r.work }) (mark_in (batch ++ r ∷ []) r)
 new_mark_is batch r depth depth_is children writes = rw (depth_is, children, writes) refl
 
-marks_behind : (batch : List Request) (r : Request) (stand : Stand) (old new : List Mark) (mark : Mark) → old ≡ marks_of batch
+marks_behind : (batch : List Request) (r : Request) (stand : Stand) (old new : List RequestMark) (mark : RequestMark) → old ≡ marks_of batch
     → map (mark_in (batch ++ r ∷ [])) batch ≡ marks_after (marks_of batch) stand (kind_of r.work) → mark ≡ mark_in (batch ++ r ∷ []) r
     → new ≡ marks_after old stand (kind_of r.work) ++ mark ∷ [] → new ≡ marks_of (batch ++ r ∷ [])
 marks_behind batch r stand old new mark old_is others mark_is new_is =
-    new_is ∙ ap (λ (marks : List Mark). marks_after marks stand (kind_of r.work) ++ mark ∷ []) old_is
-    ∙ ap (λ (m : Mark). marks_after (marks_of batch) stand (kind_of r.work) ++ m ∷ []) mark_is
-    ∙ ap (λ (marks : List Mark). marks ++ mark_in (batch ++ r ∷ []) r ∷ []) (sym others)
+    new_is ∙ ap (λ (marks : List RequestMark). marks_after marks stand (kind_of r.work) ++ mark ∷ []) old_is
+    ∙ ap (λ (m : RequestMark). marks_after (marks_of batch) stand (kind_of r.work) ++ m ∷ []) mark_is
+    ∙ ap (λ (marks : List RequestMark). marks ++ mark_in (batch ++ r ∷ []) r ∷ []) (sym others)
     ∙ sym (map-append (mark_in (batch ++ r ∷ [])) batch (r ∷ []))
 
 -- a request to which no why applies

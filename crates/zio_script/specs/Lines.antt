@@ -10,7 +10,7 @@ use Rattle.zio_blkptr.specs.declared.pointer.SumKind.{SumKind}
 use Rattle.zio_faults.specs.declared.table.FaultKind.{FaultKind}
 use Rattle.zio_faults.specs.declared.table.On.{On}
 use Rattle.zio_faults.specs.declared.table.Row.{Row}
-use Rattle.zio_script.specs.declared.limits.TheConstants.{TOP_LEAVES_MAX}
+use Rattle.zio_types.specs.declared.place.TheConstants.{TOP_LEAVES_MAX}
 use Rattle.zio_script.specs.declared.script.Body.{Body}
 use Rattle.zio_script.specs.declared.script.Body.TheVariants.{Hex, Fill, Seq}
 use Rattle.zio_script.specs.declared.script.Failmode.{Failmode}

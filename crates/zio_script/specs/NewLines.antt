@@ -4,8 +4,8 @@ use Rattle.std.specs.Prelude.{◌≡◌, ℕ, List, ◌++◌, Bool, Option, Some
 use Rattle.zio_faults.specs.declared.table.Row.{Row}
 use Rattle.zio_script.specs.declared.refusal.LineFault.{LineFault}
 use Rattle.zio_script.specs.declared.refusal.LineFault.TheVariants.{NoShape, NoNumber, Memory}
-use Rattle.zio_script.specs.declared.lines.Line.{Line as NewLine}
-use Rattle.zio_script.specs.declared.lines.Line.TheVariants.{Failmode, Top, Fault, Request, Go, Clear}
+use Rattle.zio_script.specs.declared.lines.ScriptLine.{ScriptLine as NewLine}
+use Rattle.zio_script.specs.declared.lines.ScriptLine.TheVariants.{Failmode, Top, Fault, Request, Go, Clear}
 use Rattle.zio_script.specs.declared.lines.NewTop.{NewTop}
 use Rattle.zio_script.specs.declared.lines.NewRow.{NewRow}
 use Rattle.zio_script.specs.declared.lines.NewRequest.{NewRequest as FoundRequest}

@@ -3,7 +3,7 @@
 use Rattle.std.specs.Prelude.{◌≡◌, ◌<◌, ◌≤◌, ◌+◌, ◌-◌, ◌*◌, ℕ, List, [], ◌∷◌, length, map, sum, slice_index_or, slice_set, reverse, Bool, true, false, not, cond, nat_lt, nat_le, ◌&&◌, ◌||◌, Option, Some, None, Result, Ok, Err}
 use Rattle.std.specs.List.{AllByRecursion, list_any}
 use Rattle.zio_script.specs.declared.names.BatchNames.{BatchNames}
-use Rattle.zio_script.specs.declared.open_batch.Mark.{Mark}
+use Rattle.zio_script.specs.declared.open_batch.RequestMark.{RequestMark}
 use Rattle.zio_script.specs.declared.open_batch.OpenBatch.{OpenBatch}
 use Rattle.zio_script.specs.declared.open_batch.Stand.{Stand}
 use Rattle.zio_script.specs.declared.open_batch.Stand.TheVariants.{Root, Under, Lost}
@@ -31,7 +31,7 @@ work_len (Free name) = 0
 work_len (Claim name pointer) = 0
 
 -- what is kept of a request among those of its batch
-abbrev pub mark_in : List Request → Request → Mark
+abbrev pub mark_in : List Request → Request → RequestMark
 mark_in batch r = record {
   number = r.number;
   kind = kind_of r.work;
@@ -43,7 +43,7 @@ mark_in batch r = record {
 }
 
 -- the same of each
-abbrev pub marks_of : List Request → List Mark
+abbrev pub marks_of : List Request → List RequestMark
 marks_of batch = map (mark_in batch) batch
 
 -- each of these, the last first, has a number of its own, and none stands under it or under a later one
@@ -93,7 +93,7 @@ pub record IsParentAt (batch : List Request) (kept : OpenBatch) (under : Option 
   pub found : parent_in batch (Some number) ≡ Some parent
   pub within : i < length kept.marks.items
   pub there : (d : Request) → slice_index_or batch i d ≡ parent
-  pub mark : (d : Mark) → slice_index_or kept.marks.items i d ≡ mark_in batch parent
+  pub mark : (d : RequestMark) → slice_index_or kept.marks.items i d ≡ mark_in batch parent
 
 -- no request of the batch has the number
 pub record IsParentLost (batch : List Request) (under : Option ℕ) : Type 0 where
@@ -114,19 +114,19 @@ IsPosition batch kept number (Err i) = parent_in batch (Some number) ≡ None
 
 -- ---- where a request stands, by the marks
 
-abbrev pub no_mark : Mark
+abbrev pub no_mark : RequestMark
 no_mark = record { number = 0; kind = NullKind; canfail = false; depth = 0; children = 0; writes = 0; len = 0 }
 
 -- the mark there
-abbrev pub mark_at : OpenBatch → ℕ → Mark
+abbrev pub mark_at : OpenBatch → ℕ → RequestMark
 mark_at kept i = slice_index_or kept.marks.items i no_mark
 
 -- the size of a request with so many writes under it
-abbrev pub marked_size : ℕ → Mark → ℕ
+abbrev pub marked_size : ℕ → RequestMark → ℕ
 marked_size writes mark = cond (is_write mark.kind) (rounded_up (mark.len + POINTER_SIZE * writes)) 0
 
 -- the numbers of a mark are small, and its size is part of this one
-pub record IsMarkWithin (size : ℕ) (mark : Mark) : Type 0 where
+pub record IsMarkWithin (size : ℕ) (mark : RequestMark) : Type 0 where
   pub len : mark.len ≤ BLOCK_SIZE_MAX
   pub writes : mark.writes ≤ BATCH_LEN_MAX
   pub children : mark.children ≤ BATCH_LEN_MAX
@@ -144,7 +144,7 @@ abbrev pub within : ℕ → ℕ → Option ℕ
 within block batch = cond (nat_lt BLOCK_SIZE_MAX block || nat_lt BATCH_SIZE_MAX batch) None (Some batch)
 
 -- with one more write of this size under a request
-abbrev pub size_under : ℕ → Mark → ℕ → Option ℕ
+abbrev pub size_under : ℕ → RequestMark → ℕ → Option ℕ
 size_under size parent own =
     within (marked_size (parent.writes + 1) parent)
     (size - marked_size parent.writes parent + marked_size (parent.writes + 1) parent + own)
@@ -181,11 +181,11 @@ depth_at kept (Under i) = (mark_at kept i).depth + 1
 depth_at kept Lost = 1
 
 -- a mark with one more child of this kind
-abbrev pub with_child : Kind → Mark → Mark
+abbrev pub with_child : Kind → RequestMark → RequestMark
 with_child kind mark = record mark { children = mark.children + 1; writes = mark.writes + cond (is_write kind) 1 0 }
 
 -- the marks with one more child there
-abbrev pub marks_after : List Mark → Stand → Kind → List Mark
+abbrev pub marks_after : List RequestMark → Stand → Kind → List RequestMark
 marks_after marks Root kind = marks
 marks_after marks (Under i) kind = slice_set marks i (with_child kind (slice_index_or marks i no_mark))
 marks_after marks Lost kind = marks
@@ -209,7 +209,7 @@ abbrev pub AddsWork : BatchNames → Bool → Work → BatchNames → Type 0
 AddsWork old apart work new = AddsWorkBy (name_of work) old (is_shared apart work) new
 
 -- a request's mark where it stands, before it has children
-abbrev pub new_mark : OpenBatch → Request → Stand → Mark
+abbrev pub new_mark : OpenBatch → Request → Stand → RequestMark
 new_mark kept r stand = record {
   number = r.number;
   kind = kind_of r.work;

@@ -9,7 +9,8 @@ use Rattle.zio_faults.specs.declared.table.FaultKind.{FaultKind}
 use Rattle.zio_faults.specs.declared.table.FaultKind.TheVariants.{Eio, Gone, Flip}
 use Rattle.zio_faults.specs.declared.table.Row.{Row}
 use Rattle.zio_blkptr.specs.declared.pointer.TheConstants.{BLOCK_SIZE_MAX}
-use Rattle.zio_script.specs.declared.limits.TheConstants.{LEAF_MAX, TOPS_MAX, FAULT_RANGE_MAX, POINT_MAX, FAULTS_MAX, NUMBER_MAX, COPIES_MAX, POINTER_SIZE, BATCH_LEN_MAX, BATCH_SIZE_MAX, CHILDREN_MAX, DEPTH_MAX, CLEARS_MAX}
+use Rattle.zio_types.specs.declared.place.TheConstants.{COPIES_MAX}
+use Rattle.zio_script.specs.declared.limits.TheConstants.{LEAF_MAX, TOPS_MAX, FAULT_RANGE_MAX, POINT_MAX, FAULTS_MAX, NUMBER_MAX, POINTER_SIZE, BATCH_LEN_MAX, BATCH_SIZE_MAX, CHILDREN_MAX, DEPTH_MAX, CLEARS_MAX}
 use Rattle.zio_script.specs.declared.script.Body.{Body}
 use Rattle.zio_script.specs.declared.script.Body.TheVariants.{Hex, Fill, Seq}
 use Rattle.zio_script.specs.declared.script.Failmode.TheVariants.{Wait}

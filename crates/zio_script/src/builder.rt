@@ -10,7 +10,7 @@ ghost use Rattle.std.specs.List.{list_all};
 ghost use Rattle.zio_script.specs.declared.script.Failmode.{Failmode};
 
 use crate::limits::{BATCH_LEN_MAX, CLEARS_MAX, FAULTS_MAX, TOPS_MAX};
-use crate::lines::{Line, NewRequest, NewRow, NewTop, line_in};
+use crate::lines::{NewRequest, NewRow, NewTop, ScriptLine, line_in};
 use crate::open_batch::{OpenBatch, Stand};
 use crate::ranges::{are_leaves, fits_asked, fits_row, is_sector, work_len};
 use crate::refusal::{Refusal, refusal_of};
@@ -80,19 +80,19 @@ impl Builder {
         }
     }
 
-    fn add_line(&mut self, alloc: Global, line: Line<'_>) -> Result<(), Refusal>
+    fn add_line(&mut self, alloc: Global, line: ScriptLine<'_>) -> Result<(), Refusal>
         requires { IsKept self.old }
         ensures kept { OnOk result (IsKept self.new) }
         ensures added { OnOk result (AddsLine self.old (line_as line.entry) self.new) }
         ensures why { IfErr result (IsLineWhy self.old (line_as line.entry)) }
     {
         match line {
-            Line::Failmode(mode) => self.add_failmode(mode),
-            Line::Top(top) => self.add_top(alloc, top),
-            Line::Fault(row) => self.add_fault(row),
-            Line::Request(asked) => self.add_request(asked),
-            Line::Go => self.add_go(),
-            Line::Clear => self.add_clear(),
+            ScriptLine::Failmode(mode) => self.add_failmode(mode),
+            ScriptLine::Top(top) => self.add_top(alloc, top),
+            ScriptLine::Fault(row) => self.add_fault(row),
+            ScriptLine::Request(asked) => self.add_request(asked),
+            ScriptLine::Go => self.add_go(),
+            ScriptLine::Clear => self.add_clear(),
         }
     }
 

@@ -31,9 +31,8 @@ mod work;
 pub use body::body_bytes;
 pub use laws::accepted_scripts_are_orderly;
 pub use limits::{
-    BATCH_LEN_MAX, BATCH_SIZE_MAX, CHILDREN_MAX, CLEARS_MAX, COPIES_MAX, DEPTH_MAX,
-    FAULT_RANGE_MAX, FAULTS_MAX, LEAF_MAX, NUMBER_MAX, POINT_MAX, POINTER_SIZE, TOP_LEAVES_MAX,
-    TOPS_MAX,
+    BATCH_LEN_MAX, BATCH_SIZE_MAX, CHILDREN_MAX, CLEARS_MAX, DEPTH_MAX, FAULT_RANGE_MAX,
+    FAULTS_MAX, LEAF_MAX, NUMBER_MAX, POINT_MAX, POINTER_SIZE, TOPS_MAX,
 };
 pub use name::{NAME_LEN_MAX, Name};
 pub use read::{SCRIPT_LEN_MAX, read_script};

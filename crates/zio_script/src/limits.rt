@@ -3,9 +3,6 @@
 /// The highest number of a leaf.
 pub const LEAF_MAX: u32 = 15;
 
-/// The most leaves of a top.
-pub const TOP_LEAVES_MAX: u32 = 4;
-
 /// The most `top` lines.
 pub const TOPS_MAX: u32 = 8;
 
@@ -20,9 +17,6 @@ pub const FAULTS_MAX: u32 = 256;
 
 /// The highest number of a request.
 pub const NUMBER_MAX: u32 = 65_535;
-
-/// The most copies of a block.
-pub const COPIES_MAX: u32 = 3;
 
 /// The bytes of a pointer.
 pub const POINTER_SIZE: u32 = 128;

@@ -17,7 +17,7 @@ use zio_types::{Bytes, List, NoMemory, Prio, SECTOR_SIZE};
 
 /// What a line says. Its numbers may be out of their ranges.
 #[derive(Drop)]
-pub(crate) enum Line<'a> {
+pub(crate) enum ScriptLine<'a> {
     Failmode(Failmode),
     Top(NewTop),
     Fault(NewRow),
@@ -88,7 +88,7 @@ pub(crate) enum NewBody {
 }
 
 /// What the words say.
-pub(crate) fn line_in<'a>(alloc: Global, words: &[&'a [u8]]) -> Result<Line<'a>, LineFault>
+pub(crate) fn line_in<'a>(alloc: Global, words: &[&'a [u8]]) -> Result<ScriptLine<'a>, LineFault>
     ensures line { IfOk result (λ line. IsLineIn (map (λ w. w.now) words.now) (line_as line)) }
     ensures fault { IfErr result (IsNoLine (map (λ w. w.now) words.now)) }
 {
@@ -98,17 +98,17 @@ pub(crate) fn line_in<'a>(alloc: Global, words: &[&'a [u8]]) -> Result<Line<'a>,
     }
 }
 
-fn line_of<'a>(alloc: Global, shape: LineShape<'_, 'a>) -> Result<Line<'a>, LineFault>
+fn line_of<'a>(alloc: Global, shape: LineShape<'_, 'a>) -> Result<ScriptLine<'a>, LineFault>
     ensures line { IfOk result (λ line. line_of (shape_as shape.entry) ≡ Some (line_as line)) }
     ensures fault { IfErr result (IsWrong (line_of (shape_as shape.entry))) }
 {
     match shape {
-        LineShape::Failmode(mode) => Ok(Line::Failmode(mode)),
-        LineShape::Top(top) => Ok(Line::Top(top_of(alloc, top)?)),
-        LineShape::Fault(row) => Ok(Line::Fault(row_of(row)?)),
-        LineShape::Request(request) => Ok(Line::Request(request_of(alloc, request)?)),
-        LineShape::Go => Ok(Line::Go),
-        LineShape::Clear => Ok(Line::Clear),
+        LineShape::Failmode(mode) => Ok(ScriptLine::Failmode(mode)),
+        LineShape::Top(top) => Ok(ScriptLine::Top(top_of(alloc, top)?)),
+        LineShape::Fault(row) => Ok(ScriptLine::Fault(row_of(row)?)),
+        LineShape::Request(request) => Ok(ScriptLine::Request(request_of(alloc, request)?)),
+        LineShape::Go => Ok(ScriptLine::Go),
+        LineShape::Clear => Ok(ScriptLine::Clear),
     }
 }
 

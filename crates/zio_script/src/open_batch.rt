@@ -14,7 +14,7 @@ use zio_types::{Kind, SECTOR_SIZE};
 
 /// What is kept of a request.
 #[derive(Clone, Copy)]
-pub(crate) struct Mark {
+pub(crate) struct RequestMark {
     pub number: u32,
     pub kind: Kind,
     pub canfail: bool,
@@ -43,7 +43,7 @@ pub(crate) enum Stand {
 #[derive(Drop)]
 pub(crate) struct OpenBatch {
     /// By rising number.
-    pub marks: Vec<Mark>,
+    pub marks: Vec<RequestMark>,
     /// The bytes of all writes with their children's pointers, each in whole sectors.
     pub size: u64,
     pub has_claim: bool,
@@ -118,7 +118,7 @@ impl OpenBatch {
         }
     }
 
-    fn size_under(&self, parent: &Mark, own: u64) -> Option<u64>
+    fn size_under(&self, parent: &RequestMark, own: u64) -> Option<u64>
         requires own { own ≤ BLOCK_SIZE_MAX }
         requires size { self.now.size ≤ BATCH_SIZE_MAX }
         requires parent { IsMarkWithin self.now.size parent.now }
@@ -169,12 +169,12 @@ impl OpenBatch {
     }
 
     /// The mark of a request that stands there, before it has children.
-    pub(crate) fn mark(&self, request: &Request, stand: Stand) -> Mark
+    pub(crate) fn mark(&self, request: &Request, stand: Stand) -> RequestMark
         requires stand { IsStandWithin self.now stand }
         requires fits { fits_work request.now.work ≡ true }
         ensures { result ≡ new_mark self.now request.now stand }
     {
-        Mark {
+        RequestMark {
             number: request.number,
             kind: request.work.kind(),
             canfail: request.canfail,
@@ -207,7 +207,11 @@ impl OpenBatch {
     }
 
     /// Adds the mark of a request that stands there.
-    pub(crate) fn add(&mut self, mark: Mark, stand: Stand) -> Result<(), AllocFailed<Mark>>
+    pub(crate) fn add(
+        &mut self,
+        mark: RequestMark,
+        stand: Stand,
+    ) -> Result<(), AllocFailed<RequestMark>>
         requires { IsStandWithin self.old stand }
         ensures marks { OnOk result (self.new.marks.items ≡ marks_after self.old.marks.items stand mark.kind ++ mark ∷ []) }
         ensures size { self.new.size ≡ self.old.size }
@@ -243,7 +247,7 @@ fn rounded_up(len: u64) -> u64
 }
 
 // The size of a request with so many writes under it.
-fn marked_size(mark: &Mark, writes: u32) -> u64
+fn marked_size(mark: &RequestMark, writes: u32) -> u64
     requires len { mark.now.len ≤ BLOCK_SIZE_MAX }
     requires writes { writes ≤ 1025 }
     ensures { result ≡ marked_size writes mark.now }
@@ -266,13 +270,13 @@ fn may_have(parent: Kind, child: Kind) -> bool
 }
 
 // A mark with one more child of this kind.
-fn with_child(mark: Mark, kind: Kind) -> Mark
+fn with_child(mark: RequestMark, kind: Kind) -> RequestMark
     requires children { mark.children ≤ 1024 }
     requires writes { mark.writes ≤ 1024 }
     ensures { result ≡ with_child kind mark }
 {
     let is_write = kind == Kind::Write;
-    Mark {
+    RequestMark {
         children: mark.children + 1,
         writes: mark.writes + u32::from(is_write),
         ..mark

@@ -5,9 +5,10 @@ ghost use Rattle.zio_script.specs.NewLines.{body_as, request_as, row_as, work_as
 ghost use Rattle.zio_script.specs.OpenBatches.{work_len};
 ghost use Rattle.zio_script.specs.Whys.{body_len, fits_asked, fits_row, fits_work, is_leaf, is_number, is_number_if, is_sector, is_within};
 
-use crate::limits::{COPIES_MAX, FAULT_RANGE_MAX, LEAF_MAX, NUMBER_MAX, POINT_MAX, POINTER_SIZE};
+use crate::limits::{FAULT_RANGE_MAX, LEAF_MAX, NUMBER_MAX, POINT_MAX, POINTER_SIZE};
 use crate::lines::{NewBody, NewRequest, NewRow, NewWork};
 use zio_blkptr::BLOCK_SIZE_MAX;
+use zio_types::COPIES_MAX;
 
 fn is_within(low: u32, high: u32, n: u64) -> bool
     ensures { result ≡ is_within low high n }

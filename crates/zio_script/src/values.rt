@@ -7,6 +7,7 @@ ghost use Rattle.zio_script.specs.Whys.{body_len, fits_asked, fits_row, fits_wor
 
 use crate::lines::{NewBody, NewRequest, NewRow, NewWork};
 use crate::{Body, Name, Request, Work};
+use zio_blkptr::BLOCK_SIZE_MAX;
 use zio_faults::Row;
 use zio_types::{Kind, List, NoMemory};
 
@@ -104,7 +105,7 @@ fn pointer_of(bytes: &[u8]) -> [u8; 128]
 }
 
 fn body_of(body: NewBody) -> Body
-    requires { body_len (body_as body) ≤ 1048576 }
+    requires { body_len (body_as body) ≤ BLOCK_SIZE_MAX }
     ensures { result ≡ body_as body }
 {
     match body {

@@ -18,14 +18,8 @@ use std::process::ExitCode;
 use told::line_of;
 use watched::Watched;
 use zio_outside::{FileShelf, Sink, StdSink, StdSource};
-use zio_run::zio_serial_main;
+use zio_run::{CODE_MEMORY, CODE_SINK, zio_serial_main};
 use zio_types::Journal;
-
-/// The status where standard output couldn't be written.
-const CODE_SINK: u8 = 6;
-
-/// The status for want of memory.
-const CODE_MEMORY: u8 = 8;
 
 fn main(rt: HostRuntime) -> ExitCode {
     let _stand_ins = [stand_in(&rt), stand_in(&rt), stand_in(&rt)];

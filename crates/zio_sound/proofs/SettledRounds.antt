@@ -11,11 +11,10 @@ use Rattle.zio_trace.specs.Families.{Forest}
 use Rattle.zio_trace.specs.Rounds.{trees_in}
 use Rattle.zio_trace.specs.Tasks.{Value}
 use Rattle.zio_trace.specs.Together.{round_of}
-use Rattle.zio_course.specs.Runners.{IsRound, finished_by_number}
-use Rattle.zio_course.specs.declared.runner.RoundEnd.{RoundEnd}
+use Rattle.zio_course.specs.Runners.{IsRound, SeenEnd, finished_by_number}
 
 pub settled_round : (t : Terms) (f : Forest) (trees : List (List Pending)) (values : List Value) (before after : Images)
-    (end : RoundEnd (List Pending)) → trees_in f ≡ trees →
+    (end : SeenEnd) → trees_in f ≡ trees →
     IsSettledByEntries end.entries t f end.entries (round_of values) before after →
     AreLawful (sizes_of t.setting.tops) t.used end.entries →
     end.left ≡ (round_of values).left → end.finished ≡ finished_by_number (round_of values).ended →

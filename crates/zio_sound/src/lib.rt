@@ -33,8 +33,7 @@ ghost use Rattle.zio_trace.specs.SoundRounds.{IsSoundRound, LeavesDiffer};
 ghost use Rattle.zio_trace.specs.Tasks.{Attempt, Task, Value, attempted};
 ghost use Rattle.zio_trace.specs.Together.{round_of};
 ghost use Rattle.zio_trace.specs.Underway.{AreAnswered};
-ghost use Rattle.zio_course.specs.Runners.{AreRunnable, IsRound, Standing, finished_by_number, joined_trees, terms_at};
-ghost use Rattle.zio_course.specs.declared.runner.RoundEnd.{RoundEnd};
+ghost use Rattle.zio_course.specs.Runners.{AreRunnable, IsRound, SeenEnd, Standing, finished_by_number, joined_trees, terms_at};
 ghost use Rattle.zio_sound.specs.Leaving.{LeavesTrees};
 ghost use Rattle.zio_sound.specs.Linked.{AreLinked, LeaveLinked};
 
@@ -55,7 +54,7 @@ pub fn runnable_rounds_are_sound()
 /// definitions, if what it gives is what these values leave and what finished in them, by number.
 pub fn settled_rounds_are_rounds()
     ensures { (t : Terms) (f : Forest) (trees : List (List Pending)) (values : List Value) (before after : Images)
-        (end : RoundEnd (List Pending)) → trees_in f ≡ trees →
+        (end : SeenEnd) → trees_in f ≡ trees →
         IsSettledByEntries end.entries t f end.entries (round_of values) before after →
         AreLawful (sizes_of t.setting.tops) t.used end.entries →
         end.left ≡ (round_of values).left → end.finished ≡ finished_by_number (round_of values).ended →

@@ -8,14 +8,7 @@ ghost use Rattle.zio_spelled.specs.Reading.{key_read, next_read, number_in, path
 
 use crate::number::{byte_in, long_number_in, number_in};
 use crate::parts::Parts;
-use zio_types::{Entry, Key, Path, Place, Role, SECTOR_SIZE, TopSize};
-
-/// What stands behind the places found.
-const NO_PLACE: Place = Place {
-    top: 0,
-    sector: 0,
-    sectors: 0,
-};
+use zio_types::{Entry, Key, NOWHERE, Path, Place, Role, SECTOR_SIZE, TopSize};
 
 /// The entry of this round that a `take` line spells, none exactly where the line isn't of its shape. Its places have
 /// the sectors that its size takes on these tops; a top that isn't there has the unit 1.
@@ -50,7 +43,7 @@ fn entry_in(tops: &[TopSize], round: u32, words: Parts<'_>) -> Option<Entry>
         size,
         copies,
         found: 0,
-        places: [NO_PLACE; 3],
+        places: [NOWHERE; 3],
     };
     places_onto(tops, entry, words)
 }

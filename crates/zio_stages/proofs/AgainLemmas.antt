@@ -9,7 +9,7 @@ use Rattle.zio_trace.specs.Plans.{Kids, one_of}
 use Rattle.zio_trace.specs.Tasks.{AttemptedBy, Got, Wrote, Found, StoredAs, WalkedBy, Taken, SettledBy}
 use Rattle.zio_children.specs.RequestKids.{RiseFrom, kids_by}
 use Rattle.zio_frames.specs.Slots.{Heard, IsOut, Slot}
-use Rattle.zio_stages.specs.declared.waiting.Waiting.{Waiting}
+use Rattle.zio_stages.specs.declared.waiting.UnfinishedRequest.{UnfinishedRequest}
 use Rattle.zio_stages.specs.KidTrees.{AreLeft, AreNumbered, IsLeft, trees_left}
 use Rattle.zio_stages.specs.Wholes.{AreTrees, IsForestOf, IsTreeOf, IsWhole, joined, number_or, root_number, root_of, roots_in}
 use Rattle.zio_stages.proofs.ForestLemmas.{one_forest}
@@ -17,26 +17,26 @@ use Rattle.zio_stages.proofs.WholeLemmas.{PutSoFar, root_last}
 
 -- ---- what is left
 
-left_append : (xs ys : List (Option (List Waiting))) → trees_left (xs ++ ys) ≡ trees_left xs ++ trees_left ys
+left_append : (xs ys : List (Option (List UnfinishedRequest))) → trees_left (xs ++ ys) ≡ trees_left xs ++ trees_left ys
 left_append [] ys = refl
 left_append (None ∷ xs) ys = left_append xs ys
-left_append (Some ws ∷ xs) ys = ap (λ (ts : List (List Waiting)). ws ∷ ts) (left_append xs ys)
+left_append (Some ws ∷ xs) ys = ap (λ (ts : List (List UnfinishedRequest)). ws ∷ ts) (left_append xs ys)
 
-joined_append : (xs ys : List (List Waiting)) → joined (xs ++ ys) ≡ joined xs ++ joined ys
-joined_append xs ys = flat_map-append (λ (ws : List Waiting). ws) xs ys
+joined_append : (xs ys : List (List UnfinishedRequest)) → joined (xs ++ ys) ≡ joined xs ++ joined ys
+joined_append xs ys = flat_map-append (λ (ws : List UnfinishedRequest). ws) xs ys
 
-pub left_more : (xs : List (Option (List Waiting))) (i room size after : ℕ) (x : Option (List Waiting))
+pub left_more : (xs : List (Option (List UnfinishedRequest))) (i room size after : ℕ) (x : Option (List UnfinishedRequest))
     → room ≡ length (joined (trees_left (take i xs))) + 1 → i < length xs → x ≡ get_or xs i x
     → size ≡ length (joined (trees_left (x ∷ [])))
     → after ≡ room + size → after ≡ length (joined (trees_left (take (i + 1) xs))) + 1
 left_more xs i room size after x h l is s more =
     let all : joined (trees_left (take (i + 1) xs)) ≡ joined (trees_left (take i xs)) ++ joined (trees_left (x ∷ [])) =
-    ap (λ (ys : List (Option (List Waiting))). joined (trees_left ys))
-    (take_more xs i x l ∙ ap (λ (y : Option (List Waiting)). take i xs ++ y ∷ []) (sym is))
+    ap (λ (ys : List (Option (List UnfinishedRequest))). joined (trees_left ys))
+    (take_more xs i x l ∙ ap (λ (y : Option (List UnfinishedRequest)). take i xs ++ y ∷ []) (sym is))
     ∙ ap joined (left_append (take i xs) (x ∷ [])) ∙ joined_append (trees_left (take i xs)) (trees_left (x ∷ [])) in
     omega (arith, h, s, more, ap length all, length-append (joined (trees_left (take i xs))) (joined (trees_left (x ∷ []))))
 
-pub all_left : (ns : List ℕ) (again : List (Option (List Waiting))) → AreNumbered ns again
+pub all_left : (ns : List ℕ) (again : List (Option (List UnfinishedRequest))) → AreNumbered ns again
     → AllByRecursion IsWhole (trees_left again)
 all_left [] [] h = tt
 all_left [] (a ∷ again) h = absurd h
@@ -48,7 +48,7 @@ rise_lower : (lower least : ℕ) (ns : List ℕ) → lower ≤ least → RiseFro
 rise_lower lower least [] l h = tt
 rise_lower lower least (n ∷ ns) l h = let m : least ≤ n = h.0 in (omega (arith, l, m), h.1)
 
-pub rise_left : (least : ℕ) (ns : List ℕ) (again : List (Option (List Waiting))) → RiseFrom least ns → AreNumbered ns again
+pub rise_left : (least : ℕ) (ns : List ℕ) (again : List (Option (List UnfinishedRequest))) → RiseFrom least ns → AreNumbered ns again
     → RiseFrom least (roots_in (trees_left again))
 rise_left least [] [] r h = tt
 rise_left least [] (a ∷ again) r h = absurd h
@@ -60,7 +60,7 @@ rise_left least (n ∷ ns) (Some ws ∷ again) r h =
     subst (λ (o : Option ℕ). RiseFrom least (number_or o (roots_in (trees_left again)))) (sym h.0.0)
     (r.0, rise_left (n + 1) ns again r.1 h.1)
 
-pub left_few : (again : List (Option (List Waiting))) → length (trees_left again) ≤ length again
+pub left_few : (again : List (Option (List UnfinishedRequest))) → length (trees_left again) ≤ length again
 left_few [] = omega arith
 left_few (None ∷ again) = let l : length (trees_left again) ≤ length again = left_few again in omega arith
 left_few (Some ws ∷ again) = let l : length (trees_left again) ≤ length again = left_few again in omega arith
@@ -73,11 +73,11 @@ flat_before (TreeOf p kids more) g =
     ap (λ (ps : List Pending). flat kids ++ p ∷ ps) (flat_before more g) ∙ sym (append_assoc (flat kids) (p ∷ flat more) (flat g))
 
 -- the trees are those that the attempts left, in their order
-pub record LeftBy (again : List (Option (List Waiting))) (k : Kids) : Type 0 where
+pub record LeftBy (again : List (Option (List UnfinishedRequest))) (k : Kids) : Type 0 where
   pub are : AreTrees (trees_left again) k.left
   pub list : k.again ≡ flat k.left
 
-pub left_by : (again : List (Option (List Waiting))) (slots : List Slot) → AreLeft again slots
+pub left_by : (again : List (Option (List UnfinishedRequest))) (slots : List Slot) → AreLeft again slots
     → AllByRecursion IsWhole (trees_left again) → LeftBy again (kids_by slots)
 left_by [] [] h w = record { are = tt; list = refl }
 left_by [] (s ∷ slots) h w = absurd h
@@ -112,7 +112,7 @@ left_by (a ∷ again) (Heard (WalkedBy x) ∷ slots) h w = absurd h.0
 left_by (a ∷ again) (Heard (Taken x) ∷ slots) h w = absurd h.0
 left_by (a ∷ again) (Heard (SettledBy x) ∷ slots) h w = absurd h.0
 
-pub left_of_one : (k : Kids) (one : Attempted) (p : Pending) (ws : List Waiting) → one.again ≡ p ∷ [] → IsTreeOf ws p k.left
+pub left_of_one : (k : Kids) (one : Attempted) (p : Pending) (ws : List UnfinishedRequest) → one.again ≡ p ∷ [] → IsTreeOf ws p k.left
     → k.again ≡ flat k.left → IsLeft ws (one_of k one)
 left_of_one k one p ws e h l = record {
   tree = subst (λ (ps : List Pending). IsForestOf ws (root_left ps k.left)) (sym e) h;
@@ -122,46 +122,46 @@ left_of_one k one p ws e h l = record {
 -- ---- putting them behind one another
 
 -- so many trees are there already, and this is left to be put there
-pub record AgainSoFar (again rest : List (Option (List Waiting))) (all : List Waiting) (room unfinished : ℕ) : Type 0 where
+pub record AgainSoFar (again rest : List (Option (List UnfinishedRequest))) (all : List UnfinishedRequest) (room unfinished : ℕ) : Type 0 where
   pub put : PutSoFar (trees_left again) (trees_left rest) all room
   pub count : unfinished + length (trees_left rest) ≡ length (trees_left again)
 
-pub again_begins : (again rest : List (Option (List Waiting))) (all : List Waiting) (room : ℕ) → again ≡ rest → all ≡ []
+pub again_begins : (again rest : List (Option (List UnfinishedRequest))) (all : List UnfinishedRequest) (room : ℕ) → again ≡ rest → all ≡ []
     → length (joined (trees_left again)) + 1 ≤ room → AgainSoFar again rest all room 0
 again_begins again rest all room same none enough = record {
   put = record {
-    list = ap (λ (ws : List Waiting). ws ++ joined (trees_left rest)) none
-        ∙ ap (λ (xs : List (Option (List Waiting))). joined (trees_left xs)) (sym same);
+    list = ap (λ (ws : List UnfinishedRequest). ws ++ joined (trees_left rest)) none
+        ∙ ap (λ (xs : List (Option (List UnfinishedRequest))). joined (trees_left xs)) (sym same);
     enough = enough;
   };
-  count = omega (arith, ap (λ (xs : List (Option (List Waiting))). length (trees_left xs)) same);
+  count = omega (arith, ap (λ (xs : List (Option (List UnfinishedRequest))). length (trees_left xs)) same);
 }
 
-joined_first : (x : Option (List Waiting)) (next : List (Option (List Waiting)))
+joined_first : (x : Option (List UnfinishedRequest)) (next : List (Option (List UnfinishedRequest)))
     → joined (trees_left (x ∷ next)) ≡ joined (trees_left (x ∷ [])) ++ joined (trees_left next)
 joined_first x next = ap joined (left_append (x ∷ []) next) ∙ joined_append (trees_left (x ∷ [])) (trees_left next)
 
-count_first : (x : Option (List Waiting)) (next : List (Option (List Waiting)))
+count_first : (x : Option (List UnfinishedRequest)) (next : List (Option (List UnfinishedRequest)))
     → length (trees_left (x ∷ next)) ≡ length (trees_left (x ∷ [])) + length (trees_left next)
 count_first x next = ap length (left_append (x ∷ []) next) ∙ length-append (trees_left (x ∷ [])) (trees_left next)
 
-pub again_next : (again rest next : List (Option (List Waiting))) (x : Option (List Waiting)) (all after : List Waiting)
+pub again_next : (again rest next : List (Option (List UnfinishedRequest))) (x : Option (List UnfinishedRequest)) (all after : List UnfinishedRequest)
     (room now unfinished more : ℕ)
     → AgainSoFar again rest all room unfinished → rest ≡ x ∷ next
     → after ≡ all ++ joined (trees_left (x ∷ [])) → room ≤ now → more ≡ length (trees_left (x ∷ []))
     → AgainSoFar again next after now (unfinished + more)
 again_next again rest next x all after room now unfinished more h first is wide one = record {
   put = record {
-    list = ap (λ (ws : List Waiting). ws ++ joined (trees_left next)) is
+    list = ap (λ (ws : List UnfinishedRequest). ws ++ joined (trees_left next)) is
         ∙ append_assoc all (joined (trees_left (x ∷ []))) (joined (trees_left next))
-        ∙ ap (λ (ws : List Waiting). all ++ ws) (sym (joined_first x next))
-        ∙ ap (λ (xs : List (Option (List Waiting))). all ++ joined (trees_left xs)) (sym first) ∙ h.put.list;
+        ∙ ap (λ (ws : List UnfinishedRequest). all ++ ws) (sym (joined_first x next))
+        ∙ ap (λ (xs : List (Option (List UnfinishedRequest))). all ++ joined (trees_left xs)) (sym first) ∙ h.put.list;
     enough = omega (arith, h.put.enough, wide);
   };
-  count = omega (arith, h.count, one, count_first x next, ap (λ (xs : List (Option (List Waiting))). length (trees_left xs)) first);
+  count = omega (arith, h.count, one, count_first x next, ap (λ (xs : List (Option (List UnfinishedRequest))). length (trees_left xs)) first);
 }
 
-pub again_fits : (again rest next : List (Option (List Waiting))) (x : Option (List Waiting)) (all : List Waiting) (room unfinished : ℕ)
+pub again_fits : (again rest next : List (Option (List UnfinishedRequest))) (x : Option (List UnfinishedRequest)) (all : List UnfinishedRequest) (room unfinished : ℕ)
     → AgainSoFar again rest all room unfinished → rest ≡ x ∷ next
     → length all + length (joined (trees_left (x ∷ []))) ≤ room
 again_fits again rest next x all room unfinished h first =
@@ -170,13 +170,13 @@ again_fits again rest next x all room unfinished h first =
       h.put.enough,
       ap length h.put.list,
       length-append all (joined (trees_left rest)),
-      ap (λ (xs : List (Option (List Waiting))). length (joined (trees_left xs))) first,
+      ap (λ (xs : List (Option (List UnfinishedRequest))). length (joined (trees_left xs))) first,
       ap length (joined_first x next),
       length-append (joined (trees_left (x ∷ []))) (joined (trees_left next)),
     )
 
 -- no more trees than children
-pub again_counts : (again rest next : List (Option (List Waiting))) (x : Option (List Waiting)) (all : List Waiting)
+pub again_counts : (again rest next : List (Option (List UnfinishedRequest))) (x : Option (List UnfinishedRequest)) (all : List UnfinishedRequest)
     (room unfinished more : ℕ)
     → AgainSoFar again rest all room unfinished → rest ≡ x ∷ next → more ≡ length (trees_left (x ∷ []))
     → unfinished + more ≤ length again
@@ -186,21 +186,21 @@ again_counts again rest next x all room unfinished more h first one =
       h.count,
       one,
       count_first x next,
-      ap (λ (xs : List (Option (List Waiting))). length (trees_left xs)) first,
+      ap (λ (xs : List (Option (List UnfinishedRequest))). length (trees_left xs)) first,
       left_few again,
     )
 
-pub again_all : (again rest : List (Option (List Waiting))) (all : List Waiting) (room unfinished : ℕ)
+pub again_all : (again rest : List (Option (List UnfinishedRequest))) (all : List UnfinishedRequest) (room unfinished : ℕ)
     → AgainSoFar again rest all room unfinished → rest ≡ [] → all ≡ joined (trees_left again)
 again_all again rest all room unfinished h none =
-    sym (append-nil all) ∙ ap (λ (xs : List (Option (List Waiting))). all ++ joined (trees_left xs)) (sym none) ∙ h.put.list
+    sym (append-nil all) ∙ ap (λ (xs : List (Option (List UnfinishedRequest))). all ++ joined (trees_left xs)) (sym none) ∙ h.put.list
 
-pub again_count : (again rest : List (Option (List Waiting))) (all : List Waiting) (room unfinished : ℕ)
+pub again_count : (again rest : List (Option (List UnfinishedRequest))) (all : List UnfinishedRequest) (room unfinished : ℕ)
     → AgainSoFar again rest all room unfinished → rest ≡ [] → unfinished ≡ length (trees_left again)
 again_count again rest all room unfinished h none =
-    omega (arith, h.count, ap (λ (xs : List (Option (List Waiting))). length (trees_left xs)) none)
+    omega (arith, h.count, ap (λ (xs : List (Option (List UnfinishedRequest))). length (trees_left xs)) none)
 
-pub number_last : (front all : List Waiting) (w : Waiting) → all ≡ front ++ w ∷ [] → root_number all ≡ Some w.request.number
+pub number_last : (front all : List UnfinishedRequest) (w : UnfinishedRequest) → all ≡ front ++ w ∷ [] → root_number all ≡ Some w.request.number
 number_last front all w is =
-    ap (λ (ws : List Waiting). option_map (λ (v : Waiting). v.request.number) (root_of ws)) is
-    ∙ ap (option_map (λ (v : Waiting). v.request.number)) (root_last front w)
+    ap (λ (ws : List UnfinishedRequest). option_map (λ (v : UnfinishedRequest). v.request.number) (root_of ws)) is
+    ∙ ap (option_map (λ (v : UnfinishedRequest). v.request.number)) (root_last front w)

@@ -10,7 +10,7 @@ use Rattle.zio_children.specs.declared.kids.Kid.{Kid}
 use Rattle.zio_children.specs.declared.kids.KidState.{KidState}
 use Rattle.zio_children.specs.declared.kids.KidState.TheVariants.{Due, Out, Told, Ended}
 use Rattle.zio_frames.specs.Slots.{Slot}
-use Rattle.zio_stages.specs.declared.waiting.Waiting.{Waiting}
+use Rattle.zio_stages.specs.declared.waiting.UnfinishedRequest.{UnfinishedRequest}
 use Rattle.zio_stages.specs.KidTrees.{AreLeft, IsKids, IsLeftIn, KidsHeld, trees_left}
 use Rattle.zio_stages.specs.Wholes.{AreTrees, IsWhole}
 use Rattle.zio_stages.proofs.AgainLemmas.{LeftBy, left_by}
@@ -60,11 +60,11 @@ all_finish (k ∷ kids) e =
 
 -- ---- what is left
 
-none_if : (a : Option (List Waiting)) → is_some a ≡ false → a ≡ None
+none_if : (a : Option (List UnfinishedRequest)) → is_some a ≡ false → a ≡ None
 none_if None e = refl
 none_if (Some ws) e = absurd (cc)
 
-none_heard : (number : ℕ) (state : KidState) (slot : Slot) (a : Option (List Waiting)) → has_bits (bits_by state) ≡ false
+none_heard : (number : ℕ) (state : KidState) (slot : Slot) (a : Option (List UnfinishedRequest)) → has_bits (bits_by state) ≡ false
     → FitsState number state slot → IsLeftIn a slot → a ≡ None
 none_heard number Due slot a e f i = absurd f
 none_heard number Out slot a e f i = subst (IsLeftIn a) f i
@@ -74,11 +74,11 @@ none_heard number (Ended bits error pointer) slot a e f i =
     let heard = subst (IsLeftIn a) f.1 i in
     none_if a (sym heard.0 ∙ ap (λ (b : Bits). has_bits b) f.2.same_bits ∙ e)
 
-left_first : (a : Option (List Waiting)) (again : List (Option (List Waiting))) → a ≡ None → trees_left again ≡ []
+left_first : (a : Option (List UnfinishedRequest)) (again : List (Option (List UnfinishedRequest))) → a ≡ None → trees_left again ≡ []
     → trees_left (a ∷ again) ≡ []
-left_first a again none rest = ap (λ (b : Option (List Waiting)). trees_left (b ∷ again)) none ∙ rest
+left_first a again none rest = ap (λ (b : Option (List UnfinishedRequest)). trees_left (b ∷ again)) none ∙ rest
 
-none_left : (kids : List Kid) (again : List (Option (List Waiting))) (slots : List Slot) → AllByRecursion Finishes kids
+none_left : (kids : List Kid) (again : List (Option (List UnfinishedRequest))) (slots : List Slot) → AllByRecursion Finishes kids
     → FitKids kids slots → AreLeft again slots → trees_left again ≡ []
 none_left kids [] slots all f h = refl
 none_left [] (a ∷ again) [] all f h = left_first a again h.0 (none_left [] again [] all f h.1)
@@ -99,5 +99,5 @@ nothing_left x attempt forest asked slots is e =
     let none : trees_left x.again ≡ [] = none_left x.kids.kids x.again slots (all_finish x.kids.kids e) is.fits is.left in
     let by : LeftBy x.again (kids_by slots) = left_by x.again slots is.left (subst (AllByRecursion IsWhole) (sym none) tt) in
     let left : (kids_by slots).left ≡ NoTrees =
-    no_trees (kids_by slots).left (subst (λ (ts : List (List Waiting)). AreTrees ts (kids_by slots).left) none by.are) in
+    no_trees (kids_by slots).left (subst (λ (ts : List (List UnfinishedRequest)). AreTrees ts (kids_by slots).left) none by.are) in
     (by.list ∙ ap flat left, left)

@@ -3,7 +3,7 @@ use Rattle.std.proofs.Common.{◌≡◌, ℕ, zero, suc, ◌+◌, List, [], ◌�
 use Rattle.std.proofs.lemmas.List.{map-append}
 use Rattle.zio_gang.specs.Attempts.{Pending}
 use Rattle.zio_trace.specs.Families.{Forest, NoTrees, TreeOf, before, flat}
-use Rattle.zio_stages.specs.declared.waiting.Waiting.{Waiting}
+use Rattle.zio_stages.specs.declared.waiting.UnfinishedRequest.{UnfinishedRequest}
 use Rattle.zio_stages.specs.Waits.{pending_of, pendings}
 use Rattle.zio_stages.specs.Wholes.{IsForestOf, Shape, shape_of, shapes, trees_in}
 
@@ -74,11 +74,11 @@ again_read : (f : Forest) → onto (read NoTrees (shapes f)) NoTrees ≡ f
 again_read f = ap (λ (g : Forest). onto g NoTrees) (read_shapes NoTrees f) ∙ onto_onto f NoTrees NoTrees ∙ before_none f
 
 -- A list is one forest at most.
-pub one_forest : (ws : List Waiting) (f g : Forest) → IsForestOf ws f → IsForestOf ws g → f ≡ g
+pub one_forest : (ws : List UnfinishedRequest) (f g : Forest) → IsForestOf ws f → IsForestOf ws g → f ≡ g
 one_forest ws f g a b = sym (again_read f) ∙ ap (λ (ss : List Shape). onto (read NoTrees ss) NoTrees) (sym a ∙ b) ∙ again_read g
 
 -- and one tree at most
-pub one_tree : (ws : List Waiting) (p q : Pending) (below kids : Forest) → IsForestOf ws (TreeOf p below NoTrees)
+pub one_tree : (ws : List UnfinishedRequest) (p q : Pending) (below kids : Forest) → IsForestOf ws (TreeOf p below NoTrees)
     → IsForestOf ws (TreeOf q kids NoTrees) → (p ≡ q) × (below ≡ kids)
 one_tree ws p q below kids a b =
     let e : TreeOf p below NoTrees ≡ TreeOf q kids NoTrees = one_forest ws (TreeOf p below NoTrees) (TreeOf q kids NoTrees) a b in
@@ -93,16 +93,16 @@ shapes_flat (TreeOf p kids others) =
     map-append (λ (x : Shape). x.pending) (shapes kids) (s ∷ shapes others)
     ∙ (λ i. shapes_flat kids i ++ p ∷ shapes_flat others i)
 
-seen_shapes : (ws : List Waiting) → map (λ (s : Shape). s.pending) (map shape_of ws) ≡ pendings ws
+seen_shapes : (ws : List UnfinishedRequest) → map (λ (s : Shape). s.pending) (map shape_of ws) ≡ pendings ws
 seen_shapes [] = refl
 seen_shapes (w ∷ ws) = ap (λ (ps : List Pending). pending_of w ∷ ps) (seen_shapes ws)
 
-pub forest_flat : (ws : List Waiting) (f : Forest) → IsForestOf ws f → pendings ws ≡ flat f
+pub forest_flat : (ws : List UnfinishedRequest) (f : Forest) → IsForestOf ws f → pendings ws ≡ flat f
 forest_flat ws f h = sym (seen_shapes ws) ∙ ap (map (λ (s : Shape). s.pending)) h ∙ shapes_flat f
 
 length_map : {X Y : Type 0} (f : X → Y) (xs : List X) → length (map f xs) ≡ length xs
 length_map f [] = refl
 length_map f (x ∷ xs) = ap suc (length_map f xs)
 
-pub forest_length : (ws : List Waiting) (f : Forest) → IsForestOf ws f → length ws ≡ length (flat f)
+pub forest_length : (ws : List UnfinishedRequest) (f : Forest) → IsForestOf ws f → length ws ≡ length (flat f)
 forest_length ws f h = sym (length_map pending_of ws) ∙ ap length (forest_flat ws f h)

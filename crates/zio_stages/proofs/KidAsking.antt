@@ -8,7 +8,7 @@ use Rattle.zio_children.specs.RequestKids.{FitKids, root_numbers}
 use Rattle.zio_children.specs.declared.kids.Kid.{Kid}
 use Rattle.zio_frames.specs.Moves.{AsksNext, GoesBesideAll}
 use Rattle.zio_frames.specs.Slots.{Heard, IsOut, Slot}
-use Rattle.zio_stages.specs.declared.waiting.Waiting.{Waiting}
+use Rattle.zio_stages.specs.declared.waiting.UnfinishedRequest.{UnfinishedRequest}
 use Rattle.zio_stages.specs.KidTrees.{HandsOut, IsKids, KidsHeld, attempts_of}
 use Rattle.zio_stages.specs.PartsOut.{ArePartsOut}
 use Rattle.zio_stages.proofs.Asking.{asks_next}
@@ -81,7 +81,7 @@ kids_full x attempt forest asked slots is =
 -- ---- the next one
 
 -- the request asks for the tree that is handed out
-pub asks_kid : (t : Terms) (p : Pending) (ws : List Waiting) (x y : KidsHeld) (attempt : ℕ) (forest : Forest)
+pub asks_kid : (t : Terms) (p : Pending) (ws : List UnfinishedRequest) (x y : KidsHeld) (attempt : ℕ) (forest : Forest)
     (asked : List Task) (slots : List Slot) (h : HandsOut ws x y attempt forest asked slots)
     → IsKids x attempt forest asked slots
     → AsksNext t (record { op = Attempt attempt p forest; asked = asked; slots = slots }) (Attempt attempt h.root h.below)

@@ -8,7 +8,7 @@ use Rattle.zio_stages.specs.KidLists.{IsLeftList}
 use Rattle.zio_stages.specs.KidPointers.{HasValid, HaveValidPointers}
 use Rattle.zio_stages.specs.KidTrees.{KidsHeld, trees_left}
 use Rattle.zio_stages.specs.Wholes.{counted, joined}
-use Rattle.zio_stages.specs.declared.waiting.Waiting.{Waiting}
+use Rattle.zio_stages.specs.declared.waiting.UnfinishedRequest.{UnfinishedRequest}
 use Rattle.zio_stages.proofs.KidPointerLemmas.{IsValidIn, IsValidReturn, children_valid, kept_valid, merged_valid, returns_valid}
 use Rattle.zio_stages.proofs.SplitLemmas.{all_reversed}
 
@@ -40,7 +40,7 @@ finished_valid x h =
 
 -- ---- what goes again
 
-pub left_list : (ws : List Waiting) (w : Waiting) (x : KidsHeld) (kept : List KeptChild) → map child_of kept ≡ finished_in x.kids
+pub left_list : (ws : List UnfinishedRequest) (w : UnfinishedRequest) (x : KidsHeld) (kept : List KeptChild) → map child_of kept ≡ finished_in x.kids
     → (below : ℕ) × (ws ≡ joined (trees_left x.again) ++ counted (record w { kept = kept }) (length (trees_left x.again)) below ∷ [])
     → IsLeftList ws w x
 left_list ws w x kept same list = record {

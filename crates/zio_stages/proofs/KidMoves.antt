@@ -14,7 +14,7 @@ use Rattle.zio_children.proofs.KidFields.{numbers_set, out_at}
 use Rattle.zio_children.proofs.KidPlans.{next_kid}
 use Rattle.zio_frames.specs.Slots.{Heard, IsOut, Slot}
 use Rattle.zio_frames.proofs.SlotMoves.{IsOutAt}
-use Rattle.zio_stages.specs.declared.waiting.Waiting.{Waiting}
+use Rattle.zio_stages.specs.declared.waiting.UnfinishedRequest.{UnfinishedRequest}
 use Rattle.zio_stages.specs.KidTrees.{AreHeld, AreLeft, AreNumbered, HandsOut, IsKids, IsLeftIn, KidsHeld, attempts_of, trees_from}
 use Rattle.zio_stages.specs.Wholes.{AreTrees, IsTreeOf, IsWhole, number_or, root_number, roots_in}
 use Rattle.zio_stages.proofs.WholeLemmas.{root_number_is}
@@ -33,13 +33,13 @@ dropped_one (x ∷ xs) ys zero y e = let first : x ≡ y = cc in let rest : ys �
 dropped_one (x ∷ xs) ys (suc n) y e = dropped_one xs ys n y e
 
 -- the first tree that is due is that of the next child
-pub record NextDue (ws : List Waiting) (due : List (List Waiting)) (numbers : List ℕ) (handed : ℕ) : Type 0 where
+pub record NextDue (ws : List UnfinishedRequest) (due : List (List UnfinishedRequest)) (numbers : List ℕ) (handed : ℕ) : Type 0 where
   pub number : ℕ
   pub root : root_number ws ≡ Some number
   pub is : slice_get numbers handed ≡ Some number
   pub rest : roots_in due ≡ drop (handed + 1) numbers
 
-pub next_due : (ws : List Waiting) (due : List (List Waiting)) (numbers : List ℕ) (handed : ℕ) → IsWhole ws
+pub next_due : (ws : List UnfinishedRequest) (due : List (List UnfinishedRequest)) (numbers : List ℕ) (handed : ℕ) → IsWhole ws
     → roots_in (ws ∷ due) ≡ drop handed numbers → NextDue ws due numbers handed
 next_due ws due numbers handed h e =
     let root : root_number ws ≡ Some h.root.request.number = root_number_is ws h.root h.kids h.is in
@@ -47,7 +47,7 @@ next_due ws due numbers handed h e =
     dropped_one numbers (roots_in due) handed h.root.request.number (ap (λ (o : Option ℕ). number_or o (roots_in due)) (sym root) ∙ e) in
     record { number = h.root.request.number; root = root; is = d.0; rest = d.1 ∙ ap (λ k. drop k numbers) (sym (add-one handed)) }
 
-pub number_of_next : (x : KidsHeld) (ws : List Waiting) (due : List (List Waiting)) → AreHeld x → x.due ≡ ws ∷ due
+pub number_of_next : (x : KidsHeld) (ws : List UnfinishedRequest) (due : List (List UnfinishedRequest)) → AreHeld x → x.due ≡ ws ∷ due
     → root_number ws ≡ slice_get (numbers_of x.kids.kids) x.kids.handed
 number_of_next x ws due h e =
     let each : AllByRecursion IsWhole (ws ∷ due) = subst (AllByRecursion IsWhole) e h.each in
@@ -55,7 +55,7 @@ number_of_next x ws due h e =
     next_due ws due (numbers_of x.kids.kids) x.kids.handed each.0 (ap roots_in (sym e) ∙ h.due) in
     d.root ∙ sym d.is
 
-pub handed_held : (x : KidsHeld) (ws : List Waiting) (due : List (List Waiting)) (kids : KidsUnderWay) → AreHeld x
+pub handed_held : (x : KidsHeld) (ws : List UnfinishedRequest) (due : List (List UnfinishedRequest)) (kids : KidsUnderWay) → AreHeld x
     → x.due ≡ ws ∷ due → kids ≡ kid_handed x.kids → AreHeld (record { kids = kids; due = due; again = x.again })
 handed_held x ws due kids h e k =
     let each : AllByRecursion IsWhole (ws ∷ due) = subst (AllByRecursion IsWhole) e h.each in
@@ -79,17 +79,17 @@ some_due x h l e =
       numbers_count x.kids.kids,
       length-drop x.kids.handed (numbers_of x.kids.kids),
       ap length h.due,
-      ap (λ (ts : List (List Waiting)). length (roots_in ts)) none,
+      ap (λ (ts : List (List UnfinishedRequest)). length (roots_in ts)) none,
     )
 
-pub record AtPlace (ws : List Waiting) (due : List (List Waiting)) (n : ℕ) (forest : Forest) : Type 0 where
+pub record AtPlace (ws : List UnfinishedRequest) (due : List (List UnfinishedRequest)) (n : ℕ) (forest : Forest) : Type 0 where
   pub root : Pending
   pub below : Forest
   pub tree : IsTreeOf ws root below
   pub place : IsTreeAt n forest root below
   pub rest : AreTrees due (trees_from (suc n) forest)
 
-at_place : (ws : List Waiting) (due : List (List Waiting)) (n : ℕ) (forest : Forest)
+at_place : (ws : List UnfinishedRequest) (due : List (List UnfinishedRequest)) (n : ℕ) (forest : Forest)
     → AreTrees (ws ∷ due) (trees_from n forest) → AtPlace ws due n forest
 at_place ws due zero NoTrees h = absurd h
 at_place ws due (suc n) NoTrees h = absurd h
@@ -105,19 +105,19 @@ attempts_more attempt zero (TreeOf q kids others) p below h = λ i. Attempt atte
 attempts_more attempt (suc n) (TreeOf q kids others) p below h =
     ap (λ (ops : List Task). Attempt attempt q kids ∷ ops) (attempts_more attempt n others p below h)
 
-left_more : (again : List (Option (List Waiting))) (slots : List Slot) → length slots < length again → AreLeft again slots
+left_more : (again : List (Option (List UnfinishedRequest))) (slots : List Slot) → length slots < length again → AreLeft again slots
     → AreLeft again (slots ++ IsOut None ∷ [])
 left_more [] slots l h = absurd (omega (arith, l))
 left_more (a ∷ again) [] l h = h
 left_more (a ∷ again) (slot ∷ slots) l h = (h.0, left_more again slots (omega (arith, l)) h.1)
 
-pub numbered_count : (ns : List ℕ) (again : List (Option (List Waiting))) → AreNumbered ns again → length again ≡ length ns
+pub numbered_count : (ns : List ℕ) (again : List (Option (List UnfinishedRequest))) → AreNumbered ns again → length again ≡ length ns
 numbered_count [] [] h = refl
 numbered_count [] (a ∷ again) h = absurd h
 numbered_count (n ∷ ns) [] h = absurd h
 numbered_count (n ∷ ns) (a ∷ again) h = ap suc (numbered_count ns again h.1)
 
-pub hands_out : (x : KidsHeld) (ws : List Waiting) (due : List (List Waiting)) (kids : KidsUnderWay) (attempt : ℕ)
+pub hands_out : (x : KidsHeld) (ws : List UnfinishedRequest) (due : List (List UnfinishedRequest)) (kids : KidsUnderWay) (attempt : ℕ)
     (forest : Forest) (asked : List Task) (slots : List Slot)
     → AreHeld x → x.kids.handed < length x.kids.kids
     → x.due ≡ ws ∷ due → kids ≡ kid_handed x.kids → (Fits x.kids slots → Fits kids (slots ++ IsOut None ∷ []))
@@ -126,7 +126,7 @@ pub hands_out : (x : KidsHeld) (ws : List Waiting) (due : List (List Waiting)) (
 hands_out x ws due kids attempt forest asked slots h l e k fits is =
     let n : ℕ = x.kids.handed in
     let a : AtPlace ws due n forest =
-    at_place ws due n forest (subst (λ (ts : List (List Waiting)). AreTrees ts (trees_from n forest)) e is.due) in
+    at_place ws due n forest (subst (λ (ts : List (List UnfinishedRequest)). AreTrees ts (trees_from n forest)) e is.due) in
     let handed : kids.handed ≡ suc n = ap (λ (y : KidsUnderWay). y.handed) k ∙ add-one n in
     record {
       root = a.root;
@@ -149,17 +149,17 @@ hands_out x ws due kids attempt forest asked slots h l e k fits is =
 -- ---- a child that is out
 
 -- nothing is left of it
-out_left : (again : List (Option (List Waiting))) (slots : List Slot) (n : ℕ) (slot : Slot) → IsOutAt n slots
+out_left : (again : List (Option (List UnfinishedRequest))) (slots : List Slot) (n : ℕ) (slot : Slot) → IsOutAt n slots
     → AreLeft again slots → IsLeftIn None slot → AreLeft again (set slots n slot)
 out_left again [] n slot o h i = absurd o
 out_left [] (s ∷ slots) n slot o h i = absurd h
 out_left (a ∷ again) (IsOut told ∷ slots) zero slot o h i =
-    (subst (λ (b : Option (List Waiting)). IsLeftIn b slot) (sym h.0) i, h.1)
+    (subst (λ (b : Option (List UnfinishedRequest)). IsLeftIn b slot) (sym h.0) i, h.1)
 out_left (a ∷ again) (Heard v ∷ slots) zero slot o h i = absurd o
 out_left (a ∷ again) (s ∷ slots) (suc n) slot o h i = (h.0, out_left again slots n slot o h.1 i)
 
 -- this is left of it
-again_left : (again : List (Option (List Waiting))) (slots : List Slot) (n : ℕ) (ws : List Waiting) (slot : Slot)
+again_left : (again : List (Option (List UnfinishedRequest))) (slots : List Slot) (n : ℕ) (ws : List UnfinishedRequest) (slot : Slot)
     → IsOutAt n slots → AreLeft again slots → IsLeftIn (Some ws) slot → AreLeft (set again n (Some ws)) (set slots n slot)
 again_left again [] n ws slot o h i = absurd o
 again_left [] (s ∷ slots) n ws slot o h i = absurd h
@@ -173,7 +173,7 @@ length_set (y ∷ xs) (suc n) x = ap suc (length_set xs n x)
 
 -- it is so far now
 pub moved_kids : (x : KidsHeld) (kids : KidsUnderWay) (n : ℕ) (state : KidState) (pointer : Option Bp)
-    (again : List (Option (List Waiting))) (slot : Slot) (attempt : ℕ) (forest : Forest) (asked : List Task) (slots : List Slot)
+    (again : List (Option (List UnfinishedRequest))) (slot : Slot) (attempt : ℕ) (forest : Forest) (asked : List Task) (slots : List Slot)
     → kids ≡ kid_is x.kids n state → Fits kids (set slots n slot) → AreLeft again (set slots n slot)
     → IsKids x attempt forest asked slots
     → IsKids (record { kids = kids; due = x.due; again = again }) attempt forest asked (set slots n slot)
@@ -197,7 +197,7 @@ out_kids x kids n state pointer slot attempt forest asked slots out k fits i is 
     moved_kids x kids n state pointer x.again slot attempt forest asked slots k (fits is.fits)
     (out_left x.again slots n slot (out_at pointer x.kids.kids n slots out is.fits) is.left i) is
 
-pub again_kids : (x : KidsHeld) (kids : KidsUnderWay) (n : ℕ) (state : KidState) (pointer : Option Bp) (ws : List Waiting)
+pub again_kids : (x : KidsHeld) (kids : KidsUnderWay) (n : ℕ) (state : KidState) (pointer : Option Bp) (ws : List UnfinishedRequest)
     (slot : Slot) (attempt : ℕ) (forest : Forest) (asked : List Task) (slots : List Slot)
     → IsOutWith pointer (state_at x.kids.kids n) → kids ≡ kid_is x.kids n state
     → (Fits x.kids slots → Fits kids (set slots n slot)) → IsLeftIn (Some ws) slot → IsKids x attempt forest asked slots
@@ -218,7 +218,7 @@ moved_held x kids n state h k =
       rising = subst (RiseFrom 0) same h.rising;
     })
 
-numbered_set : (ns : List ℕ) (again : List (Option (List Waiting))) (n : ℕ) (ws : List Waiting)
+numbered_set : (ns : List ℕ) (again : List (Option (List UnfinishedRequest))) (n : ℕ) (ws : List UnfinishedRequest)
     → root_number ws ≡ slice_get ns n → IsWhole ws → AreNumbered ns again → AreNumbered ns (set again n (Some ws))
 numbered_set [] [] n ws e w h = tt
 numbered_set [] (a ∷ again) n ws e w h = absurd h
@@ -226,7 +226,7 @@ numbered_set (m ∷ ns) [] n ws e w h = absurd h
 numbered_set (m ∷ ns) (a ∷ again) zero ws e w h = ((e, w), h.1)
 numbered_set (m ∷ ns) (a ∷ again) (suc n) ws e w h = (h.0, numbered_set ns again n ws e w h.1)
 
-pub again_held : (x : KidsHeld) (kids : KidsUnderWay) (n : ℕ) (state : KidState) (ws : List Waiting) → AreHeld x
+pub again_held : (x : KidsHeld) (kids : KidsUnderWay) (n : ℕ) (state : KidState) (ws : List UnfinishedRequest) → AreHeld x
     → kids ≡ kid_is x.kids n state → root_number ws ≡ slice_get (numbers_of x.kids.kids) n → IsWhole ws
     → AreHeld (record { kids = kids; due = x.due; again = set x.again n (Some ws) })
 again_held x kids n state ws h k e w =

@@ -14,7 +14,7 @@ use Rattle.zio_children.specs.declared.kids.Kid.{Kid}
 use Rattle.zio_children.specs.declared.kids.KidState.{KidState}
 use Rattle.zio_children.specs.declared.kids.KidState.TheVariants.{Due, Ended, Out, Told}
 use Rattle.zio_children.proofs.KidReturns.{same_pointers}
-use Rattle.zio_content.specs.Pointers.{IsNoneOrValid}
+use Rattle.zio_gang.specs.Pointers.{IsNoneOrValid}
 use Rattle.zio_stages.specs.KidPointers.{HasToldValid, HasValid, HaveValidPointers}
 use Rattle.zio_stages.specs.WrittenBlocks.{HaveAllTold}
 use Rattle.zio_stages.proofs.SplitLemmas.{all_reversed, reverse_first}

@@ -6,7 +6,7 @@ use Rattle.zio_gang.specs.Attempts.{Pending}
 use Rattle.zio_trace.specs.Families.{Forest, NoTrees, TreeOf, flat}
 use Rattle.zio_children.specs.RequestKids.{Fits, IsDue, KidsUnderWay, RiseFrom, due_kids, fresh_kids, numbers_of}
 use Rattle.zio_children.specs.declared.kept.KeptChild.{KeptChild}
-use Rattle.zio_stages.specs.declared.waiting.Waiting.{Waiting}
+use Rattle.zio_stages.specs.declared.waiting.UnfinishedRequest.{UnfinishedRequest}
 use Rattle.zio_stages.specs.KidLists.{AreBegun, AreMarked}
 use Rattle.zio_stages.specs.KidTrees.{AreHeld, AreLeft, AreNumbered, IsKids, KidsHeld}
 use Rattle.zio_stages.specs.Splits.{AreSoMany, AreTaken}
@@ -22,7 +22,7 @@ or_append : (o : Option ℕ) (xs ys : List ℕ) → number_or o (xs ++ ys) ≡ n
 or_append None xs ys = refl
 or_append (Some n) xs ys = refl
 
-roots_append : (xs ys : List (List Waiting)) → roots_in (xs ++ ys) ≡ roots_in xs ++ roots_in ys
+roots_append : (xs ys : List (List UnfinishedRequest)) → roots_in (xs ++ ys) ≡ roots_in xs ++ roots_in ys
 roots_append [] ys = refl
 roots_append (x ∷ xs) ys =
     ap (number_or (root_number x)) (roots_append xs ys) ∙ or_append (root_number x) (roots_in xs) (roots_in ys)
@@ -31,29 +31,29 @@ or_reverse : (o : Option ℕ) (ns : List ℕ) → reverse ns ++ number_or o [] �
 or_reverse None ns = append-nil (reverse ns)
 or_reverse (Some n) ns = sym (reverse_first n ns)
 
-pub roots_reverse : (xs : List (List Waiting)) → roots_in (reverse xs) ≡ reverse (roots_in xs)
+pub roots_reverse : (xs : List (List UnfinishedRequest)) → roots_in (reverse xs) ≡ reverse (roots_in xs)
 roots_reverse [] = refl
 roots_reverse (x ∷ xs) =
     ap roots_in (reverse_first x xs) ∙ roots_append (reverse xs) (x ∷ [])
     ∙ ap (λ (ns : List ℕ). ns ++ number_or (root_number x) []) (roots_reverse xs) ∙ or_reverse (root_number x) (roots_in xs)
 
-pub roots_more : (xs : List (List Waiting)) (i n : ℕ) (x : List Waiting) (numbers after : List ℕ)
+pub roots_more : (xs : List (List UnfinishedRequest)) (i n : ℕ) (x : List UnfinishedRequest) (numbers after : List ℕ)
     → numbers ≡ roots_in (take i xs) → i < length xs → x ≡ get_or xs i x → root_number x ≡ Some n → after ≡ numbers ++ n ∷ []
     → after ≡ roots_in (take (i + 1) xs)
 roots_more xs i n x numbers after h l is root more =
     let one : roots_in (get_or xs i x ∷ []) ≡ n ∷ [] =
-    ap (λ (ws : List Waiting). number_or (root_number ws) []) (sym is) ∙ ap (λ (o : Option ℕ). number_or o []) root in
+    ap (λ (ws : List UnfinishedRequest). number_or (root_number ws) []) (sym is) ∙ ap (λ (o : Option ℕ). number_or o []) root in
     more ∙ (λ j. h j ++ sym one j) ∙ sym (ap roots_in (take_more xs i x l) ∙ roots_append (take i xs) (get_or xs i x ∷ []))
 
 -- ---- the root of a list
 
 -- what stands before the root is the trees under it
-pub record Begun (front : List Waiting) (root : Waiting) (p : Pending) (kids : Forest) : Type 0 where
+pub record Begun (front : List UnfinishedRequest) (root : UnfinishedRequest) (p : Pending) (kids : Forest) : Type 0 where
   pub seen : pending_of root ≡ p
   pub under : IsForestOf front kids
   pub count : root.unfinished ≡ trees_in kids
 
-pub begun : (ws front : List Waiting) (root : Waiting) (p : Pending) (kids : Forest) → ws ≡ front ++ root ∷ []
+pub begun : (ws front : List UnfinishedRequest) (root : UnfinishedRequest) (p : Pending) (kids : Forest) → ws ≡ front ++ root ∷ []
     → IsTreeOf ws p kids → Begun front root p kids
 begun ws front root p kids is h =
     let s : Shape = record { pending = p; unfinished = trees_in kids; below = length (flat kids) } in
@@ -62,24 +62,24 @@ begun ws front root p kids is h =
     (sym (map-append shape_of front (root ∷ [])) ∙ ap (map shape_of) (sym is) ∙ h) in
     record { seen = ap (λ (x : Shape). x.pending) e.1; under = e.0; count = ap (λ (x : Shape). x.unfinished) e.1 }
 
-pub so_many : (ws front : List Waiting) (root : Waiting) → ws ≡ front ++ root ∷ [] → IsWhole ws → AreSoMany front root.unfinished
+pub so_many : (ws front : List UnfinishedRequest) (root : UnfinishedRequest) → ws ≡ front ++ root ∷ [] → IsWhole ws → AreSoMany front root.unfinished
 so_many ws front root is h =
     let b : Begun front root h.root h.kids = begun ws front root h.root h.kids is h.is in
     record { forest = h.kids; is = b.under; count = b.count; top = h.rising.0; rising = h.rising.1 }
 
 -- ---- the trees under it
 
-pub trees_are : (trees : List (List Waiting)) (ws : List Waiting) (f : Forest) → AllByRecursion IsWhole trees
+pub trees_are : (trees : List (List UnfinishedRequest)) (ws : List UnfinishedRequest) (f : Forest) → AllByRecursion IsWhole trees
     → joined trees ≡ ws → IsForestOf ws f → AreTrees trees f
 trees_are trees ws f h is of =
     let g : AreForest trees = forest_of trees h in
     subst (AreTrees trees) (one_forest ws g.forest f (ap (map shape_of) (sym is) ∙ trees_forest trees g.forest g.are) of) g.are
 
-pub taken_all : (old new : List Waiting) (due : List (List Waiting)) → AreTaken old new due → new ≡ []
+pub taken_all : (old new : List UnfinishedRequest) (due : List (List UnfinishedRequest)) → AreTaken old new due → new ≡ []
     → joined (reverse due) ≡ old
-taken_all old new due h none = ap (λ (ws : List Waiting). ws ++ joined (reverse due)) (sym none) ∙ h.list
+taken_all old new due h none = ap (λ (ws : List UnfinishedRequest). ws ++ joined (reverse due)) (sym none) ∙ h.list
 
-pub due_rise : (ws new : List Waiting) (n : ℕ) (due : List (List Waiting)) → AreSoMany ws n → AreTaken ws new due → new ≡ []
+pub due_rise : (ws new : List UnfinishedRequest) (n : ℕ) (due : List (List UnfinishedRequest)) → AreSoMany ws n → AreTaken ws new due → new ≡ []
     → RiseFrom 0 (roots_in (reverse due))
 due_rise ws new n due h t none =
     subst (RiseFrom 0) (sym (trees_roots (reverse due) h.forest (trees_are (reverse due) ws h.forest (all_reversed IsWhole due t.whole) (taken_all ws new due t none) h.is))) h.top
@@ -88,7 +88,7 @@ due_numbers : (numbers : List ℕ) → numbers_of (due_kids numbers) ≡ numbers
 due_numbers [] = refl
 due_numbers (n ∷ numbers) = ap (λ (ns : List ℕ). n ∷ ns) (due_numbers numbers)
 
-roots_count : (trees : List (List Waiting)) → AllByRecursion IsWhole trees → length (roots_in trees) ≡ length trees
+roots_count : (trees : List (List UnfinishedRequest)) → AllByRecursion IsWhole trees → length (roots_in trees) ≡ length trees
 roots_count [] h = refl
 roots_count (ws ∷ trees) h =
     ap (λ (o : Option ℕ). length (number_or o (roots_in trees))) (root_number_is ws h.0.root h.0.kids h.0.is)
@@ -105,10 +105,10 @@ none_left zero = tt
 none_left (suc n) = (refl, none_left n)
 
 -- nothing was handed out
-abbrev first_held : List (List Waiting) → List KeptChild → KidsHeld
+abbrev first_held : List (List UnfinishedRequest) → List KeptChild → KidsHeld
 first_held trees kept = record { kids = fresh_kids (roots_in trees) kept; due = trees; again = replicate (length trees) None }
 
-first_are_held : (trees : List (List Waiting)) (kept : List KeptChild) → AllByRecursion IsWhole trees
+first_are_held : (trees : List (List UnfinishedRequest)) (kept : List KeptChild) → AllByRecursion IsWhole trees
     → RiseFrom 0 (roots_in trees) → AreHeld (first_held trees kept)
 first_are_held trees kept h rise =
     let same : numbers_of (due_kids (roots_in trees)) ≡ roots_in trees = due_numbers (roots_in trees) in
@@ -119,7 +119,7 @@ first_are_held trees kept h rise =
       rising = subst (RiseFrom 0) (sym same) rise;
     }
 
-first_is_kids : (trees : List (List Waiting)) (kept : List KeptChild) (attempt : ℕ) (forest : Forest) → AreTrees trees forest
+first_is_kids : (trees : List (List UnfinishedRequest)) (kept : List KeptChild) (attempt : ℕ) (forest : Forest) → AreTrees trees forest
     → Fits (fresh_kids (roots_in trees) kept) [] → IsKids (first_held trees kept) attempt forest [] []
 first_is_kids trees kept attempt forest are fits = record {
   fits = fits;
@@ -130,14 +130,14 @@ first_is_kids trees kept attempt forest are fits = record {
   left = none_left (length trees);
 }
 
-held_is : (due : List (List Waiting)) (kept : List KeptChild) (kids : KidsUnderWay) (again : List (Option (List Waiting)))
+held_is : (due : List (List UnfinishedRequest)) (kept : List KeptChild) (kids : KidsUnderWay) (again : List (Option (List UnfinishedRequest)))
     → kids ≡ fresh_kids (roots_in (reverse due)) kept → again ≡ replicate (length due) None
     → first_held (reverse due) kept ≡ record { kids = kids; due = reverse due; again = again }
 held_is due kept kids again ek ea =
     λ i. record { kids = sym ek i; due = reverse due; again = (ap (λ n. replicate n None) (length-reverse due) ∙ sym ea) i }
 
-pub begun_held : (ws new : List Waiting) (n : ℕ) (due : List (List Waiting)) (kept : List KeptChild) (kids : KidsUnderWay)
-    (again : List (Option (List Waiting)))
+pub begun_held : (ws new : List UnfinishedRequest) (n : ℕ) (due : List (List UnfinishedRequest)) (kept : List KeptChild) (kids : KidsUnderWay)
+    (again : List (Option (List UnfinishedRequest)))
     → AreSoMany ws n → AreTaken ws new due → new ≡ []
     → kids ≡ fresh_kids (roots_in (reverse due)) kept → again ≡ replicate (length due) None
     → AreHeld (record { kids = kids; due = reverse due; again = again })
@@ -145,8 +145,8 @@ begun_held ws new n due kept kids again h t none ek ea =
     subst AreHeld (held_is due kept kids again ek ea)
     (first_are_held (reverse due) kept (all_reversed IsWhole due t.whole) (due_rise ws new n due h t none))
 
-pub begun_kids : (ws new : List Waiting) (due : List (List Waiting)) (kept : List KeptChild) (kids : KidsUnderWay)
-    (again : List (Option (List Waiting))) (attempt : ℕ) (forest : Forest)
+pub begun_kids : (ws new : List UnfinishedRequest) (due : List (List UnfinishedRequest)) (kept : List KeptChild) (kids : KidsUnderWay)
+    (again : List (Option (List UnfinishedRequest))) (attempt : ℕ) (forest : Forest)
     → AreTaken ws new due → new ≡ []
     → kids ≡ fresh_kids (roots_in (reverse due)) kept → again ≡ replicate (length due) None → Fits kids []
     → IsForestOf ws forest → IsKids (record { kids = kids; due = reverse due; again = again }) attempt forest [] []
@@ -164,20 +164,20 @@ fresh_due : (ns : List ℕ) → AllByRecursion IsDue (due_kids ns)
 fresh_due [] = tt
 fresh_due (n ∷ ns) = (refl, fresh_due ns)
 
-trees_count : (trees : List (List Waiting)) (f : Forest) → AreTrees trees f → length trees ≡ trees_in f
+trees_count : (trees : List (List UnfinishedRequest)) (f : Forest) → AreTrees trees f → length trees ≡ trees_in f
 trees_count [] NoTrees h = refl
 trees_count [] (TreeOf p below others) h = absurd h
 trees_count (ws ∷ trees) NoTrees h = absurd h
 trees_count (ws ∷ trees) (TreeOf p below others) h = ap suc (trees_count trees others h.1)
 
-first_begun : (w : Waiting) (trees : List (List Waiting)) (kept : List KeptChild) → AllByRecursion IsWhole trees → length trees ≡ w.unfinished
+first_begun : (w : UnfinishedRequest) (trees : List (List UnfinishedRequest)) (kept : List KeptChild) → AllByRecursion IsWhole trees → length trees ≡ w.unfinished
     → AreBegun w (first_held trees kept)
 first_begun w trees kept h count =
     let same : length (due_kids (roots_in trees)) ≡ length (roots_in trees) = length-map (roots_in trees) _ in
     record { count = same ∙ roots_count trees h ∙ count; marked = fresh_marked (roots_in trees) (length trees) (roots_count trees h); handed = fresh_due (roots_in trees) }
 
-pub are_begun : (w : Waiting) (ws new : List Waiting) (due : List (List Waiting)) (kept : List KeptChild) (kids : KidsUnderWay)
-    (again : List (Option (List Waiting)))
+pub are_begun : (w : UnfinishedRequest) (ws new : List UnfinishedRequest) (due : List (List UnfinishedRequest)) (kept : List KeptChild) (kids : KidsUnderWay)
+    (again : List (Option (List UnfinishedRequest)))
     → AreSoMany ws w.unfinished → AreTaken ws new due → new ≡ []
     → kids ≡ fresh_kids (roots_in (reverse due)) kept → again ≡ replicate (length due) None
     → AreBegun w (record { kids = kids; due = reverse due; again = again })

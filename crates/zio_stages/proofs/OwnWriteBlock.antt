@@ -4,7 +4,8 @@ use Rattle.std.proofs.lemmas.Bool.{false≢true}
 use Rattle.zio_types.specs.declared.request.Prio.{Prio}
 use Rattle.zio_blkptr.specs.declared.pointer.SumKind.{SumKind}
 use Rattle.zio_blkptr.specs.declared.pointer.TheConstants.{BLOCK_SIZE_MAX}
-use Rattle.zio_script.specs.declared.limits.TheConstants.{COPIES_MAX, POINTER_SIZE}
+use Rattle.zio_types.specs.declared.place.TheConstants.{COPIES_MAX}
+use Rattle.zio_script.specs.declared.limits.TheConstants.{POINTER_SIZE}
 use Rattle.zio_script.specs.declared.script.Body.{Body}
 use Rattle.zio_script.specs.declared.script.Work.{Work}
 use Rattle.zio_script.specs.declared.script.Work.TheVariants.{Null, Read, Write, Free, Claim}
@@ -12,7 +13,7 @@ use Rattle.zio_script.specs.Requests.{kind_of}
 use Rattle.zio_script.specs.Whys.{body_len, fits_work, is_within, is_write, rounded_up, size_with}
 use Rattle.zio_gang.specs.Attempts.{Pending, Terms, writing_of}
 use Rattle.zio_stages.specs.KidTrees.{AreNumbered}
-use Rattle.zio_stages.specs.declared.waiting.Waiting.{Waiting}
+use Rattle.zio_stages.specs.declared.waiting.UnfinishedRequest.{UnfinishedRequest}
 use Rattle.zio_parts.specs.Parts.{writing_by}
 
 pub not_write : (w : Work) → is_write (kind_of w) ≡ true
@@ -89,7 +90,7 @@ same_write t p round attempt sum copies birth r b = λ i. record {
 }
 
 -- there is a place for what is left of each child
-pub numbered_count : (ns : List ℕ) (again : List (Option (List Waiting))) → AreNumbered ns again → length again ≡ length ns
+pub numbered_count : (ns : List ℕ) (again : List (Option (List UnfinishedRequest))) → AreNumbered ns again → length again ≡ length ns
 numbered_count [] [] h = refl
 numbered_count [] (a ∷ again) h = absurd h
 numbered_count (n ∷ ns) [] h = absurd h

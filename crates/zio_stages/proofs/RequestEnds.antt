@@ -28,7 +28,7 @@ use Rattle.zio_stages.specs.Wholes.{root_number}
 use Rattle.zio_stages.specs.declared.request_node.Closed.TheVariants.{Again, Finished}
 use Rattle.zio_stages.specs.declared.request_node.OwnFound.{OwnFound}
 use Rattle.zio_stages.specs.declared.request_node.RequestNode.{RequestNode}
-use Rattle.zio_stages.specs.declared.waiting.Waiting.{Waiting}
+use Rattle.zio_stages.specs.declared.waiting.UnfinishedRequest.{UnfinishedRequest}
 
 -- ---- the end of its plan
 
@@ -127,11 +127,11 @@ none_last (x ∷ rs) r e =
       rest.1,
     )
 
-nothing_left : (a : Option (List Waiting)) (v : Value) → IsLeftIn a (Heard v) → has_bits (attempted v).return.bits ≡ false
+nothing_left : (a : Option (List UnfinishedRequest)) (v : Value) → IsLeftIn a (Heard v) → has_bits (attempted v).return.bits ≡ false
     → (attempted v).again ≡ []
 nothing_left a (AttemptedBy one) h e = by a h
   where
-    by : (b : Option (List Waiting)) → IsLeftIn b (Heard (AttemptedBy one)) → one.again ≡ []
+    by : (b : Option (List UnfinishedRequest)) → IsLeftIn b (Heard (AttemptedBy one)) → one.again ≡ []
     by None l = l.1.0
     by (Some ws) l = absurd (let no : false ≡ true = sym e ∙ l.0 in cc)
 nothing_left a v h e = absurd h
@@ -140,7 +140,7 @@ seen_bits : (rs : List Return) → bits_of rs ≡ bits_of (map seen_return rs)
 seen_bits [] = refl
 seen_bits (r ∷ rs) = ap (joined_bits r.bits) (seen_bits rs)
 
-none_again : (again : List (Option (List Waiting))) (slots : List Slot) → AreLeft again slots → has_bits (bits_of (kids_by slots).returns) ≡ false
+none_again : (again : List (Option (List UnfinishedRequest))) (slots : List Slot) → AreLeft again slots → has_bits (bits_of (kids_by slots).returns) ≡ false
     → (kids_by slots).again ≡ []
 none_again [] [] h e = refl
 none_again [] (s ∷ slots) h e = absurd h
@@ -173,7 +173,7 @@ finishes t r st h own e none =
       left = refl;
     })
 
-pub closes_finished : (t : Terms) (r : RequestNode) (st : Stack) (h : IsRequestNode t r st) (own : OwnFound) (waiting : Waiting) (bits : Bits) (error : Option Errno) → list_all is_ended r.kids.kids.kids ≡ true
+pub closes_finished : (t : Terms) (r : RequestNode) (st : Stack) (h : IsRequestNode t r st) (own : OwnFound) (waiting : UnfinishedRequest) (bits : Bits) (error : Option Errno) → list_all is_ended r.kids.kids.kids ≡ true
     → OwnEnds t r st (own_got own) h → waiting ≡ r.waiting
     → bits ≡ all_bits (kind_of r.waiting.request.work) own.error r.waiting.request.canfail r.failmode (bits_of (returns_in r.kids.kids))
     → has_bits bits ≡ false → error ≡ worst_error own.error (worst_of (map (λ (c : Child). c.error) (finished_in r.kids.kids)))
@@ -188,7 +188,7 @@ closes_finished t r st h own waiting bits error e o same all none worst = record
   );
 }
 
-goes : (t : Terms) (r : RequestNode) (st : Stack) (h : IsRequestNode t r st) (own : OwnGot) (ws : List Waiting) (bits : Bits)
+goes : (t : Terms) (r : RequestNode) (st : Stack) (h : IsRequestNode t r st) (own : OwnGot) (ws : List UnfinishedRequest) (bits : Bits)
     → bits ≡ all_bits (kind_of r.waiting.request.work) own.error r.waiting.request.canfail r.failmode (bits_of (returns_in r.kids.kids))
     → has_bits bits ≡ true → ((one : Attempted) → one.again ≡ record { request = r.waiting.request; birth = r.waiting.birth; block = r.waiting.block; kept = finished_in r.kids.kids } ∷ []
     → IsLeft ws (one_of (kids_by h.kid_slots) one)) → root_number ws ≡ Some r.waiting.request.number
@@ -208,7 +208,7 @@ goes t r st h own ws bits all some left number =
       number = number;
     })
 
-pub closes_again : (t : Terms) (r : RequestNode) (st : Stack) (h : IsRequestNode t r st) (own : OwnFound) (ws : List Waiting) (bits : Bits) → list_all is_ended r.kids.kids.kids ≡ true
+pub closes_again : (t : Terms) (r : RequestNode) (st : Stack) (h : IsRequestNode t r st) (own : OwnFound) (ws : List UnfinishedRequest) (bits : Bits) → list_all is_ended r.kids.kids.kids ≡ true
     → OwnEnds t r st (own_got own) h
     → bits ≡ all_bits (kind_of r.waiting.request.work) own.error r.waiting.request.canfail r.failmode (bits_of (returns_in r.kids.kids))
     → has_bits bits ≡ true → ((one : Attempted) → one.again ≡ record { request = r.waiting.request; birth = r.waiting.birth; block = r.waiting.block; kept = finished_in r.kids.kids } ∷ []

@@ -17,7 +17,7 @@ use Rattle.zio_stages.specs.Waits.{pending_of}
 use Rattle.zio_stages.specs.declared.request_node.Own.{Own}
 use Rattle.zio_stages.specs.declared.request_node.Own.TheVariants.{Claim, Due, Found, Free, Over, Read, Stored, Write}
 use Rattle.zio_stages.specs.declared.request_node.RequestNode.{RequestNode}
-use Rattle.zio_stages.specs.declared.waiting.Waiting.{Waiting}
+use Rattle.zio_stages.specs.declared.waiting.UnfinishedRequest.{UnfinishedRequest}
 use Rattle.zio_stages.proofs.KidAsking.{asks_kid}
 
 -- ---- it begins
@@ -78,7 +78,7 @@ own_due t r s x y f g Over a b asked slots h not e = absurd (not h.told.all)
 not_all : (x : KidsUnderWay) → x.handed < length x.kids → x.handed ≡ length x.kids → ⊥
 not_all x less all = omega (arith, less, all)
 
-hands_flat : (t : Terms) (r : RequestNode) (kids : KidsHeld) (family : List Child) (ws : List Waiting) (o : Frame) (cs : List Child) (h : IsRequestNode t r (flat o cs))
+hands_flat : (t : Terms) (r : RequestNode) (kids : KidsHeld) (family : List Child) (ws : List UnfinishedRequest) (o : Frame) (cs : List Child) (h : IsRequestNode t r (flat o cs))
     → r.kids.kids.handed < length r.kids.kids.kids → HandsOut ws r.kids kids r.attempt h.forest h.kid_asked h.kid_slots → kids.kids.kept ≡ r.kids.kids.kept
     → family ≡ r.family ++ new_child (OfOuter r.kids.kids.handed) Logical ∷ []
     → HandsKid t (with_kids r kids family) ws (flat o cs)
@@ -116,7 +116,7 @@ hands_flat t r kids family ws o cs h less out kept more =
       };
     }
 
-pub hands_kid : (t : Terms) (r : RequestNode) (kids : KidsHeld) (family : List Child) (ws : List Waiting) (st : Stack) (h : IsRequestNode t r st)
+pub hands_kid : (t : Terms) (r : RequestNode) (kids : KidsHeld) (family : List Child) (ws : List UnfinishedRequest) (st : Stack) (h : IsRequestNode t r st)
     → r.kids.kids.handed < length r.kids.kids.kids → HandsOut ws r.kids kids r.attempt h.forest h.kid_asked h.kid_slots → kids.kids.kept ≡ r.kids.kids.kept
     → family ≡ r.family ++ new_child (OfOuter r.kids.kids.handed) Logical ∷ []
     → HandsKid t (with_kids r kids family) ws st

@@ -5,7 +5,7 @@ use Rattle.zio_types.specs.declared.place.Top.{Top}
 use Rattle.zio_types.specs.declared.request.ChildKind.{ChildKind}
 use Rattle.zio_blkptr.specs.declared.pointer.Bp.{Bp}
 use Rattle.zio_children.specs.declared.kids.KidState.TheVariants.{Told}
-use Rattle.zio_content.specs.Pointers.{IsNoneOrValid}
+use Rattle.zio_gang.specs.Pointers.{IsNoneOrValid}
 use Rattle.zio_frames.specs.Frames.{Child, OfInner, OfOuter}
 use Rattle.zio_frames.proofs.GetLemmas.{get_either, get_exchanged}
 use Rattle.zio_parts.specs.Parts.{PartWriting}

@@ -1,10 +1,17 @@
 -- What a request's node ends with where its attempt closes.
-use Rattle.std.specs.Prelude.{ℕ}
-use Rattle.zio_gang.specs.Attempts.{tree_unless}
+use Rattle.std.specs.Prelude.{◌≡◌, ℕ}
+use Rattle.zio_gang.specs.Attempts.{Terms, tree_unless}
+use Rattle.zio_frames.specs.Frames.{Stack}
+use Rattle.zio_stages.specs.KidLists.{LeavesList}
+use Rattle.zio_stages.specs.Labels.{closed_label}
+use Rattle.zio_stages.specs.RequestNodes.{Closes, IsRequestNode}
+use Rattle.zio_stages.specs.RequestStoreds.{is_well, keeps_block, own_in}
 use Rattle.zio_stages.specs.declared.outcome.Outcome.{Outcome}
 use Rattle.zio_stages.specs.declared.outcome.Outcome.TheVariants.{Again as GoesAgain, Finished as HasFinished}
 use Rattle.zio_stages.specs.declared.request_node.Closed.{Closed}
 use Rattle.zio_stages.specs.declared.request_node.Closed.TheVariants.{Again, Finished}
+use Rattle.zio_stages.specs.declared.request_node.OwnFound.{OwnFound}
+use Rattle.zio_stages.specs.declared.request_node.RequestNode.{RequestNode}
 
 -- one that finished, under its node's label, with the block that it keeps; or one that goes again
 abbrev pub outcome_of : (label : ℕ) → Closed → Outcome
@@ -17,3 +24,13 @@ outcome_of label (Finished waiting error own) = HasFinished (record {
   pointer = own.pointer;
 })
 outcome_of label (Again bits whole own) = GoesAgain whole bits own.pointer
+
+-- The node's attempt closed, where its own work came to this: it ends with this outcome, under its own label, and finished
+-- without error exactly where its own work and its children did.
+pub record EndsBy (r : RequestNode) (own : OwnFound) (outcome : Outcome) : Type 0 where
+  pub closed : Closed
+  pub is : outcome ≡ outcome_of (closed_label r.attempt closed) closed
+  pub own_is : own_in closed ≡ own
+  pub decides : keeps_block closed ≡ is_well r own.error
+  pub closes : (t : Terms) (st : Stack) (h : IsRequestNode t r st) → Closes t r st h closed
+  pub list : LeavesList r closed

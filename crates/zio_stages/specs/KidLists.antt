@@ -10,22 +10,22 @@ use Rattle.zio_stages.specs.Wholes.{joined}
 use Rattle.zio_stages.specs.declared.request_node.Closed.{Closed}
 use Rattle.zio_stages.specs.declared.request_node.Closed.TheVariants.{Again, Finished}
 use Rattle.zio_stages.specs.declared.request_node.RequestNode.{RequestNode}
-use Rattle.zio_stages.specs.declared.waiting.Waiting.{Waiting}
+use Rattle.zio_stages.specs.declared.waiting.UnfinishedRequest.{UnfinishedRequest}
 
 -- the list is the trees that are due, and the request behind them, and nothing is left of any
-pub record IsListOf (ws : List Waiting) (w : Waiting) (x : KidsHeld) : Type 0 where
+pub record IsListOf (ws : List UnfinishedRequest) (w : UnfinishedRequest) (x : KidsHeld) : Type 0 where
   pub list : ws ≡ joined x.due ++ w ∷ []
   pub none : trees_left x.again ≡ []
 
 -- a tree is left of each child that goes again, and of no other
-abbrev pub AreMarked : List Kid → List (Option (List Waiting)) → Type 0
+abbrev pub AreMarked : List Kid → List (Option (List UnfinishedRequest)) → Type 0
 AreMarked [] [] = Unit {0}
 AreMarked [] (a ∷ again) = ⊥
 AreMarked (k ∷ kids) [] = ⊥
 AreMarked (k ∷ kids) (a ∷ again) = (has_bits (bits_by k.state) ≡ is_some a) × AreMarked kids again
 
 -- as many children as the request counts haven't finished, none of them goes again, and those that were handed out are
-pub record AreBegun (w : Waiting) (x : KidsHeld) : Type 0 where
+pub record AreBegun (w : UnfinishedRequest) (x : KidsHeld) : Type 0 where
   pub count : length x.kids.kids ≡ w.unfinished
   pub marked : AreMarked x.kids.kids x.again
   pub handed : AreHanded x.kids.handed x.kids.kids
@@ -36,14 +36,14 @@ pub record HoldTheSame (x y : KidsHeld) : Type 0 where
   pub again : y.again ≡ x.again
 
 -- the first of the trees that are due is this one, which is held no longer
-pub record HoldsBut (ws : List Waiting) (x y : KidsHeld) : Type 0 where
+pub record HoldsBut (ws : List UnfinishedRequest) (x y : KidsHeld) : Type 0 where
   pub due : x.due ≡ ws ∷ y.due
   pub again : y.again ≡ x.again
 
 -- The list is what is left of the children's trees, and the same request behind them, with the children that finished. Where
 -- these have valid pointers it keeps valid ones.
-pub record IsLeftList (ws : List Waiting) (w : Waiting) (x : KidsHeld) : Type 0 where
-  pub root : Waiting
+pub record IsLeftList (ws : List UnfinishedRequest) (w : UnfinishedRequest) (x : KidsHeld) : Type 0 where
+  pub root : UnfinishedRequest
   pub list : ws ≡ joined (trees_left x.again) ++ root ∷ []
   pub request : root.request ≡ w.request
   pub birth : root.birth ≡ w.birth

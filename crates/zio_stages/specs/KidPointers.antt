@@ -3,7 +3,7 @@ use Rattle.std.specs.List.{AllByRecursion}
 use Rattle.zio_children.specs.declared.kept.KeptChild.{KeptChild}
 use Rattle.zio_children.specs.declared.kids.Kid.{Kid}
 use Rattle.zio_children.specs.RequestKids.{KidsUnderWay, pointer_by}
-use Rattle.zio_content.specs.Pointers.{IsNoneOrValid}
+use Rattle.zio_gang.specs.Pointers.{IsNoneOrValid}
 
 -- what the child told
 abbrev pub HasToldValid : Kid → Type 0

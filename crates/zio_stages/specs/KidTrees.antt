@@ -8,23 +8,23 @@ use Rattle.zio_trace.specs.Programs.{◌>>=◌}
 use Rattle.zio_trace.specs.Tasks.{Attempt, AttemptedBy, One, Task, Value}
 use Rattle.zio_children.specs.RequestKids.{AreRoots, Fits, IsTreeAt, KidsUnderWay, RiseFrom, numbers_of}
 use Rattle.zio_frames.specs.Slots.{AsksBehindSlots, Heard, IsOut, Slot}
-use Rattle.zio_stages.specs.declared.waiting.Waiting.{Waiting}
+use Rattle.zio_stages.specs.declared.waiting.UnfinishedRequest.{UnfinishedRequest}
 use Rattle.zio_stages.specs.Wholes.{AreTrees, IsForestOf, IsTreeOf, IsWhole, root_number, roots_in}
 
 -- The children; the trees of those that weren't handed out, by number; and by place what is left of each that goes again.
 pub record KidsHeld : Type 0 where
   pub kids : KidsUnderWay
-  pub due : List (List Waiting)
-  pub again : List (Option (List Waiting))
+  pub due : List (List UnfinishedRequest)
+  pub again : List (Option (List UnfinishedRequest))
 
 -- ---- what they owe
 
 -- what is left of a child is a tree over a request of its number
-abbrev pub IsNumbered : ℕ → Option (List Waiting) → Type 0
+abbrev pub IsNumbered : ℕ → Option (List UnfinishedRequest) → Type 0
 IsNumbered n None = Unit {0}
 IsNumbered n (Some ws) = (root_number ws ≡ Some n) × IsWhole ws
 
-abbrev pub AreNumbered : List ℕ → List (Option (List Waiting)) → Type 0
+abbrev pub AreNumbered : List ℕ → List (Option (List UnfinishedRequest)) → Type 0
 AreNumbered [] [] = Unit {0}
 AreNumbered [] (a ∷ again) = ⊥
 AreNumbered (n ∷ ns) [] = ⊥
@@ -38,7 +38,7 @@ pub record AreHeld (x : KidsHeld) : Type 0 where
   pub rising : RiseFrom 0 (numbers_of x.kids.kids)
 
 -- what is left of those that go again, by number
-abbrev pub trees_left : List (Option (List Waiting)) → List (List Waiting)
+abbrev pub trees_left : List (Option (List UnfinishedRequest)) → List (List UnfinishedRequest)
 trees_left [] = []
 trees_left (None ∷ again) = trees_left again
 trees_left (Some ws ∷ again) = ws ∷ trees_left again
@@ -57,22 +57,22 @@ trees_from (suc n) NoTrees = NoTrees
 trees_from (suc n) (TreeOf p below others) = trees_from n others
 
 -- what an attempt left of a tree that goes again is this list
-pub record IsLeft (ws : List Waiting) (one : One) : Type 0 where
+pub record IsLeft (ws : List UnfinishedRequest) (one : One) : Type 0 where
   pub tree : IsForestOf ws one.left
   pub list : one.again ≡ flat one.left
 
 -- and of one that doesn't go again nothing
-abbrev pub IsLeftIf : Option (List Waiting) → One → Type 0
+abbrev pub IsLeftIf : Option (List UnfinishedRequest) → One → Type 0
 IsLeftIf None one = (one.again ≡ []) × (one.left ≡ NoTrees)
 IsLeftIf (Some ws) one = IsLeft ws one
 
-abbrev pub IsLeftIn : Option (List Waiting) → Slot → Type 0
+abbrev pub IsLeftIn : Option (List UnfinishedRequest) → Slot → Type 0
 IsLeftIn a (IsOut told) = a ≡ None
 IsLeftIn a (Heard (AttemptedBy one)) = (has_bits one.return.bits ≡ is_some a) × IsLeftIf a one
 IsLeftIn a (Heard _) = ⊥
 
 -- what each child that was heard of left, and no other left anything
-abbrev pub AreLeft : List (Option (List Waiting)) → List Slot → Type 0
+abbrev pub AreLeft : List (Option (List UnfinishedRequest)) → List Slot → Type 0
 AreLeft [] [] = Unit {0}
 AreLeft [] (slot ∷ slots) = ⊥
 AreLeft (a ∷ again) [] = (a ≡ None) × AreLeft again []
@@ -89,7 +89,7 @@ pub record IsKids (x : KidsHeld) (attempt : ℕ) (forest : Forest) (asked : List
   pub left : AreLeft x.again slots
 
 -- The attempt of the tree that is handed out is asked next, whatever is asked behind the children; then it is out.
-pub record HandsOut (ws : List Waiting) (x y : KidsHeld) (attempt : ℕ) (forest : Forest) (asked : List Task)
+pub record HandsOut (ws : List UnfinishedRequest) (x y : KidsHeld) (attempt : ℕ) (forest : Forest) (asked : List Task)
     (slots : List Slot) : Type 0 where
   pub root : Pending
   pub below : Forest

@@ -16,7 +16,7 @@ use Rattle.zio_stages.specs.declared.named.Named.{Named}
 use Rattle.zio_stages.specs.declared.origin.Origin.{Origin}
 use Rattle.zio_stages.specs.declared.request_node.Closed.{Closed}
 use Rattle.zio_stages.specs.declared.request_node.Closed.TheVariants.{Again, Finished}
-use Rattle.zio_stages.specs.declared.waiting.Waiting.{Waiting}
+use Rattle.zio_stages.specs.declared.waiting.UnfinishedRequest.{UnfinishedRequest}
 
 abbrev pub bit : Bool → ℕ
 bit true = 1
@@ -115,11 +115,11 @@ abbrev pub bytes_read_in : Kind → Option Tree → ℕ
 bytes_read_in Read (Some tree) = tree.bp.size
 bytes_read_in _ _ = 0
 
-abbrev pub bytes_read : Waiting → ℕ
+abbrev pub bytes_read : UnfinishedRequest → ℕ
 bytes_read w = bytes_read_in (kind_of w.request.work) w.block
 
 -- of the node that attempts a request
-abbrev pub request_label : Waiting → (attempt : ℕ) → ℕ
+abbrev pub request_label : UnfinishedRequest → (attempt : ℕ) → ℕ
 request_label w attempt = label_of (record {
   request = w.request.number % 65536;
   path = [];

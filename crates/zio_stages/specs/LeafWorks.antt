@@ -15,8 +15,8 @@ use Rattle.zio_frames.specs.Slots.{Heard}
 use Rattle.zio_stages.specs.declared.leaf.Act.{Act}
 use Rattle.zio_stages.specs.declared.leaf.Act.TheVariants.{Read, Write}
 use Rattle.zio_stages.specs.declared.leaf.LeafWork.{LeafWork}
-use Rattle.zio_stages.specs.declared.leaf.Stage.{Stage}
-use Rattle.zio_stages.specs.declared.leaf.Stage.TheVariants.{Answered, Due, Out}
+use Rattle.zio_stages.specs.declared.leaf.Progress.{Progress}
+use Rattle.zio_stages.specs.declared.leaf.Progress.TheVariants.{Answered, Due, Out}
 
 -- the place's first byte and its bytes have numbers
 pub record IsSpanned (p : Place) : Type 0 where
@@ -73,7 +73,7 @@ IsDoneBy Write (Fetch retry n spot) = ⊥
 IsDoneBy Write (Store retry bytes spot) = Unit {0}
 
 -- nothing of it is heard, or its answer
-abbrev pub IsHeardAs : Stage → List ℕ → LeafOp → Frame → Type 0
+abbrev pub IsHeardAs : Progress → List ℕ → LeafOp → Frame → Type 0
 IsHeardAs (Due held) bytes act x = (held ≡ bytes) × (x.asked ≡ []) × (x.slots ≡ [])
 IsHeardAs Out bytes act x = (x.asked ≡ []) × (x.slots ≡ [])
 IsHeardAs (Answered a) bytes act x = (x.asked ≡ Leaf act ∷ []) × (x.slots ≡ Heard (Got a) ∷ [])
@@ -87,7 +87,7 @@ pub record IsLeafWork (t : Terms) (w : LeafWork) (x : Frame) : Type 0 where
   pub is_op : IsOpFor act w.op w.leaf bytes
   pub heard : IsHeardAs w.stage bytes act x
 
-abbrev pub IsDueAt : Stage → Type 0
+abbrev pub IsDueAt : Progress → Type 0
 IsDueAt (Due bytes) = Unit {0}
 IsDueAt Out = ⊥
 IsDueAt (Answered a) = ⊥
@@ -95,7 +95,7 @@ IsDueAt (Answered a) = ⊥
 abbrev pub IsDue : LeafWork → Type 0
 IsDue w = IsDueAt w.stage
 
-abbrev pub IsAnsweredAt : Stage → Type 0
+abbrev pub IsAnsweredAt : Progress → Type 0
 IsAnsweredAt (Due bytes) = ⊥
 IsAnsweredAt Out = ⊥
 IsAnsweredAt (Answered a) = Unit {0}

@@ -22,7 +22,7 @@ use Rattle.zio_stages.specs.Wholes.{root_number}
 use Rattle.zio_stages.specs.declared.outcome.Finished.{Finished}
 use Rattle.zio_stages.specs.declared.outcome.Outcome.{Outcome}
 use Rattle.zio_stages.specs.declared.outcome.Outcome.TheVariants.{Again, Finished as HasFinished, Found, Stored, Walked}
-use Rattle.zio_stages.specs.declared.waiting.Waiting.{Waiting}
+use Rattle.zio_stages.specs.declared.waiting.UnfinishedRequest.{UnfinishedRequest}
 
 -- ---- which value it is
 
@@ -33,7 +33,7 @@ pub record IsFinishedAs (f : Finished) (one : One) : Type 0 where
   pub left : one.left ≡ NoTrees
 
 -- it goes again, and this is left of its tree
-pub record IsLeftAs (whole : List Waiting) (bits : Bits) (pointer : Option Bp) (one : One) : Type 0 where
+pub record IsLeftAs (whole : List UnfinishedRequest) (bits : Bits) (pointer : Option Bp) (one : One) : Type 0 where
   pub number : ℕ
   pub root : root_number whole ≡ Some number
   pub by : IsLeftBy one number bits None pointer

@@ -31,7 +31,7 @@ use Rattle.zio_stages.specs.declared.request_node.Closed.TheVariants.{Again, Fin
 use Rattle.zio_stages.specs.declared.request_node.Own.{Own}
 use Rattle.zio_stages.specs.declared.request_node.Own.TheVariants.{Claim, Due, Found, Free, Over, Read, Stored, Write}
 use Rattle.zio_stages.specs.declared.request_node.RequestNode.{RequestNode}
-use Rattle.zio_stages.specs.declared.waiting.Waiting.{Waiting}
+use Rattle.zio_stages.specs.declared.waiting.UnfinishedRequest.{UnfinishedRequest}
 
 -- ---- how far it is
 
@@ -76,7 +76,7 @@ pub record IsRequestNode (t : Terms) (r : RequestNode) (st : Stack) : Type 0 whe
 -- ---- its children
 
 -- The attempt of this tree is asked next, and is handed to a child.
-pub record HandsKid (t : Terms) (now : RequestNode) (ws : List Waiting) (st : Stack) : Type 0 where
+pub record HandsKid (t : Terms) (now : RequestNode) (ws : List UnfinishedRequest) (st : Stack) : Type 0 where
   pub root : Pending
   pub below : Forest
   pub tree : IsTreeOf ws root below
@@ -101,11 +101,11 @@ pub record OwnEnds (t : Terms) (r : RequestNode) (st : Stack) (own : OwnGot) (h 
   pub heard : AllHeard h.own_slots
   pub value : left_behind_slots h.own_slots (plan_own t r.attempt (pending_of r.waiting) r.waiting.request.work (pointers_of r.kids.kids)) ≡ Ends own
 
-abbrev pub left_child : Waiting → Option Errno → Option Bp → Child
+abbrev pub left_child : UnfinishedRequest → Option Errno → Option Bp → Child
 left_child w error pointer = record { number = w.request.number; error = error; pointer = pointer }
 
 -- It finished with this error or none, behind these that finished among its children's trees.
-pub record IsFinished (w : Waiting) (before : List Ended) (error : Option Errno) (own : OwnGot) (one : One) : Type 0 where
+pub record IsFinished (w : UnfinishedRequest) (before : List Ended) (error : Option Errno) (own : OwnGot) (one : One) : Type 0 where
   pub bits : one.return.bits ≡ no_bits
   pub child : one.return.child ≡ left_child w error own.pointer
   pub ended : one.ended ≡ before ++ record { request = w.request; error = error; bytes = own.bytes; tree = tree_unless error own.tree } ∷ []
@@ -113,7 +113,7 @@ pub record IsFinished (w : Waiting) (before : List Ended) (error : Option Errno)
   pub left : one.left ≡ NoTrees
 
 -- It goes again with these bits, and this tree is left.
-pub record GoesAgain (w : Waiting) (before : List Ended) (bits : Bits) (ws : List Waiting) (own : OwnGot) (one : One) : Type 0 where
+pub record GoesAgain (w : UnfinishedRequest) (before : List Ended) (bits : Bits) (ws : List UnfinishedRequest) (own : OwnGot) (one : One) : Type 0 where
   pub same : one.return.bits ≡ bits
   pub some : has_bits bits ≡ true
   pub child : one.return.child ≡ left_child w None own.pointer

@@ -30,7 +30,7 @@ use Rattle.zio_stages.specs.declared.own_claim.OwnClaim.{OwnClaim}
 use Rattle.zio_stages.specs.declared.own_free.OwnFree.{OwnFree}
 use Rattle.zio_stages.specs.declared.own_read.OwnRead.{OwnRead}
 use Rattle.zio_stages.specs.declared.request_node.RequestNode.{RequestNode}
-use Rattle.zio_stages.specs.declared.waiting.Waiting.{Waiting}
+use Rattle.zio_stages.specs.declared.waiting.UnfinishedRequest.{UnfinishedRequest}
 
 -- ---- how far it is
 
@@ -111,7 +111,7 @@ pub record IsBlockOn (tops : List Top) (tree : Tree) : Type 0 where
   pub bodies : AllByRecursion (IsPieceOn tops) (groups_of tree).bodies
 
 -- so does the block that a request names
-abbrev pub IsWaitingOver : List Top → Waiting → Type 0
+abbrev pub IsWaitingOver : List Top → UnfinishedRequest → Type 0
 IsWaitingOver tops w = IfSome w.block (IsBlockOn tops)
 
 -- a read's bodies lie on the tops, once its walk came to them

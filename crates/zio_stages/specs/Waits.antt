@@ -4,12 +4,12 @@ use Rattle.zio_script.specs.declared.script.Request.{Request}
 use Rattle.zio_gang.specs.declared.tree.Tree.{Tree}
 use Rattle.zio_gang.specs.Attempts.{Pending}
 use Rattle.zio_children.specs.RequestKids.{child_of}
-use Rattle.zio_stages.specs.declared.waiting.Waiting.{Waiting}
+use Rattle.zio_stages.specs.declared.waiting.UnfinishedRequest.{UnfinishedRequest}
 
-abbrev pub pending_of : Waiting → Pending
+abbrev pub pending_of : UnfinishedRequest → Pending
 pending_of w = record { request = w.request; birth = w.birth; block = w.block; kept = map child_of w.kept }
 
-abbrev pub pendings : List Waiting → List Pending
+abbrev pub pendings : List UnfinishedRequest → List Pending
 pendings ws = map pending_of ws
 
 -- a request that no round has seen

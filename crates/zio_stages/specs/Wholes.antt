@@ -4,7 +4,7 @@ use Rattle.std.specs.List.{flat_map}
 use Rattle.zio_gang.specs.Attempts.{Pending}
 use Rattle.zio_trace.specs.Families.{Forest, NoTrees, TreeOf, flat}
 use Rattle.zio_children.specs.RequestKids.{RiseFrom, root_numbers}
-use Rattle.zio_stages.specs.declared.waiting.Waiting.{Waiting}
+use Rattle.zio_stages.specs.declared.waiting.UnfinishedRequest.{UnfinishedRequest}
 use Rattle.zio_stages.specs.Waits.{pending_of}
 
 -- a request, and how many trees and how many requests stand under it
@@ -13,7 +13,7 @@ pub record Shape : Type 0 where
   pub unfinished : ℕ
   pub below : ℕ
 
-abbrev pub shape_of : Waiting → Shape
+abbrev pub shape_of : UnfinishedRequest → Shape
 shape_of w = record { pending = pending_of w; unfinished = w.unfinished; below = w.below }
 
 -- how many trees these are
@@ -28,15 +28,15 @@ shapes (TreeOf p kids others) =
     shapes kids ++ record { pending = p; unfinished = trees_in kids; below = length (flat kids) } ∷ shapes others
 
 -- the list is these trees, and no others: a list is one forest at most
-abbrev pub IsForestOf : List Waiting → Forest → Type 0
+abbrev pub IsForestOf : List UnfinishedRequest → Forest → Type 0
 IsForestOf ws f = map shape_of ws ≡ shapes f
 
 -- it is one tree
-abbrev pub IsTreeOf : List Waiting → Pending → Forest → Type 0
+abbrev pub IsTreeOf : List UnfinishedRequest → Pending → Forest → Type 0
 IsTreeOf ws p kids = IsForestOf ws (TreeOf p kids NoTrees)
 
 -- the trees one by one
-abbrev pub AreTrees : List (List Waiting) → Forest → Type 0
+abbrev pub AreTrees : List (List UnfinishedRequest) → Forest → Type 0
 AreTrees [] NoTrees = Unit {0}
 AreTrees [] (TreeOf p kids others) = ⊥
 AreTrees (ws ∷ trees) NoTrees = ⊥
@@ -48,18 +48,18 @@ RiseEach NoTrees = Unit {0}
 RiseEach (TreeOf p kids others) = RiseFrom 0 (root_numbers kids) × RiseEach kids × RiseEach others
 
 -- One tree, whose root is attempted last.
-pub record IsWhole (ws : List Waiting) : Type 0 where
+pub record IsWhole (ws : List UnfinishedRequest) : Type 0 where
   pub root : Pending
   pub kids : Forest
   pub is : IsTreeOf ws root kids
   pub rising : RiseEach (TreeOf root kids NoTrees)
 
 -- one tree after another
-abbrev pub joined : List (List Waiting) → List Waiting
-joined trees = flat_map (λ (ws : List Waiting). ws) trees
+abbrev pub joined : List (List UnfinishedRequest) → List UnfinishedRequest
+joined trees = flat_map (λ (ws : List UnfinishedRequest). ws) trees
 
 -- the request, with these counts
-abbrev pub counted : Waiting → ℕ → ℕ → Waiting
+abbrev pub counted : UnfinishedRequest → ℕ → ℕ → UnfinishedRequest
 counted w unfinished below = record {
   request = w.request;
   birth = w.birth;
@@ -70,19 +70,19 @@ counted w unfinished below = record {
 }
 
 -- the request that is attempted last
-abbrev pub root_of : List Waiting → Option Waiting
+abbrev pub root_of : List UnfinishedRequest → Option UnfinishedRequest
 root_of [] = None
 root_of (w ∷ []) = Some w
 root_of (w ∷ v ∷ ws) = root_of (v ∷ ws)
 
-abbrev pub root_number : List Waiting → Option ℕ
-root_number ws = option_map (λ (w : Waiting). w.request.number) (root_of ws)
+abbrev pub root_number : List UnfinishedRequest → Option ℕ
+root_number ws = option_map (λ (w : UnfinishedRequest). w.request.number) (root_of ws)
 
 abbrev pub number_or : Option ℕ → List ℕ → List ℕ
 number_or None ns = ns
 number_or (Some n) ns = n ∷ ns
 
 -- those of some trees
-abbrev pub roots_in : List (List Waiting) → List ℕ
+abbrev pub roots_in : List (List UnfinishedRequest) → List ℕ
 roots_in [] = []
 roots_in (ws ∷ trees) = number_or (root_number ws) (roots_in trees)

@@ -15,7 +15,7 @@ use Rattle.zio_gang.specs.Attempts.{Pending}
 use Rattle.zio_gang.specs.Writes.{content_of}
 use Rattle.zio_children.specs.RequestKids.{KidsUnderWay, is_told}
 use Rattle.zio_stages.specs.PartOwns.{WrittenPart}
-use Rattle.zio_stages.specs.declared.waiting.Waiting.{Waiting}
+use Rattle.zio_stages.specs.declared.waiting.UnfinishedRequest.{UnfinishedRequest}
 
 -- ---- its block
 
@@ -42,7 +42,7 @@ pub record IsBlockOf (attempt : ℕ) (p : Pending) (pointers : List (Option Bp))
   pub part : o ≡ whole_part attempt p sum copies (content_of pointers (body_of body))
 
 -- The request is a write in its ranges, and no larger than a block with a pointer for each of so many children.
-pub record IsSoundWrite (children : ℕ) (w : Waiting) : Type 0 where
+pub record IsSoundWrite (children : ℕ) (w : UnfinishedRequest) : Type 0 where
   pub kind : is_write (kind_of w.request.work) ≡ true
   pub range : fits_work w.request.work ≡ true
   pub size : size_with children w.request.work ≤ BLOCK_SIZE_MAX

@@ -8,7 +8,7 @@ ghost use Rattle.zio_stages.specs.KidTrees.{trees_left};
 ghost use Rattle.zio_stages.specs.Waits.{pending_of};
 ghost use Rattle.zio_stages.specs.Wholes.{AreTrees, IsTreeOf, IsWhole, counted, joined, root_number, roots_in};
 
-use crate::waiting::Waiting;
+use crate::waiting::UnfinishedRequest;
 use crate::whole::{Whole, put_reserved};
 use std::alloc::Global;
 use zio_children::{KeptChild, Kids};
@@ -19,7 +19,7 @@ pub(crate) fn begin_again(
     alloc: Global,
     kids: &Kids,
     again: &[Option<Whole>],
-) -> Result<(Vec<Waiting>, List<KeptChild>), NoMemory>
+) -> Result<(Vec<UnfinishedRequest>, List<KeptChild>), NoMemory>
     requires { list_all is_ended kids.now.kids ≡ true }
     ensures none { IfOk result (λ begun. begun.0.items ≡ []) }
     ensures room { IfOk result (λ begun. length (joined (trees_left again.now)) + 1 ≤ vec_capacity begun.0) }
@@ -56,9 +56,9 @@ fn size_left(left: &Option<Whole>) -> usize
 
 /// What is left of the children, and the root behind it, for which there is room. It sets the root's counts.
 pub(crate) fn grown_again(
-    mut all: Vec<Waiting>,
+    mut all: Vec<UnfinishedRequest>,
     again: Vec<Option<Whole>>,
-    mut root: Waiting,
+    mut root: UnfinishedRequest,
 ) -> Whole
     requires none { all.items ≡ [] }
     requires room { length (joined (trees_left again.items)) + 1 ≤ vec_capacity all }
@@ -81,7 +81,7 @@ pub(crate) fn grown_again(
 }
 
 /// Moves what is left of a child to the end, where there is room for it, and answers how many trees that is.
-fn put_left(all: &mut Vec<Waiting>, left: Option<Whole>) -> usize
+fn put_left(all: &mut Vec<UnfinishedRequest>, left: Option<Whole>) -> usize
     requires { length all.old.items + length (joined (trees_left (left ∷ []))) ≤ vec_capacity all.old }
     ensures items { all.new.items ≡ all.old.items ++ joined (trees_left (left ∷ [])) }
     ensures capacity { vec_capacity all.old ≤ vec_capacity all.new }

@@ -13,7 +13,8 @@ ghost use Rattle.zio_parts.specs.declared.head_walk.Header.TheVariants.{Unread};
 
 use std::alloc::Global;
 use zio_blkptr::Bp;
-use zio_parts::{HeadWalk, LEVELS_MAX, WalkStep, Walked};
+use zio_gang::LEVELS_MAX;
+use zio_parts::{HeadWalk, WalkStep, Walked};
 use zio_types::{NoMemory, Path, Top};
 
 /// What the walk over a block's headers leaves, where it asks nothing: its body, where the block is no gang. None where it

@@ -18,7 +18,7 @@ ghost use Rattle.zio_stages.specs.Wholes.{IsForestOf, IsTreeOf, joined, root_num
 
 use crate::again::{begin_again, grown_again};
 use crate::split::{rejoin, split};
-use crate::waiting::Waiting;
+use crate::waiting::UnfinishedRequest;
 use crate::whole::Whole;
 use std::alloc::Global;
 use std::marker::Model;
@@ -58,13 +58,13 @@ pub struct WholeBack {
 #[derive(Debug, Drop)]
 pub struct AgainBack {
     pub kids: RequestKids,
-    pub waiting: Waiting,
+    pub waiting: UnfinishedRequest,
 }
 
 impl RequestKids {
     /// Splits a tree into its request and its children's trees. It goes over the tree once. Where memory is refused the
     /// tree comes back.
-    pub fn begin(alloc: Global, whole: Whole) -> Result<(Waiting, RequestKids), WholeBack>
+    pub fn begin(alloc: Global, whole: Whole) -> Result<(UnfinishedRequest, RequestKids), WholeBack>
         ensures root { IfOk result (λ begun. root_of whole ≡ Some begun.0) }
         ensures kids { IfOk result (λ begun. (attempt : ℕ) (p : Pending) (forest : Forest) → IsTreeOf whole p forest →
             (pending_of begun.0 ≡ p) × IsKids begun.1 attempt forest [] []) }
@@ -182,7 +182,7 @@ impl RequestKids {
 
     /// The request with its children that finished, over what is left of those that go again: the tree that goes again.
     /// Where memory is refused both come back.
-    pub fn again(self, alloc: Global, mut waiting: Waiting) -> Result<Whole, AgainBack>
+    pub fn again(self, alloc: Global, mut waiting: UnfinishedRequest) -> Result<Whole, AgainBack>
         requires { list_all is_ended self.kids.kids ≡ true }
         ensures tree { IfOk result (λ tree. (attempt : ℕ) (forest : Forest) (asked : List Task) (slots : List Slot) (one : Attempted) →
             IsKids self attempt forest asked slots → one.again ≡ with_kept (pending_of waiting) (finished_in self.kids) ∷ [] →
@@ -207,7 +207,11 @@ impl RequestKids {
 }
 
 /// The children's trees, of which the list is made. Where memory is refused the list is as before.
-fn kids_of(alloc: Global, root: &Waiting, rest: &mut Vec<Waiting>) -> Result<RequestKids, NoMemory>
+fn kids_of(
+    alloc: Global,
+    root: &UnfinishedRequest,
+    rest: &mut Vec<UnfinishedRequest>,
+) -> Result<RequestKids, NoMemory>
     requires { AreSoMany rest.old.items root.now.unfinished }
     ensures kids { IfOk result (λ kids. (attempt : ℕ) (forest : Forest) → IsForestOf rest.old.items forest →
         IsKids kids attempt forest [] []) }

@@ -39,7 +39,7 @@ enum Act {
 
 /// How far it is.
 #[derive(Drop)]
-enum Stage {
+enum Progress {
     /// A write has its bytes, and a read none.
     Due(Bytes),
     Out,
@@ -55,7 +55,7 @@ pub struct LeafWork {
     /// As the leaf's queue takes it. Its range is the whole place, however many bytes are read or written.
     op: Op,
     act: Act,
-    stage: Stage,
+    stage: Progress,
 }
 
 impl LeafWork {
@@ -79,7 +79,7 @@ impl LeafWork {
             leaf: target.leaf,
             op: op_on(target, false, retry, prio, false),
             act: Act::Read { len },
-            stage: Stage::Due(List::new(alloc)),
+            stage: Progress::Due(List::new(alloc)),
         }
     }
 
@@ -103,7 +103,7 @@ impl LeafWork {
             leaf: target.leaf,
             op: op_on(target, true, retry, prio, repair),
             act: Act::Write,
-            stage: Stage::Due(bytes),
+            stage: Progress::Due(bytes),
         }
     }
 
@@ -161,9 +161,9 @@ impl LeafWork {
         ensures len { len_of self.new ≡ len_of self.old }
         ensures label { operation_label self.new ≡ operation_label self.old }
         ensures op { result.0 ≡ self.old.op }
-        ensures out { self.new.stage ≡ Stage.Out }
+        ensures out { self.new.stage ≡ Progress.Out }
     {
-        let Stage::Due(bytes) = replace(&mut self.stage, Stage::Out) else {
+        let Progress::Due(bytes) = replace(&mut self.stage, Progress::Out) else {
             unreachable!()
         };
         (self.op, self.leaf, bytes)
@@ -171,7 +171,7 @@ impl LeafWork {
 
     /// The leaf answered: an error or none, and the bytes of a read. Those of a write aren't kept.
     pub fn answer(&mut self, error: Option<Errno>, bytes: Bytes)
-        requires { self.old.stage ≡ Stage.Out }
+        requires { self.old.stage ≡ Progress.Out }
         ensures related { (t : Terms) (x : Frame) (a : Answer) → IsLeafWork t self.old x →
             a ≡ shown_by self.old error bytes → IsLeafWork t self.new (with_asked x x.op (Heard (Got a))) }
         ensures answered { IsAnswered self.new }
@@ -183,7 +183,7 @@ impl LeafWork {
                 Act::Write => Ok(emptied(bytes)),
             },
         };
-        self.stage = Stage::Answered(told);
+        self.stage = Progress::Answered(told);
     }
 
     /// What it was answered: the bytes that were read, good or not; of a write no bytes; or the error.
@@ -193,7 +193,7 @@ impl LeafWork {
             result ≡ a }
     {
         let LeafWork { stage, .. } = self;
-        let Stage::Answered(found) = stage else {
+        let Progress::Answered(found) = stage else {
             unreachable!()
         };
         found

@@ -1,29 +1,36 @@
 //! What a node ends with.
+//!
+//! What a request's attempt closed with becomes a `Finished` here and nowhere else.
 
+ghost use Rattle.std.specs.Prelude.{◌≡◌};
+ghost use Rattle.zio_gang.specs.Attempts.{tree_unless};
+ghost use Rattle.zio_stages.specs.Closings.{outcome_of};
+ghost use Rattle.zio_stages.specs.Labels.{closed_label};
+
+use crate::request_node::{Closed, OwnFound};
 use crate::whole::Whole;
 use zio_blkptr::Bp;
 use zio_gang::Tree;
 use zio_parts::{StoredPart, Walked};
 use zio_types::{Bits, Bytes, Errno, ReqNo};
 
-/// A request that finished. The stages alone make one, so whoever has it knows that its node went through them.
+/// A request that finished. The closing calls of a `RequestNode` alone make one, each out of a node whose children and own
+/// work have ended.
 #[derive(Debug, Drop)]
 pub struct Finished {
-    pub(crate) request: ReqNo,
+    request: ReqNo,
     /// The label of its node.
-    pub(crate) label: u64,
-    pub(crate) error: Option<Errno>,
+    label: u64,
+    error: Option<Errno>,
     /// Of a read without error.
-    pub(crate) bytes: Bytes,
+    bytes: Bytes,
     /// The block that a write or a claim without error made.
-    pub(crate) block: Option<Tree>,
+    block: Option<Tree>,
     /// The pointer that a write told.
-    pub(crate) pointer: Option<Bp>,
+    pointer: Option<Bp>,
 }
 
 impl Finished {
-    ghost use Rattle.std.specs.Prelude.{◌≡◌};
-
     pub fn request(&self) -> ReqNo
         ensures { result ≡ self.now.request }
     {
@@ -78,4 +85,51 @@ pub enum Outcome {
     Walked(Walked),
     /// What a part left that was written.
     Stored(StoredPart),
+}
+
+impl Closed {
+    /// The request finished, with the block that it made where it met no error, or it goes again.
+    pub(crate) fn into_outcome(self, attempt: u32) -> Outcome
+        ensures { result ≡ outcome_of (closed_label attempt self) self }
+    {
+        match self {
+            Closed::Finished {
+                waiting,
+                error,
+                own,
+            } => {
+                let request = waiting.request.number;
+                let label = waiting.label(attempt);
+                let OwnFound {
+                    bytes,
+                    tree,
+                    pointer,
+                    ..
+                } = own;
+                Outcome::Finished(Finished {
+                    request,
+                    label,
+                    error,
+                    bytes,
+                    block: kept_tree(error, tree),
+                    pointer,
+                })
+            }
+            Closed::Again { bits, whole, own } => Outcome::Again {
+                whole,
+                bits,
+                pointer: own.pointer,
+            },
+        }
+    }
+}
+
+/// The block, which a request with an error doesn't keep.
+fn kept_tree(error: Option<Errno>, tree: Option<Tree>) -> Option<Tree>
+    ensures { result ≡ tree_unless error tree }
+{
+    match error {
+        None => tree,
+        Some(_) => None,
+    }
 }

@@ -15,10 +15,10 @@ ghost use Rattle.zio_stages.specs.Waits.{pending_of};
 ghost use Rattle.zio_stages.specs.declared.family.Layer.TheVariants.{Within};
 
 use crate::part_work::PartWork;
-use crate::waiting::Waiting;
+use crate::waiting::UnfinishedRequest;
 use std::alloc::Global;
 use zio_children::Kids;
-use zio_content::content;
+use zio_gang::content;
 use zio_parts::BlockWrite;
 use zio_script::Work;
 use zio_types::{NoMemory, Path};
@@ -35,7 +35,7 @@ pub(crate) struct OwnWrite {
 /// and its sum is taken here, so no later stage goes over the bytes again.
 pub(crate) fn block_of(
     alloc: Global,
-    waiting: &Waiting,
+    waiting: &UnfinishedRequest,
     kids: &Kids,
     round: u32,
     attempt: u32,

@@ -34,8 +34,8 @@ use crate::request_read::front_of;
 use crate::services::Services;
 use std::alloc::Global;
 use std::mem::replace;
-use zio_gang::Tree;
-use zio_parts::{LEVELS_MAX, Walked};
+use zio_gang::{LEVELS_MAX, Tree};
+use zio_parts::Walked;
 use zio_script::Work;
 use zio_types::{ChildKind, Errno, List, NoMemory, Prio, SECTOR_SIZE, Top};
 

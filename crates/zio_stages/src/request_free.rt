@@ -34,7 +34,8 @@ use crate::request_read::{front_of, heads_again};
 use crate::services::Services;
 use crate::stored_block::places_of;
 use std::alloc::Global;
-use zio_parts::{LEVELS_MAX, Walked};
+use zio_gang::LEVELS_MAX;
+use zio_parts::Walked;
 use zio_types::{ChildKind, Errno, List, NoMemory, Prio, SECTOR_SIZE};
 
 impl RequestNode {

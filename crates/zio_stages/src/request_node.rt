@@ -14,10 +14,11 @@ ghost use Rattle.zio_trace.specs.Families.{Forest, NoTrees};
 ghost use Rattle.zio_trace.specs.Tasks.{Attempt, AttemptedBy, One};
 ghost use Rattle.zio_children.specs.RequestKids.{IsLeftBy, IsOutWith, is_ended, kid_handed, kid_is, numbers_of, returns_in};
 ghost use Rattle.zio_children.specs.declared.kids.KidState.TheVariants.{Ended, Out, Told};
-ghost use Rattle.zio_content.specs.Pointers.{IsNoneOrValid};
+ghost use Rattle.zio_gang.specs.Pointers.{IsNoneOrValid};
 ghost use Rattle.zio_frames.specs.Frames.{Child, Stack, fresh_stack};
 ghost use Rattle.zio_frames.specs.Moves.{WillHave, heard_early, heard_of};
 ghost use Rattle.zio_frames.specs.Seats.{IsSeated, asked_at};
+ghost use Rattle.zio_stages.specs.Closings.{EndsBy};
 ghost use Rattle.zio_stages.specs.KidLists.{AreBegun, HoldTheSame, HoldsBut, IsListOf, LeavesList};
 ghost use Rattle.zio_stages.specs.KidPointers.{HasValid, HaveValidPointers};
 ghost use Rattle.zio_stages.specs.KidTrees.{IsLeft};
@@ -26,17 +27,19 @@ ghost use Rattle.zio_stages.specs.OwnParts.{IsOwed};
 ghost use Rattle.zio_stages.specs.RequestNodes.{Closes, HandsKid, IsKidAt, IsOwnOver, IsRequestNode, IsSeatOf, OwnEnds, own_got};
 ghost use Rattle.zio_stages.specs.RequestStages.{HasToldIn, with_kids};
 ghost use Rattle.zio_stages.specs.RequestStoreds.{is_well, keeps_block, own_in};
-ghost use Rattle.zio_stages.specs.declared.waiting.Waiting.{Waiting as SeenWaiting};
+ghost use Rattle.zio_stages.specs.declared.request_node.OwnFound.{OwnFound as SeenFound};
+ghost use Rattle.zio_stages.specs.declared.waiting.UnfinishedRequest.{UnfinishedRequest as SeenWaiting};
 ghost use Rattle.zio_stages.specs.Wholes.{IsTreeOf, root_number, root_of};
 
 use crate::attempted::{AgainBack, RequestKids, WholeBack};
 use crate::family::{Family, Seat};
+use crate::outcome::Outcome;
 use crate::own_claim::OwnClaim;
 use crate::own_free::OwnFree;
 use crate::own_read::OwnRead;
 use crate::own_write::OwnWrite;
 use crate::stored_block::StoredBlock;
-use crate::waiting::Waiting;
+use crate::waiting::UnfinishedRequest;
 use crate::whole::Whole;
 use std::alloc::Global;
 use zio_blkptr::Bp;
@@ -70,7 +73,7 @@ pub(crate) enum Own {
 /// A request in an attempt.
 #[derive(Drop)]
 pub struct RequestNode {
-    pub(crate) waiting: Waiting,
+    pub(crate) waiting: UnfinishedRequest,
     pub(crate) kids: RequestKids,
     pub(crate) own: Own,
     pub(crate) family: Family,
@@ -81,14 +84,14 @@ pub struct RequestNode {
 
 /// What a request's own work came to.
 #[derive(Drop)]
-pub struct OwnFound {
-    pub error: Option<Errno>,
+pub(crate) struct OwnFound {
+    pub(crate) error: Option<Errno>,
     /// Of a read.
-    pub bytes: List<u8>,
+    pub(crate) bytes: List<u8>,
     /// The block that it made.
-    pub tree: Option<Tree>,
+    pub(crate) tree: Option<Tree>,
     /// Of a write that has a place.
-    pub pointer: Option<Bp>,
+    pub(crate) pointer: Option<Bp>,
 }
 
 /// What comes next of a request's children.
@@ -119,10 +122,10 @@ pub enum DoneStep {
 
 /// What becomes of a request in an attempt.
 #[derive(Drop)]
-pub enum Closed {
+pub(crate) enum Closed {
     /// It finished with this error or none. With one, the places of the block that it made are to be given back.
     Finished {
-        waiting: Waiting,
+        waiting: UnfinishedRequest,
         error: Option<Errno>,
         own: OwnFound,
     },
@@ -225,12 +228,10 @@ impl RequestNode {
     }
 
     /// What becomes of a null whose children all ended. Where memory is refused the node comes back.
-    pub fn close_null(self, alloc: Global) -> Result<Closed, NodeBack>
+    pub fn close_null(self, alloc: Global) -> Result<Outcome, NodeBack>
         requires null { self.waiting.request.work ≡ Work.Null }
         requires ended { list_all is_ended self.kids.kids.kids ≡ true }
-        ensures closes { IfOk result (λ closed. (t : Terms) (st : Stack) (h : IsRequestNode t self st) → Closes t self st h closed) }
-        ensures none { IfOk result (λ closed. (own_in closed).tree ≡ None) }
-        ensures list { IfOk result (LeavesList self) }
+        ensures ends { IfOk result (λ outcome. (own : SeenFound) × (own.tree ≡ None) × EndsBy self own outcome) }
         ensures back { IfErr result (λ e. e.node ≡ self) }
     {
         let own = OwnFound {
@@ -239,8 +240,9 @@ impl RequestNode {
             tree: None,
             pointer: None,
         };
+        let attempt = self.attempt;
         match self.close(alloc, own) {
-            Ok(closed) => Ok(closed),
+            Ok(closed) => Ok(closed.into_outcome(attempt)),
             Err(back) => Err(NodeBack { node: back.node }),
         }
     }

@@ -76,8 +76,8 @@ use crate::request_kind::is_gang_tree;
 use crate::request_node::{DoneStep, Own, OwnFound, RequestNode};
 use std::alloc::Global;
 use std::mem::replace;
-use zio_gang::Head;
-use zio_parts::{LEVELS_MAX, TreeStep, Walked};
+use zio_gang::{Head, LEVELS_MAX};
+use zio_parts::{TreeStep, Walked};
 use zio_script::Work;
 use zio_types::{Bytes, ChildKind, Errno, List, NoMemory, Prio, Role, SECTOR_SIZE, Top};
 

@@ -9,14 +9,16 @@ ghost use Rattle.zio_types.specs.declared.place.Top.{Top as SeenTop};
 ghost use Rattle.zio_gang.specs.Attempts.{Terms};
 ghost use Rattle.zio_children.specs.RequestKids.{is_ended};
 ghost use Rattle.zio_frames.specs.Frames.{Stack};
-ghost use Rattle.zio_stages.specs.KidLists.{LeavesList};
-ghost use Rattle.zio_stages.specs.RequestNodes.{Closes, IsOwnOver, IsRequestNode};
+ghost use Rattle.zio_stages.specs.Closings.{EndsBy};
+ghost use Rattle.zio_stages.specs.RequestNodes.{IsOwnOver, IsRequestNode};
 ghost use Rattle.zio_stages.specs.RequestStages.{with_own};
-ghost use Rattle.zio_stages.specs.RequestStoreds.{IsStoredWith, error_by, found_by, given_by, is_well, keeps_block, made_by, own_in};
+ghost use Rattle.zio_stages.specs.RequestStoreds.{IsStoredWith, error_by, found_by, given_by, is_well, made_by};
 ghost use Rattle.zio_stages.specs.SpaceCalls.{GivesBack};
 ghost use Rattle.zio_stages.specs.StoredBlocks.{IsGoingBack};
+ghost use Rattle.zio_stages.specs.declared.request_node.OwnFound.{OwnFound};
 
-use crate::request_node::{CloseBack, Closed, NodeBack, Own, RequestNode};
+use crate::outcome::Outcome;
+use crate::request_node::{CloseBack, NodeBack, Own, RequestNode};
 use crate::services::Services;
 use crate::stored_block::StoredBlock;
 use std::alloc::Global;
@@ -67,19 +69,17 @@ impl RequestNode {
 
     /// The decision of a write, whose block's places went back where it was to lose them. Where memory is refused the node comes
     /// back.
-    pub fn close_write(self, alloc: Global) -> Result<Closed, NodeBack>
+    pub fn close_write(self, alloc: Global) -> Result<Outcome, NodeBack>
         requires stored { IsStoredWith IsGoingBack self.own }
         requires ended { list_all is_ended self.kids.kids.kids ≡ true }
-        ensures closes { IfOk result (λ closed. (t : Terms) (st : Stack) (h : IsRequestNode t self st) → Closes t self st h closed) }
-        ensures decides { IfOk result (λ closed. keeps_block closed ≡ is_well self (error_by self.own)) }
-        ensures own { IfOk result (λ closed. Some (own_in closed) ≡ found_by self.own) }
-        ensures list { IfOk result (LeavesList self) }
+        ensures ends { IfOk result (λ outcome. (own : OwnFound) × (found_by self.own ≡ Some own) × EndsBy self own outcome) }
         ensures back { IfErr result (λ e. e.node ≡ self) }
     {
+        let attempt = self.attempt;
         let mut node = self;
         match replace(&mut node.own, Own::Over) {
             Own::Stored(StoredBlock { own, places, given }) => match node.close(alloc, own) {
-                Ok(closed) => Ok(closed),
+                Ok(closed) => Ok(closed.into_outcome(attempt)),
                 Err(CloseBack { mut node, own }) => {
                     node.own = Own::Stored(StoredBlock { own, places, given });
                     Err(NodeBack { node })

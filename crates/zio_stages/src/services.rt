@@ -5,7 +5,7 @@ ghost use Rattle.zio_types.specs.declared.place.Top.{Top as SeenTop};
 ghost use Rattle.zio_gang.specs.Trees.{sizes_of};
 ghost use Rattle.zio_stages.specs.SpaceCalls.{Claimed, GaveBack, IsAnswerFor, LieOnTops, Placed, SpaceCall};
 
-use zio_types::{Entry, Key, NoMemory, Place, Top};
+use zio_types::{COPIES_MAX, Entry, Key, NoMemory, Place, Top};
 
 /// Why no place was claimed.
 #[derive(Clone, Copy, Debug, PartialEq, Eq)]
@@ -29,7 +29,7 @@ pub trait Services {
         requires some { 0 < size }
         requires whole { size % 512 ≡ 0 }
         requires one { 1 ≤ copies }
-        requires most { copies ≤ 3 }
+        requires most { copies ≤ COPIES_MAX }
         ensures asked { IfOk result (λ entry. entry.asked ≡ record { key = key; size = size; copies = copies }) }
         ensures answers { IfOk result (λ entry. IsAnswerFor (sizes_of (tops self.old)) entry) }
         ensures made { IfOk result (λ entry. made self.old (Placed entry ∷ []) self.new) }

@@ -4,13 +4,13 @@ ghost use Rattle.std.specs.Prelude.{◌≡◌, ◌+◌, ◌≤◌, ◌++◌, [],
 ghost use Rattle.zio_stages.specs.Splits.{AreSoMany, AreTaken};
 ghost use Rattle.zio_stages.specs.Wholes.{joined};
 
-use crate::waiting::Waiting;
+use crate::waiting::UnfinishedRequest;
 use crate::whole::{Whole, put_reserved};
 use zio_types::{List, NoMemory};
 
 /// Takes so many trees from the end of the list, the last first. Where memory is refused some stay.
 pub(crate) fn split(
-    rest: &mut Vec<Waiting>,
+    rest: &mut Vec<UnfinishedRequest>,
     count: usize,
     due: &mut Vec<Whole>,
 ) -> Result<(), NoMemory>
@@ -35,7 +35,7 @@ pub(crate) fn split(
 }
 
 /// Puts the trees that were taken from the end of the list, the last first, back there.
-pub(crate) fn rejoin(rest: &mut Vec<Waiting>, mut due: Vec<Whole>)
+pub(crate) fn rejoin(rest: &mut Vec<UnfinishedRequest>, mut due: Vec<Whole>)
     requires { length rest.old.items + length (joined (reverse due.items)) ≤ vec_capacity rest.old }
     ensures items { rest.new.items ≡ rest.old.items ++ joined (reverse due.items) }
     ensures capacity { vec_capacity rest.old ≤ vec_capacity rest.new }

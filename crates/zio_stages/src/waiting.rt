@@ -13,7 +13,7 @@ use zio_types::{List, Role};
 
 /// A request that hasn't finished.
 #[derive(Debug, Drop)]
-pub struct Waiting {
+pub struct UnfinishedRequest {
     pub(crate) request: Request,
     /// The number of its batch.
     pub(crate) birth: u32,
@@ -27,7 +27,7 @@ pub struct Waiting {
     pub(crate) below: usize,
 }
 
-impl Waiting {
+impl UnfinishedRequest {
     /// The label of the node that attempts it.
     pub fn label(&self, attempt: u32) -> u64
         ensures { result ≡ request_label self.now attempt }

@@ -5,12 +5,12 @@ ghost use Rattle.std.specs.List.{AllByRecursion};
 ghost use Rattle.zio_script.specs.Requests.{kind_of};
 ghost use Rattle.zio_trace.specs.Families.{Forest};
 ghost use Rattle.zio_children.specs.RequestKids.{RiseFrom};
-ghost use Rattle.zio_stages.specs.declared.waiting.Waiting.{Waiting as SeenWaiting};
+ghost use Rattle.zio_stages.specs.declared.waiting.UnfinishedRequest.{UnfinishedRequest as SeenWaiting};
 ghost use Rattle.zio_stages.specs.Waits.{fresh, pending_of, pendings};
 ghost use Rattle.zio_stages.specs.Wholes.{AreTrees, IsTreeOf, IsWhole, joined, root_number, root_of, roots_in};
 
 use crate::request::request_again;
-use crate::waiting::Waiting;
+use crate::waiting::UnfinishedRequest;
 use std::alloc::Global;
 use std::marker::Model;
 use zio_gang::Tree;
@@ -21,14 +21,14 @@ use zio_types::{Kind, List, NoMemory, ReqNo};
 /// itself. A contract sees the list; `pendings` are its requests as the definitions have them.
 #[derive(Debug, Drop)]
 pub struct Whole {
-    pub(crate) waiting: List<Waiting>,
+    pub(crate) waiting: List<UnfinishedRequest>,
 }
 
 impl Model for Whole {
     ghost use Rattle.std.specs.Prelude.{List};
-    ghost use Rattle.zio_stages.specs.declared.waiting.Waiting.{Waiting};
+    ghost use Rattle.zio_stages.specs.declared.waiting.UnfinishedRequest.{UnfinishedRequest};
 
-    ghost Value = { List Waiting };
+    ghost Value = { List UnfinishedRequest };
 
     ghost use Rattle.zio_stages.specs.Wholes.{IsWhole};
 
@@ -63,7 +63,7 @@ impl Whole {
         match begun {
             Err(NoMemory) => Err(ChildrenBack { children }),
             Ok((request, all)) => {
-                let root = Waiting {
+                let root = UnfinishedRequest {
                     request,
                     birth,
                     block,
@@ -77,7 +77,7 @@ impl Whole {
     }
 
     /// The request that is attempted last.
-    pub fn root(&self) -> &Waiting
+    pub fn root(&self) -> &UnfinishedRequest
         ensures root { root_of self.now ≡ Some result.now }
         ensures whole { IsWhole self.now }
     {
@@ -112,7 +112,7 @@ fn begin_tree(
     alloc: Global,
     request: &Request,
     children: &[Whole],
-) -> Result<(Request, Vec<Waiting>), NoMemory>
+) -> Result<(Request, Vec<UnfinishedRequest>), NoMemory>
     ensures request { IfOk result (λ begun. begun.0 ≡ request.now) }
     ensures none { IfOk result (λ begun. begun.1.items ≡ []) }
     ensures room { IfOk result (λ begun. length (joined children.now) + 1 ≤ vec_capacity begun.1) }
@@ -140,7 +140,11 @@ fn room_over(children: &[Whole]) -> Option<usize>
 }
 
 /// The children's trees and the root behind them, for which there is room. It sets the root's counts.
-fn grown(mut all: Vec<Waiting>, children: List<Whole>, mut root: Waiting) -> Whole
+fn grown(
+    mut all: Vec<UnfinishedRequest>,
+    children: List<Whole>,
+    mut root: UnfinishedRequest,
+) -> Whole
     requires none { all.items ≡ [] }
     requires room { length (joined children) + 1 ≤ vec_capacity all }
     requires whole { AllByRecursion IsWhole children }
@@ -160,7 +164,7 @@ fn grown(mut all: Vec<Waiting>, children: List<Whole>, mut root: Waiting) -> Who
 }
 
 /// Moves these to the end, where there is room for them.
-pub(crate) fn put_reserved(all: &mut Vec<Waiting>, mut more: Vec<Waiting>)
+pub(crate) fn put_reserved(all: &mut Vec<UnfinishedRequest>, mut more: Vec<UnfinishedRequest>)
     requires { length all.old.items + length more.items ≤ vec_capacity all.old }
     ensures items { all.new.items ≡ all.old.items ++ more.items }
     ensures capacity { vec_capacity all.old ≤ vec_capacity all.new }

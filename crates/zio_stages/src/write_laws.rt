@@ -12,7 +12,7 @@ ghost use Rattle.zio_trace.specs.Tasks.{OwnGot, Stored, StoredAs, Task};
 ghost use Rattle.zio_trace.specs.Underway.{early};
 ghost use Rattle.zio_children.specs.RequestKids.{IsOutWith, KidsUnderWay, kid_is, pointers_of, state_at};
 ghost use Rattle.zio_children.specs.declared.kids.KidState.TheVariants.{Ended};
-ghost use Rattle.zio_content.specs.Pointers.{IsNoneOrValid};
+ghost use Rattle.zio_gang.specs.Pointers.{IsNoneOrValid};
 ghost use Rattle.zio_frames.specs.Slots.{Slot, left_behind_slots};
 ghost use Rattle.zio_stages.specs.KidPointers.{HaveValidPointers};
 ghost use Rattle.zio_stages.specs.OwnParts.{Follows, Foretells};

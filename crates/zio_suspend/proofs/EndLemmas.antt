@@ -23,7 +23,7 @@ use Rattle.zio_report.specs.declared.report.RunFault.TheVariants.{Device, Sink, 
 use Rattle.zio_report.specs.declared.report.Show.{Show}
 use Rattle.zio_report.specs.declared.report.Show.TheVariants.{Report, Summary}
 use Rattle.zio_report.specs.Lines.{as_line}
-use Rattle.zio_report.specs.Meanings.{IsEmptyJournal, records_of, tops_of}
+use Rattle.zio_report.specs.Meanings.{IsEmptyJournal, IsWholeRun, records_of, tops_of}
 use Rattle.zio_report.specs.Reports.{Records, RunSize, all_ended, bad_ended, end_text, good_ended, pool_text, run_text, text_so_far}
 use Rattle.zio_course.specs.declared.fold.Batch.{Batch}
 use Rattle.zio_course.specs.declared.fold.Fold.{Fold}
@@ -32,7 +32,7 @@ use Rattle.zio_course.specs.Course.{shown_of}
 use Rattle.zio_course.specs.Folds.{SeenFold, batches_seen, fold_seen, has_items}
 use Rattle.zio_course.specs.Moves.{LinesCut, LinesOver}
 use Rattle.zio_course.specs.Runners.{Standing, Stopping}
-use Rattle.zio_course.specs.SoFar.{Ahead, EndsWhole, IsAtEnd, IsCourseAt, IsCut, IsCutText, IsFullText, IsWholeRun}
+use Rattle.zio_course.specs.SoFar.{Ahead, EndsWhole, IsAtEnd, IsCourseAt, IsCut, IsCutText, IsFullText}
 use Rattle.zio_course.proofs.CutLemmas.{IsOther, cut_at, printed_ends, written_then}
 use Rattle.zio_course.proofs.MoveLemmas.{Appends-both}
 use Rattle.zio_course.proofs.RoundsLemmas.{trees_items}

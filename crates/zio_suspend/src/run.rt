@@ -6,9 +6,9 @@ ghost use Rattle.zio_script.specs.Grammar.{IsScriptOf};
 ghost use Rattle.zio_script.specs.Requests.{requests_of};
 ghost use Rattle.zio_cksum.specs.Images.{Images};
 ghost use Rattle.zio_gang.specs.Runs.{top_of};
-ghost use Rattle.zio_report.specs.Meanings.{IsEmptyJournal};
+ghost use Rattle.zio_report.specs.Meanings.{IsEmptyJournal, IsWholeRun};
 ghost use Rattle.zio_course.specs.Runners.{AnyRose, stopping_of};
-ghost use Rattle.zio_course.specs.SoFar.{IsCut, IsCutText, IsFullText, IsWholeRun};
+ghost use Rattle.zio_course.specs.SoFar.{IsCut, IsCutText, IsFullText};
 
 use crate::ending::ending_of;
 use crate::finish::{begin, finish};

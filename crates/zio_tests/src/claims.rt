@@ -9,7 +9,7 @@ use std::test::Fail;
 use zio_blkptr::{Bp, SumKind, encode};
 use zio_blocks::claim_block;
 use zio_disks::{Setting, Stop};
-use zio_faults::Table;
+use zio_faults::FaultTable;
 use zio_gang::{Tree, header_encode};
 use zio_outside::MemDisk;
 use zio_places::Space;
@@ -88,7 +88,7 @@ fn setting(alloc: Global) -> Result<Setting, Fail>
     };
     Ok(Setting {
         tops,
-        table: Table {
+        table: FaultTable {
             rows: List::new(alloc),
         },
         point: 0,

@@ -9,7 +9,7 @@ use std::test::Fail;
 use zio_blkptr::{Bp, SumKind, is_valid};
 use zio_cksum::sum;
 use zio_disks::{GoodCopy, Setting, read_block, write_piece};
-use zio_faults::{FaultKind, On, Row, Table};
+use zio_faults::{FaultKind, FaultTable, On, Row};
 use zio_outside::MemDisk;
 use zio_types::{Errno, List, Place, Top};
 
@@ -95,7 +95,7 @@ fn mirror(alloc: Global, faults: &[Fault; 2]) -> Result<Setting, Fail>
     rows.extend_from_slice(&[row(0, &faults[0]), row(1, &faults[1])])?;
     Ok(Setting {
         tops,
-        table: Table { rows },
+        table: FaultTable { rows },
         point: 0,
     })
 }

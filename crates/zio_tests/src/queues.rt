@@ -1,6 +1,6 @@
 use std::alloc::Global;
 use std::test::Fail;
-use zio_faults::{FaultKind, On, Row, Table};
+use zio_faults::{FaultKind, FaultTable, On, Row};
 use zio_types::{Flags, List, NoMemory, Prio};
 use zio_vqueue::{Group, Op, VQueue, lone, scatter};
 
@@ -171,7 +171,7 @@ fn eight_writes_are_one_group_that_a_fault_parts(rt: HostRuntime) -> Result<(), 
         kind: FaultKind::Eio,
         first: false,
     })?;
-    let table = Table { rows };
+    let table = FaultTable { rows };
     assert!(rt; lone(&group, &table, 0, 0));
     assert!(rt; !lone(&group, &table, 0, 1));
     Ok(())

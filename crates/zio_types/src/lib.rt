@@ -18,7 +18,7 @@ pub use error::{Errno, NoMemory, worst};
 pub use journal::{Completion, Entry, Journal, Key, Path, Role};
 pub use laws::{a_wake_ends_its_own_stall, counts_follow_the_marks, errors_join_in_any_order};
 pub use list::{List, Rest};
-pub use place::{Place, Top, TopSize};
+pub use place::{COPIES_MAX, NOWHERE, Place, TOP_LEAVES_MAX, Top, TopSize};
 pub use request::{Bits, ChildKind, Flags, Kind, Phase, Prio, ReqNo, Status};
 pub use text::Text;
 

@@ -1,5 +1,15 @@
 use crate::List;
 
+/// The most copies that a write asks for, and so the most places of a pointer and of an entry.
+pub const COPIES_MAX: u32 = 3;
+
+/// What stands behind the last place.
+pub const NOWHERE: Place = Place {
+    top: 0,
+    sector: 0,
+    sectors: 0,
+};
+
 /// A run of sectors of one top.
 #[derive(Clone, Copy, Debug, PartialEq, Eq)]
 pub struct Place {
@@ -9,6 +19,9 @@ pub struct Place {
     /// How many sectors it has.
     pub sectors: u32,
 }
+
+/// The most leaves of a top.
+pub const TOP_LEAVES_MAX: u32 = 4;
 
 /// A mirror: leaves that hold the same.
 #[derive(Debug, Drop)]

@@ -2,7 +2,7 @@ ghost use Rattle.std.specs.Prelude.{◌≡◌, ◌+◌, ◌-◌, ◌<◌, ◌≤
 ghost use Rattle.zio_faults.specs.Hits.{RowFits, first_hit};
 ghost use Rattle.zio_vqueue.specs.Members.{LiesIn, is_write};
 
-use zio_faults::Table;
+use zio_faults::FaultTable;
 use zio_types::{Flags, List, Prio};
 
 /// An operation on the leaf that the queue is for.
@@ -34,7 +34,7 @@ pub struct Group {
 
 /// Whether a group is to be issued member by member, since its span as one first pass would meet a row of the
 /// fault table at this leaf and resume point.
-pub fn lone(group: &Group, table: &Table, leaf: u32, point: u32) -> bool
+pub fn lone(group: &Group, table: &FaultTable, leaf: u32, point: u32) -> bool
     requires member { 0 < length group.now.ops }
     requires span { group.now.at + group.now.len < 2 ^ 64 }
     requires rows { All RowFits table.now.rows }

@@ -8,7 +8,7 @@ use Rattle.zio_gang.specs.Attempts.{Pending}
 use Rattle.zio_gang.specs.Rounds.{block_of, bound_after, pending_trees, trees_of}
 use Rattle.zio_report.specs.Lines.{AreWhole}
 use Rattle.zio_course.specs.declared.admission.Rules.{Rules}
-use Rattle.zio_course.specs.declared.runner.Finished.{Finished}
+use Rattle.zio_course.specs.declared.runner.RequestEnd.{RequestEnd}
 use Rattle.zio_course.specs.declared.runner.Stop.TheVariants.{Memory as NoMemory}
 use Rattle.zio_course.specs.Admissions.{error_in}
 use Rattle.zio_course.specs.Answered.{answered_in}
@@ -96,9 +96,9 @@ returns-clause-ran g c =
       w.0,
       record {
         journal = record { places = w.1.places; completions = w.1.completions; rounds = w.1.rounds; finished_is = refl; left_is = w.1.left_is };
-        lines_are = c.in_ok-lines.ensures.lines ∙ ap (λ (fs : List Finished). map (line_told error fs) requests) w.1.finished_is;
+        lines_are = c.in_ok-lines.ensures.lines ∙ ap (λ (fs : List RequestEnd). map (line_told error fs) requests) w.1.finished_is;
         bound_is = λ name. c.in_ok-lines.ensures.bound name
-            ∙ ap (λ (fs : List Finished). block_of (bound_after (ended_told error fs requests) (names_of entries)) name) w.1.finished_is;
+            ∙ ap (λ (fs : List RequestEnd). block_of (bound_after (ended_told error fs requests) (names_of entries)) name) w.1.finished_is;
       },
       w.2,
       w.3,
@@ -119,7 +119,7 @@ returns-clause-shown g c =
     c.in_ok-finished.field-0.finished (map g.R.Runner.pending c.in_ok-finished.field-0.left) =
     whole_moved _ _ _ _ _ _ _ _ _ _ _ _ _ _ _ _ _ c.in_ok-trees.ensures.stays.standing c.in_ok-trees.ensures.trees c.in_ok-answered.ensures
     (λ images h. (c.in_ok-trees.ensures.stays.images images).0 h) c.in_ok-finished.ensures.whole in
-    subst AreWhole (sym (c.in_ok-lines.ensures.lines ∙ ap (λ (fs : List Finished). map (line_told error fs) requests) w.1.finished_is))
+    subst AreWhole (sym (c.in_ok-lines.ensures.lines ∙ ap (λ (fs : List RequestEnd). map (line_told error fs) requests) w.1.finished_is))
     (lines_whole error w.0.finished requests w.2.sectors)
 
 pub returns-clause-fits : goal.returns-clause-fits

@@ -7,7 +7,7 @@ use Rattle.zio_script.specs.declared.script.Request.{Request}
 use Rattle.zio_script.specs.Requests.{requests_of}
 use Rattle.zio_gang.specs.Rounds.{trees_of}
 use Rattle.zio_gang.specs.Runs.{has_trees, is_panic}
-use Rattle.zio_report.specs.declared.report.Line.{Line}
+use Rattle.zio_report.specs.declared.report.ReportLine.{ReportLine}
 use Rattle.zio_report.specs.declared.report.RunFault.TheVariants.{Sink, Memory}
 use Rattle.zio_report.specs.Lines.{round_text}
 use Rattle.zio_course.specs.declared.admission.Rules.{Rules}
@@ -105,7 +105,7 @@ returns-clause-ran g c =
     let w = c.in_ok-end.ensures.ran in
     let old : Journal = c.args.journal.now in
     let new : Journal = c.run_batch.new.journal in
-    let lines : List Line = c.in_ok-end.end.lines in
+    let lines : List ReportLine = c.in_ok-end.end.lines in
     let places : List Choice = drop c.len-places.result new.places in
     let done : List Completion = drop c.len-completions.result new.completions in
     let ends : List Completion = reverse (answered_in (error_in slots rules) (old.rounds + 1) (requests_of items)) ++ w.0.completions in
@@ -142,7 +142,7 @@ returns-clause-cut g c =
     let w = c.in_ok-end.ensures.ran in
     let old : Journal = c.args.journal.now in
     let new : Journal = c.run_batch.new.journal in
-    let lines : List Line = c.in_ok-end.end.lines in
+    let lines : List ReportLine = c.in_ok-end.end.lines in
     let places : List Choice = drop c.len-places.result new.places in
     let done : List Completion = drop c.len-completions.result new.completions in
     let ends : List Completion = reverse (answered_in (error_in slots rules) (old.rounds + 1) (requests_of items)) ++ w.0.completions in
@@ -177,7 +177,7 @@ pub returns-clause-few : goal.returns-clause-few
 returns-clause-few g c =
     let requests : List Request = requests_of c.args.batch.now.lines.now in
     let w = c.in_ok-end.ensures.ran in
-    let lines : List Line = c.in_ok-end.end.lines in
+    let lines : List ReportLine = c.in_ok-end.end.lines in
     let slice_is : map (λ (r : Bor Request). r.now) c.as_slice.result.now ≡ requests = ap (map (λ (r : Bor Request). r.now)) c.as_slice.ensures.value ∙ c.in_ok-requests.ensures.ok in
     let same : length requests ≡ length lines = sym (ap length w.1.lines_are ∙ len_map _ requests) in
     when_ok c.end_round.result _ _ _ _ _ _ _ c.end_round.ensures.suspended c.end_round.ensures.unfinished c.end_round.ensures.tally c.end_round.ensures.panicked c.end_round.ensures.ok c.end_round.ensures.sums
@@ -197,7 +197,7 @@ returns-clause-steady g c =
     let admission_is : IsAdmission (has_trees f.suspended) (is_name_in f.awaited) (is_some_name f.bound) (trees_of (requests_of items)) slots rules =
     subst (λ (b : Bool). IsAdmission b (is_name_in f.awaited) (is_some_name f.bound) (trees_of (requests_of items)) slots rules) (sym (trees_items g.R.Runner.pending c.args.fold.now.suspended)) c.in_ok-admission.ensures.ok in
     let w = c.in_ok-end.ensures.ran in
-    let lines : List Line = c.in_ok-end.end.lines in
+    let lines : List ReportLine = c.in_ok-end.end.lines in
     let slice_is : map (λ (r : Bor Request). r.now) c.as_slice.result.now ≡ requests_of items = ap (map (λ (r : Bor Request). r.now)) c.as_slice.ensures.value ∙ c.in_ok-requests.ensures.ok in
     when_ok c.end_round.result _ _ _ _ _ _ _ c.end_round.ensures.suspended c.end_round.ensures.unfinished c.end_round.ensures.tally c.end_round.ensures.awaited c.end_round.ensures.ok c.end_round.ensures.sums
     (λ suspended_is unfinished_is tally_is awaited_is wrote sums.

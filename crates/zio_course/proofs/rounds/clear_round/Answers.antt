@@ -5,7 +5,7 @@ use Rattle.zio_types.specs.Choices.{Choice}
 use Rattle.zio_script.specs.declared.script.Request.{Request}
 use Rattle.zio_gang.specs.Attempts.{Pending}
 use Rattle.zio_gang.specs.Runs.{is_panic}
-use Rattle.zio_report.specs.declared.report.Line.{Line}
+use Rattle.zio_report.specs.declared.report.ReportLine.{ReportLine}
 use Rattle.zio_report.specs.declared.report.RunFault.TheVariants.{Sink, Memory}
 use Rattle.zio_report.specs.Lines.{round_text}
 use Rattle.zio_course.specs.Folds.{SeenFold, fold_seen, is_named_by, waiting_of}
@@ -52,7 +52,7 @@ returns-clause-ran g c =
     ap (map (λ (r : Bor Request). r.now)) (c.as_slice.ensures.value ∙ ap (λ v. v.items) c.replace-requests.ensures.value) in
     let old : Journal = c.args.journal.now in
     let new : Journal = c.run_suspended.new.journal in
-    let lines : List Line = c.in_ok-end.end.lines in
+    let lines : List ReportLine = c.in_ok-end.end.lines in
     let left : List (List Pending) = map g.R.Runner.pending c.in_ok-end.end.left in
     let w : ClearRan s (g.R.Runner.standing c.run_suspended.new.runner) (g.R.Runner.tells c.args.runner.now) (g.R.Runner.tells c.run_suspended.new.runner) c.args.failmode f.point f.bound c.run_suspended.new.bound old new lines left f.suspended f.unfinished =
     clear_moved s (g.R.Runner.standing c.run_suspended.new.runner) (g.R.Runner.tells c.args.runner.now) (g.R.Runner.tells c.run_suspended.new.runner) c.args.failmode f.point f.bound c.run_suspended.new.bound old new lines left
@@ -92,7 +92,7 @@ returns-clause-cut g c =
     ap (map (λ (r : Bor Request). r.now)) (c.as_slice.ensures.value ∙ ap (λ v. v.items) c.replace-requests.ensures.value) in
     let old : Journal = c.args.journal.now in
     let new : Journal = c.run_suspended.new.journal in
-    let lines : List Line = c.in_ok-end.end.lines in
+    let lines : List ReportLine = c.in_ok-end.end.lines in
     let left : List (List Pending) = map g.R.Runner.pending c.in_ok-end.end.left in
     let w : ClearRan s (g.R.Runner.standing c.run_suspended.new.runner) (g.R.Runner.tells c.args.runner.now) (g.R.Runner.tells c.run_suspended.new.runner) c.args.failmode f.point f.bound c.run_suspended.new.bound old new lines left f.suspended f.unfinished =
     clear_moved s (g.R.Runner.standing c.run_suspended.new.runner) (g.R.Runner.tells c.args.runner.now) (g.R.Runner.tells c.run_suspended.new.runner) c.args.failmode f.point f.bound c.run_suspended.new.bound old new lines left
@@ -136,7 +136,7 @@ returns-clause-few g c =
     ap (map (λ (r : Bor Request). r.now)) (c.as_slice.ensures.value ∙ ap (λ v. v.items) c.replace-requests.ensures.value) in
     let old : Journal = c.args.journal.now in
     let new : Journal = c.run_suspended.new.journal in
-    let lines : List Line = c.in_ok-end.end.lines in
+    let lines : List ReportLine = c.in_ok-end.end.lines in
     let left : List (List Pending) = map g.R.Runner.pending c.in_ok-end.end.left in
     let w : ClearRan s (g.R.Runner.standing c.run_suspended.new.runner) (g.R.Runner.tells c.args.runner.now) (g.R.Runner.tells c.run_suspended.new.runner) c.args.failmode f.point f.bound c.run_suspended.new.bound old new lines left f.suspended f.unfinished =
     clear_moved s (g.R.Runner.standing c.run_suspended.new.runner) (g.R.Runner.tells c.args.runner.now) (g.R.Runner.tells c.run_suspended.new.runner) c.args.failmode f.point f.bound c.run_suspended.new.bound old new lines left
@@ -162,7 +162,7 @@ returns-clause-steady g c =
     ap (map (λ (r : Bor Request). r.now)) (c.as_slice.ensures.value ∙ ap (λ v. v.items) c.replace-requests.ensures.value) in
     let old : Journal = c.args.journal.now in
     let new : Journal = c.run_suspended.new.journal in
-    let lines : List Line = c.in_ok-end.end.lines in
+    let lines : List ReportLine = c.in_ok-end.end.lines in
     let left : List (List Pending) = map g.R.Runner.pending c.in_ok-end.end.left in
     let w : ClearRan s (g.R.Runner.standing c.run_suspended.new.runner) (g.R.Runner.tells c.args.runner.now) (g.R.Runner.tells c.run_suspended.new.runner) c.args.failmode f.point f.bound c.run_suspended.new.bound old new lines left f.suspended f.unfinished =
     clear_moved s (g.R.Runner.standing c.run_suspended.new.runner) (g.R.Runner.tells c.args.runner.now) (g.R.Runner.tells c.run_suspended.new.runner) c.args.failmode f.point f.bound c.run_suspended.new.bound old new lines left

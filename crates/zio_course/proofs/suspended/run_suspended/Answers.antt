@@ -5,7 +5,7 @@ use Rattle.zio_gang.specs.declared.tree.Tree.{Tree}
 use Rattle.zio_gang.specs.Attempts.{Pending}
 use Rattle.zio_gang.specs.Rounds.{block_of, bound_after}
 use Rattle.zio_report.specs.Lines.{AreWhole}
-use Rattle.zio_course.specs.declared.runner.Finished.{Finished}
+use Rattle.zio_course.specs.declared.runner.RequestEnd.{RequestEnd}
 use Rattle.zio_course.specs.declared.runner.Stop.TheVariants.{Memory as NoMemory}
 use Rattle.zio_course.specs.Answered.{answered_in}
 use Rattle.zio_course.specs.Forests.{names_of}
@@ -57,9 +57,9 @@ returns-clause-ran g c =
       w.0,
       record {
         journal = record { places = w.1.places; completions = w.1.completions; rounds = w.1.rounds; finished_is = refl; left_is = w.1.left_is };
-        lines_are = c.in_ok-lines.ensures.lines ∙ ap (λ (fs : List Finished). map (line_told no_error fs) requests) w.1.finished_is;
+        lines_are = c.in_ok-lines.ensures.lines ∙ ap (λ (fs : List RequestEnd). map (line_told no_error fs) requests) w.1.finished_is;
         bound_is = λ name. c.in_ok-lines.ensures.bound name
-            ∙ ap (λ (fs : List Finished). block_of (bound_after (ended_told no_error fs requests) (names_of entries)) name) w.1.finished_is;
+            ∙ ap (λ (fs : List RequestEnd). block_of (bound_after (ended_told no_error fs requests) (names_of entries)) name) w.1.finished_is;
       },
       w.2,
       w.3,
@@ -70,7 +70,7 @@ pub returns-clause-shown : goal.returns-clause-shown
 returns-clause-shown g c =
     let requests : List Request = map (λ (r : Bor Request). r.now) c.args.unfinished.now in
     let w = c.in_ok-finished.ensures.whole in
-    subst AreWhole (sym (c.in_ok-lines.ensures.lines ∙ ap (λ (fs : List Finished). map (line_told no_error fs) requests) w.1.finished_is))
+    subst AreWhole (sym (c.in_ok-lines.ensures.lines ∙ ap (λ (fs : List RequestEnd). map (line_told no_error fs) requests) w.1.finished_is))
     (lines_whole no_error w.0.finished requests w.2.sectors)
 
 pub returns-clause-fits : goal.returns-clause-fits

@@ -6,7 +6,7 @@ use Rattle.zio_disks.specs.Disks.{Tell}
 use Rattle.zio_disks.proofs.DiskLemmas.{handles_wider}
 use Rattle.zio_vqueue.specs.declared.op.Group.{Group}
 use Rattle.zio_vqueue.specs.Queues.{end_of}
-use Rattle.zio_groups.specs.declared.waiting.Waiting.{Waiting}
+use Rattle.zio_groups.specs.declared.waiting.QueuedOp.{QueuedOp}
 use Rattle.zio_groups.specs.declared.waiting.Answered.{Answered}
 use Rattle.zio_groups.specs.Issued.{AreWhole, IsFit, all_issued, head_of, written_spots}
 use Rattle.zio_groups.specs.LeafQueues.{AreMembers}
@@ -19,7 +19,7 @@ use Rattle.zio_groups.proofs.group.issue_group.Goals as goal
 pub lone-requires-clause-span : goal.lone-requires-clause-span
 lone-requires-clause-span g c =
     let ends : c.args.group.now.at + c.args.group.now.len ≤ 2 ^ 48 =
-    group_ends (2 ^ 48) c.args.group.now c.requires.members.0 c.args.members.now c.requires.members.1 (all_weaker IsFit (λ (w : Waiting). end_of w.op ≤ 2 ^ 48) c.args.members.now (λ w fit. fit.device) c.requires.fit) in
+    group_ends (2 ^ 48) c.args.group.now c.requires.members.0 c.args.members.now c.requires.members.1 (all_weaker IsFit (λ (w : QueuedOp). end_of w.op ≤ 2 ^ 48) c.args.members.now (λ w fit. fit.device) c.requires.fit) in
     omega arith
 
 pub write_span-requires-clause-members : goal.write_span-requires-clause-members
@@ -43,7 +43,7 @@ returns-then-is_write-clause-told g c =
     let s : Setting = c.args.setting.now in
     let leaf : ℕ = c.args.leaf in
     let group : Group = c.args.group.now in
-    let ws : List Waiting = c.args.members.now in
+    let ws : List QueuedOp = c.args.members.now in
     let is : c.requires.members.0 ≡ true = sym (group_writes group c.requires.members.0 ws c.requires.members.1) ∙ sym c.is_write.ensures ∙ c.if-is_write.true in
     let members : AreMembers group true ws = subst (λ (b : Bool). AreMembers group b ws) is c.requires.members.1 in
     let none : met s false true (span_spot leaf group) ≡ None =
@@ -66,7 +66,7 @@ returns-then-is_write-clause-heads g c =
     let s : Setting = c.args.setting.now in
     let leaf : ℕ = c.args.leaf in
     let group : Group = c.args.group.now in
-    let ws : List Waiting = c.args.members.now in
+    let ws : List QueuedOp = c.args.members.now in
     let is : c.requires.members.0 ≡ true = sym (group_writes group c.requires.members.0 ws c.requires.members.1) ∙ sym c.is_write.ensures ∙ c.if-is_write.true in
     let members : AreMembers group true ws = subst (λ (b : Bool). AreMembers group b ws) is c.requires.members.1 in
     let none : met s false true (span_spot leaf group) ≡ None =
@@ -79,14 +79,14 @@ returns-then-is_write-clause-heads g c =
 
 pub returns-then-is_write-clause-whole : goal.returns-then-is_write-clause-whole
 returns-then-is_write-clause-whole g c =
-    let ws : List Waiting = c.args.members.now in
+    let ws : List QueuedOp = c.args.members.now in
     let is : c.requires.members.0 ≡ true = sym (group_writes c.args.group.now c.requires.members.0 ws c.requires.members.1) ∙ sym c.is_write.ensures ∙ c.if-is_write.true in
     let members : AreMembers c.args.group.now true ws = subst (λ (b : Bool). AreMembers c.args.group.now b ws) is c.requires.members.1 in
     IfOk-weaker c.write_span.result (λ (answers : List Answered). answers ≡ map stored_answered ws) (AreWhole ws) (λ answers stored. subst (AreWhole ws) (sym stored) (stored_whole ws members.alike)) c.write_span.ensures.answers
 
 pub returns-then-is_write-clause-handled : goal.returns-then-is_write-clause-handled
 returns-then-is_write-clause-handled g c =
-    let ws : List Waiting = c.args.members.now in
+    let ws : List QueuedOp = c.args.members.now in
     let is : c.requires.members.0 ≡ true = sym (group_writes c.args.group.now c.requires.members.0 ws c.requires.members.1) ∙ sym c.is_write.ensures ∙ c.if-is_write.true in
     let members : AreMembers c.args.group.now true ws = subst (λ (b : Bool). AreMembers c.args.group.now b ws) is c.requires.members.1 in
     handles_span c.args.leaf c.args.group.now ws members.alike members.run members.span c.write_span.ensures.handled
@@ -96,7 +96,7 @@ returns-clause-told g c =
     let s : Setting = c.args.setting.now in
     let leaf : ℕ = c.args.leaf in
     let group : Group = c.args.group.now in
-    let ws : List Waiting = c.args.members.now in
+    let ws : List QueuedOp = c.args.members.now in
     let is : c.requires.members.0 ≡ false = sym (group_writes group c.requires.members.0 ws c.requires.members.1) ∙ sym c.is_write.ensures ∙ c.if-is_write.false in
     let members : AreMembers group false ws = subst (λ (b : Bool). AreMembers group b ws) is c.requires.members.1 in
     let none : met s false false (span_spot leaf group) ≡ None =
@@ -110,7 +110,7 @@ returns-clause-heads g c =
     let s : Setting = c.args.setting.now in
     let leaf : ℕ = c.args.leaf in
     let group : Group = c.args.group.now in
-    let ws : List Waiting = c.args.members.now in
+    let ws : List QueuedOp = c.args.members.now in
     let is : c.requires.members.0 ≡ false = sym (group_writes group c.requires.members.0 ws c.requires.members.1) ∙ sym c.is_write.ensures ∙ c.if-is_write.false in
     let members : AreMembers group false ws = subst (λ (b : Bool). AreMembers group b ws) is c.requires.members.1 in
     let none : met s false false (span_spot leaf group) ≡ None =
@@ -121,7 +121,7 @@ returns-clause-heads g c =
 
 pub returns-clause-whole : goal.returns-clause-whole
 returns-clause-whole g c =
-    let ws : List Waiting = c.args.members.now in
+    let ws : List QueuedOp = c.args.members.now in
     IfOk-weaker c.read_span.result (AreParts g.D.Disk.image c.args.leaf c.args.group.now ws c.args.disks.now c.read_span.new.disks) (AreWhole ws)
     (λ answers parts. subst (AreWhole ws) (sym parts.parts) (parts_whole c.args.group.now parts.bytes ws (group_within c.args.group.now c.requires.members.0 ws c.requires.members.1) parts.long))
     c.read_span.ensures.parts

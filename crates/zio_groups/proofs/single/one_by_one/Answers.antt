@@ -5,7 +5,7 @@ use Rattle.zio_disks.specs.Disks.{Tell}
 use Rattle.zio_disks.specs.declared.setting.Stop.{Stop}
 use Rattle.zio_disks.specs.declared.setting.Stop.TheVariants.{Device}
 use Rattle.zio_disks.proofs.DiskLemmas.{handles_after, handles_err, handles_none, handles_ok, handles_then, handles_wider}
-use Rattle.zio_groups.specs.declared.waiting.Waiting.{Waiting}
+use Rattle.zio_groups.specs.declared.waiting.QueuedOp.{QueuedOp}
 use Rattle.zio_groups.specs.Issued.{AreWhole, EndsOn, all_issued, head_of, written_spots}
 use Rattle.zio_groups.proofs.CoverLemmas.{memory_on}
 use Rattle.zio_groups.proofs.IssueLemmas.{all_at, contains_at, heads_more, left_more, spots_among, taken_more, told_more, whole_more}
@@ -29,14 +29,14 @@ issue_one-requires-clause-lies g c =
 
 pub returns-in_err-answer-clause-handled : goal.returns-in_err-answer-clause-handled
 returns-in_err-answer-clause-handled g c =
-    let ws : List Waiting = c.args.members.now in
+    let ws : List QueuedOp = c.args.members.now in
     let among : AllByRecursion (Contains (written_spots c.args.leaf ws)) (written_spots c.args.leaf (c.member-item.result ∷ [])) =
     spots_among c.args.leaf ws (c.member-item.result ∷ []) (contains_at ws c.loop-member.member-index c.member-item.result c.loop-member-test.true c.member-item.is, tt) in
     handles_then {spots = written_spots c.args.leaf ws} c.loop-member.invariant.3 (handles_err c.from_residual.result c.from_residual.ensures.1 (handles_wider (written_spots c.args.leaf ws) among c.in_err-answer.ensures.handled))
 
 pub returns-in_err-add-clause-handled : goal.returns-in_err-add-clause-handled
 returns-in_err-add-clause-handled g c =
-    let ws : List Waiting = c.args.members.now in
+    let ws : List QueuedOp = c.args.members.now in
     let among : AllByRecursion (Contains (written_spots c.args.leaf ws)) (written_spots c.args.leaf (c.member-item.result ∷ [])) =
     spots_among c.args.leaf ws (c.member-item.result ∷ []) (contains_at ws c.loop-member.member-index c.member-item.result c.loop-member-test.true c.member-item.is, tt) in
     handles_after c.from_residual-in_err-add.result (memory_on c.from_residual-in_err-add.result _ c.from_residual-in_err-add.ensures.1 c.in_err-add.ensures.err)
@@ -46,9 +46,9 @@ pub loop-member-preserved : goal.loop-member-preserved
 loop-member-preserved g c =
     let s : Setting = c.args.setting.now in
     let leaf : ℕ = c.args.leaf in
-    let ws : List Waiting = c.args.members.now in
+    let ws : List QueuedOp = c.args.members.now in
     let i : ℕ = c.loop-member.member-index in
-    let w : Waiting = c.member-item.result in
+    let w : QueuedOp = c.member-item.result in
     let more : take (i + 1) ws ≡ take i ws ++ w ∷ [] = taken_more ws i w c.loop-member-test.true c.member-item.is in
     let among : AllByRecursion (Contains (written_spots leaf ws)) (written_spots leaf (w ∷ [])) = spots_among leaf ws (w ∷ []) (contains_at ws i w c.loop-member-test.true c.member-item.is, tt) in (
       λ images told.

@@ -3,7 +3,7 @@ use Rattle.std.specs.List.{AllByRecursion}
 use Rattle.zio_script.specs.Bodies.{body_of}
 use Rattle.zio_script.specs.Whys.{body_len}
 use Rattle.zio_gang.specs.Writes.{content_of}
-use Rattle.zio_content.specs.Pointers.{IsNoneOrValid}
+use Rattle.zio_gang.specs.Pointers.{IsNoneOrValid}
 use Rattle.zio_plain.proofs.ContentLemmas.{pointers_valid, sized}
 use Rattle.zio_plain.proofs.content.content_of.Goals as goal
 

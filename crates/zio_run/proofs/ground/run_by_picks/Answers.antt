@@ -2,7 +2,7 @@ use Rattle.std.proofs.Common.{◌≡◌, inr, length, map, refl, ap, sym, subst,
 use Rattle.std.proofs.lemmas.List.{length-map}
 use Rattle.zio_disks.proofs.DiskLemmas.{same_itself}
 use Rattle.zio_disks.specs.Disks.{AreSameDisks}
-use Rattle.zio_engine.specs.Graphs.{SeenGraph}
+use Rattle.zio_graph.specs.Graphs.{SeenGraph}
 use Rattle.zio_run.specs.Grounds.{CameOutOver, IsSettingOf}
 use Rattle.zio_run.specs.Seen.{sink_by}
 use Rattle.zio_run.specs.Tops.{HaveImages, leaves_of}

@@ -1,5 +1,5 @@
 use Rattle.std.proofs.Common.{◌≡◌, ◌∙◌, ◌+◌, ◌++◌, ◌∷◌, [], ◌≤◌, ◌<◌, ◌^◌, ap, refl, length, arith, rules}
-use Rattle.zio_stages.specs.declared.waiting.Waiting.{Waiting}
+use Rattle.zio_stages.specs.declared.waiting.UnfinishedRequest.{UnfinishedRequest}
 use Rattle.zio_stages.specs.KidTrees.{trees_left}
 use Rattle.zio_stages.specs.Wholes.{counted, joined}
 use Rattle.zio_stages.proofs.AgainLemmas.{again_all, again_count, again_counts, again_next, number_last}
@@ -26,7 +26,7 @@ pub invariant_of-result : goal.invariant_of-result
 invariant_of-result c =
     let r = c.args.root in
     let trees = trees_left c.args.again.items in
-    let w : Waiting =
+    let w : UnfinishedRequest =
     record { request = r.request; birth = r.birth; block = r.block; kept = r.kept; unfinished = c.loop-left.unfinished; below = c.len.result } in
     let all : c.loop-left.all.items ≡ joined trees =
     again_all c.args.again.items c.loop-left.left-iterator c.loop-left.all.items _ c.loop-left.unfinished c.loop-left.invariant
@@ -42,7 +42,7 @@ pub returns-clause-tree : goal.returns-clause-tree
 returns-clause-tree c = λ forest are.
     let r = c.args.root in
     let trees = trees_left c.args.again.items in
-    let w : Waiting =
+    let w : UnfinishedRequest =
     record { request = r.request; birth = r.birth; block = r.block; kept = r.kept; unfinished = c.loop-left.unfinished; below = c.len.result } in
     let all : c.loop-left.all.items ≡ joined trees =
     again_all c.args.again.items c.loop-left.left-iterator c.loop-left.all.items _ c.loop-left.unfinished c.loop-left.invariant
@@ -57,7 +57,7 @@ returns-clause-tree c = λ forest are.
 pub returns-clause-number : goal.returns-clause-number
 returns-clause-number c =
     let r = c.args.root in
-    let w : Waiting =
+    let w : UnfinishedRequest =
     record { request = r.request; birth = r.birth; block = r.block; kept = r.kept; unfinished = c.loop-left.unfinished; below = c.len.result } in
     number_last c.loop-left.all.items c.from_vec-2.result w
     (list_built c.from_vec-2.result c.push_reserved.new.self.items c.loop-left.all.items c.loop-left.all.items w c.from_vec-2.ensures c.push_reserved.ensures.items refl)
@@ -66,7 +66,7 @@ pub returns-clause-list : goal.returns-clause-list
 returns-clause-list c =
     let r = c.args.root in
     let trees = trees_left c.args.again.items in
-    let w : Waiting = counted r c.loop-left.unfinished c.len.result in
+    let w : UnfinishedRequest = counted r c.loop-left.unfinished c.len.result in
     let all : c.loop-left.all.items ≡ joined trees =
     again_all c.args.again.items c.loop-left.left-iterator c.loop-left.all.items _ c.loop-left.unfinished c.loop-left.invariant
     c.in-None.ensures.steps.0 in

@@ -1,5 +1,5 @@
 use Rattle.std.proofs.Common.{◌≡◌}
-use Rattle.zio_stages.specs.declared.waiting.Waiting.{Waiting}
+use Rattle.zio_stages.specs.declared.waiting.UnfinishedRequest.{UnfinishedRequest}
 use Rattle.zio_stages.specs.Wholes.{joined}
 use Rattle.zio_stages.proofs.WholeLemmas.{length_built, list_built, put_all, tree_over, whole_over}
 use Rattle.zio_stages.proofs.whole.grown.Goals as goal
@@ -7,7 +7,7 @@ use Rattle.zio_stages.proofs.whole.grown.Goals as goal
 pub invariant_of-result : goal.invariant_of-result
 invariant_of-result c =
     let r = c.args.root in
-    let w : Waiting =
+    let w : UnfinishedRequest =
     record { request = r.request; birth = r.birth; block = r.block; kept = r.kept; unfinished = c.len.result; below = c.len-2.result } in
     let all : c.loop-tree.all.items ≡ joined c.args.children =
     put_all c.args.children _ c.loop-tree.all.items _ c.loop-tree.invariant (c.in-None.ensures.steps.0) in
@@ -18,7 +18,7 @@ invariant_of-result c =
 pub returns-clause-tree : goal.returns-clause-tree
 returns-clause-tree c = λ forest are.
     let r = c.args.root in
-    let w : Waiting =
+    let w : UnfinishedRequest =
     record { request = r.request; birth = r.birth; block = r.block; kept = r.kept; unfinished = c.len.result; below = c.len-2.result } in
     let all : c.loop-tree.all.items ≡ joined c.args.children =
     put_all c.args.children _ c.loop-tree.all.items _ c.loop-tree.invariant (c.in-None.ensures.steps.0) in

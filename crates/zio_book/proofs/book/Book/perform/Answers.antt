@@ -1,7 +1,7 @@
 use Rattle.std.proofs.Common.{◌≡◌, ◌<◌, ◌^◌, ◌++◌, ◌∷◌, [], length, arith, ap, ◌∙◌, sym, refl, Some, None}
 use mathlib.Core.Option.{none}
 use Rattle.atomic_table.specs.Table.{step}
-use Rattle.zio_book.specs.declared.view.Kept.{Kept}
+use Rattle.zio_book.specs.declared.view.WithHistory.{WithHistory}
 use Rattle.zio_book.proofs.Seats.{taken, back, unchanged_inside, counted, count_seat, acted_inside}
 use Rattle.zio_book.proofs.book.Book.perform.Goals as goal
 
@@ -21,7 +21,7 @@ fetch_add-number-requires g c =
     let k = c.take_out-kept.result in
     let note = c.act-reply.result.1 in
     let t = taken g.H.Held.gives g.H.Held.fits c.args.self.now c.args.seat.now c.enter.new.seat k c.enter.ensures.inside c.take_out-kept.ensures.kept in
-    let kept : Kept g.row.H.Denot g.row.H-Note.Denot = record { held = c.act-reply.new.self; notes = c.push_reserved.new.self } in
+    let kept : WithHistory g.row.H.Denot g.row.H-Note.Denot = record { held = c.act-reply.new.self; notes = c.push_reserved.new.self } in
     let e = back g.H.Held.gives g.H.Held.fits c.args.self.now c.args.seat.now.me.0 c.enter.new.seat.me c.take_out-kept.new.seat.me c.put_back-2.new.seat.me t.0 k.notes.items None (Some kept) ((0, Some k) ∷ []) t.1 c.take_out-kept.ensures.me c.put_back-2.ensures.me in
     let notes : kept.notes.items ≡ k.notes.items ++ note ∷ [] = c.push_reserved.ensures.items ∙ ap (λ l. l ++ note ∷ []) c.reserve.ensures.items in
     let small : length kept.notes.items < 2 ^ 64 = omega arith in (
@@ -35,7 +35,7 @@ leave-requires-2-clause-inside g c =
     let k = c.take_out-kept.result in
     let note = c.act-reply.result.1 in
     let t = taken g.H.Held.gives g.H.Held.fits c.args.self.now c.args.seat.now c.enter.new.seat k c.enter.ensures.inside c.take_out-kept.ensures.kept in
-    let kept : Kept g.row.H.Denot g.row.H-Note.Denot = record { held = c.act-reply.new.self; notes = c.push_reserved.new.self } in
+    let kept : WithHistory g.row.H.Denot g.row.H-Note.Denot = record { held = c.act-reply.new.self; notes = c.push_reserved.new.self } in
     let e = back g.H.Held.gives g.H.Held.fits c.args.self.now c.args.seat.now.me.0 c.enter.new.seat.me c.take_out-kept.new.seat.me c.put_back-2.new.seat.me t.0 k.notes.items None (Some kept) ((0, Some k) ∷ []) t.1 c.take_out-kept.ensures.me c.put_back-2.ensures.me in
     let notes : kept.notes.items ≡ k.notes.items ++ note ∷ [] = c.push_reserved.ensures.items ∙ ap (λ l. l ++ note ∷ []) c.reserve.ensures.items in
     let n = counted g.H.Held.gives g.H.Held.fits c.args.self.now c.args.seat.now.me.0 c.put_back-2.new.seat.me c.fetch_add-number.new.seat.me t.0 c.fetch_add-number.result k.notes.items kept note (step 0 2 1 0 none) e notes c.fetch_add-number.ensures.2 in

@@ -1,6 +1,6 @@
 use Rattle.std.proofs.Common.{◌≡◌, ℕ, ◌+◌, List, ◌∷◌, ◌++◌, ◌||◌, Bool, drop, map, Bor, sym, ap, ◌∙◌, append_assoc, arith}
 use Rattle.zio_script.specs.declared.script.Request.{Request}
-use Rattle.zio_report.specs.declared.report.Line.{Line}
+use Rattle.zio_report.specs.declared.report.ReportLine.{ReportLine}
 use Rattle.zio_course.specs.declared.fold.Tally.{Tally}
 use Rattle.zio_course.specs.Names.{is_name_in}
 use Rattle.zio_course.specs.Folds.{counted_in, is_named_by, waiting_by, waiting_of}
@@ -11,10 +11,10 @@ use Rattle.zio_course.proofs.fold.Fold.note_all.Goals as goal
 pub loop-i-preserved : goal.loop-i-preserved
 loop-i-preserved g c =
     let rs : List Request = map (λ (q : Bor Request). q.now) c.args.requests.now in
-    let ls : List Line = c.args.lines.now in
+    let ls : List ReportLine = c.args.lines.now in
     let i : ℕ = c.loop-i.i in
     let r : Request = c.index-requests-i.result.now in
-    let l : Line = c.index-lines-i.result in
+    let l : ReportLine = c.index-lines-i.result in
     let old = c.loop-i.invariant in
     let noted = c.in_ok-note.ensures in
     let first : drop i rs ≡ r ∷ drop (i + 1) rs = drop_first (λ (q : Bor Request). q.now) c.args.requests.now i c.index-requests-i.result (omega arith) c.index-requests-i.is in
@@ -32,7 +32,7 @@ loop-i-preserved g c =
           ∙ (ap (λ (b : Bool). is_name_in c.loop-i.self.awaited name || b) (sym (named_both now rest name) ∙ ap (λ (xs : List Request). is_named_by xs name) (sym waits))
           ∙ old.awaited name));
       tally = ap (λ (t : Tally). counted_in (drop (i + 1) ls) t) noted.tally
-          ∙ (ap (λ (xs : List Line). counted_in xs c.loop-i.self.tally) (sym this) ∙ old.tally);
+          ∙ (ap (λ (xs : List ReportLine). counted_in xs c.loop-i.self.tally) (sym this) ∙ old.tally);
       few = let a = noted.few in let b = old.few in omega arith;
       sums = noted.sums;
       bound = noted.bound ∙ old.bound;

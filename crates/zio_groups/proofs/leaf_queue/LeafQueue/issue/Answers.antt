@@ -7,7 +7,7 @@ use Rattle.zio_disks.proofs.DiskLemmas.{handles_err, handles_none, handles_wider
 use Rattle.zio_vqueue.specs.declared.op.Group.{Group}
 use Rattle.zio_vqueue.specs.Groups.{IsNextGroup}
 use Rattle.zio_vqueue.specs.Queues.{AreApart, Queue, eligible, is_queued}
-use Rattle.zio_groups.specs.declared.waiting.Waiting.{Waiting}
+use Rattle.zio_groups.specs.declared.waiting.QueuedOp.{QueuedOp}
 use Rattle.zio_groups.specs.Issued.{AreWhole, EndsOn, IsFit, all_issued, head_of, written_spots}
 use Rattle.zio_groups.specs.LeafQueues.{AreMembers, IsInOrder, Waits, after_issue, kept_with, queue_of, waits_of}
 use Rattle.zio_groups.proofs.CoverLemmas.{memory_on}
@@ -51,7 +51,7 @@ issue_group-requires-clause-fit g c =
     let f : Kept = get nat_eq c.self.inside.kept in
     let q : Queue = c.self.inside.queue in
     let group : Group = c.in_ok-group.group in
-    let ms : List Waiting = map (kept_with f) group.ops in
+    let ms : List QueuedOp = map (kept_with f) group.ops in
     let are : c.as_slice-2.result.now ≡ ms = c.as_slice-2.ensures ∙ c.in_ok-members.ensures.ok ∙ ap (map (kept_with f)) c.as_slice.ensures in
     let among : AllByRecursion (Contains c.args.self.now.waiting) ms = subst (λ (w : Waits). AllByRecursion (Contains w.waiting) ms) c.self.view_is (next_among f q group c.in_ok-group.ensures.group) in
     subst (AllByRecursion IsFit) (sym are) (all_among IsFit (map (kept_with f) q.queued) ms (next_among f q group c.in_ok-group.ensures.group) c.self.invariant.fit)
@@ -61,17 +61,17 @@ issue_group-requires-clause-members g c =
     let f : Kept = get nat_eq c.self.inside.kept in
     let q : Queue = c.self.inside.queue in
     let group : Group = c.in_ok-group.group in
-    let ms : List Waiting = map (kept_with f) group.ops in
+    let ms : List QueuedOp = map (kept_with f) group.ops in
     let are : c.as_slice-2.result.now ≡ ms = c.as_slice-2.ensures ∙ c.in_ok-members.ensures.ok ∙ ap (map (kept_with f)) c.as_slice.ensures in
     let among : AllByRecursion (Contains c.args.self.now.waiting) ms = subst (λ (w : Waits). AllByRecursion (Contains w.waiting) ms) c.self.view_is (next_among f q group c.in_ok-group.ensures.group) in
-    subst (λ (ws : List Waiting). (write : Bool) × AreMembers group write ws) (sym are) (next_members f q group c.in_ok-group.ensures.group)
+    subst (λ (ws : List QueuedOp). (write : Bool) × AreMembers group write ws) (sym are) (next_members f q group c.in_ok-group.ensures.group)
 
 pub issue_group-requires-clause-lies : goal.issue_group-requires-clause-lies
 issue_group-requires-clause-lies g c =
     let f : Kept = get nat_eq c.self.inside.kept in
     let q : Queue = c.self.inside.queue in
     let group : Group = c.in_ok-group.group in
-    let ms : List Waiting = map (kept_with f) group.ops in
+    let ms : List QueuedOp = map (kept_with f) group.ops in
     let are : c.as_slice-2.result.now ≡ ms = c.as_slice-2.ensures ∙ c.in_ok-members.ensures.ok ∙ ap (map (kept_with f)) c.as_slice.ensures in
     let among : AllByRecursion (Contains c.args.self.now.waiting) ms = subst (λ (w : Waits). AllByRecursion (Contains w.waiting) ms) c.self.view_is (next_among f q group c.in_ok-group.ensures.group) in
     subst (AllByRecursion (EndsOn (map g.D.Disk.bytes c.args.disks.now) c.args.leaf)) (sym are)
@@ -89,12 +89,12 @@ returns-in_err-answers-clause-handled g c =
     let f : Kept = get nat_eq c.self.inside.kept in
     let q : Queue = c.self.inside.queue in
     let group : Group = c.in_ok-group.group in
-    let ms : List Waiting = map (kept_with f) group.ops in
+    let ms : List QueuedOp = map (kept_with f) group.ops in
     let are : c.as_slice-2.result.now ≡ ms = c.as_slice-2.ensures ∙ c.in_ok-members.ensures.ok ∙ ap (map (kept_with f)) c.as_slice.ensures in
     let among : AllByRecursion (Contains c.args.self.now.waiting) ms = subst (λ (w : Waits). AllByRecursion (Contains w.waiting) ms) c.self.view_is (next_among f q group c.in_ok-group.ensures.group) in
     handles_err c.from_residual-in_err-answers.result c.from_residual-in_err-answers.ensures.1
     (handles_wider (written_spots c.args.leaf c.args.self.now.waiting)
-    (subst (λ (ws : List Waiting). AllByRecursion (Contains (written_spots c.args.leaf c.args.self.now.waiting)) (written_spots c.args.leaf ws)) (sym are) (spots_among c.args.leaf c.args.self.now.waiting ms among))
+    (subst (λ (ws : List QueuedOp). AllByRecursion (Contains (written_spots c.args.leaf c.args.self.now.waiting)) (written_spots c.args.leaf ws)) (sym are) (spots_among c.args.leaf c.args.self.now.waiting ms among))
     c.in_err-answers.ensures.handled)
 
 pub invariant_of-self-2 : goal.invariant_of-self-2
@@ -111,7 +111,7 @@ returns-clause-issued g c =
     let f : Kept = get nat_eq c.self.inside.kept in
     let q : Queue = c.self.inside.queue in
     let group : Group = c.in_ok-group.group in
-    let ms : List Waiting = map (kept_with f) group.ops in
+    let ms : List QueuedOp = map (kept_with f) group.ops in
     let are : c.as_slice-2.result.now ≡ ms = c.as_slice-2.ensures ∙ c.in_ok-members.ensures.ok ∙ ap (map (kept_with f)) c.as_slice.ensures in
     let among : AllByRecursion (Contains c.args.self.now.waiting) ms = subst (λ (w : Waits). AllByRecursion (Contains w.waiting) ms) c.self.view_is (next_among f q group c.in_ok-group.ensures.group) in
     let h : Kept = get nat_eq c.take_kept.new.kept in
@@ -125,14 +125,14 @@ returns-clause-issued g c =
           ∙ waits_done f h q group (λ t e. c.take_kept.ensures.others t (ap (is_queued t) c.as_slice.ensures ∙ e)) c.self.invariant.room
           ∙ ap (λ (w : Waits). after_issue w group) c.self.view_is;
       told = subst
-          (λ (ws : List Waiting). (images : Images) → Tell g.D.Disk.image c.args.disks.now images →
+          (λ (ws : List QueuedOp). (images : Images) → Tell g.D.Disk.image c.args.disks.now images →
           (c.in_ok-answers.answers ≡ (all_issued c.args.setting.now c.args.leaf ws images).answers)
           × Tell g.D.Disk.image c.issue_group.new.disks (all_issued c.args.setting.now c.args.leaf ws images).images)
           are c.in_ok-answers.ensures.told;
       heads = subst
-          (λ (ws : List Waiting). (images : Images) → map head_of c.in_ok-answers.answers ≡ map head_of ((all_issued c.args.setting.now c.args.leaf ws images).answers))
+          (λ (ws : List QueuedOp). (images : Images) → map head_of c.in_ok-answers.answers ≡ map head_of ((all_issued c.args.setting.now c.args.leaf ws images).answers))
           are c.in_ok-answers.ensures.heads;
-      whole = subst (λ (ws : List Waiting). AreWhole ws c.in_ok-answers.answers) are c.in_ok-answers.ensures.whole;
+      whole = subst (λ (ws : List QueuedOp). AreWhole ws c.in_ok-answers.answers) are c.in_ok-answers.ensures.whole;
     }
 
 pub returns-clause-handled : goal.returns-clause-handled
@@ -140,9 +140,9 @@ returns-clause-handled g c =
     let f : Kept = get nat_eq c.self.inside.kept in
     let q : Queue = c.self.inside.queue in
     let group : Group = c.in_ok-group.group in
-    let ms : List Waiting = map (kept_with f) group.ops in
+    let ms : List QueuedOp = map (kept_with f) group.ops in
     let are : c.as_slice-2.result.now ≡ ms = c.as_slice-2.ensures ∙ c.in_ok-members.ensures.ok ∙ ap (map (kept_with f)) c.as_slice.ensures in
     let among : AllByRecursion (Contains c.args.self.now.waiting) ms = subst (λ (w : Waits). AllByRecursion (Contains w.waiting) ms) c.self.view_is (next_among f q group c.in_ok-group.ensures.group) in
     handles_wider (written_spots c.args.leaf c.args.self.now.waiting)
-    (subst (λ (ws : List Waiting). AllByRecursion (Contains (written_spots c.args.leaf c.args.self.now.waiting)) (written_spots c.args.leaf ws)) (sym are) (spots_among c.args.leaf c.args.self.now.waiting ms among))
+    (subst (λ (ws : List QueuedOp). AllByRecursion (Contains (written_spots c.args.leaf c.args.self.now.waiting)) (written_spots c.args.leaf ws)) (sym are) (spots_among c.args.leaf c.args.self.now.waiting ms among))
     c.in_ok-answers.ensures.handled

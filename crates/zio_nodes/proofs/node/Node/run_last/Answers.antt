@@ -1,6 +1,6 @@
 use Rattle.std.proofs.Common.{subst}
 use Rattle.std.specs.Prelude.{IfErr, IfOk}
-use Rattle.zio_graph.specs.Stages.{EachIn, Lessens, TellsValid}
+use Rattle.zio_turns.specs.Stages.{EachIn, Lessens, TellsValid}
 use Rattle.zio_nodes.specs.Nodes.{IsNodeOver, IsTreeOver, MovesWith, StaysWith, left_of}
 use Rattle.zio_nodes.specs.StageMoves.{IsStageMove}
 use Rattle.zio_nodes.specs.declared.node.Node.{Node}

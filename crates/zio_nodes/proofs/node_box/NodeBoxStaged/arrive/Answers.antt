@@ -1,5 +1,5 @@
 use Rattle.std.proofs.Common.{subst, sym}
-use Rattle.zio_graph.specs.Stages.{Hears, HearsSome}
+use Rattle.zio_turns.specs.Stages.{Hears, HearsSome}
 use Rattle.zio_nodes.specs.Nodes.{nodes}
 use Rattle.zio_nodes.specs.declared.node.Node.{Node}
 use Rattle.zio_nodes.proofs.Boxes.{hears_unboxed, some_unboxed}

@@ -1,7 +1,7 @@
 use Rattle.std.proofs.Common.{◌≡◌, subst}
-use Rattle.zio_graph.specs.Stages.{IsMove}
-use Rattle.zio_graph.specs.declared.staged.Move.{Move}
-use Rattle.zio_graph.specs.declared.staged.Move.TheVariants.{End, Grow}
+use Rattle.zio_turns.specs.Stages.{IsMove}
+use Rattle.zio_turns.specs.declared.staged.Move.{Move}
+use Rattle.zio_turns.specs.declared.staged.Move.TheVariants.{End, Grow}
 use Rattle.std.specs.Box.{with_value}
 use Rattle.zio_nodes.specs.StageMoves.{IsStageMove}
 use Rattle.zio_nodes.specs.Stalls.{LeavesNone}

@@ -1,11 +1,9 @@
 use Rattle.std.proofs.Common.{◌≡◌, Some, refl, sym, ap, subst, ◌∙◌}
-use Rattle.std.specs.Prelude.{IfSome}
-use Rattle.zio_graph.specs.Stages.{OutcomeIn}
+use Rattle.zio_turns.specs.Stages.{OutcomeIn}
 use Rattle.zio_stages.specs.Labels.{closed_label}
 use Rattle.zio_stages.specs.RequestReads.{found_of}
-use Rattle.zio_stages.specs.RequestStoreds.{is_well, keeps_block, own_in}
+use Rattle.zio_stages.specs.RequestStoreds.{is_well}
 use Rattle.zio_stages.specs.declared.outcome.Outcome.{Outcome}
-use Rattle.zio_stages.specs.declared.request_node.Own.{Own}
 use Rattle.zio_stages.specs.declared.request_node.OwnFound.{OwnFound}
 use Rattle.zio_nodes.specs.TreeAts.{IsTreeOver}
 use Rattle.zio_nodes.proofs.FoundEnds.{ends_found}
@@ -17,15 +15,16 @@ pub returns-in-Ok-clause-moves : goal.returns-in-Ok-clause-moves
 returns-in-Ok-clause-moves c = λ tops.
     let at = c.args.self in
     let found = c.requires.found in
-    let closed = c.in-Ok.closed in
-    ends_found tops c.requires.over.0 at found.0 closed c.into_outcome.result (closed_label c.attempt-attempt.result closed, c.into_outcome.ensures) c.requires.other c.requires.stage c.requires.over.1 found.1
-    (let same : Some (own_in closed) ≡ Some found.0 = c.in-Ok.ensures.own ∙ ap found_of found.1 in cc)
-    (subst (λ (o : Own). IfSome (found_of o) (λ (own : OwnFound). keeps_block closed ≡ is_well at.node own.error)) found.1 c.in-Ok.ensures.decides)
-    c.in-Ok.ensures.closes
+    let end = c.in-Ok.ensures.ends in
+    let by = end.2 in
+    let same : end.0 ≡ found.0 = (let some : Some end.0 ≡ Some found.0 = sym end.1 ∙ ap found_of found.1 in cc) in
+    ends_found tops c.requires.over.0 at found.0 by.closed c.in-Ok.outcome (closed_label at.node.attempt by.closed, by.is) c.requires.other c.requires.stage c.requires.over.1 found.1
+    (by.own_is ∙ same) (by.decides ∙ ap (λ (own : OwnFound). is_well at.node own.error) same) by.closes
 
 pub returns-in-Ok-clause-over : goal.returns-in-Ok-clause-over
 returns-in-Ok-clause-over c = λ tops h.
-    subst (λ (o : Outcome). OutcomeIn (IsTreeOver tops) o) (sym c.into_outcome.ensures) (left_over tops c.args.self.node c.in-Ok.closed (closed_label c.attempt-attempt.result c.in-Ok.closed) h.over c.in-Ok.ensures.list)
+    let by = c.in-Ok.ensures.ends.2 in
+    subst (λ (o : Outcome). OutcomeIn (IsTreeOver tops) o) (sym by.is) (left_over tops c.args.self.node by.closed (closed_label c.args.self.node.attempt by.closed) h.over by.list)
 
 pub returns-in-Ok-clause-left : goal.returns-in-Ok-clause-left
 returns-in-Ok-clause-left c = λ pays. pays

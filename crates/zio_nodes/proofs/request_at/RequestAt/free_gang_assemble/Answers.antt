@@ -3,7 +3,7 @@ use Rattle.std.specs.Prelude.{IfSome}
 use Rattle.zio_masks.specs.declared.stage.Stage.{Stage}
 use Rattle.zio_masks.specs.declared.stage.Stage.TheVariants.{GangAssemble, GangIssue}
 use Rattle.zio_types.specs.declared.request.ChildKind.TheVariants.{Gang}
-use Rattle.zio_graph.specs.Stages.{told_cost}
+use Rattle.zio_turns.specs.Stages.{told_cost}
 use Rattle.zio_frames.specs.Frames.{fresh_stack}
 use Rattle.zio_stages.specs.HeadsNodes.{IsHeadsNode}
 use Rattle.zio_stages.specs.RequestFrees.{IsFreeingWith}
@@ -13,7 +13,7 @@ use Rattle.zio_stages.specs.RequestReads.{HandsWalk, IsWalkOver, IsWholeWalk}
 use Rattle.zio_stages.specs.declared.heads_node.HeadsNode.{HeadsNode}
 use Rattle.zio_stages.proofs.BehindLemmas.{does_nothing}
 use Rattle.zio_stages.specs.declared.own_free.FreeWalk.TheVariants.{Due, Out}
-use Rattle.zio_stages.specs.declared.waiting.Waiting.{Waiting}
+use Rattle.zio_stages.specs.declared.waiting.UnfinishedRequest.{UnfinishedRequest}
 use Rattle.zio_nodes.specs.Bounds.{walk_max}
 use Rattle.zio_nodes.specs.OwnAts.{IsFreeAtStage}
 use Rattle.zio_nodes.specs.OwnBounds.{free_stages}
@@ -75,7 +75,7 @@ returns-in-Ok-Some-clause-over c = λ tops h.
     let behind = not_start at.stage GangAssemble c.requires.stage (λ e. cc) in
     let new = c.gang_assemble_free.new.self in
     let now = free_stands tops at GangAssemble work h c.requires.stage (λ e. cc) in
-    let block = ap (λ (x : Waiting). is_gang_tree x.block) c.gang_assemble_free.ensures.waiting in (
+    let block = ap (λ (x : UnfinishedRequest). is_gang_tree x.block) c.gang_assemble_free.ensures.waiting in (
       free_over tops at new at.stage at.is_due work h behind c.gang_assemble_free.ensures.rest (c.gang_assemble_free.ensures.over tops h.over.own)
           (subst (λ (s : Stage). IsFreeAtStage s at.is_due new.own new.waiting.block) (sym c.requires.stage)
           (kept_all _ new.own c.gang_assemble_free.ensures.frees (c.gang_assemble_free.ensures.given ∙ none_given r.own now.0), block ∙ now.1)),
@@ -122,7 +122,7 @@ returns-in-Ok-None-clause-over c = λ tops h.
     (sym (free_assembled c.with_gang.result c.next-self.result c.with_gang.ensures.stages c.next-self.ensures)) (
       none_yet new.waiting.block new.own (kept_all _ new.own c.gang_assemble_free.ensures.frees (c.gang_assemble_free.ensures.given ∙ none_given r.own now.0)),
       c.gang_assemble_free.ensures.begun none now.1,
-      ap (λ (x : Waiting). is_gang_tree x.block) c.gang_assemble_free.ensures.waiting ∙ now.1,
+      ap (λ (x : UnfinishedRequest). is_gang_tree x.block) c.gang_assemble_free.ensures.waiting ∙ now.1,
     ))
 
 pub returns-in-Ok-None-clause-left : goal.returns-in-Ok-None-clause-left

@@ -1,9 +1,10 @@
-use Rattle.std.proofs.Common.{[], ap, refl, subst, sym}
+use Rattle.std.proofs.Common.{[], ap, refl, subst, sym, ◌∙◌}
 use Rattle.zio_masks.specs.declared.stage.Stage.{Stage}
-use Rattle.zio_graph.specs.Stages.{Ends, OutcomeIn}
+use Rattle.zio_turns.specs.Stages.{Ends, OutcomeIn}
 use Rattle.zio_stages.specs.Labels.{closed_label}
 use Rattle.zio_stages.specs.RequestNodes.{IsRequestNode}
 use Rattle.zio_stages.specs.declared.outcome.Outcome.{Outcome}
+use Rattle.zio_stages.specs.declared.request_node.OwnFound.{OwnFound}
 use Rattle.zio_stages.specs.declared.request_node.RequestNode.{RequestNode}
 use Rattle.zio_nodes.specs.Nodes.{gave_of, nodes}
 use Rattle.zio_nodes.specs.RequestAts.{AreOutBehind}
@@ -26,17 +27,18 @@ pub returns-in-Ok-clause-moves : goal.returns-in-Ok-clause-moves
 returns-in-Ok-clause-moves c = λ tops t st now.
     let at = c.args.self in
     let due = null_done_due c.requires.over.0 at.stage at.is_due at.node c.requires.kind c.requires.stage c.requires.over.1.stands in
-    let is = c.into_outcome.ensures in
-    let label = closed_label c.attempt-attempt.result c.in-Ok.closed in
-    subst (λ (o : Outcome). Ends {N = Node} nodes gave_of t (Request at) st [] o) (sym is)
-    (request_ends t st at at.node c.in-Ok.closed label [] now.is (c.in-Ok.ensures.closes t st now.is) (ap is_told c.requires.stage) (null_none_ended t at.node st now.is due)
-    (null_places t at.node st label c.in-Ok.closed now.is c.requires.kind due c.in-Ok.ensures.none))
+    let end = c.in-Ok.ensures.ends in
+    let by = end.2 in
+    let label = closed_label at.node.attempt by.closed in
+    subst (λ (o : Outcome). Ends {N = Node} nodes gave_of t (Request at) st [] o) (sym by.is)
+    (request_ends t st at at.node by.closed label [] now.is (by.closes t st now.is) (ap is_told c.requires.stage) (null_none_ended t at.node st now.is due)
+    (null_places t at.node st label by.closed now.is c.requires.kind due (ap (λ (o : OwnFound). o.tree) by.own_is ∙ end.1)))
 
 pub returns-in-Ok-clause-over : goal.returns-in-Ok-clause-over
 returns-in-Ok-clause-over c = λ tops h.
-    let is = c.into_outcome.ensures in
-    let label = closed_label c.attempt-attempt.result c.in-Ok.closed in
-    subst (λ (o : Outcome). OutcomeIn (IsTreeOver tops) o) (sym is) (left_over tops c.args.self.node c.in-Ok.closed label h.over c.in-Ok.ensures.list)
+    let by = c.in-Ok.ensures.ends.2 in
+    let label = closed_label c.args.self.node.attempt by.closed in
+    subst (λ (o : Outcome). OutcomeIn (IsTreeOver tops) o) (sym by.is) (left_over tops c.args.self.node by.closed label h.over by.list)
 
 pub returns-in-Err-clause-refused : goal.returns-in-Err-clause-refused
 returns-in-Err-clause-refused c = λ tops t st now.

@@ -6,7 +6,7 @@ use Rattle.zio_trace.specs.Tasks.{Attempt, Task}
 use Rattle.zio_frames.specs.Frames.{fresh_stack}
 use Rattle.zio_stages.specs.RequestKinds.{has_gang_stages}
 use Rattle.zio_stages.specs.RequestNodes.{IsRequestNode}
-use Rattle.zio_stages.specs.declared.waiting.Waiting.{Waiting}
+use Rattle.zio_stages.specs.declared.waiting.UnfinishedRequest.{UnfinishedRequest}
 use Rattle.zio_stages.specs.declared.request_node.RequestNode.{RequestNode}
 use Rattle.zio_stages.specs.declared.request_node.Start.{Start}
 use Rattle.zio_stages.specs.declared.request_node.Start.TheVariants.{AllOut, Child}
@@ -68,7 +68,7 @@ returns-in-Ok-Child-clause-left c =
     omega (
       arith,
       hands_less r.kids.due new.kids.due c.in-Ok-Child.whole own_max holds.due some,
-      ap (λ (ws : List Waiting). length ws * request_share - 1) c.new-child.ensures.whole,
+      ap (λ (ws : List UnfinishedRequest). length ws * request_share - 1) c.new-child.ensures.whole,
       ap (λ (s : Stage). own_at s r.waiting.request.work c.args.self.now) c.requires.stage,
       ap (λ (s : Stage). own_at s new.waiting.request.work after) c.requires.stage,
     )

@@ -1,11 +1,13 @@
-use Rattle.std.proofs.Common.{ap, refl, subst, sym, ◌∙◌}
+use Rattle.std.proofs.Common.{◌≡◌, Some, ap, refl, subst, sym, ◌∙◌}
 use Rattle.zio_masks.specs.declared.stage.Stage.TheVariants.{Done}
 use Rattle.zio_stages.specs.Labels.{closed_label}
 use Rattle.zio_stages.specs.RequestNodes.{IsRequestNode}
+use Rattle.zio_stages.specs.RequestStoreds.{found_by, is_well}
 use Rattle.zio_stages.specs.SpaceCalls.{calls_back}
 use Rattle.zio_stages.specs.declared.outcome.Outcome.{Outcome}
+use Rattle.zio_stages.specs.declared.request_node.OwnFound.{OwnFound}
 use Rattle.zio_stages.specs.declared.request_node.RequestNode.{RequestNode}
-use Rattle.zio_graph.specs.Stages.{Ends, OutcomeIn}
+use Rattle.zio_turns.specs.Stages.{Ends, OutcomeIn}
 use Rattle.zio_nodes.specs.Nodes.{gave_of, nodes}
 use Rattle.zio_nodes.specs.Told.{is_told}
 use Rattle.zio_nodes.specs.TreeAts.{IsTreeOver}
@@ -14,7 +16,7 @@ use Rattle.zio_nodes.specs.declared.node.Node.TheVariants.{Request}
 use Rattle.zio_nodes.proofs.KidMarks.{over_own}
 use Rattle.zio_nodes.proofs.LeftLemmas.{left_over}
 use Rattle.zio_nodes.proofs.RequestMoves.{request_ends, request_gives}
-use Rattle.zio_nodes.proofs.StoredLemmas.{HasGivenMore, closes_places, giving_back, more_gave, stored_ended}
+use Rattle.zio_nodes.proofs.StoredLemmas.{HasGivenMore, closes_places, found_error, giving_back, more_gave, stored_ended}
 use Rattle.zio_nodes.proofs.WriteLemmas.{same_gave, stands_in}
 use Rattle.zio_masks.specs.declared.stage.Stage.{Stage}
 use Rattle.zio_nodes.specs.StageMoves.{CallsFit}
@@ -54,20 +56,21 @@ returns-in-Ok-close_write-clause-moves g c =
     let gives = c.give_block_back.ensures.gives in
     let more : HasGivenMore at.node mid gives.gone =
     record { rest = c.give_block_back.ensures.rest; was = k.stored; is = c.give_block_back.ensures.stored; found = c.give_block_back.ensures.own; are = gives.are } in
-    let closed = c.in-Ok-close_write.closed in
-    let is = c.into_outcome.ensures in
-    let label = closed_label c.attempt-attempt.result c.in-Ok-close_write.closed in
+    let end = c.in-Ok-close_write.ensures.ends in
+    let by = end.2 in
+    let label = closed_label mid.attempt by.closed in
+    let found : found_by mid.own ≡ Some end.0 = end.1 in
     record {
       calls = calls_back gives.gone;
       were_made = gives.calls;
       fits = subst (λ (s : Stage). CallsFit s (Request at) (calls_back gives.gone)) (sym c.requires.stage) (all_returns gives.gone);
       moves = λ t st now.
           let h = c.give_block_back.ensures.same t st now.is in
-          subst (λ (o : Outcome). Ends {N = Node} nodes gave_of t (Request at) st (calls_back gives.gone) o) (sym is)
-          (request_ends t st at mid closed label gives.gone h (c.in-Ok-close_write.ensures.closes t st h) (ap is_told c.requires.stage)
+          subst (λ (o : Outcome). Ends {N = Node} nodes gave_of t (Request at) st (calls_back gives.gone) o) (sym by.is)
+          (request_ends t st at mid by.closed label gives.gone h (by.closes t st h) (ap is_told c.requires.stage)
           (stored_ended t mid st h c.give_block_back.ensures.stored)
-          (closes_places t at.node mid st h label closed gives.gone c.requires.kind more k.none c.give_block_back.ensures.kept c.in-Ok.ensures.all
-          c.in-Ok-close_write.ensures.decides c.in-Ok-close_write.ensures.own));
+          (closes_places t at.node mid st h label by.closed gives.gone c.requires.kind more k.none c.give_block_back.ensures.kept c.in-Ok.ensures.all
+          (by.decides ∙ ap (is_well mid) (found_error mid.own end.0 c.give_block_back.ensures.stored found)) (ap (λ (own : OwnFound). Some own) by.own_is ∙ sym found)));
     }
 
 pub returns-in-Ok-close_write-clause-over : goal.returns-in-Ok-close_write-clause-over
@@ -76,11 +79,11 @@ returns-in-Ok-close_write-clause-over g c =
     let mid = c.give_block_back.new.self in
     let tops = g.S.Services.tops c.args.services.now in
     let over = c.requires.over.over in
-    let is = c.into_outcome.ensures in
-    let label = closed_label c.attempt-attempt.result c.in-Ok-close_write.closed in
-    subst (λ (o : Outcome). OutcomeIn (IsTreeOver tops) o) (sym is)
-    (left_over tops mid c.in-Ok-close_write.closed label
-    (over_own tops at.node mid at.node.family c.give_block_back.ensures.rest over (c.give_block_back.ensures.over tops over.own)) c.in-Ok-close_write.ensures.list)
+    let by = c.in-Ok-close_write.ensures.ends.2 in
+    let label = closed_label mid.attempt by.closed in
+    subst (λ (o : Outcome). OutcomeIn (IsTreeOver tops) o) (sym by.is)
+    (left_over tops mid by.closed label
+    (over_own tops at.node mid at.node.family c.give_block_back.ensures.rest over (c.give_block_back.ensures.over tops over.own)) by.list)
 
 pub returns-in-Err-clause-refused : goal.returns-in-Err-clause-refused
 returns-in-Err-clause-refused g c =

@@ -7,10 +7,11 @@ use Rattle.zio_types.specs.Places.{are_apart}
 use Rattle.zio_blkptr.specs.Pointers.{valid}
 use Rattle.zio_gang.specs.Attempts.{Pending}
 use Rattle.zio_gang.specs.declared.tree.Tree.{Tree}
+use Rattle.zio_disks.specs.Whole.{IsWholeTree}
 use Rattle.zio_blocks.specs.Choosers.{AreLeft}
-use Rattle.zio_course.specs.declared.runner.RoundEnd.{RoundEnd}
+use Rattle.zio_course.specs.declared.runner.RequestEnd.{RequestEnd}
 use Rattle.zio_course.specs.declared.runner.Stop.TheVariants.{Device, Memory}
-use Rattle.zio_course.specs.Runners.{AreRunnable, IsRoundEnd, ended_seen}
+use Rattle.zio_course.specs.Runners.{AreRunnable, IsRoundEnd, SeenEnd, made_trees}
 use Rattle.zio_plain.proofs.PlainFreed.{places_in}
 use Rattle.zio_plain.specs.Plains.{SeenPlain, standing_of}
 use Rattle.zio_plain.specs.GroundLaws.{memory_no_device}
@@ -18,6 +19,7 @@ use Rattle.zio_plain.specs.Grounds.{seen}
 use Rattle.zio_plain.proofs.PlainBegun.{HasBegun, SteadyPlain, all_can}
 use Rattle.zio_plain.proofs.PlainDone.{freed_apart, freed_in_use, freed_valid, round_ends}
 use Rattle.zio_plain.proofs.PlainRound.{broke_from, differs_by, has_run, on_err, round_is, runnable, stands_after, steady_after, stopped_after}
+use Rattle.zio_plain.proofs.PlainTold.{seen_end, seen_itself}
 use Rattle.zio_plain.proofs.plain.PlainRunner.round.Goals as goal
 
 pub run_trees-requires-clause-once : goal.run_trees-requires-clause-once
@@ -129,7 +131,7 @@ returns-clause-round g c =
     let r = c.in_ok-finished.ensures.run in
     let e = c.in_ok-finished.field-0 in
     let h = has_run m.bytes m.faults m.faults_at_fetch m.home m.image m.sound k.lawful k.sizes k.used k.live k.given g.met.C.Chooser.lawful_none p c.args.job.round c.args.job.point c.args.job.trees e.left e.finished e.completions e.freed c.args.job.failmode c.begin_round.new.ground c.run_trees.new.works _ _ _ _ steady begins runs r in
-    let end : RoundEnd (List Pending) = record { finished = e.finished; left = e.left; completions = e.completions; entries = c.in_ok-entries.entries } in
+    let end : SeenEnd = record { finished = e.finished; left = e.left; completions = e.completions; entries = c.in_ok-entries.entries } in
     round_is m.bytes m.faults m.faults_at_fetch m.home m.image m.sound k.lawful k.sizes k.used k.live k.given g.met.C.LawfulChooser.are_lawful p c.args.job.round c.args.job.point c.args.job.trees e.left e.finished e.completions e.freed c.args.job.failmode c.begin_round.new.ground c.run_trees.new.works end g.met.D.Disk.one_image begins r h refl refl c.in_ok-entries.ensures.entries
 
 pub returns-clause-end : goal.returns-clause-end
@@ -148,9 +150,14 @@ returns-clause-end g c =
     let r = c.in_ok-finished.ensures.run in
     let e = c.in_ok-finished.field-0 in
     let h = has_run m.bytes m.faults m.faults_at_fetch m.home m.image m.sound k.lawful k.sizes k.used k.live k.given g.met.C.Chooser.lawful_none p c.args.job.round c.args.job.point c.args.job.trees e.left e.finished e.completions e.freed c.args.job.failmode c.begin_round.new.ground c.run_trees.new.works _ _ _ _ steady begins runs r in
-    let end : RoundEnd (List Pending) = record { finished = e.finished; left = e.left; completions = e.completions; entries = c.in_ok-entries.entries } in
-    subst (λ (ts : List (List Pending)). IsRoundEnd (standing_of m.faults k.live p) c.args.job.round ts (ended_seen (λ (tree : List Pending). tree) end)) (sym (map-id c.args.job.trees))
-    (round_ends m.bytes m.faults m.faults_at_fetch m.home m.image m.sound k.lawful k.sizes k.used k.live k.given p c.args.job.round c.args.job.point c.args.job.trees r.each_run e.finished e.freed (seen k.sizes k.used k.live k.given c.run_trees.new.works) h end c.in_ok-finished.ensures.ends refl c.in_ok-entries.ensures.entries)
+    let end : SeenEnd = record { finished = e.finished; left = e.left; completions = e.completions; entries = c.in_ok-entries.entries } in
+    subst (λ (ts : List (List Pending)). IsRoundEnd (standing_of m.faults k.live p) c.args.job.round ts (seen_end end)) (sym (map-id c.args.job.trees))
+    (subst (IsRoundEnd (standing_of m.faults k.live p) c.args.job.round c.args.job.trees) (sym (seen_itself end)) (round_ends m.bytes m.faults m.faults_at_fetch m.home m.image m.sound k.lawful k.sizes k.used k.live k.given p c.args.job.round c.args.job.point c.args.job.trees r.each_run e.finished e.freed (seen k.sizes k.used k.live k.given c.run_trees.new.works) h end c.in_ok-finished.ensures.ends refl c.in_ok-entries.ensures.entries))
+
+pub returns-clause-fits : goal.returns-clause-fits
+returns-clause-fits g c =
+    let end = c.in_ok-finished.field-0 in
+    subst (λ (fs : List RequestEnd). AllByRecursion IsWholeTree (made_trees fs)) (sym (map-id end.finished)) c.in_ok-finished.ensures.fits
 
 pub returns-clause-stands : goal.returns-clause-stands
 returns-clause-stands g c =
@@ -168,7 +175,7 @@ returns-clause-stands g c =
     let r = c.in_ok-finished.ensures.run in
     let e = c.in_ok-finished.field-0 in
     let h = has_run m.bytes m.faults m.faults_at_fetch m.home m.image m.sound k.lawful k.sizes k.used k.live k.given g.met.C.Chooser.lawful_none p c.args.job.round c.args.job.point c.args.job.trees e.left e.finished e.completions e.freed c.args.job.failmode c.begin_round.new.ground c.run_trees.new.works _ _ _ _ steady begins runs r in
-    let end : RoundEnd (List Pending) = record { finished = e.finished; left = e.left; completions = e.completions; entries = c.in_ok-entries.entries } in
+    let end : SeenEnd = record { finished = e.finished; left = e.left; completions = e.completions; entries = c.in_ok-entries.entries } in
     stands_after m.bytes m.faults m.faults_at_fetch m.home m.image m.sound k.lawful k.sizes k.used k.live k.given p (record { setting = c.run_trees.new.works.setting; disks = c.run_trees.new.works.disks.items; chooser = c.end_round.new.chooser; last = c.args.job.round; stopped = false }) c.args.job.round c.args.job.point c.args.job.trees r.each_run e.freed end c.run_trees.new.works h refl refl refl refl
     (subst (λ (ts : List Tree). AreLeft (k.live c.run_trees.new.works.chooser) (places_in ts) (k.live c.end_round.new.chooser)) c.as_slice.ensures c.in_ok-entries.ensures.live)
 

@@ -1,6 +1,6 @@
 use Rattle.std.proofs.Common.{◌≡◌, ◌∷◌, ◌++◌, [], ◌∙◌, List, sym, ap}
 use Rattle.zio_stages.specs.Wholes.{root_of}
-use Rattle.zio_stages.specs.declared.waiting.Waiting.{Waiting}
+use Rattle.zio_stages.specs.declared.waiting.UnfinishedRequest.{UnfinishedRequest}
 use Rattle.zio_stages.proofs.KidTreeLemmas.{Begun, begun}
 use Rattle.zio_stages.proofs.WholeLemmas.{root_last}
 use Rattle.zio_stages.proofs.attempted.RequestKids.begin.Goals as goal
@@ -24,6 +24,6 @@ returns-in-Ok-clause-list c =
     let is : c.args.whole ≡ c.pop.new.self.items ++ c.in-Some.root ∷ [] =
     sym c.whole.view_is ∙ sym c.into_vec-rest.ensures ∙ c.in-Some.ensures.items in
     record {
-      list = is ∙ ap (λ (ws : List Waiting). ws ++ c.in-Some.root ∷ []) (sym c.in-Ok.ensures.list);
+      list = is ∙ ap (λ (ws : List UnfinishedRequest). ws ++ c.in-Some.root ∷ []) (sym c.in-Ok.ensures.list);
       none = c.in-Ok.ensures.none;
     }

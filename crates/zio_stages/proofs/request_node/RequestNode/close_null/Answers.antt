@@ -1,15 +1,21 @@
-use Rattle.std.proofs.Common.{◌≡◌, None, ap}
+use Rattle.std.proofs.Common.{◌≡◌, None, refl}
 use Rattle.zio_trace.specs.Tasks.{OwnGot}
 use Rattle.zio_trace.specs.Plans.{only}
-use Rattle.zio_stages.specs.declared.request_node.OwnFound.{OwnFound}
 use Rattle.zio_stages.proofs.NullEnds.{null_ends}
 use Rattle.zio_stages.proofs.request_node.RequestNode.close_null.Goals as goal
 
-pub returns-in-Ok-clause-closes : goal.returns-in-Ok-clause-closes
-returns-in-Ok-clause-closes c = λ t st h.
+pub returns-in-Ok-clause-ends : goal.returns-in-Ok-clause-ends
+returns-in-Ok-clause-ends c =
     let own : OwnGot = record { error = None; bytes = c.new.result; tree = None; pointer = None } in
-    let none : own ≡ only None = λ i. record { error = None; bytes = c.new.ensures i; tree = None; pointer = None } in
-    c.in-Ok.ensures.closes t st h (null_ends t c.args.self st h own c.requires.null none)
-
-pub returns-in-Ok-clause-none : goal.returns-in-Ok-clause-none
-returns-in-Ok-clause-none c = ap (λ (own : OwnFound). own.tree) c.in-Ok.ensures.kept
+    let none : own ≡ only None = λ i. record { error = None; bytes = c.new.ensures i; tree = None; pointer = None } in (
+      record { error = None; bytes = c.new.result; tree = None; pointer = None },
+      refl,
+      record {
+        closed = c.in-Ok.closed;
+        is = c.into_outcome.ensures;
+        own_is = c.in-Ok.ensures.kept;
+        decides = c.in-Ok.ensures.decides;
+        closes = λ t st h. c.in-Ok.ensures.closes t st h (null_ends t c.args.self st h own c.requires.null none);
+        list = c.in-Ok.ensures.list;
+      },
+    )

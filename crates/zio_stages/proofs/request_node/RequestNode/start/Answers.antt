@@ -8,7 +8,7 @@ use Rattle.zio_stages.specs.NodeChildren.{new_child, seat_of}
 use Rattle.zio_stages.specs.RequestNodes.{HandsKid}
 use Rattle.zio_stages.specs.declared.family.Seat.{Seat}
 use Rattle.zio_stages.specs.declared.family.Seat.TheVariants.{Outer}
-use Rattle.zio_stages.specs.declared.waiting.Waiting.{Waiting}
+use Rattle.zio_stages.specs.declared.waiting.UnfinishedRequest.{UnfinishedRequest}
 use Rattle.zio_stages.proofs.KidPointerLemmas.{valid_handed}
 use Rattle.zio_stages.proofs.RequestNodeLemmas.{hands_kid, with_kids}
 use Rattle.zio_stages.proofs.RequestOver.{SameWithin, own_same, same_added}
@@ -24,7 +24,7 @@ returns-clause-child c = λ number whole e t st seated h.
     c.in_ok-number.ensures.ok ∙ ap (λ (s : Seat). r.family ++ new_child (seat_of s) Logical ∷ []) there in
     let kept = ap (λ (k : KidsUnderWay). k.kept) c.hand_out-whole.ensures.kids in (
       sym same ∙ c.in_ok-number.ensures.number ∙ ap (λ (cs : List Child). length cs) h.family,
-      subst (λ (ws : List Waiting). HandsKid t (with_kids r c.hand_out-whole.new.self c.add.new.self) ws st) tree
+      subst (λ (ws : List UnfinishedRequest). HandsKid t (with_kids r c.hand_out-whole.new.self c.add.new.self) ws st) tree
           (hands_kid t r c.hand_out-whole.new.self c.add.new.self c.hand_out-whole.result st h
           (subst (λ n. n < length r.kids.kids.kids) c.in-Child.ensures.0 c.in-Child.ensures.1)
           (c.hand_out-whole.ensures.asks r.attempt h.forest h.kid_asked h.kid_slots h.kids) kept family),
@@ -47,7 +47,7 @@ returns-clause-valid c = λ h.
 pub returns-clause-holds : goal.returns-clause-holds
 returns-clause-holds c = λ number whole e.
     let tree : c.hand_out-whole.result ≡ whole = cc in
-    subst (λ (ws : List Waiting). HoldsBut ws c.args.self.now.kids c.hand_out-whole.new.self) tree c.hand_out-whole.ensures.holds
+    subst (λ (ws : List UnfinishedRequest). HoldsBut ws c.args.self.now.kids c.hand_out-whole.new.self) tree c.hand_out-whole.ensures.holds
 
 pub returns-clause-less : goal.returns-clause-less
 returns-clause-less c = λ number whole e.

@@ -1,5 +1,0 @@
-use Rattle.zio_content.proofs.ContentLemmas.{padded_size}
-use Rattle.zio_content.proofs.writes.content.Goals as goal
-
-pub returns-clause-size : goal.returns-clause-size
-returns-clause-size c = padded_size _ _ _ c.in_ok-pad.ensures c.in_ok-bytes.ensures.size

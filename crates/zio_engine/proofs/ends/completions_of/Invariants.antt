@@ -1,6 +1,0 @@
-use Rattle.std.proofs.Common.{◌≡◌, map, take}
-use Rattle.zio_engine.specs.Ends.{completion_of}
-use Rattle.zio_engine.proofs.ends.completions_of.Given as goal
-
-abbrev pub invariant-loop-one : goal.invariant-loop-one
-invariant-loop-one l = l.completions ≡ map (completion_of l.round) (take l.one-index l.ended)

@@ -1,5 +1,0 @@
-use Rattle.zio_engine.proofs.Sounds.{sound_job}
-use Rattle.zio_engine.proofs.laws.jobs_are_sound_rounds.Goals as goal
-
-pub returns : goal.returns
-returns c = sound_job

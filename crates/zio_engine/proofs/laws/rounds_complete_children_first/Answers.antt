@@ -1,5 +1,0 @@
-use Rattle.zio_engine.proofs.Completions.{completed_after_children}
-use Rattle.zio_engine.proofs.laws.rounds_complete_children_first.Goals as goal
-
-pub returns : goal.returns
-returns c = completed_after_children

@@ -1,5 +1,0 @@
-use Rattle.zio_engine.proofs.InUse.{leaves_in_use}
-use Rattle.zio_engine.proofs.laws.rounds_leave_places_in_use.Goals as goal
-
-pub returns : goal.returns
-returns c = leaves_in_use

@@ -1,7 +1,0 @@
-use Rattle.zio_graph.proofs.BeginMoves.{AreBeginning}
-use Rattle.zio_graph.proofs.begin.begin_trees.Given as goal
-
-abbrev pub invariant-loop-whole : goal.invariant-loop-whole
-invariant-loop-whole g l =
-    AreBeginning g.N.Node.nodes g.N.Staged.over g.N.Staged.tree_over l.round l.failmode l.fn.wholes l.turns.nodes l.turns.line
-    l.trees.items l.whole-iterator

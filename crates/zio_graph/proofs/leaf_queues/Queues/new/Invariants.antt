@@ -1,7 +1,0 @@
-use Rattle.std.proofs.Common.{◌≡◌}
-use Rattle.std.specs.Prelude.{replicate}
-use Rattle.zio_graph.specs.AtLeaves.{no_waits}
-use Rattle.zio_graph.proofs.leaf_queues.Queues.new.Given as goal
-
-abbrev pub invariant-loop-leaf : goal.invariant-loop-leaf
-invariant-loop-leaf l = l.leaves.items ≡ replicate l._leaf no_waits

@@ -1,0 +1,188 @@
+//! The engine on one thread.
+
+ghost use Rattle.std.specs.Prelude.{◌≡◌, ◌<◌, ◌^◌, IfErr, IfOk, IfSome, IsErrOf, List as Seq, OnErr, [], false, length, map};
+ghost use Rattle.std.specs.List.{AllByRecursion};
+ghost use Rattle.zio_cksum.specs.Images.{Images};
+ghost use Rattle.zio_gang.specs.Attempts.{Pending};
+ghost use Rattle.zio_disks.specs.Disks.{AreSameDisks, Tell};
+ghost use Rattle.zio_disks.specs.Whole.{IsWholeTree};
+ghost use Rattle.zio_course.specs.declared.runner.Stop.TheVariants.{Device, Memory};
+ghost use Rattle.zio_course.specs.Runners.{
+  AnyRose,
+  AreRunnable,
+  DiffersInRound,
+  IsNewTree,
+  IsRound,
+  IsRoundEnd,
+  StandsAfter,
+  StoppedAfter,
+  ended_seen,
+  fresh,
+  made_trees,
+  terms_at,
+  tree_over,
+};
+ghost use Rattle.zio_graph.specs.Ends.{told_of};
+ghost use Rattle.zio_graph.specs.Graphs.{CanRun, standing_of};
+
+use crate::tree::{EngineTree, tree_over, trees_of, wholes_of};
+use crate::wholes::run_wholes;
+use std::alloc::Global;
+use std::marker::Model;
+use zio_course::{Job, RoundEnd, Stop};
+use zio_disks::Setting;
+use zio_gang::Tree;
+use zio_nodes::NodeBox;
+use zio_outside::Disk;
+use zio_script::Request;
+use zio_stages::Finished;
+use zio_turns::{DisksBack, Grounds, Picks};
+use zio_types::{List, NoMemory, Top};
+
+/// Runs rounds of trees of requests, whose nodes take turns in whatever order is picked. Contracts see it as its setting, its
+/// disks and the places in use, the number of its last round, and whether a round was stopped.
+#[derive(Drop)]
+pub struct Graph<D: Disk + Drop, P: Picks + Drop> {
+    grounds: Grounds<D>,
+    picks: P,
+    last: u32,
+    stopped: bool,
+}
+
+impl<D: Disk + Drop, P: Picks + Drop> Model for Graph<D, P> {
+    ghost use Rattle.std.specs.Prelude.{◌≡◌, false};
+    ghost use Rattle.zio_graph.specs.Graphs.{AreReadyGrounds, SeenGraph};
+
+    ghost Value = { SeenGraph D };
+
+    ghost view = { λ g. record {
+      setting = g.grounds.setting;
+      disks = g.grounds.disks.items;
+      live = g.grounds.desk.space.live;
+      last = g.last;
+      stopped = g.stopped;
+    } };
+
+    ghost invariant = { λ g. g.stopped ≡ false → AreReadyGrounds D.bytes g.grounds };
+}
+
+impl<D: Disk + Drop, P: Picks + Drop> Graph<D, P> {
+    /// Over disks that bear the tops, with all of these free. The tops are those of the setting. Where memory is refused the
+    /// disks come back, and the rest is dropped.
+    pub fn new(
+        alloc: Global,
+        setting: Setting,
+        disks: Vec<D>,
+        tops: List<Top>,
+        picks: P,
+    ) -> Result<Graph<D, P>, DisksBack<D>>
+        requires tops { tops ≡ setting.tops }
+        requires can { CanRun setting (map D.bytes disks.items) }
+        requires count { length disks.items < 2 ^ 32 }
+        ensures ok { IfOk result (λ graph. graph ≡
+            record { setting = setting; disks = disks.items; live = []; last = 0; stopped = false }) }
+        ensures back { IfErr result (λ back. back.disks.items ≡ disks.items) }
+    {
+        let grounds = Grounds::new(alloc, setting, disks, tops)?;
+        Ok(Graph {
+            grounds,
+            picks,
+            last: 0,
+            stopped: false,
+        })
+    }
+
+    /// Makes a tree of a request and its children's trees, for the batch of this number. A read or a free is given the block
+    /// that it names.
+    pub fn tree(
+        &self,
+        request: &Request,
+        birth: u32,
+        block: Option<Tree>,
+        children: List<EngineTree>,
+    ) -> Result<EngineTree, NoMemory>
+        requires whole { IsNewTree request.now birth block children }
+        requires fits { IfSome block IsWholeTree }
+        ensures { IfOk result (λ tree. tree ≡ tree_over children (fresh request.now birth block)) }
+    {
+        tree_over(self.grounds.alloc, request, birth, block, children)
+    }
+
+    /// Runs a round of trees: each request finishes, or is left with those above it.
+    ///
+    /// `Stop::Device` comes exactly where a count of a disk's faults rose, `Stop::Memory` for want of memory. No round
+    /// runs after a stop.
+    pub fn round(&mut self, job: Job<EngineTree>) -> Result<RoundEnd<EngineTree, Finished>, Stop>
+        requires runs { self.old.stopped ≡ false }
+        requires next { self.old.last < job.round }
+        requires trees { AreRunnable (standing_of D.faults self.old) (map (λ (tree : Seq Pending). tree) job.trees) }
+        ensures round { IfOk result (λ end. (before : Images) → Tell D.image self.old.disks before → (after : Images)
+            × Tell D.image self.new.disks after
+            × IsRound (terms_at (standing_of D.faults self.old) job.failmode job.round job.point)
+            (map (λ (tree : Seq Pending). tree) job.trees) before after (ended_seen (λ (tree : Seq Pending). tree) told_of end)
+            × DiffersInRound (standing_of D.faults self.old) (map (λ (tree : Seq Pending). tree) job.trees) before after) }
+        ensures end { IfOk result (λ end. IsRoundEnd (standing_of D.faults self.old) job.round
+            (map (λ (tree : Seq Pending). tree) job.trees) (ended_seen (λ (tree : Seq Pending). tree) told_of end)) }
+        ensures fits { IfOk result (λ end. AllByRecursion IsWholeTree (made_trees (map told_of end.finished))) }
+        ensures stands { IfOk result (λ end. StandsAfter (standing_of D.faults self.old) (standing_of D.faults self.new) job.round
+            (map (λ (tree : Seq Pending). tree) job.trees) (ended_seen (λ (tree : Seq Pending). tree) told_of end)) }
+        ensures stopped { OnErr result
+            (StoppedAfter (standing_of D.faults self.old) (standing_of D.faults self.new) job.round) }
+        ensures device { IsErrOf result Device → AnyRose (map D.faults self.old.disks) (map D.faults self.new.disks) }
+        ensures calm { IsErrOf result Memory → map D.faults self.new.disks ≡ map D.faults self.old.disks }
+        ensures images { OnErr result ((before : Images) → Tell D.image self.old.disks before → (after : Images)
+            × Tell D.image self.new.disks after
+            × DiffersInRound (standing_of D.faults self.old) (map (λ (tree : Seq Pending). tree) job.trees) before after) }
+        ensures same { AreSameDisks D.bytes D.faults D.faults_at_fetch D.home D.image D.sound self.old.disks self.new.disks }
+    {
+        let Job {
+            round,
+            point,
+            failmode,
+            trees,
+        } = job;
+        let alloc = self.grounds.alloc;
+        self.last = round;
+        self.stopped = true;
+        note_point(&mut self.grounds, point);
+        let wholes = wholes_of(alloc, trees)?;
+        let RoundEnd {
+            finished,
+            left,
+            completions,
+            entries,
+        } = run_wholes::<NodeBox, D, P>(
+            &mut self.grounds,
+            &mut self.picks,
+            round,
+            failmode,
+            wholes,
+        )?;
+        let rests = trees_of(alloc, left)?;
+        self.stopped = false;
+        Ok(RoundEnd {
+            finished,
+            left: rests,
+            completions,
+            entries,
+        })
+    }
+
+    /// The disks, by the numbers of the leaves.
+    pub fn into_disks(self) -> Vec<D>
+        ensures { result.items ≡ self.disks }
+    {
+        self.grounds.disks
+    }
+}
+
+/// Notes the resume point of a round.
+fn note_point<D: Disk + Drop>(grounds: &mut Grounds<D>, point: u32)
+    ensures setting { grounds.new.setting ≡
+        record { tops = grounds.old.setting.tops; rows = grounds.old.setting.rows; point = point } }
+    ensures disks { grounds.new.disks ≡ grounds.old.disks }
+    ensures desk { grounds.new.desk ≡ grounds.old.desk }
+    ensures queues { grounds.new.queues ≡ grounds.old.queues }
+{
+    grounds.setting.point = point;
+}

@@ -1,4 +1,0 @@
-pub mod ClimbLemmas
-pub mod PlaceLemmas
-pub mod SumLemmas
-pub mod TableLemmas

@@ -1,5 +1,0 @@
-use Rattle.zio_line.proofs.SumLemmas.{whole_sum}
-use Rattle.zio_line.proofs.sums.whole.Goals as goal
-
-pub returns-else-nodes-eq0 : goal.returns-else-nodes-eq0
-returns-else-nodes-eq0 c = whole_sum c.args.nodes.now c.requires c.if-nodes-eq0.false

@@ -1,5 +1,0 @@
-use Rattle.zio_line.proofs.TableLemmas.{Moving}
-use Rattle.zio_line.proofs.table.Table.moved.Given as goal
-
-abbrev pub invariant-loop-place : goal.invariant-loop-place
-invariant-loop-place l = Moving l.place-items l.place-index l.size l.table

@@ -1,0 +1,66 @@
+//! Turns and groups, in whatever order is picked.
+
+ghost use Rattle.std.specs.Prelude.{◌≡◌, ◌≢◌, ◌<◌, ◌≤◌, [], Err, IfOk, OnErr, OnOk, map};
+ghost use Rattle.zio_disks.specs.Disks.{AnyRose, AreSameDisks};
+ghost use Rattle.zio_turns.specs.AtLeaves.{keys_at};
+ghost use Rattle.zio_turns.specs.Slabs.{AreAll};
+ghost use Rattle.zio_turns.specs.Stops.{StopsWith};
+ghost use Rattle.zio_turns.specs.UnderTurns.{GoesOnSome, IsDone, RunsOn, TurnedIn, work_left};
+ghost use Rattle.zio_turns.specs.declared.turn.Turned.TheVariants.{Nothing};
+
+use crate::grounds::Grounds;
+use crate::group::issue_group;
+use crate::picks::Picks;
+use crate::staged::Staged;
+use crate::turn::{Turned, run_turn};
+use crate::turns::Turns;
+use zio_disks::Stop;
+use zio_outside::Disk;
+
+/// Runs until a turn has something to tell, or no key is queued and nothing waits at the leaves. The choices are the queued
+/// keys in their order, then each leaf that has a group to issue, in order of the leaves. Each sound round that goes on
+/// goes on, whatever is picked. It is stopped by a device exactly where a disk's count of faults rose.
+pub fn run_on<N: Staged, D: Disk + Drop, P: Picks>(
+    turns: &mut Turns<N>,
+    grounds: &mut Grounds<D>,
+    picks: &mut P,
+) -> Result<Turned, Stop>
+    requires going { GoesOnSome N.nodes D.bytes D.image turns.old.nodes turns.old.line grounds.old }
+    requires over { AreAll (N.over grounds.old.desk.tops) turns.old.nodes }
+    ensures runs { IfOk result (RunsOn N.nodes D.bytes D.image turns.old.nodes turns.old.line grounds.old turns.new.nodes
+        turns.new.line grounds.new) }
+    ensures done { IfOk result (IsDone turns.new.line (keys_at grounds.new.queues.leaves.items)) }
+    ensures over { OnOk result (AreAll (N.over grounds.new.desk.tops) turns.new.nodes) }
+    ensures less { OnOk result (work_left N.nodes.left turns.new.nodes turns.new.line grounds.new
+        ≤ work_left N.nodes.left turns.old.nodes turns.old.line grounds.old) }
+    ensures fewer { IfOk result (λ turned. turned ≢ Nothing → work_left N.nodes.left turns.new.nodes turns.new.line grounds.new
+        < work_left N.nodes.left turns.old.nodes turns.old.line grounds.old) }
+    ensures same { AreSameDisks D.bytes D.faults D.faults_at_fetch D.home D.image D.sound grounds.old.disks.items grounds.new.disks.items }
+    ensures steady { OnOk result (map D.faults grounds.new.disks.items ≡ map D.faults grounds.old.disks.items) }
+    ensures device { result ≡ Err Stop.Device →
+        AnyRose (map D.faults grounds.old.disks.items) (map D.faults grounds.new.disks.items) }
+    ensures calm { result ≡ Err Stop.Memory →
+        map D.faults grounds.new.disks.items ≡ map D.faults grounds.old.disks.items }
+    ensures stopped { OnErr result (StopsWith N.nodes D.bytes D.image turns.old.nodes turns.old.line grounds.old grounds.new.disks.items) }
+    ensures inside { IfOk result (TurnedIn (N.tree_over grounds.old.desk.tops)) }
+    ensures tops { grounds.new.desk.tops ≡ grounds.old.desk.tops }
+    ensures setting { grounds.new.setting ≡ grounds.old.setting }
+{
+    'picks: loop {
+        let keys = turns.len();
+        let choices = keys.saturating_add(grounds.eligible());
+        if choices == 0 {
+            return Ok(Turned::Nothing);
+        }
+        let pick = picks.pick(choices);
+        if pick < keys {
+            let key = turns.take(pick);
+            match run_turn(turns, grounds, key)? {
+                Turned::Nothing => {}
+                told => return Ok(told),
+            }
+        } else {
+            issue_group(turns, grounds, pick - keys)?;
+        }
+    }
+}

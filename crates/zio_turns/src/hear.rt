@@ -1,0 +1,166 @@
+//! What parents hear of their children.
+
+ghost use Rattle.std.specs.Prelude.{◌≡◌, ◌<◌, IfOk, IfSome, IsTrue, OnOk};
+ghost use Rattle.slab.specs.Slab.{HasRoomFor};
+ghost use Rattle.zio_counts.specs.Tallies.{counted};
+ghost use Rattle.zio_blkptr.specs.Pointers.{valid};
+ghost use Rattle.zio_turns.specs.Acts.{AwaitsEnd, AwaitsReady, CanEnd, CanTell, HasCounted, HasEnded, HasTold, IsHandedOn, NodeHeard, NodeTold, StepIn, step_told};
+ghost use Rattle.zio_turns.specs.Stages.{OutcomeIn};
+
+use crate::entry::{Parent, TiedNode, Ties};
+use crate::line::Line;
+use crate::shelf::{put_back, queue_up};
+use crate::staged::Staged;
+use crate::step::Step;
+use slab::Slab;
+use zio_blkptr::Bp;
+use zio_stages::{Finished, Outcome};
+use zio_types::{Bits, ChildKind, Errno, NoMemory, Phase, Top};
+
+/// What a parent counts of a child that became ready or done.
+#[derive(Clone, Copy)]
+struct Mark {
+    kind: ChildKind,
+    phase: Phase,
+    error: Option<Errno>,
+    bits: Bits,
+}
+
+/// The node goes back under its key, with the child's mark in its counts, and is queued where it waited for that alone.
+fn count<N>(
+    nodes: &mut Slab<TiedNode<N>>,
+    line: &mut Line,
+    key: u32,
+    entry: TiedNode<N>,
+    mark: Mark,
+) -> Result<(), NoMemory>
+    requires room { HasRoomFor nodes.old 1 }
+    requires free { nodes.old.vacant_key ≡ key }
+    requires owed { 0 < counted mark.kind mark.phase entry.ties.counts }
+    ensures { OnOk result (HasCounted nodes.old line.old nodes.new line.new key entry mark.kind mark.phase mark.error mark.bits) }
+{
+    let TiedNode { node, ties } = entry;
+    let mut ties = ties;
+    let woken = ties
+        .counts
+        .notify(mark.kind, mark.phase, mark.error, mark.bits);
+    put_back(nodes, key, TiedNode { node, ties });
+    if woken {
+        return queue_up(line, key);
+    }
+    Ok(())
+}
+
+/// The node under the key hears that the value of its child of this number will have this pointer.
+fn tell_node<N: Staged>(
+    nodes: &mut Slab<TiedNode<N>>,
+    line: &mut Line,
+    kind: ChildKind,
+    key: u32,
+    child: u32,
+    pointer: Option<Bp>,
+) -> Result<(), NoMemory>
+    requires valid { IfSome pointer (λ bp. IsTrue (valid bp)) }
+    requires can { AwaitsReady N.nodes nodes.old kind key child }
+    ensures { OnOk result (NodeTold N.nodes N.over nodes.old line.old nodes.new line.new kind key child pointer) }
+{
+    let TiedNode { node, ties } = nodes.remove(key as usize);
+    let node = node.arrive_ready(child, pointer);
+    let mark = Mark {
+        kind,
+        phase: Phase::Ready,
+        error: None,
+        bits: Bits::NONE,
+    };
+    count(nodes, line, key, TiedNode { node, ties }, mark)
+}
+
+/// The parent hears which pointer the value of its child will have. Whether that is a tree.
+pub(crate) fn tell<N: Staged>(
+    nodes: &mut Slab<TiedNode<N>>,
+    line: &mut Line,
+    kind: ChildKind,
+    parent: Parent,
+    pointer: Option<Bp>,
+) -> Result<Step, NoMemory>
+    requires valid { IfSome pointer (λ bp. IsTrue (valid bp)) }
+    requires can { CanTell N.nodes nodes.old kind parent }
+    ensures told { OnOk result (HasTold N.nodes N.over nodes.old line.old nodes.new line.new kind parent pointer) }
+    ensures step { IfOk result (λ step. step ≡ step_told parent) }
+{
+    match parent {
+        Parent::Tree { tree, .. } => Ok(Step::Told(tree)),
+        Parent::Node { key, child } => {
+            tell_node(nodes, line, kind, key, child, pointer)?;
+            Ok(Step::Goes)
+        }
+    }
+}
+
+/// What a parent counts of a child's error.
+fn error_of(outcome: &Outcome) -> Option<Errno> {
+    match outcome {
+        Outcome::Finished(finished) => finished.error(),
+        Outcome::Found(Err(error)) => Some(*error),
+        Outcome::Stored(part) => part.error,
+        _ => None,
+    }
+}
+
+fn bits_of(outcome: &Outcome) -> Bits {
+    match outcome {
+        Outcome::Again { bits, .. } => *bits,
+        _ => Bits::NONE,
+    }
+}
+
+/// The node under the key hears with what its child of this number ended. Of a request that finished this comes back.
+fn end_node<N: Staged>(
+    nodes: &mut Slab<TiedNode<N>>,
+    line: &mut Line,
+    tops: &[Top],
+    kind: ChildKind,
+    key: u32,
+    child: u32,
+    outcome: Outcome,
+) -> Result<Option<Finished>, NoMemory>
+    requires can { AwaitsEnd N.nodes N.over tops.now nodes.old kind key child outcome }
+    requires inside { OutcomeIn (N.tree_over tops.now) outcome }
+    ensures heard { OnOk result (NodeHeard N.nodes N.over tops.now nodes.old line.old nodes.new line.new kind key child outcome) }
+    ensures finished { IfOk result (IsHandedOn outcome) }
+{
+    let mark = Mark {
+        kind,
+        phase: Phase::Done,
+        error: error_of(&outcome),
+        bits: bits_of(&outcome),
+    };
+    let TiedNode { node, ties } = nodes.remove(key as usize);
+    let Ok((node, finished)) = node.arrive(tops, child, outcome) else {
+        return Err(NoMemory);
+    };
+    count(nodes, line, key, TiedNode { node, ties }, mark)?;
+    Ok(finished)
+}
+
+/// The node ended with this, and its parent hears of it, or its tree is to.
+pub(crate) fn end<N: Staged>(
+    nodes: &mut Slab<TiedNode<N>>,
+    line: &mut Line,
+    tops: &[Top],
+    ties: &Ties,
+    outcome: Outcome,
+) -> Result<Step, NoMemory>
+    requires can { CanEnd N.nodes N.over tops.now nodes.old ties.now.kind ties.now.parent outcome }
+    requires inside { OutcomeIn (N.tree_over tops.now) outcome }
+    ensures ended { IfOk result (HasEnded N.nodes N.over tops.now nodes.old line.old nodes.new line.new ties.now.kind ties.now.parent outcome) }
+    ensures inside { IfOk result (StepIn (N.tree_over tops.now)) }
+{
+    match ties.parent {
+        Parent::Tree { tree, .. } => Ok(Step::Root(tree, outcome)),
+        Parent::Node { key, child } => {
+            let finished = end_node(nodes, line, tops, ties.kind, key, child, outcome)?;
+            Ok(Step::Ended(finished))
+        }
+    }
+}

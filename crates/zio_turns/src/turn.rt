@@ -1,0 +1,62 @@
+//! The turn of one node, over what the engine lends.
+
+ghost use Rattle.std.specs.Prelude.{◌≡◌, ◌+◌, ◌<◌, ◌∷◌, Err, IfOk, OnErr, OnOk};
+ghost use Rattle.zio_turns.specs.Slabs.{AreAll};
+ghost use Rattle.zio_turns.specs.UnderTurns.{AreSameGrounds, GoesOnSome, TurnedIn, TurnsOn, work_left};
+
+use crate::grounds::Grounds;
+use crate::staged::Staged;
+use crate::step::Step;
+use crate::turns::Turns;
+use zio_disks::Stop;
+use zio_outside::Disk;
+use zio_stages::{Finished, Outcome};
+
+/// What a turn has to tell.
+#[derive(Drop)]
+pub enum Turned {
+    /// The node waits for its children or for a leaf, or it is queued again, or it ended as a part of a request.
+    Nothing,
+    /// A request finished.
+    Ended(Finished),
+    /// The tree of this number hears of its attempt.
+    Root(u32, Outcome),
+}
+
+/// The turn of the node under the key: stages one after another until it rests, is at a leaf, or ended. Its operation then
+/// waits at the leaf under the key. Each sound round that goes on with the key in front goes on. After a stop, which is
+/// for want of memory, nothing is said of the nodes.
+pub fn run_turn<N: Staged, D: Disk + Drop>(
+    turns: &mut Turns<N>,
+    grounds: &mut Grounds<D>,
+    key: u32,
+) -> Result<Turned, Stop>
+    requires going { GoesOnSome N.nodes D.bytes D.image turns.old.nodes (key ∷ turns.old.line) grounds.old }
+    requires over { AreAll (N.over grounds.old.desk.tops) turns.old.nodes }
+    ensures turns { IfOk result (TurnsOn N.nodes D.bytes D.image turns.old.nodes turns.old.line grounds.old turns.new.nodes
+        turns.new.line grounds.new key) }
+    ensures over { OnOk result (AreAll (N.over grounds.new.desk.tops) turns.new.nodes) }
+    ensures less { OnOk result (work_left N.nodes.left turns.new.nodes turns.new.line grounds.new
+        < work_left N.nodes.left turns.old.nodes turns.old.line grounds.old + 1) }
+    ensures same { AreSameGrounds grounds.old grounds.new }
+    ensures inside { IfOk result (TurnedIn (N.tree_over grounds.old.desk.tops)) }
+    ensures memory { OnErr result (result ≡ Err Stop.Memory) }
+{
+    'stages: loop {
+        let Ok(step) = turns.step(grounds.alloc, &mut grounds.desk, key) else {
+            return Err(Stop::Memory);
+        };
+        match step {
+            Step::Goes => {}
+            Step::Told(_) => {}
+            Step::Rests => return Ok(Turned::Nothing),
+            Step::Ended(None) => return Ok(Turned::Nothing),
+            Step::Ended(Some(finished)) => return Ok(Turned::Ended(finished)),
+            Step::Root(tree, outcome) => return Ok(Turned::Root(tree, outcome)),
+            Step::Leaf(op, leaf, bytes) => {
+                grounds.put(leaf, key, op, bytes)?;
+                return Ok(Turned::Nothing);
+            }
+        }
+    }
+}

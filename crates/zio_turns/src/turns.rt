@@ -1,0 +1,139 @@
+//! Turns of the nodes that an engine holds.
+
+ghost use Rattle.std.specs.Prelude.{◌≡◌, ◌+◌, ◌*◌, ◌<◌, List as Seq, [], IfOk, OnOk, length, slice_index};
+ghost use Rattle.std.specs.List.{remove};
+ghost use Rattle.zio_types.specs.declared.place.Top.{Top as SeenTop};
+ghost use Rattle.zio_stages.specs.SpaceCalls.{SpaceCall};
+ghost use Rattle.zio_turns.specs.Acts.{StepIn, load_of};
+ghost use Rattle.zio_turns.specs.Desks.{GivesLast};
+ghost use Rattle.zio_turns.specs.Rounds.{Begins, ClaimsAlone, ComesBack, HandsOut, HasTurn, IsAtLeaf, IsTurn, StepsOn};
+ghost use Rattle.zio_turns.specs.Slabs.{AreAll, load};
+
+use crate::entry::{Parent, TiedNode};
+use crate::hear::{end, tell};
+use crate::line::Line;
+use crate::shelf::{add, grow, new_ties, put_back, queue_up, wait};
+use crate::staged::{Move, Staged};
+use crate::step::Step;
+use slab::Slab;
+use std::alloc::Global;
+use zio_stages::Services;
+use zio_types::{Bytes, ChildKind, Errno, NoMemory};
+
+/// The nodes of a round under their keys, and the queue of those whose turn it may be.
+#[derive(Drop)]
+pub struct Turns<N> {
+    nodes: Slab<TiedNode<N>>,
+    line: Line,
+}
+
+impl<N: Staged> Turns<N> {
+    /// No node. Without memory; the nodes' is from `alloc`.
+    pub fn new(alloc: Global) -> Turns<N>
+        ensures begins { Begins N.nodes result.nodes result.line }
+        ensures empty { result.nodes.slots ≡ [] }
+        ensures idle { result.line ≡ [] }
+        ensures load { load N.nodes.left result.nodes result.line ≡ 0 }
+        ensures over { (tops : Seq SeenTop) → AreAll (N.over tops) result.nodes }
+    {
+        Turns {
+            nodes: Slab::new(alloc),
+            line: Line::new(alloc),
+        }
+    }
+
+    /// How many keys are queued.
+    pub fn len(&self) -> u32
+        ensures { result ≡ length self.now.line }
+    {
+        self.line.len()
+    }
+
+    /// A node for the next operation of the tree with this number, whose child of this number it is. It is queued.
+    pub fn add_root(&mut self, tree: u32, child: u32, node: N) -> Result<(), NoMemory>
+        ensures hands { OnOk result (HandsOut N.nodes self.old.nodes self.old.line self.new.nodes self.new.line tree child node) }
+        ensures over { (tops : Seq SeenTop) → AreAll (N.over tops) self.old.nodes → N.over tops node →
+            OnOk result (AreAll (N.over tops) self.new.nodes) }
+        ensures load { OnOk result (load N.nodes.left self.new.nodes self.new.line
+            ≡ load N.nodes.left self.old.nodes self.old.line + 3 * N.nodes.left node + 1) }
+    {
+        let ties = new_ties(ChildKind::Logical, Parent::Tree { tree, child });
+        let key = add(&mut self.nodes, TiedNode { node, ties })?;
+        queue_up(&mut self.line, key)
+    }
+
+    /// Takes the k-th key of the queue, counted from 0: it is its turn. The others keep their order.
+    pub fn take(&mut self, k: u32) -> u32
+        requires { k < length self.old.line }
+        ensures key { result ≡ slice_index self.old.line k }
+        ensures others { self.new.line ≡ remove self.old.line k }
+        ensures turn { HasTurn N.nodes self.old.nodes self.old.line self.new.nodes self.new.line result }
+        ensures nodes { self.new.nodes ≡ self.old.nodes }
+        ensures len { length self.new.line + 1 ≡ length self.old.line }
+    {
+        self.line.take(k)
+    }
+
+    /// One stage of the node under the key, whose turn it is.
+    pub fn step<S: Services>(
+        &mut self,
+        alloc: Global,
+        services: &mut S,
+        key: u32,
+    ) -> Result<Step, NoMemory>
+        requires { IsTurn N.nodes N.over (S.tops services.old) self.old.nodes self.old.line key }
+        ensures steps { IfOk result (λ step. (calls : Seq SpaceCall) × S.made services.old calls services.new
+            × ClaimsAlone N.nodes (S.tops services.old) calls self.old.nodes self.old.line key × GivesLast calls
+            × StepsOn N.nodes (S.tops services.old) calls self.old.nodes self.old.line self.new.nodes self.new.line key step) }
+        ensures over { OnOk result (AreAll (N.over (S.tops services.old)) self.new.nodes) }
+        ensures less { IfOk result (λ step. load N.nodes.left self.new.nodes self.new.line + load_of step
+            < load N.nodes.left self.old.nodes self.old.line + 1) }
+        ensures tops { S.tops services.new ≡ S.tops services.old }
+        ensures inside { IfOk result (StepIn (N.tree_over (S.tops services.old))) }
+    {
+        N::does_its_part();
+        let Turns { nodes, line } = self;
+        let TiedNode { node, ties } = nodes.remove(key as usize);
+        let Ok(moved) = node.run_stage(alloc, services) else {
+            return Err(NoMemory);
+        };
+        match moved {
+            Move::Next(node) => {
+                put_back(nodes, key, TiedNode { node, ties });
+                Ok(Step::Goes)
+            }
+            Move::Wait(node, kind, phase) => {
+                wait(nodes, line, key, TiedNode { node, ties }, kind, phase)?;
+                Ok(Step::Rests)
+            }
+            Move::Grow(node, child, kind) => {
+                grow(nodes, line, key, TiedNode { node, ties }, child, kind)?;
+                Ok(Step::Rests)
+            }
+            Move::Leaf(node, op, leaf, bytes) => {
+                put_back(nodes, key, TiedNode { node, ties });
+                Ok(Step::Leaf(op, leaf, bytes))
+            }
+            Move::Ready(node, pointer) => {
+                let kind = ties.kind;
+                let parent = ties.parent;
+                put_back(nodes, key, TiedNode { node, ties });
+                tell(nodes, line, kind, parent, pointer)
+            }
+            Move::End(outcome) => end(nodes, line, services.tops(), &ties, outcome),
+        }
+    }
+
+    /// The leaf answered the operation of the node under the key: an error or none, and the bytes of a read.
+    pub fn answered(&mut self, key: u32, error: Option<Errno>, bytes: Bytes) -> Result<(), NoMemory>
+        requires { IsAtLeaf N.nodes self.old.nodes self.old.line key }
+        ensures comes_back { OnOk result (ComesBack N.nodes self.old.nodes self.old.line self.new.nodes self.new.line key error bytes) }
+        ensures over { (tops : Seq SeenTop) → AreAll (N.over tops) self.old.nodes → OnOk result (AreAll (N.over tops) self.new.nodes) }
+        ensures less { OnOk result (load N.nodes.left self.new.nodes self.new.line < load N.nodes.left self.old.nodes self.old.line + 2) }
+    {
+        let TiedNode { node, ties } = self.nodes.remove(key as usize);
+        let node = node.answered(error, bytes);
+        put_back(&mut self.nodes, key, TiedNode { node, ties });
+        queue_up(&mut self.line, key)
+    }
+}

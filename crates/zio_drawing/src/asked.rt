@@ -11,7 +11,7 @@ type Chain = [u32; DEPTH_MAX as usize];
 
 /// A request of a script.
 #[derive(Clone, Copy)]
-pub(crate) struct Asked<'a> {
+pub(crate) struct Asked {
     pub(crate) number: ReqNo,
     pub(crate) kind: Kind,
     pub(crate) name: Option<Name>,
@@ -22,9 +22,8 @@ pub(crate) struct Asked<'a> {
     pub(crate) depth: u32,
     /// Its place among all requests, where each has its children right behind it.
     pub(crate) rank: usize,
-    /// The number of its line, from 1, and the line.
-    pub(crate) line: u32,
-    pub(crate) text: &'a [u8],
+    /// Its line in the script, from 0.
+    pub(crate) line: usize,
     chain: Chain,
 }
 
@@ -32,8 +31,10 @@ pub(crate) struct Asked<'a> {
 #[derive(Drop)]
 pub(crate) struct Asking<'a> {
     /// By rising number.
-    requests: Vec<Asked<'a>>,
+    requests: Vec<Asked>,
     pub(crate) comments: Comments,
+    /// The lines, without blanks at their ends.
+    lines: Vec<&'a [u8]>,
 }
 
 /// What a line of an accepted script is for.
@@ -52,86 +53,108 @@ impl<'a> Asking<'a> {
         script: &Script,
         text: &'a [u8],
     ) -> Result<Asking<'a>, NoMemory> {
-        let mut asking = Asking {
-            requests: Vec::new(alloc),
-            comments: Comments::new(alloc),
-        };
+        let mut requests = Vec::new(alloc);
+        let mut comments = Comments::new(alloc);
+        let mut lines = Vec::new(alloc);
         let mut items = script.items.as_slice().iter();
-        let mut number = 0u32;
         for line in text.split(|c| *c == b'\n') {
-            number = number.saturating_add(1);
             let line = line.trim_ascii();
             match role_of(line) {
                 LineRole::Blank => {}
-                LineRole::Comment => asking.comments.add(line)?,
-                LineRole::Head => asking.comments.end_head()?,
+                LineRole::Comment => comments.add(line)?,
+                LineRole::Head => comments.end_head()?,
                 LineRole::Item => {
                     if let Some(item) = items.next() {
-                        asking.add_item(alloc, item, number, line)?;
+                        add_item(alloc, &mut requests, &mut comments, item, lines.len())?;
                     }
                 }
             }
+            lines.push(line)?;
         }
-        rank_all(alloc, &mut asking.requests)?;
-        Ok(asking)
+        rank_all(alloc, &mut requests)?;
+        Ok(Asking {
+            requests,
+            comments,
+            lines,
+        })
     }
 
     /// Where the request of this number stands.
     pub(crate) fn find(&self, number: ReqNo) -> Option<usize> {
-        self.requests
-            .binary_search_by_key(&number, |asked| asked.number)
-            .ok()
+        find(self.requests.as_slice(), number)
     }
 
-    pub(crate) fn get(&self, at: usize) -> Option<&Asked<'a>> {
+    pub(crate) fn get(&self, at: usize) -> Option<&Asked> {
         self.requests.get(at)
+    }
+
+    /// The line of this request in the script.
+    pub(crate) fn line_of(&self, asked: &Asked) -> &'a [u8] {
+        match self.lines.get(asked.line) {
+            Some(line) => line,
+            None => &[],
+        }
     }
 
     pub(crate) fn len(&self) -> usize {
         self.requests.len()
     }
+}
 
-    fn add_item(
-        &mut self,
-        alloc: Global,
-        item: &Item,
-        line: u32,
-        text: &'a [u8],
-    ) -> Result<(), NoMemory> {
-        self.comments.end_item(alloc, item)?;
-        if let Item::Request(request) = item {
-            let asked = self.asked_by(request, line, text);
-            self.requests.push(asked)?;
-        }
-        Ok(())
+// The item stands in this line, from 0.
+fn add_item(
+    alloc: Global,
+    requests: &mut Vec<Asked>,
+    comments: &mut Comments,
+    item: &Item,
+    line: usize,
+) -> Result<(), NoMemory> {
+    comments.end_item(alloc, item)?;
+    if let Item::Request(request) = item {
+        let asked = asked_by(requests.as_slice(), request, line);
+        requests.push(asked)?;
     }
+    Ok(())
+}
 
-    fn asked_by(&self, request: &Request, line: u32, text: &'a [u8]) -> Asked<'a> {
-        let parent = match request.under {
-            Some(under) => self.find(under).and_then(|at| self.get(at)),
-            None => None,
-        };
-        let (depth, mut chain) = match parent {
-            Some(parent) => (parent.depth.saturating_add(1), parent.chain),
-            None => (0, [0; DEPTH_MAX as usize]),
-        };
-        if let Some(last) = chain.get_mut(depth as usize) {
-            *last = request.number;
-        }
-        let (kind, name) = work_of(&request.work);
-        Asked {
-            number: request.number,
-            kind,
-            name,
-            claimed: claimed_by(&request.work),
-            under: request.under,
-            depth,
-            rank: 0,
-            line,
-            text,
-            chain,
-        }
+// Where the request of this number stands.
+fn find(requests: &[Asked], number: ReqNo) -> Option<usize> {
+    requests
+        .binary_search_by_key(&number, |asked| asked.number)
+        .ok()
+}
+
+// `requests` are those before it.
+fn asked_by(requests: &[Asked], request: &Request, line: usize) -> Asked {
+    let parent = match request.under {
+        Some(under) => find(requests, under).and_then(|at| requests.get(at)),
+        None => None,
+    };
+    let (depth, chain) = match parent {
+        Some(parent) => (parent.depth.saturating_add(1), parent.chain),
+        None => (0, [0; DEPTH_MAX as usize]),
+    };
+    let (kind, name) = work_of(&request.work);
+    Asked {
+        number: request.number,
+        kind,
+        name,
+        claimed: claimed_by(&request.work),
+        under: request.under,
+        depth,
+        rank: 0,
+        line,
+        chain: with_link(chain, depth as usize, request.number),
     }
+}
+
+// The chain with one more number.
+fn with_link(chain: Chain, depth: usize, number: ReqNo) -> Chain {
+    let mut chain = chain;
+    if depth < chain.len() {
+        chain[depth] = number;
+    }
+    chain
 }
 
 fn role_of(line: &[u8]) -> LineRole {
@@ -176,7 +199,7 @@ struct Ranked {
 }
 
 // Gives each request its rank.
-fn rank_all(alloc: Global, requests: &mut [Asked<'_>]) -> Result<(), NoMemory> {
+fn rank_all(alloc: Global, requests: &mut [Asked]) -> Result<(), NoMemory> {
     let mut order = Vec::new(alloc);
     for (at, asked) in requests.iter().enumerate() {
         order.push(Ranked {

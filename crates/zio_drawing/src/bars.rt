@@ -1,7 +1,7 @@
 //! What space a run took, and for how long: a bar for each place.
 
 use crate::asked::{Asked, Asking};
-use crate::frame::ROW_HEIGHT;
+use crate::frame::{ROW_HEIGHT, count};
 use crate::plan::Panel;
 use crate::rounds::{Round, Row, SECTORS_MAX, Step, Take, places_of};
 use crate::told::Outcome;
@@ -98,7 +98,7 @@ impl Space {
             let kept = is_kept(row, take);
             let (y, height) = slice_of(row, take.entry.key.attempt);
             for (copy, place) in places_of(&take.entry).iter().enumerate() {
-                let copy = copy as u32;
+                let copy = count(copy);
                 let bar = Bar {
                     place: *place,
                     look: look_of(take, copy, kept),
@@ -142,7 +142,7 @@ impl Space {
     fn add_claim(
         &mut self,
         alloc: Global,
-        asked: &Asked<'_>,
+        asked: &Asked,
         row: &Row,
         round: u32,
         bottom: u32,
@@ -157,7 +157,7 @@ impl Space {
                     look: Look::Claimed,
                     source: Source::Claim(row.asked),
                     name: asked.name,
-                    copy: copy as u32,
+                    copy: count(copy),
                     round,
                     freed: None,
                     y: row.y,
@@ -188,7 +188,7 @@ impl Space {
         Ok(())
     }
 
-    fn free(&mut self, asked: &Asked<'_>, round: u32, end: u32) {
+    fn free(&mut self, asked: &Asked, round: u32, end: u32) {
         let Some(name) = asked.name else {
             return;
         };

@@ -1,4 +1,5 @@
 //! The comments of a script, and their lines in a picture.
+ghost use Rattle.std.specs.Prelude.{◌≤◌, length};
 
 use std::alloc::Global;
 use zio_script::Item;
@@ -109,7 +110,9 @@ pub(crate) fn wrapped(alloc: Global, text: &[u8], columns: usize) -> Result<Vec<
 }
 
 // How many bytes of the text are on its first line.
-fn line_len(text: &[u8], columns: usize) -> usize {
+fn line_len(text: &[u8], columns: usize) -> usize
+    ensures { result ≤ length text.now }
+{
     if text.len() <= columns {
         return text.len();
     }

@@ -2,6 +2,7 @@
 ghost use Rattle.std.specs.Prelude.{◌≡◌};
 ghost use Rattle.zio_drawing.specs.declared.fault.DrawingFault.TheVariants.{Memory};
 
+use crate::frame::count;
 use std::alloc::{AllocError, AllocFailed};
 use zio_script::ScriptFault;
 use zio_types::NoMemory;
@@ -31,6 +32,11 @@ pub enum DrawingFault {
     TooLong,
     /// Want of memory.
     Memory,
+}
+
+/// What is wrong with the line at this place, from 0.
+pub(crate) fn fault_at(at: usize, why: ReportFault) -> DrawingFault {
+    DrawingFault::Report(count(at).saturating_add(1), why)
 }
 
 impl From<NoMemory> for DrawingFault {

@@ -1,5 +1,10 @@
 //! Where things stand in a picture. All lengths are units of the picture, and sums stand still at their type's end.
 
+/// A number of things, which stands still at its type's end.
+pub(crate) fn count(things: usize) -> u32 {
+    u32::try_from(things).unwrap_or(u32::MAX)
+}
+
 /// A rectangle.
 #[derive(Clone, Copy)]
 pub(crate) struct Area {

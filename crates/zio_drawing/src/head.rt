@@ -2,7 +2,7 @@
 
 use crate::asked::Asking;
 use crate::captions::wrapped;
-use crate::frame::{CAPTION_COLUMNS, CAPTION_HEIGHT, MARGIN, PANEL_X, Point};
+use crate::frame::{CAPTION_COLUMNS, CAPTION_HEIGHT, MARGIN, PANEL_X, Point, count};
 use crate::markup::{Markup, Piece};
 use Piece::{Fixed, Number, Outside};
 use std::alloc::Global;
@@ -33,11 +33,11 @@ pub(crate) fn draw_head(
         Point { x: PANEL_X, y },
         &[
             Fixed("tops: "),
-            Number(script.tops.len() as u32),
+            Number(count(script.tops.len())),
             Fixed(", images: "),
             Number(images),
             Fixed(", requests: "),
-            Number(asking.len() as u32),
+            Number(count(asking.len())),
             Fixed(", failmode "),
             Fixed(failmode_word(script.failmode)),
         ],
@@ -57,7 +57,7 @@ fn draw_faults(out: &mut Markup, rows: &[Row], top: u32) -> Result<u32, NoMemory
         y = y.saturating_add(16);
     }
     if rows.len() > FAULTS_SHOWN {
-        let more = (rows.len() - FAULTS_SHOWN) as u32;
+        let more = count(rows.len() - FAULTS_SHOWN);
         let at = Point { x: PANEL_X, y };
         out.text("small", at, &[Fixed("and more fault rows: "), Number(more)])?;
         y = y.saturating_add(16);

@@ -12,7 +12,9 @@ mod captions;
 mod fault;
 mod frame;
 mod head;
+mod laws;
 mod legend;
+mod lines;
 mod maps;
 mod markup;
 mod page;
@@ -26,5 +28,6 @@ mod told;
 mod ways;
 
 pub use fault::{DrawingFault, REPORT_LINES_MAX, ReportFault};
+pub use laws::outside_is_character_data;
 pub use markup::Markup;
 pub use picture::{Form, draw};

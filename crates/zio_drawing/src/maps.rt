@@ -1,13 +1,13 @@
 //! The maps of space: a column for each top, with its sectors from left to right.
 
 use crate::bars::{Bar, Look};
-use crate::frame::{Area, MAPS_GAP, MAPS_X, Point};
+use crate::frame::{Area, MAPS_GAP, MAPS_X, Point, count};
 use crate::markup::{Markup, Piece};
 use crate::plan::Panel;
 use crate::rounds::SECTORS_MAX;
 use Piece::{Fixed, Number};
 use std::alloc::Global;
-use zio_script::TopLine;
+use zio_script::{Name, TopLine};
 use zio_types::NoMemory;
 
 /// The height of a block's name in its bar.
@@ -88,15 +88,6 @@ pub(crate) fn draw_columns(
     bottom: u32,
 ) -> Result<(), NoMemory> {
     for (number, (column, line)) in columns.iter().zip(tops).enumerate() {
-        out.area(
-            "map",
-            Area {
-                x: column.x,
-                y: top,
-                width: column.width,
-                height: bottom.saturating_sub(top),
-            },
-        )?;
         for panel in panels {
             let band = Area {
                 x: column.x,
@@ -106,8 +97,17 @@ pub(crate) fn draw_columns(
             };
             out.area("band", band)?;
         }
-        draw_column_head(out, column, line, number as u32, top)?;
+        draw_column_head(out, column, line, count(number), top)?;
         draw_ticks(out, column, top, bottom)?;
+        out.area(
+            "map",
+            Area {
+                x: column.x,
+                y: top,
+                width: column.width,
+                height: bottom.saturating_sub(top),
+            },
+        )?;
     }
     Ok(())
 }
@@ -126,15 +126,15 @@ fn draw_column_head(
     out.begin_text("strong", at)?;
     out.put(&[Fixed("top "), Number(number)])?;
     let leaves = line.leaves.as_slice();
-    let (word, last) = match leaves.len() {
-        1 => (": leaf", ""),
-        _ => (": a mirror of leaves", ""),
+    let words = if leaves.len() == 1 {
+        ": leaf"
+    } else {
+        ": a mirror of leaves"
     };
-    out.put(&[Fixed(word)])?;
+    out.put(&[Fixed(words)])?;
     for leaf in leaves {
         out.put(&[Fixed(" "), Number(*leaf)])?;
     }
-    out.put(&[Fixed(last)])?;
     if line.unit > 1 {
         out.put(&[Fixed(", units of "), Number(line.unit), Fixed(" sectors")])?;
     }
@@ -218,12 +218,24 @@ fn draw_mark(out: &mut Markup, bar: &Bar, area: Area) -> Result<(), NoMemory> {
 
 fn put_bar_title(out: &mut Markup, bar: &Bar, quoted: &[u8]) -> Result<(), NoMemory> {
     if let Some(name) = bar.name {
-        out.put(&[
-            Fixed("block "),
-            Piece::Outside(name.as_bytes()),
-            Fixed(", "),
-        ])?;
+        put_block(out, &name)?;
     }
+    put_place(out, bar)?;
+    if let Some(freed) = bar.freed {
+        out.put(&[Fixed(", freed in round "), Number(freed)])?;
+    }
+    out.put(&[Fixed("\n"), Piece::Outside(quoted)])
+}
+
+fn put_block(out: &mut Markup, name: &Name) -> Result<(), NoMemory> {
+    out.put(&[
+        Fixed("block "),
+        Piece::Outside(name.as_bytes()),
+        Fixed(", "),
+    ])
+}
+
+fn put_place(out: &mut Markup, bar: &Bar) -> Result<(), NoMemory> {
     out.put(&[
         Fixed(what_of(bar.look)),
         Fixed(": sector "),
@@ -236,11 +248,7 @@ fn put_bar_title(out: &mut Markup, bar: &Bar, quoted: &[u8]) -> Result<(), NoMem
         Number(bar.copy.saturating_add(1)),
         Fixed("\ntaken in round "),
         Number(bar.round),
-    ])?;
-    if let Some(freed) = bar.freed {
-        out.put(&[Fixed(", freed in round "), Number(freed)])?;
-    }
-    out.put(&[Fixed("\n"), Piece::Outside(quoted)])
+    ])
 }
 
 fn what_of(look: Look) -> &'static str {

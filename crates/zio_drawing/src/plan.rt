@@ -4,6 +4,7 @@ use crate::asked::Asking;
 use crate::captions::wrapped;
 use crate::frame::{
     CAPTION_COLUMNS, CAPTION_HEIGHT, HELD_HEIGHT, PANEL_FOOT, PANEL_HEAD, ROW_HEIGHT, STEP_GAP,
+    count,
 };
 use crate::rounds::{Round, Row, Step};
 use std::alloc::Global;
@@ -80,7 +81,7 @@ fn panel_at<'a>(
     y: u32,
     caption: Vec<&'a [u8]>,
 ) -> Result<Panel<'a>, NoMemory> {
-    let caption_height = (caption.len() as u32).saturating_mul(CAPTION_HEIGHT);
+    let caption_height = count(caption.len()).saturating_mul(CAPTION_HEIGHT);
     match step {
         Step::Held(batch) => Ok(Panel {
             step: Step::Held(batch),

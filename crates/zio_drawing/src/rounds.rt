@@ -1,11 +1,11 @@
 //! A report as rounds of a script's requests.
 
 use crate::asked::Asking;
-use crate::fault::{DrawingFault, REPORT_LINES_MAX, ReportFault};
-use crate::told::{Line, Outcome, Plain, RequestLine, read_line};
+use crate::fault::{DrawingFault, ReportFault, fault_at};
+use crate::told::{Line, Outcome, Plain, RequestLine};
 use std::alloc::{AllocError, AllocFailed, Global};
 use zio_report::RoundHead;
-use zio_types::{Entry, Place, ReqNo, TopSize};
+use zio_types::{Entry, Place, ReqNo};
 
 /// The sectors of the largest image.
 pub(crate) const SECTORS_MAX: u64 = 524_288;
@@ -59,68 +59,40 @@ pub(crate) enum Step {
 
 /// A report.
 #[derive(Drop)]
-pub(crate) struct Report<'a> {
+pub(crate) struct Report {
     pub(crate) images: u32,
     pub(crate) steps: Vec<Step>,
     /// The code of its last line, none where it has no such line.
     pub(crate) end: Option<u32>,
-    /// Its lines.
-    pub(crate) lines: Vec<&'a [u8]>,
 }
 
-/// Reads the report of a script on these tops.
-pub(crate) fn read_report<'a>(
+/// What the lines of a report tell of a script that has so many tops.
+pub(crate) fn read_report(
     alloc: Global,
     asking: &Asking<'_>,
-    tops: &[TopSize],
-    text: &'a [u8],
-) -> Result<Report<'a>, DrawingFault> {
-    let lines = lines_of(alloc, text)?;
+    tops: usize,
+    lines: Vec<Line>,
+) -> Result<Report, DrawingFault> {
     let mut reader = Reader {
         images: None,
         steps: Vec::new(alloc),
         open: None,
         end: None,
     };
-    for (at, line) in lines.iter().enumerate() {
-        let told = match read_line(alloc, tops, line)? {
-            Some(told) => told,
-            None => return Err(fault_at(at, ReportFault::Shape)),
-        };
-        if let Err(refusal) = reader.add(alloc, asking, tops.len(), at, told) {
+    for (at, line) in lines.into_iter().enumerate() {
+        if let Err(refusal) = reader.add(alloc, asking, tops, at, line) {
             return Err(refusal.at(at));
         }
     }
     reader.close_round()?;
-    let Some(images) = reader.images else {
-        return Err(fault_at(0, ReportFault::Order));
-    };
-    Ok(Report {
-        images,
-        steps: reader.steps,
-        end: reader.end,
-        lines,
-    })
-}
-
-// The lines of a report; a last one may be without its newline.
-fn lines_of(alloc: Global, text: &[u8]) -> Result<Vec<&[u8]>, DrawingFault> {
-    let mut lines = Vec::new(alloc);
-    for line in text.split(|c| *c == b'\n') {
-        if lines.len() > REPORT_LINES_MAX {
-            return Err(DrawingFault::TooLong);
-        }
-        lines.push(line)?;
+    match reader.images {
+        Some(images) => Ok(Report {
+            images,
+            steps: reader.steps,
+            end: reader.end,
+        }),
+        None => Err(fault_at(0, ReportFault::Order)),
     }
-    if lines.last().is_some_and(|line| line.is_empty()) {
-        let _ = lines.pop();
-    }
-    Ok(lines)
-}
-
-fn fault_at(at: usize, why: ReportFault) -> DrawingFault {
-    let line = u32::try_from(at).unwrap_or(u32::MAX).saturating_add(1);
-    DrawingFault::Report(line, why)
 }
 
 /// Why a line isn't taken.

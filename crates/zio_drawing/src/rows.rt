@@ -3,7 +3,7 @@
 use crate::asked::{Asked, Asking};
 use crate::frame::{
     ATTEMPTS_X, Area, CAPTION_HEIGHT, CHAR_WIDTH, ENDED_X, INDENT, LINE_WIDTH, PANEL_HEAD,
-    PANEL_WIDTH, PANEL_X, Point, RESULT_WIDTH, RESULT_X, ROW_HEIGHT,
+    PANEL_WIDTH, PANEL_X, Point, RESULT_WIDTH, RESULT_X, ROW_HEIGHT, count,
 };
 use crate::markup::{Markup, Piece};
 use crate::plan::Panel;
@@ -56,7 +56,7 @@ pub(crate) fn draw_panel(
             for row in round.rows.as_slice() {
                 if let Some(asked) = asking.get(row.asked) {
                     draw_branch(out, round, row, asked)?;
-                    draw_row(out, lines, row, asked)?;
+                    draw_row(out, asking, lines, row, asked)?;
                 }
             }
             Ok(())
@@ -120,17 +120,12 @@ fn draw_caption(out: &mut Markup, panel: &Panel<'_>) -> Result<(), NoMemory> {
 }
 
 // Where a request's line begins.
-fn row_x(asked: &Asked<'_>) -> u32 {
+fn row_x(asked: &Asked) -> u32 {
     (PANEL_X + 12).saturating_add(asked.depth.saturating_mul(INDENT))
 }
 
 // From the parent's row, if that is in the round, to this one.
-fn draw_branch(
-    out: &mut Markup,
-    round: &Round,
-    row: &Row,
-    asked: &Asked<'_>,
-) -> Result<(), NoMemory> {
+fn draw_branch(out: &mut Markup, round: &Round, row: &Row, asked: &Asked) -> Result<(), NoMemory> {
     let Some(parent) = asked
         .under
         .and_then(|under| round.find(under))
@@ -157,12 +152,16 @@ fn draw_branch(
 
 fn draw_row(
     out: &mut Markup,
+    asking: &Asking<'_>,
     lines: &[&[u8]],
     row: &Row,
-    asked: &Asked<'_>,
+    asked: &Asked,
 ) -> Result<(), NoMemory> {
+    let text = asking.line_of(asked);
     out.begin_title()?;
-    put_row_title(out, lines, row, asked)?;
+    put_script_line(out, asked, text)?;
+    put_report_line(out, lines, row)?;
+    put_row_numbers(out, row)?;
     out.end_title()?;
     let x = row_x(asked);
     let room = (PANEL_X + LINE_WIDTH).saturating_sub(x) / CHAR_WIDTH;
@@ -171,7 +170,7 @@ fn draw_row(
         y: row.y.saturating_add(16),
     };
     out.begin_text("code", at)?;
-    put_front(out, asked.text, room as usize)?;
+    put_front(out, text, room as usize)?;
     out.end_text()?;
     draw_result(out, row)?;
     draw_attempts(out, row)?;
@@ -190,25 +189,25 @@ fn put_front(out: &mut Markup, text: &[u8], len: usize) -> Result<(), NoMemory> 
     }
 }
 
-fn put_row_title(
-    out: &mut Markup,
-    lines: &[&[u8]],
-    row: &Row,
-    asked: &Asked<'_>,
-) -> Result<(), NoMemory> {
-    out.put(&[
-        Fixed("line "),
-        Number(asked.line),
-        Fixed(" of the script: "),
-    ])?;
-    put_front(out, asked.text, QUOTED_MAX)?;
-    if let Some(line) = lines.get(row.line) {
-        out.put(&[Fixed("\nin the report: ")])?;
-        put_front(out, line, QUOTED_MAX)?;
-    }
+fn put_script_line(out: &mut Markup, asked: &Asked, text: &[u8]) -> Result<(), NoMemory> {
+    let number = count(asked.line).saturating_add(1);
+    out.put(&[Fixed("line "), Number(number), Fixed(" of the script: ")])?;
+    put_front(out, text, QUOTED_MAX)
+}
+
+fn put_report_line(out: &mut Markup, lines: &[&[u8]], row: &Row) -> Result<(), NoMemory> {
+    let Some(line) = lines.get(row.line) else {
+        return Ok(());
+    };
+    let number = count(row.line).saturating_add(1);
+    out.put(&[Fixed("\nline "), Number(number), Fixed(" of the report: ")])?;
+    put_front(out, line, QUOTED_MAX)
+}
+
+fn put_row_numbers(out: &mut Markup, row: &Row) -> Result<(), NoMemory> {
     if row.attempts > 0 {
         out.put(&[
-            Fixed("\nattempts with asks for places: "),
+            Fixed("\nattempts that asked for places: "),
             Number(row.attempts),
         ])?;
     }

@@ -26,7 +26,7 @@ text { font-family: "DejaVu Sans", "Segoe UI", Helvetica, Arial, sans-serif; fon
 .cross { stroke: #8c1c13; stroke-width: 1.5; fill: none; }
 .again { fill: #fff; stroke: #333; }
 .last { fill: #333; stroke: #333; }
-.map { fill: #fff; stroke: #8a8a8a; }
+.map { fill: none; stroke: #8a8a8a; }
 .tick { stroke: #bbb; }
 .band { fill: #f0f0ee; }
 .life { opacity: 0.4; }

@@ -3,7 +3,8 @@
 ghost use Rattle.std.specs.Prelude.{◌≡◌, ◌++◌, IfOk, IfSome, IsTrue, OnOk, string_bytes, true};
 ghost use Rattle.std.specs.List.{list_all};
 ghost use Rattle.zio_types.specs.Places.{is_lawful_top};
-ghost use Rattle.zio_drawing.specs.Told.{IsLine, IsPlainLine, MayFollow, outcome_text, plain_text};
+ghost use Rattle.zio_report.specs.Lines.{errno_text, kind_text, name_text};
+ghost use Rattle.zio_drawing.specs.Told.{IsLine, IsPlainLine, follows_outcome, head_words, may_follow, outcome_words, plain_words, request_words, suits};
 
 use std::alloc::{AllocError, Global};
 use std::str;
@@ -50,62 +51,116 @@ pub(crate) enum Outcome {
     Read { size: u32, sums: [u64; 4] },
 }
 
-/// What the line of a report says, none where it isn't one. An entry has round 0, which its line doesn't tell.
+/// What the line of a report tells, none where it is no such line. An entry has round 0, which its line doesn't tell.
 pub(crate) fn read_line(
     alloc: Global,
     tops: &[TopSize],
     line: &[u8],
-) -> Result<Option<Line>, NoMemory> {
-    let words = Words::of(line);
+) -> Result<Option<Line>, NoMemory>
+    requires { list_all is_lawful_top tops.now ≡ true }
+    ensures { IfOk result (λ told. IfSome told (IsLine tops.now line.now)) }
+{
+    let words = words_of(alloc, line)?;
     match words.as_slice() {
-        [b"take", ..] => Ok(take_line(tops, 0, line).map(Line::Take)),
-        [b"order", ..] => Ok(order_line(alloc, line)?.map(Line::Order)),
-        words => plain_line(alloc, line, words),
+        [b"take", ..] => match take_line(tops, 0, line) {
+            Some(entry) => Ok(Some(Line::Take(entry))),
+            None => Ok(None),
+        },
+        [b"order", ..] => match order_line(alloc, line)? {
+            Some(numbers) => Ok(Some(Line::Order(numbers))),
+            None => Ok(None),
+        },
+        words => match plain_line(alloc, line, words)? {
+            Some(plain) => Ok(Some(Line::Plain(plain))),
+            None => Ok(None),
+        },
     }
 }
 
-fn plain_line(alloc: Global, line: &[u8], words: &[&[u8]]) -> Result<Option<Line>, NoMemory> {
+// The line that these words seem to be, where it is that line.
+fn plain_line(alloc: Global, line: &[u8], words: &[&[u8]]) -> Result<Option<Plain>, NoMemory>
+    ensures { IfOk result (λ told. IfSome told (IsPlainLine line.now)) }
+{
     let Some(plain) = plain_in(words) else {
         return Ok(None);
     };
     let text = plain_text(alloc, &plain)?;
-    match line.strip_prefix(text.as_bytes()) {
-        Some(tail) if may_follow(&plain, tail) => Ok(Some(Line::Plain(plain))),
-        _ => Ok(None),
+    if is_line(line, text.as_bytes(), &plain) {
+        Ok(Some(plain))
+    } else {
+        Ok(None)
     }
 }
 
-// Behind the sums of a read its bytes may stand.
-fn may_follow(plain: &Plain, tail: &[u8]) -> bool {
-    if tail.is_empty() {
-        return true;
-    }
+// The line is this text, and what may stand behind it.
+fn is_line(line: &[u8], text: &[u8], plain: &Plain) -> bool
+    ensures { IsTrue result → text.now ≡ plain_words plain.now → IsPlainLine line.now plain.now }
+{
+    let Some(tail) = line.get(text.len()..) else {
+        return false;
+    };
+    &line[..text.len()] == text && may_follow(plain, tail)
+}
+
+fn may_follow(plain: &Plain, tail: &[u8]) -> bool
+    ensures { result ≡ may_follow plain.now tail.now }
+{
     match plain {
-        Plain::Request(
-            RequestLine {
-                outcome: Outcome::Read { .. },
-                ..
-            },
-        ) => tail.starts_with(b" data "),
-        _ => false,
+        Plain::Request(line) => {
+            suits(line.kind, &line.outcome) && follows_outcome(&line.outcome, tail)
+        }
+        Plain::Pool { .. } | Plain::Round(_) | Plain::Held(_) | Plain::End(_) => tail.is_empty(),
+    }
+}
+
+// Only a write tells a size alone, and only a read its sums.
+fn suits(kind: Kind, outcome: &Outcome) -> bool
+    ensures { result ≡ suits kind outcome.now }
+{
+    match outcome {
+        Outcome::Suspended | Outcome::Failed(_) => true,
+        Outcome::Done => kind != Kind::Read && kind != Kind::Write,
+        Outcome::Sized(_) => kind == Kind::Write,
+        Outcome::Read { .. } => kind == Kind::Read,
+    }
+}
+
+fn follows_outcome(outcome: &Outcome, tail: &[u8]) -> bool
+    ensures { result ≡ follows_outcome outcome.now tail.now }
+{
+    match outcome {
+        Outcome::Read { .. } => tail.is_empty() || tail.starts_with(b" data "),
+        Outcome::Suspended | Outcome::Failed(_) | Outcome::Done | Outcome::Sized(_) => {
+            tail.is_empty()
+        }
     }
 }
 
 // ---- printing
 
-fn plain_text(alloc: Global, plain: &Plain) -> Result<String, AllocError> {
+fn plain_text(alloc: Global, plain: &Plain) -> Result<String, AllocError>
+    ensures { IfOk result (λ text. string_bytes text ≡ plain_words plain.now) }
+{
     let mut text = String::new(alloc);
-    match plain {
-        Plain::Pool { tops, images } => write!(text, "pool {tops} {images}")?,
-        Plain::Round(head) => push_head(&mut text, head)?,
-        Plain::Request(line) => push_request(&mut text, line)?,
-        Plain::Held(batch) => write!(text, "held {batch}")?,
-        Plain::End(code) => write!(text, "end {code}")?,
-    }
+    push_plain(&mut text, plain)?;
     Ok(text)
 }
 
-fn push_head(text: &mut String, head: &RoundHead) -> Result<(), AllocError> {
+fn push_plain(text: &mut String, plain: &Plain) -> Result<(), AllocError>
+    ensures { OnOk result (string_bytes text.new ≡ string_bytes text.old ++ plain_words plain.now) }
+{
+    match plain {
+        Plain::Pool { tops, images } => write!(text, "pool {tops} {images}"),
+        Plain::Round(head) => push_head(text, head),
+        Plain::Request(line) => push_request(text, line),
+        Plain::Held(batch) => write!(text, "held {batch}"),
+        Plain::End(code) => write!(text, "end {code}"),
+    }
+}
+
+fn push_head(text: &mut String, head: &RoundHead) -> Result<(), AllocError>
+    ensures { OnOk result (string_bytes text.new ≡ string_bytes text.old ++ head_words head.now) }
+{
     let RoundHead {
         round,
         batch,
@@ -117,22 +172,35 @@ fn push_head(text: &mut String, head: &RoundHead) -> Result<(), AllocError> {
     }
 }
 
-fn push_request(text: &mut String, line: &RequestLine) -> Result<(), AllocError> {
+fn push_request(text: &mut String, line: &RequestLine) -> Result<(), AllocError>
+    ensures { OnOk result (string_bytes text.new ≡ string_bytes text.old ++ request_words line.now) }
+{
     write!(text, "{} {}", line.number, kind_word(line.kind))?;
-    if let Some(name) = &line.name {
-        push_name(text, name)?;
-    }
+    push_name(text, &line.name)?;
     push_outcome(text, &line.outcome)
 }
 
-fn push_name(text: &mut String, name: &Name) -> Result<(), AllocError> {
+fn push_name(text: &mut String, name: &Option<Name>) -> Result<(), AllocError>
+    ensures { OnOk result (string_bytes text.new ≡ string_bytes text.old ++ name_text name.now) }
+{
+    match name {
+        None => Ok(()),
+        Some(name) => push_name_word(text, name),
+    }
+}
+
+fn push_name_word(text: &mut String, name: &Name) -> Result<(), AllocError>
+    ensures { OnOk result (string_bytes text.new ≡ string_bytes text.old ++ name_text (Some name.now)) }
+{
     match str::from_utf8(name.as_bytes()) {
         Ok(word) => write!(text, " {word}"),
         Err(_) => Err(AllocError),
     }
 }
 
-fn push_outcome(text: &mut String, outcome: &Outcome) -> Result<(), AllocError> {
+fn push_outcome(text: &mut String, outcome: &Outcome) -> Result<(), AllocError>
+    ensures { OnOk result (string_bytes text.new ≡ string_bytes text.old ++ outcome_words outcome.now) }
+{
     match outcome {
         Outcome::Suspended => text.push_str(" suspended"),
         Outcome::Failed(error) => write!(text, " {}", errno_word(*error)),
@@ -145,7 +213,9 @@ fn push_outcome(text: &mut String, outcome: &Outcome) -> Result<(), AllocError> 
     }
 }
 
-pub(crate) fn kind_word(kind: Kind) -> &'static str {
+fn kind_word(kind: Kind) -> &'static str
+    ensures { result.now ≡ kind_text kind }
+{
     match kind {
         Kind::Null => "null",
         Kind::Read => "read",
@@ -155,7 +225,10 @@ pub(crate) fn kind_word(kind: Kind) -> &'static str {
     }
 }
 
-pub(crate) fn errno_word(error: Errno) -> &'static str {
+/// The name of an error.
+pub(crate) fn errno_word(error: Errno) -> &'static str
+    ensures { result.now ≡ errno_text error }
+{
     match error {
         Errno::Nxio => "ENXIO",
         Errno::Cksum => "ECKSUM",
@@ -173,32 +246,12 @@ pub(crate) fn errno_word(error: Errno) -> &'static str {
 const WORDS_MAX: usize = 8;
 
 // The first words of a line, parted by blanks.
-#[derive(Clone, Copy)]
-struct Words<'a> {
-    words: [&'a [u8]; WORDS_MAX],
-    count: usize,
-}
-
-impl<'a> Words<'a> {
-    fn of(line: &'a [u8]) -> Words<'a> {
-        let mut words: [&'a [u8]; WORDS_MAX] = [&[]; WORDS_MAX];
-        let mut count = 0;
-        for word in line.split(|c| *c == b' ') {
-            if count == WORDS_MAX {
-                break;
-            }
-            words[count] = word;
-            count += 1;
-        }
-        Words { words, count }
+fn words_of(alloc: Global, line: &[u8]) -> Result<Vec<&[u8]>, NoMemory> {
+    let mut words = Vec::new(alloc);
+    for word in line.split(|c| *c == b' ').take(WORDS_MAX) {
+        words.push(word)?;
     }
-
-    fn as_slice(&self) -> &[&'a [u8]] {
-        match self.words.get(..self.count) {
-            Some(words) => words,
-            None => &[],
-        }
-    }
+    Ok(words)
 }
 
 fn plain_in(words: &[&[u8]]) -> Option<Plain> {
@@ -291,14 +344,14 @@ fn number_in(word: &[u8]) -> Option<u32> {
 
 // Four numbers in hexadecimal, parted by colons.
 fn sums_in(word: &[u8]) -> Option<[u64; 4]> {
-    let mut sums = [0; 4];
-    let mut count = 0;
-    for digits in word.split(|c| *c == b':') {
-        if count == 4 {
-            return None;
-        }
-        sums[count] = u64::from_str_radix(str::from_utf8(digits).ok()?, 16).ok()?;
-        count += 1;
-    }
-    Some(sums)
+    let mut parts = word.split(|c| *c == b':');
+    let a = sum_in(parts.next()?)?;
+    let b = sum_in(parts.next()?)?;
+    let c = sum_in(parts.next()?)?;
+    let d = sum_in(parts.next()?)?;
+    Some([a, b, c, d])
+}
+
+fn sum_in(digits: &[u8]) -> Option<u64> {
+    u64::from_str_radix(str::from_utf8(digits).ok()?, 16).ok()
 }

@@ -96,10 +96,11 @@ fn plain_line(alloc: Global, line: &[u8], words: &[&[u8]]) -> Result<Option<Plai
 fn is_line(line: &[u8], text: &[u8], plain: &Plain) -> bool
     ensures { IsTrue result → text.now ≡ plain_words plain.now → IsPlainLine line.now plain.now }
 {
-    let Some(tail) = line.get(text.len()..) else {
+    if line.len() < text.len() {
         return false;
-    };
-    &line[..text.len()] == text && may_follow(plain, tail)
+    }
+    let (front, tail) = line.split_at(text.len());
+    front == text && may_follow(plain, tail)
 }
 
 fn may_follow(plain: &Plain, tail: &[u8]) -> bool

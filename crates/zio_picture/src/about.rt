@@ -1,5 +1,6 @@
 //! The words of the program, and its answers to questions about itself.
-ghost use Rattle.std.specs.Prelude.{◌≡◌, map, string_bytes};
+ghost use Rattle.std.specs.Prelude.{◌≡◌, bytes_eq, codes, map, option_map, string_bytes};
+ghost use Rattle.zio_picture.specs.Commands.{asked_by, asked_by_word, drawn_by, files_by, files_of, is_file};
 
 use clap::{Arg, ArgAction, Command as Program};
 use std::alloc::{AllocError, Global};
@@ -45,32 +46,19 @@ pub struct Drawn<'a> {
     pub report: &'a str,
 }
 
-/// What the words are for.
-#[derive(Clone, Copy)]
-pub enum Command<'a> {
-    Ask(Question),
-    Draw(Drawn<'a>),
-}
-
-/// The command that these words are, none where they aren't one.
-pub fn command_of(words: &[String]) -> Option<Command<'_>> {
+/// The question that these words are, none where they are for a picture.
+pub fn asked(words: &[String]) -> Option<Question>
+    ensures { result ≡ asked_by (map string_bytes words.now) }
+{
     match words {
-        [word] => Some(Command::Ask(asked_by(word.as_str())?)),
-        [script, report] => Some(Command::Draw(Drawn {
-            form: Form::Svg,
-            script: name_in(script.as_str())?,
-            report: name_in(report.as_str())?,
-        })),
-        [option, script, report] if option.as_str() == "--html" => Some(Command::Draw(Drawn {
-            form: Form::Html,
-            script: name_in(script.as_str())?,
-            report: name_in(report.as_str())?,
-        })),
+        [word] => asked_by_word(word.as_str()),
         _ => None,
     }
 }
 
-fn asked_by(word: &str) -> Option<Question> {
+fn asked_by_word(word: &str) -> Option<Question>
+    ensures { result ≡ asked_by_word word.now }
+{
     if word == "--help" || word == "-h" {
         Some(Question::Help)
     } else if word == "--version" {
@@ -80,12 +68,45 @@ fn asked_by(word: &str) -> Option<Question> {
     }
 }
 
-// A file's name isn't empty and doesn't begin as an option does.
-fn name_in(word: &str) -> Option<&str> {
-    if word.is_empty() || word.starts_with('-') {
-        None
+/// What these words ask to be drawn, none where they are no command.
+pub fn to_draw(words: &[String]) -> Option<Drawn<'_>>
+    ensures { option_map files_of result ≡ drawn_by (map string_bytes words.now) }
+{
+    match words {
+        [script, report] => files_by(Form::Svg, script.as_str(), report.as_str()),
+        [option, script, report] if is_html(option.as_str()) => {
+            files_by(Form::Html, script.as_str(), report.as_str())
+        }
+        _ => None,
+    }
+}
+
+fn is_html(word: &str) -> bool
+    ensures { result ≡ bytes_eq word.now (codes "--html") }
+{
+    word == "--html"
+}
+
+fn files_by<'a>(form: Form, script: &'a str, report: &'a str) -> Option<Drawn<'a>>
+    ensures { option_map files_of result ≡ files_by form script.now report.now }
+{
+    if is_file(script.as_bytes()) && is_file(report.as_bytes()) {
+        Some(Drawn {
+            form,
+            script,
+            report,
+        })
     } else {
-        Some(word)
+        None
+    }
+}
+
+fn is_file(word: &[u8]) -> bool
+    ensures { result ≡ is_file word.now }
+{
+    match word {
+        [] => false,
+        [first, ..] => *first != b'-',
     }
 }
 

@@ -8,7 +8,7 @@
 mod about;
 mod told;
 
-use about::{Command, Drawn, command_of, text_of};
+use about::{Drawn, asked, text_of, to_draw};
 use std::alloc::AllocError;
 use std::fs::File;
 use std::io::{ErrorKind, Read};
@@ -39,13 +39,15 @@ fn stand_in(rt: &HostRuntime) -> Option<File> {
 
 fn answer(rt: &HostRuntime) -> Result<(), Refusal> {
     let words = words(rt).map_err(|_| Refusal::Memory)?;
-    match command_of(words.as_slice()) {
-        None => Err(Refusal::Words),
-        Some(Command::Ask(question)) => {
+    match asked(words.as_slice()) {
+        Some(question) => {
             let text = text_of(rt.alloc(), question).map_err(|_| Refusal::Memory)?;
             write(rt, text.as_bytes())
         }
-        Some(Command::Draw(drawn)) => run(rt, &drawn),
+        None => match to_draw(words.as_slice()) {
+            Some(files) => run(rt, &files),
+            None => Err(Refusal::Words),
+        },
     }
 }
 
@@ -59,13 +61,13 @@ fn words(rt: &HostRuntime) -> Result<Vec<String>, AllocError> {
     }
 }
 
-fn run(rt: &HostRuntime, drawn: &Drawn<'_>) -> Result<(), Refusal> {
-    let script = input(rt, drawn.script, SCRIPT_LEN_MAX).map_err(|_| Refusal::Script)?;
-    let report = input(rt, drawn.report, REPORT_LEN_MAX).map_err(|_| Refusal::Report)?;
+fn run(rt: &HostRuntime, files: &Drawn<'_>) -> Result<(), Refusal> {
+    let script = input(rt, files.script, SCRIPT_LEN_MAX).map_err(|_| Refusal::Script)?;
+    let report = input(rt, files.report, REPORT_LEN_MAX).map_err(|_| Refusal::Report)?;
     if report.len() > REPORT_LEN_MAX {
         return Err(Refusal::Drawing(DrawingFault::TooLong));
     }
-    match draw(rt.alloc(), drawn.form, script.as_slice(), report.as_slice()) {
+    match draw(rt.alloc(), files.form, script.as_slice(), report.as_slice()) {
         Ok(picture) => write(rt, picture.as_bytes()),
         Err(fault) => Err(Refusal::Drawing(fault)),
     }

@@ -8,8 +8,11 @@ use Rattle.zio_drawing.specs.Laws.{is_datum, is_markup}
 
 -- a test that holds of what either branch gives
 by_branch : (p : List ℕ → Bool) (v b : Bool) (x y : List ℕ) → (b ≡ true → p x ≡ v) → (b ≡ false → p y ≡ v) → p (cond b x y) ≡ v
-by_branch p v true x y yes no = yes refl
-by_branch p v false x y yes no = no refl
+by_branch p v b x y =
+    elim b as (λ c. (c ≡ true → p x ≡ v) → (c ≡ false → p y ≡ v) → p (cond c x y) ≡ v) [
+      | true ↦ λ yes no. yes refl
+      | false ↦ λ yes no. no refl
+    ]
 
 pub datum : (c : ℕ) → is_datum (escape_of c) ≡ true
 datum c =

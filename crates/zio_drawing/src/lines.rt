@@ -36,10 +36,10 @@ pub(crate) fn read_lines(
     ensures { IfOk result (λ told. AllZip (IsLine tops.now) (map (λ line. line.now) lines.now) told.items) }
 {
     let mut told = Vec::new(alloc);
-    for (at, line) in lines.iter().enumerate() {
+    for line in lines {
         match read_line(alloc, tops, line)? {
             Some(line) => told.push(line)?,
-            None => return Err(fault_at(at, ReportFault::Shape)),
+            None => return Err(fault_at(told.len(), ReportFault::Shape)),
         }
     }
     Ok(told)

@@ -19,7 +19,7 @@ use Rattle.zio_stages.specs.Tops.{AreTops, IsTop}
 use Rattle.zio_turns.specs.AtLeaves.{keys_at, no_waits}
 use Rattle.zio_turns.specs.Grounds.{AreReady}
 use Rattle.zio_turns.specs.Ledgers.{AreOnce}
-use Rattle.zio_turns.specs.UnderTurns.{AreShort}
+use Rattle.zio_turns.specs.ShortTops.{AreShort}
 use Rattle.zio_turns.specs.declared.desk.Asked.TheVariants.{Nothing}
 use Rattle.zio_turns.specs.declared.grounds.Grounds.{Grounds}
 use Rattle.zio_turns.proofs.KeyTimes.{none_wait}

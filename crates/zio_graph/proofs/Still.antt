@@ -45,7 +45,7 @@ use Rattle.zio_turns.specs.declared.trees.TreeState.{TreeState}
 use Rattle.zio_turns.proofs.OpenCounts.{found_inside}
 use Rattle.zio_turns.proofs.PlaceTotals.{totals_moved}
 use Rattle.zio_turns.proofs.RoundOver.{found_once}
-use Rattle.zio_turns.specs.UnderTurns.{AreShort}
+use Rattle.zio_turns.specs.ShortTops.{AreShort}
 use Rattle.zio_graph.specs.Jobs.{size_at}
 use Rattle.zio_graph.specs.SteadyGrounds.{IsSteadyGrounds, terms_on}
 use Rattle.zio_graph.specs.WholeRounds.{HasEnded}

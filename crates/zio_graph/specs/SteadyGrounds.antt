@@ -14,7 +14,7 @@ use Rattle.zio_course.specs.Runners.{Standing}
 use Rattle.zio_turns.specs.AtLeaves.{keys_at}
 use Rattle.zio_turns.specs.Grounds.{AreReady}
 use Rattle.zio_turns.specs.Ledgers.{AreOnce}
-use Rattle.zio_turns.specs.UnderTurns.{AreShort}
+use Rattle.zio_turns.specs.ShortTops.{AreShort}
 use Rattle.zio_turns.specs.declared.desk.Asked.TheVariants.{Nothing}
 use Rattle.zio_turns.specs.declared.grounds.Grounds.{Grounds}
 

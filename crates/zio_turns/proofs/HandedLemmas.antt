@@ -12,8 +12,7 @@ use Rattle.zio_groups.specs.declared.waiting.QueuedOp.{QueuedOp}
 use Rattle.zio_trace.specs.Leaves.{Answer, Fetch, LeafOp, LiesOn, Store, answer_of, spot_of}
 use Rattle.zio_turns.specs.Stages.{ShowsAnswer}
 use Rattle.zio_stages.specs.LeafWorks.{IsOpAt, IsOpFor}
-use Rattle.zio_turns.specs.Rounds.{EndsWithTops}
-use Rattle.zio_turns.specs.UnderTurns.{AreShort}
+use Rattle.zio_turns.specs.ShortTops.{AreShort, EndsWithTops}
 use Rattle.zio_turns.specs.AtLeaves.{WaitForAll, WaitsFor, keyed, put_as}
 
 ends_at : (sizes : ℕ → ℕ) (write retry : Bool) (spot : Spot) (op : Op) (leaf : ℕ) → IsOpAt write retry spot op leaf

@@ -37,7 +37,7 @@ use Rattle.zio_frames.specs.Frames.{Flying, flight_at, flights_of, fresh_frame, 
 use Rattle.zio_frames.specs.Running.{IsRunning}
 use Rattle.zio_frames.specs.Slots.{Slot}
 use Rattle.zio_frames.proofs.Moved.{Goes, in_flight}
-use Rattle.zio_turns.specs.Rounds.{EndsWithTops}
+use Rattle.zio_turns.specs.ShortTops.{EndsWithTops}
 
 -- it has some bytes, and ends with the tops
 abbrev pub HasSpan : List Top → Spot → Type 0

@@ -1,13 +1,11 @@
 -- A round that an engine's values keep, and what its calls leave of it.
-use Rattle.std.specs.Prelude.{◌≡◌, ℕ, ◌+◌, ◌*◌, ◌<◌, ◌≤◌, List, [], ◌∷◌, ◌++◌, length, slice_get, slice_set, Bool, false, cond, Option, Some, Contains, IfSome}
-use Rattle.std.specs.List.{AllByRecursion}
+use Rattle.std.specs.Prelude.{◌≡◌, ℕ, ◌<◌, List, [], ◌∷◌, ◌++◌, length, slice_get, slice_set, Bool, false, cond, Option, Some, Contains, IfSome}
 use Rattle.zio_types.specs.declared.error.Errno.{Errno}
 use Rattle.zio_types.specs.declared.place.Place.{Place}
 use Rattle.zio_types.specs.declared.place.Top.{Top}
 use Rattle.zio_types.specs.declared.request.ChildKind.TheVariants.{Logical}
 use Rattle.zio_types.specs.Choices.{Choice}
-use Rattle.zio_types.specs.Places.{sector_size}
-use Rattle.zio_cksum.specs.Images.{Images, Spot}
+use Rattle.zio_cksum.specs.Images.{Images}
 use Rattle.zio_gang.specs.Attempts.{Ended, Terms}
 use Rattle.zio_gang.specs.Journals.{AreLawful}
 use Rattle.zio_gang.specs.Trees.{sizes_of}
@@ -39,6 +37,7 @@ use Rattle.zio_turns.specs.Entries.{Live, OneMore, all_tops, flying_at, handed_o
 use Rattle.zio_turns.specs.Acts.{IsHandedOn}
 use Rattle.zio_turns.specs.Ledgers.{AreToldAs, Books, Ending, IsLedger, no_books}
 use Rattle.zio_turns.specs.Parts.{Nodes, ended_by, ended_in}
+use Rattle.zio_turns.specs.ShortTops.{EndsWithTops}
 use Rattle.zio_turns.specs.Sizes.{HasAskedSize}
 use Rattle.zio_turns.specs.Slabs.{AreAll, AreNumbered, shelf_of}
 use Rattle.zio_turns.specs.Stages.{ShowsAnswer}
@@ -178,10 +177,6 @@ ClaimsAlone {N = N} nodes tops calls slab line key =
     Contains calls (Claimed places free) → HasClaim f × (s.entries ≡ [])
 
 -- ---- what a stage leaves
-
--- it ends where the longest of the tops does, or before
-abbrev pub EndsWithTops : List Top → Spot → Type 0
-EndsWithTops tops spot = (most : ℕ) → AllByRecursion (λ (top : Top). top.sectors ≤ most) tops → spot.at + spot.span ≤ most * sector_size
 
 -- its operation goes to a leaf, is on some of it, and ends with the tops
 pub record GoesOut {N : Type 0} (nodes : Nodes N) (t : Terms) (sizes : ℕ → ℕ) (f : Forest) (before : Before) (s : SoFar)

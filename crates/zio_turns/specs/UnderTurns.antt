@@ -30,6 +30,7 @@ use Rattle.zio_turns.specs.Grounds.{AreReady}
 use Rattle.zio_turns.specs.Ledgers.{AreToldAs, Ending}
 use Rattle.zio_turns.specs.Parts.{Nodes}
 use Rattle.zio_turns.specs.Rounds.{Before, EndsAs, KeepsRound, KeepsSome, SoFar, finished_in, with_done, with_images, with_tree}
+use Rattle.zio_turns.specs.ShortTops.{AreShort}
 use Rattle.zio_turns.specs.Sizes.{HasAskedSize}
 use Rattle.zio_turns.specs.Slabs.{load}
 use Rattle.zio_turns.specs.Stages.{OutcomeIn, ShowsAnswer}
@@ -49,10 +50,6 @@ TellNow image (Some before) disks images = Tell image disks images
 -- no leaf is larger than its disk
 abbrev pub FitDisks : (ℕ → ℕ) → List ℕ → Type 0
 FitDisks sizes disks = (leaf : ℕ) → sizes leaf ≤ slice_index_or disks leaf 0
-
--- a queue can take what lies on these tops
-abbrev pub AreShort : List Top → Type 0
-AreShort tops = AllByRecursion (λ (top : Top). top.sectors ≤ 2 ^ 39) tops
 
 -- What is lent is the round's: its space, with these entries, and with these places claimed and given back; at the leaves the
 -- operations of the round, by their keys; and the disks, which tell these images.

@@ -1,6 +1,5 @@
 -- The engine on one thread, as contracts see it.
-use Rattle.std.specs.Prelude.{ℕ, ◌≤◌, ◌^◌, List, map, Bool}
-use Rattle.std.specs.List.{AllByRecursion}
+use Rattle.std.specs.Prelude.{ℕ, List, map, Bool}
 use Rattle.zio_types.specs.declared.place.Place.{Place}
 use Rattle.zio_cksum.specs.Images.{Setting}
 use Rattle.zio_trace.specs.Separate.{LeavesOnce}

@@ -71,7 +71,7 @@ module _ {N : Type 0} (nodes : Nodes N) (owns : GivesOwn {N = N} nodes) (over : 
       let r = it_is_there nodes t sizes f before s slab (key ∷ line) leaves key e k is in
       let g = moves t r.node.stack (record { tops_are = tops_are; is = r.is; seated = r.seated }) in
       let span = one_spans nodes t sizes f before s.trees s.tops (shelf_of {N = N} slab) (key ∷ line) leaves r.state key r.node r.others
-          g.act sound r.kept g.fresh in (
+      g.act sound r.kept g.fresh in (
         g.act,
         g.is_op,
         record {

@@ -126,7 +126,17 @@ fn run_to_end<N: Staged, D: Disk + Drop, P: Picks>(
         &mut turns, grounds, picks, round, failmode, &mut trees, &mut ended,
     ) {
         Ok(()) => Ok(TreesEnd { trees, ended }),
-        Err(DiskStop::Device) => Err(Stop::Device),
-        Err(DiskStop::Memory) => Err(Stop::Memory),
+        Err(stop) => Err(stop_of(stop)),
+    }
+}
+
+/// The same reason, as a runner tells it.
+fn stop_of(stop: DiskStop) -> Stop
+    ensures device { result ≡ Stop.Device → stop ≡ DiskStop.Device }
+    ensures memory { result ≡ Stop.Memory → stop ≡ DiskStop.Memory }
+{
+    match stop {
+        DiskStop::Device => Stop::Device,
+        DiskStop::Memory => Stop::Memory,
     }
 }

@@ -20,7 +20,8 @@ use Rattle.zio_stages.proofs.SplitLemmas.{reverse_first}
 use Rattle.zio_stages.specs.RequestOwns.{IsBlockOn}
 use Rattle.zio_stages.specs.Wholes.{joined}
 use Rattle.zio_stages.specs.WrittenBlocks.{IsSoundWrite}
-use Rattle.zio_stages.specs.Closings.{Again, Closed, Finished}
+use Rattle.zio_stages.specs.declared.request_node.Closed.{Closed}
+use Rattle.zio_stages.specs.declared.request_node.Closed.TheVariants.{Again, Finished}
 use Rattle.zio_stages.specs.declared.request_node.RequestNode.{RequestNode}
 use Rattle.zio_stages.specs.declared.waiting.UnfinishedRequest.{UnfinishedRequest}
 use Rattle.zio_stages.specs.Closings.{outcome_of}

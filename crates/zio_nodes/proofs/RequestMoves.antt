@@ -18,7 +18,7 @@ use Rattle.zio_stages.specs.OwnParts.{DoesThen, HandsTo, IsOwed}
 use Rattle.zio_stages.specs.RequestNodes.{Closes, IsRequestNode}
 use Rattle.zio_stages.specs.SpaceCalls.{SpaceCall, calls_back, calls_by}
 use Rattle.zio_stages.specs.declared.outcome.Outcome.{Outcome}
-use Rattle.zio_stages.specs.Closings.{Closed}
+use Rattle.zio_stages.specs.declared.request_node.Closed.{Closed}
 use Rattle.zio_stages.specs.declared.request_node.RequestNode.{RequestNode}
 use Rattle.zio_turns.specs.Parts.{ended_in_slot}
 use Rattle.zio_turns.specs.Stages.{Ends, GoesOn, Grows, Tells, Waits}

@@ -19,7 +19,8 @@ use Rattle.zio_stages.specs.RequestWrites.{IsWriteWith, IsWrittenWrite}
 use Rattle.zio_stages.specs.StoredBlocks.{IsGoingBack, IsStoredOwn, block_places}
 use Rattle.zio_stages.specs.Waits.{pending_of}
 use Rattle.zio_stages.specs.declared.own_write.OwnWrite.{OwnWrite}
-use Rattle.zio_stages.specs.Closings.{Again, Closed, Finished}
+use Rattle.zio_stages.specs.declared.request_node.Closed.{Closed}
+use Rattle.zio_stages.specs.declared.request_node.Closed.TheVariants.{Again, Finished}
 use Rattle.zio_stages.specs.declared.request_node.Own.{Own}
 use Rattle.zio_stages.specs.declared.request_node.Own.TheVariants.{Claim as ClaimOwn, Due, Found, Free as FreeOwn, Over, Read as ReadOwn, Stored, Write as WriteOwn}
 use Rattle.zio_stages.specs.declared.request_node.OwnFound.{OwnFound}

@@ -8,8 +8,8 @@ use Rattle.zio_stages.specs.RequestNodes.{Closes, IsRequestNode}
 use Rattle.zio_stages.specs.RequestStoreds.{is_well, keeps_block, own_in}
 use Rattle.zio_stages.specs.declared.outcome.Outcome.{Outcome}
 use Rattle.zio_stages.specs.declared.outcome.Outcome.TheVariants.{Again as GoesAgain, Finished as HasFinished}
-pub use Rattle.zio_stages.specs.declared.request_node.Closed.{Closed}
-pub use Rattle.zio_stages.specs.declared.request_node.Closed.TheVariants.{Again, Finished}
+use Rattle.zio_stages.specs.declared.request_node.Closed.{Closed}
+use Rattle.zio_stages.specs.declared.request_node.Closed.TheVariants.{Again, Finished}
 use Rattle.zio_stages.specs.declared.request_node.OwnFound.{OwnFound}
 use Rattle.zio_stages.specs.declared.request_node.RequestNode.{RequestNode}
 

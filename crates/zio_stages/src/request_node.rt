@@ -120,9 +120,9 @@ pub enum DoneStep {
     Close,
 }
 
-/// What becomes of a request in an attempt.
+/// What becomes of a request in an attempt. Proofs of other crates name it; no public call takes one or gives one.
 #[derive(Drop)]
-pub(crate) enum Closed {
+pub enum Closed {
     /// It finished with this error or none. With one, the places of the block that it made are to be given back.
     Finished {
         waiting: UnfinishedRequest,

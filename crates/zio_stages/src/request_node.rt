@@ -84,7 +84,7 @@ pub struct RequestNode {
 
 /// What a request's own work came to.
 #[derive(Drop)]
-pub(crate) struct OwnFound {
+pub struct OwnFound {
     pub(crate) error: Option<Errno>,
     /// Of a read.
     pub(crate) bytes: List<u8>,

@@ -24,7 +24,7 @@ use Rattle.zio_blocks.specs.Choosers.{AreHeld, Continues, EntryLaw, given_since,
 use Rattle.zio_blocks.specs.Parts.{Asks}
 use Rattle.zio_blocks.specs.declared.place.Writing.{Writing}
 use Rattle.zio_blocks.specs.EntryLaws.{SamePlaces-swap}
-use Rattle.zio_blocks.specs.PlaceSets.{SamePlaces-behind, SamePlaces-equal, SamePlaces-then}
+use Rattle.zio_cksum.proofs.PlaceSets.{SamePlaces-behind, SamePlaces-equal, SamePlaces-then}
 
 -- ---- entries since
 

@@ -15,7 +15,7 @@ use Rattle.zio_places.proofs.SetLemmas.{all_placed-same, given_back-set}
 use Rattle.zio_cksum.proofs.AllLemmas.{all_append, all_contains}
 use Rattle.zio_places.proofs.CountLemmas.{places-at}
 use Rattle.zio_blocks.specs.Choosers.{AreHeld, AreLeft}
-use Rattle.zio_blocks.specs.PlaceSets.{SamePlaces-append, SamePlaces-then, all_pass}
+use Rattle.zio_cksum.proofs.PlaceSets.{SamePlaces-append, SamePlaces-then, all_pass}
 
 -- ---- places apart
 

@@ -13,7 +13,7 @@ use Rattle.zio_types.specs.Places.{SamePlaces, are_apart, are_open, end_of, is_b
 use Rattle.zio_cksum.proofs.AllLemmas.{all_append, all_contained, all_weaker}
 use Rattle.zio_places.proofs.PlaceLemmas.{meets-symmetric}
 use Rattle.zio_blocks.specs.Choosers.{IsFound, IsFoundEntry, taken_by_all}
-use Rattle.zio_blocks.specs.PlaceSets.{all_pass, pass_all}
+use Rattle.zio_cksum.proofs.PlaceSets.{all_pass, pass_all}
 
 -- ---- places have sectors
 

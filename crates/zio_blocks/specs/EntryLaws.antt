@@ -12,7 +12,7 @@ use Rattle.zio_types.specs.Places.{AreCopies, SamePlaces, are_open, is_free}
 use Rattle.zio_places.proofs.CountLemmas.{are_open-push}
 use Rattle.zio_gang.specs.Journals.{AreLawful}
 use Rattle.zio_blocks.specs.Choosers.{IsFound, IsFoundEntry, taken_by_all}
-use Rattle.zio_blocks.specs.PlaceSets.{SamePlaces-back, SamePlaces-behind, SamePlaces-then, free_same, lawful_same}
+use Rattle.zio_cksum.proofs.PlaceSets.{SamePlaces-back, SamePlaces-behind, SamePlaces-then, free_same, lawful_same}
 
 -- places in another order
 pub SamePlaces-swap : (a b u : List Place) → SamePlaces (b ++ (a ++ u)) ((a ++ b) ++ u)

@@ -4,4 +4,3 @@ pub mod EntryLaws
 pub mod Claims
 pub mod Laid
 pub mod Parts
-pub mod PlaceSets

@@ -6,3 +6,4 @@ pub mod HeaderLemmas
 pub mod ReadLemmas
 pub mod SplitLemmas
 pub mod WriteLemmas
+pub mod PlaceSets

@@ -12,7 +12,6 @@ use Rattle.zio_course.proofs.AdmittedLemmas.{not_both}
 use Rattle.zio_course.proofs.BlockLemmas.{AreBetween, IsOwnApart, still_between, still_own}
 use Rattle.zio_course.proofs.DoneLemmas.{contains_one, one_contains}
 use Rattle.zio_course.proofs.EndLemmas.{times, times_is}
-use Rattle.zio_course.proofs.FreedLemmas.{left_freed}
 use Rattle.zio_course.proofs.RunnableLemmas.{apart_of, counted_by}
 use Rattle.zio_course.proofs.SortLemmas.{IsOneOf, counted, one_all, one_left, one_map, one_right}
 use Rattle.zio_course.proofs.ClearLemmas.{times_tally}
@@ -210,7 +209,6 @@ left_runnable s new round trees end runs over stands live =
       claim = λ has. not_both (has_claim (requests_in end.left)) has over.claims;
       live = live;
       under = rests_roots (λ (r : Request). r.under ≡ None) trees end.left (roots_there trees runs.each) over.rests runs.under;
-      freed = left_freed trees end.left over.rests runs.freed;
       own = all_weaker (RestIn (joined_trees trees)) IsOwnApart (joined_trees end.left)
           (λ q r. still_own r.old q r.same (one_all IsOwnApart r.old (joined_trees trees) runs.own r.at)) rests;
       between = left_between (joined_trees trees) (joined_trees end.left) rests runs.between;

@@ -42,3 +42,9 @@ pub mod ToldLemmas
 pub mod TallyLemmas
 pub mod TouchLemmas
 pub mod WaitLemmas
+pub mod ItemLemmas
+pub mod OpenPlaces
+pub mod NumberCounts
+pub mod NumberSorts
+pub mod LooseLemmas
+pub mod MadePlaces

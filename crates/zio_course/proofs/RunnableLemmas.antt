@@ -31,7 +31,7 @@ use Rattle.zio_course.proofs.ClearLemmas.{times_if}
 use Rattle.zio_course.proofs.CourseLemmas.{once_counted, trees_all}
 use Rattle.zio_course.proofs.EndLemmas.{all_in_trees}
 use Rattle.zio_course.proofs.ForestLemmas.{trees_from_back}
-use Rattle.zio_course.proofs.FreedLemmas.{batch_blocks, named_freed}
+use Rattle.zio_course.proofs.FreedLemmas.{batch_blocks}
 use Rattle.zio_course.proofs.PlantLemmas.{all_low, each_root, named_of, rising_are, roots_are}
 use Rattle.zio_course.proofs.RanLemmas.{AreTreesOf}
 use Rattle.zio_course.proofs.ReadyLemmas.{counting, counting_is}
@@ -244,7 +244,6 @@ batch_runnable s apart suspended awaited bound number items slots rules rows ris
       live = trees_live s.live bound number live.there (trees_of rs);
       under = subst (λ (ts : List (List Request)). AllByRecursion (λ (r : Request). r.under ≡ None) (roots_of (pending_trees names number ts))) under
           (subst (AllByRecursion (λ (r : Request). r.under ≡ None)) (sym (roots_are names number rs None)) (all_under_none rs));
-      freed = named_freed s.live bound apart trees live names_apart (batch_blocks bound number (trees_of rs));
       own = named_own s.live bound live (joined_trees trees) (batch_blocks bound number (trees_of rs));
       between = named_between s.live bound live (joined_trees trees) (batch_blocks bound number (trees_of rs));
     }

@@ -28,7 +28,6 @@ use Rattle.zio_course.proofs.BlockLemmas.{named_between, named_own}
 use Rattle.zio_course.proofs.CourseLemmas.{once_counted}
 use Rattle.zio_course.proofs.DoneLemmas.{contains_one, one_contains}
 use Rattle.zio_course.proofs.EndLemmas.{times, times_is}
-use Rattle.zio_course.proofs.FreedLemmas.{named_freed}
 use Rattle.zio_course.proofs.LeftLemmas.{RestIn, counted_left, left_times, once_in, rests_each, rests_in, rests_rising, rests_roots, roots_there}
 use Rattle.zio_course.proofs.LiveLemmas.{ToldEnd, told_ends}
 use Rattle.zio_course.proofs.MadeLemmas.{filtered_one}
@@ -67,7 +66,6 @@ suspended_runnable s bound suspended unfinished w live =
           (all_weaker (λ (p : Pending). p.block ≡ block_if (needs_block p.request.work) (name_of p.request.work) (names_of bound)) (λ (p : Pending). AllByRecursion (Contains s.live) (places_of_block p.block)) (joined_trees suspended)
           (λ p is. subst (λ (o : Option Tree). AllByRecursion (Contains s.live) (places_of_block o)) (sym is) (block_live s.live bound (needs_block p.request.work) (name_of p.request.work) live.there)) w.over.blocks);
       under = w.under;
-      freed = named_freed s.live bound (rows_tell_apart s.rows) suspended live names w.over.blocks;
       own = named_own s.live bound live (joined_trees suspended) w.over.blocks;
       between = named_between s.live bound live (joined_trees suspended) w.over.blocks;
     }

@@ -14,3 +14,4 @@ pub mod Runners
 pub mod SoFar
 pub mod Steps
 pub mod Told
+pub mod Changes

@@ -111,10 +111,6 @@ freed_by (Write name sum copies prio body) block = []
 freed_by (Free name) block = places_of_block block
 freed_by (Claim name pointer) block = []
 
--- the places of the blocks that frees of these trees name
-abbrev pub places_to_free : List (List Pending) → List Place
-places_to_free trees = flat_map (λ (p : Pending). freed_by p.request.work p.block) (joined_trees trees)
-
 -- a fault row tells two reads of one block apart
 abbrev pub rows_tell_apart : List Row → Bool
 rows_tell_apart rows = list_any (λ (row : Row). row.first || is_flip row.kind) rows
@@ -137,8 +133,8 @@ AreOneOrApart p q = NameOneBlock p q ⊎ NoneMeet (places_of_block p.block) (pla
 
 -- Which trees a round may have: none is empty, their roots stand under no request, the roots' numbers rise, no number stands
 -- twice, no two requests name one block but for reads that no row tells apart, a claim is alone, what reads and frees were
--- given is in use, no two places of the blocks that are to be freed meet, nor do two of a block that a request was given, and
--- two such blocks are one or have no places that meet.
+-- given is in use, no two places of a block that a request was given meet, and two such blocks are one or have no places that
+-- meet.
 pub record AreRunnable (s : Standing) (trees : List (List Pending)) : Type 0 where
   pub each : length (roots_of trees) ≡ length trees
   pub rising : AreRisingFrom 0 (numbers_of (roots_of trees))
@@ -147,7 +143,6 @@ pub record AreRunnable (s : Standing) (trees : List (List Pending)) : Type 0 whe
   pub claim : has_claim (requests_in trees) ≡ true → length (requests_in trees) ≡ 1
   pub live : AllByRecursion (Contains s.live) (named_places trees)
   pub under : AllByRecursion (λ (r : Request). r.under ≡ None) (roots_of trees)
-  pub freed : are_apart (places_to_free trees) ≡ true
   -- no two of a block's own places meet
   pub own : AllByRecursion (λ (p : Pending). are_apart (places_of_block p.block) ≡ true) (joined_trees trees)
   -- so requests over different blocks may be under way together

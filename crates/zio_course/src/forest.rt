@@ -84,7 +84,7 @@ fn plant_line<R: Runner>(
     }
 }
 
-/// Makes the tree of a request over those of its children.
+/// Makes the tree of a request over those of its children. Where memory is refused no round runs, and they are let go.
 fn plant<R: Runner>(
     alloc: Global,
     runner: &mut R,
@@ -105,7 +105,9 @@ fn plant<R: Runner>(
 {
     let block = block_for(alloc, &request.work, bound)?;
     let children = reversed(forest.waiting.take(alloc, request.number));
-    let tree = runner.tree(request, birth, block, children)?;
+    let Ok(tree) = runner.tree(request, birth, block, children) else {
+        return Err(NoMemory);
+    };
     let Some(parent) = request.under else {
         forest.roots.push(tree)?;
         return Ok(());

@@ -49,7 +49,7 @@ pub use laws::{
 };
 pub use round::{WholeRound, whole_round};
 pub use rounds::{batch_round, clear_round};
-pub use runner::{Job, RequestEnd, RoundEnd, Runner, Stop};
+pub use runner::{ChildrenBack, Job, RequestEnd, RoundEnd, Runner, Stop};
 pub use script::run_lines;
 pub use suspended::{run_suspended, tell_suspended};
 pub use texts::{write_held, write_pool, write_round, write_text};

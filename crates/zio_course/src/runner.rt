@@ -1,6 +1,6 @@
 //! What runs a round: the trees of a batch, or those that are suspended.
 
-ghost use Rattle.std.specs.Prelude.{◌≡◌, ◌<◌, ℕ, Bool, List, false, true, IfOk, IsErrOf, OnErr, OnOk, IfSome, map};
+ghost use Rattle.std.specs.Prelude.{◌≡◌, ◌<◌, ℕ, Bool, List, false, true, IfErr, IfOk, IsErrOf, OnErr, OnOk, IfSome, map};
 ghost use Rattle.std.specs.List.{AllByRecursion};
 ghost use Rattle.zio_cksum.specs.Images.{Images};
 ghost use Rattle.zio_gang.specs.Attempts.{Pending, Terms};
@@ -79,6 +79,12 @@ impl From<Stop> for RunFault {
     }
 }
 
+/// Want of memory for a tree: its children's trees come back.
+#[derive(Debug, Drop)]
+pub struct ChildrenBack<T> {
+    pub children: List<T>,
+}
+
 /// Makes trees of requests, and runs rounds of them.
 pub trait Runner {
     /// A tree of requests that hasn't finished.
@@ -112,17 +118,18 @@ pub trait Runner {
     ghost stops: { Self → Terms → List (List Pending) → Images → Type 0 };
 
     /// Makes a tree of a request and its children's trees, for the batch of this number. A read or a free is given the
-    /// block that it names.
+    /// block that it names. Where memory is refused the children's trees come back.
     fn tree(
         &mut self,
         request: &Request,
         birth: u32,
         block: Option<Tree>,
         children: List<Self::Tree>,
-    ) -> Result<Self::Tree, NoMemory>
+    ) -> Result<Self::Tree, ChildrenBack<Self::Tree>>
         requires whole { IsNewTree request.now birth block (map pending children) }
         requires fits { IfSome block fits }
         ensures made { IfOk result (λ tree. pending tree ≡ tree_over (map pending children) (fresh request.now birth block)) }
+        ensures back { IfErr result (λ back. back.children ≡ children) }
         ensures stays { Stays (standing self.old) (standing self.new) (tells self.old) (tells self.new) }
         ensures can { Can self.old → Can self.new }
         ensures same { same self.old self.new };

@@ -6,3 +6,4 @@ pub mod ReadLemmas
 pub mod SizeLemmas
 pub mod TreeLemmas
 pub mod WriteLemmas
+pub mod TellLemmas

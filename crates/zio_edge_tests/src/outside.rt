@@ -7,7 +7,7 @@ use std::test::Fail;
 use std::{env, fs, io, thread};
 use zio_outside::{
     Disk, Failed, FetchFault, FileShelf, Gate, MeetGate, MemDisk, MemShelf, MemSink, MemSource,
-    NoGate, Shelf, Sink, Source, StdSink, StdSource,
+    MemSyncDisk, NoGate, Shelf, Sink, Source, StdSink, StdSource, SyncDisk,
 };
 use zio_types::{Bytes, List, NoMemory, Text};
 
@@ -76,6 +76,21 @@ fn a_listed_write_leaves_the_image(rt: HostRuntime) -> Result<(), Fail> {
     Ok(())
 }
 
+/// What was written is stable once it is synced, and a listed sync leaves it as it was.
+#[test]
+fn a_write_is_stable_behind_a_sync(rt: HostRuntime) -> Result<(), Fail> {
+    let fails = numbers(rt.alloc(), &[1])?;
+    let mut disk = MemSyncDisk::new(rt.alloc(), bytes(rt.alloc(), b"abcdef")?, fails, 4)?;
+    assert_eq!(rt; disk.write_at(1, b"xy"), Ok(()));
+    assert_eq!(rt; disk.sync(), Err(Failed));
+    assert_eq!(rt; disk.stable(), b"abcdef".as_slice());
+    assert_eq!(rt; disk.ranges().len(), 1);
+    assert_eq!(rt; disk.sync(), Ok(()));
+    assert_eq!(rt; disk.stable(), b"axydef".as_slice());
+    assert_eq!(rt; disk.ranges().len(), 0);
+    Ok(())
+}
+
 #[test]
 fn a_disk_goes_out_and_comes_home(rt: HostRuntime) -> Result<(), Fail> {
     let mut shelf = MemShelf::new(rt.alloc(), List::new(rt.alloc()));
@@ -117,6 +132,7 @@ fn a_file_is_a_disk(rt: HostRuntime) -> Result<(), Fail> {
     let mut buffer = [0u8; 2];
     if disk.size() == 6 {
         assert_eq!(rt; disk.write_at(1, b"xy"), Ok(()));
+        assert_eq!(rt; disk.sync(), Ok(()));
         assert_eq!(rt; disk.read_at(2, &mut buffer), Ok(()));
         assert_eq!(rt; buffer, *b"yd");
         fs::write(&rt, path.as_path(), b"axy")?;

@@ -1,5 +1,5 @@
 -- A round of trees begins over steady grounds.
-use Rattle.std.proofs.Common.{◌≡◌, ℕ, zero, suc, ◌<◌, ◌≤◌, ◌^◌, List, [], ◌∷◌, ◌++◌, length, map, replicate, slice_get, slice_index_or, Option, Some, None, IfSome, ◌⊎◌, inl, inr, refl, sym, ap, ◌∙◌, subst, arith}
+use Rattle.std.proofs.Common.{◌≡◌, ℕ, zero, suc, ◌<◌, ◌≤◌, List, [], ◌∷◌, ◌++◌, length, map, replicate, slice_get, Option, Some, None, IfSome, ◌⊎◌, inl, inr, refl, sym, ap, ◌∙◌, subst, arith}
 use Rattle.std.specs.Prelude.{IsPermutation}
 use Rattle.std.specs.List.{AllByRecursion}
 use Rattle.std.proofs.lemmas.Bool.{cases_lt}
@@ -51,13 +51,6 @@ none_at : (leaves : List Waits) (leaf : ℕ) → keys_at leaves ≡ [] → waiti
 none_at [] leaf e = refl
 none_at (q ∷ qs) zero e = map_none key_of q.waiting (both_none (keys_of q) (keys_at qs) e).0
 none_at (q ∷ qs) (suc leaf) e = none_at qs leaf (both_none (keys_of q) (keys_at qs) e).1
-
--- ---- sizes
-
-most_at : (m : ℕ) (xs : List ℕ) (i : ℕ) → AllByRecursion (λ n. n ≤ m) xs → slice_index_or xs i 0 ≤ m
-most_at m [] i h = let low : 0 ≤ m = omega arith in low
-most_at m (x ∷ xs) zero h = h.0
-most_at m (x ∷ xs) (suc i) h = most_at m xs i h.1
 
 -- ---- the trees' first attempts
 
@@ -142,7 +135,8 @@ module _ {D : Type 0} (bytes : D → ℕ) (image : D → List ℕ → Type 0) (g
         subst (λ (ws : List AtLeaf). AllByRecursion (λ (w : AtLeaf). WaitsFor leaf (now.ops (key_of w)) w) ws)
         (sym (none_at g.queues.leaves.items leaf steady.none_waits)) tt;
     ready = steady.ready;
-    fit = λ leaf. (omega arith, most_at (2 ^ 28) (map bytes g.disks.items) leaf steady.small);
+    fit = λ leaf. omega arith;
+    short = steady.short;
     each = steady.each;
     tell = subst (TellNow {D = D} image before g.disks.items) (sym told) tell;
   }

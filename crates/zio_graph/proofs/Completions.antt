@@ -13,7 +13,7 @@ use Rattle.zio_trace.specs.Families.{Forest, flat}
 use Rattle.zio_trace.specs.Rounds.{trees_in}
 use Rattle.zio_course.specs.Runners.{completion_for, finished_of, joined_trees, requests_in}
 use Rattle.zio_course.proofs.SortLemmas.{IsOneOf}
-use Rattle.zio_plain.proofs.PlainItems.{image_of, none_passes, one_found}
+use Rattle.zio_course.proofs.ItemLemmas.{image_of, none_passes, one_found}
 use Rattle.zio_turns.specs.Ledgers.{AreBehindChildren, Ending, all_ended}
 use Rattle.zio_turns.specs.Rests.{ChildrenAmong}
 use Rattle.zio_graph.specs.RoundEnds.{completions_of}

@@ -14,10 +14,12 @@ use Rattle.zio_disks.specs.Trees.{HasSectors}
 use Rattle.zio_blocks.specs.Blocks.{HavePointers}
 use Rattle.zio_trace.specs.Separate.{LeavesOnce}
 use Rattle.zio_trace.specs.SoundRounds.{LeavesDiffer}
-use Rattle.zio_stages.specs.Tops.{AreTops}
+use Rattle.zio_cksum.proofs.AllLemmas.{all_weaker}
+use Rattle.zio_stages.specs.Tops.{AreTops, IsTop}
 use Rattle.zio_turns.specs.AtLeaves.{keys_at, no_waits}
 use Rattle.zio_turns.specs.Grounds.{AreReady}
 use Rattle.zio_turns.specs.Ledgers.{AreOnce}
+use Rattle.zio_turns.specs.ShortTops.{AreShort}
 use Rattle.zio_turns.specs.declared.desk.Asked.TheVariants.{Nothing}
 use Rattle.zio_turns.specs.declared.grounds.Grounds.{Grounds}
 use Rattle.zio_turns.proofs.KeyTimes.{none_wait}
@@ -75,7 +77,7 @@ new_ready {D} bytes s disks tops g is can new =
         leaves_differ = subst LeavesDiffer to can.leaves_differ;
         bears = subst (λ (ts : List Top). AllByRecursion (HasSectors (map bytes g.disks.items)) ts) to
             (subst (λ (ns : List ℕ). AllByRecursion (HasSectors ns) s.tops) sizes can.bears.tops);
-        small = subst (AllByRecursion (λ n. n ≤ 2 ^ 28)) sizes can.small;
+        short = subst AreShort to (all_weaker IsTop (λ (top : Top). top.sectors ≤ 2 ^ 39) s.tops (λ top h. h.sectors) can.tops.each);
         pointers = subst HavePointers to can.pointers;
       };
       tops = subst AreTops to can.tops;
@@ -122,7 +124,7 @@ begun_ready {D} bytes point old new b h =
       leaves_once = s.leaves_once;
       leaves_differ = s.leaves_differ;
       bears = s.bears;
-      small = s.small;
+      short = s.short;
       pointers = s.pointers;
     } in
     subst (AreReadyGrounds {D = D} bytes) (sym same) (record { steady = steady; tops = h.tops })

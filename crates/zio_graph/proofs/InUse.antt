@@ -15,15 +15,15 @@ use Rattle.zio_gang.specs.Attempts.{Pending, Terms}
 use Rattle.zio_gang.specs.Trees.{sizes_of, tree_places}
 use Rattle.zio_trace.specs.Families.{Forest, flat}
 use Rattle.zio_trace.specs.Rounds.{trees_in}
-use Rattle.zio_blocks.specs.PlaceSets.{pass_all}
+use Rattle.zio_cksum.proofs.PlaceSets.{pass_all}
 use Rattle.zio_course.specs.declared.runner.RequestEnd.{RequestEnd}
 use Rattle.zio_course.specs.Runners.{AreRunnable, Standing, finished_of, freed_by, freed_places, is_good_in, joined_trees, made_places, numbers_of, requests_in}
 use Rattle.zio_course.proofs.SortLemmas.{IsOneOf, one_all, one_itself, one_map}
-use Rattle.zio_plain.proofs.CountLemmas.{counted, requests_counted}
-use Rattle.zio_plain.proofs.PassLemmas.{made_append}
-use Rattle.zio_plain.proofs.PlainItems.{any_in, any_out, filtered_in, filtered_out, found_one, image_of, of_part, one_found, part_of}
-use Rattle.zio_plain.proofs.PlainLive.{made_inside, made_open, made_same}
-use Rattle.zio_plain.proofs.SortedLemmas.{all_moved}
+use Rattle.zio_course.proofs.NumberCounts.{counted, requests_counted}
+use Rattle.zio_course.proofs.MadePlaces.{made_append}
+use Rattle.zio_course.proofs.ItemLemmas.{any_in, any_out, filtered_in, filtered_out, found_one, image_of, of_part, one_found, part_of}
+use Rattle.zio_course.proofs.MadePlaces.{made_inside, made_open, made_same}
+use Rattle.zio_course.proofs.NumberSorts.{all_moved}
 use Rattle.zio_stages.specs.Outcomes.{freed_if, freed_of}
 use Rattle.zio_turns.specs.Ledgers.{Ending, IsEnding, all_ended, freed_for, freed_in, made_for, made_in}
 use Rattle.zio_graph.specs.InUse.{LeavesInUse}

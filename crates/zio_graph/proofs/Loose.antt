@@ -15,10 +15,10 @@ use Rattle.zio_trace.specs.Families.{Forest, flat}
 use Rattle.zio_trace.specs.Rounds.{trees_in as trees_of}
 use Rattle.zio_trace.specs.SoundRounds.{IsOwnBlock, IsSoundRound}
 use Rattle.zio_trace.specs.Stopped.{places_named, places_of_block as block_places, places_taken}
-use Rattle.zio_blocks.specs.PlaceSets.{pass_all}
+use Rattle.zio_cksum.proofs.PlaceSets.{pass_all}
 use Rattle.zio_course.specs.Runners.{DiffersInRound, Standing, joined_trees, named_places, places_of_block, terms_at}
-use Rattle.zio_plain.specs.Grounds.{ChangedAt}
-use Rattle.zio_plain.proofs.PlainLoose.{changed_loose}
+use Rattle.zio_course.specs.Changes.{ChangedAt}
+use Rattle.zio_course.proofs.LooseLemmas.{changed_loose}
 use Rattle.zio_turns.specs.Stops.{IsStopped, IsTaken}
 use Rattle.zio_graph.proofs.Sounds.{joined_flat}
 

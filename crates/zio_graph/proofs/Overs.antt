@@ -7,7 +7,8 @@ use Rattle.zio_disks.specs.Disks.{Tell}
 use Rattle.zio_gang.specs.Attempts.{Pending}
 use Rattle.zio_trace.specs.Leaves.{HaveSizes}
 use Rattle.zio_course.specs.Runners.{AreRunnable, DiffersInRound, Standing}
-use Rattle.zio_plain.proofs.PlainLoose.{same_length, told_count}
+use Rattle.zio_disks.proofs.TellLemmas.{told_count}
+use Rattle.zio_course.proofs.ItemLemmas.{same_length}
 use Rattle.zio_stages.specs.Waits.{pendings}
 use Rattle.zio_stages.specs.declared.outcome.Finished.{Finished}
 use Rattle.zio_stages.specs.declared.waiting.UnfinishedRequest.{UnfinishedRequest}

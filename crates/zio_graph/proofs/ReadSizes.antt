@@ -23,7 +23,7 @@ use Rattle.zio_disks.proofs.SizeLemmas.{whole_kept}
 use Rattle.zio_course.specs.declared.runner.RequestEnd.{RequestEnd}
 use Rattle.zio_course.specs.Runners.{AreRunnable, HasReadSize, Standing, finished_of, joined_trees, read_size}
 use Rattle.zio_course.proofs.SortLemmas.{IsOneOf, one_all}
-use Rattle.zio_plain.proofs.SortedLemmas.{all_moved}
+use Rattle.zio_course.proofs.NumberSorts.{all_moved}
 use Rattle.zio_turns.specs.Ledgers.{Ending, IsEnding, all_ended}
 use Rattle.zio_turns.specs.Sizes.{FitsBodies, block_read, bodies_size, joined_size}
 use Rattle.zio_graph.specs.EngineTrees.{AreSound}

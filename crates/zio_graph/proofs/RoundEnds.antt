@@ -14,8 +14,8 @@ use Rattle.zio_course.specs.declared.runner.RequestEnd.{RequestEnd}
 use Rattle.zio_course.specs.Runners.{AreRisingFrom, AreRunnable, MakesTree, Standing, completion_for, finished_by_number, finished_of, is_numbered, joined_trees, numbers_of, requests_in}
 use Rattle.zio_course.proofs.DoneLemmas.{contains_one}
 use Rattle.zio_course.proofs.SortLemmas.{IsOneOf, IsRisingBy}
-use Rattle.zio_plain.proofs.CountLemmas.{complete_once, counted, ends_numbers, requests_counted}
-use Rattle.zio_plain.proofs.SortedLemmas.{all_moved, all_there, counted_moved, merged_is, numbers_rise, rising_by}
+use Rattle.zio_course.proofs.NumberCounts.{complete_once, counted, ends_numbers, requests_counted}
+use Rattle.zio_course.proofs.NumberSorts.{all_moved, all_there, counted_moved, merged_is, numbers_rise, rising_by}
 use Rattle.zio_sound.specs.Leaving.{LeavesTrees, MakesOwn, requests_ended}
 use Rattle.zio_graph.specs.RoundEnds.{IsByNumber, TellsRound, completions_of}
 

@@ -74,7 +74,6 @@ idle_runs s trees h = record {
   claim = h.claim;
   live = h.live;
   under = h.under;
-  freed = h.freed;
   own = h.own;
   between = h.between;
 }

@@ -45,6 +45,7 @@ use Rattle.zio_turns.specs.declared.trees.TreeState.{TreeState}
 use Rattle.zio_turns.proofs.OpenCounts.{found_inside}
 use Rattle.zio_turns.proofs.PlaceTotals.{totals_moved}
 use Rattle.zio_turns.proofs.RoundOver.{found_once}
+use Rattle.zio_turns.specs.ShortTops.{AreShort}
 use Rattle.zio_graph.specs.Jobs.{size_at}
 use Rattle.zio_graph.specs.SteadyGrounds.{IsSteadyGrounds, terms_on}
 use Rattle.zio_graph.specs.WholeRounds.{HasEnded}
@@ -163,6 +164,6 @@ still_steady {N} {D} nodes bytes image g now last round failmode f before states
       leaves_differ = subst LeavesDiffer tops steady.leaves_differ;
       bears = subst (λ (ts : List Top). AllByRecursion (HasSectors (map bytes last.disks.items)) ts) tops
           (subst (λ (ns : List ℕ). AllByRecursion (HasSectors ns) g.setting.tops) (sym same) steady.bears);
-      small = subst (AllByRecursion (λ n. n ≤ 2 ^ 28)) (sym same) steady.small;
+      short = subst AreShort tops steady.short;
       pointers = subst HavePointers tops steady.pointers;
     }

@@ -1,6 +1,5 @@
 -- The engine on one thread, as contracts see it.
-use Rattle.std.specs.Prelude.{ℕ, ◌≤◌, ◌^◌, List, map, Bool}
-use Rattle.std.specs.List.{AllByRecursion}
+use Rattle.std.specs.Prelude.{ℕ, List, map, Bool}
 use Rattle.zio_types.specs.declared.place.Place.{Place}
 use Rattle.zio_cksum.specs.Images.{Setting}
 use Rattle.zio_trace.specs.Separate.{LeavesOnce}
@@ -31,11 +30,10 @@ standing_of faults g = record {
   faults = map faults g.disks;
 }
 
--- Rounds can be run over this setting and disks of these sizes in bytes: the disks bear the tops, and a queue can take each disk;
--- places of the tops stand in pointers; each top has one to four leaves, and no leaf stands twice.
+-- Rounds can be run over this setting and disks of these sizes in bytes: the disks bear the tops; places of the tops stand in
+-- pointers; each top has one to four leaves, and no leaf stands twice.
 pub record CanRun (s : Setting) (bytes : List ℕ) : Type 0 where
   pub bears : BearsTops s bytes
-  pub small : AllByRecursion (λ n. n ≤ 2 ^ 28) bytes
   pub pointers : HavePointers s.tops
   pub tops : AreTops s.tops
   pub leaves_once : LeavesOnce s.tops

@@ -1,5 +1,5 @@
 -- The grounds between two rounds.
-use Rattle.std.specs.Prelude.{◌≡◌, ℕ, ◌≤◌, ◌^◌, [], length, map, false, IsTrue}
+use Rattle.std.specs.Prelude.{◌≡◌, ℕ, [], length, map, false, IsTrue}
 use Rattle.std.specs.List.{AllByRecursion}
 use Rattle.zio_types.specs.declared.place.Place.{Place}
 use Rattle.zio_types.specs.Places.{is_inside}
@@ -14,12 +14,13 @@ use Rattle.zio_course.specs.Runners.{Standing}
 use Rattle.zio_turns.specs.AtLeaves.{keys_at}
 use Rattle.zio_turns.specs.Grounds.{AreReady}
 use Rattle.zio_turns.specs.Ledgers.{AreOnce}
+use Rattle.zio_turns.specs.ShortTops.{AreShort}
 use Rattle.zio_turns.specs.declared.desk.Asked.TheVariants.{Nothing}
 use Rattle.zio_turns.specs.declared.grounds.Grounds.{Grounds}
 
 -- What holds between two rounds: the space is that of the tops, whose places stand in pointers, and nothing was asked of it; the
 -- places in use lie inside the tops, each once; nothing waits at a leaf; no leaf stands twice in the tops, each is on a disk that
--- has its sectors, and a queue can take each disk.
+-- has its sectors, and a queue can take what lies on the tops.
 pub record IsSteadyGrounds {D : Type 0} (bytes : D → ℕ) (g : Grounds D) : Type 0 where
   pub tops_are : g.desk.tops ≡ g.setting.tops
   pub sizes_are : g.desk.space.sizes ≡ sizes_of g.setting.tops
@@ -34,7 +35,7 @@ pub record IsSteadyGrounds {D : Type 0} (bytes : D → ℕ) (g : Grounds D) : Ty
   pub leaves_once : LeavesOnce g.setting.tops
   pub leaves_differ : LeavesDiffer g.setting.tops
   pub bears : AllByRecursion (HasSectors (map bytes g.disks.items)) g.setting.tops
-  pub small : AllByRecursion (λ n. n ≤ 2 ^ 28) (map bytes g.disks.items)
+  pub short : AreShort g.setting.tops
   pub pointers : HavePointers g.setting.tops
 
 -- what is known of a runner over these that has run no round yet

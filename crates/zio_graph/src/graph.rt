@@ -29,7 +29,7 @@ use crate::tree::{EngineTree, tree_over, trees_of, wholes_of};
 use crate::wholes::run_wholes;
 use std::alloc::Global;
 use std::marker::Model;
-use zio_course::{Job, RoundEnd, Stop};
+use zio_course::{ChildrenBack, Job, RoundEnd, Stop};
 use zio_disks::Setting;
 use zio_gang::Tree;
 use zio_nodes::NodeBox;
@@ -37,7 +37,7 @@ use zio_outside::Disk;
 use zio_script::Request;
 use zio_stages::Finished;
 use zio_turns::{DisksBack, Grounds, Picks};
-use zio_types::{List, NoMemory, Top};
+use zio_types::{List, Top};
 
 /// Runs rounds of trees of requests, whose nodes take turns in whatever order is picked. Contracts see it as its setting, its
 /// disks and the places in use, the number of its last round, and whether a round was stopped.
@@ -93,17 +93,18 @@ impl<D: Disk + Drop, P: Picks + Drop> Graph<D, P> {
     }
 
     /// Makes a tree of a request and its children's trees, for the batch of this number. A read or a free is given the block
-    /// that it names.
+    /// that it names. Where memory is refused the children's trees come back.
     pub fn tree(
         &self,
         request: &Request,
         birth: u32,
         block: Option<Tree>,
         children: List<EngineTree>,
-    ) -> Result<EngineTree, NoMemory>
+    ) -> Result<EngineTree, ChildrenBack<EngineTree>>
         requires whole { IsNewTree request.now birth block children }
         requires fits { IfSome block IsWholeTree }
-        ensures { IfOk result (λ tree. tree ≡ tree_over children (fresh request.now birth block)) }
+        ensures made { IfOk result (λ tree. tree ≡ tree_over children (fresh request.now birth block)) }
+        ensures back { IfErr result (λ back. back.children ≡ children) }
     {
         tree_over(self.grounds.alloc, request, birth, block, children)
     }

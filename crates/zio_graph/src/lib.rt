@@ -20,3 +20,4 @@ pub use laws::{
     stopped_rounds_change_what_is_loose,
 };
 pub use tree::EngineTree;
+pub use zio_turns::{FirstPicks, Picks, SeedPicks, from_seed};

@@ -3,16 +3,16 @@
 use crate::ends::told_of;
 use crate::graph::Graph;
 use crate::tree::EngineTree;
-use zio_course::{Job, RequestEnd, RoundEnd, Runner, Stop};
+use zio_course::{ChildrenBack, Job, RequestEnd, RoundEnd, Runner, Stop};
 use zio_gang::Tree;
 use zio_outside::Disk;
 use zio_script::Request;
 use zio_stages::Finished;
 use zio_turns::Picks;
-use zio_types::{List, NoMemory};
+use zio_types::List;
 
 impl<D: Disk + Drop, P: Picks + Drop> Runner for Graph<D, P> {
-    ghost use Rattle.std.specs.Prelude.{◌≡◌, ◌<◌, List, false, IfOk, IfSome, IsErrOf, OnErr, map};
+    ghost use Rattle.std.specs.Prelude.{◌≡◌, ◌<◌, List, false, IfErr, IfOk, IfSome, IsErrOf, OnErr, map};
     ghost use Rattle.std.specs.List.{AllByRecursion};
     ghost use Rattle.zio_cksum.specs.Images.{Images};
     ghost use Rattle.zio_gang.specs.Attempts.{Pending};
@@ -64,11 +64,12 @@ impl<D: Disk + Drop, P: Picks + Drop> Runner for Graph<D, P> {
         birth: u32,
         block: Option<Tree>,
         children: List<EngineTree>,
-    ) -> Result<EngineTree, NoMemory>
+    ) -> Result<EngineTree, ChildrenBack<EngineTree>>
         requires whole { IsNewTree request.now birth block (map (λ (tree : List Pending). tree) children) }
         requires fits { IfSome block IsWholeTree }
         ensures made { IfOk result (λ tree. tree ≡ tree_over (map (λ (tree : List Pending). tree) children)
             (fresh request.now birth block)) }
+        ensures back { IfErr result (λ back. back.children ≡ children) }
         ensures stays { Stays (standing_of D.faults self.old) (standing_of D.faults self.new)
             (λ images. Tell D.image self.old.disks images) (λ images. Tell D.image self.new.disks images) }
         ensures same { AreSameDisks D.bytes D.faults D.faults_at_fetch D.home D.image D.sound self.old.disks

@@ -7,7 +7,6 @@ ghost use Rattle.zio_disks.specs.Disks.{AnyRose, AreSameDisks, Tell};
 ghost use Rattle.zio_disks.specs.Whole.{IsWholeTree};
 ghost use Rattle.zio_course.specs.declared.runner.Stop.TheVariants.{Device};
 ghost use Rattle.zio_course.specs.Runners.{AreRunnable, DiffersInRound, IsRound, IsRoundEnd, ended_seen, made_trees, terms_at};
-ghost use Rattle.zio_plain.specs.Works.{stop_of};
 ghost use Rattle.zio_stages.specs.Waits.{pendings};
 ghost use Rattle.zio_stages.specs.declared.waiting.UnfinishedRequest.{UnfinishedRequest};
 ghost use Rattle.zio_turns.specs.UnderTrees.{StateIn};
@@ -133,7 +132,8 @@ fn run_to_end<N: Staged, D: Disk + Drop, P: Picks>(
 
 /// The same reason, as a runner tells it.
 fn stop_of(stop: DiskStop) -> Stop
-    ensures { result ≡ stop_of stop }
+    ensures device { result ≡ Stop.Device → stop ≡ DiskStop.Device }
+    ensures memory { result ≡ Stop.Memory → stop ≡ DiskStop.Memory }
 {
     match stop {
         DiskStop::Device => Stop::Device,

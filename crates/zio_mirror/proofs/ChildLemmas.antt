@@ -8,7 +8,7 @@ use Rattle.zio_types.specs.Choices.{no_place}
 use Rattle.zio_cksum.specs.Blocks.{Pass, Tried, blame, first_good, found_or, leaves_of, passed_with, read_order, read_pass, read_place, rotated, spot_in, then_others, turn_size}
 use Rattle.zio_cksum.specs.Frames.{spots_of}
 use Rattle.zio_cksum.specs.Images.{Images, Setting, Spot}
-use Rattle.zio_mirror.specs.declared.plan.ReadStep.TheVariants.{Bad, Try}
+use Rattle.zio_mirror.specs.declared.plan.PlanStep.TheVariants.{Bad, Try}
 use Rattle.zio_mirror.specs.Plans.{answered_by, answers_of, children, failed_children, good_child, place_answer, place_of, read_copy, step_of, step_with, then_answers}
 use Rattle.zio_mirror.proofs.PlanLemmas.{bad_of_reads, length-children, pass_tries, step_of_bad}
 

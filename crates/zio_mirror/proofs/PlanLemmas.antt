@@ -7,7 +7,7 @@ use Rattle.zio_types.specs.declared.error.Errno.{Errno}
 use Rattle.zio_types.specs.declared.place.Place.{Place}
 use Rattle.zio_cksum.specs.Blocks.{blame, first_good, then_others, rotated, Tried, Pass, read_pass, read_place, passed_with, found_or, spot_in, leaves_of}
 use Rattle.zio_cksum.specs.Images.{Images, Setting}
-use Rattle.zio_mirror.specs.declared.plan.ReadStep.TheVariants.{Good, Bad}
+use Rattle.zio_mirror.specs.declared.plan.PlanStep.TheVariants.{Good, Bad}
 use Rattle.zio_mirror.specs.Plans.{answers_of, then_answers, place_answer, children, good_child, failed_children, is_try, round_to, step_of, step_with, to_repair}
 
 -- ---- the order of leaves

@@ -8,8 +8,8 @@ use Rattle.zio_types.specs.Choices.{no_place}
 use Rattle.zio_cksum.specs.Blocks.{blame, all_errors, error_if, found_or, judged, leaves_of, read_order, read_place, spot_in}
 use Rattle.zio_cksum.specs.Headers.{offset_of}
 use Rattle.zio_cksum.specs.Images.{Images, Setting, read_leaf}
-use Rattle.zio_mirror.specs.declared.plan.ReadStep.{ReadStep}
-use Rattle.zio_mirror.specs.declared.plan.ReadStep.TheVariants.{Try, Good, Bad}
+use Rattle.zio_mirror.specs.declared.plan.PlanStep.{PlanStep}
+use Rattle.zio_mirror.specs.declared.plan.PlanStep.TheVariants.{Try, Good, Bad}
 
 -- the children in the order in which they are tried, and the answers so far, of the first of them
 pub record Tries : Type 0 where
@@ -38,16 +38,16 @@ failed_children (c ∷ cs) [] = []
 failed_children (c ∷ cs) (None ∷ answers) = []
 failed_children (c ∷ cs) (Some e ∷ answers) = c ∷ failed_children cs answers
 
-abbrev pub step_with : Option ℕ → Option ℕ → List (Option Errno) → ReadStep
+abbrev pub step_with : Option ℕ → Option ℕ → List (Option Errno) → PlanStep
 step_with (Some good) untried answers = Good good
 step_with None (Some untried) answers = Try untried
 step_with None None answers = Bad (blame answers)
 
 -- a good child ends the read; else the first child without an answer is tried; where all failed the worst error counts
-abbrev pub step_of : Tries → ReadStep
+abbrev pub step_of : Tries → PlanStep
 step_of plan = step_with (good_child plan.order plan.answers) (slice_get plan.order (length plan.answers)) plan.answers
 
-abbrev pub is_try : ReadStep → Bool
+abbrev pub is_try : PlanStep → Bool
 is_try (Try child) = true
 is_try (Good child) = false
 is_try (Bad e) = false

@@ -5,7 +5,7 @@ ghost use Rattle.zio_cksum.specs.Frames.{spots_of};
 ghost use Rattle.zio_types.specs.declared.place.Place.{Place};
 ghost use Rattle.zio_cksum.specs.Images.{Images, Setting};
 ghost use Rattle.zio_mirror.specs.Plans.{answered_by, answers_of, children, leaf_of, order_in, place_answer, place_of, read_child, read_copy, step_of, to_repair};
-ghost use Rattle.zio_mirror.specs.declared.plan.ReadStep.TheVariants.{Good, Bad, Try};
+ghost use Rattle.zio_mirror.specs.declared.plan.PlanStep.TheVariants.{Good, Bad, Try};
 
 /// A plan that is told how reads of its children end has an answer after as many answers as children at most: the
 /// child whose bytes a read of all copies finds, or the error that it has. It repairs what that read repairs.

@@ -12,5 +12,5 @@ pub use laws::{
     a_pass_repairs_what_plans_do, a_pass_tries_places, a_place_is_read_by_its_leaves,
     plans_end_as_reads_do, plans_try_what_is_read_next,
 };
-pub use plan::{ReadPlan, ReadStep, TURN_SIZE};
+pub use plan::{PlanStep, ReadPlan, TURN_SIZE};
 pub use write::write_result;

@@ -11,7 +11,7 @@ pub const TURN_SIZE: u64 = 2 << 20;
 
 /// What a read is to do next.
 #[derive(Clone, Copy, Debug, PartialEq, Eq)]
-pub enum ReadStep {
+pub enum PlanStep {
     /// Try this child.
     Try(u32),
     /// This child's bytes are the answer.
@@ -31,6 +31,7 @@ pub struct ReadPlan {
 
 impl Model for ReadPlan {
     ghost use Rattle.std.specs.Prelude.{take, length, ◌≤◌, ◌≡◌};
+    ghost use Rattle.zio_types.specs.declared.place.TheConstants.{TOP_LEAVES_MAX};
     ghost use Rattle.zio_mirror.specs.Plans.{Tries};
 
     ghost Value = { Tries };
@@ -76,17 +77,17 @@ impl ReadPlan {
 
     /// What is to be done: the good child, where one was answered without error; the worst error, where all
     /// failed; else the first child that wasn't answered.
-    pub fn next(&self) -> ReadStep
+    pub fn next(&self) -> PlanStep
         ensures { result ≡ step_of self.now }
     {
         let order = &self.order[..self.n as usize];
         let answers = &self.answers[..self.answered as usize];
         if let Some(child) = first_good(order, answers) {
-            return ReadStep::Good(child);
+            return PlanStep::Good(child);
         }
         match order.get(answers.len()) {
-            Some(child) => ReadStep::Try(*child),
-            None => ReadStep::Bad(blame(answers)),
+            Some(child) => PlanStep::Try(*child),
+            None => PlanStep::Bad(blame(answers)),
         }
     }
 

@@ -1,8 +1,8 @@
 -- How much walks leave that are joined.
-use Rattle.std.proofs.Common.{◌≡◌, ◌≤◌, ◌+◌, ℕ, List, [], ◌∷◌, length, Option, Some, None, get_or, sym, subst, vec_capacity, arith, length-append}
+use Rattle.std.proofs.Common.{◌≡◌, ◌≤◌, ◌<◌, ◌+◌, ◌^◌, ℕ, List, [], ◌∷◌, length, Option, Some, None, get_or, sym, subst, vec_capacity, arith, length-append}
 use Rattle.zio_trace.specs.Plans.{join_walked, under_head}
 use Rattle.zio_trace.specs.Tasks.{Walked}
-use Rattle.zio_parts.specs.Gathers.{FitsIn, IsRoomFor, KeepsRoom, gathered}
+use Rattle.zio_parts.specs.Gathers.{FitsIn, IsRoomFor, KeepsRoom, as_counted, gathered}
 use Rattle.zio_parts.specs.HeadWalks.{joined, joined_behind, no_walk, with_member}
 use Rattle.zio_parts.specs.declared.gathered.Gathered.{Gathered}
 use Rattle.zio_parts.specs.declared.walked.Counts.{Counts}
@@ -43,14 +43,22 @@ fits_still w g now h k = record {
 
 -- ---- a header, and room for what is below it
 
+-- what fits into less than can be counted was counted
+pub counted_fits : (n c room : ℕ) → c ≡ as_counted n → c ≤ room → room < 2 ^ 63 → n ≤ room
+counted_fits n c room e fits few = omega (arith, e, fits, few)
+
 pub room_fits : (path bytes : List ℕ) (members : List (Option Walked)) (c : Counts) (g : Gathered) → IsRoomFor (joined members) c → c.errors ≤ vec_capacity g.errors → c.bodies ≤ vec_capacity g.bodies → c.heads ≤ vec_capacity g.heads
+    → vec_capacity g.errors < 2 ^ 63 → vec_capacity g.bodies < 2 ^ 63 → vec_capacity g.heads < 2 ^ 63
     → FitsIn (joined_behind (under_head path bytes no_walk) members) g
-room_fits path bytes members c g room errors bodies heads =
+room_fits path bytes members c g room errors bodies heads few_errors few_bodies few_heads =
     let more : Joins (under_head path bytes no_walk) members = joins (under_head path bytes no_walk) members in
+    let all_errors : length (joined members).errors ≤ vec_capacity g.errors = counted_fits _ _ _ room.errors errors few_errors in
+    let all_bodies : length (joined members).bodies ≤ vec_capacity g.bodies = counted_fits _ _ _ room.bodies bodies few_bodies in
+    let all_heads : length (joined members).heads + 1 ≤ vec_capacity g.heads = counted_fits _ _ _ room.heads heads few_heads in
     record {
-      errors = omega (arith, more.errors, room.errors, errors);
-      bodies = omega (arith, more.bodies, room.bodies, bodies);
-      heads = omega (arith, more.heads, room.heads, heads);
+      errors = omega (arith, more.errors, all_errors);
+      bodies = omega (arith, more.bodies, all_bodies);
+      heads = omega (arith, more.heads, all_heads);
     }
 
 -- ---- one member after another

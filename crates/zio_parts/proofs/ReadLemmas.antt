@@ -9,8 +9,8 @@ use Rattle.zio_types.specs.Choices.{no_place}
 use Rattle.zio_cksum.specs.Blocks.{all_errors, blame, judged, leaves_of, read_order, spot_in}
 use Rattle.zio_cksum.specs.Headers.{offset_of}
 use Rattle.zio_cksum.specs.Images.{Setting, Spot}
-use Rattle.zio_mirror.specs.declared.plan.ReadStep.{ReadStep}
-use Rattle.zio_mirror.specs.declared.plan.ReadStep.TheVariants.{Bad, Try}
+use Rattle.zio_mirror.specs.declared.plan.PlanStep.{PlanStep}
+use Rattle.zio_mirror.specs.declared.plan.PlanStep.TheVariants.{Bad, Try}
 use Rattle.zio_mirror.specs.Plans.{Tries, good_child, is_try, step_of, step_with}
 use Rattle.zio_mirror.proofs.ChildLemmas.{order_of}
 use Rattle.zio_trace.specs.Calls.{answered_at}
@@ -48,7 +48,7 @@ step_bad plan h l =
 
 -- a child is left: it is tried next
 pub may_try : (plan : Tries) → all_errors plan.answers ≡ true → length plan.answers < length plan.order → IsTrue (is_try (step_of plan))
-may_try plan h l = subst (λ (step : ReadStep). IsTrue (is_try step)) (sym (step_try plan h l)) refl
+may_try plan h l = subst (λ (step : PlanStep). IsTrue (is_try step)) (sym (step_try plan h l)) refl
 
 pub child_is : (plan : Tries) → all_errors plan.answers ≡ true → length plan.answers < length plan.order → child_in (step_of plan) ≡ get_or plan.order (length plan.answers) 0
 child_is plan h l = ap child_in (step_try plan h l)

@@ -6,8 +6,8 @@ use Rattle.zio_types.specs.declared.place.Top.{Top}
 use Rattle.zio_cksum.specs.Blocks.{Pass, Tried, leaves_of, read_order, spot_in}
 use Rattle.zio_cksum.specs.Headers.{offset_of}
 use Rattle.zio_cksum.specs.Images.{Setting, Spot}
-use Rattle.zio_mirror.specs.declared.plan.ReadStep.{ReadStep}
-use Rattle.zio_mirror.specs.declared.plan.ReadStep.TheVariants.{Try, Good, Bad}
+use Rattle.zio_mirror.specs.declared.plan.PlanStep.{PlanStep}
+use Rattle.zio_mirror.specs.declared.plan.PlanStep.TheVariants.{Try, Good, Bad}
 use Rattle.zio_mirror.specs.Plans.{Tries, children, place_of}
 use Rattle.zio_trace.specs.CopyPrograms.{Program, fetch_in, first_on, found_by, last_on, pass_each, pass_on, pass_reading, try_each}
 use Rattle.zio_trace.specs.Leaves.{Answer, Fetch, Store}
@@ -48,13 +48,13 @@ repairs_from tops places tried failed =
     copies_at tops (take tried places) ++ map (spot_in (place_of places tried)) (map (leaf_at tops (place_of places tried)) failed)
 
 -- the error where all children failed
-abbrev pub error_in : ReadStep → Option Errno
+abbrev pub error_in : PlanStep → Option Errno
 error_in (Try child) = None
 error_in (Good child) = None
 error_in (Bad e) = Some e
 
 -- the child that is to be tried
-abbrev pub child_in : ReadStep → ℕ
+abbrev pub child_in : PlanStep → ℕ
 child_in (Try child) = child
 child_in (Good child) = 0
 child_in (Bad e) = 0

@@ -1,5 +1,5 @@
 -- A walk that is put together in vectors that have room for all of it.
-use Rattle.std.specs.Prelude.{◌≡◌, ◌+◌, ◌≤◌, length, vec_capacity}
+use Rattle.std.specs.Prelude.{◌≡◌, ℕ, ◌+◌, ◌-◌, ◌^◌, ◌≤◌, length, min, vec_capacity}
 use Rattle.zio_trace.specs.Tasks.{Walked}
 use Rattle.zio_parts.specs.declared.gathered.Gathered.{Gathered}
 use Rattle.zio_parts.specs.declared.walked.Counts.{Counts}
@@ -20,8 +20,12 @@ pub record KeepsRoom (old new : Gathered) : Type 0 where
   pub bodies : vec_capacity old.bodies ≤ vec_capacity new.bodies
   pub heads : vec_capacity old.heads ≤ vec_capacity new.heads
 
--- so many items are those of the walk, and one header more
+-- so many, or the most that can be counted
+abbrev pub as_counted : ℕ → ℕ
+as_counted n = min n (2 ^ 64 - 1)
+
+-- so many items are those of the walk, and one header more, as far as they can be counted
 pub record IsRoomFor (w : Walked) (c : Counts) : Type 0 where
-  pub errors : c.errors ≡ length w.errors
-  pub bodies : c.bodies ≡ length w.bodies
-  pub heads : c.heads ≡ length w.heads + 1
+  pub errors : c.errors ≡ as_counted (length w.errors)
+  pub bodies : c.bodies ≡ as_counted (length w.bodies)
+  pub heads : c.heads ≡ as_counted (length w.heads + 1)

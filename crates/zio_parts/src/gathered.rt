@@ -1,6 +1,6 @@
 // A walk that is put together from its header and from what the walks below its members left.
 
-ghost use Rattle.std.specs.Prelude.{◌≡◌, ◌++◌, ◌+◌, ◌≤◌, IfOk, IfSome, length, vec_capacity};
+ghost use Rattle.std.specs.Prelude.{◌≡◌, ◌++◌, ◌+◌, ◌≤◌, IfOk, length, vec_capacity};
 ghost use Rattle.zio_trace.specs.Plans.{under_head};
 ghost use Rattle.zio_parts.specs.Gathers.{FitsIn, IsRoomFor, KeepsRoom, gathered};
 ghost use Rattle.zio_parts.specs.HeadWalks.{joined, joined_behind, no_walk, with_member};
@@ -30,9 +30,7 @@ impl Gathered {
         ensures head { IfOk result (λ all. gathered all ≡ under_head path bytes no_walk) }
         ensures room { IfOk result (λ all. FitsIn (joined_behind (under_head path bytes no_walk) members.now) all) }
     {
-        let Some(room) = room_for(members) else {
-            return Err(NoMemory);
-        };
+        let room = room_for(members);
         let errors = Vec::with_capacity(alloc, room.errors)?;
         let bodies = Vec::with_capacity(alloc, room.bodies)?;
         let mut heads = Vec::with_capacity(alloc, room.heads)?;
@@ -75,21 +73,22 @@ impl Gathered {
     }
 }
 
-/// How much the walks below the members left, and a header, if so much can be counted.
-fn room_for(members: &[Option<Walked>]) -> Option<Counts>
-    ensures { IfSome result (IsRoomFor (joined members.now)) }
+/// How much the walks below the members left, and a header. More than can be counted counts as the most: no vector has room
+/// for so much, and memory for it is refused.
+fn room_for(members: &[Option<Walked>]) -> Counts
+    ensures { IsRoomFor (joined members.now) result }
 {
     match members {
-        [] => Some(Counts {
+        [] => Counts {
             errors: 0,
             bodies: 0,
             heads: 1,
-        }),
+        },
         [member, rest @ ..] => {
-            let behind = room_for(rest)?;
+            let behind = room_for(rest);
             match member {
                 Some(walked) => walked.counts().and(behind),
-                None => Some(behind),
+                None => behind,
             }
         }
     }

@@ -16,6 +16,7 @@ ghost use Rattle.zio_parts.specs.Copies.{AreMirrored, copies_at};
 ghost use Rattle.zio_parts.specs.LeafPlans.{reading_plan, writing_plan};
 
 use crate::copies::LEAF_COPIES_MAX;
+use zio_types::COPIES_MAX;
 
 /// Three places with at most four leaves each have no more copies than can be out together.
 pub fn copies_are_few()

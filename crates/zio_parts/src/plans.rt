@@ -6,7 +6,7 @@ ghost use Rattle.zio_parts.specs.Copies.{AreMirrored, IsMirrored, leaves_at, spo
 ghost use Rattle.zio_parts.specs.CopyReads.{child_in, error_in, leaf_at, order_at, repairs_from};
 
 use crate::copies::{Target, leaves_at};
-use zio_mirror::{ReadPlan, ReadStep};
+use zio_mirror::{PlanStep, ReadPlan};
 use zio_types::{Errno, Place, SECTOR_SIZE, Top};
 
 /// The error of a plan whose children all failed.
@@ -14,8 +14,8 @@ pub(crate) fn all_failed(plan: &ReadPlan) -> Option<Errno>
     ensures { result ≡ error_in (step_of plan.now) }
 {
     match plan.next() {
-        ReadStep::Bad(error) => Some(error),
-        ReadStep::Try(_) | ReadStep::Good(_) => None,
+        PlanStep::Bad(error) => Some(error),
+        PlanStep::Try(_) | PlanStep::Good(_) => None,
     }
 }
 
@@ -24,8 +24,8 @@ pub(crate) fn child_to_try(plan: &ReadPlan) -> u32
     ensures { result ≡ child_in (step_of plan.now) }
 {
     match plan.next() {
-        ReadStep::Try(child) => child,
-        ReadStep::Good(_) | ReadStep::Bad(_) => 0,
+        PlanStep::Try(child) => child,
+        PlanStep::Good(_) | PlanStep::Bad(_) => 0,
     }
 }
 

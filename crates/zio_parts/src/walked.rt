@@ -1,6 +1,6 @@
 // What a walk over headers left.
 
-ghost use Rattle.std.specs.Prelude.{◌≡◌, ◌+◌, ◌∷◌, [], IfOk, IfSome, Some, Option, length};
+ghost use Rattle.std.specs.Prelude.{◌≡◌, ◌+◌, ◌∷◌, [], IfOk, Some, Option, length};
 ghost use Rattle.zio_types.specs.Errors.{worst_of};
 ghost use Rattle.zio_cksum.specs.Blocks.{blame};
 ghost use Rattle.zio_gang.specs.declared.tree.Tree.{Tree};
@@ -8,6 +8,7 @@ ghost use Rattle.zio_trace.specs.Calls.{answered_at};
 ghost use Rattle.zio_trace.specs.Plans.{only, plan_claim, plan_free, stopped};
 ghost use Rattle.zio_trace.specs.Programs.{Ends};
 ghost use Rattle.zio_trace.specs.Tasks.{WalkedBy};
+ghost use Rattle.zio_parts.specs.Gathers.{as_counted};
 ghost use Rattle.zio_parts.specs.HeadWalks.{body_of, no_walk};
 ghost use Rattle.zio_parts.specs.TreeReads.{bodies_or, claiming};
 
@@ -62,16 +63,17 @@ pub(crate) struct Counts {
 }
 
 impl Counts {
-    /// As many as both, if they can be counted.
-    pub(crate) fn and(self, others: Counts) -> Option<Counts>
-        ensures { IfSome result (λ all. (all.errors ≡ self.errors + others.errors) × (all.bodies ≡ self.bodies + others.bodies)
-            × (all.heads ≡ self.heads + others.heads)) }
+    /// As many as both. More than can be counted counts as the most.
+    pub(crate) fn and(self, others: Counts) -> Counts
+        ensures errors { result.errors ≡ as_counted (self.errors + others.errors) }
+        ensures bodies { result.bodies ≡ as_counted (self.bodies + others.bodies) }
+        ensures heads { result.heads ≡ as_counted (self.heads + others.heads) }
     {
-        Some(Counts {
-            errors: self.errors.checked_add(others.errors)?,
-            bodies: self.bodies.checked_add(others.bodies)?,
-            heads: self.heads.checked_add(others.heads)?,
-        })
+        Counts {
+            errors: self.errors.saturating_add(others.errors),
+            bodies: self.bodies.saturating_add(others.bodies),
+            heads: self.heads.saturating_add(others.heads),
+        }
     }
 }
 

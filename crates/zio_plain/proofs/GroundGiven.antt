@@ -10,7 +10,7 @@ use Rattle.zio_types.specs.Choices.{Choice}
 use Rattle.zio_types.specs.Places.{SamePlaces, are_apart, are_open, end_of, is_below, is_free, is_inside, meets}
 use Rattle.zio_cksum.proofs.AllLemmas.{all_contained, all_contains, all_weaker}
 use Rattle.zio_blocks.specs.Choosers.{AreHeld, AreLeft, EntryLaw, taken_by_all}
-use Rattle.zio_blocks.specs.PlaceSets.{SamePlaces-then, all_pass}
+use Rattle.zio_cksum.proofs.PlaceSets.{SamePlaces-then, all_pass}
 use Rattle.zio_plain.specs.Grounds.{Moves, SeenGround}
 use Rattle.zio_plain.specs.Grounds.Moves.{Itself, Moved}
 use Rattle.zio_plain.specs.OwnEnds.{Named}

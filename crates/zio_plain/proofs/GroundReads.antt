@@ -29,7 +29,7 @@ use Rattle.zio_disks.specs.Trees.{IsPlacedTree}
 use Rattle.zio_disks.specs.Whole.{IsWholeTree}
 use Rattle.zio_blocks.specs.Choosers.{AreHeld, EntryLaw, HoldsOfNone}
 use Rattle.zio_blocks.specs.Claims.{AreTaken}
-use Rattle.zio_blocks.specs.PlaceSets.{SamePlaces-back, free_same}
+use Rattle.zio_cksum.proofs.PlaceSets.{SamePlaces-back, free_same}
 use Rattle.zio_course.specs.declared.runner.Stop.{Stop}
 use Rattle.zio_course.specs.declared.runner.Stop.TheVariants.{Device, Memory}
 use Rattle.zio_course.specs.Runners.{places_of_block, read_size}

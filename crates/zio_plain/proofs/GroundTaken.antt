@@ -16,7 +16,7 @@ use Rattle.zio_gang.specs.declared.tree.Tree.{Tree}
 use Rattle.zio_gang.specs.Trees.{tree_places, tree_pointers}
 use Rattle.zio_disks.specs.Trees.{IsPlacedIn, IsPlacedTree}
 use Rattle.zio_blocks.specs.Choosers.{IsFound, IsFoundEntry, taken_by_all}
-use Rattle.zio_blocks.specs.PlaceSets.{all_pass, pass_all}
+use Rattle.zio_cksum.proofs.PlaceSets.{all_pass, pass_all}
 use Rattle.zio_course.specs.Runners.{places_of_block}
 use Rattle.zio_plain.specs.GroundPlaces.{inside_append}
 

@@ -42,7 +42,7 @@ use Rattle.zio_blocks.specs.declared.place.Writing.{Writing}
 use Rattle.zio_blocks.specs.Blocks.{AnswersBy, AsksFor, IsOf, Places, terms_of}
 use Rattle.zio_blocks.specs.Choosers.{AreHeld, EntryLaw, GivesEntries, GivesOpen, IsFoundEntry, given_since, taken_by_all}
 use Rattle.zio_blocks.proofs.OpenLemmas.{found_open}
-use Rattle.zio_blocks.specs.PlaceSets.{SamePlaces-append, SamePlaces-back, SamePlaces-moved, SamePlaces-then}
+use Rattle.zio_cksum.proofs.PlaceSets.{SamePlaces-append, SamePlaces-back, SamePlaces-moved, SamePlaces-then}
 use Rattle.zio_course.specs.declared.runner.Stop.{Stop}
 use Rattle.zio_course.specs.declared.runner.Stop.TheVariants.{Device, Memory}
 use Rattle.zio_course.specs.Runners.{places_of_block, read_size}

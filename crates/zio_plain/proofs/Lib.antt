@@ -12,13 +12,9 @@ pub mod PassLemmas
 pub mod SettleLemmas
 pub mod SettlingLemmas
 pub mod CountLemmas
-pub mod SortedLemmas
 pub mod OwnerLemmas
 pub mod RestLemmas
 pub mod AfterLemmas
-pub mod PlainItems
-pub mod PlainPlaces
-pub mod PlainLoose
 pub mod PlainFreed
 pub mod PlainGiven
 pub mod PlainLive

@@ -21,6 +21,7 @@ use Rattle.zio_gang.specs.Trees.{tree_places}
 use Rattle.zio_gang.proofs.AttemptLemmas.{attempt_each-append}
 use Rattle.zio_blocks.specs.Blocks.{AnswersBy}
 use Rattle.zio_course.specs.declared.runner.RequestEnd.{RequestEnd}
+use Rattle.zio_course.proofs.MadePlaces.{made_append}
 use Rattle.zio_course.specs.Runners.{AreRisingFrom, finished_of, has_claim, made_places, made_trees}
 use Rattle.zio_plain.specs.declared.judge.Fate.{Fate}
 use Rattle.zio_plain.specs.declared.judge.Fate.TheVariants.{Ends, Again}
@@ -184,9 +185,6 @@ asks_append a b = map-append (λ (c : Choice). c.asked) a b
 
 abbrev one_fated : Waiting → Fate → List Fated
 one_fated w fate = record { waiting = w; fate = fate } ∷ []
-
-pub made_append : (a b : List RequestEnd) → made_places (a ++ b) ≡ made_places a ++ made_places b
-made_append a b = ap (flat_map tree_places) (flat_map-append _ a b) ∙ flat_map-append tree_places (made_trees a) (made_trees b)
 
 -- ---- so far
 

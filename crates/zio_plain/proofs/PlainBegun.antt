@@ -22,7 +22,7 @@ use Rattle.zio_disks.specs.Whole.{IsWholeTree}
 use Rattle.zio_disks.proofs.ClaimLemmas.{members_valid}
 use Rattle.zio_disks.proofs.DiskLemmas.{same_itself}
 use Rattle.zio_blocks.specs.Choosers.{AreHeld, EntryLaw, HoldsOfNone}
-use Rattle.zio_blocks.specs.PlaceSets.{all_pass, pass_all}
+use Rattle.zio_cksum.proofs.PlaceSets.{all_pass, pass_all}
 use Rattle.zio_course.specs.Runners.{joined_trees, named_places, places_of_block}
 use Rattle.zio_plain.specs.declared.ground.Ground.{Ground}
 use Rattle.zio_plain.specs.Grounds.{CanRun, HasMoved, Moves, SeenGround, seen}

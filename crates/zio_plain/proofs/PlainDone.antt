@@ -29,10 +29,13 @@ use Rattle.zio_plain.proofs.OwnerLemmas.{runs_apart}
 use Rattle.zio_plain.proofs.PlainBegun.{SteadyPlain, begun, whole_valid}
 use Rattle.zio_plain.proofs.PlainFreed.{freed_fewer, freed_whole, places_in}
 use Rattle.zio_plain.proofs.PlainGiven.{freed_same}
-use Rattle.zio_plain.proofs.PlainItems.{found_one, of_part, one_found, part_of}
-use Rattle.zio_plain.proofs.PlainLive.{live_after, made_inside, made_open, made_same}
-use Rattle.zio_plain.proofs.PlainLoose.{changed_loose, same_length, told_count}
-use Rattle.zio_plain.proofs.PlainPlaces.{apart_fewer}
+use Rattle.zio_course.proofs.ItemLemmas.{found_one, of_part, one_found, part_of}
+use Rattle.zio_course.proofs.MadePlaces.{made_inside, made_open, made_same}
+use Rattle.zio_plain.proofs.PlainLive.{live_after}
+use Rattle.zio_disks.proofs.TellLemmas.{told_count}
+use Rattle.zio_course.proofs.ItemLemmas.{same_length}
+use Rattle.zio_course.proofs.LooseLemmas.{changed_loose}
+use Rattle.zio_course.proofs.OpenPlaces.{apart_fewer}
 
 -- a block that is to be freed is one that is named
 frees_named : (work : Work) (block : Option Tree) (q : Place) → IsOneOf q (freed_by work block) → IsOneOf q (places_of_block block)

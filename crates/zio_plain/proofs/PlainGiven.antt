@@ -22,9 +22,9 @@ use Rattle.zio_plain.specs.Passes.{AreChained, AreNumberedApart, Fated, IsFated,
 use Rattle.zio_plain.specs.Settlings.{IsTreeRun, TreeRun, ends_run, freed_run, requests_run, trees_in}
 use Rattle.zio_plain.specs.Waits.{pending_of, pendings}
 use Rattle.zio_plain.proofs.OwnerLemmas.{joined_runs, left_was, one_number}
-use Rattle.zio_plain.proofs.PlainItems.{any_in, any_out, filtered_in, filtered_out, found_one, image_of, of_part, one_either, one_found, part_of}
+use Rattle.zio_course.proofs.ItemLemmas.{any_in, any_out, filtered_in, filtered_out, found_one, image_of, of_part, one_either, one_found, part_of}
 use Rattle.zio_plain.proofs.PlainFreed.{block_freed, freed_again, places_append, places_in, to_free}
-use Rattle.zio_plain.proofs.SortedLemmas.{all_moved}
+use Rattle.zio_course.proofs.NumberSorts.{all_moved}
 
 -- one of the requests finished without error, and gave back this place
 pub record IsGiven (ws : List Waiting) (fs : List RequestEnd) (p : Place) : Type 0 where

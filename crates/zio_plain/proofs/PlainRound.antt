@@ -20,6 +20,7 @@ use Rattle.zio_blocks.specs.Choosers.{AreHeld, AreLeft, EntryLaw, HoldsOfNone}
 use Rattle.zio_blocks.specs.EntryLaws.{are_lawful_same}
 use Rattle.zio_course.specs.declared.runner.RequestEnd.{RequestEnd}
 use Rattle.zio_course.specs.Runners.{AreRunnable, DiffersInRound, IsRound, SeenEnd, Standing, StandsAfter, StoppedAfter, made_places, terms_at}
+use Rattle.zio_course.proofs.FreedLemmas.{runnable_freed}
 use Rattle.zio_plain.specs.declared.ground.Ground.{Ground}
 use Rattle.zio_plain.specs.Grounds.{Breaks, Moves, SeenGround, TellChanged, seen}
 use Rattle.zio_plain.specs.Plains.{IsSteady, SeenPlain, standing_of}
@@ -27,7 +28,7 @@ use Rattle.zio_plain.specs.Settlings.{IsTreesRun, TreeRun, ends_run, named_in}
 use Rattle.zio_plain.proofs.PlainBegun.{HasBegun, SteadyPlain, begun, has_moved, sees_begun}
 use Rattle.zio_plain.proofs.PlainDone.{HasRun, all_entries, differs, lives}
 use Rattle.zio_plain.proofs.PlainFreed.{places_in}
-use Rattle.zio_plain.proofs.PlainLoose.{one_told}
+use Rattle.zio_disks.proofs.TellLemmas.{one_told}
 use Rattle.zio_plain.proofs.PlainTold.{asked_distinct, round_told, seen_end, seen_itself}
 
 -- what holds after an error holds where there is one
@@ -67,7 +68,7 @@ module _ {D C : Type 0} (bytes faults faults_at_fetch : D → ℕ) (home image :
     freed_are = r.freed_are;
     once = runs.once;
     within = runs.live;
-    apart = runs.freed;
+    apart = runnable_freed (standing_of faults live p) trees runs;
   }
 
   -- ---- after the round

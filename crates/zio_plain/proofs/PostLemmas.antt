@@ -1,8 +1,8 @@
 -- Trees that stand one after another, and a request behind the trees of its children.
-use Rattle.std.proofs.Common.{◌≡◌, ℕ, suc, ◌+◌, ◌≤◌, List, [], ◌∷◌, ◌++◌, length, map, take, drop, reverse, count_by, cond, true, Option, Some, IfSome, is_some, refl, sym, ap, ◌∙◌, subst, arith, length-append, append_assoc}
+use Rattle.std.proofs.Common.{◌≡◌, ℕ, suc, ◌+◌, ◌-◌, ◌^◌, ◌<◌, ◌≤◌, List, [], ◌∷◌, ◌++◌, length, map, get_or, min, take, drop, reverse, count_by, cond, true, Option, Some, IfSome, is_some, refl, sym, ap, ◌∙◌, subst, arith, length-append, append_assoc}
 use Rattle.std.specs.Prelude.{option_to_list}
 use Rattle.std.specs.List.{AllByRecursion, flat_map}
-use Rattle.std.proofs.lemmas.List.{reverse-append, map-append, take-append-le, drop-append-le, append-nil, length-reverse}
+use Rattle.std.proofs.lemmas.List.{reverse-append, map-append, take-append-le, drop-append-le, append-nil, length-map, length-reverse, take_more}
 use Rattle.std.proofs.lemmas.List.Sums.{sum_by-cons}
 use Rattle.std.proofs.Math.Seq.{drop-length, take-length}
 use Rattle.std.proofs.lemmas.Grind.{flat_map-append}
@@ -209,6 +209,42 @@ pub joined_ends : (fits : Tree → Type 0) (trees rest : List (List Pending)) (a
 joined_ends fits trees rest all result h none same =
     let whole : h.done ≡ trees = sym (append-nil h.done) ∙ ap (λ ts. h.done ++ ts) (sym none) ∙ sym h.split in
     subst (AreTrees fits trees) (sym same) (subst (λ (ts : List (List Pending)). AreTrees fits ts all) whole h.joined)
+
+-- how many requests the trees have that stand before a tree, it, and those behind it
+joined_count : (done next : List (List Pending)) (tree : List Pending)
+    → length (joined_trees (done ++ tree ∷ next)) ≡ length (joined_trees done) + (length tree + length (joined_trees next))
+joined_count done next tree =
+    ap length (flat_map-append (λ (t : List Pending). t) done (tree ∷ next))
+    ∙ length-append (joined_trees done) (tree ++ joined_trees next)
+    ∙ ap (λ n. length (joined_trees done) + n) (length-append tree (joined_trees next))
+
+-- the next tree's requests fit into room for all
+pub joined_fits : (fits : Tree → Type 0) (trees rest next : List (List Pending)) (tree : List Pending) (all ws more : List Waiting) (room : ℕ)
+    → AreJoined fits trees rest all → length (joined_trees trees) + 1 ≤ room → rest ≡ tree ∷ next → pendings ws ≡ tree → more ≡ ws
+    → length all + length more ≤ room
+joined_fits fits trees rest next tree all ws more room h enough first seen same =
+    let count : length (joined_trees trees) ≡ length (joined_trees h.done) + (length tree + length (joined_trees next)) =
+    ap (λ (ts : List (List Pending)). length (joined_trees ts)) (h.split ∙ ap (λ ts. h.done ++ ts) first) ∙ joined_count h.done next tree in
+    let before : length all ≡ length (joined_trees h.done) = sym (length-map all pending_of) ∙ ap length h.joined.same in
+    let of_tree : length more ≡ length tree = ap length same ∙ sym (length-map ws pending_of) ∙ ap length seen in
+    omega (arith, count, before, of_tree, enough)
+
+-- and then one more
+pub joined_room : (fits : Tree → Type 0) (trees : List (List Pending)) (all : List Waiting) (room : ℕ) → AreTrees fits trees all
+    → length (joined_trees trees) + 1 ≤ room → length all < room
+joined_room fits trees all room h enough =
+    let count : length all ≡ length (joined_trees trees) = sym (length-map all pending_of) ∙ ap length h.same in
+    omega (arith, count, enough)
+
+-- room for one tree more, as far as it can be counted
+pub room_more : (trees : List (List Pending)) (i room size after : ℕ) (tree : List Pending)
+    → room ≡ min (length (joined_trees (take i trees)) + 1) (2 ^ 64 - 1) → i < length trees → tree ≡ get_or trees i tree → size ≡ length tree
+    → after ≡ min (room + size) (2 ^ 64 - 1) → after ≡ min (length (joined_trees (take (i + 1) trees)) + 1) (2 ^ 64 - 1)
+room_more trees i room size after tree h l is sized more =
+    let all : length (joined_trees (take (i + 1) trees)) ≡ length (joined_trees (take i trees)) + (length tree + 0) =
+    ap (λ (ts : List (List Pending)). length (joined_trees ts)) (take_more trees i tree l ∙ ap (λ (t : List Pending). take i trees ++ t ∷ []) (sym is))
+    ∙ joined_count (take i trees) [] tree in
+    omega (arith, h, sized, more, all)
 
 pub tree_grown : (fits : Tree → Type 0) (r : Request) (birth : ℕ) (block : Option Tree) (trees : List (List Pending)) (all after : List Waiting) (w : Waiting)
     → after ≡ all ++ w ∷ [] → IsNewTree r birth block trees → IfSome block fits → AreTrees fits trees all

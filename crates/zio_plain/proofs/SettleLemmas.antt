@@ -24,7 +24,8 @@ use Rattle.zio_plain.specs.OwnEnds.{AreNamed, Named}
 use Rattle.zio_plain.specs.Passes.{AreChained, AreNumberedApart, ArePasses, Fated, HasNumber, IsAmong, IsFated, IsFateOf, IsPass, IsPassed, IsPassOf, IsSettled, LastIsAgain, all_ends, all_freed, ends_in, freed_in, left_in, waitings_in}
 use Rattle.zio_plain.specs.Posts.{IsOneTree, requests_in}
 use Rattle.zio_plain.specs.Waits.{pendings}
-use Rattle.zio_plain.proofs.PassLemmas.{answers_before, asked_both, asked_weaker, made_append}
+use Rattle.zio_course.proofs.MadePlaces.{made_append}
+use Rattle.zio_plain.proofs.PassLemmas.{answers_before, asked_both, asked_weaker}
 
 -- ---- what is left of a pass
 

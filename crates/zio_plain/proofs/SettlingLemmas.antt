@@ -26,7 +26,8 @@ use Rattle.zio_plain.specs.Passes.{AreNumberedApart, ArePasses, HasNumber, IsAmo
 use Rattle.zio_plain.specs.Posts.{IsOneTree, IsSound, requests_in}
 use Rattle.zio_plain.specs.Settlings.{AreRun, IsRan, IsTreeRun, TellsRan, TreeRun, ends_run, freed_run, named_in, requests_run, trees_in, trees_left}
 use Rattle.zio_plain.specs.Waits.{pending_of, pendings}
-use Rattle.zio_plain.proofs.PassLemmas.{answers_before, asked_both, made_append, number_back, number_front}
+use Rattle.zio_course.proofs.MadePlaces.{made_append}
+use Rattle.zio_plain.proofs.PassLemmas.{answers_before, asked_both, number_back, number_front}
 use Rattle.zio_plain.proofs.NamedLemmas.{claims_all, named_each}
 
 -- ---- trees one after another

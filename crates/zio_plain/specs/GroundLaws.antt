@@ -25,7 +25,8 @@ use Rattle.zio_blocks.specs.Choosers.{Continues, EntryLaw, taken_by_all}
 use Rattle.zio_blocks.proofs.AskLemmas.{spots_join}
 use Rattle.zio_course.specs.declared.runner.Stop.{Stop}
 use Rattle.zio_course.specs.declared.runner.Stop.TheVariants.{Device, Memory}
-use Rattle.zio_plain.specs.Grounds.{Breaks, CanRun, ChangedAt, HasMoved, Moves, SeenGround, TellChanged}
+use Rattle.zio_course.specs.Changes.{ChangedAt}
+use Rattle.zio_plain.specs.Grounds.{Breaks, CanRun, HasMoved, Moves, SeenGround, TellChanged}
 use Rattle.zio_plain.specs.Grounds.Moves.{Itself, Moved}
 use Rattle.zio_plain.specs.OwnEnds.{Named}
 use Rattle.zio_plain.specs.GroundPlaces.{free_among, inside_append, live_then, open_then, still_used, used_then}

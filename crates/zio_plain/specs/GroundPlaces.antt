@@ -10,7 +10,7 @@ use Rattle.zio_types.specs.Places.{SamePlaces, are_apart, are_open, is_free, is_
 use Rattle.zio_cksum.proofs.AllLemmas.{all_append, all_contained, all_contains, all_weaker}
 use Rattle.zio_places.proofs.PlaceLemmas.{meets-symmetric}
 use Rattle.zio_blocks.specs.EntryLaws.{SamePlaces-swap}
-use Rattle.zio_blocks.specs.PlaceSets.{SamePlaces-behind, SamePlaces-then, all_pass, pass_all}
+use Rattle.zio_cksum.proofs.PlaceSets.{SamePlaces-behind, SamePlaces-then, all_pass, pass_all}
 
 -- ---- free places
 

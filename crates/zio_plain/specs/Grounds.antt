@@ -14,6 +14,7 @@ use Rattle.zio_disks.specs.Disks.{AnyRose, AreSameDisks, Tell}
 use Rattle.zio_disks.specs.Trees.{BearsTops, IsPlacedTree}
 use Rattle.zio_blocks.specs.Blocks.{HavePointers}
 use Rattle.zio_blocks.specs.Choosers.{AreHeld, EntryLaw, taken_by_all}
+use Rattle.zio_course.specs.Changes.{ChangedAt}
 use Rattle.zio_plain.specs.declared.ground.Ground.{Ground}
 use Rattle.zio_plain.specs.OwnEnds.{Named}
 
@@ -47,13 +48,6 @@ pub record CanRun {D : Type 0} (bytes : D → ℕ) (g : SeenGround D) (block : O
   pub sizes : g.sizes ≡ sizes_of g.setting.tops
   pub held : AreHeld g.sizes g.used g.live
   pub placed : IfSome block (IsPlacedTree (sizes_of g.setting.tops))
-
--- The images changed only at these places: each lies inside its top, and is one of the named ones or wasn't in use.
-pub record ChangedAt (s : Setting) (sizes : List TopSize) (used named : List Place) (before after : Images) : Type 0 where
-  pub places : List Place
-  pub inside : IsTrue (list_all (is_inside sizes) places)
-  pub may : AllByRecursion (λ (p : Place). Contains named p ⊎ IsTrue (is_free used p)) places
-  pub same : SameOutside (spots_of s places) before after
 
 -- for images that they told, the disks tell images that changed only so
 abbrev pub TellChanged : {D : Type 0} → (D → List ℕ → Type 0) → List Place → SeenGround D → SeenGround D → Type 0

@@ -8,12 +8,12 @@ use crate::trees::{TreesEnd, run_trees};
 use std::alloc::Global;
 use std::marker::Model;
 use zio_blocks::{Chooser, LawfulChooser};
-use zio_course::{Job, RequestEnd, RoundEnd, Runner, Stop};
+use zio_course::{ChildrenBack, Job, RequestEnd, RoundEnd, Runner, Stop};
 use zio_disks::Setting;
 use zio_gang::Tree;
 use zio_outside::Disk;
 use zio_script::Request;
-use zio_types::{List, NoMemory};
+use zio_types::List;
 
 mod ends;
 
@@ -75,7 +75,7 @@ impl<D: Disk + Drop, C: Chooser + Drop> Plain<D, C> {
 }
 
 impl<D: Disk + Drop, C: LawfulChooser + Drop> Runner for Plain<D, C> {
-    ghost use Rattle.std.specs.Prelude.{◌≡◌, ◌<◌, List, false, IfOk, IfSome, IsErrOf, OnErr, map};
+    ghost use Rattle.std.specs.Prelude.{◌≡◌, ◌<◌, List, false, IfErr, IfOk, IfSome, IsErrOf, OnErr, map};
     ghost use Rattle.std.specs.List.{AllByRecursion};
     ghost use Rattle.zio_cksum.specs.Images.{Images};
     ghost use Rattle.zio_gang.specs.Attempts.{Pending};
@@ -112,10 +112,11 @@ impl<D: Disk + Drop, C: LawfulChooser + Drop> Runner for Plain<D, C> {
         birth: u32,
         block: Option<Tree>,
         children: List<PlainTree>,
-    ) -> Result<PlainTree, NoMemory>
+    ) -> Result<PlainTree, ChildrenBack<PlainTree>>
         requires whole { IsNewTree request.now birth block (map (λ (tree : List Pending). tree) children) }
         requires fits { IfSome block IsWholeTree }
         ensures made { IfOk result (λ tree. tree ≡ tree_over (map (λ (tree : List Pending). tree) children) (fresh request.now birth block)) }
+        ensures back { IfErr result (λ back. back.children ≡ children) }
         ensures stays { Stays (standing_of D.faults C.live self.old) (standing_of D.faults C.live self.new) (λ images. Tell D.image self.old.disks images) (λ images. Tell D.image self.new.disks images) }
         ensures same { AreSameDisks D.bytes D.faults D.faults_at_fetch D.home D.image D.sound self.old.disks self.new.disks }
     {

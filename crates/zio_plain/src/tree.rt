@@ -1,14 +1,15 @@
 //! A tree of requests in the order of their attempts.
 
-ghost use Rattle.std.specs.Prelude.{◌≡◌, IfOk, IfSome};
+ghost use Rattle.std.specs.Prelude.{◌≡◌, ◌++◌, ◌+◌, ◌-◌, ◌^◌, ◌<◌, ◌≤◌, [], IfErr, IfOk, IfSome, length, min, vec_capacity, vec_len};
 ghost use Rattle.zio_disks.specs.Whole.{IsWholeTree};
-ghost use Rattle.zio_course.specs.Runners.{IsNewTree, fresh, tree_over};
+ghost use Rattle.zio_course.specs.Runners.{IsNewTree, fresh, joined_trees, tree_over};
 ghost use Rattle.zio_plain.specs.Posts.{AreTrees};
 
 use crate::request::request_again;
 use crate::waiting::Waiting;
 use std::alloc::Global;
 use std::marker::Model;
+use zio_course::ChildrenBack;
 use zio_gang::Tree;
 use zio_script::Request;
 use zio_types::{List, NoMemory};
@@ -34,39 +35,82 @@ impl Model for PlainTree {
     ghost invariant = { λ t. IsOneTree IsWholeTree t.waiting };
 }
 
-/// Makes a tree of a request and its children's trees.
+/// Makes a tree of a request and its children's trees. Where memory is refused these come back.
 pub(crate) fn tree_over(
     alloc: Global,
     request: &Request,
     birth: u32,
     block: Option<Tree>,
     children: List<PlainTree>,
-) -> Result<PlainTree, NoMemory>
+) -> Result<PlainTree, ChildrenBack<PlainTree>>
     requires whole { IsNewTree request.now birth block children }
     requires fits { IfSome block IsWholeTree }
-    ensures { IfOk result (λ tree. tree ≡ tree_over children (fresh request.now birth block)) }
+    ensures made { IfOk result (λ tree. tree ≡ tree_over children (fresh request.now birth block)) }
+    ensures back { IfErr result (λ back. back.children ≡ children) }
 {
-    let request = request_again(alloc, request)?;
+    let Ok((request, room)) = begin_tree(alloc, request, children.as_slice()) else {
+        return Err(ChildrenBack { children });
+    };
     let unfinished = children.len() as u32;
-    let mut waiting = joined(alloc, children)?;
-    waiting.push(Waiting {
+    let mut waiting = joined(room, children);
+    waiting.push_reserved(Waiting {
         request,
         birth,
         block,
         kept: List::new(alloc),
         unfinished,
-    })?;
-    Ok(PlainTree { waiting })
+    });
+    Ok(PlainTree {
+        waiting: List::from_vec(waiting),
+    })
 }
 
-/// The requests of some trees, one tree after another.
-fn joined(alloc: Global, trees: List<PlainTree>) -> Result<List<Waiting>, NoMemory>
-    ensures { IfOk result (AreTrees IsWholeTree trees) }
+/// The request once more, and room for it behind all of its children's trees.
+fn begin_tree(
+    alloc: Global,
+    request: &Request,
+    children: &[PlainTree],
+) -> Result<(Request, Vec<Waiting>), NoMemory>
+    ensures request { IfOk result (λ begun. begun.0 ≡ request.now) }
+    ensures none { IfOk result (λ begun. begun.1.items ≡ []) }
+    ensures room { IfOk result (λ begun. length (joined_trees children.now) + 1 ≤ vec_capacity begun.1) }
 {
-    let mut all = Vec::new(alloc);
-    for tree in trees.into_rest() {
-        let mut more = tree.waiting.into_vec();
-        all.append(&mut more)?;
+    let all = Vec::with_capacity(alloc, room_over(children))?;
+    let request = request_again(alloc, request)?;
+    Ok((request, all))
+}
+
+/// How many requests a tree over these has. More than can be counted counts as the most: no vector has room for so many.
+fn room_over(children: &[PlainTree]) -> usize
+    ensures { result ≡ min (length (joined_trees children.now) + 1) (2 ^ 64 - 1) }
+{
+    let mut room: usize = 1;
+    for tree in children {
+        room = room.saturating_add(tree.waiting.len());
     }
-    Ok(List::from_vec(all))
+    room
+}
+
+/// The requests of some trees, one tree after another, for which there is room, and for one more.
+fn joined(mut all: Vec<Waiting>, trees: List<PlainTree>) -> Vec<Waiting>
+    requires none { all.items ≡ [] }
+    requires room { length (joined_trees trees) + 1 ≤ vec_capacity all }
+    ensures trees { AreTrees IsWholeTree trees result.items }
+    ensures room { vec_len result < vec_capacity result }
+{
+    for tree in trees.into_rest() {
+        put_reserved(&mut all, tree.waiting.into_vec());
+    }
+    all
+}
+
+/// Moves these to the end, where there is room for them.
+fn put_reserved(all: &mut Vec<Waiting>, mut more: Vec<Waiting>)
+    requires { length all.old.items + length more.items ≤ vec_capacity all.old }
+    ensures items { all.new.items ≡ all.old.items ++ more.items }
+    ensures capacity { vec_capacity all.old ≤ vec_capacity all.new }
+{
+    if all.append(&mut more).is_err() {
+        unreachable!()
+    }
 }

@@ -59,7 +59,6 @@ setting_of script sizes tops rows point pool ok named bears lawful short count s
       rows = same;
       can = record {
         bears = record { rows = subst (λ (rs : List Row). AllByRecursion RowFits rs) (sym same) pool.rows; tops = bears };
-        small = all_weaker HasLawfulSize (λ n. n ≤ 2 ^ 28) sizes (λ n fits. fits.high) measured;
         pointers = record {
           few = (let most = pool.most in omega (arith, count));
           lawful = lawful_each tops lawful;

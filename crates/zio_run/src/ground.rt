@@ -18,11 +18,11 @@ use std::alloc::Global;
 use zio_disks::Setting;
 use zio_faults::FaultTable;
 use zio_gang::Ending;
-use zio_graph::Graph;
+use zio_graph::{FirstPicks, Graph, Picks, from_seed};
 use zio_outside::{Disk, Sink};
 use zio_report::{RunFault, Show};
 use zio_script::Script;
-use zio_turns::{DisksBack, FirstPicks, Picks, from_seed};
+use zio_turns::DisksBack;
 use zio_types::{Journal, List, NoMemory, Top};
 
 /// Runs the script over disks whose sizes were measured, and hands them back. The turns are picked from a seed, or the

@@ -9,12 +9,11 @@ ghost use Rattle.zio_run.specs.Seen.{sink_by};
 
 use std::alloc::Global;
 use zio_gang::Ending;
-use zio_graph::Graph;
+use zio_graph::{Graph, Picks};
 use zio_outside::{Disk, Sink};
 use zio_report::{RunFault, Show};
 use zio_script::Script;
 use zio_suspend::run_script;
-use zio_turns::Picks;
 use zio_types::Journal;
 
 /// Runs the script on an engine that has run nothing yet, over so many images, and hands the disks back.

@@ -3,6 +3,7 @@
 use std::alloc::{AllocError, Global};
 use std::fs;
 use std::io::ErrorKind;
+use std::os::unix::fs::FileTypeExt;
 use std::rt::Files;
 use zio_run::{IMAGE_LEN_MAX, IMAGE_LEN_MIN};
 
@@ -117,6 +118,11 @@ fn trouble<R: Files>(rt: &R, name: &str) -> &'static str {
         Err(error) if error.kind() == ErrorKind::NotFound => "there is no such file",
         Err(_) => "it can't be looked at",
         Ok(about) if about.is_dir() => "it is a folder",
+        // What the system says of a device's length isn't its size.
+        Ok(about) if about.file_type().is_block_device() => {
+            "the device can't be opened, or hasn't 65,536 to 268,435,456 bytes"
+        }
+        Ok(about) if !about.is_file() => "it is neither a file nor a block device",
         Ok(about) if about.len() < IMAGE_LEN_MIN => "it has fewer than 65,536 bytes",
         Ok(about) if about.len() > IMAGE_LEN_MAX => "it has more than 268,435,456 bytes",
         Ok(_) => "it can't be opened for reading and writing",

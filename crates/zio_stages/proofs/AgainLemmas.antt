@@ -10,6 +10,7 @@ use Rattle.zio_trace.specs.Tasks.{AttemptedBy, Got, Wrote, Found, StoredAs, Walk
 use Rattle.zio_children.specs.RequestKids.{RiseFrom, kids_by}
 use Rattle.zio_frames.specs.Slots.{Heard, IsOut, Slot}
 use Rattle.zio_stages.specs.declared.waiting.UnfinishedRequest.{UnfinishedRequest}
+use Rattle.zio_parts.specs.Gathers.{as_counted}
 use Rattle.zio_stages.specs.KidTrees.{AreLeft, AreNumbered, IsLeft, trees_left}
 use Rattle.zio_stages.specs.Wholes.{AreTrees, IsForestOf, IsTreeOf, IsWhole, joined, number_or, root_number, root_of, roots_in}
 use Rattle.zio_stages.proofs.ForestLemmas.{one_forest}
@@ -26,9 +27,9 @@ joined_append : (xs ys : List (List UnfinishedRequest)) → joined (xs ++ ys) �
 joined_append xs ys = flat_map-append (λ (ws : List UnfinishedRequest). ws) xs ys
 
 pub left_more : (xs : List (Option (List UnfinishedRequest))) (i room size after : ℕ) (x : Option (List UnfinishedRequest))
-    → room ≡ length (joined (trees_left (take i xs))) + 1 → i < length xs → x ≡ get_or xs i x
+    → room ≡ as_counted (length (joined (trees_left (take i xs))) + 1) → i < length xs → x ≡ get_or xs i x
     → size ≡ length (joined (trees_left (x ∷ [])))
-    → after ≡ room + size → after ≡ length (joined (trees_left (take (i + 1) xs))) + 1
+    → after ≡ as_counted (room + size) → after ≡ as_counted (length (joined (trees_left (take (i + 1) xs))) + 1)
 left_more xs i room size after x h l is s more =
     let all : joined (trees_left (take (i + 1) xs)) ≡ joined (trees_left (take i xs)) ++ joined (trees_left (x ∷ [])) =
     ap (λ (ys : List (Option (List UnfinishedRequest))). joined (trees_left ys))

@@ -1,8 +1,9 @@
 //! The tree that goes again: a request over what is left of its children.
 
-ghost use Rattle.std.specs.Prelude.{◌≡◌, ◌+◌, ◌≤◌, ◌∷◌, ◌++◌, [], ℕ, IfOk, IfSome, Some, length, map, true, vec_capacity};
+ghost use Rattle.std.specs.Prelude.{◌≡◌, ◌+◌, ◌≤◌, ◌∷◌, ◌++◌, [], ℕ, IfOk, Some, length, map, true, vec_capacity};
 ghost use Rattle.std.specs.List.{AllByRecursion, list_all};
 ghost use Rattle.zio_trace.specs.Families.{Forest};
+ghost use Rattle.zio_parts.specs.Gathers.{as_counted};
 ghost use Rattle.zio_children.specs.RequestKids.{RiseFrom, child_of, finished_in, is_ended};
 ghost use Rattle.zio_stages.specs.KidTrees.{trees_left};
 ghost use Rattle.zio_stages.specs.Waits.{pending_of};
@@ -25,24 +26,20 @@ pub(crate) fn begin_again(
     ensures room { IfOk result (λ begun. length (joined (trees_left again.now)) + 1 ≤ vec_capacity begun.0) }
     ensures kept { IfOk result (λ begun. map child_of begun.1 ≡ finished_in kids.now) }
 {
-    let room = match room_again(again) {
-        Some(room) => room,
-        None => return Err(NoMemory),
-    };
-    let all = Vec::with_capacity(alloc, room)?;
+    let all = Vec::with_capacity(alloc, room_again(again))?;
     let kept = kids.finished(alloc)?;
     Ok((all, kept))
 }
 
-/// How many requests a tree over what is left has, if so many can be counted.
-fn room_again(again: &[Option<Whole>]) -> Option<usize>
-    ensures { IfSome result (λ room. room ≡ length (joined (trees_left again.now)) + 1) }
+/// How many requests a tree over what is left has. More than can be counted counts as the most: no vector has room for so many.
+fn room_again(again: &[Option<Whole>]) -> usize
+    ensures { result ≡ as_counted (length (joined (trees_left again.now)) + 1) }
 {
     let mut room: usize = 1;
     for left in again {
-        room = room.checked_add(size_left(left))?;
+        room = room.saturating_add(size_left(left));
     }
-    Some(room)
+    room
 }
 
 fn size_left(left: &Option<Whole>) -> usize

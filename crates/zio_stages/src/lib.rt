@@ -72,7 +72,7 @@ pub use part::{OwnBack, PartOwn};
 pub use part_node::{Allocated, PartNode, PartNodeBack};
 pub use pointer_laws::reads_tell_no_pointer;
 pub use read_io::ReadIo;
-pub use request_node::{DoneStep, NodeBack, ReadyStep, RequestNode, Start};
+pub use request_node::{Closed, DoneStep, NodeBack, OwnFound, ReadyStep, RequestNode, Start};
 pub use request_read::{BodyStage, ReadDone};
 pub use request_write::Content;
 pub use services::{Services, Unclaimed};

@@ -84,7 +84,7 @@ pub struct RequestNode {
 
 /// What a request's own work came to.
 #[derive(Drop)]
-pub(crate) struct OwnFound {
+pub struct OwnFound {
     pub(crate) error: Option<Errno>,
     /// Of a read.
     pub(crate) bytes: List<u8>,
@@ -120,9 +120,9 @@ pub enum DoneStep {
     Close,
 }
 
-/// What becomes of a request in an attempt.
+/// What becomes of a request in an attempt. Proofs of other crates name it; no public call takes one or gives one.
 #[derive(Drop)]
-pub(crate) enum Closed {
+pub enum Closed {
     /// It finished with this error or none. With one, the places of the block that it made are to be given back.
     Finished {
         waiting: UnfinishedRequest,

@@ -4,6 +4,7 @@ ghost use Rattle.std.specs.Prelude.{◌≡◌, ◌+◌, ◌≤◌, ◌∷◌, �
 ghost use Rattle.std.specs.List.{AllByRecursion};
 ghost use Rattle.zio_script.specs.Requests.{kind_of};
 ghost use Rattle.zio_trace.specs.Families.{Forest};
+ghost use Rattle.zio_parts.specs.Gathers.{as_counted};
 ghost use Rattle.zio_children.specs.RequestKids.{RiseFrom};
 ghost use Rattle.zio_stages.specs.declared.waiting.UnfinishedRequest.{UnfinishedRequest as SeenWaiting};
 ghost use Rattle.zio_stages.specs.Waits.{fresh, pending_of, pendings};
@@ -118,25 +119,21 @@ fn begin_tree(
     ensures room { IfOk result (λ begun. length (joined children.now) + 1 ≤ vec_capacity begun.1) }
     ensures whole { IfOk result (λ begun. AllByRecursion IsWhole children.now) }
 {
-    let room = match room_over(children) {
-        Some(room) => room,
-        None => return Err(NoMemory),
-    };
-    let all = Vec::with_capacity(alloc, room)?;
+    let all = Vec::with_capacity(alloc, room_over(children))?;
     let request = request_again(alloc, request)?;
     Ok((request, all))
 }
 
-/// How many requests a tree over these has, if so many can be counted.
-fn room_over(children: &[Whole]) -> Option<usize>
-    ensures room { IfSome result (λ room. room ≡ length (joined children.now) + 1) }
-    ensures whole { IfSome result (λ room. AllByRecursion IsWhole children.now) }
+/// How many requests a tree over these has. More than can be counted counts as the most: no vector has room for so many.
+fn room_over(children: &[Whole]) -> usize
+    ensures room { result ≡ as_counted (length (joined children.now) + 1) }
+    ensures whole { AllByRecursion IsWhole children.now }
 {
     let mut room: usize = 1;
     for tree in children {
-        room = room.checked_add(tree.waiting.len())?;
+        room = room.saturating_add(tree.waiting.len());
     }
-    Some(room)
+    room
 }
 
 /// The children's trees and the root behind them, for which there is room. It sets the root's counts.

@@ -28,7 +28,7 @@ use Rattle.zio_turns.proofs.Kept.{all_flying, one_forward, running_as}
 use Rattle.zio_turns.proofs.MoveEnd.{two_child, two_running}
 use Rattle.zio_turns.proofs.MoveEndTree.{tree_child, tree_running}
 use Rattle.zio_turns.proofs.MoveGrow.{top_forward}
-use Rattle.zio_turns.proofs.Spans.{spans_at}
+use Rattle.zio_turns.proofs.Spans.{HasSpan, spans_at}
 
 module _ {N : Type 0} (nodes : Nodes N) (t : Terms) (sizes : ℕ → ℕ) (f : Forest) (before : Option Images) (trees : List Slot)
     (tops : List (Option Flying))
@@ -117,7 +117,7 @@ module _ {N : Type 0} (nodes : Nodes N) (t : Terms) (sizes : ℕ → ℕ) (f : F
       is r.running)
 
   pub one_spans : (key : ℕ) (x : Flying) (others : List Live) (act : LeafOp) → IsSoundRound t sizes f
-      → KeptOf (live_of key x ∷ others) → x.stack ≡ fresh_stack (Leaf act) → 0 < (spot_of act).span
+      → KeptOf (live_of key x ∷ others) → x.stack ≡ fresh_stack (Leaf act) → HasSpan t.setting.tops (spot_of act)
   one_spans key x others act sound k is =
       let r = first_running key x others k in
       spans_at t sizes f before trees (all_flying tops others) r.state x.at act sound

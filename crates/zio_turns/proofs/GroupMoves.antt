@@ -252,6 +252,7 @@ module _ {N D : Type 0} (nodes : Nodes N) (bytes : D → ℕ) (image : D → Lis
     waits = waits_left ops h.waits;
     ready = ready;
     fit = subst (λ (ns : List ℕ). FitDisks sizes ns) (sym disks) h.fit;
+    short = h.short;
     each = issued.count ∙ (h.each ∙ sym (same_count disks));
     tell = tell;
   }

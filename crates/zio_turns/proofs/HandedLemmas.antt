@@ -1,15 +1,18 @@
 -- An operation that is handed to its leaf fits the leaf's queue, and waits there for what it is.
-use Rattle.std.proofs.Common.{◌≡◌, ℕ, ◌+◌, ◌≤◌, ◌^◌, List, [], ◌∷◌, Option, Some, None, Ok, Err, take, Bool, true, false, cond, refl, ap, arith}
+use Rattle.std.proofs.Common.{◌≡◌, ℕ, ◌+◌, ◌*◌, ◌≤◌, ◌^◌, List, [], ◌∷◌, Option, Some, None, Ok, Err, take, Bool, true, false, cond, refl, ap, arith}
 use Rattle.std.proofs.lemmas.Bool.{false≢true}
 use Rattle.zio_cksum.specs.Images.{Spot}
 use Rattle.zio_vqueue.specs.declared.op.Op.{Op}
 use Rattle.zio_vqueue.specs.Queues.{FitsDevice, end_of}
 use Rattle.std.specs.List.{AllByRecursion}
 use Rattle.zio_types.specs.declared.error.Errno.{Errno}
+use Rattle.zio_types.specs.declared.place.Top.{Top}
+use Rattle.zio_types.specs.Places.{sector_size}
 use Rattle.zio_groups.specs.declared.waiting.QueuedOp.{QueuedOp}
-use Rattle.zio_trace.specs.Leaves.{Answer, Fetch, LeafOp, LiesOn, Store, answer_of}
+use Rattle.zio_trace.specs.Leaves.{Answer, Fetch, LeafOp, LiesOn, Store, answer_of, spot_of}
 use Rattle.zio_turns.specs.Stages.{ShowsAnswer}
 use Rattle.zio_stages.specs.LeafWorks.{IsOpAt, IsOpFor}
+use Rattle.zio_turns.specs.ShortTops.{AreShort, EndsWithTops}
 use Rattle.zio_turns.specs.AtLeaves.{WaitForAll, WaitsFor, keyed, put_as}
 
 ends_at : (sizes : ℕ → ℕ) (write retry : Bool) (spot : Spot) (op : Op) (leaf : ℕ) → IsOpAt write retry spot op leaf
@@ -22,10 +25,14 @@ pub ends_on : (sizes : ℕ → ℕ) (act : LeafOp) (op : Op) (leaf : ℕ) (bytes
 ends_on sizes (Fetch retry len spot) op leaf bytes h l = ends_at sizes false retry spot op leaf h.0 l.lies
 ends_on sizes (Store retry stored spot) op leaf bytes h l = ends_at sizes true retry spot op leaf h.0 l.lies
 
-pub fits_queue : (sizes : ℕ → ℕ) (act : LeafOp) (op : Op) (leaf : ℕ) (bytes : List ℕ) → IsOpFor act op leaf bytes
-    → LiesOn sizes act
-    → sizes leaf ≤ 2 ^ 28 → FitsDevice op
-fits_queue sizes act op leaf bytes h l small = let ends = ends_on sizes act op leaf bytes h l in omega (arith, ends, small)
+fits_at : (write retry : Bool) (spot : Spot) (op : Op) (leaf : ℕ) → IsOpAt write retry spot op leaf
+    → spot.at + spot.span ≤ 2 ^ 39 * sector_size → FitsDevice op
+fits_at write retry spot op leaf h ends = omega (arith, h.at, h.len, ends)
+
+pub fits_queue : (tops : List Top) (act : LeafOp) (op : Op) (leaf : ℕ) (bytes : List ℕ) → IsOpFor act op leaf bytes
+    → EndsWithTops tops (spot_of act) → AreShort tops → FitsDevice op
+fits_queue tops (Fetch retry len spot) op leaf bytes h ends short = fits_at false retry spot op leaf h.0 (ends (2 ^ 39) short)
+fits_queue tops (Store retry stored spot) op leaf bytes h ends short = fits_at true retry spot op leaf h.0 (ends (2 ^ 39) short)
 
 under_key : (write retry : Bool) (spot : Spot) (op : Op) (leaf key : ℕ) → IsOpAt write retry spot op leaf
     → IsOpAt write retry spot (keyed 0 (keyed key op)) leaf

@@ -69,14 +69,16 @@ module _ {N : Type 0} (nodes : Nodes N) (owns : GivesOwn {N = N} nodes) (over : 
       → Updates out slab_now key (Some (with_ties {N = N} node e.ties)) → line_now ≡ line → On (ToLeaf op leaf bytes)
   steps_leaf node op leaf bytes moves put same = λ t sizes f before s leaves sound tops_are right k.
       let r = it_is_there nodes t sizes f before s slab (key ∷ line) leaves key e k is in
-      let g = moves t r.node.stack (record { tops_are = tops_are; is = r.is; seated = r.seated }) in (
+      let g = moves t r.node.stack (record { tops_are = tops_are; is = r.is; seated = r.seated }) in
+      let span = one_spans nodes t sizes f before s.trees s.tops (shelf_of {N = N} slab) (key ∷ line) leaves r.state key r.node r.others
+      g.act sound r.kept g.fresh in (
         g.act,
         g.is_op,
         record {
           lies = one_lies nodes t sizes f before s.trees s.tops (shelf_of {N = N} slab) (key ∷ line) leaves r.state key r.node r.others
               g.act sound r.kept g.fresh;
-          spans = one_spans nodes t sizes f before s.trees s.tops (shelf_of {N = N} slab) (key ∷ line) leaves r.state key r.node r.others
-              g.act sound r.kept g.fresh;
+          spans = span.0;
+          ends = span.1;
           keeps = λ leaves_now more.
               subst (λ (q : List ℕ). KeepsRound {N = N} nodes t sizes f before (with_op (with_calls s calls) key g.act)
               slab_now q leaves_now) (sym same)

@@ -217,6 +217,7 @@ module _ {D : Type 0} (bytes : D → ℕ) (image : D → List ℕ → Type 0) (t
     waits = h.waits;
     ready = h.ready;
     fit = h.fit;
+    short = h.short;
     each = h.each;
     tell = h.tell;
   }
@@ -233,6 +234,7 @@ module _ {D : Type 0} (bytes : D → ℕ) (image : D → List ℕ → Type 0) (t
     waits = waits_put key leaf act ops w g.queues.leaves.items now.queues.leaves.items put own none waits h.waits;
     ready = ready;
     fit = subst (λ (ds : List D). FitDisks sizes (map bytes ds)) (sym disks) h.fit;
+    short = h.short;
     each = put.count ∙ (h.each ∙ ap (λ (ds : List D). length ds) (sym disks));
     tell = subst (λ (ds : List D). TellNow {D = D} image before ds images) (sym disks) h.tell;
   }
@@ -398,9 +400,9 @@ module _ {N D : Type 0} (nodes : Nodes N) (bytes : D → ℕ) (image : D → Lis
       let at : sizes leaf ≡ sizes (spot_of out.0).leaf = ap sizes (leaf_is out.0 op leaf stored out.1) in
       let ends : end_of op ≤ sizes leaf = ends_on sizes out.0 op leaf stored out.1 out.2.lies in
       record {
-        there = on_some_disk bytes g.disks.items leaf (omega (arith, span, fit.0, at, out.2.lies.lies)) (sym h.going.lent.each);
-        fits = fits_queue sizes out.0 op leaf stored out.1 out.2.lies fit.1;
-        ends = omega (arith, fit.0, ends);
+        there = on_some_disk bytes g.disks.items leaf (omega (arith, span, fit, at, out.2.lies.lies)) (sym h.going.lent.each);
+        fits = fits_queue t.setting.tops out.0 op leaf stored out.1 out.2.ends h.going.lent.short;
+        ends = omega (arith, fit, ends);
       }
 
   pub turn_leaves : (op : Op) (leaf : ℕ) (stored : List ℕ)

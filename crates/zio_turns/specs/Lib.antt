@@ -13,6 +13,7 @@ pub mod LineSums
 pub mod Parts
 pub mod Rests
 pub mod Rounds
+pub mod ShortTops
 pub mod Sizes
 pub mod Slabs
 pub mod Stages

@@ -37,6 +37,7 @@ use Rattle.zio_turns.specs.Entries.{Live, OneMore, all_tops, flying_at, handed_o
 use Rattle.zio_turns.specs.Acts.{IsHandedOn}
 use Rattle.zio_turns.specs.Ledgers.{AreToldAs, Books, Ending, IsLedger, no_books}
 use Rattle.zio_turns.specs.Parts.{Nodes, ended_by, ended_in}
+use Rattle.zio_turns.specs.ShortTops.{EndsWithTops}
 use Rattle.zio_turns.specs.Sizes.{HasAskedSize}
 use Rattle.zio_turns.specs.Slabs.{AreAll, AreNumbered, shelf_of}
 use Rattle.zio_turns.specs.Stages.{ShowsAnswer}
@@ -177,11 +178,12 @@ ClaimsAlone {N = N} nodes tops calls slab line key =
 
 -- ---- what a stage leaves
 
--- its operation goes to a leaf, and is on some of it
+-- its operation goes to a leaf, is on some of it, and ends with the tops
 pub record GoesOut {N : Type 0} (nodes : Nodes N) (t : Terms) (sizes : ℕ → ℕ) (f : Forest) (before : Before) (s : SoFar)
     (slab : Slab (TiedNode N)) (line leaves : List ℕ) (key : ℕ) (act : LeafOp) : Type 0 where
   pub lies : LiesOn sizes act
   pub spans : 0 < (spot_of act).span
+  pub ends : EndsWithTops t.setting.tops (spot_of act)
   pub keeps : (leaves_now : List ℕ) → OneMore key leaves leaves_now →
       KeepsRound {N = N} nodes t sizes f before (with_op s key act) slab line leaves_now
 

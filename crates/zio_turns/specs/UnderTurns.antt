@@ -30,6 +30,7 @@ use Rattle.zio_turns.specs.Grounds.{AreReady}
 use Rattle.zio_turns.specs.Ledgers.{AreToldAs, Ending}
 use Rattle.zio_turns.specs.Parts.{Nodes}
 use Rattle.zio_turns.specs.Rounds.{Before, EndsAs, KeepsRound, KeepsSome, SoFar, finished_in, with_done, with_images, with_tree}
+use Rattle.zio_turns.specs.ShortTops.{AreShort}
 use Rattle.zio_turns.specs.Sizes.{HasAskedSize}
 use Rattle.zio_turns.specs.Slabs.{load}
 use Rattle.zio_turns.specs.Stages.{OutcomeIn, ShowsAnswer}
@@ -46,9 +47,9 @@ abbrev pub TellNow : {D : Type 0} → (D → List ℕ → Type 0) → Before →
 TellNow image None disks images = Unit {0}
 TellNow image (Some before) disks images = Tell image disks images
 
--- no leaf is larger than its disk, which a queue can take
+-- no leaf is larger than its disk
 abbrev pub FitDisks : (ℕ → ℕ) → List ℕ → Type 0
-FitDisks sizes disks = (leaf : ℕ) → (sizes leaf ≤ slice_index_or disks leaf 0) × (sizes leaf ≤ 2 ^ 28)
+FitDisks sizes disks = (leaf : ℕ) → sizes leaf ≤ slice_index_or disks leaf 0
 
 -- What is lent is the round's: its space, with these entries, and with these places claimed and given back; at the leaves the
 -- operations of the round, by their keys; and the disks, which tell these images.
@@ -59,6 +60,7 @@ pub record AreLent {D : Type 0} (bytes : D → ℕ) (image : D → List ℕ → 
   pub waits : AllWait (λ leaf w. WaitsFor leaf (ops (key_of w)) w) g.queues.leaves.items
   pub ready : AreReady g.setting.rows (map bytes g.disks.items) g.queues.leaves.items
   pub fit : FitDisks sizes (map bytes g.disks.items)
+  pub short : AreShort t.setting.tops
   pub each : length g.queues.leaves.items ≡ length g.disks.items
   pub tell : TellNow {D = D} image before g.disks.items images
 

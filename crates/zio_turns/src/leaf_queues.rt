@@ -9,10 +9,12 @@ ghost use Rattle.zio_disks.specs.Disks.{Handles};
 ghost use Rattle.zio_groups.specs.Issued.{EndsOn, written_spots};
 ghost use Rattle.zio_turns.specs.AtLeaves.{AllWait, AreInOrder, AreIssued, IsPut, WaitsFor, eligible_at, eligible_leaves, has_group, keys_at, no_waits, put_as, waiting_at};
 ghost use Rattle.zio_turns.specs.Entries.{times_in};
+ghost use Rattle.zio_turns.specs.ShortTops.{AreShort, EndsWithTops};
 ghost use Rattle.zio_stages.specs.LeafWorks.{IsOpFor};
 ghost use Rattle.zio_turns.specs.Stages.{ShowsAnswer};
-ghost use Rattle.zio_trace.specs.Leaves.{Answer, LeafOp, LiesOn};
+ghost use Rattle.zio_trace.specs.Leaves.{Answer, LeafOp, LiesOn, spot_of};
 ghost use Rattle.zio_types.specs.declared.error.Errno.{Errno as SeenErrno};
+ghost use Rattle.zio_types.specs.declared.place.Top.{Top as SeenTop};
 
 use std::alloc::Global;
 use zio_disks::{Setting, Stop};
@@ -124,11 +126,11 @@ fn cut_to(bytes: Bytes, len: usize) -> Bytes
     List::from_vec(items)
 }
 
-/// An operation that a node hands to its leaf, which lies on leaves of these sizes, fits a queue and ends on its leaf;
-/// put under a key it waits for the node's operation; and each answer shows something.
+/// An operation that a node hands to its leaf fits a queue where it ends with tops that aren't too long; it ends on its leaf
+/// where it lies on leaves of these sizes; put under a key it waits for the node's operation; and each answer shows something.
 pub fn leaves_take_operations()
-    ensures fits { (sizes : ℕ → ℕ) (act : LeafOp) (op : SeenOp) (leaf : ℕ) (bytes : Seq ℕ) →
-        IsOpFor act op leaf bytes → LiesOn sizes act → sizes leaf ≤ 2 ^ 28 → FitsDevice op }
+    ensures fits { (tops : Seq SeenTop) (act : LeafOp) (op : SeenOp) (leaf : ℕ) (bytes : Seq ℕ) →
+        IsOpFor act op leaf bytes → EndsWithTops tops (spot_of act) → AreShort tops → FitsDevice op }
     ensures ends { (sizes : ℕ → ℕ) (act : LeafOp) (op : SeenOp) (leaf : ℕ) (bytes : Seq ℕ) →
         IsOpFor act op leaf bytes → LiesOn sizes act → end_of op ≤ sizes leaf }
     ensures waits { (sizes : ℕ → ℕ) (act : LeafOp) (op : SeenOp) (leaf key : ℕ) (bytes : Seq ℕ) →

@@ -1,4 +1,4 @@
-ghost use Rattle.std.specs.Prelude.{◌≡◌, ◌++◌, ◌∷◌, [], ℕ, OnOk, OnErr, Some, None, ◌==◌, cond, not, filter, false, find};
+ghost use Rattle.std.specs.Prelude.{◌≡◌, ◌+◌, ◌<◌, ◌^◌, ◌++◌, ◌∷◌, [], ℕ, All, IfOk, OnOk, OnErr, Some, None, ◌==◌, cond, not, filter, false, find};
 ghost use Rattle.std.specs.Map.{values_of};
 ghost use Rattle.std.specs.BTreeMap.{is_at};
 ghost use Rattle.std.specs.Ordering.{nat_cmp};
@@ -9,6 +9,7 @@ ghost use Rattle.zio_vqueue.specs.Spots.{AreBefore, AreThere, IsEntered, IsIndex
 use crate::class::{ACTIVE_MAX, ACTIVE_MIN, CLASSES, class_number, is_sync};
 use crate::op::Op;
 use crate::spots::{Spot, first_from, shelve, unshelve};
+use std::alloc::Global;
 use std::collections::BTreeMap;
 use zio_types::{NoMemory, Prio};
 
@@ -55,6 +56,61 @@ fn enter_time(
             Err(NoMemory)
         }
     }
+}
+
+/// Operations at their times and spots, and a time after all of them.
+#[derive(Drop)]
+struct Timed {
+    by_time: BTreeMap<u64, Op>,
+    spots: BTreeMap<Spot, Op>,
+    next: u64,
+}
+
+/// The same operations in the same order, at times from 0 on.
+fn timed_anew(alloc: Global, queued: &BTreeMap<u64, Op>) -> Result<Timed, NoMemory>
+    requires apart { AreApart (values_of queued.now.entries) }
+    requires fit { All FitsDevice (values_of queued.now.entries) }
+    ensures same { IfOk result (λ timed. values_of timed.by_time.entries ≡ values_of queued.now.entries) }
+    ensures indexed { IfOk result (λ timed. IsIndexed timed.by_time.entries timed.spots.entries) }
+    ensures before { IfOk result (λ timed. AreBefore timed.next timed.by_time.entries) }
+    ensures few { IfOk result (λ timed. timed.next < 2 ^ 63) }
+{
+    let mut by_time = BTreeMap::new(alloc);
+    let mut spots = BTreeMap::new(alloc);
+    let mut next = 0;
+    for op in queued.values() {
+        enter(&mut by_time, &mut spots, next, *op)?;
+        next += 1;
+    }
+    Ok(Timed {
+        by_time,
+        spots,
+        next,
+    })
+}
+
+/// A time after those of all operations. Once such times are used up the operations are put at times from 0 on.
+pub(crate) fn next_time(
+    alloc: Global,
+    by_time: &mut BTreeMap<u64, Op>,
+    spots: &mut BTreeMap<Spot, Op>,
+    next: u64,
+) -> Result<u64, NoMemory>
+    requires indexed { IsIndexed by_time.old.entries spots.old.entries }
+    requires before { AreBefore next by_time.old.entries }
+    ensures same { values_of by_time.new.entries ≡ values_of by_time.old.entries }
+    ensures indexed { IsIndexed by_time.new.entries spots.new.entries }
+    ensures before { IfOk result (λ time. AreBefore time by_time.new.entries) }
+    ensures fits { IfOk result (λ time. time + 1 < 2 ^ 64) }
+    ensures err { OnErr result (by_time.new.entries ≡ by_time.old.entries) }
+{
+    if next < u64::MAX {
+        return Ok(next);
+    }
+    let timed = timed_anew(alloc, by_time)?;
+    *by_time = timed.by_time;
+    *spots = timed.spots;
+    Ok(timed.next)
 }
 
 /// Takes the members from their times and spots.

@@ -6,7 +6,7 @@ ghost use Rattle.zio_vqueue.specs.Queues.{AreApart, FitsDevice, active_of, eligi
 
 use crate::class::class_number;
 use crate::gather::{end_of, gather};
-use crate::index::{eligible, enter, first_served, withdraw};
+use crate::index::{eligible, enter, first_served, next_time, withdraw};
 use crate::op::{Group, Op};
 use crate::spots::{Spot, TICKETS, is_at_rank};
 use std::alloc::Global;
@@ -65,10 +65,8 @@ impl VQueue {
         ensures ok { OnOk result (self.new ≡ record self.old { queued = self.old.queued ++ op ∷ [] }) }
         ensures err { OnErr result (self.new ≡ self.old) }
     {
-        let time = self.next;
-        if time == u64::MAX {
-            return Err(NoMemory);
-        }
+        let time = next_time(self.alloc, &mut self.by_time, &mut self.spots, self.next)?;
+        self.next = time;
         enter(&mut self.by_time, &mut self.spots, time, op)?;
         self.next = time + 1;
         Ok(())

@@ -78,6 +78,22 @@ go_line-requires-clause-going g c =
     let orderly = all_behind (IsOrderlyBatch (rows_tell_apart s.rows)) (requests_held held) own (batches_from [] more) going_own.orderly in
     (batches_from [] more, length more, going_own)
 
+pub clear_line-requires-clause-going : goal.clear_line-requires-clause-going
+clear_line-requires-clause-going g c =
+    let front : List Item = c.loop-fold.invariant.0 in
+    let i = c.loop-fold.invariant.1 in
+    let more : List Item = c.in-Some.more.now in
+    let s : Standing = g.R.Runner.standing c.loop-fold.runner in
+    let f : SeenFold = fold_seen g.R.Runner.pending c.loop-fold.fold in
+    let held : List DefinedBatch = batches_seen c.loop-fold.held.items in
+    let j : Journal = c.loop-fold.journal in
+    let one : suc (length more) ≡ length more + 1 = omega arith in
+    let rest_is : c.loop-fold.rest.now ≡ Clear ∷ more = c.in-Some.ensures.some ∙ ap (λ (x : Item). x ∷ more) c.in-Clear.is in
+    let going_all : IsGoing g.R.Runner.fits s j.rounds f held (batches_from (requests_of front) (Clear ∷ more)) (length more + 1) =
+    subst (λ (k : ℕ). IsGoing g.R.Runner.fits s j.rounds f held (batches_from (requests_of front) (Clear ∷ more)) k) one
+    (subst (λ (xs : List Item). IsGoing g.R.Runner.fits s j.rounds f held (batches_from (requests_of front) xs) (length xs)) rest_is i.going) in
+    (batches_from (requests_of front) more, length more, going_all)
+
 pub returns-in_err-go_line-in-Go-clause-cut : goal.returns-in_err-go_line-in-Go-clause-cut
 returns-in_err-go_line-in-Go-clause-cut g c =
     let show : Show = c.args.show.now in

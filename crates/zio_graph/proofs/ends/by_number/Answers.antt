@@ -1,4 +1,4 @@
-use Rattle.std.proofs.Common.{◌≡◌, ◌<◌, List, [], ◌∷◌, length, map, sym, ap, subst, rules, arith}
+use Rattle.std.proofs.Common.{◌<◌, List, [], ◌∷◌, length, map, sym, ap, subst, rules, arith}
 use Rattle.std.specs.Prelude.{IsPermutation}
 use Rattle.std.specs.List.Sorted.{IsNonDecreasingBy}
 use Rattle.std.proofs.lemmas.List.{get_or-map, length-map}
@@ -13,7 +13,7 @@ told_in_order : (fs : List Finished) → IsNonDecreasingBy (λ (f : Finished). f
     → IsNonDecreasingBy (λ (f : RequestEnd). f.request) (map told_of fs)
 told_in_order [] h = λ i j d le lt. absurd (omega (arith, lt))
 told_in_order (f ∷ fs) h = λ i j d le lt.
-    let below : j < length (f ∷ fs) = subst (λ n. j < n) (length-map told_of (f ∷ fs)) lt in
+    let below : j < length (f ∷ fs) = subst (λ n. j < n) (length-map (f ∷ fs) told_of) lt in
     let low = ap (λ (e : RequestEnd). e.request) (get_or-map told_of (f ∷ fs) i f d (omega (arith, le, below))) in
     let high = ap (λ (e : RequestEnd). e.request) (get_or-map told_of (f ∷ fs) j f d below) in
     omega (arith, low, high, h i j f le below)

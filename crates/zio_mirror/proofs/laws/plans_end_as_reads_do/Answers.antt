@@ -1,6 +1,6 @@
 use Rattle.std.proofs.Common.{ap, ◌∙◌}
 use Rattle.zio_cksum.specs.Blocks.{blame}
-use Rattle.zio_mirror.specs.declared.plan.ReadStep.TheVariants.{Bad}
+use Rattle.zio_mirror.specs.declared.plan.PlanStep.TheVariants.{Bad}
 use Rattle.zio_mirror.specs.Plans.{answers_of}
 use Rattle.zio_mirror.proofs.PlanLemmas.{length-answers_of, good_of_reads, bad_of_reads, repairs_of_reads, step_of_good, step_of_bad, to_repair_good}
 use Rattle.zio_mirror.proofs.laws.plans_end_as_reads_do.Goals as goal

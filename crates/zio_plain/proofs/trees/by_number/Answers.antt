@@ -3,7 +3,7 @@ use Rattle.std.specs.Prelude.{IsPermutation}
 use Rattle.std.specs.List.Sorted.{IsNonDecreasingBy}
 use Rattle.std.proofs.lemmas.List.Sorted.{IsNonDecreasingBy-from_sort, answers_always}
 use Rattle.zio_course.specs.declared.runner.RequestEnd.{RequestEnd}
-use Rattle.zio_plain.proofs.SortedLemmas.{counted_moved, merged_is, numbers_rise, rising_by}
+use Rattle.zio_course.proofs.NumberSorts.{counted_moved, merged_is, numbers_rise, rising_by}
 use Rattle.zio_plain.proofs.trees.by_number.Goals as goal
 
 pub returns-clause-order : goal.returns-clause-order

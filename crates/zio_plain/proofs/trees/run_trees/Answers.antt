@@ -10,12 +10,13 @@ use Rattle.zio_gang.specs.ByNumber.{merge_by}
 use Rattle.zio_gang.specs.Journals.{CompleteAfterChildren, CompleteOnce}
 use Rattle.zio_course.specs.declared.runner.RequestEnd.{RequestEnd}
 use Rattle.zio_course.specs.Runners.{AreRestsOf, HasReadSize, MakesTree, completion_for, has_claim, numbers_of, requests_in}
-use Rattle.zio_plain.proofs.CountLemmas.{complete_once, counted, ends_are, ends_numbers, ends_whole, run_counted, run_once, runs_ends}
+use Rattle.zio_course.proofs.NumberCounts.{complete_once, counted, ends_numbers}
+use Rattle.zio_plain.proofs.CountLemmas.{ends_are, ends_whole, run_counted, run_once, runs_ends}
 use Rattle.zio_plain.specs.Settlings.{ends_run, trees_in, trees_left}
 use Rattle.zio_plain.proofs.AfterLemmas.{runs_complete}
 use Rattle.zio_plain.proofs.OwnerLemmas.{makers_right, reads_right, runs_apart}
 use Rattle.zio_plain.proofs.RestLemmas.{runs_claims, runs_rests}
-use Rattle.zio_plain.proofs.SortedLemmas.{all_moved, all_there, counted_moved}
+use Rattle.zio_course.proofs.NumberSorts.{all_moved, all_there, counted_moved}
 use Rattle.zio_plain.proofs.trees.run_trees.Goals as goal
 
 pub by_number-requires : goal.by_number-requires

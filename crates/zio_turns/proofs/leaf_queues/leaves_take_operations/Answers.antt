@@ -2,7 +2,7 @@ use Rattle.zio_turns.proofs.HandedLemmas.{ends_on, fits_queue, shows_some, waits
 use Rattle.zio_turns.proofs.leaf_queues.leaves_take_operations.Goals as goal
 
 pub returns-clause-fits : goal.returns-clause-fits
-returns-clause-fits c = λ sizes act op leaf bytes h l small. fits_queue sizes act op leaf bytes h l small
+returns-clause-fits c = λ tops act op leaf bytes h ends short. fits_queue tops act op leaf bytes h ends short
 
 pub returns-clause-ends : goal.returns-clause-ends
 returns-clause-ends c = λ sizes act op leaf bytes h l. ends_on sizes act op leaf bytes h l

@@ -6,6 +6,7 @@ use Rattle.zio_vqueue.proofs.queue.VQueue.put.Goals as goal
 pub invariant_of-self-2 : goal.invariant_of-self-2
 invariant_of-self-2 c = record {
   indexed = c.enter.ensures.indexed;
-  before = subst (AreBefore (c.self.inside.next + 1)) (sym c.in_ok-enter.ensures.ok) (before_next c.self.inside.next c.args.op c.self.inside.by_time.entries c.self.invariant.before);
+  before = subst (AreBefore (c.in_ok-time.time + 1)) (sym c.in_ok-enter.ensures.ok)
+      (before_next c.in_ok-time.time c.args.op c.next_time.new.by_time.entries c.in_ok-time.ensures.before);
   admitted = c.self.invariant.admitted;
 }

@@ -1,7 +1,8 @@
 -- Items of lists that are joined, mapped or filtered.
 use Rattle.std.proofs.Common.{◌≡◌, List, [], ◌∷◌, ◌++◌, map, filter, flat_map, cond, Bool, true, false, ◌||◌, ◌⊎◌, inl, inr, refl, sym, ap, ◌∙◌, subst}
-use Rattle.std.specs.Prelude.{Contains}
+use Rattle.std.specs.Prelude.{Contains, length}
 use Rattle.std.specs.List.{list_any}
+use Rattle.std.proofs.lemmas.List.{length-map}
 use Rattle.zio_cksum.proofs.AllLemmas.{all_contained, all_contains}
 use Rattle.zio_course.proofs.SortLemmas.{IsOneOf, one_all, one_itself, one_left, one_right}
 
@@ -101,3 +102,6 @@ none_passes test xs fails = go (list_any test xs) refl
     go : (b : Bool) → list_any test xs ≡ b → list_any test xs ≡ false
     go true e = let k = any_out test xs e in absurd (fails k.one k.at k.is)
     go false e = e
+
+pub same_length : {A B : Type 0} (f : A → B) (xs ys : List A) → map f ys ≡ map f xs → length ys ≡ length xs
+same_length f xs ys e = sym (length-map ys f) ∙ ap length e ∙ length-map xs f

@@ -11,7 +11,7 @@ use Rattle.zio_types.specs.Places.{are_apart, are_open, end_of, is_below, is_fre
 use Rattle.zio_cksum.proofs.AllLemmas.{all_contained, all_contains, all_weaker}
 use Rattle.zio_places.specs.Tables.{cover_count, covers, one_if, total}
 use Rattle.zio_places.proofs.PlaceLemmas.{counts-from_is_free, covers-from, is_free-from_counts, meets-from}
-use Rattle.zio_blocks.specs.PlaceSets.{all_pass, pass_all}
+use Rattle.zio_cksum.proofs.PlaceSets.{all_pass, pass_all}
 
 -- ---- apart
 

@@ -12,7 +12,7 @@ use Rattle.zio_gang.proofs.FateLemmas.{tally}
 use Rattle.zio_course.specs.declared.runner.RequestEnd.{RequestEnd}
 use Rattle.zio_course.specs.Runners.{AreRisingFrom, is_numbered}
 use Rattle.zio_course.proofs.SortLemmas.{IsOneOf, IsRisingBy, one_if, one_itself, sorted_is}
-use Rattle.zio_plain.proofs.CountLemmas.{counted, ends_numbers}
+use Rattle.zio_course.proofs.NumberCounts.{counted, ends_numbers}
 
 abbrev number : RequestEnd → ℕ
 number f = f.request

@@ -3,7 +3,6 @@ use Rattle.std.proofs.Common.{◌≡◌, ℕ, suc, ◌+◌, ◌*◌, ◌/◌, �
 use Rattle.std.specs.Prelude.{Contains, IsTrue, Option, Some, None, nat_le, nat_lt, not, ◌==◌, ◌&&◌, option_map, slice_get}
 use Rattle.std.specs.List.{AllByRecursion, list_all, list_any}
 use Rattle.std.proofs.lemmas.Bool.{and_from, and_parts, eq-eqb, eqb-true, false≢true, le-leb, leb-true, lt-ltb, ltb-true}
-use Rattle.std.proofs.lemmas.List.{length-map}
 use Rattle.std.proofs.lemmas.Option.{slice_get-map}
 use Rattle.zio_types.specs.declared.place.Place.{Place}
 use Rattle.zio_types.specs.declared.place.Top.{Top}
@@ -13,15 +12,14 @@ use Rattle.zio_cksum.specs.Blocks.{leaves_of, leaves_of_top, spot_in}
 use Rattle.zio_cksum.specs.Frames.{IsCovered, spots_of}
 use Rattle.zio_cksum.specs.Images.{Images, Setting, Spot}
 use Rattle.zio_cksum.proofs.AllLemmas.{all_contains}
-use Rattle.zio_disks.specs.Disks.{Tell}
 use Rattle.zio_gang.specs.Trees.{size_of, sizes_of}
 use Rattle.zio_places.specs.Tables.{covers}
 use Rattle.zio_places.proofs.PlaceLemmas.{covers-from, covers-parts, meets-from}
-use Rattle.zio_blocks.specs.PlaceSets.{all_pass}
+use Rattle.zio_cksum.proofs.PlaceSets.{all_pass}
 use Rattle.zio_course.specs.Runners.{DiffersLoose, IsLoose, has_sector}
 use Rattle.zio_course.proofs.SortLemmas.{IsOneOf, one_all}
-use Rattle.zio_plain.specs.Grounds.{ChangedAt}
-use Rattle.zio_plain.proofs.PlainItems.{any_in, found_one, image_of, none_passes, one_found, part_of}
+use Rattle.zio_course.specs.Changes.{ChangedAt}
+use Rattle.zio_course.proofs.ItemLemmas.{any_in, found_one, image_of, none_passes, one_found, part_of}
 
 -- the top on which a place lies
 pub record IsOn (o : Option Top) (p : Place) : Type 0 where
@@ -107,23 +105,3 @@ changed_loose s sizes used live named before after sizes_are same count h = reco
 
 pub unchanged : (tops : List Top) (live named : List Place) (images : Images) → DiffersLoose tops live named images images
 unchanged tops live named images = record { count = refl; sizes = λ leaf. refl; bytes = λ leaf at tight. refl }
-
--- ---- images that disks tell
-
-pub told_count : {D : Type 0} (image : D → List ℕ → Type 0) (disks : List D) (images : Images) → Tell image disks images → length images ≡ length disks
-told_count image [] [] h = refl
-told_count image [] (i ∷ is) h = absurd h
-told_count image (d ∷ ds) [] h = absurd h
-told_count image (d ∷ ds) (i ∷ is) h = ap (λ n. suc n) (told_count image ds is h.1)
-
--- disks that tell one image each tell these images alone
-pub one_told : {D : Type 0} (image : D → List ℕ → Type 0) → ((disk : D) (a b : List ℕ) → image disk a → image disk b → a ≡ b) → (disks : List D) (xs ys : Images) → Tell image disks xs → Tell image disks ys → xs ≡ ys
-one_told image one [] [] [] h k = refl
-one_told image one [] [] (y ∷ ys) h k = absurd k
-one_told image one [] (x ∷ xs) ys h k = absurd h
-one_told image one (d ∷ ds) [] ys h k = absurd h
-one_told image one (d ∷ ds) (x ∷ xs) [] h k = absurd k
-one_told image one (d ∷ ds) (x ∷ xs) (y ∷ ys) h k = ap (λ z. z ∷ xs) (one d x y h.0 k.0) ∙ ap (λ zs. y ∷ zs) (one_told image one ds xs ys h.1 k.1)
-
-pub same_length : {A B : Type 0} (f : A → B) (xs ys : List A) → map f ys ≡ map f xs → length ys ≡ length xs
-same_length f xs ys e = sym (length-map ys f) ∙ ap length e ∙ length-map xs f

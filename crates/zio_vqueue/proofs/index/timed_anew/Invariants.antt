@@ -1,0 +1,6 @@
+use Rattle.std.specs.Map.{values_of}
+use Rattle.zio_vqueue.proofs.TimedLemmas.{AreTimed}
+use Rattle.zio_vqueue.proofs.index.timed_anew.Given as goal
+
+abbrev pub invariant-loop-op : goal.invariant-loop-op
+invariant-loop-op l = AreTimed (values_of l.fn.queued.entries) l.by_time.entries l.spots.entries l.next l.op-iterator

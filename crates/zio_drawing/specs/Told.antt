@@ -1,5 +1,5 @@
 -- What a line of a report tells, by the text that is printed of it. docs/FORMATS.md, "Report".
-use Rattle.std.specs.Prelude.{◌≡◌, ℕ, List, [], ◌∷◌, ◌++◌, Bool, true, false, ◌&&◌, ◌||◌, nat_eq, decimal, codes}
+use Rattle.std.specs.Prelude.{◌≡◌, ℕ, List, ◌++◌, Bool, true, false, ◌&&◌, ◌||◌, nat_eq, decimal, codes}
 use Rattle.std.specs.List.{AllZip, starts_with}
 use Rattle.zio_types.specs.declared.place.TopSize.{TopSize}
 use Rattle.zio_types.specs.declared.request.Kind.{Kind}

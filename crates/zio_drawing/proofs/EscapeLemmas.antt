@@ -1,7 +1,7 @@
 -- What an escaped text is made of.
 use Rattle.std.proofs.Common.{◌≡◌, ℕ, List, [], ◌∷◌, ◌++◌, Bool, true, false, cond, map, refl, ap, ◌∙◌}
-use Rattle.std.specs.Prelude.{◌==◌, ◌||◌, ◌&&◌}
-use Rattle.std.specs.List.{concat, flat_map, list_all, list_any}
+use Rattle.std.specs.Prelude.{◌==◌}
+use Rattle.std.specs.List.{concat, list_all, list_any}
 use Rattle.std.proofs.lemmas.List.Folds.{list_any-append}
 use Rattle.zio_drawing.specs.Escapes.{escape_of, escaped, is_printable}
 use Rattle.zio_drawing.specs.Laws.{is_datum, is_markup}

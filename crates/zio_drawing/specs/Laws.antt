@@ -1,5 +1,5 @@
 -- Laws of the escapes.
-use Rattle.std.specs.Prelude.{◌≡◌, ℕ, List, [], ◌∷◌, ◌++◌, Bool, true, false, not, ◌&&◌, ◌||◌, ◌==◌, bytes_eq, codes}
+use Rattle.std.specs.Prelude.{◌≡◌, ℕ, List, [], ◌∷◌, Bool, true, false, not, ◌&&◌, ◌||◌, ◌==◌, bytes_eq, codes}
 use Rattle.std.specs.List.{concat, list_all, list_any}
 use Rattle.zio_drawing.specs.Escapes.{escaped, is_printable}
 

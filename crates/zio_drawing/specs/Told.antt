@@ -1,10 +1,12 @@
 -- What a line of a report tells, by the text that is printed of it. docs/FORMATS.md, "Report".
-use Rattle.std.specs.Prelude.{◌≡◌, ℕ, List, [], ◌∷◌, ◌++◌, Bool, true, false, ◌&&◌, ◌||◌, nat_eq, decimal, codes}
-use Rattle.std.specs.List.{starts_with}
+use Rattle.std.specs.Prelude.{◌≡◌, ℕ, List, ◌++◌, Bool, true, false, ◌&&◌, ◌||◌, nat_eq, decimal, codes}
+use Rattle.std.specs.List.{AllZip, starts_with}
 use Rattle.zio_types.specs.declared.place.TopSize.{TopSize}
 use Rattle.zio_types.specs.declared.request.Kind.{Kind}
 use Rattle.zio_types.specs.declared.request.Kind.TheVariants.{Null, Read, Write, Free, Claim}
-use Rattle.zio_script.specs.Words.{is_empty}
+use Rattle.zio_script.specs.declared.script.Script.{Script}
+use Rattle.zio_script.specs.Grammar.{IsScriptOf}
+use Rattle.zio_script.specs.Words.{is_empty, lines_of}
 use Rattle.zio_report.specs.declared.report.RoundHead.{RoundHead}
 use Rattle.zio_report.specs.Lines.{batch_text, errno_text, kind_text, name_text, spaced, sums_text}
 use Rattle.zio_spelled.specs.Spelled.{IsOrder, IsTake}
@@ -89,3 +91,14 @@ abbrev pub IsLine : List TopSize → List ℕ → Line → Type 0
 IsLine tops line (PlainLine plain) = IsPlainLine line plain
 IsLine tops line (Take choice) = IsTake tops 0 line choice
 IsLine tops line (Order numbers) = IsOrder line numbers
+
+-- the text is a script
+pub record IsAccepted (text : List ℕ) : Type 0 where
+  pub script : Script
+  pub is : IsScriptOf text script
+
+-- each line of the text tells something, of a pool of these tops
+pub record IsTold (text : List ℕ) : Type 0 where
+  pub tops : List TopSize
+  pub told : List Line
+  pub each : AllZip (IsLine tops) (lines_of text) told

@@ -2,8 +2,9 @@
 //!
 //! It stands on `zio_script`, whose scripts it reads, and on `zio_spelled`, whose lines of a journal it reads. Read
 //! `draw` first, then `Markup`, which is all that is written, then `told`, which reads a report's other lines, and
-//! `rounds`, which brings them together with what the script asked; the other files lay out and draw. `specs/Escapes` says what becomes of
-//! text from outside, and `specs/Told` which lines a report may have; docs/FORMATS.md, "Picture", has the rest.
+//! `rounds`, which brings them together with what the script asked; the other files lay out and draw. `specs/Escapes`
+//! says what becomes of text from outside, and `specs/Told` which lines a report may have; docs/FORMATS.md, "Picture",
+//! has the rest.
 #![tactic(auto)]
 
 mod asked;

@@ -1,5 +1,5 @@
 //! The lines of a whole report.
-ghost use Rattle.std.specs.Prelude.{◌≡◌, IfOk, IfSome, MatchOption, OnOk, ◌∷◌, ◌<◌, [], length, map, true};
+ghost use Rattle.std.specs.Prelude.{◌≡◌, IfOk, IfSome, MatchOption, ◌∷◌, ◌<◌, [], length, map, true};
 ghost use Rattle.std.specs.List.{AllZip, list_all};
 ghost use Rattle.zio_types.specs.Places.{is_lawful_top};
 ghost use Rattle.zio_script.specs.Words.{lines_of};

@@ -1,6 +1,5 @@
 //! The text of a picture. What comes from outside stands in it escaped, and nothing else does.
 ghost use Rattle.std.specs.Prelude.{◌≡◌, ◌++◌, [], OnOk, string_bytes};
-ghost use Rattle.std.specs.List.{flat_map};
 ghost use Rattle.zio_drawing.specs.Escapes.{escape_of, escaped};
 ghost use Rattle.zio_drawing.specs.Pieces.{piece_text, pieces_text};
 

@@ -1,7 +1,8 @@
 //! The picture as a whole.
-ghost use Rattle.std.specs.Prelude.{◌≡◌, IfOk, true};
+ghost use Rattle.std.specs.Prelude.{◌≡◌, IfOk, OnOk, true};
 ghost use Rattle.std.specs.List.{list_all};
 ghost use Rattle.zio_types.specs.Places.{is_lawful_top, is_unit};
+ghost use Rattle.zio_drawing.specs.Told.{IsAccepted, IsTold};
 
 use crate::asked::Asking;
 use crate::bars::{Bar, Source, bars};
@@ -31,13 +32,13 @@ pub enum Form {
     Html,
 }
 
-/// The picture of a run, from the text of its script and that of its report.
-pub fn draw(
-    alloc: Global,
-    form: Form,
-    script: &[u8],
-    report: &[u8],
-) -> Result<Markup, DrawingFault> {
+/// The picture of a run, from the text of its script and that of its report. There is one only of a script that is
+/// accepted, and of a report whose every line is one. Why there is none tells the error: its first line at fault, where it
+/// is the script's or the report's.
+pub fn draw(alloc: Global, form: Form, script: &[u8], report: &[u8]) -> Result<Markup, DrawingFault>
+    ensures accepted { OnOk result (IsAccepted script.now) }
+    ensures told { OnOk result (IsTold report.now) }
+{
     let read = match read_script(alloc, script) {
         Ok(read) => read,
         Err(ScriptError::Fault(fault)) => return Err(DrawingFault::Script(fault)),

@@ -76,7 +76,7 @@ fn run(rt: &HostRuntime, files: &Drawn<'_>) -> Result<(), Refusal> {
 /// What a file has, up to one byte more than the most.
 fn input(rt: &HostRuntime, name: &str, most: usize) -> io::Result<Vec<u8>> {
     let mut bytes = Vec::new(rt.alloc());
-    let mut reader = fs::open(rt, name)?.take(most as u64 + 1);
+    let mut reader = fs::open(rt, name)?.take((most as u64).saturating_add(1));
     reader.read_to_end(&mut bytes)?;
     Ok(bytes)
 }

@@ -21,8 +21,8 @@ pub enum Unclaimed {
     Memory,
 }
 
-/// Where blocks are placed. What its entries meet beside the places in use, one after another, is a chooser's own: those
-/// of a space are lawful in the order of its asks, and those that were recorded may be lawful in another order.
+/// Where blocks are placed. What its entries meet beside the places in use, one after another, is a chooser's own:
+/// those of a space are lawful in the order of its asks, and those that were recorded may be lawful in another order.
 pub trait Chooser {
     /// The sectors and the unit of each top.
     ghost sizes: { Self → List TopSize };
@@ -52,7 +52,8 @@ pub trait Chooser {
         ensures given { IfOk result (λ entry. given self.new ≡ given self.old ++ entry ∷ []) }
         ensures held { OnOk result (AreHeld (sizes self.new) (used self.new) (live self.new)) }
         ensures sizes { sizes self.new ≡ sizes self.old }
-        ensures err { OnErr result ((used self.new ≡ used self.old) × (live self.new ≡ live self.old) × (given self.new ≡ given self.old)) };
+        ensures err { OnErr result ((used self.new ≡ used self.old) × (live self.new ≡ live self.old)
+            × (given self.new ≡ given self.old)) };
 
     /// Live places wait for the end of the round. Needs no memory.
     fn give_back(&mut self, places: &[Place])
@@ -60,7 +61,8 @@ pub trait Chooser {
         requires apart { are_apart places.now ≡ true }
         ensures live { AreLeft (live self.old) places.now (live self.new) }
         ensures used { SamePlaces (used self.new) (used self.old) }
-        ensures held { AreHeld (sizes self.old) (used self.old) (live self.old) → AreHeld (sizes self.new) (used self.new) (live self.new) }
+        ensures held { AreHeld (sizes self.old) (used self.old) (live self.old)
+            → AreHeld (sizes self.new) (used self.new) (live self.new) }
         ensures given { given self.new ≡ given self.old }
         ensures sizes { sizes self.new ≡ sizes self.old };
 
@@ -96,7 +98,8 @@ pub trait Chooser {
 
 /// A chooser whose entries are lawful in the order of its asks.
 pub trait LawfulChooser: Chooser {
-    ghost are_lawful: { (tops : List TopSize) (before : List Place) (entries : List Choice) → Self.lawful tops before entries →
+    ghost are_lawful: { (tops : List TopSize) (before : List Place) (entries : List Choice) →
+        Self.lawful tops before entries →
         AreLawful tops before entries };
 }
 

@@ -18,9 +18,9 @@ use zio_outside::Disk;
 use zio_types::Errno;
 
 /// Claims the block of the pointer that these bytes spell: reads its headers, without repairs, and makes all its places
-/// live. It is `Inval` where the bytes spell no pointer, or a place of the block isn't inside its top or doesn't fit; an
-/// error of its headers where one can't be read; and `Exist` where two of its places meet or one isn't free. After an
-/// error, and where the call is stopped, no place is taken.
+/// live. It is `Inval` where the bytes spell no pointer, or a place of the block isn't inside its top or doesn't fit;
+/// an error of its headers where one can't be read; and `Exist` where two of its places meet or one isn't free. After
+/// an error, and where the call is stopped, no place is taken.
 pub fn claim_block<D: Disk, C: Chooser>(
     alloc: Global,
     setting: &Setting,
@@ -34,18 +34,24 @@ pub fn claim_block<D: Disk, C: Chooser>(
         let claimed = claim_tree setting.now (C.used chooser.old) pointer.now images in
         (found ≡ claimed.tree) × Tell D.image disks.new claimed.images) }
     ensures claimed { IfOk result (λ found. IfOk found (λ tree.
-        AreTaken (tree_places tree) (C.used chooser.old) (C.live chooser.old) (C.used chooser.new) (C.live chooser.new))) }
-    ensures refused { IfOk result (λ found. OnErr found (StayTaken (C.used chooser.old) (C.live chooser.old) (C.used chooser.new) (C.live chooser.new))) }
-    ensures stopped { OnErr result (StayTaken (C.used chooser.old) (C.live chooser.old) (C.used chooser.new) (C.live chooser.new)) }
+        AreTaken (tree_places tree) (C.used chooser.old) (C.live chooser.old) (C.used chooser.new)
+        (C.live chooser.new))) }
+    ensures refused { IfOk result
+        (λ found. OnErr found (StayTaken (C.used chooser.old) (C.live chooser.old) (C.used chooser.new)
+        (C.live chooser.new))) }
+    ensures stopped { OnErr result (StayTaken (C.used chooser.old) (C.live chooser.old) (C.used chooser.new)
+        (C.live chooser.new)) }
     ensures given { C.given chooser.new ≡ C.given chooser.old }
     ensures sizes { C.sizes chooser.new ≡ C.sizes chooser.old }
-    ensures held { AreHeld (C.sizes chooser.old) (C.used chooser.old) (C.live chooser.old) → AreHeld (C.sizes chooser.new) (C.used chooser.new) (C.live chooser.new) }
+    ensures held { AreHeld (C.sizes chooser.old) (C.used chooser.old) (C.live chooser.old)
+        → AreHeld (C.sizes chooser.new) (C.used chooser.new) (C.live chooser.new) }
     ensures pointer { IfOk result (λ found. IfOk found (λ tree. pointer_of pointer.now ≡ Some tree.bp)) }
     ensures none { pointer_of pointer.now ≡ None → result ≡ Ok (Err Errno.Inval) }
     ensures whole { IfOk result (λ found. IfOk found IsWholeTree) }
     ensures fitting { IfOk result (λ found. IfOk found (IsFittingTree (sizes_of setting.now.tops))) }
     ensures placed { IfOk result (λ found. IfOk found (IsPlacedTree (sizes_of setting.now.tops))) }
-    ensures handled { Handles D.bytes D.faults D.faults_at_fetch D.home D.image D.sound D.went [] result disks.old disks.new }
+    ensures handled { Handles D.bytes D.faults D.faults_at_fetch D.home D.image D.sound D.went [] result disks.old
+        disks.new }
 {
     match claim_walk(alloc, setting, disks, pointer)? {
         Ok(tree) => take_places(alloc, chooser, tree),
@@ -64,12 +70,17 @@ fn take_places<C: Chooser>(
     ensures told { IfOk result (λ found. found ≡ claimed_free (C.used chooser.old) tree) }
     ensures same { IfOk result (λ found. IfOk found (λ claimed. claimed ≡ tree)) }
     ensures claimed { IfOk result (λ found. IfOk found (λ claimed.
-        AreTaken (tree_places claimed) (C.used chooser.old) (C.live chooser.old) (C.used chooser.new) (C.live chooser.new))) }
-    ensures refused { IfOk result (λ found. OnErr found (StayTaken (C.used chooser.old) (C.live chooser.old) (C.used chooser.new) (C.live chooser.new))) }
-    ensures stopped { OnErr result (StayTaken (C.used chooser.old) (C.live chooser.old) (C.used chooser.new) (C.live chooser.new)) }
+        AreTaken (tree_places claimed) (C.used chooser.old) (C.live chooser.old) (C.used chooser.new)
+        (C.live chooser.new))) }
+    ensures refused { IfOk result
+        (λ found. OnErr found (StayTaken (C.used chooser.old) (C.live chooser.old) (C.used chooser.new)
+        (C.live chooser.new))) }
+    ensures stopped { OnErr result (StayTaken (C.used chooser.old) (C.live chooser.old) (C.used chooser.new)
+        (C.live chooser.new)) }
     ensures given { C.given chooser.new ≡ C.given chooser.old }
     ensures sizes { C.sizes chooser.new ≡ C.sizes chooser.old }
-    ensures held { AreHeld (C.sizes chooser.old) (C.used chooser.old) (C.live chooser.old) → AreHeld (C.sizes chooser.new) (C.used chooser.new) (C.live chooser.new) }
+    ensures held { AreHeld (C.sizes chooser.old) (C.used chooser.old) (C.live chooser.old)
+        → AreHeld (C.sizes chooser.new) (C.used chooser.new) (C.live chooser.new) }
     ensures memory { OnErr result (result ≡ Err Stop.Memory) }
 {
     let Ok(places) = tree.places(alloc) else {

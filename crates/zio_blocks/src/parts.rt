@@ -30,8 +30,8 @@ use zio_gang::{Head, LEVELS_MAX, header_encode, split};
 use zio_outside::Disk;
 use zio_types::{COPIES_MAX, Entry, Errno, Path, Role, SECTOR_SIZE, worst};
 
-/// Places a part of a block and writes it, whole or as a gang with so many levels of headers. It adds the headers to those
-/// before.
+/// Places a part of a block and writes it, whole or as a gang with so many levels of headers. It adds the headers to
+/// those before.
 #[cycle(parts)]
 pub(crate) fn place_part<D: Disk, C: Chooser>(
     alloc: Global,
@@ -55,16 +55,20 @@ pub(crate) fn place_part<D: Disk, C: Chooser>(
     requires most { length bytes.now ≤ BLOCK_SIZE_MAX }
     requires deep { length bytes.now ≤ 512 * 3 ^ levels }
     requires depth { length path.now + levels ≤ LEVELS_MAX }
-    ensures asks { Asks C.lawful writing.now (C.sizes chooser.old) (C.used chooser.old) (C.live chooser.old) (C.given chooser.old) (C.sizes chooser.new) (C.used chooser.new) (C.live chooser.new) (C.given chooser.new) }
+    ensures asks { Asks C.lawful writing.now (C.sizes chooser.old) (C.used chooser.old) (C.live chooser.old)
+        (C.given chooser.old) (C.sizes chooser.new) (C.used chooser.new) (C.live chooser.new) (C.given chooser.new) }
     ensures behind { OnOk result (heads.new.items ≡ heads.old.items ++ drop (length heads.old.items) heads.new.items) }
     ensures keys { AskOnce (IsFrom path.now) (given_since (C.given chooser.old) (C.given chooser.new)) }
-    ensures laid { IfOk result (λ part. IsLaid (sizes_of setting.now.tops) levels path.now (length bytes.now) part (drop (length heads.old.items) heads.new.items)
+    ensures laid { IfOk result (λ part. IsLaid (sizes_of setting.now.tops) levels path.now (length bytes.now) part
+        (drop (length heads.old.items) heads.new.items)
         (taken_by_all (given_since (C.given chooser.old) (C.given chooser.new)))) }
     ensures told { IfOk result (λ part. (images : Images) → Tell D.image disks.old images →
-        TellsPart D.image (λ journal. place_part levels journal (terms_of setting.now writing.now) path.now bytes.now images) [] part
+        TellsPart D.image (λ journal. place_part levels journal (terms_of setting.now writing.now) path.now bytes.now
+        images) [] part
         heads.old.items heads.new.items (given_since (C.given chooser.old) (C.given chooser.new)) disks.new) }
     ensures handled { Handles D.bytes D.faults D.faults_at_fetch D.home D.image D.sound D.went
-        (spots_of setting.now (taken_by_all (given_since (C.given chooser.old) (C.given chooser.new)))) result disks.old disks.new }
+        (spots_of setting.now (taken_by_all (given_since (C.given chooser.old) (C.given chooser.new)))) result disks.old
+        disks.new }
 {
     let size = bytes.len() as u32;
     let entry = ask(chooser, writing, path, Role::Body, size, writing.copies)?;
@@ -111,18 +115,22 @@ fn place_gang<D: Disk, C: Chooser>(
     requires most { length bytes.now ≤ BLOCK_SIZE_MAX }
     requires deep { length bytes.now ≤ 512 * 3 ^ (levels + 1) }
     requires depth { length path.now + levels < LEVELS_MAX }
-    ensures asks { Asks C.lawful writing.now (C.sizes chooser.old) (C.used chooser.old) (C.live chooser.old) (C.given chooser.old) (C.sizes chooser.new) (C.used chooser.new) (C.live chooser.new) (C.given chooser.new) }
+    ensures asks { Asks C.lawful writing.now (C.sizes chooser.old) (C.used chooser.old) (C.live chooser.old)
+        (C.given chooser.old) (C.sizes chooser.new) (C.used chooser.new) (C.live chooser.new) (C.given chooser.new) }
     ensures behind { OnOk result (heads.new.items ≡ heads.old.items ++ drop (length heads.old.items) heads.new.items) }
     ensures keys { AskOnce (IsOfGang path.now) (given_since (C.given chooser.old) (C.given chooser.new)) }
-    ensures laid { IfOk result (λ part. IsLaid (sizes_of setting.now.tops) (levels + 1) path.now (length bytes.now) part (drop (length heads.old.items) heads.new.items)
+    ensures laid { IfOk result (λ part. IsLaid (sizes_of setting.now.tops) (levels + 1) path.now (length bytes.now) part
+        (drop (length heads.old.items) heads.new.items)
         (taken_by_all (given_since (C.given chooser.old) (C.given chooser.new)))) }
     ensures told { IfOk result (λ part. (images : Images) → Tell D.image disks.old images →
         let w = terms_of setting.now writing.now in
-        TellsPart D.image (λ journal. gang_with (chosen journal (head_ask w path.now)) w (place_part levels journal w) path.now bytes.now images)
+        TellsPart D.image (λ journal. gang_with (chosen journal (head_ask w path.now)) w
+        (place_part levels journal w) path.now bytes.now images)
         (body_ask w path.now bytes.now ∷ []) part
         heads.old.items heads.new.items (given_since (C.given chooser.old) (C.given chooser.new)) disks.new) }
     ensures handled { Handles D.bytes D.faults D.faults_at_fetch D.home D.image D.sound D.went
-        (spots_of setting.now (taken_by_all (given_since (C.given chooser.old) (C.given chooser.new)))) result disks.old disks.new }
+        (spots_of setting.now (taken_by_all (given_since (C.given chooser.old) (C.given chooser.new)))) result disks.old
+        disks.new }
 {
     let copies = (writing.copies + 1).min(COPIES_MAX);
     let entry = ask(chooser, writing, path, Role::Head, SECTOR_SIZE, copies)?;
@@ -162,19 +170,24 @@ fn write_gang<D: Disk, C: Chooser>(
     requires asked { entry.now.asked ≡ head_ask (terms_of setting.now writing.now) path.now }
     requires entry { IsFoundEntry (sizes_of setting.now.tops) entry.now }
     requires found { is_refused entry.now ≡ false }
-    ensures asks { Asks C.lawful writing.now (C.sizes chooser.old) (C.used chooser.old) (C.live chooser.old) (C.given chooser.old) (C.sizes chooser.new) (C.used chooser.new) (C.live chooser.new) (C.given chooser.new) }
+    ensures asks { Asks C.lawful writing.now (C.sizes chooser.old) (C.used chooser.old) (C.live chooser.old)
+        (C.given chooser.old) (C.sizes chooser.new) (C.used chooser.new) (C.live chooser.new) (C.given chooser.new) }
     ensures behind { OnOk result (heads.new.items ≡ heads.old.items ++ drop (length heads.old.items) heads.new.items) }
     ensures keys { AskOnce (IsBelow path.now 0) (given_since (C.given chooser.old) (C.given chooser.new)) }
-    ensures laid { IfOk result (λ part. IsLaid (sizes_of setting.now.tops) (levels + 1) path.now (length bytes.now) part (drop (length heads.old.items) heads.new.items)
+    ensures laid { IfOk result (λ part. IsLaid (sizes_of setting.now.tops) (levels + 1) path.now (length bytes.now) part
+        (drop (length heads.old.items) heads.new.items)
         (entry.now.places ++ taken_by_all (given_since (C.given chooser.old) (C.given chooser.new)))) }
     ensures told { IfOk result (λ part. (images : Images) → Tell D.image disks.old images →
         let w = terms_of setting.now writing.now in
         TellsPart D.image
-        (λ journal. with_members w path.now bytes.now entry.now.places (place_members (place_part levels journal w) path.now 0 (cut (split_sizes (length bytes.now)) bytes.now) images))
+        (λ journal. with_members w path.now bytes.now entry.now.places
+        (place_members (place_part levels journal w) path.now 0 (cut (split_sizes (length bytes.now)) bytes.now)
+        images))
         (body_ask w path.now bytes.now ∷ head_ask w path.now ∷ []) part
         heads.old.items heads.new.items (given_since (C.given chooser.old) (C.given chooser.new)) disks.new) }
     ensures handled { Handles D.bytes D.faults D.faults_at_fetch D.home D.image D.sound D.went
-        (spots_of setting.now (entry.now.places ++ taken_by_all (given_since (C.given chooser.old) (C.given chooser.new)))) result disks.old disks.new }
+        (spots_of setting.now (entry.now.places
+        ++ taken_by_all (given_since (C.given chooser.old) (C.given chooser.new)))) result disks.old disks.new }
 {
     let before = heads.as_slice();
     let at = before.len();
@@ -236,18 +249,24 @@ fn place_members<D: Disk, C: Chooser>(
     requires filled { IsFilled None 3 n pointers.old }
     requires depth { length path.now + levels < LEVELS_MAX }
     requires made { AllByRecursion (λ pointer. IfSome pointer (IsMade (sizes_of setting.now.tops))) pointers.old }
-    ensures asks { Asks C.lawful writing.now (C.sizes chooser.old) (C.used chooser.old) (C.live chooser.old) (C.given chooser.old) (C.sizes chooser.new) (C.used chooser.new) (C.live chooser.new) (C.given chooser.new) }
+    ensures asks { Asks C.lawful writing.now (C.sizes chooser.old) (C.used chooser.old) (C.live chooser.old)
+        (C.given chooser.old) (C.sizes chooser.new) (C.used chooser.new) (C.live chooser.new) (C.given chooser.new) }
     ensures behind { OnOk result (heads.new.items ≡ heads.old.items ++ drop (length heads.old.items) heads.new.items) }
-    ensures made { OnOk result (AllByRecursion (λ pointer. IfSome pointer (IsMade (sizes_of setting.now.tops))) pointers.new) }
+    ensures made { OnOk result
+        (AllByRecursion (λ pointer. IfSome pointer (IsMade (sizes_of setting.now.tops))) pointers.new) }
     ensures keys { AskOnce (IsBelow path.now n) (given_since (C.given chooser.old) (C.given chooser.new)) }
-    ensures laid { IfOk result (λ error. AreLaid (sizes_of setting.now.tops) levels path.now n sizes.now error pointers.old pointers.new (drop (length heads.old.items) heads.new.items)
+    ensures laid { IfOk result
+        (λ error. AreLaid (sizes_of setting.now.tops) levels path.now n sizes.now error pointers.old pointers.new
+        (drop (length heads.old.items) heads.new.items)
         (taken_by_all (given_since (C.given chooser.old) (C.given chooser.new)))) }
     ensures told { IfOk result (λ error. (images : Images) → Tell D.image disks.old images →
         let w = terms_of setting.now writing.now in
-        TellsMembers D.image (λ journal. place_members (place_part levels journal w) path.now n (cut sizes.now bytes.now) images) error n pointers.old pointers.new
+        TellsMembers D.image (λ journal. place_members (place_part levels journal w) path.now n
+        (cut sizes.now bytes.now) images) error n pointers.old pointers.new
         heads.old.items heads.new.items (given_since (C.given chooser.old) (C.given chooser.new)) disks.new) }
     ensures handled { Handles D.bytes D.faults D.faults_at_fetch D.home D.image D.sound D.went
-        (spots_of setting.now (taken_by_all (given_since (C.given chooser.old) (C.given chooser.new)))) result disks.old disks.new }
+        (spots_of setting.now (taken_by_all (given_since (C.given chooser.old) (C.given chooser.new)))) result disks.old
+        disks.new }
 {
     let [size, rest @ ..] = sizes else {
         return Ok(None);

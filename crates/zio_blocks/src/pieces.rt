@@ -48,10 +48,17 @@ pub(crate) fn ask<C: Chooser>(
     requires whole { size % 512 ≡ 0 }
     requires one { 1 ≤ copies }
     requires most { copies ≤ COPIES_MAX }
-    ensures asks { Asks C.lawful writing.now (C.sizes chooser.old) (C.used chooser.old) (C.live chooser.old) (C.given chooser.old) (C.sizes chooser.new) (C.used chooser.new) (C.live chooser.new) (C.given chooser.new) }
+    ensures asks { Asks C.lawful writing.now (C.sizes chooser.old) (C.used chooser.old) (C.live chooser.old)
+        (C.given chooser.old) (C.sizes chooser.new) (C.used chooser.new) (C.live chooser.new) (C.given chooser.new) }
     ensures given { IfOk result (λ entry. given_since (C.given chooser.old) (C.given chooser.new) ≡ entry ∷ []) }
     ensures asked { IfOk result (λ entry. entry.asked ≡ record {
-      key = record { request = writing.now.request; round = writing.now.round; attempt = writing.now.attempt; path = path.now; role = role };
+      key = record {
+        request = writing.now.request;
+        round = writing.now.round;
+        attempt = writing.now.attempt;
+        path = path.now;
+        role = role;
+      };
       size = size;
       copies = copies;
     }) }
@@ -124,12 +131,16 @@ pub(crate) fn write_body<D: Disk>(
     requires size { entry.now.asked.size ≡ length bytes.now }
     requires entry { IsFoundEntry (sizes_of setting.now.tops) entry.now }
     requires found { is_refused entry.now ≡ false }
-    ensures made { IfOk result (λ part. part.pointer ≡ Some (pointer_to (terms_of setting.now writing.now) entry.now.places false bytes.now)) }
-    ensures good { IfOk result (λ part. IsMade (sizes_of setting.now.tops) (pointer_to (terms_of setting.now writing.now) entry.now.places false bytes.now)) }
+    ensures made { IfOk result (λ part. part.pointer
+        ≡ Some (pointer_to (terms_of setting.now writing.now) entry.now.places false bytes.now)) }
+    ensures good { IfOk result
+        (λ part. IsMade (sizes_of setting.now.tops)
+        (pointer_to (terms_of setting.now writing.now) entry.now.places false bytes.now)) }
     ensures told { IfOk result (λ part. (images : Images) → Tell D.image disks.old images →
         (part.error ≡ (write_piece setting.now bytes.now entry.now.places images).error)
         × Tell D.image disks.new (write_piece setting.now bytes.now entry.now.places images).images) }
-    ensures handled { Handles D.bytes D.faults D.faults_at_fetch D.home D.image D.sound D.went (spots_of setting.now entry.now.places) result disks.old disks.new }
+    ensures handled { Handles D.bytes D.faults D.faults_at_fetch D.home D.image D.sound D.went
+        (spots_of setting.now entry.now.places) result disks.old disks.new }
 {
     let pointer = pointer_to(writing, entry, false, bytes);
     let error = write_piece(alloc, setting, disks, bytes, places_found(entry))?;
@@ -143,7 +154,8 @@ pub(crate) fn write_body<D: Disk>(
 pub(crate) fn pointer_to(writing: &Writing, entry: &Entry, gang: bool, bytes: &[u8]) -> Bp
     requires most { length bytes.now < 2 ^ 32 }
     requires whole { length bytes.now % 512 ≡ 0 }
-    ensures pointer { (setting : Setting) → result ≡ pointer_to (terms_of setting writing.now) entry.now.places gang bytes.now }
+    ensures pointer { (setting : Setting)
+        → result ≡ pointer_to (terms_of setting writing.now) entry.now.places gang bytes.now }
     ensures types { FitsTypes result }
 {
     let size = bytes.len() as u32;
@@ -191,7 +203,8 @@ pub(crate) fn below(path: &Path, member: u8) -> Path
 
 /// Adds a header at this path, whose bytes aren't known yet.
 pub(crate) fn add_head(heads: &mut Vec<Head>, path: &Path) -> Result<(), Stop>
-    ensures ok { OnOk result ((zeros : List ℕ) × (heads.new.items ≡ heads.old.items ++ record { path = path.now; bytes = zeros } ∷ [])) }
+    ensures ok { OnOk result ((zeros : List ℕ)
+        × (heads.new.items ≡ heads.old.items ++ record { path = path.now; bytes = zeros } ∷ [])) }
     ensures err { OnErr result (result ≡ Err Stop.Memory) }
 {
     let head = Head {

@@ -42,13 +42,15 @@ pub struct Writing {
 #[derive(Debug, Drop)]
 pub struct PlacedBlock {
     pub error: Option<Errno>,
-    /// None exactly where it has no place. Its pointer is the one that stands in a parent's content, also after an error.
+    /// None exactly where it has no place. Its pointer is the one that stands in a parent's content, also after an
+    /// error.
     pub tree: Option<Tree>,
 }
 
 /// Places a block of whole sectors, up to `BLOCK_SIZE_MAX` bytes, and writes it. Where no run is free for it a block of
 /// one sector has `Nospc` and no place, and a larger one becomes a gang: a header, and members that are placed in the
-/// same way. A gang has no place exactly where its header has none; its header is written also where a member has no place.
+/// same way. A gang has no place exactly where its header has none; its header is written also where a member has no
+/// place.
 ///
 /// Whatever the error, the tree's places are those that were taken, so they can be given back by it. The tree is whole
 /// unless the error is `Nospc` or ranks above that: then a part of it may have no place.
@@ -70,21 +72,31 @@ pub fn place_block<D: Disk, C: Chooser>(
     requires three { writing.now.copies ≤ COPIES_MAX }
     requires birth { 1 ≤ writing.now.birth }
     ensures told { IfOk result (λ placed. (images : Images) → Tell D.image disks.old images →
-        Places D.image (terms_of setting.now writing.now) bytes.now images placed (given_since (C.given chooser.old) (C.given chooser.new)) disks.new) }
-    ensures asks { AsksFor C.lawful (C.sizes chooser.old) writing.now (C.used chooser.old) (C.live chooser.old) (C.given chooser.old) (C.used chooser.new) (C.live chooser.new) (C.given chooser.new) }
+        Places D.image (terms_of setting.now writing.now) bytes.now images placed
+        (given_since (C.given chooser.old) (C.given chooser.new)) disks.new) }
+    ensures asks { AsksFor C.lawful (C.sizes chooser.old) writing.now (C.used chooser.old) (C.live chooser.old)
+        (C.given chooser.old) (C.used chooser.new) (C.live chooser.new) (C.given chooser.new) }
     ensures keys { HaveDistinctKeys (asks_of (given_since (C.given chooser.old) (C.given chooser.new))) }
-    ensures places { IfOk result (λ placed. IfSome placed.tree (λ tree. IsPermutation (tree_places tree) (taken_by_all (given_since (C.given chooser.old) (C.given chooser.new))))) }
-    ensures unused { IfOk result (λ placed. IfSome placed.tree (λ tree. are_open (C.used chooser.old) (tree_places tree) ≡ true)) }
+    ensures places { IfOk result
+        (λ placed. IfSome placed.tree
+        (λ tree. IsPermutation (tree_places tree)
+        (taken_by_all (given_since (C.given chooser.old) (C.given chooser.new))))) }
+    ensures unused { IfOk result (λ placed. IfSome placed.tree (λ tree. are_open (C.used chooser.old) (tree_places tree)
+        ≡ true)) }
     ensures nowhere { IfOk result (λ placed. placed.tree ≡ None →
-        (taken_by_all (given_since (C.given chooser.old) (C.given chooser.new)) ≡ []) × (placed.error ≡ Some Errno.Nospc)) }
+        (taken_by_all (given_since (C.given chooser.old) (C.given chooser.new)) ≡ [])
+        × (placed.error ≡ Some Errno.Nospc)) }
     ensures inside { IfOk result (λ placed. IfSome placed.tree (IsPlacedTree (sizes_of setting.now.tops))) }
     ensures fitting { IfOk result (λ placed. IfSome placed.tree (IsFittingTree (sizes_of setting.now.tops))) }
     ensures size { IfOk result (λ placed. IfSome placed.tree (λ tree. tree.bp.size ≡ length bytes.now)) }
-    ensures whole { IfOk result (λ placed. rank placed.error < rank (Some Errno.Nospc) → IfSome placed.tree IsWholeTree) }
+    ensures whole { IfOk result (λ placed. rank placed.error < rank (Some Errno.Nospc)
+        → IfSome placed.tree IsWholeTree) }
     ensures sizes { C.sizes chooser.new ≡ C.sizes chooser.old }
-    ensures held { AreHeld (C.sizes chooser.old) (C.used chooser.old) (C.live chooser.old) → AreHeld (C.sizes chooser.new) (C.used chooser.new) (C.live chooser.new) }
+    ensures held { AreHeld (C.sizes chooser.old) (C.used chooser.old) (C.live chooser.old)
+        → AreHeld (C.sizes chooser.new) (C.used chooser.new) (C.live chooser.new) }
     ensures handled { Handles D.bytes D.faults D.faults_at_fetch D.home D.image D.sound D.went
-        (spots_of setting.now (taken_by_all (given_since (C.given chooser.old) (C.given chooser.new)))) result disks.old disks.new }
+        (spots_of setting.now (taken_by_all (given_since (C.given chooser.old) (C.given chooser.new)))) result disks.old
+        disks.new }
 {
     let top = Path {
         len: 0,

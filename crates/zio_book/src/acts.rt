@@ -22,7 +22,9 @@ impl<H: Held> Book<H> {
     ) -> Result<(H::Reply, Receipt<H>), CmdBack<H::Cmd>>
         requires { IsSeatOf self.now 1 seat.old }
         ensures seat { IsSeatOf self.now 1 seat.new }
-        ensures act { MatchResult result (λ r. SeatActed H.gives H.fits self.now seat.old seat.new cmd r.0 r.1 × All (λ c. length c.0 < r.1.number) seat.old.me.0.claims) (λ e. (e.cmd ≡ cmd) × (seat.new.me.0.acts ≡ seat.old.me.0.acts)) }
+        ensures act { MatchResult result (λ r. SeatActed H.gives H.fits self.now seat.old seat.new cmd r.0 r.1
+            × All (λ c. length c.0 < r.1.number) seat.old.me.0.claims) (λ e. (e.cmd ≡ cmd)
+            × (seat.new.me.0.acts ≡ seat.old.me.0.acts)) }
     {
         self.enter(rt, seat);
         let mut kept = self.take_out(seat);
@@ -43,7 +45,8 @@ impl<H: Held> Book<H> {
     fn receipt(&self, seat: &mut BookSeat<H>, number: u64) -> Receipt<H>
         requires { IsSeatOf self.now 1 seat.old }
         ensures seat { IsSeatOf self.now 1 seat.new × (seat.new.me ≡ seat.old.me) }
-        ensures receipt { (result.number ≡ number) × (result.badge.table_id ≡ self.now.table.shared.table_id) × (result.badge.views ≡ idle 0 [] (first_of seat.old.me.0.claims) seat.old.me.0.first ∷ []) }
+        ensures receipt { (result.number ≡ number) × (result.badge.table_id ≡ self.now.table.shared.table_id)
+            × (result.badge.views ≡ idle 0 [] (first_of seat.old.me.0.claims) seat.old.me.0.first ∷ []) }
     {
         let badge = self.table.shared.split_seat::<Claim>(seat).into_badge();
         Receipt { number, badge }
@@ -107,7 +110,8 @@ impl<H: Held> Book<H> {
         requires table { seat.old.table_id ≡ self.now.table.shared.table_id }
         requires inside { IsInside H.gives self.now seat.old }
         ensures table { seat.new.table_id ≡ seat.old.table_id }
-        ensures view { seat.new.me ≡ (idle seat.old.me.0.passes seat.old.me.0.acts seat.old.me.0.claims seat.old.me.0.first, []) }
+        ensures view { seat.new.me
+            ≡ (idle seat.old.me.0.passes seat.old.me.0.acts seat.old.me.0.claims seat.old.me.0.first, []) }
     {
         let served = self.table.shared.fetch_add::<Serve>(seat, SERVING, 1);
         self.ring(served);

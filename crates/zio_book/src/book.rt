@@ -62,8 +62,10 @@ pub(crate) type BookSeat<H> = Seat<
 
 // A book with one seat for all its passes.
 fn open<H: Held>(alloc: Global, held: H, passes: u32) -> Result<(Book<H>, BookSeat<H>), HeldBack<H>>
-    ensures begins { IfOk result (λ r. (r.0.table.shared.key.first.value ≡ held) × (r.0.table.shared.key.passes ≡ passes)) }
-    ensures seat { IfOk result (λ r. (r.1.table_id ≡ r.0.table.shared.table_id) × (r.1.me ≡ (idle passes [] [] (Some held), []))) }
+    ensures begins { IfOk result (λ r. (r.0.table.shared.key.first.value ≡ held)
+        × (r.0.table.shared.key.passes ≡ passes)) }
+    ensures seat { IfOk result (λ r. (r.1.table_id ≡ r.0.table.shared.table_id)
+        × (r.1.me ≡ (idle passes [] [] (Some held), []))) }
     ensures back { IfErr result (λ e. e.held ≡ held) }
 {
     let about = Birth {
@@ -142,7 +144,9 @@ impl<H: Held> Book<H> {
     ) -> Result<(H::Reply, Receipt<H>), CmdBack<H::Cmd>>
         requires { IsPassOf self.now pass.old }
         ensures pass { IsPassOf self.now pass.new }
-        ensures act { MatchResult result (λ r. SeatActed H.gives H.fits self.now pass.old.seat pass.new.seat cmd r.0 r.1) (λ e. (e.cmd ≡ cmd) × (acts_of pass.new ≡ acts_of pass.old)) }
+        ensures act { MatchResult result
+            (λ r. SeatActed H.gives H.fits self.now pass.old.seat pass.new.seat cmd r.0 r.1) (λ e. (e.cmd ≡ cmd)
+            × (acts_of pass.new ≡ acts_of pass.old)) }
     {
         self.perform(rt, &mut pass.seat, cmd)
     }
@@ -158,9 +162,12 @@ impl<H: Held> Book<H> {
         requires pass { IsPassOf self.now pass.old }
         requires after { All (IsReceiptOf self.now) after.old }
         ensures pass { IsPassOf self.now pass.new }
-        ensures act { MatchResult result (λ r. SeatActed H.gives H.fits self.now pass.old.seat pass.new.seat cmd r.0 r.1) (λ e. (e.cmd ≡ cmd) × (acts_of pass.new ≡ acts_of pass.old)) }
+        ensures act { MatchResult result
+            (λ r. SeatActed H.gives H.fits self.now pass.old.seat pass.new.seat cmd r.0 r.1) (λ e. (e.cmd ≡ cmd)
+            × (acts_of pass.new ≡ acts_of pass.old)) }
         ensures later { IfOk result (λ r. All (λ a. a.number < r.1.number) after.old) }
-        ensures after { (j : ℕ) (d : _) → j < length after.old → IsSameReceipt self.now (slice_index_or after.old j d) (slice_index_or after.new j d) }
+        ensures after { (j : ℕ) (d : _) → j < length after.old
+            → IsSameReceipt self.now (slice_index_or after.old j d) (slice_index_or after.new j d) }
     {
         self.learn_all(&mut pass.seat, after);
         self.perform(rt, &mut pass.seat, cmd)
@@ -171,8 +178,10 @@ impl<H: Held> Book<H> {
         requires seat { IsSeatOf self.now 1 seat.old }
         requires after { All (IsReceiptOf self.now) after.old }
         ensures seat { IsSeatOf self.now 1 seat.new × (seat.new.me.0.acts ≡ seat.old.me.0.acts) }
-        ensures learned { (j : ℕ) (d : _) → j < length after.old → Learned seat.new.me.0.claims (slice_index_or after.old j d).number }
-        ensures after { (j : ℕ) (d : _) → j < length after.old → IsSameReceipt self.now (slice_index_or after.old j d) (slice_index_or after.new j d) }
+        ensures learned { (j : ℕ) (d : _) → j < length after.old
+            → Learned seat.new.me.0.claims (slice_index_or after.old j d).number }
+        ensures after { (j : ℕ) (d : _) → j < length after.old
+            → IsSameReceipt self.now (slice_index_or after.old j d) (slice_index_or after.new j d) }
     {
         for receipt in after.iter_mut() {
             let note = self.copy(receipt);
@@ -235,7 +244,8 @@ impl<H: Held> Book<H> {
     fn end(self, all: BookSeat<H>) -> (H, List<H::Note>)
         requires { IsSeatOf self (passes_of self) all }
         ensures leads { Leads H.gives (first_state self) result.1 result.0 }
-        ensures acts { ((k : ℕ) → times k all.me.0.acts ≡ once_below k (length result.1)) × StandsAt result.1 all.me.0.acts }
+        ensures acts { ((k : ℕ) → times k all.me.0.acts ≡ once_below k (length result.1))
+            × StandsAt result.1 all.me.0.acts }
         ensures claims { AllFollow result.1 all.me.0.claims }
     {
         let Book { table } = self;

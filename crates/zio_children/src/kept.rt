@@ -69,7 +69,8 @@ fn add_below<'a>(
     number: ReqNo,
     kept: &'a [KeptChild],
 ) -> Result<&'a [KeptChild], NoMemory>
-    ensures { IfOk result (λ rest. (front : List SeenChild) × (all.new ≡ all.old ++ front) × IsSplitAt number kept.now front rest.now) }
+    ensures { IfOk result (λ rest. (front : List SeenChild) × (all.new ≡ all.old ++ front)
+        × IsSplitAt number kept.now front rest.now) }
 {
     let mut rest = kept;
     while let Some((first, more)) = below(rest, number) {

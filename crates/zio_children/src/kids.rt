@@ -72,8 +72,8 @@ pub enum KidStep {
     AllOut,
 }
 
-/// The children of a request in an attempt. Those that haven't finished are handed out in the order of their numbers, all
-/// together, and each tells its pointer before its attempt ends; those that finished in earlier attempts are kept.
+/// The children of a request in an attempt. Those that haven't finished are handed out in the order of their numbers,
+/// all together, and each tells its pointer before its attempt ends; those that finished in earlier attempts are kept.
 #[derive(Debug, Drop)]
 pub struct Kids {
     /// By number.
@@ -163,7 +163,8 @@ impl Kids {
     pub fn tell(&mut self, n: usize, pointer: Option<Bp>)
         requires { state_at self.old.kids n ≡ Some KidState.Out }
         ensures told { self.new ≡ kid_is self.old n (KidState.Told pointer) }
-        ensures fits { (slots : List Slot) → Fits self.old slots → Fits self.new (slice_set slots n (IsOut (Some pointer))) }
+        ensures fits { (slots : List Slot) → Fits self.old slots
+            → Fits self.new (slice_set slots n (IsOut (Some pointer))) }
         ensures left { (slots : List Slot) (p : TaskPlan Value) → Fits self.old slots →
             left_behind_slots (slice_set slots n (IsOut (Some pointer))) p ≡ left_behind_slots slots p }
     {
@@ -175,10 +176,12 @@ impl Kids {
     pub fn hear(&mut self, n: usize, bits: Bits, error: Option<Errno>, pointer: Option<Bp>)
         requires { IsOutWith pointer (state_at self.old.kids n) }
         ensures heard { self.new ≡ kid_is self.old n (KidState.Ended bits error pointer) }
-        ensures fits { (slots : List Slot) (number : ℕ) (one : One) → Fits self.old slots → slice_get (numbers_of self.old.kids) n ≡ Some number →
+        ensures fits { (slots : List Slot) (number : ℕ) (one : One) → Fits self.old slots →
+            slice_get (numbers_of self.old.kids) n ≡ Some number →
             IsLeftBy one number bits error pointer → Fits self.new (slice_set slots n (Heard (AttemptedBy one))) }
         ensures left { (slots : List Slot) (v : Value) (p : TaskPlan Value) → Fits self.old slots →
-            left_behind_slots (slice_set slots n (Heard v)) p ≡ answered_at (outs_before n slots) v (left_behind_slots slots p) }
+            left_behind_slots (slice_set slots n (Heard v)) p
+            ≡ answered_at (outs_before n slots) v (left_behind_slots slots p) }
     {
         let more = untold(&self.kids[n].state);
         self.kids[n].state = KidState::Ended {
@@ -304,7 +307,8 @@ fn children_of(alloc: Global, kids: &[Kid]) -> Result<List<KeptChild>, NoMemory>
 
 /// The children that don't go again.
 fn finished_of(alloc: Global, kids: &[Kid]) -> Result<List<KeptChild>, NoMemory>
-    ensures { IfOk result (λ children. children ≡ map kept_as (filter (λ (k : SeenKid). not (has_bits (bits_by k.state))) kids.now)) }
+    ensures { IfOk result (λ children. children
+        ≡ map kept_as (filter (λ (k : SeenKid). not (has_bits (bits_by k.state))) kids.now)) }
 {
     let mut children = List::new(alloc);
     for kid in kids {

@@ -23,17 +23,21 @@ pub fn reads_keep_the_rest()
     ensures repairs { (s : Setting) (retry : Bool) (bytes : List ℕ) (spots : List Spot) (images : Images) →
         FitSpots spots images →
         SameOutside spots images (repaired s retry bytes spots images) }
-    ensures reads { (s : Setting) (repair : Bool) (good : List ℕ → Bool) (images : Images) (len : ℕ) (places : List Place) →
+    ensures reads { (s : Setting) (repair : Bool) (good : List ℕ → Bool) (images : Images) (len : ℕ)
+        (places : List Place) →
         FitSpots (spots_of s places) images →
         SameOutside (spots_of s places) images ((read_block s repair good images len places).images) }
     ensures without_repair { (s : Setting) (good : List ℕ → Bool) (images : Images) (len : ℕ) (places : List Place) →
         (read_block s false good images len places).images ≡ images }
-    ensures at_most { (s : Setting) (repair : Bool) (good : List ℕ → Bool) (images : Images) (len : ℕ) (places : List Place) →
+    ensures at_most { (s : Setting) (repair : Bool) (good : List ℕ → Bool) (images : Images) (len : ℕ)
+        (places : List Place) →
         IfOk ((read_block s repair good images len places).found) (λ bytes. length bytes ≤ len) }
-    ensures size { (s : Setting) (repair : Bool) (good : List ℕ → Bool) (images : Images) (len : ℕ) (places : List Place) →
+    ensures size { (s : Setting) (repair : Bool) (good : List ℕ → Bool) (images : Images) (len : ℕ)
+        (places : List Place) →
         HaveRoom len (spots_of s places) → FitSpots (spots_of s places) images →
         IfOk ((read_block s repair good images len places).found) (λ bytes. length bytes ≡ len) }
-    ensures good { (s : Setting) (repair : Bool) (good : List ℕ → Bool) (images : Images) (len : ℕ) (places : List Place) →
+    ensures good { (s : Setting) (repair : Bool) (good : List ℕ → Bool) (images : Images) (len : ℕ)
+        (places : List Place) →
         IfOk ((read_block s repair good images len places).found) (λ bytes. IsTrue (good bytes)) }
 {}
 

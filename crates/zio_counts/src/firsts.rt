@@ -19,7 +19,13 @@ pub(crate) struct Firsts {
 
 impl Firsts {
     pub(crate) fn new() -> Firsts
-        ensures { result ≡ record { vdev_done = 0; gang_ready = 0; gang_done = 0; logical_ready = 0; logical_done = 0 } }
+        ensures { result ≡ record {
+          vdev_done = 0;
+          gang_ready = 0;
+          gang_done = 0;
+          logical_ready = 0;
+          logical_done = 0;
+        } }
     {
         Firsts {
             vdev_done: 0,

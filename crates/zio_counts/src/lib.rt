@@ -1,8 +1,8 @@
 //! What a request keeps of its children: their counts, which wake it, and their values by number.
 //!
 //! It stands on `zio_types`, whose `specs/Machine` says what counts, stalls and wakes are, and on `zio_script` for the
-//! failmode. Read `Counts` first, a request machine without its children; then `Brood`, the list of them. `specs/Tallies`
-//! says what is kept of a machine, `specs/Broods` which child is missing.
+//! failmode. Read `Counts` first, a request machine without its children; then `Brood`, the list of them.
+//! `specs/Tallies` says what is kept of a machine, `specs/Broods` which child is missing.
 #![tactic(auto)]
 
 mod brood;

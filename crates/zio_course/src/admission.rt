@@ -102,8 +102,8 @@ pub struct Admission {
 }
 
 impl Admission {
-    /// Of the trees of a batch, beside what is suspended, if anything is, the names that it waits for and those that are
-    /// bound.
+    /// Of the trees of a batch, beside what is suspended, if anything is, the names that it waits for and those that
+    /// are bound.
     pub fn of(
         alloc: Global,
         batch: &[Item],
@@ -112,7 +112,8 @@ impl Admission {
         bound: &Bound,
     ) -> Result<Admission, NoMemory>
         requires rising { AreRising (requests_of batch.now) }
-        ensures { IfOk result (λ a. IsAdmission waits (is_name_in awaited.now) (is_some_name bound.now) (trees_of (requests_of batch.now)) a.slots.entries a.rules.items) }
+        ensures { IfOk result (λ a. IsAdmission waits (is_name_in awaited.now) (is_some_name bound.now)
+            (trees_of (requests_of batch.now)) a.slots.entries a.rules.items) }
     {
         let mut admission = Admission {
             slots: IndexMap::new(alloc),
@@ -135,8 +136,10 @@ impl Admission {
         bound: &Bound,
     ) -> Result<(), NoMemory>
         ensures { OnOk result ((trees : List (List Request)) → IsComingLine item.now trees
-            → IsAdmission waits (is_name_in awaited.now) (is_some_name bound.now) trees self.old.slots.entries self.old.rules.items
-            → IsAdmission waits (is_name_in awaited.now) (is_some_name bound.now) (with_line item.now trees) self.new.slots.entries self.new.rules.items) }
+            → IsAdmission waits (is_name_in awaited.now) (is_some_name bound.now) trees self.old.slots.entries
+            self.old.rules.items
+            → IsAdmission waits (is_name_in awaited.now) (is_some_name bound.now)
+            (with_line item.now trees) self.new.slots.entries self.new.rules.items) }
     {
         match item {
             Item::Request(request) => {
@@ -151,7 +154,8 @@ impl Admission {
         ensures { OnOk result ((waits : Bool) (awaited bound : List ℕ → Bool) (trees : List (List Request))
             → rules ≡ rules_of waits awaited bound request.now.work → IsComing request.now trees
             → IsAdmission waits awaited bound trees self.old.slots.entries self.old.rules.items
-            → IsAdmission waits awaited bound (with_request request.now.under request.now trees) self.new.slots.entries self.new.rules.items) }
+            → IsAdmission waits awaited bound (with_request request.now.under request.now trees) self.new.slots.entries
+            self.new.rules.items) }
     {
         let slot = match request.under {
             None => {

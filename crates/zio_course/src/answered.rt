@@ -11,15 +11,17 @@ use std::alloc::Global;
 use zio_script::Item;
 use zio_types::{Completion, List, NoMemory};
 
-/// The completions of a batch's requests that admission answered, in the round of this number. The last comes first, so that
-/// children, which stand behind their parents, complete before them.
+/// The completions of a batch's requests that admission answered, in the round of this number. The last comes first, so
+/// that children, which stand behind their parents, complete before them.
 pub fn answered_ends(
     alloc: Global,
     batch: &[Item],
     admission: &Admission,
     round: u32,
 ) -> Result<List<Completion>, NoMemory>
-    ensures { IfOk result (λ done. done ≡ reverse (answered_in (error_in admission.now.slots.entries admission.now.rules.items) round (requests_of batch.now))) }
+    ensures { IfOk result
+        (λ done. done ≡ reverse (answered_in (error_in admission.now.slots.entries admission.now.rules.items) round
+        (requests_of batch.now))) }
 {
     let mut done = List::new(alloc);
     let mut rest = batch;
@@ -37,7 +39,8 @@ fn answer_line(
     admission: &Admission,
     round: u32,
 ) -> Result<(), NoMemory>
-    ensures { OnOk result (done.new ≡ done.old ++ answered_by (error_in admission.now.slots.entries admission.now.rules.items) round item.now) }
+    ensures { OnOk result (done.new ≡ done.old
+        ++ answered_by (error_in admission.now.slots.entries admission.now.rules.items) round item.now) }
 {
     let Item::Request(request) = item else {
         return Ok(());

@@ -42,7 +42,8 @@ impl Awaited {
 
     /// Adds a name, also one that is awaited. Where memory is refused the names are as they were.
     pub fn insert(&mut self, name: Name) -> Result<(), NoMemory>
-        ensures ok { OnOk result ((other : List ℕ) → is_name_in self.new other ≡ cond (bytes_eq name other) true (is_name_in self.old other)) }
+        ensures ok { OnOk result ((other : List ℕ)
+            → is_name_in self.new other ≡ cond (bytes_eq name other) true (is_name_in self.old other)) }
         ensures err { OnErr result ((other : List ℕ) → is_name_in self.new other ≡ is_name_in self.old other) }
     {
         self.names.insert(name)?;

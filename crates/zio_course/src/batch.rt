@@ -38,8 +38,9 @@ pub struct BatchEnd<T> {
 /// Runs a batch as one round after those that the journal counts: the trees that admission lets run, beside what is
 /// suspended.
 ///
-/// The lines can be shown: the bytes of reads are whole sectors. The round is in the journal, with the ends of what admission
-/// answered, before anything is told of it. Where it is cut short the journal is as it was or has the whole round.
+/// The lines can be shown: the bytes of reads are whole sectors. The round is in the journal, with the ends of what
+/// admission answered, before anything is told of it. Where it is cut short the journal is as it was or has the whole
+/// round.
 pub fn run_batch<R: Runner>(
     alloc: Global,
     runner: &mut R,
@@ -52,34 +53,46 @@ pub fn run_batch<R: Runner>(
     journal: &mut Journal,
 ) -> Result<BatchEnd<R::Tree>, Stop>
     requires rising { AreRising (requests_of batch.now) }
-    requires ready { AreReady number bound.old (running admission.now.slots.entries admission.now.rules.items batch.now) }
+    requires ready { AreReady number bound.old
+        (running admission.now.slots.entries admission.now.rules.items batch.now) }
     requires fits { (name : List ℕ) → IfSome (named_in bound.old name) R.fits }
     requires rounds { journal.old.rounds + 1 < 2 ^ 32 }
     requires runs { (R.standing runner.old).stopped ≡ false }
     requires next { (R.standing runner.old).last ≤ journal.old.rounds }
     requires trees { AreRunnable (R.standing runner.old)
-        (pending_trees (names_of bound.old) number (trees_of (running admission.now.slots.entries admission.now.rules.items batch.now))) }
+        (pending_trees (names_of bound.old) number
+        (trees_of (running admission.now.slots.entries admission.now.rules.items batch.now))) }
     requires can { R.Can runner.old }
     ensures ran { IfOk result (λ ran. (end : SeenEnd)
-        × IsBatchRun (error_in admission.now.slots.entries admission.now.rules.items) (requests_of batch.now) bound.old bound.new journal.old journal.new end ran.lines (map R.pending ran.left)
+        × IsBatchRun (error_in admission.now.slots.entries admission.now.rules.items)
+        (requests_of batch.now) bound.old bound.new journal.old journal.new end ran.lines (map R.pending ran.left)
         × IsRoundEnd (R.standing runner.old) (journal.old.rounds + 1)
-        (pending_trees (names_of bound.old) number (trees_of (running admission.now.slots.entries admission.now.rules.items batch.now))) end
+        (pending_trees (names_of bound.old) number
+        (trees_of (running admission.now.slots.entries admission.now.rules.items batch.now))) end
         × StandsAfter (R.standing runner.old) (R.standing runner.new) (journal.old.rounds + 1)
-        (pending_trees (names_of bound.old) number (trees_of (running admission.now.slots.entries admission.now.rules.items batch.now))) end
+        (pending_trees (names_of bound.old) number
+        (trees_of (running admission.now.slots.entries admission.now.rules.items batch.now))) end
         × ((before : Images) → R.tells runner.old before → (after : Images) × R.tells runner.new after
         × IsRound (terms_at (R.standing runner.old) failmode (journal.old.rounds + 1) point)
-        (pending_trees (names_of bound.old) number (trees_of (running admission.now.slots.entries admission.now.rules.items batch.now))) before after end)) }
+        (pending_trees (names_of bound.old) number
+        (trees_of (running admission.now.slots.entries admission.now.rules.items batch.now))) before after end)) }
     ensures shown { IfOk result (λ ran. AreWhole ran.lines) }
     ensures fits { OnOk result ((name : List ℕ) → IfSome (named_in bound.new name) R.fits) }
-    ensures cut { IfErr result (λ stop. (before : Images) → R.tells runner.old before → (after : Images) × R.tells runner.new after
-        × IsCutShort (R.standing runner.old) (R.standing runner.new) (stopping_of (R.standing runner.new) (R.stops runner.new)) stop (terms_at (R.standing runner.old) failmode (journal.old.rounds + 1) point)
-        (pending_trees (names_of bound.old) number (trees_of (running admission.now.slots.entries admission.now.rules.items batch.now)))
-        (reverse (answered_in (error_in admission.now.slots.entries admission.now.rules.items) (journal.old.rounds + 1) (requests_of batch.now)))
+    ensures cut { IfErr result (λ stop. (before : Images) → R.tells runner.old before → (after : Images)
+        × R.tells runner.new after
+        × IsCutShort (R.standing runner.old) (R.standing runner.new)
+        (stopping_of (R.standing runner.new) (R.stops runner.new)) stop
+        (terms_at (R.standing runner.old) failmode (journal.old.rounds + 1) point)
+        (pending_trees (names_of bound.old) number
+        (trees_of (running admission.now.slots.entries admission.now.rules.items batch.now)))
+        (reverse (answered_in (error_in admission.now.slots.entries admission.now.rules.items) (journal.old.rounds + 1)
+        (requests_of batch.now)))
         journal.old journal.new before after) }
     ensures tops { (R.standing runner.new).tops ≡ (R.standing runner.old).tops }
     ensures rows { (R.standing runner.new).rows ≡ (R.standing runner.old).rows }
     ensures kept { IsErrOf result Stop.Device → journal.new ≡ journal.old }
-    ensures device { IsErrOf result Stop.Device → AnyRose (R.standing runner.old).faults (R.standing runner.new).faults }
+    ensures device { IsErrOf result Stop.Device
+        → AnyRose (R.standing runner.old).faults (R.standing runner.new).faults }
     ensures calm { IsErrOf result Stop.Memory → (R.standing runner.new).faults ≡ (R.standing runner.old).faults }
     ensures can { R.Can runner.new }
     ensures same { R.same runner.old runner.new }

@@ -51,7 +51,8 @@ impl Bound {
 
     /// Binds a name, also one that has a block. Where memory is refused the names are as they were.
     pub fn bind(&mut self, name: Name, tree: Tree) -> Result<(), NoMemory>
-        ensures ok { OnOk result ((other : List ℕ) → named_in self.new other ≡ cond (bytes_eq name other) (Some tree) (named_in self.old other)) }
+        ensures ok { OnOk result ((other : List ℕ)
+            → named_in self.new other ≡ cond (bytes_eq name other) (Some tree) (named_in self.old other)) }
         ensures err { OnErr result ((other : List ℕ) → named_in self.new other ≡ named_in self.old other) }
     {
         self.trees.insert(name, tree)?;
@@ -60,7 +61,8 @@ impl Bound {
 
     /// Unbinds a name, if it is bound.
     pub fn unbind(&mut self, name: &Name)
-        ensures { (other : List ℕ) → named_in self.new other ≡ cond (bytes_eq name.now other) None (named_in self.old other) }
+        ensures { (other : List ℕ)
+            → named_in self.new other ≡ cond (bytes_eq name.now other) None (named_in self.old other) }
     {
         self.trees.swap_remove(name);
     }

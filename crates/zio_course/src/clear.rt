@@ -31,26 +31,40 @@ pub fn clear_line<'a, R: Runner, O: Sink>(
     out: &mut O,
     journal: &mut Journal,
 ) -> Result<(), RunFault>
-    requires going { (later : List (List Request)) × (spare : ℕ) × IsGoing R.fits (R.standing runner.old) journal.old.rounds (fold_seen R.pending fold.old) (batches_seen held.old.items) later (spare + 1) }
+    requires going { (later : List (List Request)) × (spare : ℕ)
+        × IsGoing R.fits (R.standing runner.old) journal.old.rounds (fold_seen R.pending fold.old)
+        (batches_seen held.old.items) later (spare + 1) }
     requires point { fold.old.point + 1 < 2 ^ 32 }
     requires waits { HeldWaits failmode (map R.pending fold.old.suspended) (batches_seen held.old.items) }
     requires can { R.Can runner.old }
-    ensures ran { OnOk result ((batch : List Request) (batches : ℕ) → LineRan show.now failmode (R.standing runner.old) (R.standing runner.new) (fold_seen R.pending fold.old) (fold_seen R.pending fold.new)
-        (record { held = batches_seen held.old.items; batch = batch; batches = batches }) (record { held = batches_seen held.new.items; batch = batch; batches = batches })
+    ensures ran { OnOk result ((batch : List Request) (batches : ℕ)
+        → LineRan show.now failmode (R.standing runner.old) (R.standing runner.new) (fold_seen R.pending fold.old)
+        (fold_seen R.pending fold.new)
+        (record { held = batches_seen held.old.items; batch = batch; batches = batches })
+        (record { held = batches_seen held.new.items; batch = batch; batches = batches })
         (requests_held (batches_seen held.old.items)) (requests_held (batches_seen held.new.items))
-        journal.old journal.new (R.tells runner.old) (R.tells runner.new) (O.holds out.old) (O.holds out.new) clear_line_by) }
-    ensures cut { IfErr result (λ fault. (batch : List Request) (batches : ℕ) → LineCut show.now failmode (R.standing runner.old) (fold_seen R.pending fold.old)
-        (record { held = batches_seen held.old.items; batch = batch; batches = batches }) (requests_held (batches_seen held.old.items))
-        journal.old journal.new (R.tells runner.old) (R.tells runner.new) (stopping_of (R.standing runner.new) (R.stops runner.new)) (O.holds out.old) (O.holds out.new) clear_line_by fault) }
-    ensures going { OnOk result ((later : List (List Request)) (spare : ℕ) → IsGoing R.fits (R.standing runner.old) journal.old.rounds (fold_seen R.pending fold.old) (batches_seen held.old.items) later (spare + 1)
-        → IsGoing R.fits (R.standing runner.new) journal.new.rounds (fold_seen R.pending fold.new) (batches_seen held.new.items) later spare) }
+        journal.old journal.new (R.tells runner.old) (R.tells runner.new) (O.holds out.old)
+        (O.holds out.new) clear_line_by) }
+    ensures cut { IfErr result (λ fault. (batch : List Request) (batches : ℕ)
+        → LineCut show.now failmode (R.standing runner.old) (fold_seen R.pending fold.old)
+        (record { held = batches_seen held.old.items; batch = batch; batches = batches })
+        (requests_held (batches_seen held.old.items))
+        journal.old journal.new (R.tells runner.old) (R.tells runner.new)
+        (stopping_of (R.standing runner.new) (R.stops runner.new)) (O.holds out.old)
+        (O.holds out.new) clear_line_by fault) }
+    ensures going { OnOk result ((later : List (List Request)) (spare : ℕ)
+        → IsGoing R.fits (R.standing runner.old) journal.old.rounds (fold_seen R.pending fold.old)
+        (batches_seen held.old.items) later (spare + 1)
+        → IsGoing R.fits (R.standing runner.new) journal.new.rounds (fold_seen R.pending fold.new)
+        (batches_seen held.new.items) later spare) }
     ensures waits { OnOk result (HeldWaits failmode (map R.pending fold.new.suspended) (batches_seen held.new.items)) }
     ensures tops { (R.standing runner.new).tops ≡ (R.standing runner.old).tops }
     ensures rows { (R.standing runner.new).rows ≡ (R.standing runner.old).rows }
     ensures point { fold.new.point ≡ fold.old.point + 1 }
     ensures faults { OnOk result ((R.standing runner.new).faults ≡ (R.standing runner.old).faults) }
     ensures quiet { OnOk result (O.faults out.new ≡ O.faults out.old) }
-    ensures device { IsErrOf result RunFault.Device → AnyRose (R.standing runner.old).faults (R.standing runner.new).faults }
+    ensures device { IsErrOf result RunFault.Device
+        → AnyRose (R.standing runner.old).faults (R.standing runner.new).faults }
     ensures calm { IsErrOf result RunFault.Memory → (R.standing runner.new).faults ≡ (R.standing runner.old).faults }
     ensures sink { IsErrOf result RunFault.Sink → Rose (O.faults out.old) (O.faults out.new) }
     ensures can { R.Can runner.new }
@@ -71,20 +85,29 @@ fn run_waiting<'a, R: Runner, O: Sink>(
     out: &mut O,
     journal: &mut Journal,
 ) -> Result<(), RunFault>
-    requires going { (held : List DefinedBatch) × (later : List (List Request)) × (spare : ℕ) × IsGoing R.fits (R.standing runner.old) journal.old.rounds (fold_seen R.pending fold.old) held later (spare + 1) }
+    requires going { (held : List DefinedBatch) × (later : List (List Request)) × (spare : ℕ)
+        × IsGoing R.fits (R.standing runner.old) journal.old.rounds (fold_seen R.pending fold.old) held later
+        (spare + 1) }
     requires can { R.Can runner.old }
-    ensures ran { OnOk result (StepRan show.now failmode (R.standing runner.old) (R.standing runner.new) (fold_seen R.pending fold.old) (fold_seen R.pending fold.new) (λ ahead. ahead) [] []
-        journal.old journal.new (R.tells runner.old) (R.tells runner.new) (O.holds out.old) (O.holds out.new) (λ ahead plan st. clear_if (has_trees st.suspended) plan st)) }
+    ensures ran { OnOk result (StepRan show.now failmode (R.standing runner.old) (R.standing runner.new)
+        (fold_seen R.pending fold.old) (fold_seen R.pending fold.new) (λ ahead. ahead) [] []
+        journal.old journal.new (R.tells runner.old) (R.tells runner.new) (O.holds out.old) (O.holds out.new)
+        (λ ahead plan st. clear_if (has_trees st.suspended) plan st)) }
     ensures cut { IfErr result (StepCut show.now failmode (R.standing runner.old) (fold_seen R.pending fold.old) []
-        journal.old journal.new (R.tells runner.old) (R.tells runner.new) (stopping_of (R.standing runner.new) (R.stops runner.new)) (O.holds out.old) (O.holds out.new) (λ ahead plan st. clear_if (has_trees st.suspended) plan st)) }
-    ensures going { OnOk result ((held : List DefinedBatch) (later : List (List Request)) (spare : ℕ) → IsGoing R.fits (R.standing runner.old) journal.old.rounds (fold_seen R.pending fold.old) held later (spare + 1)
+        journal.old journal.new (R.tells runner.old) (R.tells runner.new)
+        (stopping_of (R.standing runner.new) (R.stops runner.new)) (O.holds out.old) (O.holds out.new)
+        (λ ahead plan st. clear_if (has_trees st.suspended) plan st)) }
+    ensures going { OnOk result ((held : List DefinedBatch) (later : List (List Request)) (spare : ℕ)
+        → IsGoing R.fits (R.standing runner.old) journal.old.rounds (fold_seen R.pending fold.old) held later
+        (spare + 1)
         → IsGoing R.fits (R.standing runner.new) journal.new.rounds (fold_seen R.pending fold.new) held later spare) }
     ensures tops { (R.standing runner.new).tops ≡ (R.standing runner.old).tops }
     ensures rows { (R.standing runner.new).rows ≡ (R.standing runner.old).rows }
     ensures point { fold.new.point ≡ fold.old.point }
     ensures faults { OnOk result ((R.standing runner.new).faults ≡ (R.standing runner.old).faults) }
     ensures quiet { OnOk result (O.faults out.new ≡ O.faults out.old) }
-    ensures device { IsErrOf result RunFault.Device → AnyRose (R.standing runner.old).faults (R.standing runner.new).faults }
+    ensures device { IsErrOf result RunFault.Device
+        → AnyRose (R.standing runner.old).faults (R.standing runner.new).faults }
     ensures calm { IsErrOf result RunFault.Memory → (R.standing runner.new).faults ≡ (R.standing runner.old).faults }
     ensures sink { IsErrOf result RunFault.Sink → Rose (O.faults out.old) (O.faults out.new) }
     ensures can { R.Can runner.new }

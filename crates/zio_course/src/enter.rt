@@ -8,8 +8,8 @@ use zio_types::{Completion, Entry, Journal, List, NoMemory};
 
 /// Counts a round that is whole, with its entries and completions behind those of the rounds before.
 ///
-/// The room for all of them is taken first. So where memory is refused the journal is as it was, and no half of a round is
-/// in it.
+/// The room for all of them is taken first. So where memory is refused the journal is as it was, and no half of a round
+/// is in it.
 pub fn enter_round(
     alloc: Global,
     journal: &mut Journal,

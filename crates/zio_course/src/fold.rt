@@ -108,8 +108,12 @@ impl<'a, T: Drop> Fold<'a, T> {
         requires lengths { length requests.now ≡ length lines.now }
         requires few { self.old.tally.good + self.old.tally.bad + length lines.now < 2 ^ 32 }
         requires sums { self.old.tally.read ≤ self.old.tally.good * 2 ^ 64 }
-        ensures unfinished { OnOk result (map (λ r. r.now) self.new.unfinished.items ≡ map (λ r. r.now) self.old.unfinished.items ++ waiting_of (map (λ r. r.now) requests.now) lines.now) }
-        ensures awaited { OnOk result ((name : List ℕ) → is_name_in self.new.awaited name ≡ (is_name_in self.old.awaited name || is_named_by (waiting_of (map (λ r. r.now) requests.now) lines.now) name)) }
+        ensures unfinished { OnOk result (map (λ r. r.now) self.new.unfinished.items
+            ≡ map (λ r. r.now) self.old.unfinished.items ++ waiting_of (map (λ r. r.now) requests.now) lines.now) }
+        ensures awaited { OnOk result ((name : List ℕ)
+            → is_name_in self.new.awaited name
+            ≡ (is_name_in self.old.awaited name || is_named_by (waiting_of (map (λ r. r.now) requests.now) lines.now)
+            name)) }
         ensures tally { OnOk result (self.new.tally ≡ counted_in lines.now self.old.tally) }
         ensures sums { OnOk result (self.new.tally.read ≤ self.new.tally.good * 2 ^ 64) }
         ensures bound { self.new.bound ≡ self.old.bound }
@@ -127,8 +131,11 @@ impl<'a, T: Drop> Fold<'a, T> {
     fn note(&mut self, request: &'a Request, line: &ReportLine) -> Result<(), NoMemory>
         requires few { self.old.tally.good + self.old.tally.bad + 1 < 2 ^ 32 }
         requires sums { self.old.tally.read ≤ self.old.tally.good * 2 ^ 64 }
-        ensures unfinished { OnOk result (map (λ r. r.now) self.new.unfinished.items ≡ map (λ r. r.now) self.old.unfinished.items ++ waiting_by line.now.result request.now) }
-        ensures awaited { OnOk result ((name : List ℕ) → is_name_in self.new.awaited name ≡ (is_name_in self.old.awaited name || is_named_by (waiting_by line.now.result request.now) name)) }
+        ensures unfinished { OnOk result (map (λ r. r.now) self.new.unfinished.items
+            ≡ map (λ r. r.now) self.old.unfinished.items ++ waiting_by line.now.result request.now) }
+        ensures awaited { OnOk result ((name : List ℕ)
+            → is_name_in self.new.awaited name
+            ≡ (is_name_in self.old.awaited name || is_named_by (waiting_by line.now.result request.now) name)) }
         ensures tally { self.new.tally ≡ counted_by line.now.result self.old.tally }
         ensures sums { self.new.tally.read ≤ self.new.tally.good * 2 ^ 64 }
         ensures few { self.new.tally.good + self.new.tally.bad ≤ self.old.tally.good + self.old.tally.bad + 1 }

@@ -26,8 +26,8 @@ pub(crate) struct Forest<T> {
 
 /// Makes the trees of those requests of a batch that admission lets run, by the numbers of their roots.
 ///
-/// A batch has its numbers and parents in order, so that a request is behind its parent: the trees are made from its last
-/// request to its first, each over those of its children.
+/// A batch has its numbers and parents in order, so that a request is behind its parent: the trees are made from its
+/// last request to its first, each over those of its children.
 pub fn trees_to_run<R: Runner>(
     alloc: Global,
     runner: &mut R,
@@ -36,10 +36,12 @@ pub fn trees_to_run<R: Runner>(
     bound: &Bound,
     admission: &Admission,
 ) -> Result<List<R::Tree>, NoMemory>
-    requires ready { AreReady birth bound.now (running admission.now.slots.entries admission.now.rules.items batch.now) }
+    requires ready { AreReady birth bound.now
+        (running admission.now.slots.entries admission.now.rules.items batch.now) }
     requires fits { (name : List ℕ) → IfSome (named_in bound.now name) R.fits }
     ensures trees { IfOk result (λ trees. map R.pending trees
-        ≡ pending_trees (names_of bound.now) birth (trees_of (running admission.now.slots.entries admission.now.rules.items batch.now))) }
+        ≡ pending_trees (names_of bound.now) birth
+        (trees_of (running admission.now.slots.entries admission.now.rules.items batch.now))) }
     ensures stays { Stays (R.standing runner.old) (R.standing runner.new) (R.tells runner.old) (R.tells runner.new) }
     ensures can { R.Can runner.old → R.Can runner.new }
     ensures same { R.same runner.old runner.new }
@@ -66,12 +68,16 @@ fn plant_line<R: Runner>(
     bound: &Bound,
     admission: &Admission,
 ) -> Result<(), NoMemory>
-    requires ready { (done : List Request) × AreReady birth bound.now (line_runs admission.now.slots.entries admission.now.rules.items item.now ++ done)
+    requires ready { (done : List Request)
+        × AreReady birth bound.now (line_runs admission.now.slots.entries admission.now.rules.items item.now ++ done)
         × IsForest R.pending (names_of bound.now) birth done forest.old.waiting forest.old.roots }
     requires fits { (name : List ℕ) → IfSome (named_in bound.now name) R.fits }
-    ensures planted { OnOk result ((done : List Request) → AreReady birth bound.now (line_runs admission.now.slots.entries admission.now.rules.items item.now ++ done)
+    ensures planted { OnOk result ((done : List Request)
+        → AreReady birth bound.now (line_runs admission.now.slots.entries admission.now.rules.items item.now ++ done)
         → IsForest R.pending (names_of bound.now) birth done forest.old.waiting forest.old.roots
-        → IsForest R.pending (names_of bound.now) birth (line_runs admission.now.slots.entries admission.now.rules.items item.now ++ done) forest.new.waiting forest.new.roots) }
+        → IsForest R.pending (names_of bound.now) birth
+        (line_runs admission.now.slots.entries admission.now.rules.items item.now
+        ++ done) forest.new.waiting forest.new.roots) }
     ensures stays { Stays (R.standing runner.old) (R.standing runner.new) (R.tells runner.old) (R.tells runner.new) }
     ensures can { R.Can runner.old → R.Can runner.new }
     ensures same { R.same runner.old runner.new }

@@ -34,26 +34,41 @@ pub fn go_line<'a, R: Runner, O: Sink>(
     out: &mut O,
     journal: &mut Journal,
 ) -> Result<(), RunFault>
-    requires going { (later : List (List Request)) × (spare : ℕ) × IsGoing R.fits (R.standing runner.old) journal.old.rounds (fold_seen R.pending fold.old) (batches_seen held.old.items) (requests_of batch.now.lines.now ∷ later) (spare + 1) }
+    requires going { (later : List (List Request)) × (spare : ℕ)
+        × IsGoing R.fits (R.standing runner.old) journal.old.rounds (fold_seen R.pending fold.old)
+        (batches_seen held.old.items) (requests_of batch.now.lines.now ∷ later) (spare + 1) }
     requires number { 1 ≤ batch.now.number }
     requires waits { HeldWaits failmode (map R.pending fold.old.suspended) (batches_seen held.old.items) }
     requires can { R.Can runner.old }
-    ensures ran { OnOk result ((batches : ℕ) → batch.now.number ≡ batches + 1 → LineRan show.now failmode (R.standing runner.old) (R.standing runner.new) (fold_seen R.pending fold.old) (fold_seen R.pending fold.new)
-        (record { held = batches_seen held.old.items; batch = requests_of batch.now.lines.now; batches = batches }) (record { held = batches_seen held.new.items; batch = []; batches = batches + 1 })
-        (requests_held (batches_seen held.old.items) ++ requests_of batch.now.lines.now ∷ []) (requests_held (batches_seen held.new.items))
-        journal.old journal.new (R.tells runner.old) (R.tells runner.new) (O.holds out.old) (O.holds out.new) go_line_by) }
-    ensures cut { IfErr result (λ fault. (batches : ℕ) → batch.now.number ≡ batches + 1 → LineCut show.now failmode (R.standing runner.old) (fold_seen R.pending fold.old)
-        (record { held = batches_seen held.old.items; batch = requests_of batch.now.lines.now; batches = batches }) (requests_held (batches_seen held.old.items) ++ requests_of batch.now.lines.now ∷ [])
-        journal.old journal.new (R.tells runner.old) (R.tells runner.new) (stopping_of (R.standing runner.new) (R.stops runner.new)) (O.holds out.old) (O.holds out.new) go_line_by fault) }
-    ensures going { OnOk result ((later : List (List Request)) (spare : ℕ) → IsGoing R.fits (R.standing runner.old) journal.old.rounds (fold_seen R.pending fold.old) (batches_seen held.old.items) (requests_of batch.now.lines.now ∷ later) (spare + 1)
-        → IsGoing R.fits (R.standing runner.new) journal.new.rounds (fold_seen R.pending fold.new) (batches_seen held.new.items) later spare) }
+    ensures ran { OnOk result ((batches : ℕ) → batch.now.number ≡ batches + 1
+        → LineRan show.now failmode (R.standing runner.old) (R.standing runner.new) (fold_seen R.pending fold.old)
+        (fold_seen R.pending fold.new)
+        (record { held = batches_seen held.old.items; batch = requests_of batch.now.lines.now; batches = batches })
+        (record { held = batches_seen held.new.items; batch = []; batches = batches + 1 })
+        (requests_held (batches_seen held.old.items) ++ requests_of batch.now.lines.now ∷ [])
+        (requests_held (batches_seen held.new.items))
+        journal.old journal.new (R.tells runner.old) (R.tells runner.new) (O.holds out.old)
+        (O.holds out.new) go_line_by) }
+    ensures cut { IfErr result (λ fault. (batches : ℕ) → batch.now.number ≡ batches + 1
+        → LineCut show.now failmode (R.standing runner.old) (fold_seen R.pending fold.old)
+        (record { held = batches_seen held.old.items; batch = requests_of batch.now.lines.now; batches = batches })
+        (requests_held (batches_seen held.old.items) ++ requests_of batch.now.lines.now ∷ [])
+        journal.old journal.new (R.tells runner.old) (R.tells runner.new)
+        (stopping_of (R.standing runner.new) (R.stops runner.new)) (O.holds out.old)
+        (O.holds out.new) go_line_by fault) }
+    ensures going { OnOk result ((later : List (List Request)) (spare : ℕ)
+        → IsGoing R.fits (R.standing runner.old) journal.old.rounds (fold_seen R.pending fold.old)
+        (batches_seen held.old.items) (requests_of batch.now.lines.now ∷ later) (spare + 1)
+        → IsGoing R.fits (R.standing runner.new) journal.new.rounds (fold_seen R.pending fold.new)
+        (batches_seen held.new.items) later spare) }
     ensures waits { OnOk result (HeldWaits failmode (map R.pending fold.new.suspended) (batches_seen held.new.items)) }
     ensures tops { (R.standing runner.new).tops ≡ (R.standing runner.old).tops }
     ensures rows { (R.standing runner.new).rows ≡ (R.standing runner.old).rows }
     ensures point { fold.new.point ≡ fold.old.point }
     ensures faults { OnOk result ((R.standing runner.new).faults ≡ (R.standing runner.old).faults) }
     ensures quiet { OnOk result (O.faults out.new ≡ O.faults out.old) }
-    ensures device { IsErrOf result RunFault.Device → AnyRose (R.standing runner.old).faults (R.standing runner.new).faults }
+    ensures device { IsErrOf result RunFault.Device
+        → AnyRose (R.standing runner.old).faults (R.standing runner.new).faults }
     ensures calm { IsErrOf result RunFault.Memory → (R.standing runner.new).faults ≡ (R.standing runner.old).faults }
     ensures sink { IsErrOf result RunFault.Sink → Rose (O.faults out.old) (O.faults out.new) }
     ensures can { R.Can runner.new }
@@ -85,9 +100,11 @@ fn hold<'a, O: Sink>(
     out: &mut O,
 ) -> Result<(), RunFault>
     ensures held { OnOk result (held.new.items ≡ held.old.items ++ batch.entry ∷ []) }
-    ensures ok { OnOk result (Appends (O.holds out.old) (O.holds out.new) (shown_of show.now (held_text batch.entry.number))) }
+    ensures ok { OnOk result
+        (Appends (O.holds out.old) (O.holds out.new) (shown_of show.now (held_text batch.entry.number))) }
     ensures quiet { OnOk result (O.faults out.new ≡ O.faults out.old) }
-    ensures front { IsErrOf result RunFault.Sink → AppendsFront (O.holds out.old) (O.holds out.new) (shown_of show.now (held_text batch.entry.number)) }
+    ensures front { IsErrOf result RunFault.Sink
+        → AppendsFront (O.holds out.old) (O.holds out.new) (shown_of show.now (held_text batch.entry.number)) }
     ensures rose { IsErrOf result RunFault.Sink → Rose (O.faults out.old) (O.faults out.new) }
     ensures memory { IsErrOf result RunFault.Memory → out.new ≡ out.old }
     ensures device { IsErrOf result RunFault.Device → ⊥ }

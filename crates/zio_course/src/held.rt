@@ -29,15 +29,26 @@ pub fn run_held<'a, R: Runner, O: Sink>(
     out: &mut O,
     journal: &mut Journal,
 ) -> Result<(), RunFault>
-    requires going { (later : List (List Request)) × (spare : ℕ) × IsGoing R.fits (R.standing runner.old) journal.old.rounds (fold_seen R.pending fold.old) (batches_seen held.old.items) later spare }
+    requires going { (later : List (List Request)) × (spare : ℕ)
+        × IsGoing R.fits (R.standing runner.old) journal.old.rounds (fold_seen R.pending fold.old)
+        (batches_seen held.old.items) later spare }
     requires can { R.Can runner.old }
-    ensures ran { OnOk result (StepRan show.now failmode (R.standing runner.old) (R.standing runner.new) (fold_seen R.pending fold.old) (fold_seen R.pending fold.new)
-        (λ ahead. record ahead { held = batches_seen held.new.items }) (requests_held (batches_seen held.old.items)) (requests_held (batches_seen held.new.items))
-        journal.old journal.new (R.tells runner.old) (R.tells runner.new) (O.holds out.old) (O.holds out.new) (λ ahead plan st. run_held_by plan (batches_seen held.old.items) st)) }
-    ensures cut { IfErr result (StepCut show.now failmode (R.standing runner.old) (fold_seen R.pending fold.old) (requests_held (batches_seen held.old.items))
-        journal.old journal.new (R.tells runner.old) (R.tells runner.new) (stopping_of (R.standing runner.new) (R.stops runner.new)) (O.holds out.old) (O.holds out.new) (λ ahead plan st. run_held_by plan (batches_seen held.old.items) st)) }
-    ensures going { OnOk result ((later : List (List Request)) (spare : ℕ) → IsGoing R.fits (R.standing runner.old) journal.old.rounds (fold_seen R.pending fold.old) (batches_seen held.old.items) later spare
-        → IsGoing R.fits (R.standing runner.new) journal.new.rounds (fold_seen R.pending fold.new) (batches_seen held.new.items) later spare) }
+    ensures ran { OnOk result (StepRan show.now failmode (R.standing runner.old) (R.standing runner.new)
+        (fold_seen R.pending fold.old) (fold_seen R.pending fold.new)
+        (λ ahead. record ahead { held = batches_seen held.new.items }) (requests_held (batches_seen held.old.items))
+        (requests_held (batches_seen held.new.items))
+        journal.old journal.new (R.tells runner.old) (R.tells runner.new) (O.holds out.old) (O.holds out.new)
+        (λ ahead plan st. run_held_by plan (batches_seen held.old.items) st)) }
+    ensures cut { IfErr result (StepCut show.now failmode (R.standing runner.old) (fold_seen R.pending fold.old)
+        (requests_held (batches_seen held.old.items))
+        journal.old journal.new (R.tells runner.old) (R.tells runner.new)
+        (stopping_of (R.standing runner.new) (R.stops runner.new)) (O.holds out.old) (O.holds out.new)
+        (λ ahead plan st. run_held_by plan (batches_seen held.old.items) st)) }
+    ensures going { OnOk result ((later : List (List Request)) (spare : ℕ)
+        → IsGoing R.fits (R.standing runner.old) journal.old.rounds (fold_seen R.pending fold.old)
+        (batches_seen held.old.items) later spare
+        → IsGoing R.fits (R.standing runner.new) journal.new.rounds (fold_seen R.pending fold.new)
+        (batches_seen held.new.items) later spare) }
     ensures over { OnOk result ((has_items fold.new.suspended ≡ true) ⊎ (held.new.items ≡ [])) }
     ensures less { length held.new.items ≤ length held.old.items }
     ensures tops { (R.standing runner.new).tops ≡ (R.standing runner.old).tops }
@@ -45,7 +56,8 @@ pub fn run_held<'a, R: Runner, O: Sink>(
     ensures point { fold.new.point ≡ fold.old.point }
     ensures faults { OnOk result ((R.standing runner.new).faults ≡ (R.standing runner.old).faults) }
     ensures quiet { OnOk result (O.faults out.new ≡ O.faults out.old) }
-    ensures device { IsErrOf result RunFault.Device → AnyRose (R.standing runner.old).faults (R.standing runner.new).faults }
+    ensures device { IsErrOf result RunFault.Device
+        → AnyRose (R.standing runner.old).faults (R.standing runner.new).faults }
     ensures calm { IsErrOf result RunFault.Memory → (R.standing runner.new).faults ≡ (R.standing runner.old).faults }
     ensures sink { IsErrOf result RunFault.Sink → Rose (O.faults out.old) (O.faults out.new) }
     ensures can { R.Can runner.new }

@@ -1,11 +1,13 @@
 //! The run of a script over any runner of rounds.
 //!
-//! It stands on the script, the definitions of `zio_gang` and the report, and on no engine. Read `Runner` first: it makes
-//! trees of requests and runs rounds of them. A batch is a slice of a script's lines. `Admission` says which of its trees
-//! are answered before its round, `trees_to_run` makes those that run, `tell_batch` tells of each request after it, and
+//! It stands on the script, the definitions of `zio_gang` and the report, and on no engine. Read `Runner` first: it
+//! makes trees of requests and runs rounds of them. A batch is a slice of a script's lines. `Admission` says which of
+//! its trees are answered before its round, `trees_to_run` makes those that run, `tell_batch` tells of each request
+//! after it, and
 //! `enter_round` counts it in the journal: `run_batch` is all of these. `run_suspended` is the round of a `clear`, and
 //! `write_round` writes what a round told. Contracts see a tree as the list of its requests in the order of their
-//! attempts. `specs/Runners` says what a round is to a runner, and `laws` that such rounds are those of a script's course.
+//! attempts. `specs/Runners` says what a round is to a runner, and `laws` that such rounds are those of a script's
+//! course.
 #![tactic(auto)]
 
 mod admission;

@@ -24,8 +24,8 @@ pub struct WholeRound<T> {
 /// Runs a round, and enters it in the journal once it is whole: its entries, and its completions behind those of the
 /// requests that admission answered.
 ///
-/// Where it is stopped, or memory for the journal is refused, the journal is as it was. What it did to the images then lies
-/// in sectors that no place in use had, and in places of blocks that its trees name.
+/// Where it is stopped, or memory for the journal is refused, the journal is as it was. What it did to the images then
+/// lies in sectors that no place in use had, and in places of blocks that its trees name.
 pub fn whole_round<R: Runner>(
     alloc: Global,
     runner: &mut R,
@@ -39,19 +39,24 @@ pub fn whole_round<R: Runner>(
     requires next { (R.standing runner.old).last < job.round }
     requires trees { AreRunnable (R.standing runner.old) (map R.pending job.trees) }
     requires can { R.Can runner.old }
-    ensures whole { IfOk result (λ ran. (end : SeenEnd) × IsEntered answered journal.old journal.new end ran.finished (map R.pending ran.left)
+    ensures whole { IfOk result (λ ran. (end : SeenEnd)
+        × IsEntered answered journal.old journal.new end ran.finished (map R.pending ran.left)
         × IsRoundEnd (R.standing runner.old) job.round (map R.pending job.trees) end
         × StandsAfter (R.standing runner.old) (R.standing runner.new) job.round (map R.pending job.trees) end
         × ((before : Images) → R.tells runner.old before → (after : Images) × R.tells runner.new after
-        × IsRound (terms_at (R.standing runner.old) job.failmode job.round job.point) (map R.pending job.trees) before after end)) }
+        × IsRound (terms_at (R.standing runner.old) job.failmode job.round job.point)
+        (map R.pending job.trees) before after end)) }
     ensures fits { IfOk result (λ ran. AllByRecursion R.fits (made_trees ran.finished)) }
     ensures kept { OnErr result (journal.new ≡ journal.old) }
-    ensures cut { IfErr result (λ stop. (before : Images) → R.tells runner.old before → (after : Images) × R.tells runner.new after
-        × IsCutRound stop (stopping_of (R.standing runner.new) (R.stops runner.new)) (terms_at (R.standing runner.old) job.failmode job.round job.point) (map R.pending job.trees) before after
+    ensures cut { IfErr result (λ stop. (before : Images) → R.tells runner.old before → (after : Images)
+        × R.tells runner.new after
+        × IsCutRound stop (stopping_of (R.standing runner.new) (R.stops runner.new))
+        (terms_at (R.standing runner.old) job.failmode job.round job.point) (map R.pending job.trees) before after
         × DiffersInRound (R.standing runner.old) (map R.pending job.trees) before after) }
     ensures tops { (R.standing runner.new).tops ≡ (R.standing runner.old).tops }
     ensures rows { (R.standing runner.new).rows ≡ (R.standing runner.old).rows }
-    ensures device { IsErrOf result Stop.Device → AnyRose (R.standing runner.old).faults (R.standing runner.new).faults }
+    ensures device { IsErrOf result Stop.Device
+        → AnyRose (R.standing runner.old).faults (R.standing runner.new).faults }
     ensures calm { IsErrOf result Stop.Memory → (R.standing runner.new).faults ≡ (R.standing runner.old).faults }
     ensures can { R.Can runner.new }
     ensures same { R.same runner.old runner.new }

@@ -52,31 +52,44 @@ pub fn batch_round<'a, R: Runner, O: Sink>(
     requires rounds { journal.old.rounds + 1 < 2 ^ 32 }
     requires few { fold.old.tally.good + fold.old.tally.bad + length (requests_of batch.now.lines.now) < 2 ^ 32 }
     requires can { R.Can runner.old }
-    ensures ran { OnOk result ((n : RunSize) (script : Script) (before images : Images) (ahead : Ahead) (later : List (List Request)) (printed : List ℕ) (rest : Plan → State → Course) →
-        script.failmode ≡ failmode → AllByRecursion (IsOrderlyBatch (rows_tell_apart (R.standing runner.old).rows)) later
-        → IsCourseAt show.now n script before (R.standing runner.old) (fold_seen R.pending fold.old) ahead (requests_of batch.now.lines.now ∷ later) journal.old images printed
+    ensures ran { OnOk result ((n : RunSize) (script : Script) (before images : Images) (ahead : Ahead)
+        (later : List (List Request)) (printed : List ℕ) (rest : Plan → State → Course) →
+        script.failmode ≡ failmode
+        → AllByRecursion (IsOrderlyBatch (rows_tell_apart (R.standing runner.old).rows)) later
+        → IsCourseAt show.now n script before (R.standing runner.old) (fold_seen R.pending fold.old) ahead
+        (requests_of batch.now.lines.now ∷ later) journal.old images printed
         (λ plan st. then_course (run_batch_by plan (batch_seen batch.now) st) (rest plan))
         → R.tells runner.old images → (after : Images) × (more : List ℕ)
-        × IsCourseAt show.now n script before (R.standing runner.new) (fold_seen R.pending fold.new) ahead later journal.new after (printed ++ more) rest
+        × IsCourseAt show.now n script before (R.standing runner.new)
+        (fold_seen R.pending fold.new) ahead later journal.new after (printed ++ more) rest
         × R.tells runner.new after × Appends (O.holds out.old) (O.holds out.new) more) }
-    ensures cut { IfErr result (λ fault. (n : RunSize) (script : Script) (before images : Images) (ahead : Ahead) (later : List (List Request)) (printed : List ℕ) (rest : Plan → State → Course) →
-        script.failmode ≡ failmode → AllByRecursion (IsOrderlyBatch (rows_tell_apart (R.standing runner.old).rows)) later
-        → IsCourseAt show.now n script before (R.standing runner.old) (fold_seen R.pending fold.old) ahead (requests_of batch.now.lines.now ∷ later) journal.old images printed
+    ensures cut { IfErr result (λ fault. (n : RunSize) (script : Script) (before images : Images) (ahead : Ahead)
+        (later : List (List Request)) (printed : List ℕ) (rest : Plan → State → Course) →
+        script.failmode ≡ failmode
+        → AllByRecursion (IsOrderlyBatch (rows_tell_apart (R.standing runner.old).rows)) later
+        → IsCourseAt show.now n script before (R.standing runner.old) (fold_seen R.pending fold.old) ahead
+        (requests_of batch.now.lines.now ∷ later) journal.old images printed
         (λ plan st. then_course (run_batch_by plan (batch_seen batch.now) st) (rest plan))
         → R.tells runner.old images → (after : Images) × (text : List ℕ)
-        × IsCut show.now n script before (R.standing runner.old).tops (stopping_of (R.standing runner.new) (R.stops runner.new)) fault journal.new after text
+        × IsCut show.now n script before (R.standing runner.old).tops
+        (stopping_of (R.standing runner.new) (R.stops runner.new)) fault journal.new after text
         × R.tells runner.new after × IsCutText fault (O.holds out.old) (O.holds out.new) printed text) }
-    ensures waits { OnOk result ((lines : List ReportLine) × (map (λ r. r.now) fold.new.unfinished.items ≡ map (λ r. r.now) fold.old.unfinished.items ++ waiting_of (requests_of batch.now.lines.now) lines)) }
+    ensures waits { OnOk result ((lines : List ReportLine)
+        × (map (λ r. r.now) fold.new.unfinished.items ≡ map (λ r. r.now) fold.old.unfinished.items
+        ++ waiting_of (requests_of batch.now.lines.now) lines)) }
     ensures few { OnOk result (fold.new.tally.good + fold.new.tally.bad + length fold.new.unfinished.items
-        ≡ fold.old.tally.good + fold.old.tally.bad + length fold.old.unfinished.items + length (requests_of batch.now.lines.now)) }
+        ≡ fold.old.tally.good + fold.old.tally.bad + length fold.old.unfinished.items + length
+        (requests_of batch.now.lines.now)) }
     ensures point { fold.new.point ≡ fold.old.point }
-    ensures steady { OnOk result (IsSteady R.fits (R.standing runner.new) journal.new.rounds (fold_seen R.pending fold.new)) }
+    ensures steady { OnOk result (IsSteady R.fits (R.standing runner.new) journal.new.rounds
+        (fold_seen R.pending fold.new)) }
     ensures counted { OnOk result (journal.new.rounds ≡ journal.old.rounds + 1) }
     ensures tops { (R.standing runner.new).tops ≡ (R.standing runner.old).tops }
     ensures rows { (R.standing runner.new).rows ≡ (R.standing runner.old).rows }
     ensures faults { OnOk result ((R.standing runner.new).faults ≡ (R.standing runner.old).faults) }
     ensures quiet { OnOk result (O.faults out.new ≡ O.faults out.old) }
-    ensures device { IsErrOf result RunFault.Device → AnyRose (R.standing runner.old).faults (R.standing runner.new).faults }
+    ensures device { IsErrOf result RunFault.Device
+        → AnyRose (R.standing runner.old).faults (R.standing runner.new).faults }
     ensures calm { IsErrOf result RunFault.Memory → (R.standing runner.new).faults ≡ (R.standing runner.old).faults }
     ensures sink { IsErrOf result RunFault.Sink → Rose (O.faults out.old) (O.faults out.new) }
     ensures can { R.Can runner.new }
@@ -130,31 +143,43 @@ pub fn clear_round<'a, R: Runner, O: Sink>(
     requires rounds { journal.old.rounds + 1 < 2 ^ 32 }
     requires few { fold.old.tally.good + fold.old.tally.bad + length fold.old.unfinished.items < 2 ^ 32 }
     requires can { R.Can runner.old }
-    ensures ran { OnOk result ((n : RunSize) (script : Script) (before images : Images) (ahead : Ahead) (later : List (List Request)) (printed : List ℕ) (rest : Plan → State → Course) →
-        script.failmode ≡ failmode → AllByRecursion (IsOrderlyBatch (rows_tell_apart (R.standing runner.old).rows)) later
-        → IsCourseAt show.now n script before (R.standing runner.old) (fold_seen R.pending fold.old) ahead later journal.old images printed
+    ensures ran { OnOk result ((n : RunSize) (script : Script) (before images : Images) (ahead : Ahead)
+        (later : List (List Request)) (printed : List ℕ) (rest : Plan → State → Course) →
+        script.failmode ≡ failmode
+        → AllByRecursion (IsOrderlyBatch (rows_tell_apart (R.standing runner.old).rows)) later
+        → IsCourseAt show.now n script before (R.standing runner.old)
+        (fold_seen R.pending fold.old) ahead later journal.old images printed
         (λ plan st. then_course (run_suspended_by plan st) (rest plan))
         → R.tells runner.old images → (after : Images) × (more : List ℕ)
-        × IsCourseAt show.now n script before (R.standing runner.new) (fold_seen R.pending fold.new) ahead later journal.new after (printed ++ more) rest
+        × IsCourseAt show.now n script before (R.standing runner.new)
+        (fold_seen R.pending fold.new) ahead later journal.new after (printed ++ more) rest
         × R.tells runner.new after × Appends (O.holds out.old) (O.holds out.new) more) }
-    ensures cut { IfErr result (λ fault. (n : RunSize) (script : Script) (before images : Images) (ahead : Ahead) (later : List (List Request)) (printed : List ℕ) (rest : Plan → State → Course) →
-        script.failmode ≡ failmode → AllByRecursion (IsOrderlyBatch (rows_tell_apart (R.standing runner.old).rows)) later
-        → IsCourseAt show.now n script before (R.standing runner.old) (fold_seen R.pending fold.old) ahead later journal.old images printed
+    ensures cut { IfErr result (λ fault. (n : RunSize) (script : Script) (before images : Images) (ahead : Ahead)
+        (later : List (List Request)) (printed : List ℕ) (rest : Plan → State → Course) →
+        script.failmode ≡ failmode
+        → AllByRecursion (IsOrderlyBatch (rows_tell_apart (R.standing runner.old).rows)) later
+        → IsCourseAt show.now n script before (R.standing runner.old)
+        (fold_seen R.pending fold.old) ahead later journal.old images printed
         (λ plan st. then_course (run_suspended_by plan st) (rest plan))
         → R.tells runner.old images → (after : Images) × (text : List ℕ)
-        × IsCut show.now n script before (R.standing runner.old).tops (stopping_of (R.standing runner.new) (R.stops runner.new)) fault journal.new after text
+        × IsCut show.now n script before (R.standing runner.old).tops
+        (stopping_of (R.standing runner.new) (R.stops runner.new)) fault journal.new after text
         × R.tells runner.new after × IsCutText fault (O.holds out.old) (O.holds out.new) printed text) }
-    ensures waits { OnOk result ((lines : List ReportLine) × (map (λ r. r.now) fold.new.unfinished.items ≡ waiting_of (map (λ r. r.now) fold.old.unfinished.items) lines)) }
+    ensures waits { OnOk result ((lines : List ReportLine)
+        × (map (λ r. r.now) fold.new.unfinished.items
+        ≡ waiting_of (map (λ r. r.now) fold.old.unfinished.items) lines)) }
     ensures few { OnOk result (fold.new.tally.good + fold.new.tally.bad + length fold.new.unfinished.items
         ≡ fold.old.tally.good + fold.old.tally.bad + length fold.old.unfinished.items) }
     ensures point { fold.new.point ≡ fold.old.point }
-    ensures steady { OnOk result (IsSteady R.fits (R.standing runner.new) journal.new.rounds (fold_seen R.pending fold.new)) }
+    ensures steady { OnOk result (IsSteady R.fits (R.standing runner.new) journal.new.rounds
+        (fold_seen R.pending fold.new)) }
     ensures counted { OnOk result (journal.new.rounds ≡ journal.old.rounds + 1) }
     ensures tops { (R.standing runner.new).tops ≡ (R.standing runner.old).tops }
     ensures rows { (R.standing runner.new).rows ≡ (R.standing runner.old).rows }
     ensures faults { OnOk result ((R.standing runner.new).faults ≡ (R.standing runner.old).faults) }
     ensures quiet { OnOk result (O.faults out.new ≡ O.faults out.old) }
-    ensures device { IsErrOf result RunFault.Device → AnyRose (R.standing runner.old).faults (R.standing runner.new).faults }
+    ensures device { IsErrOf result RunFault.Device
+        → AnyRose (R.standing runner.old).faults (R.standing runner.new).faults }
     ensures calm { IsErrOf result RunFault.Memory → (R.standing runner.new).faults ≡ (R.standing runner.old).faults }
     ensures sink { IsErrOf result RunFault.Sink → Rose (O.faults out.old) (O.faults out.new) }
     ensures can { R.Can runner.new }
@@ -194,8 +219,8 @@ pub fn clear_round<'a, R: Runner, O: Sink>(
     )
 }
 
-/// Notes what became of a round's requests, and writes the round's text. Its entries and completions are those of the journal
-/// from these on.
+/// Notes what became of a round's requests, and writes the round's text. Its entries and completions are those of the
+/// journal from these on.
 pub(crate) fn end_round<'a, T: Drop, O: Sink>(
     alloc: Global,
     failmode: Failmode,
@@ -218,14 +243,24 @@ pub(crate) fn end_round<'a, T: Drop, O: Sink>(
     ensures bound { fold.new.bound ≡ fold.old.bound }
     ensures point { fold.new.point ≡ fold.old.point }
     ensures suspended { OnOk result (fold.new.suspended ≡ fold.old.suspended ++ end.left) }
-    ensures unfinished { OnOk result (map (λ r. r.now) fold.new.unfinished.items ≡ map (λ r. r.now) fold.old.unfinished.items ++ waiting_of (map (λ r. r.now) requests.now) end.lines) }
-    ensures awaited { OnOk result ((name : List ℕ) → is_name_in fold.new.awaited name ≡ (is_name_in fold.old.awaited name || is_named_by (waiting_of (map (λ r. r.now) requests.now) end.lines) name)) }
+    ensures unfinished { OnOk result (map (λ r. r.now) fold.new.unfinished.items
+        ≡ map (λ r. r.now) fold.old.unfinished.items ++ waiting_of (map (λ r. r.now) requests.now) end.lines) }
+    ensures awaited { OnOk result ((name : List ℕ)
+        → is_name_in fold.new.awaited name
+        ≡ (is_name_in fold.old.awaited name || is_named_by (waiting_of (map (λ r. r.now) requests.now) end.lines)
+        name)) }
     ensures tally { OnOk result (fold.new.tally ≡ counted_in end.lines fold.old.tally) }
     ensures sums { OnOk result (fold.new.tally.read ≤ fold.new.tally.good * 2 ^ 64) }
     ensures panicked { OnOk result (fold.new.panicked ≡ (is_panic failmode && has_items end.left)) }
-    ensures ok { OnOk result (Appends (O.holds out.old) (O.holds out.new) (round_text show.now head.now end.lines (drop places journal.now.places) (drop completions journal.now.completions))) }
+    ensures ok { OnOk result
+        (Appends (O.holds out.old) (O.holds out.new)
+        (round_text show.now head.now end.lines (drop places journal.now.places)
+        (drop completions journal.now.completions))) }
     ensures quiet { OnOk result (O.faults out.new ≡ O.faults out.old) }
-    ensures front { IsErrOf result RunFault.Sink → AppendsFront (O.holds out.old) (O.holds out.new) (round_text show.now head.now end.lines (drop places journal.now.places) (drop completions journal.now.completions)) }
+    ensures front { IsErrOf result RunFault.Sink
+        → AppendsFront (O.holds out.old) (O.holds out.new)
+        (round_text show.now head.now end.lines (drop places journal.now.places)
+        (drop completions journal.now.completions)) }
     ensures rose { IsErrOf result RunFault.Sink → Rose (O.faults out.old) (O.faults out.new) }
     ensures memory { IsErrOf result RunFault.Memory → out.new ≡ out.old }
     ensures device { IsErrOf result RunFault.Device → ⊥ }
@@ -258,8 +293,12 @@ fn note<'a, T: Drop>(
     ensures bound { fold.new.bound ≡ fold.old.bound }
     ensures point { fold.new.point ≡ fold.old.point }
     ensures suspended { OnOk result (fold.new.suspended ≡ fold.old.suspended ++ left) }
-    ensures unfinished { OnOk result (map (λ r. r.now) fold.new.unfinished.items ≡ map (λ r. r.now) fold.old.unfinished.items ++ waiting_of (map (λ r. r.now) requests.now) lines.now) }
-    ensures awaited { OnOk result ((name : List ℕ) → is_name_in fold.new.awaited name ≡ (is_name_in fold.old.awaited name || is_named_by (waiting_of (map (λ r. r.now) requests.now) lines.now) name)) }
+    ensures unfinished { OnOk result (map (λ r. r.now) fold.new.unfinished.items
+        ≡ map (λ r. r.now) fold.old.unfinished.items ++ waiting_of (map (λ r. r.now) requests.now) lines.now) }
+    ensures awaited { OnOk result ((name : List ℕ)
+        → is_name_in fold.new.awaited name
+        ≡ (is_name_in fold.old.awaited name || is_named_by (waiting_of (map (λ r. r.now) requests.now) lines.now)
+        name)) }
     ensures tally { OnOk result (fold.new.tally ≡ counted_in lines.now fold.old.tally) }
     ensures sums { OnOk result (fold.new.tally.read ≤ fold.new.tally.good * 2 ^ 64) }
     ensures panicked { OnOk result (fold.new.panicked ≡ (is_panic failmode && has_items left)) }
@@ -285,7 +324,8 @@ fn admit<'a, T: Drop>(
     batch: &Batch<'a>,
 ) -> Result<Admission, Stop>
     requires rising { AreRising (requests_of batch.now.lines.now) }
-    ensures ok { IfOk result (λ a. IsAdmission (has_items fold.now.suspended) (is_name_in fold.now.awaited) (is_some_name fold.now.bound) (trees_of (requests_of batch.now.lines.now)) a.slots.entries a.rules.items) }
+    ensures ok { IfOk result (λ a. IsAdmission (has_items fold.now.suspended) (is_name_in fold.now.awaited)
+        (is_some_name fold.now.bound) (trees_of (requests_of batch.now.lines.now)) a.slots.entries a.rules.items) }
     ensures err { IsErrOf result Stop.Device → ⊥ }
 {
     let waits = !fold.suspended.is_empty();

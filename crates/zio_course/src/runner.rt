@@ -114,7 +114,8 @@ pub trait Runner {
     /// What a round needs beside, as of the threads that it starts. It stays so.
     ghost Can: { Self → Type 0 };
 
-    /// What it means that a round was stopped for want of memory: of the round's terms, its trees and the images before it.
+    /// What it means that a round was stopped for want of memory: of the round's terms, its trees and the images before
+    /// it.
     ghost stops: { Self → Terms → List (List Pending) → Images → Type 0 };
 
     /// Makes a tree of a request and its children's trees, for the batch of this number. A read or a free is given the
@@ -128,7 +129,8 @@ pub trait Runner {
     ) -> Result<Self::Tree, ChildrenBack<Self::Tree>>
         requires whole { IsNewTree request.now birth block (map pending children) }
         requires fits { IfSome block fits }
-        ensures made { IfOk result (λ tree. pending tree ≡ tree_over (map pending children) (fresh request.now birth block)) }
+        ensures made { IfOk result (λ tree. pending tree
+            ≡ tree_over (map pending children) (fresh request.now birth block)) }
         ensures back { IfErr result (λ back. back.children ≡ children) }
         ensures stays { Stays (standing self.old) (standing self.new) (tells self.old) (tells self.new) }
         ensures can { Can self.old → Can self.new }
@@ -143,18 +145,24 @@ pub trait Runner {
         requires next { (standing self.old).last < job.round }
         requires trees { AreRunnable (standing self.old) (map pending job.trees) }
         requires can { Can self.old }
-        ensures round { IfOk result (λ end. (before : Images) → tells self.old before → (after : Images) × tells self.new after
-            × IsRound (terms_at (standing self.old) job.failmode job.round job.point) (map pending job.trees) before after (ended_seen pending told end)
+        ensures round { IfOk result (λ end. (before : Images) → tells self.old before → (after : Images)
+            × tells self.new after
+            × IsRound (terms_at (standing self.old) job.failmode job.round job.point)
+            (map pending job.trees) before after (ended_seen pending told end)
             × DiffersInRound (standing self.old) (map pending job.trees) before after) }
-        ensures end { IfOk result (λ end. IsRoundEnd (standing self.old) job.round (map pending job.trees) (ended_seen pending told end)) }
+        ensures end { IfOk result (λ end. IsRoundEnd (standing self.old) job.round (map pending job.trees)
+            (ended_seen pending told end)) }
         ensures fits { IfOk result (λ end. AllByRecursion fits (made_trees (map told end.finished))) }
-        ensures stands { IfOk result (λ end. StandsAfter (standing self.old) (standing self.new) job.round (map pending job.trees) (ended_seen pending told end)) }
+        ensures stands { IfOk result (λ end. StandsAfter (standing self.old) (standing self.new) job.round
+            (map pending job.trees) (ended_seen pending told end)) }
         ensures stopped { OnErr result (StoppedAfter (standing self.old) (standing self.new) job.round) }
         ensures device { IsErrOf result Stop.Device → AnyRose (standing self.old).faults (standing self.new).faults }
         ensures calm { IsErrOf result Stop.Memory → (standing self.new).faults ≡ (standing self.old).faults }
         ensures stops { IsErrOf result Stop.Memory → (before : Images) → tells self.old before
-            → stops self.new (terms_at (standing self.old) job.failmode job.round job.point) (map pending job.trees) before }
-        ensures images { OnErr result ((before : Images) → tells self.old before → (after : Images) × tells self.new after
+            → stops self.new (terms_at (standing self.old) job.failmode job.round job.point)
+            (map pending job.trees) before }
+        ensures images { OnErr result ((before : Images) → tells self.old before → (after : Images)
+            × tells self.new after
             × DiffersInRound (standing self.old) (map pending job.trees) before after) }
         ensures can { Can self.new }
         ensures same { same self.old self.new };

@@ -32,21 +32,26 @@ pub fn run_lines<'a, R: Runner, O: Sink>(
     out: &mut O,
     journal: &mut Journal,
 ) -> Result<(), RunFault>
-    requires going { IsGoing R.fits (R.standing runner.old) journal.old.rounds (fold_seen R.pending fold.old) [] (batches_from [] items.now) (length items.now) }
+    requires going { IsGoing R.fits (R.standing runner.old) journal.old.rounds (fold_seen R.pending fold.old) []
+        (batches_from [] items.now) (length items.now) }
     requires none { held.old.items ≡ [] }
     requires point { fold.old.point + length items.now < 2 ^ 32 }
     requires can { R.Can runner.old }
-    ensures ran { OnOk result (LinesOver show.now failmode (R.standing runner.old) (R.standing runner.new) (fold_seen R.pending fold.old) (fold_seen R.pending fold.new) items.now (batches_seen held.new.items)
+    ensures ran { OnOk result (LinesOver show.now failmode (R.standing runner.old) (R.standing runner.new)
+        (fold_seen R.pending fold.old) (fold_seen R.pending fold.new) items.now (batches_seen held.new.items)
         journal.old journal.new (R.tells runner.old) (R.tells runner.new) (O.holds out.old) (O.holds out.new)) }
-    ensures cut { IfErr result (LinesCut show.now failmode (R.standing runner.old) (fold_seen R.pending fold.old) items.now
-        journal.old journal.new (R.tells runner.old) (R.tells runner.new) (stopping_of (R.standing runner.new) (R.stops runner.new)) (O.holds out.old) (O.holds out.new)) }
+    ensures cut { IfErr result
+        (LinesCut show.now failmode (R.standing runner.old) (fold_seen R.pending fold.old) items.now
+        journal.old journal.new (R.tells runner.old) (R.tells runner.new)
+        (stopping_of (R.standing runner.new) (R.stops runner.new)) (O.holds out.old) (O.holds out.new)) }
     ensures last { OnOk result ((R.standing runner.new).last ≡ journal.new.rounds) }
     ensures runs { OnOk result ((R.standing runner.new).stopped ≡ false) }
     ensures tops { (R.standing runner.new).tops ≡ (R.standing runner.old).tops }
     ensures rows { (R.standing runner.new).rows ≡ (R.standing runner.old).rows }
     ensures faults { OnOk result ((R.standing runner.new).faults ≡ (R.standing runner.old).faults) }
     ensures quiet { OnOk result (O.faults out.new ≡ O.faults out.old) }
-    ensures device { IsErrOf result RunFault.Device → AnyRose (R.standing runner.old).faults (R.standing runner.new).faults }
+    ensures device { IsErrOf result RunFault.Device
+        → AnyRose (R.standing runner.old).faults (R.standing runner.new).faults }
     ensures calm { IsErrOf result RunFault.Memory → (R.standing runner.new).faults ≡ (R.standing runner.old).faults }
     ensures sink { IsErrOf result RunFault.Sink → Rose (O.faults out.old) (O.faults out.new) }
     ensures can { R.Can runner.new }

@@ -45,20 +45,26 @@ pub fn run_suspended<R: Runner>(
     requires trees { AreRunnable (R.standing runner.old) (map R.pending trees) }
     requires can { R.Can runner.old }
     ensures ran { IfOk result (λ ran. (end : SeenEnd)
-        × IsBatchRun no_error (map (λ r. r.now) unfinished.now) bound.old bound.new journal.old journal.new end ran.lines (map R.pending ran.left)
+        × IsBatchRun no_error (map (λ r. r.now) unfinished.now) bound.old bound.new journal.old journal.new end
+        ran.lines (map R.pending ran.left)
         × IsRoundEnd (R.standing runner.old) (journal.old.rounds + 1) (map R.pending trees) end
         × StandsAfter (R.standing runner.old) (R.standing runner.new) (journal.old.rounds + 1) (map R.pending trees) end
         × ((before : Images) → R.tells runner.old before → (after : Images) × R.tells runner.new after
-        × IsRound (terms_at (R.standing runner.old) failmode (journal.old.rounds + 1) point) (map R.pending trees) before after end)) }
+        × IsRound (terms_at (R.standing runner.old) failmode (journal.old.rounds + 1) point)
+        (map R.pending trees) before after end)) }
     ensures shown { IfOk result (λ ran. AreWhole ran.lines) }
     ensures fits { OnOk result ((name : List ℕ) → IfSome (named_in bound.new name) R.fits) }
-    ensures cut { IfErr result (λ stop. (before : Images) → R.tells runner.old before → (after : Images) × R.tells runner.new after
-        × IsCutShort (R.standing runner.old) (R.standing runner.new) (stopping_of (R.standing runner.new) (R.stops runner.new)) stop (terms_at (R.standing runner.old) failmode (journal.old.rounds + 1) point)
+    ensures cut { IfErr result (λ stop. (before : Images) → R.tells runner.old before → (after : Images)
+        × R.tells runner.new after
+        × IsCutShort (R.standing runner.old) (R.standing runner.new)
+        (stopping_of (R.standing runner.new) (R.stops runner.new)) stop
+        (terms_at (R.standing runner.old) failmode (journal.old.rounds + 1) point)
         (map R.pending trees) [] journal.old journal.new before after) }
     ensures tops { (R.standing runner.new).tops ≡ (R.standing runner.old).tops }
     ensures rows { (R.standing runner.new).rows ≡ (R.standing runner.old).rows }
     ensures kept { IsErrOf result Stop.Device → journal.new ≡ journal.old }
-    ensures device { IsErrOf result Stop.Device → AnyRose (R.standing runner.old).faults (R.standing runner.new).faults }
+    ensures device { IsErrOf result Stop.Device
+        → AnyRose (R.standing runner.old).faults (R.standing runner.new).faults }
     ensures calm { IsErrOf result Stop.Memory → (R.standing runner.new).faults ≡ (R.standing runner.old).faults }
     ensures can { R.Can runner.new }
     ensures same { R.same runner.old runner.new }
@@ -75,8 +81,8 @@ pub fn run_suspended<R: Runner>(
     Ok(BatchEnd { lines, left })
 }
 
-/// The lines of the requests of suspended trees after their round, by number: of what finished, and of what still waits.
-/// Names are bound and unbound as after the round of a batch.
+/// The lines of the requests of suspended trees after their round, by number: of what finished, and of what still
+/// waits. Names are bound and unbound as after the round of a batch.
 pub fn tell_suspended(
     alloc: Global,
     unfinished: &[&Request],
@@ -87,7 +93,8 @@ pub fn tell_suspended(
     requires finished { AreFinishedOf (map (λ r. r.now) unfinished.now) finished }
     ensures lines { IfOk result (λ lines. lines ≡ map (line_told no_error finished) (map (λ r. r.now) unfinished.now)) }
     ensures bound { OnOk result ((name : List ℕ) → named_in bound.new name
-        ≡ block_of (bound_after (ended_told no_error finished (map (λ r. r.now) unfinished.now)) (names_of bound.old)) name) }
+        ≡ block_of (bound_after (ended_told no_error finished (map (λ r. r.now) unfinished.now)) (names_of bound.old))
+        name) }
 {
     let mut lines = List::new(alloc);
     let mut left = reversed(finished).into_vec();

@@ -36,9 +36,13 @@ pub fn write_round<O: Sink>(
     out: &mut O,
 ) -> Result<(), RunFault>
     requires { AreWhole lines.now }
-    ensures ok { OnOk result (Appends (O.holds out.old) (O.holds out.new) (round_text show.now head.now lines.now entries.now completions.now)) }
+    ensures ok { OnOk result
+        (Appends (O.holds out.old) (O.holds out.new)
+        (round_text show.now head.now lines.now entries.now completions.now)) }
     ensures steady { OnOk result (O.faults out.new ≡ O.faults out.old) }
-    ensures front { IsErrOf result RunFault.Sink → AppendsFront (O.holds out.old) (O.holds out.new) (round_text show.now head.now lines.now entries.now completions.now) }
+    ensures front { IsErrOf result RunFault.Sink
+        → AppendsFront (O.holds out.old) (O.holds out.new)
+        (round_text show.now head.now lines.now entries.now completions.now) }
     ensures rose { IsErrOf result RunFault.Sink → Rose (O.faults out.old) (O.faults out.new) }
     ensures memory { IsErrOf result RunFault.Memory → out.new ≡ out.old }
     ensures device { IsErrOf result RunFault.Device → ⊥ }
@@ -58,7 +62,8 @@ pub fn write_pool<O: Sink>(
 ) -> Result<(), RunFault>
     ensures ok { OnOk result (Appends (O.holds out.old) (O.holds out.new) (pool_text tops images)) }
     ensures steady { OnOk result (O.faults out.new ≡ O.faults out.old) }
-    ensures front { IsErrOf result RunFault.Sink → AppendsFront (O.holds out.old) (O.holds out.new) (pool_text tops images) }
+    ensures front { IsErrOf result RunFault.Sink
+        → AppendsFront (O.holds out.old) (O.holds out.new) (pool_text tops images) }
     ensures rose { IsErrOf result RunFault.Sink → Rose (O.faults out.old) (O.faults out.new) }
     ensures memory { IsErrOf result RunFault.Memory → out.new ≡ out.old }
     ensures device { IsErrOf result RunFault.Device → ⊥ }

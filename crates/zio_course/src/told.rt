@@ -22,8 +22,8 @@ use zio_report::{LineResult, ReportLine};
 use zio_script::{Item, Request, Work};
 use zio_types::{Errno, List, NoMemory, ReqNo};
 
-/// The lines of a batch's requests after its round, by number: of what admission answered, of what finished, and of what
-/// waits. Writes and claims without error bind their names, and frees without error unbind theirs.
+/// The lines of a batch's requests after its round, by number: of what admission answered, of what finished, and of
+/// what waits. Writes and claims without error bind their names, and frees without error unbind theirs.
 ///
 /// What finished comes by number too, so it is taken request by request.
 pub fn tell_batch(
@@ -34,10 +34,14 @@ pub fn tell_batch(
     bound: &mut Bound,
 ) -> Result<List<ReportLine>, NoMemory>
     requires rising { AreRising (requests_of batch.now) }
-    requires finished { AreFinishedOf (running admission.now.slots.entries admission.now.rules.items batch.now) finished }
-    ensures lines { IfOk result (λ lines. lines ≡ map (line_told (error_in admission.now.slots.entries admission.now.rules.items) finished) (requests_of batch.now)) }
+    requires finished { AreFinishedOf (running admission.now.slots.entries admission.now.rules.items batch.now)
+        finished }
+    ensures lines { IfOk result (λ lines. lines
+        ≡ map (line_told (error_in admission.now.slots.entries admission.now.rules.items) finished)
+        (requests_of batch.now)) }
     ensures bound { OnOk result ((name : List ℕ) → named_in bound.new name
-        ≡ block_of (bound_after (ended_told (error_in admission.now.slots.entries admission.now.rules.items) finished (requests_of batch.now)) (names_of bound.old)) name) }
+        ≡ block_of (bound_after (ended_told (error_in admission.now.slots.entries admission.now.rules.items) finished
+        (requests_of batch.now)) (names_of bound.old)) name) }
 {
     let mut lines = List::new(alloc);
     let mut left = reversed(finished).into_vec();
@@ -57,10 +61,14 @@ fn tell_line(
     left: &mut Vec<RequestEnd>,
     bound: &mut Bound,
 ) -> Result<(), NoMemory>
-    ensures lines { OnOk result (lines.new ≡ lines.old ++ lines_by (error_in admission.now.slots.entries admission.now.rules.items) (reverse left.old.items) item.now) }
-    ensures left { OnOk result (reverse left.new.items ≡ left_by (error_in admission.now.slots.entries admission.now.rules.items) (reverse left.old.items) item.now) }
+    ensures lines { OnOk result (lines.new ≡ lines.old
+        ++ lines_by (error_in admission.now.slots.entries admission.now.rules.items)
+        (reverse left.old.items) item.now) }
+    ensures left { OnOk result (reverse left.new.items
+        ≡ left_by (error_in admission.now.slots.entries admission.now.rules.items) (reverse left.old.items) item.now) }
     ensures bound { OnOk result ((name : List ℕ) → named_in bound.new name
-        ≡ block_of (bound_after (ends_by (error_in admission.now.slots.entries admission.now.rules.items) (reverse left.old.items) item.now) (names_of bound.old)) name) }
+        ≡ block_of (bound_after (ends_by (error_in admission.now.slots.entries admission.now.rules.items)
+        (reverse left.old.items) item.now) (names_of bound.old)) name) }
 {
     match item {
         Item::Request(request) => tell_one(lines, request, admission, left, bound),
@@ -76,10 +84,15 @@ fn tell_one(
     left: &mut Vec<RequestEnd>,
     bound: &mut Bound,
 ) -> Result<(), NoMemory>
-    ensures lines { OnOk result (lines.new ≡ lines.old ++ lines_by (error_in admission.now.slots.entries admission.now.rules.items) (reverse left.old.items) (RequestLine request.now)) }
-    ensures left { OnOk result (reverse left.new.items ≡ left_by (error_in admission.now.slots.entries admission.now.rules.items) (reverse left.old.items) (RequestLine request.now)) }
+    ensures lines { OnOk result (lines.new ≡ lines.old
+        ++ lines_by (error_in admission.now.slots.entries admission.now.rules.items) (reverse left.old.items)
+        (RequestLine request.now)) }
+    ensures left { OnOk result (reverse left.new.items
+        ≡ left_by (error_in admission.now.slots.entries admission.now.rules.items) (reverse left.old.items)
+        (RequestLine request.now)) }
     ensures bound { OnOk result ((name : List ℕ) → named_in bound.new name
-        ≡ block_of (bound_after (ends_by (error_in admission.now.slots.entries admission.now.rules.items) (reverse left.old.items) (RequestLine request.now)) (names_of bound.old)) name) }
+        ≡ block_of (bound_after (ends_by (error_in admission.now.slots.entries admission.now.rules.items)
+        (reverse left.old.items) (RequestLine request.now)) (names_of bound.old)) name) }
 {
     let error = admission.error_of(request.number);
     let finished = if error.is_none() {
@@ -112,7 +125,9 @@ pub(crate) fn tell_request(
     bound: &mut Bound,
 ) -> Result<ReportLine, NoMemory>
     ensures line { IfOk result (λ line. line ≡ line_by error finished request.now) }
-    ensures bound { OnOk result ((name : List ℕ) → named_in bound.new name ≡ block_of (bound_after (ended_by error finished request.now) (names_of bound.old)) name) }
+    ensures bound { OnOk result ((name : List ℕ)
+        → named_in bound.new name
+        ≡ block_of (bound_after (ended_by error finished request.now) (names_of bound.old)) name) }
 {
     if let Some(error) = error {
         return Ok(line_of(request, LineResult::Failed(error)));
@@ -125,7 +140,12 @@ pub(crate) fn tell_request(
 }
 
 fn line_of(request: &Request, shown: LineResult) -> ReportLine
-    ensures { result ≡ record { number = request.now.number; kind = kind_of request.now.work; name = name_of request.now.work; result = shown } }
+    ensures { result ≡ record {
+      number = request.now.number;
+      kind = kind_of request.now.work;
+      name = name_of request.now.work;
+      result = shown;
+    } }
 {
     ReportLine {
         number: request.number,
@@ -137,9 +157,11 @@ fn line_of(request: &Request, shown: LineResult) -> ReportLine
 
 /// What is shown of a request that finished. Its block gets its name, or its name is unbound.
 fn result_of(work: &Work, finished: RequestEnd, bound: &mut Bound) -> Result<LineResult, NoMemory>
-    ensures shown { IfOk result (λ shown. (r : Request) → r.work ≡ work.now → shown ≡ result_with finished.error (ended_as r finished)) }
+    ensures shown { IfOk result (λ shown. (r : Request) → r.work ≡ work.now
+        → shown ≡ result_with finished.error (ended_as r finished)) }
     ensures bound { OnOk result ((r : Request) → r.work ≡ work.now → (name : List ℕ) →
-        named_in bound.new name ≡ block_of (bound_unless finished.error (ended_as r finished) (names_of bound.old)) name) }
+        named_in bound.new name
+        ≡ block_of (bound_unless finished.error (ended_as r finished) (names_of bound.old)) name) }
 {
     let RequestEnd {
         request: _,

@@ -46,7 +46,9 @@ impl<T: Drop> TreesByNumber<T> {
 
     /// Adds a tree under a number.
     pub(crate) fn push(&mut self, alloc: Global, number: ReqNo, tree: T) -> Result<(), NoMemory>
-        ensures { OnOk result ((other : ℕ) → listed_in self.new other ≡ cond (number == other) (listed_in self.old number ++ tree ∷ []) (listed_in self.old other)) }
+        ensures { OnOk result ((other : ℕ)
+            → listed_in self.new other ≡ cond (number == other) (listed_in self.old number ++ tree ∷ [])
+            (listed_in self.old other)) }
     {
         let mut trees = self.take(alloc, number);
         trees.push(tree)?;

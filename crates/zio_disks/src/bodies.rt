@@ -36,8 +36,10 @@ pub fn read_tree<D: Disk>(
     ensures told { IfOk result (λ found. (images : Images) → Tell D.image disks.old images →
         let read = read_tree setting.now tree.now images in
         (found ≡ read.found) × Tell D.image disks.new read.images) }
-    ensures length { IsWholeTree tree.now → IfOk result (λ found. IfOk found (λ bytes. length bytes ≡ tree.now.bp.size)) }
-    ensures handled { Handles D.bytes D.faults D.faults_at_fetch D.home D.image D.sound D.went (spots_of setting.now (tree_places tree.now)) result disks.old disks.new }
+    ensures length { IsWholeTree tree.now
+        → IfOk result (λ found. IfOk found (λ bytes. length bytes ≡ tree.now.bp.size)) }
+    ensures handled { Handles D.bytes D.faults D.faults_at_fetch D.home D.image D.sound D.went
+        (spots_of setting.now (tree_places tree.now)) result disks.old disks.new }
 {
     let mut errors = List::new(alloc);
     let mut bodies = List::new(alloc);
@@ -69,7 +71,8 @@ fn join_bodies<D: Disk>(
         let read = bodies_read (read_bodies setting.now bodies.now images) in
         (found ≡ read.found) × Tell D.image disks.new read.images) }
     ensures length { IfOk result (λ found. IfOk found (λ bytes. length bytes ≡ bytes_of_all bodies.now)) }
-    ensures handled { Handles D.bytes D.faults D.faults_at_fetch D.home D.image D.sound D.went (spots_of setting.now (tree_places tree.now)) result disks.old disks.new }
+    ensures handled { Handles D.bytes D.faults D.faults_at_fetch D.home D.image D.sound D.went
+        (spots_of setting.now (tree_places tree.now)) result disks.old disks.new }
 {
     if let [bp] = bodies {
         return read_body(alloc, setting, disks, tree, bp);
@@ -101,8 +104,10 @@ fn read_bodies<D: Disk>(
         let b = read_bodies setting.now bodies.now images in
         (errors.new ≡ errors.old ++ b.errors) × (bytes.new ≡ bytes.old ++ b.bytes) × Tell D.image disks.new b.images) }
     ensures grows { OnOk result (length errors.old ≤ length errors.new) }
-    ensures sized { OnOk result (length errors.new ≡ length errors.old → length bytes.new ≡ length bytes.old + bytes_of_all bodies.now) }
-    ensures handled { Handles D.bytes D.faults D.faults_at_fetch D.home D.image D.sound D.went (spots_of setting.now (tree_places tree.now)) result disks.old disks.new }
+    ensures sized { OnOk result (length errors.new ≡ length errors.old
+        → length bytes.new ≡ length bytes.old + bytes_of_all bodies.now) }
+    ensures handled { Handles D.bytes D.faults D.faults_at_fetch D.home D.image D.sound D.went
+        (spots_of setting.now (tree_places tree.now)) result disks.old disks.new }
 {
     let [bp, rest @ ..] = bodies else {
         return Ok(());
@@ -126,10 +131,13 @@ fn add_body<D: Disk>(
     requires listed { IsBodyOf tree.now bp.now }
     ensures told { IfOk result (λ _. (images : Images) → Tell D.image disks.old images →
         let read = read_block setting.now true (good_body bp.now) images bp.now.size (places_of bp.now) in
-        (errors.new ≡ errors.old ++ errors_in read.found) × (bytes.new ≡ bytes.old ++ bytes_in read.found) × Tell D.image disks.new read.images) }
+        (errors.new ≡ errors.old ++ errors_in read.found) × (bytes.new ≡ bytes.old ++ bytes_in read.found)
+        × Tell D.image disks.new read.images) }
     ensures grows { OnOk result (length errors.old ≤ length errors.new) }
-    ensures sized { OnOk result (length errors.new ≡ length errors.old → length bytes.new ≡ length bytes.old + bp.now.size) }
-    ensures handled { Handles D.bytes D.faults D.faults_at_fetch D.home D.image D.sound D.went (spots_of setting.now (tree_places tree.now)) result disks.old disks.new }
+    ensures sized { OnOk result (length errors.new ≡ length errors.old
+        → length bytes.new ≡ length bytes.old + bp.now.size) }
+    ensures handled { Handles D.bytes D.faults D.faults_at_fetch D.home D.image D.sound D.went
+        (spots_of setting.now (tree_places tree.now)) result disks.old disks.new }
 {
     match read_body(alloc, setting, disks, tree, bp)? {
         Ok(part) => append(bytes, part.as_slice()),
@@ -162,7 +170,8 @@ fn read_body<D: Disk>(
         let read = read_block setting.now true (good_body bp.now) images bp.now.size (places_of bp.now) in
         (found ≡ read.found) × Tell D.image disks.new read.images) }
     ensures len { IfOk result (λ found. IfOk found (λ bytes. length bytes ≡ bp.now.size)) }
-    ensures handled { Handles D.bytes D.faults D.faults_at_fetch D.home D.image D.sound D.went (spots_of setting.now (tree_places tree.now)) result disks.old disks.new }
+    ensures handled { Handles D.bytes D.faults D.faults_at_fetch D.home D.image D.sound D.went
+        (spots_of setting.now (tree_places tree.now)) result disks.old disks.new }
 {
     let mut bytes = zeros(alloc, bp.size)?;
     let places = &bp.places[..bp.count as usize];

@@ -25,11 +25,11 @@ use zio_gang::{Head, LEVELS_MAX, Tree, members_of};
 use zio_outside::Disk;
 use zio_types::{Errno, List, Path};
 
-/// Reads the headers that a claim of these bytes comes to, without repairs, and gives the block of the pointer that they
-/// spell: `Inval` where they spell none, else the worst error of its pointers and headers, if there is one. A pointer with
-/// a place that isn't inside its top, or doesn't fit what it holds, is `Inval`, and its header isn't read; a header that
-/// stands below eight others is a checksum error and isn't read. The first good copy of a header gives the bytes that the
-/// block keeps. Whether the places are free isn't asked.
+/// Reads the headers that a claim of these bytes comes to, without repairs, and gives the block of the pointer that
+/// they spell: `Inval` where they spell none, else the worst error of its pointers and headers, if there is one. A
+/// pointer with a place that isn't inside its top, or doesn't fit what it holds, is `Inval`, and its header isn't read;
+/// a header that stands below eight others is a checksum error and isn't read. The first good copy of a header gives
+/// the bytes that the block keeps. Whether the places are free isn't asked.
 pub fn claim_walk<D: Disk>(
     alloc: Global,
     setting: &Setting,
@@ -45,7 +45,8 @@ pub fn claim_walk<D: Disk>(
     ensures whole { IfOk result (λ found. IfOk found IsWholeTree) }
     ensures fitting { IfOk result (λ found. IfOk found (IsFittingTree (sizes_of setting.now.tops))) }
     ensures placed { IfOk result (λ found. IfOk found (IsPlacedTree (sizes_of setting.now.tops))) }
-    ensures handled { Handles D.bytes D.faults D.faults_at_fetch D.home D.image D.sound D.went [] result disks.old disks.new }
+    ensures handled { Handles D.bytes D.faults D.faults_at_fetch D.home D.image D.sound D.went [] result disks.old
+        disks.new }
 {
     match decode(pointer) {
         Ok(bp) => claim_pointer(alloc, setting, disks, bp),
@@ -69,7 +70,8 @@ fn claim_pointer<D: Disk>(
     ensures whole { IfOk result (λ found. IfOk found IsWholeTree) }
     ensures fitting { IfOk result (λ found. IfOk found (IsFittingTree (sizes_of setting.now.tops))) }
     ensures placed { IfOk result (λ found. IfOk found (IsPlacedTree (sizes_of setting.now.tops))) }
-    ensures handled { Handles D.bytes D.faults D.faults_at_fetch D.home D.image D.sound D.went [] result disks.old disks.new }
+    ensures handled { Handles D.bytes D.faults D.faults_at_fetch D.home D.image D.sound D.went [] result disks.old
+        disks.new }
 {
     let top = Path {
         len: 0,
@@ -112,8 +114,11 @@ fn visit_pointer<D: Disk>(
     ensures told { IfOk result (λ _. (images : Images) → Tell D.image disks.old images →
         let w = walk levels (claim_visit setting.now) path.now bp.now images in
         (errors.new ≡ errors.old ++ w.errors) × (heads.new ≡ heads.old ++ w.heads) × Tell D.image disks.new w.images) }
-    ensures added { OnOk result (AddsTo (AreRead (sizes_of setting.now.tops) (bp.now ∷ []) (AreUnder levels path.now bp.now)) errors.old errors.new heads.old heads.new) }
-    ensures handled { Handles D.bytes D.faults D.faults_at_fetch D.home D.image D.sound D.went [] result disks.old disks.new }
+    ensures added { OnOk result
+        (AddsTo (AreRead (sizes_of setting.now.tops) (bp.now ∷ []) (AreUnder levels path.now bp.now)) errors.old
+        errors.new heads.old heads.new) }
+    ensures handled { Handles D.bytes D.faults D.faults_at_fetch D.home D.image D.sound D.went [] result disks.old
+        disks.new }
 {
     if !is_fitting(setting, bp) {
         return note_error(errors, Errno::Inval);
@@ -145,10 +150,14 @@ fn visit_gang<D: Disk>(
     requires inside { IsTrue (list_all (is_inside (sizes_of setting.now.tops)) (places_of bp.now)) }
     requires depth { length path.now + levels < LEVELS_MAX }
     ensures told { IfOk result (λ _. (images : Images) → Tell D.image disks.old images →
-        let w = walk_read (walk levels (claim_visit setting.now)) path.now (read_block setting.now false (good_claimed bp.now) images sector_size (places_of bp.now)) in
+        let w = walk_read (walk levels (claim_visit setting.now)) path.now
+        (read_block setting.now false (good_claimed bp.now) images sector_size (places_of bp.now)) in
         (errors.new ≡ errors.old ++ w.errors) × (heads.new ≡ heads.old ++ w.heads) × Tell D.image disks.new w.images) }
-    ensures added { OnOk result (AddsTo (AreRead (sizes_of setting.now.tops) [] (AreUnderGang (AreUnder levels) path.now bp.now)) errors.old errors.new heads.old heads.new) }
-    ensures handled { Handles D.bytes D.faults D.faults_at_fetch D.home D.image D.sound D.went [] result disks.old disks.new }
+    ensures added { OnOk result
+        (AddsTo (AreRead (sizes_of setting.now.tops) [] (AreUnderGang (AreUnder levels) path.now bp.now)) errors.old
+        errors.new heads.old heads.new) }
+    ensures handled { Handles D.bytes D.faults D.faults_at_fetch D.home D.image D.sound D.went [] result disks.old
+        disks.new }
 {
     match read_header(alloc, setting, disks, bp)? {
         Ok(header) => {
@@ -190,8 +199,11 @@ fn visit_members<D: Disk>(
     ensures told { IfOk result (λ _. (images : Images) → Tell D.image disks.old images →
         let w = walk_members (walk levels (claim_visit setting.now)) path.now n members.now images in
         (errors.new ≡ errors.old ++ w.errors) × (heads.new ≡ heads.old ++ w.heads) × Tell D.image disks.new w.images) }
-    ensures added { OnOk result (AddsTo (AreRead (sizes_of setting.now.tops) members.now (AreUnderMembers (AreUnder levels) path.now n members.now)) errors.old errors.new heads.old heads.new) }
-    ensures handled { Handles D.bytes D.faults D.faults_at_fetch D.home D.image D.sound D.went [] result disks.old disks.new }
+    ensures added { OnOk result
+        (AddsTo (AreRead (sizes_of setting.now.tops) members.now
+        (AreUnderMembers (AreUnder levels) path.now n members.now)) errors.old errors.new heads.old heads.new) }
+    ensures handled { Handles D.bytes D.faults D.faults_at_fetch D.home D.image D.sound D.went [] result disks.old
+        disks.new }
 {
     let [member, rest @ ..] = members else {
         return Ok(());
@@ -226,7 +238,8 @@ fn read_header<D: Disk>(
         let read = read_block setting.now false (good_claimed bp.now) images sector_size (places_of bp.now) in
         (found ≡ read.found) × Tell D.image disks.new read.images) }
     ensures good { IfOk result (λ found. IfOk found (λ header. IsTrue (good_claimed bp.now header))) }
-    ensures handled { Handles D.bytes D.faults D.faults_at_fetch D.home D.image D.sound D.went [] result disks.old disks.new }
+    ensures handled { Handles D.bytes D.faults D.faults_at_fetch D.home D.image D.sound D.went [] result disks.old
+        disks.new }
 {
     let mut header = [0; 512];
     let good = GoodCopy::Claimed(bp);

@@ -60,9 +60,12 @@ pub fn read_leaf<D: Disk>(
     requires room { spot.now.at + spot.now.span < 2 ^ 64 }
     requires lies { spot.now.at + spot.now.span ≤ slice_index_or (map D.bytes disks.old) spot.now.leaf 0 }
     ensures told { IfOk result (λ error. (images : Images) → Tell D.image disks.old images →
-        (found_with error buffer.new ≡ read_leaf setting.now retry images (length buffer.old) spot.now) × Tell D.image disks.new images) }
-    ensures answer { IfOk result (λ error. (images : Images) → error ≡ read_error (read_leaf setting.now retry images (length buffer.old) spot.now)) }
-    ensures handled { Handles D.bytes D.faults D.faults_at_fetch D.home D.image D.sound D.went [] result disks.old disks.new }
+        (found_with error buffer.new ≡ read_leaf setting.now retry images (length buffer.old) spot.now)
+        × Tell D.image disks.new images) }
+    ensures answer { IfOk result (λ error. (images : Images)
+        → error ≡ read_error (read_leaf setting.now retry images (length buffer.old) spot.now)) }
+    ensures handled { Handles D.bytes D.faults D.faults_at_fetch D.home D.image D.sound D.went [] result disks.old
+        disks.new }
 {
     match setting.hit(retry, false, spot) {
         None => {
@@ -83,10 +86,13 @@ fn read_faulty<D: Disk>(
     requires some { 0 < length buffer.old }
     requires lies { spot.now.at + length buffer.old ≤ slice_index_or (map D.bytes disks.old) spot.now.leaf 0 }
     ensures told { IfOk result (λ error. (images : Images) → Tell D.image disks.old images →
-        (found_with error buffer.new ≡ faulty_read hit.now.kind hit.now spot.now.at (bytes_at images spot.now (length buffer.old)))
+        (found_with error buffer.new ≡ faulty_read hit.now.kind hit.now spot.now.at
+        (bytes_at images spot.now (length buffer.old)))
         × Tell D.image disks.new images) }
-    ensures answer { IfOk result (λ error. (bytes : List ℕ) → error ≡ read_error (faulty_read hit.now.kind hit.now spot.now.at bytes)) }
-    ensures handled { Handles D.bytes D.faults D.faults_at_fetch D.home D.image D.sound D.went [] result disks.old disks.new }
+    ensures answer { IfOk result (λ error. (bytes : List ℕ)
+        → error ≡ read_error (faulty_read hit.now.kind hit.now spot.now.at bytes)) }
+    ensures handled { Handles D.bytes D.faults D.faults_at_fetch D.home D.image D.sound D.went [] result disks.old
+        disks.new }
 {
     match hit.kind {
         FaultKind::Eio => Ok(Some(Errno::Io)),
@@ -124,7 +130,8 @@ pub fn fetch<D: Disk>(disks: &mut [D], spot: &Spot, buffer: &mut [u8]) -> Result
     requires lies { spot.now.at + length buffer.old ≤ slice_index_or (map D.bytes disks.old) spot.now.leaf 0 }
     ensures told { IfOk result (λ _. (images : Images) → Tell D.image disks.old images →
         (buffer.new ≡ bytes_at images spot.now (length buffer.old)) × Tell D.image disks.new images) }
-    ensures handled { Handles D.bytes D.faults D.faults_at_fetch D.home D.image D.sound D.went [] result disks.old disks.new }
+    ensures handled { Handles D.bytes D.faults D.faults_at_fetch D.home D.image D.sound D.went [] result disks.old
+        disks.new }
 {
     let leaf = spot.leaf as usize;
     match disks[leaf].read_at(spot.at, buffer) {
@@ -165,8 +172,10 @@ pub fn write_leaf<D: Disk>(
     ensures told { IfOk result (λ error. (images : Images) → Tell D.image disks.old images →
         (error ≡ (write_leaf setting.now retry bytes.now images spot.now).error)
         × Tell D.image disks.new (write_leaf setting.now retry bytes.now images spot.now).images) }
-    ensures answer { IfOk result (λ error. (images : Images) → error ≡ (write_leaf setting.now retry bytes.now images spot.now).error) }
-    ensures handled { Handles D.bytes D.faults D.faults_at_fetch D.home D.image D.sound D.went (spot.now ∷ []) result disks.old disks.new }
+    ensures answer { IfOk result (λ error. (images : Images)
+        → error ≡ (write_leaf setting.now retry bytes.now images spot.now).error) }
+    ensures handled { Handles D.bytes D.faults D.faults_at_fetch D.home D.image D.sound D.went
+        (spot.now ∷ []) result disks.old disks.new }
 {
     match setting.hit(retry, true, spot) {
         None => store(disks, bytes, spot),
@@ -188,8 +197,10 @@ fn write_faulty<D: Disk>(
     ensures told { IfOk result (λ error. (images : Images) → Tell D.image disks.old images →
         (error ≡ (faulty_write hit.now.kind hit.now images spot.now bytes.now).error)
         × Tell D.image disks.new (faulty_write hit.now.kind hit.now images spot.now bytes.now).images) }
-    ensures answer { IfOk result (λ error. (images : Images) → error ≡ (faulty_write hit.now.kind hit.now images spot.now bytes.now).error) }
-    ensures handled { Handles D.bytes D.faults D.faults_at_fetch D.home D.image D.sound D.went (spot.now ∷ []) result disks.old disks.new }
+    ensures answer { IfOk result (λ error. (images : Images)
+        → error ≡ (faulty_write hit.now.kind hit.now images spot.now bytes.now).error) }
+    ensures handled { Handles D.bytes D.faults D.faults_at_fetch D.home D.image D.sound D.went
+        (spot.now ∷ []) result disks.old disks.new }
 {
     match hit.kind {
         FaultKind::Eio => Ok(Some(Errno::Io)),
@@ -223,7 +234,8 @@ pub fn store<D: Disk>(disks: &mut [D], bytes: &[u8], spot: &Spot) -> Result<Opti
     ensures told { IfOk result (λ error. (images : Images) → Tell D.image disks.old images →
         (error ≡ None) × Tell D.image disks.new (with_bytes images spot.now bytes.now)) }
     ensures answer { IfOk result (λ error. error ≡ None) }
-    ensures handled { Handles D.bytes D.faults D.faults_at_fetch D.home D.image D.sound D.went (spot.now ∷ []) result disks.old disks.new }
+    ensures handled { Handles D.bytes D.faults D.faults_at_fetch D.home D.image D.sound D.went
+        (spot.now ∷ []) result disks.old disks.new }
 {
     let leaf = spot.leaf as usize;
     if leaf >= disks.len() {

@@ -3,9 +3,10 @@
 //!
 //! It stands on the outside, and on the definitions of `zio_cksum` and `zio_gang`. Read `read_block` and `write_piece`
 //! first, then `read_tree`, `free_tree` and `claim_walk`: where the disks tell their images these calls do what the
-//! definitions of their names say, and whatever a disk tells and however a call ends, nothing changes outside the places
-//! that it was given. `specs/Disks` says what several disks tell, `specs/Copies` what a good copy is, `specs/Trees` which
-//! disks bear the tops of a setting, and `specs/Claims` what a claim comes to before its places are asked for.
+//! definitions of their names say, and whatever a disk tells and however a call ends, nothing changes outside the
+//! places that it was given. `specs/Disks` says what several disks tell, `specs/Copies` what a good copy is,
+//! `specs/Trees` which disks bear the tops of a setting, and `specs/Claims` what a claim comes to before its places are
+//! asked for.
 #![tactic(auto)]
 
 mod bodies;

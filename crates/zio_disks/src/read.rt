@@ -64,7 +64,8 @@ pub fn read_block<D: Disk>(
     ensures told { IfOk result (λ error. (images : Images) → Tell D.image disks.old images →
         let read = read_block setting.now repair (good_by good.now) images (length buffer.old) places.now in
         (found_with error buffer.new ≡ read.found) × Tell D.image disks.new read.images) }
-    ensures handled { Handles D.bytes D.faults D.faults_at_fetch D.home D.image D.sound D.went (touched repair setting.now places.now) result disks.old disks.new }
+    ensures handled { Handles D.bytes D.faults D.faults_at_fetch D.home D.image D.sound D.went
+        (touched repair setting.now places.now) result disks.old disks.new }
 {
     let first = read_pass(alloc, setting, disks, false, good, places, buffer)?;
     match first {
@@ -92,9 +93,11 @@ fn last_pass<D: Disk>(
     requires lies { AreOnDisks setting.now (map D.bytes disks.old) (length buffer.old) places.now }
     ensures good { IfOk result (λ error. error ≡ None → IsTrue (good_by good.now buffer.new)) }
     ensures told { IfOk result (λ error. (images : Images) → Tell D.image disks.old images →
-        let read = last_pass setting.now repair images (read_pass setting.now true (good_by good.now) images (length buffer.old) places.now) in
+        let read = last_pass setting.now repair images
+        (read_pass setting.now true (good_by good.now) images (length buffer.old) places.now) in
         (found_with error buffer.new ≡ read.found) × Tell D.image disks.new read.images) }
-    ensures handled { Handles D.bytes D.faults D.faults_at_fetch D.home D.image D.sound D.went (touched repair setting.now places.now) result disks.old disks.new }
+    ensures handled { Handles D.bytes D.faults D.faults_at_fetch D.home D.image D.sound D.went
+        (touched repair setting.now places.now) result disks.old disks.new }
 {
     let pass = read_pass(alloc, setting, disks, true, good, places, buffer)?;
     match pass {
@@ -118,11 +121,15 @@ fn repair_if<D: Disk>(
     good: Good,
 ) -> Result<(), Stop>
     requires rows { AllByRecursion RowFits setting.now.rows }
-    requires among { AllByRecursion (Contains (spots_of setting.now places.now)) (repairs_in setting.now places.now good.before good.failed) }
+    requires among { AllByRecursion (Contains (spots_of setting.now places.now))
+        (repairs_in setting.now places.now good.before good.failed) }
     requires lies { AreOnDisks setting.now (map D.bytes disks.old) (length bytes.now) places.now }
     ensures told { IfOk result (λ _. (images : Images) → Tell D.image disks.old images →
-        Tell D.image disks.new (repaired_if wanted setting.now retry bytes.now (repairs_in setting.now places.now good.before good.failed) images)) }
-    ensures handled { Handles D.bytes D.faults D.faults_at_fetch D.home D.image D.sound D.went (touched wanted setting.now places.now) result disks.old disks.new }
+        Tell D.image disks.new
+        (repaired_if wanted setting.now retry bytes.now (repairs_in setting.now places.now good.before good.failed)
+        images)) }
+    ensures handled { Handles D.bytes D.faults D.faults_at_fetch D.home D.image D.sound D.went
+        (touched wanted setting.now places.now) result disks.old disks.new }
 {
     let Good { before, failed } = good;
     if !wanted {
@@ -140,7 +147,8 @@ fn repair_if<D: Disk>(
     )
 }
 
-/// Rewrites all leaves of the places before one, and of that place the failed leaves. A write that fails is passed over.
+/// Rewrites all leaves of the places before one, and of that place the failed leaves. A write that fails is passed
+/// over.
 fn repair<D: Disk>(
     alloc: Global,
     setting: &Setting,
@@ -152,10 +160,13 @@ fn repair<D: Disk>(
     failed: &[u32],
 ) -> Result<(), Stop>
     requires rows { AllByRecursion RowFits setting.now.rows }
-    requires lies { LieOn (map D.bytes disks.old) (length bytes.now) (repairs_in setting.now places.now before failed.now) }
+    requires lies { LieOn (map D.bytes disks.old) (length bytes.now)
+        (repairs_in setting.now places.now before failed.now) }
     ensures told { IfOk result (λ _. (images : Images) → Tell D.image disks.old images →
-        Tell D.image disks.new (repaired setting.now retry bytes.now (repairs_in setting.now places.now before failed.now) images)) }
-    ensures handled { Handles D.bytes D.faults D.faults_at_fetch D.home D.image D.sound D.went (repairs_in setting.now places.now before failed.now) result disks.old disks.new }
+        Tell D.image disks.new
+        (repaired setting.now retry bytes.now (repairs_in setting.now places.now before failed.now) images)) }
+    ensures handled { Handles D.bytes D.faults D.faults_at_fetch D.home D.image D.sound D.went
+        (repairs_in setting.now places.now before failed.now) result disks.old disks.new }
 {
     let [place, rest @ ..] = places else {
         return Ok(());
@@ -194,15 +205,18 @@ fn read_pass<D: Disk>(
     requires lies { AreOnDisks setting.now (map D.bytes disks.old) (length buffer.old) places.now }
     ensures within { IfOk result (λ pass. IfOk pass (λ found. found.before ≤ length places.now)) }
     ensures among { IfOk result (λ pass. IfOk pass (λ found.
-        AllByRecursion (Contains (spots_of setting.now places.now)) (repairs_in setting.now places.now found.before found.failed))) }
+        AllByRecursion (Contains (spots_of setting.now places.now))
+        (repairs_in setting.now places.now found.before found.failed))) }
     ensures good { IfOk result (λ pass. IfOk pass (λ _. IsTrue (good_by good.now buffer.new))) }
     ensures told { IfOk result (λ pass. (images : Images) → Tell D.image disks.old images →
         let seen = read_pass setting.now retry (good_by good.now) images (length buffer.old) places.now in
         MatchResult pass
-        (λ found. (Some buffer.new ≡ seen.found) × (repairs_in setting.now places.now found.before found.failed ≡ seen.repairs))
+        (λ found. (Some buffer.new ≡ seen.found)
+        × (repairs_in setting.now places.now found.before found.failed ≡ seen.repairs))
         (λ error. (None ≡ seen.found) × (error ≡ worst_of seen.errors))
         × Tell D.image disks.new images) }
-    ensures handled { Handles D.bytes D.faults D.faults_at_fetch D.home D.image D.sound D.went [] result disks.old disks.new }
+    ensures handled { Handles D.bytes D.faults D.faults_at_fetch D.home D.image D.sound D.went [] result disks.old
+        disks.new }
 {
     match places {
         [] => Ok(Err(None)),
@@ -247,10 +261,12 @@ fn read_place<D: Disk>(
     requires rows { AllByRecursion RowFits setting.now.rows }
     requires some { 0 < length buffer.old }
     requires good { IsOfSize good.now (length buffer.old) }
-    requires lies { LieOn (map D.bytes disks.old) (length buffer.old) (map (spot_in place.now) (leaves_of setting.now place.now)) }
+    requires lies { LieOn (map D.bytes disks.old) (length buffer.old)
+        (map (spot_in place.now) (leaves_of setting.now place.now)) }
     ensures within { IfOk result (λ read. IfOk read (λ found. found.before ≡ 0)) }
     ensures among { IfOk result (λ read. IfOk read (λ found.
-        AllByRecursion (Contains (map (spot_in place.now) (leaves_of setting.now place.now))) (map (spot_in place.now) found.failed))) }
+        AllByRecursion (Contains (map (spot_in place.now) (leaves_of setting.now place.now)))
+        (map (spot_in place.now) found.failed))) }
     ensures good { IfOk result (λ read. IfOk read (λ _. IsTrue (good_by good.now buffer.new))) }
     ensures told { IfOk result (λ read. (images : Images) → Tell D.image disks.old images →
         let tried = read_place setting.now retry (good_by good.now) images (length buffer.old) place.now in
@@ -258,7 +274,8 @@ fn read_place<D: Disk>(
         (λ found. (Some buffer.new ≡ tried.found) × (found.failed ≡ tried.failed))
         (λ error. (None ≡ tried.found) × (error ≡ blame tried.errors))
         × Tell D.image disks.new images) }
-    ensures handled { Handles D.bytes D.faults D.faults_at_fetch D.home D.image D.sound D.went [] result disks.old disks.new }
+    ensures handled { Handles D.bytes D.faults D.faults_at_fetch D.home D.image D.sound D.went [] result disks.old
+        disks.new }
 {
     let order = read_order(alloc, place, setting.leaves(place))?;
     let tried = first_good(setting, disks, retry, good, place, order.as_slice(), buffer)?;
@@ -317,9 +334,11 @@ fn first_good<D: Disk>(
     ensures told { IfOk result (λ tried. (images : Images) → Tell D.image disks.old images →
         let seen = first_good (λ leaf. judged (good_by good.now)
         (read_leaf setting.now retry images (length buffer.old) (spot_in place.now leaf))) leaves.now in
-        (found_if tried.found buffer.new ≡ seen.found) × (take tried.failed leaves.now ≡ seen.failed) × (tried.worst ≡ worst_of seen.errors)
+        (found_if tried.found buffer.new ≡ seen.found) × (take tried.failed leaves.now ≡ seen.failed)
+        × (tried.worst ≡ worst_of seen.errors)
         × Tell D.image disks.new images) }
-    ensures handled { Handles D.bytes D.faults D.faults_at_fetch D.home D.image D.sound D.went [] result disks.old disks.new }
+    ensures handled { Handles D.bytes D.faults D.faults_at_fetch D.home D.image D.sound D.went [] result disks.old
+        disks.new }
 {
     let [leaf, rest @ ..] = leaves else {
         return Ok(Tried {

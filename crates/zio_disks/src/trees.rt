@@ -24,8 +24,8 @@ use zio_mirror::write_result;
 use zio_outside::Disk;
 use zio_types::{Errno, List, Path};
 
-/// Reads the headers of a block, with repairs, as a free of it does. It gives the worst of their errors, or none; below a
-/// header that failed none is read, and one that stands below eight others is a checksum error and isn't read.
+/// Reads the headers of a block, with repairs, as a free of it does. It gives the worst of their errors, or none; below
+/// a header that failed none is read, and one that stands below eight others is a checksum error and isn't read.
 pub fn free_tree<D: Disk>(
     alloc: Global,
     setting: &Setting,
@@ -37,7 +37,8 @@ pub fn free_tree<D: Disk>(
     ensures told { IfOk result (λ error. (images : Images) → Tell D.image disks.old images →
         let freed = free_tree setting.now tree.now images in
         (error ≡ freed.error) × Tell D.image disks.new freed.images) }
-    ensures handled { Handles D.bytes D.faults D.faults_at_fetch D.home D.image D.sound D.went (spots_of setting.now (tree_places tree.now)) result disks.old disks.new }
+    ensures handled { Handles D.bytes D.faults D.faults_at_fetch D.home D.image D.sound D.went
+        (spots_of setting.now (tree_places tree.now)) result disks.old disks.new }
 {
     let mut errors = List::new(alloc);
     let mut bodies = List::new(alloc);
@@ -69,12 +70,14 @@ pub(crate) fn walk_tree<D: Disk>(
     requires bodies { AllByRecursion (IsBodyOf tree.now) bodies.old }
     ensures told { IfOk result (λ _. (images : Images) → Tell D.image disks.old images →
         let w = walk_kept setting.now tree.now images in
-        (errors.new ≡ errors.old ++ w.errors) × (bodies.new ≡ bodies.old ++ w.bodies) × Tell D.image disks.new w.images) }
+        (errors.new ≡ errors.old ++ w.errors) × (bodies.new ≡ bodies.old ++ w.bodies)
+        × Tell D.image disks.new w.images) }
     ensures bodies { AllByRecursion (IsBodyOf tree.now) bodies.new }
     ensures grows { OnOk result (length errors.old ≤ length errors.new) }
     ensures sized { OnOk result (IsWholeTree tree.now → length errors.new ≡ length errors.old →
         bytes_of_all bodies.new ≡ bytes_of_all bodies.old + tree.now.bp.size) }
-    ensures handled { Handles D.bytes D.faults D.faults_at_fetch D.home D.image D.sound D.went (spots_of setting.now (tree_places tree.now)) result disks.old disks.new }
+    ensures handled { Handles D.bytes D.faults D.faults_at_fetch D.home D.image D.sound D.went
+        (spots_of setting.now (tree_places tree.now)) result disks.old disks.new }
 {
     let top = Path {
         len: 0,
@@ -105,12 +108,14 @@ fn walk_pointer<D: Disk>(
     requires bodies { AllByRecursion (IsBodyOf tree.now) bodies.old }
     ensures told { IfOk result (λ _. (images : Images) → Tell D.image disks.old images →
         let w = walk levels (kept_visit setting.now tree.now.heads) path.now bp.now images in
-        (errors.new ≡ errors.old ++ w.errors) × (bodies.new ≡ bodies.old ++ w.bodies) × Tell D.image disks.new w.images) }
+        (errors.new ≡ errors.old ++ w.errors) × (bodies.new ≡ bodies.old ++ w.bodies)
+        × Tell D.image disks.new w.images) }
     ensures bodies { AllByRecursion (IsBodyOf tree.now) bodies.new }
     ensures grows { OnOk result (length errors.old ≤ length errors.new) }
     ensures sized { OnOk result (IsKept levels tree.now.heads path.now bp.now → length errors.new ≡ length errors.old →
         bytes_of_all bodies.new ≡ bytes_of_all bodies.old + bp.now.size) }
-    ensures handled { Handles D.bytes D.faults D.faults_at_fetch D.home D.image D.sound D.went (spots_of setting.now (tree_places tree.now)) result disks.old disks.new }
+    ensures handled { Handles D.bytes D.faults D.faults_at_fetch D.home D.image D.sound D.went
+        (spots_of setting.now (tree_places tree.now)) result disks.old disks.new }
 {
     if !bp.gang {
         return note_body(bodies, bp);
@@ -157,12 +162,15 @@ fn walk_members<D: Disk>(
     requires bodies { AllByRecursion (IsBodyOf tree.now) bodies.old }
     ensures told { IfOk result (λ _. (images : Images) → Tell D.image disks.old images →
         let w = walk_members (walk levels (kept_visit setting.now tree.now.heads)) path.now n members.now images in
-        (errors.new ≡ errors.old ++ w.errors) × (bodies.new ≡ bodies.old ++ w.bodies) × Tell D.image disks.new w.images) }
+        (errors.new ≡ errors.old ++ w.errors) × (bodies.new ≡ bodies.old ++ w.bodies)
+        × Tell D.image disks.new w.images) }
     ensures bodies { AllByRecursion (IsBodyOf tree.now) bodies.new }
     ensures grows { OnOk result (length errors.old ≤ length errors.new) }
-    ensures sized { OnOk result (AreKept (IsKept levels tree.now.heads) path.now n members.now → length errors.new ≡ length errors.old →
+    ensures sized { OnOk result (AreKept (IsKept levels tree.now.heads) path.now n members.now →
+        length errors.new ≡ length errors.old →
         bytes_of_all bodies.new ≡ bytes_of_all bodies.old + bytes_of_all members.now) }
-    ensures handled { Handles D.bytes D.faults D.faults_at_fetch D.home D.image D.sound D.went (spots_of setting.now (tree_places tree.now)) result disks.old disks.new }
+    ensures handled { Handles D.bytes D.faults D.faults_at_fetch D.home D.image D.sound D.went
+        (spots_of setting.now (tree_places tree.now)) result disks.old disks.new }
 {
     let [member, rest @ ..] = members else {
         return Ok(());
@@ -211,12 +219,15 @@ fn read_members<D: Disk>(
     requires listed { Contains (tree_pointers tree.now) bp.now }
     requires gang { bp.now.gang ≡ true }
     ensures told { IfOk result (λ found. (images : Images) → Tell D.image disks.old images →
-        let read = read_block setting.now true (good_kept (kept_at tree.now.heads path.now)) images sector_size (places_of bp.now) in
+        let read = read_block setting.now true (good_kept (kept_at tree.now.heads path.now)) images sector_size
+        (places_of bp.now) in
         (found ≡ members_in read.found) × Tell D.image disks.new read.images) }
-    ensures listed { IfOk result (λ found. IfOk found (λ members. AllByRecursion (Contains (tree_pointers tree.now)) members)) }
+    ensures listed { IfOk result
+        (λ found. IfOk found (λ members. AllByRecursion (Contains (tree_pointers tree.now)) members)) }
     ensures few { IfOk result (λ found. IfOk found (λ members. length members ≤ 3)) }
     ensures kept { IfOk result (λ found. IfOk found (AreNamedAt tree.now.heads path.now)) }
-    ensures handled { Handles D.bytes D.faults D.faults_at_fetch D.home D.image D.sound D.went (spots_of setting.now (tree_places tree.now)) result disks.old disks.new }
+    ensures handled { Handles D.bytes D.faults D.faults_at_fetch D.home D.image D.sound D.went
+        (spots_of setting.now (tree_places tree.now)) result disks.old disks.new }
 {
     let mut header = [0; 512];
     let good = GoodCopy::Kept(tree.head(path));

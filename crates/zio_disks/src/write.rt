@@ -29,7 +29,8 @@ pub fn write_piece<D: Disk>(
     ensures told { IfOk result (λ error. (images : Images) → Tell D.image disks.old images →
         (error ≡ (write_piece setting.now bytes.now places.now images).error)
         × Tell D.image disks.new (write_piece setting.now bytes.now places.now images).images) }
-    ensures handled { Handles D.bytes D.faults D.faults_at_fetch D.home D.image D.sound D.went (spots_of setting.now places.now) result disks.old disks.new }
+    ensures handled { Handles D.bytes D.faults D.faults_at_fetch D.home D.image D.sound D.went
+        (spots_of setting.now places.now) result disks.old disks.new }
 {
     let first = write_pass(alloc, setting, disks, false, bytes, places)?;
     match first {
@@ -54,8 +55,10 @@ pub fn write_copy<D: Disk>(
     ensures told { IfOk result (λ error. (images : Images) → Tell D.image disks.old images →
         (error ≡ (write_leaf setting.now retry bytes.now images (spot_in place.now leaf)).error)
         × Tell D.image disks.new (write_leaf setting.now retry bytes.now images (spot_in place.now leaf)).images) }
-    ensures answer { IfOk result (λ error. (images : Images) → error ≡ (write_leaf setting.now retry bytes.now images (spot_in place.now leaf)).error) }
-    ensures handled { Handles D.bytes D.faults D.faults_at_fetch D.home D.image D.sound D.went (spot_in place.now leaf ∷ []) result disks.old disks.new }
+    ensures answer { IfOk result (λ error. (images : Images)
+        → error ≡ (write_leaf setting.now retry bytes.now images (spot_in place.now leaf)).error) }
+    ensures handled { Handles D.bytes D.faults D.faults_at_fetch D.home D.image D.sound D.went (spot_in place.now leaf
+        ∷ []) result disks.old disks.new }
 {
     let span = span_of(place);
     let spot = spot_in(disks, place, leaf);
@@ -80,7 +83,8 @@ fn write_pass<D: Disk>(
     ensures told { IfOk result (λ error. (images : Images) → Tell D.image disks.old images →
         (error ≡ (write_pass setting.now retry bytes.now places.now images).error)
         × Tell D.image disks.new (write_pass setting.now retry bytes.now places.now images).images) }
-    ensures handled { Handles D.bytes D.faults D.faults_at_fetch D.home D.image D.sound D.went (spots_of setting.now places.now) result disks.old disks.new }
+    ensures handled { Handles D.bytes D.faults D.faults_at_fetch D.home D.image D.sound D.went
+        (spots_of setting.now places.now) result disks.old disks.new }
 {
     match places {
         [] => Ok(None),
@@ -108,7 +112,8 @@ pub(crate) fn write_leaves<D: Disk>(
     ensures told { IfOk result (λ error. (images : Images) → Tell D.image disks.old images →
         let writes = in_turn (write_leaf setting.now retry bytes.now) (map (spot_in place.now) leaves.now) images in
         (error ≡ (place_written writes).error) × Tell D.image disks.new writes.images) }
-    ensures handled { Handles D.bytes D.faults D.faults_at_fetch D.home D.image D.sound D.went (map (spot_in place.now) leaves.now) result disks.old disks.new }
+    ensures handled { Handles D.bytes D.faults D.faults_at_fetch D.home D.image D.sound D.went
+        (map (spot_in place.now) leaves.now) result disks.old disks.new }
 {
     if leaves.is_empty() {
         return Ok(Some(Errno::Nxio));
@@ -146,7 +151,8 @@ fn write_each<D: Disk>(
     ensures told { IfOk result (λ error. (images : Images) → Tell D.image disks.old images →
         let writes = in_turn (write_leaf setting.now retry whole.now) (map (spot_in place.now) leaves.now) images in
         (error ≡ (place_written writes).error) × Tell D.image disks.new writes.images) }
-    ensures handled { Handles D.bytes D.faults D.faults_at_fetch D.home D.image D.sound D.went (map (spot_in place.now) leaves.now) result disks.old disks.new }
+    ensures handled { Handles D.bytes D.faults D.faults_at_fetch D.home D.image D.sound D.went
+        (map (spot_in place.now) leaves.now) result disks.old disks.new }
 {
     match leaves {
         [] => Ok(Some(Errno::Nxio)),

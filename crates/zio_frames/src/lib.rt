@@ -2,7 +2,8 @@
 //!
 //! An engine's node does one part of the round's work, and within that at most one part itself; all else it hands to
 //! children. `specs/Frames` says how far a node is, `specs/Moves` what its moves change, and `specs/Running` what an
-//! engine keeps. The laws say that whatever moves are made, in whatever order, the round is done as the definitions say.
+//! engine keeps. The laws say that whatever moves are made, in whatever order, the round is done as the definitions
+//! say.
 #![tactic(auto)]
 
 mod laws;

@@ -21,7 +21,8 @@ pub fn header_decode(
     requires positive { 0 < size }
     requires whole { size % 512 ≡ 0 }
     requires most { size ≤ BLOCK_SIZE_MAX }
-    ensures fault { MatchOption (first_header_fault place.now birth size bytes.now) (IsOk result) (λ f. result ≡ Err f) }
+    ensures fault { MatchOption (first_header_fault place.now birth size bytes.now) (IsOk result)
+        (λ f. result ≡ Err f) }
     ensures members { IfOk result (λ header. Names header (members_of bytes.now)) }
     ensures accepted { IsOk result ↔ IsTrue (is_header place.now birth size bytes.now) }
 {

@@ -24,7 +24,8 @@ ghost use Rattle.zio_script.specs.Requests.{requests_of};
 pub fn bound_names_are_a_map()
     ensures bound { (name : List ℕ) (tree : Tree) (bound : Bound) → block_of (bind name tree bound) name ≡ Some tree }
     ensures unbound { (name : List ℕ) (bound : Bound) → block_of (unbind name bound) name ≡ None }
-    ensures bind_once { (name : List ℕ) (tree : Tree) (bound : Bound) → NamesOnce bound → NamesOnce (bind name tree bound) }
+    ensures bind_once { (name : List ℕ) (tree : Tree) (bound : Bound) → NamesOnce bound
+        → NamesOnce (bind name tree bound) }
     ensures unbind_once { (name : List ℕ) (bound : Bound) → NamesOnce bound → NamesOnce (unbind name bound) }
     ensures others_bound { (name other : List ℕ) (tree : Tree) (bound : Bound) → other ≢ name →
         block_of (bind name tree bound) other ≡ block_of bound other }
@@ -35,7 +36,8 @@ pub fn bound_names_are_a_map()
 /// A list of trees is attempted as its front is, and then as its rest is with what the front handed on: so a request
 /// is attempted as its children's trees are, one after another, and then it itself.
 pub fn trees_are_attempted_in_turn()
-    ensures { (journal : List Choice) (t : Terms) (attempt : ℕ) (front rest : List Pending) (returns : List Return) (images : Images) →
+    ensures { (journal : List Choice) (t : Terms) (attempt : ℕ) (front rest : List Pending) (returns : List Return)
+        (images : Images) →
         attempt_each journal t attempt (front ++ rest) returns images
         ≡ joined_attempt (attempt_each journal t attempt front returns images) (attempt_each journal t attempt rest) }
 {}
@@ -55,7 +57,8 @@ pub fn a_round_depends_on_its_own_choices()
     ensures choices { (journal other : List Choice) (t : Terms) (trees : List (List Pending)) (images : Images) →
         choices_in t.round journal ≡ choices_in t.round other →
         settle_each journal t trees images ≡ settle_each other t trees images }
-    ensures used { (journal : List Choice) (t : Terms) (used : List Place) (trees : List (List Pending)) (images : Images) →
+    ensures used { (journal : List Choice) (t : Terms) (used : List Place) (trees : List (List Pending))
+        (images : Images) →
         SamePlaces t.used used →
         settle_each journal t trees images ≡ settle_each journal (record t { used = used }) trees images }
 {}

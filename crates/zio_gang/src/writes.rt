@@ -16,19 +16,21 @@ use zio_types::{Bytes, List, NoMemory, SECTOR_SIZE};
 
 const ZEROS: [u8; 512] = [0; 512];
 
-/// The pointers of a write's children in the order of their numbers, zeros for one without, then the bytes of its body, and
-/// zeros up to a sector. Bytes that the body has are copied, since an attempt may be repeated.
+/// The pointers of a write's children in the order of their numbers, zeros for one without, then the bytes of its body,
+/// and zeros up to a sector. Bytes that the body has are copied, since an attempt may be repeated.
 pub fn content(alloc: Global, pointers: &[Option<Bp>], body: &Body) -> Result<Bytes, NoMemory>
     requires { AllByRecursion IsNoneOrValid pointers.now }
     ensures content { IfOk result (λ bytes. bytes ≡ content_of pointers.now (body_of body.now)) }
-    ensures size { IfOk result (λ bytes. length bytes ≡ rounded_up (body_len body.now + POINTER_SIZE * length pointers.now)) }
+    ensures size { IfOk result (λ bytes. length bytes
+        ≡ rounded_up (body_len body.now + POINTER_SIZE * length pointers.now)) }
 {
     let mut bytes = unpadded(alloc, pointers, body)?;
     pad(&mut bytes)?;
     Ok(bytes)
 }
 
-/// The pointers and the bytes of the body. Where there are no children the body's bytes are handed on as they were made.
+/// The pointers and the bytes of the body. Where there are no children the body's bytes are handed on as they were
+/// made.
 fn unpadded(alloc: Global, pointers: &[Option<Bp>], body: &Body) -> Result<Bytes, NoMemory>
     requires { AllByRecursion IsNoneOrValid pointers.now }
     ensures content { IfOk result (λ bytes. bytes ≡ flat_map member_bytes pointers.now ++ body_of body.now) }

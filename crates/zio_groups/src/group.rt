@@ -45,7 +45,8 @@ pub(crate) fn issue_group<D: Disk>(
     ensures heads { IfOk result (λ answers. (images : Images) →
         map head_of answers ≡ map head_of ((all_issued setting.now leaf members.now images).answers)) }
     ensures whole { IfOk result (AreWhole members.now) }
-    ensures handled { Handles D.bytes D.faults D.faults_at_fetch D.home D.image D.sound D.went (written_spots leaf members.now) result disks.old disks.new }
+    ensures handled { Handles D.bytes D.faults D.faults_at_fetch D.home D.image D.sound D.went
+        (written_spots leaf members.now) result disks.old disks.new }
 {
     if lone(group, &setting.table, leaf, setting.point) {
         return one_by_one(alloc, setting, disks, leaf, members);

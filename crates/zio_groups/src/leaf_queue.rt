@@ -51,21 +51,24 @@ impl LeafQueue {
         }
     }
 
-    /// Queues an operation under a ticket that isn't queued, with what it writes: zeros follow to its end. A read's bytes are
-    /// dropped. Where memory is refused the queue is as it was, and the bytes are dropped.
+    /// Queues an operation under a ticket that isn't queued, with what it writes: zeros follow to its end. A read's
+    /// bytes are dropped. Where memory is refused the queue is as it was, and the bytes are dropped.
     pub fn put(&mut self, op: Op, bytes: Bytes) -> Result<(), NoMemory>
         requires fits { FitsDevice op }
         requires room { length bytes ≤ op.len }
         requires apart { is_queued op.ticket (ops_of self.old.waiting) ≡ false }
-        ensures ok { OnOk result (self.new ≡ record self.old { waiting = self.old.waiting ++ waiting_with op bytes ∷ [] }) }
+        ensures ok { OnOk result (self.new ≡ record self.old {
+          waiting = self.old.waiting ++ waiting_with op bytes
+              ∷ [];
+        }) }
         ensures err { OnErr result (self.new ≡ self.old) }
     {
         keep(&mut self.kept, &op, bytes)?;
         self.queue.put(op)
     }
 
-    /// Whether an operation with this ticket waits: no two have one ticket. Each ends on a device and has no more bytes to
-    /// write than its range.
+    /// Whether an operation with this ticket waits: no two have one ticket. Each ends on a device and has no more bytes
+    /// to write than its range.
     pub fn has(&self, ticket: u32) -> bool
         ensures waits { result ≡ is_queued ticket (ops_of self.now.waiting) }
         ensures apart { AreApart (ops_of self.now.waiting) }
@@ -81,8 +84,8 @@ impl LeafQueue {
         self.queue.eligible().is_some()
     }
 
-    /// Takes the next group and does what its members ask, in their order. A group whose span meets no row is one call of the
-    /// device; else each member is issued by itself. After a stop the group is lost.
+    /// Takes the next group and does what its members ask, in their order. A group whose span meets no row is one call
+    /// of the device; else each member is issued by itself. After a stop the group is lost.
     pub fn issue<D: Disk>(
         &mut self,
         alloc: Global,
@@ -94,7 +97,8 @@ impl LeafQueue {
         requires eligible { is_some (eligible (queue_of self.old)) ≡ true }
         requires lies { AllByRecursion (EndsOn (map D.bytes disks.old) leaf) self.old.waiting }
         ensures issued { IfOk result (IsIssued D.image setting.now leaf self.old self.new disks.old disks.new) }
-        ensures handled { Handles D.bytes D.faults D.faults_at_fetch D.home D.image D.sound D.went (written_spots leaf self.old.waiting) result disks.old disks.new }
+        ensures handled { Handles D.bytes D.faults D.faults_at_fetch D.home D.image D.sound D.went
+            (written_spots leaf self.old.waiting) result disks.old disks.new }
     {
         let group = next_group(&mut self.queue)?;
         let members = take_kept(alloc, &mut self.kept, group.ops.as_slice())?;
@@ -139,8 +143,10 @@ fn take_kept(
 ) -> Result<List<QueuedOp>, Stop>
     requires apart { AreApart ops.now }
     ensures ok { IfOk result (λ members. members ≡ map (kept_with (get nat_eq kept.old)) ops.now) }
-    ensures others { (ticket : ℕ) → is_queued ticket ops.now ≡ false → get nat_eq kept.new ticket ≡ get nat_eq kept.old ticket }
-    ensures fewer { (ticket : ℕ) → length (unwrap_or (get nat_eq kept.new ticket) []) ≤ length (unwrap_or (get nat_eq kept.old ticket) []) }
+    ensures others { (ticket : ℕ) → is_queued ticket ops.now ≡ false
+        → get nat_eq kept.new ticket ≡ get nat_eq kept.old ticket }
+    ensures fewer { (ticket : ℕ) → length (unwrap_or (get nat_eq kept.new ticket) [])
+        ≤ length (unwrap_or (get nat_eq kept.old ticket) []) }
     ensures err { OnErr result (result ≡ Err Stop.Memory) }
 {
     let mut members = List::new(alloc);
@@ -155,7 +161,8 @@ fn take_kept(
 fn take_bytes(alloc: Global, kept: &mut HashMap<u32, Bytes>, op: &Op) -> Bytes
     ensures bytes { record { op = op.now; bytes = result } ≡ kept_with (get nat_eq kept.old) op.now }
     ensures others { (ticket : ℕ) → ticket ≢ op.now.ticket → get nat_eq kept.new ticket ≡ get nat_eq kept.old ticket }
-    ensures fewer { (ticket : ℕ) → length (unwrap_or (get nat_eq kept.new ticket) []) ≤ length (unwrap_or (get nat_eq kept.old ticket) []) }
+    ensures fewer { (ticket : ℕ) → length (unwrap_or (get nat_eq kept.new ticket) [])
+        ≤ length (unwrap_or (get nat_eq kept.old ticket) []) }
 {
     if !op.write {
         return Bytes::new(alloc);

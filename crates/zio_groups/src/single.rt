@@ -49,12 +49,16 @@ fn read_one<D: Disk>(
     requires fits { FitsDevice op.now }
     requires lies { end_of op.now ≤ slice_index_or (map D.bytes disks.old) leaf 0 }
     ensures told { IfOk result (λ answer. (images : Images) → Tell D.image disks.old images →
-        (answer ≡ read_answered op.now.ticket (read_leaf setting.now op.now.flags.retry images op.now.len (spot_of leaf op.now)))
+        (answer ≡ read_answered op.now.ticket
+        (read_leaf setting.now op.now.flags.retry images op.now.len (spot_of leaf op.now)))
         × Tell D.image disks.new images) }
     ensures head { IfOk result (λ answer. (images : Images) →
-        head_of answer ≡ head_of (read_answered op.now.ticket (read_leaf setting.now op.now.flags.retry images op.now.len (spot_of leaf op.now)))) }
+        head_of answer ≡ head_of
+        (read_answered op.now.ticket
+        (read_leaf setting.now op.now.flags.retry images op.now.len (spot_of leaf op.now)))) }
     ensures whole { IfOk result (λ answer. answer.error ≡ None → length answer.bytes ≡ op.now.len) }
-    ensures handled { Handles D.bytes D.faults D.faults_at_fetch D.home D.image D.sound D.went [] result disks.old disks.new }
+    ensures handled { Handles D.bytes D.faults D.faults_at_fetch D.home D.image D.sound D.went [] result disks.old
+        disks.new }
 {
     let ticket = op.ticket;
     if op.len == 0 {
@@ -95,10 +99,12 @@ fn write_one<D: Disk>(
     requires lies { end_of op.now ≤ slice_index_or (map D.bytes disks.old) leaf 0 }
     ensures told { IfOk result (λ error. (images : Images) → Tell D.image disks.old images →
         (error ≡ (write_leaf setting.now op.now.flags.retry bytes.now images (spot_of leaf op.now)).error)
-        × Tell D.image disks.new (write_leaf setting.now op.now.flags.retry bytes.now images (spot_of leaf op.now)).images) }
+        × Tell D.image disks.new (write_leaf setting.now op.now.flags.retry bytes.now images
+        (spot_of leaf op.now)).images) }
     ensures answer { IfOk result (λ error. (images : Images) →
         error ≡ (write_leaf setting.now op.now.flags.retry bytes.now images (spot_of leaf op.now)).error) }
-    ensures handled { Handles D.bytes D.faults D.faults_at_fetch D.home D.image D.sound D.went (spot_of leaf op.now ∷ []) result disks.old disks.new }
+    ensures handled { Handles D.bytes D.faults D.faults_at_fetch D.home D.image D.sound D.went (spot_of leaf op.now
+        ∷ []) result disks.old disks.new }
 {
     let spot = spot_of(leaf, op);
     let retry = op.flags.retry;
@@ -127,7 +133,8 @@ pub(crate) fn issue_one<D: Disk>(
     ensures head { IfOk result (λ answer. (images : Images) →
         head_of answer ≡ head_of ((one_issued setting.now leaf member.now images).answer)) }
     ensures whole { IfOk result (IsWhole member.now) }
-    ensures handled { Handles D.bytes D.faults D.faults_at_fetch D.home D.image D.sound D.went (written_spots leaf (member.now ∷ [])) result disks.old disks.new }
+    ensures handled { Handles D.bytes D.faults D.faults_at_fetch D.home D.image D.sound D.went
+        (written_spots leaf (member.now ∷ [])) result disks.old disks.new }
 {
     let op = member.op;
     if !op.write {
@@ -158,7 +165,8 @@ pub(crate) fn one_by_one<D: Disk>(
     ensures heads { IfOk result (λ answers. (images : Images) →
         map head_of answers ≡ map head_of ((all_issued setting.now leaf members.now images).answers)) }
     ensures whole { IfOk result (AreWhole members.now) }
-    ensures handled { Handles D.bytes D.faults D.faults_at_fetch D.home D.image D.sound D.went (written_spots leaf members.now) result disks.old disks.new }
+    ensures handled { Handles D.bytes D.faults D.faults_at_fetch D.home D.image D.sound D.went
+        (written_spots leaf members.now) result disks.old disks.new }
 {
     let mut answers = List::new(alloc);
     for member in members {

@@ -71,7 +71,8 @@ fn fetch_any<D: Disk>(disks: &mut [D], spot: &Spot, buffer: &mut [u8]) -> Result
     requires { spot.now.at + length buffer.old ≤ slice_index_or (map D.bytes disks.old) spot.now.leaf 0 }
     ensures told { IfOk result (λ _. (images : Images) → Tell D.image disks.old images →
         (buffer.new ≡ bytes_at images spot.now (length buffer.old)) × Tell D.image disks.new images) }
-    ensures handled { Handles D.bytes D.faults D.faults_at_fetch D.home D.image D.sound D.went [] result disks.old disks.new }
+    ensures handled { Handles D.bytes D.faults D.faults_at_fetch D.home D.image D.sound D.went [] result disks.old
+        disks.new }
 {
     if buffer.is_empty() {
         return Ok(());
@@ -90,7 +91,8 @@ pub(crate) fn read_span<D: Disk>(
     requires inside { AllByRecursion (LiesIn group.now) (ops_of members.now) }
     requires lies { group.now.at + group.now.len ≤ slice_index_or (map D.bytes disks.old) leaf 0 }
     ensures parts { IfOk result (AreParts D.image leaf group.now members.now disks.old disks.new) }
-    ensures handled { Handles D.bytes D.faults D.faults_at_fetch D.home D.image D.sound D.went [] result disks.old disks.new }
+    ensures handled { Handles D.bytes D.faults D.faults_at_fetch D.home D.image D.sound D.went [] result disks.old
+        disks.new }
 {
     let mut span = zeros(alloc, group.len as usize)?;
     fetch_any(disks, &span_spot(leaf, group), span.as_mut_slice())?;
@@ -157,7 +159,8 @@ pub(crate) fn write_span<D: Disk>(
     ensures told { IfOk result (λ answers. (images : Images) → Tell D.image disks.old images →
         Tell D.image disks.new (with_bytes images (span_spot leaf group.now) (joined members.now))) }
     ensures answers { IfOk result (λ answers. answers ≡ map stored_answered members.now) }
-    ensures handled { Handles D.bytes D.faults D.faults_at_fetch D.home D.image D.sound D.went (span_spot leaf group.now ∷ []) result disks.old disks.new }
+    ensures handled { Handles D.bytes D.faults D.faults_at_fetch D.home D.image D.sound D.went (span_spot leaf group.now
+        ∷ []) result disks.old disks.new }
 {
     let whole = joined(alloc, members)?;
     store(disks, whole.as_slice(), &span_spot(leaf, group))?;

@@ -24,9 +24,9 @@ pub fn each_parked_wait_has_one_wake()
     ensures beginnings { (log since : List Event) → IsLawful (log ++ since) → IsLawful log }
 {}
 
-/// A child gives each value once: two histories of one latch that end with it are one history, and tell alike whether it
-/// brought the wake. So the child whose value brings the count of a parked wait to 0 is the one whose call is answered
-/// with the wake, and while the owner does nothing no other is.
+/// A child gives each value once: two histories of one latch that end with it are one history, and tell alike whether
+/// it brought the wake. So the child whose value brings the count of a parked wait to 0 is the one whose call is
+/// answered with the wake, and while the owner does nothing no other is.
 pub fn a_child_is_answered_once()
     ensures same { (phase : Phase) (kind : ChildKind) (n : ℕ) (known other one two : List Event) (a b : Bool) →
         ChildStep phase kind n known one a → ChildStep phase kind n other two b → AreOfOne one two →

@@ -1,9 +1,10 @@
 //! A counted latch between a request and its children.
 //!
 //! It stands on `zio_types` and on the kit's table of words and slots. Read `Owner`, `Child`, `Woken` and `Arrived`. A
-//! contract sees an owner as its children by number, each with its kind, its label and what it owes, and an `Arrived` as
-//! the numbers whose values are yet to be taken: `specs/Calls`, `specs/Wakes` and `specs/Takes`. All calls at a latch
-//! stand in one history (`specs/History`), and each answer shows it up to the call's own step: `wait` and `done` by a
+//! contract sees an owner as its children by number, each with its kind, its label and what it owes, and an `Arrived`
+//! as the numbers whose values are yet to be taken: `specs/Calls`, `specs/Wakes` and `specs/Takes`. All calls at a
+//! latch stand in one history (`specs/History`), and each answer shows it up to the call's own step: `wait` and `done`
+//! by a
 //! `Receipt` where no wake came. `Witness::compare` says that receipts of one latch show one history, and the laws say
 //! that each wait that parks gets just one wake. What each step tells is in `specs/Plays`, and the rule that every step
 //! keeps in `specs/Latch`.

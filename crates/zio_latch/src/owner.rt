@@ -108,7 +108,8 @@ impl<N: Rests + Drop, R: Fits + Drop, V: Fits + Drop> Owner<N, R, V> {
 
     // A second pointer for a child that gives two values: whoever gives a value may become the owner.
     fn spare(&self, kind: ChildKind) -> Result<Option<Arc<Latch<N, R, V>, Global>>, AllocError>
-        ensures { IfOk result (λ o. (is_some o ≡ vdev_not kind) × ForSome o (λ a. (arc_value a).shared.table_id ≡ (arc_value self.now.table).shared.table_id)) }
+        ensures { IfOk result (λ o. (is_some o ≡ vdev_not kind)
+            × ForSome o (λ a. (arc_value a).shared.table_id ≡ (arc_value self.now.table).shared.table_id)) }
     {
         if has_ready(kind) {
             Ok(Some(Arc::try_clone(&self.table)?))

@@ -11,9 +11,11 @@ pub fn pipelines_have_their_stages()
     ensures read { IsPipelineOf READ
         (ReadBpInit ∷ Ready ∷ VdevIoStart ∷ VdevIoDone ∷ VdevIoAssess ∷ ChecksumVerify ∷ Done ∷ []) }
     ensures write { IsPipelineOf WRITE
-        (WriteBpInit ∷ IssueAsync ∷ WriteCompress ∷ ChecksumGenerate ∷ DvaAllocate ∷ Ready ∷ VdevIoStart ∷ VdevIoDone ∷ VdevIoAssess ∷ Done ∷ []) }
+        (WriteBpInit ∷ IssueAsync ∷ WriteCompress ∷ ChecksumGenerate ∷ DvaAllocate ∷ Ready ∷ VdevIoStart ∷ VdevIoDone
+        ∷ VdevIoAssess ∷ Done ∷ []) }
     ensures rewrite { IsPipelineOf REWRITE
-        (WriteBpInit ∷ IssueAsync ∷ WriteCompress ∷ ChecksumGenerate ∷ Ready ∷ VdevIoStart ∷ VdevIoDone ∷ VdevIoAssess ∷ Done ∷ []) }
+        (WriteBpInit ∷ IssueAsync ∷ WriteCompress ∷ ChecksumGenerate ∷ Ready ∷ VdevIoStart ∷ VdevIoDone ∷ VdevIoAssess
+        ∷ Done ∷ []) }
     ensures free { IsPipelineOf FREE (FreeBpInit ∷ IssueAsync ∷ DvaFree ∷ Ready ∷ Done ∷ []) }
     ensures claim { IsPipelineOf CLAIM (DvaClaim ∷ Ready ∷ Done ∷ []) }
     ensures vdev_child { IsPipelineOf VDEV_CHILD (VdevIoStart ∷ VdevIoDone ∷ VdevIoAssess ∷ Done ∷ []) }

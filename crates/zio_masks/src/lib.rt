@@ -1,6 +1,7 @@
 //! The stages of a request, and the pipelines that say which of them it takes.
 //!
-//! It stands on no other crate. Read `Stage` first, whose variants stand in the order in which a request takes them, then
+//! It stands on no other crate. Read `Stage` first, whose variants stand in the order in which a request takes them,
+//! then
 //! `next`. Contracts see a pipeline by the stages that it has; `specs/Stages` says which these are.
 #![tactic(auto)]
 

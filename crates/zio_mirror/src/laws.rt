@@ -18,7 +18,8 @@ pub fn plans_end_as_reads_do()
         × (read child ≡ Ok bytes) }
     ensures bad { (read : ℕ → Result (List ℕ) Errno) (order : List ℕ) →
         (first_good read order).found ≡ None →
-        step_of (record { order = order; answers = answers_of read order }) ≡ Bad (blame (first_good read order).errors) }
+        step_of (record { order = order; answers = answers_of read order })
+        ≡ Bad (blame (first_good read order).errors) }
     ensures repairs { (read : ℕ → Result (List ℕ) Errno) (order : List ℕ) (bytes : List ℕ) →
         (first_good read order).found ≡ Some bytes →
         to_repair (record { order = order; answers = answers_of read order }) ≡ (first_good read order).failed }
@@ -47,14 +48,16 @@ pub fn a_place_is_read_by_its_leaves()
 /// its places. It rewrites all leaves of the places that this plan repairs, and in the good place the leaves that
 /// failed there.
 pub fn a_pass_repairs_what_plans_do()
-    ensures good { (s : Setting) (retry : Bool) (good : List ℕ → Bool) (images : Images) (len : ℕ) (places : List Place) (bytes : List ℕ) →
+    ensures good { (s : Setting) (retry : Bool) (good : List ℕ → Bool) (images : Images) (len : ℕ) (places : List Place)
+        (bytes : List ℕ) →
         let plan = answered_by (read_copy s retry good images len places) (children (length places)) in
         let pass = read_pass s retry good images len places in
         pass.found ≡ Some bytes →
         (child : ℕ) × (step_of plan ≡ Good child) × (read_copy s retry good images len places child ≡ Ok bytes)
         × (pass.repairs ≡ spots_of s (map (place_of places) (to_repair plan))
         ++ map (spot_in (place_of places child)) (read_place s retry good images len (place_of places child)).failed) }
-    ensures bad { (s : Setting) (retry : Bool) (good : List ℕ → Bool) (images : Images) (len : ℕ) (places : List Place) →
+    ensures bad { (s : Setting) (retry : Bool) (good : List ℕ → Bool) (images : Images) (len : ℕ)
+        (places : List Place) →
         let plan = answered_by (read_copy s retry good images len places) (children (length places)) in
         let pass = read_pass s retry good images len places in
         pass.found ≡ None → step_of plan ≡ Bad (blame pass.errors) }
@@ -63,10 +66,12 @@ pub fn a_pass_repairs_what_plans_do()
 /// A pass over the copies of a block tries them as one tries children: it finds what the first good place gives,
 /// and has the errors of the places that aren't good.
 pub fn a_pass_tries_places()
-    ensures found { (s : Setting) (retry : Bool) (good : List ℕ → Bool) (images : Images) (len : ℕ) (places : List Place) →
+    ensures found { (s : Setting) (retry : Bool) (good : List ℕ → Bool) (images : Images) (len : ℕ)
+        (places : List Place) →
         (read_pass s retry good images len places).found
         ≡ (first_good (place_answer s retry good images len) places).found }
-    ensures errors { (s : Setting) (retry : Bool) (good : List ℕ → Bool) (images : Images) (len : ℕ) (places : List Place) →
+    ensures errors { (s : Setting) (retry : Bool) (good : List ℕ → Bool) (images : Images) (len : ℕ)
+        (places : List Place) →
         (read_pass s retry good images len places).errors
         ≡ (first_good (place_answer s retry good images len) places).errors }
 {}

@@ -1,7 +1,7 @@
 //! A claim in an attempt, from stage to stage behind Start.
 //!
-//! It walks over the headers of the block that its bytes point to first, a gang's by a child, and takes the block's places, all
-//! together or none, where no header failed: a gang's at GangIssue, and a plain block's at DvaClaim.
+//! It walks over the headers of the block that its bytes point to first, a gang's by a child, and takes the block's
+//! places, all together or none, where no header failed: a gang's at GangIssue, and a plain block's at DvaClaim.
 
 ghost use Rattle.std.specs.Prelude.{◌≡◌, ◌≢◌, ◌⊎◌, IfErr, IfOk, List as Seq, OnErr, false};
 ghost use Rattle.zio_types.specs.declared.place.Top.{Top as SeenTop};
@@ -37,14 +37,20 @@ impl RequestAt {
         requires kind { kind_of self.old.node.waiting.request.work ≡ Kind.Claim }
         requires behind { self.old.stage ≢ Stage.Start }
         requires before { self.old.stage ≢ Stage.Done }
-        ensures moves { IfOk result (λ turn. MovesWith S.made (S.tops services.old) services.old services.new (Node.Request self.old) (moved (Node.Request self.new) turn)) }
-        ensures over { IfOk result (λ turn. EachIn (IsNodeOver (S.tops services.old)) (IsTreeOver (S.tops services.old)) (moved (Node.Request self.new) turn)) }
+        ensures moves { IfOk result (λ turn. MovesWith S.made (S.tops services.old) services.old services.new
+            (Node.Request self.old) (moved (Node.Request self.new) turn)) }
+        ensures over { IfOk result (λ turn. EachIn (IsNodeOver (S.tops services.old)) (IsTreeOver (S.tops services.old))
+            (moved (Node.Request self.new) turn)) }
         ensures valid { IfOk result (λ turn. TellsValid (moved (Node.Request self.new) turn)) }
-        ensures left { IfOk result (λ turn. Lessens left_of (Node.Request self.old) (moved (Node.Request self.new) turn)) }
-        ensures refused { OnErr result (StaysWith S.made (S.tops services.old) services.old services.new (Node.Request self.old) (Node.Request self.new)) }
+        ensures left { IfOk result
+            (λ turn. Lessens left_of (Node.Request self.old) (moved (Node.Request self.new) turn)) }
+        ensures refused { OnErr result (StaysWith S.made (S.tops services.old) services.old services.new
+            (Node.Request self.old) (Node.Request self.new)) }
         ensures tops { S.tops services.new ≡ S.tops services.old }
-        ensures stages { IfOk result (λ turn. IsStageMove (Node.Request self.old) (moved (Node.Request self.new) turn)) }
-        ensures pass { IfOk result (λ turn. KeepsPassAt self.old.stage (Node.Request self.old) (moved (Node.Request self.new) turn)) }
+        ensures stages { IfOk result
+            (λ turn. IsStageMove (Node.Request self.old) (moved (Node.Request self.new) turn)) }
+        ensures pass { IfOk result
+            (λ turn. KeepsPassAt self.old.stage (Node.Request self.old) (moved (Node.Request self.new) turn)) }
     {
         if self.stage == Stage::GangIssue {
             return self.claim_gang_issue(alloc, services);
@@ -63,13 +69,18 @@ impl RequestAt {
         requires before { self.old.stage ≢ Stage.Done }
         requires issue { self.old.stage ≢ Stage.GangIssue }
         requires other { self.old.stage ≢ Stage.DvaClaim }
-        ensures moves { IfOk result (λ turn. MovesBare tops.now (Node.Request self.old) (moved (Node.Request self.new) turn)) }
-        ensures over { IfOk result (λ turn. EachIn (IsNodeOver tops.now) (IsTreeOver tops.now) (moved (Node.Request self.new) turn)) }
+        ensures moves { IfOk result
+            (λ turn. MovesBare tops.now (Node.Request self.old) (moved (Node.Request self.new) turn)) }
+        ensures over { IfOk result
+            (λ turn. EachIn (IsNodeOver tops.now) (IsTreeOver tops.now) (moved (Node.Request self.new) turn)) }
         ensures valid { IfOk result (λ turn. TellsValid (moved (Node.Request self.new) turn)) }
-        ensures left { IfOk result (λ turn. Lessens left_of (Node.Request self.old) (moved (Node.Request self.new) turn)) }
+        ensures left { IfOk result
+            (λ turn. Lessens left_of (Node.Request self.old) (moved (Node.Request self.new) turn)) }
         ensures refused { OnErr result (StaysBare tops.now (Node.Request self.old) (Node.Request self.new)) }
-        ensures stages { IfOk result (λ turn. IsStageMove (Node.Request self.old) (moved (Node.Request self.new) turn)) }
-        ensures pass { IfOk result (λ turn. KeepsPassAt self.old.stage (Node.Request self.old) (moved (Node.Request self.new) turn)) }
+        ensures stages { IfOk result
+            (λ turn. IsStageMove (Node.Request self.old) (moved (Node.Request self.new) turn)) }
+        ensures pass { IfOk result
+            (λ turn. KeepsPassAt self.old.stage (Node.Request self.old) (moved (Node.Request self.new) turn)) }
     {
         match self.stage {
             Stage::GangAssemble => self.claim_gang_assemble(alloc, tops),
@@ -78,18 +89,22 @@ impl RequestAt {
         }
     }
 
-    /// Begins the walk over its block's headers, and hands a gang's to a child. Where memory is refused it comes back, and what it
-    /// began stays.
+    /// Begins the walk over its block's headers, and hands a gang's to a child. Where memory is refused it comes back,
+    /// and what it began stays.
     fn claim_gang_assemble(&mut self, alloc: Global, tops: &[Top]) -> Result<Turn, NoMemory>
         requires over { IsRequestAtOver tops.now self.old }
         requires kind { kind_of self.old.node.waiting.request.work ≡ Kind.Claim }
         requires stage { self.old.stage ≡ Stage.GangAssemble }
-        ensures moves { IfOk result (λ turn. MovesBare tops.now (Node.Request self.old) (moved (Node.Request self.new) turn)) }
-        ensures over { IfOk result (λ turn. EachIn (IsNodeOver tops.now) (IsTreeOver tops.now) (moved (Node.Request self.new) turn)) }
+        ensures moves { IfOk result
+            (λ turn. MovesBare tops.now (Node.Request self.old) (moved (Node.Request self.new) turn)) }
+        ensures over { IfOk result
+            (λ turn. EachIn (IsNodeOver tops.now) (IsTreeOver tops.now) (moved (Node.Request self.new) turn)) }
         ensures valid { IfOk result (λ turn. TellsValid (moved (Node.Request self.new) turn)) }
-        ensures left { IfOk result (λ turn. Lessens left_of (Node.Request self.old) (moved (Node.Request self.new) turn)) }
+        ensures left { IfOk result
+            (λ turn. Lessens left_of (Node.Request self.old) (moved (Node.Request self.new) turn)) }
         ensures refused { OnErr result (StaysBare tops.now (Node.Request self.old) (Node.Request self.new)) }
-        ensures stages { IfOk result (λ turn. IsStageMove (Node.Request self.old) (moved (Node.Request self.new) turn)) }
+        ensures stages { IfOk result
+            (λ turn. IsStageMove (Node.Request self.old) (moved (Node.Request self.new) turn)) }
     {
         let mut room = new_room(alloc)?;
         let Ok(()) = self.node.begin_claim(alloc, tops) else {
@@ -118,13 +133,18 @@ impl RequestAt {
         requires over { IsRequestAtOver (S.tops services.old) self.old }
         requires kind { kind_of self.old.node.waiting.request.work ≡ Kind.Claim }
         requires stage { self.old.stage ≡ Stage.GangIssue }
-        ensures moves { IfOk result (λ turn. MovesWith S.made (S.tops services.old) services.old services.new (Node.Request self.old) (moved (Node.Request self.new) turn)) }
-        ensures over { IfOk result (λ turn. EachIn (IsNodeOver (S.tops services.old)) (IsTreeOver (S.tops services.old)) (moved (Node.Request self.new) turn)) }
+        ensures moves { IfOk result (λ turn. MovesWith S.made (S.tops services.old) services.old services.new
+            (Node.Request self.old) (moved (Node.Request self.new) turn)) }
+        ensures over { IfOk result (λ turn. EachIn (IsNodeOver (S.tops services.old)) (IsTreeOver (S.tops services.old))
+            (moved (Node.Request self.new) turn)) }
         ensures valid { IfOk result (λ turn. TellsValid (moved (Node.Request self.new) turn)) }
-        ensures left { IfOk result (λ turn. Lessens left_of (Node.Request self.old) (moved (Node.Request self.new) turn)) }
-        ensures refused { OnErr result (StaysWith S.made (S.tops services.old) services.old services.new (Node.Request self.old) (Node.Request self.new)) }
+        ensures left { IfOk result
+            (λ turn. Lessens left_of (Node.Request self.old) (moved (Node.Request self.new) turn)) }
+        ensures refused { OnErr result (StaysWith S.made (S.tops services.old) services.old services.new
+            (Node.Request self.old) (Node.Request self.new)) }
         ensures tops { S.tops services.new ≡ S.tops services.old }
-        ensures stages { IfOk result (λ turn. IsStageMove (Node.Request self.old) (moved (Node.Request self.new) turn)) }
+        ensures stages { IfOk result
+            (λ turn. IsStageMove (Node.Request self.old) (moved (Node.Request self.new) turn)) }
     {
         if let Some(kind) = self.node.gang_issue_claim() {
             return Ok(Turn::Wait(kind, Phase::Done));
@@ -137,19 +157,24 @@ impl RequestAt {
         requires over { IsRequestAtOver (S.tops services.old) self.old }
         requires kind { kind_of self.old.node.waiting.request.work ≡ Kind.Claim }
         requires stage { self.old.stage ≡ Stage.DvaClaim }
-        ensures moves { IfOk result (λ turn. MovesWith S.made (S.tops services.old) services.old services.new (Node.Request self.old) (moved (Node.Request self.new) turn)) }
-        ensures over { IfOk result (λ turn. EachIn (IsNodeOver (S.tops services.old)) (IsTreeOver (S.tops services.old)) (moved (Node.Request self.new) turn)) }
+        ensures moves { IfOk result (λ turn. MovesWith S.made (S.tops services.old) services.old services.new
+            (Node.Request self.old) (moved (Node.Request self.new) turn)) }
+        ensures over { IfOk result (λ turn. EachIn (IsNodeOver (S.tops services.old)) (IsTreeOver (S.tops services.old))
+            (moved (Node.Request self.new) turn)) }
         ensures valid { IfOk result (λ turn. TellsValid (moved (Node.Request self.new) turn)) }
-        ensures left { IfOk result (λ turn. Lessens left_of (Node.Request self.old) (moved (Node.Request self.new) turn)) }
-        ensures refused { OnErr result (StaysWith S.made (S.tops services.old) services.old services.new (Node.Request self.old) (Node.Request self.new)) }
+        ensures left { IfOk result
+            (λ turn. Lessens left_of (Node.Request self.old) (moved (Node.Request self.new) turn)) }
+        ensures refused { OnErr result (StaysWith S.made (S.tops services.old) services.old services.new
+            (Node.Request self.old) (Node.Request self.new)) }
         ensures tops { S.tops services.new ≡ S.tops services.old }
-        ensures stages { IfOk result (λ turn. IsStageMove (Node.Request self.old) (moved (Node.Request self.new) turn)) }
+        ensures stages { IfOk result
+            (λ turn. IsStageMove (Node.Request self.old) (moved (Node.Request self.new) turn)) }
     {
         self.take_places(alloc, services, next(Stage::DvaClaim, CLAIM))
     }
 
-    /// Begins the claim of a plain block, takes the places of its block, where the walk found it, and goes on to this stage. Where
-    /// memory is refused none is taken, and the same stage tries again.
+    /// Begins the claim of a plain block, takes the places of its block, where the walk found it, and goes on to this
+    /// stage. Where memory is refused none is taken, and the same stage tries again.
     fn take_places<S: Services>(
         &mut self,
         alloc: Global,
@@ -159,17 +184,23 @@ impl RequestAt {
         requires over { IsRequestAtOver (S.tops services.old) self.old }
         requires kind { kind_of self.old.node.waiting.request.work ≡ Kind.Claim }
         requires stage { (self.old.stage ≡ Stage.DvaClaim) ⊎ (self.old.stage ≡ Stage.GangIssue) }
-        requires walked { ((self.old.node.own ≡ Own.Due) × (has_gang_stages self.old.node.waiting.request.work self.old.node.waiting.block ≡ false))
+        requires walked { ((self.old.node.own ≡ Own.Due)
+            × (has_gang_stages self.old.node.waiting.request.work self.old.node.waiting.block ≡ false))
             ⊎ IsClaimWith HasClaimWalked self.old.node.own }
         requires to { to ≡ Stage.Ready }
         requires leads { IsNextOf (takes_stage (Node.Request self.old)) self.old.stage to }
-        ensures moves { IfOk result (λ turn. MovesWith S.made (S.tops services.old) services.old services.new (Node.Request self.old) (moved (Node.Request self.new) turn)) }
-        ensures over { IfOk result (λ turn. EachIn (IsNodeOver (S.tops services.old)) (IsTreeOver (S.tops services.old)) (moved (Node.Request self.new) turn)) }
+        ensures moves { IfOk result (λ turn. MovesWith S.made (S.tops services.old) services.old services.new
+            (Node.Request self.old) (moved (Node.Request self.new) turn)) }
+        ensures over { IfOk result (λ turn. EachIn (IsNodeOver (S.tops services.old)) (IsTreeOver (S.tops services.old))
+            (moved (Node.Request self.new) turn)) }
         ensures valid { IfOk result (λ turn. TellsValid (moved (Node.Request self.new) turn)) }
-        ensures left { IfOk result (λ turn. Lessens left_of (Node.Request self.old) (moved (Node.Request self.new) turn)) }
-        ensures refused { OnErr result (StaysWith S.made (S.tops services.old) services.old services.new (Node.Request self.old) (Node.Request self.new)) }
+        ensures left { IfOk result
+            (λ turn. Lessens left_of (Node.Request self.old) (moved (Node.Request self.new) turn)) }
+        ensures refused { OnErr result (StaysWith S.made (S.tops services.old) services.old services.new
+            (Node.Request self.old) (Node.Request self.new)) }
         ensures tops { S.tops services.new ≡ S.tops services.old }
-        ensures stages { IfOk result (λ turn. IsStageMove (Node.Request self.old) (moved (Node.Request self.new) turn)) }
+        ensures stages { IfOk result
+            (λ turn. IsStageMove (Node.Request self.old) (moved (Node.Request self.new) turn)) }
     {
         let Ok(()) = self.node.begin_claim(alloc, services.tops()) else {
             return Err(NoMemory);
@@ -188,8 +219,10 @@ impl RequestAt {
         requires over { (tops : Seq SeenTop) × IsRequestAtOver tops self.old }
         requires kind { kind_of self.old.node.waiting.request.work ≡ Kind.Claim }
         requires stage { self.old.stage ≡ Stage.Ready }
-        ensures moves { (tops : Seq SeenTop) → MovesBare tops (Node.Request self.old) (moved (Node.Request self.new) result) }
-        ensures over { (tops : Seq SeenTop) → IsRequestAtOver tops self.old → EachIn (IsNodeOver tops) (IsTreeOver tops) (moved (Node.Request self.new) result) }
+        ensures moves { (tops : Seq SeenTop)
+            → MovesBare tops (Node.Request self.old) (moved (Node.Request self.new) result) }
+        ensures over { (tops : Seq SeenTop) → IsRequestAtOver tops self.old
+            → EachIn (IsNodeOver tops) (IsTreeOver tops) (moved (Node.Request self.new) result) }
         ensures valid { TellsValid (moved (Node.Request self.new) result) }
         ensures left { Lessens left_of (Node.Request self.old) (moved (Node.Request self.new) result) }
         ensures stages { IsStageMove (Node.Request self.old) (moved (Node.Request self.new) result) }
@@ -205,7 +238,8 @@ impl RequestAt {
         requires kind { kind_of self.node.waiting.request.work ≡ Kind.Claim }
         requires stage { self.stage ≡ Stage.Done }
         ensures moves { (tops : Seq SeenTop) → IfOk result (MovesBare tops (Node.Request self)) }
-        ensures over { (tops : Seq SeenTop) → IsRequestAtOver tops self → IfOk result (EachIn (IsNodeOver tops) (IsTreeOver tops)) }
+        ensures over { (tops : Seq SeenTop) → IsRequestAtOver tops self
+            → IfOk result (EachIn (IsNodeOver tops) (IsTreeOver tops)) }
         ensures valid { IfOk result TellsValid }
         ensures last { IfOk result IsLastMove }
         ensures left { IfOk result (Lessens left_of (Node.Request self)) }

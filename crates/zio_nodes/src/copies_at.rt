@@ -1,4 +1,5 @@
-//! The read of a block's copies, from stage to stage: it hands its operations to children, and ends with the good bytes.
+//! The read of a block's copies, from stage to stage: it hands its operations to children, and ends with the good
+//! bytes.
 
 ghost use Rattle.std.specs.Prelude.{◌≡◌, ◌≢◌, ◌+◌, ◌≤◌, IfOk, List as Seq, false, true, OnErr};
 ghost use Rattle.zio_types.specs.declared.place.Top.{Top as SeenTop};
@@ -37,7 +38,8 @@ pub struct CopiesAt {
 impl CopiesAt {
     /// Nothing of the read is done.
     pub fn new(node: CopiesNode) -> CopiesAt
-        ensures fresh { (t : Terms) (op : Task) → IsCopiesNode t node (fresh_stack op) → IsCopiesAt t result (fresh_stack op) }
+        ensures fresh { (t : Terms) (op : Task) → IsCopiesNode t node (fresh_stack op)
+            → IsCopiesAt t result (fresh_stack op) }
         ensures over { (tops : Seq SeenTop) → IsCopiesOver tops node → IsCopiesAtOver tops result }
         ensures told { is_told result.stage ≡ false }
         ensures left { copies_left result ≤ copies_max }
@@ -67,13 +69,17 @@ impl CopiesAt {
     pub fn run_stage(&mut self, alloc: Global, tops: &[Top]) -> Result<Turn, NoMemory>
         requires over { IsCopiesAtOver tops.now self.old }
         requires before { self.old.stage ≢ Stage.Done }
-        ensures moves { IfOk result (λ turn. MovesBare tops.now (Node.Copies self.old) (moved (Node.Copies self.new) turn)) }
-        ensures over { IfOk result (λ turn. EachIn (IsNodeOver tops.now) (IsTreeOver tops.now) (moved (Node.Copies self.new) turn)) }
+        ensures moves { IfOk result
+            (λ turn. MovesBare tops.now (Node.Copies self.old) (moved (Node.Copies self.new) turn)) }
+        ensures over { IfOk result
+            (λ turn. EachIn (IsNodeOver tops.now) (IsTreeOver tops.now) (moved (Node.Copies self.new) turn)) }
         ensures valid { IfOk result (λ turn. TellsValid (moved (Node.Copies self.new) turn)) }
-        ensures left { IfOk result (λ turn. Lessens left_of (Node.Copies self.old) (moved (Node.Copies self.new) turn)) }
+        ensures left { IfOk result
+            (λ turn. Lessens left_of (Node.Copies self.old) (moved (Node.Copies self.new) turn)) }
         ensures refused { OnErr result (StaysBare tops.now (Node.Copies self.old) (Node.Copies self.new)) }
         ensures stages { IfOk result (λ turn. IsStageMove (Node.Copies self.old) (moved (Node.Copies self.new) turn)) }
-        ensures pass { IfOk result (λ turn. KeepsPassAt self.old.stage (Node.Copies self.old) (moved (Node.Copies self.new) turn)) }
+        ensures pass { IfOk result
+            (λ turn. KeepsPassAt self.old.stage (Node.Copies self.old) (moved (Node.Copies self.new) turn)) }
     {
         match self.stage {
             Stage::Start => Ok(self.start()),
@@ -90,8 +96,10 @@ impl CopiesAt {
     /// The request was made.
     fn start(&mut self) -> Turn
         requires stage { self.old.stage ≡ Stage.Start }
-        ensures moves { (tops : Seq SeenTop) → MovesBare tops (Node.Copies self.old) (moved (Node.Copies self.new) result) }
-        ensures over { (tops : Seq SeenTop) → IsCopiesAtOver tops self.old → EachIn (IsNodeOver tops) (IsTreeOver tops) (moved (Node.Copies self.new) result) }
+        ensures moves { (tops : Seq SeenTop)
+            → MovesBare tops (Node.Copies self.old) (moved (Node.Copies self.new) result) }
+        ensures over { (tops : Seq SeenTop) → IsCopiesAtOver tops self.old
+            → EachIn (IsNodeOver tops) (IsTreeOver tops) (moved (Node.Copies self.new) result) }
         ensures valid { TellsValid (moved (Node.Copies self.new) result) }
         ensures left { Lessens left_of (Node.Copies self.old) (moved (Node.Copies self.new) result) }
         ensures stages { IsStageMove (Node.Copies self.old) (moved (Node.Copies self.new) result) }
@@ -103,8 +111,10 @@ impl CopiesAt {
     /// Its places are no gang's: there are no gang stages to add.
     fn read_bp_init(&mut self) -> Turn
         requires stage { self.old.stage ≡ Stage.ReadBpInit }
-        ensures moves { (tops : Seq SeenTop) → MovesBare tops (Node.Copies self.old) (moved (Node.Copies self.new) result) }
-        ensures over { (tops : Seq SeenTop) → IsCopiesAtOver tops self.old → EachIn (IsNodeOver tops) (IsTreeOver tops) (moved (Node.Copies self.new) result) }
+        ensures moves { (tops : Seq SeenTop)
+            → MovesBare tops (Node.Copies self.old) (moved (Node.Copies self.new) result) }
+        ensures over { (tops : Seq SeenTop) → IsCopiesAtOver tops self.old
+            → EachIn (IsNodeOver tops) (IsTreeOver tops) (moved (Node.Copies self.new) result) }
         ensures valid { TellsValid (moved (Node.Copies self.new) result) }
         ensures left { Lessens left_of (Node.Copies self.old) (moved (Node.Copies self.new) result) }
         ensures stages { IsStageMove (Node.Copies self.old) (moved (Node.Copies self.new) result) }
@@ -116,8 +126,10 @@ impl CopiesAt {
     /// A read makes no block, and tells no pointer.
     fn ready(&mut self) -> Turn
         requires stage { self.old.stage ≡ Stage.Ready }
-        ensures moves { (tops : Seq SeenTop) → MovesBare tops (Node.Copies self.old) (moved (Node.Copies self.new) result) }
-        ensures over { (tops : Seq SeenTop) → IsCopiesAtOver tops self.old → EachIn (IsNodeOver tops) (IsTreeOver tops) (moved (Node.Copies self.new) result) }
+        ensures moves { (tops : Seq SeenTop)
+            → MovesBare tops (Node.Copies self.old) (moved (Node.Copies self.new) result) }
+        ensures over { (tops : Seq SeenTop) → IsCopiesAtOver tops self.old
+            → EachIn (IsNodeOver tops) (IsTreeOver tops) (moved (Node.Copies self.new) result) }
         ensures valid { TellsValid (moved (Node.Copies self.new) result) }
         ensures left { Lessens left_of (Node.Copies self.old) (moved (Node.Copies self.new) result) }
         ensures stages { IsStageMove (Node.Copies self.old) (moved (Node.Copies self.new) result) }
@@ -127,17 +139,22 @@ impl CopiesAt {
         Turn::Ready(None)
     }
 
-    /// Hands the next operation to a child, or goes on where none is due now. Where memory is refused it comes back as it was.
+    /// Hands the next operation to a child, or goes on where none is due now. Where memory is refused it comes back as
+    /// it was.
     fn vdev_io_start(&mut self, alloc: Global, tops: &[Top]) -> Result<Turn, NoMemory>
         requires over { IsCopiesAtOver tops.now self.old }
         requires stage { self.old.stage ≡ Stage.VdevIoStart }
-        ensures moves { IfOk result (λ turn. MovesBare tops.now (Node.Copies self.old) (moved (Node.Copies self.new) turn)) }
-        ensures over { IfOk result (λ turn. EachIn (IsNodeOver tops.now) (IsTreeOver tops.now) (moved (Node.Copies self.new) turn)) }
+        ensures moves { IfOk result
+            (λ turn. MovesBare tops.now (Node.Copies self.old) (moved (Node.Copies self.new) turn)) }
+        ensures over { IfOk result
+            (λ turn. EachIn (IsNodeOver tops.now) (IsTreeOver tops.now) (moved (Node.Copies self.new) turn)) }
         ensures valid { IfOk result (λ turn. TellsValid (moved (Node.Copies self.new) turn)) }
-        ensures left { IfOk result (λ turn. Lessens left_of (Node.Copies self.old) (moved (Node.Copies self.new) turn)) }
+        ensures left { IfOk result
+            (λ turn. Lessens left_of (Node.Copies self.old) (moved (Node.Copies self.new) turn)) }
         ensures refused { OnErr result (StaysBare tops.now (Node.Copies self.old) (Node.Copies self.new)) }
         ensures stages { IfOk result (λ turn. IsStageMove (Node.Copies self.old) (moved (Node.Copies self.new) turn)) }
-        ensures pass { IfOk result (λ turn. KeepsPassAt self.old.stage (Node.Copies self.old) (moved (Node.Copies self.new) turn)) }
+        ensures pass { IfOk result
+            (λ turn. KeepsPassAt self.old.stage (Node.Copies self.old) (moved (Node.Copies self.new) turn)) }
     {
         let mut room = new_room(alloc)?;
         match self.node.vdev_io_start(alloc, tops) {
@@ -155,7 +172,8 @@ impl CopiesAt {
         }
     }
 
-    /// Waits for its children. It goes back where one that ended has made another operation due: the next copy, or a repair.
+    /// Waits for its children. It goes back where one that ended has made another operation due: the next copy, or a
+    /// repair.
     fn vdev_io_done(&mut self, tops: &[Top]) -> Turn
         requires over { IsCopiesAtOver tops.now self.old }
         requires stage { self.old.stage ≡ Stage.VdevIoDone }
@@ -237,7 +255,8 @@ impl CopiesAt {
         requires over { IsCopiesAtOver tops.now self.old }
         requires awaited { HearsSome nodes tops.now (Node.Copies self.old) child outcome }
         ensures heard { (t : Terms) (st : Stack) (c : Child) (op : Task) (v : Value) →
-            Hears nodes tops.now t (Node.Copies self.old) st child c op outcome v → IsCopiesAt t self.new (heard_of st child c v) }
+            Hears nodes tops.now t (Node.Copies self.old) st child c op outcome v
+            → IsCopiesAt t self.new (heard_of st child c v) }
         ensures stage { self.new.stage ≡ self.old.stage }
         ensures pass { IsInPassOf (Node.Copies self.old) (Node.Copies self.new) }
         ensures over { IsCopiesAtOver tops.now self.new }

@@ -1,4 +1,5 @@
-//! A read, a free or a claim in an attempt: it tells that it has no pointer, and ends once its own work came to something.
+//! A read, a free or a claim in an attempt: it tells that it has no pointer, and ends once its own work came to
+//! something.
 
 ghost use Rattle.std.specs.Prelude.{◌≡◌, ◌+◌, ◌≤◌, IfErr, IfOk, List as Seq, false, length, true};
 ghost use Rattle.std.specs.List.{list_all};
@@ -27,11 +28,14 @@ impl RequestAt {
         requires stage { self.old.stage ≡ Stage.Ready }
         requires leads { IsNextOf (takes_stage (Node.Request self.old)) self.old.stage to }
         requires behind { is_told to ≡ true }
-        ensures moves { (tops : Seq SeenTop) → MovesBare tops (Node.Request self.old) (moved (Node.Request self.new) result) }
-        ensures over { (tops : Seq SeenTop) → IsRequestAtOver tops self.old → IsRequestAtOver tops (record { node = self.old.node; stage = to; is_due = true }) →
+        ensures moves { (tops : Seq SeenTop)
+            → MovesBare tops (Node.Request self.old) (moved (Node.Request self.new) result) }
+        ensures over { (tops : Seq SeenTop) → IsRequestAtOver tops self.old →
+            IsRequestAtOver tops (record { node = self.old.node; stage = to; is_due = true }) →
             EachIn (IsNodeOver tops) (IsTreeOver tops) (moved (Node.Request self.new) result) }
         ensures valid { TellsValid (moved (Node.Request self.new) result) }
-        ensures left { left_of (Node.Request (record { node = self.old.node; stage = to; is_due = true })) + told_cost ≤ left_of (Node.Request self.old) →
+        ensures left { left_of (Node.Request (record { node = self.old.node; stage = to; is_due = true })) + told_cost
+            ≤ left_of (Node.Request self.old) →
             Lessens left_of (Node.Request self.old) (moved (Node.Request self.new) result) }
         ensures stages { IsStageMove (Node.Request self.old) (moved (Node.Request self.new) result) }
     {
@@ -41,7 +45,8 @@ impl RequestAt {
         Turn::Ready(None)
     }
 
-    /// Ends, where its own work came to something and its children ended. Where memory is refused it comes back as it was.
+    /// Ends, where its own work came to something and its children ended. Where memory is refused it comes back as it
+    /// was.
     pub(crate) fn end_found(self, alloc: Global) -> Result<Move<Node>, Node>
         requires found { HasFound self.node.own }
         requires ended { list_all is_ended self.node.kids.kids.kids ≡ true }
@@ -49,7 +54,8 @@ impl RequestAt {
         requires over { (tops : Seq SeenTop) × IsRequestAtOver tops self }
         requires stage { self.stage ≡ Stage.Done }
         ensures moves { (tops : Seq SeenTop) → IfOk result (MovesBare tops (Node.Request self)) }
-        ensures over { (tops : Seq SeenTop) → IsRequestAtOver tops self → IfOk result (EachIn (IsNodeOver tops) (IsTreeOver tops)) }
+        ensures over { (tops : Seq SeenTop) → IsRequestAtOver tops self
+            → IfOk result (EachIn (IsNodeOver tops) (IsTreeOver tops)) }
         ensures valid { IfOk result TellsValid }
         ensures last { IfOk result IsLastMove }
         ensures left { told_cost ≤ left_of (Node.Request self) → IfOk result (Lessens left_of (Node.Request self)) }

@@ -1,7 +1,7 @@
 //! A free in an attempt, from stage to stage behind Start.
 //!
-//! It walks over the headers of its block first, a gang's by a child, and gives the block's places back where no header failed: a
-//! gang's at GangIssue, and a plain block's at DvaFree.
+//! It walks over the headers of its block first, a gang's by a child, and gives the block's places back where no header
+//! failed: a gang's at GangIssue, and a plain block's at DvaFree.
 
 ghost use Rattle.std.specs.Prelude.{◌≡◌, ◌≢◌, ◌⊎◌, IfErr, IfOk, List as Seq, OnErr};
 ghost use Rattle.zio_types.specs.declared.place.Top.{Top as SeenTop};
@@ -34,14 +34,20 @@ impl RequestAt {
         requires kind { kind_of self.old.node.waiting.request.work ≡ Kind.Free }
         requires behind { self.old.stage ≢ Stage.Start }
         requires before { self.old.stage ≢ Stage.Done }
-        ensures moves { IfOk result (λ turn. MovesWith S.made (S.tops services.old) services.old services.new (Node.Request self.old) (moved (Node.Request self.new) turn)) }
-        ensures over { IfOk result (λ turn. EachIn (IsNodeOver (S.tops services.old)) (IsTreeOver (S.tops services.old)) (moved (Node.Request self.new) turn)) }
+        ensures moves { IfOk result (λ turn. MovesWith S.made (S.tops services.old) services.old services.new
+            (Node.Request self.old) (moved (Node.Request self.new) turn)) }
+        ensures over { IfOk result (λ turn. EachIn (IsNodeOver (S.tops services.old)) (IsTreeOver (S.tops services.old))
+            (moved (Node.Request self.new) turn)) }
         ensures valid { IfOk result (λ turn. TellsValid (moved (Node.Request self.new) turn)) }
-        ensures left { IfOk result (λ turn. Lessens left_of (Node.Request self.old) (moved (Node.Request self.new) turn)) }
-        ensures refused { OnErr result (StaysWith S.made (S.tops services.old) services.old services.new (Node.Request self.old) (Node.Request self.new)) }
+        ensures left { IfOk result
+            (λ turn. Lessens left_of (Node.Request self.old) (moved (Node.Request self.new) turn)) }
+        ensures refused { OnErr result (StaysWith S.made (S.tops services.old) services.old services.new
+            (Node.Request self.old) (Node.Request self.new)) }
         ensures tops { S.tops services.new ≡ S.tops services.old }
-        ensures stages { IfOk result (λ turn. IsStageMove (Node.Request self.old) (moved (Node.Request self.new) turn)) }
-        ensures pass { IfOk result (λ turn. KeepsPassAt self.old.stage (Node.Request self.old) (moved (Node.Request self.new) turn)) }
+        ensures stages { IfOk result
+            (λ turn. IsStageMove (Node.Request self.old) (moved (Node.Request self.new) turn)) }
+        ensures pass { IfOk result
+            (λ turn. KeepsPassAt self.old.stage (Node.Request self.old) (moved (Node.Request self.new) turn)) }
     {
         if self.stage == Stage::GangIssue {
             return self.free_gang_issue(alloc, services);
@@ -60,13 +66,19 @@ impl RequestAt {
         requires before { self.old.stage ≢ Stage.Done }
         requires issue { self.old.stage ≢ Stage.GangIssue }
         requires other { self.old.stage ≢ Stage.DvaFree }
-        ensures moves { (tops : Seq SeenTop) → IfOk result (λ turn. MovesBare tops (Node.Request self.old) (moved (Node.Request self.new) turn)) }
-        ensures over { (tops : Seq SeenTop) → IsRequestAtOver tops self.old → IfOk result (λ turn. EachIn (IsNodeOver tops) (IsTreeOver tops) (moved (Node.Request self.new) turn)) }
+        ensures moves { (tops : Seq SeenTop)
+            → IfOk result (λ turn. MovesBare tops (Node.Request self.old) (moved (Node.Request self.new) turn)) }
+        ensures over { (tops : Seq SeenTop) → IsRequestAtOver tops self.old
+            → IfOk result (λ turn. EachIn (IsNodeOver tops) (IsTreeOver tops) (moved (Node.Request self.new) turn)) }
         ensures valid { IfOk result (λ turn. TellsValid (moved (Node.Request self.new) turn)) }
-        ensures left { IfOk result (λ turn. Lessens left_of (Node.Request self.old) (moved (Node.Request self.new) turn)) }
-        ensures refused { (tops : Seq SeenTop) → OnErr result (StaysBare tops (Node.Request self.old) (Node.Request self.new)) }
-        ensures stages { IfOk result (λ turn. IsStageMove (Node.Request self.old) (moved (Node.Request self.new) turn)) }
-        ensures pass { IfOk result (λ turn. KeepsPassAt self.old.stage (Node.Request self.old) (moved (Node.Request self.new) turn)) }
+        ensures left { IfOk result
+            (λ turn. Lessens left_of (Node.Request self.old) (moved (Node.Request self.new) turn)) }
+        ensures refused { (tops : Seq SeenTop)
+            → OnErr result (StaysBare tops (Node.Request self.old) (Node.Request self.new)) }
+        ensures stages { IfOk result
+            (λ turn. IsStageMove (Node.Request self.old) (moved (Node.Request self.new) turn)) }
+        ensures pass { IfOk result
+            (λ turn. KeepsPassAt self.old.stage (Node.Request self.old) (moved (Node.Request self.new) turn)) }
     {
         match self.stage {
             Stage::FreeBpInit => self.free_bp_init(alloc),
@@ -82,12 +94,17 @@ impl RequestAt {
         requires over { (tops : Seq SeenTop) × IsRequestAtOver tops self.old }
         requires kind { kind_of self.old.node.waiting.request.work ≡ Kind.Free }
         requires stage { self.old.stage ≡ Stage.FreeBpInit }
-        ensures moves { (tops : Seq SeenTop) → IfOk result (λ turn. MovesBare tops (Node.Request self.old) (moved (Node.Request self.new) turn)) }
-        ensures over { (tops : Seq SeenTop) → IsRequestAtOver tops self.old → IfOk result (λ turn. EachIn (IsNodeOver tops) (IsTreeOver tops) (moved (Node.Request self.new) turn)) }
+        ensures moves { (tops : Seq SeenTop)
+            → IfOk result (λ turn. MovesBare tops (Node.Request self.old) (moved (Node.Request self.new) turn)) }
+        ensures over { (tops : Seq SeenTop) → IsRequestAtOver tops self.old
+            → IfOk result (λ turn. EachIn (IsNodeOver tops) (IsTreeOver tops) (moved (Node.Request self.new) turn)) }
         ensures valid { IfOk result (λ turn. TellsValid (moved (Node.Request self.new) turn)) }
-        ensures left { IfOk result (λ turn. Lessens left_of (Node.Request self.old) (moved (Node.Request self.new) turn)) }
-        ensures refused { (tops : Seq SeenTop) → OnErr result (StaysBare tops (Node.Request self.old) (Node.Request self.new)) }
-        ensures stages { IfOk result (λ turn. IsStageMove (Node.Request self.old) (moved (Node.Request self.new) turn)) }
+        ensures left { IfOk result
+            (λ turn. Lessens left_of (Node.Request self.old) (moved (Node.Request self.new) turn)) }
+        ensures refused { (tops : Seq SeenTop)
+            → OnErr result (StaysBare tops (Node.Request self.old) (Node.Request self.new)) }
+        ensures stages { IfOk result
+            (λ turn. IsStageMove (Node.Request self.old) (moved (Node.Request self.new) turn)) }
     {
         match self.node.free_bp_init(alloc) {
             Ok(()) => {
@@ -103,8 +120,10 @@ impl RequestAt {
         requires over { (tops : Seq SeenTop) × IsRequestAtOver tops self.old }
         requires kind { kind_of self.old.node.waiting.request.work ≡ Kind.Free }
         requires stage { self.old.stage ≡ Stage.IssueAsync }
-        ensures moves { (tops : Seq SeenTop) → MovesBare tops (Node.Request self.old) (moved (Node.Request self.new) result) }
-        ensures over { (tops : Seq SeenTop) → IsRequestAtOver tops self.old → EachIn (IsNodeOver tops) (IsTreeOver tops) (moved (Node.Request self.new) result) }
+        ensures moves { (tops : Seq SeenTop)
+            → MovesBare tops (Node.Request self.old) (moved (Node.Request self.new) result) }
+        ensures over { (tops : Seq SeenTop) → IsRequestAtOver tops self.old
+            → EachIn (IsNodeOver tops) (IsTreeOver tops) (moved (Node.Request self.new) result) }
         ensures valid { TellsValid (moved (Node.Request self.new) result) }
         ensures left { Lessens left_of (Node.Request self.old) (moved (Node.Request self.new) result) }
         ensures stages { IsStageMove (Node.Request self.old) (moved (Node.Request self.new) result) }
@@ -119,12 +138,17 @@ impl RequestAt {
         requires over { (tops : Seq SeenTop) × IsRequestAtOver tops self.old }
         requires kind { kind_of self.old.node.waiting.request.work ≡ Kind.Free }
         requires stage { self.old.stage ≡ Stage.GangAssemble }
-        ensures moves { (tops : Seq SeenTop) → IfOk result (λ turn. MovesBare tops (Node.Request self.old) (moved (Node.Request self.new) turn)) }
-        ensures over { (tops : Seq SeenTop) → IsRequestAtOver tops self.old → IfOk result (λ turn. EachIn (IsNodeOver tops) (IsTreeOver tops) (moved (Node.Request self.new) turn)) }
+        ensures moves { (tops : Seq SeenTop)
+            → IfOk result (λ turn. MovesBare tops (Node.Request self.old) (moved (Node.Request self.new) turn)) }
+        ensures over { (tops : Seq SeenTop) → IsRequestAtOver tops self.old
+            → IfOk result (λ turn. EachIn (IsNodeOver tops) (IsTreeOver tops) (moved (Node.Request self.new) turn)) }
         ensures valid { IfOk result (λ turn. TellsValid (moved (Node.Request self.new) turn)) }
-        ensures left { IfOk result (λ turn. Lessens left_of (Node.Request self.old) (moved (Node.Request self.new) turn)) }
-        ensures refused { (tops : Seq SeenTop) → OnErr result (StaysBare tops (Node.Request self.old) (Node.Request self.new)) }
-        ensures stages { IfOk result (λ turn. IsStageMove (Node.Request self.old) (moved (Node.Request self.new) turn)) }
+        ensures left { IfOk result
+            (λ turn. Lessens left_of (Node.Request self.old) (moved (Node.Request self.new) turn)) }
+        ensures refused { (tops : Seq SeenTop)
+            → OnErr result (StaysBare tops (Node.Request self.old) (Node.Request self.new)) }
+        ensures stages { IfOk result
+            (λ turn. IsStageMove (Node.Request self.old) (moved (Node.Request self.new) turn)) }
     {
         let mut room = new_room(alloc)?;
         match self.node.gang_assemble_free(alloc) {
@@ -150,13 +174,18 @@ impl RequestAt {
         requires over { IsRequestAtOver (S.tops services.old) self.old }
         requires kind { kind_of self.old.node.waiting.request.work ≡ Kind.Free }
         requires stage { self.old.stage ≡ Stage.GangIssue }
-        ensures moves { IfOk result (λ turn. MovesWith S.made (S.tops services.old) services.old services.new (Node.Request self.old) (moved (Node.Request self.new) turn)) }
-        ensures over { IfOk result (λ turn. EachIn (IsNodeOver (S.tops services.old)) (IsTreeOver (S.tops services.old)) (moved (Node.Request self.new) turn)) }
+        ensures moves { IfOk result (λ turn. MovesWith S.made (S.tops services.old) services.old services.new
+            (Node.Request self.old) (moved (Node.Request self.new) turn)) }
+        ensures over { IfOk result (λ turn. EachIn (IsNodeOver (S.tops services.old)) (IsTreeOver (S.tops services.old))
+            (moved (Node.Request self.new) turn)) }
         ensures valid { IfOk result (λ turn. TellsValid (moved (Node.Request self.new) turn)) }
-        ensures left { IfOk result (λ turn. Lessens left_of (Node.Request self.old) (moved (Node.Request self.new) turn)) }
-        ensures refused { OnErr result (StaysWith S.made (S.tops services.old) services.old services.new (Node.Request self.old) (Node.Request self.new)) }
+        ensures left { IfOk result
+            (λ turn. Lessens left_of (Node.Request self.old) (moved (Node.Request self.new) turn)) }
+        ensures refused { OnErr result (StaysWith S.made (S.tops services.old) services.old services.new
+            (Node.Request self.old) (Node.Request self.new)) }
         ensures tops { S.tops services.new ≡ S.tops services.old }
-        ensures stages { IfOk result (λ turn. IsStageMove (Node.Request self.old) (moved (Node.Request self.new) turn)) }
+        ensures stages { IfOk result
+            (λ turn. IsStageMove (Node.Request self.old) (moved (Node.Request self.new) turn)) }
     {
         if let Some(kind) = self.node.gang_issue_free() {
             return Ok(Turn::Wait(kind, Phase::Done));
@@ -169,19 +198,24 @@ impl RequestAt {
         requires over { IsRequestAtOver (S.tops services.old) self.old }
         requires kind { kind_of self.old.node.waiting.request.work ≡ Kind.Free }
         requires stage { self.old.stage ≡ Stage.DvaFree }
-        ensures moves { IfOk result (λ turn. MovesWith S.made (S.tops services.old) services.old services.new (Node.Request self.old) (moved (Node.Request self.new) turn)) }
-        ensures over { IfOk result (λ turn. EachIn (IsNodeOver (S.tops services.old)) (IsTreeOver (S.tops services.old)) (moved (Node.Request self.new) turn)) }
+        ensures moves { IfOk result (λ turn. MovesWith S.made (S.tops services.old) services.old services.new
+            (Node.Request self.old) (moved (Node.Request self.new) turn)) }
+        ensures over { IfOk result (λ turn. EachIn (IsNodeOver (S.tops services.old)) (IsTreeOver (S.tops services.old))
+            (moved (Node.Request self.new) turn)) }
         ensures valid { IfOk result (λ turn. TellsValid (moved (Node.Request self.new) turn)) }
-        ensures left { IfOk result (λ turn. Lessens left_of (Node.Request self.old) (moved (Node.Request self.new) turn)) }
-        ensures refused { OnErr result (StaysWith S.made (S.tops services.old) services.old services.new (Node.Request self.old) (Node.Request self.new)) }
+        ensures left { IfOk result
+            (λ turn. Lessens left_of (Node.Request self.old) (moved (Node.Request self.new) turn)) }
+        ensures refused { OnErr result (StaysWith S.made (S.tops services.old) services.old services.new
+            (Node.Request self.old) (Node.Request self.new)) }
         ensures tops { S.tops services.new ≡ S.tops services.old }
-        ensures stages { IfOk result (λ turn. IsStageMove (Node.Request self.old) (moved (Node.Request self.new) turn)) }
+        ensures stages { IfOk result
+            (λ turn. IsStageMove (Node.Request self.old) (moved (Node.Request self.new) turn)) }
     {
         self.give_places(alloc, services, next(Stage::DvaFree, FREE))
     }
 
-    /// Gives the block's places back, where no header failed, and goes on to this stage. Where memory is refused some of them went
-    /// back, and the same stage goes on from there.
+    /// Gives the block's places back, where no header failed, and goes on to this stage. Where memory is refused some
+    /// of them went back, and the same stage goes on from there.
     fn give_places<S: Services>(
         &mut self,
         alloc: Global,
@@ -196,13 +230,18 @@ impl RequestAt {
         requires failed { IsFreeWith HasKeptFailed self.old.node.own }
         requires to { to ≡ Stage.Ready }
         requires leads { IsNextOf (takes_stage (Node.Request self.old)) self.old.stage to }
-        ensures moves { IfOk result (λ turn. MovesWith S.made (S.tops services.old) services.old services.new (Node.Request self.old) (moved (Node.Request self.new) turn)) }
-        ensures over { IfOk result (λ turn. EachIn (IsNodeOver (S.tops services.old)) (IsTreeOver (S.tops services.old)) (moved (Node.Request self.new) turn)) }
+        ensures moves { IfOk result (λ turn. MovesWith S.made (S.tops services.old) services.old services.new
+            (Node.Request self.old) (moved (Node.Request self.new) turn)) }
+        ensures over { IfOk result (λ turn. EachIn (IsNodeOver (S.tops services.old)) (IsTreeOver (S.tops services.old))
+            (moved (Node.Request self.new) turn)) }
         ensures valid { IfOk result (λ turn. TellsValid (moved (Node.Request self.new) turn)) }
-        ensures left { IfOk result (λ turn. Lessens left_of (Node.Request self.old) (moved (Node.Request self.new) turn)) }
-        ensures refused { OnErr result (StaysWith S.made (S.tops services.old) services.old services.new (Node.Request self.old) (Node.Request self.new)) }
+        ensures left { IfOk result
+            (λ turn. Lessens left_of (Node.Request self.old) (moved (Node.Request self.new) turn)) }
+        ensures refused { OnErr result (StaysWith S.made (S.tops services.old) services.old services.new
+            (Node.Request self.old) (Node.Request self.new)) }
         ensures tops { S.tops services.new ≡ S.tops services.old }
-        ensures stages { IfOk result (λ turn. IsStageMove (Node.Request self.old) (moved (Node.Request self.new) turn)) }
+        ensures stages { IfOk result
+            (λ turn. IsStageMove (Node.Request self.old) (moved (Node.Request self.new) turn)) }
     {
         match self.node.dva_free(alloc, services) {
             Ok(()) => {
@@ -218,8 +257,10 @@ impl RequestAt {
         requires over { (tops : Seq SeenTop) × IsRequestAtOver tops self.old }
         requires kind { kind_of self.old.node.waiting.request.work ≡ Kind.Free }
         requires stage { self.old.stage ≡ Stage.Ready }
-        ensures moves { (tops : Seq SeenTop) → MovesBare tops (Node.Request self.old) (moved (Node.Request self.new) result) }
-        ensures over { (tops : Seq SeenTop) → IsRequestAtOver tops self.old → EachIn (IsNodeOver tops) (IsTreeOver tops) (moved (Node.Request self.new) result) }
+        ensures moves { (tops : Seq SeenTop)
+            → MovesBare tops (Node.Request self.old) (moved (Node.Request self.new) result) }
+        ensures over { (tops : Seq SeenTop) → IsRequestAtOver tops self.old
+            → EachIn (IsNodeOver tops) (IsTreeOver tops) (moved (Node.Request self.new) result) }
         ensures valid { TellsValid (moved (Node.Request self.new) result) }
         ensures left { Lessens left_of (Node.Request self.old) (moved (Node.Request self.new) result) }
         ensures stages { IsStageMove (Node.Request self.old) (moved (Node.Request self.new) result) }
@@ -235,7 +276,8 @@ impl RequestAt {
         requires kind { kind_of self.node.waiting.request.work ≡ Kind.Free }
         requires stage { self.stage ≡ Stage.Done }
         ensures moves { (tops : Seq SeenTop) → IfOk result (MovesBare tops (Node.Request self)) }
-        ensures over { (tops : Seq SeenTop) → IsRequestAtOver tops self → IfOk result (EachIn (IsNodeOver tops) (IsTreeOver tops)) }
+        ensures over { (tops : Seq SeenTop) → IsRequestAtOver tops self
+            → IfOk result (EachIn (IsNodeOver tops) (IsTreeOver tops)) }
         ensures valid { IfOk result TellsValid }
         ensures last { IfOk result IsLastMove }
         ensures left { IfOk result (Lessens left_of (Node.Request self)) }

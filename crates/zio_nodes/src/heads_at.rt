@@ -69,13 +69,16 @@ impl HeadsAt {
     pub fn run_stage(&mut self, alloc: Global, tops: &[Top]) -> Result<Turn, NoMemory>
         requires over { IsHeadsAtOver tops.now self.old }
         requires before { self.old.stage ≢ Stage.Done }
-        ensures moves { IfOk result (λ turn. MovesBare tops.now (Node.Heads self.old) (moved (Node.Heads self.new) turn)) }
-        ensures over { IfOk result (λ turn. EachIn (IsNodeOver tops.now) (IsTreeOver tops.now) (moved (Node.Heads self.new) turn)) }
+        ensures moves { IfOk result
+            (λ turn. MovesBare tops.now (Node.Heads self.old) (moved (Node.Heads self.new) turn)) }
+        ensures over { IfOk result
+            (λ turn. EachIn (IsNodeOver tops.now) (IsTreeOver tops.now) (moved (Node.Heads self.new) turn)) }
         ensures valid { IfOk result (λ turn. TellsValid (moved (Node.Heads self.new) turn)) }
         ensures left { IfOk result (λ turn. Lessens left_of (Node.Heads self.old) (moved (Node.Heads self.new) turn)) }
         ensures refused { OnErr result (StaysBare tops.now (Node.Heads self.old) (Node.Heads self.new)) }
         ensures stages { IfOk result (λ turn. IsStageMove (Node.Heads self.old) (moved (Node.Heads self.new) turn)) }
-        ensures leaves { self.old.stage ≡ Stage.GangAssemble → IfOk result (λ turn. LeavesGang self.old.node.family (moved (Node.Heads self.new) turn)) }
+        ensures leaves { self.old.stage ≡ Stage.GangAssemble
+            → IfOk result (λ turn. LeavesGang self.old.node.family (moved (Node.Heads self.new) turn)) }
     {
         match self.stage {
             Stage::Start => Ok(self.start()),
@@ -89,8 +92,10 @@ impl HeadsAt {
     /// The request was made.
     fn start(&mut self) -> Turn
         requires stage { self.old.stage ≡ Stage.Start }
-        ensures moves { (tops : Seq SeenTop) → MovesBare tops (Node.Heads self.old) (moved (Node.Heads self.new) result) }
-        ensures over { (tops : Seq SeenTop) → IsHeadsAtOver tops self.old → EachIn (IsNodeOver tops) (IsTreeOver tops) (moved (Node.Heads self.new) result) }
+        ensures moves { (tops : Seq SeenTop)
+            → MovesBare tops (Node.Heads self.old) (moved (Node.Heads self.new) result) }
+        ensures over { (tops : Seq SeenTop) → IsHeadsAtOver tops self.old
+            → EachIn (IsNodeOver tops) (IsTreeOver tops) (moved (Node.Heads self.new) result) }
         ensures valid { TellsValid (moved (Node.Heads self.new) result) }
         ensures left { Lessens left_of (Node.Heads self.old) (moved (Node.Heads self.new) result) }
         ensures stages { IsStageMove (Node.Heads self.old) (moved (Node.Heads self.new) result) }
@@ -99,13 +104,15 @@ impl HeadsAt {
         Turn::Next
     }
 
-    /// Hands the read of the header to a child, and then the walk below each member that it names; waits for them, and goes on
-    /// once all have ended. Where memory is refused it comes back as it was.
+    /// Hands the read of the header to a child, and then the walk below each member that it names; waits for them, and
+    /// goes on once all have ended. Where memory is refused it comes back as it was.
     fn gang_assemble(&mut self, alloc: Global, tops: &[Top]) -> Result<Turn, NoMemory>
         requires over { IsHeadsAtOver tops.now self.old }
         requires stage { self.old.stage ≡ Stage.GangAssemble }
-        ensures moves { IfOk result (λ turn. MovesBare tops.now (Node.Heads self.old) (moved (Node.Heads self.new) turn)) }
-        ensures over { IfOk result (λ turn. EachIn (IsNodeOver tops.now) (IsTreeOver tops.now) (moved (Node.Heads self.new) turn)) }
+        ensures moves { IfOk result
+            (λ turn. MovesBare tops.now (Node.Heads self.old) (moved (Node.Heads self.new) turn)) }
+        ensures over { IfOk result
+            (λ turn. EachIn (IsNodeOver tops.now) (IsTreeOver tops.now) (moved (Node.Heads self.new) turn)) }
         ensures valid { IfOk result (λ turn. TellsValid (moved (Node.Heads self.new) turn)) }
         ensures left { IfOk result (λ turn. Lessens left_of (Node.Heads self.old) (moved (Node.Heads self.new) turn)) }
         ensures refused { OnErr result (StaysBare tops.now (Node.Heads self.old) (Node.Heads self.new)) }
@@ -139,8 +146,10 @@ impl HeadsAt {
     /// The members' bodies are read by whoever asked for the walk.
     fn gang_issue(&mut self) -> Turn
         requires stage { self.old.stage ≡ Stage.GangIssue }
-        ensures moves { (tops : Seq SeenTop) → MovesBare tops (Node.Heads self.old) (moved (Node.Heads self.new) result) }
-        ensures over { (tops : Seq SeenTop) → IsHeadsAtOver tops self.old → EachIn (IsNodeOver tops) (IsTreeOver tops) (moved (Node.Heads self.new) result) }
+        ensures moves { (tops : Seq SeenTop)
+            → MovesBare tops (Node.Heads self.old) (moved (Node.Heads self.new) result) }
+        ensures over { (tops : Seq SeenTop) → IsHeadsAtOver tops self.old
+            → EachIn (IsNodeOver tops) (IsTreeOver tops) (moved (Node.Heads self.new) result) }
         ensures valid { TellsValid (moved (Node.Heads self.new) result) }
         ensures left { Lessens left_of (Node.Heads self.old) (moved (Node.Heads self.new) result) }
         ensures stages { IsStageMove (Node.Heads self.old) (moved (Node.Heads self.new) result) }
@@ -152,8 +161,10 @@ impl HeadsAt {
     /// A walk makes no block, and tells no pointer.
     fn ready(&mut self) -> Turn
         requires stage { self.old.stage ≡ Stage.Ready }
-        ensures moves { (tops : Seq SeenTop) → MovesBare tops (Node.Heads self.old) (moved (Node.Heads self.new) result) }
-        ensures over { (tops : Seq SeenTop) → IsHeadsAtOver tops self.old → EachIn (IsNodeOver tops) (IsTreeOver tops) (moved (Node.Heads self.new) result) }
+        ensures moves { (tops : Seq SeenTop)
+            → MovesBare tops (Node.Heads self.old) (moved (Node.Heads self.new) result) }
+        ensures over { (tops : Seq SeenTop) → IsHeadsAtOver tops self.old
+            → EachIn (IsNodeOver tops) (IsTreeOver tops) (moved (Node.Heads self.new) result) }
         ensures valid { TellsValid (moved (Node.Heads self.new) result) }
         ensures left { Lessens left_of (Node.Heads self.old) (moved (Node.Heads self.new) result) }
         ensures stages { IsStageMove (Node.Heads self.old) (moved (Node.Heads self.new) result) }
@@ -192,7 +203,8 @@ impl HeadsAt {
     pub fn arrive_ready(&mut self, child: u32)
         requires { HearsSomeEarly nodes (Node.Heads self.old) child }
         ensures heard { (t : Terms) (st : Stack) (c : Child) (pointer : Option SeenBp) →
-            HearsEarly nodes t (Node.Heads self.old) st child c → IsHeadsNode t self.new.node (heard_early st child c pointer) }
+            HearsEarly nodes t (Node.Heads self.old) st child c
+            → IsHeadsNode t self.new.node (heard_early st child c pointer) }
         ensures stage { self.new.stage ≡ self.old.stage }
         ensures over { (tops : Seq SeenTop) → IsHeadsAtOver tops self.old → IsHeadsAtOver tops self.new }
         ensures left { heads_left self.new ≡ heads_left self.old }
@@ -200,12 +212,14 @@ impl HeadsAt {
         self.node.arrive_ready(child);
     }
 
-    /// A child ended: the read of the header, or the walk below a member. Where memory is refused the outcome comes back, and the walk is as it was.
+    /// A child ended: the read of the header, or the walk below a member. Where memory is refused the outcome comes
+    /// back, and the walk is as it was.
     pub fn arrive(&mut self, tops: &[Top], child: u32, outcome: Outcome) -> Result<(), Outcome>
         requires over { IsHeadsAtOver tops.now self.old }
         requires awaited { HearsSome nodes tops.now (Node.Heads self.old) child outcome }
         ensures heard { OnOk result ((t : Terms) (st : Stack) (c : Child) (op : Task) (v : Value) →
-            Hears nodes tops.now t (Node.Heads self.old) st child c op outcome v → IsHeadsNode t self.new.node (heard_of st child c v)) }
+            Hears nodes tops.now t (Node.Heads self.old) st child c op outcome v
+            → IsHeadsNode t self.new.node (heard_of st child c v)) }
         ensures stage { OnOk result (self.new.stage ≡ self.old.stage) }
         ensures over { OnOk result (IsHeadsAtOver tops.now self.new) }
         ensures left { OnOk result (heads_left self.new ≡ heads_left self.old) }

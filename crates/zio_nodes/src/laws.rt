@@ -17,17 +17,21 @@ ghost use Rattle.zio_nodes.specs.declared.node.Node.{Node};
 ghost use Rattle.zio_nodes.specs.declared.node.Node.TheVariants.{Copies, Leaf, Part};
 ghost use Rattle.zio_nodes.specs.declared.part_at.PartAt.{PartAt};
 
-/// An operation on a leaf has no children, and those of a read of copies are operations on leaves, which tell no pointer.
+/// An operation on a leaf has no children, and those of a read of copies are operations on leaves, which tell no
+/// pointer.
 pub fn operations_on_leaves_tell_nothing()
-    ensures copies { (t : Terms) (at : CopiesAt) (st : Stack) (n : ℕ) (c : Child) → HearsEarly nodes t (Copies at) st n c → ⊥ }
-    ensures leaf { (t : Terms) (at : LeafAt) (st : Stack) (n : ℕ) (c : Child) → HearsEarly nodes t (Leaf at) st n c → ⊥ }
+    ensures copies { (t : Terms) (at : CopiesAt) (st : Stack) (n : ℕ) (c : Child)
+        → HearsEarly nodes t (Copies at) st n c → ⊥ }
+    ensures leaf { (t : Terms) (at : LeafAt) (st : Stack) (n : ℕ) (c : Child)
+        → HearsEarly nodes t (Leaf at) st n c → ⊥ }
     ensures childless { (tops : Seq SeenTop) (at : LeafAt) (n : ℕ) (outcome : SeenOutcome) →
         HearsSome nodes tops (Leaf at) n outcome → ⊥ }
 {}
 
 /// Of the children of a member that is written its own members tell pointers, and none of the writes of its copies.
 pub fn members_alone_tell_pointers()
-    ensures { (t : Terms) (at : PartAt) (st : Stack) (n : ℕ) (c : Child) → HearsEarly nodes t (Part at) st n c → c.kind ≡ Gang }
+    ensures { (t : Terms) (at : PartAt) (st : Stack) (n : ℕ) (c : Child) → HearsEarly nodes t (Part at) st n c
+        → c.kind ≡ Gang }
 {}
 
 /// A node does a part of the round's work, or an operation on a leaf, and no ask of the space.

@@ -58,11 +58,14 @@ impl LeafAt {
     pub fn run_stage(&mut self) -> Result<Turn, NoMemory>
         requires stands { LeafStands self.old.stage self.old.is_out self.old.work }
         requires before { self.old.stage ≢ Stage.Done }
-        ensures moves { (tops : Seq SeenTop) → IfOk result (λ turn. MovesBare tops (Node.Leaf self.old) (moved (Node.Leaf self.new) turn)) }
-        ensures over { (tops : Seq SeenTop) → IfOk result (λ turn. EachIn (IsNodeOver tops) (IsTreeOver tops) (moved (Node.Leaf self.new) turn)) }
+        ensures moves { (tops : Seq SeenTop)
+            → IfOk result (λ turn. MovesBare tops (Node.Leaf self.old) (moved (Node.Leaf self.new) turn)) }
+        ensures over { (tops : Seq SeenTop)
+            → IfOk result (λ turn. EachIn (IsNodeOver tops) (IsTreeOver tops) (moved (Node.Leaf self.new) turn)) }
         ensures valid { IfOk result (λ turn. TellsValid (moved (Node.Leaf self.new) turn)) }
         ensures left { IfOk result (λ turn. Lessens left_of (Node.Leaf self.old) (moved (Node.Leaf self.new) turn)) }
-        ensures refused { (tops : Seq SeenTop) → OnErr result (StaysBare tops (Node.Leaf self.old) (Node.Leaf self.new)) }
+        ensures refused { (tops : Seq SeenTop)
+            → OnErr result (StaysBare tops (Node.Leaf self.old) (Node.Leaf self.new)) }
         ensures stages { IfOk result (λ turn. IsStageMove (Node.Leaf self.old) (moved (Node.Leaf self.new) turn)) }
     {
         match self.stage {
@@ -77,11 +80,14 @@ impl LeafAt {
     fn vdev_io_start(&mut self) -> Result<Turn, NoMemory>
         requires stands { LeafStands self.old.stage self.old.is_out self.old.work }
         requires stage { self.old.stage ≡ Stage.VdevIoStart }
-        ensures moves { (tops : Seq SeenTop) → IfOk result (λ turn. MovesBare tops (Node.Leaf self.old) (moved (Node.Leaf self.new) turn)) }
-        ensures over { (tops : Seq SeenTop) → IfOk result (λ turn. EachIn (IsNodeOver tops) (IsTreeOver tops) (moved (Node.Leaf self.new) turn)) }
+        ensures moves { (tops : Seq SeenTop)
+            → IfOk result (λ turn. MovesBare tops (Node.Leaf self.old) (moved (Node.Leaf self.new) turn)) }
+        ensures over { (tops : Seq SeenTop)
+            → IfOk result (λ turn. EachIn (IsNodeOver tops) (IsTreeOver tops) (moved (Node.Leaf self.new) turn)) }
         ensures valid { IfOk result (λ turn. TellsValid (moved (Node.Leaf self.new) turn)) }
         ensures left { IfOk result (λ turn. Lessens left_of (Node.Leaf self.old) (moved (Node.Leaf self.new) turn)) }
-        ensures refused { (tops : Seq SeenTop) → OnErr result (StaysBare tops (Node.Leaf self.old) (Node.Leaf self.new)) }
+        ensures refused { (tops : Seq SeenTop)
+            → OnErr result (StaysBare tops (Node.Leaf self.old) (Node.Leaf self.new)) }
         ensures stages { IfOk result (λ turn. IsStageMove (Node.Leaf self.old) (moved (Node.Leaf self.new) turn)) }
     {
         if self.is_out {
@@ -97,7 +103,8 @@ impl LeafAt {
         requires stands { LeafStands self.old.stage self.old.is_out self.old.work }
         requires stage { self.old.stage ≡ Stage.VdevIoDone }
         ensures moves { (tops : Seq SeenTop) → MovesBare tops (Node.Leaf self.old) (moved (Node.Leaf self.new) result) }
-        ensures over { (tops : Seq SeenTop) → EachIn (IsNodeOver tops) (IsTreeOver tops) (moved (Node.Leaf self.new) result) }
+        ensures over { (tops : Seq SeenTop)
+            → EachIn (IsNodeOver tops) (IsTreeOver tops) (moved (Node.Leaf self.new) result) }
         ensures valid { TellsValid (moved (Node.Leaf self.new) result) }
         ensures left { Lessens left_of (Node.Leaf self.old) (moved (Node.Leaf self.new) result) }
         ensures stages { IsStageMove (Node.Leaf self.old) (moved (Node.Leaf self.new) result) }
@@ -111,7 +118,8 @@ impl LeafAt {
         requires stands { LeafStands self.old.stage self.old.is_out self.old.work }
         requires stage { self.old.stage ≡ Stage.VdevIoAssess }
         ensures moves { (tops : Seq SeenTop) → MovesBare tops (Node.Leaf self.old) (moved (Node.Leaf self.new) result) }
-        ensures over { (tops : Seq SeenTop) → EachIn (IsNodeOver tops) (IsTreeOver tops) (moved (Node.Leaf self.new) result) }
+        ensures over { (tops : Seq SeenTop)
+            → EachIn (IsNodeOver tops) (IsTreeOver tops) (moved (Node.Leaf self.new) result) }
         ensures valid { TellsValid (moved (Node.Leaf self.new) result) }
         ensures left { Lessens left_of (Node.Leaf self.old) (moved (Node.Leaf self.new) result) }
         ensures stages { IsStageMove (Node.Leaf self.old) (moved (Node.Leaf self.new) result) }

@@ -1,8 +1,8 @@
 //! The nodes of a round, each at a stage of its pipeline: one call runs the stage where a node stands.
 //!
-//! It stands on `zio_stages`, which has the work of the stages, and on `zio_turns`, whose engine runs nodes and says what a
-//! stage may come to. Read `Node` first, then `run_stage` of each kind. Contracts see how far a node is, whether it told its
-//! pointer, and how often it runs at most (`specs/Nodes`).
+//! It stands on `zio_stages`, which has the work of the stages, and on `zio_turns`, whose engine runs nodes and says
+//! what a stage may come to. Read `Node` first, then `run_stage` of each kind. Contracts see how far a node is, whether
+//! it told its pointer, and how often it runs at most (`specs/Nodes`).
 #![tactic(auto)]
 
 mod claim_at;

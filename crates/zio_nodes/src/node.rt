@@ -179,21 +179,24 @@ impl Node {
         }
     }
 
-    /// Runs one stage. Where memory is refused the stage is to be repeated, and what it did of it stays. An operation that its
-    /// leaf has stays as it is.
+    /// Runs one stage. Where memory is refused the stage is to be repeated, and what it did of it stays. An operation
+    /// that its leaf has stays as it is.
     pub fn run_stage<S: Services>(
         &mut self,
         alloc: Global,
         services: &mut S,
     ) -> Result<Turn, NoMemory>
         requires { IsNodeOver (S.tops services.old) self.old }
-        ensures moves { IfOk result (λ turn. MovesWith S.made (S.tops services.old) services.old services.new self.old (moved self.new turn)) }
-        ensures over { IfOk result (λ turn. EachIn (IsNodeOver (S.tops services.old)) (IsTreeOver (S.tops services.old)) (moved self.new turn)) }
+        ensures moves { IfOk result (λ turn. MovesWith S.made (S.tops services.old) services.old services.new self.old
+            (moved self.new turn)) }
+        ensures over { IfOk result (λ turn. EachIn (IsNodeOver (S.tops services.old)) (IsTreeOver (S.tops services.old))
+            (moved self.new turn)) }
         ensures valid { IfOk result (λ turn. TellsValid (moved self.new turn)) }
         ensures left { IfOk result (λ turn. Lessens left_of self.old (moved self.new turn)) }
         ensures stages { IfOk result (λ turn. IsStageMove self.old (moved self.new turn)) }
         ensures pass { IfOk result (λ turn. KeepsPass self.old (moved self.new turn)) }
-        ensures refused { OnErr result (StaysWith S.made (S.tops services.old) services.old services.new self.old self.new) }
+        ensures refused { OnErr result
+            (StaysWith S.made (S.tops services.old) services.old services.new self.old self.new) }
         ensures tops { S.tops services.new ≡ S.tops services.old }
         ensures leaves { IfOk result (λ turn. LeavesNone self.old (moved self.new turn)) }
     {
@@ -206,7 +209,8 @@ impl Node {
     /// What it waits for before its stage does anything, if it waits.
     fn stall(&self) -> Option<(ChildKind, Phase)>
         ensures some { (kind : ChildKind) (phase : Phase) → result ≡ Some (kind, phase) →
-            (stalls_at (stage_of self.now) kind phase ≡ true) × (list_any (is_awaited kind phase) (children_of self.now) ≡ true) }
+            (stalls_at (stage_of self.now) kind phase ≡ true)
+            × (list_any (is_awaited kind phase) (children_of self.now) ≡ true) }
         ensures none { result ≡ None → MayRun (stage_of self.now) (hands_many self.now) (children_of self.now) }
     {
         match self {
@@ -223,15 +227,19 @@ impl Node {
     /// Runs one stage for which it needn't wait.
     fn step<S: Services>(&mut self, alloc: Global, services: &mut S) -> Result<Turn, NoMemory>
         requires { IsNodeOver (S.tops services.old) self.old }
-        ensures moves { IfOk result (λ turn. MovesWith S.made (S.tops services.old) services.old services.new self.old (moved self.new turn)) }
-        ensures over { IfOk result (λ turn. EachIn (IsNodeOver (S.tops services.old)) (IsTreeOver (S.tops services.old)) (moved self.new turn)) }
+        ensures moves { IfOk result (λ turn. MovesWith S.made (S.tops services.old) services.old services.new self.old
+            (moved self.new turn)) }
+        ensures over { IfOk result (λ turn. EachIn (IsNodeOver (S.tops services.old)) (IsTreeOver (S.tops services.old))
+            (moved self.new turn)) }
         ensures valid { IfOk result (λ turn. TellsValid (moved self.new turn)) }
         ensures left { IfOk result (λ turn. Lessens left_of self.old (moved self.new turn)) }
         ensures stages { IfOk result (λ turn. IsStageMove self.old (moved self.new turn)) }
         ensures pass { IfOk result (λ turn. KeepsPass self.old (moved self.new turn)) }
-        ensures refused { OnErr result (StaysWith S.made (S.tops services.old) services.old services.new self.old self.new) }
+        ensures refused { OnErr result
+            (StaysWith S.made (S.tops services.old) services.old services.new self.old self.new) }
         ensures tops { S.tops services.new ≡ S.tops services.old }
-        ensures leaves { hands_many self.old ≡ true → IfOk result (λ turn. LeavesGang (children_of self.old) (moved self.new turn)) }
+        ensures leaves { hands_many self.old ≡ true
+            → IfOk result (λ turn. LeavesGang (children_of self.old) (moved self.new turn)) }
     {
         if self.is_tree() {
             return self.start_tree(alloc);
@@ -295,12 +303,15 @@ impl Node {
     fn run_last<S: Services>(&mut self, alloc: Global, services: &mut S) -> Result<Turn, NoMemory>
         requires over { IsNodeOver (S.tops services.old) self.old }
         requires at_last { stage_of self.old ≡ Stage.Done }
-        ensures moves { IfOk result (λ turn. MovesWith S.made (S.tops services.old) services.old services.new self.old (moved self.new turn)) }
-        ensures over { IfOk result (λ turn. EachIn (IsNodeOver (S.tops services.old)) (IsTreeOver (S.tops services.old)) (moved self.new turn)) }
+        ensures moves { IfOk result (λ turn. MovesWith S.made (S.tops services.old) services.old services.new self.old
+            (moved self.new turn)) }
+        ensures over { IfOk result (λ turn. EachIn (IsNodeOver (S.tops services.old)) (IsTreeOver (S.tops services.old))
+            (moved self.new turn)) }
         ensures valid { IfOk result (λ turn. TellsValid (moved self.new turn)) }
         ensures left { IfOk result (λ turn. Lessens left_of self.old (moved self.new turn)) }
         ensures stages { IfOk result (λ turn. IsStageMove self.old (moved self.new turn)) }
-        ensures refused { OnErr result (StaysWith S.made (S.tops services.old) services.old services.new self.old self.new) }
+        ensures refused { OnErr result
+            (StaysWith S.made (S.tops services.old) services.old services.new self.old self.new) }
         ensures tops { S.tops services.new ≡ S.tops services.old }
     {
         let last = replace(self, Node::Empty).last_move(alloc, services);
@@ -384,8 +395,8 @@ impl Node {
         }
     }
 
-    /// The child of this number ended. Of a request that finished this comes back. Where memory is refused the outcome comes
-    /// back, and the node is as it was.
+    /// The child of this number ended. Of a request that finished this comes back. Where memory is refused the outcome
+    /// comes back, and the node is as it was.
     pub fn arrive(
         &mut self,
         tops: &[Top],

@@ -23,8 +23,10 @@ impl RequestAt {
         requires over { (tops : Seq SeenTop) × IsRequestAtOver tops self.old }
         requires kind { kind_of self.old.node.waiting.request.work ≡ Kind.Null }
         requires stage { self.old.stage ≡ Stage.Ready }
-        ensures moves { (tops : Seq SeenTop) → MovesBare tops (Node.Request self.old) (moved (Node.Request self.new) result) }
-        ensures over { (tops : Seq SeenTop) → IsRequestAtOver tops self.old → EachIn (IsNodeOver tops) (IsTreeOver tops) (moved (Node.Request self.new) result) }
+        ensures moves { (tops : Seq SeenTop)
+            → MovesBare tops (Node.Request self.old) (moved (Node.Request self.new) result) }
+        ensures over { (tops : Seq SeenTop) → IsRequestAtOver tops self.old
+            → EachIn (IsNodeOver tops) (IsTreeOver tops) (moved (Node.Request self.new) result) }
         ensures valid { TellsValid (moved (Node.Request self.new) result) }
         ensures left { Lessens left_of (Node.Request self.old) (moved (Node.Request self.new) result) }
         ensures stages { IsStageMove (Node.Request self.old) (moved (Node.Request self.new) result) }
@@ -41,7 +43,8 @@ impl RequestAt {
         requires kind { kind_of self.node.waiting.request.work ≡ Kind.Null }
         requires stage { self.stage ≡ Stage.Done }
         ensures moves { (tops : Seq SeenTop) → IfOk result (MovesBare tops (Node.Request self)) }
-        ensures over { (tops : Seq SeenTop) → IsRequestAtOver tops self → IfOk result (EachIn (IsNodeOver tops) (IsTreeOver tops)) }
+        ensures over { (tops : Seq SeenTop) → IsRequestAtOver tops self
+            → IfOk result (EachIn (IsNodeOver tops) (IsTreeOver tops)) }
         ensures valid { IfOk result TellsValid }
         ensures last { IfOk result IsLastMove }
         ensures left { IfOk result (Lessens left_of (Node.Request self)) }

@@ -1,5 +1,5 @@
-//! What a read, a free or a claim in an attempt hears of its own work: the walk over its block's headers, and of a read the reads
-//! of bodies and the operations on leaves.
+//! What a read, a free or a claim in an attempt hears of its own work: the walk over its block's headers, and of a read
+//! the reads of bodies and the operations on leaves.
 
 ghost use Rattle.std.specs.Prelude.{◌≡◌, ◌≢◌, ◌+◌, ◌≤◌, List as Seq, Option};
 ghost use Rattle.zio_types.specs.declared.place.Top.{Top as SeenTop};
@@ -24,12 +24,14 @@ use zio_stages::{Outcome, bodies_of_a_walk_lie_on_the_tops, other_children_show_
 use zio_types::{ChildKind, Kind, Top};
 
 impl RequestAt {
-    /// A gang child of its own work told. Whatever that was: a walk or a read has no pointer, and the request keeps none.
+    /// A gang child of its own work told. Whatever that was: a walk or a read has no pointer, and the request keeps
+    /// none.
     pub fn arrive_own_ready(&mut self, child: u32)
         requires gang { HearsEarlyOf Gang self.old.node child }
         requires kind { kind_of self.old.node.waiting.request.work ≢ Kind.Write }
         ensures heard { (t : Terms) (st : Stack) (c : Child) (pointer : Option Bp) →
-            HearsEarly nodes t (Node.Request self.old) st child c → IsRequestNode t self.new.node (heard_early st child c pointer) }
+            HearsEarly nodes t (Node.Request self.old) st child c
+            → IsRequestNode t self.new.node (heard_early st child c pointer) }
         ensures stage { self.new.stage ≡ self.old.stage }
         ensures pass { IsInPassOf (Node.Request self.old) (Node.Request self.new) }
         ensures gave { gave_of (Node.Request self.new) ≡ gave_of (Node.Request self.old) }
@@ -118,7 +120,8 @@ impl RequestAt {
         requires own { IsOwnOutcome outcome }
         requires kind { kind_of self.old.node.waiting.request.work ≡ Kind.Free }
         ensures heard { (tops : Seq SeenTop) (t : Terms) (st : Stack) (c : Child) (op : Task) (v : Value) →
-            Hears nodes tops t (Node.Request self.old) st child c op outcome v → IsRequestNode t self.new.node (heard_of st child c v) }
+            Hears nodes tops t (Node.Request self.old) st child c op outcome v
+            → IsRequestNode t self.new.node (heard_of st child c v) }
         ensures stage { self.new.stage ≡ self.old.stage }
         ensures pass { IsInPassOf (Node.Request self.old) (Node.Request self.new) }
         ensures gave { gave_of (Node.Request self.new) ≡ gave_of (Node.Request self.old) }

@@ -1,5 +1,5 @@
-//! The write of a gang's member, from stage to stage: it asks for places, hands out the members of a gang, tells its pointer,
-//! writes its own copies, and ends with what it stored.
+//! The write of a gang's member, from stage to stage: it asks for places, hands out the members of a gang, tells its
+//! pointer, writes its own copies, and ends with what it stored.
 
 ghost use Rattle.std.specs.Prelude.{◌≡◌, ◌≢◌, ◌-◌, ◌+◌, ◌≤◌, Err, IfOk, IfSome, IsTrue, List as Seq, None, Ok, Option, [], false, length, OnErr};
 ghost use Rattle.zio_types.specs.declared.place.Top.{Top as SeenTop};
@@ -44,7 +44,8 @@ impl PartAt {
         requires begun { node.work.own.part.members ≡ [] }
         requires none { node.work.io ≡ None }
         ensures fresh { (t : Terms) (st : Stack) → IsPartNode t node st → IsPartNode t result.node st }
-        ensures over { (tops : Seq SeenTop) → AreTops tops → HaveUnits tops → IsPartNodeOver tops node → IsPartAtOver tops result }
+        ensures over { (tops : Seq SeenTop) → AreTops tops → HaveUnits tops → IsPartNodeOver tops node
+            → IsPartAtOver tops result }
         ensures told { is_told result.stage ≡ false }
         ensures left { part_left result ≡ part_max (8 - length node.work.own.part.path) }
     {
@@ -63,14 +64,18 @@ impl PartAt {
     ) -> Result<Turn, NoMemory>
         requires over { IsPartAtOver (S.tops services.old) self.old }
         requires before { self.old.stage ≢ Stage.Done }
-        ensures moves { IfOk result (λ turn. MovesWith S.made (S.tops services.old) services.old services.new (Node.Part self.old) (moved (Node.Part self.new) turn)) }
-        ensures over { IfOk result (λ turn. EachIn (IsNodeOver (S.tops services.old)) (IsTreeOver (S.tops services.old)) (moved (Node.Part self.new) turn)) }
+        ensures moves { IfOk result (λ turn. MovesWith S.made (S.tops services.old) services.old services.new
+            (Node.Part self.old) (moved (Node.Part self.new) turn)) }
+        ensures over { IfOk result (λ turn. EachIn (IsNodeOver (S.tops services.old)) (IsTreeOver (S.tops services.old))
+            (moved (Node.Part self.new) turn)) }
         ensures valid { IfOk result (λ turn. TellsValid (moved (Node.Part self.new) turn)) }
         ensures left { IfOk result (λ turn. Lessens left_of (Node.Part self.old) (moved (Node.Part self.new) turn)) }
-        ensures refused { OnErr result (StaysWith S.made (S.tops services.old) services.old services.new (Node.Part self.old) (Node.Part self.new)) }
+        ensures refused { OnErr result (StaysWith S.made (S.tops services.old) services.old services.new
+            (Node.Part self.old) (Node.Part self.new)) }
         ensures tops { S.tops services.new ≡ S.tops services.old }
         ensures stages { IfOk result (λ turn. IsStageMove (Node.Part self.old) (moved (Node.Part self.new) turn)) }
-        ensures pass { IfOk result (λ turn. KeepsPassAt self.old.stage (Node.Part self.old) (moved (Node.Part self.new) turn)) }
+        ensures pass { IfOk result
+            (λ turn. KeepsPassAt self.old.stage (Node.Part self.old) (moved (Node.Part self.new) turn)) }
     {
         match self.stage {
             Stage::DvaAllocate => self.dva_allocate(alloc, services),
@@ -83,13 +88,16 @@ impl PartAt {
         requires over { IsPartAtOver tops.now self.old }
         requires stage { self.old.stage ≡ Stage.DvaAllocate → ⊥ }
         requires before { self.old.stage ≢ Stage.Done }
-        ensures moves { IfOk result (λ turn. MovesBare tops.now (Node.Part self.old) (moved (Node.Part self.new) turn)) }
-        ensures over { IfOk result (λ turn. EachIn (IsNodeOver tops.now) (IsTreeOver tops.now) (moved (Node.Part self.new) turn)) }
+        ensures moves { IfOk result
+            (λ turn. MovesBare tops.now (Node.Part self.old) (moved (Node.Part self.new) turn)) }
+        ensures over { IfOk result
+            (λ turn. EachIn (IsNodeOver tops.now) (IsTreeOver tops.now) (moved (Node.Part self.new) turn)) }
         ensures valid { IfOk result (λ turn. TellsValid (moved (Node.Part self.new) turn)) }
         ensures left { IfOk result (λ turn. Lessens left_of (Node.Part self.old) (moved (Node.Part self.new) turn)) }
         ensures refused { OnErr result (StaysBare tops.now (Node.Part self.old) (Node.Part self.new)) }
         ensures stages { IfOk result (λ turn. IsStageMove (Node.Part self.old) (moved (Node.Part self.new) turn)) }
-        ensures pass { IfOk result (λ turn. KeepsPassAt self.old.stage (Node.Part self.old) (moved (Node.Part self.new) turn)) }
+        ensures pass { IfOk result
+            (λ turn. KeepsPassAt self.old.stage (Node.Part self.old) (moved (Node.Part self.new) turn)) }
     {
         match self.stage {
             // Its bytes and their checksum stand since its parent handed it out.
@@ -110,7 +118,8 @@ impl PartAt {
     fn go_on(&mut self) -> Turn
         requires stage { IsBeforePlaces self.old.stage }
         ensures moves { (tops : Seq SeenTop) → MovesBare tops (Node.Part self.old) (moved (Node.Part self.new) result) }
-        ensures over { (tops : Seq SeenTop) → IsPartAtOver tops self.old → EachIn (IsNodeOver tops) (IsTreeOver tops) (moved (Node.Part self.new) result) }
+        ensures over { (tops : Seq SeenTop) → IsPartAtOver tops self.old
+            → EachIn (IsNodeOver tops) (IsTreeOver tops) (moved (Node.Part self.new) result) }
         ensures valid { TellsValid (moved (Node.Part self.new) result) }
         ensures left { Lessens left_of (Node.Part self.old) (moved (Node.Part self.new) result) }
         ensures stages { IsStageMove (Node.Part self.old) (moved (Node.Part self.new) result) }
@@ -139,7 +148,8 @@ impl PartAt {
         requires over { IsPartAtOver tops.now self.old }
         requires awaited { HearsSome nodes tops.now (Node.Part self.old) child outcome }
         ensures heard { (t : Terms) (st : Stack) (c : Child) (op : Task) (v : Value) →
-            Hears nodes tops.now t (Node.Part self.old) st child c op outcome v → IsPartNode t self.new.node (heard_of st child c v) }
+            Hears nodes tops.now t (Node.Part self.old) st child c op outcome v
+            → IsPartNode t self.new.node (heard_of st child c v) }
         ensures stage { self.new.stage ≡ self.old.stage }
         ensures pass { IsInPassOf (Node.Part self.old) (Node.Part self.new) }
         ensures over { IsPartAtOver tops.now self.new }

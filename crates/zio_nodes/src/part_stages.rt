@@ -22,8 +22,8 @@ use zio_turns::Move;
 use zio_types::{ChildKind, NoMemory, Phase, Top};
 
 impl PartAt {
-    /// Asks for the part's places, for a header's where these are refused, and hands the gang's next member to a child; goes on
-    /// once all are out. Where memory is refused what was done before stays.
+    /// Asks for the part's places, for a header's where these are refused, and hands the gang's next member to a child;
+    /// goes on once all are out. Where memory is refused what was done before stays.
     pub(crate) fn dva_allocate<S: Services>(
         &mut self,
         alloc: Global,
@@ -31,11 +31,14 @@ impl PartAt {
     ) -> Result<Turn, NoMemory>
         requires over { IsPartAtOver (S.tops services.old) self.old }
         requires stage { self.old.stage ≡ Stage.DvaAllocate }
-        ensures moves { IfOk result (λ turn. MovesWith S.made (S.tops services.old) services.old services.new (Node.Part self.old) (moved (Node.Part self.new) turn)) }
-        ensures over { IfOk result (λ turn. EachIn (IsNodeOver (S.tops services.old)) (IsTreeOver (S.tops services.old)) (moved (Node.Part self.new) turn)) }
+        ensures moves { IfOk result (λ turn. MovesWith S.made (S.tops services.old) services.old services.new
+            (Node.Part self.old) (moved (Node.Part self.new) turn)) }
+        ensures over { IfOk result (λ turn. EachIn (IsNodeOver (S.tops services.old)) (IsTreeOver (S.tops services.old))
+            (moved (Node.Part self.new) turn)) }
         ensures valid { IfOk result (λ turn. TellsValid (moved (Node.Part self.new) turn)) }
         ensures left { IfOk result (λ turn. Lessens left_of (Node.Part self.old) (moved (Node.Part self.new) turn)) }
-        ensures refused { OnErr result (StaysWith S.made (S.tops services.old) services.old services.new (Node.Part self.old) (Node.Part self.new)) }
+        ensures refused { OnErr result (StaysWith S.made (S.tops services.old) services.old services.new
+            (Node.Part self.old) (Node.Part self.new)) }
         ensures tops { S.tops services.new ≡ S.tops services.old }
         ensures stages { IfOk result (λ turn. IsStageMove (Node.Part self.old) (moved (Node.Part self.new) turn)) }
     {
@@ -60,7 +63,8 @@ impl PartAt {
         requires over { (tops : Seq SeenTop) × IsPartAtOver tops self.old }
         requires stage { self.old.stage ≡ Stage.Ready }
         ensures moves { (tops : Seq SeenTop) → MovesBare tops (Node.Part self.old) (moved (Node.Part self.new) result) }
-        ensures over { (tops : Seq SeenTop) → IsPartAtOver tops self.old → EachIn (IsNodeOver tops) (IsTreeOver tops) (moved (Node.Part self.new) result) }
+        ensures over { (tops : Seq SeenTop) → IsPartAtOver tops self.old
+            → EachIn (IsNodeOver tops) (IsTreeOver tops) (moved (Node.Part self.new) result) }
         ensures valid { TellsValid (moved (Node.Part self.new) result) }
         ensures left { Lessens left_of (Node.Part self.old) (moved (Node.Part self.new) result) }
         ensures stages { IsStageMove (Node.Part self.old) (moved (Node.Part self.new) result) }
@@ -75,18 +79,21 @@ impl PartAt {
         }
     }
 
-    /// Hands the next write of a copy to a child, or goes on where none is due now. Where memory is refused its own write may have
-    /// begun.
+    /// Hands the next write of a copy to a child, or goes on where none is due now. Where memory is refused its own
+    /// write may have begun.
     pub(crate) fn vdev_io_start(&mut self, alloc: Global, tops: &[Top]) -> Result<Turn, NoMemory>
         requires over { IsPartAtOver tops.now self.old }
         requires stage { self.old.stage ≡ Stage.VdevIoStart }
-        ensures moves { IfOk result (λ turn. MovesBare tops.now (Node.Part self.old) (moved (Node.Part self.new) turn)) }
-        ensures over { IfOk result (λ turn. EachIn (IsNodeOver tops.now) (IsTreeOver tops.now) (moved (Node.Part self.new) turn)) }
+        ensures moves { IfOk result
+            (λ turn. MovesBare tops.now (Node.Part self.old) (moved (Node.Part self.new) turn)) }
+        ensures over { IfOk result
+            (λ turn. EachIn (IsNodeOver tops.now) (IsTreeOver tops.now) (moved (Node.Part self.new) turn)) }
         ensures valid { IfOk result (λ turn. TellsValid (moved (Node.Part self.new) turn)) }
         ensures left { IfOk result (λ turn. Lessens left_of (Node.Part self.old) (moved (Node.Part self.new) turn)) }
         ensures refused { OnErr result (StaysBare tops.now (Node.Part self.old) (Node.Part self.new)) }
         ensures stages { IfOk result (λ turn. IsStageMove (Node.Part self.old) (moved (Node.Part self.new) turn)) }
-        ensures pass { IfOk result (λ turn. KeepsPassAt self.old.stage (Node.Part self.old) (moved (Node.Part self.new) turn)) }
+        ensures pass { IfOk result
+            (λ turn. KeepsPassAt self.old.stage (Node.Part self.old) (moved (Node.Part self.new) turn)) }
     {
         let mut room = new_room(alloc)?;
         match self.node.vdev_io_start(alloc, tops) {
@@ -156,7 +163,8 @@ impl PartAt {
         requires over { (tops : Seq SeenTop) × IsPartAtOver tops self }
         requires stage { self.stage ≡ Stage.Done }
         ensures moves { (tops : Seq SeenTop) → IfOk result (MovesBare tops (Node.Part self)) }
-        ensures over { (tops : Seq SeenTop) → IsPartAtOver tops self → IfOk result (EachIn (IsNodeOver tops) (IsTreeOver tops)) }
+        ensures over { (tops : Seq SeenTop) → IsPartAtOver tops self
+            → IfOk result (EachIn (IsNodeOver tops) (IsTreeOver tops)) }
         ensures valid { IfOk result TellsValid }
         ensures last { IfOk result IsLastMove }
         ensures left { IfOk result (Lessens left_of (Node.Part self)) }

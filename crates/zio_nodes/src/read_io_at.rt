@@ -18,19 +18,24 @@ use zio_stages::IoNext;
 use zio_types::{ChildKind, Kind, NoMemory, Phase, Top};
 
 impl RequestAt {
-    /// Hands the next operation on a leaf to a child, where it reads a body itself, or goes on where none is due now. Where memory is
-    /// refused the body's read may have begun.
+    /// Hands the next operation on a leaf to a child, where it reads a body itself, or goes on where none is due now.
+    /// Where memory is refused the body's read may have begun.
     pub(crate) fn read_io_start(&mut self, alloc: Global, tops: &[Top]) -> Result<Turn, NoMemory>
         requires over { IsRequestAtOver tops.now self.old }
         requires kind { kind_of self.old.node.waiting.request.work ≡ Kind.Read }
         requires stage { self.old.stage ≡ Stage.VdevIoStart }
-        ensures moves { IfOk result (λ turn. MovesBare tops.now (Node.Request self.old) (moved (Node.Request self.new) turn)) }
-        ensures over { IfOk result (λ turn. EachIn (IsNodeOver tops.now) (IsTreeOver tops.now) (moved (Node.Request self.new) turn)) }
+        ensures moves { IfOk result
+            (λ turn. MovesBare tops.now (Node.Request self.old) (moved (Node.Request self.new) turn)) }
+        ensures over { IfOk result
+            (λ turn. EachIn (IsNodeOver tops.now) (IsTreeOver tops.now) (moved (Node.Request self.new) turn)) }
         ensures valid { IfOk result (λ turn. TellsValid (moved (Node.Request self.new) turn)) }
-        ensures left { IfOk result (λ turn. Lessens left_of (Node.Request self.old) (moved (Node.Request self.new) turn)) }
+        ensures left { IfOk result
+            (λ turn. Lessens left_of (Node.Request self.old) (moved (Node.Request self.new) turn)) }
         ensures refused { OnErr result (StaysBare tops.now (Node.Request self.old) (Node.Request self.new)) }
-        ensures stages { IfOk result (λ turn. IsStageMove (Node.Request self.old) (moved (Node.Request self.new) turn)) }
-        ensures pass { IfOk result (λ turn. KeepsPassAt self.old.stage (Node.Request self.old) (moved (Node.Request self.new) turn)) }
+        ensures stages { IfOk result
+            (λ turn. IsStageMove (Node.Request self.old) (moved (Node.Request self.new) turn)) }
+        ensures pass { IfOk result
+            (λ turn. KeepsPassAt self.old.stage (Node.Request self.old) (moved (Node.Request self.new) turn)) }
     {
         let mut room = new_room(alloc)?;
         match self.node.vdev_io_start_read(alloc, tops) {
@@ -75,7 +80,8 @@ impl RequestAt {
         }
     }
 
-    /// Goes back for a second pass, once, where no copy was good; else the body's read closes, and an error cuts the pipeline short.
+    /// Goes back for a second pass, once, where no copy was good; else the body's read closes, and an error cuts the
+    /// pipeline short.
     pub(crate) fn read_io_assess(&mut self, tops: &[Top]) -> Turn
         requires over { IsRequestAtOver tops.now self.old }
         requires kind { kind_of self.old.node.waiting.request.work ≡ Kind.Read }

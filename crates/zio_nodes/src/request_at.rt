@@ -1,8 +1,8 @@
 //! A request in an attempt, from stage to stage, and what it hears.
 //!
 //! Every kind hands its children out at Start, all of them, and goes on with the stages of its own pipeline: `null_at`,
-//! `write_at`, `read_at`, `free_at` and `claim_at` have these, a function for each stage. `request_hear` has what it hears of
-//! attempts, `write_hear` and `own_hear` what it hears of its own work.
+//! `write_at`, `read_at`, `free_at` and `claim_at` have these, a function for each stage. `request_hear` has what it
+//! hears of attempts, `write_hear` and `own_hear` what it hears of its own work.
 
 ghost use Rattle.std.specs.Prelude.{◌≡◌, ◌≢◌, ◌+◌, ◌≤◌, ◌||◌, ◌&&◌, IfErr, IfOk, IfSome, IsTrue, List as Seq, Some, true, OnErr};
 ghost use Rattle.zio_types.specs.declared.place.Top.{Top as SeenTop};
@@ -73,14 +73,20 @@ impl RequestAt {
     ) -> Result<Turn, NoMemory>
         requires over { IsRequestAtOver (S.tops services.old) self.old }
         requires before { self.old.stage ≢ Stage.Done }
-        ensures moves { IfOk result (λ turn. MovesWith S.made (S.tops services.old) services.old services.new (Node.Request self.old) (moved (Node.Request self.new) turn)) }
-        ensures over { IfOk result (λ turn. EachIn (IsNodeOver (S.tops services.old)) (IsTreeOver (S.tops services.old)) (moved (Node.Request self.new) turn)) }
+        ensures moves { IfOk result (λ turn. MovesWith S.made (S.tops services.old) services.old services.new
+            (Node.Request self.old) (moved (Node.Request self.new) turn)) }
+        ensures over { IfOk result (λ turn. EachIn (IsNodeOver (S.tops services.old)) (IsTreeOver (S.tops services.old))
+            (moved (Node.Request self.new) turn)) }
         ensures valid { IfOk result (λ turn. TellsValid (moved (Node.Request self.new) turn)) }
-        ensures left { IfOk result (λ turn. Lessens left_of (Node.Request self.old) (moved (Node.Request self.new) turn)) }
-        ensures refused { OnErr result (StaysWith S.made (S.tops services.old) services.old services.new (Node.Request self.old) (Node.Request self.new)) }
+        ensures left { IfOk result
+            (λ turn. Lessens left_of (Node.Request self.old) (moved (Node.Request self.new) turn)) }
+        ensures refused { OnErr result (StaysWith S.made (S.tops services.old) services.old services.new
+            (Node.Request self.old) (Node.Request self.new)) }
         ensures tops { S.tops services.new ≡ S.tops services.old }
-        ensures stages { IfOk result (λ turn. IsStageMove (Node.Request self.old) (moved (Node.Request self.new) turn)) }
-        ensures pass { IfOk result (λ turn. KeepsPassAt self.old.stage (Node.Request self.old) (moved (Node.Request self.new) turn)) }
+        ensures stages { IfOk result
+            (λ turn. IsStageMove (Node.Request self.old) (moved (Node.Request self.new) turn)) }
+        ensures pass { IfOk result
+            (λ turn. KeepsPassAt self.old.stage (Node.Request self.old) (moved (Node.Request self.new) turn)) }
         ensures leaves { kind_of self.old.node.waiting.request.work ≡ Kind.Read → self.old.stage ≡ Stage.GangIssue →
             IfOk result (λ turn. LeavesGang self.old.node.family (moved (Node.Request self.new) turn)) }
     {
@@ -104,12 +110,14 @@ impl RequestAt {
     ) -> Result<Move<Node>, Node>
         requires over { IsRequestAtOver (S.tops services.old) self }
         requires stage { self.stage ≡ Stage.Done }
-        ensures moves { IfOk result (MovesWith S.made (S.tops services.old) services.old services.new (Node.Request self)) }
+        ensures moves { IfOk result (MovesWith S.made (S.tops services.old) services.old services.new
+            (Node.Request self)) }
         ensures over { IfOk result (EachIn (IsNodeOver (S.tops services.old)) (IsTreeOver (S.tops services.old))) }
         ensures valid { IfOk result TellsValid }
         ensures last { IfOk result IsLastMove }
         ensures left { IfOk result (Lessens left_of (Node.Request self)) }
-        ensures refused { IfErr result (StaysWith S.made (S.tops services.old) services.old services.new (Node.Request self)) }
+        ensures refused { IfErr result (StaysWith S.made (S.tops services.old) services.old services.new
+            (Node.Request self)) }
         ensures tops { S.tops services.new ≡ S.tops services.old }
     {
         match self.node.kind() {
@@ -185,16 +193,22 @@ impl RequestAt {
         }
     }
 
-    /// Hands its children's trees out, one by one, and goes on once all are out. Where memory is refused it comes back as it was.
+    /// Hands its children's trees out, one by one, and goes on once all are out. Where memory is refused it comes back
+    /// as it was.
     fn start(&mut self, alloc: Global) -> Result<Turn, NoMemory>
         requires stage { self.old.stage ≡ Stage.Start }
         requires over { (tops : Seq SeenTop) × IsRequestAtOver tops self.old }
-        ensures moves { (tops : Seq SeenTop) → IfOk result (λ turn. MovesBare tops (Node.Request self.old) (moved (Node.Request self.new) turn)) }
-        ensures over { (tops : Seq SeenTop) → IsRequestAtOver tops self.old → IfOk result (λ turn. EachIn (IsNodeOver tops) (IsTreeOver tops) (moved (Node.Request self.new) turn)) }
+        ensures moves { (tops : Seq SeenTop)
+            → IfOk result (λ turn. MovesBare tops (Node.Request self.old) (moved (Node.Request self.new) turn)) }
+        ensures over { (tops : Seq SeenTop) → IsRequestAtOver tops self.old
+            → IfOk result (λ turn. EachIn (IsNodeOver tops) (IsTreeOver tops) (moved (Node.Request self.new) turn)) }
         ensures valid { IfOk result (λ turn. TellsValid (moved (Node.Request self.new) turn)) }
-        ensures left { IfOk result (λ turn. Lessens left_of (Node.Request self.old) (moved (Node.Request self.new) turn)) }
-        ensures refused { (tops : Seq SeenTop) → OnErr result (StaysBare tops (Node.Request self.old) (Node.Request self.new)) }
-        ensures stages { IfOk result (λ turn. IsStageMove (Node.Request self.old) (moved (Node.Request self.new) turn)) }
+        ensures left { IfOk result
+            (λ turn. Lessens left_of (Node.Request self.old) (moved (Node.Request self.new) turn)) }
+        ensures refused { (tops : Seq SeenTop)
+            → OnErr result (StaysBare tops (Node.Request self.old) (Node.Request self.new)) }
+        ensures stages { IfOk result
+            (λ turn. IsStageMove (Node.Request self.old) (moved (Node.Request self.new) turn)) }
     {
         let mut room = new_room(alloc)?;
         let mask = self.mask();
@@ -233,7 +247,8 @@ impl RequestAt {
     /// The stages of its kind, with the gang stages where it is a gang's.
     pub(crate) fn mask(&self) -> Pipeline
         ensures { (stage : SeenStage) → has result stage ≡
-            masked (kind_of self.now.node.waiting.request.work) (has_gang_stages self.now.node.waiting.request.work self.now.node.waiting.block) stage }
+            masked (kind_of self.now.node.waiting.request.work)
+            (has_gang_stages self.now.node.waiting.request.work self.now.node.waiting.block) stage }
     {
         let gang = self.node.has_gang_stages();
         match self.node.kind() {

@@ -41,7 +41,8 @@ impl RequestAt {
 
     /// The attempt of a child's tree ended, and the child finished.
     pub fn arrive_finished(&mut self, child: u32, finished: &Finished)
-        requires { (tops : Seq SeenTop) × HearsSome nodes tops (Node.Request self.old) child (SeenOutcome.Finished finished.now) }
+        requires { (tops : Seq SeenTop)
+            × HearsSome nodes tops (Node.Request self.old) child (SeenOutcome.Finished finished.now) }
         ensures heard { (tops : Seq SeenTop) (t : Terms) (st : Stack) (c : Child) (op : Task) (v : Value) →
             Hears nodes tops t (Node.Request self.old) st child c op (SeenOutcome.Finished finished.now) v →
             IsRequestNode t self.new.node (heard_of st child c v) }
@@ -58,14 +59,16 @@ impl RequestAt {
 
     /// The attempt of a child's tree ended, and this is left of it, which goes again.
     pub fn arrive_again(&mut self, child: u32, whole: Whole, bits: Bits, pointer: Option<Bp>)
-        requires { (tops : Seq SeenTop) × HearsSome nodes tops (Node.Request self.old) child (SeenOutcome.Again whole bits pointer) }
+        requires { (tops : Seq SeenTop)
+            × HearsSome nodes tops (Node.Request self.old) child (SeenOutcome.Again whole bits pointer) }
         ensures heard { (tops : Seq SeenTop) (t : Terms) (st : Stack) (c : Child) (op : Task) (v : Value) →
             Hears nodes tops t (Node.Request self.old) st child c op (SeenOutcome.Again whole bits pointer) v →
             IsRequestNode t self.new.node (heard_of st child c v) }
         ensures stage { self.new.stage ≡ self.old.stage }
         ensures pass { IsInPassOf (Node.Request self.old) (Node.Request self.new) }
         ensures gave { gave_of (Node.Request self.new) ≡ gave_of (Node.Request self.old) }
-        ensures over { (tops : Seq SeenTop) → IsTreeOver tops whole → IsRequestAtOver tops self.old → IsRequestAtOver tops self.new }
+        ensures over { (tops : Seq SeenTop) → IsTreeOver tops whole → IsRequestAtOver tops self.old
+            → IsRequestAtOver tops self.new }
         ensures left { left_of (Node.Request self.new) ≡ left_of (Node.Request self.old) }
     {
         logical_children_are_attempts();

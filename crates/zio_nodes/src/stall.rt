@@ -17,8 +17,8 @@ use zio_types::{ChildKind, Phase};
 /// How many gang children a stage that hands out many may have out.
 const GANG_ROOM: u32 = 3;
 
-/// What a node at the stage waits for before the stage does anything, if it waits: a kind of which a child lacks its value for the phase.
-/// A stage that hands out many gang children waits only where no more may be out.
+/// What a node at the stage waits for before the stage does anything, if it waits: a kind of which a child lacks its
+/// value for the phase. A stage that hands out many gang children waits only where no more may be out.
 pub(crate) fn stall_of(family: &Family, stage: Stage, many: bool) -> Option<(ChildKind, Phase)>
     ensures some { (kind : ChildKind) (phase : Phase) → result ≡ Some (kind, phase) →
         (stalls_at stage kind phase ≡ true) × (list_any (is_awaited kind phase) family.now ≡ true) }
@@ -73,8 +73,10 @@ pub(crate) fn gang_stall(family: &Family) -> Option<(ChildKind, Phase)>
 /// The first of these kinds of which a child lacks its value for the phase.
 fn first_of(family: &Family, kinds: &[ChildKind], phase: Phase) -> Option<(ChildKind, Phase)>
     ensures some { (kind : ChildKind) (at : Phase) → result ≡ Some (kind, at) →
-        (list_any (same_kind kind) kinds.now ≡ true) × (at ≡ phase) × (list_any (is_awaited kind phase) family.now ≡ true) }
-    ensures none { result ≡ None → (kind : ChildKind) → list_any (same_kind kind) kinds.now ≡ true → count_owing kind phase family.now ≡ 0 }
+        (list_any (same_kind kind) kinds.now ≡ true) × (at ≡ phase)
+        × (list_any (is_awaited kind phase) family.now ≡ true) }
+    ensures none { result ≡ None → (kind : ChildKind) → list_any (same_kind kind) kinds.now ≡ true
+        → count_owing kind phase family.now ≡ 0 }
 {
     let kind = family.missing(kinds, phase)?;
     Some((kind, phase))

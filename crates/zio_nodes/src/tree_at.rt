@@ -20,8 +20,8 @@ use zio_script::Failmode;
 use zio_stages::{RequestNode, Whole, WholeBack};
 use zio_turns::Move;
 
-/// A tree of requests, of whose attempt nothing is done. It is split only once it runs, so that it can be handed out where there is
-/// no memory.
+/// A tree of requests, of whose attempt nothing is done. It is split only once it runs, so that it can be handed out
+/// where there is no memory.
 #[derive(Drop)]
 pub struct TreeAt {
     pub(crate) whole: Whole,
@@ -34,7 +34,8 @@ impl TreeAt {
     /// The attempt of this number of the tree in this round.
     pub fn new(whole: Whole, round: u32, attempt: u32, failmode: Failmode) -> TreeAt
         requires { attempt < 4 }
-        ensures fresh { (t : Terms) (p : Pending) (forest : Forest) → t.round ≡ round → t.failmode ≡ failmode → IsTreeOf whole p forest →
+        ensures fresh { (t : Terms) (p : Pending) (forest : Forest) → t.round ≡ round → t.failmode ≡ failmode →
+            IsTreeOf whole p forest →
             IsTreeAt t result (fresh_stack (Attempt attempt p forest)) }
         ensures over { (tops : Seq SeenTop) → IsTreeOver tops whole → IsTreeAtOver tops result }
         ensures whole { result.whole ≡ whole }
@@ -50,7 +51,8 @@ impl TreeAt {
     /// Splits the tree into its request and its children's trees. Where memory is refused it comes back as it was.
     pub fn run_stage(self, alloc: Global) -> Result<Move<Node>, Node>
         ensures moves { (tops : Seq SeenTop) → IfOk result (MovesBare tops (Node.Tree self)) }
-        ensures over { (tops : Seq SeenTop) → IsTreeAtOver tops self → IfOk result (EachIn (IsNodeOver tops) (IsTreeOver tops)) }
+        ensures over { (tops : Seq SeenTop) → IsTreeAtOver tops self
+            → IfOk result (EachIn (IsNodeOver tops) (IsTreeOver tops)) }
         ensures valid { IfOk result TellsValid }
         ensures left { IfOk result (Lessens left_of (Node.Tree self)) }
         ensures starts { IfOk result IsStart }

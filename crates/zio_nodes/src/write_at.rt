@@ -1,7 +1,8 @@
 //! A write in an attempt, from stage to stage behind Start.
 //!
-//! Its content begins with its children's pointers, so it waits for these before it asks for places. Its block is written as a gang's
-//! member is; where the request fails or goes again the places of that block go back before the attempt closes.
+//! Its content begins with its children's pointers, so it waits for these before it asks for places. Its block is
+//! written as a gang's member is; where the request fails or goes again the places of that block go back before the
+//! attempt closes.
 
 ghost use Rattle.std.specs.Prelude.{◌≡◌, ◌≢◌, IfErr, IfOk, List as Seq, false, true, OnErr};
 ghost use Rattle.zio_types.specs.declared.place.Top.{Top as SeenTop};
@@ -35,14 +36,20 @@ impl RequestAt {
         requires kind { kind_of self.old.node.waiting.request.work ≡ Kind.Write }
         requires behind { self.old.stage ≢ Stage.Start }
         requires before { self.old.stage ≢ Stage.Done }
-        ensures moves { IfOk result (λ turn. MovesWith S.made (S.tops services.old) services.old services.new (Node.Request self.old) (moved (Node.Request self.new) turn)) }
-        ensures over { IfOk result (λ turn. EachIn (IsNodeOver (S.tops services.old)) (IsTreeOver (S.tops services.old)) (moved (Node.Request self.new) turn)) }
+        ensures moves { IfOk result (λ turn. MovesWith S.made (S.tops services.old) services.old services.new
+            (Node.Request self.old) (moved (Node.Request self.new) turn)) }
+        ensures over { IfOk result (λ turn. EachIn (IsNodeOver (S.tops services.old)) (IsTreeOver (S.tops services.old))
+            (moved (Node.Request self.new) turn)) }
         ensures valid { IfOk result (λ turn. TellsValid (moved (Node.Request self.new) turn)) }
-        ensures left { IfOk result (λ turn. Lessens left_of (Node.Request self.old) (moved (Node.Request self.new) turn)) }
-        ensures refused { OnErr result (StaysWith S.made (S.tops services.old) services.old services.new (Node.Request self.old) (Node.Request self.new)) }
+        ensures left { IfOk result
+            (λ turn. Lessens left_of (Node.Request self.old) (moved (Node.Request self.new) turn)) }
+        ensures refused { OnErr result (StaysWith S.made (S.tops services.old) services.old services.new
+            (Node.Request self.old) (Node.Request self.new)) }
         ensures tops { S.tops services.new ≡ S.tops services.old }
-        ensures stages { IfOk result (λ turn. IsStageMove (Node.Request self.old) (moved (Node.Request self.new) turn)) }
-        ensures pass { IfOk result (λ turn. KeepsPassAt self.old.stage (Node.Request self.old) (moved (Node.Request self.new) turn)) }
+        ensures stages { IfOk result
+            (λ turn. IsStageMove (Node.Request self.old) (moved (Node.Request self.new) turn)) }
+        ensures pass { IfOk result
+            (λ turn. KeepsPassAt self.old.stage (Node.Request self.old) (moved (Node.Request self.new) turn)) }
     {
         match self.stage {
             Stage::WriteBpInit => Ok(self.write_bp_init()),
@@ -63,8 +70,10 @@ impl RequestAt {
         requires over { (tops : Seq SeenTop) × IsRequestAtOver tops self.old }
         requires kind { kind_of self.old.node.waiting.request.work ≡ Kind.Write }
         requires stage { self.old.stage ≡ Stage.WriteBpInit }
-        ensures moves { (tops : Seq SeenTop) → MovesBare tops (Node.Request self.old) (moved (Node.Request self.new) result) }
-        ensures over { (tops : Seq SeenTop) → IsRequestAtOver tops self.old → EachIn (IsNodeOver tops) (IsTreeOver tops) (moved (Node.Request self.new) result) }
+        ensures moves { (tops : Seq SeenTop)
+            → MovesBare tops (Node.Request self.old) (moved (Node.Request self.new) result) }
+        ensures over { (tops : Seq SeenTop) → IsRequestAtOver tops self.old
+            → EachIn (IsNodeOver tops) (IsTreeOver tops) (moved (Node.Request self.new) result) }
         ensures valid { TellsValid (moved (Node.Request self.new) result) }
         ensures left { Lessens left_of (Node.Request self.old) (moved (Node.Request self.new) result) }
         ensures stages { IsStageMove (Node.Request self.old) (moved (Node.Request self.new) result) }
@@ -78,8 +87,10 @@ impl RequestAt {
         requires over { (tops : Seq SeenTop) × IsRequestAtOver tops self.old }
         requires kind { kind_of self.old.node.waiting.request.work ≡ Kind.Write }
         requires stage { self.old.stage ≡ Stage.IssueAsync }
-        ensures moves { (tops : Seq SeenTop) → MovesBare tops (Node.Request self.old) (moved (Node.Request self.new) result) }
-        ensures over { (tops : Seq SeenTop) → IsRequestAtOver tops self.old → EachIn (IsNodeOver tops) (IsTreeOver tops) (moved (Node.Request self.new) result) }
+        ensures moves { (tops : Seq SeenTop)
+            → MovesBare tops (Node.Request self.old) (moved (Node.Request self.new) result) }
+        ensures over { (tops : Seq SeenTop) → IsRequestAtOver tops self.old
+            → EachIn (IsNodeOver tops) (IsTreeOver tops) (moved (Node.Request self.new) result) }
         ensures valid { TellsValid (moved (Node.Request self.new) result) }
         ensures left { Lessens left_of (Node.Request self.old) (moved (Node.Request self.new) result) }
         ensures stages { IsStageMove (Node.Request self.old) (moved (Node.Request self.new) result) }
@@ -93,12 +104,17 @@ impl RequestAt {
         requires over { (tops : Seq SeenTop) × IsRequestAtOver tops self.old }
         requires kind { kind_of self.old.node.waiting.request.work ≡ Kind.Write }
         requires stage { self.old.stage ≡ Stage.WriteCompress }
-        ensures moves { (tops : Seq SeenTop) → IfOk result (λ turn. MovesBare tops (Node.Request self.old) (moved (Node.Request self.new) turn)) }
-        ensures over { (tops : Seq SeenTop) → IsRequestAtOver tops self.old → IfOk result (λ turn. EachIn (IsNodeOver tops) (IsTreeOver tops) (moved (Node.Request self.new) turn)) }
+        ensures moves { (tops : Seq SeenTop)
+            → IfOk result (λ turn. MovesBare tops (Node.Request self.old) (moved (Node.Request self.new) turn)) }
+        ensures over { (tops : Seq SeenTop) → IsRequestAtOver tops self.old
+            → IfOk result (λ turn. EachIn (IsNodeOver tops) (IsTreeOver tops) (moved (Node.Request self.new) turn)) }
         ensures valid { IfOk result (λ turn. TellsValid (moved (Node.Request self.new) turn)) }
-        ensures left { IfOk result (λ turn. Lessens left_of (Node.Request self.old) (moved (Node.Request self.new) turn)) }
-        ensures refused { (tops : Seq SeenTop) → OnErr result (StaysBare tops (Node.Request self.old) (Node.Request self.new)) }
-        ensures stages { IfOk result (λ turn. IsStageMove (Node.Request self.old) (moved (Node.Request self.new) turn)) }
+        ensures left { IfOk result
+            (λ turn. Lessens left_of (Node.Request self.old) (moved (Node.Request self.new) turn)) }
+        ensures refused { (tops : Seq SeenTop)
+            → OnErr result (StaysBare tops (Node.Request self.old) (Node.Request self.new)) }
+        ensures stages { IfOk result
+            (λ turn. IsStageMove (Node.Request self.old) (moved (Node.Request self.new) turn)) }
     {
         match self.node.write_compress(alloc) {
             Ok(Content::Wait(kind)) => { Ok(Turn::Wait(kind, Phase::Ready)) }
@@ -115,8 +131,10 @@ impl RequestAt {
         requires over { (tops : Seq SeenTop) × IsRequestAtOver tops self.old }
         requires kind { kind_of self.old.node.waiting.request.work ≡ Kind.Write }
         requires stage { self.old.stage ≡ Stage.ChecksumGenerate }
-        ensures moves { (tops : Seq SeenTop) → MovesBare tops (Node.Request self.old) (moved (Node.Request self.new) result) }
-        ensures over { (tops : Seq SeenTop) → IsRequestAtOver tops self.old → EachIn (IsNodeOver tops) (IsTreeOver tops) (moved (Node.Request self.new) result) }
+        ensures moves { (tops : Seq SeenTop)
+            → MovesBare tops (Node.Request self.old) (moved (Node.Request self.new) result) }
+        ensures over { (tops : Seq SeenTop) → IsRequestAtOver tops self.old
+            → EachIn (IsNodeOver tops) (IsTreeOver tops) (moved (Node.Request self.new) result) }
         ensures valid { TellsValid (moved (Node.Request self.new) result) }
         ensures left { Lessens left_of (Node.Request self.old) (moved (Node.Request self.new) result) }
         ensures stages { IsStageMove (Node.Request self.old) (moved (Node.Request self.new) result) }
@@ -125,8 +143,8 @@ impl RequestAt {
         Turn::Next
     }
 
-    /// Asks for its block's places, for a header's where these are refused, and hands out the gang's members one by one. Where memory
-    /// is refused it comes back, and what was done before stays.
+    /// Asks for its block's places, for a header's where these are refused, and hands out the gang's members one by
+    /// one. Where memory is refused it comes back, and what was done before stays.
     fn dva_allocate<S: Services>(
         &mut self,
         alloc: Global,
@@ -135,13 +153,18 @@ impl RequestAt {
         requires over { IsRequestAtOver (S.tops services.old) self.old }
         requires kind { kind_of self.old.node.waiting.request.work ≡ Kind.Write }
         requires stage { self.old.stage ≡ Stage.DvaAllocate }
-        ensures moves { IfOk result (λ turn. MovesWith S.made (S.tops services.old) services.old services.new (Node.Request self.old) (moved (Node.Request self.new) turn)) }
-        ensures over { IfOk result (λ turn. EachIn (IsNodeOver (S.tops services.old)) (IsTreeOver (S.tops services.old)) (moved (Node.Request self.new) turn)) }
+        ensures moves { IfOk result (λ turn. MovesWith S.made (S.tops services.old) services.old services.new
+            (Node.Request self.old) (moved (Node.Request self.new) turn)) }
+        ensures over { IfOk result (λ turn. EachIn (IsNodeOver (S.tops services.old)) (IsTreeOver (S.tops services.old))
+            (moved (Node.Request self.new) turn)) }
         ensures valid { IfOk result (λ turn. TellsValid (moved (Node.Request self.new) turn)) }
-        ensures left { IfOk result (λ turn. Lessens left_of (Node.Request self.old) (moved (Node.Request self.new) turn)) }
-        ensures refused { OnErr result (StaysWith S.made (S.tops services.old) services.old services.new (Node.Request self.old) (Node.Request self.new)) }
+        ensures left { IfOk result
+            (λ turn. Lessens left_of (Node.Request self.old) (moved (Node.Request self.new) turn)) }
+        ensures refused { OnErr result (StaysWith S.made (S.tops services.old) services.old services.new
+            (Node.Request self.old) (Node.Request self.new)) }
         ensures tops { S.tops services.new ≡ S.tops services.old }
-        ensures stages { IfOk result (λ turn. IsStageMove (Node.Request self.old) (moved (Node.Request self.new) turn)) }
+        ensures stages { IfOk result
+            (λ turn. IsStageMove (Node.Request self.old) (moved (Node.Request self.new) turn)) }
     {
         let mut room = new_room(alloc)?;
         match self.node.dva_allocate(alloc, services) {
@@ -163,8 +186,10 @@ impl RequestAt {
         requires over { (tops : Seq SeenTop) × IsRequestAtOver tops self.old }
         requires kind { kind_of self.old.node.waiting.request.work ≡ Kind.Write }
         requires stage { self.old.stage ≡ Stage.Ready }
-        ensures moves { (tops : Seq SeenTop) → MovesBare tops (Node.Request self.old) (moved (Node.Request self.new) result) }
-        ensures over { (tops : Seq SeenTop) → IsRequestAtOver tops self.old → EachIn (IsNodeOver tops) (IsTreeOver tops) (moved (Node.Request self.new) result) }
+        ensures moves { (tops : Seq SeenTop)
+            → MovesBare tops (Node.Request self.old) (moved (Node.Request self.new) result) }
+        ensures over { (tops : Seq SeenTop) → IsRequestAtOver tops self.old
+            → EachIn (IsNodeOver tops) (IsTreeOver tops) (moved (Node.Request self.new) result) }
         ensures valid { TellsValid (moved (Node.Request self.new) result) }
         ensures left { Lessens left_of (Node.Request self.old) (moved (Node.Request self.new) result) }
         ensures stages { IsStageMove (Node.Request self.old) (moved (Node.Request self.new) result) }
@@ -179,18 +204,24 @@ impl RequestAt {
         }
     }
 
-    /// Hands the next operation on a leaf to a child, or goes on where none is due now. Where memory is refused it comes back.
+    /// Hands the next operation on a leaf to a child, or goes on where none is due now. Where memory is refused it
+    /// comes back.
     fn write_io_start(&mut self, alloc: Global, tops: &[Top]) -> Result<Turn, NoMemory>
         requires over { IsRequestAtOver tops.now self.old }
         requires kind { kind_of self.old.node.waiting.request.work ≡ Kind.Write }
         requires stage { self.old.stage ≡ Stage.VdevIoStart }
-        ensures moves { IfOk result (λ turn. MovesBare tops.now (Node.Request self.old) (moved (Node.Request self.new) turn)) }
-        ensures over { IfOk result (λ turn. EachIn (IsNodeOver tops.now) (IsTreeOver tops.now) (moved (Node.Request self.new) turn)) }
+        ensures moves { IfOk result
+            (λ turn. MovesBare tops.now (Node.Request self.old) (moved (Node.Request self.new) turn)) }
+        ensures over { IfOk result
+            (λ turn. EachIn (IsNodeOver tops.now) (IsTreeOver tops.now) (moved (Node.Request self.new) turn)) }
         ensures valid { IfOk result (λ turn. TellsValid (moved (Node.Request self.new) turn)) }
-        ensures left { IfOk result (λ turn. Lessens left_of (Node.Request self.old) (moved (Node.Request self.new) turn)) }
+        ensures left { IfOk result
+            (λ turn. Lessens left_of (Node.Request self.old) (moved (Node.Request self.new) turn)) }
         ensures refused { OnErr result (StaysBare tops.now (Node.Request self.old) (Node.Request self.new)) }
-        ensures stages { IfOk result (λ turn. IsStageMove (Node.Request self.old) (moved (Node.Request self.new) turn)) }
-        ensures pass { IfOk result (λ turn. KeepsPassAt self.old.stage (Node.Request self.old) (moved (Node.Request self.new) turn)) }
+        ensures stages { IfOk result
+            (λ turn. IsStageMove (Node.Request self.old) (moved (Node.Request self.new) turn)) }
+        ensures pass { IfOk result
+            (λ turn. KeepsPassAt self.old.stage (Node.Request self.old) (moved (Node.Request self.new) turn)) }
     {
         let mut room = new_room(alloc)?;
         match self.node.vdev_io_start_write(alloc, tops) {
@@ -256,8 +287,8 @@ impl RequestAt {
         Turn::Next
     }
 
-    /// Waits for its members and its children, and ends with what its block came to. Where memory is refused it comes back, and what it
-    /// came to stays.
+    /// Waits for its members and its children, and ends with what its block came to. Where memory is refused it comes
+    /// back, and what it came to stays.
     #[inline(never)]
     pub(crate) fn write_done<S: Services>(
         self,
@@ -267,12 +298,14 @@ impl RequestAt {
         requires over { IsRequestAtOver (S.tops services.old) self }
         requires kind { kind_of self.node.waiting.request.work ≡ Kind.Write }
         requires stage { self.stage ≡ Stage.Done }
-        ensures moves { IfOk result (MovesWith S.made (S.tops services.old) services.old services.new (Node.Request self)) }
+        ensures moves { IfOk result (MovesWith S.made (S.tops services.old) services.old services.new
+            (Node.Request self)) }
         ensures over { IfOk result (EachIn (IsNodeOver (S.tops services.old)) (IsTreeOver (S.tops services.old))) }
         ensures valid { IfOk result TellsValid }
         ensures last { IfOk result IsLastMove }
         ensures left { IfOk result (Lessens left_of (Node.Request self)) }
-        ensures refused { IfErr result (StaysWith S.made (S.tops services.old) services.old services.new (Node.Request self)) }
+        ensures refused { IfErr result (StaysWith S.made (S.tops services.old) services.old services.new
+            (Node.Request self)) }
         ensures tops { S.tops services.new ≡ S.tops services.old }
     {
         if self.node.is_stored() {
@@ -289,19 +322,21 @@ impl RequestAt {
         }
     }
 
-    /// Gives the places of its block back where it is to lose that, and ends. Where memory is refused it comes back, and the places that
-    /// went back are told.
+    /// Gives the places of its block back where it is to lose that, and ends. Where memory is refused it comes back,
+    /// and the places that went back are told.
     fn write_end<S: Services>(self, alloc: Global, services: &mut S) -> Result<Move<Node>, Node>
         requires over { IsRequestAtOver (S.tops services.old) self }
         requires kind { kind_of self.node.waiting.request.work ≡ Kind.Write }
         requires stage { self.stage ≡ Stage.Done }
         requires stored { is_stored self.node.own ≡ true }
-        ensures moves { IfOk result (MovesWith S.made (S.tops services.old) services.old services.new (Node.Request self)) }
+        ensures moves { IfOk result (MovesWith S.made (S.tops services.old) services.old services.new
+            (Node.Request self)) }
         ensures over { IfOk result (EachIn (IsNodeOver (S.tops services.old)) (IsTreeOver (S.tops services.old))) }
         ensures valid { IfOk result TellsValid }
         ensures ends { IfOk result IsEndMove }
         ensures left { IfOk result (Lessens left_of (Node.Request self)) }
-        ensures refused { IfErr result (StaysWith S.made (S.tops services.old) services.old services.new (Node.Request self)) }
+        ensures refused { IfErr result (StaysWith S.made (S.tops services.old) services.old services.new
+            (Node.Request self)) }
         ensures tops { S.tops services.new ≡ S.tops services.old }
     {
         let mut at = self;

@@ -49,7 +49,8 @@ impl RequestAt {
         requires own { IsOwnOutcome outcome }
         requires kind { kind_of self.old.node.waiting.request.work ≡ Kind.Write }
         ensures heard { (t : Terms) (st : Stack) (c : Child) (op : Task) (v : Value) →
-            Hears nodes tops.now t (Node.Request self.old) st child c op outcome v → IsRequestNode t self.new.node (heard_of st child c v) }
+            Hears nodes tops.now t (Node.Request self.old) st child c op outcome v
+            → IsRequestNode t self.new.node (heard_of st child c v) }
         ensures stage { self.new.stage ≡ self.old.stage }
         ensures pass { IsInPassOf (Node.Request self.old) (Node.Request self.new) }
         ensures gave { gave_of (Node.Request self.new) ≡ gave_of (Node.Request self.old) }

@@ -103,8 +103,8 @@ impl MeetGate {
         self.met.load(Ordering::SeqCst)
     }
 
-    /// Holds the one operation up for the other. Whoever comes second finds the first waiting, whatever the interleaving:
-    /// each tells of itself before it looks for the other.
+    /// Holds the one operation up for the other. Whoever comes second finds the first waiting, whatever the
+    /// interleaving: each tells of itself before it looks for the other.
     fn wait(&self, mine: &Side, other: &Side) {
         mine.enter();
         if other.is_waiting() {

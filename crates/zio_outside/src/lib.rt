@@ -1,10 +1,10 @@
-//! What a run reads, writes and stores its blocks on: sources, sinks, disks, and shelves of disks; and the gate that its
-//! leaf operations pass.
+//! What a run reads, writes and stores its blocks on: sources, sinks, disks, and shelves of disks; and the gate that
+//! its leaf operations pass.
 //!
 //! It stands on `zio_types`. Read `Disk` first: its contract names the disk's image by a relation that holds where the
-//! disk tells it. The objects in memory, as `MemDisk`, tell all, and fail where they are told to. Those over the system,
-//! as `FileDisk`, tell nothing. `specs/Outside` has the words of the traits' contracts, `specs/Crash` those of what a
-//! crash leaves, `specs/Memory` and `specs/MemoryShelf` what a clause sees of the objects in memory.
+//! disk tells it. The objects in memory, as `MemDisk`, tell all, and fail where they are told to. Those over the
+//! system, as `FileDisk`, tell nothing. `specs/Outside` has the words of the traits' contracts, `specs/Crash` those of
+//! what a crash leaves, `specs/Memory` and `specs/MemoryShelf` what a clause sees of the objects in memory.
 #![tactic(auto)]
 
 mod calls;

@@ -23,7 +23,8 @@ pub struct MemDisk {
 impl MemDisk {
     ghost use Rattle.zio_outside.specs.Memory.{disk_image, disk_faults, disk_faults_at_fetch, disk_home, disk_fails, disk_calls, disk_reads, disk_writes, IsSameButCalls};
 
-    /// A disk with this image, of its size, without a fault and without a home. Its reads and writes with the numbers in
+    /// A disk with this image, of its size, without a fault and without a home. Its reads and writes with the numbers
+    /// in
     /// `fails`, counted together from 0, fail.
     pub fn new(image: Bytes, fails: List<u64>) -> MemDisk
         ensures image { disk_image result ≡ image }

@@ -214,8 +214,8 @@ impl<D: ShelfDisk> Shelf for MemShelf<D> {
 
     ghost sound = { IsSoundShelfOf D.sound };
 
-    /// Hands the disk of this name out. A fetch that is listed, and one of a name under which no disk was put, raises the
-    /// count of faults by one and leaves what the shelf has. Where memory is refused nothing changes.
+    /// Hands the disk of this name out. A fetch that is listed, and one of a name under which no disk was put, raises
+    /// the count of faults by one and leaves what the shelf has. Where memory is refused nothing changes.
     fn fetch(&mut self, name: &str) -> Result<D, FetchFault>
         requires { ¬ out_of (shelf_slot self.old) name.now }
         ensures ok { OnOk result ((shelf_faults self.new ≡ shelf_faults self.old)

@@ -110,7 +110,8 @@ pub trait Shelf {
     ghost one_kept: { (shelf : Self) (name a b : List ℕ) (xs ys : List Written) →
         keeps shelf name a xs → keeps shelf name b ys → (a ≡ b) × (xs ≡ ys) };
 
-    /// The counts of a shelf that is sound for a name aren't at their last values. So a fetch of it answers no `Failed`.
+    /// The counts of a shelf that is sound for a name aren't at their last values. So a fetch of it answers no
+    /// `Failed`.
     ghost sound_counts: { (shelf : Self) (name : List ℕ) → sound shelf name →
         (faults shelf < count_max) × (disk_faults shelf < count_max) };
 }

@@ -71,8 +71,8 @@ impl Joined {
     }
 }
 
-/// What was read of these bodies, joined, or the worst of their errors. The bytes of a body that is alone are moved. Where
-/// memory is refused the results come back.
+/// What was read of these bodies, joined, or the worst of their errors. The bytes of a body that is alone are moved.
+/// Where memory is refused the results come back.
 pub(crate) fn join(
     alloc: Global,
     results: Vec<Option<Result<Bytes, Errno>>>,

@@ -73,8 +73,8 @@ impl Gathered {
     }
 }
 
-/// How much the walks below the members left, and a header. More than can be counted counts as the most: no vector has room
-/// for so much, and memory for it is refused.
+/// How much the walks below the members left, and a header. More than can be counted counts as the most: no vector has
+/// room for so much, and memory for it is refused.
 fn room_for(members: &[Option<Walked>]) -> Counts
     ensures { IsRoomFor (joined members.now) result }
 {

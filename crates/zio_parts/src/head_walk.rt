@@ -56,8 +56,8 @@ pub enum WalkStep {
     End,
 }
 
-/// The walk over headers from a pointer down, under way: the header's read, and then the walks below the members that it
-/// names, all together.
+/// The walk over headers from a pointer down, under way: the header's read, and then the walks below the members that
+/// it names, all together.
 #[derive(Debug, Drop)]
 pub struct HeadWalk {
     claim: bool,
@@ -83,7 +83,15 @@ impl Model for HeadWalk {
 
     ghost Value = { Walking };
 
-    ghost view = { λ x. record { claim = x.claim; levels = x.levels; path = x.path; bp = x.bp; judged = x.judged; header = x.header; members = take x.handed x.left } };
+    ghost view = { λ x. record {
+      claim = x.claim;
+      levels = x.levels;
+      path = x.path;
+      bp = x.bp;
+      judged = x.judged;
+      header = x.header;
+      members = take x.handed x.left;
+    } };
 
     ghost invariant = { λ x. WalkFields x.levels x.path x.bp x.judged x.header x.members x.handed x.left };
 }
@@ -93,7 +101,8 @@ impl HeadWalk {
     pub fn kept(alloc: Global, levels: u32, path: Path, bp: Bp) -> HeadWalk
         requires depth { length path + levels ≤ LEVELS_MAX }
         ensures fresh { result ≡ fresh_walk false levels path bp None }
-        ensures left { (t : Terms) (heads : Seq Head) → left_of_walk heads result ≡ plan t (ReadHeads (ByKept heads) levels path bp) }
+        ensures left { (t : Terms) (heads : Seq Head)
+            → left_of_walk heads result ≡ plan t (ReadHeads (ByKept heads) levels path bp) }
     {
         HeadWalk::fresh(alloc, false, levels, path, bp, None)
     }
@@ -102,10 +111,12 @@ impl HeadWalk {
     pub fn claimed(alloc: Global, tops: &[Top], levels: u32, path: Path, bp: Bp) -> HeadWalk
         requires depth { length path + levels ≤ LEVELS_MAX }
         requires valid { IsTrue (valid bp) }
-        ensures left { (t : Terms) (heads : Seq Head) → t.setting.tops ≡ tops.now → left_of_walk heads result ≡ plan t (ReadHeads ByClaim levels path bp) }
+        ensures left { (t : Terms) (heads : Seq Head) → t.setting.tops ≡ tops.now
+            → left_of_walk heads result ≡ plan t (ReadHeads ByClaim levels path bp) }
         ensures none { slots_of result ≡ [] }
         ensures fresh { result ≡ fresh_walk true levels path bp result.judged }
-        ensures judged { result.judged ≡ inval_unless (list_all (is_claimable (sizes_of tops.now) (piece_size bp)) (places_of bp)) }
+        ensures judged { result.judged
+            ≡ inval_unless (list_all (is_claimable (sizes_of tops.now) (piece_size bp)) (places_of bp)) }
     {
         let judged = if is_fitting(tops, &bp) {
             None
@@ -233,7 +244,8 @@ impl HeadWalk {
         requires { self.old.header ≡ Header.Out }
         ensures heard { OnOk result (self.new ≡ with_header self.old (header_by found)) }
         ensures slots { OnOk result (slots_of self.new ≡ slice_set (slots_of self.old) 0 (Heard (Got found))) }
-        ensures left { OnOk result ((heads : Seq Head) → left_of_walk heads self.new ≡ answered_at 0 (Got found) (left_of_walk heads self.old)) }
+        ensures left { OnOk result ((heads : Seq Head)
+            → left_of_walk heads self.new ≡ answered_at 0 (Got found) (left_of_walk heads self.old)) }
         ensures err { OnErr result (self.new ≡ self.old) }
     {
         match found {
@@ -251,7 +263,9 @@ impl HeadWalk {
         requires { slice_get self.old.members n ≡ Some None }
         ensures heard { self.new ≡ with_members self.old (slice_set self.old.members n (Some walked)) }
         ensures slots { slots_of self.new ≡ slice_set (slots_of self.old) (n + 1) (Heard (WalkedBy walked)) }
-        ensures left { (heads : Seq Head) → left_of_walk heads self.new ≡ answered_at (outs_before (n + 1) (slots_of self.old)) (WalkedBy walked) (left_of_walk heads self.old) }
+        ensures left { (heads : Seq Head)
+            → left_of_walk heads self.new ≡ answered_at (outs_before (n + 1) (slots_of self.old)) (WalkedBy walked)
+            (left_of_walk heads self.old) }
     {
         let left = &mut self.left;
         left[n] = Some(walked);

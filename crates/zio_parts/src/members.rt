@@ -212,7 +212,8 @@ pub(crate) fn member_range(size: u32, n: usize) -> Range<usize>
     requires whole { size % 512 ≡ 0 }
     requires most { size ≤ BLOCK_SIZE_MAX }
     requires member { n < length (split_sizes size) }
-    ensures bytes { (bytes : List ℕ) → length bytes ≡ size → member_bytes bytes n ≡ take (result.end - result.start) (drop result.start bytes) }
+    ensures bytes { (bytes : List ℕ) → length bytes ≡ size
+        → member_bytes bytes n ≡ take (result.end - result.start) (drop result.start bytes) }
     ensures order { result.start < result.end }
     ensures within { result.end ≤ size }
     ensures sectors { (result.end - result.start) % 512 ≡ 0 }

@@ -32,8 +32,8 @@ use zio_cksum::sum;
 use zio_gang::{Head, header_encode};
 use zio_types::{COPIES_MAX, Errno, List, NoMemory, Path, Place, Role, SECTOR_SIZE, worst};
 
-/// The write of a part of a block under way: whole where places were found for it, and else as a gang, whose members are
-/// handed out together, and whose header is written once each of them told its pointer.
+/// The write of a part of a block under way: whole where places were found for it, and else as a gang, whose members
+/// are handed out together, and whose header is written once each of them told its pointer.
 #[derive(Debug, Drop)]
 pub struct PartWrite {
     write: BlockWrite,
@@ -56,11 +56,27 @@ impl Model for PartWrite {
 
     ghost Value = { PartWriting };
 
-    ghost view = { λ x. record { write = x.write; path = x.path; size = x.size; words = x.words; placing = x.placing; members = take x.handed x.members; own = x.own } };
+    ghost view = { λ x. record {
+      write = x.write;
+      path = x.path;
+      size = x.size;
+      words = x.words;
+      placing = x.placing;
+      members = take x.handed x.members;
+      own = x.own;
+    } };
 
     ghost invariant = { λ x. record {
       filled : IsFilled Out 3 x.handed x.members;
-      is : IsPartWriting (record { write = x.write; path = x.path; size = x.size; words = x.words; placing = x.placing; members = take x.handed x.members; own = x.own });
+      is : IsPartWriting (record {
+        write = x.write;
+        path = x.path;
+        size = x.size;
+        words = x.words;
+        placing = x.placing;
+        members = take x.handed x.members;
+        own = x.own;
+      });
     } };
 }
 
@@ -71,7 +87,8 @@ pub struct PartBack {
 }
 
 impl PartWrite {
-    /// Nothing of it is asked. The bytes are whole sectors, no more than so many levels of headers below the path can hold.
+    /// Nothing of it is asked. The bytes are whole sectors, no more than so many levels of headers below the path can
+    /// hold.
     pub fn new(write: BlockWrite, path: Path, bytes: &[u8]) -> PartWrite
         requires some { 0 < length bytes.now }
         requires whole { length bytes.now % 512 ≡ 0 }
@@ -99,7 +116,8 @@ impl PartWrite {
     /// What is to be done next.
     pub fn next(&self) -> PartStep
         ensures step { result ≡ step_of self.now }
-        ensures shows { (s : Setting) (member : List ℕ → List ℕ → Task) (bytes : List ℕ) → IsOfBytes self.now bytes → ShowsPart s member bytes self.now result }
+        ensures shows { (s : Setting) (member : List ℕ → List ℕ → Task) (bytes : List ℕ) → IsOfBytes self.now bytes
+            → ShowsPart s member bytes self.now result }
         ensures due { (n : ℕ) → result ≡ PartStep.Member n → self.now.own ≡ OwnWrite.Due }
         ensures written { is_due self.now.own ≡ false → IsLast result }
     {
@@ -139,7 +157,8 @@ impl PartWrite {
 
     /// The ask for the part's bytes.
     pub fn body_ask(&self) -> PlaceAsk
-        ensures ask { (s : Setting) (bytes : List ℕ) → length bytes ≡ self.now.size → ask_by result ≡ body_ask (writing_by s self.now.write) self.now.path bytes }
+        ensures ask { (s : Setting) (bytes : List ℕ) → length bytes ≡ self.now.size
+            → ask_by result ≡ body_ask (writing_by s self.now.write) self.now.path bytes }
         ensures some { 0 < result.size }
         ensures whole { result.size % 512 ≡ 0 }
         ensures size { result.size ≡ self.now.size }
@@ -204,7 +223,8 @@ impl PartWrite {
     pub fn member_range(&self, n: usize) -> Range<usize>
         requires gang { is_gang self.now.placing ≡ true }
         requires member { n < member_count self.now }
-        ensures bytes { (bytes : List ℕ) → length bytes ≡ self.now.size → member_bytes bytes n ≡ take (result.end - result.start) (drop result.start bytes) }
+        ensures bytes { (bytes : List ℕ) → length bytes ≡ self.now.size
+            → member_bytes bytes n ≡ take (result.end - result.start) (drop result.start bytes) }
         ensures some { result.start < result.end }
         ensures within { result.end ≤ self.now.size }
         ensures whole { (result.end - result.start) % 512 ≡ 0 }
@@ -242,7 +262,8 @@ impl PartWrite {
     pub fn pointer(&self) -> Option<Bp>
         ensures stored { result ≡ (stored_by self.now).pointer }
         ensures valid { IfSome result (λ bp. IsTrue (valid bp)) }
-        ensures early { is_ready self.now ≡ true → (s : Setting) (member : List ℕ → List ℕ → Task) (bytes : List ℕ) → IsOfBytes self.now bytes →
+        ensures early { is_ready self.now ≡ true → (s : Setting) (member : List ℕ → List ℕ → Task) (bytes : List ℕ) →
+            IsOfBytes self.now bytes →
             EndsAlways (λ (v : Value). early v ≡ result) (left_of_part s member bytes self.now) }
     {
         match &self.placing {
@@ -267,7 +288,8 @@ impl PartWrite {
     /// The places that were asked for were found, or refused.
     pub fn hear_places(&mut self, places: Option<List<Place>>)
         requires asked { IsAsk (step_of self.old) }
-        requires valid { IfSome places (λ ps. IsTrue (valid (pointer_over self.old (is_head_due self.old.placing) ps))) }
+        requires valid { IfSome places
+            (λ ps. IsTrue (valid (pointer_over self.old (is_head_due self.old.placing) ps))) }
         ensures heard { self.new ≡ places_heard self.old places }
         ensures slots { slots_of self.new ≡ slots_of self.old ++ Heard (Found places) ∷ [] }
         ensures left { (s : Setting) (member : List ℕ → List ℕ → Task) (bytes : List ℕ) →
@@ -316,10 +338,12 @@ impl PartWrite {
         requires out { IsOutWith pointer (slice_get self.old.members n) }
         requires valid { slice_get self.old.members n ≡ Some Member.Out → IfSome pointer (λ bp. IsTrue (valid bp)) }
         ensures heard { self.new ≡ member_heard self.old n error pointer heads }
-        ensures slots { slots_of self.new ≡ slice_set (slots_of self.old) (member_at n) (Heard (StoredAs (record { error = error; pointer = pointer; heads = heads }))) }
+        ensures slots { slots_of self.new ≡ slice_set (slots_of self.old) (member_at n)
+            (Heard (StoredAs (record { error = error; pointer = pointer; heads = heads }))) }
         ensures left { (s : Setting) (member : List ℕ → List ℕ → Task) (bytes : List ℕ) →
             left_of_part s member bytes self.new ≡ answered_at (outs_before (member_at n) (slots_of self.old))
-            (StoredAs (record { error = error; pointer = pointer; heads = heads })) (left_of_part s member bytes self.old) }
+            (StoredAs (record { error = error; pointer = pointer; heads = heads }))
+            (left_of_part s member bytes self.old) }
     {
         let ended = Member::Ended {
             error,

@@ -90,7 +90,13 @@ pub struct StoredPart {
 
 /// What names an ask of this write, for a part at the path.
 pub(crate) fn key_for(write: &BlockWrite, path: Path, role: Role) -> Key
-    ensures { result ≡ record { request = write.now.request; round = write.now.round; attempt = write.now.attempt; path = path; role = role } }
+    ensures { result ≡ record {
+      request = write.now.request;
+      round = write.now.round;
+      attempt = write.now.attempt;
+      path = path;
+      role = role;
+    } }
 {
     Key {
         request: write.request,

@@ -54,7 +54,8 @@ pub enum TreeStep {
 }
 
 /// The read of a block under way: the walk over its headers, and then its bodies in order, at most `BODIES_OUT_MAX`
-/// together. Where a header failed no body is read, and the error is the worst of those that failed, else of the bodies.
+/// together. Where a header failed no body is read, and the error is the worst of those that failed, else of the
+/// bodies.
 #[derive(Debug, Drop)]
 pub struct TreeRead {
     bp: Bp,
@@ -82,7 +83,8 @@ impl TreeRead {
     /// Nothing of it is read. Without memory.
     pub fn new(alloc: Global, bp: Bp) -> TreeRead
         ensures fresh { result ≡ fresh_read bp }
-        ensures left { (t : Terms) (heads : List Head) → left_of_read heads result ≡ plan t (ReadTree (record { bp = bp; heads = heads })) }
+        ensures left { (t : Terms) (heads : List Head)
+            → left_of_read heads result ≡ plan t (ReadTree (record { bp = bp; heads = heads })) }
     {
         TreeRead {
             bp,
@@ -96,7 +98,8 @@ impl TreeRead {
     /// What is to be done next.
     pub fn next(&self) -> TreeStep
         ensures shows { ShowsRead self.now result }
-        ensures body { (body : BodyRead) → result ≡ TreeStep.Body body → slice_get self.now.bodies body.n ≡ Some body.bp }
+        ensures body { (body : BodyRead) → result ≡ TreeStep.Body body
+            → slice_get self.now.bodies body.n ≡ Some body.bp }
     {
         match self.phase {
             Phase::Unread => TreeStep::Walk,
@@ -110,7 +113,8 @@ impl TreeRead {
     fn next_body(&self) -> TreeStep
         requires { self.now.phase ≡ Phase.Found }
         ensures shows { ShowsRead self.now result }
-        ensures body { (body : BodyRead) → result ≡ TreeStep.Body body → slice_get self.now.bodies body.n ≡ Some body.bp }
+        ensures body { (body : BodyRead) → result ≡ TreeStep.Body body
+            → slice_get self.now.bodies body.n ≡ Some body.bp }
     {
         let n = self.results.len();
         if self.out == BODIES_OUT_MAX {
@@ -156,7 +160,8 @@ impl TreeRead {
     /// The read of the body that was handed out last isn't out: all is as before that.
     pub fn take_back_body(&mut self)
         requires { (before : Reading) × (self.old ≡ with_results before (before.results ++ None ∷ [])) }
-        ensures { (before : Reading) → self.old ≡ with_results before (before.results ++ None ∷ []) → self.new ≡ before }
+        ensures { (before : Reading) → self.old ≡ with_results before (before.results ++ None ∷ [])
+            → self.new ≡ before }
     {
         self.results.pop();
         self.out -= 1;
@@ -167,7 +172,8 @@ impl TreeRead {
         requires { self.old.phase ≡ Phase.Out }
         ensures heard { self.new ≡ walk_heard self.old (bodies_or walked) }
         ensures slots { slots_of self.new ≡ [] }
-        ensures left { (heads : List Head) → left_of_read heads self.new ≡ answered_at 0 (WalkedBy walked) (left_of_read heads self.old) }
+        ensures left { (heads : List Head)
+            → left_of_read heads self.new ≡ answered_at 0 (WalkedBy walked) (left_of_read heads self.old) }
     {
         match walked.into_bodies() {
             Ok(bodies) => {
@@ -183,7 +189,9 @@ impl TreeRead {
         requires { slice_get self.old.results n ≡ Some None }
         ensures heard { self.new ≡ with_results self.old (slice_set self.old.results n (Some found)) }
         ensures slots { slots_of self.new ≡ slice_set (slots_of self.old) n (Heard (Got found)) }
-        ensures left { (heads : List Head) → left_of_read heads self.new ≡ answered_at (outs_before n (slots_of self.old)) (Got found) (left_of_read heads self.old) }
+        ensures left { (heads : List Head)
+            → left_of_read heads self.new ≡ answered_at (outs_before n (slots_of self.old)) (Got found)
+            (left_of_read heads self.old) }
     {
         let results = &mut self.results;
         results[n] = Some(found);

@@ -59,9 +59,13 @@ pub(crate) fn attempt<W: OwnWork>(
     requires apart { AreNumberedApart tree }
     requires can { AllByRecursion (λ (w : SeenWaiting). W.can works.old w.block) tree }
     requires claim { has_claim (requests_in tree) ≡ true → length tree ≡ 1 }
-    ensures pass { IfOk result (λ end. (named : Named) → AllByRecursion (λ (w : SeenWaiting). AreNamed named w.request.work w.block) tree → IsPass W.tells W.runs W.fresh W.given (W.moves named) failmode attempt tree end.left end.at_once
+    ensures pass { IfOk result (λ end. (named : Named)
+        → AllByRecursion (λ (w : SeenWaiting). AreNamed named w.request.work w.block) tree
+        → IsPass W.tells W.runs W.fresh W.given (W.moves named) failmode attempt tree end.left end.at_once
         ends.old.finished ends.new.finished ends.old.freed ends.new.freed works.old works.new) }
-    ensures breaks { IfErr result (λ stop. (named : Named) → AllByRecursion (λ (w : SeenWaiting). AreNamed named w.request.work w.block) tree → W.breaks named works.old works.new stop) }
+    ensures breaks { IfErr result (λ stop. (named : Named)
+        → AllByRecursion (λ (w : SeenWaiting). AreNamed named w.request.work w.block) tree
+        → W.breaks named works.old works.new stop) }
 {
     let mut handed = Vec::new(alloc);
     let mut again = List::new(alloc);
@@ -94,8 +98,8 @@ fn goes_at_once(handed: &[Handed]) -> bool
     }
 }
 
-/// A request's part of an attempt: its own work, and then it finishes or goes again. What its children handed on is on top
-/// of what was handed on, and what it hands on takes its place.
+/// A request's part of an attempt: its own work, and then it finishes or goes again. What its children handed on is on
+/// top of what was handed on, and what it hands on takes its place.
 fn attempt_request<W: OwnWork>(
     alloc: Global,
     works: &mut W,
@@ -109,11 +113,16 @@ fn attempt_request<W: OwnWork>(
     requires can { W.can works.old waiting.block }
     requires sound { IsSound IsWholeTree waiting }
     requires enough { waiting.unfinished ≤ vec_len handed.old }
-    requires rising { AreRisingFrom 0 (numbers_in (children_handed (reverse (take waiting.unfinished (reverse handed.old.items))))) }
-    requires pointers { AllByRecursion (λ (h : SeenHanded). HasPointer h.child) (take waiting.unfinished (reverse handed.old.items)) }
-    ensures step { OnOk result ((named : Named) → AreNamed named waiting.request.work waiting.block → IsStep W.tells W.runs W.fresh W.given (W.moves named) failmode attempt waiting (reverse handed.old.items) (reverse handed.new.items)
+    requires rising { AreRisingFrom 0
+        (numbers_in (children_handed (reverse (take waiting.unfinished (reverse handed.old.items))))) }
+    requires pointers { AllByRecursion (λ (h : SeenHanded). HasPointer h.child)
+        (take waiting.unfinished (reverse handed.old.items)) }
+    ensures step { OnOk result ((named : Named) → AreNamed named waiting.request.work waiting.block
+        → IsStep W.tells W.runs W.fresh W.given (W.moves named) failmode attempt waiting (reverse handed.old.items)
+        (reverse handed.new.items)
         again.old again.new ends.old.finished ends.new.finished ends.old.freed ends.new.freed works.old works.new) }
-    ensures breaks { IfErr result (λ stop. (named : Named) → AreNamed named waiting.request.work waiting.block → W.breaks named works.old works.new stop) }
+    ensures breaks { IfErr result (λ stop. (named : Named) → AreNamed named waiting.request.work waiting.block
+        → W.breaks named works.old works.new stop) }
 {
     let children = handed_last(handed, waiting.unfinished)?;
     let OwnDone { end, taken } = do_own(alloc, works, attempt, &waiting, children.as_slice())?;
@@ -146,15 +155,22 @@ fn do_own<W: OwnWork>(
     requires count { length children.now ≡ waiting.now.unfinished }
     requires rising { AreRisingFrom 0 (numbers_in (children_handed children.now)) }
     requires pointers { AllByRecursion (λ (h : SeenHanded). HasPointer h.child) children.now }
-    ensures told { IfOk result (λ done. (t : Terms) → W.runs works.old t → (is_claim (kind_of waiting.now.request.work) ≡ true → W.fresh works.old t)
+    ensures told { IfOk result (λ done. (t : Terms) → W.runs works.old t
+        → (is_claim (kind_of waiting.now.request.work) ≡ true → W.fresh works.old t)
         → (images : Images) → W.tells works.old images → TellsOwn W.tells W.given
         (λ journal. own_work journal t attempt (pending_of waiting.now) waiting.now.request.work
-        (pointers_in (merged (reverse (children_handed children.now)) waiting.now.kept)) images) done.end works.old works.new) }
+        (pointers_in (merged (reverse (children_handed children.now)) waiting.now.kept)) images) done.end works.old
+        works.new) }
     ensures end { IfOk result (λ done. IsOwnEnd waiting.now done.end) }
-    ensures asked { OnOk result (AreAsked (IsFor waiting.now.request.number attempt) (W.given works.old) (W.given works.new)) }
-    ensures moves { IfOk result (λ done. (named : Named) → AreNamed named waiting.now.request.work waiting.now.block → W.moves named works.old works.new done.taken) }
-    ensures made { IfOk result (λ done. done.end.error ≡ None → (named : Named) → AreNamed named waiting.now.request.work waiting.now.block → W.moves named works.old works.new (places_of_block done.end.tree)) }
-    ensures breaks { IfErr result (λ stop. (named : Named) → AreNamed named waiting.now.request.work waiting.now.block → W.breaks named works.old works.new stop) }
+    ensures asked { OnOk result (AreAsked (IsFor waiting.now.request.number attempt) (W.given works.old)
+        (W.given works.new)) }
+    ensures moves { IfOk result (λ done. (named : Named) → AreNamed named waiting.now.request.work waiting.now.block
+        → W.moves named works.old works.new done.taken) }
+    ensures made { IfOk result (λ done. done.end.error ≡ None → (named : Named)
+        → AreNamed named waiting.now.request.work waiting.now.block
+        → W.moves named works.old works.new (places_of_block done.end.tree)) }
+    ensures breaks { IfErr result (λ stop. (named : Named) → AreNamed named waiting.now.request.work waiting.now.block
+        → W.breaks named works.old works.new stop) }
 {
     let new = children_of(alloc, children)?;
     let all = merged(alloc, new.as_slice(), waiting.kept.as_slice())?;
@@ -173,7 +189,8 @@ fn end_request<W: OwnWork>(
     requires taken { (named : Named) × ((before : W) × W.moves named before works.old taken) }
     ensures finished { OnOk result (ends.new.finished ≡ ends.old.finished ++ finished ∷ []) }
     ensures freed { OnOk result (ends.new.freed ≡ ends.old.freed ++ freed_unless finished.error freed) }
-    ensures moves { (named : Named) (before : W) (made : List SeenPlace) → W.moves named before works.old taken → (finished.error ≡ None → W.moves named before works.old made)
+    ensures moves { (named : Named) (before : W) (made : List SeenPlace) → W.moves named before works.old taken
+        → (finished.error ≡ None → W.moves named before works.old made)
         → W.moves named before works.new (made_unless finished.error made) }
     ensures images { (images : Images) → W.tells works.old images → W.tells works.new images }
     ensures given { W.given works.new ≡ W.given works.old }

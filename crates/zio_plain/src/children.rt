@@ -37,7 +37,8 @@ pub(crate) fn children_of(alloc: Global, handed: &[Handed]) -> Result<List<Kept>
 
 /// The children among what was handed on that don't go again.
 pub(crate) fn finished_of(alloc: Global, handed: &[Handed]) -> Result<List<Kept>, NoMemory>
-    ensures { IfOk result (λ children. children ≡ map (λ (h : SeenHanded). h.child) (filter (λ (h : SeenHanded). not (has_bits h.bits)) handed.now)) }
+    ensures { IfOk result (λ children. children
+        ≡ map (λ (h : SeenHanded). h.child) (filter (λ (h : SeenHanded). not (has_bits h.bits)) handed.now)) }
 {
     let mut children = List::new(alloc);
     for one in handed {
@@ -105,7 +106,8 @@ fn add_below<'a>(
     number: u32,
     kept: &'a [Kept],
 ) -> Result<&'a [Kept], NoMemory>
-    ensures { IfOk result (λ rest. (front : List SeenKept) × (all.new ≡ all.old ++ front) × IsSplitAt number kept.now front rest.now) }
+    ensures { IfOk result (λ rest. (front : List SeenKept) × (all.new ≡ all.old ++ front)
+        × IsSplitAt number kept.now front rest.now) }
 {
     let mut rest = kept;
     while let Some((first, more)) = below(rest, number) {

@@ -19,7 +19,8 @@ use zio_types::{Bytes, List, NoMemory};
 pub(crate) fn content_of(alloc: Global, children: &[Kept], body: &Body) -> Result<Bytes, NoMemory>
     requires { AllByRecursion HasPointer children.now }
     ensures content { IfOk result (λ bytes. bytes ≡ content_of (pointers_in children.now) (body_of body.now)) }
-    ensures size { IfOk result (λ bytes. length bytes ≡ rounded_up (body_len body.now + POINTER_SIZE * length children.now)) }
+    ensures size { IfOk result (λ bytes. length bytes
+        ≡ rounded_up (body_len body.now + POINTER_SIZE * length children.now)) }
 {
     let pointers = pointers_in(alloc, children)?;
     let bytes = content(alloc, pointers.as_slice(), body)?;

@@ -44,9 +44,11 @@ impl<D: Disk + Drop, C: Chooser + Drop> OwnWork for Ground<D, C> {
 
     ghost can = { λ g block. CanRun D.bytes (seen C.sizes C.used C.live C.given g) block };
 
-    ghost moves = { λ named a b stay. Moves D.bytes D.faults D.faults_at_fetch D.home D.image D.sound C.lawful named (seen C.sizes C.used C.live C.given a) (seen C.sizes C.used C.live C.given b) stay };
+    ghost moves = { λ named a b stay. Moves D.bytes D.faults D.faults_at_fetch D.home D.image D.sound C.lawful named
+        (seen C.sizes C.used C.live C.given a) (seen C.sizes C.used C.live C.given b) stay };
 
-    ghost breaks = { λ named a b stop. Breaks D.bytes D.faults D.faults_at_fetch D.home D.image D.sound named (seen C.sizes C.used C.live C.given a) (seen C.sizes C.used C.live C.given b) (stop ≡ Device) };
+    ghost breaks = { λ named a b stop. Breaks D.bytes D.faults D.faults_at_fetch D.home D.image D.sound named
+        (seen C.sizes C.used C.live C.given a) (seen C.sizes C.used C.live C.given b) (stop ≡ Device) };
 
     fn own_work(
         &mut self,

@@ -41,8 +41,8 @@ pub(crate) struct Judged {
     pub(crate) unused: Option<Tree>,
 }
 
-/// With bits, its own or its children's, a request goes again and keeps the children that finished. Else it finishes with
-/// the worst of its own error and theirs.
+/// With bits, its own or its children's, a request goes again and keeps the children that finished. Else it finishes
+/// with the worst of its own error and theirs.
 pub(crate) fn judge(
     alloc: Global,
     failmode: Failmode,
@@ -53,10 +53,15 @@ pub(crate) fn judge(
     requires few { length children.now < 65536 }
     requires rising { AreRisingFrom 0 (numbers_in (children_handed children.now)) }
     ensures judged { IfOk result (λ judged. (t : Terms) (asks : List Ask) (images : Images) → t.failmode ≡ failmode →
-        IsJudged judged (judged_own t (pending_of waiting) (map return_of (reverse children.now)) (own_of own asks images))) }
+        IsJudged judged (judged_own t (pending_of waiting) (map return_of (reverse children.now))
+        (own_of own asks images))) }
     ensures again { IfOk result (λ judged. (w : SeenWaiting) → judged.fate ≡ Again w →
-        w ≡ record waiting { kept = merged (reverse (children_handed (done_in children.now))) waiting.kept; unfinished = again_in children.now }) }
-    ensures unused { IfOk result (λ judged. judged.unused ≡ unused_in judged.fate own.tree (freed_block waiting.request.work waiting.block)) }
+        w ≡ record waiting {
+          kept = merged (reverse (children_handed (done_in children.now))) waiting.kept;
+          unfinished = again_in children.now;
+        }) }
+    ensures unused { IfOk result (λ judged. judged.unused
+        ≡ unused_in judged.fate own.tree (freed_block waiting.request.work waiting.block)) }
 {
     let bits = all_bits(
         waiting.request.work.kind(),
@@ -82,8 +87,10 @@ fn goes_again(
     kept: List<Kept>,
     unfinished: u32,
 ) -> Judged
-    ensures judged { (asks : List Ask) (images : Images) → IsJudged result (goes_again (pending_of waiting) (own_of own asks images) bits (map child_of kept)) }
-    ensures again { (w : SeenWaiting) → result.fate ≡ Again w → w ≡ record waiting { kept = kept; unfinished = unfinished } }
+    ensures judged { (asks : List Ask) (images : Images)
+        → IsJudged result (goes_again (pending_of waiting) (own_of own asks images) bits (map child_of kept)) }
+    ensures again { (w : SeenWaiting) → result.fate ≡ Again w
+        → w ≡ record waiting { kept = kept; unfinished = unfinished } }
     ensures unused { result.unused ≡ unused_in result.fate own.tree (freed_block waiting.request.work waiting.block) }
 {
     let child = Kept {
@@ -111,7 +118,8 @@ fn goes_again(
 /// The request finishes. With an error the block that it made is unused, and without one the block that it freed.
 fn ends(waiting: Waiting, own: OwnEnd, children: &[Kept]) -> Judged
     ensures judged { (asks : List Ask) (images : Images) → IsJudged result
-        (ended_with (pending_of waiting) (own_of own asks images) (worst_error own.error (worst_of (map (λ (k : SeenKept). k.error) children.now)))) }
+        (ended_with (pending_of waiting) (own_of own asks images)
+        (worst_error own.error (worst_of (map (λ (k : SeenKept). k.error) children.now)))) }
     ensures again { (w : SeenWaiting) → ¬ (result.fate ≡ Again w) }
     ensures unused { result.unused ≡ unused_in result.fate own.tree (freed_block waiting.request.work waiting.block) }
 {

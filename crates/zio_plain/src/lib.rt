@@ -1,12 +1,13 @@
-//! The definitions as a program: the rounds of a script are run tree by tree and depth first, over any disks, with their
-//! places from any chooser.
+//! The definitions as a program: the rounds of a script are run tree by tree and depth first, over any disks, with
+//! their places from any chooser.
 //!
-//! It stands on the disks, the blocks and the definitions of `zio_gang`, and on no engine. Read `Plain` first: it is a runner
-//! of rounds as `zio_course` asks for it. A round of it is `run_trees` over the runner's ground, which does the own work of
-//! requests (`works`, `ground`): it settles each tree of the round in turn, `settle` attempts a tree, and `attempt` goes once
-//! over its requests. Then the places of freed blocks are given back. `specs/Passes` says what a pass over a tree is,
-//! `specs/Settlings` what a round comes to, `specs/Grounds` what own work changes of the ground, and `specs/Plains` what
-//! holds of the runner between two rounds.
+//! It stands on the disks, the blocks and the definitions of `zio_gang`, and on no engine. Read `Plain` first: it is a
+//! runner of rounds as `zio_course` asks for it. A round of it is `run_trees` over the runner's ground, which does the
+//! own work of requests (`works`, `ground`): it settles each tree of the round in turn, `settle` attempts a tree, and
+//! `attempt` goes once over its requests. Then the places of freed blocks are given back. `specs/Passes` says what a
+//! pass over a tree is,
+//! `specs/Settlings` what a round comes to, `specs/Grounds` what own work changes of the ground, and `specs/Plains`
+//! what holds of the runner between two rounds.
 #![tactic(auto)]
 
 mod attempt;

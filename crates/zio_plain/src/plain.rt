@@ -17,8 +17,8 @@ use zio_types::List;
 
 mod ends;
 
-/// Runs rounds by the definitions, where its chooser's entries are lawful in the order of its asks. Contracts see it as its setting, its disks and its chooser, the number of its last
-/// round, and whether a round was stopped.
+/// Runs rounds by the definitions, where its chooser's entries are lawful in the order of its asks. Contracts see it as
+/// its setting, its disks and its chooser, the number of its last round, and whether a round was stopped.
 #[derive(Drop)]
 pub struct Plain<D: Disk + Drop, C: Chooser + Drop> {
     ground: Ground<D, C>,
@@ -32,9 +32,17 @@ impl<D: Disk + Drop, C: Chooser + Drop> Model for Plain<D, C> {
 
     ghost Value = { SeenPlain D C };
 
-    ghost view = { λ p. record { setting = p.ground.setting; disks = p.ground.disks.items; chooser = p.ground.chooser; last = p.last; stopped = p.stopped } };
+    ghost view = { λ p. record {
+      setting = p.ground.setting;
+      disks = p.ground.disks.items;
+      chooser = p.ground.chooser;
+      last = p.last;
+      stopped = p.stopped;
+    } };
 
-    ghost invariant = { λ p. p.stopped ≡ false → IsSteady p.ground.setting (map D.bytes p.ground.disks.items) (C.sizes p.ground.chooser) (C.used p.ground.chooser) (C.live p.ground.chooser) (C.given p.ground.chooser) };
+    ghost invariant = { λ p. p.stopped ≡ false
+        → IsSteady p.ground.setting (map D.bytes p.ground.disks.items) (C.sizes p.ground.chooser)
+        (C.used p.ground.chooser) (C.live p.ground.chooser) (C.given p.ground.chooser) };
 }
 
 impl<D: Disk + Drop, C: Chooser + Drop> Plain<D, C> {
@@ -51,7 +59,13 @@ impl<D: Disk + Drop, C: Chooser + Drop> Plain<D, C> {
         requires used { C.used chooser ≡ [] }
         requires live { C.live chooser ≡ [] }
         requires given { C.given chooser ≡ [] }
-        ensures { result ≡ record { setting = setting; disks = disks.items; chooser = chooser; last = 0; stopped = false } }
+        ensures { result ≡ record {
+          setting = setting;
+          disks = disks.items;
+          chooser = chooser;
+          last = 0;
+          stopped = false;
+        } }
     {
         Plain {
             ground: Ground {
@@ -115,10 +129,13 @@ impl<D: Disk + Drop, C: LawfulChooser + Drop> Runner for Plain<D, C> {
     ) -> Result<PlainTree, ChildrenBack<PlainTree>>
         requires whole { IsNewTree request.now birth block (map (λ (tree : List Pending). tree) children) }
         requires fits { IfSome block IsWholeTree }
-        ensures made { IfOk result (λ tree. tree ≡ tree_over (map (λ (tree : List Pending). tree) children) (fresh request.now birth block)) }
+        ensures made { IfOk result (λ tree. tree ≡ tree_over (map (λ (tree : List Pending). tree) children)
+            (fresh request.now birth block)) }
         ensures back { IfErr result (λ back. back.children ≡ children) }
-        ensures stays { Stays (standing_of D.faults C.live self.old) (standing_of D.faults C.live self.new) (λ images. Tell D.image self.old.disks images) (λ images. Tell D.image self.new.disks images) }
-        ensures same { AreSameDisks D.bytes D.faults D.faults_at_fetch D.home D.image D.sound self.old.disks self.new.disks }
+        ensures stays { Stays (standing_of D.faults C.live self.old) (standing_of D.faults C.live self.new)
+            (λ images. Tell D.image self.old.disks images) (λ images. Tell D.image self.new.disks images) }
+        ensures same { AreSameDisks D.bytes D.faults D.faults_at_fetch D.home D.image D.sound self.old.disks
+            self.new.disks }
     {
         tree_over(self.ground.alloc, request, birth, block, children)
     }
@@ -126,19 +143,34 @@ impl<D: Disk + Drop, C: LawfulChooser + Drop> Runner for Plain<D, C> {
     fn round(&mut self, job: Job<PlainTree>) -> Result<RoundEnd<PlainTree, Evaluated>, Stop>
         requires runs { self.old.stopped ≡ false }
         requires next { self.old.last < job.round }
-        requires trees { AreRunnable (standing_of D.faults C.live self.old) (map (λ (tree : List Pending). tree) job.trees) }
-        ensures round { IfOk result (λ end. (before : Images) → Tell D.image self.old.disks before → (after : Images) × Tell D.image self.new.disks after
-            × IsRound (terms_at (standing_of D.faults C.live self.old) job.failmode job.round job.point) (map (λ (tree : List Pending). tree) job.trees) before after (ended_seen (λ (tree : List Pending). tree) (λ (f : SeenRequestEnd). f) end)
-            × DiffersInRound (standing_of D.faults C.live self.old) (map (λ (tree : List Pending). tree) job.trees) before after) }
-        ensures end { IfOk result (λ end. IsRoundEnd (standing_of D.faults C.live self.old) job.round (map (λ (tree : List Pending). tree) job.trees) (ended_seen (λ (tree : List Pending). tree) (λ (f : SeenRequestEnd). f) end)) }
-        ensures fits { IfOk result (λ end. AllByRecursion IsWholeTree (made_trees (map (λ (f : SeenRequestEnd). f) end.finished))) }
-        ensures stands { IfOk result (λ end. StandsAfter (standing_of D.faults C.live self.old) (standing_of D.faults C.live self.new) job.round (map (λ (tree : List Pending). tree) job.trees) (ended_seen (λ (tree : List Pending). tree) (λ (f : SeenRequestEnd). f) end)) }
-        ensures stopped { OnErr result (StoppedAfter (standing_of D.faults C.live self.old) (standing_of D.faults C.live self.new) job.round) }
+        requires trees { AreRunnable (standing_of D.faults C.live self.old)
+            (map (λ (tree : List Pending). tree) job.trees) }
+        ensures round { IfOk result (λ end. (before : Images) → Tell D.image self.old.disks before → (after : Images)
+            × Tell D.image self.new.disks after
+            × IsRound (terms_at (standing_of D.faults C.live self.old) job.failmode job.round job.point)
+            (map (λ (tree : List Pending). tree) job.trees) before after
+            (ended_seen (λ (tree : List Pending). tree) (λ (f : SeenRequestEnd). f) end)
+            × DiffersInRound (standing_of D.faults C.live self.old) (map (λ (tree : List Pending). tree) job.trees)
+            before after) }
+        ensures end { IfOk result (λ end. IsRoundEnd (standing_of D.faults C.live self.old) job.round
+            (map (λ (tree : List Pending). tree) job.trees)
+            (ended_seen (λ (tree : List Pending). tree) (λ (f : SeenRequestEnd). f) end)) }
+        ensures fits { IfOk result
+            (λ end. AllByRecursion IsWholeTree (made_trees (map (λ (f : SeenRequestEnd). f) end.finished))) }
+        ensures stands { IfOk result
+            (λ end. StandsAfter (standing_of D.faults C.live self.old) (standing_of D.faults C.live self.new) job.round
+            (map (λ (tree : List Pending). tree) job.trees)
+            (ended_seen (λ (tree : List Pending). tree) (λ (f : SeenRequestEnd). f) end)) }
+        ensures stopped { OnErr result
+            (StoppedAfter (standing_of D.faults C.live self.old) (standing_of D.faults C.live self.new) job.round) }
         ensures device { IsErrOf result Device → AnyRose (map D.faults self.old.disks) (map D.faults self.new.disks) }
         ensures calm { IsErrOf result Memory → map D.faults self.new.disks ≡ map D.faults self.old.disks }
-        ensures images { OnErr result ((before : Images) → Tell D.image self.old.disks before → (after : Images) × Tell D.image self.new.disks after
-            × DiffersInRound (standing_of D.faults C.live self.old) (map (λ (tree : List Pending). tree) job.trees) before after) }
-        ensures same { AreSameDisks D.bytes D.faults D.faults_at_fetch D.home D.image D.sound self.old.disks self.new.disks }
+        ensures images { OnErr result ((before : Images) → Tell D.image self.old.disks before → (after : Images)
+            × Tell D.image self.new.disks after
+            × DiffersInRound (standing_of D.faults C.live self.old) (map (λ (tree : List Pending). tree) job.trees)
+            before after) }
+        ensures same { AreSameDisks D.bytes D.faults D.faults_at_fetch D.home D.image D.sound self.old.disks
+            self.new.disks }
     {
         let Job {
             round,
@@ -172,7 +204,8 @@ impl<D: Disk + Drop, C: LawfulChooser + Drop> Runner for Plain<D, C> {
 
     ghost use Rattle.zio_disks.proofs.DiskLemmas.{same_itself as disks_itself, same_then as disks_then};
 
-    ghost same_then = { λ a b c first second. disks_then D.bytes D.faults D.faults_at_fetch D.home D.image D.sound a.disks b.disks c.disks first second };
+    ghost same_then = { λ a b c first second. disks_then D.bytes D.faults D.faults_at_fetch D.home D.image D.sound
+        a.disks b.disks c.disks first second };
 
     ghost same_itself = { λ a. disks_itself D.bytes D.faults D.faults_at_fetch D.home D.image D.sound a.disks };
 }

@@ -31,9 +31,13 @@ pub(crate) fn settle<W: OwnWork>(
     requires apart { AreNumberedApart tree }
     requires can { AllByRecursion (λ (w : SeenWaiting). W.can works.old w.block) tree }
     requires claim { has_claim (requests_in tree) ≡ true → length tree ≡ 1 }
-    ensures passes { IfOk result (λ left. (named : Named) → AllByRecursion (λ (w : SeenWaiting). AreNamed named w.request.work w.block) tree → ArePasses W.tells W.runs W.fresh W.given (W.moves named) failmode reexecutions_max 0 tree left
+    ensures passes { IfOk result (λ left. (named : Named)
+        → AllByRecursion (λ (w : SeenWaiting). AreNamed named w.request.work w.block) tree
+        → ArePasses W.tells W.runs W.fresh W.given (W.moves named) failmode reexecutions_max 0 tree left
         ends.old.finished ends.new.finished ends.old.freed ends.new.freed works.old works.new) }
-    ensures breaks { IfErr result (λ stop. (named : Named) → AllByRecursion (λ (w : SeenWaiting). AreNamed named w.request.work w.block) tree → W.breaks named works.old works.new stop) }
+    ensures breaks { IfErr result (λ stop. (named : Named)
+        → AllByRecursion (λ (w : SeenWaiting). AreNamed named w.request.work w.block) tree
+        → W.breaks named works.old works.new stop) }
 {
     settle_from(alloc, works, failmode, REEXECUTIONS_MAX, 0, tree, ends)
 }
@@ -53,9 +57,13 @@ fn settle_from<W: OwnWork>(
     requires apart { AreNumberedApart tree }
     requires can { AllByRecursion (λ (w : SeenWaiting). W.can works.old w.block) tree }
     requires claim { has_claim (requests_in tree) ≡ true → length tree ≡ 1 }
-    ensures passes { IfOk result (λ left. (named : Named) → AllByRecursion (λ (w : SeenWaiting). AreNamed named w.request.work w.block) tree → ArePasses W.tells W.runs W.fresh W.given (W.moves named) failmode more number tree left
+    ensures passes { IfOk result (λ left. (named : Named)
+        → AllByRecursion (λ (w : SeenWaiting). AreNamed named w.request.work w.block) tree
+        → ArePasses W.tells W.runs W.fresh W.given (W.moves named) failmode more number tree left
         ends.old.finished ends.new.finished ends.old.freed ends.new.freed works.old works.new) }
-    ensures breaks { IfErr result (λ stop. (named : Named) → AllByRecursion (λ (w : SeenWaiting). AreNamed named w.request.work w.block) tree → W.breaks named works.old works.new stop) }
+    ensures breaks { IfErr result (λ stop. (named : Named)
+        → AllByRecursion (λ (w : SeenWaiting). AreNamed named w.request.work w.block) tree
+        → W.breaks named works.old works.new stop) }
 {
     let PassEnd { left, at_once } = attempt(alloc, works, failmode, number, tree, ends)?;
     if at_once && more > 0 {

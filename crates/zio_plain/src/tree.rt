@@ -80,7 +80,8 @@ fn begin_tree(
     Ok((request, all))
 }
 
-/// How many requests a tree over these has. More than can be counted counts as the most: no vector has room for so many.
+/// How many requests a tree over these has. More than can be counted counts as the most: no vector has room for so
+/// many.
 fn room_over(children: &[PlainTree]) -> usize
     ensures { result ≡ min (length (joined_trees children.now) + 1) (2 ^ 64 - 1) }
 {

@@ -34,9 +34,11 @@ pub(crate) fn settle_trees<W: OwnWork>(
     ends: &mut Ends,
 ) -> Result<List<PlainTree>, Stop>
     requires once { (n : ℕ) → count_by (λ (r : SeenRequest). r.number == n) (requests_in trees) ≤ 1 }
-    requires can { AllByRecursion (λ (p : Pending). IfSome p.block IsWholeTree → W.can works.old p.block) (joined_trees trees) }
+    requires can { AllByRecursion (λ (p : Pending). IfSome p.block IsWholeTree
+        → W.can works.old p.block) (joined_trees trees) }
     requires claim { has_claim (requests_in trees) ≡ true → length (requests_in trees) ≡ 1 }
-    ensures run { IfOk result (λ left. AreRun W.tells W.runs W.fresh W.given (W.moves (named_in trees)) failmode trees left
+    ensures run { IfOk result
+        (λ left. AreRun W.tells W.runs W.fresh W.given (W.moves (named_in trees)) failmode trees left
         ends.old.finished ends.new.finished ends.old.freed ends.new.freed works.old works.new) }
     ensures breaks { IfErr result (λ stop. W.breaks (named_in trees) works.old works.new stop) }
 {
@@ -81,10 +83,13 @@ pub(crate) fn run_trees<W: OwnWork>(
     trees: List<PlainTree>,
 ) -> Result<TreesEnd, Stop>
     requires once { (n : ℕ) → count_by (λ (r : SeenRequest). r.number == n) (requests_in trees) ≤ 1 }
-    requires can { AllByRecursion (λ (p : Pending). IfSome p.block IsWholeTree → W.can works.old p.block) (joined_trees trees) }
+    requires can { AllByRecursion (λ (p : Pending). IfSome p.block IsWholeTree
+        → W.can works.old p.block) (joined_trees trees) }
     requires claim { has_claim (requests_in trees) ≡ true → length (requests_in trees) ≡ 1 }
     requires roots { AllByRecursion (λ (r : SeenRequest). r.under ≡ None) (roots_of trees) }
-    ensures run { IfOk result (λ end. IsTreesRun W.tells W.runs W.fresh W.given (W.moves (named_in trees)) round failmode trees end.left end.finished end.completions end.freed works.old works.new) }
+    ensures run { IfOk result
+        (λ end. IsTreesRun W.tells W.runs W.fresh W.given (W.moves (named_in trees)) round failmode trees end.left
+        end.finished end.completions end.freed works.old works.new) }
     ensures ends { IfOk result (λ end. IsListEnd round trees end.left end.finished end.completions) }
     ensures fits { IfOk result (λ end. AllByRecursion IsWholeTree (made_trees end.finished)) }
     ensures breaks { IfErr result (λ stop. W.breaks (named_in trees) works.old works.new stop) }

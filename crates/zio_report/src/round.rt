@@ -61,7 +61,8 @@ fn request_lines(
     requests: &[ReportLine],
 ) -> Result<(), AllocError>
     requires { AreWhole requests.now }
-    ensures { OnOk result (string_bytes out.new ≡ string_bytes out.old ++ flat_map (line_text with_bytes) requests.now) }
+    ensures { OnOk result (string_bytes out.new ≡ string_bytes out.old
+        ++ flat_map (line_text with_bytes) requests.now) }
 {
     for line in requests {
         request_line(alloc, out, with_bytes, line)?;
@@ -129,7 +130,8 @@ fn read_words(
     bytes: &[u8],
 ) -> Result<(), AllocError>
     requires { length bytes.now % 512 ≡ 0 }
-    ensures { OnOk result (string_bytes out.new ≡ string_bytes out.old ++ result_text with_bytes (LineResult.Bytes bytes.now)) }
+    ensures { OnOk result (string_bytes out.new ≡ string_bytes out.old
+        ++ result_text with_bytes (LineResult.Bytes bytes.now)) }
 {
     write!(out, "ok {} ", bytes.len())?;
     sum_words(out, &sum(SumKind::Fletcher4, bytes))?;

@@ -213,7 +213,8 @@ impl Builder {
     fn may_fail(&self, asked: &NewRequest<'_>, stand: Stand) -> bool
         requires kept { IsKept self.now }
         requires stand { IsStand (batch_of self.now) self.now.batch asked.now.under stand }
-        ensures { result ≡ may_fail asked.now.flag (parent_in (batch_of self.now) asked.now.under) (kind_of (work_as asked.now.work)) }
+        ensures { result ≡ may_fail asked.now.flag (parent_in (batch_of self.now) asked.now.under)
+            (kind_of (work_as asked.now.work)) }
     {
         match asked.flag {
             Some(flag) => flag,

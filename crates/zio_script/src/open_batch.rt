@@ -81,7 +81,8 @@ impl OpenBatch {
 
     /// Where a request under this number stands.
     pub(crate) fn stand(&self, under: Option<u64>) -> Stand
-        ensures { (apart : Bool) (batch : List SeenRequest) → IsBatch apart batch self.now → IsStand batch self.now under result }
+        ensures { (apart : Bool) (batch : List SeenRequest) → IsBatch apart batch self.now
+            → IsStand batch self.now under result }
     {
         match under {
             None => Stand::Root,
@@ -94,7 +95,8 @@ impl OpenBatch {
 
     // Where the mark of this number is.
     fn position(&self, number: u64) -> Result<usize, usize>
-        ensures { (apart : Bool) (batch : List SeenRequest) → IsBatch apart batch self.now → IsPosition batch self.now number result }
+        ensures { (apart : Bool) (batch : List SeenRequest) → IsBatch apart batch self.now
+            → IsPosition batch self.now number result }
     {
         self.marks
             .binary_search_by_key(&number, |mark| u64::from(mark.number))
@@ -213,7 +215,8 @@ impl OpenBatch {
         stand: Stand,
     ) -> Result<(), AllocFailed<RequestMark>>
         requires { IsStandWithin self.old stand }
-        ensures marks { OnOk result (self.new.marks.items ≡ marks_after self.old.marks.items stand mark.kind ++ mark ∷ []) }
+        ensures marks { OnOk result (self.new.marks.items ≡ marks_after self.old.marks.items stand mark.kind ++ mark
+            ∷ []) }
         ensures size { self.new.size ≡ self.old.size }
         ensures claim { self.new.has_claim ≡ self.old.has_claim }
         ensures names { self.new.names ≡ self.old.names }

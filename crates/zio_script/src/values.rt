@@ -125,7 +125,8 @@ fn body_of(body: NewBody) -> Body
 pub(crate) fn request_of(asked: NewRequest<'_>, canfail: bool) -> Option<Request>
     requires { fits_asked (request_as asked) ≡ true }
     ensures { MatchOption result (is_misnamed (name_of (request_as asked.entry).work) ≡ true)
-        (λ made. (made ≡ request_made (request_as asked.entry) canfail) × (is_misnamed (name_of (request_as asked.entry).work) ≡ false)) }
+        (λ made. (made ≡ request_made (request_as asked.entry) canfail)
+        × (is_misnamed (name_of (request_as asked.entry).work) ≡ false)) }
 {
     let number = asked.number as u32;
     let under = number_if(asked.under);

@@ -1,7 +1,7 @@
 //! Between what a fold says of a round and what an engine does with it.
 //!
-//! It stands on `zio_course`, whose fold gives trees to a runner, and on `zio_trace`, which says which rounds may be run
-//! with all their trees under way together, and what such a round comes to. Each call is a law: its contract is the
+//! It stands on `zio_course`, whose fold gives trees to a runner, and on `zio_trace`, which says which rounds may be
+//! run with all their trees under way together, and what such a round comes to. Each call is a law: its contract is the
 //! statement, and its body is empty.
 #![tactic(auto)]
 
@@ -50,8 +50,8 @@ pub fn runnable_rounds_are_sound()
         IsSoundRound (terms_at s failmode round point) sizes f }
 {}
 
-/// A round whose trees came to these values, as they do under the entries that the space made for it, is the round by the
-/// definitions, if what it gives is what these values leave and what finished in them, by number.
+/// A round whose trees came to these values, as they do under the entries that the space made for it, is the round by
+/// the definitions, if what it gives is what these values leave and what finished in them, by number.
 pub fn settled_rounds_are_rounds()
     ensures { (t : Terms) (f : Forest) (trees : List (List Pending)) (values : List Value) (before after : Images)
         (end : SeenEnd) → trees_in f ≡ trees →
@@ -61,17 +61,21 @@ pub fn settled_rounds_are_rounds()
         IsRound t trees before after end }
 {}
 
-/// What trees of a round leave whose values come of an oracle, that is, whatever their operations were answered: each request
-/// finished or is left, what is left are rests of the trees, and writes and claims alone made blocks, without error.
+/// What trees of a round leave whose values come of an oracle, that is, whatever their operations were answered: each
+/// request finished or is left, what is left are rests of the trees, and writes and claims alone made blocks, without
+/// error.
 pub fn answered_rounds_leave_rests()
-    ensures { (journal : List Choice) (t : Terms) (f : Forest) (ds : List (Deed (Labelled Task) Value)) (values : List Value) →
+    ensures { (journal : List Choice) (t : Terms) (f : Forest) (ds : List (Deed (Labelled Task) Value))
+        (values : List Value) →
         AreAnswered (task_ways journal t) (settles f) ds values → LeavesTrees (trees_in f) (round_of values) }
 {}
 
 /// What is left of trees whose requests stand under their parents stands so, whatever their operations were answered.
 pub fn what_is_left_is_linked()
-    ensures { (journal : List Choice) (t : Terms) (f : Forest) (ds : List (Deed (Labelled Task) Value)) (values : List Value)
-        (under : Option ℕ) → AreAnswered (task_ways journal t) (settles f) ds values → AreLinked under f → LeaveLinked under values }
+    ensures { (journal : List Choice) (t : Terms) (f : Forest) (ds : List (Deed (Labelled Task) Value))
+        (values : List Value)
+        (under : Option ℕ) → AreAnswered (task_ways journal t) (settles f) ds values → AreLinked under f
+        → LeaveLinked under values }
 {}
 
 /// The trees of a round that a runner may be given are families, where their requests stand under their parents.
@@ -82,7 +86,8 @@ pub fn runnable_trees_are_families()
 
 /// A claim never goes again, whatever its operations are answered: it may always fail.
 pub fn claims_never_go_again()
-    ensures { (journal : List Choice) (t : Terms) (o : Oracle (Labelled Task) Value) (at : List ℕ) (attempt : ℕ) (p : Pending) →
+    ensures { (journal : List Choice) (t : Terms) (o : Oracle (Labelled Task) Value) (at : List ℕ) (attempt : ℕ)
+        (p : Pending) →
         IsOracle (ways_at (task_ways journal t)) o → is_claim (kind_of p.request.work) ≡ true →
         let one = attempted (o.answer (record { at = at; op = Attempt attempt p NoTrees })) in
         (one.again ≡ []) × (has_bits one.return.bits ≡ false) }

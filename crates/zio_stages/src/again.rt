@@ -31,7 +31,8 @@ pub(crate) fn begin_again(
     Ok((all, kept))
 }
 
-/// How many requests a tree over what is left has. More than can be counted counts as the most: no vector has room for so many.
+/// How many requests a tree over what is left has. More than can be counted counts as the most: no vector has room for
+/// so many.
 fn room_again(again: &[Option<Whole>]) -> usize
     ensures { result ≡ as_counted (length (joined (trees_left again.now)) + 1) }
 {
@@ -61,9 +62,11 @@ pub(crate) fn grown_again(
     requires room { length (joined (trees_left again.items)) + 1 ≤ vec_capacity all }
     requires whole { AllByRecursion IsWhole (trees_left again.items) }
     requires rising { RiseFrom 0 (roots_in (trees_left again.items)) }
-    ensures tree { (forest : Forest) → AreTrees (trees_left again.items) forest → IsTreeOf result (pending_of root) forest }
+    ensures tree { (forest : Forest) → AreTrees (trees_left again.items) forest
+        → IsTreeOf result (pending_of root) forest }
     ensures number { root_number result ≡ Some root.request.number }
-    ensures list { (below : ℕ) × (result ≡ joined (trees_left again.items) ++ counted root (length (trees_left again.items)) below ∷ []) }
+    ensures list { (below : ℕ)
+        × (result ≡ joined (trees_left again.items) ++ counted root (length (trees_left again.items)) below ∷ []) }
 {
     let mut unfinished = 0;
     for left in List::from_vec(again).into_rest() {

@@ -17,8 +17,8 @@ use zio_gang::LEVELS_MAX;
 use zio_parts::{HeadWalk, WalkStep, Walked};
 use zio_types::{NoMemory, Path, Top};
 
-/// What the walk over a block's headers leaves, where it asks nothing: its body, where the block is no gang. None where it
-/// asks.
+/// What the walk over a block's headers leaves, where it asks nothing: its body, where the block is no gang. None where
+/// it asks.
 pub(crate) fn block_at_once(alloc: Global, bp: Bp) -> Result<Option<Walked>, NoMemory>
     ensures body { IfOk result (λ left. IfSome left (λ walked. (walked ≡ body_of bp) × (bp.gang ≡ false))) }
     ensures ends { IfOk result (λ left. IfSome left (λ walked. (t : Terms) (heads : List Head) →
@@ -42,7 +42,8 @@ pub(crate) fn claim_at_once(alloc: Global, tops: &[Top], bp: Bp) -> Result<Optio
 
 /// What the walk leaves, where it asks nothing.
 fn left_at_once(alloc: Global, walk: HeadWalk) -> Result<Option<Walked>, NoMemory>
-    ensures ends { IfOk result (λ left. IfSome left (λ walked. (heads : List Head) → left_of_walk heads walk ≡ Ends (WalkedBy walked))) }
+    ensures ends { IfOk result (λ left. IfSome left (λ walked. (heads : List Head)
+        → left_of_walk heads walk ≡ Ends (WalkedBy walked))) }
     ensures asks { result ≡ Ok None → walk.header ≡ Unread → walk.members ≡ [] → Follows walk }
 {
     match walk.next() {

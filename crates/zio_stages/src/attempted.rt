@@ -154,7 +154,8 @@ impl RequestKids {
         requires { IsOutWith pointer (state_at self.old.kids.kids n) }
         ensures kids { self.new.kids ≡ kid_is self.old.kids n (Ended no_bits error pointer) }
         ensures holds { HoldTheSame self.old self.new }
-        ensures after { (attempt : ℕ) (forest : Forest) (asked : List Task) (slots : List Slot) (number : ℕ) (one : One) →
+        ensures after { (attempt : ℕ) (forest : Forest) (asked : List Task) (slots : List Slot) (number : ℕ)
+            (one : One) →
             IsKids self.old attempt forest asked slots → slice_get (numbers_of self.old.kids.kids) n ≡ Some number →
             IsLeftBy one number no_bits error pointer → one.again ≡ [] → one.left ≡ NoTrees →
             IsKids self.new attempt forest asked (slice_set slots n (Heard (AttemptedBy one))) }
@@ -170,7 +171,8 @@ impl RequestKids {
         ensures kids { self.new.kids ≡ kid_is self.old.kids n (Ended bits None pointer) }
         ensures due { self.new.due ≡ self.old.due }
         ensures left { self.new.again ≡ slice_set self.old.again n (Some whole) }
-        ensures after { (attempt : ℕ) (forest : Forest) (asked : List Task) (slots : List Slot) (number : ℕ) (one : One) →
+        ensures after { (attempt : ℕ) (forest : Forest) (asked : List Task) (slots : List Slot) (number : ℕ)
+            (one : One) →
             IsKids self.old attempt forest asked slots → slice_get (numbers_of self.old.kids.kids) n ≡ Some number →
             IsLeftBy one number bits None pointer → IsLeft whole one →
             IsKids self.new attempt forest asked (slice_set slots n (Heard (AttemptedBy one))) }
@@ -184,8 +186,10 @@ impl RequestKids {
     /// Where memory is refused both come back.
     pub fn again(self, alloc: Global, mut waiting: UnfinishedRequest) -> Result<Whole, AgainBack>
         requires { list_all is_ended self.kids.kids ≡ true }
-        ensures tree { IfOk result (λ tree. (attempt : ℕ) (forest : Forest) (asked : List Task) (slots : List Slot) (one : Attempted) →
-            IsKids self attempt forest asked slots → one.again ≡ with_kept (pending_of waiting) (finished_in self.kids) ∷ [] →
+        ensures tree { IfOk result (λ tree. (attempt : ℕ) (forest : Forest) (asked : List Task) (slots : List Slot)
+            (one : Attempted) →
+            IsKids self attempt forest asked slots → one.again ≡ with_kept (pending_of waiting) (finished_in self.kids)
+            ∷ [] →
             IsLeft tree (one_of (kids_by slots) one)) }
         ensures number { IfOk result (λ tree. root_number tree ≡ Some waiting.request.number) }
         ensures list { IfOk result (λ tree. IsLeftList tree waiting self) }

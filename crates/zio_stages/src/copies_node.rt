@@ -36,8 +36,8 @@ pub struct CopiesNode {
 }
 
 impl CopiesNode {
-    /// The read of this many bytes at one to three places, which are good by this check. Without memory; its children's is
-    /// from `alloc`.
+    /// The read of this many bytes at one to three places, which are good by this check. Without memory; its children's
+    /// is from `alloc`.
     pub fn new(
         alloc: Global,
         tops: &[Top],
@@ -83,8 +83,8 @@ impl CopiesNode {
         &self.family
     }
 
-    /// The next operation on a leaf, whose child was added, or none where none is due now. Where memory is refused the node
-    /// is as before.
+    /// The next operation on a leaf, whose child was added, or none where none is due now. Where memory is refused the
+    /// node is as before.
     pub fn vdev_io_start(
         &mut self,
         alloc: Global,

@@ -135,7 +135,8 @@ impl Family {
     /// The child told its pointer.
     pub fn tell(&mut self, child: u32)
         requires { child < length self.old }
-        ensures { IfSome (slice_get self.old child) (λ (c : Child). self.new ≡ slice_set self.old child (child_told c)) }
+        ensures { IfSome (slice_get self.old child) (λ (c : Child). self.new
+            ≡ slice_set self.old child (child_told c)) }
     {
         let kind = self.sittings[child as usize].kind;
         tell(&mut self.brood, child, kind);
@@ -144,7 +145,8 @@ impl Family {
     /// The child ended, whether or not it told before.
     pub fn end(&mut self, child: u32)
         requires { child < length self.old }
-        ensures { IfSome (slice_get self.old child) (λ (c : Child). self.new ≡ slice_set self.old child (child_ended c)) }
+        ensures { IfSome (slice_get self.old child) (λ (c : Child). self.new
+            ≡ slice_set self.old child (child_ended c)) }
     {
         let kind = self.sittings[child as usize].kind;
         tell(&mut self.brood, child, kind);

@@ -6,8 +6,8 @@ ghost use Rattle.zio_stages.specs.SpaceCalls.{GivesBack};
 use crate::services::Services;
 use zio_types::{NoMemory, Place};
 
-/// Gives back these places in their order, of which so many were before. Where memory is refused it goes on from there when
-/// it is called again.
+/// Gives back these places in their order, of which so many were before. Where memory is refused it goes on from there
+/// when it is called again.
 pub(crate) fn give_back<S: Services>(
     services: &mut S,
     places: &[Place],

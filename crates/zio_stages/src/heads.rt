@@ -56,7 +56,8 @@ impl HeadsWork {
     pub fn claimed(alloc: Global, tops: &[Top], levels: u32, path: Path, bp: Bp) -> HeadsWork
         requires depth { length path + levels ≤ 8 }
         requires valid { IsTrue (valid bp) }
-        ensures fresh { (t : Terms) → t.setting.tops ≡ tops.now → IsHeadsWork t result (fresh_frame (ReadHeads ByClaim levels path bp)) }
+        ensures fresh { (t : Terms) → t.setting.tops ≡ tops.now
+            → IsHeadsWork t result (fresh_frame (ReadHeads ByClaim levels path bp)) }
         ensures walk { result.walk ≡ fresh_walk true levels path bp result.walk.judged }
         ensures judged { result.walk.judged ≡ claim_error tops.now bp }
     {
@@ -76,7 +77,8 @@ impl HeadsWork {
     /// What is to be done next.
     pub fn next(&self) -> WalkStep
         ensures shows { ShowsWalk self.now.walk result }
-        ensures waits { result ≡ WalkStep.Wait → (t : Terms) (x : Frame) → IsHeadsWork t self.now x → 0 < length (told_in x.slots) }
+        ensures waits { result ≡ WalkStep.Wait → (t : Terms) (x : Frame) → IsHeadsWork t self.now x
+            → 0 < length (told_in x.slots) }
     {
         self.walk.next()
     }
@@ -129,11 +131,13 @@ impl HeadsWork {
     ) -> HeadsWork
         requires step { ShowsWalk self.old.walk (WalkStep.Member member) }
         requires under { heads.items ≡ filter (is_under member.path) self.old.heads.items }
-        ensures hands { (t : Terms) (x : Frame) → t.setting.tops ≡ tops.now → IsHeadsWork t self.old x → HandsBelow t self.new result x }
+        ensures hands { (t : Terms) (x : Frame) → t.setting.tops ≡ tops.now → IsHeadsWork t self.old x
+            → HandsBelow t self.new result x }
         ensures walk { self.new.walk ≡ with_members self.old.walk (self.old.walk.members ++ None ∷ []) }
         ensures slots { slots_of self.new.walk ≡ slots_of self.old.walk ++ IsOut None ∷ [] }
         ensures heads { self.new.heads.items ≡ filter (λ h. not (is_under member.path h)) self.old.heads.items }
-        ensures below { result.walk ≡ fresh_walk self.old.walk.claim member.levels member.path member.bp result.walk.judged }
+        ensures below { result.walk
+            ≡ fresh_walk self.old.walk.claim member.levels member.path member.bp result.walk.judged }
         ensures below_heads { result.heads ≡ heads }
         ensures judged { self.old.walk.claim ≡ true → result.walk.judged ≡ claim_error tops.now member.bp }
     {
@@ -150,9 +154,11 @@ impl HeadsWork {
         found: Result<[u8; 512], Errno>,
     ) -> Result<(), NoMemory>
         requires { slice_get (slots_of self.old.walk) 0 ≡ Some (IsOut None) }
-        ensures heard { OnOk result ((t : Terms) (x : Frame) → IsHeadsWork t self.old x → IsHeadsWork t self.new (with_slot x 0 (Heard (Got found)))) }
+        ensures heard { OnOk result ((t : Terms) (x : Frame) → IsHeadsWork t self.old x
+            → IsHeadsWork t self.new (with_slot x 0 (Heard (Got found)))) }
         ensures walk { OnOk result (self.new.walk ≡ with_header self.old.walk (header_by found)) }
-        ensures slots { OnOk result (slots_of self.new.walk ≡ slice_set (slots_of self.old.walk) 0 (Heard (Got found))) }
+        ensures slots { OnOk result (slots_of self.new.walk
+            ≡ slice_set (slots_of self.old.walk) 0 (Heard (Got found))) }
         ensures heads { self.new.heads ≡ self.old.heads }
         ensures err { OnErr result (self.new ≡ self.old) }
     {
@@ -163,9 +169,12 @@ impl HeadsWork {
     pub fn hear_below(&mut self, n: u32, walked: Walked)
         requires behind { 0 < n }
         requires out { slice_get (slots_of self.old.walk) n ≡ Some (IsOut None) }
-        ensures heard { (t : Terms) (x : Frame) → IsHeadsWork t self.old x → IsHeadsWork t self.new (with_slot x n (Heard (WalkedBy walked))) }
-        ensures walk { self.new.walk ≡ with_members self.old.walk (slice_set self.old.walk.members (n - 1) (Some walked)) }
-        ensures slots { slots_of self.new.walk ≡ slice_set (slots_of self.old.walk) ((n - 1) + 1) (Heard (WalkedBy walked)) }
+        ensures heard { (t : Terms) (x : Frame) → IsHeadsWork t self.old x
+            → IsHeadsWork t self.new (with_slot x n (Heard (WalkedBy walked))) }
+        ensures walk { self.new.walk
+            ≡ with_members self.old.walk (slice_set self.old.walk.members (n - 1) (Some walked)) }
+        ensures slots { slots_of self.new.walk ≡ slice_set (slots_of self.old.walk) ((n - 1) + 1)
+            (Heard (WalkedBy walked)) }
         ensures heads { self.new.heads ≡ self.old.heads }
     {
         self.walk.hear_member((n - 1) as usize, walked);
@@ -174,7 +183,8 @@ impl HeadsWork {
     /// What the walk left, where it ended. Where memory is refused it comes back.
     pub fn into_walked(self, alloc: Global) -> Result<Walked, HeadsWork>
         requires { ShowsWalk self.walk WalkStep.End }
-        ensures walked { IfOk result (λ walked. (t : Terms) (x : Frame) → IsHeadsWork t self x → AllHeard x.slots × (left_of t x ≡ Ends (WalkedBy walked))) }
+        ensures walked { IfOk result (λ walked. (t : Terms) (x : Frame) → IsHeadsWork t self x → AllHeard x.slots
+            × (left_of t x ≡ Ends (WalkedBy walked))) }
         ensures left { IfOk result (λ walked. walked ≡ walk_left self.walk) }
         ensures back { IfErr result (λ work. work ≡ self) }
     {

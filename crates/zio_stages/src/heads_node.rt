@@ -1,7 +1,7 @@
 //! The walk over a block's headers, or over a claim's, as a node: a gang child that works by children alone.
 //!
-//! A header is read by a child, and each member that it names is walked by another, which does the same one level down. So
-//! the headers of a level are read beside each other, and no node keeps more than its own.
+//! A header is read by a child, and each member that it names is walked by another, which does the same one level down.
+//! So the headers of a level are read beside each other, and no node keeps more than its own.
 
 ghost use Rattle.std.specs.Prelude.{◌≡◌, ◌+◌, ◌<◌, ◌≤◌, IfErr, IfOk, IsTrue, List as Seq, Ok, OnErr, OnOk, Option, Some, false, length, slice_get};
 ghost use Rattle.std.specs.List.{AllByRecursion};
@@ -98,7 +98,8 @@ impl HeadsNode {
         requires valid { IsTrue (valid bp) }
         requires named { name.path ≡ path }
         ensures fresh { (t : Terms) → IsHeadsNode t result (fresh_stack (ReadHeads (ByKept heads) levels path bp)) }
-        ensures over { (tops : Seq SeenTop) → LiesOn tops bp → AllByRecursion (IsHeadOn tops) heads → IsHeadsOver tops result }
+        ensures over { (tops : Seq SeenTop) → LiesOn tops bp → AllByRecursion (IsHeadOn tops) heads
+            → IsHeadsOver tops result }
         ensures levels { result.work.walk.levels ≡ levels }
         ensures count { length result.family ≡ 0 }
     {
@@ -159,11 +160,12 @@ impl HeadsNode {
         &self.family
     }
 
-    /// Hands the read of the header, or the walk below the next member, to a child. Where memory is refused the node is as
-    /// before.
+    /// Hands the read of the header, or the walk below the next member, to a child. Where memory is refused the node is
+    /// as before.
     pub fn gang_assemble(&mut self, alloc: Global, tops: &[Top]) -> Result<WalkStage, NoMemory>
         requires { IsHeadsOver tops.now self.old }
-        ensures stage { IfOk result (λ stage. (t : Terms) (st : Stack) → t.setting.tops ≡ tops.now → IsHeadsNode t self.old st →
+        ensures stage { IfOk result (λ stage. (t : Terms) (st : Stack) → t.setting.tops ≡ tops.now →
+            IsHeadsNode t self.old st →
             IsWalkStage t self.new st stage) }
         ensures wait { result ≡ Ok WalkStage.Wait → self.new ≡ self.old }
         ensures on { result ≡ Ok WalkStage.On → (self.new ≡ self.old) × ShowsWalk self.new.work.walk WalkStep.End }
@@ -193,7 +195,8 @@ impl HeadsNode {
     fn hand_out_head(&mut self, alloc: Global, tops: &[Top]) -> Result<CopiesNode, NoMemory>
         requires over { IsHeadsOver tops.now self.old }
         requires step { ShowsWalk self.old.work.walk WalkStep.ReadHead }
-        ensures hands { IfOk result (λ child. (t : Terms) (st : Stack) → t.setting.tops ≡ tops.now → IsHeadsNode t self.old st →
+        ensures hands { IfOk result (λ child. (t : Terms) (st : Stack) → t.setting.tops ≡ tops.now →
+            IsHeadsNode t self.old st →
             HandsTo t Gang (λ op. IsCopiesNode t child (fresh_stack op)) (IsHeadsNode t self.new) st) }
         ensures over { IsHeadsOver tops.now self.new }
         ensures child_over { IfOk result (IsCopiesOver tops.now) }
@@ -220,7 +223,8 @@ impl HeadsNode {
     ) -> Result<HeadsNode, NoMemory>
         requires over { IsHeadsOver tops.now self.old }
         requires step { ShowsWalk self.old.work.walk (WalkStep.Member member) }
-        ensures hands { IfOk result (λ child. (t : Terms) (st : Stack) → t.setting.tops ≡ tops.now → IsHeadsNode t self.old st →
+        ensures hands { IfOk result (λ child. (t : Terms) (st : Stack) → t.setting.tops ≡ tops.now →
+            IsHeadsNode t self.old st →
             HandsTo t Gang (λ op. IsHeadsNode t child (fresh_stack op)) (IsHeadsNode t self.new) st) }
         ensures over { IsHeadsOver tops.now self.new }
         ensures child_over { IfOk result (IsHeadsOver tops.now) }
@@ -248,7 +252,8 @@ impl HeadsNode {
     /// A child told that its value has no pointer.
     pub fn arrive_ready(&mut self, child: u32)
         requires { HearsSomeUntold self.old child }
-        ensures told { (t : Terms) (st : Stack) (c : Child) (pointer : Option SeenBp) → IsHeadsNode t self.old st → IsSeated st →
+        ensures told { (t : Terms) (st : Stack) (c : Child) (pointer : Option SeenBp) → IsHeadsNode t self.old st →
+            IsSeated st →
             slice_get st.children child ≡ Some c → c.ended ≡ false → c.told ≡ false →
             IsHeadsNode t self.new (heard_early st child c pointer) }
         ensures over { (tops : Seq SeenTop) → IsHeadsOver tops self.old → IsHeadsOver tops self.new }
@@ -258,8 +263,8 @@ impl HeadsNode {
         self.family.tell(child);
     }
 
-    /// The child that reads the header ended: with the header's bytes, or with an error. Where memory is refused the node is
-    /// as before.
+    /// The child that reads the header ended: with the header's bytes, or with an error. Where memory is refused the
+    /// node is as before.
     pub fn arrive_head(
         &mut self,
         alloc: Global,

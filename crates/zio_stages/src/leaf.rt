@@ -93,7 +93,8 @@ impl LeafWork {
         bytes: Bytes,
     ) -> LeafWork
         requires { IsSpanned target.now.place }
-        ensures fresh { (t : Terms) → IsLeafWork t result (fresh_frame (Leaf (Store retry bytes (spot_at target.now)))) }
+        ensures fresh { (t : Terms)
+            → IsLeafWork t result (fresh_frame (Leaf (Store retry bytes (spot_at target.now)))) }
         ensures queued { IsQueuedAs prio repair result }
         ensures due { IsDue result }
         ensures origin { result.origin ≡ origin }

@@ -4,7 +4,8 @@ ghost use Rattle.std.specs.Prelude.{◌≡◌, ◌<◌};
 
 use zio_types::{Path, ReqNo, Role};
 
-/// Which part of which request's work it is: the part of its block, what is read or written there, and in which attempt.
+/// Which part of which request's work it is: the part of its block, what is read or written there, and in which
+/// attempt.
 #[derive(Clone, Copy, Debug)]
 pub struct Named {
     pub(crate) request: ReqNo,

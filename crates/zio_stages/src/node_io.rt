@@ -137,7 +137,8 @@ pub(crate) fn hear_read(
         IsReadAt t layer io.new family.new (heard_of st child c (Got a)) }
     ensures over { IsReadOver tops.now io.new }
     ensures sits { SitsOn layer (IsReadOutIn io.new) family.new }
-    ensures children { IfSome (slice_get family.old child) (λ (c : Child). family.new ≡ slice_set family.old child (child_ended c)) }
+    ensures children { IfSome (slice_get family.old child) (λ (c : Child). family.new
+        ≡ slice_set family.old child (child_ended c)) }
     ensures count { io.new.asked ≡ io.old.asked }
     ensures pass { io.new.read.retry ≡ io.old.read.retry }
 {
@@ -185,7 +186,8 @@ pub(crate) fn start_write(
 /// What the write is to do now.
 pub(crate) fn write_next(io: &WriteIo, tops: &[Top]) -> IoNext
     requires { IsWriteOver tops.now io.now }
-    ensures waits { result ≡ IoNext.Wait → (t : Terms) (bytes : List ℕ) (layer : SeenLayer) (family : List Child) (st : Stack) →
+    ensures waits { result ≡ IoNext.Wait →
+        (t : Terms) (bytes : List ℕ) (layer : SeenLayer) (family : List Child) (st : Stack) →
         t.setting.tops ≡ tops.now → IsSeated st → IsWriteAt t bytes layer io.now family st →
         first_owing (Vdev ∷ []) Done family ≡ Some Vdev }
     ensures due { result ≡ IoNext.On → IsWriteDue tops.now io.now }
@@ -238,7 +240,8 @@ pub(crate) fn hear_write(
         IsWriteAt t bytes layer io.new family.new (heard_of st child c (Got a)) }
     ensures over { (tops : List SeenTop) → IsWriteOver tops io.old → IsWriteOver tops io.new }
     ensures sits { SitsOn layer (IsOutIn io.new) family.new }
-    ensures children { IfSome (slice_get family.old child) (λ (c : Child). family.new ≡ slice_set family.old child (child_ended c)) }
+    ensures children { IfSome (slice_get family.old child) (λ (c : Child). family.new
+        ≡ slice_set family.old child (child_ended c)) }
     ensures count { io.new.asked ≡ io.old.asked }
     ensures pass { io.new.write.retry ≡ io.old.write.retry }
 {

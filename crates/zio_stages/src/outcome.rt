@@ -14,8 +14,8 @@ use zio_gang::Tree;
 use zio_parts::{StoredPart, Walked};
 use zio_types::{Bits, Bytes, Errno, ReqNo};
 
-/// A request that finished. The closing calls of a `RequestNode` alone make one, each out of a node whose children and own
-/// work have ended.
+/// A request that finished. The closing calls of a `RequestNode` alone make one, each out of a node whose children and
+/// own work have ended.
 #[derive(Debug, Drop)]
 pub struct Finished {
     request: ReqNo,

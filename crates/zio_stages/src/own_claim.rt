@@ -48,7 +48,8 @@ pub(crate) enum ClaimStep {
 /// The claim of a block: the walk over its headers, and then its places are taken, all together or none.
 #[derive(Drop)]
 pub(crate) struct OwnClaim {
-    /// The block of the pointer, with its headers once the walk ended without error; none where the bytes are no pointer.
+    /// The block of the pointer, with its headers once the walk ended without error; none where the bytes are no
+    /// pointer.
     pub(crate) block: Option<Tree>,
     pub(crate) step: ClaimStep,
 }
@@ -69,13 +70,16 @@ impl OwnClaim {
         }
     }
 
-    /// The walk from the pointer opens and closes at once, and this is true; from a gang's it is a child's. Bytes that are no
-    /// pointer have no walk.
+    /// The walk from the pointer opens and closes at once, and this is true; from a gang's it is a child's. Bytes that
+    /// are no pointer have no walk.
     pub(crate) fn claim_init(&mut self, alloc: Global, tops: &[Top]) -> Result<bool, NoMemory>
         requires due { self.old.step ≡ ClaimStep.Due }
         requires over { IsClaimOver tops.now self.old }
-        ensures walks { result ≡ Ok true → (t : Terms) (family : List Child) (pointer : Option SeenBp) (front_asked : List Task) (front : List Slot) (st : Stack) →
-            GoesOnAs t tops.now (plan_claim pointer) front st → IsOwnClaim self.old family pointer front_asked front st →
+        ensures walks { result ≡ Ok true →
+            (t : Terms) (family : List Child) (pointer : Option SeenBp) (front_asked : List Task) (front : List Slot)
+            (st : Stack) →
+            GoesOnAs t tops.now (plan_claim pointer) front st →
+            IsOwnClaim self.old family pointer front_asked front st →
             DoesThen t st [] (IsOwnClaim self.new family pointer front_asked front) }
         ensures gang { result ≡ Ok false → self.new ≡ self.old }
         ensures asks { result ≡ Ok false → IfSome self.old.block (λ tree. tree.bp.gang ≡ true) }
@@ -106,7 +110,8 @@ impl OwnClaim {
 
     /// The pointer whose walk is due, if one is.
     pub(crate) fn due_pointer(&self) -> Option<Bp>
-        ensures due { IfSome result (λ bp. (self.now.step ≡ ClaimStep.Due) × ((tree : SeenTree) × (self.now.block ≡ Some tree) × (tree.bp ≡ bp))) }
+        ensures due { IfSome result (λ bp. (self.now.step ≡ ClaimStep.Due)
+            × ((tree : SeenTree) × (self.now.block ≡ Some tree) × (tree.bp ≡ bp))) }
         ensures none { result ≡ None → IsPastDue self.now.block self.now.step }
     {
         match self.step {
@@ -122,8 +127,8 @@ impl OwnClaim {
         }
     }
 
-    /// The walk is a gang child's, which is added, behind so many operations of the node's part. Where memory is refused
-    /// nothing is.
+    /// The walk is a gang child's, which is added, behind so many operations of the node's part. Where memory is
+    /// refused nothing is.
     pub(crate) fn gang_assemble(
         &mut self,
         family: &mut Family,
@@ -133,9 +138,12 @@ impl OwnClaim {
         requires due { self.old.step ≡ ClaimStep.Due }
         requires some { IsSome self.old.block }
         requires room { length family.old < 2 ^ 32 - 1 }
-        ensures hands { OnOk result ((t : Terms) (tops : List SeenTop) (bp : SeenBp) (front_asked : List Task) (before : List Slot) (st : Stack) → length before ≡ front →
-            GoesOnAs t tops (plan_claim (Some bp)) before st → IsOwnClaim self.old family.old (Some bp) front_asked before st →
-            HandsTo t Gang (λ op. op ≡ claim_task bp) (IsOwnClaim self.new family.new (Some bp) front_asked before) st) }
+        ensures hands { OnOk result ((t : Terms) (tops : List SeenTop) (bp : SeenBp) (front_asked : List Task)
+            (before : List Slot) (st : Stack) → length before ≡ front →
+            GoesOnAs t tops (plan_claim (Some bp)) before st →
+            IsOwnClaim self.old family.old (Some bp) front_asked before st →
+            HandsTo t Gang (λ op. op ≡ claim_task bp)
+            (IsOwnClaim self.new family.new (Some bp) front_asked before) st) }
         ensures over { (tops : List SeenTop) → IsClaimOver tops self.old → IsClaimOver tops self.new }
         ensures out { OnOk result ((self.new.step ≡ ClaimStep.Out) × (self.new.block ≡ self.old.block)) }
         ensures sits { OnOk result (NoneSits Within family.old → NoneSits Within family.new) }
@@ -152,8 +160,10 @@ impl OwnClaim {
         requires child { child < length family.old }
         requires out { self.now.step ≡ ClaimStep.Out }
         ensures sits { NoneSits Within family.old → NoneSits Within family.new }
-        ensures told { (bp : SeenBp) (front_asked : List Task) (before : List Slot) (st : Stack) (c : Child) (pointer : Option SeenBp) →
-            slice_get st.children child ≡ Some c → c.seat ≡ OfOuter (length before) → IsOwnClaim self.now family.old (Some bp) front_asked before st →
+        ensures told { (bp : SeenBp) (front_asked : List Task) (before : List Slot) (st : Stack) (c : Child)
+            (pointer : Option SeenBp) →
+            slice_get st.children child ≡ Some c → c.seat ≡ OfOuter (length before) →
+            IsOwnClaim self.now family.old (Some bp) front_asked before st →
             IsOwnClaim self.now family.new (Some bp) front_asked before (heard_early st child c pointer) }
     {
         family.tell(child);
@@ -172,7 +182,8 @@ impl OwnClaim {
         requires over { IsClaimOver tops.now self.old }
         requires lies { (tree : SeenTree) × (self.old.block ≡ Some tree) × LiesWalked tops.now tree.bp walked }
         ensures heard { (bp : SeenBp) (front_asked : List Task) (before : List Slot) (st : Stack) (c : Child) →
-            slice_get st.children child ≡ Some c → c.seat ≡ OfOuter (length before) → IsOwnClaim self.old family.old (Some bp) front_asked before st →
+            slice_get st.children child ≡ Some c → c.seat ≡ OfOuter (length before) →
+            IsOwnClaim self.old family.old (Some bp) front_asked before st →
             IsOwnClaim self.new family.new (Some bp) front_asked before (heard_of st child c (WalkedBy walked)) }
         ensures over { IsClaimOver tops.now self.new }
         ensures past { IsPastWalk self.new.block self.new.step }
@@ -200,11 +211,13 @@ impl OwnClaim {
     ) -> Result<(), NoMemory>
         requires { IsClaimOver (S.tops services.old) self.old }
         ensures does { (calls : List SpaceCall) × S.made services.old calls services.new
-            × ((t : Terms) (tops : List SeenTop) (family : List Child) (pointer : Option SeenBp) (front_asked : List Task) (front : List Slot) (st : Stack) →
+            × ((t : Terms) (tops : List SeenTop) (family : List Child) (pointer : Option SeenBp)
+            (front_asked : List Task) (front : List Slot) (st : Stack) →
             GoesOnAs t tops (plan_claim pointer) front st → IsOwnClaim self.old family pointer front_asked front st →
             DoesThen t st calls (IsOwnClaim self.new family pointer front_asked front)) × IsClaimAtMost calls }
         ensures over { IsClaimOver (S.tops services.old) self.new }
-        ensures ended { OnOk result (IsPastWalk self.old.block self.old.step → HasClaimEnded self.new.block self.new.step) }
+        ensures ended { OnOk result (IsPastWalk self.old.block self.old.step
+            → HasClaimEnded self.new.block self.new.step) }
         ensures tops { S.tops services.new ≡ S.tops services.old }
     {
         let ClaimStep::Found = self.step else {
@@ -231,7 +244,8 @@ impl OwnClaim {
     pub(crate) fn into_claimed(self) -> Result<Tree, Errno>
         requires { HasClaimEnded self.block self.step }
         ensures took { taken_by self.block self.step ≡ block_places (own_claimed result).tree }
-        ensures ends { (family : List Child) (pointer : Option SeenBp) (front_asked : List Task) (front : List Slot) (st : Stack)
+        ensures ends { (family : List Child) (pointer : Option SeenBp) (front_asked : List Task) (front : List Slot)
+            (st : Stack)
             (h : IsOwnClaim self family pointer front_asked front st) →
             AllHeard h.slots × (left_behind_slots h.slots (plan_claim pointer) ≡ Ends (own_claimed result)) }
     {

@@ -38,7 +38,8 @@ pub(crate) enum FreeWalk {
     Ended(Option<Errno>),
 }
 
-/// The free of a block: the walk over its headers, and then its places are given back one by one, where no header failed.
+/// The free of a block: the walk over its headers, and then its places are given back one by one, where no header
+/// failed.
 #[derive(Drop)]
 pub(crate) struct OwnFree {
     pub(crate) walk: FreeWalk,
@@ -50,7 +51,8 @@ impl OwnFree {
     /// Nothing of it is asked.
     pub(crate) fn new() -> OwnFree
         ensures fresh { (family : List Child) (tree : Tree) (front_asked : List Task) (front : List Slot) (st : Stack) →
-            family ≡ st.children → IsBehind front_asked front [] [] st → st.inner ≡ None → IsOwnFree result.walk family tree front_asked front st }
+            family ≡ st.children → IsBehind front_asked front [] [] st → st.inner ≡ None
+            → IsOwnFree result.walk family tree front_asked front st }
         ensures given { result.given ≡ 0 }
         ensures due { result.walk ≡ FreeWalk.Due }
     {
@@ -63,8 +65,11 @@ impl OwnFree {
     /// The walk from the block's pointer opens and closes at once, and this is true; from a gang's it is a child's.
     pub(crate) fn free_bp_init(&mut self, alloc: Global, bp: Bp) -> Result<bool, NoMemory>
         requires { self.old.walk ≡ FreeWalk.Due }
-        ensures walks { result ≡ Ok true → (t : Terms) (tops : List SeenTop) (family : List Child) (tree : Tree) (front_asked : List Task) (front : List Slot) (st : Stack) →
-            tree.bp ≡ bp → GoesOnAs t tops (plan_free (Some tree)) front st → IsOwnFree self.old.walk family tree front_asked front st →
+        ensures walks { result ≡ Ok true →
+            (t : Terms) (tops : List SeenTop) (family : List Child) (tree : Tree) (front_asked : List Task)
+            (front : List Slot) (st : Stack) →
+            tree.bp ≡ bp → GoesOnAs t tops (plan_free (Some tree)) front st →
+            IsOwnFree self.old.walk family tree front_asked front st →
             DoesThen t st [] (IsOwnFree self.new.walk family tree front_asked front) }
         ensures gang { result ≡ Ok false → self.new ≡ self.old }
         ensures asks { result ≡ Ok false → bp.gang ≡ true }
@@ -79,8 +84,8 @@ impl OwnFree {
         Ok(true)
     }
 
-    /// The walk is a gang child's, which is added, behind so many operations of the node's part. Where memory is refused
-    /// nothing is.
+    /// The walk is a gang child's, which is added, behind so many operations of the node's part. Where memory is
+    /// refused nothing is.
     pub(crate) fn gang_assemble(
         &mut self,
         family: &mut Family,
@@ -89,9 +94,12 @@ impl OwnFree {
     ) -> Result<(), NoMemory>
         requires due { self.old.walk ≡ FreeWalk.Due }
         requires room { length family.old < 2 ^ 32 - 1 }
-        ensures hands { OnOk result ((t : Terms) (tops : List SeenTop) (tree : Tree) (front_asked : List Task) (before : List Slot) (st : Stack) → length before ≡ front →
-            GoesOnAs t tops (plan_free (Some tree)) before st → IsOwnFree self.old.walk family.old tree front_asked before st →
-            HandsTo t Gang (λ op. op ≡ heads_task tree) (IsOwnFree self.new.walk family.new tree front_asked before) st) }
+        ensures hands { OnOk result ((t : Terms) (tops : List SeenTop) (tree : Tree) (front_asked : List Task)
+            (before : List Slot) (st : Stack) → length before ≡ front →
+            GoesOnAs t tops (plan_free (Some tree)) before st →
+            IsOwnFree self.old.walk family.old tree front_asked before st →
+            HandsTo t Gang (λ op. op ≡ heads_task tree)
+            (IsOwnFree self.new.walk family.new tree front_asked before) st) }
         ensures given { self.new.given ≡ self.old.given }
         ensures out { OnOk result (self.new.walk ≡ FreeWalk.Out) }
         ensures sits { OnOk result (NoneSits Within family.old → NoneSits Within family.new) }
@@ -108,8 +116,10 @@ impl OwnFree {
         requires child { child < length family.old }
         requires out { self.now.walk ≡ FreeWalk.Out }
         ensures sits { NoneSits Within family.old → NoneSits Within family.new }
-        ensures told { (tree : Tree) (front_asked : List Task) (before : List Slot) (st : Stack) (c : Child) (pointer : Option SeenBp) →
-            slice_get st.children child ≡ Some c → c.seat ≡ OfOuter (length before) → IsOwnFree self.now.walk family.old tree front_asked before st →
+        ensures told { (tree : Tree) (front_asked : List Task) (before : List Slot) (st : Stack) (c : Child)
+            (pointer : Option SeenBp) →
+            slice_get st.children child ≡ Some c → c.seat ≡ OfOuter (length before) →
+            IsOwnFree self.now.walk family.old tree front_asked before st →
             IsOwnFree self.now.walk family.new tree front_asked before (heard_early st child c pointer) }
     {
         family.tell(child);
@@ -120,7 +130,8 @@ impl OwnFree {
         requires child { child < length family.old }
         requires out { self.old.walk ≡ FreeWalk.Out }
         ensures heard { (tree : Tree) (front_asked : List Task) (before : List Slot) (st : Stack) (c : Child) →
-            slice_get st.children child ≡ Some c → c.seat ≡ OfOuter (length before) → IsOwnFree self.old.walk family.old tree front_asked before st →
+            slice_get st.children child ≡ Some c → c.seat ≡ OfOuter (length before) →
+            IsOwnFree self.old.walk family.old tree front_asked before st →
             IsOwnFree self.new.walk family.new tree front_asked before (heard_of st child c (WalkedBy walked)) }
         ensures sits { NoneSits Within family.old → NoneSits Within family.new }
         ensures walked { (e : Option SeenErrno) × (self.new.walk ≡ FreeWalk.Ended e) }
@@ -155,7 +166,8 @@ impl OwnFree {
     pub(crate) fn error(&self) -> Option<Errno>
         requires { (e : Option SeenErrno) × (self.now.walk ≡ FreeWalk.Ended e) }
         ensures was { self.now.walk ≡ FreeWalk.Ended result }
-        ensures ends { (family : List Child) (tree : Tree) (front_asked : List Task) (front : List Slot) (st : Stack) (h : IsOwnFree self.now.walk family tree front_asked front st) →
+        ensures ends { (family : List Child) (tree : Tree) (front_asked : List Task) (front : List Slot) (st : Stack)
+            (h : IsOwnFree self.now.walk family tree front_asked front st) →
             AllHeard h.slots × (left_behind_slots h.slots (plan_free (Some tree)) ≡ Ends (only result)) }
     {
         match self.walk {

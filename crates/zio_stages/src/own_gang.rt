@@ -28,8 +28,8 @@ use zio_parts::{BodyRead, Walked};
 use zio_types::{Bytes, ChildKind, Errno, NoMemory};
 
 impl OwnRead {
-    /// The walk over the block's headers is a child's, which is added, behind so many operations of the node's part. Where
-    /// memory is refused nothing is.
+    /// The walk over the block's headers is a child's, which is added, behind so many operations of the node's part.
+    /// Where memory is refused nothing is.
     pub(crate) fn gang_assemble(
         &mut self,
         family: &mut Family,
@@ -39,7 +39,8 @@ impl OwnRead {
         requires walk { ShowsRead self.old.tree.read Walk }
         requires alone { self.old.body ≡ None }
         requires room { length family.old < 2 ^ 32 - 1 }
-        ensures hands { OnOk result ((t : Terms) (tops : List SeenTop) (tree : Tree) (front_asked : List Task) (before : List Slot) (st : Stack) → length before ≡ front →
+        ensures hands { OnOk result ((t : Terms) (tops : List SeenTop) (tree : Tree) (front_asked : List Task)
+            (before : List Slot) (st : Stack) → length before ≡ front →
             GoesOnAs t tops (plan_tree tree) before st → IsOwnRead t self.old family.old tree front_asked before st →
             HandsTo t Gang (λ op. op ≡ heads_task tree) (IsOwnRead t self.new family.new tree front_asked before) st) }
         ensures counts { OnOk result (HandsOutWalk self.old self.new) }
@@ -54,8 +55,8 @@ impl OwnRead {
         Ok(())
     }
 
-    /// The read of this body is a child's, which is added, behind so many operations of the node's part. Where memory is
-    /// refused nothing is.
+    /// The read of this body is a child's, which is added, behind so many operations of the node's part. Where memory
+    /// is refused nothing is.
     pub(crate) fn gang_issue(
         &mut self,
         family: &mut Family,
@@ -66,9 +67,11 @@ impl OwnRead {
         requires next { ShowsRead self.old.tree.read (Body body) }
         requires alone { self.old.body ≡ None }
         requires room { length family.old < 2 ^ 32 - 1 }
-        ensures hands { OnOk result ((t : Terms) (tops : List SeenTop) (tree : Tree) (front_asked : List Task) (before : List Slot) (st : Stack) → length before ≡ front →
+        ensures hands { OnOk result ((t : Terms) (tops : List SeenTop) (tree : Tree) (front_asked : List Task)
+            (before : List Slot) (st : Stack) → length before ≡ front →
             GoesOnAs t tops (plan_tree tree) before st → IsOwnRead t self.old family.old tree front_asked before st →
-            HandsTo t Gang (λ op. op ≡ body_task body.bp) (IsOwnRead t self.new family.new tree front_asked before) st) }
+            HandsTo t Gang (λ op. op ≡ body_task body.bp)
+            (IsOwnRead t self.new family.new tree front_asked before) st) }
         ensures counts { OnOk result (HandsOutBody self.old self.new) }
         ensures bodies { self.new.tree.read.bodies ≡ self.old.tree.read.bodies }
         ensures sits { OnOk result (NoneSits Within family.old → NoneSits Within family.new) }
@@ -93,10 +96,14 @@ impl OwnRead {
     /// The child told that it has no pointer.
     pub(crate) fn arrive_ready(&self, family: &mut Family, child: u32)
         requires child { child < length family.old }
-        ensures over { (tops : List SeenTop) → IsOwnReadOver tops self.now family.old → IsOwnReadOver tops self.now family.new }
-        ensures told { (t : Terms) (tree : Tree) (front_asked : List Task) (before : List Slot) (st : Stack) (c : Child) (n : ℕ) (pointer : Option SeenBp) →
-            slice_get st.children child ≡ Some c → c.seat ≡ OfOuter (length before + n) → IsSeated st → c.ended ≡ false → c.told ≡ false →
-            IsOwnRead t self.now family.old tree front_asked before st → IsOwnRead t self.now family.new tree front_asked before (heard_early st child c pointer) }
+        ensures over { (tops : List SeenTop) → IsOwnReadOver tops self.now family.old
+            → IsOwnReadOver tops self.now family.new }
+        ensures told { (t : Terms) (tree : Tree) (front_asked : List Task) (before : List Slot) (st : Stack) (c : Child)
+            (n : ℕ) (pointer : Option SeenBp) →
+            slice_get st.children child ≡ Some c → c.seat ≡ OfOuter (length before + n) → IsSeated st → c.ended ≡ false
+            → c.told ≡ false →
+            IsOwnRead t self.now family.old tree front_asked before st
+            → IsOwnRead t self.now family.new tree front_asked before (heard_early st child c pointer) }
     {
         family.tell(child);
     }
@@ -106,7 +113,8 @@ impl OwnRead {
         requires child { child < length family.old }
         requires out { IsWalkOut self.old.tree }
         requires alone { self.old.body ≡ None }
-        ensures heard { (t : Terms) (tree : Tree) (front_asked : List Task) (before : List Slot) (st : Stack) (c : Child) →
+        ensures heard { (t : Terms) (tree : Tree) (front_asked : List Task) (before : List Slot) (st : Stack)
+            (c : Child) →
             slice_get st.children child ≡ Some c → c.seat ≡ OfOuter (length before) →
             IsOwnRead t self.old family.old tree front_asked before st →
             IsOwnRead t self.new family.new tree front_asked before (heard_of st child c (WalkedBy walked)) }
@@ -130,11 +138,13 @@ impl OwnRead {
         requires child { child < length family.old }
         requires out { IsBodyOut self.old.tree n }
         requires beside { IsBeside n self.old.body }
-        ensures heard { (t : Terms) (tree : Tree) (front_asked : List Task) (before : List Slot) (st : Stack) (c : Child) (a : Answer) → found ≡ a →
+        ensures heard { (t : Terms) (tree : Tree) (front_asked : List Task) (before : List Slot) (st : Stack)
+            (c : Child) (a : Answer) → found ≡ a →
             slice_get st.children child ≡ Some c → c.seat ≡ OfOuter (length before + n) →
             IsOwnRead t self.old family.old tree front_asked before st →
             IsOwnRead t self.new family.new tree front_asked before (heard_of st child c (Got a)) }
-        ensures over { (tops : List SeenTop) → IsOwnReadOver tops self.old family.old → IsOwnReadOver tops self.new family.new }
+        ensures over { (tops : List SeenTop) → IsOwnReadOver tops self.old family.old
+            → IsOwnReadOver tops self.new family.new }
         ensures bodies { self.new.tree.read.bodies ≡ self.old.tree.read.bodies }
         ensures counts { HearsBody self.old self.new }
     {

@@ -47,8 +47,8 @@ pub(crate) struct BodyIo {
     io: ReadIo,
 }
 
-/// The read of a block: the walk over its headers, and then its bodies. Of a block of one body both are parts within the
-/// node's own, one after the other; of a gang each is a child's.
+/// The read of a block: the walk over its headers, and then its bodies. Of a block of one body both are parts within
+/// the node's own, one after the other; of a gang each is a child's.
 #[derive(Drop)]
 pub(crate) struct OwnRead {
     pub(crate) tree: TreeWork,
@@ -58,9 +58,12 @@ pub(crate) struct OwnRead {
 impl OwnRead {
     /// Nothing of it is asked.
     pub(crate) fn new(alloc: Global, bp: Bp) -> OwnRead
-        ensures fresh { (t : Terms) (family : List Child) (tree : Tree) (front_asked : List Task) (front : List Slot) (st : Stack) → tree.bp ≡ bp →
-            family ≡ st.children → IsBehind front_asked front [] [] st → st.inner ≡ None → IsOwnRead t result family tree front_asked front st }
-        ensures over { (tops : List SeenTop) (family : List Child) → NoneSits Within family → IsOwnReadOver tops result family }
+        ensures fresh { (t : Terms) (family : List Child) (tree : Tree) (front_asked : List Task) (front : List Slot)
+            (st : Stack) → tree.bp ≡ bp →
+            family ≡ st.children → IsBehind front_asked front [] [] st → st.inner ≡ None
+            → IsOwnRead t result family tree front_asked front st }
+        ensures over { (tops : List SeenTop) (family : List Child) → NoneSits Within family
+            → IsOwnReadOver tops result family }
         ensures walk { ShowsRead result.tree.read TreeStep.Walk }
         ensures alone { result.body ≡ None }
         ensures unread { IsUnread result }
@@ -75,8 +78,10 @@ impl OwnRead {
     /// What is to be done next.
     pub(crate) fn next(&self) -> TreeStep
         ensures shows { ShowsRead self.now.tree.read result }
-        ensures body { (body : BodyRead) → result ≡ TreeStep.Body body → slice_get self.now.tree.read.bodies body.n ≡ Some body.bp }
-        ensures waits { result ≡ TreeStep.Wait → self.now.body ≡ None → (t : Terms) (family : List Child) (tree : Tree) (front_asked : List Task) (front : List Slot) (st : Stack) →
+        ensures body { (body : BodyRead) → result ≡ TreeStep.Body body
+            → slice_get self.now.tree.read.bodies body.n ≡ Some body.bp }
+        ensures waits { result ≡ TreeStep.Wait → self.now.body ≡ None →
+            (t : Terms) (family : List Child) (tree : Tree) (front_asked : List Task) (front : List Slot) (st : Stack) →
             IsSeated st → IsOwnRead t self.now family tree front_asked front st → IsOwed Gang Done st }
     {
         self.tree.next()
@@ -86,13 +91,17 @@ impl OwnRead {
     pub(crate) fn read_bp_init(&mut self, alloc: Global, bp: Bp) -> Result<bool, NoMemory>
         requires walk { ShowsRead self.old.tree.read TreeStep.Walk }
         requires alone { self.old.body ≡ None }
-        ensures walks { result ≡ Ok true → (t : Terms) (tops : List SeenTop) (family : List Child) (tree : Tree) (front_asked : List Task) (front : List Slot) (st : Stack) →
-            tree.bp ≡ bp → GoesOnAs t tops (plan_tree tree) front st → IsOwnRead t self.old family tree front_asked front st →
+        ensures walks { result ≡ Ok true →
+            (t : Terms) (tops : List SeenTop) (family : List Child) (tree : Tree) (front_asked : List Task)
+            (front : List Slot) (st : Stack) →
+            tree.bp ≡ bp → GoesOnAs t tops (plan_tree tree) front st →
+            IsOwnRead t self.old family tree front_asked front st →
             DoesThen t st [] (IsOwnRead t self.new family tree front_asked front) }
         ensures gang { result ≡ Ok false → self.new ≡ self.old }
         ensures asks { result ≡ Ok false → bp.gang ≡ true }
         ensures one { result ≡ Ok true → (bp.gang ≡ false) × (self.old.tree.read.results ≡ [] → HasOneBody self.new) }
-        ensures on { (tops : List SeenTop) → (bp.gang ≡ false → IsBodyOn tops bp) → AllByRecursion (IsBodyOn tops) self.old.tree.read.bodies →
+        ensures on { (tops : List SeenTop) → (bp.gang ≡ false → IsBodyOn tops bp) →
+            AllByRecursion (IsBodyOn tops) self.old.tree.read.bodies →
             AllByRecursion (IsBodyOn tops) self.new.tree.read.bodies }
         ensures alone { self.new.body ≡ None }
         ensures err { OnErr result (self.new ≡ self.old) }
@@ -115,10 +124,12 @@ impl OwnRead {
         requires next { ShowsRead self.old.tree.read (TreeStep.Body body) }
         requires alone { self.old.body ≡ None }
         requires on { IsBodyOn tops.now body.bp }
-        ensures begins { OnOk result ((t : Terms) (family : List Child) (tree : Tree) (front_asked : List Task) (front : List Slot) (st : Stack) →
+        ensures begins { OnOk result ((t : Terms) (family : List Child) (tree : Tree) (front_asked : List Task)
+            (front : List Slot) (st : Stack) →
             GoesOnAs t tops.now (plan_tree tree) front st → IsOwnRead t self.old family tree front_asked front st →
             DoesThen t st [] (IsOwnRead t self.new family tree front_asked front)) }
-        ensures over { OnOk result ((family : List Child) → NoneSits Within family → IsOwnReadOver tops.now self.new family) }
+        ensures over { OnOk result ((family : List Child) → NoneSits Within family
+            → IsOwnReadOver tops.now self.new family) }
         ensures bodies { OnOk result (self.new.tree.read.bodies ≡ self.old.tree.read.bodies) }
         ensures counts { OnOk result (BeginsBody self.old self.new) }
         ensures err { OnErr result (self.new ≡ self.old) }
@@ -132,7 +143,8 @@ impl OwnRead {
         Ok(())
     }
 
-    /// The read of the next body begins as the part within, if it is due and none is there. Where memory is refused nothing does.
+    /// The read of the next body begins as the part within, if it is due and none is there. Where memory is refused
+    /// nothing does.
     pub(crate) fn begin_next(
         &mut self,
         alloc: Global,
@@ -140,13 +152,16 @@ impl OwnRead {
         prio: Prio,
     ) -> Result<(), NoMemory>
         requires { AllByRecursion (IsBodyOn tops.now) self.old.tree.read.bodies }
-        ensures begins { (t : Terms) (family : List Child) (tree : Tree) (front_asked : List Task) (front : List Slot) (st : Stack) →
+        ensures begins { (t : Terms) (family : List Child) (tree : Tree) (front_asked : List Task) (front : List Slot)
+            (st : Stack) →
             GoesOnAs t tops.now (plan_tree tree) front st → IsOwnRead t self.old family tree front_asked front st →
             DoesThen t st [] (IsOwnRead t self.new family tree front_asked front) }
-        ensures over { (family : List Child) → IsOwnReadOver tops.now self.old family → IsOwnReadOver tops.now self.new family }
+        ensures over { (family : List Child) → IsOwnReadOver tops.now self.old family
+            → IsOwnReadOver tops.now self.new family }
         ensures bodies { self.new.tree.read.bodies ≡ self.old.tree.read.bodies }
         ensures counts { MayBegin self.old self.new }
-        ensures none { OnOk result (self.new.body ≡ None → (step : TreeStep) × IsNoBody step × ShowsRead self.new.tree.read step) }
+        ensures none { OnOk result (self.new.body ≡ None → (step : TreeStep) × IsNoBody step
+            × ShowsRead self.new.tree.read step) }
     {
         if self.body.is_some() {
             return Ok(());
@@ -157,8 +172,8 @@ impl OwnRead {
         }
     }
 
-    /// The next operation on a leaf of the part within, whose child was added, or none where none is due now. Where memory is
-    /// refused all is as before.
+    /// The next operation on a leaf of the part within, whose child was added, or none where none is due now. Where
+    /// memory is refused all is as before.
     pub(crate) fn vdev_io_start(
         &mut self,
         family: &mut Family,
@@ -168,7 +183,8 @@ impl OwnRead {
     ) -> Result<Option<LeafWork>, NoMemory>
         requires over { IsOwnReadOver tops.now self.old family.old }
         requires room { length family.old < 2 ^ 32 - 1 }
-        ensures starts { IfOk result (λ leaf. (t : Terms) (tree : Tree) (front_asked : List Task) (front : List Slot) (st : Stack) →
+        ensures starts { IfOk result (λ leaf. (t : Terms) (tree : Tree) (front_asked : List Task) (front : List Slot)
+            (st : Stack) →
             GoesOnAs t tops.now (plan_tree tree) front st → IsOwnRead t self.old family.old tree front_asked front st →
             StartsBy t st leaf (IsOwnRead t self.new family.new tree front_asked front)) }
         ensures due { IfOk result (λ leaf. IfSome leaf IsDue) }
@@ -190,8 +206,10 @@ impl OwnRead {
     /// What is to be done once no operation on a leaf is due.
     pub(crate) fn vdev_io_done(&self, tops: &[Top]) -> IoNext
         requires { (family : List Child) × IsOwnReadOver tops.now self.now family }
-        ensures waits { result ≡ IoNext.Wait → (t : Terms) (family : List Child) (tree : Tree) (front_asked : List Task) (front : List Slot) (st : Stack) →
-            t.setting.tops ≡ tops.now → IsSeated st → IsOwnRead t self.now family tree front_asked front st → IsOwed Vdev Done st }
+        ensures waits { result ≡ IoNext.Wait →
+            (t : Terms) (family : List Child) (tree : Tree) (front_asked : List Task) (front : List Slot) (st : Stack) →
+            t.setting.tops ≡ tops.now → IsSeated st → IsOwnRead t self.now family tree front_asked front st
+            → IsOwed Vdev Done st }
         ensures due { result ≡ IoNext.On → IfSome self.now.body (λ body. IsReadDue tops.now body.io) }
         ensures more { result ≡ IoNext.More → IsOneDue tops.now self.now }
     {
@@ -215,9 +233,12 @@ impl OwnRead {
     pub(crate) fn vdev_io_assess(&mut self, family: &Family, tops: &[Top]) -> bool
         requires over { IsOwnReadOver tops.now self.old family.now }
         requires due { IfSome self.old.body (λ body. IsReadDue tops.now body.io) }
-        ensures again { result ≡ true → (t : Terms) (tree : Tree) (front_asked : List Task) (front : List Slot) (st : Stack) →
-            t.setting.tops ≡ tops.now → IsOwnRead t self.old family.now tree front_asked front st → IsOwnRead t self.new family.now tree front_asked front st }
-        ensures closes { result ≡ false → (t : Terms) (tree : Tree) (front_asked : List Task) (front : List Slot) (st : Stack) →
+        ensures again { result ≡ true →
+            (t : Terms) (tree : Tree) (front_asked : List Task) (front : List Slot) (st : Stack) →
+            t.setting.tops ≡ tops.now → IsOwnRead t self.old family.now tree front_asked front st
+            → IsOwnRead t self.new family.now tree front_asked front st }
+        ensures closes { result ≡ false →
+            (t : Terms) (tree : Tree) (front_asked : List Task) (front : List Slot) (st : Stack) →
             t.setting.tops ≡ tops.now → IsOwnRead t self.old family.now tree front_asked front st →
             DoesThen t st [] (IsOwnRead t self.new family.now tree front_asked front) }
         ensures alone { result ≡ false → self.new.body ≡ None }
@@ -237,8 +258,8 @@ impl OwnRead {
         false
     }
 
-    /// A child of the part within, an operation on a leaf, has ended: with the bytes of its read, with none of a repair, or
-    /// with an error.
+    /// A child of the part within, an operation on a leaf, has ended: with the bytes of its read, with none of a
+    /// repair, or with an error.
     pub(crate) fn arrive_leaf(
         &mut self,
         family: &mut Family,
@@ -248,8 +269,10 @@ impl OwnRead {
     )
         requires over { IsOwnReadOver tops.now self.old family.old }
         requires awaited { IsAwaitedAt Within family.old child }
-        ensures heard { (t : Terms) (tree : Tree) (front_asked : List Task) (front : List Slot) (st : Stack) (c : Child) (a : Answer) →
-            t.setting.tops ≡ tops.now → found ≡ a → slice_get st.children child ≡ Some c → IsOwnRead t self.old family.old tree front_asked front st →
+        ensures heard { (t : Terms) (tree : Tree) (front_asked : List Task) (front : List Slot) (st : Stack) (c : Child)
+            (a : Answer) →
+            t.setting.tops ≡ tops.now → found ≡ a → slice_get st.children child ≡ Some c →
+            IsOwnRead t self.old family.old tree front_asked front st →
             IsOwnRead t self.new family.new tree front_asked front (heard_of st child c (Got a)) }
         ensures over { IsOwnReadOver tops.now self.new family.new }
         ensures tree { self.new.tree ≡ self.old.tree }
@@ -268,7 +291,8 @@ impl OwnRead {
     pub(crate) fn into_found(self, alloc: Global) -> Result<Result<Bytes, Errno>, OwnRead>
         requires { ShowsRead self.tree.read TreeStep.End }
         ensures back { IfErr result (λ own. own ≡ self) }
-        ensures found { IfOk result (λ found. (t : Terms) (family : List Child) (tree : Tree) (front_asked : List Task) (front : List Slot) (st : Stack)
+        ensures found { IfOk result (λ found. (t : Terms) (family : List Child) (tree : Tree) (front_asked : List Task)
+            (front : List Slot) (st : Stack)
             (h : IsOwnRead t self family tree front_asked front st) →
             AllHeard h.slots × (left_behind_slots h.slots (plan_tree tree) ≡ Ends (Got found))) }
     {

@@ -31,8 +31,8 @@ pub(crate) struct OwnWrite {
     pub(crate) front: u32,
 }
 
-/// The write of the request's block, of which nothing is asked. Its content begins with the pointers that its children told,
-/// and its sum is taken here, so no later stage goes over the bytes again.
+/// The write of the request's block, of which nothing is asked. Its content begins with the pointers that its children
+/// told, and its sum is taken here, so no later stage goes over the bytes again.
 pub(crate) fn block_of(
     alloc: Global,
     waiting: &UnfinishedRequest,
@@ -43,9 +43,11 @@ pub(crate) fn block_of(
     requires told { list_all is_told kids.now.kids ≡ true }
     requires valid { HaveValidPointers kids.now }
     requires sound { IsSoundWrite (length kids.now.kids + length kids.now.kept) waiting.now }
-    ensures fresh { IfOk result (λ work. (t : Terms) (f : Front) (family : Seq Child) (st : Stack) → t.round ≡ round → IsIdleAt family f st →
+    ensures fresh { IfOk result (λ work. (t : Terms) (f : Front) (family : Seq Child) (st : Stack) → t.round ≡ round →
+        IsIdleAt family f st →
         IsBlockAt t work family f attempt (pending_of waiting.now) (pointers_of kids.now) st) }
-    ensures over { IfOk result (λ work. (tops : Seq SeenTop) (family : Seq Child) → NoneSits Within family → IsPartOver tops work family) }
+    ensures over { IfOk result (λ work. (tops : Seq SeenTop) (family : Seq Child) → NoneSits Within family
+        → IsPartOver tops work family) }
     ensures io { IfOk result (λ work. work.io ≡ None) }
 {
     let Work::Write {

@@ -21,8 +21,8 @@ use zio_blkptr::{BLOCK_SIZE_MAX, Bp};
 use zio_parts::{BlockWrite, PartBack, PartStep, PartWrite, PlaceAsk, StoredPart};
 use zio_types::{Errno, List, Path, Place};
 
-/// The write of a part of a block: of a member by its own node, or of the whole by its request. Whoever holds it holds the
-/// bytes too.
+/// The write of a part of a block: of a member by its own node, or of the whole by its request. Whoever holds it holds
+/// the bytes too.
 #[derive(Debug, Drop)]
 pub struct PartOwn {
     part: PartWrite,
@@ -35,7 +35,8 @@ pub struct OwnBack {
 }
 
 impl PartOwn {
-    /// Nothing of it is asked. The bytes are whole sectors, no more than so many levels of headers below the path can hold.
+    /// Nothing of it is asked. The bytes are whole sectors, no more than so many levels of headers below the path can
+    /// hold.
     pub fn new(write: BlockWrite, path: Path, bytes: &[u8]) -> PartOwn
         requires some { 0 < length bytes.now }
         requires whole { length bytes.now % 512 ≡ 0 }
@@ -45,7 +46,8 @@ impl PartOwn {
         requires three { write.copies ≤ 3 }
         requires born { 1 ≤ write.birth }
         ensures fresh { result.part ≡ fresh_part write path bytes.now }
-        ensures is { (t : Terms) (o : WrittenPart) → writing_by t.setting write ≡ writing_of t o.attempt o.pending o.sum_kind o.copies →
+        ensures is { (t : Terms) (o : WrittenPart) →
+            writing_by t.setting write ≡ writing_of t o.attempt o.pending o.sum_kind o.copies →
             o.path ≡ path → o.bytes ≡ bytes.now → length path + o.levels ≡ 8 → IsPartOwn t result o [] [] }
     {
         PartOwn {
@@ -58,7 +60,8 @@ impl PartOwn {
         ensures shows { ShowsOwn self.now result }
         ensures waits { result ≡ PartStep.Wait → (t : Terms) (o : WrittenPart) (asked : List Task) (slots : List Slot) →
             IsPartOwn t self.now o asked slots → 0 < length (told_in slots) }
-        ensures waits_ready { result ≡ PartStep.WaitReady → (t : Terms) (o : WrittenPart) (asked : List Task) (slots : List Slot) →
+        ensures waits_ready { result ≡ PartStep.WaitReady →
+            (t : Terms) (o : WrittenPart) (asked : List Task) (slots : List Slot) →
             IsPartOwn t self.now o asked slots → Contains (told_in slots) None }
         ensures due { (n : ℕ) → result ≡ PartStep.Member n → self.now.part.own ≡ Due }
         ensures written { is_due self.now.part.own ≡ false → IsLast result }
@@ -69,7 +72,8 @@ impl PartOwn {
     /// The ask for places for the part's bytes.
     pub fn body_ask(&self) -> PlaceAsk
         requires { ShowsOwn self.now PartStep.AskBody }
-        ensures asks { (t : Terms) (o : WrittenPart) (asked : List Task) (slots : List Slot) → IsPartOwn t self.now o asked slots →
+        ensures asks { (t : Terms) (o : WrittenPart) (asked : List Task) (slots : List Slot) →
+            IsPartOwn t self.now o asked slots →
             PartAsks t o slots (Find (ask_by result)) }
         ensures some { 0 < result.size }
         ensures whole { result.size % 512 ≡ 0 }
@@ -85,7 +89,8 @@ impl PartOwn {
     /// The ask for places for a header.
     pub fn head_ask(&self) -> PlaceAsk
         requires { ShowsOwn self.now PartStep.AskHead }
-        ensures asks { (t : Terms) (o : WrittenPart) (asked : List Task) (slots : List Slot) → IsPartOwn t self.now o asked slots →
+        ensures asks { (t : Terms) (o : WrittenPart) (asked : List Task) (slots : List Slot) →
+            IsPartOwn t self.now o asked slots →
             PartAsks t o slots (Find (ask_by result)) }
         ensures size { result.size ≡ 512 }
         ensures some { 0 < self.now.part.size }
@@ -101,9 +106,11 @@ impl PartOwn {
     /// The places that were asked for were found, or refused.
     pub fn hear_places(&mut self, places: Option<List<Place>>)
         requires asked { IsAsk (step_of self.old.part) }
-        requires valid { IfSome places (λ ps. IsTrue (valid (pointer_over self.old.part (is_head_due self.old.part.placing) ps))) }
+        requires valid { IfSome places
+            (λ ps. IsTrue (valid (pointer_over self.old.part (is_head_due self.old.part.placing) ps))) }
         ensures exact { self.new.part ≡ places_heard self.old.part places }
-        ensures heard { (t : Terms) (o : WrittenPart) (asked : List Task) (slots : List Slot) (a : Ask) → IsPartOwn t self.old o asked slots →
+        ensures heard { (t : Terms) (o : WrittenPart) (asked : List Task) (slots : List Slot) (a : Ask) →
+            IsPartOwn t self.old o asked slots →
             IsPartOwn t self.new o (asked ++ Find a ∷ []) (slots ++ Heard (Found places) ∷ []) }
     {
         self.part.hear_places(places);
@@ -112,14 +119,16 @@ impl PartOwn {
     /// Where the bytes of a member stand in the part's.
     pub fn member_range(&self, n: usize) -> Range<usize>
         requires { ShowsOwn self.now (PartStep.Member n) }
-        ensures bytes { (bytes : List ℕ) → length bytes ≡ self.now.part.size → member_bytes bytes n ≡ take (result.end - result.start) (drop result.start bytes) }
+        ensures bytes { (bytes : List ℕ) → length bytes ≡ self.now.part.size
+            → member_bytes bytes n ≡ take (result.end - result.start) (drop result.start bytes) }
         ensures some { result.start < result.end }
         ensures within { result.end ≤ self.now.part.size }
     {
         self.part.member_range(n)
     }
 
-    /// The write of the nth member is out, where these are the bytes of the part. Its own bytes are those in the member's range.
+    /// The write of the nth member is out, where these are the bytes of the part. Its own bytes are those in the
+    /// member's range.
     pub fn hand_out_member(&mut self, n: usize, bytes: &[u8]) -> PartOwn
         requires next { ShowsOwn self.old (PartStep.Member n) }
         requires whole { length bytes.now ≡ self.old.part.size }
@@ -129,7 +138,8 @@ impl PartOwn {
         ensures begun { result.part.members ≡ [] }
         ensures path { result.part.path ≡ self.old.part.path ++ n ∷ [] }
         ensures deep { length self.old.part.path < 8 }
-        ensures handed { (t : Terms) (o : WrittenPart) (asked : List Task) (slots : List Slot) → IsPartOwn t self.old o asked slots →
+        ensures handed { (t : Terms) (o : WrittenPart) (asked : List Task) (slots : List Slot) →
+            IsPartOwn t self.old o asked slots →
             o.bytes ≡ bytes.now → HandsMember t self.new result o n asked slots }
     {
         // A path has at most eight steps.
@@ -151,7 +161,8 @@ impl PartOwn {
         requires { ShowsOwn self.old PartStep.WriteBody }
         ensures places { places_at self.new.part.placing ≡ places_at self.old.part.placing }
         ensures exact { self.new.part ≡ part_handed self.old.part }
-        ensures out { (t : Terms) (o : WrittenPart) (asked : List Task) (slots : List Slot) → IsPartOwn t self.old o asked slots →
+        ensures out { (t : Terms) (o : WrittenPart) (asked : List Task) (slots : List Slot) →
+            IsPartOwn t self.old o asked slots →
             HandsOut t self.new o asked slots (WriteCopies o.bytes (places_at self.old.part.placing)) }
     {
         self.part.hand_out();
@@ -162,7 +173,8 @@ impl PartOwn {
         requires { ShowsOwn self.old PartStep.WriteHeader }
         ensures places { places_at self.new.part.placing ≡ places_at self.old.part.placing }
         ensures exact { self.new.part ≡ part_handed self.old.part }
-        ensures out { (t : Terms) (o : WrittenPart) (asked : List Task) (slots : List Slot) → IsPartOwn t self.old o asked slots →
+        ensures out { (t : Terms) (o : WrittenPart) (asked : List Task) (slots : List Slot) →
+            IsPartOwn t self.old o asked slots →
             HandsOut t self.new o asked slots (WriteCopies result (places_at self.old.part.placing)) }
     {
         let bytes = self.part.header();
@@ -176,7 +188,8 @@ impl PartOwn {
         requires out { slice_get (slots_of self.old.part) n ≡ Some (IsOut None) }
         requires valid { IfSome pointer (λ bp. IsTrue (valid bp)) }
         ensures exact { self.new.part ≡ member_told self.old.part (n - 2) pointer }
-        ensures told { (t : Terms) (o : WrittenPart) (asked : List Task) (slots : List Slot) → IsPartOwn t self.old o asked slots →
+        ensures told { (t : Terms) (o : WrittenPart) (asked : List Task) (slots : List Slot) →
+            IsPartOwn t self.old o asked slots →
             IsPartOwn t self.new o asked (slice_set slots n (IsOut (Some pointer))) }
     {
         self.part.tell((n - 2) as usize, pointer);
@@ -186,10 +199,12 @@ impl PartOwn {
     pub fn hear_member(&mut self, n: u32, stored: StoredPart)
         requires member { slice_get (asks_in self.old.part) n ≡ Some ForMember }
         requires out { IsOutAs stored.pointer (slice_get (slots_of self.old.part) n) }
-        requires valid { slice_get (slots_of self.old.part) n ≡ Some (IsOut None) → IfSome stored.pointer (λ bp. IsTrue (valid bp)) }
+        requires valid { slice_get (slots_of self.old.part) n ≡ Some (IsOut None)
+            → IfSome stored.pointer (λ bp. IsTrue (valid bp)) }
         requires kept { IsKept stored.pointer stored.heads }
         ensures exact { self.new.part ≡ member_heard self.old.part (n - 2) stored.error stored.pointer stored.heads }
-        ensures heard { (t : Terms) (o : WrittenPart) (asked : List Task) (slots : List Slot) → IsPartOwn t self.old o asked slots →
+        ensures heard { (t : Terms) (o : WrittenPart) (asked : List Task) (slots : List Slot) →
+            IsPartOwn t self.old o asked slots →
             IsPartOwn t self.new o asked (slice_set slots n (Heard (StoredAs (stored_as stored)))) }
     {
         self.part.hear_member((n - 2) as usize, stored.error, stored.pointer, stored.heads);
@@ -199,8 +214,10 @@ impl PartOwn {
     pub fn hear_written(&mut self, error: Option<Errno>)
         requires { self.old.part.own ≡ OwnOut }
         ensures exact { self.new.part ≡ own_heard self.old.part error }
-        ensures heard { (n : ℕ) → slice_get (asks_in self.old.part) n ≡ Some ForBytes → (t : Terms) (o : WrittenPart) (asked : List Task) (slots : List Slot) →
-            IsPartOwn t self.old o asked slots → IsPartOwn t self.new o asked (slice_set slots n (Heard (Wrote error))) }
+        ensures heard { (n : ℕ) → slice_get (asks_in self.old.part) n ≡ Some ForBytes →
+            (t : Terms) (o : WrittenPart) (asked : List Task) (slots : List Slot) →
+            IsPartOwn t self.old o asked slots
+            → IsPartOwn t self.new o asked (slice_set slots n (Heard (Wrote error))) }
     {
         self.part.hear_written(error);
     }
@@ -215,8 +232,10 @@ impl PartOwn {
     /// The pointer that it tells once it is ready, none where it has no place.
     pub fn pointer(&self) -> Option<Bp>
         ensures valid { IfSome result (λ bp. IsTrue (valid bp)) }
-        ensures early { is_ready self.now.part ≡ true → (t : Terms) (o : WrittenPart) (asked : List Task) (slots : List Slot) →
-            IsPartOwn t self.now o asked slots → EndsAnswered (λ (v : Value). early v ≡ result) (told_in slots) (left_behind_slots slots (part_plan t o)) }
+        ensures early { is_ready self.now.part ≡ true →
+            (t : Terms) (o : WrittenPart) (asked : List Task) (slots : List Slot) →
+            IsPartOwn t self.now o asked slots
+            → EndsAnswered (λ (v : Value). early v ≡ result) (told_in slots) (left_behind_slots slots (part_plan t o)) }
     {
         self.part.pointer()
     }
@@ -228,7 +247,8 @@ impl PartOwn {
         ensures kept { IfOk result (λ stored. IsKept stored.pointer stored.heads) }
         ensures exact { IfOk result (λ stored. stored_as stored ≡ stored_by self.part) }
         ensures back { IfErr result (λ e. e.own ≡ self) }
-        ensures ended { IfOk result (λ stored. (t : Terms) (o : WrittenPart) (asked : List Task) (slots : List Slot) → IsPartOwn t self o asked slots →
+        ensures ended { IfOk result (λ stored. (t : Terms) (o : WrittenPart) (asked : List Task) (slots : List Slot) →
+            IsPartOwn t self o asked slots →
             AllHeard slots × (left_behind_slots slots (part_plan t o) ≡ Ends (StoredAs (stored_as stored)))) }
     {
         // The clauses say that the pointer is valid, and fits its types.

@@ -30,8 +30,8 @@ use zio_parts::PartStep;
 use zio_types::{Errno, List, NoMemory, Role, Top};
 
 impl PartWork {
-    /// The next operation on a leaf of its own write, which begins if it is due; none where none is due now. Where memory is
-    /// refused its own write may have begun.
+    /// The next operation on a leaf of its own write, which begins if it is due; none where none is due now. Where
+    /// memory is refused its own write may have begun.
     pub(crate) fn vdev_io_start(
         &mut self,
         family: &mut Family,
@@ -40,10 +40,12 @@ impl PartWork {
         tops: &[Top],
     ) -> Result<Option<LeafWork>, NoMemory>
         requires over { IsPartOver tops.now self.old family.old }
-        ensures starts { IfOk result (λ leaf. (t : Terms) (f : Front) (o : WrittenPart) (front : ℕ) (st : Stack) → t.setting.tops ≡ tops.now →
+        ensures starts { IfOk result (λ leaf. (t : Terms) (f : Front) (o : WrittenPart) (front : ℕ) (st : Stack) →
+            t.setting.tops ≡ tops.now →
             IsFront t f o front → IsPartAt t self.old family.old f o st →
             DoesThen t st [] (λ mid. StartsBy t mid leaf (IsPartAt t self.new family.new f o))) }
-        ensures err { OnErr result ((t : Terms) (f : Front) (o : WrittenPart) (front : ℕ) (st : Stack) → IsFront t f o front →
+        ensures err { OnErr result ((t : Terms) (f : Front) (o : WrittenPart) (front : ℕ) (st : Stack) →
+            IsFront t f o front →
             IsPartAt t self.old family.old f o st → DoesThen t st [] (IsPartAt t self.new family.new f o)) }
         ensures over { IsPartOver tops.now self.new family.new }
         ensures due { IfOk result (λ leaf. IfSome leaf IsDue) }
@@ -59,9 +61,11 @@ impl PartWork {
 
     /// Its own write begins, if it is due: as the part within.
     fn begin(&mut self, alloc: Global) -> Result<(), NoMemory>
-        ensures does { (t : Terms) (f : Front) (o : WrittenPart) (front : ℕ) (family : Seq Child) (st : Stack) → IsFront t f o front →
+        ensures does { (t : Terms) (f : Front) (o : WrittenPart) (front : ℕ) (family : Seq Child) (st : Stack) →
+            IsFront t f o front →
             IsPartAt t self.old family f o st → DoesThen t st [] (IsPartAt t self.new family f o) }
-        ensures over { (tops : Seq SeenTop) (family : Seq Child) → IsPartOver tops self.old family → IsPartOver tops self.new family }
+        ensures over { (tops : Seq SeenTop) (family : Seq Child) → IsPartOver tops self.old family
+            → IsPartOver tops self.new family }
         ensures far { IsNoLessFar self.old.own.part self.new.own.part }
         ensures issued { OnOk result ((tops : Seq SeenTop) (family : Seq Child) → IsPartOver tops self.old family →
             is_ready self.old.own.part ≡ true → IsIssued self.new.own.part) }
@@ -81,9 +85,11 @@ impl PartWork {
     fn begin_body(&mut self, alloc: Global) -> Result<(), NoMemory>
         requires next { ShowsOwn self.old.own PartStep.WriteBody }
         requires none { self.old.io ≡ None }
-        ensures does { (t : Terms) (f : Front) (o : WrittenPart) (front : ℕ) (family : Seq Child) (st : Stack) → IsFront t f o front →
+        ensures does { (t : Terms) (f : Front) (o : WrittenPart) (front : ℕ) (family : Seq Child) (st : Stack) →
+            IsFront t f o front →
             IsPartAt t self.old family f o st → DoesThen t st [] (IsPartAt t self.new family f o) }
-        ensures over { (tops : Seq SeenTop) (family : Seq Child) → IsPartOver tops self.old family → IsPartOver tops self.new family }
+        ensures over { (tops : Seq SeenTop) (family : Seq Child) → IsPartOver tops self.old family
+            → IsPartOver tops self.new family }
         ensures far { IsNoLessFar self.old.own.part self.new.own.part }
         ensures issued { OnOk result (IsIssued self.new.own.part) }
         ensures count { asked_by self.new.io ≡ 0 }
@@ -98,9 +104,11 @@ impl PartWork {
     fn begin_header(&mut self, alloc: Global) -> Result<(), NoMemory>
         requires next { ShowsOwn self.old.own PartStep.WriteHeader }
         requires none { self.old.io ≡ None }
-        ensures does { (t : Terms) (f : Front) (o : WrittenPart) (front : ℕ) (family : Seq Child) (st : Stack) → IsFront t f o front →
+        ensures does { (t : Terms) (f : Front) (o : WrittenPart) (front : ℕ) (family : Seq Child) (st : Stack) →
+            IsFront t f o front →
             IsPartAt t self.old family f o st → DoesThen t st [] (IsPartAt t self.new family f o) }
-        ensures over { (tops : Seq SeenTop) (family : Seq Child) → IsPartOver tops self.old family → IsPartOver tops self.new family }
+        ensures over { (tops : Seq SeenTop) (family : Seq Child) → IsPartOver tops self.old family
+            → IsPartOver tops self.new family }
         ensures far { IsNoLessFar self.old.own.part self.new.own.part }
         ensures issued { OnOk result (IsIssued self.new.own.part) }
         ensures count { asked_by self.new.io ≡ 0 }
@@ -124,7 +132,8 @@ impl PartWork {
         tops: &[Top],
     ) -> Result<Option<LeafWork>, NoMemory>
         requires over { IsPartOver tops.now self.old family.old }
-        ensures starts { IfOk result (λ leaf. (t : Terms) (f : Front) (o : WrittenPart) (st : Stack) → t.setting.tops ≡ tops.now →
+        ensures starts { IfOk result (λ leaf. (t : Terms) (f : Front) (o : WrittenPart) (st : Stack) →
+            t.setting.tops ≡ tops.now →
             IsPartAt t self.old family.old f o st → StartsBy t st leaf (IsPartAt t self.new family.new f o)) }
         ensures err { OnErr result ((t : Terms) (f : Front) (o : WrittenPart) (st : Stack) →
             IsPartAt t self.old family.old f o st → IsPartAt t self.new family.new f o st) }
@@ -158,7 +167,8 @@ impl PartWork {
     /// What is to be done once no operation on a leaf is due.
     pub(crate) fn vdev_io_done(&self, family: &Family, tops: &[Top]) -> IoNext
         requires { IsPartOver tops.now self.now family.now }
-        ensures waits { result ≡ IoNext.Wait → (t : Terms) (f : Front) (o : WrittenPart) (st : Stack) → t.setting.tops ≡ tops.now → IsSeated st →
+        ensures waits { result ≡ IoNext.Wait → (t : Terms) (f : Front) (o : WrittenPart) (st : Stack) →
+            t.setting.tops ≡ tops.now → IsSeated st →
             IsPartAt t self.now family.now f o st → first_owing (Vdev ∷ []) Done st.children ≡ Some Vdev }
         ensures due { result ≡ IoNext.On → IfSome self.now.io (IsWriteDue tops.now) }
         ensures more { result ≡ IoNext.More → IsMoreDue tops.now self.now.io }
@@ -199,10 +209,12 @@ impl PartWork {
     pub(crate) fn arrive_leaf(&mut self, family: &mut Family, child: u32, error: Option<Errno>)
         requires over { (tops : Seq SeenTop) × IsPartOver tops self.old family.old }
         requires awaited { IsAwaitedAt Within family.old child }
-        ensures heard { (t : Terms) (f : Front) (o : WrittenPart) (st : Stack) (c : Child) (a : Answer) → error_of a ≡ error →
+        ensures heard { (t : Terms) (f : Front) (o : WrittenPart) (st : Stack) (c : Child) (a : Answer) →
+            error_of a ≡ error →
             slice_get st.children child ≡ Some c → IsPartAt t self.old family.old f o st →
             IsPartAt t self.new family.new f o (heard_of st child c (Got a)) }
-        ensures over { (tops : Seq SeenTop) → IsPartOver tops self.old family.old → IsPartOver tops self.new family.new }
+        ensures over { (tops : Seq SeenTop) → IsPartOver tops self.old family.old
+            → IsPartOver tops self.new family.new }
         ensures own { self.new.own ≡ self.old.own }
         ensures out { (tops : Seq SeenTop) → IfSome self.old.io (IsWriteDue tops) → ⊥ }
         ensures count { asked_by self.new.io ≡ asked_by self.old.io }

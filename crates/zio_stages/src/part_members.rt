@@ -43,8 +43,8 @@ pub(crate) struct WorkBack {
 }
 
 impl PartWork {
-    /// Asks the space for the part's places, for a header's where these are refused, and hands out the gang's next member.
-    /// Where memory is refused what was done before stays.
+    /// Asks the space for the part's places, for a header's where these are refused, and hands out the gang's next
+    /// member. Where memory is refused what was done before stays.
     pub(crate) fn dva_allocate<S: Services>(
         &mut self,
         alloc: Global,
@@ -56,8 +56,10 @@ impl PartWork {
         requires over { IsPartOver (S.tops services.old) self.old family.old }
         requires tops { AreTops (S.tops services.old) }
         requires units { HaveUnits (S.tops services.old) }
-        ensures does { (calls : Seq SpaceCall) × S.made services.old calls services.new × ((t : Terms) (f : Front) (o : WrittenPart) (st : Stack) →
-            IsFront t f o front → IsPartAt t self.old family.old f o st → DoesThen t st calls (ComesTo t result (IsPartAt t self.new family.new f o))) × AreAsks calls }
+        ensures does { (calls : Seq SpaceCall) × S.made services.old calls services.new
+            × ((t : Terms) (f : Front) (o : WrittenPart) (st : Stack) →
+            IsFront t f o front → IsPartAt t self.old family.old f o st
+            → DoesThen t st calls (ComesTo t result (IsPartAt t self.new family.new f o))) × AreAsks calls }
         ensures over { IsPartOver (S.tops services.old) self.new family.new }
         ensures tops { S.tops services.new ≡ S.tops services.old }
         ensures io { self.new.io ≡ self.old.io }
@@ -81,8 +83,8 @@ impl PartWork {
         }
     }
 
-    /// The gang's next member, whose child was added, with a copy of its own bytes; none where none is due. Where memory is
-    /// refused all is as before.
+    /// The gang's next member, whose child was added, with a copy of its own bytes; none where none is due. Where
+    /// memory is refused all is as before.
     pub(crate) fn member(
         &mut self,
         alloc: Global,
@@ -91,13 +93,17 @@ impl PartWork {
         front: u32,
     ) -> Result<Option<PartNode>, NoMemory>
         requires over { (tops : Seq SeenTop) × IsPartOver tops self.old family.old }
-        ensures hands { IfOk result (λ child. (t : Terms) (f : Front) (o : WrittenPart) (st : Stack) → IsFront t f o front →
+        ensures hands { IfOk result (λ child. (t : Terms) (f : Front) (o : WrittenPart) (st : Stack) →
+            IsFront t f o front →
             IsPartAt t self.old family.old f o st → HandsMemberOf t child (IsPartAt t self.new family.new f o) st) }
-        ensures over { (tops : Seq SeenTop) → IsPartOver tops self.old family.old → IsPartOver tops self.new family.new }
+        ensures over { (tops : Seq SeenTop) → IsPartOver tops self.old family.old
+            → IsPartOver tops self.new family.new }
         ensures child { IfOk result (λ child. IfSome child (λ node. (tops : Seq SeenTop) → IsPartNodeOver tops node)) }
         ensures io { self.new.io ≡ self.old.io }
-        ensures placed { result ≡ Ok None → asks_left self.old.own.part.placing ≡ 0 → IsPlaced (step_of self.new.own.part) }
-        ensures members { IfOk result (λ child. self.new.own.part.members ≡ with_member child self.old.own.part.members) }
+        ensures placed { result ≡ Ok None → asks_left self.old.own.part.placing ≡ 0
+            → IsPlaced (step_of self.new.own.part) }
+        ensures members { IfOk result (λ child. self.new.own.part.members
+            ≡ with_member child self.old.own.part.members) }
         ensures next { IfOk result (λ child. IfSome child (IsMemberUnder self.new.own.part)) }
         ensures path { self.new.own.part.path ≡ self.old.own.part.path }
         ensures self_err { OnErr result (self.new ≡ self.old) }
@@ -119,13 +125,16 @@ impl PartWork {
     pub(crate) fn ready(&self) -> ReadyStep
         requires placed { IsPlaced (step_of self.now.own.part) }
         requires none { self.now.io ≡ None }
-        ensures wait { (kind : ChildKind) → result ≡ ReadyStep.Wait kind → (t : Terms) (f : Front) (o : WrittenPart) (family : Seq Child) (st : Stack) →
+        ensures wait { (kind : ChildKind) → result ≡ ReadyStep.Wait kind →
+            (t : Terms) (f : Front) (o : WrittenPart) (family : Seq Child) (st : Stack) →
             IsSeated st → IsPartAt t self.now family f o st → IsOwed kind Ready st × (kind ≡ Gang) }
         ensures kind { (kind : ChildKind) → result ≡ ReadyStep.Wait kind → kind ≡ Gang }
         ensures tell { (pointer : Option Bp) → result ≡ ReadyStep.Tell pointer →
-            (t : Terms) (o : WrittenPart) (asked : Seq Task) (slots : Seq Slot) → IsPartOwn t self.now.own o asked slots →
+            (t : Terms) (o : WrittenPart) (asked : Seq Task) (slots : Seq Slot) →
+            IsPartOwn t self.now.own o asked slots →
             EndsAnswered (λ (v : Value). early v ≡ pointer) (told_in slots) (left_behind_slots slots (part_plan t o)) }
-        ensures valid { (pointer : Option Bp) → result ≡ ReadyStep.Tell pointer → IfSome pointer (λ bp. IsTrue (valid bp)) }
+        ensures valid { (pointer : Option Bp) → result ≡ ReadyStep.Tell pointer
+            → IfSome pointer (λ bp. IsTrue (valid bp)) }
         ensures ready { (pointer : Option Bp) → result ≡ ReadyStep.Tell pointer → is_ready self.now.own.part ≡ true }
     {
         match self.own.next() {
@@ -137,7 +146,8 @@ impl PartWork {
     /// Whether it has ended, once its own write has or it has no place.
     pub(crate) fn done(&self) -> DoneStep
         requires { IsWritten self.now }
-        ensures wait { (kind : ChildKind) → result ≡ DoneStep.Wait kind → (t : Terms) (f : Front) (o : WrittenPart) (family : Seq Child) (st : Stack) →
+        ensures wait { (kind : ChildKind) → result ≡ DoneStep.Wait kind →
+            (t : Terms) (f : Front) (o : WrittenPart) (family : Seq Child) (st : Stack) →
             IsSeated st → IsPartAt t self.now family f o st → IsOwed kind Done st × (kind ≡ Gang) }
         ensures close { result ≡ DoneStep.Close → ShowsOwn self.now.own PartStep.End }
     {
@@ -154,7 +164,8 @@ impl PartWork {
         ensures valid { IfOk result (λ stored. IfSome stored.pointer (λ bp. IsTrue (valid bp))) }
         ensures kept { IfOk result (λ stored. IsKept stored.pointer stored.heads) }
         ensures exact { IfOk result (λ stored. stored_as stored ≡ stored_by self.own.part) }
-        ensures ended { IfOk result (λ stored. (t : Terms) (o : WrittenPart) (asked : Seq Task) (slots : Seq Slot) → IsPartOwn t self.own o asked slots →
+        ensures ended { IfOk result (λ stored. (t : Terms) (o : WrittenPart) (asked : Seq Task) (slots : Seq Slot) →
+            IsPartOwn t self.own o asked slots →
             AllHeard slots × (left_behind_slots slots (part_plan t o) ≡ Ends (StoredAs (stored_as stored)))) }
         ensures back { IfErr result (λ e. e.work ≡ self) }
     {
@@ -192,7 +203,8 @@ impl PartWork {
         ensures told { (t : Terms) (f : Front) (o : WrittenPart) (st : Stack) (c : Child) → length f.slots ≡ front →
             IsPartAt t self.old family.old f o st → slice_get st.children child ≡ Some c →
             IsPartAt t self.new family.new f o (heard_early st child c pointer) }
-        ensures over { (tops : Seq SeenTop) → IsPartOver tops self.old family.old → IsPartOver tops self.new family.new }
+        ensures over { (tops : Seq SeenTop) → IsPartOver tops self.old family.old
+            → IsPartOver tops self.new family.new }
         ensures io { self.new.io ≡ self.old.io }
         ensures own { self.new.own.part.own ≡ self.old.own.part.own }
         ensures placing { self.new.own.part.placing ≡ self.old.own.part.placing }
@@ -211,13 +223,15 @@ impl PartWork {
         child: u32,
         stored: StoredPart,
     )
-        requires member { (told : Option (Option Bp)) × IsMemberAt self.old family.old front child told × IsToldAs stored.pointer told ×
+        requires member { (told : Option (Option Bp)) × IsMemberAt self.old family.old front child told
+            × IsToldAs stored.pointer told ×
             (told ≡ None → IfSome stored.pointer (λ bp. IsTrue (valid bp))) }
         requires kept { IsKept stored.pointer stored.heads }
         ensures heard { (t : Terms) (f : Front) (o : WrittenPart) (st : Stack) (c : Child) → length f.slots ≡ front →
             IsPartAt t self.old family.old f o st → slice_get st.children child ≡ Some c →
             IsPartAt t self.new family.new f o (heard_of st child c (StoredAs (stored_as stored))) }
-        ensures over { (tops : Seq SeenTop) → IsPartOver tops self.old family.old → IsPartOver tops self.new family.new }
+        ensures over { (tops : Seq SeenTop) → IsPartOver tops self.old family.old
+            → IsPartOver tops self.new family.new }
         ensures io { self.new.io ≡ self.old.io }
         ensures own { self.new.own.part.own ≡ self.old.own.part.own }
         ensures placing { self.new.own.part.placing ≡ self.old.own.part.placing }

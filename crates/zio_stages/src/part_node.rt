@@ -70,7 +70,8 @@ impl PartNode {
         requires size { length bytes ≡ own.part.size }
         requires body { own.part.placing ≡ Body }
         requires due { own.part.own ≡ Due }
-        ensures fresh { (t : Terms) (o : WrittenPart) → IsPartOwn t own o [] [] → o.bytes ≡ bytes → IsPartNode t result (fresh_stack (part_task o)) }
+        ensures fresh { (t : Terms) (o : WrittenPart) → IsPartOwn t own o [] [] → o.bytes ≡ bytes
+            → IsPartNode t result (fresh_stack (part_task o)) }
         ensures over { (tops : Seq SeenTop) → IsPartNodeOver tops result }
         ensures own { result.work.own ≡ own }
         ensures none { result.work.io ≡ None }
@@ -88,8 +89,8 @@ impl PartNode {
         }
     }
 
-    /// Nothing of it is done. The bytes are whole sectors, no more than so many levels of headers below the path can hold. Its
-    /// children's memory is from `alloc`.
+    /// Nothing of it is done. The bytes are whole sectors, no more than so many levels of headers below the path can
+    /// hold. Its children's memory is from `alloc`.
     pub fn new(
         alloc: Global,
         write: BlockWrite,
@@ -105,8 +106,10 @@ impl PartNode {
         requires one { 1 ≤ write.copies }
         requires three { write.copies ≤ 3 }
         requires born { 1 ≤ write.birth }
-        ensures fresh { (t : Terms) (o : WrittenPart) → writing_by t.setting write ≡ writing_of t o.attempt o.pending o.sum_kind o.copies →
-            o.path ≡ path → o.bytes ≡ bytes → length path + o.levels ≡ 8 → IsPartNode t result (fresh_stack (part_task o)) }
+        ensures fresh { (t : Terms) (o : WrittenPart) →
+            writing_by t.setting write ≡ writing_of t o.attempt o.pending o.sum_kind o.copies →
+            o.path ≡ path → o.bytes ≡ bytes → length path + o.levels ≡ 8
+            → IsPartNode t result (fresh_stack (part_task o)) }
         ensures over { (tops : Seq SeenTop) → IsPartNodeOver tops result }
         ensures begun { result.work.own.part ≡ fresh_part write path bytes }
         ensures none { result.work.io ≡ None }
@@ -136,8 +139,8 @@ impl PartNode {
         &self.family
     }
 
-    /// Asks the space for the part's places, for a header's where these are refused, and hands out the gang's next member.
-    /// Where memory is refused what was done before stays.
+    /// Asks the space for the part's places, for a header's where these are refused, and hands out the gang's next
+    /// member. Where memory is refused what was done before stays.
     pub fn dva_allocate<S: Services>(
         &mut self,
         alloc: Global,
@@ -147,7 +150,8 @@ impl PartNode {
         requires tops { AreTops (S.tops services.old) }
         requires units { HaveUnits (S.tops services.old) }
         ensures does { (calls : Seq SpaceCall) × S.made services.old calls services.new ×
-            ((t : Terms) (st : Stack) → IsPartNode t self.old st → DoesThen t st calls (ComesTo t result (IsPartNode t self.new))) × AreAsks calls }
+            ((t : Terms) (st : Stack) → IsPartNode t self.old st
+            → DoesThen t st calls (ComesTo t result (IsPartNode t self.new))) × AreAsks calls }
         ensures over { IsPartNodeOver (S.tops services.old) self.new }
         ensures tops { S.tops services.new ≡ S.tops services.old }
         ensures child { IfOk result IsAllocatedOver }
@@ -166,28 +170,34 @@ impl PartNode {
     pub fn ready(&self) -> ReadyStep
         requires placed { IsPlaced (step_of self.now.work.own.part) }
         requires none { self.now.work.io ≡ None }
-        ensures wait { (kind : ChildKind) → result ≡ ReadyStep.Wait kind → (t : Terms) (st : Stack) → IsSeated st → IsPartNode t self.now st →
+        ensures wait { (kind : ChildKind) → result ≡ ReadyStep.Wait kind → (t : Terms) (st : Stack) → IsSeated st →
+            IsPartNode t self.now st →
             IsOwed kind Ready st }
         ensures kind { (kind : ChildKind) → result ≡ ReadyStep.Wait kind → kind ≡ ChildKind.Gang }
-        ensures tell { (pointer : Option Bp) → result ≡ ReadyStep.Tell pointer → (t : Terms) (st : Stack) → IsPartNode t self.now st →
+        ensures tell { (pointer : Option Bp) → result ≡ ReadyStep.Tell pointer → (t : Terms) (st : Stack) →
+            IsPartNode t self.now st →
             WillHave t st.outer pointer }
-        ensures valid { (pointer : Option Bp) → result ≡ ReadyStep.Tell pointer → IfSome pointer (λ bp. IsTrue (valid bp)) }
-        ensures ready { (pointer : Option Bp) → result ≡ ReadyStep.Tell pointer → is_ready self.now.work.own.part ≡ true }
+        ensures valid { (pointer : Option Bp) → result ≡ ReadyStep.Tell pointer
+            → IfSome pointer (λ bp. IsTrue (valid bp)) }
+        ensures ready { (pointer : Option Bp) → result ≡ ReadyStep.Tell pointer
+            → is_ready self.now.work.own.part ≡ true }
     {
         self.work.ready()
     }
 
-    /// The next operation on a leaf of its own write, which begins if it is due; none where none is due now. Where memory is
-    /// refused its own write may have begun.
+    /// The next operation on a leaf of its own write, which begins if it is due; none where none is due now. Where
+    /// memory is refused its own write may have begun.
     pub fn vdev_io_start(
         &mut self,
         alloc: Global,
         tops: &[Top],
     ) -> Result<Option<LeafWork>, NoMemory>
         requires over { IsPartNodeOver tops.now self.old }
-        ensures starts { IfOk result (λ leaf. (t : Terms) (st : Stack) → t.setting.tops ≡ tops.now → IsPartNode t self.old st →
+        ensures starts { IfOk result (λ leaf. (t : Terms) (st : Stack) → t.setting.tops ≡ tops.now →
+            IsPartNode t self.old st →
             DoesThen t st [] (λ mid. StartsBy t mid leaf (IsPartNode t self.new))) }
-        ensures err { OnErr result ((t : Terms) (st : Stack) → IsPartNode t self.old st → DoesThen t st [] (IsPartNode t self.new)) }
+        ensures err { OnErr result ((t : Terms) (st : Stack) → IsPartNode t self.old st
+            → DoesThen t st [] (IsPartNode t self.new)) }
         ensures over { IsPartNodeOver tops.now self.new }
         ensures due { IfOk result (λ leaf. IfSome leaf IsDue) }
         ensures far { IsNoLessFar self.old.work.own.part self.new.work.own.part }
@@ -203,7 +213,8 @@ impl PartNode {
     /// What is to be done once no operation on a leaf is due.
     pub fn vdev_io_done(&self, tops: &[Top]) -> IoNext
         requires { IsPartNodeOver tops.now self.now }
-        ensures waits { result ≡ IoNext.Wait → (t : Terms) (st : Stack) → t.setting.tops ≡ tops.now → IsSeated st → IsPartNode t self.now st →
+        ensures waits { result ≡ IoNext.Wait → (t : Terms) (st : Stack) → t.setting.tops ≡ tops.now → IsSeated st →
+            IsPartNode t self.now st →
             first_owing (Vdev ∷ []) Done st.children ≡ Some Vdev }
         ensures due { result ≡ IoNext.On → IfSome self.now.work.io (IsWriteDue tops.now) }
         ensures more { result ≡ IoNext.More → IsMoreDue tops.now self.now.work.io }
@@ -215,7 +226,8 @@ impl PartNode {
     pub fn vdev_io_assess(&mut self, tops: &[Top]) -> bool
         requires over { IsPartNodeOver tops.now self.old }
         requires due { IfSome self.old.work.io (IsWriteDue tops.now) }
-        ensures does { (t : Terms) (st : Stack) → t.setting.tops ≡ tops.now → IsPartNode t self.old st → DoesThen t st [] (IsPartNode t self.new) }
+        ensures does { (t : Terms) (st : Stack) → t.setting.tops ≡ tops.now → IsPartNode t self.old st
+            → DoesThen t st [] (IsPartNode t self.new) }
         ensures over { IsPartNodeOver tops.now self.new }
         ensures none { result ≡ false → self.new.work.io ≡ None }
         ensures written { is_due self.old.work.own.part.own ≡ false → is_due self.new.work.own.part.own ≡ false }
@@ -230,7 +242,8 @@ impl PartNode {
     /// Whether it has ended, once its own write has or it has no place.
     pub fn done(&self) -> DoneStep
         requires { IsWritten self.now.work }
-        ensures wait { (kind : ChildKind) → result ≡ DoneStep.Wait kind → (t : Terms) (st : Stack) → IsSeated st → IsPartNode t self.now st →
+        ensures wait { (kind : ChildKind) → result ≡ DoneStep.Wait kind → (t : Terms) (st : Stack) → IsSeated st →
+            IsPartNode t self.now st →
             IsOwed kind Done st }
         ensures close { result ≡ DoneStep.Close → ShowsOwn self.now.work.own PartStep.End }
     {
@@ -241,7 +254,8 @@ impl PartNode {
     pub fn into_stored(self, alloc: Global) -> Result<StoredPart, PartNodeBack>
         requires end { ShowsOwn self.work.own PartStep.End }
         requires none { self.work.io ≡ None }
-        ensures ended { IfOk result (λ stored. (t : Terms) (st : Stack) → IsPartNode t self st → IsEnded t st (StoredAs (stored_as stored))) }
+        ensures ended { IfOk result (λ stored. (t : Terms) (st : Stack) → IsPartNode t self st
+            → IsEnded t st (StoredAs (stored_as stored))) }
         ensures kept { IfOk result (λ stored. IsKept stored.pointer stored.heads) }
         ensures places { IfOk result (λ stored. (t : Terms) (st : Stack) → IsPartNode t self st →
             IsPermutation (held_by st) (stored_in (StoredAs (stored_as stored)))) }
@@ -260,7 +274,8 @@ impl PartNode {
     pub fn arrive_ready(&mut self, child: u32, pointer: Option<Bp>)
         requires hears { HearsEarlyAt self.old child }
         requires valid { IfSome pointer (λ bp. IsTrue (valid bp)) }
-        ensures told { (t : Terms) (st : Stack) (c : Child) → IsPartNode t self.old st → slice_get st.children child ≡ Some c →
+        ensures told { (t : Terms) (st : Stack) (c : Child) → IsPartNode t self.old st →
+            slice_get st.children child ≡ Some c →
             IsPartNode t self.new (heard_early st child c pointer) }
         ensures over { (tops : Seq SeenTop) → IsPartNodeOver tops self.old → IsPartNodeOver tops self.new }
         ensures io { self.new.work.io ≡ self.old.work.io }
@@ -274,7 +289,8 @@ impl PartNode {
     /// A member ended.
     pub fn arrive_stored(&mut self, child: u32, stored: StoredPart)
         requires { HearsValueAt (IsStoredBy stored) self.old child }
-        ensures heard { (t : Terms) (st : Stack) (c : Child) → IsPartNode t self.old st → slice_get st.children child ≡ Some c →
+        ensures heard { (t : Terms) (st : Stack) (c : Child) → IsPartNode t self.old st →
+            slice_get st.children child ≡ Some c →
             IsPartNode t self.new (heard_of st child c (StoredAs (stored_as stored))) }
         ensures over { (tops : Seq SeenTop) → IsPartNodeOver tops self.old → IsPartNodeOver tops self.new }
         ensures io { self.new.work.io ≡ self.old.work.io }
@@ -289,7 +305,8 @@ impl PartNode {
     pub fn arrive_leaf(&mut self, child: u32, error: Option<Errno>)
         requires over { (tops : Seq SeenTop) × IsPartNodeOver tops self.old }
         requires hears { HearsValueAt (IsAnsweredBy error) self.old child }
-        ensures heard { (t : Terms) (st : Stack) (c : Child) (a : Answer) → error_of a ≡ error → slice_get st.children child ≡ Some c →
+        ensures heard { (t : Terms) (st : Stack) (c : Child) (a : Answer) → error_of a ≡ error →
+            slice_get st.children child ≡ Some c →
             IsPartNode t self.old st → IsPartNode t self.new (heard_of st child c (Got a)) }
         ensures over { (tops : Seq SeenTop) → IsPartNodeOver tops self.old → IsPartNodeOver tops self.new }
         ensures own { self.new.work.own ≡ self.old.work.own }

@@ -42,7 +42,8 @@ pub(crate) struct PartWork {
 }
 
 impl PartWork {
-    /// Nothing of it is asked. The bytes are whole sectors, no more than so many levels of headers below the path can hold.
+    /// Nothing of it is asked. The bytes are whole sectors, no more than so many levels of headers below the path can
+    /// hold.
     pub(crate) fn new(write: BlockWrite, path: Path, bytes: Bytes, prio: Prio) -> PartWork
         requires some { 0 < length bytes }
         requires whole { length bytes % 512 ≡ 0 }
@@ -52,10 +53,13 @@ impl PartWork {
         requires three { write.copies ≤ 3 }
         requires born { 1 ≤ write.birth }
         ensures fresh { (t : Terms) (o : WrittenPart) (f : Front) (family : Seq Child) (st : Stack) →
-            writing_by t.setting write ≡ writing_of t o.attempt o.pending o.sum_kind o.copies → o.path ≡ path → o.bytes ≡ bytes →
-            length path + o.levels ≡ 8 → st.outer.op ≡ f.part → st.inner ≡ None → IsBehind f.asked f.slots [] [] st → family ≡ st.children →
+            writing_by t.setting write ≡ writing_of t o.attempt o.pending o.sum_kind o.copies → o.path ≡ path →
+            o.bytes ≡ bytes →
+            length path + o.levels ≡ 8 → st.outer.op ≡ f.part → st.inner ≡ None → IsBehind f.asked f.slots [] [] st →
+            family ≡ st.children →
             IsPartAt t result family f o st }
-        ensures over { (tops : Seq SeenTop) (family : Seq Child) → NoneSits Within family → IsPartOver tops result family }
+        ensures over { (tops : Seq SeenTop) (family : Seq Child) → NoneSits Within family
+            → IsPartOver tops result family }
         ensures io { result.io ≡ None }
     {
         PartWork {
@@ -77,7 +81,8 @@ impl PartWork {
         ensures one { IfSome result (λ ask. 1 ≤ ask.copies) }
         ensures three { IfSome result (λ ask. ask.copies ≤ 3) }
         ensures small { IfSome result (λ ask. ask.size ≤ BLOCK_SIZE_MAX) }
-        ensures valid { IfSome result (λ ask. (tops : Seq SeenTop) (entry : Choice) → AreTops tops → HaveUnits tops → IsAnswerFor (sizes_of tops) entry →
+        ensures valid { IfSome result (λ ask. (tops : Seq SeenTop) (entry : Choice) → AreTops tops → HaveUnits tops →
+            IsAnswerFor (sizes_of tops) entry →
             entry.asked.size ≡ ask.size → 1 ≤ length entry.places → length entry.places ≤ 3 →
             IsTrue (valid (pointer_over self.now.own.part (is_head_due self.now.own.part.placing) entry.places))) }
         ensures own { IfSome result (λ ask. self.now.own.part.own ≡ Due) }
@@ -99,10 +104,13 @@ impl PartWork {
         requires tops { AreTops (S.tops services.old) }
         requires units { HaveUnits (S.tops services.old) }
         ensures does { (calls : Seq SpaceCall) × S.made services.old calls services.new ×
-            ((t : Terms) (f : Front) (o : WrittenPart) (front : ℕ) (family : Seq Child) (st : Stack) → IsFront t f o front →
+            ((t : Terms) (f : Front) (o : WrittenPart) (front : ℕ) (family : Seq Child) (st : Stack) →
+            IsFront t f o front →
             IsPartAt t self.old family f o st →
-            IsPartOver (S.tops services.old) self.old family → DoesThen t st calls (IsPartAt t self.new family f o)) × AreAsks calls }
-        ensures over { (family : Seq Child) → IsPartOver (S.tops services.old) self.old family → IsPartOver (S.tops services.old) self.new family }
+            IsPartOver (S.tops services.old) self.old family → DoesThen t st calls (IsPartAt t self.new family f o))
+            × AreAsks calls }
+        ensures over { (family : Seq Child) → IsPartOver (S.tops services.old) self.old family
+            → IsPartOver (S.tops services.old) self.new family }
         ensures tops { S.tops services.new ≡ S.tops services.old }
         ensures io { self.new.io ≡ self.old.io }
         ensures left { OnOk result (asks_left self.new.own.part.placing ≤ asks_left self.old.own.part.placing - 1) }

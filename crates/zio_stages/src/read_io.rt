@@ -90,7 +90,8 @@ impl ReadIo {
     pub fn next(&self, tops: &[Top]) -> IoStep
         requires { IsReadOver tops.now self.now }
         ensures step { IsReadStep tops.now self.now result }
-        ensures outs { (t : Terms) (x : Frame) → t.setting.tops ≡ tops.now → IsReadIo t self.now x → ShowsOuts result x }
+        ensures outs { (t : Terms) (x : Frame) → t.setting.tops ≡ tops.now → IsReadIo t self.now x
+            → ShowsOuts result x }
     {
         let step = self.read.next(tops);
         io_of_read(step)
@@ -100,7 +101,8 @@ impl ReadIo {
     pub fn next_leaf(&self, alloc: Global, tops: &[Top], name: &Named) -> Result<LeafWork, NoMemory>
         requires over { IsReadOver tops.now self.now }
         requires step { IsReadStep tops.now self.now IoStep.Child }
-        ensures next { IfOk result (λ child. (t : Terms) (x : Frame) → t.setting.tops ≡ tops.now → IsReadIo t self.now x →
+        ensures next { IfOk result (λ child. (t : Terms) (x : Frame) → t.setting.tops ≡ tops.now →
+            IsReadIo t self.now x →
             AsksOfRead t x child self.now) }
         ensures due { IfOk result IsDue }
         ensures origin { IfOk result (λ child. child.origin.part ≡ name.now) }
@@ -150,8 +152,8 @@ impl ReadIo {
         }
     }
 
-    /// The operation of this number has answered. Bytes that were read and aren't good are a checksum error; what a repair
-    /// came to doesn't matter.
+    /// The operation of this number has answered. Bytes that were read and aren't good are a checksum error; what a
+    /// repair came to doesn't matter.
     pub fn hear(&mut self, tops: &[Top], n: u32, found: Result<Bytes, Errno>)
         requires over { IsReadOver tops.now self.old }
         requires out { IsReadOutIn self.old n }

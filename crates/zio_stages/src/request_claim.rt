@@ -1,7 +1,7 @@
 //! A claim in an attempt.
 //!
-//! Once its children were all handed out, the node walks over the headers of the block that its bytes point to. Where no header
-//! failed the block's places are taken, all together or none.
+//! Once its children were all handed out, the node walks over the headers of the block that its bytes point to. Where
+//! no header failed the block's places are taken, all together or none.
 
 ghost use Rattle.std.specs.Prelude.{◌≡◌, ◌<◌, [], IfOk, IfSome, Ok, List as Seq, None, OnErr, OnOk, Option, Some, false, length, slice_get};
 ghost use Rattle.zio_types.specs.declared.place.Top.{Top as SeenTop};
@@ -40,16 +40,17 @@ use zio_script::Work;
 use zio_types::{ChildKind, Errno, List, NoMemory, Prio, SECTOR_SIZE, Top};
 
 impl RequestNode {
-    /// Begins the claim of the block that the request's bytes point to, once its children were all handed out. The walk from a plain
-    /// pointer opens and closes at once, and a gang's is due; bytes that are no pointer have none. Where memory is refused all is as
-    /// before.
+    /// Begins the claim of the block that the request's bytes point to, once its children were all handed out. The walk
+    /// from a plain pointer opens and closes at once, and a gang's is due; bytes that are no pointer have none. Where
+    /// memory is refused all is as before.
     pub fn claim_init(&mut self, alloc: Global, tops: &[Top]) -> Result<(), NoMemory>
         requires due { self.old.own ≡ Own.Due }
         requires handed { self.old.kids.kids.handed ≡ length self.old.kids.kids.kids }
         requires claim { IsClaimWork self.old.waiting.request.work }
         ensures does { OnOk result ((t : Terms) (st : Stack) → t.setting.tops ≡ tops.now → IsRequestNode t self.old st →
             DoesThen t st [] (IsRequestNode t self.new)) }
-        ensures over { IsOwnOver tops.now self.old.own self.old.family → IsOwnOver tops.now self.new.own self.new.family }
+        ensures over { IsOwnOver tops.now self.old.own self.old.family
+            → IsOwnOver tops.now self.new.own self.new.family }
         ensures claims { OnOk result (IsClaimingWith (λ w. Unit {0}) self.new.own) }
         ensures plain { OnOk result (has_gang_stages self.old.waiting.request.work self.old.waiting.block ≡ false →
             IsClaimWith (λ w. IsPastWalk w.block w.step) self.new.own) }
@@ -73,10 +74,12 @@ impl RequestNode {
         requires claim { IsClaimWork self.old.waiting.request.work }
         ensures does { OnOk result ((t : Terms) (st : Stack) → t.setting.tops ≡ tops.now → IsRequestNode t self.old st →
             DoesThen t st [] (IsRequestNode t self.new)) }
-        ensures over { IsOwnOver tops.now self.old.own self.old.family → IsOwnOver tops.now self.new.own self.new.family }
+        ensures over { IsOwnOver tops.now self.old.own self.old.family
+            → IsOwnOver tops.now self.new.own self.new.family }
         ensures claims { OnOk result (IsClaimWith (λ w. Unit {0}) self.new.own) }
         ensures still { IsClaimWith (λ w. Unit {0}) self.old.own → self.new ≡ self.old }
-        ensures plain { OnOk result (self.old.own ≡ Own.Due → has_gang_stages self.old.waiting.request.work self.old.waiting.block ≡ false →
+        ensures plain { OnOk result (self.old.own ≡ Own.Due →
+            has_gang_stages self.old.waiting.request.work self.old.waiting.block ≡ false →
             IsClaimWith (λ w. IsPastWalk w.block w.step) self.new.own) }
         ensures rest { self.new ≡ with_own self.old self.new.own self.new.family }
         ensures err { OnErr result (self.new ≡ self.old) }
@@ -97,11 +100,13 @@ impl RequestNode {
         requires attempt { self.old.attempt < 4 }
         requires tops { AreTops tops.now }
         requires over { IsOwnOver tops.now self.old.own self.old.family }
-        ensures hands { IfOk result (λ child. (t : Terms) (st : Stack) → t.setting.tops ≡ tops.now → IsRequestNode t self.old st →
+        ensures hands { IfOk result (λ child. (t : Terms) (st : Stack) → t.setting.tops ≡ tops.now →
+            IsRequestNode t self.old st →
             HandsWalk t child (IsRequestNode t self.new) st) }
         ensures child_over { IfOk result (IsWalkOver tops.now) }
         ensures whole { IfOk result (λ child. IfSome child IsWholeWalk) }
-        ensures goes { IfOk result (λ child. IfSome child (λ child. IsClaimingWith (λ w. IsWalkDue w.block w.step) self.old.own ×
+        ensures goes { IfOk result
+            (λ child. IfSome child (λ child. IsClaimingWith (λ w. IsWalkDue w.block w.step) self.old.own ×
             IsClaimingWith (λ w. IsPastDue w.block w.step) self.new.own)) }
         ensures still { result ≡ Ok None → self.new ≡ self.old }
         ensures begun { result ≡ Ok None → IsClaimWith (λ w. IsPastDue w.block w.step) self.new.own }
@@ -125,7 +130,8 @@ impl RequestNode {
 
     /// Whether the gang child that walks over the headers has to end first; `None` where the walk has ended.
     pub fn gang_issue_claim(&self) -> Option<ChildKind>
-        ensures wait { (kind : ChildKind) → result ≡ Some kind → (t : Terms) (st : Stack) → IsSeated st → IsRequestNode t self.now st →
+        ensures wait { (kind : ChildKind) → result ≡ Some kind → (t : Terms) (st : Stack) → IsSeated st →
+            IsRequestNode t self.now st →
             IsOwed kind Done st }
         ensures kind { (kind : ChildKind) → result ≡ Some kind → kind ≡ ChildKind.Gang }
         ensures walked { result ≡ None → IsClaimWith (λ w. IsPastDue w.block w.step) self.now.own →
@@ -147,7 +153,8 @@ impl RequestNode {
         }
     }
 
-    /// Takes the places of the block, where its walk found it. Where memory is refused none is taken, and the same call tries again.
+    /// Takes the places of the block, where its walk found it. Where memory is refused none is taken, and the same call
+    /// tries again.
     pub fn dva_claim<S: Services>(
         &mut self,
         alloc: Global,
@@ -155,8 +162,10 @@ impl RequestNode {
     ) -> Result<(), NoMemory>
         requires { IsOwnOver (S.tops services.old) self.old.own self.old.family }
         ensures does { (calls : Seq SpaceCall) × S.made services.old calls services.new
-            × ((t : Terms) (st : Stack) → IsRequestNode t self.old st → DoesThen t st calls (IsRequestNode t self.new)) × IsClaimAtMost calls }
-        ensures ended { OnOk result (IsClaimWith (λ w. IsPastWalk w.block w.step) self.old.own → IsClaimWith HasEndedClaim self.new.own) }
+            × ((t : Terms) (st : Stack) → IsRequestNode t self.old st → DoesThen t st calls (IsRequestNode t self.new))
+            × IsClaimAtMost calls }
+        ensures ended { OnOk result (IsClaimWith (λ w. IsPastWalk w.block w.step) self.old.own
+            → IsClaimWith HasEndedClaim self.new.own) }
         ensures over { IsOwnOver (S.tops services.old) self.new.own self.new.family }
         ensures waiting { self.new.waiting ≡ self.old.waiting }
         ensures rest { self.new ≡ with_own self.old self.new.own self.new.family }
@@ -173,7 +182,8 @@ impl RequestNode {
         requires { IsClaimWith HasEndedClaim self.old.own }
         ensures ends { (t : Terms) (st : Stack) → IsRequestNode t self.old st → IsRequestNode t self.new st }
         ensures found { HasFound self.new.own }
-        ensures over { (tops : Seq SeenTop) → IsOwnOver tops self.old.own self.old.family → IsOwnOver tops self.new.own self.new.family }
+        ensures over { (tops : Seq SeenTop) → IsOwnOver tops self.old.own self.old.family
+            → IsOwnOver tops self.new.own self.new.family }
         ensures kids { self.new.kids ≡ self.old.kids }
         ensures rest { self.new ≡ with_own self.old self.new.own self.new.family }
     {
@@ -188,14 +198,16 @@ impl RequestNode {
         }
     }
 
-    /// The gang child that walked over the headers has ended, and left this: where it met no error all places of the block lie on the
-    /// tops.
+    /// The gang child that walked over the headers has ended, and left this: where it met no error all places of the
+    /// block lie on the tops.
     pub fn arrive_walked_claim(&mut self, tops: &[Top], child: u32, walked: Walked)
         requires seat { IsOwnSeat self.old child 0 }
         requires out { IsClaimingWith (λ w. w.step ≡ SeenStep.Out) self.old.own }
         requires over { IsOwnOver tops.now self.old.own self.old.family }
-        requires lies { IsClaimingWith (λ w. (tree : SeenTree) × (w.block ≡ Some tree) × LiesWalked tops.now tree.bp walked) self.old.own }
-        ensures heard { (t : Terms) (st : Stack) (c : Child) → slice_get st.children child ≡ Some c → IsRequestNode t self.old st →
+        requires lies { IsClaimingWith (λ w. (tree : SeenTree) × (w.block ≡ Some tree)
+            × LiesWalked tops.now tree.bp walked) self.old.own }
+        ensures heard { (t : Terms) (st : Stack) (c : Child) → slice_get st.children child ≡ Some c →
+            IsRequestNode t self.old st →
             IsRequestNode t self.new (heard_of st child c (WalkedBy walked)) }
         ensures past { IsClaimingWith (λ w. IsPastWalk w.block w.step) self.new.own }
         ensures over { IsOwnOver tops.now self.new.own self.new.family }
@@ -213,9 +225,11 @@ impl RequestNode {
         requires seat { IsOwnSeat self.old child 0 }
         requires out { IsClaimingWith (λ w. w.step ≡ SeenStep.Out) self.old.own }
         requires some { IsClaimingWith (λ w. (tree : SeenTree) × (w.block ≡ Some tree)) self.old.own }
-        ensures told { (t : Terms) (st : Stack) (c : Child) (pointer : Option Bp) → slice_get st.children child ≡ Some c →
+        ensures told { (t : Terms) (st : Stack) (c : Child) (pointer : Option Bp) →
+            slice_get st.children child ≡ Some c →
             IsRequestNode t self.old st → IsRequestNode t self.new (heard_early st child c pointer) }
-        ensures over { (tops : Seq SeenTop) → IsOwnOver tops self.old.own self.old.family → IsOwnOver tops self.new.own self.new.family }
+        ensures over { (tops : Seq SeenTop) → IsOwnOver tops self.old.own self.old.family
+            → IsOwnOver tops self.new.own self.new.family }
         ensures own { self.new.own ≡ self.old.own }
         ensures waiting { self.new.waiting ≡ self.old.waiting }
         ensures rest { self.new ≡ with_own self.old self.new.own self.new.family }

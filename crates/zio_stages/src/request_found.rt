@@ -13,11 +13,13 @@ use std::alloc::Global;
 use std::mem::replace;
 
 impl RequestNode {
-    /// The decision of a read, a free or a claim, whose own work came to something. Where memory is refused the node comes back.
+    /// The decision of a read, a free or a claim, whose own work came to something. Where memory is refused the node
+    /// comes back.
     pub fn close_found(self, alloc: Global) -> Result<Outcome, NodeBack>
         requires found { HasFound self.own }
         requires ended { list_all is_ended self.kids.kids.kids ≡ true }
-        ensures ends { IfOk result (λ outcome. (own : OwnFound) × (found_of self.own ≡ Some own) × EndsBy self own outcome) }
+        ensures ends { IfOk result (λ outcome. (own : OwnFound) × (found_of self.own ≡ Some own)
+            × EndsBy self own outcome) }
         ensures back { IfErr result (λ e. e.node ≡ self) }
     {
         let attempt = self.attempt;

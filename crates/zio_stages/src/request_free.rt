@@ -1,7 +1,7 @@
 //! A free in an attempt.
 //!
-//! Once its children were all handed out, the node walks over the headers of the block that it names. Where no header failed the
-//! block's places go back one by one.
+//! Once its children were all handed out, the node walks over the headers of the block that it names. Where no header
+//! failed the block's places go back one by one.
 
 ghost use Rattle.std.specs.Prelude.{◌≡◌, ◌<◌, [], IfOk, IfSome, List as Seq, None, Ok, OnErr, OnOk, Option, Some, false, length, slice_get, true};
 ghost use Rattle.zio_types.specs.declared.error.Errno.{Errno as SeenErrno};
@@ -39,15 +39,17 @@ use zio_parts::Walked;
 use zio_types::{ChildKind, Errno, List, NoMemory, Prio, SECTOR_SIZE};
 
 impl RequestNode {
-    /// Begins the free of the block that the request names, once its children were all handed out. The walk from a plain pointer
-    /// opens and closes at once, and a gang's is due. Where the request names none it has ended with `NOENT`. Where memory is
-    /// refused all is as before.
+    /// Begins the free of the block that the request names, once its children were all handed out. The walk from a
+    /// plain pointer opens and closes at once, and a gang's is due. Where the request names none it has ended with
+    /// `NOENT`. Where memory is refused all is as before.
     pub fn free_bp_init(&mut self, alloc: Global) -> Result<(), NoMemory>
         requires due { self.old.own ≡ Own.Due }
         requires handed { self.old.kids.kids.handed ≡ length self.old.kids.kids.kids }
         requires free { IsFreeWork self.old.waiting.request.work }
-        ensures does { OnOk result ((t : Terms) (st : Stack) → IsRequestNode t self.old st → DoesThen t st [] (IsRequestNode t self.new)) }
-        ensures over { (tops : Seq SeenTop) → IsOwnOver tops self.old.own self.old.family → IsOwnOver tops self.new.own self.new.family }
+        ensures does { OnOk result ((t : Terms) (st : Stack) → IsRequestNode t self.old st
+            → DoesThen t st [] (IsRequestNode t self.new)) }
+        ensures over { (tops : Seq SeenTop) → IsOwnOver tops self.old.own self.old.family
+            → IsOwnOver tops self.new.own self.new.family }
         ensures frees { OnOk result (IsFreeWith (IsFreeing self.new.waiting.block) self.new.own) }
         ensures none { OnOk result (freed_by self.new.own ≡ 0) }
         ensures missing { OnOk result (HasFound self.new.own → found_error self.new.own ≡ Some Errno.Noent) }
@@ -72,15 +74,20 @@ impl RequestNode {
         requires frees { IsFreeWith (IsFreeing self.old.waiting.block) self.old.own }
         requires attempt { self.old.attempt < 4 }
         requires on { (tops : Seq SeenTop) × IsWaitingOver tops self.old.waiting }
-        ensures hands { IfOk result (λ child. (t : Terms) (st : Stack) → IsRequestNode t self.old st → HandsWalk t child (IsRequestNode t self.new) st) }
-        ensures child_over { IfOk result (λ child. (tops : Seq SeenTop) → IsWaitingOver tops self.old.waiting → IsWalkOver tops child) }
-        ensures over { (tops : Seq SeenTop) → IsOwnOver tops self.old.own self.old.family → IsOwnOver tops self.new.own self.new.family }
+        ensures hands { IfOk result (λ child. (t : Terms) (st : Stack) → IsRequestNode t self.old st
+            → HandsWalk t child (IsRequestNode t self.new) st) }
+        ensures child_over { IfOk result (λ child. (tops : Seq SeenTop) → IsWaitingOver tops self.old.waiting
+            → IsWalkOver tops child) }
+        ensures over { (tops : Seq SeenTop) → IsOwnOver tops self.old.own self.old.family
+            → IsOwnOver tops self.new.own self.new.family }
         ensures frees { IsFreeWith (IsFreeing self.new.waiting.block) self.new.own }
         ensures whole { IfOk result (λ child. IfSome child IsWholeWalk) }
-        ensures goes { IfOk result (λ child. IfSome child (λ child. IsFreeingWith (λ w. w.walk ≡ SeenWalk.Due) self.old.own ×
+        ensures goes { IfOk result
+            (λ child. IfSome child (λ child. IsFreeingWith (λ w. w.walk ≡ SeenWalk.Due) self.old.own ×
             IsFreeingWith (λ w. w.walk ≡ SeenWalk.Out) self.new.own)) }
         ensures still { result ≡ Ok None → self.new ≡ self.old }
-        ensures begun { result ≡ Ok None → is_gang_tree self.old.waiting.block ≡ true → IsFreeWith (λ w. HasBegun w.walk) self.new.own }
+        ensures begun { result ≡ Ok None → is_gang_tree self.old.waiting.block ≡ true
+            → IsFreeWith (λ w. HasBegun w.walk) self.new.own }
         ensures given { freed_by self.new.own ≡ freed_by self.old.own }
         ensures waiting { self.new.waiting ≡ self.old.waiting }
         ensures rest { self.new ≡ with_own self.old self.new.own self.new.family }
@@ -112,10 +119,12 @@ impl RequestNode {
 
     /// Whether the gang child that walks over the headers has to end first; `None` where the walk has ended.
     pub fn gang_issue_free(&self) -> Option<ChildKind>
-        ensures wait { (kind : ChildKind) → result ≡ Some kind → (t : Terms) (st : Stack) → IsSeated st → IsRequestNode t self.now st →
+        ensures wait { (kind : ChildKind) → result ≡ Some kind → (t : Terms) (st : Stack) → IsSeated st →
+            IsRequestNode t self.now st →
             IsOwed kind Done st }
         ensures kind { (kind : ChildKind) → result ≡ Some kind → kind ≡ ChildKind.Gang }
-        ensures walked { result ≡ None → IsFreeWith (λ w. HasBegun w.walk) self.now.own → IsFreeWith HasWalked self.now.own }
+        ensures walked { result ≡ None → IsFreeWith (λ w. HasBegun w.walk) self.now.own
+            → IsFreeWith HasWalked self.now.own }
     {
         match &self.own {
             Own::Free(own) => match own.walk {
@@ -126,19 +135,21 @@ impl RequestNode {
         }
     }
 
-    /// Gives the places of the block back, where no header failed, from the first that didn't go back. Where memory is refused some
-    /// of them went back, and the same call goes on from there.
+    /// Gives the places of the block back, where no header failed, from the first that didn't go back. Where memory is
+    /// refused some of them went back, and the same call goes on from there.
     pub fn dva_free<S: Services>(&mut self, alloc: Global, services: &mut S) -> Result<(), NoMemory>
         requires walked { IsFreeWith HasWalked self.old.own }
         requires frees { IsFreeWith (IsFreeing self.old.waiting.block) self.old.own }
         requires on { (tops : Seq SeenTop) × IsWaitingOver tops self.old.waiting }
-        ensures gives { GivesBack S.made (block_places self.old.waiting.block) (freed_by self.old.own) (freed_by self.new.own) services.old services.new }
+        ensures gives { GivesBack S.made (block_places self.old.waiting.block) (freed_by self.old.own)
+            (freed_by self.new.own) services.old services.new }
         ensures freed { OnOk result (IsFreeWith (HasFreed self.new.waiting.block) self.new.own) }
         ensures goes { FreesOn self.old.own self.new.own }
         ensures failed { IsFreeWith HasKeptFailed self.old.own → IsFreeWith HasKeptFailed self.new.own }
         ensures frees { IsFreeWith (IsFreeing self.new.waiting.block) self.new.own }
         ensures same { (t : Terms) (st : Stack) → IsRequestNode t self.old st → IsRequestNode t self.new st }
-        ensures over { (tops : Seq SeenTop) → IsOwnOver tops self.old.own self.old.family → IsOwnOver tops self.new.own self.new.family }
+        ensures over { (tops : Seq SeenTop) → IsOwnOver tops self.old.own self.old.family
+            → IsOwnOver tops self.new.own self.new.family }
         ensures waiting { self.new.waiting ≡ self.old.waiting }
         ensures rest { self.new ≡ with_own self.old self.new.own self.new.family }
         ensures tops { S.tops services.new ≡ S.tops services.old }
@@ -155,9 +166,11 @@ impl RequestNode {
         requires { IsFreeWith (HasFreed self.old.waiting.block) self.old.own }
         ensures ends { (t : Terms) (st : Stack) → IsRequestNode t self.old st → IsRequestNode t self.new st }
         ensures found { HasFound self.new.own }
-        ensures error { IsFreeWith (λ w. (e : Option SeenErrno) → w.walk ≡ SeenWalk.Ended e → found_error self.new.own ≡ e) self.old.own }
+        ensures error { IsFreeWith (λ w. (e : Option SeenErrno) → w.walk ≡ SeenWalk.Ended e
+            → found_error self.new.own ≡ e) self.old.own }
         ensures still { HasFound self.old.own → self.new ≡ self.old }
-        ensures over { (tops : Seq SeenTop) → IsOwnOver tops self.old.own self.old.family → IsOwnOver tops self.new.own self.new.family }
+        ensures over { (tops : Seq SeenTop) → IsOwnOver tops self.old.own self.old.family
+            → IsOwnOver tops self.new.own self.new.family }
         ensures kids { self.new.kids ≡ self.old.kids }
         ensures rest { self.new ≡ with_own self.old self.new.own self.new.family }
     {
@@ -172,10 +185,12 @@ impl RequestNode {
     pub fn arrive_walked_free(&mut self, child: u32, walked: Walked)
         requires seat { IsOwnSeat self.old child 0 }
         requires out { IsFreeingWith (λ w. w.walk ≡ SeenWalk.Out) self.old.own }
-        ensures heard { (t : Terms) (st : Stack) (c : Child) → slice_get st.children child ≡ Some c → IsRequestNode t self.old st →
+        ensures heard { (t : Terms) (st : Stack) (c : Child) → slice_get st.children child ≡ Some c →
+            IsRequestNode t self.old st →
             IsRequestNode t self.new (heard_of st child c (WalkedBy walked)) }
         ensures walked { IsFreeingWith HasWalked self.new.own }
-        ensures over { (tops : Seq SeenTop) → IsOwnOver tops self.old.own self.old.family → IsOwnOver tops self.new.own self.new.family }
+        ensures over { (tops : Seq SeenTop) → IsOwnOver tops self.old.own self.old.family
+            → IsOwnOver tops self.new.own self.new.family }
         ensures given { freed_by self.new.own ≡ freed_by self.old.own }
         ensures waiting { self.new.waiting ≡ self.old.waiting }
         ensures rest { self.new ≡ with_own self.old self.new.own self.new.family }
@@ -190,9 +205,11 @@ impl RequestNode {
     pub fn arrive_ready_free(&mut self, child: u32)
         requires seat { IsOwnSeat self.old child 0 }
         requires out { IsFreeingWith (λ w. w.walk ≡ SeenWalk.Out) self.old.own }
-        ensures told { (t : Terms) (st : Stack) (c : Child) (pointer : Option Bp) → slice_get st.children child ≡ Some c →
+        ensures told { (t : Terms) (st : Stack) (c : Child) (pointer : Option Bp) →
+            slice_get st.children child ≡ Some c →
             IsRequestNode t self.old st → IsRequestNode t self.new (heard_early st child c pointer) }
-        ensures over { (tops : Seq SeenTop) → IsOwnOver tops self.old.own self.old.family → IsOwnOver tops self.new.own self.new.family }
+        ensures over { (tops : Seq SeenTop) → IsOwnOver tops self.old.own self.old.family
+            → IsOwnOver tops self.new.own self.new.family }
         ensures own { self.new.own ≡ self.old.own }
         ensures waiting { self.new.waiting ≡ self.old.waiting }
         ensures rest { self.new ≡ with_own self.old self.new.own self.new.family }

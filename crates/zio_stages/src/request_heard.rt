@@ -50,7 +50,8 @@ impl RequestNode {
         requires write { IsWrite self.old.own }
         requires hears { HearsValueOf (IsStoredBy stored) self.old child }
         ensures heard { (t : Terms) (st : Stack) (c : Child) → IsRequestNode t self.old st →
-            slice_get st.children child ≡ Some c → IsRequestNode t self.new (heard_of st child c (StoredAs (stored_as stored))) }
+            slice_get st.children child ≡ Some c
+            → IsRequestNode t self.new (heard_of st child c (StoredAs (stored_as stored))) }
         ensures over { (tops : Seq SeenTop) → IsOwnOver tops self.old.own self.old.family →
             IsOwnOver tops self.new.own self.new.family }
         ensures keeps { KeepsStages self.old.own self.new.own }

@@ -1,7 +1,8 @@
 //! A request in an attempt.
 //!
-//! A request's children are attempted beside each other, all together. Its own work goes on behind them: it may begin once
-//! they all are out, and once each has told the pointer that it will have, or has ended, the request can tell its own.
+//! A request's children are attempted beside each other, all together. Its own work goes on behind them: it may begin
+//! once they all are out, and once each has told the pointer that it will have, or has ended, the request can tell its
+//! own.
 
 ghost use Rattle.std.specs.Prelude.{◌≡◌, ◌-◌, ◌^◌, ◌<◌, ◌⊎◌, ℕ, List as Seq, [], IfErr, IfOk, None, OnErr, Ok, Option, Some, length, option_map, slice_get, slice_set, true};
 ghost use Rattle.std.specs.List.{AllByRecursion, list_all, list_any};
@@ -160,12 +161,14 @@ impl RequestNode {
         failmode: Failmode,
     ) -> Result<RequestNode, WholeBack>
         ensures root { IfOk result (λ node. root_of whole ≡ Some node.waiting) }
-        ensures fresh { IfOk result (λ node. (t : Terms) (p : Pending) (forest : Forest) → t.round ≡ round → t.failmode ≡ failmode →
+        ensures fresh { IfOk result (λ node. (t : Terms) (p : Pending) (forest : Forest) → t.round ≡ round →
+            t.failmode ≡ failmode →
             IsTreeOf whole p forest → IsRequestNode t node (fresh_stack (Attempt attempt p forest))) }
         ensures attempt { IfOk result (λ node. node.attempt ≡ attempt) }
         ensures due { IfOk result (λ node. node.own ≡ Own.Due) }
         ensures over { IfOk result (λ node. (tops : Seq SeenTop) → IsOwnOver tops node.own node.family) }
-        ensures valid { IfOk result (λ node. AllByRecursion HasValid node.waiting.kept → HaveValidPointers node.kids.kids) }
+        ensures valid { IfOk result (λ node. AllByRecursion HasValid node.waiting.kept
+            → HaveValidPointers node.kids.kids) }
         ensures list { IfOk result (λ node. IsListOf whole node.waiting node.kids) }
         ensures begun { IfOk result (λ node. AreBegun node.waiting node.kids) }
         ensures kept { IfOk result (λ node. node.kids.kids.kept ≡ node.waiting.kept) }
@@ -189,7 +192,8 @@ impl RequestNode {
     pub fn start(&mut self) -> Result<Start, NoMemory>
         requires { self.old.attempt < 4 }
         ensures child { (number : ℕ) (whole : Seq SeenWaiting) → result ≡ Ok (Start.Child number whole) →
-            (t : Terms) (st : Stack) → IsSeated st → IsRequestNode t self.old st → (number ≡ length st.children) × HandsKid t self.new whole st }
+            (t : Terms) (st : Stack) → IsSeated st → IsRequestNode t self.old st → (number ≡ length st.children)
+            × HandsKid t self.new whole st }
         ensures handed { (number : ℕ) (whole : Seq SeenWaiting) → result ≡ Ok (Start.Child number whole) →
             self.new.kids.kids ≡ kid_handed self.old.kids.kids }
         ensures less { (number : ℕ) (whole : Seq SeenWaiting) → result ≡ Ok (Start.Child number whole) →
@@ -216,8 +220,10 @@ impl RequestNode {
 
     /// Whether the attempt of a null can end, once all its children were handed out.
     pub fn done_null(&self) -> DoneStep
-        ensures wait { (kind : ChildKind) → result ≡ DoneStep.Wait kind → (t : Terms) (st : Stack) → IsSeated st → IsRequestNode t self.now st →
-            self.now.kids.kids.handed ≡ length self.now.kids.kids.kids → list_any (is_owing kind Done) st.children ≡ true }
+        ensures wait { (kind : ChildKind) → result ≡ DoneStep.Wait kind → (t : Terms) (st : Stack) → IsSeated st →
+            IsRequestNode t self.now st →
+            self.now.kids.kids.handed ≡ length self.now.kids.kids.kids
+            → list_any (is_owing kind Done) st.children ≡ true }
         ensures close { result ≡ DoneStep.Close → list_all is_ended self.now.kids.kids.kids ≡ true }
     {
         if self.kids.kids().all_ended() {
@@ -247,11 +253,12 @@ impl RequestNode {
         }
     }
 
-    /// The decision, where its own work came to this: with bits of its own or of a child it goes again, and else it finishes
-    /// with the worst error of all. Where memory is refused both come back.
+    /// The decision, where its own work came to this: with bits of its own or of a child it goes again, and else it
+    /// finishes with the worst error of all. Where memory is refused both come back.
     pub(crate) fn close(self, alloc: Global, own: OwnFound) -> Result<Closed, CloseBack>
         requires { list_all is_ended self.kids.kids.kids ≡ true }
-        ensures closes { IfOk result (λ closed. (t : Terms) (st : Stack) (h : IsRequestNode t self st) → OwnEnds t self st (own_got own) h →
+        ensures closes { IfOk result (λ closed. (t : Terms) (st : Stack) (h : IsRequestNode t self st) →
+            OwnEnds t self st (own_got own) h →
             Closes t self st h closed) }
         ensures decides { IfOk result (λ closed. keeps_block closed ≡ is_well self own.error) }
         ensures kept { IfOk result (λ closed. own_in closed ≡ own) }
@@ -297,7 +304,8 @@ impl RequestNode {
     /// All bits of the request, where its own work came to this error.
     pub(crate) fn bits(&self, error: Option<Errno>) -> Bits
         requires { list_all is_ended self.now.kids.kids.kids ≡ true }
-        ensures { result ≡ all_bits (kind_of self.now.waiting.request.work) error self.now.waiting.request.canfail self.now.failmode
+        ensures { result ≡ all_bits (kind_of self.now.waiting.request.work) error self.now.waiting.request.canfail
+            self.now.failmode
             (bits_of (returns_in self.now.kids.kids)) }
     {
         let request = &self.waiting.request;
@@ -329,14 +337,16 @@ impl RequestNode {
     /// The child, an attempt, told which pointer it will have.
     pub fn arrive_ready(&mut self, child: u32, pointer: Option<Bp>)
         requires { IsKidAt (λ state. state ≡ Some Out) self.old child }
-        ensures told { (t : Terms) (st : Stack) (c : Child) → IsRequestNode t self.old st → slice_get st.children child ≡ Some c →
+        ensures told { (t : Terms) (st : Stack) (c : Child) → IsRequestNode t self.old st →
+            slice_get st.children child ≡ Some c →
             IsRequestNode t self.new (heard_early st child c pointer) }
         ensures kids { (place : ℕ) → IsSeatOf self.old.family child place →
             self.new.kids.kids ≡ kid_is self.old.kids.kids place (Told pointer) }
         ensures holds { HoldTheSame self.old.kids self.new.kids }
         ensures over { (tops : Seq SeenTop) → IsOwnOver tops self.old.own self.old.family →
             IsOwnOver tops self.new.own self.new.family }
-        ensures valid { IsNoneOrValid pointer → HaveValidPointers self.old.kids.kids → HaveValidPointers self.new.kids.kids }
+        ensures valid { IsNoneOrValid pointer → HaveValidPointers self.old.kids.kids
+            → HaveValidPointers self.new.kids.kids }
         ensures rest { self.new ≡ with_kids self.old self.new.kids self.new.family }
     {
         let place = self.place(child);
@@ -357,7 +367,8 @@ impl RequestNode {
         ensures holds { HoldTheSame self.old.kids self.new.kids }
         ensures over { (tops : Seq SeenTop) → IsOwnOver tops self.old.own self.old.family →
             IsOwnOver tops self.new.own self.new.family }
-        ensures valid { IsNoneOrValid pointer ⊎ HasToldIn self.old child pointer → HaveValidPointers self.old.kids.kids →
+        ensures valid { IsNoneOrValid pointer ⊎ HasToldIn self.old child pointer →
+            HaveValidPointers self.old.kids.kids →
             HaveValidPointers self.new.kids.kids }
         ensures rest { self.new ≡ with_kids self.old self.new.kids self.new.family }
     {
@@ -370,7 +381,8 @@ impl RequestNode {
     pub fn arrive_again(&mut self, child: u32, bits: Bits, whole: Whole, pointer: Option<Bp>)
         requires out { IsKidAt (IsOutWith pointer) self.old child }
         requires bits { has_bits bits ≡ true }
-        requires root { (place : ℕ) → IsSeatOf self.old.family child place → root_number whole ≡ slice_get (numbers_of self.old.kids.kids.kids) place }
+        requires root { (place : ℕ) → IsSeatOf self.old.family child place
+            → root_number whole ≡ slice_get (numbers_of self.old.kids.kids.kids) place }
         ensures heard { (t : Terms) (st : Stack) (c : Child) (p : Pending) (below : Forest) (one : One) →
             IsRequestNode t self.old st → slice_get st.children child ≡ Some c →
             asked_at st c.seat ≡ Some (Attempt self.old.attempt p below) →
@@ -383,7 +395,8 @@ impl RequestNode {
             self.new.kids.again ≡ slice_set self.old.kids.again place (Some whole) }
         ensures over { (tops : Seq SeenTop) → IsOwnOver tops self.old.own self.old.family →
             IsOwnOver tops self.new.own self.new.family }
-        ensures valid { IsNoneOrValid pointer ⊎ HasToldIn self.old child pointer → HaveValidPointers self.old.kids.kids →
+        ensures valid { IsNoneOrValid pointer ⊎ HasToldIn self.old child pointer →
+            HaveValidPointers self.old.kids.kids →
             HaveValidPointers self.new.kids.kids }
         ensures rest { self.new ≡ with_kids self.old self.new.kids self.new.family }
     {

@@ -39,8 +39,8 @@ use std::alloc::Global;
 use zio_types::{NoMemory, Top};
 
 impl RequestNode {
-    /// Asks the space for the places of the block, for a header's where these are refused, and hands out the gang's next
-    /// member. Where memory is refused what was done before stays.
+    /// Asks the space for the places of the block, for a header's where these are refused, and hands out the gang's
+    /// next member. Where memory is refused what was done before stays.
     pub fn dva_allocate<S: Services>(
         &mut self,
         alloc: Global,
@@ -58,7 +58,8 @@ impl RequestNode {
         ensures tops { S.tops services.new ≡ S.tops services.old }
         ensures child { IfOk result IsAllocatedOver }
         ensures begun { IsBegunWrite self.new.own }
-        ensures next { (child : SeenPart) → result ≡ Ok (Allocated.Member child) → HasNextMember child self.old.own self.new.own }
+        ensures next { (child : SeenPart) → result ≡ Ok (Allocated.Member child)
+            → HasNextMember child self.old.own self.new.own }
         ensures placed { result ≡ Ok Allocated.Placed → IsPlacedWrite self.new.own }
         ensures rest { self.new ≡ with_own self.old self.new.own self.new.family }
     {
@@ -69,8 +70,8 @@ impl RequestNode {
         work.dva_allocate(alloc, services, &mut self.family, &name, *front)
     }
 
-    /// The next operation on a leaf for the copies of its block or its header, which begin if they are due; none where none is
-    /// due now. Where memory is refused they may have begun.
+    /// The next operation on a leaf for the copies of its block or its header, which begin if they are due; none where
+    /// none is due now. Where memory is refused they may have begun.
     pub fn vdev_io_start_write(
         &mut self,
         alloc: Global,
@@ -79,7 +80,8 @@ impl RequestNode {
         requires ready { IsReadyWrite self.old.own }
         requires attempt { self.old.attempt < 4 }
         requires over { IsOwnOver tops.now self.old.own self.old.family }
-        ensures starts { IfOk result (λ leaf. (t : Terms) (st : Stack) → t.setting.tops ≡ tops.now → IsRequestNode t self.old st →
+        ensures starts { IfOk result (λ leaf. (t : Terms) (st : Stack) → t.setting.tops ≡ tops.now →
+            IsRequestNode t self.old st →
             DoesThen t st [] (λ mid. StartsBy t mid leaf (IsRequestNode t self.new))) }
         ensures err { OnErr result ((t : Terms) (st : Stack) → IsRequestNode t self.old st →
             DoesThen t st [] (IsRequestNode t self.new)) }

@@ -1,7 +1,8 @@
 //! A read in an attempt.
 //!
-//! Once its children were all handed out, the block that it names is read: the walk over its headers, and then its bodies. Of a
-//! block that is no gang the node does both itself, as parts within its own; a gang's headers and bodies are its children's.
+//! Once its children were all handed out, the block that it names is read: the walk over its headers, and then its
+//! bodies. Of a block that is no gang the node does both itself, as parts within its own; a gang's headers and bodies
+//! are its children's.
 
 ghost use Rattle.std.specs.Prelude.{◌≡◌, ◌^◌, ◌-◌, ◌<◌, ℕ, [], IfErr, IfOk, IfSome, List as Seq, None, Ok, OnErr, OnOk, Option, Some, false, length, slice_get, true};
 ghost use Rattle.std.specs.List.{AllByRecursion, list_all};
@@ -104,15 +105,17 @@ pub enum ReadDone {
 }
 
 impl RequestNode {
-    /// Begins the read of the block that the request names, once its children were all handed out. The walk from a plain pointer
-    /// opens and closes at once, and a gang's is due. Where the request names none it has ended with `NOENT`. Where memory is
-    /// refused all is as before.
+    /// Begins the read of the block that the request names, once its children were all handed out. The walk from a
+    /// plain pointer opens and closes at once, and a gang's is due. Where the request names none it has ended with
+    /// `NOENT`. Where memory is refused all is as before.
     pub fn read_bp_init(&mut self, alloc: Global) -> Result<(), NoMemory>
         requires due { self.old.own ≡ Own.Due }
         requires handed { self.old.kids.kids.handed ≡ length self.old.kids.kids.kids }
         requires read { IsReadWork self.old.waiting.request.work }
-        ensures does { OnOk result ((t : Terms) (st : Stack) → IsRequestNode t self.old st → DoesThen t st [] (IsRequestNode t self.new)) }
-        ensures over { (tops : Seq SeenTop) → IsWaitingOver tops self.old.waiting → IsOwnOver tops self.old.own self.old.family →
+        ensures does { OnOk result ((t : Terms) (st : Stack) → IsRequestNode t self.old st
+            → DoesThen t st [] (IsRequestNode t self.new)) }
+        ensures over { (tops : Seq SeenTop) → IsWaitingOver tops self.old.waiting →
+            IsOwnOver tops self.old.own self.old.family →
             IsOwnOver tops self.new.own self.new.family }
         ensures reads { OnOk result (IsReadWith IsAlone self.new.own) }
         ensures plain { OnOk result (is_gang_tree self.old.waiting.block ≡ false → IsReadWith HasOneBody self.new.own) }
@@ -137,14 +140,18 @@ impl RequestNode {
         requires reads { IsReadWith IsAlone self.old.own }
         requires attempt { self.old.attempt < 4 }
         requires on { (tops : Seq SeenTop) × IsWaitingOver tops self.old.waiting }
-        ensures hands { IfOk result (λ child. (t : Terms) (st : Stack) → IsRequestNode t self.old st → HandsWalk t child (IsRequestNode t self.new) st) }
-        ensures child_over { IfOk result (λ child. (tops : Seq SeenTop) → IsWaitingOver tops self.old.waiting → IsWalkOver tops child) }
+        ensures hands { IfOk result (λ child. (t : Terms) (st : Stack) → IsRequestNode t self.old st
+            → HandsWalk t child (IsRequestNode t self.new) st) }
+        ensures child_over { IfOk result (λ child. (tops : Seq SeenTop) → IsWaitingOver tops self.old.waiting
+            → IsWalkOver tops child) }
         ensures whole { IfOk result (λ child. IfSome child IsWholeWalk) }
         ensures goes { IfOk result (λ child. IfSome child (λ child. ReadsOn HandsOutWalk self.old.own self.new.own)) }
         ensures reading { IfOk result (λ child. IfSome child (λ child. IsReadingWith (λ w. Unit {0}) self.old.own)) }
         ensures none { result ≡ Ok None → self.new ≡ self.old }
-        ensures begun { result ≡ Ok None → is_gang_tree self.old.waiting.block ≡ true → IsReadWith HasWalkBegun self.new.own }
-        ensures over { (tops : Seq SeenTop) → IsOwnOver tops self.old.own self.old.family → IsOwnOver tops self.new.own self.new.family }
+        ensures begun { result ≡ Ok None → is_gang_tree self.old.waiting.block ≡ true
+            → IsReadWith HasWalkBegun self.new.own }
+        ensures over { (tops : Seq SeenTop) → IsOwnOver tops self.old.own self.old.family
+            → IsOwnOver tops self.new.own self.new.family }
         ensures reads { IsReadWith IsAlone self.new.own }
         ensures waiting { self.new.waiting ≡ self.old.waiting }
         ensures rest { self.new ≡ with_own self.old self.new.own self.new.family }
@@ -172,11 +179,13 @@ impl RequestNode {
         requires reads { IsReadWith IsAlone self.old.own }
         requires attempt { self.old.attempt < 4 }
         requires over { IsOwnOver tops.now self.old.own self.old.family }
-        ensures hands { IfOk result (λ stage. (t : Terms) (st : Stack) → t.setting.tops ≡ tops.now → IsRequestNode t self.old st →
+        ensures hands { IfOk result (λ stage. (t : Terms) (st : Stack) → t.setting.tops ≡ tops.now →
+            IsRequestNode t self.old st →
             HandsBody t stage (IsRequestNode t self.new) st) }
         ensures child_over { IfOk result (IsBodyStageOver tops.now) }
         ensures goes { IfOk result (λ stage. IssuesBody stage self.old.own self.new.own) }
-        ensures reading { (child : SeenCopies) → result ≡ Ok (BodyStage.Body child) → IsReadingWith (λ w. Unit {0}) self.old.own }
+        ensures reading { (child : SeenCopies) → result ≡ Ok (BodyStage.Body child)
+            → IsReadingWith (λ w. Unit {0}) self.old.own }
         ensures wait { result ≡ Ok BodyStage.Wait → self.new ≡ self.old }
         ensures on { result ≡ Ok BodyStage.On → self.new ≡ self.old }
         ensures ended { result ≡ Ok BodyStage.On → is_gang_tree self.old.waiting.block ≡ true →
@@ -212,8 +221,8 @@ impl RequestNode {
         }
     }
 
-    /// The next operation on a leaf of a body that the node reads itself, whose read begins if it is due. None is there where none
-    /// is due now. Where memory is refused the body's read may have begun.
+    /// The next operation on a leaf of a body that the node reads itself, whose read begins if it is due. None is there
+    /// where none is due now. Where memory is refused the body's read may have begun.
     pub fn vdev_io_start_read(
         &mut self,
         alloc: Global,
@@ -221,7 +230,8 @@ impl RequestNode {
     ) -> Result<Option<LeafWork>, NoMemory>
         requires attempt { self.old.attempt < 4 }
         requires over { IsOwnOver tops.now self.old.own self.old.family }
-        ensures starts { IfOk result (λ leaf. (t : Terms) (st : Stack) → t.setting.tops ≡ tops.now → IsRequestNode t self.old st →
+        ensures starts { IfOk result (λ leaf. (t : Terms) (st : Stack) → t.setting.tops ≡ tops.now →
+            IsRequestNode t self.old st →
             DoesThen t st [] (λ mid. StartsBy t mid leaf (IsRequestNode t self.new))) }
         ensures err { OnErr result ((t : Terms) (st : Stack) → t.setting.tops ≡ tops.now → IsRequestNode t self.old st →
             DoesThen t st [] (IsRequestNode t self.new)) }
@@ -229,7 +239,8 @@ impl RequestNode {
         ensures due { IfOk result (λ leaf. IfSome leaf IsDue) }
         ensures goes { IfOk result (λ leaf. ReadsOn (StartsBody leaf) self.old.own self.new.own) }
         ensures reading { IfOk result (λ leaf. IfSome leaf (λ leaf. IsReadingWith (λ w. Unit {0}) self.old.own)) }
-        ensures none { result ≡ Ok None → IsReadWith (λ w. Unit {0}) self.old.own → IsReadWith (IsNoneDue tops.now) self.new.own }
+        ensures none { result ≡ Ok None → IsReadWith (λ w. Unit {0}) self.old.own
+            → IsReadWith (IsNoneDue tops.now) self.new.own }
         ensures waiting { self.new.waiting ≡ self.old.waiting }
         ensures rest { self.new ≡ with_own self.old self.new.own self.new.family }
     {
@@ -252,7 +263,8 @@ impl RequestNode {
     pub fn vdev_io_done_read(&self, tops: &[Top]) -> IoNext
         requires reads { IsReadWith (λ w. Unit {0}) self.now.own }
         requires over { IsOwnOver tops.now self.now.own self.now.family }
-        ensures waits { result ≡ IoNext.Wait → (t : Terms) (st : Stack) → t.setting.tops ≡ tops.now → IsSeated st → IsRequestNode t self.now st →
+        ensures waits { result ≡ IoNext.Wait → (t : Terms) (st : Stack) → t.setting.tops ≡ tops.now → IsSeated st →
+            IsRequestNode t self.now st →
             IsOwed Vdev Done st }
         ensures due { result ≡ IoNext.On → IsReadWith (IsBodyDue tops.now) self.now.own }
         ensures more { result ≡ IoNext.More → IsReadingWith (IsOneDue tops.now) self.now.own }
@@ -279,8 +291,8 @@ impl RequestNode {
         }
     }
 
-    /// The second pass over the body that the node reads itself begins if it is due, and this is true; else its read closes, if there
-    /// is one.
+    /// The second pass over the body that the node reads itself begins if it is due, and this is true; else its read
+    /// closes, if there is one.
     pub fn vdev_io_assess_read(&mut self, tops: &[Top]) -> bool
         requires due { IsReadWith (IsBodyDue tops.now) self.old.own }
         requires over { IsOwnOver tops.now self.old.own self.old.family }
@@ -304,10 +316,12 @@ impl RequestNode {
     pub fn done_read(&self) -> ReadDone
         requires alone { IsReadWith IsAlone self.now.own }
         requires handed { self.now.kids.kids.handed ≡ length self.now.kids.kids.kids }
-        ensures wait { (kind : ChildKind) → result ≡ ReadDone.Wait kind → (t : Terms) (st : Stack) → IsSeated st → IsRequestNode t self.now st →
+        ensures wait { (kind : ChildKind) → result ≡ ReadDone.Wait kind → (t : Terms) (st : Stack) → IsSeated st →
+            IsRequestNode t self.now st →
             IsOwed kind Done st }
         ensures more { result ≡ ReadDone.More → IsReadingWith IsMoreToRead self.now.own }
-        ensures close { result ≡ ReadDone.Close → IsReadWith HasReadEnded self.now.own × (list_all is_ended self.now.kids.kids.kids ≡ true) }
+        ensures close { result ≡ ReadDone.Close → IsReadWith HasReadEnded self.now.own
+            × (list_all is_ended self.now.kids.kids.kids ≡ true) }
     {
         match &self.own {
             Own::Read(own) => match own.next() {
@@ -326,9 +340,11 @@ impl RequestNode {
     /// What the read of its block came to takes the place of that. Where memory is refused all is as before.
     pub fn end_read(&mut self, alloc: Global) -> Result<(), NoMemory>
         requires { IsReadWith HasReadEnded self.old.own }
-        ensures ends { OnOk result ((t : Terms) (st : Stack) → IsRequestNode t self.old st → IsRequestNode t self.new st) }
+        ensures ends { OnOk result ((t : Terms) (st : Stack) → IsRequestNode t self.old st
+            → IsRequestNode t self.new st) }
         ensures found { OnOk result (HasFound self.new.own) }
-        ensures over { (tops : Seq SeenTop) → IsOwnOver tops self.old.own self.old.family → IsOwnOver tops self.new.own self.new.family }
+        ensures over { (tops : Seq SeenTop) → IsOwnOver tops self.old.own self.old.family
+            → IsOwnOver tops self.new.own self.new.family }
         ensures kids { self.new.kids ≡ self.old.kids }
         ensures rest { self.new ≡ with_own self.old self.new.own self.new.family }
         ensures err { OnErr result (self.new ≡ self.old) }
@@ -353,14 +369,15 @@ impl RequestNode {
         }
     }
 
-    /// An operation on a leaf of the body that the node reads itself has ended: with the bytes of its read, with none of a repair, or
-    /// with an error.
+    /// An operation on a leaf of the body that the node reads itself has ended: with the bytes of its read, with none
+    /// of a repair, or with an error.
     pub fn arrive_leaf_read(&mut self, tops: &[Top], child: u32, found: Result<Bytes, Errno>)
         requires reads { IsReadingWith (λ w. Unit {0}) self.old.own }
         requires over { IsOwnOver tops.now self.old.own self.old.family }
         requires awaited { IsAwaitedAt Within self.old.family child }
         ensures heard { (t : Terms) (st : Stack) (c : Child) (a : Answer) → t.setting.tops ≡ tops.now → found ≡ a →
-            slice_get st.children child ≡ Some c → IsRequestNode t self.old st → IsRequestNode t self.new (heard_of st child c (Got a)) }
+            slice_get st.children child ≡ Some c → IsRequestNode t self.old st
+            → IsRequestNode t self.new (heard_of st child c (Got a)) }
         ensures goes { ReadsOn (AsksMore None) self.old.own self.new.own }
         ensures over { IsOwnOver tops.now self.new.own self.new.family }
         ensures waiting { self.new.waiting ≡ self.old.waiting }
@@ -378,9 +395,11 @@ impl RequestNode {
         requires out { IsReadingWith IsWalkAlone self.old.own }
         requires on { AllByRecursion (IsBodyOn tops.now) walked.bodies }
         requires over { IsOwnOver tops.now self.old.own self.old.family }
-        ensures heard { (t : Terms) (st : Stack) (c : Child) → slice_get st.children child ≡ Some c → IsRequestNode t self.old st →
+        ensures heard { (t : Terms) (st : Stack) (c : Child) → slice_get st.children child ≡ Some c →
+            IsRequestNode t self.old st →
             IsRequestNode t self.new (heard_of st child c (WalkedBy walked)) }
-        ensures goes { ReadsOn (λ v w. w.tree.read ≡ walk_heard v.tree.read (bodies_or walked)) self.old.own self.new.own }
+        ensures goes { ReadsOn (λ v w. w.tree.read ≡ walk_heard v.tree.read (bodies_or walked)) self.old.own
+            self.new.own }
         ensures over { IsOwnOver tops.now self.new.own self.new.family }
         ensures reads { IsReadWith IsAlone self.new.own }
         ensures waiting { self.new.waiting ≡ self.old.waiting }
@@ -392,12 +411,14 @@ impl RequestNode {
         }
     }
 
-    /// The gang child that read a body, the own work's operation of this number, has ended: with the body's bytes, or with an error.
+    /// The gang child that read a body, the own work's operation of this number, has ended: with the body's bytes, or
+    /// with an error.
     pub fn arrive_body(&mut self, tops: &[Top], child: u32, n: u32, found: Result<Bytes, Errno>)
         requires seat { IsOwnSeat self.old child n }
         requires out { IsReadingWith (IsBodyBeside n) self.old.own }
         requires over { IsOwnOver tops.now self.old.own self.old.family }
-        ensures heard { (t : Terms) (st : Stack) (c : Child) (a : Answer) → found ≡ a → slice_get st.children child ≡ Some c →
+        ensures heard { (t : Terms) (st : Stack) (c : Child) (a : Answer) → found ≡ a →
+            slice_get st.children child ≡ Some c →
             IsRequestNode t self.old st → IsRequestNode t self.new (heard_of st child c (Got a)) }
         ensures goes { ReadsOn HearsBody self.old.own self.new.own }
         ensures over { IsOwnOver tops.now self.new.own self.new.family }
@@ -414,9 +435,12 @@ impl RequestNode {
     pub fn arrive_ready_read(&mut self, child: u32)
         requires seat { (n : ℕ) × IsOwnSeat self.old child n }
         requires reads { IsReadingWith (λ w. Unit {0}) self.old.own }
-        ensures told { (t : Terms) (st : Stack) (c : Child) (pointer : Option Bp) → IsSeated st → slice_get st.children child ≡ Some c →
-            c.ended ≡ false → c.told ≡ false → IsRequestNode t self.old st → IsRequestNode t self.new (heard_early st child c pointer) }
-        ensures over { (tops : Seq SeenTop) → IsOwnOver tops self.old.own self.old.family → IsOwnOver tops self.new.own self.new.family }
+        ensures told { (t : Terms) (st : Stack) (c : Child) (pointer : Option Bp) → IsSeated st →
+            slice_get st.children child ≡ Some c →
+            c.ended ≡ false → c.told ≡ false → IsRequestNode t self.old st
+            → IsRequestNode t self.new (heard_early st child c pointer) }
+        ensures over { (tops : Seq SeenTop) → IsOwnOver tops self.old.own self.old.family
+            → IsOwnOver tops self.new.own self.new.family }
         ensures own { self.new.own ≡ self.old.own }
         ensures waiting { self.new.waiting ≡ self.old.waiting }
         ensures rest { self.new ≡ with_own self.old self.new.own self.new.family }

@@ -1,7 +1,7 @@
 //! A write whose block was written.
 //!
-//! Where the request fails or goes again, the places of its block go back to the space before the attempt closes, so that what
-//! closes keeps a block exactly where it finished without error.
+//! Where the request fails or goes again, the places of its block go back to the space before the attempt closes, so
+//! that what closes keeps a block exactly where it finished without error.
 
 ghost use Rattle.std.specs.Prelude.{◌≡◌, IfErr, IfOk, List as Seq, OnOk, Some, length, false, true};
 ghost use Rattle.std.specs.List.{list_all};
@@ -36,8 +36,8 @@ impl RequestNode {
         !bits.go_again() && all.is_none()
     }
 
-    /// Gives the places of a write's block back, where the request fails or goes again. Where memory is refused some of them
-    /// went back, and the same call goes on from there.
+    /// Gives the places of a write's block back, where the request fails or goes again. Where memory is refused some of
+    /// them went back, and the same call goes on from there.
     pub fn give_block_back<S: Services>(
         &mut self,
         alloc: Global,
@@ -45,9 +45,11 @@ impl RequestNode {
     ) -> Result<(), NoMemory>
         requires stored { IsStoredWith IsGoingBack self.old.own }
         requires ended { list_all is_ended self.old.kids.kids.kids ≡ true }
-        ensures gives { GivesBack S.made (made_by self.old.own) (given_by self.old.own) (given_by self.new.own) services.old services.new }
+        ensures gives { GivesBack S.made (made_by self.old.own) (given_by self.old.own)
+            (given_by self.new.own) services.old services.new }
         ensures kept { is_well self.old (error_by self.old.own) ≡ true → given_by self.new.own ≡ given_by self.old.own }
-        ensures all { OnOk result (is_well self.old (error_by self.old.own) ≡ false → given_by self.new.own ≡ length (made_by self.old.own)) }
+        ensures all { OnOk result (is_well self.old (error_by self.old.own) ≡ false
+            → given_by self.new.own ≡ length (made_by self.old.own)) }
         ensures own { found_by self.new.own ≡ found_by self.old.own }
         ensures stored { IsStoredWith IsGoingBack self.new.own }
         ensures same { (t : Terms) (st : Stack) → IsRequestNode t self.old st → IsRequestNode t self.new st }
@@ -67,12 +69,13 @@ impl RequestNode {
         stored.give_back(alloc, services)
     }
 
-    /// The decision of a write, whose block's places went back where it was to lose them. Where memory is refused the node comes
-    /// back.
+    /// The decision of a write, whose block's places went back where it was to lose them. Where memory is refused the
+    /// node comes back.
     pub fn close_write(self, alloc: Global) -> Result<Outcome, NodeBack>
         requires stored { IsStoredWith IsGoingBack self.own }
         requires ended { list_all is_ended self.kids.kids.kids ≡ true }
-        ensures ends { IfOk result (λ outcome. (own : OwnFound) × (found_by self.own ≡ Some own) × EndsBy self own outcome) }
+        ensures ends { IfOk result (λ outcome. (own : OwnFound) × (found_by self.own ≡ Some own)
+            × EndsBy self own outcome) }
         ensures back { IfErr result (λ e. e.node ≡ self) }
     {
         let attempt = self.attempt;

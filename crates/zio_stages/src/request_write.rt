@@ -1,7 +1,7 @@
 //! A write in an attempt.
 //!
-//! A write's content begins with its children's pointers, so its own work waits until each of them told its own. Then its
-//! block is written as one part, behind the operations for the children.
+//! A write's content begins with its children's pointers, so its own work waits until each of them told its own. Then
+//! its block is written as one part, behind the operations for the children.
 
 ghost use Rattle.std.specs.Prelude.{◌≡◌, ◌+◌, IfErr, IfOk, IfSome, IsTrue, List as Seq, Ok, OnErr, OnOk, Option, Some, length, false, true};
 ghost use Rattle.std.specs.List.{list_all};
@@ -40,19 +40,23 @@ pub enum Content {
 }
 
 impl RequestNode {
-    /// Sets the content of a write whose children were all handed out, once each told its pointer. Where memory is refused all
-    /// is as before.
+    /// Sets the content of a write whose children were all handed out, once each told its pointer. Where memory is
+    /// refused all is as before.
     pub fn write_compress(&mut self, alloc: Global) -> Result<Content, NoMemory>
         requires due { self.old.own ≡ Own.Due }
         requires handed { self.old.kids.kids.handed ≡ length self.old.kids.kids.kids }
-        requires sound { IsSoundWrite (length self.old.kids.kids.kids + length self.old.kids.kids.kept) self.old.waiting }
+        requires sound { IsSoundWrite (length self.old.kids.kids.kids + length self.old.kids.kids.kept)
+            self.old.waiting }
         requires valid { HaveValidPointers self.old.kids.kids }
-        ensures wait { (kind : ChildKind) → result ≡ Ok (Content.Wait kind) → (t : Terms) (st : Stack) → IsSeated st → IsRequestNode t self.old st →
+        ensures wait { (kind : ChildKind) → result ≡ Ok (Content.Wait kind) → (t : Terms) (st : Stack) → IsSeated st →
+            IsRequestNode t self.old st →
             IsOwed kind Ready st }
         ensures kind { (kind : ChildKind) → result ≡ Ok (Content.Wait kind) → kind ≡ ChildKind.Logical }
         ensures waits { (kind : ChildKind) → result ≡ Ok (Content.Wait kind) → self.new ≡ self.old }
-        ensures set { result ≡ Ok Content.Set → (t : Terms) (st : Stack) → IsRequestNode t self.old st → IsRequestNode t self.new st }
-        ensures over { (tops : Seq SeenTop) → IsOwnOver tops self.old.own self.old.family → IsOwnOver tops self.new.own self.new.family }
+        ensures set { result ≡ Ok Content.Set → (t : Terms) (st : Stack) → IsRequestNode t self.old st
+            → IsRequestNode t self.new st }
+        ensures over { (tops : Seq SeenTop) → IsOwnOver tops self.old.own self.old.family
+            → IsOwnOver tops self.new.own self.new.family }
         ensures begun { result ≡ Ok Content.Set → IsBegunWrite self.new.own }
         ensures rest { self.new ≡ with_own self.old self.new.own self.old.family }
         ensures err { OnErr result (self.new ≡ self.old) }
@@ -76,12 +80,15 @@ impl RequestNode {
     /// Whether a write can tell its pointer, once its block's places were asked for and its members handed out.
     pub fn ready_write(&self) -> ReadyStep
         requires { IsPlacedWrite self.now.own }
-        ensures wait { (kind : ChildKind) → result ≡ ReadyStep.Wait kind → (t : Terms) (st : Stack) → IsSeated st → IsRequestNode t self.now st →
+        ensures wait { (kind : ChildKind) → result ≡ ReadyStep.Wait kind → (t : Terms) (st : Stack) → IsSeated st →
+            IsRequestNode t self.now st →
             IsOwed kind Ready st }
         ensures kind { (kind : ChildKind) → result ≡ ReadyStep.Wait kind → kind ≡ ChildKind.Gang }
-        ensures tell { (pointer : Option Bp) → result ≡ ReadyStep.Tell pointer → (t : Terms) (st : Stack) → IsRequestNode t self.now st →
+        ensures tell { (pointer : Option Bp) → result ≡ ReadyStep.Tell pointer → (t : Terms) (st : Stack) →
+            IsRequestNode t self.now st →
             WillHave t st.outer pointer }
-        ensures valid { (pointer : Option Bp) → result ≡ ReadyStep.Tell pointer → IfSome pointer (λ bp. IsTrue (valid bp)) }
+        ensures valid { (pointer : Option Bp) → result ≡ ReadyStep.Tell pointer
+            → IfSome pointer (λ bp. IsTrue (valid bp)) }
         ensures ready { (pointer : Option Bp) → result ≡ ReadyStep.Tell pointer → IsReadyWrite self.now.own }
     {
         let Own::Write(own) = &self.own else {
@@ -93,9 +100,11 @@ impl RequestNode {
     /// Whether all that a write asked has ended, once the copies of its block or its header have.
     pub fn done_write(&self) -> DoneStep
         requires { IsWrittenWrite self.now.own }
-        ensures wait { (kind : ChildKind) → result ≡ DoneStep.Wait kind → (t : Terms) (st : Stack) → IsSeated st → IsRequestNode t self.now st →
+        ensures wait { (kind : ChildKind) → result ≡ DoneStep.Wait kind → (t : Terms) (st : Stack) → IsSeated st →
+            IsRequestNode t self.now st →
             self.now.kids.kids.handed ≡ length self.now.kids.kids.kids → IsOwed kind Done st }
-        ensures close { result ≡ DoneStep.Close → IsEndOf self.now.own × (list_all is_ended self.now.kids.kids.kids ≡ true) }
+        ensures close { result ≡ DoneStep.Close → IsEndOf self.now.own
+            × (list_all is_ended self.now.kids.kids.kids ≡ true) }
     {
         let Own::Write(own) = &self.own else {
             unreachable!()
@@ -109,10 +118,12 @@ impl RequestNode {
     /// What the write of its block came to takes the place of that. Where memory is refused all is as before.
     pub fn end_write(&mut self, alloc: Global) -> Result<(), NoMemory>
         requires { IsEndOf self.old.own }
-        ensures ends { OnOk result ((t : Terms) (st : Stack) → IsRequestNode t self.old st → IsRequestNode t self.new st) }
+        ensures ends { OnOk result ((t : Terms) (st : Stack) → IsRequestNode t self.old st
+            → IsRequestNode t self.new st) }
         ensures stored { OnOk result (IsStoredWith IsGoingBack self.new.own) }
         ensures none { OnOk result (given_by self.new.own ≡ 0) }
-        ensures over { OnOk result ((tops : Seq SeenTop) → IsOwnOver tops self.old.own self.old.family → IsOwnOver tops self.new.own self.new.family) }
+        ensures over { OnOk result ((tops : Seq SeenTop) → IsOwnOver tops self.old.own self.old.family
+            → IsOwnOver tops self.new.own self.new.family) }
         ensures rest { self.new ≡ with_own self.old self.new.own self.old.family }
         ensures err { OnErr result (self.new ≡ self.old) }
     {

@@ -20,8 +20,8 @@ pub enum Unclaimed {
 pub trait Services {
     ghost tops: { Self → Seq SeenTop };
 
-    /// From the first to the second these calls were made, in this order, each with its arguments and its answer. One that was
-    /// refused for memory counts as not made.
+    /// From the first to the second these calls were made, in this order, each with its arguments and its answer. One
+    /// that was refused for memory counts as not made.
     ghost made: { Self → Seq SpaceCall → Self → Type 0 };
 
     /// Asks for so many copies of a size in bytes. The entry has as many places as were found.
@@ -55,5 +55,6 @@ pub trait Services {
 
     ghost made_none: { (a : Self) → made a [] a };
 
-    ghost made_then: { (a b c : Self) (first second : Seq SpaceCall) → made a first b → made b second c → made a (first ++ second) c };
+    ghost made_then: { (a b c : Self) (first second : Seq SpaceCall) → made a first b → made b second c
+        → made a (first ++ second) c };
 }

@@ -53,15 +53,16 @@ impl StoredBlock {
         }
     }
 
-    /// Gives back those of its block's places that are left. Where memory is refused some of them went back, and the same call
-    /// goes on from there.
+    /// Gives back those of its block's places that are left. Where memory is refused some of them went back, and the
+    /// same call goes on from there.
     pub(crate) fn give_back<S: Services>(
         &mut self,
         alloc: Global,
         services: &mut S,
     ) -> Result<(), NoMemory>
         requires { IsGoingBack self.old }
-        ensures gives { GivesBack S.made (block_places self.old.own.tree) self.old.given self.new.given services.old services.new }
+        ensures gives { GivesBack S.made (block_places self.old.own.tree) self.old.given self.new.given services.old
+            services.new }
         ensures all { OnOk result (self.new.given ≡ length (block_places self.old.own.tree)) }
         ensures going { IsGoingBack self.new }
         ensures own { self.new.own ≡ self.old.own }

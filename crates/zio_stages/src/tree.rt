@@ -37,8 +37,10 @@ impl TreeWork {
     /// What is to be done next.
     pub fn next(&self) -> TreeStep
         ensures shows { ShowsRead self.now.read result }
-        ensures body { (body : BodyRead) → result ≡ TreeStep.Body body → slice_get self.now.read.bodies body.n ≡ Some body.bp }
-        ensures waits { result ≡ TreeStep.Wait → (tree : Tree) (asked : List Task) (slots : List Slot) → IsTreeWork self.now tree asked slots → 0 < length (told_in slots) }
+        ensures body { (body : BodyRead) → result ≡ TreeStep.Body body
+            → slice_get self.now.read.bodies body.n ≡ Some body.bp }
+        ensures waits { result ≡ TreeStep.Wait → (tree : Tree) (asked : List Task) (slots : List Slot)
+            → IsTreeWork self.now tree asked slots → 0 < length (told_in slots) }
     {
         self.read.next()
     }
@@ -46,7 +48,8 @@ impl TreeWork {
     /// The walk over the headers is out, from the block's pointer down.
     pub fn hand_out_walk(&mut self)
         requires { ShowsRead self.old.read TreeStep.Walk }
-        ensures out { (tree : Tree) (asked : List Task) (slots : List Slot) → IsTreeWork self.old tree asked slots → HandsRead self.new tree asked slots (heads_task tree) }
+        ensures out { (tree : Tree) (asked : List Task) (slots : List Slot) → IsTreeWork self.old tree asked slots
+            → HandsRead self.new tree asked slots (heads_task tree) }
         ensures read { self.new.read ≡ with_phase self.old.read Out }
         ensures bodies { self.new.read.bodies ≡ self.old.read.bodies }
     {
@@ -56,7 +59,8 @@ impl TreeWork {
     /// The walk over the headers is made at once, and left this.
     pub fn walk_at_once(&mut self, walked: Walked)
         requires { ShowsRead self.old.read TreeStep.Walk }
-        ensures walks { (tree : Tree) (asked : List Task) (slots : List Slot) → IsTreeWork self.old tree asked slots → WalksRead self.new tree asked slots walked }
+        ensures walks { (tree : Tree) (asked : List Task) (slots : List Slot) → IsTreeWork self.old tree asked slots
+            → WalksRead self.new tree asked slots walked }
         ensures read { self.new.read ≡ walk_heard (with_phase self.old.read Out) (bodies_or walked) }
         ensures bodies { self.new.read.bodies ≡ bodies_after self.old.read.bodies walked }
     {
@@ -67,8 +71,10 @@ impl TreeWork {
     /// The read of this body is out. Where memory is refused nothing is.
     pub fn hand_out_body(&mut self, body: BodyRead) -> Result<(), NoMemory>
         requires { ShowsRead self.old.read (TreeStep.Body body) }
-        ensures there { OnOk result ((left : Left) → slice_get (slots_with left self.new.read) (body.n + 1) ≡ Some (IsOut None)) }
-        ensures out { OnOk result ((tree : Tree) (asked : List Task) (slots : List Slot) → IsTreeWork self.old tree asked slots → HandsRead self.new tree asked slots (body_task body.bp)) }
+        ensures there { OnOk result ((left : Left) → slice_get (slots_with left self.new.read) (body.n + 1)
+            ≡ Some (IsOut None)) }
+        ensures out { OnOk result ((tree : Tree) (asked : List Task) (slots : List Slot)
+            → IsTreeWork self.old tree asked slots → HandsRead self.new tree asked slots (body_task body.bp)) }
         ensures handed { OnOk result (self.new.read ≡ with_results self.old.read (self.old.read.results ++ None ∷ [])) }
         ensures err { OnErr result (self.new ≡ self.old) }
     {
@@ -78,7 +84,8 @@ impl TreeWork {
     /// The read of the body that was handed out last isn't out: all is as before that.
     pub fn take_back_body(&mut self)
         requires { (before : Reading) × (self.old.read ≡ with_results before (before.results ++ None ∷ [])) }
-        ensures { (before : Reading) → self.old.read ≡ with_results before (before.results ++ None ∷ []) → self.new.read ≡ before }
+        ensures { (before : Reading) → self.old.read ≡ with_results before (before.results ++ None ∷ [])
+            → self.new.read ≡ before }
     {
         self.read.take_back_body();
     }
@@ -100,7 +107,8 @@ impl TreeWork {
         requires out { (left : Left) × (slice_get (slots_with left self.old.read) n ≡ Some (IsOut None)) }
         ensures heard { (tree : Tree) (asked : List Task) (slots : List Slot) → IsTreeWork self.old tree asked slots →
             IsTreeWork self.new tree asked (slice_set slots n (Heard (Got found))) }
-        ensures read { self.new.read ≡ with_results self.old.read (slice_set self.old.read.results (n - 1) (Some found)) }
+        ensures read { self.new.read
+            ≡ with_results self.old.read (slice_set self.old.read.results (n - 1) (Some found)) }
         ensures bodies { self.new.read.bodies ≡ self.old.read.bodies }
     {
         self.read.hear_body((n - 1) as usize, found);
@@ -111,7 +119,8 @@ impl TreeWork {
     pub fn into_found(self, alloc: Global) -> Result<Result<Bytes, Errno>, TreeWork>
         requires { ShowsRead self.read TreeStep.End }
         ensures back { IfErr result (λ work. work ≡ self) }
-        ensures found { IfOk result (λ found. (tree : Tree) (asked : List Task) (slots : List Slot) → IsTreeWork self tree asked slots →
+        ensures found { IfOk result (λ found. (tree : Tree) (asked : List Task) (slots : List Slot) →
+            IsTreeWork self tree asked slots →
             AllHeard slots × (left_behind_slots slots (plan_tree tree) ≡ Ends (Got found))) }
     {
         let TreeWork { read } = self;

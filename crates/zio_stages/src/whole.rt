@@ -55,7 +55,8 @@ impl Whole {
         children: List<Whole>,
     ) -> Result<Whole, ChildrenBack>
         requires rising { RiseFrom 0 (roots_in children) }
-        ensures list { IfOk result (λ tree. pendings tree ≡ pendings (joined children) ++ fresh request.now birth block ∷ []) }
+        ensures list { IfOk result (λ tree. pendings tree ≡ pendings (joined children) ++ fresh request.now birth block
+            ∷ []) }
         ensures tree { IfOk result (λ tree. (forest : Forest) → AreTrees children forest →
             IsTreeOf tree (fresh request.now birth block) forest) }
         ensures back { IfErr result (λ e. e.children ≡ children) }
@@ -124,7 +125,8 @@ fn begin_tree(
     Ok((request, all))
 }
 
-/// How many requests a tree over these has. More than can be counted counts as the most: no vector has room for so many.
+/// How many requests a tree over these has. More than can be counted counts as the most: no vector has room for so
+/// many.
 fn room_over(children: &[Whole]) -> usize
     ensures room { result ≡ as_counted (length (joined children.now) + 1) }
     ensures whole { AllByRecursion IsWhole children.now }

@@ -55,7 +55,8 @@ pub struct WriteIo {
 impl WriteIo {
     /// The write at these places, in this class of the leaves' queues.
     pub fn new(places: List<Place>, prio: Prio) -> WriteIo
-        ensures fresh { (t : Terms) (bytes : List ℕ) → IsWriteIo t bytes result (fresh_frame (WriteCopies bytes places)) }
+        ensures fresh { (t : Terms) (bytes : List ℕ)
+            → IsWriteIo t bytes result (fresh_frame (WriteCopies bytes places)) }
         ensures over { (tops : List SeenTop) → AreIoPlaces tops places → IsWriteOver tops result }
         ensures class { result.prio ≡ prio }
         ensures count { result.asked ≡ 0 }
@@ -115,7 +116,8 @@ impl WriteIo {
         requires over { IsWriteOver tops.now self.old }
         requires step { IsWriteStep tops.now self.old IoStep.Child }
         ensures handed { (t : Terms) (bytes : List ℕ) (x : Frame) (op : Task) → t.setting.tops ≡ tops.now →
-            IsWriteIo t bytes self.old x → IsWriteIn self.old.write.retry op → IsWriteIo t bytes self.new (with_asked x op (IsOut None)) }
+            IsWriteIo t bytes self.old x → IsWriteIn self.old.write.retry op
+            → IsWriteIo t bytes self.new (with_asked x op (IsOut None)) }
         ensures over { IsWriteOver tops.now self.new }
         ensures outs { self.new.write.answers ≡ self.old.write.answers ++ None ∷ [] }
         ensures base { self.new.base ≡ self.old.base }

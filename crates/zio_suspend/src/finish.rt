@@ -25,7 +25,8 @@ pub(crate) fn begin<O: Sink>(
 ) -> Result<(), RunFault>
     ensures ok { OnOk result (Appends (O.holds out.old) (O.holds out.new) (shown_of show.now (pool_text tops images))) }
     ensures steady { OnOk result (O.faults out.new ≡ O.faults out.old) }
-    ensures front { IsErrOf result RunFault.Sink → AppendsFront (O.holds out.old) (O.holds out.new) (shown_of show.now (pool_text tops images)) }
+    ensures front { IsErrOf result RunFault.Sink
+        → AppendsFront (O.holds out.old) (O.holds out.new) (shown_of show.now (pool_text tops images)) }
     ensures rose { IsErrOf result RunFault.Sink → Rose (O.faults out.old) (O.faults out.new) }
     ensures memory { IsErrOf result RunFault.Memory → out.new ≡ out.old }
     ensures device { IsErrOf result RunFault.Device → ⊥ }
@@ -45,9 +46,13 @@ pub(crate) fn finish<O: Sink>(
     ending: Ending,
     out: &mut O,
 ) -> Result<(), RunFault>
-    ensures ok { OnOk result (Appends (O.holds out.old) (O.holds out.new) (last_text show.now (length (requests_of items.now)) tally.now ending)) }
+    ensures ok { OnOk result
+        (Appends (O.holds out.old) (O.holds out.new)
+        (last_text show.now (length (requests_of items.now)) tally.now ending)) }
     ensures steady { OnOk result (O.faults out.new ≡ O.faults out.old) }
-    ensures front { IsErrOf result RunFault.Sink → AppendsFront (O.holds out.old) (O.holds out.new) (last_text show.now (length (requests_of items.now)) tally.now ending) }
+    ensures front { IsErrOf result RunFault.Sink
+        → AppendsFront (O.holds out.old) (O.holds out.new)
+        (last_text show.now (length (requests_of items.now)) tally.now ending) }
     ensures rose { IsErrOf result RunFault.Sink → Rose (O.faults out.old) (O.faults out.new) }
     ensures memory { IsErrOf result RunFault.Memory → out.new ≡ out.old }
     ensures device { IsErrOf result RunFault.Device → ⊥ }
@@ -68,7 +73,8 @@ fn write_summary<O: Sink>(
 ) -> Result<(), RunFault>
     ensures ok { OnOk result (Appends (O.holds out.old) (O.holds out.new) (counts_text requests tally.now ending)) }
     ensures steady { OnOk result (O.faults out.new ≡ O.faults out.old) }
-    ensures front { IsErrOf result RunFault.Sink → AppendsFront (O.holds out.old) (O.holds out.new) (counts_text requests tally.now ending) }
+    ensures front { IsErrOf result RunFault.Sink
+        → AppendsFront (O.holds out.old) (O.holds out.new) (counts_text requests tally.now ending) }
     ensures rose { IsErrOf result RunFault.Sink → Rose (O.faults out.old) (O.faults out.new) }
     ensures memory { IsErrOf result RunFault.Memory → out.new ≡ out.old }
     ensures device { IsErrOf result RunFault.Device → ⊥ }

@@ -23,12 +23,12 @@ use zio_types::Journal;
 
 /// Runs a script over a runner of rounds that ran none yet, and writes its report or its summary.
 ///
-/// `images` is how many images the line of the pool tells. The journal is empty before, and has the entries and completions
-/// of all rounds after. The run is cut short by `RunFault::Device` where a disk failed, by `RunFault::Sink` where `out`
-/// failed, and by `RunFault::Memory`, where no disk failed. Then the journal is that of the course so far; and where the
-/// runner was stopped in a round, the course goes on with that round, under its terms and over its trees. Of the text so
-/// far, or of the whole text where the course was over, the sink got all after a disk's failure, a front after its own, and
-/// whole lines for want of memory.
+/// `images` is how many images the line of the pool tells. The journal is empty before, and has the entries and
+/// completions of all rounds after. The run is cut short by `RunFault::Device` where a disk failed, by `RunFault::Sink`
+/// where `out` failed, and by `RunFault::Memory`, where no disk failed. Then the journal is that of the course so far;
+/// and where the runner was stopped in a round, the course goes on with that round, under its terms and over its trees.
+/// Of the text so far, or of the whole text where the course was over, the sink got all after a disk's failure, a front
+/// after its own, and whole lines for want of memory.
 pub fn run_script<R: Runner, O: Sink>(
     alloc: Global,
     script: &Script,
@@ -41,17 +41,29 @@ pub fn run_script<R: Runner, O: Sink>(
     requires script { (text : List ℕ) × IsScriptOf text script.now }
     requires empty { IsEmptyJournal journal.old }
     requires rows { (R.standing runner.old).rows ≡ script.now.faults }
-    requires tops { (before : Images) → R.tells runner.old before → (R.standing runner.old).tops ≡ map (top_of before) script.now.tops }
+    requires tops { (before : Images) → R.tells runner.old before
+        → (R.standing runner.old).tops ≡ map (top_of before) script.now.tops }
     requires live { (R.standing runner.old).live ≡ [] }
     requires last { (R.standing runner.old).last ≡ 0 }
     requires runs { (R.standing runner.old).stopped ≡ false }
     requires can { R.Can runner.old }
-    ensures whole { IfOk result (λ end. (before : Images) → R.tells runner.old before → (after : Images) × (printed : List ℕ)
-        × IsWholeRun show.now (record { tops = length script.now.tops; images = images; requests = length (requests_of script.now.items) }) script.now before journal.new after printed end
+    ensures whole { IfOk result (λ end. (before : Images) → R.tells runner.old before → (after : Images)
+        × (printed : List ℕ)
+        × IsWholeRun show.now
+        (record { tops = length script.now.tops; images = images; requests = length (requests_of script.now.items) })
+        script.now before journal.new after printed end
         × R.tells runner.new after × Appends (O.holds out.old) (O.holds out.new) printed) }
-    ensures cut { IfErr result (λ fault. (before : Images) → R.tells runner.old before → (after : Images) × (text : List ℕ) × (full : List ℕ)
-        × IsCut show.now (record { tops = length script.now.tops; images = images; requests = length (requests_of script.now.items) }) script.now before (R.standing runner.old).tops (stopping_of (R.standing runner.new) (R.stops runner.new)) fault journal.new after text
-        × IsFullText fault show.now (record { tops = length script.now.tops; images = images; requests = length (requests_of script.now.items) }) script.now before journal.new text full
+    ensures cut { IfErr result (λ fault. (before : Images) → R.tells runner.old before → (after : Images)
+        × (text : List ℕ) × (full : List ℕ)
+        × IsCut show.now (record {
+          tops = length script.now.tops;
+          images = images;
+          requests = length (requests_of script.now.items);
+        }) script.now before (R.standing runner.old).tops
+        (stopping_of (R.standing runner.new) (R.stops runner.new)) fault journal.new after text
+        × IsFullText fault show.now
+        (record { tops = length script.now.tops; images = images; requests = length (requests_of script.now.items) })
+        script.now before journal.new text full
         × R.tells runner.new after × IsCutText fault (O.holds out.old) (O.holds out.new) [] full) }
     ensures last { OnOk result ((R.standing runner.new).last ≡ journal.new.rounds) }
     ensures runs { OnOk result ((R.standing runner.new).stopped ≡ false) }
@@ -59,7 +71,8 @@ pub fn run_script<R: Runner, O: Sink>(
     ensures rows { (R.standing runner.new).rows ≡ (R.standing runner.old).rows }
     ensures faults { OnOk result ((R.standing runner.new).faults ≡ (R.standing runner.old).faults) }
     ensures quiet { OnOk result (O.faults out.new ≡ O.faults out.old) }
-    ensures device { IsErrOf result RunFault.Device → AnyRose (R.standing runner.old).faults (R.standing runner.new).faults }
+    ensures device { IsErrOf result RunFault.Device
+        → AnyRose (R.standing runner.old).faults (R.standing runner.new).faults }
     ensures calm { IsErrOf result RunFault.Memory → (R.standing runner.new).faults ≡ (R.standing runner.old).faults }
     ensures sink { IsErrOf result RunFault.Sink → Rose (O.faults out.old) (O.faults out.new) }
     ensures can { R.Can runner.new }

@@ -25,7 +25,9 @@ pub(crate) fn put_in<T, R: Wait>(
     requires seat { IsPassOf queue.now part.old }
     requires hand { 0 < length (view part.old).hands }
     ensures seat { IsPassOf queue.now part.new }
-    ensures hand { MatchResult result (λ _. view part.new ≡ pile (with_first (after_put task) (view part.old).hands) (view part.old).passes) (λ x. (x ≡ task) × (view part.new ≡ view part.old) × WasFull (ruled_capacity queue.now) (view part.old)) }
+    ensures hand { MatchResult result (λ _. view part.new ≡ pile (with_first (after_put task) (view part.old).hands)
+        (view part.old).passes) (λ x. (x ≡ task) × (view part.new ≡ view part.old)
+        × WasFull (ruled_capacity queue.now) (view part.old)) }
 {
     queue.push_as::<Puts, R>(rt, part, task)
 }
@@ -48,7 +50,8 @@ pub(crate) fn take_whole<T, R: Wait>(rt: &R, queue: &Queue<T>, part: &mut Part<T
     requires all { length (view part.old).hands ≡ (view part.old).passes }
     requires hand { 0 < (view part.old).passes }
     ensures seat { IsPassOf queue.now part.new }
-    ensures hand { MatchOption result ((view part.new ≡ view part.old) × EmptyWith (view part.old)) (λ x. WholeTake (view part.old) x (view part.new)) }
+    ensures hand { MatchOption result ((view part.new ≡ view part.old)
+        × EmptyWith (view part.old)) (λ x. WholeTake (view part.old) x (view part.new)) }
 {
     queue.pop_as::<Settles, R>(rt, part)
 }
@@ -61,7 +64,8 @@ pub(crate) fn open_queue<T: Drop>(
 ) -> Result<(Queue<T>, Part<T>), AllocError>
     requires room { 0 < room }
     requires passes { 0 < passes }
-    ensures { IfOk result (λ q. (ruled_capacity q.0 ≡ room) × IsPassOf q.0 q.1 × (view q.1 ≡ pile (newcomers 0 passes) passes)) }
+    ensures { IfOk result (λ q. (ruled_capacity q.0 ≡ room) × IsPassOf q.0 q.1
+        × (view q.1 ≡ pile (newcomers 0 passes) passes)) }
 {
     let (queue, mut all) = Queue::ruled(alloc, room)?;
     for _ in 1..passes {

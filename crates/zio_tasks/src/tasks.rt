@@ -32,7 +32,9 @@ pub struct TaskPass<T> {
 
 // A pass for each number below `passes`, at no queue.
 fn recruits<T: Drop>(alloc: Global, passes: u32) -> Result<Vec<TaskPass<T>>, NoMemory>
-    ensures { IfOk result (λ v. (length v.items ≡ passes) × ((j : ℕ) (d : TaskPass T) → j < passes → ((slice_index_or v.items j d).number ≡ j) × ((slice_index_or v.items j d).parts.items ≡ []))) }
+    ensures { IfOk result (λ v. (length v.items ≡ passes)
+        × ((j : ℕ) (d : TaskPass T) → j < passes → ((slice_index_or v.items j d).number ≡ j)
+        × ((slice_index_or v.items j d).parts.items ≡ []))) }
 {
     let mut team = Vec::new(alloc);
     for number in 0..passes {
@@ -52,7 +54,8 @@ fn join_all<T: Drop>(
 ) -> Result<(), NoMemory>
     requires seat { IsSeatOf queue.now all }
     requires hands { view all ≡ pile (newcomers 0 (length team.old)) (length team.old) }
-    ensures { OnOk result ((j : ℕ) (d : TaskPass T) → j < length team.old → Joins (length team.old) j queue.now (slice_index_or team.old j d) (slice_index_or team.new j d)) }
+    ensures { OnOk result ((j : ℕ) (d : TaskPass T) → j < length team.old
+        → Joins (length team.old) j queue.now (slice_index_or team.old j d) (slice_index_or team.new j d)) }
 {
     for pass in team.iter_mut() {
         pass.parts.push(queue.another::<Deal>(&mut all))?;
@@ -127,7 +130,8 @@ impl<T: Drop> Tasks<T> {
     pub fn settle<R: Wait>(&self, rt: &R, passes: &mut [TaskPass<T>], at: QueueId) -> Option<T>
         requires { AreAll self.now passes.old }
         ensures passes { AreAll self.now passes.new × (map number_of passes.new ≡ map number_of passes.old) }
-        ensures task { MatchOption result (IsSettled self.now.passes (place_of at) passes.old passes.new) (λ x. TakesOldest self.now.passes (place_of at) x passes.old passes.new) }
+        ensures task { MatchOption result (IsSettled self.now.passes (place_of at) passes.old passes.new)
+            (λ x. TakesOldest self.now.passes (place_of at) x passes.old passes.new) }
     {
         let place = at.place();
         let mut all = self.gather(place, passes);
@@ -142,7 +146,8 @@ impl<T: Drop> Tasks<T> {
         requires place { place < 10 }
         ensures seat { IsSeatAt self.now place result }
         ensures hands { view result ≡ pile (hands_at place passes.old) self.now.passes }
-        ensures passes { (j : ℕ) (d : TaskPass T) → j < length passes.old → Lent place (slice_index_or passes.old j d) (slice_index_or passes.new j d) }
+        ensures passes { (j : ℕ) (d : TaskPass T) → j < length passes.old
+            → Lent place (slice_index_or passes.old j d) (slice_index_or passes.new j d) }
     {
         let mut all = self.spare(place, &mut passes[0]);
         for pass in passes.iter_mut() {
@@ -180,10 +185,13 @@ impl<T: Drop> Tasks<T> {
     // Each pass gets its hand of the pile again.
     fn deal(&self, place: usize, mut all: Part<T>, passes: &mut [TaskPass<T>])
         requires place { place < length self.now.queues.items }
-        requires passes { (j : ℕ) (d : TaskPass T) → j < length passes.old → place < length (slice_index_or passes.old j d).parts.items }
+        requires passes { (j : ℕ) (d : TaskPass T) → j < length passes.old
+            → place < length (slice_index_or passes.old j d).parts.items }
         requires seat { IsSeatAt self.now place all }
         requires hands { (length (view all).hands ≡ length passes.old) × ((view all).passes ≡ self.now.passes) }
-        ensures { (j : ℕ) (d : TaskPass T) (h : Hand T) → j < length passes.old → Given self.now place (slice_index_or (view all).hands j h) (slice_index_or passes.old j d) (slice_index_or passes.new j d) }
+        ensures { (j : ℕ) (d : TaskPass T) (h : Hand T) → j < length passes.old
+            → Given self.now place (slice_index_or (view all).hands j h) (slice_index_or passes.old j d)
+            (slice_index_or passes.new j d) }
     {
         for pass in passes.iter_mut() {
             self.give_back(place, pass, &mut all);

@@ -11,9 +11,11 @@ ghost use Rattle.zio_trace.specs.Leaves.{Gives};
 pub fn copies_are_read_by_programs()
     ensures place { (s : Setting) (retry : Bool) (good : List ℕ → Bool) (len : ℕ) (p : Place) (images : Images) →
         Gives s (place_reading s retry good len p) images (read_place s retry good images len p) images }
-    ensures pass { (s : Setting) (retry : Bool) (good : List ℕ → Bool) (len : ℕ) (places : List Place) (images : Images) →
+    ensures pass { (s : Setting) (retry : Bool) (good : List ℕ → Bool) (len : ℕ) (places : List Place)
+        (images : Images) →
         Gives s (pass_reading s retry good len places) images (read_pass s retry good images len places) images }
-    ensures block { (s : Setting) (repair : Bool) (good : List ℕ → Bool) (len : ℕ) (places : List Place) (images : Images) →
+    ensures block { (s : Setting) (repair : Bool) (good : List ℕ → Bool) (len : ℕ) (places : List Place)
+        (images : Images) →
         let read = read_block s repair good images len places in
         Gives s (block_reading s repair good len places) images read.found read.images }
 {}

@@ -32,8 +32,8 @@ pub fn a_repair_beside_a_write()
         (repairs ∷ reads_bad ∷ reads_good ∷ writes_on 0 ∷ writes_on 1 ∷ []) images_before after }
 {}
 
-/// The trace of a run that writes a block and then reads it: in the first round the ask for a place and the write on its
-/// leaf, in the second the read of that leaf. It may stop at pieces: then the read has the bytes that it took.
+/// The trace of a run that writes a block and then reads it: in the first round the ask for a place and the write on
+/// its leaf, in the second the read of that leaf. It may stop at pieces: then the read has the bytes that it took.
 pub fn a_block_is_written_and_read()
     ensures singles { trace_of_run is_single written_and_read two_sectors finds_x ≡ trace_of_x }
     ensures pieces { trace_of_run is_single_or_piece written_and_read two_sectors finds_x ≡ pieces_of_x }

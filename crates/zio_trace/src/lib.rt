@@ -4,12 +4,11 @@
 //! leaves, in whatever order its tasks come to them. Here each definition has a program of operations that gives the
 //! same where it runs alone (`specs/Programs`, `specs/CopyPrograms`, `specs/Plans`), and operations that don't conflict
 //! may change places (`specs/Leaves`, `specs/Orders`).
-//! From this follow the order of a round's trees (`specs/Separate`), the theorem for a round (`specs/Rules`), also where
-//! no journal is known yet (`specs/Entries`), several readers of one block (`specs/Readers`), also in a round
+//! From this follow the order of a round's trees (`specs/Separate`), the theorem for a round (`specs/Rules`), also
+//! where no journal is known yet (`specs/Entries`), several readers of one block (`specs/Readers`), also in a round
 //! (`specs/Together`), and what an engine keeps (`specs/Going`, `specs/Underway`) in the rounds that may be run so
-//! (`specs/SoundRounds`).
-//! Every call is a law: its contract is the statement, and its body is empty. docs/BRIDGE.md has the idea and an
-//! example; read `tasks_are_done_by_their_plans` and `leaf_operations_in_any_order` first.
+//! (`specs/SoundRounds`). Every call is a law: its contract is the statement, and its body is empty. docs/BRIDGE.md has
+//! the idea and an example; read `tasks_are_done_by_their_plans` and `leaf_operations_in_any_order` first.
 #![tactic(auto)]
 
 mod copies;

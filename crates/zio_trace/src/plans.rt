@@ -22,7 +22,8 @@ pub fn tasks_are_done_by_their_plans()
 /// A tree of requests may be taken as a root with its children's trees: an attempt of these, each request after its
 /// children and with what they alone hand to it, is the attempt of the flat list.
 pub fn families_are_attempted_as_lists()
-    ensures attempted { (journal : List Choice) (t : Terms) (attempt : ℕ) (f : Forest) (images : Images) → AreUnder None f →
+    ensures attempted { (journal : List Choice) (t : Terms) (attempt : ℕ) (f : Forest) (images : Images) →
+        AreUnder None f →
         (returns : List Return) × (attempt_each journal t attempt (flat f) [] images
         ≡ attempted_as returns (attempt_forest journal t attempt f images)) }
     ensures settled { (journal : List Choice) (t : Terms) (p : Pending) (kids : Forest) (images : Images) →

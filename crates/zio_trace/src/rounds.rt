@@ -20,8 +20,8 @@ ghost use Rattle.zio_trace.specs.Tasks.{Task, Value, means};
 
 /// The theorem for a round. A history has single operations, each at its place in the round's plan. It is sure of the
 /// round: whatever else may be answered, the plan ends with this value and asks these operations, each once. And of two
-/// that conflict the one that the plan has earlier was done earlier. Then each tree is settled as in the definition, with
-/// this value and these images, and what is asked for is asked for as often as in the history.
+/// that conflict the one that the plan has earlier was done earlier. Then each tree is settled as in the definition,
+/// with this value and these images, and what is asked for is asked for as often as in the history.
 pub fn rounds_are_settled_in_any_order()
     ensures { (journal : List Choice) (t : Terms) (sizes : ℕ → ℕ) (f : Forest)
         (history : List (Deed (Labelled Task) Value)) (value : Round) (before after : Images) → AreTrees f →

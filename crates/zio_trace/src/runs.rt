@@ -56,8 +56,8 @@ pub fn a_round_has_one_trace()
         Happen (means journal t) ds before after → ds ≡ round_trace is_single journal t (trees_in f) before }
 {}
 
-/// The trees of each round of an accepted script's run are families: each request stands under its parent, and no number
-/// stands twice in the round. So all that is said of rounds of families is said of these.
+/// The trees of each round of an accepted script's run are families: each request stands under its parent, and no
+/// number stands twice in the round. So all that is said of rounds of families is said of these.
 pub fn rounds_of_scripts_have_families()
     ensures { (text : List ℕ) (script : Script) (images : Images) (journal : List Choice) → IsScriptOf text script →
         AllByRecursion (λ (s : RoundStart). AreFamilies s.trees) (starts_of script images journal) }

@@ -20,9 +20,9 @@ pub fn trees_that_dont_conflict_in_any_order()
 {}
 
 /// Trees over different blocks may be run in any order: under a lawful journal, where no tree has a claim, where the
-/// requests have different numbers, and where the blocks that they read or free are in use, inside their tops and apart,
-/// the same requests end with the same errors, bytes and blocks, the same trees are left, the same places are asked for,
-/// and the images are the same.
+/// requests have different numbers, and where the blocks that they read or free are in use, inside their tops and
+/// apart, the same requests end with the same errors, bytes and blocks, the same trees are left, the same places are
+/// asked for, and the images are the same.
 pub fn trees_over_different_blocks_in_any_order()
     ensures { (journal : List Choice) (t : Terms) (sizes : ℕ → ℕ) (trees others : List Root) (images : Images) →
         IsPermutation trees others → AllByRecursion IsTree trees → AreSeparate journal t sizes trees →

@@ -46,11 +46,11 @@ ghost use Rattle.zio_trace.specs.Underway.{
 };
 ghost use Rattle.zio_trace.specs.Views.{bare, nth};
 
-/// How tasks go on together, one move at a time, in any order, whether or not the images before are told. They begin with nothing in flight; the next
-/// task is handed out; a node in flight hands out the operation that its plan asks next, which doesn't
-/// conflict with those of its own that are out; a single operation is done, on its leaf or by the space; a
-/// node tells early which pointer its value will have; a node that ended gives its value to the one that
-/// waits for it. What is kept by each move says in the end that the deeds are those of the tasks.
+/// How tasks go on together, one move at a time, in any order, whether or not the images before are told. They begin
+/// with nothing in flight; the next task is handed out; a node in flight hands out the operation that its plan asks
+/// next, which doesn't conflict with those of its own that are out; a single operation is done, on its leaf or by the
+/// space; a node tells early which pointer its value will have; a node that ended gives its value to the one that waits
+/// for it. What is kept by each move says in the end that the deeds are those of the tasks.
 pub fn work_goes_on()
     ensures begins { (w : Work) (before : Option Images) (images : Images) → IsSound w →
         IfSome before (λ b. b ≡ images) → IsUnderway w before (at_start w images) }
@@ -102,8 +102,8 @@ pub fn work_goes_on()
         s.deeds values }
 {}
 
-/// What a node, or the work itself, asks behind the operations that are out, whatever these are answered, is known to be
-/// what it asks next.
+/// What a node, or the work itself, asks behind the operations that are out, whatever these are answered, is known to
+/// be what it asks next.
 pub fn what_is_asked_next_is_known()
     ensures node { (w : Work) (before : Option Images) (s : State) (x : Flight) (others : List Flight) (op : Task) →
         IsUnderway w before s → s.flights ≡ x ∷ others → is_single x.op.op ≡ false →

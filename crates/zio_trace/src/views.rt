@@ -36,9 +36,11 @@ pub fn a_node_shows_the_rest_of_its_program()
 /// The operations of a node that are out stand first in the rest of its program, in their order: so the nth of them is
 /// the nth that is asked, one more stands behind them, and one that is answered leaves the others in their order.
 pub fn operations_that_are_out_stand_first()
-    ensures nth { (o : Oracle (Labelled Task) Value) (outs : List (Out Task (Option Bp))) (p : Program (Labelled Task) Value Value)
+    ensures nth { (o : Oracle (Labelled Task) Value) (outs : List (Out Task (Option Bp)))
+        (p : Program (Labelled Task) Value Value)
         (n : ℕ) (c : Out Task (Option Bp)) → StandFirst o outs p → nth n outs ≡ Some c → nth_asked o n p ≡ Some c.op }
-    ensures more { (o : Oracle (Labelled Task) Value) (outs : List (Out Task (Option Bp))) (p : Program (Labelled Task) Value Value)
+    ensures more { (o : Oracle (Labelled Task) Value) (outs : List (Out Task (Option Bp)))
+        (p : Program (Labelled Task) Value Value)
         (c : Out Task (Option Bp)) → StandFirst o outs p → nth_asked o (length outs) p ≡ Some c.op →
         StandFirst o (outs ++ c ∷ []) p }
     ensures answered { (o : Oracle (Labelled Task) Value) (outs : List (Out Task (Option Bp)))

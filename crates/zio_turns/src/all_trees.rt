@@ -19,11 +19,11 @@ use zio_outside::Disk;
 use zio_script::Failmode;
 use zio_stages::Finished;
 
-/// Runs the trees of a round, whose first attempts are handed out, until each is settled. Each sound round of these terms
-/// goes on until it is over, whatever is picked: then no node is left, and no tree is under way. The requests that finish
-/// are added in order of their completion, a child's before its parent's. It is stopped by a device exactly where a disk's
-/// count of faults rose. Wherever it is stopped, the images have changed only in blocks that the round's requests name, and
-/// at places that met none in use.
+/// Runs the trees of a round, whose first attempts are handed out, until each is settled. Each sound round of these
+/// terms goes on until it is over, whatever is picked: then no node is left, and no tree is under way. The requests
+/// that finish are added in order of their completion, a child's before its parent's. It is stopped by a device exactly
+/// where a disk's count of faults rose. Wherever it is stopped, the images have changed only in blocks that the round's
+/// requests name, and at places that met none in use.
 pub fn run_trees<N: Staged, D: Disk + Drop, P: Picks>(
     turns: &mut Turns<N>,
     grounds: &mut Grounds<D>,
@@ -33,20 +33,24 @@ pub fn run_trees<N: Staged, D: Disk + Drop, P: Picks>(
     trees: &mut Vec<TreeState>,
     ended: &mut Vec<Finished>,
 ) -> Result<(), Stop>
-    requires runs { RunsSome N.nodes D.bytes D.image turns.old.nodes turns.old.line grounds.old round failmode trees.old.items }
+    requires runs { RunsSome N.nodes D.bytes D.image turns.old.nodes turns.old.line grounds.old round failmode
+        trees.old.items }
     requires over { AreAll (N.over grounds.old.desk.tops) turns.old.nodes }
-    ensures runs { OnOk result (RunsToEnd N.nodes D.bytes D.image turns.old.nodes turns.old.line grounds.old trees.old.items
+    ensures runs { OnOk result
+        (RunsToEnd N.nodes D.bytes D.image turns.old.nodes turns.old.line grounds.old trees.old.items
         ended.old.items turns.new.nodes turns.new.line grounds.new trees.new.items ended.new.items round failmode) }
     ensures count { OnOk result (length trees.new.items ≡ length trees.old.items) }
     ensures inside { AllByRecursion (StateIn (N.tree_over grounds.old.desk.tops)) trees.old.items →
         OnOk result (AllByRecursion (StateIn (N.tree_over grounds.old.desk.tops)) trees.new.items) }
-    ensures same { AreSameDisks D.bytes D.faults D.faults_at_fetch D.home D.image D.sound grounds.old.disks.items grounds.new.disks.items }
+    ensures same { AreSameDisks D.bytes D.faults D.faults_at_fetch D.home D.image D.sound grounds.old.disks.items
+        grounds.new.disks.items }
     ensures steady { OnOk result (map D.faults grounds.new.disks.items ≡ map D.faults grounds.old.disks.items) }
     ensures device { result ≡ Err Stop.Device →
         AnyRose (map D.faults grounds.old.disks.items) (map D.faults grounds.new.disks.items) }
     ensures calm { result ≡ Err Stop.Memory →
         map D.faults grounds.new.disks.items ≡ map D.faults grounds.old.disks.items }
-    ensures stopped { OnErr result (TreesStopWith N.nodes D.bytes D.image turns.old.nodes turns.old.line grounds.old round failmode
+    ensures stopped { OnErr result
+        (TreesStopWith N.nodes D.bytes D.image turns.old.nodes turns.old.line grounds.old round failmode
         trees.old.items grounds.new.disks.items) }
     ensures tops { grounds.new.desk.tops ≡ grounds.old.desk.tops }
     ensures setting { grounds.new.setting ≡ grounds.old.setting }

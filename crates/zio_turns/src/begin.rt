@@ -15,7 +15,8 @@ use zio_script::Failmode;
 use zio_stages::Whole;
 use zio_types::{List, NoMemory};
 
-/// Hands out the first attempt of each of these trees, whose numbers are their places in the list. No node may be there yet.
+/// Hands out the first attempt of each of these trees, whose numbers are their places in the list. No node may be there
+/// yet.
 pub fn begin_trees<N: Staged>(
     turns: &mut Turns<N>,
     alloc: Global,
@@ -26,9 +27,11 @@ pub fn begin_trees<N: Staged>(
     requires few { length wholes < 2 ^ 32 }
     requires empty { turns.old.nodes.slots ≡ [] }
     requires idle { turns.old.line ≡ [] }
-    ensures begins { IfOk result (λ trees. TreesBegin N.nodes turns.new.nodes turns.new.line round failmode wholes trees.items []) }
+    ensures begins { IfOk result
+        (λ trees. TreesBegin N.nodes turns.new.nodes turns.new.line round failmode wholes trees.items []) }
     ensures states { IfOk result (λ trees. trees.items ≡ replicate (length wholes) (UnderWay 0)) }
-    ensures over { (tops : Seq SeenTop) → AllByRecursion (N.tree_over tops) wholes → OnOk result (AreAll (N.over tops) turns.new.nodes) }
+    ensures over { (tops : Seq SeenTop) → AllByRecursion (N.tree_over tops) wholes
+        → OnOk result (AreAll (N.over tops) turns.new.nodes) }
 {
     let mut trees = Vec::new(alloc);
     for whole in wholes.into_rest() {

@@ -30,8 +30,8 @@ enum Asked {
     Claim,
 }
 
-/// Where nodes place their blocks: the space, and the tops that it is a space of. A claim is alone in its round: what comes
-/// beside it is refused as where memory is.
+/// Where nodes place their blocks: the space, and the tops that it is a space of. A claim is alone in its round: what
+/// comes beside it is refused as where memory is.
 #[derive(Drop)]
 pub struct Desk {
     space: Space,
@@ -132,13 +132,15 @@ impl Services for Desk {
 
     ghost made_none = { λ a. served_none a.space a.asked };
 
-    ghost made_then = { λ a b c first second h k. served_then a.space b.space c.space first second a.asked b.asked c.asked h k };
+    ghost made_then = { λ a b c first second h k. served_then a.space b.space c.space first second a.asked b.asked
+        c.asked h k };
 }
 
 /// Calls that a round may make of its space are right for it: each choice is lawful beside the places in use at the
 /// round's start and those that the round's entries took, and its claim is answered as beside the places in use at its
 /// start. Then the space is the round's still. Live are those that were, and those that were found or claimed, without
-/// those that were given back. And a node that asks for places for a block claims none, and one that claims does so once.
+/// those that were given back. And a node that asks for places for a block claims none, and one that claims does so
+/// once.
 pub fn desks_serve_rounds()
     ensures right { (t : Terms) (entries : Seq Choice) (claimed : Seq SeenPlace) (tops : Seq SeenTop)
         (old new : SpaceState) (calls : Seq SpaceCall) →

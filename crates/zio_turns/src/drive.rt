@@ -17,9 +17,9 @@ use crate::turns::Turns;
 use zio_disks::Stop;
 use zio_outside::Disk;
 
-/// Runs until a turn has something to tell, or no key is queued and nothing waits at the leaves. The choices are the queued
-/// keys in their order, then each leaf that has a group to issue, in order of the leaves. Each sound round that goes on
-/// goes on, whatever is picked. It is stopped by a device exactly where a disk's count of faults rose.
+/// Runs until a turn has something to tell, or no key is queued and nothing waits at the leaves. The choices are the
+/// queued keys in their order, then each leaf that has a group to issue, in order of the leaves. Each sound round that
+/// goes on goes on, whatever is picked. It is stopped by a device exactly where a disk's count of faults rose.
 pub fn run_on<N: Staged, D: Disk + Drop, P: Picks>(
     turns: &mut Turns<N>,
     grounds: &mut Grounds<D>,
@@ -27,21 +27,25 @@ pub fn run_on<N: Staged, D: Disk + Drop, P: Picks>(
 ) -> Result<Turned, Stop>
     requires going { GoesOnSome N.nodes D.bytes D.image turns.old.nodes turns.old.line grounds.old }
     requires over { AreAll (N.over grounds.old.desk.tops) turns.old.nodes }
-    ensures runs { IfOk result (RunsOn N.nodes D.bytes D.image turns.old.nodes turns.old.line grounds.old turns.new.nodes
+    ensures runs { IfOk result
+        (RunsOn N.nodes D.bytes D.image turns.old.nodes turns.old.line grounds.old turns.new.nodes
         turns.new.line grounds.new) }
     ensures done { IfOk result (IsDone turns.new.line (keys_at grounds.new.queues.leaves.items)) }
     ensures over { OnOk result (AreAll (N.over grounds.new.desk.tops) turns.new.nodes) }
     ensures less { OnOk result (work_left N.nodes.left turns.new.nodes turns.new.line grounds.new
         ≤ work_left N.nodes.left turns.old.nodes turns.old.line grounds.old) }
-    ensures fewer { IfOk result (λ turned. turned ≢ Nothing → work_left N.nodes.left turns.new.nodes turns.new.line grounds.new
+    ensures fewer { IfOk result (λ turned. turned ≢ Nothing
+        → work_left N.nodes.left turns.new.nodes turns.new.line grounds.new
         < work_left N.nodes.left turns.old.nodes turns.old.line grounds.old) }
-    ensures same { AreSameDisks D.bytes D.faults D.faults_at_fetch D.home D.image D.sound grounds.old.disks.items grounds.new.disks.items }
+    ensures same { AreSameDisks D.bytes D.faults D.faults_at_fetch D.home D.image D.sound grounds.old.disks.items
+        grounds.new.disks.items }
     ensures steady { OnOk result (map D.faults grounds.new.disks.items ≡ map D.faults grounds.old.disks.items) }
     ensures device { result ≡ Err Stop.Device →
         AnyRose (map D.faults grounds.old.disks.items) (map D.faults grounds.new.disks.items) }
     ensures calm { result ≡ Err Stop.Memory →
         map D.faults grounds.new.disks.items ≡ map D.faults grounds.old.disks.items }
-    ensures stopped { OnErr result (StopsWith N.nodes D.bytes D.image turns.old.nodes turns.old.line grounds.old grounds.new.disks.items) }
+    ensures stopped { OnErr result
+        (StopsWith N.nodes D.bytes D.image turns.old.nodes turns.old.line grounds.old grounds.new.disks.items) }
     ensures inside { IfOk result (TurnedIn (N.tree_over grounds.old.desk.tops)) }
     ensures tops { grounds.new.desk.tops ≡ grounds.old.desk.tops }
     ensures setting { grounds.new.setting ≡ grounds.old.setting }

@@ -59,7 +59,8 @@ impl<D: Disk + Drop> Grounds<D> {
         ensures space { IfOk result (λ grounds. grounds.desk.space ≡
             record { sizes = sizes_of tops; live = []; pending = []; entries = []; spare = 0 }) }
         ensures asked { IfOk result (λ grounds. grounds.desk.asked ≡ Nothing) }
-        ensures leaves { IfOk result (λ grounds. grounds.queues.leaves.items ≡ replicate (length disks.items) no_waits) }
+        ensures leaves { IfOk result (λ grounds. grounds.queues.leaves.items
+            ≡ replicate (length disks.items) no_waits) }
         ensures ready { IfOk result (λ grounds.
             AreReady grounds.setting.rows (map D.bytes grounds.disks.items) grounds.queues.leaves.items) }
         ensures back { IfErr result (λ back. back.disks.items ≡ disks.items) }

@@ -17,8 +17,9 @@ use zio_groups::Answered;
 use zio_outside::Disk;
 use zio_types::{List, NoMemory};
 
-/// Issues the next group of the k-th leaf that has one, and tells each node its answer. Each sound round that goes on goes
-/// on. After a stop nothing is said of the nodes, and the disks have changed at most where what waited there writes.
+/// Issues the next group of the k-th leaf that has one, and tells each node its answer. Each sound round that goes on
+/// goes on. After a stop nothing is said of the nodes, and the disks have changed at most where what waited there
+/// writes.
 pub fn issue_group<N: Staged, D: Disk + Drop>(
     turns: &mut Turns<N>,
     grounds: &mut Grounds<D>,
@@ -27,7 +28,8 @@ pub fn issue_group<N: Staged, D: Disk + Drop>(
     requires going { GoesOnSome N.nodes D.bytes D.image turns.old.nodes turns.old.line grounds.old }
     requires over { AreAll (N.over grounds.old.desk.tops) turns.old.nodes }
     requires eligible { k < length (eligible_leaves grounds.old.queues.leaves.items) }
-    ensures issues { OnOk result (IssuesOn N.nodes D.bytes D.image turns.old.nodes turns.old.line grounds.old turns.new.nodes
+    ensures issues { OnOk result
+        (IssuesOn N.nodes D.bytes D.image turns.old.nodes turns.old.line grounds.old turns.new.nodes
         turns.new.line grounds.new) }
     ensures over { OnOk result (AreAll (N.over grounds.new.desk.tops) turns.new.nodes) }
     ensures less { OnOk result (work_left N.nodes.left turns.new.nodes turns.new.line grounds.new
@@ -36,7 +38,8 @@ pub fn issue_group<N: Staged, D: Disk + Drop>(
         (written_spots (eligible_at grounds.old.queues.leaves.items k)
         (waiting_at grounds.old.queues.leaves.items (eligible_at grounds.old.queues.leaves.items k)))
         result grounds.old.disks.items grounds.new.disks.items }
-    ensures stopped { OnErr result (StopsWith N.nodes D.bytes D.image turns.old.nodes turns.old.line grounds.old grounds.new.disks.items) }
+    ensures stopped { OnErr result
+        (StopsWith N.nodes D.bytes D.image turns.old.nodes turns.old.line grounds.old grounds.new.disks.items) }
     ensures desk { grounds.new.desk ≡ grounds.old.desk }
     ensures setting { grounds.new.setting ≡ grounds.old.setting }
 {
@@ -50,8 +53,10 @@ pub fn issue_group<N: Staged, D: Disk + Drop>(
 /// Tells each node under a key what its leaf answered.
 fn tell_answers<N: Staged>(turns: &mut Turns<N>, answers: List<Answered>) -> Result<(), NoMemory>
     requires { AreAtLeaves N.nodes turns.old.nodes turns.old.line answers }
-    ensures back { OnOk result (ComeBack N.nodes turns.old.nodes turns.old.line turns.new.nodes turns.new.line answers) }
-    ensures over { (tops : Seq SeenTop) → AreAll (N.over tops) turns.old.nodes → OnOk result (AreAll (N.over tops) turns.new.nodes) }
+    ensures back { OnOk result
+        (ComeBack N.nodes turns.old.nodes turns.old.line turns.new.nodes turns.new.line answers) }
+    ensures over { (tops : Seq SeenTop) → AreAll (N.over tops) turns.old.nodes
+        → OnOk result (AreAll (N.over tops) turns.new.nodes) }
     ensures less { OnOk result (load N.nodes.left turns.new.nodes turns.new.line
         ≤ load N.nodes.left turns.old.nodes turns.old.line + length answers) }
 {

@@ -37,7 +37,8 @@ fn count<N>(
     requires room { HasRoomFor nodes.old 1 }
     requires free { nodes.old.vacant_key ≡ key }
     requires owed { 0 < counted mark.kind mark.phase entry.ties.counts }
-    ensures { OnOk result (HasCounted nodes.old line.old nodes.new line.new key entry mark.kind mark.phase mark.error mark.bits) }
+    ensures { OnOk result
+        (HasCounted nodes.old line.old nodes.new line.new key entry mark.kind mark.phase mark.error mark.bits) }
 {
     let TiedNode { node, ties } = entry;
     let mut ties = ties;
@@ -126,7 +127,8 @@ fn end_node<N: Staged>(
 ) -> Result<Option<Finished>, NoMemory>
     requires can { AwaitsEnd N.nodes N.over tops.now nodes.old kind key child outcome }
     requires inside { OutcomeIn (N.tree_over tops.now) outcome }
-    ensures heard { OnOk result (NodeHeard N.nodes N.over tops.now nodes.old line.old nodes.new line.new kind key child outcome) }
+    ensures heard { OnOk result
+        (NodeHeard N.nodes N.over tops.now nodes.old line.old nodes.new line.new kind key child outcome) }
     ensures finished { IfOk result (IsHandedOn outcome) }
 {
     let mark = Mark {
@@ -153,7 +155,8 @@ pub(crate) fn end<N: Staged>(
 ) -> Result<Step, NoMemory>
     requires can { CanEnd N.nodes N.over tops.now nodes.old ties.now.kind ties.now.parent outcome }
     requires inside { OutcomeIn (N.tree_over tops.now) outcome }
-    ensures ended { IfOk result (HasEnded N.nodes N.over tops.now nodes.old line.old nodes.new line.new ties.now.kind ties.now.parent outcome) }
+    ensures ended { IfOk result
+        (HasEnded N.nodes N.over tops.now nodes.old line.old nodes.new line.new ties.now.kind ties.now.parent outcome) }
     ensures inside { IfOk result (StepIn (N.tree_over tops.now)) }
 {
     match ties.parent {

@@ -26,9 +26,10 @@ pub struct Hearing {
     pub outcome: Outcome,
 }
 
-/// Runs until a tree of the round hears of its attempt, or no key is queued and nothing waits at the leaves. The requests
-/// that finish meanwhile are added in order of their completion, a child's before its parent's. Each sound round that goes on
-/// goes on, whatever is picked. It is stopped by a device exactly where a disk's count of faults rose.
+/// Runs until a tree of the round hears of its attempt, or no key is queued and nothing waits at the leaves. The
+/// requests that finish meanwhile are added in order of their completion, a child's before its parent's. Each sound
+/// round that goes on goes on, whatever is picked. It is stopped by a device exactly where a disk's count of faults
+/// rose.
 pub fn run_to_tree<N: Staged, D: Disk + Drop, P: Picks>(
     turns: &mut Turns<N>,
     grounds: &mut Grounds<D>,
@@ -37,18 +38,22 @@ pub fn run_to_tree<N: Staged, D: Disk + Drop, P: Picks>(
 ) -> Result<Option<Hearing>, Stop>
     requires going { GoesOnSome N.nodes D.bytes D.image turns.old.nodes turns.old.line grounds.old }
     requires over { AreAll (N.over grounds.old.desk.tops) turns.old.nodes }
-    ensures runs { IfOk result (RunsToTree N.nodes D.bytes D.image turns.old.nodes turns.old.line grounds.old ended.old.items
+    ensures runs { IfOk result
+        (RunsToTree N.nodes D.bytes D.image turns.old.nodes turns.old.line grounds.old ended.old.items
         turns.new.nodes turns.new.line grounds.new ended.new.items) }
     ensures done { IfOk result (IsDoneUnless turns.new.line (keys_at grounds.new.queues.leaves.items)) }
     ensures over { OnOk result (AreAll (N.over grounds.new.desk.tops) turns.new.nodes) }
-    ensures inside { IfOk result (λ heard. IfSome heard (λ h. OutcomeIn (N.tree_over grounds.old.desk.tops) h.outcome)) }
-    ensures same { AreSameDisks D.bytes D.faults D.faults_at_fetch D.home D.image D.sound grounds.old.disks.items grounds.new.disks.items }
+    ensures inside { IfOk result
+        (λ heard. IfSome heard (λ h. OutcomeIn (N.tree_over grounds.old.desk.tops) h.outcome)) }
+    ensures same { AreSameDisks D.bytes D.faults D.faults_at_fetch D.home D.image D.sound grounds.old.disks.items
+        grounds.new.disks.items }
     ensures steady { OnOk result (map D.faults grounds.new.disks.items ≡ map D.faults grounds.old.disks.items) }
     ensures device { result ≡ Err Stop.Device →
         AnyRose (map D.faults grounds.old.disks.items) (map D.faults grounds.new.disks.items) }
     ensures calm { result ≡ Err Stop.Memory →
         map D.faults grounds.new.disks.items ≡ map D.faults grounds.old.disks.items }
-    ensures stopped { OnErr result (StopsWith N.nodes D.bytes D.image turns.old.nodes turns.old.line grounds.old grounds.new.disks.items) }
+    ensures stopped { OnErr result
+        (StopsWith N.nodes D.bytes D.image turns.old.nodes turns.old.line grounds.old grounds.new.disks.items) }
     ensures tops { grounds.new.desk.tops ≡ grounds.old.desk.tops }
     ensures setting { grounds.new.setting ≡ grounds.old.setting }
 {

@@ -39,9 +39,9 @@ ghost use Rattle.zio_turns.specs.Found.{DoesAsked, IsFound, IsParentFound, IsTre
 use crate::node::NodeFacts;
 
 /// A round begins with a node for each of its trees. A node under a key does something itself, waits for a count, does
-/// something itself and hands out the operation that it asks then, or goes to a leaf and comes back. The key stands in the
-/// queue, or at the leaves, exactly while it says so. An operation at a leaf lies on it, and where no image is told it may
-/// answer anything. In a round with a claim no place is asked for, and in no other are places taken.
+/// something itself and hands out the operation that it asks then, or goes to a leaf and comes back. The key stands in
+/// the queue, or at the leaves, exactly while it says so. An operation at a leaf lies on it, and where no image is told
+/// it may answer anything. In a round with a claim no place is asked for, and in no other are places taken.
 pub fn engines_keep_rounds<N: NodeFacts>()
     ensures begins { (t : Terms) (sizes : ℕ → ℕ) (f : Forest) (before : Option Images) (images : Images) →
         IsSoundRound t sizes f → IfSome before (λ b. b ≡ images) →
@@ -49,7 +49,8 @@ pub fn engines_keep_rounds<N: NodeFacts>()
         (λ key. None) [] [] [] images }
     ensures tree_begins { (t : Terms) (sizes : ℕ → ℕ) (f : Forest) (before : Option Images) (trees : List Slot)
         (tops : List (Option Flying)) (lives : List Live) (shelf : Shelf N) (queue leaves : List ℕ) (s : State)
-        (n child : ℕ) (top : Flying) (op : Task) (c : N) (shelf_now : Shelf N) (queue_now : List ℕ) → IsSoundRound t sizes f →
+        (n child : ℕ) (top : Flying) (op : Task) (c : N) (shelf_now : Shelf N) (queue_now : List ℕ) →
+        IsSoundRound t sizes f →
         IsKept N.nodes t sizes f before trees tops lives shelf queue leaves s → top_at tops n ≡ Some top →
         is_single (asking top.stack).op ≡ false → AsksNext t (asking top.stack) op → N.nodes.Is t c (fresh_stack op) →
         (needs_none (kind_of_task op) ≡ false → N.nodes.told c ≡ false) → shelf child ≡ None →
@@ -59,8 +60,10 @@ pub fn engines_keep_rounds<N: NodeFacts>()
         (live_of child (new_flying top op) ∷ lives) shelf_now queue_now leaves s.entries s.images }
     ensures goes_on { (t : Terms) (sizes : ℕ → ℕ) (f : Forest) (before : Option Images) (trees : List Slot)
         (tops : List (Option Flying)) (others : List Live) (shelf : Shelf N) (queue leaves : List ℕ) (s : State)
-        (key : ℕ) (x : Flying) (h : Held N) (rest : List ℕ) (dids : List Did) (st : Stack) (node : N) (shelf_now : Shelf N) →
-        IsSoundRound t sizes f → IsKept N.nodes t sizes f before trees tops (live_of key x ∷ others) shelf queue leaves s →
+        (key : ℕ) (x : Flying) (h : Held N) (rest : List ℕ) (dids : List Did) (st : Stack) (node : N)
+        (shelf_now : Shelf N) →
+        IsSoundRound t sizes f →
+        IsKept N.nodes t sizes f before trees tops (live_of key x ∷ others) shelf queue leaves s →
         shelf key ≡ Some h → OneMore key rest queue → DoesAll t dids x.stack st → AllByRecursion (IsRight t) dids →
         AreLawful (sizes_of t.setting.tops) t.used (s.entries ++ choices_of dids) → N.nodes.Is t node st →
         N.nodes.told node ≡ N.nodes.told h.node → IsWith shelf key (Some (with_node h node)) shelf_now →
@@ -71,15 +74,19 @@ pub fn engines_keep_rounds<N: NodeFacts>()
         (tops : List (Option Flying)) (others : List Live) (shelf : Shelf N) (queue leaves : List ℕ) (s : State)
         (key : ℕ) (x : Flying) (h : Held N) (rest : List ℕ) (count : Count) (node : N) (shelf_now : Shelf N) →
         IsKept N.nodes t sizes f before trees tops (live_of key x ∷ others) shelf queue leaves s →
-        shelf key ≡ Some h → OneMore key rest queue → (counted count.kind count.phase h.tally ≢ 0) → N.nodes.Is t node x.stack →
+        shelf key ≡ Some h → OneMore key rest queue → (counted count.kind count.phase h.tally ≢ 0) →
+        N.nodes.Is t node x.stack →
         N.nodes.told node ≡ N.nodes.told h.node
         → IsWith shelf key (Some (with_both h node (stalled (Some count) h.tally))) shelf_now →
-        StillKept N.nodes t sizes f before trees tops (live_of key x ∷ others) shelf_now rest leaves s.entries s.images }
+        StillKept N.nodes t sizes f before trees tops (live_of key x ∷ others) shelf_now rest leaves s.entries
+        s.images }
     ensures grows { (t : Terms) (sizes : ℕ → ℕ) (f : Forest) (before : Option Images) (trees : List Slot)
         (tops : List (Option Flying)) (others : List Live) (shelf : Shelf N) (queue leaves : List ℕ) (s : State)
-        (key child : ℕ) (x : Flying) (h : Held N) (rest : List ℕ) (dids : List Did) (mid : Stack) (op : Task) (node c : N)
+        (key child : ℕ) (x : Flying) (h : Held N) (rest : List ℕ) (dids : List Did) (mid : Stack) (op : Task)
+        (node c : N)
         (shelf_now : Shelf N) (queue_now : List ℕ) →
-        IsSoundRound t sizes f → IsKept N.nodes t sizes f before trees tops (live_of key x ∷ others) shelf queue leaves s →
+        IsSoundRound t sizes f →
+        IsKept N.nodes t sizes f before trees tops (live_of key x ∷ others) shelf queue leaves s →
         shelf key ≡ Some h → OneMore key rest queue → DoesAll t dids x.stack mid → AllByRecursion (IsRight t) dids →
         AreLawful (sizes_of t.setting.tops) t.used (s.entries ++ choices_of dids) →
         is_single (asking mid).op ≡ false → AsksNext t (asking mid) op →
@@ -97,7 +104,8 @@ pub fn engines_keep_rounds<N: NodeFacts>()
         (key : ℕ) (x : Flying) (h : Held N) (rest : List ℕ) (act : LeafOp) (leaves_now : List ℕ) →
         IsKept N.nodes t sizes f before trees tops (live_of key x ∷ others) shelf queue leaves s →
         shelf key ≡ Some h → OneMore key rest queue → x.stack ≡ fresh_stack (Leaf act) → OneMore key leaves leaves_now →
-        StillKept N.nodes t sizes f before trees tops (live_of key x ∷ others) shelf rest leaves_now s.entries s.images }
+        StillKept N.nodes t sizes f before trees tops (live_of key x ∷ others) shelf rest leaves_now s.entries
+        s.images }
     ensures at_leaf { (t : Terms) (sizes : ℕ → ℕ) (f : Forest) (before : Option Images) (trees : List Slot)
         (tops : List (Option Flying)) (others : List Live) (shelf : Shelf N) (queue leaves : List ℕ) (s : State)
         (key : ℕ) (x : Flying) (h : Held N) (rest : List ℕ) →
@@ -113,8 +121,10 @@ pub fn engines_keep_rounds<N: NodeFacts>()
         (key : ℕ) (at : List ℕ) (act : LeafOp) (a : Answer) (after : Images) (h : Held N) (rest : List ℕ) (node : N)
         (shelf_now : Shelf N) (queue_now : List ℕ) →
         IsSoundRound t sizes f →
-        IsKept N.nodes t sizes f before trees tops (live_of key (record { at = at; stack = fresh_stack (Leaf act) }) ∷ others)
-        shelf queue leaves s → shelf key ≡ Some h → OneMore key rest leaves → AnswersOnLeaf t before act s.images a after →
+        IsKept N.nodes t sizes f before trees tops (live_of key (record { at = at; stack = fresh_stack (Leaf act) })
+        ∷ others)
+        shelf queue leaves s → shelf key ≡ Some h → OneMore key rest leaves →
+        AnswersOnLeaf t before act s.images a after →
         N.nodes.Is t node (done_at_once (fresh_stack (Leaf act)) (Leaf act) (Got a)) →
         N.nodes.told node ≡ N.nodes.told h.node → IsWith shelf key (Some (with_node h node)) shelf_now
         → OneMore key queue queue_now →
@@ -128,14 +138,16 @@ pub fn engines_keep_rounds<N: NodeFacts>()
     ensures takes { (t : Terms) (sizes : ℕ → ℕ) (f : Forest) (before : Option Images) (trees : List Slot)
         (tops : List (Option Flying)) (others : List Live) (shelf : Shelf N) (queue leaves : List ℕ) (s : State)
         (key : ℕ) (x : Flying) (dids : List Did) (st : Stack) (tree : Tree) (free : Bool) → IsSoundRound t sizes f →
-        IsKept N.nodes t sizes f before trees tops (live_of key x ∷ others) shelf queue leaves s → DoesAll t dids x.stack st →
+        IsKept N.nodes t sizes f before trees tops (live_of key x ∷ others) shelf queue leaves s →
+        DoesAll t dids x.stack st →
         AreLawful (sizes_of t.setting.tops) t.used (s.entries ++ choices_of dids) → Contains dids (Took tree free) →
         HasClaim f }
 {}
 
-/// A node tells its parent, a node or a tree, which pointer its value will have; it ends, and its parent has its value; and a
-/// tree ends. The parent is queued once more exactly where it stalled on the count, and this was its last child of that count. The
-/// node does the operation that was asked for this child, and is of its kind; once it ended its value fits.
+/// A node tells its parent, a node or a tree, which pointer its value will have; it ends, and its parent has its value;
+/// and a tree ends. The parent is queued once more exactly where it stalled on the count, and this was its last child
+/// of that count. The node does the operation that was asked for this child, and is of its kind; once it ended its
+/// value fits.
 pub fn engines_hear_of_nodes<N: NodeFacts>()
     ensures tells { (t : Terms) (sizes : ℕ → ℕ) (f : Forest) (before : Option Images) (trees : List Slot)
         (tops : List (Option Flying)) (others : List Live) (shelf : Shelf N) (queue leaves : List ℕ) (s : State)
@@ -155,7 +167,8 @@ pub fn engines_hear_of_nodes<N: NodeFacts>()
         shelf_now queue_now leaves s.entries s.images }
     ensures tells_tree { (t : Terms) (sizes : ℕ → ℕ) (f : Forest) (before : Option Images) (trees : List Slot)
         (tops : List (Option Flying)) (others : List Live) (shelf : Shelf N) (queue leaves : List ℕ) (s : State)
-        (key tree : ℕ) (x q : Flying) (h : Held N) (n : ℕ) (c : Child) (pointer : Option Bp) (node : N) (shelf_now : Shelf N) →
+        (key tree : ℕ) (x q : Flying) (h : Held N) (n : ℕ) (c : Child) (pointer : Option Bp) (node : N)
+        (shelf_now : Shelf N) →
         IsKept N.nodes t sizes f before trees tops (live_of key x ∷ others) shelf queue leaves s →
         shelf key ≡ Some h → h.parent ≡ OfTree tree n → top_at tops tree ≡ Some q → needs_none h.kind ≡ false →
         N.nodes.told h.node ≡ false → WillHave t x.stack.outer pointer → slice_get q.stack.children n ≡ Some c →
@@ -175,7 +188,8 @@ pub fn engines_hear_of_nodes<N: NodeFacts>()
         (error : Option Errno)
         (bits : Bits) (shelf_now : Shelf N) (queue_now : List ℕ) →
         IsKept N.nodes t sizes f before trees tops (live_of key x ∷ live_of above q ∷ others) shelf queue leaves s →
-        shelf key ≡ Some h → h.parent ≡ OfNode above n → shelf above ≡ Some g → OneMore key rest queue → IsEnded t x.stack v →
+        shelf key ≡ Some h → h.parent ≡ OfNode above n → shelf above ≡ Some g → OneMore key rest queue →
+        IsEnded t x.stack v →
         (needs_none h.kind ≡ false → N.nodes.told h.node ≡ true) → slice_get q.stack.children n ≡ Some c →
         N.nodes.Is t up (heard_of q.stack n c v) → N.nodes.told up ≡ N.nodes.told g.node →
         AreWith shelf key None above (Some (with_both g up (notified h.kind Done error bits g.tally))) shelf_now →
@@ -206,7 +220,8 @@ pub fn engines_hear_of_nodes<N: NodeFacts>()
         ((a : Ask) → x.stack.outer.op ≢ Find a) → FitsTask journal t x.stack.outer.op v }
     ensures tree_hears { (t : Terms) (sizes : ℕ → ℕ) (f : Forest) (before : Option Images) (trees : List Slot)
         (tops : List (Option Flying)) (others : List Live) (shelf : Shelf N) (queue leaves : List ℕ) (s : State)
-        (key tree : ℕ) (x q : Flying) (h : Held N) (n : ℕ) (c : Child) (v : Value) (rest : List ℕ) (shelf_now : Shelf N) →
+        (key tree : ℕ) (x q : Flying) (h : Held N) (n : ℕ) (c : Child) (v : Value) (rest : List ℕ)
+        (shelf_now : Shelf N) →
         IsKept N.nodes t sizes f before trees tops (live_of key x ∷ others) shelf queue leaves s →
         shelf key ≡ Some h → h.parent ≡ OfTree tree n → top_at tops tree ≡ Some q → OneMore key rest queue
         → IsEnded t x.stack v →
@@ -241,7 +256,8 @@ pub fn engines_hear_of_nodes<N: NodeFacts>()
 /// What an engine finds: the node under a key, its parent, what is queued, and a count to wait for.
 pub fn engines_find_nodes<N: NodeFacts>()
     ensures finds { (t : Terms) (sizes : ℕ → ℕ) (f : Forest) (before : Option Images) (trees : List Slot)
-        (tops : List (Option Flying)) (lives : List Live) (shelf : Shelf N) (queue leaves : List ℕ) (s : State) (key : ℕ)
+        (tops : List (Option Flying)) (lives : List Live) (shelf : Shelf N) (queue leaves : List ℕ) (s : State)
+        (key : ℕ)
         (h : Held N) →
         IsKept N.nodes t sizes f before trees tops lives shelf queue leaves s → shelf key ≡ Some h →
         IsFound N.nodes t sizes f before trees tops shelf queue leaves key h s.entries s.images }
@@ -257,11 +273,13 @@ pub fn engines_find_nodes<N: NodeFacts>()
         IsKept N.nodes t sizes f before trees tops (live_of key x ∷ others) shelf queue leaves s →
         shelf key ≡ Some h → h.parent ≡ OfTree tree n → IsTreeFound N.nodes tops tree n x h }
     ensures queued_is_held { (t : Terms) (sizes : ℕ → ℕ) (f : Forest) (before : Option Images) (trees : List Slot)
-        (tops : List (Option Flying)) (lives : List Live) (shelf : Shelf N) (queue leaves rest : List ℕ) (s : State) (key : ℕ) →
+        (tops : List (Option Flying)) (lives : List Live) (shelf : Shelf N) (queue leaves rest : List ℕ) (s : State)
+        (key : ℕ) →
         IsKept N.nodes t sizes f before trees tops lives shelf queue leaves s → OneMore key rest queue →
         (h : Held N) × (shelf key ≡ Some h) }
     ensures at_leaf_is_held { (t : Terms) (sizes : ℕ → ℕ) (f : Forest) (before : Option Images) (trees : List Slot)
-        (tops : List (Option Flying)) (lives : List Live) (shelf : Shelf N) (queue leaves rest : List ℕ) (s : State) (key : ℕ) →
+        (tops : List (Option Flying)) (lives : List Live) (shelf : Shelf N) (queue leaves rest : List ℕ) (s : State)
+        (key : ℕ) →
         IsKept N.nodes t sizes f before trees tops lives shelf queue leaves s → OneMore key rest leaves →
         (h : Held N) × (shelf key ≡ Some h) }
     ensures first_counts { (kinds : List ChildKind) (phase : Phase) (x : Tally) (count : Count) →
@@ -271,8 +289,8 @@ pub fn engines_find_nodes<N: NodeFacts>()
 {}
 
 /// An engine with nothing queued and nothing at the leaves holds no node; once no tree is under way either the round is
-/// settled as by the definitions. Also where no image is told, its trees have values that an oracle gives, which agrees with
-/// all that was done, and whose answers fit the journal.
+/// settled as by the definitions. Also where no image is told, its trees have values that an oracle gives, which agrees
+/// with all that was done, and whose answers fit the journal.
 pub fn engines_settle_rounds<N: NodeFacts>()
     ensures not_stuck { (t : Terms) (sizes : ℕ → ℕ) (f : Forest) (before : Option Images) (trees : List Slot)
         (tops : List (Option Flying)) (lives : List Live) (shelf : Shelf N) (queue leaves : List ℕ) (s : State) →
@@ -289,5 +307,6 @@ pub fn engines_settle_rounds<N: NodeFacts>()
         (tops : List (Option Flying)) (shelf : Shelf N) (queue leaves : List ℕ) (s : State) (journal : List Choice) →
         IsKept N.nodes t sizes f before trees tops [] shelf queue leaves s → standing tops ≡ []
         → choices_in t.round journal ≡ s.entries →
-        (values : List Value) × ((trees ≡ all_heard values) × AreAnswered (task_ways journal t) (settles f) s.deeds values) }
+        (values : List Value)
+        × ((trees ≡ all_heard values) × AreAnswered (task_ways journal t) (settles f) s.deeds values) }
 {}

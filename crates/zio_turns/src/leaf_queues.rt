@@ -43,8 +43,8 @@ impl Queues {
         Ok(Queues { leaves })
     }
 
-    /// The operation waits at the leaf under this key, under which none waits, with the bytes of a write. Where memory is
-    /// refused nothing has changed, and the bytes are dropped.
+    /// The operation waits at the leaf under this key, under which none waits, with the bytes of a write. Where memory
+    /// is refused nothing has changed, and the bytes are dropped.
     pub fn put(&mut self, leaf: u32, key: u32, op: Op, bytes: Bytes) -> Result<(), NoMemory>
         requires there { leaf < length self.old.leaves.items }
         requires fits { FitsDevice op }
@@ -126,8 +126,9 @@ fn cut_to(bytes: Bytes, len: usize) -> Bytes
     List::from_vec(items)
 }
 
-/// An operation that a node hands to its leaf fits a queue where it ends with tops that aren't too long; it ends on its leaf
-/// where it lies on leaves of these sizes; put under a key it waits for the node's operation; and each answer shows something.
+/// An operation that a node hands to its leaf fits a queue where it ends with tops that aren't too long; it ends on its
+/// leaf where it lies on leaves of these sizes; put under a key it waits for the node's operation; and each answer
+/// shows something.
 pub fn leaves_take_operations()
     ensures fits { (tops : Seq SeenTop) (act : LeafOp) (op : SeenOp) (leaf : ℕ) (bytes : Seq ℕ) →
         IsOpFor act op leaf bytes → EndsWithTops tops (spot_of act) → AreShort tops → FitsDevice op }

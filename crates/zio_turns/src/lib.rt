@@ -1,8 +1,8 @@
 //! The turns of a round: its nodes under keys, queued, at leaves, or waiting for children.
 //!
-//! Keys wait in a `Line`, from which any is taken while the others keep their order; a `Picks` says which. Contracts see a
-//! line as the list of what waits; `specs/LinePlaces` says what a table of places holds, `specs/LineSums` how the numbers
-//! beside it add up.
+//! Keys wait in a `Line`, from which any is taken while the others keep their order; a `Picks` says which. Contracts
+//! see a line as the list of what waits; `specs/LinePlaces` says what a table of places holds, `specs/LineSums` how the
+//! numbers beside it add up.
 #![tactic(auto)]
 
 mod all_trees;

@@ -8,9 +8,9 @@ use std::alloc::Global;
 use std::marker::Model;
 use zio_types::NoMemory;
 
-/// Values that wait, in the order in which they came. A call costs at most a logarithm of the places of its table, but for
-/// a push where all of them were used: it makes the table anew, at least half of whose places are then unused. So over
-/// all calls at most two values are moved for each that was pushed.
+/// Values that wait, in the order in which they came. A call costs at most a logarithm of the places of its table, but
+/// for a push where all of them were used: it makes the table anew, at least half of whose places are then unused. So
+/// over all calls at most two values are moved for each that was pushed.
 #[derive(Drop)]
 pub struct Line {
     alloc: Global,

@@ -1,4 +1,5 @@
-//! What an engine does with its nodes: it runs their stages, and tells them what their children and the leaves answered.
+//! What an engine does with its nodes: it runs their stages, and tells them what their children and the leaves
+//! answered.
 
 ghost use Rattle.std.specs.Prelude.{◌≡◌, ◌≢◌, ◌+◌, ◌<◌, ◌≤◌, List as Seq, [], IfErr, IfOk, IfSome, IsTrue, Ok, Err, Some, false};
 ghost use Rattle.zio_types.specs.Choices.{Ask};
@@ -69,24 +70,30 @@ pub trait Staged: NodeFacts + Drop {
         failmode: Failmode,
     ) -> Result<Self, WholeBack>
         requires { attempt < 4 }
-        ensures fresh { IfOk result (λ node. (t : Terms) (p : Pending) (forest : Forest) → t.round ≡ round → t.failmode ≡ failmode →
+        ensures fresh { IfOk result (λ node. (t : Terms) (p : Pending) (forest : Forest) → t.round ≡ round →
+            t.failmode ≡ failmode →
             IsTreeOf whole p forest → Self.nodes.Is t node (fresh_stack (Attempt attempt p forest))) }
         ensures told { IfOk result (λ node. Self.nodes.told node ≡ false) }
         ensures gave { IfOk result (λ node. Self.nodes.gave node ≡ []) }
         ensures over { (tops : Seq SeenTop) → tree_over tops whole → IfOk result (over tops) }
         ensures back { IfErr result (λ e. e.whole ≡ whole) };
 
-    /// Runs one stage. Where memory is refused the node comes back, the stage is to be repeated, and what it did of it stays.
+    /// Runs one stage. Where memory is refused the node comes back, the stage is to be repeated, and what it did of it
+    /// stays.
     fn run_stage<S: Services>(self, alloc: Global, services: &mut S) -> Result<Move<Self>, Self>
         requires { over (S.tops services.old) self }
-        ensures moves { (move : Move Self) → result ≡ Ok move → (calls : Seq SpaceCall) × S.made services.old calls services.new
-            × ((t : Terms) (st : Stack) → IsNow Self.nodes (S.tops services.old) t self st → IsMove Self.nodes Self.nodes.gave t self st calls move) }
+        ensures moves { (move : Move Self) → result ≡ Ok move → (calls : Seq SpaceCall)
+            × S.made services.old calls services.new
+            × ((t : Terms) (st : Stack) → IsNow Self.nodes (S.tops services.old) t self st
+            → IsMove Self.nodes Self.nodes.gave t self st calls move) }
         ensures over { IfOk result (EachIn (over (S.tops services.old)) (tree_over (S.tops services.old))) }
         ensures valid { IfOk result TellsValid }
         ensures left { IfOk result (Lessens Self.nodes.left self) }
         ensures stages { IfOk result (leads self) }
-        ensures refused { (node : Self) → result ≡ Err node → (calls : Seq SpaceCall) × S.made services.old calls services.new
-            × ((t : Terms) (st : Stack) → IsNow Self.nodes (S.tops services.old) t self st → GoesOn Self.nodes Self.nodes.gave t self st calls node) }
+        ensures refused { (node : Self) → result ≡ Err node → (calls : Seq SpaceCall)
+            × S.made services.old calls services.new
+            × ((t : Terms) (st : Stack) → IsNow Self.nodes (S.tops services.old) t self st
+            → GoesOn Self.nodes Self.nodes.gave t self st calls node) }
         ensures tops { S.tops services.new ≡ S.tops services.old };
 
     /// The child of this number told which pointer its value will have, or that it has none.
@@ -100,7 +107,8 @@ pub trait Staged: NodeFacts + Drop {
         ensures over { (tops : Seq SeenTop) → over tops self → over tops result }
         ensures left { Self.nodes.left result ≤ Self.nodes.left self + heard_max };
 
-    /// The child of this number ended. Of a request that finished this comes back. Where memory is refused both come back.
+    /// The child of this number ended. Of a request that finished this comes back. Where memory is refused both come
+    /// back.
     fn arrive(
         self,
         tops: &[Top],
@@ -130,9 +138,11 @@ pub trait Staged: NodeFacts + Drop {
         ensures over { (tops : Seq SeenTop) → over tops self → over tops result }
         ensures left { Self.nodes.left result ≤ Self.nodes.left self };
 
-    /// What holds of each node, wherever it stands: it is a part of the work, or an operation on a leaf, and no ask of the space;
-    /// and it gave back only places that it holds, or those of the block that it frees. It does nothing.
+    /// What holds of each node, wherever it stands: it is a part of the work, or an operation on a leaf, and no ask of
+    /// the space; and it gave back only places that it holds, or those of the block that it frees. It does nothing.
     fn does_its_part()
-        ensures never_finds { (t : Terms) (node : Self) (st : Stack) (a : Ask) → Self.nodes.Is t node st → st.outer.op ≢ Find a }
-        ensures gives_own { (t : Terms) (node : Self) (st : Stack) → Self.nodes.Is t node st → AreItsOwn (Self.nodes.gave node) st };
+        ensures never_finds { (t : Terms) (node : Self) (st : Stack) (a : Ask) → Self.nodes.Is t node st
+            → st.outer.op ≢ Find a }
+        ensures gives_own { (t : Terms) (node : Self) (st : Stack) → Self.nodes.Is t node st
+            → AreItsOwn (Self.nodes.gave node) st };
 }

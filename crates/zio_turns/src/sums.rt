@@ -33,7 +33,8 @@ pub(crate) fn raise(nodes: &mut [u32], place: usize)
     requires place { place < length (places_of nodes.old) }
     requires fits { sum_of (places_of nodes.old) < 2 ^ 32 - 1 }
     ensures sums { AreSums nodes.new }
-    ensures places { places_of nodes.new ≡ slice_set (places_of nodes.old) place (slice_index (places_of nodes.old) place + 1) }
+    ensures places { places_of nodes.new
+        ≡ slice_set (places_of nodes.old) place (slice_index (places_of nodes.old) place + 1) }
 {
     let mut node = nodes.len() / 2 + place;
     while node > 0 {
@@ -48,7 +49,8 @@ pub(crate) fn lower(nodes: &mut [u32], place: usize)
     requires place { place < length (places_of nodes.old) }
     requires some { 0 < slice_index (places_of nodes.old) place }
     ensures sums { AreSums nodes.new }
-    ensures places { places_of nodes.new ≡ slice_set (places_of nodes.old) place (slice_index (places_of nodes.old) place - 1) }
+    ensures places { places_of nodes.new
+        ≡ slice_set (places_of nodes.old) place (slice_index (places_of nodes.old) place - 1) }
 {
     let mut node = nodes.len() / 2 + place;
     while node > 0 {

@@ -45,7 +45,8 @@ pub fn begin_attempt<N: Staged>(
     whole: Whole,
 ) -> Result<(), NoMemory>
     requires { attempt < 4 }
-    ensures begins { OnOk result (BeginsOn N.nodes turns.old.nodes turns.old.line turns.new.nodes turns.new.line round failmode
+    ensures begins { OnOk result
+        (BeginsOn N.nodes turns.old.nodes turns.old.line turns.new.nodes turns.new.line round failmode
         tree attempt whole) }
     ensures over { (tops : Seq SeenTop) → AreAll (N.over tops) turns.old.nodes → N.tree_over tops whole →
         OnOk result (AreAll (N.over tops) turns.new.nodes) }
@@ -70,9 +71,9 @@ fn now_alone(bits: Bits) -> bool
     bits.now && !bits.suspend
 }
 
-/// The tree of this number hears with what its attempt of this number ended: it is settled, or its next attempt is handed
-/// out, where its root is to go again at once and no more than three attempts were made again. A root that finished is added to
-/// those that ended.
+/// The tree of this number hears with what its attempt of this number ended: it is settled, or its next attempt is
+/// handed out, where its root is to go again at once and no more than three attempts were made again. A root that
+/// finished is added to those that ended.
 pub fn hear_tree<N: Staged>(
     turns: &mut Turns<N>,
     alloc: Global,
@@ -85,7 +86,8 @@ pub fn hear_tree<N: Staged>(
 ) -> Result<Option<TreeEnd>, NoMemory>
     requires attempt { attempt ≤ 3 }
     requires outcome { IsOfAttempt outcome }
-    ensures goes_on { IfOk result (TreeGoesOn N.nodes turns.old.nodes turns.old.line turns.new.nodes turns.new.line round failmode
+    ensures goes_on { IfOk result
+        (TreeGoesOn N.nodes turns.old.nodes turns.old.line turns.new.nodes turns.new.line round failmode
         tree attempt outcome) }
     ensures over { (tops : Seq SeenTop) → AreAll (N.over tops) turns.old.nodes → OutcomeIn (N.tree_over tops) outcome →
         OnOk result (AreAll (N.over tops) turns.new.nodes) }

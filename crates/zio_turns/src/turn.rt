@@ -23,9 +23,9 @@ pub enum Turned {
     Root(u32, Outcome),
 }
 
-/// The turn of the node under the key: stages one after another until it rests, is at a leaf, or ended. Its operation then
-/// waits at the leaf under the key. Each sound round that goes on with the key in front goes on. After a stop, which is
-/// for want of memory, nothing is said of the nodes.
+/// The turn of the node under the key: stages one after another until it rests, is at a leaf, or ended. Its operation
+/// then waits at the leaf under the key. Each sound round that goes on with the key in front goes on. After a stop,
+/// which is for want of memory, nothing is said of the nodes.
 pub fn run_turn<N: Staged, D: Disk + Drop>(
     turns: &mut Turns<N>,
     grounds: &mut Grounds<D>,
@@ -33,7 +33,8 @@ pub fn run_turn<N: Staged, D: Disk + Drop>(
 ) -> Result<Turned, Stop>
     requires going { GoesOnSome N.nodes D.bytes D.image turns.old.nodes (key ∷ turns.old.line) grounds.old }
     requires over { AreAll (N.over grounds.old.desk.tops) turns.old.nodes }
-    ensures turns { IfOk result (TurnsOn N.nodes D.bytes D.image turns.old.nodes turns.old.line grounds.old turns.new.nodes
+    ensures turns { IfOk result
+        (TurnsOn N.nodes D.bytes D.image turns.old.nodes turns.old.line grounds.old turns.new.nodes
         turns.new.line grounds.new key) }
     ensures over { OnOk result (AreAll (N.over grounds.new.desk.tops) turns.new.nodes) }
     ensures less { OnOk result (work_left N.nodes.left turns.new.nodes turns.new.line grounds.new

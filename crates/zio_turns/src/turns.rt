@@ -51,7 +51,8 @@ impl<N: Staged> Turns<N> {
 
     /// A node for the next operation of the tree with this number, whose child of this number it is. It is queued.
     pub fn add_root(&mut self, tree: u32, child: u32, node: N) -> Result<(), NoMemory>
-        ensures hands { OnOk result (HandsOut N.nodes self.old.nodes self.old.line self.new.nodes self.new.line tree child node) }
+        ensures hands { OnOk result
+            (HandsOut N.nodes self.old.nodes self.old.line self.new.nodes self.new.line tree child node) }
         ensures over { (tops : Seq SeenTop) → AreAll (N.over tops) self.old.nodes → N.over tops node →
             OnOk result (AreAll (N.over tops) self.new.nodes) }
         ensures load { OnOk result (load N.nodes.left self.new.nodes self.new.line
@@ -84,7 +85,8 @@ impl<N: Staged> Turns<N> {
         requires { IsTurn N.nodes N.over (S.tops services.old) self.old.nodes self.old.line key }
         ensures steps { IfOk result (λ step. (calls : Seq SpaceCall) × S.made services.old calls services.new
             × ClaimsAlone N.nodes (S.tops services.old) calls self.old.nodes self.old.line key × GivesLast calls
-            × StepsOn N.nodes (S.tops services.old) calls self.old.nodes self.old.line self.new.nodes self.new.line key step) }
+            × StepsOn N.nodes (S.tops services.old) calls self.old.nodes self.old.line self.new.nodes self.new.line key
+            step) }
         ensures over { OnOk result (AreAll (N.over (S.tops services.old)) self.new.nodes) }
         ensures less { IfOk result (λ step. load N.nodes.left self.new.nodes self.new.line + load_of step
             < load N.nodes.left self.old.nodes self.old.line + 1) }
@@ -127,9 +129,12 @@ impl<N: Staged> Turns<N> {
     /// The leaf answered the operation of the node under the key: an error or none, and the bytes of a read.
     pub fn answered(&mut self, key: u32, error: Option<Errno>, bytes: Bytes) -> Result<(), NoMemory>
         requires { IsAtLeaf N.nodes self.old.nodes self.old.line key }
-        ensures comes_back { OnOk result (ComesBack N.nodes self.old.nodes self.old.line self.new.nodes self.new.line key error bytes) }
-        ensures over { (tops : Seq SeenTop) → AreAll (N.over tops) self.old.nodes → OnOk result (AreAll (N.over tops) self.new.nodes) }
-        ensures less { OnOk result (load N.nodes.left self.new.nodes self.new.line < load N.nodes.left self.old.nodes self.old.line + 2) }
+        ensures comes_back { OnOk result
+            (ComesBack N.nodes self.old.nodes self.old.line self.new.nodes self.new.line key error bytes) }
+        ensures over { (tops : Seq SeenTop) → AreAll (N.over tops) self.old.nodes
+            → OnOk result (AreAll (N.over tops) self.new.nodes) }
+        ensures less { OnOk result (load N.nodes.left self.new.nodes self.new.line
+            < load N.nodes.left self.old.nodes self.old.line + 2) }
     {
         let TiedNode { node, ties } = self.nodes.remove(key as usize);
         let node = node.answered(error, bytes);

@@ -86,7 +86,10 @@ impl Model for Entry {
 
     ghost Value = { Choice };
 
-    ghost view = { λ e. record { asked = record { key = e.key; size = e.size; copies = e.copies }; places = take e.found e.places } };
+    ghost view = { λ e. record {
+      asked = record { key = e.key; size = e.size; copies = e.copies };
+      places = take e.found e.places;
+    } };
 
     ghost invariant = { λ e. IsFilled no_place 3 e.found e.places };
 }

@@ -48,7 +48,8 @@ fn gather_below(
 ) -> Result<Vec<(Spot, Op)>, NoMemory>
     requires first { FitsDevice first.now }
     requires fit { AllFit spots.now.entries }
-    ensures { IfOk result (λ found. IsRunBelow (gap_max first.now.write) first.now (below_spot from spots.now.entries) (reverse found.items)) }
+    ensures { IfOk result (λ found. IsRunBelow (gap_max first.now.write) first.now (below_spot from spots.now.entries)
+        (reverse found.items)) }
 {
     let gap = gap_max(first.write);
     let end = end_of(first);
@@ -82,7 +83,8 @@ fn gather_above(
     requires fit { AllFit spots.now.entries }
     requires low { IsLowOf low (values_of lower.items) first.now }
     requires run { IsRun (gap_max first.now.write) (values_of lower.items ++ first.now ∷ []) }
-    ensures { IfOk result (λ found. IsRunAbove (gap_max first.now.write) (lower.items ++ (from, first.now) ∷ []) (above_spot from spots.now.entries) found.items) }
+    ensures { IfOk result (λ found. IsRunAbove (gap_max first.now.write) (lower.items ++ (from, first.now) ∷ [])
+        (above_spot from spots.now.entries) found.items) }
 {
     let gap = gap_max(first.write);
     let top = Spot {

@@ -134,8 +134,10 @@ pub(crate) fn withdraw(
 fn withdraw_one(by_time: &mut BTreeMap<u64, Op>, spots: &mut BTreeMap<Spot, Op>, time: u64, op: &Op)
     requires indexed { IsIndexed by_time.old.entries spots.old.entries }
     requires there { at_time by_time.old.entries time ≡ Some op.now }
-    ensures queued { values_of by_time.new.entries ≡ filter (λ o. not (o.ticket == op.now.ticket)) (values_of by_time.old.entries) }
-    ensures times { (t : ℕ) → at_time by_time.new.entries t ≡ cond (is_at (nat_cmp time) t) None (at_time by_time.old.entries t) }
+    ensures queued { values_of by_time.new.entries ≡ filter (λ o. not (o.ticket == op.now.ticket))
+        (values_of by_time.old.entries) }
+    ensures times { (t : ℕ)
+        → at_time by_time.new.entries t ≡ cond (is_at (nat_cmp time) t) None (at_time by_time.old.entries t) }
     ensures before { (t : ℕ) → AreBefore t by_time.old.entries → AreBefore t by_time.new.entries }
     ensures indexed { IsIndexed by_time.new.entries spots.new.entries }
 {
@@ -157,7 +159,8 @@ pub(crate) fn first_served(spots: &BTreeMap<Spot, Op>, prio: Prio, last: u64) ->
 
 /// The class that is served next.
 pub(crate) fn eligible(spots: &BTreeMap<Spot, Op>, active: &[u32; 5]) -> Option<Prio>
-    ensures { result ≡ or_else (find (is_due_on spots.now.entries active.now ACTIVE_MIN) classes) (find (is_due_on spots.now.entries active.now ACTIVE_MAX) classes) }
+    ensures { result ≡ or_else (find (is_due_on spots.now.entries active.now ACTIVE_MIN) classes)
+        (find (is_due_on spots.now.entries active.now ACTIVE_MAX) classes) }
 {
     match first_due(spots, active, &ACTIVE_MIN) {
         Some(prio) => Some(prio),

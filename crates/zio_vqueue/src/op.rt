@@ -39,7 +39,14 @@ pub fn lone(group: &Group, table: &FaultTable, leaf: u32, point: u32) -> bool
     requires span { group.now.at + group.now.len < 2 ^ 64 }
     requires rows { All RowFits table.now.rows }
     ensures { result ≡ is_some (first_hit table.now.rows
-        (record { leaf = leaf; write = is_write group.now.ops; at = group.now.at; len = group.now.len; point = point; retry = false })) }
+        (record {
+          leaf = leaf;
+          write = is_write group.now.ops;
+          at = group.now.at;
+          len = group.now.len;
+          point = point;
+          retry = false;
+        })) }
 {
     let write = group.ops.as_slice()[0].write;
     table
@@ -53,7 +60,8 @@ pub fn scatter(group: &Group, member: usize, span: &[u8], out: &mut [u8])
     requires inside { IfSome (slice_get group.now.ops member) (LiesIn group.now) }
     requires span { length span.now ≡ group.now.len }
     requires out { IfSome (slice_get group.now.ops member) (λ op. length out.old ≡ op.len) }
-    ensures { IfSome (slice_get group.now.ops member) (λ op. out.new ≡ take op.len (drop (op.at - group.now.at) span.now)) }
+    ensures { IfSome (slice_get group.now.ops member)
+        (λ op. out.new ≡ take op.len (drop (op.at - group.now.at) span.now)) }
 {
     let op = group.ops.as_slice()[member];
     let start = (op.at - group.at) as usize;

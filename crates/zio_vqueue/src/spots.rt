@@ -73,7 +73,8 @@ pub(crate) fn join_spot(time: u64, op: &Op) -> Spot
 }
 
 fn place(spots: &mut BTreeMap<Spot, Op>, spot: Spot, op: Op) -> Result<(), NoMemory>
-    ensures ok { OnOk result ((q : Place) → at_spot spots.new.entries q ≡ cond (is_spot spot q) (Some op) (at_spot spots.old.entries q)) }
+    ensures ok { OnOk result ((q : Place)
+        → at_spot spots.new.entries q ≡ cond (is_spot spot q) (Some op) (at_spot spots.old.entries q)) }
     ensures err { OnErr result ((q : Place) → at_spot spots.new.entries q ≡ at_spot spots.old.entries q) }
     ensures ordered { IsStrictlySortedBy spot_cmp (keys_of spots.new.entries) }
 {
@@ -82,7 +83,8 @@ fn place(spots: &mut BTreeMap<Spot, Op>, spot: Spot, op: Op) -> Result<(), NoMem
 }
 
 fn clear(spots: &mut BTreeMap<Spot, Op>, spot: Spot)
-    ensures cleared { (q : Place) → at_spot spots.new.entries q ≡ cond (is_spot spot q) None (at_spot spots.old.entries q) }
+    ensures cleared { (q : Place)
+        → at_spot spots.new.entries q ≡ cond (is_spot spot q) None (at_spot spots.old.entries q) }
     ensures ordered { IsStrictlySortedBy spot_cmp (keys_of spots.new.entries) }
 {
     spots.remove(&spot);
@@ -90,8 +92,10 @@ fn clear(spots: &mut BTreeMap<Spot, Op>, spot: Spot)
 
 /// Puts an operation at each of its spots. Where memory is refused it stands at some of them.
 pub(crate) fn shelve(spots: &mut BTreeMap<Spot, Op>, time: u64, op: Op) -> Result<(), NoMemory>
-    ensures ok { OnOk result ((q : Place) → at_spot spots.new.entries q ≡ cond (is_sought_at time op q) (Some op) (at_spot spots.old.entries q)) }
-    ensures err { OnErr result ((q : Place) → is_sought_at time op q ≡ false → at_spot spots.new.entries q ≡ at_spot spots.old.entries q) }
+    ensures ok { OnOk result ((q : Place)
+        → at_spot spots.new.entries q ≡ cond (is_sought_at time op q) (Some op) (at_spot spots.old.entries q)) }
+    ensures err { OnErr result ((q : Place) → is_sought_at time op q ≡ false
+        → at_spot spots.new.entries q ≡ at_spot spots.old.entries q) }
     ensures ordered { IsStrictlySortedBy spot_cmp (keys_of spots.new.entries) }
 {
     place(spots, class_spot(time, &op), op)?;
@@ -104,7 +108,8 @@ pub(crate) fn shelve(spots: &mut BTreeMap<Spot, Op>, time: u64, op: Op) -> Resul
 
 /// Takes an operation from each of its spots at which it stands.
 pub(crate) fn unshelve(spots: &mut BTreeMap<Spot, Op>, time: u64, op: &Op)
-    ensures cleared { (q : Place) → at_spot spots.new.entries q ≡ cond (is_sought_at time op.now q) None (at_spot spots.old.entries q) }
+    ensures cleared { (q : Place)
+        → at_spot spots.new.entries q ≡ cond (is_sought_at time op.now q) None (at_spot spots.old.entries q) }
     ensures ordered { IsStrictlySortedBy spot_cmp (keys_of spots.new.entries) }
 {
     clear(spots, class_spot(time, op));

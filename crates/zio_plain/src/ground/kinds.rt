@@ -36,9 +36,13 @@ pub(crate) fn own_work_of<D: Disk + Drop, C: Chooser + Drop>(
     requires sound { IsSound IsWholeTree waiting.now }
     requires count { length children.now ≡ length waiting.now.kept + waiting.now.unfinished }
     requires pointers { AllByRecursion HasPointer children.now }
-    ensures done { IfOk result (λ done. DoesOwn D.bytes D.faults D.faults_at_fetch D.home D.image D.sound C.lawful waiting.now attempt (pointers_in children.now)
-        (seen C.sizes C.used C.live C.given base.old) (seen C.sizes C.used C.live C.given base.new) done.end done.taken) }
-    ensures breaks { IfErr result (λ stop. BreaksOwn D.bytes D.faults D.faults_at_fetch D.home D.image D.sound waiting.now
+    ensures done { IfOk result
+        (λ done. DoesOwn D.bytes D.faults D.faults_at_fetch D.home D.image D.sound C.lawful waiting.now attempt
+        (pointers_in children.now)
+        (seen C.sizes C.used C.live C.given base.old) (seen C.sizes C.used C.live C.given base.new) done.end
+        done.taken) }
+    ensures breaks { IfErr result
+        (λ stop. BreaksOwn D.bytes D.faults D.faults_at_fetch D.home D.image D.sound waiting.now
         (seen C.sizes C.used C.live C.given base.old) (seen C.sizes C.used C.live C.given base.new) (stop ≡ Device)) }
 {
     match &waiting.request.work {
@@ -63,9 +67,12 @@ fn own_read<D: Disk + Drop, C: Chooser + Drop>(
     requires can { CanRun D.bytes (seen C.sizes C.used C.live C.given base.old) waiting.now.block }
     requires sound { IsSound IsWholeTree waiting.now }
     requires kind { (name : List ℕ) × ((prio : Prio) × (waiting.now.request.work ≡ Read name prio)) }
-    ensures done { IfOk result (λ done. (attempt : ℕ) (pointers : List (Option Bp)) → DoesOwn D.bytes D.faults D.faults_at_fetch D.home D.image D.sound C.lawful waiting.now attempt pointers
-        (seen C.sizes C.used C.live C.given base.old) (seen C.sizes C.used C.live C.given base.new) done.end done.taken) }
-    ensures breaks { IfErr result (λ stop. BreaksOwn D.bytes D.faults D.faults_at_fetch D.home D.image D.sound waiting.now
+    ensures done { IfOk result (λ done. (attempt : ℕ) (pointers : List (Option Bp))
+        → DoesOwn D.bytes D.faults D.faults_at_fetch D.home D.image D.sound C.lawful waiting.now attempt pointers
+        (seen C.sizes C.used C.live C.given base.old) (seen C.sizes C.used C.live C.given base.new) done.end
+        done.taken) }
+    ensures breaks { IfErr result
+        (λ stop. BreaksOwn D.bytes D.faults D.faults_at_fetch D.home D.image D.sound waiting.now
         (seen C.sizes C.used C.live C.given base.old) (seen C.sizes C.used C.live C.given base.new) (stop ≡ Device)) }
 {
     let alloc = base.alloc;
@@ -86,9 +93,12 @@ fn own_free<D: Disk + Drop, C: Chooser + Drop>(
 ) -> Result<OwnDone, Stop>
     requires can { CanRun D.bytes (seen C.sizes C.used C.live C.given base.old) waiting.now.block }
     requires kind { (name : List ℕ) × (waiting.now.request.work ≡ Free name) }
-    ensures done { IfOk result (λ done. (attempt : ℕ) (pointers : List (Option Bp)) → DoesOwn D.bytes D.faults D.faults_at_fetch D.home D.image D.sound C.lawful waiting.now attempt pointers
-        (seen C.sizes C.used C.live C.given base.old) (seen C.sizes C.used C.live C.given base.new) done.end done.taken) }
-    ensures breaks { IfErr result (λ stop. BreaksOwn D.bytes D.faults D.faults_at_fetch D.home D.image D.sound waiting.now
+    ensures done { IfOk result (λ done. (attempt : ℕ) (pointers : List (Option Bp))
+        → DoesOwn D.bytes D.faults D.faults_at_fetch D.home D.image D.sound C.lawful waiting.now attempt pointers
+        (seen C.sizes C.used C.live C.given base.old) (seen C.sizes C.used C.live C.given base.new) done.end
+        done.taken) }
+    ensures breaks { IfErr result
+        (λ stop. BreaksOwn D.bytes D.faults D.faults_at_fetch D.home D.image D.sound waiting.now
         (seen C.sizes C.used C.live C.given base.old) (seen C.sizes C.used C.live C.given base.new) (stop ≡ Device)) }
 {
     let alloc = base.alloc;
@@ -115,10 +125,15 @@ fn own_write<D: Disk + Drop, C: Chooser + Drop>(
     requires sound { IsSound IsWholeTree waiting.now }
     requires count { length children.now ≡ length waiting.now.kept + waiting.now.unfinished }
     requires pointers { AllByRecursion HasPointer children.now }
-    requires kind { (name : List ℕ) × ((prio : Prio) × (waiting.now.request.work ≡ Write name sum copies prio body.now)) }
-    ensures done { IfOk result (λ done. DoesOwn D.bytes D.faults D.faults_at_fetch D.home D.image D.sound C.lawful waiting.now attempt (pointers_in children.now)
-        (seen C.sizes C.used C.live C.given base.old) (seen C.sizes C.used C.live C.given base.new) done.end done.taken) }
-    ensures breaks { IfErr result (λ stop. BreaksOwn D.bytes D.faults D.faults_at_fetch D.home D.image D.sound waiting.now
+    requires kind { (name : List ℕ)
+        × ((prio : Prio) × (waiting.now.request.work ≡ Write name sum copies prio body.now)) }
+    ensures done { IfOk result
+        (λ done. DoesOwn D.bytes D.faults D.faults_at_fetch D.home D.image D.sound C.lawful waiting.now attempt
+        (pointers_in children.now)
+        (seen C.sizes C.used C.live C.given base.old) (seen C.sizes C.used C.live C.given base.new) done.end
+        done.taken) }
+    ensures breaks { IfErr result
+        (λ stop. BreaksOwn D.bytes D.faults D.faults_at_fetch D.home D.image D.sound waiting.now
         (seen C.sizes C.used C.live C.given base.old) (seen C.sizes C.used C.live C.given base.new) (stop ≡ Device)) }
 {
     let alloc = base.alloc;
@@ -152,9 +167,12 @@ fn own_claim<D: Disk + Drop, C: Chooser + Drop>(
 ) -> Result<OwnDone, Stop>
     requires can { CanRun D.bytes (seen C.sizes C.used C.live C.given base.old) waiting.now.block }
     requires kind { (name : List ℕ) × (waiting.now.request.work ≡ Claim name pointer.now) }
-    ensures done { IfOk result (λ done. (attempt : ℕ) (pointers : List (Option Bp)) → DoesOwn D.bytes D.faults D.faults_at_fetch D.home D.image D.sound C.lawful waiting.now attempt pointers
-        (seen C.sizes C.used C.live C.given base.old) (seen C.sizes C.used C.live C.given base.new) done.end done.taken) }
-    ensures breaks { IfErr result (λ stop. BreaksOwn D.bytes D.faults D.faults_at_fetch D.home D.image D.sound waiting.now
+    ensures done { IfOk result (λ done. (attempt : ℕ) (pointers : List (Option Bp))
+        → DoesOwn D.bytes D.faults D.faults_at_fetch D.home D.image D.sound C.lawful waiting.now attempt pointers
+        (seen C.sizes C.used C.live C.given base.old) (seen C.sizes C.used C.live C.given base.new) done.end
+        done.taken) }
+    ensures breaks { IfErr result
+        (λ stop. BreaksOwn D.bytes D.faults D.faults_at_fetch D.home D.image D.sound waiting.now
         (seen C.sizes C.used C.live C.given base.old) (seen C.sizes C.used C.live C.given base.new) (stop ≡ Device)) }
 {
     let alloc = base.alloc;

@@ -51,7 +51,12 @@ pub(crate) fn found(alloc: Global, bytes: Bytes) -> OwnDone
 /// It gives a block that was placed, with its pointer.
 pub(crate) fn written(alloc: Global, placed: PlacedBlock) -> Result<OwnDone, Stop>
     requires { IfSome placed.tree (λ tree. IsTrue (valid tree.bp)) }
-    ensures end { IfOk result (λ done. done.end ≡ record { error = placed.error; bytes = []; tree = placed.tree; pointer = option_map (λ (tree : SeenTree). tree.bp) placed.tree }) }
+    ensures end { IfOk result (λ done. done.end ≡ record {
+      error = placed.error;
+      bytes = [];
+      tree = placed.tree;
+      pointer = option_map (λ (tree : SeenTree). tree.bp) placed.tree;
+    }) }
     ensures taken { IfOk result (λ done. done.taken ≡ places_of_block placed.tree) }
     ensures memory { OnErr result (result ≡ Err Stop.Memory) }
 {
@@ -75,7 +80,8 @@ pub(crate) fn written(alloc: Global, placed: PlacedBlock) -> Result<OwnDone, Sto
 /// It gives a block that was claimed.
 pub(crate) fn claimed(alloc: Global, tree: Tree) -> Result<OwnDone, Stop>
     requires { IsTrue (valid tree.bp) }
-    ensures end { IfOk result (λ done. done.end ≡ record { error = None; bytes = []; tree = Some tree; pointer = None }) }
+    ensures end { IfOk result (λ done. done.end
+        ≡ record { error = None; bytes = []; tree = Some tree; pointer = None }) }
     ensures taken { IfOk result (λ done. done.taken ≡ tree_places tree) }
     ensures memory { OnErr result (result ≡ Err Stop.Memory) }
 {

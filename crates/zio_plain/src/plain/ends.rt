@@ -21,7 +21,11 @@ pub(crate) fn begin_round<D: Disk + Drop, C: Chooser + Drop>(
     round: u32,
     point: u32,
 )
-    ensures setting { ground.new.setting ≡ record { tops = ground.old.setting.tops; rows = ground.old.setting.rows; point = point } }
+    ensures setting { ground.new.setting ≡ record {
+      tops = ground.old.setting.tops;
+      rows = ground.old.setting.rows;
+      point = point;
+    } }
     ensures round { ground.new.round ≡ round }
     ensures disks { ground.new.disks ≡ ground.old.disks }
     ensures chooser { ground.new.chooser ≡ ground.old.chooser }

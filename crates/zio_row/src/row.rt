@@ -4,7 +4,7 @@ ghost use Rattle.zio_outside.specs.Outside.{Appends, Rose};
 ghost use Rattle.zio_row.specs.Row.{HasOneImage, HoldsBlock, blank_image, row_report, row_text, zeros};
 ghost use Rattle.zio_row.specs.Sinks.{holds};
 
-use crate::Kept;
+use crate::GrowingSink;
 use std::alloc::Global;
 use zio_outside::{MemDisk, MemShelf, MemSource, Sink};
 use zio_run::{CODE_MEMORY, zio_serial_main};
@@ -20,7 +20,7 @@ const IMAGE_LEN: usize = 65536;
 #[derive(Drop)]
 pub struct Ran {
     pub status: Status,
-    pub out: Kept,
+    pub out: GrowingSink,
     pub shelf: MemShelf,
 }
 
@@ -33,7 +33,7 @@ pub fn write_then_read(alloc: Global) -> Ran
     ensures report { result.status.code ≡ 0 → holds result.out row_report }
     ensures image { result.status.code ≡ 0 → HoldsBlock blank_image result.shelf }
 {
-    let mut out = Kept::new(alloc);
+    let mut out = GrowingSink::new(alloc);
     match shelf(alloc) {
         Ok(mut shelf) => {
             let status = run_over(alloc, &mut shelf, &mut out);

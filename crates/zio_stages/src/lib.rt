@@ -41,6 +41,7 @@ mod request_kind;
 mod request_node;
 mod request_placed;
 mod request_read;
+mod request_read_heard;
 mod request_stored;
 mod request_write;
 mod services;

@@ -117,7 +117,7 @@ module _ (journal : List Choice) (sizes : ℕ → ℕ) (ds : Deeds) (contents : 
       two)
       (pairs_two NamesApart (Q journal sizes ds contents children s h) source p h.ready.names ends.from.listed lp)
 
-  two_apart : (e f : Ended) → Ended_ e → Ended_ f → e.request.number ≢ f.request.number → WorksApart e.request.work f.request.work ⊎ WorksApart f.request.work e.request.work
+  pub two_apart : (e f : Ended) → Ended_ e → Ended_ f → e.request.number ≢ f.request.number → WorksApart e.request.work f.request.work ⊎ WorksApart f.request.work e.request.work
   two_apart e f ee ef ne =
       subst (λ (w : Work). WorksApart e.request.work w ⊎ WorksApart w e.request.work) (work_at_start f ef)
       (apart_from 0 ef.from.source e ee ef.from.listed
@@ -134,7 +134,7 @@ module _ (journal : List Choice) (sizes : ℕ → ℕ) (ds : Deeds) (contents : 
       absurd (cc))
       ∙ others_same es all.1 name bound
 
-  named_bound : (name : List ℕ) (block : Option Tree) → HasNamed s.bound name block → is_bound s.bound name ≡ true
+  pub named_bound : (name : List ℕ) (block : Option Tree) → HasNamed s.bound name block → is_bound s.bound name ≡ true
   named_bound name block k = subst (λ (o : Option Tree). is_some o ≡ true) k.is (some_true block k.there)
     where
       some_true : (o : Option Tree) → IsSome o → is_some o ≡ true

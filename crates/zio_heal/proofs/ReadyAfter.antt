@@ -33,9 +33,9 @@ use Rattle.zio_heal.proofs.KidsLemmas.{IsFitting, LeftKids, round_kids}
 -- ---- a name that no request changes
 
 -- the request ended without error, and changes another name or none
-record ChangesOther (m : List ℕ) (e : Ended) : Type 0 where
-  none : e.error ≡ None
-  other : (n : List ℕ) → (IsRead e.request.work → ⊥) → name_of e.request.work ≡ Some n → m ≢ n
+pub record ChangesOther (m : List ℕ) (e : Ended) : Type 0 where
+  pub none : e.error ≡ None
+  pub other : (n : List ℕ) → (IsRead e.request.work → ⊥) → name_of e.request.work ≡ Some n → m ≢ n
 
 made_other : (n m : List ℕ) (tree : Option Tree) (bound : Bound) → m ≢ n → block_of (bind_made n tree bound) m ≡ block_of bound m
 made_other n m None bound ne = refl
@@ -48,7 +48,7 @@ work_other (Write n sum copies prio body) m tree bound f = made_other n m tree b
 work_other (Free n) m tree bound f = block_of-unbind-other n m bound (f n (λ r. r) refl)
 work_other (Claim n pointer) m tree bound f = made_other n m tree bound (f n (λ r. r) refl)
 
-still_bound : (m : List ℕ) (es : List Ended) (bound : Bound) → AllByRecursion (ChangesOther m) es → block_of (bound_after es bound) m ≡ block_of bound m
+pub still_bound : (m : List ℕ) (es : List Ended) (bound : Bound) → AllByRecursion (ChangesOther m) es → block_of (bound_after es bound) m ≡ block_of bound m
 still_bound m [] bound h = refl
 still_bound m (e ∷ es) bound h =
     still_bound m es (bound_unless e.error e bound) h.1
@@ -73,7 +73,7 @@ turned_bytes a b differs =
     (λ (k : bytes_eq b a ≡ false). k)
     (cases_Bool (bytes_eq b a))
 
-turned_names : (a b : Option (List ℕ)) → names_it a b ≡ false → names_it b a ≡ false
+pub turned_names : (a b : Option (List ℕ)) → names_it a b ≡ false → names_it b a ≡ false
 turned_names None None h = refl
 turned_names None (Some y) h = refl
 turned_names (Some x) None h = refl
@@ -102,11 +102,11 @@ module _ (journal : List Choice) (sizes : ℕ → ℕ) (ds : Deeds) (contents : 
   abbrev requests : List Pending
   requests = Q journal sizes ds contents children s h
 
-  left_from : AllByRecursion (IsFrom requests) (requests_in left)
+  pub left_from : AllByRecursion (IsFrom requests) (requests_in left)
   left_from = (tells journal sizes ds contents children s h).again (IsFrom requests) (from_stable requests) (from_itself journal sizes ds contents children s h)
 
   -- what ended changes no name of what is left
-  changes_other : (p : Pending) (m : List ℕ) → Contains (requests_in left) p → name_of p.request.work ≡ Some m → AllByRecursion (ChangesOther m) ended
+  pub changes_other : (p : Pending) (m : List ℕ) → Contains (requests_in left) p → name_of p.request.work ≡ Some m → AllByRecursion (ChangesOther m) ended
   changes_other p m lp named =
       let from : IsFrom requests p = all_contains (IsFrom requests) (requests_in left) p left_from lp in
       all_of (ChangesOther m) ended

@@ -1,61 +1,32 @@
 -- In the run of a script whose requests may not fail, no round begins with others or with a child's error.
-use Rattle.std.proofs.Common.{◌≡◌, ◌≤◌, ℕ, ◌+◌, List, [], ◌∷◌, ◌++◌, count_by, Bool, true, false, not, ◌&&◌, ◌||◌, nat_le, ◌==◌, Option, Some, None, refl, sym, subst, arith}
+use Rattle.std.proofs.Common.{◌≡◌, ◌≤◌, ℕ, ◌+◌, List, [], ◌∷◌, ◌++◌, count_by, Bool, true, false, not, ◌&&◌, ◌||◌, nat_le, refl, sym, subst, arith}
 use Rattle.std.specs.List.{AllByRecursion, list_all}
-use Rattle.zio_types.specs.declared.error.Errno.{Errno}
 use Rattle.zio_types.specs.Choices.{Choice}
 use Rattle.zio_faults.specs.declared.table.Row.{Row}
 use Rattle.zio_script.specs.declared.script.Item.{Item}
 use Rattle.zio_script.specs.declared.script.Item.TheVariants.{Request as RequestLine, Go, Clear}
-use Rattle.zio_script.specs.declared.script.Request.{Request}
 use Rattle.zio_script.specs.declared.script.Script.{Script}
 use Rattle.zio_script.specs.Requests.{requests_of}
 use Rattle.zio_script.specs.Whys.{is_clear}
 use Rattle.zio_cksum.specs.Images.{Images, Setting}
-use Rattle.zio_cksum.proofs.AllLemmas.{all_append, all_map, all_weaker}
-use Rattle.zio_gang.specs.Attempts.{Pending}
-use Rattle.zio_gang.specs.Rounds.{Admitted, admit_with, admission, admitted, is_bound, put_before, put_if, settle_each, trees_of, with_request, with_requests}
+use Rattle.zio_cksum.proofs.AllLemmas.{all_append, all_weaker}
+use Rattle.zio_gang.specs.Rounds.{Admitted, admitted, is_bound, settle_each, trees_of}
 use Rattle.zio_gang.specs.Runs.{Batch, Plan, State, clear_if, go_if, goes_on, has_trees, held_if, line, line_if, plan_of, run_batch, run_held, run_suspended, start_state, terms_of}
 use Rattle.zio_trace.specs.RunTraces.{RoundStart, batch_start, held_starts, held_starts_if, line_starts, line_starts_if, starts_from, starts_if, starts_of, suspended_start}
 use Rattle.zio_heal.specs.Copies.{IsPastFaults, StoresAsGiven}
 use Rattle.zio_heal.specs.Discipline.{AreUnfailing, EndWithoutError, IsUnfailing, MayNotFail}
 use Rattle.zio_heal.specs.Healed.{IsHealed, IsHealedRequest, heals_after, turns_stored}
 use Rattle.zio_heal.proofs.DisciplineLemmas.{begin_fine, healed_must, round_fine}
+use Rattle.zio_heal.proofs.TreeLists.{admitted_all, trees_all}
 
--- ---- the trees of a batch
-
-put_all : (b : Bool) (r q : Request) (qs placed : List Request) → MayNotFail r → MayNotFail q → AllByRecursion MayNotFail qs → AllByRecursion MayNotFail placed → AllByRecursion MayNotFail (put_if b r q qs placed)
-put_all true r q qs placed hr hq hqs hp = (hr, (hq, hqs))
-put_all false r q qs placed hr hq hqs hp = (hq, hp)
-
-before_all : (parent : ℕ) (r : Request) (tree : List Request) → MayNotFail r → AllByRecursion MayNotFail tree → AllByRecursion MayNotFail (put_before parent r tree)
-before_all parent r [] hr h = tt
-before_all parent r (q ∷ qs) hr h = put_all (q.number == parent) r q qs (put_before parent r qs) hr h.0 h.1 (before_all parent r qs hr h.1)
-
-one_all : (under : Option ℕ) (r : Request) (trees : List (List Request)) → MayNotFail r → AllByRecursion (AllByRecursion MayNotFail) trees → AllByRecursion (AllByRecursion MayNotFail) (with_request under r trees)
-one_all None r trees hr h = all_append (AllByRecursion MayNotFail) trees ((r ∷ []) ∷ []) h ((hr, tt), tt)
-one_all (Some parent) r trees hr h =
-    all_map (AllByRecursion MayNotFail) (put_before parent r) trees
-    (all_weaker (AllByRecursion MayNotFail) (λ (tree : List Request). AllByRecursion MayNotFail (put_before parent r tree)) trees (λ tree one. before_all parent r tree hr one) h)
-
-trees_all : (rs : List Request) (trees : List (List Request)) → AllByRecursion MayNotFail rs → AllByRecursion (AllByRecursion MayNotFail) trees → AllByRecursion (AllByRecursion MayNotFail) (with_requests rs trees)
-trees_all [] trees hr h = h
-trees_all (r ∷ rs) trees hr h = trees_all rs (with_request r.under r trees) hr.1 (one_all r.under r trees hr.0 h)
-
-admit_all : (e : Option Errno) (tree : List Request) (others : Admitted) → AllByRecursion MayNotFail tree → AllByRecursion (AllByRecursion MayNotFail) others.trees → AllByRecursion (AllByRecursion MayNotFail) (admit_with e tree others).trees
-admit_all (Some e) tree others h hs = hs
-admit_all None tree others h hs = (h, hs)
-
-admitted_all : (suspended : List (List Pending)) (bound : List ℕ → Bool) (trees : List (List Request)) → AllByRecursion (AllByRecursion MayNotFail) trees → AllByRecursion (AllByRecursion MayNotFail) (admitted suspended bound trees).trees
-admitted_all suspended bound [] h = tt
-admitted_all suspended bound (tree ∷ trees) h =
-    admit_all (admission suspended bound tree) tree (admitted suspended bound trees) h.0 (admitted_all suspended bound trees h.1)
+-- ---- batches
 
 -- a batch may not fail as it enters its first round
 batch_all : (plan : Plan) (batch : Batch) (st : State) → AllByRecursion MayNotFail batch.requests → AreUnfailing (batch_start plan batch st).trees
 batch_all plan batch st h =
     let a : Admitted = admitted st.suspended (is_bound st.bound) (trees_of batch.requests) in
     begin_fine st.bound batch.number a.trees
-    (admitted_all st.suspended (is_bound st.bound) (trees_of batch.requests) (trees_all batch.requests [] h tt))
+    (admitted_all (AllByRecursion MayNotFail) (AllByRecursion MayNotFail) st.suspended (is_bound st.bound) (trees_of batch.requests) (λ tree none k. k) (trees_all MayNotFail batch.requests [] h tt))
 
 -- ---- a run between two lines
 

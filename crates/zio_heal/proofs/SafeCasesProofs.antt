@@ -2,6 +2,7 @@
 use Rattle.std.proofs.Common.{◌≡◌, ℕ, zero, suc, List, [], ◌∷◌, get_or, true, false, Some, None, inl, inr, refl, sym, ap, ◌∙◌, arith}
 use Rattle.zio_cksum.specs.Blocks.{spot_in}
 use Rattle.zio_cksum.specs.Images.{Spot}
+use Rattle.zio_gang.specs.Attempts.{attempt_each, settle_from}
 use Rattle.zio_gang.specs.Rounds.{settle_each}
 use Rattle.zio_gang.specs.Trees.{sizes_of}
 use Rattle.zio_trace.specs.Leaves.{HaveSizes}
@@ -12,7 +13,7 @@ use Rattle.zio_trace.proofs.ListLemmas.{contains_first}
 use Rattle.zio_trace.proofs.ValidBlocks.{valid_sound}
 use Rattle.zio_heal.specs.Contents.{HasPieces}
 use Rattle.zio_heal.specs.ContentCases.{letters}
-use Rattle.zio_heal.specs.SafeCases.{ChildIsInFront, FoundZerosArent, GaveContent, GaveError, GaveOther, IdleStartsSafely, NothingDoesnt, MadeNothing, PointerFits, OtherContentIsnt, ParentInFrontHasnt, ReadAndFreeDont, ReadHasItsBlock, ReadOfNobodyHasnt, TwoNamesArent, TwoReadsShare, UnusedDoesnt, WriteOfBoundMayNot, XIsSafe, ZerosAreSafe, sizes_of_zeros, zeros}
+use Rattle.zio_heal.specs.SafeCases.{ChildIsInFront, FoundZerosArent, GaveContent, GaveError, GaveOther, IdleEndsSafely, IdleStartsSafely, MadeNothing, NothingDoesnt, OrphanIsLeft, OtherContentIsnt, ParentInFrontHasnt, PointerFits, ReadAndFreeDont, ReadHasItsBlock, ReadOfNobodyHasnt, TwoNamesArent, TwoReadsShare, UnusedDoesnt, WriteOfBoundMayNot, XIsSafe, ZerosAreSafe, sizes_of_zeros, zeros}
 
 abbrev first_spot : Spot
 first_spot = record { leaf = 0; at = 0; span = 512 }
@@ -126,3 +127,19 @@ idle_starts_safely = record {
 
 pub unused_doesnt : UnusedDoesnt
 unused_doesnt h = let e = h.used in absurd (cc)
+
+pub idle_ends_safely : IdleEndsSafely
+unfolding settle_each
+idle_ends_safely = record {
+  after = λ name. letters 0;
+  sizes_are = sizes_are;
+  safe = x_is_safe;
+  others = λ name bound. refl;
+  ended = tt;
+  ready = record { each = tt; kids = tt; numbers = tt; names = tt };
+  clean = λ past small. refl;
+}
+
+pub orphan_is_left : OrphanIsLeft
+unfolding settle_each settle_from attempt_each
+orphan_is_left h = let none = h.clean tt tt in absurd (cc)

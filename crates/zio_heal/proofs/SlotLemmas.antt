@@ -27,14 +27,14 @@ use Rattle.zio_heal.proofs.PointerLemmas.{AreFound, IsSpelled, found_for, spelle
 
 -- ---- contents
 
-slots_long : (ms : List (Option Bp)) → AllByRecursion HasSlot ms → length (flat_map member_bytes ms) ≡ 128 * length ms
+pub slots_long : (ms : List (Option Bp)) → AllByRecursion HasSlot ms → length (flat_map member_bytes ms) ≡ 128 * length ms
 slots_long [] h = refl
 slots_long (m ∷ ms) h =
     let one : length (member_bytes m) ≡ 128 = h.0 in
     let more : length (flat_map member_bytes ms) ≡ 128 * length ms = slots_long ms h.1 in
     omega (arith, length-append (member_bytes m) (flat_map member_bytes ms))
 
-no_slots : (n : ℕ) → AllByRecursion HasSlot (replicate n None)
+pub no_slots : (n : ℕ) → AllByRecursion HasSlot (replicate n None)
 no_slots zero = tt
 no_slots (suc n) = (refl, no_slots n)
 

@@ -13,9 +13,11 @@ pub mod HealedCases
 pub mod PlainStore
 pub mod PoolCases
 pub mod Pools
+pub mod PremiseCases
 pub mod SafeBlocks
 pub mod SafeCases
 pub mod SafeRounds
+pub mod SameAnswers
 pub mod Spared
 pub mod StoreCases
 pub mod StoredCases

@@ -17,7 +17,7 @@ use Rattle.zio_heal.specs.ContentCases.{letters}
 use Rattle.zio_heal.specs.Given.{Deeds}
 use Rattle.zio_heal.specs.GivenCases.{wrote_at}
 use Rattle.zio_heal.specs.SafeBlocks.{AreSafe, Contents, IsSafe}
-use Rattle.zio_heal.specs.SafeRounds.{EndsWell, FitsWrite, HaveChildren, IsSafeStart, NamesApart, NamesWell}
+use Rattle.zio_heal.specs.SafeRounds.{EndsWell, FitsWrite, HaveChildren, IsSafeEnd, IsSafeStart, NamesApart, NamesWell}
 
 -- ---- blocks
 
@@ -140,3 +140,14 @@ UnusedDoesnt =
     IsSafeStart [] sizes_of_zeros wrote_zeros (λ name. letters 0) one_child
     (record idle { terms = record mirror_of_two { used = [] } })
     → ⊥
+
+-- what it ends as
+abbrev pub ends_safely : RoundStart → Type 0
+ends_safely s = IsSafeEnd [] sizes_of_zeros wrote_zeros (λ name. letters 0) one_child s
+
+abbrev pub IdleEndsSafely : Type 0
+IdleEndsSafely = ends_safely idle
+
+-- a read without its block goes on, though no row is met
+abbrev pub OrphanIsLeft : Type 0
+OrphanIsLeft = ends_safely (record idle { trees = (asking 1 reads_x None ∷ []) ∷ [] }) → ⊥

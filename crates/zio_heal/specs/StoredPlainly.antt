@@ -1,8 +1,10 @@
 -- What the run of a script comes to that stores as a plain store does.
-use Rattle.std.specs.Prelude.{◌≡◌, ℕ, List, Option, Some, None, Result, Ok, Err, Contains}
+use Rattle.std.specs.Prelude.{◌≡◌, ◌≤◌, ℕ, List, Option, Some, None, Result, Ok, Err, Contains}
 use Rattle.std.specs.List.{AllByRecursion}
 use Rattle.zio_types.specs.declared.error.Errno.{Errno}
+use Rattle.zio_types.specs.declared.place.Top.{Top}
 use Rattle.zio_types.specs.Choices.{Choice}
+use Rattle.zio_blkptr.specs.declared.pointer.TheConstants.{SECTOR_END}
 use Rattle.zio_script.specs.declared.script.Request.{Request}
 use Rattle.zio_script.specs.declared.script.Script.{Script}
 use Rattle.zio_script.specs.Requests.{requests_of}
@@ -13,9 +15,13 @@ use Rattle.zio_gang.specs.Fates.{ended_requests}
 use Rattle.zio_gang.specs.Rounds.{Binding, is_bound}
 use Rattle.zio_gang.specs.Runs.{Course, Plan, State, ending, plan_of, run_script, terms_of}
 use Rattle.zio_gang.specs.Trees.{read_tree}
+use Rattle.zio_report.specs.Meanings.{tops_of}
 use Rattle.zio_report.specs.Reports.{all_ended}
 use Rattle.zio_heal.specs.Alike.{IsAlikeTo, IsAnsweredAlike}
+use Rattle.zio_heal.specs.Given.{AcceptsWhatWasGiven}
+use Rattle.zio_heal.specs.Healed.{IsHealed}
 use Rattle.zio_heal.specs.PlainStore.{Content, Plain, Reply, has_content, plain_store}
+use Rattle.zio_heal.specs.Pools.{NoSmallRefused}
 
 -- one of the replies is that of the request
 pub record HasReply (replies : List Reply) (e : Ended) : Type 0 where
@@ -50,3 +56,17 @@ abbrev pub IsStoredPlainly : Script → Images → List Choice → Type 0
 IsStoredPlainly script images journal =
     IsPlainCourse (plan_of script images journal) (requests_of script.items) (plain_store script)
     (run_script script images journal)
+
+-- ---- when it comes to that
+
+-- every sector of the tops can stand in a pointer
+abbrev pub FitPointers : List Top → Type 0
+FitPointers tops = AllByRecursion (λ (top : Top). top.sectors ≤ SECTOR_END) tops
+
+-- A script that heals is stored plainly, over images whose sectors fit pointers, where the journal refuses no single sector
+-- and no two different byte strings met with one checksum.
+-- Rule: healing faults.
+abbrev pub IsStoredPlainlyIfHealed : Script → Images → List Choice → Type 0
+IsStoredPlainlyIfHealed script images journal =
+    IsHealed script → FitPointers (tops_of script images) → NoSmallRefused journal →
+    AcceptsWhatWasGiven script images journal → IsStoredPlainly script images journal

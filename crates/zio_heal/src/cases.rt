@@ -5,7 +5,8 @@ ghost use Rattle.zio_heal.specs.DisciplineCases.{BadChildIsnt, ClaimMayFail, Fla
 ghost use Rattle.zio_heal.specs.GivenCases.{AllPlacesCount, BytesOfNobodyArent, ErrorsAreTrue, GivenBytesAreTrue, HeadersAreCompared, LastReadsCount, LastWriteCounts, NobodyReadIt, NothingWasGiven, OtherBytesArent, RunAcceptsWhatWasGiven};
 ghost use Rattle.zio_heal.specs.HealedCases.{ClaimsMayFail, ClearIsNotLast, NoClearAtAll, NoRowsHeal, NoSumNoDamage, OneClearTooFew, OthersGoOn, PanicsEnd, ReadMayFail, ReadsMayBeTurned, TurnedByAnyStay, TurnedWritesStay, TwoClearsHeal, WriteHeals};
 ghost use Rattle.zio_heal.specs.PoolCases.{FoundIsFine, FourArent, HalfASectorIsnt, LargeMayBeRefused, LeafTwiceIsnt, MirrorIsAPool, NoBirthIsnt, NoLeafIsnt, NoneIsnt, NothingIsnt, OddUnitIsnt, OneSectorIsASize, SharedLeafIsnt, ShortLeafIsnt, SmallMayNot, ThreeCopiesAreWritten, TooLargeIsnt};
-ghost use Rattle.zio_heal.specs.SafeCases.{ChildIsInFront, FoundZerosArent, GaveContent, GaveError, GaveOther, IdleStartsSafely, MadeNothing, NothingDoesnt, OtherContentIsnt, ParentInFrontHasnt, PointerFits, ReadAndFreeDont, ReadHasItsBlock, ReadOfNobodyHasnt, TwoNamesArent, TwoReadsShare, UnusedDoesnt, WriteOfBoundMayNot, XIsSafe, ZerosAreSafe};
+ghost use Rattle.zio_heal.specs.PremiseCases.{ErrorInOneRun, FaultMeetsPremises, OneMoreDoesnt, SameReadTwice, SameSectorIsntLawful, SectorsFit, WideFaultHeals, WideScriptIsRead};
+ghost use Rattle.zio_heal.specs.SafeCases.{ChildIsInFront, FoundZerosArent, GaveContent, GaveError, GaveOther, IdleEndsSafely, IdleStartsSafely, MadeNothing, NothingDoesnt, OrphanIsLeft, OtherContentIsnt, ParentInFrontHasnt, PointerFits, ReadAndFreeDont, ReadHasItsBlock, ReadOfNobodyHasnt, TwoNamesArent, TwoReadsShare, UnusedDoesnt, WriteOfBoundMayNot, XIsSafe, ZerosAreSafe};
 ghost use Rattle.zio_heal.specs.StoreCases.{ChildrenMakeAFront, FaultsChangeNothing, FreedNameIsGone, FreedNameIsWritten, MissingComesFirst, NamesAtTheEnd, PaddedToASector, ReadersShareAName, TakenNameStays, TreeFailsWhole, TreesFailAlone, WholeSectorsStay};
 ghost use Rattle.zio_heal.specs.StoredCases.{ContentIsAnother, FaultHeals, LastingFaultLeaves, NameIsLeftOver, NoContentIsntAlike, ReplyIsMissing, RequestDidntEnd, SameWithoutFault, UnreadIsntAlike};
 ghost use Rattle.zio_heal.specs.WholeCases.{AskMayBeRefused, CopiesFailed, CopiesWritten, LeafMayFail, PartFailed, PartWritten, ReadIsNoWrite};
@@ -192,4 +193,19 @@ pub fn rounds_begin_and_end_safely()
     ensures made_nothing { MadeNothing }
     ensures idle_starts_safely { IdleStartsSafely }
     ensures unused_doesnt { UnusedDoesnt }
+    ensures idle_ends_safely { IdleEndsSafely }
+    ensures orphan_is_left { OrphanIsLeft }
+{}
+
+/// A run with a fault that heals meets all that the laws of healing ask for; sectors fit pointers up to the 2^48th; and
+/// two requests have one reply or not.
+pub fn runs_meet_what_healing_asks_for()
+    ensures sectors_fit { SectorsFit }
+    ensures one_more_doesnt { OneMoreDoesnt }
+    ensures fault_meets_premises { FaultMeetsPremises }
+    ensures wide_script_is_read { WideScriptIsRead }
+    ensures wide_fault_heals { WideFaultHeals }
+    ensures same_sector_isnt_lawful { SameSectorIsntLawful }
+    ensures same_read_twice { SameReadTwice }
+    ensures error_in_one_run { ErrorInOneRun }
 {}

@@ -11,13 +11,15 @@ ghost use Rattle.zio_script.specs.declared.script.Script.{Script};
 ghost use Rattle.zio_script.specs.declared.script.Work.TheVariants.{Write};
 ghost use Rattle.zio_script.specs.Bodies.{body_of};
 ghost use Rattle.zio_script.specs.Whys.{is_clear};
+ghost use Rattle.zio_script.specs.Grammar.{IsScriptOf};
 ghost use Rattle.zio_cksum.specs.Blocks.{read_block, read_pass, write_piece};
 ghost use Rattle.zio_cksum.specs.Frames.{FitSpots, HaveRoom, SameOutside, spots_of};
 ghost use Rattle.zio_cksum.specs.Images.{Images, Setting, Spot};
 ghost use Rattle.zio_gang.specs.declared.tree.Tree.{Tree};
 ghost use Rattle.zio_gang.specs.Attempts.{Pending, Terms, attempt_tree, own_work, writing_of};
-ghost use Rattle.zio_gang.specs.Journals.{AreLawful, choices_in};
+ghost use Rattle.zio_gang.specs.Journals.{AreLawful, IsLawfulJournal, choices_in};
 ghost use Rattle.zio_gang.specs.Rounds.{Bound, pending_trees, settle_each};
+ghost use Rattle.zio_gang.specs.Runs.{rounds_of, run_script};
 ghost use Rattle.zio_gang.specs.Trees.{free_tree, read_tree, sizes_of, tree_places};
 ghost use Rattle.zio_gang.specs.Writes.{Writing, content_of, place_part};
 ghost use Rattle.zio_trace.specs.Leaves.{HaveSizes};
@@ -29,15 +31,19 @@ ghost use Rattle.zio_trace.specs.RunTraces.{RoundStart, in_round, starts_of};
 ghost use Rattle.zio_trace.specs.Separate.{NoneMeet};
 ghost use Rattle.zio_trace.specs.SoundRounds.{IsOwnBlock};
 ghost use Rattle.zio_trace.specs.Tasks.{ReadCopies, ReadTree, Task, Test, Value, WriteCopies, WritePart, Wrote, good_by, got, means};
+ghost use Rattle.zio_report.specs.Meanings.{tops_of};
 ghost use Rattle.zio_heal.specs.Contents.{EachPiece, IsGivenGood, IsGivenIn, IsHeld};
 ghost use Rattle.zio_heal.specs.Copies.{AreElsewhere, HasCopy, IsPastFaults, StoresAsGiven, spots_in};
 ghost use Rattle.zio_heal.specs.Discipline.{AreUnfailing, EndWithoutError, IsUnfailing, MayNotFail};
 ghost use Rattle.zio_heal.specs.Given.{Deeds, IsTrueRead};
 ghost use Rattle.zio_heal.specs.Healed.{IsHealed, IsHealedRequest};
+ghost use Rattle.zio_heal.specs.PlainStore.{plain_store};
 ghost use Rattle.zio_heal.specs.Pools.{IsBlockSize, IsPool, IsWriting};
 ghost use Rattle.zio_heal.specs.SafeBlocks.{Contents};
 ghost use Rattle.zio_heal.specs.SafeRounds.{IsSafeEnd, IsSafeStart};
+ghost use Rattle.zio_heal.specs.SameAnswers.{AnswerAlike, IsHealingRun};
 ghost use Rattle.zio_heal.specs.Spared.{LieOn, SparesBy};
+ghost use Rattle.zio_heal.specs.StoredPlainly.{IsStoredPlainlyIfHealed};
 ghost use Rattle.zio_heal.specs.Whole.{AreWhole};
 
 /// Where no request may fail, whatever ends by being run ends without an error, in one attempt and in a round, and what
@@ -158,8 +164,8 @@ pub fn copies_are_found_once_faults_are_past()
 {}
 
 /// The own work of a write without error makes a tree: the header of each gang in it is kept, its bodies join to the
-/// content, of each piece one copy at least is held, and its bytes are those that were given last for its places. No two
-/// of its places meet, and none meets one that was in use.
+/// content, of each piece one copy at least is held, and its bytes are those that were given last for its places. No
+/// two of its places meet, and none meets one that was in use.
 pub fn placed_writes_have_their_pieces()
     ensures tree { (journal : List Choice) (t : Terms) (attempt : ℕ) (p : Pending) (name : List ℕ) (sum : SumKind)
         (copies : ℕ) (prio : Prio) (body : Body) (pointers : List (Option Bp)) (images : Images) →
@@ -182,7 +188,8 @@ pub fn placed_writes_have_their_pieces()
         IsPool sizes t.setting.tops → AreLawful (sizes_of t.setting.tops) t.used (choices_in t.round journal) →
         IsWriting p copies → IsBlockSize (length content) → own.error ≡ None → own.tree ≡ Some tree →
         p.request.work ≡ Write name sum copies prio body → (before : Deeds) →
-        EachPiece (IsGivenIn (before ++ map (in_round t) (own_trace is_single_or_piece journal t attempt p pointers images)))
+        EachPiece (IsGivenIn (before ++ map (in_round t)
+        (own_trace is_single_or_piece journal t attempt p pointers images)))
         tree content }
     ensures sound { (journal : List Choice) (t : Terms) (attempt : ℕ) (p : Pending) (name : List ℕ) (sum : SumKind)
         (copies : ℕ) (prio : Prio) (body : Body) (pointers : List (Option Bp)) (sizes : ℕ → ℕ) (images : Images)
@@ -201,8 +208,8 @@ pub fn placed_writes_have_their_pieces()
         own.tree ≡ Some tree → NoneMeet (tree_places tree) t.used }
 {}
 
-/// A block whose bodies are read as they were given last is read as its content, or not at all. Where each of its pieces
-/// is held and no row is met any more, it is read without error, and so is what a free of it reads.
+/// A block whose bodies are read as they were given last is read as its content, or not at all. Where each of its
+/// pieces is held and no row is met any more, it is read without error, and so is what a free of it reads.
 pub fn blocks_are_read_as_their_content()
     ensures content { (journal : List Choice) (t : Terms) (before : Deeds) (tree : Tree) (content : List ℕ)
         (images : Images) →
@@ -210,10 +217,12 @@ pub fn blocks_are_read_as_their_content()
         AllByRecursion (λ (d : Deed Task Value). IsTrueRead before d.op d.answer)
         (task_trace is_single_or_piece journal t (ReadTree tree) images) →
         IfOk (read_tree t.setting tree images).found (λ (bytes : List ℕ). bytes ≡ content) }
-    ensures read { (s : Setting) (sizes : ℕ → ℕ) (used : List Place) (tree : Tree) (content : List ℕ) (images : Images) →
+    ensures read { (s : Setting) (sizes : ℕ → ℕ) (used : List Place) (tree : Tree) (content : List ℕ)
+        (images : Images) →
         IsPool sizes s.tops → IsPastFaults s → IsOwnBlock (sizes_of s.tops) used tree → HaveSizes sizes images →
         EachPiece (IsHeld s images) tree content → IsOk (read_tree s tree images).found }
-    ensures free { (s : Setting) (sizes : ℕ → ℕ) (used : List Place) (tree : Tree) (content : List ℕ) (images : Images) →
+    ensures free { (s : Setting) (sizes : ℕ → ℕ) (used : List Place) (tree : Tree) (content : List ℕ)
+        (images : Images) →
         IsPool sizes s.tops → IsPastFaults s → IsOwnBlock (sizes_of s.tops) used tree → HaveSizes sizes images →
         EachPiece (IsHeld s images) tree content → (free_tree s tree images).error ≡ None }
 {}
@@ -225,4 +234,24 @@ pub fn rounds_end_as_safely_as_they_start()
     ensures { (journal : List Choice) (sizes : ℕ → ℕ) (ds : Deeds) (contents : Contents) (children : ℕ → ℕ)
         (s : RoundStart) →
         IsSafeStart journal sizes ds contents children s → IsSafeEnd journal sizes ds contents children s }
+{}
+
+/// A script that heals is stored as by a plain store, whatever faults its table has: the run is complete, each request
+/// is answered alike, and the names that are bound in the end have alike contents.
+pub fn healed_scripts_store_plainly()
+    ensures { (text : List ℕ) (script : Script) (images : Images) (journal : List Choice) →
+        IsScriptOf text script →
+        IsLawfulJournal (sizes_of (tops_of script images))
+        (rounds_of (run_script script images journal).events) journal →
+        IsStoredPlainlyIfHealed script images journal }
+{}
+
+/// Two scripts with the same lines of requests, both of which heal, answer alike: with fault rows and without them,
+/// over whatever images, whatever places the two runs choose.
+pub fn healed_faults_leave_no_trace()
+    ensures { (first second : List ℕ) (script other : Script) (images others : Images) (journal choices : List Choice) →
+        IsScriptOf first script → IsScriptOf second other → other.items ≡ script.items →
+        IsHealingRun script images journal → IsHealingRun other others choices →
+        AnswerAlike (plain_store script).replies (run_script script images journal)
+        (run_script other others choices) }
 {}

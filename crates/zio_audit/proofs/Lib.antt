@@ -1,0 +1,12 @@
+pub mod AnswerLemmas
+pub mod CompletionLemmas
+pub mod Evaluation
+pub mod JudgeLemmas
+pub mod LeafLemmas
+pub mod MarkLemmas
+pub mod MatchLemmas
+pub mod MeetLemmas
+pub mod Members
+pub mod ShapeLemmas
+pub mod VerdictLemmas
+pub mod WorkedRuns

@@ -1,0 +1,12 @@
+//! Tests of what no clause says, over the parts of the audit.
+//!
+//! They stand here and not in the crate, since a crate with tests of its own is proved once more with them. There is
+//! nothing else in it.
+#![tactic(auto)]
+
+#[cfg(test)]
+mod completions;
+#[cfg(test)]
+mod judge;
+#[cfg(test)]
+mod matcher;

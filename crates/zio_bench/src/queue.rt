@@ -62,7 +62,7 @@ fn op_of(order: Order, ticket: u32) -> Op
         Order::Random => u64::from(ticket.wrapping_mul(2_654_435_761)),
     };
     Op {
-        ticket,
+        ticket: u64::from(ticket),
         write: true,
         at: place * u64::from(LEN),
         len: LEN,

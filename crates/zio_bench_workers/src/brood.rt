@@ -1,5 +1,3 @@
-ghost use Rattle.std.specs.Prelude.{◌≡◌, ◌+◌, ◌-◌, ◌^◌, ◌<◌, length, OnOk};
-
 use anyhow::Result;
 use std::alloc::Global;
 use zio_counts::Brood;
@@ -21,10 +19,7 @@ pub fn hand_in(alloc: Global, children: u32, times: u32) -> Result<u64> {
 }
 
 /// Adds a child and hands in its values. Whether it was missing between the two.
-fn one_child(brood: &mut Brood<u32, u64>, label: u32) -> Result<bool, NoMemory>
-    requires { length brood.old < 2 ^ 32 - 1 }
-    ensures { OnOk result (length brood.new ≡ length brood.old + 1) }
-{
+fn one_child(brood: &mut Brood<u32, u64>, label: u32) -> Result<bool, NoMemory> {
     let number = brood.add(ChildKind::Logical, u64::from(label))?;
     brood.ready(number, label);
     let missing = brood.missing(ChildKind::Logical, Phase::Done).is_some();

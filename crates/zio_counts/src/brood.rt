@@ -1,4 +1,4 @@
-ghost use Rattle.std.specs.Prelude.{◌≡◌, ◌+◌, ◌-◌, ◌^◌, ◌<◌, ◌≤◌, ◌∷◌, ◌++◌, [], length, IsTrue, IfOk, IfSome, OnOk, OnErr, None, nat_eq, ◌==◌, ℕ, option_copied, slice_get, slice_set};
+ghost use Rattle.std.specs.Prelude.{◌≡◌, ◌<◌, ◌∷◌, ◌++◌, [], length, IsTrue, IfOk, IfSome, OnOk, OnErr, None, nat_eq, ◌==◌, ℕ, option_copied, slice_get, slice_set};
 ghost use Rattle.std.specs.List.{position};
 ghost use Rattle.std.specs.Option.{option_and_then};
 ghost use Rattle.std.specs.Bool.{then_some};
@@ -17,12 +17,12 @@ use zio_types::{ChildKind, List, NoMemory, Phase};
 pub struct Brood<R, V> {
     children: Vec<Child<R, V>>,
     /// The first child with each label.
-    numbers: HashMap<u64, u32>,
+    numbers: HashMap<u64, usize>,
     firsts: Firsts,
 }
 
 impl<R, V> Model for Brood<R, V> {
-    ghost use Rattle.std.specs.Prelude.{List as Seq, ◌≡◌, ◌<◌, ◌^◌, length};
+    ghost use Rattle.std.specs.Prelude.{List as Seq, ◌≡◌};
     ghost use Rattle.zio_counts.specs.declared.child.Child.{Child};
     ghost use Rattle.zio_counts.specs.Broods.{IsIndex, firsts_of};
 
@@ -30,9 +30,7 @@ impl<R, V> Model for Brood<R, V> {
 
     ghost view = { λ b. b.children.items };
 
-    ghost invariant = { λ b.
-        (length b.children.items < 2 ^ 32) × (b.firsts ≡ firsts_of b.children.items)
-        × IsIndex b.numbers b.children.items };
+    ghost invariant = { λ b. (b.firsts ≡ firsts_of b.children.items) × IsIndex b.numbers b.children.items };
 }
 
 impl<R: Drop, V: Drop> Brood<R, V> {
@@ -48,87 +46,80 @@ impl<R: Drop, V: Drop> Brood<R, V> {
     }
 
     /// How many children were added.
-    pub fn len(&self) -> u32
+    pub fn len(&self) -> usize
         ensures { result ≡ length self.now }
     {
-        self.children.len() as u32
+        self.children.len()
     }
 
     /// Adds a child without values, and answers its number. Where memory is refused the children are as before.
-    pub fn add(&mut self, kind: ChildKind, label: u64) -> Result<u32, NoMemory>
-        requires { length self.old < 2 ^ 32 - 1 }
+    pub fn add(&mut self, kind: ChildKind, label: u64) -> Result<usize, NoMemory>
         ensures ok { OnOk result (self.new ≡ self.old ++ new_child kind label ∷ []) }
         ensures number { IfOk result (λ n. n ≡ length self.old) }
         ensures err { OnErr result (self.new ≡ self.old) }
     {
         let number = self.children.len();
         self.children.push(Child::new(kind, label))?;
-        if note_first(&mut self.numbers, label, number as u32).is_err() {
+        if note_first(&mut self.numbers, label, number).is_err() {
             self.children.pop();
             return Err(NoMemory);
         }
         self.firsts.step(kind, number);
-        Ok(number as u32)
+        Ok(number)
     }
 
     /// Hands in the ready value of a child that has none and isn't of kind vdev.
-    pub fn ready(&mut self, child: u32, value: R)
+    pub fn ready(&mut self, child: usize, value: R)
         requires { IsTrue (awaits Phase.Ready (slice_get self.old child)) }
         ensures { IfSome (slice_get self.old child) (λ c.
             self.new ≡ slice_set self.old child (record c { ready = Some value })) }
     {
-        let at = child as usize;
-        self.children[at].ready = Some(value);
-        let kind = self.children[at].kind;
-        self.firsts.pass(kind, Phase::Ready, at, &self.children);
+        self.children[child].ready = Some(value);
+        let kind = self.children[child].kind;
+        self.firsts.pass(kind, Phase::Ready, child, &self.children);
     }
 
     /// Hands in the done value of a child that has none.
-    pub fn done(&mut self, child: u32, value: V)
+    pub fn done(&mut self, child: usize, value: V)
         requires { IsTrue (awaits Phase.Done (slice_get self.old child)) }
         ensures { IfSome (slice_get self.old child) (λ c.
             self.new ≡ slice_set self.old child (record c { done = Some value })) }
     {
-        let at = child as usize;
-        self.children[at].done = Some(value);
-        let kind = self.children[at].kind;
-        self.firsts.pass(kind, Phase::Done, at, &self.children);
+        self.children[child].done = Some(value);
+        let kind = self.children[child].kind;
+        self.firsts.pass(kind, Phase::Done, child, &self.children);
     }
 
     /// The first child of the kind without a value for the phase, if there is one. A vdev child misses no ready value.
-    pub fn missing(&self, kind: ChildKind, phase: Phase) -> Option<u32>
+    pub fn missing(&self, kind: ChildKind, phase: Phase) -> Option<usize>
         ensures { result ≡ position (misses kind phase) self.now }
     {
         let count = self.children.len();
         let first = self.firsts.at(kind, phase, count);
-        if first < count {
-            Some(first as u32)
-        } else {
-            None
-        }
+        if first < count { Some(first) } else { None }
     }
 
     /// The first child with the label, if there is one.
-    pub fn find(&self, label: u64) -> Option<u32>
+    pub fn find(&self, label: u64) -> Option<usize>
         ensures { result ≡ position (has_label label) self.now }
     {
         self.numbers.get(&label).copied()
     }
 
     /// The ready value of a child, if it has one.
-    pub fn ready_value(&self, child: u32) -> Option<&R>
+    pub fn ready_value(&self, child: usize) -> Option<&R>
         requires { child < length self.now }
         ensures { option_copied result ≡ option_and_then (λ c. c.ready) (slice_get self.now child) }
     {
-        self.children[child as usize].ready.as_ref()
+        self.children[child].ready.as_ref()
     }
 
     /// The done value of a child, if it has one.
-    pub fn done_value(&self, child: u32) -> Option<&V>
+    pub fn done_value(&self, child: usize) -> Option<&V>
         requires { child < length self.now }
         ensures { option_copied result ≡ option_and_then (λ c. c.done) (slice_get self.now child) }
     {
-        self.children[child as usize].done.as_ref()
+        self.children[child].done.as_ref()
     }
 
     /// All children with their values.
@@ -140,7 +131,7 @@ impl<R: Drop, V: Drop> Brood<R, V> {
 }
 
 /// Notes the number of a label that has none yet.
-fn note_first(numbers: &mut HashMap<u64, u32>, label: u64, number: u32) -> Result<(), NoMemory>
+fn note_first(numbers: &mut HashMap<u64, usize>, label: u64, number: usize) -> Result<(), NoMemory>
     ensures ok { OnOk result ((other : ℕ) →
         get nat_eq numbers.new other ≡ first_or (get nat_eq numbers.old other) (then_some (label == other) number)) }
     ensures err { OnErr result (IsUnchanged numbers.old numbers.new) }

@@ -10,9 +10,6 @@ use std::marker::Model;
 use zio_script::Failmode;
 use zio_types::{Bits, ChildKind, Errno, Kind, Phase, worst};
 
-/// The most children of a kind that are not done.
-pub const OPEN_CHILDREN_MAX: u64 = 512;
-
 /// The counts of a request's children, the one on which it stalls, their errors and their bits.
 #[derive(Debug, Drop)]
 pub struct Counts {
@@ -69,7 +66,7 @@ impl Counts {
     ///
     /// The count of children that are not ready stands still at 2^64 - 1.
     pub fn add(&mut self, kind: ChildKind)
-        requires { counted kind Phase.Done self.old < OPEN_CHILDREN_MAX }
+        requires { counted kind Phase.Done self.old < count_end }
         ensures counts { self.new ≡ raised kind self.old }
         ensures event { (m : Machine) → Shows self.old m → count_of kind Phase.Ready m.children < count_end →
             Shows self.new (after (Added kind) m) }
@@ -154,7 +151,7 @@ impl Counts {
     }
 
     fn raise(&mut self, kind: ChildKind)
-        requires { counted kind Phase.Done self.old < OPEN_CHILDREN_MAX }
+        requires { counted kind Phase.Done self.old < count_end }
         ensures { self.new ≡ raised kind self.old }
     {
         match kind {

@@ -65,7 +65,7 @@ impl Firsts {
 
     /// A child without values was added behind `count` others.
     pub(crate) fn step(&mut self, kind: ChildKind, count: usize)
-        requires { count < 2 ^ 32 }
+        requires { count < usize.MAX }
         ensures { self.new ≡ all_stepped kind count self.old }
     {
         self.vdev_done = stepped(kind == ChildKind::Vdev, count, self.vdev_done);
@@ -95,7 +95,7 @@ impl Firsts {
 
 /// The first child without a value, where a new child without it or with it stands behind `count` others.
 fn stepped(misses: bool, count: usize, first: usize) -> usize
-    requires { count < 2 ^ 32 }
+    requires { count < usize.MAX }
     ensures { result ≡ stepped misses count first }
 {
     if first == count && !misses {

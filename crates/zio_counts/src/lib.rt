@@ -14,6 +14,6 @@ mod laws;
 
 pub use brood::Brood;
 pub use child::Child;
-pub use counts::{Counts, OPEN_CHILDREN_MAX};
+pub use counts::Counts;
 pub use decision::{REEXECUTIONS_MAX, all_bits};
 pub use laws::every_tally_shows_a_machine;

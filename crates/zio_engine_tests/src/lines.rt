@@ -6,21 +6,19 @@ use zio_turns::{FirstPicks, Line, Picks, SeedPicks, from_seed};
 use zio_types::NoMemory;
 
 /// Adds a value to both.
-fn push(line: &mut Line, plain: &mut Vec<u32>, value: u32) -> Result<(), NoMemory> {
-    if line.len() < u32::MAX {
-        line.push(value)?;
-        plain.push(value)?;
-    }
+fn push(line: &mut Line, plain: &mut Vec<usize>, value: usize) -> Result<(), NoMemory> {
+    line.push(value)?;
+    plain.push(value)?;
     Ok(())
 }
 
 /// Takes a picked value from both, which have to agree.
-fn take(rt: &impl Abort, line: &mut Line, plain: &mut Vec<u32>, picks: &mut SeedPicks) {
-    assert_eq!(rt; line.len() as usize, plain.len());
-    let waiting = line.len();
+fn take(rt: &impl Abort, line: &mut Line, plain: &mut Vec<usize>, picks: &mut SeedPicks) {
+    assert_eq!(rt; line.len(), plain.len());
+    let waiting = u32::try_from(line.len()).unwrap_or(0);
     if waiting > 0 {
-        let k = picks.pick(waiting);
-        assert_eq!(rt; line.take(k), plain.remove(k as usize));
+        let k = picks.pick(waiting) as usize;
+        assert_eq!(rt; line.take(k), plain.remove(k));
     }
 }
 

@@ -17,18 +17,17 @@ use Rattle.zio_trace.specs.Families.{Forest}
 use Rattle.zio_trace.specs.SoundRounds.{IsSoundRound}
 use Rattle.zio_frames.specs.Frames.{Flying}
 use Rattle.zio_frames.specs.Slots.{Slot}
-use Rattle.zio_stages.specs.Wholes.{AreTrees}
-use Rattle.zio_stages.specs.declared.waiting.UnfinishedRequest.{UnfinishedRequest}
 use Rattle.slab.specs.Slab.{Slab}
+use Rattle.zio_exchange.specs.Wholes.{AreTrees}
+use Rattle.zio_exchange.specs.declared.waiting.UnfinishedRequest.{UnfinishedRequest}
 use Rattle.zio_turns.specs.AtLeaves.{WaitsFor, key_of, keys_at, keys_of, waiting_at}
-use Rattle.zio_turns.specs.Desks.{IsDeskAt, Tells}
+use Rattle.zio_turns.specs.Desks.{IsDeskAt}
 use Rattle.zio_turns.specs.Entries.{top_at}
 use Rattle.zio_turns.specs.Ledgers.{Books, no_books}
 use Rattle.zio_turns.specs.Parts.{Nodes}
 use Rattle.zio_turns.specs.Rounds.{Before, KeepsRound, SoFar}
 use Rattle.zio_turns.specs.UnderTrees.{AreInStates, AreSettledWith, HaveBegun, IsInState, RunsSome, RunsTrees, StateIn, TreesBegin}
 use Rattle.zio_turns.specs.UnderTurns.{AreLent, TellNow}
-use Rattle.zio_turns.specs.declared.desk.Asked.{Asked}
 use Rattle.zio_turns.specs.declared.entry.TiedNode.{TiedNode}
 use Rattle.zio_turns.specs.declared.grounds.Grounds.{Grounds}
 use Rattle.zio_turns.specs.declared.trees.TreeEnd.{TreeEnd}
@@ -97,7 +96,7 @@ same_itself ps p = ((λ c. c), (λ c. c))
 
 module _ {D : Type 0} (bytes : D → ℕ) (image : D → List ℕ → Type 0) (g : Grounds D) (round : ℕ) (failmode : Failmode)
     (steady : IsSteadyGrounds {D = D} bytes g) where
-  desk_first : IsDeskAt (terms_on g failmode round) [] [] [] g.desk.tops g.desk.space g.desk.asked
+  desk_first : IsDeskAt (terms_on g failmode round) [] [] [] g.desk.tops g.desk.space
   desk_first =
       let live : List Place = g.desk.space.live in
       let kept : SamePlaces (live ++ g.desk.space.pending) live =
@@ -111,7 +110,7 @@ module _ {D : Type 0} (bytes : D → ℕ) (image : D → List ℕ → Type 0) (g
           used_are = kept;
           lawful = tt;
         };
-        tells = subst (λ (asked : Asked). Tells asked [] []) (sym steady.none_asked) (refl, refl);
+        either = inl refl;
         claim = record { free = refl; inside = tt };
         live = subst (λ (ps : List Place). IsPermutation (live ++ ps) (live ++ [])) (sym steady.none_pending)
             (IsPermutation-refl (live ++ []));
@@ -127,9 +126,9 @@ module _ {D : Type 0} (bytes : D → ℕ) (image : D → List ℕ → Type 0) (g
     setting_is = refl;
     desk = subst
         (λ (es : List Choice). IsDeskAt
-        (terms_on g failmode round) es now.books.claimed now.books.back g.desk.tops g.desk.space g.desk.asked)
+        (terms_on g failmode round) es now.books.claimed now.books.back g.desk.tops g.desk.space)
         (sym none)
-        (subst (λ (b : Books). IsDeskAt (terms_on g failmode round) [] b.claimed b.back g.desk.tops g.desk.space g.desk.asked)
+        (subst (λ (b : Books). IsDeskAt (terms_on g failmode round) [] b.claimed b.back g.desk.tops g.desk.space)
         (sym empty) desk_first);
     waits = λ leaf.
         subst (λ (ws : List AtLeaf). AllByRecursion (λ (w : AtLeaf). WaitsFor leaf (now.ops (key_of w)) w) ws)

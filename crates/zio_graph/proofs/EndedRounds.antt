@@ -25,10 +25,10 @@ use Rattle.zio_sound.proofs.Leaving.{round_left}
 use Rattle.zio_sound.proofs.Linked.{round_linked}
 use Rattle.zio_sound.proofs.Oracled.{answered_settled}
 use Rattle.zio_sound.proofs.SettledRounds.{settled_round}
-use Rattle.zio_stages.specs.Waits.{pendings}
-use Rattle.zio_stages.specs.Wholes.{IsWhole}
-use Rattle.zio_stages.specs.declared.outcome.Finished.{Finished}
-use Rattle.zio_stages.specs.declared.waiting.UnfinishedRequest.{UnfinishedRequest}
+use Rattle.zio_exchange.specs.Waits.{pendings}
+use Rattle.zio_exchange.specs.Wholes.{IsWhole}
+use Rattle.zio_exchange.specs.declared.waiting.UnfinishedRequest.{UnfinishedRequest}
+use Rattle.zio_exchange.specs.declared.outcome.FinishedRequest.{FinishedRequest}
 use Rattle.zio_turns.specs.Ledgers.{AreToldAs, Ending, all_ended}
 use Rattle.zio_turns.specs.Parts.{Nodes}
 use Rattle.zio_turns.specs.Rounds.{Before}
@@ -60,7 +60,7 @@ use Rattle.zio_graph.proofs.WholeBlocks.{sound_whole, told_whole}
 
 -- ---- what is told
 
-told_are : (ended : List Finished) (done : List Ending) → AreToldAs ended done
+told_are : (ended : List FinishedRequest) (done : List Ending) → AreToldAs ended done
     → map told_of ended ≡ map finished_of (all_ended done)
 told_are [] [] h = refl
 told_are [] (x ∷ xs) h = absurd h
@@ -71,7 +71,7 @@ told_are (f ∷ fs) (x ∷ xs) h =
     (λ i. record { request = sym e.number i; error = sym e.error i; bytes = sym e.bytes i; tree = sym e.tree i }) in
     (λ i. first i ∷ told_are fs xs h.1 i)
 
-completed_are : (round : ℕ) (ended : List Finished) → map (completion_of round) ended ≡ map (completion_for round)
+completed_are : (round : ℕ) (ended : List FinishedRequest) → map (completion_of round) ended ≡ map (completion_for round)
     (map told_of ended)
 completed_are round [] = refl
 completed_are round (f ∷ fs) = ap (λ (cs : List Completion). completion_of round f ∷ cs) (completed_are round fs)
@@ -90,7 +90,7 @@ module _ {N D : Type 0} (nodes : Nodes N) (bytes faults : D → ℕ) (image : D 
     (failmode : Failmode) (steady : IsSteadyGrounds {D = D} bytes g) (wholes : List (List UnfinishedRequest))
     (runs : AreRunnable (standing_on faults g) (map pendings wholes))
     (job : IsSoundJob (terms_on g failmode round) (size_at (map bytes g.disks.items)) wholes) (now : Grounds D)
-    (states : List TreeState) (ended : List Finished) (count : length states ≡ length wholes) where
+    (states : List TreeState) (ended : List FinishedRequest) (count : length states ≡ length wholes) where
   -- so it is, whether images are told or not
   abbrev Over : Before → Type 0
   Over before = HasEnded {N = N} {D = D} nodes bytes image (terms_on g failmode round)
@@ -185,14 +185,13 @@ module _ {N D : Type 0} (nodes : Nodes N) (bytes faults : D → ℕ) (image : D 
             let desk = h.runs.going.lent.desk in
             let tops = now.desk.tops in
             let st = now.desk.space in
-            let asked = now.desk.asked in
             leaves_in_use (standing_on faults g) t job.forest
             (map pendings wholes) h.now.books.done finished st.live job.lists runs l.each by_number
-            (made_within {N = N} nodes t job.forest h.now h.slab tops st asked l desk)
-            (made_open {N = N} nodes t job.forest h.now h.slab tops st asked l desk)
+            (made_within {N = N} nodes t job.forest h.now h.slab tops st l desk)
+            (made_open {N = N} nodes t job.forest h.now h.slab tops st l desk)
             (λ p. live_where {N = N} nodes t sizes job.forest h.now h.slab st h.runs.sound l desk.live desk.pending_are
             (found_are {N = N} nodes t sizes job.forest before h.now h.slab h.over.state h.over.kept l)
-            (found_once t h.now tops st asked desk steady.once) p)
+            (found_once t h.now tops st desk steady.once) p)
 
         module _ (left : List (List UnfinishedRequest)) (is_left : left ≡ left_in states) (completions : List Completion)
             (are_completed : completions ≡ map (completion_of round) ended) (entries : List Choice)

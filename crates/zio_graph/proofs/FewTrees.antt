@@ -5,10 +5,10 @@ use Rattle.std.proofs.lemmas.Bool.{and_parts, leb-true}
 use Rattle.zio_script.specs.declared.limits.TheConstants.{NUMBER_MAX}
 use Rattle.zio_course.specs.Runners.{AreRunnable, Standing}
 use Rattle.zio_children.specs.RequestKids.{RiseFrom}
-use Rattle.zio_stages.specs.Waits.{pendings}
-use Rattle.zio_stages.specs.Wholes.{number_or, roots_in}
-use Rattle.zio_stages.specs.declared.waiting.UnfinishedRequest.{UnfinishedRequest}
-use Rattle.zio_stages.proofs.WholeLemmas.{root_number_is}
+use Rattle.zio_exchange.specs.Waits.{pendings}
+use Rattle.zio_exchange.specs.Wholes.{number_or, roots_in}
+use Rattle.zio_exchange.specs.declared.waiting.UnfinishedRequest.{UnfinishedRequest}
+use Rattle.zio_exchange.proofs.WholeLemmas.{root_number_is}
 use Rattle.zio_graph.specs.EngineTrees.{IsEngineTree}
 use Rattle.zio_graph.proofs.NewTrees.{over_rises}
 

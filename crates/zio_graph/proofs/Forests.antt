@@ -7,10 +7,10 @@ use Rattle.zio_trace.specs.Families.{Forest, NoTrees, TreeOf, flat}
 use Rattle.zio_trace.specs.Rounds.{trees_in as trees_of}
 use Rattle.zio_course.specs.Runners.{root_of, roots_of}
 use Rattle.zio_sound.specs.Linked.{AreLinked}
-use Rattle.zio_stages.specs.Waits.{pendings}
-use Rattle.zio_stages.specs.Wholes.{AreTrees, IsTreeOf}
-use Rattle.zio_stages.specs.declared.waiting.UnfinishedRequest.{UnfinishedRequest}
-use Rattle.zio_stages.proofs.ForestLemmas.{forest_flat}
+use Rattle.zio_exchange.specs.Waits.{pendings}
+use Rattle.zio_exchange.specs.Wholes.{AreTrees, IsTreeOf}
+use Rattle.zio_exchange.specs.declared.waiting.UnfinishedRequest.{UnfinishedRequest}
+use Rattle.zio_exchange.proofs.ForestLemmas.{forest_flat}
 use Rattle.zio_graph.specs.EngineTrees.{AreSound, IsEngineTree}
 
 -- ---- one tree

@@ -20,7 +20,6 @@ use Rattle.zio_turns.specs.AtLeaves.{keys_at, no_waits}
 use Rattle.zio_turns.specs.Grounds.{AreReady}
 use Rattle.zio_turns.specs.Ledgers.{AreOnce}
 use Rattle.zio_turns.specs.ShortTops.{AreShort}
-use Rattle.zio_turns.specs.declared.desk.Asked.TheVariants.{Nothing}
 use Rattle.zio_turns.specs.declared.grounds.Grounds.{Grounds}
 use Rattle.zio_turns.proofs.KeyTimes.{none_wait}
 use Rattle.zio_graph.specs.Graphs.{AreReadyGrounds, CanRun}
@@ -50,7 +49,6 @@ pub record AreNew {D : Type 0} (bytes : D → ℕ) (s : Setting) (disks : List D
   pub disks_are : g.disks.items ≡ disks
   pub tops_are : g.desk.tops ≡ tops
   pub space : g.desk.space ≡ record { sizes = sizes_of tops; live = []; pending = []; entries = []; spare = 0 }
-  pub asked : g.desk.asked ≡ Nothing
   pub leaves : g.queues.leaves.items ≡ replicate (length disks) no_waits
   pub ready : AreReady g.setting.rows (map bytes g.disks.items) g.queues.leaves.items
 
@@ -66,7 +64,6 @@ new_ready {D} bytes s disks tops g is can new =
         sizes_are = ap (λ (st : SpaceState). st.sizes) new.space ∙ ap (λ (ts : List Top). sizes_of ts) (is ∙ to);
         none_pending = ap (λ (st : SpaceState). st.pending) new.space;
         none_made = ap (λ (st : SpaceState). st.entries) new.space;
-        none_asked = new.asked;
         inside = subst (AllByRecursion (λ (p : Place). IsTrue (is_inside (sizes_of g.setting.tops) p))) live tt;
         once = subst AreOnce live none_once;
         ready = new.ready;
@@ -115,7 +112,6 @@ begun_ready {D} bytes point old new b h =
       sizes_are = s.sizes_are;
       none_pending = s.none_pending;
       none_made = s.none_made;
-      none_asked = s.none_asked;
       inside = s.inside;
       once = s.once;
       ready = s.ready;

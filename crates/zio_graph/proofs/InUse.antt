@@ -24,7 +24,7 @@ use Rattle.zio_course.proofs.MadePlaces.{made_append}
 use Rattle.zio_course.proofs.ItemLemmas.{any_in, any_out, filtered_in, filtered_out, found_one, image_of, of_part, one_found, part_of}
 use Rattle.zio_course.proofs.MadePlaces.{made_inside, made_open, made_same}
 use Rattle.zio_course.proofs.NumberSorts.{all_moved}
-use Rattle.zio_stages.specs.Outcomes.{freed_if, freed_of}
+use Rattle.zio_exchange.specs.Outcomes.{freed_if, freed_of}
 use Rattle.zio_turns.specs.Ledgers.{Ending, IsEnding, all_ended, freed_for, freed_in, made_for, made_in}
 use Rattle.zio_graph.specs.InUse.{LeavesInUse}
 use Rattle.zio_graph.specs.RoundEnds.{IsByNumber}

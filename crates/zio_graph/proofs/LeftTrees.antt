@@ -18,11 +18,11 @@ use Rattle.zio_disks.specs.Whole.{IsWholeTree}
 use Rattle.zio_course.specs.Runners.{AreRestsOf, IsRestOf, IsSamePending, joined_trees}
 use Rattle.zio_children.specs.RequestKids.{child_of}
 use Rattle.zio_sound.specs.Linked.{AreLinked}
-use Rattle.zio_stages.specs.Waits.{pending_of, pendings}
-use Rattle.zio_stages.specs.Wholes.{IsWhole, Shape, shape_of, shapes, trees_in}
-use Rattle.zio_stages.specs.declared.waiting.UnfinishedRequest.{UnfinishedRequest}
-use Rattle.zio_stages.proofs.ForestLemmas.{one_forest}
-use Rattle.zio_stages.proofs.WholeLemmas.{OnlyTree, only_tree}
+use Rattle.zio_exchange.specs.Waits.{pending_of, pendings}
+use Rattle.zio_exchange.specs.Wholes.{IsWhole, Shape, shape_of, shapes, trees_in}
+use Rattle.zio_exchange.specs.declared.waiting.UnfinishedRequest.{UnfinishedRequest}
+use Rattle.zio_exchange.proofs.ForestLemmas.{one_forest}
+use Rattle.zio_exchange.proofs.WholeLemmas.{OnlyTree, only_tree}
 use Rattle.zio_nodes.proofs.TreeAtLemmas.{all_split}
 use Rattle.zio_graph.specs.EngineTrees.{AreSound, HasThree, IsEngineTree, IsSoundPending, IsWithinLimits}
 use Rattle.zio_graph.proofs.Lefts.{IsLinkedForest}

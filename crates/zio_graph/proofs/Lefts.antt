@@ -12,11 +12,11 @@ use Rattle.zio_frames.specs.Running.{all_heard}
 use Rattle.zio_frames.specs.Slots.{Heard}
 use Rattle.zio_sound.specs.Leaving.{AreSettled}
 use Rattle.zio_sound.specs.Linked.{AreLinked, LeaveLinked}
-use Rattle.zio_stages.specs.Waits.{pendings}
-use Rattle.zio_stages.specs.Wholes.{AreTrees, IsForestOf, root_number, trees_in}
-use Rattle.zio_stages.specs.declared.waiting.UnfinishedRequest.{UnfinishedRequest}
-use Rattle.zio_stages.proofs.ForestLemmas.{forest_flat}
-use Rattle.zio_stages.proofs.WholeLemmas.{trees_count}
+use Rattle.zio_exchange.specs.Waits.{pendings}
+use Rattle.zio_exchange.specs.Wholes.{AreTrees, IsForestOf, root_number, trees_in}
+use Rattle.zio_exchange.specs.declared.waiting.UnfinishedRequest.{UnfinishedRequest}
+use Rattle.zio_exchange.proofs.ForestLemmas.{forest_flat}
+use Rattle.zio_exchange.proofs.WholeLemmas.{trees_count}
 use Rattle.zio_turns.specs.Attempting.{Course, settled_with}
 use Rattle.zio_turns.specs.Entries.{standing, top_at}
 use Rattle.zio_turns.specs.UnderTrees.{AreInStates, AreSettledWith, IsInState, IsLeftOf, StateIn}

@@ -18,10 +18,10 @@ use Rattle.zio_disks.specs.Whole.{IsWholeTree}
 use Rattle.zio_trace.specs.Families.{Forest}
 use Rattle.zio_course.specs.Runners.{AreRisingFrom, IsChild, IsNewTree, joined_trees, numbers_of, roots_of, tree_over}
 use Rattle.zio_children.specs.RequestKids.{RiseFrom}
-use Rattle.zio_stages.specs.Waits.{fresh, pending_of, pendings}
-use Rattle.zio_stages.specs.Wholes.{AreTrees, IsTreeOf, joined, number_or, roots_in, trees_in}
-use Rattle.zio_stages.specs.declared.waiting.UnfinishedRequest.{UnfinishedRequest}
-use Rattle.zio_stages.proofs.WholeLemmas.{root_number_is, trees_count}
+use Rattle.zio_exchange.specs.Waits.{fresh, pending_of, pendings}
+use Rattle.zio_exchange.specs.Wholes.{AreTrees, IsTreeOf, joined, number_or, roots_in, trees_in}
+use Rattle.zio_exchange.specs.declared.waiting.UnfinishedRequest.{UnfinishedRequest}
+use Rattle.zio_exchange.proofs.WholeLemmas.{root_number_is, trees_count}
 use Rattle.zio_nodes.specs.TreeAts.{is_childless}
 use Rattle.zio_graph.specs.EngineTrees.{HasThree, IsEngineTree}
 use Rattle.zio_graph.proofs.Forests.{AreEngineForest, forest_of, roots_by, tree_root}

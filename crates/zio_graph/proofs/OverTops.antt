@@ -28,14 +28,14 @@ use Rattle.zio_children.specs.RequestKids.{child_of}
 use Rattle.zio_trace.proofs.BlockPieces.{kept_head}
 use Rattle.zio_disks.specs.Whole.{IsWholeTree}
 use Rattle.zio_course.specs.Runners.{AreRunnable, Standing, joined_trees, named_places, places_of_block}
+use Rattle.zio_exchange.specs.Waits.{pendings}
+use Rattle.zio_exchange.specs.Wholes.{Shape, shape_of, shapes}
+use Rattle.zio_exchange.specs.declared.waiting.UnfinishedRequest.{UnfinishedRequest}
 use Rattle.zio_stages.specs.HeadsNodes.{HasLeaves, IsHeadOn, LiesOn}
 use Rattle.zio_stages.specs.OwnReads.{IsBodyOn}
 use Rattle.zio_stages.specs.PartWorks.{HaveUnits}
 use Rattle.zio_stages.specs.RequestOwns.{IsBlockOn, IsPieceOn}
 use Rattle.zio_stages.specs.Tops.{AreTops, IsTop}
-use Rattle.zio_stages.specs.Waits.{pendings}
-use Rattle.zio_stages.specs.Wholes.{Shape, shape_of, shapes}
-use Rattle.zio_stages.specs.declared.waiting.UnfinishedRequest.{UnfinishedRequest}
 use Rattle.zio_stages.proofs.HeadsTops.{io_places, some_places}
 use Rattle.zio_nodes.specs.TreeAts.{IsRequestInside, IsTreeOver}
 use Rattle.zio_nodes.proofs.TreeAtLemmas.{all_split}

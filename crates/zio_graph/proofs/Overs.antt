@@ -9,9 +9,9 @@ use Rattle.zio_trace.specs.Leaves.{HaveSizes}
 use Rattle.zio_course.specs.Runners.{AreRunnable, DiffersInRound, Standing}
 use Rattle.zio_disks.proofs.TellLemmas.{told_count}
 use Rattle.zio_course.proofs.ItemLemmas.{same_length}
-use Rattle.zio_stages.specs.Waits.{pendings}
-use Rattle.zio_stages.specs.declared.outcome.Finished.{Finished}
-use Rattle.zio_stages.specs.declared.waiting.UnfinishedRequest.{UnfinishedRequest}
+use Rattle.zio_exchange.specs.Waits.{pendings}
+use Rattle.zio_exchange.specs.declared.waiting.UnfinishedRequest.{UnfinishedRequest}
+use Rattle.zio_exchange.specs.declared.outcome.FinishedRequest.{FinishedRequest}
 use Rattle.slab.specs.Slab.{Slab}
 use Rattle.zio_turns.specs.Ledgers.{AreToldAs, Books, Ending}
 use Rattle.zio_turns.specs.Parts.{Nodes}
@@ -73,7 +73,7 @@ module _ {N D : Type 0} (nodes : Nodes N) (bytes faults : D → ℕ) (image : D 
     (failmode : Failmode) (steady : IsSteadyGrounds {D = D} bytes g) (wholes : List (List UnfinishedRequest)) where
   -- it ran from its first attempts on
   pub ends_on : (slab slab_now : Slab (TiedNode N)) (line line_now : List ℕ) (now : Grounds D) (states settled : List TreeState)
-      (first ended : List Finished) → TreesBegin {N = N} nodes slab line round failmode wholes states []
+      (first ended : List FinishedRequest) → TreesBegin {N = N} nodes slab line round failmode wholes states []
       → states ≡ replicate (length wholes) (UnderWay 0) → first ≡ []
       → RunsToEnd {N = N} {D = D} nodes bytes image slab line g states first slab_now line_now now settled ended round failmode
       → EndsOn {N = N} {D = D} nodes bytes image g now round failmode wholes settled ended
@@ -82,7 +82,7 @@ module _ {N D : Type 0} (nodes : Nodes N) (bytes faults : D → ℕ) (image : D 
       images sound
       trees is tell in
       let r = runs (terms_on g failmode round) (size_at (map bytes g.disks.items)) f before b.now b.runs in
-      let all : ended ≡ r.0.others = r.0.ended_are ∙ ap (λ (fs : List Finished). fs ++ r.0.others) none in
+      let all : ended ≡ r.0.others = r.0.ended_are ∙ ap (λ (fs : List FinishedRequest). fs ++ r.0.others) none in
       let done : r.0.now.books.done ≡ r.0.done = r.0.done_are ∙ ap (λ (x : Books). x.done ++ r.0.done) b.books_are in
       record {
         slab = slab_now;
@@ -90,7 +90,7 @@ module _ {N D : Type 0} (nodes : Nodes N) (bytes faults : D → ℕ) (image : D 
         now = r.0.now;
         runs = r.0.runs;
         over = r.1;
-        told = subst (λ (fs : List Finished). AreToldAs fs r.0.now.books.done) (sym all)
+        told = subst (λ (fs : List FinishedRequest). AreToldAs fs r.0.now.books.done) (sym all)
             (subst (λ (xs : List Ending). AreToldAs r.0.others xs) (sym done) r.0.done_told);
       }
 
@@ -122,7 +122,7 @@ module _ {N D : Type 0} (nodes : Nodes N) (bytes faults : D → ℕ) (image : D 
         (k.0, k.1, loose_from now before k.0 told k.1 same k.2)
 
     -- where it is over
-    pub differs_over : (now : Grounds D) (states : List TreeState) (ended : List Finished) (before : Images)
+    pub differs_over : (now : Grounds D) (states : List TreeState) (ended : List FinishedRequest) (before : Images)
         → (h : HasEnded {N = N} {D = D} nodes bytes image (terms_on g failmode round)
         (size_at (map bytes g.disks.items)) job.forest (Some before)
         now round failmode states ended) → Tell image g.disks.items before → map bytes now.disks.items ≡ map bytes g.disks.items
@@ -133,7 +133,7 @@ module _ {N D : Type 0} (nodes : Nodes N) (bytes faults : D → ℕ) (image : D 
         (size_at (map bytes g.disks.items)) job.forest before h.now h.slab
         h.line now h.runs.sound h.runs.going (sizes_told {D = D} bytes image has g.disks.items before told))
 
-    pub loose_over : (now : Grounds D) (states : List TreeState) (ended : List Finished)
+    pub loose_over : (now : Grounds D) (states : List TreeState) (ended : List FinishedRequest)
         → EndsOn {N = N} {D = D} nodes bytes image g now round failmode wholes states ended
         → map bytes now.disks.items ≡ map bytes g.disks.items
         → TellLoose {D = D} image (standing_on faults g) (map pendings wholes) g.disks.items now.disks.items

@@ -32,7 +32,7 @@ use Rattle.zio_trace.specs.Underway.{AreAnswered, plan_each}
 use Rattle.zio_disks.specs.Whole.{IsWholeTree}
 use Rattle.zio_blocks.specs.Blocks.{HavePointers}
 use Rattle.zio_sound.proofs.Oracled.{at_place, map_at, then_at}
-use Rattle.zio_stages.specs.Wholes.{trees_in}
+use Rattle.zio_exchange.specs.Wholes.{trees_in}
 use Rattle.zio_graph.proofs.OwnBlocks.{MakesWhole, MayMake, MaySpell, own_made}
 
 -- ---- what holds of trees, and of what they leave

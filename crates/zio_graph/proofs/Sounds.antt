@@ -24,8 +24,8 @@ use Rattle.zio_disks.proofs.ClaimLemmas.{members_valid}
 use Rattle.zio_course.specs.Runners.{AreRunnable, Standing, joined_trees, terms_at}
 use Rattle.zio_sound.proofs.Linked.{linked_families}
 use Rattle.zio_sound.proofs.SoundRounds.{runnable_once, runnable_sound}
-use Rattle.zio_stages.specs.Waits.{pendings}
-use Rattle.zio_stages.specs.declared.waiting.UnfinishedRequest.{UnfinishedRequest}
+use Rattle.zio_exchange.specs.Waits.{pendings}
+use Rattle.zio_exchange.specs.declared.waiting.UnfinishedRequest.{UnfinishedRequest}
 use Rattle.zio_graph.specs.EngineTrees.{AreSound}
 use Rattle.zio_graph.specs.EngineTrees.{IsEngineTree}
 use Rattle.zio_graph.specs.Jobs.{IsSoundJob, size_at}

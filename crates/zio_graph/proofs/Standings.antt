@@ -20,10 +20,10 @@ use Rattle.zio_disks.specs.Disks.{Tell}
 use Rattle.zio_blocks.specs.Blocks.{HavePointers}
 use Rattle.zio_course.specs.declared.runner.RoundEnd.{RoundEnd}
 use Rattle.zio_course.specs.Runners.{AreRunnable, DiffersInRound, IsRound, IsRoundEnd, SeenEnd, Standing, StandsAfter, StoppedAfter, ended_seen, terms_at}
+use Rattle.zio_exchange.specs.Waits.{pendings}
+use Rattle.zio_exchange.specs.declared.waiting.UnfinishedRequest.{UnfinishedRequest}
 use Rattle.zio_stages.specs.PartWorks.{HaveUnits}
-use Rattle.zio_stages.specs.Waits.{pendings}
-use Rattle.zio_stages.specs.declared.outcome.Finished.{Finished}
-use Rattle.zio_stages.specs.declared.waiting.UnfinishedRequest.{UnfinishedRequest}
+use Rattle.zio_exchange.specs.declared.outcome.FinishedRequest.{FinishedRequest}
 use Rattle.zio_nodes.specs.TreeAts.{IsRequestInside, IsTreeOver}
 use Rattle.zio_turns.specs.declared.grounds.Grounds.{Grounds}
 use Rattle.zio_graph.specs.Ends.{told_of}
@@ -100,7 +100,7 @@ idle_ends s round trees end h = record {
 -- ---- a round over the grounds is one of the engine
 
 -- a round's end, with the trees that are left as they stand between rounds
-pub record IsSeenEnd (e : RoundEnd (List UnfinishedRequest) Finished) (end : RoundEnd (List Pending) Finished) : Type 0 where
+pub record IsSeenEnd (e : RoundEnd (List UnfinishedRequest) FinishedRequest) (end : RoundEnd (List Pending) FinishedRequest) : Type 0 where
   pub finished : end.finished ≡ e.finished
   pub left : end.left ≡ map pendings e.left
   pub completions : end.completions ≡ e.completions
@@ -109,7 +109,7 @@ pub record IsSeenEnd (e : RoundEnd (List UnfinishedRequest) Finished) (end : Rou
 abbrev pub as_trees : List (List Pending) → List (List Pending)
 as_trees trees = map (λ (tree : List Pending). tree) trees
 
-seen_same : (e : RoundEnd (List UnfinishedRequest) Finished) (end : RoundEnd (List Pending) Finished) → IsSeenEnd e end
+seen_same : (e : RoundEnd (List UnfinishedRequest) FinishedRequest) (end : RoundEnd (List Pending) FinishedRequest) → IsSeenEnd e end
     → ended_seen pendings told_of e ≡ ended_seen (λ (tree : List Pending). tree) told_of end
 seen_same e end h =
     let left : map pendings e.left ≡ as_trees end.left = sym h.left ∙ sym (map-id end.left) in
@@ -177,7 +177,7 @@ module _ {D : Type 0} (faults : D → ℕ) (image : D → List ℕ → Type 0) (
         (subst (λ (ts : List (List Pending)). TellLoose {D = D} image (idle (standing_of faults p)) ts g.disks.items now) given
         (subst (λ (s : Standing). TellLoose {D = D} image s (map pendings wholes) g.disks.items now) known h))
 
-    module _ (e : RoundEnd (List UnfinishedRequest) Finished) (end : RoundEnd (List Pending) Finished) (seen : IsSeenEnd e end) where
+    module _ (e : RoundEnd (List UnfinishedRequest) FinishedRequest) (end : RoundEnd (List Pending) FinishedRequest) (seen : IsSeenEnd e end) where
       pub round_seen : (failmode : Failmode) (round : ℕ) (now : List D)
           → RunsAs {D = D} image (standing_on faults g) failmode round g.setting.point (map pendings wholes) g.disks.items now
           (ended_seen pendings told_of e)
@@ -218,7 +218,7 @@ module _ {D : Type 0} (faults : D → ℕ) (image : D → List ℕ → Type 0) (
       stands_seen round now h kept steady =
           let s : Standing = idle (standing_of faults p) in
           let leaves : LeavesInUse s (as_trees trees) (map told_of end.finished) now.desk.space.live =
-          subst (λ (fs : List Finished). LeavesInUse s (as_trees trees) (map told_of fs) now.desk.space.live) (sym seen.finished)
+          subst (λ (fs : List FinishedRequest). LeavesInUse s (as_trees trees) (map told_of fs) now.desk.space.live) (sym seen.finished)
           (subst (λ (ts : List (List Pending)). LeavesInUse s ts (map told_of e.finished) now.desk.space.live) given
           (subst (λ (r : Standing). LeavesInUse r (map pendings wholes) (map told_of e.finished) now.desk.space.live) known h)) in
           record {

@@ -1,6 +1,6 @@
 -- The grounds are steady again once a round is over and ended.
-use Rattle.std.proofs.Common.{◌≡◌, ℕ, ◌≤◌, List, [], ◌∷◌, ◌++◌, length, map, Option, Some, None, IsTrue, refl, sym, ap, ◌∙◌, subst, arith}
-use Rattle.std.specs.Prelude.{Contains, ◌^◌}
+use Rattle.std.proofs.Common.{◌≡◌, ℕ, List, [], ◌∷◌, ◌++◌, length, map, Option, Some, None, IsTrue, refl, sym, ap, ◌∙◌, subst, arith}
+use Rattle.std.specs.Prelude.{Contains}
 use Rattle.std.specs.List.{AllByRecursion}
 use Rattle.std.proofs.lemmas.List.Elements.{Contains-append_left}
 use Rattle.zio_types.specs.declared.place.Place.{Place}
@@ -26,7 +26,7 @@ use Rattle.zio_disks.specs.Trees.{HasSectors}
 use Rattle.zio_blocks.specs.Blocks.{HavePointers}
 use Rattle.zio_frames.specs.Frames.{Flying}
 use Rattle.slab.specs.Slab.{Slab}
-use Rattle.zio_stages.specs.declared.outcome.Finished.{Finished}
+use Rattle.zio_exchange.specs.declared.outcome.FinishedRequest.{FinishedRequest}
 use Rattle.zio_turns.specs.AtLeaves.{keys_at}
 use Rattle.zio_turns.specs.Desks.{IsDeskAt}
 use Rattle.zio_turns.specs.Engine.{Matches}
@@ -37,8 +37,6 @@ use Rattle.zio_turns.specs.Parts.{Nodes}
 use Rattle.zio_turns.specs.Rounds.{Before, KeepsRound, SoFar}
 use Rattle.zio_turns.specs.Slabs.{shelf_of}
 use Rattle.zio_turns.specs.UnderTrees.{IsOver}
-use Rattle.zio_turns.specs.declared.desk.Asked.{Asked}
-use Rattle.zio_turns.specs.declared.desk.Asked.TheVariants.{Nothing}
 use Rattle.zio_turns.specs.declared.entry.TiedNode.{TiedNode}
 use Rattle.zio_turns.specs.declared.grounds.Grounds.{Grounds}
 use Rattle.zio_turns.specs.declared.trees.TreeState.{TreeState}
@@ -88,8 +86,8 @@ over_waits {N} nodes t sizes f before s slab line leaves keeps over = no_keys le
 abbrev IsIn : List Top → Place → Type 0
 IsIn tops p = IsTrue (is_inside (sizes_of tops) p)
 
-module _ (t : Terms) (entries : List Choice) (claimed back : List Place) (tops : List Top) (st : SpaceState) (asked : Asked)
-    (desk : IsDeskAt t entries claimed back tops st asked) where
+module _ (t : Terms) (entries : List Choice) (claimed back : List Place) (tops : List Top) (st : SpaceState)
+    (desk : IsDeskAt t entries claimed back tops st) where
   live_once : AreOnce (t.used ++ found_so_far entries claimed) → AreOnce st.live
   live_once once = λ p.
       let w : Place → ℕ = λ q. one_if (is_same_place p q) in
@@ -105,7 +103,7 @@ module _ (t : Terms) (entries : List Choice) (claimed back : List Place) (tops :
       all_weaker (Contains st.live) (IsIn t.setting.tops) st.live
       (λ p c. all_contains (IsIn t.setting.tops) (t.used ++ found_so_far entries claimed) p
       (all_append (IsIn t.setting.tops) t.used (found_so_far entries claimed) inside
-      (found_inside t entries claimed back tops st asked desk))
+      (found_inside t entries claimed back tops st desk))
       (contains-same (st.live ++ st.pending) (t.used ++ found_so_far entries claimed)
       (totals_moved (st.live ++ st.pending) (t.used ++ found_so_far entries claimed) desk.live) p
       (Contains-append_left st.live st.pending p c)))
@@ -116,7 +114,6 @@ module _ (t : Terms) (entries : List Choice) (claimed back : List Place) (tops :
 -- what ending a round leaves
 pub record HasClosed {D : Type 0} (old new : Grounds D) : Type 0 where
   pub space : new.desk.space ≡ record old.desk.space { pending = []; entries = []; spare = 0 }
-  pub asked : new.desk.asked ≡ Nothing
   pub tops : new.desk.tops ≡ old.desk.tops
   pub setting : new.setting ≡ old.setting
   pub disks : new.disks.items ≡ old.disks.items
@@ -124,7 +121,7 @@ pub record HasClosed {D : Type 0} (old new : Grounds D) : Type 0 where
 
 pub still_steady : {N D : Type 0} (nodes : Nodes N) (bytes : D → ℕ) (image : D → List ℕ → Type 0) (g now last : Grounds D)
     (round : ℕ)
-    (failmode : Failmode) (f : Forest) (before : Before) (states : List TreeState) (ended : List Finished)
+    (failmode : Failmode) (f : Forest) (before : Before) (states : List TreeState) (ended : List FinishedRequest)
     → IsSteadyGrounds {D = D} bytes g
     → HasEnded {N = N} {D = D} nodes bytes image (terms_on g failmode round)
     (size_at (map bytes g.disks.items)) f before now round failmode
@@ -144,14 +141,13 @@ still_steady {N} {D} nodes bytes image g now last round failmode f before states
           (lent.desk.desk.sizes_are ∙ ap (λ (ts : List Top). sizes_of ts) tops);
       none_pending = ap (λ (st : SpaceState). st.pending) closed.space;
       none_made = ap (λ (st : SpaceState). st.entries) closed.space;
-      none_asked = closed.asked;
       inside = subst (λ (ts : List Top). AllByRecursion (IsIn ts) last.desk.space.live) tops
           (subst (AllByRecursion (IsIn g.setting.tops)) live
-          (live_inside t h.now.entries h.now.books.claimed h.now.books.back now.desk.tops now.desk.space now.desk.asked lent.desk
+          (live_inside t h.now.entries h.now.books.claimed h.now.books.back now.desk.tops now.desk.space lent.desk
           steady.inside));
       once = subst AreOnce live
-          (live_once t h.now.entries h.now.books.claimed h.now.books.back now.desk.tops now.desk.space now.desk.asked lent.desk
-          (found_once t h.now now.desk.tops now.desk.space now.desk.asked lent.desk steady.once));
+          (live_once t h.now.entries h.now.books.claimed h.now.books.back now.desk.tops now.desk.space lent.desk
+          (found_once t h.now now.desk.tops now.desk.space lent.desk steady.once));
       ready = subst (λ (s : Setting). AreReady s.rows (map bytes last.disks.items) last.queues.leaves.items) (sym closed.setting)
           (subst (λ (ds : List D). AreReady now.setting.rows (map bytes ds) last.queues.leaves.items) (sym closed.disks)
           (subst (AreReady now.setting.rows (map bytes now.disks.items)) (sym closed.queues) lent.ready));

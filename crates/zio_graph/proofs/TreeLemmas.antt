@@ -4,8 +4,8 @@ use Rattle.std.specs.List.{AllByRecursion}
 use Rattle.std.proofs.lemmas.List.{append-nil, append_assoc, length-reverse, map-append, reverse-append, reverse-reverse}
 use Rattle.zio_cksum.proofs.AllLemmas.{all_append}
 use Rattle.zio_gang.specs.Attempts.{Pending}
-use Rattle.zio_stages.specs.Waits.{pendings}
-use Rattle.zio_stages.specs.declared.waiting.UnfinishedRequest.{UnfinishedRequest}
+use Rattle.zio_exchange.specs.Waits.{pendings}
+use Rattle.zio_exchange.specs.declared.waiting.UnfinishedRequest.{UnfinishedRequest}
 use Rattle.zio_graph.specs.EngineTrees.{IsEngineTree}
 
 -- the first of the trees were opened, and these are left

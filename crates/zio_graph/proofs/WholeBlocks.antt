@@ -23,7 +23,7 @@ use Rattle.zio_disks.specs.Whole.{IsWholeTree}
 use Rattle.zio_blocks.specs.Blocks.{HavePointers}
 use Rattle.zio_course.specs.declared.runner.RequestEnd.{RequestEnd}
 use Rattle.zio_course.specs.Runners.{finished_of, made_trees}
-use Rattle.zio_stages.specs.Wholes.{trees_in}
+use Rattle.zio_exchange.specs.Wholes.{trees_in}
 use Rattle.zio_graph.specs.EngineTrees.{AreSound, IsSoundPending}
 use Rattle.zio_graph.proofs.OwnBlocks.{MayMake, MaySpell}
 use Rattle.zio_graph.proofs.RoundBlocks.{AreMaking, EndsWhole, KeepsSpelled, round_whole}

@@ -14,8 +14,8 @@ use Rattle.zio_trace.specs.Families.{Forest, NoTrees, TreeOf}
 use Rattle.zio_disks.specs.Whole.{IsWholeTree}
 use Rattle.zio_children.specs.declared.kept.KeptChild.{KeptChild}
 use Rattle.zio_sound.specs.Linked.{AreLinked}
-use Rattle.zio_stages.specs.Wholes.{IsTreeOf, trees_in}
-use Rattle.zio_stages.specs.declared.waiting.UnfinishedRequest.{UnfinishedRequest}
+use Rattle.zio_exchange.specs.Wholes.{IsTreeOf, trees_in}
+use Rattle.zio_exchange.specs.declared.waiting.UnfinishedRequest.{UnfinishedRequest}
 use Rattle.zio_nodes.specs.TreeAts.{is_childless}
 
 -- a pointer as it is held has room for three places

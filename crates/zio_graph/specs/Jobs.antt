@@ -5,9 +5,9 @@ use Rattle.zio_trace.specs.Families.{Forest}
 use Rattle.zio_trace.specs.Rounds.{trees_in}
 use Rattle.zio_trace.specs.SoundRounds.{IsSoundRound}
 use Rattle.zio_sound.specs.Linked.{AreLinked}
-use Rattle.zio_stages.specs.Waits.{pendings}
-use Rattle.zio_stages.specs.Wholes.{AreTrees}
-use Rattle.zio_stages.specs.declared.waiting.UnfinishedRequest.{UnfinishedRequest}
+use Rattle.zio_exchange.specs.Waits.{pendings}
+use Rattle.zio_exchange.specs.Wholes.{AreTrees}
+use Rattle.zio_exchange.specs.declared.waiting.UnfinishedRequest.{UnfinishedRequest}
 use Rattle.zio_graph.specs.EngineTrees.{AreSound}
 
 -- each leaf is as large as its disk

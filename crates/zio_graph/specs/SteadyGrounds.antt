@@ -15,18 +15,16 @@ use Rattle.zio_turns.specs.AtLeaves.{keys_at}
 use Rattle.zio_turns.specs.Grounds.{AreReady}
 use Rattle.zio_turns.specs.Ledgers.{AreOnce}
 use Rattle.zio_turns.specs.ShortTops.{AreShort}
-use Rattle.zio_turns.specs.declared.desk.Asked.TheVariants.{Nothing}
 use Rattle.zio_turns.specs.declared.grounds.Grounds.{Grounds}
 
--- What holds between two rounds: the space is that of the tops, whose places stand in pointers, and nothing was asked of it; the
--- places in use lie inside the tops, each once; nothing waits at a leaf; no leaf stands twice in the tops, each is on a disk that
--- has its sectors, and a queue can take what lies on the tops.
+-- What holds between two rounds: the space is that of the tops, whose places stand in pointers, and has no entry; the places in use
+-- lie inside the tops, each once; nothing waits at a leaf; no leaf stands twice in the tops, each is on a disk that has its sectors,
+-- and a queue can take what lies on the tops.
 pub record IsSteadyGrounds {D : Type 0} (bytes : D → ℕ) (g : Grounds D) : Type 0 where
   pub tops_are : g.desk.tops ≡ g.setting.tops
   pub sizes_are : g.desk.space.sizes ≡ sizes_of g.setting.tops
   pub none_pending : g.desk.space.pending ≡ []
   pub none_made : g.desk.space.entries ≡ []
-  pub none_asked : g.desk.asked ≡ Nothing
   pub inside : AllByRecursion (λ (p : Place). IsTrue (is_inside (sizes_of g.setting.tops) p)) g.desk.space.live
   pub once : AreOnce g.desk.space.live
   pub ready : AreReady g.setting.rows (map bytes g.disks.items) g.queues.leaves.items

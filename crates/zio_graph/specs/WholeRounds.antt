@@ -7,9 +7,9 @@ use Rattle.zio_gang.specs.Attempts.{Pending, Terms}
 use Rattle.zio_trace.specs.Families.{Forest}
 use Rattle.zio_trace.specs.SoundRounds.{IsSoundRound}
 use Rattle.zio_course.specs.Runners.{DiffersInRound, Standing}
-use Rattle.zio_stages.specs.Wholes.{AreTrees}
-use Rattle.zio_stages.specs.declared.outcome.Finished.{Finished}
-use Rattle.zio_stages.specs.declared.waiting.UnfinishedRequest.{UnfinishedRequest}
+use Rattle.zio_exchange.specs.Wholes.{AreTrees}
+use Rattle.zio_exchange.specs.declared.waiting.UnfinishedRequest.{UnfinishedRequest}
+use Rattle.zio_exchange.specs.declared.outcome.FinishedRequest.{FinishedRequest}
 use Rattle.slab.specs.Slab.{Slab}
 use Rattle.zio_turns.specs.Ledgers.{AreToldAs}
 use Rattle.zio_turns.specs.Parts.{Nodes}
@@ -27,7 +27,7 @@ use Rattle.zio_graph.specs.SteadyGrounds.{terms_on}
 -- The round is over. It came to this over what is lent now, with its trees so far, and these requests finished in this order.
 pub record HasEnded {N D : Type 0} (nodes : Nodes N) (bytes : D → ℕ) (image : D → List ℕ → Type 0) (t : Terms) (sizes : ℕ → ℕ)
     (f : Forest) (before : Before) (g : Grounds D) (round : ℕ) (failmode : Failmode) (states : List TreeState)
-    (ended : List Finished) : Type 0 where
+    (ended : List FinishedRequest) : Type 0 where
   pub slab : Slab (TiedNode N)
   pub line : List ℕ
   pub now : SoFar
@@ -37,7 +37,7 @@ pub record HasEnded {N D : Type 0} (nodes : Nodes N) (bytes : D → ℕ) (image 
 
 -- so does each sound round of these trees that begins over these grounds
 abbrev pub EndsOn : {N D : Type 0} → Nodes N → (D → ℕ) → (D → List ℕ → Type 0) → Grounds D → Grounds D → ℕ → Failmode
-    → List (List UnfinishedRequest) → List TreeState → List Finished → Type 0
+    → List (List UnfinishedRequest) → List TreeState → List FinishedRequest → Type 0
 EndsOn {N = N} {D = D} nodes bytes image g now round failmode wholes states ended =
     (f : Forest) (before : Before) (images : Images) →
     IsSoundRound (terms_on g failmode round) (size_at (map bytes g.disks.items)) f → AreTrees wholes f →

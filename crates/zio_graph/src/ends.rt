@@ -4,12 +4,12 @@ ghost use Rattle.std.specs.Prelude.{◌≡◌, ◌++◌, IfOk, IsPermutation, On
 ghost use Rattle.std.specs.List.{AllByRecursion};
 ghost use Rattle.std.specs.List.Sorted.{IsNonDecreasingBy};
 ghost use Rattle.zio_course.specs.declared.runner.RequestEnd.{RequestEnd as Told};
-ghost use Rattle.zio_stages.specs.Wholes.{IsWhole};
+ghost use Rattle.zio_exchange.specs.Wholes.{IsWhole};
 ghost use Rattle.zio_graph.specs.Ends.{completion_of, left_by, left_in, told_of};
 
 use std::alloc::Global;
 use zio_course::RequestEnd;
-use zio_stages::{Finished, Whole};
+use zio_exchange::{Finished, Whole};
 use zio_turns::{TreeEnd, TreeState};
 use zio_types::{Completion, List, NoMemory};
 
@@ -43,10 +43,10 @@ fn note_left(left: &mut Vec<Whole>, tree: TreeState) -> Result<(), NoMemory>
 }
 
 /// One for each request that finished, in the same order.
-pub(crate) fn completions_of(
+pub(crate) fn completions_of<S>(
     alloc: Global,
     round: u32,
-    ended: &[Finished],
+    ended: &[Finished<S>],
 ) -> Result<List<Completion>, NoMemory>
     ensures { IfOk result (λ completions. completions ≡ map (completion_of round) ended.now) }
 {
@@ -62,7 +62,7 @@ pub(crate) fn completions_of(
 }
 
 /// By number.
-pub(crate) fn by_number(ended: Vec<Finished>) -> List<Finished>
+pub(crate) fn by_number<S: Drop>(ended: Vec<Finished<S>>) -> List<Finished<S>>
     ensures same { IsPermutation (map told_of ended.items) (map told_of result) }
     ensures order { IsNonDecreasingBy (λ (f : Told). f.request) (map told_of result) }
 {
@@ -72,7 +72,7 @@ pub(crate) fn by_number(ended: Vec<Finished>) -> List<Finished>
 }
 
 /// What is told of a request.
-pub(crate) fn told_of(finished: Finished) -> RequestEnd
+pub(crate) fn told_of<S: Drop>(finished: Finished<S>) -> RequestEnd
     ensures { result ≡ told_of finished }
 {
     let (request, error, bytes, tree) = finished.into_parts();

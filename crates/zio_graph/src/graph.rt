@@ -39,8 +39,8 @@ use zio_stages::Finished;
 use zio_turns::{DisksBack, Grounds, Picks};
 use zio_types::{List, Top};
 
-/// Runs rounds of trees of requests, whose nodes take turns in whatever order is picked. Contracts see it as its setting, its
-/// disks and the places in use, the number of its last round, and whether a round was stopped.
+/// Runs rounds of trees of requests, whose nodes take turns in whatever order is picked. Contracts see it as its
+/// setting, its disks and the places in use, the number of its last round, and whether a round was stopped.
 #[derive(Drop)]
 pub struct Graph<D: Disk + Drop, P: Picks + Drop> {
     grounds: Grounds<D>,
@@ -67,8 +67,8 @@ impl<D: Disk + Drop, P: Picks + Drop> Model for Graph<D, P> {
 }
 
 impl<D: Disk + Drop, P: Picks + Drop> Graph<D, P> {
-    /// Over disks that bear the tops, with all of these free. The tops are those of the setting. Where memory is refused the
-    /// disks come back, and the rest is dropped.
+    /// Over disks that bear the tops, with all of these free. The tops are those of the setting. Where memory is
+    /// refused the disks come back, and the rest is dropped.
     pub fn new(
         alloc: Global,
         setting: Setting,
@@ -92,8 +92,8 @@ impl<D: Disk + Drop, P: Picks + Drop> Graph<D, P> {
         })
     }
 
-    /// Makes a tree of a request and its children's trees, for the batch of this number. A read or a free is given the block
-    /// that it names. Where memory is refused the children's trees come back.
+    /// Makes a tree of a request and its children's trees, for the batch of this number. A read or a free is given the
+    /// block that it names. Where memory is refused the children's trees come back.
     pub fn tree(
         &self,
         request: &Request,
@@ -120,12 +120,15 @@ impl<D: Disk + Drop, P: Picks + Drop> Graph<D, P> {
         ensures round { IfOk result (λ end. (before : Images) → Tell D.image self.old.disks before → (after : Images)
             × Tell D.image self.new.disks after
             × IsRound (terms_at (standing_of D.faults self.old) job.failmode job.round job.point)
-            (map (λ (tree : Seq Pending). tree) job.trees) before after (ended_seen (λ (tree : Seq Pending). tree) told_of end)
-            × DiffersInRound (standing_of D.faults self.old) (map (λ (tree : Seq Pending). tree) job.trees) before after) }
+            (map (λ (tree : Seq Pending). tree) job.trees) before after
+            (ended_seen (λ (tree : Seq Pending). tree) told_of end)
+            × DiffersInRound (standing_of D.faults self.old)
+            (map (λ (tree : Seq Pending). tree) job.trees) before after) }
         ensures end { IfOk result (λ end. IsRoundEnd (standing_of D.faults self.old) job.round
             (map (λ (tree : Seq Pending). tree) job.trees) (ended_seen (λ (tree : Seq Pending). tree) told_of end)) }
         ensures fits { IfOk result (λ end. AllByRecursion IsWholeTree (made_trees (map told_of end.finished))) }
-        ensures stands { IfOk result (λ end. StandsAfter (standing_of D.faults self.old) (standing_of D.faults self.new) job.round
+        ensures stands { IfOk result (λ end. StandsAfter (standing_of D.faults self.old)
+            (standing_of D.faults self.new) job.round
             (map (λ (tree : Seq Pending). tree) job.trees) (ended_seen (λ (tree : Seq Pending). tree) told_of end)) }
         ensures stopped { OnErr result
             (StoppedAfter (standing_of D.faults self.old) (standing_of D.faults self.new) job.round) }
@@ -133,8 +136,10 @@ impl<D: Disk + Drop, P: Picks + Drop> Graph<D, P> {
         ensures calm { IsErrOf result Memory → map D.faults self.new.disks ≡ map D.faults self.old.disks }
         ensures images { OnErr result ((before : Images) → Tell D.image self.old.disks before → (after : Images)
             × Tell D.image self.new.disks after
-            × DiffersInRound (standing_of D.faults self.old) (map (λ (tree : Seq Pending). tree) job.trees) before after) }
-        ensures same { AreSameDisks D.bytes D.faults D.faults_at_fetch D.home D.image D.sound self.old.disks self.new.disks }
+            × DiffersInRound (standing_of D.faults self.old)
+            (map (λ (tree : Seq Pending). tree) job.trees) before after) }
+        ensures same { AreSameDisks D.bytes D.faults D.faults_at_fetch D.home D.image D.sound self.old.disks
+            self.new.disks }
     {
         let Job {
             round,

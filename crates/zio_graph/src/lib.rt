@@ -1,8 +1,8 @@
-//! The engine on one thread: `Graph` makes trees of requests and runs rounds of them, in whatever order is picked. It is a
-//! `Runner` of `zio_course`, so scripts run on it.
+//! The engine on one thread: `Graph` makes trees of requests and runs rounds of them, in whatever order is picked. It
+//! is a `Runner` of `zio_course`, so scripts run on it.
 //!
-//! It stands on `zio_turns`, which runs the trees of a round over any nodes, on `zio_nodes`, whose nodes these are, and on
-//! `zio_sound`, which says what such a round is to a script.
+//! It stands on `zio_turns`, which runs the trees of a round over any nodes, on `zio_nodes`, whose nodes these are, and
+//! on `zio_sound`, which says what such a round is to a script.
 #![tactic(auto)]
 
 mod ends;

@@ -85,20 +85,24 @@ impl<D: Disk + Drop, P: Picks + Drop> Runner for Graph<D, P> {
         ensures round { IfOk result (λ end. (before : Images) → Tell D.image self.old.disks before → (after : Images)
             × Tell D.image self.new.disks after
             × IsRound (terms_at (standing_of D.faults self.old) job.failmode job.round job.point)
-            (map (λ (tree : List Pending). tree) job.trees) before after (ended_seen (λ (tree : List Pending). tree) told_of end)
-            × DiffersInRound (standing_of D.faults self.old) (map (λ (tree : List Pending). tree) job.trees) before after) }
+            (map (λ (tree : List Pending). tree) job.trees) before after
+            (ended_seen (λ (tree : List Pending). tree) told_of end)
+            × DiffersInRound (standing_of D.faults self.old)
+            (map (λ (tree : List Pending). tree) job.trees) before after) }
         ensures end { IfOk result (λ end. IsRoundEnd (standing_of D.faults self.old) job.round
             (map (λ (tree : List Pending). tree) job.trees) (ended_seen (λ (tree : List Pending). tree) told_of end)) }
         ensures fits { IfOk result (λ end. AllByRecursion IsWholeTree (made_trees (map told_of end.finished))) }
         ensures stands { IfOk result (λ end. StandsAfter (standing_of D.faults self.old) (standing_of D.faults self.new)
-            job.round (map (λ (tree : List Pending). tree) job.trees) (ended_seen (λ (tree : List Pending). tree) told_of end)) }
+            job.round (map (λ (tree : List Pending). tree) job.trees)
+            (ended_seen (λ (tree : List Pending). tree) told_of end)) }
         ensures stopped { OnErr result
             (StoppedAfter (standing_of D.faults self.old) (standing_of D.faults self.new) job.round) }
         ensures device { IsErrOf result Device → AnyRose (map D.faults self.old.disks) (map D.faults self.new.disks) }
         ensures calm { IsErrOf result Memory → map D.faults self.new.disks ≡ map D.faults self.old.disks }
         ensures images { OnErr result ((before : Images) → Tell D.image self.old.disks before → (after : Images)
             × Tell D.image self.new.disks after
-            × DiffersInRound (standing_of D.faults self.old) (map (λ (tree : List Pending). tree) job.trees) before after) }
+            × DiffersInRound (standing_of D.faults self.old)
+            (map (λ (tree : List Pending). tree) job.trees) before after) }
         ensures same { AreSameDisks D.bytes D.faults D.faults_at_fetch D.home D.image D.sound self.old.disks
             self.new.disks }
     {
@@ -111,7 +115,8 @@ impl<D: Disk + Drop, P: Picks + Drop> Runner for Graph<D, P> {
 
     ghost use Rattle.zio_disks.proofs.DiskLemmas.{same_itself as disks_itself, same_then as disks_then};
 
-    ghost same_then = { λ a b c first second. disks_then D.bytes D.faults D.faults_at_fetch D.home D.image D.sound a.disks
+    ghost same_then = { λ a b c first second. disks_then D.bytes D.faults D.faults_at_fetch D.home D.image D.sound
+        a.disks
         b.disks c.disks first second };
 
     ghost same_itself = { λ a. disks_itself D.bytes D.faults D.faults_at_fetch D.home D.image D.sound a.disks };

@@ -5,17 +5,17 @@ ghost use Rattle.std.specs.List.{AllByRecursion};
 ghost use Rattle.zio_gang.specs.Attempts.{Pending};
 ghost use Rattle.zio_disks.specs.Whole.{IsWholeTree};
 ghost use Rattle.zio_course.specs.Runners.{IsNewTree, fresh, tree_over};
-ghost use Rattle.zio_stages.specs.Waits.{pendings};
 ghost use Rattle.zio_gang.specs.declared.tree.Tree.{Tree as SeenTree};
+ghost use Rattle.zio_exchange.specs.Waits.{pendings};
 ghost use Rattle.zio_graph.specs.EngineTrees.{HasThree, IsEngineTree};
 
 use std::alloc::Global;
 use std::marker::Model;
 use zio_blkptr::Bp;
 use zio_course::ChildrenBack;
+use zio_exchange::Whole;
 use zio_gang::Tree;
 use zio_script::Request;
-use zio_stages::Whole;
 use zio_types::{List, NoMemory, Place};
 
 /// A tree of requests that haven't finished: each child's tree by number, then the request itself.
@@ -27,7 +27,7 @@ pub struct EngineTree {
 impl Model for EngineTree {
     ghost use Rattle.std.specs.Prelude.{List};
     ghost use Rattle.zio_gang.specs.Attempts.{Pending};
-    ghost use Rattle.zio_stages.specs.Waits.{pendings};
+    ghost use Rattle.zio_exchange.specs.Waits.{pendings};
 
     ghost Value = { List Pending };
 

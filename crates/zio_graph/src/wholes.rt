@@ -7,8 +7,8 @@ ghost use Rattle.zio_disks.specs.Disks.{AnyRose, AreSameDisks, Tell};
 ghost use Rattle.zio_disks.specs.Whole.{IsWholeTree};
 ghost use Rattle.zio_course.specs.declared.runner.Stop.TheVariants.{Device};
 ghost use Rattle.zio_course.specs.Runners.{AreRunnable, DiffersInRound, IsRound, IsRoundEnd, ended_seen, made_trees, terms_at};
-ghost use Rattle.zio_stages.specs.Waits.{pendings};
-ghost use Rattle.zio_stages.specs.declared.waiting.UnfinishedRequest.{UnfinishedRequest};
+ghost use Rattle.zio_exchange.specs.Waits.{pendings};
+ghost use Rattle.zio_exchange.specs.declared.waiting.UnfinishedRequest.{UnfinishedRequest};
 ghost use Rattle.zio_turns.specs.UnderTrees.{StateIn};
 ghost use Rattle.zio_graph.specs.Ends.{told_of};
 ghost use Rattle.zio_graph.specs.EngineTrees.{IsEngineTree, IsWithinLimits};
@@ -19,30 +19,32 @@ ghost use Rattle.zio_graph.specs.WholeRounds.{EndsOn, TellLoose};
 use crate::ends::{by_number, completions_of, left_of};
 use zio_course::{RoundEnd, Stop};
 use zio_disks::Stop as DiskStop;
+use zio_exchange::{Finished, Whole};
 use zio_outside::Disk;
 use zio_script::Failmode;
-use zio_stages::{Finished, Whole};
 use zio_turns::{Grounds, Picks, Staged, TreeState, Turns, begin_trees, run_trees};
 use zio_types::List;
 
 /// Runs a round of these trees, in whatever order is picked, until each finished or is suspended.
 ///
-/// It is stopped by a device exactly where a disk's count of faults rose, else for want of memory; then the grounds aren't
-/// to be used for a round.
+/// It is stopped by a device exactly where a disk's count of faults rose, else for want of memory; then the grounds
+/// aren't to be used for a round.
 pub(crate) fn run_wholes<N: Staged, D: Disk + Drop, P: Picks>(
     grounds: &mut Grounds<D>,
     picks: &mut P,
     round: u32,
     failmode: Failmode,
     wholes: List<Whole>,
-) -> Result<RoundEnd<Whole, Finished>, Stop>
+) -> Result<RoundEnd<Whole, Finished<N::Seal>>, Stop>
     requires steady { IsSteadyGrounds D.bytes grounds.old }
     requires trees { AllByRecursion IsEngineTree wholes }
     requires runs { AreRunnable (standing_on D.faults grounds.old) (map pendings wholes) }
     requires over { AllByRecursion (N.tree_over grounds.old.setting.tops) wholes }
-    ensures round { IfOk result (λ end. (before : Images) → Tell D.image grounds.old.disks.items before → (after : Images)
+    ensures round { IfOk result (λ end. (before : Images) → Tell D.image grounds.old.disks.items before
+        → (after : Images)
         × Tell D.image grounds.new.disks.items after
-        × IsRound (terms_at (standing_on D.faults grounds.old) failmode round grounds.old.setting.point) (map pendings wholes)
+        × IsRound (terms_at (standing_on D.faults grounds.old) failmode round grounds.old.setting.point)
+        (map pendings wholes)
         before after (ended_seen pendings told_of end)
         × DiffersInRound (standing_on D.faults grounds.old) (map pendings wholes) before after) }
     ensures end { IfOk result (λ end. IsRoundEnd (standing_on D.faults grounds.old) round (map pendings wholes)
@@ -51,7 +53,8 @@ pub(crate) fn run_wholes<N: Staged, D: Disk + Drop, P: Picks>(
     ensures stands { IfOk result (λ end. LeavesInUse (standing_on D.faults grounds.old) (map pendings wholes)
         (map told_of end.finished)
         grounds.new.desk.space.live) }
-    ensures left { ((whole : Seq UnfinishedRequest) → N.tree_over grounds.old.setting.tops whole → AllByRecursion IsWithinLimits whole) →
+    ensures left { ((whole : Seq UnfinishedRequest) → N.tree_over grounds.old.setting.tops whole
+        → AllByRecursion IsWithinLimits whole) →
         IfOk result (λ end. AllByRecursion IsEngineTree end.left) }
     ensures over { IfOk result (λ end. AllByRecursion (N.tree_over grounds.old.setting.tops) end.left) }
     ensures steady { OnOk result (IsSteadyGrounds D.bytes grounds.new) }
@@ -83,11 +86,11 @@ pub(crate) fn run_wholes<N: Staged, D: Disk + Drop, P: Picks>(
 
 /// How a round's trees ended.
 #[derive(Drop)]
-struct TreesEnd {
+struct TreesEnd<S> {
     /// Each is settled.
     trees: Vec<TreeState>,
     /// In the order in which the requests finished.
-    ended: Vec<Finished>,
+    ended: Vec<Finished<S>>,
 }
 
 /// Runs the trees until each is settled.
@@ -97,7 +100,7 @@ fn run_to_end<N: Staged, D: Disk + Drop, P: Picks>(
     round: u32,
     failmode: Failmode,
     wholes: List<Whole>,
-) -> Result<TreesEnd, Stop>
+) -> Result<TreesEnd<N::Seal>, Stop>
     requires steady { IsSteadyGrounds D.bytes grounds.old }
     requires trees { AllByRecursion IsEngineTree wholes }
     requires runs { AreRunnable (standing_on D.faults grounds.old) (map pendings wholes) }
@@ -105,7 +108,8 @@ fn run_to_end<N: Staged, D: Disk + Drop, P: Picks>(
     ensures ends { IfOk result (λ end. EndsOn N.nodes D.bytes D.image grounds.old grounds.new round failmode wholes
         end.trees.items end.ended.items) }
     ensures count { IfOk result (λ end. length end.trees.items ≡ length wholes) }
-    ensures over { IfOk result (λ end. AllByRecursion (StateIn (N.tree_over grounds.old.setting.tops)) end.trees.items) }
+    ensures over { IfOk result (λ end. AllByRecursion
+        (StateIn (N.tree_over grounds.old.setting.tops)) end.trees.items) }
     ensures faults { OnOk result (map D.faults grounds.new.disks.items ≡ map D.faults grounds.old.disks.items) }
     ensures images { TellLoose D.image (standing_on D.faults grounds.old) (map pendings wholes) grounds.old.disks.items
         grounds.new.disks.items }

@@ -23,7 +23,7 @@ use zio_vqueue::{Group, Op, VQueue};
 pub struct LeafQueue {
     queue: VQueue,
     /// What a queued write writes, by its ticket.
-    kept: HashMap<u32, Bytes>,
+    kept: HashMap<u64, Bytes>,
 }
 
 impl Model for LeafQueue {
@@ -69,7 +69,7 @@ impl LeafQueue {
 
     /// Whether an operation with this ticket waits: no two have one ticket. Each ends on a device and has no more bytes
     /// to write than its range.
-    pub fn has(&self, ticket: u32) -> bool
+    pub fn has(&self, ticket: u64) -> bool
         ensures waits { result ≡ is_queued ticket (ops_of self.now.waiting) }
         ensures apart { AreApart (ops_of self.now.waiting) }
         ensures fit { AllByRecursion IsFit self.now.waiting }
@@ -124,7 +124,7 @@ fn next_group(queue: &mut VQueue) -> Result<Group, Stop>
 }
 
 /// Keeps the bytes of a write.
-fn keep(kept: &mut HashMap<u32, Bytes>, op: &Op, bytes: Bytes) -> Result<(), NoMemory>
+fn keep(kept: &mut HashMap<u64, Bytes>, op: &Op, bytes: Bytes) -> Result<(), NoMemory>
     ensures bytes { OnOk result (kept_with (get nat_eq kept.new) op.now ≡ waiting_with op.now bytes) }
     ensures others { (ticket : ℕ) → ticket ≢ op.now.ticket → get nat_eq kept.new ticket ≡ get nat_eq kept.old ticket }
     ensures err { OnErr result ((ticket : ℕ) → get nat_eq kept.new ticket ≡ get nat_eq kept.old ticket) }
@@ -138,7 +138,7 @@ fn keep(kept: &mut HashMap<u32, Bytes>, op: &Op, bytes: Bytes) -> Result<(), NoM
 /// The operations, each with its bytes, which are kept no more.
 fn take_kept(
     alloc: Global,
-    kept: &mut HashMap<u32, Bytes>,
+    kept: &mut HashMap<u64, Bytes>,
     ops: &[Op],
 ) -> Result<List<QueuedOp>, Stop>
     requires apart { AreApart ops.now }
@@ -158,7 +158,7 @@ fn take_kept(
 }
 
 /// The bytes that are kept for a write.
-fn take_bytes(alloc: Global, kept: &mut HashMap<u32, Bytes>, op: &Op) -> Bytes
+fn take_bytes(alloc: Global, kept: &mut HashMap<u64, Bytes>, op: &Op) -> Bytes
     ensures bytes { record { op = op.now; bytes = result } ≡ kept_with (get nat_eq kept.old) op.now }
     ensures others { (ticket : ℕ) → ticket ≢ op.now.ticket → get nat_eq kept.new ticket ≡ get nat_eq kept.old ticket }
     ensures fewer { (ticket : ℕ) → length (unwrap_or (get nat_eq kept.new ticket) [])

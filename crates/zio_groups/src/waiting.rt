@@ -15,7 +15,7 @@ pub struct QueuedOp {
 /// What an operation came to.
 #[derive(Debug, Drop)]
 pub struct Answered {
-    pub ticket: u32,
+    pub ticket: u64,
     pub error: Option<Errno>,
     /// All bytes of a read; none of a write, or after an error.
     pub bytes: Bytes,

@@ -13,16 +13,17 @@ use Rattle.zio_frames.specs.Frames.{Child, Stack}
 use Rattle.zio_children.specs.RequestKids.{IsLeftBy, IsOutWith, numbers_of}
 use Rattle.zio_children.specs.declared.kids.KidState.{KidState}
 use Rattle.zio_children.specs.declared.kids.KidState.TheVariants.{Told}
-use Rattle.zio_stages.specs.Outcomes.{IsFinishedAs, IsLeftAs, IsOutcome}
+use Rattle.zio_exchange.specs.Outcomes.{IsFinishedAs, IsLeftAs, IsOutcome}
+use Rattle.zio_exchange.specs.Wholes.{root_number}
+use Rattle.zio_exchange.specs.declared.waiting.UnfinishedRequest.{UnfinishedRequest}
 use Rattle.zio_stages.specs.OwnParts.{HearsValue}
 use Rattle.zio_stages.specs.RequestHearings.{HearsEarlyOf, HearsValueOf, IsAttemptedBy, IsKidTold}
 use Rattle.zio_stages.specs.RequestNodes.{IsKidAt, IsSeatOf}
-use Rattle.zio_stages.specs.Wholes.{root_number}
-use Rattle.zio_stages.specs.declared.outcome.Finished.{Finished}
-use Rattle.zio_stages.specs.declared.outcome.Outcome.{Outcome}
-use Rattle.zio_stages.specs.declared.outcome.Outcome.TheVariants.{Again, Finished as HasFinished}
+use Rattle.zio_exchange.specs.declared.outcome.FinishedRequest.{FinishedRequest}
+use Rattle.zio_stages.specs.Sealed.{Outcome}
+use Rattle.zio_exchange.specs.declared.outcome.Outcome.TheVariants.{Again, Finished as HasFinished}
+use Rattle.zio_stages.specs.declared.closing.Seal.{Seal}
 use Rattle.zio_stages.specs.declared.request_node.RequestNode.{RequestNode}
-use Rattle.zio_stages.specs.declared.waiting.UnfinishedRequest.{UnfinishedRequest}
 use Rattle.zio_stages.proofs.RequestHears.{one_place}
 use Rattle.zio_turns.specs.Stages.{Hears, HearsEarly}
 use Rattle.zio_nodes.specs.Nodes.{nodes}
@@ -122,7 +123,7 @@ left_root r n op one ws bits pointer told k number left place seat =
 -- ---- the two ends
 
 -- the child finished with this
-pub record HearsFinished (r : RequestNode) (n : ℕ) (op : Task) (v : Value) (f : Finished) : Type 0 where
+pub record HearsFinished (r : RequestNode) (n : ℕ) (op : Task) (v : Value) (f : FinishedRequest) : Type 0 where
   pub one : One
   pub told : IsKidTold r n op one.return.child.pointer
   pub value : v ≡ AttemptedBy one
@@ -137,10 +138,10 @@ number_of r n op v one told k value kind =
     let at : IsAnswerTo (Attempt r.attempt k.root k.below) v = subst (λ (q : Task). IsAnswerTo q v) k.is kind in
     answered_number r.attempt k.root k.below one (subst (IsAnswerTo (Attempt r.attempt k.root k.below)) value at)
 
-pub hears_finished : (t : Terms) (tops : List Top) (at : RequestAt) (st : Stack) (n : ℕ) (c : Child) (op : Task) (f : Finished) (v : Value)
-    → TellsKid at.node n → Hears {N = Node} nodes tops t (Request at) st n c op (HasFinished f) v → HearsFinished at.node n op v f
+pub hears_finished : (t : Terms) (tops : List Top) (at : RequestAt) (st : Stack) (n : ℕ) (c : Child) (op : Task) (f : FinishedRequest) (v : Value)
+    → TellsKid at.node n → Hears {N = Node} {S = Seal} nodes tops t (Request at) st n c op (HasFinished f) v → HearsFinished at.node n op v f
 hears_finished t tops at st n c op f v tells h =
-    let shows : IsOutcome t op (HasFinished f) v = h.shows in
+    let shows : IsOutcome {S = Seal} t op (HasFinished f) v = h.shows in
     let one : One = shows.1.0 in
     let value : v ≡ AttemptedBy one = shows.1.1 in
     let left : IsFinishedAs f one = shows.1.2 in
@@ -167,9 +168,9 @@ pub record HearsAgain (r : RequestNode) (n : ℕ) (op : Task) (v : Value) (ws : 
   pub left : IsLeftAs ws bits pointer one
 
 pub hears_again : (t : Terms) (tops : List Top) (at : RequestAt) (st : Stack) (n : ℕ) (c : Child) (op : Task) (ws : List UnfinishedRequest) (bits : Bits) (pointer : Option Bp) (v : Value)
-    → TellsKid at.node n → Hears {N = Node} nodes tops t (Request at) st n c op (Again ws bits pointer) v → HearsAgain at.node n op v ws bits pointer
+    → TellsKid at.node n → Hears {N = Node} {S = Seal} nodes tops t (Request at) st n c op (Again ws bits pointer) v → HearsAgain at.node n op v ws bits pointer
 hears_again t tops at st n c op ws bits pointer v tells h =
-    let shows : IsOutcome t op (Again ws bits pointer) v = h.shows in
+    let shows : IsOutcome {S = Seal} t op (Again ws bits pointer) v = h.shows in
     let one : One = shows.1.0 in
     let value : v ≡ AttemptedBy one = shows.1.1 in
     let left : IsLeftAs ws bits pointer one = shows.1.2 in

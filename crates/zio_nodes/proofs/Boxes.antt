@@ -4,10 +4,10 @@ use Rattle.zio_types.specs.declared.place.Top.{Top}
 use Rattle.zio_gang.specs.Attempts.{Terms}
 use Rattle.zio_frames.specs.Frames.{Child, Stack}
 use Rattle.zio_trace.specs.Tasks.{Task, Value}
-use Rattle.zio_stages.specs.SpaceCalls.{SpaceCall}
-use Rattle.zio_stages.specs.declared.outcome.Outcome.{Outcome}
+use Rattle.zio_exchange.specs.SpaceCalls.{SpaceCall}
+use Rattle.zio_stages.specs.Sealed.{Outcome}
 use Rattle.zio_turns.specs.Stages.{GoesOn, Hears, HearsEarly, HearsSome, HearsSomeEarly, IsMove, IsNow}
-use Rattle.zio_turns.specs.declared.staged.Move.{Move}
+use Rattle.zio_nodes.specs.SealedMoves.{Move}
 use Rattle.zio_turns.specs.declared.staged.Move.TheVariants.{End, Grow, Leaf as ToLeaf, Next, Ready, Wait}
 use Rattle.zio_nodes.specs.BoxMoves.{unboxed}
 use Rattle.zio_nodes.specs.Nodes.{boxed_nodes, gave_of, nodes}

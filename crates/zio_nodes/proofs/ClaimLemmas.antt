@@ -6,12 +6,12 @@ use Rattle.zio_masks.specs.declared.stage.Stage.{Stage}
 use Rattle.zio_masks.specs.declared.stage.Stage.TheVariants.{DvaClaim, Done, GangAssemble, GangIssue, Ready, Start}
 use Rattle.zio_script.specs.Requests.{kind_of}
 use Rattle.zio_gang.specs.declared.tree.Tree.{Tree}
+use Rattle.zio_exchange.specs.SpaceCalls.{IsClaimAtMost, SpaceCall}
 use Rattle.zio_turns.specs.Stages.{told_cost}
 use Rattle.zio_stages.specs.OwnClaims.{HasClaimEnded}
 use Rattle.zio_stages.specs.RequestClaims.{HasEndedClaim, IsClaimWith, IsClaimingWith, IsDueOrClaim, IsPastDue, IsWalkDue}
 use Rattle.zio_stages.specs.RequestReads.{HasFound}
 use Rattle.zio_stages.specs.RequestStages.{with_own}
-use Rattle.zio_stages.specs.SpaceCalls.{IsClaimAtMost, SpaceCall}
 use Rattle.zio_stages.specs.declared.request_node.RequestNode.{RequestNode}
 use Rattle.zio_stages.specs.declared.own_claim.ClaimStep.{ClaimStep}
 use Rattle.zio_stages.specs.declared.own_claim.ClaimStep.TheVariants.{Due as StepDue, Out as StepOut, Failed, Found as StepFound, Taken, Refused}

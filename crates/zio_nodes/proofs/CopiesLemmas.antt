@@ -15,13 +15,14 @@ use Rattle.zio_frames.specs.Moves.{IsEnded, handed, set_at, set_in_inner, with_a
 use Rattle.zio_frames.specs.Seats.{HasSeat, IsSeated, ShowsTold, asked_at, slot_at}
 use Rattle.zio_frames.specs.Slots.{Heard, IsOut, Slot}
 use Rattle.zio_frames.proofs.GetLemmas.{all_at}
+use Rattle.zio_exchange.specs.Outcomes.{IsOutcome, IsReading, places_by, places_in, places_with}
 use Rattle.zio_stages.specs.CopiesNodes.{IsCopiesNode}
 use Rattle.zio_stages.specs.LeavesOut.{HasAskedLeaves, IsLeafTask}
 use Rattle.zio_stages.specs.NodeIos.{IsAsking, IsAwaitedAt, IsReadDue}
-use Rattle.zio_stages.specs.Outcomes.{IsOutcome, IsReading, places_by, places_in, places_with}
+use Rattle.zio_stages.specs.declared.closing.Seal.{Seal}
 use Rattle.zio_stages.specs.declared.family.Layer.TheVariants.{Own}
-use Rattle.zio_stages.specs.declared.outcome.Outcome.{Outcome}
-use Rattle.zio_stages.specs.declared.outcome.Outcome.TheVariants.{Again, Finished, Found, Stored, Walked}
+use Rattle.zio_stages.specs.Sealed.{Outcome}
+use Rattle.zio_exchange.specs.declared.outcome.Outcome.TheVariants.{Again, Finished, Found, Stored, Walked}
 use Rattle.zio_stages.specs.declared.read_io.ReadIo.{ReadIo}
 use Rattle.zio_stages.proofs.CopiesNodeLemmas.{own_frame}
 use Rattle.zio_stages.proofs.OutPlaces.{read_asks}
@@ -180,7 +181,7 @@ pub reads_copies : (t : Terms) (at : CopiesAt) (st : Stack) (h : IsCopiesAt t at
 reads_copies t at st h = ap (λ (x : Frame). x.op) (sym (own_frame st.outer st.inner h.read.asks).1) ∙ h.read.part.op
 
 pub copies_end : (t : Terms) (at : CopiesAt) (st : Stack) (found : Answer) → IsCopiesAt t at st → at.stage ≡ Done → IsEnded t st (Got found)
-    → Ends {N = Node} nodes gave_of t (Copies at) st [] (Found found)
+    → Ends {N = Node} {S = Seal} nodes gave_of t (Copies at) st [] (Found found)
 copies_end t at st found h done ended = record {
   value = Got found;
   gone = [];

@@ -18,18 +18,17 @@ use Rattle.zio_children.specs.declared.kept.KeptChild.{KeptChild}
 use Rattle.zio_children.specs.declared.kids.Kid.{Kid}
 use Rattle.zio_frames.specs.Frames.{Stack}
 use Rattle.zio_frames.specs.Slots.{Heard, IsOut, Slot}
+use Rattle.zio_exchange.specs.Outcomes.{IsNoAttemptIn, freed_by, freed_if, freed_of, held_by, made_by}
+use Rattle.zio_stages.specs.ClosedRequests.{Again, Closed, Finished}
 use Rattle.zio_stages.specs.Closings.{outcome_of}
-use Rattle.zio_stages.specs.Outcomes.{IsNoAttemptIn, freed_by, freed_if, freed_of, held_by, made_by}
 use Rattle.zio_stages.specs.OwnFounds.{own_got}
 use Rattle.zio_stages.specs.OwnParts.{IsNoWrite}
 use Rattle.zio_stages.specs.RequestNodes.{Closes, IsRequestNode}
 use Rattle.zio_stages.specs.RequestOwns.{IsNoneAfter, MakesBlock}
 use Rattle.zio_stages.specs.RequestStoreds.{is_well, keeps_block, own_in}
 use Rattle.zio_stages.specs.StoredBlocks.{block_places}
-use Rattle.zio_stages.specs.declared.request_node.Closed.{Closed}
-use Rattle.zio_stages.specs.declared.request_node.Closed.TheVariants.{Again, Finished}
 use Rattle.zio_stages.specs.declared.request_node.Own.{Own}
-use Rattle.zio_stages.specs.declared.outcome.Outcome.{Outcome}
+use Rattle.zio_stages.specs.Sealed.{Outcome}
 use Rattle.zio_stages.specs.declared.request_node.Own.TheVariants.{Due, Found}
 use Rattle.zio_stages.specs.declared.request_node.OwnFound.{OwnFound}
 use Rattle.zio_stages.specs.declared.request_node.RequestNode.{RequestNode}

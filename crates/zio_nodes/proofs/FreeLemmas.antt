@@ -11,12 +11,12 @@ use Rattle.zio_masks.specs.Stages.{has}
 use Rattle.zio_script.specs.Requests.{kind_of}
 use Rattle.zio_script.specs.declared.script.Work.{Work}
 use Rattle.zio_gang.specs.declared.tree.Tree.{Tree}
+use Rattle.zio_exchange.specs.Outcomes.{freed_if}
+use Rattle.zio_exchange.specs.SpaceCalls.{calls_back}
 use Rattle.zio_turns.specs.Stages.{told_cost}
-use Rattle.zio_stages.specs.Outcomes.{freed_if}
 use Rattle.zio_stages.specs.RequestFrees.{FreesOn, HasFreed, HasKeptFailed, HasWalked, IsFreeWith, IsFreeing, IsFreeingWith, freed_by}
 use Rattle.zio_stages.specs.RequestKinds.{has_gang_stages, is_gang_tree}
 use Rattle.zio_stages.specs.RequestReads.{HasFound, found_error}
-use Rattle.zio_stages.specs.SpaceCalls.{calls_back}
 use Rattle.zio_stages.specs.StoredBlocks.{block_places}
 use Rattle.zio_stages.specs.declared.own_free.FreeWalk.{FreeWalk}
 use Rattle.zio_stages.specs.declared.own_free.FreeWalk.TheVariants.{Due as FreeDue, Out, Ended}

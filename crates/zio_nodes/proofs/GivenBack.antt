@@ -11,7 +11,7 @@ use Rattle.zio_script.specs.declared.script.Work.TheVariants.{Null, Read, Write,
 use Rattle.zio_gang.specs.declared.tree.Tree.{Tree}
 use Rattle.zio_gang.specs.Attempts.{Terms}
 use Rattle.zio_frames.specs.Frames.{Stack}
-use Rattle.zio_stages.specs.Outcomes.{freed_if, freed_of, held_by}
+use Rattle.zio_exchange.specs.Outcomes.{freed_if, freed_of, held_by}
 use Rattle.zio_stages.specs.RequestNodes.{IsRequestNode}
 use Rattle.zio_stages.specs.RequestStoreds.{given_by, made_by}
 use Rattle.zio_stages.specs.StoredBlocks.{block_places}

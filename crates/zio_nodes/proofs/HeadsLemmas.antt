@@ -19,14 +19,15 @@ use Rattle.zio_parts.specs.HeadWalks.{ShowsWalk, Walking, look_of, member_slot, 
 use Rattle.zio_parts.specs.declared.head_walk.Header.{Header}
 use Rattle.zio_parts.specs.declared.head_walk.Header.TheVariants.{Unread, Out, Failed, Read}
 use Rattle.zio_parts.specs.declared.head_walk.WalkStep.TheVariants.{End}
+use Rattle.zio_exchange.specs.Outcomes.{ClaimsInside, IsAttempt, IsOutcome, IsPart, IsWalk, places_by, places_in, places_with}
 use Rattle.zio_stages.specs.HeadsNodes.{HearsHead, HearsSomeBelow, HearsSomeHead, HearsSomeUntold, IsHeadsNode}
 use Rattle.zio_stages.specs.HeadsWorks.{IsAskedOf}
-use Rattle.zio_stages.specs.Outcomes.{ClaimsInside, IsAttempt, IsOutcome, IsPart, IsWalk, places_by, places_in, places_with}
 use Rattle.zio_stages.specs.OwnParts.{HandsTo, HearsValue, ToldSince}
-use Rattle.zio_stages.specs.declared.outcome.Outcome.{Outcome}
-use Rattle.zio_stages.specs.declared.outcome.Outcome.TheVariants.{Again, Finished, Found, Stored, Walked as HasWalked}
+use Rattle.zio_stages.specs.Sealed.{Outcome}
+use Rattle.zio_exchange.specs.declared.outcome.Outcome.TheVariants.{Again, Finished, Found, Stored, Walked as HasWalked}
 use Rattle.zio_stages.proofs.HeadsNodeLemmas.{Sits, SitsUntold, sits, sits_untold}
 use Rattle.zio_stages.proofs.ToldLemmas.{IsOutNone, none_since}
+use Rattle.zio_stages.specs.declared.closing.Seal.{Seal}
 use Rattle.zio_turns.specs.Parts.{ended_in_slot}
 use Rattle.zio_turns.specs.Stages.{Ends, GoesOn, Grows, Hears, HearsSome, HearsSomeEarly, Tells}
 use Rattle.zio_masks.specs.Stages.{IsNext, has}
@@ -73,7 +74,7 @@ hears_value t tops at st n c op outcome v h = record {
 pub hears_head_of : (t : Terms) (tops : List Top) (at : HeadsAt) (st : Stack) (n : ℕ) (c : Child) (op : Task) (outcome : Outcome) (found : Answer) (v : Value)
     → outcome ≡ Found found → Hears {N = Node} nodes tops t (Heads at) st n c op outcome v → HearsHead t tops at.node st n c op v found
 hears_head_of t tops at st n c op outcome found v is h =
-    let shows : IsOutcome t op (Found found) v = subst (λ (o : Outcome). IsOutcome t op o v) is h.shows in
+    let shows : IsOutcome {S = Seal} t op (Found found) v = subst (λ (o : Outcome). IsOutcome {S = Seal} t op o v) is h.shows in
     record {
       node_is = h.now.is;
       hears = hears_value t tops at st n c op outcome v h;
@@ -85,7 +86,7 @@ pub hears_head : (tops : List Top) (at : HeadsAt) (n : ℕ) (outcome : Outcome) 
     → HearsSome {N = Node} nodes tops (Heads at) n outcome → HearsSomeHead tops at.node n found
 hears_head tops at n outcome found is h =
     let k = h.hears in
-    let shows : IsOutcome h.terms h.op (Found found) h.value = subst (λ (o : Outcome). IsOutcome h.terms h.op o h.value) is k.shows in
+    let shows : IsOutcome {S = Seal} h.terms h.op (Found found) h.value = subst (λ (o : Outcome). IsOutcome {S = Seal} h.terms h.op o h.value) is k.shows in
     record {
       terms = h.terms;
       stack = h.stack;
@@ -104,7 +105,7 @@ pub hears_below : (tops : List Top) (at : HeadsAt) (n : ℕ) (outcome : Outcome)
     → HearsSome {N = Node} nodes tops (Heads at) n outcome → HearsSomeBelow tops at.node n walked
 hears_below tops at n outcome walked is h =
     let k = h.hears in
-    let shows : IsOutcome h.terms h.op (HasWalked walked) h.value = subst (λ (o : Outcome). IsOutcome h.terms h.op o h.value) is k.shows in
+    let shows : IsOutcome {S = Seal} h.terms h.op (HasWalked walked) h.value = subst (λ (o : Outcome). IsOutcome {S = Seal} h.terms h.op o h.value) is k.shows in
     record {
       terms = h.terms;
       stack = h.stack;
@@ -238,7 +239,7 @@ walk_holds_none t at st h =
     (λ k op e. (asked_other (look_of w.claim h.part.heads) w.path w.bp (named_by w.header) k op (h.part.asked k op e)).2))
 
 pub walk_ends : (t : Terms) (at : HeadsAt) (st : Stack) (walked : Walked) → IsHeadsNode t at.node st → at.stage ≡ Done
-    → IsEnded t st (WalkedBy walked) → ClaimsInside t st.outer.op walked → Ends {N = Node} nodes gave_of t (Heads at) st [] (HasWalked walked)
+    → IsEnded t st (WalkedBy walked) → ClaimsInside t st.outer.op walked → Ends {N = Node} {S = Seal} nodes gave_of t (Heads at) st [] (HasWalked walked)
 walk_ends t at st walked h done ended inside = record {
   value = WalkedBy walked;
   gone = [];

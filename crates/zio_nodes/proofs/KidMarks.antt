@@ -8,6 +8,7 @@ use Rattle.zio_children.specs.declared.kids.Kid.{Kid}
 use Rattle.zio_children.specs.declared.kids.KidState.{KidState}
 use Rattle.zio_children.specs.declared.kids.KidState.TheVariants.{Due, Out}
 use Rattle.zio_children.proofs.KidFields.{handed_more, handed_set}
+use Rattle.zio_exchange.specs.declared.waiting.UnfinishedRequest.{UnfinishedRequest}
 use Rattle.zio_stages.specs.KidLists.{AreMarked, HoldsBut}
 use Rattle.zio_stages.specs.KidPointers.{HaveValidPointers}
 use Rattle.zio_stages.specs.KidTrees.{trees_left}
@@ -16,7 +17,6 @@ use Rattle.zio_stages.specs.RequestNodes.{IsOwnOver}
 use Rattle.zio_stages.specs.RequestOwns.{IsWaitingOver}
 use Rattle.zio_stages.specs.RequestStages.{with_kids, with_own}
 use Rattle.zio_stages.specs.declared.request_node.RequestNode.{RequestNode}
-use Rattle.zio_stages.specs.declared.waiting.UnfinishedRequest.{UnfinishedRequest}
 use Rattle.zio_nodes.specs.RequestAts.{IsRequestOver}
 use Rattle.zio_nodes.specs.TreeAts.{IsSoundOver, IsTreeOver}
 

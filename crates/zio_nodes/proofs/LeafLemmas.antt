@@ -14,14 +14,15 @@ use Rattle.zio_trace.specs.Programs.{Ends as EndsWith}
 use Rattle.zio_trace.specs.Tasks.{Got, Leaf as OnLeaf, Task}
 use Rattle.zio_frames.specs.Frames.{Child, Frame, Stack, fresh_frame, fresh_stack, left_of}
 use Rattle.zio_frames.specs.Slots.{Heard, Slot, left_behind_slots, told_in}
+use Rattle.zio_exchange.specs.Outcomes.{IsReading, places_in}
 use Rattle.zio_stages.specs.LeafWorks.{IsAnswered, IsAnsweredAt, IsDoneBy, IsDue, IsDueAt, IsHeardAs, IsLeafWork, len_in, len_of, shown_by, shown_in}
-use Rattle.zio_stages.specs.Outcomes.{IsReading, places_in}
+use Rattle.zio_stages.specs.declared.closing.Seal.{Seal}
 use Rattle.zio_stages.specs.declared.leaf.Act.{Act}
 use Rattle.zio_stages.specs.declared.leaf.Act.TheVariants.{Read, Write}
 use Rattle.zio_stages.specs.declared.leaf.LeafWork.{LeafWork}
 use Rattle.zio_stages.specs.declared.leaf.Progress.{Progress as WorkStage}
 use Rattle.zio_stages.specs.declared.leaf.Progress.TheVariants.{Answered, Due, Out}
-use Rattle.zio_stages.specs.declared.outcome.Outcome.TheVariants.{Found}
+use Rattle.zio_exchange.specs.declared.outcome.Outcome.TheVariants.{Found}
 use Rattle.zio_turns.specs.Parts.{ended_in_slot}
 use Rattle.zio_turns.specs.Stages.{Ends, ShowsAnswer}
 use Rattle.zio_nodes.specs.Bounds.{leaf_left}
@@ -89,7 +90,7 @@ none_held : (x : Frame) (act : LeafOp) (a : Answer) → x.asked ≡ OnLeaf act �
 none_held x act a asked slots = ap (λ (s : List Slot). places_in x.asked s) slots ∙ ap (λ (q : List Task). places_in q (Heard (Got a) ∷ [])) asked
 
 pub leaf_ends : (t : Terms) (at : LeafAt) (st : Stack) (found : Answer) (h : IsLeafAt t at st) → at.stage ≡ Done → IsAnswered at.work
-    → ((a : Answer) → st.outer.slots ≡ Heard (Got a) ∷ [] → found ≡ a) → Ends {N = Node} nodes gave_of t (Leaf at) st [] (Found found)
+    → ((a : Answer) → st.outer.slots ≡ Heard (Got a) ∷ [] → found ≡ a) → Ends {N = Node} {S = Seal} nodes gave_of t (Leaf at) st [] (Found found)
 leaf_ends t at st found h done answered same =
     let heard = leaf_heard t at st h answered in
     let is : found ≡ heard.answer = same heard.answer heard.slots in

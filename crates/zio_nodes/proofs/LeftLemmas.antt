@@ -14,16 +14,15 @@ use Rattle.zio_gang.specs.Attempts.{Child, Return, children_of, finished_of, has
 use Rattle.zio_gang.specs.ByNumber.{insert_by, insert_if}
 use Rattle.zio_children.specs.RequestKids.{KidsUnderWay, bits_by, child_of, finished_in, return_by, returns_in}
 use Rattle.zio_children.specs.declared.kids.Kid.{Kid}
+use Rattle.zio_exchange.specs.Wholes.{joined}
+use Rattle.zio_exchange.specs.declared.waiting.UnfinishedRequest.{UnfinishedRequest}
+use Rattle.zio_stages.specs.ClosedRequests.{Again, Closed, Finished}
 use Rattle.zio_stages.specs.KidLists.{AreMarked, IsLeftList, LeavesList}
 use Rattle.zio_stages.specs.KidTrees.{trees_left}
 use Rattle.zio_stages.proofs.SplitLemmas.{reverse_first}
 use Rattle.zio_stages.specs.RequestOwns.{IsBlockOn}
-use Rattle.zio_stages.specs.Wholes.{joined}
 use Rattle.zio_stages.specs.WrittenBlocks.{IsSoundWrite}
-use Rattle.zio_stages.specs.declared.request_node.Closed.{Closed}
-use Rattle.zio_stages.specs.declared.request_node.Closed.TheVariants.{Again, Finished}
 use Rattle.zio_stages.specs.declared.request_node.RequestNode.{RequestNode}
-use Rattle.zio_stages.specs.declared.waiting.UnfinishedRequest.{UnfinishedRequest}
 use Rattle.zio_stages.specs.Closings.{outcome_of}
 use Rattle.zio_turns.specs.Stages.{OutcomeIn}
 use Rattle.zio_nodes.specs.RequestAts.{IsRequestOver}

@@ -10,9 +10,9 @@ use Rattle.zio_masks.specs.declared.stage.Stage.TheVariants.{Start, ReadBpInit, 
 use Rattle.zio_script.specs.Requests.{kind_of}
 use Rattle.zio_gang.specs.Attempts.{Terms}
 use Rattle.zio_frames.specs.Frames.{Stack}
+use Rattle.zio_exchange.specs.SpaceCalls.{AreReturns, SpaceCall, calls_back}
 use Rattle.zio_turns.specs.Stages.{GoesOn, IsMove, IsNow}
-use Rattle.zio_turns.specs.declared.staged.Move.{Move}
-use Rattle.zio_stages.specs.SpaceCalls.{AreReturns, SpaceCall, calls_back}
+use Rattle.zio_nodes.specs.SealedMoves.{Move}
 use Rattle.zio_nodes.specs.Nodes.{MovesBare, MovesWith, StaysBare, StaysWith, gave_of, moved, nodes}
 use Rattle.zio_nodes.specs.StageMoves.{CallsFit, GangFits, IssueFits, stage_of}
 use Rattle.zio_nodes.specs.declared.node.Node.{Node}

@@ -15,14 +15,13 @@ use Rattle.zio_script.specs.declared.script.Work.TheVariants.{Null, Read, Write,
 use Rattle.zio_gang.specs.declared.tree.Tree.{Tree}
 use Rattle.zio_gang.specs.Attempts.{Terms, tree_unless}
 use Rattle.zio_frames.specs.Frames.{Stack}
+use Rattle.zio_exchange.specs.Outcomes.{freed_by, freed_if, freed_of, held_by, made_by, places_in}
+use Rattle.zio_stages.specs.ClosedRequests.{Again, Closed, Finished}
 use Rattle.zio_stages.specs.Closings.{outcome_of}
-use Rattle.zio_stages.specs.Outcomes.{freed_by, freed_if, freed_of, held_by, made_by, places_in}
 use Rattle.zio_stages.specs.OwnParts.{IsNoWrite}
 use Rattle.zio_stages.specs.RequestNodes.{IsRequestNode}
 use Rattle.zio_stages.specs.RequestStoreds.{own_in}
 use Rattle.zio_stages.specs.StoredBlocks.{block_places}
-use Rattle.zio_stages.specs.declared.request_node.Closed.{Closed}
-use Rattle.zio_stages.specs.declared.request_node.Closed.TheVariants.{Again, Finished}
 use Rattle.zio_stages.specs.declared.request_node.Own.TheVariants.{Due}
 use Rattle.zio_stages.specs.declared.request_node.RequestNode.{RequestNode}
 use Rattle.zio_stages.proofs.KidAsking.{kids_full}

@@ -10,11 +10,11 @@ use Rattle.zio_trace.specs.Tasks.{Task}
 use Rattle.zio_frames.specs.Frames.{Stack, fresh_stack, needs_none}
 use Rattle.zio_frames.specs.Moves.{WillHave}
 use Rattle.zio_frames.specs.Seats.{IsSeated}
+use Rattle.zio_exchange.specs.SpaceCalls.{SpaceCall, calls_back}
 use Rattle.zio_stages.specs.OwnParts.{DoesThen, HandsTo, IsOwed}
 use Rattle.zio_stages.specs.RequestNodes.{IsRequestNode}
-use Rattle.zio_stages.specs.SpaceCalls.{SpaceCall, calls_back}
 use Rattle.zio_stages.specs.declared.request_node.RequestNode.{RequestNode}
-use Rattle.zio_turns.specs.declared.staged.Move.{Move}
+use Rattle.zio_nodes.specs.SealedMoves.{Move}
 use Rattle.zio_turns.specs.declared.staged.Move.TheVariants.{Grow, Next, Ready, Wait}
 use Rattle.zio_nodes.specs.Nodes.{IsNode, MovesBare, MovesWith, StaysBare, StaysWith, gave_of, told_of}
 use Rattle.zio_nodes.specs.RequestAts.{gave_by}

@@ -5,6 +5,7 @@ use Rattle.zio_masks.specs.declared.stage.Stage.{Stage}
 use Rattle.zio_masks.specs.declared.stage.Stage.TheVariants.{Start, FreeBpInit, IssueAsync, GangAssemble, GangIssue, DvaFree, DvaClaim, Ready, Done}
 use Rattle.zio_gang.specs.declared.tree.Tree.{Tree}
 use Rattle.zio_trace.specs.Tasks.{Walked as Walk}
+use Rattle.zio_exchange.specs.declared.waiting.UnfinishedRequest.{UnfinishedRequest}
 use Rattle.zio_stages.specs.OwnClaims.{HasClaimEnded}
 use Rattle.zio_stages.specs.RequestClaims.{IsClaimWith, IsClaimingWith, IsPastDue, IsPastWalk}
 use Rattle.zio_stages.specs.RequestFrees.{HasBegun as FreeBegun, HasWalked, IsFreeingWith, freed_by}
@@ -20,7 +21,6 @@ use Rattle.zio_stages.specs.declared.own_free.OwnFree.{OwnFree}
 use Rattle.zio_stages.specs.declared.request_node.Own.{Own}
 use Rattle.zio_stages.specs.declared.request_node.Own.TheVariants.{Claim as ClaimOwn, Due, Found, Free as FreeOwn, Over, Read as ReadOwn, Stored, Write as WriteOwn}
 use Rattle.zio_stages.specs.declared.request_node.RequestNode.{RequestNode}
-use Rattle.zio_stages.specs.declared.waiting.UnfinishedRequest.{UnfinishedRequest}
 use Rattle.zio_turns.specs.Stages.{heard_max}
 use Rattle.zio_nodes.specs.OwnAts.{HasKeptAll, IsClaimAtStage, IsFreeAtStage, IsGivingFree}
 use Rattle.zio_nodes.specs.OwnBounds.{claiming_left, free_walk_left, freeing_left}

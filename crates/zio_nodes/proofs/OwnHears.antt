@@ -21,9 +21,9 @@ use Rattle.zio_frames.specs.Seats.{HasSeat, SitsAt}
 use Rattle.zio_frames.proofs.GetLemmas.{all_at}
 use Rattle.zio_parts.specs.declared.parts.StoredPart.{StoredPart}
 use Rattle.zio_parts.specs.declared.tree_read.Phase.TheVariants.{Out as WalkOut}
+use Rattle.zio_exchange.specs.Outcomes.{ClaimsInside, IsAttempt, IsOutcome, IsReading, IsWalk}
 use Rattle.zio_stages.specs.LeavesOut.{IsLeafTask}
 use Rattle.zio_stages.specs.NodeIos.{IsAwaitedAt}
-use Rattle.zio_stages.specs.Outcomes.{ClaimsInside, IsAttempt, IsOutcome, IsReading, IsWalk}
 use Rattle.zio_stages.specs.OwnClaims.{LiesWalked}
 use Rattle.zio_stages.specs.OwnReads.{IsBodyOn}
 use Rattle.zio_stages.specs.RequestHearings.{HearsEarlyOf, IsUnderWay}
@@ -31,8 +31,8 @@ use Rattle.zio_stages.specs.RequestNodes.{IsOwnOver}
 use Rattle.zio_stages.specs.RequestOwns.{IsBlockOn, IsOwnSeat}
 use Rattle.zio_stages.specs.TreeWorks.{heads_task}
 use Rattle.zio_stages.specs.declared.family.Layer.TheVariants.{Within}
-use Rattle.zio_stages.specs.declared.outcome.Outcome.{Outcome}
-use Rattle.zio_stages.specs.declared.outcome.Outcome.TheVariants.{Again, Finished, Found as HasFound, Stored as HasStored, Walked}
+use Rattle.zio_stages.specs.Sealed.{Outcome}
+use Rattle.zio_exchange.specs.declared.outcome.Outcome.TheVariants.{Again, Finished, Found as HasFound, Stored as HasStored, Walked}
 use Rattle.zio_stages.specs.declared.own_claim.ClaimStep.TheVariants.{Out as StepOut}
 use Rattle.zio_stages.specs.declared.own_claim.OwnClaim.{OwnClaim}
 use Rattle.zio_stages.specs.declared.own_free.FreeWalk.TheVariants.{Out as FreeOut}

@@ -6,12 +6,12 @@ use Rattle.zio_masks.specs.declared.stage.Stage.{Stage}
 use Rattle.zio_masks.specs.declared.stage.Stage.TheVariants.{Start}
 use Rattle.zio_script.specs.declared.script.Work.{Work}
 use Rattle.zio_gang.specs.declared.tree.Tree.{Tree}
-use Rattle.zio_stages.specs.Outcomes.{freed_if}
+use Rattle.zio_exchange.specs.Outcomes.{freed_if}
+use Rattle.zio_exchange.specs.Wholes.{joined}
 use Rattle.zio_stages.specs.RequestFrees.{freed_by}
 use Rattle.zio_stages.specs.RequestReads.{HasFound, found_error}
 use Rattle.zio_stages.specs.RequestStages.{with_own}
 use Rattle.zio_stages.specs.StoredBlocks.{block_places}
-use Rattle.zio_stages.specs.Wholes.{joined}
 use Rattle.zio_stages.specs.declared.request_node.Own.{Own}
 use Rattle.zio_stages.specs.declared.request_node.Own.TheVariants.{Claim as ClaimOwn, Due, Found, Free as FreeOwn, Over, Read as ReadOwn, Stored, Write as WriteOwn}
 use Rattle.zio_stages.specs.declared.request_node.RequestNode.{RequestNode}

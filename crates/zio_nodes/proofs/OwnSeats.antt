@@ -21,9 +21,9 @@ use Rattle.zio_parts.specs.HeadWalks.{no_walk}
 use Rattle.zio_parts.specs.TreeReads.{body_slot, slots_in}
 use Rattle.zio_parts.specs.declared.tree_read.Phase.{Phase}
 use Rattle.zio_parts.specs.declared.tree_read.Phase.TheVariants.{Unread, Out as WalkOut, Failed as WalkFailed, Found as BodiesFound}
+use Rattle.zio_exchange.specs.Outcomes.{IsPart, IsReading, IsWalk}
 use Rattle.zio_stages.specs.LeavesOut.{IsLeafTask}
 use Rattle.zio_stages.specs.NodeIos.{IsAwaitedAt}
-use Rattle.zio_stages.specs.Outcomes.{IsPart, IsReading, IsWalk}
 use Rattle.zio_stages.specs.OwnClaims.{IsClaimOf, IsClaimStep, claim_task}
 use Rattle.zio_stages.specs.OwnFrees.{IsFreeWalk}
 use Rattle.zio_stages.specs.OwnParts.{ToldSince}

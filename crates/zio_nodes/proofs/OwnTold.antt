@@ -8,9 +8,9 @@ use Rattle.zio_script.specs.Requests.{kind_of}
 use Rattle.zio_script.specs.declared.script.Work.{Work}
 use Rattle.zio_script.specs.declared.script.Work.TheVariants.{Null, Read, Write, Free, Claim}
 use Rattle.zio_frames.specs.Frames.{Child}
+use Rattle.zio_exchange.specs.Wholes.{joined}
 use Rattle.zio_stages.specs.RequestNodes.{IsOwnOver}
 use Rattle.zio_stages.specs.RequestStages.{with_own}
-use Rattle.zio_stages.specs.Wholes.{joined}
 use Rattle.zio_stages.specs.declared.request_node.Own.{Own}
 use Rattle.zio_stages.specs.declared.request_node.RequestNode.{RequestNode}
 use Rattle.zio_nodes.specs.RequestAts.{IsRequestAtOver, NullStands, RequestStands, StandsAt, StandsBy, gave_by}

@@ -15,15 +15,16 @@ use Rattle.zio_frames.specs.Seats.{HasSeat, ShowsTold, SitsAt, asked_at, slot_at
 use Rattle.zio_frames.proofs.GetLemmas.{all_at}
 use Rattle.zio_parts.specs.PartWrites.{is_ready}
 use Rattle.zio_parts.specs.declared.parts.StoredPart.{StoredPart}
+use Rattle.zio_exchange.specs.Outcomes.{IsAttempt, IsOutcome, IsWalk}
 use Rattle.zio_stages.specs.LeavesOut.{IsLeafTask}
 use Rattle.zio_stages.specs.NodeIos.{IsWriteDue}
-use Rattle.zio_stages.specs.Outcomes.{IsAttempt, IsOutcome, IsWalk}
 use Rattle.zio_stages.specs.OwnParts.{HearsValue}
 use Rattle.zio_stages.specs.PartNodes.{HearsEarlyAt, HearsValueAt, IsAnsweredBy, IsPartNode, IsStoredBy, no_front}
 use Rattle.zio_stages.specs.PartOwns.{ForOther, ask_of}
 use Rattle.zio_stages.specs.PartWorks.{IsIssued, IsMoreDue, IsNoLessFar}
-use Rattle.zio_stages.specs.declared.outcome.Outcome.{Outcome}
-use Rattle.zio_stages.specs.declared.outcome.Outcome.TheVariants.{Again, Finished, Found, Stored, Walked}
+use Rattle.zio_stages.specs.Sealed.{Outcome}
+use Rattle.zio_exchange.specs.declared.outcome.Outcome.TheVariants.{Again, Finished, Found, Stored, Walked}
+use Rattle.zio_stages.specs.declared.closing.Seal.{Seal}
 use Rattle.zio_stages.specs.declared.part.PartOwn.{PartOwn}
 use Rattle.zio_stages.specs.declared.part_work.PartWork.{PartWork}
 use Rattle.zio_stages.specs.declared.write_io.WriteIo.{WriteIo}
@@ -80,7 +81,7 @@ hears_as IsHeard tops at n outcome h heard = record {
 pub hears_found : (tops : List Top) (at : PartAt) (n : ℕ) (outcome : Outcome) (found : Answer) → outcome ≡ Found found
     → HearsSome {N = Node} nodes tops (Part at) n outcome → HearsValueAt (IsAnsweredBy (error_of found)) at.node n
 hears_found tops at n outcome found is h =
-    let shows : IsOutcome h.terms h.op (Found found) h.value = subst (λ (o : Outcome). IsOutcome h.terms h.op o h.value) is h.hears.shows in
+    let shows : IsOutcome {S = Seal} h.terms h.op (Found found) h.value = subst (λ (o : Outcome). IsOutcome {S = Seal} h.terms h.op o h.value) is h.hears.shows in
     hears_as (IsAnsweredBy (error_of found)) tops at n outcome h (shows.0, (found, shows.1, refl))
 
 pub hears_stored : (tops : List Top) (at : PartAt) (n : ℕ) (outcome : Outcome) (stored : StoredPart) → outcome ≡ Stored stored

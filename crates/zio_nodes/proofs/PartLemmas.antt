@@ -20,16 +20,16 @@ use Rattle.zio_parts.specs.declared.parts.OwnWrite.TheVariants.{Due, Out as OwnO
 use Rattle.zio_parts.specs.declared.parts.Placing.{Placing}
 use Rattle.zio_parts.specs.declared.parts.Placing.TheVariants.{Body, Head as HeadDue, Whole, Gang, Nowhere}
 use Rattle.zio_parts.specs.declared.parts.StoredPart.{StoredPart}
+use Rattle.zio_exchange.specs.Outcomes.{IsKept, IsPart, held_by, stored_as, stored_in}
+use Rattle.zio_exchange.specs.SpaceCalls.{SpaceCall, calls_by}
 use Rattle.zio_stages.specs.LeafWorks.{IsLeafWork}
 use Rattle.zio_stages.specs.NodeIos.{StartsBy}
-use Rattle.zio_stages.specs.Outcomes.{IsPart, held_by, stored_in}
 use Rattle.zio_stages.specs.OwnParts.{DoesThen, HandsTo}
 use Rattle.zio_stages.specs.PartNodes.{IsPartNode}
-use Rattle.zio_stages.specs.PartOwns.{IsKept, stored_as}
 use Rattle.zio_stages.specs.PartWorks.{IsPartWithin}
-use Rattle.zio_stages.specs.SpaceCalls.{SpaceCall, calls_by}
+use Rattle.zio_stages.specs.declared.closing.Seal.{Seal}
 use Rattle.zio_stages.specs.declared.leaf.LeafWork.{LeafWork}
-use Rattle.zio_stages.specs.declared.outcome.Outcome.TheVariants.{Stored}
+use Rattle.zio_exchange.specs.declared.outcome.Outcome.TheVariants.{Stored}
 use Rattle.zio_stages.specs.declared.part_node.PartNode.{PartNode}
 use Rattle.zio_stages.specs.declared.write_io.WriteIo.{WriteIo}
 use Rattle.zio_turns.specs.Parts.{ended_in, ended_in_slot}
@@ -171,7 +171,7 @@ part_ended t node st h =
 
 pub part_ends : (t : Terms) (at : PartAt) (st : Stack) (stored : StoredPart) → IsPartNode t at.node st → at.stage ≡ Done
     → IsEnded t st (StoredAs (stored_as stored)) → IsKept stored.pointer stored.heads → IsPermutation (held_by st) (stored_in (StoredAs (stored_as stored)))
-    → Ends {N = Node} nodes gave_of t (Part at) st [] (Stored stored)
+    → Ends {N = Node} {S = Seal} nodes gave_of t (Part at) st [] (Stored stored)
 part_ends t at st stored h done ended kept places = record {
   value = StoredAs (stored_as stored);
   gone = [];

@@ -36,7 +36,7 @@ use Rattle.zio_stages.specs.declared.own_read.OwnRead.{OwnRead}
 use Rattle.zio_stages.specs.declared.own_write.OwnWrite.{OwnWrite}
 use Rattle.zio_stages.specs.declared.request_node.Own.{Own}
 use Rattle.zio_stages.specs.declared.request_node.Own.TheVariants.{Claim, Due, Found, Free, Over, Read, Stored, Write}
-use Rattle.zio_turns.specs.declared.staged.Move.{Move}
+use Rattle.zio_nodes.specs.SealedMoves.{Move}
 use Rattle.zio_nodes.specs.Nodes.{is_tree, moved}
 use Rattle.zio_nodes.specs.Passes.{IsInPassOf, KeepsPass, KeepsPassAt, LeavesInPassOf}
 use Rattle.zio_nodes.specs.StageMoves.{is_second_of, retries_body}

@@ -12,20 +12,20 @@ use Rattle.zio_trace.specs.Tasks.{Walked as Walk}
 use Rattle.zio_frames.specs.Frames.{Child}
 use Rattle.zio_parts.specs.TreeReads.{Reading, bodies_or, walk_heard}
 use Rattle.zio_parts.specs.declared.tree_read.Phase.TheVariants.{Found as BodiesFound, Out as WalkOut}
+use Rattle.zio_exchange.specs.Wholes.{joined}
+use Rattle.zio_exchange.specs.declared.waiting.UnfinishedRequest.{UnfinishedRequest}
 use Rattle.zio_stages.specs.NodeIos.{IsAwaitedAt, IsReadDue}
 use Rattle.zio_stages.specs.OwnReads.{IsOwnReadOver}
 use Rattle.zio_stages.specs.ReadCounts.{AreHandedOut, AsksMore, HasBegun, HasOneBody, HearsBody, IsAskedMore, IsOneDueIn}
 use Rattle.zio_stages.specs.RequestNodes.{IsOwnOver}
 use Rattle.zio_stages.specs.RequestReads.{IsAlone, IsReadWith, ReadsOn}
 use Rattle.zio_stages.specs.RequestStages.{with_own}
-use Rattle.zio_stages.specs.Wholes.{joined}
 use Rattle.zio_stages.specs.declared.family.Layer.TheVariants.{Within}
 use Rattle.zio_stages.specs.declared.own_read.BodyIo.{BodyIo}
 use Rattle.zio_stages.specs.declared.own_read.OwnRead.{OwnRead}
 use Rattle.zio_stages.specs.declared.request_node.Own.{Own}
 use Rattle.zio_stages.specs.declared.request_node.Own.TheVariants.{Claim as ClaimOwn, Due, Found, Free as FreeOwn, Over, Read as ReadOwn, Stored, Write as WriteOwn}
 use Rattle.zio_stages.specs.declared.request_node.RequestNode.{RequestNode}
-use Rattle.zio_stages.specs.declared.waiting.UnfinishedRequest.{UnfinishedRequest}
 use Rattle.zio_stages.proofs.OutMoves.{read_idle}
 use Rattle.zio_stages.proofs.OwnReadLemmas.{body_over, not_awaited}
 use Rattle.zio_turns.specs.Stages.{heard_max}

@@ -5,11 +5,11 @@ use Rattle.zio_masks.specs.declared.stage.Stage.{Stage}
 use Rattle.zio_masks.specs.declared.stage.Stage.TheVariants.{WriteBpInit, IssueAsync, WriteCompress, ChecksumGenerate, DvaAllocate, Ready, VdevIoStart, VdevIoDone, VdevIoAssess, Done}
 use Rattle.zio_script.specs.declared.script.Work.{Work}
 use Rattle.zio_script.specs.declared.script.Work.TheVariants.{Null, Read, Write, Free, Claim}
+use Rattle.zio_exchange.specs.Wholes.{joined}
+use Rattle.zio_exchange.specs.declared.waiting.UnfinishedRequest.{UnfinishedRequest}
 use Rattle.zio_stages.specs.RequestCounts.{members_of, path_of, second_of}
 use Rattle.zio_stages.specs.RequestKinds.{is_stored, points_to_gang}
 use Rattle.zio_stages.specs.declared.request_node.Own.{Own}
-use Rattle.zio_stages.specs.Wholes.{joined}
-use Rattle.zio_stages.specs.declared.waiting.UnfinishedRequest.{UnfinishedRequest}
 use Rattle.zio_nodes.specs.Bounds.{due_left, member_share, members_max, pass_left}
 use Rattle.zio_nodes.specs.RequestBounds.{left_by, null_left, null_max, own_at, own_left, own_max, request_share}
 use Rattle.zio_nodes.specs.WriteBounds.{end_left, io_left, io_max, members_left, whole_left, write_at, write_max}

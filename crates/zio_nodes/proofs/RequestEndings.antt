@@ -11,14 +11,13 @@ use Rattle.zio_children.specs.declared.kids.KidState.{KidState}
 use Rattle.zio_children.specs.declared.kids.KidState.TheVariants.{Due, Out, Told, Ended as KidEnded}
 use Rattle.zio_frames.specs.Frames.{Stack}
 use Rattle.zio_frames.specs.Slots.{Heard, IsOut, Slot}
+use Rattle.zio_exchange.specs.Outcomes.{AreEndedAs, IsAttempt, IsOutcome, held_by, places_in, places_with}
+use Rattle.zio_exchange.specs.declared.waiting.UnfinishedRequest.{UnfinishedRequest}
+use Rattle.zio_stages.specs.ClosedRequests.{Again, Closed, Finished}
 use Rattle.zio_stages.specs.Closings.{outcome_of}
 use Rattle.zio_stages.specs.KidTrees.{attempts_of}
-use Rattle.zio_stages.specs.Outcomes.{AreEndedAs, IsAttempt, IsOutcome, held_by, places_in, places_with}
 use Rattle.zio_stages.specs.RequestNodes.{IsClosedAs, IsRequestNode}
-use Rattle.zio_stages.specs.declared.request_node.Closed.{Closed}
-use Rattle.zio_stages.specs.declared.request_node.Closed.TheVariants.{Again, Finished}
 use Rattle.zio_stages.specs.declared.request_node.RequestNode.{RequestNode}
-use Rattle.zio_stages.specs.declared.waiting.UnfinishedRequest.{UnfinishedRequest}
 use Rattle.zio_turns.specs.Parts.{ended_by, ended_in, ended_in_slot}
 
 -- ---- its value

@@ -12,13 +12,13 @@ use Rattle.zio_trace.specs.Tasks.{AttemptedBy, Task}
 use Rattle.zio_frames.specs.Frames.{Stack, fresh_stack, kind_of_task, needs_none}
 use Rattle.zio_frames.specs.Moves.{WillHave}
 use Rattle.zio_children.specs.RequestKids.{kids_by}
+use Rattle.zio_exchange.specs.Outcomes.{freed_by, held_by, made_by, stored_in}
+use Rattle.zio_exchange.specs.SpaceCalls.{SpaceCall, calls_back, calls_by}
+use Rattle.zio_stages.specs.ClosedRequests.{Closed}
 use Rattle.zio_stages.specs.Closings.{outcome_of}
-use Rattle.zio_stages.specs.Outcomes.{freed_by, held_by, made_by, stored_in}
 use Rattle.zio_stages.specs.OwnParts.{DoesThen, HandsTo, IsOwed}
 use Rattle.zio_stages.specs.RequestNodes.{Closes, IsRequestNode}
-use Rattle.zio_stages.specs.SpaceCalls.{SpaceCall, calls_back, calls_by}
-use Rattle.zio_stages.specs.declared.outcome.Outcome.{Outcome}
-use Rattle.zio_stages.specs.declared.request_node.Closed.{Closed}
+use Rattle.zio_stages.specs.Sealed.{Outcome}
 use Rattle.zio_stages.specs.declared.request_node.RequestNode.{RequestNode}
 use Rattle.zio_turns.specs.Parts.{ended_in_slot}
 use Rattle.zio_turns.specs.Stages.{Ends, GoesOn, Grows, Tells, Waits}

@@ -10,11 +10,11 @@ use Rattle.zio_children.specs.RequestKids.{KidsUnderWay, has_ended, is_ended, st
 use Rattle.zio_children.specs.declared.kids.Kid.{Kid}
 use Rattle.zio_children.specs.declared.kids.KidState.{KidState}
 use Rattle.zio_frames.specs.Frames.{Child}
+use Rattle.zio_exchange.specs.Wholes.{joined}
 use Rattle.zio_stages.specs.KidTrees.{KidsHeld}
 use Rattle.zio_stages.specs.RequestCounts.{IsMoreDueWrite}
 use Rattle.zio_stages.specs.RequestStages.{with_kids}
 use Rattle.zio_stages.specs.RequestWrites.{IsBegunWrite, IsDueWrite, IsIssuedWrite, IsPlacedWrite, IsReadyWrite, IsWrittenWrite}
-use Rattle.zio_stages.specs.Wholes.{joined}
 use Rattle.zio_stages.specs.declared.request_node.RequestNode.{RequestNode}
 use Rattle.zio_nodes.specs.RequestAts.{AreOutBehind, NullStands, RequestStands, StandsAt, StandsBy, WriteStands, gave_by}
 use Rattle.zio_nodes.specs.RequestBounds.{left_by, own_at, own_left, request_left, request_share}

@@ -16,10 +16,10 @@ use Rattle.zio_script.specs.Requests.{kind_of}
 use Rattle.zio_gang.specs.Attempts.{Terms}
 use Rattle.zio_trace.specs.Keys.{bit}
 use Rattle.zio_frames.specs.Frames.{Child, Stack}
+use Rattle.zio_exchange.specs.SpaceCalls.{SpaceCall}
 use Rattle.zio_stages.specs.NodeChildren.{is_awaited, is_owing}
-use Rattle.zio_stages.specs.SpaceCalls.{SpaceCall}
 use Rattle.zio_turns.specs.Entries.{count_owing, owing}
-use Rattle.zio_turns.specs.declared.staged.Move.{Move}
+use Rattle.zio_nodes.specs.SealedMoves.{Move}
 use Rattle.zio_turns.specs.declared.staged.Move.TheVariants.{End, Grow, Leaf as ToLeaf, Next, Ready as Tell, Wait}
 use Rattle.std.specs.Prelude.{IfOk}
 use Rattle.zio_nodes.specs.Nodes.{IsNode, MovesWith, moved}
@@ -232,6 +232,16 @@ none_awaited kind phase e = cc
 pub owed_in : (kind : ChildKind) (phase : Phase) (family children : List Child) → family ≡ children → list_any (is_awaited kind phase) family ≡ true
     → 0 < count_owing kind phase children
 owed_in kind phase family children same h = owed_counts kind phase children (ap (list_any (is_awaited kind phase)) (sym same) ∙ h)
+
+-- its children by number are those of its part
+pub children_are : (t : Terms) (node : Node) (st : Stack) → IsNode t node st → children_of node ≡ st.children
+children_are t (Leaf at) st is = sym is.childless
+children_are t (Copies at) st is = is.read.children
+children_are t (Heads at) st is = is.children
+children_are t (Part at) st is = is.at.children
+children_are t (Tree at) st is = ap (λ (s : Stack). s.children) (sym is.fresh)
+children_are t (Request at) st is = is.family
+children_are t Empty st is = absurd is
 
 -- what its fields say is owed is owed
 owed_now : (t : Terms) (node : Node) (st : Stack) (kind : ChildKind) (phase : Phase) → IsNode t node st → list_any (is_awaited kind phase) (children_of node) ≡ true

@@ -12,14 +12,14 @@ use Rattle.zio_trace.specs.Families.{Forest}
 use Rattle.zio_trace.specs.Tasks.{Attempt, Task}
 use Rattle.zio_children.specs.RequestKids.{KidsUnderWay}
 use Rattle.zio_frames.specs.Frames.{Inner, Stack, asking, asking_in, fresh_stack}
+use Rattle.zio_exchange.specs.Wholes.{IsTreeOf, root_of}
+use Rattle.zio_exchange.specs.declared.waiting.UnfinishedRequest.{UnfinishedRequest}
 use Rattle.zio_stages.specs.OwnParts.{DoesThen, HandsTo}
 use Rattle.zio_stages.specs.RequestKinds.{points_to_gang}
 use Rattle.zio_stages.specs.RequestNodes.{HandsKid, IsOwnOf, IsRequestNode, front_by}
-use Rattle.zio_stages.specs.Wholes.{IsTreeOf, root_of}
 use Rattle.zio_stages.specs.declared.request_node.Own.{Own}
 use Rattle.zio_stages.specs.declared.request_node.Own.TheVariants.{Due}
 use Rattle.zio_stages.specs.declared.request_node.RequestNode.{RequestNode}
-use Rattle.zio_stages.specs.declared.waiting.UnfinishedRequest.{UnfinishedRequest}
 use Rattle.zio_nodes.specs.OwnAts.{IsClaimAtStage}
 use Rattle.zio_nodes.specs.RequestAts.{AreOutBehind, RequestStands, StandsAt}
 use Rattle.zio_nodes.specs.Told.{is_told}

@@ -9,18 +9,17 @@ use Rattle.zio_script.specs.declared.script.Work.{Work}
 use Rattle.zio_gang.specs.declared.tree.Tree.{Tree}
 use Rattle.zio_gang.specs.Attempts.{Terms}
 use Rattle.zio_frames.specs.Frames.{Stack}
+use Rattle.zio_exchange.specs.Outcomes.{freed_by, freed_of, held_by, made_by as made_in, places_in, stored_places}
+use Rattle.zio_exchange.specs.Waits.{pending_of}
+use Rattle.zio_stages.specs.ClosedRequests.{Again, Closed, Finished}
 use Rattle.zio_stages.specs.Closings.{outcome_of}
-use Rattle.zio_stages.specs.Outcomes.{freed_by, freed_of, held_by, made_by as made_in, places_in, stored_places}
 use Rattle.zio_stages.specs.RequestKinds.{is_stored}
 use Rattle.zio_stages.specs.RequestNodes.{IsOwnOf, IsRequestNode, front_by, own_got}
 use Rattle.zio_stages.specs.RequestStages.{with_own}
 use Rattle.zio_stages.specs.RequestStoreds.{IsStoredWith, error_by, found_by, given_by, is_well, keeps_block, made_by, own_in}
 use Rattle.zio_stages.specs.RequestWrites.{IsWriteWith, IsWrittenWrite}
 use Rattle.zio_stages.specs.StoredBlocks.{IsGoingBack, IsStoredOwn, block_places}
-use Rattle.zio_stages.specs.Waits.{pending_of}
 use Rattle.zio_stages.specs.declared.own_write.OwnWrite.{OwnWrite}
-use Rattle.zio_stages.specs.declared.request_node.Closed.{Closed}
-use Rattle.zio_stages.specs.declared.request_node.Closed.TheVariants.{Again, Finished}
 use Rattle.zio_stages.specs.declared.request_node.Own.{Own}
 use Rattle.zio_stages.specs.declared.request_node.Own.TheVariants.{Claim as ClaimOwn, Due, Found, Free as FreeOwn, Over, Read as ReadOwn, Stored, Write as WriteOwn}
 use Rattle.zio_stages.specs.declared.request_node.OwnFound.{OwnFound}

@@ -7,15 +7,15 @@ use Rattle.zio_script.specs.declared.script.Work.{Work}
 use Rattle.zio_script.specs.declared.script.Work.TheVariants.{Null, Read, Write, Free, Claim}
 use Rattle.zio_gang.specs.Attempts.{Terms}
 use Rattle.zio_frames.specs.Frames.{Child, Stack}
+use Rattle.zio_exchange.specs.Wholes.{joined}
+use Rattle.zio_exchange.specs.declared.waiting.UnfinishedRequest.{UnfinishedRequest}
 use Rattle.zio_stages.specs.KidLists.{AreBegun, IsListOf}
 use Rattle.zio_stages.specs.KidPointers.{HasValid, HaveValidPointers}
 use Rattle.zio_stages.specs.PartWorks.{HaveUnits}
 use Rattle.zio_stages.specs.RequestNodes.{IsOwnOver, IsRequestNode}
 use Rattle.zio_stages.specs.Tops.{AreTops}
-use Rattle.zio_stages.specs.Wholes.{joined}
 use Rattle.zio_stages.specs.declared.request_node.Own.TheVariants.{Due}
 use Rattle.zio_stages.specs.declared.request_node.RequestNode.{RequestNode}
-use Rattle.zio_stages.specs.declared.waiting.UnfinishedRequest.{UnfinishedRequest}
 use Rattle.zio_turns.specs.Stages.{GoesOn}
 use Rattle.zio_nodes.specs.Nodes.{gave_of, nodes}
 use Rattle.zio_nodes.specs.RequestAts.{IsRequestAtOver, IsRequestOver, freed_so_far, gave_by}

@@ -20,8 +20,10 @@ use Rattle.zio_frames.specs.Seats.{HasSeat, ShowsTold, asked_at, slot_at}
 use Rattle.zio_frames.specs.Slots.{Slot}
 use Rattle.zio_frames.proofs.GetLemmas.{all_at}
 use Rattle.zio_parts.specs.declared.parts.StoredPart.{StoredPart}
+use Rattle.zio_exchange.specs.Outcomes.{IsAttempt, IsOutcome, IsPart, IsReading, IsWalk}
+use Rattle.zio_exchange.specs.Wholes.{joined}
+use Rattle.zio_exchange.specs.declared.waiting.UnfinishedRequest.{UnfinishedRequest}
 use Rattle.zio_stages.specs.LeavesOut.{IsLeafTask}
-use Rattle.zio_stages.specs.Outcomes.{IsAttempt, IsOutcome, IsReading, IsPart, IsWalk}
 use Rattle.zio_stages.specs.PartNodes.{IsAnsweredBy, IsStoredBy}
 use Rattle.zio_stages.specs.PartOwns.{ForOther, ask_of}
 use Rattle.zio_stages.specs.PartWorks.{Front}
@@ -33,13 +35,12 @@ use Rattle.zio_stages.specs.RequestStages.{with_own}
 use Rattle.zio_stages.specs.RequestWrites.{IsWrite, KeepsStages}
 use Rattle.zio_stages.specs.RequestStoreds.{IsStoredWith}
 use Rattle.zio_stages.specs.StoredBlocks.{IsGoingBack}
-use Rattle.zio_stages.specs.Wholes.{joined}
 use Rattle.zio_types.specs.declared.request.Bits.{Bits}
 use Rattle.zio_blkptr.specs.declared.pointer.Bp.{Bp}
-use Rattle.zio_stages.specs.declared.waiting.UnfinishedRequest.{UnfinishedRequest}
-use Rattle.zio_stages.specs.declared.outcome.Finished.{Finished as FinishedOne}
-use Rattle.zio_stages.specs.declared.outcome.Outcome.{Outcome}
-use Rattle.zio_stages.specs.declared.outcome.Outcome.TheVariants.{Again, Finished, Found as HasFound, Stored as HasStored, Walked}
+use Rattle.zio_exchange.specs.declared.outcome.FinishedRequest.{FinishedRequest}
+use Rattle.zio_stages.specs.Sealed.{Outcome}
+use Rattle.zio_exchange.specs.declared.outcome.Outcome.TheVariants.{Again, Finished, Found as HasFound, Stored as HasStored, Walked}
+use Rattle.zio_stages.specs.declared.closing.Seal.{Seal}
 use Rattle.zio_stages.specs.declared.own_write.OwnWrite.{OwnWrite}
 use Rattle.zio_stages.specs.declared.request_node.Own.{Own}
 use Rattle.zio_stages.specs.declared.request_node.Own.TheVariants.{Claim as ClaimOwn, Due, Found, Free as FreeOwn, Over, Read as ReadOwn, Stored, Write as WriteOwn}
@@ -125,7 +126,7 @@ hears_own tops at n outcome own k =
 pub hears_found : (tops : List Top) (at : RequestAt) (n : ℕ) (outcome : Outcome) (found : Answer) (error : Option Errno) → outcome ≡ HasFound found
     → error ≡ error_of found → HearsSome {N = Node} nodes tops (Request at) n outcome → HearsValueOf (IsAnsweredBy error) at.node n
 hears_found tops at n outcome found error is same k =
-    let shows : IsOutcome k.terms k.op (HasFound found) k.value = subst (λ (o : Outcome). IsOutcome k.terms k.op o k.value) is k.hears.shows in
+    let shows : IsOutcome {S = Seal} k.terms k.op (HasFound found) k.value = subst (λ (o : Outcome). IsOutcome {S = Seal} k.terms k.op o k.value) is k.hears.shows in
     hears_of (IsAnsweredBy error) k.terms tops at k.stack n k.child k.op outcome k.value k.hears (shows.0, (found, shows.1, sym same))
 
 -- its member's write came to this
@@ -320,7 +321,7 @@ child_kind at n kind k h =
     let both : Some kind ≡ Some k.child.kind = h ∙ there in
     cc
 
-pub own_outcome : (outcome : Outcome) → ((f : FinishedOne) → outcome ≡ Finished f → ⊥)
+pub own_outcome : (outcome : Outcome) → ((f : FinishedRequest) → outcome ≡ Finished f → ⊥)
     → ((whole : List UnfinishedRequest) (bits : Bits) (pointer : Option Bp) → outcome ≡ Again whole bits pointer → ⊥) → IsOwnOutcome outcome
 own_outcome (Finished f) first again = absurd (first f refl)
 own_outcome (Again whole bits pointer) first again = absurd (again whole bits pointer refl)

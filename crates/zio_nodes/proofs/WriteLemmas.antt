@@ -15,19 +15,19 @@ use Rattle.zio_parts.specs.Parts.{PartWriting}
 use Rattle.zio_parts.specs.declared.members.Member.TheVariants.{Out as MemberOut}
 use Rattle.zio_children.specs.RequestKids.{KidsUnderWay}
 use Rattle.zio_frames.specs.Frames.{Child}
+use Rattle.zio_exchange.specs.Wholes.{joined}
+use Rattle.zio_exchange.specs.declared.waiting.UnfinishedRequest.{UnfinishedRequest}
 use Rattle.zio_stages.specs.PartNodes.{IsMemberUnder}
 use Rattle.zio_stages.specs.RequestCounts.{HasNextMember, asked_of, members_of, path_of}
 use Rattle.zio_stages.specs.RequestKinds.{is_stored}
 use Rattle.zio_stages.specs.RequestNodes.{IsOwnOver}
 use Rattle.zio_stages.specs.RequestStoreds.{given_by, made_by}
 use Rattle.zio_stages.specs.RequestWrites.{IsWriteWith}
-use Rattle.zio_stages.specs.Wholes.{joined}
 use Rattle.zio_stages.specs.declared.own_write.OwnWrite.{OwnWrite}
 use Rattle.zio_stages.specs.declared.part_node.PartNode.{PartNode}
 use Rattle.zio_stages.specs.declared.request_node.Own.{Own}
 use Rattle.zio_stages.specs.declared.request_node.Own.TheVariants.{Claim as ClaimOwn, Due, Found, Free as FreeOwn, Over, Read as ReadOwn, Stored, Write as WriteOwn}
 use Rattle.zio_stages.specs.declared.request_node.RequestNode.{RequestNode}
-use Rattle.zio_stages.specs.declared.waiting.UnfinishedRequest.{UnfinishedRequest}
 use Rattle.zio_nodes.specs.Bounds.{part_max}
 use Rattle.zio_nodes.specs.RequestAts.{AreOutBehind, RequestStands, StandsAt, WriteStands, gave_by}
 use Rattle.zio_nodes.specs.RequestBounds.{left_by, own_at, own_left, request_left, request_share}

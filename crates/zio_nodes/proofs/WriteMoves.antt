@@ -11,6 +11,7 @@ use Rattle.zio_trace.specs.Leaves.{LeafOp}
 use Rattle.zio_trace.specs.Tasks.{Leaf as OnLeaf, Task}
 use Rattle.zio_frames.specs.Frames.{Stack, asking, fresh_frame, fresh_stack}
 use Rattle.zio_frames.specs.Moves.{handed}
+use Rattle.zio_exchange.specs.Wholes.{joined}
 use Rattle.zio_stages.specs.LeafWorks.{IsLeafWork}
 use Rattle.zio_stages.specs.NodeIos.{StartsBy}
 use Rattle.zio_stages.specs.OwnParts.{DoesThen}
@@ -18,7 +19,6 @@ use Rattle.zio_stages.specs.RequestCounts.{HasNextMember, asked_of, second_of}
 use Rattle.zio_stages.specs.RequestNodes.{IsOwnOf, IsRequestNode, front_by}
 use Rattle.zio_stages.specs.RequestStages.{with_own}
 use Rattle.zio_stages.specs.RequestWrites.{IsReadyWrite, IsWriteWith}
-use Rattle.zio_stages.specs.Wholes.{joined}
 use Rattle.zio_stages.specs.declared.leaf.LeafWork.{LeafWork}
 use Rattle.zio_stages.specs.declared.own_write.OwnWrite.{OwnWrite}
 use Rattle.zio_stages.specs.declared.part_node.PartNode.{PartNode}

@@ -13,6 +13,7 @@ pub mod ReadBounds
 pub mod RequestAts
 pub mod RequestBounds
 pub mod RequestHears
+pub mod SealedMoves
 pub mod StageMoves
 pub mod Stalls
 pub mod Told

@@ -3,9 +3,9 @@ use Rattle.std.specs.Prelude.{ℕ, length, Bool, true, false, Option, Some, None
 use Rattle.zio_types.specs.declared.request.Kind.{Kind}
 use Rattle.zio_types.specs.declared.request.Kind.TheVariants.{Null as NullKind, Read as ReadKind, Write as WriteKind}
 use Rattle.zio_script.specs.Requests.{kind_of}
+use Rattle.zio_exchange.specs.Wholes.{root_of}
+use Rattle.zio_exchange.specs.declared.waiting.UnfinishedRequest.{UnfinishedRequest}
 use Rattle.zio_stages.specs.Labels.{operation_label, part_label, request_label}
-use Rattle.zio_stages.specs.Wholes.{root_of}
-use Rattle.zio_stages.specs.declared.waiting.UnfinishedRequest.{UnfinishedRequest}
 use Rattle.zio_nodes.specs.declared.node.Node.{Node}
 use Rattle.zio_nodes.specs.declared.node.Node.TheVariants.{Copies, Empty, Heads, Leaf, Part, Request, Tree}
 

@@ -13,10 +13,10 @@ use Rattle.zio_script.specs.declared.script.Work.{Work}
 use Rattle.zio_script.specs.declared.script.Work.TheVariants.{Null, Read, Write, Free, Claim}
 use Rattle.zio_gang.specs.declared.tree.Tree.{Tree}
 use Rattle.zio_children.specs.RequestKids.{AreHanded, KidsUnderWay, is_ended}
+use Rattle.zio_exchange.specs.Outcomes.{freed_if}
 use Rattle.zio_stages.specs.KidLists.{AreMarked}
 use Rattle.zio_stages.specs.KidPointers.{HaveValidPointers}
 use Rattle.zio_stages.specs.KidTrees.{trees_left}
-use Rattle.zio_stages.specs.Outcomes.{freed_if}
 use Rattle.zio_stages.specs.PartWorks.{HaveUnits}
 use Rattle.zio_stages.specs.RequestCounts.{IsMoreDueWrite}
 use Rattle.zio_stages.specs.RequestNodes.{IsOwnOver}

@@ -1,6 +1,6 @@
 -- What a request may hear of a child of its own work.
-use Rattle.zio_stages.specs.declared.outcome.Outcome.{Outcome}
-use Rattle.zio_stages.specs.declared.outcome.Outcome.TheVariants.{Again, Finished, Found, Stored, Walked}
+use Rattle.zio_stages.specs.Sealed.{Outcome}
+use Rattle.zio_exchange.specs.declared.outcome.Outcome.TheVariants.{Again, Finished, Found, Stored, Walked}
 
 -- it isn't what the attempt of a tree ends with
 abbrev pub IsOwnOutcome : Outcome → Type 0

@@ -25,16 +25,16 @@ use Rattle.zio_masks.specs.declared.stage.Stage.TheVariants.{
 }
 use Rattle.zio_parts.specs.declared.members.Member.{Member}
 use Rattle.zio_script.specs.Requests.{kind_of}
+use Rattle.zio_exchange.specs.SpaceCalls.{AreAsks, AreReturns, IsClaimAtMost, SpaceCall}
 use Rattle.zio_stages.specs.PartWorks.{is_second}
 use Rattle.zio_stages.specs.RequestCounts.{members_of}
 use Rattle.zio_stages.specs.ReadIos.{has_failed}
 use Rattle.zio_stages.specs.RequestKinds.{has_gang_stages}
 use Rattle.zio_stages.specs.RequestReads.{has_read_failed}
-use Rattle.zio_stages.specs.SpaceCalls.{AreAsks, AreReturns, IsClaimAtMost, SpaceCall}
 use Rattle.zio_stages.specs.declared.own_read.BodyIo.{BodyIo}
 use Rattle.zio_stages.specs.declared.request_node.Own.{Own}
 use Rattle.zio_stages.specs.declared.request_node.Own.TheVariants.{Claim, Due, Found, Free, Over, Read as ReadOwn, Stored, Write as WriteOwn}
-use Rattle.zio_turns.specs.declared.staged.Move.{Move}
+use Rattle.zio_nodes.specs.SealedMoves.{Move}
 use Rattle.zio_turns.specs.declared.staged.Move.TheVariants.{End, Grow, Leaf as ToLeaf, Next, Ready as Tell, Wait}
 use Rattle.zio_nodes.specs.NodeNames.{handed_by, unfinished_at}
 use Rattle.zio_nodes.specs.RequestAts.{takes}

@@ -10,13 +10,13 @@ use Rattle.zio_gang.specs.Attempts.{Pending, Terms}
 use Rattle.zio_trace.specs.Families.{Forest}
 use Rattle.zio_trace.specs.Tasks.{Attempt}
 use Rattle.zio_frames.specs.Frames.{Stack, fresh_stack}
+use Rattle.zio_exchange.specs.Wholes.{IsTreeOf}
+use Rattle.zio_exchange.specs.declared.waiting.UnfinishedRequest.{UnfinishedRequest}
 use Rattle.zio_stages.specs.KidPointers.{HasValid}
 use Rattle.zio_stages.specs.PartWorks.{HaveUnits}
 use Rattle.zio_stages.specs.RequestOwns.{IsWaitingOver}
 use Rattle.zio_stages.specs.Tops.{AreTops}
-use Rattle.zio_stages.specs.Wholes.{IsTreeOf}
 use Rattle.zio_stages.specs.WrittenBlocks.{IsSoundWrite}
-use Rattle.zio_stages.specs.declared.waiting.UnfinishedRequest.{UnfinishedRequest}
 use Rattle.zio_nodes.specs.declared.tree_at.TreeAt.{TreeAt}
 
 -- ---- what a tree owes

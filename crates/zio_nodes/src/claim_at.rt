@@ -21,8 +21,9 @@ use crate::node::Node;
 use crate::request_at::RequestAt;
 use crate::turn::{Turn, new_room};
 use std::alloc::Global;
+use zio_exchange::Services;
 use zio_masks::{CLAIM, INTERLOCK, Stage, next, with_gang};
-use zio_stages::{DoneStep, Services};
+use zio_stages::{DoneStep, Seal};
 use zio_turns::Move;
 use zio_types::{ChildKind, Kind, NoMemory, Phase, Top};
 
@@ -233,7 +234,7 @@ impl RequestAt {
 
     /// Ends once its children have. Where memory is refused it comes back, and what it came to stays.
     #[inline(never)]
-    pub(crate) fn claim_done(self, alloc: Global) -> Result<Move<Node>, Node>
+    pub(crate) fn claim_done(self, alloc: Global) -> Result<Move<Node, Seal>, Node>
         requires over { (tops : Seq SeenTop) × IsRequestAtOver tops self }
         requires kind { kind_of self.node.waiting.request.work ≡ Kind.Claim }
         requires stage { self.stage ≡ Stage.Done }

@@ -22,7 +22,7 @@ use crate::read_io_at::behind_assess;
 use crate::turn::{Turn, new_room};
 use std::alloc::Global;
 use zio_masks::{READ, Stage, next};
-use zio_stages::{CopiesNode, Family, IoNext, Outcome, reads_tell_no_pointer};
+use zio_stages::{CopiesNode, Family, IoNext, Outcome, Seal, reads_tell_no_pointer};
 use zio_turns::Move;
 use zio_types::{ChildKind, NoMemory, Phase, Top};
 
@@ -237,7 +237,7 @@ impl CopiesAt {
     }
 
     /// Ends with the good bytes, or the error where no copy was good.
-    pub(crate) fn done(self, tops: &[Top]) -> Move<Node>
+    pub(crate) fn done(self, tops: &[Top]) -> Move<Node, Seal>
         requires over { IsCopiesAtOver tops.now self }
         requires stage { self.stage ≡ Stage.Done }
         ensures moves { MovesBare tops.now (Node.Copies self) result }
@@ -251,7 +251,7 @@ impl CopiesAt {
     }
 
     /// A child ended: an operation on a leaf, with the bytes of its read, with none of a repair, or with an error.
-    pub fn arrive(&mut self, tops: &[Top], child: u32, outcome: Outcome)
+    pub fn arrive(&mut self, tops: &[Top], child: usize, outcome: Outcome)
         requires over { IsCopiesAtOver tops.now self.old }
         requires awaited { HearsSome nodes tops.now (Node.Copies self.old) child outcome }
         ensures heard { (t : Terms) (st : Stack) (c : Child) (op : Task) (v : Value) →

@@ -18,7 +18,7 @@ use crate::request_at::RequestAt;
 use crate::turn::Turn;
 use std::alloc::Global;
 use zio_masks::Stage;
-use zio_stages::{NodeBack, what_is_no_write_has_no_pointer};
+use zio_stages::{NodeBack, Seal, what_is_no_write_has_no_pointer};
 use zio_turns::Move;
 
 impl RequestAt {
@@ -47,7 +47,7 @@ impl RequestAt {
 
     /// Ends, where its own work came to something and its children ended. Where memory is refused it comes back as it
     /// was.
-    pub(crate) fn end_found(self, alloc: Global) -> Result<Move<Node>, Node>
+    pub(crate) fn end_found(self, alloc: Global) -> Result<Move<Node, Seal>, Node>
         requires found { HasFound self.node.own }
         requires ended { list_all is_ended self.node.kids.kids.kids ≡ true }
         requires other { IsNoWrite self.node.waiting.request.work }

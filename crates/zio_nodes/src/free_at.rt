@@ -18,8 +18,9 @@ use crate::node::Node;
 use crate::request_at::RequestAt;
 use crate::turn::{Turn, new_room};
 use std::alloc::Global;
+use zio_exchange::Services;
 use zio_masks::{FREE, INTERLOCK, Stage, next, with_gang};
-use zio_stages::{DoneStep, Services};
+use zio_stages::{DoneStep, Seal};
 use zio_turns::Move;
 use zio_types::{ChildKind, Kind, NoMemory, Phase};
 
@@ -271,7 +272,7 @@ impl RequestAt {
 
     /// Ends once its children have. Where memory is refused it comes back, and what it came to stays.
     #[inline(never)]
-    pub(crate) fn free_done(self, alloc: Global) -> Result<Move<Node>, Node>
+    pub(crate) fn free_done(self, alloc: Global) -> Result<Move<Node, Seal>, Node>
         requires over { (tops : Seq SeenTop) × IsRequestAtOver tops self }
         requires kind { kind_of self.node.waiting.request.work ≡ Kind.Free }
         requires stage { self.stage ≡ Stage.Done }

@@ -22,7 +22,7 @@ use crate::stall::gang_stall;
 use crate::turn::{Turn, new_room};
 use std::alloc::Global;
 use zio_masks::{INTERLOCK, Stage, next, with_gang};
-use zio_stages::{Family, HeadsBack, HeadsNode, Outcome, WalkStage, reads_tell_no_pointer};
+use zio_stages::{Family, HeadsBack, HeadsNode, Outcome, Seal, WalkStage, reads_tell_no_pointer};
 use zio_turns::Move;
 use zio_types::{ChildKind, NoMemory, Phase, Top};
 
@@ -175,7 +175,7 @@ impl HeadsAt {
     }
 
     /// Ends with what the walk left. Where memory is refused it comes back as it was.
-    pub(crate) fn done(self, alloc: Global, tops: &[Top]) -> Result<Move<Node>, Node>
+    pub(crate) fn done(self, alloc: Global, tops: &[Top]) -> Result<Move<Node, Seal>, Node>
         requires over { IsHeadsAtOver tops.now self }
         requires stage { self.stage ≡ Stage.Done }
         ensures moves { IfOk result (MovesBare tops.now (Node.Heads self)) }
@@ -200,7 +200,7 @@ impl HeadsAt {
     }
 
     /// A child told that its value has no pointer: it reads, or walks.
-    pub fn arrive_ready(&mut self, child: u32)
+    pub fn arrive_ready(&mut self, child: usize)
         requires { HearsSomeEarly nodes (Node.Heads self.old) child }
         ensures heard { (t : Terms) (st : Stack) (c : Child) (pointer : Option SeenBp) →
             HearsEarly nodes t (Node.Heads self.old) st child c
@@ -214,7 +214,7 @@ impl HeadsAt {
 
     /// A child ended: the read of the header, or the walk below a member. Where memory is refused the outcome comes
     /// back, and the walk is as it was.
-    pub fn arrive(&mut self, tops: &[Top], child: u32, outcome: Outcome) -> Result<(), Outcome>
+    pub fn arrive(&mut self, tops: &[Top], child: usize, outcome: Outcome) -> Result<(), Outcome>
         requires over { IsHeadsAtOver tops.now self.old }
         requires awaited { HearsSome nodes tops.now (Node.Heads self.old) child outcome }
         ensures heard { OnOk result ((t : Terms) (st : Stack) (c : Child) (op : Task) (v : Value) →

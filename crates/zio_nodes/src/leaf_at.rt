@@ -18,7 +18,7 @@ ghost use Rattle.zio_nodes.specs.Told.{is_told};
 use crate::node::Node;
 use crate::turn::Turn;
 use zio_masks::{Stage, VDEV_CHILD, next};
-use zio_stages::{LeafWork, Outcome};
+use zio_stages::{LeafWork, Outcome, Seal};
 use zio_turns::Move;
 use zio_types::{Bytes, Errno, List, NoMemory};
 
@@ -129,7 +129,7 @@ impl LeafAt {
     }
 
     /// Ends with what the leaf answered.
-    pub(crate) fn done(self) -> Move<Node>
+    pub(crate) fn done(self) -> Move<Node, Seal>
         requires stands { LeafStands self.stage self.is_out self.work }
         requires stage { self.stage ≡ Stage.Done }
         ensures moves { (tops : Seq SeenTop) → MovesBare tops (Node.Leaf self) result }

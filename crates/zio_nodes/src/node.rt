@@ -1,7 +1,7 @@
 //! A node of any kind: its stages, and what it hears.
 
 ghost use Rattle.std.specs.List.{list_any};
-ghost use Rattle.std.specs.Prelude.{◌≡◌, ◌+◌, ◌<◌, ◌≤◌, [], IfErr, IfOk, IfSome, IsTrue, List as Seq, None, OnErr, OnOk, Some, false, is_ok, true};
+ghost use Rattle.std.specs.Prelude.{◌≡◌, ◌+◌, ◌<◌, ◌≤◌, [], IfErr, IfOk, IfSome, IsTrue, List as Seq, None, OnErr, OnOk, Some, false, is_ok, length, true};
 ghost use Rattle.zio_types.specs.declared.place.Top.{Top as SeenTop};
 ghost use Rattle.zio_blkptr.specs.Pointers.{valid};
 ghost use Rattle.zio_gang.specs.Attempts.{Pending, Terms};
@@ -10,9 +10,9 @@ ghost use Rattle.zio_trace.specs.Leaves.{Answer, LeafOp};
 ghost use Rattle.zio_trace.specs.Tasks.{Attempt, Got, Leaf, Task, Value};
 ghost use Rattle.zio_frames.specs.Frames.{Child, Stack, fresh_stack};
 ghost use Rattle.zio_frames.specs.Moves.{done_at_once, heard_early, heard_of};
+ghost use Rattle.zio_exchange.specs.Wholes.{IsTreeOf};
 ghost use Rattle.zio_stages.specs.NodeChildren.{is_awaited};
-ghost use Rattle.zio_stages.specs.Wholes.{IsTreeOf};
-ghost use Rattle.zio_stages.specs.declared.outcome.Outcome.{Outcome as SeenOutcome};
+ghost use Rattle.zio_exchange.specs.declared.outcome.Outcome.{Outcome as SeenOutcome};
 ghost use Rattle.zio_turns.specs.Stages.{
   EachIn,
   Hears,
@@ -58,9 +58,10 @@ use crate::turn::Turn;
 use std::alloc::Global;
 use std::mem::replace;
 use zio_blkptr::Bp;
+use zio_exchange::{Services, Whole};
 use zio_masks::Stage;
 use zio_script::Failmode;
-use zio_stages::{Finished, Outcome, Services, Whole};
+use zio_stages::{Finished, Outcome, Seal, request_label};
 use zio_turns::Move;
 use zio_types::{Bytes, ChildKind, Errno, Kind, NoMemory, Phase, ReqNo, Top};
 
@@ -144,7 +145,7 @@ impl Node {
             Node::Copies(at) => at.node.label(),
             Node::Heads(at) => at.node.label(),
             Node::Part(at) => at.node.label(),
-            Node::Tree(at) => at.whole.root().label(at.attempt),
+            Node::Tree(at) => request_label(at.whole.root(), at.attempt),
             Node::Request(at) => at.node.label(),
             Node::Empty => 0,
         }
@@ -162,6 +163,19 @@ impl Node {
             }
             Node::Request(at) => at.node.unfinished(),
             Node::Leaf(_) | Node::Copies(_) | Node::Heads(_) | Node::Part(_) | Node::Empty => 0,
+        }
+    }
+
+    /// How many children it handed out.
+    pub fn children(&self) -> usize
+        ensures { result ≡ length (children_of self.now) }
+    {
+        match self {
+            Node::Copies(at) => at.family().len(),
+            Node::Heads(at) => at.family().len(),
+            Node::Part(at) => at.node.family().len(),
+            Node::Request(at) => at.node.family().len(),
+            Node::Leaf(_) | Node::Tree(_) | Node::Empty => 0,
         }
     }
 
@@ -319,7 +333,11 @@ impl Node {
     }
 
     /// The same of a node that isn't in a place.
-    fn last_move<S: Services>(self, alloc: Global, services: &mut S) -> Result<Move<Node>, Node>
+    fn last_move<S: Services>(
+        self,
+        alloc: Global,
+        services: &mut S,
+    ) -> Result<Move<Node, Seal>, Node>
         requires over { IsNodeOver (S.tops services.old) self }
         requires at_last { stage_of self ≡ Stage.Done }
         ensures moves { IfOk result (MovesWith S.made (S.tops services.old) services.old services.new self) }
@@ -341,7 +359,7 @@ impl Node {
     }
 
     /// What a stage came to that took the node apart: the node is in its place again, unless it ended.
-    fn settle(&mut self, moved: Result<Move<Node>, Node>) -> Result<Turn, NoMemory>
+    fn settle(&mut self, moved: Result<Move<Node, Seal>, Node>) -> Result<Turn, NoMemory>
         requires { IfOk moved IsInPlace }
         ensures ok { IfOk moved (λ move. IfOk result (λ turn. moved_to self.new turn ≡ move)) }
         ensures stays { IfErr moved (λ node. self.new ≡ node) }
@@ -375,7 +393,7 @@ impl Node {
     }
 
     /// The child of this number told which pointer its value will have, or that it has none.
-    pub fn arrive_ready(&mut self, child: u32, pointer: Option<Bp>)
+    pub fn arrive_ready(&mut self, child: usize, pointer: Option<Bp>)
         requires awaited { HearsSomeEarly nodes self.old child }
         requires valid { IfSome pointer (λ bp. IsTrue (valid bp)) }
         ensures heard { (t : Terms) (st : Stack) (c : Child) → HearsEarly nodes t self.old st child c →
@@ -400,7 +418,7 @@ impl Node {
     pub fn arrive(
         &mut self,
         tops: &[Top],
-        child: u32,
+        child: usize,
         outcome: Outcome,
     ) -> Result<Option<Finished>, Outcome>
         requires over { IsNodeOver tops.now self.old }

@@ -13,7 +13,7 @@ use crate::request_at::RequestAt;
 use crate::turn::Turn;
 use std::alloc::Global;
 use zio_masks::{NULL, Stage, next};
-use zio_stages::{DoneStep, NodeBack, what_is_no_write_has_no_pointer};
+use zio_stages::{DoneStep, NodeBack, Seal, what_is_no_write_has_no_pointer};
 use zio_turns::Move;
 use zio_types::{Kind, Phase};
 
@@ -38,7 +38,7 @@ impl RequestAt {
 
     /// Ends once each child has. Where memory is refused it comes back as it was.
     #[inline(never)]
-    pub(crate) fn null_done(self, alloc: Global) -> Result<Move<Node>, Node>
+    pub(crate) fn null_done(self, alloc: Global) -> Result<Move<Node, Seal>, Node>
         requires over { (tops : Seq SeenTop) × IsRequestAtOver tops self }
         requires kind { kind_of self.node.waiting.request.work ≡ Kind.Null }
         requires stage { self.stage ≡ Stage.Done }

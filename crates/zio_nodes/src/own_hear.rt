@@ -26,7 +26,7 @@ use zio_types::{ChildKind, Kind, Top};
 impl RequestAt {
     /// A gang child of its own work told. Whatever that was: a walk or a read has no pointer, and the request keeps
     /// none.
-    pub fn arrive_own_ready(&mut self, child: u32)
+    pub fn arrive_own_ready(&mut self, child: usize)
         requires gang { HearsEarlyOf Gang self.old.node child }
         requires kind { kind_of self.old.node.waiting.request.work ≢ Kind.Write }
         ensures heard { (t : Terms) (st : Stack) (c : Child) (pointer : Option Bp) →
@@ -54,7 +54,7 @@ impl RequestAt {
     }
 
     /// A child of its own work ended: the walk over the block's headers, the read of a body, or an operation on a leaf.
-    pub fn arrive_own(&mut self, tops: &[Top], child: u32, outcome: Outcome)
+    pub fn arrive_own(&mut self, tops: &[Top], child: usize, outcome: Outcome)
         requires over { IsRequestAtOver tops.now self.old }
         requires awaited { HearsSome nodes tops.now (Node.Request self.old) child outcome }
         requires own { IsOwnOutcome outcome }
@@ -78,7 +78,7 @@ impl RequestAt {
     }
 
     /// Of a read.
-    fn arrive_read(&mut self, tops: &[Top], child: u32, outcome: Outcome)
+    fn arrive_read(&mut self, tops: &[Top], child: usize, outcome: Outcome)
         requires over { IsRequestAtOver tops.now self.old }
         requires awaited { HearsSome nodes tops.now (Node.Request self.old) child outcome }
         requires own { IsOwnOutcome outcome }
@@ -114,7 +114,7 @@ impl RequestAt {
     }
 
     /// Of a free.
-    fn arrive_free(&mut self, child: u32, outcome: Outcome)
+    fn arrive_free(&mut self, child: usize, outcome: Outcome)
         requires over { (tops : Seq SeenTop) × IsRequestAtOver tops self.old }
         requires awaited { (tops : Seq SeenTop) × HearsSome nodes tops (Node.Request self.old) child outcome }
         requires own { IsOwnOutcome outcome }
@@ -136,7 +136,7 @@ impl RequestAt {
     }
 
     /// Of a claim.
-    fn arrive_claim(&mut self, tops: &[Top], child: u32, outcome: Outcome)
+    fn arrive_claim(&mut self, tops: &[Top], child: usize, outcome: Outcome)
         requires over { IsRequestAtOver tops.now self.old }
         requires awaited { HearsSome nodes tops.now (Node.Request self.old) child outcome }
         requires own { IsOwnOutcome outcome }

@@ -9,9 +9,9 @@ ghost use Rattle.zio_trace.specs.Leaves.{error_of as seen_error_of};
 ghost use Rattle.zio_trace.specs.Tasks.{Task, Value};
 ghost use Rattle.zio_frames.specs.Frames.{Child, Stack};
 ghost use Rattle.zio_frames.specs.Moves.{heard_early, heard_of};
+ghost use Rattle.zio_exchange.specs.SpaceCalls.{SpaceCall};
 ghost use Rattle.zio_stages.specs.PartNodes.{IsPartNode, IsPartNodeOver};
 ghost use Rattle.zio_stages.specs.PartWorks.{HaveUnits};
-ghost use Rattle.zio_stages.specs.SpaceCalls.{SpaceCall};
 ghost use Rattle.zio_stages.specs.Tops.{AreTops};
 ghost use Rattle.zio_turns.specs.Stages.{EachIn, GoesOn, Hears, HearsEarly, HearsSome, HearsSomeEarly, IsMove, IsNow, Lessens, TellsValid, heard_max};
 ghost use Rattle.zio_nodes.specs.Bounds.{part_left, part_max};
@@ -25,8 +25,9 @@ use crate::node::Node;
 use crate::turn::Turn;
 use std::alloc::Global;
 use zio_blkptr::Bp;
+use zio_exchange::Services;
 use zio_masks::{Stage, WRITE, next};
-use zio_stages::{Outcome, PartNode, Services};
+use zio_stages::{Outcome, PartNode};
 use zio_types::{Bytes, Errno, NoMemory, Top};
 
 /// The write of a gang's member at a stage of its pipeline.
@@ -130,7 +131,7 @@ impl PartAt {
     }
 
     /// A member told which pointer it will have.
-    pub fn arrive_ready(&mut self, child: u32, pointer: Option<Bp>)
+    pub fn arrive_ready(&mut self, child: usize, pointer: Option<Bp>)
         requires awaited { HearsSomeEarly nodes (Node.Part self.old) child }
         requires valid { IfSome pointer (λ bp. IsTrue (valid bp)) }
         ensures heard { (t : Terms) (st : Stack) (c : Child) → HearsEarly nodes t (Node.Part self.old) st child c →
@@ -144,7 +145,7 @@ impl PartAt {
     }
 
     /// A child ended: the write of a copy, or a member.
-    pub fn arrive(&mut self, tops: &[Top], child: u32, outcome: Outcome)
+    pub fn arrive(&mut self, tops: &[Top], child: usize, outcome: Outcome)
         requires over { IsPartAtOver tops.now self.old }
         requires awaited { HearsSome nodes tops.now (Node.Part self.old) child outcome }
         ensures heard { (t : Terms) (st : Stack) (c : Child) (op : Task) (v : Value) →

@@ -4,7 +4,7 @@ ghost use Rattle.std.specs.Prelude.{◌≡◌, Err, IfErr, IfOk, List as Seq, Ok
 ghost use Rattle.zio_types.specs.declared.place.Top.{Top as SeenTop};
 ghost use Rattle.zio_gang.specs.Attempts.{Terms};
 ghost use Rattle.zio_frames.specs.Frames.{Stack};
-ghost use Rattle.zio_stages.specs.SpaceCalls.{SpaceCall};
+ghost use Rattle.zio_exchange.specs.SpaceCalls.{SpaceCall};
 ghost use Rattle.zio_turns.specs.Stages.{EachIn, GoesOn, IsMove, IsNow, Lessens, TellsValid};
 ghost use Rattle.zio_nodes.specs.Passes.{KeepsPassAt};
 ghost use Rattle.zio_nodes.specs.StageMoves.{IsLastMove, IsStageMove};
@@ -16,8 +16,9 @@ use crate::node::Node;
 use crate::part_at::PartAt;
 use crate::turn::{Turn, new_room};
 use std::alloc::Global;
+use zio_exchange::Services;
 use zio_masks::{Stage, WRITE, next};
-use zio_stages::{Allocated, DoneStep, IoNext, Outcome, PartNodeBack, ReadyStep, Services};
+use zio_stages::{Allocated, DoneStep, IoNext, Outcome, PartNodeBack, ReadyStep, Seal};
 use zio_turns::Move;
 use zio_types::{ChildKind, NoMemory, Phase, Top};
 
@@ -159,7 +160,7 @@ impl PartAt {
     }
 
     /// Waits for its members, and ends with what was stored. Where memory is refused it comes back as it was.
-    pub(crate) fn done(self, alloc: Global) -> Result<Move<Node>, Node>
+    pub(crate) fn done(self, alloc: Global) -> Result<Move<Node, Seal>, Node>
         requires over { (tops : Seq SeenTop) × IsPartAtOver tops self }
         requires stage { self.stage ≡ Stage.Done }
         ensures moves { (tops : Seq SeenTop) → IfOk result (MovesBare tops (Node.Part self)) }

@@ -20,8 +20,9 @@ use crate::request_at::RequestAt;
 use crate::stall::gang_stall;
 use crate::turn::{Turn, new_room};
 use std::alloc::Global;
+use zio_exchange::Services;
 use zio_masks::{INTERLOCK, READ, Stage, next, with_gang};
-use zio_stages::{BodyStage, ReadDone, Services};
+use zio_stages::{BodyStage, ReadDone, Seal};
 use zio_turns::Move;
 use zio_types::{ChildKind, Kind, NoMemory, Phase, Top};
 
@@ -222,7 +223,7 @@ impl RequestAt {
 
     /// Ends once its children have. Where memory is refused it comes back, and what it came to stays.
     #[inline(never)]
-    pub(crate) fn read_done(self, alloc: Global) -> Result<Move<Node>, Node>
+    pub(crate) fn read_done(self, alloc: Global) -> Result<Move<Node, Seal>, Node>
         requires over { (tops : Seq SeenTop) × IsRequestAtOver tops self }
         requires kind { kind_of self.node.waiting.request.work ≡ Kind.Read }
         requires stage { self.stage ≡ Stage.Done }

@@ -16,7 +16,7 @@ ghost use Rattle.zio_frames.specs.Frames.{Child, Stack};
 ghost use Rattle.zio_frames.specs.Moves.{heard_early, heard_of};
 ghost use Rattle.zio_stages.specs.RequestKinds.{has_gang_stages};
 ghost use Rattle.zio_stages.specs.RequestNodes.{IsRequestNode};
-ghost use Rattle.zio_stages.specs.declared.outcome.Outcome.{Outcome as SeenOutcome};
+ghost use Rattle.zio_exchange.specs.declared.outcome.Outcome.{Outcome as SeenOutcome};
 ghost use Rattle.zio_turns.specs.Stages.{
   EachIn,
   Hears,
@@ -50,8 +50,9 @@ use crate::tree_at::TreeAt;
 use crate::turn::{Turn, new_room};
 use std::alloc::Global;
 use zio_blkptr::Bp;
+use zio_exchange::Services;
 use zio_masks::{CLAIM, FREE, NULL, Pipeline, READ, Stage, WRITE, next, with_gang};
-use zio_stages::{Finished, Outcome, RequestNode, Services, Start};
+use zio_stages::{Finished, Outcome, RequestNode, Seal, Start};
 use zio_turns::Move;
 use zio_types::{ChildKind, Kind, NoMemory, Top};
 
@@ -107,7 +108,7 @@ impl RequestAt {
         self,
         alloc: Global,
         services: &mut S,
-    ) -> Result<Move<Node>, Node>
+    ) -> Result<Move<Node, Seal>, Node>
         requires over { IsRequestAtOver (S.tops services.old) self }
         requires stage { self.stage ≡ Stage.Done }
         ensures moves { IfOk result (MovesWith S.made (S.tops services.old) services.old services.new
@@ -130,7 +131,7 @@ impl RequestAt {
     }
 
     /// The child of this number told which pointer its value will have, or that it has none.
-    pub fn arrive_ready(&mut self, child: u32, pointer: Option<Bp>)
+    pub fn arrive_ready(&mut self, child: usize, pointer: Option<Bp>)
         requires awaited { HearsSomeEarly nodes (Node.Request self.old) child }
         requires valid { IfSome pointer (λ bp. IsTrue (valid bp)) }
         ensures heard { (t : Terms) (st : Stack) (c : Child) → HearsEarly nodes t (Node.Request self.old) st child c →
@@ -152,7 +153,7 @@ impl RequestAt {
     }
 
     /// The child of this number ended. Of a request that finished this comes back.
-    pub fn arrive(&mut self, tops: &[Top], child: u32, outcome: Outcome) -> Option<Finished>
+    pub fn arrive(&mut self, tops: &[Top], child: usize, outcome: Outcome) -> Option<Finished>
         requires over { IsRequestAtOver tops.now self.old }
         requires awaited { HearsSome nodes tops.now (Node.Request self.old) child outcome }
         requires inside { OutcomeIn (IsTreeOver tops.now) outcome }

@@ -15,7 +15,7 @@ use zio_stages::Family;
 use zio_types::{ChildKind, Phase};
 
 /// How many gang children a stage that hands out many may have out.
-const GANG_ROOM: u32 = 3;
+const GANG_ROOM: usize = 3;
 
 /// What a node at the stage waits for before the stage does anything, if it waits: a kind of which a child lacks its
 /// value for the phase. A stage that hands out many gang children waits only where no more may be out.
@@ -83,7 +83,7 @@ fn first_of(family: &Family, kinds: &[ChildKind], phase: Phase) -> Option<(Child
 }
 
 /// How many children there are from the first gang child that isn't done on, so at least as many as aren't.
-fn gang_window(family: &Family) -> u32
+fn gang_window(family: &Family) -> usize
     ensures { count_owing Gang IsDone family.now ≤ result }
 {
     match family.first_missing(ChildKind::Gang, Phase::Done) {

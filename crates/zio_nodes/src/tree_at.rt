@@ -6,7 +6,7 @@ ghost use Rattle.zio_gang.specs.Attempts.{Pending, Terms};
 ghost use Rattle.zio_trace.specs.Families.{Forest};
 ghost use Rattle.zio_trace.specs.Tasks.{Attempt};
 ghost use Rattle.zio_frames.specs.Frames.{fresh_stack};
-ghost use Rattle.zio_stages.specs.Wholes.{IsTreeOf};
+ghost use Rattle.zio_exchange.specs.Wholes.{IsTreeOf};
 ghost use Rattle.zio_turns.specs.Stages.{EachIn, Lessens, TellsValid};
 ghost use Rattle.zio_nodes.specs.Nodes.{IsNodeOver, IsTreeOver, MovesBare, StaysBare, left_of};
 ghost use Rattle.zio_nodes.specs.StageMoves.{IsStart};
@@ -15,9 +15,10 @@ ghost use Rattle.zio_nodes.specs.TreeAts.{IsTreeAt, IsTreeAtOver};
 use crate::node::Node;
 use crate::request_at::RequestAt;
 use std::alloc::Global;
+use zio_exchange::{Whole, WholeBack};
 use zio_masks::Stage;
 use zio_script::Failmode;
-use zio_stages::{RequestNode, Whole, WholeBack};
+use zio_stages::{RequestNode, Seal};
 use zio_turns::Move;
 
 /// A tree of requests, of whose attempt nothing is done. It is split only once it runs, so that it can be handed out
@@ -49,7 +50,7 @@ impl TreeAt {
     }
 
     /// Splits the tree into its request and its children's trees. Where memory is refused it comes back as it was.
-    pub fn run_stage(self, alloc: Global) -> Result<Move<Node>, Node>
+    pub fn run_stage(self, alloc: Global) -> Result<Move<Node, Seal>, Node>
         ensures moves { (tops : Seq SeenTop) → IfOk result (MovesBare tops (Node.Tree self)) }
         ensures over { (tops : Seq SeenTop) → IsTreeAtOver tops self
             → IfOk result (EachIn (IsNodeOver tops) (IsTreeOver tops)) }

@@ -20,8 +20,9 @@ use crate::part_at::PartAt;
 use crate::request_at::RequestAt;
 use crate::turn::{Turn, new_room};
 use std::alloc::Global;
+use zio_exchange::Services;
 use zio_masks::{Stage, WRITE, next};
-use zio_stages::{Allocated, Content, DoneStep, IoNext, NodeBack, ReadyStep, Services};
+use zio_stages::{Allocated, Content, DoneStep, IoNext, NodeBack, ReadyStep, Seal};
 use zio_turns::Move;
 use zio_types::{ChildKind, Kind, NoMemory, Phase, Top};
 
@@ -294,7 +295,7 @@ impl RequestAt {
         self,
         alloc: Global,
         services: &mut S,
-    ) -> Result<Move<Node>, Node>
+    ) -> Result<Move<Node, Seal>, Node>
         requires over { IsRequestAtOver (S.tops services.old) self }
         requires kind { kind_of self.node.waiting.request.work ≡ Kind.Write }
         requires stage { self.stage ≡ Stage.Done }
@@ -324,7 +325,11 @@ impl RequestAt {
 
     /// Gives the places of its block back where it is to lose that, and ends. Where memory is refused it comes back,
     /// and the places that went back are told.
-    fn write_end<S: Services>(self, alloc: Global, services: &mut S) -> Result<Move<Node>, Node>
+    fn write_end<S: Services>(
+        self,
+        alloc: Global,
+        services: &mut S,
+    ) -> Result<Move<Node, Seal>, Node>
         requires over { IsRequestAtOver (S.tops services.old) self }
         requires kind { kind_of self.node.waiting.request.work ≡ Kind.Write }
         requires stage { self.stage ≡ Stage.Done }

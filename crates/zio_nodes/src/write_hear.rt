@@ -25,7 +25,7 @@ use zio_types::{Kind, Top};
 
 impl RequestAt {
     /// A member of its block told which pointer it will have.
-    pub fn arrive_member_ready(&mut self, child: u32, pointer: Option<Bp>)
+    pub fn arrive_member_ready(&mut self, child: usize, pointer: Option<Bp>)
         requires awaited { HearsSomeEarly nodes (Node.Request self.old) child }
         requires gang { HearsEarlyOf Gang self.old.node child }
         requires kind { kind_of self.old.node.waiting.request.work ≡ Kind.Write }
@@ -43,7 +43,7 @@ impl RequestAt {
     }
 
     /// A member of its block ended, or an operation on a leaf for its own copies.
-    pub fn arrive_written(&mut self, tops: &[Top], child: u32, outcome: Outcome)
+    pub fn arrive_written(&mut self, tops: &[Top], child: usize, outcome: Outcome)
         requires over { IsRequestAtOver tops.now self.old }
         requires awaited { HearsSome nodes tops.now (Node.Request self.old) child outcome }
         requires own { IsOwnOutcome outcome }

@@ -1,6 +1,6 @@
 // The read of a block under way.
 
-ghost use Rattle.std.specs.Prelude.{◌≡◌, ◌++◌, ◌+◌, ◌<◌, ◌≤◌, ◌∷◌, [], IfErr, IfOk, IfSome, List, None, OnErr, OnOk, Option, Some, length, option_map, slice_get, slice_set};
+ghost use Rattle.std.specs.Prelude.{◌≡◌, ◌++◌, ◌+◌, ◌^◌, ◌<◌, ◌≤◌, ◌∷◌, [], IfErr, IfOk, IfSome, List, None, OnErr, OnOk, Option, Some, length, option_map, slice_get, slice_set};
 ghost use Rattle.zio_gang.specs.declared.tree.Head.{Head};
 ghost use Rattle.zio_gang.specs.Attempts.{Terms};
 ghost use Rattle.zio_trace.specs.Calls.{answered_at};
@@ -100,6 +100,7 @@ impl TreeRead {
         ensures shows { ShowsRead self.now result }
         ensures body { (body : BodyRead) → result ≡ TreeStep.Body body
             → slice_get self.now.bodies body.n ≡ Some body.bp }
+        ensures small { (body : BodyRead) → result ≡ TreeStep.Body body → body.n < 2 ^ 63 }
     {
         match self.phase {
             Phase::Unread => TreeStep::Walk,
@@ -115,6 +116,7 @@ impl TreeRead {
         ensures shows { ShowsRead self.now result }
         ensures body { (body : BodyRead) → result ≡ TreeStep.Body body
             → slice_get self.now.bodies body.n ≡ Some body.bp }
+        ensures small { (body : BodyRead) → result ≡ TreeStep.Body body → body.n < 2 ^ 63 }
     {
         let n = self.results.len();
         if self.out == BODIES_OUT_MAX {

@@ -9,12 +9,12 @@ use Rattle.zio_trace.specs.Plans.{Kids, one_of}
 use Rattle.zio_trace.specs.Tasks.{AttemptedBy, Got, Wrote, Found, StoredAs, WalkedBy, Taken, SettledBy}
 use Rattle.zio_children.specs.RequestKids.{RiseFrom, kids_by}
 use Rattle.zio_frames.specs.Slots.{Heard, IsOut, Slot}
-use Rattle.zio_stages.specs.declared.waiting.UnfinishedRequest.{UnfinishedRequest}
 use Rattle.zio_parts.specs.Gathers.{as_counted}
-use Rattle.zio_stages.specs.KidTrees.{AreLeft, AreNumbered, IsLeft, trees_left}
-use Rattle.zio_stages.specs.Wholes.{AreTrees, IsForestOf, IsTreeOf, IsWhole, joined, number_or, root_number, root_of, roots_in}
-use Rattle.zio_stages.proofs.ForestLemmas.{one_forest}
-use Rattle.zio_stages.proofs.WholeLemmas.{PutSoFar, root_last}
+use Rattle.zio_exchange.specs.declared.waiting.UnfinishedRequest.{UnfinishedRequest}
+use Rattle.zio_exchange.specs.Wholes.{AreTrees, IsForestOf, IsLeft, IsTreeOf, IsWhole, joined, number_or, root_number, root_of, roots_in}
+use Rattle.zio_exchange.proofs.ForestLemmas.{one_forest}
+use Rattle.zio_exchange.proofs.WholeLemmas.{PutSoFar, root_last}
+use Rattle.zio_stages.specs.KidTrees.{AreLeft, AreNumbered, trees_left}
 
 -- ---- what is left
 

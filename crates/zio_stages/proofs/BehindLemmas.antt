@@ -19,8 +19,9 @@ use Rattle.zio_frames.specs.Seats.{HasSeat, IsInnerSeat, IsSatAt, IsSeated, aske
 use Rattle.zio_frames.specs.Slots.{Heard, IsOut, Slot, left_behind_slots, told_in}
 use Rattle.zio_frames.proofs.GetLemmas.{all_at}
 use Rattle.zio_frames.proofs.SlotMoves.{set_end}
+use Rattle.zio_exchange.specs.WithinParts.{IsDoneWithin}
 use Rattle.zio_stages.specs.NodeChildren.{is_owing}
-use Rattle.zio_stages.specs.OwnParts.{DoesThen, Follows, GoesOnAs, HandsTo, IsBehind, IsDoneWithin, IsOwed}
+use Rattle.zio_stages.specs.OwnParts.{DoesThen, Follows, GoesOnAs, HandsTo, IsBehind, IsOwed}
 use Rattle.zio_stages.specs.PartsOut.{ArePartsOut}
 use Rattle.zio_stages.proofs.KidAsking.{beside_then}
 use Rattle.zio_stages.proofs.NodeIoMoves.{any_at}

@@ -10,9 +10,9 @@ use Rattle.zio_children.specs.declared.kids.Kid.{Kid}
 use Rattle.zio_children.specs.declared.kids.KidState.{KidState}
 use Rattle.zio_children.specs.declared.kids.KidState.TheVariants.{Due, Out, Told, Ended}
 use Rattle.zio_frames.specs.Slots.{Slot}
-use Rattle.zio_stages.specs.declared.waiting.UnfinishedRequest.{UnfinishedRequest}
+use Rattle.zio_exchange.specs.declared.waiting.UnfinishedRequest.{UnfinishedRequest}
+use Rattle.zio_exchange.specs.Wholes.{AreTrees, IsWhole}
 use Rattle.zio_stages.specs.KidTrees.{AreLeft, IsKids, IsLeftIn, KidsHeld, trees_left}
-use Rattle.zio_stages.specs.Wholes.{AreTrees, IsWhole}
 use Rattle.zio_stages.proofs.AgainLemmas.{LeftBy, left_by}
 use Rattle.zio_stages.proofs.SplitLemmas.{reverse_first}
 

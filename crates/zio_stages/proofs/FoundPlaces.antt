@@ -17,8 +17,8 @@ use Rattle.zio_gang.specs.Trees.{size_of, sizes_of}
 use Rattle.zio_gang.specs.Writes.{places_chosen, places_unless}
 use Rattle.zio_parts.specs.Copies.{AreMirrored}
 use Rattle.zio_parts.specs.Parts.{PartWriting, pointer_over}
+use Rattle.zio_exchange.specs.SpaceCalls.{IsAnswerFor}
 use Rattle.zio_stages.specs.PartWorks.{HaveUnits}
-use Rattle.zio_stages.specs.SpaceCalls.{IsAnswerFor}
 use Rattle.zio_stages.specs.Tops.{AreTops, IsTop}
 use Rattle.zio_stages.specs.WriteIos.{AreIoPlaces, AreShort}
 

@@ -2,7 +2,7 @@
 use Rattle.std.proofs.Common.{◌≡◌, ℕ, zero, suc, ◌+◌, List, [], ◌∷◌, ◌++◌, take, slice_get, Some, sym, ap, subst, ◌∙◌, arith, append_assoc, append-nil}
 use Rattle.std.proofs.lemmas.List.{map-append}
 use Rattle.zio_types.specs.declared.place.Place.{Place}
-use Rattle.zio_stages.specs.SpaceCalls.{GaveBack, GivesBack, SpaceCall, calls_back}
+use Rattle.zio_exchange.specs.SpaceCalls.{GaveBack, GivesBack, SpaceCall, calls_back}
 
 -- none yet
 pub gives_none : {S : Type 0} (made : S → List SpaceCall → S → Type 0) (places : List Place) (n : ℕ) (a : S) → made a [] a → GivesBack made places n n a a

@@ -24,10 +24,10 @@ use Rattle.zio_parts.specs.declared.head_walk.Header.{Header}
 use Rattle.zio_parts.specs.declared.head_walk.Header.TheVariants.{Unread, Out, Failed, Read}
 use Rattle.zio_parts.specs.declared.head_walk.WalkStep.TheVariants.{End}
 use Rattle.zio_parts.proofs.WalkLemmas.{below_asks, walks_below}
+use Rattle.zio_exchange.specs.Outcomes.{ClaimsInside}
+use Rattle.zio_exchange.specs.SpaceCalls.{LieOnTops}
 use Rattle.zio_stages.specs.HeadsNodes.{IsHeadsNode}
 use Rattle.zio_stages.specs.HeadsWorks.{HasAsked, IsWalkBelow, walk_task}
-use Rattle.zio_stages.specs.Outcomes.{ClaimsInside}
-use Rattle.zio_stages.specs.SpaceCalls.{LieOnTops}
 use Rattle.zio_stages.specs.declared.heads_node.HeadsNode.{HeadsNode}
 use Rattle.zio_stages.proofs.HeadsTops.{claimable_lies}
 

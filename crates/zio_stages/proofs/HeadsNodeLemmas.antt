@@ -21,10 +21,10 @@ use Rattle.zio_frames.proofs.GetLemmas.{all_at, get_either, get_exchanged}
 use Rattle.zio_parts.specs.HeadWalks.{look_of, member_slot, named_by, slots_of, walk_slots}
 use Rattle.zio_parts.specs.declared.head_walk.Header.{Header}
 use Rattle.zio_parts.specs.declared.head_walk.Header.TheVariants.{Unread, Out, Failed, Read}
+use Rattle.zio_exchange.specs.Outcomes.{ClaimsInside, IsReading, IsWalk}
 use Rattle.zio_stages.specs.HeadsNodes.{HearsBelow, HearsHead, IsHeadsNode, with_slots}
 use Rattle.zio_stages.specs.HeadsWorks.{IsAskedOf, IsHeadsWork, read_task, walk_task}
 use Rattle.zio_stages.specs.NodeChildren.{is_owing, new_child}
-use Rattle.zio_stages.specs.Outcomes.{ClaimsInside, IsReading, IsWalk}
 use Rattle.zio_stages.specs.OwnParts.{HandsTo, HearsValue, IsOwed, ToldSince}
 use Rattle.zio_stages.specs.declared.heads.HeadRead.{HeadRead}
 use Rattle.zio_stages.specs.declared.heads.HeadRead.TheVariants.{Kept, Claimed}

@@ -19,9 +19,9 @@ use Rattle.zio_cksum.proofs.AllLemmas.{all_filter, all_weaker}
 use Rattle.zio_cksum.specs.Blocks.{leaves_of_top}
 use Rattle.zio_gang.specs.Trees.{inval_unless, is_claimable, piece_size, sizes_of}
 use Rattle.zio_parts.specs.Copies.{AreMirrored}
+use Rattle.zio_exchange.specs.SpaceCalls.{LieOnTops}
 use Rattle.zio_stages.specs.HeadsNodes.{HasLeaves, LiesOn}
 use Rattle.zio_stages.specs.HeadsWorks.{claim_error}
-use Rattle.zio_stages.specs.SpaceCalls.{LieOnTops}
 use Rattle.zio_stages.specs.Tops.{AreTops, IsTop}
 use Rattle.zio_stages.specs.WriteIos.{AreIoPlaces, AreShort}
 

@@ -8,7 +8,7 @@ use Rattle.zio_children.specs.RequestKids.{FitKids, root_numbers}
 use Rattle.zio_children.specs.declared.kids.Kid.{Kid}
 use Rattle.zio_frames.specs.Moves.{AsksNext, GoesBesideAll}
 use Rattle.zio_frames.specs.Slots.{Heard, IsOut, Slot}
-use Rattle.zio_stages.specs.declared.waiting.UnfinishedRequest.{UnfinishedRequest}
+use Rattle.zio_exchange.specs.declared.waiting.UnfinishedRequest.{UnfinishedRequest}
 use Rattle.zio_stages.specs.KidTrees.{HandsOut, IsKids, KidsHeld, attempts_of}
 use Rattle.zio_stages.specs.PartsOut.{ArePartsOut}
 use Rattle.zio_stages.proofs.Asking.{asks_next}

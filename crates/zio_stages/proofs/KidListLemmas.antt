@@ -4,11 +4,11 @@ use Rattle.std.specs.List.{AllByRecursion}
 use Rattle.zio_gang.specs.Attempts.{Return, children_of, finished_of, has_bits}
 use Rattle.zio_children.specs.RequestKids.{KidsUnderWay, child_of, finished_in, return_by, returns_in}
 use Rattle.zio_children.specs.declared.kept.KeptChild.{KeptChild}
+use Rattle.zio_exchange.specs.Wholes.{counted, joined}
+use Rattle.zio_exchange.specs.declared.waiting.UnfinishedRequest.{UnfinishedRequest}
 use Rattle.zio_stages.specs.KidLists.{IsLeftList}
 use Rattle.zio_stages.specs.KidPointers.{HasValid, HaveValidPointers}
 use Rattle.zio_stages.specs.KidTrees.{KidsHeld, trees_left}
-use Rattle.zio_stages.specs.Wholes.{counted, joined}
-use Rattle.zio_stages.specs.declared.waiting.UnfinishedRequest.{UnfinishedRequest}
 use Rattle.zio_stages.proofs.KidPointerLemmas.{IsValidIn, IsValidReturn, children_valid, kept_valid, merged_valid, returns_valid}
 use Rattle.zio_stages.proofs.SplitLemmas.{all_reversed}
 

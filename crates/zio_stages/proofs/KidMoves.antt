@@ -14,10 +14,10 @@ use Rattle.zio_children.proofs.KidFields.{numbers_set, out_at}
 use Rattle.zio_children.proofs.KidPlans.{next_kid}
 use Rattle.zio_frames.specs.Slots.{Heard, IsOut, Slot}
 use Rattle.zio_frames.proofs.SlotMoves.{IsOutAt}
-use Rattle.zio_stages.specs.declared.waiting.UnfinishedRequest.{UnfinishedRequest}
+use Rattle.zio_exchange.specs.declared.waiting.UnfinishedRequest.{UnfinishedRequest}
+use Rattle.zio_exchange.specs.Wholes.{AreTrees, IsTreeOf, IsWhole, number_or, root_number, roots_in}
+use Rattle.zio_exchange.proofs.WholeLemmas.{root_number_is}
 use Rattle.zio_stages.specs.KidTrees.{AreHeld, AreLeft, AreNumbered, HandsOut, IsKids, IsLeftIn, KidsHeld, attempts_of, trees_from}
-use Rattle.zio_stages.specs.Wholes.{AreTrees, IsTreeOf, IsWhole, number_or, root_number, roots_in}
-use Rattle.zio_stages.proofs.WholeLemmas.{root_number_is}
 
 -- ---- the next tree
 

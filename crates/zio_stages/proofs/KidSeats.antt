@@ -16,8 +16,8 @@ use Rattle.zio_frames.specs.Running.{FitsSlot}
 use Rattle.zio_frames.specs.Seats.{HasSeat, ShowsTold, SitsAt, asked_at, asked_in_inner, slot_at}
 use Rattle.zio_frames.specs.Slots.{AllHeard, Heard, IsOut, Slot}
 use Rattle.zio_frames.proofs.GetLemmas.{all_at}
+use Rattle.zio_exchange.specs.Outcomes.{IsAttempt}
 use Rattle.zio_stages.specs.LeavesOut.{IsLeafTask}
-use Rattle.zio_stages.specs.Outcomes.{IsAttempt}
 use Rattle.zio_blkptr.specs.Pointers.{pointer_of}
 use Rattle.zio_stages.specs.OwnReads.{IsBodyIn}
 use Rattle.zio_stages.specs.PartWorks.{IsPartWithin}

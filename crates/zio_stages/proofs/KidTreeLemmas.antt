@@ -6,15 +6,15 @@ use Rattle.zio_gang.specs.Attempts.{Pending}
 use Rattle.zio_trace.specs.Families.{Forest, NoTrees, TreeOf, flat}
 use Rattle.zio_children.specs.RequestKids.{Fits, IsDue, KidsUnderWay, RiseFrom, due_kids, fresh_kids, numbers_of}
 use Rattle.zio_children.specs.declared.kept.KeptChild.{KeptChild}
-use Rattle.zio_stages.specs.declared.waiting.UnfinishedRequest.{UnfinishedRequest}
+use Rattle.zio_exchange.specs.declared.waiting.UnfinishedRequest.{UnfinishedRequest}
+use Rattle.zio_exchange.specs.Waits.{pending_of}
+use Rattle.zio_exchange.specs.Wholes.{AreTrees, IsForestOf, IsTreeOf, IsWhole, Shape, joined, number_or, root_number, roots_in, shape_of, shapes, trees_in}
+use Rattle.zio_exchange.proofs.ForestLemmas.{one_forest}
+use Rattle.zio_exchange.proofs.WholeLemmas.{AreForest, forest_of, root_number_is, trees_forest, trees_roots}
 use Rattle.zio_stages.specs.KidLists.{AreBegun, AreMarked}
 use Rattle.zio_stages.specs.KidTrees.{AreHeld, AreLeft, AreNumbered, IsKids, KidsHeld}
 use Rattle.zio_stages.specs.Splits.{AreSoMany, AreTaken}
-use Rattle.zio_stages.specs.Waits.{pending_of}
-use Rattle.zio_stages.specs.Wholes.{AreTrees, IsForestOf, IsTreeOf, IsWhole, Shape, joined, number_or, root_number, roots_in, shape_of, shapes, trees_in}
-use Rattle.zio_stages.proofs.ForestLemmas.{one_forest}
 use Rattle.zio_stages.proofs.SplitLemmas.{all_reversed, reverse_first}
-use Rattle.zio_stages.proofs.WholeLemmas.{AreForest, forest_of, root_number_is, trees_forest, trees_roots}
 
 -- ---- the numbers of roots
 

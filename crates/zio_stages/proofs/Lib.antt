@@ -10,7 +10,6 @@ pub mod FamilyLemmas
 pub mod FetchCounts
 pub mod FinishedLemmas
 pub mod FirstLemmas
-pub mod ForestLemmas
 pub mod FoundPlaces
 pub mod FrontLemmas
 pub mod GiveBackLemmas
@@ -88,7 +87,6 @@ pub mod RequestWriteLemmas
 pub mod SplitLemmas
 pub mod ToldLemmas
 pub mod TreeLemmas
-pub mod WholeLemmas
 pub mod Within
 pub mod WriteIoLemmas
 pub mod WriteIoMoves

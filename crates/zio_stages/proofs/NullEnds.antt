@@ -12,9 +12,9 @@ use Rattle.zio_trace.specs.Tasks.{OwnGot, Task}
 use Rattle.zio_children.specs.RequestKids.{KidsUnderWay, pointers_of}
 use Rattle.zio_frames.specs.Frames.{Stack}
 use Rattle.zio_frames.specs.Slots.{AllHeard, Slot, left_behind_slots, told_in}
+use Rattle.zio_exchange.specs.Waits.{pending_of}
 use Rattle.zio_stages.specs.PartWorks.{Front}
 use Rattle.zio_stages.specs.RequestNodes.{IsOwnOf, IsRequestNode, OwnEnds, front_by}
-use Rattle.zio_stages.specs.Waits.{pending_of}
 use Rattle.zio_stages.specs.declared.request_node.Own.{Own}
 use Rattle.zio_stages.specs.declared.request_node.Own.TheVariants.{Claim, Due, Found, Free, Over, Read, Stored, Write}
 use Rattle.zio_stages.specs.declared.request_node.RequestNode.{RequestNode}

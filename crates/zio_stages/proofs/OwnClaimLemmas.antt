@@ -28,11 +28,11 @@ use Rattle.zio_frames.specs.Frames.{Child, OfOuter, Stack}
 use Rattle.zio_frames.specs.Moves.{AsksNext, Took, child_ended, child_told, done_at_once, heard_early, heard_of}
 use Rattle.zio_frames.specs.Slots.{AllHeard, Heard, IsOut, Slot, left_behind_slots, told_in}
 use Rattle.zio_parts.specs.TreeReads.{claiming}
+use Rattle.zio_exchange.specs.SpaceCalls.{Claimed, LieOnTops}
 use Rattle.zio_stages.specs.NodeChildren.{new_child}
 use Rattle.zio_stages.specs.OwnClaims.{ComesTo, HasClaimEnded, HasWalked, IsBlockOf, IsClaimOf, IsClaimOver, IsClaimStep, IsOwnClaim, LiesFound, LiesWalked, claim_task, own_claimed}
 use Rattle.zio_stages.specs.OwnParts.{DoesThen, GoesOnAs, HandsTo, IsBehind}
 use Rattle.zio_stages.specs.PartsOut.{ArePartsOut}
-use Rattle.zio_stages.specs.SpaceCalls.{Claimed, LieOnTops}
 use Rattle.zio_stages.specs.declared.own_claim.ClaimStep.{ClaimStep}
 use Rattle.zio_stages.specs.declared.own_claim.ClaimStep.TheVariants.{Due, Failed, Found, Out, Refused, Taken as TakenStep}
 use Rattle.zio_stages.specs.declared.own_claim.OwnClaim.{OwnClaim}

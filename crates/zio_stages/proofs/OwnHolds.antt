@@ -11,7 +11,7 @@ use Rattle.zio_frames.specs.Slots.{Heard, IsOut, Slot}
 use Rattle.zio_parts.specs.TreeReads.{slots_in}
 use Rattle.zio_parts.specs.declared.tree_read.Phase.{Phase}
 use Rattle.zio_parts.specs.declared.tree_read.Phase.TheVariants.{Unread as NoneRead, Out as WalkOut, Failed as WalkFailed, Found as BodiesFound}
-use Rattle.zio_stages.specs.Outcomes.{IsNoAttemptIn, places_by, places_in, places_with}
+use Rattle.zio_exchange.specs.Outcomes.{IsNoAttemptIn, places_by, places_in, places_with}
 use Rattle.zio_stages.specs.OwnClaims.{IsClaimOf, IsClaimStep, claim_task, taken_by}
 use Rattle.zio_stages.specs.OwnFrees.{IsFreeWalk}
 use Rattle.zio_stages.specs.OwnParts.{ToldSince}

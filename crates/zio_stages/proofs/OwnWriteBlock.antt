@@ -12,8 +12,8 @@ use Rattle.zio_script.specs.declared.script.Work.TheVariants.{Null, Read, Write,
 use Rattle.zio_script.specs.Requests.{kind_of}
 use Rattle.zio_script.specs.Whys.{body_len, fits_work, is_within, is_write, rounded_up, size_with}
 use Rattle.zio_gang.specs.Attempts.{Pending, Terms, writing_of}
+use Rattle.zio_exchange.specs.declared.waiting.UnfinishedRequest.{UnfinishedRequest}
 use Rattle.zio_stages.specs.KidTrees.{AreNumbered}
-use Rattle.zio_stages.specs.declared.waiting.UnfinishedRequest.{UnfinishedRequest}
 use Rattle.zio_parts.specs.Parts.{writing_by}
 
 pub not_write : (w : Work) → is_write (kind_of w) ≡ true

@@ -8,7 +8,7 @@ use Rattle.zio_parts.specs.Parts.{PartWriting, stored_at}
 use Rattle.zio_parts.specs.declared.parts.Placing.{Placing}
 use Rattle.zio_parts.specs.declared.parts.Placing.TheVariants.{Body, Head as HeadDue, Whole, Gang, Nowhere}
 use Rattle.zio_parts.specs.declared.parts.StoredPart.{StoredPart}
-use Rattle.zio_stages.specs.PartOwns.{IsKept, stored_as}
+use Rattle.zio_exchange.specs.Outcomes.{IsKept, stored_as}
 
 abbrev IsNamed : Option Bp → Type 0
 IsNamed pointer = IfSome pointer FitsTypes × IfSome pointer (λ bp. IsTrue (valid bp))

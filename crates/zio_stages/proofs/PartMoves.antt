@@ -21,12 +21,13 @@ use Rattle.zio_frames.specs.Slots.{Heard, IsOut, Slot, left_behind_slots, told_i
 use Rattle.zio_parts.specs.Parts.{PartWriting}
 use Rattle.zio_parts.specs.PartWrites.{is_due}
 use Rattle.zio_parts.specs.declared.parts.OwnWrite.TheVariants.{Ended as OwnEnded}
+use Rattle.zio_exchange.specs.WithinParts.{OpensWithin}
+use Rattle.zio_exchange.specs.SpaceCalls.{Placed, SpaceCall, call_by, calls_by}
 use Rattle.zio_stages.specs.NodeIos.{IsWriteAt}
-use Rattle.zio_stages.specs.OwnParts.{DoesThen, IsBehind, OpensWithin}
+use Rattle.zio_stages.specs.OwnParts.{DoesThen, IsBehind}
 use Rattle.zio_stages.specs.PartOwns.{ForBytes, HandsOut, IsPartOwn, PartAsk, PartAsks, WrittenPart, ask_of, asks_in}
 use Rattle.zio_stages.specs.PartsOut.{ArePartsOut}
 use Rattle.zio_stages.specs.PartWorks.{Front, IsFront, IsIdle, IsPartAt, IsPartWithin, IsWithin}
-use Rattle.zio_stages.specs.SpaceCalls.{Placed, SpaceCall, call_by, calls_by}
 use Rattle.zio_stages.specs.WriteIos.{IsWriteIo, IsWriteStep}
 use Rattle.zio_stages.specs.declared.family.Layer.TheVariants.{Within}
 use Rattle.zio_stages.specs.declared.part.PartOwn.{PartOwn}

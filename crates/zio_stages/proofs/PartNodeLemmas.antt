@@ -12,13 +12,13 @@ use Rattle.zio_frames.specs.Answering.{EndsAnswered}
 use Rattle.zio_frames.specs.Frames.{Stack}
 use Rattle.zio_frames.specs.Moves.{IsEnded, WillHave}
 use Rattle.zio_frames.specs.Slots.{AllHeard, Slot, left_behind_slots, told_in}
+use Rattle.zio_exchange.specs.Outcomes.{held_by, places_in}
+use Rattle.zio_exchange.specs.SpaceCalls.{SpaceCall}
 use Rattle.zio_stages.specs.NodeIos.{StartsBy}
-use Rattle.zio_stages.specs.Outcomes.{held_by, places_in}
 use Rattle.zio_stages.specs.OwnParts.{DoesThen, HandsTo}
 use Rattle.zio_stages.specs.PartNodes.{ComesTo, IsPartNode, no_front}
 use Rattle.zio_stages.specs.PartOwns.{WrittenPart, part_plan, part_task}
 use Rattle.zio_stages.specs.PartWorks.{IsFront}
-use Rattle.zio_stages.specs.SpaceCalls.{SpaceCall}
 use Rattle.zio_stages.specs.declared.leaf.LeafWork.{LeafWork}
 use Rattle.zio_stages.specs.declared.part_node.Allocated.{Allocated}
 use Rattle.zio_stages.specs.declared.part_node.Allocated.TheVariants.{Member, Placed}

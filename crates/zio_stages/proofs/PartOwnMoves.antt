@@ -21,7 +21,8 @@ use Rattle.zio_parts.specs.declared.members.Member.TheVariants.{Out as MemberOut
 use Rattle.zio_parts.specs.declared.parts.OwnWrite.TheVariants.{Due, Out as OwnOut, Ended as OwnEnded}
 use Rattle.zio_parts.specs.declared.parts.PartStep.TheVariants.{WriteBody, WriteHeader, Member as MemberStep, End}
 use Rattle.zio_parts.specs.declared.parts.StoredPart.{StoredPart}
-use Rattle.zio_stages.specs.PartOwns.{ForBytes, HandsMember, HandsOut, IsKept, IsKeptMember, IsPartOwn, PartAsks, ShowsOwn, WrittenPart, asks_in, level_below, member_of, part_plan, part_task, stored_as}
+use Rattle.zio_exchange.specs.Outcomes.{IsKept, stored_as}
+use Rattle.zio_stages.specs.PartOwns.{ForBytes, HandsMember, HandsOut, IsKeptMember, IsPartOwn, PartAsks, ShowsOwn, WrittenPart, asks_in, level_below, member_of, part_plan, part_task}
 use Rattle.zio_stages.specs.PartsOut.{ArePartsOut}
 use Rattle.zio_stages.specs.declared.part.PartOwn.{PartOwn}
 use Rattle.zio_stages.proofs.PartAsksLemmas.{header_asked, member_asked, member_set, own_set, placed_asks, placed_due}

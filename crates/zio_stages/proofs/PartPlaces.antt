@@ -28,8 +28,8 @@ use Rattle.zio_parts.specs.declared.parts.OwnWrite.TheVariants.{Due, Out as OwnO
 use Rattle.zio_parts.specs.declared.parts.PartStep.TheVariants.{WriteHeader, Wait, End}
 use Rattle.zio_parts.specs.declared.parts.Placing.{Placing}
 use Rattle.zio_parts.specs.declared.parts.Placing.TheVariants.{Body, Head as HeadDue, Whole, Gang, Nowhere}
-use Rattle.zio_stages.specs.Outcomes.{found_in, places_in, places_with, stored_in, stored_places}
-use Rattle.zio_stages.specs.PartOwns.{ForBytes, ForMember, ForOther, ForPlaces, IsKept, IsKeptMember, IsPartOwn, PartAsk, ShowsOwn, WrittenPart, ask_of, asks_at, asks_in, member_asks, own_asks, refused_asks}
+use Rattle.zio_exchange.specs.Outcomes.{IsKept, found_in, places_in, places_with, stored_in, stored_places}
+use Rattle.zio_stages.specs.PartOwns.{ForBytes, ForMember, ForOther, ForPlaces, IsKeptMember, IsPartOwn, PartAsk, ShowsOwn, WrittenPart, ask_of, asks_at, asks_in, member_asks, own_asks, refused_asks}
 use Rattle.zio_stages.specs.declared.part.PartOwn.{PartOwn}
 
 -- ---- what its operations came to, by their kinds

@@ -13,13 +13,13 @@ use Rattle.zio_parts.specs.declared.parts.PartStep.{PartStep}
 use Rattle.zio_parts.specs.declared.parts.PartStep.TheVariants.{AskBody, AskHead, WriteBody, WriteHeader, Member as MemberStep, WaitReady, Wait, End}
 use Rattle.zio_parts.specs.declared.parts.Placing.{Placing}
 use Rattle.zio_parts.specs.declared.parts.Placing.TheVariants.{Body, Head as HeadDue, Whole, Gang, Nowhere}
+use Rattle.zio_exchange.specs.SpaceCalls.{IsAnswerFor}
 use Rattle.zio_stages.specs.PartWorks.{IsPlaced, asks_left, HaveUnits, IsIoOver, IsPartOver}
 use Rattle.zio_types.specs.declared.place.Top.{Top}
 use Rattle.zio_types.specs.Choices.{Choice}
 use Rattle.zio_gang.specs.Trees.{sizes_of}
 use Rattle.zio_gang.specs.Writes.{places_chosen}
 use Rattle.zio_frames.specs.Frames.{Child}
-use Rattle.zio_stages.specs.SpaceCalls.{IsAnswerFor}
 use Rattle.zio_stages.specs.Tops.{AreTops}
 use Rattle.zio_stages.specs.NodeIos.{NoneSits}
 use Rattle.zio_stages.specs.WriteIos.{AreIoPlaces}

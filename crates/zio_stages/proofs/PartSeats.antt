@@ -14,11 +14,11 @@ use Rattle.zio_frames.specs.Slots.{IsOut, Slot}
 use Rattle.zio_frames.proofs.GetLemmas.{all_at}
 use Rattle.zio_parts.specs.Parts.{PartWriting, slots_of}
 use Rattle.zio_parts.specs.declared.parts.OwnWrite.TheVariants.{Out as OwnOut}
+use Rattle.zio_exchange.specs.Outcomes.{IsPart, IsReading, stored_as}
 use Rattle.zio_stages.specs.LeavesOut.{IsLeafTask}
 use Rattle.zio_stages.specs.NodeIos.{IsAwaitedAt}
-use Rattle.zio_stages.specs.Outcomes.{IsPart, IsReading}
 use Rattle.zio_stages.specs.PartNodes.{HearsEarlyAt, HearsValueAt, IsAnsweredBy, IsStoredBy, no_front}
-use Rattle.zio_stages.specs.PartOwns.{IsOutAs, ForBytes, ForMember, ForOther, PartAsk, WrittenPart, ask_of, asks_in, stored_as}
+use Rattle.zio_stages.specs.PartOwns.{IsOutAs, ForBytes, ForMember, ForOther, PartAsk, WrittenPart, ask_of, asks_in}
 use Rattle.zio_stages.specs.PartsOut.{IsPartOp}
 use Rattle.zio_stages.specs.PartWorks.{Front, IsIdle, IsMemberAt, IsPartAt, IsPartWithin, IsToldAs}
 use Rattle.zio_stages.specs.declared.family.Layer.TheVariants.{Within}

@@ -19,14 +19,14 @@ use Rattle.zio_frames.specs.Frames.{Child, Stack, kind_of_task}
 use Rattle.zio_frames.specs.Moves.{heard_early, heard_of}
 use Rattle.zio_frames.specs.Seats.{IsSeated}
 use Rattle.zio_frames.specs.Slots.{AllHeard, Heard, IsOut, Slot, left_behind_slots, told_in}
-use Rattle.zio_stages.specs.Outcomes.{IsNoAttemptIn, places_in}
+use Rattle.zio_exchange.specs.Outcomes.{IsNoAttemptIn, places_in}
+use Rattle.zio_exchange.specs.SpaceCalls.{SpaceCall}
+use Rattle.zio_exchange.specs.Waits.{pending_of}
 use Rattle.zio_stages.specs.OwnClaims.{IsClaimOf, IsOwnClaim, claim_task, own_claimed, taken_by, IsBlockOf}
 use Rattle.zio_stages.specs.OwnParts.{DoesThen, GoesOnAs, HandsTo, IsNoWrite, IsOwed}
 use Rattle.zio_stages.specs.RequestNodes.{IsOwnOf, IsRequestNode, own_got}
 use Rattle.zio_stages.specs.RequestOwns.{IsClaimOwn, IsNoneAfter, MakesBlock}
-use Rattle.zio_stages.specs.SpaceCalls.{SpaceCall}
 use Rattle.zio_stages.specs.StoredBlocks.{block_places}
-use Rattle.zio_stages.specs.Waits.{pending_of}
 use Rattle.zio_stages.specs.declared.own_claim.ClaimStep.{ClaimStep}
 use Rattle.zio_stages.specs.declared.own_claim.ClaimStep.TheVariants.{Out}
 use Rattle.zio_stages.specs.declared.own_claim.OwnClaim.{OwnClaim}

@@ -21,14 +21,14 @@ use Rattle.zio_children.proofs.KidReturns.{judged_seen, returns_heard, same_poin
 use Rattle.zio_frames.specs.Frames.{Stack}
 use Rattle.zio_frames.specs.Moves.{IsEnded}
 use Rattle.zio_frames.specs.Slots.{Heard, IsOut, Slot, left_behind_slots, told_in}
-use Rattle.zio_stages.specs.KidTrees.{AreLeft, IsLeft, IsLeftIn}
+use Rattle.zio_exchange.specs.Wholes.{IsLeft, root_number}
+use Rattle.zio_exchange.specs.Waits.{pending_of}
+use Rattle.zio_exchange.specs.declared.waiting.UnfinishedRequest.{UnfinishedRequest}
+use Rattle.zio_stages.specs.ClosedRequests.{Again, Finished}
+use Rattle.zio_stages.specs.KidTrees.{AreLeft, IsLeftIn}
 use Rattle.zio_stages.specs.RequestNodes.{Closes, GoesAgain, IsFinished, IsRequestNode, OwnEnds, own_got}
-use Rattle.zio_stages.specs.Waits.{pending_of}
-use Rattle.zio_stages.specs.Wholes.{root_number}
-use Rattle.zio_stages.specs.declared.request_node.Closed.TheVariants.{Again, Finished}
 use Rattle.zio_stages.specs.declared.request_node.OwnFound.{OwnFound}
 use Rattle.zio_stages.specs.declared.request_node.RequestNode.{RequestNode}
-use Rattle.zio_stages.specs.declared.waiting.UnfinishedRequest.{UnfinishedRequest}
 
 -- ---- the end of its plan
 

@@ -16,13 +16,13 @@ use Rattle.zio_children.specs.declared.kids.KidState.{KidState}
 use Rattle.zio_children.specs.declared.kids.KidState.TheVariants.{Due as KidDue, Out, Told, Ended}
 use Rattle.zio_frames.specs.Frames.{Stack}
 use Rattle.zio_frames.specs.Slots.{AllHeard, left_behind_slots}
-use Rattle.zio_stages.specs.Outcomes.{IsNoAttemptIn, places_in}
+use Rattle.zio_exchange.specs.Outcomes.{IsNoAttemptIn, places_in}
+use Rattle.zio_exchange.specs.Waits.{pending_of}
+use Rattle.zio_stages.specs.ClosedRequests.{Closed}
 use Rattle.zio_stages.specs.OwnParts.{IsNoWrite}
 use Rattle.zio_stages.specs.StoredBlocks.{block_places}
 use Rattle.zio_stages.specs.RequestNodes.{Closes, IsOwnOf, IsRequestNode, OwnEnds, front_by, own_got}
 use Rattle.zio_stages.specs.RequestOwns.{IsFoundOwn, IsNoneAfter, MakesBlock}
-use Rattle.zio_stages.specs.Waits.{pending_of}
-use Rattle.zio_stages.specs.declared.request_node.Closed.{Closed}
 use Rattle.zio_stages.specs.declared.request_node.Own.{Own}
 use Rattle.zio_stages.specs.declared.request_node.Own.TheVariants.{Found, Over}
 use Rattle.zio_stages.specs.declared.request_node.OwnFound.{OwnFound}

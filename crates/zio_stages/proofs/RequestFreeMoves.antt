@@ -19,7 +19,8 @@ use Rattle.zio_frames.specs.Frames.{Child, Stack, kind_of_task}
 use Rattle.zio_frames.specs.Moves.{heard_early, heard_of}
 use Rattle.zio_frames.specs.Seats.{IsSeated}
 use Rattle.zio_frames.specs.Slots.{AllHeard, Heard, IsOut, Slot, left_behind_slots, told_in}
-use Rattle.zio_stages.specs.Outcomes.{IsNoAttemptIn, places_in}
+use Rattle.zio_exchange.specs.Outcomes.{IsNoAttemptIn, places_in}
+use Rattle.zio_exchange.specs.Waits.{pending_of}
 use Rattle.zio_stages.specs.OwnFrees.{IsFreeWalk, IsOwnFree}
 use Rattle.zio_stages.specs.OwnParts.{DoesThen, GoesOnAs, HandsTo, IsNoWrite, IsOwed}
 use Rattle.zio_stages.specs.RequestFrees.{IsFreeWith, IsFreeWork}
@@ -27,7 +28,6 @@ use Rattle.zio_stages.specs.RequestNodes.{IsOwnOf, IsRequestNode, own_got}
 use Rattle.zio_stages.specs.RequestOwns.{IsFreeOwn}
 use Rattle.zio_stages.specs.RequestReads.{HasFound}
 use Rattle.zio_stages.specs.StoredBlocks.{block_places}
-use Rattle.zio_stages.specs.Waits.{pending_of}
 use Rattle.zio_stages.specs.declared.own_free.FreeWalk.{FreeWalk}
 use Rattle.zio_stages.specs.declared.own_free.FreeWalk.TheVariants.{Out}
 use Rattle.zio_stages.specs.declared.own_free.OwnFree.{OwnFree}

@@ -14,13 +14,13 @@ use Rattle.zio_frames.specs.Seats.{asked_at}
 use Rattle.zio_frames.specs.Slots.{Slot}
 use Rattle.zio_frames.proofs.SlotMoves.{IsOutAt}
 use Rattle.zio_parts.specs.Parts.{PartWriting}
+use Rattle.zio_exchange.specs.Waits.{pending_of}
 use Rattle.zio_stages.specs.declared.write_io.WriteIo.{WriteIo}
 use Rattle.zio_stages.specs.KidTrees.{IsKids, KidsHeld}
 use Rattle.zio_stages.specs.OwnParts.{IsBehind}
 use Rattle.zio_stages.specs.WrittenBlocks.{HaveAllTold, IsBlockOf}
 use Rattle.zio_stages.specs.PartWorks.{Front, IsPartWithin}
 use Rattle.zio_stages.specs.RequestNodes.{IsOwnOf, IsRequestNode, IsSeatOf, front_by, own_got}
-use Rattle.zio_stages.specs.Waits.{pending_of}
 use Rattle.zio_stages.specs.declared.request_node.Own.{Own}
 use Rattle.zio_stages.specs.declared.request_node.Own.TheVariants.{Claim, Due, Found, Free, Over, Read, Stored, Write}
 use Rattle.zio_stages.specs.declared.request_node.RequestNode.{RequestNode}
@@ -96,7 +96,6 @@ own_still t r s x y f g (Write w) a b asked slots h n p same out l behind e =
     let k = same h.told in
     record {
       told = k.0;
-      front = l ∙ h.front;
       part = h.part;
       block = subst (λ m. IsBlockOf m (pending_of s.waiting) (pointers_of y) h.part) (sym n)
           (subst (λ q. IsBlockOf r.attempt q (pointers_of y) h.part) (sym p) (subst (λ ps. IsBlockOf r.attempt (pending_of r.waiting) ps h.part) (sym k.1) h.block));

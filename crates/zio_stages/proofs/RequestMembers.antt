@@ -14,9 +14,9 @@ use Rattle.zio_frames.specs.Running.{FitsTold}
 use Rattle.zio_frames.specs.Seats.{HasSeat, ShowsTold, SitsAt, asked_at, slot_at}
 use Rattle.zio_frames.proofs.GetLemmas.{all_at}
 use Rattle.zio_parts.specs.declared.parts.StoredPart.{StoredPart}
+use Rattle.zio_exchange.specs.Outcomes.{IsPart, IsReading}
 use Rattle.zio_stages.specs.LeavesOut.{IsLeafTask}
 use Rattle.zio_stages.specs.NodeIos.{IsAwaitedAt, IsWriteDue}
-use Rattle.zio_stages.specs.Outcomes.{IsPart, IsReading}
 use Rattle.zio_stages.specs.PartNodes.{IsAnsweredBy, IsStoredBy}
 use Rattle.zio_stages.specs.PartWorks.{Front, IsMemberAt, IsNoLessFar}
 use Rattle.zio_stages.specs.RequestHearings.{HearsEarlyOf, HearsValueOf}
@@ -31,7 +31,7 @@ use Rattle.zio_stages.specs.declared.write_io.WriteIo.{WriteIo}
 use Rattle.zio_stages.proofs.PartOwed.{own_out}
 use Rattle.zio_stages.proofs.PartSeats.{HearsMember, has_told, member_seated, not_told, own_kind, own_seat, part_leaf, reading_own, told_as}
 use Rattle.zio_stages.proofs.RequestSits.{asked_there}
-use Rattle.zio_stages.proofs.RequestWriteLemmas.{front_in, part_at, write_in}
+use Rattle.zio_stages.proofs.RequestWriteLemmas.{front_in, many_in, part_at, write_in}
 
 -- ---- behind the operations for its children
 
@@ -69,7 +69,7 @@ own_member : (t : Terms) (r : RequestNode) (st : Stack) (w : OwnWrite) (k : ℕ)
     → IsRequestNode t r st → r.own ≡ Write w
     → slice_get st.children k ≡ Some c → c.ended ≡ false → SitsAt st c op told → (IsLeafTask op → ⊥)
     → ((attempt : ℕ) (p : Pending) (below : Forest) → op ≡ Attempt attempt p below → ⊥)
-    → IsMemberAt w.work r.family w.front k told
+    → IsMemberAt w.work r.family (length r.kids.kids.kids) k told
 own_member t r st w k c op told h is there goes sits leaf attempt =
     let own = write_in t r st w h is in
     let f : Front = front_in t r st h in
@@ -78,7 +78,7 @@ own_member t r st w k c op told h is there goes sits leaf attempt =
     let asked : slice_get st.outer.asked seat.0 ≡ Some op = ap (asked_at st) (sym seat.1) ∙ sits.asked in
     let place = own_place t r st seat.0 op h asked attempt in
     let mine : c.seat ≡ OfOuter (length f.slots + place.0) = seat.1 ∙ ap (λ m. OfOuter m) place.1 in
-    subst (λ m. IsMemberAt w.work r.family m k told) own.front
+    subst (λ m. IsMemberAt w.work r.family m k told) (many_in t r st h own.told)
     (member_seated t w.work r.family f own.part st k place.0 c op told at there goes sits mine)
 
 gang_untold : (kind : ChildKind) (told : Bool) (out : Option (Option Bp)) → kind ≡ Gang → told ≡ false
@@ -87,19 +87,19 @@ gang_untold kind told out gang never h = not_told (needs_none kind) told out (ap
 
 -- a gang child that hasn't told does a member's write
 pub own_early : (r : RequestNode) (w : OwnWrite) (k : ℕ) → r.own ≡ Write w → HearsEarlyOf Gang r k
-    → IsMemberAt w.work r.family w.front k None
+    → IsMemberAt w.work r.family (length r.kids.kids.kids) k None
 own_early r w k is h =
     let sits = all_at (HasSeat h.stack) h.stack.children k h.child h.seated.each h.there h.goes in
     let op : Task = sits.0 in
     let gang : kind_of_task op ≡ Gang = sym sits.2.kind ∙ h.of_kind in
     let none : sits.1 ≡ None = gang_untold h.child.kind h.child.told sits.1 h.of_kind h.untold sits.2.shows in
-    subst (λ told. IsMemberAt w.work r.family w.front k told) none
+    subst (λ told. IsMemberAt w.work r.family (length r.kids.kids.kids) k told) none
     (own_member h.terms r h.stack w k h.child op sits.1 h.is is h.there h.goes sits.2 (gang_leaf op gang) (gang_attempt op gang))
 
 -- what a member's write that ended has in its slot
 pub own_ended : (r : RequestNode) (w : OwnWrite) (k : ℕ) (stored : StoredPart) → r.own ≡ Write w
     → HearsValueOf (IsStoredBy stored) r k
-    → HearsMember w.work r.family w.front k stored
+    → HearsMember w.work r.family (length r.kids.kids.kids) k stored
 own_ended r w k stored is x =
     let h = x.hears in
     let sits = all_at (HasSeat x.stack) x.stack.children k x.child h.seated.each h.there h.goes in

@@ -13,11 +13,11 @@ use Rattle.zio_stages.specs.NodeChildren.{new_child}
 use Rattle.zio_stages.specs.PartWorks.{Front}
 use Rattle.zio_stages.specs.RequestNodes.{HandsKid, IsOwnOf, IsRequestNode, front_by}
 pub use Rattle.zio_stages.specs.RequestStages.{with_kids}
-use Rattle.zio_stages.specs.Waits.{pending_of}
+use Rattle.zio_exchange.specs.Waits.{pending_of}
+use Rattle.zio_exchange.specs.declared.waiting.UnfinishedRequest.{UnfinishedRequest}
 use Rattle.zio_stages.specs.declared.request_node.Own.{Own}
 use Rattle.zio_stages.specs.declared.request_node.Own.TheVariants.{Claim, Due, Found, Free, Over, Read, Stored, Write}
 use Rattle.zio_stages.specs.declared.request_node.RequestNode.{RequestNode}
-use Rattle.zio_stages.specs.declared.waiting.UnfinishedRequest.{UnfinishedRequest}
 use Rattle.zio_stages.proofs.KidAsking.{asks_kid}
 
 -- ---- it begins

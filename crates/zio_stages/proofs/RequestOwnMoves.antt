@@ -16,14 +16,14 @@ use Rattle.zio_children.specs.declared.kept.KeptChild.{KeptChild}
 use Rattle.zio_frames.specs.Frames.{Child, Inner, OfInner, OfOuter, Seat, Stack}
 use Rattle.zio_frames.specs.Moves.{Closed, Chose, Did, Does, DoesAll, Opened, Took, handed, set_at, set_in_inner, with_asking}
 use Rattle.zio_frames.specs.Slots.{Slot}
+use Rattle.zio_exchange.specs.SpaceCalls.{SpaceCall}
+use Rattle.zio_exchange.specs.Waits.{pending_of}
 use Rattle.zio_stages.specs.NodeIos.{StartsBy}
 use Rattle.zio_stages.specs.OwnParts.{AllowsOwn, DoesThen, Follows, GoesOnAs, HandsTo, IsNoWrite, MayBegin}
 use Rattle.zio_stages.specs.OwnReads.{IsOwnRead}
 use Rattle.zio_stages.specs.RequestNodes.{IsOwnOf, IsRequestNode}
 use Rattle.zio_stages.specs.RequestOwns.{IsReadOwn}
 use Rattle.zio_stages.specs.RequestReads.{IsReadWork}
-use Rattle.zio_stages.specs.SpaceCalls.{SpaceCall}
-use Rattle.zio_stages.specs.Waits.{pending_of}
 use Rattle.zio_stages.specs.declared.leaf.LeafWork.{LeafWork}
 use Rattle.zio_stages.specs.declared.own_read.OwnRead.{OwnRead}
 use Rattle.zio_stages.specs.declared.request_node.Own.{Own}

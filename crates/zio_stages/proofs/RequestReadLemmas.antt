@@ -13,15 +13,15 @@ use Rattle.zio_trace.specs.Programs.{Ends}
 use Rattle.zio_trace.specs.Tasks.{Got, OwnGot, Task, Value, got}
 use Rattle.zio_frames.specs.Frames.{Child, Stack}
 use Rattle.zio_frames.specs.Slots.{AllHeard, Slot, left_behind_slots, told_in}
+use Rattle.zio_exchange.specs.Outcomes.{IsNoAttemptIn, places_in}
+use Rattle.zio_exchange.specs.Waits.{pending_of}
 use Rattle.zio_stages.specs.NodeIos.{NoneSits}
-use Rattle.zio_stages.specs.Outcomes.{IsNoAttemptIn, places_in}
 use Rattle.zio_stages.specs.OwnParts.{DoesThen, IsNoWrite}
 use Rattle.zio_stages.specs.StoredBlocks.{block_places}
 use Rattle.zio_stages.specs.OwnReads.{IsOwnOver, IsOwnRead, IsOwnReadOver}
 use Rattle.zio_stages.specs.RequestNodes.{IsOwnOf, IsRequestNode, own_got}
 use Rattle.zio_stages.specs.RequestOwns.{IsReadOwn}
 use Rattle.zio_stages.specs.RequestReads.{IsReadWith, IsReadWork}
-use Rattle.zio_stages.specs.Waits.{pending_of}
 use Rattle.zio_stages.specs.declared.family.Layer.TheVariants.{Within}
 use Rattle.zio_stages.specs.declared.own_read.BodyIo.{BodyIo}
 use Rattle.zio_stages.specs.declared.own_read.OwnRead.{OwnRead}

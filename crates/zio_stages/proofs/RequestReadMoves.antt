@@ -15,6 +15,7 @@ use Rattle.zio_trace.specs.Tasks.{Task, Value, Walked}
 use Rattle.zio_frames.specs.Frames.{Child, OfOuter, Stack}
 use Rattle.zio_frames.specs.Moves.{child_ended, child_told, heard_early, heard_of}
 use Rattle.zio_frames.specs.Slots.{Heard, IsOut, Slot}
+use Rattle.zio_exchange.specs.Waits.{pending_of}
 use Rattle.zio_stages.specs.NodeIos.{NoneSits, SitsOn, StartsBy}
 use Rattle.zio_stages.specs.OwnParts.{DoesThen, Follows, GoesOnAs, HandsTo}
 use Rattle.zio_stages.specs.OwnReads.{IsBodyOn, IsBodyOut, IsOwnOver, IsOwnRead, IsOwnReadOver}
@@ -22,7 +23,6 @@ use Rattle.zio_stages.specs.ReadIos.{IsReadOutIn}
 use Rattle.zio_stages.specs.RequestNodes.{IsRequestNode}
 use Rattle.zio_stages.specs.RequestOwns.{IsOwnSeat, IsReadOwn, IsReadingOver}
 use Rattle.zio_stages.specs.TreeWorks.{bodies_after, bodies_if}
-use Rattle.zio_stages.specs.Waits.{pending_of}
 use Rattle.zio_stages.specs.declared.family.Layer.TheVariants.{Within}
 use Rattle.zio_stages.specs.declared.leaf.LeafWork.{LeafWork}
 use Rattle.zio_stages.specs.declared.own_read.BodyIo.{BodyIo}

@@ -6,13 +6,12 @@ use Rattle.zio_trace.specs.Tasks.{One, Task}
 use Rattle.zio_children.specs.RequestKids.{KidsUnderWay, kids_by, pointers_of}
 use Rattle.zio_frames.specs.Frames.{Stack}
 use Rattle.zio_frames.specs.Slots.{Slot}
+use Rattle.zio_exchange.specs.Waits.{pending_of}
+use Rattle.zio_stages.specs.ClosedRequests.{Again, Closed, Finished}
 use Rattle.zio_stages.specs.PartWorks.{Front}
 use Rattle.zio_stages.specs.RequestNodes.{Closes, IsClosedAs, IsOwnOf, IsRequestNode, OwnEnds, front_by, own_got}
 use Rattle.zio_stages.specs.RequestStoreds.{IsStoredWith}
 use Rattle.zio_stages.specs.StoredBlocks.{IsStoredOwn}
-use Rattle.zio_stages.specs.Waits.{pending_of}
-use Rattle.zio_stages.specs.declared.request_node.Closed.{Closed}
-use Rattle.zio_stages.specs.declared.request_node.Closed.TheVariants.{Again, Finished}
 use Rattle.zio_stages.specs.declared.request_node.Own.{Own}
 use Rattle.zio_stages.specs.declared.request_node.Own.TheVariants.{Claim, Due, Found, Free, Over, Read, Stored, Write}
 use Rattle.zio_stages.specs.declared.request_node.RequestNode.{RequestNode}

@@ -14,18 +14,18 @@ use Rattle.zio_frames.specs.Answering.{EndsAnswered}
 use Rattle.zio_frames.specs.Frames.{Child, Stack}
 use Rattle.zio_frames.specs.Moves.{WillHave}
 use Rattle.zio_frames.specs.Slots.{AllHeard, Slot, left_behind_slots, told_in}
+use Rattle.zio_exchange.specs.Outcomes.{places_in, stored_places}
 use Rattle.zio_stages.specs.NodeIos.{NoneSits}
 use Rattle.zio_stages.specs.OwnParts.{AllowsOwn, MayBegin}
 use Rattle.zio_stages.specs.OwnWrites.{IsBlockAt, IsIdleAt, IsWriteOwn}
 use Rattle.zio_stages.specs.StoredBlocks.{IsStoredOwn}
 use Rattle.zio_stages.specs.WrittenBlocks.{HaveAllTold, IsBlockOf}
-use Rattle.zio_stages.specs.Outcomes.{places_in, stored_places}
 use Rattle.zio_stages.specs.PartOwns.{WrittenPart, part_plan}
 use Rattle.zio_stages.specs.PartWorks.{Front, IsFront, IsIoOver, IsPartAt, IsPartOver, IsPartWithin}
 use Rattle.zio_stages.specs.RequestNodes.{IsOwnOf, IsRequestNode, front_by, own_got}
 pub use Rattle.zio_stages.specs.RequestStages.{with_own}
+use Rattle.zio_exchange.specs.Waits.{pending_of}
 use Rattle.zio_stages.specs.RequestWrites.{IsWriteWith}
-use Rattle.zio_stages.specs.Waits.{pending_of}
 use Rattle.zio_types.specs.declared.place.Top.{Top}
 use Rattle.zio_stages.specs.declared.write_io.WriteIo.{WriteIo}
 use Rattle.zio_stages.specs.declared.own_write.OwnWrite.{OwnWrite}
@@ -62,12 +62,17 @@ allows t r st pointers part h told block = record {
   told = subst (λ (w : Work). MayBegin w r.kids.kids) (sym block.work) told.told;
 }
 
+-- so many operations for its children stand in front
+pub many_in : (t : Terms) (r : RequestNode) (st : Stack) (h : IsRequestNode t r st) → HaveAllTold r.kids.kids
+    → length (front_in t r st h).slots ≡ length r.kids.kids.kids
+many_in t r st h told = h.kids.all ∙ told.all
+
 pub is_front : (t : Terms) (r : RequestNode) (st : Stack) (w : OwnWrite) (h : IsRequestNode t r st)
     (own : IsWriteOwn t w (front_in t r st h) r.attempt (pending_of r.waiting) r.kids.kids h.own_asked h.own_slots st)
-    → IsFront t (front_in t r st h) own.part w.front
+    → IsFront t (front_in t r st h) own.part (length r.kids.kids.kids)
 is_front t r st w h own = record {
   whole = refl;
-  count = own.front;
+  count = many_in t r st h own.told;
   follows = follows_block t (Attempt r.attempt (pending_of r.waiting) h.forest) h.kid_slots r.attempt (pending_of r.waiting) (pointers_of r.kids.kids) own.part own.block
       (follows t r.attempt (pending_of r.waiting) r.kids h.forest h.kid_asked h.kid_slots (allows t r st (pointers_of r.kids.kids) own.part h own.told own.block));
 }
@@ -79,9 +84,9 @@ part_at t r st w h own = record { asked = h.own_asked; slots = h.own_slots; op =
 
 -- so far in its block, it is so far
 pub node_at : (t : Terms) (r : RequestNode) (a b : Stack) (v : OwnWrite) (w : OwnWrite) (family : List Child) (h : IsRequestNode t r a)
-    (own : IsWriteOwn t v (front_in t r a h) r.attempt (pending_of r.waiting) r.kids.kids h.own_asked h.own_slots a) → w.front ≡ v.front
+    (own : IsWriteOwn t v (front_in t r a h) r.attempt (pending_of r.waiting) r.kids.kids h.own_asked h.own_slots a)
     → IsPartAt t w.work family (front_in t r a h) own.part b → IsRequestNode t (with_own r (Write w) family) b
-node_at t r a b v w family h own same at = record {
+node_at t r a b v w family h own at = record {
   forest = h.forest;
   kid_asked = h.kid_asked;
   kid_slots = h.kid_slots;
@@ -92,7 +97,7 @@ node_at t r a b v w family h own same at = record {
   slots = at.work.behind.slots_are;
   kids = h.kids;
   kept = h.kept;
-  own = record { told = own.told; front = own.front ∙ sym same; part = own.part; block = own.block; is = at.work };
+  own = record { told = own.told; part = own.part; block = own.block; is = at.work };
   family = at.children;
   round = h.round;
   failmode = h.failmode;
@@ -116,10 +121,9 @@ idle_at t r st h due =
     }
 
 pub content_set : (t : Terms) (r : RequestNode) (st : Stack) (w : OwnWrite) (h : IsRequestNode t r st) → HaveAllTold r.kids.kids
-    → w.front ≡ length r.kids.kids.kids
     → IsBlockAt t w.work r.family (front_in t r st h) r.attempt (pending_of r.waiting) (pointers_of r.kids.kids) st
     → IsRequestNode t (with_own r (Write w) r.family) st
-content_set t r st w h told count b = record {
+content_set t r st w h told b = record {
   forest = h.forest;
   kid_asked = h.kid_asked;
   kid_slots = h.kid_slots;
@@ -130,7 +134,7 @@ content_set t r st w h told count b = record {
   slots = b.at.work.behind.slots_are;
   kids = h.kids;
   kept = h.kept;
-  own = record { told = told; front = h.kids.all ∙ told.all ∙ sym count; part = b.part; block = b.block; is = b.at.work };
+  own = record { told = told; part = b.part; block = b.block; is = b.at.work };
   family = h.family;
   round = h.round;
   failmode = h.failmode;

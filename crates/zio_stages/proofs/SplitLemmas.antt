@@ -5,10 +5,10 @@ use Rattle.std.proofs.lemmas.List.{reverse-append, length-reverse}
 use Rattle.std.proofs.lemmas.Grind.{flat_map-append}
 use Rattle.zio_cksum.proofs.AllLemmas.{all_append}
 use Rattle.zio_trace.specs.Families.{Forest, NoTrees, TreeOf, flat}
-use Rattle.zio_stages.specs.declared.waiting.UnfinishedRequest.{UnfinishedRequest}
+use Rattle.zio_exchange.specs.declared.waiting.UnfinishedRequest.{UnfinishedRequest}
+use Rattle.zio_exchange.specs.Wholes.{AreTrees, IsForestOf, IsWhole, RiseEach, Shape, joined, shape_of, shapes, trees_in}
+use Rattle.zio_exchange.proofs.WholeLemmas.{Cut, Rooted, cut_map, rooted, some_in_whole, trees_count}
 use Rattle.zio_stages.specs.Splits.{AreSoMany, AreTaken}
-use Rattle.zio_stages.specs.Wholes.{AreTrees, IsForestOf, IsWhole, RiseEach, Shape, joined, shape_of, shapes, trees_in}
-use Rattle.zio_stages.proofs.WholeLemmas.{Cut, Rooted, cut_map, rooted, some_in_whole, trees_count}
 use Rattle.std.proofs.Math.Seq.{drop-append_seam, get_or-append_seam, take-append_seam}
 
 -- ---- the trees of a list

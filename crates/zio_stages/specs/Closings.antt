@@ -2,14 +2,14 @@
 use Rattle.std.specs.Prelude.{◌≡◌, ℕ}
 use Rattle.zio_gang.specs.Attempts.{Terms, tree_unless}
 use Rattle.zio_frames.specs.Frames.{Stack}
+use Rattle.zio_stages.specs.ClosedRequests.{Again, Closed, Finished}
 use Rattle.zio_stages.specs.KidLists.{LeavesList}
 use Rattle.zio_stages.specs.Labels.{closed_label}
-use Rattle.zio_stages.specs.RequestNodes.{Closes, IsRequestNode}
+use Rattle.zio_stages.specs.OwnFounds.{own_got}
+use Rattle.zio_stages.specs.RequestNodes.{Closes, IsRequestNode, OwnEnds}
 use Rattle.zio_stages.specs.RequestStoreds.{is_well, keeps_block, own_in}
-use Rattle.zio_stages.specs.declared.outcome.Outcome.{Outcome}
-use Rattle.zio_stages.specs.declared.outcome.Outcome.TheVariants.{Again as GoesAgain, Finished as HasFinished}
-use Rattle.zio_stages.specs.declared.request_node.Closed.{Closed}
-use Rattle.zio_stages.specs.declared.request_node.Closed.TheVariants.{Again, Finished}
+use Rattle.zio_stages.specs.Sealed.{Outcome}
+use Rattle.zio_exchange.specs.declared.outcome.Outcome.TheVariants.{Again as GoesAgain, Finished as HasFinished}
 use Rattle.zio_stages.specs.declared.request_node.OwnFound.{OwnFound}
 use Rattle.zio_stages.specs.declared.request_node.RequestNode.{RequestNode}
 
@@ -33,4 +33,13 @@ pub record EndsBy (r : RequestNode) (own : OwnFound) (outcome : Outcome) : Type 
   pub own_is : own_in closed ≡ own
   pub decides : keeps_block closed ≡ is_well r own.error
   pub closes : (t : Terms) (st : Stack) (h : IsRequestNode t r st) → Closes t r st h closed
+  pub list : LeavesList r closed
+
+-- The same, where its own work ended with this.
+pub record ClosesBy (r : RequestNode) (own : OwnFound) (outcome : Outcome) : Type 0 where
+  pub closed : Closed
+  pub is : outcome ≡ outcome_of (closed_label r.attempt closed) closed
+  pub own_is : own_in closed ≡ own
+  pub decides : keeps_block closed ≡ is_well r own.error
+  pub closes : (t : Terms) (st : Stack) (h : IsRequestNode t r st) → OwnEnds t r st (own_got own) h → Closes t r st h closed
   pub list : LeavesList r closed

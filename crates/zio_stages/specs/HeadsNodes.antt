@@ -21,9 +21,9 @@ use Rattle.zio_parts.specs.Copies.{leaves_at}
 use Rattle.zio_parts.specs.HeadWalks.{named_by, slots_of}
 use Rattle.zio_parts.specs.declared.head_walk.Header.{Header}
 use Rattle.zio_parts.specs.declared.head_walk.Header.TheVariants.{Unread}
+use Rattle.zio_exchange.specs.Outcomes.{ClaimsInside, IsReading, IsWalk}
 use Rattle.zio_stages.specs.CopiesNodes.{IsCopiesNode, IsCopiesOver}
 use Rattle.zio_stages.specs.HeadsWorks.{IsHeadsWork, claim_error}
-use Rattle.zio_stages.specs.Outcomes.{ClaimsInside, IsReading, IsWalk}
 use Rattle.zio_stages.specs.OwnParts.{HandsTo, HearsValue, IsOwed, ToldSince}
 use Rattle.zio_stages.specs.Tops.{AreTops}
 use Rattle.zio_stages.specs.declared.heads.HeadsWork.{HeadsWork}

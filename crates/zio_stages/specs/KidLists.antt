@@ -4,13 +4,12 @@ use Rattle.std.specs.List.{AllByRecursion}
 use Rattle.zio_gang.specs.Attempts.{has_bits}
 use Rattle.zio_children.specs.RequestKids.{AreHanded, bits_by, child_of, finished_in}
 use Rattle.zio_children.specs.declared.kids.Kid.{Kid}
+use Rattle.zio_exchange.specs.Wholes.{joined}
+use Rattle.zio_exchange.specs.declared.waiting.UnfinishedRequest.{UnfinishedRequest}
+use Rattle.zio_stages.specs.ClosedRequests.{Again, Closed, Finished}
 use Rattle.zio_stages.specs.KidPointers.{HasValid, HaveValidPointers}
 use Rattle.zio_stages.specs.KidTrees.{KidsHeld, trees_left}
-use Rattle.zio_stages.specs.Wholes.{joined}
-use Rattle.zio_stages.specs.declared.request_node.Closed.{Closed}
-use Rattle.zio_stages.specs.declared.request_node.Closed.TheVariants.{Again, Finished}
 use Rattle.zio_stages.specs.declared.request_node.RequestNode.{RequestNode}
-use Rattle.zio_stages.specs.declared.waiting.UnfinishedRequest.{UnfinishedRequest}
 
 -- the list is the trees that are due, and the request behind them, and nothing is left of any
 pub record IsListOf (ws : List UnfinishedRequest) (w : UnfinishedRequest) (x : KidsHeld) : Type 0 where

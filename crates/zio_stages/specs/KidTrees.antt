@@ -2,14 +2,14 @@
 use Rattle.std.specs.Prelude.{◌≡◌, ℕ, zero, suc, List, [], ◌∷◌, ◌++◌, length, take, drop, Option, Some, None, is_some}
 use Rattle.std.specs.List.{AllByRecursion}
 use Rattle.zio_gang.specs.Attempts.{Child, Pending, has_bits}
-use Rattle.zio_trace.specs.Families.{Forest, NoTrees, TreeOf, flat}
+use Rattle.zio_trace.specs.Families.{Forest, NoTrees, TreeOf}
 use Rattle.zio_trace.specs.Plans.{Kids, TaskPlan, plan_kids}
 use Rattle.zio_trace.specs.Programs.{◌>>=◌}
 use Rattle.zio_trace.specs.Tasks.{Attempt, AttemptedBy, One, Task, Value}
 use Rattle.zio_children.specs.RequestKids.{AreRoots, Fits, IsTreeAt, KidsUnderWay, RiseFrom, numbers_of}
 use Rattle.zio_frames.specs.Slots.{AsksBehindSlots, Heard, IsOut, Slot}
-use Rattle.zio_stages.specs.declared.waiting.UnfinishedRequest.{UnfinishedRequest}
-use Rattle.zio_stages.specs.Wholes.{AreTrees, IsForestOf, IsTreeOf, IsWhole, root_number, roots_in}
+use Rattle.zio_exchange.specs.declared.waiting.UnfinishedRequest.{UnfinishedRequest}
+use Rattle.zio_exchange.specs.Wholes.{AreTrees, IsLeft, IsTreeOf, IsWhole, root_number, roots_in}
 
 -- The children; the trees of those that weren't handed out, by number; and by place what is left of each that goes again.
 pub record KidsHeld : Type 0 where
@@ -56,12 +56,7 @@ trees_from zero f = f
 trees_from (suc n) NoTrees = NoTrees
 trees_from (suc n) (TreeOf p below others) = trees_from n others
 
--- what an attempt left of a tree that goes again is this list
-pub record IsLeft (ws : List UnfinishedRequest) (one : One) : Type 0 where
-  pub tree : IsForestOf ws one.left
-  pub list : one.again ≡ flat one.left
-
--- and of one that doesn't go again nothing
+-- what an attempt left of one that goes again, and of one that doesn't nothing
 abbrev pub IsLeftIf : Option (List UnfinishedRequest) → One → Type 0
 IsLeftIf None one = (one.again ≡ []) × (one.left ≡ NoTrees)
 IsLeftIf (Some ws) one = IsLeft ws one

@@ -7,6 +7,8 @@ use Rattle.zio_types.specs.declared.request.Kind.{Kind}
 use Rattle.zio_types.specs.declared.request.Kind.TheVariants.{Read}
 use Rattle.zio_script.specs.Requests.{kind_of}
 use Rattle.zio_gang.specs.declared.tree.Tree.{Tree}
+use Rattle.zio_exchange.specs.declared.waiting.UnfinishedRequest.{UnfinishedRequest}
+use Rattle.zio_stages.specs.ClosedRequests.{Again, Closed, Finished}
 use Rattle.zio_stages.specs.LeafWorks.{len_of}
 use Rattle.zio_stages.specs.declared.label.Label.{Label}
 use Rattle.zio_stages.specs.declared.label.Level.{Level}
@@ -14,9 +16,6 @@ use Rattle.zio_stages.specs.declared.label.Level.TheVariants.{Part, Leaf}
 use Rattle.zio_stages.specs.declared.leaf.LeafWork.{LeafWork}
 use Rattle.zio_stages.specs.declared.named.Named.{Named}
 use Rattle.zio_stages.specs.declared.origin.Origin.{Origin}
-use Rattle.zio_stages.specs.declared.request_node.Closed.{Closed}
-use Rattle.zio_stages.specs.declared.request_node.Closed.TheVariants.{Again, Finished}
-use Rattle.zio_stages.specs.declared.waiting.UnfinishedRequest.{UnfinishedRequest}
 
 abbrev pub bit : Bool → ℕ
 bit true = 1

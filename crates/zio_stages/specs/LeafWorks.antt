@@ -1,17 +1,16 @@
 -- One operation on a leaf under way: which it is, how far, and what it comes to.
-use Rattle.std.specs.Prelude.{◌≡◌, ℕ, ◌*◌, ◌^◌, ◌<◌, List, [], ◌∷◌, Bool, true, false, Option, Some, None, Ok, Err}
+use Rattle.std.specs.Prelude.{◌≡◌, ℕ, ◌*◌, ◌^◌, ◌<◌, List, [], ◌∷◌, Bool, Option, Some, None, Ok, Err}
 use Rattle.zio_types.specs.declared.error.Errno.{Errno}
 use Rattle.zio_types.specs.declared.place.Place.{Place}
 use Rattle.zio_types.specs.declared.request.Prio.{Prio}
 use Rattle.zio_types.specs.Places.{sector_size}
 use Rattle.zio_cksum.specs.Headers.{offset_of}
-use Rattle.zio_cksum.specs.Images.{Spot}
 use Rattle.zio_gang.specs.Attempts.{Terms}
-use Rattle.zio_vqueue.specs.declared.op.Op.{Op}
 use Rattle.zio_trace.specs.Leaves.{Answer, Fetch, LeafOp, Store}
 use Rattle.zio_trace.specs.Tasks.{Got, Leaf}
 use Rattle.zio_frames.specs.Frames.{Frame}
 use Rattle.zio_frames.specs.Slots.{Heard}
+use Rattle.zio_exchange.specs.LeafOps.{IsOpFor}
 use Rattle.zio_stages.specs.declared.leaf.Act.{Act}
 use Rattle.zio_stages.specs.declared.leaf.Act.TheVariants.{Read, Write}
 use Rattle.zio_stages.specs.declared.leaf.LeafWork.{LeafWork}
@@ -24,21 +23,6 @@ pub record IsSpanned (p : Place) : Type 0 where
   pub len : p.sectors * sector_size < 2 ^ 32
 
 -- ---- as a leaf's queue takes it
-
--- over the whole place; in the second pass it is a group alone
-pub record IsOpAt (write retry : Bool) (spot : Spot) (op : Op) (leaf : ℕ) : Type 0 where
-  pub ticket : op.ticket ≡ 0
-  pub direction : op.write ≡ write
-  pub on : leaf ≡ spot.leaf
-  pub at : op.at ≡ spot.at
-  pub len : op.len ≡ spot.span
-  pub pass : op.flags.retry ≡ retry
-  pub alone : op.flags.dont_aggregate ≡ retry
-
--- with the bytes of a write
-abbrev pub IsOpFor : LeafOp → Op → ℕ → List ℕ → Type 0
-IsOpFor (Fetch retry len spot) op leaf bytes = IsOpAt false retry spot op leaf × (bytes ≡ [])
-IsOpFor (Store retry stored spot) op leaf bytes = IsOpAt true retry spot op leaf × (bytes ≡ stored)
 
 -- its class there, and whether it rewrites a copy that was found bad
 pub record IsQueuedAs (prio : Prio) (repair : Bool) (w : LeafWork) : Type 0 where

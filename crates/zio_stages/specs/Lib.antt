@@ -1,4 +1,5 @@
 pub mod Checks
+pub mod ClosedRequests
 pub mod Closings
 pub mod CopiesNodes
 pub mod HeadsNodes
@@ -11,7 +12,6 @@ pub mod LeafWorks
 pub mod LeavesOut
 pub mod NodeChildren
 pub mod NodeIos
-pub mod Outcomes
 pub mod OwnClaims
 pub mod OwnFounds
 pub mod OwnFrees
@@ -35,12 +35,10 @@ pub mod RequestReads
 pub mod RequestStages
 pub mod RequestStoreds
 pub mod RequestWrites
-pub mod SpaceCalls
+pub mod Sealed
 pub mod Splits
 pub mod StoredBlocks
 pub mod Tops
 pub mod TreeWorks
-pub mod Waits
-pub mod Wholes
 pub mod WriteIos
 pub mod WrittenBlocks

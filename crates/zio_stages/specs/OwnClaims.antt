@@ -12,8 +12,8 @@ use Rattle.zio_trace.specs.Tasks.{ByClaim, OwnGot, ReadHeads, TakePlaces, Taken,
 use Rattle.zio_frames.specs.Frames.{Child, Stack}
 use Rattle.zio_frames.specs.Slots.{Heard, IsOut, Slot}
 use Rattle.zio_parts.specs.TreeReads.{claiming}
+use Rattle.zio_exchange.specs.SpaceCalls.{LieOnTops}
 use Rattle.zio_stages.specs.OwnParts.{IsBehind}
-use Rattle.zio_stages.specs.SpaceCalls.{LieOnTops}
 use Rattle.zio_stages.specs.StoredBlocks.{block_places}
 use Rattle.zio_stages.specs.declared.own_claim.ClaimStep.{ClaimStep}
 use Rattle.zio_stages.specs.declared.own_claim.ClaimStep.TheVariants.{Due, Failed, Found, Out, Refused, Taken as TakenStep}

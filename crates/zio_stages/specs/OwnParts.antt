@@ -14,19 +14,20 @@ use Rattle.zio_trace.specs.Families.{Forest}
 use Rattle.zio_trace.specs.Conflicts.{is_single}
 use Rattle.zio_trace.specs.Footprints.{FitsTask}
 use Rattle.zio_trace.specs.Plans.{TaskPlan, plan}
-use Rattle.zio_trace.specs.Tasks.{ReadCopies, ReadHeads, ReadTree, Task, Value, WriteCopies}
+use Rattle.zio_trace.specs.Tasks.{Task, Value}
 use Rattle.zio_trace.specs.Underway.{early}
 use Rattle.zio_children.specs.RequestKids.{KidsUnderWay, child_of, is_told}
 use Rattle.zio_frames.specs.Answering.{EndsAnswered, NextAnswered}
 use Rattle.zio_frames.specs.Frames.{Child, Stack, asking, kind_of_task}
-use Rattle.zio_frames.specs.Moves.{AsksNext, Did, DoesAll, Opened, handed}
+use Rattle.zio_frames.specs.Moves.{AsksNext, Did, DoesAll, handed}
 use Rattle.zio_frames.specs.Running.{FitsTold}
 use Rattle.zio_frames.specs.Seats.{IsSeated, asked_at}
 use Rattle.zio_frames.specs.Slots.{Heard, IsOut, Slot, left_behind_slots, told_in}
+use Rattle.zio_exchange.specs.WithinParts.{OpensWithin}
+use Rattle.zio_exchange.specs.SpaceCalls.{SpaceCall, calls_by}
 use Rattle.zio_stages.specs.KidTrees.{IsKids, KidsHeld}
 use Rattle.zio_stages.specs.NodeChildren.{is_awaited}
 use Rattle.zio_stages.specs.PartsOut.{ArePartsOut}
-use Rattle.zio_stages.specs.SpaceCalls.{SpaceCall, calls_by}
 
 -- ---- behind others
 
@@ -85,19 +86,6 @@ pub record AllowsOwn (attempt : ℕ) (p : Pending) (x : KidsHeld) (forest : Fore
   pub told : MayBegin p.request.work x.kids
 
 -- ---- what a node's stages come to, for any kind of node
-
--- what a node may do within its own part
-abbrev pub IsDoneWithin : Task → Type 0
-IsDoneWithin (ReadCopies repair test len places) = Unit {0}
-IsDoneWithin (WriteCopies bytes places) = Unit {0}
-IsDoneWithin (ReadHeads look levels path bp) = Unit {0}
-IsDoneWithin (ReadTree tree) = Unit {0}
-IsDoneWithin _ = ⊥
-
--- a part that began within is one of these
-abbrev pub OpensWithin : Did → Type 0
-OpensWithin (Opened op) = IsDoneWithin op
-OpensWithin _ = Unit {0}
 
 -- it did some of its part itself, and made these calls for that; then this holds of it
 pub record DoesThen (t : Terms) (st : Stack) (calls : List SpaceCall) (IsAfter : Stack → Type 0) : Type 0 where

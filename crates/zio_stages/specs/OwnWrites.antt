@@ -33,7 +33,6 @@ pub record IsBlockAt (t : Terms) (work : PartWork) (family : List Child) (f : Fr
 pub record IsWriteOwn (t : Terms) (w : OwnWrite) (f : Front) (attempt : ℕ) (p : Pending) (x : KidsUnderWay) (asked : List Task)
     (slots : List Slot) (st : Stack) : Type 0 where
   pub told : HaveAllTold x
-  pub front : length f.slots ≡ w.front
   pub part : WrittenPart
   pub block : IsBlockOf attempt p (pointers_of x) part
   pub is : IsPartWork t w.work part f.asked f.slots asked slots st

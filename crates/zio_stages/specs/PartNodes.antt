@@ -12,9 +12,9 @@ use Rattle.zio_parts.specs.Parts.{PartWriting}
 use Rattle.zio_parts.specs.declared.members.Member.{Member as MemberNow}
 use Rattle.zio_parts.specs.declared.members.Member.TheVariants.{Out as MemberOut}
 use Rattle.zio_parts.specs.declared.parts.StoredPart.{StoredPart}
-use Rattle.zio_stages.specs.Outcomes.{IsPart, IsReading}
+use Rattle.zio_exchange.specs.Outcomes.{IsKept, IsPart, IsReading, stored_as}
 use Rattle.zio_stages.specs.OwnParts.{HandsTo, HearsValue}
-use Rattle.zio_stages.specs.PartOwns.{IsKept, WrittenPart, part_task, stored_as}
+use Rattle.zio_stages.specs.PartOwns.{WrittenPart, part_task}
 use Rattle.zio_stages.specs.PartWorks.{Front, IsPartAt, IsPartOver}
 use Rattle.zio_stages.specs.declared.part_node.Allocated.{Allocated}
 use Rattle.zio_stages.specs.declared.part_node.Allocated.TheVariants.{Member, Placed}

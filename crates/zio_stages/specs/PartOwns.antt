@@ -1,16 +1,14 @@
 -- The write of a part of a block as a node's part of the work, or as a request's own within an attempt.
-use Rattle.std.specs.Prelude.{◌≡◌, ℕ, zero, suc, ◌+◌, ◌*◌, ◌^◌, ◌≤◌, List, [], ◌∷◌, ◌++◌, length, map, Bool, true, false, Option, Some, None, IsTrue, nat_le}
+use Rattle.std.specs.Prelude.{◌≡◌, ℕ, zero, suc, ◌+◌, ◌*◌, ◌^◌, ◌≤◌, List, [], ◌∷◌, ◌++◌, length, map, Bool, true, false, Option, Some, None, nat_le}
 use Rattle.std.specs.List.{AllByRecursion}
 use Rattle.zio_types.specs.Paths.{path_steps_max}
 use Rattle.zio_types.specs.Places.{sector_size}
 use Rattle.zio_blkptr.specs.declared.pointer.Bp.{Bp}
 use Rattle.zio_blkptr.specs.declared.pointer.SumKind.{SumKind}
-use Rattle.zio_blkptr.specs.Pointers.{FitsTypes, valid}
 use Rattle.zio_cksum.specs.Images.{Setting}
-use Rattle.zio_gang.specs.declared.tree.Head.{Head}
 use Rattle.zio_gang.specs.Attempts.{Pending, Terms, writing_of}
 use Rattle.zio_trace.specs.Plans.{TaskPlan, plan_write}
-use Rattle.zio_trace.specs.Tasks.{Find, Stored, Task, Value, WriteCopies, WritePart}
+use Rattle.zio_trace.specs.Tasks.{Find, Task, Value, WriteCopies, WritePart}
 use Rattle.zio_frames.specs.Answering.{NextAnswered}
 use Rattle.zio_frames.specs.Slots.{IsOut, Slot, left_behind_slots, told_in}
 use Rattle.zio_parts.specs.Parts.{IsOfBytes, PartWriting, is_gang, member_bytes, member_count, slots_of, writing_by}
@@ -22,7 +20,7 @@ use Rattle.zio_parts.specs.declared.parts.OwnWrite.TheVariants.{Due, Out as OwnO
 use Rattle.zio_parts.specs.declared.parts.PartStep.{PartStep}
 use Rattle.zio_parts.specs.declared.parts.Placing.{Placing}
 use Rattle.zio_parts.specs.declared.parts.Placing.TheVariants.{Body, Head as HeadDue, Whole, Gang, Nowhere}
-use Rattle.zio_parts.specs.declared.parts.StoredPart.{StoredPart}
+use Rattle.zio_exchange.specs.Outcomes.{IsKept}
 use Rattle.zio_stages.specs.PartsOut.{ArePartsOut}
 use Rattle.zio_stages.specs.declared.part.PartOwn.{PartOwn}
 
@@ -100,11 +98,6 @@ asks_in x = asks_at x.placing x
 
 -- ---- what it leaves
 
--- the pointer of a part that was written is one that a header can name, and where there is none there are no headers
-abbrev pub IsKept : Option Bp → List Head → Type 0
-IsKept None heads = heads ≡ []
-IsKept (Some bp) heads = FitsTypes bp × IsTrue (valid bp)
-
 -- of a member that ended
 abbrev pub IsKeptMember : Member → Type 0
 IsKeptMember MemberOut = Unit {0}
@@ -153,6 +146,3 @@ abbrev pub IsOutAs : Option Bp → Option Slot → Type 0
 IsOutAs pointer (Some (IsOut None)) = Unit {0}
 IsOutAs pointer (Some (IsOut (Some told))) = told ≡ pointer
 IsOutAs pointer _ = ⊥
-
-abbrev pub stored_as : StoredPart → Stored
-stored_as x = record { error = x.error; pointer = x.pointer; heads = x.heads }

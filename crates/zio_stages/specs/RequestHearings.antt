@@ -10,7 +10,7 @@ use Rattle.zio_children.specs.RequestKids.{numbers_of, state_at}
 use Rattle.zio_children.specs.declared.kids.KidState.TheVariants.{Told}
 use Rattle.zio_frames.specs.Frames.{Child, Stack}
 use Rattle.zio_frames.specs.Seats.{IsSeated}
-use Rattle.zio_stages.specs.Outcomes.{IsAttempt}
+use Rattle.zio_exchange.specs.Outcomes.{IsAttempt}
 use Rattle.zio_stages.specs.OwnParts.{HearsValue}
 use Rattle.zio_stages.specs.RequestNodes.{IsRequestNode, IsSeatOf}
 use Rattle.zio_stages.specs.declared.request_node.Own.{Own}

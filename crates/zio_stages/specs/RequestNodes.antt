@@ -13,8 +13,13 @@ use Rattle.zio_children.specs.declared.kids.KidState.{KidState}
 use Rattle.zio_frames.specs.Frames.{Child as StackChild, OfOuter, Stack, asking}
 use Rattle.zio_frames.specs.Moves.{AsksNext, IsEnded, handed}
 use Rattle.zio_frames.specs.Slots.{AllHeard, Slot, left_behind_slots}
-use Rattle.zio_stages.specs.KidTrees.{IsKids, IsLeft}
+use Rattle.zio_exchange.specs.Wholes.{IsLeft}
+use Rattle.zio_stages.specs.ClosedRequests.{Again, Closed, Finished}
+use Rattle.zio_stages.specs.KidTrees.{IsKids}
 pub use Rattle.zio_stages.specs.OwnFounds.{own_got}
+use Rattle.zio_exchange.specs.Waits.{pending_of}
+use Rattle.zio_exchange.specs.Wholes.{IsTreeOf, root_number}
+use Rattle.zio_exchange.specs.declared.waiting.UnfinishedRequest.{UnfinishedRequest}
 use Rattle.zio_stages.specs.NodeIos.{NoneSits}
 use Rattle.zio_stages.specs.OwnClaims.{IsClaimOver}
 use Rattle.zio_stages.specs.OwnWrites.{IsWriteOwn}
@@ -23,15 +28,10 @@ use Rattle.zio_stages.specs.RequestOwns.{IsClaimOwn, IsFoundOwn, IsFreeOwn, IsRe
 use Rattle.zio_stages.specs.StoredBlocks.{IsGoingBack, IsStoredOwn}
 use Rattle.zio_types.specs.declared.place.Top.{Top}
 use Rattle.zio_stages.specs.declared.family.Layer.TheVariants.{Within}
-use Rattle.zio_stages.specs.Waits.{pending_of}
-use Rattle.zio_stages.specs.Wholes.{IsTreeOf, root_number}
 use Rattle.zio_stages.specs.WrittenBlocks.{HaveAllTold}
-use Rattle.zio_stages.specs.declared.request_node.Closed.{Closed}
-use Rattle.zio_stages.specs.declared.request_node.Closed.TheVariants.{Again, Finished}
 use Rattle.zio_stages.specs.declared.request_node.Own.{Own}
 use Rattle.zio_stages.specs.declared.request_node.Own.TheVariants.{Claim, Due, Found, Free, Over, Read, Stored, Write}
 use Rattle.zio_stages.specs.declared.request_node.RequestNode.{RequestNode}
-use Rattle.zio_stages.specs.declared.waiting.UnfinishedRequest.{UnfinishedRequest}
 
 -- ---- how far it is
 

@@ -18,8 +18,9 @@ use Rattle.zio_trace.specs.Tasks.{OwnGot, Task}
 use Rattle.zio_children.specs.RequestKids.{KidsUnderWay}
 use Rattle.zio_frames.specs.Frames.{Child, OfOuter, Stack}
 use Rattle.zio_frames.specs.Slots.{AllHeard, Slot, left_behind_slots}
+use Rattle.zio_exchange.specs.Outcomes.{IsNoAttemptIn, places_in}
+use Rattle.zio_exchange.specs.declared.waiting.UnfinishedRequest.{UnfinishedRequest}
 use Rattle.zio_stages.specs.HeadsNodes.{IsHeadOn, LiesOn}
-use Rattle.zio_stages.specs.Outcomes.{IsNoAttemptIn, places_in}
 use Rattle.zio_stages.specs.OwnClaims.{IsOwnClaim}
 use Rattle.zio_stages.specs.OwnFrees.{IsOwnFree}
 use Rattle.zio_stages.specs.OwnParts.{IsNoWrite}
@@ -30,7 +31,6 @@ use Rattle.zio_stages.specs.declared.own_claim.OwnClaim.{OwnClaim}
 use Rattle.zio_stages.specs.declared.own_free.OwnFree.{OwnFree}
 use Rattle.zio_stages.specs.declared.own_read.OwnRead.{OwnRead}
 use Rattle.zio_stages.specs.declared.request_node.RequestNode.{RequestNode}
-use Rattle.zio_stages.specs.declared.waiting.UnfinishedRequest.{UnfinishedRequest}
 
 -- ---- how far it is
 

@@ -6,10 +6,9 @@ use Rattle.zio_types.specs.Errors.{worst_error, worst_of}
 use Rattle.zio_script.specs.Requests.{kind_of}
 use Rattle.zio_gang.specs.Attempts.{Child, all_bits, bits_of, has_bits}
 use Rattle.zio_children.specs.RequestKids.{finished_in, returns_in}
+use Rattle.zio_stages.specs.ClosedRequests.{Again, Closed, Finished}
 use Rattle.zio_stages.specs.StoredBlocks.{block_places}
 use Rattle.zio_stages.specs.declared.stored_block.StoredBlock.{StoredBlock}
-use Rattle.zio_stages.specs.declared.request_node.Closed.{Closed}
-use Rattle.zio_stages.specs.declared.request_node.Closed.TheVariants.{Again, Finished}
 use Rattle.zio_stages.specs.declared.request_node.Own.{Own}
 use Rattle.zio_stages.specs.declared.request_node.Own.TheVariants.{Claim, Due, Found, Free, Over, Read, Stored, Write}
 use Rattle.zio_stages.specs.declared.request_node.OwnFound.{OwnFound}

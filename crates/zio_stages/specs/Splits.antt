@@ -3,8 +3,8 @@ use Rattle.std.specs.Prelude.{◌≡◌, ℕ, List, ◌++◌, reverse}
 use Rattle.std.specs.List.{AllByRecursion}
 use Rattle.zio_trace.specs.Families.{Forest}
 use Rattle.zio_children.specs.RequestKids.{RiseFrom, root_numbers}
-use Rattle.zio_stages.specs.declared.waiting.UnfinishedRequest.{UnfinishedRequest}
-use Rattle.zio_stages.specs.Wholes.{IsForestOf, IsWhole, RiseEach, joined, trees_in}
+use Rattle.zio_exchange.specs.declared.waiting.UnfinishedRequest.{UnfinishedRequest}
+use Rattle.zio_exchange.specs.Wholes.{IsForestOf, IsWhole, RiseEach, joined, trees_in}
 
 -- The list is so many trees, and the numbers of the roots and of the children under each request rise.
 pub record AreSoMany (ws : List UnfinishedRequest) (n : ℕ) : Type 0 where

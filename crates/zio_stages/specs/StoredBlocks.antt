@@ -12,7 +12,7 @@ use Rattle.zio_trace.specs.Tasks.{OwnGot, Stored, StoredAs, Task}
 use Rattle.zio_children.specs.RequestKids.{KidsUnderWay, pointers_of}
 use Rattle.zio_frames.specs.Frames.{Stack}
 use Rattle.zio_frames.specs.Slots.{AllHeard, Slot, left_behind_slots}
-use Rattle.zio_stages.specs.Outcomes.{places_in, stored_places}
+use Rattle.zio_exchange.specs.Outcomes.{places_in, stored_places}
 use Rattle.zio_stages.specs.PartOwns.{IsPartOwn, WrittenPart, part_plan}
 use Rattle.zio_stages.specs.WrittenBlocks.{HaveAllTold, IsBlockOf}
 use Rattle.zio_stages.specs.declared.part.PartOwn.{PartOwn}

@@ -14,8 +14,8 @@ use Rattle.zio_script.specs.Whys.{fits_work, is_write, size_with}
 use Rattle.zio_gang.specs.Attempts.{Pending}
 use Rattle.zio_gang.specs.Writes.{content_of}
 use Rattle.zio_children.specs.RequestKids.{KidsUnderWay, is_told}
+use Rattle.zio_exchange.specs.declared.waiting.UnfinishedRequest.{UnfinishedRequest}
 use Rattle.zio_stages.specs.PartOwns.{WrittenPart}
-use Rattle.zio_stages.specs.declared.waiting.UnfinishedRequest.{UnfinishedRequest}
 
 -- ---- its block
 

@@ -5,14 +5,13 @@ ghost use Rattle.std.specs.List.{AllByRecursion, list_all};
 ghost use Rattle.zio_trace.specs.Families.{Forest};
 ghost use Rattle.zio_parts.specs.Gathers.{as_counted};
 ghost use Rattle.zio_children.specs.RequestKids.{RiseFrom, child_of, finished_in, is_ended};
+ghost use Rattle.zio_exchange.specs.Waits.{pending_of};
+ghost use Rattle.zio_exchange.specs.Wholes.{AreTrees, IsTreeOf, IsWhole, counted, joined, root_number, roots_in};
 ghost use Rattle.zio_stages.specs.KidTrees.{trees_left};
-ghost use Rattle.zio_stages.specs.Waits.{pending_of};
-ghost use Rattle.zio_stages.specs.Wholes.{AreTrees, IsTreeOf, IsWhole, counted, joined, root_number, roots_in};
 
-use crate::waiting::UnfinishedRequest;
-use crate::whole::{Whole, put_reserved};
 use std::alloc::Global;
 use zio_children::{KeptChild, Kids};
+use zio_exchange::{UnfinishedRequest, Whole, put_reserved};
 use zio_types::{List, NoMemory};
 
 /// The children that finished, and room for the tree over what is left of the others.

@@ -1,6 +1,6 @@
 //! The children of a request in an attempt, with their trees.
 
-ghost use Rattle.std.specs.Prelude.{◌≡◌, ◌<◌, ◌≤◌, ◌∷◌, ℕ, List, [], IfErr, IfOk, None, OnErr, Option, Some, length, replicate, reverse, slice_get, slice_set, true, vec_capacity};
+ghost use Rattle.std.specs.Prelude.{◌≡◌, ◌<◌, ◌≤◌, ◌^◌, ◌∷◌, ℕ, List, [], IfErr, IfOk, None, OnErr, Option, Some, length, replicate, reverse, slice_get, slice_set, true, vec_capacity};
 ghost use Rattle.std.specs.List.{AllByRecursion, list_all};
 ghost use Rattle.zio_gang.specs.Attempts.{Attempted, Pending, has_bits, no_bits};
 ghost use Rattle.zio_trace.specs.Families.{Forest, NoTrees};
@@ -9,21 +9,21 @@ ghost use Rattle.zio_trace.specs.Tasks.{AttemptedBy, One, Task};
 ghost use Rattle.zio_children.specs.RequestKids.{Fits, IsLeftBy, IsOutWith, RiseFrom, ShowsKids, finished_in, fresh_kids, is_ended, kid_handed, kid_is, kids_by, numbers_of, state_at};
 ghost use Rattle.zio_children.specs.declared.kids.KidState.TheVariants.{Ended, Out, Told};
 ghost use Rattle.zio_frames.specs.Slots.{Heard, IsOut, Slot};
+ghost use Rattle.zio_exchange.specs.Wholes.{IsForestOf, IsLeft, IsTreeOf, joined, root_number, root_of, roots_in};
+ghost use Rattle.zio_exchange.specs.Waits.{pending_of};
 ghost use Rattle.zio_stages.specs.KidLists.{AreBegun, HoldTheSame, HoldsBut, IsLeftList, IsListOf};
 ghost use Rattle.zio_stages.specs.KidPointers.{HasValid, HaveValidPointers};
-ghost use Rattle.zio_stages.specs.KidTrees.{HandsOut, IsKids, IsLeft, trees_left, with_kept};
+ghost use Rattle.zio_stages.specs.KidTrees.{HandsOut, IsKids, trees_left, with_kept};
 ghost use Rattle.zio_stages.specs.Splits.{AreSoMany};
-ghost use Rattle.zio_stages.specs.Waits.{pending_of};
-ghost use Rattle.zio_stages.specs.Wholes.{IsForestOf, IsTreeOf, joined, root_number, root_of, roots_in};
 
 use crate::again::{begin_again, grown_again};
+use crate::request_name::request_label;
 use crate::split::{rejoin, split};
-use crate::waiting::UnfinishedRequest;
-use crate::whole::Whole;
 use std::alloc::Global;
 use std::marker::Model;
 use zio_blkptr::Bp;
 use zio_children::{KeptChild, KidStep, Kids};
+use zio_exchange::{UnfinishedRequest, Whole, WholeBack};
 use zio_types::{Bits, Errno, List, NoMemory, ReqNo};
 
 /// The children of a request in an attempt: those that haven't finished, with the trees that are to be handed out and
@@ -46,12 +46,6 @@ impl Model for RequestKids {
     ghost view = { λ k. record { kids = k.kids; due = reverse k.due.items; again = k.again.items } };
 
     ghost invariant = { λ k. AreHeld (record { kids = k.kids; due = reverse k.due.items; again = k.again.items }) };
-}
-
-/// There is no memory to begin with this tree.
-#[derive(Debug, Drop)]
-pub struct WholeBack {
-    pub whole: Whole,
 }
 
 /// There is no memory for the tree that goes again.
@@ -101,7 +95,8 @@ impl RequestKids {
 
     /// How many children there are.
     pub fn len(&self) -> usize
-        ensures { result ≡ length self.now.kids.kids }
+        ensures count { result ≡ length self.now.kids.kids }
+        ensures small { result < 2 ^ 63 }
     {
         self.again.len()
     }
@@ -116,7 +111,7 @@ impl RequestKids {
     /// The label of the node of the next child, if there is one, in an attempt of this number.
     pub(crate) fn next_label(&self, attempt: u32) -> u64 {
         match self.due.last() {
-            Some(tree) => tree.root().label(attempt),
+            Some(tree) => request_label(tree.root(), attempt),
             None => 0,
         }
     }

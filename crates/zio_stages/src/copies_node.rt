@@ -144,7 +144,7 @@ impl CopiesNode {
     }
 
     /// A child has ended: with the bytes of its read, with none of a repair, or with an error.
-    pub fn arrive(&mut self, tops: &[Top], child: u32, found: Result<Bytes, Errno>)
+    pub fn arrive(&mut self, tops: &[Top], child: usize, found: Result<Bytes, Errno>)
         requires over { IsCopiesOver tops.now self.old }
         requires awaited { IsAwaitedAt Layer.Own self.old.family child }
         ensures heard { (t : Terms) (st : Stack) (c : Child) (a : Answer) → t.setting.tops ≡ tops.now → found ≡ a →

@@ -1,6 +1,6 @@
 //! A node's children in an attempt.
 
-ghost use Rattle.std.specs.Prelude.{◌≡◌, ◌-◌, ◌^◌, ◌<◌, ◌∷◌, ◌++◌, ◌&&◌, [], length, IfOk, IfSome, OnErr, OnOk, Some, ℕ, option_map, true, slice_get, slice_set};
+ghost use Rattle.std.specs.Prelude.{◌≡◌, ◌<◌, ◌∷◌, ◌++◌, ◌&&◌, [], length, IfOk, IfSome, OnErr, OnOk, Some, ℕ, option_map, true, slice_get, slice_set};
 ghost use Rattle.std.specs.List.{list_any, position};
 ghost use Rattle.zio_types.specs.Machine.{same_kind};
 ghost use Rattle.zio_frames.specs.Frames.{Child};
@@ -16,13 +16,13 @@ use zio_types::{ChildKind, NoMemory, Phase};
 /// Where a child's operation stands: it is one of the node's own part, or of the part within that.
 #[derive(Clone, Copy, Debug, PartialEq, Eq)]
 pub enum Seat {
-    Outer(u32),
-    Inner(u32),
+    Outer(usize),
+    Inner(usize),
 }
 
 impl Seat {
     /// The number of the operation.
-    pub fn number(self) -> u32
+    pub fn number(self) -> usize
         ensures { (layer : SeenLayer) (n : ℕ) → seat_of self ≡ layer_seat layer n → result ≡ n }
     {
         match self {
@@ -43,7 +43,7 @@ pub enum Layer {
 
 impl Layer {
     /// Where the part's operation of this number stands.
-    pub fn seat(self, n: u32) -> Seat
+    pub fn seat(self, n: usize) -> Seat
         ensures { seat_of result ≡ layer_seat self n }
     {
         match self {
@@ -92,7 +92,7 @@ impl Family {
     }
 
     /// How many children were added.
-    pub fn len(&self) -> u32
+    pub fn len(&self) -> usize
         ensures { result ≡ length self.now }
     {
         self.brood.len()
@@ -100,8 +100,7 @@ impl Family {
 
     /// Adds a child that does the operation at the seat, and answers its number. A vdev child needs to tell nothing.
     /// Where memory is refused the children are as before.
-    pub fn add(&mut self, kind: ChildKind, seat: Seat, label: u64) -> Result<u32, NoMemory>
-        requires { length self.old < 2 ^ 32 - 1 }
+    pub fn add(&mut self, kind: ChildKind, seat: Seat, label: u64) -> Result<usize, NoMemory>
         ensures ok { OnOk result (self.new ≡ self.old ++ new_child (seat_of seat) kind ∷ []) }
         ensures number { IfOk result (λ n. n ≡ length self.old) }
         ensures err { OnErr result (self.new ≡ self.old) }
@@ -117,38 +116,38 @@ impl Family {
     }
 
     /// Where the child sits.
-    pub fn seat(&self, child: u32) -> Seat
+    pub fn seat(&self, child: usize) -> Seat
         requires { child < length self.now }
         ensures { Some (seat_of result) ≡ option_map (λ (c : Child). c.seat) (slice_get self.now child) }
     {
-        self.sittings[child as usize].seat
+        self.sittings[child].seat
     }
 
     /// Of which kind the child is.
-    pub fn kind(&self, child: u32) -> ChildKind
+    pub fn kind(&self, child: usize) -> ChildKind
         requires { child < length self.now }
         ensures { Some result ≡ option_map (λ (c : Child). c.kind) (slice_get self.now child) }
     {
-        self.sittings[child as usize].kind
+        self.sittings[child].kind
     }
 
     /// The child told its pointer.
-    pub fn tell(&mut self, child: u32)
+    pub fn tell(&mut self, child: usize)
         requires { child < length self.old }
         ensures { IfSome (slice_get self.old child) (λ (c : Child). self.new
             ≡ slice_set self.old child (child_told c)) }
     {
-        let kind = self.sittings[child as usize].kind;
+        let kind = self.sittings[child].kind;
         tell(&mut self.brood, child, kind);
     }
 
     /// The child ended, whether or not it told before.
-    pub fn end(&mut self, child: u32)
+    pub fn end(&mut self, child: usize)
         requires { child < length self.old }
         ensures { IfSome (slice_get self.old child) (λ (c : Child). self.new
             ≡ slice_set self.old child (child_ended c)) }
     {
-        let kind = self.sittings[child as usize].kind;
+        let kind = self.sittings[child].kind;
         tell(&mut self.brood, child, kind);
         end(&mut self.brood, child);
     }
@@ -178,7 +177,7 @@ impl Family {
     }
 
     /// The first child of this kind that hasn't told, or hasn't ended.
-    pub fn first_missing(&self, kind: ChildKind, phase: Phase) -> Option<u32>
+    pub fn first_missing(&self, kind: ChildKind, phase: Phase) -> Option<usize>
         ensures { result ≡ position (is_owing kind phase) self.now }
     {
         self.brood.missing(kind, phase)
@@ -193,7 +192,7 @@ impl Family {
 }
 
 /// The child hands in its ready value, if it hasn't and needs to.
-fn tell(brood: &mut Brood<(), ()>, child: u32, kind: ChildKind)
+fn tell(brood: &mut Brood<(), ()>, child: usize, kind: ChildKind)
     requires { IsOfKind kind (slice_get brood.old child) }
     ensures { Changes child_told child brood.old brood.new }
 {
@@ -203,7 +202,7 @@ fn tell(brood: &mut Brood<(), ()>, child: u32, kind: ChildKind)
 }
 
 /// The child, which told, hands in its done value, if it hasn't.
-fn end(brood: &mut Brood<(), ()>, child: u32)
+fn end(brood: &mut Brood<(), ()>, child: usize)
     requires { HasTold (slice_get brood.old child) }
     ensures { Changes child_ended child brood.old brood.new }
 {

@@ -1,9 +1,9 @@
 // Places that are given back one by one.
 
 ghost use Rattle.std.specs.Prelude.{◌≡◌, ◌<◌, ◌≤◌, OnOk, Some, length, slice_get};
-ghost use Rattle.zio_stages.specs.SpaceCalls.{GivesBack};
+ghost use Rattle.zio_exchange.specs.SpaceCalls.{GivesBack};
 
-use crate::services::Services;
+use zio_exchange::Services;
 use zio_types::{NoMemory, Place};
 
 /// Gives back these places in their order, of which so many were before. Where memory is refused it goes on from there

@@ -166,7 +166,7 @@ impl HeadsWork {
     }
 
     /// The walk below a member, the operation with this number, ended and left this.
-    pub fn hear_below(&mut self, n: u32, walked: Walked)
+    pub fn hear_below(&mut self, n: usize, walked: Walked)
         requires behind { 0 < n }
         requires out { slice_get (slots_of self.old.walk) n ≡ Some (IsOut None) }
         ensures heard { (t : Terms) (x : Frame) → IsHeadsWork t self.old x
@@ -177,7 +177,7 @@ impl HeadsWork {
             (Heard (WalkedBy walked)) }
         ensures heads { self.new.heads ≡ self.old.heads }
     {
-        self.walk.hear_member((n - 1) as usize, walked);
+        self.walk.hear_member(n - 1, walked);
     }
 
     /// What the walk left, where it ended. Where memory is refused it comes back.

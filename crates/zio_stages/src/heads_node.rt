@@ -15,6 +15,7 @@ ghost use Rattle.zio_frames.specs.Frames.{Child, Stack, fresh_stack};
 ghost use Rattle.zio_frames.specs.Moves.{IsEnded, heard_early, heard_of};
 ghost use Rattle.zio_frames.specs.Seats.{IsSeated};
 ghost use Rattle.zio_parts.specs.HeadWalks.{ShowsWalk};
+ghost use Rattle.zio_exchange.specs.Outcomes.{ClaimsInside};
 ghost use Rattle.zio_stages.specs.CopiesNodes.{IsCopiesNode, IsCopiesOver};
 ghost use Rattle.zio_stages.specs.Labels.{part_label};
 ghost use Rattle.zio_stages.specs.HeadsNodes.{
@@ -35,7 +36,6 @@ ghost use Rattle.zio_stages.specs.HeadsNodes.{
   with_kid,
 };
 ghost use Rattle.zio_stages.specs.HeadsWorks.{pointer_in, read_task};
-ghost use Rattle.zio_stages.specs.Outcomes.{ClaimsInside};
 ghost use Rattle.zio_stages.specs.OwnParts.{HandsTo};
 ghost use Rattle.zio_stages.specs.Tops.{AreTops};
 ghost use Rattle.zio_stages.specs.WriteIos.{AreIoPlaces};
@@ -237,7 +237,7 @@ impl HeadsNode {
     {
         let heads = self.work.heads_below(alloc, &member.path)?;
         let name = self.name.at(member.path, Role::Head);
-        let seat = Seat::Outer(u32::from(member.n) + 1);
+        let seat = Seat::Outer(usize::from(member.n) + 1);
         self.family
             .add(ChildKind::Gang, seat, name.label(SECTOR_SIZE as usize))?;
         let work = self.work.hand_out_below(alloc, tops, member, heads);
@@ -250,7 +250,7 @@ impl HeadsNode {
     }
 
     /// A child told that its value has no pointer.
-    pub fn arrive_ready(&mut self, child: u32)
+    pub fn arrive_ready(&mut self, child: usize)
         requires { HearsSomeUntold self.old child }
         ensures told { (t : Terms) (st : Stack) (c : Child) (pointer : Option SeenBp) → IsHeadsNode t self.old st →
             IsSeated st →
@@ -269,7 +269,7 @@ impl HeadsNode {
         &mut self,
         alloc: Global,
         tops: &[Top],
-        child: u32,
+        child: usize,
         found: &Result<Bytes, Errno>,
     ) -> Result<(), NoMemory>
         requires over { IsHeadsOver tops.now self.old }
@@ -287,7 +287,7 @@ impl HeadsNode {
     }
 
     /// The child that walks below a member ended, and left this.
-    pub fn arrive_below(&mut self, tops: &[Top], child: u32, walked: Walked)
+    pub fn arrive_below(&mut self, tops: &[Top], child: usize, walked: Walked)
         requires over { IsHeadsOver tops.now self.old }
         requires awaited { HearsSomeBelow tops.now self.old child walked }
         ensures heard { (t : Terms) (st : Stack) (c : Child) (op : Task) (v : Value) →

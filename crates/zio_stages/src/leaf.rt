@@ -7,18 +7,9 @@ ghost use Rattle.zio_trace.specs.Tasks.{Got, Leaf};
 ghost use Rattle.zio_frames.specs.Frames.{Frame, fresh_frame, with_asked};
 ghost use Rattle.zio_frames.specs.Slots.{Heard};
 ghost use Rattle.zio_parts.specs.Copies.{spot_at};
+ghost use Rattle.zio_exchange.specs.LeafOps.{IsOpAt, IsOpFor};
 ghost use Rattle.zio_stages.specs.Labels.{operation_label};
-ghost use Rattle.zio_stages.specs.LeafWorks.{
-  IsAnswered,
-  IsDue,
-  IsLeafWork,
-  IsOpAt,
-  IsOpFor,
-  IsQueuedAs,
-  IsSpanned,
-  len_of,
-  shown_by,
-};
+ghost use Rattle.zio_stages.specs.LeafWorks.{IsAnswered, IsDue, IsLeafWork, IsQueuedAs, IsSpanned, len_of, shown_by};
 
 use crate::label::{Label, Level, sectors_in};
 use crate::origin::Origin;

@@ -1,6 +1,6 @@
 // The operations on leaves of a node that reads or writes a block's copies, as its own part or as the part within that.
 
-ghost use Rattle.std.specs.Prelude.{◌≡◌, ◌+◌, ◌-◌, ◌^◌, ◌<◌, ◌∷◌, ℕ, List, None, Ok, Some, [], false, true, IfOk, IfSome, OnErr, length, slice_get, slice_set};
+ghost use Rattle.std.specs.Prelude.{◌≡◌, ◌+◌, ◌<◌, ◌∷◌, ℕ, List, None, Ok, Some, [], false, true, IfOk, IfSome, OnErr, length, slice_get, slice_set};
 ghost use Rattle.zio_types.specs.declared.place.Top.{Top as SeenTop};
 ghost use Rattle.zio_types.specs.declared.request.ChildKind.TheVariants.{Vdev};
 ghost use Rattle.zio_types.specs.declared.request.Phase.TheVariants.{Done};
@@ -56,7 +56,6 @@ pub(crate) fn start_read(
 ) -> Result<Option<LeafWork>, NoMemory>
     requires over { IsReadOver tops.now io.old }
     requires sits { SitsOn layer (IsReadOutIn io.old) family.old }
-    requires room { length family.old < 2 ^ 32 - 1 }
     ensures starts { IfOk result (λ leaf. (t : Terms) (st : Stack) → t.setting.tops ≡ tops.now →
         IsReadAt t layer io.old family.old st → StartsBy t st leaf (IsReadAt t layer io.new family.new)) }
     ensures over { IsReadOver tops.now io.new }
@@ -126,7 +125,7 @@ pub(crate) fn hear_read(
     layer: Layer,
     family: &mut Family,
     tops: &[Top],
-    child: u32,
+    child: usize,
     found: Result<Bytes, Errno>,
 )
     requires over { IsReadOver tops.now io.old }
@@ -159,7 +158,6 @@ pub(crate) fn start_write(
 ) -> Result<Option<LeafWork>, NoMemory>
     requires over { IsWriteOver tops.now io.old }
     requires sits { SitsOn layer (IsOutIn io.old) family.old }
-    requires room { length family.old < 2 ^ 32 - 1 }
     ensures starts { IfOk result (λ leaf. (t : Terms) (st : Stack) → t.setting.tops ≡ tops.now →
         IsWriteAt t bytes.now layer io.old family.old st →
         StartsBy t st leaf (IsWriteAt t bytes.now layer io.new family.new)) }
@@ -230,7 +228,7 @@ pub(crate) fn hear_write(
     io: &mut WriteIo,
     layer: Layer,
     family: &mut Family,
-    child: u32,
+    child: usize,
     error: Option<Errno>,
 )
     requires sits { SitsOn layer (IsOutIn io.old) family.old }

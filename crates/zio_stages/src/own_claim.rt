@@ -13,19 +13,19 @@ ghost use Rattle.zio_trace.specs.Tasks.{Task, WalkedBy};
 ghost use Rattle.zio_frames.specs.Frames.{Child, OfOuter, Stack};
 ghost use Rattle.zio_frames.specs.Moves.{heard_early, heard_of};
 ghost use Rattle.zio_frames.specs.Slots.{AllHeard, Slot, left_behind_slots};
+ghost use Rattle.zio_exchange.specs.SpaceCalls.{IsClaimAtMost, SpaceCall};
 ghost use Rattle.zio_stages.specs.NodeIos.{NoneSits};
 ghost use Rattle.zio_stages.specs.OwnClaims.{HasClaimEnded, IsBlockOf, IsClaimOver, IsOwnClaim, LiesWalked, claim_task, own_claimed, taken_by};
 ghost use Rattle.zio_stages.specs.OwnParts.{DoesThen, GoesOnAs, HandsTo, IsBehind};
 ghost use Rattle.zio_stages.specs.RequestClaims.{IsPastDue, IsPastWalk};
-ghost use Rattle.zio_stages.specs.SpaceCalls.{IsClaimAtMost, SpaceCall};
 ghost use Rattle.zio_stages.specs.StoredBlocks.{block_places};
 ghost use Rattle.zio_stages.specs.declared.family.Layer.TheVariants.{Within};
 
 use crate::at_once::claim_at_once;
 use crate::family::{Family, Seat};
-use crate::services::{Services, Unclaimed};
 use std::alloc::Global;
 use zio_blkptr::{Bp, decode};
+use zio_exchange::{Services, Unclaimed};
 use zio_gang::Tree;
 use zio_parts::Walked;
 use zio_types::{ChildKind, Errno, NoMemory, Top};
@@ -132,12 +132,11 @@ impl OwnClaim {
     pub(crate) fn gang_assemble(
         &mut self,
         family: &mut Family,
-        front: u32,
+        front: usize,
         label: u64,
     ) -> Result<(), NoMemory>
         requires due { self.old.step ≡ ClaimStep.Due }
         requires some { IsSome self.old.block }
-        requires room { length family.old < 2 ^ 32 - 1 }
         ensures hands { OnOk result ((t : Terms) (tops : List SeenTop) (bp : SeenBp) (front_asked : List Task)
             (before : List Slot) (st : Stack) → length before ≡ front →
             GoesOnAs t tops (plan_claim (Some bp)) before st →
@@ -156,7 +155,7 @@ impl OwnClaim {
     }
 
     /// The child told that it has no pointer.
-    pub(crate) fn arrive_ready(&self, family: &mut Family, child: u32)
+    pub(crate) fn arrive_ready(&self, family: &mut Family, child: usize)
         requires child { child < length family.old }
         requires out { self.now.step ≡ ClaimStep.Out }
         ensures sits { NoneSits Within family.old → NoneSits Within family.new }
@@ -174,7 +173,7 @@ impl OwnClaim {
         &mut self,
         family: &mut Family,
         tops: &[Top],
-        child: u32,
+        child: usize,
         walked: Walked,
     )
         requires child { child < length family.old }

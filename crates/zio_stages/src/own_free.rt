@@ -1,6 +1,6 @@
 // A free's own work behind other operations of its node's part.
 
-ghost use Rattle.std.specs.Prelude.{◌≡◌, ◌-◌, ◌^◌, ◌<◌, ◌≤◌, List, None, Ok, Option, Some, [], true, false, OnErr, OnOk, length, slice_get};
+ghost use Rattle.std.specs.Prelude.{◌≡◌, ◌<◌, ◌≤◌, List, None, Ok, Option, Some, [], true, false, OnErr, OnOk, length, slice_get};
 ghost use Rattle.zio_types.specs.declared.error.Errno.{Errno as SeenErrno};
 ghost use Rattle.zio_types.specs.declared.place.Top.{Top as SeenTop};
 ghost use Rattle.zio_types.specs.declared.request.ChildKind.TheVariants.{Gang};
@@ -13,19 +13,19 @@ ghost use Rattle.zio_trace.specs.Tasks.{Task, WalkedBy};
 ghost use Rattle.zio_frames.specs.Frames.{Child, OfOuter, Stack};
 ghost use Rattle.zio_frames.specs.Moves.{heard_early, heard_of};
 ghost use Rattle.zio_frames.specs.Slots.{AllHeard, Slot, left_behind_slots};
+ghost use Rattle.zio_exchange.specs.SpaceCalls.{GivesBack};
 ghost use Rattle.zio_stages.specs.NodeIos.{NoneSits};
 ghost use Rattle.zio_stages.specs.OwnFrees.{IsOwnFree};
 ghost use Rattle.zio_stages.specs.OwnParts.{DoesThen, GoesOnAs, HandsTo, IsBehind};
-ghost use Rattle.zio_stages.specs.SpaceCalls.{GivesBack};
 ghost use Rattle.zio_stages.specs.TreeWorks.{heads_task};
 ghost use Rattle.zio_stages.specs.declared.family.Layer.TheVariants.{Within};
 
 use crate::at_once::block_at_once;
 use crate::family::{Family, Seat};
 use crate::give_back::give_back;
-use crate::services::Services;
 use std::alloc::Global;
 use zio_blkptr::Bp;
+use zio_exchange::Services;
 use zio_parts::Walked;
 use zio_types::{ChildKind, Errno, NoMemory, Place};
 
@@ -89,11 +89,10 @@ impl OwnFree {
     pub(crate) fn gang_assemble(
         &mut self,
         family: &mut Family,
-        front: u32,
+        front: usize,
         label: u64,
     ) -> Result<(), NoMemory>
         requires due { self.old.walk ≡ FreeWalk.Due }
-        requires room { length family.old < 2 ^ 32 - 1 }
         ensures hands { OnOk result ((t : Terms) (tops : List SeenTop) (tree : Tree) (front_asked : List Task)
             (before : List Slot) (st : Stack) → length before ≡ front →
             GoesOnAs t tops (plan_free (Some tree)) before st →
@@ -112,7 +111,7 @@ impl OwnFree {
     }
 
     /// The child told that it has no pointer.
-    pub(crate) fn arrive_ready(&self, family: &mut Family, child: u32)
+    pub(crate) fn arrive_ready(&self, family: &mut Family, child: usize)
         requires child { child < length family.old }
         requires out { self.now.walk ≡ FreeWalk.Out }
         ensures sits { NoneSits Within family.old → NoneSits Within family.new }
@@ -126,7 +125,7 @@ impl OwnFree {
     }
 
     /// The walk ended, and left this.
-    pub(crate) fn arrive_walked(&mut self, family: &mut Family, child: u32, walked: Walked)
+    pub(crate) fn arrive_walked(&mut self, family: &mut Family, child: usize, walked: Walked)
         requires child { child < length family.old }
         requires out { self.old.walk ≡ FreeWalk.Out }
         ensures heard { (tree : Tree) (front_asked : List Task) (before : List Slot) (st : Stack) (c : Child) →

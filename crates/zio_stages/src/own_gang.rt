@@ -1,6 +1,6 @@
 // A gang's read as a read's own work: its walk and its bodies are gang children's.
 
-ghost use Rattle.std.specs.Prelude.{◌≡◌, ◌+◌, ◌-◌, ◌^◌, ◌<◌, ℕ, List, None, Option, Some, false, OnErr, OnOk, length, slice_get};
+ghost use Rattle.std.specs.Prelude.{◌≡◌, ◌+◌, ◌^◌, ◌<◌, ℕ, List, None, Option, Some, false, OnErr, OnOk, length, slice_get};
 ghost use Rattle.zio_types.specs.declared.place.Top.{Top as SeenTop};
 ghost use Rattle.zio_types.specs.declared.request.ChildKind.TheVariants.{Gang};
 ghost use Rattle.zio_blkptr.specs.declared.pointer.Bp.{Bp as SeenBp};
@@ -33,12 +33,11 @@ impl OwnRead {
     pub(crate) fn gang_assemble(
         &mut self,
         family: &mut Family,
-        front: u32,
+        front: usize,
         label: u64,
     ) -> Result<(), NoMemory>
         requires walk { ShowsRead self.old.tree.read Walk }
         requires alone { self.old.body ≡ None }
-        requires room { length family.old < 2 ^ 32 - 1 }
         ensures hands { OnOk result ((t : Terms) (tops : List SeenTop) (tree : Tree) (front_asked : List Task)
             (before : List Slot) (st : Stack) → length before ≡ front →
             GoesOnAs t tops (plan_tree tree) before st → IsOwnRead t self.old family.old tree front_asked before st →
@@ -60,13 +59,14 @@ impl OwnRead {
     pub(crate) fn gang_issue(
         &mut self,
         family: &mut Family,
-        front: u32,
+        front: usize,
         body: BodyRead,
         label: u64,
     ) -> Result<(), NoMemory>
         requires next { ShowsRead self.old.tree.read (Body body) }
         requires alone { self.old.body ≡ None }
-        requires room { length family.old < 2 ^ 32 - 1 }
+        requires small { body.n < 2 ^ 63 }
+        requires front { front < 2 ^ 63 }
         ensures hands { OnOk result ((t : Terms) (tops : List SeenTop) (tree : Tree) (front_asked : List Task)
             (before : List Slot) (st : Stack) → length before ≡ front →
             GoesOnAs t tops (plan_tree tree) before st → IsOwnRead t self.old family.old tree front_asked before st →
@@ -79,10 +79,7 @@ impl OwnRead {
         ensures err { OnErr result (self.new ≡ self.old) }
         ensures family_err { OnErr result (family.new ≡ family.old) }
     {
-        let number = number_of(&body)?;
-        if front > u32::MAX - number {
-            return Err(NoMemory);
-        }
+        let number = number_of(&body);
         self.tree.hand_out_body(body)?;
         match family.add(ChildKind::Gang, Seat::Outer(front + number), label) {
             Ok(_) => Ok(()),
@@ -94,7 +91,7 @@ impl OwnRead {
     }
 
     /// The child told that it has no pointer.
-    pub(crate) fn arrive_ready(&self, family: &mut Family, child: u32)
+    pub(crate) fn arrive_ready(&self, family: &mut Family, child: usize)
         requires child { child < length family.old }
         ensures over { (tops : List SeenTop) → IsOwnReadOver tops self.now family.old
             → IsOwnReadOver tops self.now family.new }
@@ -109,7 +106,7 @@ impl OwnRead {
     }
 
     /// The walk ended, and left this.
-    pub(crate) fn arrive_walked(&mut self, family: &mut Family, child: u32, walked: Walked)
+    pub(crate) fn arrive_walked(&mut self, family: &mut Family, child: usize, walked: Walked)
         requires child { child < length family.old }
         requires out { IsWalkOut self.old.tree }
         requires alone { self.old.body ≡ None }
@@ -131,8 +128,8 @@ impl OwnRead {
     pub(crate) fn arrive_found(
         &mut self,
         family: &mut Family,
-        child: u32,
-        n: u32,
+        child: usize,
+        n: usize,
         found: Result<Bytes, Errno>,
     )
         requires child { child < length family.old }

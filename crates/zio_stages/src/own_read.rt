@@ -1,6 +1,6 @@
 // A read's own work behind other operations of its node's part.
 
-ghost use Rattle.std.specs.Prelude.{◌≡◌, ◌+◌, ◌-◌, ◌^◌, ◌<◌, ℕ, List, None, Ok, Some, [], false, true, IfErr, IfOk, IfSome, IsTrue, OnErr, OnOk, length, slice_get};
+ghost use Rattle.std.specs.Prelude.{◌≡◌, ◌+◌, ◌^◌, ◌<◌, ℕ, List, None, Ok, Some, [], false, true, IfErr, IfOk, IfSome, IsTrue, OnErr, OnOk, length, slice_get};
 ghost use Rattle.std.specs.List.{AllByRecursion};
 ghost use Rattle.zio_types.specs.declared.place.Top.{Top as SeenTop};
 ghost use Rattle.zio_types.specs.declared.request.ChildKind.TheVariants.{Gang, Vdev};
@@ -43,7 +43,7 @@ use zio_types::{Bytes, Errno, List as Items, NoMemory, Place, Prio, Top};
 /// The read of a body that the node does itself, as the part within its own, and which of the read's operations it is.
 #[derive(Drop)]
 pub(crate) struct BodyIo {
-    number: u32,
+    number: usize,
     io: ReadIo,
 }
 
@@ -80,6 +80,7 @@ impl OwnRead {
         ensures shows { ShowsRead self.now.tree.read result }
         ensures body { (body : BodyRead) → result ≡ TreeStep.Body body
             → slice_get self.now.tree.read.bodies body.n ≡ Some body.bp }
+        ensures small { (body : BodyRead) → result ≡ TreeStep.Body body → body.n < 2 ^ 63 }
         ensures waits { result ≡ TreeStep.Wait → self.now.body ≡ None →
             (t : Terms) (family : List Child) (tree : Tree) (front_asked : List Task) (front : List Slot) (st : Stack) →
             IsSeated st → IsOwnRead t self.now family tree front_asked front st → IsOwed Gang Done st }
@@ -124,6 +125,7 @@ impl OwnRead {
         requires next { ShowsRead self.old.tree.read (TreeStep.Body body) }
         requires alone { self.old.body ≡ None }
         requires on { IsBodyOn tops.now body.bp }
+        requires small { body.n < 2 ^ 63 }
         ensures begins { OnOk result ((t : Terms) (family : List Child) (tree : Tree) (front_asked : List Task)
             (front : List Slot) (st : Stack) →
             GoesOnAs t tops.now (plan_tree tree) front st → IsOwnRead t self.old family tree front_asked front st →
@@ -134,7 +136,7 @@ impl OwnRead {
         ensures counts { OnOk result (BeginsBody self.old self.new) }
         ensures err { OnErr result (self.new ≡ self.old) }
     {
-        let number = number_of(&body)?;
+        let number = number_of(&body);
         let places = places_of(alloc, &body.bp)?;
         let check = Check::body(body.bp);
         self.tree.hand_out_body(body)?;
@@ -182,7 +184,6 @@ impl OwnRead {
         tops: &[Top],
     ) -> Result<Option<LeafWork>, NoMemory>
         requires over { IsOwnReadOver tops.now self.old family.old }
-        requires room { length family.old < 2 ^ 32 - 1 }
         ensures starts { IfOk result (λ leaf. (t : Terms) (tree : Tree) (front_asked : List Task) (front : List Slot)
             (st : Stack) →
             GoesOnAs t tops.now (plan_tree tree) front st → IsOwnRead t self.old family.old tree front_asked front st →
@@ -264,7 +265,7 @@ impl OwnRead {
         &mut self,
         family: &mut Family,
         tops: &[Top],
-        child: u32,
+        child: usize,
         found: Result<Bytes, Errno>,
     )
         requires over { IsOwnReadOver tops.now self.old family.old }
@@ -305,13 +306,11 @@ impl OwnRead {
 }
 
 /// The number of the body's operation among those of the read: the walk stands before the bodies.
-pub(crate) fn number_of(body: &BodyRead) -> Result<u32, NoMemory>
-    ensures { IfOk result (λ number. number ≡ body.now.n + 1) }
+pub(crate) fn number_of(body: &BodyRead) -> usize
+    requires { body.now.n < 2 ^ 63 }
+    ensures { result ≡ body.now.n + 1 }
 {
-    if body.n >= u32::MAX as usize {
-        return Err(NoMemory);
-    }
-    Ok(body.n as u32 + 1)
+    body.n + 1
 }
 
 pub(crate) fn places_of(alloc: Global, bp: &Bp) -> Result<Items<Place>, NoMemory>

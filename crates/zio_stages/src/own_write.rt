@@ -6,29 +6,28 @@ ghost use Rattle.zio_types.specs.declared.place.Top.{Top as SeenTop};
 ghost use Rattle.zio_gang.specs.Attempts.{Terms};
 ghost use Rattle.zio_children.specs.RequestKids.{is_told, pointers_of};
 ghost use Rattle.zio_frames.specs.Frames.{Child, Stack};
+ghost use Rattle.zio_exchange.specs.Waits.{pending_of};
 ghost use Rattle.zio_stages.specs.KidPointers.{HaveValidPointers};
 ghost use Rattle.zio_stages.specs.NodeIos.{NoneSits};
 ghost use Rattle.zio_stages.specs.OwnWrites.{IsBlockAt, IsIdleAt};
 ghost use Rattle.zio_stages.specs.WrittenBlocks.{IsSoundWrite};
 ghost use Rattle.zio_stages.specs.PartWorks.{Front, IsPartOver};
-ghost use Rattle.zio_stages.specs.Waits.{pending_of};
 ghost use Rattle.zio_stages.specs.declared.family.Layer.TheVariants.{Within};
 
 use crate::part_work::PartWork;
-use crate::waiting::UnfinishedRequest;
 use std::alloc::Global;
 use zio_children::Kids;
+use zio_exchange::UnfinishedRequest;
 use zio_gang::content;
 use zio_parts::BlockWrite;
 use zio_script::Work;
 use zio_types::{NoMemory, Path};
 
-/// A write's own work, once its content is set: the write of its block as one part, behind so many operations for its
+/// A write's own work, once its content is set: the write of its block as one part, behind the operations for its
 /// children.
 #[derive(Drop)]
 pub(crate) struct OwnWrite {
     pub(crate) work: PartWork,
-    pub(crate) front: u32,
 }
 
 /// The write of the request's block, of which nothing is asked. Its content begins with the pointers that its children

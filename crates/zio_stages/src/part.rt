@@ -13,7 +13,8 @@ ghost use Rattle.zio_parts.specs.Parts.{ask_by, fresh_part, is_gang, is_head_due
 ghost use Rattle.zio_parts.specs.PartWrites.{IsAsk, IsLast, is_due, is_ready, member_heard, member_told, own_heard, part_handed, places_heard, step_of};
 ghost use Rattle.zio_parts.specs.declared.parts.OwnWrite.TheVariants.{Due, Out as OwnOut};
 ghost use Rattle.zio_parts.specs.declared.parts.Placing.TheVariants.{Body};
-ghost use Rattle.zio_stages.specs.PartOwns.{ForBytes, ForMember, HandsMember, HandsOut, IsKept, IsOutAs, IsPartOwn, PartAsks, ShowsOwn, WrittenPart, asks_in, part_plan, stored_as};
+ghost use Rattle.zio_exchange.specs.Outcomes.{IsKept, stored_as};
+ghost use Rattle.zio_stages.specs.PartOwns.{ForBytes, ForMember, HandsMember, HandsOut, IsOutAs, IsPartOwn, PartAsks, ShowsOwn, WrittenPart, asks_in, part_plan};
 
 use std::alloc::Global;
 use std::ops::Range;
@@ -183,7 +184,7 @@ impl PartOwn {
     }
 
     /// A member, the operation with this number, told which pointer it will have.
-    pub fn hear_told(&mut self, n: u32, pointer: Option<Bp>)
+    pub fn hear_told(&mut self, n: usize, pointer: Option<Bp>)
         requires member { slice_get (asks_in self.old.part) n ≡ Some ForMember }
         requires out { slice_get (slots_of self.old.part) n ≡ Some (IsOut None) }
         requires valid { IfSome pointer (λ bp. IsTrue (valid bp)) }
@@ -192,11 +193,11 @@ impl PartOwn {
             IsPartOwn t self.old o asked slots →
             IsPartOwn t self.new o asked (slice_set slots n (IsOut (Some pointer))) }
     {
-        self.part.tell((n - 2) as usize, pointer);
+        self.part.tell(n - 2, pointer);
     }
 
     /// A member, the operation with this number, ended, with the pointer that it told if it told one.
-    pub fn hear_member(&mut self, n: u32, stored: StoredPart)
+    pub fn hear_member(&mut self, n: usize, stored: StoredPart)
         requires member { slice_get (asks_in self.old.part) n ≡ Some ForMember }
         requires out { IsOutAs stored.pointer (slice_get (slots_of self.old.part) n) }
         requires valid { slice_get (slots_of self.old.part) n ≡ Some (IsOut None)
@@ -207,7 +208,8 @@ impl PartOwn {
             IsPartOwn t self.old o asked slots →
             IsPartOwn t self.new o asked (slice_set slots n (Heard (StoredAs (stored_as stored)))) }
     {
-        self.part.hear_member((n - 2) as usize, stored.error, stored.pointer, stored.heads);
+        self.part
+            .hear_member(n - 2, stored.error, stored.pointer, stored.heads);
     }
 
     /// The body or the header was written.

@@ -144,9 +144,6 @@ impl PartWork {
         ensures pass { is_second self.new.io ≡ is_second self.old.io }
         ensures none { result ≡ Ok None → IsMoreDue tops.now self.new.io → ⊥ }
     {
-        if family.len() == u32::MAX {
-            return Err(NoMemory);
-        }
         let Some(mut io) = self.io.take() else {
             return Ok(None);
         };
@@ -206,7 +203,7 @@ impl PartWork {
     }
 
     /// A child of its own write has ended, with this error or none.
-    pub(crate) fn arrive_leaf(&mut self, family: &mut Family, child: u32, error: Option<Errno>)
+    pub(crate) fn arrive_leaf(&mut self, family: &mut Family, child: usize, error: Option<Errno>)
         requires over { (tops : Seq SeenTop) × IsPartOver tops self.old family.old }
         requires awaited { IsAwaitedAt Within family.old child }
         ensures heard { (t : Terms) (f : Front) (o : WrittenPart) (st : Stack) (c : Child) (a : Answer) →

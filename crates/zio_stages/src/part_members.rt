@@ -1,6 +1,6 @@
 // The members of a part that is written as a gang, the pointer that it tells, and its end.
 
-ghost use Rattle.std.specs.Prelude.{◌≡◌, ◌+◌, ◌-◌, ◌^◌, ◌<◌, ℕ, IfErr, IfOk, IfSome, IsTrue, List as Seq, None, OnErr, Ok, Option, Some, length, slice_get, true};
+ghost use Rattle.std.specs.Prelude.{◌≡◌, ◌+◌, ◌^◌, ◌<◌, ℕ, IfErr, IfOk, IfSome, IsTrue, List as Seq, None, OnErr, Ok, Option, Some, length, slice_get, true};
 ghost use Rattle.zio_types.specs.declared.place.Top.{Top as SeenTop};
 ghost use Rattle.zio_types.specs.declared.request.ChildKind.TheVariants.{Gang};
 ghost use Rattle.zio_types.specs.declared.request.Phase.TheVariants.{Done, Ready};
@@ -16,11 +16,12 @@ ghost use Rattle.zio_frames.specs.Seats.{IsSeated};
 ghost use Rattle.zio_frames.specs.Slots.{AllHeard, Slot, left_behind_slots, told_in};
 ghost use Rattle.zio_parts.specs.Parts.{stored_by};
 ghost use Rattle.zio_parts.specs.PartWrites.{is_due, is_ready, step_of};
+ghost use Rattle.zio_exchange.specs.Outcomes.{IsKept, stored_as};
+ghost use Rattle.zio_exchange.specs.SpaceCalls.{AreAsks, SpaceCall};
 ghost use Rattle.zio_stages.specs.OwnParts.{DoesThen, IsOwed};
 ghost use Rattle.zio_stages.specs.PartNodes.{ComesTo, HandsMemberOf, IsAllocatedOver, IsMemberUnder, IsPartNodeOver, member_in, with_member};
-ghost use Rattle.zio_stages.specs.PartOwns.{IsKept, IsPartOwn, ShowsOwn, WrittenPart, part_plan, stored_as};
+ghost use Rattle.zio_stages.specs.PartOwns.{IsPartOwn, ShowsOwn, WrittenPart, part_plan};
 ghost use Rattle.zio_stages.specs.PartWorks.{Front, HaveUnits, IsFront, IsMemberAt, IsNoLessFar, IsPartAt, IsPartOver, IsPlaced, IsToldAs, IsWritten, asks_left};
-ghost use Rattle.zio_stages.specs.SpaceCalls.{AreAsks, SpaceCall};
 ghost use Rattle.zio_stages.specs.Tops.{AreTops};
 
 use crate::family::{Family, Seat};
@@ -29,10 +30,10 @@ use crate::part::OwnBack;
 use crate::part_node::{Allocated, PartNode};
 use crate::part_work::PartWork;
 use crate::request_node::{DoneStep, ReadyStep};
-use crate::services::Services;
 use crate::write_io::copy_of;
 use std::alloc::Global;
 use zio_blkptr::Bp;
+use zio_exchange::Services;
 use zio_parts::{PartStep, StoredPart};
 use zio_types::{ChildKind, NoMemory};
 
@@ -51,11 +52,12 @@ impl PartWork {
         services: &mut S,
         family: &mut Family,
         name: &Named,
-        front: u32,
+        front: usize,
     ) -> Result<Allocated, NoMemory>
         requires over { IsPartOver (S.tops services.old) self.old family.old }
         requires tops { AreTops (S.tops services.old) }
         requires units { HaveUnits (S.tops services.old) }
+        requires front { front < 2 ^ 63 }
         ensures does { (calls : Seq SpaceCall) × S.made services.old calls services.new
             × ((t : Terms) (f : Front) (o : WrittenPart) (st : Stack) →
             IsFront t f o front → IsPartAt t self.old family.old f o st
@@ -90,9 +92,10 @@ impl PartWork {
         alloc: Global,
         family: &mut Family,
         name: &Named,
-        front: u32,
+        front: usize,
     ) -> Result<Option<PartNode>, NoMemory>
         requires over { (tops : Seq SeenTop) × IsPartOver tops self.old family.old }
+        requires front { front < 2 ^ 63 }
         ensures hands { IfOk result (λ child. (t : Terms) (f : Front) (o : WrittenPart) (st : Stack) →
             IsFront t f o front →
             IsPartAt t self.old family.old f o st → HandsMemberOf t child (IsPartAt t self.new family.new f o) st) }
@@ -112,10 +115,10 @@ impl PartWork {
         let PartStep::Member(n) = self.own.next() else {
             return Ok(None);
         };
-        let seat = member_seat(family, front, n)?;
         let range = self.own.member_range(n);
         let bytes = copy_of(alloc, &self.bytes.as_slice()[range])?;
         let name = name.member(n as u8);
+        let seat = Seat::Outer(front + 2 + n);
         family.add(ChildKind::Gang, seat, name.label(0))?;
         let own = self.own.hand_out_member(n, self.bytes.as_slice());
         Ok(Some(PartNode::of(alloc, own, bytes, self.prio, name)))
@@ -194,8 +197,8 @@ impl PartWork {
     pub(crate) fn arrive_ready(
         &mut self,
         family: &mut Family,
-        front: u32,
-        child: u32,
+        front: usize,
+        child: usize,
         pointer: Option<Bp>,
     )
         requires member { IsMemberAt self.old family.old front child None }
@@ -219,8 +222,8 @@ impl PartWork {
     pub(crate) fn arrive_stored(
         &mut self,
         family: &mut Family,
-        front: u32,
-        child: u32,
+        front: usize,
+        child: usize,
         stored: StoredPart,
     )
         requires member { (told : Option (Option Bp)) × IsMemberAt self.old family.old front child told
@@ -241,16 +244,4 @@ impl PartWork {
         self.own.hear_member(n, stored);
         family.end(child);
     }
-}
-
-/// Where the nth member of a part sits behind so many operations, if so many children can be counted.
-fn member_seat(family: &Family, front: u32, n: usize) -> Result<Seat, NoMemory>
-    requires { n < 3 }
-    ensures seat { IfOk result (λ seat. seat ≡ Seat.Outer (front + 2 + n)) }
-    ensures room { IfOk result (λ seat. length family.now < 2 ^ 32 - 1) }
-{
-    if family.len() == u32::MAX || front >= u32::MAX - 4 {
-        return Err(NoMemory);
-    }
-    Ok(Seat::Outer(front + 2 + n as u32))
 }

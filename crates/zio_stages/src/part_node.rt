@@ -15,16 +15,16 @@ ghost use Rattle.zio_parts.specs.Parts.{fresh_part, writing_by};
 ghost use Rattle.zio_parts.specs.PartWrites.{is_due, is_ready, step_of};
 ghost use Rattle.zio_parts.specs.declared.parts.OwnWrite.TheVariants.{Due};
 ghost use Rattle.zio_parts.specs.declared.parts.Placing.TheVariants.{Body};
+ghost use Rattle.zio_exchange.specs.Outcomes.{IsKept, held_by, stored_as, stored_in};
+ghost use Rattle.zio_exchange.specs.SpaceCalls.{AreAsks, SpaceCall};
 ghost use Rattle.zio_stages.specs.LeafWorks.{IsDue};
 ghost use Rattle.zio_stages.specs.NodeChildren.{first_owing};
 ghost use Rattle.zio_stages.specs.NodeIos.{IsWriteDue, StartsBy, with_one};
-ghost use Rattle.zio_stages.specs.Outcomes.{held_by, stored_in};
 ghost use Rattle.zio_stages.specs.OwnParts.{DoesThen, IsOwed};
 ghost use Rattle.zio_stages.specs.Labels.{part_label};
 ghost use Rattle.zio_stages.specs.PartNodes.{ComesTo, HearsEarlyAt, HearsValueAt, IsAllocatedOver, IsAnsweredBy, IsMemberUnder, IsPartNode, IsPartNodeOver, IsStoredBy, member_in, with_member};
-ghost use Rattle.zio_stages.specs.PartOwns.{IsKept, IsPartOwn, ShowsOwn, WrittenPart, part_task, stored_as};
+ghost use Rattle.zio_stages.specs.PartOwns.{IsPartOwn, ShowsOwn, WrittenPart, part_task};
 ghost use Rattle.zio_stages.specs.PartWorks.{HaveUnits, IsIssued, IsMoreDue, IsNoLessFar, IsPlaced, IsWritten, asked_by, is_second};
-ghost use Rattle.zio_stages.specs.SpaceCalls.{AreAsks, SpaceCall};
 ghost use Rattle.zio_stages.specs.Tops.{AreTops};
 
 use crate::family::Family;
@@ -35,9 +35,9 @@ use crate::part::PartOwn;
 use crate::part_members::WorkBack;
 use crate::part_work::PartWork;
 use crate::request_node::{DoneStep, ReadyStep};
-use crate::services::Services;
 use std::alloc::Global;
 use zio_blkptr::{BLOCK_SIZE_MAX, Bp};
+use zio_exchange::Services;
 use zio_parts::{BlockWrite, PartStep, StoredPart};
 use zio_types::{Bytes, ChildKind, Errno, NoMemory, Path, Prio, ReqNo, Role, Top};
 
@@ -271,7 +271,7 @@ impl PartNode {
     }
 
     /// A member told which pointer it will have.
-    pub fn arrive_ready(&mut self, child: u32, pointer: Option<Bp>)
+    pub fn arrive_ready(&mut self, child: usize, pointer: Option<Bp>)
         requires hears { HearsEarlyAt self.old child }
         requires valid { IfSome pointer (λ bp. IsTrue (valid bp)) }
         ensures told { (t : Terms) (st : Stack) (c : Child) → IsPartNode t self.old st →
@@ -287,7 +287,7 @@ impl PartNode {
     }
 
     /// A member ended.
-    pub fn arrive_stored(&mut self, child: u32, stored: StoredPart)
+    pub fn arrive_stored(&mut self, child: usize, stored: StoredPart)
         requires { HearsValueAt (IsStoredBy stored) self.old child }
         ensures heard { (t : Terms) (st : Stack) (c : Child) → IsPartNode t self.old st →
             slice_get st.children child ≡ Some c →
@@ -302,7 +302,7 @@ impl PartNode {
     }
 
     /// A child of its own write has ended, with this error or none.
-    pub fn arrive_leaf(&mut self, child: u32, error: Option<Errno>)
+    pub fn arrive_leaf(&mut self, child: usize, error: Option<Errno>)
         requires over { (tops : Seq SeenTop) × IsPartNodeOver tops self.old }
         requires hears { HearsValueAt (IsAnsweredBy error) self.old child }
         ensures heard { (t : Terms) (st : Stack) (c : Child) (a : Answer) → error_of a ≡ error →

@@ -12,20 +12,20 @@ ghost use Rattle.zio_frames.specs.Frames.{Child, Stack};
 ghost use Rattle.zio_frames.specs.Slots.{Slot};
 ghost use Rattle.zio_parts.specs.Parts.{ask_by, is_head_due, pointer_over, writing_by};
 ghost use Rattle.zio_parts.specs.PartWrites.{IsAsk, step_of};
+ghost use Rattle.zio_exchange.specs.SpaceCalls.{AreAsks, IsAnswerFor, SpaceCall};
 ghost use Rattle.zio_stages.specs.NodeIos.{NoneSits};
 ghost use Rattle.zio_stages.specs.OwnParts.{DoesThen, IsBehind};
 ghost use Rattle.zio_stages.specs.PartOwns.{IsPartOwn, PartAsks, WrittenPart};
 ghost use Rattle.zio_stages.specs.PartWorks.{Front, HaveUnits, IsFront, IsPartAt, IsPartOver, asks_left};
-ghost use Rattle.zio_stages.specs.SpaceCalls.{AreAsks, IsAnswerFor, SpaceCall};
 ghost use Rattle.zio_stages.specs.Tops.{AreTops};
 ghost use Rattle.zio_parts.specs.declared.parts.OwnWrite.TheVariants.{Due};
 ghost use Rattle.zio_stages.specs.declared.family.Layer.TheVariants.{Within};
 
 use crate::part::PartOwn;
-use crate::services::Services;
 use crate::write_io::WriteIo;
 use std::alloc::Global;
 use zio_blkptr::BLOCK_SIZE_MAX;
+use zio_exchange::Services;
 use zio_parts::{BlockWrite, PartStep, PlaceAsk};
 use zio_types::{Bytes, Entry, List, NoMemory, Path, Place, Prio, Role};
 

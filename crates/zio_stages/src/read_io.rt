@@ -30,9 +30,9 @@ pub struct ReadIo {
     /// A copy is being read.
     is_reading: bool,
     /// How many reads were heard.
-    base: u32,
+    base: usize,
     /// How many operations it asked in all: the number of the next one.
-    asked: u32,
+    asked: usize,
 }
 
 impl ReadIo {
@@ -80,7 +80,7 @@ impl ReadIo {
     }
 
     /// The number of the next operation.
-    pub fn asked(&self) -> u32
+    pub fn asked(&self) -> usize
         ensures { result ≡ self.now.asked }
     {
         self.asked
@@ -154,7 +154,7 @@ impl ReadIo {
 
     /// The operation of this number has answered. Bytes that were read and aren't good are a checksum error; what a
     /// repair came to doesn't matter.
-    pub fn hear(&mut self, tops: &[Top], n: u32, found: Result<Bytes, Errno>)
+    pub fn hear(&mut self, tops: &[Top], n: usize, found: Result<Bytes, Errno>)
         requires over { IsReadOver tops.now self.old }
         requires out { IsReadOutIn self.old n }
         ensures heard { (t : Terms) (x : Frame) (a : Answer) → t.setting.tops ≡ tops.now → found ≡ a →
@@ -173,7 +173,7 @@ impl ReadIo {
             self.base = self.asked;
             return;
         }
-        let mend = (n - self.base) as usize;
+        let mend = n - self.base;
         self.read.hear_repair(mend);
     }
 

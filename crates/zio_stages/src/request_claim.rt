@@ -13,6 +13,7 @@ ghost use Rattle.zio_trace.specs.Tasks.{WalkedBy};
 ghost use Rattle.zio_frames.specs.Frames.{Child, Stack};
 ghost use Rattle.zio_frames.specs.Moves.{heard_early, heard_of};
 ghost use Rattle.zio_frames.specs.Seats.{IsSeated};
+ghost use Rattle.zio_exchange.specs.SpaceCalls.{IsClaimAtMost, SpaceCall};
 ghost use Rattle.zio_stages.specs.OwnClaims.{LiesWalked, own_claimed};
 ghost use Rattle.zio_stages.specs.OwnFounds.{own_got};
 ghost use Rattle.zio_stages.specs.OwnParts.{DoesThen, IsOwed};
@@ -22,18 +23,17 @@ ghost use Rattle.zio_stages.specs.RequestNodes.{IsOwnOver, IsRequestNode};
 ghost use Rattle.zio_stages.specs.RequestOwns.{IsOwnSeat};
 ghost use Rattle.zio_stages.specs.RequestReads.{HandsWalk, HasFound, IsWalkOver, IsWholeWalk};
 ghost use Rattle.zio_stages.specs.RequestStages.{with_own};
-ghost use Rattle.zio_stages.specs.SpaceCalls.{IsClaimAtMost, SpaceCall};
 ghost use Rattle.zio_stages.specs.Tops.{AreTops};
 ghost use Rattle.zio_stages.specs.declared.own_claim.ClaimStep.{ClaimStep as SeenStep};
 
 use crate::heads_node::HeadsNode;
 use crate::own_claim::{ClaimStep, OwnClaim};
 use crate::request_free::failed;
+use crate::request_name::headers_name;
 use crate::request_node::{Own, OwnFound, RequestNode};
-use crate::request_read::front_of;
-use crate::services::Services;
 use std::alloc::Global;
 use std::mem::replace;
+use zio_exchange::Services;
 use zio_gang::{LEVELS_MAX, Tree};
 use zio_parts::Walked;
 use zio_script::Work;
@@ -116,14 +116,14 @@ impl RequestNode {
         ensures rest { self.new ≡ with_own self.old self.new.own self.new.family }
         ensures err { OnErr result (self.new ≡ self.old) }
     {
-        let name = self.waiting.headers_name(self.attempt);
+        let name = headers_name(&self.waiting, self.attempt);
         let Own::Claim(own) = &mut self.own else {
             return Ok(None);
         };
         let Some(bp) = own.due_pointer() else {
             return Ok(None);
         };
-        let front = front_of(&self.kids, &self.family)?;
+        let front = self.kids.len();
         own.gang_assemble(&mut self.family, front, name.label(SECTOR_SIZE as usize))?;
         Ok(Some(HeadsNode::claimed(alloc, tops, LEVELS_MAX, name.path, bp, Prio::SyncRead, name)))
     }
@@ -200,7 +200,7 @@ impl RequestNode {
 
     /// The gang child that walked over the headers has ended, and left this: where it met no error all places of the
     /// block lie on the tops.
-    pub fn arrive_walked_claim(&mut self, tops: &[Top], child: u32, walked: Walked)
+    pub fn arrive_walked_claim(&mut self, tops: &[Top], child: usize, walked: Walked)
         requires seat { IsOwnSeat self.old child 0 }
         requires out { IsClaimingWith (λ w. w.step ≡ SeenStep.Out) self.old.own }
         requires over { IsOwnOver tops.now self.old.own self.old.family }
@@ -221,7 +221,7 @@ impl RequestNode {
     }
 
     /// That child told that it has no pointer.
-    pub fn arrive_ready_claim(&mut self, child: u32)
+    pub fn arrive_ready_claim(&mut self, child: usize)
         requires seat { IsOwnSeat self.old child 0 }
         requires out { IsClaimingWith (λ w. w.step ≡ SeenStep.Out) self.old.own }
         requires some { IsClaimingWith (λ w. (tree : SeenTree) × (w.block ≡ Some tree)) self.old.own }

@@ -7,7 +7,7 @@ ghost use Rattle.zio_stages.specs.Closings.{EndsBy};
 ghost use Rattle.zio_stages.specs.RequestReads.{HasFound, found_of};
 ghost use Rattle.zio_stages.specs.declared.request_node.OwnFound.{OwnFound};
 
-use crate::outcome::Outcome;
+use crate::closing::Outcome;
 use crate::request_node::{CloseBack, NodeBack, Own, RequestNode};
 use std::alloc::Global;
 use std::mem::replace;
@@ -22,11 +22,10 @@ impl RequestNode {
             × EndsBy self own outcome) }
         ensures back { IfErr result (λ e. e.node ≡ self) }
     {
-        let attempt = self.attempt;
         let mut node = self;
         match replace(&mut node.own, Own::Over) {
             Own::Found(own) => match node.close(alloc, own) {
-                Ok(closed) => Ok(closed.into_outcome(attempt)),
+                Ok(outcome) => Ok(outcome),
                 Err(CloseBack { mut node, own }) => {
                     node.own = Own::Found(own);
                     Err(NodeBack { node })

@@ -15,6 +15,7 @@ ghost use Rattle.zio_trace.specs.Tasks.{WalkedBy};
 ghost use Rattle.zio_frames.specs.Frames.{Child, Stack};
 ghost use Rattle.zio_frames.specs.Moves.{heard_early, heard_of};
 ghost use Rattle.zio_frames.specs.Seats.{IsSeated};
+ghost use Rattle.zio_exchange.specs.SpaceCalls.{GivesBack};
 ghost use Rattle.zio_stages.specs.OwnFounds.{own_got};
 ghost use Rattle.zio_stages.specs.OwnParts.{DoesThen, IsOwed};
 ghost use Rattle.zio_stages.specs.RequestFrees.{FreesOn, HasBegun, HasFreed, HasKeptFailed, HasWalked, IsFreeWith, IsFreeWork, IsFreeing, IsFreeingWith, freed_by};
@@ -23,17 +24,17 @@ ghost use Rattle.zio_stages.specs.RequestNodes.{IsOwnOver, IsRequestNode};
 ghost use Rattle.zio_stages.specs.RequestOwns.{IsOwnSeat, IsWaitingOver};
 ghost use Rattle.zio_stages.specs.RequestReads.{HandsWalk, HasFound, IsWalkOver, IsWholeWalk, found_error};
 ghost use Rattle.zio_stages.specs.RequestStages.{with_own};
-ghost use Rattle.zio_stages.specs.SpaceCalls.{GivesBack};
 ghost use Rattle.zio_stages.specs.StoredBlocks.{block_places};
 ghost use Rattle.zio_stages.specs.declared.own_free.FreeWalk.{FreeWalk as SeenWalk};
 
 use crate::heads_node::HeadsNode;
 use crate::own_free::{FreeWalk, OwnFree};
+use crate::request_name::headers_name;
 use crate::request_node::{Own, OwnFound, RequestNode};
-use crate::request_read::{front_of, heads_again};
-use crate::services::Services;
+use crate::request_read::heads_again;
 use crate::stored_block::places_of;
 use std::alloc::Global;
+use zio_exchange::Services;
 use zio_gang::LEVELS_MAX;
 use zio_parts::Walked;
 use zio_types::{ChildKind, Errno, List, NoMemory, Prio, SECTOR_SIZE};
@@ -93,7 +94,7 @@ impl RequestNode {
         ensures rest { self.new ≡ with_own self.old self.new.own self.new.family }
         ensures err { OnErr result (self.new ≡ self.old) }
     {
-        let name = self.waiting.headers_name(self.attempt);
+        let name = headers_name(&self.waiting, self.attempt);
         let Own::Free(own) = &mut self.own else {
             return Ok(None);
         };
@@ -103,7 +104,7 @@ impl RequestNode {
         let Some(tree) = &self.waiting.block else {
             return Ok(None);
         };
-        let front = front_of(&self.kids, &self.family)?;
+        let front = self.kids.len();
         let heads = heads_again(alloc, tree.heads.as_slice())?;
         own.gang_assemble(&mut self.family, front, name.label(SECTOR_SIZE as usize))?;
         Ok(Some(HeadsNode::kept(
@@ -182,7 +183,7 @@ impl RequestNode {
     }
 
     /// The gang child that walked over the block's headers has ended, and left this.
-    pub fn arrive_walked_free(&mut self, child: u32, walked: Walked)
+    pub fn arrive_walked_free(&mut self, child: usize, walked: Walked)
         requires seat { IsOwnSeat self.old child 0 }
         requires out { IsFreeingWith (λ w. w.walk ≡ SeenWalk.Out) self.old.own }
         ensures heard { (t : Terms) (st : Stack) (c : Child) → slice_get st.children child ≡ Some c →
@@ -202,7 +203,7 @@ impl RequestNode {
     }
 
     /// That child told that it has no pointer.
-    pub fn arrive_ready_free(&mut self, child: u32)
+    pub fn arrive_ready_free(&mut self, child: usize)
         requires seat { IsOwnSeat self.old child 0 }
         requires out { IsFreeingWith (λ w. w.walk ≡ SeenWalk.Out) self.old.own }
         ensures told { (t : Terms) (st : Stack) (c : Child) (pointer : Option Bp) →

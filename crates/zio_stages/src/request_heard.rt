@@ -9,8 +9,8 @@ ghost use Rattle.zio_trace.specs.Leaves.{Answer, error_of};
 ghost use Rattle.zio_trace.specs.Tasks.{Got, StoredAs};
 ghost use Rattle.zio_frames.specs.Frames.{Child, Stack};
 ghost use Rattle.zio_frames.specs.Moves.{heard_early, heard_of};
+ghost use Rattle.zio_exchange.specs.Outcomes.{stored_as};
 ghost use Rattle.zio_stages.specs.PartNodes.{IsAnsweredBy, IsStoredBy};
-ghost use Rattle.zio_stages.specs.PartOwns.{stored_as};
 ghost use Rattle.zio_stages.specs.RequestCounts.{AsksTheSame, IsMoreDueWrite};
 ghost use Rattle.zio_stages.specs.RequestHearings.{HearsEarlyOf, HearsValueOf};
 ghost use Rattle.zio_stages.specs.RequestNodes.{IsOwnOver, IsRequestNode};
@@ -25,7 +25,7 @@ use zio_types::Errno;
 
 impl RequestNode {
     /// A member of its block told which pointer it will have.
-    pub fn arrive_member_ready(&mut self, child: u32, pointer: Option<Bp>)
+    pub fn arrive_member_ready(&mut self, child: usize, pointer: Option<Bp>)
         requires write { IsWrite self.old.own }
         requires hears { HearsEarlyOf Gang self.old child }
         requires valid { IfSome pointer (λ bp. IsTrue (valid bp)) }
@@ -39,14 +39,15 @@ impl RequestNode {
         ensures more { (tops : Seq SeenTop) → IsMoreDueWrite tops self.new.own → IsMoreDueWrite tops self.old.own }
         ensures rest { self.new ≡ with_own self.old self.new.own self.new.family }
     {
-        let Own::Write(OwnWrite { work, front }) = &mut self.own else {
+        let front = self.kids.len();
+        let Own::Write(OwnWrite { work }) = &mut self.own else {
             unreachable!()
         };
-        work.arrive_ready(&mut self.family, *front, child, pointer);
+        work.arrive_ready(&mut self.family, front, child, pointer);
     }
 
     /// A member of its block ended.
-    pub fn arrive_stored(&mut self, child: u32, stored: StoredPart)
+    pub fn arrive_stored(&mut self, child: usize, stored: StoredPart)
         requires write { IsWrite self.old.own }
         requires hears { HearsValueOf (IsStoredBy stored) self.old child }
         ensures heard { (t : Terms) (st : Stack) (c : Child) → IsRequestNode t self.old st →
@@ -60,14 +61,15 @@ impl RequestNode {
         ensures more { (tops : Seq SeenTop) → IsMoreDueWrite tops self.new.own → IsMoreDueWrite tops self.old.own }
         ensures rest { self.new ≡ with_own self.old self.new.own self.new.family }
     {
-        let Own::Write(OwnWrite { work, front }) = &mut self.own else {
+        let front = self.kids.len();
+        let Own::Write(OwnWrite { work }) = &mut self.own else {
             unreachable!()
         };
-        work.arrive_stored(&mut self.family, *front, child, stored);
+        work.arrive_stored(&mut self.family, front, child, stored);
     }
 
     /// An operation on a leaf for its own copies has ended, with this error or none.
-    pub fn arrive_leaf_write(&mut self, child: u32, error: Option<Errno>)
+    pub fn arrive_leaf_write(&mut self, child: usize, error: Option<Errno>)
         requires write { IsWrite self.old.own }
         requires over { (tops : Seq SeenTop) × IsOwnOver tops self.old.own self.old.family }
         requires hears { HearsValueOf (IsAnsweredBy error) self.old child }
@@ -81,7 +83,7 @@ impl RequestNode {
         ensures same { AsksTheSame self.old.own self.new.own }
         ensures rest { self.new ≡ with_own self.old self.new.own self.new.family }
     {
-        let Own::Write(OwnWrite { work, .. }) = &mut self.own else {
+        let Own::Write(OwnWrite { work }) = &mut self.own else {
             unreachable!()
         };
         work.arrive_leaf(&mut self.family, child, error);

@@ -7,6 +7,7 @@ ghost use Rattle.zio_stages.specs.RequestKinds.{has_gang_stages, is_gang_tree, i
 ghost use Rattle.zio_stages.specs.RequestOwns.{IsOwnSeat};
 
 use crate::family::Seat;
+use crate::request_name::request_label;
 use crate::request_node::{Own, RequestNode};
 use zio_blkptr::decode;
 use zio_gang::Tree;
@@ -39,7 +40,7 @@ impl RequestNode {
     pub fn label(&self) -> u64
         ensures { result ≡ request_label self.now.waiting self.now.attempt }
     {
-        self.waiting.label(self.attempt)
+        request_label(&self.waiting, self.attempt)
     }
 
     /// Whether its pipeline has the gang stages: those of a read, a free or a claim of a gang do.
@@ -72,14 +73,14 @@ impl RequestNode {
     }
 
     /// Which operation of its own work the child does: these stand behind those for the request's children.
-    pub fn own_number(&self, child: u32) -> u32
+    pub fn own_number(&self, child: usize) -> usize
         requires { (n : ℕ) × IsOwnSeat self.now child n }
         ensures { IsOwnSeat self.now child result }
     {
         let Seat::Outer(place) = self.family.seat(child) else {
             unreachable!()
         };
-        place - self.kids.len() as u32
+        place - self.kids.len()
     }
 
     /// The number of its round.

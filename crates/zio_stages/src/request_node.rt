@@ -4,7 +4,7 @@
 //! once they all are out, and once each has told the pointer that it will have, or has ended, the request can tell its
 //! own.
 
-ghost use Rattle.std.specs.Prelude.{◌≡◌, ◌-◌, ◌^◌, ◌<◌, ◌⊎◌, ℕ, List as Seq, [], IfErr, IfOk, None, OnErr, Ok, Option, Some, length, option_map, slice_get, slice_set, true};
+ghost use Rattle.std.specs.Prelude.{◌≡◌, ◌<◌, ◌⊎◌, ℕ, List as Seq, [], IfErr, IfOk, None, OnErr, Ok, Option, Some, length, option_map, slice_get, slice_set, true};
 ghost use Rattle.std.specs.List.{AllByRecursion, list_all, list_any};
 ghost use Rattle.zio_types.specs.declared.place.Top.{Top as SeenTop};
 ghost use Rattle.zio_types.specs.declared.request.Phase.TheVariants.{Done, Ready};
@@ -19,33 +19,31 @@ ghost use Rattle.zio_gang.specs.Pointers.{IsNoneOrValid};
 ghost use Rattle.zio_frames.specs.Frames.{Child, Stack, fresh_stack};
 ghost use Rattle.zio_frames.specs.Moves.{WillHave, heard_early, heard_of};
 ghost use Rattle.zio_frames.specs.Seats.{IsSeated, asked_at};
-ghost use Rattle.zio_stages.specs.Closings.{EndsBy};
+ghost use Rattle.zio_exchange.specs.Wholes.{IsLeft, IsTreeOf, root_number, root_of};
+ghost use Rattle.zio_exchange.specs.declared.waiting.UnfinishedRequest.{UnfinishedRequest as SeenWaiting};
+ghost use Rattle.zio_stages.specs.Closings.{ClosesBy, EndsBy};
 ghost use Rattle.zio_stages.specs.KidLists.{AreBegun, HoldTheSame, HoldsBut, IsListOf, LeavesList};
 ghost use Rattle.zio_stages.specs.KidPointers.{HasValid, HaveValidPointers};
-ghost use Rattle.zio_stages.specs.KidTrees.{IsLeft};
 ghost use Rattle.zio_stages.specs.NodeChildren.{is_owing};
 ghost use Rattle.zio_stages.specs.OwnParts.{IsOwed};
 ghost use Rattle.zio_stages.specs.RequestNodes.{Closes, HandsKid, IsKidAt, IsOwnOver, IsRequestNode, IsSeatOf, OwnEnds, own_got};
 ghost use Rattle.zio_stages.specs.RequestStages.{HasToldIn, with_kids};
 ghost use Rattle.zio_stages.specs.RequestStoreds.{is_well, keeps_block, own_in};
 ghost use Rattle.zio_stages.specs.declared.request_node.OwnFound.{OwnFound as SeenFound};
-ghost use Rattle.zio_stages.specs.declared.waiting.UnfinishedRequest.{UnfinishedRequest as SeenWaiting};
-ghost use Rattle.zio_stages.specs.Wholes.{IsTreeOf, root_number, root_of};
 
-use crate::attempted::{AgainBack, RequestKids, WholeBack};
+use crate::attempted::{AgainBack, RequestKids};
+use crate::closing::{Outcome, sealed};
 use crate::family::{Family, Seat};
-use crate::outcome::Outcome;
 use crate::own_claim::OwnClaim;
 use crate::own_free::OwnFree;
 use crate::own_read::OwnRead;
 use crate::own_write::OwnWrite;
 use crate::stored_block::StoredBlock;
-use crate::waiting::UnfinishedRequest;
-use crate::whole::Whole;
 use std::alloc::Global;
 use zio_blkptr::Bp;
 use zio_children::KidStep;
 use zio_counts::all_bits;
+use zio_exchange::{UnfinishedRequest, Whole, WholeBack};
 use zio_gang::Tree;
 use zio_script::Failmode;
 use zio_types::{Bits, ChildKind, Errno, List, NoMemory, ReqNo, worst};
@@ -85,7 +83,7 @@ pub struct RequestNode {
 
 /// What a request's own work came to.
 #[derive(Drop)]
-pub struct OwnFound {
+pub(crate) struct OwnFound {
     pub(crate) error: Option<Errno>,
     /// Of a read.
     pub(crate) bytes: List<u8>,
@@ -99,7 +97,7 @@ pub struct OwnFound {
 #[derive(Drop)]
 pub enum Start {
     /// The attempt of this tree is the child of this number.
-    Child { number: u32, whole: Whole },
+    Child { number: usize, whole: Whole },
     /// All were handed out.
     AllOut,
 }
@@ -119,23 +117,6 @@ pub enum DoneStep {
     /// A child of this kind hasn't ended.
     Wait(ChildKind),
     Close,
-}
-
-/// What becomes of a request in an attempt. Proofs of other crates name it; no public call takes one or gives one.
-#[derive(Drop)]
-pub enum Closed {
-    /// It finished with this error or none. With one, the places of the block that it made are to be given back.
-    Finished {
-        waiting: UnfinishedRequest,
-        error: Option<Errno>,
-        own: OwnFound,
-    },
-    /// It goes again with these bits, and this tree is left. The places of the block that it made are to be given back.
-    Again {
-        bits: Bits,
-        whole: Whole,
-        own: OwnFound,
-    },
 }
 
 /// There is no memory for the tree that goes again.
@@ -212,8 +193,9 @@ impl RequestNode {
             return Ok(Start::AllOut);
         };
         let label = self.kids.next_label(self.attempt);
-        let seat = seat_of(&self.family, place)?;
-        let number = self.family.add(ChildKind::Logical, seat, label)?;
+        let number = self
+            .family
+            .add(ChildKind::Logical, Seat::Outer(place), label)?;
         let whole = self.kids.hand_out();
         Ok(Start::Child { number, whole })
     }
@@ -246,34 +228,28 @@ impl RequestNode {
             tree: None,
             pointer: None,
         };
-        let attempt = self.attempt;
         match self.close(alloc, own) {
-            Ok(closed) => Ok(closed.into_outcome(attempt)),
+            Ok(outcome) => Ok(outcome),
             Err(back) => Err(NodeBack { node: back.node }),
         }
     }
 
     /// The decision, where its own work came to this: with bits of its own or of a child it goes again, and else it
     /// finishes with the worst error of all. Where memory is refused both come back.
-    pub(crate) fn close(self, alloc: Global, own: OwnFound) -> Result<Closed, CloseBack>
+    pub(crate) fn close(self, alloc: Global, own: OwnFound) -> Result<Outcome, CloseBack>
         requires { list_all is_ended self.kids.kids.kids ≡ true }
-        ensures closes { IfOk result (λ closed. (t : Terms) (st : Stack) (h : IsRequestNode t self st) →
-            OwnEnds t self st (own_got own) h →
-            Closes t self st h closed) }
-        ensures decides { IfOk result (λ closed. keeps_block closed ≡ is_well self own.error) }
-        ensures kept { IfOk result (λ closed. own_in closed ≡ own) }
-        ensures list { IfOk result (LeavesList self) }
+        ensures closes { IfOk result (ClosesBy self own) }
         ensures back { IfErr result (λ e. (e.node ≡ self) × (e.own ≡ own)) }
     {
         let bits = self.bits(own.error);
         if !bits.go_again() {
             let error = worst(own.error, self.kids.kids().worst());
-            let RequestNode { waiting, .. } = self;
-            return Ok(Closed::Finished {
+            let RequestNode {
                 waiting,
-                error,
-                own,
-            });
+                attempt,
+                ..
+            } = self;
+            return Ok(sealed(&waiting, attempt, error, own));
         }
         let RequestNode {
             waiting,
@@ -285,7 +261,11 @@ impl RequestNode {
             failmode,
         } = self;
         match kids.again(alloc, waiting) {
-            Ok(whole) => Ok(Closed::Again { bits, whole, own }),
+            Ok(whole) => Ok(Outcome::Again {
+                whole,
+                bits,
+                pointer: own.pointer,
+            }),
             Err(AgainBack { kids, waiting }) => {
                 let node = RequestNode {
                     waiting,
@@ -327,7 +307,7 @@ impl RequestNode {
     }
 
     /// Of which kind the child is: logical if it is the attempt of one of its children's trees.
-    pub fn kind_of_child(&self, child: u32) -> ChildKind
+    pub fn kind_of_child(&self, child: usize) -> ChildKind
         requires { child < length self.now.family }
         ensures { Some result ≡ option_map (λ (c : Child). c.kind) (slice_get self.now.family child) }
     {
@@ -335,7 +315,7 @@ impl RequestNode {
     }
 
     /// The child, an attempt, told which pointer it will have.
-    pub fn arrive_ready(&mut self, child: u32, pointer: Option<Bp>)
+    pub fn arrive_ready(&mut self, child: usize, pointer: Option<Bp>)
         requires { IsKidAt (λ state. state ≡ Some Out) self.old child }
         ensures told { (t : Terms) (st : Stack) (c : Child) → IsRequestNode t self.old st →
             slice_get st.children child ≡ Some c →
@@ -350,12 +330,12 @@ impl RequestNode {
         ensures rest { self.new ≡ with_kids self.old self.new.kids self.new.family }
     {
         let place = self.place(child);
-        self.kids.tell(place as usize, pointer);
+        self.kids.tell(place, pointer);
         self.family.tell(child);
     }
 
     /// The child, an attempt, finished, with the pointer that it told if it told one.
-    pub fn arrive_finished(&mut self, child: u32, error: Option<Errno>, pointer: Option<Bp>)
+    pub fn arrive_finished(&mut self, child: usize, error: Option<Errno>, pointer: Option<Bp>)
         requires { IsKidAt (IsOutWith pointer) self.old child }
         ensures heard { (t : Terms) (st : Stack) (c : Child) (p : Pending) (below : Forest) (one : One) →
             IsRequestNode t self.old st → slice_get st.children child ≡ Some c →
@@ -373,12 +353,12 @@ impl RequestNode {
         ensures rest { self.new ≡ with_kids self.old self.new.kids self.new.family }
     {
         let place = self.place(child);
-        self.kids.hear_finished(place as usize, error, pointer);
+        self.kids.hear_finished(place, error, pointer);
         self.family.end(child);
     }
 
     /// The child, an attempt, goes again, with the pointer that it told if it told one, and this is left of its tree.
-    pub fn arrive_again(&mut self, child: u32, bits: Bits, whole: Whole, pointer: Option<Bp>)
+    pub fn arrive_again(&mut self, child: usize, bits: Bits, whole: Whole, pointer: Option<Bp>)
         requires out { IsKidAt (IsOutWith pointer) self.old child }
         requires bits { has_bits bits ≡ true }
         requires root { (place : ℕ) → IsSeatOf self.old.family child place
@@ -401,12 +381,12 @@ impl RequestNode {
         ensures rest { self.new ≡ with_kids self.old self.new.kids self.new.family }
     {
         let place = self.place(child);
-        self.kids.hear_again(place as usize, bits, whole, pointer);
+        self.kids.hear_again(place, bits, whole, pointer);
         self.family.end(child);
     }
 
     /// The place of the tree that the child attempts.
-    fn place(&self, child: u32) -> u32
+    fn place(&self, child: usize) -> usize
         requires { (place : ℕ) × IsSeatOf self.now.family child place }
         ensures { IsSeatOf self.now.family child result }
     {
@@ -415,15 +395,4 @@ impl RequestNode {
             Seat::Inner(_) => unreachable!(),
         }
     }
-}
-
-/// Where the child of this place sits, if so many children can be counted.
-fn seat_of(family: &Family, place: usize) -> Result<Seat, NoMemory>
-    ensures seat { IfOk result (λ seat. seat ≡ Seat.Outer place) }
-    ensures room { IfOk result (λ seat. length family.now < 2 ^ 32 - 1) }
-{
-    if family.len() == u32::MAX || place > u32::MAX as usize {
-        return Err(NoMemory);
-    }
-    Ok(Seat::Outer(place as u32))
 }

@@ -8,6 +8,7 @@ ghost use Rattle.zio_types.specs.declared.request.Phase.TheVariants.{Done};
 ghost use Rattle.zio_gang.specs.Attempts.{Terms};
 ghost use Rattle.zio_frames.specs.Frames.{Stack};
 ghost use Rattle.zio_frames.specs.Seats.{IsSeated};
+ghost use Rattle.zio_exchange.specs.SpaceCalls.{AreAsks, SpaceCall};
 ghost use Rattle.zio_stages.specs.LeafWorks.{IsDue};
 ghost use Rattle.zio_stages.specs.NodeChildren.{first_owing};
 ghost use Rattle.zio_stages.specs.NodeIos.{StartsBy, with_one};
@@ -25,7 +26,6 @@ ghost use Rattle.zio_stages.specs.RequestWrites.{
   IsReadyWrite,
   IsWrittenWrite,
 };
-ghost use Rattle.zio_stages.specs.SpaceCalls.{AreAsks, SpaceCall};
 ghost use Rattle.zio_stages.specs.Tops.{AreTops};
 ghost use Rattle.zio_stages.specs.declared.part_node.PartNode.{PartNode as SeenPart};
 
@@ -33,9 +33,10 @@ use crate::leaf::LeafWork;
 use crate::node_io::IoNext;
 use crate::own_write::OwnWrite;
 use crate::part_node::Allocated;
+use crate::request_name::body_name;
 use crate::request_node::{Own, RequestNode};
-use crate::services::Services;
 use std::alloc::Global;
+use zio_exchange::Services;
 use zio_types::{NoMemory, Top};
 
 impl RequestNode {
@@ -63,11 +64,12 @@ impl RequestNode {
         ensures placed { result ≡ Ok Allocated.Placed → IsPlacedWrite self.new.own }
         ensures rest { self.new ≡ with_own self.old self.new.own self.new.family }
     {
-        let name = self.waiting.name(self.attempt);
-        let Own::Write(OwnWrite { work, front }) = &mut self.own else {
+        let name = body_name(&self.waiting, self.attempt);
+        let front = self.kids.len();
+        let Own::Write(OwnWrite { work }) = &mut self.own else {
             unreachable!()
         };
-        work.dva_allocate(alloc, services, &mut self.family, &name, *front)
+        work.dva_allocate(alloc, services, &mut self.family, &name, front)
     }
 
     /// The next operation on a leaf for the copies of its block or its header, which begin if they are due; none where
@@ -94,8 +96,8 @@ impl RequestNode {
         ensures issued { OnOk result (IsIssuedWrite self.new.own) }
         ensures rest { self.new ≡ with_own self.old self.new.own self.new.family }
     {
-        let name = self.waiting.name(self.attempt);
-        let Own::Write(OwnWrite { work, .. }) = &mut self.own else {
+        let name = body_name(&self.waiting, self.attempt);
+        let Own::Write(OwnWrite { work }) = &mut self.own else {
             unreachable!()
         };
         work.vdev_io_start(&mut self.family, &name, alloc, tops)
@@ -131,7 +133,7 @@ impl RequestNode {
         ensures again { result ≡ true → (second_of self.old.own ≡ false) × (second_of self.new.own ≡ true) }
         ensures rest { self.new ≡ with_own self.old self.new.own self.old.family }
     {
-        let Own::Write(OwnWrite { work, .. }) = &mut self.own else {
+        let Own::Write(OwnWrite { work }) = &mut self.own else {
             unreachable!()
         };
         work.vdev_io_assess(&self.family, tops)

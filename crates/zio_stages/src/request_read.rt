@@ -4,7 +4,7 @@
 //! bodies. Of a block that is no gang the node does both itself, as parts within its own; a gang's headers and bodies
 //! are its children's.
 
-ghost use Rattle.std.specs.Prelude.{◌≡◌, ◌^◌, ◌-◌, ◌<◌, [], IfOk, IfSome, List as Seq, None, Ok, OnErr, OnOk, Option, Some, false, length, true};
+ghost use Rattle.std.specs.Prelude.{◌≡◌, ◌<◌, [], IfOk, IfSome, List as Seq, None, Ok, OnErr, OnOk, Option, Some, false, length, true};
 ghost use Rattle.std.specs.List.{list_all};
 ghost use Rattle.zio_types.specs.declared.place.Top.{Top as SeenTop};
 ghost use Rattle.zio_types.specs.declared.request.ChildKind.TheVariants.{Vdev};
@@ -36,6 +36,7 @@ use crate::node_io::IoNext;
 use crate::own_read::OwnRead;
 use crate::pointer_places::places_of;
 use crate::request_kind::is_gang_tree;
+use crate::request_name::{body_name, headers_name};
 use crate::request_node::{DoneStep, Own, OwnFound, RequestNode};
 use std::alloc::Global;
 use std::mem::replace;
@@ -119,7 +120,7 @@ impl RequestNode {
         ensures rest { self.new ≡ with_own self.old self.new.own self.new.family }
         ensures err { OnErr result (self.new ≡ self.old) }
     {
-        let name = self.waiting.headers_name(self.attempt);
+        let name = headers_name(&self.waiting, self.attempt);
         let Own::Read(own) = &mut self.own else {
             return Ok(None);
         };
@@ -129,7 +130,7 @@ impl RequestNode {
         let Some(tree) = &self.waiting.block else {
             return Ok(None);
         };
-        let front = front_of(&self.kids, &self.family)?;
+        let front = self.kids.len();
         let heads = heads_again(alloc, tree.heads.as_slice())?;
         own.gang_assemble(&mut self.family, front, name.label(SECTOR_SIZE as usize))?;
         let prio = prio_of(&self.waiting.request.work);
@@ -167,10 +168,10 @@ impl RequestNode {
         }
         match own.next() {
             TreeStep::Body(body) => {
-                let front = front_of(&self.kids, &self.family)?;
+                let front = self.kids.len();
                 let places = places_of(alloc, &body.bp)?;
                 let len = body.bp.size as usize;
-                let name = self.waiting.name(self.attempt).at(body.path, Role::Body);
+                let name = body_name(&self.waiting, self.attempt).at(body.path, Role::Body);
                 own.gang_issue(&mut self.family, front, body, name.label(len))?;
                 let prio = prio_of(&self.waiting.request.work);
                 let check = Check::body(body.bp);
@@ -207,13 +208,10 @@ impl RequestNode {
         ensures rest { self.new ≡ with_own self.old self.new.own self.new.family }
     {
         let prio = prio_of(&self.waiting.request.work);
-        let name = self.waiting.name(self.attempt);
+        let name = body_name(&self.waiting, self.attempt);
         let Own::Read(own) = &mut self.own else {
             return Ok(None);
         };
-        if self.family.len() == u32::MAX {
-            return Err(NoMemory);
-        }
         own.begin_next(alloc, tops, prio)?;
         match own.vdev_io_start(&mut self.family, &name, alloc, tops) {
             Ok(leaf) => Ok(leaf),
@@ -330,17 +328,6 @@ impl RequestNode {
                 unreachable!(),
         }
     }
-}
-
-/// How many operations for its children stand before its own work, if one more child can be counted.
-pub(crate) fn front_of(kids: &RequestKids, family: &Family) -> Result<u32, NoMemory>
-    ensures front { IfOk result (λ front. front ≡ length kids.now.kids.kids) }
-    ensures room { IfOk result (λ front. length family.now < 2 ^ 32 - 1) }
-{
-    if family.len() == u32::MAX || kids.len() > u32::MAX as usize {
-        return Err(NoMemory);
-    }
-    Ok(kids.len() as u32)
 }
 
 /// The same headers once more.

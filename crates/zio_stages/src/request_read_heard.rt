@@ -27,7 +27,7 @@ use zio_types::{Bytes, Errno, Top};
 impl RequestNode {
     /// An operation on a leaf of the body that the node reads itself has ended: with the bytes of its read, with none
     /// of a repair, or with an error.
-    pub fn arrive_leaf_read(&mut self, tops: &[Top], child: u32, found: Result<Bytes, Errno>)
+    pub fn arrive_leaf_read(&mut self, tops: &[Top], child: usize, found: Result<Bytes, Errno>)
         requires reads { IsReadingWith (λ w. Unit {0}) self.old.own }
         requires over { IsOwnOver tops.now self.old.own self.old.family }
         requires awaited { IsAwaitedAt Within self.old.family child }
@@ -46,7 +46,7 @@ impl RequestNode {
     }
 
     /// The gang child that walked over the block's headers has ended, and left this.
-    pub fn arrive_walked_read(&mut self, tops: &[Top], child: u32, walked: Walked)
+    pub fn arrive_walked_read(&mut self, tops: &[Top], child: usize, walked: Walked)
         requires seat { IsOwnSeat self.old child 0 }
         requires out { IsReadingWith IsWalkAlone self.old.own }
         requires on { AllByRecursion (IsBodyOn tops.now) walked.bodies }
@@ -69,7 +69,7 @@ impl RequestNode {
 
     /// The gang child that read a body, the own work's operation of this number, has ended: with the body's bytes, or
     /// with an error.
-    pub fn arrive_body(&mut self, tops: &[Top], child: u32, n: u32, found: Result<Bytes, Errno>)
+    pub fn arrive_body(&mut self, tops: &[Top], child: usize, n: usize, found: Result<Bytes, Errno>)
         requires seat { IsOwnSeat self.old child n }
         requires out { IsReadingWith (IsBodyBeside n) self.old.own }
         requires over { IsOwnOver tops.now self.old.own self.old.family }
@@ -88,7 +88,7 @@ impl RequestNode {
     }
 
     /// A gang child of its own work told that it has no pointer.
-    pub fn arrive_ready_read(&mut self, child: u32)
+    pub fn arrive_ready_read(&mut self, child: usize)
         requires seat { (n : ℕ) × IsOwnSeat self.old child n }
         requires reads { IsReadingWith (λ w. Unit {0}) self.old.own }
         ensures told { (t : Terms) (st : Stack) (c : Child) (pointer : Option Bp) → IsSeated st →

@@ -9,20 +9,20 @@ ghost use Rattle.zio_types.specs.declared.place.Top.{Top as SeenTop};
 ghost use Rattle.zio_gang.specs.Attempts.{Terms};
 ghost use Rattle.zio_children.specs.RequestKids.{is_ended};
 ghost use Rattle.zio_frames.specs.Frames.{Stack};
+ghost use Rattle.zio_exchange.specs.SpaceCalls.{GivesBack};
 ghost use Rattle.zio_stages.specs.Closings.{EndsBy};
 ghost use Rattle.zio_stages.specs.RequestNodes.{IsOwnOver, IsRequestNode};
 ghost use Rattle.zio_stages.specs.RequestStages.{with_own};
 ghost use Rattle.zio_stages.specs.RequestStoreds.{IsStoredWith, error_by, found_by, given_by, is_well, made_by};
-ghost use Rattle.zio_stages.specs.SpaceCalls.{GivesBack};
 ghost use Rattle.zio_stages.specs.StoredBlocks.{IsGoingBack};
 ghost use Rattle.zio_stages.specs.declared.request_node.OwnFound.{OwnFound};
 
-use crate::outcome::Outcome;
+use crate::closing::Outcome;
 use crate::request_node::{CloseBack, NodeBack, Own, RequestNode};
-use crate::services::Services;
 use crate::stored_block::StoredBlock;
 use std::alloc::Global;
 use std::mem::replace;
+use zio_exchange::Services;
 use zio_types::{Errno, NoMemory, worst};
 
 impl RequestNode {
@@ -78,11 +78,10 @@ impl RequestNode {
             × EndsBy self own outcome) }
         ensures back { IfErr result (λ e. e.node ≡ self) }
     {
-        let attempt = self.attempt;
         let mut node = self;
         match replace(&mut node.own, Own::Over) {
             Own::Stored(StoredBlock { own, places, given }) => match node.close(alloc, own) {
-                Ok(closed) => Ok(closed.into_outcome(attempt)),
+                Ok(outcome) => Ok(outcome),
                 Err(CloseBack { mut node, own }) => {
                     node.own = Own::Stored(StoredBlock { own, places, given });
                     Err(NodeBack { node })

@@ -65,15 +65,8 @@ impl RequestNode {
         if !kids.all_told() {
             return Ok(Content::Wait(ChildKind::Logical));
         }
-        let front = self.kids.len();
-        if front > u32::MAX as usize {
-            return Err(NoMemory);
-        }
         let work = block_of(alloc, &self.waiting, kids, self.round, self.attempt)?;
-        self.own = Own::Write(OwnWrite {
-            work,
-            front: front as u32,
-        });
+        self.own = Own::Write(OwnWrite { work });
         Ok(Content::Set)
     }
 
@@ -128,13 +121,13 @@ impl RequestNode {
         ensures err { OnErr result (self.new ≡ self.old) }
     {
         match replace(&mut self.own, Own::Over) {
-            Own::Write(OwnWrite { work, front }) => match work.into_stored(alloc) {
+            Own::Write(OwnWrite { work }) => match work.into_stored(alloc) {
                 Ok(stored) => {
                     self.own = Own::Stored(StoredBlock::of(alloc, stored));
                     Ok(())
                 }
                 Err(WorkBack { work }) => {
-                    self.own = Own::Write(OwnWrite { work, front });
+                    self.own = Own::Write(OwnWrite { work });
                     Err(NoMemory)
                 }
             },

@@ -1,11 +1,10 @@
 //! A list of trees that is split into them, and put together again.
 
 ghost use Rattle.std.specs.Prelude.{◌≡◌, ◌+◌, ◌≤◌, ◌++◌, [], OnOk, length, reverse, vec_capacity};
+ghost use Rattle.zio_exchange.specs.Wholes.{joined};
 ghost use Rattle.zio_stages.specs.Splits.{AreSoMany, AreTaken};
-ghost use Rattle.zio_stages.specs.Wholes.{joined};
 
-use crate::waiting::UnfinishedRequest;
-use crate::whole::{Whole, put_reserved};
+use zio_exchange::{UnfinishedRequest, Whole, put_reserved};
 use zio_types::{List, NoMemory};
 
 /// Takes so many trees from the end of the list, the last first. Where memory is refused some stay.

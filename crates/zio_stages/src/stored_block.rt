@@ -4,16 +4,16 @@ ghost use Rattle.std.specs.Prelude.{◌≡◌, IfOk, IfSome, IsTrue, None, OnOk,
 ghost use Rattle.zio_blkptr.specs.Pointers.{valid};
 ghost use Rattle.zio_blkptr.specs.declared.pointer.Bp.{Bp as SeenBp};
 ghost use Rattle.zio_trace.specs.Plans.{own_stored};
+ghost use Rattle.zio_exchange.specs.Outcomes.{stored_as};
+ghost use Rattle.zio_exchange.specs.SpaceCalls.{GivesBack};
 ghost use Rattle.zio_stages.specs.OwnFounds.{own_got};
-ghost use Rattle.zio_stages.specs.PartOwns.{stored_as};
-ghost use Rattle.zio_stages.specs.SpaceCalls.{GivesBack};
 ghost use Rattle.zio_stages.specs.StoredBlocks.{IsGoingBack, block_places};
 
 use crate::give_back::give_back;
 use crate::request_node::OwnFound;
-use crate::services::Services;
 use std::alloc::Global;
 use zio_blkptr::Bp;
+use zio_exchange::Services;
 use zio_gang::{Head, Tree};
 use zio_parts::StoredPart;
 use zio_types::{List, NoMemory, Place};

@@ -1,6 +1,6 @@
 // The read of a block, as a part of what a request does itself.
 
-ghost use Rattle.std.specs.Prelude.{◌≡◌, ◌-◌, ◌+◌, ◌++◌, ◌∷◌, ◌<◌, IfErr, IfOk, List, None, OnErr, OnOk, Some, [], length, slice_get, slice_set};
+ghost use Rattle.std.specs.Prelude.{◌≡◌, ◌-◌, ◌+◌, ◌^◌, ◌++◌, ◌∷◌, ◌<◌, IfErr, IfOk, List, None, OnErr, OnOk, Some, [], length, slice_get, slice_set};
 ghost use Rattle.zio_gang.specs.declared.tree.Tree.{Tree};
 ghost use Rattle.zio_trace.specs.Plans.{plan_tree};
 ghost use Rattle.zio_trace.specs.Programs.{Ends};
@@ -39,6 +39,7 @@ impl TreeWork {
         ensures shows { ShowsRead self.now.read result }
         ensures body { (body : BodyRead) → result ≡ TreeStep.Body body
             → slice_get self.now.read.bodies body.n ≡ Some body.bp }
+        ensures small { (body : BodyRead) → result ≡ TreeStep.Body body → body.n < 2 ^ 63 }
         ensures waits { result ≡ TreeStep.Wait → (tree : Tree) (asked : List Task) (slots : List Slot)
             → IsTreeWork self.now tree asked slots → 0 < length (told_in slots) }
     {
@@ -102,7 +103,7 @@ impl TreeWork {
     }
 
     /// A body, the operation with this number, was read, or failed.
-    pub fn hear_body(&mut self, n: u32, found: Result<Bytes, Errno>)
+    pub fn hear_body(&mut self, n: usize, found: Result<Bytes, Errno>)
         requires behind { 0 < n }
         requires out { (left : Left) × (slice_get (slots_with left self.old.read) n ≡ Some (IsOut None)) }
         ensures heard { (tree : Tree) (asked : List Task) (slots : List Slot) → IsTreeWork self.old tree asked slots →
@@ -111,7 +112,7 @@ impl TreeWork {
             ≡ with_results self.old.read (slice_set self.old.read.results (n - 1) (Some found)) }
         ensures bodies { self.new.read.bodies ≡ self.old.read.bodies }
     {
-        self.read.hear_body((n - 1) as usize, found);
+        self.read.hear_body(n - 1, found);
     }
 
     /// The block's bytes or its error, where it ended. A block of one body is that body's bytes, moved. Where memory is

@@ -47,9 +47,9 @@ pub struct WriteIo {
     write: CopyWrite,
     prio: Prio,
     /// How many operations it asked before this pass.
-    base: u32,
+    base: usize,
     /// How many it asked in all: the number of the next one.
-    asked: u32,
+    asked: usize,
 }
 
 impl WriteIo {
@@ -71,7 +71,7 @@ impl WriteIo {
     }
 
     /// The number of the next operation.
-    pub fn asked(&self) -> u32
+    pub fn asked(&self) -> usize
         ensures { result ≡ self.now.asked }
     {
         self.asked
@@ -130,7 +130,7 @@ impl WriteIo {
     }
 
     /// The operation of this number has answered.
-    pub fn hear(&mut self, n: u32, error: Option<Errno>)
+    pub fn hear(&mut self, n: usize, error: Option<Errno>)
         requires { IsOutIn self.old n }
         ensures heard { (t : Terms) (bytes : List ℕ) (x : Frame) (a : Answer) → error_of a ≡ error →
             IsWriteIo t bytes self.old x → IsWriteIo t bytes self.new (with_slot x n (Heard (Got a))) }
@@ -140,7 +140,7 @@ impl WriteIo {
         ensures pass { self.new.write.retry ≡ self.old.write.retry }
         ensures class { self.new.prio ≡ self.old.prio }
     {
-        let place = (n - self.base) as usize;
+        let place = n - self.base;
         self.write.hear(place, error);
     }
 

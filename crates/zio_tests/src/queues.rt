@@ -28,7 +28,7 @@ const REPAIR: Flags = Flags {
 /// Queues an operation under a ticket that isn't queued.
 fn put(
     queue: &mut VQueue,
-    ticket: u32,
+    ticket: u64,
     prio: Prio,
     at: u32,
     len: u32,
@@ -64,7 +64,7 @@ fn take(alloc: Global, queue: &mut VQueue) -> Result<String, NoMemory> {
 /// Whether the first group of plain operations, whose tickets count from 0, is the wanted one.
 fn gives(alloc: Global, ops: &[(Prio, u32, u32)], wanted: &str) -> Result<bool, NoMemory> {
     let mut queue = VQueue::new(alloc);
-    let mut ticket = 0u32;
+    let mut ticket = 0u64;
     for (prio, at, len) in ops {
         put(&mut queue, ticket, *prio, *at, *len, PLAIN)?;
         ticket = ticket.wrapping_add(1);
@@ -154,7 +154,14 @@ fn a_class_goes_on_from_the_last_offset_up_to_its_maximum(rt: HostRuntime) -> Re
 fn eight_writes_are_one_group_that_a_fault_parts(rt: HostRuntime) -> Result<(), Fail> {
     let mut queue = VQueue::new(rt.alloc());
     for i in 0..8u32 {
-        put(&mut queue, i, Prio::AsyncWrite, 4096 * i, 4096, PLAIN)?;
+        put(
+            &mut queue,
+            u64::from(i),
+            Prio::AsyncWrite,
+            4096 * i,
+            4096,
+            PLAIN,
+        )?;
     }
     let group = queue.take()?.ok_or("no group")?;
     assert_eq!(rt; (group.at, group.len), (0, 32768));

@@ -7,8 +7,8 @@ use Rattle.zio_types.specs.declared.request.ChildKind.{ChildKind}
 use Rattle.zio_types.specs.declared.request.Phase.{Phase}
 use Rattle.zio_types.specs.declared.request.Phase.TheVariants.{Done}
 use Rattle.zio_counts.specs.Tallies.{Tally, count_end, counted, first_counted, is_last, notified, raised, stalled}
-use Rattle.zio_stages.specs.declared.waiting.UnfinishedRequest.{UnfinishedRequest}
 use Rattle.slab.specs.Slab.{Slab, Updates, get}
+use Rattle.zio_exchange.specs.declared.waiting.UnfinishedRequest.{UnfinishedRequest}
 use Rattle.zio_turns.specs.Acts.{HasCounted, HasGrown, HasHeard, HasWaited, StepIn, counting, new_ties, step_told, with_ties}
 use Rattle.zio_turns.specs.Entries.{OneMore, OneMoreIf}
 use Rattle.zio_turns.specs.Parts.{Nodes}
@@ -17,6 +17,7 @@ use Rattle.zio_turns.specs.declared.entry.TiedNode.{TiedNode}
 use Rattle.zio_turns.specs.declared.entry.Parent.{Parent as Above}
 use Rattle.zio_turns.specs.declared.entry.Parent.TheVariants.{Node, Tree}
 use Rattle.zio_turns.specs.declared.entry.Ties.{Ties}
+use Rattle.zio_turns.specs.declared.step.Step.{Step}
 use Rattle.zio_turns.proofs.Queues.{queued_last}
 use Rattle.zio_turns.proofs.Shelves.{exchanged}
 
@@ -29,9 +30,9 @@ if_ok_both (Ok x) P Q R f p q = f x p q
 if_ok_both (Err e) P Q R f p q = tt
 
 -- a pointer that is told is no tree that goes again
-pub told_in : (Q : List UnfinishedRequest → Type 0) (parent : Above) → StepIn Q (step_told parent)
-told_in Q (Tree tree child) = tt
-told_in Q (Node key child) = tt
+pub told_in : {S : Type 0} (Q : List UnfinishedRequest → Type 0) (parent : Above) (step : Step S) → step ≡ step_told parent → StepIn Q step
+told_in {S} Q (Tree tree child) step is = subst (λ (x : Step S). StepIn Q x) (sym is) tt
+told_in {S} Q (Node key child) step is = subst (λ (x : Step S). StepIn Q x) (sym is) tt
 
 pub waited : {N : Type 0} (slab slab_now : Slab (TiedNode N)) (line line_now : List ℕ) (key : ℕ) (e : TiedNode N) (kind : ChildKind)
     (phase : Phase) (tally : Tally) (stalls : Bool) → tally ≡ stalled (first_counted (kind ∷ []) phase e.ties.counts) e.ties.counts
@@ -44,27 +45,32 @@ waited {N} slab slab_now line line_now key e kind phase tally stalls is waits pu
 }
 
 pub has_grown : {N : Type 0} (slab mid slab_now : Slab (TiedNode N)) (line line_mid line_now : List ℕ) (key at : ℕ) (e : TiedNode N)
-    (child : N) (kind : ChildKind) (tally : Tally) (ties : Ties) → counted kind Done e.ties.counts < count_end
-    → tally ≡ raised kind e.ties.counts
+    (child : N) (kind : ChildKind) (tally : Tally) (more : ℕ) (ties : Ties) → counted kind Done e.ties.counts < count_end
+    → tally ≡ raised kind e.ties.counts → more ≡ e.ties.children + 1
     → Updates slab mid key (Some (with_ties {N = N} e.node (record {
       kind = e.ties.kind;
       parent = e.ties.parent;
       counts = tally;
-      children = e.ties.children + 1;
+      children = more;
     })))
     → get mid at ≡ None → ties ≡ new_ties kind (Node key e.ties.children)
     → Updates mid slab_now at (Some (with_ties {N = N} child ties)) → line_mid ≡ line ++ at ∷ []
     → line_now ≡ line_mid ++ key ∷ [] → HasGrown {N = N} slab line slab_now line_now key e child kind
-has_grown {N} slab mid slab_now line line_mid line_now key at e child kind tally ties room counts put free are added one two = record {
+has_grown {N} slab mid slab_now line line_mid line_now key at e child kind tally more ties room counts one_more put free are added one two = record {
   mid = mid;
   at = at;
   room = room;
-  put = subst (λ (x : Tally). Updates slab mid key (Some (with_ties {N = N} e.node (record {
+  put = subst (λ (n : ℕ). Updates slab mid key (Some (with_ties {N = N} e.node (record {
+    kind = e.ties.kind;
+    parent = e.ties.parent;
+    counts = raised kind e.ties.counts;
+    children = n;
+  })))) one_more (subst (λ (x : Tally). Updates slab mid key (Some (with_ties {N = N} e.node (record {
     kind = e.ties.kind;
     parent = e.ties.parent;
     counts = x;
-    children = e.ties.children + 1;
-  })))) counts put;
+    children = more;
+  })))) counts put);
   free = free;
   added = subst (λ (x : Ties). Updates mid slab_now at (Some (with_ties {N = N} child x))) are added;
   queued = two ∙ ap (λ (q : List ℕ). q ++ key ∷ []) one;

@@ -10,9 +10,9 @@ use Rattle.zio_trace.specs.Rounds.{settles}
 use Rattle.zio_frames.specs.Frames.{Flying}
 use Rattle.zio_frames.specs.Running.{settling_from}
 use Rattle.zio_frames.proofs.GetLemmas.{get_last, same_or_not}
-use Rattle.zio_stages.specs.Wholes.{AreTrees, IsTreeOf}
-use Rattle.zio_stages.specs.declared.waiting.UnfinishedRequest.{UnfinishedRequest}
 use Rattle.slab.specs.Slab.{Slab}
+use Rattle.zio_exchange.specs.Wholes.{AreTrees, IsTreeOf}
+use Rattle.zio_exchange.specs.declared.waiting.UnfinishedRequest.{UnfinishedRequest}
 use Rattle.zio_turns.specs.Attempting.{Course, attempt_of, course_of}
 use Rattle.zio_turns.specs.Entries.{all_tops, handed_on, top_at}
 use Rattle.zio_turns.specs.Parts.{Nodes}

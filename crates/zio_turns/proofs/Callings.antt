@@ -7,7 +7,7 @@ use Rattle.zio_gang.specs.Attempts.{Terms}
 use Rattle.zio_gang.specs.Journals.{AreLawful}
 use Rattle.zio_gang.specs.Trees.{sizes_of}
 use Rattle.zio_frames.specs.Moves.{Chose, Closed, Did, Opened, Took, choices_of}
-use Rattle.zio_stages.specs.SpaceCalls.{SpaceCall, calls_back, calls_by}
+use Rattle.zio_exchange.specs.SpaceCalls.{SpaceCall, calls_back, calls_by}
 use Rattle.zio_turns.specs.Engine.{IsRight}
 use Rattle.zio_turns.specs.Desks.{AreRight, IsRightCall, choices_in}
 use Rattle.zio_turns.proofs.DoesLemmas.{append_none}

@@ -1,21 +1,22 @@
 -- Which calls of the space a node makes by a claim.
-use Rattle.std.proofs.Common.{◌≡◌, ℕ, zero, suc, List, [], ◌∷◌, ◌++◌, Bool, Some, Contains, ap, sym, ◌∙◌, subst, arith, refl}
+use Rattle.std.proofs.Common.{◌≡◌, ◌≢◌, ℕ, inl, inr, zero, suc, List, [], ◌∷◌, ◌++◌, Bool, Some, Contains, ap, sym, ◌∙◌, subst, arith, refl}
 use Rattle.zio_types.specs.declared.place.Place.{Place}
 use Rattle.zio_gang.specs.declared.tree.Tree.{Tree}
 use Rattle.zio_types.specs.declared.place.Top.{Top}
-use Rattle.zio_types.specs.Choices.{Choice}
+use Rattle.zio_types.specs.Choices.{Ask, Choice}
 use Rattle.zio_gang.specs.Attempts.{Terms}
 use Rattle.zio_gang.specs.Journals.{AreLawful}
 use Rattle.zio_gang.specs.Trees.{sizes_of}
 use Rattle.zio_trace.specs.Families.{Forest}
 use Rattle.zio_trace.specs.SoundRounds.{HasClaim, IsSoundRound}
+use Rattle.zio_trace.specs.Tasks.{Find}
 use Rattle.zio_trace.proofs.ClaimAlone.{claim_makes_none}
 use Rattle.zio_frames.specs.Frames.{Stack}
 use Rattle.zio_frames.specs.Moves.{Chose, Closed, Did, DoesAll, Opened, Took, choices_of}
-use Rattle.zio_stages.specs.SpaceCalls.{Claimed, SpaceCall, calls_back, calls_by}
 use Rattle.slab.specs.Slab.{Slab, get}
+use Rattle.zio_exchange.specs.SpaceCalls.{Claimed, SpaceCall, calls_back, calls_by}
 use Rattle.zio_turns.specs.Parts.{Nodes}
-use Rattle.zio_turns.specs.Rounds.{Before, ClaimsAlone, SoFar, choices_in, IsTurn}
+use Rattle.zio_turns.specs.Rounds.{AsksRightly, Before, ClaimsAlone, SoFar, choices_in, IsTurn}
 use Rattle.zio_turns.specs.Slabs.{shelf_of}
 use Rattle.zio_turns.specs.Stages.{IsMove, IsNow}
 use Rattle.zio_turns.specs.declared.entry.TiedNode.{TiedNode}
@@ -23,9 +24,17 @@ use Rattle.zio_turns.specs.declared.staged.Move.{Move}
 use Rattle.zio_turns.specs.declared.staged.Move.TheVariants.{End, Grow, Leaf as ToLeaf, Next, Ready, Wait}
 use Rattle.zio_turns.proofs.Callings.{choices_did}
 use Rattle.zio_turns.proofs.DoesLemmas.{append_none}
-use Rattle.zio_turns.proofs.FoundFits.{one_takes}
+use Rattle.zio_turns.proofs.ClaimLedger.{none_for, turns_first}
+use Rattle.zio_turns.proofs.ClaimMoves.{asks_some}
+use Rattle.zio_turns.proofs.ClaimTurns.{claim_alone, writes_none}
+use Rattle.zio_turns.proofs.ClaimsLast.{choices_back, claims_back, claims_or_choices, no_choices}
+use Rattle.zio_turns.proofs.FoundFits.{one_takes, one_turns}
+use Rattle.zio_turns.proofs.PlansOnly.{task_no_find}
 use Rattle.zio_turns.proofs.RoundNodes.{IsThere, it_is_there}
-use Rattle.zio_turns.specs.Desks.{GivesLast, backs_in}
+use Rattle.zio_turns.specs.Claims.{one_for}
+use Rattle.zio_turns.specs.Desks.{GivesLast, MayAsk, backs_in, claims_asked}
+use Rattle.zio_turns.specs.Desks.MayAsk.{Backs, Claims, Places}
+use Rattle.zio_turns.specs.Entries.{live_of}
 
 -- what is given back is no claim
 none_claimed : (gone : List Place) (places : List Place) (free : Bool) → Contains (calls_back gone) (Claimed places free) → ⊥
@@ -80,7 +89,7 @@ module _ {N : Type 0} (nodes : Nodes N) (t : Terms) (sizes : ℕ → ℕ) (f : F
   no_calls none places free there =
       none_claimed [] places free (subst (λ (cs : List SpaceCall). Contains cs (Claimed places free)) none there)
 
-  by_move : IsSoundRound t sizes f → (r : IsThere {N = N} nodes t sizes f before s slab queue leaves key e) → (move : Move N)
+  by_move : {S : Type 0} → IsSoundRound t sizes f → (r : IsThere {N = N} nodes t sizes f before s slab queue leaves key e) → (move : Move N S)
       → IsMove {N = N} nodes nodes.gave t e.node r.node.stack calls move
       → AreLawful (sizes_of t.setting.tops) t.used (s.entries ++ choices_in calls) → (places : List Place) (free : Bool)
       → Contains calls (Claimed places free) → HasClaim f × (s.entries ≡ [])
@@ -95,8 +104,8 @@ module _ {N : Type 0} (nodes : Nodes N) (t : Terms) (sizes : ℕ → ℕ) (f : F
       absurd (none_claimed m.gone places free
       (subst (λ (cs : List SpaceCall). Contains cs (Claimed places free)) m.calls_are there))
 
-pub steps_claim : {N : Type 0} (nodes : Nodes N) (tops : List Top) (slab : Slab (TiedNode N)) (line : List ℕ)
-    (key : ℕ) (e : TiedNode N) (calls : List SpaceCall) (move : Move N) → get slab key ≡ Some e
+pub steps_claim : {N S : Type 0} (nodes : Nodes N) (tops : List Top) (slab : Slab (TiedNode N)) (line : List ℕ)
+    (key : ℕ) (e : TiedNode N) (calls : List SpaceCall) (move : Move N S) → get slab key ≡ Some e
     → ((t : Terms) (st : Stack) → IsNow {N = N} nodes tops t e.node st → IsMove {N = N} nodes nodes.gave t e.node st calls move)
     → ClaimsAlone {N = N} nodes tops calls slab line key
 steps_claim {N} nodes tops slab line key e calls move is moves =
@@ -104,6 +113,77 @@ steps_claim {N} nodes tops slab line key e calls move is moves =
     let r = it_is_there nodes t sizes f before s slab (key ∷ line) leaves key e k is in
     by_move nodes t sizes f before s slab (key ∷ line) leaves key e calls sound r move
     (moves t r.node.stack (record { tops_are = tops_are; is = r.is; seated = r.seated })) lawful places free there
+
+-- ---- what a node may ask
+
+module _ {N : Type 0} (nodes : Nodes N) (t : Terms) (sizes : ℕ → ℕ) (f : Forest) (before : Before)
+    (s : SoFar) (slab : Slab (TiedNode N)) (queue leaves : List ℕ) (key : ℕ) (e : TiedNode N) (calls : List SpaceCall)
+    (sound : IsSoundRound t sizes f) (r : IsThere {N = N} nodes t sizes f before s slab queue leaves key e)
+    (finds : (a : Ask) → r.node.stack.outer.op ≢ Find a) where
+  abbrev May : Type 0
+  May = MayAsk s.entries s.books.claimed calls
+
+  none_ask : calls ≡ [] → May
+  none_ask none = Backs (ap choices_in none) (ap claims_asked none)
+
+  -- beside a claim it asks for no places for blocks
+  chooses_none : HasClaim f → (dids : List Did) (gone : List Place) (st : Stack) → DoesAll t dids r.node.stack st
+      → calls ≡ calls_by dids ++ calls_back gone → choices_in calls ≡ []
+  chooses_none claim dids gone st does are =
+      ap choices_in are
+      ∙ (choices_back (calls_by dids) gone
+      ∙ no_choices t dids r.node.stack st (task_no_find t r.node.stack.outer.op
+      (writes_none f (claim_alone t sizes f sound claim) t r.seen r.node.stack.outer.op r.of_round.outer.task finds)) does)
+
+  ask_by : (dids : List Did) (gone : List Place) (st : Stack) → DoesAll t dids r.node.stack st
+      → calls ≡ calls_by dids ++ calls_back gone → May
+  ask_by dids gone st does are =
+      let none_claimed_by : claims_asked (calls_by dids ++ calls_back gone) ≡ 0 → claims_asked calls ≡ 0 = λ none. ap claims_asked are ∙ none in
+      elim (claims_or_choices t dids gone r.node.stack st does) [
+        | inl none ↦ elim r.ledger.claims.alone [
+          | inl empty ↦ Places empty (none_claimed_by none)
+          | inr claim ↦ Backs (chooses_none claim dids gone st does are) (none_claimed_by none)
+        ]
+        | inr few ↦ elim (asks_some dids gone) [
+          | inl none ↦ Backs (ap choices_in are ∙ few.0) (none_claimed_by none)
+          | inr took ↦
+              let same : choices_of dids ≡ [] = sym (choices_did dids gone) ∙ few.0 in
+              let lawful : AreLawful (sizes_of t.setting.tops) t.used (r.state.entries ++ choices_of dids) =
+              subst (λ (cs : List Choice). AreLawful (sizes_of t.setting.tops) t.used cs)
+              (sym (ap (λ (cs : List Choice). r.state.entries ++ cs) same ∙ append_none r.state.entries))
+              r.kept.running.underway.lawful in
+              let claim : HasClaim f =
+              one_takes nodes t sizes f before s.trees s.tops (shelf_of {N = N} slab) queue leaves r.state key r.node r.others dids st
+              took.0 took.1 sound r.kept does lawful took.2 in
+              let turn = one_turns nodes t sizes f before s.trees s.tops (shelf_of {N = N} slab) queue leaves r.state key r.node r.others
+              dids st took.0 took.1 sound r.kept does lawful took.2 in
+              let none : one_for s.books.claimed ≡ 0 =
+              let once = (r.ledger.claims.once claim).few in
+              let first = turns_first (live_of key r.node) r.others in omega (arith, turn.0) in
+              let most : claims_asked calls ≡ claims_asked (calls_by dids ++ calls_back gone) = ap claims_asked are in
+              Claims (sym r.entries_are ∙ claim_makes_none t sizes f before r.state sound r.kept.running.underway claim)
+              (none_for s.books.claimed none) (ap choices_in are ∙ few.0) (omega (arith, few.1, most))
+        ]
+      ]
+
+  ask_move : {S : Type 0} (move : Move N S) → IsMove {N = N} nodes nodes.gave t e.node r.node.stack calls move → May
+  ask_move (Next after) m = ask_by m.dids m.gone m.stack m.does m.calls_are
+  ask_move (Wait after kind phase) m = none_ask m.stays.no_calls
+  ask_move (Grow after child kind) m = ask_by m.dids [] m.stack m.does (m.calls_are ∙ sym (append_none (calls_by m.dids)))
+  ask_move (ToLeaf after op leaf bytes) m = none_ask m.stays.no_calls
+  ask_move (Ready after pointer) m = none_ask m.no_calls
+  ask_move (End outcome) m = Backs (ap choices_in m.calls_are ∙ choices_back [] m.gone) (ap claims_asked m.calls_are ∙ claims_back [] m.gone)
+
+pub steps_ask : {N S : Type 0} (nodes : Nodes N) (tops : List Top) (slab : Slab (TiedNode N)) (line : List ℕ)
+    (key : ℕ) (e : TiedNode N) (calls : List SpaceCall) (move : Move N S) → get slab key ≡ Some e
+    → ((t : Terms) (st : Stack) → IsNow {N = N} nodes tops t e.node st → IsMove {N = N} nodes nodes.gave t e.node st calls move)
+    → ((t : Terms) (node : N) (st : Stack) (a : Ask) → nodes.Is t node st → st.outer.op ≢ Find a)
+    → AsksRightly {N = N} nodes tops calls slab line key
+steps_ask {N} nodes tops slab line key e calls move is moves finds =
+    λ t sizes f before s leaves sound tops_are k.
+    let r = it_is_there nodes t sizes f before s slab (key ∷ line) leaves key e k is in
+    ask_move nodes t sizes f before s slab (key ∷ line) leaves key e calls sound r (λ a. finds t e.node r.node.stack a r.is) move
+    (moves t r.node.stack (record { tops_are = tops_are; is = r.is; seated = r.seated }))
 
 -- ---- what is given back comes last
 
@@ -117,7 +197,7 @@ none_back (Took tree free ∷ dids) = none_back dids
 nothing_last : (calls : List SpaceCall) → calls ≡ [] → GivesLast calls
 nothing_last calls none = record { first = []; gone = []; are = none; none = refl }
 
-last_by : {N : Type 0} (nodes : Nodes N) (t : Terms) (node : N) (st : Stack) (calls : List SpaceCall) (move : Move N)
+last_by : {N S : Type 0} (nodes : Nodes N) (t : Terms) (node : N) (st : Stack) (calls : List SpaceCall) (move : Move N S)
     → IsMove {N = N} nodes nodes.gave t node st calls move → GivesLast calls
 last_by nodes t node st calls (Next after) m =
     record { first = calls_by m.dids; gone = m.gone; are = m.calls_are; none = none_back m.dids }
@@ -128,8 +208,8 @@ last_by nodes t node st calls (ToLeaf after op leaf bytes) m = nothing_last call
 last_by nodes t node st calls (Ready after pointer) m = nothing_last calls m.no_calls
 last_by nodes t node st calls (End outcome) m = record { first = []; gone = m.gone; are = m.calls_are; none = refl }
 
-pub steps_last : {N : Type 0} (nodes : Nodes N) (over : List Top → N → Type 0) (tops : List Top) (slab : Slab (TiedNode N)) (line : List ℕ)
-    (key : ℕ) (e : TiedNode N) (calls : List SpaceCall) (move : Move N) → get slab key ≡ Some e
+pub steps_last : {N S : Type 0} (nodes : Nodes N) (over : List Top → N → Type 0) (tops : List Top) (slab : Slab (TiedNode N)) (line : List ℕ)
+    (key : ℕ) (e : TiedNode N) (calls : List SpaceCall) (move : Move N S) → get slab key ≡ Some e
     → ((t : Terms) (st : Stack) → IsNow {N = N} nodes tops t e.node st → IsMove {N = N} nodes nodes.gave t e.node st calls move)
     → IsTurn {N = N} nodes over tops slab line key → GivesLast calls
 steps_last {N} nodes over tops slab line key e calls move is moves turn =

@@ -17,7 +17,7 @@ use Rattle.zio_frames.specs.Frames.{Frame, Inner, Stack, with_asked}
 use Rattle.zio_frames.specs.Moves.{AsksNext, Chose, Closed, Did, Does, DoesAll, Opened, Took}
 use Rattle.zio_frames.specs.Slots.{Heard, IsOut, Slot, left_behind_slots, told_in}
 use Rattle.zio_frames.proofs.RoundWalks.{stand_in}
-use Rattle.zio_stages.specs.SpaceCalls.{SpaceCall, calls_back, calls_by}
+use Rattle.zio_exchange.specs.SpaceCalls.{SpaceCall, calls_back, calls_by}
 use Rattle.zio_turns.specs.Desks.{choices_by, choices_in, claim_asked, claims_asked}
 use Rattle.zio_turns.proofs.PlansOnly.{IsOver, NoFind, NoTake, TakesLast, TakesNone, takes, task_kinds}
 
@@ -32,7 +32,7 @@ stands_kind (WritePart attempt p sum copies levels path bytes) told = (_, refl)
 stands_kind _ told = tt
 
 -- what is asked behind some is one of those that the plan asks
-asked_of : {A : Type 0} (P : Task → Type 0) (slots : List Slot) (p : TaskPlan A) (op : Task) → AsksOnly P p
+pub asked_of : {A : Type 0} (P : Task → Type 0) (slots : List Slot) (p : TaskPlan A) (op : Task) → AsksOnly P p
     → NextAnswered (told_in slots) (left_behind_slots slots p) op → P op
 asked_of P [] (Ends a) op h next = absurd next
 asked_of P [] (Asks q more) op h next = subst P next h.0
@@ -89,7 +89,7 @@ no_claims t (Opened op ∷ dids) a b none h = no_claims t dids h.0 b (kept_task 
 no_claims t (Closed v ∷ dids) a b none h = no_claims t dids h.0 b (kept_task t (Closed v) a h.0 h.1 none) h.2
 no_claims t (Chose c ∷ dids) a b none h = omega (arith, no_claims t dids h.0 b (kept_task t (Chose c) a h.0 h.1 none) h.2)
 
-no_choices : (t : Terms) (dids : List Did) (a b : Stack) → AsksOnly NoFind (plan t a.outer.op) → DoesAll t dids a b
+pub no_choices : (t : Terms) (dids : List Did) (a b : Stack) → AsksOnly NoFind (plan t a.outer.op) → DoesAll t dids a b
     → choices_in (calls_by dids) ≡ []
 no_choices t [] a b none h = refl
 no_choices t (Chose c ∷ dids) a b none h =
@@ -134,12 +134,12 @@ few_claims t (Chose c ∷ dids) a b last h = omega (arith, few_claims t dids h.0
 
 -- ---- with the places that it gave back
 
-choices_back : (calls : List SpaceCall) (gone : List Place) → choices_in (calls ++ calls_back gone) ≡ choices_in calls
+pub choices_back : (calls : List SpaceCall) (gone : List Place) → choices_in (calls ++ calls_back gone) ≡ choices_in calls
 choices_back [] [] = refl
 choices_back [] (p ∷ gone) = choices_back [] gone
 choices_back (call ∷ calls) gone = ap (λ (cs : List Choice). choices_by call ++ cs) (choices_back calls gone)
 
-claims_back : (calls : List SpaceCall) (gone : List Place) → claims_asked (calls ++ calls_back gone) ≡ claims_asked calls
+pub claims_back : (calls : List SpaceCall) (gone : List Place) → claims_asked (calls ++ calls_back gone) ≡ claims_asked calls
 claims_back [] [] = refl
 claims_back [] (p ∷ gone) = omega (arith, claims_back [] gone)
 claims_back (call ∷ calls) gone = ap (λ (n : ℕ). claim_asked call + n) (claims_back calls gone)

@@ -11,10 +11,8 @@ use Rattle.zio_types.specs.Places.{AreCopies, IsLawfulChoice, are_open, fits_siz
 use Rattle.zio_places.specs.Ordered.{all_placed_in, is_same_place, without}
 use Rattle.zio_places.specs.Spaces.{SpaceState, are_on_tops, is_on_top, used}
 use Rattle.zio_places.proofs.PlaceLemmas.{Contains-cases, Contains-head, Contains-nothing, Contains-tail, is_same_place-refl, is_same_place-true}
-use Rattle.zio_stages.specs.SpaceCalls.{Claimed, GaveBack, IsAnswerFor, LieOnTops, Placed}
-use Rattle.zio_turns.specs.declared.desk.Asked.{Asked}
-use Rattle.zio_turns.specs.declared.desk.Asked.TheVariants.{Blocks, Claim, Nothing}
-use Rattle.zio_turns.specs.Desks.{AreMade, AreServed, MayCall, after_call, bare}
+use Rattle.zio_exchange.specs.SpaceCalls.{Claimed, GaveBack, IsAnswerFor, LieOnTops, Placed}
+use Rattle.zio_turns.specs.Desks.{AreMade, after_call, bare}
 
 -- nothing was made
 pub nothing_made : (old new : SpaceState) → new ≡ old → AreMade [] old new
@@ -130,18 +128,3 @@ taken_made old new places is are on = record { answered = ((sym are, on), tt); m
 pub open_unless : (b : Bool) → (b ≡ false → ⊥) → b ≡ true
 open_unless true h = refl
 open_unless false h = absurd (h refl)
-
--- ---- each is allowed
-
-pub served_back : {old new : SpaceState} {p : Place} {asked : Asked} → AreMade (GaveBack p ∷ []) old new
-    → AreServed (GaveBack p ∷ []) old new asked asked
-served_back h = record { made = h; allowed = (tt, refl) }
-
-may_place : (c : Choice) (asked : Asked) → (asked ≡ Claim → ⊥) → MayCall (Placed c) asked
-may_place c Nothing other = tt
-may_place c Blocks other = tt
-may_place c Claim other = absurd (other refl)
-
-pub served_place : {old new : SpaceState} {c : Choice} (asked : Asked) → (asked ≡ Claim → ⊥) → AreMade (Placed c ∷ []) old new
-    → AreServed (Placed c ∷ []) old new asked Blocks
-served_place {old} {new} {c} asked other h = record { made = h; allowed = (may_place c asked other, refl) }

@@ -10,7 +10,7 @@ use Rattle.zio_places.proofs.OrderLemmas.{total-all_placed, total-without}
 use Rattle.zio_places.proofs.PlaceLemmas.{Contains-head, contains-same, total-append}
 use Rattle.zio_gang.specs.Trees.{tree_places}
 use Rattle.zio_frames.specs.Moves.{Chose, Closed, Did, Opened, Took}
-use Rattle.zio_stages.specs.SpaceCalls.{Claimed, GaveBack, Placed, SpaceCall, call_by, calls_back, calls_by}
+use Rattle.zio_exchange.specs.SpaceCalls.{Claimed, GaveBack, Placed, SpaceCall, call_by, calls_back, calls_by}
 use Rattle.zio_turns.specs.Desks.{AreMade, after_call, after_calls, bare, choices_by, choices_in, claims_by, claims_in, found_by, found_in, live_again, taken_by_all}
 use Rattle.zio_turns.specs.DeskLaws.{after_both}
 use Rattle.zio_turns.proofs.PlaceTotals.{SameTotals, again_total, moved_by_totals, totals_moved}

@@ -16,7 +16,7 @@ use Rattle.zio_places.specs.Spaces.{SpaceState, used}
 use Rattle.zio_places.specs.Tables.{total}
 use Rattle.zio_places.proofs.PlaceLemmas.{Contains-cases, Contains-nothing, contains-same, is_same_place-refl, total-append}
 use Rattle.zio_cksum.proofs.AllLemmas.{all_contained, all_contains, all_weaker}
-use Rattle.zio_stages.specs.SpaceCalls.{Claimed, GaveBack, Placed, SpaceCall, calls_back}
+use Rattle.zio_exchange.specs.SpaceCalls.{Claimed, GaveBack, Placed, SpaceCall, calls_back}
 use Rattle.zio_turns.specs.Desks.{AreMade, GivesLast, after_call, after_calls, backs_by, backs_in, bare, choices_in, claims_in, taken_by_all}
 use Rattle.zio_turns.specs.DeskLaws.{after_both}
 use Rattle.zio_turns.specs.Ledgers.{found_so_far}

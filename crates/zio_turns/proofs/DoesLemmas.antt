@@ -1,5 +1,5 @@
 -- One node does several things itself, one after another.
-use Rattle.std.proofs.Common.{◌≡◌, ℕ, List, [], ◌∷◌, ◌++◌, slice_get, Bool, Option, Some, Contains, ⊎_elim, refl, sym, ap, ◌∙◌, subst, append_assoc}
+use Rattle.std.proofs.Common.{◌≡◌, ℕ, ◌≤◌, arith, List, [], ◌∷◌, ◌++◌, slice_get, Bool, Option, Some, Contains, ⊎_elim, refl, sym, ap, ◌∙◌, subst, append_assoc}
 use Rattle.std.specs.List.{AllByRecursion}
 use Rattle.zio_types.specs.declared.place.Place.{Place}
 use Rattle.zio_types.specs.declared.place.TopSize.{TopSize}
@@ -20,7 +20,9 @@ use Rattle.zio_frames.specs.Running.{IsRunning, Later}
 use Rattle.zio_frames.specs.Slots.{Slot}
 use Rattle.zio_frames.proofs.HeardParts.{node_takes_for}
 use Rattle.zio_frames.proofs.NodeMoves.{node_chooses, node_closes, node_opens, node_takes}
+use Rattle.zio_turns.specs.Claims.{turn_of}
 use Rattle.zio_turns.specs.Engine.{IsRight}
+use Rattle.zio_turns.proofs.ClaimTurns.{take_turn, turn_does, turn_does_all, turn_taken}
 use Rattle.zio_turns.proofs.Seated.{SamePlaces, children_does, places_does}
 
 pub append_none : {X : Type 0} (xs : List X) → xs ++ [] ≡ xs
@@ -156,3 +158,34 @@ module _ (t : Terms) (sizes : ℕ → ℕ) (f : Forest) (before : Option Images)
       let one = first_done sound (Chose made) dids a does.0 s r does.1 tt lawful in
       takes_all sound dids does.0 b one.state tree free one.running does.2 one.lawful
       (others_have (Chose made) dids tree free (λ e. cc) c)
+
+  -- it might take them, and may no more
+  pub turns_all : IsSoundRound t sizes f → (dids : List Did) (a b : Stack) (s : State) (tree : Tree) (free : Bool)
+      → IsRunning t sizes f before trees (record { at = at; stack = a } ∷ others) s → DoesAll t dids a b
+      → AreLawful (sizes_of t.setting.tops) t.used (s.entries ++ choices_of dids) → Contains dids (Took tree free)
+      → (1 ≤ turn_of a) × (turn_of b ≡ 0)
+  turns_all sound [] a b s tree free r does lawful c = absurd (all_contains (λ (did : Did). ⊥) [] (Took tree free) tt c)
+  turns_all sound (Took own was_free ∷ dids) a b s tree free r does lawful c =
+      let turn = take_turn t a.outer.op a.outer.asked a.outer.slots own r.of_round.0.outer.asked r.seated.0.outer.lengths
+      does.1.1.next in
+      let after : turn_of does.0 ≡ 0 = ap turn_of does.1.2 ∙ turn_taken a.outer.op a.outer.asked own in
+      let less = turn_does_all t dids does.0 b does.2 in
+      (omega arith, omega arith)
+  turns_all sound (Opened op ∷ dids) a b s tree free r does lawful c =
+      let one = first_done sound (Opened op) dids a does.0 s r does.1 tt lawful in
+      let rest = turns_all sound dids does.0 b one.state tree free one.running does.2 one.lawful
+      (others_have (Opened op) dids tree free (λ e. cc) c) in
+      let less = turn_does t (Opened op) a does.0 does.1 in
+      (omega arith, rest.1)
+  turns_all sound (Closed v ∷ dids) a b s tree free r does lawful c =
+      let one = first_done sound (Closed v) dids a does.0 s r does.1 tt lawful in
+      let rest = turns_all sound dids does.0 b one.state tree free one.running does.2 one.lawful
+      (others_have (Closed v) dids tree free (λ e. cc) c) in
+      let less = turn_does t (Closed v) a does.0 does.1 in
+      (omega arith, rest.1)
+  turns_all sound (Chose made ∷ dids) a b s tree free r does lawful c =
+      let one = first_done sound (Chose made) dids a does.0 s r does.1 tt lawful in
+      let rest = turns_all sound dids does.0 b one.state tree free one.running does.2 one.lawful
+      (others_have (Chose made) dids tree free (λ e. cc) c) in
+      let less = turn_does t (Chose made) a does.0 does.1 in
+      (omega arith, rest.1)

@@ -5,8 +5,8 @@ use Rattle.zio_types.specs.declared.place.Top.{Top}
 use Rattle.zio_gang.specs.Attempts.{Terms}
 use Rattle.zio_trace.specs.Families.{Forest}
 use Rattle.zio_trace.specs.SoundRounds.{IsSoundRound}
-use Rattle.zio_stages.specs.declared.outcome.Finished.{Finished}
-use Rattle.zio_stages.specs.declared.outcome.Outcome.{Outcome}
+use Rattle.zio_exchange.specs.declared.outcome.FinishedRequest.{FinishedRequest}
+use Rattle.zio_exchange.specs.declared.outcome.Outcome.{Outcome}
 use Rattle.slab.specs.Slab.{Slab}
 use Rattle.zio_turns.specs.Parts.{Nodes}
 use Rattle.zio_turns.specs.Rounds.{Before, HasTurn, SoFar, with_images}
@@ -25,7 +25,7 @@ pub no_line : (line : List ℕ) → length line ≡ 0 → line ≡ []
 no_line [] h = refl
 no_line (k ∷ line) h = absurd (omega arith)
 
-pub done_told : (line leaves : List ℕ) (turned : Turned) → (turned ≡ Nothing → ⊥) → IsDone line leaves turned
+pub done_told : {S : Type 0} (line leaves : List ℕ) (turned : Turned S) → (turned ≡ Nothing → ⊥) → IsDone line leaves turned
 done_told line leaves Nothing other = absurd (other refl)
 done_told line leaves (HasEnded finished) other = tt
 done_told line leaves (Root tree outcome) other = tt
@@ -82,15 +82,15 @@ module _ {N D : Type 0} (nodes : Nodes N) (bytes faults : D → ℕ) (image : D 
           going = so_far.going;
         }
 
-    pub then_turned : (t : Terms) (sizes : ℕ → ℕ) (f : Forest) (before : Before) (s mid : SoFar) (xs ys : List Finished)
+    pub then_turned : (t : Terms) (sizes : ℕ → ℕ) (f : Forest) (before : Before) (s mid : SoFar) (xs ys : List FinishedRequest)
         (slab : Slab (TiedNode N)) (line : List ℕ) (g : Grounds D) → HasGoneOn s mid xs
         → HasTurned {N = N} {D = D} nodes bytes image t sizes f before mid ys slab line g
         → HasTurned {N = N} {D = D} nodes bytes image t sizes f before s (xs ++ ys) slab line g
     then_turned t sizes f before s mid xs ys slab line g h k =
         record { now = k.now; gone = gone_then s mid k.now xs ys h k.gone; going = k.going }
 
-    pub then_ended : (t : Terms) (sizes : ℕ → ℕ) (f : Forest) (before : Before) (s mid : SoFar) (xs ys : List Finished)
-        (slab : Slab (TiedNode N)) (line : List ℕ) (g : Grounds D) (tree : ℕ) (outcome : Outcome) → HasGoneOn s mid xs
+    pub then_ended : {S : Type 0} (t : Terms) (sizes : ℕ → ℕ) (f : Forest) (before : Before) (s mid : SoFar) (xs ys : List FinishedRequest)
+        (slab : Slab (TiedNode N)) (line : List ℕ) (g : Grounds D) (tree : ℕ) (outcome : Outcome S) → HasGoneOn s mid xs
         → HasEndedFor {N = N} {D = D} nodes bytes image t sizes f before mid ys slab line g tree outcome
         → HasEndedFor {N = N} {D = D} nodes bytes image t sizes f before s (xs ++ ys) slab line g tree outcome
     then_ended t sizes f before s mid xs ys slab line g tree outcome h k = record {
@@ -112,8 +112,8 @@ module _ {N D : Type 0} (nodes : Nodes N) (bytes faults : D → ℕ) (image : D 
       going = k.going;
     }
 
-    pub then_any : (t : Terms) (sizes : ℕ → ℕ) (f : Forest) (before : Before) (s mid : SoFar) (slab : Slab (TiedNode N)) (line : List ℕ)
-        (g : Grounds D) (turned : Turned) → HasGoneOn s mid []
+    pub then_any : {S : Type 0} (t : Terms) (sizes : ℕ → ℕ) (f : Forest) (before : Before) (s mid : SoFar) (slab : Slab (TiedNode N)) (line : List ℕ)
+        (g : Grounds D) (turned : Turned S) → HasGoneOn s mid []
         → AfterTurn {N = N} {D = D} nodes bytes image t sizes f before mid slab line g turned
         → AfterTurn {N = N} {D = D} nodes bytes image t sizes f before s slab line g turned
     then_any t sizes f before s mid slab line g Nothing h k = then_turned t sizes f before s mid [] [] slab line g h k
@@ -124,7 +124,7 @@ module _ {N D : Type 0} (nodes : Nodes N) (bytes faults : D → ℕ) (image : D 
 
     module _ (slab slab_mid slab_now : Slab (TiedNode N)) (line line_mid line_now : List ℕ) (g now : Grounds D) (h : HaveRun slab line g) where
       -- a turn more
-      pub run_turned : (key : ℕ) (turned : Turned) → HasTurn {N = N} nodes slab line slab_mid line_mid key
+      pub run_turned : {S : Type 0} (key : ℕ) (turned : Turned S) → HasTurn {N = N} nodes slab line slab_mid line_mid key
           → TurnsOn {N = N} {D = D} nodes bytes image slab_mid line_mid g slab_now line_now now key turned
           → RunsOn {N = N} {D = D} nodes bytes image first first_line lent slab_now line_now now turned
       run_turned key turned turn turns = λ t sizes f before s sound k.
@@ -132,11 +132,11 @@ module _ {N D : Type 0} (nodes : Nodes N) (bytes faults : D → ℕ) (image : D 
           then_any t sizes f before s so_far.now slab_now line_now now turned so_far.gone
           (turns t sizes f before so_far.now sound (going_taken slab slab_mid line line_mid key g turn t sizes f before so_far.now so_far.going))
 
-      pub run_told_nothing : (key : ℕ) (turned : Turned) → HasTurn {N = N} nodes slab line slab_mid line_mid key
+      pub run_told_nothing : {S : Type 0} (key : ℕ) (turned : Turned S) → HasTurn {N = N} nodes slab line slab_mid line_mid key
           → TurnsOn {N = N} {D = D} nodes bytes image slab_mid line_mid g slab_now line_now now key turned → turned ≡ Nothing
           → HaveRun slab_now line_now now
-      run_told_nothing key turned turn turns none =
-          subst (RunsOn {N = N} {D = D} nodes bytes image first first_line lent slab_now line_now now) none
+      run_told_nothing {S} key turned turn turns none =
+          subst (RunsOn {N = N} {D = D} {S = S} nodes bytes image first first_line lent slab_now line_now now) none
           (run_turned key turned turn turns)
 
     -- a group more
@@ -202,7 +202,7 @@ module _ {N D : Type 0} (nodes : Nodes N) (bytes faults : D → ℕ) (image : D 
           let e : left_over {N = N} nodes.left slab_mid ≡ left_over {N = N} nodes.left slab = ap (left_over {N = N} nodes.left) same in
           omega (arith, less, len, e)
 
-      pub drive_turned : (key : ℕ) (turned : Turned) → HasTurn {N = N} nodes slab line slab_mid line_mid key
+      pub drive_turned : {S : Type 0} (key : ℕ) (turned : Turned S) → HasTurn {N = N} nodes slab line slab_mid line_mid key
           → TurnsOn {N = N} {D = D} nodes bytes image slab_mid line_mid g slab_now line_now now key turned → turned ≡ Nothing
           → AreAll {N = N} (over now.desk.tops) slab_now → AreSameGrounds {D = D} g now
           → work_left {N = N} {D = D} nodes.left slab_now line_now now < work_left {N = N} {D = D} nodes.left slab line g
@@ -217,7 +217,7 @@ module _ {N D : Type 0} (nodes : Nodes N) (bytes faults : D → ℕ) (image : D 
         less = omega (arith, less, h.less);
       }
 
-      pub drive_tells : (key : ℕ) (turned : Turned) → HasTurn {N = N} nodes slab line slab_mid line_mid key
+      pub drive_tells : {S : Type 0} (key : ℕ) (turned : Turned S) → HasTurn {N = N} nodes slab line slab_mid line_mid key
           → TurnsOn {N = N} {D = D} nodes bytes image slab_mid line_mid g slab_now line_now now key turned
           → RunsOn {N = N} {D = D} nodes bytes image first first_line lent slab_now line_now now turned
       drive_tells key turned turn turns =

@@ -1,5 +1,5 @@
 -- What an engine knows of a node before its parent hears of it.
-use Rattle.std.proofs.Common.{◌≡◌, ℕ, ◌<◌, List, ◌∷◌, ◌++◌, slice_get, slice_set, Bool, Option, Some, None, Contains, sym, ◌∙◌, subst}
+use Rattle.std.proofs.Common.{◌≡◌, ℕ, ◌≤◌, List, ◌∷◌, ◌++◌, slice_get, slice_set, Bool, Option, Some, None, Contains, sym, ◌∙◌, subst}
 use Rattle.zio_types.specs.Choices.{Choice}
 use Rattle.zio_cksum.specs.Images.{Images}
 use Rattle.zio_gang.specs.declared.tree.Tree.{Tree}
@@ -18,11 +18,12 @@ use Rattle.zio_frames.specs.Running.{IsRunning, Later}
 use Rattle.zio_frames.specs.Seats.{IsSeated}
 use Rattle.zio_frames.specs.Slots.{Slot}
 use Rattle.zio_frames.proofs.HeardParts.{child_does, lies_at, value_of_node}
+use Rattle.zio_turns.specs.Claims.{turn_of}
 use Rattle.zio_turns.specs.Engine.{IsKept}
 use Rattle.zio_turns.specs.Entries.{Held, Live, OfNode, OfTree, Shelf, live_of, top_at}
 use Rattle.zio_turns.specs.Found.{DoesAsked}
 use Rattle.zio_turns.specs.Parts.{Nodes}
-use Rattle.zio_turns.proofs.DoesLemmas.{takes_all}
+use Rattle.zio_turns.proofs.DoesLemmas.{takes_all, turns_all}
 use Rattle.zio_turns.proofs.HearLemmas.{IsChild}
 use Rattle.zio_turns.proofs.Kept.{all_flying, one_forward, running_as}
 use Rattle.zio_turns.proofs.MoveEnd.{two_child, two_running}
@@ -132,5 +133,15 @@ module _ {N : Type 0} (nodes : Nodes N) (t : Terms) (sizes : ℕ → ℕ) (f : F
   one_takes key x others dids st tree free sound k does lawful there =
       let r = first_running key x others k in
       takes_all t sizes f before trees x.at (all_flying tops others) sound dids x.stack st r.state tree free r.running does
+      (subst (λ (cs : List Choice). AreLawful (sizes_of t.setting.tops) t.used (cs ++ choices_of dids)) (sym r.entries_are) lawful)
+      there
+
+  pub one_turns : (key : ℕ) (x : Flying) (others : List Live) (dids : List Did) (st : Stack) (tree : Tree) (free : Bool)
+      → IsSoundRound t sizes f → KeptOf (live_of key x ∷ others) → DoesAll t dids x.stack st
+      → AreLawful (sizes_of t.setting.tops) t.used (s.entries ++ choices_of dids) → Contains dids (Took tree free)
+      → (1 ≤ turn_of x.stack) × (turn_of st ≡ 0)
+  one_turns key x others dids st tree free sound k does lawful there =
+      let r = first_running key x others k in
+      turns_all t sizes f before trees x.at (all_flying tops others) sound dids x.stack st r.state tree free r.running does
       (subst (λ (cs : List Choice). AreLawful (sizes_of t.setting.tops) t.used (cs ++ choices_of dids)) (sym r.entries_are) lawful)
       there

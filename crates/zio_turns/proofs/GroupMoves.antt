@@ -248,7 +248,7 @@ module _ {N D : Type 0} (nodes : Nodes N) (bytes : D → ℕ) (image : D → Lis
       → now.desk ≡ g.desk → AreLent {D = D} bytes image t sizes before entries claimed back left ops now
   group_lent t sizes before entries claimed back images left ops h tell disks ready setting desk = record {
     setting_is = h.setting_is ∙ sym setting;
-    desk = subst (λ (d : Desk). IsDeskAt t entries claimed back d.tops d.space d.asked) (sym desk) h.desk;
+    desk = subst (λ (d : Desk). IsDeskAt t entries claimed back d.tops d.space) (sym desk) h.desk;
     waits = waits_left ops h.waits;
     ready = ready;
     fit = subst (λ (ns : List ℕ). FitDisks sizes ns) (sym disks) h.fit;

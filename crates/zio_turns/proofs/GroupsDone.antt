@@ -15,7 +15,7 @@ use Rattle.zio_groups.specs.LeafQueues.{IsIssued, Waits, ops_of, waiting_without
 use Rattle.zio_groups.proofs.ByteLemmas.{read_front}
 use Rattle.zio_groups.proofs.GroupLemmas.{members_apart, span_some}
 use Rattle.zio_trace.specs.Leaves.{Fetch, LeafOp, Store, answer_of, on_leaf}
-use Rattle.zio_stages.specs.LeafWorks.{IsOpAt}
+use Rattle.zio_exchange.specs.LeafOps.{IsOpAt}
 use Rattle.zio_turns.specs.AtLeaves.{AreDone, AreIssued, WaitForAll, WaitsFor, key_of, keyed, keys_at, keys_in, keys_of, no_waits}
 use Rattle.zio_turns.specs.Entries.{times_in}
 use Rattle.zio_turns.specs.Stages.{ShowsAnswer}

@@ -6,7 +6,7 @@ use Rattle.zio_types.specs.declared.request.Phase.{Phase}
 use Rattle.zio_types.specs.declared.request.Phase.TheVariants.{Done, Ready}
 use Rattle.zio_blkptr.specs.declared.pointer.Bp.{Bp}
 use Rattle.zio_counts.specs.Tallies.{first_counted, notified, stalled}
-use Rattle.zio_stages.specs.declared.outcome.Outcome.{Outcome}
+use Rattle.zio_exchange.specs.declared.outcome.Outcome.{Outcome}
 use Rattle.slab.specs.Slab.{Slab, Updates}
 use Rattle.zio_turns.specs.Acts.{HasEnded, HasGrown, HasTold, HasWaited, counting, new_ties, one_more, with_ties}
 use Rattle.zio_turns.specs.Parts.{Nodes}
@@ -48,7 +48,7 @@ module _ {N : Type 0} (nodes : Nodes N) (over : List Top → N → Type 0) (tops
       (with_ties {N = N} has.up (counting has.was.ties (notified kind Ready has.error has.bits has.was.ties.counts))) has.heard.put
       (has.over_still tops (all key has.was has.heard.there)) all
 
-  pub all_ended : (kind : ChildKind) (parent : Above) (outcome : Outcome) (step : Step)
+  pub all_ended : {S : Type 0} (kind : ChildKind) (parent : Above) (outcome : Outcome S) (step : Step S)
       → HasEnded {N = N} nodes over tops slab line slab_now line_now kind parent outcome step → AreAll {N = N} (over tops) slab_now
   all_ended kind (Tree tree n) outcome step has =
       subst (λ (b : Slab (TiedNode N)). AreAll {N = N} (over tops) b) (sym has.0.slab_same) all

@@ -20,9 +20,9 @@ use Rattle.zio_frames.specs.Moves.{Chose, Closed, Did, Does, DoesAll, Opened, To
 use Rattle.zio_frames.specs.Seats.{InnerFits, IsSeated}
 use Rattle.zio_frames.specs.Slots.{Heard, IsOut, Slot}
 use Rattle.zio_frames.proofs.GetLemmas.{get_last}
-use Rattle.zio_stages.specs.Outcomes.{found_in as found_by_value, held_by, places_by, places_in, places_with, taken_in}
-use Rattle.zio_stages.specs.OwnParts.{IsDoneWithin, OpensWithin}
-use Rattle.zio_stages.specs.SpaceCalls.{SpaceCall, call_by, calls_by}
+use Rattle.zio_exchange.specs.Outcomes.{found_in as found_by_value, held_by, places_by, places_in, places_with, taken_in}
+use Rattle.zio_exchange.specs.WithinParts.{IsDoneWithin, OpensWithin}
+use Rattle.zio_exchange.specs.SpaceCalls.{SpaceCall, call_by, calls_by}
 use Rattle.zio_turns.specs.Desks.{found_in}
 use Rattle.zio_turns.specs.Parts.{ended_by, ended_in, ended_in_slot}
 use Rattle.zio_turns.specs.Rests.{HasRests}

@@ -26,10 +26,10 @@ use Rattle.zio_frames.specs.Moves.{IsEnded}
 use Rattle.zio_frames.specs.Slots.{left_behind_slots}
 use Rattle.zio_frames.specs.OfRound.{IsTaskOf}
 use Rattle.zio_frames.proofs.KnownLemmas.{AlwaysEnds, ends_then}
-use Rattle.zio_stages.specs.Outcomes.{AreEndedAs, IsAttempt, IsEndedAs, IsFinishedAs, IsOutcome, IsPart, IsReading, IsWalk, freed_by, freed_if, freed_of, freed_with, held_by, made_by, places_by, stored_in}
-use Rattle.zio_stages.specs.declared.outcome.Finished.{Finished}
-use Rattle.zio_stages.specs.declared.outcome.Outcome.{Outcome}
-use Rattle.zio_stages.specs.declared.outcome.Outcome.TheVariants.{Again, Finished as HasFinished, Found, Stored, Walked}
+use Rattle.zio_exchange.specs.Outcomes.{AreEndedAs, IsAttempt, IsEndedAs, IsFinishedAs, IsOutcome, IsPart, IsReading, IsWalk, freed_by, freed_if, freed_of, freed_with, held_by, made_by, places_by, stored_in}
+use Rattle.zio_exchange.specs.declared.outcome.FinishedRequest.{FinishedRequest}
+use Rattle.zio_exchange.specs.declared.outcome.Outcome.{Outcome}
+use Rattle.zio_exchange.specs.declared.outcome.Outcome.TheVariants.{Again, Finished as HasFinished, Found, Stored, Walked}
 use Rattle.zio_turns.specs.Ledgers.{AreBehind, AreToldAs, Ending, IsEnding, all_ended, freed_in, made_in}
 use Rattle.zio_turns.specs.Parts.{Nodes, ended_by, ended_in}
 use Rattle.zio_turns.specs.Rounds.{finished_in}
@@ -56,7 +56,7 @@ part_places : (op : Task) (v : Value) → IsPart op → places_by op v ≡ store
 part_places (WritePart attempt p sum copies levels path bytes) v h = refl
 part_places _ v h = absurd h
 
-pub places_stored : (t : Terms) (op : Task) (outcome : Outcome) (v : Value) → IsOutcome t op outcome v → places_by op v ≡ stored_in v
+pub places_stored : {S : Type 0} (t : Terms) (op : Task) (outcome : Outcome S) (v : Value) → IsOutcome t op outcome v → places_by op v ≡ stored_in v
 places_stored t op (HasFinished f) v h = attempt_places op v h.0 ∙ sym (ap stored_in h.1.1)
 places_stored t op (Again whole bits pointer) v h = attempt_places op v h.0 ∙ sym (ap stored_in h.1.1)
 places_stored t op (Found answer) v h = reading_places op v h.0 ∙ sym (ap stored_in h.1)
@@ -72,7 +72,7 @@ quiet_part (WritePart attempt p sum copies levels path bytes) q h = q
 quiet_part _ q h = h
 
 -- an operation that a part within asked has none
-pub quiet_value : (t : Terms) (op : Task) (outcome : Outcome) (v : Value) → IsQuiet op → IsOutcome t op outcome v
+pub quiet_value : {S : Type 0} (t : Terms) (op : Task) (outcome : Outcome S) (v : Value) → IsQuiet op → IsOutcome t op outcome v
     → (ended_by v ≡ []) × (places_by op v ≡ [])
 quiet_value t op (HasFinished f) v q h = absurd (quiet_attempt op q h.0)
 quiet_value t op (Again whole bits pointer) v q h = absurd (quiet_attempt op q h.0)
@@ -162,7 +162,7 @@ made_none t st attempt p kids one below e name does ends work again are =
 
 -- ---- what comes into the books
 
-pub record IsMore (t : Terms) (f : Forest) (st : Stack) (outcome : Outcome) (ended : List Ended) : Type 0 where
+pub record IsMore {S : Type 0} (t : Terms) (f : Forest) (st : Stack) (outcome : Outcome S) (ended : List Ended) : Type 0 where
   pub more : List Ending
   pub told : AreToldAs (finished_in outcome) more
   pub are : all_ended more ≡ ended
@@ -173,11 +173,11 @@ pub record IsMore (t : Terms) (f : Forest) (st : Stack) (outcome : Outcome) (end
   pub made : (w : Place → ℕ) → total w (made_in more) ≡ total w (made_by outcome)
   pub less : (w : Place → ℕ) → (total w (freed_by st.outer.op outcome) ≡ 0) ⊎ (total w (made_by outcome) ≡ 0)
 
-none_more : (t : Terms) (f : Forest) (st : Stack) (outcome : Outcome) (ended : List Ended) → finished_in outcome ≡ [] → ended ≡ []
+none_more : {S : Type 0} (t : Terms) (f : Forest) (st : Stack) (outcome : Outcome S) (ended : List Ended) → finished_in outcome ≡ [] → ended ≡ []
     → freed_by st.outer.op outcome ≡ [] → made_by outcome ≡ [] → IsMore t f st outcome ended
 none_more t f st outcome ended none no_ended no_freed no_made = record {
   more = [];
-  told = subst (λ (fs : List Finished). AreToldAs fs []) (sym none) tt;
+  told = subst (λ (fs : List FinishedRequest). AreToldAs fs []) (sym none) tt;
   are = sym no_ended;
   each = tt;
   by = tt;
@@ -199,11 +199,11 @@ freed_or_made w (Claim name pointer) block made true none = inl refl
 freed_or_made w (Free name) block made true none =
     inr (ap (λ (o : Option Tree). total w (flat_map tree_places (option_to_list o))) (none name refl))
 
-module _ (t : Terms) (f : Forest) (entries : List Choice) (st : Stack) (v : Value) (ends : IsEnded t st v) (ended : List Ended)
-    (requests : ended_by v ≡ ended_in st ++ ended) (x : Finished) where
+module _ {S : Type 0} (t : Terms) (f : Forest) (entries : List Choice) (st : Stack) (v : Value) (ends : IsEnded t st v) (ended : List Ended)
+    (requests : ended_by v ≡ ended_in st ++ ended) (x : FinishedRequest) where
   more_by : (op : Task) → st.outer.op ≡ op → IsAttempt op → (one : One) → v ≡ AttemptedBy one → IsFinishedAs x one
       → IsTaskOf t f entries op → IsAnswerTo op v → (e : Ended) → ended ≡ e ∷ [] → IsEndedAs x e
-      → IsMore t f st (HasFinished x) ended
+      → IsMore {S = S} t f st (HasFinished x) ended
   more_by (Attempt attempt p kids) does attempts one value fits task kind e only is =
       let new : Ending = record { request = p; ended = e; below = ended_in st } in
       let own : one.ended ≡ ended_in st ++ e ∷ [] =
@@ -213,12 +213,12 @@ module _ (t : Terms) (f : Forest) (entries : List Choice) (st : Stack) (v : Valu
       let number : e.request.number ≡ p.request.number =
       is.number ∙ (sym (ap (λ (c : Left). c.number) fits.by.same_child)
       ∙ (ap (λ (o : One). o.return.child.number) (sym same) ∙ kind.2)) in
-      let freed : freed_by st.outer.op (HasFinished x) ≡ freed_if (is_none x.error) (freed_of p.request.work p.block) =
+      let freed : freed_by {S = S} st.outer.op (HasFinished x) ≡ freed_if (is_none x.error) (freed_of p.request.work p.block) =
       ap (λ (op : Task). freed_with op x) does in
       let error : freed_if (is_none e.error) (freed_of p.request.work p.block)
       ≡ freed_if (is_none x.error) (freed_of p.request.work p.block) =
       ap (λ (o : Option Errno). freed_if (is_none o) (freed_of p.request.work p.block)) is.error in
-      let made : flat_map tree_places (option_to_list e.tree) ≡ made_by (HasFinished x) =
+      let made : flat_map tree_places (option_to_list e.tree) ≡ made_by {S = S} (HasFinished x) =
       ap (λ (o : Option Tree). flat_map tree_places (option_to_list o)) is.tree in
       let it : IsEnding t f new = record {
         attempt = attempt;
@@ -243,13 +243,13 @@ module _ (t : Terms) (f : Forest) (entries : List Choice) (st : Stack) (v : Valu
         freed = λ w. ap (total w) (append-nil (freed_if (is_none e.error) (freed_of p.request.work p.block)) ∙ (error ∙ sym freed));
         made = λ w. ap (total w) (append-nil (flat_map tree_places (option_to_list e.tree)) ∙ made);
         less = λ w.
-            subst (λ (ps : List Place). (total w ps ≡ 0) ⊎ (total w (made_by (HasFinished x)) ≡ 0)) (sym freed)
+            subst (λ (ps : List Place). (total w ps ≡ 0) ⊎ (total w (made_by {S = S} (HasFinished x)) ≡ 0)) (sym freed)
             (freed_or_made w p.request.work p.block x.block (is_none x.error) (λ name work.
             sym is.tree ∙ made_none t st attempt p kids one (ended_in st) e name does now work fits.again own));
       }
   more_by _ does attempts one value fits task kind e only is = absurd attempts
 
-pub more_ended : (t : Terms) (f : Forest) (entries : List Choice) (st : Stack) (outcome : Outcome) (v : Value) (ended : List Ended)
+pub more_ended : {S : Type 0} (t : Terms) (f : Forest) (entries : List Choice) (st : Stack) (outcome : Outcome S) (v : Value) (ended : List Ended)
     → IsEnded t st v → IsOutcome t st.outer.op outcome v → ended_by v ≡ ended_in st ++ ended → AreEndedAs outcome ended
     → IsTaskOf t f entries st.outer.op → IsAnswerTo st.outer.op v → IsMore t f st outcome ended
 more_ended t f entries st (HasFinished x) v ended ends shows requests are task kind =
@@ -266,7 +266,7 @@ more_ended t f entries st (Stored part) v ended ends shows requests are task kin
 -- ---- its places
 
 -- a value that has places is none of a request
-stored_or_freed : (t : Terms) (op : Task) (outcome : Outcome) (v : Value) → IsOutcome t op outcome v
+stored_or_freed : {S : Type 0} (t : Terms) (op : Task) (outcome : Outcome S) (v : Value) → IsOutcome t op outcome v
     → (freed_by op outcome ≡ []) ⊎ (stored_in v ≡ [])
 stored_or_freed t op (HasFinished f) v h = inr (ap stored_in h.1.1)
 stored_or_freed t op (Again whole bits pointer) v h = inl refl
@@ -275,13 +275,13 @@ stored_or_freed t op (Walked walked) v h = inl refl
 stored_or_freed t op (Stored part) v h = inl refl
 
 -- by weights: what it held and freed it gave back, made or stored, and it held what it made and stored
-pub record PlacesEnd {N : Type 0} (nodes : Nodes N) (node : N) (st : Stack) (outcome : Outcome) (v : Value) (gone : List Place)
+pub record PlacesEnd {N S : Type 0} (nodes : Nodes N) (node : N) (st : Stack) (outcome : Outcome S) (v : Value) (gone : List Place)
     (w : Place → ℕ) : Type 0 where
   pub all : total w (held_by st) + total w (freed_by st.outer.op outcome)
       ≡ total w (nodes.gave node) + total w gone + total w (made_by outcome) + total w (places_by st.outer.op v)
   pub held : total w (made_by outcome) + total w (places_by st.outer.op v) ≤ total w (held_by st)
 
-pub places_end : {N : Type 0} (nodes : Nodes N) (t : Terms) (f : Forest) (node : N) (st : Stack) (outcome : Outcome) (v : Value)
+pub places_end : {N S : Type 0} (nodes : Nodes N) (t : Terms) (f : Forest) (node : N) (st : Stack) (outcome : Outcome S) (v : Value)
     (gone : List Place) (ended : List Ended)
     → IsPermutation (held_by st ++ freed_by st.outer.op outcome) (nodes.gave node ++ gone ++ made_by outcome ++ stored_in v)
     → IsOutcome t st.outer.op outcome v → IsMore t f st outcome ended → (w : Place → ℕ)

@@ -10,7 +10,7 @@ use Rattle.zio_frames.specs.Frames.{Child, Inner, OfInner, OfOuter, Seat, Stack,
 use Rattle.zio_frames.specs.Moves.{Chose, Closed, Did, Does, DoesAll, Opened, Took, child_ended, child_for, child_told, done_at_once, handed, heard_early, heard_of, seat_in, set_at, set_in_inner, with_asking, with_children, with_frames}
 use Rattle.zio_frames.specs.Slots.{Heard, IsOut, Slot}
 use Rattle.zio_frames.proofs.GetLemmas.{get_either, get_last, get_more, get_other, get_set, same_or_not}
-use Rattle.zio_stages.specs.OwnParts.{IsDoneWithin, OpensWithin}
+use Rattle.zio_exchange.specs.WithinParts.{IsDoneWithin, OpensWithin}
 use Rattle.zio_turns.specs.Stages.{AreHandedOut, IsChildsSeat, IsHandedOut}
 use Rattle.zio_turns.proofs.Links.{some_is}
 

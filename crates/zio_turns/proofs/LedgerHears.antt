@@ -17,12 +17,14 @@ use Rattle.zio_frames.specs.Seats.{HasSeat, IsSeated, asked_at, asked_in_inner, 
 use Rattle.zio_frames.specs.Slots.{Heard, IsOut, Slot}
 use Rattle.zio_frames.proofs.GetLemmas.{all_at}
 use Rattle.zio_frames.proofs.RoundFrames.{asked_of_round}
-use Rattle.zio_stages.specs.Outcomes.{IsOutcome, held_by, places_by, places_in}
-use Rattle.zio_stages.specs.declared.outcome.Outcome.{Outcome}
+use Rattle.zio_exchange.specs.Outcomes.{IsOutcome, held_by, places_by, places_in}
+use Rattle.zio_exchange.specs.declared.outcome.Outcome.{Outcome}
+use Rattle.zio_turns.specs.Claims.{turn_of}
 use Rattle.zio_turns.specs.Parts.{ended_by, ended_in, ended_in_slot}
 use Rattle.zio_turns.specs.Rests.{HasRests, HasRestsIn, LeavesRests, SlotsRest}
 use Rattle.zio_turns.specs.Sizes.{HasSizes, IsSizedAs}
 use Rattle.zio_turns.specs.Stages.{AreHandedOut}
+use Rattle.zio_turns.proofs.ClaimLedger.{set_op, set_turn}
 use Rattle.zio_turns.proofs.LedgerDids.{InnerStands, Stands, ended_more, places_heard, places_more, places_told}
 use Rattle.zio_turns.proofs.LedgerEnds.{quiet_value}
 use Rattle.zio_turns.proofs.LedgerHands.{hands_told}
@@ -151,6 +153,8 @@ seat_out : (q : Stack) (n : ℕ) (c : Child) → IsSeated q → slice_get q.chil
 seat_out q n c seated is goes = let sits = all_at (HasSeat q) q.children n c seated.each is goes in (sits.1, sits.2.slot)
 
 pub record HasHeardIt (q : Stack) (op : Task) (v : Value) (now : Stack) : Type 0 where
+  pub same_op : now.outer.op ≡ q.outer.op
+  pub turn : turn_of now ≡ turn_of q
   pub ended : IsPermutation (ended_in now) (ended_by v ++ ended_in q)
   pub held : (w : Place → ℕ) → total w (held_by now) ≡ total w (places_by op v) + total w (held_by q)
   pub rests : (f : Forest) (ended : List ℕ) → LeavesRests f ended op v → HasRests f ended q → HasRests f ended now
@@ -163,6 +167,8 @@ hears_it q n c op v seated is goes asked inner =
     let out = seat_out q n c seated is goes in
     let h = heard_at q c.seat op out.0 v out.1 asked inner in
     record {
+      same_op = set_op q c.seat (Heard v);
+      turn = set_turn q c.seat (Heard v);
       ended = h.0;
       held = h.1;
       rests = λ f ended new has.
@@ -179,7 +185,7 @@ inner_quiet t f entries q (Some i) m op told e of out asked slot =
     asked_within t i.frame.op i.frame.asked i.frame.slots (out.within i e) of.asked m op (IsOut told) asked slot
 
 -- the child's value has no request and no place where it is asked within
-pub heard_within : (t : Terms) (f : Forest) (entries : List Choice) (q : Stack) (n : ℕ) (c : Child) (op : Task) (outcome : Outcome)
+pub heard_within : {S : Type 0} (t : Terms) (f : Forest) (entries : List Choice) (q : Stack) (n : ℕ) (c : Child) (op : Task) (outcome : Outcome S)
     (v : Value) → IsSeated q → slice_get q.children n ≡ Some c → c.ended ≡ false → asked_at q c.seat ≡ Some op
     → IsInnerOf t f entries q.inner → AreHandedOut q → IsOutcome t op outcome v → (m : ℕ) → c.seat ≡ OfInner m
     → (ended_by v ≡ []) × (places_by op v ≡ [])
@@ -190,6 +196,8 @@ heard_within t f entries q n c op outcome v seated is goes asked of out shows m 
     (ap (slot_at q) (sym seat) ∙ slot.1)) shows
 
 pub record HasHeardEarly (q now : Stack) : Type 0 where
+  pub same_op : now.outer.op ≡ q.outer.op
+  pub turn : turn_of now ≡ turn_of q
   pub ended : ended_in now ≡ ended_in q
   pub held : held_by now ≡ held_by q
   pub hands : AreHandedOut q → AreHandedOut now
@@ -202,6 +210,8 @@ hears_early q n c pointer seated is goes =
     let out = seat_out q n c seated is goes in
     let h = told_at q c.seat out.0 pointer out.1 in
     record {
+      same_op = set_op q c.seat (IsOut (Some pointer));
+      turn = set_turn q c.seat (IsOut (Some pointer));
       ended = h.0;
       held = h.1;
       hands = hands_told q n c pointer is;

@@ -13,7 +13,7 @@ use Rattle.zio_places.specs.Tables.{total}
 use Rattle.zio_places.proofs.PlaceLemmas.{total-append}
 use Rattle.zio_cksum.proofs.AllLemmas.{all_append, all_contained, all_weaker}
 use Rattle.zio_gang.specs.Attempts.{Ended, Terms}
-use Rattle.zio_trace.specs.Families.{Forest}
+use Rattle.zio_trace.specs.Families.{Forest, NoTrees, TreeOf}
 use Rattle.zio_trace.specs.Keys.{NumbersOnce}
 use Rattle.zio_trace.specs.Rounds.{AreTrees, settles}
 use Rattle.zio_trace.specs.Tasks.{Task, Value, settled}
@@ -23,10 +23,12 @@ use Rattle.zio_frames.specs.Moves.{Chose, Closed, Did, Opened, Took}
 use Rattle.zio_frames.specs.Running.{all_out, settling_from}
 use Rattle.zio_frames.specs.Slots.{Heard, IsOut, Slot}
 use Rattle.zio_frames.proofs.PermLemmas.{swap_fronts}
-use Rattle.zio_stages.specs.Outcomes.{held_by, places_by}
-use Rattle.zio_stages.specs.SpaceCalls.{SpaceCall, calls_back, calls_by}
-use Rattle.zio_stages.specs.declared.outcome.Outcome.{Outcome}
+use Rattle.zio_exchange.specs.Outcomes.{held_by, places_by}
+use Rattle.zio_exchange.specs.SpaceCalls.{SpaceCall, calls_back, calls_by}
+use Rattle.zio_exchange.specs.declared.outcome.Outcome.{Outcome}
 use Rattle.slab.specs.Slab.{Slab}
+use Rattle.zio_turns.specs.Attempting.{IsSettle}
+use Rattle.zio_turns.specs.Claims.{ClaimsOnce}
 use Rattle.zio_turns.specs.Desks.{backs_in, choices_in, claims_in, found_in, taken_by_all}
 use Rattle.zio_turns.specs.Entries.{Live, all_tops, live_of, new_flying}
 use Rattle.zio_turns.specs.Ledgers.{AreBehind, Books, Ending, IsEnding, IsLedger, IsOfTree, all_ended, ended_of_top, ended_of_tree, ended_of_trees, ended_with, found_so_far, freed_for, freed_in, gave_over, held_over, made_for, made_in, no_books}
@@ -36,6 +38,7 @@ use Rattle.zio_turns.specs.Sizes.{FitsBodies, HasSizes}
 use Rattle.zio_turns.specs.Slabs.{left_in}
 use Rattle.zio_turns.specs.Stages.{AreHandedOut}
 use Rattle.zio_turns.specs.declared.entry.TiedNode.{TiedNode}
+use Rattle.zio_turns.proofs.ClaimLedger.{first_ends, lives_order, second_same, tree_change}
 use Rattle.zio_turns.proofs.DeskLemmas.{found_both, split_in}
 use Rattle.zio_turns.proofs.LedgerChildren.{children_begin, children_end, children_first, children_new, children_no_top, children_order, children_root_end, children_second, children_top, ended_both, numbers_among, tops_set}
 use Rattle.zio_turns.proofs.LedgerEnds.{IsMore, PlacesEnd}
@@ -84,6 +87,17 @@ found_more w entries claimed calls =
       total-append w (taken_by_all entries) (taken_by_all (choices_in calls)),
       total-append w claimed (taken_by_all entries),
     )
+
+no_claims : (gone : List Place) → claims_in (calls_back gone) ≡ []
+no_claims [] = refl
+no_claims (p ∷ gone) = no_claims gone
+
+-- where nothing was claimed the claims are as before
+claims_same : (f : Forest) (claimed : List Place) (calls : List SpaceCall) (tops : List (Option Flying)) (lives : List Live)
+    → claims_in calls ≡ [] → ClaimsOnce f claimed tops lives → ClaimsOnce f (claimed ++ claims_in calls) tops lives
+claims_same f claimed calls tops lives none c =
+    subst (λ (ps : List Place). ClaimsOnce f ps tops lives)
+    (sym (ap (λ (ps : List Place). claimed ++ ps) none ∙ append-nil claimed)) c
 
 pub back_are : (gone : List Place) → backs_in (calls_back gone) ≡ gone
 back_are [] = refl
@@ -191,6 +205,7 @@ module _ {N : Type 0} (nodes : Nodes N) (t : Terms) (f : Forest) (books : Books)
         rests = children_order f books.done tops lives now p l.rests;
         sizes = all_permuted (λ (x : Live). HasSizes x.stack) lives now p l.sizes;
         sized = l.sized;
+        claims = lives_order f books.claimed tops lives now p l.claims;
       }
 
   -- the first goes on, with these calls
@@ -201,8 +216,9 @@ module _ {N : Type 0} (nodes : Nodes N) (t : Terms) (f : Forest) (books : Books)
       → AllByRecursion (λ (p : Place). Contains (held_by y.stack) p ⊎ Contains t.used p) (backs_in calls)
       → ((w : Place → ℕ) → gave_over {N = N} nodes w slab_now ≡ gave_over {N = N} nodes w slab + total w (backs_in calls))
       → ((ended : List ℕ) → HasRests f ended x.stack → HasRests f ended y.stack)
+      → ClaimsOnce f (books.claimed ++ claims_in calls) tops (live_of key y ∷ others)
       → Later (booked books calls) (entries ++ choices_in calls) tops trees (live_of key y ∷ others)
-  ledger_moves calls key x y others l ended held hands sizes own gave rests = record {
+  ledger_moves calls key x y others l ended held hands sizes own gave rests claims = record {
     requests = subst (λ (es : List Ended). IsPermutation (all_ended books.done) (es ++ ended_with (ended_of_trees tops trees) others))
         (sym ended) l.requests;
     each = l.each;
@@ -239,6 +255,7 @@ module _ {N : Type 0} (nodes : Nodes N) (t : Terms) (f : Forest) (books : Books)
     rests = children_first f books.done tops (live_of key x) (live_of key y) others rests l.rests;
     sizes = (sizes, l.sizes.1);
     sized = l.sized;
+    claims = claims;
   }
 
   -- no call was made
@@ -270,6 +287,7 @@ module _ {N : Type 0} (nodes : Nodes N) (t : Terms) (f : Forest) (books : Books)
         rests = l.rests;
         sizes = l.sizes;
         sized = l.sized;
+        claims = claims_same f books.claimed calls tops lives (ap claims_in none) l.claims;
       }
 
   -- it is as before, with other nodes that gave the same back
@@ -287,6 +305,7 @@ module _ {N : Type 0} (nodes : Nodes N) (t : Terms) (f : Forest) (books : Books)
     rests = l.rests;
     sizes = l.sizes;
     sized = l.sized;
+    claims = l.claims;
   }
 
   -- the first is so far now, and no call was made
@@ -294,8 +313,8 @@ module _ {N : Type 0} (nodes : Nodes N) (t : Terms) (f : Forest) (books : Books)
       → ended_in y.stack ≡ ended_in x.stack → held_by y.stack ≡ held_by x.stack → AreHandedOut y.stack → HasSizes y.stack
       → ((w : Place → ℕ) → gave_over {N = N} nodes w slab_now ≡ gave_over {N = N} nodes w slab)
       → ((ended : List ℕ) → HasRests f ended x.stack → HasRests f ended y.stack)
-      → Later books entries tops trees (live_of key y ∷ others)
-  ledger_changes key x y others l ended held hands sizes gave rests =
+      → ClaimsOnce f books.claimed tops (live_of key y ∷ others) → Later books entries tops trees (live_of key y ∷ others)
+  ledger_changes key x y others l ended held hands sizes gave rests claims =
       let same : (w : Place → ℕ) → held_over w (live_of key y ∷ others) ≡ held_over w (live_of key x ∷ others) =
       λ w. omega (arith, ap (total w) held, held_first w (live_of key x) others, held_first w (live_of key y) others) in
       record {
@@ -311,14 +330,16 @@ module _ {N : Type 0} (nodes : Nodes N) (t : Terms) (f : Forest) (books : Books)
         rests = children_first f books.done tops (live_of key x) (live_of key y) others rests l.rests;
         sizes = (sizes, l.sizes.1);
         sized = l.sized;
+        claims = claims;
       }
 
   -- one more, of which nothing is done
   pub ledger_child : (key : ℕ) (x : Flying) (op : Task) (lives : List Live) → Before lives
       → ((w : Place → ℕ) → gave_over {N = N} nodes w slab_now ≡ gave_over {N = N} nodes w slab)
       → HasRestsIn f (numbers_ended (all_ended books.done)) op
+      → ClaimsOnce f books.claimed tops (live_of key (new_flying x op) ∷ lives)
       → Later books entries tops trees (live_of key (new_flying x op) ∷ lives)
-  ledger_child key x op lives l gave own = record {
+  ledger_child key x op lives l gave own claims = record {
     requests = l.requests;
     each = l.each;
     behind = l.behind;
@@ -330,6 +351,7 @@ module _ {N : Type 0} (nodes : Nodes N) (t : Terms) (f : Forest) (books : Books)
     rests = children_new f books.done tops key x op lives own l.rests;
     sizes = (record { outer = tt; inner = tt }, l.sizes);
     sized = l.sized;
+    claims = claims;
   }
 
   -- what is in flight for a tree is so far now, and heard of the same
@@ -337,8 +359,8 @@ module _ {N : Type 0} (nodes : Nodes N) (t : Terms) (f : Forest) (books : Books)
       → ended_in b.stack ≡ ended_in a.stack → (IsOfTree a.stack → IsOfTree b.stack)
       → ((w : Place → ℕ) → gave_over {N = N} nodes w slab_now ≡ gave_over {N = N} nodes w slab)
       → ((ended : List ℕ) → HasRests f ended a.stack → HasRests f ended b.stack)
-      → Later books entries (slice_set tops n (Some b)) trees lives
-  ledger_tree n a b lives l there same of gave rests =
+      → ClaimsOnce f books.claimed (slice_set tops n (Some b)) lives → Later books entries (slice_set tops n (Some b)) trees lives
+  ledger_tree n a b lives l there same of gave rests claims =
       let all : flat_map ended_of_top (slice_set tops n (Some b)) ≡ flat_map ended_of_top tops =
       set_same ended_of_top tops n (Some a) (Some b) there same in
       record {
@@ -354,6 +376,7 @@ module _ {N : Type 0} (nodes : Nodes N) (t : Terms) (f : Forest) (books : Books)
         rests = children_top f books.done tops n a b lives there rests l.rests;
         sizes = l.sizes;
         sized = l.sized;
+        claims = claims;
       }
 
   -- the tree has its value, with the requests that it heard of
@@ -394,6 +417,7 @@ module _ {N : Type 0} (nodes : Nodes N) (t : Terms) (f : Forest) (books : Books)
         rests = children_no_top f books.done tops n lives l.rests;
         sizes = l.sizes;
         sized = l.sized;
+        claims = tree_change f books.claimed tops n a None lives l.claims there (omega arith) (λ h quiet b e. absurd (cc));
       }
 
   -- the second heard of a pointer
@@ -425,11 +449,12 @@ module _ {N : Type 0} (nodes : Nodes N) (t : Terms) (f : Forest) (books : Books)
         rests = children_second f books.done tops x (live_of above q) (live_of above y) others (λ es. h.rests f es) l.rests;
         sizes = (l.sizes.0, (h.sizes l.sizes.1.0, l.sizes.1.1));
         sized = l.sized;
+        claims = second_same f books.claimed tops x (live_of above q) (live_of above y) others l.claims h.turn h.same_op;
       }
 
   -- ---- it ends
 
-  module _ (key : ℕ) (x : Flying) (outcome : Outcome) (v : Value) (gone : List Place) (calls : List SpaceCall) (ended : List Ended)
+  module _ {S : Type 0} (key : ℕ) (x : Flying) (outcome : Outcome S) (v : Value) (gone : List Place) (calls : List SpaceCall) (ended : List Ended)
       (node : N) (are : calls ≡ calls_back gone) (m : IsMore t f x.stack outcome ended)
       (requests : ended_by v ≡ ended_in x.stack ++ ended) (ends : (w : Place → ℕ) → PlacesEnd {N = N} nodes node x.stack outcome v gone w)
       (gave : (w : Place → ℕ) → gave_over {N = N} nodes w slab_now + total w (nodes.gave node) ≡ gave_over {N = N} nodes w slab)
@@ -543,14 +568,17 @@ module _ {N : Type 0} (nodes : Nodes N) (t : Terms) (f : Forest) (books : Books)
               (live_of key x) (live_of above q) (live_of above y) others refl (λ es. h.rests f es) l.rests;
           sizes = (h.sizes (sizes.value l.sizes.0) l.sizes.1.0, l.sizes.1.1);
           sized = sized_now l.sizes.0 l.sized;
+          claims = claims_same f books.claimed calls tops (live_of above y ∷ others) (ap claims_in are ∙ no_claims gone)
+              (first_ends f books.claimed tops (live_of key x) (live_of above y ∷ others)
+              (second_same f books.claimed tops (live_of key x) (live_of above q) (live_of above y) others l.claims h.turn h.same_op));
         }
 
     -- and the tree heard of it; its value has no places
     pub ledger_root_ends : (n : ℕ) (q y : Flying) (others : List Live) → Before (live_of key x ∷ others)
         → slice_get tops n ≡ Some (Some q) → HasHeardIt q.stack x.stack.outer.op v y.stack → places_by x.stack.outer.op v ≡ []
-        → (IsOfTree q.stack → IsOfTree y.stack)
+        → (IsOfTree q.stack → IsOfTree y.stack) → ClaimsOnce f books.claimed (slice_set tops n (Some y)) others
         → Later (enrolled books calls m.more) (entries ++ choices_in calls) (slice_set tops n (Some y)) trees others
-    ledger_root_ends n q y others l there h none of =
+    ledger_root_ends n q y others l there h none of claims =
         let was : List Ended = ended_of_trees tops trees in
         let now : List Ended = ended_of_trees (slice_set tops n (Some y)) trees in
         let own : List Ended = ended_in x.stack ++ all_ended m.more in
@@ -604,6 +632,7 @@ module _ {N : Type 0} (nodes : Nodes N) (t : Terms) (f : Forest) (books : Books)
               tops n (live_of key x) q y others refl there (λ es. h.rests f es) l.rests;
           sizes = l.sizes.1;
           sized = sized_now l.sizes.0 l.sized;
+          claims = claims_same f books.claimed calls (slice_set tops n (Some y)) others (ap claims_in are ∙ no_claims gone) claims;
         }
 
 -- ---- the beginning
@@ -616,17 +645,22 @@ fresh_trees : (tasks : List Task) → flat_map ended_of_tree (all_out tasks) ≡
 fresh_trees [] = refl
 fresh_trees (q ∷ tasks) = fresh_trees tasks
 
-fresh_of_trees : (k : ℕ) (tasks : List Task) (n : ℕ) (top : Flying) → slice_get (all_tops (settling_from k tasks)) n ≡ Some (Some top)
-    → IsOfTree top.stack
-fresh_of_trees k [] n top e = absurd (cc)
-fresh_of_trees k (q ∷ tasks) zero top e =
-    of_same (record { at = k ∷ []; stack = fresh_stack q }) top (some_is _ _ e) (record { alone = refl; attempts = λ m op is. absurd (cc) })
-fresh_of_trees k (q ∷ tasks) (suc n) top e = fresh_of_trees (suc k) tasks n top e
+all_settle : (f : Forest) → AllByRecursion IsSettle (settles f)
+all_settle NoTrees = tt
+all_settle (TreeOf p kids others) = (tt, all_settle others)
+
+fresh_of_trees : (k : ℕ) (tasks : List Task) (n : ℕ) (top : Flying) → AllByRecursion IsSettle tasks
+    → slice_get (all_tops (settling_from k tasks)) n ≡ Some (Some top) → IsOfTree top.stack
+fresh_of_trees k [] n top h e = absurd (cc)
+fresh_of_trees k (q ∷ tasks) zero top h e =
+    of_same (record { at = k ∷ []; stack = fresh_stack q }) top (some_is _ _ e)
+    (record { settles = h.0; alone = refl; attempts = λ m op is. absurd (cc) })
+fresh_of_trees k (q ∷ tasks) (suc n) top h e = fresh_of_trees (suc k) tasks n top h.1 e
 
 pub ledger_first : {N : Type 0} (nodes : Nodes N) (t : Terms) (f : Forest) (slab : Slab (TiedNode N)) → slab.slots ≡ [] → AreTrees f
-    → NumbersOnce f
+    → NumbersOnce f → ClaimsOnce f [] (all_tops (settling_from 0 (settles f))) []
     → IsLedger {N = N} nodes t f no_books [] (all_tops (settling_from 0 (settles f))) (all_out (settles f)) [] slab
-ledger_first {N} nodes t f slab none trees once =
+ledger_first {N} nodes t f slab none trees once claims =
     let gave : (w : Place → ℕ) → gave_over {N = N} nodes w slab ≡ 0 =
     λ w. ap (λ (xs : List (Option (TiedNode N))). sum_by (left_in {N = N} (λ (n : N). total w (nodes.gave n))) xs) none in
     let heard : [] ≡ ended_of_trees (all_tops (settling_from 0 (settles f))) (all_out (settles f)) =
@@ -639,8 +673,9 @@ ledger_first {N} nodes t f slab none trees once =
       made = λ w. omega arith;
       backs = tt;
       hands = tt;
-      of_trees = fresh_of_trees 0 (settles f);
+      of_trees = λ n top e. fresh_of_trees 0 (settles f) n top (all_settle f) e;
       rests = children_begin f trees once;
       sizes = tt;
       sized = tt;
+      claims = claims;
     }

@@ -19,10 +19,10 @@ use Rattle.zio_trace.specs.SoundRounds.{IsOwnBlock, IsSoundRound}
 use Rattle.zio_trace.specs.Tasks.{Attempt, Task, Value}
 use Rattle.zio_frames.specs.Frames.{Stack}
 use Rattle.zio_frames.specs.OfRound.{IsTaskOf, IsTreeOf}
-use Rattle.zio_stages.specs.Outcomes.{freed_by, freed_if, freed_of, held_by, made_by, stored_in}
-use Rattle.zio_stages.specs.declared.outcome.Outcome.{Outcome}
-use Rattle.zio_stages.specs.declared.outcome.Outcome.TheVariants.{Again, Finished as HasFinished, Found, Stored, Walked}
-use Rattle.zio_stages.specs.declared.outcome.Finished.{Finished}
+use Rattle.zio_exchange.specs.Outcomes.{freed_by, freed_if, freed_of, freed_with, held_by, made_by, stored_in}
+use Rattle.zio_exchange.specs.declared.outcome.Outcome.{Outcome}
+use Rattle.zio_exchange.specs.declared.outcome.Outcome.TheVariants.{Again, Finished as HasFinished, Found, Stored, Walked}
+use Rattle.zio_exchange.specs.declared.outcome.FinishedRequest.{FinishedRequest}
 use Rattle.zio_turns.specs.Parts.{Nodes}
 use Rattle.zio_turns.specs.Stages.{AreItsOwn, may_free}
 
@@ -73,7 +73,7 @@ gone_own t sizes f entries st before gone sound task own =
     (all_contains (Contains (held_by st ++ may_free st.outer.op)) (before ++ gone) p own (Contains-append_right before gone p c)))
     (all_contained gone)
 
-freed_free : (op : Task) (f : Finished) (p : Place) → Contains (freed_by op (HasFinished f)) p → Contains (may_free op) p
+freed_free : (op : Task) (f : FinishedRequest) (p : Place) → Contains (freed_with op f) p → Contains (may_free op) p
 freed_free (Attempt attempt q kids) f p c = by (is_none f.error) c
   where
     by : (b : Bool) → Contains (freed_if b (freed_of q.request.work q.block)) p → Contains (freed_of q.request.work q.block) p
@@ -81,7 +81,7 @@ freed_free (Attempt attempt q kids) f p c = by (is_none f.error) c
     by false c = absurd (Contains-nothing p c)
 freed_free _ f p c = absurd (Contains-nothing p c)
 
-freed_may : (op : Task) (outcome : Outcome) (p : Place) → Contains (freed_by op outcome) p → Contains (may_free op) p
+freed_may : {S : Type 0} (op : Task) (outcome : Outcome S) (p : Place) → Contains (freed_by op outcome) p → Contains (may_free op) p
 freed_may op (HasFinished f) p c = freed_free op f p c
 freed_may op (Again whole bits pointer) p c = absurd (Contains-nothing p c)
 freed_may op (Found answer) p c = absurd (Contains-nothing p c)
@@ -89,7 +89,7 @@ freed_may op (Walked walked) p c = absurd (Contains-nothing p c)
 freed_may op (Stored part) p c = absurd (Contains-nothing p c)
 
 -- what it gives back as it ends
-pub end_own : (t : Terms) (sizes : ℕ → ℕ) (f : Forest) (entries : List Choice) (st : Stack) (outcome : Outcome) (v : Value)
+pub end_own : {S : Type 0} (t : Terms) (sizes : ℕ → ℕ) (f : Forest) (entries : List Choice) (st : Stack) (outcome : Outcome S) (v : Value)
     (gave gone : List Place) → IsSoundRound t sizes f → IsTaskOf t f entries st.outer.op
     → IsPermutation (held_by st ++ freed_by st.outer.op outcome) (gave ++ gone ++ made_by outcome ++ stored_in v)
     → AllByRecursion (λ (p : Place). Contains (held_by st) p ⊎ Contains t.used p) gone

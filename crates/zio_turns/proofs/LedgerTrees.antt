@@ -8,7 +8,7 @@ use Rattle.zio_frames.specs.Moves.{handed, heard_early, heard_of, set_at, set_in
 use Rattle.zio_frames.specs.Slots.{Heard, IsOut, Slot}
 use Rattle.zio_frames.specs.Seats.{asked_at, asked_in_inner}
 use Rattle.zio_frames.proofs.GetLemmas.{get_either}
-use Rattle.zio_stages.specs.Outcomes.{places_by}
+use Rattle.zio_exchange.specs.Outcomes.{places_by}
 use Rattle.zio_turns.specs.Engine.{TreesStand}
 use Rattle.zio_turns.specs.Entries.{top_at}
 use Rattle.zio_turns.specs.Ledgers.{IsOfTree}
@@ -40,7 +40,7 @@ stand_out k (None ∷ tops) (Heard v ∷ trees) (suc n) x h e = stand_out (suc k
 -- ---- one operation is so far now
 
 set_of_tree : (st : Stack) (seat : Seat) (slot : Slot) → IsOfTree st → IsOfTree (set_at st seat slot)
-set_of_tree st (OfOuter n) slot h = record { alone = h.alone; attempts = h.attempts }
+set_of_tree st (OfOuter n) slot h = record { settles = h.settles; alone = h.alone; attempts = h.attempts }
 set_of_tree st (OfInner n) slot h = by st.inner h.alone
   where
     by : (o : Option Inner) → o ≡ None → IsOfTree (set_in_inner st o n slot)
@@ -49,10 +49,12 @@ set_of_tree st (OfInner n) slot h = by st.inner h.alone
 
 pub told_tree : (st : Stack) (n : ℕ) (c : Child) (pointer : Option Bp) → IsOfTree st → IsOfTree (heard_early st n c pointer)
 told_tree st n c pointer h =
-    let s = set_of_tree st c.seat (IsOut (Some pointer)) h in record { alone = s.alone; attempts = s.attempts }
+    let s = set_of_tree st c.seat (IsOut (Some pointer)) h in
+    record { settles = s.settles; alone = s.alone; attempts = s.attempts }
 
 pub heard_tree : (st : Stack) (n : ℕ) (c : Child) (v : Value) → IsOfTree st → IsOfTree (heard_of st n c v)
-heard_tree st n c v h = let s = set_of_tree st c.seat (Heard v) h in record { alone = s.alone; attempts = s.attempts }
+heard_tree st n c v h =
+    let s = set_of_tree st c.seat (Heard v) h in record { settles = s.settles; alone = s.alone; attempts = s.attempts }
 
 -- ---- one more is out
 
@@ -65,6 +67,7 @@ handed_tree st op kind h = by st.inner h.alone
       children = (handed st op).children;
     })
     by None e = record {
+      settles = h.settles;
       alone = refl;
       attempts = λ n q is. elim (get_either st.outer.asked op q n is) [
         | inl old ↦ h.attempts n q old
@@ -87,7 +90,7 @@ logical_places (ReadHeads look levels path bp) v e = absurd (cc)
 logical_places (ReadTree tree) v e = absurd (cc)
 logical_places (TakePlaces tree) v e = absurd (cc)
 
-asked_logical : (st : Stack) (seat : Seat) (op : Task) → IsOfTree st → asked_at st seat ≡ Some op → kind_of_task op ≡ Logical
+pub asked_logical : (st : Stack) (seat : Seat) (op : Task) → IsOfTree st → asked_at st seat ≡ Some op → kind_of_task op ≡ Logical
 asked_logical st (OfOuter n) op h e = h.attempts n op e
 asked_logical st (OfInner n) op h e = by st.inner h.alone e
   where

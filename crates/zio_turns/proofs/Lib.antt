@@ -5,6 +5,9 @@ pub mod AttemptMoves
 pub mod BeginMoves
 pub mod Callings
 pub mod ClaimCalls
+pub mod ClaimLedger
+pub mod ClaimMoves
+pub mod ClaimTurns
 pub mod ClaimsLast
 pub mod ClimbLemmas
 pub mod Counts

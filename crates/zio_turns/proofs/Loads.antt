@@ -9,7 +9,7 @@ use Rattle.zio_types.specs.declared.request.Phase.TheVariants.{Done, Ready}
 use Rattle.zio_types.specs.Machine.{Count}
 use Rattle.zio_blkptr.specs.declared.pointer.Bp.{Bp}
 use Rattle.zio_counts.specs.Tallies.{first_counted, is_last, notified, stalled}
-use Rattle.zio_stages.specs.declared.outcome.Outcome.{Outcome}
+use Rattle.zio_exchange.specs.declared.outcome.Outcome.{Outcome}
 use Rattle.slab.specs.Slab.{Slab, Updates, get}
 use Rattle.zio_turns.specs.Acts.{HasEnded, HasGrown, HasHeard, HasTold, HasWaited, counting, load_of, new_ties, one_more, step_told, with_ties}
 use Rattle.zio_turns.specs.Parts.{Nodes}
@@ -101,22 +101,24 @@ module _ {N : Type 0} (nodes : Nodes N) (over : List Top → N → Type 0) (slab
       let rises : nodes.left up ≤ nodes.left was.node + heard_max = has.left in
       omega arith
 
-  pub less_told : (node : N) (parent : Above) (kind : ChildKind) (pointer : Option Bp)
+  pub less_told : {S : Type 0} (node : N) (parent : Above) (kind : ChildKind) (pointer : Option Bp) (step : Step S) → step ≡ step_told parent
       → Updates slab mid key (Some (with_ties {N = N} node e.ties))
       → HasTold {N = N} nodes over mid line slab_now line_now kind parent pointer → nodes.left node + told_cost ≤ nodes.left e.node
-      → load {N = N} nodes.left slab_now line_now + load_of (step_told parent) < load {N = N} nodes.left slab line + 1
-  less_told node (Tree tree n) kind pointer put has less =
+      → load {N = N} nodes.left slab_now line_now + load_of step < load {N = N} nodes.left slab line + 1
+  less_told node (Tree tree n) kind pointer step same put has less =
       let k = left_put nodes.left slab mid key e is (with_ties {N = N} node e.ties) put in
       let one : left_over {N = N} nodes.left slab_now ≡ left_over {N = N} nodes.left mid =
       ap (left_over {N = N} nodes.left) has.slab_same in
       let two : length line_now ≡ length line = ap (λ (q : List ℕ). length q) has.line_same in
+      let three : load_of step ≡ 1 = ap load_of same in
       omega arith
-  less_told node (Node above n) kind pointer put has less =
+  less_told node (Node above n) kind pointer step same put has less =
       let k = left_put nodes.left slab mid key e is (with_ties {N = N} node e.ties) put in
       let h = less_heard kind Ready above has.was has.up has.error has.bits has.heard in
+      let three : load_of step ≡ 1 = ap load_of same in
       omega arith
 
-  pub less_ended : (tops : List Top) (parent : Above) (kind : ChildKind) (outcome : Outcome) (step : Step)
+  pub less_ended : {S : Type 0} (tops : List Top) (parent : Above) (kind : ChildKind) (outcome : Outcome S) (step : Step S)
       → Updates slab mid key None → HasEnded {N = N} nodes over tops mid line slab_now line_now kind parent outcome step
       → told_cost ≤ nodes.left e.node
       → load {N = N} nodes.left slab_now line_now + load_of step < load {N = N} nodes.left slab line + 1

@@ -17,9 +17,7 @@ use Rattle.zio_gang.specs.Attempts.{Terms}
 use Rattle.zio_gang.specs.Journals.{AreLawful}
 use Rattle.zio_gang.specs.Trees.{sizes_of}
 use Rattle.zio_types.specs.declared.place.Top.{Top}
-use Rattle.zio_turns.specs.declared.desk.Asked.{Asked}
-use Rattle.zio_turns.specs.declared.desk.Asked.TheVariants.{Blocks, Claim, Nothing}
-use Rattle.zio_turns.specs.Desks.{IsDeskAt, Tells, taken_by_all}
+use Rattle.zio_turns.specs.Desks.{IsDeskAt, taken_by_all}
 use Rattle.zio_turns.specs.Ledgers.{AreOnce, found_so_far}
 use Rattle.zio_turns.proofs.DeskCalls.{lawful_answers}
 use Rattle.zio_turns.proofs.PlaceTotals.{contained}
@@ -173,27 +171,19 @@ lawful_inside tops used (e ∷ es) h =
 
 -- ---- what a round found
 
-found_by_asked : (asked : Asked) (t : Terms) (entries : List Choice) (claimed : List Place) → Tells asked entries claimed
-    → AreLawful (sizes_of t.setting.tops) t.used entries → are_open t.used claimed ≡ true
-    → AreClear t.used (found_so_far entries claimed)
-found_by_asked Nothing t entries claimed told lawful are =
-    subst (λ (ps : List Place). AreClear t.used (ps ++ taken_by_all entries)) (sym told.1)
-    (lawful_clear (sizes_of t.setting.tops) t.used entries lawful)
-found_by_asked Blocks t entries claimed told lawful are =
-    subst (λ (ps : List Place). AreClear t.used (ps ++ taken_by_all entries)) (sym told)
-    (lawful_clear (sizes_of t.setting.tops) t.used entries lawful)
-found_by_asked Claim t entries claimed told lawful are =
-    subst (λ (ps : List Place). AreClear t.used ps) (sym (ap (λ (es : List Choice). claimed ++ taken_by_all es) told ∙ append-nil claimed))
-    (open_clear t.used claimed are)
+pub found_clear : (t : Terms) (entries : List Choice) (claimed back : List Place) (tops : List Top) (st : SpaceState)
+    → IsDeskAt t entries claimed back tops st → AreClear t.used (found_so_far entries claimed)
+found_clear t entries claimed back tops st h = elim h.either [
+  | inl none ↦ subst (λ (ps : List Place). AreClear t.used ps)
+      (sym (ap (λ (es : List Choice). claimed ++ taken_by_all es) none ∙ append-nil claimed)) (open_clear t.used claimed h.claim.free)
+  | inr none ↦ subst (λ (ps : List Place). AreClear t.used (ps ++ taken_by_all entries)) (sym none)
+      (lawful_clear (sizes_of t.setting.tops) t.used entries h.desk.lawful)
+]
 
-pub found_clear : (t : Terms) (entries : List Choice) (claimed back : List Place) (tops : List Top) (st : SpaceState) (asked : Asked)
-    → IsDeskAt t entries claimed back tops st asked → AreClear t.used (found_so_far entries claimed)
-found_clear t entries claimed back tops st asked h = found_by_asked asked t entries claimed h.tells h.desk.lawful h.claim.free
-
-pub found_inside : (t : Terms) (entries : List Choice) (claimed back : List Place) (tops : List Top) (st : SpaceState) (asked : Asked)
-    → IsDeskAt t entries claimed back tops st asked
+pub found_inside : (t : Terms) (entries : List Choice) (claimed back : List Place) (tops : List Top) (st : SpaceState)
+    → IsDeskAt t entries claimed back tops st
     → AllByRecursion (λ (p : Place). IsTrue (is_inside (sizes_of t.setting.tops) p)) (found_so_far entries claimed)
-found_inside t entries claimed back tops st asked h =
+found_inside t entries claimed back tops st h =
     let sizes : List TopSize = sizes_of t.setting.tops in
     all_append (IsIn sizes) claimed (taken_by_all entries)
     (all_weaker (λ (p : Place). IsTrue (is_inside sizes p) × IsTrue (is_aligned sizes p)) (IsIn sizes) claimed (λ p both. both.0) h.claim.inside)

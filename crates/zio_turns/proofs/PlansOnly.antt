@@ -24,10 +24,7 @@ use Rattle.zio_trace.specs.Programs.{Program as ProgramOf, Ends, Asks, ◌>>=◌
 use Rattle.zio_trace.specs.Tasks.{good_by, ByKept, ByClaim, Look, visit_of, Task, Leaf, Find, ReadCopies, WriteCopies, WritePart, ReadHeads, ReadTree, TakePlaces, Attempt, Settle, Value, Got, Wrote, One, Settled, SettledBy, got, found, StoredAs, nowhere, walked, attempted}
 use Rattle.zio_trace.specs.Traces.{AsksOnly}
 use Rattle.zio_trace.proofs.GroundLemmas.{only-then}
-
-abbrev pub takes : Task → Bool
-takes (TakePlaces tree) = true
-takes _ = false
+pub use Rattle.zio_turns.specs.Claims.{takes}
 
 abbrev pub finds : Task → Bool
 finds (Find a) = true
@@ -249,7 +246,7 @@ pub record ChoosesNone {A : Type 0} (p : TaskPlan A) : Type 0 where
   pub no_find : AsksOnly NoFind p
   pub last : TakesLast p
 
-own_claims : (t : Terms) (attempt : ℕ) (p : Pending) (work : Work) (pointers : List (Option Bp)) → claims work ≡ true
+pub own_claims : (t : Terms) (attempt : ℕ) (p : Pending) (work : Work) (pointers : List (Option Bp)) → claims work ≡ true
     → ChoosesNone (plan_own t attempt p work pointers)
 own_claims t attempt p (Claim name pointer) pointers e =
     record { no_find = claim_no_find (pointer_of pointer); last = claim_last (pointer_of pointer) }
@@ -270,6 +267,14 @@ attempt_kinds t attempt p kids true e = inr (record {
       (λ k. last_ends (plan_own t attempt p p.request.work _) _ (own_claims t attempt p p.request.work _ e).last (λ own. tt));
 })
 
+-- what settles a tree asks for attempts alone
+pub settle_only_task : (P : Task → Type 0) → ((op : Task) → IsOther op → P op) → (t : Terms)
+    → ((attempt : ℕ) (p : Pending) (kids : Forest) → P (Attempt attempt p kids)) → (p : Pending) (kids : Forest)
+    → AsksOnly P (plan t (Settle p kids))
+settle_only_task P other t attempts p kids =
+    only-then P (plan_settle reexecutions_max 0 p kids) (λ x. Ends (SettledBy x))
+    (settle_only P other t attempts reexecutions_max 0 p kids) (λ x. tt)
+
 pub task_kinds : (t : Terms) (op : Task) → TakesNone (plan t op) ⊎ ChoosesNone (plan t op)
 task_kinds t (Leaf a) = inl (refl, λ v. tt)
 task_kinds t (Find a) = inl (refl, λ v. tt)
@@ -285,9 +290,7 @@ task_kinds t (WritePart attempt p sum copies levels path bytes) =
 task_kinds t (ReadHeads look levels path bp) = inl (heads_only NoTake (λ op h. h.0) t look levels path bp)
 task_kinds t (ReadTree tree) = inl (tree_only NoTake (λ op h. h.0) t tree)
 task_kinds t (Attempt attempt p kids) = attempt_kinds t attempt p kids (claims p.request.work) refl
-task_kinds t (Settle p kids) =
-    inl (only-then NoTake (plan_settle reexecutions_max 0 p kids) (λ x. Ends (SettledBy x))
-    (settle_only NoTake (λ op h. h.0) t (λ n q under. refl) reexecutions_max 0 p kids) (λ x. tt))
+task_kinds t (Settle p kids) = inl (settle_only_task NoTake (λ op h. h.0) t (λ n q under. refl) p kids)
 
 -- ---- what attempts no request
 
@@ -333,3 +336,49 @@ task_no_try t (ReadHeads look levels path bp) h = heads_only NoTry other_tries t
 task_no_try t (ReadTree tree) h = tree_only NoTry other_tries t tree
 task_no_try t (Attempt attempt p kids) h = absurd (false≢true (sym h))
 task_no_try t (Settle p kids) h = absurd (false≢true (sym h))
+
+-- ---- whatever takes no places and attempts no request
+
+pub task_only : (P : Task → Type 0) → ((op : Task) → IsOther op → P op) → ((a : Ask) → P (Find a)) → (t : Terms) (op : Task)
+    → NoTake op → NoTry op → AsksOnly P (plan t op)
+task_only P other find t (Leaf a) h k = (other (Leaf a) (refl, refl, refl), λ v. tt)
+task_only P other find t (Find a) h k = (find a, λ v. tt)
+task_only P other find t (TakePlaces tree) h k = absurd (false≢true (sym h))
+task_only P other find t (ReadCopies repair test len places) h k =
+    only-then P (by_leaves (block_reading t.setting repair (good_by test) len places)) (λ a. Ends (Got a))
+    (leaves_only P other t (block_reading t.setting repair (good_by test) len places)) (λ a. tt)
+task_only P other find t (WriteCopies bytes places) h k =
+    only-then P (by_leaves (piece_writing t.setting bytes places)) (λ e. Ends (Wrote e))
+    (leaves_only P other t (piece_writing t.setting bytes places)) (λ e. tt)
+task_only P other find t (WritePart attempt p sum copies levels path bytes) h k =
+    write_only P other t find attempt p sum copies levels path bytes
+task_only P other find t (ReadHeads look levels path bp) h k = heads_only P other t look levels path bp
+task_only P other find t (ReadTree tree) h k = tree_only P other t tree
+task_only P other find t (Attempt attempt p kids) h k = absurd (false≢true (sym k))
+task_only P other find t (Settle p kids) h k = absurd (false≢true (sym k))
+
+-- what asks for no places for a block, but for what writes one
+abbrev pub WritesNone : Task → Type 0
+WritesNone (Find a) = ⊥
+WritesNone (WritePart attempt p sum copies levels path bytes) = ⊥
+WritesNone (Attempt attempt p kids) = claims p.request.work ≡ true
+WritesNone _ = Unit {0}
+
+pub task_no_find : (t : Terms) (op : Task) → WritesNone op → AsksOnly NoFind (plan t op)
+task_no_find t (Leaf a) h = (refl, λ v. tt)
+task_no_find t (Find a) h = absurd h
+task_no_find t (TakePlaces tree) h = (refl, λ v. tt)
+task_no_find t (ReadCopies repair test len places) h =
+    only-then NoFind (by_leaves (block_reading t.setting repair (good_by test) len places)) (λ a. Ends (Got a))
+    (leaves_only NoFind (λ op k. k.1) t (block_reading t.setting repair (good_by test) len places)) (λ a. tt)
+task_no_find t (WriteCopies bytes places) h =
+    only-then NoFind (by_leaves (piece_writing t.setting bytes places)) (λ e. Ends (Wrote e))
+    (leaves_only NoFind (λ op k. k.1) t (piece_writing t.setting bytes places)) (λ e. tt)
+task_no_find t (WritePart attempt p sum copies levels path bytes) h = absurd h
+task_no_find t (ReadHeads look levels path bp) h = heads_only NoFind (λ op k. k.1) t look levels path bp
+task_no_find t (ReadTree tree) h = tree_only NoFind (λ op k. k.1) t tree
+task_no_find t (Attempt attempt p kids) h =
+    only-then NoFind (plan_kids attempt kids) _ (kids_only NoFind (λ op k. k.1) t (λ n q under. refl) attempt kids)
+    (λ k. only-then NoFind (plan_own t attempt p p.request.work _) _ (own_claims t attempt p p.request.work _ h).no_find
+    (λ own. tt))
+task_no_find t (Settle p kids) h = settle_only_task NoFind (λ op k. k.1) t (λ n q under. refl) p kids

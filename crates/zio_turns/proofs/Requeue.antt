@@ -20,7 +20,7 @@ use Rattle.slab.specs.Slab.{Slab, Updates, get}
 use Rattle.zio_turns.specs.Acts.{new_ties, with_ties}
 use Rattle.zio_turns.specs.Engine.{Matches, Rests, StillKept}
 use Rattle.zio_turns.specs.Entries.{Held, IsWith, Live, OfTree, Shelf, all_tops, flying_at, handed_on, live_of, new_flying, new_held, times_in, top_at}
-use Rattle.zio_turns.specs.Ledgers.{all_ended}
+use Rattle.zio_turns.specs.Ledgers.{IsOfTree, all_ended}
 use Rattle.zio_turns.specs.Parts.{Nodes}
 use Rattle.zio_turns.specs.Rests.{numbers_ended}
 use Rattle.zio_turns.specs.Rounds.{Before, HandsOut, KeepsRound, SoFar, first_of, with_tree}
@@ -29,6 +29,9 @@ use Rattle.zio_turns.specs.Slabs.{AreAll, held_if, left_in, left_over, load, she
 use Rattle.zio_turns.specs.declared.entry.TiedNode.{TiedNode}
 use Rattle.zio_turns.specs.declared.entry.Parent.TheVariants.{Tree}
 use Rattle.zio_turns.specs.declared.entry.Ties.{Ties}
+use Rattle.zio_turns.proofs.ClaimLedger.{claims_begin}
+use Rattle.zio_turns.proofs.ClaimMoves.{tree_child, tree_hands}
+use Rattle.zio_turns.proofs.ClaimTurns.{claim_alone}
 use Rattle.zio_turns.proofs.FoundFits.{tree_of_round, tree_seated}
 use Rattle.zio_turns.proofs.Kept.{world}
 use Rattle.zio_turns.proofs.LeafOps.{theirs_with}
@@ -112,7 +115,7 @@ module _ {N : Type 0} (nodes : Nodes N) (t : Terms) where
             (all_tops (settling_from 0 (settles f))) [] g [] [] [] images) (sym bare) (all_begins nodes t sizes f before images sound is));
         numbered = λ key e x there flies. absurd (none_flies key x flies);
         theirs = λ key x flies. absurd (none_flies key x flies);
-        ledger = ledger_first nodes t f slab none sound.trees sound.numbers;
+        ledger = ledger_first nodes t f slab none sound.trees sound.numbers (claims_begin f (claim_alone t sizes f sound));
       }
     where
       none_flies : (key : ℕ) (x : Flying) → flying_at [] key ≡ Some x → ⊥
@@ -135,10 +138,11 @@ module _ {N : Type 0} (nodes : Nodes N) (t : Terms) where
       let with_new = subst (λ (n : ℕ). IsWith (shelf_of {N = N} slab) key (Some (new_held {N = N} node op (OfTree tree n)))
       (shelf_of {N = N} slab_now)) number with_kind in
       let lives : List Live = live_of key (new_flying top op) ∷ k.lives in
+      let of_tree : IsOfTree top.stack = k.ledger.of_trees tree top (top_slice s.tops tree top there) in
       let stands : Stands top.stack = record {
         full = (tree_seated nodes t sizes f before s.trees s.tops (shelf_of {N = N} slab) line leaves k.still.state tree top
             k.lives k.still.kept there).outer.lengths;
-        inner = subst (InnerStands top.stack) (sym (k.ledger.of_trees tree top (top_slice s.tops tree top there)).alone) tt;
+        inner = subst (InnerStands top.stack) (sym of_tree.alone) tt;
       } in
       let of_round : (seen : List Choice) × IsOfRound t f seen top.stack =
       tree_of_round nodes t sizes f before s.trees s.tops (shelf_of {N = N} slab) line leaves k.still.state tree top k.lives
@@ -158,14 +162,19 @@ module _ {N : Type 0} (nodes : Nodes N) (t : Terms) where
             (free_there nodes t (world {N = N} s.tops k.lives (shelf_of {N = N} slab) line leaves) key k.still.kept.linked
             (ap (held_if {N = N}) free)).2
             k.theirs;
-        ledger = ledger_tree nodes t f s.books s.entries s.tops s.trees slab_now slab_now tree top (handed_on top op) lives
-            (ledger_child nodes t f s.books s.entries s.tops s.trees slab slab_now key top op k.lives k.ledger
+        ledger = ledger_child nodes t f s.books s.entries (slice_set s.tops tree (Some (handed_on top op))) s.trees slab slab_now key top
+            op k.lives
+            (ledger_tree nodes t f s.books s.entries s.tops s.trees slab slab tree top (handed_on top op) k.lives k.ledger
+            (top_slice s.tops tree top there) (handed_ended top.stack op) (handed_tree top.stack op kind) (λ w. refl)
+            (λ ended. handed_rests top.stack op f ended stands)
+            (tree_hands t f s.books.claimed s.tops k.lives tree top op (top_slice s.tops tree top there) of_tree stands.full
+            k.ledger.claims))
             (λ w. gave_new nodes slab slab_now key w now free put gave)
             (handed_op_rests top.stack op t f of_round.0 (numbers_ended (all_ended s.books.done)) stands
             (k.ledger.rests.trees tree top (top_slice s.tops tree top there)) asks
-            (handed_of_round top.stack op t f of_round.0 stands asks of_round.1)))
-            (top_slice s.tops tree top there) (handed_ended top.stack op) (handed_tree top.stack op kind) (λ w. refl)
-            (λ ended. handed_rests top.stack op f ended stands);
+            (handed_of_round top.stack op t f of_round.0 stands asks of_round.1))
+            (tree_child t f s.books.claimed s.tops k.lives tree top op (top_slice s.tops tree top there) of_tree stands.full
+            k.ledger.claims key asks);
       }
 
 -- with one node more

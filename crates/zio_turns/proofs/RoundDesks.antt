@@ -18,7 +18,7 @@ use Rattle.zio_gang.specs.Attempts.{Terms}
 use Rattle.zio_gang.specs.Journals.{AreLawful}
 use Rattle.zio_gang.specs.Trees.{sizes_of}
 use Rattle.zio_course.proofs.PlaceLemmas.{SamePlaces-behind, lawful_same}
-use Rattle.zio_stages.specs.SpaceCalls.{Claimed, GaveBack, Placed, SpaceCall}
+use Rattle.zio_exchange.specs.SpaceCalls.{Claimed, GaveBack, Placed, SpaceCall}
 use Rattle.zio_turns.specs.Desks.{AreAnswered, AreMade, AreRight, IsDeskOf, IsRightCall, MayAsk, after_call, after_calls, bare, choices_in, claims_asked, claims_in, found_by, found_in, taken_by_all}
 use Rattle.zio_turns.specs.Desks.MayAsk.{Backs, Claims, Places}
 use Rattle.zio_turns.proofs.DeskLemmas.{split_in, used_after, used_call}

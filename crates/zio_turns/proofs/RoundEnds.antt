@@ -13,8 +13,9 @@ use Rattle.zio_trace.specs.Tasks.{Find}
 use Rattle.zio_frames.specs.Frames.{Child, Flying, needs_none}
 use Rattle.zio_frames.specs.Moves.{child_ended, heard_of}
 use Rattle.zio_frames.specs.OfRound.{FitsWhichever}
-use Rattle.zio_stages.specs.SpaceCalls.{SpaceCall}
-use Rattle.zio_stages.specs.declared.outcome.Outcome.{Outcome}
+use Rattle.zio_exchange.specs.SpaceCalls.{SpaceCall}
+use Rattle.zio_exchange.specs.Outcomes.{held_by}
+use Rattle.zio_exchange.specs.declared.outcome.Outcome.{Outcome}
 use Rattle.slab.specs.Slab.{Slab, Updates, get}
 use Rattle.zio_turns.specs.Acts.{AwaitsEnd, NodeHeard, counting, with_ties}
 use Rattle.zio_turns.specs.Entries.{Live, OfNode, OfTree, OneMore, flying_at, live_of}
@@ -26,6 +27,9 @@ use Rattle.zio_turns.specs.Slabs.{AreAll, held_of, shelf_of}
 use Rattle.zio_turns.specs.Stages.{Ends, Hears}
 use Rattle.zio_turns.specs.declared.entry.TiedNode.{TiedNode}
 use Rattle.zio_turns.proofs.ActLemmas.{woken}
+use Rattle.zio_turns.proofs.ClaimLedger.{first_ends}
+use Rattle.zio_turns.proofs.ClaimMoves.{claim_leaves, tree_heard}
+use Rattle.zio_turns.proofs.ClaimTurns.{claim_alone}
 use Rattle.zio_turns.proofs.Callings.{choices_did}
 use Rattle.zio_turns.proofs.DoesLemmas.{append_none}
 use Rattle.zio_frames.proofs.HeardParts.{fits_each as fits_every}
@@ -43,7 +47,7 @@ use Rattle.zio_turns.proofs.LedgerHands.{hands_heard}
 use Rattle.zio_turns.proofs.LedgerHears.{heard_within, hears_it as hears_value}
 use Rattle.zio_turns.proofs.LedgerMoves.{ledger_ends, ledger_root_ends}
 use Rattle.zio_turns.proofs.LedgerSlabs.{gave_gone, gave_put}
-use Rattle.zio_turns.proofs.LedgerTrees.{heard_tree, none_within, top_slice, tree_places_none}
+use Rattle.zio_turns.proofs.LedgerTrees.{asked_logical, heard_tree, none_within, top_slice, tree_places_none}
 use Rattle.zio_turns.proofs.Lives.{first_at, with_first}
 use Rattle.zio_turns.proofs.RestLemmas.{EndLeaves, end_leaves}
 use Rattle.zio_turns.proofs.Shelves.{numbered_with, numbered_without, shelf_two, shelf_without}
@@ -51,12 +55,11 @@ use Rattle.zio_turns.proofs.SizeLemmas.{EndSizes, end_sizes}
 use Rattle.zio_turns.proofs.LedgerOwns.{end_own}
 use Rattle.std.specs.List.{AllByRecursion}
 use Rattle.std.specs.Prelude.{Contains}
-use Rattle.zio_stages.specs.Outcomes.{held_by}
 use Rattle.zio_trace.specs.SoundRounds.{IsSoundRound}
 
-module _ {N : Type 0} (nodes : Nodes N) (over : List Top → N → Type 0) (t : Terms) (sizes : ℕ → ℕ) (f : Forest)
+module _ {N S : Type 0} (nodes : Nodes N) (over : List Top → N → Type 0) (t : Terms) (sizes : ℕ → ℕ) (f : Forest)
     (before : Before) (s : SoFar) (slab out : Slab (TiedNode N)) (queue leaves : List ℕ) (key : ℕ) (e : TiedNode N) (calls : List SpaceCall)
-    (outcome : Outcome)
+    (outcome : Outcome S)
     (r : IsThere {N = N} nodes t sizes f before s slab queue leaves key e)
     (ends : Ends {N = N} nodes nodes.gave t e.node r.node.stack calls outcome)
     (finds : (a : Ask) → r.node.stack.outer.op ≢ Find a)
@@ -260,6 +263,11 @@ module _ {N : Type 0} (nodes : Nodes N) (over : List Top → N → Type 0) (t : 
               (live_of key r.node ∷ r.others) r.kept found.there) found.does.is found.does.goes asked.asked
               (none_within found.top.stack r.node.stack.outer.op ends.value found.child of_tree asked.asked))
               (tree_places_none found.top.stack found.child.seat r.node.stack.outer.op ends.value of_tree asked.asked)
-              (heard_tree found.top.stack n found.child ends.value);
+              (heard_tree found.top.stack n found.child ends.value)
+              (tree_heard f s.books.claimed s.tops r.others tree found.top (top_slice s.tops tree found.top found.there)
+              (first_ends f s.books.claimed s.tops (live_of key r.node) r.others r.ledger.claims) n found.child ends.value (λ h.
+              claim_leaves t f r.seen r.node.stack ends.value (claim_alone t sizes f sound h) r.of_round.outer.task
+              (r.ledger.claims.once h).parts.0
+              (asked_logical found.top.stack found.child.seat r.node.stack.outer.op of_tree asked.asked) ends.ends));
         };
       }

@@ -1,6 +1,7 @@
 -- A round that an engine keeps, where a node hands out a child.
 use Rattle.std.proofs.Common.{◌≡◌, ◌≢◌, ℕ, ◌+◌, ◌<◌, ◌≤◌, List, [], ◌∷◌, ◌++◌, length, length-append, Bool, true, false, cond, Some, None, refl, sym, ap, ◌∙◌, subst, arith, ◌⊎◌}
 use Rattle.zio_types.specs.declared.request.ChildKind.{ChildKind}
+use Rattle.zio_types.specs.declared.request.Phase.{Phase}
 use Rattle.zio_types.specs.declared.request.Phase.TheVariants.{Done, Ready}
 use Rattle.zio_types.specs.Choices.{Choice}
 use Rattle.zio_types.specs.Machine.{fresh, same_kind}
@@ -13,13 +14,13 @@ use Rattle.zio_trace.specs.Families.{Forest}
 use Rattle.zio_trace.specs.Keys.{bit}
 use Rattle.zio_trace.specs.SoundRounds.{IsSoundRound}
 use Rattle.zio_frames.specs.Frames.{Child, Flying, kind_of_task}
-use Rattle.zio_frames.specs.Moves.{child_for, choices_of, next_seat}
+use Rattle.zio_frames.specs.Moves.{child_for, choices_of, handed, next_seat}
 use Rattle.zio_frames.specs.OfRound.{IsOfRound}
-use Rattle.zio_stages.specs.Outcomes.{held_by}
-use Rattle.zio_stages.specs.SpaceCalls.{SpaceCall, calls_by}
 use Rattle.slab.specs.Slab.{Slab, Updates, get}
+use Rattle.zio_exchange.specs.Outcomes.{held_by}
+use Rattle.zio_exchange.specs.SpaceCalls.{SpaceCall, calls_back, calls_by}
 use Rattle.zio_turns.specs.Acts.{HasGrown, new_ties, one_more, with_ties}
-use Rattle.zio_turns.specs.Entries.{AreWith, CountsAre, Held, OfNode, OneMore, count_owing, flying_at, grown, handed_on, live_of, new_flying, new_held, owing, with_both, with_stack}
+use Rattle.zio_turns.specs.Entries.{AreWith, CountsAre, Held, OfNode, OneMore, count_owing, flying_at, grown, handed_on, live_of, new_flying, new_held, owes, owing, with_both, with_stack}
 use Rattle.zio_turns.specs.Desks.{backs_in, found_in}
 use Rattle.zio_turns.specs.Engine.{StillKept}
 use Rattle.zio_turns.specs.Ledgers.{IsLedger, all_ended, gave_over}
@@ -30,11 +31,14 @@ use Rattle.zio_turns.specs.Slabs.{held_if, held_of, shelf_of}
 use Rattle.zio_turns.specs.Stages.{Grows}
 use Rattle.zio_turns.specs.declared.entry.TiedNode.{TiedNode}
 use Rattle.zio_turns.specs.declared.entry.Parent.TheVariants.{Node}
+use Rattle.zio_turns.specs.Claims.{IsNoSettle}
 use Rattle.zio_turns.proofs.Callings.{WereRight, were_right}
+use Rattle.zio_turns.proofs.ClaimMoves.{claims_go_on, claims_grow, handed_fewer, handed_op, hands_turn}
+use Rattle.zio_turns.proofs.ClaimTurns.{claim_alone}
 use Rattle.zio_turns.proofs.DoesLemmas.{append_none}
 use Rattle.zio_turns.proofs.Kept.{world}
 use Rattle.zio_turns.proofs.LeafOps.{theirs_with}
-use Rattle.zio_turns.proofs.LedgerDids.{HasDone, does_itself}
+use Rattle.zio_turns.proofs.LedgerDids.{HasDone, does_itself, does_ops}
 use Rattle.zio_turns.proofs.LedgerHands.{hands_does, hands_handed}
 use Rattle.zio_turns.proofs.LedgerHears.{handed_ended, handed_held, handed_op_rests, handed_rests}
 use Rattle.zio_turns.proofs.LedgerMoves.{backs_did, booked, ledger_child, ledger_moves, backs_are}
@@ -69,6 +73,19 @@ ready_less kind (c ∷ cs) =
     let b : count_owing kind Ready cs ≤ count_owing kind Done cs = ready_less kind cs in
     omega arith
 
+-- no more are missing than there are
+pub owing_few : (kind : ChildKind) (phase : Phase) (cs : List Child) → count_owing kind phase cs ≤ length cs
+owing_few kind phase [] = omega arith
+owing_few kind phase (c ∷ cs) =
+    let a : owing kind phase c ≤ 1 = by (same_kind c.kind kind) (owes phase c) in
+    let b : count_owing kind phase cs ≤ length cs = owing_few kind phase cs in
+    omega arith
+  where
+    by : (b o : Bool) → cond b (bit o) 0 ≤ 1
+    by true true = omega arith
+    by true false = omega arith
+    by false o = omega arith
+
 counted_less : (kind : ChildKind) (x : Tally) (cs : List Child) (n : ℕ) → CountsAre x cs → counted kind Done x < n
     → counted kind Ready x < n
 counted_less kind x cs n are h =
@@ -96,8 +113,8 @@ module _ {N : Type 0} (nodes : Nodes N) (t : Terms) (sizes : ℕ → ℕ) (f : F
       → HasGrown {N = N} out line slab_now line_now key (with_ties {N = N} node e.ties) child kind
       → KeepsRound {N = N} nodes t sizes f before (with_calls s calls) slab_now line_now leaves
   round_grows sound r right g taken has =
-      let were : WereRight t s.entries calls g.dids =
-      were_right t s.entries calls g.dids [] (g.calls_are ∙ sym (append_none (calls_by g.dids))) right in
+      let by : calls ≡ calls_by g.dids ++ calls_back [] = g.calls_are ∙ sym (append_none (calls_by g.dids)) in
+      let were : WereRight t s.entries calls g.dids = were_right t s.entries calls g.dids [] by right in
       let lawful = subst (λ (cs : List Choice). AreLawful (sizes_of t.setting.tops) t.used (cs ++ choices_of g.dids))
       (sym r.entries_are) were.lawful in
       let parent_now : TiedNode N = with_ties {N = N} node (one_more kind e.ties) in
@@ -143,7 +160,9 @@ module _ {N : Type 0} (nodes : Nodes N) (t : Terms) (sizes : ℕ → ℕ) (f : F
       ∙ ap (λ (n : ℕ). gave_over {N = N} nodes w slab + n)
       (sym (ap (λ (cs : List SpaceCall). total w (backs_in cs)) (g.calls_are ∙ sym (append_none (calls_by g.dids)))
       ∙ backs_did w g.dids [])))
-      (λ ended k. handed_rests g.stack g.op f ended done.stands (done.rests f ended k)) in
+      (λ ended k. handed_rests g.stack g.op f ended done.stands (done.rests f ended k))
+      (claims_go_on nodes t sizes f before s slab (key ∷ line) leaves key e sound r calls g.dids [] g.stack by g.does lawful
+      (handed g.stack g.op) (handed_fewer g.stack g.op) (handed_op g.stack g.op)) in
       let grows : StillKept {N = N} nodes t sizes f before s.trees s.tops (live_of has.at z ∷ live_of key y ∷ r.others)
       (shelf_of {N = N} slab_now) line_now leaves (r.state.entries ++ choices_of g.dids) r.state.images =
       one_grows nodes t sizes f before s.trees s.tops (shelf_of {N = N} slab) (key ∷ line) leaves r.state key has.at r.node
@@ -178,5 +197,11 @@ module _ {N : Type 0} (nodes : Nodes N) (t : Terms) (sizes : ℕ → ℕ) (f : F
             (with_stack r.node g.stack) g.op (live_of key y ∷ r.others) grown_by
             (λ w. gave_new nodes has.mid slab_now has.at w child_now has.free has.added g.child_gave)
             (handed_op_rests g.stack g.op t f of_round.0 (numbers_ended (all_ended s.books.done)) done.stands
-            (done.rests f (numbers_ended (all_ended s.books.done)) r.ledger.rests.nodes.0) g.asks of_round.1.outer);
+            (done.rests f (numbers_ended (all_ended s.books.done)) r.ledger.rests.nodes.0) g.asks of_round.1.outer)
+            (claims_grow nodes t sizes f before s slab (key ∷ line) leaves key e sound r calls g.dids [] g.stack by g.does lawful
+            (live_of key y) (live_of has.at z) g.op refl (λ h.
+            hands_turn t f of_round.0 g.stack g.op (claim_alone t sizes f sound h)
+            (subst IsNoSettle (sym (does_ops t g.dids r.node.stack g.stack g.does)) (r.ledger.claims.once h).parts.0) done.stands
+            of_round.1.outer g.asks)
+            grown_by.claims);
       }

@@ -20,9 +20,9 @@ use Rattle.zio_gang.specs.Journals.{AreLawful}
 use Rattle.zio_gang.specs.Trees.{sizes_of}
 use Rattle.zio_frames.specs.Frames.{Child, Flying, Stack, fresh_stack}
 use Rattle.zio_frames.specs.Moves.{choices_of, done_at_once}
-use Rattle.zio_stages.specs.Outcomes.{held_by}
-use Rattle.zio_stages.specs.SpaceCalls.{SpaceCall, calls_by}
 use Rattle.slab.specs.Slab.{Slab, Updates}
+use Rattle.zio_exchange.specs.Outcomes.{held_by}
+use Rattle.zio_exchange.specs.SpaceCalls.{SpaceCall, calls_by}
 use Rattle.zio_turns.specs.Acts.{counting, with_ties}
 use Rattle.zio_turns.specs.Engine.{IsKept, StillKept}
 use Rattle.zio_turns.specs.Entries.{CountsAre, OneMore, count_owing, flying_at, live_of}
@@ -35,6 +35,8 @@ use Rattle.zio_turns.specs.Slabs.{held_of, shelf_of}
 use Rattle.zio_turns.specs.Stages.{GoesOn, Stays, AreItsOwn}
 use Rattle.zio_turns.specs.declared.entry.TiedNode.{TiedNode}
 use Rattle.zio_turns.proofs.Callings.{WereRight, none_made, were_right}
+use Rattle.zio_turns.proofs.ClaimLedger.{first_change}
+use Rattle.zio_turns.proofs.ClaimMoves.{claims_go_on}
 use Rattle.zio_turns.proofs.LedgerDids.{HasDone, does_itself, does_ops}
 use Rattle.zio_turns.proofs.LedgerHands.{hands_does, hands_leaf}
 use Rattle.zio_turns.proofs.LedgerMoves.{backs_did, found_did, ledger_changes, ledger_moves, ledger_stays, backs_are}
@@ -127,7 +129,9 @@ module _ {N : Type 0} (nodes : Nodes N) (t : Terms) (sizes : ℕ → ℕ) (f : F
             (λ w. gave_more nodes slab slab_now key w e (with_ties {N = N} node e.ties) g.gone r.there put g.gave_more
             ∙ ap (λ (n : ℕ). gave_over {N = N} nodes w slab + n)
             (sym (ap (λ (cs : List SpaceCall). total w (backs_in cs)) g.calls_are ∙ backs_did w g.dids g.gone)))
-            (λ ended. done.rests f ended);
+            (λ ended. done.rests f ended)
+            (claims_go_on nodes t sizes f before s slab queue leaves key e sound r calls g.dids g.gone g.stack g.calls_are g.does
+            lawful g.stack (omega arith) refl);
       }
 
   -- it stalls on a count that isn't 0
@@ -229,5 +233,7 @@ module _ {N : Type 0} (nodes : Nodes N) (t : Terms) (sizes : ℕ → ℕ) (f : F
             r.theirs;
         ledger = ledger_changes nodes t f s.books s.entries s.tops s.trees slab slab_now key r.node y r.others r.ledger
             (sym (ap ended_in fresh)) (sym (ap held_by fresh)) (hands_leaf act (Got a)) (answered_sizes act a full)
-            (λ w. gave_put nodes slab slab_now key w e now r.there put gave) (λ ended h. record { own = tt; heard = (tt, tt) });
+            (λ w. gave_put nodes slab slab_now key w e now r.there put gave) (λ ended h. record { own = tt; heard = (tt, tt) })
+            (first_change f s.books.claimed s.tops (live_of key r.node) (live_of key y) r.others s.books.claimed r.ledger.claims
+            r.ledger.claims.alone (λ h. omega arith) (λ part. tt));
       }

@@ -16,6 +16,7 @@ use Rattle.zio_trace.specs.Underway.{State}
 use Rattle.zio_frames.specs.Frames.{Flying}
 use Rattle.zio_frames.specs.Running.{all_heard}
 use Rattle.slab.specs.Slab.{Slab, get}
+use Rattle.zio_exchange.specs.Outcomes.{freed_if, freed_of}
 use Rattle.zio_turns.specs.Engine.{IsKept}
 use Rattle.zio_turns.specs.Entries.{Held, standing}
 use Rattle.zio_turns.specs.Ledgers.{IsLedger, all_ended, ended_of_top, ended_of_tree, found_so_far, freed_in, gave_over, made_in, AreOnce, Ending, IsEnding, freed_for}
@@ -35,8 +36,7 @@ use Rattle.zio_trace.specs.SoundRounds.{IsSoundRound}
 use Rattle.zio_types.specs.declared.place.Top.{Top}
 use Rattle.zio_types.specs.Places.{SamePlaces, are_open, is_inside}
 use Rattle.zio_gang.specs.Trees.{sizes_of}
-use Rattle.zio_turns.specs.declared.desk.Asked.{Asked}
-use Rattle.zio_stages.specs.Outcomes.{freed_if, freed_of}
+use Rattle.zio_exchange.specs.Outcomes.{freed_if, freed_of}
 use Rattle.std.proofs.lemmas.List.Elements.{Contains-append_cases}
 
 -- ---- the requests
@@ -117,29 +117,29 @@ made_less : {N : Type 0} (nodes : Nodes N) (t : Terms) (f : Forest) (s : SoFar) 
 made_less nodes t f s slab l w = let m = l.made w in omega arith
 
 pub made_open : {N : Type 0} (nodes : Nodes N) (t : Terms) (f : Forest) (s : SoFar) (slab : Slab (TiedNode N)) (tops : List Top)
-    (st : SpaceState) (asked : Asked) → IsLedger {N = N} nodes t f s.books s.entries s.tops s.trees [] slab
-    → IsDeskAt t s.entries s.books.claimed s.books.back tops st asked → are_open t.used (made_in s.books.done) ≡ true
-made_open {N} nodes t f s slab tops st asked l desk =
+    (st : SpaceState) → IsLedger {N = N} nodes t f s.books s.entries s.tops s.trees [] slab
+    → IsDeskAt t s.entries s.books.claimed s.books.back tops st → are_open t.used (made_in s.books.done) ≡ true
+made_open {N} nodes t f s slab tops st l desk =
     clear_open t.used (made_in s.books.done)
     (fewer_clear t.used (made_in s.books.done) (found_so_far s.entries s.books.claimed) (made_less {N = N} nodes t f s slab l)
-    (found_clear t s.entries s.books.claimed s.books.back tops st asked desk))
+    (found_clear t s.entries s.books.claimed s.books.back tops st desk))
 
 pub made_within : {N : Type 0} (nodes : Nodes N) (t : Terms) (f : Forest) (s : SoFar) (slab : Slab (TiedNode N)) (tops : List Top)
-    (st : SpaceState) (asked : Asked) → IsLedger {N = N} nodes t f s.books s.entries s.tops s.trees [] slab
-    → IsDeskAt t s.entries s.books.claimed s.books.back tops st asked
+    (st : SpaceState) → IsLedger {N = N} nodes t f s.books s.entries s.tops s.trees [] slab
+    → IsDeskAt t s.entries s.books.claimed s.books.back tops st
     → AllByRecursion (λ (p : Place). IsTrue (is_inside (sizes_of t.setting.tops) p)) (made_in s.books.done)
-made_within {N} nodes t f s slab tops st asked l desk =
+made_within {N} nodes t f s slab tops st l desk =
     made_inside (sizes_of t.setting.tops) (made_in s.books.done) (found_so_far s.entries s.books.claimed)
-    (made_less {N = N} nodes t f s slab l) (found_inside t s.entries s.books.claimed s.books.back tops st asked desk)
+    (made_less {N = N} nodes t f s slab l) (found_inside t s.entries s.books.claimed s.books.back tops st desk)
 
 -- no place stands twice among those in use and those found
-pub found_once : (t : Terms) (s : SoFar) (tops : List Top) (st : SpaceState) (asked : Asked)
-    → IsDeskAt t s.entries s.books.claimed s.books.back tops st asked → AreOnce t.used
+pub found_once : (t : Terms) (s : SoFar) (tops : List Top) (st : SpaceState)
+    → IsDeskAt t s.entries s.books.claimed s.books.back tops st → AreOnce t.used
     → AreOnce (t.used ++ found_so_far s.entries s.books.claimed)
-found_once t s tops st asked desk once =
+found_once t s tops st desk once =
     once_all (sizes_of t.setting.tops) t.used (found_so_far s.entries s.books.claimed) once
-    (found_clear t s.entries s.books.claimed s.books.back tops st asked desk)
-    (found_inside t s.entries s.books.claimed s.books.back tops st asked desk)
+    (found_clear t s.entries s.books.claimed s.books.back tops st desk)
+    (found_inside t s.entries s.books.claimed s.books.back tops st desk)
 
 -- ---- which are live
 

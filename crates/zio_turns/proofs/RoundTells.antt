@@ -9,12 +9,13 @@ use Rattle.zio_trace.specs.Families.{Forest}
 use Rattle.zio_trace.specs.Tasks.{Task}
 use Rattle.zio_frames.specs.Frames.{Child, Flying, kind_of_task, needs_none}
 use Rattle.zio_frames.specs.Moves.{child_told, heard_early}
-use Rattle.zio_stages.specs.SpaceCalls.{SpaceCall}
 use Rattle.slab.specs.Slab.{Slab, Updates, get}
+use Rattle.zio_exchange.specs.SpaceCalls.{SpaceCall}
 use Rattle.zio_turns.specs.Acts.{AwaitsReady, NodeTold, counting, with_ties}
 use Rattle.zio_turns.specs.Engine.{counts_as_told}
 use Rattle.zio_turns.specs.Entries.{IsWith, Live, OfNode, OfTree, flying_at, live_of}
 use Rattle.zio_turns.specs.Found.{DoesAsked, IsChildOf, IsTreeFound}
+use Rattle.zio_turns.specs.Ledgers.{IsLedger}
 use Rattle.zio_turns.specs.Parts.{Nodes}
 use Rattle.zio_turns.specs.Rounds.{Before, KeepsRound, SoFar, TreeHearsEarly, choices_in, with_calls}
 use Rattle.zio_turns.specs.Slabs.{held_of, shelf_of}
@@ -23,6 +24,7 @@ use Rattle.zio_turns.specs.declared.entry.TiedNode.{TiedNode}
 use Rattle.zio_frames.proofs.GetLemmas.{same_or_not}
 use Rattle.zio_turns.proofs.ActLemmas.{woken_behind}
 use Rattle.zio_turns.proofs.Callings.{none_made}
+use Rattle.zio_turns.proofs.ClaimMoves.{tree_told}
 use Rattle.zio_turns.proofs.Finds.{tree_found}
 use Rattle.zio_turns.proofs.FoundFits.{one_asked, tree_asked, tree_seated}
 use Rattle.zio_turns.proofs.HearLemmas.{some_more, told_not}
@@ -178,6 +180,10 @@ module _ {N : Type 0} (nodes : Nodes N) (over : List Top → N → Type 0) (t : 
       hears_early found.top.stack n found.child pointer
       (tree_seated nodes t sizes f before s.trees s.tops (shelf_of {N = N} slab) (key ∷ line) leaves r.state tree found.top
       (live_of key r.node ∷ r.others) r.kept found.there) found.does.is found.does.goes in
+      let stayed : IsLedger {N = N} nodes t f (booked s.books calls) (s.entries ++ choices_in calls) s.tops s.trees
+      (live_of key r.node ∷ r.others) mid =
+      ledger_stays nodes t f s.books s.entries s.tops s.trees slab mid calls (live_of key r.node ∷ r.others) r.ledger
+      tells.no_calls (λ w. gave_put nodes slab mid key w e (with_ties {N = N} node e.ties) r.there put tells.gave_same) in
       record {
         top = found.top;
         number = n;
@@ -201,11 +207,11 @@ module _ {N : Type 0} (nodes : Nodes N) (over : List Top → N → Type 0) (t : 
           theirs = r.theirs;
           ledger = ledger_tree nodes t f (booked s.books calls) (s.entries ++ choices_in calls) s.tops s.trees mid mid tree found.top
               (record { at = found.top.at; stack = heard_early found.top.stack n found.child pointer }) (live_of key r.node ∷ r.others)
-              (ledger_stays nodes t f s.books s.entries s.tops s.trees slab mid calls (live_of key r.node ∷ r.others) r.ledger
-              tells.no_calls (λ w. gave_put nodes slab mid key w e (with_ties {N = N} node e.ties) r.there put tells.gave_same))
-              (top_slice s.tops tree found.top found.there)
+              stayed (top_slice s.tops tree found.top found.there)
               early.ended
               (told_tree found.top.stack n found.child pointer) (λ w. refl)
-              (λ ended. early.rests f ended);
+              (λ ended. early.rests f ended)
+              (tree_told f (booked s.books calls).claimed s.tops (live_of key r.node ∷ r.others) tree found.top
+              (top_slice s.tops tree found.top found.there) stayed.claims n found.child pointer);
         };
       }

@@ -1,20 +1,23 @@
 -- A stage of the node whose turn it is, by its moves, in each round that is kept.
-use Rattle.std.proofs.Common.{◌≡◌, ◌≢◌, ℕ, List, [], ◌∷◌, ◌++◌, cond, Option, Some, None, is_some, refl, sym, ap, ◌∙◌, subst}
+use Rattle.std.proofs.Common.{◌≡◌, ◌≢◌, ℕ, ◌+◌, ◌<◌, ◌≤◌, List, [], ◌∷◌, ◌++◌, length, length-append, arith, cond, Option, Some, None, is_some, refl, sym, ap, ◌∙◌, subst}
 use Rattle.zio_types.specs.declared.place.Top.{Top}
 use Rattle.zio_types.specs.declared.request.ChildKind.{ChildKind}
 use Rattle.zio_types.specs.declared.request.Phase.{Phase}
+use Rattle.zio_types.specs.declared.request.Phase.TheVariants.{Done}
 use Rattle.zio_types.specs.Choices.{Ask}
 use Rattle.zio_types.specs.Machine.{Count}
 use Rattle.zio_blkptr.specs.declared.pointer.Bp.{Bp}
-use Rattle.zio_counts.specs.Tallies.{first_counted}
+use Rattle.zio_counts.specs.Tallies.{counted, first_counted}
 use Rattle.zio_gang.specs.Attempts.{Terms}
 use Rattle.zio_trace.specs.Tasks.{Find}
 use Rattle.zio_vqueue.specs.declared.op.Op.{Op}
-use Rattle.zio_frames.specs.Frames.{Stack}
-use Rattle.zio_stages.specs.SpaceCalls.{SpaceCall}
-use Rattle.zio_stages.specs.declared.outcome.Outcome.{Outcome}
+use Rattle.zio_frames.specs.Frames.{Child, Stack}
+use Rattle.zio_frames.specs.Moves.{child_for, handed, next_seat}
+use Rattle.zio_exchange.specs.SpaceCalls.{SpaceCall}
+use Rattle.zio_exchange.specs.declared.outcome.Outcome.{Outcome}
 use Rattle.slab.specs.Slab.{Slab, Updates, get}
 use Rattle.zio_turns.specs.Acts.{CanEnd, CanTell, HasEnded, HasGrown, HasTold, HasWaited, step_told, with_ties}
+use Rattle.zio_turns.specs.Entries.{count_owing}
 use Rattle.zio_turns.specs.Parts.{Nodes}
 use Rattle.zio_turns.specs.Rounds.{IsTurn, KeepsRound, SoFar, StepsOn, TreeHears, TreeHearsEarly, with_calls, with_op}
 use Rattle.zio_turns.specs.Slabs.{parent_of, shelf_of}
@@ -28,9 +31,9 @@ use Rattle.zio_turns.proofs.Finds.{queued_held}
 use Rattle.zio_turns.proofs.FoundFits.{one_lies, one_spans}
 use Rattle.zio_turns.proofs.Queues.{queued_first}
 use Rattle.zio_turns.proofs.RoundEnds.{can_end, ends_as, more, round_ends, round_ends_tree}
-use Rattle.zio_turns.proofs.RoundGrows.{round_grows}
+use Rattle.zio_turns.proofs.RoundGrows.{owing_few, round_grows}
 use Rattle.zio_turns.proofs.RoundMoves.{one_counted, round_goes_on, round_goes_to_leaf, round_waits, some_owing}
-use Rattle.zio_turns.proofs.RoundNodes.{it_is_there}
+use Rattle.zio_turns.proofs.RoundNodes.{does_children, it_is_there}
 use Rattle.zio_turns.proofs.RoundParents.{from_held}
 use Rattle.zio_turns.proofs.RoundTells.{can_tell, round_tells, round_tells_tree}
 use Rattle.zio_turns.proofs.Shelves.{exchanged}
@@ -50,12 +53,12 @@ module _ {N : Type 0} (nodes : Nodes N) (tops : List Top) (slab : Slab (TiedNode
 module _ {N : Type 0} (nodes : Nodes N) (owns : GivesOwn {N = N} nodes) (over : List Top → N → Type 0) (tops : List Top)
     (slab out slab_now : Slab (TiedNode N)) (line line_now : List ℕ) (key : ℕ) (e : TiedNode N) (calls : List SpaceCall)
     (is : get slab key ≡ Some e) (taken : Updates slab out key None) where
-  abbrev On : Step → Type 0
+  abbrev On : {S : Type 0} → Step S → Type 0
   On step = StepsOn {N = N} nodes tops calls slab line slab_now line_now key step
 
   pub steps_next : (node : N) → ((t : Terms) (st : Stack) → IsNow {N = N} nodes tops t e.node st
       → GoesOn {N = N} nodes nodes.gave t e.node st calls node)
-      → Updates out slab_now key (Some (with_ties {N = N} node e.ties)) → line_now ≡ line → On Goes
+      → Updates out slab_now key (Some (with_ties {N = N} node e.ties)) → line_now ≡ line → On {S = Unit {0}} Goes
   steps_next node moves put same = λ t sizes f before s leaves sound tops_are right k.
       let r = it_is_there nodes t sizes f before s slab (key ∷ line) leaves key e k is in
       subst (λ (q : List ℕ). KeepsRound {N = N} nodes t sizes f before (with_calls s calls) slab_now (key ∷ q) leaves)
@@ -66,7 +69,7 @@ module _ {N : Type 0} (nodes : Nodes N) (owns : GivesOwn {N = N} nodes) (over : 
 
   pub steps_leaf : (node : N) (op : Op) (leaf : ℕ) (bytes : List ℕ) → ((t : Terms) (st : Stack)
       → IsNow {N = N} nodes tops t e.node st → GoesToLeaf {N = N} nodes nodes.gave t e.node st calls node op leaf bytes)
-      → Updates out slab_now key (Some (with_ties {N = N} node e.ties)) → line_now ≡ line → On (ToLeaf op leaf bytes)
+      → Updates out slab_now key (Some (with_ties {N = N} node e.ties)) → line_now ≡ line → On {S = Unit {0}} (ToLeaf op leaf bytes)
   steps_leaf node op leaf bytes moves put same = λ t sizes f before s leaves sound tops_are right k.
       let r = it_is_there nodes t sizes f before s slab (key ∷ line) leaves key e k is in
       let g = moves t r.node.stack (record { tops_are = tops_are; is = r.is; seated = r.seated }) in
@@ -90,7 +93,7 @@ module _ {N : Type 0} (nodes : Nodes N) (owns : GivesOwn {N = N} nodes) (over : 
 
   pub steps_wait : (node : N) (kind : ChildKind) (phase : Phase) → ((t : Terms) (st : Stack)
       → IsNow {N = N} nodes tops t e.node st → Waits {N = N} nodes nodes.gave t e.node st calls node kind phase)
-      → HasWaited {N = N} out line slab_now line_now key (with_ties {N = N} node e.ties) kind phase → On Rests
+      → HasWaited {N = N} out line slab_now line_now key (with_ties {N = N} node e.ties) kind phase → On {S = Unit {0}} Rests
   steps_wait node kind phase moves has = λ t sizes f before s leaves sound tops_are right k.
       let r = it_is_there nodes t sizes f before s slab (key ∷ line) leaves key e k is in
       let g = moves t r.node.stack (record { tops_are = tops_are; is = r.is; seated = r.seated }) in
@@ -117,20 +120,42 @@ module _ {N : Type 0} (nodes : Nodes N) (owns : GivesOwn {N = N} nodes) (over : 
 
   pub steps_grow : (node child : N) (kind : ChildKind) → ((t : Terms) (st : Stack)
       → IsNow {N = N} nodes tops t e.node st → Grows {N = N} nodes nodes.gave t e.node st calls node child kind)
-      → HasGrown {N = N} out line slab_now line_now key (with_ties {N = N} node e.ties) child kind → On Rests
+      → HasGrown {N = N} out line slab_now line_now key (with_ties {N = N} node e.ties) child kind → On {S = Unit {0}} Rests
   steps_grow node child kind moves has = λ t sizes f before s leaves sound tops_are right k.
       let r = it_is_there nodes t sizes f before s slab (key ∷ line) leaves key e k is in
       round_grows nodes t sizes f before s slab out slab_now line line_now leaves key e calls node child kind sound r right
       (moves t r.node.stack (record { tops_are = tops_are; is = r.is; seated = r.seated })) taken has
+
+  -- it has one child more than it handed out before, and no more of a kind are open than it has
+  pub steps_children : (node child : N) (kind : ChildKind) (children : ℕ) → ((t : Terms) (st : Stack)
+      → IsNow {N = N} nodes tops t e.node st → Grows {N = N} nodes nodes.gave t e.node st calls node child kind)
+      → IsTurn {N = N} nodes over tops slab line key
+      → ((t : Terms) (st : Stack) → nodes.Is t node st → children ≡ length st.children)
+      → (children ≡ e.ties.children + 1) × (counted kind Done e.ties.counts < children)
+  steps_children node child kind children moves turn many =
+      let some = turn.keeps in
+      let r = it_is_there nodes some.terms some.sizes some.forest some.before some.so_far slab (key ∷ line) turn.leaves key e
+      some.keeps is in
+      let g = moves some.terms r.node.stack (record { tops_are = some.tops_are; is = r.is; seated = r.seated }) in
+      let now : children ≡ length (handed g.stack g.op).children = many some.terms (handed g.stack g.op) g.is in
+      let more : length (g.stack.children ++ child_for (next_seat g.stack) g.op ∷ []) ≡ length g.stack.children + 1 =
+      length-append g.stack.children (child_for (next_seat g.stack) g.op ∷ []) in
+      let same : length g.stack.children ≡ length r.node.stack.children =
+      ap (λ (cs : List Child). length cs) (does_children some.terms g.dids r.node.stack g.stack g.does) in
+      let missing : counted kind Done e.ties.counts ≡ count_owing kind Done r.node.stack.children = r.counts kind Done in
+      let few : count_owing kind Done r.node.stack.children ≤ length r.node.stack.children =
+      owing_few kind Done r.node.stack.children in
+      let given : e.ties.children ≡ length r.node.stack.children = r.given in
+      (omega arith, omega arith)
 
   -- ---- it tells
 
   module _ (node : N) (pointer : Option Bp) (moves : (t : Terms) (st : Stack) → IsNow {N = N} nodes tops t e.node st
       → Tells {N = N} nodes nodes.gave t e.node st calls node pointer)
       (mid : Slab (TiedNode N)) (put : Updates out mid key (Some (with_ties {N = N} node e.ties))) where
-    tells_by : (parent : Above) → e.ties.parent ≡ parent
-        → HasTold {N = N} nodes over mid line slab_now line_now e.ties.kind parent pointer → On (step_told parent)
-    tells_by (Tree tree n) above has = λ t sizes f before s leaves sound tops_are right k.
+    tells_by : (S : Type 0) (parent : Above) → e.ties.parent ≡ parent
+        → HasTold {N = N} nodes over mid line slab_now line_now e.ties.kind parent pointer → On {S = S} (step_told parent)
+    tells_by S (Tree tree n) above has = λ t sizes f before s leaves sound tops_are right k.
         let r = it_is_there nodes t sizes f before s slab (key ∷ line) leaves key e k is in
         let now : SoFar = with_calls s calls in
         let told : TreeHearsEarly {N = N} nodes t sizes f before now mid (key ∷ line) leaves tree =
@@ -140,16 +165,16 @@ module _ {N : Type 0} (nodes : Nodes N) (owns : GivesOwn {N = N} nodes) (over : 
         subst (λ (b : Slab (TiedNode N)). TreeHearsEarly {N = N} nodes t sizes f before now b (key ∷ line_now) leaves tree)
         (sym has.slab_same)
         (subst (λ (q : List ℕ). TreeHearsEarly {N = N} nodes t sizes f before now mid (key ∷ q) leaves tree) (sym has.line_same) told)
-    tells_by (Node upper n) above has = λ t sizes f before s leaves sound tops_are right k.
+    tells_by S (Node upper n) above has = λ t sizes f before s leaves sound tops_are right k.
         let r = it_is_there nodes t sizes f before s slab (key ∷ line) leaves key e k is in
         round_tells nodes over t sizes f before s slab mid line leaves key e calls node pointer r
         (moves t r.node.stack (record { tops_are = tops_are; is = r.is; seated = r.seated }))
         (exchanged slab out mid key (with_ties {N = N} node e.ties) taken put) upper n (ap parent_of above) slab_now
         line_now has
 
-    pub steps_ready : (step : Step) → HasTold {N = N} nodes over mid line slab_now line_now e.ties.kind e.ties.parent pointer
+    pub steps_ready : {S : Type 0} (step : Step S) → HasTold {N = N} nodes over mid line slab_now line_now e.ties.kind e.ties.parent pointer
         → step ≡ step_told e.ties.parent → On step
-    steps_ready step has same = subst On (sym same) (tells_by e.ties.parent refl has)
+    steps_ready {S} step has same = subst (On {S = S}) (sym same) (tells_by S e.ties.parent refl has)
 
     can_tell_by : (parent : Above) → e.ties.parent ≡ parent → (turn : IsTurn {N = N} nodes over tops slab line key)
         → CanTell {N = N} nodes mid e.ties.kind parent
@@ -167,12 +192,12 @@ module _ {N : Type 0} (nodes : Nodes N) (owns : GivesOwn {N = N} nodes) (over : 
 
   -- ---- it ends
 
-  module _ (outcome : Outcome) (moves : (t : Terms) (st : Stack) → IsNow {N = N} nodes tops t e.node st
+  module _ {S : Type 0} (outcome : Outcome S) (moves : (t : Terms) (st : Stack) → IsNow {N = N} nodes tops t e.node st
       → Ends {N = N} nodes nodes.gave t e.node st calls outcome)
       (finds : (t : Terms) (st : Stack) (a : Ask) → nodes.Is t e.node st → st.outer.op ≢ Find a) where
-    ends_by : (parent : Above) → e.ties.parent ≡ parent → (step : Step)
+    ends_by : (parent : Above) → e.ties.parent ≡ parent → (step : Step S)
         → HasEnded {N = N} nodes over tops out line slab_now line_now e.ties.kind parent outcome step → On step
-    ends_by (Tree tree n) above step has = subst On (sym has.1) (λ t sizes f before s leaves sound tops_are right k.
+    ends_by (Tree tree n) above step has = subst (On {S = S}) (sym has.1) (λ t sizes f before s leaves sound tops_are right k.
         let r = it_is_there nodes t sizes f before s slab (key ∷ line) leaves key e k is in
         let now : SoFar = with_calls s calls in
         let heard : TreeHears {N = N} nodes t sizes f before now out line leaves tree outcome =
@@ -182,7 +207,7 @@ module _ {N : Type 0} (nodes : Nodes N) (owns : GivesOwn {N = N} nodes) (over : 
         subst (λ (b : Slab (TiedNode N)). TreeHears {N = N} nodes t sizes f before now b line_now leaves tree outcome)
         (sym has.0.slab_same)
         (subst (λ (q : List ℕ). TreeHears {N = N} nodes t sizes f before now out q leaves tree outcome) (sym has.0.line_same) heard))
-    ends_by (Node upper n) above step has = subst On (sym has.1.1) (λ t sizes f before s leaves sound tops_are right k.
+    ends_by (Node upper n) above step has = subst (On {S = S}) (sym has.1.1) (λ t sizes f before s leaves sound tops_are right k.
         let r = it_is_there nodes t sizes f before s slab (key ∷ line) leaves key e k is in
         let ends = moves t r.node.stack (record { tops_are = tops_are; is = r.is; seated = r.seated }) in
         let into = more nodes over t sizes f before s slab out (key ∷ line) leaves key e calls outcome r ends
@@ -201,7 +226,7 @@ module _ {N : Type 0} (nodes : Nodes N) (owns : GivesOwn {N = N} nodes) (over : 
               slab_now line_now has.0;
         })
 
-    pub steps_end : (step : Step) → HasEnded {N = N} nodes over tops out line slab_now line_now e.ties.kind e.ties.parent outcome step
+    pub steps_end : (step : Step S) → HasEnded {N = N} nodes over tops out line slab_now line_now e.ties.kind e.ties.parent outcome step
         → On step
     steps_end step has = ends_by e.ties.parent refl step has
 

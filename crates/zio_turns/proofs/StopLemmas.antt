@@ -28,8 +28,8 @@ use Rattle.zio_frames.specs.Frames.{Flying, Stack, fresh_stack}
 use Rattle.zio_frames.specs.Moves.{heard_of}
 use Rattle.zio_frames.specs.Running.{IsRunning, Later}
 use Rattle.slab.specs.Slab.{Slab}
-use Rattle.zio_stages.specs.LeafWorks.{IsOpAt}
-use Rattle.zio_stages.specs.declared.outcome.Finished.{Finished}
+use Rattle.zio_exchange.specs.LeafOps.{IsOpAt}
+use Rattle.zio_exchange.specs.declared.outcome.FinishedRequest.{FinishedRequest}
 use Rattle.zio_turns.specs.AtLeaves.{WaitsFor, key_of, keyed, keys_at, keys_in, waiting_at}
 use Rattle.zio_turns.specs.Engine.{Matches, StillKept}
 use Rattle.zio_turns.specs.Entries.{Held, Live, Shelf, flying_at, live_of, times_in, top_at}
@@ -215,8 +215,8 @@ module _ {N D : Type 0} (nodes : Nodes N) (bytes : D → ℕ) (image : D → Lis
       stops t sizes f before so_far.0 sound so_far.1
 
   -- a tree heard of its attempt, and nothing more was done
-  pub heard_stops : (slab slab_now : Slab (TiedNode N)) (line line_now : List ℕ) (g g_now : Grounds D) (ended ended_now : List Finished)
-      (heard : Hearing) → RunsToTree {N = N} {D = D} nodes bytes image slab line g ended slab_now line_now g_now ended_now (Some heard)
+  pub heard_stops : {S : Type 0} (slab slab_now : Slab (TiedNode N)) (line line_now : List ℕ) (g g_now : Grounds D) (ended ended_now : List FinishedRequest)
+      (heard : Hearing S) → RunsToTree {N = N} {D = D} nodes bytes image slab line g ended slab_now line_now g_now ended_now (Some heard)
       → StopsWith {N = N} {D = D} nodes bytes image slab line g g_now.disks.items
   heard_stops slab slab_now line line_now g g_now ended ended_now heard to_tree = λ t sizes f before s sound going.
       let e = (to_tree t sizes f (Some before) s sound going).3 in
@@ -226,7 +226,7 @@ module _ {N D : Type 0} (nodes : Nodes N) (bytes : D → ℕ) (image : D → Lis
 
   -- from the first, where the trees ran to these
   pub trees_stop : (first slab : Slab (TiedNode N)) (first_line line : List ℕ) (lent g : Grounds D) (round : ℕ) (failmode : Failmode)
-      (begun states : List TreeState) (ended now : List Finished) (disks : List D)
+      (begun states : List TreeState) (ended now : List FinishedRequest) (disks : List D)
       → ((t : Terms) (sizes : ℕ → ℕ) (f : Forest) (before : Before) (s : SoFar)
       → RunsTrees {N = N} {D = D} nodes bytes image t sizes f before s first first_line lent round failmode begun
       → HasRun {N = N} {D = D} nodes bytes image t sizes f before s slab line g round failmode states ended now)

@@ -16,11 +16,11 @@ use Rattle.zio_frames.specs.Moves.{heard_early, heard_of}
 use Rattle.zio_frames.specs.Seats.{asked_at}
 use Rattle.zio_frames.specs.Slots.{Heard, Slot, left_behind_slots}
 use Rattle.zio_frames.proofs.GetLemmas.{get_other, get_set, same_or_not}
-use Rattle.zio_stages.specs.Outcomes.{IsOutcome}
-use Rattle.zio_stages.specs.declared.outcome.Finished.{Finished}
-use Rattle.zio_stages.specs.declared.outcome.Outcome.{Outcome}
-use Rattle.zio_stages.specs.declared.waiting.UnfinishedRequest.{UnfinishedRequest}
-use Rattle.zio_stages.specs.declared.outcome.Outcome.TheVariants.{Again, Finished as HasFinished, Found, Stored, Walked}
+use Rattle.zio_exchange.specs.Outcomes.{IsOutcome}
+use Rattle.zio_exchange.specs.declared.waiting.UnfinishedRequest.{UnfinishedRequest}
+use Rattle.zio_exchange.specs.declared.outcome.FinishedRequest.{FinishedRequest}
+use Rattle.zio_exchange.specs.declared.outcome.Outcome.{Outcome}
+use Rattle.zio_exchange.specs.declared.outcome.Outcome.TheVariants.{Again, Finished as HasFinished, Found, Stored, Walked}
 use Rattle.slab.specs.Slab.{Slab}
 use Rattle.zio_turns.specs.Attempting.{Course, IsAttempting, attempt_of, rest_of, settled_with}
 use Rattle.zio_turns.specs.AtLeaves.{keys_at}
@@ -43,7 +43,7 @@ use Rattle.zio_turns.proofs.Kept.{world}
 use Rattle.zio_turns.proofs.Links.{in_flight_there, some_is}
 use Rattle.zio_turns.proofs.Progress.{none_left}
 use Rattle.zio_turns.proofs.Tops.{stand_slot, top_other, top_set}
-use Rattle.zio_turns.proofs.TurnMoves.{told_append}
+use Rattle.zio_turns.proofs.TurnMoves.{ends_finished, told_append}
 
 -- what is suspended of one more tree is so
 pub all_in : (Q : List UnfinishedRequest → Type 0) (states : List TreeState) (n : ℕ) (x : TreeState) → StateIn Q x
@@ -114,7 +114,7 @@ under_there t top tops states tree all there =
     under_by t top states tree (slice_get states tree) refl
     (subst (λ (o : Option Flying). IsInState t o (slice_get states tree)) there (all tree))
 
-of_attempt : (t : Terms) (c : Course) (outcome : Outcome) (v : Value) → IsOutcome t (attempt_of c) outcome v
+of_attempt : {S : Type 0} (t : Terms) (c : Course) (outcome : Outcome S) (v : Value) → IsOutcome t (attempt_of c) outcome v
     → IsOfAttempt outcome × ((one : One) × (v ≡ AttemptedBy one))
 of_attempt t c (HasFinished f) v h = (tt, (h.1.0, h.1.1))
 of_attempt t c (Again whole bits pointer) v h = (tt, (h.1.0, h.1.1))
@@ -123,12 +123,12 @@ of_attempt t c (Walked walked) v h = absurd h.0
 of_attempt t c (Stored part) v h = absurd h.0
 
 -- it heard of its attempt
-pub record Hears (t : Terms) (c : Course) (outcome : Outcome) (st : Stack) : Type 0 where
+pub record Hears {S : Type 0} (t : Terms) (c : Course) (outcome : Outcome S) (st : Stack) : Type 0 where
   pub of : IsOfAttempt outcome
   pub one : One
   pub heard : HasHeardOf t c outcome one st
 
-pub tree_heard : (t : Terms) (c : Course) (top : Flying) (n : ℕ) (child : Child) (op : Task) (outcome : Outcome) (v : Value)
+pub tree_heard : {S : Type 0} (t : Terms) (c : Course) (top : Flying) (n : ℕ) (child : Child) (op : Task) (outcome : Outcome S) (v : Value)
     → IsAttempting t c top.stack → slice_get top.stack.children n ≡ Some child → child.ended ≡ false
     → asked_at top.stack child.seat ≡ Some op → EndsAs t op outcome v → Hears t c outcome (heard_of top.stack n child v)
 tree_heard t c top n child op outcome v out is goes asked how =
@@ -151,9 +151,9 @@ tree_heard t c top n child op outcome v out is goes asked how =
     }
 
 -- a root that finished
-root_finished : (t : Terms) (op : Task) (outcome : Outcome) (v : Value) → EndsAs t op outcome v
+root_finished : {S : Type 0} (t : Terms) (op : Task) (outcome : Outcome S) (v : Value) → EndsAs t op outcome v
     → AllByRecursion (EndsFinished t) (finished_in outcome)
-root_finished t op (HasFinished f) v how = (record { op = op; value = v; how = how }, tt)
+root_finished t op (HasFinished f) v how = (ends_finished t op f v how, tt)
 root_finished t op _ v how = tt
 
 -- ---- one tree's state changes
@@ -296,18 +296,18 @@ nothing_flies key x e = cc
 
 module _ {N D : Type 0} (nodes : Nodes N) (over : List Top → N → Type 0) (bytes faults : D → ℕ) (image : D → List ℕ → Type 0)
     (first : Slab (TiedNode N)) (first_line : List ℕ) (lent : Grounds D) (round : ℕ) (failmode : Failmode) (begun : List TreeState)
-    (ended : List Finished) where
+    (ended : List FinishedRequest) where
   abbrev Runs : Terms → (ℕ → ℕ) → Forest → Before → SoFar → Slab (TiedNode N) → List ℕ → Grounds D → List TreeState → Type 0
   Runs t sizes f before s slab line g states =
       RunsTrees {N = N} {D = D} nodes bytes image t sizes f before s slab line g round failmode states
 
-  abbrev Ran : Terms → (ℕ → ℕ) → Forest → Before → SoFar → Slab (TiedNode N) → List ℕ → Grounds D → List TreeState → List Finished
+  abbrev Ran : Terms → (ℕ → ℕ) → Forest → Before → SoFar → Slab (TiedNode N) → List ℕ → Grounds D → List TreeState → List FinishedRequest
       → Type 0
   Ran t sizes f before s slab line g states now =
       HasRun {N = N} {D = D} nodes bytes image t sizes f before s slab line g round failmode states ended now
 
   pub record IsRunningTrees (slab : Slab (TiedNode N)) (line : List ℕ) (g : Grounds D) (states : List TreeState)
-      (now : List Finished) : Type 0 where
+      (now : List FinishedRequest) : Type 0 where
     pub gone : (t : Terms) (sizes : ℕ → ℕ) (f : Forest) (before : Before) (s : SoFar)
         → Runs t sizes f before s first first_line lent begun → Ran t sizes f before s slab line g states now
     pub over_all : AreAll {N = N} (over g.desk.tops) slab
@@ -336,7 +336,7 @@ module _ {N D : Type 0} (nodes : Nodes N) (over : List Top → N → Type 0) (by
   }
 
   module _ (slab slab_mid slab_now : Slab (TiedNode N)) (line line_mid line_now : List ℕ) (g g_now : Grounds D) (states : List TreeState)
-      (now later : List Finished) (h : IsRunningTrees slab line g states now) where
+      (now later : List FinishedRequest) (h : IsRunningTrees slab line g states now) where
     pub trees_some : RunsSome {N = N} {D = D} nodes bytes image first first_line lent round failmode begun
         → GoesOnSome {N = N} {D = D} nodes bytes image slab line g
     trees_some some =
@@ -353,11 +353,11 @@ module _ {N D : Type 0} (nodes : Nodes N) (over : List Top → N → Type 0) (by
 
     -- ---- a tree hears
 
-    module _ (heard : Hearing) (to_tree : RunsToTree {N = N} {D = D} nodes bytes image slab line g now slab_mid line_mid g_now later
+    module _ {S : Type 0} (heard : Hearing S) (to_tree : RunsToTree {N = N} {D = D} nodes bytes image slab line g now slab_mid line_mid g_now later
         (Some heard)) where
       -- in one round
       pub record HearsNow (t : Terms) (sizes : ℕ → ℕ) (f : Forest) (before : Before) (mid : SoFar) : Type 0 where
-        pub finished : List Finished
+        pub finished : List FinishedRequest
         pub finished_are : later ≡ now ++ finished
         pub finished_so : AllByRecursion (EndsFinished t) finished
         pub ended_for : HasEndedFor {N = N} {D = D} nodes bytes image t sizes f before mid finished slab_mid line_mid g_now heard.tree
@@ -397,7 +397,7 @@ module _ {N D : Type 0} (nodes : Nodes N) (over : List Top → N → Type 0) (by
           let n = (hears_some some).5 in
           (n.under.course.attempt, n.under.state, omega (arith, n.under.few), n.hears.of)
 
-      module _ (attempt : ℕ) (state : slice_get states heard.tree ≡ Some (UnderWay attempt)) (pushed : List Finished)
+      module _ (attempt : ℕ) (state : slice_get states heard.tree ≡ Some (UnderWay attempt)) (pushed : List FinishedRequest)
           (is_pushed : pushed ≡ later ++ finished_in heard.outcome) where
         -- what the tree's hearing leaves of a round
         after_hearing : (end : Option TreeEnd)
@@ -423,7 +423,7 @@ module _ {N D : Type 0} (nodes : Nodes N) (over : List Top → N → Type 0) (by
             → Ran t sizes f before s slab_now line_now g_now states_now pushed
         ran_to t sizes f before s r n last same same_done states_now runs_now =
             let e = n.ended_for in
-            let new : List Finished = n.finished ++ finished_in heard.outcome in
+            let new : List FinishedRequest = n.finished ++ finished_in heard.outcome in
             let enrolled : last.books.done ≡ (r.now.books.done ++ e.gone.done) ++ e.more =
             same_done ∙ ap (λ (xs : List Ending). xs ++ e.more) e.gone.done_are in
             record {
@@ -433,9 +433,9 @@ module _ {N D : Type 0} (nodes : Nodes N) (over : List Top → N → Type 0) (by
               entries_are = same ∙ (n.ended_for.gone.entries_are ∙ (ap (λ (es : List Choice). es ++ n.ended_for.gone.more) r.entries_are
                   ∙ append_assoc s.entries r.more n.ended_for.gone.more));
               others = r.others ++ new;
-              ended_are = is_pushed ∙ (ap (λ (xs : List Finished). xs ++ finished_in heard.outcome) n.finished_are
+              ended_are = is_pushed ∙ (ap (λ (xs : List FinishedRequest). xs ++ finished_in heard.outcome) n.finished_are
                   ∙ (append_assoc now n.finished (finished_in heard.outcome)
-                  ∙ (ap (λ (xs : List Finished). xs ++ new) r.ended_are ∙ append_assoc ended r.others new)));
+                  ∙ (ap (λ (xs : List FinishedRequest). xs ++ new) r.ended_are ∙ append_assoc ended r.others new)));
               are = all_append (EndsFinished t) r.others new r.are
                   (all_append (EndsFinished t) n.finished (finished_in heard.outcome) n.finished_so
                   (root_finished t e.op heard.outcome e.value e.how));
@@ -537,7 +537,7 @@ module _ {N D : Type 0} (nodes : Nodes N) (over : List Top → N → Type 0) (by
           ledger = subst (λ (lives : List Live). IsLedger {N = N} nodes t f s.books s.entries s.tops s.trees lives slab_mid) none k.ledger;
         }
 
-    pub trees_end : RunsToTree {N = N} {D = D} nodes bytes image slab line g now slab_mid line_mid g_now later None
+    pub trees_end : RunsToTree {N = N} {D = D} {S = Unit {0}} nodes bytes image slab line g now slab_mid line_mid g_now later None
         → line_mid ≡ [] → keys_at g_now.queues.leaves.items ≡ []
         → RunsToEnd {N = N} {D = D} nodes bytes image first first_line lent begun ended slab_mid line_mid g_now states later round failmode
     trees_end to_tree no_keys none_waits = λ t sizes f before s runs.
@@ -559,7 +559,7 @@ module _ {N D : Type 0} (nodes : Nodes N) (over : List Top → N → Type 0) (by
             entries_are = a.3.gone.entries_are ∙ (ap (λ (es : List Choice). es ++ a.3.gone.more) r.entries_are
                 ∙ append_assoc s.entries r.more a.3.gone.more);
             others = r.others ++ a.0;
-            ended_are = a.1 ∙ (ap (λ (xs : List Finished). xs ++ a.0) r.ended_are ∙ append_assoc ended r.others a.0);
+            ended_are = a.1 ∙ (ap (λ (xs : List FinishedRequest). xs ++ a.0) r.ended_are ∙ append_assoc ended r.others a.0);
             are = all_append (EndsFinished t) r.others a.0 r.are a.2;
             done = r.done ++ a.3.gone.done;
             done_are = a.3.gone.done_are ∙ (ap (λ (xs : List Ending). xs ++ a.3.gone.done) r.done_are

@@ -9,12 +9,12 @@ use Rattle.zio_trace.specs.Families.{Forest, NoTrees, TreeOf}
 use Rattle.zio_trace.specs.Tasks.{Attempt, AttemptedBy, One, Settle, Task, Value, settled}
 use Rattle.zio_frames.specs.Frames.{Flying, Inner, Stack, asking, asking_in, fresh_stack}
 use Rattle.zio_frames.specs.Moves.{IsEnded}
-use Rattle.zio_stages.specs.Outcomes.{IsFinishedAs, IsLeftAs, IsOutcome}
-use Rattle.zio_stages.specs.Wholes.{IsTreeOf, IsWhole}
-use Rattle.zio_stages.specs.declared.outcome.Finished.{Finished}
-use Rattle.zio_stages.specs.declared.outcome.Outcome.TheVariants.{Again, Finished as HasFinished}
-use Rattle.zio_stages.specs.declared.waiting.UnfinishedRequest.{UnfinishedRequest}
-use Rattle.zio_stages.proofs.ForestLemmas.{one_forest}
+use Rattle.zio_exchange.specs.Outcomes.{IsFinishedAs, IsLeftAs, IsOutcome}
+use Rattle.zio_exchange.specs.Wholes.{IsTreeOf, IsWhole}
+use Rattle.zio_exchange.specs.declared.waiting.UnfinishedRequest.{UnfinishedRequest}
+use Rattle.zio_exchange.proofs.ForestLemmas.{one_forest}
+use Rattle.zio_exchange.specs.declared.outcome.FinishedRequest.{FinishedRequest}
+use Rattle.zio_exchange.specs.declared.outcome.Outcome.TheVariants.{Again, Finished as HasFinished}
 use Rattle.slab.specs.Slab.{Slab}
 use Rattle.zio_turns.specs.Attempting.{Course, IsSettle, again_with, attempt_of, settled_with}
 use Rattle.zio_turns.specs.Entries.{top_at}
@@ -82,8 +82,8 @@ module _ {N : Type 0} (nodes : Nodes N) (slab slab_now : Slab (TiedNode N)) (lin
             (top_slice s.tops tree top there) out.1 same (λ w. refl);
       }
 
-  pub tree_finishes : (finished : Finished)
-      → TreeGoesOn {N = N} nodes slab line slab line round failmode tree attempt (HasFinished finished) (Some RootFinished)
+  pub tree_finishes : {S : Type 0} (finished : FinishedRequest)
+      → TreeGoesOn {N = N} {S = S} nodes slab line slab line round failmode tree attempt (HasFinished finished) (Some RootFinished)
   tree_finishes finished = λ t sizes f before s leaves top c one sound same_round same_mode k there number few h.
       let is : one ≡ h.shows.1.0 = same_one one h.shows.1.0 h.shows.1.1 in
       let as_one : IsFinishedAs finished one = subst (IsFinishedAs finished) (sym is) h.shows.1.2 in
@@ -94,13 +94,13 @@ module _ {N : Type 0} (nodes : Nodes N) (slab slab_now : Slab (TiedNode N)) (lin
       }
 
   left_one : (t : Terms) (c : Course) (whole : List UnfinishedRequest) (bits : Bits) (pointer : Option Bp) (one : One)
-      → IsOutcome t (attempt_of c) (Again whole bits pointer) (AttemptedBy one) → IsLeftAs whole bits pointer one
+      → IsOutcome {S = Unit {0}} t (attempt_of c) (Again whole bits pointer) (AttemptedBy one) → IsLeftAs whole bits pointer one
   left_one t c whole bits pointer one shows =
       subst (IsLeftAs whole bits pointer) (sym (same_one one shows.1.0 shows.1.1)) shows.1.2
 
   -- it doesn't go again at once
-  pub tree_waits : (whole : List UnfinishedRequest) (bits : Bits) (pointer : Option Bp) → now_alone bits ≡ false
-      → TreeGoesOn {N = N} nodes slab line slab line round failmode tree attempt (Again whole bits pointer) (Some (Suspended whole))
+  pub tree_waits : {S : Type 0} (whole : List UnfinishedRequest) (bits : Bits) (pointer : Option Bp) → now_alone bits ≡ false
+      → TreeGoesOn {N = N} {S = S} nodes slab line slab line round failmode tree attempt (Again whole bits pointer) (Some (Suspended whole))
   tree_waits whole bits pointer alone = λ t sizes f before s leaves top c one sound same_round same_mode k there number few h.
       let left : IsLeftAs whole bits pointer one = left_one t c whole bits pointer one h.shows in
       record {
@@ -110,8 +110,8 @@ module _ {N : Type 0} (nodes : Nodes N) (slab slab_now : Slab (TiedNode N)) (lin
       }
 
   -- it went again as often as it may
-  pub tree_went : (whole : List UnfinishedRequest) (bits : Bits) (pointer : Option Bp) → 3 ≤ attempt
-      → TreeGoesOn {N = N} nodes slab line slab line round failmode tree attempt (Again whole bits pointer) (Some (Suspended whole))
+  pub tree_went : {S : Type 0} (whole : List UnfinishedRequest) (bits : Bits) (pointer : Option Bp) → 3 ≤ attempt
+      → TreeGoesOn {N = N} {S = S} nodes slab line slab line round failmode tree attempt (Again whole bits pointer) (Some (Suspended whole))
   tree_went whole bits pointer often = λ t sizes f before s leaves top c one sound same_round same_mode k there number few h.
       let left : IsLeftAs whole bits pointer one = left_one t c whole bits pointer one h.shows in
       let last : c.more ≡ 0 = omega (arith, often, number, few) in
@@ -122,9 +122,9 @@ module _ {N : Type 0} (nodes : Nodes N) (slab slab_now : Slab (TiedNode N)) (lin
       }
 
   -- its next attempt begins
-  pub tree_again : (whole : List UnfinishedRequest) (bits : Bits) (pointer : Option Bp) → now_alone bits ≡ true → attempt < 3 → IsWhole whole
+  pub tree_again : {S : Type 0} (whole : List UnfinishedRequest) (bits : Bits) (pointer : Option Bp) → now_alone bits ≡ true → attempt < 3 → IsWhole whole
       → BeginsOn {N = N} nodes slab line slab_now line_now round failmode tree (attempt + 1) whole
-      → TreeGoesOn {N = N} nodes slab line slab_now line_now round failmode tree attempt (Again whole bits pointer) None
+      → TreeGoesOn {N = N} {S = S} nodes slab line slab_now line_now round failmode tree attempt (Again whole bits pointer) None
   tree_again whole bits pointer alone seldom w begins =
       λ t sizes f before s leaves top c one sound same_round same_mode k there number few h.
       let left : IsLeftAs whole bits pointer one = left_one t c whole bits pointer one h.shows in

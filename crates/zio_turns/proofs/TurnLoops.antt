@@ -7,17 +7,17 @@ use Rattle.zio_trace.specs.Families.{Forest}
 use Rattle.zio_trace.specs.SoundRounds.{IsSoundRound}
 use Rattle.zio_vqueue.specs.declared.op.Op.{Op}
 use Rattle.zio_vqueue.specs.Queues.{FitsDevice, end_of}
-use Rattle.zio_stages.specs.SpaceCalls.{SpaceCall}
-use Rattle.zio_stages.specs.declared.outcome.Finished.{Finished}
-use Rattle.zio_stages.specs.declared.outcome.Outcome.{Outcome}
+use Rattle.zio_exchange.specs.SpaceCalls.{SpaceCall}
+use Rattle.zio_exchange.specs.declared.outcome.FinishedRequest.{FinishedRequest}
+use Rattle.zio_exchange.specs.declared.outcome.Outcome.{Outcome}
 use Rattle.slab.specs.Slab.{Slab}
 use Rattle.zio_turns.specs.Acts.{load_of}
 use Rattle.zio_turns.specs.AtLeaves.{IsPut, keys_at, put_as}
-use Rattle.zio_turns.specs.Desks.{AreServed, GivesLast}
+use Rattle.zio_turns.specs.Desks.{AreMade, GivesLast}
 use Rattle.zio_turns.specs.Entries.{times_in}
 use Rattle.zio_turns.specs.Grounds.{AreReady}
 use Rattle.zio_turns.specs.Parts.{Nodes}
-use Rattle.zio_turns.specs.Rounds.{Before, IsTurn, SoFar, StepsOn}
+use Rattle.zio_turns.specs.Rounds.{AsksRightly, Before, IsTurn, SoFar, StepsOn}
 use Rattle.zio_turns.specs.Slabs.{AreAll, load}
 use Rattle.zio_turns.specs.UnderTurns.{AreSameGrounds, GoesOnSome, HasTurned, IsGoingOn, TurnsOn, work_left}
 use Rattle.zio_turns.specs.declared.desk.Desk.{Desk}
@@ -73,8 +73,9 @@ module _ {N D : Type 0} (nodes : Nodes N) (over : List Top → N → Type 0) (by
     }
 
     module _ (slab_now : Slab (TiedNode N)) (line_now : List ℕ) (d : Desk) (calls : List SpaceCall)
-        (served : AreServed calls g.desk.space d.space g.desk.asked d.asked) (last : GivesLast calls) (tops_same : d.tops ≡ g.desk.tops) where
-      abbrev On : Step → Type 0
+        (served : AreMade calls g.desk.space d.space) (asks : AsksRightly {N = N} nodes g.desk.tops calls slab line key)
+        (last : GivesLast calls) (tops_same : d.tops ≡ g.desk.tops) where
+      abbrev On : {S : Type 0} → Step S → Type 0
       On step = StepsOn {N = N} nodes g.desk.tops calls slab line slab_now line_now key step
 
       abbrev With : Grounds D
@@ -90,57 +91,57 @@ module _ {N D : Type 0} (nodes : Nodes N) (over : List Top → N → Type 0) (by
       over_now : AreAll {N = N} (over g.desk.tops) slab_now → AreAll {N = N} (over d.tops) slab_now
       over_now all = subst (λ (tops : List Top). AreAll {N = N} (over tops) slab_now) (sym tops_same) all
 
-      pub turning_goes : On Goes → AreAll {N = N} (over g.desk.tops) slab_now
+      pub turning_goes : On {S = Unit {0}} Goes → AreAll {N = N} (over g.desk.tops) slab_now
           → load {N = N} nodes.left slab_now line_now + 1 < load {N = N} nodes.left slab line + 1 → IsTurning slab_now line_now With
       turning_goes steps all less = record {
         gone = λ t sizes f before s sound k. turn_goes nodes bytes image t sizes f before s slab slab_now line line_now key g d calls
-            sound (h.gone t sizes f before s sound k) served last tops_same steps;
+            sound (h.gone t sizes f before s sound k) served asks last tops_same steps;
         over_all = over_now all;
         same = same_now;
         leaves_same = h.leaves_same;
         less = omega (arith, less, h.less);
       }
 
-      pub turning_told : (tree : ℕ) → On (Told tree) → AreAll {N = N} (over g.desk.tops) slab_now
+      pub turning_told : (tree : ℕ) → On {S = Unit {0}} (Told tree) → AreAll {N = N} (over g.desk.tops) slab_now
           → load {N = N} nodes.left slab_now line_now + 1 < load {N = N} nodes.left slab line + 1 → IsTurning slab_now line_now With
       turning_told tree steps all less = record {
         gone = λ t sizes f before s sound k. turn_told nodes bytes image t sizes f before s slab slab_now line line_now key g d calls
-            sound (h.gone t sizes f before s sound k) served last tops_same tree steps;
+            sound (h.gone t sizes f before s sound k) served asks last tops_same tree steps;
         over_all = over_now all;
         same = same_now;
         leaves_same = h.leaves_same;
         less = omega (arith, less, h.less);
       }
 
-      pub turning_rests : On Rests
-          → TurnsOn {N = N} {D = D} nodes bytes image first first_line lent slab_now line_now With key Nothing
+      pub turning_rests : On {S = Unit {0}} Rests
+          → TurnsOn {N = N} {D = D} {S = Unit {0}} nodes bytes image first first_line lent slab_now line_now With key Nothing
       turning_rests steps = λ t sizes f before s sound k.
           turn_rests nodes bytes image t sizes f before s slab slab_now line line_now key g d calls sound
-          (h.gone t sizes f before s sound k) served last tops_same steps
+          (h.gone t sizes f before s sound k) served asks last tops_same steps
 
-      pub turning_ends : On (Ended None)
-          → TurnsOn {N = N} {D = D} nodes bytes image first first_line lent slab_now line_now With key Nothing
+      pub turning_ends : {S : Type 0} → On {S = S} (Ended None)
+          → TurnsOn {N = N} {D = D} {S = Unit {0}} nodes bytes image first first_line lent slab_now line_now With key Nothing
       turning_ends steps = λ t sizes f before s sound k.
           turn_ends nodes bytes image t sizes f before s slab slab_now line line_now key g d calls sound
-          (h.gone t sizes f before s sound k) served last tops_same None steps
+          (h.gone t sizes f before s sound k) served asks last tops_same None steps
 
-      pub turning_finishes : (finished : Finished) → On (Ended (Some finished))
-          → TurnsOn {N = N} {D = D} nodes bytes image first first_line lent slab_now line_now With key (HasEnded finished)
+      pub turning_finishes : {S : Type 0} (finished : FinishedRequest) → On {S = S} (Ended (Some finished))
+          → TurnsOn {N = N} {D = D} {S = Unit {0}} nodes bytes image first first_line lent slab_now line_now With key (HasEnded finished)
       turning_finishes finished steps = λ t sizes f before s sound k. (
         turn_finishes nodes bytes image t sizes f before s slab slab_now line line_now key g d calls sound
-            (h.gone t sizes f before s sound k) served last tops_same finished steps,
+            (h.gone t sizes f before s sound k) served asks last tops_same finished steps,
         turn_ends nodes bytes image t sizes f before s slab slab_now line line_now key g d calls sound
-            (h.gone t sizes f before s sound k) served last tops_same (Some finished) steps,
+            (h.gone t sizes f before s sound k) served asks last tops_same (Some finished) steps,
       )
 
-      pub turning_roots : (tree : ℕ) (outcome : Outcome) → On (Root tree outcome)
+      pub turning_roots : {S : Type 0} (tree : ℕ) (outcome : Outcome S) → On (Root tree outcome)
           → TurnsOn {N = N} {D = D} nodes bytes image first first_line lent slab_now line_now With key (ToRoot tree outcome)
       turning_roots tree outcome steps = λ t sizes f before s sound k.
           turn_roots nodes bytes image t sizes f before s slab slab_now line line_now key g d calls sound
-          (h.gone t sizes f before s sound k) served last tops_same tree outcome steps
+          (h.gone t sizes f before s sound k) served asks last tops_same tree outcome steps
 
       -- how much is left
-      pub turning_less : (step : Step) → load {N = N} nodes.left slab_now line_now + load_of step < load {N = N} nodes.left slab line + 1
+      pub turning_less : {S : Type 0} (step : Step S) → load {N = N} nodes.left slab_now line_now + load_of step < load {N = N} nodes.left slab line + 1
           → work_left {N = N} {D = D} nodes.left slab_now line_now With < work_left {N = N} {D = D} nodes.left first first_line lent + 1
       turning_less step less =
           let keys : length (keys_at g.queues.leaves.items) ≡ length (keys_at lent.queues.leaves.items) =
@@ -149,30 +150,30 @@ module _ {N D : Type 0} (nodes : Nodes N) (over : List Top → N → Type 0) (by
 
       -- ---- its operation goes to a leaf
 
-      module _ (op : Op) (leaf : ℕ) (stored : List ℕ) (steps : On (ToLeaf op leaf stored)) where
+      module _ (op : Op) (leaf : ℕ) (stored : List ℕ) (steps : On {S = Unit {0}} (ToLeaf op leaf stored)) where
         pub turning_takes : (leaf < length g.queues.leaves.items) × FitsDevice op
             × (end_of op ≤ slice_index_or (map bytes g.disks.items) leaf 0)
             × (times_in key (keys_at g.queues.leaves.items) ≡ 0)
         turning_takes =
             let takes : TakesIt {N = N} {D = D} nodes bytes image some.terms some.sizes some.forest some.before some.so_far slab slab_now
-            line line_now key g d calls some.sound so_far served last tops_same op leaf =
+            line line_now key g d calls some.sound so_far served asks last tops_same op leaf =
             leaf_takes nodes bytes image some.terms some.sizes some.forest some.before some.so_far slab slab_now line line_now key g d
-            calls some.sound so_far served last tops_same op leaf stored steps in (
+            calls some.sound so_far served asks last tops_same op leaf stored steps in (
               takes.there,
               takes.fits,
               takes.ends,
               none_waits nodes bytes image some.terms some.sizes some.forest some.before some.so_far slab slab_now line line_now key g d
-                  calls some.sound so_far served last tops_same,
+                  calls some.sound so_far served asks last tops_same,
             )
 
         module _ (now : Grounds D) (put : IsPut leaf (put_as key op stored) g.queues.leaves.items now.queues.leaves.items)
             (ready : AreReady g.setting.rows (map bytes g.disks.items) g.queues.leaves.items
             → AreReady now.setting.rows (map bytes now.disks.items) now.queues.leaves.items)
             (setting : now.setting ≡ g.setting) (disks : now.disks.items ≡ g.disks.items) (desk : now.desk ≡ d) where
-          pub turning_leaves : TurnsOn {N = N} {D = D} nodes bytes image first first_line lent slab_now line_now now key Nothing
+          pub turning_leaves : TurnsOn {N = N} {D = D} {S = Unit {0}} nodes bytes image first first_line lent slab_now line_now now key Nothing
           turning_leaves = λ t sizes f before s sound k.
               turn_leaves nodes bytes image t sizes f before s slab slab_now line line_now key g d calls sound
-              (h.gone t sizes f before s sound k) served last tops_same op leaf stored steps now put ready setting disks desk
+              (h.gone t sizes f before s sound k) served asks last tops_same op leaf stored steps now put ready setting disks desk
 
           pub turning_leaves_less : load {N = N} nodes.left slab_now line_now + 2 < load {N = N} nodes.left slab line + 1
               → work_left {N = N} {D = D} nodes.left slab_now line_now now

@@ -14,6 +14,7 @@ use Rattle.zio_trace.specs.Keys.{bit}
 use Rattle.zio_trace.specs.Labels.{same_number}
 use Rattle.zio_trace.specs.Leaves.{Fetch, LeafOp, Store, spot_of}
 use Rattle.zio_trace.specs.SoundRounds.{IsSoundRound}
+use Rattle.zio_trace.specs.Tasks.{Task, Value}
 use Rattle.zio_frames.specs.Frames.{Flying}
 use Rattle.zio_trace.proofs.LabelLemmas.{number_itself}
 use Rattle.zio_frames.specs.Moves.{heard_early}
@@ -23,20 +24,20 @@ use Rattle.zio_vqueue.specs.Queues.{FitsDevice, end_of}
 use Rattle.zio_cksum.proofs.AllLemmas.{all_append}
 use Rattle.zio_groups.specs.declared.waiting.QueuedOp.{QueuedOp}
 use Rattle.zio_groups.specs.LeafQueues.{Waits}
-use Rattle.zio_stages.specs.LeafWorks.{IsOpFor}
-use Rattle.zio_stages.specs.SpaceCalls.{SpaceCall}
-use Rattle.zio_stages.specs.declared.outcome.Finished.{Finished}
-use Rattle.zio_stages.specs.declared.outcome.Outcome.{Outcome}
-use Rattle.zio_stages.specs.declared.outcome.Outcome.TheVariants.{Finished as HasFinished}
+use Rattle.zio_exchange.specs.LeafOps.{IsOpFor}
+use Rattle.zio_exchange.specs.SpaceCalls.{SpaceCall}
+use Rattle.zio_exchange.specs.declared.outcome.FinishedRequest.{FinishedRequest}
+use Rattle.zio_exchange.specs.declared.outcome.Outcome.{Outcome}
+use Rattle.zio_exchange.specs.declared.outcome.Outcome.TheVariants.{Finished as HasFinished}
 use Rattle.slab.specs.Slab.{Slab, get}
 use Rattle.zio_turns.specs.Acts.{IsHandedOn}
 use Rattle.zio_turns.specs.AtLeaves.{AllWait, IsPut, WaitsFor, key_of, keys_at, keys_in, put_as, waiting_at}
-use Rattle.zio_turns.specs.Desks.{AreServed, IsDeskAt, choices_in, GivesLast}
+use Rattle.zio_turns.specs.Desks.{AreMade, IsDeskAt, choices_in, GivesLast}
 use Rattle.zio_turns.specs.Entries.{times_in}
 use Rattle.zio_turns.specs.Grounds.{AreReady}
 use Rattle.zio_turns.specs.Ledgers.{AreToldAs, Ending, found_so_far}
 use Rattle.zio_turns.specs.Parts.{Nodes}
-use Rattle.zio_turns.specs.Rounds.{AfterStep, Before, EndsAs, SoFar, StepsOn, finished_in, op_set, with_calls, with_done, with_op, with_tree}
+use Rattle.zio_turns.specs.Rounds.{AfterStep, AsksRightly, Before, EndsAs, SoFar, StepsOn, finished_in, op_set, with_calls, with_done, with_op, with_tree}
 use Rattle.zio_turns.specs.Slabs.{held_of, shelf_of}
 use Rattle.zio_turns.specs.UnderTurns.{AreLent, AreTold, EndsFinished, FitDisks, HasEndedFor, HasGoneOn, HasTurned, IsTelling, Telling, TellNow, with_telling}
 use Rattle.zio_turns.specs.declared.desk.Desk.{Desk}
@@ -68,7 +69,7 @@ told_both (x ∷ xs) ys a b c h k = (h.0, told_both xs ys (with_telling x a) b c
 
 -- ---- so far
 
-pub told_append : (xs ys : List Finished) (a b : List Ending) → AreToldAs xs a → AreToldAs ys b → AreToldAs (xs ++ ys) (a ++ b)
+pub told_append : (xs ys : List FinishedRequest) (a b : List Ending) → AreToldAs xs a → AreToldAs ys b → AreToldAs (xs ++ ys) (a ++ b)
 told_append [] ys [] b h k = k
 told_append [] ys (x ∷ a) b h k = absurd h
 told_append (f ∷ xs) ys [] b h k = absurd h
@@ -86,7 +87,7 @@ gone_nowhere s = record {
   done_told = tt;
 }
 
-pub gone_calls : (s now : SoFar) (finished : List Finished) (calls : List SpaceCall) → HasGoneOn s now finished
+pub gone_calls : (s now : SoFar) (finished : List FinishedRequest) (calls : List SpaceCall) → HasGoneOn s now finished
     → HasGoneOn s (with_calls now calls) finished
 gone_calls s now finished calls h = record {
   tellings = h.tellings;
@@ -99,7 +100,7 @@ gone_calls s now finished calls h = record {
   done_told = h.done_told;
 }
 
-pub gone_telling : (s now : SoFar) (finished : List Finished) (x : Telling) → IsTelling x now.tops → HasGoneOn s now finished
+pub gone_telling : (s now : SoFar) (finished : List FinishedRequest) (x : Telling) → IsTelling x now.tops → HasGoneOn s now finished
     → HasGoneOn s (record {
       trees = now.trees;
       tops = with_telling x now.tops;
@@ -119,7 +120,7 @@ gone_telling s now finished x is h = record {
   done_told = h.done_told;
 }
 
-pub gone_then : (a b c : SoFar) (xs ys : List Finished) → HasGoneOn a b xs → HasGoneOn b c ys → HasGoneOn a c (xs ++ ys)
+pub gone_then : (a b c : SoFar) (xs ys : List FinishedRequest) → HasGoneOn a b xs → HasGoneOn b c ys → HasGoneOn a c (xs ++ ys)
 gone_then a b c xs ys h k = record {
   tellings = h.tellings ++ k.tellings;
   told = told_both h.tellings k.tellings a.tops b.tops c.tops h.told k.told;
@@ -131,7 +132,7 @@ gone_then a b c xs ys h k = record {
   done_told = told_append xs ys h.done k.done h.done_told k.done_told;
 }
 
-pub gone_op : (s now : SoFar) (finished : List Finished) (key : ℕ) (act : LeafOp) → HasGoneOn s now finished
+pub gone_op : (s now : SoFar) (finished : List FinishedRequest) (key : ℕ) (act : LeafOp) → HasGoneOn s now finished
     → HasGoneOn s (with_op now key act) finished
 gone_op s now finished key act h = record {
   tellings = h.tellings;
@@ -145,7 +146,7 @@ gone_op s now finished key act h = record {
 }
 
 -- these requests finished
-gone_done : (s now : SoFar) (xs ys : List Finished) (more : List Ending) → AreToldAs ys more → HasGoneOn s now xs
+gone_done : (s now : SoFar) (xs ys : List FinishedRequest) (more : List Ending) → AreToldAs ys more → HasGoneOn s now xs
     → HasGoneOn s (with_done now more) (xs ++ ys)
 gone_done s now xs ys more told h = record {
   tellings = h.tellings;
@@ -210,7 +211,7 @@ module _ {D : Type 0} (bytes : D → ℕ) (image : D → List ℕ → Type 0) (t
 
   -- only the space changed
   pub lent_desk : (more : List Choice) (claims backs : List Place) (d : Desk) → Lent entries claimed back ops g
-      → IsDeskAt t more claims backs d.tops d.space d.asked → Lent more claims backs ops (record g { desk = d })
+      → IsDeskAt t more claims backs d.tops d.space → Lent more claims backs ops (record g { desk = d })
   lent_desk more claims backs d h desk = record {
     setting_is = h.setting_is;
     desk = desk;
@@ -230,7 +231,7 @@ module _ {D : Type 0} (bytes : D → ℕ) (image : D → List ℕ → Type 0) (t
       → now.disks.items ≡ g.disks.items → now.desk ≡ g.desk → Lent entries claimed back (op_set ops key act) now
   lent_put now key leaf act w h put own none waits ready setting disks desk = record {
     setting_is = h.setting_is ∙ sym setting;
-    desk = subst (λ (d : Desk). IsDeskAt t entries claimed back d.tops d.space d.asked) (sym desk) h.desk;
+    desk = subst (λ (d : Desk). IsDeskAt t entries claimed back d.tops d.space) (sym desk) h.desk;
     waits = waits_put key leaf act ops w g.queues.leaves.items now.queues.leaves.items put own none waits h.waits;
     ready = ready;
     fit = subst (λ (ds : List D). FitDisks sizes (map bytes ds)) (sym disks) h.fit;
@@ -241,13 +242,30 @@ module _ {D : Type 0} (bytes : D → ℕ) (image : D → List ℕ → Type 0) (t
 
 -- ---- a request that finished
 
-handed_finished : (outcome : Outcome) (finished : Finished) → IsHandedOn outcome (Some finished) → outcome ≡ HasFinished finished
-handed_finished (HasFinished f) finished h = ap (λ (x : Finished). HasFinished x) (sym (some_is finished f h))
+handed_finished : {S : Type 0} (outcome : Outcome S) (finished : FinishedRequest) → IsHandedOn outcome (Some finished) → outcome ≡ HasFinished finished
+handed_finished {S} (HasFinished f) finished h = ap (λ (x : FinishedRequest). let o : Outcome S = HasFinished x in o) (sym (some_is finished f h))
 handed_finished _ finished h = absurd (cc)
 
-handed_in : (outcome : Outcome) (finished : Option Finished) → IsHandedOn outcome finished → finished_in outcome ≡ option_to_list finished
-handed_in (HasFinished f) finished h = sym (ap (λ (o : Option Finished). option_to_list o) h)
-handed_in _ finished h = sym (ap (λ (o : Option Finished). option_to_list o) h)
+-- whichever seal it is under
+pub ends_finished : {S : Type 0} (t : Terms) (op : Task) (finished : FinishedRequest) (v : Value) → EndsAs {S = S} t op (HasFinished finished) v
+    → EndsFinished t finished
+ends_finished t op finished v how = record {
+  op = op;
+  value = v;
+  how = record {
+    stack = how.stack;
+    does = how.does;
+    ends = how.ends;
+    shows = how.shows;
+    ended = how.ended;
+    requests = how.requests;
+    requests_are = how.requests_are;
+  };
+}
+
+handed_in : {S : Type 0} (outcome : Outcome S) (finished : Option FinishedRequest) → IsHandedOn outcome finished → finished_in outcome ≡ option_to_list finished
+handed_in (HasFinished f) finished h = sym (ap (λ (o : Option FinishedRequest). option_to_list o) h)
+handed_in _ finished h = sym (ap (λ (o : Option FinishedRequest). option_to_list o) h)
 
 -- ---- its leaf
 
@@ -268,7 +286,7 @@ module _ {N D : Type 0} (nodes : Nodes N) (bytes : D → ℕ) (image : D → Lis
     (before : Before) (was : SoFar) (slab slab_now : Slab (TiedNode N)) (line line_now : List ℕ) (key : ℕ) (g : Grounds D) (d : Desk)
     (calls : List SpaceCall) (sound : IsSoundRound t sizes f)
     (h : HasTurned {N = N} {D = D} nodes bytes image t sizes f before was [] slab (key ∷ line) g)
-    (served : AreServed calls g.desk.space d.space g.desk.asked d.asked) (last : GivesLast calls) (tops_same : d.tops ≡ g.desk.tops) where
+    (served : AreMade calls g.desk.space d.space) (asks : AsksRightly {N = N} nodes g.desk.tops calls slab line key) (last : GivesLast calls) (tops_same : d.tops ≡ g.desk.tops) where
   abbrev Now : SoFar
   Now = with_calls h.now calls
 
@@ -278,37 +296,37 @@ module _ {N D : Type 0} (nodes : Nodes N) (bytes : D → ℕ) (image : D → Lis
   abbrev Turned : Slab (TiedNode N) → List ℕ → Grounds D → Type 0
   Turned slab_then line_then g_then = HasTurned {N = N} {D = D} nodes bytes image t sizes f before was [] slab_then line_then g_then
 
-  serves : ServesOn t h.now.entries h.now.books.claimed h.now.books.back g.desk.tops d.space calls d.asked
+  serves : ServesOn t h.now.entries h.now.books.claimed h.now.books.back g.desk.tops d.space calls
   serves =
-      desk_serves t h.now.entries h.now.books.claimed h.now.books.back g.desk.tops g.desk.space d.space calls g.desk.asked d.asked
-      h.going.lent.desk served last
+      desk_serves t h.now.entries h.now.books.claimed h.now.books.back g.desk.tops g.desk.space d.space calls h.going.lent.desk served
+      (asks t sizes f before h.now (keys_at g.queues.leaves.items) sound (sym h.going.lent.desk.desk.tops_are) h.going.keeps) last
 
   lent : AllByRecursion (Contains (t.used ++ found_so_far Now.entries Now.books.claimed)) Now.books.back
       → AreLent {D = D} bytes image t sizes before Now.entries Now.books.claimed Now.books.back Now.images Now.ops With
   lent backs = lent_desk bytes image t sizes before h.now.entries h.now.books.claimed h.now.books.back h.now.images h.now.ops g Now.entries
       Now.books.claimed Now.books.back d h.going.lent
-      (subst (λ (ts : List Top). IsDeskAt t Now.entries Now.books.claimed Now.books.back ts d.space d.asked) (sym tops_same)
+      (subst (λ (ts : List Top). IsDeskAt t Now.entries Now.books.claimed Now.books.back ts d.space) (sym tops_same)
       (serves.desk backs))
 
   gone : HasGoneOn was Now []
   gone = gone_calls was h.now [] calls h.gone
 
-  after_it : (step : Step) → StepsOn {N = N} nodes g.desk.tops calls slab line slab_now line_now key step
+  after_it : {S : Type 0} (step : Step S) → StepsOn {N = N} nodes g.desk.tops calls slab line slab_now line_now key step
       → AfterStep {N = N} nodes t sizes f before Now slab_now line_now (keys_at g.queues.leaves.items) key step
   after_it step steps =
       steps t sizes f before h.now (keys_at g.queues.leaves.items) sound (sym h.going.lent.desk.desk.tops_are) serves.right
       h.going.keeps
 
-  pub turn_goes : StepsOn {N = N} nodes g.desk.tops calls slab line slab_now line_now key Goes
+  pub turn_goes : StepsOn {N = N} {S = Unit {0}} nodes g.desk.tops calls slab line slab_now line_now key Goes
       → Turned slab_now (key ∷ line_now) With
   turn_goes steps =
-      let keeps = after_it Goes steps in
+      let keeps = after_it {S = Unit {0}} Goes steps in
       record { now = Now; gone = gone; going = record { keeps = keeps; lent = lent keeps.ledger.backs } }
 
-  pub turn_told : (tree : ℕ) → StepsOn {N = N} nodes g.desk.tops calls slab line slab_now line_now key (Told tree)
+  pub turn_told : (tree : ℕ) → StepsOn {N = N} {S = Unit {0}} nodes g.desk.tops calls slab line slab_now line_now key (Told tree)
       → Turned slab_now (key ∷ line_now) With
   turn_told tree steps =
-      let told = after_it (Told tree) steps in
+      let told = after_it {S = Unit {0}} (Told tree) steps in
       let x : Telling = record { tree = tree; top = told.top; number = told.number; child = told.child; pointer = told.pointer } in
       record {
         now = with_tree Now tree (record {
@@ -320,35 +338,31 @@ module _ {N D : Type 0} (nodes : Nodes N) (bytes : D → ℕ) (image : D → Lis
         going = record { keeps = told.keeps; lent = lent told.keeps.ledger.backs };
       }
 
-  pub turn_rests : StepsOn {N = N} nodes g.desk.tops calls slab line slab_now line_now key Rests → Turned slab_now line_now With
+  pub turn_rests : StepsOn {N = N} {S = Unit {0}} nodes g.desk.tops calls slab line slab_now line_now key Rests → Turned slab_now line_now With
   turn_rests steps =
-      let keeps = after_it Rests steps in
+      let keeps = after_it {S = Unit {0}} Rests steps in
       record { now = Now; gone = gone; going = record { keeps = keeps; lent = lent keeps.ledger.backs } }
 
-  pub turn_ends : (finished : Option Finished)
-      → StepsOn {N = N} nodes g.desk.tops calls slab line slab_now line_now key (Ended finished)
+  pub turn_ends : {S : Type 0} (finished : Option FinishedRequest)
+      → StepsOn {N = N} {S = S} nodes g.desk.tops calls slab line slab_now line_now key (Ended finished)
       → HasTurned {N = N} {D = D} nodes bytes image t sizes f before was (option_to_list finished) slab_now line_now With
-  turn_ends finished steps =
-      let ends = after_it (Ended finished) steps in
+  turn_ends {S} finished steps =
+      let ends = after_it {S = S} (Ended finished) steps in
       record {
         now = with_done Now ends.more;
         gone = gone_done was Now [] (option_to_list finished) ends.more
-            (subst (λ (fs : List Finished). AreToldAs fs ends.more) (handed_in ends.outcome finished ends.handed) ends.told) gone;
+            (subst (λ (fs : List FinishedRequest). AreToldAs fs ends.more) (handed_in ends.outcome finished ends.handed) ends.told) gone;
         going = record { keeps = ends.keeps; lent = lent ends.keeps.ledger.backs };
       }
 
-  pub turn_finishes : (finished : Finished)
-      → StepsOn {N = N} nodes g.desk.tops calls slab line slab_now line_now key (Ended (Some finished)) → EndsFinished t finished
-  turn_finishes finished steps =
-      let ends = after_it (Ended (Some finished)) steps in
+  pub turn_finishes : {S : Type 0} (finished : FinishedRequest)
+      → StepsOn {N = N} {S = S} nodes g.desk.tops calls slab line slab_now line_now key (Ended (Some finished)) → EndsFinished t finished
+  turn_finishes {S} finished steps =
+      let ends = after_it {S = S} (Ended (Some finished)) steps in
       let is : ends.outcome ≡ HasFinished finished = handed_finished ends.outcome finished ends.handed in
-      record {
-        op = ends.op;
-        value = ends.value;
-        how = subst (λ (o : Outcome). EndsAs t ends.op o ends.value) is ends.how;
-      }
+      ends_finished t ends.op finished ends.value (subst (λ (o : Outcome S). EndsAs t ends.op o ends.value) is ends.how)
 
-  pub turn_roots : (tree : ℕ) (outcome : Outcome)
+  pub turn_roots : {S : Type 0} (tree : ℕ) (outcome : Outcome S)
       → StepsOn {N = N} nodes g.desk.tops calls slab line slab_now line_now key (Root tree outcome)
       → HasEndedFor {N = N} {D = D} nodes bytes image t sizes f before was [] slab_now line_now With tree outcome
   turn_roots tree outcome steps =
@@ -392,9 +406,9 @@ module _ {N D : Type 0} (nodes : Nodes N) (bytes : D → ℕ) (image : D → Lis
     pub ends : end_of op ≤ slice_index_or (map bytes g.disks.items) leaf 0
 
   pub leaf_takes : (op : Op) (leaf : ℕ) (stored : List ℕ)
-      → StepsOn {N = N} nodes g.desk.tops calls slab line slab_now line_now key (ToLeaf op leaf stored) → TakesIt op leaf
+      → StepsOn {N = N} {S = Unit {0}} nodes g.desk.tops calls slab line slab_now line_now key (ToLeaf op leaf stored) → TakesIt op leaf
   leaf_takes op leaf stored steps =
-      let out = after_it (ToLeaf op leaf stored) steps in
+      let out = after_it {S = Unit {0}} (ToLeaf op leaf stored) steps in
       let fit = h.going.lent.fit leaf in
       let span : 0 < (spot_of out.0).span = out.2.spans in
       let at : sizes leaf ≡ sizes (spot_of out.0).leaf = ap sizes (leaf_is out.0 op leaf stored out.1) in
@@ -406,13 +420,13 @@ module _ {N D : Type 0} (nodes : Nodes N) (bytes : D → ℕ) (image : D → Lis
       }
 
   pub turn_leaves : (op : Op) (leaf : ℕ) (stored : List ℕ)
-      → StepsOn {N = N} nodes g.desk.tops calls slab line slab_now line_now key (ToLeaf op leaf stored)
+      → StepsOn {N = N} {S = Unit {0}} nodes g.desk.tops calls slab line slab_now line_now key (ToLeaf op leaf stored)
       → (now : Grounds D) → IsPut leaf (put_as key op stored) g.queues.leaves.items now.queues.leaves.items
       → (AreReady g.setting.rows (map bytes g.disks.items) g.queues.leaves.items
       → AreReady now.setting.rows (map bytes now.disks.items) now.queues.leaves.items) → now.setting ≡ g.setting
       → now.disks.items ≡ g.disks.items → now.desk ≡ d → Turned slab_now line_now now
   turn_leaves op leaf stored steps now put ready setting disks desk =
-      let out = after_it (ToLeaf op leaf stored) steps in
+      let out = after_it {S = Unit {0}} (ToLeaf op leaf stored) steps in
       let keeps = out.2.keeps (keys_at now.queues.leaves.items) put.keys in
       record {
         now = with_op Now key out.0;

@@ -18,8 +18,8 @@ use Rattle.zio_frames.specs.Moves.{AsksNext}
 use Rattle.zio_frames.specs.OfRound.{AreAsked}
 use Rattle.zio_frames.specs.Slots.{Heard, IsOut, Slot, left_behind_slots, told_in}
 use Rattle.zio_frames.proofs.KnownLemmas.{AlwaysEnds, ends_then}
-use Rattle.zio_stages.specs.Outcomes.{places_by}
-use Rattle.zio_stages.specs.OwnParts.{IsDoneWithin}
+use Rattle.zio_exchange.specs.Outcomes.{places_by}
+use Rattle.zio_exchange.specs.WithinParts.{IsDoneWithin}
 use Rattle.zio_turns.specs.Parts.{ended_by}
 use Rattle.zio_turns.proofs.Links.{some_is}
 

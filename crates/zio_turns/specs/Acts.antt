@@ -13,10 +13,10 @@ use Rattle.zio_gang.specs.Attempts.{Terms}
 use Rattle.zio_trace.specs.Tasks.{Task, Value}
 use Rattle.zio_frames.specs.Frames.{Child, Stack}
 use Rattle.zio_frames.specs.Moves.{heard_early, heard_of}
-use Rattle.zio_stages.specs.declared.outcome.Finished.{Finished}
-use Rattle.zio_stages.specs.declared.outcome.Outcome.{Outcome}
-use Rattle.zio_stages.specs.declared.outcome.Outcome.TheVariants.{Finished as HasFinished}
-use Rattle.zio_stages.specs.declared.waiting.UnfinishedRequest.{UnfinishedRequest}
+use Rattle.zio_exchange.specs.declared.waiting.UnfinishedRequest.{UnfinishedRequest}
+use Rattle.zio_exchange.specs.declared.outcome.FinishedRequest.{FinishedRequest}
+use Rattle.zio_exchange.specs.declared.outcome.Outcome.{Outcome}
+use Rattle.zio_exchange.specs.declared.outcome.Outcome.TheVariants.{Finished as HasFinished}
 use Rattle.slab.specs.Slab.{Slab, Updates, get}
 use Rattle.zio_turns.specs.Parts.{Nodes}
 use Rattle.zio_turns.specs.Stages.{Hears, HearsEarly, HearsSome, HearsSomeEarly, OutcomeIn, heard_max}
@@ -72,8 +72,8 @@ pub record AwaitsReady {N : Type 0} (nodes : Nodes N) (slab : Slab (TiedNode N))
   pub hears : HearsSomeEarly {N = N} nodes entry.node child
   pub owed : 0 < counted kind Ready entry.ties.counts
 
-pub record AwaitsEnd {N : Type 0} (nodes : Nodes N) (over : List Top → N → Type 0) (tops : List Top) (slab : Slab (TiedNode N))
-    (kind : ChildKind) (key child : ℕ) (outcome : Outcome) : Type 0 where
+pub record AwaitsEnd {N S : Type 0} (nodes : Nodes N) (over : List Top → N → Type 0) (tops : List Top) (slab : Slab (TiedNode N))
+    (kind : ChildKind) (key child : ℕ) (outcome : Outcome S) : Type 0 where
   pub entry : TiedNode N
   pub there : get slab key ≡ Some entry
   pub inside : over tops entry.node
@@ -84,7 +84,7 @@ abbrev pub CanTell : {N : Type 0} → Nodes N → Slab (TiedNode N) → ChildKin
 CanTell nodes slab kind (Tree tree child) = Unit {0}
 CanTell {N = N} nodes slab kind (Node key child) = AwaitsReady {N = N} nodes slab kind key child
 
-abbrev pub CanEnd : {N : Type 0} → Nodes N → (List Top → N → Type 0) → List Top → Slab (TiedNode N) → ChildKind → Above → Outcome → Type 0
+abbrev pub CanEnd : {N S : Type 0} → Nodes N → (List Top → N → Type 0) → List Top → Slab (TiedNode N) → ChildKind → Above → Outcome S → Type 0
 CanEnd nodes over tops slab kind (Tree tree child) outcome = Unit {0}
 CanEnd {N = N} nodes over tops slab kind (Node key child) outcome = AwaitsEnd {N = N} nodes over tops slab kind key child outcome
 
@@ -119,9 +119,9 @@ pub record NodeTold {N : Type 0} (nodes : Nodes N) (over : List Top → N → Ty
   pub over_still : (tops : List Top) → over tops was.node → over tops up
 
 -- its parent heard with what it ended
-pub record NodeHeard {N : Type 0} (nodes : Nodes N) (over : List Top → N → Type 0) (tops : List Top) (slab : Slab (TiedNode N))
+pub record NodeHeard {N S : Type 0} (nodes : Nodes N) (over : List Top → N → Type 0) (tops : List Top) (slab : Slab (TiedNode N))
     (line : List ℕ) (slab_now : Slab (TiedNode N)) (line_now : List ℕ) (kind : ChildKind) (key child : ℕ)
-    (outcome : Outcome) : Type 0 where
+    (outcome : Outcome S) : Type 0 where
   pub was : TiedNode N
   pub up : N
   pub error : Option Errno
@@ -142,12 +142,12 @@ HasTold {N = N} nodes over slab line slab_now line_now kind (Tree tree child) po
 HasTold {N = N} nodes over slab line slab_now line_now kind (Node key child) pointer =
     NodeTold {N = N} nodes over slab line slab_now line_now kind key child pointer
 
-abbrev pub step_told : Above → Step
+abbrev pub step_told : {S : Type 0} → Above → Step S
 step_told (Tree tree child) = Told tree
 step_told (Node key child) = Goes
 
 -- a key counts once more while its turn goes on, and twice more at a leaf
-abbrev pub load_of : Step → ℕ
+abbrev pub load_of : {S : Type 0} → Step S → ℕ
 load_of Goes = 1
 load_of (Told tree) = 1
 load_of Rests = 0
@@ -156,19 +156,19 @@ load_of (Ended finished) = 0
 load_of (Root tree outcome) = 0
 
 -- of a tree that goes again, of which a tree of the round hears
-abbrev pub StepIn : (List UnfinishedRequest → Type 0) → Step → Type 0
+abbrev pub StepIn : {S : Type 0} → (List UnfinishedRequest → Type 0) → Step S → Type 0
 StepIn Q (Root tree outcome) = OutcomeIn Q outcome
 StepIn Q _ = Unit {0}
 
 -- a request that finished is handed on, and nothing else
-abbrev pub IsHandedOn : Outcome → Option Finished → Type 0
+abbrev pub IsHandedOn : {S : Type 0} → Outcome S → Option FinishedRequest → Type 0
 IsHandedOn (HasFinished f) finished = finished ≡ Some f
 IsHandedOn _ finished = finished ≡ None
 
-abbrev pub HasEnded : {N : Type 0} → Nodes N → (List Top → N → Type 0) → List Top → Slab (TiedNode N) → List ℕ → Slab (TiedNode N) → List ℕ
-    → ChildKind → Above → Outcome → Step → Type 0
+abbrev pub HasEnded : {N S : Type 0} → Nodes N → (List Top → N → Type 0) → List Top → Slab (TiedNode N) → List ℕ → Slab (TiedNode N) → List ℕ
+    → ChildKind → Above → Outcome S → Step S → Type 0
 HasEnded {N = N} nodes over tops slab line slab_now line_now kind (Tree tree child) outcome step =
     IsSame {N = N} slab line slab_now line_now × (step ≡ Root tree outcome)
 HasEnded {N = N} nodes over tops slab line slab_now line_now kind (Node key child) outcome step =
     NodeHeard {N = N} nodes over tops slab line slab_now line_now kind key child outcome
-    × ((finished : Option Finished) × (step ≡ Ended finished) × IsHandedOn outcome finished)
+    × ((finished : Option FinishedRequest) × (step ≡ Ended finished) × IsHandedOn outcome finished)

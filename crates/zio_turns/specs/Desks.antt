@@ -1,5 +1,5 @@
 -- What calls make of a space, one after another, and what a space holds in a round.
-use Rattle.std.specs.Prelude.{◌≡◌, ℕ, ◌+◌, ◌≤◌, List, [], ◌∷◌, ◌++◌, true, cond, IsPermutation}
+use Rattle.std.specs.Prelude.{◌≡◌, ℕ, ◌+◌, ◌≤◌, List, [], ◌∷◌, ◌++◌, true, cond, ◌⊎◌, IsPermutation}
 use Rattle.std.specs.List.{AllByRecursion, flat_map, list_any}
 use Rattle.zio_types.specs.declared.place.Place.{Place}
 use Rattle.zio_types.specs.declared.place.Top.{Top}
@@ -10,9 +10,7 @@ use Rattle.zio_places.specs.Spaces.{SpaceState, used}
 use Rattle.zio_gang.specs.Attempts.{Terms}
 use Rattle.zio_gang.specs.Journals.{AreLawful}
 use Rattle.zio_gang.specs.Trees.{sizes_of}
-use Rattle.zio_stages.specs.SpaceCalls.{Claimed, GaveBack, LieOnTops, Placed, SpaceCall, calls_back}
-use Rattle.zio_turns.specs.declared.desk.Asked.{Asked}
-use Rattle.zio_turns.specs.declared.desk.Asked.TheVariants.{Blocks, Claim, Nothing}
+use Rattle.zio_exchange.specs.SpaceCalls.{Claimed, GaveBack, LieOnTops, Placed, SpaceCall, calls_back}
 
 -- ---- one call
 
@@ -159,50 +157,18 @@ pub data MayAsk (entries : List Choice) (claimed : List Place) (calls : List Spa
   Claims : entries ≡ [] → claimed ≡ [] → choices_in calls ≡ [] → claims_asked calls ≤ 1 → MayAsk entries claimed calls
   Backs : choices_in calls ≡ [] → claims_asked calls ≡ 0 → MayAsk entries claimed calls
 
--- ---- what was asked of it in the round
-
--- a claim is for a space of which nothing was asked, and behind one that took places nothing is asked
-abbrev pub MayCall : SpaceCall → Asked → Type 0
-MayCall (Placed c) Nothing = Unit {0}
-MayCall (Placed c) Blocks = Unit {0}
-MayCall (Placed c) Claim = ⊥
-MayCall (GaveBack place) asked = Unit {0}
-MayCall (Claimed places free) Nothing = Unit {0}
-MayCall (Claimed places free) Blocks = ⊥
-MayCall (Claimed places free) Claim = ⊥
-
-abbrev pub asked_after : SpaceCall → Asked → Asked
-asked_after (Placed c) asked = Blocks
-asked_after (GaveBack place) asked = asked
-asked_after (Claimed places free) asked = cond free Claim asked
-
--- each may be made after those before it
-abbrev pub AreAllowed : Asked → List SpaceCall → Asked → Type 0
-AreAllowed asked [] now = now ≡ asked
-AreAllowed asked (call ∷ calls) now = MayCall call asked × AreAllowed (asked_after call asked) calls now
-
--- the calls were made, and each was allowed
-pub record AreServed (calls : List SpaceCall) (old new : SpaceState) (before after : Asked) : Type 0 where
-  pub made : AreMade calls old new
-  pub allowed : AreAllowed before calls after
-
--- what was asked tells of the entries and of the places that were claimed: only one of the two are any
-abbrev pub Tells : Asked → List Choice → List Place → Type 0
-Tells Nothing entries claimed = (entries ≡ []) × (claimed ≡ [])
-Tells Blocks entries claimed = claimed ≡ []
-Tells Claim entries claimed = entries ≡ []
+-- ---- with what was given back in the round
 
 -- places that were claimed were open beside those in use at the round's start, and lie on the tops
 pub record IsClaim (t : Terms) (claimed : List Place) : Type 0 where
   pub free : are_open t.used claimed ≡ true
   pub inside : LieOnTops (sizes_of t.setting.tops) claimed
 
--- A round's space, with what was asked of it. Live or pending are the places that were in use at the round's start, those that the
--- entries took and those that were claimed, each as often; pending are those that were given back.
-pub record IsDeskAt (t : Terms) (entries : List Choice) (claimed back : List Place) (tops : List Top) (st : SpaceState)
-    (asked : Asked) : Type 0 where
+-- A round's space, of which places for blocks were asked, or a claim. Live or pending are the places that were in use at the
+-- round's start, those that the entries took and those that were claimed, each as often; pending are those that were given back.
+pub record IsDeskAt (t : Terms) (entries : List Choice) (claimed back : List Place) (tops : List Top) (st : SpaceState) : Type 0 where
   pub desk : IsDeskOf t entries claimed tops st
-  pub tells : Tells asked entries claimed
+  pub either : (entries ≡ []) ⊎ (claimed ≡ [])
   pub claim : IsClaim t claimed
   pub live : IsPermutation (st.live ++ st.pending) (t.used ++ (claimed ++ taken_by_all entries))
   pub pending_are : SamePlaces st.pending back

@@ -14,9 +14,11 @@ use Rattle.zio_frames.specs.Frames.{Flying, Stack, kind_of_task}
 use Rattle.zio_frames.specs.Moves.{IsEnded}
 use Rattle.zio_frames.specs.OfRound.{IsTreeOf}
 use Rattle.zio_frames.specs.Slots.{Heard, IsOut, Slot}
-use Rattle.zio_stages.specs.Outcomes.{IsEndedAs, freed_if, freed_of, held_by}
-use Rattle.zio_stages.specs.declared.outcome.Finished.{Finished}
+use Rattle.zio_exchange.specs.Outcomes.{IsEndedAs, freed_if, freed_of, held_by}
+use Rattle.zio_exchange.specs.declared.outcome.FinishedRequest.{FinishedRequest}
 use Rattle.slab.specs.Slab.{Slab}
+use Rattle.zio_turns.specs.Attempting.{IsSettle}
+use Rattle.zio_turns.specs.Claims.{ClaimsOnce}
 use Rattle.zio_turns.specs.Desks.{taken_by_all}
 use Rattle.zio_turns.specs.Entries.{Live}
 use Rattle.zio_turns.specs.Parts.{Nodes, ended_in}
@@ -75,7 +77,7 @@ AreBehindChildren f front (x ∷ xs) =
     ChildrenAmong f x.ended.request.number front × AreBehindChildren f (front ++ x.ended.request.number ∷ []) xs
 
 -- these are told of them, one by one
-abbrev pub AreToldAs : List Finished → List Ending → Type 0
+abbrev pub AreToldAs : List FinishedRequest → List Ending → Type 0
 AreToldAs [] [] = Unit {0}
 AreToldAs [] (x ∷ xs) = ⊥
 AreToldAs (f ∷ fs) [] = ⊥
@@ -131,8 +133,9 @@ AreOnce places = (p : Place) → total (λ q. one_if (is_same_place p q)) places
 
 -- ---- all of it
 
--- a tree does nothing within, and asks for attempts alone
+-- it settles a tree, does nothing within, and asks for attempts alone
 pub record IsOfTree (st : Stack) : Type 0 where
+  pub settles : IsSettle st.outer.op
   pub alone : st.inner ≡ None
   pub attempts : (n : ℕ) (op : Task) → slice_get st.outer.asked n ≡ Some op → kind_of_task op ≡ Logical
 
@@ -146,7 +149,7 @@ pub record KeepsChildren (f : Forest) (done : List Ending) (tops : List (Option 
 -- The requests that finished are those that somebody heard of. Each place is found or freed or given back as often as it is held,
 -- was given back or is in a block that was made; and what is held or made was found. What was given back was found, or in use at the
 -- round's start. Each node hands out the requests and the parts that it asks; what it heard has the sizes that were asked for, and
--- each read that finished that of its block's bodies.
+-- each read that finished that of its block's bodies. Places are claimed in the round of a claim alone, and once.
 pub record IsLedger {N : Type 0} (nodes : Nodes N) (t : Terms) (f : Forest) (books : Books) (entries : List Choice)
     (tops : List (Option Flying)) (trees : List Slot) (lives : List Live) (slab : Slab (TiedNode N)) : Type 0 where
   pub requests : IsPermutation (all_ended books.done) (ended_with (ended_of_trees tops trees) lives)
@@ -162,3 +165,4 @@ pub record IsLedger {N : Type 0} (nodes : Nodes N) (t : Terms) (f : Forest) (boo
   pub rests : KeepsChildren f books.done tops lives
   pub sizes : AllByRecursion (λ (x : Live). HasSizes x.stack) lives
   pub sized : AllByRecursion (λ (x : Ending). FitsBodies x.request x.ended) books.done
+  pub claims : ClaimsOnce f books.claimed tops lives

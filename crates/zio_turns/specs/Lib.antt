@@ -1,6 +1,7 @@
 pub mod Acts
 pub mod AtLeaves
 pub mod Attempting
+pub mod Claims
 pub mod DeskLaws
 pub mod Desks
 pub mod Engine

@@ -23,15 +23,15 @@ use Rattle.zio_frames.specs.Running.{FitsTold, all_out, settling_from}
 use Rattle.zio_frames.specs.Seats.{asked_at}
 use Rattle.zio_frames.specs.Slots.{Slot}
 use Rattle.zio_blkptr.specs.declared.pointer.Bp.{Bp}
-use Rattle.zio_stages.specs.LeafWorks.{IsOpFor}
-use Rattle.zio_stages.specs.Outcomes.{AreEndedAs, IsOutcome}
-use Rattle.zio_stages.specs.SpaceCalls.{Claimed, SpaceCall}
-use Rattle.zio_stages.specs.declared.outcome.Finished.{Finished}
-use Rattle.zio_stages.specs.declared.outcome.Outcome.{Outcome}
-use Rattle.zio_stages.specs.declared.outcome.Outcome.TheVariants.{Finished as HasFinished}
+use Rattle.zio_exchange.specs.LeafOps.{IsOpFor}
+use Rattle.zio_exchange.specs.Outcomes.{AreEndedAs, IsOutcome}
+use Rattle.zio_exchange.specs.SpaceCalls.{Claimed, SpaceCall}
+use Rattle.zio_exchange.specs.declared.outcome.FinishedRequest.{FinishedRequest}
+use Rattle.zio_exchange.specs.declared.outcome.Outcome.{Outcome}
+use Rattle.zio_exchange.specs.declared.outcome.Outcome.TheVariants.{Finished as HasFinished}
 use Rattle.slab.specs.Slab.{Slab}
 pub use Rattle.zio_turns.specs.Desks.{AreRight, choices_in}
-use Rattle.zio_turns.specs.Desks.{backs_in, claims_in}
+use Rattle.zio_turns.specs.Desks.{MayAsk, backs_in, claims_in}
 use Rattle.zio_turns.specs.Engine.{StillKept}
 use Rattle.zio_turns.specs.Entries.{Live, OneMore, all_tops, flying_at, handed_on, times_in, top_at}
 use Rattle.zio_turns.specs.Acts.{IsHandedOn}
@@ -176,6 +176,13 @@ ClaimsAlone {N = N} nodes tops calls slab line key =
     AreLawful (sizes_of t.setting.tops) t.used (s.entries ++ choices_in calls) → (places : List Place) (free : Bool) →
     Contains calls (Claimed places free) → HasClaim f × (s.entries ≡ [])
 
+-- such calls may be asked of the space of each round that is kept, with what was asked of it before
+abbrev pub AsksRightly : {N : Type 0} → Nodes N → List Top → List SpaceCall → Slab (TiedNode N) → List ℕ → ℕ → Type 0
+AsksRightly {N = N} nodes tops calls slab line key =
+    (t : Terms) (sizes : ℕ → ℕ) (f : Forest) (before : Before) (s : SoFar) (leaves : List ℕ) → IsSoundRound t sizes f →
+    t.setting.tops ≡ tops → KeepsRound {N = N} nodes t sizes f before s slab (key ∷ line) leaves →
+    MayAsk s.entries s.books.claimed calls
+
 -- ---- what a stage leaves
 
 -- its operation goes to a leaf, is on some of it, and ends with the tops
@@ -203,7 +210,7 @@ pub record TreeHearsEarly {N : Type 0} (nodes : Nodes N) (t : Terms) (sizes : �
 
 -- A node that does this operation ended with this value, which has the requests below it that it heard of; where it is a request
 -- that finished, this is one more, and the definitions tell the same of it.
-pub record EndsAs (t : Terms) (op : Task) (outcome : Outcome) (value : Value) : Type 0 where
+pub record EndsAs {S : Type 0} (t : Terms) (op : Task) (outcome : Outcome S) (value : Value) : Type 0 where
   pub stack : Stack
   pub does : stack.outer.op ≡ op
   pub ends : IsEnded t stack value
@@ -213,15 +220,15 @@ pub record EndsAs (t : Terms) (op : Task) (outcome : Outcome) (value : Value) : 
   pub requests_are : AreEndedAs outcome ended
 
 -- the request that finished, if one did
-abbrev pub finished_in : Outcome → List Finished
+abbrev pub finished_in : {S : Type 0} → Outcome S → List FinishedRequest
 finished_in (HasFinished f) = f ∷ []
 finished_in _ = []
 
 -- a node ended, its parent heard of it, and this is the request that finished by that, if one did; it is in the books
-pub record NodeEnds {N : Type 0} (nodes : Nodes N) (t : Terms) (sizes : ℕ → ℕ) (f : Forest) (before : Before) (s : SoFar)
-    (slab : Slab (TiedNode N)) (line leaves : List ℕ) (finished : Option Finished) : Type 0 where
+pub record NodeEnds {N : Type 0} (S : Type 0) (nodes : Nodes N) (t : Terms) (sizes : ℕ → ℕ) (f : Forest) (before : Before) (s : SoFar)
+    (slab : Slab (TiedNode N)) (line leaves : List ℕ) (finished : Option FinishedRequest) : Type 0 where
   pub op : Task
-  pub outcome : Outcome
+  pub outcome : Outcome S
   pub value : Value
   pub how : EndsAs t op outcome value
   pub handed : IsHandedOn outcome finished
@@ -231,8 +238,8 @@ pub record NodeEnds {N : Type 0} (nodes : Nodes N) (t : Terms) (sizes : ℕ → 
 
 -- The nth child of what is in flight for a tree ended with this outcome, which is this value of its operation, and the tree has
 -- it. Where it is a request that finished, it is in the books.
-pub record TreeHears {N : Type 0} (nodes : Nodes N) (t : Terms) (sizes : ℕ → ℕ) (f : Forest) (before : Before) (s : SoFar)
-    (slab : Slab (TiedNode N)) (line leaves : List ℕ) (tree : ℕ) (outcome : Outcome) : Type 0 where
+pub record TreeHears {N S : Type 0} (nodes : Nodes N) (t : Terms) (sizes : ℕ → ℕ) (f : Forest) (before : Before) (s : SoFar)
+    (slab : Slab (TiedNode N)) (line leaves : List ℕ) (tree : ℕ) (outcome : Outcome S) : Type 0 where
   pub top : Flying
   pub number : ℕ
   pub child : Child
@@ -250,8 +257,8 @@ pub record TreeHears {N : Type 0} (nodes : Nodes N) (t : Terms) (sizes : ℕ →
       (with_done (with_tree s tree (record { at = top.at; stack = heard_of top.stack number child value })) more) slab line leaves
 
 -- with these calls made the round goes on so
-abbrev pub AfterStep : {N : Type 0} → Nodes N → Terms → (ℕ → ℕ) → Forest → Before → SoFar → Slab (TiedNode N) → List ℕ → List ℕ → ℕ
-    → Step → Type 0
+abbrev pub AfterStep : {N S : Type 0} → Nodes N → Terms → (ℕ → ℕ) → Forest → Before → SoFar → Slab (TiedNode N) → List ℕ → List ℕ → ℕ
+    → Step S → Type 0
 AfterStep {N = N} nodes t sizes f before s slab line leaves key Goes =
     KeepsRound {N = N} nodes t sizes f before s slab (key ∷ line) leaves
 AfterStep {N = N} nodes t sizes f before s slab line leaves key (Told tree) =
@@ -260,14 +267,14 @@ AfterStep {N = N} nodes t sizes f before s slab line leaves key Rests =
     KeepsRound {N = N} nodes t sizes f before s slab line leaves
 AfterStep {N = N} nodes t sizes f before s slab line leaves key (ToLeaf op leaf bytes) =
     (act : LeafOp) × IsOpFor act op leaf bytes × GoesOut {N = N} nodes t sizes f before s slab line leaves key act
-AfterStep {N = N} nodes t sizes f before s slab line leaves key (HasEnded finished) =
-    NodeEnds {N = N} nodes t sizes f before s slab line leaves finished
+AfterStep {N = N} {S = S} nodes t sizes f before s slab line leaves key (HasEnded finished) =
+    NodeEnds {N = N} S nodes t sizes f before s slab line leaves finished
 AfterStep {N = N} nodes t sizes f before s slab line leaves key (Root tree outcome) =
     TreeHears {N = N} nodes t sizes f before s slab line leaves tree outcome
 
 -- each round over these tops whose queue the key came first in goes on so, where the calls made are right for it
-abbrev pub StepsOn : {N : Type 0} → Nodes N → List Top → List SpaceCall → Slab (TiedNode N) → List ℕ → Slab (TiedNode N) → List ℕ → ℕ
-    → Step → Type 0
+abbrev pub StepsOn : {N S : Type 0} → Nodes N → List Top → List SpaceCall → Slab (TiedNode N) → List ℕ → Slab (TiedNode N) → List ℕ → ℕ
+    → Step S → Type 0
 StepsOn {N = N} nodes tops calls slab line slab_now line_now key step =
     (t : Terms) (sizes : ℕ → ℕ) (f : Forest) (before : Before) (s : SoFar) (leaves : List ℕ) → IsSoundRound t sizes f →
     t.setting.tops ≡ tops → AreRight t s.entries calls → KeepsRound {N = N} nodes t sizes f before s slab (key ∷ line) leaves →

@@ -20,13 +20,13 @@ use Rattle.zio_frames.specs.Frames.{Child, Inner, OfOuter, Stack, asking, fresh_
 use Rattle.zio_frames.specs.Moves.{AsksNext, Did, DoesAll, IsEnded, WillHave, handed}
 use Rattle.zio_frames.specs.Running.{FitsTold}
 use Rattle.zio_frames.specs.Seats.{IsSeated, asked_at}
-use Rattle.zio_stages.specs.LeafWorks.{IsOpFor}
-use Rattle.zio_stages.specs.OwnParts.{IsDoneWithin, OpensWithin}
-use Rattle.zio_stages.specs.Outcomes.{AreEndedAs, IsOutcome, freed_by, held_by, made_by, stored_in, freed_of}
-use Rattle.zio_stages.specs.SpaceCalls.{SpaceCall, calls_back, calls_by}
-use Rattle.zio_stages.specs.declared.outcome.Outcome.{Outcome}
-use Rattle.zio_stages.specs.declared.outcome.Outcome.TheVariants.{Again}
-use Rattle.zio_stages.specs.declared.waiting.UnfinishedRequest.{UnfinishedRequest}
+use Rattle.zio_exchange.specs.LeafOps.{IsOpFor}
+use Rattle.zio_exchange.specs.WithinParts.{IsDoneWithin, OpensWithin}
+use Rattle.zio_exchange.specs.Outcomes.{AreEndedAs, IsOutcome, freed_by, freed_of, held_by, made_by, stored_in}
+use Rattle.zio_exchange.specs.SpaceCalls.{SpaceCall, calls_back, calls_by}
+use Rattle.zio_exchange.specs.declared.waiting.UnfinishedRequest.{UnfinishedRequest}
+use Rattle.zio_exchange.specs.declared.outcome.Outcome.{Outcome}
+use Rattle.zio_exchange.specs.declared.outcome.Outcome.TheVariants.{Again}
 use Rattle.zio_turns.specs.Entries.{count_owing}
 use Rattle.zio_turns.specs.Parts.{Nodes, ended_by, ended_in}
 use Rattle.zio_turns.specs.declared.staged.Move.{Move}
@@ -140,8 +140,8 @@ pub record Tells {N : Type 0} (nodes : Nodes N) (gave : N → List Place) (t : T
 
 -- It ended with this, and gave these places back. Each place that its part came to, or that it freed, it gave back before or
 -- now, or it is in what it ends with.
-pub record Ends {N : Type 0} (nodes : Nodes N) (gave : N → List Place) (t : Terms) (node : N) (st : Stack)
-    (calls : List SpaceCall) (outcome : Outcome) : Type 0 where
+pub record Ends {N S : Type 0} (nodes : Nodes N) (gave : N → List Place) (t : Terms) (node : N) (st : Stack)
+    (calls : List SpaceCall) (outcome : Outcome S) : Type 0 where
   pub value : Value
   pub gone : List Place
   pub ended : List Ended
@@ -153,7 +153,7 @@ pub record Ends {N : Type 0} (nodes : Nodes N) (gave : N → List Place) (t : Te
   pub calls_are : calls ≡ calls_back gone
   pub places : IsPermutation (held_by st ++ freed_by st.outer.op outcome) (gave node ++ gone ++ made_by outcome ++ stored_in value)
 
-abbrev pub IsMove : {N : Type 0} → Nodes N → (N → List Place) → Terms → N → Stack → List SpaceCall → Move N → Type 0
+abbrev pub IsMove : {N S : Type 0} → Nodes N → (N → List Place) → Terms → N → Stack → List SpaceCall → Move N S → Type 0
 IsMove {N = N} nodes gave t node st calls (Next after) = GoesOn {N = N} nodes gave t node st calls after
 IsMove {N = N} nodes gave t node st calls (Wait after kind phase) = Waits {N = N} nodes gave t node st calls after kind phase
 IsMove {N = N} nodes gave t node st calls (Grow after child kind) = Grows {N = N} nodes gave t node st calls after child kind
@@ -164,12 +164,12 @@ IsMove {N = N} nodes gave t node st calls (End outcome) = Ends {N = N} nodes gav
 -- ---- what holds of each node
 
 -- of a tree that goes again
-abbrev pub OutcomeIn : (List UnfinishedRequest → Type 0) → Outcome → Type 0
+abbrev pub OutcomeIn : {S : Type 0} → (List UnfinishedRequest → Type 0) → Outcome S → Type 0
 OutcomeIn Q (Again whole bits pointer) = Q whole
 OutcomeIn Q _ = Unit {0}
 
 -- of the nodes that the move hands out, and of a tree that goes again
-abbrev pub EachIn : {N : Type 0} → (N → Type 0) → (List UnfinishedRequest → Type 0) → Move N → Type 0
+abbrev pub EachIn : {N S : Type 0} → (N → Type 0) → (List UnfinishedRequest → Type 0) → Move N S → Type 0
 EachIn P Q (Next after) = P after
 EachIn P Q (Wait after kind phase) = P after
 EachIn P Q (Grow after child kind) = P after × P child
@@ -178,7 +178,7 @@ EachIn P Q (Ready after pointer) = P after
 EachIn P Q (End outcome) = OutcomeIn Q outcome
 
 -- a pointer that is told is valid
-abbrev pub TellsValid : {N : Type 0} → Move N → Type 0
+abbrev pub TellsValid : {N S : Type 0} → Move N S → Type 0
 TellsValid (Ready after pointer) = IfSome pointer (λ bp. IsTrue (valid bp))
 TellsValid _ = Unit {0}
 
@@ -193,7 +193,7 @@ abbrev pub told_cost : ℕ
 told_cost = 6
 
 -- the nodes that the move hands out run less often
-abbrev pub Lessens : {N : Type 0} → (N → ℕ) → N → Move N → Type 0
+abbrev pub Lessens : {N S : Type 0} → (N → ℕ) → N → Move N S → Type 0
 Lessens left node (Next after) = left after < left node
 Lessens left node (Wait after kind phase) = left after ≤ left node
 Lessens left node (Grow after child kind) = left after + left child < left node
@@ -205,8 +205,8 @@ Lessens left node (End outcome) = told_cost ≤ left node
 
 -- The child of this number, whose operation this is, ended with this value, which it can have, which is of the operation's kind,
 -- and which has the pointer that it told.
-pub record Hears {N : Type 0} (nodes : Nodes N) (tops : List Top) (t : Terms) (node : N) (st : Stack) (n : ℕ) (c : Child) (op : Task)
-    (outcome : Outcome) (v : Value) : Type 0 where
+pub record Hears {N S : Type 0} (nodes : Nodes N) (tops : List Top) (t : Terms) (node : N) (st : Stack) (n : ℕ) (c : Child) (op : Task)
+    (outcome : Outcome S) (v : Value) : Type 0 where
   pub now : IsNow {N = N} nodes tops t node st
   pub there : slice_get st.children n ≡ Some c
   pub goes : c.ended ≡ false
@@ -217,7 +217,7 @@ pub record Hears {N : Type 0} (nodes : Nodes N) (tops : List Top) (t : Terms) (n
   pub in_kind : IsAnswerTo op v
   pub shows : IsOutcome t op outcome v
 
-pub record HearsSome {N : Type 0} (nodes : Nodes N) (tops : List Top) (node : N) (n : ℕ) (outcome : Outcome) : Type 0 where
+pub record HearsSome {N S : Type 0} (nodes : Nodes N) (tops : List Top) (node : N) (n : ℕ) (outcome : Outcome S) : Type 0 where
   pub terms : Terms
   pub stack : Stack
   pub child : Child

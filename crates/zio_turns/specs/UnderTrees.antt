@@ -15,12 +15,12 @@ use Rattle.zio_trace.specs.Underway.{State}
 use Rattle.zio_frames.specs.Frames.{Flying, Stack}
 use Rattle.zio_frames.specs.Moves.{IsEnded, handed}
 use Rattle.zio_frames.specs.Slots.{Heard, Slot, left_behind_slots}
-use Rattle.zio_stages.specs.Outcomes.{IsFinishedAs, IsLeftAs, IsOutcome}
-use Rattle.zio_stages.specs.Wholes.{AreTrees, IsTreeOf}
-use Rattle.zio_stages.specs.declared.outcome.Finished.{Finished}
-use Rattle.zio_stages.specs.declared.outcome.Outcome.{Outcome}
-use Rattle.zio_stages.specs.declared.outcome.Outcome.TheVariants.{Again, Finished as HasFinished}
-use Rattle.zio_stages.specs.declared.waiting.UnfinishedRequest.{UnfinishedRequest}
+use Rattle.zio_exchange.specs.Outcomes.{IsFinishedAs, IsLeftAs, IsOutcome}
+use Rattle.zio_exchange.specs.Wholes.{AreTrees, IsTreeOf}
+use Rattle.zio_exchange.specs.declared.waiting.UnfinishedRequest.{UnfinishedRequest}
+use Rattle.zio_exchange.specs.declared.outcome.FinishedRequest.{FinishedRequest}
+use Rattle.zio_exchange.specs.declared.outcome.Outcome.{Outcome}
+use Rattle.zio_exchange.specs.declared.outcome.Outcome.TheVariants.{Again, Finished as HasFinished}
 use Rattle.slab.specs.Slab.{Slab}
 use Rattle.zio_turns.specs.Attempting.{Course, IsAttempting, IsBetween, attempt_of, course_of, rest_of, settled_with}
 use Rattle.zio_turns.specs.Engine.{IsKept}
@@ -58,7 +58,7 @@ BeginsOn {N = N} nodes slab line slab_now line_now round failmode tree attempt w
 -- ---- a tree hears
 
 -- it heard of the course's attempt with this outcome, which is this value
-pub record HasHeardOf (t : Terms) (c : Course) (outcome : Outcome) (one : One) (st : Stack) : Type 0 where
+pub record HasHeardOf {S : Type 0} (t : Terms) (c : Course) (outcome : Outcome S) (one : One) (st : Stack) : Type 0 where
   pub shows : IsOutcome t (attempt_of c) outcome (AttemptedBy one)
   pub ends : (v : Value) → left_behind_slots (Heard (AttemptedBy one) ∷ []) (rest_of c) ≡ Ends v → IsEnded t st v
   pub goes : (d : Course) → left_behind_slots (Heard (AttemptedBy one) ∷ []) (rest_of c) ≡ rest_of d
@@ -66,14 +66,14 @@ pub record HasHeardOf (t : Terms) (c : Course) (outcome : Outcome) (one : One) (
   pub ended_are : ended_in st ≡ c.ended ++ one.ended
 
 -- an attempt can end with it
-abbrev pub IsOfAttempt : Outcome → Type 0
+abbrev pub IsOfAttempt : {S : Type 0} → Outcome S → Type 0
 IsOfAttempt (HasFinished f) = Unit {0}
 IsOfAttempt (Again whole bits pointer) = Unit {0}
 IsOfAttempt _ = ⊥
 
 -- the tree's root finished, and nothing is left; or this is left, which is suspended
 abbrev pub IsLeftOf : TreeEnd → One → Type 0
-IsLeftOf RootFinished one = (f : Finished) × IsFinishedAs f one
+IsLeftOf RootFinished one = (f : FinishedRequest) × IsFinishedAs f one
 IsLeftOf (Suspended whole) one = (bits : Bits) × (pointer : Option Bp) × IsLeftAs whole bits pointer one
 
 -- the tree of this number has this value, and nothing is in flight for it
@@ -109,8 +109,8 @@ AfterHearing {N = N} nodes t sizes f before s slab line leaves tree top c one (S
     IsSettled {N = N} nodes t sizes f before s slab line leaves tree c one end
 
 -- each sound round in which the tree heard that goes on so
-abbrev pub TreeGoesOn : {N : Type 0} → Nodes N → Slab (TiedNode N) → List ℕ → Slab (TiedNode N) → List ℕ → ℕ → Failmode → ℕ → ℕ
-    → Outcome → Option TreeEnd → Type 0
+abbrev pub TreeGoesOn : {N S : Type 0} → Nodes N → Slab (TiedNode N) → List ℕ → Slab (TiedNode N) → List ℕ → ℕ → Failmode → ℕ → ℕ
+    → Outcome S → Option TreeEnd → Type 0
 TreeGoesOn {N = N} nodes slab line slab_now line_now round failmode tree attempt outcome end =
     (t : Terms) (sizes : ℕ → ℕ) (f : Forest) (before : Before) (s : SoFar) (leaves : List ℕ) (top : Flying) (c : Course) (one : One) →
     IsSoundRound t sizes f → t.round ≡ round → t.failmode ≡ failmode →
@@ -169,12 +169,12 @@ pub record RunsSome {N D : Type 0} (nodes : Nodes N) (bytes : D → ℕ) (image 
 -- it went on to this, and these requests finished meanwhile
 pub record HasRun {N D : Type 0} (nodes : Nodes N) (bytes : D → ℕ) (image : D → List ℕ → Type 0) (t : Terms) (sizes : ℕ → ℕ)
     (f : Forest) (before : Before) (s : SoFar) (slab : Slab (TiedNode N)) (line : List ℕ) (g : Grounds D) (round : ℕ)
-    (failmode : Failmode) (states : List TreeState) (ended ended_now : List Finished) : Type 0 where
+    (failmode : Failmode) (states : List TreeState) (ended ended_now : List FinishedRequest) : Type 0 where
   pub now : SoFar
   pub runs : RunsTrees {N = N} {D = D} nodes bytes image t sizes f before now slab line g round failmode states
   pub more : List Choice
   pub entries_are : now.entries ≡ s.entries ++ more
-  pub others : List Finished
+  pub others : List FinishedRequest
   pub ended_are : ended_now ≡ ended ++ others
   pub are : AllByRecursion (EndsFinished t) others
   pub done : List Ending
@@ -194,7 +194,7 @@ pub record IsOver {N : Type 0} (nodes : Nodes N) (t : Terms) (sizes : ℕ → �
 
 -- each sound round of these terms goes on until it is over
 abbrev pub RunsToEnd : {N D : Type 0} → Nodes N → (D → ℕ) → (D → List ℕ → Type 0) → Slab (TiedNode N) → List ℕ → Grounds D
-    → List TreeState → List Finished → Slab (TiedNode N) → List ℕ → Grounds D → List TreeState → List Finished → ℕ → Failmode → Type 0
+    → List TreeState → List FinishedRequest → Slab (TiedNode N) → List ℕ → Grounds D → List TreeState → List FinishedRequest → ℕ → Failmode → Type 0
 RunsToEnd {N = N} {D = D} nodes bytes image slab line g states ended slab_now line_now g_now states_now ended_now round failmode =
     (t : Terms) (sizes : ℕ → ℕ) (f : Forest) (before : Before) (s : SoFar) →
     RunsTrees {N = N} {D = D} nodes bytes image t sizes f before s slab line g round failmode states →

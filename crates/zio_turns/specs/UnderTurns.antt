@@ -1,5 +1,5 @@
 -- What the one-thread engine keeps from turn to turn: the round with its nodes, and what it lends to them.
-use Rattle.std.specs.Prelude.{◌≡◌, ℕ, ◌+◌, ◌*◌, ◌≤◌, ◌^◌, List, [], ◌∷◌, ◌++◌, length, map, slice_get, slice_index_or, slice_set, false, Option, Some, None}
+use Rattle.std.specs.Prelude.{◌≡◌, ℕ, ◌+◌, ◌*◌, ◌≤◌, List, [], ◌∷◌, ◌++◌, length, map, slice_get, slice_index_or, slice_set, false, Option, Some, None}
 use Rattle.std.specs.List.{AllByRecursion}
 use Rattle.zio_types.specs.declared.place.Place.{Place}
 use Rattle.zio_types.specs.declared.place.Top.{Top}
@@ -18,10 +18,10 @@ use Rattle.zio_frames.specs.Moves.{heard_early, heard_of}
 use Rattle.zio_frames.specs.Running.{FitsTold}
 use Rattle.zio_frames.specs.Seats.{asked_at}
 use Rattle.zio_groups.specs.declared.waiting.Answered.{Answered}
-use Rattle.zio_stages.specs.declared.outcome.Finished.{Finished}
-use Rattle.zio_stages.specs.declared.outcome.Outcome.{Outcome}
-use Rattle.zio_stages.specs.declared.outcome.Outcome.TheVariants.{Finished as HasFinished}
-use Rattle.zio_stages.specs.declared.waiting.UnfinishedRequest.{UnfinishedRequest}
+use Rattle.zio_exchange.specs.declared.waiting.UnfinishedRequest.{UnfinishedRequest}
+use Rattle.zio_exchange.specs.declared.outcome.FinishedRequest.{FinishedRequest}
+use Rattle.zio_exchange.specs.declared.outcome.Outcome.{Outcome}
+use Rattle.zio_exchange.specs.declared.outcome.Outcome.TheVariants.{Finished as HasFinished}
 use Rattle.slab.specs.Slab.{Slab}
 use Rattle.zio_turns.specs.AtLeaves.{AllWait, WaitsFor, key_of, keys_at}
 use Rattle.zio_turns.specs.Desks.{IsDeskAt}
@@ -56,7 +56,7 @@ FitDisks sizes disks = (leaf : ℕ) → sizes leaf ≤ slice_index_or disks leaf
 pub record AreLent {D : Type 0} (bytes : D → ℕ) (image : D → List ℕ → Type 0) (t : Terms) (sizes : ℕ → ℕ) (before : Before)
     (entries : List Choice) (claimed back : List Place) (images : Images) (ops : ℕ → LeafOp) (g : Grounds D) : Type 0 where
   pub setting_is : t.setting ≡ g.setting
-  pub desk : IsDeskAt t entries claimed back g.desk.tops g.desk.space g.desk.asked
+  pub desk : IsDeskAt t entries claimed back g.desk.tops g.desk.space
   pub waits : AllWait (λ leaf w. WaitsFor leaf (ops (key_of w)) w) g.queues.leaves.items
   pub ready : AreReady g.setting.rows (map bytes g.disks.items) g.queues.leaves.items
   pub fit : FitDisks sizes (map bytes g.disks.items)
@@ -118,7 +118,7 @@ AreTold [] tops now = now ≡ tops
 AreTold (x ∷ xs) tops now = IsTelling x tops × AreTold xs (with_telling x tops) now
 
 -- Entries came behind the others, these requests finished, and what is in flight for the trees told pointers, and did nothing else.
-pub record HasGoneOn (s now : SoFar) (finished : List Finished) : Type 0 where
+pub record HasGoneOn (s now : SoFar) (finished : List FinishedRequest) : Type 0 where
   pub tellings : List Telling
   pub told : AreTold tellings s.tops now.tops
   pub more : List Choice
@@ -130,23 +130,23 @@ pub record HasGoneOn (s now : SoFar) (finished : List Finished) : Type 0 where
 
 -- the round went on to this, and these requests finished
 pub record HasTurned {N D : Type 0} (nodes : Nodes N) (bytes : D → ℕ) (image : D → List ℕ → Type 0) (t : Terms) (sizes : ℕ → ℕ)
-    (f : Forest) (before : Before) (s : SoFar) (finished : List Finished) (slab : Slab (TiedNode N)) (line : List ℕ)
+    (f : Forest) (before : Before) (s : SoFar) (finished : List FinishedRequest) (slab : Slab (TiedNode N)) (line : List ℕ)
     (g : Grounds D) : Type 0 where
   pub now : SoFar
   pub gone : HasGoneOn s now finished
   pub going : IsGoingOn {N = N} {D = D} nodes bytes image t sizes f before now slab line g
 
--- a node ended as a request that finished
-pub record EndsFinished (t : Terms) (finished : Finished) : Type 0 where
+-- a node ended as a request that finished, under whichever seal
+pub record EndsFinished (t : Terms) (finished : FinishedRequest) : Type 0 where
   pub op : Task
   pub value : Value
-  pub how : EndsAs t op (HasFinished finished) value
+  pub how : EndsAs {S = Unit {0}} t op (HasFinished finished) value
 
 -- The round went on to this, where the tree of this number has with what its nth child ended: this value of its operation. Before these
 -- requests finished, and with that the child, where it did.
-pub record HasEndedFor {N D : Type 0} (nodes : Nodes N) (bytes : D → ℕ) (image : D → List ℕ → Type 0) (t : Terms) (sizes : ℕ → ℕ)
-    (f : Forest) (before : Before) (s : SoFar) (finished : List Finished) (slab : Slab (TiedNode N)) (line : List ℕ) (g : Grounds D)
-    (tree : ℕ) (outcome : Outcome) : Type 0 where
+pub record HasEndedFor {N D S : Type 0} (nodes : Nodes N) (bytes : D → ℕ) (image : D → List ℕ → Type 0) (t : Terms) (sizes : ℕ → ℕ)
+    (f : Forest) (before : Before) (s : SoFar) (finished : List FinishedRequest) (slab : Slab (TiedNode N)) (line : List ℕ) (g : Grounds D)
+    (tree : ℕ) (outcome : Outcome S) : Type 0 where
   pub now : SoFar
   pub gone : HasGoneOn s now finished
   pub top : Flying
@@ -165,8 +165,8 @@ pub record HasEndedFor {N D : Type 0} (nodes : Nodes N) (bytes : D → ℕ) (ima
   pub going : IsGoingOn {N = N} {D = D} nodes bytes image t sizes f before
       (with_done (with_tree now tree (record { at = top.at; stack = heard_of top.stack number child value })) more) slab line g
 
-abbrev pub AfterTurn : {N D : Type 0} → Nodes N → (D → ℕ) → (D → List ℕ → Type 0) → Terms → (ℕ → ℕ) → Forest → Before → SoFar
-    → Slab (TiedNode N) → List ℕ → Grounds D → Turned → Type 0
+abbrev pub AfterTurn : {N D S : Type 0} → Nodes N → (D → ℕ) → (D → List ℕ → Type 0) → Terms → (ℕ → ℕ) → Forest → Before → SoFar
+    → Slab (TiedNode N) → List ℕ → Grounds D → Turned S → Type 0
 AfterTurn {N = N} {D = D} nodes bytes image t sizes f before s slab line g Nothing =
     HasTurned {N = N} {D = D} nodes bytes image t sizes f before s [] slab line g
 AfterTurn {N = N} {D = D} nodes bytes image t sizes f before s slab line g (HasEnded finished) =
@@ -175,13 +175,13 @@ AfterTurn {N = N} {D = D} nodes bytes image t sizes f before s slab line g (Root
     HasEndedFor {N = N} {D = D} nodes bytes image t sizes f before s [] slab line g tree outcome
 
 -- of a tree that goes again
-abbrev pub TurnedIn : (List UnfinishedRequest → Type 0) → Turned → Type 0
+abbrev pub TurnedIn : {S : Type 0} → (List UnfinishedRequest → Type 0) → Turned S → Type 0
 TurnedIn Q (Root tree outcome) = OutcomeIn Q outcome
 TurnedIn Q _ = Unit {0}
 
 -- each sound round whose queue the key came first in goes on so
-abbrev pub TurnsOn : {N D : Type 0} → Nodes N → (D → ℕ) → (D → List ℕ → Type 0) → Slab (TiedNode N) → List ℕ → Grounds D
-    → Slab (TiedNode N) → List ℕ → Grounds D → ℕ → Turned → Type 0
+abbrev pub TurnsOn : {N D S : Type 0} → Nodes N → (D → ℕ) → (D → List ℕ → Type 0) → Slab (TiedNode N) → List ℕ → Grounds D
+    → Slab (TiedNode N) → List ℕ → Grounds D → ℕ → Turned S → Type 0
 TurnsOn {N = N} {D = D} nodes bytes image slab line g slab_now line_now g_now key turned =
     (t : Terms) (sizes : ℕ → ℕ) (f : Forest) (before : Before) (s : SoFar) → IsSoundRound t sizes f →
     IsGoingOn {N = N} {D = D} nodes bytes image t sizes f before s slab (key ∷ line) g →
@@ -226,35 +226,35 @@ IssuesOn {N = N} {D = D} nodes bytes image slab line g slab_now line_now g_now =
 -- ---- what turns and groups leave, whichever were picked
 
 -- each sound round goes on so
-abbrev pub RunsOn : {N D : Type 0} → Nodes N → (D → ℕ) → (D → List ℕ → Type 0) → Slab (TiedNode N) → List ℕ → Grounds D
-    → Slab (TiedNode N) → List ℕ → Grounds D → Turned → Type 0
+abbrev pub RunsOn : {N D S : Type 0} → Nodes N → (D → ℕ) → (D → List ℕ → Type 0) → Slab (TiedNode N) → List ℕ → Grounds D
+    → Slab (TiedNode N) → List ℕ → Grounds D → Turned S → Type 0
 RunsOn {N = N} {D = D} nodes bytes image slab line g slab_now line_now g_now turned =
     (t : Terms) (sizes : ℕ → ℕ) (f : Forest) (before : Before) (s : SoFar) → IsSoundRound t sizes f →
     IsGoingOn {N = N} {D = D} nodes bytes image t sizes f before s slab line g →
     AfterTurn {N = N} {D = D} nodes bytes image t sizes f before s slab_now line_now g_now turned
 
 -- where there is nothing to tell no key is queued, and none is at a leaf
-abbrev pub IsDone : List ℕ → List ℕ → Turned → Type 0
+abbrev pub IsDone : {S : Type 0} → List ℕ → List ℕ → Turned S → Type 0
 IsDone line leaves Nothing = (line ≡ []) × (leaves ≡ [])
 IsDone line leaves _ = Unit {0}
 
 -- each sound round goes on until a tree hears, or there is nothing to do, and these requests finished meanwhile
-abbrev pub AfterRun : {N D : Type 0} → Nodes N → (D → ℕ) → (D → List ℕ → Type 0) → Terms → (ℕ → ℕ) → Forest → Before → SoFar
-    → List Finished → Slab (TiedNode N) → List ℕ → Grounds D → Option Hearing → Type 0
+abbrev pub AfterRun : {N D S : Type 0} → Nodes N → (D → ℕ) → (D → List ℕ → Type 0) → Terms → (ℕ → ℕ) → Forest → Before → SoFar
+    → List FinishedRequest → Slab (TiedNode N) → List ℕ → Grounds D → Option (Hearing S) → Type 0
 AfterRun {N = N} {D = D} nodes bytes image t sizes f before s finished slab line g None =
     HasTurned {N = N} {D = D} nodes bytes image t sizes f before s finished slab line g
 AfterRun {N = N} {D = D} nodes bytes image t sizes f before s finished slab line g (Some heard) =
     HasEndedFor {N = N} {D = D} nodes bytes image t sizes f before s finished slab line g heard.tree heard.outcome
 
-abbrev pub RunsToTree : {N D : Type 0} → Nodes N → (D → ℕ) → (D → List ℕ → Type 0) → Slab (TiedNode N) → List ℕ → Grounds D
-    → List Finished → Slab (TiedNode N) → List ℕ → Grounds D → List Finished → Option Hearing → Type 0
+abbrev pub RunsToTree : {N D S : Type 0} → Nodes N → (D → ℕ) → (D → List ℕ → Type 0) → Slab (TiedNode N) → List ℕ → Grounds D
+    → List FinishedRequest → Slab (TiedNode N) → List ℕ → Grounds D → List FinishedRequest → Option (Hearing S) → Type 0
 RunsToTree {N = N} {D = D} nodes bytes image slab line g ended slab_now line_now g_now ended_now heard =
     (t : Terms) (sizes : ℕ → ℕ) (f : Forest) (before : Before) (s : SoFar) → IsSoundRound t sizes f →
     IsGoingOn {N = N} {D = D} nodes bytes image t sizes f before s slab line g →
-    (more : List Finished) × (ended_now ≡ ended ++ more) × AllByRecursion (EndsFinished t) more
+    (more : List FinishedRequest) × (ended_now ≡ ended ++ more) × AllByRecursion (EndsFinished t) more
     × AfterRun {N = N} {D = D} nodes bytes image t sizes f before s more slab_now line_now g_now heard
 
 -- where no tree hears no key is queued, and none is at a leaf
-abbrev pub IsDoneUnless : List ℕ → List ℕ → Option Hearing → Type 0
+abbrev pub IsDoneUnless : {S : Type 0} → List ℕ → List ℕ → Option (Hearing S) → Type 0
 IsDoneUnless line leaves None = (line ≡ []) × (leaves ≡ [])
 IsDoneUnless line leaves (Some heard) = Unit {0}

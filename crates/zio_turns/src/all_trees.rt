@@ -15,9 +15,9 @@ use crate::staged::Staged;
 use crate::trees::{TreeState, hear_tree};
 use crate::turns::Turns;
 use zio_disks::Stop;
+use zio_exchange::Finished;
 use zio_outside::Disk;
 use zio_script::Failmode;
-use zio_stages::Finished;
 
 /// Runs the trees of a round, whose first attempts are handed out, until each is settled. Each sound round of these
 /// terms goes on until it is over, whatever is picked: then no node is left, and no tree is under way. The requests
@@ -31,7 +31,7 @@ pub fn run_trees<N: Staged, D: Disk + Drop, P: Picks>(
     round: u32,
     failmode: Failmode,
     trees: &mut Vec<TreeState>,
-    ended: &mut Vec<Finished>,
+    ended: &mut Vec<Finished<N::Seal>>,
 ) -> Result<(), Stop>
     requires runs { RunsSome N.nodes D.bytes D.image turns.old.nodes turns.old.line grounds.old round failmode
         trees.old.items }

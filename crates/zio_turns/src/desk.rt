@@ -11,32 +11,19 @@ ghost use Rattle.zio_gang.specs.Attempts.{Terms};
 ghost use Rattle.zio_gang.specs.Trees.{sizes_of};
 ghost use Rattle.zio_frames.specs.Frames.{Stack};
 ghost use Rattle.zio_frames.specs.Moves.{Did, DoesAll};
-ghost use Rattle.zio_stages.specs.SpaceCalls.{SpaceCall, calls_back, calls_by};
-ghost use Rattle.zio_turns.specs.Desks.{AreMade, AreRight, AreServed, IsDeskOf, MayAsk, choices_in, claims_asked, claims_in, found_in};
-ghost use Rattle.zio_turns.specs.declared.desk.Asked.TheVariants.{Nothing};
+ghost use Rattle.zio_exchange.specs.SpaceCalls.{SpaceCall, calls_back, calls_by};
+ghost use Rattle.zio_turns.specs.Desks.{AreMade, AreRight, IsDeskOf, MayAsk, choices_in, claims_asked, claims_in, found_in};
 
 use std::alloc::Global;
+use zio_exchange::{Services, Unclaimed};
 use zio_places::{ClaimFault, Space};
-use zio_stages::{Services, Unclaimed};
 use zio_types::{Entry, Key, List, NoMemory, Place, Top, TopSize};
 
-/// What was asked of the space in a round.
-#[derive(Clone, Copy)]
-enum Asked {
-    Nothing,
-    /// Places for blocks.
-    Blocks,
-    /// A claim, which took its places.
-    Claim,
-}
-
-/// Where nodes place their blocks: the space, and the tops that it is a space of. A claim is alone in its round: what
-/// comes beside it is refused as where memory is.
+/// Where nodes place their blocks: the space, and the tops that it is a space of.
 #[derive(Drop)]
 pub struct Desk {
     space: Space,
     tops: List<Top>,
-    asked: Asked,
     ghost sizes: { space.sizes ≡ sizes_of tops },
     ghost sound: { IsSound space },
 }
@@ -49,15 +36,10 @@ impl Desk {
         ensures tops { IfOk result (λ desk. desk.tops ≡ tops) }
         ensures space { IfOk result (λ desk. desk.space ≡
             record { sizes = sizes_of tops; live = []; pending = []; entries = []; spare = 0 }) }
-        ensures asked { IfOk result (λ desk. desk.asked ≡ Nothing) }
     {
         let sizes = sizes_of(alloc, tops.as_slice())?;
         let space = Space::new(alloc, sizes.as_slice())?;
-        Ok(Desk {
-            space,
-            tops,
-            asked: Asked::Nothing,
-        })
+        Ok(Desk { space, tops })
     }
 
     /// What was given back is free. It gives the entries of the round. Needs no memory.
@@ -65,9 +47,7 @@ impl Desk {
         ensures entries { result ≡ self.old.space.entries }
         ensures space { self.new.space ≡ record self.old.space { pending = []; entries = []; spare = 0 } }
         ensures tops { self.new.tops ≡ self.old.tops }
-        ensures asked { self.new.asked ≡ Nothing }
     {
-        self.asked = Asked::Nothing;
         self.space.close_round();
         self.space.take_entries()
     }
@@ -88,18 +68,14 @@ fn sizes_of(alloc: Global, tops: &[Top]) -> Result<Vec<TopSize>, NoMemory>
 }
 
 impl Services for Desk {
-    ghost use Rattle.zio_turns.specs.DeskLaws.{served_none, served_then};
+    ghost use Rattle.zio_turns.specs.DeskLaws.{made_none, made_then};
 
     ghost tops = { λ desk. desk.tops };
 
-    ghost made = { λ old calls new. AreServed calls old.space new.space old.asked new.asked };
+    ghost made = { λ old calls new. AreMade calls old.space new.space };
 
     fn place(&mut self, key: Key, size: u32, copies: u32) -> Result<Entry, NoMemory> {
-        if let Asked::Claim = self.asked {
-            return Err(NoMemory);
-        }
         self.space.reserve(1)?;
-        self.asked = Asked::Blocks;
         Ok(self.space.take(key, size, copies))
     }
 
@@ -112,14 +88,8 @@ impl Services for Desk {
     }
 
     fn claim(&mut self, places: &[Place]) -> Result<(), Unclaimed> {
-        let Asked::Nothing = self.asked else {
-            return Err(Unclaimed::Memory);
-        };
         match self.space.claim(places) {
-            Ok(()) => {
-                self.asked = Asked::Claim;
-                Ok(())
-            }
+            Ok(()) => Ok(()),
             Err(ClaimFault::Taken) => Err(Unclaimed::Taken),
             Err(ClaimFault::Memory) => Err(Unclaimed::Memory),
             Err(ClaimFault::Outside) => unreachable!(),
@@ -130,10 +100,9 @@ impl Services for Desk {
         self.tops.as_slice()
     }
 
-    ghost made_none = { λ a. served_none a.space a.asked };
+    ghost made_none = { λ a. made_none a.space };
 
-    ghost made_then = { λ a b c first second h k. served_then a.space b.space c.space first second a.asked b.asked
-        c.asked h k };
+    ghost made_then = { λ a b c first second h k. made_then h k };
 }
 
 /// Calls that a round may make of its space are right for it: each choice is lawful beside the places in use at the

@@ -18,13 +18,14 @@ use zio_disks::Stop;
 use zio_outside::Disk;
 
 /// Runs until a turn has something to tell, or no key is queued and nothing waits at the leaves. The choices are the
-/// queued keys in their order, then each leaf that has a group to issue, in order of the leaves. Each sound round that
-/// goes on goes on, whatever is picked. It is stopped by a device exactly where a disk's count of faults rose.
+/// queued keys in their order, as many as a pick can tell apart, then each leaf that has a group to issue, in order of
+/// the leaves. Each sound round that goes on goes on, whatever is picked. It is stopped by a device exactly where a
+/// disk's count of faults rose.
 pub fn run_on<N: Staged, D: Disk + Drop, P: Picks>(
     turns: &mut Turns<N>,
     grounds: &mut Grounds<D>,
     picks: &mut P,
-) -> Result<Turned, Stop>
+) -> Result<Turned<N::Seal>, Stop>
     requires going { GoesOnSome N.nodes D.bytes D.image turns.old.nodes turns.old.line grounds.old }
     requires over { AreAll (N.over grounds.old.desk.tops) turns.old.nodes }
     ensures runs { IfOk result
@@ -51,14 +52,14 @@ pub fn run_on<N: Staged, D: Disk + Drop, P: Picks>(
     ensures setting { grounds.new.setting ≡ grounds.old.setting }
 {
     'picks: loop {
-        let keys = turns.len();
+        let keys = pickable(turns.len());
         let choices = keys.saturating_add(grounds.eligible());
         if choices == 0 {
             return Ok(Turned::Nothing);
         }
         let pick = picks.pick(choices);
         if pick < keys {
-            let key = turns.take(pick);
+            let key = turns.take(pick as usize);
             match run_turn(turns, grounds, key)? {
                 Turned::Nothing => {}
                 told => return Ok(told),
@@ -67,4 +68,12 @@ pub fn run_on<N: Staged, D: Disk + Drop, P: Picks>(
             issue_group(turns, grounds, pick - keys)?;
         }
     }
+}
+
+/// How many of so many keys a pick can choose from.
+fn pickable(keys: usize) -> u32
+    ensures most { result ≤ keys }
+    ensures some { result ≡ 0 → keys ≡ 0 }
+{
+    keys.min(u32::MAX as usize) as u32
 }

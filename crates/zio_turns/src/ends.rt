@@ -20,7 +20,6 @@ ghost use Rattle.zio_turns.specs.Ledgers.{AreBehindChildren, AreOnce, Ending, al
 ghost use Rattle.zio_turns.specs.Rounds.{SoFar};
 ghost use Rattle.zio_turns.specs.Sizes.{FitsBodies};
 ghost use Rattle.zio_turns.specs.UnderTrees.{IsOver};
-ghost use Rattle.zio_turns.specs.declared.desk.Asked.{Asked as SeenAsked};
 ghost use Rattle.zio_turns.specs.declared.entry.TiedNode.{TiedNode as SeenEntry};
 
 use crate::node::NodeFacts;
@@ -56,19 +55,19 @@ pub fn books_tell_the_end<N: NodeFacts>()
         × IsPermutation (found_so_far s.entries s.books.claimed) (made_in s.books.done ++ others) }
     ensures apart { (t : Terms) (sizes : ℕ → ℕ) (f : Forest) (before : Option Images) (s : SoFar)
         (slab : Slab (SeenEntry N))
-        (tops : Seq SeenTop) (st : SpaceState) (asked : SeenAsked) → IsOver N.nodes t sizes f before s slab →
-        IsDeskAt t s.entries s.books.claimed s.books.back tops st asked
+        (tops : Seq SeenTop) (st : SpaceState) → IsOver N.nodes t sizes f before s slab →
+        IsDeskAt t s.entries s.books.claimed s.books.back tops st
         → are_open t.used (made_in s.books.done) ≡ true }
     ensures inside { (t : Terms) (sizes : ℕ → ℕ) (f : Forest) (before : Option Images) (s : SoFar)
         (slab : Slab (SeenEntry N))
-        (tops : Seq SeenTop) (st : SpaceState) (asked : SeenAsked) → IsOver N.nodes t sizes f before s slab →
-        IsDeskAt t s.entries s.books.claimed s.books.back tops st asked →
+        (tops : Seq SeenTop) (st : SpaceState) → IsOver N.nodes t sizes f before s slab →
+        IsDeskAt t s.entries s.books.claimed s.books.back tops st →
         AllByRecursion (λ (p : SeenPlace). IsTrue (is_inside (sizes_of t.setting.tops) p)) (made_in s.books.done) }
     ensures live { (t : Terms) (sizes : ℕ → ℕ) (f : Forest) (before : Option Images) (s : SoFar)
         (slab : Slab (SeenEntry N))
-        (tops : Seq SeenTop) (st : SpaceState) (asked : SeenAsked) → IsSoundRound t sizes f →
+        (tops : Seq SeenTop) (st : SpaceState) → IsSoundRound t sizes f →
         IsOver N.nodes t sizes f before s slab →
-        IsDeskAt t s.entries s.books.claimed s.books.back tops st asked → AreOnce t.used → (p : SeenPlace)
+        IsDeskAt t s.entries s.books.claimed s.books.back tops st → AreOnce t.used → (p : SeenPlace)
         → Contains st.live p
         ↔ ((Contains t.used p × ¬ Contains (freed_in s.books.done) p) ⊎ Contains (made_in s.books.done) p) }
 {}

@@ -9,7 +9,7 @@ pub(crate) enum Parent {
     /// The tree of the round with this number.
     Tree { tree: u32, child: u32 },
     /// The node under this key.
-    Node { key: u32, child: u32 },
+    Node { key: usize, child: usize },
 }
 
 /// A node's parent, and what is counted of its children.
@@ -20,7 +20,7 @@ pub(crate) struct Ties {
     pub(crate) parent: Parent,
     pub(crate) counts: Counts,
     /// How many children it handed out.
-    pub(crate) children: u32,
+    pub(crate) children: usize,
 }
 
 /// A node with its ties.

@@ -11,7 +11,6 @@ ghost use Rattle.zio_groups.specs.Issued.{written_spots};
 ghost use Rattle.zio_turns.specs.AtLeaves.{AreInOrder, AreIssued, IsPut, eligible_at, eligible_leaves, keys_at, no_waits, put_as, waiting_at};
 ghost use Rattle.zio_turns.specs.Entries.{times_in};
 ghost use Rattle.zio_turns.specs.Grounds.{AreReady};
-ghost use Rattle.zio_turns.specs.declared.desk.Asked.TheVariants.{Nothing};
 
 use crate::desk::Desk;
 use crate::leaf_queues::Queues;
@@ -58,7 +57,6 @@ impl<D: Disk + Drop> Grounds<D> {
         ensures tops { IfOk result (λ grounds. grounds.desk.tops ≡ tops) }
         ensures space { IfOk result (λ grounds. grounds.desk.space ≡
             record { sizes = sizes_of tops; live = []; pending = []; entries = []; spare = 0 }) }
-        ensures asked { IfOk result (λ grounds. grounds.desk.asked ≡ Nothing) }
         ensures leaves { IfOk result (λ grounds. grounds.queues.leaves.items
             ≡ replicate (length disks.items) no_waits) }
         ensures ready { IfOk result (λ grounds.
@@ -83,7 +81,7 @@ impl<D: Disk + Drop> Grounds<D> {
 
     /// The operation waits at the leaf under this key, under which none waits. Where memory is refused nothing has
     /// changed, and the bytes are dropped.
-    pub fn put(&mut self, leaf: u32, key: u32, op: Op, bytes: Bytes) -> Result<(), Stop>
+    pub fn put(&mut self, leaf: u32, key: usize, op: Op, bytes: Bytes) -> Result<(), Stop>
         requires there { leaf < length self.old.queues.leaves.items }
         requires fits { FitsDevice op }
         requires lies { end_of op ≤ slice_index_or (map D.bytes self.old.disks.items) leaf 0 }
@@ -140,7 +138,6 @@ impl<D: Disk + Drop> Grounds<D> {
         ensures entries { result ≡ self.old.desk.space.entries }
         ensures space { self.new.desk.space ≡
             record self.old.desk.space { pending = []; entries = []; spare = 0 } }
-        ensures asked { self.new.desk.asked ≡ Nothing }
         ensures tops { self.new.desk.tops ≡ self.old.desk.tops }
         ensures setting { self.new.setting ≡ self.old.setting }
         ensures disks { self.new.disks.items ≡ self.old.disks.items }

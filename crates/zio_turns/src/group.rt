@@ -61,7 +61,7 @@ fn tell_answers<N: Staged>(turns: &mut Turns<N>, answers: List<Answered>) -> Res
         ≤ load N.nodes.left turns.old.nodes turns.old.line + length answers) }
 {
     for answer in answers.into_rest() {
-        turns.answered(answer.ticket, answer.error, answer.bytes)?;
+        turns.answered(answer.ticket as usize, answer.error, answer.bytes)?;
     }
     Ok(())
 }

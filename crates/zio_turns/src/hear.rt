@@ -14,7 +14,7 @@ use crate::staged::Staged;
 use crate::step::Step;
 use slab::Slab;
 use zio_blkptr::Bp;
-use zio_stages::{Finished, Outcome};
+use zio_exchange::{Finished, Outcome};
 use zio_types::{Bits, ChildKind, Errno, NoMemory, Phase, Top};
 
 /// What a parent counts of a child that became ready or done.
@@ -30,7 +30,7 @@ struct Mark {
 fn count<N>(
     nodes: &mut Slab<TiedNode<N>>,
     line: &mut Line,
-    key: u32,
+    key: usize,
     entry: TiedNode<N>,
     mark: Mark,
 ) -> Result<(), NoMemory>
@@ -57,15 +57,15 @@ fn tell_node<N: Staged>(
     nodes: &mut Slab<TiedNode<N>>,
     line: &mut Line,
     kind: ChildKind,
-    key: u32,
-    child: u32,
+    key: usize,
+    child: usize,
     pointer: Option<Bp>,
 ) -> Result<(), NoMemory>
     requires valid { IfSome pointer (λ bp. IsTrue (valid bp)) }
     requires can { AwaitsReady N.nodes nodes.old kind key child }
     ensures { OnOk result (NodeTold N.nodes N.over nodes.old line.old nodes.new line.new kind key child pointer) }
 {
-    let TiedNode { node, ties } = nodes.remove(key as usize);
+    let TiedNode { node, ties } = nodes.remove(key);
     let node = node.arrive_ready(child, pointer);
     let mark = Mark {
         kind,
@@ -83,7 +83,7 @@ pub(crate) fn tell<N: Staged>(
     kind: ChildKind,
     parent: Parent,
     pointer: Option<Bp>,
-) -> Result<Step, NoMemory>
+) -> Result<Step<N::Seal>, NoMemory>
     requires valid { IfSome pointer (λ bp. IsTrue (valid bp)) }
     requires can { CanTell N.nodes nodes.old kind parent }
     ensures told { OnOk result (HasTold N.nodes N.over nodes.old line.old nodes.new line.new kind parent pointer) }
@@ -99,7 +99,7 @@ pub(crate) fn tell<N: Staged>(
 }
 
 /// What a parent counts of a child's error.
-fn error_of(outcome: &Outcome) -> Option<Errno> {
+fn error_of<S>(outcome: &Outcome<S>) -> Option<Errno> {
     match outcome {
         Outcome::Finished(finished) => finished.error(),
         Outcome::Found(Err(error)) => Some(*error),
@@ -108,7 +108,7 @@ fn error_of(outcome: &Outcome) -> Option<Errno> {
     }
 }
 
-fn bits_of(outcome: &Outcome) -> Bits {
+fn bits_of<S>(outcome: &Outcome<S>) -> Bits {
     match outcome {
         Outcome::Again { bits, .. } => *bits,
         _ => Bits::NONE,
@@ -121,10 +121,10 @@ fn end_node<N: Staged>(
     line: &mut Line,
     tops: &[Top],
     kind: ChildKind,
-    key: u32,
-    child: u32,
-    outcome: Outcome,
-) -> Result<Option<Finished>, NoMemory>
+    key: usize,
+    child: usize,
+    outcome: Outcome<N::Seal>,
+) -> Result<Option<Finished<N::Seal>>, NoMemory>
     requires can { AwaitsEnd N.nodes N.over tops.now nodes.old kind key child outcome }
     requires inside { OutcomeIn (N.tree_over tops.now) outcome }
     ensures heard { OnOk result
@@ -137,7 +137,7 @@ fn end_node<N: Staged>(
         error: error_of(&outcome),
         bits: bits_of(&outcome),
     };
-    let TiedNode { node, ties } = nodes.remove(key as usize);
+    let TiedNode { node, ties } = nodes.remove(key);
     let Ok((node, finished)) = node.arrive(tops, child, outcome) else {
         return Err(NoMemory);
     };
@@ -151,8 +151,8 @@ pub(crate) fn end<N: Staged>(
     line: &mut Line,
     tops: &[Top],
     ties: &Ties,
-    outcome: Outcome,
-) -> Result<Step, NoMemory>
+    outcome: Outcome<N::Seal>,
+) -> Result<Step<N::Seal>, NoMemory>
     requires can { CanEnd N.nodes N.over tops.now nodes.old ties.now.kind ties.now.parent outcome }
     requires inside { OutcomeIn (N.tree_over tops.now) outcome }
     ensures ended { IfOk result

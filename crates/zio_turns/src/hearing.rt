@@ -15,15 +15,15 @@ use crate::staged::Staged;
 use crate::turn::Turned;
 use crate::turns::Turns;
 use zio_disks::Stop;
+use zio_exchange::{Finished, Outcome};
 use zio_outside::Disk;
-use zio_stages::{Finished, Outcome};
 
 /// With what the attempt of a tree of the round ended.
 #[derive(Drop)]
-pub struct Hearing {
+pub struct Hearing<S> {
     /// The tree's number.
     pub tree: u32,
-    pub outcome: Outcome,
+    pub outcome: Outcome<S>,
 }
 
 /// Runs until a tree of the round hears of its attempt, or no key is queued and nothing waits at the leaves. The
@@ -34,8 +34,8 @@ pub fn run_to_tree<N: Staged, D: Disk + Drop, P: Picks>(
     turns: &mut Turns<N>,
     grounds: &mut Grounds<D>,
     picks: &mut P,
-    ended: &mut Vec<Finished>,
-) -> Result<Option<Hearing>, Stop>
+    ended: &mut Vec<Finished<N::Seal>>,
+) -> Result<Option<Hearing<N::Seal>>, Stop>
     requires going { GoesOnSome N.nodes D.bytes D.image turns.old.nodes turns.old.line grounds.old }
     requires over { AreAll (N.over grounds.old.desk.tops) turns.old.nodes }
     ensures runs { IfOk result

@@ -7,10 +7,10 @@ ghost use Rattle.zio_vqueue.specs.declared.op.Op.{Op as SeenOp};
 ghost use Rattle.zio_vqueue.specs.Queues.{FitsDevice, end_of};
 ghost use Rattle.zio_disks.specs.Disks.{Handles};
 ghost use Rattle.zio_groups.specs.Issued.{EndsOn, written_spots};
+ghost use Rattle.zio_exchange.specs.LeafOps.{IsOpFor};
 ghost use Rattle.zio_turns.specs.AtLeaves.{AllWait, AreInOrder, AreIssued, IsPut, WaitsFor, eligible_at, eligible_leaves, has_group, keys_at, no_waits, put_as, waiting_at};
 ghost use Rattle.zio_turns.specs.Entries.{times_in};
 ghost use Rattle.zio_turns.specs.ShortTops.{AreShort, EndsWithTops};
-ghost use Rattle.zio_stages.specs.LeafWorks.{IsOpFor};
 ghost use Rattle.zio_turns.specs.Stages.{ShowsAnswer};
 ghost use Rattle.zio_trace.specs.Leaves.{Answer, LeafOp, LiesOn, spot_of};
 ghost use Rattle.zio_types.specs.declared.error.Errno.{Errno as SeenErrno};
@@ -45,7 +45,7 @@ impl Queues {
 
     /// The operation waits at the leaf under this key, under which none waits, with the bytes of a write. Where memory
     /// is refused nothing has changed, and the bytes are dropped.
-    pub fn put(&mut self, leaf: u32, key: u32, op: Op, bytes: Bytes) -> Result<(), NoMemory>
+    pub fn put(&mut self, leaf: u32, key: usize, op: Op, bytes: Bytes) -> Result<(), NoMemory>
         requires there { leaf < length self.old.leaves.items }
         requires fits { FitsDevice op }
         requires apart { times_in key (keys_at self.old.leaves.items) ≡ 0 }
@@ -55,7 +55,10 @@ impl Queues {
         ensures order { AreInOrder self.old.leaves.items → AreInOrder self.new.leaves.items }
     {
         let len = op.len as usize;
-        let op = Op { ticket: key, ..op };
+        let op = Op {
+            ticket: key as u64,
+            ..op
+        };
         self.leaves[leaf as usize].put(op, cut_to(bytes, len))
     }
 

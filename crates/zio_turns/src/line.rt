@@ -1,6 +1,6 @@
 //! The line itself.
 
-ghost use Rattle.std.specs.Prelude.{◌≡◌, ◌<◌, ◌-◌, ◌^◌, ◌++◌, ◌∷◌, [], length, slice_index, OnOk, OnErr};
+ghost use Rattle.std.specs.Prelude.{◌≡◌, ◌<◌, ◌++◌, ◌∷◌, [], length, slice_index, OnOk, OnErr};
 ghost use Rattle.std.specs.List.{remove};
 
 use crate::table::Table;
@@ -36,15 +36,14 @@ impl Line {
         }
     }
 
-    pub fn len(&self) -> u32
+    pub fn len(&self) -> usize
         ensures { result ≡ length self.now }
     {
         self.table.len()
     }
 
     /// Adds a value at the end. Where memory is refused the line is as it was.
-    pub fn push(&mut self, value: u32) -> Result<(), NoMemory>
-        requires { length self.old < 2 ^ 32 - 1 }
+    pub fn push(&mut self, value: usize) -> Result<(), NoMemory>
         ensures ok { OnOk result (self.new ≡ self.old ++ value ∷ []) }
         ensures err { OnErr result (self.new ≡ self.old) }
     {
@@ -56,7 +55,7 @@ impl Line {
     }
 
     /// Takes the k-th of those that wait, counted from 0. The others keep their order.
-    pub fn take(&mut self, k: u32) -> u32
+    pub fn take(&mut self, k: usize) -> usize
         requires { k < length self.old }
         ensures value { result ≡ slice_index self.old k }
         ensures others { self.new ≡ remove self.old k }

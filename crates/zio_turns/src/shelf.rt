@@ -1,13 +1,14 @@
 //! Nodes under keys, and those in the queue.
 
-ghost use Rattle.std.specs.Prelude.{◌≡◌, ◌∷◌, ◌++◌, [], IfOk, None, OnOk, Some};
+ghost use Rattle.std.specs.Prelude.{◌≡◌, ◌+◌, ◌<◌, ◌∷◌, ◌++◌, [], IfOk, None, OnOk, Some};
 ghost use Rattle.slab.specs.Slab.{HasRoomFor, Updates, get};
+ghost use Rattle.zio_counts.specs.Tallies.{counted};
 ghost use Rattle.zio_turns.specs.Acts.{HasGrown, HasWaited, new_ties};
 
 use crate::entry::{Parent, TiedNode, Ties};
 use crate::line::Line;
 use slab::Slab;
-use zio_counts::{Counts, OPEN_CHILDREN_MAX};
+use zio_counts::Counts;
 use zio_types::{ChildKind, NoMemory, Phase};
 
 /// The ties of a node that handed out nothing yet.
@@ -23,17 +24,14 @@ pub(crate) fn new_ties(kind: ChildKind, parent: Parent) -> Ties
 }
 
 /// Queues the key behind the others.
-pub(crate) fn queue_up(line: &mut Line, key: u32) -> Result<(), NoMemory>
+pub(crate) fn queue_up(line: &mut Line, key: usize) -> Result<(), NoMemory>
     ensures { OnOk result (line.new ≡ line.old ++ key ∷ []) }
 {
-    if line.len() == u32::MAX {
-        return Err(NoMemory);
-    }
     line.push(key)
 }
 
 /// Puts a node back under the key that was freed last.
-pub(crate) fn put_back<N>(nodes: &mut Slab<TiedNode<N>>, key: u32, entry: TiedNode<N>)
+pub(crate) fn put_back<N>(nodes: &mut Slab<TiedNode<N>>, key: usize, entry: TiedNode<N>)
     requires room { HasRoomFor nodes.old 1 }
     requires free { nodes.old.vacant_key ≡ key }
     ensures { Updates nodes.old nodes.new key (Some entry) }
@@ -41,35 +39,25 @@ pub(crate) fn put_back<N>(nodes: &mut Slab<TiedNode<N>>, key: u32, entry: TiedNo
     nodes.insert_reserved(entry);
 }
 
-/// The key as a number of 32 bits.
-fn narrow(key: usize) -> Result<u32, NoMemory>
-    ensures { IfOk result (λ k. k ≡ key) }
-{
-    if key > u32::MAX as usize {
-        return Err(NoMemory);
-    }
-    Ok(key as u32)
-}
-
 /// Gives a node a key.
 pub(crate) fn add<N: Drop>(
     nodes: &mut Slab<TiedNode<N>>,
     entry: TiedNode<N>,
-) -> Result<u32, NoMemory>
+) -> Result<usize, NoMemory>
     ensures free { IfOk result (λ key. get nodes.old key ≡ None) }
     ensures added { IfOk result (λ key. Updates nodes.old nodes.new key (Some entry)) }
 {
-    let Ok(key) = nodes.insert(entry) else {
-        return Err(NoMemory);
-    };
-    narrow(key)
+    match nodes.insert(entry) {
+        Ok(key) => Ok(key),
+        Err(_) => Err(NoMemory),
+    }
 }
 
 /// The node stalls until no child of this kind owes the phase, or is queued where none does.
 pub(crate) fn wait<N: Drop>(
     nodes: &mut Slab<TiedNode<N>>,
     line: &mut Line,
-    key: u32,
+    key: usize,
     entry: TiedNode<N>,
     kind: ChildKind,
     phase: Phase,
@@ -88,30 +76,27 @@ pub(crate) fn wait<N: Drop>(
     queue_up(line, key)
 }
 
-/// The child is the next of the node, and both are queued, the child first.
+/// The child is the next of the node, which has so many children now, and both are queued, the child first.
 pub(crate) fn grow<N: Drop>(
     nodes: &mut Slab<TiedNode<N>>,
     line: &mut Line,
-    key: u32,
+    key: usize,
     entry: TiedNode<N>,
     child: N,
     kind: ChildKind,
+    children: usize,
 ) -> Result<(), NoMemory>
     requires room { HasRoomFor nodes.old 1 }
     requires free { nodes.old.vacant_key ≡ key }
+    requires children { children ≡ entry.ties.children + 1 }
+    requires few { counted kind Phase.Done entry.ties.counts < children }
     ensures { OnOk result (HasGrown nodes.old line.old nodes.new line.new key entry child kind) }
 {
     let TiedNode { node, ties } = entry;
     let mut ties = ties;
     let number = ties.children;
-    if number == u32::MAX {
-        return Err(NoMemory);
-    }
-    if ties.counts.count(kind, Phase::Done) >= OPEN_CHILDREN_MAX {
-        return Err(NoMemory);
-    }
     ties.counts.add(kind);
-    ties.children = number + 1;
+    ties.children = children;
     put_back(nodes, key, TiedNode { node, ties });
     let parent = Parent::Node { key, child: number };
     let at = add(

@@ -1,7 +1,7 @@
 //! What an engine does with its nodes: it runs their stages, and tells them what their children and the leaves
 //! answered.
 
-ghost use Rattle.std.specs.Prelude.{◌≡◌, ◌≢◌, ◌+◌, ◌<◌, ◌≤◌, List as Seq, [], IfErr, IfOk, IfSome, IsTrue, Ok, Err, Some, false};
+ghost use Rattle.std.specs.Prelude.{◌≡◌, ◌≢◌, ◌+◌, ◌<◌, ◌≤◌, List as Seq, [], IfErr, IfOk, IfSome, IsTrue, Ok, Err, Some, false, length};
 ghost use Rattle.zio_types.specs.Choices.{Ask};
 ghost use Rattle.zio_types.specs.declared.place.Top.{Top as SeenTop};
 ghost use Rattle.zio_blkptr.specs.Pointers.{valid};
@@ -11,23 +11,23 @@ ghost use Rattle.zio_trace.specs.Leaves.{Answer, LeafOp};
 ghost use Rattle.zio_trace.specs.Tasks.{Attempt, Find, Got, Leaf, Task, Value};
 ghost use Rattle.zio_frames.specs.Frames.{Child, Stack, fresh_stack};
 ghost use Rattle.zio_frames.specs.Moves.{done_at_once, heard_early, heard_of};
-ghost use Rattle.zio_stages.specs.SpaceCalls.{SpaceCall};
-ghost use Rattle.zio_stages.specs.Wholes.{IsTreeOf};
-ghost use Rattle.zio_stages.specs.declared.outcome.Outcome.{Outcome as SeenOutcome};
-ghost use Rattle.zio_stages.specs.declared.waiting.UnfinishedRequest.{UnfinishedRequest};
+ghost use Rattle.zio_exchange.specs.SpaceCalls.{SpaceCall};
+ghost use Rattle.zio_exchange.specs.Wholes.{IsTreeOf};
+ghost use Rattle.zio_exchange.specs.declared.waiting.UnfinishedRequest.{UnfinishedRequest};
+ghost use Rattle.zio_exchange.specs.declared.outcome.Outcome.{Outcome as SeenOutcome};
 ghost use Rattle.zio_turns.specs.Stages.{AreItsOwn, EachIn, GoesOn, Hears, HearsEarly, HearsSome, HearsSomeEarly, IsMove, IsNow, Lessens, OutcomeIn, ShowsAnswer, TellsValid, heard_max};
 
 use crate::node::NodeFacts;
 use std::alloc::Global;
 use zio_blkptr::Bp;
+use zio_exchange::{Finished, Outcome, Services, Whole, WholeBack};
 use zio_script::Failmode;
-use zio_stages::{Finished, Outcome, Services, Whole, WholeBack};
 use zio_types::{Bytes, ChildKind, Errno, Phase, Top};
 use zio_vqueue::Op;
 
 /// What a stage of a node comes to.
 #[derive(Drop)]
-pub enum Move<N> {
+pub enum Move<N, S> {
     /// The node goes on.
     Next(N),
     /// It waits until no child of this kind owes this phase.
@@ -38,19 +38,22 @@ pub enum Move<N> {
     Leaf(N, Op, u32, Bytes),
     /// Its value will have this pointer, or none.
     Ready(N, Option<Bp>),
-    End(Outcome),
+    End(Outcome<S>),
 }
 
 /// There is no memory for what a node heard.
 #[derive(Drop)]
-pub struct BothBack<N> {
+pub struct BothBack<N, S> {
     pub node: N,
-    pub outcome: Outcome,
+    pub outcome: Outcome<S>,
 }
 
 /// A node whose stages an engine runs.
 pub trait Staged: NodeFacts + Drop {
     ghost use Rattle.zio_turns.specs.declared.staged.Move.{Move as SeenMove};
+
+    /// Under which its requests finish.
+    type Seal: Drop;
 
     /// What it is to read, write or free lies inside these tops.
     ghost over: { Seq SeenTop → Self → Type 0 };
@@ -59,7 +62,7 @@ pub trait Staged: NodeFacts + Drop {
     ghost tree_over: { Seq SeenTop → Seq UnfinishedRequest → Type 0 };
 
     /// Where a stage leaves it.
-    ghost leads: { Self → SeenMove Self → Type 0 };
+    ghost leads: { Self → SeenMove Self Self.Seal → Type 0 };
 
     /// Nothing of this attempt of a tree is done. Where memory is refused the tree comes back.
     fn start(
@@ -80,9 +83,13 @@ pub trait Staged: NodeFacts + Drop {
 
     /// Runs one stage. Where memory is refused the node comes back, the stage is to be repeated, and what it did of it
     /// stays.
-    fn run_stage<S: Services>(self, alloc: Global, services: &mut S) -> Result<Move<Self>, Self>
+    fn run_stage<S: Services>(
+        self,
+        alloc: Global,
+        services: &mut S,
+    ) -> Result<Move<Self, Self::Seal>, Self>
         requires { over (S.tops services.old) self }
-        ensures moves { (move : Move Self) → result ≡ Ok move → (calls : Seq SpaceCall)
+        ensures moves { (move : Move Self Self.Seal) → result ≡ Ok move → (calls : Seq SpaceCall)
             × S.made services.old calls services.new
             × ((t : Terms) (st : Stack) → IsNow Self.nodes (S.tops services.old) t self st
             → IsMove Self.nodes Self.nodes.gave t self st calls move) }
@@ -97,7 +104,7 @@ pub trait Staged: NodeFacts + Drop {
         ensures tops { S.tops services.new ≡ S.tops services.old };
 
     /// The child of this number told which pointer its value will have, or that it has none.
-    fn arrive_ready(self, child: u32, pointer: Option<Bp>) -> Self
+    fn arrive_ready(self, child: usize, pointer: Option<Bp>) -> Self
         requires awaited { HearsSomeEarly Self.nodes self child }
         requires valid { IfSome pointer (λ bp. IsTrue (valid bp)) }
         ensures heard { (t : Terms) (st : Stack) (c : Child) → HearsEarly Self.nodes t self st child c →
@@ -112,9 +119,9 @@ pub trait Staged: NodeFacts + Drop {
     fn arrive(
         self,
         tops: &[Top],
-        child: u32,
-        outcome: Outcome,
-    ) -> Result<(Self, Option<Finished>), BothBack<Self>>
+        child: usize,
+        outcome: Outcome<Self::Seal>,
+    ) -> Result<(Self, Option<Finished<Self::Seal>>), BothBack<Self, Self::Seal>>
         requires over { over tops.now self }
         requires awaited { HearsSome Self.nodes tops.now self child outcome }
         requires inside { OutcomeIn (tree_over tops.now) outcome }
@@ -126,6 +133,10 @@ pub trait Staged: NodeFacts + Drop {
         ensures gave { IfOk result (λ both. Self.nodes.gave both.0 ≡ Self.nodes.gave self) }
         ensures over_still { IfOk result (λ both. over tops.now both.0) }
         ensures left { IfOk result (λ both. Self.nodes.left both.0 ≤ Self.nodes.left self + heard_max) };
+
+    /// How many children it handed out.
+    fn children(&self) -> usize
+        ensures { (t : Terms) (st : Stack) → Self.nodes.Is t self.now st → result ≡ length st.children };
 
     /// The leaf answered: an error or none, and the bytes of a read.
     fn answered(self, error: Option<Errno>, bytes: Bytes) -> Self

@@ -1,12 +1,12 @@
 //! What a stage of a node is to its engine.
 
-use zio_stages::{Finished, Outcome};
+use zio_exchange::{Finished, Outcome};
 use zio_types::Bytes;
 use zio_vqueue::Op;
 
 /// What a stage of the node whose turn it is comes to.
 #[derive(Drop)]
-pub enum Step {
+pub enum Step<S> {
     /// Its turn goes on.
     Goes,
     /// The tree of this number heard which pointer its value will have, and its turn goes on.
@@ -16,7 +16,7 @@ pub enum Step {
     /// An operation for the leaf of this number, with the bytes of a write.
     Leaf(Op, u32, Bytes),
     /// It ended, maybe as a request that finished, and its parent heard of that.
-    Ended(Option<Finished>),
+    Ended(Option<Finished<S>>),
     /// It ended, and the tree of this number hears of that.
-    Root(u32, Outcome),
+    Root(u32, Outcome<S>),
 }

@@ -7,7 +7,7 @@ ghost use Rattle.std.specs.Prelude.{◌≡◌, ◌+◌, ◌-◌, ◌<◌, ◌≤
 ghost use Rattle.zio_turns.specs.LineSums.{AreSums, places_of, sum_of};
 
 /// The place at which the sum of the numbers from the first on passes `k`.
-pub(crate) fn place_of(nodes: &[u32], k: u32) -> usize
+pub(crate) fn place_of(nodes: &[usize], k: usize) -> usize
     requires sums { AreSums nodes.now }
     requires within { k < sum_of (places_of nodes.now) }
     ensures place { result < length (places_of nodes.now) }
@@ -28,10 +28,10 @@ pub(crate) fn place_of(nodes: &[u32], k: u32) -> usize
 }
 
 /// One more at a place.
-pub(crate) fn raise(nodes: &mut [u32], place: usize)
+pub(crate) fn raise(nodes: &mut [usize], place: usize)
     requires sums { AreSums nodes.old }
     requires place { place < length (places_of nodes.old) }
-    requires fits { sum_of (places_of nodes.old) < 2 ^ 32 - 1 }
+    requires fits { sum_of (places_of nodes.old) < usize.MAX }
     ensures sums { AreSums nodes.new }
     ensures places { places_of nodes.new
         ≡ slice_set (places_of nodes.old) place (slice_index (places_of nodes.old) place + 1) }
@@ -44,7 +44,7 @@ pub(crate) fn raise(nodes: &mut [u32], place: usize)
 }
 
 /// One less at a place that has some.
-pub(crate) fn lower(nodes: &mut [u32], place: usize)
+pub(crate) fn lower(nodes: &mut [usize], place: usize)
     requires sums { AreSums nodes.old }
     requires place { place < length (places_of nodes.old) }
     requires some { 0 < slice_index (places_of nodes.old) place }
@@ -60,7 +60,7 @@ pub(crate) fn lower(nodes: &mut [u32], place: usize)
 }
 
 /// The sum of all numbers.
-pub(crate) fn whole(nodes: &[u32]) -> u32
+pub(crate) fn whole(nodes: &[usize]) -> usize
     requires { AreSums nodes.now }
     ensures { result ≡ sum_of (places_of nodes.now) }
 {

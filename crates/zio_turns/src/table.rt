@@ -1,6 +1,6 @@
 //! Places with values, of which new ones take the next.
 
-ghost use Rattle.std.specs.Prelude.{◌≡◌, ◌+◌, ◌-◌, ◌*◌, ◌<◌, ◌≤◌, ◌^◌, ◌++◌, ◌∷◌, ◌↔◌, [], length, slice_index, IfOk, IsTrue};
+ghost use Rattle.std.specs.Prelude.{◌≡◌, ◌+◌, ◌*◌, ◌<◌, ◌≤◌, ◌^◌, ◌++◌, ◌∷◌, ◌↔◌, [], length, slice_index, IfOk, IsTrue};
 ghost use Rattle.std.specs.List.{remove};
 ghost use Rattle.zio_turns.specs.LineSums.{IsSize};
 
@@ -13,8 +13,8 @@ use zio_types::NoMemory;
 #[derive(Drop)]
 pub(crate) struct Table {
     /// How many values stand below each node, as `sums` lays them out.
-    nodes: Vec<u32>,
-    places: Vec<Option<u32>>,
+    nodes: Vec<usize>,
+    places: Vec<Option<usize>>,
     /// From here on no place was used.
     used: usize,
 }
@@ -57,7 +57,7 @@ impl Table {
     }
 
     /// How many wait.
-    pub(crate) fn len(&self) -> u32
+    pub(crate) fn len(&self) -> usize
         ensures { result ≡ length self.now.waiting }
     {
         whole(&self.nodes)
@@ -70,9 +70,8 @@ impl Table {
     }
 
     /// The value takes the next place.
-    pub(crate) fn put(&mut self, value: u32)
-        requires room { self.old.used < self.old.size }
-        requires fits { length self.old.waiting < 2 ^ 32 - 1 }
+    pub(crate) fn put(&mut self, value: usize)
+        requires { self.old.used < self.old.size }
         ensures { self.new ≡ record self.old { waiting = self.old.waiting ++ value ∷ []; used = self.old.used + 1 } }
     {
         self.places[self.used] = Some(value);
@@ -81,7 +80,7 @@ impl Table {
     }
 
     /// Takes the k-th of those that wait.
-    pub(crate) fn take(&mut self, k: u32) -> u32
+    pub(crate) fn take(&mut self, k: usize) -> usize
         requires { k < length self.old.waiting }
         ensures value { result ≡ slice_index self.old.waiting k }
         ensures others { self.new ≡ record self.old { waiting = remove self.old.waiting k } }
@@ -96,12 +95,11 @@ impl Table {
     /// The same values at the first places of a table that has room, and no less than half of its places unused before
     /// the next value comes.
     pub(crate) fn moved(&self, alloc: Global) -> Result<Table, NoMemory>
-        requires { length self.now.waiting < 2 ^ 32 - 1 }
         ensures waiting { IfOk result (λ table. table.waiting ≡ self.now.waiting) }
         ensures used { IfOk result (λ table. table.used ≡ length self.now.waiting) }
         ensures room { IfOk result (λ table. 2 * table.used ≤ table.size × table.used < table.size) }
     {
-        let size = roomy_size(self.places.len(), self.len() as usize);
+        let size = roomy_size(self.places.len(), self.len());
         let mut table = Table::with_size(alloc, size)?;
         for place in &self.places {
             if let Some(value) = place {

@@ -3,7 +3,7 @@
 ghost use Rattle.std.specs.Prelude.{◌≡◌, ◌++◌, ◌<◌, ◌≤◌, List as Seq, IfOk, IfSome, OnOk};
 ghost use Rattle.zio_types.specs.declared.place.Top.{Top as SeenTop};
 ghost use Rattle.zio_gang.specs.Attempts.{now_alone};
-ghost use Rattle.zio_stages.specs.Wholes.{IsWhole};
+ghost use Rattle.zio_exchange.specs.Wholes.{IsWhole};
 ghost use Rattle.zio_turns.specs.Rounds.{finished_in};
 ghost use Rattle.zio_turns.specs.Slabs.{AreAll};
 ghost use Rattle.zio_turns.specs.Stages.{OutcomeIn};
@@ -13,8 +13,8 @@ use crate::staged::Staged;
 use crate::turns::Turns;
 use std::alloc::Global;
 use zio_counts::REEXECUTIONS_MAX;
+use zio_exchange::{Finished, Outcome, Whole};
 use zio_script::Failmode;
-use zio_stages::{Finished, Outcome, Whole};
 use zio_types::{Bits, NoMemory};
 
 /// With what a tree is settled in a round.
@@ -81,8 +81,8 @@ pub fn hear_tree<N: Staged>(
     failmode: Failmode,
     tree: u32,
     attempt: u32,
-    outcome: Outcome,
-    ended: &mut Vec<Finished>,
+    outcome: Outcome<N::Seal>,
+    ended: &mut Vec<Finished<N::Seal>>,
 ) -> Result<Option<TreeEnd>, NoMemory>
     requires attempt { attempt ≤ 3 }
     requires outcome { IsOfAttempt outcome }

@@ -9,18 +9,18 @@ use crate::staged::Staged;
 use crate::step::Step;
 use crate::turns::Turns;
 use zio_disks::Stop;
+use zio_exchange::{Finished, Outcome};
 use zio_outside::Disk;
-use zio_stages::{Finished, Outcome};
 
 /// What a turn has to tell.
 #[derive(Drop)]
-pub enum Turned {
+pub enum Turned<S> {
     /// The node waits for its children or for a leaf, or it is queued again, or it ended as a part of a request.
     Nothing,
     /// A request finished.
-    Ended(Finished),
+    Ended(Finished<S>),
     /// The tree of this number hears of its attempt.
-    Root(u32, Outcome),
+    Root(u32, Outcome<S>),
 }
 
 /// The turn of the node under the key: stages one after another until it rests, is at a leaf, or ended. Its operation
@@ -29,8 +29,8 @@ pub enum Turned {
 pub fn run_turn<N: Staged, D: Disk + Drop>(
     turns: &mut Turns<N>,
     grounds: &mut Grounds<D>,
-    key: u32,
-) -> Result<Turned, Stop>
+    key: usize,
+) -> Result<Turned<N::Seal>, Stop>
     requires going { GoesOnSome N.nodes D.bytes D.image turns.old.nodes (key ∷ turns.old.line) grounds.old }
     requires over { AreAll (N.over grounds.old.desk.tops) turns.old.nodes }
     ensures turns { IfOk result

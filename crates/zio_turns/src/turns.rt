@@ -3,10 +3,10 @@
 ghost use Rattle.std.specs.Prelude.{◌≡◌, ◌+◌, ◌*◌, ◌<◌, List as Seq, [], IfOk, OnOk, length, slice_index};
 ghost use Rattle.std.specs.List.{remove};
 ghost use Rattle.zio_types.specs.declared.place.Top.{Top as SeenTop};
-ghost use Rattle.zio_stages.specs.SpaceCalls.{SpaceCall};
+ghost use Rattle.zio_exchange.specs.SpaceCalls.{SpaceCall};
 ghost use Rattle.zio_turns.specs.Acts.{StepIn, load_of};
 ghost use Rattle.zio_turns.specs.Desks.{GivesLast};
-ghost use Rattle.zio_turns.specs.Rounds.{Begins, ClaimsAlone, ComesBack, HandsOut, HasTurn, IsAtLeaf, IsTurn, StepsOn};
+ghost use Rattle.zio_turns.specs.Rounds.{AsksRightly, Begins, ClaimsAlone, ComesBack, HandsOut, HasTurn, IsAtLeaf, IsTurn, StepsOn};
 ghost use Rattle.zio_turns.specs.Slabs.{AreAll, load};
 
 use crate::entry::{Parent, TiedNode};
@@ -17,7 +17,7 @@ use crate::staged::{Move, Staged};
 use crate::step::Step;
 use slab::Slab;
 use std::alloc::Global;
-use zio_stages::Services;
+use zio_exchange::Services;
 use zio_types::{Bytes, ChildKind, Errno, NoMemory};
 
 /// The nodes of a round under their keys, and the queue of those whose turn it may be.
@@ -43,7 +43,7 @@ impl<N: Staged> Turns<N> {
     }
 
     /// How many keys are queued.
-    pub fn len(&self) -> u32
+    pub fn len(&self) -> usize
         ensures { result ≡ length self.now.line }
     {
         self.line.len()
@@ -64,7 +64,7 @@ impl<N: Staged> Turns<N> {
     }
 
     /// Takes the k-th key of the queue, counted from 0: it is its turn. The others keep their order.
-    pub fn take(&mut self, k: u32) -> u32
+    pub fn take(&mut self, k: usize) -> usize
         requires { k < length self.old.line }
         ensures key { result ≡ slice_index self.old.line k }
         ensures others { self.new.line ≡ remove self.old.line k }
@@ -80,13 +80,13 @@ impl<N: Staged> Turns<N> {
         &mut self,
         alloc: Global,
         services: &mut S,
-        key: u32,
-    ) -> Result<Step, NoMemory>
+        key: usize,
+    ) -> Result<Step<N::Seal>, NoMemory>
         requires { IsTurn N.nodes N.over (S.tops services.old) self.old.nodes self.old.line key }
         ensures steps { IfOk result (λ step. (calls : Seq SpaceCall) × S.made services.old calls services.new
             × ClaimsAlone N.nodes (S.tops services.old) calls self.old.nodes self.old.line key × GivesLast calls
             × StepsOn N.nodes (S.tops services.old) calls self.old.nodes self.old.line self.new.nodes self.new.line key
-            step) }
+            step × AsksRightly N.nodes (S.tops services.old) calls self.old.nodes self.old.line key) }
         ensures over { OnOk result (AreAll (N.over (S.tops services.old)) self.new.nodes) }
         ensures less { IfOk result (λ step. load N.nodes.left self.new.nodes self.new.line + load_of step
             < load N.nodes.left self.old.nodes self.old.line + 1) }
@@ -95,7 +95,7 @@ impl<N: Staged> Turns<N> {
     {
         N::does_its_part();
         let Turns { nodes, line } = self;
-        let TiedNode { node, ties } = nodes.remove(key as usize);
+        let TiedNode { node, ties } = nodes.remove(key);
         let Ok(moved) = node.run_stage(alloc, services) else {
             return Err(NoMemory);
         };
@@ -109,7 +109,16 @@ impl<N: Staged> Turns<N> {
                 Ok(Step::Rests)
             }
             Move::Grow(node, child, kind) => {
-                grow(nodes, line, key, TiedNode { node, ties }, child, kind)?;
+                let children = node.children();
+                grow(
+                    nodes,
+                    line,
+                    key,
+                    TiedNode { node, ties },
+                    child,
+                    kind,
+                    children,
+                )?;
                 Ok(Step::Rests)
             }
             Move::Leaf(node, op, leaf, bytes) => {
@@ -127,7 +136,12 @@ impl<N: Staged> Turns<N> {
     }
 
     /// The leaf answered the operation of the node under the key: an error or none, and the bytes of a read.
-    pub fn answered(&mut self, key: u32, error: Option<Errno>, bytes: Bytes) -> Result<(), NoMemory>
+    pub fn answered(
+        &mut self,
+        key: usize,
+        error: Option<Errno>,
+        bytes: Bytes,
+    ) -> Result<(), NoMemory>
         requires { IsAtLeaf N.nodes self.old.nodes self.old.line key }
         ensures comes_back { OnOk result
             (ComesBack N.nodes self.old.nodes self.old.line self.new.nodes self.new.line key error bytes) }
@@ -136,7 +150,7 @@ impl<N: Staged> Turns<N> {
         ensures less { OnOk result (load N.nodes.left self.new.nodes self.new.line
             < load N.nodes.left self.old.nodes self.old.line + 2) }
     {
-        let TiedNode { node, ties } = self.nodes.remove(key as usize);
+        let TiedNode { node, ties } = self.nodes.remove(key);
         let node = node.answered(error, bytes);
         put_back(&mut self.nodes, key, TiedNode { node, ties });
         queue_up(&mut self.line, key)

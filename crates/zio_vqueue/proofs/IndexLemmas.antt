@@ -118,7 +118,7 @@ all_fit_push es time o h f =
 
 -- ---- taking one
 
-at_time-queued : (es : List (ℕ × Op)) (t : ℕ) (o : Op) → at_time es t ≡ Some o → is_queued o.ticket (values_of es) ≡ true
+pub at_time-queued : (es : List (ℕ × Op)) (t : ℕ) (o : Op) → at_time es t ≡ Some o → is_queued o.ticket (values_of es) ≡ true
 at_time-queued [] t o e = absurd (none_some o e)
   where
     none_some : (o : Op) → None ≡ Some o → ⊥
@@ -143,7 +143,7 @@ at_time-queued (e ∷ es) t o h = go (is_eq (nat_cmp t e.0)) h (at_time-queued e
 abbrev pub others_than : ℕ → List Op → List Op
 others_than t os = filter (λ x. not (x.ticket == t)) os
 
-others_all : (t : ℕ) (os : List Op) → is_queued t os ≡ false → others_than t os ≡ os
+pub others_all : (t : ℕ) (os : List Op) → is_queued t os ≡ false → others_than t os ≡ os
 others_all t [] h = refl
 others_all t (o ∷ os) h =
     let n = neither (o.ticket == t) (is_queued t os) h in

@@ -3,6 +3,7 @@ pub mod RangeLemmas
 pub mod GatherLemmas
 pub mod ShelfLemmas
 pub mod IndexLemmas
+pub mod CountLemmas
 pub mod TimedLemmas
 pub mod ServeLemmas
 pub mod MemberLemmas

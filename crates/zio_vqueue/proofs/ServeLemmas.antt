@@ -12,7 +12,8 @@ use Rattle.zio_vqueue.specs.declared.op.Op.{Op}
 use Rattle.zio_vqueue.specs.declared.spots.Spot.{Spot}
 use Rattle.zio_vqueue.specs.Classes.{class_number, classes, is_sync, maximum_of, minimum_of}
 use Rattle.zio_vqueue.specs.Queues.{Queue, arranged, eligible, first_in, in_turn, is_due, is_in_class, is_queued, or_else, put_before, turn_in}
-use Rattle.zio_vqueue.specs.Spots.{AreThere, IsIndexed, IsShelved, at_spot, at_time, first_on, first_served, is_at_rank, is_due_on, is_on_shelf, is_sought_at, kept_at, spot_cmp, start_of}
+use Rattle.zio_vqueue.specs.Spots.{AreCounted, AreThere, IsIndexed, IsShelved, at_spot, at_time, first_on, first_served, is_at_rank, is_due_by, is_on_shelf, is_sought_at, kept_at, spot_cmp, start_of}
+use Rattle.zio_vqueue.proofs.CountLemmas.{class_counted}
 use Rattle.zio_vqueue.proofs.RangeLemmas.{filter_alike}
 use Rattle.zio_vqueue.proofs.ShelfLemmas.{AllAfter, AreRanked, class_is_shelf, ranked-arranged_on, self_equal, shelf_is, shelf_of, ticket_is_shelf, values-arranged_on, values-class_shelf}
 use Rattle.zio_vqueue.proofs.SpotLemmas.{spot_total}
@@ -77,18 +78,18 @@ maximum_at AsyncRead = refl
 maximum_at AsyncWrite = refl
 maximum_at Scrub = refl
 
-due_alike : (limits : List ℕ) (limit : Prio → ℕ) → ((c : Prio) → get_or limits (class_number c) 0 ≡ limit c) → (q : Queue) (es : List (ℕ × Op)) (fs : List (Spot × Op)) → q.queued ≡ values_of es → IsIndexed es fs →
-    find (is_due_on fs q.active limits) classes ≡ find (is_due limit q) classes
-due_alike limits limit same q es fs queued h =
-    find_alike (is_due_on fs q.active limits) (is_due limit q)
-    (λ c. ap (λ b. b && nat_lt (get_or q.active (class_number c) 0) (get_or limits (class_number c) 0)) (class_waits c es fs h ∙ ap (list_any (is_in_class c)) (sym queued))
+due_alike : (limits : List ℕ) (limit : Prio → ℕ) → ((c : Prio) → get_or limits (class_number c) 0 ≡ limit c) → (q : Queue) (waiting : List ℕ) → AreCounted waiting q.queued →
+    find (is_due_by waiting q.active limits) classes ≡ find (is_due limit q) classes
+due_alike limits limit same q waiting h =
+    find_alike (is_due_by waiting q.active limits) (is_due limit q)
+    (λ c. ap (λ b. b && nat_lt (get_or q.active (class_number c) 0) (get_or limits (class_number c) 0)) (class_counted c waiting q.queued h)
     ∙ ap (λ n. list_any (is_in_class c) q.queued && nat_lt (get_or q.active (class_number c) 0) n) (same c)) classes
 
-pub eligible_alike : (q : Queue) (es : List (ℕ × Op)) (fs : List (Spot × Op)) → q.queued ≡ values_of es → IsIndexed es fs →
-    or_else (find (is_due_on fs q.active (10 ∷ 10 ∷ 1 ∷ 2 ∷ 1 ∷ [])) classes) (find (is_due_on fs q.active (10 ∷ 10 ∷ 3 ∷ 10 ∷ 3 ∷ [])) classes) ≡ eligible q
-eligible_alike q es fs queued h =
-    ap (λ r. or_else r (find (is_due_on fs q.active (10 ∷ 10 ∷ 3 ∷ 10 ∷ 3 ∷ [])) classes)) (due_alike (10 ∷ 10 ∷ 1 ∷ 2 ∷ 1 ∷ []) minimum_of minimum_at q es fs queued h)
-    ∙ ap (λ r. or_else (find (is_due minimum_of q) classes) r) (due_alike (10 ∷ 10 ∷ 3 ∷ 10 ∷ 3 ∷ []) maximum_of maximum_at q es fs queued h)
+pub eligible_alike : (q : Queue) (waiting : List ℕ) → AreCounted waiting q.queued →
+    or_else (find (is_due_by waiting q.active (10 ∷ 10 ∷ 1 ∷ 2 ∷ 1 ∷ [])) classes) (find (is_due_by waiting q.active (10 ∷ 10 ∷ 3 ∷ 10 ∷ 3 ∷ [])) classes) ≡ eligible q
+eligible_alike q waiting h =
+    ap (λ r. or_else r (find (is_due_by waiting q.active (10 ∷ 10 ∷ 3 ∷ 10 ∷ 3 ∷ [])) classes)) (due_alike (10 ∷ 10 ∷ 1 ∷ 2 ∷ 1 ∷ []) minimum_of minimum_at q waiting h)
+    ∙ ap (λ r. or_else (find (is_due minimum_of q) classes) r) (due_alike (10 ∷ 10 ∷ 3 ∷ 10 ∷ 3 ∷ []) maximum_of maximum_at q waiting h)
 
 -- ---- the first of a class
 

@@ -1,5 +1,5 @@
 -- How queued operations are found: each stands at its time of putting, and at a spot on each shelf that it is sought on.
-use Rattle.std.specs.Prelude.{◌≡◌, ℕ, ◌<◌, ◌≤◌, List, [], ◌∷◌, ◌++◌, Bool, true, false, ◌&&◌, ◌||◌, not, Option, Some, None, ◌==◌, cond, get_or, All, length, nat_le, nat_lt, filter, slice_get, is_some}
+use Rattle.std.specs.Prelude.{◌≡◌, ℕ, ◌<◌, ◌≤◌, List, [], ◌∷◌, ◌++◌, Bool, true, false, ◌&&◌, ◌||◌, not, Option, Some, None, ◌==◌, cond, get_or, All, length, nat_le, nat_lt, filter, slice_get, count_by}
 use Rattle.std.specs.Map.{lookup, values_of, keys_of}
 use Rattle.std.specs.BTreeMap.{is_at}
 use Rattle.std.specs.List.Sorted.{IsStrictlySortedBy}
@@ -9,7 +9,7 @@ use Rattle.zio_types.specs.declared.request.Prio.{Prio}
 use Rattle.zio_vqueue.specs.declared.op.Op.{Op}
 use Rattle.zio_vqueue.specs.declared.spots.Spot.{Spot}
 use Rattle.zio_vqueue.specs.Classes.{class_number, is_sync, maximum_of}
-use Rattle.zio_vqueue.specs.Queues.{AreApart, FitsDevice, end_of, is_queued, or_else, turn_in}
+use Rattle.zio_vqueue.specs.Queues.{AreApart, FitsDevice, end_of, is_in_class, is_queued, or_else, turn_in}
 use Rattle.zio_vqueue.specs.Groups.{IsRun, gap_max, last_of}
 
 -- spots by shelf, then by rank, then by time
@@ -105,9 +105,15 @@ start_of false last = last
 abbrev pub first_served : Prio → ℕ → List (Spot × Op) → Option (Spot × Op)
 first_served prio last fs = or_else (first_on (class_number prio) (start_of (is_sync prio) last) fs) (first_on (class_number prio) 0 fs)
 
--- a class has entries, and fewer active groups than the limit
-abbrev pub is_due_on : List (Spot × Op) → List ℕ → List ℕ → Prio → Bool
-is_due_on fs active limits prio = is_some (first_on (class_number prio) 0 fs) && nat_lt (get_or active (class_number prio) 0) (get_or limits (class_number prio) 0)
+-- how many of the operations are in each class, by its number
+pub record AreCounted (waiting : List ℕ) (ops : List Op) : Type 0 where
+  pub room : length waiting ≡ 5
+  pub counts : (prio : Prio) → get_or waiting (class_number prio) 0 ≡ count_by (is_in_class prio) ops
+
+-- a class has waiting operations by these counts, and fewer active groups than the limit
+abbrev pub is_due_by : List ℕ → List ℕ → List ℕ → Prio → Bool
+is_due_by waiting active limits prio =
+    nat_lt 0 (get_or waiting (class_number prio) 0) && nat_lt (get_or active (class_number prio) 0) (get_or limits (class_number prio) 0)
 
 -- no class has more active groups than its maximum
 pub record AreAdmitted (active : List ℕ) : Type 0 where
@@ -176,7 +182,8 @@ pub record IsRising (gap low high : ℕ) (members : List (Spot × Op)) (fs : Lis
   pub high_is : high ≡ end_of (last_of head others)
 
 -- what the fields of a queue keep
-pub record IsKept (es : List (ℕ × Op)) (fs : List (Spot × Op)) (next : ℕ) (active : List ℕ) : Type 0 where
+pub record IsKept (es : List (ℕ × Op)) (fs : List (Spot × Op)) (waiting : List ℕ) (next : ℕ) (active : List ℕ) : Type 0 where
   pub indexed : IsIndexed es fs
+  pub counted : AreCounted waiting (values_of es)
   pub before : AreBefore next es
   pub admitted : AreAdmitted active

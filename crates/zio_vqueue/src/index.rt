@@ -4,7 +4,7 @@ ghost use Rattle.std.specs.BTreeMap.{is_at};
 ghost use Rattle.std.specs.Ordering.{nat_cmp};
 ghost use Rattle.zio_vqueue.specs.Classes.{classes};
 ghost use Rattle.zio_vqueue.specs.Queues.{AreApart, FitsDevice, is_queued, or_else, without};
-ghost use Rattle.zio_vqueue.specs.Spots.{AreBefore, AreThere, IsEntered, IsIndexed, at_time, first_served, is_due_on};
+ghost use Rattle.zio_vqueue.specs.Spots.{AreBefore, AreCounted, AreThere, IsEntered, IsIndexed, at_time, first_served, is_due_by};
 
 use crate::class::{ACTIVE_MAX, ACTIVE_MIN, CLASSES, class_number, is_sync};
 use crate::op::Op;
@@ -117,22 +117,32 @@ pub(crate) fn next_time(
 pub(crate) fn withdraw(
     by_time: &mut BTreeMap<u64, Op>,
     spots: &mut BTreeMap<Spot, Op>,
+    waiting: &mut [u64; 5],
     members: &[(Spot, Op)],
 )
     requires indexed { IsIndexed by_time.old.entries spots.old.entries }
+    requires counted { AreCounted waiting.old (values_of by_time.old.entries) }
     requires there { AreThere by_time.old.entries members.now }
     requires apart { AreApart (values_of members.now) }
     ensures queued { values_of by_time.new.entries ≡ without (values_of members.now) (values_of by_time.old.entries) }
     ensures before { (time : ℕ) → AreBefore time by_time.old.entries → AreBefore time by_time.new.entries }
     ensures indexed { IsIndexed by_time.new.entries spots.new.entries }
+    ensures counted { AreCounted waiting.new (values_of by_time.new.entries) }
 {
     for (spot, op) in members {
-        withdraw_one(by_time, spots, spot.time, op);
+        withdraw_one(by_time, spots, waiting, spot.time, op);
     }
 }
 
-fn withdraw_one(by_time: &mut BTreeMap<u64, Op>, spots: &mut BTreeMap<Spot, Op>, time: u64, op: &Op)
+fn withdraw_one(
+    by_time: &mut BTreeMap<u64, Op>,
+    spots: &mut BTreeMap<Spot, Op>,
+    waiting: &mut [u64; 5],
+    time: u64,
+    op: &Op,
+)
     requires indexed { IsIndexed by_time.old.entries spots.old.entries }
+    requires counted { AreCounted waiting.old (values_of by_time.old.entries) }
     requires there { at_time by_time.old.entries time ≡ Some op.now }
     ensures queued { values_of by_time.new.entries ≡ filter (λ o. not (o.ticket == op.now.ticket))
         (values_of by_time.old.entries) }
@@ -140,9 +150,11 @@ fn withdraw_one(by_time: &mut BTreeMap<u64, Op>, spots: &mut BTreeMap<Spot, Op>,
         → at_time by_time.new.entries t ≡ cond (is_at (nat_cmp time) t) None (at_time by_time.old.entries t) }
     ensures before { (t : ℕ) → AreBefore t by_time.old.entries → AreBefore t by_time.new.entries }
     ensures indexed { IsIndexed by_time.new.entries spots.new.entries }
+    ensures counted { AreCounted waiting.new (values_of by_time.new.entries) }
 {
     by_time.remove(&time);
     unshelve(spots, time, op);
+    waiting[class_number(op.prio) as usize] -= 1;
 }
 
 /// The operation of a class that is served first, with its time, where groups so far ended at `last`.
@@ -157,33 +169,32 @@ pub(crate) fn first_served(spots: &BTreeMap<Spot, Op>, prio: Prio, last: u64) ->
     }
 }
 
-/// The class that is served next.
-pub(crate) fn eligible(spots: &BTreeMap<Spot, Op>, active: &[u32; 5]) -> Option<Prio>
-    ensures { result ≡ or_else (find (is_due_on spots.now.entries active.now ACTIVE_MIN) classes)
-        (find (is_due_on spots.now.entries active.now ACTIVE_MAX) classes) }
+/// The class that is served next, where so many operations of each class wait.
+pub(crate) fn eligible(waiting: &[u64; 5], active: &[u32; 5]) -> Option<Prio>
+    ensures { result ≡ or_else (find (is_due_by waiting.now active.now ACTIVE_MIN) classes)
+        (find (is_due_by waiting.now active.now ACTIVE_MAX) classes) }
 {
-    match first_due(spots, active, &ACTIVE_MIN) {
+    match first_due(waiting, active, &ACTIVE_MIN) {
         Some(prio) => Some(prio),
-        None => first_due(spots, active, &ACTIVE_MAX),
+        None => first_due(waiting, active, &ACTIVE_MAX),
     }
 }
 
 /// The first class with operations and fewer active groups than its limit.
-fn first_due(spots: &BTreeMap<Spot, Op>, active: &[u32; 5], limits: &[u32; 5]) -> Option<Prio>
-    ensures { result ≡ find (is_due_on spots.now.entries active.now limits.now) classes }
+fn first_due(waiting: &[u64; 5], active: &[u32; 5], limits: &[u32; 5]) -> Option<Prio>
+    ensures { result ≡ find (is_due_by waiting.now active.now limits.now) classes }
 {
     for prio in &CLASSES {
-        if is_due(spots, active, limits, *prio) {
+        if is_due(waiting, active, limits, *prio) {
             return Some(*prio);
         }
     }
     None
 }
 
-fn is_due(spots: &BTreeMap<Spot, Op>, active: &[u32; 5], limits: &[u32; 5], prio: Prio) -> bool
-    ensures { result ≡ is_due_on spots.now.entries active.now limits.now prio }
+fn is_due(waiting: &[u64; 5], active: &[u32; 5], limits: &[u32; 5], prio: Prio) -> bool
+    ensures { result ≡ is_due_by waiting.now active.now limits.now prio }
 {
-    let class = class_number(prio);
-    let number = class as usize;
-    first_from(spots, class, 0).is_some() && active[number] < limits[number]
+    let number = class_number(prio) as usize;
+    waiting[number] > 0 && active[number] < limits[number]
 }

@@ -9,7 +9,7 @@ use zio_types::{Flags, List, Prio};
 #[derive(Clone, Copy, Debug, PartialEq, Eq)]
 pub struct Op {
     /// Its name among queued operations.
-    pub ticket: u32,
+    pub ticket: u64,
     pub write: bool,
     /// Where its range begins, in bytes.
     pub at: u64,

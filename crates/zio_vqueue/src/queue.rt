@@ -22,6 +22,8 @@ pub struct VQueue {
     by_time: BTreeMap<u64, Op>,
     /// The same at each of their spots.
     spots: BTreeMap<Spot, Op>,
+    /// How many of them are in each class.
+    waiting: [u64; 5],
     /// A time after those of all queued operations.
     next: u64,
     active: [u32; 5],
@@ -38,7 +40,7 @@ impl Model for VQueue {
 
     ghost view = { λ q. record { queued = values_of q.by_time.entries; active = q.active; last = q.last } };
 
-    ghost invariant = { λ q. IsKept q.by_time.entries q.spots.entries q.next q.active };
+    ghost invariant = { λ q. IsKept q.by_time.entries q.spots.entries q.waiting q.next q.active };
 }
 
 impl VQueue {
@@ -52,6 +54,7 @@ impl VQueue {
             alloc,
             by_time: BTreeMap::new(alloc),
             spots: BTreeMap::new(alloc),
+            waiting: [0; 5],
             next: 0,
             active: [0; 5],
             last: 0,
@@ -68,6 +71,7 @@ impl VQueue {
         let time = next_time(self.alloc, &mut self.by_time, &mut self.spots, self.next)?;
         self.next = time;
         enter(&mut self.by_time, &mut self.spots, time, op)?;
+        self.waiting[class_number(op.prio) as usize] += 1;
         self.next = time + 1;
         Ok(())
     }
@@ -80,7 +84,7 @@ impl VQueue {
         ensures none { (result ≡ Ok None) → (eligible self.old ≡ None) × (self.new ≡ self.old) }
         ensures err { OnErr result (self.new ≡ self.old) }
     {
-        let Some(prio) = eligible(&self.spots, &self.active) else {
+        let Some(prio) = eligible(&self.waiting, &self.active) else {
             return Ok(None);
         };
         let Some((spot, first)) = first_served(&self.spots, prio, self.last) else {
@@ -88,7 +92,12 @@ impl VQueue {
         };
         let members = gather(self.alloc, &self.spots, spot.time, &first)?;
         let group = group_of(self.alloc, prio, &members)?;
-        withdraw(&mut self.by_time, &mut self.spots, &members);
+        withdraw(
+            &mut self.by_time,
+            &mut self.spots,
+            &mut self.waiting,
+            &members,
+        );
         self.active[class_number(prio) as usize] += 1;
         self.last = group.at + group.len;
         Ok(Some(group))
@@ -108,7 +117,7 @@ impl VQueue {
     pub fn eligible(&self) -> Option<Prio>
         ensures { result ≡ eligible self.now }
     {
-        eligible(&self.spots, &self.active)
+        eligible(&self.waiting, &self.active)
     }
 
     /// How many groups of a class are active: never more than its maximum.
@@ -120,7 +129,7 @@ impl VQueue {
     }
 
     /// Whether an operation with this ticket is queued: no two have one ticket.
-    pub fn has(&self, ticket: u32) -> bool
+    pub fn has(&self, ticket: u64) -> bool
         ensures queued { result ≡ is_queued ticket self.now.queued }
         ensures apart { AreApart self.now.queued }
     {

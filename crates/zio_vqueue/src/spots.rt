@@ -57,7 +57,7 @@ fn ticket_spot(time: u64, op: &Op) -> Spot
 {
     Spot {
         shelf: TICKETS,
-        rank: u64::from(op.ticket),
+        rank: op.ticket,
         time,
     }
 }
@@ -141,20 +141,13 @@ pub(crate) fn first_from(spots: &BTreeMap<Spot, Op>, shelf: u8, rank: u64) -> Op
 }
 
 /// Whether an operation stands on a shelf at a rank.
-pub(crate) fn is_at_rank(spots: &BTreeMap<Spot, Op>, shelf: u8, rank: u32) -> bool
-    requires { shelf < 10 }
+pub(crate) fn is_at_rank(spots: &BTreeMap<Spot, Op>, shelf: u8, rank: u64) -> bool
+    requires shelf { shelf < 10 }
+    requires ordered { IsStrictlySortedBy spot_cmp (keys_of spots.now.entries) }
     ensures { result ≡ is_some (slice_get (filter (is_at_rank shelf rank) spots.now.entries) 0) }
 {
-    let rank = u64::from(rank);
-    let start = Spot {
-        shelf,
-        rank,
-        time: 0,
-    };
-    let end = Spot {
-        shelf,
-        rank: rank + 1,
-        time: 0,
-    };
-    spots.range(start..end).next().is_some()
+    match first_from(spots, shelf, rank) {
+        Some((spot, _)) => spot.rank == rank,
+        None => false,
+    }
 }

@@ -4,12 +4,12 @@ use Rattle.std.specs.List.Sorted.{IsNonDecreasingBy}
 use Rattle.std.proofs.lemmas.List.{get_or-map, length-map}
 use Rattle.std.proofs.lemmas.List.Sorted.{IsNonDecreasingBy-from_sort, IsPermutation-map, answers_always}
 use Rattle.zio_course.specs.declared.runner.RequestEnd.{RequestEnd}
-use Rattle.zio_stages.specs.declared.outcome.Finished.{Finished}
+use Rattle.zio_exchange.specs.declared.outcome.FinishedRequest.{FinishedRequest}
 use Rattle.zio_graph.specs.Ends.{told_of}
 use Rattle.zio_graph.proofs.ends.by_number.Goals as goal
 
 -- what is told of requests in the order of their numbers is in that order
-told_in_order : (fs : List Finished) → IsNonDecreasingBy (λ (f : Finished). f.request) fs
+told_in_order : (fs : List FinishedRequest) → IsNonDecreasingBy (λ (f : FinishedRequest). f.request) fs
     → IsNonDecreasingBy (λ (f : RequestEnd). f.request) (map told_of fs)
 told_in_order [] h = λ i j d le lt. absurd (omega (arith, lt))
 told_in_order (f ∷ fs) h = λ i j d le lt.
@@ -19,13 +19,13 @@ told_in_order (f ∷ fs) h = λ i j d le lt.
     omega (arith, low, high, h i j f le below)
 
 pub returns-clause-same : goal.returns-clause-same
-returns-clause-same c =
-    subst (λ (fs : List Finished). IsPermutation (map told_of c.args.ended.items) (map told_of fs)) (sym c.from_vec.ensures)
+returns-clause-same g c =
+    subst (λ (fs : List FinishedRequest). IsPermutation (map told_of c.args.ended.items) (map told_of fs)) (sym c.from_vec.ensures)
     (IsPermutation-map told_of c.args.ended.items c.sort_unstable_by_key.new.self.items
     c.sort_unstable_by_key.ensures.permutation)
 
 pub returns-clause-order : goal.returns-clause-order
-returns-clause-order c =
-    subst (λ (fs : List Finished). IsNonDecreasingBy (λ (f : RequestEnd). f.request) (map told_of fs)) (sym c.from_vec.ensures)
-    (told_in_order c.sort_unstable_by_key.new.self.items (IsNonDecreasingBy-from_sort (λ (f : Finished). f.request) _
-    (c.sort_unstable_by_key.ensures.sorted (λ (f : Finished). f.request) (answers_always _ _ _ (λ f a r g h. search rules)))))
+returns-clause-order g c =
+    subst (λ (fs : List FinishedRequest). IsNonDecreasingBy (λ (f : RequestEnd). f.request) (map told_of fs)) (sym c.from_vec.ensures)
+    (told_in_order c.sort_unstable_by_key.new.self.items (IsNonDecreasingBy-from_sort (λ (f : FinishedRequest). f.request) _
+    (c.sort_unstable_by_key.ensures.sorted (λ (f : FinishedRequest). f.request) (answers_always _ _ _ (λ f a r k h. search rules)))))

@@ -1,6 +1,6 @@
 use Rattle.std.proofs.Common.{sym, subst, ◌∙◌}
 use Rattle.std.specs.List.{AllByRecursion}
-use Rattle.zio_stages.specs.Wholes.{IsWhole}
+use Rattle.zio_exchange.specs.Wholes.{IsWhole}
 use Rattle.zio_graph.specs.Ends.{left_by}
 use Rattle.zio_graph.proofs.UsedUp.{flat_begins, flat_ends, flat_step}
 use Rattle.zio_graph.proofs.ends.left_of.Goals as goal

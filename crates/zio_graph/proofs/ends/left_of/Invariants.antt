@@ -1,6 +1,6 @@
 use Rattle.std.proofs.Common.{◌≡◌, ◌++◌}
 use Rattle.std.specs.List.{AllByRecursion}
-use Rattle.zio_stages.specs.Wholes.{IsWhole}
+use Rattle.zio_exchange.specs.Wholes.{IsWhole}
 use Rattle.zio_graph.specs.Ends.{left_in}
 use Rattle.zio_graph.proofs.ends.left_of.Given as goal
 

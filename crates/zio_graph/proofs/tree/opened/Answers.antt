@@ -1,7 +1,7 @@
 use Rattle.std.proofs.Common.{◌∙◌, ◌≤◌, ◌<◌, rules, map, ap, sym, subst, arith, length, vec_capacity}
 use Rattle.std.specs.List.{AllByRecursion}
+use Rattle.zio_exchange.specs.Waits.{pendings}
 use Rattle.zio_graph.specs.EngineTrees.{IsEngineTree}
-use Rattle.zio_stages.specs.Waits.{pendings}
 use Rattle.zio_graph.proofs.TreeLemmas.{opening_all, opening_begins, opening_fits, opening_step}
 use Rattle.zio_graph.proofs.tree.opened.Goals as goal
 

@@ -2,7 +2,7 @@ use Rattle.std.proofs.Common.{List, length, map, refl, sym, ◌∙◌, subst}
 use Rattle.std.specs.List.{AllByRecursion}
 use Rattle.zio_types.specs.declared.place.Top.{Top}
 use Rattle.zio_disks.proofs.DiskLemmas.{same_itself}
-use Rattle.zio_stages.specs.Waits.{pendings}
+use Rattle.zio_exchange.specs.Waits.{pendings}
 use Rattle.zio_turns.specs.Slabs.{AreAll}
 use Rattle.zio_turns.specs.UnderTrees.{StateIn}
 use Rattle.zio_graph.specs.Jobs.{IsSoundJob, size_at}

@@ -5,9 +5,9 @@ use Rattle.zio_places.specs.Spaces.{SpaceState}
 use Rattle.zio_cksum.proofs.AllLemmas.{all_weaker}
 use Rattle.zio_disks.specs.Disks.{AreSameDisks}
 use Rattle.zio_course.specs.declared.runner.Stop.TheVariants.{Device, Memory}
-use Rattle.zio_stages.specs.Waits.{pendings}
-use Rattle.zio_stages.specs.Wholes.{IsWhole}
-use Rattle.zio_stages.specs.declared.outcome.Finished.{Finished}
+use Rattle.zio_exchange.specs.Waits.{pendings}
+use Rattle.zio_exchange.specs.Wholes.{IsWhole}
+use Rattle.zio_exchange.specs.declared.outcome.FinishedRequest.{FinishedRequest}
 use Rattle.zio_turns.proofs.StopLemmas.{on_err}
 use Rattle.zio_graph.specs.EngineTrees.{IsEngineTree, IsWithinLimits}
 use Rattle.zio_graph.specs.Ends.{completion_of, left_in, told_of}
@@ -30,7 +30,7 @@ returns-clause-round g c =
     c.requires.runs job c.run_to_end.new.grounds c.in_ok-trees.field-0.trees.items c.in_ok-trees.field-0.ended.items
     c.in_ok-trees.ensures.count c.in_ok-trees.ensures.ends (map told_of c.by_number-finished.result) c.by_number-finished.ensures.same
     c.by_number-finished.ensures.order c.in_ok-left.left c.in_ok-left.ensures.left c.in_ok-completions.completions
-    (c.in_ok-completions.ensures ∙ ap (λ (fs : List Finished). map (completion_of c.args.round) fs) c.as_slice.ensures.value)
+    (c.in_ok-completions.ensures ∙ ap (λ (fs : List FinishedRequest). map (completion_of c.args.round) fs) c.as_slice.ensures.value)
     c.end_round-entries.result c.end_round-entries.ensures.entries g.met.D.Disk.has_size c.run_to_end.ensures.same.sizes
     c.end_round-entries.new.self.disks.items c.end_round-entries.ensures.disks
 
@@ -46,7 +46,7 @@ returns-clause-end g c =
     c.in_ok-trees.field-0.ended.items c.in_ok-trees.ensures.count c.in_ok-trees.ensures.ends (map told_of c.by_number-finished.result)
     c.by_number-finished.ensures.same c.by_number-finished.ensures.order c.in_ok-left.left c.in_ok-left.ensures.left
     c.in_ok-completions.completions
-    (c.in_ok-completions.ensures ∙ ap (λ (fs : List Finished). map (completion_of c.args.round) fs) c.as_slice.ensures.value)
+    (c.in_ok-completions.ensures ∙ ap (λ (fs : List FinishedRequest). map (completion_of c.args.round) fs) c.as_slice.ensures.value)
     c.end_round-entries.result c.end_round-entries.ensures.entries
 
 pub returns-clause-stands : goal.returns-clause-stands
@@ -112,7 +112,6 @@ returns-clause-steady g c =
     c.run_to_end.ensures.same.sizes
     (record {
       space = c.end_round-entries.ensures.space;
-      asked = c.end_round-entries.ensures.asked;
       tops = c.end_round-entries.ensures.tops;
       setting = c.end_round-entries.ensures.setting;
       disks = c.end_round-entries.ensures.disks;

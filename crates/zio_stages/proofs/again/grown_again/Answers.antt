@@ -1,9 +1,9 @@
 use Rattle.std.proofs.Common.{◌≡◌, ◌∙◌, ◌+◌, ◌++◌, ◌∷◌, [], ◌≤◌, ◌<◌, ◌^◌, ap, refl, length, arith, rules}
-use Rattle.zio_stages.specs.declared.waiting.UnfinishedRequest.{UnfinishedRequest}
+use Rattle.zio_exchange.specs.declared.waiting.UnfinishedRequest.{UnfinishedRequest}
+use Rattle.zio_exchange.specs.Wholes.{counted, joined}
+use Rattle.zio_exchange.proofs.WholeLemmas.{length_built, list_built, tree_over, whole_over}
 use Rattle.zio_stages.specs.KidTrees.{trees_left}
-use Rattle.zio_stages.specs.Wholes.{counted, joined}
 use Rattle.zio_stages.proofs.AgainLemmas.{again_all, again_count, again_counts, again_next, number_last}
-use Rattle.zio_stages.proofs.WholeLemmas.{length_built, list_built, tree_over, whole_over}
 use Rattle.zio_stages.proofs.again.grown_again.Goals as goal
 
 pub overflow_add-unfinished : goal.overflow_add-unfinished

@@ -1,6 +1,6 @@
 use Rattle.std.proofs.Common.{◌≡◌, ◌∙◌, sym, ap, subst, reverse}
 use Rattle.zio_children.specs.RequestKids.{RiseFrom, fresh_kids}
-use Rattle.zio_stages.specs.Wholes.{roots_in}
+use Rattle.zio_exchange.specs.Wholes.{roots_in}
 use Rattle.zio_stages.proofs.KidTreeLemmas.{roots_reverse}
 use Rattle.zio_stages.proofs.attempted.due_kids.Goals as goal
 

@@ -1,8 +1,8 @@
 use Rattle.std.proofs.Common.{◌≡◌, ◌∙◌, [], List, length, sym, ap, subst, reverse, replicate, None}
 use Rattle.std.specs.List.{AllByRecursion}
 use Rattle.zio_children.specs.RequestKids.{RiseFrom, fresh_kids}
-use Rattle.zio_stages.specs.declared.waiting.UnfinishedRequest.{UnfinishedRequest}
-use Rattle.zio_stages.specs.Wholes.{roots_in}
+use Rattle.zio_exchange.specs.declared.waiting.UnfinishedRequest.{UnfinishedRequest}
+use Rattle.zio_exchange.specs.Wholes.{roots_in}
 use Rattle.zio_stages.specs.KidPointers.{HasValid, HaveValidPointers}
 use Rattle.zio_stages.proofs.KidPointerLemmas.{valid_fresh}
 use Rattle.zio_stages.specs.KidTrees.{trees_left}

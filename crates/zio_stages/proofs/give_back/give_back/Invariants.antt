@@ -1,5 +1,5 @@
 use Rattle.std.proofs.Common.{◌≡◌, ◌-◌, ◌≤◌, length}
-use Rattle.zio_stages.specs.SpaceCalls.{GivesBack}
+use Rattle.zio_exchange.specs.SpaceCalls.{GivesBack}
 use Rattle.zio_stages.proofs.give_back.give_back.Given as goal
 
 abbrev pub invariant-loop-given : goal.invariant-loop-given

@@ -6,8 +6,8 @@ use Rattle.zio_script.specs.Whys.{body_len, rounded_up}
 use Rattle.zio_gang.specs.Writes.{content_of}
 use Rattle.zio_children.specs.RequestKids.{pointers_of}
 use Rattle.zio_gang.specs.Pointers.{IsNoneOrValid}
+use Rattle.zio_exchange.specs.Waits.{pending_of}
 use Rattle.zio_stages.specs.WrittenBlocks.{whole_part}
-use Rattle.zio_stages.specs.Waits.{pending_of}
 use Rattle.zio_stages.proofs.KidPointerLemmas.{count_pointers, valid_pointers}
 use Rattle.zio_stages.proofs.OwnWriteBlock.{block_bytes, not_write, same_write}
 use Rattle.zio_stages.proofs.own_write.block_of.Goals as goal

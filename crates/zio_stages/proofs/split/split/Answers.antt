@@ -1,5 +1,5 @@
 use Rattle.std.proofs.Common.{◌≡◌, ◌+◌, ◌-◌, ◌≤◌, ◌∙◌, refl, sym, subst, length, vec_len, vec_capacity, arith, rules}
-use Rattle.zio_stages.specs.Wholes.{IsWhole}
+use Rattle.zio_exchange.specs.Wholes.{IsWhole}
 use Rattle.zio_stages.proofs.SplitLemmas.{LastTree, cut_back, cut_front, last_length, last_of, last_some, size_read, split_begins, split_next}
 use Rattle.zio_stages.proofs.split.split.Goals as goal
 

@@ -1,4 +1,4 @@
-use Rattle.std.proofs.Common.{List, map, arith, ap, ◌∙◌, sym, subst}
+use Rattle.std.proofs.Common.{◌≡◌, List, map, arith, ap, ◌∙◌, sym, subst}
 use Rattle.std.proofs.lemmas.Result.{err_from_is_err_and}
 use Rattle.zio_types.specs.declared.place.Top.{Top}
 use Rattle.zio_disks.specs.Disks.{AreSameDisks}
@@ -18,10 +18,12 @@ picks-init g c = (
 pub returns-then-choices-eq0-clause-done : goal.returns-then-choices-eq0-clause-done
 returns-then-choices-eq0-clause-done g c =
     let some = run_some g.N.NodeFacts.nodes g.D.Disk.bytes g.D.Disk.faults g.D.Disk.image c.args.turns.now.nodes c.args.turns.now.line c.args.grounds.now
-    c.picks.turns.nodes c.picks.turns.line c.picks.grounds c.picks.invariant.1.gone c.requires.going in (
-      no_line c.picks.turns.line (omega (arith, c.saturating_add-choices.ensures, c.if-choices-eq0.true, c.len-keys.ensures)),
+    c.picks.turns.nodes c.picks.turns.line c.picks.grounds c.picks.invariant.1.gone c.requires.going in
+    let none : c.pickable-keys.result ≡ 0 = omega (arith, c.saturating_add-choices.ensures, c.if-choices-eq0.true) in
+    let empty : c.len.result ≡ 0 = c.pickable-keys.ensures.some none in (
+      no_line c.picks.turns.line (omega (arith, empty, c.len.ensures)),
       c.eligible.ensures.none some.going.lent.ready.order
-          (omega (arith, c.saturating_add-choices.ensures, c.if-choices-eq0.true, c.len-keys.ensures)),
+          (omega (arith, c.saturating_add-choices.ensures, c.if-choices-eq0.true)),
     )
 
 pub run_turn-requires-clause-going : goal.run_turn-requires-clause-going

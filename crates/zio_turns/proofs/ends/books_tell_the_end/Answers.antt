@@ -9,9 +9,9 @@ returns g c = record {
   places = λ t sizes f before s slab over.
       found_are g.N.NodeFacts.nodes t sizes f before s slab over.state over.kept over.ledger;
   made = λ t sizes f before s slab over. made_found g.N.NodeFacts.nodes t f s slab over.ledger;
-  apart = λ t sizes f before s slab tops st asked over desk. made_open g.N.NodeFacts.nodes t f s slab tops st asked over.ledger desk;
-  inside = λ t sizes f before s slab tops st asked over desk. made_within g.N.NodeFacts.nodes t f s slab tops st asked over.ledger desk;
-  live = λ t sizes f before s slab tops st asked sound over desk once.
+  apart = λ t sizes f before s slab tops st over desk. made_open g.N.NodeFacts.nodes t f s slab tops st over.ledger desk;
+  inside = λ t sizes f before s slab tops st over desk. made_within g.N.NodeFacts.nodes t f s slab tops st over.ledger desk;
+  live = λ t sizes f before s slab tops st sound over desk once.
       live_where g.N.NodeFacts.nodes t sizes f s slab st sound over.ledger desk.live desk.pending_are
-      (found_are g.N.NodeFacts.nodes t sizes f before s slab over.state over.kept over.ledger) (found_once t s tops st asked desk once);
+      (found_are g.N.NodeFacts.nodes t sizes f before s slab over.state over.kept over.ledger) (found_once t s tops st desk once);
 }

@@ -16,7 +16,7 @@ stages-preserved g c =
     let s = rw c.in-Told.is at c.in-Ok.ensures.steps in
     turning_told g.N.NodeFacts.nodes g.N.Staged.over g.D.Disk.bytes g.D.Disk.image c.args.turns.now.nodes c.args.turns.now.line
     c.args.grounds.now c.args.key c.stages.turns.nodes c.stages.turns.line c.stages.grounds c.stages.invariant c.requires.going
-    c.step.new.self.nodes c.step.new.self.line c.step.new.services s.0 s.1 s.3 c.step.ensures.tops c.in-Told.field-0 s.4
+    c.step.new.self.nodes c.step.new.self.line c.step.new.services s.0 s.1 s.5 s.3 c.step.ensures.tops c.in-Told.field-0 s.4
     c.in-Ok.ensures.over (rw c.in-Told.is at c.in-Ok.ensures.less)
 
 pub stages-preserved-in-Goes : goal.stages-preserved-in-Goes
@@ -24,7 +24,7 @@ stages-preserved-in-Goes g c =
     let s = rw c.in-Goes.is at c.in-Ok.ensures.steps in
     turning_goes g.N.NodeFacts.nodes g.N.Staged.over g.D.Disk.bytes g.D.Disk.image c.args.turns.now.nodes c.args.turns.now.line
     c.args.grounds.now c.args.key c.stages.turns.nodes c.stages.turns.line c.stages.grounds c.stages.invariant c.requires.going
-    c.step.new.self.nodes c.step.new.self.line c.step.new.services s.0 s.1 s.3 c.step.ensures.tops s.4 c.in-Ok.ensures.over
+    c.step.new.self.nodes c.step.new.self.line c.step.new.services s.0 s.1 s.5 s.3 c.step.ensures.tops s.4 c.in-Ok.ensures.over
     (rw c.in-Goes.is at c.in-Ok.ensures.less)
 
 pub returns-in-Ended-None-clause-turns : goal.returns-in-Ended-None-clause-turns
@@ -32,21 +32,21 @@ returns-in-Ended-None-clause-turns g c =
     let s = rw c.in-Ended-None.is at c.in-Ok.ensures.steps in
     turning_ends g.N.NodeFacts.nodes g.N.Staged.over g.D.Disk.bytes g.D.Disk.image c.args.turns.now.nodes c.args.turns.now.line
     c.args.grounds.now c.args.key c.stages.turns.nodes c.stages.turns.line c.stages.grounds c.stages.invariant c.requires.going
-    c.step.new.self.nodes c.step.new.self.line c.step.new.services s.0 s.1 s.3 c.step.ensures.tops (rw c.in-Ended-None.field-0-is at s.4)
+    c.step.new.self.nodes c.step.new.self.line c.step.new.services s.0 s.1 s.5 s.3 c.step.ensures.tops (rw c.in-Ended-None.field-0-is at s.4)
 
 pub returns-in-Rests-clause-turns : goal.returns-in-Rests-clause-turns
 returns-in-Rests-clause-turns g c =
     let s = rw c.in-Rests.is at c.in-Ok.ensures.steps in
     turning_rests g.N.NodeFacts.nodes g.N.Staged.over g.D.Disk.bytes g.D.Disk.image c.args.turns.now.nodes c.args.turns.now.line
     c.args.grounds.now c.args.key c.stages.turns.nodes c.stages.turns.line c.stages.grounds c.stages.invariant c.requires.going
-    c.step.new.self.nodes c.step.new.self.line c.step.new.services s.0 s.1 s.3 c.step.ensures.tops s.4
+    c.step.new.self.nodes c.step.new.self.line c.step.new.services s.0 s.1 s.5 s.3 c.step.ensures.tops s.4
 
 pub returns-in-Ended-Some-clause-turns : goal.returns-in-Ended-Some-clause-turns
 returns-in-Ended-Some-clause-turns g c =
     let s = rw c.in-Ended-Some.is at c.in-Ok.ensures.steps in
     turning_finishes g.N.NodeFacts.nodes g.N.Staged.over g.D.Disk.bytes g.D.Disk.image c.args.turns.now.nodes c.args.turns.now.line
     c.args.grounds.now c.args.key c.stages.turns.nodes c.stages.turns.line c.stages.grounds c.stages.invariant c.requires.going
-    c.step.new.self.nodes c.step.new.self.line c.step.new.services s.0 s.1 s.3 c.step.ensures.tops c.in-Ended-Some.finished
+    c.step.new.self.nodes c.step.new.self.line c.step.new.services s.0 s.1 s.5 s.3 c.step.ensures.tops c.in-Ended-Some.finished
     (rw c.in-Ended-Some.field-0-is at s.4)
 
 pub returns-in-Root-clause-turns : goal.returns-in-Root-clause-turns
@@ -54,7 +54,7 @@ returns-in-Root-clause-turns g c =
     let s = rw c.in-Root.is at c.in-Ok.ensures.steps in
     turning_roots g.N.NodeFacts.nodes g.N.Staged.over g.D.Disk.bytes g.D.Disk.image c.args.turns.now.nodes c.args.turns.now.line
     c.args.grounds.now c.args.key c.stages.turns.nodes c.stages.turns.line c.stages.grounds c.stages.invariant c.requires.going
-    c.step.new.self.nodes c.step.new.self.line c.step.new.services s.0 s.1 s.3 c.step.ensures.tops c.in-Root.tree c.in-Root.outcome s.4
+    c.step.new.self.nodes c.step.new.self.line c.step.new.services s.0 s.1 s.5 s.3 c.step.ensures.tops c.in-Root.tree c.in-Root.outcome s.4
 
 -- ---- its operation goes to a leaf
 
@@ -63,7 +63,7 @@ put-requires-clause-there g c =
     let s = rw c.in-Leaf.is at c.in-Ok.ensures.steps in
     (turning_takes g.N.NodeFacts.nodes g.N.Staged.over g.D.Disk.bytes g.D.Disk.image c.args.turns.now.nodes c.args.turns.now.line
     c.args.grounds.now c.args.key c.stages.turns.nodes c.stages.turns.line c.stages.grounds c.stages.invariant c.requires.going
-    c.step.new.self.nodes c.step.new.self.line c.step.new.services s.0 s.1 s.3 c.step.ensures.tops c.in-Leaf.op c.in-Leaf.leaf
+    c.step.new.self.nodes c.step.new.self.line c.step.new.services s.0 s.1 s.5 s.3 c.step.ensures.tops c.in-Leaf.op c.in-Leaf.leaf
     c.in-Leaf.bytes s.4).0
 
 pub put-requires-clause-fits : goal.put-requires-clause-fits
@@ -71,7 +71,7 @@ put-requires-clause-fits g c =
     let s = rw c.in-Leaf.is at c.in-Ok.ensures.steps in
     (turning_takes g.N.NodeFacts.nodes g.N.Staged.over g.D.Disk.bytes g.D.Disk.image c.args.turns.now.nodes c.args.turns.now.line
     c.args.grounds.now c.args.key c.stages.turns.nodes c.stages.turns.line c.stages.grounds c.stages.invariant c.requires.going
-    c.step.new.self.nodes c.step.new.self.line c.step.new.services s.0 s.1 s.3 c.step.ensures.tops c.in-Leaf.op c.in-Leaf.leaf
+    c.step.new.self.nodes c.step.new.self.line c.step.new.services s.0 s.1 s.5 s.3 c.step.ensures.tops c.in-Leaf.op c.in-Leaf.leaf
     c.in-Leaf.bytes s.4).1
 
 pub put-requires-clause-lies : goal.put-requires-clause-lies
@@ -79,7 +79,7 @@ put-requires-clause-lies g c =
     let s = rw c.in-Leaf.is at c.in-Ok.ensures.steps in
     (turning_takes g.N.NodeFacts.nodes g.N.Staged.over g.D.Disk.bytes g.D.Disk.image c.args.turns.now.nodes c.args.turns.now.line
     c.args.grounds.now c.args.key c.stages.turns.nodes c.stages.turns.line c.stages.grounds c.stages.invariant c.requires.going
-    c.step.new.self.nodes c.step.new.self.line c.step.new.services s.0 s.1 s.3 c.step.ensures.tops c.in-Leaf.op c.in-Leaf.leaf
+    c.step.new.self.nodes c.step.new.self.line c.step.new.services s.0 s.1 s.5 s.3 c.step.ensures.tops c.in-Leaf.op c.in-Leaf.leaf
     c.in-Leaf.bytes s.4).2
 
 pub put-requires-clause-apart : goal.put-requires-clause-apart
@@ -87,7 +87,7 @@ put-requires-clause-apart g c =
     let s = rw c.in-Leaf.is at c.in-Ok.ensures.steps in
     (turning_takes g.N.NodeFacts.nodes g.N.Staged.over g.D.Disk.bytes g.D.Disk.image c.args.turns.now.nodes c.args.turns.now.line
     c.args.grounds.now c.args.key c.stages.turns.nodes c.stages.turns.line c.stages.grounds c.stages.invariant c.requires.going
-    c.step.new.self.nodes c.step.new.self.line c.step.new.services s.0 s.1 s.3 c.step.ensures.tops c.in-Leaf.op c.in-Leaf.leaf
+    c.step.new.self.nodes c.step.new.self.line c.step.new.services s.0 s.1 s.5 s.3 c.step.ensures.tops c.in-Leaf.op c.in-Leaf.leaf
     c.in-Leaf.bytes s.4).3
 
 pub returns-in-Leaf-clause-turns : goal.returns-in-Leaf-clause-turns
@@ -95,7 +95,7 @@ returns-in-Leaf-clause-turns g c =
     let s = rw c.in-Leaf.is at c.in-Ok.ensures.steps in
     turning_leaves g.N.NodeFacts.nodes g.N.Staged.over g.D.Disk.bytes g.D.Disk.image c.args.turns.now.nodes c.args.turns.now.line
     c.args.grounds.now c.args.key c.stages.turns.nodes c.stages.turns.line c.stages.grounds c.stages.invariant c.requires.going
-    c.step.new.self.nodes c.step.new.self.line c.step.new.services s.0 s.1 s.3 c.step.ensures.tops c.in-Leaf.op c.in-Leaf.leaf
+    c.step.new.self.nodes c.step.new.self.line c.step.new.services s.0 s.1 s.5 s.3 c.step.ensures.tops c.in-Leaf.op c.in-Leaf.leaf
     c.in-Leaf.bytes s.4 c.put.new.self c.in_ok-put-in-Leaf.ensures.ok c.put.ensures.ready c.put.ensures.setting c.put.ensures.disks
     c.put.ensures.desk
 
@@ -104,6 +104,6 @@ returns-in-Leaf-clause-less g c =
     let s = rw c.in-Leaf.is at c.in-Ok.ensures.steps in
     turning_leaves_less g.N.NodeFacts.nodes g.N.Staged.over g.D.Disk.bytes g.D.Disk.image c.args.turns.now.nodes c.args.turns.now.line
     c.args.grounds.now c.args.key c.stages.turns.nodes c.stages.turns.line c.stages.grounds c.stages.invariant c.requires.going
-    c.step.new.self.nodes c.step.new.self.line c.step.new.services s.0 s.1 s.3 c.step.ensures.tops c.in-Leaf.op c.in-Leaf.leaf
+    c.step.new.self.nodes c.step.new.self.line c.step.new.services s.0 s.1 s.5 s.3 c.step.ensures.tops c.in-Leaf.op c.in-Leaf.leaf
     c.in-Leaf.bytes s.4 c.put.new.self c.in_ok-put-in-Leaf.ensures.ok c.put.ensures.ready c.put.ensures.setting c.put.ensures.disks
     c.put.ensures.desk (rw c.in-Leaf.is at c.in-Ok.ensures.less)

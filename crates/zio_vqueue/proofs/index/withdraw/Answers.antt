@@ -21,6 +21,7 @@ none_such = (
 pub loop-spot-preserved : goal.loop-spot-preserved
 loop-spot-preserved c = record {
   indexed = c.withdraw_one.ensures.indexed;
+  counted = c.withdraw_one.ensures.counted;
   there = there_after _ c.withdraw_one.new.by_time.entries c.args.members.now c.loop-spot.spot-index _ c.loop-spot-test.true c.loop-spot.invariant.there c.loop-spot.invariant.apart c.withdraw_one.ensures.times;
   apart = apart_after c.args.members.now c.loop-spot.spot-index none_such c.loop-spot-test.true c.loop-spot.invariant.apart;
   queued = without_after c.args.members.now c.loop-spot.spot-index _ _ _ _ c.loop-spot-test.true c.withdraw_one.ensures.queued c.loop-spot.invariant.queued;
@@ -35,4 +36,5 @@ returns c = record {
   queued = without_done c.args.members.now c.loop-spot.spot-index _ _ c.loop-spot-test.false c.loop-spot.invariant.queued;
   before = c.loop-spot.invariant.before;
   indexed = c.loop-spot.invariant.indexed;
+  counted = c.loop-spot.invariant.counted;
 }

@@ -12,7 +12,6 @@ invariant_of-result g c = λ running.
       disks_are = c.in_ok-grounds.ensures.disks;
       tops_are = c.in_ok-grounds.ensures.tops;
       space = c.in_ok-grounds.ensures.space;
-      asked = c.in_ok-grounds.ensures.asked;
       leaves = c.in_ok-grounds.ensures.leaves;
       ready = c.in_ok-grounds.ensures.ready;
     })

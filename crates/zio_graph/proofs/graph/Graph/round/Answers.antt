@@ -8,7 +8,7 @@ use Rattle.zio_course.specs.declared.runner.RoundEnd.{RoundEnd}
 use Rattle.zio_course.specs.declared.runner.Stop.TheVariants.{Device, Memory}
 use Rattle.zio_course.specs.Runners.{AnyRose}
 use Rattle.zio_stages.specs.Tops.{AreTops}
-use Rattle.zio_stages.specs.declared.outcome.Finished.{Finished}
+use Rattle.zio_exchange.specs.declared.outcome.FinishedRequest.{FinishedRequest}
 use Rattle.zio_turns.specs.declared.desk.Desk.{Desk}
 use Rattle.zio_turns.proofs.StopLemmas.{on_err}
 use Rattle.zio_graph.specs.Graphs.{AreReadyGrounds, SeenGraph, standing_of}
@@ -82,7 +82,7 @@ returns-clause-round g c =
       disks = ap (λ v. v.items) c.note_point.ensures.disks ∙ ap (λ (q : SeenGraph _). q.disks) c.self.view_is;
     } in
     let e = c.in_ok-finished.field-0 in
-    let end : RoundEnd (List Pending) Finished =
+    let end : RoundEnd (List Pending) FinishedRequest =
     record { finished = e.finished; left = c.in_ok-rests.rests; completions = e.completions; entries = e.entries } in
     let seen : IsSeenEnd e end = record { finished = refl; left = c.in_ok-rests.ensures; completions = refl; entries = refl } in
     round_seen m.faults m.image p c.args.job.point c.note_point.new.grounds begins
@@ -100,7 +100,7 @@ returns-clause-end g c =
       disks = ap (λ v. v.items) c.note_point.ensures.disks ∙ ap (λ (q : SeenGraph _). q.disks) c.self.view_is;
     } in
     let e = c.in_ok-finished.field-0 in
-    let end : RoundEnd (List Pending) Finished =
+    let end : RoundEnd (List Pending) FinishedRequest =
     record { finished = e.finished; left = c.in_ok-rests.rests; completions = e.completions; entries = e.entries } in
     let seen : IsSeenEnd e end = record { finished = refl; left = c.in_ok-rests.ensures; completions = refl; entries = refl } in
     ends_seen m.faults m.image p c.args.job.point c.note_point.new.grounds begins
@@ -121,7 +121,7 @@ returns-clause-stands g c =
       disks = ap (λ v. v.items) c.note_point.ensures.disks ∙ ap (λ (q : SeenGraph _). q.disks) c.self.view_is;
     } in
     let e = c.in_ok-finished.field-0 in
-    let end : RoundEnd (List Pending) Finished =
+    let end : RoundEnd (List Pending) FinishedRequest =
     record { finished = e.finished; left = c.in_ok-rests.rests; completions = e.completions; entries = e.entries } in
     let seen : IsSeenEnd e end = record { finished = refl; left = c.in_ok-rests.ensures; completions = refl; entries = refl } in
     stands_seen m.faults m.image p c.args.job.point c.note_point.new.grounds begins

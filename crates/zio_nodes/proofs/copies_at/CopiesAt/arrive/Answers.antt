@@ -1,7 +1,7 @@
 use Rattle.std.proofs.Common.{◌≡◌, subst, sym, true, ◌∙◌}
 use Rattle.zio_trace.specs.Tasks.{Value}
 use Rattle.zio_frames.specs.Moves.{heard_of}
-use Rattle.zio_stages.specs.declared.outcome.Outcome.TheVariants.{Found}
+use Rattle.zio_exchange.specs.declared.outcome.Outcome.TheVariants.{Found}
 use Rattle.zio_stages.proofs.OutMoves.{read_idle}
 use Rattle.zio_nodes.specs.CopiesAts.{IsCopiesAt}
 use Rattle.zio_nodes.specs.declared.copies_at.CopiesAt.{CopiesAt}

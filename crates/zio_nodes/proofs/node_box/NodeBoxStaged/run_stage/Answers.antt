@@ -1,6 +1,6 @@
 use Rattle.std.proofs.Common.{◌≡◌, subst}
 use Rattle.zio_turns.specs.Stages.{IsMove}
-use Rattle.zio_turns.specs.declared.staged.Move.{Move}
+use Rattle.zio_nodes.specs.SealedMoves.{Move}
 use Rattle.zio_turns.specs.declared.staged.Move.TheVariants.{End, Grow}
 use Rattle.std.specs.Box.{with_value}
 use Rattle.zio_nodes.specs.StageMoves.{IsStageMove}

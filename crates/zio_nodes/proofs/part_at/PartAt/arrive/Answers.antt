@@ -2,9 +2,9 @@ use Rattle.std.proofs.Common.{Option, ap, arith, inl, inr, subst, sym}
 use Rattle.zio_types.specs.declared.error.Errno.{Errno}
 use Rattle.zio_trace.specs.Tasks.{Value}
 use Rattle.zio_frames.specs.Moves.{heard_of}
-use Rattle.zio_stages.specs.Outcomes.{IsOutcome}
+use Rattle.zio_exchange.specs.Outcomes.{IsOutcome}
 use Rattle.zio_stages.specs.PartNodes.{HearsValueAt, IsAnsweredBy, IsPartNode}
-use Rattle.zio_stages.specs.declared.outcome.Outcome.{Outcome}
+use Rattle.zio_stages.specs.Sealed.{Outcome}
 use Rattle.zio_stages.specs.declared.part.PartOwn.{PartOwn}
 use Rattle.zio_stages.specs.declared.write_io.WriteIo.{WriteIo}
 use Rattle.zio_nodes.specs.Bounds.{write_left}

@@ -2,11 +2,11 @@ use Rattle.std.proofs.Common.{◌≡◌, Some, subst, sym}
 use Rattle.zio_gang.specs.declared.tree.Tree.{Tree}
 use Rattle.zio_trace.specs.Tasks.{Value}
 use Rattle.zio_frames.specs.Moves.{heard_of}
-use Rattle.zio_stages.specs.Outcomes.{IsOutcome}
+use Rattle.zio_exchange.specs.Outcomes.{IsOutcome}
 use Rattle.zio_stages.specs.OwnClaims.{LiesWalked}
 use Rattle.zio_stages.specs.RequestClaims.{IsClaimingWith}
 use Rattle.zio_stages.specs.RequestNodes.{IsRequestNode}
-use Rattle.zio_stages.specs.declared.outcome.Outcome.{Outcome}
+use Rattle.zio_stages.specs.Sealed.{Outcome}
 use Rattle.zio_stages.specs.declared.own_claim.ClaimStep.TheVariants.{Out}
 use Rattle.zio_stages.specs.declared.own_claim.OwnClaim.{OwnClaim}
 use Rattle.zio_nodes.proofs.OwnHeard.{claimed_left_then, claimed_over}

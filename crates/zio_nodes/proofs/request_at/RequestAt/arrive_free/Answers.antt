@@ -1,10 +1,10 @@
 use Rattle.std.proofs.Common.{◌≡◌, subst, sym}
 use Rattle.zio_trace.specs.Tasks.{Value}
 use Rattle.zio_frames.specs.Moves.{heard_of}
-use Rattle.zio_stages.specs.Outcomes.{IsOutcome}
+use Rattle.zio_exchange.specs.Outcomes.{IsOutcome}
 use Rattle.zio_stages.specs.RequestFrees.{IsFreeingWith}
 use Rattle.zio_stages.specs.RequestNodes.{IsRequestNode}
-use Rattle.zio_stages.specs.declared.outcome.Outcome.{Outcome}
+use Rattle.zio_stages.specs.Sealed.{Outcome}
 use Rattle.zio_stages.specs.declared.own_free.FreeWalk.TheVariants.{Out}
 use Rattle.zio_stages.specs.declared.own_free.OwnFree.{OwnFree}
 use Rattle.zio_nodes.proofs.OwnHeard.{freed_gave, freed_left_then, freed_over}

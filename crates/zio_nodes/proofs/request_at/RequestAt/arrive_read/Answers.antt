@@ -3,10 +3,10 @@ use Rattle.zio_types.specs.declared.request.ChildKind.{ChildKind}
 use Rattle.zio_trace.specs.Tasks.{Value}
 use Rattle.zio_frames.specs.Frames.{Child}
 use Rattle.zio_frames.specs.Moves.{heard_of}
-use Rattle.zio_stages.specs.Outcomes.{IsOutcome}
+use Rattle.zio_exchange.specs.Outcomes.{IsOutcome}
 use Rattle.zio_stages.specs.RequestNodes.{IsRequestNode}
 use Rattle.zio_stages.specs.RequestReads.{IsBodyBeside, IsReadingWith, IsWalkAlone}
-use Rattle.zio_stages.specs.declared.outcome.Outcome.{Outcome}
+use Rattle.zio_stages.specs.Sealed.{Outcome}
 use Rattle.zio_stages.specs.declared.own_read.OwnRead.{OwnRead}
 use Rattle.zio_stages.proofs.RequestSits.{get_within}
 use Rattle.zio_nodes.specs.RequestHears.{IsOwnOutcome}

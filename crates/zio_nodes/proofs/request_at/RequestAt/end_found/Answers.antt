@@ -3,7 +3,7 @@ use Rattle.zio_turns.specs.Stages.{OutcomeIn}
 use Rattle.zio_stages.specs.Labels.{closed_label}
 use Rattle.zio_stages.specs.RequestReads.{found_of}
 use Rattle.zio_stages.specs.RequestStoreds.{is_well}
-use Rattle.zio_stages.specs.declared.outcome.Outcome.{Outcome}
+use Rattle.zio_stages.specs.Sealed.{Outcome}
 use Rattle.zio_stages.specs.declared.request_node.OwnFound.{OwnFound}
 use Rattle.zio_nodes.specs.TreeAts.{IsTreeOver}
 use Rattle.zio_nodes.proofs.FoundEnds.{ends_found}

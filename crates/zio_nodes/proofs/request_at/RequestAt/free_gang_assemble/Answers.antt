@@ -3,6 +3,7 @@ use Rattle.std.specs.Prelude.{IfSome}
 use Rattle.zio_masks.specs.declared.stage.Stage.{Stage}
 use Rattle.zio_masks.specs.declared.stage.Stage.TheVariants.{GangAssemble, GangIssue}
 use Rattle.zio_types.specs.declared.request.ChildKind.TheVariants.{Gang}
+use Rattle.zio_exchange.specs.declared.waiting.UnfinishedRequest.{UnfinishedRequest}
 use Rattle.zio_turns.specs.Stages.{told_cost}
 use Rattle.zio_frames.specs.Frames.{fresh_stack}
 use Rattle.zio_stages.specs.HeadsNodes.{IsHeadsNode}
@@ -13,7 +14,6 @@ use Rattle.zio_stages.specs.RequestReads.{HandsWalk, IsWalkOver, IsWholeWalk}
 use Rattle.zio_stages.specs.declared.heads_node.HeadsNode.{HeadsNode}
 use Rattle.zio_stages.proofs.BehindLemmas.{does_nothing}
 use Rattle.zio_stages.specs.declared.own_free.FreeWalk.TheVariants.{Due, Out}
-use Rattle.zio_stages.specs.declared.waiting.UnfinishedRequest.{UnfinishedRequest}
 use Rattle.zio_nodes.specs.Bounds.{walk_max}
 use Rattle.zio_nodes.specs.OwnAts.{IsFreeAtStage}
 use Rattle.zio_nodes.specs.OwnBounds.{free_stages}

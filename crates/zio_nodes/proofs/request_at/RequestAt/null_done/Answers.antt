@@ -3,7 +3,7 @@ use Rattle.zio_masks.specs.declared.stage.Stage.{Stage}
 use Rattle.zio_turns.specs.Stages.{Ends, OutcomeIn}
 use Rattle.zio_stages.specs.Labels.{closed_label}
 use Rattle.zio_stages.specs.RequestNodes.{IsRequestNode}
-use Rattle.zio_stages.specs.declared.outcome.Outcome.{Outcome}
+use Rattle.zio_stages.specs.Sealed.{Outcome}
 use Rattle.zio_stages.specs.declared.request_node.OwnFound.{OwnFound}
 use Rattle.zio_stages.specs.declared.request_node.RequestNode.{RequestNode}
 use Rattle.zio_nodes.specs.Nodes.{gave_of, nodes}

@@ -1,5 +1,5 @@
 use Rattle.std.proofs.Common.{ap, arith, refl}
-use Rattle.zio_stages.specs.Waits.{pending_of}
+use Rattle.zio_exchange.specs.Waits.{pending_of}
 use Rattle.zio_nodes.specs.Told.{is_told}
 use Rattle.zio_nodes.specs.declared.request_at.RequestAt.{RequestAt}
 use Rattle.zio_nodes.proofs.FirstStages.{null_told}

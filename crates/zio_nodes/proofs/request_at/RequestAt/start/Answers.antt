@@ -4,9 +4,9 @@ use Rattle.zio_masks.specs.declared.stage.Stage.{Stage}
 use Rattle.zio_masks.specs.declared.stage.Stage.TheVariants.{Start as StartStage}
 use Rattle.zio_trace.specs.Tasks.{Attempt, Task}
 use Rattle.zio_frames.specs.Frames.{fresh_stack}
+use Rattle.zio_exchange.specs.declared.waiting.UnfinishedRequest.{UnfinishedRequest}
 use Rattle.zio_stages.specs.RequestKinds.{has_gang_stages}
 use Rattle.zio_stages.specs.RequestNodes.{IsRequestNode}
-use Rattle.zio_stages.specs.declared.waiting.UnfinishedRequest.{UnfinishedRequest}
 use Rattle.zio_stages.specs.declared.request_node.RequestNode.{RequestNode}
 use Rattle.zio_stages.specs.declared.request_node.Start.{Start}
 use Rattle.zio_stages.specs.declared.request_node.Start.TheVariants.{AllOut, Child}

@@ -1,5 +1,5 @@
 use Rattle.std.proofs.Common.{ap}
-use Rattle.zio_stages.specs.Waits.{pending_of}
+use Rattle.zio_exchange.specs.Waits.{pending_of}
 use Rattle.zio_nodes.specs.Told.{is_told}
 use Rattle.zio_nodes.proofs.OwnBare.{tells_bare}
 use Rattle.zio_nodes.proofs.request_at.RequestAt.tell_none.Goals as goal

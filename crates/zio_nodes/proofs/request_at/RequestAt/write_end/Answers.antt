@@ -1,10 +1,10 @@
 use Rattle.std.proofs.Common.{◌≡◌, Some, ap, refl, subst, sym, ◌∙◌}
 use Rattle.zio_masks.specs.declared.stage.Stage.TheVariants.{Done}
+use Rattle.zio_exchange.specs.SpaceCalls.{calls_back}
 use Rattle.zio_stages.specs.Labels.{closed_label}
 use Rattle.zio_stages.specs.RequestNodes.{IsRequestNode}
 use Rattle.zio_stages.specs.RequestStoreds.{found_by, is_well}
-use Rattle.zio_stages.specs.SpaceCalls.{calls_back}
-use Rattle.zio_stages.specs.declared.outcome.Outcome.{Outcome}
+use Rattle.zio_stages.specs.Sealed.{Outcome}
 use Rattle.zio_stages.specs.declared.request_node.OwnFound.{OwnFound}
 use Rattle.zio_stages.specs.declared.request_node.RequestNode.{RequestNode}
 use Rattle.zio_turns.specs.Stages.{Ends, OutcomeIn}

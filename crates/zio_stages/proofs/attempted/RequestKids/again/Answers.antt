@@ -2,10 +2,10 @@ use Rattle.std.proofs.Common.{◌≡◌, ◌∷◌, [], ◌∙◌, List, reverse
 use Rattle.std.specs.List.{AllByRecursion}
 use Rattle.zio_gang.specs.Attempts.{Child, Pending}
 use Rattle.zio_children.specs.RequestKids.{finished_in, kids_by, numbers_of}
+use Rattle.zio_exchange.specs.Waits.{pending_of}
+use Rattle.zio_exchange.specs.Wholes.{IsTreeOf, IsWhole}
 use Rattle.zio_stages.specs.KidLists.{IsLeftList}
 use Rattle.zio_stages.specs.KidTrees.{IsKids, KidsHeld, trees_left, with_kept}
-use Rattle.zio_stages.specs.Waits.{pending_of}
-use Rattle.zio_stages.specs.Wholes.{IsTreeOf, IsWhole}
 use Rattle.zio_stages.proofs.KidListLemmas.{left_list}
 use Rattle.zio_stages.proofs.AgainLemmas.{LeftBy, all_left, left_by, left_of_one, rise_left}
 use Rattle.zio_stages.proofs.attempted.RequestKids.again.Goals as goal

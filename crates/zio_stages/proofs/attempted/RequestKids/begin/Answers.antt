@@ -1,8 +1,8 @@
 use Rattle.std.proofs.Common.{◌≡◌, ◌∷◌, ◌++◌, [], ◌∙◌, List, sym, ap}
-use Rattle.zio_stages.specs.Wholes.{root_of}
-use Rattle.zio_stages.specs.declared.waiting.UnfinishedRequest.{UnfinishedRequest}
+use Rattle.zio_exchange.specs.Wholes.{root_of}
+use Rattle.zio_exchange.specs.declared.waiting.UnfinishedRequest.{UnfinishedRequest}
+use Rattle.zio_exchange.proofs.WholeLemmas.{root_last}
 use Rattle.zio_stages.proofs.KidTreeLemmas.{Begun, begun}
-use Rattle.zio_stages.proofs.WholeLemmas.{root_last}
 use Rattle.zio_stages.proofs.attempted.RequestKids.begin.Goals as goal
 
 pub returns-in-Ok-clause-root : goal.returns-in-Ok-clause-root

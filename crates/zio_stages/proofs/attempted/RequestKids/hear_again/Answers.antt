@@ -5,8 +5,8 @@ use Rattle.zio_trace.specs.Tasks.{AttemptedBy}
 use Rattle.zio_children.specs.RequestKids.{IsOutWith, numbers_of, state_at}
 use Rattle.zio_children.specs.declared.kids.KidState.TheVariants.{Ended}
 use Rattle.zio_frames.specs.Slots.{Heard}
+use Rattle.zio_exchange.specs.Wholes.{IsWhole, root_number}
 use Rattle.zio_stages.specs.KidTrees.{IsKids, KidsHeld}
-use Rattle.zio_stages.specs.Wholes.{IsWhole, root_number}
 use Rattle.zio_stages.proofs.KidMoves.{again_held, again_kids, out_within}
 use Rattle.zio_stages.proofs.attempted.RequestKids.hear_again.Goals as goal
 

@@ -1,12 +1,7 @@
-use Rattle.std.proofs.Common.{◌∙◌, ◌++◌, ◌∷◌, [], sym, ap, length, arith}
+use Rattle.std.proofs.Common.{◌∙◌, ◌++◌, ◌∷◌, [], sym, ap, length}
 use Rattle.zio_stages.specs.NodeChildren.{new_child, seat_of}
 use Rattle.zio_stages.proofs.FamilyLemmas.{added, length_children, told_added}
 use Rattle.zio_stages.proofs.family.Family.add.Goals as goal
-
-pub add-requires : goal.add-requires
-add-requires c =
-    let f = c.self.inside in
-    omega (arith, c.requires, ap length c.self.view_is, length_children f.brood f.sittings.items c.self.invariant.0)
 
 pub invariant_of-self-in-Ok : goal.invariant_of-self-in-Ok
 invariant_of-self-in-Ok c =

@@ -1,7 +1,7 @@
 use Rattle.std.proofs.Common.{List, [], ◌∷◌, Err, true, false, refl, ap, subst, ◌∙◌}
 use Rattle.zio_types.specs.declared.place.Place.{Place}
 use Rattle.zio_gang.specs.Trees.{tree_places}
-use Rattle.zio_stages.specs.SpaceCalls.{Claimed}
+use Rattle.zio_exchange.specs.SpaceCalls.{Claimed}
 use Rattle.zio_stages.specs.declared.own_claim.ClaimStep.TheVariants.{Refused, Taken as TakenStep}
 use Rattle.zio_stages.specs.declared.own_claim.OwnClaim.{OwnClaim}
 use Rattle.zio_stages.proofs.OwnClaimLemmas.{claim_takes}

@@ -12,16 +12,16 @@ pub returns-clause-begins : goal.returns-clause-begins
 returns-clause-begins c = λ t family tree front_asked front st goes h.
     let old = c.args.self.now in
     let body = c.args.body in
-    let b : BodyIo = record { number = c.in_ok-number.number; io = c.new-io.result } in
+    let b : BodyIo = record { number = c.number_of-number.result; io = c.new-io.result } in
     let new : OwnRead = record { tree = c.hand_out_body.new.self; body = Some b } in
     let op : ReadCopies true c.body-check.result body.bp.size c.in_ok-places.places ≡ body_task body.bp =
     λ i. ReadCopies true (c.body-check.ensures i) body.bp.size (c.in_ok-places.ensures i) in
     let fresh : IsReadIo t b.io (fresh_frame (body_task body.bp)) =
     subst (λ (q : Task). IsReadIo t b.io (fresh_frame q)) op (c.new-io.ensures.fresh t goes.tops_are) in
-    begins t c.args.tops.now old new b body family tree front_asked front st c.requires.alone refl c.in_ok-number.ensures fresh c.requires.next
+    begins t c.args.tops.now old new b body family tree front_asked front st c.requires.alone refl c.number_of-number.ensures fresh c.requires.next
     (λ asked slots is. c.in_ok-hand_out_body.ensures.out tree asked slots is) goes h
 
 pub returns-clause-over : goal.returns-clause-over
 returns-clause-over c = λ family none.
-    let b : BodyIo = record { number = c.in_ok-number.number; io = c.new-io.result } in
-    fresh_over c.args.tops.now c.hand_out_body.new.self b c.args.body.n family c.in_ok-number.ensures c.new-io.ensures.over (λ left. c.in_ok-hand_out_body.ensures.there left) none
+    let b : BodyIo = record { number = c.number_of-number.result; io = c.new-io.result } in
+    fresh_over c.args.tops.now c.hand_out_body.new.self b c.args.body.n family c.number_of-number.ensures c.new-io.ensures.over (λ left. c.in_ok-hand_out_body.ensures.there left) none

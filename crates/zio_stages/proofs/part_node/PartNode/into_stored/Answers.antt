@@ -2,8 +2,7 @@ use Rattle.std.proofs.Common.{List, subst, sym}
 use Rattle.std.specs.Prelude.{IsPermutation}
 use Rattle.zio_types.specs.declared.place.Place.{Place}
 use Rattle.zio_trace.specs.Tasks.{Stored}
-use Rattle.zio_stages.specs.Outcomes.{places_in, stored_places}
-use Rattle.zio_stages.specs.PartOwns.{stored_as}
+use Rattle.zio_exchange.specs.Outcomes.{places_in, stored_as, stored_places}
 use Rattle.zio_stages.proofs.PartNodeLemmas.{ends_node, holds_node}
 use Rattle.zio_stages.proofs.PartPlaces.{part_places}
 use Rattle.zio_stages.proofs.part_node.PartNode.into_stored.Goals as goal

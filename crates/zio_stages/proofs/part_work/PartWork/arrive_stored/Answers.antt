@@ -5,7 +5,8 @@ use Rattle.zio_frames.specs.Moves.{child_ended}
 use Rattle.zio_frames.specs.Slots.{IsOut, Heard}
 use Rattle.zio_parts.specs.Parts.{PartWriting, slots_of}
 use Rattle.zio_parts.specs.declared.members.Member.TheVariants.{Ended as MemberEnded}
-use Rattle.zio_stages.specs.PartOwns.{ForMember, IsOutAs, IsPartOwn, asks_in, stored_as}
+use Rattle.zio_exchange.specs.Outcomes.{stored_as}
+use Rattle.zio_stages.specs.PartOwns.{ForMember, IsOutAs, IsPartOwn, asks_in}
 use Rattle.zio_stages.specs.PartWorks.{IsIoOver, IsNoLessFar}
 use Rattle.zio_stages.specs.declared.family.Layer.TheVariants.{Own}
 use Rattle.zio_stages.proofs.NodeIoLemmas.{same_child, seat_there}

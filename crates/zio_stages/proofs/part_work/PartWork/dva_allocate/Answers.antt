@@ -3,9 +3,9 @@ use Rattle.std.specs.Prelude.{List}
 use Rattle.zio_types.specs.declared.place.Top.{Top}
 use Rattle.zio_cksum.proofs.AllLemmas.{all_append}
 use Rattle.zio_frames.specs.Frames.{Child}
+use Rattle.zio_exchange.specs.SpaceCalls.{IsAsk}
 use Rattle.zio_stages.specs.PartNodes.{HandsMemberOf}
 use Rattle.zio_stages.specs.PartWorks.{IsPartAt, IsPartOver}
-use Rattle.zio_stages.specs.SpaceCalls.{IsAsk}
 use Rattle.zio_stages.specs.declared.part_work.PartWork.{PartWork}
 use Rattle.zio_stages.proofs.PartNodeLemmas.{asks_twice}
 use Rattle.zio_stages.proofs.part_work.PartWork.dva_allocate.Goals as goal

@@ -25,7 +25,7 @@ returns-clause-hands c = λ t f o st is h.
     let alone : w.io ≡ None = no_io c.requires.over.0 x w.io family due c.requires.over.1.io in
     let hm = c.hand_out_member-own.ensures.handed t o h.asked h.slots h.work.own (held ∙ sym c.as_slice-2.ensures) in
     let many : length h.slots ≡ 2 + n = ap length h.work.own.shown ∙ member_number x n step due in
-    let grown : c.add.new.self ≡ family ++ new_child (OfOuter (c.args.front + 2 + n)) Gang ∷ [] = c.in_ok-add.ensures.ok ∙ ap (λ (s : SeatOf). family ++ new_child s Gang ∷ []) (ap seat_of c.in_ok-seat.ensures.seat) in
+    let grown : c.add.new.self ≡ family ++ new_child (OfOuter (c.args.front + 2 + n)) Gang ∷ [] = c.in_ok-add.ensures.ok in
     let now = c.hand_out_member-own.ensures.exact ∙ ap (λ s. handed_by s x) (sym step) in
     let mine : member_bytes o.bytes n ≡ c.in_ok-bytes.bytes = c.member_range-range.ensures.bytes o.bytes (sym h.work.own.of_bytes.size)
     ∙ ap (λ bs. take (c.member_range-range.result.end - c.member_range-range.result.start) (drop c.member_range-range.result.start bs)) (held ∙ sym c.as_slice.ensures) ∙ sym c.in_ok-bytes.ensures in
@@ -39,7 +39,7 @@ returns-clause-over c = λ tops h.
     let n = c.in-Member.n in
     let family = c.args.family.now in
     let step : Member n ≡ step_of x = sym c.in-Member.is ∙ c.next.ensures.shows.is in
-    let grown : c.add.new.self ≡ family ++ new_child (OfOuter (c.args.front + 2 + n)) Gang ∷ [] = c.in_ok-add.ensures.ok ∙ ap (λ (s : SeatOf). family ++ new_child s Gang ∷ []) (ap seat_of c.in_ok-seat.ensures.seat) in
+    let grown : c.add.new.self ≡ family ++ new_child (OfOuter (c.args.front + 2 + n)) Gang ∷ [] = c.in_ok-add.ensures.ok in
     let now = c.hand_out_member-own.ensures.exact ∙ ap (λ s. handed_by s x) (sym step) in
     over_more tops w _ family c.add.new.self (c.args.front + 2 + n) h (ap (λ (y : PartWriting). y.placing) now) (ap (λ (y : PartWriting). y.own) now) (ap (λ (y : PartWriting). y.size) now) refl refl grown
 

@@ -4,8 +4,8 @@ use Rattle.zio_types.specs.Choices.{Ask}
 use Rattle.zio_blkptr.specs.Pointers.{valid}
 use Rattle.zio_trace.specs.Tasks.{Find}
 use Rattle.zio_parts.specs.Parts.{PartWriting, is_head_due, pointer_over}
+use Rattle.zio_exchange.specs.SpaceCalls.{Placed}
 use Rattle.zio_stages.specs.PartOwns.{PartAsks}
-use Rattle.zio_stages.specs.SpaceCalls.{Placed}
 use Rattle.zio_stages.specs.declared.part_work.PartWork.{PartWork}
 use Rattle.zio_stages.proofs.FoundPlaces.{if_chosen}
 use Rattle.zio_stages.proofs.PartIos.{no_io}

@@ -24,7 +24,7 @@ returns-clause-heard c = λ t st d a error there h.
     let r = c.args.self.now in
     let w = c.in-Write.field-0 in
     let own = write_in t r st w h c.in-Write.is in
-    node_at t r st _ w _ c.arrive_leaf.new.family h own refl
+    node_at t r st _ w _ c.arrive_leaf.new.family h own
     (c.arrive_leaf.ensures.heard t (front_in t r st h) own.part st d a error there (part_at t r st w h own))
 
 pub returns-clause-over : goal.returns-clause-over

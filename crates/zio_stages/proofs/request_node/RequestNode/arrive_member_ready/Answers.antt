@@ -1,22 +1,24 @@
-use Rattle.std.proofs.Common.{ap, length, refl, subst, sym, ◌∙◌}
-use Rattle.zio_stages.specs.PartWorks.{IsMoreDue, asked_by, is_second}
+use Rattle.std.proofs.Common.{ℕ, None, ap, length, refl, subst, sym, ◌∙◌}
+use Rattle.zio_stages.specs.PartWorks.{IsMemberAt, IsMoreDue, asked_by, is_second}
 use Rattle.zio_stages.specs.RequestCounts.{IsMoreDueWrite, asked_of, members_of, path_of, second_of}
 use Rattle.zio_stages.specs.RequestNodes.{IsOwnOver}
 use Rattle.zio_stages.specs.declared.request_node.Own.{Own}
 use Rattle.zio_stages.proofs.RequestMembers.{keeps_same, own_early}
-use Rattle.zio_stages.proofs.RequestWriteLemmas.{front_in, node_at, part_at, write_in}
+use Rattle.zio_stages.proofs.RequestWriteLemmas.{front_in, many_in, node_at, part_at, write_in}
 use Rattle.zio_stages.proofs.request_node.RequestNode.arrive_member_ready.Goals as goal
 
 pub arrive_ready-requires-clause-member : goal.arrive_ready-requires-clause-member
-arrive_ready-requires-clause-member c = own_early c.args.self.now c.in-Write.field-0 c.args.child c.in-Write.is c.requires.hears
+arrive_ready-requires-clause-member c =
+    subst (λ (n : ℕ). IsMemberAt c.in-Write.field-0.work c.args.self.now.family n c.args.child None) (sym c.len-front.ensures.count)
+    (own_early c.args.self.now c.in-Write.field-0 c.args.child c.in-Write.is c.requires.hears)
 
 pub returns-clause-told : goal.returns-clause-told
 returns-clause-told c = λ t st d h there.
     let r = c.args.self.now in
     let w = c.in-Write.field-0 in
     let own = write_in t r st w h c.in-Write.is in
-    node_at t r st _ w _ c.arrive_ready.new.family h own refl
-    (c.arrive_ready.ensures.told t (front_in t r st h) own.part st d own.front (part_at t r st w h own) there)
+    node_at t r st _ w _ c.arrive_ready.new.family h own
+    (c.arrive_ready.ensures.told t (front_in t r st h) own.part st d (many_in t r st h own.told ∙ sym c.len-front.ensures.count) (part_at t r st w h own) there)
 
 pub returns-clause-over : goal.returns-clause-over
 returns-clause-over c = λ tops over.

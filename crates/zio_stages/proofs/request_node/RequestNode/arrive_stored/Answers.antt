@@ -1,24 +1,25 @@
-use Rattle.std.proofs.Common.{ap, length, refl, subst, sym, ◌∙◌}
-use Rattle.zio_stages.specs.PartWorks.{IsMoreDue, asked_by, is_second}
+use Rattle.std.proofs.Common.{ℕ, ap, length, refl, subst, sym, ◌∙◌}
+use Rattle.zio_stages.specs.PartWorks.{IsMemberAt, IsMoreDue, asked_by, is_second}
 use Rattle.zio_stages.specs.RequestCounts.{IsMoreDueWrite, asked_of, members_of, path_of, second_of}
 use Rattle.zio_stages.specs.RequestNodes.{IsOwnOver}
 use Rattle.zio_stages.specs.declared.request_node.Own.{Own}
 use Rattle.zio_stages.proofs.RequestMembers.{keeps_same, own_ended}
-use Rattle.zio_stages.proofs.RequestWriteLemmas.{front_in, node_at, part_at, write_in}
+use Rattle.zio_stages.proofs.RequestWriteLemmas.{front_in, many_in, node_at, part_at, write_in}
 use Rattle.zio_stages.proofs.request_node.RequestNode.arrive_stored.Goals as goal
 
 pub arrive_stored-requires : goal.arrive_stored-requires
 arrive_stored-requires c =
     let m = own_ended c.args.self.now c.in-Write.field-0 c.args.child c.args.stored c.in-Write.is c.requires.hears in
-    record { member = (m.told, m.at, m.told_is, λ none. absurd (m.some none)); kept = c.requires.hears.heard.2 }
+    let P = λ (n : ℕ). IsMemberAt c.in-Write.field-0.work c.args.self.now.family n c.args.child m.told in
+    record { member = (m.told, subst P (sym c.len-front.ensures.count) m.at, m.told_is, λ none. absurd (m.some none)); kept = c.requires.hears.heard.2 }
 
 pub returns-clause-heard : goal.returns-clause-heard
 returns-clause-heard c = λ t st d h there.
     let r = c.args.self.now in
     let w = c.in-Write.field-0 in
     let own = write_in t r st w h c.in-Write.is in
-    node_at t r st _ w _ c.arrive_stored.new.family h own refl
-    (c.arrive_stored.ensures.heard t (front_in t r st h) own.part st d own.front (part_at t r st w h own) there)
+    node_at t r st _ w _ c.arrive_stored.new.family h own
+    (c.arrive_stored.ensures.heard t (front_in t r st h) own.part st d (many_in t r st h own.told ∙ sym c.len-front.ensures.count) (part_at t r st w h own) there)
 
 pub returns-clause-over : goal.returns-clause-over
 returns-clause-over c = λ tops over.

@@ -9,19 +9,20 @@ use Rattle.zio_stages.proofs.request_node.RequestNode.close_found.Goals as goal
 pub returns-in-Ok-clause-ends : goal.returns-in-Ok-clause-ends
 returns-in-Ok-clause-ends c =
     let r = c.args.self in
+    let by = c.in-Ok.ensures.closes in
     let found = c.in-Found.own in
     let is = sym c.replace.ensures.value ∙ c.in-Found.is in (
       found,
       ap found_of is,
       record {
-        closed = c.in-Ok.closed;
-        is = c.into_outcome.ensures;
-        own_is = c.in-Ok.ensures.kept;
-        decides = c.in-Ok.ensures.decides;
+        closed = by.closed;
+        is = by.is;
+        own_is = by.own_is;
+        decides = by.decides;
         closes = λ t st h.
-            closes_found t r st _ c.in-Ok.closed h is c.requires.ended
-            (subst (λ (o : Own). (g : IsRequestNode t (with_own r o) st) → OwnEnds t (with_own r o) st (own_got found) g → Closes t (with_own r o) st g c.in-Ok.closed)
-            c.replace.ensures.after (λ g e. c.in-Ok.ensures.closes t st g e));
-        list = c.in-Ok.ensures.list;
+            closes_found t r st _ by.closed h is c.requires.ended
+            (subst (λ (o : Own). (g : IsRequestNode t (with_own r o) st) → OwnEnds t (with_own r o) st (own_got found) g → Closes t (with_own r o) st g by.closed)
+            c.replace.ensures.after (λ g e. by.closes t st g e));
+        list = by.list;
       },
     )

@@ -6,16 +6,17 @@ use Rattle.zio_stages.proofs.request_node.RequestNode.close_null.Goals as goal
 
 pub returns-in-Ok-clause-ends : goal.returns-in-Ok-clause-ends
 returns-in-Ok-clause-ends c =
+    let by = c.in-Ok.ensures.closes in
     let own : OwnGot = record { error = None; bytes = c.new.result; tree = None; pointer = None } in
     let none : own ≡ only None = λ i. record { error = None; bytes = c.new.ensures i; tree = None; pointer = None } in (
       record { error = None; bytes = c.new.result; tree = None; pointer = None },
       refl,
       record {
-        closed = c.in-Ok.closed;
-        is = c.into_outcome.ensures;
-        own_is = c.in-Ok.ensures.kept;
-        decides = c.in-Ok.ensures.decides;
-        closes = λ t st h. c.in-Ok.ensures.closes t st h (null_ends t c.args.self st h own c.requires.null none);
-        list = c.in-Ok.ensures.list;
+        closed = by.closed;
+        is = by.is;
+        own_is = by.own_is;
+        decides = by.decides;
+        closes = λ t st h. by.closes t st h (null_ends t c.args.self st h own c.requires.null none);
+        list = by.list;
       },
     )

@@ -1,6 +1,7 @@
-use Rattle.std.proofs.Common.{◌≡◌, Some, ap, refl, subst, sym, ◌∙◌}
+use Rattle.std.proofs.Common.{◌≡◌, ℕ, Some, ap, refl, subst, sym, ◌∙◌}
 use Rattle.std.specs.Prelude.{IfOk, IfSome}
 use Rattle.zio_stages.specs.PartNodes.{IsMemberUnder, member_in, with_member}
+use Rattle.zio_stages.specs.PartWorks.{IsFront}
 use Rattle.zio_stages.specs.RequestCounts.{members_of, path_of}
 use Rattle.zio_stages.specs.RequestNodes.{IsOwnOver}
 use Rattle.zio_stages.specs.RequestWrites.{IsBegunWrite}
@@ -28,8 +29,8 @@ returns-clause-does g c =
           let own = write_in t r st w h c.in-Write.is in
           does_map t st d.0 _ _
           (λ mid k. comes_map t c.dva_allocate.result _ _ mid
-          (λ next at. node_at t r st next w _ c.dva_allocate.new.family h own refl at) k)
-          (d.2 t (front_in t r st h) own.part st (is_front t r st w h own) (part_at t r st w h own)),
+          (λ next at. node_at t r st next w _ c.dva_allocate.new.family h own at) k)
+          (d.2 t (front_in t r st h) own.part st (subst (λ (n : ℕ). IsFront t (front_in t r st h) own.part n) (sym c.len-front.ensures.count) (is_front t r st w h own)) (part_at t r st w h own)),
       d.3,
     )
 

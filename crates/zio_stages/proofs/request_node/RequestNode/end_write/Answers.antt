@@ -1,7 +1,7 @@
 use Rattle.std.proofs.Common.{sym, subst, ◌∙◌}
 use Rattle.std.specs.Prelude.{IsPermutation}
 use Rattle.zio_trace.specs.Tasks.{Stored}
-use Rattle.zio_stages.specs.Outcomes.{places_in, stored_places}
+use Rattle.zio_exchange.specs.Outcomes.{places_in, stored_places}
 use Rattle.zio_stages.specs.RequestNodes.{IsOwnOver}
 use Rattle.zio_stages.specs.RequestWrites.{IsEndOf}
 use Rattle.zio_stages.specs.declared.request_node.Own.{Own}

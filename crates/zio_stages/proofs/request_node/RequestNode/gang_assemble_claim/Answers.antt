@@ -18,7 +18,7 @@ use Rattle.zio_stages.proofs.request_node.RequestNode.gang_assemble_claim.Goals 
 pub gang_assemble-requires : goal.gang_assemble-requires
 gang_assemble-requires c =
     let d = c.in-Some.ensures.due in
-    record { due = d.0; some = subst (λ (b : Option Tree). IsSome b) (sym d.1.1) refl; room = c.in_ok-front.ensures.room }
+    record { due = d.0; some = subst (λ (b : Option Tree). IsSome b) (sym d.1.1) refl }
 
 pub claimed-requires-clause-depth : goal.claimed-requires-clause-depth
 claimed-requires-clause-depth c = let e : length c.headers_name-name.result.path ≡ 0 = ap length c.headers_name-name.ensures in omega (arith, e)
@@ -41,7 +41,7 @@ returns-clause-hands c = λ t st tops h.
     let op : ReadHeads ByClaim 8 c.headers_name-name.result.path bp ≡ claim_task bp = λ i. ReadHeads ByClaim 8 (c.headers_name-name.ensures i) bp in
     hands_claim t r st w c.gang_assemble.new.self c.gang_assemble.new.family bp (λ o. o ≡ claim_task bp) (λ o. IsHeadsNode t c.claimed.result (fresh_stack o)) h own pointer
     (λ o is. subst (λ (q : Task). IsHeadsNode t c.claimed.result (fresh_stack q)) (op ∙ sym is) (c.claimed.ensures.fresh t tops))
-    (c.in_ok-gang_assemble.ensures.hands t c.args.tops.now bp h.kid_asked h.kid_slots st (count_front t r st h own.all ∙ sym c.in_ok-front.ensures.front)
+    (c.in_ok-gang_assemble.ensures.hands t c.args.tops.now bp h.kid_asked h.kid_slots st (count_front t r st h own.all ∙ sym c.len-front.ensures.count)
     (subst (λ p. GoesOnAs t c.args.tops.now (plan_claim p) h.kid_slots st) pointer (claim_goes_on t c.args.tops.now r st own.bytes h tops (claims_bytes t r st w h own)))
     (subst (λ p. IsOwnClaim w r.family p h.kid_asked h.kid_slots st) pointer (own_claim t r st w h own)))
 

@@ -34,7 +34,7 @@ returns-clause-hands c = λ t st h.
     (λ i. ReadHeads (ByKept (heads i)) 8 (c.headers_name-name.ensures i) tree.bp) ∙ ap heads_task same in
     hands_free t r st w c.gang_assemble.new.self c.gang_assemble.new.family (λ o. o ≡ heads_task own.tree) (λ o. IsHeadsNode t c.kept.result (fresh_stack o)) h own
     (λ o is. subst (λ (q : Task). IsHeadsNode t c.kept.result (fresh_stack q)) (op ∙ sym is) (c.kept.ensures.fresh t))
-    (c.in_ok-gang_assemble.ensures.hands t t.setting.tops own.tree h.kid_asked h.kid_slots st (count_front t r st h own.all ∙ sym c.in_ok-front.ensures.front)
+    (c.in_ok-gang_assemble.ensures.hands t t.setting.tops own.tree h.kid_asked h.kid_slots st (count_front t r st h own.all ∙ sym c.len-front.ensures.count)
     (free_goes_on t t.setting.tops r st own.tree h refl (frees_block t r st w h own)) (own_free t r st w h own))
 
 pub returns-clause-child_over : goal.returns-clause-child_over

@@ -22,7 +22,6 @@ pub gang_assemble-requires : goal.gang_assemble-requires
 gang_assemble-requires c = record {
   walk = subst (ShowsRead c.in-Read.own.tree.read) c.in-Walk.is c.next.ensures.shows;
   alone = subst (IsReadWith IsAlone) c.in-Read.is c.requires.reads;
-  room = c.in_ok-front.ensures.room;
 }
 
 pub kept-requires-clause-depth : goal.kept-requires-clause-depth
@@ -43,7 +42,7 @@ returns-clause-hands c = λ t st h.
     (λ i. ReadHeads (ByKept (heads i)) 8 (c.headers_name-name.ensures i) tree.bp) ∙ ap heads_task same in
     hands_own t r st w c.gang_assemble.new.self c.gang_assemble.new.family (λ o. o ≡ heads_task own.tree) (λ o. IsHeadsNode t c.kept.result (fresh_stack o)) h own
     (λ o is. subst (λ (q : Task). IsHeadsNode t c.kept.result (fresh_stack q)) (op ∙ sym is) (c.kept.ensures.fresh t))
-    (c.in_ok-gang_assemble.ensures.hands t t.setting.tops own.tree h.kid_asked h.kid_slots st (count_front t r st h own.all ∙ sym c.in_ok-front.ensures.front)
+    (c.in_ok-gang_assemble.ensures.hands t t.setting.tops own.tree h.kid_asked h.kid_slots st (count_front t r st h own.all ∙ sym c.len-front.ensures.count)
     (read_goes_on t t.setting.tops r st own.tree h refl (reads_block t r st w h own)) (own_read t r st w h own))
 
 pub returns-clause-child_over : goal.returns-clause-child_over

@@ -43,7 +43,7 @@ returns-in_ok-gang_issue-in-Body-clause-hands c = λ t st tops h.
     λ i. ReadCopies true (c.body-check.ensures i) body.bp.size (c.in_ok-places-in-Body.ensures.places i) in
     hands_own t r st w c.gang_issue.new.self c.gang_issue.new.family (λ o. o ≡ body_task body.bp) (λ o. IsCopiesNode t c.new.result (fresh_stack o)) h own
     (λ o is. subst (λ (q : Task). IsCopiesNode t c.new.result (fresh_stack q)) (op ∙ sym is) (c.new.ensures.fresh t tops))
-    (c.in_ok-gang_issue-in-Body.ensures.hands t c.args.tops.now own.tree h.kid_asked h.kid_slots st (count_front t r st h own.all ∙ sym c.in_ok-front-in-Body.ensures.front)
+    (c.in_ok-gang_issue-in-Body.ensures.hands t c.args.tops.now own.tree h.kid_asked h.kid_slots st (count_front t r st h own.all ∙ sym c.len-front.ensures.count)
     (read_goes_on t c.args.tops.now r st own.tree h tops (reads_block t r st w h own)) (own_read t r st w h own))
 
 pub returns-in_ok-gang_issue-in-Body-clause-over : goal.returns-in_ok-gang_issue-in-Body-clause-over

@@ -1,8 +1,8 @@
 use Rattle.std.proofs.Common.{◌≡◌, true, sym, ap, subst, ◌∙◌}
 use Rattle.std.proofs.lemmas.Bool.{false≢true}
+use Rattle.zio_exchange.specs.SpaceCalls.{GivesBack}
 use Rattle.zio_stages.specs.StoredBlocks.{IsGoingBack}
 use Rattle.zio_stages.specs.RequestStoreds.{IsStoredWith, error_by, given_by, is_well, made_by}
-use Rattle.zio_stages.specs.SpaceCalls.{GivesBack}
 use Rattle.zio_stages.specs.declared.request_node.Own.{Own}
 use Rattle.zio_stages.proofs.GiveBackLemmas.{gives_none}
 use Rattle.zio_stages.proofs.RequestStoredLemmas.{stored_only, stored_still}

@@ -2,13 +2,13 @@ use Rattle.std.proofs.Common.{◌≡◌, ◌<◌, ◌∷◌, ◌++◌, [], ◌�
 use Rattle.zio_types.specs.declared.request.ChildKind.TheVariants.{Logical}
 use Rattle.zio_children.specs.RequestKids.{KidsUnderWay}
 use Rattle.zio_frames.specs.Frames.{Child, OfOuter}
+use Rattle.zio_exchange.specs.declared.waiting.UnfinishedRequest.{UnfinishedRequest}
 use Rattle.zio_stages.specs.KidLists.{HoldsBut}
 use Rattle.zio_stages.specs.KidPointers.{HaveValidPointers}
 use Rattle.zio_stages.specs.NodeChildren.{new_child, seat_of}
 use Rattle.zio_stages.specs.RequestNodes.{HandsKid}
 use Rattle.zio_stages.specs.declared.family.Seat.{Seat}
 use Rattle.zio_stages.specs.declared.family.Seat.TheVariants.{Outer}
-use Rattle.zio_stages.specs.declared.waiting.UnfinishedRequest.{UnfinishedRequest}
 use Rattle.zio_stages.proofs.KidPointerLemmas.{valid_handed}
 use Rattle.zio_stages.proofs.RequestNodeLemmas.{hands_kid, with_kids}
 use Rattle.zio_stages.proofs.RequestOver.{SameWithin, own_same, same_added}
@@ -19,7 +19,7 @@ returns-clause-child c = λ number whole e t st seated h.
     let r = c.args.self.now in
     let same : c.in_ok-number.number ≡ number = cc in
     let tree : c.hand_out-whole.result ≡ whole = cc in
-    let there : c.in_ok-seat.seat ≡ Outer r.kids.kids.handed = c.in_ok-seat.ensures.seat ∙ ap (λ n. Outer n) c.in-Child.ensures.0 in
+    let there : Outer c.in-Child.place ≡ Outer r.kids.kids.handed = ap (λ n. Outer n) c.in-Child.ensures.0 in
     let family : c.add.new.self ≡ r.family ++ new_child (OfOuter r.kids.kids.handed) Logical ∷ [] =
     c.in_ok-number.ensures.ok ∙ ap (λ (s : Seat). r.family ++ new_child (seat_of s) Logical ∷ []) there in
     let kept = ap (λ (k : KidsUnderWay). k.kept) c.hand_out-whole.ensures.kids in (
@@ -33,8 +33,7 @@ returns-clause-child c = λ number whole e t st seated h.
 pub returns-clause-over : goal.returns-clause-over
 returns-clause-over c = λ tops over.
     let r = c.args.self.now in
-    let there : c.in_ok-seat.seat ≡ Outer r.kids.kids.handed =
-    c.in_ok-seat.ensures.seat ∙ ap (λ n. Outer n) c.in-Child.ensures.0 in
+    let there : Outer c.in-Child.place ≡ Outer r.kids.kids.handed = ap (λ n. Outer n) c.in-Child.ensures.0 in
     let family : c.add.new.self ≡ r.family ++ new_child (OfOuter r.kids.kids.handed) Logical ∷ [] =
     c.in_ok-number.ensures.ok ∙ ap (λ (s : Seat). r.family ++ new_child (seat_of s) Logical ∷ []) there in
     own_same tops r.own r.family c.add.new.self

@@ -22,7 +22,7 @@ returns-clause-does c = λ t st e h.
     let r = c.args.self.now in
     let w = c.in-Write.field-0 in
     let own = write_in t r st w h c.in-Write.is in
-    does_map t st [] _ _ (λ next at. node_at t r st next w _ r.family h own refl at)
+    does_map t st [] _ _ (λ next at. node_at t r st next w _ r.family h own at)
     (c.vdev_io_assess.ensures.does t (front_in t r st h) own.part st e (part_at t r st w h own))
 
 pub returns-clause-ready : goal.returns-clause-ready

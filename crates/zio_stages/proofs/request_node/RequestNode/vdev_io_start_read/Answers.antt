@@ -1,12 +1,11 @@
-use Rattle.std.proofs.Common.{List, [], Result, Ok, Err, refl, sym, subst}
+use Rattle.std.proofs.Common.{List, [], Result, Ok, Err, sym, subst}
 use Rattle.std.specs.Prelude.{OnErr}
 use Rattle.zio_frames.specs.Frames.{Child}
 use Rattle.zio_stages.specs.OwnParts.{DoesThen}
 use Rattle.zio_stages.specs.RequestNodes.{IsRequestNode}
 use Rattle.zio_stages.specs.declared.own_read.OwnRead.{OwnRead}
 use Rattle.zio_stages.specs.declared.request_node.Own.TheVariants.{Read}
-use Rattle.zio_stages.proofs.BehindLemmas.{does_nothing}
-use Rattle.zio_stages.proofs.RequestOwnMoves.{own_read, read_goes_on, read_in, read_node, reads_block}
+use Rattle.zio_stages.proofs.RequestOwnMoves.{own_read, read_goes_on, read_in, reads_block}
 use Rattle.zio_stages.proofs.RequestReadMoves.{does_own, starts_own}
 use Rattle.zio_stages.proofs.RequestWriteLemmas.{with_own}
 use Rattle.zio_stages.proofs.request_node.RequestNode.vdev_io_start_read.Goals as goal
@@ -14,13 +13,6 @@ use Rattle.zio_stages.proofs.request_node.RequestNode.vdev_io_start_read.Goals a
 on_any : {A E : Type 0} (res : Result A E) (P : Type 0) → P → OnErr res P
 on_any (Ok a) P p = tt
 on_any (Err e) P p = p
-
-pub returns-then-len-clause-err : goal.returns-then-len-clause-err
-returns-then-len-clause-err c = λ t st tops h.
-    let r = c.args.self.now in
-    let w = c.in-Read.own in
-    let own = read_in t r st w h c.in-Read.is in
-    does_nothing t st (IsRequestNode t (with_own r (Read w) r.family)) (read_node t r st st w r.family own.tree h (reads_block t r st w h own) refl (own_read t r st w h own))
 
 pub returns-in_err-begin_next-clause-err : goal.returns-in_err-begin_next-clause-err
 returns-in_err-begin_next-clause-err c = on_any c.from_residual.result _ (λ t st tops h.

@@ -1,4 +1,4 @@
-use Rattle.std.proofs.Common.{[], ap, refl, subst, sym, ◌∙◌}
+use Rattle.std.proofs.Common.{length, [], ap, refl, subst, sym, ◌∙◌}
 use Rattle.zio_stages.specs.NodeIos.{with_one}
 use Rattle.zio_stages.specs.RequestCounts.{asked_of, second_of}
 use Rattle.std.proofs.lemmas.Result.{IfOk-weaker, on_err_weaker, on_ok_weaker}
@@ -25,8 +25,8 @@ returns-clause-starts c =
     (λ leaf f. λ t st e h.
     let own = write_in t r st w h c.in-Write.is in
     does_map t st [] _ _
-    (λ mid k. starts_map t mid leaf _ _ (λ next at. node_at t r st next w _ c.vdev_io_start.new.family h own refl at) k)
-    (f t (front_in t r st h) own.part w.front st e (is_front t r st w h own) (part_at t r st w h own)))
+    (λ mid k. starts_map t mid leaf _ _ (λ next at. node_at t r st next w _ c.vdev_io_start.new.family h own at) k)
+    (f t (front_in t r st h) own.part (length r.kids.kids.kids) st e (is_front t r st w h own) (part_at t r st w h own)))
     c.vdev_io_start.ensures.starts
 
 pub returns-clause-err : goal.returns-clause-err
@@ -36,8 +36,8 @@ returns-clause-err c =
     on_err_weaker c.vdev_io_start.result
     (λ f. λ t st h.
     let own = write_in t r st w h c.in-Write.is in
-    does_map t st [] _ _ (λ next at. node_at t r st next w _ c.vdev_io_start.new.family h own refl at)
-    (f t (front_in t r st h) own.part w.front st (is_front t r st w h own) (part_at t r st w h own)))
+    does_map t st [] _ _ (λ next at. node_at t r st next w _ c.vdev_io_start.new.family h own at)
+    (f t (front_in t r st h) own.part (length r.kids.kids.kids) st (is_front t r st w h own) (part_at t r st w h own)))
     c.vdev_io_start.ensures.err
 
 pub returns-clause-ready : goal.returns-clause-ready

@@ -4,12 +4,12 @@ use Rattle.zio_types.specs.declared.request.ChildKind.{ChildKind}
 use Rattle.zio_types.specs.declared.request.ChildKind.TheVariants.{Logical}
 use Rattle.zio_types.specs.declared.request.Phase.TheVariants.{Ready}
 use Rattle.zio_children.specs.RequestKids.{KidsUnderWay, is_told, pointers_of}
+use Rattle.zio_exchange.specs.Waits.{pending_of}
 use Rattle.zio_stages.specs.KidPointers.{HaveValidPointers}
 use Rattle.zio_stages.specs.OwnParts.{IsOwed}
 use Rattle.zio_stages.specs.OwnWrites.{IsBlockAt}
 use Rattle.zio_stages.specs.WrittenBlocks.{HaveAllTold, IsSoundWrite}
 use Rattle.zio_stages.specs.RequestNodes.{IsOwnOver}
-use Rattle.zio_stages.specs.Waits.{pending_of}
 use Rattle.zio_stages.specs.declared.request_node.Own.{Own}
 use Rattle.zio_stages.proofs.RequestSits.{waits_ready}
 use Rattle.zio_stages.proofs.RequestWriteLemmas.{content_set, front_in, idle_at}
@@ -40,10 +40,9 @@ returns-clause-set c = λ e t st h.
     let same = c.kids-kids.ensures in
     let told : HaveAllTold r.kids.kids =
     record { all = c.requires.handed; told = ap (λ (k : KidsUnderWay). list_all is_told k.kids) (sym same) ∙ sym c.all_told.ensures ∙ c.if-not-all_told.false } in
-    let count = c.len-front.ensures in
     let block = subst (λ (k : KidsUnderWay). IsBlockAt t c.in_ok-work.work r.family (front_in t r st h) r.attempt (pending_of r.waiting) (pointers_of k) st) same
     (c.in_ok-work.ensures.fresh t (front_in t r st h) r.family st h.round (idle_at t r st h c.requires.due)) in
-    content_set t r st _ h told count block
+    content_set t r st _ h told block
 
 pub returns-clause-over : goal.returns-clause-over
 returns-clause-over c = λ tops over.

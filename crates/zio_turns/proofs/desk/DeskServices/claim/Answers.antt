@@ -2,7 +2,7 @@ use Rattle.std.proofs.Common.{Err, ap, sym, subst, ◌∙◌}
 use Rattle.std.specs.Prelude.{List}
 use Rattle.std.proofs.lemmas.Bool.{false≢true}
 use Rattle.zio_types.specs.declared.place.TopSize.{TopSize}
-use Rattle.zio_stages.specs.SpaceCalls.{LieOnTops}
+use Rattle.zio_exchange.specs.SpaceCalls.{LieOnTops}
 use Rattle.zio_turns.proofs.DeskCalls.{all_on_tops}
 use Rattle.zio_turns.proofs.desk.DeskServices.claim.Goals as goal
 

@@ -2,7 +2,7 @@ use Rattle.std.proofs.Common.{ap, ◌∙◌}
 use Rattle.zio_gang.specs.Trees.{sizes_of}
 use Rattle.zio_places.specs.Spaces.{SpaceState, used}
 use Rattle.zio_turns.specs.Desks.{bare}
-use Rattle.zio_turns.proofs.DeskCalls.{lawful_answers, placed_made, served_place}
+use Rattle.zio_turns.proofs.DeskCalls.{lawful_answers, placed_made}
 use Rattle.zio_turns.proofs.desk.DeskServices.place.Goals as goal
 
 pub returns-clause-answers : goal.returns-clause-answers
@@ -12,6 +12,5 @@ returns-clause-answers c =
 
 pub returns-clause-made : goal.returns-clause-made
 returns-clause-made c =
-    served_place c.args.self.now.asked c.in_default.not-Claim (placed_made c.args.self.now.space c.reserve.new.self c.take.new.self c.take.result
-    (ap bare c.in_ok-reserve.ensures.ok) c.take.ensures.lawful
-    c.take.ensures.live c.take.ensures.pending c.take.ensures.entries c.take.ensures.sizes)
+    placed_made c.args.self.now.space c.reserve.new.self c.take.new.self c.take.result (ap bare c.in_ok-reserve.ensures.ok)
+    c.take.ensures.lawful c.take.ensures.live c.take.ensures.pending c.take.ensures.entries c.take.ensures.sizes

@@ -19,20 +19,13 @@ pub roomy_size-size-requires-clause-fits : goal.roomy_size-size-requires-clause-
 roomy_size-size-requires-clause-fits c =
     omega (arith, (kept_size _ _ _ c.self.invariant).1, c.self.inside.places.ok.0, c.self.inside.nodes.ok.0)
 
-pub put-requires-clause-room : goal.put-requires-clause-room
-put-requires-clause-room c =
+pub put-requires : goal.put-requires
+put-requires c =
     let items : length (standing c.deref-place-items.result.now) ≡ length (standing c.self.inside.places.items) =
     ap (λ ps. length (standing ps)) c.deref-place-items.ensures.value in
     let waiting : length (standing c.self.inside.places.items) ≡ length c.args.self.now.waiting = ap (λ h. length h.waiting) c.self.view_is in
     let moving = c.loop-place.invariant in
     omega (arith, move_fewer moving c.loop-place-test.true c.in-Some.is, moving.takes, moving.sized)
-
-pub put-requires-clause-fits : goal.put-requires-clause-fits
-put-requires-clause-fits c =
-    let items : length (standing c.deref-place-items.result.now) ≡ length (standing c.self.inside.places.items) =
-    ap (λ ps. length (standing ps)) c.deref-place-items.ensures.value in
-    let waiting : length (standing c.self.inside.places.items) ≡ length c.args.self.now.waiting = ap (λ h. length h.waiting) c.self.view_is in
-    omega (arith, move_fewer c.loop-place.invariant c.loop-place-test.true c.in-Some.is)
 
 pub loop-place-preserved : goal.loop-place-preserved
 loop-place-preserved c =

@@ -1,6 +1,6 @@
 use Rattle.std.proofs.Common.{arith, ◌≡◌, ◌∷◌, [], ◌++◌, length, Some, ap, ◌∙◌, length-set}
 use Rattle.std.proofs.lemmas.List.{with_items_is}
-use Rattle.zio_turns.proofs.TableLemmas.{kept_at, kept_length, kept_put, kept_sum, same_held, stands_put}
+use Rattle.zio_turns.proofs.TableLemmas.{kept_at, kept_length, kept_put, kept_sum, same_held, standing_few, stands_put}
 use Rattle.zio_turns.proofs.table.Table.put.Goals as goal
 
 pub raise-requires-clause-place : goal.raise-requires-clause-place
@@ -11,7 +11,13 @@ raise-requires-clause-place c =
 
 pub raise-requires-clause-fits : goal.raise-requires-clause-fits
 raise-requires-clause-fits c =
-    omega (arith, kept_sum _ _ _ (kept_at c.deref_mut.ensures.value c.self.invariant) ∙ ap (λ h. length h.waiting) c.self.view_is)
+    omega (
+      arith,
+      kept_sum _ _ _ (kept_at c.deref_mut.ensures.value c.self.invariant),
+      standing_few c.self.inside.places.items,
+      c.self.inside.places.ok,
+      c.self.inside.places.small,
+    )
 
 pub invariant_of-self : goal.invariant_of-self
 invariant_of-self c =

@@ -8,10 +8,10 @@ use Rattle.zio_turns.specs.Slabs.{load}
 use Rattle.zio_turns.specs.declared.step.Step.{Step}
 use Rattle.zio_turns.specs.declared.staged.Move.TheVariants.{End, Grow, Leaf as ToLeaf, Next, Ready, Wait}
 use Rattle.zio_turns.proofs.ActLemmas.{if_ok_both, ok_as, told_in}
-use Rattle.zio_turns.proofs.ClaimCalls.{steps_claim, steps_last}
+use Rattle.zio_turns.proofs.ClaimCalls.{steps_ask, steps_claim, steps_last}
 use Rattle.zio_turns.proofs.Insides.{all_ended, all_grown, all_put, all_told, all_waited}
 use Rattle.zio_turns.proofs.Loads.{less_ended, less_grown, less_put, less_told, less_waited}
-use Rattle.zio_turns.proofs.Steps.{steps_can_end, steps_can_tell, steps_end, steps_first, steps_grow, steps_leaf, steps_next, steps_ready, steps_wait, turn_held}
+use Rattle.zio_turns.proofs.Steps.{steps_can_end, steps_can_tell, steps_children, steps_end, steps_first, steps_grow, steps_leaf, steps_next, steps_ready, steps_wait, turn_held}
 use Rattle.zio_turns.proofs.Shelves.{all_without, exchanged}
 use Rattle.zio_turns.proofs.turns.Turns.step.Goals as goal
 
@@ -32,15 +32,19 @@ returns-in-Next-clause-steps g c =
     (ok_as c.run_stage.result c.in-Ok.moved (Next c.in-Next.node) c.in-Ok.is c.in-Next.is) in (
       m.0,
       m.1,
-      steps_claim g.N.NodeFacts.nodes (g.S.Services.tops c.args.services.now) c.args.self.now.nodes
+      steps_claim {S = Unit {0}} g.N.NodeFacts.nodes (g.S.Services.tops c.args.services.now) c.args.self.now.nodes
           c.args.self.now.line c.args.key c.remove-node.result m.0 (Next c.in-Next.node)
           c.remove-node.ensures.value m.2,
-      steps_last g.N.NodeFacts.nodes g.N.Staged.over (g.S.Services.tops c.args.services.now) c.args.self.now.nodes
+      steps_last {S = Unit {0}} g.N.NodeFacts.nodes g.N.Staged.over (g.S.Services.tops c.args.services.now) c.args.self.now.nodes
           c.args.self.now.line c.args.key c.remove-node.result m.0 (Next c.in-Next.node)
           c.remove-node.ensures.value m.2 c.requires,
       steps_next g.N.NodeFacts.nodes c.does_its_part.ensures.gives_own g.N.Staged.over (g.S.Services.tops c.args.services.now) c.args.self.now.nodes
           c.remove-node.new.self c.put_back.new.nodes c.args.self.now.line c.args.self.now.line c.args.key c.remove-node.result m.0
           c.remove-node.ensures.value c.remove-node.ensures.updates c.in-Next.node m.2 c.put_back.ensures refl,
+      steps_ask {S = Unit {0}} g.N.NodeFacts.nodes (g.S.Services.tops c.args.services.now) c.args.self.now.nodes
+          c.args.self.now.line c.args.key c.remove-node.result m.0 (Next c.in-Next.node)
+          c.remove-node.ensures.value m.2
+          c.does_its_part.ensures.never_finds,
     )
 
 pub returns-in-Next-clause-over : goal.returns-in-Next-clause-over
@@ -63,16 +67,20 @@ returns-in_ok-wait-in-Wait-clause-steps g c =
     (ok_as c.run_stage.result c.in-Ok.moved (Wait c.in-Wait.node c.in-Wait.kind c.in-Wait.phase) c.in-Ok.is c.in-Wait.is) in (
       m.0,
       m.1,
-      steps_claim g.N.NodeFacts.nodes (g.S.Services.tops c.args.services.now) c.args.self.now.nodes
+      steps_claim {S = Unit {0}} g.N.NodeFacts.nodes (g.S.Services.tops c.args.services.now) c.args.self.now.nodes
           c.args.self.now.line c.args.key c.remove-node.result m.0 (Wait c.in-Wait.node c.in-Wait.kind c.in-Wait.phase)
           c.remove-node.ensures.value m.2,
-      steps_last g.N.NodeFacts.nodes g.N.Staged.over (g.S.Services.tops c.args.services.now) c.args.self.now.nodes
+      steps_last {S = Unit {0}} g.N.NodeFacts.nodes g.N.Staged.over (g.S.Services.tops c.args.services.now) c.args.self.now.nodes
           c.args.self.now.line c.args.key c.remove-node.result m.0 (Wait c.in-Wait.node c.in-Wait.kind c.in-Wait.phase)
           c.remove-node.ensures.value m.2 c.requires,
       steps_wait g.N.NodeFacts.nodes c.does_its_part.ensures.gives_own g.N.Staged.over (g.S.Services.tops c.args.services.now) c.args.self.now.nodes
           c.remove-node.new.self c.wait.new.nodes c.args.self.now.line c.wait.new.line c.args.key c.remove-node.result m.0
           c.remove-node.ensures.value c.remove-node.ensures.updates c.in-Wait.node c.in-Wait.kind c.in-Wait.phase m.2
           c.in_ok-wait-in-Wait.ensures,
+      steps_ask {S = Unit {0}} g.N.NodeFacts.nodes (g.S.Services.tops c.args.services.now) c.args.self.now.nodes
+          c.args.self.now.line c.args.key c.remove-node.result m.0 (Wait c.in-Wait.node c.in-Wait.kind c.in-Wait.phase)
+          c.remove-node.ensures.value m.2
+          c.does_its_part.ensures.never_finds,
     )
 
 pub returns-in_ok-wait-in-Wait-clause-over : goal.returns-in_ok-wait-in-Wait-clause-over
@@ -95,22 +103,44 @@ returns-in_ok-wait-in-Wait-clause-less g c =
 
 -- ---- it hands out a child
 
+pub grow-requires-clause-children : goal.grow-requires-clause-children
+grow-requires-clause-children g c =
+    let m = c.run_stage.ensures.moves (Grow c.in-Grow.node c.in-Grow.child c.in-Grow.kind)
+    (ok_as c.run_stage.result c.in-Ok.moved (Grow c.in-Grow.node c.in-Grow.child c.in-Grow.kind) c.in-Ok.is c.in-Grow.is) in
+    (steps_children g.N.NodeFacts.nodes c.does_its_part.ensures.gives_own g.N.Staged.over (g.S.Services.tops c.args.services.now)
+    c.args.self.now.nodes c.remove-node.new.self c.remove-node.new.self c.args.self.now.line c.args.self.now.line c.args.key
+    c.remove-node.result m.0 c.remove-node.ensures.value c.remove-node.ensures.updates c.in-Grow.node c.in-Grow.child c.in-Grow.kind
+    c.children-children.result m.2 c.requires c.children-children.ensures).0
+
+pub grow-requires-clause-few : goal.grow-requires-clause-few
+grow-requires-clause-few g c =
+    let m = c.run_stage.ensures.moves (Grow c.in-Grow.node c.in-Grow.child c.in-Grow.kind)
+    (ok_as c.run_stage.result c.in-Ok.moved (Grow c.in-Grow.node c.in-Grow.child c.in-Grow.kind) c.in-Ok.is c.in-Grow.is) in
+    (steps_children g.N.NodeFacts.nodes c.does_its_part.ensures.gives_own g.N.Staged.over (g.S.Services.tops c.args.services.now)
+    c.args.self.now.nodes c.remove-node.new.self c.remove-node.new.self c.args.self.now.line c.args.self.now.line c.args.key
+    c.remove-node.result m.0 c.remove-node.ensures.value c.remove-node.ensures.updates c.in-Grow.node c.in-Grow.child c.in-Grow.kind
+    c.children-children.result m.2 c.requires c.children-children.ensures).1
+
 pub returns-in_ok-grow-in-Grow-clause-steps : goal.returns-in_ok-grow-in-Grow-clause-steps
 returns-in_ok-grow-in-Grow-clause-steps g c =
     let m = c.run_stage.ensures.moves (Grow c.in-Grow.node c.in-Grow.child c.in-Grow.kind)
     (ok_as c.run_stage.result c.in-Ok.moved (Grow c.in-Grow.node c.in-Grow.child c.in-Grow.kind) c.in-Ok.is c.in-Grow.is) in (
       m.0,
       m.1,
-      steps_claim g.N.NodeFacts.nodes (g.S.Services.tops c.args.services.now) c.args.self.now.nodes
+      steps_claim {S = Unit {0}} g.N.NodeFacts.nodes (g.S.Services.tops c.args.services.now) c.args.self.now.nodes
           c.args.self.now.line c.args.key c.remove-node.result m.0 (Grow c.in-Grow.node c.in-Grow.child c.in-Grow.kind)
           c.remove-node.ensures.value m.2,
-      steps_last g.N.NodeFacts.nodes g.N.Staged.over (g.S.Services.tops c.args.services.now) c.args.self.now.nodes
+      steps_last {S = Unit {0}} g.N.NodeFacts.nodes g.N.Staged.over (g.S.Services.tops c.args.services.now) c.args.self.now.nodes
           c.args.self.now.line c.args.key c.remove-node.result m.0 (Grow c.in-Grow.node c.in-Grow.child c.in-Grow.kind)
           c.remove-node.ensures.value m.2 c.requires,
       steps_grow g.N.NodeFacts.nodes c.does_its_part.ensures.gives_own g.N.Staged.over (g.S.Services.tops c.args.services.now) c.args.self.now.nodes
           c.remove-node.new.self c.grow.new.nodes c.args.self.now.line c.grow.new.line c.args.key c.remove-node.result m.0
           c.remove-node.ensures.value c.remove-node.ensures.updates c.in-Grow.node c.in-Grow.child c.in-Grow.kind m.2
           c.in_ok-grow-in-Grow.ensures,
+      steps_ask {S = Unit {0}} g.N.NodeFacts.nodes (g.S.Services.tops c.args.services.now) c.args.self.now.nodes
+          c.args.self.now.line c.args.key c.remove-node.result m.0 (Grow c.in-Grow.node c.in-Grow.child c.in-Grow.kind)
+          c.remove-node.ensures.value m.2
+          c.does_its_part.ensures.never_finds,
     )
 
 pub returns-in_ok-grow-in-Grow-clause-over : goal.returns-in_ok-grow-in-Grow-clause-over
@@ -134,16 +164,20 @@ returns-in-Leaf-clause-steps g c =
     (ok_as c.run_stage.result c.in-Ok.moved (ToLeaf c.in-Leaf.node c.in-Leaf.op c.in-Leaf.leaf c.in-Leaf.bytes) c.in-Ok.is c.in-Leaf.is) in (
       m.0,
       m.1,
-      steps_claim g.N.NodeFacts.nodes (g.S.Services.tops c.args.services.now) c.args.self.now.nodes
+      steps_claim {S = Unit {0}} g.N.NodeFacts.nodes (g.S.Services.tops c.args.services.now) c.args.self.now.nodes
           c.args.self.now.line c.args.key c.remove-node.result m.0 (ToLeaf c.in-Leaf.node c.in-Leaf.op c.in-Leaf.leaf c.in-Leaf.bytes)
           c.remove-node.ensures.value m.2,
-      steps_last g.N.NodeFacts.nodes g.N.Staged.over (g.S.Services.tops c.args.services.now) c.args.self.now.nodes
+      steps_last {S = Unit {0}} g.N.NodeFacts.nodes g.N.Staged.over (g.S.Services.tops c.args.services.now) c.args.self.now.nodes
           c.args.self.now.line c.args.key c.remove-node.result m.0 (ToLeaf c.in-Leaf.node c.in-Leaf.op c.in-Leaf.leaf c.in-Leaf.bytes)
           c.remove-node.ensures.value m.2 c.requires,
       steps_leaf g.N.NodeFacts.nodes c.does_its_part.ensures.gives_own g.N.Staged.over (g.S.Services.tops c.args.services.now) c.args.self.now.nodes
           c.remove-node.new.self c.put_back-in-Leaf.new.nodes c.args.self.now.line c.args.self.now.line c.args.key c.remove-node.result m.0
           c.remove-node.ensures.value c.remove-node.ensures.updates c.in-Leaf.node c.in-Leaf.op c.in-Leaf.leaf c.in-Leaf.bytes
           m.2 c.put_back-in-Leaf.ensures refl,
+      steps_ask {S = Unit {0}} g.N.NodeFacts.nodes (g.S.Services.tops c.args.services.now) c.args.self.now.nodes
+          c.args.self.now.line c.args.key c.remove-node.result m.0 (ToLeaf c.in-Leaf.node c.in-Leaf.op c.in-Leaf.leaf c.in-Leaf.bytes)
+          c.remove-node.ensures.value m.2
+          c.does_its_part.ensures.never_finds,
     )
 
 pub returns-in-Leaf-clause-over : goal.returns-in-Leaf-clause-over
@@ -180,16 +214,20 @@ returns-in-Ready-clause-steps g c =
     (λ step has same. (
       m.0,
       m.1,
-      steps_claim g.N.NodeFacts.nodes (g.S.Services.tops c.args.services.now) c.args.self.now.nodes
+      steps_claim {S = Unit {0}} g.N.NodeFacts.nodes (g.S.Services.tops c.args.services.now) c.args.self.now.nodes
           c.args.self.now.line c.args.key c.remove-node.result m.0 (Ready c.in-Ready.node c.in-Ready.pointer)
           c.remove-node.ensures.value m.2,
-      steps_last g.N.NodeFacts.nodes g.N.Staged.over (g.S.Services.tops c.args.services.now) c.args.self.now.nodes
+      steps_last {S = Unit {0}} g.N.NodeFacts.nodes g.N.Staged.over (g.S.Services.tops c.args.services.now) c.args.self.now.nodes
           c.args.self.now.line c.args.key c.remove-node.result m.0 (Ready c.in-Ready.node c.in-Ready.pointer)
           c.remove-node.ensures.value m.2 c.requires,
       steps_ready g.N.NodeFacts.nodes c.does_its_part.ensures.gives_own g.N.Staged.over (g.S.Services.tops c.args.services.now) c.args.self.now.nodes
           c.remove-node.new.self c.tell.new.nodes c.args.self.now.line c.tell.new.line c.args.key c.remove-node.result m.0
           c.remove-node.ensures.value c.remove-node.ensures.updates c.in-Ready.node c.in-Ready.pointer m.2 c.put_back-in-Ready.new.nodes
           c.put_back-in-Ready.ensures step has same,
+      steps_ask {S = Unit {0}} g.N.NodeFacts.nodes (g.S.Services.tops c.args.services.now) c.args.self.now.nodes
+          c.args.self.now.line c.args.key c.remove-node.result m.0 (Ready c.in-Ready.node c.in-Ready.pointer)
+          c.remove-node.ensures.value m.2
+          c.does_its_part.ensures.never_finds,
     ))
     c.tell.ensures.told c.tell.ensures.step
 
@@ -207,14 +245,12 @@ returns-in-Ready-clause-over g c =
 pub returns-in-Ready-clause-less : goal.returns-in-Ready-clause-less
 returns-in-Ready-clause-less g c =
     if_ok_both c.tell.result _ _ _
-    (λ step has same. subst (λ (x : Step). load g.N.NodeFacts.nodes.left c.tell.new.nodes c.tell.new.line + load_of x
-    < load g.N.NodeFacts.nodes.left c.args.self.now.nodes c.args.self.now.line + 1) (sym same)
-    (less_told g.N.NodeFacts.nodes g.N.Staged.over c.args.self.now.nodes c.put_back-in-Ready.new.nodes c.tell.new.nodes c.args.self.now.line
+    (λ step has same. less_told g.N.NodeFacts.nodes g.N.Staged.over c.args.self.now.nodes c.put_back-in-Ready.new.nodes c.tell.new.nodes c.args.self.now.line
     c.tell.new.line c.args.key c.remove-node.result c.remove-node.ensures.value c.in-Ready.node c.remove-node.result.ties.parent
-    c.remove-node.result.ties.kind c.in-Ready.pointer
+    c.remove-node.result.ties.kind c.in-Ready.pointer step same
     (exchanged c.args.self.now.nodes c.remove-node.new.self c.put_back-in-Ready.new.nodes c.args.key
     (with_ties c.in-Ready.node c.remove-node.result.ties) c.remove-node.ensures.updates c.put_back-in-Ready.ensures)
-    has (rw c.in-Ready.is at c.in-Ok.ensures.left)))
+    has (rw c.in-Ready.is at c.in-Ok.ensures.left))
     c.tell.ensures.told c.tell.ensures.step
 
 -- ---- it ends
@@ -251,6 +287,10 @@ returns-in-End-clause-steps g c =
           (subst (λ (tops : _). HasEnded g.N.NodeFacts.nodes g.N.Staged.over tops c.remove-node.new.self c.args.self.now.line
           c.end.new.nodes c.end.new.line c.remove-node.result.ties.kind c.remove-node.result.ties.parent c.in-End.outcome step)
           (c.tops.ensures ∙ c.run_stage.ensures.tops) has),
+      steps_ask g.N.NodeFacts.nodes (g.S.Services.tops c.args.services.now) c.args.self.now.nodes
+          c.args.self.now.line c.args.key c.remove-node.result m.0 (End c.in-End.outcome)
+          c.remove-node.ensures.value m.2
+          c.does_its_part.ensures.never_finds,
     ))
     c.end.ensures.ended
 
@@ -288,6 +328,5 @@ returns-in-End-clause-inside g c =
 pub returns-in-Ready-clause-inside : goal.returns-in-Ready-clause-inside
 returns-in-Ready-clause-inside g c =
     IfOk-weaker c.tell.result _ _
-    (λ step same. subst (StepIn (g.N.Staged.tree_over (g.S.Services.tops c.args.services.now))) (sym same)
-    (told_in (g.N.Staged.tree_over (g.S.Services.tops c.args.services.now)) c.remove-node.result.ties.parent))
+    (λ step same. told_in (g.N.Staged.tree_over (g.S.Services.tops c.args.services.now)) c.remove-node.result.ties.parent step same)
     c.tell.ensures.step

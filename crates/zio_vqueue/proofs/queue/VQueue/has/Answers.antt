@@ -3,6 +3,9 @@ use Rattle.zio_vqueue.specs.Queues.{AreApart, Queue, is_queued}
 use Rattle.zio_vqueue.proofs.ServeLemmas.{has_is}
 use Rattle.zio_vqueue.proofs.queue.VQueue.has.Goals as goal
 
+pub is_at_rank-requires-clause-ordered : goal.is_at_rank-requires-clause-ordered
+is_at_rank-requires-clause-ordered c = c.self.invariant.indexed.sorted
+
 pub returns-clause-apart : goal.returns-clause-apart
 returns-clause-apart c = subst (λ (q : Queue). AreApart q.queued) c.self.view_is c.self.invariant.indexed.apart
 

@@ -13,13 +13,13 @@ use Rattle.zio_vqueue.proofs.queue.VQueue.take.Goals as goal
 pub returns-in_default-clause-none : goal.returns-in_default-clause-none
 returns-in_default-clause-none c = λ _.
     let q : Queue = record { queued = values_of c.self.inside.by_time.entries; active = c.self.inside.active; last = c.self.inside.last } in
-    (ap eligible (sym c.self.view_is) ∙ sym (c.eligible.ensures ∙ eligible_alike q c.self.inside.by_time.entries c.self.inside.spots.entries refl c.self.invariant.indexed) ∙ c.in_default.is, refl)
+    (ap eligible (sym c.self.view_is) ∙ sym (c.eligible.ensures ∙ eligible_alike q c.self.inside.waiting c.self.invariant.counted) ∙ c.in_default.is, refl)
 
 pub returns-in_default-first_served-clause-none : goal.returns-in_default-first_served-clause-none
 returns-in_default-first_served-clause-none c = λ _.
     let q : Queue = record { queued = values_of c.self.inside.by_time.entries; active = c.self.inside.active; last = c.self.inside.last } in
     let e : eligible q ≡ Some c.in-Some.prio =
-    sym (c.eligible.ensures ∙ eligible_alike q c.self.inside.by_time.entries c.self.inside.spots.entries refl c.self.invariant.indexed) ∙ c.in-Some.is in
+    sym (c.eligible.ensures ∙ eligible_alike q c.self.inside.waiting c.self.invariant.counted) ∙ c.in-Some.is in
     absurd (served_some q c.in-Some.prio c.self.inside.by_time.entries c.self.inside.spots.entries refl c.self.invariant.indexed e (sym c.first_served.ensures ∙ c.in_default-first_served.is))
 
 pub gather-requires-clause-first : goal.gather-requires-clause-first
@@ -76,9 +76,10 @@ pub invariant_of-self : goal.invariant_of-self
 invariant_of-self c =
     let q : Queue = record { queued = values_of c.self.inside.by_time.entries; active = c.self.inside.active; last = c.self.inside.last } in
     let e : eligible q ≡ Some c.in-Some.prio =
-    sym (c.eligible.ensures ∙ eligible_alike q c.self.inside.by_time.entries c.self.inside.spots.entries refl c.self.invariant.indexed) ∙ c.in-Some.is in
+    sym (c.eligible.ensures ∙ eligible_alike q c.self.inside.waiting c.self.invariant.counted) ∙ c.in-Some.is in
     record {
       indexed = c.withdraw.ensures.indexed;
+      counted = c.withdraw.ensures.counted;
       before = c.withdraw.ensures.before c.self.inside.next c.self.invariant.before;
       admitted = rw c.class_number.ensures.value (admitted_set c.self.inside.active c.in-Some.prio (active_of q c.in-Some.prio + 1)
           (omega (arith, (eligible_due q c.in-Some.prio e).1)) c.self.invariant.admitted);
@@ -88,7 +89,7 @@ pub returns-clause-group : goal.returns-clause-group
 returns-clause-group c =
     let q : Queue = record { queued = values_of c.self.inside.by_time.entries; active = c.self.inside.active; last = c.self.inside.last } in
     let e : eligible q ≡ Some c.in-Some.prio =
-    sym (c.eligible.ensures ∙ eligible_alike q c.self.inside.by_time.entries c.self.inside.spots.entries refl c.self.invariant.indexed) ∙ c.in-Some.is in
+    sym (c.eligible.ensures ∙ eligible_alike q c.self.inside.waiting c.self.invariant.counted) ∙ c.in-Some.is in
     subst (λ (x : Queue). IsNextGroup x c.in_ok-group.group) c.self.view_is
     (next_group q c.self.inside.by_time.entries c.self.inside.spots.entries c.in_ok-members.members.items c.in-Some-first_served.spot c.in-Some-first_served.first c.in_ok-group.group refl
     c.self.invariant.indexed (e ∙ ap Some (sym c.in_ok-group.ensures.prio))

@@ -1,0 +1,6 @@
+pub mod LeafOps
+pub mod Outcomes
+pub mod SpaceCalls
+pub mod Waits
+pub mod Wholes
+pub mod WithinParts

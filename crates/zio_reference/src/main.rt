@@ -1,9 +1,10 @@
 //! The program `zio_reference`: runs a script on image files by the definitions themselves, on one thread.
 //!
-//! It takes the words of `zio_serial run`, reads the script from standard input and runs it on `zio_plain`: tree by tree
-//! and depth first, with no stage, no queue and no picks. So what the engine of `zio_serial` does can be compared with it,
-//! and timed beside it. `--picks` is read and has no effect. Report, images and exit status are those of docs/FORMATS.md.
-//! No clause says so of the whole: it is proved that every call is safe and ends, and the examples are run on it.
+//! It takes the words of `zio_serial run`, reads the script from standard input and runs it on `zio_plain`: tree by
+//! tree and depth first, with no stage, no queue and no picks. So what the engine of `zio_serial` does can be compared
+//! with it, and timed beside it. `--picks` is read and has no effect. Report, images and exit status are those of
+//! docs/FORMATS.md. No clause says so of the whole: it is proved that every call is safe and ends, and the examples are
+//! run on it.
 #![tactic(auto)]
 
 mod pool;

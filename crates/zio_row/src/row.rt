@@ -26,8 +26,8 @@ pub struct Ran {
 
 /// Writes a block to an image in memory and reads it, by a script of two batches.
 ///
-/// The code is 0: both requests complete. It is 8 where memory is refused, to the call or to what it is given. With code 0 the
-/// report is known to the byte, and the image but for the place of the block.
+/// The code is 0: both requests complete. It is 8 where memory is refused, to the call or to what it is given. With
+/// code 0 the report is known to the byte, and the image but for the place of the block.
 pub fn write_then_read(alloc: Global) -> Ran
     ensures codes { (result.status.code ≡ 0) ⊎ (result.status.code ≡ 8) }
     ensures report { result.status.code ≡ 0 → holds result.out row_report }

@@ -6,6 +6,7 @@ pub mod CountLemmas
 pub mod EndLemmas
 pub mod EngineLemmas
 pub mod GroundLemmas
+pub mod HealLemmas
 pub mod LeafLemmas
 pub mod NumberLemmas
 pub mod OptionLemmas

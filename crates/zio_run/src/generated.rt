@@ -24,7 +24,8 @@ use zio_types::{Journal, Status, Text};
 /// Writes the script of `n` blocks from a seed.
 pub(crate) fn write_generated<O: Sink>(alloc: Global, seed: u32, n: u32, out: &mut O) -> Status
     requires { IsWithin 1 BLOCKS_MAX n }
-    ensures { Ends 0 (script_text seed n) result.code (O.faults out.old) (O.faults out.new) (O.holds out.old) (O.holds out.new) }
+    ensures { Ends 0 (script_text seed n) result.code (O.faults out.old) (O.faults out.new) (O.holds out.old)
+        (O.holds out.new) }
 {
     match gen_(alloc, seed, n) {
         Ok(text) => end_with(out, text.as_str(), 0),
@@ -51,10 +52,12 @@ where
     ensures ends { let sink = sink_by O.holds O.faults in
         let saw = shelf_by H.tells H.image H.out H.faults H.disk_faults H.fetches H.returns H.last_size in
         (script : Script) × IsScriptOf (script_text seed n) script
-        × ScriptEnds Summary script names.now (sink out.old) (sink out.new) (saw shelf.old) (saw shelf.new) journal.old journal.new result.code }
+        × ScriptEnds Summary script names.now (sink out.old) (sink out.new) (saw shelf.old)
+        (saw shelf.new) journal.old journal.new result.code }
     ensures back { IsEachBack (H.fetches shelf.old) (H.fetches shelf.new) (H.returns shelf.old) (H.returns shelf.new) }
     ensures tells { H.tells shelf.old ↔ H.tells shelf.new }
-    ensures home { H.tells shelf.old → KeepOthers names.now (H.image shelf.old) (H.image shelf.new) (H.out shelf.old) (H.out shelf.new) }
+    ensures home { H.tells shelf.old → KeepOthers names.now (H.image shelf.old) (H.image shelf.new) (H.out shelf.old)
+        (H.out shelf.new) }
     ensures sound { AllByRecursion (H.sound shelf.old) names.now →
         (H.faults shelf.new ≡ H.faults shelf.old) × (H.disk_faults shelf.new ≡ H.disk_faults shelf.old)
         × ((name : Seq ℕ) → H.sound shelf.old name → H.sound shelf.new name) }

@@ -1,7 +1,8 @@
 //! The top calls: from the words of a command to its code.
 //!
-//! They stand on all crates below. Read `zio_serial_main` first: `specs/Commands` and `specs/Codes` say how each command ends,
-//! a row for each code, and `specs/Headline` what the codes 0, 4 and 9 mean. `specs/Words` has the words of a command.
+//! They stand on all crates below. Read `zio_serial_main` first: `specs/Commands` and `specs/Codes` say how each
+//! command ends, a row for each code, and `specs/Headline` what the codes 0, 4 and 9 mean. `specs/Words` has the words
+//! of a command.
 #![tactic(auto)]
 
 mod generated;

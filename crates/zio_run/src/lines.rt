@@ -61,7 +61,8 @@ pub(crate) fn end_with<O: Sink>(out: &mut O, text: &str, code: u8) -> Status
     requires sink { code ≢ CODE_SINK }
     requires memory { code ≢ CODE_MEMORY }
     ensures has_memory { result.code ≢ CODE_MEMORY }
-    ensures ends { Ends code text.now result.code (O.faults out.old) (O.faults out.new) (O.holds out.old) (O.holds out.new) }
+    ensures ends { Ends code text.now result.code (O.faults out.old) (O.faults out.new) (O.holds out.old)
+        (O.holds out.new) }
 {
     match out.write(text.as_bytes()) {
         Ok(()) => Status { code },
@@ -71,7 +72,8 @@ pub(crate) fn end_with<O: Sink>(out: &mut O, text: &str, code: u8) -> Status
 
 /// Refuses a script by its line and code 2.
 pub(crate) fn refuse_script<O: Sink>(alloc: Global, out: &mut O, fault: ScriptFault) -> Status
-    ensures { Ends 2 (script_line fault) result.code (O.faults out.old) (O.faults out.new) (O.holds out.old) (O.holds out.new) }
+    ensures { Ends 2 (script_line fault) result.code (O.faults out.old) (O.faults out.new) (O.holds out.old)
+        (O.holds out.new) }
 {
     match script_line(alloc, fault) {
         Ok(line) => end_with(out, line.as_str(), 2),
@@ -81,7 +83,8 @@ pub(crate) fn refuse_script<O: Sink>(alloc: Global, out: &mut O, fault: ScriptFa
 
 /// Refuses the image of a leaf by its line and code 3.
 pub(crate) fn refuse_image<O: Sink>(alloc: Global, out: &mut O, leaf: u32) -> Status
-    ensures { Ends 3 (images_line leaf) result.code (O.faults out.old) (O.faults out.new) (O.holds out.old) (O.holds out.new) }
+    ensures { Ends 3 (images_line leaf) result.code (O.faults out.old) (O.faults out.new) (O.holds out.old)
+        (O.holds out.new) }
 {
     match images_line(alloc, leaf) {
         Ok(line) => end_with(out, line.as_str(), 3),

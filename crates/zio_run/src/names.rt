@@ -13,7 +13,8 @@ pub(crate) fn are_images(words: &[String]) -> bool
     !words.is_empty() && words.len() <= IMAGES_MAX && are_names(words)
 }
 
-/// Each word may be the name of an image, and no two are the same. They are few, so each is compared with those behind it.
+/// Each word may be the name of an image, and no two are the same. They are few, so each is compared with those behind
+/// it.
 fn are_names(words: &[String]) -> bool
     ensures { IsTrue result ↔ AreNames (map string_bytes words.now) }
 {

@@ -18,7 +18,8 @@ pub(crate) fn number_within(word: &str, least: u32, most: u32) -> Option<u32>
 
 /// The number below 2^64 that the word spells in decimal digits, without a sign or a leading zero.
 pub(crate) fn number(word: &str) -> Option<u64>
-    ensures { MatchOption result ((n : ℕ) → n < 2 ^ 64 → word.now ≢ decimal n) (λ n. (word.now ≡ decimal n) × (n < 2 ^ 64)) }
+    ensures { MatchOption result ((n : ℕ) → n < 2 ^ 64 → word.now ≢ decimal n) (λ n. (word.now ≡ decimal n)
+        × (n < 2 ^ 64)) }
 {
     if word == "0" {
         Some(0)

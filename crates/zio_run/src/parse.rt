@@ -24,7 +24,8 @@ pub(crate) fn parse_run(
     serial: bool,
     words: &[String],
 ) -> Result<Command, WordsError>
-    ensures ok { IfOk result (λ command. (options : Options) (names : List (List ℕ)) → IsSplit serial (map string_bytes words.now) options names → AreImages names
+    ensures ok { IfOk result (λ command. (options : Options) (names : List (List ℕ))
+        → IsSplit serial (map string_bytes words.now) options names → AreImages names
         → command ≡ Run (workers_of serial options) options.picks (show_of options) names) }
     ensures memory { ¬ IsErrOf result WordsError.Words }
 {
@@ -51,7 +52,8 @@ pub(crate) fn parse_run(
 
 /// What a seed and a number of blocks ask for.
 pub(crate) fn parse_gen(alloc: Global, words: &[String]) -> Result<Command, WordsError>
-    ensures ok { IfOk result (λ command. (seed n : ℕ) → IsSize (map string_bytes words.now) seed n [] → command ≡ Gen seed n) }
+    ensures ok { IfOk result (λ command. (seed n : ℕ) → IsSize (map string_bytes words.now) seed n []
+        → command ≡ Gen seed n) }
     ensures memory { ¬ IsErrOf result WordsError.Words }
 {
     let Ok(parser) = size_parser(alloc, "gen") else {
@@ -68,7 +70,8 @@ pub(crate) fn parse_gen(alloc: Global, words: &[String]) -> Result<Command, Word
 
 /// What a seed, a number of blocks and images ask for.
 pub(crate) fn parse_load(alloc: Global, words: &[String]) -> Result<Command, WordsError>
-    ensures ok { IfOk result (λ command. (seed n : ℕ) (names : List (List ℕ)) → IsSize (map string_bytes words.now) seed n names → AreImages names → command ≡ Load seed n names) }
+    ensures ok { IfOk result (λ command. (seed n : ℕ) (names : List (List ℕ))
+        → IsSize (map string_bytes words.now) seed n names → AreImages names → command ≡ Load seed n names) }
     ensures memory { ¬ IsErrOf result WordsError.Words }
 {
     let Ok(parser) = load_parser(alloc) else {
@@ -131,7 +134,8 @@ fn load_parser<'a>(alloc: Global) -> Result<Parser<'a>, Error>
 
 /// The number of this name, or the least where there is none within the bounds.
 fn number_in(matches: &ArgMatches, id: &str, least: u32, most: u32) -> u32
-    ensures { (n : ℕ) → IsWithin least most n → first_value (found_of matches.now) id.now ≡ Some (decimal n) → result ≡ n }
+    ensures { (n : ℕ) → IsWithin least most n → first_value (found_of matches.now) id.now ≡ Some (decimal n)
+        → result ≡ n }
 {
     match matches.get_str(id) {
         Some(word) => match number_within(word, least, most) {

@@ -35,9 +35,11 @@ pub(crate) fn run_rounds<O: Sink, D: Disk + Drop, P: Picks + Drop>(
     requires few { images ≤ 16 }
     requires empty { IsEmptyJournal journal.old }
     ensures whole { let seen = sink_by O.holds O.faults in IfOk result.0 (λ ending.
-        HasRunOver D.faults D.image show.now script.now ending engine.disks result.1.items (seen out.old) (seen out.new) journal.new) }
+        HasRunOver D.faults D.image show.now script.now ending engine.disks result.1.items (seen out.old)
+        (seen out.new) journal.new) }
     ensures cut { let seen = sink_by O.holds O.faults in IfErr result.0 (λ fault.
-        WasCutOver D.faults D.image show.now script.now fault engine.disks result.1.items (seen out.old) (seen out.new) journal.new) }
+        WasCutOver D.faults D.image show.now script.now fault engine.disks result.1.items (seen out.old)
+        (seen out.new) journal.new) }
     ensures same { AreSameDisks D.bytes D.faults D.faults_at_fetch D.home D.image D.sound engine.disks result.1.items }
 {
     let ended = run_script(alloc, script, images, show, &mut engine, out, journal);

@@ -20,9 +20,8 @@ use zio_report::{RunFault, Show};
 use zio_script::{Script, ScriptError, read_script};
 use zio_types::{Journal, Status, Text};
 
-/// Runs the script that a text is over the images of these names, by the picks of a seed or by the first at each turn, and
-/// ends with its code: 2 where the text is no script, 3
-/// where a leaf has no image of a lawful size.
+/// Runs the script that a text is over the images of these names, by the picks of a seed or by the first at each turn,
+/// and ends with its code: 2 where the text is no script, 3 where a leaf has no image of a lawful size.
 pub(crate) fn run_text<O: Sink, H: Shelf>(
     alloc: Global,
     text: &[u8],
@@ -40,12 +39,14 @@ where
     requires home { H.tells shelf.old → (name : Seq ℕ) → ¬ H.out shelf.old name }
     ensures ends { let sink = sink_by O.holds O.faults in
         let saw = shelf_by H.tells H.image H.out H.faults H.disk_faults H.fetches H.returns H.last_size in
-        RunEnds (λ told. told ≡ text.now) show.now names.now (sink out.old) (sink out.new) (saw shelf.old) (saw shelf.new)
+        RunEnds (λ told. told ≡ text.now) show.now names.now (sink out.old) (sink out.new) (saw shelf.old)
+        (saw shelf.new)
         journal.old journal.new result.code }
     ensures unfetched { result.code ≡ 2 → shelf.new ≡ shelf.old }
     ensures back { IsEachBack (H.fetches shelf.old) (H.fetches shelf.new) (H.returns shelf.old) (H.returns shelf.new) }
     ensures tells { H.tells shelf.old ↔ H.tells shelf.new }
-    ensures home { H.tells shelf.old → KeepOthers names.now (H.image shelf.old) (H.image shelf.new) (H.out shelf.old) (H.out shelf.new) }
+    ensures home { H.tells shelf.old → KeepOthers names.now (H.image shelf.old) (H.image shelf.new) (H.out shelf.old)
+        (H.out shelf.new) }
     ensures sound { AllByRecursion (H.sound shelf.old) names.now →
         (H.faults shelf.new ≡ H.faults shelf.old) × (H.disk_faults shelf.new ≡ H.disk_faults shelf.old)
         × ((name : Seq ℕ) → H.sound shelf.old name → H.sound shelf.new name) }
@@ -80,7 +81,8 @@ where
         journal.old journal.new result.code }
     ensures back { IsEachBack (H.fetches shelf.old) (H.fetches shelf.new) (H.returns shelf.old) (H.returns shelf.new) }
     ensures tells { H.tells shelf.old ↔ H.tells shelf.new }
-    ensures home { H.tells shelf.old → KeepOthers names.now (H.image shelf.old) (H.image shelf.new) (H.out shelf.old) (H.out shelf.new) }
+    ensures home { H.tells shelf.old → KeepOthers names.now (H.image shelf.old) (H.image shelf.new) (H.out shelf.old)
+        (H.out shelf.new) }
     ensures sound { AllByRecursion (H.sound shelf.old) names.now →
         (H.faults shelf.new ≡ H.faults shelf.old) × (H.disk_faults shelf.new ≡ H.disk_faults shelf.old)
         × ((name : Seq ℕ) → H.sound shelf.old name → H.sound shelf.new name) }
@@ -120,7 +122,8 @@ where
     ensures unwritten { (leaf : ℕ) → result ≡ RunOutcome.Unfit leaf → out.new ≡ out.old }
     ensures back { IsEachBack (H.fetches shelf.old) (H.fetches shelf.new) (H.returns shelf.old) (H.returns shelf.new) }
     ensures tells { H.tells shelf.old ↔ H.tells shelf.new }
-    ensures home { H.tells shelf.old → KeepOthers names.now (H.image shelf.old) (H.image shelf.new) (H.out shelf.old) (H.out shelf.new) }
+    ensures home { H.tells shelf.old → KeepOthers names.now (H.image shelf.old) (H.image shelf.new) (H.out shelf.old)
+        (H.out shelf.new) }
     ensures sound { AllByRecursion (H.sound shelf.old) names.now →
         (H.faults shelf.new ≡ H.faults shelf.old) × (H.disk_faults shelf.new ≡ H.disk_faults shelf.old)
         × ((name : Seq ℕ) → H.sound shelf.old name → H.sound shelf.new name) }

@@ -5,6 +5,10 @@ ghost use Rattle.zio_script.specs.declared.script.Script.{Script};
 ghost use Rattle.zio_script.specs.Grammar.{IsScriptOf};
 ghost use Rattle.zio_cksum.specs.Images.{Images};
 ghost use Rattle.zio_report.specs.Meanings.{IsEmptyJournal};
+ghost use Rattle.zio_heal.specs.Given.{AcceptsWhatWasGiven};
+ghost use Rattle.zio_heal.specs.Healed.{IsHealed};
+ghost use Rattle.zio_heal.specs.Pools.{NoSmallRefused};
+ghost use Rattle.zio_heal.specs.StoredPlainly.{IsStoredPlainly};
 ghost use Rattle.zio_run.specs.declared.words.Command.{Command as Asked};
 ghost use Rattle.zio_run.specs.Codes.{RunEnds};
 ghost use Rattle.zio_run.specs.Commands.{CommandEnds, WasUnread, image_names, reads, runs, shown_by, told_by};
@@ -22,16 +26,17 @@ use crate::source::{ReadFault, read_all};
 use crate::words::{Command, WordsError, read_words};
 use std::alloc::Global;
 use zio_gen::generated_scripts_are_accepted;
+use zio_heal::healed_scripts_store_plainly;
 use zio_outside::{Shelf, Sink, Source};
 use zio_report::Show;
 use zio_types::{Journal, Status, Text};
 
 /// Does what the words of a command ask for, on one thread, and ends with its code.
 ///
-/// The words are those after the program's name. `run` reads the source to its end, or to one byte more than a script may
-/// have, and runs the script over the images of the command; `gen` writes the script of a seed, and `load` runs it and
-/// writes a summary, both without the source. All disks that are fetched are back on the shelf afterwards, with every code.
-/// Code 8 is want of memory, and may come whenever memory is asked for.
+/// The words are those after the program's name. `run` reads the source to its end, or to one byte more than a script
+/// may have, and runs the script over the images of the command; `gen` writes the script of a seed, and `load` runs it
+/// and writes a summary, both without the source. All disks that are fetched are back on the shelf afterwards, with
+/// every code. Code 8 is want of memory, and may come whenever memory is asked for.
 pub fn zio_serial_main<S: Source, O: Sink, H: Shelf>(
     alloc: Global,
     words: &[String],
@@ -47,19 +52,23 @@ where
 
     // The code table: the words of no command, and how the call of a command ends.
     ensures codes { IsSerialCode result.code }
-    ensures asked { (result.code ≡ 1) ⊎ (result.code ≡ 6) ⊎ ((command : Asked) × IsCommandOf true (map string_bytes words.now) command) }
+    ensures asked { (result.code ≡ 1) ⊎ (result.code ≡ 6)
+        ⊎ ((command : Asked) × IsCommandOf true (map string_bytes words.now) command) }
     ensures no_command { IsNoCommandOf true (map string_bytes words.now) →
-        Ends 1 words_line result.code (O.faults out.old) (O.faults out.new) (O.holds out.old) (O.holds out.new) × (result.code ≢ 8) }
+        Ends 1 words_line result.code (O.faults out.old) (O.faults out.new) (O.holds out.old) (O.holds out.new)
+        × (result.code ≢ 8) }
     ensures words { result.code ≡ 1 → IsNoCommandOf true (map string_bytes words.now) }
     ensures ends { let source = source_by S.left S.faults in let sink = sink_by O.holds O.faults in
         let saw = shelf_by H.tells H.image H.out H.faults H.disk_faults H.fetches H.returns H.last_size in
         (command : Asked) → IsCommandOf true (map string_bytes words.now) command →
-        CommandEnds command (source script.old) (source script.new) (sink out.old) (sink out.new) (saw shelf.old) (saw shelf.new)
+        CommandEnds command (source script.old) (source script.new) (sink out.old) (sink out.new) (saw shelf.old)
+        (saw shelf.new)
         journal.old journal.new result.code }
 
     // What the codes 0, 4 and 9 say of the report, the images and the journal.
     ensures headline { (command : Asked) → IsCommandOf true (map string_bytes words.now) command → runs command ≡ true →
-        IsEnding result.code → (text : Seq ℕ) (images : Images) → told_by (S.left script.old) command text → H.tells shelf.old →
+        IsEnding result.code → (text : Seq ℕ) (images : Images) → told_by (S.left script.old) command text
+        → H.tells shelf.old →
         TellEach (H.image shelf.old) (image_names command) images → (read : Script) × IsScriptOf text read
         × Headline (shown_by command) read (image_names command) images journal.new (H.image shelf.new)
         (O.holds out.old) (O.holds out.new) result.code }
@@ -67,9 +76,19 @@ where
         (S.faults script.new ≡ S.faults script.old) × (O.faults out.new ≡ O.faults out.old)
         × (H.faults shelf.new ≡ H.faults shelf.old) × (H.disk_faults shelf.new ≡ H.disk_faults shelf.old) }
 
+    // A script that heals is stored as by a plain store, and the code is 0, where the journal refuses no single sector
+    // and every copy that was accepted holds what was given.
+    ensures healed { (command : Asked) → IsCommandOf true (map string_bytes words.now) command → runs command ≡ true →
+        IsEnding result.code → (text : Seq ℕ) (read : Script) (images : Images) →
+        told_by (S.left script.old) command text → IsScriptOf text read → H.tells shelf.old →
+        TellEach (H.image shelf.old) (image_names command) images → IsHealed read → NoSmallRefused journal.new.places →
+        AcceptsWhatWasGiven read images journal.new.places →
+        IsStoredPlainly read images journal.new.places × (result.code ≡ 0) }
+
     // No other code comes where all is in order and no count of faults rose.
     ensures complete { (command : Asked) (text : Seq ℕ) (read : Script) (images : Images) →
-        IsCommandOf true (map string_bytes words.now) command → runs command ≡ true → told_by (S.left script.old) command text →
+        IsCommandOf true (map string_bytes words.now) command → runs command ≡ true
+        → told_by (S.left script.old) command text →
         IsScriptOf text read → H.tells shelf.old → TellEach (H.image shelf.old) (image_names command) images →
         AllByRecursion HasLawfulSize (map length images) → HaveImages (length images) (leaves_of read.tops) →
         ¬ Rose (S.faults script.old) (S.faults script.new) → ¬ Rose (O.faults out.old) (O.faults out.new) →
@@ -78,34 +97,42 @@ where
 
     // Nor where all is in order, the source is sound, the shelf is sound for the images, and the sink didn't fail.
     ensures sound_run { (command : Asked) (text : Seq ℕ) (read : Script) (images : Images) →
-        IsCommandOf true (map string_bytes words.now) command → runs command ≡ true → told_by (S.left script.old) command text →
+        IsCommandOf true (map string_bytes words.now) command → runs command ≡ true
+        → told_by (S.left script.old) command text →
         IsScriptOf text read → H.tells shelf.old → TellEach (H.image shelf.old) (image_names command) images →
         AllByRecursion HasLawfulSize (map length images) → HaveImages (length images) (leaves_of read.tops) →
-        S.sound script.old → AllByRecursion (H.sound shelf.old) (image_names command) → ¬ Rose (O.faults out.old) (O.faults out.new) →
+        S.sound script.old → AllByRecursion (H.sound shelf.old) (image_names command)
+        → ¬ Rose (O.faults out.old) (O.faults out.new) →
         IsEnding result.code ⊎ (result.code ≡ 8) }
 
     // What is read: the script to its end, or to one byte more than a script may have.
     ensures rest { (command : Asked) → IsCommandOf true (map string_bytes words.now) command → reads command ≡ true →
-        (result.code ≢ 5) → (result.code ≢ 8) → (text : Seq ℕ) → S.left script.old text → S.left script.new (rest_of text) }
+        (result.code ≢ 5) → (result.code ≢ 8) → (text : Seq ℕ) → S.left script.old text
+        → S.left script.new (rest_of text) }
     ensures source_sound { S.sound script.old → S.sound script.new × (S.faults script.new ≡ S.faults script.old) }
     ensures unread { (IsNoCommandOf true (map string_bytes words.now) → script.new ≡ script.old)
-        × ((command : Asked) → IsCommandOf true (map string_bytes words.now) command → reads command ≡ false → script.new ≡ script.old) }
+        × ((command : Asked) → IsCommandOf true (map string_bytes words.now) command → reads command ≡ false
+        → script.new ≡ script.old) }
 
     // What stays.
     ensures back { IsEachBack (H.fetches shelf.old) (H.fetches shelf.new) (H.returns shelf.old) (H.returns shelf.new) }
     ensures tells { H.tells shelf.old ↔ H.tells shelf.new }
     ensures home { (command : Asked) → IsCommandOf true (map string_bytes words.now) command → H.tells shelf.old →
         KeepOthers (image_names command) (H.image shelf.old) (H.image shelf.new) (H.out shelf.old) (H.out shelf.new) }
-    ensures sound { (command : Asked) → IsCommandOf true (map string_bytes words.now) command → AllByRecursion (H.sound shelf.old) (image_names command) →
+    ensures sound { (command : Asked) → IsCommandOf true (map string_bytes words.now) command
+        → AllByRecursion (H.sound shelf.old) (image_names command) →
         (H.faults shelf.new ≡ H.faults shelf.old) × (H.disk_faults shelf.new ≡ H.disk_faults shelf.old)
         × ((name : Seq ℕ) → H.sound shelf.old name → H.sound shelf.new name) }
     ensures unfetched { (IsNoCommandOf true (map string_bytes words.now) → shelf.new ≡ shelf.old)
-        × ((command : Asked) → IsCommandOf true (map string_bytes words.now) command → runs command ≡ false → shelf.new ≡ shelf.old)
+        × ((command : Asked) → IsCommandOf true (map string_bytes words.now) command → runs command ≡ false
+        → shelf.new ≡ shelf.old)
         × ((result.code ≡ 2) ⊎ (result.code ≡ 5) → shelf.new ≡ shelf.old) }
     ensures journal { (IsNoCommandOf true (map string_bytes words.now) → journal.new ≡ journal.old)
-        × ((command : Asked) → IsCommandOf true (map string_bytes words.now) command → runs command ≡ false → journal.new ≡ journal.old) }
+        × ((command : Asked) → IsCommandOf true (map string_bytes words.now) command → runs command ≡ false
+        → journal.new ≡ journal.old) }
 {
     generated_scripts_are_accepted();
+    healed_scripts_store_plainly();
     match read_words(alloc, true, words) {
         Ok(command) => run_command(alloc, command, script, shelf, out, journal),
         Err(WordsError::Words) => end_with(out, "words\n", 1),
@@ -129,9 +156,11 @@ where
     requires home { H.tells shelf.old → (name : Seq ℕ) → ¬ H.out shelf.old name }
     ensures ends { let source = source_by S.left S.faults in let sink = sink_by O.holds O.faults in
         let saw = shelf_by H.tells H.image H.out H.faults H.disk_faults H.fetches H.returns H.last_size in
-        CommandEnds command (source script.old) (source script.new) (sink out.old) (sink out.new) (saw shelf.old) (saw shelf.new)
+        CommandEnds command (source script.old) (source script.new) (sink out.old) (sink out.new) (saw shelf.old)
+        (saw shelf.new)
         journal.old journal.new result.code }
-    ensures rest { reads command ≡ true → (result.code ≢ 5) → (result.code ≢ 8) → (text : Seq ℕ) → S.left script.old text →
+    ensures rest { reads command ≡ true → (result.code ≢ 5) → (result.code ≢ 8) → (text : Seq ℕ)
+        → S.left script.old text →
         S.left script.new (rest_of text) }
     ensures source_steady { IsEnding result.code → S.faults script.new ≡ S.faults script.old }
     ensures source_sound { S.sound script.old → S.sound script.new × (S.faults script.new ≡ S.faults script.old) }
@@ -187,14 +216,18 @@ where
     requires home { H.tells shelf.old → (name : Seq ℕ) → ¬ H.out shelf.old name }
     ensures ends { let source = source_by S.left S.faults in let sink = sink_by O.holds O.faults in
         let saw = shelf_by H.tells H.image H.out H.faults H.disk_faults H.fetches H.returns H.last_size in
-        ((result.code ≡ 5) × WasUnread (source script.old) (source script.new) (sink out.old) (sink out.new) (saw shelf.old) (saw shelf.new) journal.old journal.new)
-        ⊎ RunEnds (S.left script.old) show.now names.now (sink out.old) (sink out.new) (saw shelf.old) (saw shelf.new) journal.old journal.new result.code }
-    ensures rest { (result.code ≢ 5) → (result.code ≢ 8) → (text : Seq ℕ) → S.left script.old text → S.left script.new (rest_of text) }
+        ((result.code ≡ 5) × WasUnread (source script.old) (source script.new) (sink out.old) (sink out.new)
+        (saw shelf.old) (saw shelf.new) journal.old journal.new)
+        ⊎ RunEnds (S.left script.old) show.now names.now (sink out.old) (sink out.new) (saw shelf.old)
+        (saw shelf.new) journal.old journal.new result.code }
+    ensures rest { (result.code ≢ 5) → (result.code ≢ 8) → (text : Seq ℕ) → S.left script.old text
+        → S.left script.new (rest_of text) }
     ensures source_steady { IsEnding result.code → S.faults script.new ≡ S.faults script.old }
     ensures source_sound { S.sound script.old → S.sound script.new × (S.faults script.new ≡ S.faults script.old) }
     ensures back { IsEachBack (H.fetches shelf.old) (H.fetches shelf.new) (H.returns shelf.old) (H.returns shelf.new) }
     ensures tells { H.tells shelf.old ↔ H.tells shelf.new }
-    ensures home { H.tells shelf.old → KeepOthers names.now (H.image shelf.old) (H.image shelf.new) (H.out shelf.old) (H.out shelf.new) }
+    ensures home { H.tells shelf.old → KeepOthers names.now (H.image shelf.old) (H.image shelf.new) (H.out shelf.old)
+        (H.out shelf.new) }
     ensures sound { AllByRecursion (H.sound shelf.old) names.now →
         (H.faults shelf.new ≡ H.faults shelf.old) × (H.disk_faults shelf.new ≡ H.disk_faults shelf.old)
         × ((name : Seq ℕ) → H.sound shelf.old name → H.sound shelf.new name) }

@@ -44,7 +44,8 @@ where
     ensures fresh { IfOk result (λ disks. AreFresh H.Disk.bytes H.Disk.faults H.Disk.faults_at_fetch disks.items) }
     ensures told { IfOk result (λ disks. H.tells shelf.old → AreFetched H.Disk.home H.Disk.image names.now disks.items
         (H.image shelf.old) (H.image shelf.new) (H.out shelf.old) (H.out shelf.new)) }
-    ensures lawful_told { OnOk result ((images : Images) → H.tells shelf.old → TellEach (H.image shelf.old) names.now images →
+    ensures lawful_told { OnOk result ((images : Images) → H.tells shelf.old
+        → TellEach (H.image shelf.old) names.now images →
         AllByRecursion HasLawfulSize (map length images)) }
     ensures fetches { OnOk result ((H.fetches shelf.new ≡ counted_times (length names.now) (H.fetches shelf.old))
         × (H.returns shelf.new ≡ H.returns shelf.old)) }
@@ -60,7 +61,8 @@ where
         AllByRecursion HasLawfulSize (take leaf (map length images)) }
     ensures unlawful { (leaf : ℕ) → IsErrOf result (ImagesFault.Size leaf) →
         (H.faults shelf.new ≡ H.faults shelf.old) × (leaf < length names.now)
-        × (H.fetches shelf.new ≡ counted_times (leaf + 1) (H.fetches shelf.old)) × ¬ HasLawfulSize (H.last_size shelf.new) }
+        × (H.fetches shelf.new ≡ counted_times (leaf + 1) (H.fetches shelf.old))
+        × ¬ HasLawfulSize (H.last_size shelf.new) }
     ensures unlawful_told { (leaf : ℕ) → IsErrOf result (ImagesFault.Size leaf) → (images : Images) →
         H.tells shelf.old → TellEach (H.image shelf.old) names.now images → IsFirstUnlawful (map length images) leaf }
     ensures memory { IsErrOf result ImagesFault.Memory → H.faults shelf.new ≡ H.faults shelf.old }
@@ -110,21 +112,26 @@ where
     ensures told { H.tells shelf.old → AreFetched H.Disk.home H.Disk.image
         (take (length (added disks.old.items disks.new.items)) names.now) (added disks.old.items disks.new.items)
         (H.image shelf.old) (H.image shelf.new) (H.out shelf.old) (H.out shelf.new) }
-    ensures last { HasLawfulSize (H.last_size shelf.old) ⊎ (names.now ≢ []) → OnOk result (HasLawfulSize (H.last_size shelf.new)) }
-    ensures steady { OnOk result ((H.faults shelf.new ≡ H.faults shelf.old) × (H.returns shelf.new ≡ H.returns shelf.old)
+    ensures last { HasLawfulSize (H.last_size shelf.old) ⊎ (names.now ≢ [])
+        → OnOk result (HasLawfulSize (H.last_size shelf.new)) }
+    ensures steady { OnOk result ((H.faults shelf.new ≡ H.faults shelf.old)
+        × (H.returns shelf.new ≡ H.returns shelf.old)
         × (H.fetches shelf.new ≡ counted_times (length names.now) (H.fetches shelf.old))) }
-    ensures failed { (leaf : ℕ) → IsErrOf result (ImagesFault.Failed leaf) → Rose (H.faults shelf.old) (H.faults shelf.new)
+    ensures failed { (leaf : ℕ) → IsErrOf result (ImagesFault.Failed leaf)
+        → Rose (H.faults shelf.old) (H.faults shelf.new)
         × (leaf ≡ length disks.new.items) × (length (added disks.old.items disks.new.items) < length names.now)
         × (H.returns shelf.new ≡ H.returns shelf.old)
         × (H.fetches shelf.new ≡ counted_times (length (added disks.old.items disks.new.items)) (H.fetches shelf.old)) }
     ensures unlawful { (leaf : ℕ) → IsErrOf result (ImagesFault.Size leaf) → (H.faults shelf.new ≡ H.faults shelf.old)
         × (leaf ≡ length disks.new.items) × (length (added disks.old.items disks.new.items) < length names.now)
         × (H.returns shelf.new ≡ counted (H.returns shelf.old))
-        × (H.fetches shelf.new ≡ counted (counted_times (length (added disks.old.items disks.new.items)) (H.fetches shelf.old)))
+        × (H.fetches shelf.new ≡ counted (counted_times (length (added disks.old.items disks.new.items))
+        (H.fetches shelf.old)))
         × ¬ HasLawfulSize (H.last_size shelf.new) }
     ensures lawful_told { (images : Images) → H.tells shelf.old → TellEach (H.image shelf.old) names.now images →
         AllByRecursion HasLawfulSize (take (length (added disks.old.items disks.new.items)) (map length images)) }
-    ensures unlawful_told { (leaf : ℕ) → IsErrOf result (ImagesFault.Size leaf) → (images : Images) → H.tells shelf.old →
+    ensures unlawful_told { (leaf : ℕ) → IsErrOf result (ImagesFault.Size leaf) → (images : Images)
+        → H.tells shelf.old →
         TellEach (H.image shelf.old) names.now images →
         IsFirstUnlawful (map length images) (length (added disks.old.items disks.new.items)) }
     ensures memory { IsErrOf result ImagesFault.Memory → (H.faults shelf.new ≡ H.faults shelf.old)

@@ -61,7 +61,8 @@ fn read_piece<S: Source>(
     ensures len { IfOk result (λ n. vec_len bytes.new ≡ vec_len bytes.old + n) }
     ensures left { IfOk result (λ n. (left : List ℕ) → S.left source.old left → S.left source.new (drop n left)) }
     ensures there { IfOk result (λ n. (left : List ℕ) → S.left source.old left → n ≤ length left) }
-    ensures added { IfOk result (λ n. (left : List ℕ) → S.left source.old left → bytes.new.items ≡ bytes.old.items ++ take n left) }
+    ensures added { IfOk result (λ n. (left : List ℕ) → S.left source.old left
+        → bytes.new.items ≡ bytes.old.items ++ take n left) }
     ensures at_end { IfOk result (λ n. (left : List ℕ) → S.left source.old left → n ≡ 0 → left ≡ []) }
 {
     let taken = match source.read(piece) {

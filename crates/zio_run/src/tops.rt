@@ -39,12 +39,14 @@ impl From<NoMemory> for TopsFault {
 /// ones, rounded down to its unit.
 pub fn tops_over(alloc: Global, script: &Script, sizes: &[u64]) -> Result<List<Top>, TopsFault>
     requires units { HaveUnits script.now.tops }
-    ensures ok { IfOk result (λ tops. (images : Images) → map length images ≡ sizes.now → tops ≡ tops_of script.now images) }
+    ensures ok { IfOk result (λ tops. (images : Images) → map length images ≡ sizes.now
+        → tops ≡ tops_of script.now images) }
     ensures named { OnOk result (HaveImages (length sizes.now) (leaves_of script.now.tops)) }
     ensures bears { IfOk result (λ tops. AllByRecursion (HasSectors sizes.now) tops) }
     ensures lawful { IfOk result (λ tops. list_all is_lawful_top (sizes_of tops) ≡ true) }
     ensures count { IfOk result (λ tops. length tops ≡ length script.now.tops) }
-    ensures short { AllByRecursion HasLawfulSize sizes.now → IfOk result (λ tops. AllByRecursion (λ top. top.sectors ≤ IMAGE_LEN_MAX) tops) }
+    ensures short { AllByRecursion HasLawfulSize sizes.now
+        → IfOk result (λ tops. AllByRecursion (λ top. top.sectors ≤ IMAGE_LEN_MAX) tops) }
     ensures missing { (leaf : ℕ) → IsErrOf result (TopsFault.Leaf leaf) →
         IsFirstMissing (length sizes.now) (leaves_of script.now.tops) leaf }
 {
@@ -86,11 +88,13 @@ fn missing_of(leaves: &[u32], images: usize) -> Option<u32>
 fn tops_of(alloc: Global, lines: &[TopLine], sizes: &[u64]) -> Result<List<Top>, NoMemory>
     requires units { HaveUnits lines.now }
     requires named { HaveImages (length sizes.now) (leaves_of lines.now) }
-    ensures ok { IfOk result (λ tops. (images : Images) → map length images ≡ sizes.now → tops ≡ map (top_of images) lines.now) }
+    ensures ok { IfOk result (λ tops. (images : Images) → map length images ≡ sizes.now
+        → tops ≡ map (top_of images) lines.now) }
     ensures bears { IfOk result (λ tops. AllByRecursion (HasSectors sizes.now) tops) }
     ensures lawful { IfOk result (λ tops. list_all is_lawful_top (sizes_of tops) ≡ true) }
     ensures count { IfOk result (λ tops. length tops ≡ length lines.now) }
-    ensures short { AllByRecursion HasLawfulSize sizes.now → IfOk result (λ tops. AllByRecursion (λ top. top.sectors ≤ IMAGE_LEN_MAX) tops) }
+    ensures short { AllByRecursion HasLawfulSize sizes.now
+        → IfOk result (λ tops. AllByRecursion (λ top. top.sectors ≤ IMAGE_LEN_MAX) tops) }
 {
     let mut tops = List::new(alloc);
     for line in lines {

@@ -54,7 +54,8 @@ pub enum WordsError {
 pub fn read_words(alloc: Global, serial: bool, words: &[String]) -> Result<Command, WordsError>
     ensures ok { IfOk result (IsCommandOf serial (map string_bytes words.now)) }
     ensures words { IsErrOf result WordsError.Words → IsNoCommandOf serial (map string_bytes words.now) }
-    ensures memory { IsErrOf result WordsError.Memory → (command : Asked) × IsCommandOf serial (map string_bytes words.now) command }
+    ensures memory { IsErrOf result WordsError.Memory → (command : Asked)
+        × IsCommandOf serial (map string_bytes words.now) command }
 {
     let Some((verb, rest)) = first_word(words) else {
         return Err(WordsError::Words);

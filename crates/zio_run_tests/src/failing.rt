@@ -8,8 +8,8 @@ use std::test::Fail;
 /// More calls than any object gets in these runs.
 const CALLS_MAX: u64 = 400;
 
-/// A script with the texts of its rounds so far, each with those before: the line of the pool first, and the whole report
-/// last.
+/// A script with the texts of its rounds so far, each with those before: the line of the pool first, and the whole
+/// report last.
 #[derive(Clone, Copy)]
 struct Known<'a> {
     case: Case<'a>,
@@ -184,8 +184,8 @@ fn each_call_fails_alone(rt: HostRuntime) -> Result<(), Fail> {
     Ok(())
 }
 
-/// A disk that fails in the second round: what was run whole stays recorded, the entry and the completion of the write, and
-/// nothing else.
+/// A disk that fails in the second round: what was run whole stays recorded, the entry and the completion of the write,
+/// and nothing else.
 fn check_second_round(rt: &impl Abort, alloc: Global, known: &Known<'_>) -> Result<(), Fail> {
     let ran = run(alloc, &known.case, &failing(Object::FirstDisk, &[1]))?;
     assert_eq!(rt; ran.code, 7);

@@ -1,4 +1,5 @@
-//! What the order of the work changes and what it does not: the order of completions, and how many calls of a disk a run makes.
+//! What the order of the work changes and what it does not: the order of completions, and how many calls of a disk a
+//! run makes.
 
 use crate::runs::{Case, Ran, STEADY, run};
 use std::alloc::Global;
@@ -36,8 +37,8 @@ fn run_words(alloc: Global, words: &[&str], head: &str) -> Result<Ran, Fail> {
     run(alloc, &case, &STEADY)
 }
 
-/// The disk wasn't read, and so many writes of it were made, all requests finished, and the sectors of the eight writes hold
-/// 0x41, but for one that is flipped if one is told.
+/// The disk wasn't read, and so many writes of it were made, all requests finished, and the sectors of the eight writes
+/// hold 0x41, but for one that is flipped if one is told.
 fn check(
     rt: &impl Abort,
     ran: &Ran,
@@ -66,7 +67,8 @@ fn check(
     Ok(())
 }
 
-/// The eight are one call of the disk where a leaf is picked last. By other picks a group may be issued before all wait.
+/// The eight are one call of the disk where a leaf is picked last. By other picks a group may be issued before all
+/// wait.
 #[test]
 fn neighbours_are_written_in_one_call(rt: HostRuntime) -> Result<(), Fail> {
     let alloc = rt.alloc();
@@ -79,8 +81,8 @@ fn neighbours_are_written_in_one_call(rt: HostRuntime) -> Result<(), Fail> {
     Ok(())
 }
 
-/// Where a row of the fault table meets the group, each of its members is a call, and one alone is hit. By other picks there are
-/// smaller groups, which the row may not meet.
+/// Where a row of the fault table meets the group, each of its members is a call, and one alone is hit. By other picks
+/// there are smaller groups, which the row may not meet.
 #[test]
 fn a_fault_hits_one_member_of_a_group(rt: HostRuntime) -> Result<(), Fail> {
     let alloc = rt.alloc();

@@ -54,8 +54,8 @@ fn check(
     }
 }
 
-/// Three bodies in a batch, their reads by every class with a read of no block, and a second write of a name. The sums are
-/// fletcher4 of the bodies with zeros up to a sector.
+/// Three bodies in a batch, their reads by every class with a read of no block, and a second write of a name. The sums
+/// are fletcher4 of the bodies with zeros up to a sector.
 #[test]
 fn bodies_of_every_form(rt: HostRuntime) -> Result<(), Fail> {
     let case = Case {

@@ -22,7 +22,8 @@ const WITH_BOTH: Show = Show::Report {
     bytes: true,
 };
 
-/// How many workers, which picks, what report and how many images a `run` asks for; none where the words are no command.
+/// How many workers, which picks, what report and how many images a `run` asks for; none where the words are no
+/// command.
 fn asked(
     alloc: Global,
     serial: bool,

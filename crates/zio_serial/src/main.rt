@@ -1,8 +1,8 @@
 //! The program `zio_serial`: runs a script on an image file, on one thread.
 //!
 //! It joins `zio_serial_main` to standard input, standard output and files, and ends with its code as the exit status.
-//! What a run does is the contract of that call. Questions for help or the version are answered here, as `about` says, and
-//! `told` has the line on standard error that goes with a code other than 0.
+//! What a run does is the contract of that call. Questions for help or the version are answered here, as `about` says,
+//! and `told` has the line on standard error that goes with a code other than 0.
 #![tactic(auto)]
 
 mod about;

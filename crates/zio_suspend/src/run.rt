@@ -5,8 +5,13 @@ ghost use Rattle.zio_outside.specs.Outside.{Appends, Rose};
 ghost use Rattle.zio_script.specs.Grammar.{IsScriptOf};
 ghost use Rattle.zio_script.specs.Requests.{requests_of};
 ghost use Rattle.zio_cksum.specs.Images.{Images};
+ghost use Rattle.zio_gang.specs.declared.ending.Ending.TheVariants.{Complete};
 ghost use Rattle.zio_gang.specs.Runs.{top_of};
-ghost use Rattle.zio_report.specs.Meanings.{IsEmptyJournal, IsWholeRun};
+ghost use Rattle.zio_report.specs.Meanings.{IsEmptyJournal, IsWholeRun, tops_of};
+ghost use Rattle.zio_heal.specs.Given.{AcceptsWhatWasGiven};
+ghost use Rattle.zio_heal.specs.Healed.{IsHealed};
+ghost use Rattle.zio_heal.specs.Pools.{NoSmallRefused};
+ghost use Rattle.zio_heal.specs.StoredPlainly.{FitPointers, IsStoredPlainly};
 ghost use Rattle.zio_course.specs.Runners.{AnyRose, stopping_of};
 ghost use Rattle.zio_course.specs.SoFar.{IsCut, IsCutText, IsFullText};
 
@@ -16,6 +21,7 @@ use std::alloc::Global;
 use std::collections::VecDeque;
 use zio_course::{Fold, Runner, run_lines};
 use zio_gang::Ending;
+use zio_heal::healed_scripts_store_plainly;
 use zio_outside::Sink;
 use zio_report::{RunFault, Show};
 use zio_script::{Script, accepted_scripts_are_orderly};
@@ -28,7 +34,8 @@ use zio_types::Journal;
 /// where `out` failed, and by `RunFault::Memory`, where no disk failed. Then the journal is that of the course so far;
 /// and where the runner was stopped in a round, the course goes on with that round, under its terms and over its trees.
 /// Of the text so far, or of the whole text where the course was over, the sink got all after a disk's failure, a front
-/// after its own, and whole lines for want of memory.
+/// after its own, and whole lines for want of memory. A script that heals is complete, and stored as by a plain store,
+/// where the journal refuses no single sector and every copy that was accepted holds what was given.
 pub fn run_script<R: Runner, O: Sink>(
     alloc: Global,
     script: &Script,
@@ -53,6 +60,10 @@ pub fn run_script<R: Runner, O: Sink>(
         (record { tops = length script.now.tops; images = images; requests = length (requests_of script.now.items) })
         script.now before journal.new after printed end
         × R.tells runner.new after × Appends (O.holds out.old) (O.holds out.new) printed) }
+    ensures healed { IfOk result (λ end. (before : Images) → R.tells runner.old before → IsHealed script.now →
+        FitPointers (tops_of script.now before) → NoSmallRefused journal.new.places →
+        AcceptsWhatWasGiven script.now before journal.new.places →
+        IsStoredPlainly script.now before journal.new.places × (end ≡ Complete)) }
     ensures cut { IfErr result (λ fault. (before : Images) → R.tells runner.old before → (after : Images)
         × (text : List ℕ) × (full : List ℕ)
         × IsCut show.now (record {
@@ -79,6 +90,7 @@ pub fn run_script<R: Runner, O: Sink>(
     ensures same { R.same runner.old runner.new }
 {
     accepted_scripts_are_orderly();
+    healed_scripts_store_plainly();
     begin(alloc, script.tops.len(), images as usize, show, out)?;
     let mut fold = Fold::new(alloc);
     let mut held = VecDeque::new(alloc);

@@ -8,6 +8,7 @@ use Rattle.zio_run.specs.Shelves.{KeepOthers}
 use Rattle.zio_run.proofs.CommandLemmas.{command_code, command_complete, command_ended, command_never, command_steady, command_wanting, first_name}
 use Rattle.zio_run.proofs.CountLemmas.{not_rose}
 use Rattle.zio_run.proofs.EndLemmas.{no_ending}
+use Rattle.zio_run.proofs.HealLemmas.{command_healed}
 use Rattle.zio_run.proofs.TripLemmas.{KeepOthers-itself}
 use Rattle.zio_run.proofs.WordLemmas.{lawful_command, one_command_of}
 use Rattle.zio_run.proofs.serial.zio_serial_main.Goals as goal
@@ -73,6 +74,25 @@ returns-in-Ok-clause-headline g c command is r e text images told tells each =
     one c.run_command.ensures.ends in
     let ran = command_ended command (source c.args.script.now) (source c.run_command.new.script) out wrote old new c.args.journal.now c.run_command.new.journal code ends r e in
     (ran.0, ran.1 text told, ran.2.headline images tells each)
+
+pub returns-in-Ok-clause-healed : goal.returns-in-Ok-clause-healed
+returns-in-Ok-clause-healed g c command is r e text read images told accepted tells each healed small accepts =
+    let source = source_by g.S.Source.left g.S.Source.faults in
+    let sink = sink_by g.O.Sink.holds g.O.Sink.faults in
+    let saw = shelf_by g.H.Shelf.tells g.H.Shelf.image g.H.Shelf.out g.H.Shelf.faults g.H.Shelf.disk_faults g.H.Shelf.fetches g.H.Shelf.returns g.H.Shelf.last_size in
+    let ws = map string_bytes c.args.words.now in
+    let one = one_command_of true ws c.in-Ok.command command c.in-Ok.ensures.ok is in
+    let old = saw c.args.shelf.now in
+    let new = saw c.run_command.new.shelf in
+    let out = sink c.args.out.now in
+    let wrote = sink c.run_command.new.out in
+    let journal = c.run_command.new.journal in
+    let code = c.run_command.result.code in
+    let ends : CommandEnds command (source c.args.script.now) (source c.run_command.new.script) out wrote old new c.args.journal.now journal code =
+    subst (λ (x : Asked). CommandEnds x (source c.args.script.now) (source c.run_command.new.script) out wrote old new c.args.journal.now journal code)
+    one c.run_command.ensures.ends in
+    command_healed command (source c.args.script.now) (source c.run_command.new.script) out wrote old new c.args.journal.now journal code ends r e
+    text read images told accepted tells each (c.healed_scripts_store_plainly.ensures text read images journal.places accepted) healed small accepts
 
 pub returns-in-Ok-clause-steady : goal.returns-in-Ok-clause-steady
 returns-in-Ok-clause-steady g c command is e =
@@ -189,6 +209,11 @@ returns-in-Err-Words-clause-headline g c command is r e text images told tells e
     let none = c.in-Err-Words.ensures.words (ap (λ (e : WordsError). Err e) c.in-Err-Words.field-0-is) in
     absurd (none command is)
 
+pub returns-in-Err-Words-clause-healed : goal.returns-in-Err-Words-clause-healed
+returns-in-Err-Words-clause-healed g c command is r e text read images told accepted tells each healed small accepts =
+    let none = c.in-Err-Words.ensures.words (ap (λ (e : WordsError). Err e) c.in-Err-Words.field-0-is) in
+    absurd (none command is)
+
 pub returns-in-Err-Words-clause-steady : goal.returns-in-Err-Words-clause-steady
 returns-in-Err-Words-clause-steady g c command is e =
     let none = c.in-Err-Words.ensures.words (ap (λ (e : WordsError). Err e) c.in-Err-Words.field-0-is) in
@@ -242,6 +267,10 @@ returns-in-Err-Memory-clause-ends g c command is =
 
 pub returns-in-Err-Memory-clause-headline : goal.returns-in-Err-Memory-clause-headline
 returns-in-Err-Memory-clause-headline g c command is r e text images told tells each = absurd (no_ending 8 8 e refl (inr (inr (inr (inr (inr (inr refl)))))))
+
+pub returns-in-Err-Memory-clause-healed : goal.returns-in-Err-Memory-clause-healed
+returns-in-Err-Memory-clause-healed g c command is r e text read images told accepted tells each healed small accepts =
+    absurd (no_ending 8 8 e refl (inr (inr (inr (inr (inr (inr refl)))))))
 
 pub returns-in-Err-Memory-clause-steady : goal.returns-in-Err-Memory-clause-steady
 returns-in-Err-Memory-clause-steady g c command is e = (refl, refl, refl, refl)

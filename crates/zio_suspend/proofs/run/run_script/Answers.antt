@@ -19,6 +19,7 @@ use Rattle.zio_course.specs.SoFar.{IsCutText}
 use Rattle.zio_course.proofs.CutLemmas.{by_fault, not_written, part_written}
 use Rattle.zio_suspend.specs.Ends.{last_text}
 use Rattle.zio_suspend.proofs.EndLemmas.{IsEndOf, ScriptCut, Starts, cut_between, cut_first, cut_last, end_of, same_fault, script_whole}
+use Rattle.zio_suspend.proofs.HealLemmas.{whole_is_plain}
 use Rattle.zio_suspend.proofs.StartLemmas.{IsNew, fold_is_new, nothing_is_new, nothing_yet, start_going, start_point}
 use Rattle.zio_suspend.proofs.run.run_script.Goals as goal
 
@@ -194,3 +195,13 @@ returns-clause-whole g c =
     let last : List ℕ = last_text show n.requests h.tally end in
     script_whole show n script s now f h held old after tells new_tells holds mid over new_holds end starts c.in_ok-run_lines.ensures.tops ended ran first
     (subst (λ (items : List Item). Appends over new_holds (last_text show (length (requests_of items)) h.tally end)) c.as_slice-2.ensures c.in_ok-finish.ensures.ok)
+
+pub returns-clause-healed : goal.returns-clause-healed
+returns-clause-healed g c before told healed fit small accepts =
+    let script : Script = c.args.script.now in
+    let q = c.requires.script in
+    let journal : Journal = c.run_lines.new.journal in
+    let w = returns-clause-whole g c before told in
+    whole_is_plain c.args.show.now (record { tops = length script.tops; images = c.args.images; requests = length (requests_of script.items) })
+    script before journal w.0 w.1 c.ending_of-ending.result w.2
+    (c.healed_scripts_store_plainly.ensures q.0 script before journal.places q.1) healed fit small accepts

@@ -26,7 +26,8 @@ fn is_write(group: &Group) -> bool
     group.ops.as_slice()[0].write
 }
 
-/// Issues the group: member by member where its span meets a row, and else as one call of the device.
+/// Issues the group: member by member where its span meets a row, and else as one call of the device. A single member is
+/// issued as it is, since there is nothing to join or to part. What was in the buffer is lost.
 pub(crate) fn issue_group<D: Disk>(
     alloc: Global,
     setting: &Setting,
@@ -34,6 +35,7 @@ pub(crate) fn issue_group<D: Disk>(
     leaf: u32,
     group: &Group,
     members: &[QueuedOp],
+    buffer: &mut Vec<u8>,
 ) -> Result<List<Answered>, Stop>
     requires rows { AllByRecursion RowFits setting.now.rows }
     requires fit { AllByRecursion IsFit members.now }
@@ -48,11 +50,11 @@ pub(crate) fn issue_group<D: Disk>(
     ensures handled { Handles D.bytes D.faults D.faults_at_fetch D.home D.image D.sound D.went
         (written_spots leaf members.now) result disks.old disks.new }
 {
-    if lone(group, &setting.table, leaf, setting.point) {
+    if members.len() == 1 || lone(group, &setting.table, leaf, setting.point) {
         return one_by_one(alloc, setting, disks, leaf, members);
     }
     if is_write(group) {
-        return write_span(alloc, disks, leaf, group, members);
+        return write_span(alloc, disks, leaf, group, members, buffer);
     }
-    read_span(alloc, disks, leaf, group, members)
+    read_span(alloc, disks, leaf, group, members, buffer)
 }

@@ -9,7 +9,7 @@ ghost use Rattle.zio_groups.specs.Issued.{EndsOn, IsFit, written_spots};
 ghost use Rattle.zio_groups.specs.LeafQueues.{IsIssued, kept_with, ops_of, queue_of, waiting_with};
 
 use crate::group::issue_group;
-use crate::waiting::{Answered, QueuedOp, add};
+use crate::waiting::{Answered, QueuedOp, add, with_room};
 use std::alloc::Global;
 use std::collections::HashMap;
 use std::marker::Model;
@@ -24,6 +24,8 @@ pub struct LeafQueue {
     queue: VQueue,
     /// What a queued write writes, by its ticket.
     kept: HashMap<u64, Bytes>,
+    /// Where a span of several members is read or joined. Once they are issued what it holds is of no use.
+    buffer: Vec<u8>,
 }
 
 impl Model for LeafQueue {
@@ -48,6 +50,7 @@ impl LeafQueue {
         LeafQueue {
             queue: VQueue::new(alloc),
             kept: HashMap::new(alloc),
+            buffer: Vec::new(alloc),
         }
     }
 
@@ -102,7 +105,15 @@ impl LeafQueue {
     {
         let group = next_group(&mut self.queue)?;
         let members = take_kept(alloc, &mut self.kept, group.ops.as_slice())?;
-        let answers = issue_group(alloc, setting, disks, leaf, &group, members.as_slice())?;
+        let answers = issue_group(
+            alloc,
+            setting,
+            disks,
+            leaf,
+            &group,
+            members.as_slice(),
+            &mut self.buffer,
+        )?;
         self.queue.done(group);
         Ok(answers)
     }
@@ -149,7 +160,7 @@ fn take_kept(
         ≤ length (unwrap_or (get nat_eq kept.old ticket) []) }
     ensures err { OnErr result (result ≡ Err Stop.Memory) }
 {
-    let mut members = List::new(alloc);
+    let mut members = with_room(alloc, ops.len())?;
     for op in ops {
         let bytes = take_bytes(alloc, kept, op);
         add(&mut members, QueuedOp { op: *op, bytes })?;

@@ -8,7 +8,7 @@ ghost use Rattle.zio_cksum.specs.Images.{Images, read_leaf, write_leaf};
 ghost use Rattle.zio_disks.specs.Disks.{Handles, Tell};
 ghost use Rattle.zio_groups.specs.Issued.{AreWhole, EndsOn, IsFit, IsWhole, all_issued, head_of, one_issued, read_answered, spot_of, written_spots};
 
-use crate::waiting::{Answered, QueuedOp, add};
+use crate::waiting::{Answered, QueuedOp, add, with_room};
 use std::alloc::Global;
 use zio_disks::{Setting, Spot, Stop, padded_to, read_leaf, write_leaf};
 use zio_outside::Disk;
@@ -16,7 +16,7 @@ use zio_types::{Bytes, Errno, List};
 use zio_vqueue::Op;
 
 /// So many zeros.
-pub(crate) fn zeros(alloc: Global, len: usize) -> Result<Vec<u8>, Stop>
+fn zeros(alloc: Global, len: usize) -> Result<Vec<u8>, Stop>
     ensures ok { IfOk result (λ bytes. length bytes.items ≡ len) }
     ensures err { OnErr result (result ≡ Err Stop.Memory) }
 {
@@ -168,7 +168,7 @@ pub(crate) fn one_by_one<D: Disk>(
     ensures handled { Handles D.bytes D.faults D.faults_at_fetch D.home D.image D.sound D.went
         (written_spots leaf members.now) result disks.old disks.new }
 {
-    let mut answers = List::new(alloc);
+    let mut answers = with_room(alloc, members.len())?;
     for member in members {
         let answer = issue_one(alloc, setting, disks, leaf, member)?;
         add(&mut answers, answer)?;

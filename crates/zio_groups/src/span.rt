@@ -1,6 +1,6 @@
 // A group whose span is one call of the device.
 
-ghost use Rattle.std.specs.Prelude.{◌≡◌, ◌∷◌, ◌+◌, ◌-◌, ◌≤◌, ◌++◌, Err, IfOk, OnErr, OnOk, [], length, map, slice_index_or, take, drop, true};
+ghost use Rattle.std.specs.Prelude.{◌≡◌, ◌∷◌, ◌+◌, ◌-◌, ◌≤◌, ◌++◌, Err, IfOk, OnErr, OnOk, [], length, map, slice_index_or, take, drop, true, vec_len};
 ghost use Rattle.std.specs.List.{AllByRecursion};
 ghost use Rattle.zio_vqueue.specs.Members.{LiesIn};
 ghost use Rattle.zio_cksum.specs.Images.{Images, bytes_at, padded_to, with_bytes};
@@ -9,8 +9,7 @@ ghost use Rattle.zio_groups.specs.Issued.{IsFit};
 ghost use Rattle.zio_groups.specs.LeafQueues.{AreMembers, ops_of};
 ghost use Rattle.zio_groups.specs.Spans.{AreParts, joined, part_answered, span_spot, stored_answered};
 
-use crate::single::zeros;
-use crate::waiting::{Answered, QueuedOp, add};
+use crate::waiting::{Answered, QueuedOp, add, with_room};
 use std::alloc::Global;
 use zio_disks::{Spot, Stop, fetch, store};
 use zio_outside::Disk;
@@ -54,7 +53,7 @@ fn parts_of(
     ensures ok { IfOk result (λ answers. answers ≡ map (part_answered group.now.at span.now) members.now) }
     ensures err { OnErr result (result ≡ Err Stop.Memory) }
 {
-    let mut answers = List::new(alloc);
+    let mut answers = with_room(alloc, members.len())?;
     for member in members {
         let answer = Answered {
             ticket: member.op.ticket,
@@ -80,13 +79,48 @@ fn fetch_any<D: Disk>(disks: &mut [D], spot: &Spot, buffer: &mut [u8]) -> Result
     fetch(disks, spot, buffer)
 }
 
-/// Reads the whole span, and gives each member its bytes.
+/// Makes a buffer so long, where it is shorter.
+fn lengthen(buffer: &mut Vec<u8>, len: usize) -> Result<(), Stop>
+    ensures ok { OnOk result (len ≤ vec_len buffer.new) }
+    ensures err { OnErr result (result ≡ Err Stop.Memory) }
+{
+    if len <= buffer.len() {
+        return Ok(());
+    }
+    match buffer.resize(len, 0) {
+        Ok(()) => Ok(()),
+        Err(_) => Err(Stop::Memory),
+    }
+}
+
+/// Reads the whole span into bytes that are as many, and gives each member its own.
+fn read_parts<D: Disk>(
+    alloc: Global,
+    disks: &mut [D],
+    leaf: u32,
+    group: &Group,
+    members: &[QueuedOp],
+    span: &mut [u8],
+) -> Result<List<Answered>, Stop>
+    requires inside { AllByRecursion (LiesIn group.now) (ops_of members.now) }
+    requires long { length span.old ≡ group.now.len }
+    requires lies { group.now.at + group.now.len ≤ slice_index_or (map D.bytes disks.old) leaf 0 }
+    ensures parts { IfOk result (AreParts D.image leaf group.now members.now disks.old disks.new) }
+    ensures handled { Handles D.bytes D.faults D.faults_at_fetch D.home D.image D.sound D.went [] result disks.old
+        disks.new }
+{
+    fetch_any(disks, &span_spot(leaf, group), span)?;
+    parts_of(alloc, group, members, span)
+}
+
+/// Reads the whole span, and gives each member its bytes. What was in the buffer is lost.
 pub(crate) fn read_span<D: Disk>(
     alloc: Global,
     disks: &mut [D],
     leaf: u32,
     group: &Group,
     members: &[QueuedOp],
+    buffer: &mut Vec<u8>,
 ) -> Result<List<Answered>, Stop>
     requires inside { AllByRecursion (LiesIn group.now) (ops_of members.now) }
     requires lies { group.now.at + group.now.len ≤ slice_index_or (map D.bytes disks.old) leaf 0 }
@@ -94,9 +128,9 @@ pub(crate) fn read_span<D: Disk>(
     ensures handled { Handles D.bytes D.faults D.faults_at_fetch D.home D.image D.sound D.went [] result disks.old
         disks.new }
 {
-    let mut span = zeros(alloc, group.len as usize)?;
-    fetch_any(disks, &span_spot(leaf, group), span.as_mut_slice())?;
-    parts_of(alloc, group, members, span.as_slice())
+    let len = group.len as usize;
+    lengthen(buffer, len)?;
+    read_parts(alloc, disks, leaf, group, members, &mut buffer[..len])
 }
 
 /// Puts bytes at the end, and zeros behind them to so many.
@@ -115,17 +149,20 @@ fn join(whole: &mut Vec<u8>, bytes: &[u8], len: u32) -> Result<(), Stop>
     }
 }
 
-/// What the members write on the span.
-fn joined(alloc: Global, members: &[QueuedOp]) -> Result<Vec<u8>, Stop>
+/// Makes a buffer what the members write on their span, which has so many bytes.
+fn join_all(whole: &mut Vec<u8>, members: &[QueuedOp], len: usize) -> Result<(), Stop>
     requires { AllByRecursion IsFit members.now }
-    ensures ok { IfOk result (λ whole. whole.items ≡ joined members.now) }
+    ensures ok { OnOk result (whole.new.items ≡ joined members.now) }
     ensures err { OnErr result (result ≡ Err Stop.Memory) }
 {
-    let mut whole = Vec::new(alloc);
-    for member in members {
-        join(&mut whole, member.bytes.as_slice(), member.op.len)?;
+    whole.clear();
+    if whole.reserve(len).is_err() {
+        return Err(Stop::Memory);
     }
-    Ok(whole)
+    for member in members {
+        join(whole, member.bytes.as_slice(), member.op.len)?;
+    }
+    Ok(())
 }
 
 /// The members' answers once all are stored.
@@ -133,7 +170,7 @@ fn stored(alloc: Global, members: &[QueuedOp]) -> Result<List<Answered>, Stop>
     ensures ok { IfOk result (λ answers. answers ≡ map stored_answered members.now) }
     ensures err { OnErr result (result ≡ Err Stop.Memory) }
 {
-    let mut answers = List::new(alloc);
+    let mut answers = with_room(alloc, members.len())?;
     for member in members {
         let answer = Answered {
             ticket: member.op.ticket,
@@ -145,13 +182,14 @@ fn stored(alloc: Global, members: &[QueuedOp]) -> Result<List<Answered>, Stop>
     Ok(answers)
 }
 
-/// Writes the members' bytes, which touch, on the whole span.
+/// Writes the members' bytes, which touch, on the whole span. What was in the buffer is lost.
 pub(crate) fn write_span<D: Disk>(
     alloc: Global,
     disks: &mut [D],
     leaf: u32,
     group: &Group,
     members: &[QueuedOp],
+    buffer: &mut Vec<u8>,
 ) -> Result<List<Answered>, Stop>
     requires fit { AllByRecursion IsFit members.now }
     requires members { AreMembers group.now true members.now }
@@ -162,7 +200,7 @@ pub(crate) fn write_span<D: Disk>(
     ensures handled { Handles D.bytes D.faults D.faults_at_fetch D.home D.image D.sound D.went (span_spot leaf group.now
         ∷ []) result disks.old disks.new }
 {
-    let whole = joined(alloc, members)?;
-    store(disks, whole.as_slice(), &span_spot(leaf, group))?;
+    join_all(buffer, members, group.len as usize)?;
+    store(disks, buffer.as_slice(), &span_spot(leaf, group))?;
     stored(alloc, members)
 }

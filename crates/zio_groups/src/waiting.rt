@@ -1,5 +1,6 @@
-ghost use Rattle.std.specs.Prelude.{◌≡◌, ◌++◌, ◌∷◌, [], Err, OnErr, OnOk};
+ghost use Rattle.std.specs.Prelude.{◌≡◌, ◌++◌, ◌∷◌, [], Err, IfOk, OnErr, OnOk};
 
+use std::alloc::Global;
 use zio_disks::Stop;
 use zio_types::{Bytes, Errno, List};
 use zio_vqueue::Op;
@@ -19,6 +20,17 @@ pub struct Answered {
     pub error: Option<Errno>,
     /// All bytes of a read; none of a write, or after an error.
     pub bytes: Bytes,
+}
+
+/// A list that has nothing yet, with room for so many items.
+pub(crate) fn with_room<T>(alloc: Global, count: usize) -> Result<List<T>, Stop>
+    ensures ok { IfOk result (λ items. items ≡ []) }
+    ensures err { OnErr result (result ≡ Err Stop.Memory) }
+{
+    match Vec::with_capacity(alloc, count) {
+        Ok(items) => Ok(List::from_vec(items)),
+        Err(_) => Err(Stop::Memory),
+    }
 }
 
 /// Adds an item at the end.

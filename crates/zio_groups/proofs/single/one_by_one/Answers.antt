@@ -4,7 +4,7 @@ use Rattle.zio_cksum.specs.Images.{Setting}
 use Rattle.zio_disks.specs.Disks.{Tell}
 use Rattle.zio_disks.specs.declared.setting.Stop.{Stop}
 use Rattle.zio_disks.specs.declared.setting.Stop.TheVariants.{Device}
-use Rattle.zio_disks.proofs.DiskLemmas.{handles_after, handles_err, handles_none, handles_ok, handles_then, handles_wider}
+use Rattle.zio_disks.proofs.DiskLemmas.{handles_after, handles_err, handles_none, handles_ok, handles_then, handles_wider, not_device}
 use Rattle.zio_groups.specs.declared.waiting.QueuedOp.{QueuedOp}
 use Rattle.zio_groups.specs.Issued.{AreWhole, EndsOn, all_issued, head_of, written_spots}
 use Rattle.zio_groups.proofs.CoverLemmas.{memory_on}
@@ -16,11 +16,16 @@ no_device e = absurd (cc)
 
 pub loop-member-init : goal.loop-member-init
 loop-member-init g c = (
-  λ images told. (c.new-answers.ensures, told),
-  λ images. ap (map head_of) c.new-answers.ensures,
-  subst (AreWhole []) (sym c.new-answers.ensures) tt,
+  λ images told. (c.in_ok-answers.ensures.ok, told),
+  λ images. ap (map head_of) c.in_ok-answers.ensures.ok,
+  subst (AreWhole []) (sym c.in_ok-answers.ensures.ok) tt,
   handles_none g.D.Disk.bytes g.D.Disk.faults g.D.Disk.faults_at_fetch g.D.Disk.home g.D.Disk.image g.D.Disk.sound g.D.Disk.went (written_spots c.args.leaf c.args.members.now) (Ok tt) c.args.disks.now no_device,
 )
+
+pub returns-in_err-answers-clause-handled : goal.returns-in_err-answers-clause-handled
+returns-in_err-answers-clause-handled g c =
+    handles_none g.D.Disk.bytes g.D.Disk.faults g.D.Disk.faults_at_fetch g.D.Disk.home g.D.Disk.image g.D.Disk.sound g.D.Disk.went (written_spots c.args.leaf c.args.members.now) c.from_residual.result c.args.disks.now
+    (not_device c.from_residual.result (memory_on c.from_residual.result _ c.from_residual.ensures.1 c.in_err-answers.ensures.err))
 
 pub issue_one-requires-clause-lies : goal.issue_one-requires-clause-lies
 issue_one-requires-clause-lies g c =
@@ -32,7 +37,7 @@ returns-in_err-answer-clause-handled g c =
     let ws : List QueuedOp = c.args.members.now in
     let among : AllByRecursion (Contains (written_spots c.args.leaf ws)) (written_spots c.args.leaf (c.member-item.result ∷ [])) =
     spots_among c.args.leaf ws (c.member-item.result ∷ []) (contains_at ws c.loop-member.member-index c.member-item.result c.loop-member-test.true c.member-item.is, tt) in
-    handles_then {spots = written_spots c.args.leaf ws} c.loop-member.invariant.3 (handles_err c.from_residual.result c.from_residual.ensures.1 (handles_wider (written_spots c.args.leaf ws) among c.in_err-answer.ensures.handled))
+    handles_then {spots = written_spots c.args.leaf ws} c.loop-member.invariant.3 (handles_err c.from_residual-in_err-answer.result c.from_residual-in_err-answer.ensures.1 (handles_wider (written_spots c.args.leaf ws) among c.in_err-answer.ensures.handled))
 
 pub returns-in_err-add-clause-handled : goal.returns-in_err-add-clause-handled
 returns-in_err-add-clause-handled g c =

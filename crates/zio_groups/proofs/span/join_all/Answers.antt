@@ -1,7 +1,7 @@
 use Rattle.std.proofs.Common.{◌+◌, take}
 use Rattle.zio_groups.proofs.IssueLemmas.{taken_more}
 use Rattle.zio_groups.proofs.SpanLemmas.{joined_more}
-use Rattle.zio_groups.proofs.span.joined.Goals as goal
+use Rattle.zio_groups.proofs.span.join_all.Goals as goal
 
 pub loop-member-preserved : goal.loop-member-preserved
 loop-member-preserved c =

@@ -1,0 +1,5 @@
+pub mod Outs
+pub mod Sums
+pub mod Keeps
+pub mod Seats
+pub mod Shown

@@ -123,9 +123,9 @@ same_turn stage node after (Err e) keeps = tt
 -- ---- of each kind
 
 -- an operation on a leaf has one pass, and so has a walk
-pub leaf_turn : {E : Type 0} (node : Node) (at now : LeafAt) (result : Result Turn E) → node ≡ Leaf at → IfOk result (λ turn. KeepsPass node (moved (Leaf now) turn))
-leaf_turn node at now result is =
-    subst (λ (n : Node). IfOk result (λ turn. KeepsPass n (moved (Leaf now) turn))) (sym is) (same_turn at.stage (Leaf at) (Leaf now) result refl)
+pub leaf_turn : (node : Node) (at now : LeafAt) (turn : Turn) → node ≡ Leaf at → KeepsPass node (moved (Leaf now) turn)
+leaf_turn node at now turn is =
+    subst (λ (n : Node). KeepsPass n (moved (Leaf now) turn)) (sym is) (same_pass at.stage (Leaf at) (Leaf now) turn refl)
 
 pub heads_turn : {E : Type 0} (node : Node) (at now : HeadsAt) (result : Result Turn E) → node ≡ Heads at → IfOk result (λ turn. KeepsPass node (moved (Heads now) turn))
 heads_turn node at now result is =

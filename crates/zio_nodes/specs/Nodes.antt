@@ -1,5 +1,5 @@
 -- A node of any kind: how far it is, whether it told its pointer, how often it runs at most, and what it gave back.
-use Rattle.std.specs.Prelude.{ℕ, List, [], Bool, true, false}
+use Rattle.std.specs.Prelude.{◌≡◌, ℕ, List, [], Bool, true, false}
 use Rattle.zio_types.specs.declared.place.Place.{Place}
 use Rattle.zio_types.specs.declared.place.Top.{Top}
 use Rattle.zio_gang.specs.Attempts.{Terms}
@@ -79,8 +79,13 @@ gave_of (Tree at) = []
 gave_of (Request at) = gave_by at.node.waiting.request.work at.node
 gave_of Empty = []
 
+-- it may run: no leaf has its operation
+abbrev pub IsNodeDue : Node → Type 0
+IsNodeDue (Leaf at) = at.is_out ≡ false
+IsNodeDue _ = Unit {0}
+
 abbrev pub nodes : Nodes Node
-nodes = record { Is = IsNode; told = told_of; left = left_of; gave = gave_of }
+nodes = record { Is = IsNode; told = told_of; left = left_of; gave = gave_of; due = IsNodeDue }
 
 -- ---- a node in its place
 
@@ -111,6 +116,7 @@ boxed_nodes = record {
   told = λ x. told_of x.node.value;
   left = λ x. left_of x.node.value;
   gave = λ x. gave_of x.node.value;
+  due = λ x. IsNodeDue x.node.value;
 }
 
 abbrev pub IsBoxOver : List Top → NodeBox → Type 0

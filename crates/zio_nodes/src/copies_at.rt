@@ -8,12 +8,12 @@ ghost use Rattle.zio_trace.specs.Tasks.{Task, Value};
 ghost use Rattle.zio_frames.specs.Frames.{Child, Stack, fresh_stack};
 ghost use Rattle.zio_frames.specs.Moves.{heard_of};
 ghost use Rattle.zio_stages.specs.CopiesNodes.{IsCopiesNode, IsCopiesOver};
-ghost use Rattle.zio_turns.specs.Stages.{EachIn, Hears, HearsSome, Lessens, TellsValid, heard_max};
+ghost use Rattle.zio_turns.specs.Stages.{EachIn, Hears, HearsSome, Lessens, MayGoOn, heard_max};
 ghost use Rattle.zio_nodes.specs.Bounds.{copies_left, copies_max};
 ghost use Rattle.zio_nodes.specs.CopiesAts.{IsCopiesAt, IsCopiesAtOver};
 ghost use Rattle.zio_nodes.specs.Passes.{IsInPassOf, KeepsPassAt};
 ghost use Rattle.zio_nodes.specs.StageMoves.{IsLastMove, IsStageMove};
-ghost use Rattle.zio_nodes.specs.Nodes.{IsNodeOver, IsTreeOver, MovesBare, StaysBare, left_of, nodes, moved};
+ghost use Rattle.zio_nodes.specs.Nodes.{IsNodeDue, IsNodeOver, IsTreeOver, MovesBare, StaysBare, left_of, moved, nodes};
 ghost use Rattle.zio_nodes.specs.Told.{is_told};
 
 use crate::leaf_at::LeafAt;
@@ -73,7 +73,7 @@ impl CopiesAt {
             (λ turn. MovesBare tops.now (Node.Copies self.old) (moved (Node.Copies self.new) turn)) }
         ensures over { IfOk result
             (λ turn. EachIn (IsNodeOver tops.now) (IsTreeOver tops.now) (moved (Node.Copies self.new) turn)) }
-        ensures valid { IfOk result (λ turn. TellsValid (moved (Node.Copies self.new) turn)) }
+        ensures may { IfOk result (λ turn. MayGoOn IsNodeDue (moved (Node.Copies self.new) turn)) }
         ensures left { IfOk result
             (λ turn. Lessens left_of (Node.Copies self.old) (moved (Node.Copies self.new) turn)) }
         ensures refused { OnErr result (StaysBare tops.now (Node.Copies self.old) (Node.Copies self.new)) }
@@ -100,7 +100,7 @@ impl CopiesAt {
             → MovesBare tops (Node.Copies self.old) (moved (Node.Copies self.new) result) }
         ensures over { (tops : Seq SeenTop) → IsCopiesAtOver tops self.old
             → EachIn (IsNodeOver tops) (IsTreeOver tops) (moved (Node.Copies self.new) result) }
-        ensures valid { TellsValid (moved (Node.Copies self.new) result) }
+        ensures may { MayGoOn IsNodeDue (moved (Node.Copies self.new) result) }
         ensures left { Lessens left_of (Node.Copies self.old) (moved (Node.Copies self.new) result) }
         ensures stages { IsStageMove (Node.Copies self.old) (moved (Node.Copies self.new) result) }
     {
@@ -115,7 +115,7 @@ impl CopiesAt {
             → MovesBare tops (Node.Copies self.old) (moved (Node.Copies self.new) result) }
         ensures over { (tops : Seq SeenTop) → IsCopiesAtOver tops self.old
             → EachIn (IsNodeOver tops) (IsTreeOver tops) (moved (Node.Copies self.new) result) }
-        ensures valid { TellsValid (moved (Node.Copies self.new) result) }
+        ensures may { MayGoOn IsNodeDue (moved (Node.Copies self.new) result) }
         ensures left { Lessens left_of (Node.Copies self.old) (moved (Node.Copies self.new) result) }
         ensures stages { IsStageMove (Node.Copies self.old) (moved (Node.Copies self.new) result) }
     {
@@ -130,7 +130,7 @@ impl CopiesAt {
             → MovesBare tops (Node.Copies self.old) (moved (Node.Copies self.new) result) }
         ensures over { (tops : Seq SeenTop) → IsCopiesAtOver tops self.old
             → EachIn (IsNodeOver tops) (IsTreeOver tops) (moved (Node.Copies self.new) result) }
-        ensures valid { TellsValid (moved (Node.Copies self.new) result) }
+        ensures may { MayGoOn IsNodeDue (moved (Node.Copies self.new) result) }
         ensures left { Lessens left_of (Node.Copies self.old) (moved (Node.Copies self.new) result) }
         ensures stages { IsStageMove (Node.Copies self.old) (moved (Node.Copies self.new) result) }
     {
@@ -148,7 +148,7 @@ impl CopiesAt {
             (λ turn. MovesBare tops.now (Node.Copies self.old) (moved (Node.Copies self.new) turn)) }
         ensures over { IfOk result
             (λ turn. EachIn (IsNodeOver tops.now) (IsTreeOver tops.now) (moved (Node.Copies self.new) turn)) }
-        ensures valid { IfOk result (λ turn. TellsValid (moved (Node.Copies self.new) turn)) }
+        ensures may { IfOk result (λ turn. MayGoOn IsNodeDue (moved (Node.Copies self.new) turn)) }
         ensures left { IfOk result
             (λ turn. Lessens left_of (Node.Copies self.old) (moved (Node.Copies self.new) turn)) }
         ensures refused { OnErr result (StaysBare tops.now (Node.Copies self.old) (Node.Copies self.new)) }
@@ -179,7 +179,7 @@ impl CopiesAt {
         requires stage { self.old.stage ≡ Stage.VdevIoDone }
         ensures moves { MovesBare tops.now (Node.Copies self.old) (moved (Node.Copies self.new) result) }
         ensures over { EachIn (IsNodeOver tops.now) (IsTreeOver tops.now) (moved (Node.Copies self.new) result) }
-        ensures valid { TellsValid (moved (Node.Copies self.new) result) }
+        ensures may { MayGoOn IsNodeDue (moved (Node.Copies self.new) result) }
         ensures left { Lessens left_of (Node.Copies self.old) (moved (Node.Copies self.new) result) }
         ensures stages { IsStageMove (Node.Copies self.old) (moved (Node.Copies self.new) result) }
         ensures pass { KeepsPassAt self.old.stage (Node.Copies self.old) (moved (Node.Copies self.new) result) }
@@ -205,7 +205,7 @@ impl CopiesAt {
         requires stage { self.old.stage ≡ Stage.VdevIoAssess }
         ensures moves { MovesBare tops.now (Node.Copies self.old) (moved (Node.Copies self.new) result) }
         ensures over { EachIn (IsNodeOver tops.now) (IsTreeOver tops.now) (moved (Node.Copies self.new) result) }
-        ensures valid { TellsValid (moved (Node.Copies self.new) result) }
+        ensures may { MayGoOn IsNodeDue (moved (Node.Copies self.new) result) }
         ensures left { Lessens left_of (Node.Copies self.old) (moved (Node.Copies self.new) result) }
         ensures stages { IsStageMove (Node.Copies self.old) (moved (Node.Copies self.new) result) }
     {
@@ -227,7 +227,7 @@ impl CopiesAt {
         requires stage { self.old.stage ≡ Stage.ChecksumVerify }
         ensures moves { MovesBare tops.now (Node.Copies self.old) (moved (Node.Copies self.new) result) }
         ensures over { EachIn (IsNodeOver tops.now) (IsTreeOver tops.now) (moved (Node.Copies self.new) result) }
-        ensures valid { TellsValid (moved (Node.Copies self.new) result) }
+        ensures may { MayGoOn IsNodeDue (moved (Node.Copies self.new) result) }
         ensures left { Lessens left_of (Node.Copies self.old) (moved (Node.Copies self.new) result) }
         ensures stages { IsStageMove (Node.Copies self.old) (moved (Node.Copies self.new) result) }
     {
@@ -242,7 +242,7 @@ impl CopiesAt {
         requires stage { self.stage ≡ Stage.Done }
         ensures moves { MovesBare tops.now (Node.Copies self) result }
         ensures over { EachIn (IsNodeOver tops.now) (IsTreeOver tops.now) result }
-        ensures valid { TellsValid result }
+        ensures may { MayGoOn IsNodeDue result }
         ensures last { IsLastMove result }
         ensures left { Lessens left_of (Node.Copies self) result }
     {

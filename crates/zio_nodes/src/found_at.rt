@@ -7,9 +7,9 @@ ghost use Rattle.zio_types.specs.declared.place.Top.{Top as SeenTop};
 ghost use Rattle.zio_children.specs.RequestKids.{is_ended};
 ghost use Rattle.zio_stages.specs.OwnParts.{IsNoWrite};
 ghost use Rattle.zio_stages.specs.RequestReads.{HasFound};
-ghost use Rattle.zio_turns.specs.Stages.{EachIn, Lessens, TellsValid, told_cost};
+ghost use Rattle.zio_turns.specs.Stages.{EachIn, Lessens, MayGoOn, told_cost};
 ghost use Rattle.zio_nodes.specs.StageMoves.{IsLastMove, IsNextOf, IsStageMove, takes_stage};
-ghost use Rattle.zio_nodes.specs.Nodes.{IsNodeOver, IsTreeOver, MovesBare, StaysBare, left_of, moved};
+ghost use Rattle.zio_nodes.specs.Nodes.{IsNodeDue, IsNodeOver, IsTreeOver, MovesBare, StaysBare, left_of, moved};
 ghost use Rattle.zio_nodes.specs.RequestAts.{IsRequestAtOver};
 ghost use Rattle.zio_nodes.specs.Told.{is_told};
 
@@ -33,7 +33,7 @@ impl RequestAt {
         ensures over { (tops : Seq SeenTop) → IsRequestAtOver tops self.old →
             IsRequestAtOver tops (record { node = self.old.node; stage = to; is_due = true }) →
             EachIn (IsNodeOver tops) (IsTreeOver tops) (moved (Node.Request self.new) result) }
-        ensures valid { TellsValid (moved (Node.Request self.new) result) }
+        ensures may { MayGoOn IsNodeDue (moved (Node.Request self.new) result) }
         ensures left { left_of (Node.Request (record { node = self.old.node; stage = to; is_due = true })) + told_cost
             ≤ left_of (Node.Request self.old) →
             Lessens left_of (Node.Request self.old) (moved (Node.Request self.new) result) }
@@ -56,7 +56,7 @@ impl RequestAt {
         ensures moves { (tops : Seq SeenTop) → IfOk result (MovesBare tops (Node.Request self)) }
         ensures over { (tops : Seq SeenTop) → IsRequestAtOver tops self
             → IfOk result (EachIn (IsNodeOver tops) (IsTreeOver tops)) }
-        ensures valid { IfOk result TellsValid }
+        ensures may { IfOk result (MayGoOn IsNodeDue) }
         ensures last { IfOk result IsLastMove }
         ensures left { told_cost ≤ left_of (Node.Request self) → IfOk result (Lessens left_of (Node.Request self)) }
         ensures refused { (tops : Seq SeenTop) → IfErr result (StaysBare tops (Node.Request self)) }

@@ -6,11 +6,11 @@
 ghost use Rattle.std.specs.Prelude.{◌≡◌, ◌≢◌, ◌⊎◌, IfErr, IfOk, List as Seq, OnErr};
 ghost use Rattle.zio_types.specs.declared.place.Top.{Top as SeenTop};
 ghost use Rattle.zio_script.specs.Requests.{kind_of};
-ghost use Rattle.zio_turns.specs.Stages.{EachIn, Lessens, TellsValid};
+ghost use Rattle.zio_turns.specs.Stages.{EachIn, Lessens, MayGoOn};
 ghost use Rattle.zio_stages.specs.RequestFrees.{HasKeptFailed, HasWalked, IsFreeWith, IsFreeing};
 ghost use Rattle.zio_nodes.specs.Passes.{KeepsPassAt};
 ghost use Rattle.zio_nodes.specs.StageMoves.{IsLastMove, IsNextOf, IsStageMove, takes_stage};
-ghost use Rattle.zio_nodes.specs.Nodes.{IsNodeOver, IsTreeOver, MovesBare, MovesWith, StaysBare, StaysWith, left_of, moved};
+ghost use Rattle.zio_nodes.specs.Nodes.{IsNodeDue, IsNodeOver, IsTreeOver, MovesBare, MovesWith, StaysBare, StaysWith, left_of, moved};
 ghost use Rattle.zio_nodes.specs.RequestAts.{IsRequestAtOver};
 
 use crate::heads_at::HeadsAt;
@@ -39,7 +39,7 @@ impl RequestAt {
             (Node.Request self.old) (moved (Node.Request self.new) turn)) }
         ensures over { IfOk result (λ turn. EachIn (IsNodeOver (S.tops services.old)) (IsTreeOver (S.tops services.old))
             (moved (Node.Request self.new) turn)) }
-        ensures valid { IfOk result (λ turn. TellsValid (moved (Node.Request self.new) turn)) }
+        ensures may { IfOk result (λ turn. MayGoOn IsNodeDue (moved (Node.Request self.new) turn)) }
         ensures left { IfOk result
             (λ turn. Lessens left_of (Node.Request self.old) (moved (Node.Request self.new) turn)) }
         ensures refused { OnErr result (StaysWith S.made (S.tops services.old) services.old services.new
@@ -71,7 +71,7 @@ impl RequestAt {
             → IfOk result (λ turn. MovesBare tops (Node.Request self.old) (moved (Node.Request self.new) turn)) }
         ensures over { (tops : Seq SeenTop) → IsRequestAtOver tops self.old
             → IfOk result (λ turn. EachIn (IsNodeOver tops) (IsTreeOver tops) (moved (Node.Request self.new) turn)) }
-        ensures valid { IfOk result (λ turn. TellsValid (moved (Node.Request self.new) turn)) }
+        ensures may { IfOk result (λ turn. MayGoOn IsNodeDue (moved (Node.Request self.new) turn)) }
         ensures left { IfOk result
             (λ turn. Lessens left_of (Node.Request self.old) (moved (Node.Request self.new) turn)) }
         ensures refused { (tops : Seq SeenTop)
@@ -99,7 +99,7 @@ impl RequestAt {
             → IfOk result (λ turn. MovesBare tops (Node.Request self.old) (moved (Node.Request self.new) turn)) }
         ensures over { (tops : Seq SeenTop) → IsRequestAtOver tops self.old
             → IfOk result (λ turn. EachIn (IsNodeOver tops) (IsTreeOver tops) (moved (Node.Request self.new) turn)) }
-        ensures valid { IfOk result (λ turn. TellsValid (moved (Node.Request self.new) turn)) }
+        ensures may { IfOk result (λ turn. MayGoOn IsNodeDue (moved (Node.Request self.new) turn)) }
         ensures left { IfOk result
             (λ turn. Lessens left_of (Node.Request self.old) (moved (Node.Request self.new) turn)) }
         ensures refused { (tops : Seq SeenTop)
@@ -125,7 +125,7 @@ impl RequestAt {
             → MovesBare tops (Node.Request self.old) (moved (Node.Request self.new) result) }
         ensures over { (tops : Seq SeenTop) → IsRequestAtOver tops self.old
             → EachIn (IsNodeOver tops) (IsTreeOver tops) (moved (Node.Request self.new) result) }
-        ensures valid { TellsValid (moved (Node.Request self.new) result) }
+        ensures may { MayGoOn IsNodeDue (moved (Node.Request self.new) result) }
         ensures left { Lessens left_of (Node.Request self.old) (moved (Node.Request self.new) result) }
         ensures stages { IsStageMove (Node.Request self.old) (moved (Node.Request self.new) result) }
     {
@@ -143,7 +143,7 @@ impl RequestAt {
             → IfOk result (λ turn. MovesBare tops (Node.Request self.old) (moved (Node.Request self.new) turn)) }
         ensures over { (tops : Seq SeenTop) → IsRequestAtOver tops self.old
             → IfOk result (λ turn. EachIn (IsNodeOver tops) (IsTreeOver tops) (moved (Node.Request self.new) turn)) }
-        ensures valid { IfOk result (λ turn. TellsValid (moved (Node.Request self.new) turn)) }
+        ensures may { IfOk result (λ turn. MayGoOn IsNodeDue (moved (Node.Request self.new) turn)) }
         ensures left { IfOk result
             (λ turn. Lessens left_of (Node.Request self.old) (moved (Node.Request self.new) turn)) }
         ensures refused { (tops : Seq SeenTop)
@@ -179,7 +179,7 @@ impl RequestAt {
             (Node.Request self.old) (moved (Node.Request self.new) turn)) }
         ensures over { IfOk result (λ turn. EachIn (IsNodeOver (S.tops services.old)) (IsTreeOver (S.tops services.old))
             (moved (Node.Request self.new) turn)) }
-        ensures valid { IfOk result (λ turn. TellsValid (moved (Node.Request self.new) turn)) }
+        ensures may { IfOk result (λ turn. MayGoOn IsNodeDue (moved (Node.Request self.new) turn)) }
         ensures left { IfOk result
             (λ turn. Lessens left_of (Node.Request self.old) (moved (Node.Request self.new) turn)) }
         ensures refused { OnErr result (StaysWith S.made (S.tops services.old) services.old services.new
@@ -203,7 +203,7 @@ impl RequestAt {
             (Node.Request self.old) (moved (Node.Request self.new) turn)) }
         ensures over { IfOk result (λ turn. EachIn (IsNodeOver (S.tops services.old)) (IsTreeOver (S.tops services.old))
             (moved (Node.Request self.new) turn)) }
-        ensures valid { IfOk result (λ turn. TellsValid (moved (Node.Request self.new) turn)) }
+        ensures may { IfOk result (λ turn. MayGoOn IsNodeDue (moved (Node.Request self.new) turn)) }
         ensures left { IfOk result
             (λ turn. Lessens left_of (Node.Request self.old) (moved (Node.Request self.new) turn)) }
         ensures refused { OnErr result (StaysWith S.made (S.tops services.old) services.old services.new
@@ -235,7 +235,7 @@ impl RequestAt {
             (Node.Request self.old) (moved (Node.Request self.new) turn)) }
         ensures over { IfOk result (λ turn. EachIn (IsNodeOver (S.tops services.old)) (IsTreeOver (S.tops services.old))
             (moved (Node.Request self.new) turn)) }
-        ensures valid { IfOk result (λ turn. TellsValid (moved (Node.Request self.new) turn)) }
+        ensures may { IfOk result (λ turn. MayGoOn IsNodeDue (moved (Node.Request self.new) turn)) }
         ensures left { IfOk result
             (λ turn. Lessens left_of (Node.Request self.old) (moved (Node.Request self.new) turn)) }
         ensures refused { OnErr result (StaysWith S.made (S.tops services.old) services.old services.new
@@ -262,7 +262,7 @@ impl RequestAt {
             → MovesBare tops (Node.Request self.old) (moved (Node.Request self.new) result) }
         ensures over { (tops : Seq SeenTop) → IsRequestAtOver tops self.old
             → EachIn (IsNodeOver tops) (IsTreeOver tops) (moved (Node.Request self.new) result) }
-        ensures valid { TellsValid (moved (Node.Request self.new) result) }
+        ensures may { MayGoOn IsNodeDue (moved (Node.Request self.new) result) }
         ensures left { Lessens left_of (Node.Request self.old) (moved (Node.Request self.new) result) }
         ensures stages { IsStageMove (Node.Request self.old) (moved (Node.Request self.new) result) }
     {
@@ -279,7 +279,7 @@ impl RequestAt {
         ensures moves { (tops : Seq SeenTop) → IfOk result (MovesBare tops (Node.Request self)) }
         ensures over { (tops : Seq SeenTop) → IsRequestAtOver tops self
             → IfOk result (EachIn (IsNodeOver tops) (IsTreeOver tops)) }
-        ensures valid { IfOk result TellsValid }
+        ensures may { IfOk result (MayGoOn IsNodeDue) }
         ensures last { IfOk result IsLastMove }
         ensures left { IfOk result (Lessens left_of (Node.Request self)) }
         ensures refused { (tops : Seq SeenTop) → IfErr result (StaysBare tops (Node.Request self)) }

@@ -8,12 +8,12 @@ ghost use Rattle.zio_trace.specs.Tasks.{Task, Value};
 ghost use Rattle.zio_frames.specs.Frames.{Child, Stack};
 ghost use Rattle.zio_frames.specs.Moves.{heard_early, heard_of};
 ghost use Rattle.zio_stages.specs.HeadsNodes.{IsHeadsNode, IsHeadsOver};
-ghost use Rattle.zio_turns.specs.Stages.{EachIn, Hears, HearsEarly, HearsSome, HearsSomeEarly, Lessens, TellsValid};
+ghost use Rattle.zio_turns.specs.Stages.{EachIn, Hears, HearsEarly, HearsSome, HearsSomeEarly, Lessens, MayGoOn};
 ghost use Rattle.zio_nodes.specs.Bounds.{heads_left, walk_max};
 ghost use Rattle.zio_nodes.specs.HeadsAts.{IsHeadsAtOver};
 ghost use Rattle.zio_nodes.specs.Stalls.{LeavesGang};
 ghost use Rattle.zio_nodes.specs.StageMoves.{IsLastMove, IsStageMove};
-ghost use Rattle.zio_nodes.specs.Nodes.{IsNodeOver, IsTreeOver, MovesBare, StaysBare, left_of, nodes, moved};
+ghost use Rattle.zio_nodes.specs.Nodes.{IsNodeDue, IsNodeOver, IsTreeOver, MovesBare, StaysBare, left_of, moved, nodes};
 ghost use Rattle.zio_nodes.specs.Told.{is_told};
 
 use crate::copies_at::CopiesAt;
@@ -73,7 +73,7 @@ impl HeadsAt {
             (λ turn. MovesBare tops.now (Node.Heads self.old) (moved (Node.Heads self.new) turn)) }
         ensures over { IfOk result
             (λ turn. EachIn (IsNodeOver tops.now) (IsTreeOver tops.now) (moved (Node.Heads self.new) turn)) }
-        ensures valid { IfOk result (λ turn. TellsValid (moved (Node.Heads self.new) turn)) }
+        ensures may { IfOk result (λ turn. MayGoOn IsNodeDue (moved (Node.Heads self.new) turn)) }
         ensures left { IfOk result (λ turn. Lessens left_of (Node.Heads self.old) (moved (Node.Heads self.new) turn)) }
         ensures refused { OnErr result (StaysBare tops.now (Node.Heads self.old) (Node.Heads self.new)) }
         ensures stages { IfOk result (λ turn. IsStageMove (Node.Heads self.old) (moved (Node.Heads self.new) turn)) }
@@ -96,7 +96,7 @@ impl HeadsAt {
             → MovesBare tops (Node.Heads self.old) (moved (Node.Heads self.new) result) }
         ensures over { (tops : Seq SeenTop) → IsHeadsAtOver tops self.old
             → EachIn (IsNodeOver tops) (IsTreeOver tops) (moved (Node.Heads self.new) result) }
-        ensures valid { TellsValid (moved (Node.Heads self.new) result) }
+        ensures may { MayGoOn IsNodeDue (moved (Node.Heads self.new) result) }
         ensures left { Lessens left_of (Node.Heads self.old) (moved (Node.Heads self.new) result) }
         ensures stages { IsStageMove (Node.Heads self.old) (moved (Node.Heads self.new) result) }
     {
@@ -113,7 +113,7 @@ impl HeadsAt {
             (λ turn. MovesBare tops.now (Node.Heads self.old) (moved (Node.Heads self.new) turn)) }
         ensures over { IfOk result
             (λ turn. EachIn (IsNodeOver tops.now) (IsTreeOver tops.now) (moved (Node.Heads self.new) turn)) }
-        ensures valid { IfOk result (λ turn. TellsValid (moved (Node.Heads self.new) turn)) }
+        ensures may { IfOk result (λ turn. MayGoOn IsNodeDue (moved (Node.Heads self.new) turn)) }
         ensures left { IfOk result (λ turn. Lessens left_of (Node.Heads self.old) (moved (Node.Heads self.new) turn)) }
         ensures refused { OnErr result (StaysBare tops.now (Node.Heads self.old) (Node.Heads self.new)) }
         ensures stages { IfOk result (λ turn. IsStageMove (Node.Heads self.old) (moved (Node.Heads self.new) turn)) }
@@ -150,7 +150,7 @@ impl HeadsAt {
             → MovesBare tops (Node.Heads self.old) (moved (Node.Heads self.new) result) }
         ensures over { (tops : Seq SeenTop) → IsHeadsAtOver tops self.old
             → EachIn (IsNodeOver tops) (IsTreeOver tops) (moved (Node.Heads self.new) result) }
-        ensures valid { TellsValid (moved (Node.Heads self.new) result) }
+        ensures may { MayGoOn IsNodeDue (moved (Node.Heads self.new) result) }
         ensures left { Lessens left_of (Node.Heads self.old) (moved (Node.Heads self.new) result) }
         ensures stages { IsStageMove (Node.Heads self.old) (moved (Node.Heads self.new) result) }
     {
@@ -165,7 +165,7 @@ impl HeadsAt {
             → MovesBare tops (Node.Heads self.old) (moved (Node.Heads self.new) result) }
         ensures over { (tops : Seq SeenTop) → IsHeadsAtOver tops self.old
             → EachIn (IsNodeOver tops) (IsTreeOver tops) (moved (Node.Heads self.new) result) }
-        ensures valid { TellsValid (moved (Node.Heads self.new) result) }
+        ensures may { MayGoOn IsNodeDue (moved (Node.Heads self.new) result) }
         ensures left { Lessens left_of (Node.Heads self.old) (moved (Node.Heads self.new) result) }
         ensures stages { IsStageMove (Node.Heads self.old) (moved (Node.Heads self.new) result) }
     {
@@ -180,7 +180,7 @@ impl HeadsAt {
         requires stage { self.stage ≡ Stage.Done }
         ensures moves { IfOk result (MovesBare tops.now (Node.Heads self)) }
         ensures over { IfOk result (EachIn (IsNodeOver tops.now) (IsTreeOver tops.now)) }
-        ensures valid { IfOk result TellsValid }
+        ensures may { IfOk result (MayGoOn IsNodeDue) }
         ensures last { IfOk result IsLastMove }
         ensures left { IfOk result (Lessens left_of (Node.Heads self)) }
         ensures refused { IfErr result (StaysBare tops.now (Node.Heads self)) }

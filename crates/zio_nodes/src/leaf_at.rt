@@ -1,6 +1,6 @@
 //! An operation on a leaf, from stage to stage: it is handed to its leaf, and ends with what that answers.
 
-ghost use Rattle.std.specs.Prelude.{◌≡◌, ◌≢◌, ◌≤◌, IfOk, List as Seq, false, OnErr};
+ghost use Rattle.std.specs.Prelude.{◌≡◌, ◌≢◌, ◌≤◌, List as Seq, false};
 ghost use Rattle.zio_types.specs.declared.place.Top.{Top as SeenTop};
 ghost use Rattle.zio_gang.specs.Attempts.{Terms};
 ghost use Rattle.zio_trace.specs.Leaves.{Answer, LeafOp};
@@ -8,11 +8,11 @@ ghost use Rattle.zio_trace.specs.Tasks.{Got, Leaf};
 ghost use Rattle.zio_frames.specs.Frames.{fresh_frame, fresh_stack};
 ghost use Rattle.zio_frames.specs.Moves.{done_at_once};
 ghost use Rattle.zio_stages.specs.LeafWorks.{IsDue, IsLeafWork};
-ghost use Rattle.zio_turns.specs.Stages.{EachIn, Lessens, ShowsAnswer, TellsValid};
+ghost use Rattle.zio_turns.specs.Stages.{EachIn, Lessens, MayGoOn, ShowsAnswer};
 ghost use Rattle.zio_nodes.specs.Bounds.{leaf_left, leaf_max};
 ghost use Rattle.zio_nodes.specs.LeafAts.{IsLeafAt, LeafStands};
 ghost use Rattle.zio_nodes.specs.StageMoves.{IsLastMove, IsStageMove};
-ghost use Rattle.zio_nodes.specs.Nodes.{IsNodeOver, IsTreeOver, MovesBare, StaysBare, left_of, moved};
+ghost use Rattle.zio_nodes.specs.Nodes.{IsNodeDue, IsNodeOver, IsTreeOver, MovesBare, left_of, moved};
 ghost use Rattle.zio_nodes.specs.Told.{is_told};
 
 use crate::node::Node;
@@ -20,7 +20,7 @@ use crate::turn::Turn;
 use zio_masks::{Stage, VDEV_CHILD, next};
 use zio_stages::{LeafWork, Outcome, Seal};
 use zio_turns::Move;
-use zio_types::{Bytes, Errno, List, NoMemory};
+use zio_types::{Bytes, Errno, List};
 
 /// An operation on a leaf at a stage of its pipeline.
 #[derive(Drop)]
@@ -38,6 +38,7 @@ impl LeafAt {
         ensures fresh { (t : Terms) (act : LeafOp) → IsLeafWork t work (fresh_frame (Leaf act)) →
             IsLeafAt t result (fresh_stack (Leaf act)) }
         ensures stands { LeafStands result.stage result.is_out result.work }
+        ensures due { result.is_out ≡ false }
         ensures left { leaf_left result.stage result.is_out ≡ leaf_max }
     {
         LeafAt {
@@ -54,58 +55,52 @@ impl LeafAt {
         self.stage
     }
 
-    /// Runs one stage before its last. While its leaf has it nothing can be done, and it comes back.
-    pub fn run_stage(&mut self) -> Result<Turn, NoMemory>
+    /// Runs one stage before its last, while no leaf has it.
+    pub fn run_stage(&mut self) -> Turn
         requires stands { LeafStands self.old.stage self.old.is_out self.old.work }
+        requires due { self.old.is_out ≡ false }
         requires before { self.old.stage ≢ Stage.Done }
-        ensures moves { (tops : Seq SeenTop)
-            → IfOk result (λ turn. MovesBare tops (Node.Leaf self.old) (moved (Node.Leaf self.new) turn)) }
+        ensures moves { (tops : Seq SeenTop) → MovesBare tops (Node.Leaf self.old) (moved (Node.Leaf self.new) result) }
         ensures over { (tops : Seq SeenTop)
-            → IfOk result (λ turn. EachIn (IsNodeOver tops) (IsTreeOver tops) (moved (Node.Leaf self.new) turn)) }
-        ensures valid { IfOk result (λ turn. TellsValid (moved (Node.Leaf self.new) turn)) }
-        ensures left { IfOk result (λ turn. Lessens left_of (Node.Leaf self.old) (moved (Node.Leaf self.new) turn)) }
-        ensures refused { (tops : Seq SeenTop)
-            → OnErr result (StaysBare tops (Node.Leaf self.old) (Node.Leaf self.new)) }
-        ensures stages { IfOk result (λ turn. IsStageMove (Node.Leaf self.old) (moved (Node.Leaf self.new) turn)) }
+            → EachIn (IsNodeOver tops) (IsTreeOver tops) (moved (Node.Leaf self.new) result) }
+        ensures may { MayGoOn IsNodeDue (moved (Node.Leaf self.new) result) }
+        ensures left { Lessens left_of (Node.Leaf self.old) (moved (Node.Leaf self.new) result) }
+        ensures stages { IsStageMove (Node.Leaf self.old) (moved (Node.Leaf self.new) result) }
     {
         match self.stage {
             Stage::VdevIoStart => self.vdev_io_start(),
-            Stage::VdevIoDone => Ok(self.vdev_io_done()),
-            Stage::VdevIoAssess => Ok(self.vdev_io_assess()),
+            Stage::VdevIoDone => self.vdev_io_done(),
+            Stage::VdevIoAssess => self.vdev_io_assess(),
             _ => unreachable!(),
         }
     }
 
-    /// Hands the operation to its leaf, once.
-    fn vdev_io_start(&mut self) -> Result<Turn, NoMemory>
+    /// Hands the operation to its leaf.
+    fn vdev_io_start(&mut self) -> Turn
         requires stands { LeafStands self.old.stage self.old.is_out self.old.work }
+        requires due { self.old.is_out ≡ false }
         requires stage { self.old.stage ≡ Stage.VdevIoStart }
-        ensures moves { (tops : Seq SeenTop)
-            → IfOk result (λ turn. MovesBare tops (Node.Leaf self.old) (moved (Node.Leaf self.new) turn)) }
+        ensures moves { (tops : Seq SeenTop) → MovesBare tops (Node.Leaf self.old) (moved (Node.Leaf self.new) result) }
         ensures over { (tops : Seq SeenTop)
-            → IfOk result (λ turn. EachIn (IsNodeOver tops) (IsTreeOver tops) (moved (Node.Leaf self.new) turn)) }
-        ensures valid { IfOk result (λ turn. TellsValid (moved (Node.Leaf self.new) turn)) }
-        ensures left { IfOk result (λ turn. Lessens left_of (Node.Leaf self.old) (moved (Node.Leaf self.new) turn)) }
-        ensures refused { (tops : Seq SeenTop)
-            → OnErr result (StaysBare tops (Node.Leaf self.old) (Node.Leaf self.new)) }
-        ensures stages { IfOk result (λ turn. IsStageMove (Node.Leaf self.old) (moved (Node.Leaf self.new) turn)) }
+            → EachIn (IsNodeOver tops) (IsTreeOver tops) (moved (Node.Leaf self.new) result) }
+        ensures may { MayGoOn IsNodeDue (moved (Node.Leaf self.new) result) }
+        ensures left { Lessens left_of (Node.Leaf self.old) (moved (Node.Leaf self.new) result) }
+        ensures stages { IsStageMove (Node.Leaf self.old) (moved (Node.Leaf self.new) result) }
     {
-        if self.is_out {
-            return Err(NoMemory);
-        }
         let (op, leaf, bytes) = self.work.hand_out();
         self.is_out = true;
-        Ok(Turn::Leaf(op, leaf, bytes))
+        Turn::Leaf(op, leaf, bytes)
     }
 
     /// Its leaf answered, so it goes on.
     fn vdev_io_done(&mut self) -> Turn
         requires stands { LeafStands self.old.stage self.old.is_out self.old.work }
+        requires due { self.old.is_out ≡ false }
         requires stage { self.old.stage ≡ Stage.VdevIoDone }
         ensures moves { (tops : Seq SeenTop) → MovesBare tops (Node.Leaf self.old) (moved (Node.Leaf self.new) result) }
         ensures over { (tops : Seq SeenTop)
             → EachIn (IsNodeOver tops) (IsTreeOver tops) (moved (Node.Leaf self.new) result) }
-        ensures valid { TellsValid (moved (Node.Leaf self.new) result) }
+        ensures may { MayGoOn IsNodeDue (moved (Node.Leaf self.new) result) }
         ensures left { Lessens left_of (Node.Leaf self.old) (moved (Node.Leaf self.new) result) }
         ensures stages { IsStageMove (Node.Leaf self.old) (moved (Node.Leaf self.new) result) }
     {
@@ -116,11 +111,12 @@ impl LeafAt {
     /// Whoever asked for the operation decides what its error means, so it goes on with it.
     fn vdev_io_assess(&mut self) -> Turn
         requires stands { LeafStands self.old.stage self.old.is_out self.old.work }
+        requires due { self.old.is_out ≡ false }
         requires stage { self.old.stage ≡ Stage.VdevIoAssess }
         ensures moves { (tops : Seq SeenTop) → MovesBare tops (Node.Leaf self.old) (moved (Node.Leaf self.new) result) }
         ensures over { (tops : Seq SeenTop)
             → EachIn (IsNodeOver tops) (IsTreeOver tops) (moved (Node.Leaf self.new) result) }
-        ensures valid { TellsValid (moved (Node.Leaf self.new) result) }
+        ensures may { MayGoOn IsNodeDue (moved (Node.Leaf self.new) result) }
         ensures left { Lessens left_of (Node.Leaf self.old) (moved (Node.Leaf self.new) result) }
         ensures stages { IsStageMove (Node.Leaf self.old) (moved (Node.Leaf self.new) result) }
     {
@@ -134,7 +130,7 @@ impl LeafAt {
         requires stage { self.stage ≡ Stage.Done }
         ensures moves { (tops : Seq SeenTop) → MovesBare tops (Node.Leaf self) result }
         ensures over { (tops : Seq SeenTop) → EachIn (IsNodeOver tops) (IsTreeOver tops) result }
-        ensures valid { TellsValid result }
+        ensures may { MayGoOn IsNodeDue result }
         ensures last { IsLastMove result }
         ensures left { Lessens left_of (Node.Leaf self) result }
     {
@@ -151,6 +147,7 @@ impl LeafAt {
             IsLeafAt t self.new (done_at_once (fresh_stack (Leaf act)) (Leaf act) (Got a)) }
         ensures told { is_told self.new.stage ≡ is_told self.old.stage }
         ensures stands { LeafStands self.new.stage self.new.is_out self.new.work }
+        ensures due { self.new.is_out ≡ false }
         ensures left { leaf_left self.new.stage self.new.is_out ≤ leaf_left self.old.stage self.old.is_out }
     {
         if !self.is_out {

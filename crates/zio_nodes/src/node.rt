@@ -20,15 +20,16 @@ ghost use Rattle.zio_turns.specs.Stages.{
   HearsSome,
   HearsSomeEarly,
   Lessens,
+  MayGoOn,
   OutcomeIn,
   ShowsAnswer,
-  TellsValid,
   heard_max,
 };
 ghost use Rattle.zio_nodes.specs.NodeNames.{kind_at, label_at, request_of, unfinished_at};
 ghost use Rattle.zio_nodes.specs.Nodes.{
   IsInPlace,
   IsNode,
+  IsNodeDue,
   IsNodeOver,
   IsTreeOver,
   MovesBare,
@@ -92,6 +93,7 @@ impl Node {
             IsTreeOf whole p forest → IsNode t result (fresh_stack (Attempt attempt p forest)) }
         ensures told { told_of result ≡ false }
         ensures gave { gave_of result ≡ [] }
+        ensures due { IsNodeDue result }
         ensures over { (tops : Seq SeenTop) → IsTreeOver tops whole → IsNodeOver tops result }
     {
         Node::Tree(TreeAt::new(whole, round, attempt, failmode))
@@ -193,19 +195,20 @@ impl Node {
         }
     }
 
-    /// Runs one stage. Where memory is refused the stage is to be repeated, and what it did of it stays. An operation
-    /// that its leaf has stays as it is.
+    /// Runs one stage of a node that isn't with its leaf. Where memory is refused the stage is to be repeated, and what
+    /// it did of it stays.
     pub fn run_stage<S: Services>(
         &mut self,
         alloc: Global,
         services: &mut S,
     ) -> Result<Turn, NoMemory>
-        requires { IsNodeOver (S.tops services.old) self.old }
+        requires over { IsNodeOver (S.tops services.old) self.old }
+        requires due { IsNodeDue self.old }
         ensures moves { IfOk result (λ turn. MovesWith S.made (S.tops services.old) services.old services.new self.old
             (moved self.new turn)) }
         ensures over { IfOk result (λ turn. EachIn (IsNodeOver (S.tops services.old)) (IsTreeOver (S.tops services.old))
             (moved self.new turn)) }
-        ensures valid { IfOk result (λ turn. TellsValid (moved self.new turn)) }
+        ensures may { IfOk result (λ turn. MayGoOn IsNodeDue (moved self.new turn)) }
         ensures left { IfOk result (λ turn. Lessens left_of self.old (moved self.new turn)) }
         ensures stages { IfOk result (λ turn. IsStageMove self.old (moved self.new turn)) }
         ensures pass { IfOk result (λ turn. KeepsPass self.old (moved self.new turn)) }
@@ -240,12 +243,13 @@ impl Node {
 
     /// Runs one stage for which it needn't wait.
     fn step<S: Services>(&mut self, alloc: Global, services: &mut S) -> Result<Turn, NoMemory>
-        requires { IsNodeOver (S.tops services.old) self.old }
+        requires over { IsNodeOver (S.tops services.old) self.old }
+        requires due { IsNodeDue self.old }
         ensures moves { IfOk result (λ turn. MovesWith S.made (S.tops services.old) services.old services.new self.old
             (moved self.new turn)) }
         ensures over { IfOk result (λ turn. EachIn (IsNodeOver (S.tops services.old)) (IsTreeOver (S.tops services.old))
             (moved self.new turn)) }
-        ensures valid { IfOk result (λ turn. TellsValid (moved self.new turn)) }
+        ensures may { IfOk result (λ turn. MayGoOn IsNodeDue (moved self.new turn)) }
         ensures left { IfOk result (λ turn. Lessens left_of self.old (moved self.new turn)) }
         ensures stages { IfOk result (λ turn. IsStageMove self.old (moved self.new turn)) }
         ensures pass { IfOk result (λ turn. KeepsPass self.old (moved self.new turn)) }
@@ -262,7 +266,7 @@ impl Node {
             return self.run_last(alloc, services);
         }
         match self {
-            Node::Leaf(at) => at.run_stage(),
+            Node::Leaf(at) => Ok(at.run_stage()),
             Node::Copies(at) => at.run_stage(alloc, services.tops()),
             Node::Heads(at) => at.run_stage(alloc, services.tops()),
             Node::Part(at) => at.run_stage(alloc, services),
@@ -293,7 +297,7 @@ impl Node {
         ensures moves { (tops : Seq SeenTop) → IfOk result (λ turn. MovesBare tops self.old (moved self.new turn)) }
         ensures over { (tops : Seq SeenTop) → IsNodeOver tops self.old →
             IfOk result (λ turn. EachIn (IsNodeOver tops) (IsTreeOver tops) (moved self.new turn)) }
-        ensures valid { IfOk result (λ turn. TellsValid (moved self.new turn)) }
+        ensures may { IfOk result (λ turn. MayGoOn IsNodeDue (moved self.new turn)) }
         ensures left { IfOk result (λ turn. Lessens left_of self.old (moved self.new turn)) }
         ensures stages { IfOk result (λ turn. IsStageMove self.old (moved self.new turn)) }
         ensures refused { (tops : Seq SeenTop) → OnErr result (StaysBare tops self.old self.new) }
@@ -321,7 +325,7 @@ impl Node {
             (moved self.new turn)) }
         ensures over { IfOk result (λ turn. EachIn (IsNodeOver (S.tops services.old)) (IsTreeOver (S.tops services.old))
             (moved self.new turn)) }
-        ensures valid { IfOk result (λ turn. TellsValid (moved self.new turn)) }
+        ensures may { IfOk result (λ turn. MayGoOn IsNodeDue (moved self.new turn)) }
         ensures left { IfOk result (λ turn. Lessens left_of self.old (moved self.new turn)) }
         ensures stages { IfOk result (λ turn. IsStageMove self.old (moved self.new turn)) }
         ensures refused { OnErr result
@@ -342,7 +346,7 @@ impl Node {
         requires at_last { stage_of self ≡ Stage.Done }
         ensures moves { IfOk result (MovesWith S.made (S.tops services.old) services.old services.new self) }
         ensures over { IfOk result (EachIn (IsNodeOver (S.tops services.old)) (IsTreeOver (S.tops services.old))) }
-        ensures valid { IfOk result TellsValid }
+        ensures may { IfOk result (MayGoOn IsNodeDue) }
         ensures last { IfOk result IsLastMove }
         ensures left { IfOk result (Lessens left_of self) }
         ensures refused { IfErr result (StaysWith S.made (S.tops services.old) services.old services.new self) }
@@ -401,6 +405,7 @@ impl Node {
         ensures told { told_of self.new ≡ told_of self.old }
         ensures gave { gave_of self.new ≡ gave_of self.old }
         ensures pass { IsInPassOf self.old self.new }
+        ensures due { IsNodeDue self.old → IsNodeDue self.new }
         ensures over { (tops : Seq SeenTop) → IsNodeOver tops self.old → IsNodeOver tops self.new }
         ensures left { left_of self.new ≤ left_of self.old + heard_max }
     {
@@ -431,6 +436,7 @@ impl Node {
         ensures told { OnOk result (told_of self.new ≡ told_of self.old) }
         ensures gave { OnOk result (gave_of self.new ≡ gave_of self.old) }
         ensures pass { OnOk result (IsInPassOf self.old self.new) }
+        ensures due { OnOk result (IsNodeDue self.old → IsNodeDue self.new) }
         ensures over_still { OnOk result (IsNodeOver tops.now self.new) }
         ensures left { OnOk result (left_of self.new ≤ left_of self.old + heard_max) }
         ensures same { OnErr result (self.new ≡ self.old) }
@@ -463,6 +469,7 @@ impl Node {
         ensures told { told_of self.new ≡ told_of self.old }
         ensures gave { gave_of self.new ≡ gave_of self.old }
         ensures pass { IsInPassOf self.old self.new }
+        ensures due { IsNodeDue self.new }
         ensures over { (tops : Seq SeenTop) → IsNodeOver tops self.old → IsNodeOver tops self.new }
         ensures left { left_of self.new ≤ left_of self.old }
     {

@@ -20,7 +20,7 @@ pub struct NodeBox {
 }
 
 impl zio_turns::NodeFacts for NodeBox {
-    ghost use Rattle.zio_nodes.specs.Nodes.{boxed_nodes};
+    ghost use Rattle.zio_nodes.specs.Nodes.{IsNodeDue, boxed_nodes};
 
     ghost nodes = { boxed_nodes };
 }
@@ -40,8 +40,8 @@ impl Staged for NodeBox {
       IsMove,
       IsNow,
       Lessens,
+      MayGoOn,
       OutcomeIn,
-      TellsValid,
       heard_max,
     };
     ghost use Rattle.zio_nodes.specs.BoxMoves.{IsBoxMove};
@@ -74,13 +74,14 @@ impl Staged for NodeBox {
         alloc: Global,
         services: &mut S,
     ) -> Result<Move<NodeBox, Seal>, NodeBox>
-        requires { IsBoxOver (S.tops services.old) self }
+        requires over { IsBoxOver (S.tops services.old) self }
+        requires due { boxed_nodes.due self }
         ensures moves { (move : Move NodeBox Seal) → result ≡ Ok move → (calls : Seq SpaceCall)
             × S.made services.old calls services.new
             × ((t : Terms) (st : Stack) → IsNow boxed_nodes (S.tops services.old) t self st
             → IsMove boxed_nodes boxed_nodes.gave t self st calls move) }
         ensures over { IfOk result (EachIn (IsBoxOver (S.tops services.old)) (IsTreeOver (S.tops services.old))) }
-        ensures valid { IfOk result TellsValid }
+        ensures may { IfOk result (MayGoOn boxed_nodes.due) }
         ensures left { IfOk result (Lessens boxed_nodes.left self) }
         ensures stages { IfOk result (IsBoxMove self) }
         ensures refused { (node : NodeBox) → result ≡ Err node → (calls : Seq SpaceCall)
@@ -125,6 +126,7 @@ impl Staged for NodeBox {
         ensures kept { IfOk result (λ both. (f : _) → outcome ≡ SeenOutcome.Finished f → both.1 ≡ Some f) }
         ensures told { IfOk result (λ both. boxed_nodes.told both.0 ≡ boxed_nodes.told self) }
         ensures gave { IfOk result (λ both. boxed_nodes.gave both.0 ≡ boxed_nodes.gave self) }
+        ensures due { IfOk result (λ both. boxed_nodes.due self → boxed_nodes.due both.0) }
         ensures over_still { IfOk result (λ both. IsBoxOver tops.now both.0) }
         ensures left { IfOk result (λ both. boxed_nodes.left both.0 ≤ boxed_nodes.left self + heard_max) }
     {

@@ -3,9 +3,9 @@
 ghost use Rattle.std.specs.Prelude.{◌≡◌, IfErr, IfOk, List as Seq, OnErr};
 ghost use Rattle.zio_types.specs.declared.place.Top.{Top as SeenTop};
 ghost use Rattle.zio_script.specs.Requests.{kind_of};
-ghost use Rattle.zio_turns.specs.Stages.{EachIn, Lessens, TellsValid};
+ghost use Rattle.zio_turns.specs.Stages.{EachIn, Lessens, MayGoOn};
 ghost use Rattle.zio_nodes.specs.StageMoves.{IsLastMove, IsStageMove};
-ghost use Rattle.zio_nodes.specs.Nodes.{IsNodeOver, IsTreeOver, MovesBare, StaysBare, left_of, moved};
+ghost use Rattle.zio_nodes.specs.Nodes.{IsNodeDue, IsNodeOver, IsTreeOver, MovesBare, StaysBare, left_of, moved};
 ghost use Rattle.zio_nodes.specs.RequestAts.{IsRequestAtOver};
 
 use crate::node::Node;
@@ -27,7 +27,7 @@ impl RequestAt {
             → MovesBare tops (Node.Request self.old) (moved (Node.Request self.new) result) }
         ensures over { (tops : Seq SeenTop) → IsRequestAtOver tops self.old
             → EachIn (IsNodeOver tops) (IsTreeOver tops) (moved (Node.Request self.new) result) }
-        ensures valid { TellsValid (moved (Node.Request self.new) result) }
+        ensures may { MayGoOn IsNodeDue (moved (Node.Request self.new) result) }
         ensures left { Lessens left_of (Node.Request self.old) (moved (Node.Request self.new) result) }
         ensures stages { IsStageMove (Node.Request self.old) (moved (Node.Request self.new) result) }
     {
@@ -45,7 +45,7 @@ impl RequestAt {
         ensures moves { (tops : Seq SeenTop) → IfOk result (MovesBare tops (Node.Request self)) }
         ensures over { (tops : Seq SeenTop) → IsRequestAtOver tops self
             → IfOk result (EachIn (IsNodeOver tops) (IsTreeOver tops)) }
-        ensures valid { IfOk result TellsValid }
+        ensures may { IfOk result (MayGoOn IsNodeDue) }
         ensures last { IfOk result IsLastMove }
         ensures left { IfOk result (Lessens left_of (Node.Request self)) }
         ensures refused { (tops : Seq SeenTop) → IfErr result (StaysBare tops (Node.Request self)) }

@@ -13,11 +13,11 @@ ghost use Rattle.zio_exchange.specs.SpaceCalls.{SpaceCall};
 ghost use Rattle.zio_stages.specs.PartNodes.{IsPartNode, IsPartNodeOver};
 ghost use Rattle.zio_stages.specs.PartWorks.{HaveUnits};
 ghost use Rattle.zio_stages.specs.Tops.{AreTops};
-ghost use Rattle.zio_turns.specs.Stages.{EachIn, GoesOn, Hears, HearsEarly, HearsSome, HearsSomeEarly, IsMove, IsNow, Lessens, TellsValid, heard_max};
+ghost use Rattle.zio_turns.specs.Stages.{EachIn, GoesOn, Hears, HearsEarly, HearsSome, HearsSomeEarly, IsMove, IsNow, Lessens, MayGoOn, heard_max};
 ghost use Rattle.zio_nodes.specs.Bounds.{part_left, part_max};
 ghost use Rattle.zio_nodes.specs.Passes.{IsInPassOf, KeepsPassAt};
 ghost use Rattle.zio_nodes.specs.StageMoves.{IsStageMove};
-ghost use Rattle.zio_nodes.specs.Nodes.{IsNodeOver, IsTreeOver, MovesBare, MovesWith, StaysBare, StaysWith, left_of, nodes, moved};
+ghost use Rattle.zio_nodes.specs.Nodes.{IsNodeDue, IsNodeOver, IsTreeOver, MovesBare, MovesWith, StaysBare, StaysWith, left_of, moved, nodes};
 ghost use Rattle.zio_nodes.specs.PartAts.{IsBeforePlaces, IsPartAtOver};
 ghost use Rattle.zio_nodes.specs.Told.{is_told};
 
@@ -69,7 +69,7 @@ impl PartAt {
             (Node.Part self.old) (moved (Node.Part self.new) turn)) }
         ensures over { IfOk result (λ turn. EachIn (IsNodeOver (S.tops services.old)) (IsTreeOver (S.tops services.old))
             (moved (Node.Part self.new) turn)) }
-        ensures valid { IfOk result (λ turn. TellsValid (moved (Node.Part self.new) turn)) }
+        ensures may { IfOk result (λ turn. MayGoOn IsNodeDue (moved (Node.Part self.new) turn)) }
         ensures left { IfOk result (λ turn. Lessens left_of (Node.Part self.old) (moved (Node.Part self.new) turn)) }
         ensures refused { OnErr result (StaysWith S.made (S.tops services.old) services.old services.new
             (Node.Part self.old) (Node.Part self.new)) }
@@ -93,7 +93,7 @@ impl PartAt {
             (λ turn. MovesBare tops.now (Node.Part self.old) (moved (Node.Part self.new) turn)) }
         ensures over { IfOk result
             (λ turn. EachIn (IsNodeOver tops.now) (IsTreeOver tops.now) (moved (Node.Part self.new) turn)) }
-        ensures valid { IfOk result (λ turn. TellsValid (moved (Node.Part self.new) turn)) }
+        ensures may { IfOk result (λ turn. MayGoOn IsNodeDue (moved (Node.Part self.new) turn)) }
         ensures left { IfOk result (λ turn. Lessens left_of (Node.Part self.old) (moved (Node.Part self.new) turn)) }
         ensures refused { OnErr result (StaysBare tops.now (Node.Part self.old) (Node.Part self.new)) }
         ensures stages { IfOk result (λ turn. IsStageMove (Node.Part self.old) (moved (Node.Part self.new) turn)) }
@@ -121,7 +121,7 @@ impl PartAt {
         ensures moves { (tops : Seq SeenTop) → MovesBare tops (Node.Part self.old) (moved (Node.Part self.new) result) }
         ensures over { (tops : Seq SeenTop) → IsPartAtOver tops self.old
             → EachIn (IsNodeOver tops) (IsTreeOver tops) (moved (Node.Part self.new) result) }
-        ensures valid { TellsValid (moved (Node.Part self.new) result) }
+        ensures may { MayGoOn IsNodeDue (moved (Node.Part self.new) result) }
         ensures left { Lessens left_of (Node.Part self.old) (moved (Node.Part self.new) result) }
         ensures stages { IsStageMove (Node.Part self.old) (moved (Node.Part self.new) result) }
         ensures pass { KeepsPassAt self.old.stage (Node.Part self.old) (moved (Node.Part self.new) result) }

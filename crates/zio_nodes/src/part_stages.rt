@@ -5,10 +5,10 @@ ghost use Rattle.zio_types.specs.declared.place.Top.{Top as SeenTop};
 ghost use Rattle.zio_gang.specs.Attempts.{Terms};
 ghost use Rattle.zio_frames.specs.Frames.{Stack};
 ghost use Rattle.zio_exchange.specs.SpaceCalls.{SpaceCall};
-ghost use Rattle.zio_turns.specs.Stages.{EachIn, GoesOn, IsMove, IsNow, Lessens, TellsValid};
+ghost use Rattle.zio_turns.specs.Stages.{EachIn, GoesOn, IsMove, IsNow, Lessens, MayGoOn};
 ghost use Rattle.zio_nodes.specs.Passes.{KeepsPassAt};
 ghost use Rattle.zio_nodes.specs.StageMoves.{IsLastMove, IsStageMove};
-ghost use Rattle.zio_nodes.specs.Nodes.{IsNodeOver, IsTreeOver, MovesBare, MovesWith, StaysBare, StaysWith, left_of, moved};
+ghost use Rattle.zio_nodes.specs.Nodes.{IsNodeDue, IsNodeOver, IsTreeOver, MovesBare, MovesWith, StaysBare, StaysWith, left_of, moved};
 ghost use Rattle.zio_nodes.specs.PartAts.{IsPartAtOver};
 
 use crate::leaf_at::LeafAt;
@@ -36,7 +36,7 @@ impl PartAt {
             (Node.Part self.old) (moved (Node.Part self.new) turn)) }
         ensures over { IfOk result (λ turn. EachIn (IsNodeOver (S.tops services.old)) (IsTreeOver (S.tops services.old))
             (moved (Node.Part self.new) turn)) }
-        ensures valid { IfOk result (λ turn. TellsValid (moved (Node.Part self.new) turn)) }
+        ensures may { IfOk result (λ turn. MayGoOn IsNodeDue (moved (Node.Part self.new) turn)) }
         ensures left { IfOk result (λ turn. Lessens left_of (Node.Part self.old) (moved (Node.Part self.new) turn)) }
         ensures refused { OnErr result (StaysWith S.made (S.tops services.old) services.old services.new
             (Node.Part self.old) (Node.Part self.new)) }
@@ -66,7 +66,7 @@ impl PartAt {
         ensures moves { (tops : Seq SeenTop) → MovesBare tops (Node.Part self.old) (moved (Node.Part self.new) result) }
         ensures over { (tops : Seq SeenTop) → IsPartAtOver tops self.old
             → EachIn (IsNodeOver tops) (IsTreeOver tops) (moved (Node.Part self.new) result) }
-        ensures valid { TellsValid (moved (Node.Part self.new) result) }
+        ensures may { MayGoOn IsNodeDue (moved (Node.Part self.new) result) }
         ensures left { Lessens left_of (Node.Part self.old) (moved (Node.Part self.new) result) }
         ensures stages { IsStageMove (Node.Part self.old) (moved (Node.Part self.new) result) }
     {
@@ -89,7 +89,7 @@ impl PartAt {
             (λ turn. MovesBare tops.now (Node.Part self.old) (moved (Node.Part self.new) turn)) }
         ensures over { IfOk result
             (λ turn. EachIn (IsNodeOver tops.now) (IsTreeOver tops.now) (moved (Node.Part self.new) turn)) }
-        ensures valid { IfOk result (λ turn. TellsValid (moved (Node.Part self.new) turn)) }
+        ensures may { IfOk result (λ turn. MayGoOn IsNodeDue (moved (Node.Part self.new) turn)) }
         ensures left { IfOk result (λ turn. Lessens left_of (Node.Part self.old) (moved (Node.Part self.new) turn)) }
         ensures refused { OnErr result (StaysBare tops.now (Node.Part self.old) (Node.Part self.new)) }
         ensures stages { IfOk result (λ turn. IsStageMove (Node.Part self.old) (moved (Node.Part self.new) turn)) }
@@ -118,7 +118,7 @@ impl PartAt {
         requires stage { self.old.stage ≡ Stage.VdevIoDone }
         ensures moves { MovesBare tops.now (Node.Part self.old) (moved (Node.Part self.new) result) }
         ensures over { EachIn (IsNodeOver tops.now) (IsTreeOver tops.now) (moved (Node.Part self.new) result) }
-        ensures valid { TellsValid (moved (Node.Part self.new) result) }
+        ensures may { MayGoOn IsNodeDue (moved (Node.Part self.new) result) }
         ensures left { Lessens left_of (Node.Part self.old) (moved (Node.Part self.new) result) }
         ensures stages { IsStageMove (Node.Part self.old) (moved (Node.Part self.new) result) }
         ensures pass { KeepsPassAt self.old.stage (Node.Part self.old) (moved (Node.Part self.new) result) }
@@ -144,7 +144,7 @@ impl PartAt {
         requires stage { self.old.stage ≡ Stage.VdevIoAssess }
         ensures moves { MovesBare tops.now (Node.Part self.old) (moved (Node.Part self.new) result) }
         ensures over { EachIn (IsNodeOver tops.now) (IsTreeOver tops.now) (moved (Node.Part self.new) result) }
-        ensures valid { TellsValid (moved (Node.Part self.new) result) }
+        ensures may { MayGoOn IsNodeDue (moved (Node.Part self.new) result) }
         ensures left { Lessens left_of (Node.Part self.old) (moved (Node.Part self.new) result) }
         ensures stages { IsStageMove (Node.Part self.old) (moved (Node.Part self.new) result) }
     {
@@ -166,7 +166,7 @@ impl PartAt {
         ensures moves { (tops : Seq SeenTop) → IfOk result (MovesBare tops (Node.Part self)) }
         ensures over { (tops : Seq SeenTop) → IsPartAtOver tops self
             → IfOk result (EachIn (IsNodeOver tops) (IsTreeOver tops)) }
-        ensures valid { IfOk result TellsValid }
+        ensures may { IfOk result (MayGoOn IsNodeDue) }
         ensures last { IfOk result IsLastMove }
         ensures left { IfOk result (Lessens left_of (Node.Part self)) }
         ensures refused { (tops : Seq SeenTop) → IfErr result (StaysBare tops (Node.Part self)) }

@@ -2,10 +2,10 @@
 
 ghost use Rattle.std.specs.Prelude.{◌≡◌, IfOk, OnErr, false, true};
 ghost use Rattle.zio_script.specs.Requests.{kind_of};
-ghost use Rattle.zio_turns.specs.Stages.{EachIn, Lessens, TellsValid};
+ghost use Rattle.zio_turns.specs.Stages.{EachIn, Lessens, MayGoOn};
 ghost use Rattle.zio_nodes.specs.Passes.{KeepsPassAt};
 ghost use Rattle.zio_nodes.specs.StageMoves.{IsStageMove};
-ghost use Rattle.zio_nodes.specs.Nodes.{IsNodeOver, IsTreeOver, MovesBare, StaysBare, left_of, moved};
+ghost use Rattle.zio_nodes.specs.Nodes.{IsNodeDue, IsNodeOver, IsTreeOver, MovesBare, StaysBare, left_of, moved};
 ghost use Rattle.zio_nodes.specs.RequestAts.{IsRequestAtOver};
 
 use crate::leaf_at::LeafAt;
@@ -28,7 +28,7 @@ impl RequestAt {
             (λ turn. MovesBare tops.now (Node.Request self.old) (moved (Node.Request self.new) turn)) }
         ensures over { IfOk result
             (λ turn. EachIn (IsNodeOver tops.now) (IsTreeOver tops.now) (moved (Node.Request self.new) turn)) }
-        ensures valid { IfOk result (λ turn. TellsValid (moved (Node.Request self.new) turn)) }
+        ensures may { IfOk result (λ turn. MayGoOn IsNodeDue (moved (Node.Request self.new) turn)) }
         ensures left { IfOk result
             (λ turn. Lessens left_of (Node.Request self.old) (moved (Node.Request self.new) turn)) }
         ensures refused { OnErr result (StaysBare tops.now (Node.Request self.old) (Node.Request self.new)) }
@@ -60,7 +60,7 @@ impl RequestAt {
         requires stage { self.old.stage ≡ Stage.VdevIoDone }
         ensures moves { MovesBare tops.now (Node.Request self.old) (moved (Node.Request self.new) result) }
         ensures over { EachIn (IsNodeOver tops.now) (IsTreeOver tops.now) (moved (Node.Request self.new) result) }
-        ensures valid { TellsValid (moved (Node.Request self.new) result) }
+        ensures may { MayGoOn IsNodeDue (moved (Node.Request self.new) result) }
         ensures left { Lessens left_of (Node.Request self.old) (moved (Node.Request self.new) result) }
         ensures stages { IsStageMove (Node.Request self.old) (moved (Node.Request self.new) result) }
         ensures pass { KeepsPassAt self.old.stage (Node.Request self.old) (moved (Node.Request self.new) result) }
@@ -88,7 +88,7 @@ impl RequestAt {
         requires stage { self.old.stage ≡ Stage.VdevIoAssess }
         ensures moves { MovesBare tops.now (Node.Request self.old) (moved (Node.Request self.new) result) }
         ensures over { EachIn (IsNodeOver tops.now) (IsTreeOver tops.now) (moved (Node.Request self.new) result) }
-        ensures valid { TellsValid (moved (Node.Request self.new) result) }
+        ensures may { MayGoOn IsNodeDue (moved (Node.Request self.new) result) }
         ensures left { Lessens left_of (Node.Request self.old) (moved (Node.Request self.new) result) }
         ensures stages { IsStageMove (Node.Request self.old) (moved (Node.Request self.new) result) }
     {

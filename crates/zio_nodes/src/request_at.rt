@@ -24,14 +24,15 @@ ghost use Rattle.zio_turns.specs.Stages.{
   HearsSome,
   HearsSomeEarly,
   Lessens,
+  MayGoOn,
   OutcomeIn,
-  TellsValid,
   heard_max,
 };
 ghost use Rattle.zio_nodes.specs.Stalls.{LeavesGang, hands_many};
 ghost use Rattle.zio_nodes.specs.Passes.{IsInPassOf, KeepsPassAt};
 ghost use Rattle.zio_nodes.specs.StageMoves.{IsLastMove, IsStageMove};
 ghost use Rattle.zio_nodes.specs.Nodes.{
+  IsNodeDue,
   IsNodeOver,
   IsTreeOver,
   MovesBare,
@@ -40,8 +41,8 @@ ghost use Rattle.zio_nodes.specs.Nodes.{
   StaysWith,
   gave_of,
   left_of,
-  nodes,
   moved,
+  nodes,
 };
 ghost use Rattle.zio_nodes.specs.RequestAts.{IsRequestAtOver, masked};
 
@@ -78,7 +79,7 @@ impl RequestAt {
             (Node.Request self.old) (moved (Node.Request self.new) turn)) }
         ensures over { IfOk result (λ turn. EachIn (IsNodeOver (S.tops services.old)) (IsTreeOver (S.tops services.old))
             (moved (Node.Request self.new) turn)) }
-        ensures valid { IfOk result (λ turn. TellsValid (moved (Node.Request self.new) turn)) }
+        ensures may { IfOk result (λ turn. MayGoOn IsNodeDue (moved (Node.Request self.new) turn)) }
         ensures left { IfOk result
             (λ turn. Lessens left_of (Node.Request self.old) (moved (Node.Request self.new) turn)) }
         ensures refused { OnErr result (StaysWith S.made (S.tops services.old) services.old services.new
@@ -114,7 +115,7 @@ impl RequestAt {
         ensures moves { IfOk result (MovesWith S.made (S.tops services.old) services.old services.new
             (Node.Request self)) }
         ensures over { IfOk result (EachIn (IsNodeOver (S.tops services.old)) (IsTreeOver (S.tops services.old))) }
-        ensures valid { IfOk result TellsValid }
+        ensures may { IfOk result (MayGoOn IsNodeDue) }
         ensures last { IfOk result IsLastMove }
         ensures left { IfOk result (Lessens left_of (Node.Request self)) }
         ensures refused { IfErr result (StaysWith S.made (S.tops services.old) services.old services.new
@@ -203,7 +204,7 @@ impl RequestAt {
             → IfOk result (λ turn. MovesBare tops (Node.Request self.old) (moved (Node.Request self.new) turn)) }
         ensures over { (tops : Seq SeenTop) → IsRequestAtOver tops self.old
             → IfOk result (λ turn. EachIn (IsNodeOver tops) (IsTreeOver tops) (moved (Node.Request self.new) turn)) }
-        ensures valid { IfOk result (λ turn. TellsValid (moved (Node.Request self.new) turn)) }
+        ensures may { IfOk result (λ turn. MayGoOn IsNodeDue (moved (Node.Request self.new) turn)) }
         ensures left { IfOk result
             (λ turn. Lessens left_of (Node.Request self.old) (moved (Node.Request self.new) turn)) }
         ensures refused { (tops : Seq SeenTop)

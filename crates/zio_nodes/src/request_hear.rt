@@ -64,8 +64,8 @@ impl RequestAt {
         requires { (tops : Seq SeenTop)
             × HearsSome {S = Seal} nodes tops (Node.Request self.old) child (SeenOutcome.Again whole bits pointer) }
         ensures heard { (tops : Seq SeenTop) (t : Terms) (st : Stack) (c : Child) (op : Task) (v : Value) →
-            Hears {S = Seal} nodes tops t (Node.Request self.old) st child c op (SeenOutcome.Again whole bits pointer) v →
-            IsRequestNode t self.new.node (heard_of st child c v) }
+            Hears {S = Seal} nodes tops t (Node.Request self.old) st child c op (SeenOutcome.Again whole bits pointer) v
+            → IsRequestNode t self.new.node (heard_of st child c v) }
         ensures stage { self.new.stage ≡ self.old.stage }
         ensures pass { IsInPassOf (Node.Request self.old) (Node.Request self.new) }
         ensures gave { gave_of (Node.Request self.new) ≡ gave_of (Node.Request self.old) }

@@ -7,8 +7,8 @@ ghost use Rattle.zio_trace.specs.Families.{Forest};
 ghost use Rattle.zio_trace.specs.Tasks.{Attempt};
 ghost use Rattle.zio_frames.specs.Frames.{fresh_stack};
 ghost use Rattle.zio_exchange.specs.Wholes.{IsTreeOf};
-ghost use Rattle.zio_turns.specs.Stages.{EachIn, Lessens, TellsValid};
-ghost use Rattle.zio_nodes.specs.Nodes.{IsNodeOver, IsTreeOver, MovesBare, StaysBare, left_of};
+ghost use Rattle.zio_turns.specs.Stages.{EachIn, Lessens, MayGoOn};
+ghost use Rattle.zio_nodes.specs.Nodes.{IsNodeDue, IsNodeOver, IsTreeOver, MovesBare, StaysBare, left_of};
 ghost use Rattle.zio_nodes.specs.StageMoves.{IsStart};
 ghost use Rattle.zio_nodes.specs.TreeAts.{IsTreeAt, IsTreeAtOver};
 
@@ -54,7 +54,7 @@ impl TreeAt {
         ensures moves { (tops : Seq SeenTop) → IfOk result (MovesBare tops (Node.Tree self)) }
         ensures over { (tops : Seq SeenTop) → IsTreeAtOver tops self
             → IfOk result (EachIn (IsNodeOver tops) (IsTreeOver tops)) }
-        ensures valid { IfOk result TellsValid }
+        ensures may { IfOk result (MayGoOn IsNodeDue) }
         ensures left { IfOk result (Lessens left_of (Node.Tree self)) }
         ensures starts { IfOk result IsStart }
         ensures refused { (tops : Seq SeenTop) → IfErr result (StaysBare tops (Node.Tree self)) }

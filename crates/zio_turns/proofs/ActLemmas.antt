@@ -104,8 +104,9 @@ pub has_heard : {N : Type 0} (nodes : Nodes N) (slab out slab_now : Slab (TiedNo
     → get slab key ≡ Some was → Updates slab out key None
     → HasCounted {N = N} out line slab_now line_now key (with_ties {N = N} up was.ties) kind phase error bits
     → nodes.told up ≡ nodes.told was.node → nodes.left up ≤ nodes.left was.node + heard_max → nodes.gave up ≡ nodes.gave was.node
+    → (nodes.due was.node → nodes.due up)
     → HasHeard {N = N} nodes slab line slab_now line_now kind phase error bits key was up
-has_heard {N} nodes slab out slab_now line line_now kind phase error bits key was up there taken has told left gave =
+has_heard {N} nodes slab out slab_now line line_now kind phase error bits key was up there taken has told left gave due =
     record {
       there = there;
       put = exchanged slab out slab_now key
@@ -114,4 +115,5 @@ has_heard {N} nodes slab out slab_now line line_now kind phase error bits key wa
       told = told;
       left = left;
       gave = gave;
+      due = due;
     }

@@ -45,9 +45,10 @@ module _ {N : Type 0} (nodes : Nodes N) (slab : Slab (TiedNode N)) (line : List 
       (bytes : List ℕ) (e : TiedNode N) (node : N) → get slab key ≡ Some e
       → ((t : Terms) (act : LeafOp) (a : Answer) → nodes.Is t e.node (fresh_stack (Leaf act)) → ShowsAnswer act error bytes a
       → nodes.Is t node (done_at_once (fresh_stack (Leaf act)) (Leaf act) (Got a)))
-      → nodes.told node ≡ nodes.told e.node → nodes.gave node ≡ nodes.gave e.node → Updates slab slab_now key (Some (with_ties {N = N} node e.ties))
+      → nodes.told node ≡ nodes.told e.node → nodes.gave node ≡ nodes.gave e.node → nodes.due node
+      → Updates slab slab_now key (Some (with_ties {N = N} node e.ties))
       → line_now ≡ line ++ key ∷ [] → ComesBack {N = N} nodes slab line slab_now line_now key error bytes
-  answer_comes_back slab_now line_now error bytes e node is heard told gave put queued =
+  answer_comes_back slab_now line_now error bytes e node is heard told gave due put queued =
       λ t sizes f before s leaves others sound more k a after shows full answers.
       let r = it_is_there nodes t sizes f before s slab line leaves key e k is in
       let now = leaf_now nodes t sizes f before s.trees s.tops key r.node r.others (shelf_of {N = N} slab) line leaves r.state
@@ -56,5 +57,5 @@ module _ {N : Type 0} (nodes : Nodes N) (slab : Slab (TiedNode N)) (line : List 
       let fresh : r.node.stack ≡ fresh_stack (Leaf (s.ops key)) = r.theirs key r.node (first_at (live_of key r.node) r.others) at in
       subst (λ (q : List ℕ). KeepsRound {N = N} nodes t sizes f before (with_images s after) slab_now q others) (sym queued)
       (round_comes_back nodes t sizes f before s slab slab_now line leaves key e sound r others more (s.ops key) fresh a after
-      full answers node (heard t (s.ops key) a (subst (λ (st : Stack). nodes.Is t e.node st) fresh r.is) shows) told gave put
+      full answers node (heard t (s.ops key) a (subst (λ (st : Stack). nodes.Is t e.node st) fresh r.is) shows) told gave due put
       (line ++ key ∷ []) (queued_last key line))

@@ -16,11 +16,11 @@ use Rattle.zio_turns.proofs.Links.{Follows, HeldIn, Linked, World, children_go, 
 use Rattle.zio_turns.proofs.LinksHear.{ChildMoves, IsOwn}
 use Rattle.zio_turns.proofs.Seated.{none_below, place_set}
 
-rests_node : {N : Type 0} (q e : ℕ) (st : Stack) (h : Held N) (node : N) → Rests {N = N} q e st h
-    → Rests {N = N} q e st (with_node {N = N} h node)
-rests_node q e st h node (Queued a b c) = Queued a b c
-rests_node q e st h node (AtLeaf act a b c d) = AtLeaf act a b c d
-rests_node q e st h node (Stalls count a b c d) = Stalls count a b c d
+rests_node : {N : Type 0} (due : N → Type 0) (q e : ℕ) (st : Stack) (h : Held N) (node : N) → due node → Rests {N = N} due q e st h
+    → Rests {N = N} due q e st (with_node {N = N} h node)
+rests_node due q e st h node now (Queued a b c d) = Queued a b c now
+rests_node due q e st h node now (AtLeaf act a b c d) = AtLeaf act a b c d
+rests_node due q e st h node now (Stalls count a b c d f) = Stalls count a b c d now
 
 -- a child that counts as one that told whatever it did counts so now
 told_now : (kind : ChildKind) → true ≡ counts_as_told kind true
@@ -60,9 +60,9 @@ module _ {N : Type 0} (nodes : Nodes N) (t : Terms) (a b : World N) (key : ℕ) 
     pub there : x.at ≡ place_of q c.seat
     pub of_kind : c.kind ≡ h.kind
 
-  pub told_fate : (node : N) → Tells node → nodes.told node ≡ true → nodes.Is t node x.stack → Linked nodes t a
+  pub told_fate : (node : N) → Tells node → nodes.told node ≡ true → nodes.Is t node x.stack → nodes.due node → Linked nodes t a
       → ChildMoves {N = N} nodes t a b key h parent (child_told c)
-  told_fate node m told is_now l = record {
+  told_fate node m told is_now due l = record {
     held = m.held;
     parent_is = m.parent_is;
     lives = goes_same (IsOwn {N = N} h) (OfNode key) (a.lives key) (b.lives key) (m.flies_now ∙ sym m.flies);
@@ -90,9 +90,9 @@ module _ {N : Type 0} (nodes : Nodes N) (t : Terms) (a b : World N) (key : ℕ) 
         children = children_go nodes t (IsOwn {N = N} h) a b f (OfNode key)
             (λ i own. m.other i (own ∙ m.parent_is)) x.stack.children was.children;
         counts = was.counts;
-        rests = rests_node {N = N} (times_in key b.queue) (times_in key b.leaves) x.stack h node
-            (subst (λ (i : ℕ). Rests {N = N} i (times_in key b.leaves) x.stack h) (sym m.queue)
-            (subst (λ (i : ℕ). Rests {N = N} (times_in key a.queue) i x.stack h) (sym m.leaves) was.rests));
+        rests = rests_node {N = N} nodes.due (times_in key b.queue) (times_in key b.leaves) x.stack h node due
+            (subst (λ (i : ℕ). Rests {N = N} nodes.due i (times_in key b.leaves) x.stack h) (sym m.queue)
+            (subst (λ (i : ℕ). Rests {N = N} nodes.due (times_in key a.queue) i x.stack h) (sym m.leaves) was.rests));
       }
 
   pub record Ends : Type 0 where

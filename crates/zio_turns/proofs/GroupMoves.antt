@@ -51,7 +51,7 @@ module _ {N : Type 0} (nodes : Nodes N) (t : Terms) where
     parent = p.parent;
     children = p.children;
     counts = p.counts;
-    rests = subst (λ (n : ℕ). Rests {N = N} (times_in key queue) n x.stack h) (sym e) p.rests;
+    rests = subst (λ (n : ℕ). Rests {N = N} nodes.due (times_in key queue) n x.stack h) (sym e) p.rests;
   }
 
   pub round_leaves : (sizes : ℕ → ℕ) (f : Forest) (before : Before) (s : SoFar) (slab : Slab (TiedNode N))

@@ -184,8 +184,8 @@ module _ {N : Type 0} (nodes : Nodes N) (t : Terms) where
       parent = parent_goes f h.kind (nodes.told h.node) x.at h.parent ex is.parent;
       children = children_go f (OfNode k) none x.stack.children is.children;
       counts = is.counts;
-      rests = subst (λ (n : ℕ). Rests {N = N} n (times_in k b.leaves) x.stack h) (sym q)
-          (subst (λ (n : ℕ). Rests {N = N} (times_in k a.queue) n x.stack h) (sym e) is.rests);
+      rests = subst (λ (n : ℕ). Rests {N = N} nodes.due n (times_in k b.leaves) x.stack h) (sym q)
+          (subst (λ (n : ℕ). Rests {N = N} nodes.due (times_in k a.queue) n x.stack h) (sym e) is.rests);
     }
 
     matched : Follows → (k : ℕ) (x : Option Flying) (h : Option (Held N))

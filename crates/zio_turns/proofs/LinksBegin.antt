@@ -67,12 +67,12 @@ module _ {N : Type 0} (nodes : Nodes N) (t : Terms) (a b : World N) (tree child 
   }
 
   child_held : Move → Linked nodes t a → nodes.Is t c (fresh_stack op)
-      → (needs_none (kind_of_task op) ≡ false → nodes.told c ≡ false)
+      → (needs_none (kind_of_task op) ≡ false → nodes.told c ≡ false) → nodes.due c
       → HeldIn nodes t b child (new_flying x op) (new_held {N = N} c op (OfTree tree (length x.stack.children)))
-  child_held m l is told =
+  child_held m l is told due =
       let f = free_there nodes t a child l m.free in
       new_matches nodes t a b child (new_flying x op).at op c (OfTree tree (length x.stack.children)) is
-      (record { above = handed_on x op; is = m.tops.there; for = does_new x op (nodes.told c) told }) f.1 f.2 m.queue m.leaves
+      (record { above = handed_on x op; is = m.tops.there; for = does_new x op (nodes.told c) told }) due f.1 f.2 m.queue m.leaves
 
   matched : Move → Linked nodes t a
       → HeldIn nodes t b child (new_flying x op) (new_held {N = N} c op (OfTree tree (length x.stack.children)))
@@ -98,10 +98,10 @@ module _ {N : Type 0} (nodes : Nodes N) (t : Terms) (a b : World N) (tree child 
       (l.trees n top (sym (m.tops.others n d) ∙ f))
 
   pub tree_grows : Move → nodes.Is t c (fresh_stack op) → (needs_none (kind_of_task op) ≡ false → nodes.told c ≡ false)
-      → Linked nodes t a → Linked nodes t b
-  tree_grows m is_new told_new l =
+      → nodes.due c → Linked nodes t a → Linked nodes t b
+  tree_grows m is_new told_new due l =
       let there : HeldIn nodes t b child (new_flying x op) (new_held {N = N} c op (OfTree tree (length x.stack.children)))
-      = child_held m l is_new told_new in
+      = child_held m l is_new told_new due in
       record {
         each = λ k. matched m l there k (same_or_not k child);
         trees = λ n top f. tree_held m l n top f (same_or_not n tree);

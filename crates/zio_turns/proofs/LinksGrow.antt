@@ -100,9 +100,9 @@ module _ {N : Type 0} (nodes : Nodes N) (t : Terms) (a b : World N) (key child :
 
   grown_held : Move → Linked nodes t a → nodes.told node ≡ nodes.told h.node → nodes.Is t node (handed mid op)
       → counted (kind_of_task op) Ready h.tally < count_end → times_in key a.queue ≡ 1 → times_in key a.leaves ≡ 0
-      → h.tally.stall ≡ None
+      → h.tally.stall ≡ None → nodes.due node
       → HeldIn nodes t a key x h → HeldIn nodes t b key (handed_on here_now op) (grown {N = N} h node op)
-  grown_held m l told is room q e stall was = record {
+  grown_held m l told is room q e stall due was = record {
     is = is;
     parent = subst (λ (w : Bool). HasParent b.tops b.lives h.kind w x.at h.parent) (sym told)
         (parent_goes nodes t NoParent a b (follows m l) h.kind (nodes.told h.node) x.at h.parent (λ no. no) was.parent);
@@ -112,16 +112,16 @@ module _ {N : Type 0} (nodes : Nodes N) (t : Terms) (a b : World N) (key child :
     counts = counts_raised h.tally mid.children (next_seat mid) (kind_of_task op) room
         (subst (λ (cs : List Child). CountsAre h.tally cs) (sym m.children) was.counts);
     rests = Queued (more_other child key a.queue b.queue m.queue (λ s. m.other (sym s)) ∙ q)
-        (ap (times_in key) m.leaves ∙ e) (stall_raised (kind_of_task op) h.tally ∙ stall);
+        (ap (times_in key) m.leaves ∙ e) (stall_raised (kind_of_task op) h.tally ∙ stall) due;
   }
 
   child_held : Move → Linked nodes t a → nodes.Is t c (fresh_stack op)
-      → (needs_none (kind_of_task op) ≡ false → nodes.told c ≡ false)
+      → (needs_none (kind_of_task op) ≡ false → nodes.told c ≡ false) → nodes.due c
       → HeldIn nodes t b child (new_flying here_now op) (new_held {N = N} c op (OfNode key (length mid.children)))
-  child_held m l is told =
+  child_held m l is told due =
       let f = free_there nodes t a child l m.free in
       new_matches nodes t a b child (new_flying here_now op).at op c (OfNode key (length mid.children)) is
-      (record { above = handed_on here_now op; is = m.lives.there; for = does_new here_now op (nodes.told c) told }) f.1 f.2 m.queue m.leaves
+      (record { above = handed_on here_now op; is = m.lives.there; for = does_new here_now op (nodes.told c) told }) due f.1 f.2 m.queue m.leaves
 
   matched : Move → Linked nodes t a → HeldIn nodes t b key (handed_on here_now op) (grown {N = N} h node op)
       → HeldIn nodes t b child (new_flying here_now op) (new_held {N = N} c op (OfNode key (length mid.children)))
@@ -140,14 +140,14 @@ module _ {N : Type 0} (nodes : Nodes N) (t : Terms) (a b : World N) (key child :
 
   pub node_grows : Move → nodes.told node ≡ nodes.told h.node → nodes.Is t node (handed mid op)
       → counted (kind_of_task op) Ready h.tally < count_end → times_in key a.queue ≡ 1 → times_in key a.leaves ≡ 0
-      → h.tally.stall ≡ None
-      → nodes.Is t c (fresh_stack op) → (needs_none (kind_of_task op) ≡ false → nodes.told c ≡ false)
+      → h.tally.stall ≡ None → nodes.due node
+      → nodes.Is t c (fresh_stack op) → (needs_none (kind_of_task op) ≡ false → nodes.told c ≡ false) → nodes.due c
       → Linked nodes t a → Linked nodes t b
-  node_grows m told is room q e stall is_new told_new l =
+  node_grows m told is room q e stall due is_new told_new due_new l =
       let was : HeldIn nodes t a key x h = held_there nodes t a key x h l m.flies m.held in
-      let here : HeldIn nodes t b key (handed_on here_now op) (grown {N = N} h node op) = grown_held m l told is room q e stall was in
+      let here : HeldIn nodes t b key (handed_on here_now op) (grown {N = N} h node op) = grown_held m l told is room q e stall due was in
       let there : HeldIn nodes t b child (new_flying here_now op) (new_held {N = N} c op (OfNode key (length mid.children)))
-      = child_held m l is_new told_new in
+      = child_held m l is_new told_new due_new in
       record {
         each = λ k. matched m l here there k (one_of k key child);
         trees = λ n top f.

@@ -142,7 +142,7 @@ module _ {N : Type 0} (nodes : Nodes N) (t : Terms) (a b : World N) (key above :
   now_held : Move → Fate → Linked nodes t a → nodes.told node ≡ nodes.told g.node
       → nodes.Is t node (heard_as q n seat slot c).stack
       → CountsAre tally (slice_set q.stack.children n c)
-      → Rests {N = N} (times_in above b.queue) (times_in above b.leaves) (heard_as q n seat slot c).stack
+      → Rests {N = N} nodes.due (times_in above b.queue) (times_in above b.leaves) (heard_as q n seat slot c).stack
       (with_both {N = N} g node tally)
       → HeldIn nodes t b above (heard_as q n seat slot c) (with_both {N = N} g node tally)
   now_held m f l told is counts rests =
@@ -171,7 +171,7 @@ module _ {N : Type 0} (nodes : Nodes N) (t : Terms) (a b : World N) (key above :
 
   pub node_hears : Move → Fate → nodes.told node ≡ nodes.told g.node → nodes.Is t node (heard_as q n seat slot c).stack
       → CountsAre tally (slice_set q.stack.children n c)
-      → Rests {N = N} (times_in above b.queue) (times_in above b.leaves) (heard_as q n seat slot c).stack
+      → Rests {N = N} nodes.due (times_in above b.queue) (times_in above b.leaves) (heard_as q n seat slot c).stack
       (with_both {N = N} g node tally)
       → Linked nodes t a → Linked nodes t b
   node_hears m f told is counts rests l =

@@ -59,7 +59,7 @@ module _ {N : Type 0} (nodes : Nodes N) (t : Terms) (a b : World N) (key : ℕ) 
 
   moved_held : OneMoves {N = N} a b key x st h node tally → nodes.told node ≡ nodes.told h.node → nodes.Is t node st
       → CountsAre tally st.children
-      → Rests {N = N} (times_in key b.queue) (times_in key b.leaves) st (with_both {N = N} h node tally)
+      → Rests {N = N} nodes.due (times_in key b.queue) (times_in key b.leaves) st (with_both {N = N} h node tally)
       → HeldIn nodes t a key x h → HeldIn nodes t b key (record { at = x.at; stack = st }) (with_both {N = N} h node tally)
   moved_held m told is counts rests was = record {
     is = is;
@@ -85,7 +85,7 @@ module _ {N : Type 0} (nodes : Nodes N) (t : Terms) (a b : World N) (key : ℕ) 
   -- it is so far now, and tells what it told
   pub one_moves : OneMoves {N = N} a b key x st h node tally → nodes.told node ≡ nodes.told h.node → nodes.Is t node st
       → CountsAre tally st.children
-      → Rests {N = N} (times_in key b.queue) (times_in key b.leaves) st (with_both {N = N} h node tally)
+      → Rests {N = N} nodes.due (times_in key b.queue) (times_in key b.leaves) st (with_both {N = N} h node tally)
       → Linked nodes t a → Linked nodes t b
   one_moves m told is counts rests l =
       let was : HeldIn nodes t a key x h = held_there nodes t a key x h l m.flies m.held in

@@ -53,17 +53,17 @@ keeps_handed x op n =
 
 module _ {N : Type 0} (nodes : Nodes N) (t : Terms) (a b : World N) where
   pub new_matches : (child : ℕ) (at : List ℕ) (op : Task) (c : N) (parent : Parent) → nodes.Is t c (fresh_stack op)
-      → HasParent b.tops b.lives (kind_of_task op) (nodes.told c) at parent
+      → HasParent b.tops b.lives (kind_of_task op) (nodes.told c) at parent → nodes.due c
       → times_in child a.queue ≡ 0 → times_in child a.leaves ≡ 0 → OneMore child a.queue b.queue → b.leaves ≡ a.leaves
       → HeldIn nodes t b child (record { at = at; stack = fresh_stack op }) (new_held {N = N} c op parent)
-  new_matches child at op c parent is has q e more same =
+  new_matches child at op c parent is has due q e more same =
       let two : times_in child b.queue ≡ times_in child a.queue + 1 = more_there child a.queue b.queue more in
       record {
         is = is;
         parent = has;
         children = λ n d f g. absurd (no_such n d f);
         counts = counts_of_none;
-        rests = Queued (omega arith) (ap (times_in child) same ∙ e) refl;
+        rests = Queued (omega arith) (ap (times_in child) same ∙ e) refl due;
       }
     where
       no_such : (n : ℕ) (d : Child) → slice_get [] n ≡ Some d → ⊥

@@ -111,7 +111,7 @@ module _ {N : Type 0} (nodes : Nodes N) (t : Terms) (sizes : ℕ → ℕ) (f : F
       → KeptTwo key above x q others
       → shelf key ≡ Some h → h.parent ≡ OfNode above n → shelf above ≡ Some g → (rest : List ℕ) → OneMore key rest queue
       → IsEnded t x.stack v → (needs_none h.kind ≡ false → nodes.told h.node ≡ true) → slice_get q.stack.children n ≡ Some c
-      → (up : N) → nodes.Is t up (heard_of q.stack n c v) → nodes.told up ≡ nodes.told g.node
+      → (up : N) → nodes.Is t up (heard_of q.stack n c v) → nodes.told up ≡ nodes.told g.node → (nodes.due g.node → nodes.due up)
       → (error : Option Errno) (bits : Bits)
       → (shelf_now : Shelf N)
       → AreWith shelf key None above (Some (with_both {N = N} g up (notified h.kind Done error bits g.tally))) shelf_now
@@ -119,7 +119,7 @@ module _ {N : Type 0} (nodes : Nodes N) (t : Terms) (sizes : ℕ → ℕ) (f : F
       → StillKept {N = N} nodes t sizes f before trees tops
       (live_of above (record { at = q.at; stack = heard_of q.stack n c v }) ∷ others) shelf_now
       queue_now leaves s.entries s.images
-  one_ends key above x q others h g n c v k e parent eg rest off ended told there up is_up told_up error bits shelf_now with_two
+  one_ends key above x q others h g n c v k e parent eg rest off ended told there up is_up told_up still error bits shelf_now with_two
       queue_now more =
       let lives : List Live = live_of key x ∷ live_of above q ∷ others in
       let y : Flying = heard_as q n c.seat (Heard v) (child_ended c) in
@@ -175,9 +175,9 @@ module _ {N : Type 0} (nodes : Nodes N) (t : Terms) (sizes : ℕ → ℕ) (f : F
             ∙ sym (more_other key i rest queue off m);
         leaves = λ i m j. refl;
       }) fate told_up is_up counts
-      (rests_notified {N = N} (times_in above queue) (times_in above queue_now)
+      (rests_notified {N = N} nodes.due (times_in above queue) (times_in above queue_now)
       (times_in above leaves) q.stack y.stack g up h.kind Done error bits n c there
       (one_counts key above x q others h g n c k e parent eg there)
       (more_if_there (is_last h.kind Done g.tally) above rest queue_now more
-      ∙ ap (λ i. i + bit (is_last h.kind Done g.tally)) rest_at) was_up.rests)
+      ∙ ap (λ i. i + bit (is_last h.kind Done g.tally)) rest_at) still was_up.rests)
       k.linked)

@@ -115,16 +115,17 @@ module _ {N : Type 0} (nodes : Nodes N) (t : Terms) (sizes : ℕ → ℕ) (f : F
       → AllByRecursion (IsRight t) dids → AreLawful (sizes_of t.setting.tops) t.used (s.entries ++ choices_of dids)
       → (op : Task) → is_single (asking mid).op ≡ false → AsksNext t (asking mid) op
       → counted (kind_of_task op) Ready h.tally < count_end → (node c : N) → nodes.Is t node (handed mid op)
-      → nodes.told node ≡ nodes.told h.node
-      → nodes.Is t c (fresh_stack op) → (needs_none (kind_of_task op) ≡ false → nodes.told c ≡ false) → shelf child ≡ None
+      → nodes.told node ≡ nodes.told h.node → nodes.due node
+      → nodes.Is t c (fresh_stack op) → (needs_none (kind_of_task op) ≡ false → nodes.told c ≡ false) → nodes.due c
+      → shelf child ≡ None
       → (shelf_now : Shelf N) → AreWith shelf key (Some (grown {N = N} h node op)) child
       (Some (new_held {N = N} c op (OfNode key (length x.stack.children)))) shelf_now
       → (queue_now : List ℕ) → OneMore child queue queue_now
       → StillKept {N = N} nodes t sizes f before trees tops
       (live_of child (new_flying (with_stack x mid) op) ∷ live_of key (handed_on (with_stack x mid) op) ∷ others)
       shelf_now queue_now leaves (s.entries ++ choices_of dids) s.images
-  one_grows key child x others h sound k e rest more dids mid does right lawful op many asks room node c is told is_new told_new
-      free shelf_now with_both queue_now more_queue =
+  one_grows key child x others h sound k e rest more dids mid does right lawful op many asks room node c is told due is_new told_new
+      due_new free shelf_now with_both queue_now more_queue =
       let waits = queued_now nodes t sizes f before trees tops key x others shelf queue leaves s h rest k e more in
       let other : child ≢ key = free_other key child h e free in
       let r : Later t sizes f before trees (x ∷ all_flying tops others) s.entries s.images
@@ -168,7 +169,7 @@ module _ {N : Type 0} (nodes : Nodes N) (t : Terms) (sizes : ℕ → ℕ) (f : F
             (sym (ap (λ (cs : List Child). length cs) done.children)) with_both;
         queue = more_queue;
         leaves = refl;
-      }) told is room waits.0 waits.1 waits.2 is_new told_new k.linked)
+      }) told is room waits.0 waits.1 waits.2 due is_new told_new due_new k.linked)
 
   -- the tree's node first
   pub top_forward : (n : ℕ) (top : Flying) (lives : List Live) → top_at tops n ≡ Some top
@@ -187,7 +188,7 @@ module _ {N : Type 0} (nodes : Nodes N) (t : Terms) (sizes : ℕ → ℕ) (f : F
   pub tree_begins : (n child : ℕ) (top : Flying) (lives : List Live) → IsSoundRound t sizes f
       → IsKept {N = N} nodes t sizes f before trees tops lives shelf queue leaves s → top_at tops n ≡ Some top
       → (op : Task) → is_single (asking top.stack).op ≡ false → AsksNext t (asking top.stack) op
-      → (c : N) → nodes.Is t c (fresh_stack op) → (needs_none (kind_of_task op) ≡ false → nodes.told c ≡ false)
+      → (c : N) → nodes.Is t c (fresh_stack op) → (needs_none (kind_of_task op) ≡ false → nodes.told c ≡ false) → nodes.due c
       → shelf child ≡ None
       → (shelf_now : Shelf N) → IsWith shelf child
       (Some (new_held {N = N} c op (OfTree n (length top.stack.children)))) shelf_now
@@ -195,7 +196,7 @@ module _ {N : Type 0} (nodes : Nodes N) (t : Terms) (sizes : ℕ → ℕ) (f : F
       → StillKept {N = N} nodes t sizes f before trees (slice_set tops n (Some (handed_on top op)))
       (live_of child (new_flying top op) ∷ lives) shelf_now
       queue_now leaves s.entries s.images
-  tree_begins n child top lives sound k e op many asks c is_new told_new free shelf_now with_new queue_now more_queue =
+  tree_begins n child top lives sound k e op many asks c is_new told_new due free shelf_now with_new queue_now more_queue =
       let now : List (Option Flying) = slice_set tops n (Some (handed_on top op)) in
       let gone : List (Option Flying) = slice_set tops n None in
       let a : World N = world {N = N} tops lives shelf queue leaves in
@@ -227,4 +228,4 @@ module _ {N : Type 0} (nodes : Nodes N) (t : Terms) (sizes : ℕ → ℕ) (f : F
         shelf = with_new;
         queue = more_queue;
         leaves = refl;
-      }) is_new told_new k.linked)
+      }) is_new told_new due k.linked)

@@ -38,13 +38,13 @@ module _ {N : Type 0} (nodes : Nodes N) (t : Terms) (sizes : ℕ → ℕ) (f : F
 
   pub one_comes_back : IsSoundRound t sizes f → Kept → shelf key ≡ Some h → (rest : List ℕ) → OneMore key rest leaves
       → (a : Answer) (after : Images) → AnswersOnLeaf t before act s.images a after
-      → (node : N) → nodes.Is t node (leaf_done act a) → nodes.told node ≡ nodes.told h.node
+      → (node : N) → nodes.Is t node (leaf_done act a) → nodes.told node ≡ nodes.told h.node → nodes.due node
       → (shelf_now : Shelf N) → IsWith shelf key (Some (with_node {N = N} h node)) shelf_now
       → (queue_now : List ℕ) → OneMore key queue queue_now
       → StillKept {N = N} nodes t sizes f before trees tops
       (live_of key (record { at = at; stack = leaf_done act a }) ∷ others) shelf_now
       queue_now rest s.entries after
-  one_comes_back sound k e rest more a after answers node is told shelf_now with_it queue_now more_queue =
+  one_comes_back sound k e rest more a after answers node is told due shelf_now with_it queue_now more_queue =
       let x : Flying = record { at = at; stack = fresh_stack (Leaf act) } in
       let y : Flying = record { at = at; stack = leaf_done act a } in
       let waits = leaf_now nodes t sizes f before trees tops key x others shelf queue leaves s h rest k e more in
@@ -72,4 +72,4 @@ module _ {N : Type 0} (nodes : Nodes N) (t : Terms) (sizes : ℕ → ℕ) (f : F
       (λ c g goes. g))
       told is was.counts
       (Queued (more_one (times_in key queue_now) (times_in key queue) waits.1 (more_there key queue queue_now more_queue))
-      (less_one (times_in key leaves) (times_in key rest) waits.2 (more_there key rest leaves more)) waits.3))
+      (less_one (times_in key leaves) (times_in key rest) waits.2 (more_there key rest leaves more)) waits.3 due))

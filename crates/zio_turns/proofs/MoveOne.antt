@@ -33,17 +33,17 @@ use Rattle.zio_turns.proofs.Queues.{more_other, more_there}
 use Rattle.zio_turns.proofs.Seated.{keeps_with}
 
 -- one that stands in the queue is queued
-queued_rests : {N : Type 0} (q e : ℕ) (st : Stack) (h : Held N) → q ≢ 0 → Rests {N = N} q e st h
-    → (q ≡ 1) × (e ≡ 0) × (h.tally.stall ≡ None)
-queued_rests q e st h n (Queued a b c) = (a, b, c)
-queued_rests q e st h n (AtLeaf act a b c d) = absurd (n a)
-queued_rests q e st h n (Stalls count a b c d) = absurd (n a)
+queued_rests : {N : Type 0} (due : N → Type 0) (q e : ℕ) (st : Stack) (h : Held N) → q ≢ 0 → Rests {N = N} due q e st h
+    → (q ≡ 1) × (e ≡ 0) × (h.tally.stall ≡ None) × due h.node
+queued_rests due q e st h n (Queued a b c d) = (a, b, c, d)
+queued_rests due q e st h n (AtLeaf act a b c d) = absurd (n a)
+queued_rests due q e st h n (Stalls count a b c d f) = absurd (n a)
 
-leaf_rests : {N : Type 0} (q e : ℕ) (st : Stack) (h : Held N) → e ≢ 0 → Rests {N = N} q e st h
+leaf_rests : {N : Type 0} (due : N → Type 0) (q e : ℕ) (st : Stack) (h : Held N) → e ≢ 0 → Rests {N = N} due q e st h
     → (act : LeafOp) × (q ≡ 0) × (e ≡ 1) × (h.tally.stall ≡ None) × (st ≡ fresh_stack (Leaf act))
-leaf_rests q e st h n (Queued a b c) = absurd (n b)
-leaf_rests q e st h n (AtLeaf act a b c d) = (act, a, b, c, d)
-leaf_rests q e st h n (Stalls count a b c d) = absurd (n b)
+leaf_rests due q e st h n (Queued a b c d) = absurd (n b)
+leaf_rests due q e st h n (AtLeaf act a b c d) = (act, a, b, c, d)
+leaf_rests due q e st h n (Stalls count a b c d f) = absurd (n b)
 
 pub more_some : (key : ℕ) (a b : List ℕ) → OneMore key a b → times_in key b ≢ 0
 more_some key a b h z = let e : times_in key b ≡ times_in key a + 1 = more_there key a b h in absurd (omega arith)
@@ -84,16 +84,16 @@ module _ {N : Type 0} (nodes : Nodes N) (t : Terms) (sizes : ℕ → ℕ) (f : F
   it_is_held k e = held_there nodes t World0 key x h k.linked (first_at (live_of key x) others) e
 
   pub queued_now : (rest : List ℕ) → Kept → shelf key ≡ Some h → OneMore key rest queue
-      → (times_in key queue ≡ 1) × (times_in key leaves ≡ 0) × (h.tally.stall ≡ None)
+      → (times_in key queue ≡ 1) × (times_in key leaves ≡ 0) × (h.tally.stall ≡ None) × nodes.due h.node
   queued_now rest k e more =
-      queued_rests {N = N} (times_in key queue) (times_in key leaves) x.stack h (more_some key rest queue more)
+      queued_rests {N = N} nodes.due (times_in key queue) (times_in key leaves) x.stack h (more_some key rest queue more)
       (it_is_held k e).rests
 
   pub leaf_now : (rest : List ℕ) → Kept → shelf key ≡ Some h → OneMore key rest leaves
       → (act : LeafOp) × (times_in key queue ≡ 0) × (times_in key leaves ≡ 1) × (h.tally.stall ≡ None) ×
       (x.stack ≡ fresh_stack (Leaf act))
   leaf_now rest k e more =
-      leaf_rests {N = N} (times_in key queue) (times_in key leaves) x.stack h (more_some key rest leaves more)
+      leaf_rests {N = N} nodes.due (times_in key queue) (times_in key leaves) x.stack h (more_some key rest leaves more)
       (it_is_held k e).rests
 
   pub running_first : Kept → Later t sizes f before trees (x ∷ all_flying tops others) s.entries s.images
@@ -109,7 +109,7 @@ module _ {N : Type 0} (nodes : Nodes N) (t : Terms) (sizes : ℕ → ℕ) (f : F
       → ((k : ℕ) → k ≢ key → times_in k leaves_now ≡ times_in k leaves)
       → st.children ≡ x.stack.children → ((n : ℕ) → Keeps x (record { at = x.at; stack = st }) n)
       → nodes.told node ≡ nodes.told h.node → nodes.Is t node st → CountsAre tally st.children
-      → Rests {N = N} (times_in key queue_now) (times_in key leaves_now) st (with_both {N = N} h node tally)
+      → Rests {N = N} nodes.due (times_in key queue_now) (times_in key leaves_now) st (with_both {N = N} h node tally)
       → Linked nodes t (world {N = N} tops
       (live_of key (record { at = x.at; stack = st }) ∷ others) shelf_now queue_now leaves_now)
   one_linked st node tally shelf_now queue_now leaves_now k e with_it q l cs keeps told is counts rests =
@@ -133,12 +133,12 @@ module _ {N : Type 0} (nodes : Nodes N) (t : Terms) (sizes : ℕ → ℕ) (f : F
       → (dids : List Did) (st : Stack)
       → DoesAll t dids x.stack st → AllByRecursion (IsRight t) dids
       → AreLawful (sizes_of t.setting.tops) t.used (s.entries ++ choices_of dids)
-      → (node : N) → nodes.Is t node st → nodes.told node ≡ nodes.told h.node
+      → (node : N) → nodes.Is t node st → nodes.told node ≡ nodes.told h.node → nodes.due node
       → (shelf_now : Shelf N) → IsWith shelf key (Some (with_node {N = N} h node)) shelf_now
       → StillKept {N = N} nodes t sizes f before trees tops
       (live_of key (record { at = x.at; stack = st }) ∷ others) shelf_now queue leaves
       (s.entries ++ choices_of dids) s.images
-  one_goes_on sound k e rest more dids st does right lawful node is told shelf_now with_it =
+  one_goes_on sound k e rest more dids st does right lawful node is told due shelf_now with_it =
       let r : Later t sizes f before trees (x ∷ all_flying tops others) s.entries s.images = running_first k in
       let done = does_all t sizes f before trees x.at
       (all_flying tops others) sound dids x.stack st r.state r.running does right
@@ -163,7 +163,7 @@ module _ {N : Type 0} (nodes : Nodes N) (t : Terms) (sizes : ℕ → ℕ) (f : F
       (one_linked st node h.tally shelf_now queue leaves k e with_it (λ i n. refl) (λ i n. refl) done.children
       (λ n. keeps_with x.at x.stack st n done.places (λ c g goes. same_children x.stack st n c done.children g))
       told is (subst (λ (cs : List Child). CountsAre h.tally cs) (sym done.children) was.counts)
-      (Queued waits.0 waits.1 waits.2))
+      (Queued waits.0 waits.1 waits.2 due))
 
   same_later : Kept → (y : Flying) → y ≡ x → Later t sizes f before trees
       (all_flying tops (live_of key y ∷ others)) s.entries s.images
@@ -174,9 +174,10 @@ module _ {N : Type 0} (nodes : Nodes N) (t : Terms) (sizes : ℕ → ℕ) (f : F
   -- it stalls on a count that isn't 0
   pub one_waits : Kept → shelf key ≡ Some h → (rest : List ℕ) → OneMore key rest queue → (count : Count)
       → counted count.kind count.phase h.tally ≢ 0 → (node : N) → nodes.Is t node x.stack → nodes.told node ≡ nodes.told h.node
+      → nodes.due node
       → (shelf_now : Shelf N) → IsWith shelf key (Some (with_both {N = N} h node (stalled (Some count) h.tally))) shelf_now
       → StillKept {N = N} nodes t sizes f before trees tops (live_of key x ∷ others) shelf_now rest leaves s.entries s.images
-  one_waits k e rest more count some node is told shelf_now with_it =
+  one_waits k e rest more count some node is told due shelf_now with_it =
       let waits = queued_now rest k e more in
       let was : HeldIn nodes t World0 key x h = it_is_held k e in
       kept_now t sizes f before trees nodes tops (live_of key x ∷ others) shelf_now rest leaves s.entries s.images
@@ -185,22 +186,22 @@ module _ {N : Type 0} (nodes : Nodes N) (t : Terms) (sizes : ℕ → ℕ) (f : F
       (λ i n. sym (more_other key i rest queue more n)) (λ i n. refl) refl (λ n kind w at d. d) told is
       (counts_stalled count h.tally x.stack.children was.counts)
       (Stalls count (less_one (times_in key queue) (times_in key rest) waits.0 (more_there key rest queue more)) waits.1 refl
-      (λ z. some (sym (counted_stalled count.kind count.phase count h.tally) ∙ z))))
+      (λ z. some (sym (counted_stalled count.kind count.phase count h.tally) ∙ z)) due))
 
   -- its operation goes to a leaf
   pub one_goes_to_leaf : Kept → shelf key ≡ Some h → (rest : List ℕ) → OneMore key rest queue → (act : LeafOp)
       → x.stack ≡ fresh_stack (Leaf act)
-      → (leaves_now : List ℕ) → OneMore key leaves leaves_now
-      → StillKept {N = N} nodes t sizes f before trees tops (live_of key x ∷ others) shelf rest leaves_now s.entries s.images
-  one_goes_to_leaf k e rest more act is leaves_now more_leaves =
+      → (leaves_now : List ℕ) → OneMore key leaves leaves_now → (node : N) → nodes.Is t node x.stack
+      → nodes.told node ≡ nodes.told h.node → (shelf_now : Shelf N) → IsWith shelf key (Some (with_node {N = N} h node)) shelf_now
+      → StillKept {N = N} nodes t sizes f before trees tops (live_of key x ∷ others) shelf_now rest leaves_now s.entries s.images
+  one_goes_to_leaf k e rest more act fresh leaves_now more_leaves node is told shelf_now with_it =
       let waits = queued_now rest k e more in
       let was : HeldIn nodes t World0 key x h = it_is_held k e in
-      kept_now t sizes f before trees nodes tops (live_of key x ∷ others) shelf rest leaves_now s.entries s.images
+      kept_now t sizes f before trees nodes tops (live_of key x ∷ others) shelf_now rest leaves_now s.entries s.images
       (same_later k x refl) k.stand k.differ
-      (one_linked x.stack h.node h.tally shelf rest leaves_now k e (record { there = e; others = λ i n. refl })
+      (one_linked x.stack node h.tally shelf_now rest leaves_now k e with_it
       (λ i n. sym (more_other key i rest queue more n)) (λ i n. more_other key i leaves leaves_now more_leaves n) refl
-      (λ n kind w at d. d) refl was.is
-      was.counts
+      (λ n kind w at d. d) told is was.counts
       (AtLeaf act (less_one (times_in key queue) (times_in key rest) waits.0 (more_there key rest queue more))
       (more_one (times_in key leaves_now) (times_in key leaves) waits.1
-      (more_there key leaves leaves_now more_leaves)) waits.2 is))
+      (more_there key leaves leaves_now more_leaves)) waits.2 fresh))

@@ -67,8 +67,8 @@ module _ {N : Type 0} (nodes : Nodes N) (t : Terms) (sizes : ℕ → ℕ) (f : F
       → shelf key ≡ Some h → h.parent ≡ OfNode above n → shelf above ≡ Some g → needs_none h.kind ≡ false
       → nodes.told h.node ≡ false
       → WillHave t x.stack.outer pointer → slice_get q.stack.children n ≡ Some c
-      → (node up : N) → nodes.Is t node x.stack → nodes.told node ≡ true
-      → nodes.Is t up (heard_early q.stack n c pointer) → nodes.told up ≡ nodes.told g.node
+      → (node up : N) → nodes.Is t node x.stack → nodes.told node ≡ true → nodes.due node
+      → nodes.Is t up (heard_early q.stack n c pointer) → nodes.told up ≡ nodes.told g.node → (nodes.due g.node → nodes.due up)
       → (error : Option Errno) (bits : Bits)
       → (shelf_now : Shelf N) → AreWith shelf key (Some (with_node {N = N} h node)) above
       (Some (with_both {N = N} g up (notified h.kind Ready error bits g.tally))) shelf_now
@@ -76,7 +76,7 @@ module _ {N : Type 0} (nodes : Nodes N) (t : Terms) (sizes : ℕ → ℕ) (f : F
       → StillKept {N = N} nodes t sizes f before trees tops
       (live_of key x ∷ live_of above (record { at = q.at; stack = heard_early q.stack n c pointer }) ∷ others) shelf_now
       queue_now leaves s.entries s.images
-  one_tells key above x q others h g n c pointer k e parent eg needs nothing will there node up is told is_up told_up error bits
+  one_tells key above x q others h g n c pointer k e parent eg needs nothing will there node up is told due is_up told_up still error bits
       shelf_now with_two queue_now more =
       let lives : List Live = live_of key x ∷ live_of above q ∷ others in
       let y : Flying = heard_as q n c.seat (IsOut (Some pointer)) (child_told c) in
@@ -124,7 +124,7 @@ module _ {N : Type 0} (nodes : Nodes N) (t : Terms) (sizes : ℕ → ℕ) (f : F
         goes = child.goes;
         there = child.there;
         of_kind = child.of_kind;
-      }) told is k.linked in
+      }) told is due k.linked in
       kept_now t sizes f before trees nodes tops now shelf_now queue_now leaves s.entries s.images
       (later_as t sizes f before trees (x ∷ y ∷ all_flying tops others) (all_flying tops now) s.entries s.images
       (tells_on x q (all_flying tops others) n c pointer r will there untold child.goes child.there)
@@ -144,9 +144,9 @@ module _ {N : Type 0} (nodes : Nodes N) (t : Terms) (sizes : ℕ → ℕ) (f : F
         queue = λ i m j. more_if_other (is_last h.kind Ready g.tally) above i queue queue_now more j;
         leaves = λ i m j. refl;
       }) fate told_up is_up counts
-      (rests_notified {N = N} (times_in above queue) (times_in above queue_now)
+      (rests_notified {N = N} nodes.due (times_in above queue) (times_in above queue_now)
       (times_in above leaves) q.stack y.stack g up h.kind Ready error bits n c there
-      owed (more_if_there (is_last h.kind Ready g.tally) above queue queue_now more) was_up.rests)
+      owed (more_if_there (is_last h.kind Ready g.tally) above queue queue_now more) still was_up.rests)
       k.linked)
     where
       told_in : nodes.told h.node ≡ false → needs_none h.kind ≡ false → counts_as_told h.kind (nodes.told h.node) ≡ false
@@ -180,12 +180,12 @@ module _ {N : Type 0} (nodes : Nodes N) (t : Terms) (sizes : ℕ → ℕ) (f : F
       → shelf key ≡ Some h → h.parent ≡ OfTree tree n → top_at tops tree ≡ Some q → needs_none h.kind ≡ false
       → nodes.told h.node ≡ false
       → WillHave t x.stack.outer pointer → slice_get q.stack.children n ≡ Some c
-      → (node : N) → nodes.Is t node x.stack → nodes.told node ≡ true
+      → (node : N) → nodes.Is t node x.stack → nodes.told node ≡ true → nodes.due node
       → (shelf_now : Shelf N) → IsWith shelf key (Some (with_node {N = N} h node)) shelf_now
       → StillKept {N = N} nodes t sizes f before trees
       (slice_set tops tree (Some (record { at = q.at; stack = heard_early q.stack n c pointer })))
       (live_of key x ∷ others) shelf_now queue leaves s.entries s.images
-  one_tells_tree key tree x q others h n c pointer k e parent eq needs nothing will there node is told shelf_now with_it =
+  one_tells_tree key tree x q others h n c pointer k e parent eq needs nothing will there node is told due shelf_now with_it =
       let lives : List Live = live_of key x ∷ others in
       let y : Flying = heard_as q n c.seat (IsOut (Some pointer)) (child_told c) in
       let now : List (Option Flying) = slice_set tops tree (Some y) in
@@ -220,7 +220,7 @@ module _ {N : Type 0} (nodes : Nodes N) (t : Terms) (sizes : ℕ → ℕ) (f : F
         goes = child.goes;
         there = child.there;
         of_kind = child.of_kind;
-      }) told is k.linked in
+      }) told is due k.linked in
       kept_now t sizes f before trees nodes now lives shelf_now queue leaves s.entries s.images
       (later_as t sizes f before trees (x ∷ y ∷ all_flying gone others) (all_flying now lives) s.entries s.images
       (tells_on x q (all_flying gone others) n c pointer r will there untold child.goes child.there)

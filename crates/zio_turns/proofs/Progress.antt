@@ -50,11 +50,11 @@ below_longest (x ∷ xs) key p e = by (same_or_not key x.key) (λ g. below_longe
         omega arith
     by (inr n) later = let h : length p.at < longest xs = later (sym (other_at x xs key n) ∙ e) in omega arith
 
-stalls_alone : {N : Type 0} (q e : ℕ) (st : Stack) (h : Held N) → q ≡ 0 → e ≡ 0 → Rests {N = N} q e st h
+stalls_alone : {N : Type 0} (due : N → Type 0) (q e : ℕ) (st : Stack) (h : Held N) → q ≡ 0 → e ≡ 0 → Rests {N = N} due q e st h
     → (count : Count) × (counted count.kind count.phase h.tally ≢ 0)
-stalls_alone q e st h qs es (Queued a b c) = absurd (omega arith)
-stalls_alone q e st h qs es (AtLeaf act a b c d) = absurd (omega arith)
-stalls_alone q e st h qs es (Stalls count a b c d) = (count, d)
+stalls_alone due q e st h qs es (Queued a b c d) = absurd (omega arith)
+stalls_alone due q e st h qs es (AtLeaf act a b c d) = absurd (omega arith)
+stalls_alone due q e st h qs es (Stalls count a b c d f) = (count, d)
 
 longer_there : (x : Flying) (seat : Seat) (at : List ℕ) → at ≡ place_of x seat → length x.at < length at
 longer_there x seat at e = subst (λ (p : List ℕ). length x.at < length p) (sym e) (place_longer x seat)
@@ -72,7 +72,7 @@ module _ {N : Type 0} (nodes : Nodes N) (t : Terms) (w : World N) where
       let here = on_shelf_there nodes t w key x l flies in
       let h : Held N = here.0 in
       let held : HeldIn nodes t w key x h = here.2 in
-      let waits = stalls_alone {N = N} _ _ x.stack h (none_queued q) (none_at e) held.rests in
+      let waits = stalls_alone {N = N} nodes.due _ _ x.stack h (none_queued q) (none_at e) held.rests in
       let owed : Owes waits.0.kind waits.0.phase x.stack.children =
       one_owes waits.0.kind waits.0.phase x.stack.children (λ z. waits.1 (held.counts waits.0.kind waits.0.phase ∙ z)) in
       let child : IsHeldFor {N = N} w.shelf (OfNode key owed.number) =

@@ -72,7 +72,7 @@ module _ {N : Type 0} (nodes : Nodes N) (t : Terms) where
     parent = p.parent;
     children = p.children;
     counts = p.counts;
-    rests = subst (λ (n : ℕ). Rests {N = N} n (times_in key leaves) x.stack h) (sym e) p.rests;
+    rests = subst (λ (n : ℕ). Rests {N = N} nodes.due n (times_in key leaves) x.stack h) (sym e) p.rests;
   }
 
   pub round_requeued : (sizes : ℕ → ℕ) (f : Forest) (before : Before) (s : SoFar) (slab : Slab (TiedNode N))
@@ -127,9 +127,10 @@ module _ {N : Type 0} (nodes : Nodes N) (t : Terms) where
       → get slab key ≡ None → Updates slab slab_now key (Some (with_ties {N = N} node (new_ties Logical (Tree tree child))))
       → (top : Flying) (op : Task) → top_at s.tops tree ≡ Some top → is_single (asking top.stack).op ≡ false
       → AsksNext t (asking top.stack) op → kind_of_task op ≡ Logical → nodes.Is t node (fresh_stack op) → nodes.told node ≡ false
-      → nodes.gave node ≡ [] → child ≡ length top.stack.children
+      → nodes.gave node ≡ [] → nodes.due node → child ≡ length top.stack.children
       → KeepsRound {N = N} nodes t sizes f before (with_tree s tree (handed_on top op)) slab_now (line ++ key ∷ []) leaves
-  round_root sizes f before s slab slab_now line leaves key tree child node sound k free put top op there many asks kind is told gave number =
+  round_root sizes f before s slab slab_now line leaves key tree child node sound k free put top op there many asks kind is told gave due
+      number =
       let now : TiedNode N = with_ties {N = N} node (new_ties Logical (Tree tree child)) in
       let with_it = shelf_with slab slab_now key now put in
       let with_kind = subst (λ (c : ChildKind). IsWith (shelf_of {N = N} slab) key
@@ -152,7 +153,7 @@ module _ {N : Type 0} (nodes : Nodes N) (t : Terms) where
         still = still_as nodes t sizes f before s.trees (slice_set s.tops tree (Some (handed_on top op))) lives
             (shelf_of {N = N} slab_now) (line ++ key ∷ []) leaves k.still.state.entries s.entries k.still.state.images s.images
             (tree_begins nodes t sizes f before s.trees s.tops (shelf_of {N = N} slab) line leaves k.still.state tree key top k.lives
-            sound k.still.kept there op many asks node is (λ needs. told) (ap (held_if {N = N}) free) (shelf_of {N = N} slab_now)
+            sound k.still.kept there op many asks node is (λ needs. told) due (ap (held_if {N = N}) free) (shelf_of {N = N} slab_now)
             with_new (line ++ key ∷ []) (queued_last key line))
             k.still.entries_are k.still.images_are;
         numbered = numbered_with slab slab_now key now (flying_at k.lives) (flying_at lives) (new_flying top op) put
@@ -203,9 +204,9 @@ pub root_handed : {N : Type 0} (nodes : Nodes N) (slab slab_now : Slab (TiedNode
     → ties ≡ new_ties Logical (Tree tree child) → line_now ≡ line ++ key ∷ []
     → HandsOut {N = N} nodes slab line slab_now line_now tree child node
 root_handed {N} nodes slab slab_now line line_now key tree child node ties free put are queued =
-    λ t sizes f before s leaves top op sound k there many asks kind is told gave number.
+    λ t sizes f before s leaves top op sound k there many asks kind is told gave due number.
     subst (λ (q : List ℕ). KeepsRound {N = N} nodes t sizes f before (with_tree s tree (handed_on top op)) slab_now q leaves)
     (sym queued)
     (round_root nodes t sizes f before s slab slab_now line leaves key tree child node sound k free
     (subst (λ (x : Ties). Updates slab slab_now key (Some (with_ties {N = N} node x))) are put) top op there many asks kind is told
-    gave number)
+    gave due number)

@@ -188,7 +188,7 @@ module _ {N S : Type 0} (nodes : Nodes N) (over : List Top → N → Type 0) (t 
               (shelf_of {N = N} slab_now) queue_now leaves a.state.entries (s.entries ++ choices_in calls) a.state.images s.images
               (one_ends nodes t sizes f before s.trees s.tops (shelf_of {N = N} slab) queue leaves a.state key above r.node p.parent
               a.others (held_of {N = N} e) (held_of {N = N} told.was) n p.child ends.value a.kept r.held parent a.held rest one_more
-              ends.ends (λ needs. did_tell p.parent p.child asked needs) p.does.is told.up is_up told.heard.told told.error told.bits
+              ends.ends (λ needs. did_tell p.parent p.child asked needs) p.does.is told.up is_up told.heard.told told.heard.due told.error told.bits
               (shelf_of {N = N} slab_now) (shelf_two slab out slab_now key above None up_now p.other taken told.heard.put)
               queue_now (woken (is_last e.ties.kind Done told.was.ties.counts) above rest queue_now told.heard.queued))
               (a.entries_are ∙ same_entries) a.images_are;

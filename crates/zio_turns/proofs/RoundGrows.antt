@@ -109,10 +109,10 @@ module _ {N : Type 0} (nodes : Nodes N) (t : Terms) (sizes : ℕ → ℕ) (f : F
     (calls : List SpaceCall) (node child : N) (kind : ChildKind) where
   pub round_grows : IsSoundRound t sizes f → (r : IsThere {N = N} nodes t sizes f before s slab (key ∷ line) leaves key e)
       → AreRight t s.entries calls → Grows {N = N} nodes nodes.gave t e.node r.node.stack calls node child kind
-      → Updates slab out key None
+      → nodes.due node → nodes.due child → Updates slab out key None
       → HasGrown {N = N} out line slab_now line_now key (with_ties {N = N} node e.ties) child kind
       → KeepsRound {N = N} nodes t sizes f before (with_calls s calls) slab_now line_now leaves
-  round_grows sound r right g taken has =
+  round_grows sound r right g due due_child taken has =
       let by : calls ≡ calls_by g.dids ++ calls_back [] = g.calls_are ∙ sym (append_none (calls_by g.dids)) in
       let were : WereRight t s.entries calls g.dids = were_right t s.entries calls g.dids [] by right in
       let lawful = subst (λ (cs : List Choice). AreLawful (sizes_of t.setting.tops) t.used (cs ++ choices_of g.dids))
@@ -167,7 +167,7 @@ module _ {N : Type 0} (nodes : Nodes N) (t : Terms) (sizes : ℕ → ℕ) (f : F
       (shelf_of {N = N} slab_now) line_now leaves (r.state.entries ++ choices_of g.dids) r.state.images =
       one_grows nodes t sizes f before s.trees s.tops (shelf_of {N = N} slab) (key ∷ line) leaves r.state key has.at r.node
       r.others h sound r.kept r.held line (queued_first key line) g.dids g.stack g.does were.claims lawful g.op g.part g.asks
-      room node child g.is g.told g.child_is g.child_told (ap (held_if {N = N}) free) (shelf_of {N = N} slab_now) both_now
+      room node child g.is g.told due g.child_is g.child_told due_child (ap (held_if {N = N}) free) (shelf_of {N = N} slab_now) both_now
       line_now (subst (λ (q : List ℕ). OneMore has.at (key ∷ line) q) (sym has.queued) (both_queued key has.at line)) in
       let of_round : (seen : List Choice) × IsOfRound t f seen y.stack =
       second_of_round nodes t sizes f before s slab_now line_now leaves key e (live_of has.at z) (live_of key y) r.others

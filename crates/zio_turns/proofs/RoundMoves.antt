@@ -88,9 +88,9 @@ module _ {N : Type 0} (nodes : Nodes N) (t : Terms) (sizes : ℕ → ℕ) (f : F
   -- it does several things itself
   pub round_goes_on : GivesOwn {N = N} nodes → IsSoundRound t sizes f → (r : There) → (rest : List ℕ) → OneMore key rest queue
       → (calls : List SpaceCall)
-      → AreRight t s.entries calls → (node : N) → GoesOn {N = N} nodes nodes.gave t e.node r.node.stack calls node
+      → AreRight t s.entries calls → (node : N) → GoesOn {N = N} nodes nodes.gave t e.node r.node.stack calls node → nodes.due node
       → Updates slab slab_now key (Some (with_ties {N = N} node e.ties)) → Now (with_calls s calls) queue leaves
-  round_goes_on owns sound r rest more calls right node g put =
+  round_goes_on owns sound r rest more calls right node g due put =
       let were : WereRight t s.entries calls g.dids = were_right t s.entries calls g.dids g.gone g.calls_are right in
       let lawful = subst (λ (cs : List Choice). AreLawful (sizes_of t.setting.tops) t.used (cs ++ choices_of g.dids))
       (sym r.entries_are) were.lawful in
@@ -103,7 +103,7 @@ module _ {N : Type 0} (nodes : Nodes N) (t : Terms) (sizes : ℕ → ℕ) (f : F
             (r.state.entries ++ choices_of g.dids) (s.entries ++ choices_in calls) r.state.images s.images
             (one_goes_on nodes t sizes f before s.trees s.tops key r.node r.others (shelf_of {N = N} slab) queue leaves r.state
             (held_of {N = N} e) sound r.kept r.held rest more g.dids g.stack g.does were.claims lawful node g.is g.told
-            (shelf_of {N = N} slab_now) (shelf_with slab slab_now key (with_ties {N = N} node e.ties) put))
+            due (shelf_of {N = N} slab_now) (shelf_with slab slab_now key (with_ties {N = N} node e.ties) put))
             (ap (λ (cs : List Choice). cs ++ choices_of g.dids) r.entries_are
             ∙ ap (λ (cs : List Choice). s.entries ++ cs) (sym were.same))
             r.images_are;
@@ -137,11 +137,11 @@ module _ {N : Type 0} (nodes : Nodes N) (t : Terms) (sizes : ℕ → ℕ) (f : F
   -- it stalls on a count that isn't 0
   pub round_waits : (r : There) → (rest : List ℕ) → OneMore key rest queue → (calls : List SpaceCall) (kind : ChildKind)
       (phase : Phase) → 0 < count_owing kind phase r.node.stack.children → (node : N)
-      → Stays {N = N} nodes nodes.gave t e.node r.node.stack calls node
+      → Stays {N = N} nodes nodes.gave t e.node r.node.stack calls node → nodes.due node
       → Updates slab slab_now key (Some (with_ties {N = N} node
       (counting e.ties (stalled (first_counted (kind ∷ []) phase e.ties.counts) e.ties.counts))))
       → Now (with_calls s calls) rest leaves
-  round_waits r rest more calls kind phase owing node stays put =
+  round_waits r rest more calls kind phase owing node stays due put =
       let count : Count = record { kind = kind; phase = phase } in
       let some : counted kind phase e.ties.counts ≢ 0 =
       some_owing kind phase e.ties.counts r.node.stack.children r.counts owing in
@@ -155,7 +155,7 @@ module _ {N : Type 0} (nodes : Nodes N) (t : Terms) (sizes : ℕ → ℕ) (f : F
         still = still_as nodes t sizes f before s.trees s.tops (live_of key r.node ∷ r.others) (shelf_of {N = N} slab_now) rest leaves
             r.state.entries (s.entries ++ choices_in calls) r.state.images s.images
             (one_waits nodes t sizes f before s.trees s.tops key r.node r.others (shelf_of {N = N} slab) queue leaves r.state
-            (held_of {N = N} e) r.kept r.held rest more count some node stays.is stays.told (shelf_of {N = N} slab_now)
+            (held_of {N = N} e) r.kept r.held rest more count some node stays.is stays.told due (shelf_of {N = N} slab_now)
             (shelf_with slab slab_now key now put_now))
             (r.entries_are ∙ none_made s.entries calls stays.no_calls) r.images_are;
         numbered = numbered_with slab slab_now key now (flying_at (live_of key r.node ∷ r.others))
@@ -166,31 +166,21 @@ module _ {N : Type 0} (nodes : Nodes N) (t : Terms) (sizes : ℕ → ℕ) (f : F
       }
 
   -- its operation goes to a leaf
-  pub round_goes_to_leaf : IsSoundRound t sizes f → (r : There) → (rest : List ℕ) → OneMore key rest queue → (calls : List SpaceCall)
-      → AreRight t s.entries calls → (act : LeafOp) → r.node.stack ≡ fresh_stack (Leaf act) → (node : N)
+  pub round_goes_to_leaf : (r : There) → (rest : List ℕ) → OneMore key rest queue → (calls : List SpaceCall) → (act : LeafOp)
+      → r.node.stack ≡ fresh_stack (Leaf act) → (node : N)
       → Stays {N = N} nodes nodes.gave t e.node r.node.stack calls node
       → Updates slab slab_now key (Some (with_ties {N = N} node e.ties)) → (leaves_now : List ℕ) → OneMore key leaves leaves_now
       → Now (with_op (with_calls s calls) key act) rest leaves_now
-  round_goes_to_leaf sound r rest more calls right act fresh node stays put leaves_now more_leaves =
-      let lawful : AreLawful (sizes_of t.setting.tops) t.used (r.state.entries ++ []) =
-      subst (λ (cs : List Choice). AreLawful (sizes_of t.setting.tops) t.used cs)
-      (ap (λ (cs : List Choice). s.entries ++ cs) (ap choices_in stays.no_calls)
-      ∙ ap (λ (cs : List Choice). cs ++ []) (sym r.entries_are)) right.lawful in
+  round_goes_to_leaf r rest more calls act fresh node stays put leaves_now more_leaves =
       let now : TiedNode N = with_ties {N = N} node e.ties in
-      let with_it = shelf_with slab slab_now key now put in
-      let first : StillKept {N = N} nodes t sizes f before s.trees s.tops (live_of key r.node ∷ r.others)
-      (shelf_of {N = N} slab_now) queue leaves (r.state.entries ++ []) r.state.images =
-      one_goes_on nodes t sizes f before s.trees s.tops key r.node r.others (shelf_of {N = N} slab) queue leaves r.state
-      (held_of {N = N} e) sound r.kept r.held rest more [] r.node.stack refl tt lawful node stays.is stays.told
-      (shelf_of {N = N} slab_now) with_it in
       record {
         lives = live_of key r.node ∷ r.others;
         still = still_as nodes t sizes f before s.trees s.tops (live_of key r.node ∷ r.others) (shelf_of {N = N} slab_now) rest leaves_now
-            first.state.entries (s.entries ++ choices_in calls) first.state.images s.images
-            (one_goes_to_leaf nodes t sizes f before s.trees s.tops key r.node r.others (shelf_of {N = N} slab_now) queue leaves
-            first.state (held_of {N = N} now) first.kept with_it.there rest more act fresh leaves_now more_leaves)
-            (first.entries_are ∙ append_none r.state.entries ∙ r.entries_are ∙ none_made s.entries calls stays.no_calls)
-            (first.images_are ∙ r.images_are);
+            r.state.entries (s.entries ++ choices_in calls) r.state.images s.images
+            (one_goes_to_leaf nodes t sizes f before s.trees s.tops key r.node r.others (shelf_of {N = N} slab) queue leaves
+            r.state (held_of {N = N} e) r.kept r.held rest more act fresh leaves_now more_leaves node stays.is stays.told
+            (shelf_of {N = N} slab_now) (shelf_with slab slab_now key now put))
+            (r.entries_are ∙ none_made s.entries calls stays.no_calls) r.images_are;
         numbered = numbered_with slab slab_now key now (flying_at (live_of key r.node ∷ r.others))
             (flying_at (live_of key r.node ∷ r.others)) r.node put (with_first key r.node r.node r.others) r.given r.numbered;
         theirs = theirs_out (flying_at (live_of key r.node ∷ r.others)) leaves leaves_now s.ops key r.node act
@@ -204,9 +194,10 @@ module _ {N : Type 0} (nodes : Nodes N) (t : Terms) (sizes : ℕ → ℕ) (f : F
       → r.node.stack ≡ fresh_stack (Leaf act) → (a : Answer) (after : Images) → HasAskedSize act a
       → AnswersOnLeaf t before act s.images a after
       → (node : N) → nodes.Is t node (done_at_once (fresh_stack (Leaf act)) (Leaf act) (Got a))
-      → nodes.told node ≡ nodes.told e.node → nodes.gave node ≡ nodes.gave e.node
-      → Updates slab slab_now key (Some (with_ties {N = N} node e.ties)) → (queue_now : List ℕ) → OneMore key queue queue_now → Now (with_images s after) queue_now rest
-  round_comes_back sound r rest more act fresh a after full answers node is told gave put queue_now more_queue =
+      → nodes.told node ≡ nodes.told e.node → nodes.gave node ≡ nodes.gave e.node → nodes.due node
+      → Updates slab slab_now key (Some (with_ties {N = N} node e.ties)) → (queue_now : List ℕ) → OneMore key queue queue_now
+      → Now (with_images s after) queue_now rest
+  round_comes_back sound r rest more act fresh a after full answers node is told gave due put queue_now more_queue =
       let x : Flying = record { at = r.node.at; stack = fresh_stack (Leaf act) } in
       let is_x : r.node ≡ x = λ i. record { at = r.node.at; stack = fresh i } in
       let now : TiedNode N = with_ties {N = N} node e.ties in
@@ -221,7 +212,7 @@ module _ {N : Type 0} (nodes : Nodes N) (t : Terms) (sizes : ℕ → ℕ) (f : F
             (shelf_of {N = N} slab) queue leaves r.state) is_x r.kept)
             r.held rest more a after
             (subst (λ (i : Images). AnswersOnLeaf t before act i a after) (sym r.images_are) answers) node is told
-            (shelf_of {N = N} slab_now) (shelf_with slab slab_now key now put) queue_now more_queue)
+            due (shelf_of {N = N} slab_now) (shelf_with slab slab_now key now put) queue_now more_queue)
             r.entries_are refl;
         numbered = numbered_with slab slab_now key now (flying_at (live_of key r.node ∷ r.others))
             (flying_at (live_of key y ∷ r.others)) y put (with_first key r.node y r.others)

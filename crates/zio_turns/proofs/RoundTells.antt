@@ -65,7 +65,7 @@ module _ {N : Type 0} (nodes : Nodes N) (over : List Top → N → Type 0) (t : 
     (before : Before) (s : SoFar) (slab mid : Slab (TiedNode N)) (line leaves : List ℕ) (key : ℕ) (e : TiedNode N) (calls : List SpaceCall)
     (node : N) (pointer : Option Bp)
     (r : IsThere {N = N} nodes t sizes f before s slab (key ∷ line) leaves key e)
-    (tells : Tells {N = N} nodes nodes.gave t e.node r.node.stack calls node pointer)
+    (tells : Tells {N = N} nodes nodes.gave t e.node r.node.stack calls node pointer) (due : nodes.due node)
     (put : Updates slab mid key (Some (with_ties {N = N} node e.ties))) where
   -- what its parent can hear
   needs_it : (x q : Flying) (c : Child) → x.stack.outer.op ≡ r.node.stack.outer.op → DoesAsked {N = N} (held_of {N = N} e) x q c
@@ -138,7 +138,7 @@ module _ {N : Type 0} (nodes : Nodes N) (over : List Top → N → Type 0) (t : 
               (shelf_of {N = N} slab_now) (key ∷ line_now) leaves a.state.entries (s.entries ++ choices_in calls) a.state.images s.images
               (one_tells nodes t sizes f before s.trees s.tops (shelf_of {N = N} slab) (key ∷ line) leaves a.state key above r.node p.parent
               a.others (held_of {N = N} e) (held_of {N = N} told.was) n p.child pointer a.kept r.held parent a.held needs
-              tells.before tells.will p.does.is node told.up tells.is tells.told is_up told.heard.told told.error told.bits
+              tells.before tells.will p.does.is node told.up tells.is tells.told due is_up told.heard.told told.heard.due told.error told.bits
               (shelf_of {N = N} slab_now)
               (shelf_two slab mid slab_now key above (Some (with_ties {N = N} node e.ties)) up_now p.other put told.heard.put)
               (key ∷ line_now)
@@ -199,7 +199,7 @@ module _ {N : Type 0} (nodes : Nodes N) (over : List Top → N → Type 0) (t : 
               r.state.entries (s.entries ++ choices_in calls) r.state.images s.images
               (one_tells_tree nodes t sizes f before s.trees s.tops (shelf_of {N = N} slab) (key ∷ line) leaves r.state key tree r.node
               found.top r.others (held_of {N = N} e) n found.child pointer r.kept r.held parent found.there needs tells.before
-              tells.will found.does.is node tells.is tells.told (shelf_of {N = N} mid)
+              tells.will found.does.is node tells.is tells.told due (shelf_of {N = N} mid)
               (shelf_with slab mid key (with_ties {N = N} node e.ties) put))
               (r.entries_are ∙ none_made s.entries calls tells.no_calls) r.images_are;
           numbered = numbered_with slab mid key (with_ties {N = N} node e.ties) (flying_at (live_of key r.node ∷ r.others))

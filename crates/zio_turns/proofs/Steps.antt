@@ -20,7 +20,7 @@ use Rattle.zio_turns.specs.Acts.{CanEnd, CanTell, HasEnded, HasGrown, HasTold, H
 use Rattle.zio_turns.specs.Entries.{count_owing}
 use Rattle.zio_turns.specs.Parts.{Nodes}
 use Rattle.zio_turns.specs.Rounds.{IsTurn, KeepsRound, SoFar, StepsOn, TreeHears, TreeHearsEarly, with_calls, with_op}
-use Rattle.zio_turns.specs.Slabs.{parent_of, shelf_of}
+use Rattle.zio_turns.specs.Slabs.{held_of, parent_of, shelf_of}
 use Rattle.zio_turns.specs.Stages.{Ends, GoesOn, GoesToLeaf, Grows, IsNow, Tells, Waits}
 use Rattle.zio_turns.specs.declared.entry.TiedNode.{TiedNode}
 use Rattle.zio_turns.specs.declared.entry.Parent.{Parent as Above}
@@ -29,6 +29,7 @@ use Rattle.zio_turns.specs.declared.step.Step.{Step}
 use Rattle.zio_turns.specs.declared.step.Step.TheVariants.{Goes, Leaf as ToLeaf, Rests}
 use Rattle.zio_turns.proofs.Finds.{queued_held}
 use Rattle.zio_turns.proofs.FoundFits.{one_lies, one_spans}
+use Rattle.zio_turns.proofs.MoveOne.{queued_now}
 use Rattle.zio_turns.proofs.Queues.{queued_first}
 use Rattle.zio_turns.proofs.RoundEnds.{can_end, ends_as, more, round_ends, round_ends_tree}
 use Rattle.zio_turns.proofs.RoundGrows.{owing_few, round_grows}
@@ -50,6 +51,16 @@ module _ {N : Type 0} (nodes : Nodes N) (tops : List Top) (slab : Slab (TiedNode
       (queued_first key line) in
       from_held {N = N} (get slab key) held.0 held.1
 
+  -- which may run
+  pub turn_due : (over : List Top → N → Type 0) → IsTurn {N = N} nodes over tops slab line key
+      → (e : TiedNode N) → get slab key ≡ Some e → nodes.due e.node
+  turn_due over turn e is =
+      let some = turn.keeps in
+      let r = it_is_there nodes some.terms some.sizes some.forest some.before some.so_far slab (key ∷ line) turn.leaves key e
+      some.keeps is in
+      (queued_now nodes some.terms some.sizes some.forest some.before some.so_far.trees some.so_far.tops key r.node r.others
+      (shelf_of {N = N} slab) (key ∷ line) turn.leaves r.state (held_of {N = N} e) line r.kept r.held (queued_first key line)).3
+
 module _ {N : Type 0} (nodes : Nodes N) (owns : GivesOwn {N = N} nodes) (over : List Top → N → Type 0) (tops : List Top)
     (slab out slab_now : Slab (TiedNode N)) (line line_now : List ℕ) (key : ℕ) (e : TiedNode N) (calls : List SpaceCall)
     (is : get slab key ≡ Some e) (taken : Updates slab out key None) where
@@ -57,14 +68,14 @@ module _ {N : Type 0} (nodes : Nodes N) (owns : GivesOwn {N = N} nodes) (over : 
   On step = StepsOn {N = N} nodes tops calls slab line slab_now line_now key step
 
   pub steps_next : (node : N) → ((t : Terms) (st : Stack) → IsNow {N = N} nodes tops t e.node st
-      → GoesOn {N = N} nodes nodes.gave t e.node st calls node)
+      → GoesOn {N = N} nodes nodes.gave t e.node st calls node) → nodes.due node
       → Updates out slab_now key (Some (with_ties {N = N} node e.ties)) → line_now ≡ line → On {S = Unit {0}} Goes
-  steps_next node moves put same = λ t sizes f before s leaves sound tops_are right k.
+  steps_next node moves due put same = λ t sizes f before s leaves sound tops_are right k.
       let r = it_is_there nodes t sizes f before s slab (key ∷ line) leaves key e k is in
       subst (λ (q : List ℕ). KeepsRound {N = N} nodes t sizes f before (with_calls s calls) slab_now (key ∷ q) leaves)
       (sym same)
       (round_goes_on nodes t sizes f before s slab slab_now (key ∷ line) leaves key e owns sound r line (queued_first key line) calls
-      right node (moves t r.node.stack (record { tops_are = tops_are; is = r.is; seated = r.seated }))
+      right node (moves t r.node.stack (record { tops_are = tops_are; is = r.is; seated = r.seated })) due
       (exchanged slab out slab_now key (with_ties {N = N} node e.ties) taken put))
 
   pub steps_leaf : (node : N) (op : Op) (leaf : ℕ) (bytes : List ℕ) → ((t : Terms) (st : Stack)
@@ -85,16 +96,16 @@ module _ {N : Type 0} (nodes : Nodes N) (owns : GivesOwn {N = N} nodes) (over : 
           keeps = λ leaves_now more.
               subst (λ (q : List ℕ). KeepsRound {N = N} nodes t sizes f before (with_op (with_calls s calls) key g.act)
               slab_now q leaves_now) (sym same)
-              (round_goes_to_leaf nodes t sizes f before s slab slab_now (key ∷ line) leaves key e sound r line
-              (queued_first key line) calls right g.act g.fresh node g.stays
+              (round_goes_to_leaf nodes t sizes f before s slab slab_now (key ∷ line) leaves key e r line
+              (queued_first key line) calls g.act g.fresh node g.stays
               (exchanged slab out slab_now key (with_ties {N = N} node e.ties) taken put) leaves_now more);
         },
       )
 
   pub steps_wait : (node : N) (kind : ChildKind) (phase : Phase) → ((t : Terms) (st : Stack)
-      → IsNow {N = N} nodes tops t e.node st → Waits {N = N} nodes nodes.gave t e.node st calls node kind phase)
+      → IsNow {N = N} nodes tops t e.node st → Waits {N = N} nodes nodes.gave t e.node st calls node kind phase) → nodes.due node
       → HasWaited {N = N} out line slab_now line_now key (with_ties {N = N} node e.ties) kind phase → On {S = Unit {0}} Rests
-  steps_wait node kind phase moves has = λ t sizes f before s leaves sound tops_are right k.
+  steps_wait node kind phase moves due has = λ t sizes f before s leaves sound tops_are right k.
       let r = it_is_there nodes t sizes f before s slab (key ∷ line) leaves key e k is in
       let g = moves t r.node.stack (record { tops_are = tops_are; is = r.is; seated = r.seated }) in
       let first : first_counted (kind ∷ []) phase e.ties.counts ≡ Some (record { kind = kind; phase = phase }) =
@@ -104,7 +115,7 @@ module _ {N : Type 0} (nodes : Nodes N) (owns : GivesOwn {N = N} nodes) (over : 
       subst (λ (q : List ℕ). KeepsRound {N = N} nodes t sizes f before (with_calls s calls) slab_now q leaves)
       (sym same)
       (round_waits nodes t sizes f before s slab slab_now (key ∷ line) leaves key e r line (queued_first key line) calls kind
-      phase g.owing node g.stays (exchanged slab out slab_now key _ taken has.put))
+      phase g.owing node g.stays due (exchanged slab out slab_now key _ taken has.put))
 
   -- the count for which it waits isn't 0
   pub steps_first : (node : N) (kind : ChildKind) (phase : Phase) → ((t : Terms) (st : Stack)
@@ -120,11 +131,12 @@ module _ {N : Type 0} (nodes : Nodes N) (owns : GivesOwn {N = N} nodes) (over : 
 
   pub steps_grow : (node child : N) (kind : ChildKind) → ((t : Terms) (st : Stack)
       → IsNow {N = N} nodes tops t e.node st → Grows {N = N} nodes nodes.gave t e.node st calls node child kind)
+      → nodes.due node → nodes.due child
       → HasGrown {N = N} out line slab_now line_now key (with_ties {N = N} node e.ties) child kind → On {S = Unit {0}} Rests
-  steps_grow node child kind moves has = λ t sizes f before s leaves sound tops_are right k.
+  steps_grow node child kind moves due due_child has = λ t sizes f before s leaves sound tops_are right k.
       let r = it_is_there nodes t sizes f before s slab (key ∷ line) leaves key e k is in
       round_grows nodes t sizes f before s slab out slab_now line line_now leaves key e calls node child kind sound r right
-      (moves t r.node.stack (record { tops_are = tops_are; is = r.is; seated = r.seated })) taken has
+      (moves t r.node.stack (record { tops_are = tops_are; is = r.is; seated = r.seated })) due due_child taken has
 
   -- it has one child more than it handed out before, and no more of a kind are open than it has
   pub steps_children : (node child : N) (kind : ChildKind) (children : ℕ) → ((t : Terms) (st : Stack)
@@ -151,7 +163,7 @@ module _ {N : Type 0} (nodes : Nodes N) (owns : GivesOwn {N = N} nodes) (over : 
   -- ---- it tells
 
   module _ (node : N) (pointer : Option Bp) (moves : (t : Terms) (st : Stack) → IsNow {N = N} nodes tops t e.node st
-      → Tells {N = N} nodes nodes.gave t e.node st calls node pointer)
+      → Tells {N = N} nodes nodes.gave t e.node st calls node pointer) (due : nodes.due node)
       (mid : Slab (TiedNode N)) (put : Updates out mid key (Some (with_ties {N = N} node e.ties))) where
     tells_by : (S : Type 0) (parent : Above) → e.ties.parent ≡ parent
         → HasTold {N = N} nodes over mid line slab_now line_now e.ties.kind parent pointer → On {S = S} (step_told parent)
@@ -160,7 +172,7 @@ module _ {N : Type 0} (nodes : Nodes N) (owns : GivesOwn {N = N} nodes) (over : 
         let now : SoFar = with_calls s calls in
         let told : TreeHearsEarly {N = N} nodes t sizes f before now mid (key ∷ line) leaves tree =
         round_tells_tree nodes over t sizes f before s slab mid line leaves key e calls node pointer r
-        (moves t r.node.stack (record { tops_are = tops_are; is = r.is; seated = r.seated }))
+        (moves t r.node.stack (record { tops_are = tops_are; is = r.is; seated = r.seated })) due
         (exchanged slab out mid key (with_ties {N = N} node e.ties) taken put) tree n (ap parent_of above) in
         subst (λ (b : Slab (TiedNode N)). TreeHearsEarly {N = N} nodes t sizes f before now b (key ∷ line_now) leaves tree)
         (sym has.slab_same)
@@ -168,7 +180,7 @@ module _ {N : Type 0} (nodes : Nodes N) (owns : GivesOwn {N = N} nodes) (over : 
     tells_by S (Node upper n) above has = λ t sizes f before s leaves sound tops_are right k.
         let r = it_is_there nodes t sizes f before s slab (key ∷ line) leaves key e k is in
         round_tells nodes over t sizes f before s slab mid line leaves key e calls node pointer r
-        (moves t r.node.stack (record { tops_are = tops_are; is = r.is; seated = r.seated }))
+        (moves t r.node.stack (record { tops_are = tops_are; is = r.is; seated = r.seated })) due
         (exchanged slab out mid key (with_ties {N = N} node e.ties) taken put) upper n (ap parent_of above) slab_now
         line_now has
 
@@ -184,7 +196,7 @@ module _ {N : Type 0} (nodes : Nodes N) (owns : GivesOwn {N = N} nodes) (over : 
         let r = it_is_there nodes some.terms some.sizes some.forest some.before some.so_far slab (key ∷ line) turn.leaves key e
         some.keeps is in
         can_tell nodes over some.terms some.sizes some.forest some.before some.so_far slab mid line turn.leaves key e
-        calls node pointer r (moves some.terms r.node.stack (record { tops_are = some.tops_are; is = r.is; seated = r.seated }))
+        calls node pointer r (moves some.terms r.node.stack (record { tops_are = some.tops_are; is = r.is; seated = r.seated })) due
         (exchanged slab out mid key (with_ties {N = N} node e.ties) taken put) upper n (ap parent_of above)
 
     pub steps_can_tell : IsTurn {N = N} nodes over tops slab line key → CanTell {N = N} nodes mid e.ties.kind e.ties.parent

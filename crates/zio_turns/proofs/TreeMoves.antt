@@ -49,14 +49,14 @@ module _ {N : Type 0} (nodes : Nodes N) (slab slab_now : Slab (TiedNode N)) (lin
     (tree attempt : ℕ) where
   pub attempt_begins : (whole : List UnfinishedRequest) (node : N) → HandsOut {N = N} nodes slab line slab_now line_now tree attempt node
       → ((t : Terms) (p : Pending) (forest : Forest) → t.round ≡ round → t.failmode ≡ failmode → IsTreeOf whole p forest
-      → nodes.Is t node (fresh_stack (Attempt attempt p forest))) → nodes.told node ≡ false → nodes.gave node ≡ []
+      → nodes.Is t node (fresh_stack (Attempt attempt p forest))) → nodes.told node ≡ false → nodes.gave node ≡ [] → nodes.due node
       → BeginsOn {N = N} nodes slab line slab_now line_now round failmode tree attempt whole
-  attempt_begins whole node hands fresh told gave = λ t sizes f before s leaves top c sound same_round same_mode k there between number is.
+  attempt_begins whole node hands fresh told gave due = λ t sizes f before s leaves top c sound same_round same_mode k there between number is.
       record {
         keeps = hands t sizes f before s leaves top (attempt_of c) sound k there (asking_many top.stack between.settles between.alone)
             (course_asks t c top.stack between) refl
             (subst (λ (n : ℕ). nodes.Is t node (fresh_stack (Attempt n c.request c.kids))) (sym number)
-            (fresh t c.request c.kids same_round same_mode is)) told gave (sym (between.number ∙ number));
+            (fresh t c.request c.kids same_round same_mode is)) told gave due (sym (between.number ∙ number));
         out = course_handed t c top.stack between;
       }
 

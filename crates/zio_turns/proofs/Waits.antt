@@ -95,28 +95,29 @@ no_child act st n c e is =
     cc
 
 -- a child of the node told or ended: it is queued once more where that was the last for which it stalled
-pub rests_notified : {N : Type 0} (queued later at_leaf : ℕ) (st other : Stack) (h : Held N) (node : N) (own : ChildKind)
+pub rests_notified : {N : Type 0} (due : N → Type 0) (queued later at_leaf : ℕ) (st other : Stack) (h : Held N) (node : N) (own : ChildKind)
     (mark : Phase)
     (error : Option Errno) (bits : Bits) (n : ℕ) (c : Child) → slice_get st.children n ≡ Some c → counted own mark h.tally ≢ 0
-    → later ≡ queued + bit (is_last own mark h.tally) → Rests {N = N} queued at_leaf st h
-    → Rests {N = N} later at_leaf other (with_both {N = N} h node (notified own mark error bits h.tally))
-rests_notified {N} queued later at_leaf st other h node own mark error bits n c is owed more (Queued q e none) =
+    → later ≡ queued + bit (is_last own mark h.tally) → (due h.node → due node) → Rests {N = N} due queued at_leaf st h
+    → Rests {N = N} due later at_leaf other (with_both {N = N} h node (notified own mark error bits h.tally))
+rests_notified {N} due queued later at_leaf st other h node own mark error bits n c is owed more still (Queued q e none d) =
     let b : is_last own mark h.tally ≡ false = not_last own mark h.tally none in
     let f : bit (is_last own mark h.tally) ≡ 0 = ap bit b in
-    Queued (omega arith) e (stall_notified mark own error bits h.tally ∙ ap (λ (x : Bool). cond x None h.tally.stall) b ∙ none)
-rests_notified {N} queued later at_leaf st other h node own mark error bits n c is owed more (AtLeaf act q e none fresh) =
+    Queued (omega arith) e (stall_notified mark own error bits h.tally ∙ ap (λ (x : Bool). cond x None h.tally.stall) b ∙ none) (still d)
+rests_notified {N} due queued later at_leaf st other h node own mark error bits n c is owed more still (AtLeaf act q e none fresh) =
     absurd (no_child act st n c fresh is)
-rests_notified {N} queued later at_leaf st other h node own mark error bits n c is owed more (Stalls count q e stalls counts) =
+rests_notified {N} due queued later at_leaf st other h node own mark error bits n c is owed more still
+    (Stalls count q e stalls counts d) =
     by (is_last own mark h.tally) refl more
   where
     by : (b : Bool) → is_last own mark h.tally ≡ b → later ≡ queued + bit b
-        → Rests {N = N} later at_leaf other (with_both {N = N} h node (notified own mark error bits h.tally))
+        → Rests {N = N} due later at_leaf other (with_both {N = N} h node (notified own mark error bits h.tally))
     by true l more =
-        Queued (omega arith) e (stall_notified mark own error bits h.tally ∙ ap (λ (x : Bool). cond x None h.tally.stall) l)
+        Queued (omega arith) e (stall_notified mark own error bits h.tally ∙ ap (λ (x : Bool). cond x None h.tally.stall) l) (still d)
     by false l more =
         Stalls count (omega arith) e
         (stall_notified mark own error bits h.tally ∙ ap (λ (x : Bool). cond x None h.tally.stall) l ∙ stalls)
-        (still_counted own mark error bits h.tally count stalls counts owed l)
+        (still_counted own mark error bits h.tally count stalls counts owed l) (still d)
 
 -- ---- the first count that isn't 0
 

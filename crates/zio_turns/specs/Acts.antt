@@ -105,6 +105,7 @@ pub record HasHeard {N : Type 0} (nodes : Nodes N) (slab : Slab (TiedNode N)) (l
   pub told : nodes.told up ≡ nodes.told was.node
   pub left : nodes.left up ≤ nodes.left was.node + heard_max
   pub gave : nodes.gave up ≡ nodes.gave was.node
+  pub due : nodes.due was.node → nodes.due up
 
 -- its parent heard which pointer its value will have
 pub record NodeTold {N : Type 0} (nodes : Nodes N) (over : List Top → N → Type 0) (slab : Slab (TiedNode N)) (line : List ℕ)

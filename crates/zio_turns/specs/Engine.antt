@@ -63,14 +63,14 @@ ChildrenHeld {N = N} shelf parent children =
 -- ---- what a node waits for
 
 -- By how often it stands in the queue and at the leaves: it is queued once, or its operation is at a leaf, once, or it
--- stalls on a count that isn't 0.
-pub data Rests {N : Type 0} (queued at_leaf : ℕ) (st : Stack) (h : Held N) : Type 0 where
-  Queued : queued ≡ 1 → at_leaf ≡ 0 → h.tally.stall ≡ None → Rests queued at_leaf st h
+-- stalls on a count that isn't 0. Where it isn't at a leaf it may run.
+pub data Rests {N : Type 0} (due : N → Type 0) (queued at_leaf : ℕ) (st : Stack) (h : Held N) : Type 0 where
+  Queued : queued ≡ 1 → at_leaf ≡ 0 → h.tally.stall ≡ None → due h.node → Rests due queued at_leaf st h
   AtLeaf : (act : LeafOp) → queued ≡ 0 → at_leaf ≡ 1 → h.tally.stall ≡ None → st ≡ fresh_stack (Leaf act)
-      → Rests queued at_leaf st h
+      → Rests due queued at_leaf st h
   Stalls : (count : Count) → queued ≡ 0 → at_leaf ≡ 0 → h.tally.stall ≡ Some count
-      → (counted count.kind count.phase h.tally ≢ 0)
-      → Rests queued at_leaf st h
+      → (counted count.kind count.phase h.tally ≢ 0) → due h.node
+      → Rests due queued at_leaf st h
 
 -- ---- one node
 
@@ -81,7 +81,7 @@ pub record IsHeld {N : Type 0} (nodes : Nodes N) (t : Terms) (tops lives : ℕ �
   pub parent : HasParent tops lives h.kind (nodes.told h.node) x.at h.parent
   pub children : ChildrenHeld {N = N} shelf (OfNode key) x.stack.children
   pub counts : CountsAre h.tally x.stack.children
-  pub rests : Rests {N = N} (times_in key queue) (times_in key leaves) x.stack h
+  pub rests : Rests {N = N} nodes.due (times_in key queue) (times_in key leaves) x.stack h
 
 -- what is in flight under a key is held there, and nothing else is there or waits
 abbrev pub Matches : {N : Type 0} → Nodes N → Terms → (ℕ → Option Flying) → (ℕ → Option Flying) → Shelf N → List ℕ → List ℕ → ℕ

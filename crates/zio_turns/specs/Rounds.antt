@@ -304,7 +304,8 @@ HandsOut {N = N} nodes slab line slab_now line_now tree child node =
     (t : Terms) (sizes : ℕ → ℕ) (f : Forest) (before : Before) (s : SoFar) (leaves : List ℕ) (top : Flying) (op : Task) →
     IsSoundRound t sizes f → KeepsRound {N = N} nodes t sizes f before s slab line leaves → top_at s.tops tree ≡ Some top →
     is_single (asking top.stack).op ≡ false → AsksNext t (asking top.stack) op → kind_of_task op ≡ Logical →
-    nodes.Is t node (fresh_stack op) → nodes.told node ≡ false → nodes.gave node ≡ [] → child ≡ length top.stack.children →
+    nodes.Is t node (fresh_stack op) → nodes.told node ≡ false → nodes.gave node ≡ [] → nodes.due node →
+    child ≡ length top.stack.children →
     KeepsRound {N = N} nodes t sizes f before (with_tree s tree (handed_on top op)) slab_now line_now leaves
 
 -- the round goes on with the key in front

@@ -177,10 +177,14 @@ EachIn P Q (ToLeaf after op leaf bytes) = P after
 EachIn P Q (Ready after pointer) = P after
 EachIn P Q (End outcome) = OutcomeIn Q outcome
 
--- a pointer that is told is valid
-abbrev pub TellsValid : {N S : Type 0} → Move N S → Type 0
-TellsValid (Ready after pointer) = IfSome pointer (λ bp. IsTrue (valid bp))
-TellsValid _ = Unit {0}
+-- a pointer that is told is valid, and each node that the move hands out may run, but one that is with its leaf
+abbrev pub MayGoOn : {N S : Type 0} → (N → Type 0) → Move N S → Type 0
+MayGoOn due (Next after) = due after
+MayGoOn due (Wait after kind phase) = due after
+MayGoOn due (Grow after child kind) = due after × due child
+MayGoOn due (ToLeaf after op leaf bytes) = Unit {0}
+MayGoOn due (Ready after pointer) = due after × IfSome pointer (λ bp. IsTrue (valid bp))
+MayGoOn due (End outcome) = Unit {0}
 
 -- ---- how often it runs
 

@@ -53,7 +53,7 @@ pub fn engines_keep_rounds<N: NodeFacts>()
         IsSoundRound t sizes f →
         IsKept N.nodes t sizes f before trees tops lives shelf queue leaves s → top_at tops n ≡ Some top →
         is_single (asking top.stack).op ≡ false → AsksNext t (asking top.stack) op → N.nodes.Is t c (fresh_stack op) →
-        (needs_none (kind_of_task op) ≡ false → N.nodes.told c ≡ false) → shelf child ≡ None →
+        (needs_none (kind_of_task op) ≡ false → N.nodes.told c ≡ false) → N.nodes.due c → shelf child ≡ None →
         IsWith shelf child (Some (new_held c op (OfTree n (length top.stack.children)))) shelf_now
         → OneMore child queue queue_now →
         StillKept N.nodes t sizes f before trees (slice_set tops n (Some (handed_on top op)))
@@ -66,7 +66,8 @@ pub fn engines_keep_rounds<N: NodeFacts>()
         IsKept N.nodes t sizes f before trees tops (live_of key x ∷ others) shelf queue leaves s →
         shelf key ≡ Some h → OneMore key rest queue → DoesAll t dids x.stack st → AllByRecursion (IsRight t) dids →
         AreLawful (sizes_of t.setting.tops) t.used (s.entries ++ choices_of dids) → N.nodes.Is t node st →
-        N.nodes.told node ≡ N.nodes.told h.node → IsWith shelf key (Some (with_node h node)) shelf_now →
+        N.nodes.told node ≡ N.nodes.told h.node → N.nodes.due node →
+        IsWith shelf key (Some (with_node h node)) shelf_now →
         StillKept N.nodes t sizes f before trees tops
         (live_of key (record { at = x.at; stack = st }) ∷ others) shelf_now queue leaves
         (s.entries ++ choices_of dids) s.images }
@@ -76,7 +77,7 @@ pub fn engines_keep_rounds<N: NodeFacts>()
         IsKept N.nodes t sizes f before trees tops (live_of key x ∷ others) shelf queue leaves s →
         shelf key ≡ Some h → OneMore key rest queue → (counted count.kind count.phase h.tally ≢ 0) →
         N.nodes.Is t node x.stack →
-        N.nodes.told node ≡ N.nodes.told h.node
+        N.nodes.told node ≡ N.nodes.told h.node → N.nodes.due node
         → IsWith shelf key (Some (with_both h node (stalled (Some count) h.tally))) shelf_now →
         StillKept N.nodes t sizes f before trees tops (live_of key x ∷ others) shelf_now rest leaves s.entries
         s.images }
@@ -91,8 +92,8 @@ pub fn engines_keep_rounds<N: NodeFacts>()
         AreLawful (sizes_of t.setting.tops) t.used (s.entries ++ choices_of dids) →
         is_single (asking mid).op ≡ false → AsksNext t (asking mid) op →
         counted (kind_of_task op) Ready h.tally < count_end → N.nodes.Is t node (handed mid op) →
-        N.nodes.told node ≡ N.nodes.told h.node → N.nodes.Is t c (fresh_stack op) →
-        (needs_none (kind_of_task op) ≡ false → N.nodes.told c ≡ false) → shelf child ≡ None →
+        N.nodes.told node ≡ N.nodes.told h.node → N.nodes.due node → N.nodes.Is t c (fresh_stack op) →
+        (needs_none (kind_of_task op) ≡ false → N.nodes.told c ≡ false) → N.nodes.due c → shelf child ≡ None →
         AreWith shelf key (Some (grown h node op)) child
         (Some (new_held c op (OfNode key (length x.stack.children)))) shelf_now →
         OneMore child queue queue_now →
@@ -101,10 +102,13 @@ pub fn engines_keep_rounds<N: NodeFacts>()
         shelf_now queue_now leaves (s.entries ++ choices_of dids) s.images }
     ensures goes_to_leaf { (t : Terms) (sizes : ℕ → ℕ) (f : Forest) (before : Option Images) (trees : List Slot)
         (tops : List (Option Flying)) (others : List Live) (shelf : Shelf N) (queue leaves : List ℕ) (s : State)
-        (key : ℕ) (x : Flying) (h : Held N) (rest : List ℕ) (act : LeafOp) (leaves_now : List ℕ) →
+        (key : ℕ) (x : Flying) (h : Held N) (rest : List ℕ) (act : LeafOp) (leaves_now : List ℕ) (node : N)
+        (shelf_now : Shelf N) →
         IsKept N.nodes t sizes f before trees tops (live_of key x ∷ others) shelf queue leaves s →
         shelf key ≡ Some h → OneMore key rest queue → x.stack ≡ fresh_stack (Leaf act) → OneMore key leaves leaves_now →
-        StillKept N.nodes t sizes f before trees tops (live_of key x ∷ others) shelf rest leaves_now s.entries
+        N.nodes.Is t node x.stack → N.nodes.told node ≡ N.nodes.told h.node →
+        IsWith shelf key (Some (with_node h node)) shelf_now →
+        StillKept N.nodes t sizes f before trees tops (live_of key x ∷ others) shelf_now rest leaves_now s.entries
         s.images }
     ensures at_leaf { (t : Terms) (sizes : ℕ → ℕ) (f : Forest) (before : Option Images) (trees : List Slot)
         (tops : List (Option Flying)) (others : List Live) (shelf : Shelf N) (queue leaves : List ℕ) (s : State)
@@ -126,8 +130,8 @@ pub fn engines_keep_rounds<N: NodeFacts>()
         shelf queue leaves s → shelf key ≡ Some h → OneMore key rest leaves →
         AnswersOnLeaf t before act s.images a after →
         N.nodes.Is t node (done_at_once (fresh_stack (Leaf act)) (Leaf act) (Got a)) →
-        N.nodes.told node ≡ N.nodes.told h.node → IsWith shelf key (Some (with_node h node)) shelf_now
-        → OneMore key queue queue_now →
+        N.nodes.told node ≡ N.nodes.told h.node → N.nodes.due node →
+        IsWith shelf key (Some (with_node h node)) shelf_now → OneMore key queue queue_now →
         StillKept N.nodes t sizes f before trees tops
         (live_of key (record { at = at; stack = done_at_once (fresh_stack (Leaf act)) (Leaf act) (Got a) }) ∷ others)
         shelf_now queue_now rest s.entries after }
@@ -157,8 +161,9 @@ pub fn engines_hear_of_nodes<N: NodeFacts>()
         IsKept N.nodes t sizes f before trees tops (live_of key x ∷ live_of above q ∷ others) shelf queue leaves s →
         shelf key ≡ Some h → h.parent ≡ OfNode above n → shelf above ≡ Some g → needs_none h.kind ≡ false →
         N.nodes.told h.node ≡ false → WillHave t x.stack.outer pointer → slice_get q.stack.children n ≡ Some c →
-        N.nodes.Is t node x.stack → N.nodes.told node ≡ true → N.nodes.Is t up (heard_early q.stack n c pointer) →
-        N.nodes.told up ≡ N.nodes.told g.node →
+        N.nodes.Is t node x.stack → N.nodes.told node ≡ true → N.nodes.due node →
+        N.nodes.Is t up (heard_early q.stack n c pointer) → N.nodes.told up ≡ N.nodes.told g.node →
+        (N.nodes.due g.node → N.nodes.due up) →
         AreWith shelf key (Some (with_node h node)) above
         (Some (with_both g up (notified h.kind Ready error bits g.tally))) shelf_now →
         OneMoreIf (is_last h.kind Ready g.tally) above queue queue_now →
@@ -172,7 +177,8 @@ pub fn engines_hear_of_nodes<N: NodeFacts>()
         IsKept N.nodes t sizes f before trees tops (live_of key x ∷ others) shelf queue leaves s →
         shelf key ≡ Some h → h.parent ≡ OfTree tree n → top_at tops tree ≡ Some q → needs_none h.kind ≡ false →
         N.nodes.told h.node ≡ false → WillHave t x.stack.outer pointer → slice_get q.stack.children n ≡ Some c →
-        N.nodes.Is t node x.stack → N.nodes.told node ≡ true → IsWith shelf key (Some (with_node h node)) shelf_now →
+        N.nodes.Is t node x.stack → N.nodes.told node ≡ true → N.nodes.due node →
+        IsWith shelf key (Some (with_node h node)) shelf_now →
         StillKept N.nodes t sizes f before trees
         (slice_set tops tree (Some (record { at = q.at; stack = heard_early q.stack n c pointer })))
         (live_of key x ∷ others) shelf_now queue leaves s.entries s.images }
@@ -192,6 +198,7 @@ pub fn engines_hear_of_nodes<N: NodeFacts>()
         IsEnded t x.stack v →
         (needs_none h.kind ≡ false → N.nodes.told h.node ≡ true) → slice_get q.stack.children n ≡ Some c →
         N.nodes.Is t up (heard_of q.stack n c v) → N.nodes.told up ≡ N.nodes.told g.node →
+        (N.nodes.due g.node → N.nodes.due up) →
         AreWith shelf key None above (Some (with_both g up (notified h.kind Done error bits g.tally))) shelf_now →
         OneMoreIf (is_last h.kind Done g.tally) above rest queue_now →
         StillKept N.nodes t sizes f before trees tops

@@ -15,7 +15,7 @@ ghost use Rattle.zio_exchange.specs.SpaceCalls.{SpaceCall};
 ghost use Rattle.zio_exchange.specs.Wholes.{IsTreeOf};
 ghost use Rattle.zio_exchange.specs.declared.waiting.UnfinishedRequest.{UnfinishedRequest};
 ghost use Rattle.zio_exchange.specs.declared.outcome.Outcome.{Outcome as SeenOutcome};
-ghost use Rattle.zio_turns.specs.Stages.{AreItsOwn, EachIn, GoesOn, Hears, HearsEarly, HearsSome, HearsSomeEarly, IsMove, IsNow, Lessens, OutcomeIn, ShowsAnswer, TellsValid, heard_max};
+ghost use Rattle.zio_turns.specs.Stages.{AreItsOwn, EachIn, GoesOn, Hears, HearsEarly, HearsSome, HearsSomeEarly, IsMove, IsNow, Lessens, MayGoOn, OutcomeIn, ShowsAnswer, heard_max};
 
 use crate::node::NodeFacts;
 use std::alloc::Global;
@@ -78,23 +78,25 @@ pub trait Staged: NodeFacts + Drop {
             IsTreeOf whole p forest → Self.nodes.Is t node (fresh_stack (Attempt attempt p forest))) }
         ensures told { IfOk result (λ node. Self.nodes.told node ≡ false) }
         ensures gave { IfOk result (λ node. Self.nodes.gave node ≡ []) }
+        ensures due { IfOk result Self.nodes.due }
         ensures over { (tops : Seq SeenTop) → tree_over tops whole → IfOk result (over tops) }
         ensures back { IfErr result (λ e. e.whole ≡ whole) };
 
-    /// Runs one stage. Where memory is refused the node comes back, the stage is to be repeated, and what it did of it
-    /// stays.
+    /// Runs one stage of a node that isn't with its leaf. Where memory is refused the node comes back, the stage is to be
+    /// repeated, and what it did of it stays.
     fn run_stage<S: Services>(
         self,
         alloc: Global,
         services: &mut S,
     ) -> Result<Move<Self, Self::Seal>, Self>
-        requires { over (S.tops services.old) self }
+        requires over { over (S.tops services.old) self }
+        requires due { Self.nodes.due self }
         ensures moves { (move : Move Self Self.Seal) → result ≡ Ok move → (calls : Seq SpaceCall)
             × S.made services.old calls services.new
             × ((t : Terms) (st : Stack) → IsNow Self.nodes (S.tops services.old) t self st
             → IsMove Self.nodes Self.nodes.gave t self st calls move) }
         ensures over { IfOk result (EachIn (over (S.tops services.old)) (tree_over (S.tops services.old))) }
-        ensures valid { IfOk result TellsValid }
+        ensures may { IfOk result (MayGoOn Self.nodes.due) }
         ensures left { IfOk result (Lessens Self.nodes.left self) }
         ensures stages { IfOk result (leads self) }
         ensures refused { (node : Self) → result ≡ Err node → (calls : Seq SpaceCall)
@@ -111,6 +113,7 @@ pub trait Staged: NodeFacts + Drop {
             Self.nodes.Is t result (heard_early st child c pointer) }
         ensures told { Self.nodes.told result ≡ Self.nodes.told self }
         ensures gave { Self.nodes.gave result ≡ Self.nodes.gave self }
+        ensures due { Self.nodes.due self → Self.nodes.due result }
         ensures over { (tops : Seq SeenTop) → over tops self → over tops result }
         ensures left { Self.nodes.left result ≤ Self.nodes.left self + heard_max };
 
@@ -131,6 +134,7 @@ pub trait Staged: NodeFacts + Drop {
         ensures kept { IfOk result (λ both. (f : _) → outcome ≡ SeenOutcome.Finished f → both.1 ≡ Some f) }
         ensures told { IfOk result (λ both. Self.nodes.told both.0 ≡ Self.nodes.told self) }
         ensures gave { IfOk result (λ both. Self.nodes.gave both.0 ≡ Self.nodes.gave self) }
+        ensures due { IfOk result (λ both. Self.nodes.due self → Self.nodes.due both.0) }
         ensures over_still { IfOk result (λ both. over tops.now both.0) }
         ensures left { IfOk result (λ both. Self.nodes.left both.0 ≤ Self.nodes.left self + heard_max) };
 
@@ -146,6 +150,7 @@ pub trait Staged: NodeFacts + Drop {
             Self.nodes.Is t result (done_at_once (fresh_stack (Leaf act)) (Leaf act) (Got a)) }
         ensures told { Self.nodes.told result ≡ Self.nodes.told self }
         ensures gave { Self.nodes.gave result ≡ Self.nodes.gave self }
+        ensures due { Self.nodes.due result }
         ensures over { (tops : Seq SeenTop) → over tops self → over tops result }
         ensures left { Self.nodes.left result ≤ Self.nodes.left self };
 

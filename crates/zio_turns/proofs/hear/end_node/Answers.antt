@@ -35,7 +35,7 @@ returns-clause-heard g c =
       heard = has_heard g.N.NodeFacts.nodes c.args.nodes.now c.remove-node.new.self c.count.new.nodes c.args.line.now c.count.new.line
           c.args.kind Done c.error_of.result c.bits_of.result c.args.key c.remove-node.result c.in-Ok.node
           c.remove-node.ensures.value c.remove-node.ensures.updates c.in_ok-count.ensures c.in-Ok.ensures.told c.in-Ok.ensures.left
-          c.in-Ok.ensures.gave;
+          c.in-Ok.ensures.gave c.in-Ok.ensures.due;
       is = c.in-Ok.ensures.heard;
       inside = c.in-Ok.ensures.over_still;
     }

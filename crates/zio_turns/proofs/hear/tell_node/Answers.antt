@@ -32,7 +32,7 @@ returns g c =
       heard = has_heard g.N.NodeFacts.nodes c.args.nodes.now c.remove-node.new.self c.count.new.nodes c.args.line.now c.count.new.line
           c.args.kind Ready None (record { now = false; suspend = false }) c.args.key c.remove-node.result c.arrive_ready-node.result
           c.remove-node.ensures.value c.remove-node.ensures.updates has c.arrive_ready-node.ensures.told c.arrive_ready-node.ensures.left
-          c.arrive_ready-node.ensures.gave;
+          c.arrive_ready-node.ensures.gave c.arrive_ready-node.ensures.due;
       is = c.arrive_ready-node.ensures.heard;
       over_still = c.arrive_ready-node.ensures.over;
     })

@@ -10,17 +10,18 @@ use Rattle.zio_turns.proofs.laws.engines_hear_of_nodes.Goals as goal
 
 pub returns-clause-tells : goal.returns-clause-tells
 returns-clause-tells g c = λ t sizes f before trees tops others shelf queue leaves s key above x q h held n child pointer node
-    up error bits shelf_now queue_now k e parent there needs nothing will is_child is told is_up told_up with_two more.
+    up error bits shelf_now queue_now k e parent there needs nothing will is_child is told due is_up told_up still
+    with_two more.
     one_tells g.N.NodeFacts.nodes t sizes f before trees tops shelf queue leaves s key above x q others h held n child pointer k e
     parent there needs nothing will
-    is_child node up is told is_up told_up error bits shelf_now with_two queue_now more
+    is_child node up is told due is_up told_up still error bits shelf_now with_two queue_now more
 
 pub returns-clause-tells_tree : goal.returns-clause-tells_tree
 returns-clause-tells_tree g c = λ t sizes f before trees tops others shelf queue leaves s key tree x q h n child pointer node
-    shelf_now k e parent there needs nothing will is_child is told with_it.
+    shelf_now k e parent there needs nothing will is_child is told due with_it.
     one_tells_tree g.N.NodeFacts.nodes t sizes f before trees tops shelf queue leaves s key tree x q others h n child pointer k e
     parent there needs nothing will
-    is_child node is told shelf_now with_it
+    is_child node is told due shelf_now with_it
 
 pub returns-clause-tells_fits : goal.returns-clause-tells_fits
 returns-clause-tells_fits g c = λ t sizes f before trees tops others shelf queue leaves s key above x q h held n child k e
@@ -31,10 +32,11 @@ returns-clause-tells_fits g c = λ t sizes f before trees tops others shelf queu
 
 pub returns-clause-ends : goal.returns-clause-ends
 returns-clause-ends g c = λ t sizes f before trees tops others shelf queue leaves s key above x q h held n child v rest up error
-    bits shelf_now queue_now k e parent there off ended told is_child is_up told_up with_two more.
+    bits shelf_now queue_now k e parent there off ended told is_child is_up told_up still with_two
+    more.
     one_ends g.N.NodeFacts.nodes t sizes f before trees tops shelf queue leaves s key above x q others h held n child v k e parent
     there rest off ended told is_child
-    up is_up told_up error bits shelf_now with_two queue_now more
+    up is_up told_up still error bits shelf_now with_two queue_now more
 
 pub returns-clause-ends_fits : goal.returns-clause-ends_fits
 returns-clause-ends_fits g c = λ t sizes f before trees tops others shelf queue leaves s key above x q h held n child v k e

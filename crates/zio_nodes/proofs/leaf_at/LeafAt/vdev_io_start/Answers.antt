@@ -10,7 +10,7 @@ returns-clause-moves c = λ tops t st now.
     let at = c.args.self.now in
     let h = now.is in
     let asked = subst (λ (s : Stage). LeafStands s at.is_out at.work) c.requires.stage c.requires.stands in
-    let due : IsDue at.work = subst (λ (b : Bool). IsAskedOrDue b at.work) c.if-self.false asked in
+    let due : IsDue at.work = subst (λ (b : Bool). IsAskedOrDue b at.work) c.requires.due asked in
     record {
       act = h.part.act;
       fresh = leaf_fresh t at st h due;

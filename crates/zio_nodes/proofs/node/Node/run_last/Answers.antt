@@ -1,7 +1,7 @@
 use Rattle.std.proofs.Common.{subst}
 use Rattle.std.specs.Prelude.{IfErr, IfOk}
-use Rattle.zio_turns.specs.Stages.{EachIn, Lessens, TellsValid}
-use Rattle.zio_nodes.specs.Nodes.{IsNodeOver, IsTreeOver, MovesWith, StaysWith, left_of}
+use Rattle.zio_turns.specs.Stages.{EachIn, Lessens, MayGoOn}
+use Rattle.zio_nodes.specs.Nodes.{IsNodeDue, IsNodeOver, IsTreeOver, MovesWith, StaysWith, left_of}
 use Rattle.zio_nodes.specs.StageMoves.{IsStageMove}
 use Rattle.zio_nodes.specs.declared.node.Node.{Node}
 use Rattle.zio_nodes.proofs.Settles.{last_in_place, last_stages, settled, settled_back}
@@ -22,9 +22,9 @@ returns-clause-over g c =
     settled (EachIn (IsNodeOver (g.S.Services.tops c.args.services.now)) (IsTreeOver (g.S.Services.tops c.args.services.now))) c.settle.new.self c.last_move-last.result c.settle.result c.settle.ensures.same
     c.settle.ensures.ok c.last_move-last.ensures.over
 
-pub returns-clause-valid : goal.returns-clause-valid
-returns-clause-valid g c =
-    settled TellsValid c.settle.new.self c.last_move-last.result c.settle.result c.settle.ensures.same c.settle.ensures.ok c.last_move-last.ensures.valid
+pub returns-clause-may : goal.returns-clause-may
+returns-clause-may g c =
+    settled (MayGoOn IsNodeDue) c.settle.new.self c.last_move-last.result c.settle.result c.settle.ensures.same c.settle.ensures.ok c.last_move-last.ensures.may
 
 pub returns-clause-left : goal.returns-clause-left
 returns-clause-left g c =

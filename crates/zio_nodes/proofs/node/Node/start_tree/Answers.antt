@@ -1,7 +1,7 @@
 use Rattle.std.proofs.Common.{subst, sym, ◌∙◌}
 use Rattle.std.specs.Prelude.{IfErr, IfOk}
-use Rattle.zio_turns.specs.Stages.{EachIn, Lessens, TellsValid}
-use Rattle.zio_nodes.specs.Nodes.{IsNodeOver, IsTreeOver, MovesBare, StaysBare, left_of}
+use Rattle.zio_turns.specs.Stages.{EachIn, Lessens, MayGoOn}
+use Rattle.zio_nodes.specs.Nodes.{IsNodeDue, IsNodeOver, IsTreeOver, MovesBare, StaysBare, left_of}
 use Rattle.zio_nodes.specs.StageMoves.{IsStageMove}
 use Rattle.zio_nodes.specs.declared.node.Node.{Node}
 use Rattle.zio_nodes.proofs.Settles.{settled, settled_back, start_in_place, start_stages}
@@ -20,8 +20,8 @@ returns-clause-over c = λ tops h.
     settled (EachIn (IsNodeOver tops) (IsTreeOver tops)) c.settle.new.self c.run_stage-started.result c.settle.result c.settle.ensures.same c.settle.ensures.ok
     (c.run_stage-started.ensures.over tops (subst (IsNodeOver tops) (sym c.replace.ensures.value ∙ c.in-Tree.is) h))
 
-pub returns-clause-valid : goal.returns-clause-valid
-returns-clause-valid c = settled TellsValid c.settle.new.self c.run_stage-started.result c.settle.result c.settle.ensures.same c.settle.ensures.ok c.run_stage-started.ensures.valid
+pub returns-clause-may : goal.returns-clause-may
+returns-clause-may c = settled (MayGoOn IsNodeDue) c.settle.new.self c.run_stage-started.result c.settle.result c.settle.ensures.same c.settle.ensures.ok c.run_stage-started.ensures.may
 
 pub returns-clause-left : goal.returns-clause-left
 returns-clause-left c =

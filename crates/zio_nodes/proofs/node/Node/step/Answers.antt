@@ -6,7 +6,7 @@ use Rattle.zio_nodes.specs.StageMoves.{IsStageMove}
 use Rattle.zio_nodes.specs.Stalls.{LeavesGang, children_of, hands_many}
 use Rattle.zio_nodes.specs.declared.node.Node.{Node}
 use Rattle.zio_nodes.specs.declared.node.Node.TheVariants.{Copies, Heads, Leaf, Part, Request}
-use Rattle.zio_nodes.proofs.NodeLemmas.{turn_moves, turn_stays}
+use Rattle.zio_nodes.proofs.NodeLemmas.{bare_move, turn_moves, turn_stays}
 use Rattle.zio_nodes.proofs.Stalling.{hands_bodies}
 use Rattle.zio_nodes.specs.Passes.{KeepsPass}
 use Rattle.zio_nodes.proofs.PassLemmas.{heads_turn, leaf_turn, tree_turn}
@@ -14,23 +14,17 @@ use Rattle.zio_nodes.proofs.node.Node.step.Goals as goal
 
 pub returns-in-Leaf-clause-moves : goal.returns-in-Leaf-clause-moves
 returns-in-Leaf-clause-moves g c =
-    subst (λ (n : Node). IfOk c.run_stage.result (λ turn. MovesWith g.S.Services.made (g.S.Services.tops c.args.services.now) c.args.services.now c.args.services.now n (moved (Leaf c.run_stage.new.self) turn))) (sym c.in-Leaf.is)
-    (turn_moves g.S.Services.made (g.S.Services.tops c.args.services.now) (g.S.Services.tops c.args.services.now) c.args.services.now (Leaf c.in-Leaf.at) (Leaf c.run_stage.new.self) c.run_stage.result refl (g.met.S.Services.made_none c.args.services.now)
+    subst (λ (n : Node). MovesWith g.S.Services.made (g.S.Services.tops c.args.services.now) c.args.services.now c.args.services.now n (moved (Leaf c.run_stage.new.self) c.run_stage.result)) (sym c.in-Leaf.is)
+    (bare_move g.S.Services.made (g.S.Services.tops c.args.services.now) (g.S.Services.tops c.args.services.now) c.args.services.now (Leaf c.in-Leaf.at) (moved (Leaf c.run_stage.new.self) c.run_stage.result) refl (g.met.S.Services.made_none c.args.services.now)
     (c.run_stage.ensures.moves (g.S.Services.tops c.args.services.now)))
-
-pub returns-in-Leaf-clause-refused : goal.returns-in-Leaf-clause-refused
-returns-in-Leaf-clause-refused g c =
-    subst (λ (n : Node). OnErr c.run_stage.result (StaysWith g.S.Services.made (g.S.Services.tops c.args.services.now) c.args.services.now c.args.services.now n (Leaf c.run_stage.new.self))) (sym c.in-Leaf.is)
-    (turn_stays g.S.Services.made (g.S.Services.tops c.args.services.now) (g.S.Services.tops c.args.services.now) c.args.services.now (Leaf c.in-Leaf.at) (Leaf c.run_stage.new.self) c.run_stage.result refl (g.met.S.Services.made_none c.args.services.now)
-    (c.run_stage.ensures.refused (g.S.Services.tops c.args.services.now)))
 
 pub returns-in-Leaf-clause-left : goal.returns-in-Leaf-clause-left
 returns-in-Leaf-clause-left g c =
-    subst (λ (n : Node). IfOk c.run_stage.result (λ turn. Lessens left_of n (moved (Leaf c.run_stage.new.self) turn))) (sym c.in-Leaf.is) c.run_stage.ensures.left
+    subst (λ (n : Node). Lessens left_of n (moved (Leaf c.run_stage.new.self) c.run_stage.result)) (sym c.in-Leaf.is) c.run_stage.ensures.left
 
 pub returns-in-Leaf-clause-stages : goal.returns-in-Leaf-clause-stages
 returns-in-Leaf-clause-stages g c =
-    subst (λ (n : Node). IfOk c.run_stage.result (λ turn. IsStageMove n (moved (Leaf c.run_stage.new.self) turn))) (sym c.in-Leaf.is) c.run_stage.ensures.stages
+    subst (λ (n : Node). IsStageMove n (moved (Leaf c.run_stage.new.self) c.run_stage.result)) (sym c.in-Leaf.is) c.run_stage.ensures.stages
 
 pub returns-in-Leaf-clause-over : goal.returns-in-Leaf-clause-over
 returns-in-Leaf-clause-over g c = c.run_stage.ensures.over (g.S.Services.tops c.args.services.now)
@@ -129,7 +123,7 @@ returns-then-is_tree-clause-refused g c =
     turn_stays g.S.Services.made tops tops s c.args.self.now c.start_tree.new.self c.start_tree.result refl (g.met.S.Services.made_none s) (c.start_tree.ensures.refused tops)
 
 pub returns-then-is_tree-clause-over : goal.returns-then-is_tree-clause-over
-returns-then-is_tree-clause-over g c = c.start_tree.ensures.over (g.S.Services.tops c.args.services.now) c.requires
+returns-then-is_tree-clause-over g c = c.start_tree.ensures.over (g.S.Services.tops c.args.services.now) c.requires.over
 
 pub returns-in-Leaf-clause-pass : goal.returns-in-Leaf-clause-pass
 returns-in-Leaf-clause-pass g c = leaf_turn c.args.self.now c.in-Leaf.at c.run_stage.new.self c.run_stage.result c.in-Leaf.is

@@ -1,6 +1,6 @@
 use Rattle.std.proofs.Common.{subst, sym}
 use Rattle.zio_turns.specs.Stages.{HearsEarly, HearsSomeEarly}
-use Rattle.zio_nodes.specs.Nodes.{IsNodeOver, nodes}
+use Rattle.zio_nodes.specs.Nodes.{IsNodeDue, IsNodeOver, nodes}
 use Rattle.zio_nodes.specs.declared.node.Node.{Node}
 use Rattle.zio_nodes.proofs.Boxes.{early_unboxed, some_early_unboxed}
 use Rattle.zio_nodes.proofs.node_box.NodeBoxStaged.arrive_ready.Goals as goal
@@ -14,6 +14,9 @@ pub returns-clause-heard : goal.returns-clause-heard
 returns-clause-heard c = λ t st k h.
     c.arrive_ready.ensures.heard t st k
     (subst (λ (n : Node). HearsEarly {N = Node} nodes t n st c.args.child k) (sym c.deref_mut.ensures.value) (early_unboxed t c.args.self st c.args.child k h))
+
+pub returns-clause-due : goal.returns-clause-due
+returns-clause-due c = λ h. c.arrive_ready.ensures.due (subst IsNodeDue (sym c.deref_mut.ensures.value) h)
 
 pub returns-clause-over : goal.returns-clause-over
 returns-clause-over c = λ tops h. c.arrive_ready.ensures.over tops (subst (IsNodeOver tops) (sym c.deref_mut.ensures.value) h)

@@ -35,8 +35,8 @@ returns-in-Tell-clause-over c = λ tops h.
           (all_out tops at.stage Ready at.is_due at.node c.requires.stage tt h.stands) (c.ready_write.ensures.ready c.in-Tell.pointer c.in-Tell.is, refl);
     }
 
-pub returns-in-Tell-clause-valid : goal.returns-in-Tell-clause-valid
-returns-in-Tell-clause-valid c = c.ready_write.ensures.valid c.in-Tell.pointer c.in-Tell.is
+pub returns-in-Tell-clause-may : goal.returns-in-Tell-clause-may
+returns-in-Tell-clause-may c = (tt, c.ready_write.ensures.valid c.in-Tell.pointer c.in-Tell.is)
 
 pub returns-in-Tell-clause-left : goal.returns-in-Tell-clause-left
 returns-in-Tell-clause-left c =

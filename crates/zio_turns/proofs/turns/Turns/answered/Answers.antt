@@ -20,7 +20,7 @@ returns-clause-comes_back g c =
     on_ok_weaker c.queue_up.result
     (λ q. answer_comes_back g.N.NodeFacts.nodes c.args.self.now.nodes c.args.self.now.line c.args.key
     c.put_back.new.nodes c.queue_up.new.line c.args.error c.args.bytes c.remove-node.result c.answered-node.result
-    c.remove-node.ensures.value c.answered-node.ensures.heard c.answered-node.ensures.told c.answered-node.ensures.gave
+    c.remove-node.ensures.value c.answered-node.ensures.heard c.answered-node.ensures.told c.answered-node.ensures.gave c.answered-node.ensures.due
     (exchanged c.args.self.now.nodes c.remove-node.new.self c.put_back.new.nodes c.args.key
     (with_ties c.answered-node.result c.remove-node.result.ties) c.remove-node.ensures.updates c.put_back.ensures) q)
     c.queue_up.ensures

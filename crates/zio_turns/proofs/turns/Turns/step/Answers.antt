@@ -11,7 +11,7 @@ use Rattle.zio_turns.proofs.ActLemmas.{if_ok_both, ok_as, told_in}
 use Rattle.zio_turns.proofs.ClaimCalls.{steps_ask, steps_claim, steps_last}
 use Rattle.zio_turns.proofs.Insides.{all_ended, all_grown, all_put, all_told, all_waited}
 use Rattle.zio_turns.proofs.Loads.{less_ended, less_grown, less_put, less_told, less_waited}
-use Rattle.zio_turns.proofs.Steps.{steps_can_end, steps_can_tell, steps_children, steps_end, steps_first, steps_grow, steps_leaf, steps_next, steps_ready, steps_wait, turn_held}
+use Rattle.zio_turns.proofs.Steps.{steps_can_end, steps_can_tell, steps_children, steps_end, steps_first, steps_grow, steps_leaf, steps_next, steps_ready, steps_wait, turn_due, turn_held}
 use Rattle.zio_turns.proofs.Shelves.{all_without, exchanged}
 use Rattle.zio_turns.proofs.turns.Turns.step.Goals as goal
 
@@ -21,8 +21,13 @@ remove-node-requires g c =
     g.N.Staged.over c.requires in
     ap is_some held.1
 
-pub run_stage-requires : goal.run_stage-requires
-run_stage-requires g c = c.requires.over_all c.args.key c.remove-node.result c.remove-node.ensures.value
+pub run_stage-requires-clause-over : goal.run_stage-requires-clause-over
+run_stage-requires-clause-over g c = c.requires.over_all c.args.key c.remove-node.result c.remove-node.ensures.value
+
+pub run_stage-requires-clause-due : goal.run_stage-requires-clause-due
+run_stage-requires-clause-due g c =
+    turn_due g.N.NodeFacts.nodes (g.S.Services.tops c.args.services.now) c.args.self.now.nodes c.args.self.now.line c.args.key
+    g.N.Staged.over c.requires c.remove-node.result c.remove-node.ensures.value
 
 -- ---- it goes on
 
@@ -40,7 +45,8 @@ returns-in-Next-clause-steps g c =
           c.remove-node.ensures.value m.2 c.requires,
       steps_next g.N.NodeFacts.nodes c.does_its_part.ensures.gives_own g.N.Staged.over (g.S.Services.tops c.args.services.now) c.args.self.now.nodes
           c.remove-node.new.self c.put_back.new.nodes c.args.self.now.line c.args.self.now.line c.args.key c.remove-node.result m.0
-          c.remove-node.ensures.value c.remove-node.ensures.updates c.in-Next.node m.2 c.put_back.ensures refl,
+          c.remove-node.ensures.value c.remove-node.ensures.updates c.in-Next.node m.2
+          (rw c.in-Next.is at c.in-Ok.ensures.may) c.put_back.ensures refl,
       steps_ask {S = Unit {0}} g.N.NodeFacts.nodes (g.S.Services.tops c.args.services.now) c.args.self.now.nodes
           c.args.self.now.line c.args.key c.remove-node.result m.0 (Next c.in-Next.node)
           c.remove-node.ensures.value m.2
@@ -76,7 +82,7 @@ returns-in_ok-wait-in-Wait-clause-steps g c =
       steps_wait g.N.NodeFacts.nodes c.does_its_part.ensures.gives_own g.N.Staged.over (g.S.Services.tops c.args.services.now) c.args.self.now.nodes
           c.remove-node.new.self c.wait.new.nodes c.args.self.now.line c.wait.new.line c.args.key c.remove-node.result m.0
           c.remove-node.ensures.value c.remove-node.ensures.updates c.in-Wait.node c.in-Wait.kind c.in-Wait.phase m.2
-          c.in_ok-wait-in-Wait.ensures,
+          (rw c.in-Wait.is at c.in-Ok.ensures.may) c.in_ok-wait-in-Wait.ensures,
       steps_ask {S = Unit {0}} g.N.NodeFacts.nodes (g.S.Services.tops c.args.services.now) c.args.self.now.nodes
           c.args.self.now.line c.args.key c.remove-node.result m.0 (Wait c.in-Wait.node c.in-Wait.kind c.in-Wait.phase)
           c.remove-node.ensures.value m.2
@@ -136,7 +142,7 @@ returns-in_ok-grow-in-Grow-clause-steps g c =
       steps_grow g.N.NodeFacts.nodes c.does_its_part.ensures.gives_own g.N.Staged.over (g.S.Services.tops c.args.services.now) c.args.self.now.nodes
           c.remove-node.new.self c.grow.new.nodes c.args.self.now.line c.grow.new.line c.args.key c.remove-node.result m.0
           c.remove-node.ensures.value c.remove-node.ensures.updates c.in-Grow.node c.in-Grow.child c.in-Grow.kind m.2
-          c.in_ok-grow-in-Grow.ensures,
+          (rw c.in-Grow.is at c.in-Ok.ensures.may).0 (rw c.in-Grow.is at c.in-Ok.ensures.may).1 c.in_ok-grow-in-Grow.ensures,
       steps_ask {S = Unit {0}} g.N.NodeFacts.nodes (g.S.Services.tops c.args.services.now) c.args.self.now.nodes
           c.args.self.now.line c.args.key c.remove-node.result m.0 (Grow c.in-Grow.node c.in-Grow.child c.in-Grow.kind)
           c.remove-node.ensures.value m.2
@@ -195,7 +201,7 @@ returns-in-Leaf-clause-less g c =
 -- ---- it tells
 
 pub tell-requires-clause-valid : goal.tell-requires-clause-valid
-tell-requires-clause-valid g c = (rw c.in-Ready.is at c.in-Ok.ensures.valid)
+tell-requires-clause-valid g c = (rw c.in-Ready.is at c.in-Ok.ensures.may).1
 
 pub tell-requires-clause-can : goal.tell-requires-clause-can
 tell-requires-clause-can g c =
@@ -203,7 +209,8 @@ tell-requires-clause-can g c =
     (ok_as c.run_stage.result c.in-Ok.moved (Ready c.in-Ready.node c.in-Ready.pointer) c.in-Ok.is c.in-Ready.is) in
     steps_can_tell g.N.NodeFacts.nodes c.does_its_part.ensures.gives_own g.N.Staged.over (g.S.Services.tops c.args.services.now) c.args.self.now.nodes
     c.remove-node.new.self c.put_back-in-Ready.new.nodes c.args.self.now.line c.args.self.now.line c.args.key c.remove-node.result m.0
-    c.remove-node.ensures.value c.remove-node.ensures.updates c.in-Ready.node c.in-Ready.pointer m.2 c.put_back-in-Ready.new.nodes
+    c.remove-node.ensures.value c.remove-node.ensures.updates c.in-Ready.node c.in-Ready.pointer m.2
+    (rw c.in-Ready.is at c.in-Ok.ensures.may).0 c.put_back-in-Ready.new.nodes
     c.put_back-in-Ready.ensures c.requires
 
 pub returns-in-Ready-clause-steps : goal.returns-in-Ready-clause-steps
@@ -222,7 +229,8 @@ returns-in-Ready-clause-steps g c =
           c.remove-node.ensures.value m.2 c.requires,
       steps_ready g.N.NodeFacts.nodes c.does_its_part.ensures.gives_own g.N.Staged.over (g.S.Services.tops c.args.services.now) c.args.self.now.nodes
           c.remove-node.new.self c.tell.new.nodes c.args.self.now.line c.tell.new.line c.args.key c.remove-node.result m.0
-          c.remove-node.ensures.value c.remove-node.ensures.updates c.in-Ready.node c.in-Ready.pointer m.2 c.put_back-in-Ready.new.nodes
+          c.remove-node.ensures.value c.remove-node.ensures.updates c.in-Ready.node c.in-Ready.pointer m.2
+    (rw c.in-Ready.is at c.in-Ok.ensures.may).0 c.put_back-in-Ready.new.nodes
           c.put_back-in-Ready.ensures step has same,
       steps_ask {S = Unit {0}} g.N.NodeFacts.nodes (g.S.Services.tops c.args.services.now) c.args.self.now.nodes
           c.args.self.now.line c.args.key c.remove-node.result m.0 (Ready c.in-Ready.node c.in-Ready.pointer)

@@ -30,7 +30,7 @@ aligned_with (Some top) size p fits =
     (eq-eqb (p.sectors % top.unit) 0 (ap (λ n. n % top.unit) many ∙ rounded-whole top.unit (size / 512)))
 
 -- a place that fits a size stands on whole units
-aligned : (tops : List TopSize) (size : ℕ) (p : Place) → fits_size tops size p ≡ true → is_aligned tops p ≡ true
+pub aligned : (tops : List TopSize) (size : ℕ) (p : Place) → fits_size tops size p ≡ true → is_aligned tops p ≡ true
 aligned tops size p fits = aligned_with (slice_get tops p.top) size p fits
 
 pub run_same : (tops : List TopSize) (xs ys : List Place) (top size : ℕ) → SamePlaces xs ys → HasRun tops xs top size → HasRun tops ys top size

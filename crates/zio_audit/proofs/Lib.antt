@@ -7,6 +7,9 @@ pub mod MarkLemmas
 pub mod MatchLemmas
 pub mod MeetLemmas
 pub mod Members
+pub mod NameLemmas
+pub mod PutLemmas
+pub mod RecordedLemmas
 pub mod ShapeLemmas
 pub mod VerdictLemmas
 pub mod WorkedRuns

@@ -1,6 +1,10 @@
 pub mod Completions
+pub mod FoundLaws
 pub mod Laws
 pub mod Marks
 pub mod Matching
+pub mod Names
+pub mod Putting
+pub mod Recordings
 pub mod Verdicts
 pub mod Worked

@@ -192,7 +192,7 @@ pub fn are_lawful(space: &mut Space, tops: &[TopSize], entries: &[Entry]) -> Res
     Ok(true)
 }
 
-fn places_of(entry: &Entry) -> &[Place]
+pub(crate) fn places_of(entry: &Entry) -> &[Place]
     ensures { result.now ≡ entry.now.places }
 {
     &entry.places[..entry.found as usize]

@@ -1,25 +1,34 @@
 //! Parts of an audit of a finished run: what its answer means, and how single reasons for a no are found.
 //!
 //! It stands on the definitions of `zio_gang` and `zio_report`, on `zio_spelled`, which reads the journal that a report
-//! spells, and on the space of `zio_places`; on no engine. `specs/Verdicts` says when an audit answers yes, and when no
-//! and with which reason; `specs/Worked` has cases. Read `completions_match` first: whether a spelled order of
-//! completions is one that the run may have. `are_lawful` judges the recorded entries of a round, `have_images`
-//! asks whether a script has its images, and a `Matcher` is a sink that compares what it is given with a text.
+//! spells, and on the space, the choosers and the depth-first runner of `zio_places`, `zio_blocks` and `zio_plain`; on
+//! no engine. `specs/Verdicts` says when an audit answers yes, and when no and with which reason; `specs/Worked` has
+//! cases. Read `completions_match` first: whether a spelled order of completions is one that the run may have.
+//! `are_lawful` judges the recorded entries of a round, and `Recorded` answers a round's asks by them, as
+//! `specs/Recordings` has it. `have_images` asks whether a script has its images, a `Matcher` is a sink that compares
+//! what it is given with a text, and `PutIn` compares a report with its own lines among which the texts of journals
+//! are put, as `specs/Putting` has it.
 #![tactic(auto)]
 
 mod cases;
 mod completions;
+mod index;
 mod judge;
 mod laws;
 mod leaves;
+mod lines;
 mod marks;
 mod matcher;
+mod putting;
+mod recorded;
 mod verdict;
 
 pub use cases::{the_first_reason_is_told, true_reports_are_yes};
 pub use completions::completions_match;
 pub use judge::are_lawful;
-pub use laws::{shaped_reports_spell, verdicts_are_one};
+pub use laws::{answers_are_choices, shaped_reports_spell, verdicts_are_one};
 pub use leaves::have_images;
 pub use matcher::Matcher;
+pub use putting::{PutIn, journal_text};
+pub use recorded::Recorded;
 pub use verdict::{Verdict, Why};

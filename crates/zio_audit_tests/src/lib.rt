@@ -7,6 +7,12 @@
 #[cfg(test)]
 mod completions;
 #[cfg(test)]
+mod entries;
+#[cfg(test)]
 mod judge;
 #[cfg(test)]
 mod matcher;
+#[cfg(test)]
+mod putting;
+#[cfg(test)]
+mod recorded;

@@ -230,7 +230,7 @@ returns-in-Ready-clause-steps g c =
       steps_ready g.N.NodeFacts.nodes c.does_its_part.ensures.gives_own g.N.Staged.over (g.S.Services.tops c.args.services.now) c.args.self.now.nodes
           c.remove-node.new.self c.tell.new.nodes c.args.self.now.line c.tell.new.line c.args.key c.remove-node.result m.0
           c.remove-node.ensures.value c.remove-node.ensures.updates c.in-Ready.node c.in-Ready.pointer m.2
-    (rw c.in-Ready.is at c.in-Ok.ensures.may).0 c.put_back-in-Ready.new.nodes
+          (rw c.in-Ready.is at c.in-Ok.ensures.may).0 c.put_back-in-Ready.new.nodes
           c.put_back-in-Ready.ensures step has same,
       steps_ask {S = Unit {0}} g.N.NodeFacts.nodes (g.S.Services.tops c.args.services.now) c.args.self.now.nodes
           c.args.self.now.line c.args.key c.remove-node.result m.0 (Ready c.in-Ready.node c.in-Ready.pointer)

@@ -1,0 +1,81 @@
+//! Where a round's entries stand, by their keys.
+ghost use Rattle.std.specs.Prelude.{◌≡◌, IfOk, MatchOption, find, option_copied};
+ghost use Rattle.zio_gang.specs.Journals.{HaveDistinctKeys, asks_of};
+ghost use Rattle.zio_audit.specs.Names.{IsIndexOf, has_key, is_head, name_of};
+
+use std::alloc::Global;
+use std::collections::BTreeMap;
+use zio_types::{Entry, Key, NoMemory, ReqNo, Role};
+
+/// What a key names, with an order.
+#[derive(Clone, Copy, PartialEq, Eq, PartialOrd, Ord)]
+pub(crate) struct Name {
+    pub(crate) request: ReqNo,
+    pub(crate) round: u32,
+    pub(crate) attempt: u32,
+    /// A header is asked for.
+    pub(crate) head: bool,
+    /// How many steps the path has.
+    pub(crate) len: u32,
+    /// Zeros from `len` on.
+    pub(crate) steps: [u8; 8],
+}
+
+// Whether it is that of a header.
+fn is_head(role: Role) -> bool
+    ensures { result ≡ is_head role }
+{
+    match role {
+        Role::Body => false,
+        Role::Head => true,
+    }
+}
+
+fn name_of(key: &Key) -> Name
+    ensures { result ≡ name_of key.now }
+{
+    let path = &key.path;
+    Name {
+        request: key.request,
+        round: key.round,
+        attempt: key.attempt,
+        head: is_head(key.role),
+        len: path.len,
+        steps: path.steps,
+    }
+}
+
+/// Where each entry stands; none exactly where a key stands twice.
+pub(crate) fn index_of(
+    alloc: Global,
+    entries: &[Entry],
+) -> Result<Option<BTreeMap<Name, usize>>, NoMemory>
+    ensures { IfOk result (λ made. MatchOption made
+        (¬ HaveDistinctKeys (asks_of entries.now))
+        (λ index. HaveDistinctKeys (asks_of entries.now) × IsIndexOf index.entries entries.now entries.now)) }
+{
+    let mut index = BTreeMap::new(alloc);
+    for at in 0..entries.len() {
+        let entry = &entries[at];
+        let earlier = index.insert(name_of(&entry.key), at)?;
+        if earlier.is_some() {
+            return Ok(None);
+        }
+    }
+    Ok(Some(index))
+}
+
+/// The entry with the key, if there is one.
+pub(crate) fn entry_with<'a>(
+    index: &BTreeMap<Name, usize>,
+    entries: &'a [Entry],
+    key: &Key,
+) -> Option<&'a Entry>
+    requires { IsIndexOf index.now.entries entries.now entries.now }
+    ensures { option_copied result ≡ find (has_key key.now) entries.now }
+{
+    match index.get(&name_of(key)) {
+        Some(at) => entries.get(*at),
+        None => None,
+    }
+}

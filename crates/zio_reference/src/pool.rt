@@ -5,15 +5,15 @@ ghost use Rattle.std.specs.List.{AllByRecursion, list_all};
 ghost use Rattle.zio_types.specs.Places.{is_lawful_top};
 ghost use Rattle.zio_script.specs.Grammar.{IsScriptOf};
 ghost use Rattle.zio_gang.specs.Trees.{sizes_of};
-ghost use Rattle.zio_run.specs.Grounds.{IsSettingOf};
-ghost use Rattle.zio_run.specs.Outcomes.{HasLawfulSize};
+ghost use Rattle.zio_command.specs.Grounds.{IsSettingOf};
+ghost use Rattle.zio_command.specs.Outcomes.{HasLawfulSize};
 
 use std::alloc::Global;
+use zio_command::{TopsFault, accepted_scripts_have_lawful_pools, sizes_of_disks, tops_over};
 use zio_disks::Setting;
 use zio_faults::FaultTable;
 use zio_outside::Disk;
 use zio_places::Space;
-use zio_run::{TopsFault, accepted_scripts_have_lawful_pools, sizes_of_disks, tops_over};
 use zio_script::Script;
 use zio_types::{List, NoMemory, Top, TopSize};
 

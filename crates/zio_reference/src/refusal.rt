@@ -1,10 +1,10 @@
 //! Why a script wasn't run to an ending, and the exit status of each end with the line that is due.
 
 use std::alloc::AllocError;
+use zio_command::{CODE_MEMORY, CODE_SINK};
 use zio_gang::Ending;
 use zio_outside::{Sink, StdSink};
 use zio_report::RunFault;
-use zio_run::{CODE_MEMORY, CODE_SINK};
 use zio_script::ScriptFault;
 
 /// Why a script wasn't run to an ending.

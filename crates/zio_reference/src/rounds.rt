@@ -4,17 +4,17 @@ ghost use Rattle.std.specs.Prelude.{◌≡◌, ◌≤◌, [], ℕ, List as Seq, 
 ghost use Rattle.std.specs.List.{AllByRecursion};
 ghost use Rattle.zio_script.specs.Grammar.{IsScriptOf};
 ghost use Rattle.zio_gang.specs.Trees.{sizes_of};
-ghost use Rattle.zio_run.specs.Grounds.{IsSettingOf};
-ghost use Rattle.zio_run.specs.Outcomes.{HasLawfulSize};
+ghost use Rattle.zio_command.specs.Grounds.{IsSettingOf};
+ghost use Rattle.zio_command.specs.Outcomes.{HasLawfulSize};
 
 use crate::pool::{Pool, pool_over};
 use crate::refusal::Refusal;
 use std::alloc::Global;
+use zio_command::TopsFault;
 use zio_gang::Ending;
 use zio_outside::{Disk, Sink};
 use zio_plain::Plain;
 use zio_report::Show;
-use zio_run::TopsFault;
 use zio_script::Script;
 use zio_suspend::run_script;
 use zio_types::Journal;

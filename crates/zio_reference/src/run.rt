@@ -2,16 +2,16 @@
 
 ghost use Rattle.std.specs.Prelude.{ℕ, List as Seq};
 ghost use Rattle.zio_script.specs.Grammar.{IsScriptOf};
-ghost use Rattle.zio_run.specs.Words.{AreImages};
+ghost use Rattle.zio_command.specs.Words.{AreImages};
 
 use crate::refusal::Refusal;
 use crate::rounds::run_on_disks;
 use std::io;
 use std::io::{ErrorKind, Read};
+use zio_command::{Command, ImagesFault, WordsError, fetch_images, give_back_images, read_words};
 use zio_gang::Ending;
 use zio_outside::{FileShelf, StdSink};
 use zio_report::Show;
-use zio_run::{Command, ImagesFault, WordsError, fetch_images, give_back_images, read_words};
 use zio_script::{SCRIPT_LEN_MAX, Script, ScriptError, read_script};
 use zio_types::Text;
 

@@ -19,11 +19,11 @@ use Rattle.zio_gang.specs.Runs.{Course, ending}
 use Rattle.zio_report.specs.declared.report.Show.TheVariants.{Report}
 use Rattle.zio_report.specs.Meanings.{IsMeaning, course_of, records_of}
 use Rattle.zio_report.specs.Reports.{end_code, run_text}
-use Rattle.zio_run.specs.declared.words.Command.{Command}
-use Rattle.zio_run.specs.declared.words.Command.TheVariants.{Run}
-use Rattle.zio_run.specs.Headline.{Headline, TellEach}
-use Rattle.zio_run.specs.Outcomes.{HasLawfulSize}
-use Rattle.zio_run.specs.Words.{IsCommandOf, none_asked}
+use Rattle.zio_command.specs.declared.words.Command.{Command}
+use Rattle.zio_command.specs.declared.words.Command.TheVariants.{Run}
+use Rattle.zio_command.specs.Headline.{Headline, TellEach}
+use Rattle.zio_command.specs.Outcomes.{HasLawfulSize}
+use Rattle.zio_command.specs.Words.{IsCommandOf, none_asked}
 use Rattle.zio_row.specs.Row.{HasOneImage, HoldsBlock, blank_image, row_report, row_text, zeros}
 use Rattle.zio_row.proofs.RowReport.{report_is}
 use Rattle.zio_row.proofs.RowRun.{row_runs}

@@ -6,8 +6,9 @@ ghost use Rattle.zio_row.specs.Sinks.{holds};
 
 use crate::GrowingSink;
 use std::alloc::Global;
+use zio_command::CODE_MEMORY;
 use zio_outside::{MemDisk, MemShelf, MemSource, Sink};
-use zio_run::{CODE_MEMORY, zio_serial_main};
+use zio_run::zio_serial_main;
 use zio_types::{Bytes, Journal, List, NoMemory, Status, Text};
 
 /// A block is written, and read in the next batch.

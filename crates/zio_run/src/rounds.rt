@@ -4,8 +4,8 @@ ghost use Rattle.std.specs.Prelude.{◌≡◌, ◌≤◌, [], ℕ, false, List a
 ghost use Rattle.zio_script.specs.Grammar.{IsScriptOf};
 ghost use Rattle.zio_disks.specs.Disks.{AreSameDisks};
 ghost use Rattle.zio_report.specs.Meanings.{IsEmptyJournal};
-ghost use Rattle.zio_run.specs.Grounds.{HasRunOver, IsSettingOf, WasCutOver};
-ghost use Rattle.zio_run.specs.Seen.{sink_by};
+ghost use Rattle.zio_command.specs.Grounds.{HasRunOver, IsSettingOf, WasCutOver};
+ghost use Rattle.zio_command.specs.Seen.{sink_by};
 
 use std::alloc::Global;
 use zio_gang::Ending;

@@ -7,8 +7,8 @@ use crate::runs::{list, put_zeros, words_of};
 use std::alloc::Global;
 use std::process::Abort;
 use std::test::Fail;
+use zio_command::{Command, ImagesFault, fetch_images, give_back_images, read_words};
 use zio_outside::MemShelf;
-use zio_run::{Command, ImagesFault, fetch_images, give_back_images, read_words};
 
 /// A shelf of disks `a` and `b` of these lengths, where these fetches fail.
 fn shelf_of_two(alloc: Global, a: usize, b: usize, fails: &[u64]) -> Result<MemShelf, Fail>

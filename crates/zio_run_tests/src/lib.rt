@@ -2,8 +2,7 @@
 //! images that no clause spells out, what the order of the work changes and what it leaves, each call of the outside
 //! that fails alone, and a disk that forgets.
 //!
-//! They stand here and not in `zio_run`, since a crate with tests of its own is proved once more with them. There is
-//! nothing else in it.
+//! They stand here, since a crate with tests of its own is proved once more with them. There is nothing else in it.
 #![tactic(auto)]
 
 #[cfg(test)]

@@ -3,8 +3,8 @@
 use crate::runs::words_of;
 use std::alloc::Global;
 use std::test::Fail;
+use zio_command::{Command, WordsError, read_words};
 use zio_report::Show;
-use zio_run::{Command, WordsError, read_words};
 
 /// A report without what options add.
 const PLAIN: Show = Show::Report {

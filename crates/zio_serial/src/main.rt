@@ -17,8 +17,9 @@ use std::io::ErrorKind;
 use std::process::ExitCode;
 use told::line_of;
 use watched::Watched;
+use zio_command::{CODE_MEMORY, CODE_SINK};
 use zio_outside::{FileShelf, Sink, StdSink, StdSource};
-use zio_run::{CODE_MEMORY, CODE_SINK, zio_serial_main};
+use zio_run::zio_serial_main;
 use zio_types::Journal;
 
 fn main(rt: HostRuntime) -> ExitCode {

@@ -5,7 +5,7 @@ use std::fs;
 use std::io::ErrorKind;
 use std::os::unix::fs::FileTypeExt;
 use std::rt::Files;
-use zio_run::{IMAGE_LEN_MAX, IMAGE_LEN_MIN};
+use zio_command::{IMAGE_LEN_MAX, IMAGE_LEN_MIN};
 
 /// The text of a reason for which a script is refused, by its number.
 pub fn why_text(why: u32) -> &'static str {

@@ -1,9 +1,9 @@
 use Rattle.std.proofs.Common.{◌≡◌, ◌++◌, List, ℕ, length, ap, map, ◌∙◌, subst, sym, arith}
 use Rattle.std.specs.List.{AllByRecursion}
 use Rattle.zio_faults.specs.declared.table.Row.{Row}
-use Rattle.zio_run.specs.Grounds.{IsSettingOf}
-use Rattle.zio_run.specs.Outcomes.{HasLawfulSize}
-use Rattle.zio_run.proofs.GroundLemmas.{setting_of}
+use Rattle.zio_command.specs.Grounds.{IsSettingOf}
+use Rattle.zio_command.specs.Outcomes.{HasLawfulSize}
+use Rattle.zio_command.proofs.GroundLemmas.{setting_of}
 use Rattle.zio_reference.proofs.pool.pool_over.Goals as goal
 
 pub space_of-requires-clause-few : goal.space_of-requires-clause-few

@@ -1,7 +1,7 @@
 use Rattle.std.proofs.Common.{ap, ◌∙◌, subst}
 use Rattle.zio_disks.specs.Disks.{Tell}
 use Rattle.zio_plain.specs.Plains.{SeenPlain}
-use Rattle.zio_run.proofs.RoundsLemmas.{told_sizes}
+use Rattle.zio_command.proofs.RoundsLemmas.{told_sizes}
 use Rattle.zio_reference.proofs.rounds.run_rounds.Goals as goal
 
 pub run_script-ended-requires-clause-tops : goal.run_script-ended-requires-clause-tops

@@ -1,8 +1,8 @@
 use Rattle.std.proofs.Common.{◌≡◌, ℕ, [], ◌∷◌, map, true, ◌⊎◌, inl, inr, ⊎_elim, refl, sym, ap, ◌∙◌, arith}
 use Rattle.std.specs.Prelude.{codes, string_bytes}
 use Rattle.zio_outside.specs.Memory.{IsSoundSource, source_left}
-use Rattle.zio_run.specs.Outcomes.{IsEnding}
-use Rattle.zio_run.specs.Words.{IsCommandOf}
+use Rattle.zio_command.specs.Outcomes.{IsEnding}
+use Rattle.zio_command.specs.Words.{IsCommandOf}
 use Rattle.zio_row.specs.Row.{blank_image, row_text}
 use Rattle.zio_row.proofs.RowEnds.{blank_is_long, image_told, row_command, row_is, row_is_command, shelf_sound, size_lawful}
 use Rattle.zio_row.proofs.RowScript.{row_is_read, row_script}

@@ -3,9 +3,9 @@ use Rattle.std.specs.Prelude.{IfErr, IfOk}
 use Rattle.zio_cksum.specs.Images.{Images}
 use Rattle.zio_disks.specs.Disks.{AreSameDisks, Tell}
 use Rattle.zio_report.specs.Meanings.{tops_of}
-use Rattle.zio_run.specs.Grounds.{HasRunOver, WasCutOver}
-use Rattle.zio_run.specs.Seen.{sink_by}
-use Rattle.zio_run.proofs.RoundsLemmas.{rounds_cut, rounds_whole, told_sizes}
+use Rattle.zio_command.specs.Grounds.{HasRunOver, WasCutOver}
+use Rattle.zio_command.specs.Seen.{sink_by}
+use Rattle.zio_command.proofs.RoundsLemmas.{rounds_cut, rounds_whole, told_sizes}
 use Rattle.zio_run.proofs.rounds.run_rounds.Goals as goal
 
 pub run_script-ended-requires-clause-tops : goal.run_script-ended-requires-clause-tops

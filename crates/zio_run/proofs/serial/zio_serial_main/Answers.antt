@@ -1,16 +1,16 @@
 use Rattle.std.proofs.Common.{◌≡◌, Err, true, false, inl, inr, map, string_bytes, refl, sym, ap, subst}
 use Rattle.std.specs.List.{AllByRecursion}
-use Rattle.zio_run.specs.declared.words.Command.{Command as Asked}
-use Rattle.zio_run.specs.declared.words.WordsError.{WordsError}
-use Rattle.zio_run.specs.Commands.{CommandEnds, image_names, reads, runs}
-use Rattle.zio_run.specs.Seen.{shelf_by, sink_by, source_by}
-use Rattle.zio_run.specs.Shelves.{KeepOthers}
-use Rattle.zio_run.proofs.CommandLemmas.{command_code, command_complete, command_ended, command_never, command_steady, command_wanting, first_name}
-use Rattle.zio_run.proofs.CountLemmas.{not_rose}
-use Rattle.zio_run.proofs.EndLemmas.{no_ending}
-use Rattle.zio_run.proofs.HealLemmas.{command_healed}
-use Rattle.zio_run.proofs.TripLemmas.{KeepOthers-itself}
-use Rattle.zio_run.proofs.WordLemmas.{lawful_command, one_command_of}
+use Rattle.zio_command.specs.declared.words.Command.{Command as Asked}
+use Rattle.zio_command.specs.declared.words.WordsError.{WordsError}
+use Rattle.zio_command.specs.Commands.{CommandEnds, image_names, reads, runs}
+use Rattle.zio_command.specs.Seen.{shelf_by, sink_by, source_by}
+use Rattle.zio_command.specs.Shelves.{KeepOthers}
+use Rattle.zio_command.proofs.CommandLemmas.{command_code, command_complete, command_ended, command_never, command_steady, command_wanting, first_name}
+use Rattle.zio_command.proofs.CountLemmas.{not_rose}
+use Rattle.zio_command.proofs.EndLemmas.{no_ending}
+use Rattle.zio_command.proofs.HealLemmas.{command_healed}
+use Rattle.zio_command.proofs.TripLemmas.{KeepOthers-itself}
+use Rattle.zio_command.proofs.WordLemmas.{lawful_command, one_command_of}
 use Rattle.zio_run.proofs.serial.zio_serial_main.Goals as goal
 
 pub run_command-requires-clause-command : goal.run_command-requires-clause-command

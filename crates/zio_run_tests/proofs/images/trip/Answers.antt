@@ -1,6 +1,6 @@
 use Rattle.std.proofs.Common.{rules}
-use Rattle.zio_run.specs.Words.{AreImages}
-use Rattle.zio_run.proofs.ShelfLemmas.{AreOut-fetched}
+use Rattle.zio_command.specs.Words.{AreImages}
+use Rattle.zio_command.proofs.ShelfLemmas.{AreOut-fetched}
 use Rattle.zio_run_tests.proofs.images.trip.Goals as goal
 
 pub give_back_images-requires : goal.give_back_images-requires

@@ -1,0 +1,76 @@
+use Rattle.std.proofs.Common.{◌≡◌, ◌⊎◌, inl, inr, refl, true, false, sym, ap, ◌∙◌, subst}
+use Rattle.zio_gen.specs.Generated.{script_text}
+use Rattle.zio_script.specs.declared.script.Script.{Script}
+use Rattle.zio_script.specs.Grammar.{IsScriptOf}
+use Rattle.zio_report.specs.declared.report.Show.TheVariants.{Summary}
+use Rattle.zio_command.specs.declared.words.Command.{Command}
+use Rattle.zio_command.specs.Codes.{RunEnds, ScriptEnds}
+use Rattle.zio_command.specs.Commands.{CommandEnds, WasUnread, reads}
+use Rattle.zio_command.specs.Seen.{shelf_by, sink_by, source_by}
+use Rattle.zio_command.specs.Words.{AreImages, IsLawfulCommand}
+use Rattle.zio_command.proofs.CommandLemmas.{script_never}
+use Rattle.zio_command.proofs.commands.run_command.Goals as goal
+
+pub run_source-requires-clause-names : goal.run_source-requires-clause-names
+run_source-requires-clause-names g c =
+    subst (λ ns. AreImages ns) (sym c.as_slice.ensures) (subst IsLawfulCommand c.in-Run.is c.requires.command)
+
+pub run_generated-requires-clause-names : goal.run_generated-requires-clause-names
+run_generated-requires-clause-names g c =
+    subst (λ ns. AreImages ns) (sym c.as_slice-in-Load.ensures) (subst IsLawfulCommand c.in-Load.is c.requires.command).1
+
+pub returns-in-Run-clause-ends : goal.returns-in-Run-clause-ends
+returns-in-Run-clause-ends g c =
+    let source = source_by g.S.Source.left g.S.Source.faults in
+    let sink = sink_by g.O.Sink.holds g.O.Sink.faults in
+    let saw = shelf_by g.H.Shelf.tells g.H.Shelf.image g.H.Shelf.out g.H.Shelf.faults g.H.Shelf.disk_faults g.H.Shelf.fetches g.H.Shelf.returns g.H.Shelf.last_size in
+    let old = saw c.args.shelf.now in
+    let new = saw c.run_source.new.shelf in
+    let out = sink c.args.out.now in
+    let wrote = sink c.run_source.new.out in
+    let before = c.args.journal.now in
+    let journal = c.run_source.new.journal in
+    let code = c.run_source.result.code in
+    let unread = (code ≡ 5) × WasUnread (source c.args.script.now) (source c.run_source.new.script) out wrote old new before journal in
+    let ends : unread ⊎ RunEnds (g.S.Source.left c.args.script.now) c.in-Run.show c.in-Run.images out wrote old new before journal code =
+    subst (λ ns. unread ⊎ RunEnds (g.S.Source.left c.args.script.now) c.in-Run.show ns out wrote old new before journal code) c.as_slice.ensures c.run_source.ensures.ends in
+    subst (λ (x : Command). CommandEnds x (source c.args.script.now) (source c.run_source.new.script) out wrote old new before journal code) (sym c.in-Run.is) ends
+
+pub returns-in-Gen-clause-ends : goal.returns-in-Gen-clause-ends
+returns-in-Gen-clause-ends g c =
+    let source = source_by g.S.Source.left g.S.Source.faults in
+    let sink = sink_by g.O.Sink.holds g.O.Sink.faults in
+    let saw = shelf_by g.H.Shelf.tells g.H.Shelf.image g.H.Shelf.out g.H.Shelf.faults g.H.Shelf.disk_faults g.H.Shelf.fetches g.H.Shelf.returns g.H.Shelf.last_size in
+    let old = saw c.args.shelf.now in
+    subst (λ (x : Command). CommandEnds x (source c.args.script.now) (source c.args.script.now) (sink c.args.out.now) (sink c.write_generated.new.out) old old
+    c.args.journal.now c.args.journal.now c.write_generated.result.code) (sym c.in-Gen.is) c.write_generated.ensures
+
+pub returns-in-Load-clause-ends : goal.returns-in-Load-clause-ends
+returns-in-Load-clause-ends g c =
+    let source = source_by g.S.Source.left g.S.Source.faults in
+    let sink = sink_by g.O.Sink.holds g.O.Sink.faults in
+    let saw = shelf_by g.H.Shelf.tells g.H.Shelf.image g.H.Shelf.out g.H.Shelf.faults g.H.Shelf.disk_faults g.H.Shelf.fetches g.H.Shelf.returns g.H.Shelf.last_size in
+    let old = saw c.args.shelf.now in
+    let new = saw c.run_generated.new.shelf in
+    let out = sink c.args.out.now in
+    let wrote = sink c.run_generated.new.out in
+    let before = c.args.journal.now in
+    let journal = c.run_generated.new.journal in
+    let code = c.run_generated.result.code in
+    let text = script_text c.in-Load.seed c.in-Load.n in
+    let ends : (script : Script) × IsScriptOf text script × ScriptEnds Summary script c.in-Load.images out wrote old new before journal code =
+    subst (λ ns. (script : Script) × IsScriptOf text script × ScriptEnds Summary script ns out wrote old new before journal code)
+    c.as_slice-in-Load.ensures c.run_generated.ensures.ends in
+    subst (λ (x : Command). CommandEnds x (source c.args.script.now) (source c.args.script.now) out wrote old new before journal code) (sym c.in-Load.is) ends
+
+pub returns-in-Gen-clause-rest : goal.returns-in-Gen-clause-rest
+returns-in-Gen-clause-rest g c r five eight text told = let no : false ≡ true = ap (λ (x : Command). reads x) (sym c.in-Gen.is) ∙ r in cc
+
+pub returns-in-Load-clause-rest : goal.returns-in-Load-clause-rest
+returns-in-Load-clause-rest g c r five eight text told = let no : false ≡ true = ap (λ (x : Command). reads x) (sym c.in-Load.is) ∙ r in cc
+
+pub returns-in-Load-clause-unfetched : goal.returns-in-Load-clause-unfetched
+returns-in-Load-clause-unfetched g c codes = elim codes [
+  | inl two ↦ absurd (script_never c.run_generated.ensures.ends.2 2 two (inr (inl refl)))
+  | inr five ↦ absurd (script_never c.run_generated.ensures.ends.2 5 five (inr (inr refl)))
+]

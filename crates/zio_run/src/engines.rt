@@ -1,0 +1,100 @@
+//! The engine on one thread, made for a command.
+
+ghost use Rattle.std.specs.Prelude.{◌≡◌, ◌≤◌, ℕ, List as Seq, length, map};
+ghost use Rattle.zio_script.specs.Grammar.{IsScriptOf};
+ghost use Rattle.zio_disks.specs.Disks.{AreSameDisks};
+ghost use Rattle.zio_report.specs.Meanings.{IsEmptyJournal};
+ghost use Rattle.zio_command.specs.Commands.{picks_of};
+ghost use Rattle.zio_command.specs.Grounds.{CameOutOver, IsSettingOf};
+ghost use Rattle.zio_command.specs.Seen.{sink_by};
+
+use crate::rounds::run_rounds;
+use std::alloc::Global;
+use zio_command::{Command, Engines, RunOutcome, outcome_of};
+use zio_disks::Setting;
+use zio_graph::{FirstPicks, Graph, Picks, from_seed};
+use zio_outside::{Disk, Sink};
+use zio_report::{RunFault, Show};
+use zio_script::Script;
+use zio_turns::DisksBack;
+use zio_types::{Journal, List, Top};
+
+/// Makes the engine on one thread. Its turns are picked from a seed, or the first is always picked where there is none.
+#[derive(Clone, Copy, Debug)]
+pub(crate) struct OneThread {
+    pub(crate) picks: Option<u64>,
+}
+
+/// Makes the engine that a command asks for.
+pub(crate) fn one_thread(command: &Command) -> OneThread
+    ensures { result.picks ≡ picks_of command.now }
+{
+    match command {
+        Command::Run { picks, .. } => OneThread { picks: *picks },
+        Command::Gen { .. } | Command::Load { .. } => OneThread { picks: None },
+    }
+}
+
+impl Engines for OneThread {
+    fn run<O: Sink, D: Disk + Drop>(
+        &self,
+        alloc: Global,
+        script: &Script,
+        show: &Show,
+        setting: Setting,
+        tops: List<Top>,
+        disks: Vec<D>,
+        out: &mut O,
+        journal: &mut Journal,
+    ) -> (RunOutcome, Vec<D>) {
+        match self.picks {
+            Some(seed) => run_by_picks(
+                alloc,
+                script,
+                show,
+                setting,
+                tops,
+                from_seed(seed),
+                disks,
+                out,
+                journal,
+            ),
+            None => run_by_picks(
+                alloc, script, show, setting, tops, FirstPicks, disks, out, journal,
+            ),
+        }
+    }
+}
+
+/// Runs the script by these picks.
+fn run_by_picks<O: Sink, D: Disk + Drop, P: Picks + Drop>(
+    alloc: Global,
+    script: &Script,
+    show: &Show,
+    setting: Setting,
+    tops: List<Top>,
+    picks: P,
+    disks: Vec<D>,
+    out: &mut O,
+    journal: &mut Journal,
+) -> (RunOutcome, Vec<D>)
+    requires script { (text : Seq ℕ) × IsScriptOf text script.now }
+    requires setting { IsSettingOf script.now (map D.bytes disks.items) setting }
+    requires tops { tops ≡ setting.tops }
+    requires few { length disks.items ≤ 16 }
+    requires empty { IsEmptyJournal journal.old }
+    ensures outcome { let seen = sink_by O.holds O.faults in
+        CameOutOver D.faults D.image show.now script.now disks.items result.1.items (seen out.old) (seen out.new)
+        journal.old journal.new result.0 }
+    ensures unwritten { (leaf : ℕ) → result.0 ≡ RunOutcome.Unfit leaf → out.new ≡ out.old }
+    ensures same { AreSameDisks D.bytes D.faults D.faults_at_fetch D.home D.image D.sound disks.items result.1.items }
+{
+    let images = disks.len() as u32;
+    match Graph::new(alloc, setting, disks, tops, picks) {
+        Ok(engine) => {
+            let (ended, disks) = run_rounds(alloc, script, show, images, engine, out, journal);
+            (outcome_of(ended), disks)
+        }
+        Err(DisksBack { disks }) => (RunOutcome::Cut(RunFault::Memory), disks),
+    }
+}

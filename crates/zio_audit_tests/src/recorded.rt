@@ -37,8 +37,8 @@ fn answers(
     Ok((sectors, chooser.is_all_asked()))
 }
 
-/// Two entries, and one that is refused since the free sectors are scattered.
-fn three() -> [Entry; 4] {
+/// Three entries, and one that is refused since the free sectors are scattered.
+fn four() -> [Entry; 4] {
     [found(1, 1, 2), found(2, 4, 2), found(3, 6, 2), refused(4)]
 }
 
@@ -46,7 +46,7 @@ fn three() -> [Entry; 4] {
 fn asks_are_answered_out_of_order(rt: HostRuntime) -> Result<(), Fail> {
     let (sectors, all) = answers(
         rt.alloc(),
-        &three(),
+        &four(),
         &[(4, 1024), (3, 1024), (1, 1024), (2, 1024)],
     )?;
     assert!(rt; sectors.as_slice() == [None, Some(6), Some(1), Some(4)].as_slice());
@@ -80,7 +80,7 @@ fn a_key_that_is_asked_twice_is_answered_once(rt: HostRuntime) -> Result<(), Fai
 
 #[test]
 fn an_entry_that_is_not_asked_for_is_told(rt: HostRuntime) -> Result<(), Fail> {
-    let (_, all) = answers(rt.alloc(), &three(), &[(1, 1024), (2, 1024), (3, 1024)])?;
+    let (_, all) = answers(rt.alloc(), &four(), &[(1, 1024), (2, 1024), (3, 1024)])?;
     assert!(rt; !all);
     Ok(())
 }

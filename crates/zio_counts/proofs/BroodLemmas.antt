@@ -1,13 +1,9 @@
--- How the first children without a value, and those with a label, follow what a brood takes in.
-use Rattle.std.proofs.Common.{◌≡◌, ◌≢◌, ℕ, ◌+◌, ◌<◌, ◌≤◌, List, [], ◌∷◌, ◌++◌, length, get_or, set, Bool, true, false, not, cond, ◌==◌, nat_eq, Some, None, Result, Ok, Err, is_err, OnOk, length-append, refl, ap, sym, ◌∙◌, subst, inl, inr, arith, eq-eqb, ne_eqb, lt-ltb, le-ltb}
-use Rattle.std.proofs.lemmas.Bool.{cases_lt, false≢true}
+-- How the first children without a value follow what a brood takes in.
+use Rattle.std.proofs.Common.{◌≡◌, ◌≢◌, ℕ, ◌+◌, ◌<◌, ◌≤◌, List, [], ◌∷◌, ◌++◌, length, get_or, set, Bool, false, cond, Some, None, refl, ap, sym, ◌∙◌, inl, inr, arith, lt-ltb, le-ltb}
+use Rattle.std.proofs.lemmas.Bool.{cases_lt}
 use Rattle.std.proofs.lemmas.List.{get_or-set_same, get_or-set_other, length-set}
 use Rattle.std.proofs.lemmas.List.Folds.{position_or_len-set, position_or_len_push}
-use Rattle.std.proofs.lemmas.List.Sums.{position_or_len_is, fails_before_first, passes_at_first, prefix_len-le-length}
-use Rattle.std.specs.declared.hash.FoldHasher.{FoldHasher}
-use Rattle.std.specs.declared.hash.BuildHasherDefault.{BuildHasherDefault}
-use Rattle.std.specs.HashMap.{HashMap, get}
-use Rattle.std.specs.Bool.{then_some}
+use Rattle.std.proofs.lemmas.List.Sums.{position_or_len_is, fails_before_first, passes_at_first}
 use Rattle.std.specs.List.{position, position_or_len}
 use Rattle.zio_types.specs.declared.request.ChildKind.{ChildKind}
 use Rattle.zio_types.specs.declared.request.ChildKind.TheVariants.{Vdev, Gang, Logical}
@@ -17,7 +13,7 @@ use Rattle.zio_types.specs.Machine.{is_count, same_kind}
 use Rattle.std.proofs.Math.Bool.{and-false, and-true}
 use Rattle.zio_counts.specs.declared.child.Child.{Child}
 use Rattle.zio_counts.specs.declared.firsts.Firsts.{Firsts}
-use Rattle.zio_counts.specs.Broods.{IsIndex, IsPassed, all_stepped, first_of, first_or, firsts_of, has_label, misses, new_child, stepped, with_first}
+use Rattle.zio_counts.specs.Broods.{IsPassed, all_stepped, first_of, firsts_of, misses, new_child, stepped, with_first}
 
 -- ---- the first that passes
 
@@ -188,56 +184,3 @@ pub firsts_pushed : {R V : Type 0} (kind : ChildKind) (label : ℕ) (children pu
     after ≡ all_stepped kind count firsts → after ≡ firsts_of pushed
 firsts_pushed kind label children pushed firsts after count p e all a =
     a ∙ (firsts_of-push kind label children firsts count e all ∙ ap firsts_of (sym p))
-
--- where the first is past the end, the new element is looked at
-position-push_past : {X : Type 0} (p : X → Bool) (xs : List X) (y : X) (b : Bool) → p y ≡ b → position_or_len p xs ≡ length xs →
-    position p (xs ++ y ∷ []) ≡ then_some b (length xs)
-position-push_past p xs y true e past =
-    let first : position_or_len p (xs ++ y ∷ []) ≡ length xs =
-    position_or_len_push p xs y ∙ (ap (λ t. cond t (length xs + cond (p y) 0 1) (position_or_len p xs)) (eq-eqb _ _ past)
-    ∙ (ap (λ t. length xs + cond t 0 1) e ∙ omega arith)) in
-    position-at p (xs ++ y ∷ []) (length xs) (sym first) (omega (arith, length-append xs (y ∷ [])))
-position-push_past p xs y false e past =
-    let first : position_or_len p (xs ++ y ∷ []) ≡ length xs + 1 =
-    position_or_len_push p xs y ∙ (ap (λ t. cond t (length xs + cond (p y) 0 1) (position_or_len p xs)) (eq-eqb _ _ past)
-    ∙ ap (λ t. length xs + cond t 0 1) e) in
-    position-none p (xs ++ y ∷ []) (length xs + 1) (sym first) (omega (arith, length-append xs (y ∷ [])))
-
-position-push : {X : Type 0} (p : X → Bool) (xs : List X) (y : X) →
-    position p (xs ++ y ∷ []) ≡ first_or (position p xs) (then_some (p y) (length xs))
-position-push p xs y =
-    elim (cases_lt (position_or_len p xs) (length xs)) [
-      | inl lt ↦
-          let apart : position_or_len p xs ≢ length xs = omega (arith, lt) in
-          let first : position_or_len p (xs ++ y ∷ []) ≡ position_or_len p xs =
-          position_or_len_push p xs y ∙ ap (λ t. cond t (length xs + cond (p y) 0 1) (position_or_len p xs)) (ne_eqb _ _ apart) in
-          position-at p (xs ++ y ∷ []) (position_or_len p xs) (sym first) (omega (arith, lt, length-append xs (y ∷ [])))
-          ∙ sym (ap (λ o. first_or o (then_some (p y) (length xs))) (position-at p xs (position_or_len p xs) refl lt))
-      | inr le ↦
-          let past : position_or_len p xs ≡ length xs = omega (arith, le, prefix_len-le-length (λ x. not (p x)) xs) in
-          position-push_past p xs y (p y) refl past
-          ∙ sym (ap (λ o. first_or o (then_some (p y) (length xs))) (position-none p xs (position_or_len p xs) refl le))
-    ]
-
-IsIndex-push : {R V : Type 0} (old new : HashMap ℕ ℕ (BuildHasherDefault FoldHasher)) (children : List (Child R V))
-    (kind : ChildKind) (label number : ℕ) → IsIndex old children → number ≡ length children →
-    ((other : ℕ) → get nat_eq new other ≡ first_or (get nat_eq old other) (then_some (label == other) number)) →
-    IsIndex new (children ++ new_child kind label ∷ [])
-IsIndex-push {R} {V} old new children kind label number index all noted =
-    let child : Child R V = new_child kind label in
-    record {
-      first = λ other. noted other ∙ (ap (λ o. first_or o (then_some (label == other) number)) (index.first other)
-          ∙ (ap (λ n. first_or (position (has_label other) children) (then_some (label == other) n)) all
-          ∙ sym (position-push (has_label other) children child)));
-    }
-
-pub IsIndex-pushed : {R V : Type 0} (old new : HashMap ℕ ℕ (BuildHasherDefault FoldHasher)) (children pushed : List (Child R V))
-    (kind : ChildKind) (label number : ℕ) → pushed ≡ children ++ new_child kind label ∷ [] → IsIndex old children → number ≡ length children →
-    ((other : ℕ) → get nat_eq new other ≡ first_or (get nat_eq old other) (then_some (label == other) number)) →
-    IsIndex new pushed
-IsIndex-pushed old new children pushed kind label number p index all noted =
-    subst (IsIndex new) (sym p) (IsIndex-push old new children kind label number index all noted)
-
-pub ok_holds : {T E P : Type 0} (r : Result T E) → is_err r ≡ false → OnOk r P → P
-ok_holds (Ok x) e h = h
-ok_holds (Err x) e h = absurd (false≢true (sym e))

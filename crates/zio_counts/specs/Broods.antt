@@ -1,9 +1,6 @@
 -- The list of a node's children: which of them has which value, and which is the first without one.
-use Rattle.std.specs.Prelude.{◌≡◌, ℕ, ◌+◌, ◌<◌, List, length, slice_set, slice_index_or, Bool, false, ◌&&◌, not, cond, Option, Some, None, is_none, ◌==◌, nat_eq}
-use Rattle.std.specs.declared.hash.FoldHasher.{FoldHasher}
-use Rattle.std.specs.declared.hash.BuildHasherDefault.{BuildHasherDefault}
-use Rattle.std.specs.HashMap.{HashMap, get}
-use Rattle.std.specs.List.{position, position_or_len}
+use Rattle.std.specs.Prelude.{◌≡◌, ℕ, ◌+◌, ◌<◌, List, length, slice_set, slice_index_or, Bool, false, ◌&&◌, not, cond, Option, Some, None, is_none, ◌==◌}
+use Rattle.std.specs.List.{position_or_len}
 use Rattle.zio_types.specs.declared.request.ChildKind.{ChildKind}
 use Rattle.zio_types.specs.declared.request.ChildKind.TheVariants.{Vdev, Gang, Logical}
 use Rattle.zio_types.specs.declared.request.Phase.{Phase}
@@ -31,15 +28,6 @@ abbrev pub has_label : {R V : Type 0} → ℕ → Child R V → Bool
 has_label label child = child.label == label
 
 -- ---- how they are kept
-
--- the second where the first is none
-abbrev pub first_or : Option ℕ → Option ℕ → Option ℕ
-first_or None second = second
-first_or (Some first) second = Some first
-
--- the map has the first child with each label
-pub record IsIndex {R V : Type 0} (numbers : HashMap ℕ ℕ (BuildHasherDefault FoldHasher)) (children : List (Child R V)) : Type 0 where
-  pub first : (label : ℕ) → get nat_eq numbers label ≡ position (has_label label) children
 
 -- the first child of each kind without a value for each phase, or the number of all
 abbrev pub firsts_of : {R V : Type 0} → List (Child R V) → Firsts

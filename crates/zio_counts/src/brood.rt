@@ -1,14 +1,11 @@
-ghost use Rattle.std.specs.Prelude.{◌≡◌, ◌<◌, ◌∷◌, ◌++◌, [], length, IsTrue, IfOk, IfSome, OnOk, OnErr, None, nat_eq, ◌==◌, ℕ, option_copied, slice_get, slice_set};
+ghost use Rattle.std.specs.Prelude.{◌≡◌, ◌<◌, ◌∷◌, ◌++◌, [], length, IsTrue, IfOk, IfSome, OnOk, OnErr, option_copied, slice_get, slice_set};
 ghost use Rattle.std.specs.List.{position};
 ghost use Rattle.std.specs.Option.{option_and_then};
-ghost use Rattle.std.specs.Bool.{then_some};
-ghost use Rattle.std.specs.HashMap.{get, IsUnchanged};
-ghost use Rattle.zio_counts.specs.Broods.{awaits, first_or, has_label, misses, new_child};
+ghost use Rattle.zio_counts.specs.Broods.{awaits, has_label, misses, new_child};
 
 use crate::child::Child;
 use crate::firsts::Firsts;
 use std::alloc::Global;
-use std::collections::HashMap;
 use std::marker::Model;
 use zio_types::{ChildKind, List, NoMemory, Phase};
 
@@ -16,21 +13,19 @@ use zio_types::{ChildKind, List, NoMemory, Phase};
 #[derive(Drop)]
 pub struct Brood<R, V> {
     children: Vec<Child<R, V>>,
-    /// The first child with each label.
-    numbers: HashMap<u64, usize>,
     firsts: Firsts,
 }
 
 impl<R, V> Model for Brood<R, V> {
     ghost use Rattle.std.specs.Prelude.{List as Seq, ◌≡◌};
     ghost use Rattle.zio_counts.specs.declared.child.Child.{Child};
-    ghost use Rattle.zio_counts.specs.Broods.{IsIndex, firsts_of};
+    ghost use Rattle.zio_counts.specs.Broods.{firsts_of};
 
     ghost Value = { Seq (Child R V) };
 
     ghost view = { λ b. b.children.items };
 
-    ghost invariant = { λ b. (b.firsts ≡ firsts_of b.children.items) × IsIndex b.numbers b.children.items };
+    ghost invariant = { λ b. b.firsts ≡ firsts_of b.children.items };
 }
 
 impl<R: Drop, V: Drop> Brood<R, V> {
@@ -40,7 +35,6 @@ impl<R: Drop, V: Drop> Brood<R, V> {
     {
         Brood {
             children: Vec::new(alloc),
-            numbers: HashMap::new(alloc),
             firsts: Firsts::new(),
         }
     }
@@ -60,10 +54,6 @@ impl<R: Drop, V: Drop> Brood<R, V> {
     {
         let number = self.children.len();
         self.children.push(Child::new(kind, label))?;
-        if note_first(&mut self.numbers, label, number).is_err() {
-            self.children.pop();
-            return Err(NoMemory);
-        }
         self.firsts.step(kind, number);
         Ok(number)
     }
@@ -99,11 +89,11 @@ impl<R: Drop, V: Drop> Brood<R, V> {
         if first < count { Some(first) } else { None }
     }
 
-    /// The first child with the label, if there is one.
+    /// The first child with the label, if there is one. It looks at each child before that.
     pub fn find(&self, label: u64) -> Option<usize>
         ensures { result ≡ position (has_label label) self.now }
     {
-        self.numbers.get(&label).copied()
+        self.children.iter().position(|child| child.label == label)
     }
 
     /// The ready value of a child, if it has one.
@@ -128,16 +118,4 @@ impl<R: Drop, V: Drop> Brood<R, V> {
     {
         List::from_vec(self.children)
     }
-}
-
-/// Notes the number of a label that has none yet.
-fn note_first(numbers: &mut HashMap<u64, usize>, label: u64, number: usize) -> Result<(), NoMemory>
-    ensures ok { OnOk result ((other : ℕ) →
-        get nat_eq numbers.new other ≡ first_or (get nat_eq numbers.old other) (then_some (label == other) number)) }
-    ensures err { OnErr result (IsUnchanged numbers.old numbers.new) }
-{
-    if !numbers.contains_key(&label) {
-        numbers.insert(label, number)?;
-    }
-    Ok(())
 }

@@ -9,7 +9,7 @@ returns-then-first-count g c =
     let items = c.self.inside.children.items in
     let all : c.len-count.result ≡ length items = omega arith in
     let first : c.at-first.result ≡ position_or_len (misses c.args.kind c.args.phase) items =
-    kept_first c.args.kind c.args.phase items c.self.inside.firsts c.len-count.result c.at-first.result c.self.invariant.0 all c.at-first.ensures in
+    kept_first c.args.kind c.args.phase items c.self.inside.firsts c.len-count.result c.at-first.result c.self.invariant all c.at-first.ensures in
     sym (position-at (misses c.args.kind c.args.phase) items c.at-first.result first (omega (arith, all)))
     ∙ ap (position (misses c.args.kind c.args.phase)) c.self.view_is
 
@@ -18,6 +18,6 @@ returns-else-first-count g c =
     let items = c.self.inside.children.items in
     let all : c.len-count.result ≡ length items = omega arith in
     let first : c.at-first.result ≡ position_or_len (misses c.args.kind c.args.phase) items =
-    kept_first c.args.kind c.args.phase items c.self.inside.firsts c.len-count.result c.at-first.result c.self.invariant.0 all c.at-first.ensures in
+    kept_first c.args.kind c.args.phase items c.self.inside.firsts c.len-count.result c.at-first.result c.self.invariant all c.at-first.ensures in
     sym (position-none (misses c.args.kind c.args.phase) items c.at-first.result first (omega (arith, all)))
     ∙ ap (position (misses c.args.kind c.args.phase)) c.self.view_is

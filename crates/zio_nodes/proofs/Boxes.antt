@@ -6,11 +6,11 @@ use Rattle.zio_frames.specs.Frames.{Child, Stack}
 use Rattle.zio_trace.specs.Tasks.{Task, Value}
 use Rattle.zio_exchange.specs.SpaceCalls.{SpaceCall}
 use Rattle.zio_stages.specs.Sealed.{Outcome}
-use Rattle.zio_turns.specs.Stages.{GoesOn, Hears, HearsEarly, HearsSome, HearsSomeEarly, IsMove, IsNow}
+use Rattle.zio_turns.specs.Stages.{EachIn, GoesOn, Hears, HearsEarly, HearsSome, HearsSomeEarly, IsMove, IsNow, Lessens, MayGoOn}
 use Rattle.zio_nodes.specs.SealedMoves.{Move}
 use Rattle.zio_turns.specs.declared.staged.Move.TheVariants.{End, Grow, Leaf as ToLeaf, Next, Ready, Wait}
 use Rattle.zio_nodes.specs.BoxMoves.{unboxed}
-use Rattle.zio_nodes.specs.Nodes.{boxed_nodes, gave_of, nodes}
+use Rattle.zio_nodes.specs.Nodes.{IsBoxOver, IsNodeDue, IsNodeOver, IsTreeOver, boxed_nodes, gave_of, left_of, nodes}
 use Rattle.zio_nodes.specs.declared.node.Node.{Node}
 use Rattle.zio_nodes.specs.declared.node_box.NodeBox.{NodeBox}
 
@@ -82,6 +82,31 @@ moves_boxed t x st calls (End outcome) h = record {
   calls_are = h.calls_are;
   places = h.places;
 }
+
+pub each_boxed : (tops : List Top) (move : Move NodeBox) → EachIn (IsNodeOver tops) (IsTreeOver tops) (unboxed move)
+    → EachIn (IsBoxOver tops) (IsTreeOver tops) move
+each_boxed tops (Next after) h = h
+each_boxed tops (Wait after kind phase) h = h
+each_boxed tops (Grow after child kind) h = h
+each_boxed tops (ToLeaf after op leaf bytes) h = h
+each_boxed tops (Ready after pointer) h = h
+each_boxed tops (End outcome) h = h
+
+pub may_boxed : (move : Move NodeBox) → MayGoOn IsNodeDue (unboxed move) → MayGoOn boxed_nodes.due move
+may_boxed (Next after) h = h
+may_boxed (Wait after kind phase) h = h
+may_boxed (Grow after child kind) h = h
+may_boxed (ToLeaf after op leaf bytes) h = h
+may_boxed (Ready after pointer) h = h
+may_boxed (End outcome) h = h
+
+pub lessens_boxed : (x : NodeBox) (move : Move NodeBox) → Lessens left_of x.node.value (unboxed move) → Lessens boxed_nodes.left x move
+lessens_boxed x (Next after) h = h
+lessens_boxed x (Wait after kind phase) h = h
+lessens_boxed x (Grow after child kind) h = h
+lessens_boxed x (ToLeaf after op leaf bytes) h = h
+lessens_boxed x (Ready after pointer) h = h
+lessens_boxed x (End outcome) h = h
 
 -- ---- what it hears
 

@@ -1,15 +1,18 @@
 -- What the engine's parts do with the slab and the queue, put together.
-use Rattle.std.proofs.Common.{◌≡◌, ℕ, ◌+◌, ◌<◌, ◌≤◌, List, [], ◌∷◌, ◌++◌, Bool, true, false, cond, Option, Some, None, is_some, Result, Ok, Err, sym, ap, ◌∙◌, subst}
+use Rattle.std.proofs.Common.{◌≡◌, ℕ, ◌+◌, ◌<◌, ◌≤◌, List, [], ◌∷◌, ◌++◌, set, Bool, true, false, cond, Option, Some, None, IsSome, is_some, Result, Ok, Err, refl, sym, ap, ◌∙◌, subst}
 use Rattle.std.specs.Prelude.{IfOk}
+use Rattle.std.specs.Borrow.{MutBor}
+use Rattle.std.specs.Option.{option_copied_mut}
 use Rattle.zio_types.specs.declared.error.Errno.{Errno}
 use Rattle.zio_types.specs.declared.request.Bits.{Bits}
 use Rattle.zio_types.specs.declared.request.ChildKind.{ChildKind}
 use Rattle.zio_types.specs.declared.request.Phase.{Phase}
 use Rattle.zio_types.specs.declared.request.Phase.TheVariants.{Done}
-use Rattle.zio_counts.specs.Tallies.{Tally, count_end, counted, first_counted, is_last, notified, raised, stalled}
-use Rattle.slab.specs.Slab.{Slab, Updates, get}
+use Rattle.zio_counts.specs.Tallies.{Tally, count_end, counted, first_counted, is_last, notified, stalled}
+use Rattle.slab.specs.Slab.{Slab, Updates, get, with_value}
+use Rattle.slab.proofs.SlabLemmas.{ContainsKey-within, Updates-set, Updates-with_value}
 use Rattle.zio_exchange.specs.declared.waiting.UnfinishedRequest.{UnfinishedRequest}
-use Rattle.zio_turns.specs.Acts.{HasCounted, HasGrown, HasHeard, HasWaited, StepIn, counting, new_ties, step_told, with_ties}
+use Rattle.zio_turns.specs.Acts.{AreCounted, AreStalled, HasAdded, HasGrown, HasHeard, HasWaited, StepIn, counting, new_ties, one_more, step_told, with_ties}
 use Rattle.zio_turns.specs.Entries.{OneMore, OneMoreIf}
 use Rattle.zio_turns.specs.Parts.{Nodes}
 use Rattle.zio_turns.specs.Stages.{heard_max}
@@ -19,7 +22,6 @@ use Rattle.zio_turns.specs.declared.entry.Parent.TheVariants.{Node, Tree}
 use Rattle.zio_turns.specs.declared.entry.Ties.{Ties}
 use Rattle.zio_turns.specs.declared.step.Step.{Step}
 use Rattle.zio_turns.proofs.Queues.{queued_last}
-use Rattle.zio_turns.proofs.Shelves.{exchanged}
 
 pub ok_as : {X E : Type 0} (r : Result X E) (x y : X) → r ≡ Ok x → x ≡ y → r ≡ Ok y
 ok_as {X} r x y e f = subst (λ (z : X). r ≡ Ok z) f e
@@ -34,46 +36,70 @@ pub told_in : {S : Type 0} (Q : List UnfinishedRequest → Type 0) (parent : Abo
 told_in {S} Q (Tree tree child) step is = subst (λ (x : Step S). StepIn Q x) (sym is) tt
 told_in {S} Q (Node key child) step is = subst (λ (x : Step S). StepIn Q x) (sym is) tt
 
-pub waited : {N : Type 0} (slab slab_now : Slab (TiedNode N)) (line line_now : List ℕ) (key : ℕ) (e : TiedNode N) (kind : ChildKind)
-    (phase : Phase) (tally : Tally) (stalls : Bool) → tally ≡ stalled (first_counted (kind ∷ []) phase e.ties.counts) e.ties.counts
-    → stalls ≡ is_some (first_counted (kind ∷ []) phase e.ties.counts)
-    → Updates slab slab_now key (Some (with_ties {N = N} e.node (counting e.ties tally)))
-    → line_now ≡ cond stalls line (line ++ key ∷ []) → HasWaited {N = N} slab line slab_now line_now key e kind phase
-waited {N} slab slab_now line line_now key e kind phase tally stalls is waits put queued = record {
-  put = subst (λ (x : Tally). Updates slab slab_now key (Some (with_ties {N = N} e.node (counting e.ties x)))) is put;
+-- ---- what changes in its place
+
+-- the slab where nothing is under the key
+abbrev pub without : {N : Type 0} → Slab (TiedNode N) → ℕ → Slab (TiedNode N)
+without slab key = record slab { slots = set slab.slots key None }
+
+pub taken_out : {N : Type 0} (slab : Slab (TiedNode N)) (key : ℕ) (e : TiedNode N) → get slab key ≡ Some e
+    → Updates slab (without {N = N} slab key) key None
+taken_out {N} slab key e is =
+    Updates-set {T = TiedNode N} slab (without {N = N} slab key) key None (ContainsKey-within {T = TiedNode N} slab key (subst IsSome (sym is) refl)) refl
+
+-- a change of what is there is one of the slab where it isn't
+pub put_in : {N : Type 0} (slab slab_now : Slab (TiedNode N)) (key : ℕ) (e : TiedNode N) (o : Option (TiedNode N)) → get slab key ≡ Some e
+    → Updates slab slab_now key o → Updates (without {N = N} slab key) slab_now key o
+put_in {N} slab slab_now key e o is u =
+    let out = taken_out {N = N} slab key e is in
+    record { changed = u.changed; others = λ k n. u.others k n ∙ sym (out.others k n) }
+
+-- what is lent to be changed is what is there
+pub lent_there : {T : Type 0} {lent : MutBor T} {o : Option (MutBor T)} {there : Option T} → o ≡ Some lent → option_copied_mut o ≡ there
+    → there ≡ Some lent.now
+lent_there is value = sym value ∙ ap option_copied_mut is
+
+-- what is there is changed
+pub in_place : {N : Type 0} (slab : Slab (TiedNode N)) (key : ℕ) (e now : TiedNode N) → get slab key ≡ Some e
+    → Updates slab (with_value {T = TiedNode N} slab key now) key (Some now)
+in_place {N} slab key e now is = Updates-with_value {T = TiedNode N} slab key now (subst IsSome (sym is) refl)
+
+-- one change of it after another
+pub changed_twice : {N : Type 0} (a b c : Slab (TiedNode N)) (key : ℕ) (o p : Option (TiedNode N)) → Updates a b key o → Updates b c key p
+    → Updates a c key p
+changed_twice {N} a b c key o p u v = record { changed = v.changed; others = λ k n. v.others k n ∙ u.others k n }
+
+pub are_stalled : (ties ties_now : Ties) (line line_now : List ℕ) (key : ℕ) (kind : ChildKind) (phase : Phase) (tally : Tally) (stalls : Bool)
+    → tally ≡ stalled (first_counted (kind ∷ []) phase ties.counts) ties.counts
+    → stalls ≡ is_some (first_counted (kind ∷ []) phase ties.counts) → ties_now ≡ counting ties tally
+    → line_now ≡ cond stalls line (line ++ key ∷ []) → AreStalled ties line ties_now line_now key kind phase
+are_stalled ties ties_now line line_now key kind phase tally stalls is waits now queued = record {
+  ties_are = now ∙ ap (counting ties) is;
   queued = queued ∙ ap (λ (b : Bool). cond b line (line ++ key ∷ [])) waits;
 }
 
-pub has_grown : {N : Type 0} (slab mid slab_now : Slab (TiedNode N)) (line line_mid line_now : List ℕ) (key at : ℕ) (e : TiedNode N)
-    (child : N) (kind : ChildKind) (tally : Tally) (more : ℕ) (ties : Ties) → counted kind Done e.ties.counts < count_end
-    → tally ≡ raised kind e.ties.counts → more ≡ e.ties.children + 1
-    → Updates slab mid key (Some (with_ties {N = N} e.node (record {
-      kind = e.ties.kind;
-      parent = e.ties.parent;
-      counts = tally;
-      children = more;
-    })))
-    → get mid at ≡ None → ties ≡ new_ties kind (Node key e.ties.children)
-    → Updates mid slab_now at (Some (with_ties {N = N} child ties)) → line_mid ≡ line ++ at ∷ []
-    → line_now ≡ line_mid ++ key ∷ [] → HasGrown {N = N} slab line slab_now line_now key e child kind
-has_grown {N} slab mid slab_now line line_mid line_now key at e child kind tally more ties room counts one_more put free are added one two = record {
+pub waited : {N : Type 0} (slab slab_now : Slab (TiedNode N)) (line line_now : List ℕ) (key : ℕ) (node : N) (ties ties_now : Ties)
+    (kind : ChildKind) (phase : Phase) → AreStalled ties line ties_now line_now key kind phase
+    → Updates slab slab_now key (Some (with_ties {N = N} node ties_now))
+    → HasWaited {N = N} slab line slab_now line_now key (with_ties {N = N} node ties) kind phase
+waited {N} slab slab_now line line_now key node ties ties_now kind phase h put = record {
+  put = subst (λ (x : Ties). Updates slab slab_now key (Some (with_ties {N = N} node x))) h.ties_are put;
+  queued = h.queued;
+}
+
+pub has_grown : {N : Type 0} (slab mid slab_now : Slab (TiedNode N)) (line line_now : List ℕ) (key number : ℕ) (node child : N)
+    (ties ties_now : Ties) (kind : ChildKind) → counted kind Done ties.counts < count_end → ties_now ≡ one_more kind ties
+    → number ≡ ties.children → Updates slab mid key (Some (with_ties {N = N} node ties_now))
+    → HasAdded {N = N} mid line slab_now line_now key number child kind
+    → HasGrown {N = N} slab line slab_now line_now key (with_ties {N = N} node ties) child kind
+has_grown {N} slab mid slab_now line line_now key number node child ties ties_now kind room now is put h = record {
   mid = mid;
-  at = at;
+  at = h.at;
   room = room;
-  put = subst (λ (n : ℕ). Updates slab mid key (Some (with_ties {N = N} e.node (record {
-    kind = e.ties.kind;
-    parent = e.ties.parent;
-    counts = raised kind e.ties.counts;
-    children = n;
-  })))) one_more (subst (λ (x : Tally). Updates slab mid key (Some (with_ties {N = N} e.node (record {
-    kind = e.ties.kind;
-    parent = e.ties.parent;
-    counts = x;
-    children = more;
-  })))) counts put);
-  free = free;
-  added = subst (λ (x : Ties). Updates mid slab_now at (Some (with_ties {N = N} child x))) are added;
-  queued = two ∙ ap (λ (q : List ℕ). q ++ key ∷ []) one;
+  put = subst (λ (x : Ties). Updates slab mid key (Some (with_ties {N = N} node x))) now put;
+  free = h.free;
+  added = subst (λ (n : ℕ). Updates mid slab_now h.at (Some (with_ties {N = N} child (new_ties kind (Node key n))))) is h.added;
+  queued = h.queued;
 }
 
 -- a key that comes last where it is woken, behind another that stands in front or not
@@ -87,30 +113,27 @@ woken_behind true first key line line_now e =
     subst (λ (q : List ℕ). OneMore key (first ∷ line) (first ∷ q)) (sym e) (queued_last key (first ∷ line))
 woken_behind false first key line line_now e = ap (λ (q : List ℕ). first ∷ q) e
 
-pub has_counted : {N : Type 0} (slab slab_now : Slab (TiedNode N)) (line line_now : List ℕ) (key : ℕ) (e : TiedNode N) (kind : ChildKind)
-    (phase : Phase) (error : Option Errno) (bits : Bits) (tally : Tally) (b : Bool)
-    → Updates slab slab_now key (Some (with_ties {N = N} e.node (counting e.ties tally)))
-    → tally ≡ notified kind phase error bits e.ties.counts → b ≡ is_last kind phase e.ties.counts
-    → line_now ≡ cond b (line ++ key ∷ []) line
-    → HasCounted {N = N} slab line slab_now line_now key e kind phase error bits
-has_counted {N} slab slab_now line line_now key e kind phase error bits tally b put counts is queued = record {
-  put = subst (λ (x : Tally). Updates slab slab_now key (Some (with_ties {N = N} e.node (counting e.ties x)))) counts put;
+pub are_counted : (ties ties_now : Ties) (line line_now : List ℕ) (key : ℕ) (kind : ChildKind) (phase : Phase) (error : Option Errno)
+    (bits : Bits) (tally : Tally) (b : Bool) → ties_now ≡ counting ties tally → tally ≡ notified kind phase error bits ties.counts
+    → b ≡ is_last kind phase ties.counts → line_now ≡ cond b (line ++ key ∷ []) line
+    → AreCounted ties line ties_now line_now key kind phase error bits
+are_counted ties ties_now line line_now key kind phase error bits tally b now counts is queued = record {
+  ties_are = now ∙ ap (counting ties) counts;
   queued = queued ∙ ap (λ (x : Bool). cond x (line ++ key ∷ []) line) is;
 }
 
--- it was taken out, heard, and was put back
-pub has_heard : {N : Type 0} (nodes : Nodes N) (slab out slab_now : Slab (TiedNode N)) (line line_now : List ℕ) (kind : ChildKind)
-    (phase : Phase) (error : Option Errno) (bits : Bits) (key : ℕ) (was : TiedNode N) (up : N)
-    → get slab key ≡ Some was → Updates slab out key None
-    → HasCounted {N = N} out line slab_now line_now key (with_ties {N = N} up was.ties) kind phase error bits
+-- it heard in its place, and its ties have the mark
+pub has_heard : {N : Type 0} (nodes : Nodes N) (slab slab_now : Slab (TiedNode N)) (line line_now : List ℕ) (kind : ChildKind)
+    (phase : Phase) (error : Option Errno) (bits : Bits) (key : ℕ) (was : TiedNode N) (up : N) (ties_now : Ties)
+    → get slab key ≡ Some was → Updates slab slab_now key (Some (with_ties {N = N} up ties_now))
+    → AreCounted was.ties line ties_now line_now key kind phase error bits
     → nodes.told up ≡ nodes.told was.node → nodes.left up ≤ nodes.left was.node + heard_max → nodes.gave up ≡ nodes.gave was.node
     → (nodes.due was.node → nodes.due up)
     → HasHeard {N = N} nodes slab line slab_now line_now kind phase error bits key was up
-has_heard {N} nodes slab out slab_now line line_now kind phase error bits key was up there taken has told left gave due =
+has_heard {N} nodes slab slab_now line line_now kind phase error bits key was up ties_now there put has told left gave due =
     record {
       there = there;
-      put = exchanged slab out slab_now key
-          (with_ties {N = N} up (counting was.ties (notified kind phase error bits was.ties.counts))) taken has.put;
+      put = subst (λ (x : Ties). Updates slab slab_now key (Some (with_ties {N = N} up x))) has.ties_are put;
       queued = has.queued;
       told = told;
       left = left;

@@ -24,7 +24,7 @@ use Rattle.slab.specs.Slab.{Slab, Updates}
 use Rattle.zio_exchange.specs.Outcomes.{held_by}
 use Rattle.zio_exchange.specs.SpaceCalls.{SpaceCall, calls_by}
 use Rattle.zio_turns.specs.Acts.{counting, with_ties}
-use Rattle.zio_turns.specs.Engine.{IsKept, StillKept}
+use Rattle.zio_turns.specs.Engine.{IsKept}
 use Rattle.zio_turns.specs.Entries.{CountsAre, OneMore, count_owing, flying_at, live_of}
 use Rattle.zio_turns.specs.Desks.{backs_in, found_in}
 use Rattle.zio_turns.specs.Ledgers.{gave_over}
@@ -48,7 +48,6 @@ use Rattle.zio_turns.proofs.MoveOne.{leaf_now, one_goes_on, one_goes_to_leaf, on
 use Rattle.zio_turns.proofs.RoundNodes.{IsThere, does_children, still_as}
 use Rattle.zio_turns.proofs.Shelves.{numbered_with, shelf_with}
 use Rattle.zio_turns.proofs.SizeMoves.{answered_sizes, measured, measured_all}
-use Rattle.zio_turns.proofs.DoesLemmas.{append_none}
 use Rattle.zio_turns.proofs.LedgerOwns.{GivesOwn, gone_own}
 use Rattle.zio_frames.specs.OfRound.{IsTaskOf}
 use Rattle.std.specs.List.{AllByRecursion}

@@ -45,6 +45,19 @@ with_ties node ties = record { node = node; ties = ties }
 
 -- ---- it waits, or hands out a child
 
+-- a node's ties stall on the count, and its key isn't queued exactly where they do
+pub record AreStalled (ties : Ties) (line : List ℕ) (ties_now : Ties) (line_now : List ℕ) (key : ℕ) (kind : ChildKind) (phase : Phase) : Type 0 where
+  pub ties_are : ties_now ≡ counting ties (stalled (first_counted (kind ∷ []) phase ties.counts) ties.counts)
+  pub queued : line_now ≡ cond (is_some (first_counted (kind ∷ []) phase ties.counts)) line (line ++ key ∷ [])
+
+-- the child of the node under the key, with this number, has a key of its own, and both are queued, the child first
+pub record HasAdded {N : Type 0} (slab : Slab (TiedNode N)) (line : List ℕ) (slab_now : Slab (TiedNode N)) (line_now : List ℕ) (key number : ℕ)
+    (child : N) (kind : ChildKind) : Type 0 where
+  pub at : ℕ
+  pub free : get slab at ≡ None
+  pub added : Updates slab slab_now at (Some (with_ties {N = N} child (new_ties kind (Node key number))))
+  pub queued : line_now ≡ (line ++ at ∷ []) ++ key ∷ []
+
 -- the key isn't queued exactly where it stalls on a count
 pub record HasWaited {N : Type 0} (slab : Slab (TiedNode N)) (line : List ℕ) (slab_now : Slab (TiedNode N)) (line_now : List ℕ) (key : ℕ)
     (e : TiedNode N) (kind : ChildKind) (phase : Phase) : Type 0 where
@@ -88,12 +101,11 @@ abbrev pub CanEnd : {N S : Type 0} → Nodes N → (List Top → N → Type 0) �
 CanEnd nodes over tops slab kind (Tree tree child) outcome = Unit {0}
 CanEnd {N = N} nodes over tops slab kind (Node key child) outcome = AwaitsEnd {N = N} nodes over tops slab kind key child outcome
 
--- the node is under the key, with one child's mark in its counts, and the key is queued exactly where it waited for this alone
-pub record HasCounted {N : Type 0} (slab : Slab (TiedNode N)) (line : List ℕ) (slab_now : Slab (TiedNode N)) (line_now : List ℕ)
-    (key : ℕ) (e : TiedNode N) (kind : ChildKind) (phase : Phase) (error : Option Errno) (bits : Bits) : Type 0 where
-  pub put : Updates slab slab_now key
-      (Some (with_ties {N = N} e.node (counting e.ties (notified kind phase error bits e.ties.counts))))
-  pub queued : line_now ≡ cond (is_last kind phase e.ties.counts) (line ++ key ∷ []) line
+-- a node's ties have one child's mark in their counts, and its key is queued exactly where it waited for this alone
+pub record AreCounted (ties : Ties) (line : List ℕ) (ties_now : Ties) (line_now : List ℕ) (key : ℕ) (kind : ChildKind) (phase : Phase)
+    (error : Option Errno) (bits : Bits) : Type 0 where
+  pub ties_are : ties_now ≡ counting ties (notified kind phase error bits ties.counts)
+  pub queued : line_now ≡ cond (is_last kind phase ties.counts) (line ++ key ∷ []) line
 
 -- the node there is this one now, and its key is queued exactly where it waited for this alone
 pub record HasHeard {N : Type 0} (nodes : Nodes N) (slab : Slab (TiedNode N)) (line : List ℕ) (slab_now : Slab (TiedNode N))

@@ -11,6 +11,7 @@ pub mod Grounds
 pub mod Ledgers
 pub mod LinePlaces
 pub mod LineSums
+pub mod Moves
 pub mod Parts
 pub mod Rests
 pub mod Rounds

@@ -1,15 +1,14 @@
 //! What parents hear of their children.
 
 ghost use Rattle.std.specs.Prelude.{◌≡◌, ◌<◌, IfOk, IfSome, IsTrue, OnOk};
-ghost use Rattle.slab.specs.Slab.{HasRoomFor};
 ghost use Rattle.zio_counts.specs.Tallies.{counted};
 ghost use Rattle.zio_blkptr.specs.Pointers.{valid};
-ghost use Rattle.zio_turns.specs.Acts.{AwaitsEnd, AwaitsReady, CanEnd, CanTell, HasCounted, HasEnded, HasTold, IsHandedOn, NodeHeard, NodeTold, StepIn, step_told};
+ghost use Rattle.zio_turns.specs.Acts.{AreCounted, AwaitsEnd, AwaitsReady, CanEnd, CanTell, HasEnded, HasTold, IsHandedOn, NodeHeard, NodeTold, StepIn, step_told};
 ghost use Rattle.zio_turns.specs.Stages.{OutcomeIn};
 
 use crate::entry::{Parent, TiedNode, Ties};
 use crate::line::Line;
-use crate::shelf::{put_back, queue_up};
+use crate::shelf::queue_up;
 use crate::staged::Staged;
 use crate::step::Step;
 use slab::Slab;
@@ -26,26 +25,16 @@ struct Mark {
     bits: Bits,
 }
 
-/// The node goes back under its key, with the child's mark in its counts, and is queued where it waited for that alone.
-fn count<N>(
-    nodes: &mut Slab<TiedNode<N>>,
-    line: &mut Line,
-    key: usize,
-    entry: TiedNode<N>,
-    mark: Mark,
-) -> Result<(), NoMemory>
-    requires room { HasRoomFor nodes.old 1 }
-    requires free { nodes.old.vacant_key ≡ key }
-    requires owed { 0 < counted mark.kind mark.phase entry.ties.counts }
+/// The child's mark comes into the counts of the node under the key, whose ties these are; it is queued where it waited
+/// for that alone.
+fn count(ties: &mut Ties, line: &mut Line, key: usize, mark: Mark) -> Result<(), NoMemory>
+    requires owed { 0 < counted mark.kind mark.phase ties.old.counts }
     ensures { OnOk result
-        (HasCounted nodes.old line.old nodes.new line.new key entry mark.kind mark.phase mark.error mark.bits) }
+        (AreCounted ties.old line.old ties.new line.new key mark.kind mark.phase mark.error mark.bits) }
 {
-    let TiedNode { node, ties } = entry;
-    let mut ties = ties;
     let woken = ties
         .counts
         .notify(mark.kind, mark.phase, mark.error, mark.bits);
-    put_back(nodes, key, TiedNode { node, ties });
     if woken {
         return queue_up(line, key);
     }
@@ -65,15 +54,17 @@ fn tell_node<N: Staged>(
     requires can { AwaitsReady N.nodes nodes.old kind key child }
     ensures { OnOk result (NodeTold N.nodes N.over nodes.old line.old nodes.new line.new kind key child pointer) }
 {
-    let TiedNode { node, ties } = nodes.remove(key);
-    let node = node.arrive_ready(child, pointer);
+    let Some(entry) = nodes.get_mut(key) else {
+        unreachable!();
+    };
+    entry.node.arrive_ready(child, pointer);
     let mark = Mark {
         kind,
         phase: Phase::Ready,
         error: None,
         bits: Bits::NONE,
     };
-    count(nodes, line, key, TiedNode { node, ties }, mark)
+    count(&mut entry.ties, line, key, mark)
 }
 
 /// The parent hears which pointer the value of its child will have. Whether that is a tree.
@@ -137,32 +128,35 @@ fn end_node<N: Staged>(
         error: error_of(&outcome),
         bits: bits_of(&outcome),
     };
-    let TiedNode { node, ties } = nodes.remove(key);
-    let Ok((node, finished)) = node.arrive(tops, child, outcome) else {
+    let Some(entry) = nodes.get_mut(key) else {
+        unreachable!();
+    };
+    let Ok(finished) = entry.node.arrive(tops, child, outcome) else {
         return Err(NoMemory);
     };
-    count(nodes, line, key, TiedNode { node, ties }, mark)?;
+    count(&mut entry.ties, line, key, mark)?;
     Ok(finished)
 }
 
-/// The node ended with this, and its parent hears of it, or its tree is to.
+/// A node of this kind ended with this, and its parent hears of it, or its tree is to.
 pub(crate) fn end<N: Staged>(
     nodes: &mut Slab<TiedNode<N>>,
     line: &mut Line,
     tops: &[Top],
-    ties: &Ties,
+    kind: ChildKind,
+    parent: Parent,
     outcome: Outcome<N::Seal>,
 ) -> Result<Step<N::Seal>, NoMemory>
-    requires can { CanEnd N.nodes N.over tops.now nodes.old ties.now.kind ties.now.parent outcome }
+    requires can { CanEnd N.nodes N.over tops.now nodes.old kind parent outcome }
     requires inside { OutcomeIn (N.tree_over tops.now) outcome }
     ensures ended { IfOk result
-        (HasEnded N.nodes N.over tops.now nodes.old line.old nodes.new line.new ties.now.kind ties.now.parent outcome) }
+        (HasEnded N.nodes N.over tops.now nodes.old line.old nodes.new line.new kind parent outcome) }
     ensures inside { IfOk result (StepIn (N.tree_over tops.now)) }
 {
-    match ties.parent {
+    match parent {
         Parent::Tree { tree, .. } => Ok(Step::Root(tree, outcome)),
         Parent::Node { key, child } => {
-            let finished = end_node(nodes, line, tops, ties.kind, key, child, outcome)?;
+            let finished = end_node(nodes, line, tops, kind, key, child, outcome)?;
             Ok(Step::Ended(finished))
         }
     }

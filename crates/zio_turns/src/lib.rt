@@ -43,7 +43,7 @@ pub use laws::{
 pub use line::Line;
 pub use node::NodeFacts;
 pub use picks::{FirstPicks, Picks, SeedPicks, from_seed};
-pub use staged::{BothBack, Move, Staged};
+pub use staged::{Move, Staged, Turn};
 pub use trees::{TreeEnd, TreeState, begin_attempt, hear_tree};
 pub use turn::{Turned, run_turn};
 pub use turns::Turns;

@@ -1,9 +1,9 @@
 //! Nodes under keys, and those in the queue.
 
 ghost use Rattle.std.specs.Prelude.{◌≡◌, ◌+◌, ◌<◌, ◌∷◌, ◌++◌, [], IfOk, None, OnOk, Some};
-ghost use Rattle.slab.specs.Slab.{HasRoomFor, Updates, get};
-ghost use Rattle.zio_counts.specs.Tallies.{counted};
-ghost use Rattle.zio_turns.specs.Acts.{HasGrown, HasWaited, new_ties};
+ghost use Rattle.slab.specs.Slab.{Updates, get};
+ghost use Rattle.zio_counts.specs.Tallies.{count_end, counted};
+ghost use Rattle.zio_turns.specs.Acts.{AreStalled, HasAdded, new_ties, one_more};
 
 use crate::entry::{Parent, TiedNode, Ties};
 use crate::line::Line;
@@ -30,15 +30,6 @@ pub(crate) fn queue_up(line: &mut Line, key: usize) -> Result<(), NoMemory>
     line.push(key)
 }
 
-/// Puts a node back under the key that was freed last.
-pub(crate) fn put_back<N>(nodes: &mut Slab<TiedNode<N>>, key: usize, entry: TiedNode<N>)
-    requires room { HasRoomFor nodes.old 1 }
-    requires free { nodes.old.vacant_key ≡ key }
-    ensures { Updates nodes.old nodes.new key (Some entry) }
-{
-    nodes.insert_reserved(entry);
-}
-
 /// Gives a node a key.
 pub(crate) fn add<N: Drop>(
     nodes: &mut Slab<TiedNode<N>>,
@@ -53,51 +44,48 @@ pub(crate) fn add<N: Drop>(
     }
 }
 
-/// The node stalls until no child of this kind owes the phase, or is queued where none does.
-pub(crate) fn wait<N: Drop>(
-    nodes: &mut Slab<TiedNode<N>>,
+/// The node under the key, whose ties these are, stalls until no child of this kind owes the phase, or is queued where
+/// none does.
+pub(crate) fn wait(
+    ties: &mut Ties,
     line: &mut Line,
     key: usize,
-    entry: TiedNode<N>,
     kind: ChildKind,
     phase: Phase,
 ) -> Result<(), NoMemory>
-    requires room { HasRoomFor nodes.old 1 }
-    requires free { nodes.old.vacant_key ≡ key }
-    ensures { OnOk result (HasWaited nodes.old line.old nodes.new line.new key entry kind phase) }
+    ensures { OnOk result (AreStalled ties.old line.old ties.new line.new key kind phase) }
 {
-    let TiedNode { node, ties } = entry;
-    let mut ties = ties;
-    let stalls = ties.counts.wait_for(&[kind], phase);
-    put_back(nodes, key, TiedNode { node, ties });
-    if stalls {
+    if ties.counts.wait_for(&[kind], phase) {
         return Ok(());
     }
     queue_up(line, key)
 }
 
-/// The child is the next of the node, which has so many children now, and both are queued, the child first.
+/// One child more of the kind is handed out, of so many now. Its number.
+pub(crate) fn count_child(ties: &mut Ties, kind: ChildKind, children: usize) -> usize
+    requires children { children ≡ ties.old.children + 1 }
+    requires few { counted kind Phase.Done ties.old.counts < children }
+    ensures ties { ties.new ≡ one_more kind ties.old }
+    ensures number { result ≡ ties.old.children }
+    ensures room { counted kind Phase.Done ties.old.counts < count_end }
+{
+    let number = ties.children;
+    ties.counts.add(kind);
+    ties.children = children;
+    number
+}
+
+/// The child of this number of the node under the key gets a key, and both are queued, the child first.
 pub(crate) fn grow<N: Drop>(
     nodes: &mut Slab<TiedNode<N>>,
     line: &mut Line,
     key: usize,
-    entry: TiedNode<N>,
+    number: usize,
     child: N,
     kind: ChildKind,
-    children: usize,
 ) -> Result<(), NoMemory>
-    requires room { HasRoomFor nodes.old 1 }
-    requires free { nodes.old.vacant_key ≡ key }
-    requires children { children ≡ entry.ties.children + 1 }
-    requires few { counted kind Phase.Done entry.ties.counts < children }
-    ensures { OnOk result (HasGrown nodes.old line.old nodes.new line.new key entry child kind) }
+    ensures { OnOk result (HasAdded nodes.old line.old nodes.new line.new key number child kind) }
 {
-    let TiedNode { node, ties } = entry;
-    let mut ties = ties;
-    let number = ties.children;
-    ties.counts.add(kind);
-    ties.children = children;
-    put_back(nodes, key, TiedNode { node, ties });
     let parent = Parent::Node { key, child: number };
     let at = add(
         nodes,

@@ -1,7 +1,7 @@
 //! What an engine does with its nodes: it runs their stages, and tells them what their children and the leaves
 //! answered.
 
-ghost use Rattle.std.specs.Prelude.{◌≡◌, ◌≢◌, ◌+◌, ◌<◌, ◌≤◌, List as Seq, [], IfErr, IfOk, IfSome, IsTrue, Ok, Err, Some, false, length};
+ghost use Rattle.std.specs.Prelude.{◌≡◌, ◌≢◌, ◌+◌, ◌<◌, ◌≤◌, List as Seq, [], IfErr, IfOk, IfSome, IsTrue, OnErr, OnOk, Ok, Some, false, length};
 ghost use Rattle.zio_types.specs.Choices.{Ask};
 ghost use Rattle.zio_types.specs.declared.place.Top.{Top as SeenTop};
 ghost use Rattle.zio_blkptr.specs.Pointers.{valid};
@@ -22,10 +22,28 @@ use std::alloc::Global;
 use zio_blkptr::Bp;
 use zio_exchange::{Finished, Outcome, Services, Whole, WholeBack};
 use zio_script::Failmode;
-use zio_types::{Bytes, ChildKind, Errno, Phase, Top};
+use zio_types::{Bytes, ChildKind, Errno, NoMemory, Phase, Top};
 use zio_vqueue::Op;
 
-/// What a stage of a node comes to.
+/// What a stage of a node comes to, which is changed in its place.
+#[derive(Drop)]
+pub enum Turn<N, S> {
+    /// The node goes on.
+    Next,
+    /// It waits until no child of this kind owes this phase.
+    Wait(ChildKind, Phase),
+    /// This node is its new child.
+    Grow(N, ChildKind),
+    /// An operation for the leaf of this number, with the bytes of a write.
+    Leaf(Op, u32, Bytes),
+    /// Its value will have this pointer, or none.
+    Ready(Option<Bp>),
+    /// It ended, and what is in its place may only be dropped.
+    End(Outcome<S>),
+}
+
+/// What a stage of a node comes to, with the node as the stage left it: contracts speak of a turn so, and a stage that
+/// takes its node apart gives it.
 #[derive(Drop)]
 pub enum Move<N, S> {
     /// The node goes on.
@@ -41,15 +59,9 @@ pub enum Move<N, S> {
     End(Outcome<S>),
 }
 
-/// There is no memory for what a node heard.
-#[derive(Drop)]
-pub struct BothBack<N, S> {
-    pub node: N,
-    pub outcome: Outcome<S>,
-}
-
 /// A node whose stages an engine runs.
 pub trait Staged: NodeFacts + Drop {
+    ghost use Rattle.zio_turns.specs.Moves.{moved};
     ghost use Rattle.zio_turns.specs.declared.staged.Move.{Move as SeenMove};
 
     /// Under which its requests finish.
@@ -82,77 +94,79 @@ pub trait Staged: NodeFacts + Drop {
         ensures over { (tops : Seq SeenTop) → tree_over tops whole → IfOk result (over tops) }
         ensures back { IfErr result (λ e. e.whole ≡ whole) };
 
-    /// Runs one stage of a node that isn't with its leaf. Where memory is refused the node comes back, the stage is to be
-    /// repeated, and what it did of it stays.
+    /// Runs one stage of a node that isn't with its leaf. Where memory is refused the stage is to be repeated, and what
+    /// it did of it stays.
     fn run_stage<S: Services>(
-        self,
+        &mut self,
         alloc: Global,
         services: &mut S,
-    ) -> Result<Move<Self, Self::Seal>, Self>
-        requires over { over (S.tops services.old) self }
-        requires due { Self.nodes.due self }
-        ensures moves { (move : Move Self Self.Seal) → result ≡ Ok move → (calls : Seq SpaceCall)
-            × S.made services.old calls services.new
-            × ((t : Terms) (st : Stack) → IsNow Self.nodes (S.tops services.old) t self st
-            → IsMove Self.nodes Self.nodes.gave t self st calls move) }
-        ensures over { IfOk result (EachIn (over (S.tops services.old)) (tree_over (S.tops services.old))) }
-        ensures may { IfOk result (MayGoOn Self.nodes.due) }
-        ensures left { IfOk result (Lessens Self.nodes.left self) }
-        ensures stages { IfOk result (leads self) }
-        ensures refused { (node : Self) → result ≡ Err node → (calls : Seq SpaceCall)
-            × S.made services.old calls services.new
-            × ((t : Terms) (st : Stack) → IsNow Self.nodes (S.tops services.old) t self st
-            → GoesOn Self.nodes Self.nodes.gave t self st calls node) }
+    ) -> Result<Turn<Self, Self::Seal>, NoMemory>
+        requires over { over (S.tops services.old) self.old }
+        requires due { Self.nodes.due self.old }
+        ensures moves { IfOk result (λ turn. (calls : Seq SpaceCall) × S.made services.old calls services.new
+            × ((t : Terms) (st : Stack) → IsNow Self.nodes (S.tops services.old) t self.old st
+            → IsMove Self.nodes Self.nodes.gave t self.old st calls (moved self.new turn))) }
+        ensures over { IfOk result (λ turn. EachIn (over (S.tops services.old)) (tree_over (S.tops services.old))
+            (moved self.new turn)) }
+        ensures may { IfOk result (λ turn. MayGoOn Self.nodes.due (moved self.new turn)) }
+        ensures left { IfOk result (λ turn. Lessens Self.nodes.left self.old (moved self.new turn)) }
+        ensures stages { IfOk result (λ turn. leads self.old (moved self.new turn)) }
+        ensures refused { OnErr result ((calls : Seq SpaceCall) × S.made services.old calls services.new
+            × ((t : Terms) (st : Stack) → IsNow Self.nodes (S.tops services.old) t self.old st
+            → GoesOn Self.nodes Self.nodes.gave t self.old st calls self.new)) }
         ensures tops { S.tops services.new ≡ S.tops services.old };
 
     /// The child of this number told which pointer its value will have, or that it has none.
-    fn arrive_ready(self, child: usize, pointer: Option<Bp>) -> Self
-        requires awaited { HearsSomeEarly Self.nodes self child }
+    fn arrive_ready(&mut self, child: usize, pointer: Option<Bp>)
+        requires awaited { HearsSomeEarly Self.nodes self.old child }
         requires valid { IfSome pointer (λ bp. IsTrue (valid bp)) }
-        ensures heard { (t : Terms) (st : Stack) (c : Child) → HearsEarly Self.nodes t self st child c →
-            Self.nodes.Is t result (heard_early st child c pointer) }
-        ensures told { Self.nodes.told result ≡ Self.nodes.told self }
-        ensures gave { Self.nodes.gave result ≡ Self.nodes.gave self }
-        ensures due { Self.nodes.due self → Self.nodes.due result }
-        ensures over { (tops : Seq SeenTop) → over tops self → over tops result }
-        ensures left { Self.nodes.left result ≤ Self.nodes.left self + heard_max };
+        ensures heard { (t : Terms) (st : Stack) (c : Child) → HearsEarly Self.nodes t self.old st child c →
+            Self.nodes.Is t self.new (heard_early st child c pointer) }
+        ensures told { Self.nodes.told self.new ≡ Self.nodes.told self.old }
+        ensures gave { Self.nodes.gave self.new ≡ Self.nodes.gave self.old }
+        ensures due { Self.nodes.due self.old → Self.nodes.due self.new }
+        ensures over { (tops : Seq SeenTop) → over tops self.old → over tops self.new }
+        ensures left { Self.nodes.left self.new ≤ Self.nodes.left self.old + heard_max };
 
-    /// The child of this number ended. Of a request that finished this comes back. Where memory is refused both come
-    /// back.
+    /// The child of this number ended. Of a request that finished this comes back. Where memory is refused nothing has
+    /// changed, and the outcome comes back.
     fn arrive(
-        self,
+        &mut self,
         tops: &[Top],
         child: usize,
         outcome: Outcome<Self::Seal>,
-    ) -> Result<(Self, Option<Finished<Self::Seal>>), BothBack<Self, Self::Seal>>
-        requires over { over tops.now self }
-        requires awaited { HearsSome Self.nodes tops.now self child outcome }
+    ) -> Result<Option<Finished<Self::Seal>>, Outcome<Self::Seal>>
+        requires over { over tops.now self.old }
+        requires awaited { HearsSome Self.nodes tops.now self.old child outcome }
         requires inside { OutcomeIn (tree_over tops.now) outcome }
-        ensures heard { IfOk result (λ both. (t : Terms) (st : Stack) (c : Child) (op : Task) (v : Value) →
-            Hears Self.nodes tops.now t self st child c op outcome v → Self.nodes.Is t both.0 (heard_of st child c v)) }
-        ensures finished { IfOk result (λ both. IfSome both.1 (λ f. outcome ≡ SeenOutcome.Finished f)) }
-        ensures kept { IfOk result (λ both. (f : _) → outcome ≡ SeenOutcome.Finished f → both.1 ≡ Some f) }
-        ensures told { IfOk result (λ both. Self.nodes.told both.0 ≡ Self.nodes.told self) }
-        ensures gave { IfOk result (λ both. Self.nodes.gave both.0 ≡ Self.nodes.gave self) }
-        ensures due { IfOk result (λ both. Self.nodes.due self → Self.nodes.due both.0) }
-        ensures over_still { IfOk result (λ both. over tops.now both.0) }
-        ensures left { IfOk result (λ both. Self.nodes.left both.0 ≤ Self.nodes.left self + heard_max) };
+        ensures heard { OnOk result ((t : Terms) (st : Stack) (c : Child) (op : Task) (v : Value) →
+            Hears Self.nodes tops.now t self.old st child c op outcome v
+            → Self.nodes.Is t self.new (heard_of st child c v)) }
+        ensures finished { IfOk result (λ f. IfSome f (λ f. outcome ≡ SeenOutcome.Finished f)) }
+        ensures kept { IfOk result (λ finished. (f : _) → outcome ≡ SeenOutcome.Finished f → finished ≡ Some f) }
+        ensures told { OnOk result (Self.nodes.told self.new ≡ Self.nodes.told self.old) }
+        ensures gave { OnOk result (Self.nodes.gave self.new ≡ Self.nodes.gave self.old) }
+        ensures due { OnOk result (Self.nodes.due self.old → Self.nodes.due self.new) }
+        ensures over_still { OnOk result (over tops.now self.new) }
+        ensures left { OnOk result (Self.nodes.left self.new ≤ Self.nodes.left self.old + heard_max) }
+        ensures same { OnErr result (self.new ≡ self.old) }
+        ensures back { IfErr result (λ e. e ≡ outcome) };
 
     /// How many children it handed out.
     fn children(&self) -> usize
         ensures { (t : Terms) (st : Stack) → Self.nodes.Is t self.now st → result ≡ length st.children };
 
     /// The leaf answered: an error or none, and the bytes of a read.
-    fn answered(self, error: Option<Errno>, bytes: Bytes) -> Self
-        requires { (t : Terms) × (act : LeafOp) × Self.nodes.Is t self (fresh_stack (Leaf act)) }
-        ensures heard { (t : Terms) (act : LeafOp) (a : Answer) → Self.nodes.Is t self (fresh_stack (Leaf act)) →
+    fn answered(&mut self, error: Option<Errno>, bytes: Bytes)
+        requires { (t : Terms) × (act : LeafOp) × Self.nodes.Is t self.old (fresh_stack (Leaf act)) }
+        ensures heard { (t : Terms) (act : LeafOp) (a : Answer) → Self.nodes.Is t self.old (fresh_stack (Leaf act)) →
             ShowsAnswer act error bytes a →
-            Self.nodes.Is t result (done_at_once (fresh_stack (Leaf act)) (Leaf act) (Got a)) }
-        ensures told { Self.nodes.told result ≡ Self.nodes.told self }
-        ensures gave { Self.nodes.gave result ≡ Self.nodes.gave self }
-        ensures due { Self.nodes.due result }
-        ensures over { (tops : Seq SeenTop) → over tops self → over tops result }
-        ensures left { Self.nodes.left result ≤ Self.nodes.left self };
+            Self.nodes.Is t self.new (done_at_once (fresh_stack (Leaf act)) (Leaf act) (Got a)) }
+        ensures told { Self.nodes.told self.new ≡ Self.nodes.told self.old }
+        ensures gave { Self.nodes.gave self.new ≡ Self.nodes.gave self.old }
+        ensures due { Self.nodes.due self.new }
+        ensures over { (tops : Seq SeenTop) → over tops self.old → over tops self.new }
+        ensures left { Self.nodes.left self.new ≤ Self.nodes.left self.old };
 
     /// What holds of each node, wherever it stands: it is a part of the work, or an operation on a leaf, and no ask of
     /// the space; and it gave back only places that it holds, or those of the block that it frees. It does nothing.

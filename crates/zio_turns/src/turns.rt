@@ -12,8 +12,8 @@ ghost use Rattle.zio_turns.specs.Slabs.{AreAll, load};
 use crate::entry::{Parent, TiedNode};
 use crate::hear::{end, tell};
 use crate::line::Line;
-use crate::shelf::{add, grow, new_ties, put_back, queue_up, wait};
-use crate::staged::{Move, Staged};
+use crate::shelf::{add, count_child, grow, new_ties, queue_up, wait};
+use crate::staged::{Staged, Turn};
 use crate::step::Step;
 use slab::Slab;
 use std::alloc::Global;
@@ -95,43 +95,34 @@ impl<N: Staged> Turns<N> {
     {
         N::does_its_part();
         let Turns { nodes, line } = self;
-        let TiedNode { node, ties } = nodes.remove(key);
-        let Ok(moved) = node.run_stage(alloc, services) else {
-            return Err(NoMemory);
+        let Some(entry) = nodes.get_mut(key) else {
+            unreachable!();
         };
-        match moved {
-            Move::Next(node) => {
-                put_back(nodes, key, TiedNode { node, ties });
-                Ok(Step::Goes)
-            }
-            Move::Wait(node, kind, phase) => {
-                wait(nodes, line, key, TiedNode { node, ties }, kind, phase)?;
+        let turn = entry.node.run_stage(alloc, services)?;
+        match turn {
+            Turn::Next => Ok(Step::Goes),
+            Turn::Wait(kind, phase) => {
+                wait(&mut entry.ties, line, key, kind, phase)?;
                 Ok(Step::Rests)
             }
-            Move::Grow(node, child, kind) => {
-                let children = node.children();
-                grow(
-                    nodes,
-                    line,
-                    key,
-                    TiedNode { node, ties },
-                    child,
-                    kind,
-                    children,
-                )?;
+            Turn::Grow(child, kind) => {
+                let children = entry.node.children();
+                let number = count_child(&mut entry.ties, kind, children);
+                grow(nodes, line, key, number, child, kind)?;
                 Ok(Step::Rests)
             }
-            Move::Leaf(node, op, leaf, bytes) => {
-                put_back(nodes, key, TiedNode { node, ties });
-                Ok(Step::Leaf(op, leaf, bytes))
-            }
-            Move::Ready(node, pointer) => {
-                let kind = ties.kind;
-                let parent = ties.parent;
-                put_back(nodes, key, TiedNode { node, ties });
+            Turn::Leaf(op, leaf, bytes) => Ok(Step::Leaf(op, leaf, bytes)),
+            Turn::Ready(pointer) => {
+                let kind = entry.ties.kind;
+                let parent = entry.ties.parent;
                 tell(nodes, line, kind, parent, pointer)
             }
-            Move::End(outcome) => end(nodes, line, services.tops(), &ties, outcome),
+            Turn::End(outcome) => {
+                let kind = entry.ties.kind;
+                let parent = entry.ties.parent;
+                drop(nodes.remove(key));
+                end(nodes, line, services.tops(), kind, parent, outcome)
+            }
         }
     }
 
@@ -150,9 +141,10 @@ impl<N: Staged> Turns<N> {
         ensures less { OnOk result (load N.nodes.left self.new.nodes self.new.line
             < load N.nodes.left self.old.nodes self.old.line + 2) }
     {
-        let TiedNode { node, ties } = self.nodes.remove(key);
-        let node = node.answered(error, bytes);
-        put_back(&mut self.nodes, key, TiedNode { node, ties });
+        let Some(entry) = self.nodes.get_mut(key) else {
+            unreachable!();
+        };
+        entry.node.answered(error, bytes);
         queue_up(&mut self.line, key)
     }
 }

@@ -1,20 +1,19 @@
-use Rattle.std.proofs.Common.{Bool, [], ◌∷◌, ◌++◌, cond, sym, ap, ◌∙◌}
+use Rattle.std.proofs.Common.{Bool, [], ◌∷◌, ◌++◌, cond, refl, sym, ap, ◌∙◌}
 use Rattle.std.proofs.lemmas.Result.{on_ok_weaker}
-use Rattle.zio_turns.proofs.ActLemmas.{waited}
+use Rattle.zio_turns.proofs.ActLemmas.{are_stalled}
 use Rattle.zio_turns.proofs.shelf.wait.Goals as goal
 
-pub returns-then-stalls : goal.returns-then-stalls
-returns-then-stalls g c =
-    waited c.args.nodes.now c.put_back.new.nodes c.args.line.now c.args.line.now c.args.key c.args.entry c.args.kind c.args.phase
-    c.wait_for-stalls.new.self c.wait_for-stalls.result c.wait_for-stalls.ensures.counts c.wait_for-stalls.ensures.waits
-    c.put_back.ensures
-    (sym (ap (λ (b : Bool). cond b c.args.line.now (c.args.line.now ++ c.args.key ∷ [])) c.if-stalls.true))
+pub returns-then-wait_for : goal.returns-then-wait_for
+returns-then-wait_for c =
+    are_stalled c.args.ties.now _ c.args.line.now c.args.line.now c.args.key c.args.kind c.args.phase
+    c.wait_for.new.self c.wait_for.result c.wait_for.ensures.counts c.wait_for.ensures.waits refl
+    (sym (ap (λ (b : Bool). cond b c.args.line.now (c.args.line.now ++ c.args.key ∷ [])) c.if-wait_for.true))
 
 pub returns : goal.returns
-returns g c =
+returns c =
     on_ok_weaker c.queue_up.result
-    (λ q. waited c.args.nodes.now c.put_back.new.nodes c.args.line.now c.queue_up.new.line c.args.key c.args.entry c.args.kind
-    c.args.phase c.wait_for-stalls.new.self c.wait_for-stalls.result c.wait_for-stalls.ensures.counts
-    c.wait_for-stalls.ensures.waits c.put_back.ensures
-    (q ∙ sym (ap (λ (b : Bool). cond b c.args.line.now (c.args.line.now ++ c.args.key ∷ [])) c.if-stalls.false)))
+    (λ q. are_stalled c.args.ties.now _ c.args.line.now c.queue_up.new.line c.args.key c.args.kind
+    c.args.phase c.wait_for.new.self c.wait_for.result c.wait_for.ensures.counts
+    c.wait_for.ensures.waits refl
+    (q ∙ sym (ap (λ (b : Bool). cond b c.args.line.now (c.args.line.now ++ c.args.key ∷ [])) c.if-wait_for.false)))
     c.queue_up.ensures

@@ -8,12 +8,13 @@ use Rattle.zio_nodes.proofs.node_box.NodeBoxStaged.arrive_ready.Goals as goal
 pub arrive_ready-requires-clause-awaited : goal.arrive_ready-requires-clause-awaited
 arrive_ready-requires-clause-awaited c =
     subst (λ (n : Node). HearsSomeEarly {N = Node} nodes n c.args.child) (sym c.deref_mut.ensures.value)
-    (some_early_unboxed c.args.self c.args.child c.requires.awaited)
+    (some_early_unboxed c.args.self.now c.args.child c.requires.awaited)
 
 pub returns-clause-heard : goal.returns-clause-heard
 returns-clause-heard c = λ t st k h.
     c.arrive_ready.ensures.heard t st k
-    (subst (λ (n : Node). HearsEarly {N = Node} nodes t n st c.args.child k) (sym c.deref_mut.ensures.value) (early_unboxed t c.args.self st c.args.child k h))
+    (subst (λ (n : Node). HearsEarly {N = Node} nodes t n st c.args.child k) (sym c.deref_mut.ensures.value)
+    (early_unboxed t c.args.self.now st c.args.child k h))
 
 pub returns-clause-due : goal.returns-clause-due
 returns-clause-due c = λ h. c.arrive_ready.ensures.due (subst IsNodeDue (sym c.deref_mut.ensures.value) h)

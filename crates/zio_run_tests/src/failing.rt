@@ -1,6 +1,6 @@
 //! Each call of each object of the outside fails alone.
 
-use crate::runs::{Case, Fails, Ran, STEADY, run};
+use crate::runs::{Case, Failing, Object, Ran, run_failing};
 use std::alloc::Global;
 use std::process::Abort;
 use std::test::Fail;
@@ -66,42 +66,6 @@ const RESUMED: Known<'static> = Known {
     ],
 };
 
-/// Which object fails.
-#[derive(Clone, Copy, Debug)]
-enum Object {
-    Source,
-    Shelf,
-    FirstDisk,
-    SecondDisk,
-    Sink,
-}
-
-/// The calls that fail where this one of the object does.
-fn failing<'a>(object: Object, call: &'a [u64]) -> Fails<'a> {
-    match object {
-        Object::Source => Fails {
-            source: call,
-            ..STEADY
-        },
-        Object::Shelf => Fails {
-            shelf: call,
-            ..STEADY
-        },
-        Object::FirstDisk => Fails {
-            first_disk: call,
-            ..STEADY
-        },
-        Object::SecondDisk => Fails {
-            second_disk: call,
-            ..STEADY
-        },
-        Object::Sink => Fails {
-            sink: call,
-            ..STEADY
-        },
-    }
-}
-
 /// The code and the output are those of a run in which this call of the object failed.
 fn is_told(known: &Known<'_>, object: Object, call: u64, ran: &Ran) -> bool {
     let held = ran.sink.held();
@@ -133,6 +97,15 @@ fn is_home(known: &Known<'_>, ran: &Ran) -> bool {
     ran.shelf.disk("a").is_some() && (known.case.second_len == 0 || ran.shelf.disk("b").is_some())
 }
 
+/// The run is one in which this call of the object failed, or one that met no such call.
+fn is_as_expected(known: &Known<'_>, object: Object, call: u64, ran: &Ran) -> bool {
+    if ran.code == 0 {
+        Some(&ran.sink.held()) == known.texts.last()
+    } else {
+        is_told(known, object, call, ran)
+    }
+}
+
 /// Lets each call of the object fail, one in each run, until a run meets none. It gives how many there were.
 fn each_call(
     rt: &impl Abort,
@@ -141,62 +114,66 @@ fn each_call(
     object: Object,
 ) -> Result<u64, Fail> {
     for call in 0..CALLS_MAX {
-        let ran = run(alloc, &known.case, &failing(object, &[call]))?;
-        assert!(rt;
-            is_home(known, &ran),
-            "{object:?}, call {call}: a disk isn't home"
-        );
+        let ran = run_failing(alloc, &known.case, Failing { object, call })?;
+        let is_right = is_home(known, &ran) && is_as_expected(known, object, call, &ran);
+        assert!(rt; is_right, "{object:?}, call {call}: code {}", ran.code);
         if ran.code == 0 {
-            assert_eq!(rt; Some(&ran.sink.held()), known.texts.last());
             return Ok(call);
         }
-        assert!(rt;
-            is_told(known, object, call, &ran),
-            "{object:?}, call {call}: code {}",
-            ran.code
-        );
     }
     Err(Fail::from("more calls than were reckoned with"))
+}
+
+/// Lets each call of each object fail, where each is called at least once.
+fn each_object(rt: &impl Abort, alloc: Global, known: &Known<'_>) -> Result<(), Fail> {
+    for object in [
+        Object::Source,
+        Object::Shelf,
+        Object::FirstDisk,
+        Object::SecondDisk,
+        Object::Sink,
+    ] {
+        let is_there = object != Object::SecondDisk || known.case.second_len > 0;
+        assert_eq!(rt;
+            each_call(rt, alloc, known, object)? > 0,
+            is_there,
+            "calls of {object:?}"
+        );
+    }
+    Ok(())
 }
 
 #[test]
 fn each_call_fails_alone(rt: HostRuntime) -> Result<(), Fail> {
     let alloc = rt.alloc();
-    for known in [&WRITE_THEN_READ, &MENDED, &RESUMED] {
-        for object in [
-            Object::Source,
-            Object::Shelf,
-            Object::FirstDisk,
-            Object::Sink,
-        ] {
-            assert!(rt;
-                each_call(&rt, alloc, known, object)? > 0,
-                "{object:?} is never called"
-            );
-        }
-        if known.case.second_len > 0 {
-            assert!(rt;
-                each_call(&rt, alloc, known, Object::SecondDisk)? > 0,
-                "the second disk is never called"
-            );
-        }
-    }
-    Ok(())
+    each_object(&rt, alloc, &WRITE_THEN_READ)?;
+    each_object(&rt, alloc, &MENDED)?;
+    each_object(&rt, alloc, &RESUMED)
 }
 
-/// A disk that fails in the second round: what was run whole stays recorded, the entry and the completion of the write,
-/// and nothing else.
-fn check_second_round(rt: &impl Abort, alloc: Global, known: &Known<'_>) -> Result<(), Fail> {
-    let ran = run(alloc, &known.case, &failing(Object::FirstDisk, &[1]))?;
-    assert_eq!(rt; ran.code, 7);
+/// What was run whole stays recorded, the entry and the completion of the write, and nothing else.
+fn check_first_round(rt: &impl Abort, known: &Known<'_>, ran: &Ran) {
     assert_eq!(rt; Some(&ran.sink.held()), known.texts.get(1));
-    assert_eq!(rt; ran.journal.rounds, 1);
-    assert_eq!(rt; ran.journal.places.len(), 1);
-    assert_eq!(rt; ran.journal.completions.len(), 1);
-    Ok(())
+    let journal = &ran.journal;
+    assert_eq!(rt;
+        (
+            ran.code,
+            journal.rounds,
+            journal.places.len(),
+            journal.completions.len()
+        ),
+        (7, 1, 1, 1)
+    );
 }
 
+/// The disk fails in the second round.
 #[test]
 fn what_was_run_whole_stays_recorded(rt: HostRuntime) -> Result<(), Fail> {
-    check_second_round(&rt, rt.alloc(), &WRITE_THEN_READ)
+    let failing = Failing {
+        object: Object::FirstDisk,
+        call: 1,
+    };
+    let ran = run_failing(rt.alloc(), &WRITE_THEN_READ.case, failing)?;
+    check_first_round(&rt, &WRITE_THEN_READ, &ran);
+    Ok(())
 }

@@ -1,18 +1,13 @@
-//! Tests of the fold over a script, and of the top call over the objects in memory: the words of `run`, reports and
-//! images that no clause spells out, what the order of the work changes and what it leaves, each call of the outside
-//! that fails alone, and a disk that forgets.
+//! Tests of the top call over the objects in memory: reports and images that no clause spells out, what the order of
+//! the work changes and what it leaves, each call of the outside that fails alone, and a disk that forgets.
 //!
 //! They stand here, since a crate with tests of its own is proved once more with them. There is nothing else in it.
 #![tactic(auto)]
 
 #[cfg(test)]
-mod course;
-#[cfg(test)]
 mod failing;
 #[cfg(test)]
 mod forgetful_shelf;
-#[cfg(test)]
-mod images;
 #[cfg(test)]
 mod mirrors;
 #[cfg(test)]
@@ -21,5 +16,3 @@ mod orders;
 mod reports;
 #[cfg(test)]
 mod runs;
-#[cfg(test)]
-mod words;

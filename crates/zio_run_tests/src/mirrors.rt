@@ -1,7 +1,7 @@
 //! Two writes on a mirror whose leaves fail in some way: whatever is picked, the report and the leaves are the same.
 
 use crate::orders::SEEDS;
-use crate::runs::{Case, Ran, STEADY, run};
+use crate::runs::{Case, Ran, run, run_with_picks};
 use std::alloc::Global;
 use std::process::Abort;
 use std::test::Fail;
@@ -68,51 +68,56 @@ const MIRRORS: [Mirror; 6] = [
     },
 ];
 
-fn check(rt: &impl Abort, ran: &Ran, mirror: &Mirror) -> Result<(), Fail> {
-    assert_eq!(rt; ran.code, mirror.code);
-    assert_eq!(rt; ran.sink.held(), mirror.report);
-    for (name, held) in ["a", "b"].iter().zip(mirror.held) {
-        let Some(disk) = ran.shelf.disk(name) else {
-            return Err(Fail::from("a disk isn't home"));
-        };
-        let (mut first, mut second) = (0u32, 0u32);
-        for sector in disk.image().chunks(512) {
-            if sector.iter().all(|b| *b == 0x11) {
-                first = first.saturating_add(1);
-            } else if sector.iter().all(|b| *b == 0x22) {
-                second = second.saturating_add(1);
-            } else {
-                assert!(rt;
-                    sector.iter().all(|b| *b == 0),
-                    "a sector that nothing wrote"
-                );
-            }
+/// How many sectors of the image the first and the second write hold; nothing where a sector has what nothing wrote.
+fn writes_held(image: &[u8]) -> Option<(u32, u32)> {
+    let (mut first, mut second) = (0u32, 0u32);
+    for sector in image.chunks(512) {
+        if sector.iter().all(|b| *b == 0x11) {
+            first = first.saturating_add(1);
+        } else if sector.iter().all(|b| *b == 0x22) {
+            second = second.saturating_add(1);
+        } else if !sector.iter().all(|b| *b == 0) {
+            return None;
         }
-        let wanted = if held { (1, 1) } else { (0, 0) };
-        assert_eq!(rt; (first, second), wanted, "leaf {name}");
     }
-    Ok(())
+    Some((first, second))
 }
 
-fn run_mirror(alloc: Global, mirror: &Mirror, words: &[&str]) -> Result<Ran, Fail> {
+/// Whether the leaf of this name is home and has both sectors once, or has neither.
+fn is_held(ran: &Ran, name: &str, held: bool) -> bool {
+    let wanted = if held { (1, 1) } else { (0, 0) };
+    match ran.shelf.disk(name) {
+        Some(disk) => writes_held(disk.image()) == Some(wanted),
+        None => false,
+    }
+}
+
+fn check(rt: &impl Abort, ran: &Ran, mirror: &Mirror) {
+    assert_eq!(rt; (ran.code, ran.sink.held()), (mirror.code, mirror.report));
+    let [a, b] = mirror.held;
+    let found = (is_held(ran, "a", a), is_held(ran, "b", b));
+    assert_eq!(rt; found, (true, true), "the leaves have what they have to");
+}
+
+/// Runs the mirror by the first pick of all, and then by the picks of each seed.
+fn check_each_order(rt: &impl Abort, alloc: Global, mirror: &Mirror) -> Result<(), Fail> {
     let case = Case {
-        words,
+        words: &["run", "a", "b"],
         script: mirror.script,
         first_len: 65536,
         second_len: 65536,
     };
-    run(alloc, &case, &STEADY)
+    check(rt, &run(alloc, &case)?, mirror);
+    for seed in 0..SEEDS {
+        check(rt, &run_with_picks(alloc, &case, seed)?, mirror);
+    }
+    Ok(())
 }
 
 #[test]
 fn two_writes_come_out_alike_in_every_order(rt: HostRuntime) -> Result<(), Fail> {
-    let alloc = rt.alloc();
     for mirror in &MIRRORS {
-        check(&rt, &run_mirror(alloc, mirror, &["run", "a", "b"])?, mirror)?;
-        for seed in SEEDS {
-            let words = ["run", "--picks", seed, "a", "b"];
-            check(&rt, &run_mirror(alloc, mirror, &words)?, mirror)?;
-        }
+        check_each_order(&rt, rt.alloc(), mirror)?;
     }
     Ok(())
 }

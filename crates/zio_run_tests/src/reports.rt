@@ -1,7 +1,7 @@
 //! Reports, refusals and images that no clause spells out.
 
 use crate::forgetful_shelf::ForgetfulShelf;
-use crate::runs::{Case, STEADY, list, run, words_of};
+use crate::runs::{Case, Ran, bytes_of, run, run_with_picks, words_of};
 use std::alloc::Global;
 use std::process::Abort;
 use std::test::Fail;
@@ -25,8 +25,28 @@ fn sectors_of(image: &[u8], byte: u8) -> usize {
         .count()
 }
 
-/// Runs the case over `a`, and compares its code and its output, how many sectors of the image are 512 bytes 0x41
-/// afterwards, and how many have other bytes that aren't all zeros.
+/// Compares the code and the output, how many sectors of the image `a` are 512 bytes 0x41 afterwards, and how many have
+/// other bytes that aren't all zeros.
+fn check_ran(
+    rt: &impl Abort,
+    ran: &Ran,
+    len: usize,
+    code: u8,
+    output: &[u8],
+    written: usize,
+    others: usize,
+) -> Result<(), Fail> {
+    assert_eq!(rt; (ran.code, ran.sink.held()), (code, output));
+    let image = ran.shelf.disk("a").ok_or("the disk isn't home")?.image();
+    let sectors = image.len() / 512;
+    let found = sectors_of(image, 0x41);
+    let zeros = sectors_of(image, 0);
+    let rest = sectors.saturating_sub(found).saturating_sub(zeros);
+    assert_eq!(rt; (sectors, found, rest), (len / 512, written, others));
+    Ok(())
+}
+
+/// Runs the case as it stands, and compares what it comes to.
 fn check(
     rt: &impl Abort,
     alloc: Global,
@@ -36,22 +56,8 @@ fn check(
     written: usize,
     others: usize,
 ) -> Result<(), Fail> {
-    let ran = run(alloc, case, &STEADY)?;
-    assert_eq!(rt; ran.code, code);
-    assert_eq!(rt; ran.sink.held(), output);
-    match ran.shelf.disk("a") {
-        Some(disk) => {
-            assert_eq!(rt; sectors_of(disk.image(), 0x41), written);
-            let zeros = sectors_of(disk.image(), 0);
-            let used = written.checked_add(others);
-            assert_eq!(rt;
-                used.and_then(|n| zeros.checked_add(n)),
-                Some(case.first_len / 512)
-            );
-            Ok(())
-        }
-        None => Err(Fail::from("the disk isn't home")),
-    }
+    let ran = run(alloc, case)?;
+    check_ran(rt, &ran, case.first_len, code, output, written, others)
 }
 
 /// Three bodies in a batch, their reads by every class with a read of no block, and a second write of a name. The sums
@@ -76,15 +82,16 @@ fn bodies_of_every_form(rt: HostRuntime) -> Result<(), Fail> {
 /// The order of tasks doesn't change this report.
 #[test]
 fn smallest_and_largest_picks_agree(rt: HostRuntime) -> Result<(), Fail> {
+    let alloc = rt.alloc();
     let output = b"pool 1 1\nround 1 batch 1 point 0\n1 write x ok 512\nround 2 batch 2 point 0\n\
         2 read x ok 512 20a0a0a080:83878787040:16439b9b85580:2d92628254f020\nend 0\n";
-    for seed in ["0", "18446744073709551615"] {
-        let case = Case {
-            words: &["run", "--picks", seed, "a"],
-            script: b"top 0\n1 write x sha256 1 sync fill 41 512\ngo\n2 read x sync\ngo\n",
-            ..SHORTEST
-        };
-        check(&rt, rt.alloc(), &case, 0, output, 1, 0)?;
+    let case = Case {
+        script: b"top 0\n1 write x sha256 1 sync fill 41 512\ngo\n2 read x sync\ngo\n",
+        ..SHORTEST
+    };
+    for seed in [0, 18446744073709551615] {
+        let ran = run_with_picks(alloc, &case, seed)?;
+        check_ran(&rt, &ran, case.first_len, 0, output, 1, 0)?;
     }
     Ok(())
 }
@@ -115,6 +122,23 @@ fn a_generated_script_is_run(rt: HostRuntime) -> Result<(), Fail> {
     check(&rt, alloc, &case, 3, b"images 1\n", 0, 0)
 }
 
+/// Words that are no command, with a comma between two.
+const NO_COMMANDS: [&str; 13] = [
+    "run",
+    "run,-a",
+    "run,",
+    "go,a",
+    "run,a,a",
+    "run,a,--data",
+    "run,--picks,a",
+    "gen,7",
+    "gen,07,1",
+    "gen,7,20001",
+    "load,7,1",
+    "run,--journal,--journal,a",
+    "run,--data,--journal,--data,a",
+];
+
 /// The words are no command.
 fn refuses(rt: &impl Abort, alloc: Global, words: &[&str]) -> Result<(), Fail> {
     let case = Case { words, ..SHORTEST };
@@ -125,19 +149,14 @@ fn refuses(rt: &impl Abort, alloc: Global, words: &[&str]) -> Result<(), Fail> {
 fn words_that_are_no_command(rt: HostRuntime) -> Result<(), Fail> {
     let alloc = rt.alloc();
     refuses(&rt, alloc, &[])?;
-    refuses(&rt, alloc, &["run"])?;
-    refuses(&rt, alloc, &["run", "-a"])?;
-    refuses(&rt, alloc, &["run", ""])?;
-    refuses(&rt, alloc, &["go", "a"])?;
-    refuses(&rt, alloc, &["run", "a", "a"])?;
-    refuses(&rt, alloc, &["run", "a", "--data"])?;
-    refuses(&rt, alloc, &["run", "--picks", "a"])?;
-    refuses(&rt, alloc, &["gen", "7"])?;
-    refuses(&rt, alloc, &["gen", "07", "1"])?;
-    refuses(&rt, alloc, &["gen", "7", "20001"])?;
-    refuses(&rt, alloc, &["load", "7", "1"])?;
-    refuses(&rt, alloc, &["run", "--journal", "--journal", "a"])?;
-    refuses(&rt, alloc, &["run", "--data", "--journal", "--data", "a"])
+    for line in &NO_COMMANDS {
+        let mut words = Vec::new(alloc);
+        for word in line.split(',') {
+            words.push(word)?;
+        }
+        refuses(&rt, alloc, words.as_slice())?;
+    }
+    Ok(())
 }
 
 /// A batch of 129 writes of a sector, one more than the disk has, and some lines behind it.
@@ -159,33 +178,48 @@ fn lines_with_end(text: &[u8], end: &[u8]) -> usize {
         .count()
 }
 
-#[test]
-fn one_of_129_writes_is_suspended(rt: HostRuntime) -> Result<(), Fail> {
-    let alloc = rt.alloc();
-    for (more, end) in [
-        ("", b"\nend 9\n" as &[u8]),
-        ("200 read b1 sync\ngo\n", b"\nheld 2\nend 9\n"),
-    ] {
-        let script = writes_of_129_sectors(alloc, more)?;
-        let case = Case {
-            script: script.as_bytes(),
-            ..SHORTEST
-        };
-        let ran = run(alloc, &case, &STEADY)?;
-        assert_eq!(rt; ran.code, 9);
-        assert_eq!(rt; lines_with_end(ran.sink.held(), b" suspended"), 1);
-        assert_eq!(rt; lines_with_end(ran.sink.held(), b" ok 512"), 128);
-        assert_eq!(rt; lines_with_end(ran.sink.held(), b" point 0"), 1);
-        assert_eq!(rt; ran.sink.held().ends_with(end), true);
-    }
-    Ok(())
+/// One of the writes is suspended, the others are done in one round, and the report ends so.
+fn check_full(rt: &impl Abort, ran: &Ran, end: &[u8]) {
+    let held = ran.sink.held();
+    let suspended = lines_with_end(held, b" suspended");
+    let done = lines_with_end(held, b" ok 512");
+    let rounds = lines_with_end(held, b" point 0");
+    assert_eq!(rt; (ran.code, suspended, done, rounds), (9, 1, 128, 1));
+    assert!(rt; held.ends_with(end), "another end");
+}
+
+/// Runs the 129 writes with these lines behind them.
+fn run_full(alloc: Global, more: &str) -> Result<Ran, Fail> {
+    let script = writes_of_129_sectors(alloc, more)?;
+    let case = Case {
+        script: script.as_bytes(),
+        ..SHORTEST
+    };
+    run(alloc, &case)
 }
 
 #[test]
-fn bytes_that_a_disk_lost_are_a_checksum_error(rt: HostRuntime) -> Result<(), Fail> {
+fn one_of_129_writes_is_suspended(rt: HostRuntime) -> Result<(), Fail> {
     let alloc = rt.alloc();
+    check_full(&rt, &run_full(alloc, "")?, b"\nend 9\n");
+    let ran = run_full(alloc, "200 read b1 sync\ngo\n")?;
+    check_full(&rt, &ran, b"\nheld 2\nend 9\n");
+    Ok(())
+}
+
+/// What a run over a disk that forgets comes to.
+#[derive(Drop)]
+struct Forgotten {
+    code: u8,
+    sink: MemSink,
+    /// How often the disk was read.
+    reads: u64,
+}
+
+/// Writes a block on a disk that forgets, and reads it.
+fn run_forgetful(alloc: Global) -> Result<Forgotten, Fail> {
     let script = b"top 0\n1 write x sha256 1 sync fill 41 512\ngo\n2 read x sync canfail\ngo\n";
-    let mut source = MemSource::new(list(alloc, script)?, List::new(alloc));
+    let mut source = MemSource::new(bytes_of(alloc, script)?, List::new(alloc));
     let mut sink = MemSink::new(alloc, 1024, List::new(alloc))?;
     let mut shelf = ForgetfulShelf::new();
     let words = words_of(alloc, &["run", "a"])?;
@@ -198,11 +232,20 @@ fn bytes_that_a_disk_lost_are_a_checksum_error(rt: HostRuntime) -> Result<(), Fa
         &mut sink,
         &mut journal,
     );
-    assert_eq!(rt; status.code, 0);
-    assert_eq!(rt;
-        sink.held(),
-        b"pool 1 1\nround 1 batch 1 point 0\n1 write x ok 512\nround 2 batch 2 point 0\n2 read x ECKSUM\nend 0\n".as_slice()
-    );
-    assert_eq!(rt; shelf.reads(), 2, "the read is made once more");
+    Ok(Forgotten {
+        code: status.code,
+        sink,
+        reads: shelf.reads(),
+    })
+}
+
+/// The read is made once more.
+#[test]
+fn bytes_that_a_disk_lost_are_a_checksum_error(rt: HostRuntime) -> Result<(), Fail> {
+    let output =
+        b"pool 1 1\nround 1 batch 1 point 0\n1 write x ok 512\nround 2 batch 2 point 0\n2 read x ECKSUM\nend 0\n";
+    let ran = run_forgetful(rt.alloc())?;
+    assert_eq!(rt; (ran.code, ran.reads), (0, 2));
+    assert_eq!(rt; ran.sink.held(), output.as_slice());
     Ok(())
 }

@@ -1,15 +1,12 @@
-//! Tests of what no clause says, over the space, the queue, mirrors, counts and blocks, where memory is ample.
+//! Tests of what no clause says, over the parts of the pipeline that know no disk: the space, the queue, counts, stages,
+//! header trees and a mirror's choices, where memory is ample.
 //!
 //! They stand here and not in the crates, since a crate with tests of its own is proved once more with them. There is
 //! nothing else in it.
 #![tactic(auto)]
 
 #[cfg(test)]
-mod claims;
-#[cfg(test)]
 mod counts;
-#[cfg(test)]
-mod mirrors;
 #[cfg(test)]
 mod plans;
 #[cfg(test)]

@@ -1,28 +1,47 @@
 //! The images of a command are fetched together and given back together.
 
-ghost use Rattle.std.specs.Prelude.{◌≡◌, ◌≢◌, ℕ, List, None, IfOk, OnOk};
+ghost use Rattle.std.specs.Prelude.{◌≡◌, ◌≢◌, ℕ, List as Seq, None, IfOk, OnOk};
 ghost use Rattle.zio_outside.specs.MemoryShelf.{out_of, shelf_slot};
 
-use crate::runs::{list, put_zeros, words_of};
+use crate::words::words_of;
 use std::alloc::Global;
 use std::process::Abort;
 use std::test::Fail;
 use zio_command::{Command, ImagesFault, fetch_images, give_back_images, read_words};
-use zio_outside::MemShelf;
+use zio_outside::{MemDisk, MemShelf};
+use zio_types::{List, Text};
+
+/// Puts a disk of zeros that never fails on the shelf.
+fn put_zeros(alloc: Global, shelf: &mut MemShelf, name: &str, len: usize) -> Result<(), Fail>
+    requires free { shelf_slot shelf.old name.now ≡ None }
+    requires home { (other : Seq ℕ) → ¬ out_of (shelf_slot shelf.old) other }
+    ensures home { OnOk result ((other : Seq ℕ) → ¬ out_of (shelf_slot shelf.new) other) }
+    ensures others { OnOk result ((other : Seq ℕ) → other ≢ name.now →
+        shelf_slot shelf.new other ≡ shelf_slot shelf.old other) }
+{
+    let image = List::from_vec(vec![in alloc; 0; len]?);
+    let name = Text::from_string(String::from_str(alloc, name)?);
+    match shelf.put(name, MemDisk::new(image, List::new(alloc))) {
+        Ok(()) => Ok(()),
+        Err(_) => Err(Fail::from("no memory")),
+    }
+}
 
 /// A shelf of disks `a` and `b` of these lengths, where these fetches fail.
 fn shelf_of_two(alloc: Global, a: usize, b: usize, fails: &[u64]) -> Result<MemShelf, Fail>
-    ensures { IfOk result (λ shelf. (name : List ℕ) → ¬ out_of (shelf_slot shelf) name) }
+    ensures { IfOk result (λ shelf. (name : Seq ℕ) → ¬ out_of (shelf_slot shelf) name) }
 {
-    let mut shelf = MemShelf::new(alloc, list(alloc, fails)?);
-    put_zeros(alloc, &mut shelf, "a", a, &[])?;
-    put_zeros(alloc, &mut shelf, "b", b, &[])?;
+    let mut calls = List::new(alloc);
+    calls.extend_from_slice(fails)?;
+    let mut shelf = MemShelf::new(alloc, calls);
+    put_zeros(alloc, &mut shelf, "a", a)?;
+    put_zeros(alloc, &mut shelf, "b", b)?;
     Ok(shelf)
 }
 
 /// Fetches `a` and `b` and gives them back, or tells why they were not fetched.
 fn trip(alloc: Global, shelf: &mut MemShelf) -> Result<Option<ImagesFault>, Fail>
-    requires home { (name : List ℕ) → ¬ out_of (shelf_slot shelf.old) name }
+    requires home { (name : Seq ℕ) → ¬ out_of (shelf_slot shelf.old) name }
 {
     let words = words_of(alloc, &["run", "a", "b"])?;
     let Ok(Command::Run { images, .. }) = read_words(alloc, true, words.as_slice()) else {

@@ -1,7 +1,7 @@
 use Rattle.std.proofs.Common.{rules}
 use Rattle.zio_command.specs.Words.{AreImages}
 use Rattle.zio_command.proofs.ShelfLemmas.{AreOut-fetched}
-use Rattle.zio_run_tests.proofs.images.trip.Goals as goal
+use Rattle.zio_command_tests.proofs.images.trip.Goals as goal
 
 pub give_back_images-requires : goal.give_back_images-requires
 give_back_images-requires c = record {

@@ -11,8 +11,9 @@ use Rattle.zio_types.specs.declared.place.TopSize.{TopSize}
 use Rattle.zio_types.specs.Choices.{Choice, is_refused, taken_by}
 use Rattle.zio_types.specs.Places.{AreCopies, HasRun, IsLawfulChoice, IsNextCopy, SamePlaces, fits_on, fits_size, is_aligned, is_aligned_on, is_below, is_free, is_inside, sectors_on, uses_top}
 use Rattle.zio_places.specs.Ordered.{all_placed_in, comes_before, is_same_place, placed_in, without}
-use Rattle.zio_places.specs.Spaces.{SpaceState, is_on_top, is_open, used}
+use Rattle.zio_places.specs.Spaces.{IsSound, SpaceState, is_on_top, is_open, used}
 use Rattle.zio_gang.specs.Journals.{AreLawful}
+use Rattle.zio_audit.specs.Keeping.{Keeps}
 use Rattle.zio_places.proofs.PlaceLemmas.{Contains-head, is_same_place-refl, is_same_place-true}
 use Rattle.zio_places.proofs.LawLemmas.{AreCopies-push}
 use Rattle.zio_places.proofs.SetLemmas.{all_placed-same}
@@ -358,3 +359,17 @@ pub refused_back : (c : Choice) (st now next : SpaceState) (places : List Place)
     → next ≡ record now { live = st.live } → next ≡ with_placed st (taken_by c)
 refused_back c st now next places found few claimed is =
     is ∙ ap (λ (s : SpaceState). record s { live = st.live }) claimed ∙ ap (with_placed st) (sym (took_none c few))
+
+-- ---- what stays of the space
+
+pub keeps_itself : (st : SpaceState) → Keeps st st
+keeps_itself st = record { sizes = refl; sound = λ h. h }
+
+pub keeps_then : (a b c : SpaceState) → Keeps a b → Keeps b c → Keeps a c
+keeps_then a b c h k = record { sizes = k.sizes ∙ h.sizes; sound = λ s. k.sound (h.sound s) }
+
+pub keeps_sound : (old new : SpaceState) → new.sizes ≡ old.sizes → IsSound new → Keeps old new
+keeps_sound old new sizes sound = record { sizes = sizes; sound = λ h. sound }
+
+pub keeps_same : (old new : SpaceState) → new ≡ old → Keeps old new
+keeps_same old new same = record { sizes = ap (λ (s : SpaceState). s.sizes) same; sound = λ h. subst IsSound (sym same) h }

@@ -13,3 +13,7 @@ pub mod RecordedLemmas
 pub mod ShapeLemmas
 pub mod VerdictLemmas
 pub mod WorkedRuns
+pub mod ChosenLemmas
+pub mod ReplyLemmas
+pub mod ReplayedLemmas
+pub mod SpelledRounds

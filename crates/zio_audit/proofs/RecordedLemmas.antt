@@ -47,14 +47,14 @@ taken_on tops c h = by (is_refused c)
     by true = refl
     by false = pass_all (is_on_top tops) c.places (all_weaker (IsFound tops c.asked.size) (λ p. IsTrue (is_on_top tops p)) c.places (found_top tops c.asked.size) h.each)
 
-taken_unplaced : (ask : Ask) → taken_by (unplaced ask) ≡ []
+pub taken_unplaced : (ask : Ask) → taken_by (unplaced ask) ≡ []
 taken_unplaced ask = by (is_refused (unplaced ask)) (unplaced ask).places refl
   where
     by : (t : Bool) (places : List Place) → places ≡ [] → cond t [] places ≡ []
     by true places none = refl
     by false places none = none
 
-unplaced_found : (tops : List TopSize) (ask : Ask) → IsFoundEntry tops (unplaced ask)
+pub unplaced_found : (tops : List TopSize) (ask : Ask) → IsFoundEntry tops (unplaced ask)
 unplaced_found tops ask = record { most = omega arith; each = tt }
 
 -- ---- an entry that is found
@@ -64,7 +64,7 @@ found_step : (test : Choice → Bool) (y x : Choice) (ys : List Choice) (t : Boo
 found_step test y x ys true is e later = let same : y ≡ x = cc in (subst (Contains (y ∷ ys)) same (contains_first y ys), ap test (sym same) ∙ is)
 found_step test y x ys false is e later = let k = later e in (contains_later y ys x k.0, k.1)
 
-found_here : (test : Choice → Bool) (xs : List Choice) (x : Choice) → find test xs ≡ Some x → Contains xs x × (test x ≡ true)
+pub found_here : (test : Choice → Bool) (xs : List Choice) (x : Choice) → find test xs ≡ Some x → Contains xs x × (test x ≡ true)
 found_here test [] x h = absurd (cc)
 found_here test (y ∷ ys) x h = found_step test y x ys (test y) refl h (found_here test ys x)
 
@@ -286,7 +286,7 @@ split_cases x y front back there =
       | inr late ↦ elim (contained_cases x back y late) [ inl same ↦ inl same | inr later ↦ inr (Contains-append_right front back y later) ]
     ]
 
-keys_differ : (x y : Choice) (xs : List Choice) → AllByRecursion (λ (a : Ask). same_key x.asked.key a.key ≡ false) (asks_of xs) → Contains xs y → x ≡ y → ⊥
+pub keys_differ : (x y : Choice) (xs : List Choice) → AllByRecursion (λ (a : Ask). same_key x.asked.key a.key ≡ false) (asks_of xs) → Contains xs y → x ≡ y → ⊥
 keys_differ x y xs apart there same =
     both_ways (same_key x.asked.key y.asked.key)
     (all_contains (λ (c : Choice). same_key x.asked.key c.asked.key ≡ false) xs y (all_unmap (λ (a : Ask). same_key x.asked.key a.key ≡ false) (λ (c : Choice). c.asked) xs apart) there)
@@ -305,7 +305,7 @@ inside_rest g given entries s apart within =
     ])
 
 -- some of the entries, with no key twice, are no more than there are
-no_more : (given entries : List Choice) → HaveDistinctKeys (asks_of given) → AllByRecursion (Contains entries) given → length given ≤ length entries
+pub no_more : (given entries : List Choice) → HaveDistinctKeys (asks_of given) → AllByRecursion (Contains entries) given → length given ≤ length entries
 no_more [] entries distinct within = omega arith
 no_more (g ∷ given) entries distinct within =
     let s = split_at g entries within.0 in
@@ -314,7 +314,7 @@ no_more (g ∷ given) entries distinct within =
     omega arith
 
 -- and as many as there are, all of them
-each_given : (given entries : List Choice) → HaveDistinctKeys (asks_of given) → AllByRecursion (Contains entries) given → length entries ≤ length given
+pub each_given : (given entries : List Choice) → HaveDistinctKeys (asks_of given) → AllByRecursion (Contains entries) given → length entries ≤ length given
     → (x : Choice) → Contains entries x → Contains given x
 each_given [] [] distinct within few x there = there
 each_given [] (e ∷ entries) distinct within few x there = absurd (omega arith)
@@ -348,19 +348,23 @@ asked_many r index kept all distinct =
     omega arith
 
 -- then the entries are what the round's choices are to be for its asks, and they answer them
-pub asked_choices : (space : SpaceState) (entries given : List Choice) → AreRecorded space entries → AreAllAsked entries given
-    → AreChoicesOf space.sizes (used space) (asks_of given) entries × AnswersBy entries given
-asked_choices space entries given recorded all = (
+pub all_choices : (sizes : List TopSize) (u : List Place) (entries given : List Choice) → HaveDistinctKeys (asks_of entries) → AreLawful sizes u entries → AreAllAsked entries given
+    → AreChoicesOf sizes u (asks_of given) entries × AnswersBy entries given
+all_choices sizes u entries given distinct lawful all = (
   record {
-    distinct = recorded.distinct;
+    distinct = distinct;
     asked = all_map (Contains (asks_of given)) (λ (c : Choice). c.asked) entries
         (all_weaker (Contains given) (λ (c : Choice). Contains (asks_of given) c.asked) entries (λ c. map_contains (λ (d : Choice). d.asked) given c) all.asked);
     answered = all_map (Contains (asks_of entries)) (λ (c : Choice). c.asked) given
         (all_weaker (Contains entries) (λ (c : Choice). Contains (asks_of entries) c.asked) given (λ c. map_contains (λ (d : Choice). d.asked) entries c) all.answered);
-    lawful = recorded.lawful;
+    lawful = lawful;
   },
-  answered_by_distinct entries given recorded.distinct all.answered,
+  answered_by_distinct entries given distinct all.answered,
 )
+
+pub asked_choices : (space : SpaceState) (entries given : List Choice) → AreRecorded space entries → AreAllAsked entries given
+    → AreChoicesOf space.sizes (used space) (asks_of given) entries × AnswersBy entries given
+asked_choices space entries given recorded all = all_choices space.sizes (used space) entries given recorded.distinct recorded.lawful all
 
 pub choices_recorded : (space : SpaceState) (places : List Place) (asks : List Ask) (entries : List Choice) → SamePlaces places (used space) → AreChoicesOf space.sizes places asks entries → AreRecorded space entries
 choices_recorded space places asks entries same choices = record {

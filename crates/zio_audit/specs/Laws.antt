@@ -1,5 +1,5 @@
 -- Laws of what an audit reads and answers.
-use Rattle.std.specs.Prelude.{◌≡◌, ◌↔◌, ℕ, List, []}
+use Rattle.std.specs.Prelude.{◌≡◌, ◌↔◌, ◌≤◌, ℕ, List, []}
 use Rattle.zio_types.specs.declared.place.TopSize.{TopSize}
 use Rattle.zio_types.specs.declared.place.Place.{Place}
 use Rattle.zio_types.specs.Choices.{Ask, Choice}
@@ -8,7 +8,7 @@ use Rattle.zio_script.specs.declared.script.Script.{Script}
 use Rattle.zio_places.specs.Spaces.{SpaceState, used}
 use Rattle.zio_gang.specs.Attempts.{Pending, Terms}
 use Rattle.zio_gang.specs.ByNumber.{merge_by}
-use Rattle.zio_gang.specs.Journals.{AreChoicesOf, asks_of}
+use Rattle.zio_gang.specs.Journals.{AreChoicesOf, asks_of, choices_in}
 use Rattle.zio_gang.specs.Rounds.{settle_each}
 use Rattle.zio_gang.specs.Trees.{sizes_of}
 use Rattle.zio_cksum.specs.Images.{Images}
@@ -22,7 +22,8 @@ use Rattle.zio_spelled.specs.Rounds.{IsSpelled}
 use Rattle.zio_audit.specs.declared.verdict.Verdict.{Verdict}
 use Rattle.zio_audit.specs.declared.verdict.Verdict.TheVariants.{Yes}
 use Rattle.zio_audit.specs.Recordings.{AreAllAsked, AreRecorded}
-use Rattle.zio_audit.specs.Verdicts.{AreShaped, Case, HasCompletions, HasLawfulEntries, IsReadAs, IsTextOf, IsVerdict, journal_spelled}
+use Rattle.zio_audit.specs.Replays.{entries_in}
+use Rattle.zio_audit.specs.Verdicts.{AreShaped, Case, HasCompletions, HasLawfulEntries, IsReadAs, IsTextOf, IsVerdict, entries_of, journal_spelled}
 
 -- a report whose lines are of their shapes spells a journal of each of its rounds, on whatever tops
 abbrev pub ShapedIsSpelled : Type 0
@@ -31,6 +32,12 @@ ShapedIsSpelled = (tops : List TopSize) (report : List ℕ) → AreShaped report
 -- and no other report does
 abbrev pub SpelledIsShaped : Type 0
 SpelledIsShaped = (tops : List TopSize) (report : List ℕ) (journals : List RoundJournal) → IsSpelled tops report journals → AreShaped report
+
+-- the entries that a report spells of a round are those of its number among all that it spells
+abbrev pub SpelledByRounds : Type 0
+SpelledByRounds =
+    (tops : List TopSize) (report : List ℕ) (journals : List RoundJournal) → IsSpelled tops report journals → (round : ℕ) → 1 ≤ round
+    → choices_in round (entries_of journals) ≡ entries_in journals round
 
 -- one script and one journal of which all stands
 pub record IsRun (c : Case) : Type 0 where

@@ -8,3 +8,7 @@ pub mod Putting
 pub mod Recordings
 pub mod Verdicts
 pub mod Worked
+pub mod Replays
+pub mod ReplayLaws
+pub mod ReplayIndex
+pub mod Keeping

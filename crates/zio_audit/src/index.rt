@@ -31,7 +31,7 @@ fn is_head(role: Role) -> bool
     }
 }
 
-fn name_of(key: &Key) -> Name
+pub(crate) fn name_of(key: &Key) -> Name
     ensures { result ≡ name_of key.now }
 {
     let path = &key.path;

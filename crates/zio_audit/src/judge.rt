@@ -7,6 +7,7 @@ ghost use Rattle.zio_types.specs.Places.{AreCopies, HasRun, IsLawfulChoice, IsNe
 ghost use Rattle.zio_gang.specs.Journals.{AreLawful};
 ghost use Rattle.zio_places.specs.Ordered.{all_placed_in, placed_in};
 ghost use Rattle.zio_places.specs.Spaces.{is_open, used};
+ghost use Rattle.zio_audit.specs.Keeping.{Keeps};
 
 use zio_places::{ClaimFault, Space};
 use zio_types::{Entry, NoMemory, Place, TopSize};
@@ -21,7 +22,7 @@ fn sectors_on(top: &TopSize, size: u32) -> u64
 }
 
 // The place fits the size: it has the sectors that the size takes on its top, from a multiple of the top's unit on.
-fn fits(tops: &[TopSize], size: u32, place: &Place) -> bool
+pub(crate) fn fits(tops: &[TopSize], size: u32, place: &Place) -> bool
     requires { list_all is_lawful_top tops.now ≡ true }
     ensures { result ≡ fits_size tops.now size place.now }
 {
@@ -84,7 +85,8 @@ fn is_next_copy(
 // Uses the open place.
 fn claim_open(space: &mut Space, place: &Place) -> Result<(), NoMemory>
     requires { is_open space.old place.now ≡ true }
-    ensures { OnOk result (space.new ≡ record space.old { live = placed_in place.now space.old.live }) }
+    ensures claimed { OnOk result (space.new ≡ record space.old { live = placed_in place.now space.old.live }) }
+    ensures kept { Keeps space.old space.new }
 {
     match space.claim(&[*place]) {
         Ok(()) => Ok(()),
@@ -96,8 +98,9 @@ fn claim_open(space: &mut Space, place: &Place) -> Result<(), NoMemory>
 // Frees places that were claimed last, in this order.
 fn release_all(space: &mut Space, places: &[Place])
     requires { (start : List SeenPlace) × (space.old.live ≡ all_placed_in places.now start) }
-    ensures { (start : List SeenPlace) → space.old.live ≡ all_placed_in places.now start
+    ensures freed { (start : List SeenPlace) → space.old.live ≡ all_placed_in places.now start
         → space.new ≡ record space.old { live = start } }
+    ensures kept { Keeps space.old space.new }
 {
     let mut left = places.len();
     while left > 0 {
@@ -116,10 +119,11 @@ fn claim_copies(
     requires sizes { tops.now ≡ space.old.sizes }
     requires lawful { list_all is_lawful_top tops.now ≡ true }
     requires few { length tops.now < 2 ^ 32 }
-    ensures { IfOk result (λ all. MatchBool all
+    ensures copies { IfOk result (λ all. MatchBool all
         (AreCopies tops.now (used space.old) size [] places.now
         × (space.new ≡ record space.old { live = all_placed_in places.now space.old.live }))
         (¬ AreCopies tops.now (used space.old) size [] places.now)) }
+    ensures kept { Keeps space.old space.new }
 {
     for i in 0..places.len() {
         if !is_next_copy(space, tops, size, &places[..i], &places[i]) {
@@ -135,10 +139,11 @@ fn judge_entry(space: &mut Space, tops: &[TopSize], entry: &Entry) -> Result<boo
     requires sizes { tops.now ≡ space.old.sizes }
     requires lawful { list_all is_lawful_top tops.now ≡ true }
     requires few { length tops.now < 2 ^ 32 }
-    ensures { IfOk result (λ lawful. MatchBool lawful
+    ensures lawful { IfOk result (λ lawful. MatchBool lawful
         (IsLawfulChoice tops.now (used space.old) entry.now
         × (space.new ≡ record space.old { live = all_placed_in (taken_by entry.now) space.old.live }))
         (¬ IsLawfulChoice tops.now (used space.old) entry.now)) }
+    ensures kept { Keeps space.old space.new }
 {
     let places = places_of(entry);
     if places.len() > entry.copies as usize {
@@ -160,8 +165,9 @@ fn judge_entry(space: &mut Space, tops: &[TopSize], entry: &Entry) -> Result<boo
 // Frees what an entry took, if that was claimed last.
 fn release_entry(space: &mut Space, entry: &Entry)
     requires { (start : List SeenPlace) × (space.old.live ≡ all_placed_in (taken_by entry.now) start) }
-    ensures { (start : List SeenPlace) → space.old.live ≡ all_placed_in (taken_by entry.now) start
+    ensures freed { (start : List SeenPlace) → space.old.live ≡ all_placed_in (taken_by entry.now) start
         → space.new ≡ record space.old { live = start } }
+    ensures kept { Keeps space.old space.new }
 {
     let places = places_of(entry);
     if places.len() >= entry.copies as usize {
@@ -170,14 +176,15 @@ fn release_entry(space: &mut Space, entry: &Entry)
 }
 
 /// Whether recorded entries are lawful one after another beside what is in use, on these tops. Where they are the space
-/// is as it was; where they aren't, or memory is refused, what is in use isn't said.
+/// is as it was; where they aren't, or memory is refused, it is sound, and what is in use isn't said.
 pub fn are_lawful(space: &mut Space, tops: &[TopSize], entries: &[Entry]) -> Result<bool, NoMemory>
     requires sizes { tops.now ≡ space.old.sizes }
     requires lawful { list_all is_lawful_top tops.now ≡ true }
     requires few { length tops.now < 2 ^ 32 }
-    ensures { IfOk result (λ lawful. MatchBool lawful
+    ensures lawful { IfOk result (λ lawful. MatchBool lawful
         (AreLawful tops.now (used space.old) entries.now × (space.new ≡ space.old))
         (¬ AreLawful tops.now (used space.old) entries.now)) }
+    ensures kept { Keeps space.old space.new }
 {
     for entry in entries {
         if !judge_entry(space, tops, entry)? {

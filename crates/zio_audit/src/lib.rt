@@ -5,7 +5,9 @@
 //! no engine. `specs/Verdicts` says when an audit answers yes, and when no and with which reason; `specs/Worked` has
 //! cases. Read `completions_match` first: whether a spelled order of completions is one that the run may have.
 //! `are_lawful` judges the recorded entries of a round, and `Recorded` answers a round's asks by them, as
-//! `specs/Recordings` has it. `have_images` asks whether a script has its images, a `Matcher` is a sink that compares
+//! `specs/Recordings` has it. `Replayed` answers those of all rounds by the entries that a report spells, and with
+//! `AsSpelled` a runner of `zio_plain` runs the rounds of a script so, and is stopped where these aren't a round's
+//! choices: `specs/Replays`. `have_images` asks whether a script has its images, a `Matcher` is a sink that compares
 //! what it is given with a text, and `PutIn` compares a report with its own lines among which the texts of journals
 //! are put, as `specs/Putting` has it.
 #![tactic(auto)]
@@ -21,14 +23,21 @@ mod marks;
 mod matcher;
 mod putting;
 mod recorded;
+mod replay;
+mod replayed;
 mod verdict;
 
 pub use cases::{the_first_reason_is_told, true_reports_are_yes};
 pub use completions::completions_match;
 pub use judge::are_lawful;
-pub use laws::{answers_are_choices, shaped_reports_spell, verdicts_are_one};
+pub use laws::{
+    answers_are_choices, shaped_reports_spell, spelled_entries_are_of_their_rounds,
+    verdicts_are_one,
+};
 pub use leaves::have_images;
 pub use matcher::Matcher;
 pub use putting::{PutIn, journal_text};
 pub use recorded::Recorded;
+pub use replay::{AsSpelled, replay_over};
+pub use replayed::{Replayed, Spelled};
 pub use verdict::{Verdict, Why};

@@ -123,8 +123,8 @@ impl Recorded {
     }
 }
 
-// The entry under the key, where size and copies are the same too.
-fn entry_for<'a>(
+/// The entry under the key, where size and copies are the same too.
+pub(crate) fn entry_for<'a>(
     index: &BTreeMap<Name, usize>,
     entries: &'a [Entry],
     key: &Key,
@@ -146,8 +146,11 @@ fn entry_for<'a>(
     }
 }
 
-// Uses what the entry takes, if there is one and this is open, and gives it once more; else nothing has changed.
-fn take_entry(space: &mut Space, entry: Option<&Entry>) -> Result<Option<Entry>, NoMemory>
+/// Uses what the entry takes, if there is one and this is open, and gives it once more; else nothing has changed.
+pub(crate) fn take_entry(
+    space: &mut Space,
+    entry: Option<&Entry>,
+) -> Result<Option<Entry>, NoMemory>
     requires found { IfSome (option_copied entry) (IsFoundEntry space.old.sizes) }
     requires sound { IsSound space.old }
     ensures taken { IfOk result (λ taken. MatchOption taken
@@ -179,8 +182,8 @@ fn taken_places(entry: &Entry) -> &[Place]
     }
 }
 
-// The entry that was taken, or a refused one.
-fn answer_of(taken: Option<Entry>, key: Key, size: u32, copies: u32) -> Entry
+/// The entry that was taken, or a refused one.
+pub(crate) fn answer_of(taken: Option<Entry>, key: Key, size: u32, copies: u32) -> Entry
     ensures { MatchOption taken
         (result ≡ unplaced (record { key = key; size = size; copies = copies }))
         (λ e. result ≡ e) }

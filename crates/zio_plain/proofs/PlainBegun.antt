@@ -88,17 +88,20 @@ module _ {D C : Type 0} (bytes faults faults_at_fetch : D → ℕ) (home image :
     pub setting : g.setting ≡ record { tops = p.setting.tops; rows = p.setting.rows; point = point }
     pub round : g.round ≡ number
     pub disks : g.disks.items ≡ p.disks
-    pub chooser : g.chooser ≡ p.chooser
+    pub tops_are : sizes g.chooser ≡ sizes p.chooser
+    pub used_are : used g.chooser ≡ used p.chooser
+    pub live_are : live g.chooser ≡ live p.chooser
+    pub given_are : given g.chooser ≡ given p.chooser
 
   pub sees_begun : (p : SeenPlain D C) (round point : ℕ) (g : Ground D C) → HasBegun p round point g → seen sizes used live given g ≡ begun p round point
   sees_begun p round point g h = λ i. record {
     setting = h.setting i;
     round = h.round i;
     disks = h.disks i;
-    sizes = sizes (h.chooser i);
-    used = used (h.chooser i);
-    live = live (h.chooser i);
-    given = given (h.chooser i);
+    sizes = h.tops_are i;
+    used = h.used_are i;
+    live = h.live_are i;
+    given = h.given_are i;
   }
 
   block_can : (p : SeenPlain D C) (round point : ℕ) (block : Option Tree) → SteadyPlain p → AllByRecursion (Contains (live p.chooser)) (places_of_block block) → IfSome block IsWholeTree → CanRun bytes (begun p round point) block

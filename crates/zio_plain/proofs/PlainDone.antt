@@ -1,11 +1,11 @@
 -- A round whose trees ran: its blocks to give back, its end, and what is in use then.
-use Rattle.std.proofs.Common.{◌≡◌, ℕ, ◌≤◌, List, [], ◌++◌, length, map, count_by, true, ◌==◌, ◌⊎◌, sym, ap, ◌∙◌, subst}
+use Rattle.std.proofs.Common.{◌≡◌, ℕ, ◌≤◌, List, [], ◌∷◌, ◌++◌, length, map, count_by, true, ◌==◌, ◌⊎◌, sym, ap, ◌∙◌, subst}
 use Rattle.std.specs.Prelude.{Contains, IsPermutation, IsTrue, Option, ◌↔◌}
 use Rattle.std.specs.List.{AllByRecursion, flat_map, list_all}
 use Rattle.std.proofs.lemmas.List.Elements.{Contains-append_right}
 use Rattle.zio_types.specs.declared.place.Place.{Place}
 use Rattle.zio_types.specs.declared.place.TopSize.{TopSize}
-use Rattle.zio_types.specs.Choices.{Choice}
+use Rattle.zio_types.specs.Choices.{Ask, Choice}
 use Rattle.zio_types.specs.Places.{SamePlaces, are_apart, is_inside}
 use Rattle.zio_blkptr.specs.Pointers.{valid}
 use Rattle.zio_cksum.specs.Images.{Images}
@@ -15,6 +15,7 @@ use Rattle.zio_script.specs.declared.script.Work.{Work}
 use Rattle.zio_script.specs.declared.script.Work.TheVariants.{Null, Read, Write, Free, Claim}
 use Rattle.zio_gang.specs.declared.tree.Tree.{Tree}
 use Rattle.zio_gang.specs.Attempts.{Pending}
+use Rattle.zio_gang.specs.Journals.{asks_of}
 use Rattle.zio_places.proofs.PlaceLemmas.{contains-included}
 use Rattle.zio_disks.specs.Disks.{Tell}
 use Rattle.zio_disks.specs.Whole.{IsWholeTree}
@@ -53,6 +54,18 @@ all_named : (trees : List (List Pending)) (q : Place) → Contains (frees_of tre
 all_named trees q c =
     let part = part_of (λ (p : Pending). freed_by p.request.work p.block) (joined_trees trees) q (found_one q (frees_of trees) c) in
     one_found q (named_places trees) (of_part (λ (p : Pending). places_of_block p.block) (joined_trees trees) part.of q part.at (frees_named part.of.request.work part.of.block q part.there))
+
+-- what was asked for in a round is of the round
+asks_round : (number : ℕ) (given : List Choice) → AllByRecursion (λ (c : Choice). c.asked.key.round ≡ number) given → AllByRecursion (λ (q : Ask). q.key.round ≡ number) (asks_of given)
+asks_round number [] h = tt
+asks_round number (c ∷ given) h = (h.0, asks_round number given h.1)
+
+-- entries for what was asked in a round are of the round
+keys_round : (number : ℕ) (given entries : List Choice) → AllByRecursion (λ (c : Choice). c.asked.key.round ≡ number) given → AllByRecursion (λ q. Contains (asks_of given) q) (asks_of entries)
+    → AllByRecursion (λ (c : Choice). c.asked.key.round ≡ number) entries
+keys_round number given [] h asked = tt
+keys_round number given (e ∷ entries) h asked =
+    (all_contains (λ (q : Ask). q.key.round ≡ number) (asks_of given) e.asked (asks_round number given h) asked.0, keys_round number given entries h asked.1)
 
 -- the entries of a round that began with none
 pub all_entries : (old more new : List Choice) → old ≡ [] → new ≡ old ++ more → new ≡ more
@@ -107,9 +120,10 @@ module _ {D C : Type 0} (bytes faults faults_at_fetch : D → ℕ) (home image :
 
     -- ---- the round's end
 
-    pub round_ends : (end : SeenEnd) → IsListEnd number trees end.left finished end.completions → end.finished ≡ finished → end.entries ≡ new.given
+    pub round_ends : (end : SeenEnd) → IsListEnd number trees end.left finished end.completions → end.finished ≡ finished
+        → AllByRecursion (λ q. Contains (asks_of new.given) q) (asks_of end.entries)
         → IsRoundEnd (standing_of faults live p) number trees end
-    round_ends end l finished_are entries_are =
+    round_ends end l finished_are asked =
         let ends : IsListEnd number trees end.left end.finished end.completions =
         subst (λ fs. IsListEnd number trees end.left fs end.completions) (sym finished_are) l in
         let same : IsPermutation (ends_run runs) end.finished = subst (IsPermutation (ends_run runs)) (sym finished_are) h.same in record {
@@ -126,7 +140,8 @@ module _ {D C : Type 0} (bytes faults faults_at_fetch : D → ℕ) (home image :
           all_completed = ends.all_completed;
           once = ends.once;
           after_children = ends.after_children;
-          keys = subst (AllByRecursion (λ (c : Choice). c.asked.key.round ≡ number)) (sym (entries_are ∙ all_entries (given p.chooser) h.moved.more new.given h.steady.taken h.moved.given)) h.moved.rounds;
+          keys = keys_round number new.given end.entries
+              (subst (AllByRecursion (λ (c : Choice). c.asked.key.round ≡ number)) (sym (all_entries (given p.chooser) h.moved.more new.given h.steady.taken h.moved.given)) h.moved.rounds) asked;
         }
 
   -- ---- images

@@ -9,3 +9,4 @@ pub mod Plains
 pub mod Works
 pub mod GroundPlaces
 pub mod GroundLaws
+pub mod Entries

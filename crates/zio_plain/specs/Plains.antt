@@ -11,13 +11,15 @@ use Rattle.zio_blocks.specs.Blocks.{HavePointers}
 use Rattle.zio_blocks.specs.Choosers.{AreHeld}
 use Rattle.zio_course.specs.Runners.{Standing}
 
--- its setting, its disks and its chooser, the number of its last round, and whether a round was stopped
+-- its setting, its disks and its chooser, the number of its last round, whether a round was stopped, and whether this was
+-- since what was recorded of it is strange
 pub record SeenPlain (D C : Type 0) : Type 0 where
   pub setting : Setting
   pub disks : List D
   pub chooser : C
   pub last : ℕ
   pub stopped : Bool
+  pub strange : Bool
 
 -- what is known of it, by the counts of its disks' faults and the chooser's places in use
 abbrev pub standing_of : {D C : Type 0} → (D → ℕ) → (C → List Place) → SeenPlain D C → Standing

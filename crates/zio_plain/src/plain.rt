@@ -1,13 +1,14 @@
 //! The runner of whole rounds over disks and a chooser of places.
 
+use crate::entries::{AsGiven, RoundEntries};
 use crate::evaluated::Evaluated;
 use crate::ground::Ground;
-use crate::plain::ends::{begin_round, end_round};
+use crate::plain::ends::{begin_round, end_round, entries_of};
 use crate::tree::{PlainTree, tree_over};
 use crate::trees::{TreesEnd, run_trees};
 use std::alloc::Global;
-use std::marker::Model;
-use zio_blocks::{Chooser, LawfulChooser};
+use std::marker::{Model, PhantomData};
+use zio_blocks::Chooser;
 use zio_course::{ChildrenBack, Job, RequestEnd, RoundEnd, Runner, Stop};
 use zio_disks::Setting;
 use zio_gang::Tree;
@@ -17,16 +18,19 @@ use zio_types::List;
 
 mod ends;
 
-/// Runs rounds by the definitions, where its chooser's entries are lawful in the order of its asks. Contracts see it as
-/// its setting, its disks and its chooser, the number of its last round, and whether a round was stopped.
+/// Runs rounds by the definitions, with the entries that its chooser gives where these are lawful in the order of its
+/// asks, or with those that were recorded, as `S` says. Contracts see it as its setting, its disks and its chooser, the
+/// number of its last round, whether a round was stopped, and whether this was since what was recorded is strange.
 #[derive(Drop)]
-pub struct Plain<D: Disk + Drop, C: Chooser + Drop> {
+pub struct Plain<D: Disk + Drop, C: Chooser + Drop, S = AsGiven> {
     ground: Ground<D, C>,
     last: u32,
     stopped: bool,
+    strange: bool,
+    entries: PhantomData<S>,
 }
 
-impl<D: Disk + Drop, C: Chooser + Drop> Model for Plain<D, C> {
+impl<D: Disk + Drop, C: Chooser + Drop, S> Model for Plain<D, C, S> {
     ghost use Rattle.std.specs.Prelude.{◌≡◌, false, map};
     ghost use Rattle.zio_plain.specs.Plains.{IsSteady, SeenPlain};
 
@@ -38,6 +42,7 @@ impl<D: Disk + Drop, C: Chooser + Drop> Model for Plain<D, C> {
       chooser = p.ground.chooser;
       last = p.last;
       stopped = p.stopped;
+      strange = p.strange;
     } };
 
     ghost invariant = { λ p. p.stopped ≡ false
@@ -51,7 +56,7 @@ impl<D: Disk + Drop, C: Chooser + Drop> Plain<D, C> {
     ghost use Rattle.zio_disks.specs.Trees.{BearsTops};
     ghost use Rattle.zio_blocks.specs.Blocks.{HavePointers};
 
-    /// Over disks that bear the tops, with a chooser that has all of them free.
+    /// Over disks that bear the tops, with a chooser that has all of them free. A round has the entries that it gives.
     pub fn new(alloc: Global, setting: Setting, disks: Vec<D>, chooser: C) -> Plain<D, C>
         requires bears { BearsTops setting (map D.bytes disks.items) }
         requires pointers { HavePointers setting.tops }
@@ -65,6 +70,39 @@ impl<D: Disk + Drop, C: Chooser + Drop> Plain<D, C> {
           chooser = chooser;
           last = 0;
           stopped = false;
+          strange = false;
+        } }
+    {
+        Plain::with_entries(alloc, setting, disks, chooser)
+    }
+}
+
+impl<D: Disk + Drop, C: Chooser + Drop, S> Plain<D, C, S> {
+    ghost use Rattle.std.specs.Prelude.{◌≡◌, [], false, map};
+    ghost use Rattle.zio_gang.specs.Trees.{sizes_of};
+    ghost use Rattle.zio_disks.specs.Trees.{BearsTops};
+    ghost use Rattle.zio_blocks.specs.Blocks.{HavePointers};
+
+    /// The same, where a round has the entries that `S` says.
+    pub fn with_entries(
+        alloc: Global,
+        setting: Setting,
+        disks: Vec<D>,
+        chooser: C,
+    ) -> Plain<D, C, S>
+        requires bears { BearsTops setting (map D.bytes disks.items) }
+        requires pointers { HavePointers setting.tops }
+        requires sizes { C.sizes chooser ≡ sizes_of setting.tops }
+        requires used { C.used chooser ≡ [] }
+        requires live { C.live chooser ≡ [] }
+        requires given { C.given chooser ≡ [] }
+        ensures { result ≡ record {
+          setting = setting;
+          disks = disks.items;
+          chooser = chooser;
+          last = 0;
+          stopped = false;
+          strange = false;
         } }
     {
         Plain {
@@ -77,7 +115,16 @@ impl<D: Disk + Drop, C: Chooser + Drop> Plain<D, C> {
             },
             last: 0,
             stopped: false,
+            strange: false,
+            entries: PhantomData,
         }
+    }
+
+    /// Whether a round was stopped since what was recorded of it is strange.
+    pub fn is_strange(&self) -> bool
+        ensures { result ≡ self.now.strange }
+    {
+        self.strange
     }
 
     /// The disks, by the numbers of the leaves.
@@ -88,8 +135,8 @@ impl<D: Disk + Drop, C: Chooser + Drop> Plain<D, C> {
     }
 }
 
-impl<D: Disk + Drop, C: LawfulChooser + Drop> Runner for Plain<D, C> {
-    ghost use Rattle.std.specs.Prelude.{◌≡◌, ◌<◌, List, false, IfErr, IfOk, IfSome, IsErrOf, OnErr, map};
+impl<D: Disk + Drop, C: Chooser + Drop, S: RoundEntries<C>> Runner for Plain<D, C, S> {
+    ghost use Rattle.std.specs.Prelude.{◌≡◌, ◌<◌, List, false, true, IfErr, IfOk, IfSome, IsErrOf, OnErr, map};
     ghost use Rattle.std.specs.List.{AllByRecursion};
     ghost use Rattle.zio_cksum.specs.Images.{Images};
     ghost use Rattle.zio_gang.specs.Attempts.{Pending};
@@ -118,7 +165,7 @@ impl<D: Disk + Drop, C: LawfulChooser + Drop> Runner for Plain<D, C> {
 
     ghost Can = { λ _. Unit {0} };
 
-    ghost stops = { λ _ t trees before. Unit {0} };
+    ghost stops = { λ p t trees before. p.strange ≡ true → S.strange t trees before };
 
     fn tree(
         &mut self,
@@ -165,6 +212,10 @@ impl<D: Disk + Drop, C: LawfulChooser + Drop> Runner for Plain<D, C> {
             (StoppedAfter (standing_of D.faults C.live self.old) (standing_of D.faults C.live self.new) job.round) }
         ensures device { IsErrOf result Device → AnyRose (map D.faults self.old.disks) (map D.faults self.new.disks) }
         ensures calm { IsErrOf result Memory → map D.faults self.new.disks ≡ map D.faults self.old.disks }
+        ensures stops { IsErrOf result Memory → (before : Images) → Tell D.image self.old.disks before
+            → self.new.strange ≡ true → S.strange
+            (terms_at (standing_of D.faults C.live self.old) job.failmode job.round job.point)
+            (map (λ (tree : List Pending). tree) job.trees) before }
         ensures images { OnErr result ((before : Images) → Tell D.image self.old.disks before → (after : Images)
             × Tell D.image self.new.disks after
             × DiffersInRound (standing_of D.faults C.live self.old) (map (λ (tree : List Pending). tree) job.trees)
@@ -181,14 +232,15 @@ impl<D: Disk + Drop, C: LawfulChooser + Drop> Runner for Plain<D, C> {
         let alloc = self.ground.alloc;
         self.last = round;
         self.stopped = true;
-        begin_round(&mut self.ground, round, point);
+        begin_round::<D, C, S>(&mut self.ground, &mut self.strange, round, point)?;
         let TreesEnd {
             finished,
             left,
             completions,
             freed,
         } = run_trees(alloc, &mut self.ground, round, failmode, trees)?;
-        let entries = end_round(alloc, &mut self.ground.chooser, freed.as_slice())?;
+        let given = end_round(alloc, &mut self.ground.chooser, freed.as_slice())?;
+        let entries = entries_of::<C, S>(&self.ground.chooser, &mut self.strange, round, given)?;
         self.stopped = false;
         Ok(RoundEnd {
             finished,

@@ -9,14 +9,14 @@ use Rattle.zio_audit.proofs.recorded.Recorded.of_round.Goals as goal
 
 pub returns-then-not-branch : goal.returns-then-not-branch
 returns-then-not-branch c =
-    let not = rw c.if-not-branch.true at c.in_ok-are_lawful.ensures in
+    let not = rw c.if-not-branch.true at c.in_ok-are_lawful.ensures.lawful in
     λ recorded.
     not (subst (λ (es : List Choice). AreLawful c.args.tops.now (used c.args.space) es) (sym c.as_slice.ensures)
     (subst (λ (ts : List TopSize). AreLawful ts (used c.args.space) c.args.entries) (sym c.requires.sizes) recorded.lawful))
 
 pub invariant_of-result : goal.invariant_of-result
 invariant_of-result c =
-    let lawful = rw c.if-not-branch.false at c.in_ok-are_lawful.ensures in
+    let lawful = rw c.if-not-branch.false at c.in_ok-are_lawful.ensures.lawful in
     let index = rw c.in-Some.is at c.in_ok-index.ensures in
     let space : SpaceState = c.args.space in
     let entries : List Choice = c.args.entries in

@@ -178,7 +178,7 @@ met_good due items done (c ∷ cs) rising apart each once children =
 
 -- ---- the completions of the rounds
 
-one_of : (cs : List Completion) (c d : Completion) → CompleteOnce cs → Contains cs c → Contains cs d → c.request ≡ d.request → c ≡ d
+pub one_of : (cs : List Completion) (c d : Completion) → CompleteOnce cs → Contains cs c → Contains cs d → c.request ≡ d.request → c ≡ d
 one_of [] c d once there also same = absurd (none_contained c there)
 one_of (e ∷ cs) c d once there also same =
     ⊎_elim
@@ -201,7 +201,7 @@ pub record IsOfRound (rounds : List Round) (c : Completion) : Type 0 where
   pub number : round.number ≡ c.round
   pub ended : Contains (map (completion_of round.number) round.ended) c
 
-of_round : (requests : List Request) (rounds : List Round) (cs : List Completion) (c : Completion) → AreCompletions requests rounds cs → Contains cs c → IsOfRound rounds c
+pub of_round : (requests : List Request) (rounds : List Round) (cs : List Completion) (c : Completion) → AreCompletions requests rounds cs → Contains cs c → IsOfRound rounds c
 of_round requests rounds cs c are there =
     let some = any_contained (is_round_of c.round) rounds (all_contains (λ (d : Completion). IsTrue (list_any (is_round_of d.round) rounds)) cs c are.of_rounds there) in
     let number : some.0.number ≡ c.round = eqb-true some.0.number c.round some.2 in
@@ -268,7 +268,7 @@ error_first [] error e there all = absurd (none_contained e there)
 error_first (d ∷ es) error e there all = all.0
 
 -- a completion is spelled by its request and its round
-spelled_is : (requests : List Request) (rounds : List Round) (due : List Completion) (c : Completion) → AreCompletions requests rounds due → Contains due c
+pub spelled_is : (requests : List Request) (rounds : List Round) (due : List Completion) (c : Completion) → AreCompletions requests rounds due → Contains due c
     → completion_spelled rounds c.round c.request ≡ c
 spelled_is requests rounds due c are there =
     let of = of_round requests rounds due c are there in

@@ -4,8 +4,10 @@ pub mod Laws
 pub mod Marks
 pub mod Matching
 pub mod Names
+pub mod PlainMatching
 pub mod Putting
 pub mod Recordings
+pub mod Texts
 pub mod Verdicts
 pub mod Worked
 pub mod Replays

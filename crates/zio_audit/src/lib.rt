@@ -8,8 +8,10 @@
 //! `specs/Recordings` has it. `Replayed` answers those of all rounds by the entries that a report spells, and with
 //! `AsSpelled` a runner of `zio_plain` runs the rounds of a script so, and is stopped where these aren't a round's
 //! choices: `specs/Replays`. `have_images` asks whether a script has its images, a `Matcher` is a sink that compares
-//! what it is given with a text, and `PutIn` compares a report with its own lines among which the texts of journals
-//! are put, as `specs/Putting` has it.
+//! what it is given with a text, a `PlainMatcher` one that compares it with a report's lines that are none of the
+//! journal, and `PutIn` compares a report with its own lines among which the texts of journals are put, as
+//! `specs/Putting` has it. These two tell whether a report is the text of a run, by `shows_bytes` and the laws of
+//! `texts_show_their_journals`.
 #![tactic(auto)]
 
 mod cases;
@@ -21,6 +23,8 @@ mod leaves;
 mod lines;
 mod marks;
 mod matcher;
+mod plain_lines;
+mod plain_matcher;
 mod putting;
 mod recorded;
 mod replay;
@@ -32,10 +36,12 @@ pub use completions::completions_match;
 pub use judge::are_lawful;
 pub use laws::{
     answers_are_choices, shaped_reports_spell, spelled_entries_are_of_their_rounds,
-    verdicts_are_one,
+    texts_show_their_journals, verdicts_are_one,
 };
 pub use leaves::have_images;
 pub use matcher::Matcher;
+pub use plain_lines::shows_bytes;
+pub use plain_matcher::PlainMatcher;
 pub use putting::{PutIn, journal_text};
 pub use recorded::Recorded;
 pub use replay::{AsSpelled, replay_over};

@@ -13,6 +13,8 @@ mod judge;
 #[cfg(test)]
 mod matcher;
 #[cfg(test)]
+mod plain;
+#[cfg(test)]
 mod putting;
 #[cfg(test)]
 mod recorded;

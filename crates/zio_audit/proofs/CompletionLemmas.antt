@@ -3,7 +3,7 @@ use Rattle.std.proofs.Common.{◌≡◌, ◌<◌, ◌≤◌, ◌+◌, ℕ, zero,
 use Rattle.std.specs.Prelude.{IsTrue, fold, not, slice_get, ◌↔◌}
 use Rattle.std.specs.List.{AllByRecursion, list_all, list_any}
 use Rattle.std.proofs.lemmas.Bool.{and_from, and_parts, both_ways, eq-eqb, eqb-true, ne_eqb, not-true, not_from_false, or_parts, true_from_ne_false, true≢false}
-use Rattle.std.proofs.lemmas.List.{append-nil, at_drop_all, at_drop_more, drop_all, map-append, take_all}
+use Rattle.std.proofs.lemmas.List.{append-nil, at_drop_all, at_drop_more, drop_all, get_or-map, length-map, map-append, take_all}
 use Rattle.std.proofs.lemmas.List.Folds.{list_any-append}
 use Rattle.std.proofs.lemmas.Option.{same_Some, slice_get_within}
 use Rattle.zio_types.specs.declared.error.Errno.{Errno}
@@ -17,10 +17,12 @@ use Rattle.zio_script.specs.Requests.{is_under, is_under_number, requests_of}
 use Rattle.zio_gang.specs.Attempts.{Ended}
 use Rattle.zio_gang.specs.Journals.{AreCompletions, AreCompletionsOf, CompleteAfterChildren, CompleteOnce, completion_of, completions_in, is_child, is_round_of}
 use Rattle.zio_gang.specs.Runs.{Round}
+use Rattle.zio_spelled.specs.declared.rounds.RoundJournal.{RoundJournal}
 use Rattle.zio_audit.specs.declared.marks.Mark.{Mark}
 use Rattle.zio_audit.specs.declared.marks.Mark.TheVariants.{Never, Due, Met}
 use Rattle.zio_audit.specs.Marks.{AreMarksOf, AreParentsOf, due_in, is_due_with, is_settled, may_meet, meet_each, named, parent_after, parent_of}
 use Rattle.zio_audit.specs.Completions.{completion_spelled, completions_from, ended_in, first_error}
+use Rattle.zio_audit.specs.Verdicts.{orders_of}
 use Rattle.zio_audit.proofs.MeetLemmas.{HasMet, IsDueFor, IsMetAs, are_good, due_for, due_is, is_among, is_good, mark_of, meets, parent_done, requests_in}
 use Rattle.zio_audit.proofs.Members.{all_of, any_contained, contained_any, contained_cases, contains_flat, contains_kept, contains_mapped, flat_contains, kept_contains, map_contains, none_contained}
 
@@ -552,3 +554,15 @@ pub unmet_by : (read parents : List (Option ℕ)) (old marks : List Mark) (seen 
 unmet_by read parents old marks seen order n is same so none =
     ap (λ (ps : List (Option ℕ)). meet_each ps marks (map (named n) order)) (sym is) ∙ ap (λ (ms : List Mark). meet_each read ms (map (named n) order)) (sym same)
     ∙ ap (λ (ns : List ℕ). meet_each read old (map (named n) ns)) (sym so) ∙ none
+
+-- ---- the orders of some rounds' journals
+
+pub below_orders : (journals : List RoundJournal) (i : ℕ) → i < length journals → i < length (orders_of journals)
+below_orders journals i below = subst (λ (n : ℕ). i < n) (sym (length-map journals (λ (j : RoundJournal). j.order))) below
+
+pub past_orders : (journals : List RoundJournal) (i : ℕ) → length journals ≤ i → length (orders_of journals) ≤ i
+past_orders journals i past = subst (λ (n : ℕ). n ≤ i) (sym (length-map journals (λ (j : RoundJournal). j.order))) past
+
+pub order_at : (journals : List RoundJournal) (j : RoundJournal) (i : ℕ) → i < length journals → j ≡ get_or journals i j → j.order ≡ get_or (orders_of journals) i j.order
+order_at journals j i below is =
+    ap (λ (k : RoundJournal). k.order) is ∙ sym (get_or-map (λ (k : RoundJournal). k.order) journals i j j.order below)

@@ -1,8 +1,12 @@
 pub mod AnswerLemmas
+pub mod AuditLemmas
+pub mod AuditedCases
+pub mod JudgedRuns
+pub mod ReadJournals
+pub mod ReplayedRuns
 pub mod CompletionLemmas
 pub mod Evaluation
 pub mod JudgeLemmas
-pub mod LeafLemmas
 pub mod MarkLemmas
 pub mod MatchLemmas
 pub mod MeetLemmas

@@ -1,4 +1,6 @@
+pub mod Audits
 pub mod Completions
+pub mod Ended
 pub mod FoundLaws
 pub mod Laws
 pub mod Marks

@@ -23,6 +23,10 @@ entries_if (Some journal) = journal.entries
 abbrev pub entries_in : List RoundJournal → ℕ → List Choice
 entries_in journals round = entries_if (slice_get journals (round - 1))
 
+-- these are the entries that a report spells of the round
+abbrev pub AreSpelledIn : List RoundJournal → ℕ → List Choice → Type 0
+AreSpelledIn journals round entries = entries ≡ entries_in journals round
+
 -- ---- answers
 
 -- it has no more places than copies, and each may hold a copy

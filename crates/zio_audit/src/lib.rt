@@ -14,12 +14,12 @@
 //! `texts_show_their_journals`.
 #![tactic(auto)]
 
+mod auditing;
 mod cases;
 mod completions;
 mod index;
 mod judge;
 mod laws;
-mod leaves;
 mod lines;
 mod marks;
 mod matcher;
@@ -29,8 +29,10 @@ mod putting;
 mod recorded;
 mod replay;
 mod replayed;
+mod run;
 mod verdict;
 
+pub use auditing::{AUDITED_LEN_MAX, audit, audit_over};
 pub use cases::{the_first_reason_is_told, true_reports_are_yes};
 pub use completions::completions_match;
 pub use judge::are_lawful;
@@ -38,7 +40,6 @@ pub use laws::{
     answers_are_choices, shaped_reports_spell, spelled_entries_are_of_their_rounds,
     texts_show_their_journals, verdicts_are_one,
 };
-pub use leaves::have_images;
 pub use matcher::Matcher;
 pub use plain_lines::shows_bytes;
 pub use plain_matcher::PlainMatcher;

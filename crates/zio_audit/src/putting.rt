@@ -1,5 +1,5 @@
 //! Whether the lines of a journal stand in a report where a run prints them.
-ghost use Rattle.std.specs.Prelude.{◌≡◌, ◌∷◌, ◌++◌, ◌↔◌, [], IfOk, IsTrue, List, MatchBool, MatchOption, map, option_map, ℕ};
+ghost use Rattle.std.specs.Prelude.{◌≡◌, ◌<◌, ◌∷◌, ◌++◌, ◌↔◌, [], IfOk, IsTrue, List, MatchBool, MatchOption, length, map, option_map, ℕ};
 ghost use Rattle.zio_script.specs.Words.{Word};
 ghost use Rattle.zio_report.specs.Lines.{as_line, head_text, journal_text};
 ghost use Rattle.zio_spelled.specs.Rounds.{others_of};
@@ -95,10 +95,11 @@ impl<'a> PutIn<'a> {
     /// Goes on behind the head of the next round, where this text of a journal stands before the next head; before the
     /// first round it is empty. Where there is no other round it goes on to the end, and says so.
     pub fn next_round(&mut self, journal: &[u8]) -> bool
-        ensures { MatchBool result
+        ensures passed { MatchBool result
             ((later : List (List ℕ)) → Fits self.old later journal.now
             ↔ Fits self.new (others_of later) (first_of later))
             ((later : List (List ℕ)) → Fits self.old later journal.now ↔ IsText (rest_of self.new) []) }
+        ensures shorter { IsTrue result → length self.new.lines.now < length self.old.lines.now }
     {
         let mut held = journal;
         while let Some((line, behind)) = next_line(self.lines) {

@@ -5,7 +5,7 @@ ghost use Rattle.zio_types.specs.Places.{is_lawful_top};
 ghost use Rattle.zio_gang.specs.Trees.{sizes_of};
 ghost use Rattle.zio_disks.specs.Trees.{BearsTops};
 ghost use Rattle.zio_blocks.specs.Blocks.{HavePointers};
-ghost use Rattle.zio_audit.specs.Replays.{ChoseSpelled, MayBeChoices, entries_in};
+ghost use Rattle.zio_audit.specs.Replays.{AreSpelledIn, ChoseSpelled, MayBeChoices, entries_in};
 
 use crate::replayed::{Replayed, Spelled};
 use std::alloc::Global;
@@ -52,6 +52,8 @@ pub struct AsSpelled;
 
 impl<'a, K: Spelled> RoundEntries<Replayed<'a, K>> for AsSpelled {
     ghost begun = { λ round sizes used. MayBeChoices sizes used (entries_in K.journals round) };
+
+    ghost chosen = { AreSpelledIn K.journals };
 
     ghost strange = { λ t trees before. ¬ ChoseSpelled K.journals t trees before };
 

@@ -6,6 +6,7 @@ use std::alloc::Global;
 use std::test::Fail;
 use zio_audit::completions_match;
 use zio_script::{Item, Request, Work};
+use zio_spelled::RoundJournal;
 use zio_types::{Completion, List, NoMemory, ReqNo};
 
 /// A null, and one under it.
@@ -37,16 +38,22 @@ fn done(request: ReqNo, round: u32) -> Completion {
     }
 }
 
+/// A round without entries, in which these completed.
+fn ordered(alloc: Global, order: &[ReqNo]) -> Result<RoundJournal, NoMemory> {
+    let mut journal = RoundJournal {
+        entries: List::new(alloc),
+        order: List::new(alloc),
+    };
+    journal.order.extend_from_slice(order)?;
+    Ok(journal)
+}
+
 /// Whether these orders of two rounds are lawful where both requests complete in the first.
 fn matched(alloc: Global, first: &[ReqNo], second: &[ReqNo]) -> Result<bool, NoMemory> {
     let items = family(alloc)?;
     let mut rounds = Vec::new(alloc);
-    let mut order = List::new(alloc);
-    order.extend_from_slice(first)?;
-    rounds.push(order)?;
-    let mut order = List::new(alloc);
-    order.extend_from_slice(second)?;
-    rounds.push(order)?;
+    rounds.push(ordered(alloc, first)?)?;
+    rounds.push(ordered(alloc, second)?)?;
     completions_match(alloc, &items, &[done(2, 1), done(1, 1)], &rounds)
 }
 

@@ -50,7 +50,7 @@ pub(crate) fn run_on_disks<E: Engines, O: Sink, D: Disk + Drop>(
 }
 
 /// The script's tops over the disks with its fault rows, and the tops once more.
-fn pool_over<D: Disk>(
+pub fn pool_over<D: Disk>(
     alloc: Global,
     script: &Script,
     disks: &[D],

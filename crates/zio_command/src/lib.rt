@@ -26,6 +26,7 @@ mod words;
 
 pub use commands::run_command;
 pub use engines::Engines;
+pub use ground::pool_over;
 pub use image::{IMAGE_LEN_MAX, IMAGE_LEN_MIN};
 pub use laws::accepted_scripts_have_lawful_pools;
 pub use lines::{CODE_DEVICE, CODE_MEMORY, CODE_SINK, CODE_SOURCE, end_with};

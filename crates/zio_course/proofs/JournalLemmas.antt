@@ -1,5 +1,5 @@
 -- The journal of rounds that are run one after another.
-use Rattle.std.proofs.Common.{◌≡◌, ℕ, ◌+◌, ◌<◌, ◌≤◌, List, [], ◌∷◌, ◌++◌, filter, Bool, true, false, refl, sym, ap, ◌∙◌, subst, arith, eq-eqb}
+use Rattle.std.proofs.Common.{◌≡◌, ℕ, suc, ◌+◌, ◌<◌, ◌≤◌, List, [], ◌∷◌, ◌++◌, filter, Bool, true, false, refl, sym, ap, ◌∙◌, subst, arith, eq-eqb}
 use Rattle.std.proofs.lemmas.Bool.{cond-false, cond-true, ne_eqb, or_left, or_right}
 use Rattle.std.proofs.lemmas.List.{append-nil}
 use Rattle.std.proofs.lemmas.List.Elements.{filter-append}
@@ -13,6 +13,7 @@ use Rattle.zio_script.specs.declared.script.Request.{Request}
 use Rattle.zio_cksum.proofs.AllLemmas.{all_append, all_weaker}
 use Rattle.zio_gang.specs.Journals.{AreChoicesOf, AreCompletions, AreCompletionsOf, CompleteAfterChildren, CompleteOnce, IsLawfulJournal, choices_in, completions_in, is_child, is_round_of}
 use Rattle.zio_gang.specs.Runs.{Round}
+use Rattle.zio_course.specs.Course.{AreOfRounds}
 
 -- ---- numbers of rounds
 
@@ -33,6 +34,12 @@ all_next number n xs new h next =
 pub all_both : {X : Type 0} (P Q : X → Type 0) (xs : List X) → AllByRecursion P xs → AllByRecursion Q xs → AllByRecursion (λ x. P x × Q x) xs
 all_both P Q [] h k = tt
 all_both P Q (x ∷ xs) h k = ((h.0, k.0), all_both P Q xs h.1 k.1)
+
+-- the entries of one round more
+pub one_round_more : (such : ℕ → List Choice → Type 0) (rounds n : ℕ) (before last places : List Choice) → AreOfRounds such rounds before → such (rounds + 1) last → n ≡ rounds + 1 → places ≡ before ++ last → AreOfRounds such n places
+one_round_more such rounds n before last places h own n_is places_is =
+    let on : rounds + 1 ≡ suc rounds = omega arith in
+    subst (λ (m : ℕ). AreOfRounds such m places) (sym (n_is ∙ on)) (before, last, places_is, h, subst (λ (m : ℕ). such m last) on own)
 
 filter_none : {X : Type 0} (test : X → Bool) (xs : List X) → AllByRecursion (λ x. test x ≡ false) xs → filter test xs ≡ []
 filter_none test [] h = refl

@@ -1,5 +1,5 @@
 -- How far a run has come: what happened, what was printed of it, and what is left of the course.
-use Rattle.std.specs.Prelude.{◌≡◌, ℕ, ◌<◌, ◌≤◌, List, [], ◌++◌, length}
+use Rattle.std.specs.Prelude.{◌≡◌, ℕ, zero, suc, ◌<◌, ◌≤◌, List, [], ◌++◌, length}
 use Rattle.std.specs.List.{AllByRecursion}
 use Rattle.zio_types.specs.declared.journal.Completion.{Completion}
 use Rattle.zio_types.specs.declared.journal.Journal.{Journal}
@@ -23,6 +23,13 @@ pub record AreLater (round : ℕ) (more : List Choice) (done : List Completion) 
 abbrev pub Reaches : Script → Images → Journal → List Event → (Plan → Course) → Type 0
 Reaches script before journal events rest = (later : List Choice) → AllByRecursion (λ (c : Choice). journal.rounds < c.asked.key.round) later
     → run_script script before (journal.places ++ later) ≡ add_events events (rest (plan_of script before (journal.places ++ later)))
+
+-- The entries of so many rounds, those of the first round first: of each round they are such.
+abbrev pub AreOfRounds : (ℕ → List Choice → Type 0) → ℕ → List Choice → Type 0
+AreOfRounds such zero entries = entries ≡ []
+AreOfRounds such (suc rounds) entries =
+    (before : List Choice) × (last : List Choice) × (entries ≡ before ++ last) × AreOfRounds such rounds before
+    × such (suc rounds) last
 
 -- What was printed of these events, and the journal of their rounds.
 pub record IsEnteredSoFar (show : Show) (n : RunSize) (sizes : List TopSize) (requests : List Request) (journal : Journal) (events : List Event) (printed : List ℕ) : Type 0 where

@@ -9,6 +9,7 @@ ghost use Rattle.zio_gang.specs.Rounds.{pending_trees, trees_of};
 ghost use Rattle.zio_report.specs.Lines.{AreWhole};
 ghost use Rattle.zio_course.specs.Admissions.{error_in};
 ghost use Rattle.zio_course.specs.Answered.{answered_in};
+ghost use Rattle.zio_course.specs.Course.{AreOfRounds};
 ghost use Rattle.zio_course.specs.Entered.{IsBatchRun, IsCutShort};
 ghost use Rattle.zio_course.specs.Forests.{AreReady, names_of, running};
 ghost use Rattle.zio_course.specs.Names.{named_in};
@@ -63,6 +64,7 @@ pub fn run_batch<R: Runner>(
         (pending_trees (names_of bound.old) number
         (trees_of (running admission.now.slots.entries admission.now.rules.items batch.now))) }
     requires can { R.Can runner.old }
+    requires chosen { AreOfRounds R.chosen journal.old.rounds journal.old.places }
     ensures ran { IfOk result (λ ran. (end : SeenEnd)
         × IsBatchRun (error_in admission.now.slots.entries admission.now.rules.items)
         (requests_of batch.now) bound.old bound.new journal.old journal.new end ran.lines (map R.pending ran.left)
@@ -95,6 +97,7 @@ pub fn run_batch<R: Runner>(
         → AnyRose (R.standing runner.old).faults (R.standing runner.new).faults }
     ensures calm { IsErrOf result Stop.Memory → (R.standing runner.new).faults ≡ (R.standing runner.old).faults }
     ensures can { R.Can runner.new }
+    ensures chosen { AreOfRounds R.chosen journal.new.rounds journal.new.places }
     ensures same { R.same runner.old runner.new }
 {
     let trees = trees_to_run(alloc, runner, batch, number, bound, admission)?;

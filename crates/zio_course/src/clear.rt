@@ -4,6 +4,7 @@ ghost use Rattle.std.specs.Prelude.{◌≡◌, ◌+◌, ◌<◌, ◌^◌, [], �
 ghost use Rattle.zio_outside.specs.Outside.{Rose};
 ghost use Rattle.zio_script.specs.declared.script.Request.{Request};
 ghost use Rattle.zio_gang.specs.Runs.{Batch as DefinedBatch, clear_if, clear_line as clear_line_by, has_trees};
+ghost use Rattle.zio_course.specs.Course.{AreOfRounds};
 ghost use Rattle.zio_course.specs.Folds.{batches_seen, fold_seen};
 ghost use Rattle.zio_course.specs.Moves.{HeldWaits, IsGoing, LineCut, LineRan, StepCut, StepRan, requests_held};
 ghost use Rattle.zio_course.specs.Runners.{AnyRose, stopping_of};
@@ -37,6 +38,7 @@ pub fn clear_line<'a, R: Runner, O: Sink>(
     requires point { fold.old.point + 1 < 2 ^ 32 }
     requires waits { HeldWaits failmode (map R.pending fold.old.suspended) (batches_seen held.old.items) }
     requires can { R.Can runner.old }
+    requires chosen { AreOfRounds R.chosen journal.old.rounds journal.old.places }
     ensures ran { OnOk result ((batch : List Request) (batches : ℕ)
         → LineRan show.now failmode (R.standing runner.old) (R.standing runner.new) (fold_seen R.pending fold.old)
         (fold_seen R.pending fold.new)
@@ -68,6 +70,7 @@ pub fn clear_line<'a, R: Runner, O: Sink>(
     ensures calm { IsErrOf result RunFault.Memory → (R.standing runner.new).faults ≡ (R.standing runner.old).faults }
     ensures sink { IsErrOf result RunFault.Sink → Rose (O.faults out.old) (O.faults out.new) }
     ensures can { R.Can runner.new }
+    ensures chosen { AreOfRounds R.chosen journal.new.rounds journal.new.places }
     ensures same { R.same runner.old runner.new }
 {
     fold.point += 1;
@@ -89,6 +92,7 @@ fn run_waiting<'a, R: Runner, O: Sink>(
         × IsGoing R.fits (R.standing runner.old) journal.old.rounds (fold_seen R.pending fold.old) held later
         (spare + 1) }
     requires can { R.Can runner.old }
+    requires chosen { AreOfRounds R.chosen journal.old.rounds journal.old.places }
     ensures ran { OnOk result (StepRan show.now failmode (R.standing runner.old) (R.standing runner.new)
         (fold_seen R.pending fold.old) (fold_seen R.pending fold.new) (λ ahead. ahead) [] []
         journal.old journal.new (R.tells runner.old) (R.tells runner.new) (O.holds out.old) (O.holds out.new)
@@ -111,6 +115,7 @@ fn run_waiting<'a, R: Runner, O: Sink>(
     ensures calm { IsErrOf result RunFault.Memory → (R.standing runner.new).faults ≡ (R.standing runner.old).faults }
     ensures sink { IsErrOf result RunFault.Sink → Rose (O.faults out.old) (O.faults out.new) }
     ensures can { R.Can runner.new }
+    ensures chosen { AreOfRounds R.chosen journal.new.rounds journal.new.places }
     ensures same { R.same runner.old runner.new }
 {
     if fold.suspended.is_empty() {

@@ -6,7 +6,7 @@ ghost use Rattle.zio_script.specs.declared.script.Request.{Request};
 ghost use Rattle.zio_script.specs.Requests.{requests_of};
 ghost use Rattle.zio_gang.specs.Runs.{go_line as go_line_by, goes_on};
 ghost use Rattle.zio_report.specs.Reports.{held_text};
-ghost use Rattle.zio_course.specs.Course.{shown_of};
+ghost use Rattle.zio_course.specs.Course.{AreOfRounds, shown_of};
 ghost use Rattle.zio_course.specs.Folds.{batches_seen, fold_seen, has_items};
 ghost use Rattle.zio_course.specs.Moves.{HeldWaits, IsGoing, LineCut, LineRan, requests_held};
 ghost use Rattle.zio_course.specs.Runners.{AnyRose, stopping_of};
@@ -40,6 +40,7 @@ pub fn go_line<'a, R: Runner, O: Sink>(
     requires number { 1 ≤ batch.now.number }
     requires waits { HeldWaits failmode (map R.pending fold.old.suspended) (batches_seen held.old.items) }
     requires can { R.Can runner.old }
+    requires chosen { AreOfRounds R.chosen journal.old.rounds journal.old.places }
     ensures ran { OnOk result ((batches : ℕ) → batch.now.number ≡ batches + 1
         → LineRan show.now failmode (R.standing runner.old) (R.standing runner.new) (fold_seen R.pending fold.old)
         (fold_seen R.pending fold.new)
@@ -72,6 +73,7 @@ pub fn go_line<'a, R: Runner, O: Sink>(
     ensures calm { IsErrOf result RunFault.Memory → (R.standing runner.new).faults ≡ (R.standing runner.old).faults }
     ensures sink { IsErrOf result RunFault.Sink → Rose (O.faults out.old) (O.faults out.new) }
     ensures can { R.Can runner.new }
+    ensures chosen { AreOfRounds R.chosen journal.new.rounds journal.new.places }
     ensures same { R.same runner.old runner.new }
 {
     if runs_now(&fold.suspended, failmode) {

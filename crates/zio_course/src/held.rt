@@ -4,6 +4,7 @@ ghost use Rattle.std.specs.Prelude.{◌≡◌, ◌≤◌, ◌⊎◌, [], ℕ, Li
 ghost use Rattle.zio_outside.specs.Outside.{Rose};
 ghost use Rattle.zio_script.specs.declared.script.Request.{Request};
 ghost use Rattle.zio_gang.specs.Runs.{run_held as run_held_by};
+ghost use Rattle.zio_course.specs.Course.{AreOfRounds};
 ghost use Rattle.zio_course.specs.Folds.{batches_seen, fold_seen, has_items};
 ghost use Rattle.zio_course.specs.Moves.{IsGoing, StepCut, StepRan, requests_held};
 ghost use Rattle.zio_course.specs.Runners.{AnyRose, stopping_of};
@@ -33,6 +34,7 @@ pub fn run_held<'a, R: Runner, O: Sink>(
         × IsGoing R.fits (R.standing runner.old) journal.old.rounds (fold_seen R.pending fold.old)
         (batches_seen held.old.items) later spare }
     requires can { R.Can runner.old }
+    requires chosen { AreOfRounds R.chosen journal.old.rounds journal.old.places }
     ensures ran { OnOk result (StepRan show.now failmode (R.standing runner.old) (R.standing runner.new)
         (fold_seen R.pending fold.old) (fold_seen R.pending fold.new)
         (λ ahead. record ahead { held = batches_seen held.new.items }) (requests_held (batches_seen held.old.items))
@@ -61,6 +63,7 @@ pub fn run_held<'a, R: Runner, O: Sink>(
     ensures calm { IsErrOf result RunFault.Memory → (R.standing runner.new).faults ≡ (R.standing runner.old).faults }
     ensures sink { IsErrOf result RunFault.Sink → Rose (O.faults out.old) (O.faults out.new) }
     ensures can { R.Can runner.new }
+    ensures chosen { AreOfRounds R.chosen journal.new.rounds journal.new.places }
     ensures same { R.same runner.old runner.new }
 {
     while fold.suspended.is_empty() {

@@ -4,6 +4,7 @@ ghost use Rattle.std.specs.Prelude.{◌≡◌, ◌++◌, ◌+◌, ◌<◌, ◌^�
 ghost use Rattle.std.specs.List.{AllByRecursion};
 ghost use Rattle.zio_cksum.specs.Images.{Images};
 ghost use Rattle.zio_gang.specs.Attempts.{Pending};
+ghost use Rattle.zio_course.specs.Course.{AreOfRounds};
 ghost use Rattle.zio_course.specs.Entered.{IsEntered};
 ghost use Rattle.zio_course.specs.Runners.{AnyRose, AreRunnable, DiffersInRound, IsCutRound, IsRound, IsRoundEnd, SeenEnd, StandsAfter, made_trees, stopping_of, terms_at};
 
@@ -39,6 +40,7 @@ pub fn whole_round<R: Runner>(
     requires next { (R.standing runner.old).last < job.round }
     requires trees { AreRunnable (R.standing runner.old) (map R.pending job.trees) }
     requires can { R.Can runner.old }
+    requires chosen { AreOfRounds R.chosen journal.old.rounds journal.old.places }
     ensures whole { IfOk result (λ ran. (end : SeenEnd)
         × IsEntered answered journal.old journal.new end ran.finished (map R.pending ran.left)
         × IsRoundEnd (R.standing runner.old) job.round (map R.pending job.trees) end
@@ -59,6 +61,7 @@ pub fn whole_round<R: Runner>(
         → AnyRose (R.standing runner.old).faults (R.standing runner.new).faults }
     ensures calm { IsErrOf result Stop.Memory → (R.standing runner.new).faults ≡ (R.standing runner.old).faults }
     ensures can { R.Can runner.new }
+    ensures chosen { AreOfRounds R.chosen journal.new.rounds journal.new.places }
     ensures same { R.same runner.old runner.new }
 {
     let RoundEnd {

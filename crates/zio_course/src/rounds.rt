@@ -12,6 +12,7 @@ ghost use Rattle.zio_gang.specs.Runs.{Course, Plan, State, run_suspended as run_
 ghost use Rattle.zio_report.specs.declared.report.ReportLine.{ReportLine};
 ghost use Rattle.zio_gang.specs.Rounds.{trees_of};
 ghost use Rattle.zio_course.specs.Admissions.{IsAdmission};
+ghost use Rattle.zio_course.specs.Course.{AreOfRounds};
 ghost use Rattle.zio_course.specs.Names.{is_name_in, is_some_name};
 ghost use Rattle.zio_report.specs.Lines.{AreWhole, round_text};
 ghost use Rattle.zio_report.specs.Reports.{RunSize};
@@ -52,6 +53,7 @@ pub fn batch_round<'a, R: Runner, O: Sink>(
     requires rounds { journal.old.rounds + 1 < 2 ^ 32 }
     requires few { fold.old.tally.good + fold.old.tally.bad + length (requests_of batch.now.lines.now) < 2 ^ 32 }
     requires can { R.Can runner.old }
+    requires chosen { AreOfRounds R.chosen journal.old.rounds journal.old.places }
     ensures ran { OnOk result ((n : RunSize) (script : Script) (before images : Images) (ahead : Ahead)
         (later : List (List Request)) (printed : List ℕ) (rest : Plan → State → Course) →
         script.failmode ≡ failmode
@@ -93,6 +95,7 @@ pub fn batch_round<'a, R: Runner, O: Sink>(
     ensures calm { IsErrOf result RunFault.Memory → (R.standing runner.new).faults ≡ (R.standing runner.old).faults }
     ensures sink { IsErrOf result RunFault.Sink → Rose (O.faults out.old) (O.faults out.new) }
     ensures can { R.Can runner.new }
+    ensures chosen { AreOfRounds R.chosen journal.new.rounds journal.new.places }
     ensures same { R.same runner.old runner.new }
 {
     let requests = batch_requests(alloc, batch)?;
@@ -143,6 +146,7 @@ pub fn clear_round<'a, R: Runner, O: Sink>(
     requires rounds { journal.old.rounds + 1 < 2 ^ 32 }
     requires few { fold.old.tally.good + fold.old.tally.bad + length fold.old.unfinished.items < 2 ^ 32 }
     requires can { R.Can runner.old }
+    requires chosen { AreOfRounds R.chosen journal.old.rounds journal.old.places }
     ensures ran { OnOk result ((n : RunSize) (script : Script) (before images : Images) (ahead : Ahead)
         (later : List (List Request)) (printed : List ℕ) (rest : Plan → State → Course) →
         script.failmode ≡ failmode
@@ -183,6 +187,7 @@ pub fn clear_round<'a, R: Runner, O: Sink>(
     ensures calm { IsErrOf result RunFault.Memory → (R.standing runner.new).faults ≡ (R.standing runner.old).faults }
     ensures sink { IsErrOf result RunFault.Sink → Rose (O.faults out.old) (O.faults out.new) }
     ensures can { R.Can runner.new }
+    ensures chosen { AreOfRounds R.chosen journal.new.rounds journal.new.places }
     ensures same { R.same runner.old runner.new }
 {
     let requests = mem::replace(&mut fold.unfinished, Vec::new(alloc));

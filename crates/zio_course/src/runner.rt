@@ -2,6 +2,7 @@
 
 ghost use Rattle.std.specs.Prelude.{◌≡◌, ◌<◌, ℕ, Bool, List, false, true, IfErr, IfOk, IsErrOf, OnErr, OnOk, IfSome, map};
 ghost use Rattle.std.specs.List.{AllByRecursion};
+ghost use Rattle.zio_types.specs.Choices.{Choice};
 ghost use Rattle.zio_cksum.specs.Images.{Images};
 ghost use Rattle.zio_gang.specs.Attempts.{Pending, Terms};
 ghost use Rattle.zio_gang.specs.declared.tree.Tree.{Tree as SeenTree};
@@ -111,6 +112,9 @@ pub trait Runner {
     /// A block that a read or a free may be given.
     ghost fits: { SeenTree → Type 0 };
 
+    /// What the entries of a round of this number are, beside its choices.
+    ghost chosen: { ℕ → List Choice → Type 0 };
+
     /// What a round needs beside, as of the threads that it starts. It stays so.
     ghost Can: { Self → Type 0 };
 
@@ -153,6 +157,7 @@ pub trait Runner {
         ensures end { IfOk result (λ end. IsRoundEnd (standing self.old) job.round (map pending job.trees)
             (ended_seen pending told end)) }
         ensures fits { IfOk result (λ end. AllByRecursion fits (made_trees (map told end.finished))) }
+        ensures chosen { IfOk result (λ end. chosen job.round end.entries) }
         ensures stands { IfOk result (λ end. StandsAfter (standing self.old) (standing self.new) job.round
             (map pending job.trees) (ended_seen pending told end)) }
         ensures stopped { OnErr result (StoppedAfter (standing self.old) (standing self.new) job.round) }

@@ -4,6 +4,7 @@ ghost use Rattle.std.specs.Prelude.{◌≡◌, ◌++◌, ◌+◌, ◌<◌, ◌^�
 ghost use Rattle.zio_outside.specs.Outside.{Rose};
 ghost use Rattle.zio_script.specs.declared.script.Item.{Item as SeenItem};
 ghost use Rattle.zio_script.specs.Accepted.{batches_from};
+ghost use Rattle.zio_course.specs.Course.{AreOfRounds};
 ghost use Rattle.zio_course.specs.Folds.{batches_seen, fold_seen};
 ghost use Rattle.zio_course.specs.Moves.{IsGoing, LinesCut, LinesOver};
 ghost use Rattle.zio_course.specs.Runners.{AnyRose, stopping_of};
@@ -37,6 +38,7 @@ pub fn run_lines<'a, R: Runner, O: Sink>(
     requires none { held.old.items ≡ [] }
     requires point { fold.old.point + length items.now < 2 ^ 32 }
     requires can { R.Can runner.old }
+    requires chosen { AreOfRounds R.chosen journal.old.rounds journal.old.places }
     ensures ran { OnOk result (LinesOver show.now failmode (R.standing runner.old) (R.standing runner.new)
         (fold_seen R.pending fold.old) (fold_seen R.pending fold.new) items.now (batches_seen held.new.items)
         journal.old journal.new (R.tells runner.old) (R.tells runner.new) (O.holds out.old) (O.holds out.new)) }
@@ -55,6 +57,7 @@ pub fn run_lines<'a, R: Runner, O: Sink>(
     ensures calm { IsErrOf result RunFault.Memory → (R.standing runner.new).faults ≡ (R.standing runner.old).faults }
     ensures sink { IsErrOf result RunFault.Sink → Rose (O.faults out.old) (O.faults out.new) }
     ensures can { R.Can runner.new }
+    ensures chosen { AreOfRounds R.chosen journal.new.rounds journal.new.places }
     ensures same { R.same runner.old runner.new }
 {
     let mut from = items;

@@ -6,6 +6,7 @@ ghost use Rattle.zio_cksum.specs.Images.{Images};
 ghost use Rattle.zio_gang.specs.Attempts.{Pending};
 ghost use Rattle.zio_gang.specs.Rounds.{block_of, bound_after};
 ghost use Rattle.zio_report.specs.Lines.{AreWhole};
+ghost use Rattle.zio_course.specs.Course.{AreOfRounds};
 ghost use Rattle.zio_course.specs.Entered.{IsBatchRun, IsCutShort};
 ghost use Rattle.zio_course.specs.Forests.{names_of};
 ghost use Rattle.zio_course.specs.Names.{named_in};
@@ -44,6 +45,7 @@ pub fn run_suspended<R: Runner>(
     requires next { (R.standing runner.old).last ≤ journal.old.rounds }
     requires trees { AreRunnable (R.standing runner.old) (map R.pending trees) }
     requires can { R.Can runner.old }
+    requires chosen { AreOfRounds R.chosen journal.old.rounds journal.old.places }
     ensures ran { IfOk result (λ ran. (end : SeenEnd)
         × IsBatchRun no_error (map (λ r. r.now) unfinished.now) bound.old bound.new journal.old journal.new end
         ran.lines (map R.pending ran.left)
@@ -67,6 +69,7 @@ pub fn run_suspended<R: Runner>(
         → AnyRose (R.standing runner.old).faults (R.standing runner.new).faults }
     ensures calm { IsErrOf result Stop.Memory → (R.standing runner.new).faults ≡ (R.standing runner.old).faults }
     ensures can { R.Can runner.new }
+    ensures chosen { AreOfRounds R.chosen journal.new.rounds journal.new.places }
     ensures same { R.same runner.old runner.new }
 {
     let round = journal.rounds + 1;

@@ -54,6 +54,8 @@ impl<D: Disk + Drop, P: Picks + Drop> Runner for Graph<D, P> {
 
     ghost fits = { IsWholeTree };
 
+    ghost chosen = { λ round entries. Unit {0} };
+
     ghost Can = { λ _. Unit {0} };
 
     ghost stops = { λ _ t trees before. Unit {0} };

@@ -27,6 +27,9 @@ pub trait RoundEntries<C: Chooser> {
     /// What was found as the round with this number began, over tops of these sizes and beside these places in use.
     ghost begun: { ℕ → Seq TopSize → Seq Place → Type 0 };
 
+    /// What the entries of the round with this number are, beside its choices.
+    ghost chosen: { ℕ → Seq Choice → Type 0 };
+
     /// What it means that what was recorded of a round isn't what it chose: of the round's terms, its trees and the
     /// images before it.
     ghost strange: { Terms → Seq (Seq Pending) → Images → Type 0 };
@@ -48,6 +51,7 @@ pub trait RoundEntries<C: Chooser> {
         requires rounds { AllByRecursion (λ (c : Choice). c.asked.key.round ≡ round) given }
         ensures entries { IfOk result (λ its. (sizes : Seq TopSize) (used : Seq Place)
             → begun round sizes used → C.lawful sizes used given → AreEntriesFor sizes used given its) }
+        ensures chosen { IfOk result (chosen round) }
         ensures strange { IsErrOf result EntriesFault.Strange → (sizes : Seq TopSize) (used : Seq Place)
             → begun round sizes used → C.lawful sizes used given → (t : Terms) → AreTermsFrom round sizes used t
             → (trees : Seq (Seq Pending)) (before : Images) → HaveRunOn given t trees before
@@ -59,6 +63,8 @@ pub struct AsGiven;
 
 impl<C: LawfulChooser> RoundEntries<C> for AsGiven {
     ghost begun = { λ round sizes used. Unit {0} };
+
+    ghost chosen = { λ round entries. Unit {0} };
 
     ghost strange = { λ t trees before. Unit {0} };
 

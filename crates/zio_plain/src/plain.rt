@@ -78,7 +78,7 @@ impl<D: Disk + Drop, C: Chooser + Drop> Plain<D, C> {
 }
 
 impl<D: Disk + Drop, C: Chooser + Drop, S> Plain<D, C, S> {
-    ghost use Rattle.std.specs.Prelude.{◌≡◌, [], false, map};
+    ghost use Rattle.std.specs.Prelude.{◌≡◌, ◌&&◌, [], false, map};
     ghost use Rattle.zio_gang.specs.Trees.{sizes_of};
     ghost use Rattle.zio_disks.specs.Trees.{BearsTops};
     ghost use Rattle.zio_blocks.specs.Blocks.{HavePointers};
@@ -122,9 +122,9 @@ impl<D: Disk + Drop, C: Chooser + Drop, S> Plain<D, C, S> {
 
     /// Whether a round was stopped since what was recorded of it is strange.
     pub fn is_strange(&self) -> bool
-        ensures { result ≡ self.now.strange }
+        ensures { result ≡ (self.now.stopped && self.now.strange) }
     {
-        self.strange
+        self.stopped && self.strange
     }
 
     /// The disks, by the numbers of the leaves.
@@ -162,6 +162,8 @@ impl<D: Disk + Drop, C: Chooser + Drop, S: RoundEntries<C>> Runner for Plain<D, 
     ghost same = { λ a b. AreSameDisks D.bytes D.faults D.faults_at_fetch D.home D.image D.sound a.disks b.disks };
 
     ghost fits = { IsWholeTree };
+
+    ghost chosen = { S.chosen };
 
     ghost Can = { λ _. Unit {0} };
 
@@ -204,6 +206,7 @@ impl<D: Disk + Drop, C: Chooser + Drop, S: RoundEntries<C>> Runner for Plain<D, 
             (ended_seen (λ (tree : List Pending). tree) (λ (f : SeenRequestEnd). f) end)) }
         ensures fits { IfOk result
             (λ end. AllByRecursion IsWholeTree (made_trees (map (λ (f : SeenRequestEnd). f) end.finished))) }
+        ensures chosen { IfOk result (λ end. S.chosen job.round end.entries) }
         ensures stands { IfOk result
             (λ end. StandsAfter (standing_of D.faults C.live self.old) (standing_of D.faults C.live self.new) job.round
             (map (λ (tree : List Pending). tree) job.trees)

@@ -29,7 +29,7 @@ use Rattle.zio_report.specs.Meanings.{IsEmptyJournal, tops_of}
 use Rattle.zio_report.specs.Reports.{Records, RunSize, pool_text, text_so_far}
 use Rattle.zio_course.specs.declared.fold.Fold.{Fold}
 use Rattle.zio_course.specs.declared.fold.Tally.{Tally}
-use Rattle.zio_course.specs.Course.{shown_of}
+use Rattle.zio_course.specs.Course.{AreOfRounds, shown_of}
 use Rattle.zio_course.specs.Folds.{AreSuspended, IsSteady, SeenFold, fold_seen, is_named_by, requests_in_all}
 use Rattle.zio_course.specs.Live.{IsLive}
 use Rattle.zio_course.specs.Moves.{IsGoing}
@@ -199,3 +199,7 @@ start_course show n script before s f old up empty rows tops live new =
           (batches_all (Contains (requests_of script.items)) [] script.items tt (all_contained (requests_of script.items)));
       past = subst (AllByRecursion (λ (c : Completion). AllByRecursion (λ (r : Request). (r.number == c.request) ≡ false) (coming f.unfinished (batches_from [] script.items)))) (sym empty.completions) tt;
     }
+
+-- a journal of no round
+pub none_yet : (such : ℕ → List Choice → Type 0) (j : Journal) → IsEmptyJournal j → AreOfRounds such j.rounds j.places
+none_yet such j empty = subst (λ (n : ℕ). AreOfRounds such n j.places) (sym empty.rounds) empty.places

@@ -12,6 +12,7 @@ ghost use Rattle.zio_heal.specs.Given.{AcceptsWhatWasGiven};
 ghost use Rattle.zio_heal.specs.Healed.{IsHealed};
 ghost use Rattle.zio_heal.specs.Pools.{NoSmallRefused};
 ghost use Rattle.zio_heal.specs.StoredPlainly.{FitPointers, IsStoredPlainly};
+ghost use Rattle.zio_course.specs.Course.{AreOfRounds};
 ghost use Rattle.zio_course.specs.Runners.{AnyRose, stopping_of};
 ghost use Rattle.zio_course.specs.SoFar.{IsCut, IsCutText, IsFullText};
 
@@ -87,6 +88,7 @@ pub fn run_script<R: Runner, O: Sink>(
     ensures calm { IsErrOf result RunFault.Memory → (R.standing runner.new).faults ≡ (R.standing runner.old).faults }
     ensures sink { IsErrOf result RunFault.Sink → Rose (O.faults out.old) (O.faults out.new) }
     ensures can { R.Can runner.new }
+    ensures chosen { AreOfRounds R.chosen journal.new.rounds journal.new.places }
     ensures same { R.same runner.old runner.new }
 {
     accepted_scripts_are_orderly();

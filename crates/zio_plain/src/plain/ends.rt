@@ -79,6 +79,7 @@ pub(crate) fn entries_of<C: Chooser + Drop, S: RoundEntries<C>>(
     requires rounds { AllByRecursion (λ (c : Choice). c.asked.key.round ≡ round) given }
     ensures entries { IfOk result (λ its. (sizes : Seq TopSize) (used : Seq SeenPlace)
         → S.begun round sizes used → C.lawful sizes used given → AreEntriesFor sizes used given its) }
+    ensures chosen { IfOk result (S.chosen round) }
     ensures usual { OnOk result (strange.new ≡ false) }
     ensures strange { OnErr result (strange.new ≡ true → (sizes : Seq TopSize) (used : Seq SeenPlace)
         → S.begun round sizes used → C.lawful sizes used given

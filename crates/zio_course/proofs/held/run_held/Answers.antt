@@ -21,6 +21,7 @@ loop-alloc-init g c = record {
   faults = refl;
   quiet = refl;
   can = c.requires.can;
+  chosen = c.requires.chosen;
   same = g.met.R.Runner.same_itself c.args.runner.now;
 }
 
@@ -92,6 +93,7 @@ loop-alloc-preserved g c =
       faults = did.faults ∙ i.faults;
       quiet = did.quiet ∙ i.quiet;
       can = did.can;
+      chosen = did.chosen;
       same = g.met.R.Runner.same_then c.args.runner.now c.loop-alloc.runner c.batch_round.new.runner i.same did.same;
     }
 

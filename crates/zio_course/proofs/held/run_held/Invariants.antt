@@ -1,5 +1,6 @@
 use Rattle.std.proofs.Common.{◌≡◌, ◌≤◌, ℕ, List, length}
 use Rattle.zio_script.specs.declared.script.Request.{Request}
+use Rattle.zio_course.specs.Course.{AreOfRounds}
 use Rattle.zio_course.specs.Folds.{batches_seen, fold_seen}
 use Rattle.zio_course.specs.Moves.{HeldRan, IsGoing}
 use Rattle.zio_course.proofs.held.run_held.Given as goal
@@ -17,6 +18,7 @@ invariant-loop-alloc g l = record {
   faults : (g.R.Runner.standing l.runner).faults ≡ (g.R.Runner.standing l.fn.runner).faults;
   quiet : g.O.Sink.faults l.out ≡ g.O.Sink.faults l.fn.out;
   can : g.R.Runner.Can l.runner;
+  chosen : AreOfRounds g.R.Runner.chosen l.journal.rounds l.journal.places;
   same : g.R.Runner.same l.fn.runner l.runner;
 }
 

@@ -1,5 +1,7 @@
-use Rattle.std.proofs.Common.{◌++◌, ap, refl, ◌∙◌}
+use Rattle.std.proofs.Common.{◌++◌, List, ap, refl, subst, ◌∙◌}
+use Rattle.zio_types.specs.Choices.{Choice}
 use Rattle.zio_course.specs.Runners.{SeenEnd, ended_seen}
+use Rattle.zio_course.proofs.JournalLemmas.{one_round_more}
 use Rattle.zio_course.proofs.round.whole_round.Goals as goal
 
 pub returns-clause-whole : goal.returns-clause-whole
@@ -19,3 +21,9 @@ returns-clause-whole g c =
       ran.stands,
       λ before told. (let after = ran.round before told in (after.0, after.1, after.2)),
     )
+
+pub returns-clause-chosen : goal.returns-clause-chosen
+returns-clause-chosen g c =
+    let entries : List Choice = c.in_ok-finished.field-0.entries in
+    one_round_more g.R.Runner.chosen c.args.journal.now.rounds c.enter_round.new.journal.rounds c.args.journal.now.places entries c.enter_round.new.journal.places c.requires.chosen
+    (subst (λ n. g.R.Runner.chosen n entries) c.requires.number c.in_ok-finished.ensures.chosen) c.in_ok-enter_round.ensures.rounds c.in_ok-enter_round.ensures.places

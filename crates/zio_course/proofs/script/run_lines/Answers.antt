@@ -37,6 +37,7 @@ loop-fold-init g c =
         faults = refl;
         quiet = refl;
         can = c.requires.can;
+        chosen = c.requires.chosen;
         same = g.met.R.Runner.same_itself c.args.runner.now;
       },
     )
@@ -216,6 +217,7 @@ loop-fold-preserved-in_ok-go_line-in-Go g c =
         faults = did.faults ∙ i.faults;
         quiet = did.quiet ∙ i.quiet;
         can = did.can;
+        chosen = did.chosen;
         same = g.met.R.Runner.same_then c.args.runner.now c.loop-fold.runner c.go_line.new.runner i.same did.same;
       },
     )
@@ -266,6 +268,7 @@ loop-fold-preserved g c =
         faults = did.faults ∙ i.faults;
         quiet = did.quiet ∙ i.quiet;
         can = did.can;
+        chosen = did.chosen;
         same = g.met.R.Runner.same_then c.args.runner.now c.loop-fold.runner c.clear_line.new.runner i.same did.same;
       },
     )
@@ -313,6 +316,7 @@ loop-fold-preserved-in-Request g c =
         faults = i.faults;
         quiet = i.quiet;
         can = i.can;
+        chosen = i.chosen;
         same = i.same;
       },
     )

@@ -2,6 +2,7 @@ use Rattle.std.proofs.Common.{◌≡◌, ◌++◌, ◌+◌, ◌<◌, ◌^◌, Li
 use Rattle.zio_script.specs.declared.script.Item.{Item}
 use Rattle.zio_script.specs.Accepted.{batches_from}
 use Rattle.zio_script.specs.Requests.{requests_of}
+use Rattle.zio_course.specs.Course.{AreOfRounds}
 use Rattle.zio_course.specs.Folds.{batches_seen, fold_seen}
 use Rattle.zio_course.specs.Moves.{HeldWaits, IsGoing, LinesRan, requests_held}
 use Rattle.zio_course.proofs.script.run_lines.Given as goal
@@ -21,6 +22,7 @@ invariant-loop-fold g l = (front : List Item) × record {
   faults : (g.R.Runner.standing l.runner).faults ≡ (g.R.Runner.standing l.fn.runner).faults;
   quiet : g.O.Sink.faults l.out ≡ g.O.Sink.faults l.fn.out;
   can : g.R.Runner.Can l.runner;
+  chosen : AreOfRounds g.R.Runner.chosen l.journal.rounds l.journal.places;
   same : g.R.Runner.same l.fn.runner l.runner;
 }
 

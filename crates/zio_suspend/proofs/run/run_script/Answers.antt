@@ -20,7 +20,7 @@ use Rattle.zio_course.proofs.CutLemmas.{by_fault, not_written, part_written}
 use Rattle.zio_suspend.specs.Ends.{last_text}
 use Rattle.zio_suspend.proofs.EndLemmas.{IsEndOf, ScriptCut, Starts, cut_between, cut_first, cut_last, end_of, same_fault, script_whole}
 use Rattle.zio_suspend.proofs.HealLemmas.{whole_is_plain}
-use Rattle.zio_suspend.proofs.StartLemmas.{IsNew, fold_is_new, nothing_is_new, nothing_yet, start_going, start_point}
+use Rattle.zio_suspend.proofs.StartLemmas.{IsNew, fold_is_new, none_yet, nothing_is_new, nothing_yet, start_going, start_point}
 use Rattle.zio_suspend.proofs.run.run_script.Goals as goal
 
 pub returns-in_err-begin-clause-cut : goal.returns-in_err-begin-clause-cut
@@ -205,3 +205,9 @@ returns-clause-healed g c before told healed fit small accepts =
     whole_is_plain c.args.show.now (record { tops = length script.tops; images = c.args.images; requests = length (requests_of script.items) })
     script before journal w.0 w.1 c.ending_of-ending.result w.2
     (c.healed_scripts_store_plainly.ensures q.0 script before journal.places q.1) healed fit small accepts
+
+pub run_lines-requires-clause-chosen : goal.run_lines-requires-clause-chosen
+run_lines-requires-clause-chosen g c = none_yet g.R.Runner.chosen c.args.journal.now c.requires.empty
+
+pub returns-in_err-begin-clause-chosen : goal.returns-in_err-begin-clause-chosen
+returns-in_err-begin-clause-chosen g c = none_yet g.R.Runner.chosen c.args.journal.now c.requires.empty

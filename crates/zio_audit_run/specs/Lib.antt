@@ -1,0 +1,5 @@
+pub mod Causes
+pub mod Codes
+pub mod Files
+pub mod Reads
+pub mod Words

@@ -1,0 +1,102 @@
+//! The answers of the program to questions about itself.
+ghost use Rattle.std.specs.Prelude.{◌≡◌, map, string_bytes};
+ghost use Rattle.zio_auditor.specs.Questions.{asked_by, asked_by_word};
+
+use clap::{Arg, ArgAction, Command};
+use std::alloc::{AllocError, Global};
+
+const ABOUT: &str = "Tells whether a run of a script of block requests is what the script means.";
+
+pub const USAGE: &str = "zio_auditor SCRIPT REPORT BEFORE.. AFTER..";
+
+const AFTER: &str = "\
+SCRIPT is the script of a run, REPORT what the run printed with --journal, by
+zio_serial or by whatever else ran it. BEFORE.. are the images before the run,
+1 to 16, leaf 0 first, and AFTER.. as many after it, in the same order. A script
+has at most 16 MiB, a report at most 64 MiB, an image 64 KiB to 16 MiB, and an
+image after the run the size of that before it. All names differ. No file is
+changed, though each is opened for reading and writing.
+
+The answer on standard output is `yes` where the report is the text of a run of
+this script over these images, the places that it tells were free to be taken,
+its requests completed as the script lets them, and the run left the images
+AFTER; else `no WHY` with the first why that applies.
+
+Exit status:
+  0   yes
+  1   the words aren't SCRIPT, REPORT and two equal numbers of images
+  3   a file can't be opened, or its size isn't fit; `files K` tells which, where
+      SCRIPT is 0, REPORT 1 and the first image 2
+  6   standard output can't be written
+  7   a file can't be read
+  8   memory was wanted and not given
+  10  no; `no WHY` tells why
+
+Of each status but 0 a line on standard error tells more. The whys of status 10:
+  1  the script isn't accepted, or a top names a leaf without an image
+  2  a `take` or `order` line of the report isn't of its shape, has a number that
+     is too large, or stands before every `round` line
+  3  the `take` lines aren't lawful: a place wasn't free or is the wrong one, or
+     lines are missing or too many
+  4  the `order` lines aren't those of the requests that finished, each once and
+     after its children
+  5  the report isn't the text of the run, neither with --data nor without
+  6  the images AFTER aren't those that the run leaves";
+
+/// What a single word asks of the program itself.
+#[derive(Clone, Copy)]
+pub enum Question {
+    Help,
+    Version,
+}
+
+/// The question that these words are, none where they are for the top call.
+pub fn asked(words: &[String]) -> Option<Question>
+    ensures { result ≡ asked_by (map string_bytes words.now) }
+{
+    match words {
+        [word] => asked_by_word(word.as_str()),
+        _ => None,
+    }
+}
+
+fn asked_by_word(word: &str) -> Option<Question>
+    ensures { result ≡ asked_by_word word.now }
+{
+    if word == "--help" || word == "-h" {
+        Some(Question::Help)
+    } else if word == "--version" {
+        Some(Question::Version)
+    } else {
+        None
+    }
+}
+
+/// The answer, which ends with a newline.
+pub fn text_of(alloc: Global, question: Question) -> Result<String, AllocError> {
+    let mut command = command(alloc)?;
+    match question {
+        Question::Help => command.render_help(),
+        Question::Version => command.render_version(),
+    }
+}
+
+fn command<'a>(alloc: Global) -> Result<Command<'a>, AllocError> {
+    let help = Arg::new(alloc, "help")
+        .long("help")
+        .action(ArgAction::Help)
+        .help("Print this text");
+    let version = Arg::new(alloc, "version")
+        .long("version")
+        .action(ArgAction::Version)
+        .help("Print the version");
+    Command::new(alloc, "zio_auditor")
+        .version("0.1.0")
+        .about(ABOUT)
+        .override_usage(USAGE)
+        .after_help(AFTER)
+        .disable_help_flag(true)
+        .disable_version_flag(true)
+        .arg(help)?
+        .arg(version)
+}

@@ -1,0 +1,81 @@
+//! The program `zio_auditor`: tells whether a finished run is what its script means.
+//!
+//! It joins `zio_audit_main` to standard output and files, and ends with its code as the exit status. What it answers
+//! is the contract of that call. Questions for help or the version are answered here, as `about` says, and `told` has
+//! the line on standard error that goes with a code other than 0.
+#![tactic(auto)]
+
+mod about;
+mod told;
+mod watched;
+
+use about::{asked, text_of};
+use std::alloc::AllocError;
+use std::env;
+use std::fs::File;
+use std::io::ErrorKind;
+use std::process::ExitCode;
+use told::line_of;
+use watched::Watched;
+use zio_audit_run::zio_audit_main;
+use zio_command::{CODE_MEMORY, CODE_SINK};
+use zio_outside::{FileShelf, Sink, StdSink};
+
+fn main(rt: HostRuntime) -> ExitCode {
+    let _stand_ins = [stand_in(&rt), stand_in(&rt), stand_in(&rt)];
+    let code = match words(&rt) {
+        Ok(words) => answer(&rt, words.as_slice()),
+        Err(_) => CODE_MEMORY,
+    };
+    ExitCode::from(code)
+}
+
+/// Takes the place of a standard stream that the program was started without: a file would be opened there, and be
+/// overwritten by the answer. A directory can be neither read nor written, so the stream fails as it would have.
+fn stand_in(rt: &HostRuntime) -> Option<File> {
+    File::open(rt, "/").ok()
+}
+
+/// The words after the program's name, or no words where one isn't UTF-8, since no audit has such a word.
+fn words(rt: &HostRuntime) -> Result<Vec<String>, AllocError> {
+    let alloc = rt.alloc();
+    match env::args(rt) {
+        Ok(words) => words.skip(1).collect(alloc),
+        Err(error) if error.kind() == ErrorKind::InvalidData => Ok(Vec::new(alloc)),
+        Err(_) => Err(AllocError),
+    }
+}
+
+fn answer(rt: &HostRuntime, words: &[String]) -> u8 {
+    match asked(words) {
+        Some(question) => match text_of(rt.alloc(), question) {
+            Ok(text) => tell(rt, text.as_str()),
+            Err(_) => CODE_MEMORY,
+        },
+        None => audit(rt, words),
+    }
+}
+
+fn tell(rt: &HostRuntime, text: &str) -> u8 {
+    match StdSink::new(rt).write(text.as_bytes()) {
+        Ok(()) => 0,
+        Err(_) => CODE_SINK,
+    }
+}
+
+fn audit(rt: &HostRuntime, words: &[String]) -> u8 {
+    let mut shelf = FileShelf::new(rt);
+    let mut out = Watched::new(StdSink::new(rt));
+    let status = zio_audit_main(rt.alloc(), words, &mut shelf, &mut out);
+    if status.code != 0 {
+        explain(rt, status.code, out.front(), words);
+    }
+    status.code
+}
+
+/// Tells in a line on standard error what the code means here. It says more than the code does, and changes nothing.
+fn explain(rt: &HostRuntime, code: u8, front: &[u8], words: &[String]) {
+    if let Ok(line) = line_of(rt, rt.alloc(), code, front, words) {
+        let _ = eprintln!(rt; "zio_auditor: {line}");
+    }
+}

@@ -16,8 +16,8 @@ pub record HasAuditedSize (bytes : ℕ) : Type 0 where
   pub least : IMAGE_LEN_MIN ≤ bytes
   pub most : bytes ≤ AUDITED_LEN_MAX
 
--- A case that may be audited: its texts and images are no longer than the limits, there are few images, and those after have
--- the sizes of those before.
+-- A case that may be audited: its texts and images are no longer than the limits, there are few images, and those after
+-- the run have the sizes of those before it.
 pub record MayBeAudited (c : Case) : Type 0 where
   pub script : length c.script ≤ SCRIPT_LEN_MAX
   pub report : length c.report ≤ REPORT_LEN_MAX

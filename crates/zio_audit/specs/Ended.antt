@@ -29,7 +29,8 @@ pub record IsAtStart (script : Script) (s : Setting) (disks : List MemDisk) (las
   pub last_is : last ≡ 0
   pub runs : stopped ≡ false
 
--- The script was run to its end over these images, by the entries that a report spells: what was printed came to the matcher.
+-- The script was run to its end over these images, by the entries that a report spells, and what was printed came to the
+-- matcher.
 pub record HasReplayed (show : Show) (script : Script) (journals : List RoundJournal) (before after : Images) (old new : PlainMatcher) (j : Journal) : Type 0 where
   pub end : Ending
   pub printed : List ℕ

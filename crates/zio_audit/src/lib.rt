@@ -1,17 +1,19 @@
-//! Parts of an audit of a finished run: what its answer means, and how single reasons for a no are found.
+//! The audit of a finished run: what its answer means, and the answer.
 //!
-//! It stands on the definitions of `zio_gang` and `zio_report`, on `zio_spelled`, which reads the journal that a report
-//! spells, and on the space, the choosers and the depth-first runner of `zio_places`, `zio_blocks` and `zio_plain`; on
-//! no engine. `specs/Verdicts` says when an audit answers yes, and when no and with which reason; `specs/Worked` has
-//! cases. Read `completions_match` first: whether a spelled order of completions is one that the run may have.
-//! `are_lawful` judges the recorded entries of a round, and `Recorded` answers a round's asks by them, as
-//! `specs/Recordings` has it. `Replayed` answers those of all rounds by the entries that a report spells, and with
-//! `AsSpelled` a runner of `zio_plain` runs the rounds of a script so, and is stopped where these aren't a round's
-//! choices: `specs/Replays`. `have_images` asks whether a script has its images, a `Matcher` is a sink that compares
-//! what it is given with a text, a `PlainMatcher` one that compares it with a report's lines that are none of the
-//! journal, and `PutIn` compares a report with its own lines among which the texts of journals are put, as
-//! `specs/Putting` has it. These two tell whether a report is the text of a run, by `shows_bytes` and the laws of
-//! `texts_show_their_journals`.
+//! Read `audit` first, and `specs/Verdicts`, which says when it answers yes, and when no and with which reason;
+//! `specs/Worked` has cases. `texts_show_their_journals` has the law that yes is the answer exactly of a headline. The
+//! crate stands on the definitions of `zio_gang` and `zio_report`, on `zio_spelled`, which reads the journal that a report
+//! spells, and on the space, the choosers and the depth-first runner of `zio_places`, `zio_blocks` and `zio_plain`; on no
+//! engine.
+//!
+//! `Replayed` answers the asks of all rounds by the entries that a report spells, and with `AsSpelled` a runner of
+//! `zio_plain` runs the rounds of a script so, and is stopped where these aren't a round's choices: `specs/Replays`.
+//! `specs/Ended` says what such a run comes to. `completions_match` tells whether a spelled order of completions is one
+//! that the run may have. A `PlainMatcher` is a sink that compares what it is given with a report's lines that are none
+//! of the journal, and `PutIn` compares a report with its own lines among which the texts of journals are put, as
+//! `specs/Putting` has it: these two tell whether a report is the text of a run. `are_lawful` judges recorded entries one
+//! after another. `Recorded`, which answers one round's asks by its entries, and `Matcher`, which compares with a text,
+//! stand beside and aren't used by the audit.
 #![tactic(auto)]
 
 mod auditing;

@@ -1,4 +1,4 @@
-//! Tests of what no clause says, over the parts of the audit.
+//! Tests of what no clause says, over the audit and its parts.
 //!
 //! They stand here and not in the crate, since a crate with tests of its own is proved once more with them. There is
 //! nothing else in it.

@@ -1,13 +1,17 @@
 -- Look-ups by name and by number.
-use Rattle.std.proofs.Common.{◌≡◌, ℕ, ◌-◌, List, [], ◌∷◌, length, take, replicate, bytes_eq, eqb, ◌&&◌, ◌||◌, Bool, true, false, Option, Some, None, refl, sym, ap, ◌∙◌}
+use Rattle.std.proofs.Common.{◌≡◌, ℕ, ◌-◌, ◌≤◌, List, [], ◌∷◌, ◌++◌, length, map, take, drop, replicate, bytes_eq, eqb, ◌&&◌, ◌||◌, Bool, true, false, Option, Some, None, refl, sym, ap, ◌∙◌}
 use Rattle.std.proofs.Math.Seq.{take-append_seam}
 use Rattle.std.proofs.lemmas.Bool.Decides.{same_from_decides, Decides-and, Decides-like, Decides-eqb}
+use Rattle.std.proofs.lemmas.List.{drop-replicate}
 use Rattle.std.proofs.lemmas.Slice.Eq.{bytes_eq-Decides}
-use Rattle.std.specs.List.{list_any}
+use Rattle.std.specs.Int.{from_be_bytes, w128}
+use Rattle.std.specs.List.{AllByRecursion, IsDistinct, list_any}
 use Rattle.std.specs.Map.{lookup}
 use Rattle.std.specs.Prelude.{cond}
 use Rattle.zio_types.specs.Filled.{filled_to}
-use Rattle.zio_course.specs.Names.{is_name_in, listed_in, named_in}
+use Rattle.zio_gang.specs.declared.bound.Bound.{Bound}
+use Rattle.zio_gang.specs.declared.tree.Tree.{Tree}
+use Rattle.zio_course.specs.Names.{byte_order, is_name_in, listed_in, named_in, pairs_of}
 
 -- names are equal where their lengths and their filled characters are
 abbrev pub are_same : List ℕ → List ℕ → Bool
@@ -110,3 +114,29 @@ pub pushed_with : {X : Type 0} (n other : ℕ) (pushed : List X) (old mid new : 
 pushed_with n other pushed old mid new h left =
     listed_with n other (Some pushed) mid new h
     ∙ (ap (λ o. cond (eqb n other) pushed o) left ∙ cond_twice (eqb n other) pushed [] (listed_in old other))
+
+-- ---- the order of names
+
+-- a name in front of zeros
+pub order_of : (name copied : List ℕ) → copied ≡ name → length name ≤ 16 → from_be_bytes w128 (copied ++ drop (length name) (replicate 16 0)) ≡ byte_order name
+order_of name copied same fits =
+    ap (λ (front : List ℕ). from_be_bytes w128 (front ++ drop (length name) (replicate 16 0))) same
+    ∙ ap (λ (zeros : List ℕ). from_be_bytes w128 (name ++ zeros)) (drop-replicate (length name) 16 0)
+
+none_same : (name : List ℕ) (names : List (List ℕ)) → AllByRecursion (λ other. are_same name other ≡ false) names → AllByRecursion (λ other. bytes_eq name other ≡ false) names
+none_same name [] all = tt
+none_same name (n ∷ names) all = (sym (same_name name n) ∙ all.0, none_same name names all.1)
+
+-- no two names are the same
+pub once_by_bytes : (names : List (List ℕ)) → IsDistinct are_same names → IsDistinct bytes_eq names
+unfolding IsDistinct
+once_by_bytes [] once = tt
+once_by_bytes (n ∷ names) once = (none_same n names once.0, once_by_bytes names once.1)
+
+-- the names of entries, without what they name
+pub names_in : (blocks : List Bound) (entries : List (List ℕ × Tree)) → pairs_of blocks ≡ entries → map (λ (b : Bound). b.name) blocks ≡ map (λ (e : List ℕ × Tree). e.0) entries
+names_in blocks entries is = names_alone blocks ∙ ap (map (λ (e : List ℕ × Tree). e.0)) is
+  where
+    names_alone : (bs : List Bound) → map (λ (b : Bound). b.name) bs ≡ map (λ (e : List ℕ × Tree). e.0) (pairs_of bs)
+    names_alone [] = refl
+    names_alone (b ∷ bs) = ap (λ (ns : List (List ℕ)). b.name ∷ ns) (names_alone bs)

@@ -11,7 +11,6 @@ use Rattle.zio_script.specs.declared.script.Script.{Script}
 use Rattle.zio_script.specs.Accepted.{AreRising}
 use Rattle.zio_script.specs.Requests.{requests_of}
 use Rattle.zio_cksum.specs.Images.{Images}
-use Rattle.zio_gang.specs.declared.ending.Ending.{Ending}
 use Rattle.zio_gang.specs.Attempts.{Ended, Pending, Terms}
 use Rattle.zio_gang.specs.Rounds.{Bound, NamesOnce, admitted, is_bound, pending_trees, trees_of, used_places}
 use Rattle.zio_gang.specs.Runs.{Batch, Course, Event, Plan, Round, State, ending, plan_of, rounds_of, run_batch, run_script, run_suspended, terms_of, then_course}

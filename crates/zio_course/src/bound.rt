@@ -1,12 +1,14 @@
 //! The names that are bound, and their blocks.
 
-ghost use Rattle.std.specs.Prelude.{◌≡◌, ℕ, List, None, Some, IfOk, OnErr, OnOk, bytes_eq, cond, is_some, option_copied};
-ghost use Rattle.zio_course.specs.Names.{named_in};
+ghost use Rattle.std.specs.Prelude.{◌≡◌, ℕ, List, None, Some, IfOk, OnErr, OnOk, bytes_eq, cond, is_some, map, option_copied};
+ghost use Rattle.std.specs.List.{IsDistinct};
+ghost use Rattle.std.specs.List.Sorted.{IsNonDecreasingBy};
+ghost use Rattle.zio_course.specs.Names.{byte_order, named_in, pairs_of};
 
 use indexmap::IndexMap;
 use std::alloc::Global;
 use std::marker::Model;
-use zio_gang::{Head, Tree};
+use zio_gang::{Bound as Binding, Head, Tree};
 use zio_script::Name;
 use zio_types::{List, NoMemory};
 
@@ -66,6 +68,39 @@ impl Bound {
     {
         self.trees.swap_remove(name);
     }
+
+    /// The names with their blocks, each name once, in the order of the names' bytes.
+    pub fn into_blocks(self, alloc: Global) -> Result<Vec<Binding>, NoMemory>
+        ensures blocks { IfOk result (λ blocks. (name : List ℕ)
+            → named_in (pairs_of blocks.items) name ≡ named_in self name) }
+        ensures once { IfOk result (λ blocks. IsDistinct bytes_eq (map (λ b. b.name) blocks.items)) }
+        ensures order { IfOk result (λ blocks. IsNonDecreasingBy (λ e. byte_order e.0) (pairs_of blocks.items)) }
+    {
+        let mut trees = self.trees;
+        trees.sort_by_key(|name, _| rank(name))?;
+        blocks_of(alloc, trees)
+    }
+}
+
+// The names of a map with their blocks, in its order.
+fn blocks_of(alloc: Global, trees: IndexMap<Name, Tree>) -> Result<Vec<Binding>, NoMemory>
+    ensures { IfOk result (λ blocks. pairs_of blocks.items ≡ trees.entries) }
+{
+    let mut blocks = Vec::with_capacity(alloc, trees.len())?;
+    for (name, tree) in trees {
+        blocks.push(Binding { name, tree })?;
+    }
+    Ok(blocks)
+}
+
+// By which names stand in the order of their bytes.
+fn rank(name: &Name) -> u128
+    ensures { result ≡ byte_order name.now }
+{
+    let text = name.as_bytes();
+    let mut bytes = [0; 16];
+    bytes[..text.len()].copy_from_slice(text);
+    u128::from_be_bytes(bytes)
 }
 
 /// The same block once more: its pointer, and the headers under it.

@@ -5,7 +5,7 @@ ghost use Rattle.zio_outside.specs.Outside.{Rose};
 ghost use Rattle.zio_script.specs.declared.script.Item.{Item as SeenItem};
 ghost use Rattle.zio_script.specs.Accepted.{batches_from};
 ghost use Rattle.zio_course.specs.Course.{AreOfRounds};
-ghost use Rattle.zio_course.specs.Folds.{batches_seen, fold_seen};
+ghost use Rattle.zio_course.specs.Folds.{IsSteady, batches_seen, fold_seen};
 ghost use Rattle.zio_course.specs.Moves.{IsGoing, LinesCut, LinesOver};
 ghost use Rattle.zio_course.specs.Runners.{AnyRose, stopping_of};
 
@@ -46,6 +46,8 @@ pub fn run_lines<'a, R: Runner, O: Sink>(
         (LinesCut show.now failmode (R.standing runner.old) (fold_seen R.pending fold.old) items.now
         journal.old journal.new (R.tells runner.old) (R.tells runner.new)
         (stopping_of (R.standing runner.new) (R.stops runner.new)) (O.holds out.old) (O.holds out.new)) }
+    ensures steady { OnOk result (IsSteady R.fits (R.standing runner.new) journal.new.rounds
+        (fold_seen R.pending fold.new)) }
     ensures last { OnOk result ((R.standing runner.new).last ≡ journal.new.rounds) }
     ensures runs { OnOk result ((R.standing runner.new).stopped ≡ false) }
     ensures tops { (R.standing runner.new).tops ≡ (R.standing runner.old).tops }

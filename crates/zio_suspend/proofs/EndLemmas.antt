@@ -14,8 +14,10 @@ use Rattle.zio_script.specs.Accepted.{AreRising, batches_from}
 use Rattle.zio_script.specs.Requests.{requests_of}
 use Rattle.zio_cksum.specs.Images.{Images}
 use Rattle.zio_gang.specs.declared.ending.Ending.{Ending}
+use Rattle.zio_gang.specs.declared.bound.Bound.{Bound}
 use Rattle.zio_gang.specs.Attempts.{Ended, Pending}
 use Rattle.zio_gang.specs.Journals.{AreCompletions, IsLawfulJournal}
+use Rattle.zio_gang.specs.Rounds.{block_of}
 use Rattle.zio_gang.specs.Runs.{Batch as DefinedBatch, Course, Event, State, ending, ending_if, has_held, has_trees, left_if, quiet, rounds_of, run_lines, run_script}
 use Rattle.zio_gang.specs.Trees.{sizes_of}
 use Rattle.zio_report.specs.declared.report.RunFault.{RunFault}
@@ -23,7 +25,7 @@ use Rattle.zio_report.specs.declared.report.RunFault.TheVariants.{Device, Sink, 
 use Rattle.zio_report.specs.declared.report.Show.{Show}
 use Rattle.zio_report.specs.declared.report.Show.TheVariants.{Report, Summary}
 use Rattle.zio_report.specs.Lines.{as_line}
-use Rattle.zio_report.specs.Meanings.{IsEmptyJournal, IsWholeRun, records_of, tops_of}
+use Rattle.zio_report.specs.Meanings.{IsEmptyJournal, IsWholeRun, course_of, records_of, tops_of}
 use Rattle.zio_report.specs.Reports.{Records, RunSize, all_ended, bad_ended, end_text, good_ended, pool_text, run_text, text_so_far}
 use Rattle.zio_course.specs.declared.fold.Batch.{Batch}
 use Rattle.zio_course.specs.declared.fold.Fold.{Fold}
@@ -31,12 +33,14 @@ use Rattle.zio_course.specs.declared.fold.Tally.{Tally}
 use Rattle.zio_course.specs.Course.{shown_of}
 use Rattle.zio_course.specs.Folds.{SeenFold, batches_seen, fold_seen, has_items}
 use Rattle.zio_course.specs.Moves.{LinesCut, LinesOver}
+use Rattle.zio_course.specs.Names.{named_in, pairs_of}
 use Rattle.zio_course.specs.Runners.{Standing, Stopping}
 use Rattle.zio_course.specs.SoFar.{Ahead, EndsWhole, IsAtEnd, IsCourseAt, IsCut, IsCutText, IsFullText}
 use Rattle.zio_course.proofs.CutLemmas.{IsOther, cut_at, printed_ends, written_then}
 use Rattle.zio_course.proofs.MoveLemmas.{Appends-both}
 use Rattle.zio_course.proofs.RoundsLemmas.{trees_items}
 use Rattle.zio_suspend.specs.Ends.{ending_with, last_text}
+use Rattle.zio_suspend.specs.Pools.{AreBoundIn}
 use Rattle.zio_suspend.proofs.StartLemmas.{IsNew, start_course}
 
 -- ---- the ending
@@ -152,19 +156,27 @@ starts_at : (show : Show) (n : RunSize) (script : Script) (s : Standing) (f : Se
     → IsCourseAt show n script before s f (record { held = []; batch = []; batches = 0 }) (batches_from [] script.items) old before (shown_of show (pool_text n.tops n.images)) (λ plan st. run_lines plan script.items st)
 starts_at show n script s f old tells h before told = start_course show n script before s f old h.up h.empty h.rows (h.tops before told) h.live h.new
 
--- all of it was written
-pub script_whole : (show : Show) (n : RunSize) (script : Script) (s now : Standing) (f g : SeenFold) (held : List DefinedBatch) (old new : Journal) (tells new_tells : Images → Type 0) (holds mid over new_holds : List ℕ → Type 0) (end : Ending)
+-- all of it was written, and where they are listed, these are the blocks that it leaves
+pub pool_whole : (show : Show) (n : RunSize) (script : Script) (s now : Standing) (f g : SeenFold) (held : List DefinedBatch) (old new : Journal) (tells new_tells : Images → Type 0) (holds mid over new_holds : List ℕ → Type 0) (end : Ending) (lists : Bool) (blocks : List Bound)
     → Starts script s f old tells → now.tops ≡ s.tops → IsEndOf g held end
     → LinesOver show script.failmode s now f g script.items held old new tells new_tells mid over
     → Appends holds mid (shown_of show (pool_text n.tops n.images)) → Appends over new_holds (last_text show n.requests g.tally end)
-    → (before : Images) → tells before → (after : Images) × (printed : List ℕ) × IsWholeRun show n script before new after printed end × new_tells after × Appends holds new_holds printed
-script_whole show n script s now f g held old new tells new_tells holds mid over new_holds end starts tops ended ran first last before told =
+    → (lists ≡ true → (name : List ℕ) → named_in (pairs_of blocks) name ≡ named_in g.bound name)
+    → (before : Images) → tells before → (after : Images) × (printed : List ℕ) × IsWholeRun show n script before new after printed end
+    × (lists ≡ true → AreBoundIn (course_of script before new).state g.point blocks) × new_tells after × Appends holds new_holds printed
+pool_whole show n script s now f g held old new tells new_tells holds mid over new_holds end lists blocks starts tops ended ran first last same before told =
     let pool : List ℕ = shown_of show (pool_text n.tops n.images) in
     let x = ran n script before before pool refl (starts_at show n script s f old tells starts before told) told in
-    let text : List ℕ = last_text show n.requests g.tally end in (
+    let text : List ℕ = last_text show n.requests g.tally end in
+    let is : run_script script before new.places ≡ record { events = x.4.events; state = x.4.state } =
+    course_over show n script before now g x.2 x.3 new x.0 (pool ++ x.1) x.4 in (
       x.0,
       (pool ++ x.1) ++ text,
       whole_run show n script before now g x.2 x.3 new x.0 (pool ++ x.1) end x.4 (tops ∙ starts.tops before told) (ended x.4.state x.4.panicked x.4.at.suspended_is (x.4.held ∙ x.5)),
+      (λ listed. record {
+        names = λ name. same listed name ∙ (sym (x.4.at.names name) ∙ ap (λ (c : Course). block_of c.state.bound name) (sym is));
+        point_is = sym x.4.at.point_is ∙ ap (λ (c : Course). c.state.point) (sym is);
+      }),
       x.6,
       Appends-both holds over new_holds (pool ++ x.1) text (Appends-both holds mid over pool x.1 first x.7) last,
     )

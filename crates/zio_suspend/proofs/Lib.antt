@@ -1,3 +1,4 @@
 pub mod EndLemmas
 pub mod HealLemmas
 pub mod StartLemmas
+pub mod PoolLemmas

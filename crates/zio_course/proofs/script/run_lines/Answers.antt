@@ -334,3 +334,9 @@ returns-in_default-clause-ran g c =
     (record { held = batches_seen c.loop-fold.held.items; batch = requests_of c.loop-fold.invariant.0; batches = c.loop-fold.batches })
     (requests_held (batches_seen c.loop-fold.held.items) ++ batches_from (requests_of c.loop-fold.invariant.0) c.loop-fold.rest.now) c.args.journal.now c.loop-fold.journal (g.R.Runner.tells c.args.runner.now) (g.R.Runner.tells c.loop-fold.runner)
     (g.O.Sink.holds c.args.out.now) (g.O.Sink.holds c.loop-fold.out) (inr (c.in_default.ensures.none refl)) c.loop-fold.invariant.1.ran
+
+pub returns-after-loop-fold-clause-steady : goal.returns-after-loop-fold-clause-steady
+returns-after-loop-fold-clause-steady g c = c.loop-fold.invariant.1.going.steady
+
+pub returns-in_default-clause-steady : goal.returns-in_default-clause-steady
+returns-in_default-clause-steady g c = c.loop-fold.invariant.1.going.steady

@@ -1,7 +1,7 @@
 -- What a table keeps when it is made, when a value is put or taken, and when its values move to another.
-use Rattle.std.proofs.Common.{◌≡◌, ℕ, zero, suc, ◌+◌, ◌-◌, ◌*◌, ◌/◌, ◌<◌, ◌≤◌, ◌∙◌, List, [], ◌∷◌, ◌++◌, length, take, drop, replicate, slice_index, slice_set, get_or, set, Option, Some, None, refl, ap, sym, subst, arith, length-append, length-set, append-nil}
+use Rattle.std.proofs.Common.{◌≡◌, ℕ, zero, suc, ◌+◌, ◌-◌, ◌*◌, ◌/◌, ◌<◌, ◌≤◌, ◌∙◌, List, [], ◌∷◌, ◌++◌, length, take, drop, min, replicate, slice_index, slice_set, get_or, set, Option, Some, None, refl, ap, sym, subst, arith, length-append, length-set, append-nil}
 use Rattle.std.proofs.Math.Numerals.{add-one}
-use Rattle.std.proofs.lemmas.List.{drop-replicate, get_or-replicate, length-replicate, take_more}
+use Rattle.std.proofs.lemmas.List.{drop-replicate, get_or-replicate, length-replicate, length-take, take-append-drop, take_more}
 use Rattle.zio_turns.specs.LineSums.{AreSums, IsSize, places_of, size, sum_of}
 use Rattle.zio_turns.specs.LinePlaces.{Held, IsKept, marks, standing}
 use Rattle.zio_turns.proofs.SumLemmas.{length_places}
@@ -146,6 +146,14 @@ standing_append : (a b : List (Option ℕ)) → standing (a ++ b) ≡ standing a
 standing_append [] b = refl
 standing_append (None ∷ a) b = standing_append a b
 standing_append (Some value ∷ a) b = ap (λ xs. value ∷ xs) (standing_append a b)
+
+-- no more stand than places were used
+pub standing_used : (places : List (Option ℕ)) (used : ℕ) → standing (drop used places) ≡ [] → length (standing places) ≤ used
+standing_used places used none =
+    let all : standing places ≡ standing (take used places) ++ standing (drop used places) =
+    ap standing (sym (take-append-drop used places)) ∙ standing_append (take used places) (drop used places) in
+    let taken : length (take used places) ≡ min used (length places) = length-take used places in
+    omega (arith, ap length all, length-append (standing (take used places)) (standing (drop used places)), ap length none, standing_few (take used places))
 
 standing_more : (places : List (Option ℕ)) (done : ℕ) (place : Option ℕ) → done < length places → get_or places done None ≡ place
     → standing (take (done + 1) places) ≡ standing (take done places) ++ standing (place ∷ [])

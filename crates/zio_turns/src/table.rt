@@ -58,15 +58,18 @@ impl Table {
 
     /// How many wait.
     pub(crate) fn len(&self) -> usize
-        ensures { result ≡ length self.now.waiting }
+        ensures len { result ≡ length self.now.waiting }
+        ensures few { result ≤ self.now.used }
+        ensures fits { self.now.used ≤ self.now.size × self.now.size < 2 ^ 63 }
     {
         whole(&self.nodes)
     }
 
-    pub(crate) fn has_room(&self) -> bool
-        ensures { IsTrue result ↔ (self.now.used < self.now.size) }
+    /// Whether it has a place beside those for so many more.
+    pub(crate) fn has_room(&self, more: usize) -> bool
+        ensures { IsTrue result ↔ (self.now.used + more < self.now.size) }
     {
-        self.used < self.places.len()
+        more < self.places.len() - self.used
     }
 
     /// The value takes the next place.
@@ -92,14 +95,15 @@ impl Table {
         value.unwrap()
     }
 
-    /// The same values at the first places of a table that has room, and no less than half of its places unused before
-    /// the next value comes.
-    pub(crate) fn moved(&self, alloc: Global) -> Result<Table, NoMemory>
+    /// The same values at the first places of a table that has a place beside those for so many more, for which this one
+    /// has room; no less than half of its places are then unused.
+    pub(crate) fn moved(&self, alloc: Global, more: usize) -> Result<Table, NoMemory>
+        requires { self.now.used + more ≤ self.now.size }
         ensures waiting { IfOk result (λ table. table.waiting ≡ self.now.waiting) }
         ensures used { IfOk result (λ table. table.used ≡ length self.now.waiting) }
-        ensures room { IfOk result (λ table. 2 * table.used ≤ table.size × table.used < table.size) }
+        ensures room { IfOk result (λ table. 2 * (table.used + more) ≤ table.size × table.used + more < table.size) }
     {
-        let size = roomy_size(self.places.len(), self.len());
+        let size = roomy_size(self.places.len(), self.len() + more);
         let mut table = Table::with_size(alloc, size)?;
         for place in &self.places {
             if let Some(value) = place {

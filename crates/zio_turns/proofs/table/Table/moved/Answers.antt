@@ -1,7 +1,7 @@
 use Rattle.std.proofs.Common.{arith, ℕ, ◌≡◌, ◌+◌, List, Option, length, ap, ◌∙◌, sym, subst}
 use Rattle.zio_turns.specs.LinePlaces.{standing}
 use Rattle.zio_turns.specs.LineSums.{IsSize}
-use Rattle.zio_turns.proofs.TableLemmas.{Moving, kept_size, standing_few, move_some, move_none, move_fewer}
+use Rattle.zio_turns.proofs.TableLemmas.{Moving, kept_size, standing_used, move_some, move_none, move_fewer}
 use Rattle.zio_turns.proofs.table.Table.moved.Goals as goal
 use Rattle.zio_turns.proofs.table.Table.moved.Goals.{in-Some, in_default}
 
@@ -13,7 +13,30 @@ roomy_size-size-requires-clause-sized c =
 pub roomy_size-size-requires-clause-held : goal.roomy_size-size-requires-clause-held
 roomy_size-size-requires-clause-held c =
     let waiting : length (standing c.self.inside.places.items) ≡ length c.args.self.now.waiting = ap (λ h. length h.waiting) c.self.view_is in
-    omega (arith, standing_few c.self.inside.places.items, c.self.inside.places.ok.0)
+    omega (
+      arith,
+      standing_used c.self.inside.places.items c.self.inside.used c.self.invariant.unused,
+      ap (λ h. h.used) c.self.view_is,
+      ap (λ h. h.size) c.self.view_is,
+      c.requires,
+      c.len.ensures,
+      c.len-2.ensures.len,
+      c.self.inside.places.ok.0,
+    )
+
+pub overflow_add-len : goal.overflow_add-len
+overflow_add-len c =
+    let waiting : length (standing c.self.inside.places.items) ≡ length c.args.self.now.waiting = ap (λ h. length h.waiting) c.self.view_is in
+    omega (
+      arith,
+      standing_used c.self.inside.places.items c.self.inside.used c.self.invariant.unused,
+      ap (λ h. h.used) c.self.view_is,
+      ap (λ h. h.size) c.self.view_is,
+      c.requires,
+      c.len-2.ensures.len,
+      c.self.inside.places.ok.0,
+      c.self.inside.places.small,
+    )
 
 pub roomy_size-size-requires-clause-fits : goal.roomy_size-size-requires-clause-fits
 roomy_size-size-requires-clause-fits c =
